@@ -1,0 +1,10 @@
+//! Instructions of RV64IMC, what they do to a machine, and the types that the crates above share.
+#![tactic(auto)]
+
+pub mod action;
+pub mod inst;
+pub mod op;
+
+pub use action::{Action, Extension, Operand, Test};
+pub use inst::Inst;
+pub use op::Op;
