@@ -2,9 +2,11 @@
 #![tactic(auto)]
 
 pub mod action;
+pub mod cause;
 pub mod inst;
 pub mod op;
 
 pub use action::{Action, Extension, Operand, Test};
+pub use cause::Cause;
 pub use inst::Inst;
 pub use op::Op;
