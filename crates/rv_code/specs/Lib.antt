@@ -1,0 +1,4 @@
+pub mod Bits
+pub mod FullRows
+pub mod HalfRows
+pub mod Decoding
