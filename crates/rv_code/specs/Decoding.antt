@@ -1,0 +1,22 @@
+-- Which bytes are which instruction. ISA manual, section 1.5.
+use Rattle.std.specs.Prelude.{◌≡◌, ◌≢◌, ◌⊎◌, ℕ, ◌+◌, ◌*◌, ◌^◌, Option, IsSomeAnd}
+use Rattle.rv_code.specs.Bits.{field}
+use Rattle.rv_code.specs.FullRows.{IsFull}
+use Rattle.rv_code.specs.HalfRows.{IsHalf}
+use Rattle.rv_code.specs.declared.inst.Inst.{Inst}
+
+-- two bytes: the low two bits aren't 11
+pub record DecodesHalf (half : ℕ) (inst : Inst) (bytes : ℕ) : Type 0 where
+  pub is_half : field half 0 2 ≢ 3
+  pub two_bytes : bytes ≡ 2
+  pub row : IsHalf half inst
+
+-- four bytes: the low two bits are 11, and the next halfword is there, the upper one of the word
+pub record DecodesFull (half : ℕ) (next : Option ℕ) (inst : Inst) (bytes : ℕ) : Type 0 where
+  pub is_full : field half 0 2 ≡ 3
+  pub four_bytes : bytes ≡ 4
+  pub row : IsSomeAnd next (λ upper. IsFull (upper * 2 ^ 16 + half) inst)
+
+-- the halfword, with the one that follows it where there is one, is this instruction of so many bytes
+abbrev pub Decodes : ℕ → Option ℕ → Inst → ℕ → Type 0
+Decodes half next inst bytes = DecodesHalf half inst bytes ⊎ DecodesFull half next inst bytes
