@@ -1,0 +1,3 @@
+pub mod Word
+pub mod Op
+pub mod Extension
