@@ -1,6 +1,10 @@
 pub mod Action
 pub mod Bits
 pub mod Decoding
+pub mod Extension
 pub mod FullRows
 pub mod HalfRows
 pub mod Machine
+pub mod Op
+pub mod Step
+pub mod Word

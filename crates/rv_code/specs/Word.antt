@@ -1,0 +1,21 @@
+-- Words of 64 bits, and the signed numbers that they stand for in two's complement.
+use Rattle.std.specs.Prelude.{ℕ, ◌%◌, ◌^◌, ℤ}
+use Rattle.std.specs.Int.{w32, w64, cast_signed, cast_unsigned}
+
+abbrev pub signed64 : ℕ → ℤ
+signed64 n = cast_signed w64 n
+
+-- a signed number as a word
+abbrev pub word : ℤ → ℕ
+word z = cast_unsigned w64 z
+
+-- the low 32 bits, and the signed number that they are
+abbrev pub low32 : ℕ → ℕ
+low32 n = n % 2 ^ 32
+
+abbrev pub signed32 : ℕ → ℤ
+signed32 n = cast_signed w32 (low32 n)
+
+-- the low 32 bits, sign-extended to a word
+abbrev pub sign_extended32 : ℕ → ℕ
+sign_extended32 n = word (signed32 n)
