@@ -1,0 +1,13 @@
+use Rattle.std.proofs.Common.{length, ◌-◌, ◌≤◌, take}
+use Rattle.rb_io.specs.Printed.{TakesAll}
+use Rattle.rb_io.proofs.print.print_all.Given as goal
+
+abbrev pub invariant-loop-done : goal.invariant-loop-done
+invariant-loop-done g l = record {
+  within : l.done ≤ length l.text;
+  taken : TakesAll (g.O.Sink.taken l.initial.out) (g.O.Sink.taken l.out) (take l.done l.text);
+  never_falls : g.O.Sink.count l.initial.out ≤ g.O.Sink.count l.out;
+}
+
+abbrev pub decreases-loop-done : goal.decreases-loop-done
+decreases-loop-done g l = length l.text - l.done

@@ -1,0 +1,18 @@
+-- What holds of the count that a read or a write answers.
+use Rattle.std.specs.Prelude.{ℕ}
+use Rattle.rb_io.specs.declared.source.Got.{Got}
+use Rattle.rb_io.specs.declared.source.Got.TheVariants.{Bytes}
+use Rattle.rb_io.specs.declared.source.Got.TheVariants as got
+use Rattle.rb_io.specs.declared.sink.Put.{Put}
+use Rattle.rb_io.specs.declared.sink.Put.TheVariants.{Took}
+use Rattle.rb_io.specs.declared.sink.Put.TheVariants as put
+
+-- if bytes came, P holds of how many
+abbrev pub IfBytes : Got → (ℕ → Type 0) → Type 0
+IfBytes (Bytes n) P = P n
+IfBytes got.Failed P = Unit {0}
+
+-- if bytes were taken, P holds of how many
+abbrev pub IfTook : Put → (ℕ → Type 0) → Type 0
+IfTook (Took n) P = P n
+IfTook put.Failed P = Unit {0}

@@ -1,0 +1,21 @@
+// The error of a call that fails for want of memory alone.
+
+use std::alloc::{AllocError, AllocFailed};
+use thiserror::Error;
+
+/// Memory ran out.
+#[derive(Clone, Copy, PartialEq, Eq, Debug, Drop, Error)]
+#[error("out of memory")]
+pub struct NoMemory;
+
+impl From<AllocError> for NoMemory {
+    fn from(_error: AllocError) -> NoMemory {
+        NoMemory
+    }
+}
+
+impl<T: Drop> From<AllocFailed<T>> for NoMemory {
+    fn from(_error: AllocFailed<T>) -> NoMemory {
+        NoMemory
+    }
+}

@@ -1,0 +1,28 @@
+// Texts written whole.
+ghost use Rattle.std.specs.Prelude.{◌≡◌, ◌≤◌, length};
+ghost use Rattle.rb_io.specs.Answers.{IfTook};
+ghost use Rattle.rb_io.specs.Counts.{Rose};
+ghost use Rattle.rb_io.specs.Printed.{TakesAll, TakesFront};
+
+use crate::sink::{Put, Sink};
+
+/// Writes `text` whole, piece by piece.
+///
+/// `Took` has the whole length. After `Failed` a part of the text, from its front, was taken, and never all of it.
+pub fn print_all<O: Sink>(out: &mut O, text: &[u8]) -> Put
+    ensures whole { IfTook result (λ n. n ≡ length text.now) }
+    ensures all { IfTook result (λ n. TakesAll (O.taken out.old) (O.taken out.new) text.now) }
+    ensures front { result ≡ Put.Failed → TakesFront (O.taken out.old) (O.taken out.new) text.now }
+    ensures failed { result ≡ Put.Failed → Rose (O.count out.old) (O.count out.new) }
+    ensures never_falls { O.count out.old ≤ O.count out.new }
+{
+    let mut done = 0;
+    while done < text.len() {
+        let (_, rest) = text.split_at(done);
+        match out.write(rest) {
+            Put::Took(count) => done += count,
+            Put::Failed => return Put::Failed,
+        }
+    }
+    Put::Took(done)
+}
