@@ -1,0 +1,259 @@
+// Why a file is refused, and want of memory.
+ghost use Rattle.std.specs.Prelude.{◌≡◌, ◌<◌, ◌≤◌};
+ghost use Rattle.rb_bytes.specs.Fault.{number_of, name_of, fault_at};
+
+use std::alloc::{AllocError, AllocFailed};
+use thiserror::Error;
+
+/// What is wrong with a file. A fault's place is printed in hexadecimal; where a variant speaks
+/// of an offset, it is one in the file unless it says otherwise.
+#[derive(Clone, Copy, PartialEq, Eq, Debug)]
+pub enum FaultKind {
+    /// The identification or the machine is not that of a 64-bit little-endian RISC-V ELF file.
+    /// Place: 0. gABI, "ELF Header".
+    NotElf,
+    /// A structure does not lie whole in the file, or an entry size or an index of the header
+    /// is wrong. Place: the offset of the structure, or of the header's field.
+    Truncated,
+    /// The header's flags ask for more than the compressed extension. Place: their offset, 30
+    /// in hexadecimal. psABI, "File Header".
+    Flags,
+    /// The file is not a static executable. Place: the offset of the file type, 10 in
+    /// hexadecimal, or of the program header that asks for a dynamic linker.
+    NotStatic,
+    /// The loaded segments are not laid out as one executable segment among apart ones. Place:
+    /// the offset of the program header concerned, or of the header's field that names their
+    /// table, 20 in hexadecimal.
+    ExecSegments,
+    /// The executable segment may be written. Place: the offset of its program header.
+    WritableCode,
+    /// A byte is loaded at 7fff0000 (hexadecimal) or above. Place: the first such address.
+    HighAddress,
+    /// A section is compressed. Place: its index.
+    CompressedSection,
+    /// A relocation has a type that is not supported. Place: the address that it applies to.
+    RelocType,
+    /// A relocation does not fit what it applies to. Place: the address that it applies to, or
+    /// that of the AUIPC concerned.
+    RelocMismatch,
+    /// Two low parts of one AUIPC differ. Place: the address of the AUIPC.
+    LoMismatch,
+    /// A difference of code addresses is kept in too few bits. Place: the address of its field.
+    NarrowDiff,
+    /// The file selects routines when it starts. Place: the symbol's value, the section's
+    /// address, or the address that the relocation applies to.
+    IfuncOrPlt,
+    /// The file is one that was rewritten before. Place: the index of the section that says so.
+    AlreadyMoved,
+    /// The entry point starts no instruction of a function. Place: the entry point.
+    BadEntry,
+    /// Bytes of code are no instruction. Place: their address.
+    BadInstruction,
+    /// An AUIPC has no relocation that says what it stands for. Place: its address.
+    BareAuipc,
+    /// A branch, jump or call goes to no instruction of a function. Place: the address of the
+    /// instruction.
+    BadTarget,
+    /// Code that must stay within the reach of one branch is too long. Place: its lowest address.
+    UnitTooLong,
+    /// A branch leaves a function that is moved whole. Place: the address of the branch.
+    KeptBranch,
+    /// The program registers its unwind tables by hand. Place: the address of the section that
+    /// holds them.
+    RegisteredFrames,
+    /// An unwind table is malformed. Place: the offset of the entry in its section.
+    FrameFault,
+    /// A debug table has a version that is not supported. Place: the offset of the unit in its
+    /// section.
+    DwarfVersion,
+    /// An attribute has a form that is not supported. Place: the offset of the declaration in
+    /// the section of abbreviations.
+    DwarfForm,
+    /// An end of code is given in a form that is not supported. Place: the offset of the
+    /// declaration in the section of abbreviations.
+    HighPcForm,
+    /// A debug table is malformed. Place: the offset of the unit in its section.
+    DwarfFault,
+    /// A line program is malformed. Place: the offset of the unit in its section.
+    LineFault,
+    /// The new code and tables need more room than there is. Place: the address where the new
+    /// area starts. This kind alone has a need and a room, in bytes.
+    NoRoom,
+    /// A limit on sizes is passed. Place: which one: 0 the file, 1 the profile, 2 the code, 3
+    /// the functions, 5 the headers of sections or segments, 6 the tables or names to write.
+    TooLarge,
+    /// What the file asks for is not supported yet. Place: 0.
+    NotBuilt,
+}
+
+impl FaultKind {
+    /// The number that stands in the printed line. Two kinds that are looked for together share
+    /// one.
+    pub fn number(self) -> u8
+        ensures { result ≡ number_of self }
+    {
+        match self {
+            FaultKind::NotElf => 1,
+            FaultKind::Truncated => 2,
+            FaultKind::Flags => 3,
+            FaultKind::NotStatic => 4,
+            FaultKind::ExecSegments => 5,
+            FaultKind::WritableCode => 6,
+            FaultKind::HighAddress => 7,
+            FaultKind::CompressedSection => 8,
+            FaultKind::RelocType => 9,
+            FaultKind::RelocMismatch => 10,
+            FaultKind::LoMismatch => 11,
+            FaultKind::NarrowDiff => 12,
+            FaultKind::IfuncOrPlt => 13,
+            FaultKind::AlreadyMoved => 14,
+            FaultKind::BadEntry => 15,
+            FaultKind::BadInstruction | FaultKind::BareAuipc => 16,
+            FaultKind::BadTarget => 17,
+            FaultKind::UnitTooLong => 18,
+            FaultKind::KeptBranch => 19,
+            FaultKind::RegisteredFrames => 20,
+            FaultKind::FrameFault => 21,
+            FaultKind::DwarfVersion => 22,
+            FaultKind::DwarfForm => 23,
+            FaultKind::HighPcForm => 24,
+            FaultKind::DwarfFault => 25,
+            FaultKind::LineFault => 26,
+            FaultKind::NoRoom => 27,
+            FaultKind::TooLarge => 28,
+            FaultKind::NotBuilt => 29,
+        }
+    }
+
+    /// The name that stands in the printed line: the variant's own.
+    pub fn name(self) -> &'static str
+        ensures { result.now ≡ name_of self }
+    {
+        match self {
+            FaultKind::NotElf => "NotElf",
+            FaultKind::Truncated => "Truncated",
+            FaultKind::Flags => "Flags",
+            FaultKind::NotStatic => "NotStatic",
+            FaultKind::ExecSegments => "ExecSegments",
+            FaultKind::WritableCode => "WritableCode",
+            FaultKind::HighAddress => "HighAddress",
+            FaultKind::CompressedSection => "CompressedSection",
+            FaultKind::RelocType => "RelocType",
+            FaultKind::RelocMismatch => "RelocMismatch",
+            FaultKind::LoMismatch => "LoMismatch",
+            FaultKind::NarrowDiff => "NarrowDiff",
+            FaultKind::IfuncOrPlt => "IfuncOrPlt",
+            FaultKind::AlreadyMoved => "AlreadyMoved",
+            FaultKind::BadEntry => "BadEntry",
+            FaultKind::BadInstruction => "BadInstruction",
+            FaultKind::BareAuipc => "BareAuipc",
+            FaultKind::BadTarget => "BadTarget",
+            FaultKind::UnitTooLong => "UnitTooLong",
+            FaultKind::KeptBranch => "KeptBranch",
+            FaultKind::RegisteredFrames => "RegisteredFrames",
+            FaultKind::FrameFault => "FrameFault",
+            FaultKind::DwarfVersion => "DwarfVersion",
+            FaultKind::DwarfForm => "DwarfForm",
+            FaultKind::HighPcForm => "HighPcForm",
+            FaultKind::DwarfFault => "DwarfFault",
+            FaultKind::LineFault => "LineFault",
+            FaultKind::NoRoom => "NoRoom",
+            FaultKind::TooLarge => "TooLarge",
+            FaultKind::NotBuilt => "NotBuilt",
+        }
+    }
+}
+
+/// A file is refused: why, and where. `need` and `room` are in bytes, and 0 for every kind but
+/// [`FaultKind::NoRoom`].
+#[derive(Clone, Copy, PartialEq, Eq, Debug)]
+pub struct Fault {
+    pub kind: FaultKind,
+    pub place: u64,
+    pub need: u64,
+    pub room: u64,
+}
+
+impl Fault {
+    /// A fault of a kind that has no need and no room.
+    pub fn at(kind: FaultKind, place: u64) -> Fault
+        ensures { result ≡ fault_at kind place }
+    {
+        Fault {
+            kind,
+            place,
+            need: 0,
+            room: 0,
+        }
+    }
+}
+
+/// Memory could not be had.
+#[derive(Clone, Copy, PartialEq, Eq, Debug, Error)]
+#[error("out of memory")]
+pub struct NoMemory;
+
+/// A file is refused, or memory could not be had.
+#[derive(Clone, Copy, PartialEq, Eq, Debug, Error)]
+pub enum Refusal {
+    #[error("refused: {}", .0.kind.name())]
+    Fault(Fault),
+    #[error("out of memory")]
+    Memory,
+}
+
+impl From<AllocError> for NoMemory {
+    ghost from_gives = { λ _ e. e ≡ record {} };
+
+    fn from(_error: AllocError) -> NoMemory {
+        NoMemory
+    }
+}
+
+impl<T: Drop> From<AllocFailed<T>> for NoMemory {
+    ghost from_gives = { λ _ e. e ≡ record {} };
+
+    fn from(_failed: AllocFailed<T>) -> NoMemory {
+        NoMemory
+    }
+}
+
+impl From<Fault> for Refusal {
+    ghost use Rattle.rb_bytes.specs.declared.fault.Refusal.TheVariants as refusal;
+
+    ghost from_gives = { λ fault e. e ≡ refusal.Fault fault };
+
+    fn from(fault: Fault) -> Refusal {
+        Refusal::Fault(fault)
+    }
+}
+
+impl From<NoMemory> for Refusal {
+    ghost use Rattle.rb_bytes.specs.declared.fault.Refusal.TheVariants as refusal;
+
+    ghost from_gives = { λ _ e. e ≡ refusal.Memory };
+
+    fn from(_error: NoMemory) -> Refusal {
+        Refusal::Memory
+    }
+}
+
+impl From<AllocError> for Refusal {
+    ghost use Rattle.rb_bytes.specs.declared.fault.Refusal.TheVariants as refusal;
+
+    ghost from_gives = { λ _ e. e ≡ refusal.Memory };
+
+    fn from(_error: AllocError) -> Refusal {
+        Refusal::Memory
+    }
+}
+
+impl<T: Drop> From<AllocFailed<T>> for Refusal {
+    ghost use Rattle.rb_bytes.specs.declared.fault.Refusal.TheVariants as refusal;
+
+    ghost from_gives = { λ _ e. e ≡ refusal.Memory };
+
+    fn from(_failed: AllocFailed<T>) -> Refusal {
+        Refusal::Memory
+    }
+}

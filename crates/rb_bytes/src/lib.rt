@@ -1,0 +1,5 @@
+//! Bytes read and written: a cursor, LEB128 numbers, numbers as text, and the kinds of refusal
+//! that every crate above answers with.
+#![tactic(auto)]
+
+pub mod fault;
