@@ -1,15 +1,10 @@
 -- What the byte machine and the symbol machine share: registers and memory over any kind of value, the
 -- right to use an address, the break, system calls, and runs.
-use Rattle.std.specs.Prelude.{◌≡◌, ℕ, zero, suc, ◌+◌, ◌-◌, ◌*◌, ◌/◌, ◌%◌, ◌^◌, ◌&&◌, ◌||◌, ℤ, ◌==◌, nat_lt, nat_le, if◌then◌else◌, Bool, true, List, [], ◌∷◌, ◌++◌, Option, Some, None}
-use Rattle.std.specs.Int.{w64, cast_unsigned}
+use Rattle.std.specs.Prelude.{◌≡◌, ℕ, zero, suc, ◌+◌, ◌-◌, ◌*◌, ◌/◌, ◌%◌, ◌^◌, ◌&&◌, ◌||◌, ◌==◌, nat_lt, nat_le, if◌then◌else◌, Bool, true, List, [], ◌∷◌, ◌++◌, Option, Some, None}
 
 -- Addresses are words of 64 bits, and a sum of addresses wraps. ISA manual, section 1.4.
 abbrev pub plus : ℕ → ℕ → ℕ
 plus a b = (a + b) % 2 ^ 64
-
--- a signed number as a word
-abbrev pub word : ℤ → ℕ
-word z = cast_unsigned w64 z
 
 -- The registers after one is written. Register 0 isn't written. ISA manual, section 2.1.
 abbrev pub set_register : {V : Type 0} → ℕ → V → (ℕ → V) → ℕ → V

@@ -12,7 +12,8 @@ use Rattle.rv_code.specs.Action.{action_of}
 use Rattle.rv_code.specs.Decoding.{Decodes}
 use Rattle.rv_code.specs.Op.{apply, holds}
 use Rattle.rv_code.specs.Extension.{bytes_of, extended}
-use Rattle.rv_code.specs.Machine.{plus, word, set_register, all_may, cells_at, put, little, low_bytes, State, may_read, may_write, may_execute, with_break, Event, Call, Read, Write, Exit, Brk, Unknown, call_of, most_moved, bad_file, no_such_call, Outcome, Going, Ended, Halts}
+use Rattle.rv_code.specs.Word.{word}
+use Rattle.rv_code.specs.Machine.{plus, set_register, all_may, cells_at, put, little, low_bytes, State, may_read, may_write, may_execute, with_break, Event, Call, Read, Write, Exit, Brk, Unknown, call_of, most_moved, bad_file, no_such_call, Outcome, Going, Ended, Halts}
 
 -- registers hold words of 64 bits, and memory holds bytes
 abbrev pub ByteState : Type 0
@@ -76,7 +77,7 @@ returns s next e = Going (record s { pc = next; registers = set_register a0 e.re
 abbrev pub reads_input : ByteState → ℕ → ℕ → List ℕ → Bool → ByteOutcome
 reads_input s next at moved true =
     returns (record s { memory = put s.memory at moved; input = drop (length moved) s.input }) next
-        (record { number = 63; used = 0 ∷ at ∷ s.registers a2 ∷ []; moved = moved; result = length moved })
+    (record { number = 63; used = 0 ∷ at ∷ s.registers a2 ∷ []; moved = moved; result = length moved })
 reads_input s next at moved false = trap s cause.Store
 
 -- write: these bytes of a buffer go out, if all of the buffer may be read

@@ -1,0 +1,71 @@
+-- The fields of an ELF file's header and of its program headers, as they stand in its bytes.
+-- gABI, "ELF Header" and "Program Header"; psABI, "File Header".
+use Rattle.std.specs.Prelude.{ℕ, zero, suc, ◌+◌, ◌*◌, List, [], ◌∷◌, drop}
+use Rattle.byteorder.specs.Endian.{little_number}
+use Rattle.elf_image.specs.declared.segment.Segment.{Segment}
+
+-- the number of so many bytes at an offset
+abbrev pub number_at : List ℕ → ℕ → ℕ → ℕ
+number_at file offset bytes = little_number bytes (drop offset file)
+
+abbrev pub e_type : List ℕ → ℕ
+e_type file = number_at file 0x10 2
+
+abbrev pub e_machine : List ℕ → ℕ
+e_machine file = number_at file 0x12 2
+
+abbrev pub e_entry : List ℕ → ℕ
+e_entry file = number_at file 0x18 8
+
+abbrev pub e_phoff : List ℕ → ℕ
+e_phoff file = number_at file 0x20 8
+
+abbrev pub e_shoff : List ℕ → ℕ
+e_shoff file = number_at file 0x28 8
+
+abbrev pub e_flags : List ℕ → ℕ
+e_flags file = number_at file 0x30 4
+
+abbrev pub e_phentsize : List ℕ → ℕ
+e_phentsize file = number_at file 0x36 2
+
+abbrev pub e_phnum : List ℕ → ℕ
+e_phnum file = number_at file 0x38 2
+
+abbrev pub e_shentsize : List ℕ → ℕ
+e_shentsize file = number_at file 0x3a 2
+
+abbrev pub e_shnum : List ℕ → ℕ
+e_shnum file = number_at file 0x3c 2
+
+abbrev pub e_shstrndx : List ℕ → ℕ
+e_shstrndx file = number_at file 0x3e 2
+
+-- the bytes of the file's header, and of one program header
+abbrev pub header_size : ℕ
+header_size = 64
+
+abbrev pub phdr_size : ℕ
+phdr_size = 56
+
+-- the program header at an offset
+abbrev pub segment_at : List ℕ → ℕ → Segment
+segment_at file offset = record {
+  kind = number_at file offset 4;
+  flags = number_at file (offset + 4) 4;
+  offset = number_at file (offset + 8) 8;
+  vaddr = number_at file (offset + 16) 8;
+  paddr = number_at file (offset + 24) 8;
+  filesz = number_at file (offset + 32) 8;
+  memsz = number_at file (offset + 40) 8;
+  align = number_at file (offset + 48) 8;
+}
+
+-- the n program headers from an offset on
+unfoldable pub segments_from : List ℕ → ℕ → ℕ → List Segment
+segments_from file offset zero = []
+segments_from file offset (suc n) = segment_at file offset ∷ segments_from file (offset + phdr_size) n
+
+-- the program headers, in the order of their table
+abbrev pub segments_of : List ℕ → List Segment
+segments_of file = segments_from file (e_phoff file) (e_phnum file)

@@ -1,0 +1,3 @@
+pub mod Header
+pub mod Image
+pub mod Start
