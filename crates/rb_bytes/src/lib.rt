@@ -3,3 +3,4 @@
 #![tactic(auto)]
 
 pub mod fault;
+pub mod text;
