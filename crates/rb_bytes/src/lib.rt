@@ -2,4 +2,7 @@
 //! that every crate above answers with.
 #![tactic(auto)]
 
+pub mod cursor;
 pub mod fault;
+pub mod gap;
+pub mod text;

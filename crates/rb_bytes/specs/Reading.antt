@@ -1,0 +1,34 @@
+-- What a contract sees of a cursor, and what stands at the front of a list of bytes.
+use Rattle.std.specs.Prelude.{◌≡◌, ◌+◌, ◌==◌, ℕ, List, nat_lt, if◌then◌else◌, length, take, drop, Result, Ok, Err}
+use Rattle.std.specs.List.{position_or_len}
+use Rattle.byteorder.specs.Endian.{little_number}
+use Rattle.rb_bytes.specs.declared.gap.Gap.{Gap}
+use Rattle.rb_bytes.specs.declared.gap.Gap.TheVariants.{Short}
+
+-- how many bytes were read, and those that are left
+pub record Reading : Type 0 where
+  pub place : ℕ
+  pub left : List ℕ
+
+-- nothing is read yet
+abbrev pub start_of : List ℕ → Reading
+start_of bytes = record { place = 0; left = bytes }
+
+-- between `old` and `new`, n bytes were read
+pub record Passes (n : ℕ) (old new : Reading) : Type 0 where
+  pub place : new.place ≡ old.place + n
+  pub left : new.left ≡ drop n old.left
+  pub count : length new.left + n ≡ length old.left
+
+-- the next n bytes, and those after them
+abbrev pub bytes_at : ℕ → List ℕ → Result (List ℕ × List ℕ) Gap
+bytes_at n left = if nat_lt (length left) n then Err Short else Ok (take n left, drop n left)
+
+-- the little-endian number in the next n bytes, and the bytes after them
+abbrev pub number_at : ℕ → List ℕ → Result (ℕ × List ℕ) Gap
+number_at n left = if nat_lt (length left) n then Err Short else Ok (little_number n left, drop n left)
+
+-- the bytes before the next zero byte, and those after it
+abbrev pub text_at : List ℕ → Result (List ℕ × List ℕ) Gap
+text_at left = let n = position_or_len (λ b. b == 0) left in
+    if nat_lt n (length left) then Ok (take n left, drop (n + 1) left) else Err Short

@@ -1,0 +1,130 @@
+// A cursor over bytes.
+ghost use Rattle.std.specs.Prelude.{◌≡◌, ◌+◌, length, IfOk, IfErr, OnOk, OnErr};
+ghost use Rattle.rb_bytes.specs.Reading.{Reading, Passes, start_of, number_at, bytes_at, text_at};
+
+use crate::gap::Gap;
+use byteorder::{ByteOrder, LittleEndian};
+use memchr::memchr;
+use std::marker::Model;
+
+/// The bytes that are still to be read, and how many were. After a [`Gap`] it is as before.
+#[derive(Drop)]
+pub struct Cursor<'a> {
+    rest: &'a [u8],
+    place: usize,
+}
+
+impl<'a> Model for Cursor<'a> {
+    ghost use Rattle.std.specs.Prelude.{◌+◌, ◌<◌, ◌^◌, length};
+    ghost use Rattle.rb_bytes.specs.Reading.{Reading};
+
+    ghost Value = { Reading };
+
+    ghost view = { λ c. record { place = c.place; left = c.rest.now } };
+
+    ghost invariant = { λ c. c.place + length c.rest.now < 2 ^ 64 };
+}
+
+impl<'a> Cursor<'a> {
+    pub fn new(bytes: &'a [u8]) -> Cursor<'a>
+        ensures { result ≡ start_of bytes.now }
+    {
+        Cursor {
+            rest: bytes,
+            place: 0,
+        }
+    }
+
+    /// How many bytes were read.
+    pub fn place(&self) -> usize
+        ensures { result ≡ self.now.place }
+    {
+        self.place
+    }
+
+    /// How many bytes are left.
+    pub fn left(&self) -> usize
+        ensures { result ≡ length self.now.left }
+    {
+        self.rest.len()
+    }
+
+    /// The next `n` bytes. [`Gap::Short`] exactly where fewer are left.
+    pub fn take(&mut self, n: usize) -> Result<&'a [u8], Gap>
+        ensures read { IfOk result (λ bytes. bytes_at n self.old.left ≡ Ok (bytes.now, self.new.left)) }
+        ensures gap { IfErr result (λ gap. bytes_at n self.old.left ≡ Err gap) }
+        ensures passes { OnOk result (Passes n self.old self.new) }
+        ensures unchanged { OnErr result (self.new ≡ self.old) }
+    {
+        if self.rest.len() < n {
+            return Err(Gap::Short);
+        }
+        let (bytes, rest) = self.rest.split_at(n);
+        self.rest = rest;
+        self.place += n;
+        Ok(bytes)
+    }
+
+    /// The next byte. [`Gap::Short`] exactly where none is left.
+    pub fn u8(&mut self) -> Result<u8, Gap>
+        ensures read { IfOk result (λ number. number_at 1 self.old.left ≡ Ok (number, self.new.left)) }
+        ensures gap { IfErr result (λ gap. number_at 1 self.old.left ≡ Err gap) }
+        ensures passes { OnOk result (Passes 1 self.old self.new) }
+        ensures unchanged { OnErr result (self.new ≡ self.old) }
+    {
+        let bytes = self.take(1)?;
+        Ok(bytes[0])
+    }
+
+    /// The little-endian number in the next two bytes. [`Gap::Short`] exactly where fewer are left.
+    pub fn u16(&mut self) -> Result<u16, Gap>
+        ensures read { IfOk result (λ number. number_at 2 self.old.left ≡ Ok (number, self.new.left)) }
+        ensures gap { IfErr result (λ gap. number_at 2 self.old.left ≡ Err gap) }
+        ensures passes { OnOk result (Passes 2 self.old self.new) }
+        ensures unchanged { OnErr result (self.new ≡ self.old) }
+    {
+        let bytes = self.take(2)?;
+        Ok(LittleEndian::read_u16(bytes))
+    }
+
+    /// The little-endian number in the next four bytes. [`Gap::Short`] exactly where fewer are left.
+    pub fn u32(&mut self) -> Result<u32, Gap>
+        ensures read { IfOk result (λ number. number_at 4 self.old.left ≡ Ok (number, self.new.left)) }
+        ensures gap { IfErr result (λ gap. number_at 4 self.old.left ≡ Err gap) }
+        ensures passes { OnOk result (Passes 4 self.old self.new) }
+        ensures unchanged { OnErr result (self.new ≡ self.old) }
+    {
+        let bytes = self.take(4)?;
+        Ok(LittleEndian::read_u32(bytes))
+    }
+
+    /// The little-endian number in the next eight bytes. [`Gap::Short`] exactly where fewer are
+    /// left.
+    pub fn u64(&mut self) -> Result<u64, Gap>
+        ensures read { IfOk result (λ number. number_at 8 self.old.left ≡ Ok (number, self.new.left)) }
+        ensures gap { IfErr result (λ gap. number_at 8 self.old.left ≡ Err gap) }
+        ensures passes { OnOk result (Passes 8 self.old self.new) }
+        ensures unchanged { OnErr result (self.new ≡ self.old) }
+    {
+        let bytes = self.take(8)?;
+        Ok(LittleEndian::read_u64(bytes))
+    }
+
+    /// The bytes up to the next zero byte, which is passed too. [`Gap::Short`] exactly where no
+    /// zero byte is left.
+    pub fn text(&mut self) -> Result<&'a [u8], Gap>
+        ensures read { IfOk result (λ text. text_at self.old.left ≡ Ok (text.now, self.new.left)) }
+        ensures gap { IfErr result (λ gap. text_at self.old.left ≡ Err gap) }
+        ensures passes { IfOk result (λ text. Passes (length text.now + 1) self.old self.new) }
+        ensures unchanged { OnErr result (self.new ≡ self.old) }
+    {
+        let Some(length) = memchr(0, self.rest) else {
+            return Err(Gap::Short);
+        };
+        let (text, _) = self.rest.split_at(length);
+        let (_, rest) = self.rest.split_at(length + 1);
+        self.rest = rest;
+        self.place += length + 1;
+        Ok(text)
+    }
+}

@@ -1,0 +1,51 @@
+// Numbers as text.
+ghost use Rattle.std.specs.Prelude.{◌≡◌, ◌<◌, ◌++◌, OnOk, OnErr, decimal, false};
+ghost use Rattle.std.specs.Fmt.{digit_glyph};
+ghost use Rattle.rb_bytes.specs.Text.{hexadecimal};
+
+use crate::fault::NoMemory;
+use itoa::Buffer;
+
+/// As many digits as a number of 64 bits has at most.
+const HEX_LENGTH: usize = 16;
+
+fn hex_digit(digit: u8) -> u8
+    requires { digit < 16 }
+    ensures { result ≡ digit_glyph false digit }
+{
+    if digit < 10 {
+        b'0' + digit
+    } else {
+        b'a' + (digit - 10)
+    }
+}
+
+#[tactic(auto, using(crate::proofs::HexDigits::hex_digits))]
+/// Appends the number in lower-case hexadecimal, with no leading zeros; zero is `0`.
+pub fn put_hex(out: &mut Vec<u8>, v: u64) -> Result<(), NoMemory>
+    ensures ok { OnOk result (out.new.items ≡ out.old.items ++ hexadecimal v) }
+    ensures err { OnErr result (out.new.items ≡ out.old.items) }
+{
+    let mut text = [0u8; HEX_LENGTH];
+    let mut start = HEX_LENGTH;
+    let mut rest = v;
+    'digits: loop {
+        start -= 1;
+        text[start] = hex_digit((rest % 16) as u8);
+        rest /= 16;
+        if rest == 0 {
+            break;
+        }
+    }
+    out.extend_from_slice(&text[start..])?;
+    Ok(())
+}
+
+/// Appends the number in decimal, with no leading zeros; zero is `0`.
+pub fn put_decimal(out: &mut Vec<u8>, v: u64) -> Result<(), NoMemory>
+    ensures ok { OnOk result (out.new.items ≡ out.old.items ++ decimal v) }
+    ensures err { OnErr result (out.new.items ≡ out.old.items) }
+{
+    out.extend_from_slice(Buffer::new().format(v).as_bytes())?;
+    Ok(())
+}
