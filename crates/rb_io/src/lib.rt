@@ -4,6 +4,7 @@
 mod calls;
 mod copy;
 pub mod files;
+pub mod mem_sink;
 pub mod mem_source;
 pub mod no_memory;
 pub mod print;
@@ -11,6 +12,7 @@ pub mod sink;
 pub mod source;
 
 pub use files::{Files, ReadAll, Wrote};
+pub use mem_sink::MemSink;
 pub use mem_source::MemSource;
 pub use no_memory::NoMemory;
 pub use print::print_all;
