@@ -1,5 +1,5 @@
--- What holds of the count that a read or a write answers.
-use Rattle.std.specs.Prelude.{ℕ}
+-- What a read or a write answers.
+use Rattle.std.specs.Prelude.{ℕ, Bool, true, false}
 use Rattle.rb_io.specs.declared.source.Got.{Got}
 use Rattle.rb_io.specs.declared.source.Got.TheVariants.{Bytes}
 use Rattle.rb_io.specs.declared.source.Got.TheVariants as got
@@ -16,3 +16,13 @@ IfBytes got.Failed P = Unit {0}
 abbrev pub IfTook : Put → (ℕ → Type 0) → Type 0
 IfTook (Took n) P = P n
 IfTook put.Failed P = Unit {0}
+
+-- the read failed
+abbrev pub got_failed : Got → Bool
+got_failed (Bytes n) = false
+got_failed got.Failed = true
+
+-- the write failed
+abbrev pub put_failed : Put → Bool
+put_failed (Took n) = false
+put_failed put.Failed = true

@@ -1,4 +1,7 @@
 pub mod Answers
-pub mod Contents
+pub mod Calls
 pub mod Counts
+pub mod MemSink
+pub mod MemSource
+pub mod Names
 pub mod Printed

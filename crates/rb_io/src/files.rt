@@ -1,7 +1,7 @@
 // Files by name.
 ghost use Rattle.std.specs.Prelude.{◌≡◌, ◌≢◌, ◌≤◌, ◌<◌, ℕ, List, Option, Some, length, [], IsTrue, IsSomeAnd, Bool};
-ghost use Rattle.rb_io.specs.Counts.{Rose, NeverFalls};
-ghost use Rattle.rb_io.specs.Contents.{SameContents, SameBut};
+ghost use Rattle.rb_io.specs.Counts.{Rose};
+ghost use Rattle.rb_io.specs.Names.{Unchanged, UnchangedBut, NeverFalls};
 
 /// What reading a whole file answers.
 #[derive(Clone, Copy, PartialEq, Eq, Debug, Drop)]
@@ -50,7 +50,7 @@ pub trait Files {
         ensures too_long { result ≡ ReadAll.TooLong → IsTrue (told self.old) → IsSomeAnd (content self.old name.now) (λ bytes. limit < length bytes) }
         ensures failed { result ≡ ReadAll.Failed → Rose (read_count self.old name.now) (read_count self.new name.now) }
         ensures emptied { result ≢ ReadAll.Done → into.new.items ≡ [] }
-        ensures contents_kept { SameContents (content self.old) (content self.new) }
+        ensures contents_kept { Unchanged (content self.old) (content self.new) }
         ensures told_kept { told self.new ≡ told self.old }
         ensures read_counts { NeverFalls (read_count self.old) (read_count self.new) }
         ensures write_counts { NeverFalls (write_count self.old) (write_count self.new) };
@@ -59,7 +59,7 @@ pub trait Files {
     fn write_all(&mut self, name: &str, bytes: &[u8]) -> Wrote
         ensures done { result ≡ Wrote.Done → IsTrue (told self.old) → content self.new name.now ≡ Some bytes.now }
         ensures failed { result ≡ Wrote.Failed → Rose (write_count self.old name.now) (write_count self.new name.now) }
-        ensures others_kept { SameBut name.now (content self.old) (content self.new) }
+        ensures others_kept { UnchangedBut name.now (content self.old) (content self.new) }
         ensures told_kept { told self.new ≡ told self.old }
         ensures read_counts { NeverFalls (read_count self.old) (read_count self.new) }
         ensures write_counts { NeverFalls (write_count self.old) (write_count self.new) };

@@ -1,0 +1,13 @@
+// Bytes copied to a buffer.
+ghost use Rattle.std.specs.Prelude.{◌≡◌, length, take, drop, min};
+
+/// Copies the front of `bytes` over the front of `buf`, as far as both go, and answers how many bytes that is.
+pub(crate) fn copy_front(buf: &mut [u8], bytes: &[u8]) -> usize
+    ensures value { result ≡ min (length buf.old) (length bytes.now) }
+    ensures front { take result buf.new ≡ take result bytes.now }
+    ensures rest { drop result buf.new ≡ drop result buf.old }
+{
+    let count = buf.len().min(bytes.len());
+    buf[..count].copy_from_slice(&bytes[..count]);
+    count
+}
