@@ -7,6 +7,7 @@ pub mod cell;
 pub mod inst;
 pub mod layout;
 pub mod op;
+pub mod opcode;
 pub mod placed;
 
 pub use action::{Action, Extension, Operand, Test};
