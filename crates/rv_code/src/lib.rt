@@ -3,10 +3,17 @@
 
 pub mod action;
 pub mod cause;
+pub mod cell;
 pub mod inst;
+pub mod layout;
 pub mod op;
+pub mod opcode;
+pub mod placed;
 
 pub use action::{Action, Extension, Operand, Test};
 pub use cause::Cause;
+pub use cell::{CellKind, CodeCell};
 pub use inst::Inst;
+pub use layout::{Chains, Emitted, Form, Plan, Size};
 pub use op::Op;
+pub use placed::{Block, Func, Placed, Role, Width};

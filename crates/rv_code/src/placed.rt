@@ -1,0 +1,69 @@
+// Instructions at their places, and the functions and blocks that they form.
+
+use crate::inst::Inst;
+
+/// How wide an instruction's encoding is. ISA manual, section 1.5.
+#[derive(Clone, Copy, PartialEq, Eq, Debug)]
+pub enum Width {
+    /// Two bytes.
+    Half,
+    /// Four bytes.
+    Full,
+}
+
+/// Which part of a code address an instruction's immediate holds.
+///
+/// All fields are addresses: `target` is the address that both parts together give, and `hi` is that
+/// of the AUIPC with the upper part. psABI, section "Relocations".
+#[derive(Clone, Copy, PartialEq, Eq, Debug)]
+pub enum Role {
+    /// No part of an address.
+    Plain,
+    /// The AUIPC of a call pair.
+    CallHi { target: u64 },
+    /// The JALR of a call pair.
+    CallLo { hi: u64, target: u64 },
+    /// An AUIPC with the upper part of a distance.
+    Hi { target: u64 },
+    /// The lower part of a distance from the AUIPC at `hi`.
+    Lo { hi: u64, target: u64 },
+    /// A LUI with the upper part of an absolute address.
+    AbsHi { target: u64 },
+    /// The lower part of an absolute address.
+    AbsLo { target: u64 },
+}
+
+/// An instruction at its place in the input.
+#[derive(Clone, Copy, PartialEq, Eq, Debug)]
+pub struct Placed {
+    /// The address of its first byte.
+    pub addr: u64,
+    /// Its length in bytes, 2 or 4.
+    pub len: u8,
+    pub inst: Inst,
+    pub role: Role,
+}
+
+/// A function: its bytes go from `start` to before `end`.
+#[derive(PartialEq, Eq, Debug, Drop)]
+pub struct Func {
+    /// The address of its first byte.
+    pub start: u64,
+    /// The address after its last byte.
+    pub end: u64,
+    /// Whether it moves as one piece, since an exception table names places in it.
+    pub whole: bool,
+    /// Its instructions, by address.
+    pub insts: Vec<Placed>,
+}
+
+/// A basic block: a stretch of one function's instructions that is entered only at its first.
+#[derive(Clone, Copy, PartialEq, Eq, Debug)]
+pub struct Block {
+    /// The function's place in the list of functions.
+    pub func: usize,
+    /// The place of its first instruction in the function's `insts`.
+    pub first: usize,
+    /// The place of its last instruction in the function's `insts`.
+    pub last: usize,
+}

@@ -1,0 +1,113 @@
+// Fields of instruction words, and immediates with their signs.
+ghost use Rattle.std.specs.Prelude.{◌≡◌, ◌<◌, ◌^◌};
+ghost use Rattle.rv_code.specs.Bits.{field, signed, imm_i, imm_s, imm_b, imm_u, imm_j};
+
+/// The `width` bits from bit `low` on.
+pub fn bits(word: u32, low: u32, width: u32) -> u32
+    requires low_in_word { low < 32 }
+    requires width_in_word { width < 32 }
+    ensures value { result ≡ field word low width }
+    ensures below { result < 2 ^ width }
+{
+    (word >> low) % (1 << width)
+}
+
+/// A number with its sign at bit `top`, as a signed one.
+pub fn sign(number: u32, top: u32) -> i64
+    requires { top < 32 }
+    ensures { result ≡ signed top number }
+{
+    let half = 1_i64 << top;
+    let number = i64::from(number);
+    if number < half {
+        number
+    } else {
+        number - 2 * half
+    }
+}
+
+/// The destination register.
+pub fn rd(word: u32) -> u8
+    ensures { result ≡ field word 7 5 }
+{
+    bits(word, 7, 5) as u8
+}
+
+/// The first source register.
+pub fn rs1(word: u32) -> u8
+    ensures { result ≡ field word 15 5 }
+{
+    bits(word, 15, 5) as u8
+}
+
+/// The second source register.
+pub fn rs2(word: u32) -> u8
+    ensures { result ≡ field word 20 5 }
+{
+    bits(word, 20, 5) as u8
+}
+
+/// Bits 14:12, which tell the operations of an opcode apart.
+pub fn funct3(word: u32) -> u32
+    ensures { result ≡ field word 12 3 }
+{
+    bits(word, 12, 3)
+}
+
+/// Bits 31:25, which tell them apart further in format R and in shifts of 32 bits.
+pub fn funct7(word: u32) -> u32
+    ensures { result ≡ field word 25 7 }
+{
+    bits(word, 25, 7)
+}
+
+/// Bits 31:26, which tell shifts of 64 bits apart.
+pub fn funct6(word: u32) -> u32
+    ensures { result ≡ field word 26 6 }
+{
+    bits(word, 26, 6)
+}
+
+/// The immediate of format I.
+pub fn imm_i(word: u32) -> i64
+    ensures { result ≡ imm_i word }
+{
+    sign(bits(word, 20, 12), 11)
+}
+
+/// The immediate of format S.
+pub fn imm_s(word: u32) -> i64
+    ensures { result ≡ imm_s word }
+{
+    let number = (bits(word, 25, 7) << 5) + bits(word, 7, 5);
+    sign(number, 11)
+}
+
+/// The immediate of format B.
+pub fn imm_b(word: u32) -> i64
+    ensures { result ≡ imm_b word }
+{
+    let number = (bits(word, 31, 1) << 12)
+        + (bits(word, 7, 1) << 11)
+        + (bits(word, 25, 6) << 5)
+        + (bits(word, 8, 4) << 1);
+    sign(number, 12)
+}
+
+/// The immediate of format U: bits 31:12 alone.
+pub fn imm_u(word: u32) -> i64
+    ensures { result ≡ imm_u word }
+{
+    sign(bits(word, 12, 20), 19)
+}
+
+/// The immediate of format J.
+pub fn imm_j(word: u32) -> i64
+    ensures { result ≡ imm_j word }
+{
+    let number = (bits(word, 31, 1) << 20)
+        + (bits(word, 12, 8) << 12)
+        + (bits(word, 20, 1) << 11)
+        + (bits(word, 21, 10) << 1);
+    sign(number, 20)
+}

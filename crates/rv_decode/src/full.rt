@@ -1,0 +1,117 @@
+// The four-byte instructions, by their opcode. ISA manual, sections 2.5, 2.7 and 2.8.
+ghost use Rattle.std.specs.Prelude.{◌≡◌, ℕ, IfSome, IfNone};
+ghost use Rattle.rv_code.specs.Bits.{field};
+ghost use Rattle.rv_code.specs.FullRows.{IsFull};
+ghost use Rattle.rv_code.specs.declared.inst.Inst.{Inst};
+
+use crate::field::{bits, funct3, imm_b, imm_i, imm_j, rd, rs1, rs2};
+use crate::integer::{auipc, lui, op, op_32, op_imm, op_imm_32};
+use crate::memory::{load, store};
+use rv_code::Inst;
+use rv_code::opcode::{
+    AUIPC, BRANCH, JAL, JALR, LOAD, LUI, MISC_MEM, OP, OP_32, OP_IMM, OP_IMM_32, STORE, SYSTEM,
+};
+
+/// The instruction of a word, or None where no row has it.
+pub fn decode_full(word: u32) -> Option<Inst>
+    ensures found { IfSome result (λ i. IsFull word i) }
+    ensures only { IfSome result (λ i. (j : Inst) → IsFull word j → j ≡ i) }
+    ensures none { IfNone result ((i : Inst) → IsFull word i → ⊥) }
+{
+    match bits(word, 0, 7) {
+        LUI => lui(word),
+        AUIPC => auipc(word),
+        JAL => jal(word),
+        JALR => jalr(word),
+        BRANCH => branch(word),
+        LOAD => load(word),
+        STORE => store(word),
+        OP_IMM => op_imm(word),
+        OP_IMM_32 => op_imm_32(word),
+        OP => op(word),
+        OP_32 => op_32(word),
+        MISC_MEM => fence(word),
+        SYSTEM => system(word),
+        _ => None,
+    }
+}
+
+/// JAL.
+fn jal(word: u32) -> Option<Inst>
+    requires { field word 0 7 ≡ JAL }
+    ensures found { IfSome result (λ i. IsFull word i) }
+    ensures only { IfSome result (λ i. (j : Inst) → IsFull word j → j ≡ i) }
+    ensures none { IfNone result ((i : Inst) → IsFull word i → ⊥) }
+{
+    Some(Inst::Jal {
+        rd: rd(word),
+        imm: imm_j(word),
+    })
+}
+
+/// JALR.
+fn jalr(word: u32) -> Option<Inst>
+    requires { field word 0 7 ≡ JALR }
+    ensures found { IfSome result (λ i. IsFull word i) }
+    ensures only { IfSome result (λ i. (j : Inst) → IsFull word j → j ≡ i) }
+    ensures none { IfNone result ((i : Inst) → IsFull word i → ⊥) }
+{
+    let rd = rd(word);
+    let rs1 = rs1(word);
+    let imm = imm_i(word);
+    match funct3(word) {
+        0 => Some(Inst::Jalr { rd, rs1, imm }),
+        _ => None,
+    }
+}
+
+/// A conditional branch.
+fn branch(word: u32) -> Option<Inst>
+    requires { field word 0 7 ≡ BRANCH }
+    ensures found { IfSome result (λ i. IsFull word i) }
+    ensures only { IfSome result (λ i. (j : Inst) → IsFull word j → j ≡ i) }
+    ensures none { IfNone result ((i : Inst) → IsFull word i → ⊥) }
+{
+    let rs1 = rs1(word);
+    let rs2 = rs2(word);
+    let imm = imm_b(word);
+    match funct3(word) {
+        0 => Some(Inst::Beq { rs1, rs2, imm }),
+        1 => Some(Inst::Bne { rs1, rs2, imm }),
+        4 => Some(Inst::Blt { rs1, rs2, imm }),
+        5 => Some(Inst::Bge { rs1, rs2, imm }),
+        6 => Some(Inst::Bltu { rs1, rs2, imm }),
+        7 => Some(Inst::Bgeu { rs1, rs2, imm }),
+        _ => None,
+    }
+}
+
+/// FENCE, whatever it orders.
+fn fence(word: u32) -> Option<Inst>
+    requires { field word 0 7 ≡ MISC_MEM }
+    ensures found { IfSome result (λ i. IsFull word i) }
+    ensures only { IfSome result (λ i. (j : Inst) → IsFull word j → j ≡ i) }
+    ensures none { IfNone result ((i : Inst) → IsFull word i → ⊥) }
+{
+    let rd = rd(word);
+    let rs1 = rs1(word);
+    let imm = imm_i(word);
+    match funct3(word) {
+        0 => Some(Inst::Fence { rd, rs1, imm }),
+        _ => None,
+    }
+}
+
+/// ECALL or EBREAK.
+fn system(word: u32) -> Option<Inst>
+    requires { field word 0 7 ≡ SYSTEM }
+    ensures found { IfSome result (λ i. IsFull word i) }
+    ensures only { IfSome result (λ i. (j : Inst) → IsFull word j → j ≡ i) }
+    ensures none { IfNone result ((i : Inst) → IsFull word i → ⊥) }
+{
+    match word {
+        0x0000_0073 => Some(Inst::Ecall),
+        0x0010_0073 => Some(Inst::Ebreak),
+        _ => None,
+    }
+}

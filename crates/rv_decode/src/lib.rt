@@ -1,0 +1,7 @@
+//! Reads instructions of RV64IMC.
+#![tactic(auto)]
+
+mod field;
+mod full;
+mod integer;
+mod memory;
