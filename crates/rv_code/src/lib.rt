@@ -5,8 +5,10 @@ pub mod action;
 pub mod cause;
 pub mod inst;
 pub mod op;
+pub mod value;
 
 pub use action::{Action, Extension, Operand, Test};
 pub use cause::Cause;
 pub use inst::Inst;
 pub use op::Op;
+pub use value::{op_value, taken};

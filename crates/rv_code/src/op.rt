@@ -67,7 +67,7 @@ impl Op {
             Op::Subw => sign_extend32(left.wrapping_sub(right)),
             Op::Sllw => sign_extend32(low32(left) << (right % 32)),
             Op::Srlw => sign_extend32(low32(left) >> (right % 32)),
-            Op::Sraw => i64::from(signed32(left) >> (right % 32)).cast_unsigned(),
+            Op::Sraw => (signed32(left) >> (right % 32)).cast_unsigned(),
             Op::Mulw => sign_extend32(left.wrapping_mul(right)),
             Op::Divw => divw(left, right),
             Op::Divuw => divuw(left, right),
@@ -131,14 +131,14 @@ fn remu(left: u64, right: u64) -> u64
     if right == 0 { left } else { left % right }
 }
 
-// Divides as 64 bits, where the quotient of -2 ^ 31 by -1 still fits.
+// The signed numbers are divided as 64 bits, where -2 ^ 31 by -1 doesn't overflow.
 fn divw(left: u64, right: u64) -> u64
     ensures { result ≡ apply Op.Divw left right }
 {
     if low32(right) == 0 {
         u64::MAX
     } else {
-        let quotient = i64::from(signed32(left)).wrapping_div(i64::from(signed32(right)));
+        let quotient = signed32(left).wrapping_div(signed32(right));
         sign_extend32(quotient.cast_unsigned())
     }
 }
@@ -159,7 +159,7 @@ fn remw(left: u64, right: u64) -> u64
     if low32(right) == 0 {
         sign_extend32(left)
     } else {
-        i64::from(signed32(left).wrapping_rem(signed32(right))).cast_unsigned()
+        signed32(left).wrapping_rem(signed32(right)).cast_unsigned()
     }
 }
 
@@ -186,14 +186,14 @@ fn low32(word: u64) -> u64
     word % (1 << 32)
 }
 
-fn signed32(word: u64) -> i32
+fn signed32(word: u64) -> i64
     ensures { result ≡ signed32 word }
 {
-    (low32(word) as u32).cast_signed()
+    i64::from((low32(word) as u32).cast_signed())
 }
 
 fn sign_extend32(word: u64) -> u64
     ensures { result ≡ sign_extended32 word }
 {
-    i64::from(signed32(word)).cast_unsigned()
+    signed32(word).cast_unsigned()
 }
