@@ -7,4 +7,5 @@ pub mod HalfRows
 pub mod Machine
 pub mod Op
 pub mod Step
+pub mod Value
 pub mod Word

@@ -1,5 +1,6 @@
 // The instructions by what they do to a machine.
 ghost use Rattle.std.specs.Prelude.{◌≡◌, ◌<◌, ◌^◌};
+ghost use Rattle.rv_code.specs.Action.{action_of};
 ghost use Rattle.rv_code.specs.Op.{holds};
 ghost use Rattle.rv_code.specs.Extension.{bytes_of, extended};
 
@@ -135,4 +136,137 @@ pub enum Action {
     SystemCall,
     /// EBREAK.
     Breakpoint,
+}
+
+impl Inst {
+    /// What the instruction does.
+    pub fn action(&self) -> Action
+        ensures { result ≡ action_of self.now }
+    {
+        match *self {
+            Inst::Lui { rd, imm } => Action::Upper { rd, imm },
+            Inst::Auipc { rd, imm } => Action::UpperPc { rd, imm },
+            Inst::Jal { rd, imm } => Action::Jump { rd, imm },
+            Inst::Jalr { rd, rs1, imm } => Action::JumpTo { rd, rs1, imm },
+            Inst::Beq { rs1, rs2, imm } => branch(Test::Equal, true, rs1, rs2, imm),
+            Inst::Bne { rs1, rs2, imm } => branch(Test::Equal, false, rs1, rs2, imm),
+            Inst::Blt { rs1, rs2, imm } => branch(Test::LessSigned, true, rs1, rs2, imm),
+            Inst::Bge { rs1, rs2, imm } => branch(Test::LessSigned, false, rs1, rs2, imm),
+            Inst::Bltu { rs1, rs2, imm } => branch(Test::LessUnsigned, true, rs1, rs2, imm),
+            Inst::Bgeu { rs1, rs2, imm } => branch(Test::LessUnsigned, false, rs1, rs2, imm),
+            Inst::Lb { rd, rs1, imm } => load(Extension::Signed8, rd, rs1, imm),
+            Inst::Lh { rd, rs1, imm } => load(Extension::Signed16, rd, rs1, imm),
+            Inst::Lw { rd, rs1, imm } => load(Extension::Signed32, rd, rs1, imm),
+            Inst::Ld { rd, rs1, imm } => load(Extension::Whole64, rd, rs1, imm),
+            Inst::Lbu { rd, rs1, imm } => load(Extension::Zero8, rd, rs1, imm),
+            Inst::Lhu { rd, rs1, imm } => load(Extension::Zero16, rd, rs1, imm),
+            Inst::Lwu { rd, rs1, imm } => load(Extension::Zero32, rd, rs1, imm),
+            Inst::Sb { rs1, rs2, imm } => store(1, rs1, rs2, imm),
+            Inst::Sh { rs1, rs2, imm } => store(2, rs1, rs2, imm),
+            Inst::Sw { rs1, rs2, imm } => store(4, rs1, rs2, imm),
+            Inst::Sd { rs1, rs2, imm } => store(8, rs1, rs2, imm),
+            Inst::Addi { rd, rs1, imm } => on_immediate(Op::Add, rd, rs1, imm),
+            Inst::Slti { rd, rs1, imm } => on_immediate(Op::Slt, rd, rs1, imm),
+            Inst::Sltiu { rd, rs1, imm } => on_immediate(Op::Sltu, rd, rs1, imm),
+            Inst::Xori { rd, rs1, imm } => on_immediate(Op::Xor, rd, rs1, imm),
+            Inst::Ori { rd, rs1, imm } => on_immediate(Op::Or, rd, rs1, imm),
+            Inst::Andi { rd, rs1, imm } => on_immediate(Op::And, rd, rs1, imm),
+            Inst::Slli { rd, rs1, imm } => on_immediate(Op::Sll, rd, rs1, imm),
+            Inst::Srli { rd, rs1, imm } => on_immediate(Op::Srl, rd, rs1, imm),
+            Inst::Srai { rd, rs1, imm } => on_immediate(Op::Sra, rd, rs1, imm),
+            Inst::Addiw { rd, rs1, imm } => on_immediate(Op::Addw, rd, rs1, imm),
+            Inst::Slliw { rd, rs1, imm } => on_immediate(Op::Sllw, rd, rs1, imm),
+            Inst::Srliw { rd, rs1, imm } => on_immediate(Op::Srlw, rd, rs1, imm),
+            Inst::Sraiw { rd, rs1, imm } => on_immediate(Op::Sraw, rd, rs1, imm),
+            Inst::Add { rd, rs1, rs2 } => on_registers(Op::Add, rd, rs1, rs2),
+            Inst::Sub { rd, rs1, rs2 } => on_registers(Op::Sub, rd, rs1, rs2),
+            Inst::Sll { rd, rs1, rs2 } => on_registers(Op::Sll, rd, rs1, rs2),
+            Inst::Slt { rd, rs1, rs2 } => on_registers(Op::Slt, rd, rs1, rs2),
+            Inst::Sltu { rd, rs1, rs2 } => on_registers(Op::Sltu, rd, rs1, rs2),
+            Inst::Xor { rd, rs1, rs2 } => on_registers(Op::Xor, rd, rs1, rs2),
+            Inst::Srl { rd, rs1, rs2 } => on_registers(Op::Srl, rd, rs1, rs2),
+            Inst::Sra { rd, rs1, rs2 } => on_registers(Op::Sra, rd, rs1, rs2),
+            Inst::Or { rd, rs1, rs2 } => on_registers(Op::Or, rd, rs1, rs2),
+            Inst::And { rd, rs1, rs2 } => on_registers(Op::And, rd, rs1, rs2),
+            Inst::Mul { rd, rs1, rs2 } => on_registers(Op::Mul, rd, rs1, rs2),
+            Inst::Mulh { rd, rs1, rs2 } => on_registers(Op::Mulh, rd, rs1, rs2),
+            Inst::Mulhsu { rd, rs1, rs2 } => on_registers(Op::Mulhsu, rd, rs1, rs2),
+            Inst::Mulhu { rd, rs1, rs2 } => on_registers(Op::Mulhu, rd, rs1, rs2),
+            Inst::Div { rd, rs1, rs2 } => on_registers(Op::Div, rd, rs1, rs2),
+            Inst::Divu { rd, rs1, rs2 } => on_registers(Op::Divu, rd, rs1, rs2),
+            Inst::Rem { rd, rs1, rs2 } => on_registers(Op::Rem, rd, rs1, rs2),
+            Inst::Remu { rd, rs1, rs2 } => on_registers(Op::Remu, rd, rs1, rs2),
+            Inst::Addw { rd, rs1, rs2 } => on_registers(Op::Addw, rd, rs1, rs2),
+            Inst::Subw { rd, rs1, rs2 } => on_registers(Op::Subw, rd, rs1, rs2),
+            Inst::Sllw { rd, rs1, rs2 } => on_registers(Op::Sllw, rd, rs1, rs2),
+            Inst::Srlw { rd, rs1, rs2 } => on_registers(Op::Srlw, rd, rs1, rs2),
+            Inst::Sraw { rd, rs1, rs2 } => on_registers(Op::Sraw, rd, rs1, rs2),
+            Inst::Mulw { rd, rs1, rs2 } => on_registers(Op::Mulw, rd, rs1, rs2),
+            Inst::Divw { rd, rs1, rs2 } => on_registers(Op::Divw, rd, rs1, rs2),
+            Inst::Divuw { rd, rs1, rs2 } => on_registers(Op::Divuw, rd, rs1, rs2),
+            Inst::Remw { rd, rs1, rs2 } => on_registers(Op::Remw, rd, rs1, rs2),
+            Inst::Remuw { rd, rs1, rs2 } => on_registers(Op::Remuw, rd, rs1, rs2),
+            Inst::Fence { .. } => Action::Fence,
+            Inst::Ecall => Action::SystemCall,
+            Inst::Ebreak => Action::Breakpoint,
+        }
+    }
+}
+
+fn branch(test: Test, wanted: bool, rs1: u8, rs2: u8, imm: i64) -> Action
+    ensures { result ≡ Action.Branch test wanted rs1 rs2 imm }
+{
+    Action::Branch {
+        test,
+        wanted,
+        rs1,
+        rs2,
+        imm,
+    }
+}
+
+fn load(extension: Extension, rd: u8, rs1: u8, imm: i64) -> Action
+    ensures { result ≡ Action.Load extension rd rs1 imm }
+{
+    Action::Load {
+        extension,
+        rd,
+        rs1,
+        imm,
+    }
+}
+
+fn store(bytes: u8, rs1: u8, rs2: u8, imm: i64) -> Action
+    ensures { result ≡ Action.Store bytes rs1 rs2 imm }
+{
+    Action::Store {
+        bytes,
+        rs1,
+        rs2,
+        imm,
+    }
+}
+
+// An operation on a register and a constant.
+fn on_immediate(op: Op, rd: u8, rs1: u8, imm: i64) -> Action
+    ensures { result ≡ Action.Compute op rd (Operand.Register rs1) (Operand.Immediate imm) }
+{
+    Action::Compute {
+        op,
+        rd,
+        left: Operand::Register(rs1),
+        right: Operand::Immediate(imm),
+    }
+}
+
+// An operation on two registers.
+fn on_registers(op: Op, rd: u8, rs1: u8, rs2: u8) -> Action
+    ensures { result ≡ Action.Compute op rd (Operand.Register rs1) (Operand.Register rs2) }
+{
+    Action::Compute {
+        op,
+        rd,
+        left: Operand::Register(rs1),
+        right: Operand::Register(rs2),
+    }
 }

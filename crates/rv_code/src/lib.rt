@@ -9,6 +9,7 @@ pub mod layout;
 pub mod op;
 pub mod opcode;
 pub mod placed;
+pub mod value;
 
 pub use action::{Action, Extension, Operand, Test};
 pub use cause::Cause;
@@ -17,3 +18,4 @@ pub use inst::Inst;
 pub use layout::{Chains, Emitted, Form, Plan, Size};
 pub use op::Op;
 pub use placed::{Block, Func, Placed, Role, Width};
+pub use value::{op_value, taken};

@@ -1,4 +1,7 @@
 // The arithmetic and logic operations.
+ghost use Rattle.std.specs.Prelude.{◌≡◌};
+ghost use Rattle.rv_code.specs.Word.{low32, signed32, sign_extended32};
+ghost use Rattle.rv_code.specs.Op.{apply, high_half};
 
 /// An operation on two words of 64 bits. The immediate forms of the instructions share it: `ADDI` is
 /// `Add` of a register and a constant. The names with `w` work on the low 32 bits and sign-extend.
@@ -33,4 +36,164 @@ pub enum Op {
     Divuw,
     Remw,
     Remuw,
+}
+
+impl Op {
+    /// The operation's result on two words of 64 bits. Nothing traps: a division by zero gives all
+    /// bits set, or the dividend as remainder.
+    pub fn apply(self, left: u64, right: u64) -> u64
+        ensures { result ≡ apply self left right }
+    {
+        match self {
+            Op::Add => left.wrapping_add(right),
+            Op::Sub => left.wrapping_sub(right),
+            Op::Sll => left << (right % 64),
+            Op::Slt => u64::from(left.cast_signed() < right.cast_signed()),
+            Op::Sltu => u64::from(left < right),
+            Op::Xor => left ^ right,
+            Op::Srl => left >> (right % 64),
+            Op::Sra => (left.cast_signed() >> (right % 64)).cast_unsigned(),
+            Op::Or => left | right,
+            Op::And => left & right,
+            Op::Mul => left.wrapping_mul(right),
+            Op::Mulh => mulh(left, right),
+            Op::Mulhsu => mulhsu(left, right),
+            Op::Mulhu => mulhu(left, right),
+            Op::Div => div(left, right),
+            Op::Divu => divu(left, right),
+            Op::Rem => rem(left, right),
+            Op::Remu => remu(left, right),
+            Op::Addw => sign_extend32(left.wrapping_add(right)),
+            Op::Subw => sign_extend32(left.wrapping_sub(right)),
+            Op::Sllw => sign_extend32(low32(left) << (right % 32)),
+            Op::Srlw => sign_extend32(low32(left) >> (right % 32)),
+            Op::Sraw => (signed32(left) >> (right % 32)).cast_unsigned(),
+            Op::Mulw => sign_extend32(left.wrapping_mul(right)),
+            Op::Divw => divw(left, right),
+            Op::Divuw => divuw(left, right),
+            Op::Remw => remw(left, right),
+            Op::Remuw => remuw(left, right),
+        }
+    }
+}
+
+fn mulh(left: u64, right: u64) -> u64
+    ensures { result ≡ apply Op.Mulh left right }
+{
+    high_half(i128::from(left.cast_signed()) * i128::from(right.cast_signed()))
+}
+
+fn mulhsu(left: u64, right: u64) -> u64
+    ensures { result ≡ apply Op.Mulhsu left right }
+{
+    high_half(i128::from(left.cast_signed()) * i128::from(right))
+}
+
+fn mulhu(left: u64, right: u64) -> u64
+    ensures { result ≡ apply Op.Mulhu left right }
+{
+    ((u128::from(left) * u128::from(right)) >> 64) as u64
+}
+
+fn div(left: u64, right: u64) -> u64
+    ensures { result ≡ apply Op.Div left right }
+{
+    if right == 0 {
+        u64::MAX
+    } else {
+        left.cast_signed()
+            .wrapping_div(right.cast_signed())
+            .cast_unsigned()
+    }
+}
+
+fn divu(left: u64, right: u64) -> u64
+    ensures { result ≡ apply Op.Divu left right }
+{
+    if right == 0 { u64::MAX } else { left / right }
+}
+
+fn rem(left: u64, right: u64) -> u64
+    ensures { result ≡ apply Op.Rem left right }
+{
+    if right == 0 {
+        left
+    } else {
+        left.cast_signed()
+            .wrapping_rem(right.cast_signed())
+            .cast_unsigned()
+    }
+}
+
+fn remu(left: u64, right: u64) -> u64
+    ensures { result ≡ apply Op.Remu left right }
+{
+    if right == 0 { left } else { left % right }
+}
+
+// The signed numbers are divided as 64 bits, where -2 ^ 31 by -1 doesn't overflow.
+fn divw(left: u64, right: u64) -> u64
+    ensures { result ≡ apply Op.Divw left right }
+{
+    if low32(right) == 0 {
+        u64::MAX
+    } else {
+        let quotient = signed32(left).wrapping_div(signed32(right));
+        sign_extend32(quotient.cast_unsigned())
+    }
+}
+
+fn divuw(left: u64, right: u64) -> u64
+    ensures { result ≡ apply Op.Divuw left right }
+{
+    if low32(right) == 0 {
+        u64::MAX
+    } else {
+        sign_extend32(low32(left) / low32(right))
+    }
+}
+
+fn remw(left: u64, right: u64) -> u64
+    ensures { result ≡ apply Op.Remw left right }
+{
+    if low32(right) == 0 {
+        sign_extend32(left)
+    } else {
+        signed32(left).wrapping_rem(signed32(right)).cast_unsigned()
+    }
+}
+
+fn remuw(left: u64, right: u64) -> u64
+    ensures { result ≡ apply Op.Remuw left right }
+{
+    if low32(right) == 0 {
+        sign_extend32(left)
+    } else {
+        sign_extend32(low32(left) % low32(right))
+    }
+}
+
+// The high 64 bits of a product of 128 bits.
+fn high_half(product: i128) -> u64
+    ensures { result ≡ high_half product }
+{
+    (product.cast_unsigned() >> 64) as u64
+}
+
+fn low32(word: u64) -> u64
+    ensures { result ≡ low32 word }
+{
+    word % (1 << 32)
+}
+
+fn signed32(word: u64) -> i64
+    ensures { result ≡ signed32 word }
+{
+    i64::from((low32(word) as u32).cast_signed())
+}
+
+fn sign_extend32(word: u64) -> u64
+    ensures { result ≡ sign_extended32 word }
+{
+    signed32(word).cast_unsigned()
 }

@@ -1,0 +1,47 @@
+// The arithmetic of an instruction, on operands that the caller has read.
+ghost use Rattle.std.specs.Prelude.{◌≡◌};
+ghost use Rattle.rv_code.specs.Action.{action_of};
+ghost use Rattle.rv_code.specs.Value.{computed, is_taken};
+
+use crate::action::Action;
+use crate::inst::Inst;
+
+/// The result of an operation on two registers or on a register and a constant, where `a` is the
+/// value of rs1 and `b` that of rs2 or the immediate as a word. It is 0 for other instructions.
+pub fn op_value(inst: &Inst, a: u64, b: u64) -> u64
+    ensures { result ≡ computed (action_of inst.now) a b }
+{
+    match inst.action() {
+        Action::Compute { op, .. } => op.apply(a, b),
+        Action::Branch { .. }
+        | Action::Jump { .. }
+        | Action::JumpTo { .. }
+        | Action::Upper { .. }
+        | Action::UpperPc { .. }
+        | Action::Load { .. }
+        | Action::Store { .. }
+        | Action::Fence
+        | Action::SystemCall
+        | Action::Breakpoint => 0,
+    }
+}
+
+/// Whether a conditional branch is taken, where `a` and `b` are the values of rs1 and rs2. Other
+/// instructions aren't branches, and the answer is no.
+pub fn taken(inst: &Inst, a: u64, b: u64) -> bool
+    ensures { result ≡ is_taken (action_of inst.now) a b }
+{
+    match inst.action() {
+        Action::Branch { test, wanted, .. } => test.holds(a, b) == wanted,
+        Action::Compute { .. }
+        | Action::Jump { .. }
+        | Action::JumpTo { .. }
+        | Action::Upper { .. }
+        | Action::UpperPc { .. }
+        | Action::Load { .. }
+        | Action::Store { .. }
+        | Action::Fence
+        | Action::SystemCall
+        | Action::Breakpoint => false,
+    }
+}
