@@ -1,3 +1,4 @@
 pub mod Header
 pub mod Image
+pub mod Sections
 pub mod Start
