@@ -1,13 +1,15 @@
 -- The files that are rewritten today: one function of straight-line code, and nothing else.
-use Rattle.std.specs.Prelude.{◌≡◌, ◌≢◌, ◌⊎◌, ℕ, ◌+◌, ◌-◌, ◌*◌, ◌/◌, ◌%◌, ◌<◌, ◌≤◌, ◌==◌, Bool, true, false, List, length, codes}
-use Rattle.rv_code.specs.FullRows.{IsFull}
+use Rattle.std.specs.Prelude.{◌≡◌, ◌≢◌, ◌⊎◌, ℕ, ◌+◌, ◌-◌, ◌*◌, ◌/◌, ◌%◌, ◌<◌, ◌≤◌, ◌==◌, Bool, true, false, List, Some, length, codes}
+use Rattle.rv_code.specs.Decoding.{Decodes}
 use Rattle.rv_code.specs.declared.inst.Inst.{Inst}
 use Rattle.rv_code.specs.declared.inst.Inst.TheVariants.{Lui, Addi, Slti, Sltiu, Xori, Ori, Andi, Slli, Srli, Srai, Ecall}
 use Rattle.elf_image.specs.declared.segment.Segment.{Segment}
-use Rattle.elf_image.specs.declared.segment.TheConstants.{PT_LOAD, PF_R, PF_W, PF_X}
-use Rattle.elf_image.specs.Header.{number_at, e_type, e_machine, e_entry, e_phoff, e_shoff, e_flags, e_phentsize, e_phnum, e_shentsize, e_shnum, e_shstrndx, header_size, phdr_size, segment_at}
+use Rattle.elf_image.specs.declared.segment.TheConstants.{PT_LOAD, PF_R, PF_W, PF_X, PHDR_SIZE}
+use Rattle.elf_image.specs.Header.{number_at, e_type, e_machine, e_entry, e_phoff, e_shoff, e_flags, e_phentsize, e_phnum, e_shentsize, e_shnum, e_shstrndx, header_size, segment_at}
 use Rattle.elf_image.specs.Image.{end_of, has_flag}
-use Rattle.elf_image.specs.Sections.{shdr_size, SectionHeader, section_header, SHT_NOBITS, contents, HasText}
+use Rattle.elf_image.specs.Sections.{section_header, contents, HasText}
+use Rattle.elf_image.specs.declared.section.SectionHeader.{SectionHeader}
+use Rattle.elf_image.specs.declared.section.TheConstants.{SHT_NOBITS, SHF_ALLOC, SHF_EXECINSTR, SHDR_SIZE}
 
 -- the instructions of straight-line code: OP-IMM, LUI and ECALL
 abbrev pub IsStraight : Inst → Type 0
@@ -24,9 +26,9 @@ IsStraight (Srai rd rs1 imm) = Unit {0}
 IsStraight Ecall = Unit {0}
 IsStraight _ = ⊥
 
--- the word of four bytes is one of them
-abbrev pub IsStraightWord : ℕ → Type 0
-IsStraightWord word = (i : Inst) × IsFull word i × IsStraight i
+-- the four bytes at an offset are one of them
+abbrev pub IsStraightAt : List ℕ → ℕ → Type 0
+IsStraightAt file offset = (i : Inst) × Decodes (number_at file offset 2) (Some (number_at file (offset + 2) 2)) i 4 × IsStraight i
 
 -- Header: a static executable for RISC-V without flags, with one segment and three sections, of which the
 -- last has the names. The table of segments stands behind the header, and both tables lie in the file.
@@ -35,14 +37,14 @@ pub record HasFirstHeader (file : List ℕ) : Type 0 where
   pub type_is : e_type file ≡ 2
   pub machine_is : e_machine file ≡ 0xf3
   pub flags_are : e_flags file ≡ 0
-  pub phentsize_is : e_phentsize file ≡ phdr_size
-  pub shentsize_is : e_shentsize file ≡ shdr_size
+  pub phentsize_is : e_phentsize file ≡ PHDR_SIZE
+  pub shentsize_is : e_shentsize file ≡ SHDR_SIZE
   pub one_segment : e_phnum file ≡ 1
   pub three_sections : e_shnum file ≡ 3
   pub names_are_last : e_shstrndx file ≡ 2
   pub segments_apart : header_size ≤ e_phoff file
-  pub segments_whole : e_phoff file + phdr_size ≤ length file
-  pub sections_whole : e_shoff file + 3 * shdr_size ≤ length file
+  pub segments_whole : e_phoff file + PHDR_SIZE ≤ length file
+  pub sections_whole : e_shoff file + 3 * SHDR_SIZE ≤ length file
 
 -- the only segment
 abbrev pub code_segment : List ℕ → Segment
@@ -61,17 +63,11 @@ pub record HasFirstSegment (file : List ℕ) (p : Segment) : Type 0 where
   pub below : end_of p < 0x40000000
   pub whole : p.filesz ≤ length file
   pub holds_header : header_size ≤ p.filesz
-  pub holds_table : e_phoff file + phdr_size ≤ p.filesz
+  pub holds_table : e_phoff file + PHDR_SIZE ≤ p.filesz
 
 -- the header of the section that is none. gABI, "Section Header Table Entry for Index 0".
 abbrev pub null_header : SectionHeader
 null_header = record { name = 0; kind = 0; flags = 0; addr = 0; offset = 0; size = 0; link = 0; info = 0; align = 0; entsize = 0 }
-
-abbrev pub SHF_ALLOC : ℕ
-SHF_ALLOC = 2
-
-abbrev pub SHF_EXECINSTR : ℕ
-SHF_EXECINSTR = 4
 
 -- the section's bytes, if it has any in the file, lie in it
 abbrev pub LiesInFile : List ℕ → SectionHeader → Type 0
@@ -116,7 +112,7 @@ pub record HasFirstCode (file : List ℕ) (p : Segment) (text : SectionHeader) :
   pub starts_inside : p.vaddr ≤ text.addr
   pub ends_with : text.addr + text.size ≡ end_of p
   pub entry : e_entry file ≡ text.addr
-  pub straight : (k : ℕ) → 4 * k < text.size → IsStraightWord (number_at file (offset_of file (text.addr + 4 * k)) 4)
+  pub straight : (k : ℕ) → 4 * k < text.size → IsStraightAt file (offset_of file text.addr + 4 * k)
 
 pub record IsFirstForm (file : List ℕ) : Type 0 where
   pub header : HasFirstHeader file

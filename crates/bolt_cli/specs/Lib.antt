@@ -1,3 +1,10 @@
+pub mod Answers
 pub mod FirstForm
+pub mod Lines
+pub mod Read
+pub mod Refused
 pub mod Rewritten
 pub mod Spans
+pub mod Status
+pub mod Words
+pub mod World

@@ -3,6 +3,7 @@
 use Rattle.std.specs.Prelude.{ℕ, zero, suc, ◌+◌, ◌*◌, List, [], ◌∷◌, drop}
 use Rattle.byteorder.specs.Endian.{little_number}
 use Rattle.elf_image.specs.declared.segment.Segment.{Segment}
+use Rattle.elf_image.specs.declared.segment.TheConstants.{PHDR_SIZE}
 
 -- the number of so many bytes at an offset
 abbrev pub number_at : List ℕ → ℕ → ℕ → ℕ
@@ -41,12 +42,9 @@ e_shnum file = number_at file 0x3c 2
 abbrev pub e_shstrndx : List ℕ → ℕ
 e_shstrndx file = number_at file 0x3e 2
 
--- the bytes of the file's header, and of one program header
+-- the bytes of the file's header
 abbrev pub header_size : ℕ
 header_size = 64
-
-abbrev pub phdr_size : ℕ
-phdr_size = 56
 
 -- the program header at an offset
 abbrev pub segment_at : List ℕ → ℕ → Segment
@@ -64,7 +62,7 @@ segment_at file offset = record {
 -- the n program headers from an offset on
 unfoldable pub segments_from : List ℕ → ℕ → ℕ → List Segment
 segments_from file offset zero = []
-segments_from file offset (suc n) = segment_at file offset ∷ segments_from file (offset + phdr_size) n
+segments_from file offset (suc n) = segment_at file offset ∷ segments_from file (offset + PHDR_SIZE) n
 
 -- the program headers, in the order of their table
 abbrev pub segments_of : List ℕ → List Segment

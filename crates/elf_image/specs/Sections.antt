@@ -1,24 +1,9 @@
 -- Section headers as they stand in a file's bytes. gABI, "Section Header".
 use Rattle.std.specs.Prelude.{ℕ, ◌+◌, ◌*◌, ◌==◌, if◌then◌else◌, nat_eq, IsTrue, List, [], ◌∷◌, ◌++◌, take, drop}
 use Rattle.std.specs.List.{starts_with}
+use Rattle.elf_image.specs.declared.section.SectionHeader.{SectionHeader}
+use Rattle.elf_image.specs.declared.section.TheConstants.{SHT_NOBITS, SHDR_SIZE}
 use Rattle.elf_image.specs.Header.{number_at, e_shoff}
-
--- the bytes of one section header
-abbrev pub shdr_size : ℕ
-shdr_size = 64
-
--- a section header with its fields in the order of the file; its name is an index into the names
-pub record SectionHeader : Type 0 where
-  pub name : ℕ
-  pub kind : ℕ
-  pub flags : ℕ
-  pub addr : ℕ
-  pub offset : ℕ
-  pub size : ℕ
-  pub link : ℕ
-  pub info : ℕ
-  pub align : ℕ
-  pub entsize : ℕ
 
 -- the section header at an offset
 abbrev pub section_header_at : List ℕ → ℕ → SectionHeader
@@ -32,15 +17,12 @@ section_header_at file offset = record {
   link = number_at file (offset + 40) 4;
   info = number_at file (offset + 44) 4;
   align = number_at file (offset + 48) 8;
-  entsize = number_at file (offset + 56) 8 }
+  entsize = number_at file (offset + 56) 8;
+}
 
 -- the section header of an index
 abbrev pub section_header : List ℕ → ℕ → SectionHeader
-section_header file index = section_header_at file (e_shoff file + shdr_size * index)
-
--- the type of a section that has no bytes in the file
-abbrev pub SHT_NOBITS : ℕ
-SHT_NOBITS = 8
+section_header file index = section_header_at file (e_shoff file + SHDR_SIZE * index)
 
 -- the bytes of a section
 abbrev pub contents : List ℕ → SectionHeader → List ℕ

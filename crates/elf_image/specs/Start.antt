@@ -5,8 +5,8 @@ use Rattle.std.specs.Option.{option_map_or}
 use Rattle.rv_code.specs.Machine.{Space, low_bytes, Event, Run, SoFar}
 use Rattle.rv_code.specs.Step.{ByteState, Steps}
 use Rattle.elf_image.specs.declared.segment.Segment.{Segment}
-use Rattle.elf_image.specs.declared.segment.TheConstants.{PF_R, PF_W, PF_X}
-use Rattle.elf_image.specs.Header.{e_entry, e_phoff, e_phnum, phdr_size, segments_of}
+use Rattle.elf_image.specs.declared.segment.TheConstants.{PF_R, PF_W, PF_X, PHDR_SIZE}
+use Rattle.elf_image.specs.Header.{e_entry, e_phoff, e_phnum, segments_of}
 use Rattle.elf_image.specs.Image.{is_load, end_of, image_byte, has_flag, is_loaded_with}
 
 abbrev pub page_size : ℕ
@@ -83,7 +83,7 @@ text_addresses a (text ∷ rest) = a ∷ text_addresses (a + length text + 1) re
 -- where the table of program headers is loaded, 0 where no segment loads all of it from the file
 abbrev pub loads_table : List ℕ → Segment → Bool
 loads_table file p =
-    is_load p && nat_le p.offset (e_phoff file) && nat_le (e_phoff file + phdr_size * e_phnum file) (p.offset + min p.filesz p.memsz)
+    is_load p && nat_le p.offset (e_phoff file) && nat_le (e_phoff file + PHDR_SIZE * e_phnum file) (p.offset + min p.filesz p.memsz)
 
 abbrev pub table_address : List ℕ → ℕ
 table_address file = option_map_or (λ p. p.vaddr + (e_phoff file - p.offset)) (find (loads_table file) (segments_of file)) 0
@@ -91,7 +91,7 @@ table_address file = option_map_or (λ p. p.vaddr + (e_phoff file - p.offset)) (
 -- AT_PHDR, AT_PHENT, AT_PHNUM, AT_PAGESZ, AT_ENTRY, AT_RANDOM and AT_NULL, each with its value
 abbrev pub auxiliary_vector : List ℕ → List ℕ
 auxiliary_vector file =
-    3 ∷ table_address file ∷ 4 ∷ phdr_size ∷ 5 ∷ e_phnum file ∷ 6 ∷ page_size ∷ 9 ∷ e_entry file ∷ 25 ∷ random_address ∷ 0 ∷ 0 ∷ []
+    3 ∷ table_address file ∷ 4 ∷ PHDR_SIZE ∷ 5 ∷ e_phnum file ∷ 6 ∷ page_size ∷ 9 ∷ e_entry file ∷ 25 ∷ random_address ∷ 0 ∷ 0 ∷ []
 
 -- the words at the stack pointer: the count of arguments, their addresses, the ends of the lists of arguments
 -- and of environment variables, and the auxiliary vector

@@ -1,6 +1,9 @@
 //! ELF files: their headers, and the memory that they describe.
 #![tactic(auto)]
 
+pub mod number;
+pub mod section;
 pub mod segment;
 
+pub use section::SectionHeader;
 pub use segment::Segment;

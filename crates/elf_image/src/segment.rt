@@ -1,4 +1,7 @@
 // Program headers.
+ghost use Rattle.std.specs.Prelude.{◌≡◌, ◌≤◌, ◌<◌, ◌+◌, length};
+
+use crate::number::{u32_at, u64_at};
 
 /// The type of a segment that is loaded. gABI, "Program Header".
 pub const PT_LOAD: u32 = 1;
@@ -9,6 +12,9 @@ pub const PF_X: u32 = 1;
 pub const PF_W: u32 = 2;
 
 pub const PF_R: u32 = 4;
+
+/// The size of a program header in bytes.
+pub const PHDR_SIZE: usize = 56;
 
 /// A program header, with its fields in the order of the file. Offsets and sizes are in bytes.
 /// gABI, "Program Header".
@@ -30,4 +36,34 @@ pub struct Segment {
     pub memsz: u64,
     /// `p_align`.
     pub align: u64,
+}
+
+impl Segment {
+    ghost use Rattle.elf_image.specs.Header.{segment_at};
+    ghost use Rattle.elf_image.specs.Image.{has_flag};
+
+    /// The program header that stands at an offset of a file.
+    pub fn at(file: &[u8], offset: usize) -> Segment
+        requires { offset + PHDR_SIZE ≤ length file.now }
+        ensures { result ≡ segment_at file.now offset }
+    {
+        Segment {
+            kind: u32_at(file, offset),
+            flags: u32_at(file, offset + 4),
+            offset: u64_at(file, offset + 8),
+            vaddr: u64_at(file, offset + 16),
+            paddr: u64_at(file, offset + 24),
+            filesz: u64_at(file, offset + 32),
+            memsz: u64_at(file, offset + 40),
+            align: u64_at(file, offset + 48),
+        }
+    }
+
+    /// Whether one of the flags `PF_R`, `PF_W` and `PF_X` is set.
+    pub fn has_flag(&self, flag: u32) -> bool
+        requires { 0 < flag }
+        ensures { result ≡ has_flag flag self.now }
+    {
+        self.flags / flag % 2 == 1
+    }
 }

@@ -1,0 +1,24 @@
+-- The lines that commands print.
+use Rattle.std.specs.Prelude.{ℕ, ◌*◌, List, [], ◌++◌, codes, decimal}
+use Rattle.rb_bytes.specs.Fault.{number_of, name_of}
+use Rattle.rb_bytes.specs.Text.{hexadecimal}
+use Rattle.rb_bytes.specs.declared.fault.Fault.{Fault}
+use Rattle.rb_bytes.specs.declared.fault.FaultKind.{FaultKind}
+use Rattle.rb_bytes.specs.declared.fault.FaultKind.TheVariants.{NoRoom}
+
+abbrev pub usage_line : List ℕ
+usage_line = codes "usage: rewrite IN PROFILE OUT MAP, map IN PROFILE, run [--symbols] [--steps N] FILE [WORDS], lookup FILE ADDR, sample N OUT PROFILE\n"
+
+-- how a refusal ends: want of room has what is needed and what there is
+abbrev pub refused_end : FaultKind → ℕ → ℕ → List ℕ
+refused_end NoRoom need room = codes ": need " ++ decimal need ++ codes " room " ++ decimal room ++ codes "\n"
+refused_end _ need room = codes "\n"
+
+abbrev pub refused_line : Fault → List ℕ
+refused_line fault =
+    codes "refused " ++ decimal (number_of fault.kind) ++ codes " " ++ name_of fault.kind ++ codes " at " ++ hexadecimal fault.place ++ refused_end fault.kind fault.need fault.room
+
+-- what was moved
+abbrev pub summary_line : ℕ → ℕ → ℕ → ℕ → ℕ → List ℕ
+summary_line functions instructions bytes hot ignored =
+    codes "moved " ++ decimal functions ++ codes " functions, " ++ decimal instructions ++ codes " instructions, " ++ decimal bytes ++ codes " bytes; " ++ decimal hot ++ codes " hot blocks; " ++ decimal ignored ++ codes " profile lines ignored\n"

@@ -1,0 +1,68 @@
+// Section headers.
+ghost use Rattle.std.specs.Prelude.{◌≡◌, ◌≤◌, ◌+◌, length};
+
+use crate::number::{u32_at, u64_at};
+
+/// The type of a section that has no bytes in the file. gABI, "Section Types".
+pub const SHT_NOBITS: u32 = 8;
+
+/// The type of a section with contents of the program's own. gABI, "Section Types".
+pub const SHT_PROGBITS: u32 = 1;
+
+/// The flags of a section that is loaded, and of one that holds instructions. gABI, "Section
+/// Attribute Flags".
+pub const SHF_ALLOC: u64 = 2;
+
+pub const SHF_EXECINSTR: u64 = 4;
+
+/// The size of a section header in bytes.
+pub const SHDR_SIZE: usize = 64;
+
+/// A section header, with its fields in the order of the file. Offsets and sizes are in bytes.
+/// gABI, "Section Header".
+#[derive(Clone, Copy, PartialEq, Eq, Debug)]
+pub struct SectionHeader {
+    /// `sh_name`: where its name begins in the table of names.
+    pub name: u32,
+    /// `sh_type`.
+    pub kind: u32,
+    /// `sh_flags`.
+    pub flags: u64,
+    /// `sh_addr`.
+    pub addr: u64,
+    /// `sh_offset`: where its bytes stand in the file.
+    pub offset: u64,
+    /// `sh_size`.
+    pub size: u64,
+    /// `sh_link`.
+    pub link: u32,
+    /// `sh_info`.
+    pub info: u32,
+    /// `sh_addralign`.
+    pub align: u64,
+    /// `sh_entsize`.
+    pub entsize: u64,
+}
+
+impl SectionHeader {
+    ghost use Rattle.elf_image.specs.Sections.{section_header_at};
+
+    /// The section header that stands at an offset of a file.
+    pub fn at(file: &[u8], offset: usize) -> SectionHeader
+        requires { offset + SHDR_SIZE ≤ length file.now }
+        ensures { result ≡ section_header_at file.now offset }
+    {
+        SectionHeader {
+            name: u32_at(file, offset),
+            kind: u32_at(file, offset + 4),
+            flags: u64_at(file, offset + 8),
+            addr: u64_at(file, offset + 16),
+            offset: u64_at(file, offset + 24),
+            size: u64_at(file, offset + 32),
+            link: u32_at(file, offset + 40),
+            info: u32_at(file, offset + 44),
+            align: u64_at(file, offset + 48),
+            entsize: u64_at(file, offset + 56),
+        }
+    }
+}
