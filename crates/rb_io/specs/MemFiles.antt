@@ -1,12 +1,8 @@
 -- What files in memory hold, have room for and answer.
-use Rattle.std.specs.Prelude.{ℕ, List, length, Option, Some, None, Bool, true, false, nat_le, nat_lt, ◌||◌, not, is_none, if◌then◌else◌}
+use Rattle.std.specs.Prelude.{ℕ, List, Option, Some, None, Bool, false, nat_le, ◌||◌, not, is_none}
 use Rattle.rb_io.specs.Calls.{fails_next}
 use Rattle.rb_io.specs.Slots.{content_at, room_at}
 use Rattle.rb_io.specs.declared.calls.Calls.{Calls}
-use Rattle.rb_io.specs.declared.files.ReadAll.{ReadAll}
-use Rattle.rb_io.specs.declared.files.ReadAll.TheVariants as read
-use Rattle.rb_io.specs.declared.files.Wrote.{Wrote}
-use Rattle.rb_io.specs.declared.files.Wrote.TheVariants as wrote
 use Rattle.rb_io.specs.declared.mem_files.MemFiles.{MemFiles}
 
 -- the bytes under a name, if the map has it

@@ -4,6 +4,8 @@
 mod calls;
 mod copy;
 pub mod files;
+pub mod host_files;
+pub mod host_streams;
 pub mod mem_files;
 pub mod mem_sink;
 pub mod mem_source;
@@ -15,6 +17,8 @@ mod slots;
 pub mod source;
 
 pub use files::{Files, ReadAll, Wrote};
+pub use host_files::HostFiles;
+pub use host_streams::{HostSink, HostSource};
 pub use mem_files::MemFiles;
 pub use mem_sink::MemSink;
 pub use mem_source::MemSource;

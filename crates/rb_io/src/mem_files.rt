@@ -86,13 +86,12 @@ impl Files for MemFiles {
     ghost write_count = { λ files name. (calls_of files).faults };
 
     fn read_all(&mut self, name: &str, limit: usize, into: &mut Vec<u8>) -> ReadAll
-        ensures done { result ≡ ReadAll.Done → IsTrue true → content self.old name.now ≡ Some into.new.items }
+        ensures done { result ≡ ReadAll.Done → content self.old name.now ≡ Some into.new.items }
         ensures within_limit { result ≡ ReadAll.Done → length into.new.items ≤ limit }
-        ensures too_long { result ≡ ReadAll.TooLong → IsTrue true → IsSomeAnd (content self.old name.now) (λ bytes. limit < length bytes) }
+        ensures too_long { result ≡ ReadAll.TooLong → IsSomeAnd (content self.old name.now) (λ bytes. limit < length bytes) }
         ensures failed { result ≡ ReadAll.Failed → Rose (calls_of self.old).faults (calls_of self.new).faults }
         ensures emptied { result ≢ ReadAll.Done → into.new.items ≡ [] }
         ensures contents_kept { Unchanged (content self.old) (content self.new) }
-        ensures told_kept { true ≡ true }
         ensures read_counts { NeverFalls (λ name. (calls_of self.old).faults) (λ name. (calls_of self.new).faults) }
         ensures write_counts { NeverFalls (λ name. (calls_of self.old).faults) (λ name. (calls_of self.new).faults) }
         // It fails exactly where its number is to fail or the name isn't there.
@@ -114,10 +113,9 @@ impl Files for MemFiles {
     }
 
     fn write_all(&mut self, name: &str, bytes: &[u8]) -> Wrote
-        ensures done { result ≡ Wrote.Done → IsTrue true → content self.new name.now ≡ Some bytes.now }
+        ensures done { result ≡ Wrote.Done → content self.new name.now ≡ Some bytes.now }
         ensures failed { result ≡ Wrote.Failed → Rose (calls_of self.old).faults (calls_of self.new).faults }
         ensures others_kept { UnchangedBut name.now (content self.old) (content self.new) }
-        ensures told_kept { true ≡ true }
         ensures read_counts { NeverFalls (λ name. (calls_of self.old).faults) (λ name. (calls_of self.new).faults) }
         ensures write_counts { NeverFalls (λ name. (calls_of self.old).faults) (λ name. (calls_of self.new).faults) }
         // It fails exactly where its number is to fail or the name hasn't room for the bytes, and then changes no content.
@@ -128,11 +126,7 @@ impl Files for MemFiles {
     {
         let failed = self.calls.fails_next() || !overwrite(&mut self.slots, name, bytes);
         self.calls.count(failed);
-        if failed {
-            Wrote::Failed
-        } else {
-            Wrote::Done
-        }
+        if failed { Wrote::Failed } else { Wrote::Done }
     }
 
     fn read_faults(&self, _name: &str) -> u64 {

@@ -44,12 +44,7 @@ pub(crate) fn make_room(
 }
 
 // Makes room for a name that has none.
-fn add_room(
-    slots: &mut Slots,
-    alloc: Global,
-    name: String,
-    room: usize,
-) -> Result<(), AllocError>
+fn add_room(slots: &mut Slots, alloc: Global, name: String, room: usize) -> Result<(), AllocError>
     requires { room_at slots.old (string_bytes name) ≡ None }
     ensures contents_kept { Unchanged (content_at slots.old) (content_at slots.new) }
     ensures ok { OnOk result (room_at slots.new (string_bytes name) ≡ Some room) }

@@ -1,6 +1,5 @@
-use Rattle.std.proofs.Common.{◌≡◌, ◌∙◌, ap, sym, ℕ, None, Some, string_bytes}
+use Rattle.std.proofs.Common.{◌∙◌, ap, sym, Some, string_bytes}
 use Rattle.std.specs.Prelude.{option_map, option_and_then}
-use Rattle.std.specs.BTreeMap.{get_by_text}
 use Rattle.rb_io.specs.Slot.{content_of, room_of}
 use Rattle.rb_io.proofs.Lookups.{get_by_text-others, get_by_text-part, content_at-none}
 use Rattle.rb_io.proofs.slots.add_room.Goals as goal

@@ -1,4 +1,4 @@
-use Rattle.std.proofs.Common.{◌∙◌, ap, rules, Some, string_bytes}
+use Rattle.std.proofs.Common.{◌∙◌, ap, rules, Some}
 use Rattle.std.specs.Prelude.{option_map, option_and_then}
 use Rattle.rb_io.specs.Slot.{content_of, room_of}
 use Rattle.rb_io.proofs.Lookups.{ChangesAt, get_by_text-others, get_by_text-part}

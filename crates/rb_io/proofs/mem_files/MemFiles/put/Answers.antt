@@ -1,4 +1,4 @@
-use Rattle.std.proofs.Common.{ap, ℕ, Option, Some, option_map, string_bytes}
+use Rattle.std.proofs.Common.{ap, option_map, string_bytes}
 use Rattle.std.specs.Prelude.{option_and_then}
 use Rattle.rb_io.specs.Slot.{content_of, room_of}
 use Rattle.rb_io.proofs.Lookups.{get_by_text-others}
