@@ -1,2 +1,3 @@
+mod Lookups
 pub mod Printing
 mod Reading

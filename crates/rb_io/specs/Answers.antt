@@ -1,5 +1,9 @@
 -- What a read or a write answers.
 use Rattle.std.specs.Prelude.{ℕ, Bool, true, false}
+use Rattle.rb_io.specs.declared.files.ReadAll.{ReadAll}
+use Rattle.rb_io.specs.declared.files.ReadAll.TheVariants as read
+use Rattle.rb_io.specs.declared.files.Wrote.{Wrote}
+use Rattle.rb_io.specs.declared.files.Wrote.TheVariants as wrote
 use Rattle.rb_io.specs.declared.source.Got.{Got}
 use Rattle.rb_io.specs.declared.source.Got.TheVariants.{Bytes}
 use Rattle.rb_io.specs.declared.source.Got.TheVariants as got
@@ -26,3 +30,15 @@ got_failed got.Failed = true
 abbrev pub put_failed : Put → Bool
 put_failed (Took n) = false
 put_failed put.Failed = true
+
+-- the whole file could not be read
+abbrev pub read_failed : ReadAll → Bool
+read_failed read.Done = false
+read_failed read.TooLong = false
+read_failed read.Failed = true
+read_failed read.Memory = false
+
+-- the whole file could not be written
+abbrev pub write_failed : Wrote → Bool
+write_failed wrote.Done = false
+write_failed wrote.Failed = true

@@ -1,7 +1,10 @@
 pub mod Answers
 pub mod Calls
 pub mod Counts
+pub mod MemFiles
 pub mod MemSink
 pub mod MemSource
 pub mod Names
 pub mod Printed
+pub mod Slot
+pub mod Slots

@@ -1,0 +1,89 @@
+// Files of the system.
+ghost use Rattle.std.specs.Prelude.{◌≡◌, ◌≤◌, None, false, [], length};
+
+use crate::files::{Files, ReadAll, Wrote};
+use std::fs;
+use std::io::Read;
+
+/// The files of the system, which tell nothing of their contents. One u64 counts the faults of all names.
+#[derive(Drop)]
+pub struct HostFiles<'a, R> {
+    rt: &'a R,
+    faults: u64,
+}
+
+// How many bytes are read at a time.
+const PIECE: usize = 65536;
+
+impl<'a, R: std::rt::Files> HostFiles<'a, R> {
+    /// The files that this runtime opens.
+    pub fn new(rt: &'a R) -> Self {
+        HostFiles { rt, faults: 0 }
+    }
+}
+
+impl<'a, R: std::rt::Files> Files for HostFiles<'a, R> {
+    ghost told = { λ files. false };
+
+    ghost content = { λ files name. None };
+
+    ghost read_count = { λ files name. files.faults };
+
+    ghost write_count = { λ files name. files.faults };
+
+    fn read_all(&mut self, name: &str, limit: usize, into: &mut Vec<u8>) -> ReadAll {
+        into.clear();
+        let answer = read_file(self.rt, name, limit, into);
+        if answer == ReadAll::Failed {
+            self.faults = self.faults.saturating_add(1);
+        }
+        if answer != ReadAll::Done {
+            into.clear();
+        }
+        answer
+    }
+
+    fn write_all(&mut self, name: &str, bytes: &[u8]) -> Wrote {
+        match fs::write(self.rt, name, bytes) {
+            Ok(()) => Wrote::Done,
+            Err(_) => {
+                self.faults = self.faults.saturating_add(1);
+                Wrote::Failed
+            }
+        }
+    }
+
+    fn read_faults(&self, _name: &str) -> u64 {
+        self.faults
+    }
+
+    fn write_faults(&self, _name: &str) -> u64 {
+        self.faults
+    }
+}
+
+// Reads a file piece by piece, and ends as soon as it has more bytes than the limit.
+fn read_file<R: std::rt::Files>(rt: &R, name: &str, limit: usize, into: &mut Vec<u8>) -> ReadAll
+    requires { into.old.items ≡ [] }
+    ensures { result ≡ ReadAll.Done → length into.new.items ≤ limit }
+{
+    let Ok(mut file) = fs::open(rt, name) else {
+        return ReadAll::Failed;
+    };
+    let mut piece = [0u8; PIECE];
+    for _ in 0..u64::MAX {
+        match file.read(&mut piece) {
+            Ok(0) => return ReadAll::Done,
+            Ok(count) => {
+                if count > limit - into.len() {
+                    return ReadAll::TooLong;
+                }
+                if into.extend_from_slice(&piece[..count]).is_err() {
+                    return ReadAll::Memory;
+                }
+            }
+            Err(_) => return ReadAll::Failed,
+        }
+    }
+    ReadAll::Failed
+}
