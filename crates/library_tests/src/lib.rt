@@ -1,0 +1,5 @@
+//! Tests of the libraries against values from outside: the standards' tables and worked examples.
+#![tactic(auto)]
+
+#[cfg(test)]
+mod value;
