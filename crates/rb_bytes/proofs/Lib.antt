@@ -1,2 +1,4 @@
 pub mod HexDigits
 pub mod Texts
+pub mod Unsigned
+pub mod Tests

@@ -5,4 +5,5 @@
 pub mod cursor;
 pub mod fault;
 pub mod gap;
+pub mod leb;
 pub mod text;

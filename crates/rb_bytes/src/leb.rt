@@ -1,0 +1,97 @@
+// LEB128 numbers. DWARF 5, section 7.6.
+ghost use Rattle.std.specs.Prelude.{◌≡◌, ◌<◌, ◌^◌, ◌++◌, FitsSigned, length, OnOk, OnErr, position};
+ghost use Rattle.std.specs.Int.{w64};
+ghost use Rattle.std.specs.Option.{SomeIff};
+ghost use Rattle.rb_bytes.specs.Leb.{is_last, uleb_value, sleb_value, signed_bits, low_bits, uleb, sleb, IsShortestUleb, IsShortestSleb};
+
+use crate::fault::NoMemory;
+
+/// The values of seven bits, those that a byte carries.
+const VALUES: u8 = 128;
+
+/// As many bytes as a number of 64 bits takes at most.
+const MAX_LENGTH: usize = 10;
+
+/// The place of the byte that ends the number at the front.
+pub(crate) fn end_at(left: &[u8]) -> Option<usize>
+    ensures { result ≡ position is_last left.now }
+{
+    left.iter().position(|byte| *byte < VALUES)
+}
+
+/// The value of an unsigned number's bytes, if it fits.
+pub(crate) fn unsigned_value(bytes: &[u8]) -> Option<u64>
+    ensures { SomeIff result (uleb_value bytes.now < 2 ^ 64) (uleb_value bytes.now) }
+{
+    let mut value: u64 = 0;
+    'bytes: for index in (0..bytes.len()).rev() {
+        value = value.checked_mul(VALUES as u64)? + (bytes[index] % VALUES) as u64;
+    }
+    Some(value)
+}
+
+fn sign_extended(byte: u8) -> i64
+    ensures { result ≡ signed_bits byte }
+{
+    let bits = (byte % VALUES) as i64;
+    if bits < 64 {
+        bits
+    } else {
+        bits - VALUES as i64
+    }
+}
+
+/// The value of a signed number's bytes, if it fits.
+pub(crate) fn signed_value(bytes: &[u8]) -> Option<i64>
+    requires { 0 < length bytes.now }
+    ensures { SomeIff result (FitsSigned w64 (sleb_value bytes.now)) (sleb_value bytes.now) }
+{
+    let last = bytes.len() - 1;
+    let mut value = sign_extended(bytes[last]);
+    'bytes: for index in (0..last).rev() {
+        value = value.checked_mul(VALUES as i64)? + (bytes[index] % VALUES) as i64;
+    }
+    Some(value)
+}
+
+#[tactic(auto, using(crate::proofs::Unsigned::spellings))]
+/// Appends the shortest spelling of an unsigned number.
+pub fn put_uleb(out: &mut Vec<u8>, v: u64) -> Result<(), NoMemory>
+    ensures ok { OnOk result (out.new.items ≡ out.old.items ++ uleb v) }
+    ensures err { OnErr result (out.new.items ≡ out.old.items) }
+    ensures shortest { IsShortestUleb v (uleb v) }
+{
+    // With this room no `push` below can fail.
+    out.reserve(MAX_LENGTH)?;
+    let mut rest = v;
+    'bytes: while rest >= VALUES as u64 {
+        out.push((rest % VALUES as u64) as u8 + VALUES).unwrap();
+        rest /= VALUES as u64;
+    }
+    out.push(rest as u8).unwrap();
+    Ok(())
+}
+
+/// The seven lowest bits of a number in two's complement.
+fn low_seven(value: i64) -> u8
+    ensures { result ≡ low_bits value }
+{
+    (value.cast_unsigned() % VALUES as u64) as u8
+}
+
+/// Appends the shortest spelling of a signed number.
+pub fn put_sleb(out: &mut Vec<u8>, v: i64) -> Result<(), NoMemory>
+    ensures ok { OnOk result (out.new.items ≡ out.old.items ++ sleb v) }
+    ensures err { OnErr result (out.new.items ≡ out.old.items) }
+    ensures shortest { IsShortestSleb v (sleb v) }
+{
+    // With this room no `push` below can fail.
+    out.reserve(MAX_LENGTH)?;
+    let mut rest = v;
+    'bytes: while !(-64..64).contains(&rest) {
+        out.push(low_seven(rest) + VALUES).unwrap();
+        rest >>= 7;
+    }
+    out.push(low_seven(rest)).unwrap();
+    Ok(())
+}
