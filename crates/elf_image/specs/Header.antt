@@ -1,5 +1,6 @@
 -- The fields of an ELF file's header and of its program headers, as they stand in its bytes.
--- gABI, "ELF Header" and "Program Header"; psABI, "File Header".
+-- gABI, "ELF Header" and "Program Header"; psABI, "File Header". The counts are the header's own: those of
+-- files with more headers than it can say, which the gABI keeps in the null section, aren't followed.
 use Rattle.std.specs.Prelude.{ℕ, zero, suc, ◌+◌, ◌*◌, List, [], ◌∷◌, drop}
 use Rattle.byteorder.specs.Endian.{little_number}
 use Rattle.elf_image.specs.declared.segment.Segment.{Segment}

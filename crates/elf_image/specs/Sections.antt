@@ -28,6 +28,7 @@ section_header file index = section_header_at file (e_shoff file + SHDR_SIZE * i
 abbrev pub contents : List ℕ → SectionHeader → List ℕ
 contents file section = if section.kind == SHT_NOBITS then [] else take section.size (drop section.offset file)
 
--- A table of names has this text at an index, with a zero byte after it. gABI, "String Table".
+-- A table of names has this text, which holds no zero byte, at an index, with a zero byte after it.
+-- gABI, "String Table".
 abbrev pub HasText : List ℕ → ℕ → List ℕ → Type 0
 HasText table index text = IsTrue (starts_with nat_eq (drop index table) (text ++ 0 ∷ []))

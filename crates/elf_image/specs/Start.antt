@@ -1,8 +1,10 @@
--- How a program starts, and its runs. psABI, "Program Loading"; the stack and its auxiliary vector as Linux
--- lays them out (System V ABI, "Process Initialization").
+-- How a program starts, and its runs. gABI, "Program Loading"; the stack and its auxiliary vector as the
+-- System V ABI has them for other processors ("Process Initialization"), with Linux's AT_RANDOM. The bytes
+-- of a file, of words and of input are below 256, and words hold no zero byte.
 use Rattle.std.specs.Prelude.{ℕ, zero, suc, ◌+◌, ◌-◌, ◌*◌, ◌/◌, ◌%◌, ◌^◌, ◌&&◌, ◌||◌, ◌==◌, nat_lt, nat_le, if◌then◌else◌, Bool, List, [], ◌∷◌, ◌++◌, Option, Some, None, length, min, max, map, filter, fold, flat_map, find, replicate, slice_index, unwrap_or, codes}
 use Rattle.std.specs.Option.{option_map_or}
-use Rattle.rv_code.specs.Machine.{Space, low_bytes, Event, Run, SoFar}
+use Rattle.rv_code.specs.Machine.{Space, low_bytes, Event, Run, SoFar, HaltsAfter}
+use Rattle.rv_code.specs.declared.cause.Cause.{Cause}
 use Rattle.rv_code.specs.Step.{ByteState, Steps}
 use Rattle.elf_image.specs.declared.segment.Segment.{Segment}
 use Rattle.elf_image.specs.declared.segment.TheConstants.{PF_R, PF_W, PF_X, PHDR_SIZE}
@@ -146,6 +148,10 @@ start file words input = record {
 -- The n-th step of the file, run with these words and this input, ends with this status, after these calls.
 abbrev pub Runs : List ℕ → List (List ℕ) → List ℕ → ℕ → List Event → ℕ → Type 0
 Runs file words input n trace status = Run Steps (start file words input) n trace status
+
+-- After n steps that neither end nor trap, with these calls, the next one traps, at this pc for this cause.
+abbrev pub TrapsAfter : List ℕ → List (List ℕ) → List ℕ → ℕ → List Event → ℕ → Cause → Type 0
+TrapsAfter file words input n trace pc cause = HaltsAfter Steps (start file words input) n trace pc cause
 
 -- Its first n steps neither end nor trap, and make these calls.
 pub record RunsSoFar (file : List ℕ) (words : List (List ℕ)) (input : List ℕ) (n : ℕ) (trace : List Event) : Type 0 where

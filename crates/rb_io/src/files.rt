@@ -29,7 +29,7 @@ pub enum Wrote {
 ///
 /// The counts never fall, and stop at `u64::MAX`.
 pub trait Files {
-    /// Whether the map is told. Where it is not, the clauses say nothing of contents.
+    /// Whether the map is told. Where it is not, `content` means nothing.
     ghost told: { Self → Bool };
 
     /// The bytes under a name, if the map has it.

@@ -11,9 +11,10 @@ use Rattle.rv_code.specs.declared.action.Action.TheVariants.{Compute, Branch, Ju
 use Rattle.rv_code.specs.declared.action.Action.TheVariants as action
 
 abbrev pub action_of : Inst → Action
--- 2.4 and 4.2: constants, and jumps
+-- 2.4 and 4.2: constants
 action_of (Lui rd imm) = Upper rd imm
 action_of (Auipc rd imm) = UpperPc rd imm
+-- 2.5: jumps
 action_of (Jal rd imm) = Jump rd imm
 action_of (Jalr rd rs1 imm) = JumpTo rd rs1 imm
 -- 2.5: conditional branches

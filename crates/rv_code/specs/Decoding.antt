@@ -17,6 +17,7 @@ pub record DecodesFull (half : ℕ) (next : Option ℕ) (inst : Inst) (bytes : �
   pub four_bytes : bytes ≡ 4
   pub row : IsSomeAnd next (λ upper. IsFull (upper * 2 ^ 16 + half) inst)
 
--- the halfword, with the one that follows it where there is one, is this instruction of so many bytes
+-- The halfword, with the one that follows it where there is one, is this instruction of so many bytes. Both
+-- are below 2 ^ 16. Longer forms, which begin with five bits 11111, have no row: no opcode ends so.
 abbrev pub Decodes : ℕ → Option ℕ → Inst → ℕ → Type 0
 Decodes half next inst bytes = DecodesHalf half inst bytes ⊎ DecodesFull half next inst bytes

@@ -69,7 +69,7 @@ rd half = field half 7 5
 abbrev pub rs2 : ℕ → ℕ
 rs2 half = field half 2 5
 
--- registers 8 to 15, in three bits: bits 9:7 for rs1' and the rd' of arithmetic, bits 4:2 for rs2' and the rd' of loads
+-- registers 8 to 15, in three bits: bits 9:7 for rs1' and the rd' of arithmetic, bits 4:2 for rs2' and the rd' of loads and of C.ADDI4SPN
 abbrev pub upper_register : ℕ → ℕ
 upper_register half = 8 + field half 7 3
 
@@ -78,7 +78,7 @@ lower_register half = 8 + field half 2 3
 
 -- Immediates, before any sign.
 
--- bit 12 = imm[5], 6:2 = imm[4:0]
+-- bit 12 = imm[5], 6:2 = imm[4:0]; for C.LUI imm[17] and imm[16:12]
 abbrev pub six_bits : ℕ → ℕ
 six_bits half = field half 12 1 * 2 ^ 5 + field half 2 5
 

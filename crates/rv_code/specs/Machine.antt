@@ -26,7 +26,7 @@ unfoldable pub put : {C : Type 0} → (ℕ → C) → ℕ → List C → ℕ →
 put memory a [] q = memory q
 put memory a (c ∷ cs) q = if q == a then c else put memory (plus a 1) cs q
 
--- Numbers stand in memory with their lowest byte first. ISA manual, section 1.4.
+-- Numbers stand in memory with their lowest byte first. ISA manual, section 2.6.
 unfoldable pub little : List ℕ → ℕ
 little [] = 0
 little (b ∷ bs) = b + 256 * little bs
@@ -86,8 +86,8 @@ pub record Event : Type 0 where
   pub moved : List ℕ
   pub result : ℕ
 
--- The calls, by their numbers in the generic table of Linux. psABI, appendix on the calling convention:
--- the number is in a7, the arguments are in a0 to a2, and the result is in a0.
+-- The calls, by their numbers in Linux's generic table (asm-generic/unistd.h), as its syscall(2) has them
+-- on RISC-V: the number is in a7, the arguments are in a0 to a2, and the result is in a0.
 pub data Call : Type 0 where
   Read : Call
   Write : Call
@@ -138,7 +138,7 @@ pub record Run {S C : Type 0} (step : S → Outcome S C → Type 0) (s : S) (n :
   pub so_far : SoFar step s before trace state
   pub ends : step state (Ended status)
 
--- The n-th step after s, counted from 0, halts there for this cause.
+-- After n steps that neither end nor halt, the next one halts, at this pc for this cause.
 pub record HaltsAfter {S C : Type 0} (step : S → Outcome S C → Type 0) (s : S) (n : ℕ) (trace : List Event) (pc : ℕ) (cause : C) : Type 0 where
   pub state : S
   pub so_far : SoFar step s n trace state

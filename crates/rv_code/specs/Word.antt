@@ -5,7 +5,7 @@ use Rattle.std.specs.Int.{w32, w64, cast_signed, cast_unsigned}
 abbrev pub signed64 : ℕ → ℤ
 signed64 n = cast_signed w64 n
 
--- a signed number as a word
+-- a number from -2 ^ 63 up to 2 ^ 64 as a word
 abbrev pub word : ℤ → ℕ
 word z = cast_unsigned w64 z
 

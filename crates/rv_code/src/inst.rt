@@ -2,9 +2,10 @@
 
 /// An instruction of RV64I or M. A compressed form is the instruction that it expands to.
 ///
-/// `rd`, `rs1` and `rs2` are register numbers from 0 to 31. `imm` is the signed immediate in bytes;
-/// for `Lui` and `Auipc` it is bits 31:12 alone, as a signed number of 20 bits, and for a shift it
-/// is the amount. `Fence` keeps its fields as format I has them. ISA manual, chapters 2, 4 and 13.
+/// `rd`, `rs1` and `rs2` are register numbers from 0 to 31. `imm` is the signed immediate: of jumps,
+/// branches, loads and stores a count of bytes; for `Lui` and `Auipc` it is bits 31:12 alone, as a
+/// signed number of 20 bits; and for a shift it is the amount. `Fence` keeps its fields as format I
+/// has them. ISA manual (volume I, version 20240411), chapters 2, 4 and 13.
 #[derive(Clone, Copy, PartialEq, Eq, Debug)]
 pub enum Inst {
     Lui { rd: u8, imm: i64 },
