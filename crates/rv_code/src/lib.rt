@@ -9,6 +9,7 @@ pub mod layout;
 pub mod op;
 pub mod opcode;
 pub mod placed;
+pub mod register;
 pub mod value;
 
 pub use action::{Action, Extension, Operand, Test};
@@ -18,4 +19,5 @@ pub use inst::Inst;
 pub use layout::{Chains, Emitted, Form, Plan, Size};
 pub use op::Op;
 pub use placed::{Block, Func, Placed, Role, Width};
+pub use register::{RETURN_ADDRESS, STACK_POINTER, ZERO};
 pub use value::{op_value, taken};

@@ -56,13 +56,15 @@ fn jalr(word: u32) -> Option<Inst>
     ensures only { IfSome result (λ i. (j : Inst) → IsFull word j → j ≡ i) }
     ensures none { IfNone result ((i : Inst) → IsFull word i → ⊥) }
 {
-    let rd = rd(word);
-    let rs1 = rs1(word);
-    let imm = imm_i(word);
-    match funct3(word) {
-        0 => Some(Inst::Jalr { rd, rs1, imm }),
-        _ => None,
+    if funct3(word) != 0 {
+        return None;
     }
+    let offset = imm_i(word);
+    Some(Inst::Jalr {
+        rd: rd(word),
+        rs1: rs1(word),
+        imm: offset,
+    })
 }
 
 /// A conditional branch.
@@ -93,13 +95,14 @@ fn fence(word: u32) -> Option<Inst>
     ensures only { IfSome result (λ i. (j : Inst) → IsFull word j → j ≡ i) }
     ensures none { IfNone result ((i : Inst) → IsFull word i → ⊥) }
 {
-    let rd = rd(word);
-    let rs1 = rs1(word);
-    let imm = imm_i(word);
-    match funct3(word) {
-        0 => Some(Inst::Fence { rd, rs1, imm }),
-        _ => None,
+    if funct3(word) != 0 {
+        return None;
     }
+    Some(Inst::Fence {
+        rd: rd(word),
+        rs1: rs1(word),
+        imm: imm_i(word),
+    })
 }
 
 /// ECALL or EBREAK.

@@ -1,0 +1,34 @@
+// The instruction at the front of two halfwords.
+ghost use Rattle.std.specs.Prelude.{◌≡◌, ℕ, IfSome, IfNone};
+ghost use Rattle.rv_code.specs.Decoding.{Decodes};
+ghost use Rattle.rv_code.specs.declared.inst.Inst.{Inst};
+
+use crate::field::bits;
+use crate::full::decode_full;
+use crate::half::decode_half;
+use rv_code::Inst;
+
+/// The instruction that begins with the halfword `half`, and its length in bytes, 2 or 4. `next` is the
+/// halfword after it, where there is one; a form of two bytes doesn't need it. None where no row of
+/// RV64IMC matches. ISA manual, section 1.5.
+pub fn decode(half: u16, next: Option<u16>) -> Option<(Inst, u8)>
+    ensures found { IfSome result (λ r. Decodes half next r.0 r.1) }
+    ensures only { IfSome result (λ r. (i : Inst) (bytes : ℕ) → Decodes half next i bytes → (i ≡ r.0) × (bytes ≡ r.1)) }
+    ensures none { IfNone result ((i : Inst) (bytes : ℕ) → Decodes half next i bytes → ⊥) }
+{
+    let low = half as u32;
+    if bits(low, 0, 2) == 3 {
+        let Some(upper) = next else {
+            return None;
+        };
+        match decode_full(upper as u32 * 65536 + low) {
+            Some(inst) => Some((inst, 4)),
+            None => None,
+        }
+    } else {
+        match decode_half(low) {
+            Some(inst) => Some((inst, 2)),
+            None => None,
+        }
+    }
+}
