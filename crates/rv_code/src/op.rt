@@ -1,6 +1,7 @@
 // The arithmetic and logic operations.
-ghost use Rattle.std.specs.Prelude.{◌≡◌};
-ghost use Rattle.rv_code.specs.Word.{low32, signed32, sign_extended32};
+ghost use Rattle.std.specs.Prelude.{◌≡◌, ◌≢◌, pos, ◌*ℤ◌};
+ghost use Rattle.std.specs.Int.RustNames.{int_div, int_rem};
+ghost use Rattle.rv_code.specs.Word.{word, low32, signed32, sign_extended32};
 ghost use Rattle.rv_code.specs.Op.{apply, high_half};
 
 /// An operation on two words of 64 bits. The immediate forms of the instructions share it: `ADDI` is
@@ -80,7 +81,7 @@ impl Op {
 fn mulh(left: u64, right: u64) -> u64
     ensures { result ≡ apply Op.Mulh left right }
 {
-    high_half(i128::from(left.cast_signed()) * i128::from(right.cast_signed()))
+    high_half(product(left.cast_signed(), right.cast_signed()))
 }
 
 fn mulhsu(left: u64, right: u64) -> u64
@@ -101,9 +102,7 @@ fn div(left: u64, right: u64) -> u64
     if right == 0 {
         u64::MAX
     } else {
-        left.cast_signed()
-            .wrapping_div(right.cast_signed())
-            .cast_unsigned()
+        quotient(left.cast_signed(), right.cast_signed())
     }
 }
 
@@ -119,9 +118,7 @@ fn rem(left: u64, right: u64) -> u64
     if right == 0 {
         left
     } else {
-        left.cast_signed()
-            .wrapping_rem(right.cast_signed())
-            .cast_unsigned()
+        remainder(left.cast_signed(), right.cast_signed())
     }
 }
 
@@ -131,15 +128,13 @@ fn remu(left: u64, right: u64) -> u64
     if right == 0 { left } else { left % right }
 }
 
-// The signed numbers are divided as 64 bits, where -2 ^ 31 by -1 doesn't overflow.
 fn divw(left: u64, right: u64) -> u64
     ensures { result ≡ apply Op.Divw left right }
 {
     if low32(right) == 0 {
         u64::MAX
     } else {
-        let quotient = signed32(left).wrapping_div(signed32(right));
-        sign_extend32(quotient.cast_unsigned())
+        sign_extend32(quotient(signed32(left), signed32(right)))
     }
 }
 
@@ -159,7 +154,7 @@ fn remw(left: u64, right: u64) -> u64
     if low32(right) == 0 {
         sign_extend32(left)
     } else {
-        signed32(left).wrapping_rem(signed32(right)).cast_unsigned()
+        remainder(signed32(left), signed32(right))
     }
 }
 
@@ -171,6 +166,27 @@ fn remuw(left: u64, right: u64) -> u64
     } else {
         sign_extend32(low32(left) % low32(right))
     }
+}
+
+// The quotient of signed numbers, rounded toward zero. 2 ^ 63 has the word of -2 ^ 63.
+fn quotient(dividend: i64, divisor: i64) -> u64
+    requires { divisor ≢ pos 0 }
+    ensures { result ≡ word (int_div dividend divisor) }
+{
+    dividend.wrapping_div(divisor).cast_unsigned()
+}
+
+fn remainder(dividend: i64, divisor: i64) -> u64
+    requires { divisor ≢ pos 0 }
+    ensures { result ≡ word (int_rem dividend divisor) }
+{
+    dividend.wrapping_rem(divisor).cast_unsigned()
+}
+
+fn product(left: i64, right: i64) -> i128
+    ensures { result ≡ left *ℤ right }
+{
+    i128::from(left) * i128::from(right)
 }
 
 // The high 64 bits of a product of 128 bits.
