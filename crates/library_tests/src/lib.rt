@@ -3,3 +3,5 @@
 
 #[cfg(test)]
 mod value;
+//! Tests of the library crates, one file a topic.
+mod io;
