@@ -2,7 +2,7 @@
 ghost use Rattle.std.specs.Prelude.{◌≡◌, ◌<◌, ◌^◌, ◌++◌, FitsSigned, length, OnOk, OnErr, position};
 ghost use Rattle.std.specs.Int.{w64};
 ghost use Rattle.std.specs.Option.{SomeIff};
-ghost use Rattle.rb_bytes.specs.Leb.{is_last, uleb_value, sleb_value, signed_bits, low_bits, uleb, sleb, IsShortestUleb, IsShortestSleb};
+ghost use Rattle.rb_bytes.specs.Leb.{is_last, uleb_value, sleb_value, signed_bits, low_bits, high_bits, fits_seven_bits, uleb, sleb, IsShortestUleb, IsShortestSleb};
 
 use crate::fault::NoMemory;
 
@@ -72,13 +72,28 @@ pub fn put_uleb(out: &mut Vec<u8>, v: u64) -> Result<(), NoMemory>
     Ok(())
 }
 
+/// Whether seven bits hold the number, its sign with it.
+fn fits_seven_bits(value: i64) -> bool
+    ensures { result ≡ fits_seven_bits value }
+{
+    (-64..64).contains(&value)
+}
+
 /// The seven lowest bits of a number in two's complement.
-fn low_seven(value: i64) -> u8
+fn low_bits(value: i64) -> u8
     ensures { result ≡ low_bits value }
 {
     (value.cast_unsigned() % VALUES as u64) as u8
 }
 
+/// The bits above the seven lowest, the sign among them.
+fn high_bits(value: i64) -> i64
+    ensures { result ≡ high_bits value }
+{
+    value >> 7
+}
+
+#[tactic(auto, using(crate::proofs::Signed::spellings))]
 /// Appends the shortest spelling of a signed number.
 pub fn put_sleb(out: &mut Vec<u8>, v: i64) -> Result<(), NoMemory>
     ensures ok { OnOk result (out.new.items ≡ out.old.items ++ sleb v) }
@@ -88,10 +103,10 @@ pub fn put_sleb(out: &mut Vec<u8>, v: i64) -> Result<(), NoMemory>
     // With this room no `push` below can fail.
     out.reserve(MAX_LENGTH)?;
     let mut rest = v;
-    'bytes: while !(-64..64).contains(&rest) {
-        out.push(low_seven(rest) + VALUES).unwrap();
-        rest >>= 7;
+    'bytes: while !fits_seven_bits(rest) {
+        out.push(low_bits(rest) + VALUES).unwrap();
+        rest = high_bits(rest);
     }
-    out.push(low_seven(rest)).unwrap();
+    out.push(low_bits(rest)).unwrap();
     Ok(())
 }

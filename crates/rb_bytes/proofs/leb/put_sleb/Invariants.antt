@@ -1,5 +1,6 @@
 -- The spelling of `rest` follows what is written, and there is room for it.
 use Rattle.std.proofs.Common.{◌≡◌, ◌≤◌, ◌+◌, ◌++◌, length, vec_len, vec_capacity}
+use lib.Signed.{mag}
 use Rattle.rb_bytes.specs.Leb.{sleb}
 use Rattle.rb_bytes.proofs.leb.put_sleb.Given as goal
 
@@ -10,4 +11,4 @@ invariant-bytes l = record {
 }
 
 abbrev pub decreases-bytes : goal.decreases-bytes
-decreases-bytes l = l.rest
+decreases-bytes l = mag l.rest
