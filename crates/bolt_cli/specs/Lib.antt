@@ -1,6 +1,10 @@
 pub mod Answers
 pub mod FirstForm
+pub mod Form
+pub mod Inputs
 pub mod Lines
+pub mod Moved
+pub mod Phases
 pub mod Read
 pub mod Refused
 pub mod Rewritten

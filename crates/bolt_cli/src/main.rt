@@ -1,8 +1,40 @@
 //! The program: it reads its words, does the command, and ends with the number of the answer.
 #![tactic(auto)]
 
+mod first_form;
+mod first_write;
+mod lines;
+mod rewrite;
+mod status;
+mod tool;
+mod words;
+
+use crate::status::Status;
+use crate::tool::tool;
+use rb_io::{HostFiles, HostSink, HostSource};
+use std::env;
 use std::process::ExitCode;
 
+// The words after the program's own name, if there is memory for them.
+fn read_words(rt: &HostRuntime) -> Option<Vec<String>> {
+    let mut words = Vec::new(rt.alloc());
+    let Ok(args) = env::args(rt) else {
+        return None;
+    };
+    for word in args.skip(1) {
+        if words.push(word).is_err() {
+            return None;
+        }
+    }
+    Some(words)
+}
+
 fn main(rt: HostRuntime) -> ExitCode {
-    ExitCode::from(0)
+    let Some(words) = read_words(&rt) else {
+        return ExitCode::from(Status::NoMemory.number());
+    };
+    let mut files = HostFiles::new(&rt);
+    let mut input = HostSource::new(rt.stdin());
+    let mut out = HostSink::new(rt.stdout());
+    ExitCode::from(tool(rt.alloc(), &words, &mut files, &mut input, &mut out).number())
 }

@@ -1,6 +1,7 @@
-// Numbers in a file's bytes. ELF files of this machine are little-endian. psABI, "File Header".
+// Numbers in a file's bytes, read and written over. ELF files of this machine are little-endian. psABI, "File Header".
 ghost use Rattle.std.specs.Prelude.{◌≡◌, ◌≤◌, ◌+◌, length};
 ghost use Rattle.elf_image.specs.Header.{number_at};
+ghost use Rattle.elf_image.specs.Patched.{patched_number};
 
 use byteorder::{ByteOrder, LittleEndian};
 
@@ -26,4 +27,20 @@ pub fn u64_at(file: &[u8], offset: usize) -> u64
     ensures { result ≡ number_at file.now offset 8 }
 {
     LittleEndian::read_u64(&file[offset..])
+}
+
+/// Writes a number of two bytes over those at an offset.
+pub fn patch_u16(file: &mut [u8], offset: usize, number: u16)
+    requires { offset + 2 ≤ length file.old }
+    ensures { file.new ≡ patched_number offset 2 number file.old }
+{
+    LittleEndian::write_u16(&mut file[offset..], number);
+}
+
+/// Writes a number of eight bytes over those at an offset.
+pub fn patch_u64(file: &mut [u8], offset: usize, number: u64)
+    requires { offset + 8 ≤ length file.old }
+    ensures { file.new ≡ patched_number offset 8 number file.old }
+{
+    LittleEndian::write_u64(&mut file[offset..], number);
 }

@@ -1,0 +1,23 @@
+-- What the writer of the first form makes, as facts about bytes.
+use Rattle.std.specs.Prelude.{◌≡◌, ℕ, ◌+◌, ◌<◌, List, ◌++◌, length, slice_index}
+use Rattle.elf_image.specs.Header.{e_entry, e_phoff, e_phnum, segment_at}
+use Rattle.bolt_cli.specs.FirstForm.{code_segment, text_section, offset_of}
+use Rattle.bolt_cli.specs.Spans.{new_start}
+
+-- where the new code stands in the written file, whose segment begins at its front
+abbrev pub new_offset : List ℕ → ℕ
+new_offset file = offset_of file (new_start file)
+
+-- The segment is the input's, grown to the end of the new code, which is the input's code.
+pub record IsMoved (file written : List ℕ) : Type 0 where
+  pub entry : e_entry written ≡ new_start file
+  pub phoff : e_phoff written ≡ e_phoff file
+  pub phnum : e_phnum written ≡ 1
+  pub segment : segment_at written (e_phoff file) ≡ record (code_segment file) { filesz = new_offset file + (text_section file).size; memsz = new_offset file + (text_section file).size }
+  pub code : (j : ℕ) → j < (text_section file).size → slice_index written (new_offset file + j) ≡ slice_index file (offset_of file (text_section file).addr + j)
+
+-- bytes that begin with a front, have more bytes up to a place, and then end with the code
+pub record IsArea (area front : List ℕ) (start : ℕ) (code : List ℕ) : Type 0 where
+  pub between : List ℕ
+  pub length_is : length front + length between ≡ start
+  pub parts : area ≡ (front ++ between) ++ code

@@ -1,0 +1,254 @@
+// The files that are rewritten today: one function of straight-line code, and nothing else.
+ghost use Rattle.std.specs.Prelude.{◌≡◌, ◌≢◌, ◌≤◌, ◌<◌, ◌+◌, ◌-◌, ◌*◌, ◌%◌, ◌^◌, ◌↔◌, ◌∷◌, [], ◌++◌, ℕ, Option, Some, length, codes, IsTrue, IfSome, IfNone};
+ghost use Rattle.rv_code.specs.Decoding.{Decodes};
+ghost use Rattle.elf_image.specs.Header.{number_at, e_phoff, e_entry};
+ghost use Rattle.elf_image.specs.Sections.{section_header, contents, HasText};
+ghost use Rattle.bolt_cli.specs.FirstForm.{IsStraight, IsStraightAt, HasFirstHeader, HasFirstSegment, HasFirstSections, HasFirstCode, IsFirstForm, LiesInFile, null_header, is_loaded, is_code, code_segment, text_section, names_section, offset_of};
+
+use elf_image::number::{u16_at, u32_at, u64_at};
+use elf_image::section::{SHDR_SIZE, SHF_ALLOC, SHF_EXECINSTR, SHT_NOBITS};
+use elf_image::segment::{PF_R, PF_W, PF_X, PHDR_SIZE, PT_LOAD};
+use elf_image::{SectionHeader, Segment};
+use rv_code::Inst;
+use rv_decode::decode;
+
+/// The size of an ELF file's header in bytes. gABI, "ELF Header".
+pub const HEADER_SIZE: usize = 64;
+
+/// The type of an executable file, and the machine RISC-V. gABI, "ELF Header"; psABI, "File
+/// Header".
+const ET_EXEC: u16 = 2;
+const EM_RISCV: u16 = 0xf3;
+
+/// The end of the addresses that a segment may have.
+const ADDRESS_END: u64 = 0x4000_0000;
+
+/// What a file of the first form has: its segment, and the headers of its code and of its names.
+#[derive(Clone, Copy)]
+pub struct FirstForm {
+    pub segment: Segment,
+    pub text: SectionHeader,
+    pub names: SectionHeader,
+}
+
+fn has_first_header(file: &[u8]) -> bool
+    ensures { IsTrue result ↔ HasFirstHeader file.now }
+{
+    if file.len() < HEADER_SIZE {
+        return false;
+    }
+    if u16_at(file, 0x10) != ET_EXEC || u16_at(file, 0x12) != EM_RISCV || u32_at(file, 0x30) != 0 {
+        return false;
+    }
+    if u16_at(file, 0x36) as usize != PHDR_SIZE || u16_at(file, 0x3a) as usize != SHDR_SIZE {
+        return false;
+    }
+    if u16_at(file, 0x38) != 1 || u16_at(file, 0x3c) != 3 || u16_at(file, 0x3e) != 2 {
+        return false;
+    }
+    let segments = u64_at(file, 0x20);
+    let sections = u64_at(file, 0x28);
+    if segments < HEADER_SIZE as u64 {
+        return false;
+    }
+    lies_within(segments, PHDR_SIZE as u64, file.len())
+        && lies_within(sections, 3 * SHDR_SIZE as u64, file.len())
+}
+
+// So many bytes from an offset on lie within a length.
+fn lies_within(offset: u64, size: u64, length: usize) -> bool
+    ensures { IsTrue result ↔ (offset + size ≤ length) }
+{
+    let length = length as u64;
+    offset <= length && size <= length - offset
+}
+
+fn has_first_segment(file: &[u8], segment: &Segment) -> bool
+    requires { 64 ≤ length file.now }
+    ensures { IsTrue result ↔ HasFirstSegment file.now segment.now }
+{
+    if segment.kind != PT_LOAD || !segment.has_flag(PF_R) || !segment.has_flag(PF_X) {
+        return false;
+    }
+    if segment.has_flag(PF_W) || segment.filesz != segment.memsz || segment.offset != 0 {
+        return false;
+    }
+    if segment.vaddr == 0 || segment.vaddr >= ADDRESS_END {
+        return false;
+    }
+    if segment.memsz >= ADDRESS_END - segment.vaddr || segment.filesz > file.len() as u64 {
+        return false;
+    }
+    segment.filesz >= HEADER_SIZE as u64 && lies_within(u64_at(file, 0x20), PHDR_SIZE as u64, segment.filesz as usize)
+}
+
+fn lies_in_file(file: &[u8], section: &SectionHeader) -> bool
+    ensures { IsTrue result ↔ LiesInFile file.now section.now }
+{
+    section.kind == SHT_NOBITS || section.size == 0 || lies_within(section.offset, section.size, file.len())
+}
+
+/// The bytes of a section that lies in the file.
+pub fn section_bytes<'a>(file: &'a [u8], section: &SectionHeader) -> &'a [u8]
+    requires { LiesInFile file.now section.now }
+    ensures { result.now ≡ contents file.now section.now }
+{
+    if section.kind == SHT_NOBITS || section.size == 0 {
+        return &file[..0];
+    }
+    let start = section.offset as usize;
+    &file[start..start + section.size as usize]
+}
+
+// The table has the text at the index. `text` ends with its zero byte.
+fn has_text(table: &[u8], index: u32, text: &[u8]) -> bool
+    requires { text.now ≢ [] }
+    ensures { (name : _) → text.now ≡ name ++ 0 ∷ [] → IsTrue result ↔ HasText table.now index name }
+{
+    match table.get(index as usize..) {
+        Some(rest) => rest.starts_with(text),
+        None => false,
+    }
+}
+
+fn is_loaded(section: &SectionHeader) -> bool
+    ensures { result ≡ is_loaded section.now }
+{
+    section.flags / SHF_ALLOC % 2 == 1
+}
+
+fn is_code(section: &SectionHeader) -> bool
+    ensures { result ≡ is_code section.now }
+{
+    section.flags / SHF_EXECINSTR % 2 == 1
+}
+
+// The header of the section that is none.
+fn is_null(section: &SectionHeader) -> bool
+    ensures { IsTrue result ↔ (section.now ≡ null_header) }
+{
+    *section
+        == SectionHeader {
+            name: 0,
+            kind: 0,
+            flags: 0,
+            addr: 0,
+            offset: 0,
+            size: 0,
+            link: 0,
+            info: 0,
+            align: 0,
+            entsize: 0,
+        }
+}
+
+fn has_first_sections(
+    file: &[u8],
+    null: &SectionHeader,
+    text: &SectionHeader,
+    names: &SectionHeader,
+) -> bool
+    ensures { IsTrue result ↔ HasFirstSections file.now null.now text.now names.now }
+{
+    if !is_null(null) || !lies_in_file(file, text) || !lies_in_file(file, names) {
+        return false;
+    }
+    if !is_loaded(text) || !is_code(text) || is_loaded(names) || is_code(names) {
+        return false;
+    }
+    let table = section_bytes(file, names);
+    has_text(table, text.name, b".text\0") && has_text(table, names.name, b".shstrtab\0")
+}
+
+fn is_straight(inst: &Inst) -> bool
+    ensures { IsTrue result ↔ IsStraight inst.now }
+{
+    matches!(
+        inst,
+        Inst::Lui { .. }
+            | Inst::Addi { .. }
+            | Inst::Slti { .. }
+            | Inst::Sltiu { .. }
+            | Inst::Xori { .. }
+            | Inst::Ori { .. }
+            | Inst::Andi { .. }
+            | Inst::Slli { .. }
+            | Inst::Srli { .. }
+            | Inst::Srai { .. }
+            | Inst::Ecall
+    )
+}
+
+// The four bytes at an offset are an instruction of straight-line code.
+fn is_straight_at(file: &[u8], offset: usize) -> bool
+    requires { offset + 4 ≤ length file.now }
+    ensures { IsTrue result ↔ IsStraightAt file.now offset }
+{
+    match decode(u16_at(file, offset), Some(u16_at(file, offset + 2))) {
+        Some((inst, bytes)) => bytes == 4 && is_straight(&inst),
+        None => false,
+    }
+}
+
+fn is_straight_code(file: &[u8], offset: usize, size: usize) -> bool
+    requires within { offset + size ≤ length file.now }
+    requires whole_words { size % 4 ≡ 0 }
+    ensures { IsTrue result ↔ ((k : ℕ) → 4 * k < size → IsStraightAt file.now (offset + 4 * k)) }
+{
+    for k in 0..size / 4 {
+        if !is_straight_at(file, offset + 4 * k) {
+            return false;
+        }
+    }
+    true
+}
+
+fn has_first_code(file: &[u8], segment: &Segment, text: &SectionHeader) -> bool
+    requires header { HasFirstHeader file.now }
+    requires segment { HasFirstSegment file.now segment.now }
+    requires its_segment { segment.now ≡ code_segment file.now }
+    ensures { IsTrue result ↔ HasFirstCode file.now segment.now text.now }
+{
+    if text.size == 0 || text.size % 4 != 0 || text.addr < segment.vaddr {
+        return false;
+    }
+    let end = segment.vaddr + segment.memsz;
+    if text.addr > end || text.size != end - text.addr || u64_at(file, 0x18) != text.addr {
+        return false;
+    }
+    is_straight_code(file, (text.addr - segment.vaddr) as usize, text.size as usize)
+}
+
+impl FirstForm {
+    ghost use Rattle.bolt_cli.specs.Form.{IsFormOf};
+
+    /// What a file has, if it is of the first form.
+    pub fn read(file: &[u8]) -> Option<FirstForm>
+        ensures found { IfSome result (λ _. IsFirstForm file.now) }
+        ensures parts { IfSome result (IsFormOf file.now) }
+        ensures none { IfNone result (IsFirstForm file.now → ⊥) }
+    {
+        if !has_first_header(file) {
+            return None;
+        }
+        let segment = Segment::at(file, u64_at(file, 0x20) as usize);
+        let sections = u64_at(file, 0x28) as usize;
+        let null = SectionHeader::at(file, sections);
+        let text = SectionHeader::at(file, sections + SHDR_SIZE);
+        let names = SectionHeader::at(file, sections + 2 * SHDR_SIZE);
+        if !has_first_segment(file, &segment) {
+            return None;
+        }
+        if !has_first_sections(file, &null, &text, &names) {
+            return None;
+        }
+        if !has_first_code(file, &segment, &text) {
+            return None;
+        }
+        Some(FirstForm {
+            segment,
+            text,
+            names,
+        })
+    }
+}
