@@ -4,6 +4,7 @@
 pub mod action;
 pub mod cause;
 pub mod cell;
+pub mod field;
 pub mod inst;
 pub mod layout;
 pub mod op;

@@ -3,7 +3,7 @@ ghost use Rattle.std.specs.Prelude.{◌≡◌, ◌<◌, pos};
 ghost use Rattle.rv_code.specs.Bits.{field, signed};
 ghost use Rattle.rv_code.specs.HalfRows.{rs2, upper_register, lower_register, six_bits, addi4spn_imm, addi16sp_imm, word_offset, double_offset, jump_offset, branch_offset, load_word_sp, load_double_sp, store_word_sp, store_double_sp};
 
-use crate::field::{bits, sign};
+use rv_code::field::{bits, sign};
 
 /// The second source register.
 pub fn rs2(half: u32) -> u8

@@ -1,30 +1,8 @@
 // Fields of instruction words, and immediates with their signs.
-ghost use Rattle.std.specs.Prelude.{◌≡◌, ◌<◌, ◌^◌};
-ghost use Rattle.rv_code.specs.Bits.{field, signed, imm_i, imm_s, imm_b, imm_u, imm_j};
+ghost use Rattle.std.specs.Prelude.{◌≡◌};
+ghost use Rattle.rv_code.specs.Bits.{field, imm_i, imm_s, imm_b, imm_u, imm_j};
 
-/// The `width` bits from bit `low` on.
-pub fn bits(word: u32, low: u32, width: u32) -> u32
-    requires low_in_word { low < 32 }
-    requires width_in_word { width < 32 }
-    ensures value { result ≡ field word low width }
-    ensures below { result < 2 ^ width }
-{
-    (word >> low) % (1 << width)
-}
-
-/// A number with its sign at bit `top`, as a signed one.
-pub fn sign(number: u32, top: u32) -> i64
-    requires { top < 32 }
-    ensures { result ≡ signed top number }
-{
-    let half = 1_i64 << top;
-    let number = i64::from(number);
-    if number < half {
-        number
-    } else {
-        number - 2 * half
-    }
-}
+use rv_code::field::{bits, sign};
 
 /// The destination register.
 pub fn rd(word: u32) -> u8

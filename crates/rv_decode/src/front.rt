@@ -3,10 +3,10 @@ ghost use Rattle.std.specs.Prelude.{◌≡◌, ℕ, IfSome, IfNone};
 ghost use Rattle.rv_code.specs.Decoding.{Decodes};
 ghost use Rattle.rv_code.specs.declared.inst.Inst.{Inst};
 
-use crate::field::bits;
 use crate::full::decode_full;
 use crate::half::decode_half;
 use rv_code::Inst;
+use rv_code::field::bits;
 
 /// The instruction that begins with the halfword `half`, and its length in bytes, 2 or 4. `next` is the
 /// halfword after it, where there is one; a form of two bytes doesn't need it. None where no row of

@@ -4,10 +4,11 @@ ghost use Rattle.rv_code.specs.Bits.{field};
 ghost use Rattle.rv_code.specs.FullRows.{IsFull};
 ghost use Rattle.rv_code.specs.declared.inst.Inst.{Inst};
 
-use crate::field::{bits, funct3, imm_b, imm_i, imm_j, rd, rs1, rs2};
+use crate::field::{funct3, imm_b, imm_i, imm_j, rd, rs1, rs2};
 use crate::integer::{auipc, lui, op, op_32, op_imm, op_imm_32};
 use crate::memory::{load, store};
 use rv_code::Inst;
+use rv_code::field::bits;
 use rv_code::opcode::{
     AUIPC, BRANCH, JAL, JALR, LOAD, LUI, MISC_MEM, OP, OP_32, OP_IMM, OP_IMM_32, STORE, SYSTEM,
 };

@@ -5,9 +5,9 @@ ghost use Rattle.rv_code.specs.HalfRows.{IsHalf};
 ghost use Rattle.rv_code.specs.declared.inst.Inst.{Inst};
 
 use crate::compressed::{addi4spn_imm, double_offset, lower_register, upper_register, word_offset};
-use crate::field::bits;
 use crate::quadrant1::quadrant1;
 use crate::quadrant2::quadrant2;
+use rv_code::field::bits;
 use rv_code::{Inst, STACK_POINTER};
 
 /// The instruction of a halfword, or None where no row has it.

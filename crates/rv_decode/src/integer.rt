@@ -4,8 +4,9 @@ ghost use Rattle.rv_code.specs.Bits.{field};
 ghost use Rattle.rv_code.specs.FullRows.{IsFull};
 ghost use Rattle.rv_code.specs.declared.inst.Inst.{Inst};
 
-use crate::field::{bits, funct3, funct6, funct7, imm_i, imm_u, rd, rs1, rs2};
+use crate::field::{funct3, funct6, funct7, imm_i, imm_u, rd, rs1, rs2};
 use rv_code::Inst;
+use rv_code::field::bits;
 use rv_code::opcode::{AUIPC, LUI, OP, OP_32, OP_IMM, OP_IMM_32};
 
 /// LUI.

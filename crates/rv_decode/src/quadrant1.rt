@@ -8,7 +8,8 @@ ghost use Rattle.rv_code.specs.declared.inst.Inst.{Inst};
 use crate::compressed::{
     addi16sp_imm, branch_offset, jump_offset, lower_register, signed_six, six_bits, upper_register,
 };
-use crate::field::{bits, rd, sign};
+use crate::field::rd;
+use rv_code::field::{bits, sign};
 use rv_code::{Inst, STACK_POINTER, ZERO};
 
 /// The rows of quadrant 1.

@@ -8,7 +8,8 @@ ghost use Rattle.rv_code.specs.declared.inst.Inst.{Inst};
 use crate::compressed::{
     load_double_sp, load_word_sp, rs2, six_bits, store_double_sp, store_word_sp,
 };
-use crate::field::{bits, rd};
+use crate::field::rd;
+use rv_code::field::bits;
 use rv_code::{Inst, RETURN_ADDRESS, STACK_POINTER, ZERO};
 
 /// The rows of quadrant 2.
