@@ -20,7 +20,11 @@ fn check_read<F: Files>(
     bytes: &[u8],
 ) {
     let mut into = Vec::new(alloc);
-    assert_eq!(rt; files.read_all(name, limit, &mut into), want, "reading {name}");
+    assert_eq!(rt;
+        files.read_all(name, limit, &mut into),
+        want,
+        "reading {name}"
+    );
     assert_eq!(rt; into.as_slice(), bytes, "the bytes of {name}");
 }
 

@@ -2,6 +2,6 @@
 #![tactic(auto)]
 
 #[cfg(test)]
-mod value;
-//! Tests of the library crates, one file a topic.
 mod io;
+#[cfg(test)]
+mod value;

@@ -17,7 +17,9 @@ const PIECE: usize = 65536;
 
 impl<'a, R: std::rt::Files> HostFiles<'a, R> {
     /// The files that this runtime opens.
-    pub fn new(rt: &'a R) -> Self {
+    pub fn new(rt: &'a R) -> Self
+        ensures { result.faults ≡ 0 }
+    {
         HostFiles { rt, faults: 0 }
     }
 }

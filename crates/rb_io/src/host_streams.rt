@@ -1,5 +1,8 @@
 // Streams of the system.
-ghost use Rattle.std.specs.Prelude.{None};
+ghost use Rattle.std.specs.Prelude.{◌≡◌, ◌≤◌, ◌<◌, None, [], length, take};
+ghost use Rattle.std.specs.Io.KnownBytes.{Appends, Consumes, IsAtEnd, Keeps};
+ghost use Rattle.rb_io.specs.Answers.{IfBytes, IfTook};
+ghost use Rattle.rb_io.specs.Counts.{Rose};
 
 use crate::sink::{Put, Sink};
 use crate::source::{Got, Source};
@@ -14,7 +17,9 @@ pub struct HostSource<R> {
 
 impl<R: Read> HostSource<R> {
     /// Reads this stream.
-    pub fn new(stream: R) -> Self {
+    pub fn new(stream: R) -> Self
+        ensures { result.faults ≡ 0 }
+    {
         HostSource { stream, faults: 0 }
     }
 }
@@ -24,7 +29,15 @@ impl<R: Read> Source for HostSource<R> {
 
     ghost count = { λ source. source.faults };
 
-    fn read(&mut self, buf: &mut [u8]) -> Got {
+    fn read(&mut self, buf: &mut [u8]) -> Got
+        ensures within { IfBytes result (λ n. n ≤ length buf.new) }
+        ensures failed { result ≡ Got.Failed → Rose self.old.faults self.new.faults }
+        ensures never_falls { self.old.faults ≤ self.new.faults }
+        // What the stream knows of its bytes is passed on.
+        ensures passed_on { IfBytes result (λ n. Consumes (R.remaining self.old.stream) (R.remaining self.new.stream) (take n buf.new)) }
+        ensures end { IfBytes result (λ n. n ≡ 0 → 0 < length buf.old → IsAtEnd (R.remaining self.new.stream)) }
+        ensures stream_kept { result ≡ Got.Failed → Keeps (R.remaining self.old.stream) (R.remaining self.new.stream) }
+    {
         match self.stream.read(buf) {
             Ok(count) => Got::Bytes(count),
             Err(_) => {
@@ -48,7 +61,9 @@ pub struct HostSink<W> {
 
 impl<W: Write> HostSink<W> {
     /// Writes to this stream.
-    pub fn new(stream: W) -> Self {
+    pub fn new(stream: W) -> Self
+        ensures { result.faults ≡ 0 }
+    {
         HostSink { stream, faults: 0 }
     }
 }
@@ -58,7 +73,15 @@ impl<W: Write> Sink for HostSink<W> {
 
     ghost count = { λ sink. sink.faults };
 
-    fn write(&mut self, piece: &[u8]) -> Put {
+    fn write(&mut self, piece: &[u8]) -> Put
+        ensures within { IfTook result (λ n. n ≤ length piece.now) }
+        ensures some { IfTook result (λ n. n ≡ 0 → piece.now ≡ []) }
+        ensures failed { result ≡ Put.Failed → Rose self.old.faults self.new.faults }
+        ensures never_falls { self.old.faults ≤ self.new.faults }
+        // What the stream knows of its bytes is passed on.
+        ensures passed_on { IfTook result (λ n. Appends (W.contents self.old.stream) (W.contents self.new.stream) (take n piece.now)) }
+        ensures stream_kept { result ≡ Put.Failed → Keeps (W.contents self.old.stream) (W.contents self.new.stream) }
+    {
         if piece.is_empty() {
             return Put::Took(0);
         }
