@@ -2,7 +2,7 @@
 use Rattle.std.proofs.Common.{◌≡◌, ◌≢◌, ◌<◌, ◌≤◌, ◌+◌, ◌-◌, ◌*◌, ◌/◌, ◌%◌, ◌^◌, ℕ, zero, suc, ℤ, pos, negsuc, ◌+ℤ◌, ◌*ℤ◌, ◌-ℤ◌, List, [], ◌∷◌, ◌++◌, Bool, true, false, nat_lt, arith, refl, sym, ◌∙◌, ap, take, drop, length, Ok, inl, inr, length-append, length-take, length-drop, append_assoc}
 use lib.Signed.{mag}
 use Rattle.std.proofs.lemmas.Bool.{cases_lt}
-use Rattle.std.proofs.lemmas.Int.{ints}
+use Rattle.std.proofs.lemmas.Int.{ints, to_z-of_z}
 use Rattle.std.proofs.lemmas.List.{take_at, drop_at}
 use Rattle.std.proofs.Math.Nat.{pow-succ', pow-zero}
 use Rattle.std.proofs.lemmas.Grind.{common_steps}
@@ -10,7 +10,7 @@ use Rattle.std.specs.Prelude.{FitsSigned}
 use Rattle.std.specs.Int.{w64}
 use Rattle.rb_bytes.specs.declared.gap.Gap.TheVariants.{Short, Wide}
 use Rattle.rb_bytes.proofs.Tests.{ok_from_tests}
-use Rattle.rb_bytes.specs.Leb.{is_last, leb_length, signed_bits, sleb_from, sleb_value, sleb_at, low_bits, high_bits, fits_seven_bits, fits_i64, sleb_within, sleb, IsShortestSleb}
+use Rattle.rb_bytes.specs.Leb.{leb_length, signed_bits, sleb_from, sleb_value, sleb_at, low_bits, high_bits, fits_seven_bits, fits_i64, sleb_within, sleb, IsShortestSleb}
 
 -- seven bits below a number
 below_neg : (low n : ℕ) → low < 128 → pos low +ℤ pos 128 *ℤ negsuc n ≡ negsuc (128 * n + (127 - low))
@@ -50,8 +50,8 @@ sleb_value-too_large i [] p h large fits = absurd (omega arith)
 sleb_value-too_large i (byte ∷ bytes) p h large fits =
     let z = sleb_value (drop i (byte ∷ bytes)) in
     elim (cases_lt (mag z) (2 ^ 56)) [
-      inl lt ↦ large (fits-shifted z lt)
-    | inr ge ↦ omega (arith, sleb_value-drop-mul-le i byte bytes p (omega arith), fits.sfits)
+      | inl lt ↦ large (fits-shifted z lt)
+      | inr ge ↦ omega (arith, sleb_value-drop-mul-le i byte bytes p (omega arith), fits.sfits)
     ]
 
 -- the seven bits of a byte, by their sign
@@ -65,9 +65,9 @@ signed_bits-neg byte le =
 
 signed_bits-mag-lt : (byte : ℕ) → mag (signed_bits byte) < 64
 signed_bits-mag-lt byte = elim (cases_lt (byte % 128) 64) [
-    inl lt ↦ rw (signed_bits-pos byte lt) lt
+  | inl lt ↦ rw (signed_bits-pos byte lt) lt
   | inr ge ↦ rw (signed_bits-neg byte ge) (omega arith)
-  ]
+]
 
 -- k bytes and one more have 64 values of each sign for each value of k bytes
 sleb_from-mag-lt : (byte : ℕ) (bytes : List ℕ) → mag (sleb_from byte bytes) < 64 * 128 ^ length bytes
@@ -110,36 +110,36 @@ quotient-lt k n lt = let e = pow-succ' 128 k in omega (arith, rw e at lt)
 length-sleb_within-pos : (k : ℕ) (z : ℤ) → 0 < length (sleb_within k z)
 length-sleb_within-pos zero z = omega arith
 length-sleb_within-pos (suc k) z = elim (cases_lt (mag z) 64) [
-    inl lt ↦ rw (sleb_within-last (suc k) z (fits_seven_bits-true z lt)) (omega arith)
+  | inl lt ↦ rw (sleb_within-last (suc k) z (fits_seven_bits-true z lt)) (omega arith)
   | inr ge ↦ rw (sleb_within-next k z (fits_seven_bits-false z ge)) (omega arith)
-  ]
+]
 
 length-sleb_within-le-suc : (k : ℕ) (z : ℤ) → length (sleb_within k z) ≤ suc k
 length-sleb_within-le-suc zero z = omega arith
 length-sleb_within-le-suc (suc k) z = elim (cases_lt (mag z) 64) [
-    inl lt ↦ rw (sleb_within-last (suc k) z (fits_seven_bits-true z lt)) (omega arith)
+  | inl lt ↦ rw (sleb_within-last (suc k) z (fits_seven_bits-true z lt)) (omega arith)
   | inr ge ↦ rw (sleb_within-next k z (fits_seven_bits-false z ge)) (omega (arith, length-sleb_within-le-suc k (high_bits z)))
-  ]
+]
 
 length-sleb_within-le : (k j : ℕ) (z : ℤ) → mag z < 64 * 128 ^ j → length (sleb_within k z) ≤ suc j
 length-sleb_within-le zero j z lt = omega arith
 length-sleb_within-le (suc k) zero z lt =
     let small : mag z < 64 = omega arith in rw (sleb_within-last (suc k) z (fits_seven_bits-true z small)) (omega arith)
 length-sleb_within-le (suc k) (suc j) z lt = elim (cases_lt (mag z) 64) [
-    inl small ↦ rw (sleb_within-last (suc k) z (fits_seven_bits-true z small)) (omega arith)
+  | inl small ↦ rw (sleb_within-last (suc k) z (fits_seven_bits-true z small)) (omega arith)
   | inr ge ↦ rw (sleb_within-next k z (fits_seven_bits-false z ge))
       (omega (arith, length-sleb_within-le k j (high_bits z) (rw (mag-high_bits z) (quotient-lt j (mag z) lt))))
-  ]
+]
 
 sleb_within-more : (k : ℕ) (z : ℤ) → mag z < 64 * 128 ^ k → sleb_within (suc k) z ≡ sleb_within k z
 sleb_within-more zero z lt = let small : mag z < 64 = omega arith in sleb_within-last (suc zero) z (fits_seven_bits-true z small)
 sleb_within-more (suc k) z lt = elim (cases_lt (mag z) 64) [
-    inl small ↦ sleb_within-last (suc (suc k)) z (fits_seven_bits-true z small) ∙ sym (sleb_within-last (suc k) z (fits_seven_bits-true z small))
+  | inl small ↦ sleb_within-last (suc (suc k)) z (fits_seven_bits-true z small) ∙ sym (sleb_within-last (suc k) z (fits_seven_bits-true z small))
   | inr ge ↦ let e = fits_seven_bits-false z ge in
       sleb_within-next (suc k) z e
       ∙ ap (λ bytes. (low_bits z + 128) ∷ bytes) (sleb_within-more k (high_bits z) (rw (mag-high_bits z) (quotient-lt k (mag z) lt)))
       ∙ sym (sleb_within-next k z e)
-  ]
+]
 
 -- the spelling is read back
 
@@ -152,11 +152,11 @@ leb_length-next byte rest le = grind arith
 leb_length-sleb_within : (k : ℕ) (z : ℤ) (rest : List ℕ) → leb_length (sleb_within k z ++ rest) ≡ length (sleb_within k z)
 leb_length-sleb_within zero z rest = leb_length-last (low_bits z) rest (low_bits-lt z)
 leb_length-sleb_within (suc k) z rest = elim (cases_lt (mag z) 64) [
-    inl lt ↦ rw (sleb_within-last (suc k) z (fits_seven_bits-true z lt)) (leb_length-last (low_bits z) rest (low_bits-lt z))
+  | inl lt ↦ rw (sleb_within-last (suc k) z (fits_seven_bits-true z lt)) (leb_length-last (low_bits z) rest (low_bits-lt z))
   | inr ge ↦ rw (sleb_within-next k z (fits_seven_bits-false z ge))
       (leb_length-next (low_bits z + 128) (sleb_within k (high_bits z) ++ rest) (omega arith)
-        ∙ ap suc (leb_length-sleb_within k (high_bits z) rest))
-  ]
+      ∙ ap suc (leb_length-sleb_within k (high_bits z) rest))
+]
 
 sleb_from-value : (byte : ℕ) (bytes : List ℕ) → 0 < length bytes → sleb_from byte bytes ≡ pos (byte % 128) +ℤ pos 128 *ℤ sleb_value bytes
 sleb_from-value byte [] h = absurd (omega arith)
@@ -176,13 +176,13 @@ low-high (negsuc n) =
 sleb_value-sleb_within : (k : ℕ) (z : ℤ) → mag z < 64 * 128 ^ k → sleb_value (sleb_within k z) ≡ z
 sleb_value-sleb_within zero z lt = let small : mag z < 64 = omega arith in signed_bits-low_bits z small
 sleb_value-sleb_within (suc k) z lt = elim (cases_lt (mag z) 64) [
-    inl small ↦ rw (sleb_within-last (suc k) z (fits_seven_bits-true z small)) (signed_bits-low_bits z small)
+  | inl small ↦ rw (sleb_within-last (suc k) z (fits_seven_bits-true z small)) (signed_bits-low_bits z small)
   | inr ge ↦ rw (sleb_within-next k z (fits_seven_bits-false z ge))
       (sleb_from-value (low_bits z + 128) (sleb_within k (high_bits z)) (length-sleb_within-pos k (high_bits z))
-        ∙ ap (λ v. pos ((low_bits z + 128) % 128) +ℤ pos 128 *ℤ v)
-            (sleb_value-sleb_within k (high_bits z) (rw (mag-high_bits z) (quotient-lt k (mag z) lt)))
-        ∙ low-high z)
-  ]
+      ∙ ap (λ v. pos ((low_bits z + 128) % 128) +ℤ pos 128 *ℤ v)
+      (sleb_value-sleb_within k (high_bits z) (rw (mag-high_bits z) (quotient-lt k (mag z) lt)))
+      ∙ low-high z)
+]
 
 -- reading
 
@@ -218,9 +218,9 @@ IsShortestSleb-mag : (z : ℤ) → mag z < 2 ^ 63 → IsShortestSleb z (sleb z)
 unfolding sleb
 IsShortestSleb-mag z lt = record {
   reads_back = λ rest. sleb_at-append z (sleb_within 9 z) rest (leb_length-sleb_within 9 z rest)
-    (sleb_value-sleb_within 9 z (omega arith)) (fits_i64-true z lt);
+      (sleb_value-sleb_within 9 z (omega arith)) (fits_i64-true z lt);
   shortest = λ bytes rest e. let o = sleb_at-ok z bytes rest e in
-    sleb_within-le-read 9 (leb_length bytes) z bytes rest (omega arith) o.0 o.1 o.2;
+      sleb_within-le-read 9 (leb_length bytes) z bytes rest (omega arith) o.0 o.1 o.2;
 }
 
 pub IsShortestSleb-sleb : (z : ℤ) → FitsSigned w64 z → IsShortestSleb z (sleb z)
@@ -240,15 +240,15 @@ pub sleb-last : (z : ℤ) → fits_seven_bits z ≡ true → sleb z ≡ low_bits
 unfolding sleb
 sleb-last z e = sleb_within-last 9 z e
 
-pub sleb-next : (z : ℤ) → fits_seven_bits z ≡ false → mag z < 2 ^ 63 → sleb z ≡ (low_bits z + 128) ∷ sleb (high_bits z)
+pub sleb-next : (z : ℤ) → fits_seven_bits z ≡ false → FitsSigned w64 z → sleb z ≡ (low_bits z + 128) ∷ sleb (high_bits z)
 unfolding sleb
-sleb-next z e lt = sleb_within-next 8 z e
+sleb-next z e fits = let lt = fits.sfits in sleb_within-next 8 z e
     ∙ ap (λ bytes. (low_bits z + 128) ∷ bytes) (sym (sleb_within-more 8 (high_bits z) (rw (mag-high_bits z) (omega arith))))
 
 pub mag-high_bits-lt : (z : ℤ) → fits_seven_bits z ≡ false → mag (high_bits z) < mag z
 mag-high_bits-lt z e = elim (cases_lt (mag z) 64) [
-    inl lt ↦ let t = fits_seven_bits-true z lt in cc
+  | inl lt ↦ let t = fits_seven_bits-true z lt in cc
   | inr ge ↦ rw (mag-high_bits z) (omega arith)
-  ]
+]
 
-pub ruleset spellings = (IsShortestSleb-sleb, length-sleb-le, length-sleb-pos, sleb-last, sleb-next, append_assoc)
+pub ruleset spellings = (IsShortestSleb-sleb, length-sleb-le, length-sleb-pos, sleb-last, sleb-next, append_assoc, to_z-of_z)

@@ -1,5 +1,5 @@
 -- A reader's answer by its two tests.
-use Rattle.std.proofs.Common.{◌≡◌, Bool, true, false, cond, Result, Ok, Err, refl}
+use Rattle.std.proofs.Common.{◌≡◌, Bool, true, false, cond, Ok, Err, refl}
 
 -- where it is `Ok`, the first test failed
 pub ok_from_tests : {X E : Type 0} (short fits : Bool) (x y : X) (d e : E) → cond short (Err d) (cond fits (Ok x) (Err e)) ≡ Ok y → (short ≡ false) × (x ≡ y)

@@ -1,8 +1,8 @@
 -- The first zero byte, as a search finds it, ends the text at the front.
-use Rattle.std.proofs.Common.{◌≡◌, ◌<◌, ◌≤◌, ◌+◌, ℕ, List, Bool, true, false, Option, Some, None, Ok, Err, arith, refl, take, drop, length, get_or}
+use Rattle.std.proofs.Common.{◌≡◌, ◌<◌, ◌+◌, ℕ, List, Bool, true, false, Some, None, Ok, Err, arith, refl, take, drop, length}
 use Rattle.std.proofs.lemmas.List.Sums.{position_or_len_is}
 use Rattle.std.proofs.lemmas.Grind.{common_steps}
-use Rattle.memchr.specs.Find.{IsFirstByte, is_byte, Passes}
+use Rattle.memchr.specs.Find.{IsFirstByte, is_byte}
 use Rattle.rb_bytes.specs.declared.gap.Gap.TheVariants.{Short}
 use Rattle.rb_bytes.specs.Reading.{text_at}
 use Rattle.std.specs.List.{position_or_len}

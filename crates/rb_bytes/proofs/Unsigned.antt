@@ -3,10 +3,9 @@ use Rattle.std.proofs.Common.{◌≡◌, ◌≢◌, ◌<◌, ◌≤◌, ◌+◌,
 use Rattle.std.proofs.lemmas.List.{take_at, drop_at}
 use Rattle.std.proofs.Math.Nat.{pow-succ', pow-zero}
 use Rattle.std.proofs.lemmas.Grind.{common_steps}
-use Rattle.std.specs.List.{position_or_len}
 use Rattle.rb_bytes.specs.declared.gap.Gap.TheVariants.{Short, Wide}
 use Rattle.rb_bytes.proofs.Tests.{ok_from_tests}
-use Rattle.rb_bytes.specs.Leb.{is_last, leb_length, uleb_value, uleb_at, uleb_within, uleb, IsShortestUleb}
+use Rattle.rb_bytes.specs.Leb.{leb_length, uleb_value, uleb_at, uleb_within, uleb, IsShortestUleb}
 
 -- the bytes from a place on have no greater value
 uleb_value-drop-le : (i : ℕ) (bytes : List ℕ) → uleb_value (drop i bytes) ≤ uleb_value bytes
@@ -105,9 +104,9 @@ unfolding uleb
 IsShortestUleb-uleb n lt =
     let value = uleb_value-uleb_within 9 n (omega arith) in record {
       reads_back = λ rest. uleb_at-append (uleb_within 9 n) rest (leb_length-uleb_within 9 n rest (omega arith)) (rw value lt)
-        ∙ ap (λ v. Ok (v, rest)) value;
+          ∙ ap (λ v. Ok (v, rest)) value;
       shortest = λ bytes rest e. let o = uleb_at-ok n bytes rest e in
-        uleb_within-le-read 9 (leb_length bytes) n bytes rest (omega arith) o.0 o.1 o.2;
+          uleb_within-le-read 9 (leb_length bytes) n bytes rest (omega arith) o.0 o.1 o.2;
     }
 
 pub ruleset spellings = (IsShortestUleb-uleb, length-uleb-le, length-uleb-pos, uleb-last, uleb-next, append_assoc)

@@ -1,8 +1,10 @@
 // A cursor over bytes.
-ghost use Rattle.std.specs.Prelude.{◌≡◌, ◌+◌, length, IfOk, IfErr, OnOk, OnErr};
+ghost use Rattle.std.specs.Prelude.{◌≡◌, ◌+◌, ◌<◌, length, IfOk, IfErr, OnOk, OnErr};
 ghost use Rattle.rb_bytes.specs.Reading.{Reading, Passes, start_of, number_at, bytes_at, text_at};
+ghost use Rattle.rb_bytes.specs.Leb.{leb_length, uleb_at, sleb_at};
 
 use crate::gap::Gap;
+use crate::leb;
 use byteorder::{ByteOrder, LittleEndian};
 use memchr::memchr;
 use std::marker::Model;
@@ -126,5 +128,48 @@ impl<'a> Cursor<'a> {
         self.rest = rest;
         self.place += length + 1;
         Ok(text)
+    }
+
+    /// The unsigned LEB128 number at the front, of any length. [`Gap::Short`] exactly where the
+    /// bytes end before it does, and [`Gap::Wide`] exactly where it is whole and its value does
+    /// not fit. DWARF 5, section 7.6.
+    pub fn uleb(&mut self) -> Result<u64, Gap>
+        ensures read { IfOk result (λ number. uleb_at self.old.left ≡ Ok (number, self.new.left)) }
+        ensures gap { IfErr result (λ gap. uleb_at self.old.left ≡ Err gap) }
+        ensures passes { OnOk result (Passes (leb_length self.old.left) self.old self.new) }
+        ensures forward { OnOk result (self.old.place < self.new.place) }
+        ensures unchanged { OnErr result (self.new ≡ self.old) }
+    {
+        let Some(end) = leb::end_at(self.rest) else {
+            return Err(Gap::Short);
+        };
+        let (spelling, rest) = self.rest.split_at(end + 1);
+        let Some(number) = leb::unsigned_value(spelling) else {
+            return Err(Gap::Wide);
+        };
+        self.rest = rest;
+        self.place += end + 1;
+        Ok(number)
+    }
+
+    /// The signed LEB128 number at the front, of any length, with the refusals of
+    /// [`Cursor::uleb`].
+    pub fn sleb(&mut self) -> Result<i64, Gap>
+        ensures read { IfOk result (λ number. sleb_at self.old.left ≡ Ok (number, self.new.left)) }
+        ensures gap { IfErr result (λ gap. sleb_at self.old.left ≡ Err gap) }
+        ensures passes { OnOk result (Passes (leb_length self.old.left) self.old self.new) }
+        ensures forward { OnOk result (self.old.place < self.new.place) }
+        ensures unchanged { OnErr result (self.new ≡ self.old) }
+    {
+        let Some(end) = leb::end_at(self.rest) else {
+            return Err(Gap::Short);
+        };
+        let (spelling, rest) = self.rest.split_at(end + 1);
+        let Some(number) = leb::signed_value(spelling) else {
+            return Err(Gap::Wide);
+        };
+        self.rest = rest;
+        self.place += end + 1;
+        Ok(number)
     }
 }

@@ -6,4 +6,4 @@ pub returns-in_err-value : goal.returns-in_err-value
 returns-in_err-value c =
     let inside : c.bytes.index < length c.args.bytes.now = omega arith in
     rw c.from_residual.ensures (sleb_value-too_large c.bytes.index c.args.bytes.now c.bytes-test.true inside
-      (rw (← c.bytes.invariant) (λ fits. c.in_err-value.ensures fits)))
+    (rw (← c.bytes.invariant) (λ fits. c.in_err-value.ensures fits)))

@@ -1,4 +1,4 @@
-use Rattle.std.proofs.Common.{◌≡◌, arith, ap, drop}
+use Rattle.std.proofs.Common.{◌≡◌, arith}
 use Rattle.rb_bytes.specs.Leb.{uleb_value}
 use Rattle.rb_bytes.proofs.Unsigned.{uleb_value-drop-mul-le}
 use Rattle.rb_bytes.proofs.leb.unsigned_value.Goals as goal
