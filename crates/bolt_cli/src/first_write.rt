@@ -101,7 +101,7 @@ fn put_section_header(bytes: &mut Vec<u8>, header: &SectionHeader) -> Result<(),
 
 // The names with the added ones, and the headers of the sections: the null one, the old code under
 // its new name, the names, and the new code.
-fn tail(
+fn write_tail(
     alloc: Global,
     file: &[u8],
     form: &FirstForm,
@@ -183,7 +183,7 @@ pub fn write_moved(alloc: Global, file: &[u8], form: &FirstForm) -> Result<Vec<u
         align: CODE_ALIGN,
         entsize: 0,
     };
-    let tail = tail(alloc, file, form, &header, size)?;
+    let tail = write_tail(alloc, file, form, &header, size)?;
     written.extend_from_slice(&tail.bytes)?;
     let segments_at = u64_at(file, E_PHOFF) as usize;
     patch(&mut written, segments_at, address, tail.table_at, size as u64);

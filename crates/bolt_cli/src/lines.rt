@@ -51,7 +51,7 @@ pub struct Summary {
 }
 
 /// The line for a file that was rewritten.
-pub fn summary(alloc: Global, counts: &Summary) -> Result<Vec<u8>, NoMemory>
+pub fn moved(alloc: Global, counts: &Summary) -> Result<Vec<u8>, NoMemory>
     ensures { IfOk result (λ line. line.items ≡ summary_line counts.now.functions counts.now.instructions counts.now.bytes counts.now.hot counts.now.ignored) }
 {
     let mut line = Vec::from_slice(alloc, b"moved ")?;

@@ -106,7 +106,7 @@ fn map(alloc: Global, out: u64, input: u64, count: u64) -> Result<Vec<u8>, NoMem
 }
 
 /// Rewrites a file, or says why it is refused.
-fn rewritten(alloc: Global, file: &[u8], profile: &[u8]) -> Result<Rewritten, Refusal>
+fn rewrite_file(alloc: Global, file: &[u8], profile: &[u8]) -> Result<Rewritten, Refusal>
     requires file { length file.now ≤ file_limit }
     requires profile { length profile.now ≤ file_limit }
     ensures accepted { IfOk result (λ _. IsAccepted file.now profile.now) }
@@ -136,7 +136,7 @@ fn rewritten(alloc: Global, file: &[u8], profile: &[u8]) -> Result<Rewritten, Re
     Ok(Rewritten {
         file: write_moved(alloc, file, &form)?,
         map: map(alloc, new_code_address(&form.segment), form.text.addr, count)?,
-        summary: lines::summary(alloc, &summary)?,
+        summary: lines::moved(alloc, &summary)?,
     })
 }
 
@@ -201,7 +201,7 @@ pub fn rewrite<F: Files, O: Sink>(
         Inputs::Failed => return Status::ReadFault,
         Inputs::Memory => return Status::NoMemory,
     }
-    match rewritten(alloc, &file, &profile) {
+    match rewrite_file(alloc, &file, &profile) {
         Ok(rewritten) => write_outputs(words, files, out, &rewritten),
         Err(Refusal::Fault(fault)) => refuse(alloc, fault, out),
         Err(Refusal::Memory) => Status::NoMemory,
