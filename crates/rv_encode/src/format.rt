@@ -1,0 +1,185 @@
+// Four-byte words by format. ISA manual, sections 2.2, 2.3 and 4.2.1.
+//
+// A format's word is None where no word has these fields: where a register is none of the 32, or the
+// immediate is out of reach or not a multiple of its unit.
+ghost use Rattle.std.specs.Prelude.{◌≡◌, ◌≢◌, ◌<◌, ◌*◌, ◌^◌, ℕ, IfSome, IfNone};
+ghost use Rattle.rv_code.specs.FullRows.{FormatR, FormatI, FormatS, FormatB, FormatU, FormatJ, Shift64, Shift32};
+ghost use Rattle.rv_code.specs.Bits.{signed_by};
+
+use rv_code::field::bits;
+
+/// The number that is `imm` once its top bit, which is worth `half`, is read as a sign; None where there
+/// is none.
+pub fn unsigned(imm: i64, half: u32) -> Option<u32>
+    requires { half < 2 ^ 31 }
+    ensures below { IfSome result (λ n. n < 2 * half) }
+    ensures found { IfSome result (λ n. signed_by half n ≡ imm) }
+    ensures none { IfNone result ((n : ℕ) → n < 2 * half → signed_by half n ≢ imm) }
+{
+    let half = i64::from(half);
+    if imm < -half || half <= imm {
+        return None;
+    }
+    let number = if imm < 0 { imm + 2 * half } else { imm };
+    Some(number as u32)
+}
+
+/// A word of format R.
+pub fn format_r(opcode: u32, funct3: u32, funct7: u32, rd: u8, rs1: u8, rs2: u8) -> Option<u32>
+    requires opcode { opcode < 2 ^ 7 }
+    requires funct3 { funct3 < 2 ^ 3 }
+    requires funct7 { funct7 < 2 ^ 7 }
+    ensures found { IfSome result (λ word. FormatR word opcode funct3 funct7 rd rs1 rs2) }
+    ensures none { IfNone result ((word : ℕ) → FormatR word opcode funct3 funct7 rd rs1 rs2 → ⊥) }
+{
+    if rd >= 32 || rs1 >= 32 || rs2 >= 32 {
+        return None;
+    }
+    Some(
+        opcode
+            + ((rd as u32) << 7)
+            + (funct3 << 12)
+            + ((rs1 as u32) << 15)
+            + ((rs2 as u32) << 20)
+            + (funct7 << 25),
+    )
+}
+
+/// A word of format I.
+pub fn format_i(opcode: u32, funct3: u32, rd: u8, rs1: u8, imm: i64) -> Option<u32>
+    requires opcode { opcode < 2 ^ 7 }
+    requires funct3 { funct3 < 2 ^ 3 }
+    ensures found { IfSome result (λ word. FormatI word opcode funct3 rd rs1 imm) }
+    ensures none { IfNone result ((word : ℕ) → FormatI word opcode funct3 rd rs1 imm → ⊥) }
+{
+    if rd >= 32 || rs1 >= 32 {
+        return None;
+    }
+    let number = unsigned(imm, 1 << 11)?;
+    Some(opcode + ((rd as u32) << 7) + (funct3 << 12) + ((rs1 as u32) << 15) + (number << 20))
+}
+
+/// A shift by an amount of six bits.
+pub fn shift_64(opcode: u32, funct3: u32, funct6: u32, rd: u8, rs1: u8, amount: i64) -> Option<u32>
+    requires opcode { opcode < 2 ^ 7 }
+    requires funct3 { funct3 < 2 ^ 3 }
+    requires funct6 { funct6 < 2 ^ 6 }
+    ensures found { IfSome result (λ word. Shift64 word opcode funct3 funct6 rd rs1 amount) }
+    ensures none { IfNone result ((word : ℕ) → Shift64 word opcode funct3 funct6 rd rs1 amount → ⊥) }
+{
+    if rd >= 32 || rs1 >= 32 || amount < 0 || amount >= 64 {
+        return None;
+    }
+    Some(
+        opcode
+            + ((rd as u32) << 7)
+            + (funct3 << 12)
+            + ((rs1 as u32) << 15)
+            + ((amount as u32) << 20)
+            + (funct6 << 26),
+    )
+}
+
+/// A shift by an amount of five bits.
+pub fn shift_32(opcode: u32, funct3: u32, funct7: u32, rd: u8, rs1: u8, amount: i64) -> Option<u32>
+    requires opcode { opcode < 2 ^ 7 }
+    requires funct3 { funct3 < 2 ^ 3 }
+    requires funct7 { funct7 < 2 ^ 7 }
+    ensures found { IfSome result (λ word. Shift32 word opcode funct3 funct7 rd rs1 amount) }
+    ensures none { IfNone result ((word : ℕ) → Shift32 word opcode funct3 funct7 rd rs1 amount → ⊥) }
+{
+    if rd >= 32 || rs1 >= 32 || amount < 0 || amount >= 32 {
+        return None;
+    }
+    Some(
+        opcode
+            + ((rd as u32) << 7)
+            + (funct3 << 12)
+            + ((rs1 as u32) << 15)
+            + ((amount as u32) << 20)
+            + (funct7 << 25),
+    )
+}
+
+/// A word of format S.
+pub fn format_s(opcode: u32, funct3: u32, rs1: u8, rs2: u8, imm: i64) -> Option<u32>
+    requires opcode { opcode < 2 ^ 7 }
+    requires funct3 { funct3 < 2 ^ 3 }
+    ensures found { IfSome result (λ word. FormatS word opcode funct3 rs1 rs2 imm) }
+    ensures none { IfNone result ((word : ℕ) → FormatS word opcode funct3 rs1 rs2 imm → ⊥) }
+{
+    if rs1 >= 32 || rs2 >= 32 {
+        return None;
+    }
+    let number = unsigned(imm, 1 << 11)?;
+    Some(
+        opcode
+            + (bits(number, 0, 5) << 7)
+            + (funct3 << 12)
+            + ((rs1 as u32) << 15)
+            + ((rs2 as u32) << 20)
+            + (bits(number, 5, 7) << 25),
+    )
+}
+
+/// A word of format B; `imm` is a distance in bytes.
+pub fn format_b(opcode: u32, funct3: u32, rs1: u8, rs2: u8, imm: i64) -> Option<u32>
+    requires opcode { opcode < 2 ^ 7 }
+    requires funct3 { funct3 < 2 ^ 3 }
+    ensures found { IfSome result (λ word. FormatB word opcode funct3 rs1 rs2 imm) }
+    ensures none { IfNone result ((word : ℕ) → FormatB word opcode funct3 rs1 rs2 imm → ⊥) }
+{
+    if rs1 >= 32 || rs2 >= 32 {
+        return None;
+    }
+    let number = unsigned(imm, 1 << 12)?;
+    if number % 2 != 0 {
+        return None;
+    }
+    Some(
+        opcode
+            + (bits(number, 11, 1) << 7)
+            + (bits(number, 1, 4) << 8)
+            + (funct3 << 12)
+            + ((rs1 as u32) << 15)
+            + ((rs2 as u32) << 20)
+            + (bits(number, 5, 6) << 25)
+            + (bits(number, 12, 1) << 31),
+    )
+}
+
+/// A word of format U; `imm` is bits 31:12 alone.
+pub fn format_u(opcode: u32, rd: u8, imm: i64) -> Option<u32>
+    requires { opcode < 2 ^ 7 }
+    ensures found { IfSome result (λ word. FormatU word opcode rd imm) }
+    ensures none { IfNone result ((word : ℕ) → FormatU word opcode rd imm → ⊥) }
+{
+    if rd >= 32 {
+        return None;
+    }
+    let number = unsigned(imm, 1 << 19)?;
+    Some(opcode + ((rd as u32) << 7) + (number << 12))
+}
+
+/// A word of format J; `imm` is a distance in bytes.
+pub fn format_j(opcode: u32, rd: u8, imm: i64) -> Option<u32>
+    requires { opcode < 2 ^ 7 }
+    ensures found { IfSome result (λ word. FormatJ word opcode rd imm) }
+    ensures none { IfNone result ((word : ℕ) → FormatJ word opcode rd imm → ⊥) }
+{
+    if rd >= 32 {
+        return None;
+    }
+    let number = unsigned(imm, 1 << 20)?;
+    if number % 2 != 0 {
+        return None;
+    }
+    Some(
+        opcode
+            + ((rd as u32) << 7)
+            + (bits(number, 12, 8) << 12)
+            + (bits(number, 11, 1) << 20)
+            + (bits(number, 1, 10) << 21)
+            + (bits(number, 20, 1) << 31),
+    )
+}

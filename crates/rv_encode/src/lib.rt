@@ -1,0 +1,5 @@
+//! Writes instructions of RV64IMC.
+#![tactic(auto)]
+
+mod format;
+mod full;
