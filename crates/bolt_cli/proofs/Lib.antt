@@ -1,2 +1,4 @@
+pub mod Effects
+pub mod Fetching
 pub mod OneSegment
 pub mod StraightCode
