@@ -1,4 +1,5 @@
 pub mod Effects
 pub mod Fetching
+pub mod MovedCode
 pub mod OneSegment
 pub mod StraightCode
