@@ -30,14 +30,21 @@ IsLoud (Going s e) = All IsQuiet (events e) → ⊥
 IsLoud (Ended status) = ⊥
 IsLoud (Halts pc cause) = Unit {0}
 
+-- with these registers the action goes on to the next instruction, and leaves these registers
+abbrev pub GoesOn : Action → (ℕ → ℕ) → (ℕ → ℕ) → Option Event → Type 0
+GoesOn a registers after e =
+    (space : Space) (memory : ℕ → ℕ) (pc next : ℕ) (input : List ℕ) → HasNoBreak space →
+    effect a next (stand space memory pc registers input) ≡ Going (stand space memory next after input) e
+
+-- with these registers the action ends the program
+abbrev pub EndsWith : Action → (ℕ → ℕ) → ℕ → Type 0
+EndsWith a registers status =
+    (space : Space) (memory : ℕ → ℕ) (pc next : ℕ) (input : List ℕ) → effect a next (stand space memory pc registers input) ≡ Ended status
+
 -- what the action comes to with these registers
 pub data Does (a : Action) (registers : ℕ → ℕ) : Type 0 where
-  goes : (after : ℕ → ℕ) (e : Option Event) →
-      ((space : Space) (memory : ℕ → ℕ) (pc next : ℕ) (input : List ℕ) → HasNoBreak space → effect a next (stand space memory pc registers input) ≡ Going (stand space memory next after input) e) →
-      Does a registers
-  ends : (status : ℕ) →
-      ((space : Space) (memory : ℕ → ℕ) (pc next : ℕ) (input : List ℕ) → effect a next (stand space memory pc registers input) ≡ Ended status) →
-      Does a registers
+  goes : (after : ℕ → ℕ) (e : Option Event) → GoesOn a registers after e → Does a registers
+  ends : (status : ℕ) → EndsWith a registers status → Does a registers
   loud : ((space : Space) (memory : ℕ → ℕ) (pc next : ℕ) (input : List ℕ) → IsLoud (effect a next (stand space memory pc registers input))) → Does a registers
 
 all_head : (e : Event) → All IsQuiet (e ∷ []) → IsQuiet e
