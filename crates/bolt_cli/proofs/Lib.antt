@@ -3,3 +3,4 @@ pub mod Fetching
 pub mod MovedCode
 pub mod OneSegment
 pub mod StraightCode
+pub mod StraightRuns
