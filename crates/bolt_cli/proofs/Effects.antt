@@ -1,9 +1,8 @@
 -- What straight-line instructions do, wherever they stand: neither the pc nor memory plays a part.
-use Rattle.std.proofs.Common.{◌≡◌, ℕ, ◌≤◌, ◌*◌, ◌%◌, ◌^◌, List, [], ◌∷◌, Option, Some, None, Bool, true, false, refl, sym, ap, ◌∙◌, ℤ, arith, rules}
+use Rattle.std.proofs.Common.{◌≡◌, ℕ, ◌≤◌, ◌*◌, ◌%◌, ◌^◌, List, [], ◌∷◌, Option, Some, None, Bool, true, false, refl, ℤ, arith, rules}
 use Rattle.std.specs.Prelude.{take, All, ◌&&◌, ◌||◌, ◌==◌, nat_lt, nat_le, if◌then◌else◌}
 use Rattle.std.proofs.Math.Path.{fun_ext}
 use Rattle.std.proofs.lemmas.Bool.{and_parts, and_right, leb-true, le-ltb}
-use Rattle.rv_code.specs.declared.cause.Cause.{Cause}
 use Rattle.rv_code.specs.declared.op.Op.{Op}
 use Rattle.rv_code.specs.declared.op.Op.TheVariants as op
 use Rattle.rv_code.specs.declared.action.Action.{Action}
@@ -14,7 +13,7 @@ use Rattle.rv_code.specs.declared.inst.Inst.TheVariants.{Lui, Addi, Slti, Sltiu,
 use Rattle.rv_code.specs.Action.{action_of}
 use Rattle.rv_code.specs.Op.{apply}
 use Rattle.rv_code.specs.Word.{word}
-use Rattle.rv_code.specs.Machine.{State, Space, Event, events, Call, Read, Write, Exit, Brk, Unknown, call_of, no_such_call, set_register, with_break, cells_at, all_may, may_read, may_write, Outcome, Going, Ended, Halts}
+use Rattle.rv_code.specs.Machine.{Space, Event, events, Call, Read, Write, Exit, Brk, Unknown, call_of, no_such_call, set_register, with_break, cells_at, all_may, may_read, may_write, Going, Ended, Halts}
 use Rattle.rv_code.specs.Step.{ByteState, ByteOutcome, a0, a1, a7, buffer_size, effect, reads_input, read_call, writes_output, write_call}
 use Rattle.bolt_cli.specs.FirstForm.{IsStraight}
 use Rattle.bolt_cli.specs.Rewritten.{IsQuiet}

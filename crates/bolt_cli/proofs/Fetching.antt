@@ -1,9 +1,9 @@
 -- Where four bytes may be executed that begin a four-byte instruction, its two halfwords are fetched.
-use Rattle.std.proofs.Common.{◌≡◌, ℕ, suc, ◌+◌, ◌*◌, ◌%◌, ◌^◌, ◌<◌, ◌≤◌, List, [], ◌∷◌, Option, Some, None, Bool, true, false, refl, sym, ap, ◌∙◌, arith, rules, add-zero, add_assoc}
+use Rattle.std.proofs.Common.{◌≡◌, ℕ, ◌+◌, ◌*◌, ◌%◌, ◌^◌, ◌<◌, ◌≤◌, Option, Some, Bool, true, false, refl, arith, add-zero, add_assoc}
 use Rattle.std.specs.Prelude.{◌&&◌, ◌==◌}
-use Rattle.std.proofs.lemmas.Bool.{and_parts, and_from, eqb-true, eq-eqb}
+use Rattle.std.proofs.lemmas.Bool.{and_parts, eqb-true, eq-eqb}
 use Rattle.rv_code.specs.Machine.{plus, all_may, cells_at, little, may_execute}
-use Rattle.rv_code.specs.Step.{ByteState, halfword, parcels, fetched_if, fetched}
+use Rattle.rv_code.specs.Step.{ByteState, halfword, fetched_if, fetched}
 
 -- no address of a word wraps
 plus_inside : (a j : ℕ) → a + j < 2 ^ 64 → plus a j ≡ a + j

@@ -1,15 +1,13 @@
 -- Straight-line code at two places: a step at the one is a step at the other.
-use Rattle.std.proofs.Common.{◌≡◌, ◌≢◌, ◌⊎◌, inl, inr, ℕ, suc, ◌+◌, ◌-◌, ◌*◌, ◌/◌, ◌%◌, ◌^◌, ◌<◌, ◌≤◌, List, [], ◌∷◌, Option, Some, None, Bool, true, false, refl, sym, ap, subst, ◌∙◌, arith, rules, add-zero, add_assoc, get_or-drop}
+use Rattle.std.proofs.Common.{◌≡◌, inl, inr, ℕ, suc, ◌+◌, ◌-◌, ◌*◌, ◌%◌, ◌^◌, ◌<◌, ◌≤◌, List, Option, Some, refl, sym, ap, subst, ◌∙◌, arith, get_or-drop}
 use Rattle.std.specs.Prelude.{unwrap_or, All, drop, slice_index}
-use Rattle.rv_code.specs.Bits.{field}
-use Rattle.rv_code.specs.FullRows.{IsFull}
-use Rattle.rv_code.specs.Decoding.{Decodes, DecodesFull}
+use Rattle.rv_code.specs.Decoding.{Decodes}
 use Rattle.rv_code.specs.Action.{action_of}
 use Rattle.rv_code.specs.declared.inst.Inst.{Inst}
 use Rattle.rv_code.specs.Machine.{plus, Event, events, Going, Ended, Halts}
 use Rattle.rv_code.specs.Step.{ByteState, ByteOutcome, effect, fetched, Steps, no_fetch, illegal, does}
 use Rattle.elf_image.specs.declared.segment.Segment.{Segment}
-use Rattle.elf_image.specs.Header.{e_entry, number_at, segments_of}
+use Rattle.elf_image.specs.Header.{number_at, segments_of}
 use Rattle.elf_image.specs.Image.{end_of}
 use Rattle.elf_image.specs.Start.{space_of, start_memory}
 use Rattle.bolt_cli.specs.FirstForm.{IsStraight, IsStraightAt}
@@ -62,11 +60,14 @@ module _ (file : List ℕ) (p : Segment) (base size : ℕ) (code : ℕ → ℕ) 
 pub opcode_at : (file : List ℕ) (code : ℕ → ℕ) (offset place : ℕ) → ((j : ℕ) → j < 4 → slice_index file (offset + j) ≡ code (place + j)) → IsStraightAt file offset → HasStraightOpcode (word_at code place)
 opcode_at file code offset place bytes_are is = cases is.0 is.2 is.1
   where
-    byte : (at j : ℕ) → at + j < 4 → slice_index (drop (offset + at) file) j ≡ code (place + at + j)
-    byte at j h = let e : offset + at + j ≡ offset + (at + j) = omega arith in let f : place + at + j ≡ place + (at + j) = omega arith in rw (get_or-drop, e, f) (bytes_are (at + j) h)
+    low : (j : ℕ) → j < 2 → slice_index (drop offset file) j ≡ code (place + j)
+    low j h = get_or-drop offset file j 0 ∙ bytes_are j (omega arith)
+
+    high : (j : ℕ) → j < 2 → slice_index (drop (offset + 2) file) j ≡ code (place + (2 + j))
+    high j h = let e : offset + 2 + j ≡ offset + (2 + j) = omega arith in get_or-drop (offset + 2) file j 0 ∙ (ap (slice_index file) e ∙ bytes_are (2 + j) (omega arith))
 
     word : number_at file (offset + 2) 2 * 2 ^ 16 + number_at file offset 2 ≡ word_at code place
-    word = ?
+    word = omega (arith, low 0 (omega arith), low 1 (omega arith), high 0 (omega arith), high 1 (omega arith))
 
     cases : (i : Inst) → IsStraight i → Decodes (number_at file offset 2) (Some (number_at file (offset + 2) 2)) i 4 → HasStraightOpcode (word_at code place)
     cases i straight (inl half) = absurd (omega (arith, half.two_bytes))

@@ -1,12 +1,12 @@
 -- The memory of a file with one segment, which is executable and not writable, and comes from the file's front.
-use Rattle.std.proofs.Common.{◌≡◌, ℕ, ◌+◌, ◌-◌, ◌^◌, ◌<◌, ◌≤◌, List, [], ◌∷◌, Option, Some, None, Bool, true, false, refl, sym, ap, ◌∙◌, arith, rules}
-use Rattle.std.specs.Prelude.{slice_index, unwrap_or, ◌&&◌, ◌||◌, nat_lt, nat_le, if◌then◌else◌}
-use Rattle.std.proofs.lemmas.Bool.{lt-ltb, le-ltb, le-leb, lt-leb, eq-eqb, ltb-true, leb-true, and_parts, and_from, and_left, and_right}
+use Rattle.std.proofs.Common.{◌≡◌, ℕ, ◌-◌, ◌^◌, ◌<◌, ◌≤◌, List, [], ◌∷◌, Some, Bool, true, false, refl, arith, rules}
+use Rattle.std.specs.Prelude.{slice_index, ◌&&◌, nat_lt, nat_le}
+use Rattle.std.proofs.lemmas.Bool.{lt-ltb, le-leb, lt-leb, eq-eqb, ltb-true, and_parts, and_from, and_left, and_right}
 use Rattle.elf_image.specs.declared.segment.Segment.{Segment}
-use Rattle.elf_image.specs.declared.segment.TheConstants.{PT_LOAD, PF_R, PF_W, PF_X}
+use Rattle.elf_image.specs.declared.segment.TheConstants.{PT_LOAD, PF_W, PF_X}
 use Rattle.elf_image.specs.Header.{segments_of}
-use Rattle.elf_image.specs.Image.{end_of, has_flag, is_load, loads_address, segment_of, byte_of, image_byte, is_loaded_with}
-use Rattle.elf_image.specs.Start.{in_stack, stack_end, stack_size, has_memory, break_start, break_bound, space_of, start_memory, stack_byte}
+use Rattle.elf_image.specs.Image.{end_of, has_flag, is_load, loads_address, segment_of, image_byte, is_loaded_with}
+use Rattle.elf_image.specs.Start.{in_stack, stack_end, stack_size, has_memory, space_of, start_memory}
 use Rattle.rv_code.specs.Machine.{Space}
 
 pub record HasOneSegment (file : List ℕ) (p : Segment) : Type 0 where

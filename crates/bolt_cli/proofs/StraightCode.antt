@@ -1,5 +1,5 @@
 -- What straight-line instructions are and do, wherever they stand.
-use Rattle.std.proofs.Common.{◌≡◌, ◌≢◌, ◌⊎◌, inl, inr, ℕ, ◌+◌, ◌-◌, ◌*◌, ◌/◌, ◌%◌, ◌^◌, ◌<◌, ◌≤◌, List, [], ◌∷◌, Option, Some, None, Bool, true, false, refl, sym, ap, ◌∙◌, arith, rules}
+use Rattle.std.proofs.Common.{◌≡◌, ◌⊎◌, inl, inr, ℕ, ◌%◌, arith}
 use Rattle.rv_code.specs.Bits.{field}
 use Rattle.rv_code.specs.FullRows.{IsFull}
 use Rattle.rv_code.specs.declared.inst.Inst.{Inst}

@@ -1,17 +1,17 @@
 -- A file whose straight-line code was moved keeps its runs, and has its code at the new place.
-use Rattle.std.proofs.Common.{◌≡◌, ℕ, zero, suc, ◌+◌, ◌-◌, ◌*◌, ◌/◌, ◌%◌, ◌^◌, ◌<◌, ◌≤◌, List, [], ◌∷◌, ◌++◌, Option, Some, refl, sym, ap, subst, ◌∙◌, arith, rules}
+use Rattle.std.proofs.Common.{◌≡◌, ℕ, zero, suc, ◌+◌, ◌-◌, ◌*◌, ◌/◌, ◌%◌, ◌^◌, ◌<◌, ◌≤◌, List, [], ◌∷◌, ◌++◌, Some, refl, sym, ap, subst, ◌∙◌, arith}
 use Rattle.std.specs.Prelude.{All, slice_index}
 use Rattle.std.proofs.lemmas.List.Elements.{All-nil, All-cons, All-head, All-tail}
 use Rattle.rv_code.specs.Machine.{Event, events, Going, Ended, SoFar, starts, more}
-use Rattle.rv_code.specs.Step.{ByteState, ByteOutcome, Steps}
+use Rattle.rv_code.specs.Step.{ByteState, Steps}
 use Rattle.elf_image.specs.declared.segment.Segment.{Segment}
 use Rattle.elf_image.specs.Header.{e_entry, e_phoff, e_phnum, segment_at, segments_from, segments_of}
 use Rattle.elf_image.specs.Image.{end_of, image_byte}
 use Rattle.elf_image.specs.Start.{rounded_up, space_of, start, start_memory, start_registers, Runs}
 use Rattle.bolt_cli.specs.FirstForm.{IsFirstForm, code_segment, offset_of, text_section}
-use Rattle.bolt_cli.specs.Spans.{Span, spans_from, new_start, count_of, spans_of}
+use Rattle.bolt_cli.specs.Spans.{spans_from, new_start, count_of}
 use Rattle.bolt_cli.specs.Moved.{IsMoved, new_offset}
-use Rattle.bolt_cli.specs.Rewritten.{IsQuiet, HoldsByte, HoldsSpan, KeepsRuns, IsRewritten}
+use Rattle.bolt_cli.specs.Rewritten.{IsQuiet, HoldsByte, HoldsSpan, IsRewritten}
 use Rattle.bolt_cli.proofs.OneSegment.{HasOneSegment, executable_inside, unwritable_inside, byte_inside, no_break}
 use Rattle.bolt_cli.proofs.StraightCode.{HasStraightOpcode}
 use Rattle.bolt_cli.proofs.MovedCode.{HasCode, IsStraightCode, state_at, word_at, opcode_at, kept}
