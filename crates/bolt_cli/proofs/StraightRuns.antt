@@ -1,5 +1,5 @@
 -- A file whose straight-line code was moved keeps its runs, and has its code at the new place.
-use Rattle.std.proofs.Common.{◌≡◌, ℕ, zero, suc, ◌+◌, ◌-◌, ◌*◌, ◌/◌, ◌%◌, ◌^◌, ◌<◌, ◌≤◌, List, [], ◌∷◌, ◌++◌, Some, refl, sym, ap, subst, ◌∙◌, arith}
+use Rattle.std.proofs.Common.{◌≡◌, ℕ, zero, suc, ◌+◌, ◌-◌, ◌*◌, ◌/◌, ◌%◌, ◌^◌, ◌<◌, ◌≤◌, List, length, [], ◌∷◌, ◌++◌, Some, refl, sym, ap, subst, ◌∙◌, arith}
 use Rattle.std.specs.Prelude.{All, slice_index}
 use Rattle.std.proofs.lemmas.List.Elements.{All-nil, All-cons, All-head, All-tail}
 use Rattle.rv_code.specs.Machine.{Event, events, Going, Ended, SoFar, starts, more}
@@ -11,7 +11,7 @@ use Rattle.elf_image.specs.Start.{rounded_up, space_of, start, start_memory, sta
 use Rattle.bolt_cli.specs.FirstForm.{IsFirstForm, code_segment, offset_of, text_section}
 use Rattle.bolt_cli.specs.Spans.{spans_from, new_start, count_of}
 use Rattle.bolt_cli.specs.Moved.{IsMoved, new_offset}
-use Rattle.bolt_cli.specs.Rewritten.{IsQuiet, HoldsByte, HoldsSpan, IsRewritten}
+use Rattle.bolt_cli.specs.Rewritten.{IsQuiet, HoldsByte, HoldsSpan, IsInFile, IsRewritten}
 use Rattle.bolt_cli.proofs.OneSegment.{HasOneSegment, executable_inside, unwritable_inside, byte_inside, no_break}
 use Rattle.bolt_cli.proofs.StraightCode.{HasStraightOpcode}
 use Rattle.bolt_cli.proofs.MovedCode.{HasCode, IsStraightCode, state_at, word_at, opcode_at, kept}
@@ -168,10 +168,16 @@ module _ (file written : List ℕ) (form : IsFirstForm file) (moved : IsMoved fi
       opcodes : (k : ℕ) → 4 * k < (text_section file).size → HasStraightOpcode (word_at (code_byte file) (4 * k))
       opcodes k h = opcode_at file (code_byte file) (offset_of file (text_section file).addr + 4 * k) (4 * k) (λ j g. ap (slice_index file) (place_is (offset_of file (text_section file).addr) k j)) (form.code.straight k h)
 
+  in_file : All (IsInFile written) (segments_of written)
+  in_file =
+      let whole : (grown_segment file).offset + (grown_segment file).filesz ≤ length written = rw form.segment.from_front (omega (arith, moved.whole)) in
+      rw written_segment.only (All-cons (IsInFile written) (grown_segment file) [] whole (All-nil (IsInFile written)))
+
 -- The file with moved code is a rewritten one.
 pub rewritten : (file written : List ℕ) → IsFirstForm file → IsMoved file written → IsRewritten file written
 rewritten file written form moved = record {
   entry = moved.entry;
+  segments = in_file file written form moved;
   code = holds_spans file written (code_segment file) (grown_segment file) (text_section file).addr (new_start file) (text_section file).size (code_byte file) (old_code file written form moved) (new_code file written form moved) (count_of file) 0 (text_section file).addr (new_start file) (at_front (text_section file).addr) (at_front (new_start file)) (four_times (text_section file).size);
   runs = λ words input n trace status. keeps_run file written (code_segment file) (grown_segment file) (text_section file).addr (new_start file) (text_section file).size (code_byte file) (old_code file written form moved) (new_code file written form moved) (straight_code file written form moved) (new_even (end_of (code_segment file))) form.code.entry moved.entry words input n trace status;
 }

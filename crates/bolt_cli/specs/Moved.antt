@@ -1,5 +1,5 @@
 -- What the writer of the first form makes, as facts about bytes.
-use Rattle.std.specs.Prelude.{◌≡◌, ℕ, ◌+◌, ◌<◌, List, ◌++◌, length, slice_index}
+use Rattle.std.specs.Prelude.{◌≡◌, ℕ, ◌+◌, ◌<◌, ◌≤◌, List, ◌++◌, length, slice_index}
 use Rattle.elf_image.specs.Header.{e_entry, e_phoff, e_phnum, segment_at}
 use Rattle.bolt_cli.specs.FirstForm.{code_segment, text_section, offset_of}
 use Rattle.bolt_cli.specs.Spans.{new_start}
@@ -14,6 +14,7 @@ pub record IsMoved (file written : List ℕ) : Type 0 where
   pub phoff : e_phoff written ≡ e_phoff file
   pub phnum : e_phnum written ≡ 1
   pub segment : segment_at written (e_phoff file) ≡ record (code_segment file) { filesz = new_offset file + (text_section file).size; memsz = new_offset file + (text_section file).size }
+  pub whole : new_offset file + (text_section file).size ≤ length written
   pub code : (j : ℕ) → j < (text_section file).size → slice_index written (new_offset file + j) ≡ slice_index file (offset_of file (text_section file).addr + j)
 
 -- bytes that begin with a front, have more bytes up to a place, and then end with the code

@@ -1,6 +1,7 @@
 -- What a rewritten file is to its input.
-use Rattle.std.specs.Prelude.{◌≡◌, ◌≢◌, ℕ, ◌+◌, ◌<◌, true, false, List, Some, All, Contains}
+use Rattle.std.specs.Prelude.{◌≡◌, ◌≢◌, ℕ, ◌+◌, ◌<◌, ◌≤◌, true, false, List, length, All}
 use Rattle.rv_code.specs.Machine.{Event}
+use Rattle.elf_image.specs.declared.segment.Segment.{Segment}
 use Rattle.elf_image.specs.declared.segment.TheConstants.{PF_W, PF_X}
 use Rattle.elf_image.specs.Header.{e_entry, segments_of}
 use Rattle.elf_image.specs.Image.{image_byte, is_loaded_with}
@@ -17,6 +18,10 @@ pub record HoldsByte (file written : List ℕ) (input out : ℕ) : Type 0 where
 abbrev pub HoldsSpan : List ℕ → List ℕ → Span → Type 0
 HoldsSpan file written span = (k : ℕ) → k < span.len → HoldsByte file written (span.input + k) (span.out + k)
 
+-- the bytes that a segment takes from the file are in the file
+abbrev pub IsInFile : List ℕ → Segment → Type 0
+IsInFile file p = p.offset + p.filesz ≤ length file
+
 -- a call that neither reads nor writes a file
 abbrev pub IsQuiet : Event → Type 0
 IsQuiet e = (e.number ≢ 63) × (e.number ≢ 64)
@@ -29,5 +34,6 @@ KeepsRuns file written =
 
 pub record IsRewritten (file written : List ℕ) : Type 0 where
   pub entry : e_entry written ≡ new_start file
+  pub segments : All (IsInFile written) (segments_of written)
   pub code : All (HoldsSpan file written) (spans_of file)
   pub runs : KeepsRuns file written
