@@ -4,3 +4,7 @@ pub mod MovedCode
 pub mod OneSegment
 pub mod StraightCode
 pub mod StraightRuns
+pub mod MovedBytes
+pub mod SpanLists
+pub mod StraightWords
+pub mod MovedArea

@@ -1,7 +1,7 @@
 -- What holds at the end of the program, by its answer.
 use Rattle.std.specs.Prelude.{◌≡◌, ◌≢◌, ◌⊎◌, ℕ, ◌*◌, List, Option, Some, None, IsTrue, IsSomeAnd}
 use Rattle.rb_io.specs.Counts.{Rose}
-use Rattle.rb_io.specs.Contents.{SameContents, SameBut}
+use Rattle.rb_io.specs.Names.{Unchanged, UnchangedBut}
 use Rattle.rb_io.specs.Printed.{TakesAll, TakesFront}
 use Rattle.rb_bytes.specs.declared.fault.Fault.{Fault}
 use Rattle.bolt_cli.specs.declared.status.Status.{Status}
@@ -37,7 +37,7 @@ pub record IsDone (names : RewriteNames) (old new : World) : Type 0 where
 
 pub record PrintsOnly (line : List ℕ) (old new : World) : Type 0 where
   pub line_taken : TakesAll old.taken new.taken line
-  pub unwritten : SameContents old.content new.content
+  pub unwritten : Unchanged old.content new.content
 
 pub record Refuses (names : RewriteNames) (fault : Fault) (old new : World) : Type 0 where
   pub present : IsTrue old.told → OfInputs old names (λ file profile. IsRefused file profile fault)
@@ -47,7 +47,7 @@ pub record Refuses (names : RewriteNames) (fault : Fault) (old new : World) : Ty
 
 pub record IsSilent (old new : World) : Type 0 where
   pub unprinted : new.taken ≡ old.taken
-  pub unwritten : SameContents old.content new.content
+  pub unwritten : Unchanged old.content new.content
 
 pub record FailsToRead (names : RewriteNames) (old new : World) : Type 0 where
   pub cause : Rose (old.reads names.file) (new.reads names.file) ⊎ Rose (old.reads names.profile) (new.reads names.profile)
@@ -59,7 +59,7 @@ pub record FailsToRead (names : RewriteNames) (old new : World) : Type 0 where
 pub record FailsAtOut (names : RewriteNames) (old new : World) : Type 0 where
   pub cause : Rose (old.writes names.out) (new.writes names.out)
   pub unprinted : new.taken ≡ old.taken
-  pub others : SameBut names.out old.content new.content
+  pub others : UnchangedBut names.out old.content new.content
 
 pub record FailsAtMap (names : RewriteNames) (old new : World) : Type 0 where
   pub cause : Rose (old.writes names.map) (new.writes names.map)
@@ -80,7 +80,7 @@ pub record FailsAtSummary (names : RewriteNames) (old new : World) (file profile
 
 pub record FailsAtLine (line : List ℕ) (old new : World) : Type 0 where
   pub print : FailsToPrint line old new
-  pub unwritten : SameContents old.content new.content
+  pub unwritten : Unchanged old.content new.content
 
 pub data FailsToWrite (names : RewriteNames) (old new : World) : Type 0 where
   at_out : FailsAtOut names old new → FailsToWrite names old new

@@ -1,5 +1,6 @@
 -- What the writer of the first form makes, as facts about bytes.
 use Rattle.std.specs.Prelude.{◌≡◌, ℕ, ◌+◌, ◌<◌, ◌≤◌, List, ◌++◌, length, slice_index}
+use Rattle.elf_image.specs.declared.segment.TheConstants.{PHDR_SIZE}
 use Rattle.elf_image.specs.Header.{e_entry, e_phoff, e_phnum, segment_at}
 use Rattle.bolt_cli.specs.FirstForm.{code_segment, text_section, offset_of}
 use Rattle.bolt_cli.specs.Spans.{new_start}
@@ -22,3 +23,13 @@ pub record IsArea (area front : List ℕ) (start : ℕ) (code : List ℕ) : Type
   pub between : List ℕ
   pub length_is : length front + length between ≡ start
   pub parts : area ≡ (front ++ between) ++ code
+
+-- The header has a new entry point and the program header at an offset new sizes. Its other fields that
+-- say what is loaded, and all bytes behind it, are as they were.
+pub record IsPatched (old new : List ℕ) (segments_at entry size : ℕ) : Type 0 where
+  pub entry_is : e_entry new ≡ entry
+  pub phoff_kept : e_phoff new ≡ e_phoff old
+  pub phnum_kept : e_phnum new ≡ e_phnum old
+  pub segment_is : segment_at new segments_at ≡ record (segment_at old segments_at) { filesz = size; memsz = size }
+  pub length_kept : length new ≡ length old
+  pub bytes_kept : (k : ℕ) → segments_at + PHDR_SIZE ≤ k → slice_index new k ≡ slice_index old k

@@ -1,7 +1,7 @@
 -- What the last steps of a rewrite come to.
 use Rattle.std.specs.Prelude.{◌≡◌, ◌≢◌, ℕ, List, Option, Some, IsTrue}
 use Rattle.rb_io.specs.Counts.{Rose}
-use Rattle.rb_io.specs.Contents.{SameBut}
+use Rattle.rb_io.specs.Names.{UnchangedBut}
 use Rattle.rb_io.specs.Printed.{TakesAll, TakesFront}
 use Rattle.rb_bytes.specs.declared.fault.Fault.{Fault}
 use Rattle.bolt_cli.specs.World.{World}
@@ -26,7 +26,7 @@ pub record BothWritten (names : RewriteNames) (r : Rewritten) (old new : World) 
 
 -- where the writing stopped
 pub data StoppedWriting (names : RewriteNames) (r : Rewritten) (old new : World) : Type 0 where
-  at_out : Rose (old.writes names.out) (new.writes names.out) → new.taken ≡ old.taken → SameBut names.out old.content new.content → StoppedWriting names r old new
+  at_out : Rose (old.writes names.out) (new.writes names.out) → new.taken ≡ old.taken → UnchangedBut names.out old.content new.content → StoppedWriting names r old new
   at_map : Rose (old.writes names.map) (new.writes names.map) → new.taken ≡ old.taken → (IsTrue old.told → new.content names.out ≡ Some r.file.items) → ((name : List ℕ) → name ≢ names.out → name ≢ names.map → new.content name ≡ old.content name) → StoppedWriting names r old new
   at_summary : BothWritten names r old new → Rose old.faults new.faults → TakesFront old.taken new.taken r.summary.items → StoppedWriting names r old new
 

@@ -1,5 +1,6 @@
 // The files that are rewritten today: one function of straight-line code, and nothing else.
-ghost use Rattle.std.specs.Prelude.{◌≡◌, ◌≢◌, ◌≤◌, ◌<◌, ◌+◌, ◌-◌, ◌*◌, ◌%◌, ◌^◌, ◌↔◌, ◌∷◌, [], ◌++◌, ℕ, Option, Some, length, codes, IsTrue, IfSome, IfNone};
+ghost use Rattle.std.specs.Prelude.{◌≡◌, ◌≢◌, ◌≤◌, ◌<◌, ◌+◌, ◌-◌, ◌*◌, ◌%◌, ◌^◌, ◌↔◌, ◌∷◌, [], ◌++◌, ℕ, Option, Some, length, drop, nat_eq, IsTrue, IfSome, IfNone};
+ghost use Rattle.std.specs.List.{starts_with};
 ghost use Rattle.rv_code.specs.Decoding.{Decodes};
 ghost use Rattle.elf_image.specs.Header.{number_at, e_phoff, e_entry};
 ghost use Rattle.elf_image.specs.Sections.{section_header, contents, HasText};
@@ -91,7 +92,8 @@ fn lies_in_file(file: &[u8], section: &SectionHeader) -> bool
 /// The bytes of a section that lies in the file.
 pub fn section_bytes<'a>(file: &'a [u8], section: &SectionHeader) -> &'a [u8]
     requires { LiesInFile file.now section.now }
-    ensures { result.now ≡ contents file.now section.now }
+    ensures bytes { result.now ≡ contents file.now section.now }
+    ensures no_longer { length result.now ≤ length file.now }
 {
     if section.kind == SHT_NOBITS || section.size == 0 {
         return &file[..0];
@@ -100,10 +102,10 @@ pub fn section_bytes<'a>(file: &'a [u8], section: &SectionHeader) -> &'a [u8]
     &file[start..start + section.size as usize]
 }
 
-// The table has the text at the index. `text` ends with its zero byte.
+// The table has the text, with its zero byte, at the index.
 fn has_text(table: &[u8], index: u32, text: &[u8]) -> bool
     requires { text.now ≢ [] }
-    ensures { (name : _) → text.now ≡ name ++ 0 ∷ [] → IsTrue result ↔ HasText table.now index name }
+    ensures { result ≡ starts_with nat_eq (drop index table.now) text.now }
 {
     match table.get(index as usize..) {
         Some(rest) => rest.starts_with(text),
@@ -184,7 +186,9 @@ fn is_straight_at(file: &[u8], offset: usize) -> bool
     requires { offset + 4 ≤ length file.now }
     ensures { IsTrue result ↔ IsStraightAt file.now offset }
 {
-    match decode(u16_at(file, offset), Some(u16_at(file, offset + 2))) {
+    let half = u16_at(file, offset);
+    let next = u16_at(file, offset + 2);
+    match decode(half, Some(next)) {
         Some((inst, bytes)) => bytes == 4 && is_straight(&inst),
         None => false,
     }

@@ -1,12 +1,11 @@
 // Writes a file of the first form with its code moved: the segment grows, and the code stands again
 // behind it.
 ghost use Rattle.std.specs.Prelude.{◌≡◌, ◌≤◌, ◌<◌, ◌+◌, ◌*◌, ◌^◌, ◌++◌, ℕ, length, take, slice_index, slice_range, IfOk, vec_len};
-ghost use Rattle.elf_image.specs.Header.{e_entry, e_phoff, e_phnum, segment_at};
 ghost use Rattle.elf_image.specs.Image.{end_of};
 ghost use Rattle.elf_image.specs.Start.{rounded_up};
-ghost use Rattle.bolt_cli.specs.FirstForm.{IsFirstForm};
+ghost use Rattle.bolt_cli.specs.FirstForm.{IsFirstForm, LiesInFile};
 ghost use Rattle.bolt_cli.specs.Form.{IsFormOf};
-ghost use Rattle.bolt_cli.specs.Moved.{IsMoved, IsArea};
+ghost use Rattle.bolt_cli.specs.Moved.{IsMoved, IsArea, IsPatched};
 
 use crate::first_form::{FirstForm, section_bytes};
 use byteorder::{ByteOrder, LittleEndian};
@@ -107,7 +106,10 @@ fn write_tail(
     form: &FirstForm,
     code: &SectionHeader,
     before: usize,
-) -> Result<Tail, NoMemory> {
+) -> Result<Tail, NoMemory>
+    requires limit { length file.now ≤ 64 * 2 ^ 20 }
+    requires names { LiesInFile file.now form.now.names }
+{
     let names = section_bytes(file, &form.names);
     let mut bytes = Vec::new(alloc);
     let names_at = pad(&mut bytes, before, form.names.align)?;
@@ -144,11 +146,7 @@ fn write_tail(
 fn patch(written: &mut [u8], segments_at: usize, entry: u64, table_at: u64, size: u64)
     requires behind_header { 64 ≤ segments_at }
     requires within { segments_at + PHDR_SIZE ≤ length written.old }
-    ensures entry { e_entry written.new ≡ entry }
-    ensures phoff { e_phoff written.new ≡ e_phoff written.old }
-    ensures phnum { e_phnum written.new ≡ e_phnum written.old }
-    ensures segment { segment_at written.new segments_at ≡ record (segment_at written.old segments_at) { filesz = size; memsz = size } }
-    ensures behind { (k : ℕ) → segments_at + PHDR_SIZE ≤ k → slice_index written.new k ≡ slice_index written.old k }
+    ensures { IsPatched written.old written.new segments_at entry size }
 {
     patch_u64(written, E_ENTRY, entry);
     patch_u64(written, E_SHOFF, table_at);

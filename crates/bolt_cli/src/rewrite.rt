@@ -1,12 +1,12 @@
 // The command `rewrite`: both files are read, all work that takes memory is done, and then the output,
 // the map and the summary are written.
-ghost use Rattle.std.specs.Prelude.{◌≡◌, ◌≢◌, ◌⊎◌, ◌≤◌, ◌+◌, ◌*◌, ◌^◌, ℕ, Some, length, IfOk, IfErr, IsTrue};
-ghost use Rattle.rb_io.specs.Counts.{Rose, NeverFalls};
-ghost use Rattle.rb_io.specs.Contents.{SameContents};
+ghost use Rattle.std.specs.Prelude.{◌≡◌, ◌≢◌, ◌⊎◌, ◌↔◌, ◌<◌, ◌≤◌, ◌+◌, ◌*◌, ◌^◌, ℕ, Some, length, IfOk, IfErr, OnOk, IsTrue, ◌++◌};
+ghost use Rattle.rb_io.specs.Counts.{Rose};
+ghost use Rattle.rb_io.specs.Names.{Unchanged, NeverFalls};
 ghost use Rattle.bolt_cli.specs.FirstForm.{IsFirstForm};
 ghost use Rattle.bolt_cli.specs.Refused.{IsRefused, IsAccepted, IsElf, file_limit};
 ghost use Rattle.bolt_cli.specs.Rewritten.{IsRewritten};
-ghost use Rattle.bolt_cli.specs.Spans.{Span, spans_from, spans_of, map_text, count_of, new_start};
+ghost use Rattle.bolt_cli.specs.Spans.{span_line, spans_from, spans_of, map_text, count_of, new_start};
 ghost use Rattle.bolt_cli.specs.Answers.{RewriteAnswers, summary_of};
 ghost use Rattle.bolt_cli.specs.Read.{names_read};
 ghost use Rattle.bolt_cli.specs.Inputs.{InputsRead, IfFault};
@@ -51,7 +51,7 @@ fn read_inputs<F: Files>(
     ensures read { IsTrue (F.told files.old) → InputsRead result (F.content files.old) (names_read words.now) file.new.items profile.new.items }
     ensures limits { result ≡ Inputs.Whole → (length file.new.items ≤ file_limit) × (length profile.new.items ≤ file_limit) }
     ensures failed { result ≡ Inputs.Failed → Rose (F.read_count files.old words.now.file.now) (F.read_count files.new words.now.file.now) ⊎ Rose (F.read_count files.old words.now.profile.now) (F.read_count files.new words.now.profile.now) }
-    ensures kept { SameContents (F.content files.old) (F.content files.new) }
+    ensures kept { Unchanged (F.content files.old) (F.content files.new) }
     ensures told_kept { F.told files.new ≡ F.told files.old }
     ensures reads { NeverFalls (F.read_count files.old) (F.read_count files.new) }
     ensures writes { NeverFalls (F.write_count files.old) (F.write_count files.new) }
@@ -90,6 +90,7 @@ fn is_elf(file: &[u8]) -> bool
 }
 
 // The map's text: `count` instructions in a row.
+#[tactic(auto, using(crate::proofs::SpanLists::map_text_none, crate::proofs::SpanLists::map_text_more))]
 fn map(alloc: Global, out: u64, input: u64, count: u64) -> Result<Vec<u8>, NoMemory>
     requires out { out + 4 * count < 2 ^ 64 }
     requires input { input + 4 * count < 2 ^ 64 }
@@ -97,12 +98,22 @@ fn map(alloc: Global, out: u64, input: u64, count: u64) -> Result<Vec<u8>, NoMem
 {
     let mut text = Vec::new(alloc);
     for k in 0..count {
-        put_hex(&mut text, out + WORD * k)?;
-        text.extend_from_slice(b" 4 ")?;
-        put_hex(&mut text, input + WORD * k)?;
-        text.extend_from_slice(b"\n")?;
+        put_span(&mut text, out + WORD * k, input + WORD * k)?;
     }
     Ok(text)
+}
+
+// One line of the map, for an instruction of four bytes.
+fn put_span(text: &mut Vec<u8>, out: u64, input: u64) -> Result<(), NoMemory>
+    ensures { OnOk result (text.new.items ≡ text.old.items ++ span_line (record { out = out; len = 4; input = input })) }
+{
+    put_hex(text, out)?;
+    text.extend_from_slice(b" ")?;
+    put_decimal(text, WORD)?;
+    text.extend_from_slice(b" ")?;
+    put_hex(text, input)?;
+    text.extend_from_slice(b"\n")?;
+    Ok(())
 }
 
 /// Rewrites a file, or says why it is refused.

@@ -1,6 +1,6 @@
 // What the program does.
 ghost use Rattle.std.specs.Prelude.{◌≡◌, ◌≤◌, map, string_bytes, IsTrue};
-ghost use Rattle.rb_io.specs.Counts.{NeverFalls};
+ghost use Rattle.rb_io.specs.Names.{NeverFalls};
 ghost use Rattle.bolt_cli.specs.Answers.{Answers, UsageAnswers};
 ghost use Rattle.bolt_cli.specs.Words.{command_of};
 

@@ -34,8 +34,8 @@ fn is_option(word: &str) -> bool
 
 // The next argument, where it is no option, and the arguments after it.
 fn positional(arguments: Arguments<'_>) -> Option<(&str, Arguments<'_>)>
-    ensures found { IfSome result (λ r. arguments_of arguments ≡ Positional r.0.now ∷ arguments_of r.1) }
-    ensures none { IfNone result (IsNoPositional (arguments_of arguments)) }
+    ensures found { IfSome result (λ r. arguments_of arguments.entry ≡ Positional r.0.now ∷ arguments_of r.1) }
+    ensures none { IfNone result (IsNoPositional (arguments_of arguments.entry)) }
 {
     let [word, rest @ ..] = arguments.words else {
         return None;
@@ -75,12 +75,17 @@ fn positional(arguments: Arguments<'_>) -> Option<(&str, Arguments<'_>)>
 
 // No more arguments come.
 fn is_done(arguments: Arguments<'_>) -> bool
-    ensures { IsTrue result ↔ (arguments_of arguments ≡ []) }
+    ensures { IsTrue result ↔ (arguments_of arguments.entry ≡ []) }
 {
-    match arguments.words {
+    let [word, rest @ ..] = arguments.words else {
+        return true;
+    };
+    if !arguments.options || word.as_str() != "--" {
+        return false;
+    }
+    match rest {
         [] => true,
-        [word] => arguments.options && word.as_str() == "--",
-        [_, _, ..] => false,
+        [_, ..] => false,
     }
 }
 

@@ -1,0 +1,6 @@
+use Rattle.std.proofs.Common.{◌≡◌}
+use Rattle.bolt_cli.specs.Spans.{spans_from, map_text}
+use Rattle.bolt_cli.proofs.rewrite.map.Given as goal
+
+abbrev pub invariant-loop-k : goal.invariant-loop-k
+invariant-loop-k l = l.text.items ≡ map_text (spans_from l.out l.input l.k)
