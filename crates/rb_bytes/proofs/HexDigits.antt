@@ -9,9 +9,9 @@ use Rattle.rb_bytes.specs.Text.{hexadecimal}
 pub hex_onto : ℕ → ℕ → List ℕ → List ℕ
 hex_onto k n text = digits_onto k 16 false n text
 
-pub hex_onto-start : (n : ℕ) → hex_onto 64 n [] ≡ hexadecimal n
+pub hex_onto_start : (n : ℕ) → hex_onto 64 n [] ≡ hexadecimal n
 unfolding hex_onto digits
-hex_onto-start n = refl
+hex_onto_start n = refl
 
 -- the first digit
 hex_onto-last : (k n : ℕ) (text : List ℕ) → 0 < k → n / 16 ≡ 0 → hex_onto k n text ≡ digit_glyph false (n % 16) ∷ text
@@ -50,5 +50,3 @@ quotient-lt n (suc k) h lt = let e = pow-succ' 16 k in let p : suc k - 1 ≡ k =
 pub some_left : (n k : ℕ) → n < 16 ^ k → n ≢ 0 → 0 < k
 some_left n zero lt ne = absurd (ne (omega (arith, pow-zero 16)))
 some_left n (suc k) lt ne = omega arith
-
-pub ruleset hex_digits = (hex_onto-start)

@@ -1,5 +1,5 @@
 pub mod HexDigits
-pub mod Texts
-pub mod Unsigned
-pub mod Tests
-pub mod Signed
+pub mod TextAt
+pub mod UnsignedLeb
+pub mod ReaderAnswers
+pub mod SignedLeb

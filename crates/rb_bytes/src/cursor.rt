@@ -53,7 +53,7 @@ impl<'a> Cursor<'a> {
 
     /// The next `n` bytes. [`Gap::Short`] exactly where fewer are left.
     pub fn take(&mut self, n: usize) -> Result<&'a [u8], Gap>
-        ensures read { IfOk result (λ bytes. bytes_at n self.old.left ≡ Ok (bytes.now, self.new.left)) }
+        ensures read { IfOk result (λ s. bytes_at n self.old.left ≡ Ok (s.now, self.new.left)) }
         ensures gap { IfErr result (λ gap. bytes_at n self.old.left ≡ Err gap) }
         ensures passes { OnOk result (Passes n self.old self.new) }
         ensures unchanged { OnErr result (self.new ≡ self.old) }
@@ -69,7 +69,7 @@ impl<'a> Cursor<'a> {
 
     /// The next byte. [`Gap::Short`] exactly where none is left.
     pub fn u8(&mut self) -> Result<u8, Gap>
-        ensures read { IfOk result (λ number. number_at 1 self.old.left ≡ Ok (number, self.new.left)) }
+        ensures read { IfOk result (λ x. number_at 1 self.old.left ≡ Ok (x, self.new.left)) }
         ensures gap { IfErr result (λ gap. number_at 1 self.old.left ≡ Err gap) }
         ensures passes { OnOk result (Passes 1 self.old self.new) }
         ensures unchanged { OnErr result (self.new ≡ self.old) }
@@ -80,7 +80,7 @@ impl<'a> Cursor<'a> {
 
     /// The little-endian number in the next two bytes. [`Gap::Short`] exactly where fewer are left.
     pub fn u16(&mut self) -> Result<u16, Gap>
-        ensures read { IfOk result (λ number. number_at 2 self.old.left ≡ Ok (number, self.new.left)) }
+        ensures read { IfOk result (λ x. number_at 2 self.old.left ≡ Ok (x, self.new.left)) }
         ensures gap { IfErr result (λ gap. number_at 2 self.old.left ≡ Err gap) }
         ensures passes { OnOk result (Passes 2 self.old self.new) }
         ensures unchanged { OnErr result (self.new ≡ self.old) }
@@ -91,7 +91,7 @@ impl<'a> Cursor<'a> {
 
     /// The little-endian number in the next four bytes. [`Gap::Short`] exactly where fewer are left.
     pub fn u32(&mut self) -> Result<u32, Gap>
-        ensures read { IfOk result (λ number. number_at 4 self.old.left ≡ Ok (number, self.new.left)) }
+        ensures read { IfOk result (λ x. number_at 4 self.old.left ≡ Ok (x, self.new.left)) }
         ensures gap { IfErr result (λ gap. number_at 4 self.old.left ≡ Err gap) }
         ensures passes { OnOk result (Passes 4 self.old self.new) }
         ensures unchanged { OnErr result (self.new ≡ self.old) }
@@ -103,7 +103,7 @@ impl<'a> Cursor<'a> {
     /// The little-endian number in the next eight bytes. [`Gap::Short`] exactly where fewer are
     /// left.
     pub fn u64(&mut self) -> Result<u64, Gap>
-        ensures read { IfOk result (λ number. number_at 8 self.old.left ≡ Ok (number, self.new.left)) }
+        ensures read { IfOk result (λ x. number_at 8 self.old.left ≡ Ok (x, self.new.left)) }
         ensures gap { IfErr result (λ gap. number_at 8 self.old.left ≡ Err gap) }
         ensures passes { OnOk result (Passes 8 self.old self.new) }
         ensures unchanged { OnErr result (self.new ≡ self.old) }
@@ -115,9 +115,9 @@ impl<'a> Cursor<'a> {
     /// The bytes up to the next zero byte, which is passed too. [`Gap::Short`] exactly where no
     /// zero byte is left.
     pub fn text(&mut self) -> Result<&'a [u8], Gap>
-        ensures read { IfOk result (λ text. text_at self.old.left ≡ Ok (text.now, self.new.left)) }
+        ensures read { IfOk result (λ s. text_at self.old.left ≡ Ok (s.now, self.new.left)) }
         ensures gap { IfErr result (λ gap. text_at self.old.left ≡ Err gap) }
-        ensures passes { IfOk result (λ text. Passes (length text.now + 1) self.old self.new) }
+        ensures passes { IfOk result (λ s. Passes (length s.now + 1) self.old self.new) }
         ensures unchanged { OnErr result (self.new ≡ self.old) }
     {
         let Some(length) = memchr(0, self.rest) else {
@@ -134,7 +134,7 @@ impl<'a> Cursor<'a> {
     /// bytes end before it does, and [`Gap::Wide`] exactly where it is whole and its value does
     /// not fit. DWARF 5, section 7.6.
     pub fn uleb(&mut self) -> Result<u64, Gap>
-        ensures read { IfOk result (λ number. uleb_at self.old.left ≡ Ok (number, self.new.left)) }
+        ensures read { IfOk result (λ x. uleb_at self.old.left ≡ Ok (x, self.new.left)) }
         ensures gap { IfErr result (λ gap. uleb_at self.old.left ≡ Err gap) }
         ensures passes { OnOk result (Passes (leb_length self.old.left) self.old self.new) }
         ensures forward { OnOk result (self.old.place < self.new.place) }
@@ -155,7 +155,7 @@ impl<'a> Cursor<'a> {
     /// The signed LEB128 number at the front, of any length, with the refusals of
     /// [`Cursor::uleb`].
     pub fn sleb(&mut self) -> Result<i64, Gap>
-        ensures read { IfOk result (λ number. sleb_at self.old.left ≡ Ok (number, self.new.left)) }
+        ensures read { IfOk result (λ x. sleb_at self.old.left ≡ Ok (x, self.new.left)) }
         ensures gap { IfErr result (λ gap. sleb_at self.old.left ≡ Err gap) }
         ensures passes { OnOk result (Passes (leb_length self.old.left) self.old self.new) }
         ensures forward { OnOk result (self.old.place < self.new.place) }

@@ -6,8 +6,8 @@ ghost use Rattle.rb_bytes.specs.Leb.{is_last, uleb_value, sleb_value, signed_bit
 
 use crate::fault::NoMemory;
 
-/// The values of seven bits, those that a byte carries.
-const VALUES: u8 = 128;
+/// Each byte carries one digit in this base, and is below it only if it is the last.
+const BASE: u8 = 128;
 
 /// As many bytes as a number of 64 bits takes at most.
 const MAX_LENGTH: usize = 10;
@@ -16,7 +16,7 @@ const MAX_LENGTH: usize = 10;
 pub(crate) fn end_at(left: &[u8]) -> Option<usize>
     ensures { result ≡ position is_last left.now }
 {
-    left.iter().position(|byte| *byte < VALUES)
+    left.iter().position(|byte| *byte < BASE)
 }
 
 /// The value of an unsigned number's bytes, if it fits.
@@ -25,7 +25,7 @@ pub(crate) fn unsigned_value(bytes: &[u8]) -> Option<u64>
 {
     let mut value: u64 = 0;
     'bytes: for index in (0..bytes.len()).rev() {
-        value = value.checked_mul(VALUES as u64)? + (bytes[index] % VALUES) as u64;
+        value = value.checked_mul(BASE as u64)? + (bytes[index] % BASE) as u64;
     }
     Some(value)
 }
@@ -33,12 +33,8 @@ pub(crate) fn unsigned_value(bytes: &[u8]) -> Option<u64>
 fn sign_extended(byte: u8) -> i64
     ensures { result ≡ signed_bits byte }
 {
-    let bits = (byte % VALUES) as i64;
-    if bits < 64 {
-        bits
-    } else {
-        bits - VALUES as i64
-    }
+    let bits = (byte % BASE) as i64;
+    if bits < 64 { bits } else { bits - BASE as i64 }
 }
 
 /// The value of a signed number's bytes, if it fits.
@@ -49,13 +45,13 @@ pub(crate) fn signed_value(bytes: &[u8]) -> Option<i64>
     let last = bytes.len() - 1;
     let mut value = sign_extended(bytes[last]);
     'bytes: for index in (0..last).rev() {
-        value = value.checked_mul(VALUES as i64)? + (bytes[index] % VALUES) as i64;
+        value = value.checked_mul(BASE as i64)? + (bytes[index] % BASE) as i64;
     }
     Some(value)
 }
 
-#[tactic(auto, using(crate::proofs::Unsigned::spellings))]
 /// Appends the shortest spelling of an unsigned number.
+#[tactic(auto, using(crate::proofs::UnsignedLeb::spellings))]
 pub fn put_uleb(out: &mut Vec<u8>, v: u64) -> Result<(), NoMemory>
     ensures ok { OnOk result (out.new.items ≡ out.old.items ++ uleb v) }
     ensures err { OnErr result (out.new.items ≡ out.old.items) }
@@ -64,9 +60,9 @@ pub fn put_uleb(out: &mut Vec<u8>, v: u64) -> Result<(), NoMemory>
     // With this room no `push` below can fail.
     out.reserve(MAX_LENGTH)?;
     let mut rest = v;
-    'bytes: while rest >= VALUES as u64 {
-        out.push((rest % VALUES as u64) as u8 + VALUES).unwrap();
-        rest /= VALUES as u64;
+    'bytes: while rest >= BASE as u64 {
+        out.push((rest % BASE as u64) as u8 + BASE).unwrap();
+        rest /= BASE as u64;
     }
     out.push(rest as u8).unwrap();
     Ok(())
@@ -83,7 +79,7 @@ fn fits_seven_bits(value: i64) -> bool
 fn low_bits(value: i64) -> u8
     ensures { result ≡ low_bits value }
 {
-    (value.cast_unsigned() % VALUES as u64) as u8
+    (value.cast_unsigned() % BASE as u64) as u8
 }
 
 /// The bits above the seven lowest, the sign among them.
@@ -93,8 +89,8 @@ fn high_bits(value: i64) -> i64
     value >> 7
 }
 
-#[tactic(auto, using(crate::proofs::Signed::spellings))]
 /// Appends the shortest spelling of a signed number.
+#[tactic(auto, using(crate::proofs::SignedLeb::spellings))]
 pub fn put_sleb(out: &mut Vec<u8>, v: i64) -> Result<(), NoMemory>
     ensures ok { OnOk result (out.new.items ≡ out.old.items ++ sleb v) }
     ensures err { OnErr result (out.new.items ≡ out.old.items) }
@@ -104,7 +100,7 @@ pub fn put_sleb(out: &mut Vec<u8>, v: i64) -> Result<(), NoMemory>
     out.reserve(MAX_LENGTH)?;
     let mut rest = v;
     'bytes: while !fits_seven_bits(rest) {
-        out.push(low_bits(rest) + VALUES).unwrap();
+        out.push(low_bits(rest) + BASE).unwrap();
         rest = high_bits(rest);
     }
     out.push(low_bits(rest)).unwrap();

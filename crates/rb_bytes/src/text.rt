@@ -20,8 +20,8 @@ fn hex_digit(digit: u8) -> u8
     }
 }
 
-#[tactic(auto, using(crate::proofs::HexDigits::hex_digits))]
 /// Appends the number in lower-case hexadecimal, with no leading zeros; zero is `0`.
+#[tactic(auto, using(crate::proofs::HexDigits::hex_onto_start))]
 pub fn put_hex(out: &mut Vec<u8>, v: u64) -> Result<(), NoMemory>
     ensures ok { OnOk result (out.new.items ≡ out.old.items ++ hexadecimal v) }
     ensures err { OnErr result (out.new.items ≡ out.old.items) }

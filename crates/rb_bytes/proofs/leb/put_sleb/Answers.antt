@@ -2,7 +2,7 @@ use Rattle.std.proofs.Common.{◌≡◌, ◌+◌, ◌∷◌, ◌++◌, FitsSigne
 use Rattle.std.proofs.lemmas.Int.{to_z-of_z}
 use Rattle.std.specs.Int.{w64}
 use Rattle.rb_bytes.specs.Leb.{sleb}
-use Rattle.rb_bytes.proofs.Signed.{sleb-next}
+use Rattle.rb_bytes.proofs.SignedLeb.{sleb-next}
 use Rattle.rb_bytes.proofs.leb.put_sleb.Goals as goal
 
 pub bytes-preserved : goal.bytes-preserved

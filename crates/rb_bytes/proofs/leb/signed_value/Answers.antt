@@ -1,5 +1,5 @@
 use Rattle.std.proofs.Common.{◌<◌, length, arith}
-use Rattle.rb_bytes.proofs.Signed.{sleb_value-too_large}
+use Rattle.rb_bytes.proofs.SignedLeb.{sleb_value-too_large}
 use Rattle.rb_bytes.proofs.leb.signed_value.Goals as goal
 
 pub returns-in_err-value : goal.returns-in_err-value

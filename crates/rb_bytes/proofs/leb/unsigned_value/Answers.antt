@@ -1,6 +1,6 @@
 use Rattle.std.proofs.Common.{◌≡◌, arith}
 use Rattle.rb_bytes.specs.Leb.{uleb_value}
-use Rattle.rb_bytes.proofs.Unsigned.{uleb_value-drop-mul-le}
+use Rattle.rb_bytes.proofs.UnsignedLeb.{uleb_value-drop-mul-le}
 use Rattle.rb_bytes.proofs.leb.unsigned_value.Goals as goal
 
 pub returns-in_err-value : goal.returns-in_err-value

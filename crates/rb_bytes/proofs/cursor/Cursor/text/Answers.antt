@@ -1,4 +1,4 @@
-use Rattle.rb_bytes.proofs.Texts.{text_at-found, text_at-none}
+use Rattle.rb_bytes.proofs.TextAt.{text_at-found, text_at-none}
 use Rattle.rb_bytes.proofs.cursor.Cursor.text.Goals as goal
 
 pub returns-in_default-clause-gap : goal.returns-in_default-clause-gap

@@ -4,7 +4,7 @@ use Rattle.std.proofs.lemmas.List.{take_at, drop_at}
 use Rattle.std.proofs.Math.Nat.{pow-succ', pow-zero}
 use Rattle.std.proofs.lemmas.Grind.{common_steps}
 use Rattle.rb_bytes.specs.declared.gap.Gap.TheVariants.{Short, Wide}
-use Rattle.rb_bytes.proofs.Tests.{ok_from_tests}
+use Rattle.rb_bytes.proofs.ReaderAnswers.{ok_from_tests}
 use Rattle.rb_bytes.specs.Leb.{leb_length, uleb_value, uleb_at, uleb_within, uleb, IsShortestUleb}
 
 -- the bytes from a place on have no greater value

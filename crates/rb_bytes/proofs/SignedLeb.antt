@@ -9,7 +9,7 @@ use Rattle.std.proofs.lemmas.Grind.{common_steps}
 use Rattle.std.specs.Prelude.{FitsSigned}
 use Rattle.std.specs.Int.{w64}
 use Rattle.rb_bytes.specs.declared.gap.Gap.TheVariants.{Short, Wide}
-use Rattle.rb_bytes.proofs.Tests.{ok_from_tests}
+use Rattle.rb_bytes.proofs.ReaderAnswers.{ok_from_tests}
 use Rattle.rb_bytes.specs.Leb.{leb_length, signed_bits, sleb_from, sleb_value, sleb_at, low_bits, high_bits, fits_seven_bits, fits_i64, sleb_within, sleb, IsShortestSleb}
 
 -- seven bits below a number
