@@ -2,27 +2,11 @@
 //
 // A format's word is None where no word has these fields: where a register is none of the 32, or the
 // immediate is out of reach or not a multiple of its unit.
-ghost use Rattle.std.specs.Prelude.{◌≡◌, ◌≢◌, ◌<◌, ◌*◌, ◌^◌, ℕ, IfSome, IfNone};
+ghost use Rattle.std.specs.Prelude.{◌<◌, ◌^◌, ℕ, IfSome, IfNone};
 ghost use Rattle.rv_code.specs.FullRows.{FormatR, FormatI, FormatS, FormatB, FormatU, FormatJ, Shift64, Shift32};
-ghost use Rattle.rv_code.specs.Bits.{signed_by};
 
+use crate::operand::unsigned;
 use rv_code::field::bits;
-
-/// The number that is `imm` once its top bit, which is worth `half`, is read as a sign; None where there
-/// is none.
-pub fn unsigned(imm: i64, half: u32) -> Option<u32>
-    requires { half < 2 ^ 31 }
-    ensures below { IfSome result (λ n. n < 2 * half) }
-    ensures found { IfSome result (λ n. signed_by half n ≡ imm) }
-    ensures none { IfNone result ((n : ℕ) → n < 2 * half → signed_by half n ≢ imm) }
-{
-    let half = i64::from(half);
-    if imm < -half || half <= imm {
-        return None;
-    }
-    let number = if imm < 0 { imm + 2 * half } else { imm };
-    Some(number as u32)
-}
 
 /// A word of format R.
 pub fn format_r(opcode: u32, funct3: u32, funct7: u32, rd: u8, rs1: u8, rs2: u8) -> Option<u32>

@@ -1,5 +1,10 @@
 //! Writes instructions of RV64IMC.
 #![tactic(auto)]
 
+mod arithmetic;
+mod constant;
 mod format;
 mod full;
+mod jump;
+mod memory;
+mod operand;
