@@ -5,6 +5,7 @@ mod arithmetic;
 mod constant;
 mod format;
 mod full;
+mod half;
 mod jump;
 mod memory;
 mod operand;
