@@ -116,19 +116,19 @@ pub fn format_b(opcode: u32, funct3: u32, rs1: u8, rs2: u8, imm: i64) -> Option<
     if rs1 >= 32 || rs2 >= 32 {
         return None;
     }
-    let number = unsigned(imm, 1 << 12)?;
-    if number % 2 != 0 {
+    let offset = unsigned(imm, 1 << 12)?;
+    if offset % 2 != 0 {
         return None;
     }
     Some(
         opcode
-            + (bits(number, 11, 1) << 7)
-            + (bits(number, 1, 4) << 8)
+            + (bits(offset, 11, 1) << 7)
+            + (bits(offset, 1, 4) << 8)
             + (funct3 << 12)
             + ((rs1 as u32) << 15)
             + ((rs2 as u32) << 20)
-            + (bits(number, 5, 6) << 25)
-            + (bits(number, 12, 1) << 31),
+            + (bits(offset, 5, 6) << 25)
+            + (bits(offset, 12, 1) << 31),
     )
 }
 

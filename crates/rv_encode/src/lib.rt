@@ -4,8 +4,13 @@
 mod arithmetic;
 mod constant;
 mod format;
+mod front;
 mod full;
 mod half;
 mod jump;
 mod memory;
 mod operand;
+mod word;
+
+pub use front::encode;
+pub use word::Word;

@@ -1,4 +1,4 @@
-use Rattle.std.proofs.Common.{rules, arith, ap, ◌∙◌, ◌≡◌, ℕ, ◌+◌, ◌*◌, ◌<◌, ◌/◌, ◌%◌, ◌^◌, ℤ}
+use Rattle.std.proofs.Common.{rules, arith, ap, ◌∙◌, ◌≡◌, ℕ, ◌+◌, ◌*◌, ◌<◌, ◌%◌, ◌^◌, ℤ}
 use Rattle.rv_code.specs.Bits.{field, signed}
 use Rattle.rv_code.specs.HalfRows.{C_J, jump_offset}
 use Rattle.rv_code.specs.declared.inst.Inst.TheVariants.{Jal}
