@@ -2,27 +2,11 @@
 //
 // A format's word is None where no word has these fields: where a register is none of the 32, or the
 // immediate is out of reach or not a multiple of its unit.
-ghost use Rattle.std.specs.Prelude.{◌≡◌, ◌≢◌, ◌<◌, ◌*◌, ◌^◌, ℕ, IfSome, IfNone};
+ghost use Rattle.std.specs.Prelude.{◌<◌, ◌^◌, ℕ, IfSome, IfNone};
 ghost use Rattle.rv_code.specs.FullRows.{FormatR, FormatI, FormatS, FormatB, FormatU, FormatJ, Shift64, Shift32};
-ghost use Rattle.rv_code.specs.Bits.{signed_by};
 
+use crate::operand::unsigned;
 use rv_code::field::bits;
-
-/// The number that is `imm` once its top bit, which is worth `half`, is read as a sign; None where there
-/// is none.
-pub fn unsigned(imm: i64, half: u32) -> Option<u32>
-    requires { half < 2 ^ 31 }
-    ensures below { IfSome result (λ n. n < 2 * half) }
-    ensures found { IfSome result (λ n. signed_by half n ≡ imm) }
-    ensures none { IfNone result ((n : ℕ) → n < 2 * half → signed_by half n ≢ imm) }
-{
-    let half = i64::from(half);
-    if imm < -half || half <= imm {
-        return None;
-    }
-    let number = if imm < 0 { imm + 2 * half } else { imm };
-    Some(number as u32)
-}
 
 /// A word of format R.
 pub fn format_r(opcode: u32, funct3: u32, funct7: u32, rd: u8, rs1: u8, rs2: u8) -> Option<u32>
@@ -132,19 +116,19 @@ pub fn format_b(opcode: u32, funct3: u32, rs1: u8, rs2: u8, imm: i64) -> Option<
     if rs1 >= 32 || rs2 >= 32 {
         return None;
     }
-    let number = unsigned(imm, 1 << 12)?;
-    if number % 2 != 0 {
+    let offset = unsigned(imm, 1 << 12)?;
+    if offset % 2 != 0 {
         return None;
     }
     Some(
         opcode
-            + (bits(number, 11, 1) << 7)
-            + (bits(number, 1, 4) << 8)
+            + (bits(offset, 11, 1) << 7)
+            + (bits(offset, 1, 4) << 8)
             + (funct3 << 12)
             + ((rs1 as u32) << 15)
             + ((rs2 as u32) << 20)
-            + (bits(number, 5, 6) << 25)
-            + (bits(number, 12, 1) << 31),
+            + (bits(offset, 5, 6) << 25)
+            + (bits(offset, 12, 1) << 31),
     )
 }
 

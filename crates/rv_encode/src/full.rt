@@ -1,5 +1,6 @@
 // Four-byte instructions.
-ghost use Rattle.std.specs.Prelude.{◌<◌, ◌^◌, ℕ, IfSome, IfNone};
+ghost use Rattle.std.specs.Prelude.{◌≡◌, ℕ, IfSome, IfNone};
+ghost use Rattle.rv_code.specs.Bits.{field};
 ghost use Rattle.rv_code.specs.FullRows.{IsFull};
 
 use crate::format::{
@@ -13,6 +14,7 @@ use rv_code::opcode::{
 /// The word of an instruction, or None where no word is it.
 pub fn encode_full(inst: &Inst) -> Option<u32>
     ensures found { IfSome result (λ word. IsFull word inst.now) }
+    ensures not_compressed { IfSome result (λ word. field word 0 2 ≡ 3) }
     ensures none { IfNone result ((word : ℕ) → IsFull word inst.now → ⊥) }
 {
     match *inst {

@@ -1,5 +1,16 @@
 //! Writes instructions of RV64IMC.
 #![tactic(auto)]
 
+mod arithmetic;
+mod constant;
 mod format;
+mod front;
 mod full;
+mod half;
+mod jump;
+mod memory;
+mod operand;
+mod word;
+
+pub use front::encode;
+pub use word::Word;

@@ -1,0 +1,31 @@
+use Rattle.std.proofs.Common.{arith, inl, inr, refl, subst, sym, ◌≡◌, ℕ, ◌+◌, ◌*◌, ◌/◌, ◌%◌, ◌^◌, Option, Some, None, IsSomeAnd}
+use Rattle.rv_code.specs.FullRows.{IsFull}
+use Rattle.rv_code.specs.declared.inst.Inst.{Inst}
+use Rattle.rv_encode.proofs.front.encode.Goals as goal
+
+-- where no word is the instruction, no two halfwords are
+no_full : (next : Option ℕ) (half : ℕ) (inst : Inst) → ((word : ℕ) → IsFull word inst → ⊥) → IsSomeAnd next (λ upper. IsFull (upper * 2 ^ 16 + half) inst) → ⊥
+no_full (Some upper) half inst none row = none (upper * 2 ^ 16 + half) row
+no_full None half inst none row = row
+
+pub returns-in-None-clause-none : goal.returns-in-None-clause-none
+returns-in-None-clause-none c = λ half next d. elim d [
+  | inl p ↦ c.in-None.ensures.none half p.row
+  | inr p ↦ let differ = rw c.in-Half.is at p.four_bytes in absurd (omega arith)
+]
+
+pub returns-in-Some-encode_full-clause-found : goal.returns-in-Some-encode_full-clause-found
+returns-in-Some-encode_full-clause-found c =
+    let w : ℕ = c.in-Some-encode_full.word in
+    let joined : w / 65536 * 65536 + w % 65536 ≡ w = omega arith in
+    inr (record {
+      is_full = omega (arith, c.in-Some-encode_full.ensures.not_compressed);
+      four_bytes = refl;
+      row = subst (λ (m : ℕ). IsFull m c.args.inst.now) (sym joined) c.in-Some-encode_full.ensures.found;
+    })
+
+pub returns-in-None-encode_full-clause-none : goal.returns-in-None-encode_full-clause-none
+returns-in-None-encode_full-clause-none c = λ half next d. elim d [
+  | inl p ↦ let differ = rw c.in-Full.is at p.two_bytes in absurd (omega arith)
+  | inr p ↦ no_full next half c.args.inst.now c.in-None-encode_full.ensures.none p.row
+]

@@ -1,0 +1,57 @@
+// Operands as the numbers of their fields.
+ghost use Rattle.std.specs.Prelude.{◌≡◌, ◌≢◌, ◌⊎◌, ◌<◌, ◌≤◌, ◌+◌, ◌*◌, ◌^◌, ◌<ℤ◌, ◌≤ℤ◌, ℕ, pos, IfSome, IfNone};
+ghost use Rattle.std.specs.Int.RustNames.{int_rem};
+ghost use Rattle.rv_code.specs.Bits.{signed_by};
+
+/// The number that is `imm` once its top bit, which is worth `half`, is read as a sign; None where there
+/// is none.
+pub fn unsigned(imm: i64, half: u32) -> Option<u32>
+    requires { half < 2 ^ 31 }
+    ensures below { IfSome result (λ n. n < 2 * half) }
+    ensures found { IfSome result (λ n. signed_by half n ≡ imm) }
+    ensures none { IfNone result ((n : ℕ) → n < 2 * half → signed_by half n ≢ imm) }
+{
+    let half = i64::from(half);
+    if imm < -half || half <= imm {
+        return None;
+    }
+    let number = if imm < 0 { imm + 2 * half } else { imm };
+    Some(number as u32)
+}
+
+/// An offset from 0 to before `end` that is a multiple of `unit`; None for any other.
+pub fn multiple(imm: i64, unit: i64, end: i64) -> Option<u32>
+    requires unit { pos 0 <ℤ unit }
+    requires end { end ≤ℤ pos 1024 }
+    ensures found { IfSome result (λ n. pos n ≡ imm) }
+    ensures whole { IfSome result (λ n. int_rem imm unit ≡ pos 0) }
+    ensures below { IfSome result (λ n. imm <ℤ end) }
+    ensures none { IfNone result ((imm <ℤ pos 0) ⊎ ((end ≤ℤ imm) ⊎ (int_rem imm unit ≢ pos 0))) }
+{
+    if imm < 0 || imm >= end || imm % unit != 0 {
+        return None;
+    }
+    Some(imm as u32)
+}
+
+/// A register in a field of five bits, or None where there is no such register.
+pub fn five_bits(register: u8) -> Option<u32>
+    ensures found { IfSome result (λ n. (n < 32) × (n ≡ register)) }
+    ensures none { IfNone result (32 ≤ register) }
+{
+    if register >= 32 {
+        return None;
+    }
+    Some(register as u32)
+}
+
+/// One of the registers 8 to 15 in a field of three bits, or None for any other.
+pub fn three_bits(register: u8) -> Option<u32>
+    ensures found { IfSome result (λ n. (n < 8) × (8 + n ≡ register)) }
+    ensures none { IfNone result ((register < 8) ⊎ (16 ≤ register)) }
+{
+    if register < 8 || register >= 16 {
+        return None;
+    }
+    Some((register - 8) as u32)
+}
