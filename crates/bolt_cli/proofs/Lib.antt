@@ -8,3 +8,5 @@ pub mod MovedBytes
 pub mod SpanLists
 pub mod StraightWords
 pub mod MovedArea
+pub mod FirstForms
+pub mod Answering

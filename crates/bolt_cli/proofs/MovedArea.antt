@@ -20,7 +20,6 @@ grown p size = record p { filesz = size; memsz = size }
 module _ (file written area tail : List ℕ) (front start a entry p n : ℕ)
     (within : front ≤ length file) (header : 64 ≤ front) (table : a + 56 ≤ front) (code_within : p + n ≤ length file)
     (made : IsArea area (take front file) start (take n (drop p file))) (patched : IsPatched (area ++ tail) written a entry (length area)) where
-
   front_length : length (take front file) ≡ front
   front_length = grind (arith, common_steps)
 
@@ -68,20 +67,21 @@ module _ (file written area tail : List ℕ) (front start a entry p n : ℕ)
 
   pub is_moved : start ≡ new_offset file → n ≡ (text_section file).size → p ≡ offset_of file (text_section file).addr → entry ≡ new_start file → a ≡ e_phoff file → e_phnum file ≡ 1 → IsMoved file written
   is_moved start_is n_is p_is entry_is a_is one = record {
-      entry = patched.entry_is ∙ entry_is;
-      phoff = patched.phoff_kept ∙ front_number 32 8 (omega arith);
-      phnum = patched.phnum_kept ∙ front_number 56 2 (omega arith) ∙ one;
-      segment =
-          ap (segment_at written) (sym a_is)
-          ∙ segment_made
-          ∙ ap (λ (m : ℕ). grown (segment_at file m) (start + n)) a_is
-          ∙ ap (λ (m : ℕ). grown (code_segment file) (m + n)) start_is
-          ∙ ap (λ (m : ℕ). grown (code_segment file) (new_offset file + m)) n_is;
-      whole = subst (λ (m : ℕ). new_offset file + m ≤ length written) n_is (subst (λ (m : ℕ). m + n ≤ length written) start_is whole_made);
-      code = λ j below.
-          ap (λ (m : ℕ). get_or written (m + j) 0) (sym start_is)
-          ∙ code_made j (subst (λ (m : ℕ). j < m) (sym n_is) below)
-          ∙ ap (λ (m : ℕ). get_or file (m + j) 0) p_is }
+    entry = patched.entry_is ∙ entry_is;
+    phoff = patched.phoff_kept ∙ front_number 32 8 (omega arith);
+    phnum = patched.phnum_kept ∙ front_number 56 2 (omega arith) ∙ one;
+    segment =
+        ap (segment_at written) (sym a_is)
+        ∙ segment_made
+        ∙ ap (λ (m : ℕ). grown (segment_at file m) (start + n)) a_is
+        ∙ ap (λ (m : ℕ). grown (code_segment file) (m + n)) start_is
+        ∙ ap (λ (m : ℕ). grown (code_segment file) (new_offset file + m)) n_is;
+    whole = subst (λ (m : ℕ). new_offset file + m ≤ length written) n_is (subst (λ (m : ℕ). m + n ≤ length written) start_is whole_made);
+    code = λ j below.
+        ap (λ (m : ℕ). get_or written (m + j) 0) (sym start_is)
+        ∙ code_made j (subst (λ (m : ℕ). j < m) (sym n_is) below)
+        ∙ ap (λ (m : ℕ). get_or file (m + j) 0) p_is;
+  }
 
 -- the code as a part of the file, from its place to its end
 code_part : (xs : List ℕ) (p n : ℕ) → take ((p + n) - p) (drop p xs) ≡ take n (drop p xs)
@@ -97,13 +97,13 @@ form_moved file written area tail s t a entry form s_is t_is a_is entry_is made 
     let code : HasFirstCode file s t = subst (HasFirstCode file s) (sym t_is) half in
     let p : ℕ = t.addr - s.vaddr in
     let area_made : IsArea area (take s.filesz file) (entry - s.vaddr) (take t.size (drop p file)) =
-        subst (IsArea area (take s.filesz file) (entry - s.vaddr)) (code_part file p t.size) made in
+    subst (IsArea area (take s.filesz file) (entry - s.vaddr)) (code_part file p t.size) made in
     let table : a + 56 ≤ s.filesz = subst (λ (m : ℕ). m + 56 ≤ s.filesz) (sym a_is) segment.holds_table in
     let inside : p + t.size ≤ length file = omega (arith, segment.whole, segment.same_sizes, code.ends_with, code.starts_inside) in
     is_moved file written area tail s.filesz (entry - s.vaddr) a entry p t.size segment.whole segment.holds_header table inside area_made patched
-        (ap (λ (m : ℕ). m - s.vaddr) entry_is ∙ ap (λ (q : Segment). rounded_up 16 (end_of q) - q.vaddr) s_is)
-        (ap (λ (h : SectionHeader). h.size) t_is)
-        (ap (λ (h : SectionHeader). h.addr - s.vaddr) t_is ∙ ap (λ (q : Segment). (text_section file).addr - q.vaddr) s_is)
-        (entry_is ∙ ap (λ (q : Segment). rounded_up 16 (end_of q)) s_is)
-        a_is
-        form.header.one_segment
+    (ap (λ (m : ℕ). m - s.vaddr) entry_is ∙ ap (λ (q : Segment). rounded_up 16 (end_of q) - q.vaddr) s_is)
+    (ap (λ (h : SectionHeader). h.size) t_is)
+    (ap (λ (h : SectionHeader). h.addr - s.vaddr) t_is ∙ ap (λ (q : Segment). (text_section file).addr - q.vaddr) s_is)
+    (entry_is ∙ ap (λ (q : Segment). rounded_up 16 (end_of q)) s_is)
+    a_is
+    form.header.one_segment

@@ -11,19 +11,19 @@ use Rattle.bolt_cli.specs.Moved.{IsArea, IsPatched}
 -- a program header is made of its numbers
 pub segment_at-same : (xs ys : List ℕ) (a : ℕ) → ((o n : ℕ) → a ≤ o → o + n ≤ a + 56 → number_at xs o n ≡ number_at ys o n) → segment_at xs a ≡ segment_at ys a
 segment_at-same xs ys a same = λ i. record {
-    kind = same a 4 (omega arith) (omega arith) i;
-    flags = same (a + 4) 4 (omega arith) (omega arith) i;
-    offset = same (a + 8) 8 (omega arith) (omega arith) i;
-    vaddr = same (a + 16) 8 (omega arith) (omega arith) i;
-    paddr = same (a + 24) 8 (omega arith) (omega arith) i;
-    filesz = same (a + 32) 8 (omega arith) (omega arith) i;
-    memsz = same (a + 40) 8 (omega arith) (omega arith) i;
-    align = same (a + 48) 8 (omega arith) (omega arith) i }
+  kind = same a 4 (omega arith) (omega arith) i;
+  flags = same (a + 4) 4 (omega arith) (omega arith) i;
+  offset = same (a + 8) 8 (omega arith) (omega arith) i;
+  vaddr = same (a + 16) 8 (omega arith) (omega arith) i;
+  paddr = same (a + 24) 8 (omega arith) (omega arith) i;
+  filesz = same (a + 32) 8 (omega arith) (omega arith) i;
+  memsz = same (a + 40) 8 (omega arith) (omega arith) i;
+  align = same (a + 48) 8 (omega arith) (omega arith) i;
+}
 
 -- The five numbers that are written over: the entry point, the place and the number of section headers, and
 -- both sizes of the segment.
 module _ (w : List ℕ) (a entry table size : ℕ) (behind : 64 ≤ a) (within : a + 56 ≤ length w) (entry_fits : entry < 256 ^ 8) (size_fits : size < 256 ^ 8) where
-
   abbrev first : List ℕ
   first = patched_number 24 8 entry w
 
@@ -104,20 +104,22 @@ module _ (w : List ℕ) (a entry table size : ℕ) (behind : 64 ≤ a) (within :
 
   segment_there : segment_at fifth a ≡ record (segment_at w a) { filesz = size; memsz = size }
   segment_there = λ i. record {
-      kind = kept a 4 (omega arith) (inl (omega arith)) i;
-      flags = kept (a + 4) 4 (omega arith) (inl (omega arith)) i;
-      offset = kept (a + 8) 8 (omega arith) (inl (omega arith)) i;
-      vaddr = kept (a + 16) 8 (omega arith) (inl (omega arith)) i;
-      paddr = kept (a + 24) 8 (omega arith) (inl (omega arith)) i;
-      filesz = filesz_there i;
-      memsz = memsz_there i;
-      align = kept (a + 48) 8 (omega arith) (inr (omega arith)) i }
+    kind = kept a 4 (omega arith) (inl (omega arith)) i;
+    flags = kept (a + 4) 4 (omega arith) (inl (omega arith)) i;
+    offset = kept (a + 8) 8 (omega arith) (inl (omega arith)) i;
+    vaddr = kept (a + 16) 8 (omega arith) (inl (omega arith)) i;
+    paddr = kept (a + 24) 8 (omega arith) (inl (omega arith)) i;
+    filesz = filesz_there i;
+    memsz = memsz_there i;
+    align = kept (a + 48) 8 (omega arith) (inr (omega arith)) i;
+  }
 
   pub patched_five : IsPatched w fifth a entry size
   patched_five = record {
-      entry_is = entry_there;
-      phoff_kept = in_header 32 8 (omega arith) ∙ header_beside 32 8 (inr (omega arith)) (inl (omega arith)) (inl (omega arith));
-      phnum_kept = in_header 56 2 (omega arith) ∙ header_beside 56 2 (inr (omega arith)) (inr (omega arith)) (inl (omega arith));
-      segment_is = segment_there;
-      length_kept = fifth_length;
-      bytes_kept = byte_kept }
+    entry_is = entry_there;
+    phoff_kept = in_header 32 8 (omega arith) ∙ header_beside 32 8 (inr (omega arith)) (inl (omega arith)) (inl (omega arith));
+    phnum_kept = in_header 56 2 (omega arith) ∙ header_beside 56 2 (inr (omega arith)) (inr (omega arith)) (inl (omega arith));
+    segment_is = segment_there;
+    length_kept = fifth_length;
+    bytes_kept = byte_kept;
+  }

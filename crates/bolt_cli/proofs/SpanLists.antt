@@ -17,9 +17,9 @@ unfolding spans_from
 spans_more out input zero = ap (λ (s : Span). s ∷ []) (same_span out (out + 4 * 0) input (input + 4 * 0) (omega arith) (omega arith))
 spans_more out input (suc k) =
     ap (λ (ss : List Span). span out input ∷ ss)
-        (spans_more (out + 4) (input + 4) k
-        ∙ ap (λ (s : Span). spans_from (out + 4) (input + 4) k ++ s ∷ [])
-            (same_span (out + 4 + 4 * k) (out + 4 * suc k) (input + 4 + 4 * k) (input + 4 * suc k) (omega arith) (omega arith)))
+    (spans_more (out + 4) (input + 4) k
+    ∙ ap (λ (s : Span). spans_from (out + 4) (input + 4) k ++ s ∷ [])
+    (same_span (out + 4 + 4 * k) (out + 4 * suc k) (input + 4 + 4 * k) (input + 4 * suc k) (omega arith) (omega arith)))
 
 pub map_text_none : (out input : ℕ) → map_text (spans_from out input 0) ≡ []
 unfolding spans_from

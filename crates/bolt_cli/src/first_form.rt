@@ -19,6 +19,7 @@ pub const HEADER_SIZE: usize = 64;
 /// The type of an executable file, and the machine RISC-V. gABI, "ELF Header"; psABI, "File
 /// Header".
 const ET_EXEC: u16 = 2;
+
 const EM_RISCV: u16 = 0xf3;
 
 /// The end of the addresses that a segment may have.
@@ -80,13 +81,20 @@ fn has_first_segment(file: &[u8], segment: &Segment) -> bool
     if segment.memsz >= ADDRESS_END - segment.vaddr || segment.filesz > file.len() as u64 {
         return false;
     }
-    segment.filesz >= HEADER_SIZE as u64 && lies_within(u64_at(file, 0x20), PHDR_SIZE as u64, segment.filesz as usize)
+    segment.filesz >= HEADER_SIZE as u64
+        && lies_within(
+            u64_at(file, 0x20),
+            PHDR_SIZE as u64,
+            segment.filesz as usize,
+        )
 }
 
 fn lies_in_file(file: &[u8], section: &SectionHeader) -> bool
     ensures { IsTrue result ↔ LiesInFile file.now section.now }
 {
-    section.kind == SHT_NOBITS || section.size == 0 || lies_within(section.offset, section.size, file.len())
+    section.kind == SHT_NOBITS
+        || section.size == 0
+        || lies_within(section.offset, section.size, file.len())
 }
 
 /// The bytes of a section that lies in the file.
@@ -220,7 +228,11 @@ fn has_first_code(file: &[u8], segment: &Segment, text: &SectionHeader) -> bool
     if text.addr > end || text.size != end - text.addr || u64_at(file, 0x18) != text.addr {
         return false;
     }
-    is_straight_code(file, (text.addr - segment.vaddr) as usize, text.size as usize)
+    is_straight_code(
+        file,
+        (text.addr - segment.vaddr) as usize,
+        text.size as usize,
+    )
 }
 
 impl FirstForm {
@@ -235,8 +247,9 @@ impl FirstForm {
         if !has_first_header(file) {
             return None;
         }
-        let segment = Segment::at(file, u64_at(file, 0x20) as usize);
+        let segments = u64_at(file, 0x20) as usize;
         let sections = u64_at(file, 0x28) as usize;
+        let segment = Segment::at(file, segments);
         let null = SectionHeader::at(file, sections);
         let text = SectionHeader::at(file, sections + SHDR_SIZE);
         let names = SectionHeader::at(file, sections + 2 * SHDR_SIZE);

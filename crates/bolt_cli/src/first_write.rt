@@ -24,15 +24,21 @@ const TABLE_ALIGN: u64 = 8;
 
 /// The names that are added behind those of the input.
 const ADDED_NAMES: &[u8] = b".old.text\0.text\0";
+
 const OLD_TEXT_LENGTH: usize = 10;
 
 /// The offsets of fields in the file's header and in a program header. gABI, "ELF Header" and
 /// "Program Header".
 const E_ENTRY: usize = 0x18;
+
 const E_PHOFF: usize = 0x20;
+
 const E_SHOFF: usize = 0x28;
+
 const E_SHNUM: usize = 0x3c;
+
 const P_FILESZ: usize = 0x20;
+
 const P_MEMSZ: usize = 0x28;
 
 /// The address of the new code: the segment's end, rounded up.
@@ -184,6 +190,12 @@ pub fn write_moved(alloc: Global, file: &[u8], form: &FirstForm) -> Result<Vec<u
     let tail = write_tail(alloc, file, form, &header, size)?;
     written.extend_from_slice(&tail.bytes)?;
     let segments_at = u64_at(file, E_PHOFF) as usize;
-    patch(&mut written, segments_at, address, tail.table_at, size as u64);
+    patch(
+        &mut written,
+        segments_at,
+        address,
+        tail.table_at,
+        size as u64,
+    );
     Ok(written)
 }

@@ -6,6 +6,8 @@ mod first_write;
 mod lines;
 mod rewrite;
 mod status;
+#[cfg(test)]
+mod tests;
 mod tool;
 mod words;
 

@@ -4,6 +4,7 @@ ghost use Rattle.std.specs.Prelude.{◌≡◌, ◌≢◌, ◌⊎◌, ◌↔◌, 
 ghost use Rattle.rb_io.specs.Counts.{Rose};
 ghost use Rattle.rb_io.specs.Names.{Unchanged, NeverFalls};
 ghost use Rattle.bolt_cli.specs.FirstForm.{IsFirstForm};
+ghost use Rattle.bolt_cli.specs.Form.{IsFormOf};
 ghost use Rattle.bolt_cli.specs.Refused.{IsRefused, IsAccepted, IsElf, file_limit};
 ghost use Rattle.bolt_cli.specs.Rewritten.{IsRewritten};
 ghost use Rattle.bolt_cli.specs.Spans.{span_line, spans_from, spans_of, map_text, count_of, new_start};
@@ -116,6 +117,38 @@ fn put_span(text: &mut Vec<u8>, out: u64, input: u64) -> Result<(), NoMemory>
     Ok(())
 }
 
+// Moves the code of a file of the first form.
+fn move_code(alloc: Global, file: &[u8], form: &FirstForm) -> Result<Rewritten, NoMemory>
+    requires limit { length file.now ≤ file_limit }
+    requires is_first { IsFirstForm file.now }
+    requires parts { IsFormOf file.now form.now }
+    ensures written { IfOk result (λ r. IsRewritten file.now r.file.items) }
+    ensures map { IfOk result (λ r. r.map.items ≡ map_text (spans_of file.now)) }
+    ensures summary { IfOk result (λ r. r.summary.items ≡ summary_of file.now) }
+{
+    let count = form.text.size / WORD;
+    let counts = Summary {
+        functions: 1,
+        instructions: count,
+        bytes: WORD * count,
+        hot: 0,
+        ignored: 0,
+    };
+    let moved = write_moved(alloc, file, form)?;
+    let map = map(
+        alloc,
+        new_code_address(&form.segment),
+        form.text.addr,
+        count,
+    )?;
+    let summary = lines::moved(alloc, &counts)?;
+    Ok(Rewritten {
+        file: moved,
+        map,
+        summary,
+    })
+}
+
 /// Rewrites a file, or says why it is refused.
 fn rewrite_file(alloc: Global, file: &[u8], profile: &[u8]) -> Result<Rewritten, Refusal>
     requires file { length file.now ≤ file_limit }
@@ -132,23 +165,16 @@ fn rewrite_file(alloc: Global, file: &[u8], profile: &[u8]) -> Result<Rewritten,
     if file.len() < crate::first_form::HEADER_SIZE {
         return Err(Refusal::Fault(Fault::at(FaultKind::Truncated, 0)));
     }
-    let form = match FirstForm::read(file) {
-        Some(form) if profile.is_empty() => form,
-        _ => return Err(Refusal::Fault(Fault::at(FaultKind::NotBuilt, 0))),
+    if !profile.is_empty() {
+        return Err(Refusal::Fault(Fault::at(FaultKind::NotBuilt, 0)));
+    }
+    let Some(form) = FirstForm::read(file) else {
+        return Err(Refusal::Fault(Fault::at(FaultKind::NotBuilt, 0)));
     };
-    let count = form.text.size / WORD;
-    let summary = Summary {
-        functions: 1,
-        instructions: count,
-        bytes: WORD * count,
-        hot: 0,
-        ignored: 0,
-    };
-    Ok(Rewritten {
-        file: write_moved(alloc, file, &form)?,
-        map: map(alloc, new_code_address(&form.segment), form.text.addr, count)?,
-        summary: lines::moved(alloc, &summary)?,
-    })
+    match move_code(alloc, file, &form) {
+        Ok(rewritten) => Ok(rewritten),
+        Err(NoMemory) => Err(Refusal::Memory),
+    }
 }
 
 // Prints the line of a refusal.

@@ -8,13 +8,13 @@ pub returns : goal.returns
 returns c =
     let written : List ℕ = c.patch.new.written in
     let before : c.deref_mut.result.now ≡ c.in_ok-written.written.items ++ c.in_ok-tail.tail.bytes.items =
-        c.deref_mut.ensures.value ∙ c.in_ok-extend_from_slice.ensures.items ∙ ap (λ (xs : List ℕ). c.in_ok-written.written.items ++ xs) c.deref.ensures.value in
+    c.deref_mut.ensures.value ∙ c.in_ok-extend_from_slice.ensures.items ∙ ap (λ (xs : List ℕ). c.in_ok-written.written.items ++ xs) c.deref.ensures.value in
     let size : c.len-size.result ≡ length c.in_ok-written.written.items = search rules in
     let same_length : c.extend_from_slice.new.self.len ≡ length written = sym c.deref_mut.ensures.len ∙ sym c.patch.ensures.length_kept in
     let patched : IsPatched (c.in_ok-written.written.items ++ c.in_ok-tail.tail.bytes.items) written c.u64_at-segments_at.result c.new_code_address-address.result (length c.in_ok-written.written.items) =
-        subst (λ (n : ℕ). IsPatched (c.in_ok-written.written.items ++ c.in_ok-tail.tail.bytes.items) written c.u64_at-segments_at.result c.new_code_address-address.result n) size
-            (subst (λ (xs : List ℕ). IsPatched xs written c.u64_at-segments_at.result c.new_code_address-address.result c.len-size.result) before c.patch.ensures) in
+    subst (λ (n : ℕ). IsPatched (c.in_ok-written.written.items ++ c.in_ok-tail.tail.bytes.items) written c.u64_at-segments_at.result c.new_code_address-address.result n) size
+    (subst (λ (xs : List ℕ). IsPatched xs written c.u64_at-segments_at.result c.new_code_address-address.result c.len-size.result) before c.patch.ensures) in
     let whole : take c.extend_from_slice.new.self.len (written ++ drop (length written) c.extend_from_slice.new.self.items) ≡ written =
-        ap (λ (n : ℕ). take n (written ++ drop (length written) c.extend_from_slice.new.self.items)) same_length ∙ take-append_seam written _ in
+    ap (λ (n : ℕ). take n (written ++ drop (length written) c.extend_from_slice.new.self.items)) same_length ∙ take-append_seam written _ in
     subst (IsMoved c.args.file.now) (sym whole)
-        (form_moved c.args.file.now written c.in_ok-written.written.items c.in_ok-tail.tail.bytes.items c.args.form.now.segment c.args.form.now.text c.u64_at-segments_at.result c.new_code_address-address.result c.requires.is_first c.requires.parts.segment_is c.requires.parts.text_is c.u64_at-segments_at.ensures c.new_code_address-address.ensures c.in_ok-written.ensures patched)
+    (form_moved c.args.file.now written c.in_ok-written.written.items c.in_ok-tail.tail.bytes.items c.args.form.now.segment c.args.form.now.text c.u64_at-segments_at.result c.new_code_address-address.result c.requires.is_first c.requires.parts.segment_is c.requires.parts.text_is c.u64_at-segments_at.ensures c.new_code_address-address.ensures c.in_ok-written.ensures patched)

@@ -1,0 +1,137 @@
+-- From what the steps of a rewrite come to, to the answers of the whole.
+use Rattle.std.proofs.Common.{◌≡◌, ◌∙◌, ◌≢◌, ◌⊎◌, sym, ap, subst, ℕ, ◌<◌, ◌≤◌, List, Option, Some, None, Bool, true, arith, refl, IsTrue, IsSomeAnd}
+use Rattle.rb_io.specs.Counts.{Rose}
+use Rattle.rb_io.specs.Names.{Unchanged, UnchangedBut, NeverFalls}
+use Rattle.rb_io.specs.Printed.{TakesAll, TakesFront}
+use Rattle.rb_bytes.specs.Fault.{fault_at}
+use Rattle.rb_bytes.specs.declared.fault.Fault.{Fault}
+use Rattle.rb_bytes.specs.declared.fault.FaultKind.TheVariants.{NotBuilt}
+use Rattle.bolt_cli.specs.declared.status.Status.{Status}
+use Rattle.bolt_cli.specs.declared.status.Status.TheVariants as status
+use Rattle.bolt_cli.specs.declared.rewrite.Rewritten.{Rewritten}
+use Rattle.bolt_cli.specs.World.{World}
+use Rattle.bolt_cli.specs.Words.{RewriteNames}
+use Rattle.bolt_cli.specs.Lines.{refused_line}
+use Rattle.bolt_cli.specs.Refused.{IsRefused, IsAccepted, IsTooLong, too_long}
+use Rattle.bolt_cli.specs.Rewritten.{IsRewritten}
+use Rattle.bolt_cli.specs.Spans.{spans_of, map_text}
+use Rattle.bolt_cli.specs.Inputs.{AreRead}
+use Rattle.bolt_cli.specs.Phases.{RefusalPrinted, BothWritten, StoppedWriting, at_out, at_map, at_summary, AllWritten, OutputsWritten}
+use Rattle.bolt_cli.specs.Answers.{OfInputs, RewriteAnswers, Refuses, FailsToWrite, FailsAtSummary, FailsToPrint, summary_of}
+use Rattle.bolt_cli.specs.Answers as answers
+
+-- a refusal, where its fault is present and the files are as they were
+pub refuses : (answer : Status) (fault : Fault) (names : RewriteNames) (old new : World)
+    → RefusalPrinted answer fault old.taken new.taken old.faults new.faults → Unchanged old.content new.content
+    → (IsTrue old.told → OfInputs old names (λ file profile. IsRefused file profile fault)) → RewriteAnswers answer names old new
+refuses status.Ok fault names old new printed same present = absurd printed
+refuses status.Usage fault names old new printed same present = absurd printed
+refuses (status.Refused f) fault names old new printed same present =
+    subst (λ (g : Fault). Refuses names g old new) (sym printed.0) (record { present = present; prints = record { line_taken = printed.1; unwritten = same } })
+refuses status.ReadFault fault names old new printed same present = absurd printed
+refuses status.WriteFault fault names old new printed same present =
+    answers.at_refusal fault present (record { print = record { cause = printed.0; front = printed.1 }; unwritten = same })
+refuses status.NoMemory fault names old new printed same present = record { unprinted = printed; unwritten = same }
+
+-- a count that rose after another call that it didn't fall in
+rose_after : (before between after : ℕ) → before ≤ between → Rose between after → Rose before after
+rose_after before between after le rose = λ below. let later : between < after = rose below in omega arith
+
+-- a fact of what was read is one of what there is
+pub of_inputs : (w : World) (names : RewriteNames) (file profile : List ℕ) (P : List ℕ → List ℕ → Type 0) → AreRead w.content names file profile → P file profile → OfInputs w names P
+of_inputs w names file profile P read p =
+    let inner : IsSomeAnd (w.content names.profile) (λ q. P file q) = subst (λ (o : Option (List ℕ)). IsSomeAnd o (λ q. P file q)) (sym read.profile_is) p in
+    subst (λ (o : Option (List ℕ)). IsSomeAnd o (λ f. IsSomeAnd (w.content names.profile) (λ q. P f q))) (sym read.file_is) inner
+
+-- a fact of both inputs that follows from another
+map_inputs : (a b : Option (List ℕ)) (P Q : List ℕ → List ℕ → Type 0) → ((f p : List ℕ) → P f p → Q f p) → IsSomeAnd a (λ f. IsSomeAnd b (λ p. P f p)) → IsSomeAnd a (λ f. IsSomeAnd b (λ p. Q f p))
+map_inputs None b P Q h x = absurd x
+map_inputs (Some f) None P Q h x = absurd x
+map_inputs (Some f) (Some p) P Q h x = h f p x
+
+pub of_long_inputs : (w : World) (names : RewriteNames) (fault : Fault) → fault ≡ fault_at NotBuilt 0 → OfInputs w names IsTooLong → OfInputs w names (λ file profile. IsRefused file profile fault)
+of_long_inputs w names fault e long = map_inputs (w.content names.file) (w.content names.profile) IsTooLong (λ file profile. IsRefused file profile fault) (λ file profile t. too_long t e) long
+
+-- files that were read, at the slices that they were passed as
+pub are_read : (content : List ℕ → Option (List ℕ)) (names : RewriteNames) (file profile file_now profile_now : List ℕ) → file_now ≡ file → profile_now ≡ profile → AreRead content names file profile → AreRead content names file_now profile_now
+are_read content names file profile file_now profile_now e f read = record {
+  file_is = read.file_is ∙ ap (λ (xs : List ℕ). Some xs) (sym e);
+  profile_is = read.profile_is ∙ ap (λ (xs : List ℕ). Some xs) (sym f);
+}
+
+-- counts that fall in neither of two calls
+pub never_falls_after : (a b c : List ℕ → ℕ) → NeverFalls a b → NeverFalls b c → NeverFalls a c
+never_falls_after a b c f g = record { each = λ name. let one : a name ≤ b name = f.each name in let two : b name ≤ c name = g.each name in omega arith }
+
+-- What was made is a rewritten file, its map and its summary.
+pub record IsMade (file profile : List ℕ) (r : Rewritten) : Type 0 where
+  pub accepted : IsAccepted file profile
+  pub written : IsRewritten file r.file.items
+  pub map_is : r.map.items ≡ map_text (spans_of file)
+  pub summary_is : r.summary.items ≡ summary_of file
+
+-- The world between reading and writing is the old one, but for counts of faults that may have risen.
+pub record IsBetween (old mid : World) : Type 0 where
+  pub told_is : mid.told ≡ old.told
+  pub content_is : Unchanged old.content mid.content
+  pub writes_are : NeverFalls old.writes mid.writes
+  pub taken_is : mid.taken ≡ old.taken
+  pub faults_are : mid.faults ≡ old.faults
+
+module _ (names : RewriteNames) (r : Rewritten) (file profile : List ℕ) (old mid new : World) (between : IsBetween old mid)
+    (read : IsTrue old.told → AreRead old.content names file profile) (made : IsMade file profile r) where
+  still_told : IsTrue old.told → IsTrue mid.told
+  still_told told = between.told_is ∙ told
+
+  out_holds : new.content names.out ≡ Some r.file.items → IsSomeAnd (new.content names.out) (IsRewritten file)
+  out_holds e = subst (λ (o : Option (List ℕ)). IsSomeAnd o (IsRewritten file)) (sym e) made.written
+
+  map_holds : new.content names.map ≡ Some r.map.items → new.content names.map ≡ Some (map_text (spans_of file))
+  map_holds e = e ∙ ap (λ (t : List ℕ). Some t) made.map_is
+
+  others_kept : ((name : List ℕ) → name ≢ names.out → name ≢ names.map → new.content name ≡ mid.content name) → (name : List ℕ) → name ≢ names.out → name ≢ names.map → new.content name ≡ old.content name
+  others_kept others name a b = others name a b ∙ between.content_is.each name
+
+  line_taken : TakesAll mid.taken new.taken r.summary.items → TakesAll old.taken new.taken (summary_of file)
+  line_taken t = subst (λ (o : Option (List ℕ)). TakesAll o new.taken (summary_of file)) between.taken_is (subst (TakesAll mid.taken new.taken) made.summary_is t)
+
+  front_taken : TakesFront mid.taken new.taken r.summary.items → TakesFront old.taken new.taken (summary_of file)
+  front_taken t = subst (λ (o : Option (List ℕ)). TakesFront o new.taken (summary_of file)) between.taken_is (subst (TakesFront mid.taken new.taken) made.summary_is t)
+
+  stops : StoppedWriting names r mid new → FailsToWrite names old new
+  stops (at_out rose quiet others) = answers.at_out (record {
+    cause = rose_after _ _ _ (between.writes_are.each names.out) rose;
+    unprinted = quiet ∙ between.taken_is;
+    others = record { others = λ name apart. others.others name apart ∙ between.content_is.each name };
+  })
+  stops (at_map rose quiet out others) = answers.at_map (record {
+    cause = rose_after _ _ _ (between.writes_are.each names.map) rose;
+    unprinted = quiet ∙ between.taken_is;
+    out = λ told. of_inputs old names file profile _ (read told) (made.accepted, out_holds (out (still_told told)));
+    others = others_kept others;
+  })
+  stops (at_summary both rose front) = answers.at_summary
+      (subst (λ (n : ℕ). Rose n new.faults) between.faults_are rose)
+      (λ told. of_inputs old names file profile (FailsAtSummary names old new) (read told) (record {
+        accepted = made.accepted;
+        out = out_holds (both.out (still_told told));
+        map = map_holds (both.map (still_told told));
+        line = record { cause = subst (λ (n : ℕ). Rose n new.faults) between.faults_are rose; front = front_taken front };
+      }))
+      (others_kept both.others)
+
+  pub writes : (answer : Status) → OutputsWritten answer names r mid new → RewriteAnswers answer names old new
+  writes status.Ok all = record {
+    rewrote = λ told. of_inputs old names file profile _ (read told) (record {
+      accepted = made.accepted;
+      out = out_holds (all.both.out (still_told told));
+      map = map_holds (all.both.map (still_told told));
+      line = line_taken all.line;
+    });
+    others = others_kept all.both.others;
+  }
+  writes status.Usage all = absurd all
+  writes (status.Refused f) all = absurd all
+  writes status.ReadFault all = absurd all
+  writes status.WriteFault all = stops all
+  writes status.NoMemory all = absurd all

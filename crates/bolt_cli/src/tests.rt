@@ -1,0 +1,221 @@
+// The top call on the smallest example, on files that are refused, and under files and streams that
+// fail. Texts, numbers and headers are worked out by hand.
+
+mod example;
+
+use self::example::{exit7, exit7_moved, run};
+use crate::status::Status;
+use crate::tool::tool;
+use rb_bytes::fault::{Fault, FaultKind};
+use rb_io::{MemFiles, MemSink, MemSource};
+use std::alloc::Global;
+use std::process::Abort;
+use std::test::Fail;
+
+const MAP: &[u8] = b"10090 4 10078\n10094 4 1007c\n10098 4 10080\n1009c 4 10084\n";
+
+const SUMMARY: &[u8] =
+    b"moved 1 functions, 4 instructions, 16 bytes; 0 hot blocks; 0 profile lines ignored\n";
+
+const USAGE: &[u8] =
+    b"usage: rewrite IN PROFILE OUT MAP, map IN PROFILE, run [--symbols] [--steps N] FILE [WORDS], lookup FILE ADDR, sample N OUT PROFILE\n";
+
+fn text(alloc: Global, text: &str) -> Result<String, Fail> {
+    Ok(String::from_str(alloc, text)?)
+}
+
+fn words(alloc: Global, words: &[&str]) -> Result<Vec<String>, Fail> {
+    let mut list = Vec::new(alloc);
+    for word in words {
+        list.push(text(alloc, word)?)?;
+    }
+    Ok(list)
+}
+
+// Files with an input, an empty profile, and room for the output and the map.
+fn files(alloc: Global, input: Vec<u8>, fail: &[u64]) -> Result<MemFiles, Fail> {
+    let mut files = MemFiles::new(alloc, Vec::from_slice(alloc, fail)?);
+    files.put(text(alloc, "in")?, input)?;
+    files.put(text(alloc, "profile")?, Vec::new(alloc))?;
+    files.prepare(text(alloc, "out")?, 4096)?;
+    files.prepare(text(alloc, "map")?, 4096)?;
+    Ok(files)
+}
+
+// Does what the words say, on a sink with so much room.
+fn answer(
+    alloc: Global,
+    line: &[&str],
+    files: &mut MemFiles,
+    room: usize,
+) -> Result<(Status, MemSink), Fail> {
+    let words = words(alloc, line)?;
+    let mut input = MemSource::new(Vec::new(alloc), Vec::new(alloc));
+    let mut out = MemSink::new(alloc, room, Vec::new(alloc))?;
+    let status = tool(alloc, &words, files, &mut input, &mut out);
+    Ok((status, out))
+}
+
+const REWRITE: [&str; 5] = ["rewrite", "in", "profile", "out", "map"];
+
+#[test]
+fn the_example_is_rewritten(rt: HostRuntime) -> Result<(), Fail> {
+    let alloc = rt.alloc();
+    let mut files = files(alloc, exit7(alloc)?, &[])?;
+    let (status, out) = answer(alloc, &REWRITE, &mut files, 200)?;
+    assert_eq!(rt; status, Status::Ok);
+    assert_eq!(rt; out.taken(), SUMMARY);
+    assert_eq!(rt; files.content("map").ok_or("no map")?, MAP);
+    let moved = exit7_moved(alloc)?;
+    let written = files.content("out").ok_or("no output")?;
+    assert_eq!(rt; written, moved.as_slice());
+    assert_eq!(rt; run(written).ok_or("no run")?, (7, 4));
+    assert_eq!(rt; run(&exit7(alloc)?).ok_or("no run")?, (7, 4));
+    Ok(())
+}
+
+fn check_refused(
+    rt: &impl Abort,
+    alloc: Global,
+    input: Vec<u8>,
+    kind: FaultKind,
+    line: &[u8],
+) -> Result<(), Fail> {
+    let mut files = files(alloc, input, &[])?;
+    let (status, out) = answer(alloc, &REWRITE, &mut files, 200)?;
+    assert_eq!(rt; status, Status::Refused(Fault::at(kind, 0)));
+    assert_eq!(rt; status.number(), 221);
+    assert_eq!(rt; out.taken(), line);
+    assert!(rt; files.content("out").is_none());
+    assert!(rt; files.content("map").is_none());
+    Ok(())
+}
+
+#[test]
+fn other_files_are_refused(rt: HostRuntime) -> Result<(), Fail> {
+    let alloc = rt.alloc();
+    let not_elf = b"refused 1 NotElf at 0\n";
+    let truncated = b"refused 2 Truncated at 0\n";
+    let not_built = b"refused 29 NotBuilt at 0\n";
+    check_refused(&rt, alloc, Vec::new(alloc), FaultKind::NotElf, not_elf)?;
+    let mut cut = exit7(alloc)?;
+    cut.truncate(63);
+    check_refused(&rt, alloc, cut, FaultKind::Truncated, truncated)?;
+    let mut jump = exit7(alloc)?;
+    assert_eq!(rt; jump.len(), 352);
+    jump[0x78] = 0x6f;
+    check_refused(&rt, alloc, jump, FaultKind::NotBuilt, not_built)?;
+    Ok(())
+}
+
+#[test]
+fn words_that_are_no_command(rt: HostRuntime) -> Result<(), Fail> {
+    let alloc = rt.alloc();
+    let lines: [&[&str]; 9] = [
+        &[],
+        &["rewrite"],
+        &["rewrite", "in", "profile", "out"],
+        &["rewrite", "in", "profile", "out", "out"],
+        &["rewrite", "in", "profile", "out", "map", "more"],
+        &["rewrite", "-x", "profile", "out", "map"],
+        &["rewrite", "--steps=3", "in", "profile", "out", "map"],
+        &["--", "rewrite", "in", "profile", "out", "map"],
+        &["map", "in", "profile"],
+    ];
+    for line in lines {
+        let mut files = files(alloc, exit7(alloc)?, &[])?;
+        let (status, out) = answer(alloc, line, &mut files, 200)?;
+        assert_eq!(rt; status, Status::Usage);
+        assert_eq!(rt; out.taken(), USAGE);
+        assert!(rt; files.content("out").is_none());
+    }
+    Ok(())
+}
+
+#[test]
+fn words_after_two_hyphens_are_names(rt: HostRuntime) -> Result<(), Fail> {
+    let alloc = rt.alloc();
+    let mut files = files(alloc, exit7(alloc)?, &[])?;
+    files.put(text(alloc, "-")?, Vec::new(alloc))?;
+    files.prepare(text(alloc, "-o")?, 4096)?;
+    let line = ["rewrite", "in", "-", "--", "-o", "map"];
+    let (status, _out) = answer(alloc, &line, &mut files, 200)?;
+    assert_eq!(rt; status, Status::Ok);
+    assert!(rt; files.content("-o").is_some());
+    Ok(())
+}
+
+// Which call of the files fails, how much room standard output has, and then the status, what standard
+// output took, and whether the output and the map are written.
+struct Case {
+    fail: u64,
+    room: usize,
+    status: Status,
+    printed: usize,
+    out: bool,
+    map: bool,
+}
+
+#[test]
+fn files_and_streams_that_fail(rt: HostRuntime) -> Result<(), Fail> {
+    let alloc = rt.alloc();
+    let cases = [
+        Case {
+            fail: 1,
+            room: 200,
+            status: Status::ReadFault,
+            printed: 0,
+            out: false,
+            map: false,
+        },
+        Case {
+            fail: 2,
+            room: 200,
+            status: Status::ReadFault,
+            printed: 0,
+            out: false,
+            map: false,
+        },
+        Case {
+            fail: 3,
+            room: 200,
+            status: Status::WriteFault,
+            printed: 0,
+            out: false,
+            map: false,
+        },
+        Case {
+            fail: 4,
+            room: 200,
+            status: Status::WriteFault,
+            printed: 0,
+            out: true,
+            map: false,
+        },
+        Case {
+            fail: 5,
+            room: 0,
+            status: Status::WriteFault,
+            printed: 0,
+            out: true,
+            map: true,
+        },
+        Case {
+            fail: 5,
+            room: 10,
+            status: Status::WriteFault,
+            printed: 10,
+            out: true,
+            map: true,
+        },
+    ];
+    for case in &cases {
+        let mut files = files(alloc, exit7(alloc)?, &[case.fail])?;
+        let (status, out) = answer(alloc, &REWRITE, &mut files, case.room)?;
+        assert_eq!(rt; status, case.status);
+        assert_eq!(rt; out.taken().len(), case.printed);
+        assert_eq!(rt; files.content("out").is_some(), case.out);
+        assert_eq!(rt; files.content("map").is_some(), case.map);
+    }
+    Ok(())
+}
