@@ -147,6 +147,7 @@ fn words_after_two_hyphens_are_names(rt: HostRuntime) -> Result<(), Fail> {
 
 // Which call of the files fails, how much room standard output has, and then the status, what standard
 // output took, and whether the output and the map are written.
+#[derive(Drop)]
 struct Case {
     fail: u64,
     room: usize,
