@@ -1,7 +1,7 @@
 -- From what the steps of a rewrite come to, to the answers of the whole.
-use Rattle.std.proofs.Common.{◌≡◌, ◌∙◌, ◌≢◌, ◌⊎◌, sym, ap, subst, ℕ, ◌<◌, ◌≤◌, List, Option, Some, None, Bool, true, arith, refl, IsTrue, IsSomeAnd}
+use Rattle.std.proofs.Common.{◌≡◌, ◌∙◌, ◌≢◌, sym, ap, subst, ℕ, ◌<◌, ◌≤◌, List, Option, Some, None, arith, IsTrue, IsSomeAnd}
 use Rattle.rb_io.specs.Counts.{Rose}
-use Rattle.rb_io.specs.Names.{Unchanged, UnchangedBut, NeverFalls}
+use Rattle.rb_io.specs.Names.{Unchanged, NeverFalls}
 use Rattle.rb_io.specs.Printed.{TakesAll, TakesFront}
 use Rattle.rb_bytes.specs.Fault.{fault_at}
 use Rattle.rb_bytes.specs.declared.fault.Fault.{Fault}
@@ -11,12 +11,11 @@ use Rattle.bolt_cli.specs.declared.status.Status.TheVariants as status
 use Rattle.bolt_cli.specs.declared.rewrite.Rewritten.{Rewritten}
 use Rattle.bolt_cli.specs.World.{World}
 use Rattle.bolt_cli.specs.Words.{RewriteNames}
-use Rattle.bolt_cli.specs.Lines.{refused_line}
 use Rattle.bolt_cli.specs.Refused.{IsRefused, IsAccepted, IsTooLong, too_long}
 use Rattle.bolt_cli.specs.Rewritten.{IsRewritten}
 use Rattle.bolt_cli.specs.Spans.{spans_of, map_text}
 use Rattle.bolt_cli.specs.Inputs.{AreRead}
-use Rattle.bolt_cli.specs.Phases.{RefusalPrinted, BothWritten, StoppedWriting, at_out, at_map, at_summary, AllWritten, OutputsWritten}
+use Rattle.bolt_cli.specs.Phases.{RefusalPrinted, StoppedWriting, at_out, at_map, at_summary, OutputsWritten}
 use Rattle.bolt_cli.specs.Answers.{OfInputs, RewriteAnswers, Refuses, FailsToWrite, FailsAtSummary, FailsToPrint, summary_of}
 use Rattle.bolt_cli.specs.Answers as answers
 

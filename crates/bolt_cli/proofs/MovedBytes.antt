@@ -1,12 +1,9 @@
 -- The bytes of a file of the first form after its code was moved.
-use Rattle.std.proofs.Common.{◌≡◌, ◌∙◌, sym, ap, ℕ, ◌+◌, ◌-◌, ◌≤◌, ◌<◌, ◌^◌, ◌⊎◌, inl, inr, List, ◌++◌, length, take, drop, get_or, arith, refl, append_assoc, length-append}
-use Rattle.std.proofs.lemmas.Grind.{common_steps}
-use Rattle.std.proofs.lemmas.List.{get_or_append_left, get_or-append_right}
-use Rattle.elf_image.specs.declared.segment.Segment.{Segment}
-use Rattle.elf_image.specs.Header.{number_at, e_entry, e_phoff, e_phnum, segment_at}
+use Rattle.std.proofs.Common.{◌≡◌, ◌∙◌, ℕ, ◌+◌, ◌≤◌, ◌<◌, ◌^◌, ◌⊎◌, inl, inr, List, length, get_or, arith}
+use Rattle.elf_image.specs.Header.{number_at, e_entry, segment_at}
 use Rattle.elf_image.specs.Patched.{patched_number}
-use Rattle.elf_image.proofs.Patches.{get_or-patched, number_at-patched, number_at-patched_there, length-patched, number_at-front}
-use Rattle.bolt_cli.specs.Moved.{IsArea, IsPatched}
+use Rattle.elf_image.proofs.Patches.{get_or-patched, number_at-patched, number_at-patched_there, length-patched}
+use Rattle.bolt_cli.specs.Moved.{IsPatched}
 
 -- a program header is made of its numbers
 pub segment_at-same : (xs ys : List ℕ) (a : ℕ) → ((o n : ℕ) → a ≤ o → o + n ≤ a + 56 → number_at xs o n ≡ number_at ys o n) → segment_at xs a ≡ segment_at ys a

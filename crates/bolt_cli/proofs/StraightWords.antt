@@ -1,5 +1,5 @@
 -- What decoding finds at a place is the only instruction there.
-use Rattle.std.proofs.Common.{◌≡◌, sym, subst, ℕ, ◌+◌, List, Option, Some}
+use Rattle.std.proofs.Common.{◌≡◌, sym, subst, ℕ, ◌+◌, List, Some}
 use Rattle.rv_code.specs.Decoding.{Decodes}
 use Rattle.rv_code.specs.declared.inst.Inst.{Inst}
 use Rattle.elf_image.specs.Header.{number_at}

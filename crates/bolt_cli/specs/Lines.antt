@@ -1,5 +1,5 @@
 -- The lines that commands print.
-use Rattle.std.specs.Prelude.{ℕ, ◌*◌, List, [], ◌++◌, codes, decimal}
+use Rattle.std.specs.Prelude.{ℕ, List, ◌++◌, codes, decimal}
 use Rattle.rb_bytes.specs.Fault.{number_of, name_of}
 use Rattle.rb_bytes.specs.Text.{hexadecimal}
 use Rattle.rb_bytes.specs.declared.fault.Fault.{Fault}

@@ -1,5 +1,5 @@
 -- What the reader of words has read.
-use Rattle.std.specs.Prelude.{◌≢◌, ℕ, List, [], ◌∷◌, map, string_bytes}
+use Rattle.std.specs.Prelude.{◌≢◌, List, [], ◌∷◌, map, string_bytes}
 use Rattle.bolt_cli.specs.Words.{Argument, Positional, OptionWord, arguments, RewriteNames, Command, Rewrite}
 use Rattle.bolt_cli.specs.declared.words.Arguments.{Arguments}
 use Rattle.bolt_cli.specs.declared.words.RewriteWords.{RewriteWords}

@@ -1,4 +1,4 @@
-use Rattle.std.proofs.Common.{◌≡◌, ◌∙◌, sym, arith, rules}
+use Rattle.std.proofs.Common.{◌∙◌, sym, arith, rules}
 use Rattle.bolt_cli.proofs.FirstForms.{straight_from, straight_back}
 use Rattle.bolt_cli.proofs.first_form.has_first_code.Goals as goal
 

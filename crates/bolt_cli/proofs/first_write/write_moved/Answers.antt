@@ -1,4 +1,4 @@
-use Rattle.std.proofs.Common.{◌≡◌, ◌∙◌, sym, ap, subst, ℕ, List, ◌++◌, length, take, drop, arith, rules}
+use Rattle.std.proofs.Common.{◌≡◌, ◌∙◌, sym, ap, subst, ℕ, List, ◌++◌, length, take, drop, rules}
 use Rattle.std.proofs.Math.Seq.{take-append_seam}
 use Rattle.bolt_cli.specs.Moved.{IsMoved, IsPatched}
 use Rattle.bolt_cli.proofs.MovedArea.{form_moved}

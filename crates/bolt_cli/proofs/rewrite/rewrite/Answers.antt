@@ -1,8 +1,7 @@
-use Rattle.std.proofs.Common.{◌≡◌, sym, refl, ℕ, List}
+use Rattle.std.proofs.Common.{refl}
 use Rattle.bolt_cli.specs.Read.{names_read}
 use Rattle.bolt_cli.specs.Refused.{IsRefused}
 use Rattle.bolt_cli.specs.World.{World}
-use Rattle.bolt_cli.specs.Inputs.{AreRead}
 use Rattle.bolt_cli.proofs.Answering.{refuses, of_inputs, of_long_inputs, are_read, never_falls_after, writes, IsMade, IsBetween}
 use Rattle.bolt_cli.proofs.rewrite.rewrite.Goals as goal
 

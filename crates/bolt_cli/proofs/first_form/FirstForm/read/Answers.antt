@@ -1,4 +1,4 @@
-use Rattle.std.proofs.Common.{◌≡◌, ◌∙◌, sym, rules, arith, Bool, true, false}
+use Rattle.std.proofs.Common.{◌≡◌, rules, Bool, true, false}
 use Rattle.bolt_cli.proofs.FirstForms.{AreParts, parts_read, its_segment, its_sections, its_code, is_first_form}
 use Rattle.bolt_cli.proofs.first_form.FirstForm.read.Goals as goal
 
