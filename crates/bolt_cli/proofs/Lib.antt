@@ -10,3 +10,4 @@ pub mod StraightWords
 pub mod MovedArea
 pub mod FirstForms
 pub mod Answering
+pub mod Completing

@@ -106,3 +106,21 @@ UsageAnswers _ old new = ⊥
 abbrev pub Answers : Option Command → Status → World → World → Type 0
 Answers (Some (Rewrite names)) answer old new = RewriteAnswers answer names old new
 Answers None answer old new = UsageAnswers answer old new
+
+-- No count of faults rose: of the files that a rewrite reads and writes, and of standard output.
+pub record NoneRose (names : RewriteNames) (old new : World) : Type 0 where
+  pub file : Rose (old.reads names.file) (new.reads names.file) → ⊥
+  pub profile : Rose (old.reads names.profile) (new.reads names.profile) → ⊥
+  pub out : Rose (old.writes names.out) (new.writes names.out) → ⊥
+  pub map : Rose (old.writes names.map) (new.writes names.map) → ⊥
+  pub line : Rose old.faults new.faults → ⊥
+
+abbrev pub IsOkOrNoMemory : Status → Type 0
+IsOkOrNoMemory status.Ok = Unit {0}
+IsOkOrNoMemory status.NoMemory = Unit {0}
+IsOkOrNoMemory _ = ⊥
+
+-- A command is done, or wants memory, where none of its faults is present and no count rose.
+abbrev pub Completes : Option Command → Status → World → World → Type 0
+Completes (Some (Rewrite names)) answer old new = IsTrue old.told → OfInputs old names IsAccepted → NoneRose names old new → IsOkOrNoMemory answer
+Completes None answer old new = Unit {0}

@@ -1,7 +1,7 @@
 // What the program does.
 ghost use Rattle.std.specs.Prelude.{◌≡◌, ◌≤◌, map, string_bytes, IsTrue};
 ghost use Rattle.rb_io.specs.Names.{NeverFalls};
-ghost use Rattle.bolt_cli.specs.Answers.{Answers, UsageAnswers};
+ghost use Rattle.bolt_cli.specs.Answers.{Answers, Completes, UsageAnswers};
 ghost use Rattle.bolt_cli.specs.Words.{command_of};
 
 use crate::lines;
@@ -34,6 +34,7 @@ pub fn tool<F: Files, I: Source, O: Sink>(
     out: &mut O,
 ) -> Status
     ensures answer { Answers (command_of (map string_bytes words.now)) result (record { told = F.told files.old; content = F.content files.old; reads = F.read_count files.old; writes = F.write_count files.old; taken = O.taken out.old; faults = O.count out.old }) (record { told = F.told files.new; content = F.content files.new; reads = F.read_count files.new; writes = F.write_count files.new; taken = O.taken out.new; faults = O.count out.new }) }
+    ensures complete { Completes (command_of (map string_bytes words.now)) result (record { told = F.told files.old; content = F.content files.old; reads = F.read_count files.old; writes = F.write_count files.old; taken = O.taken out.old; faults = O.count out.old }) (record { told = F.told files.new; content = F.content files.new; reads = F.read_count files.new; writes = F.write_count files.new; taken = O.taken out.new; faults = O.count out.new }) }
     ensures reads { NeverFalls (F.read_count files.old) (F.read_count files.new) }
     ensures writes { NeverFalls (F.write_count files.old) (F.write_count files.new) }
     ensures faults { O.count out.old ≤ O.count out.new }
