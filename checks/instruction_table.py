@@ -9,6 +9,7 @@ RV64IMC do, so:
 - a name that is no row's (floating point, atomics, bit manipulation, CSRs ..) is `none`;
 - C.SRLI64 and its kin are the shifts by an amount of 0;
 - hints with a name of their own (pause, prefetch, ntl) are their row's operation;
+- C.ADDI16SP of 0, which the manual reserves and binutils shows, is `none`;
 - FENCE is FENCE whatever its other bits; binutils leaves out those that are reserved;
 - forms longer than four bytes (low five bits 11111) are `none`, and aren't shown to objdump.
 """
@@ -90,6 +91,8 @@ def meaning(word, size, name, operands, address):
             return show("addi", rd=0, rs1=0, imm=imm)
         if name in ("addi", "addiw", "addi16sp", "slli", "srli", "srai", "andi"):
             rd = register(parts[0])
+            if name == "addi16sp" and int(parts[1], 0) == 0:
+                return "none"
             row = "addi" if name == "addi16sp" else name
             return show(row, rd=rd, rs1=rd, imm=int(parts[1], 0))
         if name in ("slli64", "srli64", "srai64"):

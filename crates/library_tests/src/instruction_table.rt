@@ -623,7 +623,7 @@ e00c Sd { rs1: 8, rs2: 11, imm: 0 }
 6021 Lui { rd: 0, imm: 8 }
 6041 Lui { rd: 0, imm: 16 }
 6081 none
-6101 Addi { rd: 2, rs1: 2, imm: 0 }
+6101 none
 6201 none
 6401 none
 6801 none
