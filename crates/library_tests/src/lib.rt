@@ -4,6 +4,12 @@
 #[cfg(test)]
 mod bytes;
 #[cfg(test)]
+mod decode;
+#[cfg(test)]
+mod encode;
+#[cfg(test)]
+mod instruction_table;
+#[cfg(test)]
 mod io;
 #[cfg(test)]
 mod value;

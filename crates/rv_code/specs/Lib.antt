@@ -6,6 +6,7 @@ pub mod FullRows
 pub mod HalfRows
 pub mod Machine
 pub mod Op
+pub mod Reach
 pub mod Step
 pub mod Value
 pub mod Word

@@ -2,7 +2,8 @@
 //
 // A format's word is None where no word has these fields: where a register is none of the 32, or the
 // immediate is out of reach or not a multiple of its unit.
-ghost use Rattle.std.specs.Prelude.{◌<◌, ◌^◌, ℕ, IfSome, IfNone};
+ghost use Rattle.std.specs.Prelude.{◌<◌, ◌^◌, ℕ, IsSome, IfSome, IfNone};
+ghost use Rattle.rv_code.specs.Reach.{IsWithin, Reaches};
 ghost use Rattle.rv_code.specs.FullRows.{FormatR, FormatI, FormatS, FormatB, FormatU, FormatJ, Shift64, Shift32};
 
 use crate::operand::unsigned;
@@ -34,6 +35,7 @@ pub fn format_i(opcode: u32, funct3: u32, rd: u8, rs1: u8, imm: i64) -> Option<u
     requires opcode { opcode < 2 ^ 7 }
     requires funct3 { funct3 < 2 ^ 3 }
     ensures found { IfSome result (λ word. FormatI word opcode funct3 rd rs1 imm) }
+    ensures room { rd < 32 → rs1 < 32 → IsWithin (2 ^ 11) imm → IsSome result }
     ensures none { IfNone result ((word : ℕ) → FormatI word opcode funct3 rd rs1 imm → ⊥) }
 {
     if rd >= 32 || rs1 >= 32 {
@@ -90,6 +92,7 @@ pub fn format_s(opcode: u32, funct3: u32, rs1: u8, rs2: u8, imm: i64) -> Option<
     requires opcode { opcode < 2 ^ 7 }
     requires funct3 { funct3 < 2 ^ 3 }
     ensures found { IfSome result (λ word. FormatS word opcode funct3 rs1 rs2 imm) }
+    ensures room { rs1 < 32 → rs2 < 32 → IsWithin (2 ^ 11) imm → IsSome result }
     ensures none { IfNone result ((word : ℕ) → FormatS word opcode funct3 rs1 rs2 imm → ⊥) }
 {
     if rs1 >= 32 || rs2 >= 32 {
@@ -111,6 +114,7 @@ pub fn format_b(opcode: u32, funct3: u32, rs1: u8, rs2: u8, imm: i64) -> Option<
     requires opcode { opcode < 2 ^ 7 }
     requires funct3 { funct3 < 2 ^ 3 }
     ensures found { IfSome result (λ word. FormatB word opcode funct3 rs1 rs2 imm) }
+    ensures room { rs1 < 32 → rs2 < 32 → Reaches (2 ^ 12) imm → IsSome result }
     ensures none { IfNone result ((word : ℕ) → FormatB word opcode funct3 rs1 rs2 imm → ⊥) }
 {
     if rs1 >= 32 || rs2 >= 32 {
@@ -136,6 +140,7 @@ pub fn format_b(opcode: u32, funct3: u32, rs1: u8, rs2: u8, imm: i64) -> Option<
 pub fn format_u(opcode: u32, rd: u8, imm: i64) -> Option<u32>
     requires { opcode < 2 ^ 7 }
     ensures found { IfSome result (λ word. FormatU word opcode rd imm) }
+    ensures room { rd < 32 → IsWithin (2 ^ 19) imm → IsSome result }
     ensures none { IfNone result ((word : ℕ) → FormatU word opcode rd imm → ⊥) }
 {
     if rd >= 32 {
@@ -149,6 +154,7 @@ pub fn format_u(opcode: u32, rd: u8, imm: i64) -> Option<u32>
 pub fn format_j(opcode: u32, rd: u8, imm: i64) -> Option<u32>
     requires { opcode < 2 ^ 7 }
     ensures found { IfSome result (λ word. FormatJ word opcode rd imm) }
+    ensures room { rd < 32 → Reaches (2 ^ 20) imm → IsSome result }
     ensures none { IfNone result ((word : ℕ) → FormatJ word opcode rd imm → ⊥) }
 {
     if rd >= 32 {

@@ -1,5 +1,6 @@
 // Instructions of either width.
-ghost use Rattle.std.specs.Prelude.{◌≡◌, ℕ, Option, IfSome, IfNone};
+ghost use Rattle.std.specs.Prelude.{◌≡◌, ℕ, Option, IsSome, IfSome, IfNone};
+ghost use Rattle.rv_encode.specs.Fits.{Fits};
 ghost use Rattle.rv_code.specs.Decoding.{Decodes};
 ghost use Rattle.rv_encode.specs.Encoding.{Encodes, width_of, bytes};
 
@@ -14,6 +15,7 @@ use rv_code::{Inst, Width};
 pub fn encode(inst: &Inst, want: Width) -> Option<Word>
     ensures found { IfSome result (λ word. Encodes word inst.now) }
     ensures width { IfSome result (λ word. width_of word ≡ want) }
+    ensures room { Fits want inst.now → IsSome result }
     ensures none { IfNone result ((half : ℕ) (next : Option ℕ) → Decodes half next inst.now (bytes want) → ⊥) }
 {
     match want {

@@ -1,5 +1,6 @@
 // Four-byte instructions.
-ghost use Rattle.std.specs.Prelude.{◌≡◌, ℕ, IfSome, IfNone};
+ghost use Rattle.std.specs.Prelude.{◌≡◌, ℕ, IsSome, IfSome, IfNone};
+ghost use Rattle.rv_encode.specs.Fits.{FitsFull};
 ghost use Rattle.rv_code.specs.Bits.{field};
 ghost use Rattle.rv_code.specs.FullRows.{IsFull};
 
@@ -15,6 +16,7 @@ use rv_code::opcode::{
 pub fn encode_full(inst: &Inst) -> Option<u32>
     ensures found { IfSome result (λ word. IsFull word inst.now) }
     ensures not_compressed { IfSome result (λ word. field word 0 2 ≡ 3) }
+    ensures room { FitsFull inst.now → IsSome result }
     ensures none { IfNone result ((word : ℕ) → IsFull word inst.now → ⊥) }
 {
     match *inst {

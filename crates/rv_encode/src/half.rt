@@ -1,5 +1,6 @@
 // Two-byte instructions.
-ghost use Rattle.std.specs.Prelude.{ℕ, IfSome, IfNone};
+ghost use Rattle.std.specs.Prelude.{ℕ, IsSome, IfSome, IfNone};
+ghost use Rattle.rv_encode.specs.Fits.{FitsHalf};
 ghost use Rattle.rv_code.specs.HalfRows.{IsHalf};
 ghost use Rattle.rv_code.specs.declared.inst.Inst.TheVariants.{Addi, Add, Jalr, Lw, Ld, Sw, Sd};
 
@@ -12,6 +13,7 @@ use rv_code::Inst;
 /// The halfword of an instruction, or None where no halfword is it.
 pub fn encode_half(inst: &Inst) -> Option<u16>
     ensures found { IfSome result (λ half. IsHalf half inst.now) }
+    ensures room { FitsHalf inst.now → IsSome result }
     ensures none { IfNone result ((half : ℕ) → IsHalf half inst.now → ⊥) }
 {
     match *inst {

@@ -1,5 +1,6 @@
 // The two-byte jumps and branches. ISA manual, section 26.4.
-ghost use Rattle.std.specs.Prelude.{ℕ, IfSome, IfNone};
+ghost use Rattle.std.specs.Prelude.{◌≡◌, ◌<◌, ◌≤◌, ◌^◌, ℕ, IsSome, IfSome, IfNone};
+ghost use Rattle.rv_code.specs.Reach.{Reaches};
 ghost use Rattle.rv_code.specs.HalfRows.{C_J, C_JR, C_JALR, C_BEQZ, C_BNEZ};
 ghost use Rattle.rv_code.specs.declared.inst.Inst.TheVariants.{Jal, Jalr, Beq, Bne};
 ghost use Rattle.rv_encode.specs.RowOf.{IsRowOf};
@@ -11,6 +12,7 @@ use rv_code::{RETURN_ADDRESS, ZERO};
 /// C.J.
 pub fn c_j(rd: u8, imm: i64) -> Option<u16>
     ensures found { IfSome result (λ half. IsRowOf C_J half (Jal rd imm)) }
+    ensures room { rd ≡ 0 → Reaches (2 ^ 11) imm → IsSome result }
     ensures none { IfNone result ((half : ℕ) → IsRowOf C_J half (Jal rd imm) → ⊥) }
 {
     if rd != ZERO {
@@ -36,6 +38,7 @@ pub fn c_j(rd: u8, imm: i64) -> Option<u16>
 /// C.BEQZ.
 pub fn c_beqz(rs1: u8, rs2: u8, imm: i64) -> Option<u16>
     ensures found { IfSome result (λ half. IsRowOf C_BEQZ half (Beq rs1 rs2 imm)) }
+    ensures room { 8 ≤ rs1 → rs1 < 16 → rs2 ≡ 0 → Reaches (2 ^ 8) imm → IsSome result }
     ensures none { IfNone result ((half : ℕ) → IsRowOf C_BEQZ half (Beq rs1 rs2 imm) → ⊥) }
 {
     if rs2 != ZERO {
@@ -60,6 +63,7 @@ pub fn c_beqz(rs1: u8, rs2: u8, imm: i64) -> Option<u16>
 /// C.BNEZ.
 pub fn c_bnez(rs1: u8, rs2: u8, imm: i64) -> Option<u16>
     ensures found { IfSome result (λ half. IsRowOf C_BNEZ half (Bne rs1 rs2 imm)) }
+    ensures room { 8 ≤ rs1 → rs1 < 16 → rs2 ≡ 0 → Reaches (2 ^ 8) imm → IsSome result }
     ensures none { IfNone result ((half : ℕ) → IsRowOf C_BNEZ half (Bne rs1 rs2 imm) → ⊥) }
 {
     if rs2 != ZERO {

@@ -1,5 +1,6 @@
 // Operands as the numbers of their fields.
-ghost use Rattle.std.specs.Prelude.{◌≡◌, ◌≢◌, ◌⊎◌, ◌<◌, ◌≤◌, ◌+◌, ◌*◌, ◌^◌, ◌<ℤ◌, ◌≤ℤ◌, ℕ, pos, IfSome, IfNone};
+ghost use Rattle.std.specs.Prelude.{◌≡◌, ◌≢◌, ◌⊎◌, ◌<◌, ◌≤◌, ◌+◌, ◌*◌, ◌^◌, ◌<ℤ◌, ◌≤ℤ◌, ℕ, pos, IsSome, IfSome, IfNone};
+ghost use Rattle.rv_code.specs.Reach.{IsWithin};
 ghost use Rattle.std.specs.Int.RustNames.{int_rem};
 ghost use Rattle.rv_code.specs.Bits.{signed_by};
 
@@ -9,6 +10,7 @@ pub fn unsigned(imm: i64, half: u32) -> Option<u32>
     requires { half < 2 ^ 31 }
     ensures below { IfSome result (λ n. n < 2 * half) }
     ensures found { IfSome result (λ n. signed_by half n ≡ imm) }
+    ensures room { IsWithin half imm → IsSome result }
     ensures none { IfNone result ((n : ℕ) → n < 2 * half → signed_by half n ≢ imm) }
 {
     let half = i64::from(half);

@@ -1,0 +1,35 @@
+// The decoder against GNU binutils.
+use crate::instruction_table::TABLE;
+use rv_decode::decode;
+use std::alloc::AllocError;
+
+// Two bytes are read without a halfword after them, and four bytes not without one.
+#[test]
+fn decodes_the_table(rt: HostRuntime) -> Result<(), AllocError> {
+    for line in TABLE.lines() {
+        let Some((digits, meaning)) = line.split_once(' ') else {
+            assert!(rt; false, "no meaning: {line}");
+            continue;
+        };
+        let Ok(word) = u32::from_str_radix(digits, 16) else {
+            assert!(rt; false, "no number: {line}");
+            continue;
+        };
+        let half = (word % 65536) as u16;
+        let upper = (word / 65536) as u16;
+        let bytes = digits.len() / 2;
+        let next = if bytes == 4 { Some(upper) } else { None };
+        match decode(half, next) {
+            Some((inst, len)) => {
+                let shown = format!(in rt.alloc(); "{inst:?}")?;
+                assert_eq!(rt; shown.as_str(), meaning, "{line}");
+                assert_eq!(rt; usize::from(len), bytes, "{line}");
+            }
+            None => assert_eq!(rt; "none", meaning, "{line}"),
+        }
+        if bytes == 4 {
+            assert!(rt; decode(half, None).is_none(), "{line}");
+        }
+    }
+    Ok(())
+}
