@@ -1,5 +1,7 @@
 #!/usr/bin/env python3
-"""Prints crates/library_tests/src/instruction_table.rt: a table of instructions and meanings.
+"""Writes two tables of instructions and meanings, full.rt and half.rt, into a folder.
+
+    python3 checks/instruction_table.py crates/library_tests/src/instruction_table
 
 A line is an instruction in hexadecimal, four digits for two bytes and eight for four, and its
 meaning as rv_code's Inst prints it, or `none`. Meanings come from GNU binutils' objdump
@@ -17,6 +19,7 @@ RV64IMC do, so:
 import random
 import re
 import subprocess
+import sys
 import tempfile
 
 OBJDUMP = "riscv64-unknown-elf-objdump"
@@ -183,22 +186,31 @@ def half_words(some):
     return words
 
 
-def main():
-    some = random.Random(20240411)
+def table(words, size):
+    """The lines of a table: for each word its digits and its meaning."""
+    words = list(dict.fromkeys(words))
     lines = []
-    for words, size in ((full_words(some), 4), (half_words(some), 2)):
-        words = list(dict.fromkeys(words))
-        for word, (name, operands, address) in zip(words, disassemble(words, size)):
-            text = meaning(word, size, name, operands, address)
-            lines.append(f"{word:0{2 * size}x} {text}")
-        if size == 4:
-            lines += [f"{word:08x} none" for word in (0x0000001F, 0x0000003F, 0x1234505F, 0xFFFFFFFF)]
-    print("// Instructions and their meanings, as checks/instruction_table.py takes them from GNU binutils.")
-    print()
-    print("/// A line is an instruction in hexadecimal and what it is: an `Inst`, or `none`.")
-    print('pub const TABLE: &str = "\\')
-    print("\n".join(lines) + '";')
+    for word, (name, operands, address) in zip(words, disassemble(words, size)):
+        lines.append(f"{word:0{2 * size}x} {meaning(word, size, name, operands, address)}")
+    return lines
+
+
+def write(path, what, name, lines):
+    with open(path, "w") as out:
+        print(f"// {what} and their meanings, as checks/instruction_table.py takes them from GNU binutils.", file=out)
+        print(file=out)
+        print("/// A line is an instruction in hexadecimal and what it is: an `Inst`, or `none`.", file=out)
+        print(f'pub const {name}: &str = "\\', file=out)
+        print("\n".join(lines) + '";', file=out)
+
+
+def main(folder):
+    some = random.Random(20240411)
+    full = table(full_words(some), 4)
+    full += [f"{word:08x} none" for word in (0x0000001F, 0x0000003F, 0x1234505F, 0xFFFFFFFF)]
+    write(f"{folder}/full.rt", "Four-byte instructions", "FULL", full)
+    write(f"{folder}/half.rt", "Two-byte instructions", "HALF", table(half_words(some), 2))
 
 
 if __name__ == "__main__":
-    main()
+    main(sys.argv[1])

@@ -1,12 +1,13 @@
 // The decoder against GNU binutils.
-use crate::instruction_table::TABLE;
+use crate::instruction_table::full::FULL;
+use crate::instruction_table::half::HALF;
 use rv_decode::decode;
 use std::alloc::AllocError;
+use std::process::Abort;
 
 // Two bytes are read without a halfword after them, and four bytes not without one.
-#[test]
-fn decodes_the_table(rt: HostRuntime) -> Result<(), AllocError> {
-    for line in TABLE.lines() {
+fn check_table(rt: &(impl Abort + AllocGlobal), table: &str) -> Result<(), AllocError> {
+    for line in table.lines() {
         let Some((digits, meaning)) = line.split_once(' ') else {
             assert!(rt; false, "no meaning: {line}");
             continue;
@@ -32,4 +33,14 @@ fn decodes_the_table(rt: HostRuntime) -> Result<(), AllocError> {
         }
     }
     Ok(())
+}
+
+#[test]
+fn four_bytes_decode(rt: HostRuntime) -> Result<(), AllocError> {
+    check_table(&rt, FULL)
+}
+
+#[test]
+fn two_bytes_decode(rt: HostRuntime) -> Result<(), AllocError> {
+    check_table(&rt, HALF)
 }
