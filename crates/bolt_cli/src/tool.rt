@@ -1,7 +1,8 @@
 // What the program does.
-ghost use Rattle.std.specs.Prelude.{◌≡◌, ◌≤◌, map, string_bytes, IsTrue};
+ghost use Rattle.std.specs.Prelude.{◌≡◌, ◌≤◌, map, string_bytes, Some};
 ghost use Rattle.rb_io.specs.Names.{NeverFalls};
 ghost use Rattle.bolt_cli.specs.Answers.{Answers, Completes, UsageAnswers};
+ghost use Rattle.bolt_cli.specs.Read.{NamesDiffer, command_read};
 ghost use Rattle.bolt_cli.specs.Words.{command_of};
 
 use crate::lines;
@@ -19,6 +20,24 @@ fn usage<F: Files, O: Sink>(files: &F, out: &mut O) -> Status
     match print_all(out, lines::usage()) {
         Put::Took(_) => Status::Usage,
         Put::Failed => Status::WriteFault,
+    }
+}
+
+// Does a command.
+fn perform<F: Files, O: Sink>(
+    alloc: Global,
+    command: &Command<'_>,
+    files: &mut F,
+    out: &mut O,
+) -> Status
+    requires { NamesDiffer command.now }
+    ensures answer { Answers (Some (command_read command.now)) result (record { told = F.told files.old; content = F.content files.old; reads = F.read_count files.old; writes = F.write_count files.old; taken = O.taken out.old; faults = O.count out.old }) (record { told = F.told files.new; content = F.content files.new; reads = F.read_count files.new; writes = F.write_count files.new; taken = O.taken out.new; faults = O.count out.new }) }
+    ensures reads { NeverFalls (F.read_count files.old) (F.read_count files.new) }
+    ensures writes { NeverFalls (F.write_count files.old) (F.write_count files.new) }
+    ensures faults { O.count out.old ≤ O.count out.new }
+{
+    match command {
+        Command::Rewrite(words) => rewrite(alloc, words, files, out),
     }
 }
 
@@ -41,7 +60,7 @@ pub fn tool<F: Files, I: Source, O: Sink>(
     ensures input_kept { input.new ≡ input.old }
 {
     match parse(words) {
-        Some(Command::Rewrite(words)) => rewrite(alloc, &words, files, out),
+        Some(command) => perform(alloc, &command, files, out),
         None => usage(files, out),
     }
 }
