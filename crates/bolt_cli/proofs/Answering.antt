@@ -13,7 +13,7 @@ use Rattle.bolt_cli.specs.World.{World}
 use Rattle.bolt_cli.specs.Words.{RewriteNames}
 use Rattle.bolt_cli.specs.Refused.{IsRefused, IsAccepted, IsTooLong, too_long}
 use Rattle.bolt_cli.specs.Rewritten.{IsRewritten}
-use Rattle.bolt_cli.specs.Spans.{spans_of, map_text}
+use Rattle.bolt_cli.specs.Spans.{spans_of, map_text, count_of}
 use Rattle.bolt_cli.specs.Inputs.{AreRead}
 use Rattle.bolt_cli.specs.Phases.{RefusalPrinted, StoppedWriting, at_out, at_map, at_summary, OutputsWritten}
 use Rattle.bolt_cli.specs.Answers.{OfInputs, RewriteAnswers, Refuses, FailsToWrite, FailsAtSummary, FailsToPrint, summary_of}
@@ -100,6 +100,7 @@ module _ (names : RewriteNames) (r : Rewritten) (file profile : List ℕ) (old m
   stops : StoppedWriting names r mid new → FailsToWrite names old new
   stops (at_out rose quiet others) = answers.at_out (record {
     cause = rose_after _ _ _ (between.writes_are.each names.out) rose;
+    accepted = λ told. of_inputs old names file profile IsAccepted (read told) made.accepted;
     unprinted = quiet ∙ between.taken_is;
     others = record { others = λ name apart. others.others name apart ∙ between.content_is.each name };
   })
@@ -111,6 +112,7 @@ module _ (names : RewriteNames) (r : Rewritten) (file profile : List ℕ) (old m
   })
   stops (at_summary both rose front) = answers.at_summary
       (subst (λ (n : ℕ). Rose n new.faults) between.faults_are rose)
+      (count_of file, front_taken front)
       (λ told. of_inputs old names file profile (FailsAtSummary names old new) (read told) (record {
         accepted = made.accepted;
         out = out_holds (both.out (still_told told));
@@ -127,6 +129,7 @@ module _ (names : RewriteNames) (r : Rewritten) (file profile : List ℕ) (old m
       map = map_holds (all.both.map (still_told told));
       line = line_taken all.line;
     });
+    prints = (count_of file, line_taken all.line);
     others = others_kept all.both.others;
   }
   writes status.Usage all = absurd all

@@ -1,12 +1,12 @@
 -- Each answer but Ok and want of memory has a cause: a fault that is present, or a count that rose.
-use Rattle.std.proofs.Common.{◌≡◌, ◌⊎◌, inl, inr, ℕ, ◌<◌, ◌≤◌, List, Option, Some, None, IsSomeAnd, arith}
+use Rattle.std.proofs.Common.{inl, inr, ℕ, List, Option, Some, None, IsSomeAnd, arith}
 use Rattle.rb_bytes.specs.declared.fault.Fault.{Fault}
 use Rattle.bolt_cli.specs.declared.status.Status.{Status}
 use Rattle.bolt_cli.specs.declared.status.Status.TheVariants as status
 use Rattle.bolt_cli.specs.World.{World}
 use Rattle.bolt_cli.specs.Words.{Command, Rewrite}
 use Rattle.bolt_cli.specs.Refused.{IsRefused, too_long, not_elf, truncated, not_built, IsAccepted}
-use Rattle.bolt_cli.specs.Answers.{Answers, Completes, FailsToWrite, at_out, at_map, at_summary, at_refusal, NoneRose, IsOkOrNoMemory}
+use Rattle.bolt_cli.specs.Answers.{Answers, Completes, at_out, at_map, at_summary, at_refusal}
 
 -- a file that is refused isn't accepted
 not_both : (file profile : List ℕ) (fault : Fault) → IsRefused file profile fault → IsAccepted file profile → ⊥
@@ -31,6 +31,6 @@ completes (Some (Rewrite names)) (status.Refused fault) old new done = λ told a
 completes (Some (Rewrite names)) status.ReadFault old new done = λ told accepted quiet. elim done.cause [ inl rose ↦ quiet.file rose | inr rose ↦ quiet.profile rose ]
 completes (Some (Rewrite names)) status.WriteFault old new (at_out stopped) = λ told accepted quiet. quiet.out stopped.cause
 completes (Some (Rewrite names)) status.WriteFault old new (at_map stopped) = λ told accepted quiet. quiet.map stopped.cause
-completes (Some (Rewrite names)) status.WriteFault old new (at_summary rose whole others) = λ told accepted quiet. quiet.line rose
+completes (Some (Rewrite names)) status.WriteFault old new (at_summary rose front whole others) = λ told accepted quiet. quiet.line rose
 completes (Some (Rewrite names)) status.WriteFault old new (at_refusal fault present stopped) = λ told accepted quiet. quiet.line stopped.print.cause
 completes (Some (Rewrite names)) status.NoMemory old new done = λ told accepted quiet. tt

@@ -29,8 +29,13 @@ pub record Rewrote (names : RewriteNames) (old new : World) (file profile : List
   pub map : new.content names.map ≡ Some (map_text (spans_of file))
   pub line : TakesAll old.taken new.taken (summary_of file)
 
+-- a summary of some count of instructions
+abbrev pub SomeSummary : (List ℕ → Type 0) → Type 0
+SomeSummary P = (count : ℕ) × P (summary_line 1 count (4 * count) 0 0)
+
 pub record IsDone (names : RewriteNames) (old new : World) : Type 0 where
   pub rewrote : IsTrue old.told → OfInputs old names (Rewrote names old new)
+  pub prints : SomeSummary (TakesAll old.taken new.taken)
   pub others : (name : List ℕ) → name ≢ names.out → name ≢ names.map → new.content name ≡ old.content name
 
 -- Usage, and a refusal: a line was printed, and no file was written.
@@ -58,6 +63,7 @@ pub record FailsToRead (names : RewriteNames) (old new : World) : Type 0 where
 
 pub record FailsAtOut (names : RewriteNames) (old new : World) : Type 0 where
   pub cause : Rose (old.writes names.out) (new.writes names.out)
+  pub accepted : IsTrue old.told → OfInputs old names IsAccepted
   pub unprinted : new.taken ≡ old.taken
   pub others : UnchangedBut names.out old.content new.content
 
@@ -85,7 +91,7 @@ pub record FailsAtLine (line : List ℕ) (old new : World) : Type 0 where
 pub data FailsToWrite (names : RewriteNames) (old new : World) : Type 0 where
   at_out : FailsAtOut names old new → FailsToWrite names old new
   at_map : FailsAtMap names old new → FailsToWrite names old new
-  at_summary : Rose old.faults new.faults → (IsTrue old.told → OfInputs old names (FailsAtSummary names old new)) → ((name : List ℕ) → name ≢ names.out → name ≢ names.map → new.content name ≡ old.content name) → FailsToWrite names old new
+  at_summary : Rose old.faults new.faults → SomeSummary (TakesFront old.taken new.taken) → (IsTrue old.told → OfInputs old names (FailsAtSummary names old new)) → ((name : List ℕ) → name ≢ names.out → name ≢ names.map → new.content name ≡ old.content name) → FailsToWrite names old new
   at_refusal : (fault : Fault) → (IsTrue old.told → OfInputs old names (λ file profile. IsRefused file profile fault)) → FailsAtLine (refused_line fault) old new → FailsToWrite names old new
 
 -- the answers of a rewrite

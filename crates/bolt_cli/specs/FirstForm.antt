@@ -1,5 +1,5 @@
 -- The files that are rewritten today: one function of straight-line code, and nothing else.
-use Rattle.std.specs.Prelude.{◌≡◌, ◌⊎◌, ℕ, ◌+◌, ◌-◌, ◌*◌, ◌/◌, ◌%◌, ◌<◌, ◌≤◌, ◌==◌, Bool, true, false, List, Some, length, codes}
+use Rattle.std.specs.Prelude.{◌≡◌, ◌⊎◌, ℕ, ◌+◌, ◌-◌, ◌*◌, ◌/◌, ◌%◌, ◌<◌, ◌≤◌, ◌==◌, Bool, true, false, List, [], Some, length, codes}
 use Rattle.rv_code.specs.Decoding.{Decodes}
 use Rattle.rv_code.specs.declared.inst.Inst.{Inst}
 use Rattle.rv_code.specs.declared.inst.Inst.TheVariants.{Lui, Addi, Slti, Sltiu, Xori, Ori, Andi, Slli, Srli, Srai, Ecall}
@@ -9,7 +9,7 @@ use Rattle.elf_image.specs.Header.{number_at, e_type, e_machine, e_entry, e_phof
 use Rattle.elf_image.specs.Image.{end_of, has_flag}
 use Rattle.elf_image.specs.Sections.{section_header, contents, HasText}
 use Rattle.elf_image.specs.declared.section.SectionHeader.{SectionHeader}
-use Rattle.elf_image.specs.declared.section.TheConstants.{SHT_NOBITS, SHF_ALLOC, SHF_EXECINSTR, SHDR_SIZE}
+use Rattle.elf_image.specs.declared.section.TheConstants.{SHT_NOBITS, SHT_PROGBITS, SHT_STRTAB, SHF_ALLOC, SHF_EXECINSTR, SHDR_SIZE}
 
 -- the instructions of straight-line code: OP-IMM, LUI and ECALL
 abbrev pub IsStraight : Inst → Type 0
@@ -88,15 +88,19 @@ text_section file = section_header file 1
 abbrev pub names_section : List ℕ → SectionHeader
 names_section file = section_header file 2
 
--- Sections: the null one, .text, which alone is loaded and executable, and .shstrtab.
+-- Sections: the null one, .text, which alone is loaded and executable, and .shstrtab. The names begin with
+-- that of the null section, which is empty.
 pub record HasFirstSections (file : List ℕ) (null text names : SectionHeader) : Type 0 where
   pub null_is : null ≡ null_header
+  pub text_kind : text.kind ≡ SHT_PROGBITS
+  pub names_kind : names.kind ≡ SHT_STRTAB
   pub text_in_file : LiesInFile file text
   pub names_in_file : LiesInFile file names
   pub text_loaded : is_loaded text ≡ true
   pub text_code : is_code text ≡ true
   pub names_unloaded : is_loaded names ≡ false
   pub names_no_code : is_code names ≡ false
+  pub null_name : HasText (contents file names) 0 []
   pub text_name : HasText (contents file names) text.name (codes ".text")
   pub names_name : HasText (contents file names) names.name (codes ".shstrtab")
 
@@ -112,6 +116,7 @@ pub record HasFirstCode (file : List ℕ) (p : Segment) (text : SectionHeader) :
   pub starts_inside : p.vaddr ≤ text.addr
   pub ends_with : text.addr + text.size ≡ end_of p
   pub entry : e_entry file ≡ text.addr
+  pub in_place : text.offset ≡ text.addr - p.vaddr
   pub straight : (k : ℕ) → 4 * k < text.size → IsStraightAt file (offset_of file text.addr + 4 * k)
 
 pub record IsFirstForm (file : List ℕ) : Type 0 where

@@ -7,7 +7,9 @@ ghost use Rattle.elf_image.specs.Sections.{section_header, contents, HasText};
 ghost use Rattle.bolt_cli.specs.FirstForm.{IsStraight, IsStraightAt, HasFirstHeader, HasFirstSegment, HasFirstSections, HasFirstCode, IsFirstForm, LiesInFile, null_header, is_loaded, is_code, code_segment, text_section, names_section, offset_of};
 
 use elf_image::number::{u16_at, u32_at, u64_at};
-use elf_image::section::{SHDR_SIZE, SHF_ALLOC, SHF_EXECINSTR, SHT_NOBITS};
+use elf_image::section::{
+    SHDR_SIZE, SHF_ALLOC, SHF_EXECINSTR, SHT_NOBITS, SHT_PROGBITS, SHT_STRTAB,
+};
 use elf_image::segment::{PF_R, PF_W, PF_X, PHDR_SIZE, PT_LOAD};
 use elf_image::{SectionHeader, Segment};
 use rv_code::Inst;
@@ -21,6 +23,20 @@ pub const HEADER_SIZE: usize = 64;
 const ET_EXEC: u16 = 2;
 
 const EM_RISCV: u16 = 0xf3;
+
+/// The header of the section that is none. gABI, "Section Header Table Entry for Index 0".
+pub const NULL_HEADER: SectionHeader = SectionHeader {
+    name: 0,
+    kind: 0,
+    flags: 0,
+    addr: 0,
+    offset: 0,
+    size: 0,
+    link: 0,
+    info: 0,
+    align: 0,
+    entsize: 0,
+};
 
 /// The end of the addresses that a segment may have.
 const ADDRESS_END: u64 = 0x4000_0000;
@@ -137,19 +153,7 @@ fn is_code(section: &SectionHeader) -> bool
 fn is_null(section: &SectionHeader) -> bool
     ensures { IsTrue result ↔ (section.now ≡ null_header) }
 {
-    *section
-        == SectionHeader {
-            name: 0,
-            kind: 0,
-            flags: 0,
-            addr: 0,
-            offset: 0,
-            size: 0,
-            link: 0,
-            info: 0,
-            align: 0,
-            entsize: 0,
-        }
+    *section == NULL_HEADER
 }
 
 fn has_first_sections(
@@ -166,8 +170,13 @@ fn has_first_sections(
     if !is_loaded(text) || !is_code(text) || is_loaded(names) || is_code(names) {
         return false;
     }
+    if text.kind != SHT_PROGBITS || names.kind != SHT_STRTAB {
+        return false;
+    }
     let table = section_bytes(file, names);
-    has_text(table, text.name, b".text\0") && has_text(table, names.name, b".shstrtab\0")
+    has_text(table, 0, b"\0")
+        && has_text(table, text.name, b".text\0")
+        && has_text(table, names.name, b".shstrtab\0")
 }
 
 fn is_straight(inst: &Inst) -> bool
@@ -228,11 +237,11 @@ fn has_first_code(file: &[u8], segment: &Segment, text: &SectionHeader) -> bool
     if text.addr > end || text.size != end - text.addr || u64_at(file, 0x18) != text.addr {
         return false;
     }
-    is_straight_code(
-        file,
-        (text.addr - segment.vaddr) as usize,
-        text.size as usize,
-    )
+    let start = text.addr - segment.vaddr;
+    if text.offset != start {
+        return false;
+    }
+    is_straight_code(file, start as usize, text.size as usize)
 }
 
 impl FirstForm {

@@ -7,7 +7,7 @@ ghost use Rattle.bolt_cli.specs.FirstForm.{IsFirstForm, LiesInFile};
 ghost use Rattle.bolt_cli.specs.Form.{IsFormOf};
 ghost use Rattle.bolt_cli.specs.Moved.{IsMoved, IsArea, IsPatched};
 
-use crate::first_form::{FirstForm, section_bytes};
+use crate::first_form::{FirstForm, NULL_HEADER, section_bytes};
 use byteorder::{ByteOrder, LittleEndian};
 use elf_image::number::{patch_u16, patch_u64, u64_at};
 use elf_image::section::{SHDR_SIZE, SHF_ALLOC, SHF_EXECINSTR, SHT_PROGBITS};
@@ -122,7 +122,13 @@ fn write_tail(
     bytes.extend_from_slice(names)?;
     bytes.extend_from_slice(ADDED_NAMES)?;
     let table_at = pad(&mut bytes, before, TABLE_ALIGN)?;
-    bytes.extend_from_slice(&[0u8; SHDR_SIZE])?;
+    put_section_header(
+        &mut bytes,
+        &SectionHeader {
+            offset: before as u64,
+            ..NULL_HEADER
+        },
+    )?;
     put_section_header(
         &mut bytes,
         &SectionHeader {

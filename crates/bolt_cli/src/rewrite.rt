@@ -201,6 +201,7 @@ fn write_outputs<F: Files, O: Sink>(
 ) -> Status
     requires { words.now.out.now ≢ words.now.map.now }
     ensures answer { OutputsWritten result (names_read words.now) rewritten.now (record { told = F.told files.old; content = F.content files.old; reads = F.read_count files.old; writes = F.write_count files.old; taken = O.taken out.old; faults = O.count out.old }) (record { told = F.told files.new; content = F.content files.new; reads = F.read_count files.new; writes = F.write_count files.new; taken = O.taken out.new; faults = O.count out.new }) }
+    ensures told_kept { F.told files.new ≡ F.told files.old }
     ensures reads { NeverFalls (F.read_count files.old) (F.read_count files.new) }
     ensures writes { NeverFalls (F.write_count files.old) (F.write_count files.new) }
     ensures faults { O.count out.old ≤ O.count out.new }
@@ -226,6 +227,7 @@ pub fn rewrite<F: Files, O: Sink>(
 ) -> Status
     requires { words.now.out.now ≢ words.now.map.now }
     ensures answer { RewriteAnswers result (names_read words.now) (record { told = F.told files.old; content = F.content files.old; reads = F.read_count files.old; writes = F.write_count files.old; taken = O.taken out.old; faults = O.count out.old }) (record { told = F.told files.new; content = F.content files.new; reads = F.read_count files.new; writes = F.write_count files.new; taken = O.taken out.new; faults = O.count out.new }) }
+    ensures told_kept { F.told files.new ≡ F.told files.old }
     ensures reads { NeverFalls (F.read_count files.old) (F.read_count files.new) }
     ensures writes { NeverFalls (F.write_count files.old) (F.write_count files.new) }
     ensures faults { O.count out.old ≤ O.count out.new }

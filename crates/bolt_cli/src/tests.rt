@@ -103,6 +103,15 @@ fn other_files_are_refused(rt: HostRuntime) -> Result<(), Fail> {
     check_refused(&rt, alloc, cut, FaultKind::Truncated, truncated)?;
     let mut jump = exit7(alloc)?;
     assert_eq!(rt; jump.len(), 352);
+    let mut machine = exit7(alloc)?;
+    assert_eq!(rt; machine.len(), 352);
+    machine[0x12] = 0;
+    check_refused(&rt, alloc, machine, FaultKind::NotElf, not_elf)?;
+    let mut short = exit7(alloc)?;
+    assert_eq!(rt; short.len(), 352);
+    short[0x12] = 0;
+    short.truncate(19);
+    check_refused(&rt, alloc, short, FaultKind::Truncated, truncated)?;
     jump[0x78] = 0x6f;
     check_refused(&rt, alloc, jump, FaultKind::NotBuilt, not_built)?;
     Ok(())
@@ -111,7 +120,7 @@ fn other_files_are_refused(rt: HostRuntime) -> Result<(), Fail> {
 #[test]
 fn words_that_are_no_command(rt: HostRuntime) -> Result<(), Fail> {
     let alloc = rt.alloc();
-    let lines: [&[&str]; 9] = [
+    let lines: [&[&str]; 11] = [
         &[],
         &["rewrite"],
         &["rewrite", "in", "profile", "out"],
@@ -121,11 +130,14 @@ fn words_that_are_no_command(rt: HostRuntime) -> Result<(), Fail> {
         &["rewrite", "--steps=3", "in", "profile", "out", "map"],
         &["--", "rewrite", "in", "profile", "out", "map"],
         &["map", "in", "profile"],
+        &["run", "--steps=x", "in"],
+        &["lookup", "in", "zz"],
     ];
     for line in lines {
         let mut files = files(alloc, exit7(alloc)?, &[])?;
         let (status, out) = answer(alloc, line, &mut files, 200)?;
         assert_eq!(rt; status, Status::Usage);
+        assert_eq!(rt; status.number(), 220);
         assert_eq!(rt; out.taken(), USAGE);
         assert!(rt; files.content("out").is_none());
     }

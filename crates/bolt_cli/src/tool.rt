@@ -32,6 +32,7 @@ fn perform<F: Files, O: Sink>(
 ) -> Status
     requires { NamesDiffer command.now }
     ensures answer { Answers (Some (command_read command.now)) result (record { told = F.told files.old; content = F.content files.old; reads = F.read_count files.old; writes = F.write_count files.old; taken = O.taken out.old; faults = O.count out.old }) (record { told = F.told files.new; content = F.content files.new; reads = F.read_count files.new; writes = F.write_count files.new; taken = O.taken out.new; faults = O.count out.new }) }
+    ensures told_kept { F.told files.new ≡ F.told files.old }
     ensures reads { NeverFalls (F.read_count files.old) (F.read_count files.new) }
     ensures writes { NeverFalls (F.write_count files.old) (F.write_count files.new) }
     ensures faults { O.count out.old ≤ O.count out.new }
@@ -54,6 +55,7 @@ pub fn tool<F: Files, I: Source, O: Sink>(
 ) -> Status
     ensures answer { Answers (command_of (map string_bytes words.now)) result (record { told = F.told files.old; content = F.content files.old; reads = F.read_count files.old; writes = F.write_count files.old; taken = O.taken out.old; faults = O.count out.old }) (record { told = F.told files.new; content = F.content files.new; reads = F.read_count files.new; writes = F.write_count files.new; taken = O.taken out.new; faults = O.count out.new }) }
     ensures complete { Completes (command_of (map string_bytes words.now)) result (record { told = F.told files.old; content = F.content files.old; reads = F.read_count files.old; writes = F.write_count files.old; taken = O.taken out.old; faults = O.count out.old }) (record { told = F.told files.new; content = F.content files.new; reads = F.read_count files.new; writes = F.write_count files.new; taken = O.taken out.new; faults = O.count out.new }) }
+    ensures told_kept { F.told files.new ≡ F.told files.old }
     ensures reads { NeverFalls (F.read_count files.old) (F.read_count files.new) }
     ensures writes { NeverFalls (F.write_count files.old) (F.write_count files.new) }
     ensures faults { O.count out.old ≤ O.count out.new }

@@ -9,6 +9,9 @@ pub const SHT_NOBITS: u32 = 8;
 /// The type of a section with contents of the program's own. gABI, "Section Types".
 pub const SHT_PROGBITS: u32 = 1;
 
+/// The type of a section with texts. gABI, "Section Types".
+pub const SHT_STRTAB: u32 = 3;
+
 /// The flags of a section that is loaded, and of one that holds instructions. gABI, "Section
 /// Attribute Flags".
 pub const SHF_ALLOC: u64 = 2;

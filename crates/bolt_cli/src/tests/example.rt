@@ -47,7 +47,8 @@ pub fn exit7(alloc: Global) -> Result<Vec<u8>, Fail> {
 }
 
 /// The example with its code moved, worked out by hand: the segment grows to a0, the names stand there
-/// with `.old.text` and `.text` behind them, and four section headers at c8.
+/// with `.old.text` and `.text` behind them, and four section headers at c8. The null section, which is
+/// empty, stands first of what isn't loaded.
 pub fn exit7_moved(alloc: Global) -> Result<Vec<u8>, Fail> {
     let mut file = Vec::from_slice(alloc, b"\x7fELF\x02\x01\x01\0\0\0\0\0\0\0\0\0")?;
     put(&mut file, 2, &[2, 0xf3])?;
@@ -65,7 +66,7 @@ pub fn exit7_moved(alloc: Global) -> Result<Vec<u8>, Fail> {
         put(&mut file, 4, &[word as u64])?;
     }
     file.extend_from_slice(b"\0.text\0.shstrtab\0.old.text\0.text\0\0\0\0\0\0\0\0")?;
-    put(&mut file, 8, &[0; 8])?;
+    put(&mut file, 8, &[0, 0, 0, 0xa0, 0, 0, 0, 0])?;
     put(&mut file, 4, &[17, 1])?;
     put(&mut file, 8, &[6, 0x10078, 0x78, 16, 0, 4, 0])?;
     put(&mut file, 4, &[7, 3])?;

@@ -10,6 +10,7 @@ returns c = (
     starts_inside = omega arith;
     ends_with = omega arith;
     entry = sym c.u64_at.ensures ∙ search rules;
+    in_place = omega arith;
     straight = straight_from c.args.file.now c.args.segment.now c.args.text.now c.requires.its_segment (c.is_straight_code.ensures.0 holds);
   },
   λ code. c.is_straight_code.ensures.1 (straight_back c.args.file.now c.args.segment.now c.args.text.now c.requires.its_segment code.straight),

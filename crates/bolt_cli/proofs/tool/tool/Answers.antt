@@ -1,4 +1,4 @@
-use Rattle.std.proofs.Common.{◌≡◌, Option, Some, subst}
+use Rattle.std.proofs.Common.{Option, Some, subst}
 use Rattle.bolt_cli.specs.Answers.{Answers, Completes}
 use Rattle.bolt_cli.specs.Read.{command_read}
 use Rattle.bolt_cli.specs.Words.{Command}
