@@ -6,5 +6,6 @@ pub mod MemSink
 pub mod MemSource
 pub mod Names
 pub mod Printed
+pub mod Seen
 pub mod Slot
 pub mod Slots

@@ -1,6 +1,7 @@
 -- What files in memory hold, have room for and answer.
-use Rattle.std.specs.Prelude.{ℕ, List, Option, Some, None, Bool, false, nat_le, ◌||◌, not, is_none}
+use Rattle.std.specs.Prelude.{ℕ, List, Option, Some, None, Bool, true, false, nat_le, ◌||◌, not, is_none}
 use Rattle.rb_io.specs.Calls.{fails_next}
+use Rattle.rb_io.specs.Seen.{FilesSeen}
 use Rattle.rb_io.specs.Slots.{content_at, room_at}
 use Rattle.rb_io.specs.declared.calls.Calls.{Calls}
 use Rattle.rb_io.specs.declared.mem_files.MemFiles.{MemFiles}
@@ -16,6 +17,15 @@ room_for files = room_at files.slots
 -- the reads and writes so far
 abbrev pub calls_of : MemFiles → Calls
 calls_of files = files.calls
+
+-- what contracts see of them: one count serves all names
+abbrev pub files_seen : MemFiles → FilesSeen
+files_seen files = record {
+  told = true;
+  content = content files;
+  read_faults = λ name. files.calls.faults;
+  write_faults = λ name. files.calls.faults;
+}
 
 -- so many bytes fit
 abbrev pub has_room : Option ℕ → ℕ → Bool

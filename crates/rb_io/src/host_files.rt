@@ -25,13 +25,7 @@ impl<'a, R: std::rt::Files> HostFiles<'a, R> {
 }
 
 impl<'a, R: std::rt::Files> Files for HostFiles<'a, R> {
-    ghost told = { λ files. false };
-
-    ghost content = { λ files name. None };
-
-    ghost read_count = { λ files name. files.faults };
-
-    ghost write_count = { λ files name. files.faults };
+    ghost seen = { λ files. record { told = false; content = λ name. None; read_faults = λ name. files.faults; write_faults = λ name. files.faults } };
 
     fn read_all(&mut self, name: &str, limit: usize, into: &mut Vec<u8>) -> ReadAll {
         into.clear();

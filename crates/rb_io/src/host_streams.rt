@@ -25,9 +25,7 @@ impl<R: Read> HostSource<R> {
 }
 
 impl<R: Read> Source for HostSource<R> {
-    ghost left = { λ source. None };
-
-    ghost count = { λ source. source.faults };
+    ghost seen = { λ source. record { left = None; faults = source.faults } };
 
     fn read(&mut self, buf: &mut [u8]) -> Got
         ensures within { IfBytes result (λ n. n ≤ length buf.new) }
@@ -69,9 +67,7 @@ impl<W: Write> HostSink<W> {
 }
 
 impl<W: Write> Sink for HostSink<W> {
-    ghost taken = { λ sink. None };
-
-    ghost count = { λ sink. sink.faults };
+    ghost seen = { λ sink. record { taken = None; faults = sink.faults } };
 
     fn write(&mut self, piece: &[u8]) -> Put
         ensures within { IfTook result (λ n. n ≤ length piece.now) }

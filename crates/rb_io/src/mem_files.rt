@@ -4,8 +4,9 @@ ghost use Rattle.std.specs.Option.{option_copied};
 ghost use Rattle.rb_io.specs.Answers.{read_failed, write_failed};
 ghost use Rattle.rb_io.specs.Calls.{no_calls, after_call};
 ghost use Rattle.rb_io.specs.Counts.{Rose};
-ghost use Rattle.rb_io.specs.MemFiles.{content, room_for, calls_of, read_fails, write_fails};
-ghost use Rattle.rb_io.specs.Names.{Unchanged, UnchangedBut, NeverFalls};
+ghost use Rattle.rb_io.specs.MemFiles.{content, room_for, calls_of, files_seen, read_fails, write_fails};
+ghost use Rattle.rb_io.specs.Names.{Unchanged, UnchangedBut};
+ghost use Rattle.rb_io.specs.Seen.{FilesGoOn};
 
 use crate::calls::Calls;
 use crate::files::{Files, ReadAll, Wrote};
@@ -77,13 +78,7 @@ impl MemFiles {
 }
 
 impl Files for MemFiles {
-    ghost told = { λ files. true };
-
-    ghost content = { λ files. content files };
-
-    ghost read_count = { λ files name. (calls_of files).faults };
-
-    ghost write_count = { λ files name. (calls_of files).faults };
+    ghost seen = { λ files. files_seen files };
 
     fn read_all(&mut self, name: &str, limit: usize, into: &mut Vec<u8>) -> ReadAll
         ensures done { result ≡ ReadAll.Done → content self.old name.now ≡ Some into.new.items }
@@ -92,8 +87,7 @@ impl Files for MemFiles {
         ensures failed { result ≡ ReadAll.Failed → Rose (calls_of self.old).faults (calls_of self.new).faults }
         ensures emptied { result ≢ ReadAll.Done → into.new.items ≡ [] }
         ensures contents_kept { Unchanged (content self.old) (content self.new) }
-        ensures read_counts { NeverFalls (λ name. (calls_of self.old).faults) (λ name. (calls_of self.new).faults) }
-        ensures write_counts { NeverFalls (λ name. (calls_of self.old).faults) (λ name. (calls_of self.new).faults) }
+        ensures goes_on { FilesGoOn (files_seen self.old) (files_seen self.new) }
         // It fails exactly where its number is to fail or the name isn't there.
         ensures fails { read_failed result ≡ read_fails self.old name.now }
         // Memory is wanted only for a content within the limit.
@@ -116,8 +110,7 @@ impl Files for MemFiles {
         ensures done { result ≡ Wrote.Done → content self.new name.now ≡ Some bytes.now }
         ensures failed { result ≡ Wrote.Failed → Rose (calls_of self.old).faults (calls_of self.new).faults }
         ensures others_kept { UnchangedBut name.now (content self.old) (content self.new) }
-        ensures read_counts { NeverFalls (λ name. (calls_of self.old).faults) (λ name. (calls_of self.new).faults) }
-        ensures write_counts { NeverFalls (λ name. (calls_of self.old).faults) (λ name. (calls_of self.new).faults) }
+        ensures goes_on { FilesGoOn (files_seen self.old) (files_seen self.new) }
         // It fails exactly where its number is to fail or the name hasn't room for the bytes, and then changes no content.
         ensures fails { write_failed result ≡ write_fails self.old name.now (length bytes.now) }
         ensures contents_kept { result ≡ Wrote.Failed → Unchanged (content self.old) (content self.new) }

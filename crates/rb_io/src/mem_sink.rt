@@ -63,9 +63,7 @@ impl Sink for MemSink {
     ghost use Rattle.rb_io.specs.Counts.{Rose};
     ghost use Rattle.rb_io.specs.MemSink.{bytes_taken, room_left, room_after, calls_of, write_answer};
 
-    ghost taken = { λ s. Some (bytes_taken s) };
-
-    ghost count = { λ s. (calls_of s).faults };
+    ghost seen = { λ s. record { taken = Some (bytes_taken s); faults = (calls_of s).faults } };
 
     fn write(&mut self, piece: &[u8]) -> Put
         ensures within { IfTook result (λ n. n ≤ length piece.now) }

@@ -39,9 +39,7 @@ impl Source for MemSource {
     ghost use Rattle.rb_io.specs.Counts.{Rose};
     ghost use Rattle.rb_io.specs.MemSource.{bytes_left, calls_of, read_answer};
 
-    ghost left = { λ s. Some (bytes_left s) };
-
-    ghost count = { λ s. s.calls.faults };
+    ghost seen = { λ s. record { left = Some (bytes_left s); faults = (calls_of s).faults } };
 
     fn read(&mut self, buf: &mut [u8]) -> Got
         ensures within { IfBytes result (λ n. n ≤ length buf.new) }

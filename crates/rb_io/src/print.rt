@@ -11,10 +11,10 @@ use crate::sink::{Put, Sink};
 /// `Took` has the whole length. After `Failed` a part of the text, from its front, was taken, and never all of it.
 pub fn print_all<O: Sink>(out: &mut O, text: &[u8]) -> Put
     ensures whole { IfTook result (λ n. n ≡ length text.now) }
-    ensures all { IfTook result (λ n. TakesAll (O.taken out.old) (O.taken out.new) text.now) }
-    ensures front { result ≡ Put.Failed → TakesFront (O.taken out.old) (O.taken out.new) text.now }
-    ensures failed { result ≡ Put.Failed → Rose (O.count out.old) (O.count out.new) }
-    ensures never_falls { O.count out.old ≤ O.count out.new }
+    ensures all { IfTook result (λ n. TakesAll (O.seen out.old).taken (O.seen out.new).taken text.now) }
+    ensures front { result ≡ Put.Failed → TakesFront (O.seen out.old).taken (O.seen out.new).taken text.now }
+    ensures failed { result ≡ Put.Failed → Rose (O.seen out.old).faults (O.seen out.new).faults }
+    ensures never_falls { (O.seen out.old).faults ≤ (O.seen out.new).faults }
 {
     let mut done = 0;
     while done < text.len() {
