@@ -95,7 +95,7 @@ refuses_file s next number =
 abbrev pub sets_break : ByteState → ℕ → ByteState → ByteOutcome
 sets_break s next t = returns t next (record { number = 214; used = s.registers a0 ∷ []; moved = []; result = t.program_break })
 
--- the bytes of the buffer at a1, of which there are as many as a2 says, but at most 65536
+-- how many bytes the buffer at a1 has: as many as a2 says, but at most 65536
 abbrev pub buffer_size : ByteState → ℕ
 buffer_size s = min (s.registers a2) most_moved
 

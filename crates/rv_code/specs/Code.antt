@@ -1,0 +1,53 @@
+-- The code of a file as the layers above see it, and which addresses it names.
+use Rattle.std.specs.Prelude.{◌≡◌, ◌⊎◌, ℕ, Bool, List, IsTrue, Some, Any, is_some}
+use Rattle.rv_code.specs.declared.placed.Func.{Func}
+use Rattle.rv_code.specs.declared.placed.Role.{Role}
+use Rattle.rv_code.specs.declared.placed.Role.TheVariants.{Plain, CallHi, CallLo, Hi, Lo, AbsHi, AbsLo}
+use Rattle.rv_code.specs.declared.cell.CodeCell.{CodeCell}
+use Rattle.rv_code.specs.declared.cell.CellKind.{CellKind}
+use Rattle.rv_code.specs.declared.cell.CellKind.TheVariants.{Abs, Diff}
+use Rattle.rv_code.specs.Flow.{insts_of, placed_at, target_of}
+
+-- A role names its target. It doesn't name the AUIPC whose lower part it is.
+abbrev pub RoleNames : Role → ℕ → Type 0
+RoleNames Plain a = ⊥
+RoleNames (CallHi target) a = target ≡ a
+RoleNames (CallLo hi target) a = target ≡ a
+RoleNames (Hi target) a = target ≡ a
+RoleNames (Lo hi target) a = target ≡ a
+RoleNames (AbsHi target) a = target ≡ a
+RoleNames (AbsLo target) a = target ≡ a
+
+-- A cell names its label, or both labels of its difference.
+abbrev pub KindNames : CellKind → ℕ → Type 0
+KindNames (Abs to) a = to ≡ a
+KindNames (Diff to from) a = (to ≡ a) ⊎ (from ≡ a)
+
+abbrev pub CellNames : CodeCell → ℕ → Type 0
+CellNames cell a = KindNames cell.kind a
+
+-- The functions of a file, the roles of instructions by their addresses, the code cells, and the entry point.
+pub record Code : Type 0 where
+  pub funcs : List Func
+  pub roles : List (ℕ × Role)
+  pub cells : List CodeCell
+  pub entry : ℕ
+
+-- A code address is the start of an instruction of a function.
+abbrev pub is_code : List Func → ℕ → Bool
+is_code funcs a = is_some (placed_at funcs a)
+
+-- a role, a cell or the entry point holds an address
+pub data IsHeld (code : Code) (a : ℕ) : Type 0 where
+  by_role : Any (λ r. RoleNames r.1 a) code.roles → IsHeld code a
+  by_cell : Any (λ c. CellNames c a) code.cells → IsHeld code a
+  by_entry : code.entry ≡ a → IsHeld code a
+
+-- A named address is a code address that is held: it can be a value of the program.
+pub record IsNamed (code : Code) (a : ℕ) : Type 0 where
+  pub code_address : IsTrue (is_code code.funcs a)
+  pub held : IsHeld code a
+
+-- a branch or jump goes to an address
+abbrev pub IsTarget : List Func → ℕ → Type 0
+IsTarget funcs a = Any (λ p. target_of p ≡ Some a) (insts_of funcs)

@@ -1,0 +1,66 @@
+-- Edges: from which block control can go to which other of the same function, and the pairs of an indirect jump and
+-- an address to which a table leads it.
+use Rattle.std.specs.Prelude.{◌≡◌, ◌≢◌, ℕ, ◌+◌, List, Some, IsTrue, IsSomeAnd, Contains, Any, slice_get}
+use Rattle.rv_code.specs.declared.action.Action.{Action}
+use Rattle.rv_code.specs.declared.action.Action.TheVariants.{JumpTo}
+use Rattle.rv_code.specs.declared.placed.Placed.{Placed}
+use Rattle.rv_code.specs.declared.placed.Func.{Func}
+use Rattle.rv_code.specs.declared.placed.Block.{Block}
+use Rattle.rv_code.specs.declared.placed.Role.TheVariants.{Plain}
+use Rattle.rv_code.specs.declared.cell.CodeCell.{CodeCell}
+use Rattle.rv_code.specs.Blocks.{inst_at, func_of, EndsBlock}
+use Rattle.rv_code.specs.Code.{CellNames}
+use Rattle.rv_code.specs.Flow.{action_at, target_of, falls_at}
+use Rattle.rv_code.specs.Lists.{ListsPairs}
+
+-- Indirect jumps.
+
+-- An indirect jump through a table: a JALR that saves nothing, has no role and isn't a return, which reads
+-- x1 (psABI, "Integer Register Convention").
+abbrev pub IsTableJump : Placed → Type 0
+IsTableJump p = (p.role ≡ Plain) × Jumps (action_at p)
+  where
+    Jumps : Action → Type 0
+    Jumps (JumpTo rd rs1 imm) = (rd ≡ 0) × (rs1 ≢ 1)
+    Jumps _ = ⊥
+
+-- A table jump and an address go together where one function has both, and a cell names the address.
+pub record IsTablePair (funcs : List Func) (cells : List CodeCell) (jump target : ℕ) : Type 0 where
+  pub func : Func
+  pub is_func : Contains funcs func
+  pub jumps : Any (λ p. (p.addr ≡ jump) × IsTableJump p) func.insts.items
+  pub goes_to : Any (λ p. p.addr ≡ target) func.insts.items
+  pub named : Any (λ c. CellNames c target) cells
+
+-- all such pairs, in order
+abbrev pub AreTablePairs : List Func → List CodeCell → List (ℕ × ℕ) → Type 0
+AreTablePairs funcs cells pairs = ListsPairs (λ p. IsTablePair funcs cells p.0 p.1) pairs
+
+-- Edges.
+
+-- The last instruction of a block leads to an address: its branch or jump goes there, it falls there, or it
+-- is a table jump that goes with it. A call's target isn't led to.
+pub data LeadsTo (funcs : List Func) (cells : List CodeCell) (func : Func) (i : ℕ) (p : Placed) (a : ℕ) : Type 0 where
+  jumps : EndsBlock p → target_of p ≡ Some a → LeadsTo funcs cells func i p a
+  falls_into : IsTrue (falls_at func i p) → p.addr + p.len ≡ a → LeadsTo funcs cells func i p a
+  by_table : IsTablePair funcs cells p.addr a → LeadsTo funcs cells func i p a
+
+-- a block begins with the instruction at an address
+abbrev pub BeginsAt : List Func → Block → ℕ → Type 0
+BeginsAt funcs b a = IsSomeAnd (func_of funcs b) (λ func. IsSomeAnd (inst_at func b.first) (λ p. p.addr ≡ a))
+
+-- an edge leads from a block to a block of the same function
+pub record IsEdge (funcs : List Func) (cells : List CodeCell) (s t : Block) : Type 0 where
+  pub one_function : s.func ≡ t.func
+  pub to : ℕ
+  pub begins : BeginsAt funcs t to
+  pub leads : IsSomeAnd (func_of funcs s) (λ func. IsSomeAnd (inst_at func s.last) (λ p. LeadsTo funcs cells func s.last p to))
+
+-- the same of blocks by their places in a list of blocks
+abbrev pub IsEdgeIn : List Func → List CodeCell → List Block → ℕ × ℕ → Type 0
+IsEdgeIn funcs cells blocks e =
+    IsSomeAnd (slice_get blocks e.0) (λ s. IsSomeAnd (slice_get blocks e.1) (λ t. IsEdge funcs cells s t))
+
+-- all edges between the blocks of a list, in order
+abbrev pub AreEdges : List Func → List CodeCell → List Block → List (ℕ × ℕ) → Type 0
+AreEdges funcs cells blocks edges = ListsPairs (IsEdgeIn funcs cells blocks) edges

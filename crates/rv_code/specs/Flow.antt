@@ -1,0 +1,57 @@
+-- Where control goes after an instruction: calls, jumps, targets, and what falls into the next one.
+-- ISA manual, section 2.5.
+use Rattle.std.specs.Prelude.{ℕ, ◌+◌, ◌==◌, ◌&&◌, ◌||◌, Bool, true, false, not, Option, Some, None, List, length, flat_map, find}
+use Rattle.rv_code.specs.declared.action.Action.{Action}
+use Rattle.rv_code.specs.declared.action.Action.TheVariants.{Branch, Jump, JumpTo}
+use Rattle.rv_code.specs.declared.placed.Placed.{Placed}
+use Rattle.rv_code.specs.declared.placed.Func.{Func}
+use Rattle.rv_code.specs.Action.{action_of}
+use Rattle.rv_code.specs.Machine.{plus}
+use Rattle.rv_code.specs.Word.{word}
+
+-- A call is a jump that writes another register than x0: it saves a return address.
+abbrev pub is_call : Action → Bool
+is_call (Jump rd imm) = not (rd == 0)
+is_call (JumpTo rd rs1 imm) = not (rd == 0)
+is_call _ = false
+
+-- a jump that saves no return address
+abbrev pub is_plain_jump : Action → Bool
+is_plain_jump (Jump rd imm) = rd == 0
+is_plain_jump (JumpTo rd rs1 imm) = rd == 0
+is_plain_jump _ = false
+
+abbrev pub is_branch : Action → Bool
+is_branch (Branch test wanted rs1 rs2 imm) = true
+is_branch _ = false
+
+-- where a JAL or a conditional branch at an address goes, if it goes there
+abbrev pub target : ℕ → Action → Option ℕ
+target a (Branch test wanted rs1 rs2 imm) = Some (plus a (word imm))
+target a (Jump rd imm) = Some (plus a (word imm))
+target a _ = None
+
+-- An instruction falls into the next one unless it jumps and saves nothing, or is a call and the last
+-- instruction of its function: such a call is taken not to return.
+abbrev pub falls : Action → Bool → Bool
+falls action is_last = not (is_plain_jump action || (is_call action && is_last))
+
+-- The same of an instruction at its place.
+
+abbrev pub action_at : Placed → Action
+action_at p = action_of p.inst
+
+abbrev pub target_of : Placed → Option ℕ
+target_of p = target p.addr (action_at p)
+
+-- the same of the i-th instruction of a function
+abbrev pub falls_at : Func → ℕ → Placed → Bool
+falls_at func i p = falls (action_at p) (i + 1 == length func.insts.items)
+
+-- the instructions of functions, in order
+abbrev pub insts_of : List Func → List Placed
+insts_of funcs = flat_map (λ f. f.insts.items) funcs
+
+-- the instruction of a function that starts at an address
+abbrev pub placed_at : List Func → ℕ → Option Placed
+placed_at funcs a = find (λ p. p.addr == a) (insts_of funcs)
