@@ -1,7 +1,7 @@
 -- The fields of an ELF file's header and of its program headers, as they stand in its bytes.
 -- gABI, "ELF Header" and "Program Header"; psABI, "File Header". The counts are the header's own: those of
 -- files with more headers than it can say, which the gABI keeps in the null section, aren't followed.
-use Rattle.std.specs.Prelude.{ℕ, zero, suc, ◌+◌, ◌*◌, List, [], ◌∷◌, drop}
+use Rattle.std.specs.Prelude.{ℕ, zero, suc, ◌+◌, ◌*◌, ◌/◌, ◌%◌, ◌==◌, Bool, List, [], ◌∷◌, drop}
 use Rattle.byteorder.specs.Endian.{little_number}
 use Rattle.elf_image.specs.declared.segment.Segment.{Segment}
 use Rattle.elf_image.specs.declared.segment.TheConstants.{PHDR_SIZE}
@@ -9,6 +9,10 @@ use Rattle.elf_image.specs.declared.segment.TheConstants.{PHDR_SIZE}
 -- the number of so many bytes at an offset
 abbrev pub number_at : List ℕ → ℕ → ℕ → ℕ
 number_at file offset bytes = little_number bytes (drop offset file)
+
+-- a flag, which is a power of two, is set among others
+abbrev pub is_set : ℕ → ℕ → Bool
+is_set flag flags = flags / flag % 2 == 1
 
 abbrev pub e_type : List ℕ → ℕ
 e_type file = number_at file 0x10 2
@@ -59,6 +63,13 @@ segment_at file offset = record {
   memsz = number_at file (offset + 40) 8;
   align = number_at file (offset + 48) 8;
 }
+
+-- where the program header of an index stands, and what it says
+abbrev pub segment_place : List ℕ → ℕ → ℕ
+segment_place file index = e_phoff file + PHDR_SIZE * index
+
+abbrev pub segment : List ℕ → ℕ → Segment
+segment file index = segment_at file (segment_place file index)
 
 -- the n program headers from an offset on
 unfoldable pub segments_from : List ℕ → ℕ → ℕ → List Segment

@@ -1,9 +1,9 @@
 -- Section headers as they stand in a file's bytes. gABI, "Section Header".
-use Rattle.std.specs.Prelude.{ℕ, ◌+◌, ◌*◌, ◌==◌, if◌then◌else◌, nat_eq, IsTrue, List, [], ◌∷◌, ◌++◌, take, drop}
-use Rattle.std.specs.List.{starts_with}
+use Rattle.std.specs.Prelude.{ℕ, ◌+◌, ◌*◌, ◌==◌, if◌then◌else◌, List, [], map, take, drop, take_while, not}
+use Rattle.std.specs.List.{range_with_len}
 use Rattle.elf_image.specs.declared.section.SectionHeader.{SectionHeader}
 use Rattle.elf_image.specs.declared.section.TheConstants.{SHT_NOBITS, SHDR_SIZE}
-use Rattle.elf_image.specs.Header.{number_at, e_shoff}
+use Rattle.elf_image.specs.Header.{number_at, e_shoff, e_shnum, e_shstrndx}
 
 -- the section header at an offset
 abbrev pub section_header_at : List ℕ → ℕ → SectionHeader
@@ -20,15 +20,28 @@ section_header_at file offset = record {
   entsize = number_at file (offset + 56) 8;
 }
 
--- the section header of an index
+-- where the section header of an index stands, and what it says
+abbrev pub section_place : List ℕ → ℕ → ℕ
+section_place file index = e_shoff file + SHDR_SIZE * index
+
 abbrev pub section_header : List ℕ → ℕ → SectionHeader
-section_header file index = section_header_at file (e_shoff file + SHDR_SIZE * index)
+section_header file index = section_header_at file (section_place file index)
+
+-- the section headers, in the order of their table
+abbrev pub section_headers : List ℕ → List SectionHeader
+section_headers file = map (section_header file) (range_with_len 0 (e_shnum file))
 
 -- the bytes of a section
 abbrev pub contents : List ℕ → SectionHeader → List ℕ
 contents file section = if section.kind == SHT_NOBITS then [] else take section.size (drop section.offset file)
 
--- A table of names has this text, which holds no zero byte, at an index, with a zero byte after it.
--- gABI, "String Table".
-abbrev pub HasText : List ℕ → ℕ → List ℕ → Type 0
-HasText table index text = IsTrue (starts_with nat_eq (drop index table) (text ++ 0 ∷ []))
+-- the text that a table of names has at an index, without the zero byte that ends it; gABI, "String Table"
+abbrev pub text_of : List ℕ → ℕ → List ℕ
+text_of table index = take_while (λ b. not (b == 0)) (drop index table)
+
+-- the table of the names of sections, and the name of a section
+abbrev pub section_names : List ℕ → List ℕ
+section_names file = contents file (section_header file (e_shstrndx file))
+
+abbrev pub section_name : List ℕ → ℕ → List ℕ
+section_name file index = text_of (section_names file) (section_header file index).name

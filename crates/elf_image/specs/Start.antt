@@ -1,7 +1,7 @@
 -- How a program starts, and its runs. gABI, "Program Loading"; the stack and its auxiliary vector as the
 -- System V ABI has them for other processors ("Process Initialization"), with Linux's AT_RANDOM. The bytes
 -- of a file, of words and of input are below 256, and words hold no zero byte.
-use Rattle.std.specs.Prelude.{ℕ, zero, suc, ◌+◌, ◌-◌, ◌*◌, ◌/◌, ◌%◌, ◌^◌, ◌&&◌, ◌||◌, ◌==◌, nat_lt, nat_le, if◌then◌else◌, Bool, List, [], ◌∷◌, ◌++◌, Option, Some, None, length, min, max, map, filter, fold, flat_map, find, replicate, slice_index, unwrap_or, codes}
+use Rattle.std.specs.Prelude.{ℕ, ◌+◌, ◌-◌, ◌*◌, ◌/◌, ◌^◌, ◌&&◌, ◌||◌, ◌==◌, nat_lt, nat_le, if◌then◌else◌, Bool, List, [], ◌∷◌, ◌++◌, length, min, max, map, filter, fold, flat_map, find, replicate, slice_index, unwrap_or, codes}
 use Rattle.std.specs.Option.{option_map_or}
 use Rattle.rv_code.specs.Machine.{Space, low_bytes, Event, Run, SoFar, HaltsAfter}
 use Rattle.rv_code.specs.declared.cause.Cause.{Cause}
@@ -9,7 +9,8 @@ use Rattle.rv_code.specs.Step.{ByteState, Steps}
 use Rattle.elf_image.specs.declared.segment.Segment.{Segment}
 use Rattle.elf_image.specs.declared.segment.TheConstants.{PF_R, PF_W, PF_X, PHDR_SIZE}
 use Rattle.elf_image.specs.Header.{e_entry, e_phoff, e_phnum, segments_of}
-use Rattle.elf_image.specs.Image.{is_load, end_of, image_byte, has_flag, is_loaded_with}
+use Rattle.elf_image.specs.Loaded.{Range, loads_range, address_in}
+use Rattle.elf_image.specs.Image.{has_memory, end_of, image_byte, has_flag, is_loaded_with}
 
 abbrev pub page_size : ℕ
 page_size = 4096
@@ -21,9 +22,6 @@ abbrev pub rounded_up : ℕ → ℕ → ℕ
 rounded_up unit n = (n + (unit - 1)) / unit * unit
 
 -- The break, by the segments that are loaded and have at least one byte of memory.
-
-abbrev pub has_memory : Segment → Bool
-has_memory p = is_load p && nat_lt 0 p.memsz
 
 -- the end of the highest writable one, 0 where none is writable
 abbrev pub writable_end : List Segment → ℕ
@@ -82,13 +80,12 @@ abbrev pub text_addresses : ℕ → List (List ℕ) → List ℕ
 text_addresses a [] = []
 text_addresses a (text ∷ rest) = a ∷ text_addresses (a + length text + 1) rest
 
--- where the table of program headers is loaded, 0 where no segment loads all of it from the file
-abbrev pub loads_table : List ℕ → Segment → Bool
-loads_table file p =
-    is_load p && nat_le p.offset (e_phoff file) && nat_le (e_phoff file + PHDR_SIZE * e_phnum file) (p.offset + min p.filesz p.memsz)
+-- the table of program headers, and where it is loaded: 0 where no segment loads all of it from the file
+abbrev pub table_range : List ℕ → Range
+table_range file = record { start = e_phoff file; size = PHDR_SIZE * e_phnum file }
 
 abbrev pub table_address : List ℕ → ℕ
-table_address file = option_map_or (λ p. p.vaddr + (e_phoff file - p.offset)) (find (loads_table file) (segments_of file)) 0
+table_address file = option_map_or (address_in (table_range file)) (find (loads_range (table_range file)) (segments_of file)) 0
 
 -- AT_PHDR, AT_PHENT, AT_PHNUM, AT_PAGESZ, AT_ENTRY, AT_RANDOM and AT_NULL, each with its value
 abbrev pub auxiliary_vector : List ℕ → List ℕ

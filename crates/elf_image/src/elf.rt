@@ -1,8 +1,12 @@
 // A file that was read.
-ghost use Rattle.std.specs.Prelude.{◌≡◌, ◌≤◌};
-ghost use Rattle.elf_image.specs.Image.{byte_of};
+ghost use Rattle.std.specs.Prelude.{ℕ, ◌≡◌, All, IsTrue};
+ghost use Rattle.std.specs.List.Sorted.{IsNonDecreasingBy};
+ghost use Rattle.elf_image.specs.Image.{has_memory, segment_of, LoadOnce};
 
+use crate::image::segments_by_address;
 use crate::segment::Segment;
+use rb_bytes::fault::NoMemory;
+use std::alloc::Global;
 
 /// A section. Offsets and sizes are in bytes. gABI, "Section Header".
 #[derive(Clone, Copy, PartialEq, Eq, Debug)]
@@ -59,46 +63,47 @@ pub struct Elf<'a> {
     pub sections: Vec<Section<'a>>,
     pub segments: Vec<Segment>,
     pub symbols: Vec<Symbol<'a>>,
-}
-
-impl Segment {
-    ghost use Rattle.elf_image.specs.Image.{loads_address};
-
-    /// Whether the segment loads an address.
-    pub fn loads(&self, address: u64) -> bool
-        ensures { result ≡ loads_address address self.now }
-    {
-        self.kind == crate::segment::PT_LOAD
-            && self.vaddr <= address
-            && address - self.vaddr < self.memsz
-    }
+    // The segments with memory, by address, in which an address is looked up.
+    pub(crate) loads: Vec<Segment>,
+    ghost rising: { IsNonDecreasingBy (λ p. p.vaddr) loads.items },
+    ghost loaded: { All (λ p. IsTrue (has_memory p)) loads.items },
+    ghost once: { LoadOnce loads.items },
+    ghost same: { (a : ℕ) → segment_of loads.items a ≡ segment_of segments.items a },
 }
 
 impl<'a> Elf<'a> {
-    ghost use Rattle.elf_image.specs.Image.{image_byte};
+    ghost use Rattle.std.specs.Prelude.{IfOk};
 
-    /// The byte at an address, and none where no segment loads it.
-    pub fn image_byte(&self, address: u64) -> Option<u8>
-        ensures { result ≡ image_byte self.now.file.now self.now.segments.items address }
+    /// A file with these headers. No two different segments may load one address.
+    pub(crate) fn new(
+        alloc: Global,
+        file: &'a [u8],
+        flags: u32,
+        entry: u64,
+        phoff: u64,
+        sections: Vec<Section<'a>>,
+        segments: Vec<Segment>,
+        symbols: Vec<Symbol<'a>>,
+    ) -> Result<Elf<'a>, NoMemory>
+        requires { LoadOnce segments.items }
+        ensures file { IfOk result (λ elf. elf.file.now ≡ file.now) }
+        ensures flags { IfOk result (λ elf. elf.flags ≡ flags) }
+        ensures entry { IfOk result (λ elf. elf.entry ≡ entry) }
+        ensures phoff { IfOk result (λ elf. elf.phoff ≡ phoff) }
+        ensures sections { IfOk result (λ elf. elf.sections.items ≡ sections.entry.items) }
+        ensures segments { IfOk result (λ elf. elf.segments.items ≡ segments.items) }
+        ensures symbols { IfOk result (λ elf. elf.symbols.items ≡ symbols.entry.items) }
     {
-        match self.segments.iter().find(|p| p.loads(address)) {
-            Some(segment) => Some(segment_byte(self.file, address, segment)),
-            None => None,
-        }
-    }
-}
-
-// The byte that a segment has at one of its addresses.
-fn segment_byte(file: &[u8], address: u64, segment: &Segment) -> u8
-    requires { segment.now.vaddr ≤ address }
-    ensures { result ≡ byte_of file.now address segment.now }
-{
-    let place = address - segment.vaddr;
-    if place >= segment.filesz {
-        return 0;
-    }
-    match segment.offset.checked_add(place) {
-        Some(offset) => file.get(offset as usize).copied().unwrap_or(0),
-        None => 0,
+        let loads = segments_by_address(alloc, &segments)?;
+        Ok(Elf {
+            file,
+            flags,
+            entry,
+            phoff,
+            sections,
+            segments,
+            symbols,
+            loads,
+        })
     }
 }

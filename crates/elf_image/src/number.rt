@@ -1,6 +1,7 @@
-// Numbers in a file's bytes, read and written over. ELF files of this machine are little-endian. psABI, "File Header".
-ghost use Rattle.std.specs.Prelude.{◌≡◌, ◌≤◌, ◌+◌, length};
-ghost use Rattle.elf_image.specs.Header.{number_at};
+// Numbers in a file's bytes, read and written over, and flags in them. ELF files of this machine are little-endian.
+// psABI, "File Header".
+ghost use Rattle.std.specs.Prelude.{◌≡◌, ◌≤◌, ◌<◌, ◌+◌, length};
+ghost use Rattle.elf_image.specs.Header.{number_at, is_set};
 ghost use Rattle.elf_image.specs.Patched.{patched_number};
 
 use byteorder::{ByteOrder, LittleEndian};
@@ -27,6 +28,14 @@ pub fn u64_at(file: &[u8], offset: usize) -> u64
     ensures { result ≡ number_at file.now offset 8 }
 {
     LittleEndian::read_u64(&file[offset..])
+}
+
+/// Whether a flag, which is a power of two, is set among others.
+pub fn is_set(flags: u64, flag: u64) -> bool
+    requires { 0 < flag }
+    ensures { result ≡ is_set flag flags }
+{
+    flags / flag % 2 == 1
 }
 
 /// Writes a number of two bytes over those at an offset.

@@ -9,6 +9,9 @@ pub const SHT_NOBITS: u32 = 8;
 /// The type of a section with contents of the program's own. gABI, "Section Types".
 pub const SHT_PROGBITS: u32 = 1;
 
+/// The type of the symbol table. gABI, "Section Types".
+pub const SHT_SYMTAB: u32 = 2;
+
 /// The type of a section with texts. gABI, "Section Types".
 pub const SHT_STRTAB: u32 = 3;
 
@@ -17,6 +20,9 @@ pub const SHT_STRTAB: u32 = 3;
 pub const SHF_ALLOC: u64 = 2;
 
 pub const SHF_EXECINSTR: u64 = 4;
+
+/// The flag of a section whose contents are compressed. gABI, "Section Attribute Flags".
+pub const SHF_COMPRESSED: u64 = 0x800;
 
 /// The size of a section header in bytes.
 pub const SHDR_SIZE: usize = 64;

@@ -1,10 +1,19 @@
 // Program headers.
 ghost use Rattle.std.specs.Prelude.{◌≡◌, ◌≤◌, ◌<◌, ◌+◌, length};
 
-use crate::number::{u32_at, u64_at};
+use crate::number::{is_set, u32_at, u64_at};
 
 /// The type of a segment that is loaded. gABI, "Program Header".
 pub const PT_LOAD: u32 = 1;
+
+/// The types of segments that ask for a dynamic linker. gABI, "Program Header".
+pub const PT_DYNAMIC: u32 = 2;
+
+pub const PT_INTERP: u32 = 3;
+
+/// The type of a program header that says where the header of the unwind table stands. LSB,
+/// "Program Headers".
+pub const PT_GNU_EH_FRAME: u32 = 0x6474_e550;
 
 /// The flags of a segment that may be executed, written and read. gABI, "Segment Permissions".
 pub const PF_X: u32 = 1;
@@ -64,6 +73,6 @@ impl Segment {
         requires { 0 < flag }
         ensures { result ≡ has_flag flag self.now }
     {
-        self.flags / flag % 2 == 1
+        is_set(self.flags as u64, flag as u64)
     }
 }

@@ -1,0 +1,97 @@
+#!/usr/bin/env python3
+"""Seconds and peak memory of reading large ELF files, beside those of `readelf -hSls`.
+
+    python3 bench/elf_reader.py [RUNS]
+
+The files are made in a temporary folder: one with a million symbols whose names end at the one zero byte at
+the table's end, and one with 65,000 section headers. Neither can be rewritten yet, so the program reads them
+and refuses them as NotBuilt. Each line has the file, the tool, the median of the seconds and the peak memory
+in MiB.
+"""
+import multiprocessing
+import os
+import statistics
+import struct
+import subprocess
+import sys
+import tempfile
+import time
+
+ROOT = os.path.dirname(os.path.dirname(os.path.abspath(__file__)))
+BASE, CODE = 0x10000, 0x78
+NAMES = b"\0.text\0.symtab\0.strtab\0.shstrtab\0"
+
+
+def header(table_at, sections, names):
+    ident = b"\x7fELF\x02\x01\x01" + bytes(9)
+    return ident + struct.pack(
+        "<HHIQQQIHHHHHH", 2, 0xF3, 1, BASE + CODE, 64, table_at, 1, 64, 56, 1, 64, sections, names
+    )
+
+
+def section(name, kind, flags, addr, offset, size, link=0, info=0, align=1, entry=0):
+    return struct.pack("<IIQQQQIIQQ", name, kind, flags, addr, offset, size, link, info, align, entry)
+
+
+def elf(symbols, sections):
+    """A file of one instruction, with so many symbols and so many section headers (at least five)."""
+    code = bytes.fromhex("73000000")
+    segment = struct.pack("<IIQQQQQQ", 1, 5, 0, BASE, BASE, CODE + 4, CODE + 4, 0x1000)
+    table = bytes(24) + b"".join(
+        struct.pack("<IBBHQQ", 1 + k % 999, 0x12, 0, 1, BASE + CODE, 4) for k in range(symbols)
+    )
+    texts = b"\0" + b"n" * 1000 + b"\0"
+    symbols_at = CODE + len(code)
+    texts_at = symbols_at + len(table)
+    names_at = texts_at + len(texts)
+    table_at = names_at + len(NAMES)
+    rows = [
+        bytes(64),
+        section(1, 1, 6, BASE + CODE, CODE, len(code), align=4),
+        section(7, 2, 0, 0, symbols_at, len(table), link=3, info=1, align=8, entry=24),
+        section(15, 3, 0, 0, texts_at, len(texts)),
+        section(23, 3, 0, 0, names_at, len(NAMES)),
+    ]
+    rows += [bytes(64)] * (sections - len(rows))
+    return header(table_at, sections, 4) + segment + code + table + texts + NAMES + b"".join(rows)
+
+
+def write(path, symbols, sections):
+    with open(path, "wb") as file:
+        file.write(elf(symbols, sections))
+
+
+def measure(words, runs):
+    """The median of the seconds, and the peak memory in MiB, of a command run so often."""
+    seconds, peak = [], 0
+    for _ in range(runs):
+        start = time.monotonic()
+        process = subprocess.Popen(words, stdout=subprocess.DEVNULL, stderr=subprocess.DEVNULL)
+        usage = os.wait4(process.pid, 0)[2]
+        seconds.append(time.monotonic() - start)
+        peak = max(peak, usage.ru_maxrss)
+    return statistics.median(seconds), peak / 1024
+
+
+def main():
+    runs = int(sys.argv[1]) if len(sys.argv) > 1 else 5
+    program = os.path.join(ROOT, "sudrepka")
+    subprocess.run([program], stdout=subprocess.DEVNULL)  # proves and builds it, where it isn't built
+    with tempfile.TemporaryDirectory() as folder:
+        for name, symbols, sections in [("million-symbols", 1_000_000, 5), ("many-sections", 10, 65_000)]:
+            path = os.path.join(folder, name)
+            # in a process of its own, since a child's peak counts what its parent had when it began
+            maker = multiprocessing.Process(target=write, args=(path, symbols, sections))
+            maker.start()
+            maker.join()
+            out = [os.path.join(folder, "out"), os.path.join(folder, "map")]
+            for tool, words in [
+                ("sudrepka", [program, "rewrite", path, "/dev/null", *out]),
+                ("readelf", ["readelf", "-hSls", path]),
+            ]:
+                seconds, peak = measure(words, runs)
+                print(f"{name:16} {tool:9} {seconds:8.3f} s {peak:8.1f} MiB")
+
+
+if __name__ == "__main__":
+    main()

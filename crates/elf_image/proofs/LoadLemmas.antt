@@ -1,0 +1,182 @@
+-- The segment that loads an address, found in the order of addresses.
+use Rattle.std.proofs.Common.{◌≡◌, ◌∙◌, sym, ap, subst, refl, ℕ, ◌<◌, ◌≤◌, suc, zero, Bool, true, false, cond, IsTrue, List, [], ◌∷◌, length, get_or, Some, None, All, arith, ◌⊎◌, inl, inr, ◌&&◌, nat_le, nat_lt}
+use Rattle.std.specs.List.{Contains, find, filter}
+use Rattle.std.specs.List.Sorted.{IsNonDecreasingBy, IsPermutation}
+use Rattle.std.proofs.lemmas.Bool.{and_parts, and_from, leb-true, ltb-true, le-leb, lt-ltb, false_from_ne_true, both_ways, cases_lt}
+use Rattle.std.proofs.lemmas.List.{get_or_default}
+use Rattle.std.proofs.lemmas.List.Elements.{All-same, filter_passes, Contains-get_or}
+use Rattle.std.proofs.lemmas.List.Sorted.{All-permutation, Contains-permutation, IsPermutation-sym}
+use Rattle.elf_image.specs.declared.segment.Segment.{Segment}
+use Rattle.elf_image.specs.Image.{is_load, end_of, has_memory, loads_address, segment_of, LoadOnce}
+
+-- an element of a list is its head or stands in the rest
+pub Contains-cons_cases : {X : Type 0} (y : X) (ys : List X) (x : X) → Contains (y ∷ ys) x → (y ≡ x) ⊎ Contains ys x
+Contains-cons_cases y ys x (zero, within, is) = inl is
+Contains-cons_cases y ys x (suc k, within, is) = inr (k, omega arith, is)
+
+pub Contains-there : {X : Type 0} (y : X) (ys : List X) (x : X) → Contains ys x → Contains (y ∷ ys) x
+Contains-there y ys x (k, within, is) = (suc k, omega arith, is)
+
+-- what a search finds passes, and is in the list
+pub find-found : {X : Type 0} (p : X → Bool) (xs : List X) (x : X) → find p xs ≡ Some x → (p x ≡ true) × Contains xs x
+find-found p [] x found = cc
+find-found {X} p (y ∷ ys) x found =
+    elim (p y) as (λ b. p y ≡ b → cond b (Some y) (find p ys) ≡ Some x → (p x ≡ true) × Contains (y ∷ ys) x) [
+      | true ↦ λ passes first. let same : y ≡ x = cc in (ap p (sym same) ∙ passes, (0, omega arith, same))
+      | false ↦ λ fails later. let rest = find-found p ys x later in (rest.0, Contains-there y ys x rest.1)
+    ]
+    refl found
+
+-- a search finds something where an element passes
+pub find-finds : {X : Type 0} (p : X → Bool) (xs : List X) (x : X) → Contains xs x → p x ≡ true → (y : X) × (find p xs ≡ Some y)
+find-finds p [] x (k, within, is) passes = absurd (omega arith)
+find-finds {X} p (y ∷ ys) x is_in passes =
+    elim (p y) as (λ b. p y ≡ b → (z : X) × (cond b (Some y) (find p ys) ≡ Some z)) [
+      | true ↦ λ first. (y, refl)
+      | false ↦ λ fails. elim (Contains-cons_cases y ys x is_in) [
+        | inl same ↦ absurd (let both : true ≡ false = sym passes ∙ (ap p (sym same) ∙ fails) in cc)
+        | inr later ↦ find-finds p ys x later passes
+      ]
+    ]
+    refl
+
+-- and nothing where none does
+pub find-none : {X : Type 0} (p : X → Bool) (xs : List X) → ((x : X) → Contains xs x → p x ≡ false) → find p xs ≡ None
+find-none {X} p xs fails =
+    elim (find p xs) as (λ r. find p xs ≡ r → r ≡ None) [
+      | None ↦ λ is. refl
+      | Some x ↦ λ is. let found = find-found p xs x is in absurd (let both : true ≡ false = sym found.0 ∙ fails x found.1 in cc)
+    ]
+    refl
+
+-- the only element that passes is found
+pub find-only : {X : Type 0} (p : X → Bool) (xs : List X) (x : X) → Contains xs x → p x ≡ true → ((y : X) → Contains xs y → p y ≡ true → y ≡ x) → find p xs ≡ Some x
+find-only p xs x is_in passes only =
+    let (y, is) = find-finds p xs x is_in passes in
+    let found = find-found p xs y is in
+    is ∙ ap (λ z. Some z) (only y found.1 found.0)
+
+-- what a filter keeps
+pub Contains-filter : {X : Type 0} (p : X → Bool) (xs : List X) (x : X) → Contains xs x → p x ≡ true → Contains (filter p xs) x
+Contains-filter p [] x (k, within, is) passes = absurd (omega arith)
+Contains-filter {X} p (y ∷ ys) x is_in passes =
+    elim (p y) as (λ b. p y ≡ b → Contains (cond b (y ∷ filter p ys) (filter p ys)) x) [
+      | true ↦ λ first. elim (Contains-cons_cases y ys x is_in) [
+        | inl same ↦ (0, omega arith, same)
+        | inr later ↦ Contains-there y (filter p ys) x (Contains-filter p ys x later passes)
+      ]
+      | false ↦ λ fails. elim (Contains-cons_cases y ys x is_in) [
+        | inl same ↦ absurd (let both : true ≡ false = sym passes ∙ (ap p (sym same) ∙ fails) in cc)
+        | inr later ↦ Contains-filter p ys x later passes
+      ]
+    ]
+    refl
+
+pub Contains-from_filter : {X : Type 0} (p : X → Bool) (xs : List X) (x : X) → Contains (filter p xs) x → Contains xs x
+Contains-from_filter p [] x (k, within, is) = absurd (omega arith)
+Contains-from_filter {X} p (y ∷ ys) x is_in =
+    elim (p y) as (λ b. Contains (cond b (y ∷ filter p ys) (filter p ys)) x → Contains (y ∷ ys) x) [
+      | true ↦ λ kept. elim (Contains-cons_cases y (filter p ys) x kept) [
+        | inl same ↦ (0, omega arith, same)
+        | inr later ↦ Contains-there y ys x (Contains-from_filter p ys x later)
+      ]
+      | false ↦ λ kept. Contains-there y ys x (Contains-from_filter p ys x kept)
+    ]
+    is_in
+
+-- Lists of segments: all those with memory, in some order.
+
+-- a segment loads an address where it is loaded and holds it
+pub loads-parts : (a : ℕ) (p : Segment) → IsTrue (loads_address a p) → IsTrue (is_load p) × (p.vaddr ≤ a) × (a < end_of p)
+loads-parts a p loads =
+    let both = and_parts (is_load p && nat_le p.vaddr a) (nat_lt a (end_of p)) loads in
+    let front = and_parts (is_load p) (nat_le p.vaddr a) both.0 in
+    (front.0, leb-true p.vaddr a front.1, ltb-true a (end_of p) both.1)
+
+pub loads-from_parts : (a : ℕ) (p : Segment) → IsTrue (is_load p) → p.vaddr ≤ a → a < end_of p → IsTrue (loads_address a p)
+loads-from_parts a p load low high =
+    and_from (is_load p && nat_le p.vaddr a) (nat_lt a (end_of p))
+    (and_from (is_load p) (nat_le p.vaddr a) load (le-leb p.vaddr a low)) (lt-ltb a (end_of p) high)
+
+pub has_memory-from_loads : (a : ℕ) (p : Segment) → IsTrue (loads_address a p) → IsTrue (has_memory p)
+has_memory-from_loads a p loads =
+    let parts = loads-parts a p loads in
+    and_from (is_load p) (nat_lt 0 p.memsz) parts.0 (lt-ltb 0 p.memsz (let low = parts.1 in let high = parts.2 in omega arith))
+
+pub All-order : (segments some loads : List Segment) → some ≡ filter has_memory segments → IsPermutation some loads → All (λ p. IsTrue (has_memory p)) loads
+All-order segments some loads is order =
+    let HasMemory : Segment → Type 0 = λ p. IsTrue (has_memory p) in
+    All-permutation HasMemory some loads order (All-same HasMemory some (filter has_memory segments) is (filter_passes has_memory segments))
+
+Contains-order : (segments some loads : List Segment) → some ≡ filter has_memory segments → IsPermutation some loads → (p : Segment) → Contains loads p → Contains segments p
+Contains-order segments some loads is order p p_in =
+    let here : Contains some p = Contains-permutation loads some p (IsPermutation-sym some loads order) p_in in
+    let P : List Segment → Type 0 = λ xs. Contains xs p in
+    Contains-from_filter has_memory segments p (subst P is here)
+
+Contains-loads : (segments some loads : List Segment) → some ≡ filter has_memory segments → IsPermutation some loads → (p : Segment) → Contains segments p → IsTrue (has_memory p) → Contains loads p
+Contains-loads segments some loads is order p p_in loaded =
+    let P : List Segment → Type 0 = λ xs. Contains xs p in
+    Contains-permutation some loads p order (subst P (sym is) (Contains-filter has_memory segments p p_in loaded))
+
+pub LoadOnce-order : (segments some loads : List Segment) → LoadOnce segments → some ≡ filter has_memory segments → IsPermutation some loads → LoadOnce loads
+LoadOnce-order segments some loads once is order a p q p_in q_in =
+    once a p q (Contains-order segments some loads is order p p_in) (Contains-order segments some loads is order q q_in)
+
+pub segment_of-order : (segments some loads : List Segment) → LoadOnce segments → some ≡ filter has_memory segments → IsPermutation some loads → (a : ℕ) → segment_of loads a ≡ segment_of segments a
+segment_of-order segments some loads once is order a =
+    elim (find (loads_address a) segments) as (λ r. find (loads_address a) segments ≡ r → find (loads_address a) loads ≡ r) [
+      | None ↦ λ nowhere. find-none (loads_address a) loads
+          (λ p p_in. false_from_ne_true (loads_address a p)
+          (λ loads_it. let finds = find-finds (loads_address a) segments p (Contains-order segments some loads is order p p_in) loads_it in
+          absurd (let both : None ≡ Some finds.0 = sym nowhere ∙ finds.1 in cc)))
+      | Some p ↦ λ found.
+          let there = find-found (loads_address a) segments p found in
+          find-only (loads_address a) loads p
+          (Contains-loads segments some loads is order p there.1 (has_memory-from_loads a p there.0)) there.0
+          (λ q q_in q_loads. once a q p (Contains-order segments some loads is order q q_in) there.1 q_loads there.0)
+    ]
+    refl
+
+-- The segment that stands last of those that begin at an address or below it.
+
+-- where it is none, none loads the address
+pub segment_of-none_below : (loads : List Segment) (a : ℕ) → ((k : ℕ) (d : Segment) → k < length loads → a < (get_or loads k d).vaddr) → segment_of loads a ≡ None
+segment_of-none_below loads a above =
+    find-none (loads_address a) loads
+    (λ p p_in. false_from_ne_true (loads_address a p)
+    (λ loads_it. let low = (loads-parts a p loads_it).1 in let far = above p_in.0 p p_in.1 in let same = ap (λ (q : Segment). q.vaddr) p_in.2 in omega arith))
+
+-- where it loads the address, it is the one
+pub segment_of-last : (loads : List Segment) (a i : ℕ) (d : Segment) → LoadOnce loads → i < length loads → IsTrue (loads_address a (get_or loads i d)) → segment_of loads a ≡ Some (get_or loads i d)
+segment_of-last loads a i d once within loads_it =
+    let here : Contains loads (get_or loads i d) = Contains-get_or loads i d within in
+    find-only (loads_address a) loads (get_or loads i d) here loads_it
+    (λ q q_in q_loads. once a q (get_or loads i d) q_in here q_loads loads_it)
+
+-- what loads the address and begins no later than another segment at or below it is that one
+same_as_last : (loads : List Segment) (a : ℕ) (p last : Segment) → LoadOnce loads → Contains loads p → Contains loads last → IsTrue (has_memory last) → p.vaddr ≤ last.vaddr → last.vaddr ≤ a → IsTrue (loads_address a p) → p ≡ last
+same_as_last loads a p last once p_in last_in memory before below loads_it =
+    let parts = loads-parts a p loads_it in
+    let loaded = and_parts (is_load last) (nat_lt 0 last.memsz) memory in
+    let some : 0 < last.memsz = ltb-true 0 last.memsz loaded.1 in
+    let high : a < end_of p = parts.2 in
+    once last.vaddr p last p_in last_in
+    (loads-from_parts last.vaddr p parts.0 before (omega arith))
+    (loads-from_parts last.vaddr last loaded.0 (omega arith) (omega arith))
+
+-- and where it doesn't, none does
+pub segment_of-none_last : (loads : List Segment) (a i : ℕ) (d : Segment) → LoadOnce loads → All (λ p. IsTrue (has_memory p)) loads → IsNonDecreasingBy (λ p. p.vaddr) loads → i < length loads → (get_or loads i d).vaddr ≤ a → ((k : ℕ) (e : Segment) → i < k → k < length loads → a < (get_or loads k e).vaddr) → loads_address a (get_or loads i d) ≡ false → segment_of loads a ≡ None
+segment_of-none_last loads a i d once loaded rising within below above fails =
+    find-none (loads_address a) loads
+    (λ p p_in. false_from_ne_true (loads_address a p)
+    (λ loads_it. both_ways (loads_address a (get_or loads i d)) fails
+    (let vaddr : Segment → ℕ = λ q. q.vaddr in
+    let at : get_or loads p_in.0 d ≡ p = get_or_default loads p_in.0 d p p_in.1 ∙ p_in.2 in
+    let low = (loads-parts a p loads_it).1 in
+    let not_above : p_in.0 ≤ i = elim (cases_lt i p_in.0)
+    [ inl later ↦ absurd (let far = above p_in.0 p later p_in.1 in let same = ap vaddr p_in.2 in omega arith) | inr by ↦ by ] in
+    let before = rising p_in.0 i d not_above within in
+    let same = ap vaddr at in
+    let is_last : p ≡ get_or loads i d = same_as_last loads a p (get_or loads i d) once p_in (Contains-get_or loads i d within) (loaded i d within) (omega arith) below loads_it in
+    ap (loads_address a) (sym is_last) ∙ loads_it)))

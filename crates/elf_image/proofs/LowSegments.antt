@@ -1,0 +1,52 @@
+-- In a sound file all that is loaded lies low, so the break has room above it.
+use Rattle.std.proofs.Common.{◌≡◌, ◌∙◌, sym, subst, refl, ℕ, ◌+◌, ◌-◌, ◌^◌, ◌<◌, ◌≤◌, zero, true, false, cond, IsTrue, List, [], ◌∷◌, arith, ⊎_elim, ◌&&◌, nat_le, nat_lt, max, map}
+use Rattle.std.specs.List.{Contains, filter, fold}
+use Rattle.std.proofs.lemmas.Bool.{and_parts, and_from, ltb-true, le-leb, lt-ltb, cases_lt}
+use Rattle.rb_bytes.specs.declared.fault.FaultKind.TheVariants.{HighAddress}
+use Rattle.elf_image.specs.declared.segment.Segment.{Segment}
+use Rattle.elf_image.specs.declared.segment.TheConstants.{PF_W}
+use Rattle.elf_image.specs.Header.{segment, segments_of}
+use Rattle.elf_image.specs.Image.{is_load, has_memory, has_flag, end_of, loads_address}
+use Rattle.elf_image.specs.Loading.{address_end}
+use Rattle.elf_image.specs.Present.{IsSound}
+use Rattle.elf_image.specs.Start.{writable_end}
+use Rattle.elf_image.proofs.LoadLemmas.{Contains-there}
+use Rattle.elf_image.proofs.ReadLists.{get_or-segments}
+
+-- each segment with memory ends at the bound or below it
+record EndsBelow (bound : ℕ) (segments : List Segment) : Type 0 where
+  each : (p : Segment) → Contains segments p → has_memory p ≡ true → end_of p ≤ bound
+
+ends_below : (bound from : ℕ) (segments : List Segment) → EndsBelow bound segments → from ≤ bound → fold max from (map end_of (filter (λ p. has_memory p && has_flag PF_W p) segments)) ≤ bound
+ends_below bound from [] ends start = start
+ends_below bound from (p ∷ ps) ends start =
+    elim (has_memory p && has_flag PF_W p) as (λ b. (has_memory p && has_flag PF_W p) ≡ b → fold max from (map end_of (cond b (p ∷ filter (λ q. has_memory q && has_flag PF_W q) ps) (filter (λ q. has_memory q && has_flag PF_W q) ps))) ≤ bound) [
+      | true ↦ λ is. let here = ends.each p (zero, omega arith, refl) (and_parts (has_memory p) (has_flag PF_W p) is).0 in ends_below bound (max from (end_of p)) ps rest (omega arith)
+      | false ↦ λ is. ends_below bound from ps rest start
+    ]
+    refl
+  where
+    rest : EndsBelow bound ps
+    rest = record { each = λ q is_in. ends.each q (Contains-there p ps q is_in) }
+
+-- the last address of a segment with memory
+loads_last : (p : Segment) → has_memory p ≡ true → IsTrue (loads_address (end_of p - 1) p)
+loads_last p has =
+    let parts = and_parts (is_load p) (nat_lt 0 p.memsz) has in
+    let some : 0 < p.memsz = ltb-true 0 p.memsz parts.1 in
+    let from : nat_le p.vaddr (end_of p - 1) ≡ true = le-leb p.vaddr (end_of p - 1) (omega arith) in
+    let to : nat_lt (end_of p - 1) (end_of p) ≡ true = lt-ltb (end_of p - 1) (end_of p) (omega arith) in
+    and_from (is_load p && nat_le p.vaddr (end_of p - 1)) (nat_lt (end_of p - 1) (end_of p)) (and_from (is_load p) (nat_le p.vaddr (end_of p - 1)) parts.0 from) to
+
+pub low_end : (file : List ℕ) → IsSound file → writable_end (segments_of file) ≤ 2 ^ 63
+low_end file sound = ends_below (2 ^ 63) 0 (segments_of file) (record { each = ends }) (omega arith)
+  where
+    ends : (p : Segment) → Contains (segments_of file) p → has_memory p ≡ true → end_of p ≤ 2 ^ 63
+    ends p (i, within, at) has =
+        let found = get_or-segments file i p within in
+        let p_is : segment file i ≡ p = sym found.1 ∙ at in
+        ⊎_elim
+        (λ (low : end_of p < address_end + 1). omega arith)
+        (λ (high : address_end + 1 ≤ end_of p).
+        absurd (sound HighAddress (end_of p - 1) (i, found.0, (subst (λ q. IsTrue (loads_address (end_of p - 1) q)) (sym p_is) (loads_last p has), omega arith))))
+        (cases_lt (end_of p) (address_end + 1))

@@ -1,0 +1,5 @@
+use Rattle.elf_image.specs.Read.{AreSections}
+use Rattle.elf_image.proofs.tables.read_sections.Given as goal
+
+abbrev pub invariant-loop-index : goal.invariant-loop-index
+invariant-loop-index l = AreSections l.file l.index l.sections.items

@@ -1,0 +1,81 @@
+// The faults of a file, one after another.
+ghost use Rattle.std.specs.Prelude.{◌≡◌, MatchOption, OnOk, IfErr};
+ghost use Rattle.rb_bytes.specs.Fault.{fault_at};
+ghost use Rattle.rb_bytes.specs.declared.fault.FaultKind.TheVariants as kind;
+ghost use Rattle.elf_image.specs.Answered.{LacksBelow};
+ghost use Rattle.elf_image.specs.Truncated.{IsReadable};
+ghost use Rattle.elf_image.specs.Header.{e_shnum};
+ghost use Rattle.elf_image.specs.Lowest.{IsLowest};
+ghost use Rattle.elf_image.specs.Present.{HasFault, IsFault, IsRefusal};
+ghost use Rattle.elf_image.specs.Read.{AreSections};
+
+use crate::checks::{
+    lowest_compressed, lowest_high_address, lowest_not_static, lowest_other_flags,
+    lowest_writable_code,
+};
+use crate::elf::Section;
+use crate::header::is_elf;
+use crate::loading::lowest_bad_loading;
+use crate::lowest::place_if;
+use crate::truncated::lowest_truncated;
+use rb_bytes::fault::{Fault, FaultKind, Refusal};
+use std::alloc::Global;
+
+// A fault of a kind, if there is a place of it.
+fn refuse_at(kind: FaultKind, lowest: Option<u64>) -> Result<(), Fault>
+    ensures { MatchOption lowest (result ≡ Ok (record {})) (λ place. result ≡ Err (fault_at kind place)) }
+{
+    match lowest {
+        Some(place) => Err(Fault::at(kind, place)),
+        None => Ok(()),
+    }
+}
+
+fn lowest_not_elf(file: &[u8]) -> Option<u64>
+    ensures { IsLowest (HasFault file.now kind.NotElf) result }
+{
+    place_if(!is_elf(file), 0)
+}
+
+/// The first of the faults that the header, the tables and what they name show by themselves:
+/// `NotElf`, `Truncated`, `Flags` and `NotStatic`.
+pub fn check_structure(file: &[u8]) -> Result<(), Fault>
+    ensures readable { OnOk result (IsReadable file.now) }
+    ensures lacks { OnOk result (LacksBelow (HasFault file.now) 5) }
+    ensures fault { IfErr result (IsFault file.now) }
+{
+    refuse_at(FaultKind::NotElf, lowest_not_elf(file))?;
+    refuse_at(FaultKind::Truncated, lowest_truncated(file))?;
+    refuse_at(FaultKind::Flags, lowest_other_flags(file))?;
+    refuse_at(FaultKind::NotStatic, lowest_not_static(file))
+}
+
+// The faults of the layout, in a file without the others. `loading` is the lowest place where
+// segments don't lie as they must.
+fn check_places(file: &[u8], sections: &[Section], loading: Option<u64>) -> Result<(), Fault>
+    requires readable { IsReadable file.now }
+    requires lacks { LacksBelow (HasFault file.now) 5 }
+    requires sections { AreSections file.now (e_shnum file.now) sections.now }
+    requires loading { IsLowest (HasFault file.now kind.ExecSegments) loading }
+    ensures lacks { OnOk result (LacksBelow (HasFault file.now) 9) }
+    ensures fault { IfErr result (IsFault file.now) }
+{
+    refuse_at(FaultKind::ExecSegments, loading)?;
+    refuse_at(FaultKind::WritableCode, lowest_writable_code(file))?;
+    refuse_at(FaultKind::HighAddress, lowest_high_address(file))?;
+    refuse_at(FaultKind::CompressedSection, lowest_compressed(sections))
+}
+
+/// The first of the faults that the layout shows, in a file without the others: `ExecSegments`,
+/// `WritableCode`, `HighAddress` and `CompressedSection`.
+pub fn check_layout(alloc: Global, file: &[u8], sections: &[Section]) -> Result<(), Refusal>
+    requires readable { IsReadable file.now }
+    requires lacks { LacksBelow (HasFault file.now) 5 }
+    requires sections { AreSections file.now (e_shnum file.now) sections.now }
+    ensures lacks { OnOk result (LacksBelow (HasFault file.now) 9) }
+    ensures fault { IfErr result (IsRefusal file.now) }
+{
+    let loading = lowest_bad_loading(alloc, file, sections)?;
+    check_places(file, sections, loading)?;
+    Ok(())
+}

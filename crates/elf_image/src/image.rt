@@ -1,0 +1,127 @@
+// The memory that a file describes.
+ghost use Rattle.std.specs.Prelude.{ℕ, ◌≡◌, ◌≤◌, ◌<◌, length, slice_index_or, All, IsTrue, IfOk, IfSome, OnOk, filter};
+ghost use Rattle.std.specs.List.Sorted.{IsNonDecreasingBy, IsPermutation};
+ghost use Rattle.std.specs.Option.{option_copied};
+ghost use Rattle.elf_image.specs.Image.{byte_of, has_memory, loads_address, segment_of, LoadOnce};
+
+use crate::elf::Elf;
+use crate::segment::{PT_LOAD, Segment};
+use rb_bytes::fault::NoMemory;
+use std::alloc::{AllocError, Global};
+
+impl Segment {
+    /// Whether the segment loads an address.
+    pub fn loads(&self, address: u64) -> bool
+        ensures { result ≡ loads_address address self.now }
+    {
+        self.kind == PT_LOAD && self.vaddr <= address && address - self.vaddr < self.memsz
+    }
+
+    /// Whether the segment is loaded and has a byte of memory.
+    pub fn has_memory(&self) -> bool
+        ensures { result ≡ has_memory self.now }
+    {
+        self.kind == PT_LOAD && self.memsz > 0
+    }
+}
+
+impl<'a> Elf<'a> {
+    ghost use Rattle.elf_image.specs.Image.{image_byte};
+
+    /// The segment that loads an address, and none where none does.
+    pub fn segment_at(&self, address: u64) -> Option<&Segment>
+        ensures loads { IfSome result (λ p. IsTrue (loads_address address p.now)) }
+        ensures first { option_copied result ≡ segment_of self.now.segments.items address }
+    {
+        segment_among(&self.loads, address)
+    }
+
+    /// The byte at an address, and none where no segment loads it.
+    pub fn image_byte(&self, address: u64) -> Option<u8>
+        ensures { result ≡ image_byte self.now.file.now self.now.segments.items address }
+    {
+        match self.segment_at(address) {
+            Some(segment) => Some(segment_byte(self.file, address, segment)),
+            None => None,
+        }
+    }
+}
+
+// The segments with memory, by address.
+pub(crate) fn segments_by_address(
+    alloc: Global,
+    segments: &[Segment],
+) -> Result<Vec<Segment>, NoMemory>
+    requires { LoadOnce segments.now }
+    ensures rising { IfOk result (λ loads. IsNonDecreasingBy (λ p. p.vaddr) loads.items) }
+    ensures loaded { IfOk result (λ loads. All (λ p. IsTrue (has_memory p)) loads.items) }
+    ensures once { IfOk result (λ loads. LoadOnce loads.items) }
+    ensures same { IfOk result (λ loads. (a : ℕ) → segment_of loads.items a ≡ segment_of segments.now a) }
+{
+    let mut loads = segments_with_memory(alloc, segments)?;
+    sort_by_address(&mut loads)?;
+    Ok(loads)
+}
+
+fn segments_with_memory(alloc: Global, segments: &[Segment]) -> Result<Vec<Segment>, AllocError>
+    ensures { IfOk result (λ v. v.items ≡ filter has_memory segments.now) }
+{
+    segments
+        .iter()
+        .copied()
+        .filter(|p| p.has_memory())
+        .collect(alloc)
+}
+
+fn sort_by_address(segments: &mut Vec<Segment>) -> Result<(), AllocError>
+    ensures permutation { IsPermutation segments.old.items segments.new.items }
+    ensures rising { OnOk result (IsNonDecreasingBy (λ p. p.vaddr) segments.new.items) }
+{
+    segments.sort_by_key(|p| p.vaddr)?;
+    Ok(())
+}
+
+// The one among segments with memory, by address, that loads an address.
+fn segment_among(loads: &[Segment], address: u64) -> Option<&Segment>
+    requires rising { IsNonDecreasingBy (λ p. p.vaddr) loads.now }
+    requires loaded { All (λ p. IsTrue (has_memory p)) loads.now }
+    requires once { LoadOnce loads.now }
+    ensures loads { IfSome result (λ p. IsTrue (loads_address address p.now)) }
+    ensures first { option_copied result ≡ segment_of loads.now address }
+{
+    let above = count_up_to(loads, address);
+    if above == 0 {
+        return None;
+    }
+    let segment = &loads[above - 1];
+    if segment.loads(address) {
+        Some(segment)
+    } else {
+        None
+    }
+}
+
+// How many segments, by address, begin at an address or below it.
+fn count_up_to(segments: &[Segment], address: u64) -> usize
+    requires { IsNonDecreasingBy (λ p. p.vaddr) segments.now }
+    ensures bound { result ≤ length segments.now }
+    ensures below { (k : ℕ) (d : Segment) → k < result → (slice_index_or segments.now k d).vaddr ≤ address }
+    ensures above { (k : ℕ) (d : Segment) → result ≤ k → k < length segments.now → address < (slice_index_or segments.now k d).vaddr }
+{
+    segments.partition_point(|p| p.vaddr <= address)
+}
+
+// The byte that a segment has at one of its addresses.
+fn segment_byte(file: &[u8], address: u64, segment: &Segment) -> u8
+    requires { segment.now.vaddr ≤ address }
+    ensures { result ≡ byte_of file.now address segment.now }
+{
+    let place = address - segment.vaddr;
+    if place >= segment.filesz {
+        return 0;
+    }
+    match segment.offset.checked_add(place) {
+        Some(offset) => file.get(offset as usize).copied().unwrap_or(0),
+        None => 0,
+    }
+}

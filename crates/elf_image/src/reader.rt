@@ -1,0 +1,54 @@
+// A file, read whole.
+ghost use Rattle.std.specs.Prelude.{◌≡◌, IfOk, OnOk, IfErr};
+ghost use Rattle.elf_image.specs.Answered.{LacksBelow};
+ghost use Rattle.elf_image.specs.Truncated.{IsReadable};
+ghost use Rattle.elf_image.specs.Header.{e_shnum};
+ghost use Rattle.elf_image.specs.Present.{HasFault, IsSound, IsRefusal};
+ghost use Rattle.elf_image.specs.Read.{AreSections, IsElfOf};
+
+use crate::elf::{Elf, Section};
+use crate::faults::{check_layout, check_structure};
+use crate::header::{e_entry, e_flags, e_phoff};
+use crate::tables::{read_sections, read_segments, read_symbols};
+use rb_bytes::fault::{NoMemory, Refusal};
+use std::alloc::Global;
+
+// A file without a fault, beside its sections.
+fn read_beside<'a>(
+    alloc: Global,
+    file: &'a [u8],
+    sections: Vec<Section<'a>>,
+) -> Result<Elf<'a>, NoMemory>
+    requires readable { IsReadable file.now }
+    requires lacks { LacksBelow (HasFault file.now) 9 }
+    requires sections { AreSections file.now (e_shnum file.now) sections.items }
+    ensures { IfOk result (IsElfOf file.now) }
+{
+    let segments = read_segments(alloc, file)?;
+    let symbols = read_symbols(alloc, file)?;
+    Elf::new(
+        alloc,
+        file,
+        e_flags(file),
+        e_entry(file),
+        e_phoff(file),
+        sections,
+        segments,
+        symbols,
+    )
+}
+
+/// Reads a file, or says which of the faults 1 to 8 is present, the one with the lowest number at
+/// its lowest place. gABI, "ELF Header", "Program Header", "Section Header" and "Symbol Table".
+pub fn read<'a>(alloc: Global, file: &'a [u8]) -> Result<Elf<'a>, Refusal>
+    ensures fields { IfOk result (IsElfOf file.now) }
+    ensures readable { OnOk result (IsReadable file.now) }
+    ensures sound { OnOk result (IsSound file.now) }
+    ensures refusal { IfErr result (IsRefusal file.now) }
+{
+    check_structure(file)?;
+    let sections = read_sections(alloc, file)?;
+    check_layout(alloc, file, &sections)?;
+    let elf = read_beside(alloc, file, sections)?;
+    Ok(elf)
+}

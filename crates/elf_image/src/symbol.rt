@@ -1,0 +1,40 @@
+// Entries of the symbol table. gABI, "Symbol Table".
+ghost use Rattle.std.specs.Prelude.{◌≡◌, ◌≤◌, ◌+◌, length};
+ghost use Rattle.elf_image.specs.Read.{IsSymbolAt};
+ghost use Rattle.elf_image.specs.Symbols.{symbol_names};
+ghost use Rattle.elf_image.specs.Texts.{table_of};
+
+use crate::elf::Symbol;
+use crate::number::{u16_at, u32_at, u64_at};
+use crate::section::SectionHeader;
+use crate::text::Names;
+
+/// The size of an entry of the symbol table in bytes.
+pub const SYM_SIZE: usize = 24;
+
+/// The type of a symbol that names a function. gABI, "Symbol Types".
+pub const STT_FUNC: u8 = 2;
+
+/// The type of a symbol whose routine the program selects when it starts: GNU's `STT_GNU_IFUNC`.
+pub const STT_GNU_IFUNC: u8 = 10;
+
+/// The symbol of a table whose entry stands at an offset.
+pub fn symbol_at<'a>(
+    file: &'a [u8],
+    table: &SectionHeader,
+    names: &Names<'a>,
+    offset: usize,
+) -> Symbol<'a>
+    requires whole { offset + SYM_SIZE ≤ length file.now }
+    requires names { table_of names.now ≡ symbol_names file.now table.now }
+    ensures { IsSymbolAt file.now table.now offset result }
+{
+    Symbol {
+        name: names.text(u32_at(file, offset)),
+        value: u64_at(file, offset + 8),
+        size: u64_at(file, offset + 16),
+        info: file[offset + 4],
+        other: file[offset + 5],
+        section: u16_at(file, offset + 6),
+    }
+}

@@ -1,0 +1,51 @@
+// A table of names that is asked often. gABI, "String Table".
+ghost use Rattle.std.specs.Prelude.{◌≡◌, IfOk};
+ghost use Rattle.elf_image.specs.Sections.{text_of};
+ghost use Rattle.memchr.specs.Find.{is_byte, places};
+
+use memchr::memchr_iter;
+use rb_bytes::fault::NoMemory;
+use std::alloc::Global;
+
+/// A table of names, and where its zero bytes stand, ascending.
+#[derive(Drop)]
+pub struct Names<'a> {
+    table: &'a [u8],
+    zeros: Vec<usize>,
+    ghost zeros_are: { zeros.items ≡ places (is_byte 0) table.now },
+}
+
+impl<'a> Names<'a> {
+    ghost use Rattle.elf_image.specs.Texts.{table_of, IsTextEnd};
+
+    /// Finds the zero bytes of a table.
+    pub fn new(alloc: Global, table: &'a [u8]) -> Result<Names<'a>, NoMemory>
+        ensures { IfOk result (λ names. table_of names ≡ table.now) }
+    {
+        let zeros = memchr_iter(0, table).collect(alloc)?;
+        Ok(Names { table, zeros })
+    }
+
+    // Where the text ends that begins at an index.
+    fn end(&self, index: usize) -> usize
+        ensures { IsTextEnd (table_of self.now) index result }
+    {
+        let next = self.zeros.partition_point(|zero| *zero < index);
+        match self.zeros.get(next) {
+            Some(end) => *end,
+            None => self.table.len(),
+        }
+    }
+
+    /// The text at an index, up to the next zero byte, or to the table's end where none follows.
+    pub fn text(&self, index: u32) -> &'a [u8]
+        ensures { result.now ≡ text_of (table_of self.now) index }
+    {
+        let start = index as usize;
+        let end = self.end(start);
+        if end < start {
+            return &self.table[..0];
+        }
+        &self.table[start..end]
+    }
+}
