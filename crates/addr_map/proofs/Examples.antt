@@ -1,0 +1,43 @@
+-- The map of a small loop, of which a jump was left out, and its text: each equation holds by computing.
+use Rattle.std.specs.Prelude.{◌≡◌, ℕ, List, [], ◌∷◌, Some, None, codes, refl}
+use Rattle.std.specs.Fmt.{digits}
+use Rattle.addr_map.specs.declared.span.Span.{Span}
+use Rattle.addr_map.specs.MapText.{span_line}
+use Rattle.addr_map.specs.Spans.{moved, new, owner}
+
+abbrev span : ℕ → ℕ → ℕ → Span
+span out len input = record { out = out; len = len; input = input }
+
+-- a jump was added after the first instruction, and the one at 10084 left out, before its target at 1007c
+abbrev spans : List Span
+spans =
+    span 0x10090 8 0x10078 ∷ span 0x10098 4 0x10080 ∷ span 0x1009c 0 0x10084 ∷ span 0x1009c 4 0x1007c
+    ∷ span 0x100a0 4 0x10088 ∷ span 0x100a4 4 0x1008c ∷ []
+
+moved_first : moved spans 0x10078 ≡ Some 0x10090
+moved_first = refl
+
+-- what was left out is where its target is
+moved_jump : moved spans 0x10084 ≡ Some 0x1009c
+moved_jump = refl
+
+moved_inside : moved spans 0x1007a ≡ None
+moved_inside = refl
+
+new_of_data : new spans 0x20000 ≡ 0x20000
+new_of_data = refl
+
+-- the added jump belongs to the instruction before it
+owner_of_added : owner spans 0x10097 ≡ Some 0x10078
+owner_of_added = refl
+
+-- what was left out owns nothing
+owner_of_target : owner spans 0x1009c ≡ Some 0x1007c
+owner_of_target = refl
+
+owner_of_end : owner spans 0x100a8 ≡ None
+owner_of_end = refl
+
+line_of_left_out : span_line (span 0x1009c 0 0x10084) ≡ codes "1009c 0 10084\n"
+unfolding digits
+line_of_left_out = refl

@@ -1,0 +1,88 @@
+-- Hidden fields: those in a file's headers that its rewriting changes, and what the stack says of them. The symbol machine
+-- reads none of them.
+use Rattle.std.specs.Prelude.{ℕ, ◌+◌, ◌*◌, ◌==◌, ◌&&◌, ◌||◌, nat_le, if◌then◌else◌, Bool, false, List, [], ◌∷◌, ◌++◌, length, flat_map, is_none}
+use Rattle.std.specs.Option.{option_map_or}
+use Rattle.std.specs.List.{list_any, enumerate_from}
+use Rattle.elf_image.specs.declared.elf.Elf.{Elf}
+use Rattle.elf_image.specs.declared.segment.Segment.{Segment}
+use Rattle.elf_image.specs.declared.segment.TheConstants.{PHDR_SIZE, PT_GNU_EH_FRAME}
+use Rattle.elf_image.specs.CodeSegment.{executable_segment, executable_end}
+use Rattle.elf_image.specs.Loaded.{Range, holds, address_of, file_offset}
+use Rattle.elf_image.specs.Start.{arguments, stack_pointer}
+
+-- Fields of the headers, by their offsets. gABI, "ELF Header" and "Program Header".
+
+abbrev pub e_entry_field : Range
+e_entry_field = record { start = 0x18; size = 8 }
+
+abbrev pub e_phoff_field : Range
+e_phoff_field = record { start = 0x20; size = 8 }
+
+abbrev pub e_phnum_field : Range
+e_phnum_field = record { start = 0x38; size = 2 }
+
+-- e_shoff, e_shnum and e_shstrndx
+abbrev pub section_fields : List Range
+section_fields = record { start = 0x28; size = 8 } ∷ record { start = 0x3c; size = 2 } ∷ record { start = 0x3e; size = 2 } ∷ []
+
+-- of the program header at an offset: p_offset; p_filesz and p_memsz; and all but p_type, p_flags and p_align
+abbrev pub p_offset_field : ℕ → Range
+p_offset_field at = record { start = at + 8; size = 8 }
+
+abbrev pub size_fields : ℕ → Range
+size_fields at = record { start = at + 32; size = 16 }
+
+abbrev pub place_fields : ℕ → Range
+place_fields at = record { start = at + 8; size = 40 }
+
+-- The hidden ones.
+
+abbrev pub only : Bool → Range → List Range
+only test range = if test then range ∷ [] else []
+
+-- a program header of an index is that of the executable segment
+abbrev pub is_executable_segment : Elf → ℕ → Bool
+is_executable_segment elf index = option_map_or (λ e. e.0 == index) (executable_segment elf.segments.items) false
+
+-- of the program header of an index: the sizes of the executable segment; the offset, where it is past that segment;
+-- and where the header of the unwind table stands (LSB, "PT_GNU_EH_FRAME")
+abbrev pub hidden_in_segment : Elf → ℕ × Segment → List Range
+hidden_in_segment elf indexed =
+    let at = elf.phoff + PHDR_SIZE * indexed.0 in
+    let p = indexed.1 in
+    only (is_executable_segment elf indexed.0) (size_fields at)
+    ++ only (nat_le (executable_end elf.segments.items) p.offset) (p_offset_field at)
+    ++ only (p.kind == PT_GNU_EH_FRAME) (place_fields at)
+
+-- All, by their places in the file. The entry point's field is one only where not all of it is loaded. A file is tight
+-- where its new code has no room after the executable segment: then the table of program headers moves and grows.
+abbrev pub hidden_fields : Elf → Bool → List Range
+hidden_fields elf tight =
+    section_fields
+    ++ only (tight || nat_le (executable_end elf.segments.items) elf.phoff) e_phoff_field
+    ++ only tight e_phnum_field
+    ++ only (is_none (address_of elf e_entry_field)) e_entry_field
+    ++ flat_map (hidden_in_segment elf) (enumerate_from 0 elf.segments.items)
+
+-- the n-th value of the auxiliary vector, on the stack
+abbrev pub auxiliary_value : List (List ℕ) → ℕ → Range
+auxiliary_value words n = record { start = stack_pointer words + 8 * (length (arguments words) + 4 + 2 * n); size = 8 }
+
+-- those of AT_PHDR, AT_PHNUM and AT_ENTRY
+abbrev pub at_phdr : List (List ℕ) → Range
+at_phdr words = auxiliary_value words 0
+
+abbrev pub at_phnum : List (List ℕ) → Range
+at_phnum words = auxiliary_value words 2
+
+abbrev pub at_entry : List (List ℕ) → Range
+at_entry words = auxiliary_value words 4
+
+-- The byte at an address is one of a hidden field: one of a header, or in a tight file one of the two words on the stack
+-- that speak of the table.
+abbrev pub is_hidden_field : Elf → Bool → ℕ → Bool
+is_hidden_field elf tight a =
+    option_map_or (λ offset. list_any (holds offset) (hidden_fields elf tight)) (file_offset elf.segments.items a) false
+
+abbrev pub is_hidden_word : Bool → List (List ℕ) → ℕ → Bool
+is_hidden_word tight words a = tight && (holds a (at_phdr words) || holds a (at_phnum words))

@@ -1,0 +1,99 @@
+-- How a program starts on the symbol machine, and its runs: as on the byte machine, but that code cells and the entry
+-- point are symbols, and fields that the rewriting of a file changes are hidden.
+use Rattle.std.specs.Prelude.{ℕ, ◌-◌, ◌||◌, if◌then◌else◌, Bool, List, [], ◌∷◌, ◌++◌, Option, Some, None, find, unwrap_or, option_map}
+use Rattle.std.specs.Option.{option_map_or, option_or}
+use Rattle.rv_code.specs.declared.cell.CodeCell.{CodeCell}
+use Rattle.rv_code.specs.declared.cell.CellKind.{CellKind}
+use Rattle.rv_code.specs.declared.cell.CellKind.TheVariants as kind
+use Rattle.rv_code.specs.declared.placed.Func.{Func}
+use Rattle.rv_code.specs.Machine.{Event, Run, SoFar, HaltsAfter}
+use Rattle.elf_image.specs.declared.elf.Elf.{Elf}
+use Rattle.elf_image.specs.Loaded.{Range, holds, address_of}
+use Rattle.elf_image.specs.Start.{start_memory, start_registers, space_of, break_start}
+use Rattle.sym_machine.specs.declared.outcome.Reason.{Reason}
+use Rattle.sym_machine.specs.declared.value.Pointer.TheVariants.{Code}
+use Rattle.sym_machine.specs.declared.value.Symbol.{Symbol}
+use Rattle.sym_machine.specs.declared.value.Symbol.TheVariants.{Points, Diff}
+use Rattle.sym_machine.specs.declared.value.Value.{Value}
+use Rattle.sym_machine.specs.declared.value.Value.TheVariants.{Num}
+use Rattle.sym_machine.specs.declared.value.Cell.{Cell}
+use Rattle.sym_machine.specs.declared.value.Cell.TheVariants.{Byte, Part, Hidden}
+use Rattle.sym_machine.specs.HiddenFields.{e_entry_field, at_entry, is_hidden_field, is_hidden_word}
+use Rattle.sym_machine.specs.SymStep.{SymState, SymSteps}
+
+-- Symbols.
+
+abbrev pub symbol_of : CellKind → Symbol
+symbol_of (kind.Abs to) = Points (Code to)
+symbol_of (kind.Diff to from) = Diff to from
+
+abbrev pub range_of : CodeCell → Range
+range_of cell = record { start = cell.addr; size = cell.width }
+
+-- the byte of a code cell at an address
+abbrev pub part_of : ℕ → CodeCell → Cell
+part_of a cell = Part (symbol_of cell.kind) cell.width (a - cell.addr)
+
+-- the entry point, kept in 8 bytes from a place on: in e_entry, where that is loaded, and on the stack
+abbrev pub entry_part : Elf → ℕ → Range → Cell
+entry_part elf a range = Part (Points (Code elf.entry)) 8 (a - range.start)
+
+abbrev pub entry_fields : Elf → List (List ℕ) → List Range
+entry_fields elf words =
+    option_map_or (λ a. record { start = a; size = 8 } ∷ []) (address_of elf e_entry_field) [] ++ at_entry words ∷ []
+
+-- The state before the first step.
+
+-- what stands at an address for the entry point, for a hidden field, and for a code cell
+abbrev pub entry_cell : Elf → List (List ℕ) → ℕ → Option Cell
+entry_cell elf words a = option_map (entry_part elf a) (find (holds a) (entry_fields elf words))
+
+abbrev pub hidden_cell : Elf → Bool → List (List ℕ) → ℕ → Option Cell
+hidden_cell elf tight words a = if is_hidden_field elf tight a || is_hidden_word tight words a then Some Hidden else None
+
+abbrev pub code_cell : List CodeCell → ℕ → Option Cell
+code_cell cells a = option_map (part_of a) (find (λ c. holds a (range_of c)) cells)
+
+-- Where these overlap, the entry point comes first. All other bytes are those of the byte machine.
+abbrev pub sym_memory : Elf → List CodeCell → Bool → List (List ℕ) → ℕ → Cell
+sym_memory elf cells tight words a =
+    unwrap_or (option_or (entry_cell elf words a) (option_or (hidden_cell elf tight words a) (code_cell cells a)))
+    (Byte (start_memory elf.file.now words a))
+
+abbrev pub sym_registers : List (List ℕ) → ℕ → Value
+sym_registers words r = Num (start_registers words r)
+
+abbrev pub sym_start : Elf → List CodeCell → Bool → List (List ℕ) → List ℕ → SymState
+sym_start elf cells tight words input = record {
+  pc = elf.entry;
+  registers = sym_registers words;
+  memory = sym_memory elf cells tight words;
+  space = space_of elf.segments.items;
+  program_break = break_start elf.segments.items;
+  input = input;
+}
+
+-- Runs.
+
+-- what the machine is given of a file: its functions, its code cells, and whether it is tight
+pub record Program : Type 0 where
+  pub elf : Elf
+  pub funcs : List Func
+  pub cells : List CodeCell
+  pub tight : Bool
+
+abbrev pub program_start : Program → List (List ℕ) → List ℕ → SymState
+program_start p words input = sym_start p.elf p.cells p.tight words input
+
+-- The n-th step of the program, run with these words and this input, ends with this status, after these calls.
+abbrev pub SymRuns : Program → List (List ℕ) → List ℕ → ℕ → List Event → ℕ → Type 0
+SymRuns p words input n trace status = Run (SymSteps p.funcs) (program_start p words input) n trace status
+
+-- After n steps that neither end nor stick, with these calls, the machine is stuck, at this pc for this reason.
+abbrev pub SticksAfter : Program → List (List ℕ) → List ℕ → ℕ → List Event → ℕ → Reason → Type 0
+SticksAfter p words input n trace pc why = HaltsAfter (SymSteps p.funcs) (program_start p words input) n trace pc why
+
+-- Its first n steps neither end nor stick, and make these calls.
+pub record SymRunsSoFar (p : Program) (words : List (List ℕ)) (input : List ℕ) (n : ℕ) (trace : List Event) : Type 0 where
+  pub state : SymState
+  pub so_far : SoFar (SymSteps p.funcs) (program_start p words input) n trace state

@@ -1,0 +1,177 @@
+-- One step of the symbol machine. A step is a list of conditions, each with the reason for which the machine is stuck
+-- where it is the first that fails. For all instructions they stand in one order: FellOff, Break, CallArg for a
+-- register, Operate, Compare, NotCode, EndOfFunction, Access, Hidden, CallArg for a byte that is written out, Mixed.
+use Rattle.std.specs.Prelude.{◌≡◌, ℕ, ◌*◌, ◌%◌, ◌^◌, ◌||◌, ◌==◌, if◌then◌else◌, Bool, true, false, not, List, [], ◌∷◌, Option, Some, None, length, take, drop, min, map}
+use Rattle.std.specs.List.{list_any}
+use Rattle.rv_code.specs.declared.action.Extension.{Extension}
+use Rattle.rv_code.specs.declared.action.Action.{Action}
+use Rattle.rv_code.specs.declared.action.Action.TheVariants.{Compute, Branch, Jump, JumpTo, Upper, UpperPc, Load, Store, Fence, SystemCall, Breakpoint}
+use Rattle.rv_code.specs.declared.placed.Placed.{Placed}
+use Rattle.rv_code.specs.declared.placed.Func.{Func}
+use Rattle.rv_code.specs.declared.placed.Role.{Role}
+use Rattle.rv_code.specs.Word.{word}
+use Rattle.rv_code.specs.Extension.{bytes_of}
+use Rattle.rv_code.specs.Flow.{placed_at, action_at}
+use Rattle.rv_code.specs.Machine.{plus, set_register, all_may, cells_at, put, State, may_read, may_write, with_break, Event, Call, Read, Write, Exit, Brk, Unknown, call_of, most_moved, bad_file, no_such_call, Outcome, Going, Ended, Halts}
+use Rattle.rv_code.specs.Step.{a0, a1, a2, a7}
+use Rattle.sym_machine.specs.declared.outcome.Reason.{Reason}
+use Rattle.sym_machine.specs.declared.outcome.Reason.TheVariants as reason
+use Rattle.sym_machine.specs.declared.value.Pointer.TheVariants.{Ret}
+use Rattle.sym_machine.specs.declared.value.Symbol.TheVariants.{Points}
+use Rattle.sym_machine.specs.declared.value.Value.{Value}
+use Rattle.sym_machine.specs.declared.value.Value.TheVariants.{Num, Sym}
+use Rattle.sym_machine.specs.declared.value.Cell.{Cell}
+use Rattle.sym_machine.specs.declared.value.Cell.TheVariants.{Byte}
+use Rattle.sym_machine.specs.Values.{number, numbers, stored, is_hidden}
+use Rattle.sym_machine.specs.Rules.{upper_of_distance, upper_of_address, computed, tested, goal, pointer, destination, place, loaded}
+
+abbrev pub SymState : Type 0
+SymState = State Value Cell
+
+abbrev pub SymOutcome : Type 0
+SymOutcome = Outcome SymState Reason
+
+-- Conditions.
+
+-- there is a value, with which the step goes on
+abbrev pub needs : {A : Type 0} → SymState → Reason → Option A → (A → SymOutcome) → SymOutcome
+needs s why None rest = Halts s.pc why
+needs s why (Some x) rest = rest x
+
+-- a test passes
+abbrev pub checks : SymState → Reason → Bool → SymOutcome → SymOutcome
+checks s why false rest = Halts s.pc why
+checks s why true rest = rest
+
+-- What a step comes to.
+
+abbrev pub goes_to : SymState → ℕ → SymOutcome
+goes_to s next = Going (record s { pc = next }) None
+
+abbrev pub writes_register : SymState → ℕ → ℕ → Value → SymOutcome
+writes_register s next rd v = Going (record s { pc = next; registers = set_register rd v s.registers }) None
+
+abbrev pub writes_memory : SymState → ℕ → ℕ → List Cell → SymOutcome
+writes_memory s next a cells = Going (record s { pc = next; memory = put s.memory a cells }) None
+
+-- a system call comes back, with its result in a0
+abbrev pub returns : SymState → ℕ → Event → SymOutcome
+returns s next e = Going (record s { pc = next; registers = set_register a0 (Num e.result) s.registers }) (Some e)
+
+-- Jumps that save a return address save that of their own call.
+abbrev pub jumps : SymState → ℕ → ℕ → SymOutcome
+jumps s rd to = writes_register s to rd (Sym (Points (Ret s.pc)))
+
+-- Loads and stores.
+
+abbrev pub loads_at : SymState → ℕ → Extension → ℕ → ℕ → SymOutcome
+loads_at s next e rd a =
+    checks s reason.Access (all_may (may_read s) a (bytes_of e))
+    (checks s reason.Hidden (not (list_any is_hidden (cells_at s.memory a (bytes_of e))))
+    (needs s reason.Mixed (loaded e (cells_at s.memory a (bytes_of e))) (writes_register s next rd)))
+
+abbrev pub loads : SymState → ℕ → Extension → ℕ → Option Value → SymOutcome
+loads s next e rd at = needs s reason.Operate at (λ v. needs s reason.Access (number v) (loads_at s next e rd))
+
+abbrev pub stores_at : SymState → ℕ → ℕ → List Cell → ℕ → SymOutcome
+stores_at s next n cells a = checks s reason.Access (all_may (may_write s) a n) (writes_memory s next a cells)
+
+abbrev pub stores : SymState → ℕ → ℕ → Value → Option Value → SymOutcome
+stores s next n value at =
+    needs s reason.Operate at (λ v. needs s reason.Operate (stored n value) (λ cells. needs s reason.Access (number v) (stores_at s next n cells)))
+
+-- Branches, and jumps through registers.
+
+abbrev pub branches : SymState → ℕ → ℕ → Bool → Option Bool → SymOutcome
+branches s next target true test = needs s reason.Compare test (λ holds. goes_to s (if holds then target else next))
+branches s next target false test = needs s reason.Compare test (λ holds. goes_to s (if holds then next else target))
+
+abbrev pub jumps_to : List Func → SymState → Role → ℕ → Value → ℕ → SymOutcome
+jumps_to funcs s part rd base offset =
+    needs s reason.Operate (goal funcs part base) (λ v.
+    needs s reason.NotCode (pointer part offset v) (λ p.
+    needs s reason.EndOfFunction (destination funcs p) (jumps s rd)))
+
+-- System calls. Each uses the arguments that it names, whatever it answers.
+
+-- the number in a register that a call uses
+abbrev pub argument : SymState → ℕ → (ℕ → SymOutcome) → SymOutcome
+argument s r rest = needs s reason.CallArg (number (s.registers r)) rest
+
+abbrev pub three_arguments : SymState → (ℕ → ℕ → ℕ → SymOutcome) → SymOutcome
+three_arguments s rest = argument s a0 (λ x. argument s a1 (λ y. argument s a2 (rest x y)))
+
+-- a call that moves bytes between a file and a buffer came back with their number
+abbrev pub moved : ℕ → ℕ → ℕ → ℕ → List ℕ → Event
+moved number file at size bytes = record { number = number; used = file ∷ at ∷ size ∷ []; moved = bytes; result = length bytes }
+
+-- a file that isn't open: the buffer isn't looked at
+abbrev pub refuses_file : SymState → ℕ → ℕ → ℕ → ℕ → ℕ → SymOutcome
+refuses_file s next number file at size =
+    returns s next (record { number = number; used = file ∷ at ∷ size ∷ []; moved = []; result = bad_file })
+
+-- bytes of the input go to a buffer, all of which may be written
+abbrev pub reads_input : SymState → ℕ → ℕ → ℕ → List ℕ → SymOutcome
+reads_input s next at size bytes =
+    checks s reason.Access (all_may (may_write s) at (min size most_moved))
+    (returns (record s { memory = put s.memory at (map Byte bytes); input = drop (length bytes) s.input }) next (moved 63 0 at size bytes))
+
+-- bytes of a buffer go out, all of which may be read
+abbrev pub writes_output : SymState → ℕ → ℕ → ℕ → ℕ → List Cell → SymOutcome
+writes_output s next file at size cells =
+    checks s reason.Access (all_may (may_read s) at (min size most_moved))
+    (checks s reason.Hidden (not (list_any is_hidden cells))
+    (needs s reason.CallArg (numbers cells) (λ bytes. returns s next (moved 64 file at size bytes))))
+
+-- standard input is file 0, standard output and standard error are files 1 and 2
+abbrev pub read_call : SymState → ℕ → ℕ → ℕ → ℕ → SymOutcome
+read_call s next file at size =
+    if file == 0 then reads_input s next at size (take (min size most_moved) s.input) else refuses_file s next 63 file at size
+
+abbrev pub write_call : SymState → ℕ → ℕ → ℕ → ℕ → SymOutcome
+write_call s next file at size =
+    if file == 1 || file == 2
+    then writes_output s next file at size (cells_at s.memory at (min size most_moved))
+    else refuses_file s next 64 file at size
+
+-- the result is the break after the call
+abbrev pub sets_break : SymState → ℕ → ℕ → SymState → SymOutcome
+sets_break s next to t = returns t next (record { number = 214; used = to ∷ []; moved = []; result = t.program_break })
+
+abbrev pub calls : SymState → ℕ → ℕ → Call → SymOutcome
+calls s next n Read = three_arguments s (read_call s next)
+calls s next n Write = three_arguments s (write_call s next)
+calls s next n Exit = argument s a0 (λ x. Ended (x % 256))
+calls s next n Brk = argument s a0 (λ x. sets_break s next x (with_break (Byte 0) x s))
+calls s next n Unknown = returns s next (record { number = n; used = []; moved = []; result = no_such_call })
+
+-- The step.
+
+-- what an instruction with a role does whose next one is at a pc
+abbrev pub effect : List Func → Role → Action → ℕ → SymState → SymOutcome
+effect funcs part (Compute op rd left right) next s =
+    needs s reason.Operate (computed funcs part s.registers op left right) (writes_register s next rd)
+effect funcs part (Branch test wanted rs1 rs2 imm) next s =
+    branches s next (plus s.pc (word imm)) wanted (tested test (s.registers rs1) (s.registers rs2))
+effect funcs part (Jump rd imm) next s = jumps s rd (plus s.pc (word imm))
+effect funcs part (JumpTo rd rs1 imm) next s = jumps_to funcs s part rd (s.registers rs1) (word imm)
+effect funcs part (Upper rd imm) next s = writes_register s next rd (upper_of_address part (word imm * 4096 % 2 ^ 64))
+effect funcs part (UpperPc rd imm) next s = needs s reason.Operate (upper_of_distance part s.pc) (writes_register s next rd)
+effect funcs part (Load e rd rs1 imm) next s = loads s next e rd (place funcs part (s.registers rs1) (word imm))
+effect funcs part (Store n rs1 rs2 imm) next s =
+    stores s next n (s.registers rs2) (place funcs part (s.registers rs1) (word imm))
+effect funcs part Fence next s = goes_to s next
+effect funcs part SystemCall next s = argument s a7 (λ n. calls s next n (call_of n))
+effect funcs part Breakpoint next s = Halts s.pc reason.Break
+
+-- the instruction of a function at a pc; there is none at an odd one
+abbrev pub instruction : List Func → ℕ → Option Placed
+instruction funcs pc = if pc % 2 == 0 then placed_at funcs pc else None
+
+-- what a step comes to
+abbrev pub sym_step : List Func → SymState → SymOutcome
+sym_step funcs s = needs s reason.FellOff (instruction funcs s.pc) (λ p. effect funcs p.role (action_at p) (plus s.pc p.len) s)
+
+-- The step from s comes to o.
+abbrev pub SymSteps : List Func → SymState → SymOutcome → Type 0
+SymSteps funcs s o = sym_step funcs s ≡ o

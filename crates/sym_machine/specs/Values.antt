@@ -1,0 +1,121 @@
+-- Values and cells of the symbol machine: which are equal, and what stands in memory for a value.
+use Rattle.std.specs.Prelude.{◌≡◌, ◌≢◌, ◌⊎◌, ◌<◌, ◌≤◌, ◌+◌, ℕ, zero, suc, ◌==◌, ◌&&◌, not, nat_le, if◌then◌else◌, Bool, true, false, List, [], ◌∷◌, Option, Some, None, map, option_map}
+use Rattle.rv_code.specs.declared.placed.Func.{Func}
+use Rattle.rv_code.specs.declared.op.Op.{Op}
+use Rattle.rv_code.specs.declared.op.Op.TheVariants as op
+use Rattle.rv_code.specs.Machine.{low_bytes}
+use Rattle.rv_code.specs.Code.{is_code}
+use Rattle.sym_machine.specs.declared.value.Pointer.{Pointer}
+use Rattle.sym_machine.specs.declared.value.Pointer.TheVariants.{Code, Ret}
+use Rattle.sym_machine.specs.declared.value.Comparing.{Comparing}
+use Rattle.sym_machine.specs.declared.value.Comparing.TheVariants.{Sub, Xor}
+use Rattle.sym_machine.specs.declared.value.Symbol.{Symbol}
+use Rattle.sym_machine.specs.declared.value.Symbol.TheVariants.{Points, Hi, Abs, Diff, Apart}
+use Rattle.sym_machine.specs.declared.value.Value.{Value}
+use Rattle.sym_machine.specs.declared.value.Value.TheVariants.{Num, Sym, Piece}
+use Rattle.sym_machine.specs.declared.value.Cell.{Cell}
+use Rattle.sym_machine.specs.declared.value.Cell.TheVariants.{Byte, Part, Hidden}
+
+-- Equality.
+
+abbrev pub same_pointer : Pointer → Pointer → Bool
+same_pointer (Code a) (Code b) = a == b
+same_pointer (Ret a) (Ret b) = a == b
+same_pointer _ _ = false
+
+-- the operation by which pointers are compared
+abbrev pub op_of : Comparing → Op
+op_of Sub = op.Sub
+op_of Xor = op.Xor
+
+abbrev pub same_comparing : Comparing → Comparing → Bool
+same_comparing Sub Sub = true
+same_comparing Xor Xor = true
+same_comparing _ _ = false
+
+abbrev pub same_symbol : Symbol → Symbol → Bool
+same_symbol (Points p) (Points q) = same_pointer p q
+same_symbol (Hi a) (Hi b) = a == b
+same_symbol (Abs s) (Abs t) = s == t
+same_symbol (Diff to from) (Diff to' from') = to == to' && from == from'
+same_symbol (Apart by p q) (Apart by' p' q') = same_comparing by by' && same_pointer p p' && same_pointer q q'
+same_symbol _ _ = false
+
+-- The value of an address: a pointer where it is a code address, else a number.
+abbrev pub value_of : List Func → ℕ → Value
+value_of funcs a = if is_code funcs a then Sym (Points (Code a)) else Num a
+
+-- whether a value is the value of an address
+abbrev pub is_value_of : List Func → ℕ → Value → Bool
+is_value_of funcs a (Num n) = not (is_code funcs a) && n == a
+is_value_of funcs a (Sym (Points (Code b))) = is_code funcs a && b == a
+is_value_of funcs a _ = false
+
+-- Numbers.
+
+abbrev pub number : Value → Option ℕ
+number (Num n) = Some n
+number _ = None
+
+abbrev pub and_more : Cell → Option (List ℕ) → Option (List ℕ)
+and_more (Byte b) rest = option_map (λ bs. b ∷ bs) rest
+and_more _ rest = None
+
+-- cells that are all numbers
+abbrev pub numbers : List Cell → Option (List ℕ)
+numbers [] = Some []
+numbers (c ∷ cs) = and_more c (numbers cs)
+
+-- Symbols in memory.
+
+-- n bytes of a symbol from byte i on, as it is kept in w bytes
+unfoldable pub parts : Symbol → ℕ → ℕ → ℕ → List Cell
+parts y w i zero = []
+parts y w i (suc n) = Part y w i ∷ parts y w (suc i) n
+
+-- cells are bytes of a symbol from byte i on, as it is kept in w bytes
+abbrev pub are_parts : Symbol → ℕ → ℕ → List Cell → Bool
+are_parts y w i [] = true
+are_parts y w i (Part z v j ∷ cs) = same_symbol y z && w == v && i == j && are_parts y w (suc i) cs
+are_parts y w i (c ∷ cs) = false
+
+abbrev pub is_hidden : Cell → Bool
+is_hidden Hidden = true
+is_hidden _ = false
+
+-- The n low bytes of a value as they are stored. A symbol is kept in 4 bytes by a store of 4, else in 8, of which
+-- a short store has the first ones. A piece has its first bytes, where it has as many.
+abbrev pub stored : ℕ → Value → Option (List Cell)
+stored n (Num x) = Some (map Byte (low_bytes n x))
+stored n (Sym y) = Some (parts y (if n == 4 then 4 else 8) 0 n)
+stored n (Piece y w i k e) = if nat_le n k then Some (parts y w i n) else None
+
+-- The values and cells that the machine makes.
+
+-- pointers that were compared have one kind and different addresses
+abbrev pub AreApart : Pointer → Pointer → Type 0
+AreApart (Code a) (Code b) = a ≢ b
+AreApart (Ret a) (Ret b) = a ≢ b
+AreApart _ _ = ⊥
+
+abbrev pub IsSymbol : Symbol → Type 0
+IsSymbol (Apart by p q) = AreApart p q
+IsSymbol _ = Unit {0}
+
+-- a symbol is kept in 4 or in 8 bytes
+abbrev pub IsWidth : ℕ → Type 0
+IsWidth w = (w ≡ 4) ⊎ (w ≡ 8)
+
+-- a piece has 1, 2 or 4 of its bytes
+abbrev pub IsPiece : ℕ → ℕ → ℕ → Type 0
+IsPiece w i n = IsWidth w × ((n ≡ 1) ⊎ ((n ≡ 2) ⊎ (n ≡ 4))) × (i + n ≤ w)
+
+abbrev pub IsValue : Value → Type 0
+IsValue (Num n) = Unit {0}
+IsValue (Sym y) = IsSymbol y
+IsValue (Piece y w i n e) = IsSymbol y × IsPiece w i n
+
+abbrev pub IsCell : Cell → Type 0
+IsCell (Byte b) = Unit {0}
+IsCell (Part y w i) = IsSymbol y × IsWidth w × (i < w)
+IsCell Hidden = Unit {0}
