@@ -1,0 +1,93 @@
+#!/usr/bin/env python3
+"""Steps a second of the byte machine, beside qemu-riscv64 on the same file.
+
+    python3 bench/machine.py [RUNS]
+
+Two executables are made in a temporary folder, each a loop of ten million steps: one of arithmetic alone, and
+one of which one step in four stores or loads eight bytes, all over 256 KiB. Each line has the loop, the tool, the
+median of the user's seconds, and millions of steps a second.
+"""
+import os
+import statistics
+import struct
+import subprocess
+import sys
+import tempfile
+
+ROOT = os.path.dirname(os.path.dirname(os.path.abspath(__file__)))
+CODE_ADDRESS, DATA_ADDRESS, DATA_SIZE = 0x100B0, 0x50000, 0x40000
+NAMES = b"\0.shstrtab\0"
+
+# li a7, 93; li a0, 7; ecall
+EXIT = [0x05D00893, 0x00700513, 0x00000073]
+
+# lui t0, 306; addi t0, t0, -1376 make 1,252,000; then 8 steps a round
+COUNT = [0x001322B7, 0xAA028293]
+ARITHMETIC = COUNT + [
+    0x00550533,  # add a0, a0, t0
+    0x00554633,  # xor a2, a0, t0
+    0x025606B3,  # mul a3, a2, t0
+    0x40C68733,  # sub a4, a3, a2
+    0x00371813,  # slli a6, a4, 3
+    0x00775793,  # srli a5, a4, 7
+    0xFFF28293,  # addi t0, t0, -1
+    0xFE0292E3,  # bne t0, x0, -28
+]
+# lui a1, data; lui a6, 64 is the size; the offset in s0 goes round
+MEMORY = COUNT + [
+    0x000505B7,  # lui a1, 80
+    0x00040837,  # lui a6, 64
+    0xFF880813,  # addi a6, a6, -8
+    0x00840413,  # addi s0, s0, 8
+    0x01047433,  # and s0, s0, a6
+    0x008584B3,  # add s1, a1, s0
+    0x0054B023,  # sd t0, 0(s1)
+    0x0004B703,  # ld a4, 0(s1)
+    0x00E50533,  # add a0, a0, a4
+    0xFFF28293,  # addi t0, t0, -1
+    0xFE0292E3,  # bne t0, x0, -28
+]
+
+
+def executable(words):
+    """A file of one segment of code and one of zeros that may be written."""
+    code = b"".join(word.to_bytes(4, "little") for word in words + EXIT)
+    front = 64 + 2 * 56
+    names_at = front + len(code)
+    table_at = -(-(names_at + len(NAMES)) // 8) * 8
+    body = b"\x7fELF\x02\x01\x01" + bytes(9)
+    body += struct.pack("<HHIQQQIHHHHHH", 2, 0xF3, 1, CODE_ADDRESS, 64, table_at, 0, 64, 56, 2, 64, 2, 1)
+    body += struct.pack("<IIQQQQQQ", 1, 5, 0, 0x10000, 0x10000, names_at, names_at, 0x1000)
+    body += struct.pack("<IIQQQQQQ", 1, 6, 0, DATA_ADDRESS, DATA_ADDRESS, 0, DATA_SIZE, 0x1000)
+    body += code + NAMES
+    body += bytes(table_at - len(body)) + bytes(64)
+    return body + struct.pack("<IIQQQQIIQQ", 1, 3, 0, 0, names_at, len(NAMES), 0, 0, 1, 0)
+
+
+def measure(words, runs):
+    """The median of the user's seconds of a command that ends with status 7."""
+    seconds = []
+    for _ in range(runs):
+        process = subprocess.Popen(words, stdout=subprocess.DEVNULL)
+        status, usage = os.wait4(process.pid, 0)[1:]
+        assert os.waitstatus_to_exitcode(status) == 7, words
+        seconds.append(usage.ru_utime)
+    return statistics.median(seconds)
+
+
+def main():
+    runs = int(sys.argv[1]) if len(sys.argv) > 1 else 5
+    program = os.path.join(ROOT, "sudrepka")
+    subprocess.run([program], stdout=subprocess.DEVNULL)  # proves and builds it, where it isn't built
+    with tempfile.TemporaryDirectory() as folder:
+        for name, words in [("arithmetic", ARITHMETIC), ("memory", MEMORY)]:
+            path = os.path.join(folder, name)
+            with open(path, "wb") as file:
+                file.write(executable(words))
+            os.chmod(path, 0o755)
+            for tool, command in [("sudrepka", [program, "run", path]), ("qemu", ["qemu-riscv64", path])]:
+                seconds = measure(command, runs)
+                print(f"{name:10} {tool:9} {seconds:8.3f} s {10.016 / seconds:9.1f} M/s")
+
+
+main()

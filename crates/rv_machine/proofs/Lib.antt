@@ -1,0 +1,16 @@
+pub mod Cells
+pub mod Outcomes
+pub mod Spaces
+pub mod Fetches
+pub mod Filling
+pub mod CallSteps
+pub mod Quiet
+pub mod Registers
+pub mod Walking
+pub mod Growing
+pub mod Determined
+pub mod OnlyRuns
+pub mod OnlyAnswers
+pub mod StackLengths
+pub mod Tables
+pub mod StackMemory

@@ -1,0 +1,90 @@
+use Rattle.std.proofs.Common.{◌≡◌, ◌∙◌, ◌<◌, ◌≤◌, sym, ap, refl, arith, Some, true, false, length, take, drop, []}
+use Rattle.std.specs.Io.KnownBytes.{prepend_known}
+use Rattle.rv_code.specs.Machine.{Going, all_may, may_write, put, set_register}
+use Rattle.rv_code.specs.Step.{a0, a1, a2, buffer_size}
+use Rattle.rv_machine.specs.Memory.{memory_of}
+use Rattle.rv_machine.specs.State.{state_of, Same}
+use Rattle.rv_machine.proofs.Spaces.{space_in-keeps}
+use Rattle.rv_machine.proofs.Cells.{put_same}
+use Rattle.rv_machine.proofs.CallSteps.{same_state, after_read, read_event, read_call-reads, read_call-traps, HasRead, has_read, read_writes_nothing, written_over}
+use Rattle.rv_machine.proofs.machine.Machine.read_input.Goals as goal
+
+pub returns-then-not-may_all-clause-answer : goal.returns-then-not-may_all-clause-answer
+returns-then-not-may_all-clause-answer g c = λ output.
+    rw c.trap.ensures (record {
+      comes_to = λ input.
+          let s = state_of c.args.self.now input in
+          let size : c.buffer_size-count.result ≡ buffer_size s = c.buffer_size-count.ensures.is input in
+          let may : all_may (may_write s) (s.registers a1) (buffer_size s) ≡ false = rw (c.register-address.ensures, size) at (sym c.may_all.ensures ∙ c.if-not-may_all.true) in
+          sym (read_call-traps s c.args.next may);
+      state_is = λ input. refl;
+      left_is = refl;
+      taken_is = refl;
+    })
+
+pub returns-in-Bytes-clause-answer : goal.returns-in-Bytes-clause-answer
+returns-in-Bytes-clause-answer g c = λ output.
+    let old = c.args.self.now in
+    let new = c.return_value.new.self in
+    let moved = c.split_at.result.0.now in
+    let s0 = state_of old [] in
+    let address : c.register-address.result ≡ s0.registers a1 = c.register-address.ensures in
+    let size : c.buffer_size-count.result ≡ buffer_size s0 = c.buffer_size-count.ensures.is [] in
+    let got : length moved ≡ c.in-Bytes.got = c.split_at.ensures.front_len in
+    let filled : length c.deref_mut.result.now ≡ c.buffer_size-count.result = ap length c.deref_mut.ensures.value ∙ c.in-Ok.ensures.size in
+    let few : length moved ≤ buffer_size s0 = omega (arith, got, c.in-Bytes.ensures.within, c.fill.auto.buffer, filled, size) in
+    let told : (g.I.Source.seen c.args.input.now).left ≡ prepend_known moved (g.I.Source.seen c.fill.new.input).left =
+    c.in-Bytes.ensures.moved ∙ ap (λ bytes. prepend_known bytes (g.I.Source.seen c.fill.new.input).left)
+    (sym (c.split_at.ensures.front ∙ ap (take c.in-Bytes.got) (c.deref.ensures.value ∙ written_over c.fill.new.buffer (drop (length c.fill.new.buffer) c.in-Ok.buffer.items) c.in-Ok.buffer.len (sym (c.fill.auto.buffer ∙ c.deref_mut.ensures.len))))) in
+    let has : HasRead (g.I.Source.seen c.args.input.now).left (g.I.Source.seen c.fill.new.input).left (buffer_size s0) moved =
+    has_read (g.I.Source.seen c.args.input.now).left (g.I.Source.seen c.fill.new.input).left (buffer_size s0) moved told few (λ less. c.in-Bytes.ensures.end (omega (arith, less, got, filled, size))) in
+    let s = state_of old has.input in
+    let t = state_of new has.rest in
+    let may : all_may (may_write s) (s.registers a1) (buffer_size s) ≡ true = rw (address, size) at (sym c.may_all.ensures ∙ c.if-not-may_all.false) in
+    let state = c.return_value.ensures.state has.rest in
+    let same : Same (after_read s c.args.next moved) t = record {
+      pc_is = state.pc_is;
+      registers_are = λ r. ap (λ n. set_register a0 n s.registers r) got ∙ state.registers_are r;
+      memory_is = λ q.
+          ap (λ a. put s.memory a moved q) (sym address)
+          ∙ put_same s.memory (memory_of c.buffer.new.self) (λ x. sym (c.buffer.ensures.kept x)) c.register-address.result q moved
+          ∙ sym (c.overwrite.ensures.written q)
+          ∙ state.memory_is q;
+      space_is =
+          space_in-keeps old.memory c.buffer.new.self c.buffer.ensures.space_kept
+          ∙ space_in-keeps c.buffer.new.self c.overwrite.new.self c.overwrite.ensures.space_kept
+          ∙ state.space_is;
+      break_is = sym c.buffer.ensures.space_kept.break_is ∙ sym c.overwrite.ensures.space_kept.break_is ∙ state.break_is;
+      input_is = has.drops ∙ state.input_is;
+    } in
+    rw c.return_value.ensures.going (record {
+      input = has.input;
+      rest = has.rest;
+      event = Some (read_event s moved);
+      comes_to = ap (λ x. Going x (Some (read_event s moved))) (sym (same_state (after_read s c.args.next moved) t same)) ∙ sym (read_call-reads s c.args.next moved may has.takes);
+      input_is = has.input_is;
+      rest_is = has.rest_is;
+      taken_is = read_writes_nothing s moved output.taken;
+    })
+
+pub returns-clause-answer : goal.returns-clause-answer
+returns-clause-answer g c = λ output. record {
+  cause = c.in-Failed.ensures.failed refl;
+  asks = λ input.
+      let s = state_of c.args.self.now input in
+      let size : c.buffer_size-count.result ≡ buffer_size s = c.buffer_size-count.ensures.is input in
+      let may : all_may (may_write s) (s.registers a1) (buffer_size s) ≡ true = rw (c.register-address.ensures, size) at (sym c.may_all.ensures ∙ c.if-not-may_all.false) in
+      let filled : length c.deref_mut.result.now ≡ c.buffer_size-count.result = ap length c.deref_mut.ensures.value ∙ c.in-Ok.ensures.size in
+      let some : 0 < buffer_size s = omega (arith, c.in-Failed.ensures.asked refl, filled, size) in
+      record {
+        next = after_read s c.args.next (take (buffer_size s) input);
+        event = read_event s (take (buffer_size s) input);
+        address = s.registers a1;
+        count = s.registers a2;
+        comes_to = sym (read_call-reads s c.args.next (take (buffer_size s) input) may refl);
+        number_is = refl;
+        used_is = refl;
+        some = omega (arith, some);
+      };
+  taken_is = refl;
+}

@@ -1,0 +1,11 @@
+-- The system calls that the machine names, as the calls of the definition.
+use Rattle.rv_code.specs.Machine.{Call, Read, Write, Exit, Brk, Unknown}
+use Rattle.rv_machine.specs.declared.calls.SystemCall.{SystemCall}
+use Rattle.rv_machine.specs.declared.calls.SystemCall.TheVariants as system_call
+
+abbrev pub call : SystemCall → Call
+call system_call.Read = Read
+call system_call.Write = Write
+call system_call.Exit = Exit
+call system_call.Brk = Brk
+call system_call.Unknown = Unknown

@@ -1,0 +1,35 @@
+// What the decoder is given.
+ghost use Rattle.std.specs.Prelude.{◌≡◌, ℕ, List};
+
+use crate::machine::Machine;
+use crate::rights::Access;
+
+impl<'a> Machine<'a> {
+    ghost use Rattle.rv_code.specs.Step.{halfword, fetched};
+    ghost use Rattle.rv_machine.specs.State.{state_of};
+
+    /// The halfword at the pc, and the next one where the first begins a longer form; none where there is no
+    /// right to execute them.
+    pub(crate) fn fetch(&self) -> Option<(u16, Option<u16>)>
+        ensures { (input : List ℕ) → result ≡ fetched (state_of self.now input) }
+    {
+        if self.pc % 2 != 0 || !self.memory.may_all(Access::Execute, self.pc, 2) {
+            return None;
+        }
+        let half = self.halfword(self.pc);
+        if half % 4 != 3 {
+            return Some((half, None));
+        }
+        let next = self.pc.wrapping_add(2);
+        if !self.memory.may_all(Access::Execute, next, 2) {
+            return None;
+        }
+        Some((half, Some(self.halfword(next))))
+    }
+
+    fn halfword(&self, address: u64) -> u16
+        ensures { (input : List ℕ) → result ≡ halfword (state_of self.now input) address }
+    {
+        self.memory.number(address, 2) as u16
+    }
+}

@@ -1,0 +1,21 @@
+//! The byte machine: runs a file by the instruction set's rules, one step at a time.
+#![tactic(auto)]
+
+pub mod calls;
+pub mod execute;
+pub mod fetch;
+pub mod load;
+pub mod machine;
+pub mod memory;
+pub mod program_break;
+pub mod reading;
+pub mod rights;
+pub mod run;
+pub mod stack;
+pub mod step;
+pub mod stepped;
+
+pub use machine::Machine;
+pub use run::Ran;
+pub use rv_code::Cause;
+pub use stepped::Stepped;

@@ -1,0 +1,41 @@
+// A machine before its first step.
+ghost use Rattle.std.specs.Prelude.{◌≡◌, ℕ, List, IfOk, map, string_bytes};
+
+use crate::machine::Machine;
+use crate::memory::Memory;
+use crate::rights::STACK_END;
+use crate::stack::stack_bytes;
+use elf_image::Elf;
+use rb_bytes::fault::NoMemory;
+use rv_code::STACK_POINTER;
+use std::alloc::Global;
+
+impl<'a> Machine<'a> {
+    ghost use Rattle.elf_image.specs.Present.{IsSound};
+    ghost use Rattle.elf_image.specs.Read.{IsElfOf};
+    ghost use Rattle.elf_image.specs.Start.{start};
+    ghost use Rattle.rv_machine.specs.Limits.{IsWithinLimits};
+    ghost use Rattle.rv_machine.specs.State.{state_of};
+
+    /// A machine that is about to run a file with these words as its arguments: at most 64 of them, of at most
+    /// 65536 bytes together.
+    pub fn load(alloc: Global, elf: &'a Elf<'a>, words: &[String]) -> Result<Machine<'a>, NoMemory>
+        requires read { IsElfOf elf.now.file.now elf.now }
+        requires sound { IsSound elf.now.file.now }
+        requires limits { IsWithinLimits (map string_bytes words.now) }
+        ensures { IfOk result (λ m. (input : List ℕ) → state_of m input ≡ start elf.now.file.now (map string_bytes words.now) input) }
+    {
+        let bytes = stack_bytes(alloc, elf, words)?;
+        let bytes: &[u8] = &bytes;
+        let pointer = STACK_END - bytes.len() as u64;
+        let mut memory = Memory::new(alloc, elf);
+        memory.write(pointer, bytes)?;
+        let mut registers = [0; 32];
+        registers[STACK_POINTER as usize] = pointer;
+        Ok(Machine {
+            pc: elf.entry,
+            registers,
+            memory,
+        })
+    }
+}

@@ -1,0 +1,73 @@
+// Runs of many steps.
+ghost use Rattle.std.specs.Prelude.{◌≡◌, ◌≤◌, ℕ, List, Some};
+ghost use Rattle.rb_io.specs.Counts.{Rose};
+
+use crate::machine::Machine;
+use crate::stepped::Stepped;
+use rb_io::{Sink, Source};
+
+/// What a run answers.
+#[derive(Clone, Copy, PartialEq, Eq, Debug)]
+pub struct Ran {
+    /// What the last step came to. `Going` says that the steps are up.
+    pub end: Stepped,
+    /// The steps that were done. One that ends is counted, one that traps or fails isn't.
+    pub steps: u64,
+}
+
+impl<'a> Machine<'a> {
+    ghost use Rattle.rv_code.specs.Step.{Steps};
+    ghost use Rattle.rv_machine.specs.State.{state_of};
+    ghost use Rattle.rv_machine.specs.Answers.{Outside};
+    ghost use Rattle.rv_machine.specs.Determined.{IsDetermined};
+    ghost use Rattle.rv_machine.specs.Runs.{Grows, RunAnswers, determined_steps};
+
+    /// Does at most `limit` steps.
+    pub fn run<I: Source, O: Sink>(&mut self, limit: u64, input: &mut I, out: &mut O) -> Ran
+        ensures answer { (bytes : List ℕ) → (I.seen input.old).left ≡ Some bytes → RunAnswers result.end limit result.steps self.old self.new bytes
+            (record { input = I.seen input.old; output = O.seen out.old })
+            (record { input = I.seen input.new; output = O.seen out.new }) }
+        ensures determined { (bytes : List ℕ) → (I.seen input.old).left ≡ Some bytes → IsDetermined Steps (state_of self.old bytes) (determined_steps result.end limit result.steps) }
+        ensures few { result.steps ≤ limit }
+        ensures read_fault { result.end ≡ Stepped.ReadFault → Rose (I.seen input.old).faults (I.seen input.new).faults }
+        ensures write_fault { result.end ≡ Stepped.WriteFault → Rose (O.seen out.old).faults (O.seen out.new).faults }
+        ensures grows { Grows (O.seen out.old).taken (O.seen out.new).taken }
+        ensures reads { (I.seen input.old).faults ≤ (I.seen input.new).faults }
+        ensures writes { (O.seen out.old).faults ≤ (O.seen out.new).faults }
+    {
+        let mut steps = 0;
+        while steps < limit {
+            match self.step(input, out) {
+                Stepped::Going => steps += 1,
+                Stepped::Ended(status) => {
+                    return Ran {
+                        end: Stepped::Ended(status),
+                        steps: steps + 1,
+                    };
+                }
+                Stepped::Trap(pc, cause) => {
+                    return Ran {
+                        end: Stepped::Trap(pc, cause),
+                        steps,
+                    };
+                }
+                Stepped::ReadFault => return Ran {
+                    end: Stepped::ReadFault,
+                    steps,
+                },
+                Stepped::WriteFault => return Ran {
+                    end: Stepped::WriteFault,
+                    steps,
+                },
+                Stepped::Memory => return Ran {
+                    end: Stepped::Memory,
+                    steps,
+                },
+            }
+        }
+        Ran {
+            end: Stepped::Going,
+            steps,
+        }
+    }
+}
