@@ -4,7 +4,7 @@ use Rattle.elf_image.specs.declared.segment.Segment.{Segment}
 use Rattle.elf_image.specs.declared.section.SectionHeader.{SectionHeader}
 use Rattle.elf_image.specs.Header.{e_phoff, e_shoff, segment_at}
 use Rattle.elf_image.specs.Sections.{section_header_at, section_header}
-use Rattle.bolt_cli.specs.FirstForm.{IsStraightAt, HasFirstHeader, HasFirstSegment, HasFirstSections, HasFirstCode, IsFirstForm, code_segment, text_section, names_section, offset_of}
+use Rattle.bolt_cli.specs.FirstForm.{IsStraightAt, HasFirstHeader, HasFirstSegment, HasFirstSections, HasFirstNames, HasFirstCode, IsFirstForm, code_segment, text_section, names_section, offset_of}
 
 pub record AreParts (file : List ℕ) (segment : Segment) (null text names : SectionHeader) : Type 0 where
   pub segment_is : segment ≡ code_segment file
@@ -24,25 +24,26 @@ module _ (file : List ℕ) (segment : Segment) (null text names : SectionHeader)
   pub its_segment : IsFirstForm file → HasFirstSegment file segment
   its_segment form = subst (HasFirstSegment file) (sym parts.segment_is) form.segment
 
-  pub its_sections : IsFirstForm file → HasFirstSections file null text names
+  pub its_sections : IsFirstForm file → HasFirstSections null text names
   its_sections form =
-      subst (λ (h : SectionHeader). HasFirstSections file h text names) (sym parts.null_is)
-      (subst (λ (h : SectionHeader). HasFirstSections file (section_header file 0) h names) (sym parts.text_is)
-      (subst (HasFirstSections file (section_header file 0) (text_section file)) (sym parts.names_is) form.sections))
+      subst (λ (h : SectionHeader). HasFirstSections h text names) (sym parts.null_is)
+      (subst (λ (h : SectionHeader). HasFirstSections (section_header file 0) h names) (sym parts.text_is)
+      (subst (HasFirstSections (section_header file 0) (text_section file)) (sym parts.names_is) form.sections))
 
   pub its_code : IsFirstForm file → HasFirstCode file segment text
   its_code form =
       subst (λ (s : Segment). HasFirstCode file s text) (sym parts.segment_is)
       (subst (HasFirstCode file (code_segment file)) (sym parts.text_is) form.code)
 
-  pub is_first_form : HasFirstHeader file → HasFirstSegment file segment → HasFirstSections file null text names → HasFirstCode file segment text → IsFirstForm file
-  is_first_form header has_segment sections code = record {
+  pub is_first_form : HasFirstHeader file → HasFirstNames file → HasFirstSegment file segment → HasFirstSections null text names → HasFirstCode file segment text → IsFirstForm file
+  is_first_form header has_names has_segment sections code = record {
     header = header;
+    names = has_names;
     segment = subst (HasFirstSegment file) parts.segment_is has_segment;
     sections =
-        subst (HasFirstSections file (section_header file 0) (text_section file)) parts.names_is
-        (subst (λ (h : SectionHeader). HasFirstSections file (section_header file 0) h names) parts.text_is
-        (subst (λ (h : SectionHeader). HasFirstSections file h text names) parts.null_is sections));
+        subst (HasFirstSections (section_header file 0) (text_section file)) parts.names_is
+        (subst (λ (h : SectionHeader). HasFirstSections (section_header file 0) h names) parts.text_is
+        (subst (λ (h : SectionHeader). HasFirstSections h text names) parts.null_is sections));
     code =
         subst (HasFirstCode file (code_segment file)) parts.text_is
         (subst (λ (s : Segment). HasFirstCode file s text) parts.segment_is code);

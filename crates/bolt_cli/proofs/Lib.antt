@@ -11,3 +11,9 @@ pub mod MovedArea
 pub mod FirstForms
 pub mod Answering
 pub mod Completing
+pub mod OptionWords
+pub mod Numbers
+pub mod RunArguments
+pub mod WordExamples
+pub mod RunEnds
+pub mod RunAnswering

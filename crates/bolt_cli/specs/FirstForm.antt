@@ -1,15 +1,15 @@
 -- The files that are rewritten today: one function of straight-line code, and nothing else.
-use Rattle.std.specs.Prelude.{◌≡◌, ◌⊎◌, ℕ, ◌+◌, ◌-◌, ◌*◌, ◌/◌, ◌%◌, ◌<◌, ◌≤◌, ◌==◌, Bool, true, false, List, [], Some, length, codes}
+use Rattle.std.specs.Prelude.{◌≡◌, ℕ, ◌+◌, ◌-◌, ◌*◌, ◌/◌, ◌%◌, ◌<◌, ◌≤◌, ◌==◌, Bool, true, false, List, [], Some, length, codes}
 use Rattle.rv_code.specs.Decoding.{Decodes}
 use Rattle.rv_code.specs.declared.inst.Inst.{Inst}
 use Rattle.rv_code.specs.declared.inst.Inst.TheVariants.{Lui, Addi, Slti, Sltiu, Xori, Ori, Andi, Slli, Srli, Srai, Ecall}
 use Rattle.elf_image.specs.declared.segment.Segment.{Segment}
 use Rattle.elf_image.specs.declared.segment.TheConstants.{PT_LOAD, PF_R, PF_W, PF_X, PHDR_SIZE}
-use Rattle.elf_image.specs.Header.{number_at, e_type, e_machine, e_entry, e_phoff, e_shoff, e_flags, e_phentsize, e_phnum, e_shentsize, e_shnum, e_shstrndx, header_size, segment_at}
+use Rattle.elf_image.specs.Header.{number_at, e_entry, e_phoff, e_flags, e_phnum, e_shnum, e_shstrndx, header_size, segment_at}
 use Rattle.elf_image.specs.Image.{end_of, has_flag}
-use Rattle.elf_image.specs.Sections.{section_header, contents, HasText}
+use Rattle.elf_image.specs.Sections.{section_header, section_name}
 use Rattle.elf_image.specs.declared.section.SectionHeader.{SectionHeader}
-use Rattle.elf_image.specs.declared.section.TheConstants.{SHT_NOBITS, SHT_PROGBITS, SHT_STRTAB, SHF_ALLOC, SHF_EXECINSTR, SHDR_SIZE}
+use Rattle.elf_image.specs.declared.section.TheConstants.{SHT_PROGBITS, SHT_STRTAB, SHF_ALLOC, SHF_EXECINSTR}
 
 -- the instructions of straight-line code: OP-IMM, LUI and ECALL
 abbrev pub IsStraight : Inst → Type 0
@@ -30,21 +30,14 @@ IsStraight _ = ⊥
 abbrev pub IsStraightAt : List ℕ → ℕ → Type 0
 IsStraightAt file offset = (i : Inst) × Decodes (number_at file offset 2) (Some (number_at file (offset + 2) 2)) i 4 × IsStraight i
 
--- Header: a static executable for RISC-V without flags, with one segment and three sections, of which the
--- last has the names. The table of segments stands behind the header, and both tables lie in the file.
+-- Header: no flags, one segment and three sections, of which the last has the names. The table of segments
+-- stands behind the header.
 pub record HasFirstHeader (file : List ℕ) : Type 0 where
-  pub whole : header_size ≤ length file
-  pub type_is : e_type file ≡ 2
-  pub machine_is : e_machine file ≡ 0xf3
   pub flags_are : e_flags file ≡ 0
-  pub phentsize_is : e_phentsize file ≡ PHDR_SIZE
-  pub shentsize_is : e_shentsize file ≡ SHDR_SIZE
   pub one_segment : e_phnum file ≡ 1
   pub three_sections : e_shnum file ≡ 3
   pub names_are_last : e_shstrndx file ≡ 2
   pub segments_apart : header_size ≤ e_phoff file
-  pub segments_whole : e_phoff file + PHDR_SIZE ≤ length file
-  pub sections_whole : e_shoff file + 3 * SHDR_SIZE ≤ length file
 
 -- the only segment
 abbrev pub code_segment : List ℕ → Segment
@@ -69,10 +62,6 @@ pub record HasFirstSegment (file : List ℕ) (p : Segment) : Type 0 where
 abbrev pub null_header : SectionHeader
 null_header = record { name = 0; kind = 0; flags = 0; addr = 0; offset = 0; size = 0; link = 0; info = 0; align = 0; entsize = 0 }
 
--- the section's bytes, if it has any in the file, lie in it
-abbrev pub LiesInFile : List ℕ → SectionHeader → Type 0
-LiesInFile file s = (s.kind ≡ SHT_NOBITS) ⊎ ((s.size ≡ 0) ⊎ (s.offset + s.size ≤ length file))
-
 -- the section is loaded, and is executable, or isn't
 abbrev pub is_loaded : SectionHeader → Bool
 is_loaded s = s.flags / SHF_ALLOC % 2 == 1
@@ -88,21 +77,21 @@ text_section file = section_header file 1
 abbrev pub names_section : List ℕ → SectionHeader
 names_section file = section_header file 2
 
--- Sections: the null one, .text, which alone is loaded and executable, and .shstrtab. The names begin with
--- that of the null section, which is empty.
-pub record HasFirstSections (file : List ℕ) (null text names : SectionHeader) : Type 0 where
+-- Sections: the null one, the code, which alone is loaded and executable, and the names.
+pub record HasFirstSections (null text names : SectionHeader) : Type 0 where
   pub null_is : null ≡ null_header
   pub text_kind : text.kind ≡ SHT_PROGBITS
   pub names_kind : names.kind ≡ SHT_STRTAB
-  pub text_in_file : LiesInFile file text
-  pub names_in_file : LiesInFile file names
   pub text_loaded : is_loaded text ≡ true
   pub text_code : is_code text ≡ true
   pub names_unloaded : is_loaded names ≡ false
   pub names_no_code : is_code names ≡ false
-  pub null_name : HasText (contents file names) 0 []
-  pub text_name : HasText (contents file names) text.name (codes ".text")
-  pub names_name : HasText (contents file names) names.name (codes ".shstrtab")
+
+-- Names of sections: none of the null one, .text and .shstrtab.
+pub record HasFirstNames (file : List ℕ) : Type 0 where
+  pub null_name : section_name file 0 ≡ []
+  pub text_name : section_name file 1 ≡ codes ".text"
+  pub names_name : section_name file 2 ≡ codes ".shstrtab"
 
 -- where the file has the byte of an address of the segment
 abbrev pub offset_of : List ℕ → ℕ → ℕ
@@ -122,5 +111,6 @@ pub record HasFirstCode (file : List ℕ) (p : Segment) (text : SectionHeader) :
 pub record IsFirstForm (file : List ℕ) : Type 0 where
   pub header : HasFirstHeader file
   pub segment : HasFirstSegment file (code_segment file)
-  pub sections : HasFirstSections file (section_header file 0) (text_section file) (names_section file)
+  pub sections : HasFirstSections (section_header file 0) (text_section file) (names_section file)
+  pub names : HasFirstNames file
   pub code : HasFirstCode file (code_segment file) (text_section file)

@@ -5,9 +5,14 @@ pub mod Inputs
 pub mod Lines
 pub mod Moved
 pub mod Phases
+pub mod Printing
 pub mod Read
 pub mod Refused
+pub mod RewriteAnswers
 pub mod Rewritten
+pub mod RunAnswers
+pub mod RunPhases
+pub mod Runs
 pub mod Spans
 pub mod Status
 pub mod Words

@@ -5,6 +5,8 @@ use Rattle.rb_bytes.specs.Text.{hexadecimal}
 use Rattle.rb_bytes.specs.declared.fault.Fault.{Fault}
 use Rattle.rb_bytes.specs.declared.fault.FaultKind.{FaultKind}
 use Rattle.rb_bytes.specs.declared.fault.FaultKind.TheVariants.{NoRoom}
+use Rattle.rv_code.specs.declared.cause.Cause.{Cause}
+use Rattle.rv_code.specs.declared.cause.Cause.TheVariants.{Fetch, Illegal, Load, Store, Break}
 
 abbrev pub usage_line : List ℕ
 usage_line = codes "usage: rewrite IN PROFILE OUT MAP, map IN PROFILE, run [--symbols] [--steps N] FILE [WORDS], lookup FILE ADDR, sample N OUT PROFILE\n"
@@ -22,3 +24,25 @@ refused_line fault =
 abbrev pub summary_line : ℕ → ℕ → ℕ → ℕ → ℕ → List ℕ
 summary_line functions instructions bytes hot ignored =
     codes "moved " ++ decimal functions ++ codes " functions, " ++ decimal instructions ++ codes " instructions, " ++ decimal bytes ++ codes " bytes; " ++ decimal hot ++ codes " hot blocks; " ++ decimal ignored ++ codes " profile lines ignored\n"
+
+-- how a run ended, after how many steps
+
+abbrev pub after_steps : ℕ → List ℕ
+after_steps steps = codes " after " ++ decimal steps ++ codes " steps]\n"
+
+abbrev pub ended_line : ℕ → ℕ → List ℕ
+ended_line status steps = codes "[ended " ++ decimal status ++ after_steps steps
+
+abbrev pub cause_name : Cause → List ℕ
+cause_name Fetch = codes "Fetch"
+cause_name Illegal = codes "Illegal"
+cause_name Load = codes "Load"
+cause_name Store = codes "Store"
+cause_name Break = codes "Break"
+
+-- a trap at an address
+abbrev pub trapped_line : ℕ → Cause → ℕ → List ℕ
+trapped_line pc cause steps = codes "[trapped " ++ cause_name cause ++ codes " at " ++ hexadecimal pc ++ after_steps steps
+
+abbrev pub out_of_steps_line : ℕ → List ℕ
+out_of_steps_line steps = codes "[out of steps" ++ after_steps steps

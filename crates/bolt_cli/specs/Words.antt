@@ -1,26 +1,72 @@
 -- Which words are which command.
-use Rattle.std.specs.Prelude.{ℕ, ◌&&◌, nat_eq, nat_lt, if◌then◌else◌, Bool, true, false, List, [], ◌∷◌, length, Option, Some, None, codes}
-use Rattle.std.specs.List.{starts_with}
-use Rattle.std.specs.Str.{bytes_eq}
+use Rattle.std.specs.Prelude.{ℕ, ◌^◌, ◌&&◌, ◌==◌, nat_eq, nat_lt, nat_le, not, if◌then◌else◌, Bool, true, List, [], ◌∷◌, length, map, sum_by, option_and_then, Option, Some, None, codes}
+use Rattle.std.specs.List.{starts_with, list_all, list_any, before_first, after_first}
+use Rattle.std.specs.Option.{option_map}
+use Rattle.std.specs.Str.{bytes_eq, byte}
+use Rattle.std.specs.Char.{is_ascii_digit}
+use Rattle.std.specs.Str.Parse.{digits_value}
 
 -- a word that begins with a hyphen, but for the hyphen alone
 abbrev pub is_option : List ℕ → Bool
 is_option word = nat_lt 1 (length word) && starts_with nat_eq word (codes "-")
 
--- a word after the command
+-- the option that says the most steps of a run
+abbrev pub steps_name : List ℕ
+steps_name = codes "--steps"
+
+-- an option whose value is the next word, whatever that is
+abbrev pub takes_value : List ℕ → Bool
+takes_value word = bytes_eq word steps_name
+
+-- An argument of a command. An option's value is the word after it, or stands in its own word after the
+-- first `=`, as in `--name=value`.
 pub data Argument : Type 0 where
   Positional : List ℕ → Argument
-  OptionWord : List ℕ → Argument
+  OptionWord : List ℕ → Option (List ℕ) → Argument
 
--- The words after the command, where options may still come, or may not: the first `--` ends them, and is
--- none of the arguments.
-abbrev pub arguments : Bool → List (List ℕ) → List Argument
-arguments options [] = []
-arguments false (word ∷ words) = Positional word ∷ arguments false words
-arguments true (word ∷ words) =
+abbrev pub is_equals : ℕ → Bool
+is_equals character = character == byte "="
+
+-- the option that a word is by itself
+abbrev pub option_of : List ℕ → Argument
+option_of word =
+    if list_any is_equals word
+    then OptionWord (before_first is_equals word) (Some (after_first is_equals word))
+    else OptionWord word None
+
+-- what the next word may be
+pub data Expected : Type 0 where
+  AnyArgument : Expected
+  ValueOf : List ℕ → Expected
+  OnlyPositional : Expected
+
+-- The arguments that words are. The first `--` that is no option's value is none of them, and all words
+-- after it are positional.
+abbrev pub arguments : Expected → List (List ℕ) → List Argument
+arguments AnyArgument [] = []
+arguments (ValueOf name) [] = OptionWord name None ∷ []
+arguments OnlyPositional [] = []
+arguments AnyArgument (word ∷ words) =
     if bytes_eq word (codes "--")
-    then arguments false words
-    else ((if is_option word then OptionWord word else Positional word) ∷ arguments true words)
+    then arguments OnlyPositional words
+    else if takes_value word
+    then arguments (ValueOf word) words
+    else ((if is_option word then option_of word else Positional word) ∷ arguments AnyArgument words)
+arguments (ValueOf name) (word ∷ words) = OptionWord name (Some word) ∷ arguments AnyArgument words
+arguments OnlyPositional (word ∷ words) = Positional word ∷ arguments OnlyPositional words
+
+-- the words that are no options
+abbrev pub positionals : List Argument → List (List ℕ)
+positionals [] = []
+positionals (Positional word ∷ rest) = word ∷ positionals rest
+positionals (OptionWord name value ∷ rest) = positionals rest
+
+-- the values that the option of a name is given, one each time that it stands there
+abbrev pub values_of : List ℕ → List Argument → List (Option (List ℕ))
+values_of name [] = []
+values_of name (Positional word ∷ rest) = values_of name rest
+values_of name (OptionWord other value ∷ rest) =
+    if bytes_eq other name then value ∷ values_of name rest else values_of name rest
 
 -- the names of the files of a rewrite: the input, its profile, the output and its map
 pub record RewriteNames : Type 0 where
@@ -29,16 +75,67 @@ pub record RewriteNames : Type 0 where
   pub out : List ℕ
   pub map : List ℕ
 
-pub data Command : Type 0 where
-  Rewrite : RewriteNames → Command
+-- the file of a run, the words that the program gets, and the most steps that it does
+pub record RunWords : Type 0 where
+  pub file : List ℕ
+  pub words : List (List ℕ)
+  pub limit : ℕ
 
 -- `IN PROFILE OUT MAP`, where OUT and MAP differ
-abbrev pub rewrite_of : List Argument → Option Command
+abbrev pub rewrite_of : List Argument → Option RewriteNames
 rewrite_of (Positional file ∷ Positional profile ∷ Positional out ∷ Positional map ∷ []) =
-    if bytes_eq out map then None else Some (Rewrite (record { file = file; profile = profile; out = out; map = map }))
+    if bytes_eq out map then None else Some (record { file = file; profile = profile; out = out; map = map })
 rewrite_of _ = None
+
+-- the number that 1 to 20 decimal digits write, below 2^64
+abbrev pub number_of : List ℕ → Option ℕ
+number_of digits =
+    if nat_lt 0 (length digits) && nat_le (length digits) 20 && list_all is_ascii_digit digits && nat_lt (digits_value 10 digits) (2 ^ 64)
+    then Some (digits_value 10 digits)
+    else None
+
+-- the most steps of a run: `--steps` says it, once, or not at all
+abbrev pub limit_of : List (Option (List ℕ)) → Option ℕ
+limit_of [] = Some 100000000
+limit_of (Some digits ∷ []) = number_of digits
+limit_of _ = None
+
+-- a positional word, or an option that `run` has
+abbrev pub is_run_argument : Argument → Bool
+is_run_argument (Positional word) = true
+is_run_argument (OptionWord name value) = bytes_eq name steps_name
+
+abbrev pub holds_zero : List ℕ → Bool
+holds_zero word = list_any (λ character. character == 0) word
+
+-- at most 64 words, of at most 65536 bytes together, and no byte of them zero
+abbrev pub are_program_words : List (List ℕ) → Bool
+are_program_words words =
+    nat_le (length words) 64 && nat_le (sum_by (λ word. length word) words) 65536 && list_all (λ word. not (holds_zero word)) words
+
+-- `FILE [WORDS]`
+abbrev pub run_words_of : List (List ℕ) → ℕ → Option RunWords
+run_words_of [] limit = None
+run_words_of (file ∷ words) limit =
+    if are_program_words words then Some (record { file = file; words = words; limit = limit }) else None
+
+-- `FILE [WORDS]`, and `--steps` anywhere among them
+abbrev pub run_of : List Argument → Option RunWords
+run_of arguments =
+    if list_all is_run_argument arguments
+    then option_and_then (run_words_of (positionals arguments)) (limit_of (values_of steps_name arguments))
+    else None
+
+pub data Command : Type 0 where
+  Rewrite : RewriteNames → Command
+  Run : RunWords → Command
 
 -- The first word names the command.
 abbrev pub command_of : List (List ℕ) → Option Command
 command_of [] = None
-command_of (name ∷ words) = if bytes_eq name (codes "rewrite") then rewrite_of (arguments true words) else None
+command_of (name ∷ words) =
+    if bytes_eq name (codes "rewrite")
+    then option_map Rewrite (rewrite_of (arguments AnyArgument words))
+    else if bytes_eq name (codes "run")
+    then option_map Run (run_of (arguments AnyArgument words))
+    else None

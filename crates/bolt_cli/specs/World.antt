@@ -1,13 +1,8 @@
--- What a call sees of the outside: files by name, and standard output.
-use Rattle.std.specs.Prelude.{ℕ, List, Option, Bool}
+-- What a call sees of the outside.
+use Rattle.rb_io.specs.Seen.{FilesSeen, SourceSeen, SinkSeen}
 
+-- files by name, standard input and standard output
 pub record World : Type 0 where
-  -- whether the contents of files are told, and these contents
-  pub told : Bool
-  pub content : List ℕ → Option (List ℕ)
-  -- the counts of faults of each name
-  pub reads : List ℕ → ℕ
-  pub writes : List ℕ → ℕ
-  -- what standard output took, if that is told, and its count of faults
-  pub taken : Option (List ℕ)
-  pub faults : ℕ
+  pub files : FilesSeen
+  pub input : SourceSeen
+  pub output : SinkSeen

@@ -1,28 +1,23 @@
 // The files that are rewritten today: one function of straight-line code, and nothing else.
-ghost use Rattle.std.specs.Prelude.{◌≡◌, ◌≢◌, ◌≤◌, ◌<◌, ◌+◌, ◌-◌, ◌*◌, ◌%◌, ◌^◌, ◌↔◌, ◌∷◌, [], ◌++◌, ℕ, Option, Some, length, drop, nat_eq, IsTrue, IfSome, IfNone};
-ghost use Rattle.std.specs.List.{starts_with};
+ghost use Rattle.std.specs.Prelude.{◌≡◌, ◌≢◌, ◌≤◌, ◌<◌, ◌+◌, ◌-◌, ◌*◌, ◌%◌, ◌^◌, ◌↔◌, ◌∷◌, [], ◌++◌, ℕ, Option, Some, length, IsTrue, IfSome, IfNone};
 ghost use Rattle.rv_code.specs.Decoding.{Decodes};
 ghost use Rattle.elf_image.specs.Header.{number_at, e_phoff, e_entry};
-ghost use Rattle.elf_image.specs.Sections.{section_header, contents, HasText};
-ghost use Rattle.bolt_cli.specs.FirstForm.{IsStraight, IsStraightAt, HasFirstHeader, HasFirstSegment, HasFirstSections, HasFirstCode, IsFirstForm, LiesInFile, null_header, is_loaded, is_code, code_segment, text_section, names_section, offset_of};
+ghost use Rattle.elf_image.specs.Sections.{contents, section_name};
+ghost use Rattle.elf_image.specs.Truncated.{HasHeader, HasContents, IsReadable};
+ghost use Rattle.elf_image.specs.Read.{AreSections, IsElfOf};
+ghost use Rattle.bolt_cli.specs.FirstForm.{IsStraight, IsStraightAt, HasFirstHeader, HasFirstSegment, HasFirstSections, HasFirstNames, HasFirstCode, IsFirstForm, null_header, is_loaded, is_code, code_segment, text_section, names_section, offset_of};
 
-use elf_image::number::{u16_at, u32_at, u64_at};
+use elf_image::header::{
+    EHDR_SIZE, e_entry, e_flags, e_phnum, e_phoff, e_shnum, e_shoff, e_shstrndx,
+};
+use elf_image::number::u16_at;
 use elf_image::section::{
     SHDR_SIZE, SHF_ALLOC, SHF_EXECINSTR, SHT_NOBITS, SHT_PROGBITS, SHT_STRTAB,
 };
 use elf_image::segment::{PF_R, PF_W, PF_X, PHDR_SIZE, PT_LOAD};
-use elf_image::{SectionHeader, Segment};
+use elf_image::{Elf, SectionHeader, Segment};
 use rv_code::Inst;
 use rv_decode::decode;
-
-/// The size of an ELF file's header in bytes. gABI, "ELF Header".
-pub const HEADER_SIZE: usize = 64;
-
-/// The type of an executable file, and the machine RISC-V. gABI, "ELF Header"; psABI, "File
-/// Header".
-const ET_EXEC: u16 = 2;
-
-const EM_RISCV: u16 = 0xf3;
 
 /// The header of the section that is none. gABI, "Section Header Table Entry for Index 0".
 pub const NULL_HEADER: SectionHeader = SectionHeader {
@@ -50,27 +45,13 @@ pub struct FirstForm {
 }
 
 fn has_first_header(file: &[u8]) -> bool
+    requires { HasHeader file.now }
     ensures { IsTrue result ↔ HasFirstHeader file.now }
 {
-    if file.len() < HEADER_SIZE {
+    if e_flags(file) != 0 || e_phnum(file) != 1 || e_shnum(file) != 3 {
         return false;
     }
-    if u16_at(file, 0x10) != ET_EXEC || u16_at(file, 0x12) != EM_RISCV || u32_at(file, 0x30) != 0 {
-        return false;
-    }
-    if u16_at(file, 0x36) as usize != PHDR_SIZE || u16_at(file, 0x3a) as usize != SHDR_SIZE {
-        return false;
-    }
-    if u16_at(file, 0x38) != 1 || u16_at(file, 0x3c) != 3 || u16_at(file, 0x3e) != 2 {
-        return false;
-    }
-    let segments = u64_at(file, 0x20);
-    let sections = u64_at(file, 0x28);
-    if segments < HEADER_SIZE as u64 {
-        return false;
-    }
-    lies_within(segments, PHDR_SIZE as u64, file.len())
-        && lies_within(sections, 3 * SHDR_SIZE as u64, file.len())
+    e_shstrndx(file) == 2 && e_phoff(file) >= EHDR_SIZE as u64
 }
 
 // So many bytes from an offset on lie within a length.
@@ -97,25 +78,13 @@ fn has_first_segment(file: &[u8], segment: &Segment) -> bool
     if segment.memsz >= ADDRESS_END - segment.vaddr || segment.filesz > file.len() as u64 {
         return false;
     }
-    segment.filesz >= HEADER_SIZE as u64
-        && lies_within(
-            u64_at(file, 0x20),
-            PHDR_SIZE as u64,
-            segment.filesz as usize,
-        )
-}
-
-fn lies_in_file(file: &[u8], section: &SectionHeader) -> bool
-    ensures { IsTrue result ↔ LiesInFile file.now section.now }
-{
-    section.kind == SHT_NOBITS
-        || section.size == 0
-        || lies_within(section.offset, section.size, file.len())
+    segment.filesz >= EHDR_SIZE as u64
+        && lies_within(e_phoff(file), PHDR_SIZE as u64, segment.filesz as usize)
 }
 
 /// The bytes of a section that lies in the file.
 pub fn section_bytes<'a>(file: &'a [u8], section: &SectionHeader) -> &'a [u8]
-    requires { LiesInFile file.now section.now }
+    requires { HasContents file.now section.now }
     ensures bytes { result.now ≡ contents file.now section.now }
     ensures no_longer { length result.now ≤ length file.now }
 {
@@ -124,17 +93,6 @@ pub fn section_bytes<'a>(file: &'a [u8], section: &SectionHeader) -> &'a [u8]
     }
     let start = section.offset as usize;
     &file[start..start + section.size as usize]
-}
-
-// The table has the text, with its zero byte, at the index.
-fn has_text(table: &[u8], index: u32, text: &[u8]) -> bool
-    requires { text.now ≢ [] }
-    ensures { result ≡ starts_with nat_eq (drop index table.now) text.now }
-{
-    match table.get(index as usize..) {
-        Some(rest) => rest.starts_with(text),
-        None => false,
-    }
 }
 
 fn is_loaded(section: &SectionHeader) -> bool
@@ -156,27 +114,34 @@ fn is_null(section: &SectionHeader) -> bool
     *section == NULL_HEADER
 }
 
-fn has_first_sections(
-    file: &[u8],
-    null: &SectionHeader,
-    text: &SectionHeader,
-    names: &SectionHeader,
-) -> bool
-    ensures { IsTrue result ↔ HasFirstSections file.now null.now text.now names.now }
+// Whether the section of an index has a name.
+fn is_named(elf: &Elf<'_>, index: usize, name: &[u8]) -> bool
+    requires count { index < length elf.now.sections.items }
+    requires names { AreSections elf.now.file.now 3 elf.now.sections.items }
+    ensures { IsTrue result ↔ (section_name elf.now.file.now index ≡ name.now) }
 {
-    if !is_null(null) || !lies_in_file(file, text) || !lies_in_file(file, names) {
+    elf.sections[index].name == name
+}
+
+// The null section has no name, and the others are called `.text` and `.shstrtab`.
+fn has_first_names(elf: &Elf<'_>) -> bool
+    requires count { length elf.now.sections.items ≡ 3 }
+    requires names { AreSections elf.now.file.now 3 elf.now.sections.items }
+    ensures { IsTrue result ↔ HasFirstNames elf.now.file.now }
+{
+    if !is_named(elf, 0, b"") || !is_named(elf, 1, b".text") {
         return false;
     }
-    if !is_loaded(text) || !is_code(text) || is_loaded(names) || is_code(names) {
+    is_named(elf, 2, b".shstrtab")
+}
+
+fn has_first_sections(null: &SectionHeader, text: &SectionHeader, names: &SectionHeader) -> bool
+    ensures { IsTrue result ↔ HasFirstSections null.now text.now names.now }
+{
+    if !is_null(null) || text.kind != SHT_PROGBITS || names.kind != SHT_STRTAB {
         return false;
     }
-    if text.kind != SHT_PROGBITS || names.kind != SHT_STRTAB {
-        return false;
-    }
-    let table = section_bytes(file, names);
-    has_text(table, 0, b"\0")
-        && has_text(table, text.name, b".text\0")
-        && has_text(table, names.name, b".shstrtab\0")
+    is_loaded(text) && is_code(text) && !is_loaded(names) && !is_code(names)
 }
 
 fn is_straight(inst: &Inst) -> bool
@@ -225,7 +190,7 @@ fn is_straight_code(file: &[u8], offset: usize, size: usize) -> bool
 }
 
 fn has_first_code(file: &[u8], segment: &Segment, text: &SectionHeader) -> bool
-    requires header { HasFirstHeader file.now }
+    requires header { HasHeader file.now }
     requires segment { HasFirstSegment file.now segment.now }
     requires its_segment { segment.now ≡ code_segment file.now }
     ensures { IsTrue result ↔ HasFirstCode file.now segment.now text.now }
@@ -234,7 +199,7 @@ fn has_first_code(file: &[u8], segment: &Segment, text: &SectionHeader) -> bool
         return false;
     }
     let end = segment.vaddr + segment.memsz;
-    if text.addr > end || text.size != end - text.addr || u64_at(file, 0x18) != text.addr {
+    if text.addr > end || text.size != end - text.addr || e_entry(file) != text.addr {
         return false;
     }
     let start = text.addr - segment.vaddr;
@@ -247,17 +212,20 @@ fn has_first_code(file: &[u8], segment: &Segment, text: &SectionHeader) -> bool
 impl FirstForm {
     ghost use Rattle.bolt_cli.specs.Form.{IsFormOf};
 
-    /// What a file has, if it is of the first form.
-    pub fn read(file: &[u8]) -> Option<FirstForm>
-        ensures found { IfSome result (λ _. IsFirstForm file.now) }
-        ensures parts { IfSome result (IsFormOf file.now) }
-        ensures none { IfNone result (IsFirstForm file.now → ⊥) }
+    /// What a file that was read has, if it is of the first form.
+    pub fn read(elf: &Elf<'_>) -> Option<FirstForm>
+        requires read { IsElfOf elf.now.file.now elf.now }
+        requires readable { IsReadable elf.now.file.now }
+        ensures found { IfSome result (λ _. IsFirstForm elf.now.file.now) }
+        ensures parts { IfSome result (IsFormOf elf.now.file.now) }
+        ensures none { IfNone result (IsFirstForm elf.now.file.now → ⊥) }
     {
-        if !has_first_header(file) {
+        let file = elf.file;
+        if !has_first_header(file) || !has_first_names(elf) {
             return None;
         }
-        let segments = u64_at(file, 0x20) as usize;
-        let sections = u64_at(file, 0x28) as usize;
+        let segments = e_phoff(file) as usize;
+        let sections = e_shoff(file) as usize;
         let segment = Segment::at(file, segments);
         let null = SectionHeader::at(file, sections);
         let text = SectionHeader::at(file, sections + SHDR_SIZE);
@@ -265,7 +233,7 @@ impl FirstForm {
         if !has_first_segment(file, &segment) {
             return None;
         }
-        if !has_first_sections(file, &null, &text, &names) {
+        if !has_first_sections(&null, &text, &names) {
             return None;
         }
         if !has_first_code(file, &segment, &text) {

@@ -3,13 +3,15 @@
 ghost use Rattle.std.specs.Prelude.{◌≡◌, ◌≤◌, ◌<◌, ◌+◌, ◌*◌, ◌^◌, ◌++◌, ℕ, length, take, slice_index, slice_range, IfOk, vec_len};
 ghost use Rattle.elf_image.specs.Image.{end_of};
 ghost use Rattle.elf_image.specs.Start.{rounded_up};
-ghost use Rattle.bolt_cli.specs.FirstForm.{IsFirstForm, LiesInFile};
+ghost use Rattle.bolt_cli.specs.FirstForm.{IsFirstForm};
+ghost use Rattle.elf_image.specs.Truncated.{HasContents, IsReadable};
 ghost use Rattle.bolt_cli.specs.Form.{IsFormOf};
 ghost use Rattle.bolt_cli.specs.Moved.{IsMoved, IsArea, IsPatched};
 
 use crate::first_form::{FirstForm, NULL_HEADER, section_bytes};
 use byteorder::{ByteOrder, LittleEndian};
-use elf_image::number::{patch_u16, patch_u64, u64_at};
+use elf_image::header::{E_ENTRY, E_SHNUM, E_SHOFF, e_phoff};
+use elf_image::number::{patch_u16, patch_u64};
 use elf_image::section::{SHDR_SIZE, SHF_ALLOC, SHF_EXECINSTR, SHT_PROGBITS};
 use elf_image::segment::PHDR_SIZE;
 use elf_image::{SectionHeader, Segment};
@@ -27,16 +29,7 @@ const ADDED_NAMES: &[u8] = b".old.text\0.text\0";
 
 const OLD_TEXT_LENGTH: usize = 10;
 
-/// The offsets of fields in the file's header and in a program header. gABI, "ELF Header" and
-/// "Program Header".
-const E_ENTRY: usize = 0x18;
-
-const E_PHOFF: usize = 0x20;
-
-const E_SHOFF: usize = 0x28;
-
-const E_SHNUM: usize = 0x3c;
-
+/// The offsets of fields in a program header. gABI, "Program Header".
 const P_FILESZ: usize = 0x20;
 
 const P_MEMSZ: usize = 0x28;
@@ -114,7 +107,7 @@ fn write_tail(
     before: usize,
 ) -> Result<Tail, NoMemory>
     requires limit { length file.now ≤ 64 * 2 ^ 20 }
-    requires names { LiesInFile file.now form.now.names }
+    requires names { HasContents file.now form.now.names }
 {
     let names = section_bytes(file, &form.names);
     let mut bytes = Vec::new(alloc);
@@ -170,6 +163,7 @@ fn patch(written: &mut [u8], segments_at: usize, entry: u64, table_at: u64, size
 /// The file with its code moved.
 pub fn write_moved(alloc: Global, file: &[u8], form: &FirstForm) -> Result<Vec<u8>, NoMemory>
     requires limit { length file.now ≤ 64 * 2 ^ 20 }
+    requires readable { IsReadable file.now }
     requires is_first { IsFirstForm file.now }
     requires parts { IsFormOf file.now form.now }
     ensures { IfOk result (λ written. IsMoved file.now written.items) }
@@ -195,7 +189,7 @@ pub fn write_moved(alloc: Global, file: &[u8], form: &FirstForm) -> Result<Vec<u
     };
     let tail = write_tail(alloc, file, form, &header, size)?;
     written.extend_from_slice(&tail.bytes)?;
-    let segments_at = u64_at(file, E_PHOFF) as usize;
+    let segments_at = e_phoff(file) as usize;
     patch(
         &mut written,
         segments_at,

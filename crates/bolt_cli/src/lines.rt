@@ -1,9 +1,10 @@
 // The lines that commands print.
 ghost use Rattle.std.specs.Prelude.{◌≡◌, ◌*◌, ◌++◌, OnOk, OnErr, IfOk, codes};
-ghost use Rattle.bolt_cli.specs.Lines.{usage_line, refused_line, refused_end, summary_line};
+ghost use Rattle.bolt_cli.specs.Lines.{usage_line, refused_line, refused_end, summary_line, after_steps, ended_line, cause_name, trapped_line, out_of_steps_line};
 
 use rb_bytes::fault::{Fault, FaultKind, NoMemory};
 use rb_bytes::text::{put_decimal, put_hex};
+use rv_code::Cause;
 use std::alloc::Global;
 
 /// The line for words that are no command.
@@ -65,5 +66,57 @@ pub fn moved(alloc: Global, counts: &Summary) -> Result<Vec<u8>, NoMemory>
     line.extend_from_slice(b" hot blocks; ")?;
     put_decimal(&mut line, counts.ignored)?;
     line.extend_from_slice(b" profile lines ignored\n")?;
+    Ok(line)
+}
+
+fn put_after_steps(line: &mut Vec<u8>, steps: u64) -> Result<(), NoMemory>
+    ensures { OnOk result (line.new.items ≡ line.old.items ++ after_steps steps) }
+{
+    line.extend_from_slice(b" after ")?;
+    put_decimal(line, steps)?;
+    line.extend_from_slice(b" steps]\n")?;
+    Ok(())
+}
+
+/// The line for a run that ended with a status.
+pub fn ended(alloc: Global, status: u8, steps: u64) -> Result<Vec<u8>, NoMemory>
+    ensures { IfOk result (λ line. line.items ≡ ended_line status steps) }
+{
+    let mut line = Vec::from_slice(alloc, b"[ended ")?;
+    put_decimal(&mut line, status as u64)?;
+    put_after_steps(&mut line, steps)?;
+    Ok(line)
+}
+
+fn name(cause: Cause) -> &'static [u8]
+    ensures { result.now ≡ cause_name cause }
+{
+    match cause {
+        Cause::Fetch => b"Fetch",
+        Cause::Illegal => b"Illegal",
+        Cause::Load => b"Load",
+        Cause::Store => b"Store",
+        Cause::Break => b"Break",
+    }
+}
+
+/// The line for a run that a trap stopped at an address.
+pub fn trapped(alloc: Global, pc: u64, cause: Cause, steps: u64) -> Result<Vec<u8>, NoMemory>
+    ensures { IfOk result (λ line. line.items ≡ trapped_line pc cause steps) }
+{
+    let mut line = Vec::from_slice(alloc, b"[trapped ")?;
+    line.extend_from_slice(name(cause))?;
+    line.extend_from_slice(b" at ")?;
+    put_hex(&mut line, pc)?;
+    put_after_steps(&mut line, steps)?;
+    Ok(line)
+}
+
+/// The line for a run that did all the steps that it may.
+pub fn out_of_steps(alloc: Global, steps: u64) -> Result<Vec<u8>, NoMemory>
+    ensures { IfOk result (λ line. line.items ≡ out_of_steps_line steps) }
+{
+    let mut line = Vec::from_slice(alloc, b"[out of steps")?;
+    put_after_steps(&mut line, steps)?;
     Ok(line)
 }

@@ -4,7 +4,10 @@
 mod first_form;
 mod first_write;
 mod lines;
+mod printing;
+mod refusal;
 mod rewrite;
+mod run;
 mod status;
 #[cfg(test)]
 mod tests;

@@ -2,30 +2,30 @@
 // the map and the summary are written.
 ghost use Rattle.std.specs.Prelude.{◌≡◌, ◌≢◌, ◌⊎◌, ◌↔◌, ◌<◌, ◌≤◌, ◌+◌, ◌*◌, ◌^◌, ℕ, Some, length, IfOk, IfErr, OnOk, IsTrue, ◌++◌};
 ghost use Rattle.rb_io.specs.Counts.{Rose};
-ghost use Rattle.rb_io.specs.Names.{Unchanged, NeverFalls};
+ghost use Rattle.rb_io.specs.Names.{Unchanged};
+ghost use Rattle.rb_io.specs.Seen.{FilesGoOn, SourceSeen};
 ghost use Rattle.bolt_cli.specs.FirstForm.{IsFirstForm};
 ghost use Rattle.bolt_cli.specs.Form.{IsFormOf};
-ghost use Rattle.bolt_cli.specs.Refused.{IsRefused, IsAccepted, IsElf, file_limit};
+ghost use Rattle.elf_image.specs.Truncated.{IsReadable};
+ghost use Rattle.bolt_cli.specs.Refused.{IsRefused, IsAccepted, file_limit};
 ghost use Rattle.bolt_cli.specs.Rewritten.{IsRewritten};
 ghost use Rattle.bolt_cli.specs.Spans.{span_line, spans_from, spans_of, map_text, count_of, new_start};
-ghost use Rattle.bolt_cli.specs.Answers.{RewriteAnswers, summary_of};
+ghost use Rattle.bolt_cli.specs.RewriteAnswers.{RewriteAnswers, summary_of};
 ghost use Rattle.bolt_cli.specs.Read.{names_read};
 ghost use Rattle.bolt_cli.specs.Inputs.{InputsRead, IfFault};
-ghost use Rattle.bolt_cli.specs.Phases.{RefusalPrinted, OutputsWritten};
+ghost use Rattle.bolt_cli.specs.Phases.{OutputsWritten};
 
 use crate::first_form::FirstForm;
 use crate::first_write::{new_code_address, write_moved};
 use crate::lines::{self, Summary};
+use crate::refusal::{FILE_LIMIT, refuse};
 use crate::status::Status;
 use crate::words::RewriteWords;
-use elf_image::number::u16_at;
+use elf_image::read;
 use rb_bytes::fault::{Fault, FaultKind, NoMemory, Refusal};
 use rb_bytes::text::{put_decimal, put_hex};
 use rb_io::{Files, Put, ReadAll, Sink, Wrote, print_all};
 use std::alloc::Global;
-
-/// The longest file that is read, in bytes.
-const FILE_LIMIT: usize = 64 * 1024 * 1024;
 
 /// A word of code in bytes: each instruction of the first form has one.
 const WORD: u64 = 4;
@@ -35,8 +35,10 @@ const WORD: u64 = 4;
 pub enum Inputs {
     /// Both are there whole.
     Whole,
-    /// Both are there, and one of them is too long.
-    TooLong,
+    /// Both are there, and the input is too long.
+    LongFile,
+    /// Both are there, and the profile alone is too long.
+    LongProfile,
     /// One could not be read.
     Failed,
     /// Memory could not be had.
@@ -49,13 +51,11 @@ fn read_inputs<F: Files>(
     file: &mut Vec<u8>,
     profile: &mut Vec<u8>,
 ) -> Inputs
-    ensures read { IsTrue (F.told files.old) → InputsRead result (F.content files.old) (names_read words.now) file.new.items profile.new.items }
+    ensures read { IsTrue (F.seen files.old).told → InputsRead result (F.seen files.old).content (names_read words.now) file.new.items profile.new.items }
     ensures limits { result ≡ Inputs.Whole → (length file.new.items ≤ file_limit) × (length profile.new.items ≤ file_limit) }
-    ensures failed { result ≡ Inputs.Failed → Rose (F.read_count files.old words.now.file.now) (F.read_count files.new words.now.file.now) ⊎ Rose (F.read_count files.old words.now.profile.now) (F.read_count files.new words.now.profile.now) }
-    ensures kept { Unchanged (F.content files.old) (F.content files.new) }
-    ensures told_kept { F.told files.new ≡ F.told files.old }
-    ensures reads { NeverFalls (F.read_count files.old) (F.read_count files.new) }
-    ensures writes { NeverFalls (F.write_count files.old) (F.write_count files.new) }
+    ensures failed { result ≡ Inputs.Failed → Rose ((F.seen files.old).read_faults words.now.file.now) ((F.seen files.new).read_faults words.now.file.now) ⊎ Rose ((F.seen files.old).read_faults words.now.profile.now) ((F.seen files.new).read_faults words.now.profile.now) }
+    ensures kept { Unchanged (F.seen files.old).content (F.seen files.new).content }
+    ensures files_go_on { FilesGoOn (F.seen files.old) (F.seen files.new) }
 {
     let first = files.read_all(words.file, FILE_LIMIT, file);
     if first == ReadAll::Failed {
@@ -67,12 +67,9 @@ fn read_inputs<F: Files>(
     match files.read_all(words.profile, FILE_LIMIT, profile) {
         ReadAll::Failed => Inputs::Failed,
         ReadAll::Memory => Inputs::Memory,
-        ReadAll::TooLong => Inputs::TooLong,
-        ReadAll::Done => if first == ReadAll::Done {
-            Inputs::Whole
-        } else {
-            Inputs::TooLong
-        },
+        ReadAll::TooLong | ReadAll::Done if first == ReadAll::TooLong => Inputs::LongFile,
+        ReadAll::TooLong => Inputs::LongProfile,
+        ReadAll::Done => Inputs::Whole,
     }
 }
 
@@ -82,12 +79,6 @@ pub struct Rewritten {
     pub file: Vec<u8>,
     pub map: Vec<u8>,
     pub summary: Vec<u8>,
-}
-
-fn is_elf(file: &[u8]) -> bool
-    ensures { IsTrue result ↔ IsElf file.now }
-{
-    file.starts_with(b"\x7fELF\x02\x01\x01") && (file.len() < 20 || u16_at(file, 0x12) == 0xf3)
 }
 
 // The map's text: `count` instructions in a row.
@@ -120,6 +111,7 @@ fn put_span(text: &mut Vec<u8>, out: u64, input: u64) -> Result<(), NoMemory>
 // Moves the code of a file of the first form.
 fn move_code(alloc: Global, file: &[u8], form: &FirstForm) -> Result<Rewritten, NoMemory>
     requires limit { length file.now ≤ file_limit }
+    requires readable { IsReadable file.now }
     requires is_first { IsFirstForm file.now }
     requires parts { IsFormOf file.now form.now }
     ensures written { IfOk result (λ r. IsRewritten file.now r.file.items) }
@@ -159,36 +151,19 @@ fn rewrite_file(alloc: Global, file: &[u8], profile: &[u8]) -> Result<Rewritten,
     ensures summary { IfOk result (λ r. r.summary.items ≡ summary_of file.now) }
     ensures refused { IfErr result (λ e. IfFault e (IsRefused file.now profile.now)) }
 {
-    if !is_elf(file) {
-        return Err(Refusal::Fault(Fault::at(FaultKind::NotElf, 0)));
-    }
-    if file.len() < crate::first_form::HEADER_SIZE {
-        return Err(Refusal::Fault(Fault::at(FaultKind::Truncated, 0)));
-    }
+    let elf = match read(alloc, file) {
+        Ok(elf) => elf,
+        Err(refusal) => return Err(refusal),
+    };
     if !profile.is_empty() {
         return Err(Refusal::Fault(Fault::at(FaultKind::NotBuilt, 0)));
     }
-    let Some(form) = FirstForm::read(file) else {
+    let Some(form) = FirstForm::read(&elf) else {
         return Err(Refusal::Fault(Fault::at(FaultKind::NotBuilt, 0)));
     };
     match move_code(alloc, file, &form) {
         Ok(rewritten) => Ok(rewritten),
         Err(NoMemory) => Err(Refusal::Memory),
-    }
-}
-
-// Prints the line of a refusal.
-fn refuse<O: Sink>(alloc: Global, fault: Fault, out: &mut O) -> Status
-    ensures line { RefusalPrinted result fault (O.taken out.old) (O.taken out.new) (O.count out.old) (O.count out.new) }
-    ensures never_falls { O.count out.old ≤ O.count out.new }
-{
-    let line = match lines::refused(alloc, &fault) {
-        Ok(line) => line,
-        Err(NoMemory) => return Status::NoMemory,
-    };
-    match print_all(out, &line) {
-        Put::Took(_) => Status::Refused(fault),
-        Put::Failed => Status::WriteFault,
     }
 }
 
@@ -200,11 +175,11 @@ fn write_outputs<F: Files, O: Sink>(
     rewritten: &Rewritten,
 ) -> Status
     requires { words.now.out.now ≢ words.now.map.now }
-    ensures answer { OutputsWritten result (names_read words.now) rewritten.now (record { told = F.told files.old; content = F.content files.old; reads = F.read_count files.old; writes = F.write_count files.old; taken = O.taken out.old; faults = O.count out.old }) (record { told = F.told files.new; content = F.content files.new; reads = F.read_count files.new; writes = F.write_count files.new; taken = O.taken out.new; faults = O.count out.new }) }
-    ensures told_kept { F.told files.new ≡ F.told files.old }
-    ensures reads { NeverFalls (F.read_count files.old) (F.read_count files.new) }
-    ensures writes { NeverFalls (F.write_count files.old) (F.write_count files.new) }
-    ensures faults { O.count out.old ≤ O.count out.new }
+    ensures answer { (input : SourceSeen) → OutputsWritten result (names_read words.now) rewritten.now
+        (record { files = F.seen files.old; input = input; output = O.seen out.old })
+        (record { files = F.seen files.new; input = input; output = O.seen out.new }) }
+    ensures files_go_on { FilesGoOn (F.seen files.old) (F.seen files.new) }
+    ensures faults { (O.seen out.old).faults ≤ (O.seen out.new).faults }
 {
     if files.write_all(words.out, &rewritten.file) == Wrote::Failed {
         return Status::WriteFault;
@@ -226,17 +201,19 @@ pub fn rewrite<F: Files, O: Sink>(
     out: &mut O,
 ) -> Status
     requires { words.now.out.now ≢ words.now.map.now }
-    ensures answer { RewriteAnswers result (names_read words.now) (record { told = F.told files.old; content = F.content files.old; reads = F.read_count files.old; writes = F.write_count files.old; taken = O.taken out.old; faults = O.count out.old }) (record { told = F.told files.new; content = F.content files.new; reads = F.read_count files.new; writes = F.write_count files.new; taken = O.taken out.new; faults = O.count out.new }) }
-    ensures told_kept { F.told files.new ≡ F.told files.old }
-    ensures reads { NeverFalls (F.read_count files.old) (F.read_count files.new) }
-    ensures writes { NeverFalls (F.write_count files.old) (F.write_count files.new) }
-    ensures faults { O.count out.old ≤ O.count out.new }
+    // Standard input can be any: it stays as it was.
+    ensures answer { (input : SourceSeen) → RewriteAnswers result (names_read words.now)
+        (record { files = F.seen files.old; input = input; output = O.seen out.old })
+        (record { files = F.seen files.new; input = input; output = O.seen out.new }) }
+    ensures files_go_on { FilesGoOn (F.seen files.old) (F.seen files.new) }
+    ensures faults { (O.seen out.old).faults ≤ (O.seen out.new).faults }
 {
     let mut file = Vec::new(alloc);
     let mut profile = Vec::new(alloc);
     match read_inputs(words, files, &mut file, &mut profile) {
         Inputs::Whole => {}
-        Inputs::TooLong => return refuse(alloc, Fault::at(FaultKind::NotBuilt, 0), out),
+        Inputs::LongFile => return refuse(alloc, Fault::at(FaultKind::TooLarge, 0), out),
+        Inputs::LongProfile => return refuse(alloc, Fault::at(FaultKind::TooLarge, 1), out),
         Inputs::Failed => return Status::ReadFault,
         Inputs::Memory => return Status::NoMemory,
     }

@@ -3,22 +3,29 @@ ghost use Rattle.std.specs.Prelude.{◌≡◌};
 ghost use Rattle.bolt_cli.specs.Status.{number_of};
 
 use rb_bytes::fault::Fault;
+use rv_code::Cause;
 
 /// How a command ended. The program ends with its number.
 #[derive(Clone, Copy, PartialEq, Eq, Debug)]
 pub enum Status {
     /// The command was done whole.
     Ok,
+    /// The program that was run ended with this status.
+    Ended(u8),
     /// The words are no command.
     Usage,
     /// A file is refused: why, and where.
     Refused(Fault),
-    /// A file that the command reads could not be read.
+    /// A file, or input that a run asks for, could not be read.
     ReadFault,
-    /// A file that the command writes, or a line that it prints, could not be written.
+    /// A file, a line, or the output of a run could not be written.
     WriteFault,
     /// Memory could not be had.
     NoMemory,
+    /// The program that was run trapped, at this pc.
+    Trapped(u64, Cause),
+    /// The program that was run goes on after as many steps as it was given.
+    OutOfSteps,
 }
 
 impl Status {
@@ -28,11 +35,14 @@ impl Status {
     {
         match self {
             Status::Ok => 0,
+            Status::Ended(value) => value,
             Status::Usage => 220,
             Status::Refused(_) => 221,
             Status::ReadFault => 222,
             Status::WriteFault => 223,
             Status::NoMemory => 224,
+            Status::Trapped(_, _) => 225,
+            Status::OutOfSteps => 226,
         }
     }
 }

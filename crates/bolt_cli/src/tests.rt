@@ -2,8 +2,11 @@
 // fail. Texts, numbers and headers are worked out by hand.
 
 mod example;
+mod program;
+mod refused;
+mod run;
 
-use self::example::{exit7, exit7_moved, run};
+use self::example::{exit7, exit7_moved};
 use crate::status::Status;
 use crate::tool::tool;
 use rb_bytes::fault::{Fault, FaultKind};
@@ -16,6 +19,8 @@ const MAP: &[u8] = b"10090 4 10078\n10094 4 1007c\n10098 4 10080\n1009c 4 10084\
 
 const SUMMARY: &[u8] =
     b"moved 1 functions, 4 instructions, 16 bytes; 0 hot blocks; 0 profile lines ignored\n";
+
+const ENDED: &[u8] = b"[ended 7 after 4 steps]\n";
 
 const USAGE: &[u8] =
     b"usage: rewrite IN PROFILE OUT MAP, map IN PROFILE, run [--symbols] [--steps N] FILE [WORDS], lookup FILE ADDR, sample N OUT PROFILE\n";
@@ -69,8 +74,11 @@ fn the_example_is_rewritten(rt: HostRuntime) -> Result<(), Fail> {
     let moved = exit7_moved(alloc)?;
     let written = files.content("out").ok_or("no output")?;
     assert_eq!(rt; written, moved.as_slice());
-    assert_eq!(rt; run(written).ok_or("no run")?, (7, 4));
-    assert_eq!(rt; run(&exit7(alloc)?).ok_or("no run")?, (7, 4));
+    for name in ["in", "out"] {
+        let (status, out) = answer(alloc, &["run", name], &mut files, 200)?;
+        assert_eq!(rt; status, Status::Ended(7));
+        assert_eq!(rt; out.taken(), ENDED);
+    }
     Ok(())
 }
 

@@ -1,8 +1,25 @@
 // The words of the command line.
-ghost use Rattle.std.specs.Prelude.{◌≡◌, ◌≢◌, ◌↔◌, ◌∷◌, [], map, string_bytes, IfSome, IfNone, IsTrue, true};
+ghost use Rattle.std.specs.Prelude.{◌≡◌, ◌≢◌, ◌∷◌, [], map, string_bytes, IfSome, IfNone, IfOk};
 ghost use Rattle.std.specs.Option.{option_map};
-ghost use Rattle.bolt_cli.specs.Words.{is_option, Positional, arguments, command_of, rewrite_of};
-ghost use Rattle.bolt_cli.specs.Read.{arguments_of, IsNoPositional, command_read, NamesDiffer};
+ghost use Rattle.std.specs.List.{list_all};
+ghost use Rattle.std.specs.Char.{is_ascii_digit};
+ghost use Rattle.rv_machine.specs.Limits.{IsWithinLimits};
+ghost use Rattle.bolt_cli.specs.Words.{Positional, steps_name, is_option, option_of, number_of, limit_of, values_of, is_run_argument, positionals, holds_zero, are_program_words, rewrite_of, run_of, command_of};
+ghost use Rattle.bolt_cli.specs.Read.{IsNoPositional, argument_read, arguments_of, command_read, run_read, names_read, NamesDiffer, WordsFit};
+
+use rb_bytes::fault::NoMemory;
+use std::alloc::Global;
+
+// The option that limits a run's steps.
+const STEPS: &str = "--steps";
+
+// The most steps of a run where no option says it.
+const DEFAULT_LIMIT: u64 = 100_000_000;
+
+// The most words, and bytes of them, that a program may be given.
+const MOST_WORDS: usize = 64;
+
+const MOST_BYTES: usize = 65536;
 
 /// The files of `rewrite`.
 #[derive(Clone, Copy)]
@@ -13,10 +30,30 @@ pub struct RewriteWords<'a> {
     pub map: &'a str,
 }
 
+/// The file of `run`, and the most steps that it may do. The program's words are read by
+/// [`program_words`].
+#[derive(Clone, Copy)]
+pub struct RunWords<'a> {
+    pub file: &'a str,
+    pub limit: u64,
+    pub arguments: Arguments<'a>,
+}
+
 /// A command with its words.
 #[derive(Clone, Copy)]
 pub enum Command<'a> {
     Rewrite(RewriteWords<'a>),
+    Run(RunWords<'a>),
+}
+
+/// An argument of a command.
+#[derive(Clone, Copy)]
+pub enum Argument<'a> {
+    Positional(&'a str),
+    OptionWord {
+        name: &'a str,
+        value: Option<&'a str>,
+    },
 }
 
 /// The words after a command that weren't read yet, and whether options may be among them.
@@ -32,106 +69,247 @@ fn is_option(word: &str) -> bool
     word.len() > 1 && word.as_bytes().starts_with(b"-")
 }
 
-// The next argument, where it is no option, and the arguments after it.
-fn positional(arguments: Arguments<'_>) -> Option<(&str, Arguments<'_>)>
-    ensures found { IfSome result (λ r. arguments_of arguments.entry ≡ Positional r.0.now ∷ arguments_of r.1) }
-    ensures none { IfNone result (IsNoPositional (arguments_of arguments.entry)) }
+// The option that a word is by itself.
+fn option(word: &str) -> Argument<'_>
+    ensures { argument_read result ≡ option_of word.now }
 {
-    let [word, rest @ ..] = arguments.words else {
-        return None;
-    };
-    if !arguments.options {
-        return Some((
-            word.as_str(),
-            Arguments {
-                words: rest,
-                options: false,
-            },
-        ));
-    }
-    if word.as_str() == "--" {
-        let [word, rest @ ..] = rest else {
-            return None;
-        };
-        return Some((
-            word.as_str(),
-            Arguments {
-                words: rest,
-                options: false,
-            },
-        ));
-    }
-    if is_option(word.as_str()) {
-        return None;
-    }
-    Some((
-        word.as_str(),
-        Arguments {
-            words: rest,
-            options: true,
+    match word.split_once('=') {
+        Some((name, value)) => Argument::OptionWord {
+            name,
+            value: Some(value),
         },
-    ))
+        None => Argument::OptionWord {
+            name: word,
+            value: None,
+        },
+    }
 }
 
-// No more arguments come.
-fn is_done(arguments: Arguments<'_>) -> bool
-    ensures { IsTrue result ↔ (arguments_of arguments.entry ≡ []) }
-{
-    let [word, rest @ ..] = arguments.words else {
-        return true;
-    };
-    if !arguments.options || word.as_str() != "--" {
-        return false;
+impl<'a> Arguments<'a> {
+    // The next word, whatever it is.
+    fn next_word(&mut self) -> Option<&'a str>
+        ensures options { self.new.options ≡ self.old.options }
+        ensures some { IfSome result (λ word. map string_bytes self.old.words.now ≡ word.now ∷ map string_bytes self.new.words.now) }
+        ensures none { IfNone result (self.old.words.now ≡ []) }
+        ensures none_left { IfNone result (self.new.words.now ≡ []) }
+    {
+        let (word, rest) = self.words.split_first()?;
+        self.words = rest;
+        Some(word.as_str())
     }
-    match rest {
-        [] => true,
-        [_, ..] => false,
+}
+
+impl<'a> Iterator for Arguments<'a> {
+    ghost use Rattle.std.specs.Iterator.{YieldsFirstBy, item_count};
+
+    type Item = Argument<'a>;
+
+    ghost next_gives = { YieldsFirstBy argument_read arguments_of };
+
+    ghost remaining = { item_count arguments_of };
+
+    fn next(&mut self) -> Option<Argument<'a>> {
+        let word = self.next_word()?;
+        if !self.options {
+            return Some(Argument::Positional(word));
+        }
+        if word == "--" {
+            self.options = false;
+            return Some(Argument::Positional(self.next_word()?));
+        }
+        if word == STEPS {
+            return Some(Argument::OptionWord {
+                name: word,
+                value: self.next_word(),
+            });
+        }
+        if is_option(word) {
+            return Some(option(word));
+        }
+        Some(Argument::Positional(word))
+    }
+}
+
+// The next argument, where it is positional.
+fn next_positional<'a>(arguments: &mut Arguments<'a>) -> Option<&'a str>
+    ensures found { IfSome result (λ word. arguments_of arguments.old ≡ Positional word.now ∷ arguments_of arguments.new) }
+    ensures none { IfNone result (IsNoPositional (arguments_of arguments.old)) }
+{
+    match arguments.next()? {
+        Argument::Positional(word) => Some(word),
+        Argument::OptionWord { .. } => None,
     }
 }
 
 // The words after `rewrite`.
-fn rewrite_words(words: &[String]) -> Option<Command<'_>>
-    ensures command { option_map command_read result ≡ rewrite_of (arguments true (map string_bytes words.now)) }
-    ensures apart { IfSome result NamesDiffer }
+fn rewrite_words(mut arguments: Arguments<'_>) -> Option<RewriteWords<'_>>
+    ensures command { option_map names_read result ≡ rewrite_of (arguments_of arguments.entry) }
+    ensures apart { IfSome result (λ w. w.out.now ≢ w.map.now) }
 {
-    let arguments = Arguments {
-        words,
-        options: true,
-    };
-    let Some((file, arguments)) = positional(arguments) else {
-        return None;
-    };
-    let Some((profile, arguments)) = positional(arguments) else {
-        return None;
-    };
-    let Some((out, arguments)) = positional(arguments) else {
-        return None;
-    };
-    let Some((map, arguments)) = positional(arguments) else {
-        return None;
-    };
-    if !is_done(arguments) || out == map {
+    let file = next_positional(&mut arguments)?;
+    let profile = next_positional(&mut arguments)?;
+    let out = next_positional(&mut arguments)?;
+    let map = next_positional(&mut arguments)?;
+    if arguments.next().is_some() || out == map {
         return None;
     }
-    Some(Command::Rewrite(RewriteWords {
+    Some(RewriteWords {
         file,
         profile,
         out,
         map,
-    }))
+    })
+}
+
+// A text of decimal digits, or of nothing.
+fn is_decimal(text: &str) -> bool
+    ensures { result ≡ list_all is_ascii_digit text.now }
+{
+    text.bytes().all(|byte| byte.is_ascii_digit())
+}
+
+// The number that 1 to 20 decimal digits write.
+fn number(digits: &str) -> Option<u64>
+    ensures { result ≡ number_of digits.now }
+{
+    if digits.len() > 20 {
+        return None;
+    }
+    if !is_decimal(digits) {
+        return None;
+    }
+    digits.parse().ok()
+}
+
+// No options but those of `run` are among the arguments.
+fn has_run_arguments(arguments: Arguments<'_>) -> bool
+    ensures { result ≡ list_all is_run_argument (arguments_of arguments.entry) }
+{
+    for argument in arguments {
+        let known = match argument {
+            Argument::Positional(_) => true,
+            Argument::OptionWord { name, .. } => name == STEPS,
+        };
+        if !known {
+            return false;
+        }
+    }
+    true
+}
+
+// The most steps of a run.
+#[tactic(auto, using(crate::proofs::RunArguments::limit_of_none, crate::proofs::RunArguments::limit_of_bad, crate::proofs::RunArguments::limit_of_number))]
+fn limit(arguments: Arguments<'_>) -> Option<u64>
+    ensures { result ≡ limit_of (values_of steps_name (arguments_of arguments.entry)) }
+{
+    let mut limit = None;
+    for argument in arguments {
+        let value = match argument {
+            Argument::Positional(_) => continue,
+            Argument::OptionWord { name, value } => {
+                if name != STEPS {
+                    continue;
+                }
+                value
+            }
+        };
+        if limit.is_some() {
+            return None;
+        }
+        limit = Some(number(value?)?);
+    }
+    Some(limit.unwrap_or(DEFAULT_LIMIT))
+}
+
+// Takes the first positional word.
+fn first_positional<'a>(arguments: &mut Arguments<'a>) -> Option<&'a str>
+    ensures some { IfSome result (λ word. positionals (arguments_of arguments.old) ≡ word.now ∷ positionals (arguments_of arguments.new)) }
+    ensures none { IfNone result (positionals (arguments_of arguments.old) ≡ []) }
+{
+    while let Some(argument) = arguments.next() {
+        if let Argument::Positional(word) = argument {
+            return Some(word);
+        }
+    }
+    None
+}
+
+fn holds_zero(word: &str) -> bool
+    ensures { result ≡ holds_zero word.now }
+{
+    word.as_bytes().contains(&0)
+}
+
+// The positional words may be given to a program.
+fn are_program_words(arguments: Arguments<'_>) -> bool
+    ensures { result ≡ are_program_words (positionals (arguments_of arguments.entry)) }
+{
+    let mut words_left = MOST_WORDS;
+    let mut bytes_left = MOST_BYTES;
+    for argument in arguments {
+        if let Argument::Positional(word) = argument {
+            if words_left == 0 || word.len() > bytes_left || holds_zero(word) {
+                return false;
+            }
+            words_left -= 1;
+            bytes_left -= word.len();
+        }
+    }
+    true
+}
+
+// The words after `run`.
+#[tactic(auto, using(crate::proofs::RunArguments::within_limits))]
+fn run_words(mut arguments: Arguments<'_>) -> Option<RunWords<'_>>
+    ensures command { option_map run_read result ≡ run_of (arguments_of arguments.entry) }
+    ensures limits { IfSome result (λ w. IsWithinLimits (run_read w).words) }
+{
+    if !has_run_arguments(arguments) {
+        return None;
+    }
+    let limit = limit(arguments)?;
+    let file = first_positional(&mut arguments)?;
+    if !are_program_words(arguments) {
+        return None;
+    }
+    Some(RunWords {
+        file,
+        limit,
+        arguments,
+    })
 }
 
 /// The command that the words are, if they are one. Takes no memory.
 pub fn parse(words: &[String]) -> Option<Command<'_>>
     ensures command { option_map command_read result ≡ command_of (map string_bytes words.now) }
     ensures apart { IfSome result NamesDiffer }
+    ensures limits { IfSome result WordsFit }
 {
-    let [name, rest @ ..] = words else {
+    let [name, words @ ..] = words else {
         return None;
     };
+    let arguments = Arguments {
+        words,
+        options: true,
+    };
     if name.as_str() == "rewrite" {
-        rewrite_words(rest)
-    } else {
-        None
+        return rewrite_words(arguments).map(Command::Rewrite);
     }
+    if name.as_str() == "run" {
+        return run_words(arguments).map(Command::Run);
+    }
+    None
+}
+
+/// The words that the program of a run gets, which don't hold the file's name.
+pub fn program_words(alloc: Global, words: &RunWords<'_>) -> Result<Vec<String>, NoMemory>
+    ensures { IfOk result (λ list. map string_bytes list.items ≡ (run_read words.now).words) }
+{
+    let mut list = Vec::new(alloc);
+    for argument in words.arguments {
+        if let Argument::Positional(word) = argument {
+            list.push(String::from_str(alloc, word)?)?;
+        }
+    }
+    Ok(list)
 }

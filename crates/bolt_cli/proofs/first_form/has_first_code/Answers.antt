@@ -9,7 +9,7 @@ returns c = (
     words = omega arith;
     starts_inside = omega arith;
     ends_with = omega arith;
-    entry = sym c.u64_at.ensures ∙ search rules;
+    entry = sym c.e_entry.ensures ∙ search rules;
     in_place = omega arith;
     straight = straight_from c.args.file.now c.args.segment.now c.args.text.now c.requires.its_segment (c.is_straight_code.ensures.0 holds);
   },

@@ -1,12 +1,9 @@
-use Rattle.std.proofs.Common.{◌≡◌, ◌⊎◌, inl, inr, ℕ, ◌<◌, ◌≤◌, List, [], ◌∷◌, length, true, arith, rules, refl}
+use Rattle.std.proofs.Common.{◌≡◌, inr, sym, subst, ℕ, List, [], ◌∷◌, length, true, arith, rules, refl}
 use Rattle.std.specs.Prelude.{◌==◌}
 use Rattle.std.proofs.lemmas.Bool.Decides.{nat_tests}
-use Rattle.bolt_cli.specs.Refused.{file_limit, IsElf, not_built}
+use Rattle.bolt_cli.specs.FirstForm.{IsFirstForm}
+use Rattle.bolt_cli.specs.Refused.{not_built}
 use Rattle.bolt_cli.proofs.rewrite.rewrite_file.Goals as goal
-
-within : (m n : ℕ) → m ≤ file_limit → n ≤ file_limit → (file_limit < m) ⊎ (file_limit < n) → ⊥
-within m n f g (inl long) = absurd (omega arith)
-within m n f g (inr long) = absurd (omega arith)
 
 no_bytes : (xs : List ℕ) → (length xs == 0) ≡ true → xs ≡ []
 no_bytes [] e = refl
@@ -14,13 +11,13 @@ no_bytes (x ∷ xs) e = absurd (grind (arith, nat_tests, e))
 
 pub returns-in_default-clause-refused : goal.returns-in_default-clause-refused
 returns-in_default-clause-refused c =
-    let elf : IsElf c.args.file.now = c.is_elf.ensures.0 (search rules) in
-    not_built (within _ _ c.requires.file c.requires.profile) elf (omega arith) (inr c.in_default.ensures.none) c.at-in_default.ensures
+    not_built (record { file_fits = c.requires.file; profile_fits = c.requires.profile }) c.in-Ok.ensures.sound
+    (inr (λ form. c.in_default.ensures.none (subst IsFirstForm (sym c.in-Ok.ensures.fields.file_is) form))) c.at-in_default.ensures
 
-pub returns-in-Ok-clause-accepted : goal.returns-in-Ok-clause-accepted
-returns-in-Ok-clause-accepted c = record {
-  fits = within _ _ c.requires.file c.requires.profile;
-  elf = c.is_elf.ensures.0 (search rules);
+pub returns-in-Ok-move_code-clause-accepted : goal.returns-in-Ok-move_code-clause-accepted
+returns-in-Ok-move_code-clause-accepted c = record {
+  fit = record { file_fits = c.requires.file; profile_fits = c.requires.profile };
+  sound = c.in-Ok.ensures.sound;
   no_profile = no_bytes c.args.profile.now (search rules);
-  form = c.in-Some.ensures.found;
+  form = subst IsFirstForm c.in-Ok.ensures.fields.file_is c.in-Some.ensures.found;
 }

@@ -1,0 +1,106 @@
+// The command `run`: the file is read whole, and then runs on the byte machine.
+ghost use Rattle.std.specs.Prelude.{◌≡◌, ◌≤◌, ℕ, List, Some};
+ghost use Rattle.rb_io.specs.Seen.{FilesGoOn};
+ghost use Rattle.elf_image.specs.Present.{IsSound};
+ghost use Rattle.elf_image.specs.Read.{IsElfOf};
+ghost use Rattle.rv_machine.specs.Limits.{IsWithinLimits};
+ghost use Rattle.bolt_cli.specs.Answers.{Completes};
+ghost use Rattle.bolt_cli.specs.Read.{run_read};
+ghost use Rattle.bolt_cli.specs.RunAnswers.{IsExact, RunAnswers};
+ghost use Rattle.bolt_cli.specs.RunPhases.{AnswersRun, Closed};
+ghost use Rattle.bolt_cli.specs.Words.{Run};
+
+use crate::lines;
+use crate::printing::print_line;
+use crate::refusal::{FILE_LIMIT, refuse};
+use crate::status::Status;
+use crate::words::{RunWords, program_words};
+use elf_image::{Elf, read};
+use rb_bytes::fault::{Fault, FaultKind, Refusal};
+use rb_io::{Files, ReadAll, Sink, Source};
+use rv_machine::{Machine, Ran, Stepped};
+use std::alloc::Global;
+
+// Says how a run came out, where it did.
+fn close<O: Sink>(alloc: Global, ran: Ran, out: &mut O) -> Status
+    ensures closed { Closed result ran.steps (O.seen out.old) (O.seen out.new) ran.end }
+    ensures never_falls { (O.seen out.old).faults ≤ (O.seen out.new).faults }
+{
+    let steps = ran.steps;
+    match ran.end {
+        Stepped::Going => print_line(lines::out_of_steps(alloc, steps), Status::OutOfSteps, out),
+        Stepped::Ended(value) => {
+            let line = lines::ended(alloc, value, steps);
+            print_line(line, Status::Ended(value), out)
+        }
+        Stepped::Trap(pc, cause) => {
+            let line = lines::trapped(alloc, pc, cause, steps);
+            print_line(line, Status::Trapped(pc, cause), out)
+        }
+        Stepped::ReadFault => Status::ReadFault,
+        Stepped::WriteFault => Status::WriteFault,
+        Stepped::Memory => Status::NoMemory,
+    }
+}
+
+// Runs a file that was read.
+fn run_elf<I: Source, O: Sink>(
+    alloc: Global,
+    words: &RunWords<'_>,
+    elf: &Elf<'_>,
+    input: &mut I,
+    out: &mut O,
+) -> Status
+    requires limits { IsWithinLimits (run_read words.now).words }
+    requires fields { IsElfOf elf.now.file.now elf.now }
+    requires sound { IsSound elf.now.file.now }
+    ensures answer { AnswersRun result (run_read words.now)
+        (record { input = I.seen input.old; output = O.seen out.old })
+        (record { input = I.seen input.new; output = O.seen out.new }) elf.now.file.now }
+    ensures exact { IsExact result (run_read words.now) (I.seen input.old).left elf.now.file.now }
+    ensures reads { (I.seen input.old).faults ≤ (I.seen input.new).faults }
+    ensures writes { (O.seen out.old).faults ≤ (O.seen out.new).faults }
+{
+    let Ok(program) = program_words(alloc, words) else {
+        return Status::NoMemory;
+    };
+    let Ok(mut machine) = Machine::load(alloc, elf, &program) else {
+        return Status::NoMemory;
+    };
+    let ran = machine.run(words.limit, input, out);
+    close(alloc, ran, out)
+}
+
+/// Does `run`.
+pub fn run<F: Files, I: Source, O: Sink>(
+    alloc: Global,
+    words: &RunWords<'_>,
+    files: &mut F,
+    input: &mut I,
+    out: &mut O,
+) -> Status
+    requires { IsWithinLimits (run_read words.now).words }
+    ensures answer { RunAnswers (run_read words.now)
+        (record { files = F.seen files.old; input = I.seen input.old; output = O.seen out.old })
+        (record { files = F.seen files.new; input = I.seen input.new; output = O.seen out.new }) result }
+    ensures complete { Completes (Some (Run (run_read words.now))) result
+        (record { files = F.seen files.old; input = I.seen input.old; output = O.seen out.old })
+        (record { files = F.seen files.new; input = I.seen input.new; output = O.seen out.new }) }
+    ensures unread { (fault : Fault) → result ≡ Status.Refused fault → input.new ≡ input.old }
+    ensures files_go_on { FilesGoOn (F.seen files.old) (F.seen files.new) }
+    ensures input_faults { (I.seen input.old).faults ≤ (I.seen input.new).faults }
+    ensures faults { (O.seen out.old).faults ≤ (O.seen out.new).faults }
+{
+    let mut file = Vec::new(alloc);
+    match files.read_all(words.file, FILE_LIMIT, &mut file) {
+        ReadAll::Done => {}
+        ReadAll::TooLong => return refuse(alloc, Fault::at(FaultKind::TooLarge, 0), out),
+        ReadAll::Failed => return Status::ReadFault,
+        ReadAll::Memory => return Status::NoMemory,
+    }
+    match read(alloc, &file) {
+        Ok(elf) => run_elf(alloc, words, &elf, input, out),
+        Err(Refusal::Fault(fault)) => refuse(alloc, fault, out),
+        Err(Refusal::Memory) => Status::NoMemory,
+    }
+}

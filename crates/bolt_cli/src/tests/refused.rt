@@ -1,0 +1,192 @@
+// Files that are refused: the line that is printed, and that nothing is written. Places are worked out by hand.
+
+use super::example::exit7;
+use super::{REWRITE, answer, files, text};
+use crate::status::Status;
+use rb_bytes::fault::{Fault, FaultKind};
+use rb_io::MemFiles;
+use std::alloc::Global;
+use std::process::Abort;
+use std::test::Fail;
+
+// One more byte than the longest file that is read has.
+const TOO_LONG: usize = 64 * 1024 * 1024 + 1;
+
+// Bytes that stand in place of the example's, from an offset on.
+#[derive(Clone, Copy)]
+struct Change<'a> {
+    offset: usize,
+    bytes: &'a [u8],
+}
+
+// A changed example, and how it is refused.
+#[derive(Clone, Copy)]
+struct Row<'a> {
+    changes: &'a [Change<'a>],
+    fault: Fault,
+    line: &'a [u8],
+}
+
+fn changed(alloc: Global, changes: &[Change<'_>]) -> Result<Vec<u8>, Fail> {
+    let mut file = exit7(alloc)?;
+    for change in changes {
+        for (place, byte) in file.iter_mut().skip(change.offset).zip(change.bytes) {
+            *place = *byte;
+        }
+    }
+    Ok(file)
+}
+
+fn zeros(alloc: Global, count: usize) -> Result<Vec<u8>, Fail> {
+    Ok(vec![in alloc; 0; count]?)
+}
+
+// Does what the words say, and checks that a file is refused so.
+fn check_command(
+    rt: &impl Abort,
+    alloc: Global,
+    words: &[&str],
+    files: &mut MemFiles,
+    fault: Fault,
+    line: &[u8],
+) -> Result<(), Fail> {
+    let (status, out) = answer(alloc, words, files, 200)?;
+    assert_eq!(rt; status, Status::Refused(fault));
+    assert_eq!(rt; status.number(), 221);
+    assert_eq!(rt; out.taken(), line);
+    assert!(rt; files.content("out").is_none());
+    assert!(rt; files.content("map").is_none());
+    Ok(())
+}
+
+// Rewrites and runs an input, and checks that it is refused so.
+fn check(
+    rt: &impl Abort,
+    alloc: Global,
+    input: Vec<u8>,
+    fault: Fault,
+    line: &[u8],
+) -> Result<(), Fail> {
+    let mut files = files(alloc, input, &[])?;
+    check_command(rt, alloc, &REWRITE, &mut files, fault, line)?;
+    check_command(rt, alloc, &["run", "in"], &mut files, fault, line)
+}
+
+#[test]
+fn changed_files(rt: HostRuntime) -> Result<(), Fail> {
+    let alloc = rt.alloc();
+    let rows = [
+        // e_flags
+        Row {
+            changes: &[Change {
+                offset: 0x30,
+                bytes: b"\x05",
+            }],
+            fault: Fault::at(FaultKind::Flags, 0x30),
+            line: b"refused 3 Flags at 30\n",
+        },
+        // e_type
+        Row {
+            changes: &[Change {
+                offset: 0x10,
+                bytes: b"\x03",
+            }],
+            fault: Fault::at(FaultKind::NotStatic, 0x10),
+            line: b"refused 4 NotStatic at 10\n",
+        },
+        // the segment's size in memory
+        Row {
+            changes: &[Change {
+                offset: 0x68,
+                bytes: b"\x89",
+            }],
+            fault: Fault::at(FaultKind::ExecSegments, 0x40),
+            line: b"refused 5 ExecSegments at 40\n",
+        },
+        // the segment's flags
+        Row {
+            changes: &[Change {
+                offset: 0x44,
+                bytes: b"\x07",
+            }],
+            fault: Fault::at(FaultKind::WritableCode, 0x40),
+            line: b"refused 6 WritableCode at 40\n",
+        },
+        // the addresses of the segment and of the first section with a name
+        Row {
+            changes: &[
+                Change {
+                    offset: 0x50,
+                    bytes: b"\0\0\xff\x7f",
+                },
+                Change {
+                    offset: 0xf0,
+                    bytes: b"\x78\0\xff\x7f",
+                },
+            ],
+            fault: Fault::at(FaultKind::HighAddress, 0x7fff_0000),
+            line: b"refused 7 HighAddress at 7fff0000\n",
+        },
+        // the flags of the last section
+        Row {
+            changes: &[Change {
+                offset: 0x129,
+                bytes: b"\x08",
+            }],
+            fault: Fault::at(FaultKind::CompressedSection, 2),
+            line: b"refused 8 CompressedSection at 2\n",
+        },
+    ];
+    for row in &rows {
+        let input = changed(alloc, row.changes)?;
+        check(&rt, alloc, input, row.fault, row.line)?;
+    }
+    Ok(())
+}
+
+#[test]
+fn fronts_of_the_example(rt: HostRuntime) -> Result<(), Fail> {
+    let alloc = rt.alloc();
+    let not_elf = Fault::at(FaultKind::NotElf, 0);
+    let header = Fault::at(FaultKind::Truncated, 0);
+    let segments = Fault::at(FaultKind::Truncated, 0x40);
+    let sections = Fault::at(FaultKind::Truncated, 0xa0);
+    let rows: [(usize, Fault, &[u8]); 10] = [
+        (0, not_elf, b"refused 1 NotElf at 0\n"),
+        (6, not_elf, b"refused 1 NotElf at 0\n"),
+        (7, header, b"refused 2 Truncated at 0\n"),
+        (63, header, b"refused 2 Truncated at 0\n"),
+        (64, segments, b"refused 2 Truncated at 40\n"),
+        (119, segments, b"refused 2 Truncated at 40\n"),
+        // the segment's bytes are looked for from 0 on
+        (120, header, b"refused 2 Truncated at 0\n"),
+        (135, header, b"refused 2 Truncated at 0\n"),
+        (136, sections, b"refused 2 Truncated at a0\n"),
+        (351, sections, b"refused 2 Truncated at a0\n"),
+    ];
+    for (size, fault, line) in rows {
+        let mut input = exit7(alloc)?;
+        input.truncate(size);
+        check(&rt, alloc, input, fault, line)?;
+    }
+    Ok(())
+}
+
+#[test]
+fn long_files(rt: HostRuntime) -> Result<(), Fail> {
+    let alloc = rt.alloc();
+    let input = Fault::at(FaultKind::TooLarge, 0);
+    let long = zeros(alloc, TOO_LONG)?;
+    check(&rt, alloc, long, input, b"refused 28 TooLarge at 0\n")?;
+    let profile = Fault::at(FaultKind::TooLarge, 1);
+    let mut files = files(alloc, exit7(alloc)?, &[])?;
+    files.put(text(alloc, "profile")?, zeros(alloc, TOO_LONG)?)?;
+    check_command(
+        &rt,
+        alloc,
+        &REWRITE,
+        &mut files,
+        profile,
+        b"refused 28 TooLarge at 1\n",
+    )
+}
