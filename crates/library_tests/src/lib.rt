@@ -6,10 +6,20 @@ mod bytes;
 #[cfg(test)]
 mod decode;
 #[cfg(test)]
+mod elf;
+#[cfg(test)]
+mod elf_files;
+#[cfg(test)]
+mod elf_layout;
+#[cfg(test)]
+mod elf_symbols;
+#[cfg(test)]
 mod encode;
 #[cfg(test)]
 mod instruction_table;
 #[cfg(test)]
 mod io;
+#[cfg(test)]
+mod machine;
 #[cfg(test)]
 mod value;

@@ -1,0 +1,9 @@
+// The byte machine: results of instructions against qemu, and system calls, faults and traps against Linux and
+// the ISA manual.
+
+mod calls;
+mod executable;
+mod instructions;
+mod results;
+mod running;
+mod traps;
