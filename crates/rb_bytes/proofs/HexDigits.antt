@@ -1,5 +1,7 @@
 -- Hexadecimal digits written from the last one on.
-use Rattle.std.proofs.Common.{◌≡◌, ◌≢◌, ◌<◌, ◌+◌, ◌-◌, ◌/◌, ◌%◌, ◌^◌, ℕ, zero, suc, List, [], ◌∷◌, false, arith, refl, drop, length, slice_set, sym, ◌∙◌, add-one, ◌≤◌}
+use Rattle.std.proofs.Common.{◌≡◌, ◌≢◌, ◌<◌, ◌-◌, ◌/◌, ◌%◌, ◌^◌, ℕ, zero, suc, List, [], ◌∷◌, false, arith, refl, drop}
+use Rattle.std.proofs.Common.{length, slice_set, sym, ◌∙◌, ap, add-one, ◌≤◌, ◌++◌, Bool, true, cond}
+use Rattle.std.specs.Prelude.{◌==◌}
 use Rattle.std.specs.Fmt.{digits, digits_onto, digit_glyph}
 use Rattle.std.proofs.lemmas.Grind.{common_steps}
 use Rattle.std.proofs.Math.Nat.{pow-succ', pow-zero}
@@ -20,26 +22,45 @@ hex_onto-last zero n text h e = absurd (omega arith)
 hex_onto-last (suc k) n text h e = rw e refl
 
 -- any other digit
-hex_onto-more : (k n : ℕ) (text : List ℕ) → 0 < k → n / 16 ≢ 0 → hex_onto k n text ≡ hex_onto (k - 1) (n / 16) (digit_glyph false (n % 16) ∷ text)
+hex_onto-more : (k n : ℕ) (text : List ℕ) → 0 < k → n / 16 ≢ 0
+    → hex_onto k n text ≡ hex_onto (k - 1) (n / 16) (digit_glyph false (n % 16) ∷ text)
 unfolding hex_onto
 hex_onto-more zero n text h e = absurd (omega arith)
 hex_onto-more (suc k) n text h e = grind (arith, common_steps)
 
 -- the list from the place before `start` on, once a digit is written there
-drop_written : (text : List ℕ) (start d : ℕ) → 0 < start → start ≤ length text → drop (start - 1) (slice_set text (start - 1) d) ≡ d ∷ drop start text
+drop_written : (text : List ℕ) (start d : ℕ) → 0 < start → start ≤ length text
+    → drop (start - 1) (slice_set text (start - 1) d) ≡ d ∷ drop start text
 drop_written text zero d h le = absurd (omega arith)
 drop_written text (suc k) d h le = let p : suc k - 1 ≡ k = omega arith in rw p (grind (arith, common_steps, add-one))
 
 -- the first digit written before the others
-pub hex_onto-written_last : (start n d : ℕ) (text : List ℕ) → 0 < start → start ≤ length text → n / 16 ≡ 0 → d ≡ digit_glyph false (n % 16) → drop (start - 1) (slice_set text (start - 1) d) ≡ hex_onto (48 + start) n (drop start text)
-hex_onto-written_last start n d text h le e g = let p : 0 < 48 + start = omega arith in
-    drop_written text start d h le ∙ rw g (sym (hex_onto-last (48 + start) n (drop start text) p e))
+pub hex_onto-written_last : (k start n d : ℕ) (text : List ℕ) → 0 < k → 0 < start → start ≤ length text → n / 16 ≡ 0
+    → d ≡ digit_glyph false (n % 16)
+    → drop (start - 1) (slice_set text (start - 1) d) ≡ hex_onto k n (drop start text)
+hex_onto-written_last k start n d text p h le e g =
+    drop_written text start d h le ∙ rw g (sym (hex_onto-last k n (drop start text) p e))
 
 -- any other digit written before those that follow it
-pub hex_onto-written : (start n d : ℕ) (text : List ℕ) → 0 < start → start ≤ length text → n / 16 ≢ 0 → d ≡ digit_glyph false (n % 16) → hex_onto (48 + (start - 1)) (n / 16) (drop (start - 1) (slice_set text (start - 1) d)) ≡ hex_onto (48 + start) n (drop start text)
-hex_onto-written start n d text h le e g = let p : 0 < 48 + start = omega arith in
-    let q : 48 + (start - 1) ≡ 48 + start - 1 = omega arith in
-    rw (drop_written text start d h le, q, g) (sym (hex_onto-more (48 + start) n (drop start text) p e))
+pub hex_onto-written : (k start n d : ℕ) (text : List ℕ) → 0 < k → 0 < start → start ≤ length text → n / 16 ≢ 0
+    → d ≡ digit_glyph false (n % 16)
+    → hex_onto (k - 1) (n / 16) (drop (start - 1) (slice_set text (start - 1) d)) ≡ hex_onto k n (drop start text)
+hex_onto-written k start n d text p h le e g =
+    rw (drop_written text start d h le, g) (sym (hex_onto-more k n (drop start text) p e))
+
+-- digits before a text
+pub hex_onto-append : (k n : ℕ) (xs ys : List ℕ) → hex_onto k n (xs ++ ys) ≡ hex_onto k n xs ++ ys
+unfolding hex_onto
+hex_onto-append zero n xs ys = refl
+hex_onto-append (suc k) n xs ys =
+    digits_before (n / 16 == 0) (digit_glyph false (n % 16)) _ _ (hex_onto-append k (n / 16) (digit_glyph false (n % 16) ∷ xs) ys)
+  where
+    digits_before : (b : Bool) (d : ℕ) (us vs : List ℕ) → us ≡ vs ++ ys → cond b (d ∷ (xs ++ ys)) us ≡ cond b (d ∷ xs) vs ++ ys
+    digits_before true d us vs e = refl
+    digits_before false d us vs e = e
+
+pub hexadecimal_before : (n : ℕ) (text : List ℕ) → hex_onto 64 n text ≡ hexadecimal n ++ text
+hexadecimal_before n text = hex_onto-append 64 n [] text ∙ ap (λ digits. digits ++ text) (hex_onto_start n)
 
 -- one digit less
 pub quotient-lt : (n k : ℕ) → 0 < k → n < 16 ^ k → n / 16 < 16 ^ (k - 1)

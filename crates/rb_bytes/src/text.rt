@@ -1,5 +1,5 @@
 // Numbers as text.
-ghost use Rattle.std.specs.Prelude.{◌≡◌, ◌<◌, ◌++◌, OnOk, OnErr, decimal, false};
+ghost use Rattle.std.specs.Prelude.{◌≡◌, ◌+◌, ◌<◌, ◌≤◌, ◌++◌, OnOk, OnErr, decimal, drop, false, length};
 ghost use Rattle.std.specs.Fmt.{digit_glyph};
 ghost use Rattle.rb_bytes.specs.Text.{hexadecimal};
 
@@ -20,23 +20,36 @@ fn hex_digit(digit: u8) -> u8
     }
 }
 
-/// Appends the number in lower-case hexadecimal, with no leading zeros; zero is `0`.
+/// Writes the number in lower-case hexadecimal, with no leading zeros, before the place `end`; zero is `0`. The answer is
+/// the place of its first digit.
 #[tactic(auto, using(crate::proofs::HexDigits::hex_onto_start))]
-pub fn put_hex(out: &mut Vec<u8>, v: u64) -> Result<(), NoMemory>
-    ensures ok { OnOk result (out.new.items ≡ out.old.items ++ hexadecimal v) }
-    ensures err { OnErr result (out.new.items ≡ out.old.items) }
+pub fn write_hex(v: u64, buf: &mut [u8], end: usize) -> usize
+    requires room { 16 ≤ end }
+    requires inside { end ≤ length buf.old }
+    ensures start { result + length (hexadecimal v) ≡ end }
+    ensures short { end ≤ result + 16 }
+    ensures written { drop result buf.new ≡ hexadecimal v ++ drop end buf.old }
 {
-    let mut text = [0u8; HEX_LENGTH];
-    let mut start = HEX_LENGTH;
+    let mut start = end;
     let mut rest = v;
     'digits: loop {
         start -= 1;
-        text[start] = hex_digit((rest % 16) as u8);
+        buf[start] = hex_digit((rest % 16) as u8);
         rest /= 16;
         if rest == 0 {
             break;
         }
     }
+    start
+}
+
+/// Appends the number in lower-case hexadecimal, with no leading zeros; zero is `0`.
+pub fn put_hex(out: &mut Vec<u8>, v: u64) -> Result<(), NoMemory>
+    ensures ok { OnOk result (out.new.items ≡ out.old.items ++ hexadecimal v) }
+    ensures err { OnErr result (out.new.items ≡ out.old.items) }
+{
+    let mut text = [0u8; HEX_LENGTH];
+    let start = write_hex(v, &mut text, HEX_LENGTH);
     out.extend_from_slice(&text[start..])?;
     Ok(())
 }

@@ -3,7 +3,7 @@ use Rattle.std.proofs.Common.{◌≡◌, ◌<◌, ◌+◌, ◌∙◌, sym, ap, r
 use Rattle.std.proofs.lemmas.List.{take-append-le}
 use Rattle.std.proofs.Math.Seq.{take-add, take-append-add}
 use Rattle.std.specs.Io.KnownBytes.{append_known}
-use Rattle.rb_io.specs.Printed.{TakesAll, TakesFront}
+use Rattle.rb_io.specs.TakenText.{TakesAll, TakesPrefix}
 
 pub append_known-append : (known : Option (List ℕ)) (xs ys : List ℕ) → append_known (append_known known xs) ys ≡ append_known known (xs ++ ys)
 append_known-append None xs ys = refl
@@ -19,14 +19,14 @@ pub TakesAll-take-add : (a b c : Option (List ℕ)) (text : List ℕ) (i n : ℕ
 TakesAll-take-add a b c text i n first next =
     TakesAll-append a b c (take i text) (take n (drop i text)) first next ∙ ap (append_known a) (sym (take-add i n text))
 
--- all of one text, and then a front of the next
-pub TakesFront-append : (a b c : Option (List ℕ)) (xs ys : List ℕ) → TakesAll a b xs → TakesFront b c ys → TakesFront a c (xs ++ ys)
+-- all of one text, and then a prefix of the next
+pub TakesFront-append : (a b c : Option (List ℕ)) (xs ys : List ℕ) → TakesAll a b xs → TakesPrefix b c ys → TakesPrefix a c (xs ++ ys)
 TakesFront-append a b c xs ys first next =
     let less : length xs + next.0 < length (xs ++ ys) = omega (arith, next.1, length-append xs ys) in
     (length xs + next.0, less, TakesAll-append a b c xs (take next.0 ys) first next.2 ∙ ap (append_known a) (sym (take-append-add xs ys next.0)))
 
--- a front of one text, where another was to follow
-pub TakesFront-front : (a b : Option (List ℕ)) (xs ys : List ℕ) → TakesFront a b xs → TakesFront a b (xs ++ ys)
+-- a prefix of one text, where another was to follow
+pub TakesFront-front : (a b : Option (List ℕ)) (xs ys : List ℕ) → TakesPrefix a b xs → TakesPrefix a b (xs ++ ys)
 TakesFront-front a b xs ys first =
     let less : first.0 < length (xs ++ ys) = omega (arith, first.1, length-append xs ys) in
     (first.0, less, first.2 ∙ ap (append_known a) (sym (take-append-le first.0 xs ys (omega (arith, first.1)))))

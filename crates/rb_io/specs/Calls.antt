@@ -3,7 +3,7 @@ use Rattle.std.specs.Prelude.{ℕ, Bool, ◌==◌, if◌then◌else◌}
 use Rattle.std.specs.List.{list_any}
 use Rattle.std.specs.Prelude.{Vec}
 use Rattle.std.specs.declared.alloc.Global.{Global}
-use Rattle.rb_io.specs.Counts.{one_more}
+use Rattle.rb_io.specs.FaultCounts.{one_more}
 use Rattle.rb_io.specs.declared.calls.Calls.{Calls}
 
 -- no call and no fault yet, with the numbers of the calls that are to fail

@@ -1,11 +1,11 @@
-pub mod Answers
+pub mod CallResults
 pub mod Calls
-pub mod Counts
+pub mod FaultCounts
 pub mod MemFiles
 pub mod MemSink
 pub mod MemSource
 pub mod Names
-pub mod Printed
-pub mod Seen
 pub mod Slot
 pub mod Slots
+pub mod TakenText
+pub mod Views

@@ -1,7 +1,7 @@
 -- What files in memory hold, have room for and answer.
 use Rattle.std.specs.Prelude.{ℕ, List, Option, Some, None, Bool, true, false, nat_le, ◌||◌, not, is_none}
 use Rattle.rb_io.specs.Calls.{fails_next}
-use Rattle.rb_io.specs.Seen.{FilesSeen}
+use Rattle.rb_io.specs.Views.{FilesSeen}
 use Rattle.rb_io.specs.Slots.{content_at, room_at}
 use Rattle.rb_io.specs.declared.calls.Calls.{Calls}
 use Rattle.rb_io.specs.declared.mem_files.MemFiles.{MemFiles}

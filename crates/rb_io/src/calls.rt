@@ -1,7 +1,7 @@
 // The numbered calls of an object in memory, some of which are to fail.
 ghost use Rattle.std.specs.Prelude.{◌≡◌, ◌≤◌, IsTrue};
 ghost use Rattle.rb_io.specs.Calls.{no_calls, fails_next, after_call};
-ghost use Rattle.rb_io.specs.Counts.{Rose};
+ghost use Rattle.rb_io.specs.FaultCounts.{Rose};
 
 /// Counts the calls from 1, and the faults. Both counts stop at `u64::MAX`.
 #[derive(Drop)]

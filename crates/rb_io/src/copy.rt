@@ -2,7 +2,7 @@
 ghost use Rattle.std.specs.Prelude.{◌≡◌, length, take, drop, min};
 
 /// Copies the front of `bytes` over the front of `buf`, as far as both go, and answers how many bytes that is.
-pub(crate) fn copy_front(buf: &mut [u8], bytes: &[u8]) -> usize
+pub(crate) fn copy_prefix(buf: &mut [u8], bytes: &[u8]) -> usize
     ensures value { result ≡ min (length buf.old) (length bytes.now) }
     ensures front { take result buf.new ≡ take result bytes.now }
     ensures rest { drop result buf.new ≡ drop result buf.old }

@@ -1,8 +1,8 @@
 // Files by name.
 ghost use Rattle.std.specs.Prelude.{◌≡◌, ◌≢◌, ◌≤◌, ◌<◌, Some, length, [], IsTrue, IsSomeAnd};
-ghost use Rattle.rb_io.specs.Counts.{Rose};
+ghost use Rattle.rb_io.specs.FaultCounts.{Rose};
 ghost use Rattle.rb_io.specs.Names.{Unchanged, UnchangedBut};
-ghost use Rattle.rb_io.specs.Seen.{FilesSeen, FilesGoOn};
+ghost use Rattle.rb_io.specs.Views.{FilesSeen, FilesGoOn};
 
 /// What reading a whole file answers.
 #[derive(Clone, Copy, PartialEq, Eq, Debug, Drop)]

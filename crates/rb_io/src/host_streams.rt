@@ -1,8 +1,8 @@
 // Streams of the system.
 ghost use Rattle.std.specs.Prelude.{◌≡◌, ◌≤◌, ◌<◌, None, [], length, take};
 ghost use Rattle.std.specs.Io.KnownBytes.{Appends, Consumes, IsAtEnd, Keeps};
-ghost use Rattle.rb_io.specs.Answers.{IfBytes, IfTook};
-ghost use Rattle.rb_io.specs.Counts.{Rose};
+ghost use Rattle.rb_io.specs.CallResults.{IfBytes, IfTook};
+ghost use Rattle.rb_io.specs.FaultCounts.{Rose};
 
 use crate::sink::{Put, Sink};
 use crate::source::{Got, Source};

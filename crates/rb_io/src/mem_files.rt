@@ -1,12 +1,12 @@
 // Files in memory.
 ghost use Rattle.std.specs.Prelude.{◌≡◌, ◌≢◌, ◌≤◌, ◌<◌, List, ℕ, Some, None, IsTrue, IsSomeAnd, [], IfOk, OnOk, OnErr, length, max, string_bytes, true, unwrap_or, is_none};
 ghost use Rattle.std.specs.Option.{option_copied};
-ghost use Rattle.rb_io.specs.Answers.{read_failed, write_failed};
+ghost use Rattle.rb_io.specs.CallResults.{read_failed, write_failed};
 ghost use Rattle.rb_io.specs.Calls.{no_calls, after_call};
-ghost use Rattle.rb_io.specs.Counts.{Rose};
+ghost use Rattle.rb_io.specs.FaultCounts.{Rose};
 ghost use Rattle.rb_io.specs.MemFiles.{content, room_for, calls_of, files_seen, read_fails, write_fails};
 ghost use Rattle.rb_io.specs.Names.{Unchanged, UnchangedBut};
-ghost use Rattle.rb_io.specs.Seen.{FilesGoOn};
+ghost use Rattle.rb_io.specs.Views.{FilesGoOn};
 
 use crate::calls::Calls;
 use crate::files::{Files, ReadAll, Wrote};

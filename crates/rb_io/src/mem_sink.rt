@@ -58,9 +58,9 @@ impl MemSink {
 impl Sink for MemSink {
     ghost use Rattle.std.specs.Prelude.{Some, take};
     ghost use Rattle.std.specs.Io.KnownBytes.{append_known};
-    ghost use Rattle.rb_io.specs.Answers.{IfTook, put_failed};
+    ghost use Rattle.rb_io.specs.CallResults.{IfTook, put_failed};
     ghost use Rattle.rb_io.specs.Calls.{after_call};
-    ghost use Rattle.rb_io.specs.Counts.{Rose};
+    ghost use Rattle.rb_io.specs.FaultCounts.{Rose};
     ghost use Rattle.rb_io.specs.MemSink.{bytes_taken, room_left, room_after, calls_of, write_answer};
 
     ghost seen = { λ s. record { taken = Some (bytes_taken s); faults = (calls_of s).faults } };

@@ -2,7 +2,7 @@
 ghost use Rattle.std.specs.Prelude.{◌≡◌, ◌≤◌, length};
 
 use crate::calls::Calls;
-use crate::copy::copy_front;
+use crate::copy::copy_prefix;
 use crate::source::{Got, Source};
 
 /// Bytes in memory to be read, where the reads of some numbers fail.
@@ -34,9 +34,9 @@ impl MemSource {
 impl Source for MemSource {
     ghost use Rattle.std.specs.Prelude.{Some, ◌<◌, take, drop};
     ghost use Rattle.std.specs.Io.KnownBytes.{prepend_known, IsAtEnd};
-    ghost use Rattle.rb_io.specs.Answers.{IfBytes, got_failed};
+    ghost use Rattle.rb_io.specs.CallResults.{IfBytes, got_failed};
     ghost use Rattle.rb_io.specs.Calls.{after_call};
-    ghost use Rattle.rb_io.specs.Counts.{Rose};
+    ghost use Rattle.rb_io.specs.FaultCounts.{Rose};
     ghost use Rattle.rb_io.specs.MemSource.{bytes_left, calls_of, read_answer};
 
     ghost seen = { λ s. record { left = Some (bytes_left s); faults = (calls_of s).faults } };
@@ -60,7 +60,7 @@ impl Source for MemSource {
             return Got::Failed;
         }
         let (_, left) = self.bytes.split_at(self.place);
-        let count = copy_front(buf, left);
+        let count = copy_prefix(buf, left);
         self.place += count;
         Got::Bytes(count)
     }

@@ -1,8 +1,8 @@
 // Texts written whole.
 ghost use Rattle.std.specs.Prelude.{◌≡◌, ◌≤◌, length};
-ghost use Rattle.rb_io.specs.Answers.{IfTook};
-ghost use Rattle.rb_io.specs.Counts.{Rose};
-ghost use Rattle.rb_io.specs.Printed.{TakesAll, TakesFront};
+ghost use Rattle.rb_io.specs.CallResults.{IfTook};
+ghost use Rattle.rb_io.specs.FaultCounts.{Rose};
+ghost use Rattle.rb_io.specs.TakenText.{TakesAll, TakesPrefix};
 
 use crate::sink::{Put, Sink};
 
@@ -12,7 +12,7 @@ use crate::sink::{Put, Sink};
 pub fn print_all<O: Sink>(out: &mut O, text: &[u8]) -> Put
     ensures whole { IfTook result (λ n. n ≡ length text.now) }
     ensures all { IfTook result (λ n. TakesAll (O.seen out.old).taken (O.seen out.new).taken text.now) }
-    ensures front { result ≡ Put.Failed → TakesFront (O.seen out.old).taken (O.seen out.new).taken text.now }
+    ensures front { result ≡ Put.Failed → TakesPrefix (O.seen out.old).taken (O.seen out.new).taken text.now }
     ensures failed { result ≡ Put.Failed → Rose (O.seen out.old).faults (O.seen out.new).faults }
     ensures never_falls { (O.seen out.old).faults ≤ (O.seen out.new).faults }
 {

@@ -1,9 +1,9 @@
 // A sink for bytes.
 ghost use Rattle.std.specs.Prelude.{◌≡◌, ◌≤◌, length, take, []};
 ghost use Rattle.std.specs.Io.KnownBytes.{append_known};
-ghost use Rattle.rb_io.specs.Counts.{Rose};
-ghost use Rattle.rb_io.specs.Answers.{IfTook};
-ghost use Rattle.rb_io.specs.Seen.{SinkSeen};
+ghost use Rattle.rb_io.specs.FaultCounts.{Rose};
+ghost use Rattle.rb_io.specs.CallResults.{IfTook};
+ghost use Rattle.rb_io.specs.Views.{SinkSeen};
 
 /// What a write answers.
 #[derive(Clone, Copy, PartialEq, Eq, Debug, Drop)]

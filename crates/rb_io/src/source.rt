@@ -1,9 +1,9 @@
 // A source of bytes.
 ghost use Rattle.std.specs.Prelude.{◌≡◌, ◌≤◌, ◌<◌, length, take};
 ghost use Rattle.std.specs.Io.KnownBytes.{prepend_known, IsAtEnd};
-ghost use Rattle.rb_io.specs.Counts.{Rose};
-ghost use Rattle.rb_io.specs.Answers.{IfBytes};
-ghost use Rattle.rb_io.specs.Seen.{SourceSeen};
+ghost use Rattle.rb_io.specs.FaultCounts.{Rose};
+ghost use Rattle.rb_io.specs.CallResults.{IfBytes};
+ghost use Rattle.rb_io.specs.Views.{SourceSeen};
 
 /// What a read answers.
 #[derive(Clone, Copy, PartialEq, Eq, Debug, Drop)]

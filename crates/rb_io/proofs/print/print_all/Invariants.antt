@@ -1,5 +1,5 @@
 use Rattle.std.proofs.Common.{length, ◌-◌, ◌≤◌, take}
-use Rattle.rb_io.specs.Printed.{TakesAll}
+use Rattle.rb_io.specs.TakenText.{TakesAll}
 use Rattle.rb_io.proofs.print.print_all.Given as goal
 
 abbrev pub invariant-loop-done : goal.invariant-loop-done

@@ -6,6 +6,6 @@ use Rattle.std.specs.Io.KnownBytes.{append_known}
 abbrev pub TakesAll : Option (List ℕ) → Option (List ℕ) → List ℕ → Type 0
 TakesAll old new text = new ≡ append_known old text
 
--- a proper front of the text was added to what was taken
-abbrev pub TakesFront : Option (List ℕ) → Option (List ℕ) → List ℕ → Type 0
-TakesFront old new text = (n : ℕ) × (n < length text) × (new ≡ append_known old (take n text))
+-- a proper prefix of the text was added to what was taken
+abbrev pub TakesPrefix : Option (List ℕ) → Option (List ℕ) → List ℕ → Type 0
+TakesPrefix old new text = (n : ℕ) × (n < length text) × (new ≡ append_known old (take n text))

@@ -1,0 +1,10 @@
+use Rattle.std.proofs.Common.{◌+◌, ◌≡◌, length}
+use Rattle.rb_lanes.specs.Ranking.{rank}
+use Rattle.rb_lanes.proofs.ranking.rank.Given as goal
+
+-- what was counted, and what is left to count
+abbrev pub invariant-loop-rest : goal.invariant-loop-rest
+invariant-loop-rest l = l.count + rank l.rest l.x ≡ rank l.xs l.x
+
+abbrev pub decreases-loop-rest : goal.decreases-loop-rest
+decreases-loop-rest l = length l.rest

@@ -1,0 +1,5 @@
+-- How many members of a list are at most a number.
+use Rattle.std.specs.Prelude.{ℕ, List, count_by, nat_le}
+
+abbrev pub rank : List ℕ → ℕ → ℕ
+rank xs x = count_by (λ y. nat_le y x) xs

@@ -1,0 +1,8 @@
+//! Kernels on lanes: how many members of a list are at most a number, and which halfwords of code begin long instructions.
+#![tactic(auto)]
+
+pub mod marks;
+pub mod ranking;
+
+pub use marks::length_marks;
+pub use ranking::rank;
