@@ -4,10 +4,10 @@ use Rattle.rv_code.specs.declared.inst.Inst.{Inst}
 use Rattle.rv_code.specs.declared.inst.Inst.TheVariants.{Addi, Beq, Jal, Jalr, Ecall}
 use Rattle.rv_code.specs.declared.placed.Placed.{Placed}
 use Rattle.rv_code.specs.declared.placed.Role.TheVariants.{Plain}
-use Rattle.rv_code.specs.Action.{action_of}
-use Rattle.rv_code.specs.Flow.{target, falls}
-use Rattle.rv_code.specs.Halves.{upper_part, lower_part}
-use Rattle.rv_code.specs.WorstSizes.{worst_length}
+use Rattle.rv_code.specs.isa.Action.{action_of}
+use Rattle.rv_code.specs.layout.Flow.{target, falls}
+use Rattle.rv_code.specs.isa.HiLo.{hi20, lo12}
+use Rattle.rv_code.specs.layout.WorstSizes.{worst_length}
 
 -- Falling. The second argument says whether the instruction is the last of its function.
 
@@ -64,21 +64,21 @@ worst_of_compressed_addition = refl
 
 -- Parts of numbers: a lower part from 800 on is negative, and the upper one is one more.
 
-upper_of_7ff : upper_part (pos 0x107ff) ≡ pos 0x10
+upper_of_7ff : hi20 (pos 0x107ff) ≡ pos 0x10
 upper_of_7ff = refl
 
-lower_of_7ff : lower_part (pos 0x107ff) ≡ pos 2047
+lower_of_7ff : lo12 (pos 0x107ff) ≡ pos 2047
 lower_of_7ff = refl
 
-upper_of_800 : upper_part (pos 0x10800) ≡ pos 0x11
+upper_of_800 : hi20 (pos 0x10800) ≡ pos 0x11
 upper_of_800 = refl
 
-lower_of_800 : lower_part (pos 0x10800) ≡ negsuc 2047
+lower_of_800 : lo12 (pos 0x10800) ≡ negsuc 2047
 lower_of_800 = refl
 
 -- a distance back: -8 is 0 and -8
-upper_of_negative : upper_part (negsuc 7) ≡ pos 0
+upper_of_negative : hi20 (negsuc 7) ≡ pos 0
 upper_of_negative = refl
 
-lower_of_negative : lower_part (negsuc 7) ≡ negsuc 7
+lower_of_negative : lo12 (negsuc 7) ≡ negsuc 7
 lower_of_negative = refl

@@ -1,8 +1,8 @@
 // The instructions by what they do to a machine.
 ghost use Rattle.std.specs.Prelude.{◌≡◌, ◌<◌, ◌^◌};
-ghost use Rattle.rv_code.specs.Action.{action_of};
-ghost use Rattle.rv_code.specs.Op.{holds};
-ghost use Rattle.rv_code.specs.Extension.{bytes_of, extended};
+ghost use Rattle.rv_code.specs.isa.Action.{action_of};
+ghost use Rattle.rv_code.specs.isa.Op.{holds};
+ghost use Rattle.rv_code.specs.isa.Extension.{bytes_of, extended};
 
 use crate::inst::Inst;
 use crate::op::Op;

@@ -1,6 +1,6 @@
 // Bit fields of words, and signed numbers in them.
 ghost use Rattle.std.specs.Prelude.{◌≡◌, ◌<◌, ◌^◌};
-ghost use Rattle.rv_code.specs.Bits.{field, signed};
+ghost use Rattle.rv_code.specs.isa.Bits.{field, signed};
 
 /// The `width` bits from bit `low` on.
 pub fn bits(word: u32, low: u32, width: u32) -> u32
@@ -17,11 +17,11 @@ pub fn sign(number: u32, top: u32) -> i64
     requires { top < 32 }
     ensures { result ≡ signed top number }
 {
-    let half = 1_i64 << top;
+    let weight = 1_i64 << top;
     let number = i64::from(number);
-    if number < half {
+    if number < weight {
         number
     } else {
-        number - 2 * half
+        number - 2 * weight
     }
 }

@@ -1,8 +1,8 @@
 // The arithmetic and logic operations.
 ghost use Rattle.std.specs.Prelude.{◌≡◌, ◌≢◌, pos, ◌*ℤ◌};
 ghost use Rattle.std.specs.Int.RustNames.{int_div, int_rem};
-ghost use Rattle.rv_code.specs.Word.{word, low32, signed32, sign_extended32};
-ghost use Rattle.rv_code.specs.Op.{apply, high_half};
+ghost use Rattle.rv_code.specs.isa.TwosComplement.{unsigned64, low32, signed32, sign_extended32};
+ghost use Rattle.rv_code.specs.isa.Op.{apply, upper64};
 
 /// An operation on two words of 64 bits. The immediate forms of the instructions share it: `ADDI` is
 /// `Add` of a register and a constant. The names with `w` work on the low 32 bits and sign-extend.
@@ -81,13 +81,13 @@ impl Op {
 fn mulh(left: u64, right: u64) -> u64
     ensures { result ≡ apply Op.Mulh left right }
 {
-    high_half(product(left.cast_signed(), right.cast_signed()))
+    upper64(product(left.cast_signed(), right.cast_signed()))
 }
 
 fn mulhsu(left: u64, right: u64) -> u64
     ensures { result ≡ apply Op.Mulhsu left right }
 {
-    high_half(i128::from(left.cast_signed()) * i128::from(right))
+    upper64(i128::from(left.cast_signed()) * i128::from(right))
 }
 
 fn mulhu(left: u64, right: u64) -> u64
@@ -171,14 +171,14 @@ fn remuw(left: u64, right: u64) -> u64
 // The quotient of signed numbers, rounded toward zero. 2 ^ 63 has the word of -2 ^ 63.
 fn quotient(dividend: i64, divisor: i64) -> u64
     requires { divisor ≢ pos 0 }
-    ensures { result ≡ word (int_div dividend divisor) }
+    ensures { result ≡ unsigned64 (int_div dividend divisor) }
 {
     dividend.wrapping_div(divisor).cast_unsigned()
 }
 
 fn remainder(dividend: i64, divisor: i64) -> u64
     requires { divisor ≢ pos 0 }
-    ensures { result ≡ word (int_rem dividend divisor) }
+    ensures { result ≡ unsigned64 (int_rem dividend divisor) }
 {
     dividend.wrapping_rem(divisor).cast_unsigned()
 }
@@ -190,26 +190,26 @@ fn product(left: i64, right: i64) -> i128
 }
 
 // The high 64 bits of a product of 128 bits.
-fn high_half(product: i128) -> u64
-    ensures { result ≡ high_half product }
+fn upper64(product: i128) -> u64
+    ensures { result ≡ upper64 product }
 {
     (product.cast_unsigned() >> 64) as u64
 }
 
-fn low32(word: u64) -> u64
-    ensures { result ≡ low32 word }
+fn low32(number: u64) -> u64
+    ensures { result ≡ low32 number }
 {
-    word % (1 << 32)
+    number % (1 << 32)
 }
 
-fn signed32(word: u64) -> i64
-    ensures { result ≡ signed32 word }
+fn signed32(number: u64) -> i64
+    ensures { result ≡ signed32 number }
 {
-    i64::from((low32(word) as u32).cast_signed())
+    i64::from((low32(number) as u32).cast_signed())
 }
 
-fn sign_extend32(word: u64) -> u64
-    ensures { result ≡ sign_extended32 word }
+fn sign_extend32(number: u64) -> u64
+    ensures { result ≡ sign_extended32 number }
 {
-    signed32(word).cast_unsigned()
+    signed32(number).cast_unsigned()
 }

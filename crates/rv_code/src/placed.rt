@@ -11,7 +11,7 @@ pub enum Width {
     Full,
 }
 
-/// Which part of a code address an instruction's immediate holds.
+/// Which part of a code address an instruction's immediate holds, named by the assembler's operators.
 ///
 /// All fields are addresses: `target` is the address that both parts together give, and `hi` is that
 /// of the AUIPC with the upper part. psABI, section "Relocations".
@@ -19,17 +19,17 @@ pub enum Width {
 pub enum Role {
     /// No part of an address.
     Plain,
-    /// The AUIPC of a call pair.
+    /// The AUIPC of a call pair (`call`), with `%pcrel_hi` of the target.
     CallHi { target: u64 },
-    /// The JALR of a call pair.
+    /// The JALR of a call pair (`call`), with `%pcrel_lo` for the AUIPC at `hi`.
     CallLo { hi: u64, target: u64 },
-    /// An AUIPC with the upper part of a distance.
+    /// An AUIPC with the upper part of a distance: `%pcrel_hi`, `%got_pcrel_hi` and the like.
     Hi { target: u64 },
-    /// The lower part of a distance from the AUIPC at `hi`.
+    /// The lower part of a distance from the AUIPC at `hi`: `%pcrel_lo`.
     Lo { hi: u64, target: u64 },
-    /// A LUI with the upper part of an absolute address.
+    /// A LUI with the upper part of an absolute address: `%hi`.
     AbsHi { target: u64 },
-    /// The lower part of an absolute address.
+    /// The lower part of an absolute address: `%lo`.
     AbsLo { target: u64 },
 }
 

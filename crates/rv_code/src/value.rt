@@ -1,7 +1,7 @@
 // The arithmetic of an instruction, on operands that the caller has read.
 ghost use Rattle.std.specs.Prelude.{◌≡◌};
-ghost use Rattle.rv_code.specs.Action.{action_of};
-ghost use Rattle.rv_code.specs.Value.{computed, is_taken};
+ghost use Rattle.rv_code.specs.isa.Action.{action_of};
+ghost use Rattle.rv_code.specs.isa.Value.{computed, is_taken};
 
 use crate::action::Action;
 use crate::inst::Inst;

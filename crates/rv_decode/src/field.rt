@@ -1,6 +1,6 @@
 // Fields of instruction words, and immediates with their signs.
 ghost use Rattle.std.specs.Prelude.{◌≡◌};
-ghost use Rattle.rv_code.specs.Bits.{field, imm_i, imm_s, imm_b, imm_u, imm_j};
+ghost use Rattle.rv_code.specs.isa.Bits.{field, imm_i, imm_s, imm_b, imm_u, imm_j};
 
 use rv_code::field::{bits, sign};
 

@@ -1,7 +1,7 @@
 // The four-byte instructions, by their opcode. ISA manual, sections 2.5, 2.7 and 2.8.
 ghost use Rattle.std.specs.Prelude.{◌≡◌, ℕ, IfSome, IfNone};
-ghost use Rattle.rv_code.specs.Bits.{field};
-ghost use Rattle.rv_code.specs.FullRows.{IsFull};
+ghost use Rattle.rv_code.specs.isa.Bits.{field};
+ghost use Rattle.rv_code.specs.isa.FullRows.{IsFull};
 ghost use Rattle.rv_code.specs.declared.inst.Inst.{Inst};
 
 use crate::field::{funct3, imm_b, imm_i, imm_j, rd, rs1, rs2};

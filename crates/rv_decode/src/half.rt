@@ -1,7 +1,7 @@
 // The two-byte instructions, by their quadrant. ISA manual, section 26.8.
 ghost use Rattle.std.specs.Prelude.{◌≡◌, ℕ, IfSome, IfNone};
-ghost use Rattle.rv_code.specs.Bits.{field};
-ghost use Rattle.rv_code.specs.HalfRows.{IsHalf};
+ghost use Rattle.rv_code.specs.isa.Bits.{field};
+ghost use Rattle.rv_code.specs.isa.HalfRows.{IsHalf};
 ghost use Rattle.rv_code.specs.declared.inst.Inst.{Inst};
 
 use crate::compressed::{addi4spn_imm, double_offset, lower_register, upper_register, word_offset};

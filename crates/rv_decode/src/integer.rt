@@ -1,7 +1,7 @@
 // Integer computations. ISA manual, sections 2.4, 4.2, 13.1 and 13.2.
 ghost use Rattle.std.specs.Prelude.{◌≡◌, ◌⊎◌, ℕ, IfSome, IfNone};
-ghost use Rattle.rv_code.specs.Bits.{field};
-ghost use Rattle.rv_code.specs.FullRows.{IsFull};
+ghost use Rattle.rv_code.specs.isa.Bits.{field};
+ghost use Rattle.rv_code.specs.isa.FullRows.{IsFull};
 ghost use Rattle.rv_code.specs.declared.inst.Inst.{Inst};
 
 use crate::field::{funct3, funct6, funct7, imm_i, imm_u, rd, rs1, rs2};

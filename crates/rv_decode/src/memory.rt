@@ -1,7 +1,7 @@
 // Loads and stores. ISA manual, sections 2.6 and 4.3.
 ghost use Rattle.std.specs.Prelude.{◌≡◌, ℕ, IfSome, IfNone};
-ghost use Rattle.rv_code.specs.Bits.{field};
-ghost use Rattle.rv_code.specs.FullRows.{IsFull};
+ghost use Rattle.rv_code.specs.isa.Bits.{field};
+ghost use Rattle.rv_code.specs.isa.FullRows.{IsFull};
 ghost use Rattle.rv_code.specs.declared.inst.Inst.{Inst};
 
 use crate::field::{funct3, imm_i, imm_s, rd, rs1, rs2};

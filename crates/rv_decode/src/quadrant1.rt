@@ -1,8 +1,8 @@
 // Quadrant 1 of the two-byte instructions: constants, arithmetic, jumps and branches. ISA manual, table
 // "RVC opcode map".
 ghost use Rattle.std.specs.Prelude.{◌≡◌, ℕ, IfSome, IfNone};
-ghost use Rattle.rv_code.specs.Bits.{field};
-ghost use Rattle.rv_code.specs.HalfRows.{IsHalf};
+ghost use Rattle.rv_code.specs.isa.Bits.{field};
+ghost use Rattle.rv_code.specs.isa.HalfRows.{IsHalf};
 ghost use Rattle.rv_code.specs.declared.inst.Inst.{Inst};
 
 use crate::compressed::{

@@ -1,8 +1,8 @@
 // Quadrant 2 of the two-byte instructions: shifts, the stack, jumps to registers and moves. ISA manual,
 // table "RVC opcode map".
 ghost use Rattle.std.specs.Prelude.{◌≡◌, ◌⊎◌, ℕ, IfSome, IfNone};
-ghost use Rattle.rv_code.specs.Bits.{field};
-ghost use Rattle.rv_code.specs.HalfRows.{IsHalf};
+ghost use Rattle.rv_code.specs.isa.Bits.{field};
+ghost use Rattle.rv_code.specs.isa.HalfRows.{IsHalf};
 ghost use Rattle.rv_code.specs.declared.inst.Inst.{Inst};
 
 use crate::compressed::{

@@ -1,6 +1,6 @@
 -- From what one row's encoder finds to what the rows together have.
 use Rattle.std.proofs.Common.{◌≡◌, ℕ, ℤ, Option, Some, None, IfSome, IfNone}
-use Rattle.rv_code.specs.HalfRows.{Row, Matches, expansion, IsHalf, C_ADDI, C_LI, C_ADDI16SP, C_ADDI4SPN, C_J, C_BEQZ, C_BNEZ}
+use Rattle.rv_code.specs.isa.HalfRows.{Row, Matches, expansion, IsHalf, C_ADDI, C_LI, C_ADDI16SP, C_ADDI4SPN, C_J, C_BEQZ, C_BNEZ}
 use Rattle.rv_code.specs.declared.inst.Inst.{Inst}
 use Rattle.rv_code.specs.declared.inst.Inst.TheVariants.{Addi, Jal, Beq, Bne}
 use Rattle.rv_encode.specs.RowOf.{IsRowOf}

@@ -1,7 +1,7 @@
 -- Operands that an encoding holds, of the instructions that a rewriting changes: those with a distance,
 -- and those with a part of an address.
 use Rattle.std.specs.Prelude.{◌≡◌, ℕ, ◌<◌, ◌≤◌, ◌^◌, ℤ}
-use Rattle.rv_code.specs.Reach.{IsWithin, Reaches}
+use Rattle.rv_code.specs.isa.Reach.{IsWithin, Reaches}
 use Rattle.rv_code.specs.declared.inst.Inst.{Inst}
 use Rattle.rv_code.specs.declared.inst.Inst.TheVariants.{Lui, Auipc, Jal, Jalr, Beq, Bne, Blt, Bge, Bltu, Bgeu, Lb, Lh, Lw, Ld, Lbu, Lhu, Lwu, Sb, Sh, Sw, Sd, Addi}
 use Rattle.rv_code.specs.declared.placed.Width.{Width}

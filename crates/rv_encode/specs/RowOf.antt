@@ -1,6 +1,6 @@
 -- A halfword as one row's encoding of an instruction.
 use Rattle.std.specs.Prelude.{◌≡◌, ℕ}
-use Rattle.rv_code.specs.HalfRows.{Row, Matches, expansion, OpensPair, upper_register, lower_register}
+use Rattle.rv_code.specs.isa.HalfRows.{Row, Matches, expansion, OpensPair, upper_register, lower_register}
 use Rattle.rv_code.specs.declared.inst.Inst.{Inst}
 
 -- the halfword is one of the row, and the row expands it to this instruction

@@ -1,6 +1,6 @@
 // The two-byte shifts and computations on registers. ISA manual, sections 26.5.2 and 26.5.3.
 ghost use Rattle.std.specs.Prelude.{◌<◌, ℕ, IfSome, IfNone};
-ghost use Rattle.rv_code.specs.HalfRows.{C_SLLI, C_SRLI, C_SRAI, C_ANDI, C_MV, C_ADD};
+ghost use Rattle.rv_code.specs.isa.HalfRows.{C_SLLI, C_SRLI, C_SRAI, C_ANDI, C_MV, C_ADD};
 ghost use Rattle.rv_code.specs.declared.inst.Inst.TheVariants.{Slli, Srli, Srai, Andi, Add};
 ghost use Rattle.rv_encode.specs.RowOf.{IsRowOf, IsPairOf};
 

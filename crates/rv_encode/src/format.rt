@@ -3,8 +3,8 @@
 // A format's word is None where no word has these fields: where a register is none of the 32, or the
 // immediate is out of reach or not a multiple of its unit.
 ghost use Rattle.std.specs.Prelude.{◌<◌, ◌^◌, ℕ, IsSome, IfSome, IfNone};
-ghost use Rattle.rv_code.specs.Reach.{IsWithin, Reaches};
-ghost use Rattle.rv_code.specs.FullRows.{FormatR, FormatI, FormatS, FormatB, FormatU, FormatJ, Shift64, Shift32};
+ghost use Rattle.rv_code.specs.isa.Reach.{IsWithin, Reaches};
+ghost use Rattle.rv_code.specs.isa.FullRows.{FormatR, FormatI, FormatS, FormatB, FormatU, FormatJ, Shift64, Shift32};
 
 use crate::operand::unsigned;
 use rv_code::field::bits;

@@ -1,8 +1,8 @@
 // Four-byte instructions.
 ghost use Rattle.std.specs.Prelude.{◌≡◌, ℕ, IsSome, IfSome, IfNone};
 ghost use Rattle.rv_encode.specs.Fits.{FitsFull};
-ghost use Rattle.rv_code.specs.Bits.{field};
-ghost use Rattle.rv_code.specs.FullRows.{IsFull};
+ghost use Rattle.rv_code.specs.isa.Bits.{field};
+ghost use Rattle.rv_code.specs.isa.FullRows.{IsFull};
 
 use crate::format::{
     format_b, format_i, format_j, format_r, format_s, format_u, shift_32, shift_64,

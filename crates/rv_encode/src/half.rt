@@ -1,7 +1,7 @@
 // Two-byte instructions.
 ghost use Rattle.std.specs.Prelude.{ℕ, IsSome, IfSome, IfNone};
 ghost use Rattle.rv_encode.specs.Fits.{FitsHalf};
-ghost use Rattle.rv_code.specs.HalfRows.{IsHalf};
+ghost use Rattle.rv_code.specs.isa.HalfRows.{IsHalf};
 ghost use Rattle.rv_code.specs.declared.inst.Inst.TheVariants.{Addi, Add, Jalr, Lw, Ld, Sw, Sd};
 
 use crate::arithmetic::{arithmetic_pair, c_add, c_andi, c_mv, c_slli, c_srai, c_srli};

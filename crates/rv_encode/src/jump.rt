@@ -1,7 +1,7 @@
 // The two-byte jumps and branches. ISA manual, section 26.4.
 ghost use Rattle.std.specs.Prelude.{◌≡◌, ◌<◌, ◌≤◌, ◌^◌, ℕ, IsSome, IfSome, IfNone};
-ghost use Rattle.rv_code.specs.Reach.{Reaches};
-ghost use Rattle.rv_code.specs.HalfRows.{C_J, C_JR, C_JALR, C_BEQZ, C_BNEZ};
+ghost use Rattle.rv_code.specs.isa.Reach.{Reaches};
+ghost use Rattle.rv_code.specs.isa.HalfRows.{C_J, C_JR, C_JALR, C_BEQZ, C_BNEZ};
 ghost use Rattle.rv_code.specs.declared.inst.Inst.TheVariants.{Jal, Jalr, Beq, Bne};
 ghost use Rattle.rv_encode.specs.RowOf.{IsRowOf};
 

@@ -1,6 +1,6 @@
 // The two-byte loads and stores. ISA manual, section 26.3.
 ghost use Rattle.std.specs.Prelude.{ℕ, IfSome, IfNone};
-ghost use Rattle.rv_code.specs.HalfRows.{C_LW, C_LD, C_SW, C_SD, C_LWSP, C_LDSP, C_SWSP, C_SDSP};
+ghost use Rattle.rv_code.specs.isa.HalfRows.{C_LW, C_LD, C_SW, C_SD, C_LWSP, C_LDSP, C_SWSP, C_SDSP};
 ghost use Rattle.rv_code.specs.declared.inst.Inst.TheVariants.{Lw, Ld, Sw, Sd};
 ghost use Rattle.rv_encode.specs.RowOf.{IsRowOf};
 

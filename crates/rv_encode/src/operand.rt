@@ -1,23 +1,23 @@
 // Operands as the numbers of their fields.
 ghost use Rattle.std.specs.Prelude.{◌≡◌, ◌≢◌, ◌⊎◌, ◌<◌, ◌≤◌, ◌+◌, ◌*◌, ◌^◌, ◌<ℤ◌, ◌≤ℤ◌, ℕ, pos, IsSome, IfSome, IfNone};
-ghost use Rattle.rv_code.specs.Reach.{IsWithin};
+ghost use Rattle.rv_code.specs.isa.Reach.{IsWithin};
 ghost use Rattle.std.specs.Int.RustNames.{int_rem};
-ghost use Rattle.rv_code.specs.Bits.{signed_by};
+ghost use Rattle.rv_code.specs.isa.Bits.{signed_by};
 
-/// The number that is `imm` once its top bit, which is worth `half`, is read as a sign; None where there
+/// The number that is `imm` once its top bit, which is worth `weight`, is read as a sign; None where there
 /// is none.
-pub fn unsigned(imm: i64, half: u32) -> Option<u32>
-    requires { half < 2 ^ 31 }
-    ensures below { IfSome result (λ n. n < 2 * half) }
-    ensures found { IfSome result (λ n. signed_by half n ≡ imm) }
-    ensures room { IsWithin half imm → IsSome result }
-    ensures none { IfNone result ((n : ℕ) → n < 2 * half → signed_by half n ≢ imm) }
+pub fn unsigned(imm: i64, weight: u32) -> Option<u32>
+    requires { weight < 2 ^ 31 }
+    ensures below { IfSome result (λ n. n < 2 * weight) }
+    ensures found { IfSome result (λ n. signed_by weight n ≡ imm) }
+    ensures room { IsWithin weight imm → IsSome result }
+    ensures none { IfNone result ((n : ℕ) → n < 2 * weight → signed_by weight n ≢ imm) }
 {
-    let half = i64::from(half);
-    if imm < -half || half <= imm {
+    let weight = i64::from(weight);
+    if imm < -weight || weight <= imm {
         return None;
     }
-    let number = if imm < 0 { imm + 2 * half } else { imm };
+    let number = if imm < 0 { imm + 2 * weight } else { imm };
     Some(number as u32)
 }
 

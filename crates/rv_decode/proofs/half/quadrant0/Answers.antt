@@ -1,6 +1,6 @@
 -- The row that each exit has found.
 use Rattle.std.proofs.Common.{rules}
-use Rattle.rv_code.specs.HalfRows.{C_LD, C_LW, C_SD, C_SW}
+use Rattle.rv_code.specs.isa.HalfRows.{C_LD, C_LW, C_SD, C_SW}
 use Rattle.rv_decode.proofs.half.quadrant0.Goals as goal
 
 pub returns-in-2-clause-found : goal.returns-in-2-clause-found

@@ -1,6 +1,6 @@
 -- The row that each exit has found.
 use Rattle.std.proofs.Common.{rules}
-use Rattle.rv_code.specs.HalfRows.{C_ADDI16SP}
+use Rattle.rv_code.specs.isa.HalfRows.{C_ADDI16SP}
 use Rattle.rv_decode.proofs.quadrant1.addi16sp.Goals as goal
 
 pub returns-clause-found : goal.returns-clause-found

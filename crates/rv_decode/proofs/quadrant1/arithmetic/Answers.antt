@@ -1,6 +1,6 @@
 -- The row that each exit has found.
 use Rattle.std.proofs.Common.{rules}
-use Rattle.rv_code.specs.HalfRows.{C_ANDI, C_SRAI, C_SRLI}
+use Rattle.rv_code.specs.isa.HalfRows.{C_ANDI, C_SRAI, C_SRLI}
 use Rattle.rv_decode.proofs.quadrant1.arithmetic.Goals as goal
 
 pub returns-in-0-clause-found : goal.returns-in-0-clause-found

@@ -1,6 +1,6 @@
 -- The row that each exit has found.
 use Rattle.std.proofs.Common.{rules}
-use Rattle.rv_code.specs.HalfRows.{C_ADDW, C_AND, C_OR, C_SUB, C_SUBW, C_XOR}
+use Rattle.rv_code.specs.isa.HalfRows.{C_ADDW, C_AND, C_OR, C_SUB, C_SUBW, C_XOR}
 use Rattle.rv_decode.proofs.quadrant1.arithmetic_pair.Goals as goal
 
 pub returns-in-0-eq0-clause-found : goal.returns-in-0-eq0-clause-found

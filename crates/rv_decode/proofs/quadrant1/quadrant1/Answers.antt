@@ -1,6 +1,6 @@
 -- The row that each exit has found.
 use Rattle.std.proofs.Common.{rules}
-use Rattle.rv_code.specs.HalfRows.{C_ADDI, C_BEQZ, C_BNEZ, C_J, C_LI}
+use Rattle.rv_code.specs.isa.HalfRows.{C_ADDI, C_BEQZ, C_BNEZ, C_J, C_LI}
 use Rattle.rv_decode.proofs.quadrant1.quadrant1.Goals as goal
 
 pub returns-in-0-clause-found : goal.returns-in-0-clause-found

@@ -1,6 +1,6 @@
 -- The row that each exit has found.
 use Rattle.std.proofs.Common.{rules}
-use Rattle.rv_code.specs.HalfRows.{C_EBREAK, C_JALR, C_JR}
+use Rattle.rv_code.specs.isa.HalfRows.{C_EBREAK, C_JALR, C_JR}
 use Rattle.rv_decode.proofs.quadrant2.jump_to_register.Goals as goal
 
 pub returns-in-0-default-clause-found : goal.returns-in-0-default-clause-found

@@ -1,6 +1,6 @@
 -- The row that each exit has found.
 use Rattle.std.proofs.Common.{rules}
-use Rattle.rv_code.specs.HalfRows.{C_LDSP, C_LWSP}
+use Rattle.rv_code.specs.isa.HalfRows.{C_LDSP, C_LWSP}
 use Rattle.rv_decode.proofs.quadrant2.load_from_stack.Goals as goal
 
 pub returns-then-bits-eq2-clause-found : goal.returns-then-bits-eq2-clause-found

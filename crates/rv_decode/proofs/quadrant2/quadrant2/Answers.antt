@@ -1,6 +1,6 @@
 -- The row that each exit has found.
 use Rattle.std.proofs.Common.{rules}
-use Rattle.rv_code.specs.HalfRows.{C_SDSP, C_SLLI, C_SWSP}
+use Rattle.rv_code.specs.isa.HalfRows.{C_SDSP, C_SLLI, C_SWSP}
 use Rattle.rv_decode.proofs.quadrant2.quadrant2.Goals as goal
 
 pub returns-in-0-clause-found : goal.returns-in-0-clause-found

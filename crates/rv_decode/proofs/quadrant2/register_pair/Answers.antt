@@ -1,6 +1,6 @@
 -- The row that each exit has found.
 use Rattle.std.proofs.Common.{rules}
-use Rattle.rv_code.specs.HalfRows.{C_ADD, C_MV}
+use Rattle.rv_code.specs.isa.HalfRows.{C_ADD, C_MV}
 use Rattle.rv_decode.proofs.quadrant2.register_pair.Goals as goal
 
 pub returns-then-bits-eq0-clause-found : goal.returns-then-bits-eq0-clause-found

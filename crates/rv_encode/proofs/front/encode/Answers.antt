@@ -1,5 +1,5 @@
 use Rattle.std.proofs.Common.{arith, inl, inr, refl, subst, sym, ◌≡◌, ℕ, ◌+◌, ◌*◌, ◌/◌, ◌%◌, ◌^◌, Option, Some, None, IsSomeAnd}
-use Rattle.rv_code.specs.FullRows.{IsFull}
+use Rattle.rv_code.specs.isa.FullRows.{IsFull}
 use Rattle.rv_code.specs.declared.inst.Inst.{Inst}
 use Rattle.rv_encode.proofs.front.encode.Goals as goal
 

@@ -1,5 +1,5 @@
 use Rattle.std.proofs.Common.{rules}
-use Rattle.rv_code.specs.HalfRows.{C_ADDI, C_LI, C_ADDI16SP, C_ADDI4SPN}
+use Rattle.rv_code.specs.isa.HalfRows.{C_ADDI, C_LI, C_ADDI16SP, C_ADDI4SPN}
 use Rattle.rv_encode.proofs.Rows.{found_in, none_in, addi_row}
 use Rattle.rv_encode.proofs.half.addi.Goals as goal
 

@@ -1,5 +1,5 @@
 use Rattle.std.proofs.Common.{rules}
-use Rattle.rv_code.specs.HalfRows.{C_LUI, C_J, C_BEQZ, C_BNEZ, C_ANDI, C_SLLI, C_SRLI, C_SRAI, C_SUB, C_XOR, C_OR, C_AND, C_ADDIW, C_ADDW, C_SUBW, C_EBREAK}
+use Rattle.rv_code.specs.isa.HalfRows.{C_LUI, C_J, C_BEQZ, C_BNEZ, C_ANDI, C_SLLI, C_SRLI, C_SRAI, C_SUB, C_XOR, C_OR, C_AND, C_ADDIW, C_ADDW, C_SUBW, C_EBREAK}
 use Rattle.rv_encode.proofs.Rows.{found_in, none_in, jal_row, beq_row, bne_row}
 use Rattle.rv_encode.proofs.half.encode_half.Goals as goal
 

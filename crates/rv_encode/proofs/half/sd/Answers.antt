@@ -1,5 +1,5 @@
 use Rattle.std.proofs.Common.{rules}
-use Rattle.rv_code.specs.HalfRows.{C_SD, C_SDSP}
+use Rattle.rv_code.specs.isa.HalfRows.{C_SD, C_SDSP}
 use Rattle.rv_encode.proofs.Rows.{found_in}
 use Rattle.rv_encode.proofs.half.sd.Goals as goal
 

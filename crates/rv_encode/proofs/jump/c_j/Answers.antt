@@ -1,6 +1,6 @@
 use Rattle.std.proofs.Common.{rules, arith, ap, ◌∙◌, ◌≡◌, ℕ, ◌+◌, ◌*◌, ◌<◌, ◌%◌, ◌^◌, ℤ}
-use Rattle.rv_code.specs.Bits.{field, signed}
-use Rattle.rv_code.specs.HalfRows.{C_J, jump_offset}
+use Rattle.rv_code.specs.isa.Bits.{field, signed}
+use Rattle.rv_code.specs.isa.HalfRows.{C_J, jump_offset}
 use Rattle.rv_code.specs.declared.inst.Inst.TheVariants.{Jal}
 use Rattle.rv_encode.specs.RowOf.{IsRowOf}
 use Rattle.rv_encode.proofs.jump.c_j.Goals as goal

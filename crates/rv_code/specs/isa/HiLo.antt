@@ -4,9 +4,9 @@ use Rattle.std.specs.Prelude.{ℤ, pos, ◌+ℤ◌, ◌-ℤ◌, ◌*ℤ◌}
 use Rattle.std.specs.Int.{int_shr}
 
 -- the upper part: rounded, since the lower one can be negative
-abbrev pub upper_part : ℤ → ℤ
-upper_part v = int_shr (v +ℤ pos 0x800) 12
+abbrev pub hi20 : ℤ → ℤ
+hi20 v = int_shr (v +ℤ pos 0x800) 12
 
 -- the lower part, from -2048 to 2047
-abbrev pub lower_part : ℤ → ℤ
-lower_part v = v -ℤ (pos 4096 *ℤ upper_part v)
+abbrev pub lo12 : ℤ → ℤ
+lo12 v = v -ℤ (pos 4096 *ℤ hi20 v)

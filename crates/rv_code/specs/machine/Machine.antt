@@ -17,9 +17,9 @@ all_may may a zero = true
 all_may may a (suc n) = may a && all_may may (plus a 1) n
 
 -- the n cells from a on
-unfoldable pub cells_at : {C : Type 0} → (ℕ → C) → ℕ → ℕ → List C
-cells_at memory a zero = []
-cells_at memory a (suc n) = memory a ∷ cells_at memory (plus a 1) n
+unfoldable pub memory_bytes : {C : Type 0} → (ℕ → C) → ℕ → ℕ → List C
+memory_bytes memory a zero = []
+memory_bytes memory a (suc n) = memory a ∷ memory_bytes memory (plus a 1) n
 
 -- the memory with these cells from a on
 unfoldable pub put : {C : Type 0} → (ℕ → C) → ℕ → List C → ℕ → C

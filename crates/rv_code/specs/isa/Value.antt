@@ -2,7 +2,7 @@
 use Rattle.std.specs.Prelude.{ℕ, Bool, true, false, not}
 use Rattle.rv_code.specs.declared.action.Action.{Action}
 use Rattle.rv_code.specs.declared.action.Action.TheVariants.{Compute, Branch}
-use Rattle.rv_code.specs.Op.{apply, holds}
+use Rattle.rv_code.specs.isa.Op.{apply, holds}
 
 -- an operation's result, and 0 for what isn't one
 abbrev pub computed : Action → ℕ → ℕ → ℕ

@@ -8,12 +8,12 @@ use Rattle.rv_code.specs.declared.action.Operand.TheVariants.{Register, Immediat
 use Rattle.rv_code.specs.declared.action.Extension.{Extension}
 use Rattle.rv_code.specs.declared.action.Action.{Action}
 use Rattle.rv_code.specs.declared.action.Action.TheVariants.{Compute, Branch, Jump, JumpTo, Upper, UpperPc, Load, Store, Fence, SystemCall, Breakpoint}
-use Rattle.rv_code.specs.Action.{action_of}
-use Rattle.rv_code.specs.Decoding.{Decodes}
-use Rattle.rv_code.specs.Op.{apply, holds}
-use Rattle.rv_code.specs.Extension.{bytes_of, extended}
-use Rattle.rv_code.specs.Word.{word}
-use Rattle.rv_code.specs.Machine.{plus, set_register, all_may, cells_at, put, little, low_bytes, State, may_read, may_write, may_execute, with_break, Event, Call, Read, Write, Exit, Brk, Unknown, call_of, most_moved, bad_file, no_such_call, Outcome, Going, Ended, Halts}
+use Rattle.rv_code.specs.isa.Action.{action_of}
+use Rattle.rv_code.specs.isa.Decoding.{Decodes}
+use Rattle.rv_code.specs.isa.Op.{apply, holds}
+use Rattle.rv_code.specs.isa.Extension.{bytes_of, extended}
+use Rattle.rv_code.specs.isa.TwosComplement.{unsigned64}
+use Rattle.rv_code.specs.machine.Machine.{plus, set_register, all_may, memory_bytes, put, little, low_bytes, State, may_read, may_write, may_execute, with_break, Event, Call, Read, Write, Exit, Brk, Unknown, call_of, most_moved, bad_file, no_such_call, Outcome, Going, Ended, Halts}
 
 -- registers hold words of 64 bits, and memory holds bytes
 abbrev pub ByteState : Type 0
@@ -40,7 +40,7 @@ writes_register s next rd value = Going (record s { pc = next; registers = set_r
 
 abbrev pub operand : ByteState → Operand → ℕ
 operand s (Register r) = s.registers r
-operand s (Immediate imm) = word imm
+operand s (Immediate imm) = unsigned64 imm
 
 -- the address that a register and an offset name
 abbrev pub address : ByteState → ℕ → ℕ → ℕ
@@ -48,7 +48,7 @@ address s rs1 offset = plus (s.registers rs1) offset
 
 -- a load of the number at an address, if it may be read
 abbrev pub loads : ByteState → ℕ → ℕ → Extension → ℕ → Bool → ByteOutcome
-loads s next rd e a true = writes_register s next rd (extended e (little (cells_at s.memory a (bytes_of e))))
+loads s next rd e a true = writes_register s next rd (extended e (little (memory_bytes s.memory a (bytes_of e))))
 loads s next rd e a false = trap s cause.Load
 
 -- a store of bytes at an address, if they may be written
@@ -106,7 +106,7 @@ read_call s next false = refuses_file s next 63
 
 -- write, to standard output or standard error or to another file
 abbrev pub write_call : ByteState → ℕ → Bool → ByteOutcome
-write_call s next true = writes_output s next (s.registers a0) (cells_at s.memory (s.registers a1) (buffer_size s)) (all_may (may_read s) (s.registers a1) (buffer_size s))
+write_call s next true = writes_output s next (s.registers a0) (memory_bytes s.memory (s.registers a1) (buffer_size s)) (all_may (may_read s) (s.registers a1) (buffer_size s))
 write_call s next false = refuses_file s next 64
 
 abbrev pub calls : ByteState → ℕ → Call → ByteOutcome
@@ -119,22 +119,22 @@ calls s next Unknown = returns s next (record { number = s.registers a7; used = 
 -- what an instruction does whose next one in memory is at a pc
 abbrev pub effect : Action → ℕ → ByteState → ByteOutcome
 effect (Compute op rd left right) next s = writes_register s next rd (apply op (operand s left) (operand s right))
-effect (Branch test true rs1 rs2 imm) next s = branches s next (plus s.pc (word imm)) (holds test (s.registers rs1) (s.registers rs2))
-effect (Branch test false rs1 rs2 imm) next s = branches s next (plus s.pc (word imm)) (not (holds test (s.registers rs1) (s.registers rs2)))
-effect (Jump rd imm) next s = writes_register s (plus s.pc (word imm)) rd next
-effect (JumpTo rd rs1 imm) next s = writes_register s (address s rs1 (word imm) / 2 * 2) rd next
-effect (Upper rd imm) next s = writes_register s next rd (word imm * 4096 % 2 ^ 64)
-effect (UpperPc rd imm) next s = writes_register s next rd (plus s.pc (word imm * 4096 % 2 ^ 64))
+effect (Branch test true rs1 rs2 imm) next s = branches s next (plus s.pc (unsigned64 imm)) (holds test (s.registers rs1) (s.registers rs2))
+effect (Branch test false rs1 rs2 imm) next s = branches s next (plus s.pc (unsigned64 imm)) (not (holds test (s.registers rs1) (s.registers rs2)))
+effect (Jump rd imm) next s = writes_register s (plus s.pc (unsigned64 imm)) rd next
+effect (JumpTo rd rs1 imm) next s = writes_register s (address s rs1 (unsigned64 imm) / 2 * 2) rd next
+effect (Upper rd imm) next s = writes_register s next rd (unsigned64 imm * 4096 % 2 ^ 64)
+effect (UpperPc rd imm) next s = writes_register s next rd (plus s.pc (unsigned64 imm * 4096 % 2 ^ 64))
 effect (Load e rd rs1 imm) next s =
-    loads s next rd e (address s rs1 (word imm)) (all_may (may_read s) (address s rs1 (word imm)) (bytes_of e))
+    loads s next rd e (address s rs1 (unsigned64 imm)) (all_may (may_read s) (address s rs1 (unsigned64 imm)) (bytes_of e))
 effect (Store n rs1 rs2 imm) next s =
-    stores s next (address s rs1 (word imm)) (low_bytes n (s.registers rs2)) (all_may (may_write s) (address s rs1 (word imm)) n)
+    stores s next (address s rs1 (unsigned64 imm)) (low_bytes n (s.registers rs2)) (all_may (may_write s) (address s rs1 (unsigned64 imm)) n)
 effect Fence next s = goes_to s next
 effect SystemCall next s = calls s next (call_of (s.registers a7))
 effect Breakpoint next s = trap s cause.Break
 
 abbrev pub halfword : ByteState → ℕ → ℕ
-halfword s a = little (cells_at s.memory a 2)
+halfword s a = little (memory_bytes s.memory a 2)
 
 -- What the decoder is given: the halfword at the pc, and the next one where the low bits of the first are
 -- 11, which begin a longer form. ISA manual, section 1.5.

@@ -1,8 +1,8 @@
 -- Which bytes are which instruction. ISA manual, section 1.5.
 use Rattle.std.specs.Prelude.{◌≡◌, ◌≢◌, ◌⊎◌, ℕ, ◌+◌, ◌*◌, ◌^◌, Option, IsSomeAnd}
-use Rattle.rv_code.specs.Bits.{field}
-use Rattle.rv_code.specs.FullRows.{IsFull}
-use Rattle.rv_code.specs.HalfRows.{IsHalf}
+use Rattle.rv_code.specs.isa.Bits.{field}
+use Rattle.rv_code.specs.isa.FullRows.{IsFull}
+use Rattle.rv_code.specs.isa.HalfRows.{IsHalf}
 use Rattle.rv_code.specs.declared.inst.Inst.{Inst}
 
 -- two bytes: the low two bits aren't 11

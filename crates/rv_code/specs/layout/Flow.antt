@@ -5,9 +5,9 @@ use Rattle.rv_code.specs.declared.action.Action.{Action}
 use Rattle.rv_code.specs.declared.action.Action.TheVariants.{Branch, Jump, JumpTo}
 use Rattle.rv_code.specs.declared.placed.Placed.{Placed}
 use Rattle.rv_code.specs.declared.placed.Func.{Func}
-use Rattle.rv_code.specs.Action.{action_of}
-use Rattle.rv_code.specs.Machine.{plus}
-use Rattle.rv_code.specs.Word.{word}
+use Rattle.rv_code.specs.isa.Action.{action_of}
+use Rattle.rv_code.specs.machine.Machine.{plus}
+use Rattle.rv_code.specs.isa.TwosComplement.{unsigned64}
 
 -- A call is a jump that writes another register than x0: it saves a return address.
 abbrev pub is_call : Action → Bool
@@ -27,8 +27,8 @@ is_branch _ = false
 
 -- where a JAL or a conditional branch at an address goes, if it goes there
 abbrev pub target : ℕ → Action → Option ℕ
-target a (Branch test wanted rs1 rs2 imm) = Some (plus a (word imm))
-target a (Jump rd imm) = Some (plus a (word imm))
+target a (Branch test wanted rs1 rs2 imm) = Some (plus a (unsigned64 imm))
+target a (Jump rd imm) = Some (plus a (unsigned64 imm))
 target a _ = None
 
 -- An instruction falls into the next one unless it jumps and saves nothing, or is a call and the last

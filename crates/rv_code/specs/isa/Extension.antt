@@ -1,7 +1,7 @@
 -- How loads fill a register (ISA manual, sections 2.6 and 4.3).
 use Rattle.std.specs.Prelude.{ℕ}
 use Rattle.std.specs.Int.{w8, w16, w32, cast_signed}
-use Rattle.rv_code.specs.Word.{word}
+use Rattle.rv_code.specs.isa.TwosComplement.{unsigned64}
 use Rattle.rv_code.specs.declared.action.Extension.{Extension}
 use Rattle.rv_code.specs.declared.action.Extension.TheVariants.{Signed8, Signed16, Signed32, Whole64, Zero8, Zero16, Zero32}
 
@@ -17,9 +17,9 @@ bytes_of Zero32 = 4
 
 -- a number of that many bytes as a word: by its sign, or by zeros
 abbrev pub extended : Extension → ℕ → ℕ
-extended Signed8 n = word (cast_signed w8 n)
-extended Signed16 n = word (cast_signed w16 n)
-extended Signed32 n = word (cast_signed w32 n)
+extended Signed8 n = unsigned64 (cast_signed w8 n)
+extended Signed16 n = unsigned64 (cast_signed w16 n)
+extended Signed32 n = unsigned64 (cast_signed w32 n)
 extended Whole64 n = n
 extended Zero8 n = n
 extended Zero16 n = n

@@ -6,9 +6,9 @@ use Rattle.std.specs.Prelude.{ℕ, ◌+◌, ◌*◌, ◌/◌, ◌%◌, ◌^◌, 
 abbrev pub field : ℕ → ℕ → ℕ → ℕ
 field word low width = word / 2 ^ low % 2 ^ width
 
--- a number whose sign bit is worth `half`, as a signed one
+-- a number whose sign bit is worth `weight`, as a signed one
 abbrev pub signed_by : ℕ → ℕ → ℤ
-signed_by half n = if nat_lt n half then pos n else pos n -ℤ pos (2 * half)
+signed_by weight n = if nat_lt n weight then pos n else pos n -ℤ pos (2 * weight)
 
 -- a number with its sign at bit `top`, as a signed one
 abbrev pub signed : ℕ → ℕ → ℤ

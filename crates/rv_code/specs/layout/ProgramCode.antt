@@ -6,7 +6,7 @@ use Rattle.rv_code.specs.declared.placed.Role.TheVariants.{Plain, CallHi, CallLo
 use Rattle.rv_code.specs.declared.cell.CodeCell.{CodeCell}
 use Rattle.rv_code.specs.declared.cell.CellKind.{CellKind}
 use Rattle.rv_code.specs.declared.cell.CellKind.TheVariants.{Abs, Diff}
-use Rattle.rv_code.specs.Flow.{insts_of, placed_at, target_of}
+use Rattle.rv_code.specs.layout.Flow.{insts_of, placed_at, target_of}
 
 -- A role names its target. It doesn't name the AUIPC whose lower part it is.
 abbrev pub RoleNames : Role → ℕ → Type 0
@@ -27,25 +27,25 @@ abbrev pub CellNames : CodeCell → ℕ → Type 0
 CellNames cell a = KindNames cell.kind a
 
 -- The functions of a file, the roles of instructions by their addresses, the code cells, and the entry point.
-pub record Code : Type 0 where
+pub record ProgramCode : Type 0 where
   pub funcs : List Func
   pub roles : List (ℕ × Role)
   pub cells : List CodeCell
   pub entry : ℕ
 
 -- A code address is the start of an instruction of a function.
-abbrev pub is_code : List Func → ℕ → Bool
-is_code funcs a = is_some (placed_at funcs a)
+abbrev pub is_code_address : List Func → ℕ → Bool
+is_code_address funcs a = is_some (placed_at funcs a)
 
 -- a role, a cell or the entry point holds an address
-pub data IsHeld (code : Code) (a : ℕ) : Type 0 where
+pub data IsHeld (code : ProgramCode) (a : ℕ) : Type 0 where
   by_role : Any (λ r. RoleNames r.1 a) code.roles → IsHeld code a
   by_cell : Any (λ c. CellNames c a) code.cells → IsHeld code a
   by_entry : code.entry ≡ a → IsHeld code a
 
 -- A named address is a code address that is held: it can be a value of the program.
-pub record IsNamed (code : Code) (a : ℕ) : Type 0 where
-  pub code_address : IsTrue (is_code code.funcs a)
+pub record IsNamed (code : ProgramCode) (a : ℕ) : Type 0 where
+  pub code_address : IsTrue (is_code_address code.funcs a)
   pub held : IsHeld code a
 
 -- a branch or jump goes to an address

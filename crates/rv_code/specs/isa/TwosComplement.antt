@@ -6,8 +6,8 @@ abbrev pub signed64 : ℕ → ℤ
 signed64 n = cast_signed w64 n
 
 -- a number from -2 ^ 63 up to 2 ^ 64 as a word
-abbrev pub word : ℤ → ℕ
-word z = cast_unsigned w64 z
+abbrev pub unsigned64 : ℤ → ℕ
+unsigned64 z = cast_unsigned w64 z
 
 -- the low 32 bits, and the signed number that they are
 abbrev pub low32 : ℕ → ℕ
@@ -18,4 +18,4 @@ signed32 n = cast_signed w32 (low32 n)
 
 -- the low 32 bits, sign-extended to a word
 abbrev pub sign_extended32 : ℕ → ℕ
-sign_extended32 n = word (signed32 n)
+sign_extended32 n = unsigned64 (signed32 n)

@@ -6,8 +6,8 @@ use Rattle.rv_code.specs.declared.action.Action.TheVariants.{Branch, Jump}
 use Rattle.rv_code.specs.declared.placed.Placed.{Placed}
 use Rattle.rv_code.specs.declared.placed.Func.{Func}
 use Rattle.rv_code.specs.declared.placed.Block.{Block}
-use Rattle.rv_code.specs.Blocks.{inst_at, func_of}
-use Rattle.rv_code.specs.Flow.{action_at, falls_at}
+use Rattle.rv_code.specs.layout.Blocks.{inst_at, func_of}
+use Rattle.rv_code.specs.layout.Flow.{action_at, falls_at}
 
 -- A conditional branch can become a branch over a JAL, a compressed jump (C.J) a JAL. ISA manual, the
 -- chapter on C, "Control Transfer Instructions".

@@ -3,9 +3,9 @@ use Rattle.std.specs.Prelude.{◌≡◌, ◌⊎◌, ℕ, ◌+◌, ◌<◌, ◌�
 use Rattle.rv_code.specs.declared.placed.Placed.{Placed}
 use Rattle.rv_code.specs.declared.placed.Func.{Func}
 use Rattle.rv_code.specs.declared.placed.Block.{Block}
-use Rattle.rv_code.specs.Code.{Code, IsHeld, IsTarget}
-use Rattle.rv_code.specs.Flow.{action_at, is_plain_jump, is_branch}
-use Rattle.rv_code.specs.Lists.{ListsAll}
+use Rattle.rv_code.specs.layout.ProgramCode.{ProgramCode, IsHeld, IsTarget}
+use Rattle.rv_code.specs.layout.Flow.{action_at, is_plain_jump, is_branch}
+use Rattle.rv_code.specs.layout.Lists.{ListsAll}
 
 -- the instruction of a function at a place in its list
 abbrev pub inst_at : Func → ℕ → Option Placed
@@ -22,21 +22,21 @@ EndsBlock p = IsTrue (is_branch (action_at p)) ⊎ IsTrue (is_plain_jump (action
 -- A block begins at the i-th instruction of a function: at the first one; and, unless the function is
 -- whole, at each one to which a branch or jump goes or which a role, a cell or the entry point holds, and at
 -- each one after the end of a block.
-pub data Begins (code : Code) (func : Func) (i : ℕ) : Type 0 where
+pub data Begins (code : ProgramCode) (func : Func) (i : ℕ) : Type 0 where
   at_start : i ≡ 0 → Begins code func i
   named : func.whole ≡ false → IsSomeAnd (inst_at func i) (λ p. IsTarget code.funcs p.addr ⊎ IsHeld code p.addr) →
       Begins code func i
   after_end : func.whole ≡ false → (j : ℕ) → i ≡ j + 1 → IsSomeAnd (inst_at func j) EndsBlock → Begins code func i
 
 -- A block has the instructions from where it begins to before the next beginning, or to its function's end.
-pub record IsBlockOf (code : Code) (func : Func) (first last : ℕ) : Type 0 where
+pub record IsBlockOf (code : ProgramCode) (func : Func) (first last : ℕ) : Type 0 where
   pub begins : Begins code func first
   pub some : first ≤ last
   pub inside : last < length func.insts.items
   pub no_other : (i : ℕ) → first < i → i ≤ last → Begins code func i → ⊥
   pub ends : (last + 1 ≡ length func.insts.items) ⊎ Begins code func (last + 1)
 
-abbrev pub IsBlock : Code → Block → Type 0
+abbrev pub IsBlock : ProgramCode → Block → Type 0
 IsBlock code b = IsSomeAnd (func_of code.funcs b) (λ func. IsBlockOf code func b.first b.last)
 
 -- blocks in order: by function, and by place in it
@@ -44,5 +44,5 @@ abbrev pub IsBefore : Block → Block → Type 0
 IsBefore b c = (b.func < c.func) ⊎ ((b.func ≡ c.func) × (b.first < c.first))
 
 -- the list of all blocks, in order
-abbrev pub AreBlocks : Code → List Block → Type 0
+abbrev pub AreBlocks : ProgramCode → List Block → Type 0
 AreBlocks code blocks = ListsAll (IsBlock code) IsBefore blocks

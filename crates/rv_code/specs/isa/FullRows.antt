@@ -1,6 +1,6 @@
 -- The four-byte instructions: one case a row. ISA manual, chapter "RV32/64G Instruction Set Listings".
 use Rattle.std.specs.Prelude.{◌≡◌, ℕ, ℤ, pos}
-use Rattle.rv_code.specs.Bits.{field, imm_b, imm_i, imm_j, imm_s, imm_u}
+use Rattle.rv_code.specs.isa.Bits.{field, imm_b, imm_i, imm_j, imm_s, imm_u}
 use Rattle.rv_code.specs.declared.inst.Inst.{Inst}
 use Rattle.rv_code.specs.declared.inst.Inst.TheVariants.{Lui, Auipc, Jal, Jalr, Beq, Bne, Blt, Bge, Bltu, Bgeu, Lb, Lh, Lw, Ld, Lbu, Lhu, Lwu, Sb, Sh, Sw, Sd, Addi, Slti, Sltiu, Xori, Ori, Andi, Slli, Srli, Srai, Add, Sub, Sll, Slt, Sltu, Xor, Srl, Sra, Or, And, Fence, Ecall, Ebreak, Addiw, Slliw, Srliw, Sraiw, Addw, Subw, Sllw, Srlw, Sraw, Mul, Mulh, Mulhsu, Mulhu, Div, Divu, Rem, Remu, Mulw, Divw, Divuw, Remw, Remuw}
 

@@ -1,7 +1,7 @@
 -- The two-byte instructions: an enum of rows, the halfwords of a row, and the instruction of each.
 -- ISA manual, chapter "C" Extension for Compressed Instructions, "RVC Instruction Set Listings".
 use Rattle.std.specs.Prelude.{◌≡◌, ◌≢◌, ℕ, ◌+◌, ◌*◌, ◌^◌, pos}
-use Rattle.rv_code.specs.Bits.{field, signed}
+use Rattle.rv_code.specs.isa.Bits.{field, signed}
 use Rattle.rv_code.specs.declared.inst.Inst.{Inst}
 use Rattle.rv_code.specs.declared.inst.Inst.TheVariants.{Lui, Jal, Jalr, Beq, Bne, Lw, Ld, Sw, Sd, Addi, Andi, Slli, Srli, Srai, Add, Sub, Xor, Or, And, Addiw, Addw, Subw, Ebreak}
 

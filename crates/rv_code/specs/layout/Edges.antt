@@ -8,10 +8,10 @@ use Rattle.rv_code.specs.declared.placed.Func.{Func}
 use Rattle.rv_code.specs.declared.placed.Block.{Block}
 use Rattle.rv_code.specs.declared.placed.Role.TheVariants.{Plain}
 use Rattle.rv_code.specs.declared.cell.CodeCell.{CodeCell}
-use Rattle.rv_code.specs.Blocks.{inst_at, func_of, EndsBlock}
-use Rattle.rv_code.specs.Code.{CellNames}
-use Rattle.rv_code.specs.Flow.{action_at, target_of, falls_at}
-use Rattle.rv_code.specs.Lists.{ListsPairs}
+use Rattle.rv_code.specs.layout.Blocks.{inst_at, func_of, EndsBlock}
+use Rattle.rv_code.specs.layout.ProgramCode.{CellNames}
+use Rattle.rv_code.specs.layout.Flow.{action_at, target_of, falls_at}
+use Rattle.rv_code.specs.layout.Lists.{ListsPairs}
 
 -- Indirect jumps.
 

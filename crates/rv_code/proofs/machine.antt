@@ -1,0 +1,3 @@
+pub mod LowBytes
+pub mod RelatedMemory
+pub mod Runs

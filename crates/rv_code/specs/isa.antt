@@ -1,0 +1,11 @@
+pub mod Action
+pub mod Bits
+pub mod Decoding
+pub mod Extension
+pub mod FullRows
+pub mod HalfRows
+pub mod HiLo
+pub mod Op
+pub mod Reach
+pub mod TwosComplement
+pub mod Value

@@ -1,0 +1,6 @@
+pub mod Blocks
+pub mod Edges
+pub mod Flow
+pub mod Lists
+pub mod ProgramCode
+pub mod WorstSizes
