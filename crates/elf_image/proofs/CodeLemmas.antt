@@ -4,11 +4,12 @@ use Rattle.std.specs.List.{starts_with}
 use Rattle.std.proofs.lemmas.Bool.{cases_lt, cases_order}
 use Rattle.std.proofs.lemmas.Option.{slice_get_cases}
 use Rattle.elf_image.specs.declared.elf.Section.{Section}
-use Rattle.elf_image.specs.Header.{segment, segment_place, e_phnum, e_shnum}
-use Rattle.elf_image.specs.Loading.{IsCode, IsSecondCode, IsTooMany, IsOneTooMany, IsLowestCode, IsLowestCodeBelow, HasOldSection, IsCrossed}
-use Rattle.elf_image.specs.Lowest.{IsLowest, SomeBelow}
-use Rattle.elf_image.specs.Read.{AreSections}
-use Rattle.elf_image.specs.Sections.{section_name}
+use Rattle.elf_image.specs.declared.segment.Segment.{Segment}
+use Rattle.elf_image.specs.file.Header.{segment, segment_place, e_phnum, e_shnum}
+use Rattle.elf_image.specs.faults.SegmentLayout.{IsCode, IsSecondCode, IsTooMany, IsOneTooMany, IsLowestCode, IsLowestCodeBelow, HasOldSection, IsCrossed, CrossesEnd}
+use Rattle.elf_image.specs.faults.LowestPlace.{IsLowest, SomeBelow}
+use Rattle.elf_image.specs.file.ParsedFile.{AreSections}
+use Rattle.elf_image.specs.file.Sections.{section_name}
 use Rattle.elf_image.proofs.LowestPlaces.{IsLowest-same, IsLowest-none}
 use Rattle.elf_image.proofs.SectionLemmas.{section-at}
 
@@ -137,3 +138,28 @@ crosses_nothing file none =
     (λ p. ⊎_elim
     (λ (i, below, ((code, lowest, before, after), at)). none code lowest.0)
     (λ ((code, lowest, before, after), at). none code lowest.0))
+
+-- there is one lowest executable segment
+lowest_code_same : (file : List ℕ) (c d : ℕ) → IsLowestCode file c → IsLowestCode file d → c ≡ d
+lowest_code_same file c d (code_c, least_c) (code_d, least_d) =
+    let to_d = least_c d code_d code_d.0 in
+    let to_c = least_d c code_c code_c.0 in
+    ⊎_elim
+    (λ less. ⊎_elim (λ more. absurd (omega arith)) (λ (same, at). absurd (omega arith)) to_c)
+    (λ (same, at). ⊎_elim (λ more. absurd (omega arith)) (λ (same', at'). omega arith) to_c)
+    to_d
+
+-- whether a range crosses the end of a segment that is the lowest executable one
+pub CrossesEnd-of : (file : List ℕ) (code offset size : ℕ) (p : Segment) (crosses : Bool) → IsLowestCode file code →
+    p ≡ segment file code →
+    IsTrue crosses ↔ ((offset < p.offset + p.filesz) × (p.offset + p.filesz < offset + size)) →
+    IsTrue crosses ↔ CrossesEnd file offset size
+CrossesEnd-of file code offset size p crosses lowest same test =
+    let Starts : Segment → Type 0 = λ q. offset < q.offset + q.filesz in
+    let Ends : Segment → Type 0 = λ q. q.offset + q.filesz < offset + size in (
+      λ is. let both = test.0 is in (code, lowest, subst Starts same both.0, subst Ends same both.1),
+      λ (c, lowest_c, starts, ends).
+          let one : segment file c ≡ p =
+          ap (λ (i : ℕ). segment file i) (lowest_code_same file c code lowest_c lowest) ∙ sym same in
+          test.1 (subst Starts one starts, subst Ends one ends),
+    )

@@ -5,7 +5,8 @@ use Rattle.std.proofs.lemmas.Bool.{ltb-true, ltb-false}
 use Rattle.std.proofs.lemmas.List.Elements.{Contains-append_left, Contains-append_right, Contains-append_cases}
 use Rattle.elf_image.specs.declared.elf.Section.{Section}
 use Rattle.elf_image.specs.declared.elf.Symbol.{Symbol}
-use Rattle.elf_image.specs.Cuts.{names_function, holds_code, IsBound, IsCutAddress, bounds, bounds_of_symbol, bounds_of_section, symbol_bounds, section_bounds}
+use Rattle.elf_image.specs.code.Cuts.{names_function, holds_code, IsBound, IsCutAddress}
+use Rattle.elf_image.specs.internal.CutLists.{bounds, bounds_of_symbol, bounds_of_section, symbol_bounds, section_bounds}
 use Rattle.elf_image.proofs.LoadLemmas.{Contains-cons_cases}
 
 -- the members of a list of lists

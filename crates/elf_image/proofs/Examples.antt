@@ -1,9 +1,9 @@
 -- Types of relocations, the executable segment and the break, on small examples: each equation holds by computing.
 use Rattle.std.specs.Prelude.{◌≡◌, ℕ, [], ◌∷◌, Some, None, true, false, refl}
 use Rattle.elf_image.specs.declared.segment.Segment.{Segment}
-use Rattle.elf_image.specs.CodeSegment.{executable_segment, executable_end}
-use Rattle.elf_image.specs.Relocations.{is_supported, Bits, Uleb128, plus_width, minus_width}
-use Rattle.elf_image.specs.Start.{break_start, break_bound}
+use Rattle.elf_image.specs.memory.CodeSegment.{executable_segment, executable_end}
+use Rattle.elf_image.specs.code.Relocations.{is_supported, Bits, Uleb128, plus_width, minus_width}
+use Rattle.elf_image.specs.memory.Start.{break_start, break_bound}
 
 -- Types of relocations.
 

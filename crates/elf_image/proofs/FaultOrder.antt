@@ -7,9 +7,9 @@ use Rattle.rb_bytes.specs.Fault.{number_of, fault_at}
 use Rattle.rb_bytes.specs.declared.fault.Fault.{Fault}
 use Rattle.rb_bytes.specs.declared.fault.FaultKind.{FaultKind}
 use Rattle.rb_bytes.specs.declared.fault.FaultKind.TheVariants.{NotElf, Truncated, Flags, NotStatic, ExecSegments, WritableCode, HighAddress, CompressedSection, RelocType, RelocMismatch, LoMismatch, NarrowDiff, IfuncOrPlt, AlreadyMoved, BadEntry}
-use Rattle.elf_image.specs.Answered.{LacksBelow, IsAnswered}
-use Rattle.elf_image.specs.Lowest.{IsLowest}
-use Rattle.elf_image.specs.Present.{HasFault, IsSound}
+use Rattle.elf_image.specs.faults.FirstFault.{LacksBelow, IsAnswered}
+use Rattle.elf_image.specs.faults.LowestPlace.{IsLowest}
+use Rattle.elf_image.specs.faults.FileFaults.{HasFault, IsSound}
 
 -- the kind of a number below 16, which two kinds share
 numbered : ℕ → FaultKind

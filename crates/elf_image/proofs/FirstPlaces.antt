@@ -1,7 +1,7 @@
 -- The lowest place where a condition holds of a first index.
 use Rattle.std.proofs.Common.{◌≡◌, ℕ, ◌≤◌, ◌<◌, ⊎_elim, Some, None, arith, refl}
 use Rattle.std.proofs.lemmas.Bool.{cases_lt}
-use Rattle.elf_image.specs.Lowest.{IsLowest, SomeBelow}
+use Rattle.elf_image.specs.faults.LowestPlace.{IsLowest, SomeBelow}
 use Rattle.elf_image.proofs.LowestPlaces.{IsLowest-none}
 
 -- places that rise with the index

@@ -1,17 +1,18 @@
-mod Examples
 pub mod CodeLemmas
 pub mod CutLists
+mod Examples
+pub mod ExtentLemmas
 pub mod FaultOrder
 pub mod FirstPlaces
+pub mod Folds
 pub mod LoadLemmas
 pub mod LowSegments
 pub mod LowestPlaces
 pub mod Patches
+pub mod ReachLemmas
 pub mod ReadLists
 pub mod ReadableFiles
+pub mod SectionLemmas
+pub mod SegmentExtentLemmas
 pub mod TruncatedPlaces
 pub mod ZeroPlaces
-pub mod ReachLemmas
-pub mod SectionLemmas
-pub mod SegmentSpanLemmas
-pub mod SpanLemmas

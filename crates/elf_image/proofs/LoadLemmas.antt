@@ -7,7 +7,7 @@ use Rattle.std.proofs.lemmas.List.{get_or_default}
 use Rattle.std.proofs.lemmas.List.Elements.{All-same, filter_passes, Contains-get_or}
 use Rattle.std.proofs.lemmas.List.Sorted.{All-permutation, Contains-permutation, IsPermutation-sym}
 use Rattle.elf_image.specs.declared.segment.Segment.{Segment}
-use Rattle.elf_image.specs.Image.{is_load, end_of, has_memory, loads_address, segment_of, LoadOnce}
+use Rattle.elf_image.specs.memory.Image.{is_load, end_of, has_memory, loads_address, segment_of, LoadOnce}
 
 -- an element of a list is its head or stands in the rest
 pub Contains-cons_cases : {X : Type 0} (y : X) (ys : List X) (x : X) → Contains (y ∷ ys) x → (y ≡ x) ⊎ Contains ys x

@@ -5,11 +5,11 @@ use Rattle.std.proofs.lemmas.Bool.{and_parts, and_from, ltb-true, le-leb, lt-ltb
 use Rattle.rb_bytes.specs.declared.fault.FaultKind.TheVariants.{HighAddress}
 use Rattle.elf_image.specs.declared.segment.Segment.{Segment}
 use Rattle.elf_image.specs.declared.segment.TheConstants.{PF_W}
-use Rattle.elf_image.specs.Header.{segment, segments_of}
-use Rattle.elf_image.specs.Image.{is_load, has_memory, has_flag, end_of, loads_address}
-use Rattle.elf_image.specs.Loading.{address_end}
-use Rattle.elf_image.specs.Present.{IsSound}
-use Rattle.elf_image.specs.Start.{writable_end}
+use Rattle.elf_image.specs.file.Header.{segment, segments_of}
+use Rattle.elf_image.specs.memory.Image.{is_load, has_memory, has_flag, end_of, loads_address}
+use Rattle.elf_image.specs.faults.SegmentLayout.{address_end}
+use Rattle.elf_image.specs.faults.FileFaults.{IsSound}
+use Rattle.elf_image.specs.memory.Start.{writable_end}
 use Rattle.elf_image.proofs.LoadLemmas.{Contains-there}
 use Rattle.elf_image.proofs.ReadLists.{get_or-segments}
 

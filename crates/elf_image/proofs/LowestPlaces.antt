@@ -1,7 +1,7 @@
 -- The lowest place of a set that is made of other sets.
 use Rattle.std.proofs.Common.{◌≡◌, subst, ℕ, ◌+◌, ◌≤◌, ◌<◌, ◌⊎◌, inl, inr, Bool, true, false, Option, Some, None, min, IfSome, IsSomeAnd, ⊎_elim, if◌then◌else◌, IsTrue, ◌↔◌, sym, not, arith, rules, refl}
 use Rattle.std.proofs.lemmas.Bool.{cases_lt}
-use Rattle.elf_image.specs.Lowest.{IsLowest, lower, SomeBelow}
+use Rattle.elf_image.specs.faults.LowestPlace.{IsLowest, lower, SomeBelow}
 
 -- a set with the same places
 pub IsLowest-same : {P Q : ℕ → Type 0} (o : Option ℕ) → ((p : ℕ) → P p → Q p) → ((p : ℕ) → Q p → P p) → IsLowest P o → IsLowest Q o
@@ -33,12 +33,12 @@ lower-present P Q (Some a) (Some b) left right =
     (cases_lt a b)
 
 -- below a place that is at or above one of two is the lower of them
-least_left : (a b : Option ℕ) (p : ℕ) → IsSomeAnd a (λ l. l ≤ p) → IsSomeAnd (lower a b) (λ l. l ≤ p)
+pub least_left : (a b : Option ℕ) (p : ℕ) → IsSomeAnd a (λ l. l ≤ p) → IsSomeAnd (lower a b) (λ l. l ≤ p)
 least_left None b p is = absurd is
 least_left (Some a) None p is = is
 least_left (Some a) (Some b) p is = let below : a ≤ p = is in omega arith
 
-least_right : (a b : Option ℕ) (p : ℕ) → IsSomeAnd b (λ l. l ≤ p) → IsSomeAnd (lower a b) (λ l. l ≤ p)
+pub least_right : (a b : Option ℕ) (p : ℕ) → IsSomeAnd b (λ l. l ≤ p) → IsSomeAnd (lower a b) (λ l. l ≤ p)
 least_right None b p is = is
 least_right (Some a) None p is = absurd is
 least_right (Some a) (Some b) p is = let below : b ≤ p = is in omega arith

@@ -5,8 +5,8 @@ use Rattle.std.proofs.lemmas.List.{get_or-drop, get_or-take, get_or_append_left,
 use Rattle.std.proofs.Math.Seq.{drop-append_seam}
 use Rattle.byteorder.specs.Endian.{little_from, little_number, little_bytes}
 use Rattle.byteorder.specs.Numbers.{length-bytes_low_first, little_number-reads_back}
-use Rattle.elf_image.specs.Header.{number_at}
-use Rattle.elf_image.specs.Patched.{patched_number}
+use Rattle.elf_image.specs.file.Header.{number_at}
+use Rattle.elf_image.specs.file.Patches.{patched_number}
 
 -- a write at the front of what follows a place
 pub patched_at : (a n : ℕ) (xs bytes : List ℕ) → take a xs ++ ((bytes ++ drop n (take (length xs - a) (drop a xs))) ++ drop (length xs - a) (drop a xs)) ≡ take a xs ++ (bytes ++ drop (a + n) xs)

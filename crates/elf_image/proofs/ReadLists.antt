@@ -6,14 +6,14 @@ use Rattle.elf_image.specs.declared.elf.Section.{Section}
 use Rattle.elf_image.specs.declared.elf.Symbol.{Symbol}
 use Rattle.elf_image.specs.declared.section.SectionHeader.{SectionHeader}
 use Rattle.elf_image.specs.declared.segment.TheConstants.{PHDR_SIZE}
-use Rattle.elf_image.specs.Header.{e_phoff, e_phnum, segment, segment_at, segment_place, segments_from, segments_of}
-use Rattle.elf_image.specs.Image.{loads_address, LoadOnce}
-use Rattle.elf_image.specs.Loading.{SharesAddress}
-use Rattle.elf_image.specs.Lowest.{SomeBelow}
+use Rattle.elf_image.specs.file.Header.{e_phoff, e_phnum, segment, segment_at, segment_place, segments_from, segments_of}
+use Rattle.elf_image.specs.memory.Image.{loads_address, LoadOnce}
+use Rattle.elf_image.specs.faults.SegmentLayout.{SharesAddress}
+use Rattle.elf_image.specs.faults.LowestPlace.{SomeBelow}
 use Rattle.elf_image.specs.declared.segment.Segment.{Segment}
 use Rattle.std.proofs.lemmas.Bool.Decides.{eqb_tells}
-use Rattle.elf_image.specs.Read.{IsSectionAt, IsSymbolAt, AreSections, AreSymbols}
-use Rattle.elf_image.specs.Symbols.{symbol_place}
+use Rattle.elf_image.specs.file.ParsedFile.{IsSectionAt, IsSymbolAt, AreSections, AreSymbols}
+use Rattle.elf_image.specs.file.Symbols.{symbol_place}
 
 pub segments_from-none : (file : List ℕ) (o : ℕ) → [] ≡ segments_from file o 0
 unfolding segments_from

@@ -6,11 +6,11 @@ use Rattle.std.specs.Prelude.{◌==◌}
 use Rattle.elf_image.specs.declared.section.SectionHeader.{SectionHeader}
 use Rattle.elf_image.specs.declared.section.TheConstants.{SHT_NOBITS, SHT_SYMTAB}
 use Rattle.elf_image.specs.declared.segment.TheConstants.{PT_LOAD}
-use Rattle.elf_image.specs.Truncated.{IsWhole, HasHeader, HasSegments, HasSections, HasContents, HasSymbolNames, IsTruncated, IsTruncatedBeyond, IsReadable}
-use Rattle.elf_image.specs.Header.{e_phnum, e_shnum, e_shstrndx, e_phoff, e_shoff, segment}
-use Rattle.elf_image.specs.Sections.{section_header}
+use Rattle.elf_image.specs.faults.Truncation.{IsWhole, HasHeader, HasSegments, HasSections, HasContents, HasSymbolNames, IsTruncated, IsTruncatedBeyond, IsReadable}
+use Rattle.elf_image.specs.file.Header.{e_phnum, e_shnum, e_shstrndx, e_phoff, e_shoff, segment}
+use Rattle.elf_image.specs.file.Sections.{section_header}
 use Rattle.elf_image.proofs.TruncatedPlaces.{symbol_table_from}
-use Rattle.elf_image.specs.Lowest.{IsLowest}
+use Rattle.elf_image.specs.faults.LowestPlace.{IsLowest}
 
 -- whether a range is whole is a test, so that it is whole if it can't be truncated
 IsWhole-stable : (file : List ℕ) (offset size : ℕ) → ((IsWhole file offset size → ⊥) → ⊥) → IsWhole file offset size

@@ -2,11 +2,12 @@
 use Rattle.std.proofs.Common.{◌≡◌, ◌≢◌, ◌∙◌, sym, inl, inr, ⊎_elim, zero, ◌≤◌, ◌<◌, ◌+◌, ◌-◌, ℕ, suc, List, Bool, true, false, Option, Some, None, nat_le, if◌then◌else◌, subst, ap, arith}
 use Rattle.std.proofs.lemmas.Bool.{eq-eqb}
 use Rattle.std.proofs.lemmas.Bool.Decides.{nat_tests, eqb_tells}
-use Rattle.elf_image.specs.Truncated.{HasSymbolNames, IsUnnamedSymbol, IsUnnamedSymbolOf, HasHeader, IsTruncatedBeyond, IsTruncated}
-use Rattle.elf_image.specs.Texts.{IsUnended, IsLastEnd}
-use Rattle.elf_image.specs.Lowest.{IsLowest, SomeBelow}
-use Rattle.elf_image.specs.Sections.{section_header}
-use Rattle.elf_image.specs.Symbols.{symbol_count}
+use Rattle.elf_image.specs.faults.Truncation.{HasSymbolNames, IsUnnamedSymbol, IsUnnamedSymbolOf, HasHeader, IsTruncatedBeyond, IsTruncated}
+use Rattle.elf_image.specs.file.StringTables.{IsUnended}
+use Rattle.elf_image.specs.internal.TextEnds.{IsLastEnd}
+use Rattle.elf_image.specs.faults.LowestPlace.{IsLowest, SomeBelow}
+use Rattle.elf_image.specs.file.Sections.{section_header}
+use Rattle.elf_image.specs.file.Symbols.{symbol_count}
 use Rattle.elf_image.specs.declared.section.SectionHeader.{SectionHeader}
 use Rattle.elf_image.specs.declared.section.TheConstants.{SHT_SYMTAB}
 use Rattle.elf_image.proofs.LowestPlaces.{IsLowest-place, IsLowest-same, IsLowest-none}

@@ -7,8 +7,8 @@ use Rattle.std.proofs.lemmas.List.{get_or-drop}
 use Rattle.std.proofs.lemmas.List.Sums.{prefix_len_is}
 use Rattle.std.specs.Prelude.{◌==◌}
 use Rattle.memchr.specs.Find.{Passes, places_from, places, is_byte}
-use Rattle.elf_image.specs.Sections.{text_of}
-use Rattle.elf_image.specs.Texts.{IsTextEnd}
+use Rattle.elf_image.specs.file.Sections.{text_of}
+use Rattle.elf_image.specs.internal.TextEnds.{IsTextEnd}
 use Rattle.std.specs.List.{prefix_len}
 use Rattle.std.specs.List.Sorted.{IsPartitionPoint, IsPartitionedBy}
 use Rattle.std.proofs.lemmas.List.Sorted.{IsPartitionedBy-ltb}

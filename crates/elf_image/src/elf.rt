@@ -1,12 +1,13 @@
 // A file that was read.
-ghost use Rattle.std.specs.Prelude.{ℕ, ◌≡◌, All, IsTrue};
+ghost use Rattle.std.specs.Prelude.{ℕ, ◌≡◌, ◌<◌, ◌≤◌, ◌+◌, All, IsTrue, length};
 ghost use Rattle.std.specs.List.Sorted.{IsNonDecreasingBy};
-ghost use Rattle.elf_image.specs.Image.{has_memory, segment_of, LoadOnce};
+ghost use Rattle.elf_image.specs.memory.Image.{has_memory, segment_of, LoadOnce};
+ghost use Rattle.elf_image.specs.declared.relocation.TheConstants.{SHT_RELA};
 
-use crate::image::segments_by_address;
+use crate::number::is_set;
+use crate::section::{SHF_ALLOC, SHF_COMPRESSED, SHF_EXECINSTR};
 use crate::segment::Segment;
-use rb_bytes::fault::NoMemory;
-use std::alloc::Global;
+use crate::symbol::STT_FUNC;
 
 /// A section. Offsets and sizes are in bytes. gABI, "Section Header".
 #[derive(Clone, Copy, PartialEq, Eq, Debug)]
@@ -33,6 +34,33 @@ pub struct Section<'a> {
     pub entsize: u64,
 }
 
+impl<'a> Section<'a> {
+    ghost use Rattle.elf_image.specs.code.Cuts.{holds_code};
+    ghost use Rattle.elf_image.specs.faults.FileFaults.{is_compressed};
+    ghost use Rattle.elf_image.specs.file.SectionNames.{is_loaded};
+
+    /// Whether the section is loaded.
+    pub fn is_loaded(&self) -> bool
+        ensures { result ≡ is_loaded self.now }
+    {
+        is_set(self.flags, SHF_ALLOC)
+    }
+
+    /// Whether the section holds instructions.
+    pub fn holds_code(&self) -> bool
+        ensures { result ≡ holds_code self.now }
+    {
+        is_set(self.flags, SHF_EXECINSTR)
+    }
+
+    /// Whether its contents are compressed, by its flags or its name.
+    pub fn is_compressed(&self) -> bool
+        ensures { result ≡ is_compressed self.now.flags self.now.name.now }
+    {
+        is_set(self.flags, SHF_COMPRESSED) || self.name.starts_with(b".zdebug")
+    }
+}
+
 /// A symbol of the symbol table. gABI, "Symbol Table".
 #[derive(Clone, Copy, PartialEq, Eq, Debug)]
 pub struct Symbol<'a> {
@@ -48,6 +76,17 @@ pub struct Symbol<'a> {
     pub other: u8,
     /// `st_shndx`: the index of its section.
     pub section: u16,
+}
+
+impl<'a> Symbol<'a> {
+    ghost use Rattle.elf_image.specs.code.Cuts.{names_function};
+
+    /// Whether the symbol names a function.
+    pub fn names_function(&self) -> bool
+        ensures { result ≡ names_function self.now }
+    {
+        self.info % 16 == STT_FUNC
+    }
 }
 
 /// An ELF file: its bytes, and what its headers and its symbol table say.
@@ -69,41 +108,5 @@ pub struct Elf<'a> {
     ghost loaded: { All (λ p. IsTrue (has_memory p)) loads.items },
     ghost once: { LoadOnce loads.items },
     ghost same: { (a : ℕ) → segment_of loads.items a ≡ segment_of segments.items a },
-}
-
-impl<'a> Elf<'a> {
-    ghost use Rattle.std.specs.Prelude.{IfOk};
-
-    /// A file with these headers. No two different segments may load one address.
-    pub(crate) fn new(
-        alloc: Global,
-        file: &'a [u8],
-        flags: u32,
-        entry: u64,
-        phoff: u64,
-        sections: Vec<Section<'a>>,
-        segments: Vec<Segment>,
-        symbols: Vec<Symbol<'a>>,
-    ) -> Result<Elf<'a>, NoMemory>
-        requires { LoadOnce segments.items }
-        ensures file { IfOk result (λ elf. elf.file.now ≡ file.now) }
-        ensures flags { IfOk result (λ elf. elf.flags ≡ flags) }
-        ensures entry { IfOk result (λ elf. elf.entry ≡ entry) }
-        ensures phoff { IfOk result (λ elf. elf.phoff ≡ phoff) }
-        ensures sections { IfOk result (λ elf. elf.sections.items ≡ sections.entry.items) }
-        ensures segments { IfOk result (λ elf. elf.segments.items ≡ segments.items) }
-        ensures symbols { IfOk result (λ elf. elf.symbols.items ≡ symbols.entry.items) }
-    {
-        let loads = segments_by_address(alloc, &segments)?;
-        Ok(Elf {
-            file,
-            flags,
-            entry,
-            phoff,
-            sections,
-            segments,
-            symbols,
-            loads,
-        })
-    }
+    pub ghost tables: { All (λ s. s.kind ≡ SHT_RELA → 0 < s.size → s.offset + s.size ≤ length file.now) sections.items },
 }

@@ -1,10 +1,10 @@
 // Entries of a file's tables by their indices: program headers, section headers and symbols. gABI, "Program
 // Header", "Section Header" and "Symbol Table".
-ghost use Rattle.std.specs.Prelude.{◌≡◌, ◌<◌, ◌↔◌, IfSome, IsTrue};
-ghost use Rattle.elf_image.specs.Truncated.{HasHeader, HasSegments, HasSections, HasContents};
-ghost use Rattle.elf_image.specs.Header.{e_phnum, e_shnum, segment, segment_place};
-ghost use Rattle.elf_image.specs.Sections.{section_header, section_place};
-ghost use Rattle.elf_image.specs.Symbols.{symbol_table, symbol_count};
+ghost use Rattle.std.specs.Prelude.{◌≡◌, ◌≤◌, ◌<◌, ◌↔◌, IfSome, IsTrue, length};
+ghost use Rattle.elf_image.specs.file.Header.{e_phnum, e_shnum, segment_place};
+ghost use Rattle.elf_image.specs.file.Sections.{section_place};
+ghost use Rattle.elf_image.specs.faults.Truncation.{HasHeader, HasSegments, HasSections, HasContents};
+ghost use Rattle.elf_image.specs.file.Symbols.{symbol_table, symbol_count};
 
 use crate::header::{e_phnum, e_phoff, e_shnum, e_shoff};
 use crate::range::is_whole;
@@ -28,44 +28,66 @@ pub fn has_sections(file: &[u8]) -> bool
     is_whole(file, e_shoff(file), SHDR_SIZE as u64 * e_shnum(file) as u64)
 }
 
-/// Where the program header of an index stands.
-pub fn segment_place(file: &[u8], index: u16) -> u64
-    requires header { HasHeader file.now }
-    requires whole { HasSegments file.now }
-    requires index { index < e_phnum file.now }
-    ensures { result ≡ segment_place file.now index }
-{
-    e_phoff(file) + PHDR_SIZE as u64 * index as u64
+/// The table of program headers of a file in which it lies whole.
+#[derive(Clone, Copy)]
+pub struct SegmentTable<'a> {
+    pub file: &'a [u8],
+    ghost header: { HasHeader file.now },
+    ghost whole: { 0 < e_phnum file.now → segment_place file.now (e_phnum file.now) ≤ length file.now },
 }
 
-/// The program header of an index.
-pub fn segment_of(file: &[u8], index: u16) -> Segment
-    requires header { HasHeader file.now }
-    requires whole { HasSegments file.now }
-    requires index { index < e_phnum file.now }
-    ensures { result ≡ segment file.now index }
-{
-    Segment::at(file, e_phoff(file) as usize + PHDR_SIZE * index as usize)
+impl<'a> SegmentTable<'a> {
+    ghost use Rattle.elf_image.specs.file.Header.{segment};
+
+    /// Where the program header of an index stands.
+    pub fn segment_place(self, index: u16) -> u64
+        requires { index < e_phnum self.file.now }
+        ensures { result ≡ segment_place self.entry.file.now index }
+    {
+        e_phoff(self.file) + PHDR_SIZE as u64 * index as u64
+    }
+
+    /// The program header of an index.
+    pub fn segment_of(self, index: u16) -> Segment
+        requires { index < e_phnum self.file.now }
+        ensures { result ≡ segment self.entry.file.now index }
+    {
+        Segment::at(
+            self.file,
+            e_phoff(self.file) as usize + PHDR_SIZE * index as usize,
+        )
+    }
 }
 
-/// Where the section header of an index stands.
-pub fn section_place(file: &[u8], index: u16) -> u64
-    requires header { HasHeader file.now }
-    requires whole { HasSections file.now }
-    requires index { index < e_shnum file.now }
-    ensures { result ≡ section_place file.now index }
-{
-    e_shoff(file) + SHDR_SIZE as u64 * index as u64
+/// The table of section headers of a file in which it lies whole.
+#[derive(Clone, Copy)]
+pub struct SectionTable<'a> {
+    pub file: &'a [u8],
+    ghost header: { HasHeader file.now },
+    ghost whole: { 0 < e_shnum file.now → section_place file.now (e_shnum file.now) ≤ length file.now },
 }
 
-/// The section header of an index.
-pub fn section_of(file: &[u8], index: u16) -> SectionHeader
-    requires header { HasHeader file.now }
-    requires whole { HasSections file.now }
-    requires index { index < e_shnum file.now }
-    ensures { result ≡ section_header file.now index }
-{
-    SectionHeader::at(file, e_shoff(file) as usize + SHDR_SIZE * index as usize)
+impl<'a> SectionTable<'a> {
+    ghost use Rattle.elf_image.specs.file.Sections.{section_header};
+
+    /// Where the section header of an index stands.
+    pub fn section_place(self, index: u16) -> u64
+        requires { index < e_shnum self.file.now }
+        ensures { result ≡ section_place self.entry.file.now index }
+    {
+        e_shoff(self.file) + SHDR_SIZE as u64 * index as u64
+    }
+
+    /// The section header of an index.
+    pub fn section_of(self, index: u16) -> SectionHeader
+        requires { index < e_shnum self.file.now }
+        ensures { result ≡ section_header self.entry.file.now index }
+    {
+        SectionHeader::at(
+            self.file,
+            e_shoff(self.file) as usize + SHDR_SIZE * index as usize,
+        )
+    }
 }
 
 /// Whether the contents of a section lie whole in the file.
@@ -76,14 +98,12 @@ pub fn has_contents(file: &[u8], section: &SectionHeader) -> bool
 }
 
 /// The first section that is a symbol table.
-pub fn symbol_table(file: &[u8]) -> Option<SectionHeader>
-    requires header { HasHeader file.now }
-    requires whole { HasSections file.now }
-    ensures first { result ≡ symbol_table file.now }
+pub fn symbol_table(headers: SectionTable) -> Option<SectionHeader>
+    ensures first { result ≡ symbol_table headers.entry.file.now }
     ensures kind { IfSome result (λ table. table.kind ≡ SHT_SYMTAB) }
 {
-    for index in 0..e_shnum(file) {
-        let section = section_of(file, index);
+    for index in 0..e_shnum(headers.file) {
+        let section = headers.section_of(index);
         if section.kind == SHT_SYMTAB {
             return Some(section);
         }

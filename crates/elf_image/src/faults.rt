@@ -2,27 +2,34 @@
 ghost use Rattle.std.specs.Prelude.{◌≡◌, MatchOption, OnOk, IfErr};
 ghost use Rattle.rb_bytes.specs.Fault.{fault_at};
 ghost use Rattle.rb_bytes.specs.declared.fault.FaultKind.TheVariants as kind;
-ghost use Rattle.elf_image.specs.Answered.{LacksBelow};
-ghost use Rattle.elf_image.specs.Truncated.{IsReadable};
-ghost use Rattle.elf_image.specs.Header.{e_shnum};
-ghost use Rattle.elf_image.specs.Lowest.{IsLowest};
-ghost use Rattle.elf_image.specs.Present.{HasFault, IsFault, IsRefusal};
-ghost use Rattle.elf_image.specs.Read.{AreSections};
+ghost use Rattle.elf_image.specs.faults.FirstFault.{LacksBelow};
+ghost use Rattle.elf_image.specs.faults.Truncation.{IsReadable};
+ghost use Rattle.elf_image.specs.file.Header.{e_shnum};
+ghost use Rattle.elf_image.specs.faults.LowestPlace.{IsLowest};
+ghost use Rattle.elf_image.specs.faults.FileFaults.{HasFault, IsFirstFault, IsRefusal};
+ghost use Rattle.elf_image.specs.file.ParsedFile.{AreSections};
 
-use crate::checks::{
+pub mod checks;
+pub mod loading;
+pub mod overlap;
+pub mod stray;
+pub mod truncated;
+
+use crate::elf::Section;
+use crate::entries::SegmentTable;
+use crate::faults::checks::{
     lowest_compressed, lowest_high_address, lowest_not_static, lowest_other_flags,
     lowest_writable_code,
 };
-use crate::elf::Section;
+use crate::faults::loading::lowest_bad_loading;
+use crate::faults::truncated::lowest_truncated;
 use crate::header::is_elf;
-use crate::loading::lowest_bad_loading;
 use crate::lowest::place_if;
-use crate::truncated::lowest_truncated;
 use rb_bytes::fault::{Fault, FaultKind, Refusal};
 use std::alloc::Global;
 
-// A fault of a kind, if there is a place of it.
-fn refuse_at(kind: FaultKind, lowest: Option<u64>) -> Result<(), Fault>
+/// A fault of a kind, if there is a place of it.
+pub fn refuse_at(kind: FaultKind, lowest: Option<u64>) -> Result<(), Fault>
     ensures { MatchOption lowest (result ≡ Ok (record {})) (λ place. result ≡ Err (fault_at kind place)) }
 {
     match lowest {
@@ -42,12 +49,15 @@ fn lowest_not_elf(file: &[u8]) -> Option<u64>
 pub fn check_structure(file: &[u8]) -> Result<(), Fault>
     ensures readable { OnOk result (IsReadable file.now) }
     ensures lacks { OnOk result (LacksBelow (HasFault file.now) 5) }
-    ensures fault { IfErr result (IsFault file.now) }
+    ensures fault { IfErr result (IsFirstFault file.now) }
 {
     refuse_at(FaultKind::NotElf, lowest_not_elf(file))?;
     refuse_at(FaultKind::Truncated, lowest_truncated(file))?;
     refuse_at(FaultKind::Flags, lowest_other_flags(file))?;
-    refuse_at(FaultKind::NotStatic, lowest_not_static(file))
+    refuse_at(
+        FaultKind::NotStatic,
+        lowest_not_static(SegmentTable { file }),
+    )
 }
 
 // The faults of the layout, in a file without the others. `loading` is the lowest place where
@@ -58,11 +68,12 @@ fn check_places(file: &[u8], sections: &[Section], loading: Option<u64>) -> Resu
     requires sections { AreSections file.now (e_shnum file.now) sections.now }
     requires loading { IsLowest (HasFault file.now kind.ExecSegments) loading }
     ensures lacks { OnOk result (LacksBelow (HasFault file.now) 9) }
-    ensures fault { IfErr result (IsFault file.now) }
+    ensures fault { IfErr result (IsFirstFault file.now) }
 {
+    let segments = SegmentTable { file };
     refuse_at(FaultKind::ExecSegments, loading)?;
-    refuse_at(FaultKind::WritableCode, lowest_writable_code(file))?;
-    refuse_at(FaultKind::HighAddress, lowest_high_address(file))?;
+    refuse_at(FaultKind::WritableCode, lowest_writable_code(segments))?;
+    refuse_at(FaultKind::HighAddress, lowest_high_address(segments))?;
     refuse_at(FaultKind::CompressedSection, lowest_compressed(sections))
 }
 

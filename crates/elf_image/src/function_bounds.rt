@@ -1,32 +1,12 @@
 // Where the functions of a file may begin and end.
 ghost use Rattle.std.specs.Prelude.{ℕ, ◌≡◌, ◌↔◌, ◌++◌, IfOk, OnOk, Contains};
 ghost use Rattle.std.specs.List.Sorted.{IsStrictlyIncreasing};
-ghost use Rattle.elf_image.specs.Cuts.{IsCutAddress, names_function, holds_code, bounds, symbol_bounds, section_bounds};
+ghost use Rattle.elf_image.specs.code.Cuts.{IsCutAddress};
+ghost use Rattle.elf_image.specs.internal.CutLists.{bounds, symbol_bounds, section_bounds};
 
 use crate::elf::{Elf, Section, Symbol};
-use crate::number::is_set;
-use crate::section::SHF_EXECINSTR;
-use crate::symbol::STT_FUNC;
 use rb_bytes::fault::NoMemory;
 use std::alloc::Global;
-
-impl<'a> Symbol<'a> {
-    /// Whether the symbol names a function.
-    pub fn names_function(&self) -> bool
-        ensures { result ≡ names_function self.now }
-    {
-        self.info % 16 == STT_FUNC
-    }
-}
-
-impl<'a> Section<'a> {
-    /// Whether the section holds instructions.
-    pub fn holds_code(&self) -> bool
-        ensures { result ≡ holds_code self.now }
-    {
-        is_set(self.flags, SHF_EXECINSTR)
-    }
-}
 
 /// The cuts of a file, ascending: the bounds of its functions' symbols and of its sections with
 /// code. An end of 2^64 or more is none.
@@ -73,8 +53,8 @@ fn push_bounds(cuts: &mut Vec<u64>, start: u64, size: u64) -> Result<(), NoMemor
     Ok(())
 }
 
-// Sorts the numbers, and keeps each once.
-fn make_ascending(numbers: &mut Vec<u64>)
+/// Sorts numbers, and keeps each once.
+pub fn make_ascending(numbers: &mut Vec<u64>)
     ensures ascending { IsStrictlyIncreasing numbers.new.items }
     ensures same { (x : ℕ) → Contains numbers.new.items x ↔ Contains numbers.old.items x }
 {

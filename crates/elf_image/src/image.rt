@@ -2,31 +2,15 @@
 ghost use Rattle.std.specs.Prelude.{ℕ, ◌≡◌, ◌≤◌, ◌<◌, length, slice_index_or, All, IsTrue, IfOk, IfSome, OnOk, filter};
 ghost use Rattle.std.specs.List.Sorted.{IsNonDecreasingBy, IsPermutation};
 ghost use Rattle.std.specs.Option.{option_copied};
-ghost use Rattle.elf_image.specs.Image.{byte_of, has_memory, loads_address, segment_of, LoadOnce};
+ghost use Rattle.elf_image.specs.memory.Image.{byte_of, has_memory, loads_address, segment_of, LoadOnce};
 
 use crate::elf::Elf;
-use crate::segment::{PT_LOAD, Segment};
+use crate::segment::Segment;
 use rb_bytes::fault::NoMemory;
 use std::alloc::{AllocError, Global};
 
-impl Segment {
-    /// Whether the segment loads an address.
-    pub fn loads(&self, address: u64) -> bool
-        ensures { result ≡ loads_address address self.now }
-    {
-        self.kind == PT_LOAD && self.vaddr <= address && address - self.vaddr < self.memsz
-    }
-
-    /// Whether the segment is loaded and has a byte of memory.
-    pub fn has_memory(&self) -> bool
-        ensures { result ≡ has_memory self.now }
-    {
-        self.kind == PT_LOAD && self.memsz > 0
-    }
-}
-
 impl<'a> Elf<'a> {
-    ghost use Rattle.elf_image.specs.Image.{image_byte};
+    ghost use Rattle.elf_image.specs.memory.Image.{image_byte};
 
     /// The segment that loads an address, and none where none does.
     pub fn segment_at(&self, address: u64) -> Option<&Segment>

@@ -1,32 +1,28 @@
 //! ELF files: their headers, and the memory that they describe.
 #![tactic(auto)]
 
-pub mod checks;
 pub mod elf;
 pub mod entries;
-pub mod faults;
+pub mod extent;
+mod faults;
 pub mod function_bounds;
 pub mod header;
 pub mod image;
-pub mod loading;
 pub mod lowest;
 pub mod named;
 pub mod names;
 pub mod number;
-pub mod overlap;
 pub mod range;
 pub mod reader;
 pub mod relocation;
 pub mod section;
 pub mod segment;
-pub mod span;
-pub mod stray;
 pub mod symbol;
 pub mod tables;
 pub mod text;
-pub mod truncated;
 
 pub use elf::{Elf, Section, Symbol};
+pub use faults::refuse_at;
 pub use function_bounds::cuts;
 pub use reader::read;
 pub use section::SectionHeader;

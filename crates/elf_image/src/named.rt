@@ -1,11 +1,9 @@
 // The sections of a file by their names.
 ghost use Rattle.std.specs.Prelude.{◌≡◌};
 ghost use Rattle.std.specs.Option.{option_copied};
-ghost use Rattle.elf_image.specs.Named.{is_loaded, names_frames, names_debug, is_meant_by, is_called, section_called};
+ghost use Rattle.elf_image.specs.file.SectionNames.{names_frames, names_debug, is_meant_by, is_called, section_called};
 
 use crate::elf::{Elf, Section};
-use crate::number::is_set;
-use crate::section::SHF_ALLOC;
 
 /// The names of the unwind tables and of their index.
 pub const EH_FRAME: &[u8] = b".eh_frame";
@@ -13,13 +11,6 @@ pub const EH_FRAME: &[u8] = b".eh_frame";
 pub const EH_FRAME_HDR: &[u8] = b".eh_frame_hdr";
 
 impl<'a> Section<'a> {
-    /// Whether the section is loaded.
-    pub fn is_loaded(&self) -> bool
-        ensures { result ≡ is_loaded self.now }
-    {
-        is_set(self.flags, SHF_ALLOC)
-    }
-
     /// Whether a name means this section.
     fn is_called(&self, name: &[u8]) -> bool
         ensures { result ≡ is_called name.now self.now }

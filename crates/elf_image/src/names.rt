@@ -1,11 +1,11 @@
 // Tables of names. gABI, "String Table".
 ghost use Rattle.std.specs.Prelude.{◌≡◌, ◌≤◌, ◌<◌, ◌+◌, IfSome, IfNone, length};
-ghost use Rattle.elf_image.specs.Truncated.{HasHeader, HasSections, HasContents, HasSectionNames, HasSymbolNames};
-ghost use Rattle.elf_image.specs.Texts.{IsLastEnd};
-ghost use Rattle.elf_image.specs.Sections.{contents, section_names};
-ghost use Rattle.elf_image.specs.Symbols.{symbol_names};
+ghost use Rattle.elf_image.specs.faults.Truncation.{HasContents, HasSectionNames, HasSymbolNames};
+ghost use Rattle.elf_image.specs.internal.TextEnds.{IsLastEnd};
+ghost use Rattle.elf_image.specs.file.Sections.{contents, section_names};
+ghost use Rattle.elf_image.specs.file.Symbols.{symbol_names};
 
-use crate::entries::{has_contents, section_of};
+use crate::entries::{SectionTable, has_contents};
 use crate::header::{e_shnum, e_shstrndx};
 use crate::section::{SHT_NOBITS, SectionHeader};
 use memchr::memrchr;
@@ -34,41 +34,37 @@ pub fn last_end(table: &[u8]) -> usize
 }
 
 /// The names of sections, if their table is there and whole.
-pub fn section_names(file: &[u8]) -> Option<&[u8]>
-    requires header { HasHeader file.now }
-    requires whole { HasSections file.now }
-    ensures found { IfSome result (λ t. HasSectionNames file.now) }
-    ensures names { IfSome result (λ t. t.now ≡ section_names file.now) }
-    ensures none { IfNone result (HasSectionNames file.now → ⊥) }
+pub fn section_names<'a>(headers: SectionTable<'a>) -> Option<&'a [u8]>
+    ensures found { IfSome result (λ t. HasSectionNames headers.entry.file.now) }
+    ensures names { IfSome result (λ t. t.now ≡ section_names headers.entry.file.now) }
+    ensures none { IfNone result (HasSectionNames headers.entry.file.now → ⊥) }
 {
-    let index = e_shstrndx(file);
-    if index >= e_shnum(file) {
+    let index = e_shstrndx(headers.file);
+    if index >= e_shnum(headers.file) {
         return None;
     }
-    let section = section_of(file, index);
-    if !has_contents(file, &section) {
+    let section = headers.section_of(index);
+    if !has_contents(headers.file, &section) {
         return None;
     }
-    Some(section_bytes(file, &section))
+    Some(section_bytes(headers.file, &section))
 }
 
 /// The names of the symbols of a table, if both lie whole in the file.
-pub fn symbol_names<'a>(file: &'a [u8], table: &SectionHeader) -> Option<&'a [u8]>
-    requires header { HasHeader file.now }
-    requires whole { HasSections file.now }
-    ensures found { IfSome result (λ t. HasSymbolNames file.now table.now) }
-    ensures names { IfSome result (λ t. t.now ≡ symbol_names file.now table.now) }
-    ensures none { IfNone result (HasSymbolNames file.now table.now → ⊥) }
+pub fn symbol_names<'a>(headers: SectionTable<'a>, table: &SectionHeader) -> Option<&'a [u8]>
+    ensures found { IfSome result (λ t. HasSymbolNames headers.entry.file.now table.now) }
+    ensures names { IfSome result (λ t. t.now ≡ symbol_names headers.entry.file.now table.now) }
+    ensures none { IfNone result (HasSymbolNames headers.entry.file.now table.now → ⊥) }
 {
-    if !has_contents(file, table) {
+    if !has_contents(headers.file, table) {
         return None;
     }
-    if table.link >= e_shnum(file) as u32 {
-        return Some(&file[..0]);
+    if table.link >= e_shnum(headers.file) as u32 {
+        return Some(&headers.file[..0]);
     }
-    let section = section_of(file, table.link as u16);
-    if !has_contents(file, &section) {
+    let section = headers.section_of(table.link as u16);
+    if !has_contents(headers.file, &section) {
         return None;
     }
-    Some(section_bytes(file, &section))
+    Some(section_bytes(headers.file, &section))
 }

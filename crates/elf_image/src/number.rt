@@ -1,8 +1,8 @@
 // Numbers in a file's bytes, read and written over, and flags in them. ELF files of this machine are little-endian.
 // psABI, "File Header".
 ghost use Rattle.std.specs.Prelude.{◌≡◌, ◌≤◌, ◌<◌, ◌+◌, length};
-ghost use Rattle.elf_image.specs.Header.{number_at, is_set};
-ghost use Rattle.elf_image.specs.Patched.{patched_number};
+ghost use Rattle.elf_image.specs.file.Header.{number_at, is_set};
+ghost use Rattle.elf_image.specs.file.Patches.{patched_number};
 
 use byteorder::{ByteOrder, LittleEndian};
 

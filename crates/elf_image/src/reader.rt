@@ -1,14 +1,15 @@
 // A file, read whole.
 ghost use Rattle.std.specs.Prelude.{◌≡◌, IfOk, OnOk, IfErr};
-ghost use Rattle.elf_image.specs.Answered.{LacksBelow};
-ghost use Rattle.elf_image.specs.Truncated.{IsReadable};
-ghost use Rattle.elf_image.specs.Header.{e_shnum};
-ghost use Rattle.elf_image.specs.Present.{HasFault, IsSound, IsRefusal};
-ghost use Rattle.elf_image.specs.Read.{AreSections, IsElfOf};
+ghost use Rattle.elf_image.specs.faults.FirstFault.{LacksBelow};
+ghost use Rattle.elf_image.specs.faults.Truncation.{IsReadable};
+ghost use Rattle.elf_image.specs.file.Header.{e_shnum};
+ghost use Rattle.elf_image.specs.faults.FileFaults.{HasFault, IsSound, IsRefusal};
+ghost use Rattle.elf_image.specs.file.ParsedFile.{AreSections, IsElfOf};
 
 use crate::elf::{Elf, Section};
 use crate::faults::{check_layout, check_structure};
 use crate::header::{e_entry, e_flags, e_phoff};
+use crate::image::segments_by_address;
 use crate::tables::{read_sections, read_segments, read_symbols};
 use rb_bytes::fault::{NoMemory, Refusal};
 use std::alloc::Global;
@@ -26,16 +27,17 @@ fn read_beside<'a>(
 {
     let segments = read_segments(alloc, file)?;
     let symbols = read_symbols(alloc, file)?;
-    Elf::new(
-        alloc,
+    let loads = segments_by_address(alloc, &segments)?;
+    Ok(Elf {
         file,
-        e_flags(file),
-        e_entry(file),
-        e_phoff(file),
+        flags: e_flags(file),
+        entry: e_entry(file),
+        phoff: e_phoff(file),
         sections,
         segments,
         symbols,
-    )
+        loads,
+    })
 }
 
 /// Reads a file, or says which of the faults 1 to 8 is present, the one with the lowest number at

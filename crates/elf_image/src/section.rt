@@ -1,7 +1,7 @@
 // Section headers.
 ghost use Rattle.std.specs.Prelude.{◌≡◌, ◌≤◌, ◌+◌, length};
 
-use crate::number::{u32_at, u64_at};
+use crate::number::{is_set, u32_at, u64_at};
 
 /// The type of a section that has no bytes in the file. gABI, "Section Types".
 pub const SHT_NOBITS: u32 = 8;
@@ -54,7 +54,8 @@ pub struct SectionHeader {
 }
 
 impl SectionHeader {
-    ghost use Rattle.elf_image.specs.Sections.{section_header_at};
+    ghost use Rattle.elf_image.specs.file.Sections.{section_header_at};
+    ghost use Rattle.elf_image.specs.faults.SegmentLayout.{is_code_section};
 
     /// The section header that stands at an offset of a file.
     pub fn at(file: &[u8], offset: usize) -> SectionHeader
@@ -73,5 +74,12 @@ impl SectionHeader {
             align: u64_at(file, offset + 48),
             entsize: u64_at(file, offset + 56),
         }
+    }
+
+    /// Whether the section holds instructions.
+    pub fn is_code(&self) -> bool
+        ensures { result ≡ is_code_section self.now }
+    {
+        is_set(self.flags, SHF_EXECINSTR)
     }
 }

@@ -48,8 +48,9 @@ pub struct Segment {
 }
 
 impl Segment {
-    ghost use Rattle.elf_image.specs.Header.{segment_at};
-    ghost use Rattle.elf_image.specs.Image.{has_flag};
+    ghost use Rattle.elf_image.specs.file.Header.{segment_at};
+    ghost use Rattle.elf_image.specs.memory.Image.{has_flag, has_memory, loads_address};
+    ghost use Rattle.elf_image.specs.faults.SegmentLayout.{is_code_segment};
 
     /// The program header that stands at an offset of a file.
     pub fn at(file: &[u8], offset: usize) -> Segment
@@ -74,5 +75,26 @@ impl Segment {
         ensures { result ≡ has_flag flag self.now }
     {
         is_set(self.flags as u64, flag as u64)
+    }
+
+    /// Whether the segment loads an address.
+    pub fn loads(&self, address: u64) -> bool
+        ensures { result ≡ loads_address address self.now }
+    {
+        self.kind == PT_LOAD && self.vaddr <= address && address - self.vaddr < self.memsz
+    }
+
+    /// Whether the segment is loaded and has a byte of memory.
+    pub fn has_memory(&self) -> bool
+        ensures { result ≡ has_memory self.now }
+    {
+        self.kind == PT_LOAD && self.memsz > 0
+    }
+
+    /// Whether the segment is loaded and may be executed.
+    pub fn is_code(&self) -> bool
+        ensures { result ≡ is_code_segment self.now }
+    {
+        self.kind == PT_LOAD && self.has_flag(PF_X)
     }
 }

@@ -1,8 +1,8 @@
 // Entries of the symbol table. gABI, "Symbol Table".
 ghost use Rattle.std.specs.Prelude.{◌≡◌, ◌≤◌, ◌+◌, length};
-ghost use Rattle.elf_image.specs.Read.{IsSymbolAt};
-ghost use Rattle.elf_image.specs.Symbols.{symbol_names};
-ghost use Rattle.elf_image.specs.Texts.{table_of};
+ghost use Rattle.elf_image.specs.file.ParsedFile.{IsSymbolAt};
+ghost use Rattle.elf_image.specs.file.Symbols.{symbol_names};
+ghost use Rattle.elf_image.specs.file.StringTables.{table_of};
 
 use crate::elf::Symbol;
 use crate::number::{u16_at, u32_at, u64_at};
@@ -11,6 +11,9 @@ use crate::text::Names;
 
 /// The size of an entry of the symbol table in bytes.
 pub const SYM_SIZE: usize = 24;
+
+/// The index of no section, which symbols that are not defined have. gABI, "Special Section Indexes".
+pub const SHN_UNDEF: u16 = 0;
 
 /// The type of a symbol that names a function. gABI, "Symbol Types".
 pub const STT_FUNC: u8 = 2;

@@ -1,15 +1,15 @@
 // The parts of a file that is truncated nowhere, read. gABI, "Program Header", "Section Header" and "Symbol
 // Table".
 ghost use Rattle.std.specs.Prelude.{◌≡◌, ◌<◌, IfOk};
-ghost use Rattle.elf_image.specs.Truncated.{IsReadable, HasContents};
-ghost use Rattle.elf_image.specs.Header.{e_shnum, segments_of};
-ghost use Rattle.elf_image.specs.Read.{IsSectionAt, AreSections, AreSymbols, AreSymbolsOf};
-ghost use Rattle.elf_image.specs.Sections.{section_names};
-ghost use Rattle.elf_image.specs.Symbols.{symbol_table, symbol_count, symbol_names};
-ghost use Rattle.elf_image.specs.Texts.{table_of};
+ghost use Rattle.elf_image.specs.faults.Truncation.{IsReadable, HasContents};
+ghost use Rattle.elf_image.specs.file.Header.{e_shnum, segments_of};
+ghost use Rattle.elf_image.specs.file.ParsedFile.{IsSectionAt, AreSections, AreSymbols, AreSymbolsOf};
+ghost use Rattle.elf_image.specs.file.Sections.{section_names};
+ghost use Rattle.elf_image.specs.file.Symbols.{symbol_table, symbol_count, symbol_names};
+ghost use Rattle.elf_image.specs.file.StringTables.{table_of};
 
 use crate::elf::{Section, Symbol};
-use crate::entries::{section_of, segment_of, symbol_count, symbol_table};
+use crate::entries::{SectionTable, SegmentTable, symbol_count, symbol_table};
 use crate::header::{e_phnum, e_shnum};
 use crate::names::{section_names, symbol_names};
 use crate::section::{SHT_SYMTAB, SectionHeader};
@@ -24,9 +24,10 @@ pub fn read_segments(alloc: Global, file: &[u8]) -> Result<Vec<Segment>, NoMemor
     requires { IsReadable file.now }
     ensures { IfOk result (λ segments. segments.items ≡ segments_of file.now) }
 {
+    let table = SegmentTable { file };
     let mut segments = Vec::new(alloc);
     for index in 0..e_phnum(file) {
-        segments.push(segment_of(file, index))?;
+        segments.push(table.segment_of(index))?;
     }
     Ok(segments)
 }
@@ -37,7 +38,7 @@ fn read_section<'a>(file: &'a [u8], names: &Names<'a>, index: u16) -> Section<'a
     requires names { table_of names.now ≡ section_names file.now }
     ensures { IsSectionAt file.now index result }
 {
-    let header = section_of(file, index);
+    let header = SectionTable { file }.section_of(index);
     Section {
         name: names.text(header.name),
         kind: header.kind,
@@ -57,7 +58,7 @@ fn section_texts(file: &[u8]) -> &[u8]
     requires { IsReadable file.now }
     ensures { result.now ≡ section_names file.now }
 {
-    match section_names(file) {
+    match section_names(SectionTable { file }) {
         Some(names) => names,
         None => &file[..0],
     }
@@ -82,7 +83,7 @@ fn symbol_texts<'a>(file: &'a [u8], table: &SectionHeader) -> &'a [u8]
     requires is_table { symbol_table file.now ≡ Some table.now }
     ensures { result.now ≡ symbol_names file.now table.now }
 {
-    match symbol_names(file, table) {
+    match symbol_names(SectionTable { file }, table) {
         Some(names) => names,
         None => &file[..0],
     }
@@ -113,7 +114,7 @@ pub fn read_symbols<'a>(alloc: Global, file: &'a [u8]) -> Result<Vec<Symbol<'a>>
     requires { IsReadable file.now }
     ensures { IfOk result (λ symbols. AreSymbolsOf file.now (symbol_table file.now) symbols.items) }
 {
-    match symbol_table(file) {
+    match symbol_table(SectionTable { file }) {
         Some(table) => read_symbols_of(alloc, file, &table),
         None => Ok(Vec::new(alloc)),
     }

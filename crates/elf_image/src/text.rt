@@ -1,6 +1,6 @@
 // A table of names that is asked often. gABI, "String Table".
 ghost use Rattle.std.specs.Prelude.{◌≡◌, IfOk};
-ghost use Rattle.elf_image.specs.Sections.{text_of};
+ghost use Rattle.elf_image.specs.file.Sections.{text_of};
 ghost use Rattle.memchr.specs.Find.{is_byte, places};
 
 use memchr::memchr_iter;
@@ -16,7 +16,8 @@ pub struct Names<'a> {
 }
 
 impl<'a> Names<'a> {
-    ghost use Rattle.elf_image.specs.Texts.{table_of, IsTextEnd};
+    ghost use Rattle.elf_image.specs.file.StringTables.{table_of};
+    ghost use Rattle.elf_image.specs.internal.TextEnds.{IsTextEnd};
 
     /// Finds the zero bytes of a table.
     pub fn new(alloc: Global, table: &'a [u8]) -> Result<Names<'a>, NoMemory>

@@ -1,7 +1,7 @@
 use Rattle.std.proofs.Common.{arith}
 use Rattle.std.proofs.lemmas.Result.{err_from_is_err_and}
 use Rattle.rb_bytes.specs.declared.fault.FaultKind.TheVariants.{ExecSegments, WritableCode, HighAddress, CompressedSection}
-use Rattle.elf_image.specs.Present.{HasFault}
+use Rattle.elf_image.specs.faults.FileFaults.{HasFault}
 use Rattle.elf_image.proofs.FaultOrder.{refused, refused-lacks, refused-fault, went_on, stopped}
 use Rattle.elf_image.proofs.faults.check_places.Goals as goal
 

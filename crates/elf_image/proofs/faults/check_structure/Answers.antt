@@ -1,7 +1,7 @@
 use Rattle.std.proofs.Common.{arith}
 use Rattle.std.proofs.lemmas.Result.{err_from_is_err_and}
 use Rattle.rb_bytes.specs.declared.fault.FaultKind.TheVariants.{NotElf, Truncated, Flags, NotStatic}
-use Rattle.elf_image.specs.Present.{HasFault}
+use Rattle.elf_image.specs.faults.FileFaults.{HasFault}
 use Rattle.elf_image.proofs.FaultOrder.{LacksBelow-none, refused, refused-lacks, refused-fault, went_on, stopped}
 use Rattle.elf_image.proofs.faults.check_structure.Goals as goal
 

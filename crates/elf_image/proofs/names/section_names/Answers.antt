@@ -1,13 +1,13 @@
 use Rattle.std.proofs.Common.{◌≡◌, ◌∙◌, ℕ, ap, subst, arith}
 use Rattle.elf_image.specs.declared.section.SectionHeader.{SectionHeader}
-use Rattle.elf_image.specs.Truncated.{HasContents}
-use Rattle.elf_image.specs.Header.{e_shstrndx}
-use Rattle.elf_image.specs.Sections.{section_header}
+use Rattle.elf_image.specs.faults.Truncation.{HasContents}
+use Rattle.elf_image.specs.file.Header.{e_shstrndx}
+use Rattle.elf_image.specs.file.Sections.{section_header}
 use Rattle.elf_image.proofs.names.section_names.Goals as goal
 
 pub returns-clause-found : goal.returns-clause-found
 returns-clause-found c =
-    let file = c.args.file.now in
+    let file = c.args.headers.file.now in
     let same : c.section_of-section.result ≡ section_header file (e_shstrndx file) =
     c.section_of-section.ensures ∙ ap (λ (i : ℕ). section_header file i) c.e_shstrndx-index.ensures in
     let has : HasContents file c.section_of-section.result = c.has_contents.ensures.0 c.if-not-has_contents.false in

@@ -1,5 +1,5 @@
 use Rattle.std.proofs.Common.{◌+◌, sym, subst}
-use Rattle.elf_image.specs.Read.{AreSections}
+use Rattle.elf_image.specs.file.ParsedFile.{AreSections}
 use Rattle.elf_image.proofs.ReadLists.{AreSections-more}
 use Rattle.elf_image.proofs.tables.read_sections.Goals as goal
 

@@ -1,6 +1,6 @@
 use Rattle.std.proofs.Common.{◌∙◌, ap, List, [], ◌∷◌, ◌++◌}
 use Rattle.elf_image.specs.declared.segment.Segment.{Segment}
-use Rattle.elf_image.specs.Header.{e_phoff, segments_from}
+use Rattle.elf_image.specs.file.Header.{e_phoff, segments_from}
 use Rattle.elf_image.proofs.ReadLists.{segments_from-none, segments_from-more}
 use Rattle.elf_image.proofs.tables.read_segments.Goals as goal
 

@@ -1,5 +1,5 @@
 use Rattle.std.proofs.Common.{◌≡◌}
-use Rattle.elf_image.specs.Header.{e_phoff, segments_from}
+use Rattle.elf_image.specs.file.Header.{e_phoff, segments_from}
 use Rattle.elf_image.proofs.tables.read_segments.Given as goal
 
 abbrev pub invariant-loop-index : goal.invariant-loop-index

@@ -1,5 +1,5 @@
 use Rattle.std.proofs.Common.{◌+◌, sym, subst}
-use Rattle.elf_image.specs.Read.{AreSymbols}
+use Rattle.elf_image.specs.file.ParsedFile.{AreSymbols}
 use Rattle.elf_image.proofs.ReadLists.{AreSymbols-more}
 use Rattle.elf_image.proofs.tables.read_symbols_of.Goals as goal
 

@@ -1,6 +1,6 @@
 use Rattle.std.proofs.Common.{Option, IfSome, subst}
 use Rattle.elf_image.specs.declared.section.SectionHeader.{SectionHeader}
-use Rattle.elf_image.specs.Truncated.{HasSymbolNames}
+use Rattle.elf_image.specs.faults.Truncation.{HasSymbolNames}
 use Rattle.elf_image.proofs.tables.symbol_texts.Goals as goal
 
 pub returns-in-None : goal.returns-in-None

@@ -2,7 +2,7 @@ use Rattle.std.proofs.Common.{◌≡◌, ◌≤◌, ◌<◌, ◌∙◌, ℕ, tru
 use Rattle.std.specs.List.Sorted.{IsPartitionPoint}
 use Rattle.std.proofs.lemmas.List.Sorted.{IsPartitionPoint-from_clause}
 use Rattle.memchr.specs.Find.{is_byte, places}
-use Rattle.elf_image.specs.Texts.{IsTextEnd}
+use Rattle.elf_image.specs.internal.TextEnds.{IsTextEnd}
 use Rattle.elf_image.proofs.ZeroPlaces.{zeros-partitioned, IsTextEnd-at, IsTextEnd-past}
 use Rattle.elf_image.proofs.text.Names.end.Goals as goal
 

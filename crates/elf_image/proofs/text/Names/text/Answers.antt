@@ -1,6 +1,6 @@
 use Rattle.std.proofs.Common.{arith}
 use Rattle.elf_image.proofs.ZeroPlaces.{text_of-end, text_of-past}
-use Rattle.elf_image.specs.Texts.{table_of}
+use Rattle.elf_image.specs.file.StringTables.{table_of}
 use Rattle.elf_image.proofs.text.Names.text.Goals as goal
 
 pub returns : goal.returns

@@ -1,0 +1,10 @@
+use Rattle.std.proofs.Common.{rules}
+use Rattle.elf_image.specs.faults.SegmentLayout.{IsHigh}
+use Rattle.elf_image.proofs.Folds.{IsLowest-of}
+use Rattle.elf_image.proofs.LowestPlaces.{IsLowest-all}
+use Rattle.elf_image.proofs.faults.checks.lowest_high_address.Goals as goal
+
+pub returns : goal.returns
+returns c =
+    let Is = IsHigh c.args.segments.file.now in
+    IsLowest-all Is _ _ _ c.e_phnum.ensures (IsLowest-of Is _ _ _ (λ i r below gives. search (rules, gives)) c.lowest_below.ensures)

@@ -1,0 +1,10 @@
+use Rattle.std.proofs.Common.{rules}
+use Rattle.elf_image.specs.faults.Truncation.{IsTruncatedSection}
+use Rattle.elf_image.proofs.Folds.{IsLowest-of}
+use Rattle.elf_image.proofs.LowestPlaces.{IsLowest-all}
+use Rattle.elf_image.proofs.faults.truncated.lowest_truncated_section.Goals as goal
+
+pub returns : goal.returns
+returns c =
+    let Is = IsTruncatedSection c.args.headers.file.now in
+    IsLowest-all Is _ _ _ c.e_shnum.ensures (IsLowest-of Is _ _ _ (λ i r below gives. search (rules, gives)) c.lowest_below.ensures)

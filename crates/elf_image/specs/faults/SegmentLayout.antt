@@ -1,0 +1,127 @@
+-- How the segments of an executable must lie: one executable segment, or two of a file that was rewritten, apart
+-- from all others, in the file as in memory. gABI, "Program Header" and "Program Loading".
+use Rattle.std.specs.Prelude.{◌≡◌, ◌≢◌, ◌≤◌, ◌<◌, ◌⊎◌, ◌+◌, ◌*◌, ℕ, List, IsTrue, nat_eq, codes, Bool, ◌&&◌}
+use Rattle.std.specs.List.{starts_with}
+use Rattle.elf_image.specs.declared.section.SectionHeader.{SectionHeader}
+use Rattle.elf_image.specs.declared.section.TheConstants.{SHF_EXECINSTR}
+use Rattle.elf_image.specs.declared.segment.Segment.{Segment}
+use Rattle.elf_image.specs.declared.segment.TheConstants.{PF_X, PF_W, PHDR_SIZE}
+use Rattle.elf_image.specs.file.Header.{e_phoff, e_phnum, e_shnum, is_set, segment, segment_place}
+use Rattle.elf_image.specs.memory.Image.{is_load, end_of, has_flag, loads_address}
+use Rattle.elf_image.specs.faults.LowestPlace.{SomeBelow}
+use Rattle.elf_image.specs.file.Sections.{section_header, section_place, section_name}
+
+-- an executable segment
+abbrev pub is_code_segment : Segment → Bool
+is_code_segment p = is_load p && has_flag PF_X p
+
+-- an index of one
+abbrev pub IsCode : List ℕ → ℕ → Type 0
+IsCode file i = (i < e_phnum file) × IsTrue (is_code_segment (segment file i))
+
+-- a section's name begins as those of moved sections do
+abbrev pub HasOldSection : List ℕ → Type 0
+HasOldSection file = (i : ℕ) × (i < e_shnum file) × IsTrue (starts_with nat_eq (section_name file i) (codes ".old."))
+
+-- no segment is executable; the place is the header's field that names their table
+abbrev pub HasNoCode : List ℕ → ℕ → Type 0
+HasNoCode file place = ((i : ℕ) → IsCode file i → ⊥) × (place ≡ 0x20)
+
+-- the second executable segment in the table
+abbrev pub IsSecondCode : List ℕ → ℕ → Type 0
+IsSecondCode file i = IsCode file i × ((j : ℕ) × IsCode file j × (j < i) × ((k : ℕ) → IsCode file k → k < i → k ≡ j))
+
+-- a third is there, or no section was moved
+abbrev pub IsTooMany : List ℕ → ℕ → Type 0
+IsTooMany file i = ((k : ℕ) × IsCode file k × (i < k)) ⊎ (HasOldSection file → ⊥)
+
+abbrev pub IsOneTooMany : List ℕ → ℕ → ℕ → Type 0
+IsOneTooMany file i place = (IsSecondCode file i × IsTooMany file i) × (place ≡ segment_place file i)
+
+-- an executable segment starts at address 0, or its bytes don't all come from the file
+abbrev pub IsOddCode : List ℕ → ℕ → ℕ → Type 0
+IsOddCode file i place =
+    let p = segment file i in
+    (IsCode file i × ((p.vaddr ≡ 0) ⊎ (p.filesz ≢ p.memsz))) × (place ≡ segment_place file i)
+
+-- Two loaded segments share an address, or a byte of the file.
+abbrev pub IsFileByte : ℕ → Segment → Type 0
+IsFileByte k p = IsTrue (is_load p) × (p.offset ≤ k) × (k < p.offset + p.filesz)
+
+abbrev pub ShareAddress : Segment → Segment → Type 0
+ShareAddress p q = (a : ℕ) × IsTrue (loads_address a p) × IsTrue (loads_address a q)
+
+abbrev pub ShareFileByte : Segment → Segment → Type 0
+ShareFileByte p q = (k : ℕ) × IsFileByte k p × IsFileByte k q
+
+-- a segment that shares so with another
+abbrev pub SharesAddress : List ℕ → ℕ → ℕ → Type 0
+SharesAddress file i place =
+    ((j : ℕ) × (j < e_phnum file) × (j ≢ i) × ShareAddress (segment file i) (segment file j)) × (place ≡ segment_place file i)
+
+abbrev pub SharesFileByte : List ℕ → ℕ → ℕ → Type 0
+SharesFileByte file i place =
+    ((j : ℕ) × (j < e_phnum file) × (j ≢ i) × ShareFileByte (segment file i) (segment file j)) × (place ≡ segment_place file i)
+
+-- The executable segment of the lowest address, of n segments; the first in the table of those.
+abbrev pub IsLowestCodeBelow : List ℕ → ℕ → ℕ → Type 0
+IsLowestCodeBelow file n i =
+    IsCode file i
+    × ((j : ℕ) → IsCode file j → j < n → ((segment file i).vaddr < (segment file j).vaddr) ⊎ (((segment file i).vaddr ≡ (segment file j).vaddr) × (i ≤ j)))
+
+abbrev pub IsLowestCode : List ℕ → ℕ → Type 0
+IsLowestCode file i = IsLowestCodeBelow file (e_phnum file) i
+
+-- a range of the file begins before its end and ends after it
+abbrev pub CrossesEnd : List ℕ → ℕ → ℕ → Type 0
+CrossesEnd file offset size =
+    (c : ℕ) × IsLowestCode file c
+    × (offset < (segment file c).offset + (segment file c).filesz)
+    × ((segment file c).offset + (segment file c).filesz < offset + size)
+
+-- the bytes that any header takes from the file
+abbrev pub IsCrossing : List ℕ → ℕ → ℕ → Type 0
+IsCrossing file i place = CrossesEnd file (segment file i).offset (segment file i).filesz × (place ≡ segment_place file i)
+
+-- the table of program headers
+abbrev pub IsCrossingTable : List ℕ → ℕ → Type 0
+IsCrossingTable file place = CrossesEnd file (e_phoff file) (PHDR_SIZE * e_phnum file) × (place ≡ e_phoff file)
+
+-- an executable section lies in no executable segment; no byte of an empty one lies outside
+abbrev pub is_code_section : SectionHeader → Bool
+is_code_section s = is_set SHF_EXECINSTR s.flags
+
+abbrev pub LiesInCode : List ℕ → ℕ → ℕ → Type 0
+LiesInCode file start end = (j : ℕ) × IsCode file j × ((segment file j).vaddr ≤ start) × (end ≤ end_of (segment file j))
+
+abbrev pub IsStraySection : List ℕ → ℕ → ℕ → Type 0
+IsStraySection file i place =
+    let s = section_header file i in
+    (IsTrue (is_code_section s) × (s.size ≢ 0) × (LiesInCode file s.addr (s.addr + s.size) → ⊥)) × (place ≡ section_place file i)
+
+-- the places where the segments don't lie so
+abbrev pub IsBadCode : List ℕ → ℕ → Type 0
+IsBadCode file place =
+    HasNoCode file place ⊎ (SomeBelow (e_phnum file) (IsOneTooMany file) place ⊎ SomeBelow (e_phnum file) (IsOddCode file) place)
+
+abbrev pub IsShared : List ℕ → ℕ → Type 0
+IsShared file place = SomeBelow (e_phnum file) (SharesAddress file) place ⊎ SomeBelow (e_phnum file) (SharesFileByte file) place
+
+abbrev pub IsCrossed : List ℕ → ℕ → Type 0
+IsCrossed file place = SomeBelow (e_phnum file) (IsCrossing file) place ⊎ IsCrossingTable file place
+
+abbrev pub IsBadLoading : List ℕ → ℕ → Type 0
+IsBadLoading file place =
+    IsBadCode file place ⊎ (IsShared file place ⊎ (IsCrossed file place ⊎ SomeBelow (e_shnum file) (IsStraySection file) place))
+
+-- an executable segment may be written
+abbrev pub IsWritableCode : List ℕ → ℕ → ℕ → Type 0
+IsWritableCode file i place = (IsCode file i × IsTrue (has_flag PF_W (segment file i))) × (place ≡ segment_place file i)
+
+-- the address below which all that is loaded lies
+abbrev pub address_end : ℕ
+address_end = 0x7fff0000
+
+-- a segment loads this address, which isn't below
+abbrev pub IsHigh : List ℕ → ℕ → ℕ → Type 0
+IsHigh file i address = IsTrue (loads_address address (segment file i)) × (address_end ≤ address)

@@ -1,0 +1,7 @@
+pub mod Header
+pub mod ParsedFile
+pub mod Patches
+pub mod SectionNames
+pub mod Sections
+pub mod StringTables
+pub mod Symbols

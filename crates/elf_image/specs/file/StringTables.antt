@@ -1,0 +1,11 @@
+-- Tables of names. gABI, "String Table".
+use Rattle.std.specs.Prelude.{◌≢◌, ◌≤◌, ◌<◌, ℕ, List, length, slice_index}
+use Rattle.elf_image.specs.declared.text.Names.{Names}
+
+-- what contracts see of a table that is asked often: its bytes
+abbrev pub table_of : Names → List ℕ
+table_of names = names.table.now
+
+-- no zero byte stands in a table from an index on
+abbrev pub IsUnended : List ℕ → ℕ → Type 0
+IsUnended table index = (i : ℕ) → index ≤ i → i < length table → slice_index table i ≢ 0

@@ -1,0 +1,5 @@
+pub mod CutLists
+pub mod Extents
+pub mod Folds
+pub mod SegmentExtents
+pub mod TextEnds

@@ -1,0 +1,4 @@
+pub mod CodeSegment
+pub mod Image
+pub mod LoadedBytes
+pub mod Start

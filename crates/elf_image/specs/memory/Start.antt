@@ -1,0 +1,156 @@
+-- How a program starts, and its runs. gABI, "Program Loading"; the stack and its auxiliary vector as the
+-- System V ABI has them for other processors ("Process Initialization"), with Linux's AT_RANDOM. The bytes
+-- of a file, of words and of input are below 256, and words hold no zero byte.
+use Rattle.std.specs.Prelude.{ℕ, ◌+◌, ◌-◌, ◌*◌, ◌/◌, ◌^◌, ◌&&◌, ◌||◌, ◌==◌, nat_lt, nat_le, if◌then◌else◌, Bool, List, [], ◌∷◌, ◌++◌, length, min, max, map, filter, fold, flat_map, find, replicate, slice_index, unwrap_or, codes}
+use Rattle.std.specs.Option.{option_map_or}
+use Rattle.rv_code.specs.machine.Machine.{Space, low_bytes, Event, Run, SoFar, HaltsAfter}
+use Rattle.rv_code.specs.declared.cause.Cause.{Cause}
+use Rattle.rv_code.specs.machine.Step.{ByteState, Steps}
+use Rattle.elf_image.specs.declared.segment.Segment.{Segment}
+use Rattle.elf_image.specs.declared.segment.TheConstants.{PF_R, PF_W, PF_X, PHDR_SIZE}
+use Rattle.elf_image.specs.file.Header.{e_entry, e_phoff, e_phnum, segments_of}
+use Rattle.elf_image.specs.memory.LoadedBytes.{Range, loads_range, address_in}
+use Rattle.elf_image.specs.memory.Image.{has_memory, end_of, image_byte, has_flag, is_loaded_with}
+
+abbrev pub page_size : ℕ
+page_size = 4096
+
+abbrev pub rounded_down : ℕ → ℕ → ℕ
+rounded_down unit n = n / unit * unit
+
+abbrev pub rounded_up : ℕ → ℕ → ℕ
+rounded_up unit n = (n + (unit - 1)) / unit * unit
+
+-- The break, by the segments that are loaded and have at least one byte of memory.
+
+-- the end of the highest writable one, 0 where none is writable
+abbrev pub writable_end : List Segment → ℕ
+writable_end segments = fold max 0 (map end_of (filter (λ p. has_memory p && has_flag PF_W p) segments))
+
+-- the break starts there, on a whole page
+abbrev pub break_start : List Segment → ℕ
+break_start segments = rounded_up page_size (writable_end segments)
+
+-- the most that it grows by
+abbrev pub break_room : ℕ
+break_room = 64 * 2 ^ 20
+
+-- the pages on which the segments above start
+abbrev pub pages_above : List Segment → List ℕ
+pages_above segments = map (λ p. rounded_down page_size p.vaddr) (filter (λ p. has_memory p && nat_le (writable_end segments) p.vaddr) segments)
+
+-- It ends below the next segment, and never before its start. Without a writable segment it stays 0.
+abbrev pub break_bound : List Segment → ℕ
+break_bound segments =
+    if writable_end segments == 0
+    then 0
+    else max (break_start segments) (fold min (break_start segments + break_room) (pages_above segments))
+
+-- The stack: 8 MiB below 2 ^ 38.
+
+abbrev pub stack_end : ℕ
+stack_end = 2 ^ 38
+
+abbrev pub stack_size : ℕ
+stack_size = 8 * 2 ^ 20
+
+abbrev pub in_stack : ℕ → Bool
+in_stack a = nat_le (stack_end - stack_size) a && nat_lt a stack_end
+
+-- the 16 bytes at its end, which AT_RANDOM names
+abbrev pub random_bytes : List ℕ
+random_bytes = 0 ∷ 1 ∷ 2 ∷ 3 ∷ 4 ∷ 5 ∷ 6 ∷ 7 ∷ 8 ∷ 9 ∷ 10 ∷ 11 ∷ 12 ∷ 13 ∷ 14 ∷ 15 ∷ []
+
+abbrev pub random_address : ℕ
+random_address = stack_end - 16
+
+-- the arguments: the program's name, which is always this one, and the words
+abbrev pub program_arguments : List (List ℕ) → List (List ℕ)
+program_arguments words = codes "program" ∷ words
+
+-- their texts below these bytes, each with a zero byte
+abbrev pub texts : List (List ℕ) → List ℕ
+texts words = flat_map (λ text. text ++ 0 ∷ []) (program_arguments words)
+
+abbrev pub texts_address : List (List ℕ) → ℕ
+texts_address words = random_address - length (texts words)
+
+-- where texts stand that begin at an address
+abbrev pub text_addresses : ℕ → List (List ℕ) → List ℕ
+text_addresses a [] = []
+text_addresses a (text ∷ rest) = a ∷ text_addresses (a + length text + 1) rest
+
+-- the table of program headers, and where it is loaded: 0 where no segment loads all of it from the file
+abbrev pub table_range : List ℕ → Range
+table_range file = record { start = e_phoff file; size = PHDR_SIZE * e_phnum file }
+
+abbrev pub table_address : List ℕ → ℕ
+table_address file = option_map_or (address_in (table_range file)) (find (loads_range (table_range file)) (segments_of file)) 0
+
+-- AT_PHDR, AT_PHENT, AT_PHNUM, AT_PAGESZ, AT_ENTRY, AT_RANDOM and AT_NULL, each with its value
+abbrev pub auxiliary_vector : List ℕ → List ℕ
+auxiliary_vector file =
+    3 ∷ table_address file ∷ 4 ∷ PHDR_SIZE ∷ 5 ∷ e_phnum file ∷ 6 ∷ page_size ∷ 9 ∷ e_entry file ∷ 25 ∷ random_address ∷ 0 ∷ 0 ∷ []
+
+-- the words at the stack pointer: the count of arguments, their addresses, the ends of the lists of arguments
+-- and of environment variables, and the auxiliary vector
+abbrev pub stack_entries : List ℕ → List (List ℕ) → List ℕ
+stack_entries file words =
+    length (program_arguments words) ∷ text_addresses (texts_address words) (program_arguments words) ++ 0 ∷ 0 ∷ auxiliary_vector file
+
+-- they begin at a multiple of 16
+abbrev pub stack_pointer : List (List ℕ) → ℕ
+stack_pointer words = rounded_down 16 (texts_address words - 8 * (length (program_arguments words) + 17))
+
+abbrev pub start_bytes : List ℕ → List (List ℕ) → List ℕ
+start_bytes file words = flat_map (low_bytes 8) (stack_entries file words)
+
+-- the bytes from the stack pointer to the stack's end
+abbrev pub stack_bytes : List ℕ → List (List ℕ) → List ℕ
+stack_bytes file words =
+    start_bytes file words ++ replicate (texts_address words - stack_pointer words - length (start_bytes file words)) 0 ++ texts words ++ random_bytes
+
+-- the byte at an address of the stack
+abbrev pub stack_byte : List ℕ → List (List ℕ) → ℕ → ℕ
+stack_byte file words a = if nat_le (stack_pointer words) a then slice_index (stack_bytes file words) (a - stack_pointer words) else 0
+
+-- The state before the first step.
+
+abbrev pub space_of : List Segment → Space
+space_of segments = record {
+  reads = λ a. is_loaded_with PF_R segments a || in_stack a;
+  writes = λ a. is_loaded_with PF_W segments a || in_stack a;
+  executes = is_loaded_with PF_X segments;
+  break_start = break_start segments;
+  break_bound = break_bound segments;
+}
+
+abbrev pub start_memory : List ℕ → List (List ℕ) → ℕ → ℕ
+start_memory file words a = if in_stack a then stack_byte file words a else unwrap_or (image_byte file (segments_of file) a) 0
+
+-- every register is 0 but the stack pointer, which is register 2
+abbrev pub start_registers : List (List ℕ) → ℕ → ℕ
+start_registers words r = if r == 2 then stack_pointer words else 0
+
+abbrev pub start : List ℕ → List (List ℕ) → List ℕ → ByteState
+start file words input = record {
+  pc = e_entry file;
+  registers = start_registers words;
+  memory = start_memory file words;
+  space = space_of (segments_of file);
+  program_break = break_start (segments_of file);
+  input = input;
+}
+
+-- The n-th step of the file, run with these words and this input, ends with this status, after these calls.
+abbrev pub Runs : List ℕ → List (List ℕ) → List ℕ → ℕ → List Event → ℕ → Type 0
+Runs file words input n trace status = Run Steps (start file words input) n trace status
+
+-- After n steps that neither end nor trap, with these calls, the next one traps, at this pc for this cause.
+abbrev pub TrapsAfter : List ℕ → List (List ℕ) → List ℕ → ℕ → List Event → ℕ → Cause → Type 0
+TrapsAfter file words input n trace pc cause = HaltsAfter Steps (start file words input) n trace pc cause
+
+-- Its first n steps neither end nor trap, and make these calls.
+pub record RunsSoFar (file : List ℕ) (words : List (List ℕ)) (input : List ℕ) (n : ℕ) (trace : List Event) : Type 0 where
+  pub state : ByteState
+  pub so_far : SoFar Steps (start file words input) n trace state

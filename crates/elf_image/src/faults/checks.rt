@@ -1,0 +1,121 @@
+// The faults of a whole file that one field or one header shows by itself.
+ghost use Rattle.std.specs.Prelude.{◌≡◌, ◌≤◌, ◌<◌, ℕ, IsTrue, List};
+ghost use Rattle.rb_bytes.specs.declared.fault.FaultKind.TheVariants as fault;
+ghost use Rattle.elf_image.specs.faults.Truncation.{HasHeader};
+ghost use Rattle.elf_image.specs.file.Header.{e_phnum, e_shnum};
+ghost use Rattle.elf_image.specs.faults.SegmentLayout.{IsWritableCode, IsHigh, address_end};
+ghost use Rattle.elf_image.specs.faults.LowestPlace.{IsLowest, SomeBelow};
+ghost use Rattle.elf_image.specs.faults.FileFaults.{HasFault, HasOtherType, IsDynamic};
+ghost use Rattle.elf_image.specs.file.ParsedFile.{AreSections};
+ghost use Rattle.elf_image.specs.memory.Image.{loads_address};
+
+use crate::elf::Section;
+use crate::entries::SegmentTable;
+use crate::header::{E_FLAGS, E_TYPE, e_flags, e_phnum, e_type};
+use crate::lowest::{lower, lowest_below, place_if};
+use crate::segment::{PF_W, PT_DYNAMIC, PT_INTERP, Segment};
+
+/// The type of an executable that is loaded where its headers say. gABI, "ELF Header".
+pub const ET_EXEC: u16 = 2;
+
+/// The address below which all that is loaded lies.
+pub const ADDRESS_END: u64 = 0x7fff_0000;
+
+/// The place of flags that aren't known.
+pub fn lowest_other_flags(file: &[u8]) -> Option<u64>
+    requires { HasHeader file.now }
+    ensures { IsLowest (HasFault file.now fault.Flags) result }
+{
+    place_if(1 < e_flags(file), E_FLAGS as u64)
+}
+
+fn lowest_other_type(file: &[u8]) -> Option<u64>
+    requires { HasHeader file.now }
+    ensures { IsLowest (HasOtherType file.now) result }
+{
+    place_if(e_type(file) != ET_EXEC, E_TYPE as u64)
+}
+
+fn dynamic_segment(segments: SegmentTable, index: u16) -> Option<u64>
+    requires index { index < e_phnum segments.file.now }
+    ensures { IsLowest (IsDynamic segments.entry.file.now index) result }
+{
+    let segment = segments.segment_of(index);
+    let is_wrong = segment.kind == PT_DYNAMIC || segment.kind == PT_INTERP;
+    place_if(is_wrong, segments.segment_place(index))
+}
+
+fn lowest_dynamic_segment(segments: SegmentTable) -> Option<u64>
+    ensures { IsLowest (SomeBelow (e_phnum segments.entry.file.now) (IsDynamic segments.entry.file.now)) result }
+{
+    lowest_below(
+        e_phnum(segments.file),
+        |index| dynamic_segment(segments, index),
+    )
+}
+
+/// The place of what shows that the file isn't a static executable.
+pub fn lowest_not_static(segments: SegmentTable) -> Option<u64>
+    ensures { IsLowest (HasFault segments.entry.file.now fault.NotStatic) result }
+{
+    lower(
+        lowest_other_type(segments.file),
+        lowest_dynamic_segment(segments),
+    )
+}
+
+fn writable_code(segments: SegmentTable, index: u16) -> Option<u64>
+    requires index { index < e_phnum segments.file.now }
+    ensures { IsLowest (IsWritableCode segments.entry.file.now index) result }
+{
+    let segment = segments.segment_of(index);
+    let is_wrong = segment.is_code() && segment.has_flag(PF_W);
+    place_if(is_wrong, segments.segment_place(index))
+}
+
+/// The place of an executable segment that may be written.
+pub fn lowest_writable_code(segments: SegmentTable) -> Option<u64>
+    ensures { IsLowest (HasFault segments.entry.file.now fault.WritableCode) result }
+{
+    lowest_below(
+        e_phnum(segments.file),
+        |index| writable_code(segments, index),
+    )
+}
+
+// The first address of a segment that isn't below the bound.
+fn first_high(segment: &Segment) -> Option<u64>
+    ensures { IsLowest (λ a. IsTrue (loads_address a segment.now) × (address_end ≤ a)) result }
+{
+    let first = segment.vaddr.max(ADDRESS_END);
+    place_if(segment.loads(first), first)
+}
+
+fn high_address(segments: SegmentTable, index: u16) -> Option<u64>
+    requires index { index < e_phnum segments.file.now }
+    ensures { IsLowest (IsHigh segments.entry.file.now index) result }
+{
+    first_high(&segments.segment_of(index))
+}
+
+/// The first address that is loaded and isn't below [`ADDRESS_END`].
+pub fn lowest_high_address(segments: SegmentTable) -> Option<u64>
+    ensures { IsLowest (HasFault segments.entry.file.now fault.HighAddress) result }
+{
+    lowest_below(
+        e_phnum(segments.file),
+        |index| high_address(segments, index),
+    )
+}
+
+/// The index of the first compressed section.
+pub fn lowest_compressed(sections: &[Section]) -> Option<u64>
+    ensures { (file : List ℕ) → AreSections file (e_shnum file) sections.now → IsLowest (HasFault file fault.CompressedSection) result }
+{
+    for (index, section) in sections.iter().enumerate() {
+        if section.is_compressed() {
+            return Some(index as u64);
+        }
+    }
+    None
+}

@@ -1,0 +1,254 @@
+// Whether the segments of a file lie as those of an executable must.
+ghost use Rattle.std.specs.Prelude.{◌≤◌, ◌<◌, ◌+◌, ◌↔◌, ℕ, IsTrue, IfSome, IfNone, IfOk, Any, nat_eq, codes, ◌^◌};
+ghost use Rattle.std.specs.List.{starts_with};
+ghost use Rattle.rb_bytes.specs.declared.fault.FaultKind.TheVariants as fault;
+ghost use Rattle.elf_image.specs.faults.Truncation.{IsReadable};
+ghost use Rattle.elf_image.specs.file.Header.{e_phnum, e_shnum, segment};
+ghost use Rattle.elf_image.specs.faults.SegmentLayout.{HasNoCode, IsCode, IsSecondCode, IsTooMany, IsOneTooMany, IsOddCode, IsBadCode, IsLowestCode, IsLowestCodeBelow, CrossesEnd, IsCrossing, IsCrossingTable, IsCrossed};
+ghost use Rattle.elf_image.specs.faults.LowestPlace.{IsLowest, SomeBelow};
+ghost use Rattle.elf_image.specs.faults.FileFaults.{HasFault};
+ghost use Rattle.elf_image.specs.file.ParsedFile.{AreSections};
+
+use crate::elf::Section;
+use crate::entries::SegmentTable;
+use crate::faults::overlap::{lowest_shared_address, lowest_shared_byte};
+use crate::faults::stray::lowest_stray_section;
+use crate::header::{E_PHOFF, e_phnum, e_phoff};
+use crate::lowest::{lower, lowest_below, place_if};
+use crate::segment::{PHDR_SIZE, Segment};
+use rb_bytes::fault::NoMemory;
+use std::alloc::Global;
+
+/// The lowest place where the segments, or the sections with code, don't lie so.
+pub fn lowest_bad_loading(
+    alloc: Global,
+    file: &[u8],
+    sections: &[Section],
+) -> Result<Option<u64>, NoMemory>
+    requires readable { IsReadable file.now }
+    requires sections { AreSections file.now (e_shnum file.now) sections.now }
+    ensures { IfOk result (λ lowest. IsLowest (HasFault file.now fault.ExecSegments) lowest) }
+{
+    let segments = SegmentTable { file };
+    let shared = lower(
+        lowest_shared_address(alloc, segments)?,
+        lowest_shared_byte(alloc, segments)?,
+    );
+    let stray = lowest_stray_section(alloc, file)?;
+    let past_code = lower(shared, lower(lowest_crossed(segments), stray));
+    Ok(lower(lowest_bad_code(segments, sections), past_code))
+}
+
+// The executable segments by themselves.
+fn lowest_bad_code(segments: SegmentTable, sections: &[Section]) -> Option<u64>
+    requires sections { AreSections segments.file.now (e_shnum segments.file.now) sections.now }
+    ensures { IsLowest (IsBadCode segments.entry.file.now) result }
+{
+    let too_many = lowest_one_too_many(segments, sections);
+    lower(
+        lowest_no_code(segments),
+        lower(too_many, lowest_odd_code(segments)),
+    )
+}
+
+// The first executable segment from an index on.
+fn next_code(segments: SegmentTable, from: u16) -> Option<u16>
+    ensures code { IfSome result (λ i. IsCode segments.entry.file.now i) }
+    ensures from { IfSome result (λ i. from ≤ i) }
+    ensures below { IfSome result (λ i. i + 1 < 2 ^ 16) }
+    ensures first { IfSome result (λ i. (k : ℕ) → IsCode segments.entry.file.now k → from ≤ k → i ≤ k) }
+    ensures none { IfNone result ((k : ℕ) → IsCode segments.entry.file.now k → from ≤ k → ⊥) }
+{
+    for index in from..e_phnum(segments.file) {
+        if segments.segment_of(index).is_code() {
+            return Some(index);
+        }
+    }
+    None
+}
+
+fn lowest_no_code(segments: SegmentTable) -> Option<u64>
+    ensures { IsLowest (HasNoCode segments.entry.file.now) result }
+{
+    match next_code(segments, 0) {
+        Some(_) => None,
+        None => Some(E_PHOFF as u64),
+    }
+}
+
+// The second executable segment of the table.
+fn second_code(segments: SegmentTable) -> Option<u16>
+    ensures second { IfSome result (λ i. IsSecondCode segments.entry.file.now i) }
+    ensures below { IfSome result (λ i. i + 1 < 2 ^ 16) }
+    ensures none { IfNone result ((i : ℕ) → IsSecondCode segments.entry.file.now i → ⊥) }
+{
+    match next_code(segments, 0) {
+        Some(first) => next_code(segments, first + 1),
+        None => None,
+    }
+}
+
+// Whether a section's name begins as those of moved sections do.
+fn has_old_section(sections: &[Section]) -> bool
+    ensures { IsTrue result ↔ Any (λ s. IsTrue (starts_with nat_eq s.name.now (codes ".old."))) sections.now }
+{
+    for section in sections {
+        if section.name.starts_with(b".old.") {
+            return true;
+        }
+    }
+    false
+}
+
+// Whether a segment from an index on is executable.
+fn has_code_from(segments: SegmentTable, from: u16) -> bool
+    ensures { IsTrue result ↔ ((k : ℕ) × IsCode segments.entry.file.now k × (from ≤ k)) }
+{
+    next_code(segments, from).is_some()
+}
+
+// Whether a second executable segment is one too many: there are more, or the file wasn't moved.
+fn is_too_many(segments: SegmentTable, sections: &[Section], second: u16) -> bool
+    requires sections { AreSections segments.file.now (e_shnum segments.file.now) sections.now }
+    requires second { second + 1 < 2 ^ 16 }
+    ensures { IsTrue result ↔ IsTooMany segments.entry.file.now second }
+{
+    has_code_from(segments, second + 1) || !has_old_section(sections)
+}
+
+// The second executable segment, where it is one too many.
+fn lowest_one_too_many(segments: SegmentTable, sections: &[Section]) -> Option<u64>
+    requires sections { AreSections segments.file.now (e_shnum segments.file.now) sections.now }
+    ensures { IsLowest (SomeBelow (e_phnum segments.entry.file.now) (IsOneTooMany segments.entry.file.now)) result }
+{
+    match second_code(segments) {
+        Some(second) => {
+            let is_wrong = is_too_many(segments, sections, second);
+            place_if(is_wrong, segments.segment_place(second))
+        }
+        None => None,
+    }
+}
+
+fn odd_code(segments: SegmentTable, index: u16) -> Option<u64>
+    requires index { index < e_phnum segments.file.now }
+    ensures { IsLowest (IsOddCode segments.entry.file.now index) result }
+{
+    let segment = segments.segment_of(index);
+    let is_odd = segment.vaddr == 0 || segment.filesz != segment.memsz;
+    place_if(segment.is_code() && is_odd, segments.segment_place(index))
+}
+
+// An executable segment at address 0, or one that isn't as long in the file as in memory.
+fn lowest_odd_code(segments: SegmentTable) -> Option<u64>
+    ensures { IsLowest (SomeBelow (e_phnum segments.entry.file.now) (IsOddCode segments.entry.file.now)) result }
+{
+    lowest_below(e_phnum(segments.file), |index| odd_code(segments, index))
+}
+
+// The executable segment of the lowest address.
+fn lowest_code(segments: SegmentTable) -> Option<u16>
+    ensures some { IfSome result (λ i. IsLowestCode segments.entry.file.now i) }
+    ensures none { IfNone result ((i : ℕ) → IsCode segments.entry.file.now i → ⊥) }
+{
+    match next_code(segments, 0) {
+        Some(first) => Some(lowest_code_from(segments, first)),
+        None => None,
+    }
+}
+
+// The same, where this is the first executable segment of the table.
+fn lowest_code_from(segments: SegmentTable, first: u16) -> u16
+    requires code { IsCode segments.file.now first }
+    requires first { (k : ℕ) → IsCode segments.file.now k → first ≤ k }
+    ensures { IsLowestCode segments.entry.file.now result }
+{
+    let mut lowest = first;
+    for index in first..e_phnum(segments.file) {
+        lowest = lower_code(segments, lowest, index);
+    }
+    lowest
+}
+
+// The lower of two executable segments, if the one of this index is one.
+fn lower_code(segments: SegmentTable, lowest: u16, index: u16) -> u16
+    requires index { index < e_phnum segments.file.now }
+    requires order { lowest ≤ index }
+    requires lowest { IsLowestCodeBelow segments.file.now index lowest }
+    ensures lowest { IsLowestCodeBelow segments.entry.file.now (index + 1) result }
+    ensures order { result ≤ index }
+{
+    if is_lower_code(segments, index, lowest) {
+        index
+    } else {
+        lowest
+    }
+}
+
+// Whether a segment is executable and lies below another.
+fn is_lower_code(segments: SegmentTable, index: u16, other: u16) -> bool
+    requires index { index < e_phnum segments.file.now }
+    requires other { other < e_phnum segments.file.now }
+    ensures { IsTrue result ↔ (IsCode segments.entry.file.now index × ((segment segments.entry.file.now index).vaddr < (segment segments.entry.file.now other).vaddr)) }
+{
+    let segment = segments.segment_of(index);
+    segment.is_code() && segment.vaddr < segments.segment_of(other).vaddr
+}
+
+// Whether a range of the file begins before the end of the executable segment, and ends after it.
+fn crosses_end(segments: SegmentTable, code: u16, offset: u64, size: u64) -> bool
+    requires code { IsLowestCode segments.file.now code }
+    ensures { IsTrue result ↔ CrossesEnd segments.entry.file.now offset size }
+{
+    crosses(&segments.segment_of(code), offset, size)
+}
+
+// The same of a segment's bytes.
+fn crosses(segment: &Segment, offset: u64, size: u64) -> bool
+    ensures { IsTrue result ↔ ((offset < segment.now.offset + segment.now.filesz) × (segment.now.offset + segment.now.filesz < offset + size)) }
+{
+    let end = segment.offset as u128 + segment.filesz as u128;
+    (offset as u128) < end && end < offset as u128 + size as u128
+}
+
+fn crossing(segments: SegmentTable, code: u16, index: u16) -> Option<u64>
+    requires code { IsLowestCode segments.file.now code }
+    requires index { index < e_phnum segments.file.now }
+    ensures { IsLowest (IsCrossing segments.entry.file.now index) result }
+{
+    let segment = segments.segment_of(index);
+    let is_wrong = crosses_end(segments, code, segment.offset, segment.filesz);
+    place_if(is_wrong, segments.segment_place(index))
+}
+
+fn lowest_crossing(segments: SegmentTable, code: u16) -> Option<u64>
+    requires code { IsLowestCode segments.file.now code }
+    ensures { IsLowest (SomeBelow (e_phnum segments.entry.file.now) (IsCrossing segments.entry.file.now)) result }
+{
+    lowest_below(
+        e_phnum(segments.file),
+        |index| crossing(segments, code, index),
+    )
+}
+
+fn crossing_table(segments: SegmentTable, code: u16) -> Option<u64>
+    requires code { IsLowestCode segments.file.now code }
+    ensures { IsLowest (IsCrossingTable segments.entry.file.now) result }
+{
+    let offset = e_phoff(segments.file);
+    let size = PHDR_SIZE as u64 * e_phnum(segments.file) as u64;
+    place_if(crosses_end(segments, code, offset, size), offset)
+}
+
+// What crosses the end of the executable segment in the file.
+fn lowest_crossed(segments: SegmentTable) -> Option<u64>
+    ensures { IsLowest (IsCrossed segments.entry.file.now) result }
+{
+    match lowest_code(segments) {
+        Some(code) => lower(
+            lowest_crossing(segments, code),
+            crossing_table(segments, code),
+        ),
+        None => None,
+    }
+}

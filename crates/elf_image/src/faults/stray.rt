@@ -1,0 +1,89 @@
+// Sections with code that lie in no executable segment.
+ghost use Rattle.std.specs.Prelude.{◌≢◌, ◌<◌, ◌+◌, ◌↔◌, ℕ, IsTrue, IfSome, IfNone, IfOk};
+ghost use Rattle.std.specs.List.Sorted.{IsNonDecreasingBy};
+ghost use Rattle.elf_image.specs.faults.Truncation.{IsReadable};
+ghost use Rattle.elf_image.specs.file.Header.{e_phnum, e_shnum};
+ghost use Rattle.elf_image.specs.faults.SegmentLayout.{is_code_section, IsStraySection, LiesInCode};
+ghost use Rattle.elf_image.specs.faults.LowestPlace.{IsLowest, SomeBelow};
+ghost use Rattle.elf_image.specs.internal.SegmentExtents.{AreExtents, IsCodeExtent};
+ghost use Rattle.elf_image.specs.internal.Extents.{IsInOneExtent};
+
+use crate::entries::{SectionTable, SegmentTable};
+use crate::extent::{Extent, is_covered, push_some, reaches_of, sort_by_start};
+use crate::faults::overlap::address_extent;
+use crate::header::{e_phnum, e_shnum};
+use crate::lowest::{lowest_below, place_if};
+use crate::section::SectionHeader;
+use rb_bytes::fault::NoMemory;
+use std::alloc::Global;
+
+/// The place of a section with code that lies in no executable segment.
+pub fn lowest_stray_section(alloc: Global, file: &[u8]) -> Result<Option<u64>, NoMemory>
+    requires { IsReadable file.now }
+    ensures { IfOk result (λ lowest. IsLowest (SomeBelow (e_shnum file.now) (IsStraySection file.now)) lowest) }
+{
+    let mut codes = code_extents(alloc, SegmentTable { file })?;
+    sort_by_start(&mut codes)?;
+    let reaches = reaches_of(alloc, &codes)?;
+    Ok(lowest_stray(SectionTable { file }, &reaches))
+}
+
+// The addresses of each executable segment.
+fn code_extents(alloc: Global, segments: SegmentTable) -> Result<Vec<Extent>, NoMemory>
+    ensures { IfOk result (λ extents. AreExtents (IsCodeExtent segments.entry.file.now) (e_phnum segments.entry.file.now) extents.items) }
+{
+    let mut extents = Vec::new(alloc);
+    for index in 0..e_phnum(segments.file) {
+        push_some(&mut extents, code_extent(segments, index))?;
+    }
+    Ok(extents)
+}
+
+// The addresses of a segment, if it is executable and has any.
+fn code_extent(segments: SegmentTable, index: u16) -> Option<Extent>
+    requires index { index < e_phnum segments.file.now }
+    ensures some { IfSome result (λ s. IsCodeExtent segments.entry.file.now index s) }
+    ensures none { IfNone result ((s : Extent) → IsCodeExtent segments.entry.file.now index s → ⊥) }
+{
+    if segments.segment_of(index).is_code() {
+        address_extent(segments, index)
+    } else {
+        None
+    }
+}
+
+// Whether a section holds code that no range covers. No byte of an empty one lies outside.
+fn is_stray(reaches: &[Extent], section: &SectionHeader) -> bool
+    requires rising { IsNonDecreasingBy (λ s. s.start) reaches.now }
+    requires growing { IsNonDecreasingBy (λ s. s.end) reaches.now }
+    ensures { IsTrue result ↔ (IsTrue (is_code_section section.now) × (section.now.size ≢ 0) × (IsInOneExtent reaches.now section.now.addr (section.now.addr + section.now.size) → ⊥)) }
+{
+    if section.size == 0 {
+        return false;
+    }
+    let end = section.addr as u128 + section.size as u128;
+    section.is_code() && !is_covered(reaches, section.addr, end)
+}
+
+fn stray_section(headers: SectionTable, reaches: &[Extent], index: u16) -> Option<u64>
+    requires index { index < e_shnum headers.file.now }
+    requires rising { IsNonDecreasingBy (λ s. s.start) reaches.now }
+    requires growing { IsNonDecreasingBy (λ s. s.end) reaches.now }
+    requires covered { (a e : ℕ) → a < e → IsInOneExtent reaches.now a e ↔ LiesInCode headers.file.now a e }
+    ensures { IsLowest (IsStraySection headers.entry.file.now index) result }
+{
+    let is_wrong = is_stray(reaches, &headers.section_of(index));
+    place_if(is_wrong, headers.section_place(index))
+}
+
+fn lowest_stray(headers: SectionTable, reaches: &[Extent]) -> Option<u64>
+    requires rising { IsNonDecreasingBy (λ s. s.start) reaches.now }
+    requires growing { IsNonDecreasingBy (λ s. s.end) reaches.now }
+    requires covered { (a e : ℕ) → a < e → IsInOneExtent reaches.now a e ↔ LiesInCode headers.file.now a e }
+    ensures { IsLowest (SomeBelow (e_shnum headers.entry.file.now) (IsStraySection headers.entry.file.now)) result }
+{
+    lowest_below(
+        e_shnum(headers.file),
+        |index| stray_section(headers, reaches, index),
+    )
+}

@@ -1,0 +1,200 @@
+// Where a file is truncated: the lowest place of each kind of structure.
+ghost use Rattle.std.specs.Prelude.{◌≡◌, ◌<◌, IfNone};
+ghost use Rattle.elf_image.specs.faults.Truncation.{HasHeader, HasContents, IsBadHeaderField, IsTruncatedTable, IsTruncatedSegment, IsTruncatedSection, IsUnnamedSection, AreUnnamedSections, IsUnnamedSymbol, IsUnnamedSymbolOf, IsTruncatedBySegments, IsTruncatedBySections, IsTruncated, IsReadable};
+ghost use Rattle.elf_image.specs.internal.TextEnds.{IsLastEnd};
+ghost use Rattle.elf_image.specs.file.Header.{e_phnum, e_shnum, segment};
+ghost use Rattle.elf_image.specs.faults.LowestPlace.{IsLowest, SomeBelow};
+ghost use Rattle.elf_image.specs.file.Sections.{section_names};
+ghost use Rattle.elf_image.specs.file.Symbols.{symbol_table, symbol_count, symbol_names};
+
+use crate::entries::{
+    SectionTable, SegmentTable, has_contents, has_sections, has_segments, symbol_count,
+    symbol_table,
+};
+use crate::header::{
+    E_PHENTSIZE, E_SHENTSIZE, E_SHSTRNDX, EHDR_SIZE, e_phentsize, e_phnum, e_phoff, e_shentsize,
+    e_shnum, e_shoff, e_shstrndx,
+};
+use crate::lowest::{lower, lowest_below, place_if};
+use crate::names::{last_end, section_names, symbol_names};
+use crate::number::u32_at;
+use crate::range::is_whole;
+use crate::section::{SHDR_SIZE, SHT_SYMTAB, SectionHeader};
+use crate::segment::{PHDR_SIZE, PT_LOAD};
+use crate::symbol::SYM_SIZE;
+
+// The fields without which tables can't be read.
+fn lowest_bad_field(file: &[u8]) -> Option<u64>
+    requires { HasHeader file.now }
+    ensures { IsLowest (IsBadHeaderField file.now) result }
+{
+    let segments = place_if(e_phentsize(file) as usize != PHDR_SIZE, E_PHENTSIZE as u64);
+    let sections = place_if(e_shentsize(file) as usize != SHDR_SIZE, E_SHENTSIZE as u64);
+    let names = place_if(e_shnum(file) <= e_shstrndx(file), E_SHSTRNDX as u64);
+    lower(lower(segments, sections), names)
+}
+
+// The tables of headers.
+fn lowest_truncated_table(file: &[u8]) -> Option<u64>
+    requires { HasHeader file.now }
+    ensures { IsLowest (IsTruncatedTable file.now) result }
+{
+    let segments = place_if(!has_segments(file), e_phoff(file));
+    let sections = place_if(!has_sections(file), e_shoff(file));
+    lower(segments, sections)
+}
+
+fn truncated_segment(segments: SegmentTable, index: u16) -> Option<u64>
+    requires index { index < e_phnum segments.file.now }
+    ensures { IsLowest (IsTruncatedSegment segments.entry.file.now index) result }
+{
+    let segment = segments.segment_of(index);
+    let is_wrong = segment.kind == PT_LOAD
+        && !is_whole(segments.file, segment.offset, segment.filesz);
+    place_if(is_wrong, segment.offset)
+}
+
+// The bytes of loaded segments.
+fn lowest_truncated_segment(segments: SegmentTable) -> Option<u64>
+    ensures { IsLowest (SomeBelow (e_phnum segments.entry.file.now) (IsTruncatedSegment segments.entry.file.now)) result }
+{
+    lowest_below(
+        e_phnum(segments.file),
+        |index| truncated_segment(segments, index),
+    )
+}
+
+fn truncated_section(headers: SectionTable, index: u16) -> Option<u64>
+    requires index { index < e_shnum headers.file.now }
+    ensures { IsLowest (IsTruncatedSection headers.entry.file.now index) result }
+{
+    let section = headers.section_of(index);
+    place_if(!has_contents(headers.file, &section), section.offset)
+}
+
+// The contents of sections.
+fn lowest_truncated_section(headers: SectionTable) -> Option<u64>
+    ensures { IsLowest (SomeBelow (e_shnum headers.entry.file.now) (IsTruncatedSection headers.entry.file.now)) result }
+{
+    lowest_below(
+        e_shnum(headers.file),
+        |index| truncated_section(headers, index),
+    )
+}
+
+fn unnamed_section(headers: SectionTable, index: u16, end: usize) -> Option<u64>
+    requires index { index < e_shnum headers.file.now }
+    requires end { IsLastEnd (section_names headers.file.now) end }
+    ensures { IsLowest (IsUnnamedSection headers.entry.file.now index) result }
+{
+    let section = headers.section_of(index);
+    place_if(end <= section.name as usize, headers.section_place(index))
+}
+
+// The names of sections in a table that is whole.
+fn lowest_unnamed_in(headers: SectionTable, table: &[u8]) -> Option<u64>
+    requires names { table.now ≡ section_names headers.file.now }
+    ensures { IsLowest (SomeBelow (e_shnum headers.entry.file.now) (IsUnnamedSection headers.entry.file.now)) result }
+{
+    let end = last_end(table);
+    let mut lowest = None;
+    for index in 0..e_shnum(headers.file) {
+        lowest = lower(lowest, unnamed_section(headers, index, end));
+    }
+    lowest
+}
+
+// The names of sections.
+fn lowest_unnamed_section(headers: SectionTable) -> Option<u64>
+    ensures { IsLowest (AreUnnamedSections headers.entry.file.now) result }
+{
+    match section_names(headers) {
+        Some(table) => lowest_unnamed_in(headers, table),
+        None => None,
+    }
+}
+
+fn unnamed_symbol(file: &[u8], table: &SectionHeader, index: usize, end: usize) -> Option<u64>
+    requires whole { HasContents file.now table.now }
+    requires is_table { table.now.kind ≡ SHT_SYMTAB }
+    requires index { index < symbol_count table.now }
+    requires end { IsLastEnd (symbol_names file.now table.now) end }
+    ensures { IsLowest (IsUnnamedSymbol file.now table.now index) result }
+{
+    let place = table.offset as usize + SYM_SIZE * index;
+    place_if(end <= u32_at(file, place) as usize, place as u64)
+}
+
+// The names of a table's symbols in a table of names that is whole.
+fn lowest_unnamed_of(file: &[u8], table: &SectionHeader, names: &[u8]) -> Option<u64>
+    requires whole { HasContents file.now table.now }
+    requires is_table { table.now.kind ≡ SHT_SYMTAB }
+    requires names { names.now ≡ symbol_names file.now table.now }
+    ensures { IsLowest (SomeBelow (symbol_count table.now) (IsUnnamedSymbol file.now table.now)) result }
+{
+    let end = last_end(names);
+    let mut lowest = None;
+    for index in 0..symbol_count(table) {
+        lowest = lower(lowest, unnamed_symbol(file, table, index, end));
+    }
+    lowest
+}
+
+// The names of symbols.
+fn lowest_unnamed_symbol(headers: SectionTable) -> Option<u64>
+    ensures { IsLowest (IsUnnamedSymbolOf headers.entry.file.now (symbol_table headers.entry.file.now)) result }
+{
+    let Some(table) = symbol_table(headers) else {
+        return None;
+    };
+    match symbol_names(headers, &table) {
+        Some(names) => lowest_unnamed_of(headers.file, &table, names),
+        None => None,
+    }
+}
+
+// What the table of program headers names.
+fn lowest_truncated_by_segments(file: &[u8]) -> Option<u64>
+    requires { HasHeader file.now }
+    ensures { IsLowest (IsTruncatedBySegments file.now) result }
+{
+    if has_segments(file) {
+        lowest_truncated_segment(SegmentTable { file })
+    } else {
+        None
+    }
+}
+
+// What the table of section headers names.
+fn lowest_truncated_by_sections(file: &[u8]) -> Option<u64>
+    requires { HasHeader file.now }
+    ensures { IsLowest (IsTruncatedBySections file.now) result }
+{
+    if !has_sections(file) {
+        return None;
+    }
+    let headers = SectionTable { file };
+    let names = lower(
+        lowest_unnamed_section(headers),
+        lowest_unnamed_symbol(headers),
+    );
+    lower(lowest_truncated_section(headers), names)
+}
+
+/// The lowest place at which a file is truncated: the offset of a structure that does not lie whole
+/// in it, of a section header or symbol whose name has no end, or of a field of the header. gABI,
+/// "ELF Header".
+pub fn lowest_truncated(file: &[u8]) -> Option<u64>
+    ensures lowest { IsLowest (IsTruncated file.now) result }
+    ensures readable { IfNone result (IsReadable file.now) }
+{
+    if file.len() < EHDR_SIZE {
+        return Some(0);
+    }
+    let header = lower(lowest_bad_field(file), lowest_truncated_table(file));
+    let tables = lower(
+        lowest_truncated_by_segments(file),
+        lowest_truncated_by_sections(file),
+    );
+    lower(header, tables)
+}

@@ -1,0 +1,73 @@
+// Numbers and bytes that are appended to a file, or written over it. ELF files of this machine are
+// little-endian. psABI, "File Header".
+use crate::error::BuildError;
+use std::alloc::AllocError;
+
+/// Appends a number of two bytes.
+pub fn push_u16(file: &mut Vec<u8>, number: u16) -> Result<(), AllocError> {
+    file.extend_from_slice(&number.to_le_bytes())
+}
+
+/// Appends a number of four bytes.
+pub fn push_u32(file: &mut Vec<u8>, number: u32) -> Result<(), AllocError> {
+    file.extend_from_slice(&number.to_le_bytes())
+}
+
+/// Appends a number of eight bytes.
+pub fn push_u64(file: &mut Vec<u8>, number: u64) -> Result<(), AllocError> {
+    file.extend_from_slice(&number.to_le_bytes())
+}
+
+/// Appends numbers of four bytes each.
+pub fn push_u32s(file: &mut Vec<u8>, numbers: &[u32]) -> Result<(), AllocError> {
+    for number in numbers {
+        push_u32(file, *number)?;
+    }
+    Ok(())
+}
+
+/// Appends numbers of eight bytes each.
+pub fn push_u64s(file: &mut Vec<u8>, numbers: &[u64]) -> Result<(), AllocError> {
+    for number in numbers {
+        push_u64(file, *number)?;
+    }
+    Ok(())
+}
+
+/// Appends zeros up to a size. A file that has it already stays.
+pub fn grow(file: &mut Vec<u8>, size: usize) -> Result<(), AllocError> {
+    if file.len() < size {
+        file.resize(size, 0)?;
+    }
+    Ok(())
+}
+
+/// Appends zeros up to a multiple of a number of bytes; 0 and 1 ask for none.
+pub fn pad(file: &mut Vec<u8>, align: u64) -> Result<(), AllocError> {
+    if align > 1 {
+        let past = file.len() as u64 % align;
+        if past > 0 {
+            for _ in past..align {
+                file.push(0)?;
+            }
+        }
+    }
+    Ok(())
+}
+
+/// Writes bytes over those at an offset, as far as the file goes.
+pub fn patch(file: &mut [u8], offset: usize, bytes: &[u8]) {
+    for (place, byte) in file.iter_mut().skip(offset).zip(bytes) {
+        *place = *byte;
+    }
+}
+
+/// Puts bytes at an offset. A shorter file grows, with zeros before them.
+pub fn place(file: &mut Vec<u8>, offset: u64, bytes: &[u8]) -> Result<(), BuildError> {
+    let end = offset
+        .checked_add(bytes.len() as u64)
+        .ok_or(BuildError::TooLarge)?;
+    grow(file, end as usize)?;
+    patch(file, offset as usize, bytes);
+    Ok(())
+}

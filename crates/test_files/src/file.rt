@@ -1,0 +1,174 @@
+// A whole file from its parts.
+use crate::bytes::{pad, place};
+use crate::error::BuildError;
+use crate::headers::{ET_EXEC, FileHeader, push_file_header, push_segment};
+use crate::parts::{Piece, Relocation, Section, Symbol};
+use crate::writer::Writer;
+use elf_image::Segment;
+use elf_image::header::EHDR_SIZE;
+use elf_image::segment::{PHDR_SIZE, PT_LOAD};
+use std::alloc::Global;
+
+/// Where the table of program headers stands.
+#[derive(Clone, Copy, PartialEq, Eq, Debug)]
+pub enum HeaderTable {
+    /// At an offset.
+    At(u64),
+    /// Behind all bytes that have their places, at a multiple of 8.
+    BehindSegments,
+    /// At the end of the file.
+    Last,
+}
+
+/// The size of a page, to which segments are aligned.
+pub const PAGE: u64 = 0x1000;
+
+/// A file that is put together. A test may change each part before the file is built.
+///
+/// The file has, in this order: its header; the bytes that have their places; sections without a place; a section of
+/// relocations for each section that has some; the symbols and their names, where there are symbols; the names of
+/// sections; and the section headers, at a multiple of 8.
+#[derive(Drop)]
+pub struct ElfFile<'a> {
+    /// `e_type`.
+    pub kind: u16,
+    pub entry: u64,
+    /// `e_flags`.
+    pub flags: u32,
+    pub header_table: HeaderTable,
+    pub segments: Vec<Segment>,
+    /// Bytes that no section has.
+    pub pieces: Vec<Piece<'a>>,
+    /// The sections, without the null one and without those of relocations, symbols and names.
+    pub sections: Vec<Section<'a>>,
+    /// The symbols, without the null one.
+    pub symbols: Vec<Symbol<'a>>,
+    pub relocations: Vec<Relocation<'a>>,
+}
+
+impl<'a> ElfFile<'a> {
+    /// An executable without segments and sections, whose program headers stand behind its header.
+    pub fn new(alloc: Global, entry: u64) -> ElfFile<'a> {
+        ElfFile {
+            kind: ET_EXEC,
+            entry,
+            flags: 0,
+            header_table: HeaderTable::At(EHDR_SIZE as u64),
+            segments: Vec::new(alloc),
+            pieces: Vec::new(alloc),
+            sections: Vec::new(alloc),
+            symbols: Vec::new(alloc),
+            relocations: Vec::new(alloc),
+        }
+    }
+
+    /// Adds a loaded segment that begins at an offset of the file and at an address, and ends with the last of these
+    /// sections, which it loads.
+    pub fn add_segment(
+        &mut self,
+        flags: u32,
+        offset: u64,
+        vaddr: u64,
+        sections: &[Section<'a>],
+    ) -> Result<(), BuildError> {
+        let mut size = 0;
+        for section in sections {
+            let before = section.addr.checked_sub(vaddr).ok_or(BuildError::TooLarge)?;
+            let end = before
+                .checked_add(section.size)
+                .ok_or(BuildError::TooLarge)?;
+            let place = before.checked_add(offset).ok_or(BuildError::TooLarge)?;
+            self.sections.push(Section {
+                offset: Some(place),
+                ..*section
+            })?;
+            size = end.max(size);
+        }
+        self.segments.push(Segment {
+            kind: PT_LOAD,
+            flags,
+            offset,
+            vaddr,
+            paddr: vaddr,
+            filesz: size,
+            memsz: size,
+            align: PAGE,
+        })?;
+        Ok(())
+    }
+
+    /// The bytes of the file.
+    pub fn build(&self, alloc: Global) -> Result<Vec<u8>, BuildError> {
+        let mut writer = Writer::new(alloc)?;
+        self.place_parts(&mut writer.bytes)?;
+        let phoff = self.place_table(alloc, &mut writer.bytes)?;
+        for section in &self.sections {
+            writer.add_section(b"", section)?;
+        }
+        writer.add_relocations(alloc, self)?;
+        writer.add_symbols(alloc, self)?;
+        writer.add_names()?;
+        let shoff = writer.add_section_headers()?;
+        let phoff = match phoff {
+            Some(offset) => offset,
+            None => {
+                let offset = writer.bytes.len() as u64;
+                self.put_table(alloc, &mut writer.bytes, offset)?;
+                offset
+            }
+        };
+        let shnum = writer.section_count()?;
+        let mut header = Vec::new(alloc);
+        push_file_header(
+            &mut header,
+            &FileHeader {
+                kind: self.kind,
+                entry: self.entry,
+                phoff,
+                shoff,
+                flags: self.flags,
+                phnum: u16::try_from(self.segments.len()).map_err(|_| BuildError::TooLarge)?,
+                shnum,
+                shstrndx: shnum.saturating_sub(1),
+            },
+        )?;
+        place(&mut writer.bytes, 0, &header)?;
+        Ok(writer.bytes)
+    }
+
+    // Puts what has a place there.
+    fn place_parts(&self, file: &mut Vec<u8>) -> Result<(), BuildError> {
+        for piece in &self.pieces {
+            place(file, piece.offset, piece.bytes)?;
+        }
+        for section in &self.sections {
+            if let Some(offset) = section.offset {
+                place(file, offset, section.bytes)?;
+            }
+        }
+        Ok(())
+    }
+
+    // Puts the program headers where they stand, unless that is the end of the file.
+    fn place_table(&self, alloc: Global, file: &mut Vec<u8>) -> Result<Option<u64>, BuildError> {
+        let offset = match self.header_table {
+            HeaderTable::At(offset) => offset,
+            HeaderTable::BehindSegments => {
+                pad(file, 8)?;
+                file.len() as u64
+            }
+            HeaderTable::Last => return Ok(None),
+        };
+        self.put_table(alloc, file, offset)?;
+        Ok(Some(offset))
+    }
+
+    // Puts the program headers at an offset.
+    fn put_table(&self, alloc: Global, file: &mut Vec<u8>, offset: u64) -> Result<(), BuildError> {
+        let mut table = Vec::new(alloc);
+        for segment in &self.segments {
+            push_segment(&mut table, segment)?;
+        }
+        place(file, offset, &table)
+    }
+}

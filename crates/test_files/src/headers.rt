@@ -1,0 +1,113 @@
+// The headers of a file, field by field.
+use crate::bytes::{push_u16, push_u32, push_u64};
+use elf_image::header::{EHDR_SIZE, EM_RISCV, IDENTIFICATION};
+use elf_image::section::SHDR_SIZE;
+use elf_image::segment::PHDR_SIZE;
+use elf_image::{SectionHeader, Segment};
+use std::alloc::AllocError;
+
+/// The type of an executable. gABI, "ELF Header".
+pub const ET_EXEC: u16 = 2;
+
+/// The type of a file that can be loaded anywhere. gABI, "ELF Header".
+pub const ET_DYN: u16 = 3;
+
+/// The flag of a program with compressed instructions. psABI, "File Header".
+pub const EF_RISCV_RVC: u32 = 1;
+
+// The only version. gABI, "ELF Header".
+const EV_CURRENT: u32 = 1;
+
+/// The fields of the file's header in which files differ, in their order. gABI, "ELF Header".
+#[derive(Clone, Copy, PartialEq, Eq, Debug)]
+pub struct FileHeader {
+    /// `e_type`.
+    pub kind: u16,
+    /// `e_entry`.
+    pub entry: u64,
+    /// `e_phoff`: where the program headers stand.
+    pub phoff: u64,
+    /// `e_shoff`: where the section headers stand.
+    pub shoff: u64,
+    /// `e_flags`.
+    pub flags: u32,
+    /// `e_phnum`.
+    pub phnum: u16,
+    /// `e_shnum`.
+    pub shnum: u16,
+    /// `e_shstrndx`: the index of the section with the names of sections.
+    pub shstrndx: u16,
+}
+
+/// Appends the file's header, of 64 bytes.
+pub fn push_file_header(file: &mut Vec<u8>, header: &FileHeader) -> Result<(), AllocError> {
+    file.extend_from_slice(IDENTIFICATION)?;
+    file.extend_from_slice(&[0; 9])?;
+    push_u16(file, header.kind)?;
+    push_u16(file, EM_RISCV)?;
+    push_u32(file, EV_CURRENT)?;
+    push_u64(file, header.entry)?;
+    push_u64(file, header.phoff)?;
+    push_u64(file, header.shoff)?;
+    push_u32(file, header.flags)?;
+    push_u16(file, EHDR_SIZE as u16)?;
+    push_u16(file, PHDR_SIZE as u16)?;
+    push_u16(file, header.phnum)?;
+    push_u16(file, SHDR_SIZE as u16)?;
+    push_u16(file, header.shnum)?;
+    push_u16(file, header.shstrndx)
+}
+
+/// The offsets of some fields in a program header. gABI, "Program Header".
+pub const P_FLAGS: usize = 4;
+
+pub const P_VADDR: usize = 16;
+
+pub const P_MEMSZ: usize = 40;
+
+/// Appends a program header, of 56 bytes.
+pub fn push_segment(file: &mut Vec<u8>, segment: &Segment) -> Result<(), AllocError> {
+    push_u32(file, segment.kind)?;
+    push_u32(file, segment.flags)?;
+    push_u64(file, segment.offset)?;
+    push_u64(file, segment.vaddr)?;
+    push_u64(file, segment.paddr)?;
+    push_u64(file, segment.filesz)?;
+    push_u64(file, segment.memsz)?;
+    push_u64(file, segment.align)
+}
+
+/// The offsets of some fields in a section header. gABI, "Section Header".
+pub const SH_FLAGS: usize = 8;
+
+pub const SH_ADDR: usize = 16;
+
+pub const SH_ADDRALIGN: usize = 48;
+
+/// Appends a section header, of 64 bytes.
+pub fn push_section_header(file: &mut Vec<u8>, section: &SectionHeader) -> Result<(), AllocError> {
+    push_u32(file, section.name)?;
+    push_u32(file, section.kind)?;
+    push_u64(file, section.flags)?;
+    push_u64(file, section.addr)?;
+    push_u64(file, section.offset)?;
+    push_u64(file, section.size)?;
+    push_u32(file, section.link)?;
+    push_u32(file, section.info)?;
+    push_u64(file, section.align)?;
+    push_u64(file, section.entsize)
+}
+
+/// The header of the null section: all zeros. gABI, "Sections".
+pub const NULL_SECTION: SectionHeader = SectionHeader {
+    name: 0,
+    kind: 0,
+    flags: 0,
+    addr: 0,
+    offset: 0,
+    size: 0,
+    link: 0,
+    info: 0,
+    align: 0,
+    entsize: 0,
+};

@@ -1,0 +1,19 @@
+//! Executables for tests, put together from named parts.
+#![tactic(auto)]
+
+pub mod bytes;
+pub mod code;
+pub mod error;
+pub mod file;
+pub mod headers;
+pub mod inst;
+pub mod parts;
+pub mod shapes;
+pub mod tables;
+mod writer;
+
+pub use code::{assemble, assemble_short, push_code};
+pub use error::BuildError;
+pub use file::{ElfFile, HeaderTable};
+pub use parts::{Piece, Relocation, Section, Symbol};
+pub use shapes::{exit7, exit7_code, program, program_at, two_segments};

@@ -1,0 +1,152 @@
+// The parts that a file is put together from.
+use elf_image::section::{SHF_ALLOC, SHF_EXECINSTR, SHT_PROGBITS};
+use elf_image::symbol::STT_FUNC;
+
+/// The flag of a section that may be written. gABI, "Section Attribute Flags".
+pub const SHF_WRITE: u64 = 1;
+
+/// The flag of a section whose `sh_info` is the index of a section. gABI, "Section Attribute Flags".
+pub const SHF_INFO_LINK: u64 = 0x40;
+
+/// The type of a symbol that says nothing of what it names. gABI, "Symbol Types".
+pub const STT_NOTYPE: u8 = 0;
+
+/// The bindings of symbols. gABI, "Symbol Binding".
+pub const STB_LOCAL: u8 = 0;
+
+pub const STB_GLOBAL: u8 = 1;
+
+/// The section of a symbol whose value is no address of a section. gABI, "Special Section Indexes".
+pub const SHN_ABS: u16 = 0xfff1;
+
+/// Bytes that stand at an offset of the file.
+#[derive(Clone, Copy, PartialEq, Eq, Debug)]
+pub struct Piece<'a> {
+    pub offset: u64,
+    pub bytes: &'a [u8],
+}
+
+/// A section: the fields of its header, its name, and its bytes.
+#[derive(Clone, Copy, PartialEq, Eq, Debug)]
+pub struct Section<'a> {
+    pub name: &'a [u8],
+    /// `sh_type`.
+    pub kind: u32,
+    pub flags: u64,
+    pub addr: u64,
+    /// Where it stands in the file. Without one it stands behind all bytes that have their places.
+    pub offset: Option<u64>,
+    /// What the file holds of it.
+    pub bytes: &'a [u8],
+    /// `sh_size`.
+    pub size: u64,
+    pub link: u32,
+    pub info: u32,
+    pub align: u64,
+    pub entsize: u64,
+}
+
+impl<'a> Section<'a> {
+    /// A section of bytes that isn't loaded.
+    pub fn unloaded(name: &'a [u8], bytes: &'a [u8]) -> Section<'a> {
+        Section {
+            name,
+            kind: SHT_PROGBITS,
+            flags: 0,
+            addr: 0,
+            offset: None,
+            bytes,
+            size: bytes.len() as u64,
+            link: 0,
+            info: 0,
+            align: 1,
+            entsize: 0,
+        }
+    }
+
+    /// A section of bytes that is loaded at an address. The segment that it is added to gives its offset.
+    pub fn loaded(name: &'a [u8], addr: u64, bytes: &'a [u8]) -> Section<'a> {
+        Section {
+            flags: SHF_ALLOC,
+            addr,
+            ..Section::unloaded(name, bytes)
+        }
+    }
+
+    /// A section of bytes that is loaded at an address and may be written.
+    pub fn writable(name: &'a [u8], addr: u64, bytes: &'a [u8]) -> Section<'a> {
+        Section {
+            flags: SHF_ALLOC | SHF_WRITE,
+            align: 8,
+            ..Section::loaded(name, addr, bytes)
+        }
+    }
+
+    /// A section of instructions of four bytes that is loaded at an address.
+    pub fn code(name: &'a [u8], addr: u64, bytes: &'a [u8]) -> Section<'a> {
+        Section {
+            flags: SHF_ALLOC | SHF_EXECINSTR,
+            align: 4,
+            ..Section::loaded(name, addr, bytes)
+        }
+    }
+
+    // Whether an address is one of the section's in memory.
+    pub(crate) fn has_address(&self, addr: u64) -> bool {
+        self.flags & SHF_ALLOC != 0 && self.addr <= addr && addr - self.addr < self.size
+    }
+}
+
+/// A symbol.
+#[derive(Clone, Copy, PartialEq, Eq, Debug)]
+pub struct Symbol<'a> {
+    pub name: &'a [u8],
+    pub value: u64,
+    pub size: u64,
+    /// Its type, as `STT_FUNC`.
+    pub kind: u8,
+    /// Its binding, as `STB_GLOBAL`.
+    pub binding: u8,
+    /// `st_other`.
+    pub other: u8,
+    /// `st_shndx`. Without one it is that of the first loaded section that holds the value.
+    pub section: Option<u16>,
+}
+
+impl<'a> Symbol<'a> {
+    /// A global symbol without a type and a size.
+    pub fn label(name: &'a [u8], value: u64) -> Symbol<'a> {
+        Symbol {
+            name,
+            value,
+            size: 0,
+            kind: STT_NOTYPE,
+            binding: STB_GLOBAL,
+            other: 0,
+            section: None,
+        }
+    }
+
+    /// A global symbol of a function.
+    pub fn function(name: &'a [u8], value: u64, size: u64) -> Symbol<'a> {
+        Symbol {
+            size,
+            kind: STT_FUNC,
+            ..Symbol::label(name, value)
+        }
+    }
+}
+
+/// A relocation that the linker kept, with an addend.
+#[derive(Clone, Copy, PartialEq, Eq, Debug)]
+pub struct Relocation<'a> {
+    /// The name of the section that it applies to.
+    pub section: &'a [u8],
+    /// `r_offset`: the address that it applies to.
+    pub offset: u64,
+    /// Its type, as `R_RISCV_HI20`.
+    pub kind: u32,
+    /// The name of its symbol; the empty one is that of the null symbol.
+    pub symbol: &'a [u8],
+    pub addend: i64,
+}
