@@ -1,5 +1,6 @@
 -- The map from old code to new code: where an instruction went, which one owns a byte, and which maps are valid.
-use Rattle.std.specs.Prelude.{◌≡◌, ◌≢◌, ◌⊎◌, ℕ, ◌+◌, ◌%◌, ◌<◌, ◌≤◌, ◌==◌, ◌&&◌, nat_lt, nat_le, Bool, IsTrue, List, Option, All, AllPairs, Any, find, is_some, option_map, unwrap_or}
+use Rattle.std.specs.Prelude.{◌≡◌, ◌≢◌, ◌⊎◌, ℕ, ◌+◌, ◌%◌, ◌<◌, ◌≤◌, ◌==◌, ◌&&◌, nat_lt, nat_le, Bool, IsTrue, List, Option}
+use Rattle.std.specs.Prelude.{All, AllPairs, Any, find, is_some, option_map, unwrap_or}
 use Rattle.addr_map.specs.declared.span.Span.{Span}
 
 abbrev pub is_of : ℕ → Span → Bool

@@ -1,0 +1,84 @@
+-- Where an instruction went, by columns in the order of the old addresses.
+use Rattle.std.proofs.Common.{◌≡◌, ◌≢◌, ◌+◌, ◌<◌, ◌≤◌, ℕ, zero, suc, Bool, true, false, List, [], ◌∷◌, Option, Some, None}
+use Rattle.std.proofs.Common.{cond, map, length, get_or, arith, refl, ⊎_elim}
+use Rattle.std.specs.Prelude.{◌==◌, find, option_map}
+use Rattle.std.proofs.lemmas.Bool.{cases_lt}
+use Rattle.std.proofs.lemmas.Grind.{common_steps}
+use Rattle.rb_lanes.specs.Ranking.{rank}
+use Rattle.addr_map.specs.internal.Columns.{IsAscending}
+use Rattle.addr_map.specs.internal.Orders.{IsRising, moved_in}
+use Rattle.addr_map.specs.Spans.{moved, is_of}
+use Rattle.addr_map.specs.declared.span.Span.{Span}
+use Rattle.addr_map.proofs.Columns.{IsRank, rank_at}
+
+pub rising_ascends : (xs : List ℕ) → IsRising xs → IsAscending xs
+rising_ascends xs up i j le lt = ⊎_elim
+    (λ (below : i < j). let less : get_or xs i 0 < get_or xs j 0 = up i j below lt in omega arith)
+    (λ (above : j ≤ i). let same : i ≡ j = omega arith in rw same (omega arith))
+    (cases_lt i j)
+
+moved_none : (inputs outs : List ℕ) (a : ℕ) → ((i : ℕ) → i < length inputs → get_or inputs i 0 ≢ a)
+    → moved_in inputs outs a ≡ None
+moved_none [] outs a none = refl
+moved_none (input ∷ inputs) [] a none = refl
+moved_none (input ∷ inputs) (out ∷ outs) a none =
+    let other : input ≢ a = none 0 (omega arith) in
+    let rest : moved_in inputs outs a ≡ None = moved_none inputs outs a (λ i lt. none (suc i) (omega arith)) in
+    grind (arith, common_steps)
+
+moved_at : (inputs outs : List ℕ) (a i : ℕ) → length outs ≡ length inputs → i < length inputs → get_or inputs i 0 ≡ a
+    → ((j : ℕ) → j < i → get_or inputs j 0 ≢ a)
+    → moved_in inputs outs a ≡ Some (get_or outs i 0)
+moved_at [] outs a i same lt here before = absurd (omega arith)
+moved_at (input ∷ inputs) [] a i same lt here before = absurd (omega arith)
+moved_at (input ∷ inputs) (out ∷ outs) a zero same lt here before = grind (arith, common_steps)
+moved_at (input ∷ inputs) (out ∷ outs) a (suc i) same lt here before =
+    let other : input ≢ a = before 0 (omega arith) in
+    let rest : moved_in inputs outs a ≡ Some (get_or outs i 0)
+    = moved_at inputs outs a i (omega arith) (omega arith) here (λ j less. before (suc j) (omega arith)) in
+    grind (arith, common_steps)
+
+-- columns of the parts of spans answer as the spans do
+pub moved_parts : (spans : List Span) (a : ℕ) → moved_in (map (λ s. s.input) spans) (map (λ s. s.out) spans) a ≡ moved spans a
+moved_parts [] a = refl
+moved_parts (s ∷ spans) a = step (s.input == a) s _ (find (is_of a) spans) (moved_parts spans a)
+  where
+    step : (b : Bool) (s : Span) (o : Option ℕ) (f : Option Span) → o ≡ option_map (λ s. s.out) f
+        → cond b (Some s.out) o ≡ option_map (λ s. s.out) (cond b (Some s) f)
+    step true s o f e = refl
+    step false s o f e = e
+
+-- what is found at the last place up to an address
+pub moved_low : (inputs outs : List ℕ) (a : ℕ) → IsRising inputs → rank inputs a ≡ 0 → moved_in inputs outs a ≡ None
+moved_low inputs outs a up none =
+    let r : IsRank inputs a (rank inputs a) = rank_at inputs a (rising_ascends inputs up) in
+    moved_none inputs outs a (λ i lt e. let above : a < get_or inputs i 0 = r.high i (omega arith) lt in omega arith)
+
+pub moved_inside : (inputs outs : List ℕ) (a i : ℕ) → IsRising inputs → length outs ≡ length inputs → rank inputs a ≡ i + 1
+    → i < length outs
+moved_inside inputs outs a i up same count =
+    let r : IsRank inputs a (rank inputs a) = rank_at inputs a (rising_ascends inputs up) in
+    omega (arith, r.within)
+
+pub moved_here : (inputs outs : List ℕ) (a i : ℕ) → IsRising inputs → length outs ≡ length inputs → rank inputs a ≡ i + 1
+    → get_or inputs i 0 ≡ a
+    → moved_in inputs outs a ≡ Some (get_or outs i 0)
+moved_here inputs outs a i up same count here =
+    let r : IsRank inputs a (rank inputs a) = rank_at inputs a (rising_ascends inputs up) in
+    let inside : i < length inputs = omega (arith, r.within) in
+    moved_at inputs outs a i same inside here
+    (λ j lt e. let below : get_or inputs j 0 < get_or inputs i 0 = up j i lt inside in omega arith)
+
+pub moved_other : (inputs outs : List ℕ) (a i : ℕ) → IsRising inputs → rank inputs a ≡ i + 1 → get_or inputs i 0 ≢ a
+    → moved_in inputs outs a ≡ None
+moved_other inputs outs a i up count other =
+    let r : IsRank inputs a (rank inputs a) = rank_at inputs a (rising_ascends inputs up) in
+    let inside : i < length inputs = omega (arith, r.within) in
+    let low : get_or inputs i 0 ≤ a = r.low i (omega arith) in
+    moved_none inputs outs a (λ j lt e. ⊎_elim
+    (λ (before : j < i). let below : get_or inputs j 0 < get_or inputs i 0 = up j i before inside in omega arith)
+    (λ (after : i ≤ j). ⊎_elim
+    (λ (later : i < j). let above : a < get_or inputs j 0 = r.high j (omega arith) lt in omega arith)
+    (λ (sooner : j ≤ i). let at : j ≡ i = omega arith in other (rw at at e))
+    (cases_lt i j))
+    (cases_lt j i))

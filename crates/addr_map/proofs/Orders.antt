@@ -1,0 +1,282 @@
+-- Spans in another order.
+use Rattle.std.proofs.Common.{◌≡◌, ◌≢◌, ◌<◌, ◌≤◌, ◌∙◌, ◌⊎◌, ℕ, zero, suc, true, false, List, [], ◌∷◌, Some}
+use Rattle.std.proofs.Common.{None, inl, inr, cond, map, length, get_or, set, arith, refl, sym, ap, ⊎_elim, length-set}
+use Rattle.std.proofs.Common.{get_or-set_other, get_or-set_same}
+use Rattle.std.specs.Prelude.{◌==◌, AllPairs, IsPermutation}
+use Rattle.std.specs.List.{Contains, swap}
+use Rattle.std.proofs.Math.ListN.{get_or-map}
+use Rattle.std.proofs.lemmas.Bool.{cases_lt, cases_eq, eq-eqb, ne_eqb}
+use Rattle.std.proofs.lemmas.Grind.{common_steps}
+use Rattle.std.proofs.lemmas.List.{length-map, get_or_default}
+use Rattle.std.proofs.lemmas.List.Edits.{swap_is}
+use Rattle.std.proofs.lemmas.List.Elements.{Contains-get_or}
+use Rattle.std.proofs.lemmas.List.Sorted.{IsPermutation-keeps, IsPermutation-sym, Contains-permutation}
+use Rattle.std.specs.List.Sorted.{IsNonDecreasingBy, IsSortedByKey}
+use Rattle.std.specs.Cmp.{IsTotalOrder}
+use Rattle.std.specs.Ordering.{nat_cmp, ordering_then, is_lt}
+use Rattle.std.specs.declared.cmp.Ordering.{Ordering}
+use Rattle.std.specs.declared.cmp.Ordering.TheVariants.{Less, Equal}
+use Rattle.std.proofs.lemmas.Cmp.{then_total, on_total, nat_cmp_total}
+use Rattle.std.proofs.lemmas.List.Sorted.{sorted_far, ranks_by}
+use Rattle.addr_map.specs.internal.Columns.{IsAscending}
+use Rattle.addr_map.specs.MapText.{AreInLineOrder, IsLineBefore}
+use Rattle.addr_map.specs.internal.Orders.{AreApart, IsRising, moved_in}
+use Rattle.addr_map.specs.Spans.{ShareNoByte, moved}
+use Rattle.addr_map.specs.declared.span.Span.{Span}
+use Rattle.addr_map.proofs.Lookups.{moved_parts}
+
+-- the place from which an exchange of i and j takes the element at k
+from : ℕ → ℕ → ℕ → ℕ
+from i j k = cond (k == j) i (cond (k == i) j k)
+
+from_apart : (i j m n : ℕ) → m ≢ n → from i j m ≢ from i j n
+unfolding from
+from_apart i j m n ne e = grind (arith, common_steps)
+
+from_inside : (i j k n : ℕ) → i < n → j < n → k < n → from i j k < n
+unfolding from
+from_inside i j k n a b c = grind (arith, common_steps)
+
+module _ {X : Type 0} where
+  at_swap : (xs : List X) (i j k : ℕ) (d : X) → i < length xs → j < length xs → k < length xs
+      → get_or (swap xs i j) k d ≡ get_or xs (from i j k) d
+  unfolding from
+  at_swap xs i j k d a b c =
+      let ys = set xs i (get_or xs j d) in
+      let long : length ys ≡ length xs = length-set xs i (get_or xs j d) in
+      rw (← swap_is xs i j d a b) (⊎_elim
+      (λ (same : k ≡ j).
+      let inside : j < length ys = omega arith in
+      let there : (k == j) ≡ true = eq-eqb k j same in
+      rw (there, same) (get_or-set_same ys j (get_or xs i d) d inside))
+      (λ (other : k ≢ j). ⊎_elim
+      (λ (same : k ≡ i).
+      let here : (k == j) ≡ false = ne_eqb k j other in
+      let there : (k == i) ≡ true = eq-eqb k i same in
+      rw (here, there, get_or-set_other ys j k (get_or xs i d) d other, same) (get_or-set_same xs i (get_or xs j d) d a))
+      (λ (apart : k ≢ i).
+      let here : (k == j) ≡ false = ne_eqb k j other in
+      let there : (k == i) ≡ false = ne_eqb k i apart in
+      rw (here, there, get_or-set_other ys j k (get_or xs i d) d other) (get_or-set_other xs i k (get_or xs j d) d apart))
+      (cases_eq k i))
+      (cases_eq k j))
+
+  -- what holds of any two elements, in either order, holds of them in any order
+  pub AllPairs-permutation : (R : X → X → Type 0) → ((x y : X) → R x y → R y x) → (xs ys : List X) → IsPermutation xs ys
+      → AllPairs R xs → AllPairs R ys
+  AllPairs-permutation R flip xs ys p all = IsPermutation-keeps xs (AllPairs R) all step ys p
+    where
+      any_two : (l : List X) → AllPairs R l → (m n : ℕ) (d : X) → m ≢ n → m < length l → n < length l
+          → R (get_or l m d) (get_or l n d)
+      any_two l each m n d ne a b = ⊎_elim
+          (λ (lt : m < n). each m n d lt b)
+          (λ (le : n ≤ m). let less : n < m = omega arith in flip (get_or l n d) (get_or l m d) (each n m d less a))
+          (cases_lt m n)
+
+      step : (l : List X) (i j : ℕ) → i < length l → j < length l → AllPairs R l → AllPairs R (swap l i j)
+      step l i j a b each m n d lt inside =
+          let long : length (swap l i j) ≡ length l = ap length (sym (swap_is l i j d a b)) ∙ simp length-set in
+          let m_in : m < length l = omega arith in
+          let n_in : n < length l = omega arith in
+          rw (at_swap l i j m d a b m_in, at_swap l i j n d a b n_in)
+          (any_two l each (from i j m) (from i j n) d (from_apart i j m n (λ e. omega arith))
+          (from_inside i j m (length l) a b m_in) (from_inside i j n (length l) a b n_in))
+
+pub apart_flip : (s t : Span) → AreApart s t → AreApart t s
+apart_flip s t a e = a (sym e)
+
+pub disjoint_flip : (s t : Span) → ShareNoByte s t → ShareNoByte t s
+disjoint_flip s t a p x y = a p y x
+
+-- a span to stand for one past the end of a list
+none : Span
+none = record { out = 0; len = 0; input = 0 }
+
+out_at : (lines : List Span) (i : ℕ) → get_or (map (λ s. s.out) lines) i 0 ≡ (get_or lines i none).out
+unfolding none
+out_at lines i = get_or-map (λ (s : Span). s.out) lines i none
+
+input_at : (lines : List Span) (i : ℕ) → get_or (map (λ s. s.input) lines) i 0 ≡ (get_or lines i none).input
+unfolding none
+input_at lines i = get_or-map (λ (s : Span). s.input) lines i none
+
+no_later : (s t : Span) → IsLineBefore s t → s.out ≤ t.out
+no_later s t (inl lt) = omega arith
+no_later s t (inr (same, _)) = omega arith
+
+-- the lines of a map ascend by new address
+pub lines_ascend : {spans lines : List Span} → AreInLineOrder spans lines → IsAscending (map (λ s. s.out) lines)
+lines_ascend {spans} {lines} o i j le lt =
+    let inside : j < length lines = omega (arith, length-map lines (λ s. s.out)) in
+    rw (out_at lines i, out_at lines j) (⊎_elim
+    (λ (below : i < j). no_later (get_or lines i none) (get_or lines j none) (o.ordered i j none below inside))
+    (λ (least : j ≤ i). let same : i ≡ j = omega arith in rw same (omega arith))
+    (cases_lt i j))
+
+pub lines_disjoint : {spans lines : List Span} → AreInLineOrder spans lines → AllPairs ShareNoByte spans
+    → AllPairs ShareNoByte lines
+lines_disjoint {spans} {lines} o all = AllPairs-permutation ShareNoByte disjoint_flip spans lines o.same all
+
+pub lines_apart : {spans lines : List Span} → AreInLineOrder spans lines → AllPairs AreApart spans → AllPairs AreApart lines
+lines_apart {spans} {lines} o all = AllPairs-permutation AreApart apart_flip spans lines o.same all
+
+-- an instruction that is in a list of spans, and one that isn't
+moved_here : (xs : List Span) (a i : ℕ) (d : Span) → i < length xs → (get_or xs i d).input ≡ a
+    → ((j : ℕ) → j < i → (get_or xs j d).input ≢ a)
+    → moved xs a ≡ Some (get_or xs i d).out
+moved_here [] a i d lt e before = absurd (omega arith)
+moved_here (x ∷ xs) a zero d lt e before = let same : (x.input == a) ≡ true = eq-eqb x.input a e in rw same refl
+moved_here (x ∷ xs) a (suc i) d lt e before =
+    let other : (x.input == a) ≡ false = ne_eqb x.input a (before 0 (omega arith)) in
+    rw other (moved_here xs a i d (omega arith) e (λ j less. before (suc j) (omega arith)))
+
+moved_nowhere : (xs : List Span) (a : ℕ) (d : Span) → ((i : ℕ) → i < length xs → (get_or xs i d).input ≢ a) → moved xs a ≡ None
+moved_nowhere [] a d no_span = refl
+moved_nowhere (x ∷ xs) a d no_span =
+    let other : (x.input == a) ≡ false = ne_eqb x.input a (no_span 0 (omega arith)) in
+    rw other (moved_nowhere xs a d (λ i lt. no_span (suc i) (omega arith)))
+
+somewhere : (xs : List Span) (a : ℕ) (d : Span)
+    → ((i : ℕ) × (i < length xs) × ((get_or xs i d).input ≡ a)) ⊎ ((i : ℕ) → i < length xs → (get_or xs i d).input ≢ a)
+somewhere [] a d = inr (λ i lt e. absurd (omega arith))
+somewhere (x ∷ xs) a d = ⊎_elim
+    (λ (same : x.input ≡ a). inl (0, omega arith, same))
+    (λ (other : x.input ≢ a). later other (somewhere xs a d))
+    (cases_eq x.input a)
+  where
+    later : x.input ≢ a
+        → ((i : ℕ) × (i < length xs) × ((get_or xs i d).input ≡ a)) ⊎ ((i : ℕ) → i < length xs → (get_or xs i d).input ≢ a)
+        → ((i : ℕ) × (i < length (x ∷ xs)) × ((get_or (x ∷ xs) i d).input ≡ a))
+        ⊎ ((i : ℕ) → i < length (x ∷ xs) → (get_or (x ∷ xs) i d).input ≢ a)
+    later other (inl (i, lt, e)) = inl (suc i, omega arith, e)
+    later other (inr no_span) = inr (λ i lt. not_at other no_span i lt)
+      where
+        not_at : x.input ≢ a → ((i : ℕ) → i < length xs → (get_or xs i d).input ≢ a) → (i : ℕ) → i < length (x ∷ xs)
+            → (get_or (x ∷ xs) i d).input ≢ a
+        not_at other no_span zero lt = other
+        not_at other no_span (suc i) lt = no_span i (omega arith)
+
+moved_once : (xs : List Span) (a i : ℕ) (d : Span) → AllPairs AreApart xs → i < length xs → (get_or xs i d).input ≡ a
+    → moved xs a ≡ Some (get_or xs i d).out
+moved_once xs a i d once lt e = moved_here xs a i d lt e (λ j less f. once j i d less lt (f ∙ sym e))
+
+-- each instruction is where it was, in any order of the spans
+pub moved_permutation : (xs ys : List Span) (a : ℕ) → IsPermutation xs ys → AllPairs AreApart xs → AllPairs AreApart ys
+    → moved xs a ≡ moved ys a
+moved_permutation xs ys a p once_x once_y = settle (somewhere xs a none)
+  where
+    settle : ((i : ℕ) × (i < length xs) × ((get_or xs i none).input ≡ a)) ⊎
+        ((i : ℕ) → i < length xs → (get_or xs i none).input ≢ a)
+        → moved xs a ≡ moved ys a
+    settle (inl (i, lt, e)) =
+        let s = get_or xs i none in
+        let there : Contains ys s = Contains-permutation xs ys s p (Contains-get_or xs i none lt) in
+        let at : get_or ys there.0 none ≡ s = get_or_default ys there.0 none s there.1 ∙ there.2 in
+        moved_once xs a i none once_x lt e
+        ∙ sym (moved_once ys a there.0 none once_y there.1 (ap (λ t. t.input) at ∙ e) ∙ ap (λ t. Some t.out) at)
+    settle (inr no_span) =
+        moved_nowhere xs a none no_span
+        ∙ sym (moved_nowhere ys a none (λ k lt e.
+        let t = get_or ys k none in
+        let there : Contains xs t = Contains-permutation ys xs t (IsPermutation-sym xs ys p) (Contains-get_or ys k none lt) in
+        let at : get_or xs there.0 none ≡ t = get_or_default xs there.0 none t there.1 ∙ there.2 in
+        no_span there.0 there.1 (ap (λ t. t.input) at ∙ e)))
+
+-- columns by old address answer as the lines do
+pub moved_columns : {spans lines sorted : List Span} {inputs outs : List ℕ} (a : ℕ) → AreInLineOrder spans lines
+    → AllPairs AreApart spans → IsPermutation lines sorted → inputs ≡ map (λ s. s.input) sorted → outs ≡ map (λ s. s.out) sorted
+    → moved_in inputs outs a ≡ moved lines a
+moved_columns {spans} {lines} {sorted} a o once p e f =
+    let once_lines = lines_apart o once in
+    let once_sorted = AllPairs-permutation AreApart apart_flip lines sorted p once_lines in
+    rw (e, f) (moved_parts sorted a ∙ sym (moved_permutation lines sorted a p once_lines once_sorted))
+
+-- a sort by old address
+pub rising_inputs : (xs : List Span) → IsNonDecreasingBy (λ s. s.input) xs → AllPairs AreApart xs
+    → IsRising (map (λ s. s.input) xs)
+rising_inputs xs up once i j lt inside =
+    let inside_xs : j < length xs = omega (arith, length-map xs (λ s. s.input)) in
+    let le : (get_or xs i none).input ≤ (get_or xs j none).input = up i j none (omega arith) inside_xs in
+    let ne : (get_or xs i none).input ≢ (get_or xs j none).input = once i j none lt inside_xs in
+    rw (input_at xs i, input_at xs j) (omega arith)
+
+-- a sort by line
+abbrev pub line_key : Span → ℕ × ℕ × ℕ
+line_key s = (s.out, s.len, s.input)
+
+abbrev pub line_cmp : ℕ × ℕ × ℕ → ℕ × ℕ × ℕ → Ordering
+line_cmp x y = ordering_then (ordering_then (nat_cmp x.0 y.0) (nat_cmp x.1 y.1)) (nat_cmp x.2 y.2)
+
+line_cmp_total : IsTotalOrder line_cmp
+line_cmp_total =
+    then_total (then_total (on_total (λ (k : ℕ × ℕ × ℕ). k.0) nat_cmp_total) (on_total (λ (k : ℕ × ℕ × ℕ). k.1) nat_cmp_total))
+    (on_total (λ (k : ℕ × ℕ × ℕ). k.2) nat_cmp_total)
+
+less : (a b : ℕ) → a < b → nat_cmp a b ≡ Less
+less a b lt = grind (arith, common_steps)
+
+equal : (a b : ℕ) → a ≡ b → nat_cmp a b ≡ Equal
+equal a b e = grind (arith, common_steps)
+
+first_part : (x y : ℕ × ℕ × ℕ) → is_lt (line_cmp x y) ≡ false → y.0 ≤ x.0
+first_part x y h = ⊎_elim
+    (λ (lt : x.0 < y.0). let l = less x.0 y.0 lt in absurd (differ (rw l at h)))
+    (λ (le : y.0 ≤ x.0). le)
+    (cases_lt x.0 y.0)
+  where
+    differ : true ≡ false → ⊥
+    differ e = cc
+
+second_part : (x y : ℕ × ℕ × ℕ) → is_lt (line_cmp x y) ≡ false → x.0 ≡ y.0 → y.1 ≤ x.1
+second_part x y h e = ⊎_elim
+    (λ (lt : x.1 < y.1). let k = equal x.0 y.0 e in let l = less x.1 y.1 lt in absurd (differ (rw (k, l) at h)))
+    (λ (le : y.1 ≤ x.1). le)
+    (cases_lt x.1 y.1)
+  where
+    differ : true ≡ false → ⊥
+    differ e = cc
+
+third_part : (x y : ℕ × ℕ × ℕ) → is_lt (line_cmp x y) ≡ false → x.0 ≡ y.0 → x.1 ≡ y.1 → y.2 ≤ x.2
+third_part x y h e f = ⊎_elim
+    (λ (lt : x.2 < y.2).
+    let k = equal x.0 y.0 e in let m = equal x.1 y.1 f in let l = less x.2 y.2 lt in absurd (differ (rw (k, m, l) at h)))
+    (λ (le : y.2 ≤ x.2). le)
+    (cases_lt x.2 y.2)
+  where
+    differ : true ≡ false → ⊥
+    differ e = cc
+
+-- two spans of a map that don't fall are in the order of their lines
+before : (s t : Span) → is_lt (line_cmp (line_key t) (line_key s)) ≡ false → AreApart s t → ShareNoByte s t → IsLineBefore s t
+before s t h apart disjoint =
+    let low = first_part (line_key t) (line_key s) h in
+    ⊎_elim
+    (λ (lt : s.out < t.out). inl lt)
+    (λ (le : t.out ≤ s.out).
+    let same : t.out ≡ s.out = omega arith in
+    let shorter = second_part (line_key t) (line_key s) h same in
+    let one_empty : s.len ≡ 0 = ⊎_elim
+    (λ (e : s.len ≡ 0). e)
+    (λ (ne : s.len ≢ 0). absurd (disjoint s.out (grind (arith, common_steps)) (grind (arith, common_steps))))
+    (cases_eq s.len 0) in
+    inr (
+      sym same,
+      (
+        one_empty,
+        ⊎_elim
+            (λ (none : t.len ≡ 0).
+            let later = third_part (line_key t) (line_key s) h same (none ∙ sym one_empty) in
+            inr (none, omega (arith, later, apart)))
+            (λ (some : t.len ≢ 0). inl (omega arith))
+            (cases_eq t.len 0),
+      ),
+    ))
+    (cases_lt s.out t.out)
+
+pub line_order : (xs : List Span) → IsSortedByKey line_key line_cmp xs → AllPairs AreApart xs → AllPairs ShareNoByte xs
+    → AllPairs IsLineBefore xs
+line_order xs up once disjoint i j d lt inside =
+    before (get_or xs i d) (get_or xs j d)
+    (sorted_far (λ x y. is_lt (line_cmp (line_key x) (line_key y))) (ranks_by line_cmp_total line_key) xs up i j d
+    (omega arith) inside)
+    (once i j d lt inside) (disjoint i j d lt inside)

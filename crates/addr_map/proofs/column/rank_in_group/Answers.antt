@@ -1,0 +1,20 @@
+use Rattle.std.proofs.Common.{◌≡◌, ◌<◌, ◌+◌, ◌*◌, ◌-◌, ◌∙◌, ap, take, drop, arith, refl}
+use Rattle.std.proofs.lemmas.List.{take_min}
+use Rattle.addr_map.proofs.Columns.{rank_none, rank_group}
+use Rattle.addr_map.proofs.column.rank_in_group.Goals as goal
+
+pub returns-then-groups-eq0 : goal.returns-then-groups-eq0
+returns-then-groups-eq0 c = rank_none _ _ _ c.requires.ascending c.requires.groups c.if-groups-eq0.true
+
+pub returns : goal.returns
+returns c =
+    let column = c.args.column.now in
+    let start = 64 * (c.args.groups - 1) in
+    let some : 0 < c.args.groups = omega (arith, c.if-groups-eq0.false) in
+    let rest = c.split_at.result.1.now in
+    let group : c.split_at-2.result.0.now ≡ take 64 (drop start column)
+    = c.split_at-2.ensures.front ∙ ap (λ n. take n rest) c.min.ensures ∙ take_min 64 rest
+    ∙ ap (take 64) c.split_at.ensures.back in
+    ap (λ n. start + n) c.rank.ensures
+    ∙ rank_group column c.split_at-2.result.0.now c.args.x c.args.groups start c.requires.ascending c.requires.groups some
+    refl group

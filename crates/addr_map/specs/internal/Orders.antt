@@ -1,0 +1,43 @@
+-- The spans of a map as columns, by new address and by old address.
+use Rattle.std.specs.Prelude.{ℕ, ◌≡◌, ◌⊎◌, ◌*◌, ◌^◌, ◌<◌, ◌≤◌, ◌==◌, if◌then◌else◌, List, [], ◌∷◌, Option, Some, None}
+use Rattle.std.specs.Prelude.{AllPairs, length, slice_index}
+use Rattle.addr_map.specs.internal.Columns.{IsAscending}
+use Rattle.addr_map.specs.declared.span.Span.{Span}
+use Rattle.addr_map.specs.Spans.{ShareNoByte}
+
+-- two instructions of the input
+abbrev pub AreApart : Span → Span → Type 0
+AreApart s t = s.input ≡ t.input → ⊥
+
+-- the spans whose parts stand in three columns
+abbrev pub spans_of : List ℕ → List ℕ → List ℕ → List Span
+spans_of [] lens inputs = []
+spans_of (out ∷ outs) [] inputs = []
+spans_of (out ∷ outs) (len ∷ lens) [] = []
+spans_of (out ∷ outs) (len ∷ lens) (input ∷ inputs) = record { out = out; len = len; input = input } ∷ spans_of outs lens inputs
+
+-- The holder of a place is the last span with bytes up to there, or the first span.
+pub record IsHolder (lens : List ℕ) (i holder : ℕ) : Type 0 where
+  pub within : holder ≤ i
+  pub last : (j : ℕ) → holder < j → j ≤ i → slice_index lens j ≡ 0
+  pub has : (0 < slice_index lens holder) ⊎ (holder ≡ 0)
+
+-- columns by new address, of spans that fit the memory
+pub record IsByNew (outs lens inputs holders : List ℕ) : Type 0 where
+  pub few : 24 * length outs < 2 ^ 63
+  pub ascending : IsAscending outs
+  pub lens_count : length lens ≡ length outs
+  pub inputs_count : length inputs ≡ length outs
+  pub holders_count : length holders ≡ length outs
+  pub held : (i : ℕ) → i < length outs → IsHolder lens i (slice_index holders i)
+  pub disjoint : AllPairs ShareNoByte (spans_of outs lens inputs)
+
+-- each member is above all before it
+abbrev pub IsRising : List ℕ → Type 0
+IsRising xs = (i j : ℕ) → i < j → j < length xs → slice_index xs i < slice_index xs j
+
+-- where an instruction went, by a column of old addresses and one of new ones
+abbrev pub moved_in : List ℕ → List ℕ → ℕ → Option ℕ
+moved_in [] outs a = None
+moved_in (input ∷ inputs) [] a = None
+moved_in (input ∷ inputs) (out ∷ outs) a = if input == a then Some out else moved_in inputs outs a

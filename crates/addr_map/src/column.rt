@@ -1,0 +1,109 @@
+// Ascending columns of numbers, in which a place is found by a few short counts.
+ghost use Rattle.std.specs.Prelude.{◌≡◌, IfOk};
+ghost use Rattle.rb_lanes.specs.Ranking.{rank};
+ghost use Rattle.addr_map.specs.internal.Columns.{IsAscending, IsFirsts, IsGroupCount, AreLevels};
+
+use rb_bytes::fault::NoMemory;
+use rb_lanes::rank;
+use std::alloc::Global;
+use std::marker::Model;
+
+/// How many members of a column one member of the level over it stands for.
+const GROUP: usize = 64;
+
+/// Numbers that ascend, with levels over them: each level has the first of each 64 members of the one below it, and the
+/// highest has at most 64 members.
+#[derive(Drop)]
+pub(crate) struct SortedColumn {
+    members: Vec<u64>,
+    levels: Vec<Vec<u64>>,
+}
+
+impl Model for SortedColumn {
+    ghost use Rattle.std.specs.Prelude.{ℕ, List};
+    ghost use Rattle.addr_map.specs.internal.Columns.{IsSearchable};
+
+    ghost Value = { List ℕ };
+
+    ghost view = { λ column. column.members.items };
+
+    ghost invariant = { λ column. IsSearchable column.members.items column.levels.items };
+}
+
+impl SortedColumn {
+    /// Puts levels over numbers that ascend.
+    pub(crate) fn new(alloc: Global, members: Vec<u64>) -> Result<SortedColumn, NoMemory>
+        requires { IsAscending members.items }
+        ensures { IfOk result (λ column. column ≡ members.items) }
+    {
+        let levels = levels_over(alloc, &members)?;
+        Ok(SortedColumn { members, levels })
+    }
+
+    /// How many members are at most `x`: the place of the first member above it.
+    pub(crate) fn rank(&self, x: u64) -> usize
+        ensures { result ≡ rank self.now x }
+    {
+        rank_below(&self.members, &self.levels, x)
+    }
+
+    /// The members.
+    pub(crate) fn members(&self) -> &[u64]
+        ensures { result.now ≡ self.now }
+    {
+        &self.members
+    }
+}
+
+// The levels over a column, the lowest first.
+fn levels_over(alloc: Global, column: &[u64]) -> Result<Vec<Vec<u64>>, NoMemory>
+    ensures { IfOk result (λ levels. AreLevels column.now levels.items) }
+{
+    if column.len() <= GROUP {
+        return Ok(Vec::new(alloc));
+    }
+    let firsts = firsts_of(alloc, column)?;
+    let mut levels = levels_over(alloc, &firsts)?;
+    levels.insert(0, firsts)?;
+    Ok(levels)
+}
+
+// The first of each group of members.
+fn firsts_of(alloc: Global, column: &[u64]) -> Result<Vec<u64>, NoMemory>
+    ensures { IfOk result (λ firsts. IsFirsts firsts.items column.now) }
+{
+    let mut firsts = Vec::with_capacity(alloc, column.len().div_ceil(GROUP))?;
+    let mut at = 0;
+    while at < column.len() {
+        firsts.push(column[at])?;
+        at += GROUP;
+    }
+    Ok(firsts)
+}
+
+// How many members of a column are at most `x`, by the levels over it. There are few levels, so it doesn't go deep.
+fn rank_below(column: &[u64], levels: &[Vec<u64>], x: u64) -> usize
+    requires ascending { IsAscending column.now }
+    requires levels { AreLevels column.now levels.now }
+    ensures { result ≡ rank column.now x }
+{
+    match levels.split_first() {
+        None => rank(column, x),
+        Some((firsts, higher)) => rank_in_group(column, rank_below(firsts, higher, x), x),
+    }
+}
+
+// How many members are at most `x`: those before the last group that begins with one that is, and some of that group.
+fn rank_in_group(column: &[u64], groups: usize, x: u64) -> usize
+    requires ascending { IsAscending column.now }
+    requires groups { IsGroupCount column.now x groups }
+    ensures { result ≡ rank column.now x }
+{
+    if groups == 0 {
+        return 0;
+    }
+    let start = GROUP * (groups - 1);
+    let (_, rest) = column.split_at(start);
+    let (group, _) = rest.split_at(GROUP.min(rest.len()));
+    start + rank(group, x)
+}
