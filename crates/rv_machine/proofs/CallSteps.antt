@@ -4,11 +4,11 @@ use Rattle.std.proofs.Math.Seq.{take-append_seam, drop-append_seam}
 use Rattle.std.proofs.lemmas.Bool.{ltb-true, ltb-false}
 use Rattle.std.proofs.Math.Path.{fun_ext}
 use Rattle.std.specs.Io.KnownBytes.{prepend_known, append_known, IsAtEnd}
-use Rattle.rv_code.specs.Machine.{Event, events, output, Going, Halts, all_may, cells_at, put, set_register, may_read, may_write}
+use Rattle.rv_code.specs.machine.Machine.{Event, events, output, Going, Halts, all_may, memory_bytes, put, set_register, may_read, may_write}
 use Rattle.rv_code.specs.declared.cause.Cause.TheVariants as cause
-use Rattle.rv_code.specs.Step.{ByteState, a0, a1, a2, buffer_size, read_call, write_call}
+use Rattle.rv_code.specs.machine.Step.{ByteState, a0, a1, a2, buffer_size, read_call, write_call}
 use Rattle.rv_machine.specs.State.{Same}
-use Rattle.rv_machine.specs.Answers.{as_told}
+use Rattle.rv_machine.specs.StepAnswers.{as_told}
 
 pub same_state : (s t : ByteState) → Same s t → s ≡ t
 same_state s t same = λ i. record {
@@ -38,7 +38,7 @@ write_event s moved = record { number = 64; used = s.registers a0 ∷ s.register
 abbrev pub after_write : ByteState → ℕ → List ℕ → ByteState
 after_write s next moved = record s { pc = next; registers = set_register a0 (length moved) s.registers }
 
-pub write_call-writes : (s : ByteState) (next : ℕ) (moved : List ℕ) → all_may (may_read s) (s.registers a1) (buffer_size s) ≡ true → cells_at s.memory (s.registers a1) (buffer_size s) ≡ moved → write_call s next true ≡ Going (after_write s next moved) (Some (write_event s moved))
+pub write_call-writes : (s : ByteState) (next : ℕ) (moved : List ℕ) → all_may (may_read s) (s.registers a1) (buffer_size s) ≡ true → memory_bytes s.memory (s.registers a1) (buffer_size s) ≡ moved → write_call s next true ≡ Going (after_write s next moved) (Some (write_event s moved))
 write_call-writes s next moved may is = rw (may, is) refl
 
 pub write_call-traps : (s : ByteState) (next : ℕ) → all_may (may_read s) (s.registers a1) (buffer_size s) ≡ false → write_call s next true ≡ Halts s.pc cause.Load

@@ -3,10 +3,10 @@ use Rattle.std.proofs.Common.{◌≡◌, ◌∙◌, ℕ, Option, Some, None, sym
 use Rattle.std.specs.Prelude.{unwrap_or}
 use Rattle.rv_code.specs.declared.inst.Inst.{Inst}
 use Rattle.rv_code.specs.declared.cause.Cause.TheVariants as cause
-use Rattle.rv_code.specs.Action.{action_of}
-use Rattle.rv_code.specs.Decoding.{Decodes}
-use Rattle.rv_code.specs.Machine.{plus}
-use Rattle.rv_code.specs.Step.{ByteState, ByteOutcome, trap, effect, fetched, Steps, no_fetch, illegal, does}
+use Rattle.rv_code.specs.isa.Action.{action_of}
+use Rattle.rv_code.specs.isa.Decoding.{Decodes}
+use Rattle.rv_code.specs.machine.Machine.{plus}
+use Rattle.rv_code.specs.machine.Step.{ByteState, ByteOutcome, trap, effect, fetched, Steps, no_fetch, illegal, does}
 
 some_same : {A : Type 0} (x y : A) → Some x ≡ Some y → x ≡ y
 some_same x y same = ap (λ o. unwrap_or o x) same

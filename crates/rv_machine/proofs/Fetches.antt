@@ -2,8 +2,8 @@
 use Rattle.std.proofs.Common.{◌≡◌, ◌≢◌, ◌%◌, Some, None, true, false, refl}
 use Rattle.std.specs.Prelude.{◌==◌}
 use Rattle.std.proofs.lemmas.Bool.{eq-eqb, false_from_ne_true, eqb-true}
-use Rattle.rv_code.specs.Machine.{plus, all_may, may_execute}
-use Rattle.rv_code.specs.Step.{ByteState, halfword, fetched}
+use Rattle.rv_code.specs.machine.Machine.{plus, all_may, may_execute}
+use Rattle.rv_code.specs.machine.Step.{ByteState, halfword, fetched}
 
 module _ (s : ByteState) (even : s.pc % 2 ≡ 0) (may : all_may (may_execute s) s.pc 2 ≡ true) where
   even_test : (s.pc % 2 == 0) ≡ true

@@ -2,12 +2,12 @@
 use Rattle.std.proofs.Common.{◌≡◌, ◌∙◌, ℕ, List, [], ◌++◌, Option, ap, take}
 use Rattle.std.specs.Io.KnownBytes.{append_known}
 use Rattle.rb_io.proofs.Printing.{append_known-append}
-use Rattle.rv_code.specs.Machine.{events, output}
-use Rattle.rv_code.specs.Step.{Steps}
+use Rattle.rv_code.specs.machine.Machine.{events, output}
+use Rattle.rv_code.specs.machine.Step.{Steps}
 use Rattle.rv_machine.specs.declared.machine.Machine.{Machine}
 use Rattle.rv_machine.specs.declared.stepped.Stepped.{Stepped}
 use Rattle.rv_machine.specs.declared.stepped.Stepped.TheVariants as stepped
-use Rattle.rv_machine.specs.Answers.{Outside, Answers}
+use Rattle.rv_machine.specs.StepAnswers.{Outside, StepAnswers}
 use Rattle.rv_machine.specs.Runs.{Grows}
 use Rattle.rv_machine.proofs.CallSteps.{append_known-nil}
 
@@ -22,7 +22,7 @@ kept : (a b : Option (List ℕ)) → b ≡ a → Grows a b
 kept a b same = ([], same ∙ append_known-nil a)
 
 -- by a step, whatever it answers
-pub step_grows : (answer : Stepped) (old new : Machine) (before after : Outside) → Answers Steps answer old new before after → Grows before.output.taken after.output.taken
+pub step_grows : (answer : Stepped) (old new : Machine) (before after : Outside) → StepAnswers Steps answer old new before after → Grows before.output.taken after.output.taken
 step_grows stepped.Going old new before after goes = (output (events goes.event), goes.taken_is)
 step_grows (stepped.Ended status) old new before after stops = kept _ _ stops.taken_is
 step_grows (stepped.Trap pc cause) old new before after stops = kept _ _ stops.taken_is

@@ -1,6 +1,7 @@
-pub mod Cells
+pub mod Branches
+pub mod Breaks
+pub mod KnownEntries
 pub mod Outcomes
-pub mod Spaces
 pub mod Fetches
 pub mod Filling
 pub mod CallSteps
@@ -11,6 +12,3 @@ pub mod Growing
 pub mod Determined
 pub mod OnlyRuns
 pub mod OnlyAnswers
-pub mod StackLengths
-pub mod Tables
-pub mod StackMemory

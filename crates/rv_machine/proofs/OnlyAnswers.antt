@@ -2,15 +2,15 @@
 use Rattle.std.proofs.Common.{◌≡◌, ◌∙◌, ◌<◌, ◌≤◌, ◌⊎◌, ℕ, suc, List, refl, sym, ap, subst, inl, inr, ⊎_elim, arith}
 use Rattle.std.specs.Io.KnownBytes.{append_known}
 use Rattle.rv_code.specs.declared.cause.Cause.{Cause}
-use Rattle.rv_code.specs.Machine.{Event, output, Ended, Halts, SoFar, Run, HaltsAfter}
-use Rattle.rv_code.specs.Step.{ByteState, ByteOutcome, Steps}
+use Rattle.rv_code.specs.machine.Machine.{Event, output, Ended, Halts, SoFar, Run, HaltsAfter}
+use Rattle.rv_code.specs.machine.Step.{ByteState, ByteOutcome, Steps}
 use Rattle.rv_machine.specs.declared.machine.Machine.{Machine}
 use Rattle.rv_machine.specs.declared.stepped.Stepped.{Stepped}
 use Rattle.rv_machine.specs.declared.stepped.Stepped.TheVariants as stepped
 use Rattle.rv_machine.specs.State.{state_of}
-use Rattle.rv_machine.specs.Answers.{Outside}
+use Rattle.rv_machine.specs.StepAnswers.{Outside}
 use Rattle.rv_machine.specs.Determined.{IsDetermined}
-use Rattle.rv_machine.specs.Runs.{RunAnswers, determined_steps, RunsTo, IsFault}
+use Rattle.rv_machine.specs.Runs.{MachineRunAnswers, determined_steps, StateRunsTo, IsInterrupted}
 use Rattle.rv_machine.proofs.OnlyRuns.{Stop, fewer, same_so_far, stop_is_last, same_stop}
 
 module _ (s : ByteState) (limit : ℕ) (determined : IsDetermined Steps s limit) where
@@ -46,7 +46,7 @@ module _ (s : ByteState) (limit : ℕ) (determined : IsDetermined Steps s limit)
   end_or_trap : (x y : ℕ) (a : Cause) → ◌≡◌ {A = ByteOutcome} (Ended x) (Halts y a) → ⊥
   end_or_trap x y a same = cc
 
-  pub same_runs : (end other : Stepped) (n m : ℕ) (trace others : List Event) → RunsTo end limit n s trace → RunsTo other limit m s others → IsSame end n trace other m others
+  pub same_runs : (end other : Stepped) (n m : ℕ) (trace others : List Event) → StateRunsTo end limit n s trace → StateRunsTo other limit m s others → IsSame end n trace other m others
   same_runs stepped.Going stepped.Going n m trace others a b =
       let is : n ≡ m = a.0 ∙ sym b.0 in
       let goes : SoFar Steps s m trace a.1 = subst (λ k. SoFar Steps s k trace a.1) is a.2 in
@@ -77,10 +77,10 @@ module _ (s : ByteState) (limit : ℕ) (determined : IsDetermined Steps s limit)
 module _ (old new : Machine) (input : List ℕ) (limit n : ℕ) (before after : Outside) where
   record Told (end : Stepped) : Type 0 where
     trace : List Event
-    runs_to : RunsTo end limit n (state_of old input) trace
+    runs_to : StateRunsTo end limit n (state_of old input) trace
     taken_is : after.output.taken ≡ append_known before.output.taken (output trace)
 
-  told : (end : Stepped) → RunAnswers end limit n old new input before after → IsFault end ⊎ Told end
+  told : (end : Stepped) → MachineRunAnswers end limit n old new input before after → IsInterrupted end ⊎ Told end
   told stepped.Going answer = inr (record { trace = answer.1.trace; runs_to = (answer.0, state_of new answer.1.rest, answer.1.so_far); taken_is = answer.1.taken_is })
   told (stepped.Ended status) answer = inr (record { trace = answer.1.trace; runs_to = (answer.0, answer.1.run); taken_is = answer.1.taken_is })
   told (stepped.Trap pc cause) answer = inr (record { trace = answer.1.trace; runs_to = (answer.0, answer.1.halts); taken_is = answer.1.taken_is })
@@ -94,7 +94,7 @@ module _ (old new : Machine) (input : List ℕ) (limit n : ℕ) (before after : 
     pub steps_are : n ≡ m
     pub taken_is : after.output.taken ≡ append_known before.output.taken (output trace)
 
-  determined_all : (end : Stepped) → IsDetermined Steps (state_of old input) (determined_steps end limit n) → (trace : List Event) → RunsTo end limit n (state_of old input) trace → IsDetermined Steps (state_of old input) limit
+  determined_all : (end : Stepped) → IsDetermined Steps (state_of old input) (determined_steps end limit n) → (trace : List Event) → StateRunsTo end limit n (state_of old input) trace → IsDetermined Steps (state_of old input) limit
   determined_all stepped.Going determined trace goes = determined
   determined_all (stepped.Ended status) determined trace goes = determined
   determined_all (stepped.Trap pc cause) determined trace goes = determined
@@ -103,10 +103,10 @@ module _ (old new : Machine) (input : List ℕ) (limit n : ℕ) (before after : 
   determined_all stepped.Memory determined trace goes = absurd goes
 
   -- Where the first steps of the definition come to an answer, a run gives it, but for faults.
-  pub only_answer : (end : Stepped) → RunAnswers end limit n old new input before after → IsDetermined Steps (state_of old input) (determined_steps end limit n) → (other : Stepped) (m : ℕ) (trace : List Event) → RunsTo other limit m (state_of old input) trace → IsFault end ⊎ IsAnswered end other m trace
+  pub only_answer : (end : Stepped) → MachineRunAnswers end limit n old new input before after → IsDetermined Steps (state_of old input) (determined_steps end limit n) → (other : Stepped) (m : ℕ) (trace : List Event) → StateRunsTo other limit m (state_of old input) trace → IsInterrupted end ⊎ IsAnswered end other m trace
   only_answer end answer determined other m trace goes =
       ⊎_elim
-      (λ (fault : IsFault end). inl fault)
+      (λ (fault : IsInterrupted end). inl fault)
       (λ (given : Told end).
       let same = same_runs (state_of old input) limit (determined_all end determined given.trace given.runs_to) end other n m given.trace trace given.runs_to goes in
       inr (record { end_is = same.end_is; steps_are = same.steps_are; taken_is = given.taken_is ∙ ap (λ es. append_known before.output.taken (output es)) same.calls_are }))

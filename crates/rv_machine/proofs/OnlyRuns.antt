@@ -1,6 +1,6 @@
 -- Where the steps are determined, a run is the only one.
 use Rattle.std.proofs.Common.{◌≡◌, ◌∙◌, ◌+◌, ◌<◌, ◌≤◌, ℕ, zero, suc, List, [], ◌++◌, Option, refl, sym, ap, subst, arith}
-use Rattle.rv_code.specs.Machine.{Event, events, Outcome, Going, SoFar, starts, more}
+use Rattle.rv_code.specs.machine.Machine.{Event, events, Outcome, Going, SoFar, starts, more}
 use Rattle.std.proofs.Common.{⊎_elim}
 use Rattle.std.proofs.lemmas.Bool.{cases_lt}
 use Rattle.rv_machine.specs.Determined.{HasOneOutcome, IsDetermined, IsStop}

@@ -1,6 +1,6 @@
 -- A step that comes to one outcome comes to another that is equal to it.
 use Rattle.std.proofs.Common.{◌≡◌, ℕ, List, subst}
-use Rattle.rv_code.specs.Step.{ByteOutcome}
+use Rattle.rv_code.specs.machine.Step.{ByteOutcome}
 use Rattle.rv_machine.specs.declared.machine.Machine.{Machine}
 use Rattle.rv_machine.specs.declared.stepped.Stepped.{Stepped}
 use Rattle.rv_machine.specs.State.{Becomes}

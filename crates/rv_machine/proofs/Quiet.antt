@@ -2,17 +2,17 @@
 use Rattle.std.proofs.Common.{◌≡◌, ℕ, List, [], ◌++◌, Option, Some, None, Bool, true, false, refl, sym, subst}
 use Rattle.std.specs.Prelude.{if◌then◌else◌, ◌==◌}
 use Rattle.std.specs.Io.KnownBytes.{append_known}
-use Rattle.rv_code.specs.Machine.{Event, events, output, Going, Ended, Halts}
+use Rattle.rv_code.specs.machine.Machine.{Event, events, output, Going, Ended, Halts}
 use Rattle.rv_code.specs.declared.cause.Cause.{Cause}
-use Rattle.rv_code.specs.Step.{ByteState, ByteOutcome}
+use Rattle.rv_code.specs.machine.Step.{ByteState, ByteOutcome}
 use Rattle.rv_machine.specs.declared.machine.Machine.{Machine}
 use Rattle.rv_machine.specs.declared.stepped.Stepped.{Stepped}
 use Rattle.rv_machine.specs.declared.stepped.Stepped.TheVariants as stepped
-use Rattle.rv_machine.specs.State.{state_of, IsQuiet, Becomes}
-use Rattle.rv_machine.specs.Answers.{Outside, Answers}
+use Rattle.rv_machine.specs.State.{state_of, MovesNothing, Becomes}
+use Rattle.rv_machine.specs.StepAnswers.{Outside, StepAnswers}
 use Rattle.rv_machine.proofs.CallSteps.{same_state, told, told_is, append_known-nil}
 
-quiet_output : (e : Option Event) → IsQuiet e → (known : Option (List ℕ)) → known ≡ append_known known (output (events e))
+quiet_output : (e : Option Event) → MovesNothing e → (known : Option (List ℕ)) → known ≡ append_known known (output (events e))
 unfolding output
 quiet_output None quiet known = append_known-nil known
 quiet_output (Some e) quiet known = by_number (e.number == 64)
@@ -24,7 +24,7 @@ quiet_output (Some e) quiet known = by_number (e.number == 64)
 module _ (step : ByteState → ByteOutcome → Type 0) (old new : Machine) where
   record GoesQuietly (s : ByteState) (input : List ℕ) : Type 0 where
     event : Option Event
-    quiet : IsQuiet event
+    quiet : MovesNothing event
     comes_to : step s (Going (state_of new input) event)
 
   goes : (s : ByteState) (o : ByteOutcome) (input : List ℕ) → step s o → Becomes o stepped.Going old new input → GoesQuietly s input
@@ -59,7 +59,7 @@ module _ (step : ByteState → ByteOutcome → Type 0) (old new : Machine) where
   no_write (Halts pc cause) input becomes = becomes
 
   -- a step whose effect is quiet, beside an outside that stays
-  pub quiet_answers : (effect : ByteState → ByteOutcome) (answer : Stepped) (outside : Outside) → ((input : List ℕ) → step (state_of old input) (effect (state_of old input))) → ((input : List ℕ) → Becomes (effect (state_of old input)) answer old new input) → Answers step answer old new outside outside
+  pub quiet_answers : (effect : ByteState → ByteOutcome) (answer : Stepped) (outside : Outside) → ((input : List ℕ) → step (state_of old input) (effect (state_of old input))) → ((input : List ℕ) → Becomes (effect (state_of old input)) answer old new input) → StepAnswers step answer old new outside outside
   quiet_answers effect stepped.Going outside steps becomes =
       let input = told outside.input.left in
       let went = goes (state_of old input) (effect (state_of old input)) input (steps input) (becomes input) in
@@ -94,7 +94,7 @@ module _ (step : ByteState → ByteOutcome → Type 0) (old new : Machine) where
 
 -- answers by one relation are answers by another that it implies
 module _ (step other : ByteState → ByteOutcome → Type 0) (old new : Machine) (implies : (input : List ℕ) (o : ByteOutcome) → step (state_of old input) o → other (state_of old input) o) (before after : Outside) where
-  pub answers_by : (answer : Stepped) → Answers step answer old new before after → Answers other answer old new before after
+  pub answers_by : (answer : Stepped) → StepAnswers step answer old new before after → StepAnswers other answer old new before after
   answers_by stepped.Going a = record {
     input = a.input;
     rest = a.rest;

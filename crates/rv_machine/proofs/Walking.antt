@@ -4,14 +4,14 @@ use Rattle.std.specs.Prelude.{if◌then◌else◌, ◌==◌}
 use Rattle.std.specs.Io.KnownBytes.{append_known}
 use Rattle.rb_io.proofs.Printing.{append_known-append}
 use Rattle.rv_code.specs.declared.cause.Cause.{Cause}
-use Rattle.rv_code.specs.Machine.{Event, events, output, Going, Ended, Halts, SoFar, starts, more}
-use Rattle.rv_code.specs.Step.{ByteOutcome, Steps}
+use Rattle.rv_code.specs.machine.Machine.{Event, events, output, Going, Ended, Halts, SoFar, starts, more}
+use Rattle.rv_code.specs.machine.Step.{ByteOutcome, Steps}
 use Rattle.rv_machine.specs.declared.machine.Machine.{Machine}
 use Rattle.rv_machine.specs.State.{state_of}
-use Rattle.rv_machine.specs.Answers.{Outside, as_told, Goes, Stops, RanOut, FailsToRead, FailsToWrite}
+use Rattle.rv_machine.specs.StepAnswers.{Outside, as_told, StepGoes, StepStops, RanOut, FailsToRead, FailsToWrite}
 use Rattle.rv_machine.specs.Determined.{HasOneOutcome, IsDetermined, IsStop}
 use Rattle.rv_machine.proofs.OnlyRuns.{fewer, more_determined, stop_determines}
-use Rattle.rv_machine.specs.Runs.{ComesTo, HasEnded, HasTrapped, HasFailedToRead, HasFailedToWrite}
+use Rattle.rv_machine.specs.Runs.{RunComesTo, HasEnded, HasTrapped, HasFailedToRead, HasFailedToWrite}
 use Rattle.rv_machine.proofs.CallSteps.{told, append_known-nil}
 
 output-append : (es fs : List Event) → output (es ++ fs) ≡ output es ++ output fs
@@ -24,7 +24,7 @@ unfolding output
 output-nil = refl
 
 -- no step was done yet
-pub comes_at_once : (old : Machine) (input : List ℕ) (before : Outside) → before.input.left ≡ Some input → ComesTo old old input 0 before before
+pub comes_at_once : (old : Machine) (input : List ℕ) (before : Outside) → before.input.left ≡ Some input → RunComesTo old old input 0 before before
 comes_at_once old input before is = record {
   rest = input;
   trace = [];
@@ -34,11 +34,11 @@ comes_at_once old input before is = record {
 }
 
 -- the next step is determined too
-pub determined_further : (old mid : Machine) (input : List ℕ) (n : ℕ) (before between : Outside) → ComesTo old mid input n before between → IsDetermined Steps (state_of old input) n → ((bytes : List ℕ) → HasOneOutcome Steps (state_of mid bytes)) → IsDetermined Steps (state_of old input) (n + 1)
+pub determined_further : (old mid : Machine) (input : List ℕ) (n : ℕ) (before between : Outside) → RunComesTo old mid input n before between → IsDetermined Steps (state_of old input) n → ((bytes : List ℕ) → HasOneOutcome Steps (state_of mid bytes)) → IsDetermined Steps (state_of old input) (n + 1)
 determined_further old mid input n before between walk determined one = more_determined Steps (state_of old input) determined walk.so_far (one walk.rest)
 
-module _ (old mid new : Machine) (input : List ℕ) (n : ℕ) (before between after : Outside) (walk : ComesTo old mid input n before between) where
-  pub comes_further : Goes Steps mid new between after → ComesTo old new input (n + 1) before after
+module _ (old mid new : Machine) (input : List ℕ) (n : ℕ) (before between after : Outside) (walk : RunComesTo old mid input n before between) where
+  pub comes_further : StepGoes Steps mid new between after → RunComesTo old new input (n + 1) before after
   comes_further goes = record {
     rest = goes.rest;
     trace = walk.trace ++ events goes.event;
@@ -61,12 +61,12 @@ module _ (old mid new : Machine) (input : List ℕ) (n : ℕ) (before between af
       next = subst (λ xs. Steps (state_of mid xs) (Going (state_of new goes.rest) goes.event)) same_input goes.comes_to
 
   -- where it stops, so are all, since there are no others
-  pub determined_by_stop : (o : ByteOutcome) → IsStop o → Stops Steps o mid new between after → IsDetermined Steps (state_of old input) n → ((bytes : List ℕ) → HasOneOutcome Steps (state_of mid bytes)) → (limit : ℕ) → IsDetermined Steps (state_of old input) limit
+  pub determined_by_stop : (o : ByteOutcome) → IsStop o → StepStops Steps o mid new between after → IsDetermined Steps (state_of old input) n → ((bytes : List ℕ) → HasOneOutcome Steps (state_of mid bytes)) → (limit : ℕ) → IsDetermined Steps (state_of old input) limit
   determined_by_stop o is_stop stops determined one =
       stop_determines Steps (state_of old input) (fewer Steps (state_of old input) (omega arith) (determined_further old mid input n before between walk determined one))
       (record { so_far = walk.so_far; comes_to = stops.comes_to walk.rest; is_stop = is_stop })
 
-  pub comes_to_end : (status : ℕ) → Stops Steps (Ended status) mid new between after → HasEnded status old new input (n + 1) before after
+  pub comes_to_end : (status : ℕ) → StepStops Steps (Ended status) mid new between after → HasEnded status old new input (n + 1) before after
   comes_to_end status stops = record {
     trace = walk.trace;
     run = record { before = n; last = omega arith; state = state_of mid walk.rest; so_far = walk.so_far; ends = stops.comes_to walk.rest };
@@ -75,7 +75,7 @@ module _ (old mid new : Machine) (input : List ℕ) (n : ℕ) (before between af
     taken_is = stops.taken_is ∙ walk.taken_is;
   }
 
-  pub comes_to_trap : (pc : ℕ) (cause : Cause) → Stops Steps (Halts pc cause) mid new between after → HasTrapped pc cause old new input n before after
+  pub comes_to_trap : (pc : ℕ) (cause : Cause) → StepStops Steps (Halts pc cause) mid new between after → HasTrapped pc cause old new input n before after
   comes_to_trap pc cause stops = record {
     trace = walk.trace;
     halts = record { state = state_of mid walk.rest; so_far = walk.so_far; halts = stops.comes_to walk.rest };
@@ -111,7 +111,7 @@ module _ (old mid new : Machine) (input : List ℕ) (n : ℕ) (before between af
         };
   }
 
-  pub comes_to_want : RanOut mid new between after → ComesTo old new input n before after
+  pub comes_to_want : RanOut mid new between after → RunComesTo old new input n before after
   comes_to_want out = record {
     rest = walk.rest;
     trace = walk.trace;

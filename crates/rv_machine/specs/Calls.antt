@@ -1,5 +1,5 @@
 -- The system calls that the machine names, as the calls of the definition.
-use Rattle.rv_code.specs.Machine.{Call, Read, Write, Exit, Brk, Unknown}
+use Rattle.rv_code.specs.machine.Machine.{Call, Read, Write, Exit, Brk, Unknown}
 use Rattle.rv_machine.specs.declared.calls.SystemCall.{SystemCall}
 use Rattle.rv_machine.specs.declared.calls.SystemCall.TheVariants as system_call
 

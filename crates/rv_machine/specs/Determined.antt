@@ -1,6 +1,6 @@
 -- Runs that can go only one way, on any machine.
 use Rattle.std.specs.Prelude.{◌≡◌, ℕ, ◌<◌, List}
-use Rattle.rv_code.specs.Machine.{Event, Outcome, Going, Ended, Halts, SoFar}
+use Rattle.rv_code.specs.machine.Machine.{Event, Outcome, Going, Ended, Halts, SoFar}
 
 -- the step from a state comes to one outcome at most
 abbrev pub HasOneOutcome : {S C : Type 0} → (S → Outcome S C → Type 0) → S → Type 0

@@ -1,8 +1,6 @@
-pub mod Memory
-pub mod State
-pub mod Answers
 pub mod Calls
 pub mod Determined
+pub mod Known
 pub mod Runs
-pub mod Limits
-pub mod Table
+pub mod State
+pub mod StepAnswers

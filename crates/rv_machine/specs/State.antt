@@ -1,10 +1,10 @@
 -- The state that a machine keeps, and what a step makes of it.
 use Rattle.std.specs.Prelude.{◌≡◌, ℕ, ◌<◌, ◌≤◌, List, [], Option, None, Some, slice_index}
-use Rattle.rv_code.specs.Machine.{Event, Going, Ended, Halts}
-use Rattle.rv_code.specs.Step.{ByteState, ByteOutcome}
+use Rattle.rv_code.specs.machine.Machine.{Event, Going, Ended, Halts}
+use Rattle.rv_code.specs.machine.Step.{ByteState, ByteOutcome}
 use Rattle.rv_code.specs.declared.action.Action.{Action}
 use Rattle.rv_code.specs.declared.action.Action.TheVariants.{Compute, Branch, Jump, JumpTo, Upper, UpperPc, Load, Store, Fence, SystemCall, Breakpoint}
-use Rattle.rv_machine.specs.Memory.{memory_of, space_in}
+use Rattle.rv_memory.specs.Memory.{memory_of, space_in}
 use Rattle.rv_machine.specs.declared.machine.Machine.{Machine}
 use Rattle.rv_machine.specs.declared.stepped.Stepped.{Stepped}
 use Rattle.rv_machine.specs.declared.stepped.Stepped.TheVariants as stepped
@@ -33,13 +33,13 @@ pub record Same (s t : ByteState) : Type 0 where
   pub input_is : s.input ≡ t.input
 
 -- the call, if there was one, wrote nothing out
-abbrev pub IsQuiet : Option Event → Type 0
-IsQuiet None = Unit {0}
-IsQuiet (Some e) = e.moved ≡ []
+abbrev pub MovesNothing : Option Event → Type 0
+MovesNothing None = Unit {0}
+MovesNothing (Some e) = e.moved ≡ []
 
 -- a step that comes to the outcome has this answer, and leaves the machine with this input
 abbrev pub Becomes : ByteOutcome → Stepped → Machine → Machine → List ℕ → Type 0
-Becomes (Going s e) stepped.Going old new input = IsQuiet e × Same s (state_of new input)
+Becomes (Going s e) stepped.Going old new input = MovesNothing e × Same s (state_of new input)
 Becomes (Ended n) (stepped.Ended status) old new input = (n ≡ status) × Same (state_of old input) (state_of new input)
 Becomes (Halts at why) (stepped.Trap pc cause) old new input = (at ≡ pc) × (why ≡ cause) × Same (state_of old input) (state_of new input)
 -- want of memory may come in place of any outcome

@@ -1,13 +1,13 @@
 // System calls. Linux, syscall(2) and asm-generic/unistd.h.
 ghost use Rattle.std.specs.Prelude.{◌≡◌, ◌<◌, ◌≤◌, ◌==◌, ◌||◌, ℕ, List, true};
-ghost use Rattle.rb_io.specs.Seen.{SourceSeen, SinkSeen};
+ghost use Rattle.rb_io.specs.Views.{SourceSeen, SinkSeen};
 
 use crate::machine::Machine;
 use crate::reading::fill;
-use crate::rights::Access;
 use crate::stepped::Stepped;
 use rb_io::{Got, Put, Sink, Source, print_all};
 use rv_code::Cause;
+use rv_memory::rights::Access;
 
 /// The registers of arguments, of the result, and of a call's number. psABI, "Integer Register
 /// Convention".
@@ -56,7 +56,7 @@ pub enum SystemCall {
 }
 
 impl SystemCall {
-    ghost use Rattle.rv_code.specs.Machine.{call_of};
+    ghost use Rattle.rv_code.specs.machine.Machine.{call_of};
     ghost use Rattle.rv_machine.specs.Calls.{call};
 
     /// The call of a number.
@@ -92,10 +92,10 @@ fn is_output(file: u64) -> bool
 }
 
 impl<'a> Machine<'a> {
-    ghost use Rattle.rv_code.specs.Machine.{set_register, call_of, Read, Write, Unknown, Exit, Brk};
-    ghost use Rattle.rv_code.specs.Step.{a0, a7, calls, refuses_file, sets_break, buffer_size, read_call, write_call, effect};
+    ghost use Rattle.rv_code.specs.machine.Machine.{set_register, call_of, Read, Write, Unknown, Exit, Brk};
+    ghost use Rattle.rv_code.specs.machine.Step.{a0, a7, calls, refuses_file, sets_break, buffer_size, read_call, write_call, effect};
     ghost use Rattle.rv_machine.specs.State.{state_of, registers_of, Becomes, Same};
-    ghost use Rattle.rv_machine.specs.Answers.{Answers, Outside};
+    ghost use Rattle.rv_machine.specs.StepAnswers.{StepAnswers, Outside};
 
     // Comes back from a call with this result.
     fn return_value(&mut self, value: u64, next: u64) -> Stepped
@@ -112,9 +112,7 @@ impl<'a> Machine<'a> {
     {
         let to = self.register(A0);
         self.memory.set_break(to);
-        self.registers[A0 as usize] = self.memory.program_break;
-        self.pc = next;
-        Stepped::Going
+        self.return_value(self.memory.program_break, next)
     }
 
     fn exit(&self) -> Stepped
@@ -149,7 +147,7 @@ impl<'a> Machine<'a> {
 
     // Reads standard input into the buffer. Room is taken before anything is read.
     fn read_input<I: Source>(&mut self, next: u64, input: &mut I) -> Stepped
-        ensures answer { (output : SinkSeen) → Answers (λ s o. o ≡ read_call s next true) result self.old self.new
+        ensures answer { (output : SinkSeen) → StepAnswers (λ s o. o ≡ read_call s next true) result self.old self.new
             (record { input = I.seen input.old; output = output })
             (record { input = I.seen input.new; output = output }) }
         ensures count { (I.seen input.old).faults ≤ (I.seen input.new).faults }
@@ -174,7 +172,7 @@ impl<'a> Machine<'a> {
 
     // Writes the buffer out.
     fn write_output<O: Sink>(&mut self, next: u64, out: &mut O) -> Stepped
-        ensures answer { (input : SourceSeen) → Answers (λ s o. o ≡ write_call s next true) result self.old self.new
+        ensures answer { (input : SourceSeen) → StepAnswers (λ s o. o ≡ write_call s next true) result self.old self.new
             (record { input = input; output = O.seen out.old })
             (record { input = input; output = O.seen out.new }) }
         ensures count { (O.seen out.old).faults ≤ (O.seen out.new).faults }
@@ -194,7 +192,7 @@ impl<'a> Machine<'a> {
     }
 
     fn read<I: Source>(&mut self, next: u64, input: &mut I) -> Stepped
-        ensures answer { (output : SinkSeen) → Answers (λ s o. o ≡ calls s next Read) result self.old self.new
+        ensures answer { (output : SinkSeen) → StepAnswers (λ s o. o ≡ calls s next Read) result self.old self.new
             (record { input = I.seen input.old; output = output })
             (record { input = I.seen input.new; output = output }) }
         ensures count { (I.seen input.old).faults ≤ (I.seen input.new).faults }
@@ -207,7 +205,7 @@ impl<'a> Machine<'a> {
     }
 
     fn write<O: Sink>(&mut self, next: u64, out: &mut O) -> Stepped
-        ensures answer { (input : SourceSeen) → Answers (λ s o. o ≡ calls s next Write) result self.old self.new
+        ensures answer { (input : SourceSeen) → StepAnswers (λ s o. o ≡ calls s next Write) result self.old self.new
             (record { input = input; output = O.seen out.old })
             (record { input = input; output = O.seen out.new }) }
         ensures count { (O.seen out.old).faults ≤ (O.seen out.new).faults }
@@ -226,7 +224,7 @@ impl<'a> Machine<'a> {
         input: &mut I,
         out: &mut O,
     ) -> Stepped
-        ensures answer { Answers (λ s o. o ≡ calls s next (call_of (s.registers a7))) result self.old self.new
+        ensures answer { StepAnswers (λ s o. o ≡ calls s next (call_of (s.registers a7))) result self.old self.new
             (record { input = I.seen input.old; output = O.seen out.old })
             (record { input = I.seen input.new; output = O.seen out.new }) }
         ensures reads { (I.seen input.old).faults ≤ (I.seen input.new).faults }

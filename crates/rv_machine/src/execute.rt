@@ -2,15 +2,15 @@
 ghost use Rattle.std.specs.Prelude.{◌≡◌, ◌≢◌, ◌*◌, ◌/◌, ◌<◌, ◌≤◌, ℕ, List};
 
 use crate::machine::Machine;
-use crate::rights::Access;
 use crate::stepped::Stepped;
 use rv_code::{Action, Cause, Extension, Test};
+use rv_memory::rights::Access;
 
 impl<'a> Machine<'a> {
-    ghost use Rattle.rv_code.specs.Machine.{all_may, low_bytes, may_read, may_write};
-    ghost use Rattle.rv_code.specs.Extension.{bytes_of};
-    ghost use Rattle.rv_code.specs.Step.{address, effect, loads, stores};
-    ghost use Rattle.rv_code.specs.Word.{word};
+    ghost use Rattle.rv_code.specs.machine.Machine.{all_may, low_bytes, may_read, may_write};
+    ghost use Rattle.rv_code.specs.isa.Extension.{bytes_of};
+    ghost use Rattle.rv_code.specs.machine.Step.{address, effect, loads, stores};
+    ghost use Rattle.rv_code.specs.isa.TwosComplement.{unsigned64};
     ghost use Rattle.rv_machine.specs.State.{state_of, Becomes, HasRegisters};
 
     // Does an instruction after which the next one stands at `next`.
@@ -83,7 +83,7 @@ impl<'a> Machine<'a> {
 
     // Where a jump through a register goes: its lowest bit is cleared. ISA manual, section 2.5.1.
     fn jump_target(&self, rs1: u8, imm: i64) -> u64
-        ensures { (input : List ℕ) → result ≡ address (state_of self.now input) rs1 (word imm) / 2 * 2 }
+        ensures { (input : List ℕ) → result ≡ address (state_of self.now input) rs1 (unsigned64 imm) / 2 * 2 }
     {
         self.address(rs1, imm) / 2 * 2
     }
@@ -107,12 +107,10 @@ impl<'a> Machine<'a> {
         ensures { (input : List ℕ) → let s = state_of self.old input in
             Becomes (stores s next address (low_bytes count value) (all_may (may_write s) address count)) result self.old self.new input }
     {
-        let bytes = value.to_le_bytes();
-        let (low, _) = bytes.split_at(count as usize);
-        if !self.memory.may_all(Access::Write, address, low.len()) {
+        if !self.memory.may_all(Access::Write, address, count as usize) {
             return self.trap(Cause::Store);
         }
-        if self.memory.write(address, low).is_err() {
+        if self.memory.store(address, count, value).is_err() {
             return Stepped::Memory;
         }
         self.pc = next;

@@ -2,15 +2,30 @@
 ghost use Rattle.std.specs.Prelude.{◌≡◌, ℕ, List};
 
 use crate::machine::Machine;
-use crate::rights::Access;
+use rv_memory::rights::Access;
 
 impl<'a> Machine<'a> {
-    ghost use Rattle.rv_code.specs.Step.{halfword, fetched};
+    ghost use Rattle.rv_code.specs.machine.Step.{halfword, fetched};
     ghost use Rattle.rv_machine.specs.State.{state_of};
 
     /// The halfword at the pc, and the next one where the first begins a longer form; none where there is no
     /// right to execute them.
     pub(crate) fn fetch(&self) -> Option<(u16, Option<u16>)>
+        ensures { (input : List ℕ) → result ≡ fetched (state_of self.now input) }
+    {
+        if self.pc % 2 == 0 {
+            if let Some((half, next)) = self.memory.code_halves(self.pc) {
+                if half % 4 != 3 {
+                    return Some((half, None));
+                }
+                return Some((half, Some(next)));
+            }
+        }
+        self.fetch_anywhere()
+    }
+
+    // The same, byte by byte.
+    fn fetch_anywhere(&self) -> Option<(u16, Option<u16>)>
         ensures { (input : List ℕ) → result ≡ fetched (state_of self.now input) }
     {
         if self.pc % 2 != 0 || !self.memory.may_all(Access::Execute, self.pc, 2) {

@@ -4,14 +4,11 @@
 pub mod calls;
 pub mod execute;
 pub mod fetch;
+mod known;
 pub mod load;
 pub mod machine;
-pub mod memory;
-pub mod program_break;
 pub mod reading;
-pub mod rights;
 pub mod run;
-pub mod stack;
 pub mod step;
 pub mod stepped;
 

@@ -2,19 +2,19 @@
 ghost use Rattle.std.specs.Prelude.{◌≡◌, ℕ, List, IfOk, map, string_bytes};
 
 use crate::machine::Machine;
-use crate::memory::Memory;
-use crate::rights::STACK_END;
-use crate::stack::stack_bytes;
 use elf_image::Elf;
 use rb_bytes::fault::NoMemory;
 use rv_code::STACK_POINTER;
+use rv_memory::memory::Memory;
+use rv_memory::rights::STACK_END;
+use rv_memory::stack::stack_bytes;
 use std::alloc::Global;
 
 impl<'a> Machine<'a> {
-    ghost use Rattle.elf_image.specs.Present.{IsSound};
-    ghost use Rattle.elf_image.specs.Read.{IsElfOf};
-    ghost use Rattle.elf_image.specs.Start.{start};
-    ghost use Rattle.rv_machine.specs.Limits.{IsWithinLimits};
+    ghost use Rattle.elf_image.specs.faults.FileFaults.{IsSound};
+    ghost use Rattle.elf_image.specs.file.ParsedFile.{IsElfOf};
+    ghost use Rattle.elf_image.specs.memory.Start.{start};
+    ghost use Rattle.rv_memory.specs.Limits.{IsWithinLimits};
     ghost use Rattle.rv_machine.specs.State.{state_of};
 
     /// A machine that is about to run a file with these words as its arguments: at most 64 of them, of at most

@@ -1,9 +1,9 @@
 // The machine between two steps, and its registers.
 ghost use Rattle.std.specs.Prelude.{◌≡◌, ◌<◌, ℕ, List};
 
-use crate::memory::Memory;
 use crate::stepped::Stepped;
 use rv_code::{Cause, Operand};
+use rv_memory::memory::Memory;
 
 /// A machine that runs an ELF file, by the instructions of RV64IMC and a few system calls of Linux.
 #[derive(Drop)]
@@ -14,8 +14,8 @@ pub struct Machine<'a> {
 }
 
 impl<'a> Machine<'a> {
-    ghost use Rattle.rv_code.specs.Word.{word};
-    ghost use Rattle.rv_code.specs.Step.{operand, address, goes_to, writes_register};
+    ghost use Rattle.rv_code.specs.isa.TwosComplement.{unsigned64};
+    ghost use Rattle.rv_code.specs.machine.Step.{operand, address, goes_to, writes_register};
     ghost use Rattle.rv_machine.specs.State.{state_of, registers_of, Becomes};
 
     /// The address of the next instruction.
@@ -47,7 +47,7 @@ impl<'a> Machine<'a> {
 
     // The address that a register and an offset name.
     pub(crate) fn address(&self, rs1: u8, imm: i64) -> u64
-        ensures { (input : List ℕ) → result ≡ address (state_of self.now input) rs1 (word imm) }
+        ensures { (input : List ℕ) → result ≡ address (state_of self.now input) rs1 (unsigned64 imm) }
     {
         self.register(rs1).wrapping_add(imm.cast_unsigned())
     }

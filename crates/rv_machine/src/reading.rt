@@ -1,8 +1,8 @@
 // A buffer that is filled from a source.
 ghost use Rattle.std.specs.Prelude.{◌≡◌, ◌<◌, ◌≤◌, ℕ, length, take};
 ghost use Rattle.std.specs.Io.KnownBytes.{prepend_known, IsAtEnd};
-ghost use Rattle.rb_io.specs.Answers.{IfBytes};
-ghost use Rattle.rb_io.specs.Counts.{Rose};
+ghost use Rattle.rb_io.specs.CallResults.{IfBytes};
+ghost use Rattle.rb_io.specs.FaultCounts.{Rose};
 
 use rb_io::{Got, Source};
 

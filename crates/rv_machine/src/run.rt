@@ -1,7 +1,8 @@
 // Runs of many steps.
 ghost use Rattle.std.specs.Prelude.{◌≡◌, ◌≤◌, ℕ, List, Some};
-ghost use Rattle.rb_io.specs.Counts.{Rose};
+ghost use Rattle.rb_io.specs.FaultCounts.{Rose};
 
+use crate::known::KnownActions;
 use crate::machine::Machine;
 use crate::stepped::Stepped;
 use rb_io::{Sink, Source};
@@ -16,15 +17,15 @@ pub struct Ran {
 }
 
 impl<'a> Machine<'a> {
-    ghost use Rattle.rv_code.specs.Step.{Steps};
+    ghost use Rattle.rv_code.specs.machine.Step.{Steps};
     ghost use Rattle.rv_machine.specs.State.{state_of};
-    ghost use Rattle.rv_machine.specs.Answers.{Outside};
+    ghost use Rattle.rv_machine.specs.StepAnswers.{Outside};
     ghost use Rattle.rv_machine.specs.Determined.{IsDetermined};
-    ghost use Rattle.rv_machine.specs.Runs.{Grows, RunAnswers, determined_steps};
+    ghost use Rattle.rv_machine.specs.Runs.{Grows, MachineRunAnswers, determined_steps};
 
     /// Does at most `limit` steps.
     pub fn run<I: Source, O: Sink>(&mut self, limit: u64, input: &mut I, out: &mut O) -> Ran
-        ensures answer { (bytes : List ℕ) → (I.seen input.old).left ≡ Some bytes → RunAnswers result.end limit result.steps self.old self.new bytes
+        ensures answer { (bytes : List ℕ) → (I.seen input.old).left ≡ Some bytes → MachineRunAnswers result.end limit result.steps self.old self.new bytes
             (record { input = I.seen input.old; output = O.seen out.old })
             (record { input = I.seen input.new; output = O.seen out.new }) }
         ensures determined { (bytes : List ℕ) → (I.seen input.old).left ≡ Some bytes → IsDetermined Steps (state_of self.old bytes) (determined_steps result.end limit result.steps) }
@@ -35,9 +36,10 @@ impl<'a> Machine<'a> {
         ensures reads { (I.seen input.old).faults ≤ (I.seen input.new).faults }
         ensures writes { (O.seen out.old).faults ≤ (O.seen out.new).faults }
     {
+        let mut known = KnownActions::new(self.memory.allocator());
         let mut steps = 0;
         while steps < limit {
-            match self.step(input, out) {
+            match self.step_known(&mut known, input, out) {
                 Stepped::Going => steps += 1,
                 Stepped::Ended(status) => {
                     return Ran {

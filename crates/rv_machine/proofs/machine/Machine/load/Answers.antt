@@ -1,15 +1,16 @@
 use Rattle.std.proofs.Common.{◌≡◌, ◌∙◌, ◌+◌, ◌-◌, ◌^◌, ◌≤◌, ℕ, List, sym, ap, subst, refl, arith, length}
 use Rattle.std.specs.Prelude.{map, string_bytes, unwrap_or, if◌then◌else◌, ◌==◌}
-use Rattle.rv_code.specs.Machine.{put}
-use Rattle.elf_image.specs.Header.{segments_of}
-use Rattle.elf_image.specs.Image.{image_byte}
-use Rattle.elf_image.specs.Start.{break_start, in_stack, space_of, stack_bytes, stack_end, stack_pointer, start, writable_end}
-use Rattle.rv_machine.specs.Memory.{memory_of}
+use Rattle.rv_code.specs.machine.Machine.{put}
+use Rattle.elf_image.specs.file.Header.{segments_of}
+use Rattle.elf_image.specs.memory.Image.{image_byte}
+use Rattle.elf_image.specs.memory.Start.{break_start, in_stack, space_of, stack_bytes, stack_end, stack_pointer, start, writable_end}
+use Rattle.rv_memory.specs.Memory.{memory_of}
 use Rattle.rv_machine.proofs.CallSteps.{same_state}
 use Rattle.elf_image.proofs.LowSegments.{low_end}
-use Rattle.rv_machine.proofs.Spaces.{space_in-keeps}
-use Rattle.rv_machine.proofs.StackLengths.{stack_bytes-end, stack_pointer-within}
-use Rattle.rv_machine.proofs.StackMemory.{put_stack, start_register}
+use Rattle.rv_memory.proofs.Spaces.{space_in-keeps}
+use Rattle.rv_memory.proofs.CodeKept.{stack_writable}
+use Rattle.rv_memory.proofs.StackLengths.{stack_bytes-end, stack_pointer-within}
+use Rattle.rv_memory.proofs.StackMemory.{put_stack, start_register}
 use Rattle.rv_machine.proofs.machine.Machine.load.Goals as goal
 
 pub overflow_sub-pointer : goal.overflow_sub-pointer
@@ -45,3 +46,11 @@ returns c = λ input.
       break_is = c.write.ensures.space_kept.break_is ∙ c.new-memory.ensures.break_is ∙ ap break_start c.requires.read.segments;
       input_is = refl;
     })
+
+pub write-requires : goal.write-requires
+write-requires c =
+    let words : List (List ℕ) = map string_bytes c.args.words.now in
+    let size : length c.deref-bytes.result.now ≡ length (stack_bytes c.args.elf.now.file.now words) = ap length (c.deref-bytes.ensures.value ∙ c.in_ok-bytes.ensures) in
+    let ends = stack_bytes-end c.args.elf.now.file.now words c.requires.limits in
+    let within = stack_pointer-within words c.requires.limits in
+    stack_writable c.new-memory.result (stack_end - length c.deref-bytes.result.now) (length c.deref-bytes.result.now) (omega arith) (omega arith)

@@ -1,11 +1,13 @@
 use Rattle.std.proofs.Common.{◌≡◌, ◌∙◌, ◌<◌, ◌≤◌, sym, ap, refl, arith, Some, true, false, length, take, drop, []}
 use Rattle.std.specs.Io.KnownBytes.{prepend_known}
-use Rattle.rv_code.specs.Machine.{Going, all_may, may_write, put, set_register}
-use Rattle.rv_code.specs.Step.{a0, a1, a2, buffer_size}
-use Rattle.rv_machine.specs.Memory.{memory_of}
+use Rattle.rv_code.specs.machine.Machine.{Going, all_may, may_write, put, set_register}
+use Rattle.rv_code.specs.machine.Step.{a0, a1, a2, buffer_size}
+use Rattle.rv_memory.specs.Memory.{memory_of}
 use Rattle.rv_machine.specs.State.{state_of, Same}
-use Rattle.rv_machine.proofs.Spaces.{space_in-keeps}
-use Rattle.rv_machine.proofs.Cells.{put_same}
+use Rattle.rv_memory.proofs.Spaces.{space_in-keeps}
+use Rattle.rv_memory.specs.Memory.{writes}
+use Rattle.rv_memory.proofs.CodeKept.{all_may_front, writable-keeps}
+use Rattle.rv_memory.proofs.Cells.{put_same}
 use Rattle.rv_machine.proofs.CallSteps.{same_state, after_read, read_event, read_call-reads, read_call-traps, HasRead, has_read, read_writes_nothing, written_over}
 use Rattle.rv_machine.proofs.machine.Machine.read_input.Goals as goal
 
@@ -86,5 +88,26 @@ returns-clause-answer g c = λ output. record {
         used_is = refl;
         some = omega (arith, some);
       };
+  taken_is = refl;
+}
+
+pub overwrite-requires-clause-writable : goal.overwrite-requires-clause-writable
+overwrite-requires-clause-writable g c =
+    let filled : length c.deref_mut.result.now ≡ c.buffer_size-count.result = ap length c.deref_mut.ensures.value ∙ c.in-Ok.ensures.size in
+    let size : length c.split_at.result.0.now ≤ c.buffer_size-count.result = omega (arith, c.split_at.ensures.front_len, c.in-Bytes.ensures.within, c.fill.auto.buffer, filled) in
+    all_may_front (writes c.buffer.new.self) c.register-address.result (length c.split_at.result.0.now) c.buffer_size-count.result size
+    (writable-keeps c.args.self.now.memory c.buffer.new.self c.buffer.ensures.space_kept c.register-address.result c.buffer_size-count.result (sym c.may_all.ensures ∙ c.if-not-may_all.false))
+
+pub returns-in_default-clause-answer : goal.returns-in_default-clause-answer
+returns-in_default-clause-answer g c = λ output. record {
+  state_is = λ input. same_state _ _ (record {
+    pc_is = refl;
+    registers_are = λ r. refl;
+    memory_is = c.buffer.ensures.kept;
+    space_is = sym (space_in-keeps c.args.self.now.memory c.buffer.new.self c.buffer.ensures.space_kept);
+    break_is = c.buffer.ensures.space_kept.break_is;
+    input_is = refl;
+  });
+  left_is = refl;
   taken_is = refl;
 }

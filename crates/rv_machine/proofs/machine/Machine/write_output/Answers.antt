@@ -1,7 +1,7 @@
 use Rattle.std.proofs.Common.{◌≡◌, ◌∙◌, sym, ap, refl, Some, true, false, length}
 use Rattle.std.specs.Io.KnownBytes.{append_known}
-use Rattle.rv_code.specs.Machine.{Going, all_may, may_read, cells_at, set_register}
-use Rattle.rv_code.specs.Step.{a0, a1, buffer_size}
+use Rattle.rv_code.specs.machine.Machine.{Going, all_may, may_read, memory_bytes, set_register}
+use Rattle.rv_code.specs.machine.Step.{a0, a1, buffer_size}
 use Rattle.rv_machine.specs.State.{state_of, Same}
 use Rattle.rv_machine.proofs.CallSteps.{same_state, after_write, write_event, write_call-writes, write_call-traps, write_writes, told, told_is}
 use Rattle.rv_machine.proofs.machine.Machine.write_output.Goals as goal
@@ -26,7 +26,7 @@ returns-in-Took-clause-answer g c = λ input.
     let t = state_of c.return_value.new.self (told input.left) in
     let size : c.buffer_size-count.result ≡ buffer_size s = c.buffer_size-count.ensures.is (told input.left) in
     let may : all_may (may_read s) (s.registers a1) (buffer_size s) ≡ true = rw (c.register-address.ensures, size) at (sym c.may_all.ensures ∙ c.if-not-may_all.false) in
-    let cells : cells_at s.memory (s.registers a1) (buffer_size s) ≡ moved = sym (rw (c.register-address.ensures, size) at (c.deref.ensures.value ∙ c.in-Ok.ensures)) in
+    let cells : memory_bytes s.memory (s.registers a1) (buffer_size s) ≡ moved = sym (rw (c.register-address.ensures, size) at (c.deref.ensures.value ∙ c.in-Ok.ensures)) in
     let got : length moved ≡ c.in-Took.count = sym c.in-Took.ensures.whole in
     let state = c.return_value.ensures.state (told input.left) in
     let same : Same (after_write s c.args.next moved) t = record {
@@ -55,7 +55,7 @@ returns-clause-answer g c = λ input. record {
       let s = state_of c.args.self.now input in
       let size : c.buffer_size-count.result ≡ buffer_size s = c.buffer_size-count.ensures.is input in
       let may : all_may (may_read s) (s.registers a1) (buffer_size s) ≡ true = rw (c.register-address.ensures, size) at (sym c.may_all.ensures ∙ c.if-not-may_all.false) in
-      let cells : cells_at s.memory (s.registers a1) (buffer_size s) ≡ moved = sym (rw (c.register-address.ensures, size) at (c.deref.ensures.value ∙ c.in-Ok.ensures)) in
+      let cells : memory_bytes s.memory (s.registers a1) (buffer_size s) ≡ moved = sym (rw (c.register-address.ensures, size) at (c.deref.ensures.value ∙ c.in-Ok.ensures)) in
       record {
         next = after_write s c.args.next moved;
         event = write_event s moved;

@@ -1,0 +1,13 @@
+use Rattle.std.proofs.Common.{◌≡◌, ◌∙◌, ◌<◌, ℕ, sym, ap, subst, arith, length, get_or}
+use Rattle.std.specs.Prelude.{replicate}
+use Rattle.std.proofs.lemmas.List.{get_or-replicate, length-replicate}
+use Rattle.rv_machine.specs.declared.known.KnownAction.{KnownAction}
+use Rattle.rv_machine.specs.Known.{IsKnown}
+use Rattle.rv_machine.proofs.KnownEntries.{known_entries}
+use Rattle.rv_machine.proofs.known.KnownActions.new.Goals as goal
+
+pub returns-in-Ok : goal.returns-in-Ok
+returns-in-Ok c =
+    let is : c.in-Ok.entries.items ≡ replicate 16384 c.in-Some.nop = c.in-Ok.ensures.items_if_clones_equal (λ y same. same) in
+    let nop : IsKnown c.in-Some.nop = rw (c.in-Some.ensures.half, c.in-Some.ensures.next) c.in-Some.ensures.known in
+    record { at = known_entries c.in-Ok.entries.items 16384 c.in-Some.nop is nop }

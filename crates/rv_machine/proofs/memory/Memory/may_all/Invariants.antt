@@ -1,7 +1,0 @@
-use Rattle.std.proofs.Common.{◌≡◌, ◌-◌}
-use Rattle.rv_code.specs.Machine.{plus, all_may}
-use Rattle.rv_machine.specs.Memory.{may}
-use Rattle.rv_machine.proofs.memory.Memory.may_all.Given as goal
-
-abbrev pub invariant-loop-i : goal.invariant-loop-i
-invariant-loop-i l = all_may (may l.self l.access) l.address l.count ≡ all_may (may l.self l.access) (plus l.address l.i) (l.count - l.i)

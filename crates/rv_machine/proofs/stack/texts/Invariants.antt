@@ -1,7 +1,0 @@
-use Rattle.std.proofs.Common.{◌≡◌, ◌++◌, ◌∷◌, [], drop}
-use Rattle.std.specs.Prelude.{flat_map, map, string_bytes}
-use Rattle.elf_image.specs.Start.{texts}
-use Rattle.rv_machine.proofs.stack.texts.Given as goal
-
-abbrev pub invariant-loop-word : goal.invariant-loop-word
-invariant-loop-word l = l.out.items ++ flat_map (λ text. text ++ 0 ∷ []) (map string_bytes (drop l.word-index l.words)) ≡ texts (map string_bytes l.words)

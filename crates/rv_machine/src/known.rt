@@ -1,0 +1,113 @@
+// Instructions that were decoded before.
+ghost use Rattle.std.specs.Prelude.{◌≡◌, ◌<◌, ℕ, IfSome, IfNone};
+ghost use Rattle.rv_code.specs.isa.Decoding.{Decodes};
+ghost use Rattle.rv_code.specs.declared.inst.Inst.{Inst};
+
+use rv_code::Action;
+use rv_decode::decode;
+use std::alloc::Global;
+
+/// Halfwords of code, what the instruction that they are does, and its length in bytes.
+#[derive(Clone, Copy, PartialEq, Eq, Debug)]
+pub struct KnownAction {
+    pub half: u16,
+    pub next: Option<u16>,
+    pub action: Action,
+    pub length: u8,
+}
+
+/// What was decoded last of the halfwords that share a place in this table, so that loops decode their instructions once.
+#[derive(Drop)]
+pub struct KnownActions {
+    pub entries: Vec<KnownAction>,
+}
+
+/// How many places the table has.
+const PLACES: usize = 16384;
+
+/// C.NOP, which fills the table before anything is decoded.
+const NOP: u16 = 1;
+
+// The place of halfwords in the table.
+fn place(half: u16, next: Option<u16>) -> usize {
+    let upper = next.unwrap_or(0) as usize;
+    (half as usize / 4 + upper * 5) % PLACES
+}
+
+impl KnownActions {
+    ghost use Rattle.rv_machine.specs.Known.{AreKnown, IsAction};
+
+    /// A table in which nothing is found.
+    pub fn none(alloc: Global) -> KnownActions
+        ensures { AreKnown result }
+    {
+        KnownActions {
+            entries: Vec::new(alloc),
+        }
+    }
+
+    /// A table that is filled as instructions are decoded. Where memory runs out, nothing is found in it.
+    pub fn new(alloc: Global) -> KnownActions
+        ensures { AreKnown result }
+    {
+        let Some(nop) = decoded(NOP, None) else {
+            return KnownActions::none(alloc);
+        };
+        match Vec::from_elem(alloc, nop, PLACES) {
+            Ok(entries) => KnownActions { entries },
+            Err(_) => KnownActions::none(alloc),
+        }
+    }
+
+    /// What the instruction of these halfwords does, and its length.
+    pub fn find(&mut self, half: u16, next: Option<u16>) -> Option<(Action, u8)>
+        requires { AreKnown self.old }
+        ensures known { AreKnown self.new }
+        ensures found { IfSome result (λ r. IsAction half next r.0 r.1) }
+        ensures none { IfNone result ((i : Inst) (bytes : ℕ) → Decodes half next i bytes → ⊥) }
+    {
+        let at = place(half, next);
+        if at < self.entries.len() {
+            let entry = self.entries[at];
+            if entry.half == half && entry.next == next {
+                return Some((entry.action, entry.length));
+            }
+        }
+        self.learn(at, half, next)
+    }
+
+    // Decodes halfwords, and puts what they are into the table.
+    fn learn(&mut self, at: usize, half: u16, next: Option<u16>) -> Option<(Action, u8)>
+        requires { AreKnown self.old }
+        ensures known { AreKnown self.new }
+        ensures found { IfSome result (λ r. IsAction half next r.0 r.1) }
+        ensures none { IfNone result ((i : Inst) (bytes : ℕ) → Decodes half next i bytes → ⊥) }
+    {
+        let Some(entry) = decoded(half, next) else {
+            return None;
+        };
+        if at < self.entries.len() {
+            self.entries[at] = entry;
+        }
+        Some((entry.action, entry.length))
+    }
+}
+
+ghost use Rattle.rv_machine.specs.Known.{IsAction};
+
+fn decoded(half: u16, next: Option<u16>) -> Option<KnownAction>
+    ensures half { IfSome result (λ e. e.half ≡ half) }
+    ensures next { IfSome result (λ e. e.next ≡ next) }
+    ensures known { IfSome result (λ e. IsAction half next e.action e.length) }
+    ensures none { IfNone result ((i : Inst) (bytes : ℕ) → Decodes half next i bytes → ⊥) }
+{
+    match decode(half, next) {
+        Some((inst, length)) => Some(KnownAction {
+            half,
+            next,
+            action: inst.action(),
+            length,
+        }),
+        None => None,
+    }
+}

@@ -1,0 +1,101 @@
+-- Cells in a row, one at a time.
+use Rattle.std.proofs.Common.{◌≡◌, ℕ, zero, suc, ◌+◌, ◌-◌, ◌*◌, ◌/◌, ◌%◌, ◌<◌, ◌≤◌, ◌^◌, Bool, true, List, [], ◌∷◌, ◌++◌, length, take, drop, get_or, refl, sym, ap, ◌∙◌, arith, append_assoc, append-nil, div-one, drop_of_length-le, drop-cons}
+use Rattle.std.specs.Prelude.{if◌then◌else◌, ◌==◌, ◌&&◌}
+use Rattle.std.proofs.Math.Nat.{pow-le-pow_right, pow-suc, div-div-eq-div-mul}
+use Rattle.std.proofs.Math.Bool.{and-true}
+use Rattle.rv_code.specs.machine.Machine.{plus, memory_bytes, put, little, all_may, low_bytes}
+use Rattle.std.specs.Int.{w64, to_le_bytes, bytes_low_first, byte_at}
+
+pub little_none : (memory : ℕ → ℕ) (a n : ℕ) → n ≡ 0 → little (memory_bytes memory a n) ≡ 0
+unfolding memory_bytes little
+little_none memory a n e = rw e refl
+
+pub little_step : (memory : ℕ → ℕ) (a n : ℕ) → 0 < n → little (memory_bytes memory a n) ≡ memory a + 256 * little (memory_bytes memory (plus a 1) (n - 1))
+unfolding memory_bytes little
+little_step memory a zero h = absurd (omega arith)
+little_step memory a (suc n) h = let e : suc n - 1 ≡ n = omega arith in rw e refl
+
+pub cells_none : (memory : ℕ → ℕ) (a n : ℕ) → n ≡ 0 → memory_bytes memory a n ≡ []
+unfolding memory_bytes
+cells_none memory a n e = rw e refl
+
+-- the cells from a + i on begin with the one there
+pub cells_next : (memory : ℕ → ℕ) (a i n : ℕ) → i < n → memory_bytes memory (plus a i) (n - i) ≡ memory (plus a i) ∷ memory_bytes memory (plus a (i + 1)) (n - (i + 1))
+unfolding memory_bytes
+cells_next memory a i n h =
+    let e : n - i ≡ suc (n - (i + 1)) = omega arith in
+    let next : plus (plus a i) 1 ≡ plus a (i + 1) = omega arith in
+    rw (e, next) refl
+
+-- what was copied of the cells, with one more
+pub cells_more : (memory : ℕ → ℕ) (a i n : ℕ) (front whole : List ℕ) → i < n → front ++ memory_bytes memory (plus a i) (n - i) ≡ whole → (front ++ memory (plus a i) ∷ []) ++ memory_bytes memory (plus a (i + 1)) (n - (i + 1)) ≡ whole
+cells_more memory a i n front whole h e =
+    append_assoc front (memory (plus a i) ∷ []) (memory_bytes memory (plus a (i + 1)) (n - (i + 1))) ∙ ap (λ rest. front ++ rest) (sym (cells_next memory a i n h)) ∙ e
+
+-- and with none left
+pub cells_all : (memory : ℕ → ℕ) (a i n : ℕ) (front whole : List ℕ) → n ≤ i → front ++ memory_bytes memory (plus a i) (n - i) ≡ whole → front ≡ whole
+cells_all memory a i n front whole h e =
+    let none : n - i ≡ 0 = omega arith in
+    let empty : memory_bytes memory (plus a i) (n - i) ≡ [] = cells_none memory (plus a i) (n - i) none in
+    grind (arith, append-nil, div-one, empty, e)
+
+-- seven bytes fit in 56 bits
+pub byte_power : (n : ℕ) → n ≤ 7 → 256 ^ n ≤ 2 ^ 56
+byte_power n h = pow-le-pow_right {n = 256} (omega arith) {i = n} {j = 7} h
+
+pub put_none : (memory : ℕ → ℕ) (a q : ℕ) (bytes : List ℕ) → memory q ≡ put memory (plus a (length bytes)) (drop (length bytes) bytes) q
+unfolding put
+put_none memory a q bytes = let none : drop (length bytes) bytes ≡ [] = drop_of_length-le bytes (omega arith) in rw none refl
+
+-- the bytes from place i on, with the first of them last
+pub put_next : (memory : ℕ → ℕ) (a i q : ℕ) (bytes : List ℕ) → i < length bytes →
+    put memory (plus a i) (drop i bytes) q ≡ (if q == plus a i then get_or bytes i 0 else put memory (plus a (i + 1)) (drop (i + 1) bytes) q)
+unfolding put
+put_next memory a i q bytes h =
+    let next : plus (plus a i) 1 ≡ plus a (i + 1) = omega arith in
+    let one : suc i ≡ i + 1 = omega arith in
+    let first : drop i bytes ≡ get_or bytes i 0 ∷ drop (i + 1) bytes = rw one at (drop-cons bytes i 0 h) in
+    rw (first, next) refl
+
+pub all_may_none : (may : ℕ → Bool) (a n : ℕ) → n ≡ 0 → all_may may a n ≡ true
+unfolding all_may
+all_may_none may a n e = rw e refl
+
+pub all_may_next : (may : ℕ → Bool) (a i n : ℕ) → i < n → all_may may (plus a i) (n - i) ≡ may (plus a i) && all_may may (plus a (i + 1)) (n - (i + 1))
+unfolding all_may
+all_may_next may a i n h =
+    let e : n - i ≡ suc (n - (i + 1)) = omega arith in
+    let next : plus (plus a i) 1 ≡ plus a (i + 1) = omega arith in
+    rw (e, next) refl
+
+pub all_may_two : (may : ℕ → Bool) (a : ℕ) → all_may may a 2 ≡ may a && may (plus a 1)
+unfolding all_may
+all_may_two may a = rw (and-true (may (plus a 1))) refl
+
+byte_at-is : (i v : ℕ) → byte_at i v ≡ v / 256 ^ i % 256
+byte_at-is zero v = rw div-one refl
+byte_at-is (suc i) v = refl
+
+pub bytes_low_first-low_bytes : (i n k v : ℕ) → n ≤ k → take n (bytes_low_first i k v) ≡ low_bytes n (v / 256 ^ i)
+unfolding low_bytes
+bytes_low_first-low_bytes i zero k v h = refl
+bytes_low_first-low_bytes i (suc n) zero v h = absurd (omega arith)
+bytes_low_first-low_bytes i (suc n) (suc k) v h =
+    let next : v / 256 ^ i / 256 ≡ v / 256 ^ suc i = div-div-eq-div-mul v (256 ^ i) 256 ∙ ap (λ (d : ℕ). v / d) (sym (pow-suc 256 i)) in
+    rw (byte_at-is i v, next, bytes_low_first-low_bytes (suc i) n k v (omega arith)) refl
+
+-- the low bytes of a word, of the eight that it has
+pub low_bytes_of : (n v : ℕ) → n ≤ 8 → take n (to_le_bytes w64 v) ≡ low_bytes n v
+low_bytes_of n v h = rw (div-one v) at (bytes_low_first-low_bytes 0 n 8 v h)
+
+-- bytes put over the same memory
+pub put_same : (old new : ℕ → ℕ) → ((q : ℕ) → old q ≡ new q) → (a q : ℕ) (bytes : List ℕ) → put old a bytes q ≡ put new a bytes q
+unfolding put
+put_same old new same a q [] = same q
+put_same old new same a q (b ∷ bytes) = ap (λ rest. if q == a then b else rest) (put_same old new same (plus a 1) q bytes)
+
+-- a word's bytes are its eight low bytes
+pub to_le_bytes-low_bytes : (v : ℕ) → to_le_bytes w64 v ≡ low_bytes 8 v
+to_le_bytes-low_bytes v = low_bytes_of 8 v (omega arith)
+
+pub ruleset word_bytes = to_le_bytes-low_bytes

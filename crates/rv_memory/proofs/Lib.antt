@@ -1,0 +1,11 @@
+pub mod Cells
+pub mod Ranks
+pub mod PatchedBytes
+pub mod PageBytes
+pub mod AddressRuns
+pub mod CodeRanges
+pub mod CodeKept
+pub mod Spaces
+pub mod StackLengths
+pub mod Tables
+pub mod StackMemory

@@ -1,0 +1,119 @@
+-- What a list has once bytes are written over a part of it.
+use Rattle.std.proofs.Common.{◌≡◌, ◌∙◌, sym, ap, refl, ℕ, ◌+◌, ◌-◌, ◌*◌, ◌/◌, ◌%◌, ◌≤◌, ◌<◌, ◌⊎◌, inl, inr, Bool, true, false, List, ◌++◌, length, take, drop, get_or, Option, Some, None, arith}
+use Rattle.std.specs.Prelude.{◌&&◌, nat_le, nat_lt, if◌then◌else◌}
+use Rattle.std.specs.Option.{option_map}
+use Rattle.std.proofs.lemmas.Grind.{common_steps}
+use Rattle.std.proofs.lemmas.List.{get_or-drop, get_or-take, get_or_append_left, get_or-append_right}
+use Rattle.std.proofs.lemmas.Bool.{leb-true, leb-false, ltb-true, ltb-false, cases_lt}
+use Rattle.std.proofs.Math.Nat.{eq-or-lt_of_le}
+use Rattle.std.proofs.Common.{zero, suc, [], ◌∷◌, ◌^◌, div-one, set}
+use Rattle.std.proofs.lemmas.List.{take_all}
+use Rattle.std.proofs.lemmas.List.Edits.{sets-eq}
+use Rattle.byteorder.specs.Endian.{little_bytes}
+use Rattle.byteorder.specs.Numbers.{length-bytes_low_first}
+use borrow.Rule.Slice.PartMut.{put_mid}
+use Rattle.rv_code.specs.machine.Machine.{low_bytes}
+use Rattle.elf_image.proofs.Patches.{patched_at}
+use Rattle.rv_memory.specs.Patched.{patched}
+use Rattle.rv_memory.specs.Pages.{is_within}
+use Rattle.rv_memory.proofs.Cells.{bytes_low_first-low_bytes}
+use Rattle.rv_memory.proofs.StackLengths.{low_bytes-mod}
+
+pub length-patched : (at : ℕ) (ys xs : List ℕ) → at + length ys ≤ length xs → length (patched at ys xs) ≡ length xs
+unfolding patched
+length-patched at ys xs within = grind (arith, common_steps)
+
+pub get_or-patched_there : (at : ℕ) (ys xs : List ℕ) (k : ℕ) → at + length ys ≤ length xs → k < length ys → get_or (patched at ys xs) (at + k) 0 ≡ get_or ys k 0
+unfolding patched
+get_or-patched_there at ys xs k within here =
+    let front : length (take at xs) ≡ at = grind (arith, common_steps) in
+    let place : at + k - at ≡ k = omega arith in
+    get_or-append_right (take at xs) _ at (at + k) 0 front (omega arith)
+    ∙ ap (λ (j : ℕ). get_or (ys ++ drop (at + length ys) xs) j 0) place
+    ∙ get_or_append_left ys (drop (at + length ys) xs) 0 k here
+
+pub get_or-patched_beside : (at : ℕ) (ys xs : List ℕ) (k : ℕ) → at + length ys ≤ length xs → (k < at) ⊎ (at + length ys ≤ k) → get_or (patched at ys xs) k 0 ≡ get_or xs k 0
+unfolding patched
+get_or-patched_beside at ys xs k within (inl low) =
+    let front : length (take at xs) ≡ at = grind (arith, common_steps) in
+    get_or_append_left (take at xs) _ 0 k (omega arith) ∙ get_or-take at xs k 0 low
+get_or-patched_beside at ys xs k within (inr high) =
+    let front : length (take at xs) ≡ at = grind (arith, common_steps) in
+    let place : (at + length ys) + ((k - at) - length ys) ≡ k = omega arith in
+    get_or-append_right (take at xs) _ at k 0 front (omega arith)
+    ∙ get_or-append_right ys (drop (at + length ys) xs) (length ys) (k - at) 0 refl (omega arith)
+    ∙ get_or-drop (at + length ys) xs ((k - at) - length ys) 0
+    ∙ ap (λ (j : ℕ). get_or xs j 0) place
+
+-- Pages stand one after another, each at the place of its number.
+module _ (place : ℕ → Option ℕ) (numbers xs : List ℕ) (numbered : (q i : ℕ) → place q ≡ Some i → get_or numbers i 0 ≡ q) where
+  -- bytes written inside one of them
+  module _ (ys : List ℕ) (a i : ℕ) (found : place (a / 4096) ≡ Some i) (in_page : a % 4096 + length ys ≤ 4096) (within : i * 4096 + a % 4096 + length ys ≤ length xs) where
+    there : (q : ℕ) → a ≤ q → q < a + length ys → option_map (λ j. get_or (patched (i * 4096 + a % 4096) ys xs) (j * 4096 + q % 4096) 0) (place (q / 4096)) ≡ Some (get_or ys (q - a) 0)
+    there q from to =
+        let page : q / 4096 ≡ a / 4096 = omega arith in
+        let offset : i * 4096 + q % 4096 ≡ i * 4096 + a % 4096 + (q - a) = omega arith in
+        ap (λ r. option_map (λ j. get_or (patched (i * 4096 + a % 4096) ys xs) (j * 4096 + q % 4096) 0) r) (ap place page ∙ found)
+        ∙ ap (λ k. Some (get_or (patched (i * 4096 + a % 4096) ys xs) k 0)) offset
+        ∙ ap Some (get_or-patched_there (i * 4096 + a % 4096) ys xs (q - a) within (omega arith))
+
+    apart : (q j : ℕ) → place (q / 4096) ≡ Some j → (q < a) ⊎ (a + length ys ≤ q) → (j * 4096 + q % 4096 < i * 4096 + a % 4096) ⊎ (i * 4096 + a % 4096 + length ys ≤ j * 4096 + q % 4096)
+    apart q j is beside = elim (cases_lt j i) [
+      | inl low ↦ inl (omega arith)
+      | inr high ↦ elim (eq-or-lt_of_le high) [
+        | inr above ↦ inr (omega arith)
+        | inl same ↦
+            let page : q / 4096 ≡ a / 4096 = sym (numbered (q / 4096) j is) ∙ ap (λ k. get_or numbers k 0) (sym same) ∙ numbered (a / 4096) i found in
+            elim beside [ inl before ↦ inl (omega arith) | inr after ↦ inr (omega arith) ]
+      ]
+    ]
+
+    elsewhere : (q : ℕ) → (q < a) ⊎ (a + length ys ≤ q) → (r : Option ℕ) → place (q / 4096) ≡ r → option_map (λ j. get_or (patched (i * 4096 + a % 4096) ys xs) (j * 4096 + q % 4096) 0) r ≡ option_map (λ j. get_or xs (j * 4096 + q % 4096) 0) r
+    elsewhere q beside None is = refl
+    elsewhere q beside (Some j) is = ap Some (get_or-patched_beside (i * 4096 + a % 4096) ys xs (j * 4096 + q % 4096) within (apart q j is beside))
+
+    pub page_patched : (q : ℕ) → option_map (λ j. get_or (patched (i * 4096 + a % 4096) ys xs) (j * 4096 + q % 4096) 0) (place (q / 4096)) ≡ (if is_within a (length ys) q then Some (get_or ys (q - a) 0) else option_map (λ j. get_or xs (j * 4096 + q % 4096) 0) (place (q / 4096)))
+    page_patched q = by_start (nat_le a q) refl
+      where
+        by_end : a ≤ q → (t : Bool) → nat_lt q (a + length ys) ≡ t → option_map (λ j. get_or (patched (i * 4096 + a % 4096) ys xs) (j * 4096 + q % 4096) 0) (place (q / 4096)) ≡ (if t then Some (get_or ys (q - a) 0) else option_map (λ j. get_or xs (j * 4096 + q % 4096) 0) (place (q / 4096)))
+        by_end from true test = there q from (ltb-true q (a + length ys) test)
+        by_end from false test = elsewhere q (inr (ltb-false q (a + length ys) test)) (place (q / 4096)) refl
+
+        by_start : (t : Bool) → nat_le a q ≡ t → option_map (λ j. get_or (patched (i * 4096 + a % 4096) ys xs) (j * 4096 + q % 4096) 0) (place (q / 4096)) ≡ (if t && nat_lt q (a + length ys) then Some (get_or ys (q - a) 0) else option_map (λ j. get_or xs (j * 4096 + q % 4096) 0) (place (q / 4096)))
+        by_start true test = by_end (leb-true a q test) (nat_lt q (a + length ys)) refl
+        by_start false test = elsewhere q (inl (leb-false a q test)) (place (q / 4096)) refl
+
+-- what a write to a part of a slice leaves
+pub mid_patched : (at k : ℕ) (xs ys zs : List ℕ) → zs ≡ ys → k ≡ length ys → at + k ≤ length xs → put_mid at k xs zs ≡ patched at ys xs
+unfolding patched
+mid_patched at k xs ys zs is size within = rw (is, size) (grind (arith, common_steps))
+
+pub length-low_bytes : (n v : ℕ) → length (low_bytes n v) ≡ n
+unfolding low_bytes
+length-low_bytes zero v = refl
+length-low_bytes (suc n) v = ap suc (length-low_bytes n (v / 256))
+
+pub little_bytes-low_bytes : (n v : ℕ) → little_bytes n (v % 256 ^ n) ≡ low_bytes n v
+little_bytes-low_bytes n v =
+    let whole : take n (little_bytes n (v % 256 ^ n)) ≡ little_bytes n (v % 256 ^ n) = take_all n (little_bytes n (v % 256 ^ n)) (omega (arith, length-bytes_low_first 0 n (v % 256 ^ n))) in
+    sym whole ∙ (rw (div-one (v % 256 ^ n)) at (bytes_low_first-low_bytes 0 n n (v % 256 ^ n) (omega arith))) ∙ low_bytes-mod n v
+
+pub number_patched : (at n v : ℕ) (xs zs : List ℕ) → at + n ≤ length xs → zs ≡ little_bytes n (v % 256 ^ n) ++ drop n (take (length xs - at) (drop at xs)) → put_mid at (length xs - at) xs zs ≡ patched at (low_bytes n v) xs
+unfolding patched
+number_patched at n v xs zs within is =
+    ap (λ ys. take at xs ++ (ys ++ drop (length xs - at) (drop at xs))) is
+    ∙ patched_at at n xs (little_bytes n (v % 256 ^ n))
+    ∙ ap (λ ys. take at xs ++ (ys ++ drop (at + n) xs)) (little_bytes-low_bytes n v)
+    ∙ ap (λ (k : ℕ). take at xs ++ (low_bytes n v ++ drop (at + k) xs)) (sym (length-low_bytes n v))
+
+pub set_one : (at v : ℕ) (xs : List ℕ) → at + 1 ≤ length xs → set xs at v ≡ patched at (v ∷ []) xs
+unfolding patched
+set_one at v xs within = let set_is = sets-eq (v ∷ []) xs at within in grind (arith, common_steps, set_is)
+
+pub set_patched : (at v : ℕ) (xs : List ℕ) → at + 1 ≤ length xs → set xs at (v % 256) ≡ patched at (low_bytes 1 v) xs
+unfolding low_bytes
+set_patched at v xs within = set_one at (v % 256) xs within
+
+pub whole_patched : (at n v : ℕ) (xs zs : List ℕ) → at + n ≤ length xs → v % 256 ^ n ≡ v → zs ≡ little_bytes n v ++ drop n (take (length xs - at) (drop at xs)) → put_mid at (length xs - at) xs zs ≡ patched at (low_bytes n v) xs
+whole_patched at n v xs zs within fits is =
+    number_patched at n v xs zs within (is ∙ ap (λ (w : ℕ). little_bytes n w ++ drop n (take (length xs - at) (drop at xs))) (sym fits))

@@ -1,0 +1,5 @@
+use Rattle.rv_memory.proofs.PatchedBytes.{number_patched}
+use Rattle.rv_memory.proofs.bytes.put_u16.Goals as goal
+
+pub returns : goal.returns
+returns c = number_patched c.args.at 2 c.args.number c.args.bytes.now c.write_u16.new.buf c.requires c.write_u16.ensures

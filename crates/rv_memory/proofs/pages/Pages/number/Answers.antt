@@ -1,0 +1,21 @@
+use Rattle.std.proofs.Common.{◌≡◌, ◌∙◌, ◌*◌, ◌+◌, ◌/◌, ◌%◌, ℕ, sym, ap, arith, Some, None, Option, subst}
+use Rattle.std.specs.Prelude.{IfSome}
+use Rattle.elf_image.specs.file.Header.{number_at}
+use Rattle.rv_code.specs.machine.Machine.{memory_bytes, little}
+use Rattle.rv_memory.specs.PageIndex.{place_of}
+use Rattle.rv_memory.specs.Pages.{IsLike}
+use Rattle.rv_memory.proofs.PageBytes.{number-like}
+use Rattle.rv_memory.proofs.pages.Pages.number.Goals as goal
+
+for_some : (P : ℕ → Type 0) (r : Option ℕ) (n : ℕ) → IfSome r (λ m. m ≡ n) → P n → IfSome r P
+for_some P None n is p = tt
+for_some P (Some m) n is p = subst P (sym is) p
+
+pub returns-in-Some-clause-value : goal.returns-in-Some-clause-value
+returns-in-Some-clause-value c =
+    let p = c.args.self.now in
+    let a = c.args.address in
+    let found : place_of p.index (a / 4096) ≡ Some c.in-Some.place = sym c.place.ensures ∙ c.in-Some.is in
+    for_some (λ n. (memory : ℕ → ℕ) → IsLike p memory → n ≡ little (memory_bytes memory a c.args.count)) c.number_in.result (number_at p.bytes.items (c.in-Some.place * 4096 + a % 4096) c.args.count)
+    (rw c.deref.ensures.value at c.number_in.ensures.value)
+    (λ memory like. number-like p a c.args.count c.in-Some.place (omega arith) found c.requires memory like)

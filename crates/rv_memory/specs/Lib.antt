@@ -1,0 +1,8 @@
+pub mod Blank
+pub mod CodeRange
+pub mod PageIndex
+pub mod Pages
+pub mod Patched
+pub mod Memory
+pub mod Limits
+pub mod Table

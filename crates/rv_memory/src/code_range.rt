@@ -1,0 +1,75 @@
+// The code of a program that nothing changes while it runs.
+ghost use Rattle.std.specs.Prelude.{◌≡◌, ◌≤◌, ◌+◌, ◌-◌, ◌^◌, ◌⊎◌, ℕ, IsTrue, false, true, length, slice_index, unwrap_or};
+ghost use Rattle.elf_image.specs.declared.segment.TheConstants.{PF_X};
+ghost use Rattle.elf_image.specs.memory.Image.{image_byte, is_loaded_with};
+ghost use Rattle.rv_memory.specs.CodeRange.{holds, is_ever_writable};
+
+use crate::rights::{STACK_END, STACK_SIZE};
+use elf_image::Elf;
+use elf_image::segment::{PF_W, PF_X};
+
+/// The addresses from one on and before another, which the file's bytes from an offset on are loaded to.
+#[derive(Clone, Copy, PartialEq, Eq, Debug)]
+pub struct CodeRange {
+    pub from: u64,
+    pub to: u64,
+    pub offset: u64,
+}
+
+const EMPTY: CodeRange = CodeRange {
+    from: 0,
+    to: 0,
+    offset: 0,
+};
+
+// Whether two runs of addresses share none.
+fn lie_apart(from: u64, to: u64, start: u64, end: u64) -> bool
+    ensures { IsTrue result → (to ≤ start) ⊎ (end ≤ from) }
+{
+    if to <= start {
+        return true;
+    }
+    end <= from
+}
+
+/// What the file has of the segment of the entry point, where that may be executed and never be written. Empty elsewhere.
+pub fn code_range(elf: &Elf, break_start: u64, break_bound: u64) -> CodeRange
+    ensures fixed { (q : ℕ) → holds result q ≡ true → is_ever_writable elf.now.segments.items break_start break_bound q ≡ false }
+    ensures runs { (q : ℕ) → holds result q ≡ true → is_loaded_with PF_X elf.now.segments.items q ≡ true }
+    ensures bytes { (q : ℕ) → holds result q ≡ true → unwrap_or (image_byte elf.now.file.now elf.now.segments.items q) 0 ≡ slice_index elf.now.file.now (result.offset + (q - result.from)) }
+    ensures within { result.offset + (result.to - result.from) ≤ length elf.now.file.now }
+{
+    let Some(segment) = elf.segment_at(elf.entry) else {
+        return EMPTY;
+    };
+    if segment.has_flag(PF_W) {
+        return EMPTY;
+    }
+    if !segment.has_flag(PF_X) {
+        return EMPTY;
+    }
+    let from = segment.vaddr;
+    let size = segment.filesz.min(segment.memsz);
+    let offset = segment.offset;
+    if from > STACK_END - STACK_SIZE || size > STACK_END - STACK_SIZE - from {
+        return EMPTY;
+    }
+    let to = from + size;
+    if !lie_apart(from, to, break_start, break_bound) {
+        return EMPTY;
+    }
+    if offset > elf.file.len() as u64 || size > elf.file.len() as u64 - offset {
+        return EMPTY;
+    }
+    CodeRange { from, to, offset }
+}
+
+impl CodeRange {
+    /// Whether the range has all of `count` addresses.
+    pub fn has(&self, address: u64, count: u64) -> bool
+        ensures within { IsTrue result → (self.now.from ≤ address) × (address + count ≤ self.now.to) }
+        ensures room { IsTrue result → address + count ≤ 2 ^ 64 }
+    {
+        self.from <= address && address <= self.to && count <= self.to - address
+    }
+}

@@ -1,0 +1,56 @@
+// Where each page stands, by its number.
+ghost use Rattle.std.specs.Prelude.{◌≡◌, ◌<◌, ◌==◌, ℕ, None, Some, IfOk, IsOk, OnErr, length, slice_index, if◌then◌else◌};
+
+use crate::page_group::PageGroup;
+use rb_bytes::fault::NoMemory;
+use std::alloc::Global;
+use std::collections::BTreeMap;
+
+/// The places of pages, by their numbers. The numbers stand in groups of at most 64, and a group's key is the
+/// first number that it can have, divided by 64.
+#[derive(Drop)]
+pub struct PageIndex {
+    groups: BTreeMap<u64, PageGroup>,
+    alloc: Global,
+}
+
+impl PageIndex {
+    ghost use Rattle.rv_memory.specs.PageIndex.{place_of};
+
+    /// An index without a page.
+    pub fn new(alloc: Global) -> PageIndex
+        ensures { (q : ℕ) → place_of result q ≡ None }
+    {
+        PageIndex {
+            groups: BTreeMap::new(alloc),
+            alloc,
+        }
+    }
+
+    /// The place of the page of a number.
+    pub fn place(&self, number: u64) -> Option<usize>
+        ensures { result ≡ place_of self.now number }
+    {
+        match self.groups.get(&(number / GROUP_SIZE)) {
+            Some(group) => group.place(number),
+            None => None,
+        }
+    }
+
+    /// Adds a page. Where memory runs out, none is added.
+    pub fn insert(&mut self, number: u64, place: usize) -> Result<(), NoMemory>
+        requires { place_of self.old number ≡ None }
+        ensures added { IsOk result → (q : ℕ) → place_of self.new q ≡ (if q == number then Some place else place_of self.old q) }
+        ensures kept { OnErr result ((q : ℕ) → place_of self.new q ≡ place_of self.old q) }
+    {
+        if let Some(group) = self.groups.get_mut(&(number / GROUP_SIZE)) {
+            return group.insert(number, place);
+        }
+        let group = PageGroup::new(self.alloc, number, place)?;
+        self.groups.insert(number / GROUP_SIZE, group)?;
+        Ok(())
+    }
+}
+
+/// How many numbers a group can have.
+const GROUP_SIZE: u64 = 64;

@@ -1,0 +1,159 @@
+// The pages that a program wrote.
+ghost use Rattle.std.specs.Prelude.{◌≡◌, ◌<◌, ◌≤◌, ◌+◌, ◌*◌, ◌-◌, ◌/◌, ◌%◌, ◌^◌, ◌==◌, ◌&&◌, ℕ, false, None, Some, IfSome, IfOk, IsOk, IsSome, IsTrue, OnErr, length, slice_index, nat_le, nat_lt, if◌then◌else◌};
+ghost use Rattle.rv_memory.specs.PageIndex.{place_of};
+
+use crate::bytes::{clear_bytes, number_in, put_bytes, put_number};
+use crate::page_index::PageIndex;
+use rb_bytes::fault::NoMemory;
+use std::alloc::Global;
+
+/// The size of a page in bytes.
+pub const PAGE_SIZE: usize = 4096;
+
+/// How many places of pages are kept at hand.
+const RECENT: usize = 256;
+
+/// Pages of 4096 bytes.
+#[derive(Drop)]
+pub struct Pages {
+    // The bytes of all pages, one page after another, and the number of each.
+    pub bytes: Vec<u8>,
+    pub numbers: Vec<u64>,
+    pub index: PageIndex,
+    // The places of pages that were written, by the lowest bits of their numbers.
+    recent: [usize; RECENT],
+    pub ghost sized: { length bytes.items ≡ length numbers.items * 4096 },
+    pub ghost indexed: { (i : ℕ) → i < length numbers.items → place_of index (slice_index numbers.items i) ≡ Some i },
+    pub ghost held: { (q i : ℕ) → place_of index q ≡ Some i → i < length numbers.items },
+    pub ghost numbered: { (q i : ℕ) → place_of index q ≡ Some i → slice_index numbers.items i ≡ q },
+}
+
+impl Pages {
+    ghost use Rattle.rv_code.specs.machine.Machine.{plus, memory_bytes, little, low_bytes};
+    ghost use Rattle.rv_memory.specs.Pages.{page_byte, byte_put, byte_cleared, cleared_between, IsLike};
+
+    /// No page.
+    pub fn new(alloc: Global) -> Pages
+        ensures { (q : ℕ) → page_byte result q ≡ None }
+    {
+        Pages {
+            bytes: Vec::new(alloc),
+            numbers: Vec::new(alloc),
+            index: PageIndex::new(alloc),
+            recent: [0; RECENT],
+        }
+    }
+
+    // The place of the page of a number.
+    fn place(&self, number: u64) -> Option<usize>
+        ensures { result ≡ place_of self.now.index number }
+    {
+        let recent = self.recent[(number % RECENT as u64) as usize];
+        if recent < self.numbers.len() && self.numbers[recent] == number {
+            return Some(recent);
+        }
+        self.index.place(number)
+    }
+
+    /// The byte at an address, if it has a page.
+    pub fn byte(&self, address: u64) -> Option<u8>
+        ensures { result ≡ page_byte self.now address }
+    {
+        match self.place(address / PAGE_SIZE as u64) {
+            Some(place) => Some(
+                self.bytes[place * PAGE_SIZE + (address % PAGE_SIZE as u64) as usize],
+            ),
+            None => None,
+        }
+    }
+
+    /// The number of `count` bytes at an address, all in one page: 1, 2, 4 or 8. None where there is no page.
+    pub fn number(&self, address: u64, count: u8) -> Option<u64>
+        requires { address % 4096 + count ≤ 4096 }
+        ensures value { IfSome result (λ n. (memory : ℕ → ℕ) → IsLike self.now memory → n ≡ little (memory_bytes memory address count)) }
+        ensures below { IfSome result (λ n. n < 256 ^ count) }
+    {
+        match self.place(address / PAGE_SIZE as u64) {
+            Some(place) => number_in(
+                &self.bytes,
+                place * PAGE_SIZE + (address % PAGE_SIZE as u64) as usize,
+                count,
+            ),
+            None => None,
+        }
+    }
+
+    /// Writes the `count` low bytes of a number at an address, all in one page. False where there is no page.
+    pub fn put(&mut self, address: u64, count: u8, number: u64) -> bool
+        requires few { count ≤ 8 }
+        requires within { address % 4096 + count ≤ 4096 }
+        ensures put { IsTrue result → (q : ℕ) → page_byte self.new q ≡ byte_put self.old address (low_bytes count number) q }
+        ensures kept { result ≡ false → (q : ℕ) → page_byte self.new q ≡ page_byte self.old q }
+    {
+        match self.place(address / PAGE_SIZE as u64) {
+            Some(place) => {
+                put_number(
+                    &mut self.bytes,
+                    place * PAGE_SIZE + (address % PAGE_SIZE as u64) as usize,
+                    count,
+                    number,
+                );
+                true
+            }
+            None => false,
+        }
+    }
+
+    /// Writes a byte at an address that has a page.
+    pub fn put_byte(&mut self, address: u64, byte: u8)
+        requires { IsSome (page_byte self.old address) }
+        ensures { (q : ℕ) → page_byte self.new q ≡ (if q == address then Some byte else page_byte self.old q) }
+    {
+        if let Some(place) = self.place(address / PAGE_SIZE as u64) {
+            self.bytes[place * PAGE_SIZE + (address % PAGE_SIZE as u64) as usize] = byte;
+        }
+    }
+
+    /// Writes zeros from an address on, in one page, if there is that page.
+    pub fn clear(&mut self, address: u64, count: usize)
+        requires { address % 4096 + count ≤ 4096 }
+        ensures { (q : ℕ) → page_byte self.new q ≡ byte_cleared self.old address count q }
+    {
+        if let Some(place) = self.place(address / PAGE_SIZE as u64) {
+            clear_bytes(
+                &mut self.bytes,
+                place * PAGE_SIZE + (address % PAGE_SIZE as u64) as usize,
+                count,
+            );
+        }
+    }
+
+    /// Writes zeros from one address up to another, where there are pages.
+    pub fn clear_run(&mut self, from: u64, to: u64)
+        ensures { (q : ℕ) → page_byte self.new q ≡ cleared_between self.old from to q }
+    {
+        let mut at = from;
+        while at < to {
+            let count = (PAGE_SIZE as u64 - at % PAGE_SIZE as u64).min(to - at);
+            self.clear(at, count as usize);
+            at += count;
+        }
+    }
+
+    /// Adds a page. Where memory runs out, none is added.
+    pub fn add(&mut self, number: u64, page: &[u8]) -> Result<(), NoMemory>
+        requires new { place_of self.old.index number ≡ None }
+        requires whole { length page.now ≡ 4096 }
+        ensures added { IsOk result → (q : ℕ) → page_byte self.new q ≡ (if q / 4096 == number then Some (slice_index page.now (q % 4096)) else page_byte self.old q) }
+        ensures kept { OnErr result ((q : ℕ) → page_byte self.new q ≡ page_byte self.old q) }
+    {
+        self.bytes.reserve(PAGE_SIZE)?;
+        self.numbers.reserve(1)?;
+        let place = self.numbers.len();
+        self.index.insert(number, place)?;
+        self.numbers.push(number).unwrap();
+        self.bytes.extend_from_slice(page).unwrap();
+        self.recent[(number % RECENT as u64) as usize] = place;
+        Ok(())
+    }
+}

@@ -1,0 +1,185 @@
+// The stack of a program that starts: the words at the stack pointer, and its arguments.
+ghost use Rattle.std.specs.Prelude.{◌≡◌, ◌+◌, ◌*◌, ◌-◌, ◌<◌, ◌≤◌, ◌++◌, ◌∷◌, [], ◌%◌, ◌^◌, IfOk, IfSome, OnOk, find, option_copied, length, flat_map, map, string_bytes, String};
+ghost use Rattle.rv_code.specs.machine.Machine.{low_bytes};
+ghost use Rattle.rv_memory.specs.Table.{loads_range, vector};
+ghost use Rattle.rv_memory.specs.Limits.{IsWithinLimits};
+ghost use Rattle.elf_image.specs.file.Header.{e_phoff, e_phnum, e_entry, segments_of};
+ghost use Rattle.elf_image.specs.memory.Start.{program_arguments, texts, texts_address, text_addresses, table_address, random_address, auxiliary_vector, start_bytes, rounded_down, stack_pointer, stack_bytes};
+
+use elf_image::segment::{PHDR_SIZE, PT_LOAD};
+use elf_image::{Elf, Segment};
+use rb_bytes::fault::NoMemory;
+use std::alloc::Global;
+
+/// The name that every program is run by.
+const PROGRAM: &[u8] = b"program";
+
+const PAGE_SIZE: u64 = 4096;
+
+/// The address of the 16 bytes at the stack's end.
+const RANDOM_ADDRESS: u64 = 0x3f_ffff_fff0;
+
+const RANDOM_BYTES: [u8; 16] = [0, 1, 2, 3, 4, 5, 6, 7, 8, 9, 10, 11, 12, 13, 14, 15];
+
+#[tactic(auto, using(crate::proofs::Cells::word_bytes))]
+fn put_word(out: &mut Vec<u8>, word: u64) -> Result<(), NoMemory>
+    ensures { OnOk result (out.new.items ≡ out.old.items ++ low_bytes 8 word) }
+{
+    out.extend_from_slice(&word.to_le_bytes())?;
+    Ok(())
+}
+
+fn put_text(out: &mut Vec<u8>, text: &[u8]) -> Result<(), NoMemory>
+    ensures { OnOk result (out.new.items ≡ out.old.items ++ (text.now ++ 0 ∷ [])) }
+{
+    out.extend_from_slice(text)?;
+    out.push(0)?;
+    Ok(())
+}
+
+// The arguments' texts, each with a zero byte.
+fn texts(alloc: Global, words: &[String]) -> Result<Vec<u8>, NoMemory>
+    ensures { IfOk result (λ out. out.items ≡ texts (map string_bytes words.now)) }
+{
+    let mut out = Vec::new(alloc);
+    put_text(&mut out, PROGRAM)?;
+    for word in words {
+        put_text(&mut out, word.as_bytes())?;
+    }
+    Ok(out)
+}
+
+// Words of eight bytes, one after another.
+fn put_words(out: &mut Vec<u8>, words: &[u64]) -> Result<(), NoMemory>
+    ensures { OnOk result (out.new.items ≡ out.old.items ++ flat_map (low_bytes 8) words.now) }
+{
+    for word in words {
+        put_word(out, *word)?;
+    }
+    Ok(())
+}
+
+// The addresses of the arguments' texts, the first of which stands at `address`.
+fn put_addresses(out: &mut Vec<u8>, address: u64, words: &[String]) -> Result<(), NoMemory>
+    requires { address + length (texts (map string_bytes words.now)) ≤ 2 ^ 38 }
+    ensures { OnOk result (out.new.items ≡ out.old.items ++ flat_map (low_bytes 8) (text_addresses address (program_arguments (map string_bytes words.now)))) }
+{
+    put_word(out, address)?;
+    let mut next = address + PROGRAM.len() as u64 + 1;
+    for word in words {
+        put_word(out, next)?;
+        next += word.len() as u64 + 1;
+    }
+    Ok(())
+}
+
+// Whether a segment loads the file's bytes from one offset up to another.
+fn loads_range(segment: &Segment, from: u64, to: u128) -> bool
+    ensures { result ≡ loads_range from to segment.now }
+{
+    segment.kind == PT_LOAD
+        && segment.offset <= from
+        && to <= segment.offset as u128 + segment.filesz.min(segment.memsz) as u128
+}
+
+fn range_segment(segments: &[Segment], from: u64, to: u128) -> Option<&Segment>
+    ensures first { option_copied result ≡ find (loads_range from to) segments.now }
+    ensures within { IfSome result (λ p. p.now.offset ≤ from) }
+{
+    segments.iter().find(|p| loads_range(p, from, to))
+}
+
+// Where the table of program headers is loaded, 0 where no segment loads it from the file.
+fn table_address(elf: &Elf) -> u64
+    requires phoff { elf.now.phoff ≡ e_phoff elf.now.file.now }
+    requires segments { elf.now.segments.items ≡ segments_of elf.now.file.now }
+    ensures { result ≡ table_address elf.now.file.now % 2 ^ 64 }
+{
+    let segments: &[Segment] = &elf.segments;
+    let end = elf.phoff as u128 + PHDR_SIZE as u128 * segments.len() as u128;
+    match range_segment(segments, elf.phoff, end) {
+        Some(segment) => segment.vaddr.wrapping_add(elf.phoff - segment.offset),
+        None => 0,
+    }
+}
+
+// AT_PHDR, AT_PHENT, AT_PHNUM, AT_PAGESZ, AT_ENTRY, AT_RANDOM and AT_NULL, each with its value.
+fn put_vector(out: &mut Vec<u8>, table: u64, count: u64, entry: u64) -> Result<(), NoMemory>
+    ensures { OnOk result (out.new.items ≡ out.old.items ++ flat_map (low_bytes 8) (vector table count entry)) }
+{
+    let words = [
+        3,
+        table,
+        4,
+        PHDR_SIZE as u64,
+        5,
+        count,
+        6,
+        PAGE_SIZE,
+        9,
+        entry,
+        25,
+        RANDOM_ADDRESS,
+        0,
+        0,
+    ];
+    put_words(out, &words)
+}
+
+// The words at the stack pointer: the count of arguments, their addresses, the ends of the lists of
+// arguments and of environment variables, and the auxiliary vector.
+fn start_bytes(
+    alloc: Global,
+    elf: &Elf,
+    words: &[String],
+    address: u64,
+) -> Result<Vec<u8>, NoMemory>
+    requires entry { elf.now.entry ≡ e_entry elf.now.file.now }
+    requires phoff { elf.now.phoff ≡ e_phoff elf.now.file.now }
+    requires segments { elf.now.segments.items ≡ segments_of elf.now.file.now }
+    requires address { address ≡ texts_address (map string_bytes words.now) }
+    requires limits { IsWithinLimits (map string_bytes words.now) }
+    ensures { IfOk result (λ out. out.items ≡ start_bytes elf.now.file.now (map string_bytes words.now)) }
+{
+    let segments: &[Segment] = &elf.segments;
+    let mut out = Vec::new(alloc);
+    put_word(&mut out, words.len() as u64 + 1)?;
+    put_addresses(&mut out, address, words)?;
+    put_words(&mut out, &[0, 0])?;
+    put_vector(
+        &mut out,
+        table_address(elf),
+        segments.len() as u64,
+        elf.entry,
+    )?;
+    Ok(out)
+}
+
+// The address of the words at the start, below the arguments' texts.
+fn stack_pointer(address: u64, count: u64) -> u64
+    requires address { address ≤ random_address }
+    requires room { 1000000 ≤ address }
+    requires count { count ≤ 65 }
+    ensures { result ≡ rounded_down 16 (address - 8 * (count + 17)) }
+{
+    (address - 8 * (count + 17)) / 16 * 16
+}
+
+/// The bytes of the stack at the start, from the stack pointer to the stack's end.
+pub fn stack_bytes(alloc: Global, elf: &Elf, words: &[String]) -> Result<Vec<u8>, NoMemory>
+    requires entry { elf.now.entry ≡ e_entry elf.now.file.now }
+    requires phoff { elf.now.phoff ≡ e_phoff elf.now.file.now }
+    requires segments { elf.now.segments.items ≡ segments_of elf.now.file.now }
+    requires limits { IsWithinLimits (map string_bytes words.now) }
+    ensures { IfOk result (λ out. out.items ≡ stack_bytes elf.now.file.now (map string_bytes words.now)) }
+{
+    let ends = texts(alloc, words)?;
+    let ends: &[u8] = &ends;
+    let address = RANDOM_ADDRESS - ends.len() as u64;
+    let pointer = stack_pointer(address, words.len() as u64 + 1);
+    let mut out = start_bytes(alloc, elf, words, address)?;
+    out.resize((address - pointer) as usize, 0)?;
+    out.extend_from_slice(ends)?;
+    out.extend_from_slice(&RANDOM_BYTES)?;
+    Ok(out)
+}
