@@ -8,7 +8,7 @@ use Rattle.rv_code.specs.declared.action.Action.{Action}
 use Rattle.rv_code.specs.declared.action.Action.TheVariants.{Compute, Branch, JumpTo, Load, Store, SystemCall, Breakpoint}
 use Rattle.rv_code.specs.declared.placed.Role.{Role}
 use Rattle.rv_code.specs.declared.placed.Role.TheVariants as role
-use Rattle.rv_code.specs.Machine.{Halts, all_may}
+use Rattle.rv_code.specs.machine.Machine.{Halts, all_may}
 use Rattle.sym_machine.specs.declared.outcome.Reason.TheVariants as reason
 use Rattle.sym_machine.specs.declared.value.Pointer.TheVariants.{Code, Ret}
 use Rattle.sym_machine.specs.declared.value.Comparing.TheVariants.{Sub}
@@ -16,8 +16,8 @@ use Rattle.sym_machine.specs.declared.value.Symbol.TheVariants.{Points, Hi, Abs,
 use Rattle.sym_machine.specs.declared.value.Signedness.TheVariants.{Signed, Unsigned}
 use Rattle.sym_machine.specs.declared.value.Value.{Value}
 use Rattle.sym_machine.specs.declared.value.Value.TheVariants.{Num, Sym, Piece}
-use Rattle.sym_machine.specs.declared.value.Cell.TheVariants.{Byte, Part}
-use Rattle.sym_machine.specs.Values.{parts, stored}
+use Rattle.sym_machine.specs.declared.value.MemoryByte.TheVariants.{Byte, SymbolByte}
+use Rattle.sym_machine.specs.Values.{symbol_bytes, stored}
 use Rattle.sym_machine.specs.SymStep.{SymState, SymOutcome, effect, sym_step}
 use Rattle.sym_machine.specs.Rules.{loaded, combined, on_registers, on_constant, tested, place, pointer}
 
@@ -78,32 +78,32 @@ difference_from_elsewhere = refl
 
 -- Memory.
 
-whole_of_four : loaded Signed32 (Part (Hi 5) 4 0 ∷ Part (Hi 5) 4 1 ∷ Part (Hi 5) 4 2 ∷ Part (Hi 5) 4 3 ∷ []) ≡ Some (Sym (Hi 5))
+whole_of_four : loaded Signed32 (SymbolByte (Hi 5) 4 0 ∷ SymbolByte (Hi 5) 4 1 ∷ SymbolByte (Hi 5) 4 2 ∷ SymbolByte (Hi 5) 4 3 ∷ []) ≡ Some (Sym (Hi 5))
 whole_of_four = refl
 
 -- an upper part of a distance can be negative, so its bytes extended by zeros are a piece
-unsigned_of_four : loaded Zero32 (Part (Hi 5) 4 0 ∷ Part (Hi 5) 4 1 ∷ Part (Hi 5) 4 2 ∷ Part (Hi 5) 4 3 ∷ []) ≡ Some (Piece (Hi 5) 4 0 4 Unsigned)
+unsigned_of_four : loaded Zero32 (SymbolByte (Hi 5) 4 0 ∷ SymbolByte (Hi 5) 4 1 ∷ SymbolByte (Hi 5) 4 2 ∷ SymbolByte (Hi 5) 4 3 ∷ []) ≡ Some (Piece (Hi 5) 4 0 4 Unsigned)
 unsigned_of_four = refl
 
-upper_half : loaded Signed32 (Part (Hi 5) 8 4 ∷ Part (Hi 5) 8 5 ∷ Part (Hi 5) 8 6 ∷ Part (Hi 5) 8 7 ∷ []) ≡ Some (Piece (Hi 5) 8 4 4 Signed)
+upper_half : loaded Signed32 (SymbolByte (Hi 5) 8 4 ∷ SymbolByte (Hi 5) 8 5 ∷ SymbolByte (Hi 5) 8 6 ∷ SymbolByte (Hi 5) 8 7 ∷ []) ≡ Some (Piece (Hi 5) 8 4 4 Signed)
 upper_half = refl
 
-with_a_number : loaded Signed16 (Part (Hi 5) 8 4 ∷ Byte 3 ∷ []) ≡ None
+with_a_number : loaded Signed16 (SymbolByte (Hi 5) 8 4 ∷ Byte 3 ∷ []) ≡ None
 with_a_number = refl
 
-not_in_order : loaded Signed16 (Part (Hi 5) 8 4 ∷ Part (Hi 5) 8 6 ∷ []) ≡ None
+not_in_order : loaded Signed16 (SymbolByte (Hi 5) 8 4 ∷ SymbolByte (Hi 5) 8 6 ∷ []) ≡ None
 not_in_order = refl
 
-kept_in_two_widths : loaded Signed16 (Part (Hi 5) 8 0 ∷ Part (Hi 5) 4 1 ∷ []) ≡ None
+kept_in_two_widths : loaded Signed16 (SymbolByte (Hi 5) 8 0 ∷ SymbolByte (Hi 5) 4 1 ∷ []) ≡ None
 kept_in_two_widths = refl
 
-first_two_bytes : stored 2 (Sym (Hi 5)) ≡ Some (Part (Hi 5) 8 0 ∷ Part (Hi 5) 8 1 ∷ [])
-unfolding parts
+first_two_bytes : stored 2 (Sym (Hi 5)) ≡ Some (SymbolByte (Hi 5) 8 0 ∷ SymbolByte (Hi 5) 8 1 ∷ [])
+unfolding symbol_bytes
 first_two_bytes = refl
 
 -- a piece keeps which bytes it has
-part_of_a_piece : stored 2 (Piece (Hi 5) 8 4 4 Signed) ≡ Some (Part (Hi 5) 8 4 ∷ Part (Hi 5) 8 5 ∷ [])
-unfolding parts
+part_of_a_piece : stored 2 (Piece (Hi 5) 8 4 4 Signed) ≡ Some (SymbolByte (Hi 5) 8 4 ∷ SymbolByte (Hi 5) 8 5 ∷ [])
+unfolding symbol_bytes
 part_of_a_piece = refl
 
 more_than_a_piece : stored 8 (Piece (Hi 5) 8 4 4 Signed) ≡ None

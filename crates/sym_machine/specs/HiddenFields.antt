@@ -6,9 +6,9 @@ use Rattle.std.specs.List.{list_any, enumerate_from}
 use Rattle.elf_image.specs.declared.elf.Elf.{Elf}
 use Rattle.elf_image.specs.declared.segment.Segment.{Segment}
 use Rattle.elf_image.specs.declared.segment.TheConstants.{PHDR_SIZE, PT_GNU_EH_FRAME}
-use Rattle.elf_image.specs.CodeSegment.{executable_segment, executable_end}
-use Rattle.elf_image.specs.Loaded.{Range, holds, address_of, file_offset}
-use Rattle.elf_image.specs.Start.{arguments, stack_pointer}
+use Rattle.elf_image.specs.memory.CodeSegment.{executable_segment, executable_end}
+use Rattle.elf_image.specs.memory.LoadedBytes.{Range, is_in_range, address_of, file_offset}
+use Rattle.elf_image.specs.memory.Start.{program_arguments, stack_pointer}
 
 -- Fields of the headers, by their offsets. gABI, "ELF Header" and "Program Header".
 
@@ -66,7 +66,7 @@ hidden_fields elf tight =
 
 -- the n-th value of the auxiliary vector, on the stack
 abbrev pub auxiliary_value : List (List ℕ) → ℕ → Range
-auxiliary_value words n = record { start = stack_pointer words + 8 * (length (arguments words) + 4 + 2 * n); size = 8 }
+auxiliary_value words n = record { start = stack_pointer words + 8 * (length (program_arguments words) + 4 + 2 * n); size = 8 }
 
 -- those of AT_PHDR, AT_PHNUM and AT_ENTRY
 abbrev pub at_phdr : List (List ℕ) → Range
@@ -82,7 +82,7 @@ at_entry words = auxiliary_value words 4
 -- that speak of the table.
 abbrev pub is_hidden_field : Elf → Bool → ℕ → Bool
 is_hidden_field elf tight a =
-    option_map_or (λ offset. list_any (holds offset) (hidden_fields elf tight)) (file_offset elf.segments.items a) false
+    option_map_or (λ offset. list_any (is_in_range offset) (hidden_fields elf tight)) (file_offset elf.segments.items a) false
 
-abbrev pub is_hidden_word : Bool → List (List ℕ) → ℕ → Bool
-is_hidden_word tight words a = tight && (holds a (at_phdr words) || holds a (at_phnum words))
+abbrev pub is_hidden_entry : Bool → List (List ℕ) → ℕ → Bool
+is_hidden_entry tight words a = tight && (is_in_range a (at_phdr words) || is_in_range a (at_phnum words))

@@ -14,10 +14,10 @@ use Rattle.rv_code.specs.declared.placed.Placed.{Placed}
 use Rattle.rv_code.specs.declared.placed.Func.{Func}
 use Rattle.rv_code.specs.declared.placed.Role.{Role}
 use Rattle.rv_code.specs.declared.placed.Role.TheVariants as role
-use Rattle.rv_code.specs.Op.{apply, holds}
-use Rattle.rv_code.specs.Word.{word}
-use Rattle.rv_code.specs.Extension.{extended}
-use Rattle.rv_code.specs.Machine.{plus, little}
+use Rattle.rv_code.specs.isa.Op.{apply, holds}
+use Rattle.rv_code.specs.isa.TwosComplement.{unsigned64}
+use Rattle.rv_code.specs.isa.Extension.{extended}
+use Rattle.rv_code.specs.machine.Machine.{plus, little}
 use Rattle.sym_machine.specs.declared.value.Pointer.{Pointer}
 use Rattle.sym_machine.specs.declared.value.Pointer.TheVariants.{Code, Ret}
 use Rattle.sym_machine.specs.declared.value.Comparing.{Comparing}
@@ -27,9 +27,9 @@ use Rattle.sym_machine.specs.declared.value.Symbol.TheVariants.{Points, Hi, Abs,
 use Rattle.sym_machine.specs.declared.value.Signedness.TheVariants.{Signed, Unsigned}
 use Rattle.sym_machine.specs.declared.value.Value.{Value}
 use Rattle.sym_machine.specs.declared.value.Value.TheVariants.{Num, Sym, Piece}
-use Rattle.sym_machine.specs.declared.value.Cell.{Cell}
-use Rattle.sym_machine.specs.declared.value.Cell.TheVariants.{Part}
-use Rattle.sym_machine.specs.Values.{value_of, is_value_of, numbers, are_parts}
+use Rattle.sym_machine.specs.declared.value.MemoryByte.{MemoryByte}
+use Rattle.sym_machine.specs.declared.value.MemoryByte.TheVariants.{SymbolByte}
+use Rattle.sym_machine.specs.Values.{value_of, is_value_of, numbers, are_symbol_bytes}
 
 abbrev pub only_if : {A : Type 0} → Bool → A → Option A
 only_if test x = if test then Some x else None
@@ -130,12 +130,12 @@ on_constant o v n = None
 abbrev pub combined : List Func → (ℕ → Value) → Op → Operand → Operand → Option Value
 combined funcs registers o (Register zero) (Register r2) = on_zero funcs o (registers 0) (registers r2)
 combined funcs registers o (Register (suc r1)) (Register r2) = on_registers funcs o (registers (suc r1)) (registers r2)
-combined funcs registers o (Register r1) (Immediate imm) = on_constant o (registers r1) (word imm)
+combined funcs registers o (Register r1) (Immediate imm) = on_constant o (registers r1) (unsigned64 imm)
 combined funcs registers o (Immediate imm) right = None
 
 abbrev pub base_of : (ℕ → Value) → Operand → Value
 base_of registers (Register r) = registers r
-base_of registers (Immediate imm) = Num (word imm)
+base_of registers (Immediate imm) = Num (unsigned64 imm)
 
 -- what an operation gives; ADDI with a lower part goes by its role alone
 abbrev pub computed : List Func → Role → (ℕ → Value) → Op → Operand → Operand → Option Value
@@ -216,10 +216,10 @@ piece Signed8 y w i = Some (Piece y w i 1 Signed)
 piece Zero8 y w i = Some (Piece y w i 1 Unsigned)
 
 -- successive bytes of one symbol that is kept in one width
-abbrev pub loaded_symbol : Extension → List Cell → Option Value
-loaded_symbol e (Part y w i ∷ cs) = if are_parts y w (suc i) cs then piece e y w i else None
+abbrev pub loaded_symbol : Extension → List MemoryByte → Option Value
+loaded_symbol e (SymbolByte y w i ∷ cs) = if are_symbol_bytes y w (suc i) cs then piece e y w i else None
 loaded_symbol e _ = None
 
 -- what a load gives of cells, none of which is hidden
-abbrev pub loaded : Extension → List Cell → Option Value
+abbrev pub loaded : Extension → List MemoryByte → Option Value
 loaded e cells = option_or (option_map (λ bytes. Num (extended e (little bytes))) (numbers cells)) (loaded_symbol e cells)

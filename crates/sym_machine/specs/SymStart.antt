@@ -6,19 +6,19 @@ use Rattle.rv_code.specs.declared.cell.CodeCell.{CodeCell}
 use Rattle.rv_code.specs.declared.cell.CellKind.{CellKind}
 use Rattle.rv_code.specs.declared.cell.CellKind.TheVariants as kind
 use Rattle.rv_code.specs.declared.placed.Func.{Func}
-use Rattle.rv_code.specs.Machine.{Event, Run, SoFar, HaltsAfter}
+use Rattle.rv_code.specs.machine.Machine.{Event, Run, SoFar, HaltsAfter}
 use Rattle.elf_image.specs.declared.elf.Elf.{Elf}
-use Rattle.elf_image.specs.Loaded.{Range, holds, address_of}
-use Rattle.elf_image.specs.Start.{start_memory, start_registers, space_of, break_start}
+use Rattle.elf_image.specs.memory.LoadedBytes.{Range, is_in_range, address_of}
+use Rattle.elf_image.specs.memory.Start.{start_memory, start_registers, space_of, break_start}
 use Rattle.sym_machine.specs.declared.outcome.Reason.{Reason}
 use Rattle.sym_machine.specs.declared.value.Pointer.TheVariants.{Code}
 use Rattle.sym_machine.specs.declared.value.Symbol.{Symbol}
 use Rattle.sym_machine.specs.declared.value.Symbol.TheVariants.{Points, Diff}
 use Rattle.sym_machine.specs.declared.value.Value.{Value}
 use Rattle.sym_machine.specs.declared.value.Value.TheVariants.{Num}
-use Rattle.sym_machine.specs.declared.value.Cell.{Cell}
-use Rattle.sym_machine.specs.declared.value.Cell.TheVariants.{Byte, Part, Hidden}
-use Rattle.sym_machine.specs.HiddenFields.{e_entry_field, at_entry, is_hidden_field, is_hidden_word}
+use Rattle.sym_machine.specs.declared.value.MemoryByte.{MemoryByte}
+use Rattle.sym_machine.specs.declared.value.MemoryByte.TheVariants.{Byte, SymbolByte, Hidden}
+use Rattle.sym_machine.specs.HiddenFields.{e_entry_field, at_entry, is_hidden_field, is_hidden_entry}
 use Rattle.sym_machine.specs.SymStep.{SymState, SymSteps}
 
 -- Symbols.
@@ -31,12 +31,12 @@ abbrev pub range_of : CodeCell → Range
 range_of cell = record { start = cell.addr; size = cell.width }
 
 -- the byte of a code cell at an address
-abbrev pub part_of : ℕ → CodeCell → Cell
-part_of a cell = Part (symbol_of cell.kind) cell.width (a - cell.addr)
+abbrev pub byte_of_cell : ℕ → CodeCell → MemoryByte
+byte_of_cell a cell = SymbolByte (symbol_of cell.kind) cell.width (a - cell.addr)
 
 -- the entry point, kept in 8 bytes from a place on: in e_entry, where that is loaded, and on the stack
-abbrev pub entry_part : Elf → ℕ → Range → Cell
-entry_part elf a range = Part (Points (Code elf.entry)) 8 (a - range.start)
+abbrev pub byte_of_entry : Elf → ℕ → Range → MemoryByte
+byte_of_entry elf a range = SymbolByte (Points (Code elf.entry)) 8 (a - range.start)
 
 abbrev pub entry_fields : Elf → List (List ℕ) → List Range
 entry_fields elf words =
@@ -45,19 +45,19 @@ entry_fields elf words =
 -- The state before the first step.
 
 -- what stands at an address for the entry point, for a hidden field, and for a code cell
-abbrev pub entry_cell : Elf → List (List ℕ) → ℕ → Option Cell
-entry_cell elf words a = option_map (entry_part elf a) (find (holds a) (entry_fields elf words))
+abbrev pub entry_byte : Elf → List (List ℕ) → ℕ → Option MemoryByte
+entry_byte elf words a = option_map (byte_of_entry elf a) (find (is_in_range a) (entry_fields elf words))
 
-abbrev pub hidden_cell : Elf → Bool → List (List ℕ) → ℕ → Option Cell
-hidden_cell elf tight words a = if is_hidden_field elf tight a || is_hidden_word tight words a then Some Hidden else None
+abbrev pub hidden_byte : Elf → Bool → List (List ℕ) → ℕ → Option MemoryByte
+hidden_byte elf tight words a = if is_hidden_field elf tight a || is_hidden_entry tight words a then Some Hidden else None
 
-abbrev pub code_cell : List CodeCell → ℕ → Option Cell
-code_cell cells a = option_map (part_of a) (find (λ c. holds a (range_of c)) cells)
+abbrev pub code_cell_byte : List CodeCell → ℕ → Option MemoryByte
+code_cell_byte cells a = option_map (byte_of_cell a) (find (λ c. is_in_range a (range_of c)) cells)
 
 -- Where these overlap, the entry point comes first. All other bytes are those of the byte machine.
-abbrev pub sym_memory : Elf → List CodeCell → Bool → List (List ℕ) → ℕ → Cell
+abbrev pub sym_memory : Elf → List CodeCell → Bool → List (List ℕ) → ℕ → MemoryByte
 sym_memory elf cells tight words a =
-    unwrap_or (option_or (entry_cell elf words a) (option_or (hidden_cell elf tight words a) (code_cell cells a)))
+    unwrap_or (option_or (entry_byte elf words a) (option_or (hidden_byte elf tight words a) (code_cell_byte cells a)))
     (Byte (start_memory elf.file.now words a))
 
 abbrev pub sym_registers : List (List ℕ) → ℕ → Value

@@ -9,24 +9,24 @@ use Rattle.rv_code.specs.declared.action.Action.TheVariants.{Compute, Branch, Ju
 use Rattle.rv_code.specs.declared.placed.Placed.{Placed}
 use Rattle.rv_code.specs.declared.placed.Func.{Func}
 use Rattle.rv_code.specs.declared.placed.Role.{Role}
-use Rattle.rv_code.specs.Word.{word}
-use Rattle.rv_code.specs.Extension.{bytes_of}
-use Rattle.rv_code.specs.Flow.{placed_at, action_at}
-use Rattle.rv_code.specs.Machine.{plus, set_register, all_may, cells_at, put, State, may_read, may_write, with_break, Event, Call, Read, Write, Exit, Brk, Unknown, call_of, most_moved, bad_file, no_such_call, Outcome, Going, Ended, Halts}
-use Rattle.rv_code.specs.Step.{a0, a1, a2, a7}
+use Rattle.rv_code.specs.isa.TwosComplement.{unsigned64}
+use Rattle.rv_code.specs.isa.Extension.{bytes_of}
+use Rattle.rv_code.specs.layout.Flow.{placed_at, action_at}
+use Rattle.rv_code.specs.machine.Machine.{plus, set_register, all_may, memory_bytes, put, State, may_read, may_write, with_break, Event, Call, Read, Write, Exit, Brk, Unknown, call_of, most_moved, bad_file, no_such_call, Outcome, Going, Ended, Halts}
+use Rattle.rv_code.specs.machine.Step.{a0, a1, a2, a7}
 use Rattle.sym_machine.specs.declared.outcome.Reason.{Reason}
 use Rattle.sym_machine.specs.declared.outcome.Reason.TheVariants as reason
 use Rattle.sym_machine.specs.declared.value.Pointer.TheVariants.{Ret}
 use Rattle.sym_machine.specs.declared.value.Symbol.TheVariants.{Points}
 use Rattle.sym_machine.specs.declared.value.Value.{Value}
 use Rattle.sym_machine.specs.declared.value.Value.TheVariants.{Num, Sym}
-use Rattle.sym_machine.specs.declared.value.Cell.{Cell}
-use Rattle.sym_machine.specs.declared.value.Cell.TheVariants.{Byte}
+use Rattle.sym_machine.specs.declared.value.MemoryByte.{MemoryByte}
+use Rattle.sym_machine.specs.declared.value.MemoryByte.TheVariants.{Byte}
 use Rattle.sym_machine.specs.Values.{number, numbers, stored, is_hidden}
 use Rattle.sym_machine.specs.Rules.{upper_of_distance, upper_of_address, computed, tested, goal, pointer, destination, place, loaded}
 
 abbrev pub SymState : Type 0
-SymState = State Value Cell
+SymState = State Value MemoryByte
 
 abbrev pub SymOutcome : Type 0
 SymOutcome = Outcome SymState Reason
@@ -51,7 +51,7 @@ goes_to s next = Going (record s { pc = next }) None
 abbrev pub writes_register : SymState → ℕ → ℕ → Value → SymOutcome
 writes_register s next rd v = Going (record s { pc = next; registers = set_register rd v s.registers }) None
 
-abbrev pub writes_memory : SymState → ℕ → ℕ → List Cell → SymOutcome
+abbrev pub writes_memory : SymState → ℕ → ℕ → List MemoryByte → SymOutcome
 writes_memory s next a cells = Going (record s { pc = next; memory = put s.memory a cells }) None
 
 -- a system call comes back, with its result in a0
@@ -67,13 +67,13 @@ jumps s rd to = writes_register s to rd (Sym (Points (Ret s.pc)))
 abbrev pub loads_at : SymState → ℕ → Extension → ℕ → ℕ → SymOutcome
 loads_at s next e rd a =
     checks s reason.Access (all_may (may_read s) a (bytes_of e))
-    (checks s reason.Hidden (not (list_any is_hidden (cells_at s.memory a (bytes_of e))))
-    (needs s reason.Mixed (loaded e (cells_at s.memory a (bytes_of e))) (writes_register s next rd)))
+    (checks s reason.Hidden (not (list_any is_hidden (memory_bytes s.memory a (bytes_of e))))
+    (needs s reason.Mixed (loaded e (memory_bytes s.memory a (bytes_of e))) (writes_register s next rd)))
 
 abbrev pub loads : SymState → ℕ → Extension → ℕ → Option Value → SymOutcome
 loads s next e rd at = needs s reason.Operate at (λ v. needs s reason.Access (number v) (loads_at s next e rd))
 
-abbrev pub stores_at : SymState → ℕ → ℕ → List Cell → ℕ → SymOutcome
+abbrev pub stores_at : SymState → ℕ → ℕ → List MemoryByte → ℕ → SymOutcome
 stores_at s next n cells a = checks s reason.Access (all_may (may_write s) a n) (writes_memory s next a cells)
 
 abbrev pub stores : SymState → ℕ → ℕ → Value → Option Value → SymOutcome
@@ -117,7 +117,7 @@ reads_input s next at size bytes =
     (returns (record s { memory = put s.memory at (map Byte bytes); input = drop (length bytes) s.input }) next (moved 63 0 at size bytes))
 
 -- bytes of a buffer go out, all of which may be read
-abbrev pub writes_output : SymState → ℕ → ℕ → ℕ → ℕ → List Cell → SymOutcome
+abbrev pub writes_output : SymState → ℕ → ℕ → ℕ → ℕ → List MemoryByte → SymOutcome
 writes_output s next file at size cells =
     checks s reason.Access (all_may (may_read s) at (min size most_moved))
     (checks s reason.Hidden (not (list_any is_hidden cells))
@@ -131,7 +131,7 @@ read_call s next file at size =
 abbrev pub write_call : SymState → ℕ → ℕ → ℕ → ℕ → SymOutcome
 write_call s next file at size =
     if file == 1 || file == 2
-    then writes_output s next file at size (cells_at s.memory at (min size most_moved))
+    then writes_output s next file at size (memory_bytes s.memory at (min size most_moved))
     else refuses_file s next 64 file at size
 
 -- the result is the break after the call
@@ -152,14 +152,14 @@ abbrev pub effect : List Func → Role → Action → ℕ → SymState → SymOu
 effect funcs part (Compute op rd left right) next s =
     needs s reason.Operate (computed funcs part s.registers op left right) (writes_register s next rd)
 effect funcs part (Branch test wanted rs1 rs2 imm) next s =
-    branches s next (plus s.pc (word imm)) wanted (tested test (s.registers rs1) (s.registers rs2))
-effect funcs part (Jump rd imm) next s = jumps s rd (plus s.pc (word imm))
-effect funcs part (JumpTo rd rs1 imm) next s = jumps_to funcs s part rd (s.registers rs1) (word imm)
-effect funcs part (Upper rd imm) next s = writes_register s next rd (upper_of_address part (word imm * 4096 % 2 ^ 64))
+    branches s next (plus s.pc (unsigned64 imm)) wanted (tested test (s.registers rs1) (s.registers rs2))
+effect funcs part (Jump rd imm) next s = jumps s rd (plus s.pc (unsigned64 imm))
+effect funcs part (JumpTo rd rs1 imm) next s = jumps_to funcs s part rd (s.registers rs1) (unsigned64 imm)
+effect funcs part (Upper rd imm) next s = writes_register s next rd (upper_of_address part (unsigned64 imm * 4096 % 2 ^ 64))
 effect funcs part (UpperPc rd imm) next s = needs s reason.Operate (upper_of_distance part s.pc) (writes_register s next rd)
-effect funcs part (Load e rd rs1 imm) next s = loads s next e rd (place funcs part (s.registers rs1) (word imm))
+effect funcs part (Load e rd rs1 imm) next s = loads s next e rd (place funcs part (s.registers rs1) (unsigned64 imm))
 effect funcs part (Store n rs1 rs2 imm) next s =
-    stores s next n (s.registers rs2) (place funcs part (s.registers rs1) (word imm))
+    stores s next n (s.registers rs2) (place funcs part (s.registers rs1) (unsigned64 imm))
 effect funcs part Fence next s = goes_to s next
 effect funcs part SystemCall next s = argument s a7 (λ n. calls s next n (call_of n))
 effect funcs part Breakpoint next s = Halts s.pc reason.Break

@@ -3,8 +3,8 @@ use Rattle.std.specs.Prelude.{◌≡◌, ◌≢◌, ◌⊎◌, ◌<◌, ◌≤�
 use Rattle.rv_code.specs.declared.placed.Func.{Func}
 use Rattle.rv_code.specs.declared.op.Op.{Op}
 use Rattle.rv_code.specs.declared.op.Op.TheVariants as op
-use Rattle.rv_code.specs.Machine.{low_bytes}
-use Rattle.rv_code.specs.Code.{is_code}
+use Rattle.rv_code.specs.machine.Machine.{low_bytes}
+use Rattle.rv_code.specs.layout.ProgramCode.{is_code_address}
 use Rattle.sym_machine.specs.declared.value.Pointer.{Pointer}
 use Rattle.sym_machine.specs.declared.value.Pointer.TheVariants.{Code, Ret}
 use Rattle.sym_machine.specs.declared.value.Comparing.{Comparing}
@@ -13,8 +13,8 @@ use Rattle.sym_machine.specs.declared.value.Symbol.{Symbol}
 use Rattle.sym_machine.specs.declared.value.Symbol.TheVariants.{Points, Hi, Abs, Diff, Apart}
 use Rattle.sym_machine.specs.declared.value.Value.{Value}
 use Rattle.sym_machine.specs.declared.value.Value.TheVariants.{Num, Sym, Piece}
-use Rattle.sym_machine.specs.declared.value.Cell.{Cell}
-use Rattle.sym_machine.specs.declared.value.Cell.TheVariants.{Byte, Part, Hidden}
+use Rattle.sym_machine.specs.declared.value.MemoryByte.{MemoryByte}
+use Rattle.sym_machine.specs.declared.value.MemoryByte.TheVariants.{Byte, SymbolByte, Hidden}
 
 -- Equality.
 
@@ -43,12 +43,12 @@ same_symbol _ _ = false
 
 -- The value of an address: a pointer where it is a code address, else a number.
 abbrev pub value_of : List Func → ℕ → Value
-value_of funcs a = if is_code funcs a then Sym (Points (Code a)) else Num a
+value_of funcs a = if is_code_address funcs a then Sym (Points (Code a)) else Num a
 
 -- whether a value is the value of an address
 abbrev pub is_value_of : List Func → ℕ → Value → Bool
-is_value_of funcs a (Num n) = not (is_code funcs a) && n == a
-is_value_of funcs a (Sym (Points (Code b))) = is_code funcs a && b == a
+is_value_of funcs a (Num n) = not (is_code_address funcs a) && n == a
+is_value_of funcs a (Sym (Points (Code b))) = is_code_address funcs a && b == a
 is_value_of funcs a _ = false
 
 -- Numbers.
@@ -57,38 +57,38 @@ abbrev pub number : Value → Option ℕ
 number (Num n) = Some n
 number _ = None
 
-abbrev pub and_more : Cell → Option (List ℕ) → Option (List ℕ)
-and_more (Byte b) rest = option_map (λ bs. b ∷ bs) rest
-and_more _ rest = None
+abbrev pub and_byte : MemoryByte → Option (List ℕ) → Option (List ℕ)
+and_byte (Byte b) rest = option_map (λ bs. b ∷ bs) rest
+and_byte _ rest = None
 
 -- cells that are all numbers
-abbrev pub numbers : List Cell → Option (List ℕ)
+abbrev pub numbers : List MemoryByte → Option (List ℕ)
 numbers [] = Some []
-numbers (c ∷ cs) = and_more c (numbers cs)
+numbers (c ∷ cs) = and_byte c (numbers cs)
 
 -- Symbols in memory.
 
 -- n bytes of a symbol from byte i on, as it is kept in w bytes
-unfoldable pub parts : Symbol → ℕ → ℕ → ℕ → List Cell
-parts y w i zero = []
-parts y w i (suc n) = Part y w i ∷ parts y w (suc i) n
+unfoldable pub symbol_bytes : Symbol → ℕ → ℕ → ℕ → List MemoryByte
+symbol_bytes y w i zero = []
+symbol_bytes y w i (suc n) = SymbolByte y w i ∷ symbol_bytes y w (suc i) n
 
 -- cells are bytes of a symbol from byte i on, as it is kept in w bytes
-abbrev pub are_parts : Symbol → ℕ → ℕ → List Cell → Bool
-are_parts y w i [] = true
-are_parts y w i (Part z v j ∷ cs) = same_symbol y z && w == v && i == j && are_parts y w (suc i) cs
-are_parts y w i (c ∷ cs) = false
+abbrev pub are_symbol_bytes : Symbol → ℕ → ℕ → List MemoryByte → Bool
+are_symbol_bytes y w i [] = true
+are_symbol_bytes y w i (SymbolByte z v j ∷ cs) = same_symbol y z && w == v && i == j && are_symbol_bytes y w (suc i) cs
+are_symbol_bytes y w i (c ∷ cs) = false
 
-abbrev pub is_hidden : Cell → Bool
+abbrev pub is_hidden : MemoryByte → Bool
 is_hidden Hidden = true
 is_hidden _ = false
 
 -- The n low bytes of a value as they are stored. A symbol is kept in 4 bytes by a store of 4, else in 8, of which
 -- a short store has the first ones. A piece has its first bytes, where it has as many.
-abbrev pub stored : ℕ → Value → Option (List Cell)
+abbrev pub stored : ℕ → Value → Option (List MemoryByte)
 stored n (Num x) = Some (map Byte (low_bytes n x))
-stored n (Sym y) = Some (parts y (if n == 4 then 4 else 8) 0 n)
-stored n (Piece y w i k e) = if nat_le n k then Some (parts y w i n) else None
+stored n (Sym y) = Some (symbol_bytes y (if n == 4 then 4 else 8) 0 n)
+stored n (Piece y w i k e) = if nat_le n k then Some (symbol_bytes y w i n) else None
 
 -- The values and cells that the machine makes.
 
@@ -115,7 +115,7 @@ IsValue (Num n) = Unit {0}
 IsValue (Sym y) = IsSymbol y
 IsValue (Piece y w i n e) = IsSymbol y × IsPiece w i n
 
-abbrev pub IsCell : Cell → Type 0
-IsCell (Byte b) = Unit {0}
-IsCell (Part y w i) = IsSymbol y × IsWidth w × (i < w)
-IsCell Hidden = Unit {0}
+abbrev pub IsMemoryByte : MemoryByte → Type 0
+IsMemoryByte (Byte b) = Unit {0}
+IsMemoryByte (SymbolByte y w i) = IsSymbol y × IsWidth w × (i < w)
+IsMemoryByte Hidden = Unit {0}

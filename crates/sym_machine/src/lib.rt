@@ -6,4 +6,4 @@ pub mod outcome;
 pub mod value;
 
 pub use outcome::{Reason, SymRan, SymStepped};
-pub use value::{Cell, Comparing, Pointer, Signedness, Symbol, Value};
+pub use value::{Comparing, MemoryByte, Pointer, Signedness, Symbol, Value};

@@ -70,11 +70,11 @@ pub enum Value {
 
 /// What a byte of memory holds.
 #[derive(Clone, Copy, PartialEq, Eq, Debug)]
-pub enum Cell {
+pub enum MemoryByte {
     /// A number below 256.
     Byte(u8),
     /// Byte `index` of a symbol that is kept in `width` bytes (4 or 8).
-    Part {
+    SymbolByte {
         symbol: Symbol,
         width: u8,
         index: u8,

@@ -3,26 +3,25 @@ use Rattle.std.specs.Prelude.{◌≡◌, ℕ, ◌%◌, ◌≤◌, ◌||◌, Bool
 use Rattle.rv_code.specs.declared.placed.Role.{Role}
 use Rattle.rv_code.specs.declared.placed.Role.TheVariants as role
 use Rattle.rv_code.specs.declared.cell.CellKind.TheVariants as kind
-use Rattle.rv_code.specs.Code.{is_code, IsNamed}
-use Rattle.rv_code.specs.Flow.{action_at, is_call, placed_at}
-use Rattle.rv_code.specs.Machine.{State, Space, may_read, may_write, may_execute}
-use Rattle.rv_code.specs.Step.{ByteState}
+use Rattle.rv_code.specs.layout.ProgramCode.{is_code_address, IsNamed}
+use Rattle.rv_code.specs.layout.Flow.{action_at, is_call, placed_at}
+use Rattle.rv_code.specs.machine.Machine.{State, Space, may_read, may_write, may_execute}
+use Rattle.rv_code.specs.machine.Step.{ByteState}
 use Rattle.elf_image.specs.declared.segment.TheConstants.{PF_W}
-use Rattle.elf_image.specs.Image.{is_loaded_with}
-use Rattle.elf_image.specs.Loaded.{byte_at}
-use Rattle.elf_image.specs.Start.{space_of}
+use Rattle.elf_image.specs.memory.Image.{is_loaded_with}
+use Rattle.elf_image.specs.memory.Start.{space_of}
 use Rattle.sym_machine.specs.declared.value.Pointer.{Pointer}
 use Rattle.sym_machine.specs.declared.value.Pointer.TheVariants.{Code, Ret}
 use Rattle.sym_machine.specs.declared.value.Symbol.{Symbol}
 use Rattle.sym_machine.specs.declared.value.Symbol.TheVariants.{Points, Hi, Abs, Diff, Apart}
 use Rattle.sym_machine.specs.declared.value.Value.{Value}
 use Rattle.sym_machine.specs.declared.value.Value.TheVariants.{Num, Sym, Piece}
-use Rattle.sym_machine.specs.declared.value.Cell.{Cell}
-use Rattle.sym_machine.specs.declared.value.Cell.TheVariants.{Byte, Part, Hidden}
-use Rattle.sym_machine.specs.Values.{IsValue, IsCell}
+use Rattle.sym_machine.specs.declared.value.MemoryByte.{MemoryByte}
+use Rattle.sym_machine.specs.declared.value.MemoryByte.TheVariants.{Byte, SymbolByte, Hidden}
+use Rattle.sym_machine.specs.Values.{IsValue, IsMemoryByte}
 use Rattle.sym_machine.specs.SymStep.{SymState}
-use Rattle.move_law.specs.Rewrite.{Rewrite, out, Goes}
-use Rattle.move_law.specs.Moved.{number_of_symbol, number_of_value, bytes_from}
+use Rattle.move_law.specs.Rewrite.{Rewrite, memory_of, out}
+use Rattle.move_law.specs.RelocatedValues.{number_of_symbol, number_of_value, bytes_from}
 
 -- The symbols that the input gives: a pointer to a named address, or to the point after a call; the upper part of an
 -- AUIPC with a target, or of a LUI; a difference that a cell holds.
@@ -49,10 +48,10 @@ IsGivenValue r (Num n) = Unit {0}
 IsGivenValue r (Sym y) = IsGiven r y
 IsGivenValue r (Piece y w i n e) = IsGiven r y
 
-abbrev pub IsGivenCell : Rewrite → Cell → Type 0
-IsGivenCell r (Byte b) = Unit {0}
-IsGivenCell r (Part y w i) = IsGiven r y
-IsGivenCell r Hidden = Unit {0}
+abbrev pub IsGivenByte : Rewrite → MemoryByte → Type 0
+IsGivenByte r (Byte b) = Unit {0}
+IsGivenByte r (SymbolByte y w i) = IsGiven r y
+IsGivenByte r Hidden = Unit {0}
 
 -- A register has its value.
 pub record StandsFor (r : Rewrite) (v : Value) (n : ℕ) : Type 0 where
@@ -61,15 +60,15 @@ pub record StandsFor (r : Rewrite) (v : Value) (n : ℕ) : Type 0 where
   pub number : n ≡ number_of_value r v
 
 -- the number of a byte; of a hidden one nothing is asked
-abbrev pub IsByteOf : Rewrite → Cell → ℕ → Type 0
+abbrev pub IsByteOf : Rewrite → MemoryByte → ℕ → Type 0
 IsByteOf r (Byte b) n = n ≡ b
-IsByteOf r (Part y w i) n = n ≡ bytes_from (number_of_symbol r y) i 1
+IsByteOf r (SymbolByte y w i) n = n ≡ bytes_from (number_of_symbol r y) i 1
 IsByteOf r Hidden n = Unit {0}
 
 -- A byte of memory has its cell's.
-pub record StandsForCell (r : Rewrite) (c : Cell) (n : ℕ) : Type 0 where
-  pub cell : IsCell c
-  pub given : IsGivenCell r c
+pub record StandsForByte (r : Rewrite) (c : MemoryByte) (n : ℕ) : Type 0 where
+  pub cell : IsMemoryByte c
+  pub given : IsGivenByte r c
   pub byte : IsByteOf r c n
 
 -- an address that the program may use in some way
@@ -80,19 +79,29 @@ has_right s a = may_read s a || may_write s a || may_execute s a
 abbrev pub CanBeBreak : Space → ℕ → Type 0
 CanBeBreak space a = (space.break_start ≤ a) × (a ≤ space.break_bound)
 
--- The state c on the input and the state b on the output are related.
-pub record Related (r : Rewrite) (c : SymState) (b : ByteState) : Type 0 where
-  -- Where c is at an instruction of a function, control goes from b's place to what stands for that. That place is even, or
-  -- b could fetch nothing there.
-  pub pc : IsTrue (is_code r.code.funcs c.pc) → (b.pc % 2 ≡ 0) × Goes r.output b.pc (out r c.pc)
+-- All but the pcs.
+pub record RelatedData (r : Rewrite) (c : SymState) (b : ByteState) : Type 0 where
+  -- register 0 is never written
+  pub zero_is : c.registers 0 ≡ Num 0
   pub registers : (i : ℕ) → StandsFor r (c.registers i) (b.registers i)
-  pub memory : (a : ℕ) → IsTrue (has_right c a) → StandsForCell r (c.memory a) (b.memory a)
+  pub memory : (a : ℕ) → IsTrue (has_right c a) → StandsForByte r (c.memory a) (b.memory a)
   pub input : c.input ≡ b.input
   pub break_is : c.program_break ≡ b.program_break
   pub break_fits : CanBeBreak b.space b.program_break
   -- the rights are those that the two files give
   pub input_rights : c.space ≡ space_of r.input.segments.items
-  pub output_rights : b.space ≡ space_of r.output.segments.items
+  pub output_rights : b.space ≡ space_of r.output.segments
   -- what the output loads and may not be written is as it was loaded
-  pub loaded : (a byte : ℕ) → is_loaded_with PF_W r.output.segments.items a ≡ false → byte_at r.output a ≡ Some byte →
+  pub loaded : (a byte : ℕ) → is_loaded_with PF_W r.output.segments a ≡ false → memory_of r.output a ≡ Some byte →
       b.memory a ≡ byte
+
+-- Where the input's program is at an instruction of a function, control gets from the output's pc to what stands for that.
+-- The place is even, or nothing could be fetched there.
+abbrev pub RelatedPc : Rewrite → (ℕ → ℕ → Type 0) → ℕ → ℕ → Type 0
+RelatedPc r L c b = IsTrue (is_code_address r.code.funcs c) → (b % 2 ≡ 0) × L b (out r c)
+
+-- The state c on the input and the state b on the output are related. L says from which place of the output control gets
+-- to which other one.
+pub record SimulationRelation (r : Rewrite) (L : ℕ → ℕ → Type 0) (c : SymState) (b : ByteState) : Type 0 where
+  pub pc : RelatedPc r L c.pc b.pc
+  pub rest : RelatedData r c b

@@ -1,0 +1,5 @@
+pub mod EntryField
+pub mod Executables
+pub mod Numbers
+pub mod Rights
+pub mod Stack

@@ -1,0 +1,4 @@
+pub mod CellContents
+pub mod Identity
+pub mod LockStep
+pub mod MadeAnew

@@ -1,0 +1,2 @@
+pub mod MappedPlaces
+pub mod SymbolNumbers

@@ -1,0 +1,10 @@
+pub mod Actions
+pub mod Effects
+pub mod Fetching
+pub mod Instructions
+pub mod Jumps
+pub mod Matching
+pub mod Outcomes
+pub mod Premises
+pub mod Runs
+pub mod Start

@@ -1,0 +1,4 @@
+pub mod Arithmetic
+pub mod HiLoParts
+pub mod HiLoSums
+pub mod StoredValues

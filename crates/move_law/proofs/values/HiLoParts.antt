@@ -1,0 +1,54 @@
+-- A number that a pair of instructions adds is split into their immediates.
+use Rattle.std.proofs.Common.{◌≡◌, ℕ, ◌+◌, ◌*◌, ◌^◌, ◌<◌, Bool, true, false, refl, ap, ◌∙◌, arith, ℤ, pos, negsuc, ◌+ℤ◌, ◌-ℤ◌, ◌*ℤ◌, ◌≤ℤ◌}
+use Rattle.std.specs.Prelude.{nat_lt, if◌then◌else◌}
+use Rattle.std.specs.Int.{int_shr}
+use Rattle.std.proofs.lemmas.Int.{ints}
+use Rattle.std.proofs.lemmas.Bool.{ltb-true, ltb-false}
+use Rattle.rv_code.specs.isa.Bits.{field, signed_by, imm_i, imm_s}
+use Rattle.rv_code.specs.isa.HiLo.{hi20, lo12}
+use Rattle.elf_image.specs.code.Roles.{pair_target}
+use Rattle.move_law.specs.RelocatedValues.{distance}
+
+pub record IsLower (z : ℤ) : Type 0 where
+  pub low : (pos 0 -ℤ pos 2048) ≤ℤ z
+  pub high : z ≤ℤ pos 2047
+
+signed_lower : (n : ℕ) → n < 4096 → IsLower (signed_by 2048 n)
+signed_lower n h = by (nat_lt n 2048) refl
+  where
+    by : (b : Bool) → nat_lt n 2048 ≡ b → IsLower (if b then pos n else (pos n -ℤ pos (2 * 2048)))
+    by true e = let l = ltb-true n 2048 e in record { low = omega (arith, ints, l); high = omega (arith, ints, l) }
+    by false e = let l = ltb-false n 2048 e in record { low = omega (arith, ints, l, h); high = omega (arith, ints, l, h) }
+
+pub imm_i_lower : (w : ℕ) → IsLower (imm_i w)
+imm_i_lower w = signed_lower (field w 20 12) (omega arith)
+
+pub imm_s_lower : (w : ℕ) → IsLower (imm_s w)
+imm_s_lower w = signed_lower (field w 25 7 * 2 ^ 5 + field w 7 5) (omega arith)
+
+-- a number of 12 bits above a multiple
+shr_of : (w z : ℤ) → pos 0 ≤ℤ (w -ℤ pos 4096 *ℤ z) → (w -ℤ pos 4096 *ℤ z) ≤ℤ pos 4095 → int_shr w 12 ≡ z
+shr_of (pos a) (pos b) low high = ap pos (omega (arith, ints, low, high))
+shr_of (negsuc a) (negsuc b) low high = ap negsuc (omega (arith, ints, low, high))
+shr_of (pos a) (negsuc b) low high = absurd (omega (arith, ints, low, high))
+shr_of (negsuc a) (pos b) low high = absurd (omega (arith, ints, low, high))
+
+split : (t a : ℕ) (u l : ℤ) → IsLower l → pos t ≡ pair_target a u l →
+    (pos 0 ≤ℤ (distance t a +ℤ pos 0x800 -ℤ pos 4096 *ℤ u)) × ((distance t a +ℤ pos 0x800 -ℤ pos 4096 *ℤ u) ≤ℤ pos 4095)
+split t a u l is e =
+    let low = is.low in
+    let high = is.high in (omega (arith, ints, low, high, e), omega (arith, ints, low, high, e))
+
+pub upper_is : (t a : ℕ) (u l : ℤ) → IsLower l → pos t ≡ pair_target a u l → hi20 (distance t a) ≡ u
+upper_is t a u l is e = let s = split t a u l is e in shr_of (distance t a +ℤ pos 0x800) u s.0 s.1
+
+pub antisym : (x y : ℤ) → x ≤ℤ y → y ≤ℤ x → x ≡ y
+antisym (pos a) (pos b) h k = ap pos (omega (arith, ints, h, k))
+antisym (negsuc a) (negsuc b) h k = ap negsuc (omega (arith, ints, h, k))
+antisym (pos a) (negsuc b) h k = absurd (omega (arith, ints, h, k))
+antisym (negsuc a) (pos b) h k = absurd (omega (arith, ints, h, k))
+
+pub lower_is : (t a : ℕ) (u l : ℤ) → IsLower l → pos t ≡ pair_target a u l → lo12 (distance t a) ≡ l
+lower_is t a u l is e =
+    ap (λ (z : ℤ). distance t a -ℤ (pos 4096 *ℤ z)) (upper_is t a u l is e) ∙ antisym (distance t a -ℤ (pos 4096 *ℤ u)) l
+    (omega (arith, ints, e)) (omega (arith, ints, e))
