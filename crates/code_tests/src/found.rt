@@ -1,0 +1,393 @@
+// What is found in files as compilers and linkers lay them out. The code of each begins at 10078.
+use crate::analysis::{accepted, of_code, of_section, refused};
+use elf_image::relocation::*;
+use rb_bytes::fault::FaultKind;
+use rv_code::cell::{CellKind, CodeCell};
+use rv_code::{Inst, Role};
+use std::alloc::Global;
+use std::test::Fail;
+use test_files::inst::{A0, A4, A5, EXIT, NOP, RA, X0, add, addi, auipc, jal, jalr, ld, lui, lw};
+use test_files::{Section, Symbol, assemble, exit7, exit7_code, program, two_segments};
+
+// An entry of the global offset table, with the function that it is to hold, by the relocation's addend, and the lower part
+// that names it.
+fn got_file(alloc: Global, entry: u64, lower: i64, addends: &[i64]) -> Result<Vec<u8>, Fail> {
+    let [set_exit, call] = EXIT;
+    let code = assemble(
+        alloc,
+        &[
+            auipc(A5, 0x10),
+            ld(A5, lower, A5),
+            jalr(X0, 0, A5),
+            set_exit,
+            call,
+        ],
+    )?;
+    let bytes = entry.to_le_bytes();
+    let mut file = two_segments(alloc, &code, &[Section::writable(b".got", 0x20000, &bytes)])?;
+    file.symbols.push(Symbol::function(b"f", 0x10078, 12))?;
+    file.symbols.push(Symbol::function(b"g", 0x10084, 8))?;
+    file.symbols.push(Symbol::label(b"p", 0x10078))?;
+    for addend in addends {
+        file.relocations
+            .push(of_code(0x10078, R_RISCV_GOT_HI20, b"g", *addend))?;
+    }
+    file.relocations
+        .push(of_code(0x1007c, R_RISCV_PCREL_LO12_I, b"p", 0))?;
+    Ok(file.build(alloc)?)
+}
+
+#[test]
+fn an_entry_of_the_global_offset_table(rt: HostRuntime) -> Result<(), Fail> {
+    let file = got_file(rt.alloc(), 0x10084, -120, &[0])?;
+    let found = accepted(rt.alloc(), &file, &[])?;
+    assert_eq!(rt;
+        found.starts.as_slice(),
+        [0x10078, 0x1007c, 0x10080, 0x10084, 0x10088].as_slice()
+    );
+    let roles = [
+        (0x10078, Role::Hi { target: 0x20000 }),
+        (
+            0x1007c,
+            Role::Lo {
+                hi: 0x10078,
+                target: 0x20000,
+            },
+        ),
+    ];
+    assert_eq!(rt; found.refs.roles.as_slice(), roles.as_slice());
+    let cell = CodeCell {
+        addr: 0x20000,
+        width: 8,
+        kind: CellKind::Abs { to: 0x10084 },
+    };
+    assert_eq!(rt; found.refs.cells.as_slice(), [cell].as_slice());
+    assert_eq!(rt; found.funcs.len(), 2);
+    Ok(())
+}
+
+// An entry that holds another address, that isn't loaded, or that is to hold two addresses.
+#[test]
+fn entries_of_the_table_that_do_not_fit(rt: HostRuntime) -> Result<(), Fail> {
+    for (entry, lower, addends) in [
+        (0x10088, -120, [0, 0]),
+        (0x10080, -120, [0, 0]),
+        (0x10084, -112, [0, 0]),
+        (0x10084, -120, [0, 4]),
+        (0x10084, -120, [-4, 0]),
+    ] {
+        let file = got_file(rt.alloc(), entry, lower, &addends)?;
+        let wanted = Some((FaultKind::RelocMismatch, 0x10078));
+        assert_eq!(rt;
+            refused(rt.alloc(), &file),
+            wanted,
+            "{entry} {lower} {addends:?}"
+        );
+    }
+    Ok(())
+}
+
+// A switch by a table of distances from the table.
+#[test]
+fn a_table_of_distances(rt: HostRuntime) -> Result<(), Fail> {
+    let [set_exit, call] = EXIT;
+    let code = assemble(
+        rt.alloc(),
+        &[
+            auipc(A5, 0),
+            addi(A5, A5, 32),
+            lw(A4, 4, A5),
+            add(A4, A4, A5),
+            jalr(X0, 0, A4),
+            addi(A0, X0, 5),
+            set_exit,
+            call,
+        ],
+    )?;
+    let table = [0xf4, 0xff, 0xff, 0xff, 0xf8, 0xff, 0xff, 0xff];
+    let mut file = program(
+        rt.alloc(),
+        &code,
+        &[Section::loaded(b".rodata", 0x10098, &table)],
+    )?;
+    file.symbols.push(Symbol::label(b"p", 0x10078))?;
+    file.relocations
+        .push(of_code(0x10078, R_RISCV_PCREL_HI20, b"", 0x10098))?;
+    file.relocations
+        .push(of_code(0x1007c, R_RISCV_PCREL_LO12_I, b"p", 0))?;
+    for (at, to) in [(0x10098, 0x1008c), (0x1009c, 0x10090)] {
+        file.relocations
+            .push(of_section(b".rodata", at, R_RISCV_ADD32, b"", to))?;
+        file.relocations
+            .push(of_section(b".rodata", at, R_RISCV_SUB32, b"", 0x10098))?;
+    }
+    let bytes = file.build(rt.alloc())?;
+    let found = accepted(rt.alloc(), &bytes, &[])?;
+    let roles = [
+        (0x10078, Role::Hi { target: 0x10098 }),
+        (
+            0x1007c,
+            Role::Lo {
+                hi: 0x10078,
+                target: 0x10098,
+            },
+        ),
+    ];
+    assert_eq!(rt; found.refs.roles.as_slice(), roles.as_slice());
+    let cells = [
+        CodeCell {
+            addr: 0x10098,
+            width: 4,
+            kind: CellKind::Diff {
+                to: 0x1008c,
+                from: 0x10098,
+            },
+        },
+        CodeCell {
+            addr: 0x1009c,
+            width: 4,
+            kind: CellKind::Diff {
+                to: 0x10090,
+                from: 0x10098,
+            },
+        },
+    ];
+    assert_eq!(rt; found.refs.cells.as_slice(), cells.as_slice());
+    Ok(())
+}
+
+// The parts of an absolute code address; those of the address of data have no role.
+#[test]
+fn absolute_addresses(rt: HostRuntime) -> Result<(), Fail> {
+    let [set_exit, call] = EXIT;
+    let code = assemble(
+        rt.alloc(),
+        &[
+            lui(A5, 0x10),
+            addi(A5, A5, 132),
+            jalr(X0, 0, A5),
+            set_exit,
+            call,
+        ],
+    )?;
+    for (value, wanted) in [(0x10084, true), (0x20000, false)] {
+        let mut file = program(rt.alloc(), &code, &[])?;
+        file.symbols.push(Symbol::label(b"g", value))?;
+        file.relocations
+            .push(of_code(0x10078, R_RISCV_HI20, b"g", 0))?;
+        file.relocations
+            .push(of_code(0x1007c, R_RISCV_LO12_I, b"g", 0))?;
+        let bytes = file.build(rt.alloc())?;
+        let found = accepted(rt.alloc(), &bytes, &[])?;
+        let roles = [
+            (0x10078, Role::AbsHi { target: 0x10084 }),
+            (0x1007c, Role::AbsLo { target: 0x10084 }),
+        ];
+        let wanted = if wanted { roles.as_slice() } else { &[] };
+        assert_eq!(rt; found.refs.roles.as_slice(), wanted, "{value}");
+    }
+    Ok(())
+}
+
+// A function that calls a symbol with this jump, and one behind it.
+fn call_file(alloc: Global, jump: Inst, symbol: &[u8]) -> Result<Vec<u8>, Fail> {
+    let [set_exit, call] = EXIT;
+    let code = assemble(alloc, &[auipc(RA, 0), jump, set_exit, call])?;
+    let mut file = program(alloc, &code, &[])?;
+    file.symbols.push(Symbol::function(b"f", 0x10078, 8))?;
+    file.symbols.push(Symbol::function(b"g", 0x10080, 8))?;
+    file.relocations
+        .push(of_code(0x10078, R_RISCV_CALL_PLT, symbol, 0))?;
+    Ok(file.build(alloc)?)
+}
+
+#[test]
+fn a_call(rt: HostRuntime) -> Result<(), Fail> {
+    let file = call_file(rt.alloc(), jalr(RA, 8, RA), b"g")?;
+    let found = accepted(rt.alloc(), &file, &[])?;
+    let roles = [
+        (0x10078, Role::CallHi { target: 0x10080 }),
+        (
+            0x1007c,
+            Role::CallLo {
+                hi: 0x10078,
+                target: 0x10080,
+            },
+        ),
+    ];
+    assert_eq!(rt; found.refs.roles.as_slice(), roles.as_slice());
+    assert_eq!(rt; found.funcs.len(), 2);
+    Ok(())
+}
+
+// The linker writes a call of an undefined weak symbol as one of address 0; its AUIPC names itself.
+#[test]
+fn a_call_of_an_undefined_weak_symbol(rt: HostRuntime) -> Result<(), Fail> {
+    let file = call_file(rt.alloc(), jalr(RA, 0, X0), b"")?;
+    let found = accepted(rt.alloc(), &file, &[])?;
+    let roles = [(0x10078, Role::CallHi { target: 0x10078 })];
+    assert_eq!(rt; found.refs.roles.as_slice(), roles.as_slice());
+    assert_eq!(rt; found.funcs.len(), 2);
+    Ok(())
+}
+
+// A field behind the code, to which these relocations apply, by their types and addends.
+fn data_file(alloc: Global, field: &[u8], relocations: &[(u32, i64)]) -> Result<Vec<u8>, Fail> {
+    let code = exit7_code(alloc)?;
+    let mut file = program(alloc, &code, &[Section::loaded(b".rodata", 0x10088, field)])?;
+    for (kind, addend) in relocations {
+        file.relocations
+            .push(of_section(b".rodata", 0x10088, *kind, b"", *addend))?;
+    }
+    Ok(file.build(alloc)?)
+}
+
+// The address that a field holds, whatever its relocation says, and the wider of two fields; a distance from the highest
+// address; and one from the field itself.
+#[test]
+fn fields_that_are_cells(rt: HostRuntime) -> Result<(), Fail> {
+    for (field, relocations, width, kind) in [
+        (
+            [0x7c, 0, 1, 0, 0, 0, 0, 0],
+            [(R_RISCV_32, 0x1007c), (R_RISCV_64, 0x10078)],
+            8,
+            CellKind::Abs { to: 0x1007c },
+        ),
+        (
+            [0x7c, 0, 2, 0x80, 0, 0, 0, 0],
+            [(R_RISCV_ADD32, 0x1007c), (R_RISCV_SUB32, 0x7fff_0000)],
+            4,
+            CellKind::Diff {
+                to: 0x1007c,
+                from: 0x7fff_0000,
+            },
+        ),
+        (
+            [0xf4, 0xff, 0xff, 0xff, 0, 0, 0, 0],
+            [(R_RISCV_32_PCREL, 0x1007c), (R_RISCV_NONE, 0)],
+            4,
+            CellKind::Diff {
+                to: 0x1007c,
+                from: 0x10088,
+            },
+        ),
+    ] {
+        let bytes = data_file(rt.alloc(), &field, &relocations)?;
+        let found = accepted(rt.alloc(), &bytes, &[])?;
+        let cell = CodeCell {
+            addr: 0x10088,
+            width,
+            kind,
+        };
+        assert_eq!(rt; found.refs.cells.as_slice(), [cell].as_slice());
+    }
+    Ok(())
+}
+
+// Distances from labels that are no addresses; a label alone; eight bytes in a section of four; and a distance that is set,
+// which no cell can hold.
+#[test]
+fn fields_that_do_not_fit(rt: HostRuntime) -> Result<(), Fail> {
+    for (field, relocations, wanted) in [
+        (
+            [0x7b, 0, 2, 0x80],
+            [(R_RISCV_ADD32, 0x1007c), (R_RISCV_SUB32, 0x7fff_0001)],
+            FaultKind::RelocMismatch,
+        ),
+        (
+            [0x80, 0, 1, 0],
+            [(R_RISCV_ADD32, 0x1007c), (R_RISCV_SUB32, -4)],
+            FaultKind::RelocMismatch,
+        ),
+        (
+            [0x7c, 0, 1, 0],
+            [(R_RISCV_ADD32, 0x1007c), (R_RISCV_NONE, 0)],
+            FaultKind::RelocMismatch,
+        ),
+        (
+            [0x7c, 0, 1, 0],
+            [(R_RISCV_64, 0x1007c), (R_RISCV_NONE, 0)],
+            FaultKind::RelocMismatch,
+        ),
+        (
+            [4, 0, 0, 0],
+            [(R_RISCV_SET32, 0x1007c), (R_RISCV_SUB32, 0x10078)],
+            FaultKind::NarrowDiff,
+        ),
+    ] {
+        let bytes = data_file(rt.alloc(), &field, &relocations)?;
+        assert_eq!(rt;
+            refused(rt.alloc(), &bytes),
+            Some((wanted, 0x10088)),
+            "{field:?}"
+        );
+    }
+    Ok(())
+}
+
+// A distance in LEB128 between two labels of a function that stays whole. DWARF 5, section 7.6.
+#[test]
+fn a_distance_within_a_whole_function(rt: HostRuntime) -> Result<(), Fail> {
+    let code = exit7_code(rt.alloc())?;
+    let mut file = program(
+        rt.alloc(),
+        &code,
+        &[Section::loaded(b".rodata", 0x10088, &[0x88, 0])],
+    )?;
+    file.relocations.push(of_section(b".rodata", 0x10088, R_RISCV_SET_ULEB128, b"", 0x10080))?;
+    file.relocations.push(of_section(b".rodata", 0x10088, R_RISCV_SUB_ULEB128, b"", 0x10078))?;
+    let bytes = file.build(rt.alloc())?;
+    assert_eq!(rt;
+        refused(rt.alloc(), &bytes),
+        Some((FaultKind::NarrowDiff, 0x10088))
+    );
+    let found = accepted(rt.alloc(), &bytes, &[(0x1007c, 0x1007d)])?;
+    assert_eq!(rt; found.refs.cells.len(), 0);
+    let Some(func) = found.funcs.first() else {
+        return Err(Fail::new("no function"));
+    };
+    assert!(rt; func.whole);
+    Ok(())
+}
+
+#[test]
+fn a_function_has_its_instructions(rt: HostRuntime) -> Result<(), Fail> {
+    let file = exit7(rt.alloc())?;
+    let found = accepted(rt.alloc(), &file, &[])?;
+    let Some(func) = found.funcs.first() else {
+        return Err(Fail::new("no function"));
+    };
+    assert_eq!(rt;
+        (func.start, func.end, func.whole),
+        (0x10078, 0x10088, false)
+    );
+    let mut insts: Vec<(u64, Inst)> = Vec::new(rt.alloc());
+    for placed in &func.insts {
+        insts.push((placed.addr, placed.inst))?;
+    }
+    let [set_exit, call] = EXIT;
+    let wanted = [
+        (0x10078, lui(A0, 0)),
+        (0x1007c, addi(A0, A0, 7)),
+        (0x10080, set_exit),
+        (0x10084, call),
+    ];
+    assert_eq!(rt; insts.as_slice(), wanted.as_slice());
+    Ok(())
+}
+
+// A nop behind a function is padding, unless the function falls into it, as it does after a system call.
+#[test]
+fn nops_behind_a_function(rt: HostRuntime) -> Result<(), Fail> {
+    let [_, call] = EXIT;
+    for (last, wanted) in [(jal(X0, 0), 1), (call, 2)] {
+        let code = assemble(rt.alloc(), &[last, NOP])?;
+        let mut file = program(rt.alloc(), &code, &[])?;
+        file.symbols.push(Symbol::function(b"f", 0x10078, 4))?;
+        let bytes = file.build(rt.alloc())?;
+        let found = accepted(rt.alloc(), &bytes, &[])?;
+        assert_eq!(rt; found.starts.as_slice(), [0x10078, 0x1007c].as_slice());
+        assert_eq!(rt; found.funcs.len(), wanted);
+    }
+    Ok(())
+}

@@ -1,0 +1,17 @@
+//! Tests of references and functions on small executables, against values that were worked out by hand.
+#![tactic(auto)]
+
+#[cfg(test)]
+mod analysis;
+#[cfg(test)]
+mod applied;
+#[cfg(test)]
+mod cells;
+#[cfg(test)]
+mod found;
+#[cfg(test)]
+mod functions;
+#[cfg(test)]
+mod refused;
+#[cfg(test)]
+mod types;

@@ -1,0 +1,9 @@
+pub mod FunctionLists
+pub mod Gains
+pub mod Judged
+pub mod MisledPlaces
+pub mod NoRole
+pub mod PlacedAt
+pub mod Placing
+pub mod ReferredLists
+pub mod StartsApart

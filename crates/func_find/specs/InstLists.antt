@@ -1,0 +1,83 @@
+-- The instructions of functions as they are listed.
+use Rattle.std.specs.Prelude.{⊤, ◌≡◌, ◌↔◌, ℕ, ◌<◌, ◌≤◌, ℤ, true, List, Contains, AllPairs}
+use Rattle.rb_bytes.specs.Fault.{fault_at}
+use Rattle.rb_bytes.specs.declared.fault.Fault.{Fault}
+use Rattle.rb_bytes.specs.declared.fault.FaultKind.TheVariants as kind
+use Rattle.rb_bytes.specs.declared.fault.Refusal.{Refusal}
+use Rattle.rb_bytes.specs.declared.fault.Refusal.TheVariants as refusal
+use Rattle.rv_code.specs.declared.inst.Inst.{Inst}
+use Rattle.rv_code.specs.declared.inst.Inst.TheVariants.{Auipc}
+use Rattle.rv_code.specs.declared.placed.Placed.{Placed}
+use Rattle.rv_code.specs.declared.placed.Func.{Func}
+use Rattle.elf_image.specs.declared.elf.Elf.{Elf}
+use Rattle.elf_image.specs.code.Parts.{StartsIn, IsInstAt}
+use Rattle.elf_image.specs.code.Roles.{HasNoRole, RoleIs}
+use Rattle.elf_image.specs.code.Functions.{AreInsts}
+use Rattle.rv_reloc.specs.declared.parts.Part.{Part}
+use Rattle.func_find.specs.Valid.{IsValidBefore}
+
+abbrev pub IsAuipc : Inst → Type 0
+IsAuipc inst = (rd : ℕ) × (imm : ℤ) × (inst ≡ Auipc rd imm)
+
+-- an AUIPC without a role
+pub record IsBareBefore (elf : Elf) (end a : ℕ) : Type 0 where
+  pub rd : ℕ
+  pub imm : ℤ
+  pub auipc : IsValidBefore elf end a (Auipc rd imm) 4
+  pub no_role : HasNoRole elf a
+
+-- no instruction can stand at an address of a function
+abbrev pub IsInvalidBefore : Elf → ℕ → ℕ → Type 0
+IsInvalidBefore elf end a = (inst : Inst) (bytes : ℕ) → IsValidBefore elf end a inst bytes → ⊥
+
+-- neither of both
+pub record IsGoodBefore (elf : Elf) (end a : ℕ) : Type 0 where
+  pub inst : Inst
+  pub bytes : ℕ
+  pub valid : IsValidBefore elf end a inst bytes
+  pub not_bare : IsBareBefore elf end a → ⊥
+
+-- the fault of what stands at an address
+pub data IsFaultBefore (elf : Elf) (end a : ℕ) (fault : Fault) : Type 0 where
+  invalid : fault ≡ fault_at kind.BadInstruction a → IsInvalidBefore elf end a → IsFaultBefore elf end a fault
+  bare : fault ≡ fault_at kind.BareAuipc a → IsBareBefore elf end a → IsFaultBefore elf end a fault
+
+-- an instruction with its place and its role, the only one that the bytes there are
+pub record IsPlacedAt (elf : Elf) (end a : ℕ) (p : Placed) : Type 0 where
+  pub addr : p.addr ≡ a
+  pub valid : IsValidBefore elf end a p.inst p.len
+  pub role : RoleIs elf a p.role
+  pub only : (inst : Inst) (bytes : ℕ) → IsInstAt elf a inst bytes → inst ≡ p.inst
+  pub not_bare : IsBareBefore elf end a → ⊥
+
+-- the first fault of parts, by address
+pub record IsFirstIn (elf : Elf) (parts : List Part) (fault : Fault) : Type 0 where
+  pub part : Part
+  pub listed : Contains parts part
+  pub place : ℕ
+  pub starts : StartsIn elf part.start part.end place
+  pub is : IsFaultBefore elf part.end place fault
+  pub earlier : (p : Part) (a : ℕ) → Contains parts p → StartsIn elf p.start p.end a → a < place → IsGoodBefore elf p.end a
+
+abbrev pub IsFirstRefusal : Elf → List Part → Refusal → Type 0
+IsFirstRefusal elf parts (refusal.Fault fault) = IsFirstIn elf parts fault
+IsFirstRefusal elf parts refusal.Memory = ⊤
+
+-- the instructions of a stretch, as they were placed
+pub record ArePlaced (elf : Elf) (start end : ℕ) (insts : List Placed) : Type 0 where
+  pub follow : AreInsts elf start insts end
+  pub each : (p : Placed) → Contains insts p → StartsIn elf start end p.addr × IsPlacedAt elf end p.addr p
+  pub all : (a : ℕ) → StartsIn elf start end a → (p : Placed) × Contains insts p × (p.addr ≡ a)
+
+-- A part and the function that it is, whole where the part is one of the whole ones.
+pub record IsMadeOf (elf : Elf) (wholes : List Part) (part : Part) (func : Func) : Type 0 where
+  pub start : func.start ≡ part.start
+  pub end : func.end ≡ part.end
+  pub whole : (func.whole ≡ true) ↔ Contains wholes part
+  pub insts : ArePlaced elf part.start part.end func.insts.items
+
+-- parts and the functions that they are, one for one
+pub record AreMadeOf (elf : Elf) (wholes parts : List Part) (funcs : List Func) : Type 0 where
+  pub only : (func : Func) → Contains funcs func → (part : Part) × Contains parts part × IsMadeOf elf wholes part func
+  pub each : (part : Part) → Contains parts part → (func : Func) × Contains funcs func × IsMadeOf elf wholes part func
+  pub ordered : AllPairs (λ f g. f.end ≤ g.start) funcs

@@ -1,0 +1,31 @@
+-- The addresses that are referred to, as they are collected.
+use Rattle.std.specs.Prelude.{◌≡◌, ◌⊎◌, ◌↔◌, ℕ, List, Some, Contains}
+use Rattle.rv_code.specs.declared.inst.Inst.{Inst}
+use Rattle.rv_code.specs.isa.Action.{action_of}
+use Rattle.rv_code.specs.layout.Flow.{target}
+use Rattle.elf_image.specs.declared.elf.Elf.{Elf}
+use Rattle.elf_image.specs.code.Parts.{StartsIn}
+use Rattle.elf_image.specs.code.Functions.{IsReferred}
+use Rattle.rv_reloc.specs.declared.parts.Part.{Part}
+use Rattle.func_find.specs.Valid.{IsValidBefore}
+
+-- a list got all numbers of a set, and nothing else
+abbrev pub Gains : List ℕ → List ℕ → (ℕ → Type 0) → Type 0
+Gains old new Is = (a : ℕ) → Contains new a ↔ (Contains old a ⊎ Is a)
+
+-- the instruction at an address goes to another
+pub record GoesTo (elf : Elf) (end from to : ℕ) : Type 0 where
+  pub inst : Inst
+  pub bytes : ℕ
+  pub valid : IsValidBefore elf end from inst bytes
+  pub target_is : target from (action_of inst) ≡ Some to
+
+-- an instruction of a part does
+pub record PartGoesTo (elf : Elf) (p : Part) (to : ℕ) : Type 0 where
+  pub from : ℕ
+  pub starts : StartsIn elf p.start p.end from
+  pub goes : GoesTo elf p.end from to
+
+-- all addresses that are referred to
+abbrev pub AreReferred : Elf → List (ℕ × ℕ) → List ℕ → Type 0
+AreReferred elf tabled addresses = (a : ℕ) → Contains addresses a ↔ IsReferred elf tabled a

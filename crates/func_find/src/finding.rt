@@ -1,0 +1,68 @@
+// The functions of a file.
+ghost use Rattle.std.specs.Prelude.{◌≡◌, ◌<◌, IfOk, IfErr, OnOk, AllPairs};
+ghost use Rattle.elf_image.specs.code.FileCode.{AreStarts};
+ghost use Rattle.elf_image.specs.code.Functions.{AreFunctions};
+ghost use Rattle.elf_image.specs.faults.FirstFault.{IsFree, IsRefusalBy};
+ghost use Rattle.elf_image.specs.faults.FunctionFaults.{HasFunctionFault};
+ghost use Rattle.elf_image.specs.faults.LowestPlace.{IsLowest};
+ghost use Rattle.rv_reloc.specs.Parts.{AreApart};
+ghost use Rattle.rv_reloc.specs.Refs.{AreRefs};
+ghost use Rattle.func_find.specs.Targets.{IsBadStart};
+
+use crate::function_parts::function_parts;
+use crate::inst_lists::functions_of;
+use crate::referred::Referred;
+use crate::targets::{is_code, lowest_misled};
+use elf_image::Elf;
+use elf_image::lowest::place_if;
+use rb_bytes::fault::{Fault, FaultKind, Refusal};
+use rv_code::Func;
+use rv_reloc::Refs;
+use rv_reloc::parts::{Part, code_parts};
+use rv_reloc::whole::whole_parts;
+use std::alloc::Global;
+
+/// The functions of a file, by address, with their instructions and roles; or the first of the faults `BadEntry`,
+/// `BadInstruction` and `BareAuipc`, and `BadTarget`. `starts` and `refs` are those of the file, and `whole` the ranges
+/// with exception tables, by their starts and ends.
+pub fn functions(
+    alloc: Global,
+    elf: &Elf,
+    starts: &[u64],
+    refs: &Refs,
+    whole: &[(u64, u64)],
+) -> Result<Vec<Func>, Refusal>
+    requires starts { AreStarts elf.now starts.now }
+    requires refs { AreRefs elf.now whole.now refs.now }
+    ensures functions { IfOk result (λ funcs. AreFunctions elf.now whole.now funcs.items) }
+    ensures free { OnOk result (IsFree (HasFunctionFault elf.now whole.now)) }
+    ensures fault { IfErr result (IsRefusalBy (HasFunctionFault elf.now whole.now)) }
+{
+    let parts = code_parts(alloc, elf)?;
+    let referred = Referred::new(alloc, elf, starts, &parts, refs)?;
+    let function_parts = function_parts(alloc, elf, starts, &parts, &referred)?;
+    let whole_parts = whole_parts(alloc, elf, starts, &parts, whole)?;
+    let kept = function_parts.as_slice();
+    match lowest_bad_start(starts, kept, elf.entry) {
+        Some(place) => return Err(Refusal::Fault(Fault::at(FaultKind::BadEntry, place))),
+        None => {}
+    }
+    let wholes = whole_parts.as_slice();
+    let funcs = match functions_of(alloc, elf, kept, wholes, &refs.roles) {
+        Ok(funcs) => funcs,
+        Err(refusal) => return Err(refusal),
+    };
+    match lowest_misled(starts, kept, &funcs) {
+        Some(place) => Err(Refusal::Fault(Fault::at(FaultKind::BadTarget, place))),
+        None => Ok(funcs),
+    }
+}
+
+// The address, if it starts no instruction of a function.
+fn lowest_bad_start(starts: &[u64], parts: &[Part], address: u64) -> Option<u64>
+    requires starts { AllPairs (λ a b. a < b) starts.now }
+    requires parts { AreApart parts.now }
+    ensures { IsLowest (IsBadStart starts.now parts.now address) result }
+{
+    place_if(!is_code(starts, parts, address), address)
+}

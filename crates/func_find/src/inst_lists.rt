@@ -1,0 +1,159 @@
+// The instructions of functions, with their roles.
+ghost use Rattle.std.specs.Prelude.{◌≡◌, ◌↔◌, ◌<◌, ◌≤◌, ℕ, List, [], ◌∷◌, All, AllPairs, Contains, IfOk, IfErr, IfSome, IfNone, IsTrue, length, slice_index_or};
+ghost use Rattle.rv_code.specs.declared.placed.Role.{Role};
+ghost use Rattle.elf_image.specs.code.FileCode.{AreRoles};
+ghost use Rattle.elf_image.specs.code.Parts.{IsCodePart};
+ghost use Rattle.rv_reloc.specs.Parts.{AreApart, Follows};
+ghost use Rattle.func_find.specs.InstLists.{AreMadeOf, ArePlaced, IsAuipc, IsFaultBefore, IsFirstRefusal, IsPlacedAt};
+
+use crate::valid::valid_before;
+use elf_image::Elf;
+use rb_bytes::fault::{Fault, FaultKind, NoMemory, Refusal};
+use rv_code::{Func, Inst, Placed, Role};
+use rv_reloc::parts::{Part, part_at};
+use std::alloc::Global;
+
+/// The functions that these parts are, or the fault of the first of their instructions that can't be there. `wholes` are
+/// the whole parts of the file, and `roles` its roles.
+pub fn functions_of(
+    alloc: Global,
+    elf: &Elf,
+    parts: &[Part],
+    wholes: &[Part],
+    roles: &[(u64, Role)],
+) -> Result<Vec<Func>, Refusal>
+    requires parts { All (λ p. IsCodePart elf.now p.start p.end) parts.now }
+    requires ordered { AllPairs Follows parts.now }
+    requires wholes { AreApart wholes.now }
+    requires roles { AreRoles elf.now roles.now }
+    ensures made { IfOk result (λ funcs. AreMadeOf elf.now wholes.now parts.now funcs.items) }
+    ensures fault { IfErr result (IsFirstRefusal elf.now parts.now) }
+{
+    let mut funcs = Vec::new(alloc);
+    for part in parts {
+        let insts = match insts_of(alloc, elf, part, roles) {
+            Ok(insts) => insts,
+            Err(refusal) => return Err(refusal),
+        };
+        funcs.push(Func {
+            start: part.start,
+            end: part.end,
+            whole: is_whole(wholes, part),
+            insts,
+        })?;
+    }
+    Ok(funcs)
+}
+
+// Whether a part is one of the whole parts.
+fn is_whole(wholes: &[Part], part: &Part) -> bool
+    requires { AreApart wholes.now }
+    ensures { IsTrue result ↔ Contains wholes.now part.now }
+{
+    match part_at(wholes, part.start) {
+        Some(whole) => is_same(&whole, part),
+        None => false,
+    }
+}
+
+fn is_same(a: &Part, b: &Part) -> bool
+    ensures { IsTrue result ↔ ((a.now.start ≡ b.now.start) × (a.now.end ≡ b.now.end)) }
+{
+    a.start == b.start && a.end == b.end
+}
+
+// The instructions of a part, or the fault of the first that can't be there.
+fn insts_of(
+    alloc: Global,
+    elf: &Elf,
+    part: &Part,
+    roles: &[(u64, Role)],
+) -> Result<Vec<Placed>, Refusal>
+    requires part { part.now.start < part.now.end }
+    requires roles { AreRoles elf.now roles.now }
+    ensures placed { IfOk result (λ insts. ArePlaced elf.now part.now.start part.now.end insts.items) }
+    ensures fault { IfErr result (IsFirstRefusal elf.now (part.now ∷ [])) }
+{
+    let mut insts = Vec::new(alloc);
+    let mut address = part.start;
+    while address < part.end {
+        let placed = match placed_at(elf, part.end, address, roles) {
+            Ok(placed) => placed,
+            Err(fault) => return Err(Refusal::Fault(fault)),
+        };
+        insts.push(placed)?;
+        address += placed.len as u64;
+    }
+    insts.shrink_to_fit();
+    Ok(insts)
+}
+
+// The instruction at an address with its role, if it can be there.
+fn placed_at(elf: &Elf, end: u64, address: u64, roles: &[(u64, Role)]) -> Result<Placed, Fault>
+    requires inside { address < end }
+    requires roles { AreRoles elf.now roles.now }
+    ensures placed { IfOk result (IsPlacedAt elf.now end address) }
+    ensures fault { IfErr result (IsFaultBefore elf.now end address) }
+{
+    match valid_before(elf, end, address) {
+        Some(found) => match role_at(roles, address) {
+            Some(role) => Ok(Placed {
+                addr: address,
+                len: found.1,
+                inst: found.0,
+                role,
+            }),
+            None => {
+                if is_full_auipc(&found.0, found.1) {
+                    return Err(Fault::at(FaultKind::BareAuipc, address));
+                }
+                Ok(Placed {
+                    addr: address,
+                    len: found.1,
+                    inst: found.0,
+                    role: Role::Plain,
+                })
+            }
+        },
+        None => Err(Fault::at(FaultKind::BadInstruction, address)),
+    }
+}
+
+fn is_full_auipc(inst: &Inst, bytes: u8) -> bool
+    ensures { IsTrue result ↔ (IsAuipc inst.now × (bytes ≡ 4)) }
+{
+    is_auipc(inst) && bytes == 4
+}
+
+fn is_auipc(inst: &Inst) -> bool
+    ensures { IsTrue result ↔ IsAuipc inst.now }
+{
+    matches!(*inst, Inst::Auipc { .. })
+}
+
+// The role of the instruction at an address.
+fn role_at(roles: &[(u64, Role)], address: u64) -> Option<Role>
+    requires { AllPairs (λ r s. r.0 < s.0) roles.now }
+    ensures some { IfSome result (λ role. Contains roles.now (address, role)) }
+    ensures none { IfNone result ((role : Role) → Contains roles.now (address, role) → ⊥) }
+{
+    let below = count_below(roles, address);
+    if below == roles.len() {
+        return None;
+    }
+    let role = roles[below];
+    if role.0 != address {
+        return None;
+    }
+    Some(role.1)
+}
+
+// How many roles are of instructions below an address.
+fn count_below(roles: &[(u64, Role)], address: u64) -> usize
+    requires { AllPairs (λ r s. r.0 < s.0) roles.now }
+    ensures bound { result ≤ length roles.now }
+    ensures below { (k : ℕ) (d : ℕ × Role) → k < result → (slice_index_or roles.now k d).0 < address }
+    ensures above { (k : ℕ) (d : ℕ × Role) → result ≤ k → k < length roles.now → address ≤ (slice_index_or roles.now k d).0 }
+{
+    roles.partition_point(|r| r.0 < address)
+}

@@ -1,0 +1,160 @@
+// The addresses that are referred to.
+ghost use Rattle.std.specs.Prelude.{◌≡◌, ◌↔◌, ℕ, List, Any, IfOk, OnOk, IsTrue, Some, Contains};
+ghost use Rattle.std.specs.List.Sorted.{IsNonDecreasingBy};
+ghost use Rattle.rv_code.specs.layout.ProgramCode.{RoleNames, CellNames};
+ghost use Rattle.elf_image.specs.code.FileCode.{AreStarts};
+ghost use Rattle.rv_reloc.specs.Parts.{AreCodeParts};
+ghost use Rattle.rv_reloc.specs.Refs.{AreRefs};
+ghost use Rattle.func_find.specs.Referred.{AreReferred, Gains, GoesTo, PartGoesTo};
+
+use crate::flow::target;
+use crate::valid::valid_before;
+use elf_image::Elf;
+use elf_image::function_bounds::make_ascending;
+use rb_bytes::fault::NoMemory;
+use rv_code::{CellKind, CodeCell, Role};
+use rv_reloc::Refs;
+use rv_reloc::instruction_starts::starts_in;
+use rv_reloc::parts::Part;
+use std::alloc::Global;
+
+/// Addresses that are referred to.
+#[derive(Drop)]
+pub struct Referred {
+    // They go up.
+    addresses: Vec<u64>,
+    ghost rising: { IsNonDecreasingBy (λ a. a) addresses.items },
+}
+
+impl Referred {
+    /// The addresses that a branch or jump, a role, a cell or the entry point names. `starts` and `parts` are those of the
+    /// file.
+    pub fn new(
+        alloc: Global,
+        elf: &Elf,
+        starts: &[u64],
+        parts: &[Part],
+        refs: &Refs,
+    ) -> Result<Referred, NoMemory>
+        requires starts { AreStarts elf.now starts.now }
+        requires parts { AreCodeParts elf.now parts.now }
+        ensures { IfOk result (λ r. (tabled : List (ℕ × ℕ)) → AreRefs elf.now tabled refs.now → AreReferred elf.now tabled r.addresses.items) }
+    {
+        let mut addresses = Vec::new(alloc);
+        addresses.push(elf.entry)?;
+        push_targets(&mut addresses, elf, starts, parts)?;
+        push_roles(&mut addresses, &refs.roles)?;
+        push_cells(&mut addresses, &refs.cells)?;
+        make_ascending(&mut addresses);
+        Ok(Referred { addresses })
+    }
+
+    /// Whether one of them is this address.
+    pub fn has(&self, address: u64) -> bool
+        ensures { IsTrue result ↔ Contains self.now.addresses.items address }
+    {
+        self.addresses.binary_search(&address).is_ok()
+    }
+}
+
+// Appends the addresses to which instructions of parts go.
+fn push_targets(
+    addresses: &mut Vec<u64>,
+    elf: &Elf,
+    starts: &[u64],
+    parts: &[Part],
+) -> Result<(), NoMemory>
+    requires starts { AreStarts elf.now starts.now }
+    requires parts { AreCodeParts elf.now parts.now }
+    ensures { OnOk result (Gains addresses.old.items addresses.new.items (λ a. Any (λ p. PartGoesTo elf.now p a) parts.now)) }
+{
+    for part in parts {
+        push_targets_of(addresses, elf, part.end, starts_in(starts, part))?;
+    }
+    Ok(())
+}
+
+// Appends the addresses to which the instructions at some addresses of a part go.
+fn push_targets_of(
+    addresses: &mut Vec<u64>,
+    elf: &Elf,
+    end: u64,
+    froms: &[u64],
+) -> Result<(), NoMemory>
+    ensures { OnOk result (Gains addresses.old.items addresses.new.items (λ a. Any (λ from. GoesTo elf.now end from a) froms.now)) }
+{
+    for from in froms {
+        push_some(addresses, target_of(elf, end, *from))?;
+    }
+    Ok(())
+}
+
+// Where the instruction at an address of a part goes.
+fn target_of(elf: &Elf, end: u64, from: u64) -> Option<u64>
+    ensures { (a : ℕ) → (result ≡ Some a) ↔ GoesTo elf.now end from a }
+{
+    if from >= end {
+        return None;
+    }
+    match valid_before(elf, end, from) {
+        Some(found) => target(from, &found.0),
+        None => None,
+    }
+}
+
+fn push_some(addresses: &mut Vec<u64>, address: Option<u64>) -> Result<(), NoMemory>
+    ensures { OnOk result (Gains addresses.old.items addresses.new.items (λ a. address ≡ Some a)) }
+{
+    if let Some(address) = address {
+        addresses.push(address)?;
+    }
+    Ok(())
+}
+
+fn push_roles(addresses: &mut Vec<u64>, roles: &[(u64, Role)]) -> Result<(), NoMemory>
+    ensures { OnOk result (Gains addresses.old.items addresses.new.items (λ a. Any (λ r. RoleNames r.1 a) roles.now)) }
+{
+    for role in roles {
+        push_some(addresses, role_target(&role.1))?;
+    }
+    Ok(())
+}
+
+// The address that a role names.
+fn role_target(role: &Role) -> Option<u64>
+    ensures { (a : ℕ) → (result ≡ Some a) ↔ RoleNames role.now a }
+{
+    match *role {
+        Role::Plain => None,
+        Role::CallHi { target }
+        | Role::CallLo { target, .. }
+        | Role::Hi { target }
+        | Role::Lo { target, .. }
+        | Role::AbsHi { target }
+        | Role::AbsLo { target } => Some(target),
+    }
+}
+
+fn push_cells(addresses: &mut Vec<u64>, cells: &[CodeCell]) -> Result<(), NoMemory>
+    ensures { OnOk result (Gains addresses.old.items addresses.new.items (λ a. Any (λ c. CellNames c a) cells.now)) }
+{
+    for cell in cells {
+        push_cell(addresses, cell)?;
+    }
+    Ok(())
+}
+
+fn push_cell(addresses: &mut Vec<u64>, cell: &CodeCell) -> Result<(), NoMemory>
+    ensures { OnOk result (Gains addresses.old.items addresses.new.items (λ a. CellNames cell.now a)) }
+{
+    match cell.kind {
+        CellKind::Abs { to } => {
+            addresses.push(to)?;
+        }
+        CellKind::Diff { to, from } => {
+            addresses.push(to)?;
+            addresses.push(from)?;
+        }
+    }
+    Ok(())
+}

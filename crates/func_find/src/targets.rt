@@ -1,0 +1,101 @@
+// Branches, jumps and calls that go to no instruction.
+ghost use Rattle.std.specs.Prelude.{◌≡◌, ◌↔◌, ◌<◌, ℕ, AllPairs, IsTrue};
+ghost use Rattle.elf_image.specs.faults.LowestPlace.{IsLowest};
+ghost use Rattle.rv_reloc.specs.Parts.{AreApart};
+ghost use Rattle.rv_reloc.specs.Places.{IsPlaceOf};
+ghost use Rattle.func_find.specs.Targets.{CallsInside, HasMisled, IsCodeIn, IsHeld, IsInsideIn, IsMisled, JumpsNowhere};
+
+use crate::flow::target;
+use elf_image::lowest::{lower, place_if};
+use rv_code::{Func, Placed, Role};
+use rv_reloc::code::is_start;
+use rv_reloc::parts::{Part, part_at};
+
+/// Whether an address is the start of an instruction of one of these parts.
+pub fn is_code(starts: &[u64], parts: &[Part], address: u64) -> bool
+    requires starts { AllPairs (λ a b. a < b) starts.now }
+    requires parts { AreApart parts.now }
+    ensures { IsTrue result ↔ IsCodeIn starts.now parts.now address }
+{
+    is_start(starts, address) && is_held(parts, address)
+}
+
+// Whether one of the parts holds an address.
+fn is_held(parts: &[Part], address: u64) -> bool
+    requires { AreApart parts.now }
+    ensures { IsTrue result ↔ IsHeld parts.now address }
+{
+    part_at(parts, address).is_some()
+}
+
+// Whether one of the parts holds an address at which no instruction starts.
+fn is_inside(starts: &[u64], parts: &[Part], address: u64) -> bool
+    requires starts { AllPairs (λ a b. a < b) starts.now }
+    requires parts { AreApart parts.now }
+    ensures { IsTrue result ↔ IsInsideIn starts.now parts.now address }
+{
+    is_held(parts, address) && !is_start(starts, address)
+}
+
+/// The lowest address of an instruction that goes to no instruction. `parts` are the functions.
+pub fn lowest_misled(starts: &[u64], parts: &[Part], funcs: &[Func]) -> Option<u64>
+    requires starts { AllPairs (λ a b. a < b) starts.now }
+    requires parts { AreApart parts.now }
+    ensures { IsLowest (HasMisled starts.now parts.now funcs.now) result }
+{
+    let mut lowest = None;
+    for func in funcs {
+        lowest = lower(lowest, lowest_misled_of(starts, parts, &func.insts));
+    }
+    lowest
+}
+
+fn lowest_misled_of(starts: &[u64], parts: &[Part], insts: &[Placed]) -> Option<u64>
+    requires starts { AllPairs (λ a b. a < b) starts.now }
+    requires parts { AreApart parts.now }
+    ensures { IsLowest (IsPlaceOf (λ p. p.addr) (IsMisled starts.now parts.now) insts.now) result }
+{
+    let mut lowest = None;
+    for inst in insts {
+        lowest = lower(lowest, place_if(is_misled(starts, parts, inst), inst.addr));
+    }
+    lowest
+}
+
+// Whether an instruction goes to no instruction.
+fn is_misled(starts: &[u64], parts: &[Part], inst: &Placed) -> bool
+    requires starts { AllPairs (λ a b. a < b) starts.now }
+    requires parts { AreApart parts.now }
+    ensures { IsTrue result ↔ IsMisled starts.now parts.now inst.now }
+{
+    jumps_nowhere(starts, parts, inst) || calls_inside(starts, parts, inst)
+}
+
+// Whether a branch, or a JAL, goes to no start of an instruction.
+fn jumps_nowhere(starts: &[u64], parts: &[Part], inst: &Placed) -> bool
+    requires starts { AllPairs (λ a b. a < b) starts.now }
+    requires parts { AreApart parts.now }
+    ensures { IsTrue result ↔ JumpsNowhere starts.now parts.now inst.now }
+{
+    match target(inst.addr, &inst.inst) {
+        Some(to) => !is_code(starts, parts, to),
+        None => false,
+    }
+}
+
+// Whether a call pair goes into the middle of an instruction.
+fn calls_inside(starts: &[u64], parts: &[Part], inst: &Placed) -> bool
+    requires starts { AllPairs (λ a b. a < b) starts.now }
+    requires parts { AreApart parts.now }
+    ensures { IsTrue result ↔ CallsInside starts.now parts.now inst.now }
+{
+    match inst.role {
+        Role::CallHi { target } => is_inside(starts, parts, target),
+        Role::Plain
+        | Role::CallLo { .. }
+        | Role::Hi { .. }
+        | Role::Lo { .. }
+        | Role::AbsHi { .. }
+        | Role::AbsLo { .. } => false,
+    }
+}

@@ -1,0 +1,47 @@
+// Instructions that can stand where they do, and nops.
+ghost use Rattle.std.specs.Prelude.{◌≡◌, ◌↔◌, ◌<◌, ℕ, IsTrue, IfSome, Some};
+ghost use Rattle.rv_code.specs.declared.inst.Inst.{Inst};
+ghost use Rattle.func_find.specs.Valid.{IsValidBefore, IsNopBefore};
+
+use elf_image::Elf;
+use rv_code::Inst;
+use rv_reloc::code::{halfword_at, inst_before};
+
+/// The instruction at an address, and how many bytes it takes, if the file can have it there: it ends by `end`, the
+/// address is even, and it has two bytes only where the file's flags say that it has such.
+pub fn valid_before(elf: &Elf, end: u64, address: u64) -> Option<(Inst, u8)>
+    requires { address < end }
+    ensures there { IfSome result (λ r. IsValidBefore elf.now end address r.0 r.1) }
+    ensures only { (inst : Inst) (bytes : ℕ) → IsValidBefore elf.now end address inst bytes → result ≡ Some (inst, bytes) }
+{
+    match inst_before(elf, end, address) {
+        Some(found) => {
+            if address % 2 != 0 {
+                return None;
+            }
+            if found.1 == 2 && elf.flags == 0 {
+                return None;
+            }
+            Some(found)
+        }
+        None => None,
+    }
+}
+
+/// Whether a nop stands at an address and ends by `end`.
+pub fn is_nop_before(elf: &Elf, end: u64, address: u64) -> bool
+    ensures { IsTrue result ↔ IsNopBefore elf.now end address }
+{
+    let left = end.saturating_sub(address);
+    if left < 2 {
+        return false;
+    }
+    let half = halfword_at(elf, address);
+    if half == 0x0001 {
+        return true;
+    }
+    if left < 4 || half != 0x0013 {
+        return false;
+    }
+    halfword_at(elf, address + 2) == 0
+}

@@ -1,0 +1,56 @@
+-- The relocations of a table, one after another.
+use Rattle.std.proofs.Common.{◌≡◌, ◌∙◌, ap, refl, ℕ, zero, suc, ◌+◌, ◌-◌, ◌*◌, ◌<◌, List, [], ◌∷◌, ◌++◌, map, append_assoc, arith, None, length, ◌≤◌, slice_get, eq-eqb, Bool, true, false, if◌then◌else◌, ◌/◌}
+use Rattle.std.proofs.lemmas.List.{map-append}
+use Rattle.elf_image.specs.declared.elf.Section.{Section}
+use Rattle.elf_image.specs.declared.relocation.TheConstants.{RELA_SIZE, SHT_RELA}
+use Rattle.elf_image.specs.code.Relocations.{Relocation, relocation_at, entries_from, entries_for, entries_of}
+use Rattle.elf_image.specs.declared.elf.Elf.{Elf}
+use Rattle.rv_reloc.specs.declared.records.Record.{Record}
+use Rattle.rv_reloc.specs.Records.{seen, counts}
+
+entries_from-suc : (file : List ℕ) (section : Section) (offset n : ℕ) → entries_from file section offset (suc n) ≡ relocation_at file section offset ∷ entries_from file section (offset + RELA_SIZE) n
+unfolding entries_from
+entries_from-suc file section offset n = refl
+
+-- none is left
+pub entries_from-none : (file : List ℕ) (section : Section) (offset n : ℕ) → n ≡ 0 → entries_from file section offset n ≡ []
+unfolding entries_from
+entries_from-none file section offset zero e = refl
+entries_from-none file section offset (suc n) e = absurd (omega arith)
+
+-- one more is read
+pub entries_from-next : (file : List ℕ) (section : Section) (start index count : ℕ) → index < count → entries_from file section (start + RELA_SIZE * index) (count - index) ≡ relocation_at file section (start + RELA_SIZE * index) ∷ entries_from file section (start + RELA_SIZE * (index + 1)) (count - (index + 1))
+entries_from-next file section start index count within =
+    let n : count - index ≡ suc (count - (index + 1)) = omega arith in
+    let o : start + RELA_SIZE * index + RELA_SIZE ≡ start + RELA_SIZE * (index + 1) = omega arith in
+    ap (λ (n : ℕ). entries_from file section (start + RELA_SIZE * index) n) n
+    ∙ entries_from-suc file section (start + RELA_SIZE * index) (count - (index + 1))
+    ∙ ap (λ (o : ℕ). relocation_at file section (start + RELA_SIZE * index) ∷ entries_from file section o (count - (index + 1))) o
+
+pub read_one : (was now : List Record) (r : Record) (left : List Relocation) (one : Relocation) → now ≡ was ++ r ∷ [] → seen r ≡ one → map seen now ++ left ≡ map seen was ++ one ∷ left
+read_one was now r left one pushed is =
+    ap (λ (rs : List Record). map seen rs ++ left) pushed
+    ∙ ap (λ (rs : List Relocation). rs ++ left) (map-append seen was (r ∷ []))
+    ∙ append_assoc (map seen was) (seen r ∷ []) left
+    ∙ ap (λ (x : Relocation). map seen was ++ x ∷ left) is
+
+-- a table that applies to no section
+pub entries_of-missing : (elf : Elf) (table : Section) → table.kind ≡ SHT_RELA → slice_get elf.sections.items table.info ≡ None → entries_of elf table ≡ []
+entries_of-missing elf table kind none = rw (eq-eqb table.kind SHT_RELA kind, none) refl
+
+pub slice_get-none : {A : Type 0} (xs : List A) (i : ℕ) → length xs ≤ i → slice_get xs i ≡ None
+slice_get-none [] i above = refl
+slice_get-none (x ∷ xs) zero above = absurd (omega arith)
+slice_get-none (x ∷ xs) (suc i) above = slice_get-none xs i (omega arith)
+
+-- a table without entries
+pub entries_for-empty : (elf : Elf) (table section : Section) → table.size ≡ 0 → entries_for elf table section ≡ []
+unfolding entries_from
+entries_for-empty elf table section none = by (counts section)
+  where
+    empty : entries_from elf.file.now section table.offset (table.size / RELA_SIZE) ≡ []
+    empty = ap (λ (n : ℕ). entries_from elf.file.now section table.offset (n / RELA_SIZE)) none
+
+    by : (b : Bool) → (if b then entries_from elf.file.now section table.offset (table.size / RELA_SIZE) else []) ≡ []
+    by true = empty
+    by false = refl

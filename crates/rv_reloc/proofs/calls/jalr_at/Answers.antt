@@ -1,0 +1,20 @@
+use Rattle.std.proofs.Common.{◌∙◌, sym, ap, subst, ℕ, Option, IfSome}
+use Rattle.rv_code.specs.declared.inst.Inst.TheVariants.{Jalr}
+use Rattle.elf_image.specs.code.Roles.{IsFullAt}
+use Rattle.rv_reloc.specs.declared.instructions.Jump.{Jump}
+use Rattle.rv_reloc.specs.Instructions.{jalr_of}
+use Rattle.rv_reloc.proofs.InstructionFields.{as_jalr}
+use Rattle.rv_reloc.proofs.Options.{same_some, not_found}
+use Rattle.rv_reloc.proofs.calls.jalr_at.Goals as goal
+
+pub returns-in-Some-clause-there : goal.returns-in-Some-clause-there
+returns-in-Some-clause-there c =
+    subst (λ (o : Option Jump). IfSome o (λ j. (link : ℕ) × IsFullAt c.args.elf.now c.args.address (Jalr link j.base j.imm))) (sym c.jalr_of.ensures)
+    (as_jalr (IsFullAt c.args.elf.now c.args.address) c.in-Some.inst c.in-Some.ensures.there)
+
+pub returns-in-Some-clause-only : goal.returns-in-Some-clause-only
+returns-in-Some-clause-only c = λ link base imm full.
+    c.jalr_of.ensures ∙ ap jalr_of (same_some _ _ _ c.in-Some.is (c.full_at.ensures.only (Jalr link base imm) full))
+
+pub returns-in-None-clause-only : goal.returns-in-None-clause-only
+returns-in-None-clause-only c = λ link base imm full. absurd (not_found _ _ c.in-None.is (c.full_at.ensures.only (Jalr link base imm) full))

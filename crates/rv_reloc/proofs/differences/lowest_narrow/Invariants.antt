@@ -1,0 +1,11 @@
+use Rattle.std.proofs.Common.{ℕ, List, take}
+use Rattle.elf_image.specs.faults.LowestPlace.{IsLowest}
+use Rattle.elf_image.specs.faults.ReferenceFaults.{IsNarrow}
+use Rattle.rv_reloc.specs.Places.{IsPlaceOf}
+use Rattle.rv_reloc.specs.Records.{seen}
+use Rattle.rv_reloc.specs.Whole.{AreWholeParts}
+use Rattle.rv_reloc.proofs.differences.lowest_narrow.Given as goal
+
+abbrev pub invariant-loop-relocation : goal.invariant-loop-relocation
+invariant-loop-relocation l =
+    (tabled : List (ℕ × ℕ)) → AreWholeParts l.elf tabled l.wholes → IsLowest (IsPlaceOf (λ r. r.place) (λ r. IsNarrow l.elf tabled (seen r)) (take l.relocation-index l.records)) l.lowest

@@ -1,0 +1,13 @@
+use Rattle.std.proofs.Common.{◌∙◌, sym, ap, subst, List}
+use Rattle.rv_code.specs.layout.Lists.{ListsNumbers}
+use Rattle.elf_image.specs.code.Parts.{IsStart}
+use Rattle.rv_reloc.specs.declared.parts.Part.{Part}
+use Rattle.rv_reloc.specs.Starts.{starts_of}
+use Rattle.rv_reloc.proofs.StartLists.{starts-list}
+use Rattle.rv_reloc.proofs.instruction_starts.starts.Goals as goal
+
+pub returns : goal.returns
+returns c =
+    let elf = c.args.elf.now in
+    let same = c.in_ok-starts_of.ensures ∙ ap (λ (ps : List Part). starts_of elf ps) c.deref.ensures.value in
+    subst (ListsNumbers (IsStart elf)) (sym same) (starts-list elf c.in_ok-parts.parts.items c.in_ok-parts.ensures)

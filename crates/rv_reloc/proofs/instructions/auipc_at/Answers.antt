@@ -1,0 +1,20 @@
+use Rattle.std.proofs.Common.{◌∙◌, sym, ap, subst, Option, IfSome}
+use Rattle.rv_code.specs.declared.inst.Inst.TheVariants.{Auipc}
+use Rattle.elf_image.specs.code.Roles.{IsFullAt}
+use Rattle.rv_reloc.specs.declared.instructions.Upper.{Upper}
+use Rattle.rv_reloc.specs.Instructions.{auipc_of}
+use Rattle.rv_reloc.proofs.InstructionFields.{as_auipc}
+use Rattle.rv_reloc.proofs.Options.{same_some, not_found}
+use Rattle.rv_reloc.proofs.instructions.auipc_at.Goals as goal
+
+pub returns-in-Some-clause-there : goal.returns-in-Some-clause-there
+returns-in-Some-clause-there c =
+    subst (λ (o : Option Upper). IfSome o (λ u. IsFullAt c.args.elf.now c.args.address (Auipc u.rd u.imm))) (sym c.auipc_of.ensures)
+    (as_auipc (IsFullAt c.args.elf.now c.args.address) c.in-Some.inst c.in-Some.ensures.there)
+
+pub returns-in-Some-clause-only : goal.returns-in-Some-clause-only
+returns-in-Some-clause-only c = λ rd imm full.
+    c.auipc_of.ensures ∙ ap auipc_of (same_some _ _ _ c.in-Some.is (c.full_at.ensures.only (Auipc rd imm) full))
+
+pub returns-in-None-clause-only : goal.returns-in-None-clause-only
+returns-in-None-clause-only c = λ rd imm full. absurd (not_found _ _ c.in-None.is (c.full_at.ensures.only (Auipc rd imm) full))

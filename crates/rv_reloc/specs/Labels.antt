@@ -1,0 +1,18 @@
+-- Labels and how wide a field is for them, as they are kept.
+use Rattle.std.specs.Prelude.{ℤ, pos, ◌<ℤ◌, ◌≤ℤ◌, ◌+ℤ◌, ◌^◌}
+use Rattle.elf_image.specs.code.Relocations as relocations
+use Rattle.rv_reloc.specs.declared.labels.Width.{Width}
+use Rattle.rv_reloc.specs.declared.labels.Width.TheVariants.{Bits6, Bits8, Bits16, Bits32, Bits64, Uleb128}
+
+abbrev pub width_of : Width → relocations.Width
+width_of Bits6 = relocations.Bits 6
+width_of Bits8 = relocations.Bits 8
+width_of Bits16 = relocations.Bits 16
+width_of Bits32 = relocations.Bits 32
+width_of Bits64 = relocations.Bits 64
+width_of Uleb128 = relocations.Uleb128
+
+-- the sum of an address and an addend, both of 64 bits, can be this number
+pub record IsLabelSize (z : ℤ) : Type 0 where
+  pub least : pos 0 ≤ℤ (z +ℤ pos (2 ^ 63))
+  pub below : z <ℤ pos (2 ^ 65)

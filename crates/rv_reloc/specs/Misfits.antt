@@ -1,0 +1,18 @@
+-- Relocations that don't fit the instructions that they apply to.
+use Rattle.std.specs.Prelude.{◌≢◌, ◌⊎◌, ◌≤◌, length}
+use Rattle.elf_image.specs.declared.elf.Elf.{Elf}
+use Rattle.elf_image.specs.code.Relocations.{Relocation}
+use Rattle.elf_image.specs.faults.ReferenceFaults.{IsBadField, IsBadCall, IsBadUpper, IsBadLower, IsBadAbsolute, IsBadDifference}
+use Rattle.rv_reloc.specs.Pairs.{MakesNoAddress}
+
+-- the file has no symbol of the relocation's index
+abbrev pub HasBadSymbol : Elf → Relocation → Type 0
+HasBadSymbol elf r = (r.symbol ≢ 0) × (length elf.symbols.items ≤ r.symbol)
+
+-- it isn't on the instructions that it is for, or these say something else
+abbrev pub IsMisplaced : Elf → Relocation → Type 0
+IsMisplaced elf r = (IsBadCall elf r ⊎ IsBadUpper elf r) ⊎ (IsBadLower elf r ⊎ IsBadAbsolute elf r)
+
+-- it doesn't fit, whatever the entries of the global offset table hold
+abbrev pub IsUnfit : Elf → Relocation → Type 0
+IsUnfit elf r = (IsBadField elf r ⊎ IsMisplaced elf r) ⊎ (MakesNoAddress elf r ⊎ IsBadDifference elf r)

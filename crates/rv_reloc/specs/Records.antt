@@ -1,0 +1,51 @@
+-- The relocations of a file as they are kept.
+use Rattle.std.specs.Prelude.{◌≡◌, ◌⊎◌, ◌<◌, ◌≤◌, ◌+◌, ◌&&◌, Bool, codes, not, ℕ, List, AllPairs, map, length, slice_index_or, ◌==◌}
+use Rattle.std.specs.List.Sorted.{IsPermutation}
+use Rattle.elf_image.specs.declared.elf.Elf.{Elf}
+use Rattle.elf_image.specs.declared.elf.Section.{Section}
+use Rattle.elf_image.specs.declared.relocation.TheConstants.{SHT_RELA}
+use Rattle.elf_image.specs.code.Relocations.{Relocation, relocations, is_named}
+use Rattle.elf_image.specs.file.SectionNames.{is_loaded}
+use Rattle.rv_reloc.specs.declared.records.Record.{Record}
+use Rattle.rv_reloc.specs.Index.{class}
+
+-- what a record is kept for
+abbrev pub seen : Record → Relocation
+seen r = record { place = r.place; kind = r.kind; symbol = r.symbol; addend = r.addend; section = r.section.now }
+
+-- a table of relocations lies in the file
+abbrev pub IsContained : List ℕ → Section → Type 0
+IsContained file s = s.kind ≡ SHT_RELA → 0 < s.size → s.offset + s.size ≤ length file
+
+abbrev pub counts : Section → Bool
+counts section = is_loaded section && not (is_named section (codes ".eh_frame"))
+
+-- The order of places, and at one place of classes.
+
+abbrev pub class_of : Record → ℕ
+class_of r = class r.kind
+
+abbrev pub IsBelow : ℕ → ℕ → Record → Type 0
+IsBelow place at r = (r.place < place) ⊎ ((r.place ≡ place) × (class_of r < at))
+
+abbrev pub IsFrom : ℕ → ℕ → Record → Type 0
+IsFrom place at r = (place < r.place) ⊎ ((place ≡ r.place) × (at ≤ class_of r))
+
+abbrev pub AreInOrder : List Record → Type 0
+AreInOrder records = AllPairs (λ q r. IsFrom q.place (class_of q) r) records
+
+-- all relocations that count, in this order
+pub record AreRecords (elf : Elf) (records : List Record) : Type 0 where
+  pub all : IsPermutation (map seen records) (relocations elf)
+  pub ordered : AreInOrder records
+
+-- Looking up by place and class.
+
+abbrev pub has_key : ℕ → ℕ → Record → Bool
+has_key place at r = r.place == place && class_of r == at
+
+-- the record of an index has a key
+abbrev pub HasKeyAt : ℕ → ℕ → List Record → ℕ → Type 0
+HasKeyAt place at records k =
+    (k < length records)
+    × ((d : Record) → ((slice_index_or records k d).place ≡ place) × (class_of (slice_index_or records k d) ≡ at))

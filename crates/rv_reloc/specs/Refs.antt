@@ -1,0 +1,26 @@
+-- The references of a file as lists.
+use Rattle.std.specs.Prelude.{ℕ, List, map}
+use Rattle.elf_image.specs.declared.elf.Elf.{Elf}
+use Rattle.elf_image.specs.code.FileCode.{AreRoles, AreCells}
+use Rattle.elf_image.specs.faults.FileFaults.{IsSound}
+use Rattle.elf_image.specs.file.ParsedFile.{IsElfOf}
+use Rattle.rv_reloc.specs.declared.parts.Part.{Part}
+use Rattle.rv_reloc.specs.declared.refs.Refs.{Refs}
+use Rattle.rv_reloc.specs.declared.sweep.Candidate.{Candidate}
+use Rattle.rv_reloc.specs.Sweep.{field, AreCounted}
+use Rattle.rv_reloc.specs.Whole.{AreWholeParts}
+
+-- it was read from a file, in which its reader found no fault
+pub record IsRead (elf : Elf) : Type 0 where
+  pub file : List ℕ
+  pub fields : IsElfOf file elf
+  pub sound : IsSound file
+
+pub record AreRefs (elf : Elf) (tabled : List (ℕ × ℕ)) (refs : Refs) : Type 0 where
+  pub roles : AreRoles elf refs.roles.items
+  pub cells : AreCells elf tabled refs.cells.items
+
+-- what is asked for its faults: the whole parts of a file of which some ranges have exception tables, and its cells
+pub record AreAsked (elf : Elf) (tabled : List (ℕ × ℕ)) (wholes : List Part) (counted : List Candidate) : Type 0 where
+  pub wholes_are : AreWholeParts elf tabled wholes
+  pub counted_are : AreCounted elf tabled (map field counted)

@@ -1,0 +1,107 @@
+// Relocations for the parts of absolute addresses.
+ghost use Rattle.std.specs.Prelude.{◌≡◌, ◌↔◌, ℕ, pos, IfSome, IsTrue, Some, Contains};
+ghost use Rattle.rv_code.specs.isa.HiLo.{hi20, lo12};
+ghost use Rattle.elf_image.specs.code.FileCode.{AreStarts};
+ghost use Rattle.elf_image.specs.code.Relocations.{relocations, is_absolute};
+ghost use Rattle.elf_image.specs.code.Roles.{AbsoluteTo};
+ghost use Rattle.elf_image.specs.faults.ReferenceFaults.{HasAbsolute, IsBadAbsolute};
+ghost use Rattle.rv_reloc.specs.Instructions.{HasPart};
+ghost use Rattle.rv_reloc.specs.Parts.{AreCodeParts};
+ghost use Rattle.rv_reloc.specs.Records.{seen};
+
+use crate::code::{full_at, is_start};
+use crate::instructions::lui_of;
+use crate::labels::label;
+use crate::lows::lower_immediate;
+use crate::parts::Part;
+use crate::records::Record;
+use crate::targets::natural;
+use crate::types::is_absolute;
+use elf_image::Elf;
+use elf_image::relocation::R_RISCV_HI20;
+use rv_code::Inst;
+
+// The part of an address that a LUI has.
+fn hi20(address: u64) -> i64
+    ensures { result ≡ hi20 (pos address) }
+{
+    ((address as i128 + 0x800) >> 12) as i64
+}
+
+// The part of an address that the instruction after it has.
+fn lo12(address: u64) -> i64
+    ensures { result ≡ lo12 (pos address) }
+{
+    (address as i128 - 4096 * hi20(address) as i128) as i64
+}
+
+/// The code address of which a relocation for a part of an address speaks.
+pub fn absolute_target(elf: &Elf, starts: &[u64], relocation: &Record) -> Option<u64>
+    requires starts { AreStarts elf.now starts.now }
+    requires counts { Contains (relocations elf.now) (seen relocation.now) }
+    ensures there { IfSome result (AbsoluteTo elf.now (seen relocation.now)) }
+    ensures only { (target : ℕ) → AbsoluteTo elf.now (seen relocation.now) target → result ≡ Some target }
+{
+    match natural(label(elf, relocation)) {
+        Some(target) => {
+            if is_start(starts, target) {
+                Some(target)
+            } else {
+                None
+            }
+        }
+        None => None,
+    }
+}
+
+// Whether an instruction has the part of an address for which a type of relocation stands.
+fn has_part(kind: u32, inst: &Inst, target: u64) -> bool
+    ensures { IsTrue result ↔ HasPart kind inst.now target }
+{
+    if kind == R_RISCV_HI20 {
+        match lui_of(inst) {
+            Some(upper) => upper.imm == hi20(target),
+            None => false,
+        }
+    } else {
+        match lower_immediate(kind, inst) {
+            Some(imm) => imm == lo12(target),
+            None => false,
+        }
+    }
+}
+
+/// Whether a relocation is on an instruction with its part of an address.
+pub fn has_absolute(
+    elf: &Elf,
+    starts: &[u64],
+    parts: &[Part],
+    relocation: &Record,
+    target: u64,
+) -> bool
+    requires starts { AreStarts elf.now starts.now }
+    requires parts { AreCodeParts elf.now parts.now }
+    requires kind { IsTrue (is_absolute relocation.now.kind) }
+    ensures { IsTrue result ↔ HasAbsolute elf.now (seen relocation.now) target }
+{
+    match full_at(elf, starts, parts, relocation.place) {
+        Some(inst) => has_part(relocation.kind, &inst, target),
+        None => false,
+    }
+}
+
+/// Whether a relocation for a part of a code address is not on its instruction, or the part there is another one.
+pub fn is_bad_absolute(elf: &Elf, starts: &[u64], parts: &[Part], relocation: &Record) -> bool
+    requires starts { AreStarts elf.now starts.now }
+    requires parts { AreCodeParts elf.now parts.now }
+    requires counts { Contains (relocations elf.now) (seen relocation.now) }
+    ensures { IsTrue result ↔ IsBadAbsolute elf.now (seen relocation.now) }
+{
+    if !is_absolute(relocation.kind) {
+        return false;
+    }
+    match absolute_target(elf, starts, relocation) {
+        Some(target) => !has_absolute(elf, starts, parts, relocation, target),
+        None => false,
+    }
+}

@@ -1,0 +1,98 @@
+// Entries of the global offset table that don't hold the labels that relocations say they hold.
+ghost use Rattle.std.specs.Prelude.{◌↔◌, IsTrue};
+ghost use Rattle.elf_image.specs.code.FileCode.{AreStarts};
+ghost use Rattle.elf_image.specs.code.Relocations.{HasRelocation};
+ghost use Rattle.elf_image.specs.faults.LowestPlace.{IsLowest};
+ghost use Rattle.rv_reloc.specs.BadEntries.{MissesLabel, NamesBadEntry, HasBadEntry};
+ghost use Rattle.rv_reloc.specs.Loaded.{IsLow};
+ghost use Rattle.rv_reloc.specs.Lows.{AreLows};
+ghost use Rattle.rv_reloc.specs.Parts.{AreCodeParts};
+ghost use Rattle.rv_reloc.specs.Places.{IsPlaceOf};
+ghost use Rattle.rv_reloc.specs.Slots.{AreSlotLabels};
+
+use crate::loaded::loaded_number;
+use crate::lows::Low;
+use crate::pairs::low_target;
+use crate::parts::Part;
+use crate::slots::{SlotLabel, has_label_at, has_other_label};
+use crate::targets::address_of;
+use elf_image::Elf;
+use elf_image::lowest::{lower, place_if};
+
+// Whether the entry at an address, which the AUIPC at `hi` names, is to hold a label that isn't there.
+fn misses_label(elf: &Elf, labels: &[SlotLabel], hi: u64, entry: u64) -> bool
+    requires low { IsLow elf.now }
+    requires labels { AreSlotLabels elf.now labels.now }
+    ensures { IsTrue result ↔ MissesLabel elf.now hi entry }
+{
+    match loaded_number(elf, entry, 8) {
+        Some(number) => has_other_label(labels, hi, number),
+        None => has_label_at(labels, hi),
+    }
+}
+
+// Whether a lower part and its AUIPC name such an entry.
+fn names_bad_entry(
+    elf: &Elf,
+    starts: &[u64],
+    parts: &[Part],
+    labels: &[SlotLabel],
+    low: &Low,
+) -> bool
+    requires low { IsLow elf.now }
+    requires starts { AreStarts elf.now starts.now }
+    requires parts { AreCodeParts elf.now parts.now }
+    requires labels { AreSlotLabels elf.now labels.now }
+    ensures { IsTrue result ↔ NamesBadEntry elf.now low.now }
+{
+    match low_target(elf, starts, parts, low) {
+        Some(target) => match address_of(target) {
+            Some(entry) => misses_label(elf, labels, low.hi, entry),
+            None => false,
+        },
+        None => false,
+    }
+}
+
+// The lowest AUIPC of a lower part that names such an entry with it.
+fn lowest_of_lows(
+    elf: &Elf,
+    starts: &[u64],
+    parts: &[Part],
+    labels: &[SlotLabel],
+    lows: &[Low],
+) -> Option<u64>
+    requires low { IsLow elf.now }
+    requires starts { AreStarts elf.now starts.now }
+    requires parts { AreCodeParts elf.now parts.now }
+    requires labels { AreSlotLabels elf.now labels.now }
+    ensures { IsLowest (IsPlaceOf (λ l. l.hi) (NamesBadEntry elf.now) lows.now) result }
+{
+    let mut lowest = None;
+    for low in lows {
+        lowest = lower(
+            lowest,
+            place_if(names_bad_entry(elf, starts, parts, labels, low), low.hi),
+        );
+    }
+    lowest
+}
+
+/// The lowest place of a relocation for an entry of the global offset table that doesn't hold its label. Entries are asked
+/// once for each lower part, whatever the relocations of its AUIPC.
+pub fn lowest_bad_entry(
+    elf: &Elf,
+    starts: &[u64],
+    parts: &[Part],
+    labels: &[SlotLabel],
+    lows: &[Low],
+) -> Option<u64>
+    requires low { IsLow elf.now }
+    requires starts { AreStarts elf.now starts.now }
+    requires parts { AreCodeParts elf.now parts.now }
+    requires labels { AreSlotLabels elf.now labels.now }
+    requires lows { AreLows elf.now lows.now }
+    ensures { IsLowest (HasRelocation elf.now (HasBadEntry elf.now)) result }
+{
+    lowest_of_lows(elf, starts, parts, labels, lows)
+}

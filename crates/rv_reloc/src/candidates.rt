@@ -1,0 +1,259 @@
+// The fields that can be cells.
+ghost use Rattle.std.specs.Prelude.{◌≡◌, ◌↔◌, ℕ, ℤ, ◌+◌, ◌<◌, ◌≤◌, ◌++◌, ◌^◌, IsTrue, IsSomeAnd, IfSome, IfOk, OnOk, OnSome, All, List, Contains, Some, map, option_map};
+ghost use Rattle.std.specs.Option.{option_to_list};
+ghost use Rattle.elf_image.specs.code.Cells.{Field, address_width};
+ghost use Rattle.elf_image.specs.code.FileCode.{AreStarts};
+ghost use Rattle.elf_image.specs.memory.LoadedBytes.{file_offset, offset_in, IsInHeaders};
+ghost use Rattle.rv_reloc.specs.Candidates.{AreFree, IsFreeByte, IsCodeField, IsDifferenceField, IsCellField, IsFieldOf, cell_bytes};
+ghost use Rattle.rv_reloc.specs.Found.{AreFound};
+ghost use Rattle.rv_reloc.specs.Parts.{AreApart};
+ghost use Rattle.rv_reloc.specs.Records.{AreRecords, seen};
+ghost use Rattle.rv_reloc.specs.Whole.{AreWholeParts};
+ghost use Rattle.elf_image.specs.code.Relocations.{relocations};
+ghost use Rattle.rv_reloc.specs.Loaded.{IsLow};
+ghost use Rattle.rv_reloc.specs.Sweep.{field};
+
+use crate::code::is_start;
+use crate::differences::{Difference, crosses, difference_of};
+use crate::labels::{Width, can_be_cell};
+use crate::loaded::loaded_number;
+use crate::parts::Part;
+use crate::records::Record;
+use crate::sweep::{Candidate, Content};
+use crate::types::is_address;
+use elf_image::relocation::R_RISCV_32;
+use elf_image::segment::PHDR_SIZE;
+use elf_image::{Elf, Segment};
+use rb_bytes::fault::NoMemory;
+use std::alloc::Global;
+
+/// The end of the addresses at which a file may be loaded.
+const ADDRESS_END: u64 = 0x7fff0000;
+
+/// The size of the header of a file.
+const HEADER_SIZE: u128 = 64;
+
+// Where in the file the byte at an address of a segment stands, if it comes from there.
+fn offset_in(address: u64, segment: &Segment) -> Option<u128>
+    requires { segment.now.vaddr ≤ address }
+    ensures value { result ≡ offset_in address segment.now }
+    ensures below { IfSome result (λ offset. offset < 2 ^ 65) }
+{
+    let place = address - segment.vaddr;
+    if place < segment.filesz {
+        Some(segment.offset as u128 + place as u128)
+    } else {
+        None
+    }
+}
+
+fn file_offset(elf: &Elf, address: u64) -> Option<u128>
+    ensures value { result ≡ file_offset elf.now.segments.items address }
+    ensures below { IfSome result (λ offset. offset < 2 ^ 65) }
+{
+    match elf.segment_at(address) {
+        Some(segment) => offset_in(address, segment),
+        None => None,
+    }
+}
+
+fn is_in_headers(elf: &Elf, offset: u128) -> bool
+    requires { offset < 2 ^ 65 }
+    ensures { IsTrue result ↔ IsInHeaders elf.now offset }
+{
+    let table = elf.phoff as u128;
+    offset < HEADER_SIZE
+        || (table <= offset && offset < table + PHDR_SIZE as u128 * elf.segments.len() as u128)
+}
+
+fn is_free_byte(elf: &Elf, address: u64) -> bool
+    ensures { IsTrue result ↔ IsFreeByte elf.now address }
+{
+    match file_offset(elf, address) {
+        Some(offset) => !is_in_headers(elf, offset),
+        None => false,
+    }
+}
+
+/// Whether all bytes of a field come from the file, and none is one of its headers.
+pub fn are_free(elf: &Elf, place: u64, width: u8) -> bool
+    requires low { IsLow elf.now }
+    requires width { 0 < width }
+    ensures { IsTrue result ↔ AreFree elf.now place width }
+{
+    if place >= ADDRESS_END {
+        return false;
+    }
+    for index in 0..width {
+        if !is_free_byte(elf, place + index as u64) {
+            return false;
+        }
+    }
+    true
+}
+
+/// The field of so many bytes at a place, if it holds a code address and can be a cell.
+pub fn code_field(elf: &Elf, starts: &[u64], place: u64, width: u8) -> Option<Candidate>
+    requires low { IsLow elf.now }
+    requires starts { AreStarts elf.now starts.now }
+    requires width { 0 < width }
+    requires bound { width ≤ 8 }
+    ensures is { IfSome (option_map field result) (IsCodeField elf.now place width) }
+    ensures only { (f : Field) → IsCodeField elf.now place width f → option_map field result ≡ Some f }
+{
+    match loaded_number(elf, place, width) {
+        Some(to) => {
+            if is_start(starts, to) && are_free(elf, place, width) {
+                Some(Candidate {
+                    place,
+                    width,
+                    content: Content::Address { to },
+                })
+            } else {
+                None
+            }
+        }
+        None => None,
+    }
+}
+
+pub fn address_width(kind: u32) -> u8
+    ensures { result ≡ address_width kind }
+{
+    if kind == R_RISCV_32 { 4 } else { 8 }
+}
+
+// The bytes of a field that can be a cell, by the width of a difference.
+fn cell_bytes(width: Width) -> Option<u8>
+    ensures { result ≡ cell_bytes width }
+{
+    match width {
+        Width::Bits6 => None,
+        Width::Bits8 => None,
+        Width::Bits16 => None,
+        Width::Bits32 => Some(4),
+        Width::Bits64 => Some(8),
+        Width::Uleb128 => None,
+    }
+}
+
+// The field of a difference, if it can be a cell.
+fn cell_field(
+    elf: &Elf,
+    starts: &[u64],
+    wholes: &[Part],
+    place: u64,
+    difference: &Difference,
+) -> Option<Candidate>
+    requires low { IsLow elf.now }
+    requires starts { AreStarts elf.now starts.now }
+    requires wholes { AreApart wholes.now }
+    ensures is { (tabled : List (ℕ × ℕ)) → AreWholeParts elf.now tabled wholes.now → IfSome (option_map field result) (IsCellField elf.now tabled place difference.now) }
+    ensures only { (tabled : List (ℕ × ℕ)) (f : Field) → AreWholeParts elf.now tabled wholes.now → IsCellField elf.now tabled place difference.now f → option_map field result ≡ Some f }
+{
+    if !crosses(elf, starts, wholes, difference) {
+        return None;
+    }
+    match cell_bytes(difference.width) {
+        Some(width) => {
+            if !are_free(elf, place, width) {
+                return None;
+            }
+            Some(Candidate {
+                place,
+                width,
+                content: Content::Difference {
+                    to: difference.to,
+                    from: difference.from,
+                },
+            })
+        }
+        None => None,
+    }
+}
+
+// The difference in a relocation's field, if that can be a cell.
+fn difference_field(
+    elf: &Elf,
+    starts: &[u64],
+    wholes: &[Part],
+    records: &[Record],
+    relocation: &Record,
+) -> Option<Candidate>
+    requires low { IsLow elf.now }
+    requires starts { AreStarts elf.now starts.now }
+    requires wholes { AreApart wholes.now }
+    requires records { AreRecords elf.now records.now }
+    requires listed { Contains (relocations elf.now) (seen relocation.now) }
+    ensures is { (tabled : List (ℕ × ℕ)) → AreWholeParts elf.now tabled wholes.now → IfSome (option_map field result) (IsDifferenceField elf.now tabled (seen relocation.now)) }
+    ensures only { (tabled : List (ℕ × ℕ)) (f : Field) → AreWholeParts elf.now tabled wholes.now → IsDifferenceField elf.now tabled (seen relocation.now) f → option_map field result ≡ Some f }
+{
+    if !can_be_cell(relocation) {
+        return None;
+    }
+    match difference_of(elf, records, relocation) {
+        Some(difference) => cell_field(elf, starts, wholes, relocation.place, &difference),
+        None => None,
+    }
+}
+
+// A relocation's field, if it can be a cell.
+fn field_of(
+    elf: &Elf,
+    starts: &[u64],
+    wholes: &[Part],
+    records: &[Record],
+    relocation: &Record,
+) -> Option<Candidate>
+    requires low { IsLow elf.now }
+    requires starts { AreStarts elf.now starts.now }
+    requires wholes { AreApart wholes.now }
+    requires records { AreRecords elf.now records.now }
+    requires listed { Contains (relocations elf.now) (seen relocation.now) }
+    ensures is { (tabled : List (ℕ × ℕ)) → AreWholeParts elf.now tabled wholes.now → IfSome (option_map field result) (IsFieldOf elf.now tabled (seen relocation.now)) }
+    ensures only { (tabled : List (ℕ × ℕ)) (f : Field) → AreWholeParts elf.now tabled wholes.now → IsFieldOf elf.now tabled (seen relocation.now) f → option_map field result ≡ Some f }
+{
+    if is_address(relocation.kind) {
+        return code_field(
+            elf,
+            starts,
+            relocation.place,
+            address_width(relocation.kind),
+        );
+    }
+    difference_field(elf, starts, wholes, records, relocation)
+}
+
+/// Appends a field, if there is one.
+pub fn push_field(fields: &mut Vec<Candidate>, found: Option<Candidate>) -> Result<(), NoMemory>
+    ensures { OnOk result (map field fields.new.items ≡ map field fields.old.items ++ option_to_list (option_map field found)) }
+{
+    if let Some(found) = found {
+        fields.push(found)?;
+    }
+    Ok(())
+}
+
+/// The fields of relocations that can be cells.
+pub fn fields_of(
+    alloc: Global,
+    elf: &Elf,
+    starts: &[u64],
+    wholes: &[Part],
+    records: &[Record],
+) -> Result<Vec<Candidate>, NoMemory>
+    requires low { IsLow elf.now }
+    requires starts { AreStarts elf.now starts.now }
+    requires wholes { AreApart wholes.now }
+    requires records { AreRecords elf.now records.now }
+    ensures { (tabled : List (ℕ × ℕ)) → AreWholeParts elf.now tabled wholes.now → IfOk result (λ fields. AreFound (λ r f. IsFieldOf elf.now tabled (seen r) f) records.now (map field fields.items)) }
+{
+    let mut fields = Vec::new(alloc);
+    for relocation in records {
+        push_field(
+            &mut fields,
+            field_of(elf, starts, wholes, records, relocation),
+        )?;
+    }
+    Ok(fields)
+}

@@ -1,0 +1,136 @@
+// Code cells: the fields that count, of those that can be cells.
+ghost use Rattle.std.specs.Prelude.{◌≡◌, ◌↔◌, ℕ, pos, List, IfOk, OnOk, IfNone, IsTrue, All, Contains, map};
+ghost use Rattle.elf_image.specs.declared.elf.Elf as file;
+ghost use Rattle.elf_image.specs.code.FileCode.{AreCells, AreStarts};
+ghost use Rattle.elf_image.specs.faults.LowestPlace.{IsLowest};
+ghost use Rattle.elf_image.specs.faults.ReferenceFaults.{HasBadLabel, IsAddress};
+ghost use Rattle.rv_reloc.specs.Cells.{IsBadField, HasAddresses, cell_of};
+ghost use Rattle.rv_reloc.specs.Loaded.{IsLow};
+ghost use Rattle.rv_reloc.specs.Lows.{AreLows};
+ghost use Rattle.rv_reloc.specs.Parts.{AreApart, AreCodeParts};
+ghost use Rattle.rv_reloc.specs.Places.{IsPlaceOf};
+ghost use Rattle.rv_reloc.specs.Records.{AreRecords};
+ghost use Rattle.rv_reloc.specs.Slots.{AreSlotLabels};
+ghost use Rattle.rv_reloc.specs.Whole.{AreWholeParts};
+ghost use Rattle.rv_reloc.specs.Sweep.{field, AreCounted};
+
+use crate::candidates::fields_of;
+use crate::got_fields::got_fields;
+use crate::lows::Low;
+use crate::parts::Part;
+use crate::records::Record;
+use crate::slots::SlotLabel;
+use crate::sweep::{Candidate, Content, sort_fields, sweep};
+use elf_image::Elf;
+use elf_image::lowest::{lower, place_if};
+use rb_bytes::fault::NoMemory;
+use rv_code::cell::{CellKind, CodeCell};
+use std::alloc::Global;
+
+/// The end of the addresses at which a file may be loaded, which a label may be too.
+const ADDRESS_END: i128 = 0x7fff0000;
+
+// Whether a label is an address.
+fn is_address(label: i128) -> bool
+    ensures { IsTrue result ↔ IsAddress label }
+{
+    0 <= label && label <= ADDRESS_END
+}
+
+// Whether a field holds a difference with a label that is no address.
+fn is_bad(field: &Candidate) -> bool
+    ensures { IsTrue result ↔ IsBadField field.now }
+{
+    match field.content {
+        Content::Address { .. } => false,
+        Content::Difference { to, from } => {
+            if !is_address(to) {
+                return true;
+            }
+            !is_address(from)
+        }
+    }
+}
+
+fn lowest_bad_field(counted: &[Candidate]) -> Option<u64>
+    ensures { IsLowest (IsPlaceOf (λ f. f.place) IsBadField counted.now) result }
+{
+    let mut lowest = None;
+    for field in counted {
+        lowest = lower(lowest, place_if(is_bad(field), field.place));
+    }
+    lowest
+}
+
+/// The lowest place of a cell with a difference of which a label is no address. Without one, all labels are.
+pub fn lowest_bad_label(counted: &[Candidate]) -> Option<u64>
+    ensures lowest { (elf : file.Elf) (tabled : List (ℕ × ℕ)) → AreCounted elf tabled (map field counted.now) → IsLowest (HasBadLabel elf tabled) result }
+    ensures none { IfNone result (All HasAddresses counted.now) }
+{
+    lowest_bad_field(counted)
+}
+
+fn address(label: i128) -> u64
+    requires { IsAddress label }
+    ensures { label ≡ pos result }
+{
+    label as u64
+}
+
+fn cell_of(field: &Candidate) -> CodeCell
+    requires { HasAddresses field.now }
+    ensures { result ≡ cell_of field.now }
+{
+    let kind = match field.content {
+        Content::Address { to } => CellKind::Abs { to },
+        Content::Difference { to, from } => CellKind::Diff {
+            to: address(to),
+            from: address(from),
+        },
+    };
+    CodeCell {
+        addr: field.place,
+        width: field.width,
+        kind,
+    }
+}
+
+/// The code cells, of the fields that count.
+pub fn cells(alloc: Global, counted: &[Candidate]) -> Result<Vec<CodeCell>, NoMemory>
+    requires { All HasAddresses counted.now }
+    ensures { (elf : file.Elf) (tabled : List (ℕ × ℕ)) → AreCounted elf tabled (map field counted.now) → IfOk result (λ cells. AreCells elf tabled cells.items) }
+{
+    let mut cells = Vec::new(alloc);
+    for field in counted {
+        cells.push(cell_of(field))?;
+    }
+    Ok(cells)
+}
+
+/// The fields that count, of all that can be cells, by address. `starts`, `parts`, `wholes`, `records`, `labels` and `lows` are
+/// those of the file.
+pub fn counted_fields(
+    alloc: Global,
+    elf: &Elf,
+    starts: &[u64],
+    parts: &[Part],
+    wholes: &[Part],
+    records: &[Record],
+    labels: &[SlotLabel],
+    lows: &[Low],
+) -> Result<Vec<Candidate>, NoMemory>
+    requires low { IsLow elf.now }
+    requires starts { AreStarts elf.now starts.now }
+    requires parts { AreCodeParts elf.now parts.now }
+    requires wholes { AreApart wholes.now }
+    requires records { AreRecords elf.now records.now }
+    requires labels { AreSlotLabels elf.now labels.now }
+    requires lows { AreLows elf.now lows.now }
+    ensures { (tabled : List (ℕ × ℕ)) → AreWholeParts elf.now tabled wholes.now → IfOk result (λ counted. AreCounted elf.now tabled (map field counted.items)) }
+{
+    let mut fields = fields_of(alloc, elf, starts, wholes, records)?;
+    let slots = got_fields(alloc, elf, starts, parts, labels, lows)?;
+    fields.extend_from_slice(&slots)?;
+    sort_fields(&mut fields)?;
+    Ok(sweep(alloc, &fields)?)
+}

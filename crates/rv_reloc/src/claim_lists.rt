@@ -1,0 +1,136 @@
+// All claims to roles, and the roles that count.
+ghost use Rattle.std.specs.Prelude.{◌≡◌, ◌+◌, ◌++◌, ℕ, IfOk, OnOk, IfSome, IsSomeAnd, Contains, AllPairs, All};
+ghost use Rattle.std.specs.Option.{option_to_list};
+ghost use Rattle.std.specs.List.Sorted.{IsPermutation};
+ghost use Rattle.rv_code.specs.declared.placed.Role.{Role};
+ghost use Rattle.elf_image.specs.code.FileCode.{AreStarts, AreRoles};
+ghost use Rattle.elf_image.specs.code.Relocations.{Relocation, relocations};
+ghost use Rattle.elf_image.specs.code.Roles.{Claims};
+ghost use Rattle.elf_image.specs.faults.ReferenceFaults.{IsMisfit, IsLoMismatch};
+ghost use Rattle.rv_reloc.specs.Claimed.{IsClaimOf, IsClaimUpTo, AreClaimsOf, AreClaims};
+ghost use Rattle.rv_reloc.specs.Lows.{AreLows};
+ghost use Rattle.rv_reloc.specs.Parts.{AreCodeParts};
+ghost use Rattle.rv_reloc.specs.Records.{seen, AreRecords};
+
+use crate::claims::{absolute_claim, call_claim, call_low_claim, lower_claim, upper_claim};
+use crate::lows::Low;
+use crate::parts::Part;
+use crate::records::Record;
+use crate::roles::{Claim, first_roles};
+use crate::types::{is_absolute, is_call_pair, is_pcrel_hi, is_pcrel_lo};
+use elf_image::Elf;
+use rb_bytes::fault::NoMemory;
+use rv_code::Role;
+use std::alloc::Global;
+
+// The claim of a relocation to the instruction at its place.
+fn claim_at(
+    elf: &Elf,
+    starts: &[u64],
+    parts: &[Part],
+    lows: &[Low],
+    relocation: &Record,
+) -> Option<Claim>
+    requires starts { AreStarts elf.now starts.now }
+    requires parts { AreCodeParts elf.now parts.now }
+    requires lows { AreLows elf.now lows.now }
+    requires counts { Contains (relocations elf.now) (seen relocation.now) }
+    requires fits { (r : Relocation) → Contains (relocations elf.now) r → IsMisfit elf.now r → ⊥ }
+    requires alike { (place : ℕ) → IsLoMismatch elf.now place → ⊥ }
+    ensures is { IfSome result (IsClaimOf elf.now (seen relocation.now) relocation.now.place) }
+    ensures each { (key : ℕ) (role : Role) → Claims elf.now (seen relocation.now) relocation.now.place key role → IsSomeAnd result (λ c. c.key ≡ key) }
+{
+    if is_call_pair(relocation.kind) {
+        return call_claim(elf, starts, parts, relocation);
+    }
+    if is_pcrel_hi(relocation.kind) {
+        return upper_claim(elf, starts, parts, lows, relocation);
+    }
+    if is_pcrel_lo(relocation.kind) {
+        return lower_claim(elf, starts, parts, relocation);
+    }
+    if is_absolute(relocation.kind) {
+        return absolute_claim(elf, starts, parts, relocation);
+    }
+    None
+}
+
+// The claim of a relocation to the instruction after that at its place.
+fn claim_after(elf: &Elf, starts: &[u64], parts: &[Part], relocation: &Record) -> Option<Claim>
+    requires starts { AreStarts elf.now starts.now }
+    requires parts { AreCodeParts elf.now parts.now }
+    requires counts { Contains (relocations elf.now) (seen relocation.now) }
+    requires fits { (r : Relocation) → Contains (relocations elf.now) r → IsMisfit elf.now r → ⊥ }
+    ensures is { IfSome result (IsClaimOf elf.now (seen relocation.now) (relocation.now.place + 4)) }
+    ensures each { (key : ℕ) (role : Role) → Claims elf.now (seen relocation.now) (relocation.now.place + 4) key role → IsSomeAnd result (λ c. c.key ≡ key) }
+{
+    if !is_call_pair(relocation.kind) {
+        return None;
+    }
+    call_low_claim(elf, starts, parts, relocation)
+}
+
+fn push_claim(claims: &mut Vec<Claim>, claim: Option<Claim>) -> Result<(), NoMemory>
+    ensures { OnOk result (claims.new.items ≡ claims.old.items ++ option_to_list claim) }
+{
+    if let Some(claim) = claim {
+        claims.push(claim)?;
+    }
+    Ok(())
+}
+
+// The claims of relocations, one relocation after another.
+fn read_claims(
+    alloc: Global,
+    elf: &Elf,
+    starts: &[u64],
+    parts: &[Part],
+    lows: &[Low],
+    records: &[Record],
+) -> Result<Vec<Claim>, NoMemory>
+    requires starts { AreStarts elf.now starts.now }
+    requires parts { AreCodeParts elf.now parts.now }
+    requires lows { AreLows elf.now lows.now }
+    requires records { AreRecords elf.now records.now }
+    requires fits { (r : Relocation) → Contains (relocations elf.now) r → IsMisfit elf.now r → ⊥ }
+    requires alike { (place : ℕ) → IsLoMismatch elf.now place → ⊥ }
+    ensures { IfOk result (λ claims. AreClaimsOf elf.now records.now claims.items) }
+{
+    let mut claims = Vec::new(alloc);
+    for relocation in records {
+        push_claim(&mut claims, claim_at(elf, starts, parts, lows, relocation))?;
+        push_claim(&mut claims, claim_after(elf, starts, parts, relocation))?;
+    }
+    Ok(claims)
+}
+
+// Puts claims in the order of their addresses, and those to one in the order of types and keys.
+fn sort_claims(claims: &mut Vec<Claim>) -> Result<(), NoMemory>
+    ensures permutation { IsPermutation claims.old.items claims.new.items }
+    ensures ordered { OnOk result (AllPairs IsClaimUpTo claims.new.items) }
+{
+    claims.sort_by_key(|c| (c.at, (c.kind, c.key)))?;
+    Ok(())
+}
+
+/// The roles of a file whose relocations fit, and in which the lower parts of each AUIPC are alike.
+pub fn roles(
+    alloc: Global,
+    elf: &Elf,
+    starts: &[u64],
+    parts: &[Part],
+    lows: &[Low],
+    records: &[Record],
+) -> Result<Vec<(u64, Role)>, NoMemory>
+    requires starts { AreStarts elf.now starts.now }
+    requires parts { AreCodeParts elf.now parts.now }
+    requires lows { AreLows elf.now lows.now }
+    requires records { AreRecords elf.now records.now }
+    requires fits { (r : Relocation) → Contains (relocations elf.now) r → IsMisfit elf.now r → ⊥ }
+    requires alike { (place : ℕ) → IsLoMismatch elf.now place → ⊥ }
+    ensures { IfOk result (λ roles. AreRoles elf.now roles.items) }
+{
+    let mut claims = read_claims(alloc, elf, starts, parts, lows, records)?;
+    sort_claims(&mut claims)?;
+    first_roles(alloc, &claims)
+}

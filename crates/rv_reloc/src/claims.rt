@@ -1,0 +1,175 @@
+// The claims to roles that relocations make.
+ghost use Rattle.std.specs.Prelude.{◌≡◌, ◌+◌, ℕ, IfSome, IsSomeAnd, IsTrue, Contains};
+ghost use Rattle.rv_code.specs.declared.placed.Role.{Role};
+ghost use Rattle.elf_image.specs.code.FileCode.{AreStarts};
+ghost use Rattle.elf_image.specs.code.Relocations.{Relocation, relocations, is_call_pair, is_pcrel_hi, is_pcrel_lo, is_absolute};
+ghost use Rattle.elf_image.specs.code.Roles.{Claims};
+ghost use Rattle.elf_image.specs.faults.ReferenceFaults.{IsMisfit, IsLoMismatch};
+ghost use Rattle.rv_reloc.specs.Claimed.{IsClaimOf, absolute_role};
+ghost use Rattle.rv_reloc.specs.Lows.{AreLows};
+ghost use Rattle.rv_reloc.specs.Parts.{AreCodeParts};
+ghost use Rattle.rv_reloc.specs.Records.{seen};
+
+use crate::absolute::{absolute_target, has_absolute};
+use crate::calls::call_at;
+use crate::lows::{Low, first_low, low_of};
+use crate::pairs::low_address;
+use crate::parts::Part;
+use crate::records::Record;
+use crate::roles::Claim;
+use elf_image::Elf;
+use elf_image::relocation::R_RISCV_HI20;
+use rv_code::Role;
+
+/// The claim of a call to its AUIPC.
+pub fn call_claim(elf: &Elf, starts: &[u64], parts: &[Part], relocation: &Record) -> Option<Claim>
+    requires starts { AreStarts elf.now starts.now }
+    requires parts { AreCodeParts elf.now parts.now }
+    requires counts { Contains (relocations elf.now) (seen relocation.now) }
+    requires kind { IsTrue (is_call_pair relocation.now.kind) }
+    requires fits { IsMisfit elf.now (seen relocation.now) → ⊥ }
+    ensures is { IfSome result (IsClaimOf elf.now (seen relocation.now) relocation.now.place) }
+    ensures each { (key : ℕ) (role : Role) → Claims elf.now (seen relocation.now) relocation.now.place key role → IsSomeAnd result (λ c. c.key ≡ key) }
+{
+    match call_at(elf, starts, parts, relocation.place) {
+        Some(call) => match call.named(relocation.place) {
+            Some(target) => Some(Claim {
+                at: relocation.place,
+                kind: relocation.kind,
+                key: relocation.place,
+                role: Role::CallHi { target },
+            }),
+            None => None,
+        },
+        None => None,
+    }
+}
+
+/// The claim of a call to its JALR.
+pub fn call_low_claim(
+    elf: &Elf,
+    starts: &[u64],
+    parts: &[Part],
+    relocation: &Record,
+) -> Option<Claim>
+    requires starts { AreStarts elf.now starts.now }
+    requires parts { AreCodeParts elf.now parts.now }
+    requires counts { Contains (relocations elf.now) (seen relocation.now) }
+    requires kind { IsTrue (is_call_pair relocation.now.kind) }
+    requires fits { IsMisfit elf.now (seen relocation.now) → ⊥ }
+    ensures is { IfSome result (IsClaimOf elf.now (seen relocation.now) (relocation.now.place + 4)) }
+    ensures each { (key : ℕ) (role : Role) → Claims elf.now (seen relocation.now) (relocation.now.place + 4) key role → IsSomeAnd result (λ c. c.key ≡ key) }
+{
+    match call_at(elf, starts, parts, relocation.place) {
+        Some(call) => match call.target(relocation.place) {
+            Some(target) => Some(Claim {
+                at: relocation.place + 4,
+                kind: relocation.kind,
+                key: relocation.place,
+                role: Role::CallLo {
+                    hi: relocation.place,
+                    target,
+                },
+            }),
+            None => None,
+        },
+        None => None,
+    }
+}
+
+/// The claim of an upper part that is not a call's to its AUIPC. All lower parts for it are the same.
+pub fn upper_claim(
+    elf: &Elf,
+    starts: &[u64],
+    parts: &[Part],
+    lows: &[Low],
+    relocation: &Record,
+) -> Option<Claim>
+    requires starts { AreStarts elf.now starts.now }
+    requires parts { AreCodeParts elf.now parts.now }
+    requires lows { AreLows elf.now lows.now }
+    requires counts { Contains (relocations elf.now) (seen relocation.now) }
+    requires kind { IsTrue (is_pcrel_hi relocation.now.kind) }
+    requires fits { IsMisfit elf.now (seen relocation.now) → ⊥ }
+    requires alike { (place : ℕ) → IsLoMismatch elf.now place → ⊥ }
+    ensures is { IfSome result (IsClaimOf elf.now (seen relocation.now) relocation.now.place) }
+    ensures each { (key : ℕ) (role : Role) → Claims elf.now (seen relocation.now) relocation.now.place key role → IsSomeAnd result (λ c. c.key ≡ key) }
+{
+    match first_low(lows, relocation.place) {
+        Some(low) => match low_address(elf, starts, parts, &low) {
+            Some(target) => Some(Claim {
+                at: relocation.place,
+                kind: relocation.kind,
+                key: relocation.place,
+                role: Role::Hi { target },
+            }),
+            None => None,
+        },
+        None => None,
+    }
+}
+
+/// The claim of a lower part to its instruction.
+pub fn lower_claim(elf: &Elf, starts: &[u64], parts: &[Part], relocation: &Record) -> Option<Claim>
+    requires starts { AreStarts elf.now starts.now }
+    requires parts { AreCodeParts elf.now parts.now }
+    requires counts { Contains (relocations elf.now) (seen relocation.now) }
+    requires kind { IsTrue (is_pcrel_lo relocation.now.kind) }
+    requires fits { (r : Relocation) → Contains (relocations elf.now) r → IsMisfit elf.now r → ⊥ }
+    ensures is { IfSome result (IsClaimOf elf.now (seen relocation.now) relocation.now.place) }
+    ensures each { (key : ℕ) (role : Role) → Claims elf.now (seen relocation.now) relocation.now.place key role → IsSomeAnd result (λ c. c.key ≡ key) }
+{
+    match low_of(elf, starts, parts, relocation) {
+        Some(low) => match low_address(elf, starts, parts, &low) {
+            Some(target) => Some(Claim {
+                at: relocation.place,
+                kind: relocation.kind,
+                key: low.hi,
+                role: Role::Lo { hi: low.hi, target },
+            }),
+            None => None,
+        },
+        None => None,
+    }
+}
+
+fn absolute_role(kind: u32, target: u64) -> Role
+    ensures { result ≡ absolute_role kind target }
+{
+    if kind == R_RISCV_HI20 {
+        Role::AbsHi { target }
+    } else {
+        Role::AbsLo { target }
+    }
+}
+
+/// The claim of a part of an absolute code address to its instruction.
+pub fn absolute_claim(
+    elf: &Elf,
+    starts: &[u64],
+    parts: &[Part],
+    relocation: &Record,
+) -> Option<Claim>
+    requires starts { AreStarts elf.now starts.now }
+    requires parts { AreCodeParts elf.now parts.now }
+    requires counts { Contains (relocations elf.now) (seen relocation.now) }
+    requires kind { IsTrue (is_absolute relocation.now.kind) }
+    requires fits { IsMisfit elf.now (seen relocation.now) → ⊥ }
+    ensures is { IfSome result (IsClaimOf elf.now (seen relocation.now) relocation.now.place) }
+    ensures each { (key : ℕ) (role : Role) → Claims elf.now (seen relocation.now) relocation.now.place key role → IsSomeAnd result (λ c. c.key ≡ key) }
+{
+    match absolute_target(elf, starts, relocation) {
+        Some(target) => {
+            if !has_absolute(elf, starts, parts, relocation, target) {
+                return None;
+            }
+            Some(Claim {
+                at: relocation.place,
+                kind: relocation.kind,
+                key: target,
+                role: absolute_role(relocation.kind, target),
+            })
+        }
+        None => None,
+    }
+}

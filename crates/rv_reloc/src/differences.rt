@@ -1,0 +1,204 @@
+// Differences of labels, and which of them are at fault.
+ghost use Rattle.std.specs.Prelude.{◌≡◌, ◌↔◌, ◌⊎◌, Some, option_map, ℕ, ℤ, IsTrue, IfSome, IsSomeAnd, All, List, Contains, map};
+ghost use Rattle.elf_image.specs.declared.elf.Elf.{Elf};
+ghost use Rattle.elf_image.specs.code.Cells.{IsDifference, HasCodeLabel, IsInOneWhole};
+ghost use Rattle.elf_image.specs.code.FileCode.{AreStarts};
+ghost use Rattle.elf_image.specs.faults.LowestPlace.{IsLowest};
+ghost use Rattle.elf_image.specs.faults.ReferenceFaults.{IsBadDifference, IsNarrow, IsNarrowDiff, IsPaired};
+ghost use Rattle.elf_image.specs.code.Relocations as spec;
+ghost use Rattle.elf_image.specs.code.Relocations.{Relocation, relocations, plus_width, minus_width};
+ghost use Rattle.rv_reloc.specs.Differences.{IsDifferenceOf, IsTheDifference, HoldsOther, IsUnpaired};
+ghost use Rattle.rv_reloc.specs.Labels.{width_of};
+ghost use Rattle.rv_reloc.specs.Parts.{AreApart};
+ghost use Rattle.rv_reloc.specs.Whole.{AreWholeParts};
+ghost use Rattle.rv_reloc.specs.Loaded.{IsLow};
+ghost use Rattle.rv_reloc.specs.Records.{AreRecords, seen};
+ghost use Rattle.rv_reloc.specs.Tails.{IsKnown};
+
+use crate::fields::holds_difference;
+use crate::index::{only_minus, only_plus};
+use crate::labels::{
+    Width, can_be_cell, has_code_label, is_code_label, label, minus_width, plus_width,
+};
+use crate::parts::Part;
+use crate::records::Record;
+use crate::tails::Known;
+use crate::types::is_pc_difference;
+use crate::whole::in_one_whole;
+use elf_image::Elf;
+use elf_image::lowest::{lower, place_if};
+
+/// The difference of two labels.
+#[derive(Clone, Copy)]
+pub struct Difference {
+    pub width: Width,
+    pub to: i128,
+    pub from: i128,
+}
+
+// The difference of the labels that are added or set, and subtracted.
+fn labels_difference(
+    elf: &Elf,
+    records: &[Record],
+    relocation: &Record,
+    width: Width,
+) -> Option<Difference>
+    requires records { AreRecords elf.now records.now }
+    requires listed { Contains (relocations elf.now) (seen relocation.now) }
+    requires width { plus_width relocation.now.kind ≡ Some (width_of width) }
+    ensures is { IfSome result (IsDifferenceOf elf.now (seen relocation.now)) }
+    ensures only { (w : spec.Width) (to from : ℤ) → IsDifference elf.now (seen relocation.now) w to from → IsSomeAnd result (IsTheDifference w to from) }
+{
+    match only_plus(records, relocation.place, width) {
+        Some(_) => match only_minus(records, relocation.place, width) {
+            Some(minus) => Some(Difference {
+                width,
+                to: label(elf, relocation),
+                from: label(elf, &minus),
+            }),
+            None => None,
+        },
+        None => None,
+    }
+}
+
+/// The difference in the field of a relocation.
+pub fn difference_of(elf: &Elf, records: &[Record], relocation: &Record) -> Option<Difference>
+    requires records { AreRecords elf.now records.now }
+    requires listed { Contains (relocations elf.now) (seen relocation.now) }
+    ensures is { IfSome result (IsDifferenceOf elf.now (seen relocation.now)) }
+    ensures only { (w : spec.Width) (to from : ℤ) → IsDifference elf.now (seen relocation.now) w to from → IsSomeAnd result (IsTheDifference w to from) }
+{
+    if is_pc_difference(relocation.kind) {
+        return Some(Difference {
+            width: Width::Bits32,
+            to: label(elf, relocation),
+            from: relocation.place as i128,
+        });
+    }
+    match plus_width(relocation.kind) {
+        Some(width) => labels_difference(elf, records, relocation, width),
+        None => None,
+    }
+}
+
+// The width of a field to which a relocation adds a label, or from which it subtracts one.
+fn label_width(kind: u32) -> Option<Width>
+    ensures { (w : spec.Width) → (option_map width_of result ≡ Some w) ↔ ((plus_width kind ≡ Some w) ⊎ (minus_width kind ≡ Some w)) }
+{
+    match plus_width(kind) {
+        Some(width) => Some(width),
+        None => minus_width(kind),
+    }
+}
+
+fn is_paired(elf: &Elf, records: &[Record], place: u64, width: Width) -> bool
+    requires { AreRecords elf.now records.now }
+    ensures { IsTrue result ↔ IsPaired elf.now place (width_of width) }
+{
+    only_plus(records, place, width).is_some() && only_minus(records, place, width).is_some()
+}
+
+// Whether a relocation speaks of a code address, and isn't one of two that make a difference.
+fn is_unpaired(elf: &Elf, starts: &[u64], records: &[Record], relocation: &Record) -> bool
+    requires records { AreRecords elf.now records.now }
+    requires starts { AreStarts elf.now starts.now }
+    ensures { IsTrue result ↔ IsUnpaired elf.now (seen relocation.now) }
+{
+    match label_width(relocation.kind) {
+        Some(width) => {
+            if !is_code_label(elf, starts, label(elf, relocation)) {
+                return false;
+            }
+            !is_paired(elf, records, relocation.place, width)
+        }
+        None => false,
+    }
+}
+
+// Whether the field of a difference holds another number.
+fn is_other_number(elf: &Elf, known: &[Known], records: &[Record], relocation: &Record) -> bool
+    requires low { IsLow elf.now }
+    requires known { All (IsKnown elf.now) known.now }
+    requires records { AreRecords elf.now records.now }
+    requires listed { Contains (relocations elf.now) (seen relocation.now) }
+    ensures { IsTrue result ↔ HoldsOther elf.now (seen relocation.now) }
+{
+    match difference_of(elf, records, relocation) {
+        Some(difference) => {
+            let Difference { width, to, from } = difference;
+            !holds_difference(elf, known, relocation, width, to, from)
+        }
+        None => false,
+    }
+}
+
+/// Whether a relocation for a difference doesn't fit.
+pub fn is_bad_difference(
+    elf: &Elf,
+    starts: &[u64],
+    known: &[Known],
+    records: &[Record],
+    relocation: &Record,
+) -> bool
+    requires low { IsLow elf.now }
+    requires starts { AreStarts elf.now starts.now }
+    requires known { All (IsKnown elf.now) known.now }
+    requires records { AreRecords elf.now records.now }
+    requires listed { Contains (relocations elf.now) (seen relocation.now) }
+    ensures { IsTrue result ↔ IsBadDifference elf.now (seen relocation.now) }
+{
+    is_other_number(elf, known, records, relocation)
+        || is_unpaired(elf, starts, records, relocation)
+}
+
+/// Whether a relocation makes a difference with a code address that no cell can hold, and not of two labels of one whole
+/// part.
+pub fn is_narrow(
+    elf: &Elf,
+    starts: &[u64],
+    wholes: &[Part],
+    records: &[Record],
+    relocation: &Record,
+) -> bool
+    requires starts { AreStarts elf.now starts.now }
+    requires wholes { AreApart wholes.now }
+    requires records { AreRecords elf.now records.now }
+    requires listed { Contains (relocations elf.now) (seen relocation.now) }
+    ensures { (tabled : List (ℕ × ℕ)) → AreWholeParts elf.now tabled wholes.now → IsTrue result ↔ IsNarrow elf.now tabled (seen relocation.now) }
+{
+    if can_be_cell(relocation) {
+        return false;
+    }
+    match difference_of(elf, records, relocation) {
+        Some(difference) => crosses(elf, starts, wholes, &difference),
+        None => false,
+    }
+}
+
+/// Whether a difference has a code address, and isn't of two labels of one whole part.
+pub fn crosses(elf: &Elf, starts: &[u64], wholes: &[Part], difference: &Difference) -> bool
+    requires starts { AreStarts elf.now starts.now }
+    requires wholes { AreApart wholes.now }
+    ensures { (tabled : List (ℕ × ℕ)) → AreWholeParts elf.now tabled wholes.now → IsTrue result ↔ (HasCodeLabel elf.now difference.now.to difference.now.from × (IsInOneWhole elf.now tabled difference.now.to difference.now.from → ⊥)) }
+{
+    if !has_code_label(elf, starts, difference.to, difference.from) {
+        return false;
+    }
+    !in_one_whole(wholes, difference.to, difference.from)
+}
+
+/// The lowest place of a difference with a code address that no cell can hold, and not of two labels of one whole part.
+pub fn lowest_narrow(elf: &Elf, starts: &[u64], wholes: &[Part], records: &[Record]) -> Option<u64>
+    requires starts { AreStarts elf.now starts.now }
+    requires wholes { AreApart wholes.now }
+    requires records { AreRecords elf.now records.now }
+    ensures { (tabled : List (ℕ × ℕ)) → AreWholeParts elf.now tabled wholes.now → IsLowest (IsNarrowDiff elf.now tabled) result }
+{
+    let mut lowest = None;
+    for relocation in records {
+        let narrow = is_narrow(elf, starts, wholes, records, relocation);
+        lowest = lower(lowest, place_if(narrow, relocation.place));
+    }
+    lowest
+}

@@ -1,0 +1,55 @@
+// The faults of a file's references, one after another.
+ghost use Rattle.std.specs.Prelude.{ℕ, List, OnOk, IfErr};
+ghost use Rattle.elf_image.specs.code.FileCode.{AreStarts};
+ghost use Rattle.elf_image.specs.code.Relocations.{HasRelocation};
+ghost use Rattle.elf_image.specs.faults.FirstFault.{IsAnswered, LacksBelow};
+ghost use Rattle.elf_image.specs.faults.LowestPlace.{IsLowest};
+ghost use Rattle.elf_image.specs.faults.ReferenceFaults.{HasReferenceFault, IsMisfit};
+ghost use Rattle.rv_reloc.specs.Lows.{AreLows};
+ghost use Rattle.rv_reloc.specs.Parts.{AreApart};
+ghost use Rattle.rv_reloc.specs.Records.{AreRecords};
+ghost use Rattle.rv_reloc.specs.Refs.{AreAsked};
+
+use crate::cells::lowest_bad_label;
+use crate::differences::lowest_narrow;
+use crate::ifunc::{lowest_already_moved, lowest_ifunc_or_plt};
+use crate::low_mismatch::lowest_low_mismatch;
+use crate::lows::Low;
+use crate::parts::Part;
+use crate::records::Record;
+use crate::reloc_type::lowest_reloc_type;
+use crate::sweep::Candidate;
+use elf_image::lowest::lower;
+use elf_image::{Elf, refuse_at};
+use rb_bytes::fault::{Fault, FaultKind};
+
+/// The first of the faults `RelocType`, `RelocMismatch`, `LoMismatch`, `NarrowDiff`, `IfuncOrPlt` and `AlreadyMoved`. All lists
+/// are those of the file, `counted` the fields that count; `misfit` is the lowest place of a relocation that doesn't fit.
+pub fn check(
+    elf: &Elf,
+    starts: &[u64],
+    wholes: &[Part],
+    records: &[Record],
+    lows: &[Low],
+    counted: &[Candidate],
+    misfit: Option<u64>,
+) -> Result<(), Fault>
+    requires starts { AreStarts elf.now starts.now }
+    requires wholes { AreApart wholes.now }
+    requires records { AreRecords elf.now records.now }
+    requires lows { AreLows elf.now lows.now }
+    requires misfit { IsLowest (HasRelocation elf.now (IsMisfit elf.now)) misfit }
+    ensures lacks { (tabled : List (ℕ × ℕ)) → AreAsked elf.now tabled wholes.now counted.now → OnOk result (LacksBelow (HasReferenceFault elf.now tabled) 15) }
+    ensures fault { (tabled : List (ℕ × ℕ)) → AreAsked elf.now tabled wholes.now counted.now → IfErr result (IsAnswered (HasReferenceFault elf.now tabled)) }
+{
+    let mismatch = lower(misfit, lowest_bad_label(counted));
+    refuse_at(FaultKind::RelocType, lowest_reloc_type(records))?;
+    refuse_at(FaultKind::RelocMismatch, mismatch)?;
+    refuse_at(FaultKind::LoMismatch, lowest_low_mismatch(lows))?;
+    refuse_at(
+        FaultKind::NarrowDiff,
+        lowest_narrow(elf, starts, wholes, records),
+    )?;
+    refuse_at(FaultKind::IfuncOrPlt, lowest_ifunc_or_plt(elf, records))?;
+    refuse_at(FaultKind::AlreadyMoved, lowest_already_moved(&elf.sections))
+}

@@ -1,0 +1,125 @@
+// Entries of the global offset table, which an AUIPC and its lower parts name.
+ghost use Rattle.std.specs.Prelude.{◌≡◌, ◌↔◌, ℕ, ℤ, IfOk, IfSome, IsTrue, Some, map, option_map};
+ghost use Rattle.elf_image.specs.code.Cells.{Field};
+ghost use Rattle.elf_image.specs.code.FileCode.{AreStarts};
+ghost use Rattle.rv_reloc.specs.Found.{AreFound};
+ghost use Rattle.rv_reloc.specs.GotFields.{IsSlotOf, NamesEntry, IsNamedField, HasUpper, upper_of};
+ghost use Rattle.rv_reloc.specs.Loaded.{IsLow};
+ghost use Rattle.rv_reloc.specs.Parts.{AreCodeParts};
+ghost use Rattle.rv_reloc.specs.Slots.{AreSlotLabels};
+ghost use Rattle.rv_reloc.specs.Sweep.{field};
+
+use crate::candidates::{code_field, push_field};
+use crate::code::full_at;
+use crate::loaded::loaded_number;
+use crate::lows::Low;
+use crate::parts::Part;
+use crate::slots::{SlotLabel, has_label};
+use crate::sweep::Candidate;
+use crate::targets::{natural, pair_target};
+use elf_image::Elf;
+use rb_bytes::fault::NoMemory;
+use rv_code::Inst;
+use std::alloc::Global;
+
+// Whether a relocation says that the entry that the AUIPC at an address names has a label.
+fn names_entry(elf: &Elf, labels: &[SlotLabel], hi: u64, to: u64) -> bool
+    requires { AreSlotLabels elf.now labels.now }
+    ensures { IsTrue result ↔ NamesEntry elf.now hi to }
+{
+    let _elf = elf;
+    has_label(labels, hi, to as i128)
+}
+
+// The field at a place, if a relocation for the AUIPC at an address says that it holds what it holds.
+fn named_field(
+    elf: &Elf,
+    starts: &[u64],
+    labels: &[SlotLabel],
+    hi: u64,
+    slot: u64,
+) -> Option<Candidate>
+    requires low { IsLow elf.now }
+    requires starts { AreStarts elf.now starts.now }
+    requires labels { AreSlotLabels elf.now labels.now }
+    ensures is { IfSome (option_map field result) (IsNamedField elf.now hi slot) }
+    ensures only { (f : Field) → IsNamedField elf.now hi slot f → option_map field result ≡ Some f }
+{
+    match loaded_number(elf, slot, 8) {
+        Some(to) => {
+            if !names_entry(elf, labels, hi, to) {
+                return None;
+            }
+            code_field(elf, starts, slot, 8)
+        }
+        None => None,
+    }
+}
+
+// The entry that a lower part and its AUIPC name, if it can be a cell.
+fn slot_of(
+    elf: &Elf,
+    starts: &[u64],
+    parts: &[Part],
+    labels: &[SlotLabel],
+    low: &Low,
+) -> Option<Candidate>
+    requires low { IsLow elf.now }
+    requires starts { AreStarts elf.now starts.now }
+    requires parts { AreCodeParts elf.now parts.now }
+    requires labels { AreSlotLabels elf.now labels.now }
+    ensures is { IfSome (option_map field result) (IsSlotOf elf.now low.now) }
+    ensures only { (f : Field) → IsSlotOf elf.now low.now f → option_map field result ≡ Some f }
+{
+    match upper_at(elf, starts, parts, low.hi) {
+        Some(upper) => match natural(pair_target(low.hi, upper, low.imm)) {
+            Some(slot) => named_field(elf, starts, labels, low.hi, slot),
+            None => None,
+        },
+        None => None,
+    }
+}
+
+// The upper immediate of the AUIPC at an address.
+fn upper_at(elf: &Elf, starts: &[u64], parts: &[Part], address: u64) -> Option<i64>
+    requires starts { AreStarts elf.now starts.now }
+    requires parts { AreCodeParts elf.now parts.now }
+    ensures is { IfSome result (HasUpper elf.now address) }
+    ensures only { (upper : ℤ) → HasUpper elf.now address upper → result ≡ Some upper }
+{
+    match full_at(elf, starts, parts, address) {
+        Some(inst) => upper_of(&inst),
+        None => None,
+    }
+}
+
+fn upper_of(inst: &Inst) -> Option<i64>
+    ensures { result ≡ upper_of inst.now }
+{
+    match *inst {
+        Inst::Auipc { imm, .. } => Some(imm),
+        _ => None,
+    }
+}
+
+/// The entries of the table that can be cells.
+pub fn got_fields(
+    alloc: Global,
+    elf: &Elf,
+    starts: &[u64],
+    parts: &[Part],
+    labels: &[SlotLabel],
+    lows: &[Low],
+) -> Result<Vec<Candidate>, NoMemory>
+    requires low { IsLow elf.now }
+    requires starts { AreStarts elf.now starts.now }
+    requires parts { AreCodeParts elf.now parts.now }
+    requires labels { AreSlotLabels elf.now labels.now }
+    ensures { IfOk result (λ slots. AreFound (IsSlotOf elf.now) lows.now (map field slots.items)) }
+{
+    let mut slots = Vec::new(alloc);
+    for low in lows {
+        push_field(&mut slots, slot_of(elf, starts, parts, labels, low))?;
+    }
+    Ok(slots)
+}

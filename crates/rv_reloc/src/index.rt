@@ -1,0 +1,144 @@
+// Looking up relocations by place and class.
+ghost use Rattle.std.specs.Prelude.{◌≡◌, ◌↔◌, ◌<◌, ◌≤◌, ℕ, IsTrue, IfSome, IsSomeAnd, Some, length, slice_index_or, Any};
+ghost use Rattle.elf_image.specs.declared.elf.Elf.{Elf};
+ghost use Rattle.elf_image.specs.code.Cells.{IsOnly, is_plus, is_minus};
+ghost use Rattle.elf_image.specs.code.Relocations.{Relocation, relocations, HasRelocation, is_call_pair, is_pcrel_hi};
+ghost use Rattle.rv_reloc.specs.declared.records.Record.{Record};
+ghost use Rattle.rv_reloc.specs.Index.{class, class_beside, width_code, plus_class, minus_class};
+ghost use Rattle.rv_reloc.specs.Labels.{width_of};
+ghost use Rattle.rv_reloc.specs.Records.{seen, has_key, IsBelow, IsFrom, AreInOrder, AreRecords, HasKeyAt};
+
+use crate::labels::{Width, minus_width, plus_width};
+use crate::records::Record;
+use crate::types::{is_call_pair, is_pcrel_hi};
+
+fn width_code(width: Width) -> u64
+    ensures { result ≡ width_code (width_of width) }
+{
+    match width {
+        Width::Bits6 => 7,
+        Width::Bits8 => 9,
+        Width::Bits16 => 17,
+        Width::Bits32 => 33,
+        Width::Bits64 => 65,
+        Width::Uleb128 => 0,
+    }
+}
+
+// The classes of calls and of upper parts.
+const CALL_CLASS: u64 = 0;
+
+const UPPER_CLASS: u64 = 1;
+
+fn plus_class(width: Width) -> u64
+    ensures { result ≡ plus_class (width_of width) }
+{
+    2 * width_code(width) + 4
+}
+
+fn minus_class(width: Width) -> u64
+    ensures { result ≡ minus_class (width_of width) }
+{
+    2 * width_code(width) + 5
+}
+
+/// The class of a type, by which the relocations of one place are put in order.
+pub fn class(kind: u32) -> u64
+    ensures { result ≡ class kind }
+{
+    match plus_width(kind) {
+        Some(width) => plus_class(width),
+        None => match minus_width(kind) {
+            Some(width) => minus_class(width),
+            None => class_beside(kind),
+        },
+    }
+}
+
+// The class of a type that is for no label of a difference.
+fn class_beside(kind: u32) -> u64
+    ensures { result ≡ class_beside kind }
+{
+    if is_call_pair(kind) {
+        0
+    } else if is_pcrel_hi(kind) {
+        1
+    } else {
+        2
+    }
+}
+
+// How many are before a place and a class.
+fn count_below(records: &[Record], place: u64, at: u64) -> usize
+    requires { AreInOrder records.now }
+    ensures bound { result ≤ length records.now }
+    ensures below { (k : ℕ) (d : Record) → k < result → IsBelow place at (slice_index_or records.now k d) }
+    ensures above { (k : ℕ) (d : Record) → result ≤ k → k < length records.now → IsFrom place at (slice_index_or records.now k d) }
+{
+    records.partition_point(|r| r.place < place || (r.place == place && class(r.kind) < at))
+}
+
+// Whether the one of an index has a place and a class.
+fn has_key_at(records: &[Record], index: usize, place: u64, at: u64) -> bool
+    ensures { IsTrue result ↔ HasKeyAt place at records.now index }
+{
+    index < records.len() && records[index].place == place && class(records[index].kind) == at
+}
+
+/// Whether there is one of a class at a place.
+pub fn has(records: &[Record], place: u64, at: u64) -> bool
+    requires { AreInOrder records.now }
+    ensures { IsTrue result ↔ Any (λ r. IsTrue (has_key place at r)) records.now }
+{
+    has_key_at(records, count_below(records, place, at), place, at)
+}
+
+/// The only one of a class at a place, if there is exactly one.
+pub fn only<'a>(records: &[Record<'a>], place: u64, at: u64) -> Option<Record<'a>>
+    requires { AreInOrder records.now }
+    ensures is { IfSome result (IsOnly (has_key place at) records.now) }
+    ensures only { (r : Record) → IsOnly (has_key place at) records.now r → result ≡ Some r }
+{
+    let from = count_below(records, place, at);
+    if !has_key_at(records, from, place, at) {
+        return None;
+    }
+    if has_key_at(records, from + 1, place, at) {
+        return None;
+    }
+    Some(records[from])
+}
+
+/// Whether a relocation for a call applies to a place.
+pub fn has_call(records: &[Record], place: u64) -> bool
+    requires { AreInOrder records.now }
+    ensures { (elf : Elf) → AreRecords elf records.now → IsTrue result ↔ HasRelocation elf (λ r. IsTrue (is_call_pair r.kind)) place }
+{
+    has(records, place, CALL_CLASS)
+}
+
+/// Whether a relocation for an upper part that is not a call's applies to a place.
+pub fn has_upper(records: &[Record], place: u64) -> bool
+    requires { AreInOrder records.now }
+    ensures { (elf : Elf) → AreRecords elf records.now → IsTrue result ↔ HasRelocation elf (λ r. IsTrue (is_pcrel_hi r.kind)) place }
+{
+    has(records, place, UPPER_CLASS)
+}
+
+/// The only relocation that adds or sets a label of a width at a place.
+pub fn only_plus<'a>(records: &[Record<'a>], place: u64, width: Width) -> Option<Record<'a>>
+    requires { AreInOrder records.now }
+    ensures is { (elf : Elf) → AreRecords elf records.now → IfSome result (λ r. IsOnly (is_plus place (width_of width)) (relocations elf) (seen r)) }
+    ensures only { (elf : Elf) (r : Relocation) → AreRecords elf records.now → IsOnly (is_plus place (width_of width)) (relocations elf) r → IsSomeAnd result (λ q. seen q ≡ r) }
+{
+    only(records, place, plus_class(width))
+}
+
+/// The only relocation that subtracts a label of a width at a place.
+pub fn only_minus<'a>(records: &[Record<'a>], place: u64, width: Width) -> Option<Record<'a>>
+    requires { AreInOrder records.now }
+    ensures is { (elf : Elf) → AreRecords elf records.now → IfSome result (λ r. IsOnly (is_minus place (width_of width)) (relocations elf) (seen r)) }
+    ensures only { (elf : Elf) (r : Relocation) → AreRecords elf records.now → IsOnly (is_minus place (width_of width)) (relocations elf) r → IsSomeAnd result (λ q. seen q ≡ r) }
+{
+    only(records, place, minus_class(width))
+}

@@ -1,0 +1,69 @@
+// The instructions that references look for, at their addresses.
+ghost use Rattle.std.specs.Prelude.{◌≡◌, ℕ, ℤ, IfSome, Some, Contains, IsTrue, ◌↔◌};
+ghost use Rattle.rv_code.specs.declared.inst.Inst.TheVariants.{Auipc};
+ghost use Rattle.elf_image.specs.code.FileCode.{AreStarts};
+ghost use Rattle.elf_image.specs.code.Roles.{IsFullAt};
+ghost use Rattle.elf_image.specs.faults.ReferenceFaults.{IsAuipc};
+ghost use Rattle.rv_reloc.specs.Instructions.{auipc_of, lui_of, jalr_of};
+ghost use Rattle.rv_reloc.specs.Parts.{AreCodeParts};
+
+use crate::code::full_at;
+use crate::parts::Part;
+use elf_image::Elf;
+use rv_code::Inst;
+
+/// The register and the immediate of an AUIPC or a LUI.
+#[derive(Clone, Copy, PartialEq, Eq, Debug)]
+pub struct Upper {
+    pub rd: u8,
+    pub imm: i64,
+}
+
+/// The base register and the immediate of a JALR.
+#[derive(Clone, Copy, PartialEq, Eq, Debug)]
+pub struct Jump {
+    pub base: u8,
+    pub imm: i64,
+}
+
+fn auipc_of(inst: &Inst) -> Option<Upper>
+    ensures { result ≡ auipc_of inst.now }
+{
+    match *inst {
+        Inst::Auipc { rd, imm } => Some(Upper { rd, imm }),
+        _ => None,
+    }
+}
+
+/// What an instruction is as a LUI.
+pub fn lui_of(inst: &Inst) -> Option<Upper>
+    ensures { result ≡ lui_of inst.now }
+{
+    match *inst {
+        Inst::Lui { rd, imm } => Some(Upper { rd, imm }),
+        _ => None,
+    }
+}
+
+/// What an instruction is as a JALR.
+pub fn jalr_of(inst: &Inst) -> Option<Jump>
+    ensures { result ≡ jalr_of inst.now }
+{
+    match *inst {
+        Inst::Jalr { rs1, imm, .. } => Some(Jump { base: rs1, imm }),
+        _ => None,
+    }
+}
+
+/// The AUIPC at an address.
+pub fn auipc_at(elf: &Elf, starts: &[u64], parts: &[Part], address: u64) -> Option<Upper>
+    requires starts { AreStarts elf.now starts.now }
+    requires parts { AreCodeParts elf.now parts.now }
+    ensures there { IfSome result (λ u. IsFullAt elf.now address (Auipc u.rd u.imm)) }
+    ensures only { (rd : ℕ) (imm : ℤ) → IsFullAt elf.now address (Auipc rd imm) → result ≡ Some (record { rd = rd; imm = imm }) }
+{
+    match full_at(elf, starts, parts, address) {
+        Some(inst) => auipc_of(&inst),
+        None => None,
+    }
+}

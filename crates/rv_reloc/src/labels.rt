@@ -1,0 +1,124 @@
+// The labels that relocations add to a field, set it to or subtract from it, and how wide the field is for them.
+ghost use Rattle.std.specs.Prelude.{◌≡◌, ◌+ℤ◌, ℤ, pos, option_map, IsTrue, ◌↔◌};
+ghost use Rattle.elf_image.specs.code.FileCode.{AreStarts};
+ghost use Rattle.elf_image.specs.code.Relocations.{symbol_value, label, plus_width, minus_width, is_add};
+ghost use Rattle.elf_image.specs.code.Cells.{can_be_cell, IsCodeLabel, HasCodeLabel};
+ghost use Rattle.rv_reloc.specs.Labels.{width_of, IsLabelSize};
+ghost use Rattle.rv_reloc.specs.Records.{seen};
+
+use crate::code::is_start;
+use crate::records::Record;
+use crate::types::is_pc_difference;
+use elf_image::Elf;
+use elf_image::relocation::*;
+
+/// How wide a field is for a label.
+#[derive(Clone, Copy, PartialEq, Eq, Debug)]
+pub enum Width {
+    Bits6,
+    Bits8,
+    Bits16,
+    Bits32,
+    Bits64,
+    /// As wide as the number in LEB128 that is there.
+    Uleb128,
+}
+
+/// The width of the field for a label that is added or set by a type.
+pub fn plus_width(kind: u32) -> Option<Width>
+    ensures { option_map width_of result ≡ plus_width kind }
+{
+    if kind == R_RISCV_SET6 {
+        Some(Width::Bits6)
+    } else if kind == R_RISCV_ADD8 || kind == R_RISCV_SET8 {
+        Some(Width::Bits8)
+    } else if kind == R_RISCV_ADD16 || kind == R_RISCV_SET16 {
+        Some(Width::Bits16)
+    } else if kind == R_RISCV_ADD32 || kind == R_RISCV_SET32 {
+        Some(Width::Bits32)
+    } else if kind == R_RISCV_ADD64 {
+        Some(Width::Bits64)
+    } else if kind == R_RISCV_SET_ULEB128 {
+        Some(Width::Uleb128)
+    } else {
+        None
+    }
+}
+
+/// The width of the field for a label that is subtracted by a type.
+pub fn minus_width(kind: u32) -> Option<Width>
+    ensures { option_map width_of result ≡ minus_width kind }
+{
+    if kind == R_RISCV_SUB6 {
+        Some(Width::Bits6)
+    } else if kind == R_RISCV_SUB8 {
+        Some(Width::Bits8)
+    } else if kind == R_RISCV_SUB16 {
+        Some(Width::Bits16)
+    } else if kind == R_RISCV_SUB32 {
+        Some(Width::Bits32)
+    } else if kind == R_RISCV_SUB64 {
+        Some(Width::Bits64)
+    } else if kind == R_RISCV_SUB_ULEB128 {
+        Some(Width::Uleb128)
+    } else {
+        None
+    }
+}
+
+/// Whether a difference by this relocation can be a cell.
+pub fn can_be_cell(relocation: &Record) -> bool
+    ensures { result ≡ can_be_cell (seen relocation.now) }
+{
+    relocation.kind == R_RISCV_ADD32
+        || relocation.kind == R_RISCV_ADD64
+        || is_pc_difference(relocation.kind)
+}
+
+/// The value of a relocation's symbol.
+pub fn symbol_value(elf: &Elf, relocation: &Record) -> u64
+    ensures { result ≡ symbol_value elf.now (seen relocation.now) }
+{
+    if relocation.symbol == 0 {
+        return 0;
+    }
+    match elf.symbols.get(relocation.symbol as usize) {
+        Some(symbol) => symbol.value,
+        None => 0,
+    }
+}
+
+fn sum(value: u64, addend: i64) -> i128
+    ensures sum { result ≡ pos value +ℤ addend }
+    ensures size { IsLabelSize result }
+{
+    value as i128 + addend as i128
+}
+
+/// The label that a relocation speaks of, the value of its symbol and its addend, which can be below zero.
+pub fn label(elf: &Elf, relocation: &Record) -> i128
+    ensures label { result ≡ label elf.now (seen relocation.now) }
+    ensures size { IsLabelSize result }
+{
+    sum(symbol_value(elf, relocation), relocation.addend)
+}
+
+/// Whether a label is a code address.
+pub fn is_code_label(elf: &Elf, starts: &[u64], label: i128) -> bool
+    requires { AreStarts elf.now starts.now }
+    ensures { IsTrue result ↔ IsCodeLabel elf.now label }
+{
+    let _elf = elf;
+    match u64::try_from(label) {
+        Ok(address) => is_start(starts, address),
+        Err(_) => false,
+    }
+}
+
+/// Whether one of two labels is a code address.
+pub fn has_code_label(elf: &Elf, starts: &[u64], to: i128, from: i128) -> bool
+    requires { AreStarts elf.now starts.now }
+    ensures { IsTrue result ↔ HasCodeLabel elf.now to from }
+{
+    is_code_label(elf, starts, to) || is_code_label(elf, starts, from)
+}

@@ -1,0 +1,35 @@
+// Numbers in the memory that a file describes.
+ghost use Rattle.std.specs.Prelude.{◌≡◌, ◌<◌, ◌≤◌, ◌^◌, OnSome, IfSome};
+ghost use Rattle.elf_image.specs.memory.LoadedBytes.{byte_at, loaded_number};
+ghost use Rattle.elf_image.specs.faults.SegmentLayout.{address_end};
+ghost use Rattle.rv_reloc.specs.Loaded.{IsLow};
+
+use elf_image::Elf;
+
+/// The byte at an address, if it is loaded. Then the next address is one too.
+pub fn byte_at(elf: &Elf, address: u64) -> Option<u8>
+    requires { IsLow elf.now }
+    ensures value { result ≡ byte_at elf.now address }
+    ensures low { OnSome result (address < address_end) }
+{
+    elf.image_byte(address)
+}
+
+/// The number of so many bytes at an address, at most eight, if all are loaded.
+pub fn loaded_number(elf: &Elf, address: u64, size: u8) -> Option<u64>
+    requires low { IsLow elf.now }
+    requires size { size ≤ 8 }
+    ensures value { result ≡ loaded_number elf.now address size }
+    ensures below { IfSome result (λ x. x < 256 ^ size) }
+{
+    if size == 0 {
+        return Some(0);
+    }
+    match byte_at(elf, address) {
+        Some(first) => match loaded_number(elf, address + 1, size - 1) {
+            Some(rest) => Some(first as u64 + 256 * rest),
+            None => None,
+        },
+        None => None,
+    }
+}

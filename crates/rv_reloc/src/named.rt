@@ -1,0 +1,67 @@
+// The addresses that relocations for lower parts name.
+ghost use Rattle.std.specs.Prelude.{◌≡◌, ◌↔◌, ◌++◌, ◌<◌, ℕ, IfOk, OnOk, IfSome, IsTrue, Some, Contains, AllPairs};
+ghost use Rattle.std.specs.Option.{option_to_list};
+ghost use Rattle.std.specs.List.Sorted.{IsStrictlyIncreasing};
+ghost use Rattle.rv_reloc.specs.Found.{AreFound};
+ghost use Rattle.rv_reloc.specs.Named.{NamesUpper, AreNamed};
+ghost use Rattle.rv_reloc.specs.Records.{seen, AreRecords};
+
+use crate::code::is_start;
+use crate::labels::symbol_value;
+use crate::records::Record;
+use crate::types::is_pcrel_lo;
+use elf_image::Elf;
+use elf_image::function_bounds::make_ascending;
+use rb_bytes::fault::NoMemory;
+use std::alloc::Global;
+
+// The address that a relocation for a lower part names.
+fn named_by(elf: &Elf, relocation: &Record) -> Option<u64>
+    ensures is { IfSome result (NamesUpper elf.now (seen relocation.now)) }
+    ensures only { (a : ℕ) → NamesUpper elf.now (seen relocation.now) a → result ≡ Some a }
+{
+    if is_pcrel_lo(relocation.kind) {
+        Some(symbol_value(elf, relocation))
+    } else {
+        None
+    }
+}
+
+/// Adds an address, if there is one.
+pub fn push_address(addresses: &mut Vec<u64>, address: Option<u64>) -> Result<(), NoMemory>
+    ensures { OnOk result (addresses.new.items ≡ addresses.old.items ++ option_to_list address) }
+{
+    if let Some(address) = address {
+        addresses.push(address)?;
+    }
+    Ok(())
+}
+
+// The addresses that relocations name, one relocation after another.
+fn read_named(alloc: Global, elf: &Elf, records: &[Record]) -> Result<Vec<u64>, NoMemory>
+    ensures { IfOk result (λ named. AreFound (λ r a. NamesUpper elf.now (seen r) a) records.now named.items) }
+{
+    let mut named = Vec::new(alloc);
+    for relocation in records {
+        push_address(&mut named, named_by(elf, relocation))?;
+    }
+    Ok(named)
+}
+
+/// All addresses that relocations for lower parts name, ascending.
+pub fn named_by_lows(alloc: Global, elf: &Elf, records: &[Record]) -> Result<Vec<u64>, NoMemory>
+    requires { AreRecords elf.now records.now }
+    ensures { IfOk result (λ named. AreNamed elf.now named.items) }
+{
+    let mut named = read_named(alloc, elf, records)?;
+    make_ascending(&mut named);
+    Ok(named)
+}
+
+/// Whether an address is among those that are named.
+pub fn is_named(named: &[u64], address: u64) -> bool
+    requires { AllPairs (λ a b. a < b) named.now }
+    ensures { IsTrue result ↔ Contains named.now address }
+{
+    is_start(named, address)
+}

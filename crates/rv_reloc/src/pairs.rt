@@ -1,0 +1,117 @@
+// Lower parts together with the AUIPCs that they name.
+ghost use Rattle.std.specs.Prelude.{◌≡◌, ◌↔◌, ℕ, ℤ, pos, IfOk, IfSome, IsSome, IsTrue, Some, Contains};
+ghost use Rattle.elf_image.specs.code.FileCode.{AreStarts};
+ghost use Rattle.elf_image.specs.code.Relocations.{relocations};
+ghost use Rattle.elf_image.specs.faults.ReferenceFaults.{IsAddress};
+ghost use Rattle.rv_reloc.specs.Found.{AreFound};
+ghost use Rattle.rv_reloc.specs.Lows.{AreLows};
+ghost use Rattle.rv_reloc.specs.Pairs.{IsTargetOf, IsFar, AreFar, MakesNoAddress};
+ghost use Rattle.rv_reloc.specs.Parts.{AreCodeParts};
+ghost use Rattle.rv_reloc.specs.Records.{seen};
+
+use crate::instructions::auipc_at;
+use crate::lows::Low;
+use crate::named::{is_named, push_address};
+use crate::parts::Part;
+use crate::records::Record;
+use crate::targets::{address_of, pair_target};
+use crate::types::is_pcrel_hi;
+use elf_image::Elf;
+use elf_image::function_bounds::make_ascending;
+use rb_bytes::fault::NoMemory;
+use std::alloc::Global;
+
+/// The number that a lower part makes with the AUIPC that it names.
+pub fn low_target(elf: &Elf, starts: &[u64], parts: &[Part], low: &Low) -> Option<i128>
+    requires starts { AreStarts elf.now starts.now }
+    requires parts { AreCodeParts elf.now parts.now }
+    ensures is { IfSome result (IsTargetOf elf.now low.now) }
+    ensures only { (z : ℤ) → IsTargetOf elf.now low.now z → result ≡ Some z }
+{
+    match auipc_at(elf, starts, parts, low.hi) {
+        Some(auipc) => Some(pair_target(low.hi, auipc.imm, low.imm)),
+        None => None,
+    }
+}
+
+/// The address that it makes.
+pub fn low_address(elf: &Elf, starts: &[u64], parts: &[Part], low: &Low) -> Option<u64>
+    requires starts { AreStarts elf.now starts.now }
+    requires parts { AreCodeParts elf.now parts.now }
+    ensures is { IfSome result (λ t. IsTargetOf elf.now low.now (pos t)) }
+    ensures each { (z : ℤ) → IsTargetOf elf.now low.now z → IsAddress z → IsSome result }
+    ensures once { (z : ℤ) → IsTargetOf elf.now low.now z → IfSome result (λ t. z ≡ pos t) }
+{
+    match low_target(elf, starts, parts, low) {
+        Some(number) => address_of(number),
+        None => None,
+    }
+}
+
+// The AUIPC of a lower part, if both make no address.
+fn far_of(elf: &Elf, starts: &[u64], parts: &[Part], low: &Low) -> Option<u64>
+    requires starts { AreStarts elf.now starts.now }
+    requires parts { AreCodeParts elf.now parts.now }
+    ensures is { IfSome result (IsFar elf.now low.now) }
+    ensures only { (a : ℕ) → IsFar elf.now low.now a → result ≡ Some a }
+{
+    match low_target(elf, starts, parts, low) {
+        Some(number) => {
+            if address_of(number).is_some() {
+                return None;
+            }
+            Some(low.hi)
+        }
+        None => None,
+    }
+}
+
+// The AUIPCs of lower parts that make no address with them, one lower part after another.
+fn read_far(
+    alloc: Global,
+    elf: &Elf,
+    starts: &[u64],
+    parts: &[Part],
+    lows: &[Low],
+) -> Result<Vec<u64>, NoMemory>
+    requires starts { AreStarts elf.now starts.now }
+    requires parts { AreCodeParts elf.now parts.now }
+    ensures { IfOk result (λ far. AreFound (IsFar elf.now) lows.now far.items) }
+{
+    let mut far = Vec::new(alloc);
+    for low in lows {
+        push_address(&mut far, far_of(elf, starts, parts, low))?;
+    }
+    Ok(far)
+}
+
+/// All AUIPCs with which a lower part makes no address, ascending.
+pub fn far_uppers(
+    alloc: Global,
+    elf: &Elf,
+    starts: &[u64],
+    parts: &[Part],
+    lows: &[Low],
+) -> Result<Vec<u64>, NoMemory>
+    requires starts { AreStarts elf.now starts.now }
+    requires parts { AreCodeParts elf.now parts.now }
+    requires lows { AreLows elf.now lows.now }
+    ensures { IfOk result (λ far. AreFar elf.now far.items) }
+{
+    let mut far = read_far(alloc, elf, starts, parts, lows)?;
+    make_ascending(&mut far);
+    Ok(far)
+}
+
+/// Whether a relocation gives an AUIPC an upper part that makes no address with a lower part.
+pub fn is_far(elf: &Elf, far: &[u64], relocation: &Record) -> bool
+    requires far { AreFar elf.now far.now }
+    requires counts { Contains (relocations elf.now) (seen relocation.now) }
+    ensures { IsTrue result ↔ MakesNoAddress elf.now (seen relocation.now) }
+{
+    let _elf = elf;
+    if !is_pcrel_hi(relocation.kind) {
+        return false;
+    }
+    is_named(far, relocation.place)
+}

@@ -1,0 +1,49 @@
+// The fields that count, where several share bytes.
+ghost use Rattle.std.specs.Prelude.{◌≡◌, ℕ, List, IfOk, OnOk, map, AllPairs};
+ghost use Rattle.std.specs.List.Sorted.{IsPermutation};
+ghost use Rattle.elf_image.specs.declared.elf.Elf.{Elf};
+ghost use Rattle.rv_reloc.specs.Sweep.{field, IsKeyUpTo, AreCandidates, AreCounted};
+
+use rb_bytes::fault::NoMemory;
+use std::alloc::Global;
+use std::cmp::Reverse;
+
+/// What a field holds. An address comes before a difference, as variants are ordered.
+#[derive(Clone, Copy, PartialEq, Eq, PartialOrd, Ord, Debug)]
+pub enum Content {
+    Address { to: u64 },
+    Difference { to: i128, from: i128 },
+}
+
+/// A field that can be a cell.
+#[derive(Clone, Copy, PartialEq, Eq, Debug)]
+pub struct Candidate {
+    pub place: u64,
+    pub width: u8,
+    pub content: Content,
+}
+
+/// Puts fields in the order of their places, the wider before the narrower, and addresses before differences.
+pub fn sort_fields(fields: &mut Vec<Candidate>) -> Result<(), NoMemory>
+    ensures permutation { IsPermutation fields.old.items fields.new.items }
+    ensures rising { OnOk result (AllPairs IsKeyUpTo (map field fields.new.items)) }
+{
+    fields.sort_by_key(|f| (f.place, Reverse(f.width), f.content))?;
+    Ok(())
+}
+
+/// Those that count, of all that can be cells, in their order.
+pub fn sweep(alloc: Global, candidates: &[Candidate]) -> Result<Vec<Candidate>, NoMemory>
+    ensures { (elf : Elf) (tabled : List (ℕ × ℕ)) → AreCandidates elf tabled (map field candidates.now) → IfOk result (λ counted. AreCounted elf tabled (map field counted.items)) }
+{
+    let mut counted = Vec::new(alloc);
+    let mut reach: u128 = 0;
+    for candidate in candidates {
+        if (candidate.place as u128) < reach {
+            continue;
+        }
+        counted.push(*candidate)?;
+        reach = candidate.place as u128 + candidate.width as u128;
+    }
+    Ok(counted)
+}

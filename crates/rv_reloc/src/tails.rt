@@ -1,0 +1,251 @@
+// Numbers in LEB128, which may be as long as they like: their ends, found once for all that end together.
+ghost use Rattle.std.specs.Prelude.{◌≡◌, ◌<◌, ◌≤◌, ◌+◌, ◌-◌, ◌*◌, ◌^◌, ◌↔◌, ℕ, ℤ, pos, negsuc, ◌∷◌, [], ◌%◌, List, IsTrue, IfOk, IfSome, OnSome, OnOk, All, length, Option};
+ghost use Rattle.std.specs.List.Sorted.{IsPermutation};
+ghost use Rattle.rb_bytes.specs.Leb.{is_last, low_bits, high_bits};
+ghost use Rattle.elf_image.specs.code.Fields.{HoldBits};
+ghost use Rattle.elf_image.specs.memory.LoadedBytes.{byte_at};
+ghost use Rattle.rv_reloc.specs.Loaded.{IsLow};
+ghost use Rattle.rv_reloc.specs.Tails.{TailAt, IsKnown, ends_with, magnitude, AreLebBytes};
+
+use crate::loaded::byte_at;
+use elf_image::Elf;
+use rb_bytes::fault::NoMemory;
+use std::alloc::Global;
+
+/// What is left of a number in LEB128 from one of its bytes on.
+#[derive(Clone, Copy, Debug)]
+pub struct Tail {
+    /// The address after its last byte.
+    pub end: u64,
+    /// All its bytes have seven zero bits.
+    pub is_zeros: bool,
+    /// All its bytes have seven bits that are set.
+    pub is_ones: bool,
+}
+
+/// What is left from a place on, if a number ends there.
+#[derive(Clone, Copy, Debug)]
+pub struct Known {
+    pub place: u64,
+    pub tail: Option<Tail>,
+}
+
+/// As many bytes of a difference of labels as can differ from those of its sign.
+pub const DIFFERENCE_BYTES: u8 = 10;
+
+// The tail of a single byte, which is the last.
+fn last_tail(address: u64, byte: u8) -> Tail
+    requires low { address + 1 < 2 ^ 64 }
+    ensures end { result.end ≡ address + 1 }
+    ensures zeros { IsTrue result.is_zeros ↔ HoldBits (byte ∷ []) (pos 0) }
+    ensures ones { IsTrue result.is_ones ↔ HoldBits (byte ∷ []) (negsuc 0) }
+{
+    Tail {
+        end: address + 1,
+        is_zeros: byte % 128 == 0,
+        is_ones: byte % 128 == 127,
+    }
+}
+
+// The tail with one more byte in front.
+fn longer_tail(byte: u8, tail: Tail) -> Tail
+    ensures end { result.end ≡ tail.end }
+    ensures zeros { IsTrue result.is_zeros ↔ ((byte % 128 ≡ 0) × IsTrue tail.is_zeros) }
+    ensures ones { IsTrue result.is_ones ↔ ((byte % 128 ≡ 127) × IsTrue tail.is_ones) }
+{
+    Tail {
+        end: tail.end,
+        is_zeros: byte % 128 == 0 && tail.is_zeros,
+        is_ones: byte % 128 == 127 && tail.is_ones,
+    }
+}
+
+// The tail at an address, where that of the next address is known.
+fn tail_before(elf: &Elf, address: u64, next: Option<Tail>) -> Option<Tail>
+    requires low { IsLow elf.now }
+    requires next { TailAt elf.now (address + 1) next }
+    ensures { TailAt elf.now address result }
+{
+    match byte_at(elf, address) {
+        None => None,
+        Some(byte) => {
+            if byte < 128 {
+                Some(last_tail(address, byte))
+            } else {
+                match next {
+                    Some(tail) => Some(longer_tail(byte, tail)),
+                    None => None,
+                }
+            }
+        }
+    }
+}
+
+// The tail at a byte with which a number ends, if one does.
+fn tail_of_last(elf: &Elf, address: u64) -> Option<Tail>
+    requires low { IsLow elf.now }
+    requires ends { IsTrue (ends_with (byte_at elf.now address)) }
+    ensures { TailAt elf.now address result }
+{
+    match byte_at(elf, address) {
+        None => None,
+        Some(byte) => Some(last_tail(address, byte)),
+    }
+}
+
+fn ends_with(byte: Option<u8>) -> bool
+    ensures { result ≡ ends_with byte }
+{
+    match byte {
+        None => true,
+        Some(byte) => byte < 128,
+    }
+}
+
+// The first address from one to another at which no number goes on, or the other.
+fn stop_between(elf: &Elf, from: u64, to: u64) -> u64
+    requires low { IsLow elf.now }
+    requires order { from ≤ to }
+    ensures from { from ≤ result }
+    ensures to { result ≤ to }
+    ensures ends { result < to → IsTrue (ends_with (byte_at elf.now result)) }
+{
+    for address in from..to {
+        if ends_with(byte_at(elf, address)) {
+            return address;
+        }
+    }
+    to
+}
+
+// The tail at an address, where that of a higher one is known.
+fn tail_below(elf: &Elf, from: u64, to: u64, known: Option<Tail>) -> Option<Tail>
+    requires low { IsLow elf.now }
+    requires order { from ≤ to }
+    requires known { TailAt elf.now to known }
+    ensures { TailAt elf.now from result }
+{
+    let stop = stop_between(elf, from, to);
+    let mut tail = if stop < to {
+        tail_of_last(elf, stop)
+    } else {
+        known
+    };
+    for address in (from..stop).rev() {
+        tail = tail_before(elf, address, tail);
+    }
+    tail
+}
+
+/// The tails at all these places, which ascend.
+pub fn tails_at(alloc: Global, elf: &Elf, places: &[u64]) -> Result<Vec<Known>, NoMemory>
+    requires { IsLow elf.now }
+    ensures { IfOk result (λ known. All (IsKnown elf.now) known.items) }
+{
+    let mut known = Vec::new(alloc);
+    let mut next = Known {
+        place: u64::MAX,
+        tail: None,
+    };
+    for place in places.iter().rev() {
+        let tail = if *place <= next.place {
+            tail_below(elf, *place, next.place, next.tail)
+        } else {
+            tail_from(elf, *place)
+        };
+        next = Known {
+            place: *place,
+            tail,
+        };
+        known.push(next)?;
+    }
+    known.reverse();
+    Ok(known)
+}
+
+// The tail at an address, found from nothing.
+fn tail_from(elf: &Elf, place: u64) -> Option<Tail>
+    requires { IsLow elf.now }
+    ensures { TailAt elf.now place result }
+{
+    tail_below(elf, place, u64::MAX, None)
+}
+
+/// The tail at an address. Those that are known spare the search for the number's end.
+pub fn tail_at(elf: &Elf, known: &[Known], place: u64) -> Option<Tail>
+    requires low { IsLow elf.now }
+    requires known { All (IsKnown elf.now) known.now }
+    ensures { TailAt elf.now place result }
+{
+    let index = known.partition_point(|k| k.place < place);
+    if index < known.len() && known[index].place == place {
+        known[index].tail
+    } else {
+        tail_from(elf, place)
+    }
+}
+
+// The seven lowest bits of a number in two's complement.
+fn low_bits(value: i128) -> u8
+    ensures { result ≡ low_bits value }
+{
+    (value.cast_unsigned() % 128) as u8
+}
+
+// The bits above the seven lowest, the sign among them.
+fn high_bits(value: i128) -> i128
+    ensures { result ≡ high_bits value }
+{
+    value >> 7
+}
+
+// Whether all bytes from an address on hold bits of a sign alone: that of a number from -1 to 0.
+fn holds_sign(elf: &Elf, known: &[Known], address: u64, sign: i128) -> bool
+    requires low { IsLow elf.now }
+    requires known { All (IsKnown elf.now) known.now }
+    requires sign { magnitude sign ≡ 0 }
+    ensures { (bytes : List ℕ) → AreLebBytes elf.now address bytes → IsTrue result ↔ HoldBits bytes sign }
+{
+    match tail_at(elf, known, address) {
+        Some(tail) => {
+            if sign == 0 {
+                tail.is_zeros
+            } else {
+                tail.is_ones
+            }
+        }
+        None => false,
+    }
+}
+
+// Whether the number in LEB128 at an address holds the lowest bits of a number, of which so many bytes can differ from its
+// sign.
+fn holds_within(elf: &Elf, known: &[Known], address: u64, number: i128, steps: u8) -> bool
+    requires low { IsLow elf.now }
+    requires known { All (IsKnown elf.now) known.now }
+    requires steps { magnitude number < 128 ^ steps }
+    ensures { (bytes : List ℕ) → AreLebBytes elf.now address bytes → IsTrue result ↔ HoldBits bytes number }
+{
+    if steps == 0 {
+        return holds_sign(elf, known, address, number);
+    }
+    match byte_at(elf, address) {
+        Some(byte) => {
+            if byte % 128 != low_bits(number) {
+                return false;
+            }
+            byte < 128 || holds_within(elf, known, address + 1, high_bits(number), steps - 1)
+        }
+        None => false,
+    }
+}
+
+/// Whether the number in LEB128 at an address holds the lowest bits of a difference of labels.
+pub fn holds_bits(elf: &Elf, known: &[Known], address: u64, difference: i128) -> bool
+    requires low { IsLow elf.now }
+    requires known { All (IsKnown elf.now) known.now }
+    requires difference { magnitude difference < 128 ^ 10 }
+    ensures { (bytes : List ℕ) → AreLebBytes elf.now address bytes → IsTrue result ↔ HoldBits bytes difference }
+{
+    holds_within(elf, known, address, difference, DIFFERENCE_BYTES)
+}

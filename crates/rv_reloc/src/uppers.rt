@@ -1,0 +1,78 @@
+// Relocations for the upper and lower parts of distances.
+ghost use Rattle.std.specs.Prelude.{◌≡◌, ◌↔◌, IsTrue};
+ghost use Rattle.elf_image.specs.code.FileCode.{AreStarts};
+ghost use Rattle.elf_image.specs.faults.ReferenceFaults.{IsBadUpper, IsBadLower, IsUpper};
+ghost use Rattle.rv_reloc.specs.Named.{AreNamed};
+ghost use Rattle.rv_reloc.specs.Parts.{AreCodeParts};
+ghost use Rattle.rv_reloc.specs.Records.{seen, AreRecords};
+
+use crate::index::{has_call, has_upper};
+use crate::instructions::auipc_at;
+use crate::labels::symbol_value;
+use crate::lows::low_of;
+use crate::named::is_named;
+use crate::parts::Part;
+use crate::records::Record;
+use crate::types::{is_pcrel_hi, is_pcrel_lo};
+use elf_image::Elf;
+
+/// Whether a relocation for an upper part is on no AUIPC, or on one that no lower part names.
+pub fn is_bad_upper(
+    elf: &Elf,
+    starts: &[u64],
+    parts: &[Part],
+    named: &[u64],
+    relocation: &Record,
+) -> bool
+    requires starts { AreStarts elf.now starts.now }
+    requires parts { AreCodeParts elf.now parts.now }
+    requires named { AreNamed elf.now named.now }
+    ensures { IsTrue result ↔ IsBadUpper elf.now (seen relocation.now) }
+{
+    if !is_pcrel_hi(relocation.kind) {
+        return false;
+    }
+    match auipc_at(elf, starts, parts, relocation.place) {
+        Some(_) => !is_named(named, relocation.place),
+        None => true,
+    }
+}
+
+// Whether an address is that of an AUIPC with an upper part that is not a call's.
+fn is_upper(elf: &Elf, starts: &[u64], parts: &[Part], records: &[Record], address: u64) -> bool
+    requires starts { AreStarts elf.now starts.now }
+    requires parts { AreCodeParts elf.now parts.now }
+    requires records { AreRecords elf.now records.now }
+    ensures { IsTrue result ↔ IsUpper elf.now address }
+{
+    match auipc_at(elf, starts, parts, address) {
+        Some(_) => {
+            let upper = has_upper(records, address);
+            let call = has_call(records, address);
+            upper && !call
+        }
+        None => false,
+    }
+}
+
+/// Whether a relocation for a lower part is on no instruction that can have one, or names no upper part.
+pub fn is_bad_lower(
+    elf: &Elf,
+    starts: &[u64],
+    parts: &[Part],
+    records: &[Record],
+    relocation: &Record,
+) -> bool
+    requires starts { AreStarts elf.now starts.now }
+    requires parts { AreCodeParts elf.now parts.now }
+    requires records { AreRecords elf.now records.now }
+    ensures { IsTrue result ↔ IsBadLower elf.now (seen relocation.now) }
+{
+    if !is_pcrel_lo(relocation.kind) {
+        return false;
+    }
+    match low_of(elf, starts, parts, relocation) {
+        Some(low) => !is_upper(elf, starts, parts, records, low.hi),
+        None => true,
+    }
+}
