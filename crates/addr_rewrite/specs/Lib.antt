@@ -1,0 +1,2 @@
+pub mod Aranges
+pub mod Tables

@@ -1,0 +1,5 @@
+pub mod Answers
+pub mod Carried
+pub mod Faults
+pub mod Tables
+pub mod Index

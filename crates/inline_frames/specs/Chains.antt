@@ -1,0 +1,37 @@
+-- The entries of the functions that an address belongs to, from the innermost inlined one out. DWARF 5, sections 3.3.1
+-- and 3.3.8.
+use Rattle.std.specs.Prelude.{◌==◌, ◌&&◌, ◌||◌, ℕ, Bool, List, [], ◌∷◌, nat_lt, if◌then◌else◌}
+use Rattle.dw_unit.specs.Units.{Entry, Unit, units}
+use Rattle.range_loc_rewrite.specs.Faults.{ListSections}
+use Rattle.range_loc_rewrite.specs.Ranges.{ranges_of, hold}
+use Rattle.inline_frames.specs.declared.tag.TheConstants.{DW_TAG_subprogram, DW_TAG_inlined_subroutine}
+
+-- a function, or an inlined instance of one, that holds an address
+abbrev pub is_function_at : ListSections → ℕ → Unit → Entry → Bool
+is_function_at s a u e =
+    (e.declaration.tag == DW_TAG_subprogram || e.declaration.tag == DW_TAG_inlined_subroutine) && hold (ranges_of s u e) a
+
+-- the entries that one of a depth lies in, among those before it from the last on; the innermost first
+abbrev pub enclosing : ℕ → List Entry → List Entry
+enclosing depth [] = []
+enclosing depth (e ∷ before) = if nat_lt e.depth depth then e ∷ enclosing e.depth before else enclosing depth before
+
+-- those of them that hold the address, up to and with the first one that isn't inlined
+abbrev pub outward : (Entry → Bool) → List Entry → List Entry
+outward test [] = []
+outward test (e ∷ es) =
+    if test e then (if e.declaration.tag == DW_TAG_subprogram then e ∷ [] else e ∷ outward test es) else outward test es
+
+-- The innermost entry is the last one that holds the address; `before` has those before, from the last on.
+abbrev pub chain_in : (Entry → Bool) → List Entry → List Entry → List Entry → List Entry
+chain_in test found before [] = found
+chain_in test found before (e ∷ es) =
+    chain_in test (if test e then outward test (e ∷ enclosing e.depth before) else found) (e ∷ before) es
+
+-- the last unit with such an entry has it
+abbrev pub last_chain : ListSections → ℕ → List Entry → List Unit → List Entry
+last_chain s a found [] = found
+last_chain s a found (u ∷ us) = last_chain s a (chain_in (is_function_at s a u) found [] u.entries) us
+
+abbrev pub chain : ListSections → ℕ → List Entry
+chain s a = last_chain s a [] (units s.units)

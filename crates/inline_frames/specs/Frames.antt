@@ -1,0 +1,99 @@
+-- The frames of an address: the name of each function of its chain, and where control is in it. DWARF 5, section 3.3.8.2.
+use Rattle.std.specs.Prelude.{◌==◌, ◌||◌, ℕ, List, [], ◌∷◌, ◌++◌, flat_map, codes, decimal, if◌then◌else◌, slice_get, unwrap_or, Option, Some, None, option_map, option_and_then}
+use Rattle.std.specs.List.{find}
+use Rattle.elf_image.specs.declared.elf.Elf.{Elf}
+use Rattle.table_core.specs.declared.form.TheConstants.{DW_FORM_addr, DW_FORM_sec_offset}
+use Rattle.table_core.specs.Forms.{is_address_index}
+use Rattle.table_core.specs.Texts.{or_none}
+use Rattle.table_core.specs.Units.{Walked, walked}
+use Rattle.dw_unit.specs.declared.attribute.TheConstants.{DW_AT_stmt_list, DW_AT_call_file, DW_AT_call_line, DW_AT_call_column}
+use Rattle.dw_unit.specs.declared.entry.Attr.{Attr}
+use Rattle.dw_unit.specs.Units.{Entry, attr, own_entry}
+use Rattle.line_rewrite.specs.Entries.{path_of}
+use Rattle.line_rewrite.specs.Units.{LineUnit, unit_of}
+use Rattle.line_rewrite.specs.Answers.{RowSaid, LineSaid}
+use Rattle.line_rewrite.specs.Tables.{LineSections, line_sections, line}
+use Rattle.range_loc_rewrite.specs.Tables.{list_sections}
+use Rattle.inline_frames.specs.Names.{NameSections, name_sections, name_of, unit_of_entry}
+use Rattle.inline_frames.specs.Chains.{chain}
+
+pub record Frame : Type 0 where
+  pub name : List ℕ
+  pub path : List ℕ
+  pub line : ℕ
+  pub column : ℕ
+
+-- what stands for a name or a path that there isn't
+abbrev pub or_unknown : Option (List ℕ) → List ℕ
+or_unknown text = unwrap_or text (codes "?")
+
+-- Where control is in the innermost function: the last row in force.
+
+abbrev pub last_row : List RowSaid → Option RowSaid
+last_row [] = None
+last_row (r ∷ []) = Some r
+last_row (r ∷ (s ∷ rows)) = last_row (s ∷ rows)
+
+abbrev pub row_of : Elf → ℕ → Option RowSaid
+row_of elf a = option_and_then (λ (l : LineSaid). last_row l.rows) (line elf a)
+
+-- Where control is in the function around an inlined one: at its call. A number in a form of addresses is none.
+
+abbrev pub number_of : ℕ → Entry → Option ℕ
+number_of name e =
+    option_and_then (λ (a : Attr). if a.form == DW_FORM_addr || is_address_index a.form then None else Some a.value) (attr name e)
+
+-- the line unit at an offset, which its unit's own entry names
+abbrev pub line_unit_at : LineSections → ℕ → Option LineUnit
+line_unit_at s offset =
+    option_and_then (λ (w : Walked). option_and_then (unit_of s.strings) w.bytes)
+    (find (λ (w : Walked). w.place == offset) (walked 5 s.line))
+
+abbrev pub line_offset : NameSections → Entry → Option ℕ
+line_offset s e =
+    option_and_then (λ (a : Attr). if a.form == DW_FORM_sec_offset then Some a.value else None)
+    (option_and_then (attr DW_AT_stmt_list) (option_and_then own_entry (unit_of_entry s e)))
+
+-- the path of a file of a line unit, by its index
+abbrev pub file_path : LineUnit → ℕ → Option (List ℕ)
+file_path u index = option_and_then (path_of u.directories) (slice_get u.files index)
+
+abbrev pub call_path : Elf → Entry → Option (List ℕ)
+call_path elf e =
+    option_and_then (λ u. option_and_then (file_path u) (number_of DW_AT_call_file e))
+    (option_and_then (line_unit_at (line_sections elf)) (line_offset (name_sections elf) e))
+
+abbrev pub frame_at_row : Elf → ℕ → Entry → Frame
+frame_at_row elf a e = record {
+  name = or_unknown (name_of (name_sections elf) e);
+  path = or_unknown (option_map (λ (r : RowSaid). r.path) (row_of elf a));
+  line = unwrap_or (option_map (λ (r : RowSaid). r.line) (row_of elf a)) 0;
+  column = unwrap_or (option_map (λ (r : RowSaid). r.column) (row_of elf a)) 0;
+}
+
+-- the frame of an entry, at the call of the inlined one in it
+abbrev pub frame_at_call : Elf → Entry → Entry → Frame
+frame_at_call elf inlined e = record {
+  name = or_unknown (name_of (name_sections elf) e);
+  path = or_unknown (call_path elf inlined);
+  line = unwrap_or (number_of DW_AT_call_line inlined) 0;
+  column = unwrap_or (number_of DW_AT_call_column inlined) 0;
+}
+
+abbrev pub callers : Elf → Entry → List Entry → List Frame
+callers elf inlined [] = []
+callers elf inlined (e ∷ es) = frame_at_call elf inlined e ∷ callers elf e es
+
+abbrev pub frames_of : Elf → ℕ → List Entry → List Frame
+frames_of elf a [] = []
+frames_of elf a (e ∷ es) = frame_at_row elf a e ∷ callers elf e es
+
+abbrev pub frames : Elf → ℕ → List Frame
+frames elf a = frames_of elf a (chain (list_sections elf) a)
+
+-- a line for each, or one that says that there is none
+abbrev pub frame_line : Frame → List ℕ
+frame_line f = f.name ++ codes " " ++ f.path ++ codes ":" ++ decimal f.line ++ codes ":" ++ decimal f.column ++ codes "\n"
+
+abbrev pub frames_text : Elf → ℕ → List ℕ
+frames_text elf a = or_none (flat_map frame_line (frames elf a))

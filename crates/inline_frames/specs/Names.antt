@@ -1,0 +1,76 @@
+-- The names of entries. DWARF 5, sections 2.15, 3.3.8, 7.5.5 and 7.26.
+use Rattle.std.specs.Prelude.{◌+◌, ◌*◌, ◌==◌, ◌&&◌, ℕ, zero, suc, List, codes, nat_le, if◌then◌else◌, Option, Some, None, option_and_then}
+use Rattle.std.specs.List.{find}
+use Rattle.std.specs.Option.{option_or}
+use Rattle.elf_image.specs.declared.elf.Elf.{Elf}
+use Rattle.table_core.specs.declared.form.TheConstants.{DW_FORM_string, DW_FORM_strp, DW_FORM_line_strp, DW_FORM_ref_addr, DW_FORM_ref_udata}
+use Rattle.table_core.specs.Forms.{is_text_index}
+use Rattle.table_core.specs.Texts.{text_in}
+use Rattle.table_core.specs.Sections.{bytes_of}
+use Rattle.dw_unit.specs.declared.attribute.TheConstants.{DW_AT_name, DW_AT_abstract_origin, DW_AT_specification, DW_AT_str_offsets_base}
+use Rattle.dw_unit.specs.declared.entry.Attr.{Attr}
+use Rattle.dw_unit.specs.Units.{Entry, Unit, Sections, units, entries, attr, base, number_in}
+use Rattle.dw_unit.specs.Tables.{sections_of}
+
+-- the sections that names are read from
+pub record NameSections : Type 0 where
+  pub units : Sections
+  pub str : List ℕ
+  pub line_str : List ℕ
+  pub str_offsets : List ℕ
+
+abbrev pub name_sections : Elf → NameSections
+name_sections elf = record {
+  units = sections_of elf;
+  str = bytes_of elf (codes ".debug_str");
+  line_str = bytes_of elf (codes ".debug_line_str");
+  str_offsets = bytes_of elf (codes ".debug_str_offsets");
+}
+
+-- the unit of an entry
+abbrev pub unit_of_entry : NameSections → Entry → Option Unit
+unit_of_entry s e = find (λ (u : Unit). u.place == e.unit) (units s.units)
+
+-- an index counts offsets of four bytes from the unit's base on
+abbrev pub text_of_index : NameSections → Entry → ℕ → Option (List ℕ)
+text_of_index s e index =
+    option_and_then
+    (λ u. option_and_then (λ b. option_and_then (text_in s.str) (number_in 4 (b + 4 * index) s.str_offsets)) (base DW_AT_str_offsets_base u))
+    (unit_of_entry s e)
+
+abbrev pub text_of : NameSections → Entry → Attr → Option (List ℕ)
+text_of s e a =
+    if a.form == DW_FORM_string then text_in s.units.info a.place
+    else (if a.form == DW_FORM_strp then text_in s.str a.value
+    else (if a.form == DW_FORM_line_strp then text_in s.line_str a.value
+    else (if is_text_index a.form then text_of_index s e a.value else None)))
+
+-- a reference is an offset in the section, or one in its unit
+abbrev pub target_of : Entry → Attr → Option ℕ
+target_of e a =
+    if a.form == DW_FORM_ref_addr then Some a.value
+    else (if nat_le DW_FORM_ref_addr a.form && nat_le a.form DW_FORM_ref_udata then Some (e.unit + a.value) else None)
+
+-- the entry that an entry names as the one that it is an instance of, or that it completes
+abbrev pub referred : NameSections → Entry → Option Entry
+referred s e = option_and_then (λ place. find (λ (x : Entry). x.place == place) (entries s.units))
+    (option_and_then (target_of e) (option_or (attr DW_AT_abstract_origin e) (attr DW_AT_specification e)))
+
+-- Its own name, or else that of the entry which it names, as `more` finds it. A name of its own that can't be read is none.
+abbrev pub name_or : NameSections → Entry → Option (List ℕ) → Option (List ℕ)
+name_or s e more = by (attr DW_AT_name e) where
+  by : Option Attr → Option (List ℕ)
+  by (Some a) = text_of s e a
+  by None = more
+
+-- through at most n references
+abbrev pub name_within : NameSections → ℕ → Entry → Option (List ℕ)
+name_within s zero e = name_or s e None
+name_within s (suc n) e = name_or s e (option_and_then (name_within s n) (referred s e))
+
+-- the longest way of references that is followed
+abbrev pub reference_limit : ℕ
+reference_limit = 16
+
+abbrev pub name_of : NameSections → Entry → Option (List ℕ)
+name_of s e = name_within s reference_limit e

@@ -1,0 +1,7 @@
+pub mod Operations
+pub mod Machine
+pub mod Entries
+pub mod Units
+pub mod Answers
+pub mod Tables
+pub mod Kept

@@ -1,0 +1,9 @@
+pub mod Steps
+pub mod Units
+pub mod Forms
+pub mod Sections
+pub mod Runs
+pub mod Carried
+pub mod Weights
+pub mod AddressRanges
+pub mod Texts

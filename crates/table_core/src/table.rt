@@ -1,0 +1,104 @@
+// Tables of answers by address.
+ghost use Rattle.std.specs.Prelude.{◌≡◌, ◌≤◌, ◌-◌, ◌^◌, ℕ, List, Option, Some, IfOk, IsTrue, ◌↔◌, MatchResult, option_map, min, length};
+ghost use Rattle.rb_bytes.specs.declared.fault.FaultKind.{FaultKind};
+ghost use Rattle.elf_image.specs.declared.elf.Elf.{Elf};
+ghost use Rattle.elf_image.specs.faults.FirstFault.{IsFree, IsRefusalBy};
+ghost use Rattle.addr_map.specs.declared.span.Span.{Span};
+ghost use Rattle.table_core.specs.declared.run.Run.{Run};
+ghost use Rattle.table_core.specs.declared.written.ListAt.{ListAt};
+ghost use Rattle.table_core.specs.declared.written.Written.{Written};
+ghost use Rattle.table_core.specs.Runs.{carried, run_at, IsWithin};
+ghost use Rattle.table_core.specs.Carried.{IsCarried};
+
+use crate::run::Run;
+use crate::written::Written;
+use addr_map::AddrMap;
+use elf_image::elf::Elf;
+use rb_bytes::fault::{NoMemory, Refusal};
+use std::alloc::Global;
+
+/// A table of a file that answers by address, and that can be written anew for moved code.
+///
+/// The law is the clause `law` of `write_runs`. Whoever writes the file owes that the written table stands in it.
+pub trait AddrTable: Drop {
+    /// An answer of the table, never an empty one.
+    type Answer: Drop;
+
+    /// What an answer says, whatever memory it owns.
+    ghost Meaning: { Type 0 };
+
+    ghost said: { Self.Answer → Meaning };
+
+    /// What the table says at an address.
+    ghost holds: { Self → ℕ → Option Meaning };
+
+    /// What the table in a file says at an address; none where the file has a fault of the table.
+    ghost means: { Elf → Option (ℕ → Option Meaning) };
+
+    /// The places of the faults that reading the table looks for, by their kind.
+    ghost has: { Elf → FaultKind → ℕ → Type 0 };
+
+    /// The table may have been read from a file: that has the same sections and cuts, as far as they matter.
+    ghost comes_from: { Self → Elf → Type 0 };
+
+    /// The maps under which the table can be written anew.
+    ghost allows: { Self → List Span → Type 0 };
+
+    /// A table that was written for an input and a map stands in a file.
+    ghost stands: { Elf → List Span → Written → Elf → Type 0 };
+
+    /// The second answer, of the new table, is the first, of the old one, carried by a map.
+    ghost carries: { List Span → Meaning → Meaning → Type 0 };
+
+    /// A weight of the table that would be written for a map.
+    ghost weighs: { Self → List Span → ℕ → Type 0 };
+
+    /// What has to hold for the table to be written with numbers of 32 bits: its sections are no larger than a file may be, and its
+    /// weight, or for a loaded table the end of what is written, is within its limit.
+    ghost fits: { Self → List Span → List (Run Self.Answer) → Type 0 };
+
+    /// A bound on the bytes of the written table.
+    ghost bounds: { Self → List Span → List (Run Self.Answer) → ℕ → Type 0 };
+
+    /// The places of lists that a written table says are those that entries and units need, each once and below 2 ^ 32.
+    ghost lists_for: { Self → List ListAt → Type 0 };
+
+    /// What a file in which the table stands keeps of the input besides answers.
+    ghost keeps: { Elf → Elf → Type 0 };
+
+    /// Whether two answers say the same.
+    fn same(x: &Self::Answer, y: &Self::Answer) -> bool
+        ensures { IsTrue result ↔ (said x.now ≡ said y.now) };
+
+    /// Reads the table, or refuses the file for the table's first fault.
+    fn read(alloc: Global, elf: &Elf) -> Result<Self, Refusal>
+    where
+        Self: Sized,
+        ensures reads { MatchResult result (λ t. (means elf.now ≡ Some (holds t)) × IsFree (has elf.now)) (λ e. IsRefusalBy (has elf.now) e) }
+        ensures comes { IfOk result (λ t. comes_from t elf.now) };
+
+    /// The answer at an address.
+    fn at(&self, alloc: Global, a: u64) -> Result<Option<Self::Answer>, NoMemory>
+        ensures { IfOk result (λ o. option_map said o ≡ holds self.now a) };
+
+    /// A weight of the table that would be written for a map, which bounds its size in bytes; or the greatest number, where the weight is
+    /// none of 64 bits.
+    fn weight(&self, alloc: Global, map: &AddrMap) -> Result<u64, NoMemory>
+        ensures { IfOk result (λ n. (weight : ℕ) × weighs self.now map.now weight × (n ≡ min weight (2 ^ 64 - 1))) };
+
+    /// Writes the table anew, of runs that have the old answers at the owners of their bytes.
+    fn write_runs(
+        &self,
+        alloc: Global,
+        runs: &[Run<Self::Answer>],
+        map: &AddrMap,
+    ) -> Result<Written, NoMemory>
+        requires allowed { allows self.now map.now }
+        requires fitting { fits self.now map.now runs.now }
+        requires within { IsWithin 0 runs.now (2 ^ 64 - 1) }
+        requires answers { (p : ℕ) → option_map said (run_at runs.now p) ≡ carried (holds self.now) map.now p }
+        ensures law { IfOk result (λ w. (i f : Elf) → comes_from self.now i → stands i map.now w f →
+            IsCarried (carries map.now) map.now (λ p. option_map said (run_at runs.now p)) (means f) × IsFree (has f) × keeps i f) }
+        ensures lists { IfOk result (λ w. lists_for self.now w.lists.items) }
+        ensures size { IfOk result (λ w. (n : ℕ) → bounds self.now map.now runs.now n → length w.bytes.items ≤ n) };
+}
