@@ -1,9 +1,9 @@
 -- From what the steps of a rewrite come to, to the answers of the whole.
 use Rattle.std.proofs.Common.{length, ◌≡◌, ◌∙◌, ◌≢◌, sym, ap, subst, ℕ, ◌<◌, ◌≤◌, List, Option, Some, None, arith, IsTrue, IsSomeAnd}
-use Rattle.rb_io.specs.Counts.{Rose}
+use Rattle.rb_io.specs.FaultCounts.{Rose}
 use Rattle.rb_io.specs.Names.{Unchanged, NeverFalls}
-use Rattle.rb_io.specs.Printed.{TakesAll, TakesFront}
-use Rattle.rb_io.specs.Seen.{FilesSeen, FilesGoOn}
+use Rattle.rb_io.specs.TakenText.{TakesAll, TakesPrefix}
+use Rattle.rb_io.specs.Views.{FilesSeen, FilesGoOn}
 use Rattle.rb_bytes.specs.Fault.{fault_at}
 use Rattle.rb_bytes.specs.declared.fault.Fault.{Fault}
 use Rattle.rb_bytes.specs.declared.fault.FaultKind.TheVariants.{TooLarge}
@@ -13,13 +13,14 @@ use Rattle.bolt_cli.specs.declared.rewrite.Rewritten.{Rewritten}
 use Rattle.bolt_cli.specs.World.{World}
 use Rattle.bolt_cli.specs.Words.{RewriteNames}
 use Rattle.bolt_cli.specs.Lines.{refused_line}
-use Rattle.bolt_cli.specs.Refused.{IsRefused, IsAccepted, file_limit, long_file, long_profile}
-use Rattle.bolt_cli.specs.Rewritten.{IsRewritten}
-use Rattle.bolt_cli.specs.Spans.{spans_of, map_text, count_of}
-use Rattle.bolt_cli.specs.Inputs.{AreRead}
-use Rattle.bolt_cli.specs.Phases.{LinePrinted, all_printed, front_printed, none_printed, StoppedWriting, at_out, at_map, at_summary, OutputsWritten}
-use Rattle.bolt_cli.specs.RewriteAnswers.{OfInputs, RewriteAnswers, FailsToWrite, FailsAtSummary, summary_of}
-use Rattle.bolt_cli.specs.RewriteAnswers as answers
+use Rattle.bolt_cli.specs.rewrite.Refusals.{IsRefused, IsAccepted, file_limit, long_file, long_profile}
+use Rattle.bolt_cli.specs.rewrite.RewrittenFile.{IsRewritten}
+use Rattle.addr_map.specs.MapText.{map_text}
+use Rattle.bolt_cli.specs.rewrite.FirstMap.{spans_of, count_of}
+use Rattle.bolt_cli.specs.rewrite.Inputs.{AreRead}
+use Rattle.bolt_cli.specs.rewrite.Phases.{LinePrinted, all_printed, prefix_printed, none_printed, StoppedWriting, at_out, at_map, at_summary, OutputsWritten}
+use Rattle.bolt_cli.specs.rewrite.RewriteAnswers.{OfInputs, RewriteAnswers, FailsToWrite, FailsAtSummary, summary_of}
+use Rattle.bolt_cli.specs.rewrite.RewriteAnswers as answers
 
 -- a refusal, where its fault is present and the files are as they were
 pub refuses : (answer : Status) (fault : Fault) (names : RewriteNames) (old new : World)
@@ -27,7 +28,7 @@ pub refuses : (answer : Status) (fault : Fault) (names : RewriteNames) (old new 
     → (IsTrue old.files.told → OfInputs old names (λ file profile. IsRefused file profile fault)) → RewriteAnswers answer names old new
 refuses answer fault names old new (all_printed is taken) same present =
     subst (λ (a : Status). RewriteAnswers a names old new) (sym is) (record { present = present; prints = record { line_taken = taken; unwritten = same } })
-refuses answer fault names old new (front_printed is rose taken) same present =
+refuses answer fault names old new (prefix_printed is rose taken) same present =
     subst (λ (a : Status). RewriteAnswers a names old new) (sym is) (answers.at_refusal fault present (record { print = record { cause = rose; front = taken }; unwritten = same }))
 refuses answer fault names old new (none_printed is kept) same present =
     subst (λ (a : Status). RewriteAnswers a names old new) (sym is) (record { unprinted = kept; unwritten = same })
@@ -108,8 +109,8 @@ module _ (names : RewriteNames) (r : Rewritten) (file profile : List ℕ) (old m
   line_taken : TakesAll mid.output.taken new.output.taken r.summary.items → TakesAll old.output.taken new.output.taken (summary_of file)
   line_taken t = subst (λ (o : Option (List ℕ)). TakesAll o new.output.taken (summary_of file)) between.taken_is (subst (TakesAll mid.output.taken new.output.taken) made.summary_is t)
 
-  front_taken : TakesFront mid.output.taken new.output.taken r.summary.items → TakesFront old.output.taken new.output.taken (summary_of file)
-  front_taken t = subst (λ (o : Option (List ℕ)). TakesFront o new.output.taken (summary_of file)) between.taken_is (subst (TakesFront mid.output.taken new.output.taken) made.summary_is t)
+  front_taken : TakesPrefix mid.output.taken new.output.taken r.summary.items → TakesPrefix old.output.taken new.output.taken (summary_of file)
+  front_taken t = subst (λ (o : Option (List ℕ)). TakesPrefix o new.output.taken (summary_of file)) between.taken_is (subst (TakesPrefix mid.output.taken new.output.taken) made.summary_is t)
 
   stops : StoppedWriting names r mid new → FailsToWrite names old new
   stops (at_out rose quiet others) = answers.at_out (record {

@@ -1,12 +1,14 @@
 -- Each answer but Ok and want of memory has a cause: a fault that is present, or a count that rose.
-use Rattle.std.proofs.Common.{inl, inr, ℕ, List, Option, Some, None, IsTrue, IsSomeAnd, arith}
+use Rattle.std.proofs.Common.{◌≤◌, inl, inr, ℕ, List, Option, Some, None, IsTrue, IsSomeAnd, arith}
 use Rattle.rb_bytes.specs.declared.fault.Fault.{Fault}
 use Rattle.bolt_cli.specs.declared.status.Status.{Status}
 use Rattle.bolt_cli.specs.declared.status.Status.TheVariants as status
 use Rattle.bolt_cli.specs.World.{World}
-use Rattle.bolt_cli.specs.Words.{RewriteNames}
-use Rattle.bolt_cli.specs.Refused.{IsRefused, long_file, long_profile, unsound, not_built, IsAccepted}
-use Rattle.bolt_cli.specs.RewriteAnswers.{RewriteAnswers, OfInputs, NoneRose, IsOkOrNoMemory, at_out, at_map, at_summary, at_refusal}
+use Rattle.rb_io.specs.Views.{FilesGoOn}
+use Rattle.bolt_cli.specs.CommandAnswers.{Serves}
+use Rattle.bolt_cli.specs.Words.{RewriteNames, Rewrite}
+use Rattle.bolt_cli.specs.rewrite.Refusals.{IsRefused, long_file, long_profile, unsound, not_built, much_code, IsAccepted}
+use Rattle.bolt_cli.specs.rewrite.RewriteAnswers.{RewriteAnswers, OfInputs, NoneRose, IsOkOrNoMemory, at_out, at_map, at_summary, at_refusal}
 
 -- a file that is refused isn't accepted
 not_both : (file profile : List ℕ) (fault : Fault) → IsRefused file profile fault → IsAccepted file profile → ⊥
@@ -15,6 +17,7 @@ not_both file profile fault (long_profile fits long e) accepted = let fits_too =
 not_both file profile fault (unsound fit present) accepted = accepted.sound fault.kind fault.place present.present
 not_both file profile fault (not_built fit sound (inl filled) e) accepted = filled accepted.no_profile
 not_both file profile fault (not_built fit sound (inr other) e) accepted = other accepted.form
+not_both file profile fault (much_code fit sound built much e) accepted = accepted.code_fits much
 
 -- two facts of both inputs that exclude each other
 exclude : (a b : Option (List ℕ)) (P Q : List ℕ → List ℕ → Type 0) → ((f p : List ℕ) → P f p → Q f p → ⊥) → IsSomeAnd a (λ f. IsSomeAnd b (λ p. P f p)) → IsSomeAnd a (λ f. IsSomeAnd b (λ p. Q f p)) → ⊥
@@ -34,3 +37,13 @@ completes names status.WriteFault old new (at_summary rose front whole others) t
 completes names status.WriteFault old new (at_refusal fault present stopped) told accepted quiet = quiet.line stopped.print.cause
 completes names status.NoMemory old new done told accepted quiet = tt
 completes names _ old new done told accepted quiet = absurd done
+
+pub serves : (names : RewriteNames) (answer : Status) (old new : World) → RewriteAnswers answer names old new
+    → FilesGoOn old.files new.files → old.input.faults ≤ new.input.faults → old.output.faults ≤ new.output.faults → Serves (Some (Rewrite names)) answer old new
+serves names answer old new answers go_on input output = record {
+  answers = answers;
+  completes = completes names answer old new answers;
+  files_go_on = go_on;
+  input_faults = input;
+  output_faults = output;
+}

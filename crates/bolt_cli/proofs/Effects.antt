@@ -10,13 +10,13 @@ use Rattle.rv_code.specs.declared.action.Operand.TheVariants.{Register, Immediat
 use Rattle.rv_code.specs.declared.action.Action.TheVariants.{Compute, SystemCall}
 use Rattle.rv_code.specs.declared.inst.Inst.{Inst}
 use Rattle.rv_code.specs.declared.inst.Inst.TheVariants.{Lui, Addi, Slti, Sltiu, Xori, Ori, Andi, Slli, Srli, Srai, Ecall}
-use Rattle.rv_code.specs.Action.{action_of}
-use Rattle.rv_code.specs.Op.{apply}
-use Rattle.rv_code.specs.Word.{word}
-use Rattle.rv_code.specs.Machine.{Space, Event, events, Call, Read, Write, Exit, Brk, Unknown, call_of, no_such_call, set_register, with_break, cells_at, all_may, may_read, may_write, Going, Ended, Halts}
-use Rattle.rv_code.specs.Step.{ByteState, ByteOutcome, a0, a1, a7, buffer_size, effect, reads_input, read_call, writes_output, write_call}
-use Rattle.bolt_cli.specs.FirstForm.{IsStraight}
-use Rattle.bolt_cli.specs.Rewritten.{IsQuiet}
+use Rattle.rv_code.specs.isa.Action.{action_of}
+use Rattle.rv_code.specs.isa.Op.{apply}
+use Rattle.rv_code.specs.isa.TwosComplement.{unsigned64}
+use Rattle.rv_code.specs.machine.Machine.{Space, Event, events, Call, Read, Write, Exit, Brk, Unknown, call_of, no_such_call, set_register, with_break, memory_bytes, all_may, may_read, may_write, Going, Ended, Halts}
+use Rattle.rv_code.specs.machine.Step.{ByteState, ByteOutcome, a0, a1, a7, buffer_size, effect, reads_input, read_call, writes_output, write_call}
+use Rattle.bolt_cli.specs.rewrite.FirstForm.{IsStraight}
+use Rattle.bolt_cli.specs.rewrite.RewrittenFile.{IsNoIo}
 use Rattle.bolt_cli.proofs.OneSegment.{HasNoBreak}
 
 -- a state whose break is 0
@@ -25,7 +25,7 @@ stand space memory pc registers input = record { pc = pc; registers = registers;
 
 -- it goes on with a call that reads or writes a file, or it halts
 abbrev pub IsLoud : ByteOutcome → Type 0
-IsLoud (Going s e) = All IsQuiet (events e) → ⊥
+IsLoud (Going s e) = All IsNoIo (events e) → ⊥
 IsLoud (Ended status) = ⊥
 IsLoud (Halts pc cause) = Unit {0}
 
@@ -46,7 +46,7 @@ pub data Does (a : Action) (registers : ℕ → ℕ) : Type 0 where
   ends : (status : ℕ) → EndsWith a registers status → Does a registers
   loud : ((space : Space) (memory : ℕ → ℕ) (pc next : ℕ) (input : List ℕ) → IsLoud (effect a next (stand space memory pc registers input))) → Does a registers
 
-all_head : (e : Event) → All IsQuiet (e ∷ []) → IsQuiet e
+all_head : (e : Event) → All IsNoIo (e ∷ []) → IsNoIo e
 all_head e h = h 0 e (search rules)
 
 read_loud : (s : ByteState) (next : ℕ) (b : Bool) → IsLoud (read_call s next b)
@@ -61,7 +61,7 @@ write_loud : (s : ByteState) (next : ℕ) (b : Bool) → IsLoud (write_call s ne
 write_loud s next false = λ h. (all_head _ h).1 refl
 write_loud s next true = cases (all_may (may_read s) (s.registers a1) (buffer_size s))
   where
-    cases : (b : Bool) → IsLoud (writes_output s next (s.registers a0) (cells_at s.memory (s.registers a1) (buffer_size s)) b)
+    cases : (b : Bool) → IsLoud (writes_output s next (s.registers a0) (memory_bytes s.memory (s.registers a1) (buffer_size s)) b)
     cases true = λ h. (all_head _ h).1 refl
     cases false = tt
 
@@ -99,10 +99,10 @@ does_call registers Unknown is =
 
 -- each operation with an immediate
 computes : (o : Op) (rd rs1 : ℕ) (imm : ℤ) (registers : ℕ → ℕ) → Does (Compute o rd (Register rs1) (Immediate imm)) registers
-computes o rd rs1 imm registers = goes (set_register rd (apply o (registers rs1) (word imm)) registers) None (λ space memory pc next input none. refl)
+computes o rd rs1 imm registers = goes (set_register rd (apply o (registers rs1) (unsigned64 imm)) registers) None (λ space memory pc next input none. refl)
 
 pub does_straight : (i : Inst) → IsStraight i → (registers : ℕ → ℕ) → Does (action_of i) registers
-does_straight (Lui rd imm) s registers = goes (set_register rd (word imm * 4096 % 2 ^ 64) registers) None (λ space memory pc next input none. refl)
+does_straight (Lui rd imm) s registers = goes (set_register rd (unsigned64 imm * 4096 % 2 ^ 64) registers) None (λ space memory pc next input none. refl)
 does_straight (Addi rd rs1 imm) s registers = computes op.Add rd rs1 imm registers
 does_straight (Slti rd rs1 imm) s registers = computes op.Slt rd rs1 imm registers
 does_straight (Sltiu rd rs1 imm) s registers = computes op.Sltu rd rs1 imm registers

@@ -2,8 +2,8 @@
 use Rattle.std.proofs.Common.{◌≡◌, ℕ, ◌+◌, ◌*◌, ◌%◌, ◌^◌, ◌<◌, ◌≤◌, Option, Some, Bool, true, false, refl, arith, add-zero, add_assoc}
 use Rattle.std.specs.Prelude.{◌&&◌, ◌==◌}
 use Rattle.std.proofs.lemmas.Bool.{and_parts, eqb-true, eq-eqb}
-use Rattle.rv_code.specs.Machine.{plus, all_may, cells_at, little, may_execute}
-use Rattle.rv_code.specs.Step.{ByteState, halfword, fetched_if, fetched}
+use Rattle.rv_code.specs.machine.Machine.{plus, all_may, memory_bytes, little, may_execute}
+use Rattle.rv_code.specs.machine.Step.{ByteState, halfword, fetched_if, fetched}
 
 -- no address of a word wraps
 plus_inside : (a j : ℕ) → a + j < 2 ^ 64 → plus a j ≡ a + j
@@ -13,8 +13,8 @@ two_may : (may : ℕ → Bool) (a : ℕ) → a + 2 ≤ 2 ^ 64 → may a ≡ true
 unfolding all_may
 two_may may a room first second = rw (first, plus_inside a 1 (omega arith), second) refl
 
-two_cells : (memory : ℕ → ℕ) (a b c : ℕ) → a + 2 ≤ 2 ^ 64 → memory a ≡ b → memory (a + 1) ≡ c → little (cells_at memory a 2) ≡ b + 256 * c
-unfolding cells_at little
+two_cells : (memory : ℕ → ℕ) (a b c : ℕ) → a + 2 ≤ 2 ^ 64 → memory a ≡ b → memory (a + 1) ≡ c → little (memory_bytes memory a 2) ≡ b + 256 * c
+unfolding memory_bytes little
 two_cells memory a b c room first second = rw (first, plus_inside a 1 (omega arith), second) (omega arith)
 
 -- the halfword of the bytes at a place and the next one

@@ -2,9 +2,9 @@
 use Rattle.std.proofs.Common.{◌≡◌, ◌∙◌, sym, ap, subst, ℕ, ◌+◌, ◌*◌, ◌-◌, ◌<◌, List, arith}
 use Rattle.elf_image.specs.declared.segment.Segment.{Segment}
 use Rattle.elf_image.specs.declared.section.SectionHeader.{SectionHeader}
-use Rattle.elf_image.specs.Header.{e_phoff, e_shoff, segment_at}
-use Rattle.elf_image.specs.Sections.{section_header_at, section_header}
-use Rattle.bolt_cli.specs.FirstForm.{IsStraightAt, HasFirstHeader, HasFirstSegment, HasFirstSections, HasFirstNames, HasFirstCode, IsFirstForm, code_segment, text_section, names_section, offset_of}
+use Rattle.elf_image.specs.file.Header.{e_phoff, e_shoff, segment_at}
+use Rattle.elf_image.specs.file.Sections.{section_header_at, section_header}
+use Rattle.bolt_cli.specs.rewrite.FirstForm.{IsStraightAt, HasFirstHeader, HasFirstSegment, HasFirstSections, HasFirstNames, HasFirstCode, IsFirstForm, code_segment, text_section, names_section, offset_of}
 
 pub record AreParts (file : List ℕ) (segment : Segment) (null text names : SectionHeader) : Type 0 where
   pub segment_is : segment ≡ code_segment file

@@ -1,3 +1,4 @@
+pub mod CodeSizes
 pub mod Effects
 pub mod Fetching
 pub mod MovedCode

@@ -3,14 +3,14 @@ use Rattle.std.proofs.Common.{◌≡◌, ◌∙◌, sym, ap, subst, ℕ, ◌+◌
 use Rattle.std.proofs.lemmas.Grind.{common_steps}
 use Rattle.std.proofs.lemmas.List.{get_or-drop, get_or-take, get_or_append_left, get_or-append-add}
 use Rattle.elf_image.specs.declared.segment.Segment.{Segment}
-use Rattle.elf_image.specs.Header.{number_at, e_phoff, e_phnum, segment_at}
+use Rattle.elf_image.specs.file.Header.{number_at, e_phoff, e_phnum, segment_at}
 use Rattle.elf_image.proofs.Patches.{number_at-front}
 use Rattle.elf_image.specs.declared.section.SectionHeader.{SectionHeader}
-use Rattle.elf_image.specs.Image.{end_of}
-use Rattle.elf_image.specs.Start.{rounded_up}
-use Rattle.bolt_cli.specs.FirstForm.{IsFirstForm, HasFirstSegment, HasFirstCode, code_segment, text_section, offset_of}
-use Rattle.bolt_cli.specs.Spans.{new_start}
-use Rattle.bolt_cli.specs.Moved.{IsArea, IsMoved, IsPatched, new_offset}
+use Rattle.elf_image.specs.memory.Image.{end_of}
+use Rattle.elf_image.specs.memory.Start.{rounded_up}
+use Rattle.bolt_cli.specs.rewrite.FirstForm.{IsFirstForm, HasFirstSegment, HasFirstCode, code_segment, text_section, offset_of}
+use Rattle.bolt_cli.specs.rewrite.FirstMap.{new_start}
+use Rattle.bolt_cli.specs.rewrite.WrittenBytes.{IsArea, IsMoved, IsPatched, new_offset}
 use Rattle.bolt_cli.proofs.MovedBytes.{segment_at-same}
 
 -- a segment with both sizes changed

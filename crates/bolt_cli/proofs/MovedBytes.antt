@@ -1,9 +1,9 @@
 -- The bytes of a file of the first form after its code was moved.
 use Rattle.std.proofs.Common.{◌≡◌, ◌∙◌, ℕ, ◌+◌, ◌≤◌, ◌<◌, ◌^◌, ◌⊎◌, inl, inr, List, length, get_or, arith}
-use Rattle.elf_image.specs.Header.{number_at, e_entry, segment_at}
-use Rattle.elf_image.specs.Patched.{patched_number}
+use Rattle.elf_image.specs.file.Header.{number_at, e_entry, segment_at}
+use Rattle.elf_image.specs.file.Patches.{patched_number}
 use Rattle.elf_image.proofs.Patches.{get_or-patched, number_at-patched, number_at-patched_there, length-patched}
-use Rattle.bolt_cli.specs.Moved.{IsPatched}
+use Rattle.bolt_cli.specs.rewrite.WrittenBytes.{IsPatched}
 
 -- a program header is made of its numbers
 pub segment_at-same : (xs ys : List ℕ) (a : ℕ) → ((o n : ℕ) → a ≤ o → o + n ≤ a + 56 → number_at xs o n ≡ number_at ys o n) → segment_at xs a ≡ segment_at ys a

@@ -1,17 +1,17 @@
 -- Straight-line code at two places: a step at the one is a step at the other.
 use Rattle.std.proofs.Common.{◌≡◌, inl, inr, ℕ, suc, ◌+◌, ◌-◌, ◌*◌, ◌%◌, ◌^◌, ◌<◌, ◌≤◌, List, Option, Some, refl, sym, ap, subst, ◌∙◌, arith, get_or-drop}
 use Rattle.std.specs.Prelude.{unwrap_or, All, drop, slice_index}
-use Rattle.rv_code.specs.Decoding.{Decodes}
-use Rattle.rv_code.specs.Action.{action_of}
+use Rattle.rv_code.specs.isa.Decoding.{Decodes}
+use Rattle.rv_code.specs.isa.Action.{action_of}
 use Rattle.rv_code.specs.declared.inst.Inst.{Inst}
-use Rattle.rv_code.specs.Machine.{plus, Event, events, Going, Ended, Halts}
-use Rattle.rv_code.specs.Step.{ByteState, ByteOutcome, effect, fetched, Steps, no_fetch, illegal, does}
+use Rattle.rv_code.specs.machine.Machine.{plus, Event, events, Going, Ended, Halts}
+use Rattle.rv_code.specs.machine.Step.{ByteState, ByteOutcome, effect, fetched, Steps, no_fetch, illegal, does}
 use Rattle.elf_image.specs.declared.segment.Segment.{Segment}
-use Rattle.elf_image.specs.Header.{number_at, segments_of}
-use Rattle.elf_image.specs.Image.{end_of}
-use Rattle.elf_image.specs.Start.{space_of, start_memory}
-use Rattle.bolt_cli.specs.FirstForm.{IsStraight, IsStraightAt}
-use Rattle.bolt_cli.specs.Rewritten.{IsQuiet}
+use Rattle.elf_image.specs.file.Header.{number_at, segments_of}
+use Rattle.elf_image.specs.memory.Image.{end_of}
+use Rattle.elf_image.specs.memory.Start.{space_of, start_memory}
+use Rattle.bolt_cli.specs.rewrite.FirstForm.{IsStraight, IsStraightAt}
+use Rattle.bolt_cli.specs.rewrite.RewrittenFile.{IsNoIo}
 use Rattle.bolt_cli.proofs.OneSegment.{HasOneSegment, executable_inside, executable_below, memory_inside, no_break}
 use Rattle.bolt_cli.proofs.StraightCode.{HasStraightOpcode, straight_opcode, opcode_straight, low_bits}
 use Rattle.bolt_cli.proofs.Effects.{stand, IsLoud, GoesOn, Does, goes, ends, loud, does_straight}
@@ -87,7 +87,7 @@ pub record IsStraightCode (size : ℕ) (code : ℕ → ℕ) : Type 0 where
 -- to the next word, and the step of the written file goes to the next word too, with the same registers.
 abbrev pub IsKept : List ℕ → List ℕ → List (List ℕ) → List ℕ → ℕ → ℕ → ℕ → (ℕ → ℕ) → ByteOutcome → Type 0
 IsKept file written words input base new k registers (Going s e) =
-    All IsQuiet (events e) → (after : ℕ → ℕ) × (s ≡ state_at file words base (4 * suc k) after input)
+    All IsNoIo (events e) → (after : ℕ → ℕ) × (s ≡ state_at file words base (4 * suc k) after input)
     × Steps (state_at written words new (4 * k) registers input) (Going (state_at written words new (4 * suc k) after input) e)
 IsKept file written words input base new k registers (Ended status) = Steps (state_at written words new (4 * k) registers input) (Ended status)
 IsKept file written words input base new k registers (Halts pc cause) = Unit {0}

@@ -4,10 +4,10 @@ use Rattle.std.specs.Prelude.{slice_index, ◌&&◌, nat_lt, nat_le}
 use Rattle.std.proofs.lemmas.Bool.{lt-ltb, le-leb, lt-leb, eq-eqb, ltb-true, and_parts, and_from, and_left, and_right}
 use Rattle.elf_image.specs.declared.segment.Segment.{Segment}
 use Rattle.elf_image.specs.declared.segment.TheConstants.{PT_LOAD, PF_W, PF_X}
-use Rattle.elf_image.specs.Header.{segments_of}
-use Rattle.elf_image.specs.Image.{end_of, has_flag, has_memory, is_load, loads_address, segment_of, image_byte, is_loaded_with}
-use Rattle.elf_image.specs.Start.{in_stack, stack_end, stack_size, space_of, start_memory}
-use Rattle.rv_code.specs.Machine.{Space}
+use Rattle.elf_image.specs.file.Header.{segments_of}
+use Rattle.elf_image.specs.memory.Image.{end_of, has_flag, has_memory, is_load, loads_address, segment_of, image_byte, is_loaded_with}
+use Rattle.elf_image.specs.memory.Start.{in_stack, stack_end, stack_size, space_of, start_memory}
+use Rattle.rv_code.specs.machine.Machine.{Space}
 
 pub record HasOneSegment (file : List ℕ) (p : Segment) : Type 0 where
   pub only : segments_of file ≡ p ∷ []

@@ -2,18 +2,20 @@
 use Rattle.std.proofs.Common.{◌≡◌, ◌∙◌, ◌≤◌, sym, ap, subst, refl, ℕ, inl, inr, List, length, Option, Some, None, ◌<◌, IsTrue, IsSomeAnd, arith}
 use Rattle.std.specs.Prelude.{unwrap_or}
 use Rattle.rb_io.specs.Names.{Unchanged}
+use Rattle.rb_io.specs.Views.{FilesGoOn, SourceSeen}
 use Rattle.rb_bytes.specs.Fault.{fault_at}
 use Rattle.rb_bytes.specs.declared.fault.Fault.{Fault}
 use Rattle.rb_bytes.specs.declared.fault.FaultKind.TheVariants.{TooLarge}
-use Rattle.elf_image.specs.Present.{IsSound}
-use Rattle.rv_machine.specs.Answers.{Outside}
+use Rattle.elf_image.specs.faults.FileFaults.{IsSound}
+use Rattle.rv_machine.specs.StepAnswers.{Outside}
+use Rattle.bolt_cli.specs.CommandAnswers.{Serves}
 use Rattle.bolt_cli.specs.Lines.{refused_line}
-use Rattle.bolt_cli.specs.Refused.{file_limit}
-use Rattle.bolt_cli.specs.Phases.{LinePrinted, all_printed, front_printed, none_printed}
-use Rattle.bolt_cli.specs.RunAnswers.{IsPresent, at_file, at_input, at_refusal, at_output, at_closing, before_run, in_run, RunAnswers, NoneRose, Says, IsExact, RunCompletes, outside}
-use Rattle.bolt_cli.specs.RunPhases.{AnswersRun}
-use Rattle.bolt_cli.specs.Runs.{Ending, Ends, Traps, RunsOn, IsRunnable, CannotRun, too_long, unsound}
-use Rattle.bolt_cli.specs.Words.{RunWords}
+use Rattle.bolt_cli.specs.rewrite.Refusals.{file_limit}
+use Rattle.bolt_cli.specs.rewrite.Phases.{LinePrinted, all_printed, prefix_printed, none_printed}
+use Rattle.bolt_cli.specs.run.RunAnswers.{IsPresent, at_file, at_input, at_refusal, at_output, at_closing, before_run, in_run, RunAnswers, NoneRose, Says, IsExact, RunCompletes, outside}
+use Rattle.bolt_cli.specs.run.Phases.{AnswersRun}
+use Rattle.bolt_cli.specs.run.Endings.{Ending, Ends, Traps, RunsOn, IsRunnable, CannotRun, too_long, unsound, much_code}
+use Rattle.bolt_cli.specs.Words.{RunWords, Run}
 use Rattle.bolt_cli.specs.World.{World}
 use Rattle.bolt_cli.specs.declared.status.Status.{Status}
 use Rattle.bolt_cli.specs.declared.status.Status.TheVariants as status
@@ -22,6 +24,7 @@ use Rattle.bolt_cli.specs.declared.status.Status.TheVariants as status
 not_both : (file : List ℕ) (fault : Fault) → CannotRun file fault → IsRunnable file → ⊥
 not_both file fault (too_long long e) runnable = let fits = runnable.fits in absurd (omega arith)
 not_both file fault (unsound fits present) runnable = runnable.sound fault.kind fault.place present.present
+not_both file fault (much_code fits sound much e) runnable = runnable.code_fits much
 
 -- a file that is too long, and one with a fault
 pub present_long : (content : Option (List ℕ)) (fault : Fault) → fault ≡ fault_at TooLarge 0 → IsSomeAnd content (λ file. file_limit < length file) → IsSomeAnd content (λ file. CannotRun file fault)
@@ -40,12 +43,11 @@ module _ (content : Option (List ℕ)) (buffer slice kept : List ℕ) (passed : 
     pub kept_is : content ≡ Some buffer → content ≡ Some kept
     kept_is is = passed_is is ∙ ap Some (sym keeps)
 
-    pub kept_runnable : length buffer ≤ file_limit → IsSound slice → IsRunnable kept
-    kept_runnable fits sound = record { fits = subst (λ (f : List ℕ). length f ≤ file_limit) (sym passed ∙ sym keeps) fits; sound = subst IsSound (sym keeps) sound }
+    pub kept_fits : length buffer ≤ file_limit → length kept ≤ file_limit
+    kept_fits fits = subst (λ (f : List ℕ). length f ≤ file_limit) (sym passed ∙ sym keeps) fits
 
--- a run that got under way is no refusal
-pub never_refused : (answer : Status) (fault : Fault) (words : RunWords) (before after : Outside) (file : List ℕ) → answer ≡ status.Refused fault → AnswersRun answer words before after file → ⊥
-never_refused answer fault words before after file is run = subst (λ (a : Status). AnswersRun a words before after file) is run
+    pub kept_sound : IsSound slice → IsSound kept
+    kept_sound sound = subst IsSound (sym keeps) sound
 
 -- what holds of a file's content, by either of its names
 pub other_exact : (content : Option (List ℕ)) (one other : List ℕ) (answer : Status) (words : RunWords) (left : Option (List ℕ)) → content ≡ Some one → content ≡ Some other → IsExact answer words left one → IsExact answer words left other
@@ -59,7 +61,7 @@ module _ (words : RunWords) (old new : World) where
       → Unchanged old.files.content new.files.content → IsPresent words old fault → new.input ≡ old.input → RunAnswers words old new answer
   refuses answer fault (all_printed is taken) same present unread =
       subst (RunAnswers words old new) (sym is) (record { present = present; prints = record { line_taken = taken; unwritten = same }; unread = unread })
-  refuses answer fault (front_printed is rose taken) same present unread =
+  refuses answer fault (prefix_printed is rose taken) same present unread =
       subst (RunAnswers words old new) (sym is) (at_refusal fault present (record { print = record { cause = rose; front = taken }; unwritten = same }) unread)
   refuses answer fault (none_printed is kept) same present unread =
       subst (RunAnswers words old new) (sym is) (before_run (record { unprinted = kept; unwritten = same }) unread)
@@ -105,3 +107,25 @@ module _ (words : RunWords) (old new : World) where
 
     pub completes : (answer : Status) → RunAnswers words old new answer → IsExact answer words old.input.left file → RunCompletes words file answer old new
     completes answer done exact = record { some = λ quiet. some_ending quiet answer done; exactly = exact }
+
+  -- The whole of it, by an answer that is exact; and by a refusal, which no file gets that can be run.
+  pub serves : (answer : Status) → RunAnswers words old new answer → (IsTrue old.files.told → (file : List ℕ) → old.files.content words.file ≡ Some file → IsExact answer words old.input.left file)
+      → FilesGoOn old.files new.files → old.input.faults ≤ new.input.faults → old.output.faults ≤ new.output.faults → Serves (Some (Run words)) answer old new
+  serves answer done exact go_on input output = record {
+    answers = done;
+    completes = λ told file is runnable. completes file told is runnable answer done (exact told file is);
+    files_go_on = go_on;
+    input_faults = input;
+    output_faults = output;
+  }
+
+  pub refusal_serves : (answer : Status) (fault : Fault) → LinePrinted answer (status.Refused fault) (refused_line fault) old.output new.output
+      → Unchanged old.files.content new.files.content → IsPresent words old fault → new.input ≡ old.input → FilesGoOn old.files new.files → old.output.faults ≤ new.output.faults
+      → Serves (Some (Run words)) answer old new
+  refusal_serves answer fault printed same present unread go_on output = record {
+    answers = refuses answer fault printed same present unread;
+    completes = λ told file is runnable. absurd (none_present file told is runnable fault present);
+    files_go_on = go_on;
+    input_faults = let P : SourceSeen → Type 0 = λ input. old.input.faults ≤ input.faults in subst P (sym unread) (omega arith);
+    output_faults = output;
+  }

@@ -2,8 +2,8 @@
 use Rattle.std.proofs.Common.{◌≡◌, ℕ, ◌&&◌, nat_le, not, Bool, true, List, [], ◌∷◌, length, refl, arith, Option, Some, None, sum_by}
 use Rattle.std.specs.List.{list_all}
 use Rattle.std.proofs.lemmas.Bool.Decides.{nat_tests}
-use Rattle.rv_machine.specs.Limits.{IsWithinLimits}
-use Rattle.bolt_cli.specs.Words.{limit_of, number_of, holds_zero, are_program_words}
+use Rattle.rv_memory.specs.Limits.{IsWithinLimits}
+use Rattle.bolt_cli.specs.Words.{limit_of, decimal_number, holds_zero, are_program_words}
 
 -- the limit that the values of `--steps` say after the one that was read, if one was
 abbrev pub limit_after : Option ℕ → List (Option (List ℕ)) → Option ℕ
@@ -14,11 +14,11 @@ limit_after (Some limit) (value ∷ values) = None
 pub limit_of_none : (values : List (Option (List ℕ))) → limit_of (None ∷ values) ≡ None
 limit_of_none values = refl
 
-pub limit_of_bad : (digits : List ℕ) (values : List (Option (List ℕ))) → number_of digits ≡ None → limit_of (Some digits ∷ values) ≡ None
+pub limit_of_bad : (digits : List ℕ) (values : List (Option (List ℕ))) → decimal_number digits ≡ None → limit_of (Some digits ∷ values) ≡ None
 limit_of_bad digits [] bad = bad
 limit_of_bad digits (value ∷ values) bad = refl
 
-pub limit_of_number : (digits : List ℕ) (values : List (Option (List ℕ))) (limit : ℕ) → number_of digits ≡ Some limit → limit_of (Some digits ∷ values) ≡ limit_after (Some limit) values
+pub limit_of_number : (digits : List ℕ) (values : List (Option (List ℕ))) (limit : ℕ) → decimal_number digits ≡ Some limit → limit_of (Some digits ∷ values) ≡ limit_after (Some limit) values
 limit_of_number digits [] limit good = good
 limit_of_number digits (value ∷ values) limit good = refl
 

@@ -2,7 +2,9 @@
 use Rattle.std.proofs.Common.{◌≡◌, ◌∙◌, ap, ℕ, zero, suc, ◌+◌, ◌*◌, List, [], ◌∷◌, ◌++◌, arith, refl, add-one}
 use Rattle.std.proofs.lemmas.List.{append-nil}
 use Rattle.std.proofs.lemmas.List.Concat.{flat_map-append}
-use Rattle.bolt_cli.specs.Spans.{Span, spans_from, span_line, map_text}
+use Rattle.addr_map.specs.MapText.{span_line, map_text}
+use Rattle.addr_map.specs.declared.span.Span.{Span}
+use Rattle.bolt_cli.specs.rewrite.FirstMap.{spans_from}
 
 -- an instruction of four bytes
 abbrev span : ℕ → ℕ → Span

@@ -1,10 +1,10 @@
 -- What straight-line instructions are and do, wherever they stand.
 use Rattle.std.proofs.Common.{◌≡◌, ◌⊎◌, inl, inr, ℕ, ◌%◌, arith}
-use Rattle.rv_code.specs.Bits.{field}
-use Rattle.rv_code.specs.FullRows.{IsFull}
+use Rattle.rv_code.specs.isa.Bits.{field}
+use Rattle.rv_code.specs.isa.FullRows.{IsFull}
 use Rattle.rv_code.specs.declared.inst.Inst.{Inst}
 use Rattle.rv_code.specs.declared.inst.Inst.TheVariants.{Lui, Addi, Slti, Sltiu, Xori, Ori, Andi, Slli, Srli, Srai, Ecall}
-use Rattle.bolt_cli.specs.FirstForm.{IsStraight}
+use Rattle.bolt_cli.specs.rewrite.FirstForm.{IsStraight}
 
 -- the word has an opcode of straight-line instructions: OP-IMM or LUI, or it is ECALL
 abbrev pub HasStraightOpcode : ℕ → Type 0

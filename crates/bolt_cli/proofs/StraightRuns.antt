@@ -2,16 +2,16 @@
 use Rattle.std.proofs.Common.{◌≡◌, ℕ, zero, suc, ◌+◌, ◌-◌, ◌*◌, ◌/◌, ◌%◌, ◌^◌, ◌<◌, ◌≤◌, List, length, [], ◌∷◌, ◌++◌, Some, refl, sym, ap, subst, ◌∙◌, arith}
 use Rattle.std.specs.Prelude.{All, slice_index}
 use Rattle.std.proofs.lemmas.List.Elements.{All-nil, All-cons, All-head, All-tail}
-use Rattle.rv_code.specs.Machine.{Event, events, Going, Ended, SoFar, starts, more}
-use Rattle.rv_code.specs.Step.{ByteState, Steps}
+use Rattle.rv_code.specs.machine.Machine.{Event, events, Going, Ended, SoFar, starts, more}
+use Rattle.rv_code.specs.machine.Step.{ByteState, Steps}
 use Rattle.elf_image.specs.declared.segment.Segment.{Segment}
-use Rattle.elf_image.specs.Header.{e_entry, e_phoff, e_phnum, segment_at, segments_from, segments_of}
-use Rattle.elf_image.specs.Image.{end_of, image_byte}
-use Rattle.elf_image.specs.Start.{rounded_up, space_of, start, start_memory, start_registers, Runs}
-use Rattle.bolt_cli.specs.FirstForm.{IsFirstForm, code_segment, offset_of, text_section}
-use Rattle.bolt_cli.specs.Spans.{spans_from, new_start, count_of}
-use Rattle.bolt_cli.specs.Moved.{IsMoved, new_offset}
-use Rattle.bolt_cli.specs.Rewritten.{IsQuiet, HoldsByte, HoldsSpan, IsInFile, IsRewritten}
+use Rattle.elf_image.specs.file.Header.{e_entry, e_phoff, e_phnum, segment_at, segments_from, segments_of}
+use Rattle.elf_image.specs.memory.Image.{end_of, image_byte}
+use Rattle.elf_image.specs.memory.Start.{rounded_up, space_of, start, start_memory, start_registers, Runs}
+use Rattle.bolt_cli.specs.rewrite.FirstForm.{IsFirstForm, code_segment, offset_of, text_section}
+use Rattle.bolt_cli.specs.rewrite.FirstMap.{spans_from, new_start, count_of}
+use Rattle.bolt_cli.specs.rewrite.WrittenBytes.{IsMoved, new_offset}
+use Rattle.bolt_cli.specs.rewrite.RewrittenFile.{IsNoIo, HoldsByte, HoldsSpan, IsInFile, IsRewritten}
 use Rattle.bolt_cli.proofs.OneSegment.{HasOneSegment, executable_inside, unwritable_inside, byte_inside, no_break}
 use Rattle.bolt_cli.proofs.StraightCode.{HasStraightOpcode}
 use Rattle.bolt_cli.proofs.MovedCode.{HasCode, IsStraightCode, state_at, word_at, opcode_at, kept}
@@ -62,7 +62,7 @@ record IsFollowed (file written : List ℕ) (words : List (List ℕ)) (input : L
 
 module _ (file written : List ℕ) (p q : Segment) (base new size : ℕ) (code : ℕ → ℕ) (old_code : HasCode file p base size code) (new_code : HasCode written q new size code) (straight : IsStraightCode size code) (even : new % 4 ≡ 0)
     (entry : e_entry file ≡ base) (new_entry : e_entry written ≡ new) (words : List (List ℕ)) (input : List ℕ) where
-  follows : {n : ℕ} {trace : List Event} {s : ByteState} → SoFar Steps (start file words input) n trace s → All IsQuiet trace → IsFollowed file written words input base new n trace s
+  follows : {n : ℕ} {trace : List Event} {s : ByteState} → SoFar Steps (start file words input) n trace s → All IsNoIo trace → IsFollowed file written words input base new n trace s
   follows starts quiet = record {
     word = 0;
     registers = start_registers words;
@@ -70,12 +70,12 @@ module _ (file written : List ℕ) (p q : Segment) (base new size : ℕ) (code :
     there = subst (λ (s : ByteState). SoFar Steps (start written words input) 0 [] s) (start_is written q new words input new_code.one new_entry) starts;
   }
   follows (more {n = n} {trace = trace} {t = s} {u = t} e so_far step) quiet =
-      let f = follows so_far (all_front IsQuiet trace (events e) quiet) in
+      let f = follows so_far (all_front IsNoIo trace (events e) quiet) in
       let at_word : Steps (state_at file words base (4 * f.word) f.registers input) (Going t e) = subst (λ (s : ByteState). Steps s (Going t e)) f.here step in
-      let next = kept file written p q base new size code old_code new_code straight even words input f.word f.registers (Going t e) at_word (all_back IsQuiet trace (events e) quiet) in
+      let next = kept file written p q base new size code old_code new_code straight even words input f.word f.registers (Going t e) at_word (all_back IsNoIo trace (events e) quiet) in
       record { word = suc f.word; registers = next.0; here = next.1; there = more e f.there next.2 }
 
-  keeps_run : (n : ℕ) (trace : List Event) (status : ℕ) → All IsQuiet trace → Runs file words input n trace status → Runs written words input n trace status
+  keeps_run : (n : ℕ) (trace : List Event) (status : ℕ) → All IsNoIo trace → Runs file words input n trace status → Runs written words input n trace status
   keeps_run n trace status quiet r =
       let f = follows r.so_far quiet in
       let at_word : Steps (state_at file words base (4 * f.word) f.registers input) (Ended status) = subst (λ (s : ByteState). Steps s (Ended status)) f.here r.ends in

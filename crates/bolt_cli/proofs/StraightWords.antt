@@ -1,9 +1,9 @@
 -- What decoding finds at a place is the only instruction there.
 use Rattle.std.proofs.Common.{◌≡◌, sym, subst, ℕ, ◌+◌, List, Some}
-use Rattle.rv_code.specs.Decoding.{Decodes}
+use Rattle.rv_code.specs.isa.Decoding.{Decodes}
 use Rattle.rv_code.specs.declared.inst.Inst.{Inst}
-use Rattle.elf_image.specs.Header.{number_at}
-use Rattle.bolt_cli.specs.FirstForm.{IsStraight, IsStraightAt}
+use Rattle.elf_image.specs.file.Header.{number_at}
+use Rattle.bolt_cli.specs.rewrite.FirstForm.{IsStraight, IsStraightAt}
 
 pub straight_there : (file : List ℕ) (o half next : ℕ) (i : Inst) (bytes : ℕ) → half ≡ number_at file o 2 → next ≡ number_at file (o + 2) 2 → Decodes half (Some next) i bytes → bytes ≡ 4 → IsStraight i → IsStraightAt file o
 straight_there file o half next i bytes e f d four s =

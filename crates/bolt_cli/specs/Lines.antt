@@ -18,12 +18,15 @@ refused_end _ need room = codes "\n"
 
 abbrev pub refused_line : Fault → List ℕ
 refused_line fault =
-    codes "refused " ++ decimal (number_of fault.kind) ++ codes " " ++ name_of fault.kind ++ codes " at " ++ hexadecimal fault.place ++ refused_end fault.kind fault.need fault.room
+    codes "refused " ++ decimal (number_of fault.kind) ++ codes " " ++ name_of fault.kind ++ codes " at "
+    ++ hexadecimal fault.place ++ refused_end fault.kind fault.need fault.room
 
 -- what was moved
 abbrev pub summary_line : ℕ → ℕ → ℕ → ℕ → ℕ → List ℕ
 summary_line functions instructions bytes hot ignored =
-    codes "moved " ++ decimal functions ++ codes " functions, " ++ decimal instructions ++ codes " instructions, " ++ decimal bytes ++ codes " bytes; " ++ decimal hot ++ codes " hot blocks; " ++ decimal ignored ++ codes " profile lines ignored\n"
+    codes "moved " ++ decimal functions ++ codes " functions, " ++ decimal instructions ++ codes " instructions, "
+    ++ decimal bytes ++ codes " bytes; " ++ decimal hot ++ codes " hot blocks; "
+    ++ decimal ignored ++ codes " profile lines ignored\n"
 
 -- how a run ended, after how many steps
 

@@ -1,8 +1,8 @@
 -- What a command does that prints one line, or nothing, and writes no file.
 use Rattle.std.specs.Prelude.{◌≡◌, ℕ, List}
-use Rattle.rb_io.specs.Counts.{Rose}
+use Rattle.rb_io.specs.FaultCounts.{Rose}
 use Rattle.rb_io.specs.Names.{Unchanged}
-use Rattle.rb_io.specs.Printed.{TakesAll, TakesFront}
+use Rattle.rb_io.specs.TakenText.{TakesAll, TakesPrefix}
 use Rattle.bolt_cli.specs.World.{World}
 
 -- a line was printed, and no file was written
@@ -15,10 +15,10 @@ pub record IsSilent (old new : World) : Type 0 where
   pub unprinted : new.output.taken ≡ old.output.taken
   pub unwritten : Unchanged old.files.content new.files.content
 
--- a line fails: a proper front of it was taken
+-- a line fails: a proper prefix of it was taken
 pub record FailsToPrint (line : List ℕ) (old new : World) : Type 0 where
   pub cause : Rose old.output.faults new.output.faults
-  pub front : TakesFront old.output.taken new.output.taken line
+  pub front : TakesPrefix old.output.taken new.output.taken line
 
 -- it fails, and no file was written
 pub record FailsAtLine (line : List ℕ) (old new : World) : Type 0 where

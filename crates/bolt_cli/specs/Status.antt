@@ -3,13 +3,13 @@ use Rattle.std.specs.Prelude.{ℕ}
 use Rattle.bolt_cli.specs.declared.status.Status.{Status}
 use Rattle.bolt_cli.specs.declared.status.Status.TheVariants as status
 
-abbrev pub number_of : Status → ℕ
-number_of status.Ok = 0
-number_of (status.Ended value) = value
-number_of status.Usage = 220
-number_of (status.Refused fault) = 221
-number_of status.ReadFault = 222
-number_of status.WriteFault = 223
-number_of status.NoMemory = 224
-number_of (status.Trapped pc cause) = 225
-number_of status.OutOfSteps = 226
+abbrev pub exit_number : Status → ℕ
+exit_number status.Ok = 0
+exit_number (status.Ended value) = value
+exit_number status.Usage = 220
+exit_number (status.Refused fault) = 221
+exit_number status.ReadFault = 222
+exit_number status.WriteFault = 223
+exit_number status.NoMemory = 224
+exit_number (status.Trapped pc cause) = 225
+exit_number status.OutOfSteps = 226

@@ -88,8 +88,8 @@ rewrite_of (Positional file ∷ Positional profile ∷ Positional out ∷ Positi
 rewrite_of _ = None
 
 -- the number that 1 to 20 decimal digits write, below 2^64
-abbrev pub number_of : List ℕ → Option ℕ
-number_of digits =
+abbrev pub decimal_number : List ℕ → Option ℕ
+decimal_number digits =
     if nat_lt 0 (length digits) && nat_le (length digits) 20 && list_all is_ascii_digit digits && nat_lt (digits_value 10 digits) (2 ^ 64)
     then Some (digits_value 10 digits)
     else None
@@ -97,7 +97,7 @@ number_of digits =
 -- the most steps of a run: `--steps` says it, once, or not at all
 abbrev pub limit_of : List (Option (List ℕ)) → Option ℕ
 limit_of [] = Some 100000000
-limit_of (Some digits ∷ []) = number_of digits
+limit_of (Some digits ∷ []) = decimal_number digits
 limit_of _ = None
 
 -- a positional word, or an option that `run` has

@@ -1,19 +1,17 @@
 // The files that are rewritten today: one function of straight-line code, and nothing else.
 ghost use Rattle.std.specs.Prelude.{◌≡◌, ◌≢◌, ◌≤◌, ◌<◌, ◌+◌, ◌-◌, ◌*◌, ◌%◌, ◌^◌, ◌↔◌, ◌∷◌, [], ◌++◌, ℕ, Option, Some, length, IsTrue, IfSome, IfNone};
-ghost use Rattle.rv_code.specs.Decoding.{Decodes};
-ghost use Rattle.elf_image.specs.Header.{number_at, e_phoff, e_entry};
-ghost use Rattle.elf_image.specs.Sections.{contents, section_name};
-ghost use Rattle.elf_image.specs.Truncated.{HasHeader, HasContents, IsReadable};
-ghost use Rattle.elf_image.specs.Read.{AreSections, IsElfOf};
-ghost use Rattle.bolt_cli.specs.FirstForm.{IsStraight, IsStraightAt, HasFirstHeader, HasFirstSegment, HasFirstSections, HasFirstNames, HasFirstCode, IsFirstForm, null_header, is_loaded, is_code, code_segment, text_section, names_section, offset_of};
+ghost use Rattle.rv_code.specs.isa.Decoding.{Decodes};
+ghost use Rattle.elf_image.specs.file.Header.{number_at, e_phoff, e_entry};
+ghost use Rattle.elf_image.specs.file.Sections.{section_name};
+ghost use Rattle.elf_image.specs.faults.Truncation.{HasHeader, IsReadable};
+ghost use Rattle.elf_image.specs.file.ParsedFile.{AreSections, IsElfOf};
+ghost use Rattle.bolt_cli.specs.rewrite.FirstForm.{IsStraight, IsStraightAt, HasFirstHeader, HasFirstSegment, HasFirstSections, HasFirstNames, HasFirstCode, IsFirstForm, null_header, is_loaded, is_code, code_segment, text_section, names_section, offset_of};
 
 use elf_image::header::{
     EHDR_SIZE, e_entry, e_flags, e_phnum, e_phoff, e_shnum, e_shoff, e_shstrndx,
 };
 use elf_image::number::u16_at;
-use elf_image::section::{
-    SHDR_SIZE, SHF_ALLOC, SHF_EXECINSTR, SHT_NOBITS, SHT_PROGBITS, SHT_STRTAB,
-};
+use elf_image::section::{SHDR_SIZE, SHF_ALLOC, SHF_EXECINSTR, SHT_PROGBITS, SHT_STRTAB};
 use elf_image::segment::{PF_R, PF_W, PF_X, PHDR_SIZE, PT_LOAD};
 use elf_image::{Elf, SectionHeader, Segment};
 use rv_code::Inst;
@@ -34,7 +32,7 @@ pub const NULL_HEADER: SectionHeader = SectionHeader {
 };
 
 /// The end of the addresses that a segment may have.
-const ADDRESS_END: u64 = 0x4000_0000;
+const FIRST_FORM_END: u64 = 0x4000_0000;
 
 /// What a file of the first form has: its segment, and the headers of its code and of its names.
 #[derive(Clone, Copy)]
@@ -72,27 +70,14 @@ fn has_first_segment(file: &[u8], segment: &Segment) -> bool
     if segment.has_flag(PF_W) || segment.filesz != segment.memsz || segment.offset != 0 {
         return false;
     }
-    if segment.vaddr == 0 || segment.vaddr >= ADDRESS_END {
+    if segment.vaddr == 0 || segment.vaddr >= FIRST_FORM_END {
         return false;
     }
-    if segment.memsz >= ADDRESS_END - segment.vaddr || segment.filesz > file.len() as u64 {
+    if segment.memsz >= FIRST_FORM_END - segment.vaddr || segment.filesz > file.len() as u64 {
         return false;
     }
     segment.filesz >= EHDR_SIZE as u64
         && lies_within(e_phoff(file), PHDR_SIZE as u64, segment.filesz as usize)
-}
-
-/// The bytes of a section that lies in the file.
-pub fn section_bytes<'a>(file: &'a [u8], section: &SectionHeader) -> &'a [u8]
-    requires { HasContents file.now section.now }
-    ensures bytes { result.now ≡ contents file.now section.now }
-    ensures no_longer { length result.now ≤ length file.now }
-{
-    if section.kind == SHT_NOBITS || section.size == 0 {
-        return &file[..0];
-    }
-    let start = section.offset as usize;
-    &file[start..start + section.size as usize]
 }
 
 fn is_loaded(section: &SectionHeader) -> bool
@@ -210,7 +195,7 @@ fn has_first_code(file: &[u8], segment: &Segment, text: &SectionHeader) -> bool
 }
 
 impl FirstForm {
-    ghost use Rattle.bolt_cli.specs.Form.{IsFormOf};
+    ghost use Rattle.bolt_cli.specs.rewrite.ParsedForm.{IsFormOf};
 
     /// What a file that was read has, if it is of the first form.
     pub fn read(elf: &Elf<'_>) -> Option<FirstForm>

@@ -1,16 +1,17 @@
 // Writes a file of the first form with its code moved: the segment grows, and the code stands again
 // behind it.
 ghost use Rattle.std.specs.Prelude.{◌≡◌, ◌≤◌, ◌<◌, ◌+◌, ◌*◌, ◌^◌, ◌++◌, ℕ, length, take, slice_index, slice_range, IfOk, vec_len};
-ghost use Rattle.elf_image.specs.Image.{end_of};
-ghost use Rattle.elf_image.specs.Start.{rounded_up};
-ghost use Rattle.bolt_cli.specs.FirstForm.{IsFirstForm};
-ghost use Rattle.elf_image.specs.Truncated.{HasContents, IsReadable};
-ghost use Rattle.bolt_cli.specs.Form.{IsFormOf};
-ghost use Rattle.bolt_cli.specs.Moved.{IsMoved, IsArea, IsPatched};
+ghost use Rattle.elf_image.specs.memory.Image.{end_of};
+ghost use Rattle.elf_image.specs.memory.Start.{rounded_up};
+ghost use Rattle.bolt_cli.specs.rewrite.FirstForm.{IsFirstForm};
+ghost use Rattle.elf_image.specs.faults.Truncation.{HasContents, IsReadable};
+ghost use Rattle.bolt_cli.specs.rewrite.ParsedForm.{IsFormOf};
+ghost use Rattle.bolt_cli.specs.rewrite.WrittenBytes.{IsMoved, IsArea, IsPatched};
 
-use crate::first_form::{FirstForm, NULL_HEADER, section_bytes};
+use crate::first_form::{FirstForm, NULL_HEADER};
 use byteorder::{ByteOrder, LittleEndian};
 use elf_image::header::{E_ENTRY, E_SHNUM, E_SHOFF, e_phoff};
+use elf_image::names::section_bytes;
 use elf_image::number::{patch_u16, patch_u64};
 use elf_image::section::{SHDR_SIZE, SHF_ALLOC, SHF_EXECINSTR, SHT_PROGBITS};
 use elf_image::segment::PHDR_SIZE;
@@ -23,6 +24,9 @@ const CODE_ALIGN: u64 = 16;
 
 /// The table of sections stands at a multiple of so many bytes.
 const TABLE_ALIGN: u64 = 8;
+
+/// The most bytes that a written file may have.
+const OUTPUT_LIMIT: usize = 1 << 30;
 
 /// The names that are added behind those of the input.
 const ADDED_NAMES: &[u8] = b".old.text\0.text\0";
@@ -69,16 +73,21 @@ struct Tail {
     table_at: u64,
 }
 
-// Adds zeros so that the next byte, `before` bytes and these ones on, is at a multiple of `align`.
+// Adds zeros so that the next byte, `before` bytes and these ones on, is at a multiple of `align`. No memory is asked for
+// beyond the limit on what is written.
 fn pad(bytes: &mut Vec<u8>, before: usize, align: u64) -> Result<u64, NoMemory> {
     let end = before.checked_add(bytes.len()).ok_or(NoMemory)? as u64;
     if align <= 1 || end % align == 0 {
         return Ok(end);
     }
     let padding = align - end % align;
+    let padded = end.checked_add(padding).ok_or(NoMemory)?;
+    if padded > OUTPUT_LIMIT as u64 {
+        return Err(NoMemory);
+    }
     let size = bytes.len().checked_add(padding as usize).ok_or(NoMemory)?;
     bytes.resize(size, 0)?;
-    end.checked_add(padding).ok_or(NoMemory)
+    Ok(padded)
 }
 
 fn put_section_header(bytes: &mut Vec<u8>, header: &SectionHeader) -> Result<(), NoMemory> {

@@ -1,9 +1,11 @@
 //! The program: it reads its words, does the command, and ends with the number of the answer.
 #![tactic(auto)]
 
+mod code_limit;
 mod first_form;
 mod first_write;
 mod lines;
+mod permissions;
 mod printing;
 mod refusal;
 mod rewrite;
@@ -14,6 +16,7 @@ mod tests;
 mod tool;
 mod words;
 
+use crate::permissions::keep_permissions;
 use crate::status::Status;
 use crate::tool::tool;
 use rb_io::{HostFiles, HostSink, HostSource};
@@ -41,5 +44,9 @@ fn main(rt: HostRuntime) -> ExitCode {
     let mut files = HostFiles::new(&rt);
     let mut input = HostSource::new(rt.stdin());
     let mut out = HostSink::new(rt.stdout());
-    ExitCode::from(tool(rt.alloc(), &words, &mut files, &mut input, &mut out).number())
+    let status = tool(rt.alloc(), &words, &mut files, &mut input, &mut out);
+    if status == Status::Ok {
+        keep_permissions(&rt, &words);
+    }
+    ExitCode::from(status.number())
 }

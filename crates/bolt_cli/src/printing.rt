@@ -1,6 +1,6 @@
 // Lines printed whole.
 ghost use Rattle.std.specs.Prelude.{◌≡◌, ◌≤◌, ℕ, List, IfOk};
-ghost use Rattle.bolt_cli.specs.Phases.{LinePrinted};
+ghost use Rattle.bolt_cli.specs.rewrite.Phases.{LinePrinted};
 
 use crate::status::Status;
 use rb_bytes::fault::NoMemory;
@@ -8,7 +8,8 @@ use rb_io::{Put, Sink, print_all};
 
 /// Prints a line, if there was memory for it, and answers `done` once it is printed.
 pub fn print_line<O: Sink>(line: Result<Vec<u8>, NoMemory>, done: Status, out: &mut O) -> Status
-    ensures printed { (text : List ℕ) → IfOk line (λ l. l.items ≡ text) → LinePrinted result done text (O.seen out.old) (O.seen out.new) }
+    ensures printed { (text : List ℕ) → IfOk line (λ l. l.items ≡ text) →
+        LinePrinted result done text (O.seen out.old) (O.seen out.new) }
     ensures never_falls { (O.seen out.old).faults ≤ (O.seen out.new).faults }
 {
     let line = match line {

@@ -1,7 +1,7 @@
 // Files that are refused.
 ghost use Rattle.std.specs.Prelude.{◌≤◌};
 ghost use Rattle.bolt_cli.specs.Lines.{refused_line};
-ghost use Rattle.bolt_cli.specs.Phases.{LinePrinted};
+ghost use Rattle.bolt_cli.specs.rewrite.Phases.{LinePrinted};
 
 use crate::lines;
 use crate::printing::print_line;

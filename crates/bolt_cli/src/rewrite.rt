@@ -1,26 +1,32 @@
 // The command `rewrite`: both files are read, all work that takes memory is done, and then the output,
 // the map and the summary are written.
 ghost use Rattle.std.specs.Prelude.{◌≡◌, ◌≢◌, ◌⊎◌, ◌↔◌, ◌<◌, ◌≤◌, ◌+◌, ◌*◌, ◌^◌, ℕ, Some, length, IfOk, IfErr, OnOk, IsTrue, ◌++◌};
-ghost use Rattle.rb_io.specs.Counts.{Rose};
+ghost use Rattle.rb_io.specs.FaultCounts.{Rose};
 ghost use Rattle.rb_io.specs.Names.{Unchanged};
-ghost use Rattle.rb_io.specs.Seen.{FilesGoOn, SourceSeen};
-ghost use Rattle.bolt_cli.specs.FirstForm.{IsFirstForm};
-ghost use Rattle.bolt_cli.specs.Form.{IsFormOf};
-ghost use Rattle.elf_image.specs.Truncated.{IsReadable};
-ghost use Rattle.bolt_cli.specs.Refused.{IsRefused, IsAccepted, file_limit};
-ghost use Rattle.bolt_cli.specs.Rewritten.{IsRewritten};
-ghost use Rattle.bolt_cli.specs.Spans.{span_line, spans_from, spans_of, map_text, count_of, new_start};
-ghost use Rattle.bolt_cli.specs.RewriteAnswers.{RewriteAnswers, summary_of};
-ghost use Rattle.bolt_cli.specs.Read.{names_read};
-ghost use Rattle.bolt_cli.specs.Inputs.{InputsRead, IfFault};
-ghost use Rattle.bolt_cli.specs.Phases.{OutputsWritten};
+ghost use Rattle.rb_io.specs.Views.{FilesGoOn, SourceSeen};
+ghost use Rattle.bolt_cli.specs.rewrite.FirstForm.{IsFirstForm};
+ghost use Rattle.bolt_cli.specs.rewrite.ParsedForm.{IsFormOf};
+ghost use Rattle.elf_image.specs.faults.Truncation.{IsReadable};
+ghost use Rattle.bolt_cli.specs.rewrite.Refusals.{IsRefused, IsAccepted, file_limit};
+ghost use Rattle.bolt_cli.specs.rewrite.RewrittenFile.{IsRewritten};
+ghost use Rattle.addr_map.specs.MapText.{span_line, map_text};
+ghost use Rattle.bolt_cli.specs.rewrite.FirstMap.{spans_from, spans_of, count_of, new_start};
+ghost use Rattle.bolt_cli.specs.CommandAnswers.{Serves};
+ghost use Rattle.bolt_cli.specs.rewrite.RewriteAnswers.{summary_of};
+ghost use Rattle.bolt_cli.specs.Words.{Rewrite};
+ghost use Rattle.bolt_cli.specs.World.{world};
+ghost use Rattle.bolt_cli.specs.ParsedWords.{names_read};
+ghost use Rattle.bolt_cli.specs.rewrite.Inputs.{InputsRead, IfFault};
+ghost use Rattle.bolt_cli.specs.rewrite.Phases.{OutputsWritten};
 
+use crate::code_limit::has_too_much_code;
 use crate::first_form::FirstForm;
 use crate::first_write::{new_code_address, write_moved};
 use crate::lines::{self, Summary};
 use crate::refusal::{FILE_LIMIT, refuse};
 use crate::status::Status;
 use crate::words::RewriteWords;
+use addr_map::Span;
 use elf_image::read;
 use rb_bytes::fault::{Fault, FaultKind, NoMemory, Refusal};
 use rb_bytes::text::{put_decimal, put_hex};
@@ -51,9 +57,13 @@ fn read_inputs<F: Files>(
     file: &mut Vec<u8>,
     profile: &mut Vec<u8>,
 ) -> Inputs
-    ensures read { IsTrue (F.seen files.old).told → InputsRead result (F.seen files.old).content (names_read words.now) file.new.items profile.new.items }
-    ensures limits { result ≡ Inputs.Whole → (length file.new.items ≤ file_limit) × (length profile.new.items ≤ file_limit) }
-    ensures failed { result ≡ Inputs.Failed → Rose ((F.seen files.old).read_faults words.now.file.now) ((F.seen files.new).read_faults words.now.file.now) ⊎ Rose ((F.seen files.old).read_faults words.now.profile.now) ((F.seen files.new).read_faults words.now.profile.now) }
+    ensures read { IsTrue (F.seen files.old).told →
+        InputsRead result (F.seen files.old).content (names_read words.now) file.new.items profile.new.items }
+    ensures limits { result ≡ Inputs.Whole →
+        (length file.new.items ≤ file_limit) × (length profile.new.items ≤ file_limit) }
+    ensures failed { result ≡ Inputs.Failed →
+        Rose ((F.seen files.old).read_faults words.now.file.now) ((F.seen files.new).read_faults words.now.file.now)
+        ⊎ Rose ((F.seen files.old).read_faults words.now.profile.now) ((F.seen files.new).read_faults words.now.profile.now) }
     ensures kept { Unchanged (F.seen files.old).content (F.seen files.new).content }
     ensures files_go_on { FilesGoOn (F.seen files.old) (F.seen files.new) }
 {
@@ -90,20 +100,25 @@ fn map(alloc: Global, out: u64, input: u64, count: u64) -> Result<Vec<u8>, NoMem
 {
     let mut text = Vec::new(alloc);
     for k in 0..count {
-        put_span(&mut text, out + WORD * k, input + WORD * k)?;
+        let span = Span {
+            out: out + WORD * k,
+            len: WORD as u8,
+            input: input + WORD * k,
+        };
+        put_span(&mut text, &span)?;
     }
     Ok(text)
 }
 
-// One line of the map, for an instruction of four bytes.
-fn put_span(text: &mut Vec<u8>, out: u64, input: u64) -> Result<(), NoMemory>
-    ensures { OnOk result (text.new.items ≡ text.old.items ++ span_line (record { out = out; len = 4; input = input })) }
+// One line of the map.
+fn put_span(text: &mut Vec<u8>, span: &Span) -> Result<(), NoMemory>
+    ensures { OnOk result (text.new.items ≡ text.old.items ++ span_line span.now) }
 {
-    put_hex(text, out)?;
+    put_hex(text, span.out)?;
     text.extend_from_slice(b" ")?;
-    put_decimal(text, WORD)?;
+    put_decimal(text, span.len as u64)?;
     text.extend_from_slice(b" ")?;
-    put_hex(text, input)?;
+    put_hex(text, span.input)?;
     text.extend_from_slice(b"\n")?;
     Ok(())
 }
@@ -161,6 +176,9 @@ fn rewrite_file(alloc: Global, file: &[u8], profile: &[u8]) -> Result<Rewritten,
     let Some(form) = FirstForm::read(&elf) else {
         return Err(Refusal::Fault(Fault::at(FaultKind::NotBuilt, 0)));
     };
+    if has_too_much_code(&elf) {
+        return Err(Refusal::Fault(Fault::at(FaultKind::TooLarge, 2)));
+    }
     match move_code(alloc, file, &form) {
         Ok(rewritten) => Ok(rewritten),
         Err(NoMemory) => Err(Refusal::Memory),
@@ -176,8 +194,7 @@ fn write_outputs<F: Files, O: Sink>(
 ) -> Status
     requires { words.now.out.now ≢ words.now.map.now }
     ensures answer { (input : SourceSeen) → OutputsWritten result (names_read words.now) rewritten.now
-        (record { files = F.seen files.old; input = input; output = O.seen out.old })
-        (record { files = F.seen files.new; input = input; output = O.seen out.new }) }
+        (world (F.seen files.old) input (O.seen out.old)) (world (F.seen files.new) input (O.seen out.new)) }
     ensures files_go_on { FilesGoOn (F.seen files.old) (F.seen files.new) }
     ensures faults { (O.seen out.old).faults ≤ (O.seen out.new).faults }
 {
@@ -202,11 +219,8 @@ pub fn rewrite<F: Files, O: Sink>(
 ) -> Status
     requires { words.now.out.now ≢ words.now.map.now }
     // Standard input can be any: it stays as it was.
-    ensures answer { (input : SourceSeen) → RewriteAnswers result (names_read words.now)
-        (record { files = F.seen files.old; input = input; output = O.seen out.old })
-        (record { files = F.seen files.new; input = input; output = O.seen out.new }) }
-    ensures files_go_on { FilesGoOn (F.seen files.old) (F.seen files.new) }
-    ensures faults { (O.seen out.old).faults ≤ (O.seen out.new).faults }
+    ensures { (input : SourceSeen) → Serves (Some (Rewrite (names_read words.now))) result
+        (world (F.seen files.old) input (O.seen out.old)) (world (F.seen files.new) input (O.seen out.new)) }
 {
     let mut file = Vec::new(alloc);
     let mut profile = Vec::new(alloc);

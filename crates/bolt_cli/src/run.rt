@@ -1,15 +1,16 @@
 // The command `run`: the file is read whole, and then runs on the byte machine.
-ghost use Rattle.std.specs.Prelude.{◌≡◌, ◌≤◌, ℕ, List, Some};
-ghost use Rattle.rb_io.specs.Seen.{FilesGoOn};
-ghost use Rattle.elf_image.specs.Present.{IsSound};
-ghost use Rattle.elf_image.specs.Read.{IsElfOf};
-ghost use Rattle.rv_machine.specs.Limits.{IsWithinLimits};
-ghost use Rattle.bolt_cli.specs.Answers.{Completes};
-ghost use Rattle.bolt_cli.specs.Read.{run_read};
-ghost use Rattle.bolt_cli.specs.RunAnswers.{IsExact, RunAnswers};
-ghost use Rattle.bolt_cli.specs.RunPhases.{AnswersRun, Closed};
+ghost use Rattle.std.specs.Prelude.{◌≤◌, Some};
+ghost use Rattle.elf_image.specs.faults.FileFaults.{IsSound};
+ghost use Rattle.elf_image.specs.file.ParsedFile.{IsElfOf};
+ghost use Rattle.rv_memory.specs.Limits.{IsWithinLimits};
+ghost use Rattle.bolt_cli.specs.CommandAnswers.{KeepsInput, Serves};
+ghost use Rattle.bolt_cli.specs.ParsedWords.{run_read};
+ghost use Rattle.bolt_cli.specs.run.RunAnswers.{IsExact};
+ghost use Rattle.bolt_cli.specs.run.Phases.{AnswersRun, Closed};
 ghost use Rattle.bolt_cli.specs.Words.{Run};
+ghost use Rattle.bolt_cli.specs.World.{world};
 
+use crate::code_limit::has_too_much_code;
 use crate::lines;
 use crate::printing::print_line;
 use crate::refusal::{FILE_LIMIT, refuse};
@@ -80,16 +81,10 @@ pub fn run<F: Files, I: Source, O: Sink>(
     out: &mut O,
 ) -> Status
     requires { IsWithinLimits (run_read words.now).words }
-    ensures answer { RunAnswers (run_read words.now)
-        (record { files = F.seen files.old; input = I.seen input.old; output = O.seen out.old })
-        (record { files = F.seen files.new; input = I.seen input.new; output = O.seen out.new }) result }
-    ensures complete { Completes (Some (Run (run_read words.now))) result
-        (record { files = F.seen files.old; input = I.seen input.old; output = O.seen out.old })
-        (record { files = F.seen files.new; input = I.seen input.new; output = O.seen out.new }) }
-    ensures unread { (fault : Fault) → result ≡ Status.Refused fault → input.new ≡ input.old }
-    ensures files_go_on { FilesGoOn (F.seen files.old) (F.seen files.new) }
-    ensures input_faults { (I.seen input.old).faults ≤ (I.seen input.new).faults }
-    ensures faults { (O.seen out.old).faults ≤ (O.seen out.new).faults }
+    ensures serves { Serves (Some (Run (run_read words.now))) result
+        (world (F.seen files.old) (I.seen input.old) (O.seen out.old))
+        (world (F.seen files.new) (I.seen input.new) (O.seen out.new)) }
+    ensures input_kept { KeepsInput (Some (Run (run_read words.now))) result input.old input.new }
 {
     let mut file = Vec::new(alloc);
     match files.read_all(words.file, FILE_LIMIT, &mut file) {
@@ -98,9 +93,13 @@ pub fn run<F: Files, I: Source, O: Sink>(
         ReadAll::Failed => return Status::ReadFault,
         ReadAll::Memory => return Status::NoMemory,
     }
-    match read(alloc, &file) {
-        Ok(elf) => run_elf(alloc, words, &elf, input, out),
-        Err(Refusal::Fault(fault)) => refuse(alloc, fault, out),
-        Err(Refusal::Memory) => Status::NoMemory,
+    let elf = match read(alloc, &file) {
+        Ok(elf) => elf,
+        Err(Refusal::Fault(fault)) => return refuse(alloc, fault, out),
+        Err(Refusal::Memory) => return Status::NoMemory,
+    };
+    if has_too_much_code(&elf) {
+        return refuse(alloc, Fault::at(FaultKind::TooLarge, 2), out);
     }
+    run_elf(alloc, words, &elf, input, out)
 }

@@ -1,6 +1,6 @@
 // How a command ends.
 ghost use Rattle.std.specs.Prelude.{◌≡◌};
-ghost use Rattle.bolt_cli.specs.Status.{number_of};
+ghost use Rattle.bolt_cli.specs.Status.{exit_number};
 
 use rb_bytes::fault::Fault;
 use rv_code::Cause;
@@ -31,7 +31,7 @@ pub enum Status {
 impl Status {
     /// The number that the program ends with.
     pub fn number(self) -> u8
-        ensures { result ≡ number_of self }
+        ensures { result ≡ exit_number self }
     {
         match self {
             Status::Ok => 0,

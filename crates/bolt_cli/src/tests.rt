@@ -2,18 +2,23 @@
 // fail. Texts, numbers and headers are worked out by hand.
 
 mod example;
-mod program;
 mod refused;
 mod run;
 
-use self::example::{exit7, exit7_moved};
+use self::example::exit7_moved;
 use crate::status::Status;
 use crate::tool::tool;
+use elf_image::header::E_MACHINE;
 use rb_bytes::fault::{Fault, FaultKind};
 use rb_io::{MemFiles, MemSink, MemSource};
 use std::alloc::Global;
 use std::process::Abort;
 use std::test::Fail;
+use test_files::bytes::patch;
+use test_files::headers::SH_ADDRALIGN;
+use test_files::inst::{X0, jal};
+use test_files::shapes::EXIT7_NAMES;
+use test_files::{assemble, exit7, program};
 
 const MAP: &[u8] = b"10090 4 10078\n10094 4 1007c\n10098 4 10080\n1009c 4 10084\n";
 
@@ -109,19 +114,34 @@ fn other_files_are_refused(rt: HostRuntime) -> Result<(), Fail> {
     let mut cut = exit7(alloc)?;
     cut.truncate(63);
     check_refused(&rt, alloc, cut, FaultKind::Truncated, truncated)?;
-    let mut jump = exit7(alloc)?;
-    assert_eq!(rt; jump.len(), 352);
     let mut machine = exit7(alloc)?;
-    assert_eq!(rt; machine.len(), 352);
-    machine[0x12] = 0;
+    patch(&mut machine, E_MACHINE, &[0]);
     check_refused(&rt, alloc, machine, FaultKind::NotElf, not_elf)?;
     let mut short = exit7(alloc)?;
-    assert_eq!(rt; short.len(), 352);
-    short[0x12] = 0;
+    patch(&mut short, E_MACHINE, &[0]);
     short.truncate(19);
     check_refused(&rt, alloc, short, FaultKind::Truncated, truncated)?;
-    jump[0x78] = 0x6f;
+    let jump = assemble(alloc, &[jal(X0, 0)])?;
+    let jump = program(alloc, &jump, &[])?.build(alloc)?;
     check_refused(&rt, alloc, jump, FaultKind::NotBuilt, not_built)?;
+    Ok(())
+}
+
+// The names of sections would stand at a multiple of 2^40.
+#[test]
+fn a_huge_output_is_not_made(rt: HostRuntime) -> Result<(), Fail> {
+    let alloc = rt.alloc();
+    let mut input = exit7(alloc)?;
+    patch(
+        &mut input,
+        EXIT7_NAMES + SH_ADDRALIGN,
+        &(1u64 << 40).to_le_bytes(),
+    );
+    let mut files = files(alloc, input, &[])?;
+    let (status, out) = answer(alloc, &REWRITE, &mut files, 200)?;
+    assert_eq!(rt; status, Status::NoMemory);
+    assert!(rt; out.taken().is_empty());
+    assert!(rt; files.content("out").is_none());
     Ok(())
 }
 

@@ -1,10 +1,10 @@
 // What the program does.
-ghost use Rattle.std.specs.Prelude.{◌≡◌, ◌≤◌, map, string_bytes, Some};
-ghost use Rattle.rb_bytes.specs.declared.fault.Fault.{Fault};
-ghost use Rattle.rb_io.specs.Seen.{FilesGoOn, SourceSeen};
-ghost use Rattle.bolt_cli.specs.Answers.{Answers, Completes, LeavesInput, UsageAnswers};
-ghost use Rattle.bolt_cli.specs.Read.{NamesDiffer, WordsFit, command_read};
+ghost use Rattle.std.specs.Prelude.{map, string_bytes, None, Some};
+ghost use Rattle.rb_io.specs.Views.{SourceSeen};
+ghost use Rattle.bolt_cli.specs.CommandAnswers.{KeepsInput, Serves};
+ghost use Rattle.bolt_cli.specs.ParsedWords.{NamesDiffer, WordsFit, command_read};
 ghost use Rattle.bolt_cli.specs.Words.{command_of};
+ghost use Rattle.bolt_cli.specs.World.{world};
 
 use crate::lines;
 use crate::rewrite::rewrite;
@@ -16,10 +16,8 @@ use std::alloc::Global;
 
 // Says which words are commands.
 fn usage<F: Files, O: Sink>(files: &F, out: &mut O) -> Status
-    ensures answer { (input : SourceSeen) → UsageAnswers result
-        (record { files = F.seen files.now; input = input; output = O.seen out.old })
-        (record { files = F.seen files.now; input = input; output = O.seen out.new }) }
-    ensures never_falls { (O.seen out.old).faults ≤ (O.seen out.new).faults }
+    ensures { (input : SourceSeen) → Serves None result
+        (world (F.seen files.now) input (O.seen out.old)) (world (F.seen files.now) input (O.seen out.new)) }
 {
     match print_all(out, lines::usage()) {
         Put::Took(_) => Status::Usage,
@@ -37,17 +35,10 @@ fn perform<F: Files, I: Source, O: Sink>(
 ) -> Status
     requires apart { NamesDiffer command.now }
     requires limits { WordsFit command.now }
-    ensures answer { Answers (Some (command_read command.now)) result
-        (record { files = F.seen files.old; input = I.seen input.old; output = O.seen out.old })
-        (record { files = F.seen files.new; input = I.seen input.new; output = O.seen out.new }) }
-    ensures complete { Completes (Some (command_read command.now)) result
-        (record { files = F.seen files.old; input = I.seen input.old; output = O.seen out.old })
-        (record { files = F.seen files.new; input = I.seen input.new; output = O.seen out.new }) }
-    ensures files_go_on { FilesGoOn (F.seen files.old) (F.seen files.new) }
-    ensures input_faults { (I.seen input.old).faults ≤ (I.seen input.new).faults }
-    ensures faults { (O.seen out.old).faults ≤ (O.seen out.new).faults }
-    ensures unread { (fault : Fault) → result ≡ Status.Refused fault → input.new ≡ input.old }
-    ensures input_kept { LeavesInput (Some (command_read command.now)) → input.new ≡ input.old }
+    ensures serves { Serves (Some (command_read command.now)) result
+        (world (F.seen files.old) (I.seen input.old) (O.seen out.old))
+        (world (F.seen files.new) (I.seen input.new) (O.seen out.new)) }
+    ensures input_kept { KeepsInput (Some (command_read command.now)) result input.old input.new }
 {
     match command {
         Command::Rewrite(words) => rewrite(alloc, words, files, out),
@@ -66,17 +57,10 @@ pub fn tool<F: Files, I: Source, O: Sink>(
     input: &mut I,
     out: &mut O,
 ) -> Status
-    ensures answer { Answers (command_of (map string_bytes words.now)) result
-        (record { files = F.seen files.old; input = I.seen input.old; output = O.seen out.old })
-        (record { files = F.seen files.new; input = I.seen input.new; output = O.seen out.new }) }
-    ensures complete { Completes (command_of (map string_bytes words.now)) result
-        (record { files = F.seen files.old; input = I.seen input.old; output = O.seen out.old })
-        (record { files = F.seen files.new; input = I.seen input.new; output = O.seen out.new }) }
-    ensures files_go_on { FilesGoOn (F.seen files.old) (F.seen files.new) }
-    ensures input_faults { (I.seen input.old).faults ≤ (I.seen input.new).faults }
-    ensures faults { (O.seen out.old).faults ≤ (O.seen out.new).faults }
-    ensures unread { (fault : Fault) → result ≡ Status.Refused fault → input.new ≡ input.old }
-    ensures input_kept { LeavesInput (command_of (map string_bytes words.now)) → input.new ≡ input.old }
+    ensures serves { Serves (command_of (map string_bytes words.now)) result
+        (world (F.seen files.old) (I.seen input.old) (O.seen out.old))
+        (world (F.seen files.new) (I.seen input.new) (O.seen out.new)) }
+    ensures input_kept { KeepsInput (command_of (map string_bytes words.now)) result input.old input.new }
 {
     match parse(words) {
         Some(command) => perform(alloc, &command, files, input, out),

@@ -3,9 +3,9 @@ ghost use Rattle.std.specs.Prelude.{◌≡◌, ◌≢◌, ◌∷◌, [], map, st
 ghost use Rattle.std.specs.Option.{option_map};
 ghost use Rattle.std.specs.List.{list_all};
 ghost use Rattle.std.specs.Char.{is_ascii_digit};
-ghost use Rattle.rv_machine.specs.Limits.{IsWithinLimits};
-ghost use Rattle.bolt_cli.specs.Words.{Positional, steps_name, is_option, option_of, number_of, limit_of, values_of, is_run_argument, positionals, holds_zero, are_program_words, rewrite_of, run_of, command_of};
-ghost use Rattle.bolt_cli.specs.Read.{IsNoPositional, argument_read, arguments_of, command_read, run_read, names_read, NamesDiffer, WordsFit};
+ghost use Rattle.rv_memory.specs.Limits.{IsWithinLimits};
+ghost use Rattle.bolt_cli.specs.Words.{Positional, steps_name, is_option, option_of, decimal_number, limit_of, values_of, is_run_argument, positionals, holds_zero, are_program_words, rewrite_of, run_of, command_of};
+ghost use Rattle.bolt_cli.specs.ParsedWords.{IsNoPositional, argument_read, arguments_of, command_read, run_read, names_read, NamesDiffer, WordsFit};
 
 use rb_bytes::fault::NoMemory;
 use std::alloc::Global;
@@ -170,7 +170,7 @@ fn is_decimal(text: &str) -> bool
 
 // The number that 1 to 20 decimal digits write.
 fn number(digits: &str) -> Option<u64>
-    ensures { result ≡ number_of digits.now }
+    ensures { result ≡ decimal_number digits.now }
 {
     if digits.len() > 20 {
         return None;

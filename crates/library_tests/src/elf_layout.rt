@@ -1,15 +1,24 @@
 // ELF files: how segments must lie, and look-ups in a file that was read, against places worked out by hand.
 use crate::elf::refused;
-use crate::elf_files::{code_segment, example, patch, put_segment};
+use elf_image::segment::{PF_R, PF_X, PT_INTERP, PT_LOAD};
 use elf_image::{Segment, cuts, read};
 use rb_bytes::fault::FaultKind;
 use std::alloc::Global;
 use std::test::Fail;
+use test_files::bytes::patch;
+use test_files::shapes::EXIT7_LAST_NAME;
+use test_files::{HeaderTable, exit7, exit7_code, program};
 
-// A segment behind the example's, of zero bytes.
+// The type of a segment with notes. gABI, "Program Header".
+const PT_NOTE: u32 = 4;
+
+// Where the example's segment ends in the file.
+const CODE_END: u64 = 0x88;
+
+// A segment behind the example's, of no byte of the file.
 const NOTHING: Segment = Segment {
-    kind: 1,
-    flags: 4,
+    kind: PT_LOAD,
+    flags: PF_R,
     offset: 0x88,
     vaddr: 0x20000,
     paddr: 0x20000,
@@ -18,17 +27,17 @@ const NOTHING: Segment = Segment {
     align: 1,
 };
 
-// Where the name of the example's last section stands, which has nine bytes.
-const LAST_NAME: usize = 0x8f;
-
-// The example with its program header copied to 160, its end, and a second one behind it, at 198.
-fn with_second(alloc: Global, second: &Segment) -> Result<Vec<u8>, Fail> {
-    let mut file = example(alloc)?;
-    patch(&mut file, 0x20, &[0x60, 1]);
-    patch(&mut file, 0x38, &[2]);
-    put_segment(&mut file, &code_segment(0x88))?;
-    put_segment(&mut file, second)?;
-    Ok(file)
+// The example with its program headers at 160, its end, and a second one at 198. The first segment ends at an offset.
+fn with_second(alloc: Global, end: u64, second: &Segment) -> Result<Vec<u8>, Fail> {
+    let code = exit7_code(alloc)?;
+    let mut file = program(alloc, &code, &[])?;
+    if let Some(first) = file.segments.get_mut(0) {
+        first.filesz = end;
+        first.memsz = end;
+    }
+    file.segments.push(*second)?;
+    file.header_table = HeaderTable::Last;
+    Ok(file.build(alloc)?)
 }
 
 #[test]
@@ -70,7 +79,7 @@ fn segments_must_lie_apart(rt: HostRuntime) -> Result<(), Fail> {
         // a note that crosses the first's end in the file, and one that begins there
         (
             Segment {
-                kind: 4,
+                kind: PT_NOTE,
                 offset: 0x80,
                 filesz: 9,
                 ..NOTHING
@@ -79,7 +88,7 @@ fn segments_must_lie_apart(rt: HostRuntime) -> Result<(), Fail> {
         ),
         (
             Segment {
-                kind: 4,
+                kind: PT_NOTE,
                 offset: 0x80,
                 filesz: 8,
                 ..NOTHING
@@ -88,7 +97,7 @@ fn segments_must_lie_apart(rt: HostRuntime) -> Result<(), Fail> {
         ),
         (
             Segment {
-                kind: 4,
+                kind: PT_NOTE,
                 offset: 0x88,
                 filesz: 8,
                 ..NOTHING
@@ -97,7 +106,10 @@ fn segments_must_lie_apart(rt: HostRuntime) -> Result<(), Fail> {
         ),
         // asks for a dynamic linker
         (
-            Segment { kind: 3, ..NOTHING },
+            Segment {
+                kind: PT_INTERP,
+                ..NOTHING
+            },
             Some((FaultKind::NotStatic, 0x198)),
         ),
         // takes no byte from past the file's end, and one
@@ -119,7 +131,7 @@ fn segments_must_lie_apart(rt: HostRuntime) -> Result<(), Fail> {
         // executable too, and besides of two sizes
         (
             Segment {
-                flags: 5,
+                flags: PF_R | PF_X,
                 filesz: 16,
                 ..NOTHING
             },
@@ -127,7 +139,7 @@ fn segments_must_lie_apart(rt: HostRuntime) -> Result<(), Fail> {
         ),
         (
             Segment {
-                flags: 5,
+                flags: PF_R | PF_X,
                 ..NOTHING
             },
             Some((exec, 0x198)),
@@ -156,7 +168,7 @@ fn segments_must_lie_apart(rt: HostRuntime) -> Result<(), Fail> {
         ),
     ];
     for (second, wanted) in cases {
-        let file = with_second(rt.alloc(), &second)?;
+        let file = with_second(rt.alloc(), CODE_END, &second)?;
         assert_eq!(rt; refused(rt.alloc(), &file), wanted);
     }
     Ok(())
@@ -167,14 +179,12 @@ fn the_table_of_segments_must_not_cross_the_code(rt: HostRuntime) -> Result<(), 
     let crossed = Some((FaultKind::ExecSegments, 0x160));
     // the executable segment ends where the table begins, in it, and where it ends
     for (end, wanted) in [
-        ([0x60, 1], None),
-        ([0x61, 1], crossed),
-        ([0xcf, 1], crossed),
-        ([0xd0, 1], None),
+        (0x160, None),
+        (0x161, crossed),
+        (0x1cf, crossed),
+        (0x1d0, None),
     ] {
-        let mut file = with_second(rt.alloc(), &NOTHING)?;
-        patch(&mut file, 0x180, &end);
-        patch(&mut file, 0x188, &end);
+        let file = with_second(rt.alloc(), end, &NOTHING)?;
         assert_eq!(rt; refused(rt.alloc(), &file), wanted);
     }
     Ok(())
@@ -183,34 +193,44 @@ fn the_table_of_segments_must_not_cross_the_code(rt: HostRuntime) -> Result<(), 
 #[test]
 fn only_moved_files_have_two_segments_of_code(rt: HostRuntime) -> Result<(), Fail> {
     let second = Segment {
-        flags: 5,
+        flags: PF_R | PF_X,
         filesz: 16,
         ..NOTHING
     };
-    let mut file = with_second(rt.alloc(), &second)?;
+    let mut file = with_second(rt.alloc(), CODE_END, &second)?;
     let wanted = Some((FaultKind::ExecSegments, 0x198));
     assert_eq!(rt; refused(rt.alloc(), &file), wanted);
-    patch(&mut file, LAST_NAME, b".old.text");
+    patch(&mut file, EXIT7_LAST_NAME, b".old.text");
     assert_eq!(rt; refused(rt.alloc(), &file), None);
     Ok(())
 }
 
+// The example with its section of code elsewhere, in so many bytes.
+fn with_text(alloc: Global, addr: u64, size: u64) -> Result<Vec<u8>, Fail> {
+    let code = exit7_code(alloc)?;
+    let mut file = program(alloc, &code, &[])?;
+    if let Some(text) = file.sections.get_mut(0) {
+        text.addr = addr;
+        text.size = size;
+    }
+    Ok(file.build(alloc)?)
+}
+
 #[test]
 fn code_must_lie_in_its_segment(rt: HostRuntime) -> Result<(), Fail> {
-    let mut file = example(rt.alloc())?;
     // .text one address higher, so that it ends past the segment
-    patch(&mut file, 0xe0 + 16, &[0x79]);
+    let file = with_text(rt.alloc(), 0x10079, 16)?;
     let wanted = Some((FaultKind::ExecSegments, 0xe0));
     assert_eq!(rt; refused(rt.alloc(), &file), wanted);
     // no byte of an empty one lies outside
-    patch(&mut file, 0xe0 + 32, &[0]);
+    let file = with_text(rt.alloc(), 0x10079, 0)?;
     assert_eq!(rt; refused(rt.alloc(), &file), None);
     Ok(())
 }
 
 #[test]
 fn the_example_has_its_cuts_and_sections(rt: HostRuntime) -> Result<(), Fail> {
-    let file = example(rt.alloc())?;
+    let file = exit7(rt.alloc())?;
     let Ok(elf) = read(rt.alloc(), &file) else {
         return Err(Fail::new("refused"));
     };

@@ -2,44 +2,27 @@
 ghost use Rattle.std.specs.Prelude.{◌<◌};
 
 use crate::elf::refused;
-use crate::elf_files::{
-    Header, NULL, code_segment, names_section, patch, put, put_header, put_section, put_segment,
-    text_section,
-};
-use elf_image::{SectionHeader, cuts, read};
+use elf_image::{cuts, read};
 use rb_bytes::fault::FaultKind;
 use std::alloc::Global;
 use std::test::Fail;
+use test_files::bytes::patch;
+use test_files::inst::ECALL;
+use test_files::shapes::CODE;
+use test_files::{Symbol, assemble, program};
 
 const COUNT: u64 = 10_000;
 
-const CODE: u64 = 0x10078;
+// How many bytes each name has.
+const NAME: usize = 6;
 
-const NAMES: &[u8] = b"\0.text\0.symtab\0.strtab\0.shstrtab\0";
-
-// Where the symbols stand and how many bytes they have, then the same of their names; the names of
-// sections stand behind.
-const SYMBOLS_AT: u64 = 0x7c;
+// Where the symbols stand, the first multiple of 8 behind the code, and how many bytes they have.
+const SYMBOLS_AT: u64 = 0x80;
 
 const SYMBOLS: u64 = 24 * (COUNT + 1);
 
-const TEXTS_AT: u64 = SYMBOLS_AT + SYMBOLS;
-
+// How many bytes their names have, which stand behind them, with a zero byte before and after each.
 const TEXTS: u64 = 1 + 7 * COUNT;
-
-const NAMES_AT: u64 = TEXTS_AT + TEXTS;
-
-// The null symbol, and f00000 to f09999, each a function over the one instruction of the file.
-fn put_symbols(file: &mut Vec<u8>) -> Result<(), Fail> {
-    put(file, 8, &[0, 0, 0])?;
-    for k in 0..COUNT {
-        put(file, 4, &[1 + 7 * k])?;
-        put(file, 1, &[0x12, 0])?;
-        put(file, 2, &[1])?;
-        put(file, 8, &[CODE, 4])?;
-    }
-    Ok(())
-}
 
 // A digit of a number, by its power of ten.
 fn digit(number: u64, power: u64) -> u8
@@ -48,60 +31,27 @@ fn digit(number: u64, power: u64) -> u8
     b'0' + (number / power % 10) as u8
 }
 
-fn put_symbol_names(file: &mut Vec<u8>) -> Result<(), Fail> {
-    file.push(0)?;
+// f00000 to f09999, one after the other.
+fn names(alloc: Global) -> Result<Vec<u8>, Fail> {
+    let mut names = Vec::new(alloc);
     for k in 0..COUNT {
-        file.push(b'f')?;
-        file.push(digit(k, 10_000))?;
-        file.push(digit(k, 1000))?;
-        file.push(digit(k, 100))?;
-        file.push(digit(k, 10))?;
-        file.push(digit(k, 1))?;
-        file.push(0)?;
+        names.push(b'f')?;
+        for power in [10_000, 1000, 100, 10, 1] {
+            names.push(digit(k, power))?;
+        }
     }
-    Ok(())
+    Ok(names)
 }
 
-fn put_sections(file: &mut Vec<u8>) -> Result<(), Fail> {
-    put_section(file, &NULL)?;
-    put_section(file, &text_section(4))?;
-    put_section(
-        file,
-        &SectionHeader {
-            name: 7,
-            kind: 2,
-            offset: SYMBOLS_AT,
-            size: SYMBOLS,
-            link: 3,
-            info: 1,
-            align: 8,
-            entsize: 24,
-            ..NULL
-        },
-    )?;
-    put_section(file, &names_section(15, TEXTS_AT, TEXTS))?;
-    put_section(file, &names_section(23, NAMES_AT, 33))
-}
-
-// An executable of one ECALL, with symbols, their names, the names of sections, and section headers.
+// An executable of one ECALL, with a symbol of each name, which is a function over that instruction.
 fn file_of_symbols(alloc: Global) -> Result<Vec<u8>, Fail> {
-    let header = Header {
-        entry: CODE,
-        flags: 1,
-        shoff: NAMES_AT + 33,
-        phnum: 1,
-        shnum: 5,
-        shstrndx: 4,
-    };
-    let mut file = Vec::new(alloc);
-    put_header(&mut file, &header)?;
-    put_segment(&mut file, &code_segment(0x7c))?;
-    put(&mut file, 4, &[0x73])?;
-    put_symbols(&mut file)?;
-    put_symbol_names(&mut file)?;
-    file.extend_from_slice(NAMES)?;
-    put_sections(&mut file)?;
-    Ok(file)
+    let code = assemble(alloc, &[ECALL])?;
+    let names = names(alloc)?;
+    let mut file = program(alloc, &code, &[])?;
+    for name in names.chunks(NAME) {
+        file.symbols.push(Symbol::function(name, CODE, 4))?;
+    }
+    Ok(file.build(alloc)?)
 }
 
 #[test]
@@ -128,7 +78,7 @@ fn a_file_of_many_symbols(rt: HostRuntime) -> Result<(), Fail> {
 fn a_symbol_whose_name_has_no_end(rt: HostRuntime) -> Result<(), Fail> {
     let alloc = rt.alloc();
     let mut file = file_of_symbols(alloc)?;
-    patch(&mut file, NAMES_AT as usize - 1, b"x");
+    patch(&mut file, (SYMBOLS_AT + SYMBOLS + TEXTS - 1) as usize, b"x");
     let wanted = Some((FaultKind::Truncated, SYMBOLS_AT + 24 * COUNT));
     assert_eq!(rt; refused(alloc, &file), wanted);
     Ok(())

@@ -4,6 +4,7 @@
 mod calls;
 mod executable;
 mod instructions;
+mod pages;
 mod results;
 mod running;
 mod traps;

@@ -1,44 +1,87 @@
-// The smallest example, an executable of four instructions that ends with status 7.
+// The smallest example, rewritten.
 
-use super::program::{executable, put};
+use elf_image::section::{SHF_ALLOC, SHF_EXECINSTR, SHT_PROGBITS, SHT_STRTAB};
+use elf_image::segment::{PF_R, PF_X, PT_LOAD};
+use elf_image::{SectionHeader, Segment};
 use std::alloc::Global;
 use std::test::Fail;
+use test_files::exit7_code;
+use test_files::headers::{
+    ET_EXEC, FileHeader, NULL_SECTION, push_file_header, push_section_header, push_segment,
+};
 
-/// LUI a0,0; ADDI a0,a0,7; ADDI a7,x0,93; ECALL.
-const CODE: [u32; 4] = [0x0000_0537, 0x0075_0513, 0x05d0_0893, 0x0000_0073];
+const HEADER: FileHeader = FileHeader {
+    kind: ET_EXEC,
+    entry: 0x10090,
+    phoff: 0x40,
+    shoff: 0xc8,
+    flags: 0,
+    phnum: 1,
+    shnum: 4,
+    shstrndx: 2,
+};
 
-/// The example's 352 bytes: header, program header, code at 78, names at 88, and three section headers
-/// at a0.
-pub fn exit7(alloc: Global) -> Result<Vec<u8>, Fail> {
-    executable(alloc, &CODE, &[])
-}
+const SEGMENT: Segment = Segment {
+    kind: PT_LOAD,
+    flags: PF_R | PF_X,
+    offset: 0,
+    vaddr: 0x10000,
+    paddr: 0x10000,
+    filesz: 0xa0,
+    memsz: 0xa0,
+    align: 0x1000,
+};
+
+// Of code in its old place.
+const OLD_TEXT: SectionHeader = SectionHeader {
+    name: 17,
+    kind: SHT_PROGBITS,
+    flags: SHF_ALLOC | SHF_EXECINSTR,
+    addr: 0x10078,
+    offset: 0x78,
+    size: 16,
+    align: 4,
+    ..NULL_SECTION
+};
+
+const NAMES: SectionHeader = SectionHeader {
+    name: 7,
+    kind: SHT_STRTAB,
+    offset: 0xa0,
+    size: 33,
+    align: 1,
+    ..NULL_SECTION
+};
+
+const TEXT: SectionHeader = SectionHeader {
+    name: 27,
+    kind: SHT_PROGBITS,
+    flags: SHF_ALLOC | SHF_EXECINSTR,
+    addr: 0x10090,
+    offset: 0x90,
+    size: 16,
+    align: 16,
+    ..NULL_SECTION
+};
 
 /// The example with its code moved, worked out by hand: the segment grows to a0, the names stand there
 /// with `.old.text` and `.text` behind them, and four section headers at c8. The null section, which is
 /// empty, stands first of what isn't loaded.
 pub fn exit7_moved(alloc: Global) -> Result<Vec<u8>, Fail> {
-    let mut file = Vec::from_slice(alloc, b"\x7fELF\x02\x01\x01\0\0\0\0\0\0\0\0\0")?;
-    put(&mut file, 2, &[2, 0xf3])?;
-    put(&mut file, 4, &[1])?;
-    put(&mut file, 8, &[0x10090, 0x40, 0xc8])?;
-    put(&mut file, 4, &[0])?;
-    put(&mut file, 2, &[64, 56, 1, 64, 4, 2])?;
-    put(&mut file, 4, &[1, 5])?;
-    put(&mut file, 8, &[0, 0x10000, 0x10000, 0xa0, 0xa0, 0x1000])?;
-    for word in CODE {
-        put(&mut file, 4, &[word as u64])?;
-    }
-    put(&mut file, 8, &[0])?;
-    for word in CODE {
-        put(&mut file, 4, &[word as u64])?;
-    }
+    let code = exit7_code(alloc)?;
+    let mut file = Vec::new(alloc);
+    push_file_header(&mut file, &HEADER)?;
+    push_segment(&mut file, &SEGMENT)?;
+    file.extend_from_slice(&code)?;
+    file.extend_from_slice(&[0; 8])?;
+    file.extend_from_slice(&code)?;
     file.extend_from_slice(b"\0.text\0.shstrtab\0.old.text\0.text\0\0\0\0\0\0\0\0")?;
-    put(&mut file, 8, &[0, 0, 0, 0xa0, 0, 0, 0, 0])?;
-    put(&mut file, 4, &[17, 1])?;
-    put(&mut file, 8, &[6, 0x10078, 0x78, 16, 0, 4, 0])?;
-    put(&mut file, 4, &[7, 3])?;
-    put(&mut file, 8, &[0, 0, 0xa0, 33, 0, 1, 0])?;
-    put(&mut file, 4, &[27, 1])?;
-    put(&mut file, 8, &[6, 0x10090, 0x90, 16, 0, 16, 0])?;
+    let null = SectionHeader {
+        offset: 0xa0,
+        ..NULL_SECTION
+    };
+    for section in [null, OLD_TEXT, NAMES, TEXT] {
+        push_section_header(&mut file, &section)?;
+    }
     Ok(file)
 }

@@ -1,16 +1,24 @@
 // Files that are refused: the line that is printed, and that nothing is written. Places are worked out by hand.
 
-use super::example::exit7;
 use super::{REWRITE, answer, files, text};
 use crate::status::Status;
+use elf_image::header::{E_FLAGS, E_TYPE};
 use rb_bytes::fault::{Fault, FaultKind};
 use rb_io::MemFiles;
 use std::alloc::Global;
 use std::process::Abort;
 use std::test::Fail;
+use test_files::bytes::patch;
+use test_files::headers::{P_FLAGS, P_MEMSZ, P_VADDR, SH_ADDR, SH_FLAGS};
+use test_files::inst::NOP;
+use test_files::shapes::{EXIT7_NAMES, EXIT7_SEGMENT, EXIT7_TEXT};
+use test_files::{assemble, exit7, program};
 
 // One more byte than the longest file that is read has.
 const TOO_LONG: usize = 64 * 1024 * 1024 + 1;
+
+// How many instructions of four bytes 16 MiB of code have.
+const MOST_INSTRUCTIONS: u32 = 4 * 1024 * 1024;
 
 // Bytes that stand in place of the example's, from an offset on.
 #[derive(Clone, Copy)]
@@ -30,9 +38,7 @@ struct Row<'a> {
 fn changed(alloc: Global, changes: &[Change<'_>]) -> Result<Vec<u8>, Fail> {
     let mut file = exit7(alloc)?;
     for change in changes {
-        for (place, byte) in file.iter_mut().skip(change.offset).zip(change.bytes) {
-            *place = *byte;
-        }
+        patch(&mut file, change.offset, change.bytes);
     }
     Ok(file)
 }
@@ -76,61 +82,55 @@ fn check(
 fn changed_files(rt: HostRuntime) -> Result<(), Fail> {
     let alloc = rt.alloc();
     let rows = [
-        // e_flags
         Row {
             changes: &[Change {
-                offset: 0x30,
+                offset: E_FLAGS,
                 bytes: b"\x05",
             }],
             fault: Fault::at(FaultKind::Flags, 0x30),
             line: b"refused 3 Flags at 30\n",
         },
-        // e_type
         Row {
             changes: &[Change {
-                offset: 0x10,
+                offset: E_TYPE,
                 bytes: b"\x03",
             }],
             fault: Fault::at(FaultKind::NotStatic, 0x10),
             line: b"refused 4 NotStatic at 10\n",
         },
-        // the segment's size in memory
         Row {
             changes: &[Change {
-                offset: 0x68,
+                offset: EXIT7_SEGMENT + P_MEMSZ,
                 bytes: b"\x89",
             }],
             fault: Fault::at(FaultKind::ExecSegments, 0x40),
             line: b"refused 5 ExecSegments at 40\n",
         },
-        // the segment's flags
         Row {
             changes: &[Change {
-                offset: 0x44,
+                offset: EXIT7_SEGMENT + P_FLAGS,
                 bytes: b"\x07",
             }],
             fault: Fault::at(FaultKind::WritableCode, 0x40),
             line: b"refused 6 WritableCode at 40\n",
         },
-        // the addresses of the segment and of the first section with a name
         Row {
             changes: &[
                 Change {
-                    offset: 0x50,
+                    offset: EXIT7_SEGMENT + P_VADDR,
                     bytes: b"\0\0\xff\x7f",
                 },
                 Change {
-                    offset: 0xf0,
+                    offset: EXIT7_TEXT + SH_ADDR,
                     bytes: b"\x78\0\xff\x7f",
                 },
             ],
             fault: Fault::at(FaultKind::HighAddress, 0x7fff_0000),
             line: b"refused 7 HighAddress at 7fff0000\n",
         },
-        // the flags of the last section
         Row {
             changes: &[Change {
-                offset: 0x129,
+                offset: EXIT7_NAMES + SH_FLAGS + 1,
                 bytes: b"\x08",
             }],
             fault: Fault::at(FaultKind::CompressedSection, 2),
@@ -145,7 +145,7 @@ fn changed_files(rt: HostRuntime) -> Result<(), Fail> {
 }
 
 #[test]
-fn fronts_of_the_example(rt: HostRuntime) -> Result<(), Fail> {
+fn prefixes_of_the_example(rt: HostRuntime) -> Result<(), Fail> {
     let alloc = rt.alloc();
     let not_elf = Fault::at(FaultKind::NotElf, 0);
     let header = Fault::at(FaultKind::Truncated, 0);
@@ -189,4 +189,17 @@ fn long_files(rt: HostRuntime) -> Result<(), Fail> {
         profile,
         b"refused 28 TooLarge at 1\n",
     )
+}
+
+#[test]
+fn too_much_code(rt: HostRuntime) -> Result<(), Fail> {
+    let alloc = rt.alloc();
+    let nop = assemble(alloc, &[NOP])?;
+    let mut code = Vec::new(alloc);
+    for _ in 0..MOST_INSTRUCTIONS + 1 {
+        code.extend_from_slice(&nop)?;
+    }
+    let input = program(alloc, &code, &[])?.build(alloc)?;
+    let fault = Fault::at(FaultKind::TooLarge, 2);
+    check(&rt, alloc, input, fault, b"refused 28 TooLarge at 2\n")
 }

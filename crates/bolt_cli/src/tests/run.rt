@@ -1,70 +1,101 @@
 // Programs that are run: how runs end, what programs are given, and sources, sinks and files that fail.
-// Words of instructions are an assembler's.
 
-use super::example::exit7;
-use super::program::executable;
 use super::{USAGE, text, words};
 use crate::status::Status;
 use crate::tool::tool;
 use rb_bytes::fault::{Fault, FaultKind};
 use rb_io::{MemFiles, MemSink, MemSource};
-use rv_code::Cause;
+use rv_code::{Cause, Inst};
 use std::alloc::Global;
 use std::process::Abort;
 use std::test::Fail;
+use test_files::inst::{
+    A0, A1, A2, A7, ECALL, EXIT, NOP, SP, X0, addi, beq, jal, jalr, ld, lui, sd,
+};
+use test_files::shapes::CODE;
+use test_files::{Section, assemble, exit7, program};
 
-const GREETING: [u32; 9] = [
-    0x0010_0513, // ADDI a0,x0,1
-    0x0001_05b7, // LUI a1,10
-    0x09c5_8593, // ADDI a1,a1,156
-    0x0020_0613, // ADDI a2,x0,2
-    0x0400_0893, // ADDI a7,x0,64
-    0x0000_0073, // ECALL
-    0x0000_0513, // ADDI a0,x0,0
-    0x05d0_0893, // ADDI a7,x0,93
-    0x0000_0073, // ECALL
-];
+// The numbers of Linux's calls, for a7.
+const SYS_READ: i64 = 63;
 
-const LOOP: [u32; 6] = [
-    0x0030_0513, // ADDI a0,x0,3
-    0x0005_0663, // BEQ a0,x0,12
-    0xfff5_0513, // ADDI a0,a0,-1
-    0xff9f_f06f, // JAL x0,-8
-    0x05d0_0893, // ADDI a7,x0,93
-    0x0000_0073, // ECALL
-];
+const SYS_WRITE: i64 = 64;
+
+// Where standard output is.
+const STDOUT: i64 = 1;
+
+// Writes the two bytes behind its code.
+fn greeting() -> [Inst; 9] {
+    let [set_exit, call] = EXIT;
+    [
+        addi(A0, X0, STDOUT),
+        lui(A1, 0x10),
+        addi(A1, A1, 0x9c),
+        addi(A2, X0, 2),
+        addi(A7, X0, SYS_WRITE),
+        ECALL,
+        addi(A0, X0, 0),
+        set_exit,
+        call,
+    ]
+}
+
+// Counts from three down.
+fn countdown() -> [Inst; 6] {
+    let [set_exit, call] = EXIT;
+    [
+        addi(A0, X0, 3),
+        beq(A0, X0, 12),
+        addi(A0, A0, -1),
+        jal(X0, -8),
+        set_exit,
+        call,
+    ]
+}
 
 // Writes five bytes of its second argument, and ends with the count of arguments.
-const ARGUMENTS: [u32; 8] = [
-    0x0101_3583, // LD a1,16(sp)
-    0x0010_0513, // ADDI a0,x0,1
-    0x0050_0613, // ADDI a2,x0,5
-    0x0400_0893, // ADDI a7,x0,64
-    0x0000_0073, // ECALL
-    0x0001_3503, // LD a0,0(sp)
-    0x05d0_0893, // ADDI a7,x0,93
-    0x0000_0073, // ECALL
-];
+fn arguments() -> [Inst; 8] {
+    let [set_exit, call] = EXIT;
+    [
+        ld(A1, 16, SP),
+        addi(A0, X0, STDOUT),
+        addi(A2, X0, 5),
+        addi(A7, X0, SYS_WRITE),
+        ECALL,
+        ld(A0, 0, SP),
+        set_exit,
+        call,
+    ]
+}
 
 // Copies its input byte by byte.
-const COPY: [u32; 13] = [
-    0xff01_0113, // ADDI sp,sp,-16
-    0x0000_0513, // ADDI a0,x0,0
-    0x0001_0593, // ADDI a1,sp,0
-    0x0010_0613, // ADDI a2,x0,1
-    0x03f0_0893, // ADDI a7,x0,63
-    0x0000_0073, // ECALL
-    0x0005_0a63, // BEQ a0,x0,20
-    0x0010_0513, // ADDI a0,x0,1
-    0x0400_0893, // ADDI a7,x0,64
-    0x0000_0073, // ECALL
-    0xfddf_f06f, // JAL x0,-36
-    0x05d0_0893, // ADDI a7,x0,93
-    0x0000_0073, // ECALL
-];
+fn copy() -> [Inst; 13] {
+    let [set_exit, call] = EXIT;
+    [
+        addi(SP, SP, -16),
+        addi(A0, X0, 0),
+        addi(A1, SP, 0),
+        addi(A2, X0, 1),
+        addi(A7, X0, SYS_READ),
+        ECALL,
+        beq(A0, X0, 20),
+        addi(A0, X0, STDOUT),
+        addi(A7, X0, SYS_WRITE),
+        ECALL,
+        jal(X0, -36),
+        set_exit,
+        call,
+    ]
+}
 
-// ADDI x0,x0,0
-const NOP: u32 = 0x0000_0013;
+// An executable of this code, with data behind it where there is some.
+fn executable<'a>(alloc: Global, code: &'a [u8], data: &'a [u8]) -> Result<Vec<u8>, Fail> {
+    if data.is_empty() {
+        return Ok(program(alloc, code, &[])?.build(alloc)?);
+    }
+    let address = CODE.saturating_add(code.len() as u64);
+    let data = [Section::loaded(b".rodata", address, data)];
+    Ok(program(alloc, code, &data)?.build(alloc)?)
+}
 
 // Standard input, and how much room standard output has.
 #[derive(Clone, Copy)]
@@ -99,7 +130,7 @@ fn run(
 // A program, the words that run it, and how the run comes out.
 #[derive(Clone, Copy)]
 struct Case<'a> {
-    code: &'a [u32],
+    code: &'a [Inst],
     data: &'a [u8],
     words: &'a [&'a str],
     status: Status,
@@ -107,7 +138,8 @@ struct Case<'a> {
 }
 
 fn check(rt: &impl Abort, alloc: Global, case: &Case<'_>) -> Result<(), Fail> {
-    let file = executable(alloc, case.code, case.data)?;
+    let code = assemble(alloc, case.code)?;
+    let file = executable(alloc, &code, case.data)?;
     let (status, out) = run(alloc, file, &words(alloc, case.words)?, QUIET)?;
     assert_eq!(rt; status, case.status);
     assert_eq!(rt; out.taken(), case.printed);
@@ -118,21 +150,21 @@ fn check(rt: &impl Abort, alloc: Global, case: &Case<'_>) -> Result<(), Fail> {
 fn programs_end(rt: HostRuntime) -> Result<(), Fail> {
     let cases = [
         Case {
-            code: &GREETING,
+            code: &greeting(),
             data: b"hi",
             words: &["run", "in"],
             status: Status::Ended(0),
             printed: b"hi[ended 0 after 9 steps]\n",
         },
         Case {
-            code: &LOOP,
+            code: &countdown(),
             data: &[],
             words: &["run", "in"],
             status: Status::Ended(0),
             printed: b"[ended 0 after 13 steps]\n",
         },
         Case {
-            code: &LOOP,
+            code: &countdown(),
             data: &[],
             words: &["run", "--steps", "13", "in"],
             status: Status::Ended(0),
@@ -168,7 +200,7 @@ fn runs_are_out_of_steps(rt: HostRuntime) -> Result<(), Fail> {
     assert_eq!(rt; Status::OutOfSteps.number(), 226);
     for (words, printed) in cases {
         let case = Case {
-            code: &LOOP,
+            code: &countdown(),
             data: &[],
             words,
             status: Status::OutOfSteps,
@@ -181,40 +213,30 @@ fn runs_are_out_of_steps(rt: HostRuntime) -> Result<(), Fail> {
 
 #[test]
 fn runs_are_trapped(rt: HostRuntime) -> Result<(), Fail> {
-    let cases: [(&[u32], u64, Cause, &[u8]); 5] = [
+    let cases: [(&[Inst], u64, Cause, &[u8]); 4] = [
         (
-            // LD a0,0(x0)
-            &[0x0000_3503],
-            0x10078,
+            &[ld(A0, 0, X0)],
+            CODE,
             Cause::Load,
             b"[trapped Load at 10078 after 0 steps]\n",
         ),
         (
-            // ADDI x0,x0,0; SD a0,0(x0)
-            &[NOP, 0x00a0_3023],
-            0x1007c,
+            &[NOP, sd(A0, 0, X0)],
+            CODE + 4,
             Cause::Store,
             b"[trapped Store at 1007c after 1 steps]\n",
         ),
         (
-            // JALR x0,0(x0)
-            &[0x0000_0067],
+            &[jalr(X0, 0, X0)],
             0,
             Cause::Fetch,
             b"[trapped Fetch at 0 after 1 steps]\n",
         ),
         (
-            // EBREAK
-            &[0x0010_0073],
-            0x10078,
+            &[Inst::Ebreak],
+            CODE,
             Cause::Break,
             b"[trapped Break at 10078 after 0 steps]\n",
-        ),
-        (
-            &[0],
-            0x10078,
-            Cause::Illegal,
-            b"[trapped Illegal at 10078 after 0 steps]\n",
         ),
     ];
     for (code, pc, cause, printed) in cases {
@@ -233,14 +255,24 @@ fn runs_are_trapped(rt: HostRuntime) -> Result<(), Fail> {
 }
 
 #[test]
+fn no_instruction_is_a_trap(rt: HostRuntime) -> Result<(), Fail> {
+    let alloc = rt.alloc();
+    let printed: &[u8] = b"[trapped Illegal at 10078 after 0 steps]\n";
+    let file = executable(alloc, &[0; 4], &[])?;
+    let (status, out) = run(alloc, file, &words(alloc, &["run", "in"])?, QUIET)?;
+    assert_eq!(rt; status, Status::Trapped(CODE, Cause::Illegal));
+    assert_eq!(rt; out.taken(), printed);
+    Ok(())
+}
+
+#[test]
 fn a_long_program_is_run(rt: HostRuntime) -> Result<(), Fail> {
     let alloc = rt.alloc();
     let mut code = Vec::new(alloc);
     for _ in 0..249_997 {
         code.push(NOP)?;
     }
-    // ADDI a7,x0,93; ECALL
-    code.extend_from_slice(&[0x05d0_0893, 0x0000_0073])?;
+    code.extend_from_slice(&EXIT)?;
     let case = Case {
         code: &code,
         data: &[],
@@ -277,7 +309,7 @@ fn programs_are_given_their_words(rt: HostRuntime) -> Result<(), Fail> {
     ];
     for (words, status, printed) in cases {
         let case = Case {
-            code: &ARGUMENTS,
+            code: &arguments(),
             data: &[],
             words,
             status: Status::Ended(status),
@@ -321,7 +353,7 @@ fn programs_are_given_at_most_so_many_words(rt: HostRuntime) -> Result<(), Fail>
         (1, 65537, Status::Usage, USAGE),
     ];
     for (count, size, wanted, printed) in cases {
-        let file = executable(alloc, &ARGUMENTS, &[])?;
+        let file = executable(alloc, &assemble(alloc, &arguments())?, &[])?;
         let (status, out) = run(alloc, file, &many_words(alloc, count, size)?, QUIET)?;
         assert_eq!(rt; status, wanted);
         assert_eq!(rt; out.taken(), printed);
@@ -372,7 +404,7 @@ fn sources_that_fail_in_mid_stream(rt: HostRuntime) -> Result<(), Fail> {
             fail,
             room: 200,
         };
-        let file = executable(alloc, &COPY, &[])?;
+        let file = executable(alloc, &assemble(alloc, &copy())?, &[])?;
         let (status, out) = run(alloc, file, &words(alloc, &["run", "in"])?, streams)?;
         assert_eq!(rt; status, wanted);
         assert_eq!(rt; out.taken(), printed);
@@ -385,7 +417,7 @@ fn sinks_that_are_full(rt: HostRuntime) -> Result<(), Fail> {
     let alloc = rt.alloc();
     let whole = b"hi[ended 0 after 9 steps]\n";
     for room in [0, 1, 2, 3, 25] {
-        let file = executable(alloc, &GREETING, b"hi")?;
+        let file = executable(alloc, &assemble(alloc, &greeting())?, b"hi")?;
         let streams = Streams { room, ..QUIET };
         let (status, out) = run(alloc, file, &words(alloc, &["run", "in"])?, streams)?;
         assert_eq!(rt; status, Status::WriteFault);

@@ -1,9 +1,10 @@
 // System calls, as Linux's manual pages have them, and the faults of the source and the sink.
-use crate::machine::executable::{CODE, put};
+use crate::machine::executable::CODE;
 use crate::machine::running::{failing_sink, run_insts, sink, source};
 use rv_code::{Cause, Inst};
 use rv_machine::Stepped;
 use std::test::Fail;
+use test_files::bytes::push_u64s;
 
 // a0 holds a file and then the result, a1 the data, a2 the size of the buffer, a7 the call.
 fn set(rd: u8, imm: i64) -> Inst {
@@ -76,7 +77,7 @@ fn calls_answer(rt: HostRuntime) -> Result<(), Fail> {
         if let Some(bytes) = buffers.get(buffer) {
             want.extend_from_slice(bytes)?;
         }
-        put(&mut want, 8, &[result])?;
+        push_u64s(&mut want, &[result])?;
         assert_eq!(rt;
             (ran.end, ran.steps),
             (Stepped::Ended(0), 13),
@@ -141,7 +142,7 @@ fn the_break_is_raised(rt: HostRuntime) -> Result<(), Fail> {
     let mut out = sink(alloc, 100)?;
     let ran = run_insts(alloc, &insts, b".", &mut input, &mut out)?;
     let mut want = Vec::new(alloc);
-    put(&mut want, 8, &[0x51018, 0x51018, 0])?;
+    push_u64s(&mut want, &[0x51018, 0x51018, 0])?;
     assert_eq!(rt; (ran.end, ran.steps), (Stepped::Ended(0), 14));
     assert_eq!(rt; out.taken(), want.as_slice());
     Ok(())

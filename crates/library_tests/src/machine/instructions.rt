@@ -1,10 +1,10 @@
 // Results of instructions, as checks/machine_results.py takes them from qemu.
-use crate::machine::executable::put;
 use crate::machine::results::RESULTS;
 use crate::machine::running::{run_words, sink, source};
 use rv_machine::{Ran, Stepped};
 use std::alloc::Global;
 use std::test::Fail;
+use test_files::bytes::push_u64s;
 
 /// An instruction, the values of x11 and of x12 before it, and its result.
 #[derive(Drop)]
@@ -75,8 +75,8 @@ fn results_are_those_of_qemu(rt: HostRuntime) -> Result<(), Fail> {
     let mut data = Vec::new(alloc);
     let mut want = Vec::new(alloc);
     for row in &rows {
-        put(&mut data, 8, &[row.left, row.right, 0])?;
-        put(&mut want, 8, &[row.left, row.right, row.result])?;
+        push_u64s(&mut data, &[row.left, row.right, 0])?;
+        push_u64s(&mut want, &[row.left, row.right, row.result])?;
     }
     let mut input = source(alloc, b"", &[])?;
     let mut out = sink(alloc, want.len())?;

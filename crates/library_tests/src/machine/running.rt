@@ -1,14 +1,16 @@
 // Runs of executables.
-ghost use Rattle.elf_image.specs.Present.{IsSound};
-ghost use Rattle.elf_image.specs.Read.{IsElfOf};
+ghost use Rattle.elf_image.specs.faults.FileFaults.{IsSound};
+ghost use Rattle.elf_image.specs.file.ParsedFile.{IsElfOf};
 
-use crate::machine::executable::{assembled, executable};
+use crate::machine::executable::executable;
 use elf_image::{Elf, read};
 use rb_io::{MemSink, MemSource};
 use rv_code::Inst;
 use rv_machine::{Machine, Ran};
 use std::alloc::Global;
 use std::test::Fail;
+use test_files::assemble;
+use test_files::bytes::push_u32s;
 
 /// Enough steps for all programs of these tests that end.
 const LIMIT: u64 = 10_000;
@@ -54,9 +56,9 @@ fn run_elf(
 }
 
 /// At most so many steps of an executable of this code and data.
-pub fn run_words(
+fn run_code(
     alloc: Global,
-    code: &[u32],
+    code: &[u8],
     data: &[u8],
     limit: u64,
     input: &mut MemSource,
@@ -69,6 +71,20 @@ pub fn run_words(
     }
 }
 
+/// At most so many steps of an executable of these words of code and this data.
+pub fn run_words(
+    alloc: Global,
+    words: &[u32],
+    data: &[u8],
+    limit: u64,
+    input: &mut MemSource,
+    out: &mut MemSink,
+) -> Result<Ran, Fail> {
+    let mut code = Vec::new(alloc);
+    push_u32s(&mut code, words)?;
+    run_code(alloc, &code, data, limit, input, out)
+}
+
 /// A run of an executable of these instructions and data.
 pub fn run_insts(
     alloc: Global,
@@ -77,6 +93,6 @@ pub fn run_insts(
     input: &mut MemSource,
     out: &mut MemSink,
 ) -> Result<Ran, Fail> {
-    let code = assembled(alloc, insts)?;
-    run_words(alloc, &code, data, LIMIT, input, out)
+    let code = assemble(alloc, insts)?;
+    run_code(alloc, &code, data, LIMIT, input, out)
 }

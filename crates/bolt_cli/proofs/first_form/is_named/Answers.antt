@@ -2,7 +2,7 @@ use Rattle.std.proofs.Common.{◌≡◌, sym, ◌∙◌, rules, refl, ℕ, List,
 use Rattle.std.proofs.lemmas.Option.{slice_get_read}
 use Rattle.std.specs.Str.{bytes_eq}
 use Rattle.std.proofs.lemmas.Slice.Eq.{bytes_eq-Decides}
-use Rattle.elf_image.specs.Read.{IsSectionAt}
+use Rattle.elf_image.specs.file.ParsedFile.{IsSectionAt}
 use Rattle.bolt_cli.proofs.first_form.is_named.Goals as goal
 
 same_bytes : (xs ys : List ℕ) → bytes_eq xs ys ≡ true → xs ≡ ys

@@ -1,5 +1,5 @@
 use Rattle.std.proofs.Common.{subst}
-use Rattle.bolt_cli.specs.FirstForm.{IsStraight}
+use Rattle.bolt_cli.specs.rewrite.FirstForm.{IsStraight}
 use Rattle.bolt_cli.proofs.StraightWords.{straight_there, straight_decodes}
 use Rattle.bolt_cli.proofs.first_form.is_straight_at.Goals as goal
 

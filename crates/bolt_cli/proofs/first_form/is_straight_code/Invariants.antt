@@ -1,5 +1,5 @@
 use Rattle.std.proofs.Common.{ℕ, ◌+◌, ◌*◌, ◌<◌}
-use Rattle.bolt_cli.specs.FirstForm.{IsStraightAt}
+use Rattle.bolt_cli.specs.rewrite.FirstForm.{IsStraightAt}
 use Rattle.bolt_cli.proofs.first_form.is_straight_code.Given as goal
 
 abbrev pub invariant-loop-k : goal.invariant-loop-k

@@ -1,8 +1,8 @@
 use Rattle.std.proofs.Common.{◌≡◌, ◌∙◌, sym, ap, subst, ℕ, List, ◌++◌, length, take, drop, rules, arith, ◌<◌}
 use Rattle.std.proofs.Math.Seq.{take-append_seam}
-use Rattle.elf_image.specs.Truncated.{HasContents}
-use Rattle.elf_image.specs.Header.{e_shnum}
-use Rattle.bolt_cli.specs.Moved.{IsMoved, IsPatched}
+use Rattle.elf_image.specs.faults.Truncation.{HasContents}
+use Rattle.elf_image.specs.file.Header.{e_shnum}
+use Rattle.bolt_cli.specs.rewrite.WrittenBytes.{IsMoved, IsPatched}
 use Rattle.bolt_cli.proofs.MovedArea.{form_moved}
 use Rattle.bolt_cli.proofs.first_write.write_moved.Goals as goal
 

@@ -1,5 +1,6 @@
 use Rattle.std.proofs.Common.{◌≡◌}
-use Rattle.bolt_cli.specs.Spans.{spans_from, map_text}
+use Rattle.addr_map.specs.MapText.{map_text}
+use Rattle.bolt_cli.specs.rewrite.FirstMap.{spans_from}
 use Rattle.bolt_cli.proofs.rewrite.map.Given as goal
 
 abbrev pub invariant-loop-k : goal.invariant-loop-k

@@ -1,48 +1,84 @@
-use Rattle.std.proofs.Common.{◌≤◌, sym, subst, refl, ℕ, List, length}
-use Rattle.bolt_cli.specs.Read.{run_read}
-use Rattle.bolt_cli.specs.Refused.{file_limit}
-use Rattle.bolt_cli.specs.Runs.{unsound}
+use Rattle.std.proofs.Common.{◌≤◌, sym, subst, refl, inl, inr, ℕ, List, length, arith}
+use Rattle.bolt_cli.specs.ParsedWords.{run_read}
+use Rattle.bolt_cli.specs.rewrite.Refusals.{file_limit}
+use Rattle.bolt_cli.specs.run.Endings.{unsound, much_code}
+use Rattle.bolt_cli.specs.run.RunAnswers.{at_file, before_run}
 use Rattle.bolt_cli.specs.Words.{RunWords}
-use Rattle.bolt_cli.specs.World.{World}
-use Rattle.bolt_cli.proofs.RunAnswering.{refuses, under_way, completes, present_long, present_fault, never_refused, passed_is, kept_is, kept_runnable, other_exact}
+use Rattle.bolt_cli.specs.World.{World, world}
+use Rattle.bolt_cli.specs.declared.status.Status.TheVariants as status
+use Rattle.bolt_cli.proofs.CodeSizes.{code_fits, code_passes}
+use Rattle.bolt_cli.proofs.RunAnswering.{serves, refusal_serves, under_way, present_long, present_fault, passed_is, kept_is, kept_fits, kept_sound, other_exact}
 use Rattle.bolt_cli.proofs.run.run.Goals as goal
 
-pub returns-in-TooLong-clause-answer : goal.returns-in-TooLong-clause-answer
-returns-in-TooLong-clause-answer g c =
+pub returns-in-TooLong-clause-serves : goal.returns-in-TooLong-clause-serves
+returns-in-TooLong-clause-serves g c =
     let words : RunWords = run_read c.args.words.now in
-    let old : World = record { files = g.F.Files.seen c.args.files.now; input = g.I.Source.seen c.args.input.now; output = g.O.Sink.seen c.args.out.now } in
-    let new : World = record { files = g.F.Files.seen c.read_all.new.self; input = g.I.Source.seen c.args.input.now; output = g.O.Sink.seen c.refuse.new.out } in
-    refuses words old new c.refuse.result c.at.result c.refuse.ensures.line c.in-TooLong.ensures.contents_kept
+    let old : World = world (g.F.Files.seen c.args.files.now) (g.I.Source.seen c.args.input.now) (g.O.Sink.seen c.args.out.now) in
+    let new : World = world (g.F.Files.seen c.read_all.new.self) (g.I.Source.seen c.args.input.now) (g.O.Sink.seen c.refuse.new.out) in
+    refusal_serves words old new c.refuse.result c.at.result c.refuse.ensures.line c.in-TooLong.ensures.contents_kept
     (λ told. present_long (old.files.content words.file) c.at.result c.at.ensures (c.in-TooLong.ensures.too_long refl told)) refl
+    c.in-TooLong.ensures.goes_on c.refuse.ensures.never_falls
 
-pub returns-in-Ok-clause-answer : goal.returns-in-Ok-clause-answer
-returns-in-Ok-clause-answer g c =
+pub returns-in-Failed-clause-serves : goal.returns-in-Failed-clause-serves
+returns-in-Failed-clause-serves g c =
     let words : RunWords = run_read c.args.words.now in
-    let old : World = record { files = g.F.Files.seen c.args.files.now; input = g.I.Source.seen c.args.input.now; output = g.O.Sink.seen c.args.out.now } in
-    let new : World = record { files = g.F.Files.seen c.read_all.new.self; input = g.I.Source.seen c.run_elf.new.input; output = g.O.Sink.seen c.run_elf.new.out } in
-    under_way words old new c.run_elf.result c.in-Ok.elf.file.now
-    (λ told. kept_is (old.files.content words.file) c.read_all.new.into.items c.deref.result.now c.in-Ok.elf.file.now c.deref.ensures.value c.in-Ok.ensures.fields.file_is (c.in-Done.ensures.done refl told))
-    (kept_runnable (old.files.content words.file) c.read_all.new.into.items c.deref.result.now c.in-Ok.elf.file.now c.deref.ensures.value c.in-Ok.ensures.fields.file_is (c.in-Done.ensures.within_limit refl) c.in-Ok.ensures.sound)
-    c.in-Done.ensures.contents_kept c.run_elf.ensures.answer
+    let old : World = world (g.F.Files.seen c.args.files.now) (g.I.Source.seen c.args.input.now) (g.O.Sink.seen c.args.out.now) in
+    let new : World = world (g.F.Files.seen c.read_all.new.self) (g.I.Source.seen c.args.input.now) (g.O.Sink.seen c.args.out.now) in
+    serves words old new status.ReadFault
+    (at_file (c.in-Failed.ensures.failed refl) (record { unprinted = refl; unwritten = c.in-Failed.ensures.contents_kept }) refl)
+    (λ told file is input left ending steps trace rest runs. inr (inl refl))
+    c.in-Failed.ensures.goes_on (omega arith) (omega arith)
 
-pub returns-in-Ok-clause-complete : goal.returns-in-Ok-clause-complete
-returns-in-Ok-clause-complete g c = λ told file is runnable.
+pub returns-in-Memory-clause-serves : goal.returns-in-Memory-clause-serves
+returns-in-Memory-clause-serves g c =
     let words : RunWords = run_read c.args.words.now in
-    let old : World = record { files = g.F.Files.seen c.args.files.now; input = g.I.Source.seen c.args.input.now; output = g.O.Sink.seen c.args.out.now } in
-    let new : World = record { files = g.F.Files.seen c.read_all.new.self; input = g.I.Source.seen c.run_elf.new.input; output = g.O.Sink.seen c.run_elf.new.out } in
-    completes words old new file told is runnable c.run_elf.result (returns-in-Ok-clause-answer g c)
-    (other_exact (old.files.content words.file) c.in-Ok.elf.file.now file c.run_elf.result words old.input.left
-    (kept_is (old.files.content words.file) c.read_all.new.into.items c.deref.result.now c.in-Ok.elf.file.now c.deref.ensures.value c.in-Ok.ensures.fields.file_is (c.in-Done.ensures.done refl told)) is c.run_elf.ensures.exact)
+    let old : World = world (g.F.Files.seen c.args.files.now) (g.I.Source.seen c.args.input.now) (g.O.Sink.seen c.args.out.now) in
+    let new : World = world (g.F.Files.seen c.read_all.new.self) (g.I.Source.seen c.args.input.now) (g.O.Sink.seen c.args.out.now) in
+    serves words old new status.NoMemory
+    (before_run (record { unprinted = refl; unwritten = c.in-Memory.ensures.contents_kept }) refl)
+    (λ told file is input left ending steps trace rest runs. inl (inr refl))
+    c.in-Memory.ensures.goes_on (omega arith) (omega arith)
 
-pub returns-in-Ok-clause-unread : goal.returns-in-Ok-clause-unread
-returns-in-Ok-clause-unread g c = λ fault is. absurd (never_refused c.run_elf.result fault _ _ _ _ is c.run_elf.ensures.answer)
-
-pub returns-in-Err-Fault-clause-answer : goal.returns-in-Err-Fault-clause-answer
-returns-in-Err-Fault-clause-answer g c =
+pub returns-in-Err-Fault-clause-serves : goal.returns-in-Err-Fault-clause-serves
+returns-in-Err-Fault-clause-serves g c =
     let words : RunWords = run_read c.args.words.now in
-    let old : World = record { files = g.F.Files.seen c.args.files.now; input = g.I.Source.seen c.args.input.now; output = g.O.Sink.seen c.args.out.now } in
-    let new : World = record { files = g.F.Files.seen c.read_all.new.self; input = g.I.Source.seen c.args.input.now; output = g.O.Sink.seen c.refuse-in-Err-Fault.new.out } in
-    refuses words old new c.refuse-in-Err-Fault.result c.in-Err-Fault.fault c.refuse-in-Err-Fault.ensures.line c.in-Done.ensures.contents_kept
+    let old : World = world (g.F.Files.seen c.args.files.now) (g.I.Source.seen c.args.input.now) (g.O.Sink.seen c.args.out.now) in
+    let new : World = world (g.F.Files.seen c.read_all.new.self) (g.I.Source.seen c.args.input.now) (g.O.Sink.seen c.refuse-in-Err-Fault.new.out) in
+    refusal_serves words old new c.refuse-in-Err-Fault.result c.in-Err-Fault.fault c.refuse-in-Err-Fault.ensures.line c.in-Done.ensures.contents_kept
     (λ told. present_fault (old.files.content words.file) c.deref.result.now c.in-Err-Fault.fault
     (passed_is (old.files.content words.file) c.read_all.new.into.items c.deref.result.now c.deref.result.now c.deref.ensures.value (c.in-Done.ensures.done refl told))
     (unsound (subst (λ (f : List ℕ). length f ≤ file_limit) (sym c.deref.ensures.value) (c.in-Done.ensures.within_limit refl)) (rw c.in-Err-Fault.field-0-is at c.in-Err-Fault.ensures.refusal))) refl
+    c.in-Done.ensures.goes_on c.refuse-in-Err-Fault.ensures.never_falls
+
+pub returns-then-has_too_much_code-clause-serves : goal.returns-then-has_too_much_code-clause-serves
+returns-then-has_too_much_code-clause-serves g c =
+    let words : RunWords = run_read c.args.words.now in
+    let old : World = world (g.F.Files.seen c.args.files.now) (g.I.Source.seen c.args.input.now) (g.O.Sink.seen c.args.out.now) in
+    let new : World = world (g.F.Files.seen c.read_all.new.self) (g.I.Source.seen c.args.input.now) (g.O.Sink.seen c.refuse-then-has_too_much_code.new.out) in
+    let kept : List ℕ = c.in-Ok.elf.file.now in
+    refusal_serves words old new c.refuse-then-has_too_much_code.result c.at-then-has_too_much_code.result c.refuse-then-has_too_much_code.ensures.line c.in-Done.ensures.contents_kept
+    (λ told. present_fault (old.files.content words.file) kept c.at-then-has_too_much_code.result
+    (kept_is (old.files.content words.file) c.read_all.new.into.items c.deref.result.now kept c.deref.ensures.value c.in-Ok.ensures.fields.file_is (c.in-Done.ensures.done refl told))
+    (much_code
+    (kept_fits (old.files.content words.file) c.read_all.new.into.items c.deref.result.now kept c.deref.ensures.value c.in-Ok.ensures.fields.file_is (c.in-Done.ensures.within_limit refl))
+    (kept_sound (old.files.content words.file) c.read_all.new.into.items c.deref.result.now kept c.deref.ensures.value c.in-Ok.ensures.fields.file_is c.in-Ok.ensures.sound)
+    (code_passes kept kept c.has_too_much_code.result refl c.has_too_much_code.ensures.0 c.if-has_too_much_code.true) c.at-then-has_too_much_code.ensures)) refl
+    c.in-Done.ensures.goes_on c.refuse-then-has_too_much_code.ensures.never_falls
+
+pub returns-clause-serves : goal.returns-clause-serves
+returns-clause-serves g c =
+    let words : RunWords = run_read c.args.words.now in
+    let old : World = world (g.F.Files.seen c.args.files.now) (g.I.Source.seen c.args.input.now) (g.O.Sink.seen c.args.out.now) in
+    let new : World = world (g.F.Files.seen c.read_all.new.self) (g.I.Source.seen c.run_elf.new.input) (g.O.Sink.seen c.run_elf.new.out) in
+    let kept : List ℕ = c.in-Ok.elf.file.now in
+    let is = kept_is (old.files.content words.file) c.read_all.new.into.items c.deref.result.now kept c.deref.ensures.value c.in-Ok.ensures.fields.file_is in
+    serves words old new c.run_elf.result
+    (under_way words old new c.run_elf.result kept (λ told. is (c.in-Done.ensures.done refl told))
+    (record {
+      fits = kept_fits (old.files.content words.file) c.read_all.new.into.items c.deref.result.now kept c.deref.ensures.value c.in-Ok.ensures.fields.file_is (c.in-Done.ensures.within_limit refl);
+      sound = kept_sound (old.files.content words.file) c.read_all.new.into.items c.deref.result.now kept c.deref.ensures.value c.in-Ok.ensures.fields.file_is c.in-Ok.ensures.sound;
+      code_fits = code_fits kept kept c.has_too_much_code.result refl c.has_too_much_code.ensures.1 c.if-has_too_much_code.false;
+    })
+    c.in-Done.ensures.contents_kept c.run_elf.ensures.answer)
+    (λ told file file_is. other_exact (old.files.content words.file) kept file c.run_elf.result words old.input.left (is (c.in-Done.ensures.done refl told)) file_is c.run_elf.ensures.exact)
+    c.in-Done.ensures.goes_on c.run_elf.ensures.reads c.run_elf.ensures.writes

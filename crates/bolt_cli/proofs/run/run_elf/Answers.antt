@@ -1,11 +1,11 @@
 use Rattle.std.proofs.Common.{◌≡◌, ◌∙◌, ap, ℕ, List, refl}
 use Rattle.std.specs.Prelude.{map, String, string_bytes}
 use Rattle.std.specs.declared.alloc.Global.{Global}
-use Rattle.elf_image.specs.Start.{start}
+use Rattle.elf_image.specs.memory.Start.{start}
 use Rattle.rv_machine.specs.declared.machine.Machine.{Machine}
-use Rattle.rv_machine.specs.Answers.{Outside}
+use Rattle.rv_machine.specs.StepAnswers.{Outside}
 use Rattle.rv_machine.specs.State.{state_of}
-use Rattle.bolt_cli.specs.Read.{run_read}
+use Rattle.bolt_cli.specs.ParsedWords.{run_read}
 use Rattle.bolt_cli.proofs.RunEnds.{no_step, answers, exact}
 use Rattle.bolt_cli.proofs.run.run_elf.Goals as goal
 

@@ -1,6 +1,6 @@
 use Rattle.std.proofs.Common.{◌≡◌, codes}
 use Rattle.bolt_cli.specs.Words.{limit_of, values_of, steps_name}
-use Rattle.bolt_cli.specs.Read.{arguments_of}
+use Rattle.bolt_cli.specs.ParsedWords.{arguments_of}
 use Rattle.bolt_cli.proofs.RunArguments.{limit_after}
 use Rattle.bolt_cli.proofs.words.limit.Given as goal
 

@@ -1,6 +1,6 @@
 -- What the reader of the first form found.
 use Rattle.std.specs.Prelude.{◌≡◌, ℕ, List}
-use Rattle.bolt_cli.specs.FirstForm.{code_segment, text_section, names_section}
+use Rattle.bolt_cli.specs.rewrite.FirstForm.{code_segment, text_section, names_section}
 use Rattle.bolt_cli.specs.declared.first_form.FirstForm.{FirstForm}
 
 pub record IsFormOf (file : List ℕ) (form : FirstForm) : Type 0 where

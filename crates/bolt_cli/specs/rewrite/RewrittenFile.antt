@@ -1,12 +1,13 @@
 -- What a rewritten file is to its input.
 use Rattle.std.specs.Prelude.{◌≡◌, ◌≢◌, ℕ, ◌+◌, ◌<◌, ◌≤◌, true, false, List, length, All}
-use Rattle.rv_code.specs.Machine.{Event}
+use Rattle.rv_code.specs.machine.Machine.{Event}
 use Rattle.elf_image.specs.declared.segment.Segment.{Segment}
 use Rattle.elf_image.specs.declared.segment.TheConstants.{PF_W, PF_X}
-use Rattle.elf_image.specs.Header.{e_entry, segments_of}
-use Rattle.elf_image.specs.Image.{image_byte, is_loaded_with}
-use Rattle.elf_image.specs.Start.{Runs}
-use Rattle.bolt_cli.specs.Spans.{Span, new_start, spans_of}
+use Rattle.elf_image.specs.file.Header.{e_entry, segments_of}
+use Rattle.elf_image.specs.memory.Image.{image_byte, is_loaded_with}
+use Rattle.elf_image.specs.memory.Start.{Runs}
+use Rattle.addr_map.specs.declared.span.Span.{Span}
+use Rattle.bolt_cli.specs.rewrite.FirstMap.{new_start, spans_of}
 
 -- the written file has at an address, to be executed and not written, what the input has at another one
 pub record HoldsByte (file written : List ℕ) (input out : ℕ) : Type 0 where
@@ -23,13 +24,13 @@ abbrev pub IsInFile : List ℕ → Segment → Type 0
 IsInFile file p = p.offset + p.filesz ≤ length file
 
 -- a call that neither reads nor writes a file
-abbrev pub IsQuiet : Event → Type 0
-IsQuiet e = (e.number ≢ 63) × (e.number ≢ 64)
+abbrev pub IsNoIo : Event → Type 0
+IsNoIo e = (e.number ≢ 63) × (e.number ≢ 64)
 
 -- each run that ends, without such calls, is a run of the written file, of as many steps
 abbrev pub KeepsRuns : List ℕ → List ℕ → Type 0
 KeepsRuns file written =
-    (words : List (List ℕ)) (input : List ℕ) (n : ℕ) (trace : List Event) (status : ℕ) → All IsQuiet trace →
+    (words : List (List ℕ)) (input : List ℕ) (n : ℕ) (trace : List Event) (status : ℕ) → All IsNoIo trace →
     Runs file words input n trace status → Runs written words input n trace status
 
 pub record IsRewritten (file written : List ℕ) : Type 0 where

@@ -1,13 +1,13 @@
 -- The files that are rewritten today: one function of straight-line code, and nothing else.
 use Rattle.std.specs.Prelude.{◌≡◌, ℕ, ◌+◌, ◌-◌, ◌*◌, ◌/◌, ◌%◌, ◌<◌, ◌≤◌, ◌==◌, Bool, true, false, List, [], Some, length, codes}
-use Rattle.rv_code.specs.Decoding.{Decodes}
+use Rattle.rv_code.specs.isa.Decoding.{Decodes}
 use Rattle.rv_code.specs.declared.inst.Inst.{Inst}
 use Rattle.rv_code.specs.declared.inst.Inst.TheVariants.{Lui, Addi, Slti, Sltiu, Xori, Ori, Andi, Slli, Srli, Srai, Ecall}
 use Rattle.elf_image.specs.declared.segment.Segment.{Segment}
 use Rattle.elf_image.specs.declared.segment.TheConstants.{PT_LOAD, PF_R, PF_W, PF_X, PHDR_SIZE}
-use Rattle.elf_image.specs.Header.{number_at, e_entry, e_phoff, e_flags, e_phnum, e_shnum, e_shstrndx, header_size, segment_at}
-use Rattle.elf_image.specs.Image.{end_of, has_flag}
-use Rattle.elf_image.specs.Sections.{section_header, section_name}
+use Rattle.elf_image.specs.file.Header.{number_at, e_entry, e_phoff, e_flags, e_phnum, e_shnum, e_shstrndx, header_size, segment_at}
+use Rattle.elf_image.specs.memory.Image.{end_of, has_flag}
+use Rattle.elf_image.specs.file.Sections.{section_header, section_name}
 use Rattle.elf_image.specs.declared.section.SectionHeader.{SectionHeader}
 use Rattle.elf_image.specs.declared.section.TheConstants.{SHT_PROGBITS, SHT_STRTAB, SHF_ALLOC, SHF_EXECINSTR}
 

@@ -1,9 +1,9 @@
 -- What the writer of the first form makes, as facts about bytes.
 use Rattle.std.specs.Prelude.{◌≡◌, ℕ, ◌+◌, ◌<◌, ◌≤◌, List, ◌++◌, length, slice_index}
 use Rattle.elf_image.specs.declared.segment.TheConstants.{PHDR_SIZE}
-use Rattle.elf_image.specs.Header.{e_entry, e_phoff, e_phnum, segment_at}
-use Rattle.bolt_cli.specs.FirstForm.{code_segment, text_section, offset_of}
-use Rattle.bolt_cli.specs.Spans.{new_start}
+use Rattle.elf_image.specs.file.Header.{e_entry, e_phoff, e_phnum, segment_at}
+use Rattle.bolt_cli.specs.rewrite.FirstForm.{code_segment, text_section, offset_of}
+use Rattle.bolt_cli.specs.rewrite.FirstMap.{new_start}
 
 -- where the new code stands in the written file, whose segment begins at its front
 abbrev pub new_offset : List ℕ → ℕ
@@ -14,9 +14,11 @@ pub record IsMoved (file written : List ℕ) : Type 0 where
   pub entry : e_entry written ≡ new_start file
   pub phoff : e_phoff written ≡ e_phoff file
   pub phnum : e_phnum written ≡ 1
-  pub segment : segment_at written (e_phoff file) ≡ record (code_segment file) { filesz = new_offset file + (text_section file).size; memsz = new_offset file + (text_section file).size }
+  pub segment : segment_at written (e_phoff file)
+      ≡ record (code_segment file) { filesz = new_offset file + (text_section file).size; memsz = new_offset file + (text_section file).size }
   pub whole : new_offset file + (text_section file).size ≤ length written
-  pub code : (j : ℕ) → j < (text_section file).size → slice_index written (new_offset file + j) ≡ slice_index file (offset_of file (text_section file).addr + j)
+  pub code : (j : ℕ) → j < (text_section file).size
+      → slice_index written (new_offset file + j) ≡ slice_index file (offset_of file (text_section file).addr + j)
 
 -- bytes that begin with a front, have more bytes up to a place, and then end with the code
 pub record IsArea (area front : List ℕ) (start : ℕ) (code : List ℕ) : Type 0 where

@@ -3,8 +3,9 @@ use Rattle.std.specs.Prelude.{◌≡◌, ◌≢◌, ◌⊎◌, ℕ, ◌*◌, ◌
 use Rattle.rb_bytes.specs.Fault.{fault_at}
 use Rattle.rb_bytes.specs.declared.fault.Fault.{Fault}
 use Rattle.rb_bytes.specs.declared.fault.FaultKind.TheVariants.{TooLarge, NotBuilt}
-use Rattle.elf_image.specs.Present.{IsFault, IsSound}
-use Rattle.bolt_cli.specs.FirstForm.{IsFirstForm}
+use Rattle.elf_image.specs.faults.FileFaults.{IsFirstFault, IsSound}
+use Rattle.bolt_cli.specs.CodeLimit.{HasTooMuchCode}
+use Rattle.bolt_cli.specs.rewrite.FirstForm.{IsFirstForm}
 
 -- 64 MiB
 abbrev pub file_limit : ℕ
@@ -19,12 +20,17 @@ pub record Fit (file profile : List ℕ) : Type 0 where
 abbrev pub IsNotBuilt : List ℕ → List ℕ → Type 0
 IsNotBuilt file profile = (profile ≢ []) ⊎ (IsFirstForm file → ⊥)
 
--- Length comes first, of the file and then of the profile; then what is wrong in the file; then what isn't built.
+-- Length comes first, of the file and then of the profile; then what is wrong in the file; then what isn't built; and
+-- then the size of the code.
 pub data IsRefused (file profile : List ℕ) (fault : Fault) : Type 0 where
   long_file : file_limit < length file → fault ≡ fault_at TooLarge 0 → IsRefused file profile fault
-  long_profile : length file ≤ file_limit → file_limit < length profile → fault ≡ fault_at TooLarge 1 → IsRefused file profile fault
-  unsound : Fit file profile → IsFault file fault → IsRefused file profile fault
-  not_built : Fit file profile → IsSound file → IsNotBuilt file profile → fault ≡ fault_at NotBuilt 0 → IsRefused file profile fault
+  long_profile : length file ≤ file_limit → file_limit < length profile
+      → fault ≡ fault_at TooLarge 1 → IsRefused file profile fault
+  unsound : Fit file profile → IsFirstFault file fault → IsRefused file profile fault
+  not_built : Fit file profile → IsSound file → IsNotBuilt file profile
+      → fault ≡ fault_at NotBuilt 0 → IsRefused file profile fault
+  much_code : Fit file profile → IsSound file → (IsNotBuilt file profile → ⊥) → HasTooMuchCode file
+      → fault ≡ fault_at TooLarge 2 → IsRefused file profile fault
 
 -- none of these faults is present
 pub record IsAccepted (file profile : List ℕ) : Type 0 where
@@ -32,3 +38,4 @@ pub record IsAccepted (file profile : List ℕ) : Type 0 where
   pub sound : IsSound file
   pub no_profile : profile ≡ []
   pub form : IsFirstForm file
+  pub code_fits : HasTooMuchCode file → ⊥

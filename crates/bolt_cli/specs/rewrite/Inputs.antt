@@ -4,7 +4,7 @@ use Rattle.rb_bytes.specs.declared.fault.Fault.{Fault}
 use Rattle.rb_bytes.specs.declared.fault.Refusal.{Refusal}
 use Rattle.rb_bytes.specs.declared.fault.Refusal.TheVariants as refusal
 use Rattle.bolt_cli.specs.Words.{RewriteNames}
-use Rattle.bolt_cli.specs.Refused.{file_limit}
+use Rattle.bolt_cli.specs.rewrite.Refusals.{file_limit}
 use Rattle.bolt_cli.specs.declared.rewrite.Inputs.{Inputs}
 use Rattle.bolt_cli.specs.declared.rewrite.Inputs.TheVariants as inputs
 
@@ -15,8 +15,11 @@ pub record AreRead (content : List ℕ → Option (List ℕ)) (names : RewriteNa
 
 abbrev pub InputsRead : Inputs → (List ℕ → Option (List ℕ)) → RewriteNames → List ℕ → List ℕ → Type 0
 InputsRead inputs.Whole content names file profile = AreRead content names file profile
-InputsRead inputs.LongFile content names file profile = IsSomeAnd (content names.file) (λ f. IsSomeAnd (content names.profile) (λ p. file_limit < length f))
-InputsRead inputs.LongProfile content names file profile = IsSomeAnd (content names.file) (λ f. IsSomeAnd (content names.profile) (λ p. (length f ≤ file_limit) × (file_limit < length p)))
+InputsRead inputs.LongFile content names file profile =
+    IsSomeAnd (content names.file) (λ f. IsSomeAnd (content names.profile) (λ p. file_limit < length f))
+InputsRead inputs.LongProfile content names file profile =
+    IsSomeAnd (content names.file) (λ f.
+    IsSomeAnd (content names.profile) (λ p. (length f ≤ file_limit) × (file_limit < length p)))
 InputsRead inputs.Failed content names file profile = Unit {0}
 InputsRead inputs.Memory content names file profile = Unit {0}
 

@@ -2,19 +2,19 @@
 -- of the file. What its steps did is said where standard input tells its bytes.
 use Rattle.std.specs.Prelude.{◌≡◌, ◌⊎◌, ℕ, ◌<◌, ◌≤◌, List, Option, Some, IsTrue, IsSomeAnd}
 use Rattle.std.specs.Io.KnownBytes.{append_known}
-use Rattle.rb_io.specs.Counts.{Rose}
+use Rattle.rb_io.specs.FaultCounts.{Rose}
 use Rattle.rb_io.specs.Names.{Unchanged}
-use Rattle.rb_io.specs.Printed.{TakesAll, TakesFront}
+use Rattle.rb_io.specs.TakenText.{TakesAll, TakesPrefix}
 use Rattle.rb_bytes.specs.declared.fault.Fault.{Fault}
-use Rattle.rv_code.specs.Machine.{Event, output, SoFar}
-use Rattle.rv_code.specs.Step.{ByteState, Steps}
-use Rattle.elf_image.specs.Start.{start}
-use Rattle.rv_machine.specs.Answers.{Outside, AsksInput, GivesOutput}
+use Rattle.rv_code.specs.machine.Machine.{Event, output, SoFar}
+use Rattle.rv_code.specs.machine.Step.{ByteState, Steps}
+use Rattle.elf_image.specs.memory.Start.{start}
+use Rattle.rv_machine.specs.StepAnswers.{Outside, AsksInput, GivesOutput}
 use Rattle.bolt_cli.specs.Lines.{refused_line}
 use Rattle.bolt_cli.specs.Printing.{PrintsOnly, IsSilent, FailsAtLine}
-use Rattle.bolt_cli.specs.Runs.{Ending, Ends, Traps, RunsOn, answer_of, closing_line, RunsTo, IsRunnable, CannotRun}
+use Rattle.bolt_cli.specs.run.Endings.{Ending, Ends, Traps, RunsOn, answer_of, closing_line, RunsTo, IsRunnable, CannotRun}
 use Rattle.bolt_cli.specs.Words.{RunWords}
-use Rattle.bolt_cli.specs.World.{World}
+use Rattle.bolt_cli.specs.World.{World, ReadRose}
 use Rattle.bolt_cli.specs.declared.status.Status.{Status}
 use Rattle.bolt_cli.specs.declared.status.Status.TheVariants as status
 
@@ -24,7 +24,8 @@ Taking = Option (List ℕ) → Option (List ℕ) → List ℕ → Type 0
 
 -- The whole run comes out so, after these steps. Its output was taken, and then of the closing line as much as
 -- `Takes` says; and what is left of the input is what the run leaves.
-pub record HasRun (Takes : Taking) (ending : Ending) (words : RunWords) (before after : Outside) (file input : List ℕ) (steps : ℕ) : Type 0 where
+pub record HasRun (Takes : Taking) (ending : Ending) (words : RunWords) (before after : Outside) (file input : List ℕ)
+    (steps : ℕ) : Type 0 where
   pub trace : List Event
   pub rest : List ℕ
   pub runs : RunsTo file words.words input words.limit ending steps trace rest
@@ -32,14 +33,16 @@ pub record HasRun (Takes : Taking) (ending : Ending) (words : RunWords) (before 
   pub left_is : after.input.left ≡ Some rest
 
 -- Such a run: where the input isn't told, it had some output, and some count of steps within the limit.
-pub record ComesOut (Takes : Taking) (ending : Ending) (words : RunWords) (before after : Outside) (file : List ℕ) : Type 0 where
+pub record ComesOut (Takes : Taking) (ending : Ending) (words : RunWords) (before after : Outside) (file : List ℕ)
+    : Type 0 where
   pub steps : ℕ
   pub few : steps ≤ words.limit
-  pub line : (printed : List ℕ) × Takes (append_known before.output.taken printed) after.output.taken (closing_line ending steps)
+  pub line : (printed : List ℕ)
+      × Takes (append_known before.output.taken printed) after.output.taken (closing_line ending steps)
   pub run : (input : List ℕ) → before.input.left ≡ Some input → HasRun Takes ending words before after file input steps
 
 -- the first steps of a run, and P holds of their count, of their output and of the state that they come to
-pub record ComesTo (P : ℕ → List ℕ → ByteState → Type 0) (words : RunWords) (file input : List ℕ) : Type 0 where
+pub record FirstSteps (P : ℕ → List ℕ → ByteState → Type 0) (words : RunWords) (file input : List ℕ) : Type 0 where
   pub steps : ℕ
   pub trace : List Event
   pub state : ByteState
@@ -47,21 +50,31 @@ pub record ComesTo (P : ℕ → List ℕ → ByteState → Type 0) (words : RunW
   pub fits : P steps (output trace) state
 
 -- The run stopped there, and what was taken is only more than before.
-pub record Stops (P : ℕ → List ℕ → ByteState → Type 0) (words : RunWords) (before after : Outside) (file : List ℕ) : Type 0 where
+pub record RunStops (P : ℕ → List ℕ → ByteState → Type 0) (words : RunWords) (before after : Outside) (file : List ℕ)
+    : Type 0 where
   pub grown : (printed : List ℕ) × TakesAll before.output.taken after.output.taken printed
-  pub run : (input : List ℕ) → before.input.left ≡ Some input → ComesTo P words file input
+  pub run : (input : List ℕ) → before.input.left ≡ Some input → FirstSteps P words file input
 
 -- One of its steps asks for input. The output before that was taken.
 abbrev pub StopsAtRead : RunWords → Outside → Outside → List ℕ → Type 0
-StopsAtRead words before after = Stops (λ steps printed state. (steps < words.limit) × TakesAll before.output.taken after.output.taken printed × AsksInput Steps state) words before after
+StopsAtRead words before after = RunStops
+    (λ steps printed state. (steps < words.limit) × TakesAll before.output.taken after.output.taken printed
+    × AsksInput Steps state)
+    words before after
 
--- One of its steps writes. The output before that was taken, and a proper front of what that step writes.
+-- One of its steps writes. The output before that was taken, and a proper prefix of what that step writes.
 abbrev pub StopsAtWrite : RunWords → Outside → Outside → List ℕ → Type 0
-StopsAtWrite words before after = Stops (λ steps printed state. (steps < words.limit) × GivesOutput Steps (append_known before.output.taken printed) after.output.taken state) words before after
+StopsAtWrite words before after = RunStops
+    (λ steps printed state. (steps < words.limit)
+    × GivesOutput Steps (append_known before.output.taken printed) after.output.taken state)
+    words before after
 
 -- The output of its first steps was taken, which may be all of them.
 abbrev pub StopsAnywhere : RunWords → Outside → Outside → List ℕ → Type 0
-StopsAnywhere words before after = Stops (λ steps printed state. (steps ≤ words.limit) × TakesAll before.output.taken after.output.taken printed × (after.input.left ≡ Some state.input)) words before after
+StopsAnywhere words before after = RunStops
+    (λ steps printed state. (steps ≤ words.limit) × TakesAll before.output.taken after.output.taken printed
+    × (after.input.left ≡ Some state.input))
+    words before after
 
 abbrev pub outside : World → Outside
 outside w = record { input = w.input; output = w.output }
@@ -90,17 +103,19 @@ module _ (words : RunWords) (old new : World) where
     pub unread : new.input ≡ old.input
 
   pub data FailsToRead : Type 0 where
-    at_file : Rose (old.files.read_faults words.file) (new.files.read_faults words.file) → IsSilent old new → new.input ≡ old.input → FailsToRead
+    at_file : ReadRose old new words.file → IsSilent old new → new.input ≡ old.input → FailsToRead
     at_input : Rose old.input.faults new.input.faults → IsUnderWay (StopsAtRead words) → FailsToRead
 
   pub data FailsToWrite : Type 0 where
-    at_refusal : (fault : Fault) → IsPresent words old fault → FailsAtLine (refused_line fault) old new → new.input ≡ old.input → FailsToWrite
+    at_refusal : (fault : Fault) → IsPresent words old fault → FailsAtLine (refused_line fault) old new
+        → new.input ≡ old.input → FailsToWrite
     at_output : Rose old.output.faults new.output.faults → IsUnderWay (StopsAtWrite words) → FailsToWrite
-    at_closing : Rose old.output.faults new.output.faults → (ending : Ending) → IsUnderWay (ComesOut TakesFront ending words) → FailsToWrite
+    at_closing : Rose old.output.faults new.output.faults → (ending : Ending)
+        → IsUnderWay (ComesOut TakesPrefix ending words) → FailsToWrite
 
-  pub data WantsMemory : Type 0 where
-    before_run : IsSilent old new → new.input ≡ old.input → WantsMemory
-    in_run : IsUnderWay (StopsAnywhere words) → WantsMemory
+  pub data RunsOutOfMemory : Type 0 where
+    before_run : IsSilent old new → new.input ≡ old.input → RunsOutOfMemory
+    in_run : IsUnderWay (StopsAnywhere words) → RunsOutOfMemory
 
   abbrev pub RunAnswers : Status → Type 0
   RunAnswers (status.Ended value) = Finishes (Ends value)
@@ -109,12 +124,12 @@ module _ (words : RunWords) (old new : World) where
   RunAnswers (status.Refused fault) = Refuses fault
   RunAnswers status.ReadFault = FailsToRead
   RunAnswers status.WriteFault = FailsToWrite
-  RunAnswers status.NoMemory = WantsMemory
+  RunAnswers status.NoMemory = RunsOutOfMemory
   RunAnswers _ = ⊥
 
   -- No count of faults rose: of the file, of standard input and of standard output.
   pub record NoneRose : Type 0 where
-    pub file : Rose (old.files.read_faults words.file) (new.files.read_faults words.file) → ⊥
+    pub file : ReadRose old new words.file → ⊥
     pub input : Rose old.input.faults new.input.faults → ⊥
     pub out : Rose old.output.faults new.output.faults → ⊥
 
@@ -125,7 +140,8 @@ Says answer ending = (answer ≡ answer_of ending) ⊎ (answer ≡ status.NoMemo
 -- Where the input is told, the answer says how the file's run comes out, unless a fault came first.
 abbrev pub IsExact : Status → RunWords → Option (List ℕ) → List ℕ → Type 0
 IsExact answer words left file = (input : List ℕ) → left ≡ Some input →
-    (ending : Ending) (steps : ℕ) (trace : List Event) (rest : List ℕ) → RunsTo file words.words input words.limit ending steps trace rest →
+    (ending : Ending) (steps : ℕ) (trace : List Event) (rest : List ℕ) →
+    RunsTo file words.words input words.limit ending steps trace rest →
     Says answer ending ⊎ (answer ≡ status.ReadFault) ⊎ (answer ≡ status.WriteFault)
 
 -- The answer is exact, and where no count of faults rose it says how a run came out.

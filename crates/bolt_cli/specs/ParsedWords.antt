@@ -1,7 +1,9 @@
--- What the reader of words has read.
-use Rattle.std.specs.Prelude.{◌≢◌, Bool, true, false, List, [], ◌∷◌, map, string_bytes}
+-- What the readers of words and of files have read.
+use Rattle.std.specs.Prelude.{◌≢◌, ℕ, Bool, true, false, List, [], ◌∷◌, map, string_bytes, if◌then◌else◌}
 use Rattle.std.specs.Option.{option_map}
-use Rattle.rv_machine.specs.Limits.{IsWithinLimits}
+use Rattle.elf_image.specs.code.Cuts.{holds_code}
+use Rattle.elf_image.specs.declared.elf.Section.{Section}
+use Rattle.rv_memory.specs.Limits.{IsWithinLimits}
 use Rattle.bolt_cli.specs.Words.{Argument, Positional, OptionWord, Expected, AnyArgument, OnlyPositional, arguments, positionals, RewriteNames, RunWords, Command, Rewrite, Run}
 use Rattle.bolt_cli.specs.declared.words.Argument.{Argument as ArgumentRead}
 use Rattle.bolt_cli.specs.declared.words.Argument.TheVariants as argument
@@ -47,3 +49,7 @@ NamesDiffer (read.Run w) = Unit {0}
 abbrev pub WordsFit : CommandRead → Type 0
 WordsFit (read.Rewrite w) = Unit {0}
 WordsFit (read.Run w) = IsWithinLimits (run_read w).words
+
+-- how many bytes of code a section has that was read
+abbrev pub section_code : Section → ℕ
+section_code section = if holds_code section then section.size else 0

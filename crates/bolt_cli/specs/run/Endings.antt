@@ -4,11 +4,12 @@ use Rattle.rb_bytes.specs.Fault.{fault_at}
 use Rattle.rb_bytes.specs.declared.fault.Fault.{Fault}
 use Rattle.rb_bytes.specs.declared.fault.FaultKind.TheVariants.{TooLarge}
 use Rattle.rv_code.specs.declared.cause.Cause.{Cause}
-use Rattle.rv_code.specs.Machine.{Event}
-use Rattle.elf_image.specs.Present.{IsFault, IsSound}
-use Rattle.elf_image.specs.Start.{Runs, TrapsAfter, RunsSoFar}
+use Rattle.rv_code.specs.machine.Machine.{Event}
+use Rattle.elf_image.specs.faults.FileFaults.{IsFirstFault, IsSound}
+use Rattle.elf_image.specs.memory.Start.{Runs, TrapsAfter, RunsSoFar}
+use Rattle.bolt_cli.specs.CodeLimit.{HasTooMuchCode}
 use Rattle.bolt_cli.specs.Lines.{ended_line, trapped_line, out_of_steps_line}
-use Rattle.bolt_cli.specs.Refused.{file_limit}
+use Rattle.bolt_cli.specs.rewrite.Refusals.{file_limit}
 use Rattle.bolt_cli.specs.declared.status.Status.{Status}
 use Rattle.bolt_cli.specs.declared.status.Status.TheVariants as status
 
@@ -35,15 +36,19 @@ closing_line RunsOn steps = out_of_steps_line steps
 module _ (file : List ℕ) (words : List (List ℕ)) (input : List ℕ) (limit : ℕ) where
   abbrev pub RunsTo : Ending → ℕ → List Event → List ℕ → Type 0
   RunsTo (Ends value) n trace rest = (n ≤ limit) × ((run : Runs file words input n trace value) × (run.state.input ≡ rest))
-  RunsTo (Traps pc cause) n trace rest = (n < limit) × ((run : TrapsAfter file words input n trace pc cause) × (run.state.input ≡ rest))
+  RunsTo (Traps pc cause) n trace rest =
+      (n < limit) × ((run : TrapsAfter file words input n trace pc cause) × (run.state.input ≡ rest))
   RunsTo RunsOn n trace rest = (n ≡ limit) × ((run : RunsSoFar file words input n trace) × (run.state.input ≡ rest))
 
 -- a file that is run
 pub record IsRunnable (file : List ℕ) : Type 0 where
   pub fits : length file ≤ file_limit
   pub sound : IsSound file
+  pub code_fits : HasTooMuchCode file → ⊥
 
--- Why a file isn't run: its length comes first, and then what is wrong in it.
+-- Why a file isn't run: its length comes first, then what is wrong in it, and then the size of its code.
 pub data CannotRun (file : List ℕ) (fault : Fault) : Type 0 where
   too_long : file_limit < length file → fault ≡ fault_at TooLarge 0 → CannotRun file fault
-  unsound : length file ≤ file_limit → IsFault file fault → CannotRun file fault
+  unsound : length file ≤ file_limit → IsFirstFault file fault → CannotRun file fault
+  much_code : length file ≤ file_limit → IsSound file → HasTooMuchCode file → fault ≡ fault_at TooLarge 2
+      → CannotRun file fault

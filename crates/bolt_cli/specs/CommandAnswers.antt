@@ -1,0 +1,57 @@
+-- What holds at the end of the program, by its answer.
+use Rattle.std.specs.Prelude.{◌≡◌, ℕ, ◌≤◌, List, Option, Some, None, IsTrue}
+use Rattle.rb_bytes.specs.declared.fault.Fault.{Fault}
+use Rattle.rb_io.specs.Views.{FilesGoOn}
+use Rattle.bolt_cli.specs.declared.status.Status.{Status}
+use Rattle.bolt_cli.specs.declared.status.Status.TheVariants as status
+use Rattle.bolt_cli.specs.World.{World}
+use Rattle.bolt_cli.specs.Words.{Command, Rewrite, Run}
+use Rattle.bolt_cli.specs.Lines.{usage_line}
+use Rattle.bolt_cli.specs.Printing.{PrintsOnly, FailsAtLine}
+use Rattle.bolt_cli.specs.rewrite.Refusals.{IsAccepted}
+use Rattle.bolt_cli.specs.run.Endings.{IsRunnable}
+use Rattle.bolt_cli.specs.rewrite.RewriteAnswers.{RewriteAnswers, OfInputs, IsOkOrNoMemory}
+use Rattle.bolt_cli.specs.rewrite.RewriteAnswers as rewrite
+use Rattle.bolt_cli.specs.run.RunAnswers.{RunAnswers, RunCompletes}
+
+-- the answers to words that are no command
+abbrev pub UsageAnswers : Status → World → World → Type 0
+UsageAnswers status.Usage old new = PrintsOnly usage_line old new
+UsageAnswers status.WriteFault old new = FailsAtLine usage_line old new
+UsageAnswers _ old new = ⊥
+
+abbrev pub CommandAnswers : Option Command → Status → World → World → Type 0
+CommandAnswers (Some (Rewrite names)) answer old new = RewriteAnswers answer names old new
+CommandAnswers (Some (Run words)) answer old new = RunAnswers words old new answer
+CommandAnswers None answer old new = UsageAnswers answer old new
+
+-- A rewrite is done, or wants memory, where none of its faults is present and no count rose. A run of a file that can be
+-- run answers how that comes out.
+abbrev pub Completes : Option Command → Status → World → World → Type 0
+Completes (Some (Rewrite names)) answer old new =
+    IsTrue old.files.told → OfInputs old names IsAccepted → rewrite.NoneRose names old new → IsOkOrNoMemory answer
+Completes (Some (Run words)) answer old new =
+    IsTrue old.files.told → (file : List ℕ) → old.files.content words.file ≡ Some file → IsRunnable file →
+    RunCompletes words file answer old new
+Completes None answer old new = Unit {0}
+
+-- the command doesn't touch standard input
+abbrev pub LeavesInput : Option Command → Type 0
+LeavesInput (Some (Run words)) = ⊥
+LeavesInput _ = Unit {0}
+
+-- What a command does, or words that are none: its answer, and the world after it.
+pub record Serves (command : Option Command) (answer : Status) (old new : World) : Type 0 where
+  -- what holds by the answer, and which answers are left where nothing is wrong
+  pub answers : CommandAnswers command answer old new
+  pub completes : Completes command answer old new
+  -- contents stay told, or not told, and no count of faults falls
+  pub files_go_on : FilesGoOn old.files new.files
+  pub input_faults : old.input.faults ≤ new.input.faults
+  pub output_faults : old.output.faults ≤ new.output.faults
+
+-- Standard input itself stays as it was, and not only what is seen of it: after a refusal, and by a command that doesn't
+-- touch it.
+pub record KeepsInput {Input : Type 0} (command : Option Command) (answer : Status) (old new : Input) : Type 0 where
+  pub refused : (fault : Fault) → answer ≡ status.Refused fault → new ≡ old
+  pub untouched : LeavesInput command → new ≡ old

@@ -1,0 +1,9 @@
+pub mod FirstForm
+pub mod FirstMap
+pub mod Inputs
+pub mod ParsedForm
+pub mod Phases
+pub mod Refusals
+pub mod RewriteAnswers
+pub mod RewrittenFile
+pub mod WrittenBytes

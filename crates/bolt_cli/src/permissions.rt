@@ -1,0 +1,19 @@
+// The permissions of written files.
+use crate::words::{Command, parse};
+use std::{fs, io};
+
+/// Gives the output of a rewrite the permissions of its input, where the system allows it: a program is to be run
+/// by those who ran it before. An output that is a device, as `/dev/null`, keeps its own.
+pub fn keep_permissions<R: std::rt::Files>(rt: &R, words: &[String]) {
+    if let Some(Command::Rewrite(names)) = parse(words) {
+        let _ = copy_permissions(rt, names.file, names.out);
+    }
+}
+
+fn copy_permissions<R: std::rt::Files>(rt: &R, from: &str, to: &str) -> io::Result<()> {
+    let input = fs::metadata(rt, from)?;
+    if fs::metadata(rt, to)?.is_file() {
+        fs::set_permissions(rt, to, input.permissions())?;
+    }
+    Ok(())
+}
