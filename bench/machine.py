@@ -1,13 +1,15 @@
 #!/usr/bin/env python3
-"""Steps a second of the byte machine, beside qemu-riscv64 on the same file.
+"""Steps a second and memory of the byte machine, beside qemu-riscv64 on the same file.
 
-    python3 bench/machine.py [RUNS]
+    python3 bench/machine.py [RUNS] [FILE..]
 
-Two executables are made in a temporary folder, each a loop of ten million steps: one of arithmetic alone, and
-one of which one step in four stores or loads eight bytes, all over 256 KiB. Each line has the loop, the tool, the
-median of the user's seconds, and millions of steps a second.
+Three executables are made in a temporary folder: a loop of ten million steps of arithmetic alone, one of which one step
+in four stores or loads eight bytes, all over 256 KiB, and one that stores 64 MiB once, eight bytes at a time. Any other
+static executables for RV64IMC may be named. Each line has the program, the tool, the median of the user's and the
+system's seconds, millions of steps a second, and the greatest peak of memory.
 """
 import os
+import shutil
 import statistics
 import struct
 import subprocess
@@ -15,7 +17,8 @@ import sys
 import tempfile
 
 ROOT = os.path.dirname(os.path.dirname(os.path.abspath(__file__)))
-CODE_ADDRESS, DATA_ADDRESS, DATA_SIZE = 0x100B0, 0x50000, 0x40000
+CODE_ADDRESS, DATA_ADDRESS, DATA_SIZE = 0x100B0, 0x50000, 0x400_0000
+PROGRAM = os.path.join(ROOT, "sudrepka")
 NAMES = b"\0.shstrtab\0"
 
 # li a7, 93; li a0, 7; ecall
@@ -32,6 +35,15 @@ ARITHMETIC = COUNT + [
     0x00775793,  # srli a5, a4, 7
     0xFFF28293,  # addi t0, t0, -1
     0xFE0292E3,  # bne t0, x0, -28
+]
+# 64 MiB from a1 on, eight bytes at a time
+STORES = [
+    0x000505B7,  # lui a1, 80
+    0x04000337,  # lui t1, 16384
+    0x00658333,  # add t1, a1, t1
+    0x0055B023,  # sd t0, 0(a1)
+    0x00858593,  # addi a1, a1, 8
+    0xFE659CE3,  # bne a1, t1, -8
 ]
 # lui a1, data; lui a6, 64 is the size; the offset in s0 goes round
 MEMORY = COUNT + [
@@ -64,30 +76,50 @@ def executable(words):
     return body + struct.pack("<IIQQQQIIQQ", 1, 3, 0, 0, names_at, len(NAMES), 0, 0, 1, 0)
 
 
-def measure(words, runs):
-    """The median of the user's seconds of a command that ends with status 7."""
-    seconds = []
+def measure(command, runs):
+    """The median of the processor's seconds of a command, its greatest peak of memory in MiB, and what it printed."""
+    seconds, peak, printed = [], 0, b""
     for _ in range(runs):
-        process = subprocess.Popen(words, stdout=subprocess.DEVNULL)
-        status, usage = os.wait4(process.pid, 0)[1:]
-        assert os.waitstatus_to_exitcode(status) == 7, words
-        seconds.append(usage.ru_utime)
-    return statistics.median(seconds)
+        with tempfile.TemporaryFile() as out:
+            process = subprocess.Popen(command, stdout=out, stdin=subprocess.DEVNULL)
+            usage = os.wait4(process.pid, 0)[2]
+            out.seek(0)
+            printed = out.read()
+        seconds.append(usage.ru_utime + usage.ru_stime)
+        peak = max(peak, usage.ru_maxrss)
+    return statistics.median(seconds), peak / 1024, printed
+
+
+def steps_in(printed):
+    """The count of the closing line, as in `[ended 7 after 10 steps]`."""
+    last = printed.decode(errors="replace").rstrip().rsplit("[", 1)[-1]
+    assert last.startswith("ended"), last
+    return int(last.split(" after ")[1].split()[0])
+
+
+def compare(name, path, runs):
+    """Runs a file with both tools."""
+    seconds, peak, printed = measure([PROGRAM, "run", "--steps", "100000000000", path], runs)
+    steps = steps_in(printed)
+    rows = [("sudrepka", seconds, peak)]
+    if shutil.which("qemu-riscv64"):
+        rows.append(("qemu", *measure(["qemu-riscv64", path], runs)[:2]))
+    for tool, seconds, peak in rows:
+        print(f"{name:12} {tool:9} {seconds:8.3f} s {steps / seconds / 1e6:9.1f} M/s {peak:8.1f} MiB")
 
 
 def main():
     runs = int(sys.argv[1]) if len(sys.argv) > 1 else 5
-    program = os.path.join(ROOT, "sudrepka")
-    subprocess.run([program], stdout=subprocess.DEVNULL)  # proves and builds it, where it isn't built
+    subprocess.run([PROGRAM], stdout=subprocess.DEVNULL)  # proves and builds it, where it isn't built
     with tempfile.TemporaryDirectory() as folder:
-        for name, words in [("arithmetic", ARITHMETIC), ("memory", MEMORY)]:
+        for name, words in [("arithmetic", ARITHMETIC), ("memory", MEMORY), ("stores", STORES)]:
             path = os.path.join(folder, name)
             with open(path, "wb") as file:
                 file.write(executable(words))
             os.chmod(path, 0o755)
-            for tool, command in [("sudrepka", [program, "run", path]), ("qemu", ["qemu-riscv64", path])]:
-                seconds = measure(command, runs)
-                print(f"{name:10} {tool:9} {seconds:8.3f} s {10.016 / seconds:9.1f} M/s")
+            compare(name, path, runs)
+    for path in sys.argv[2:]:
+        compare(os.path.basename(path), path, runs)
 
 
 main()
