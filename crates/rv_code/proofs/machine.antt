@@ -1,3 +1,4 @@
 pub mod LowBytes
 pub mod RelatedMemory
 pub mod Runs
+pub mod OnlyRuns

@@ -1,6 +1,7 @@
 pub mod Blocks
 pub mod Edges
 pub mod Flow
+pub mod FunctionLists
 pub mod Lists
 pub mod ProgramCode
 pub mod WorstSizes

@@ -5,6 +5,7 @@ pub mod action;
 pub mod cause;
 pub mod cell;
 pub mod field;
+pub mod flow;
 pub mod inst;
 pub mod layout;
 pub mod op;

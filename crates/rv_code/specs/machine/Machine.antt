@@ -96,7 +96,8 @@ pub data Call : Type 0 where
   Unknown : Call
 
 abbrev pub call_of : ℕ → Call
-call_of n = if n == 63 then Read else if n == 64 then Write else if n == 93 || n == 94 then Exit else if n == 214 then Brk else Unknown
+call_of n =
+    if n == 63 then Read else if n == 64 then Write else if n == 93 || n == 94 then Exit else if n == 214 then Brk else Unknown
 
 -- the greatest count of bytes that one call moves
 abbrev pub most_moved : ℕ
@@ -127,7 +128,8 @@ events (Some e) = e ∷ []
 -- The first n steps from s neither end nor halt, make these system calls, and come to a state.
 pub data SoFar {S C : Type 0} (step : S → Outcome S C → Type 0) (s : S) : ℕ → List Event → S → Type 0 where
   starts : SoFar step s 0 [] s
-  more : {n : ℕ} {trace : List Event} {t u : S} (e : Option Event) → SoFar step s n trace t → step t (Going u e) → SoFar step s (suc n) (trace ++ events e) u
+  more : {n : ℕ} {trace : List Event} {t u : S} (e : Option Event) → SoFar step s n trace t → step t (Going u e) →
+      SoFar step s (suc n) (trace ++ events e) u
 
 -- The n-th step from s ends with this status, and the steps before it make these system calls. The step
 -- that ends is counted, and its call, an exit, is none of them.
@@ -139,7 +141,8 @@ pub record Run {S C : Type 0} (step : S → Outcome S C → Type 0) (s : S) (n :
   pub ends : step state (Ended status)
 
 -- After n steps that neither end nor halt, the next one halts, at this pc for this cause.
-pub record HaltsAfter {S C : Type 0} (step : S → Outcome S C → Type 0) (s : S) (n : ℕ) (trace : List Event) (pc : ℕ) (cause : C) : Type 0 where
+pub record HaltsAfter {S C : Type 0} (step : S → Outcome S C → Type 0) (s : S) (n : ℕ) (trace : List Event) (pc : ℕ)
+    (cause : C) : Type 0 where
   pub state : S
   pub so_far : SoFar step s n trace state
   pub halts : step state (Halts pc cause)

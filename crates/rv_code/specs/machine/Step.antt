@@ -83,13 +83,15 @@ reads_input s next at moved false = trap s cause.Store
 -- write: these bytes of a buffer go out, if all of the buffer may be read
 abbrev pub writes_output : ByteState → ℕ → ℕ → List ℕ → Bool → ByteOutcome
 writes_output s next file moved true =
-    returns s next (record { number = 64; used = file ∷ s.registers a1 ∷ s.registers a2 ∷ []; moved = moved; result = length moved })
+    returns s next
+    (record { number = 64; used = file ∷ s.registers a1 ∷ s.registers a2 ∷ []; moved = moved; result = length moved })
 writes_output s next file moved false = trap s cause.Load
 
 -- read and write of a file that isn't open: the buffer isn't looked at
 abbrev pub refuses_file : ByteState → ℕ → ℕ → ByteOutcome
 refuses_file s next number =
-    returns s next (record { number = number; used = s.registers a0 ∷ s.registers a1 ∷ s.registers a2 ∷ []; moved = []; result = bad_file })
+    returns s next
+    (record { number = number; used = s.registers a0 ∷ s.registers a1 ∷ s.registers a2 ∷ []; moved = []; result = bad_file })
 
 -- brk: the result is the break after it
 abbrev pub sets_break : ByteState → ℕ → ByteState → ByteOutcome
@@ -101,12 +103,15 @@ buffer_size s = min (s.registers a2) most_moved
 
 -- read, of standard input or of another file
 abbrev pub read_call : ByteState → ℕ → Bool → ByteOutcome
-read_call s next true = reads_input s next (s.registers a1) (take (buffer_size s) s.input) (all_may (may_write s) (s.registers a1) (buffer_size s))
+read_call s next true =
+    reads_input s next (s.registers a1) (take (buffer_size s) s.input) (all_may (may_write s) (s.registers a1) (buffer_size s))
 read_call s next false = refuses_file s next 63
 
 -- write, to standard output or standard error or to another file
 abbrev pub write_call : ByteState → ℕ → Bool → ByteOutcome
-write_call s next true = writes_output s next (s.registers a0) (memory_bytes s.memory (s.registers a1) (buffer_size s)) (all_may (may_read s) (s.registers a1) (buffer_size s))
+write_call s next true =
+    writes_output s next (s.registers a0) (memory_bytes s.memory (s.registers a1) (buffer_size s))
+    (all_may (may_read s) (s.registers a1) (buffer_size s))
 write_call s next false = refuses_file s next 64
 
 abbrev pub calls : ByteState → ℕ → Call → ByteOutcome
@@ -119,8 +124,10 @@ calls s next Unknown = returns s next (record { number = s.registers a7; used = 
 -- what an instruction does whose next one in memory is at a pc
 abbrev pub effect : Action → ℕ → ByteState → ByteOutcome
 effect (Compute op rd left right) next s = writes_register s next rd (apply op (operand s left) (operand s right))
-effect (Branch test true rs1 rs2 imm) next s = branches s next (plus s.pc (unsigned64 imm)) (holds test (s.registers rs1) (s.registers rs2))
-effect (Branch test false rs1 rs2 imm) next s = branches s next (plus s.pc (unsigned64 imm)) (not (holds test (s.registers rs1) (s.registers rs2)))
+effect (Branch test true rs1 rs2 imm) next s =
+    branches s next (plus s.pc (unsigned64 imm)) (holds test (s.registers rs1) (s.registers rs2))
+effect (Branch test false rs1 rs2 imm) next s =
+    branches s next (plus s.pc (unsigned64 imm)) (not (holds test (s.registers rs1) (s.registers rs2)))
 effect (Jump rd imm) next s = writes_register s (plus s.pc (unsigned64 imm)) rd next
 effect (JumpTo rd rs1 imm) next s = writes_register s (address s rs1 (unsigned64 imm) / 2 * 2) rd next
 effect (Upper rd imm) next s = writes_register s next rd (unsigned64 imm * 4096 % 2 ^ 64)
@@ -128,7 +135,8 @@ effect (UpperPc rd imm) next s = writes_register s next rd (plus s.pc (unsigned6
 effect (Load e rd rs1 imm) next s =
     loads s next rd e (address s rs1 (unsigned64 imm)) (all_may (may_read s) (address s rs1 (unsigned64 imm)) (bytes_of e))
 effect (Store n rs1 rs2 imm) next s =
-    stores s next (address s rs1 (unsigned64 imm)) (low_bytes n (s.registers rs2)) (all_may (may_write s) (address s rs1 (unsigned64 imm)) n)
+    stores s next (address s rs1 (unsigned64 imm)) (low_bytes n (s.registers rs2))
+    (all_may (may_write s) (address s rs1 (unsigned64 imm)) n)
 effect Fence next s = goes_to s next
 effect SystemCall next s = calls s next (call_of (s.registers a7))
 effect Breakpoint next s = trap s cause.Break
@@ -154,5 +162,7 @@ fetched s = fetched_if s (s.pc % 2 == 0 && all_may (may_execute s) s.pc 2)
 -- The step from s comes to o.
 pub data Steps (s : ByteState) (o : ByteOutcome) : Type 0 where
   no_fetch : fetched s ≡ None → o ≡ trap s cause.Fetch → Steps s o
-  illegal : (h : ℕ) (k : Option ℕ) → fetched s ≡ Some (h, k) → ((i : Inst) (w : ℕ) → Decodes h k i w → ⊥) → o ≡ trap s cause.Illegal → Steps s o
-  does : (h : ℕ) (k : Option ℕ) (i : Inst) (w : ℕ) → fetched s ≡ Some (h, k) → Decodes h k i w → o ≡ effect (action_of i) (plus s.pc w) s → Steps s o
+  illegal : (h : ℕ) (k : Option ℕ) → fetched s ≡ Some (h, k) → ((i : Inst) (w : ℕ) → Decodes h k i w → ⊥) →
+      o ≡ trap s cause.Illegal → Steps s o
+  does : (h : ℕ) (k : Option ℕ) (i : Inst) (w : ℕ) → fetched s ≡ Some (h, k) → Decodes h k i w →
+      o ≡ effect (action_of i) (plus s.pc w) s → Steps s o
