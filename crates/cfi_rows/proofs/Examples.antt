@@ -33,7 +33,8 @@ first_row : row_in (frames false 0x11100 (table 1)).list 0x11000 ≡ Some (recor
 unfolding walk instructions_in table int_wrap
 first_row = refl
 
-saved_row : row_in (frames false 0x11100 (table 1)).list 0x11010 ≡ Some (record { cfa = Reg 2 (pos 16); rules = (1, Offset (negsuc 7)) ∷ [] })
+saved_row : row_in (frames false 0x11100 (table 1)).list 0x11010
+    ≡ Some (record { cfa = Reg 2 (pos 16); rules = (1, Offset (negsuc 7)) ∷ [] })
 unfolding walk instructions_in table int_wrap
 saved_row = refl
 

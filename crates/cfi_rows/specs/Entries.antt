@@ -111,7 +111,8 @@ with_signal a =
 abbrev pub encoding_of : ℕ → Option Encoding
 encoding_of b =
     if b == DW_EH_PE_absptr then Some Absptr else
-    (if b == DW_EH_PE_udata4 then Some Udata4 else (if b == DW_EH_PE_sdata4 then Some Sdata4 else (if b == DW_EH_PE_pcrel_sdata4 then Some PcrelSdata4 else None)))
+    (if b == DW_EH_PE_udata4 then Some Udata4
+    else (if b == DW_EH_PE_sdata4 then Some Sdata4 else (if b == DW_EH_PE_pcrel_sdata4 then Some PcrelSdata4 else None)))
 
 -- an omitted one is none
 abbrev pub table_encoding_of : ℕ → Option (Option Encoding)
@@ -152,7 +153,9 @@ letter_at end letter a left =
     (λ b rest. and_so (sound_if (encoding_of b)) (λ e. Ok (with_encoding a e, rest)))
     else (if letter == letter_P then and_then (whole (number_at 1 left)) (handler_at a end)
     else
-    (if letter == letter_L then and_then (whole (number_at 1 left)) (λ b rest. and_so (sound_if (table_encoding_of b)) (λ e. Ok (with_table a e, rest)))
+    (if letter == letter_L
+    then and_then (whole (number_at 1 left))
+    (λ b rest. and_so (sound_if (table_encoding_of b)) (λ e. Ok (with_table a e, rest)))
     else (if letter == letter_S then Ok (with_signal a, left)
     else Err Entry)))
 
@@ -334,7 +337,8 @@ frames_from debug address all broken [] = record { cies = 0; list = []; bad = br
 frames_from debug address all broken (e ∷ es) =
     cond (is_cie debug e)
     (one_cie e (cie_at (end_of address e) e.body) (frames_from debug address all broken es))
-    (one_fde e (and_so (cie_in debug address all (cie_place debug e)) (λ cie. fde_at cie (end_of address e) e)) (frames_from debug address all broken es))
+    (one_fde e (and_so (cie_in debug address all (cie_place debug e)) (λ cie. fde_at cie (end_of address e) e))
+    (frames_from debug address all broken es))
 
 -- the frame table of the contents of a section at an address
 abbrev pub frames : (debug : Bool) → ℕ → List ℕ → Frames

@@ -107,14 +107,16 @@ instruction_of c op left =
     else (if op == DW_CFA_remember_state then Ok (RememberState, left)
     else (if op == DW_CFA_restore_state then Ok (RestoreState, left)
     else
-    (if op == DW_CFA_def_cfa then uleb_then left (λ r rest. uleb_then rest (λ n more. Ok (DefCfa (Reg r (cast_signed w64 n)), more)))
+    (if op == DW_CFA_def_cfa
+    then uleb_then left (λ r rest. uleb_then rest (λ n more. Ok (DefCfa (Reg r (cast_signed w64 n)), more)))
     else (if op == DW_CFA_def_cfa_register then uleb_then left (λ r rest. Ok (DefCfaRegister r, rest))
     else (if op == DW_CFA_def_cfa_offset then uleb_then left (λ n rest. Ok (DefCfaOffset (cast_signed w64 n), rest))
     else (if op == DW_CFA_def_cfa_expression then and_then (block_at left) (λ b rest. Ok (DefCfa (Expr b), rest))
     else (if op == DW_CFA_expression then uleb_then left (rule_by_block rule.Expr)
     else (if op == DW_CFA_offset_extended_sf then uleb_then left (rule_by_signed c rule.Offset)
     else
-    (if op == DW_CFA_def_cfa_sf then uleb_then left (λ r rest. sleb_then rest (λ n more. Ok (DefCfa (Reg r (signed_offset c n)), more)))
+    (if op == DW_CFA_def_cfa_sf
+    then uleb_then left (λ r rest. sleb_then rest (λ n more. Ok (DefCfa (Reg r (signed_offset c n)), more)))
     else (if op == DW_CFA_def_cfa_offset_sf then sleb_then left (λ n rest. Ok (DefCfaOffset (signed_offset c n), rest))
     else (if op == DW_CFA_val_offset then uleb_then left (rule_by_unsigned c rule.ValOffset)
     else (if op == DW_CFA_val_offset_sf then uleb_then left (rule_by_signed c rule.ValOffset)

@@ -98,7 +98,8 @@ new_list m is_first e a =
     if a.name == DW_AT_stmt_list then Some (unwrap_or (list_at m.lists a.value DW_AT_stmt_list) no_line_unit)
     else (if a.name == DW_AT_ranges || is_located a.name then list_at m.lists e.place a.name
     else
-    (if (a.name == DW_AT_rnglists_base || a.name == DW_AT_loclists_base) && is_first then list_at m.lists e.place a.name else None))
+    (if (a.name == DW_AT_rnglists_base || a.name == DW_AT_loclists_base) && is_first then list_at m.lists e.place a.name
+    else None))
 
 abbrev pub new_value : Moves → (is_own is_first : Bool) → Entry → Attr → Option ℕ
 new_value m is_own is_first e a =
@@ -107,9 +108,17 @@ new_value m is_own is_first e a =
 
 abbrev pub ranges_attrs : Moves → Entry → Attr → List Attr
 ranges_attrs m e a =
-    record { name = DW_AT_ranges; form = DW_FORM_sec_offset; place = a.place; len = 4; value = unwrap_or (list_at m.lists e.place DW_AT_ranges) 0 }
+    record {
+      name = DW_AT_ranges;
+      form = DW_FORM_sec_offset;
+      place = a.place;
+      len = 4;
+      value = unwrap_or
+          (list_at m.lists e.place DW_AT_ranges) 0;
+    }
     ∷
-    (if a.len == 8 then record { name = DW_AT_unused_high; form = DW_FORM_data4; place = a.place + 4; len = 4; value = 0 } ∷ [] else [])
+    (if a.len == 8 then record { name = DW_AT_unused_high; form = DW_FORM_data4; place = a.place + 4; len = 4; value = 0 } ∷ []
+    else [])
 
 -- an attribute as it stands in the written file
 abbrev pub changed_attr : Moves → (is_own is_first : Bool) → Entry → Attr → List Attr
@@ -179,7 +188,8 @@ unfoldable pub address_patches : Moves → ℕ → ℕ → List ℕ → List Pat
 address_patches m zero place left = []
 address_patches m (suc n) place left =
     let a = little_number 8 left in
-    record { place = place; bytes = little_bytes 8 (unwrap_or (moved_address m a) a) } ∷ address_patches m n (place + 8) (drop 8 left)
+    record { place = place; bytes = little_bytes 8 (unwrap_or (moved_address m a) a) } ∷ address_patches m n (place + 8)
+    (drop 8 left)
 
 -- behind the header of a table: its length, and the four bytes of version and sizes
 abbrev pub table_patches : Moves → Walked → List Patch

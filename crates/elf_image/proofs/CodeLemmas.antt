@@ -14,7 +14,8 @@ use Rattle.elf_image.proofs.LowestPlaces.{IsLowest-same, IsLowest-none}
 use Rattle.elf_image.proofs.SectionLemmas.{section-at}
 
 -- the second is the next one after the first
-pub IsSecondCode-next : (file : List ℕ) (first i : ℕ) → IsCode file first → ((k : ℕ) → IsCode file k → 0 ≤ k → first ≤ k) → IsCode file i → first + 1 ≤ i → ((k : ℕ) → IsCode file k → first + 1 ≤ k → i ≤ k) → IsSecondCode file i
+pub IsSecondCode-next : (file : List ℕ) (first i : ℕ) → IsCode file first → ((k : ℕ) → IsCode file k → 0 ≤ k → first ≤ k) →
+    IsCode file i → first + 1 ≤ i → ((k : ℕ) → IsCode file k → first + 1 ≤ k → i ≤ k) → IsSecondCode file i
 IsSecondCode-next file first i code lowest code_i past next = (
   code_i,
   (
@@ -27,7 +28,8 @@ IsSecondCode-next file first i code lowest code_i past next = (
   ),
 )
 
-pub no_second : (file : List ℕ) (first : ℕ) → ((k : ℕ) → IsCode file k → 0 ≤ k → first ≤ k) → ((k : ℕ) → IsCode file k → first + 1 ≤ k → ⊥) → (i : ℕ) → IsSecondCode file i → ⊥
+pub no_second : (file : List ℕ) (first : ℕ) → ((k : ℕ) → IsCode file k → 0 ≤ k → first ≤ k) →
+    ((k : ℕ) → IsCode file k → first + 1 ≤ k → ⊥) → (i : ℕ) → IsSecondCode file i → ⊥
 no_second file first lowest none i (code, (j, code_j, before, only)) =
     let from = lowest j code_j (omega arith) in none i code (omega arith)
 
@@ -42,10 +44,15 @@ second_only : (file : List ℕ) (i k : ℕ) → IsSecondCode file i → IsSecond
 second_only file i k one other =
     elim (cases_order i k) [
       | inl same ↦ same
-      | inr apart ↦ elim apart [ inl less ↦ absurd (earlier_second file i k one other less) | inr more ↦ absurd (earlier_second file k i other one more) ]
+      | inr apart ↦ elim apart [
+        | inl less ↦ absurd (earlier_second file i k one other less)
+        | inr more ↦ absurd
+            (earlier_second file k i other one more)
+      ]
     ]
 
-pub IsLowest-second : (file : List ℕ) (second : ℕ) (o : Option ℕ) → IsSecondCode file second → IsLowest (λ p. IsTooMany file second × (p ≡ segment_place file second)) o → IsLowest (SomeBelow (e_phnum file) (IsOneTooMany file)) o
+pub IsLowest-second : (file : List ℕ) (second : ℕ) (o : Option ℕ) → IsSecondCode file second →
+    IsLowest (λ p. IsTooMany file second × (p ≡ segment_place file second)) o → IsLowest (SomeBelow (e_phnum file) (IsOneTooMany file)) o
 IsLowest-second file second o is lowest =
     IsLowest-same o
     (λ p (many, at). (second, (is.0).0, ((is, many), at)))
@@ -77,32 +84,40 @@ HasOldSection-same file sections are = (
       ]),
 )
 
-pub IfSome-second : (file : List ℕ) (first : ℕ) (o : Option ℕ) → IsCode file first → ((k : ℕ) → IsCode file k → 0 ≤ k → first ≤ k) → IfSome o (IsCode file) → IfSome o (λ i. first + 1 ≤ i) → IfSome o (λ i. (k : ℕ) → IsCode file k → first + 1 ≤ k → i ≤ k) → IfSome o (IsSecondCode file)
+pub IfSome-second : (file : List ℕ) (first : ℕ) (o : Option ℕ) → IsCode file first → ((k : ℕ) → IsCode file k → 0 ≤ k → first ≤ k) →
+    IfSome o (IsCode file) → IfSome o (λ i. first + 1 ≤ i) → IfSome o (λ i. (k : ℕ) → IsCode file k → first + 1 ≤ k → i ≤ k) →
+    IfSome o (IsSecondCode file)
 IfSome-second file first None code lowest code_i past next = code_i
 IfSome-second file first (Some i) code lowest code_i past next = IsSecondCode-next file first i code lowest code_i past next
 
 -- whether a segment is executable, from an index on
-pub has_code-same : (file : List ℕ) (from : ℕ) (o : Option ℕ) → IfSome o (IsCode file) → IfSome o (λ i. from ≤ i) → IfNone o ((k : ℕ) → IsCode file k → from ≤ k → ⊥) → IsTrue (is_some o) ↔ ((k : ℕ) × IsCode file k × (from ≤ k))
-has_code-same file from None code past none = ((λ is. absurd (let never : false ≡ true = is in cc)), (λ (k, code_k, above). absurd (none k code_k above)))
+pub has_code-same : (file : List ℕ) (from : ℕ) (o : Option ℕ) → IfSome o (IsCode file) → IfSome o (λ i. from ≤ i) →
+    IfNone o ((k : ℕ) → IsCode file k → from ≤ k → ⊥) → IsTrue (is_some o) ↔ ((k : ℕ) × IsCode file k × (from ≤ k))
+has_code-same file from None code past none =
+    ((λ is. absurd (let never : false ≡ true = is in cc)), (λ (k, code_k, above). absurd (none k code_k above)))
 has_code-same file from (Some i) code past none = ((λ _. (i, code, past)), (λ _. refl))
 
 -- one too many, by two tests
-pub IsTooMany-old : (file : List ℕ) (second : ℕ) (old : Bool) → (((k : ℕ) × IsCode file k × (second + 1 ≤ k)) → ⊥) → IsTrue old ↔ HasOldSection file → IsTrue (not old) ↔ IsTooMany file second
+pub IsTooMany-old : (file : List ℕ) (second : ℕ) (old : Bool) → (((k : ℕ) × IsCode file k × (second + 1 ≤ k)) → ⊥) →
+    IsTrue old ↔ HasOldSection file → IsTrue (not old) ↔ IsTooMany file second
 IsTooMany-old file second true none test = (
   (λ is. absurd (let never : false ≡ true = is in cc)),
   ⊎_elim (λ (k, code, above). absurd (none (k, code, omega arith))) (λ not_old. absurd (not_old (test.0 refl))),
 )
 IsTooMany-old file second false none test = ((λ _. inr (λ is. let never : false ≡ true = test.1 is in cc)), (λ _. refl))
 
-pub IsTooMany-more : (file : List ℕ) (second : ℕ) (more : Bool) → IsTrue more → ((k : ℕ) × IsCode file k × (second + 1 ≤ k)) → IsTrue more ↔ IsTooMany file second
+pub IsTooMany-more : (file : List ℕ) (second : ℕ) (more : Bool) → IsTrue more → ((k : ℕ) × IsCode file k × (second + 1 ≤ k)) →
+    IsTrue more ↔ IsTooMany file second
 IsTooMany-more file second more is (k, code, above) = ((λ _. inl (k, code, omega arith)), (λ _. is))
 
 -- The lowest executable segment of the first ones.
 
-pub IsLowestCodeBelow-begin : (file : List ℕ) (first : ℕ) → IsCode file first → ((k : ℕ) → IsCode file k → first ≤ k) → IsLowestCodeBelow file first first
+pub IsLowestCodeBelow-begin : (file : List ℕ) (first : ℕ) → IsCode file first → ((k : ℕ) → IsCode file k → first ≤ k) →
+    IsLowestCodeBelow file first first
 IsLowestCodeBelow-begin file first code lowest = (code, λ j code_j below. absurd (let from = lowest j code_j in omega arith))
 
-pub IsLowestCodeBelow-lower : (file : List ℕ) (k i : ℕ) → IsCode file k → (segment file k).vaddr < (segment file i).vaddr → IsLowestCodeBelow file k i → IsLowestCodeBelow file (k + 1) k
+pub IsLowestCodeBelow-lower : (file : List ℕ) (k i : ℕ) → IsCode file k → (segment file k).vaddr < (segment file i).vaddr →
+    IsLowestCodeBelow file k i → IsLowestCodeBelow file (k + 1) k
 IsLowestCodeBelow-lower file k i code lower is = (
   code,
   λ j code_j below. elim (cases_lt j k) [
@@ -111,7 +126,8 @@ IsLowestCodeBelow-lower file k i code lower is = (
   ],
 )
 
-pub IsLowestCodeBelow-same : (file : List ℕ) (k i : ℕ) → (IsCode file k × ((segment file k).vaddr < (segment file i).vaddr) → ⊥) → i ≤ k → IsLowestCodeBelow file k i → IsLowestCodeBelow file (k + 1) i
+pub IsLowestCodeBelow-same : (file : List ℕ) (k i : ℕ) → (IsCode file k × ((segment file k).vaddr < (segment file i).vaddr) → ⊥) →
+    i ≤ k → IsLowestCodeBelow file k i → IsLowestCodeBelow file (k + 1) i
 IsLowestCodeBelow-same file k i higher order is = (
   is.0,
   λ j code_j below. elim (cases_lt j k) [

@@ -18,13 +18,16 @@ Any-cons_cases : {X : Type 0} (P : X → Type 0) (x : X) (xs : List X) → Any P
 Any-cons_cases P x xs (zero, y, within, is, holds) = inl (subst P (sym is) holds)
 Any-cons_cases P x xs (suc k, y, within, is, holds) = inr (k, y, omega arith, is, holds)
 
-Contains-flat_map : {X A : Type 0} (f : X → List A) (P : A → X → Type 0) → ((x : X) (a : A) → Contains (f x) a → P a x) → (xs : List X) (a : A) → Contains (flat_map f xs) a → Any (P a) xs
+Contains-flat_map : {X A : Type 0} (f : X → List A) (P : A → X → Type 0) → ((x : X) (a : A) → Contains (f x) a → P a x) →
+    (xs : List X) (a : A) → Contains (flat_map f xs) a → Any (P a) xs
 Contains-flat_map f P says [] a (k, within, is) = absurd (omega arith)
 Contains-flat_map f P says (x ∷ xs) a is_in =
     Any-cons (P a) x xs
-    (⊎_elim (λ here. inl (says x a here)) (λ later. inr (Contains-flat_map f P says xs a later)) (Contains-append_cases (f x) (flat_map f xs) a is_in))
+    (⊎_elim (λ here. inl (says x a here)) (λ later. inr (Contains-flat_map f P says xs a later))
+    (Contains-append_cases (f x) (flat_map f xs) a is_in))
 
-Contains-flat_map_from : {X A : Type 0} (f : X → List A) (P : A → X → Type 0) → ((x : X) (a : A) → P a x → Contains (f x) a) → (xs : List X) (a : A) → Any (P a) xs → Contains (flat_map f xs) a
+Contains-flat_map_from : {X A : Type 0} (f : X → List A) (P : A → X → Type 0) → ((x : X) (a : A) → P a x → Contains (f x) a) →
+    (xs : List X) (a : A) → Any (P a) xs → Contains (flat_map f xs) a
 Contains-flat_map_from f P says [] a (k, x, within, is, holds) = absurd (omega arith)
 Contains-flat_map_from f P says (x ∷ xs) a is_in =
     ⊎_elim
@@ -35,20 +38,25 @@ Contains-flat_map_from f P says (x ∷ xs) a is_in =
 -- the bounds of a range
 IsBound-from_bounds : (start size a : ℕ) → Contains (bounds start size) a → IsBound start size a
 IsBound-from_bounds start size a =
-    elim (nat_lt (start + size) (2 ^ 64)) as (λ b. nat_lt (start + size) (2 ^ 64) ≡ b → Contains (if b then start ∷ (start + size) ∷ [] else start ∷ []) a → IsBound start size a) [
+    elim (nat_lt (start + size) (2 ^ 64)) as
+    (λ b. nat_lt (start + size) (2 ^ 64) ≡ b → Contains (if b then start ∷ (start + size) ∷ [] else start ∷ []) a →
+    IsBound start size a) [
       | true ↦ λ below is_in. ⊎_elim (λ same. inl (sym same))
           (λ later. ⊎_elim
           (λ same. inr (sym same, let fits = ltb-true (start + size) (2 ^ 64) below in omega arith))
           (λ none. absurd (let within = none.1 in omega arith))
           (Contains-cons_cases (start + size) [] a later))
           (Contains-cons_cases start ((start + size) ∷ []) a is_in)
-      | false ↦ λ above is_in. ⊎_elim (λ same. inl (sym same)) (λ none. absurd (let within = none.1 in omega arith)) (Contains-cons_cases start [] a is_in)
+      | false ↦ λ above is_in. ⊎_elim (λ same. inl (sym same)) (λ none. absurd (let within = none.1 in omega arith))
+          (Contains-cons_cases start [] a is_in)
     ]
     refl
 
 bounds-from_IsBound : (start size a : ℕ) → IsBound start size a → Contains (bounds start size) a
 bounds-from_IsBound start size a =
-    elim (nat_lt (start + size) (2 ^ 64)) as (λ b. nat_lt (start + size) (2 ^ 64) ≡ b → IsBound start size a → Contains (if b then start ∷ (start + size) ∷ [] else start ∷ []) a) [
+    elim (nat_lt (start + size) (2 ^ 64)) as
+    (λ b. nat_lt (start + size) (2 ^ 64) ≡ b → IsBound start size a →
+    Contains (if b then start ∷ (start + size) ∷ [] else start ∷ []) a) [
       | true ↦ λ below. ⊎_elim (λ same. (0, omega arith, sym same)) (λ end. (1, omega arith, sym end.0))
       | false ↦ λ above. ⊎_elim (λ same. (0, omega arith, sym same))
           (λ end. absurd (let far = ltb-false (start + size) (2 ^ 64) above in let same = end.0 in let fits = end.1 in omega arith))
@@ -56,27 +64,37 @@ bounds-from_IsBound start size a =
     refl
 
 -- the bounds of what a test chooses
-chosen-bounds : (chosen : Bool) (start size a : ℕ) → Contains (if chosen then bounds start size else []) a → IsTrue chosen × IsBound start size a
+chosen-bounds : (chosen : Bool) (start size a : ℕ) → Contains (if chosen then bounds start size else []) a → IsTrue chosen
+    × IsBound start size a
 chosen-bounds true start size a is_in = (refl, IsBound-from_bounds start size a is_in)
 chosen-bounds false start size a (k, within, is) = absurd (omega arith)
 
-chosen-bounds_from : (chosen : Bool) (start size a : ℕ) → IsTrue chosen × IsBound start size a → Contains (if chosen then bounds start size else []) a
+chosen-bounds_from : (chosen : Bool) (start size a : ℕ) → IsTrue chosen × IsBound start size a →
+    Contains (if chosen then bounds start size else []) a
 chosen-bounds_from true start size a is = bounds-from_IsBound start size a is.1
 chosen-bounds_from false start size a is = absurd (let no : false ≡ true = is.0 in cc)
 
 -- all bounds are all cuts
-pub IsCutAddress-from_lists : (symbols : List Symbol) (sections : List Section) (a : ℕ) → Contains (symbol_bounds symbols ++ section_bounds sections) a → IsCutAddress symbols sections a
+pub IsCutAddress-from_lists : (symbols : List Symbol) (sections : List Section) (a : ℕ) →
+    Contains (symbol_bounds symbols ++ section_bounds sections) a → IsCutAddress symbols sections a
 IsCutAddress-from_lists symbols sections a is_in =
     ⊎_elim
-    (λ of_symbol. inl (Contains-flat_map bounds_of_symbol (λ x symbol. IsTrue (names_function symbol) × IsBound symbol.value symbol.size x) (λ symbol x. chosen-bounds (names_function symbol) symbol.value symbol.size x) symbols a of_symbol))
-    (λ of_section. inr (Contains-flat_map bounds_of_section (λ x section. IsTrue (holds_code section) × IsBound section.addr section.size x) (λ section x. chosen-bounds (holds_code section) section.addr section.size x) sections a of_section))
+    (λ of_symbol. inl
+    (Contains-flat_map bounds_of_symbol (λ x symbol. IsTrue (names_function symbol) × IsBound symbol.value symbol.size x)
+    (λ symbol x. chosen-bounds (names_function symbol) symbol.value symbol.size x) symbols a of_symbol))
+    (λ of_section. inr
+    (Contains-flat_map bounds_of_section (λ x section. IsTrue (holds_code section) × IsBound section.addr section.size x)
+    (λ section x. chosen-bounds (holds_code section) section.addr section.size x) sections a of_section))
     (Contains-append_cases (symbol_bounds symbols) (section_bounds sections) a is_in)
 
-pub lists-from_IsCutAddress : (symbols : List Symbol) (sections : List Section) (a : ℕ) → IsCutAddress symbols sections a → Contains (symbol_bounds symbols ++ section_bounds sections) a
+pub lists-from_IsCutAddress : (symbols : List Symbol) (sections : List Section) (a : ℕ) → IsCutAddress symbols sections a →
+    Contains (symbol_bounds symbols ++ section_bounds sections) a
 lists-from_IsCutAddress symbols sections a is =
     ⊎_elim
     (λ of_symbol. Contains-append_left (symbol_bounds symbols) (section_bounds sections) a
-    (Contains-flat_map_from bounds_of_symbol (λ x symbol. IsTrue (names_function symbol) × IsBound symbol.value symbol.size x) (λ symbol x. chosen-bounds_from (names_function symbol) symbol.value symbol.size x) symbols a of_symbol))
+    (Contains-flat_map_from bounds_of_symbol (λ x symbol. IsTrue (names_function symbol) × IsBound symbol.value symbol.size x)
+    (λ symbol x. chosen-bounds_from (names_function symbol) symbol.value symbol.size x) symbols a of_symbol))
     (λ of_section. Contains-append_right (symbol_bounds symbols) (section_bounds sections) a
-    (Contains-flat_map_from bounds_of_section (λ x section. IsTrue (holds_code section) × IsBound section.addr section.size x) (λ section x. chosen-bounds_from (holds_code section) section.addr section.size x) sections a of_section))
+    (Contains-flat_map_from bounds_of_section (λ x section. IsTrue (holds_code section) × IsBound section.addr section.size x)
+    (λ section x. chosen-bounds_from (holds_code section) section.addr section.size x) sections a of_section))
     is

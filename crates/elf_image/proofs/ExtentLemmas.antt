@@ -22,7 +22,8 @@ MeetingPlace extents k place = MeetsAnother extents k × (place ≡ (get_or exte
 
 -- The ranges meet where neighbours do, or where one begins before the greatest end so far.
 
-pub MeetsAnother-from_next : (extents : List Extent) (k : ℕ) → IsNonDecreasingBy (λ s. s.start) extents → All (λ s. s.start < s.end) extents → MeetsNext extents k → MeetsAnother extents k
+pub MeetsAnother-from_next : (extents : List Extent) (k : ℕ) → IsNonDecreasingBy (λ s. s.start) extents →
+    All (λ s. s.start < s.end) extents → MeetsNext extents k → MeetsAnother extents k
 MeetsAnother-from_next extents k rising not_empty next = (
   k + 1,
   next.0,
@@ -33,7 +34,8 @@ MeetsAnother-from_next extents k rising not_empty next = (
       (omega arith, next.1 d),
 )
 
-pub MeetsNext-from_another : (extents : List Extent) (k reach : ℕ) (e : Extent) → IsNonDecreasingBy (λ s. s.start) extents → IsReach extents k reach → reach ≤ (get_or extents k e).start → MeetsAnother extents k → MeetsNext extents k
+pub MeetsNext-from_another : (extents : List Extent) (k reach : ℕ) (e : Extent) → IsNonDecreasingBy (λ s. s.start) extents →
+    IsReach extents k reach → reach ≤ (get_or extents k e).start → MeetsAnother extents k → MeetsNext extents k
 MeetsNext-from_another extents k reach e rising reached past (m, within, differ, meet) =
     elim (cases_order m k) [
       | inl same ↦ absurd (differ same)
@@ -46,7 +48,8 @@ MeetsNext-from_another extents k reach e rising reached past (m, within, differ,
 pub IsReach-begin : (extents : List Extent) → IsReach extents 0 0
 IsReach-begin extents = record { above = λ m d below. absurd (omega arith); reached = inl refl }
 
-pub IsReach-more : (extents : List Extent) (k reach new : ℕ) (e : Extent) → k < length extents → new ≡ max reach (get_or extents k e).end → IsReach extents k reach → IsReach extents (k + 1) new
+pub IsReach-more : (extents : List Extent) (k reach new : ℕ) (e : Extent) → k < length extents →
+    new ≡ max reach (get_or extents k e).end → IsReach extents k reach → IsReach extents (k + 1) new
 IsReach-more extents k reach new e within is reached = record {
   above = λ m d below. elim (cases_lt m k) [
     | inl earlier ↦ let before = reached.above m d earlier in omega arith
@@ -63,7 +66,8 @@ IsReach-more extents k reach new e within is reached = record {
 
 -- Meeting by index is sharing a number, of places that differ.
 
-meeting_shares : (extents : List Extent) → HavePlaces extents → All (λ s. s.start < s.end) extents → (place : ℕ) → SomeBelow (length extents) (MeetingPlace extents) place → SharesAnother extents place
+meeting_shares : (extents : List Extent) → HavePlaces extents → All (λ s. s.start < s.end) extents → (place : ℕ) →
+    SomeBelow (length extents) (MeetingPlace extents) place → SharesAnother extents place
 meeting_shares extents places not_empty place (k, within, ((m, there, differ, meet), at)) =
     let s = get_or extents k no_extent in
     let t = get_or extents m no_extent in
@@ -72,7 +76,11 @@ meeting_shares extents places not_empty place (k, within, ((m, there, differ, me
     let some_t = not_empty m no_extent there in
     let other : t.place ≢ s.place = elim (cases_order m k) [
       | inl same ↦ absurd (differ same)
-      | inr apart ↦ elim apart [ inl earlier ↦ places m k no_extent earlier within | inr later ↦ λ same. places k m no_extent later there (sym same) ]
+      | inr apart ↦ elim apart [
+        | inl earlier ↦ places m k no_extent earlier within
+        | inr later ↦ λ same. places k m no_extent later there
+            (sym same)
+      ]
     ] in (
       s,
       t,
@@ -92,7 +100,8 @@ shares_meet : (extents : List Extent) → (place : ℕ) → SharesAnother extent
 shares_meet extents place (s, t, (k, within, is), (m, there, is_t), (at, other, (x, in_s, in_t))) =
     let same_s : (d : Extent) → get_or extents k d ≡ s = λ d. get_or_default extents k d s within ∙ is in
     let same_t : (d : Extent) → get_or extents m d ≡ t = λ d. get_or_default extents m d t there ∙ is_t in
-    let differ : m ≢ k = λ same. other (ap (λ (r : Extent). r.place) (sym (same_t s) ∙ (ap (λ (j : ℕ). get_or extents j s) same ∙ same_s s)) ∙ at) in (
+    let differ : m ≢ k =
+    λ same. other (ap (λ (r : Extent). r.place) (sym (same_t s) ∙ (ap (λ (j : ℕ). get_or extents j s) same ∙ same_s s)) ∙ at) in (
       k,
       within,
       (
@@ -112,7 +121,8 @@ shares_meet extents place (s, t, (k, within, is), (m, there, is_t), (at, other, 
       ),
     )
 
-pub IsLowest-shared : (extents : List Extent) (o : Option ℕ) (n : ℕ) → HavePlaces extents → All (λ s. s.start < s.end) extents → n ≡ length extents → IsLowest (SomeBelow n (MeetingPlace extents)) o → IsLowest (SharesAnother extents) o
+pub IsLowest-shared : (extents : List Extent) (o : Option ℕ) (n : ℕ) → HavePlaces extents → All (λ s. s.start < s.end) extents →
+    n ≡ length extents → IsLowest (SomeBelow n (MeetingPlace extents)) o → IsLowest (SharesAnother extents) o
 IsLowest-shared extents o n places not_empty all is =
     let Below : ℕ → Type 0 = λ k. IsLowest (SomeBelow k (MeetingPlace extents)) o in
     IsLowest-same o (meeting_shares extents places not_empty) (shares_meet extents) (subst Below all is)
@@ -120,16 +130,23 @@ IsLowest-shared extents o n places not_empty all is =
 -- The order of the ranges doesn't matter.
 
 eqb_comm : (a b : ℕ) → nat_eq a b ≡ nat_eq b a
-eqb_comm a b = elim (cases_eq a b) [ inl same ↦ eq-eqb a b same ∙ sym (eq-eqb b a (sym same)) | inr differ ↦ ne_eqb a b differ ∙ sym (ne_eqb b a (λ same. differ (sym same))) ]
+eqb_comm a b =
+    elim (cases_eq a b) [
+      | inl same ↦ eq-eqb a b same ∙ sym (eq-eqb b a (sym same))
+      | inr differ ↦ ne_eqb a b differ
+          ∙ sym (ne_eqb b a (λ same. differ (sym same)))
+    ]
 
 pub HavePlaces-permutation : (xs ys : List Extent) → IsPermutation xs ys → HavePlaces xs → HavePlaces ys
 HavePlaces-permutation xs ys order places =
     let same : Extent → Extent → Bool = λ s t. nat_eq s.place t.place in
     let flips : (s t : Extent) → same s t ≡ same t s = λ s t. eqb_comm s.place t.place in
     let apart : IsDistinct same xs = IsDistinct-from_apart same xs (λ i j d before within. ne_eqb _ _ (places i j d before within)) in
-    λ i j d before within. eqb-false _ _ (apart_from_distinct same ys i j d (IsDistinct-IsPermutation same flips xs ys order apart) before within)
+    λ i j d before within. eqb-false _ _
+    (apart_from_distinct same ys i j d (IsDistinct-IsPermutation same flips xs ys order apart) before within)
 
-pub IsLowest-permutation : (xs ys : List Extent) (o : Option ℕ) → IsPermutation xs ys → IsLowest (SharesAnother ys) o → IsLowest (SharesAnother xs) o
+pub IsLowest-permutation : (xs ys : List Extent) (o : Option ℕ) → IsPermutation xs ys → IsLowest (SharesAnother ys) o →
+    IsLowest (SharesAnother xs) o
 IsLowest-permutation xs ys o order is =
     let back = IsPermutation-sym xs ys order in
     IsLowest-same o

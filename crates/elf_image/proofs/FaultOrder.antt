@@ -61,7 +61,8 @@ LacksBelow-none Has kind low = absurd (none kind low)
     none _ low = omega arith
 
 -- one more kind is absent
-pub LacksBelow-more : (Has : FaultKind → ℕ → Type 0) (kind : FaultKind) → number_of kind < 16 → LacksBelow Has (number_of kind) → IsLowest (Has kind) None → LacksBelow Has (number_of kind + 1)
+pub LacksBelow-more : (Has : FaultKind → ℕ → Type 0) (kind : FaultKind) → number_of kind < 16 → LacksBelow Has (number_of kind) →
+    IsLowest (Has kind) None → LacksBelow Has (number_of kind + 1)
 LacksBelow-more Has kind low before absent = λ k below place has.
     ⊎_elim
     (λ (less : number_of k < number_of kind). before k less place has)
@@ -71,7 +72,8 @@ LacksBelow-more Has kind low before absent = λ k below place has.
     (cases_lt (number_of k) (number_of kind))
 
 -- the first that is present
-pub IsAnswered-first : (Has : FaultKind → ℕ → Type 0) (kind : FaultKind) (place : ℕ) → number_of kind < 16 → LacksBelow Has (number_of kind) → IsLowest (Has kind) (Some place) → IsAnswered Has (fault_at kind place)
+pub IsAnswered-first : (Has : FaultKind → ℕ → Type 0) (kind : FaultKind) (place : ℕ) → number_of kind < 16 →
+    LacksBelow Has (number_of kind) → IsLowest (Has kind) (Some place) → IsAnswered Has (fault_at kind place)
 IsAnswered-first Has kind place low before is = record {
   present = is.present;
   first = before;
@@ -80,26 +82,36 @@ IsAnswered-first Has kind place low before is = record {
 }
 
 -- one step: a refusal where the kind has a place, else none of that number either
-pub refused : {U : Type 0} (u : U) (Has : FaultKind → ℕ → Type 0) (kind : FaultKind) (lowest : Option ℕ) (r : Result U Fault) → MatchOption lowest (r ≡ Ok u) (λ p. r ≡ Err (fault_at kind p)) → number_of kind < 16 → LacksBelow Has (number_of kind) → IsLowest (Has kind) lowest → MatchResult r (λ _. LacksBelow Has (number_of kind + 1)) (IsAnswered Has)
+pub refused : {U : Type 0} (u : U) (Has : FaultKind → ℕ → Type 0) (kind : FaultKind) (lowest : Option ℕ) (r : Result U Fault) →
+    MatchOption lowest (r ≡ Ok u) (λ p. r ≡ Err (fault_at kind p)) → number_of kind < 16 → LacksBelow Has (number_of kind) →
+    IsLowest (Has kind) lowest → MatchResult r (λ _. LacksBelow Has (number_of kind + 1)) (IsAnswered Has)
 refused u Has kind None r e low before is =
-    subst (λ (q : Result _ Fault). MatchResult q (λ _. LacksBelow Has (number_of kind + 1)) (IsAnswered Has)) (sym e) (LacksBelow-more Has kind low before is)
+    subst (λ (q : Result _ Fault). MatchResult q (λ _. LacksBelow Has (number_of kind + 1)) (IsAnswered Has)) (sym e)
+    (LacksBelow-more Has kind low before is)
 refused u Has kind (Some place) r e low before is =
-    subst (λ (q : Result _ Fault). MatchResult q (λ _. LacksBelow Has (number_of kind + 1)) (IsAnswered Has)) (sym e) (IsAnswered-first Has kind place low before is)
+    subst (λ (q : Result _ Fault). MatchResult q (λ _. LacksBelow Has (number_of kind + 1)) (IsAnswered Has)) (sym e)
+    (IsAnswered-first Has kind place low before is)
 
-pub refused-lacks : {U : Type 0} (Has : FaultKind → ℕ → Type 0) (n : ℕ) (r : Result U Fault) → MatchResult r (λ _. LacksBelow Has n) (IsAnswered Has) → OnOk r (LacksBelow Has n)
+pub refused-lacks : {U : Type 0} (Has : FaultKind → ℕ → Type 0) (n : ℕ) (r : Result U Fault) →
+    MatchResult r (λ _. LacksBelow Has n) (IsAnswered Has) → OnOk r (LacksBelow Has n)
 refused-lacks Has n (Ok _) step = step
 refused-lacks Has n (Err _) step = search rules
 
-pub refused-fault : {U : Type 0} (Has : FaultKind → ℕ → Type 0) (n : ℕ) (r : Result U Fault) → MatchResult r (λ _. LacksBelow Has n) (IsAnswered Has) → IfErr r (IsAnswered Has)
+pub refused-fault : {U : Type 0} (Has : FaultKind → ℕ → Type 0) (n : ℕ) (r : Result U Fault) →
+    MatchResult r (λ _. LacksBelow Has n) (IsAnswered Has) → IfErr r (IsAnswered Has)
 refused-fault Has n (Ok _) step = search rules
 refused-fault Has n (Err _) step = step
 
 -- where it goes on, and where it stops
-pub went_on : {U : Type 0} (u : U) (Has : FaultKind → ℕ → Type 0) (kind : FaultKind) (lowest : Option ℕ) (r : Result U Fault) → MatchOption lowest (r ≡ Ok u) (λ p. r ≡ Err (fault_at kind p)) → r ≡ Ok u → number_of kind < 16 → LacksBelow Has (number_of kind) → IsLowest (Has kind) lowest → LacksBelow Has (number_of kind + 1)
+pub went_on : {U : Type 0} (u : U) (Has : FaultKind → ℕ → Type 0) (kind : FaultKind) (lowest : Option ℕ) (r : Result U Fault) →
+    MatchOption lowest (r ≡ Ok u) (λ p. r ≡ Err (fault_at kind p)) → r ≡ Ok u → number_of kind < 16 → LacksBelow Has (number_of kind) →
+    IsLowest (Has kind) lowest → LacksBelow Has (number_of kind + 1)
 went_on u Has kind lowest r e ok low before is =
     MatchResult-at_ok (λ _. LacksBelow Has (number_of kind + 1)) (IsAnswered Has) u ok (refused u Has kind lowest r e low before is)
 
-pub stopped : {U : Type 0} (u : U) (Has : FaultKind → ℕ → Type 0) (kind : FaultKind) (lowest : Option ℕ) (r : Result U Fault) (fault : Fault) → MatchOption lowest (r ≡ Ok u) (λ p. r ≡ Err (fault_at kind p)) → r ≡ Err fault → number_of kind < 16 → LacksBelow Has (number_of kind) → IsLowest (Has kind) lowest → IsAnswered Has fault
+pub stopped : {U : Type 0} (u : U) (Has : FaultKind → ℕ → Type 0) (kind : FaultKind) (lowest : Option ℕ) (r : Result U Fault)
+    (fault : Fault) → MatchOption lowest (r ≡ Ok u) (λ p. r ≡ Err (fault_at kind p)) → r ≡ Err fault → number_of kind < 16 →
+    LacksBelow Has (number_of kind) → IsLowest (Has kind) lowest → IsAnswered Has fault
 stopped u Has kind lowest r fault e err low before is =
     MatchResult-at_err (λ _. LacksBelow Has (number_of kind + 1)) (IsAnswered Has) fault err (refused u Has kind lowest r e low before is)
 

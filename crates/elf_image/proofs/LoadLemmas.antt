@@ -50,7 +50,8 @@ find-none {X} p xs fails =
     refl
 
 -- the only element that passes is found
-pub find-only : {X : Type 0} (p : X → Bool) (xs : List X) (x : X) → Contains xs x → p x ≡ true → ((y : X) → Contains xs y → p y ≡ true → y ≡ x) → find p xs ≡ Some x
+pub find-only : {X : Type 0} (p : X → Bool) (xs : List X) (x : X) → Contains xs x → p x ≡ true →
+    ((y : X) → Contains xs y → p y ≡ true → y ≡ x) → find p xs ≡ Some x
 find-only p xs x is_in passes only =
     let (y, is) = find-finds p xs x is_in passes in
     let found = find-found p xs y is in
@@ -103,27 +104,32 @@ has_memory-from_loads a p loads =
     let parts = loads-parts a p loads in
     and_from (is_load p) (nat_lt 0 p.memsz) parts.0 (lt-ltb 0 p.memsz (let low = parts.1 in let high = parts.2 in omega arith))
 
-pub All-order : (segments some loads : List Segment) → some ≡ filter has_memory segments → IsPermutation some loads → All (λ p. IsTrue (has_memory p)) loads
+pub All-order : (segments some loads : List Segment) → some ≡ filter has_memory segments → IsPermutation some loads →
+    All (λ p. IsTrue (has_memory p)) loads
 All-order segments some loads is order =
     let HasMemory : Segment → Type 0 = λ p. IsTrue (has_memory p) in
     All-permutation HasMemory some loads order (All-same HasMemory some (filter has_memory segments) is (filter_passes has_memory segments))
 
-Contains-order : (segments some loads : List Segment) → some ≡ filter has_memory segments → IsPermutation some loads → (p : Segment) → Contains loads p → Contains segments p
+Contains-order : (segments some loads : List Segment) → some ≡ filter has_memory segments → IsPermutation some loads → (p : Segment) →
+    Contains loads p → Contains segments p
 Contains-order segments some loads is order p p_in =
     let here : Contains some p = Contains-permutation loads some p (IsPermutation-sym some loads order) p_in in
     let P : List Segment → Type 0 = λ xs. Contains xs p in
     Contains-from_filter has_memory segments p (subst P is here)
 
-Contains-loads : (segments some loads : List Segment) → some ≡ filter has_memory segments → IsPermutation some loads → (p : Segment) → Contains segments p → IsTrue (has_memory p) → Contains loads p
+Contains-loads : (segments some loads : List Segment) → some ≡ filter has_memory segments → IsPermutation some loads → (p : Segment) →
+    Contains segments p → IsTrue (has_memory p) → Contains loads p
 Contains-loads segments some loads is order p p_in loaded =
     let P : List Segment → Type 0 = λ xs. Contains xs p in
     Contains-permutation some loads p order (subst P (sym is) (Contains-filter has_memory segments p p_in loaded))
 
-pub LoadOnce-order : (segments some loads : List Segment) → LoadOnce segments → some ≡ filter has_memory segments → IsPermutation some loads → LoadOnce loads
+pub LoadOnce-order : (segments some loads : List Segment) → LoadOnce segments → some ≡ filter has_memory segments →
+    IsPermutation some loads → LoadOnce loads
 LoadOnce-order segments some loads once is order a p q p_in q_in =
     once a p q (Contains-order segments some loads is order p p_in) (Contains-order segments some loads is order q q_in)
 
-pub segment_of-order : (segments some loads : List Segment) → LoadOnce segments → some ≡ filter has_memory segments → IsPermutation some loads → (a : ℕ) → segment_of loads a ≡ segment_of segments a
+pub segment_of-order : (segments some loads : List Segment) → LoadOnce segments → some ≡ filter has_memory segments →
+    IsPermutation some loads → (a : ℕ) → segment_of loads a ≡ segment_of segments a
 segment_of-order segments some loads once is order a =
     elim (find (loads_address a) segments) as (λ r. find (loads_address a) segments ≡ r → find (loads_address a) loads ≡ r) [
       | None ↦ λ nowhere. find-none (loads_address a) loads
@@ -141,21 +147,25 @@ segment_of-order segments some loads once is order a =
 -- The segment that stands last of those that begin at an address or below it.
 
 -- where it is none, none loads the address
-pub segment_of-none_below : (loads : List Segment) (a : ℕ) → ((k : ℕ) (d : Segment) → k < length loads → a < (get_or loads k d).vaddr) → segment_of loads a ≡ None
+pub segment_of-none_below : (loads : List Segment) (a : ℕ) → ((k : ℕ) (d : Segment) → k < length loads → a < (get_or loads k d).vaddr) →
+    segment_of loads a ≡ None
 segment_of-none_below loads a above =
     find-none (loads_address a) loads
     (λ p p_in. false_from_ne_true (loads_address a p)
-    (λ loads_it. let low = (loads-parts a p loads_it).1 in let far = above p_in.0 p p_in.1 in let same = ap (λ (q : Segment). q.vaddr) p_in.2 in omega arith))
+    (λ loads_it. let low = (loads-parts a p loads_it).1 in let far = above p_in.0 p p_in.1 in
+    let same = ap (λ (q : Segment). q.vaddr) p_in.2 in omega arith))
 
 -- where it loads the address, it is the one
-pub segment_of-last : (loads : List Segment) (a i : ℕ) (d : Segment) → LoadOnce loads → i < length loads → IsTrue (loads_address a (get_or loads i d)) → segment_of loads a ≡ Some (get_or loads i d)
+pub segment_of-last : (loads : List Segment) (a i : ℕ) (d : Segment) → LoadOnce loads → i < length loads →
+    IsTrue (loads_address a (get_or loads i d)) → segment_of loads a ≡ Some (get_or loads i d)
 segment_of-last loads a i d once within loads_it =
     let here : Contains loads (get_or loads i d) = Contains-get_or loads i d within in
     find-only (loads_address a) loads (get_or loads i d) here loads_it
     (λ q q_in q_loads. once a q (get_or loads i d) q_in here q_loads loads_it)
 
 -- what loads the address and begins no later than another segment at or below it is that one
-same_as_last : (loads : List Segment) (a : ℕ) (p last : Segment) → LoadOnce loads → Contains loads p → Contains loads last → IsTrue (has_memory last) → p.vaddr ≤ last.vaddr → last.vaddr ≤ a → IsTrue (loads_address a p) → p ≡ last
+same_as_last : (loads : List Segment) (a : ℕ) (p last : Segment) → LoadOnce loads → Contains loads p → Contains loads last →
+    IsTrue (has_memory last) → p.vaddr ≤ last.vaddr → last.vaddr ≤ a → IsTrue (loads_address a p) → p ≡ last
 same_as_last loads a p last once p_in last_in memory before below loads_it =
     let parts = loads-parts a p loads_it in
     let loaded = and_parts (is_load last) (nat_lt 0 last.memsz) memory in
@@ -166,7 +176,10 @@ same_as_last loads a p last once p_in last_in memory before below loads_it =
     (loads-from_parts last.vaddr last loaded.0 (omega arith) (omega arith))
 
 -- and where it doesn't, none does
-pub segment_of-none_last : (loads : List Segment) (a i : ℕ) (d : Segment) → LoadOnce loads → All (λ p. IsTrue (has_memory p)) loads → IsNonDecreasingBy (λ p. p.vaddr) loads → i < length loads → (get_or loads i d).vaddr ≤ a → ((k : ℕ) (e : Segment) → i < k → k < length loads → a < (get_or loads k e).vaddr) → loads_address a (get_or loads i d) ≡ false → segment_of loads a ≡ None
+pub segment_of-none_last : (loads : List Segment) (a i : ℕ) (d : Segment) → LoadOnce loads → All (λ p. IsTrue (has_memory p)) loads →
+    IsNonDecreasingBy (λ p. p.vaddr) loads → i < length loads → (get_or loads i d).vaddr ≤ a →
+    ((k : ℕ) (e : Segment) → i < k → k < length loads → a < (get_or loads k e).vaddr) → loads_address a (get_or loads i d) ≡ false →
+    segment_of loads a ≡ None
 segment_of-none_last loads a i d once loaded rising within below above fails =
     find-none (loads_address a) loads
     (λ p p_in. false_from_ne_true (loads_address a p)
@@ -178,5 +191,7 @@ segment_of-none_last loads a i d once loaded rising within below above fails =
     [ inl later ↦ absurd (let far = above p_in.0 p later p_in.1 in let same = ap vaddr p_in.2 in omega arith) | inr by ↦ by ] in
     let before = rising p_in.0 i d not_above within in
     let same = ap vaddr at in
-    let is_last : p ≡ get_or loads i d = same_as_last loads a p (get_or loads i d) once p_in (Contains-get_or loads i d within) (loaded i d within) (omega arith) below loads_it in
+    let is_last : p ≡ get_or loads i d =
+    same_as_last loads a p (get_or loads i d) once p_in (Contains-get_or loads i d within) (loaded i d within)
+    (omega arith) below loads_it in
     ap (loads_address a) (sym is_last) ∙ loads_it)))

@@ -17,11 +17,17 @@ use Rattle.elf_image.proofs.ReadLists.{get_or-segments}
 record EndsBelow (bound : ℕ) (segments : List Segment) : Type 0 where
   each : (p : Segment) → Contains segments p → has_memory p ≡ true → end_of p ≤ bound
 
-ends_below : (bound from : ℕ) (segments : List Segment) → EndsBelow bound segments → from ≤ bound → fold max from (map end_of (filter (λ p. has_memory p && has_flag PF_W p) segments)) ≤ bound
+ends_below : (bound from : ℕ) (segments : List Segment) → EndsBelow bound segments → from ≤ bound →
+    fold max from (map end_of (filter (λ p. has_memory p && has_flag PF_W p) segments)) ≤ bound
 ends_below bound from [] ends start = start
 ends_below bound from (p ∷ ps) ends start =
-    elim (has_memory p && has_flag PF_W p) as (λ b. (has_memory p && has_flag PF_W p) ≡ b → fold max from (map end_of (cond b (p ∷ filter (λ q. has_memory q && has_flag PF_W q) ps) (filter (λ q. has_memory q && has_flag PF_W q) ps))) ≤ bound) [
-      | true ↦ λ is. let here = ends.each p (zero, omega arith, refl) (and_parts (has_memory p) (has_flag PF_W p) is).0 in ends_below bound (max from (end_of p)) ps rest (omega arith)
+    elim (has_memory p && has_flag PF_W p) as
+    (λ b. (has_memory p && has_flag PF_W p) ≡ b →
+    fold max from
+    (map end_of (cond b (p ∷ filter (λ q. has_memory q && has_flag PF_W q) ps)
+    (filter (λ q. has_memory q && has_flag PF_W q) ps))) ≤ bound) [
+      | true ↦ λ is. let here = ends.each p (zero, omega arith, refl) (and_parts (has_memory p) (has_flag PF_W p) is).0 in
+          ends_below bound (max from (end_of p)) ps rest (omega arith)
       | false ↦ λ is. ends_below bound from ps rest start
     ]
     refl
@@ -36,7 +42,8 @@ loads_last p has =
     let some : 0 < p.memsz = ltb-true 0 p.memsz parts.1 in
     let from : nat_le p.vaddr (end_of p - 1) ≡ true = le-leb p.vaddr (end_of p - 1) (omega arith) in
     let to : nat_lt (end_of p - 1) (end_of p) ≡ true = lt-ltb (end_of p - 1) (end_of p) (omega arith) in
-    and_from (is_load p && nat_le p.vaddr (end_of p - 1)) (nat_lt (end_of p - 1) (end_of p)) (and_from (is_load p) (nat_le p.vaddr (end_of p - 1)) parts.0 from) to
+    and_from (is_load p && nat_le p.vaddr (end_of p - 1)) (nat_lt (end_of p - 1) (end_of p))
+    (and_from (is_load p) (nat_le p.vaddr (end_of p - 1)) parts.0 from) to
 
 pub low_end : (file : List ℕ) → IsSound file → writable_end (segments_of file) ≤ 2 ^ 63
 low_end file sound = ends_below (2 ^ 63) 0 (segments_of file) (record { each = ends }) (omega arith)
@@ -48,5 +55,6 @@ low_end file sound = ends_below (2 ^ 63) 0 (segments_of file) (record { each = e
         ⊎_elim
         (λ (low : end_of p < address_end + 1). omega arith)
         (λ (high : address_end + 1 ≤ end_of p).
-        absurd (sound HighAddress (end_of p - 1) (i, found.0, (subst (λ q. IsTrue (loads_address (end_of p - 1) q)) (sym p_is) (loads_last p has), omega arith))))
+        absurd (sound HighAddress (end_of p - 1)
+        (i, found.0, (subst (λ q. IsTrue (loads_address (end_of p - 1) q)) (sym p_is) (loads_last p has), omega arith))))
         (cases_lt (end_of p) (address_end + 1))

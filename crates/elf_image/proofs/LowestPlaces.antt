@@ -17,7 +17,8 @@ pub IsLowest-one : {P : ℕ → Type 0} (l : ℕ) → P l → ((p : ℕ) → P p
 IsLowest-one l is only = record { present = is; least = λ p q. let e : p ≡ l = only p q in omega arith }
 
 -- one place, if a condition holds
-pub IsLowest-if : (C : Type 0) (holds : Bool) (place : ℕ) → (holds ≡ true → C) → (C → holds ≡ true) → IsLowest (λ p. C × (p ≡ place)) (if holds then Some place else None)
+pub IsLowest-if : (C : Type 0) (holds : Bool) (place : ℕ) → (holds ≡ true → C) → (C → holds ≡ true) →
+    IsLowest (λ p. C × (p ≡ place)) (if holds then Some place else None)
 IsLowest-if C true place to from = IsLowest-one place (to refl, refl) (λ p is. is.1)
 IsLowest-if C false place to from = IsLowest-none (λ p is. let e : false ≡ true = from is.0 in cc)
 
@@ -66,17 +67,20 @@ some_fewer S n p is =
     (λ (more : n ≤ is.0). let e : is.0 ≡ n = omega arith in inr (subst (λ (i : ℕ). S i p) e is.2))
     (cases_lt is.0 n)
 
-pub IsLowest-more : (S : ℕ → ℕ → Type 0) (n : ℕ) (a b : Option ℕ) → IsLowest (SomeBelow n S) a → IsLowest (S n) b → IsLowest (SomeBelow (n + 1) S) (lower a b)
+pub IsLowest-more : (S : ℕ → ℕ → Type 0) (n : ℕ) (a b : Option ℕ) → IsLowest (SomeBelow n S) a → IsLowest (S n) b →
+    IsLowest (SomeBelow (n + 1) S) (lower a b)
 IsLowest-more S n a b before here = IsLowest-same (lower a b) (some_more S n) (some_fewer S n) (IsLowest-or a b before here)
 
 -- the same of what the code's calls of `lower` and `place_if` give
 pub IsLowest-lower : {P Q : ℕ → Type 0} (a b r : Option ℕ) → r ≡ lower a b → IsLowest P a → IsLowest Q b → IsLowest (λ p. P p ⊎ Q p) r
 IsLowest-lower a b r e left right = subst (IsLowest _) (sym e) (IsLowest-or a b left right)
 
-pub IsLowest-next : (S : ℕ → ℕ → Type 0) (n : ℕ) (a b r : Option ℕ) → r ≡ lower a b → IsLowest (SomeBelow n S) a → IsLowest (S n) b → IsLowest (SomeBelow (n + 1) S) r
+pub IsLowest-next : (S : ℕ → ℕ → Type 0) (n : ℕ) (a b r : Option ℕ) → r ≡ lower a b → IsLowest (SomeBelow n S) a → IsLowest (S n) b →
+    IsLowest (SomeBelow (n + 1) S) r
 IsLowest-next S n a b r e before here = subst (IsLowest _) (sym e) (IsLowest-more S n a b before here)
 
-pub IsLowest-place : (C : Type 0) (holds : Bool) (at place : ℕ) (r : Option ℕ) → r ≡ (if holds then Some at else None) → at ≡ place → IsTrue holds ↔ C → IsLowest (λ p. C × (p ≡ place)) r
+pub IsLowest-place : (C : Type 0) (holds : Bool) (at place : ℕ) (r : Option ℕ) → r ≡ (if holds then Some at else None) → at ≡ place →
+    IsTrue holds ↔ C → IsLowest (λ p. C × (p ≡ place)) r
 IsLowest-place C holds at place r e same test =
     subst
     (λ (l : ℕ). IsLowest (λ p. C × (p ≡ l)) r)
@@ -84,7 +88,8 @@ IsLowest-place C holds at place r e same test =
     (subst (IsLowest _) (sym e) (IsLowest-if C holds at (λ is. search (rules, test)) (λ is. search (rules, test))))
 
 -- the end of a loop over all of them
-pub IsLowest-all : (S : ℕ → ℕ → Type 0) (n count : ℕ) (o : Option ℕ) → n ≡ count → IsLowest (SomeBelow n S) o → IsLowest (SomeBelow count S) o
+pub IsLowest-all : (S : ℕ → ℕ → Type 0) (n count : ℕ) (o : Option ℕ) → n ≡ count → IsLowest (SomeBelow n S) o →
+    IsLowest (SomeBelow count S) o
 IsLowest-all S n count o same is = let All : ℕ → Type 0 = λ k. IsLowest (SomeBelow k S) o in subst All same is
 
 -- a place where something doesn't hold
@@ -92,7 +97,8 @@ if_not : (C : Type 0) (b : Bool) → IsTrue b ↔ C → IsTrue (not b) ↔ (C �
 if_not C true test = (λ wrong. let never : false ≡ true = wrong in cc, λ wrong. absurd (wrong (test.0 refl)))
 if_not C false test = (λ _ is. let never : false ≡ true = test.1 is in cc, λ _. refl)
 
-pub IsLowest-place_not : (C : Type 0) (holds : Bool) (at place : ℕ) (r : Option ℕ) → r ≡ (if (not holds) then Some at else None) → at ≡ place → IsTrue holds ↔ C → IsLowest (λ p. (C → ⊥) × (p ≡ place)) r
+pub IsLowest-place_not : (C : Type 0) (holds : Bool) (at place : ℕ) (r : Option ℕ) → r ≡ (if (not holds) then Some at else None) →
+    at ≡ place → IsTrue holds ↔ C → IsLowest (λ p. (C → ⊥) × (p ≡ place)) r
 IsLowest-place_not C holds at place r e same test = IsLowest-place (C → ⊥) (not holds) at place r e same (if_not C holds test)
 
 -- places that are looked at under a condition

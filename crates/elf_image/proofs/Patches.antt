@@ -9,24 +9,29 @@ use Rattle.elf_image.specs.file.Header.{number_at}
 use Rattle.elf_image.specs.file.Patches.{patched_number}
 
 -- a write at the front of what follows a place
-pub patched_at : (a n : ℕ) (xs bytes : List ℕ) → take a xs ++ ((bytes ++ drop n (take (length xs - a) (drop a xs))) ++ drop (length xs - a) (drop a xs)) ≡ take a xs ++ (bytes ++ drop (a + n) xs)
+pub patched_at : (a n : ℕ) (xs bytes : List ℕ) → take a xs
+    ++ ((bytes ++ drop n (take (length xs - a) (drop a xs))) ++ drop (length xs - a) (drop a xs)) ≡ take a xs ++ (bytes ++ drop (a + n) xs)
 patched_at a n xs bytes = grind (arith, common_steps)
 
 -- a number is made of its bytes alone
-little_from-same : (i n : ℕ) (xs ys : List ℕ) → ((k : ℕ) → i ≤ k → k < i + n → get_or xs k 0 ≡ get_or ys k 0) → little_from i n xs ≡ little_from i n ys
+little_from-same : (i n : ℕ) (xs ys : List ℕ) → ((k : ℕ) → i ≤ k → k < i + n → get_or xs k 0 ≡ get_or ys k 0) →
+    little_from i n xs ≡ little_from i n ys
 little_from-same i zero xs ys same = refl
 little_from-same i (suc n) xs ys same =
     let first : get_or xs i 0 ≡ get_or ys i 0 = same i (omega arith) (omega arith) in
-    let rest : little_from (suc i) n xs ≡ little_from (suc i) n ys = little_from-same (suc i) n xs ys (λ k low high. same k (omega arith) (omega arith)) in
+    let rest : little_from (suc i) n xs ≡ little_from (suc i) n ys =
+    little_from-same (suc i) n xs ys (λ k low high. same k (omega arith) (omega arith)) in
     cc
 
-pub number_at-same : (xs ys : List ℕ) (o n : ℕ) → ((k : ℕ) → o ≤ k → k < o + n → get_or xs k 0 ≡ get_or ys k 0) → number_at xs o n ≡ number_at ys o n
+pub number_at-same : (xs ys : List ℕ) (o n : ℕ) → ((k : ℕ) → o ≤ k → k < o + n → get_or xs k 0 ≡ get_or ys k 0) →
+    number_at xs o n ≡ number_at ys o n
 number_at-same xs ys o n same =
     little_from-same 0 n (drop o xs) (drop o ys)
     (λ k low high. get_or-drop o xs k 0 ∙ same (o + k) (omega arith) (omega arith) ∙ sym (get_or-drop o ys k 0))
 
 -- the bytes beside the number are as they were
-pub get_or-patched : (a n v : ℕ) (xs : List ℕ) (k : ℕ) → a + n ≤ length xs → (k < a) ⊎ (a + n ≤ k) → get_or (patched_number a n v xs) k 0 ≡ get_or xs k 0
+pub get_or-patched : (a n v : ℕ) (xs : List ℕ) (k : ℕ) → a + n ≤ length xs → (k < a) ⊎ (a + n ≤ k) →
+    get_or (patched_number a n v xs) k 0 ≡ get_or xs k 0
 get_or-patched a n v xs k within (inl low) =
     let front : length (take a xs) ≡ a = grind (arith, common_steps) in
     get_or_append_left (take a xs) _ 0 k (omega arith) ∙ get_or-take a xs k 0 low
@@ -40,9 +45,12 @@ get_or-patched a n v xs k within (inr high) =
     ∙ ap (λ (j : ℕ). get_or xs j 0) place
 
 -- and so are the numbers beside it
-pub number_at-patched : (a n v : ℕ) (xs : List ℕ) (o m : ℕ) → a + n ≤ length xs → (o + m ≤ a) ⊎ (a + n ≤ o) → number_at (patched_number a n v xs) o m ≡ number_at xs o m
-number_at-patched a n v xs o m within (inl low) = number_at-same _ xs o m (λ k from to. get_or-patched a n v xs k within (inl (omega arith)))
-number_at-patched a n v xs o m within (inr high) = number_at-same _ xs o m (λ k from to. get_or-patched a n v xs k within (inr (omega arith)))
+pub number_at-patched : (a n v : ℕ) (xs : List ℕ) (o m : ℕ) → a + n ≤ length xs → (o + m ≤ a) ⊎ (a + n ≤ o) →
+    number_at (patched_number a n v xs) o m ≡ number_at xs o m
+number_at-patched a n v xs o m within (inl low) =
+    number_at-same _ xs o m (λ k from to. get_or-patched a n v xs k within (inl (omega arith)))
+number_at-patched a n v xs o m within (inr high) =
+    number_at-same _ xs o m (λ k from to. get_or-patched a n v xs k within (inr (omega arith)))
 
 -- the number stands there
 pub number_at-patched_there : (a n v : ℕ) (xs : List ℕ) → a + n ≤ length xs → v < 256 ^ n → number_at (patched_number a n v xs) a n ≡ v
@@ -58,7 +66,8 @@ length-patched a n v xs within =
     grind (arith, common_steps)
 
 -- numbers in the front of a list
-pub number_at-front : (xs ys : List ℕ) (front o n : ℕ) → front ≤ length xs → o + n ≤ front → number_at (take front xs ++ ys) o n ≡ number_at xs o n
+pub number_at-front : (xs ys : List ℕ) (front o n : ℕ) → front ≤ length xs → o + n ≤ front →
+    number_at (take front xs ++ ys) o n ≡ number_at xs o n
 number_at-front xs ys front o n within inside =
     let size : length (take front xs) ≡ front = grind (arith, common_steps) in
     number_at-same (take front xs ++ ys) xs o n

@@ -19,7 +19,8 @@ pub segments_from-none : (file : List ℕ) (o : ℕ) → [] ≡ segments_from fi
 unfolding segments_from
 segments_from-none file o = refl
 
-pub segments_from-more : (file : List ℕ) (o n : ℕ) → segments_from file o n ++ segment_at file (o + PHDR_SIZE * n) ∷ [] ≡ segments_from file o (n + 1)
+pub segments_from-more : (file : List ℕ) (o n : ℕ) → segments_from file o n
+    ++ segment_at file (o + PHDR_SIZE * n) ∷ [] ≡ segments_from file o (n + 1)
 unfolding segments_from
 segments_from-more file o zero =
     let here : o + PHDR_SIZE * 0 ≡ o = omega arith in
@@ -33,7 +34,8 @@ segments_from-more file o (suc n) =
     ∙ ap (segments_from file o) (sym count)
 
 -- what holds of each element, and of one more
-each_more : {A : Type 0} (P : ℕ → A → Type 0) (xs : List A) (x : A) → ((i : ℕ) (s : A) → slice_get xs i ≡ Some s → P i s) → P (length xs) x → (i : ℕ) (s : A) → slice_get (xs ++ x ∷ []) i ≡ Some s → P i s
+each_more : {A : Type 0} (P : ℕ → A → Type 0) (xs : List A) (x : A) → ((i : ℕ) (s : A) → slice_get xs i ≡ Some s → P i s) →
+    P (length xs) x → (i : ℕ) (s : A) → slice_get (xs ++ x ∷ []) i ≡ Some s → P i s
 each_more P [] x each here zero s e = subst (P zero) (same_Some x s e) here
 each_more P [] x each here (suc i) s e = absurd (cc)
 each_more P (y ∷ ys) x each here zero s e = each zero s e
@@ -42,7 +44,8 @@ each_more P (y ∷ ys) x each here (suc i) s e = each_more (λ k. P (suc k)) ys 
 pub AreSections-none : (file : List ℕ) → AreSections file 0 []
 AreSections-none file = record { count_is = refl; each = λ i s e. absurd (cc) }
 
-pub AreSections-more : (file : List ℕ) (n : ℕ) (xs : List Section) (x : Section) → AreSections file n xs → IsSectionAt file n x → AreSections file (n + 1) (xs ++ x ∷ [])
+pub AreSections-more : (file : List ℕ) (n : ℕ) (xs : List Section) (x : Section) → AreSections file n xs → IsSectionAt file n x →
+    AreSections file (n + 1) (xs ++ x ∷ [])
 AreSections-more file n xs x are is = record {
   count_is = length-append xs (x ∷ []) ∙ ap (λ (k : ℕ). k + 1) are.count_is;
   each = each_more (IsSectionAt file) xs x are.each (subst (λ (k : ℕ). IsSectionAt file k x) (sym are.count_is) is);
@@ -51,7 +54,8 @@ AreSections-more file n xs x are is = record {
 pub AreSymbols-none : (file : List ℕ) (table : SectionHeader) → AreSymbols file table 0 []
 AreSymbols-none file table = record { count_is = refl; each = λ i s e. absurd (cc) }
 
-pub AreSymbols-more : (file : List ℕ) (table : SectionHeader) (n : ℕ) (xs : List Symbol) (x : Symbol) → AreSymbols file table n xs → IsSymbolAt file table (symbol_place table n) x → AreSymbols file table (n + 1) (xs ++ x ∷ [])
+pub AreSymbols-more : (file : List ℕ) (table : SectionHeader) (n : ℕ) (xs : List Symbol) (x : Symbol) → AreSymbols file table n xs →
+    IsSymbolAt file table (symbol_place table n) x → AreSymbols file table (n + 1) (xs ++ x ∷ [])
 AreSymbols-more file table n xs x are is = record {
   count_is = length-append xs (x ∷ []) ∙ ap (λ (k : ℕ). k + 1) are.count_is;
   each =
@@ -69,7 +73,8 @@ unfolding segments_from
 length-segments_from file o zero = refl
 length-segments_from file o (suc n) = let rest = length-segments_from file (o + PHDR_SIZE) n in omega arith
 
-pub get_or-segments_from : (file : List ℕ) (o n k : ℕ) (d : Segment) → k < n → get_or (segments_from file o n) k d ≡ segment_at file (o + PHDR_SIZE * k)
+pub get_or-segments_from : (file : List ℕ) (o n k : ℕ) (d : Segment) → k < n →
+    get_or (segments_from file o n) k d ≡ segment_at file (o + PHDR_SIZE * k)
 unfolding segments_from
 get_or-segments_from file o zero k d below = absurd (omega arith)
 get_or-segments_from file o (suc n) zero d below =
@@ -81,7 +86,8 @@ get_or-segments_from file o (suc n) (suc k) d below =
 pub length-segments_of : (file : List ℕ) → length (segments_of file) ≡ e_phnum file
 length-segments_of file = length-segments_from file (e_phoff file) (e_phnum file)
 
-pub get_or-segments : (file : List ℕ) (k : ℕ) (d : Segment) → k < length (segments_of file) → (k < e_phnum file) × (get_or (segments_of file) k d ≡ segment file k)
+pub get_or-segments : (file : List ℕ) (k : ℕ) (d : Segment) → k < length (segments_of file) → (k < e_phnum file)
+    × (get_or (segments_of file) k d ≡ segment file k)
 get_or-segments file k d within =
     let count = length-segments_of file in
     let below : k < e_phnum file = omega arith in

@@ -19,7 +19,8 @@ IsWhole-stable file offset size not_truncated =
       | inl same ↦ inl same.1
       | inr differ ↦
           ⊎_elim
-          (λ (short : length file < offset + size). absurd (not_truncated (⊎_elim (λ e. differ.1 e) (λ (fits : offset + size ≤ length file). omega arith))))
+          (λ (short : length file < offset + size). absurd
+          (not_truncated (⊎_elim (λ e. differ.1 e) (λ (fits : offset + size ≤ length file). omega arith))))
           (λ (fits : offset + size ≤ length file). inr fits)
           (cases_lt (length file) (offset + size))
     ]
@@ -32,7 +33,8 @@ HasContents-stable file s not_truncated =
     ]
 
 -- what holds of all sections holds of the symbol table
-symbol_table_from-all : (P : SectionHeader → Type 0) (file : List ℕ) (i n count : ℕ) → i + n ≡ count → ((j : ℕ) → j < count → P (section_header file j)) → IfSome (symbol_table_from file i n) P
+symbol_table_from-all : (P : SectionHeader → Type 0) (file : List ℕ) (i n count : ℕ) → i + n ≡ count →
+    ((j : ℕ) → j < count → P (section_header file j)) → IfSome (symbol_table_from file i n) P
 symbol_table_from-all P file i zero count e all = search rules
 symbol_table_from-all P file i (suc n) count e all =
     let rest = symbol_table_from-all P file (i + 1) n count (omega arith) all in
@@ -46,7 +48,8 @@ module _ (file : List ℕ) (none : (place : ℕ) → IsTruncated file place → 
   header : HasHeader file
   header =
       ⊎_elim
-      (λ (short : length file < 64). absurd (none 0 (inl (λ (has : HasHeader file). let fits : 64 ≤ length file = has in omega arith, refl))))
+      (λ (short : length file < 64). absurd
+      (none 0 (inl (λ (has : HasHeader file). let fits : 64 ≤ length file = has in omega arith, refl))))
       (λ (fits : 64 ≤ length file). fits)
       (cases_lt (length file) 64)
 

@@ -38,7 +38,8 @@ AreExtents-begin IsExtent = record {
   ascending = λ i j d before within. absurd (omega arith);
 }
 
-none_more : (IsExtent : ℕ → Extent → Type 0) (n : ℕ) (extents : List Extent) → ((s : Extent) → IsExtent n s → ⊥) → AreExtents IsExtent n extents → AreExtents IsExtent (n + 1) extents
+none_more : (IsExtent : ℕ → Extent → Type 0) (n : ℕ) (extents : List Extent) → ((s : Extent) → IsExtent n s → ⊥) →
+    AreExtents IsExtent n extents → AreExtents IsExtent (n + 1) extents
 none_more IsExtent n extents none are = record {
   each = λ s is_in. let is = are.each s is_in in let below = is.1 in (is.0, omega arith, is.2);
   all = λ i s below is. elim (cases_lt i n) [
@@ -48,7 +49,9 @@ none_more IsExtent n extents none are = record {
   ascending = are.ascending;
 }
 
-some_more : (file : List ℕ) (IsExtent : ℕ → Extent → Type 0) (unique : (i : ℕ) (s t : Extent) → IsExtent i s → IsExtent i t → s ≡ t) (at : (i : ℕ) (s : Extent) → IsExtent i s → s.place ≡ segment_place file i) (n : ℕ) (extents : List Extent) (t : Extent) → IsExtent n t → AreExtents IsExtent n extents → AreExtents IsExtent (n + 1) (extents ++ t ∷ [])
+some_more : (file : List ℕ) (IsExtent : ℕ → Extent → Type 0) (unique : (i : ℕ) (s t : Extent) → IsExtent i s → IsExtent i t → s ≡ t)
+    (at : (i : ℕ) (s : Extent) → IsExtent i s → s.place ≡ segment_place file i) (n : ℕ) (extents : List Extent) (t : Extent) →
+    IsExtent n t → AreExtents IsExtent n extents → AreExtents IsExtent (n + 1) (extents ++ t ∷ [])
 some_more file IsExtent unique at n extents t new are = record {
   each = λ s is_in. elim (Contains-push_cases extents t s is_in) [
     | inl old ↦ let is = are.each s old in let below = is.1 in (is.0, omega arith, is.2)
@@ -67,13 +70,18 @@ some_more file IsExtent unique at n extents t new are = record {
       let less = segment_place-less file is.0 n is.1 in omega arith);
 }
 
-pub AreExtents-more : (file : List ℕ) (IsExtent : ℕ → Extent → Type 0) (unique : (i : ℕ) (s t : Extent) → IsExtent i s → IsExtent i t → s ≡ t) (at : (i : ℕ) (s : Extent) → IsExtent i s → s.place ≡ segment_place file i) (n : ℕ) (o : Option Extent) (old new : List Extent) → IfSome o (IsExtent n) → IfNone o ((s : Extent) → IsExtent n s → ⊥) → new ≡ old ++ option_to_list o → AreExtents IsExtent n old → AreExtents IsExtent (n + 1) new
+pub AreExtents-more : (file : List ℕ) (IsExtent : ℕ → Extent → Type 0)
+    (unique : (i : ℕ) (s t : Extent) → IsExtent i s → IsExtent i t → s ≡ t)
+    (at : (i : ℕ) (s : Extent) → IsExtent i s → s.place ≡ segment_place file i) (n : ℕ) (o : Option Extent) (old new : List Extent) →
+    IfSome o (IsExtent n) → IfNone o ((s : Extent) → IsExtent n s → ⊥) → new ≡ old ++ option_to_list o → AreExtents IsExtent n old →
+    AreExtents IsExtent (n + 1) new
 AreExtents-more file IsExtent unique at n None old new some none is are =
     subst (AreExtents IsExtent (n + 1)) (sym (append-nil old) ∙ sym is) (none_more IsExtent n old none are)
 AreExtents-more file IsExtent unique at n (Some t) old new some none is are =
     subst (AreExtents IsExtent (n + 1)) (sym is) (some_more file IsExtent unique at n old t some are)
 
-pub not_empty : (IsExtent : ℕ → Extent → Type 0) (n : ℕ) (extents : List Extent) → ((i : ℕ) (s : Extent) → IsExtent i s → s.start < s.end) → AreExtents IsExtent n extents → All (λ s. s.start < s.end) extents
+pub not_empty : (IsExtent : ℕ → Extent → Type 0) (n : ℕ) (extents : List Extent) →
+    ((i : ℕ) (s : Extent) → IsExtent i s → s.start < s.end) → AreExtents IsExtent n extents → All (λ s. s.start < s.end) extents
 not_empty IsExtent n extents some are k d within =
     let is = are.each (get_or extents k d) (Contains-get_or extents k d within) in some is.0 (get_or extents k d) is.2
 
@@ -82,7 +90,11 @@ not_empty IsExtent n extents some are k d within =
 abbrev pub SharesSome : (List ℕ) → (ℕ → ℕ → Type 0) → ℕ → ℕ → ℕ → Type 0
 SharesSome file IsOf n i place = ((j : ℕ) × (j < n) × (j ≢ i) × ((x : ℕ) × IsOf i x × IsOf j x)) × (place ≡ segment_place file i)
 
-pub IsLowest-extents : (file : List ℕ) (IsExtent : ℕ → Extent → Type 0) (IsOf : ℕ → ℕ → Type 0) (at : (i : ℕ) (s : Extent) → IsExtent i s → s.place ≡ segment_place file i) (some : (i x : ℕ) → IsOf i x → (s : Extent) × IsExtent i s) (holds : (i x : ℕ) (s : Extent) → IsExtent i s → IsOf i x ↔ IsInExtent x s) (n : ℕ) (extents : List Extent) (o : Option ℕ) → AreExtents IsExtent n extents → IsLowest (SharesAnother extents) o → IsLowest (SomeBelow n (SharesSome file IsOf n)) o
+pub IsLowest-extents : (file : List ℕ) (IsExtent : ℕ → Extent → Type 0) (IsOf : ℕ → ℕ → Type 0)
+    (at : (i : ℕ) (s : Extent) → IsExtent i s → s.place ≡ segment_place file i)
+    (some : (i x : ℕ) → IsOf i x → (s : Extent) × IsExtent i s)
+    (holds : (i x : ℕ) (s : Extent) → IsExtent i s → IsOf i x ↔ IsInExtent x s) (n : ℕ) (extents : List Extent) (o : Option ℕ) →
+    AreExtents IsExtent n extents → IsLowest (SharesAnother extents) o → IsLowest (SomeBelow n (SharesSome file IsOf n)) o
 IsLowest-extents file IsExtent IsOf at some holds n extents o are is =
     IsLowest-same o
     (λ p (s, t, in_s, in_t, (at_s, other, (x, hold_s, hold_t))).
@@ -125,7 +137,8 @@ abbrev pub IsAddressOf : List ℕ → ℕ → ℕ → Type 0
 IsAddressOf file i a = IsTrue (loads_address a (segment file i))
 
 pub IsAddressExtent-unique : (file : List ℕ) (i : ℕ) (s t : Extent) → IsAddressExtent file i s → IsAddressExtent file i t → s ≡ t
-IsAddressExtent-unique file i s t (load, start, end, some, place) (load', start', end', some', place') = Extent-same s t (start ∙ sym start') (end ∙ sym end') (place ∙ sym place')
+IsAddressExtent-unique file i s t (load, start, end, some, place) (load', start', end', some', place') =
+    Extent-same s t (start ∙ sym start') (end ∙ sym end') (place ∙ sym place')
 
 pub IsAddressExtent-place : (file : List ℕ) (i : ℕ) (s : Extent) → IsAddressExtent file i s → s.place ≡ segment_place file i
 IsAddressExtent-place file i s (load, start, end, some, place) = place
@@ -153,7 +166,8 @@ abbrev pub IsByteOf : List ℕ → ℕ → ℕ → Type 0
 IsByteOf file i k = IsFileByte k (segment file i)
 
 pub IsFileExtent-unique : (file : List ℕ) (i : ℕ) (s t : Extent) → IsFileExtent file i s → IsFileExtent file i t → s ≡ t
-IsFileExtent-unique file i s t (load, start, end, some, place) (load', start', end', some', place') = Extent-same s t (start ∙ sym start') (end ∙ sym end') (place ∙ sym place')
+IsFileExtent-unique file i s t (load, start, end, some, place) (load', start', end', some', place') =
+    Extent-same s t (start ∙ sym start') (end ∙ sym end') (place ∙ sym place')
 
 pub IsFileExtent-place : (file : List ℕ) (i : ℕ) (s : Extent) → IsFileExtent file i s → s.place ≡ segment_place file i
 IsFileExtent-place file i s (load, start, end, some, place) = place
@@ -185,5 +199,6 @@ IfNone-weaker : {X : Type 0} (o : Option X) {P Q : Type 0} → (P → Q) → IfN
 IfNone-weaker None to is = to is
 IfNone-weaker (Some x) to is = is
 
-pub IsCodeExtent-none : (file : List ℕ) (i : ℕ) (o : Option Extent) → IfNone o ((s : Extent) → IsAddressExtent file i s → ⊥) → IfNone o ((s : Extent) → IsCodeExtent file i s → ⊥)
+pub IsCodeExtent-none : (file : List ℕ) (i : ℕ) (o : Option Extent) → IfNone o ((s : Extent) → IsAddressExtent file i s → ⊥) →
+    IfNone o ((s : Extent) → IsCodeExtent file i s → ⊥)
 IsCodeExtent-none file i o none = IfNone-weaker o (λ never s is. never s is.1) none

@@ -14,7 +14,8 @@ use Rattle.elf_image.proofs.LowestPlaces.{IsLowest-place, IsLowest-same, IsLowes
 use Rattle.std.specs.Prelude.{◌==◌, find, map}
 use Rattle.std.specs.List.{range_with_len}
 
-pub IsLowest-unended : (table : List ℕ) (end read name at place : ℕ) (r : Option ℕ) → IsLastEnd table end → read ≡ name → r ≡ (if nat_le end read then Some at else None) → at ≡ place → IsLowest (λ p. IsUnended table name × (p ≡ place)) r
+pub IsLowest-unended : (table : List ℕ) (end read name at place : ℕ) (r : Option ℕ) → IsLastEnd table end → read ≡ name →
+    r ≡ (if nat_le end read then Some at else None) → at ≡ place → IsLowest (λ p. IsUnended table name × (p ≡ place)) r
 IsLowest-unended table end read name at place r last same e there =
     IsLowest-place (IsUnended table name) (nat_le end read) at place r e there (
       λ is. let above : end ≤ name = grind (arith, nat_tests) in last.unended name above,
@@ -26,18 +27,22 @@ abbrev pub symbol_table_from : List ℕ → ℕ → ℕ → Option SectionHeader
 symbol_table_from file i n = find (λ section. section.kind == SHT_SYMTAB) (map (section_header file) (range_with_len i n))
 
 -- one section of those that are left
-pub symbol_table_from-next : (file : List ℕ) (i n : ℕ) → i < n → symbol_table_from file i (n - i) ≡ (if (section_header file i).kind == SHT_SYMTAB then Some (section_header file i) else symbol_table_from file (i + 1) (n - (i + 1)))
+pub symbol_table_from-next : (file : List ℕ) (i n : ℕ) → i < n →
+    symbol_table_from file i (n - i)
+    ≡ (if (section_header file i).kind == SHT_SYMTAB then Some (section_header file i) else symbol_table_from file (i + 1) (n - (i + 1)))
 symbol_table_from-next file i n below =
     let left : n - i ≡ suc (n - (i + 1)) = omega arith in
     ap (λ (k : ℕ). symbol_table_from file i k) left
 
-pub symbol_table_from-found : (file : List ℕ) (i n : ℕ) → i < n → (section_header file i).kind ≡ SHT_SYMTAB → symbol_table_from file i (n - i) ≡ Some (section_header file i)
+pub symbol_table_from-found : (file : List ℕ) (i n : ℕ) → i < n → (section_header file i).kind ≡ SHT_SYMTAB →
+    symbol_table_from file i (n - i) ≡ Some (section_header file i)
 symbol_table_from-found file i n below is =
     let test : ((section_header file i).kind == SHT_SYMTAB) ≡ true = eq-eqb _ _ is in
     symbol_table_from-next file i n below
     ∙ ap (λ (b : Bool). if b then Some (section_header file i) else symbol_table_from file (i + 1) (n - (i + 1))) test
 
-pub symbol_table_from-other : (file : List ℕ) (i n : ℕ) → i < n → (section_header file i).kind ≢ SHT_SYMTAB → symbol_table_from file (i + 1) (n - (i + 1)) ≡ symbol_table_from file i (n - i)
+pub symbol_table_from-other : (file : List ℕ) (i n : ℕ) → i < n → (section_header file i).kind ≢ SHT_SYMTAB →
+    symbol_table_from file (i + 1) (n - (i + 1)) ≡ symbol_table_from file i (n - i)
 symbol_table_from-other file i n below other =
     let test : ((section_header file i).kind == SHT_SYMTAB) ≡ false =
     elim (eqb_tells (section_header file i).kind SHT_SYMTAB) [ inl same ↦ absurd (other same.1) | inr differ ↦ differ.0 ] in
@@ -51,14 +56,17 @@ pub symbol_table_from-none : (file : List ℕ) (i n : ℕ) → n ≤ i → symbo
 symbol_table_from-none file i n past = let left : n - i ≡ zero = omega arith in ap (λ (k : ℕ). symbol_table_from file i k) left
 
 -- the names of the symbols of a table that is there, or other
-pub IsLowest-symbols : (file : List ℕ) (o : Option SectionHeader) (table : SectionHeader) (r : Option ℕ) → Some table ≡ o → HasSymbolNames file table → IsLowest (SomeBelow (symbol_count table) (IsUnnamedSymbol file table)) r → IsLowest (IsUnnamedSymbolOf file o) r
+pub IsLowest-symbols : (file : List ℕ) (o : Option SectionHeader) (table : SectionHeader) (r : Option ℕ) → Some table ≡ o →
+    HasSymbolNames file table → IsLowest (SomeBelow (symbol_count table) (IsUnnamedSymbol file table)) r →
+    IsLowest (IsUnnamedSymbolOf file o) r
 IsLowest-symbols file o table r same has is =
     subst
     (λ (t : Option SectionHeader). IsLowest (IsUnnamedSymbolOf file t) r)
     same
     (IsLowest-same r (λ p unnamed. (has, unnamed)) (λ p unnamed. unnamed.1) is)
 
-pub IsLowest-no_names : (file : List ℕ) (o : Option SectionHeader) (table : SectionHeader) → Some table ≡ o → (HasSymbolNames file table → ⊥) → IsLowest (IsUnnamedSymbolOf file o) None
+pub IsLowest-no_names : (file : List ℕ) (o : Option SectionHeader) (table : SectionHeader) → Some table ≡ o →
+    (HasSymbolNames file table → ⊥) → IsLowest (IsUnnamedSymbolOf file o) None
 IsLowest-no_names file o table same lacks =
     subst
     (λ (t : Option SectionHeader). IsLowest (IsUnnamedSymbolOf file t) None)

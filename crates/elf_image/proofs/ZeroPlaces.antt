@@ -19,10 +19,13 @@ pub record AreListed (test : ℕ → Bool) (hay : List ℕ) (low high : ℕ) (zs
   pub rising : (j k d : ℕ) → j ≤ k → k < length zs → get_or zs j d ≤ get_or zs k d
   pub all : (p d : ℕ) → low ≤ p → p < high → Passes test hay p → (k : ℕ) × (k < length zs) × (get_or zs k d ≡ p)
 
-module _ (test : ℕ → Bool) (hay : List ℕ) (i high : ℕ) (later : List ℕ) (here : Passes test hay i) (below : i < high) (rest : AreListed test hay (i + 1) high later) where
-  cons-each : (k d : ℕ) → k < length (i ∷ later) → (i ≤ get_or (i ∷ later) k d) × (get_or (i ∷ later) k d < high) × Passes test hay (get_or (i ∷ later) k d)
+module _ (test : ℕ → Bool) (hay : List ℕ) (i high : ℕ) (later : List ℕ) (here : Passes test hay i) (below : i < high)
+    (rest : AreListed test hay (i + 1) high later) where
+  cons-each : (k d : ℕ) → k < length (i ∷ later) → (i ≤ get_or (i ∷ later) k d) × (get_or (i ∷ later) k d < high)
+      × Passes test hay (get_or (i ∷ later) k d)
   cons-each zero d lt = (omega arith, below, here)
-  cons-each (suc k) d lt = let was = rest.each k d (omega arith) in let low : i + 1 ≤ get_or later k d = was.0 in (omega arith, was.1, was.2)
+  cons-each (suc k) d lt = let was = rest.each k d (omega arith) in let low : i + 1 ≤ get_or later k d = was.0 in
+      (omega arith, was.1, was.2)
 
   cons-rising : (j k d : ℕ) → j ≤ k → k < length (i ∷ later) → get_or (i ∷ later) j d ≤ get_or (i ∷ later) k d
   cons-rising zero k d le lt = (cons-each k d lt).0
@@ -32,14 +35,16 @@ module _ (test : ℕ → Bool) (hay : List ℕ) (i high : ℕ) (later : List ℕ
   cons-all : (p d : ℕ) → i ≤ p → p < high → Passes test hay p → (k : ℕ) × (k < length (i ∷ later)) × (get_or (i ∷ later) k d ≡ p)
   cons-all p d from to passes =
       ⊎_elim
-      (λ (more : i < p). let found = rest.all p d (omega arith) to passes in let lt : found.0 < length later = found.1 in (suc found.0, omega arith, found.2))
+      (λ (more : i < p). let found = rest.all p d (omega arith) to passes in let lt : found.0 < length later = found.1 in
+      (suc found.0, omega arith, found.2))
       (λ (less : p ≤ i). (zero, omega arith, omega arith))
       (cases_lt i p)
 
   cons-listed : AreListed test hay i high (i ∷ later)
   cons-listed = record { each = cons-each; rising = cons-rising; all = cons-all }
 
-skip-listed : (test : ℕ → Bool) (hay : List ℕ) (i high : ℕ) (later : List ℕ) → (Passes test hay i → ⊥) → AreListed test hay (i + 1) high later → AreListed test hay i high later
+skip-listed : (test : ℕ → Bool) (hay : List ℕ) (i high : ℕ) (later : List ℕ) → (Passes test hay i → ⊥) →
+    AreListed test hay (i + 1) high later → AreListed test hay i high later
 skip-listed test hay i high later fails rest = record {
   each = λ k d lt. let was = rest.each k d lt in let low : i + 1 ≤ get_or later k d = was.0 in (omega arith, was.1, was.2);
   rising = rest.rising;
@@ -50,7 +55,8 @@ skip-listed test hay i high later fails rest = record {
       (cases_lt i p);
 }
 
-pub places_from-listed : (test : ℕ → Bool) (hay : List ℕ) (i n high : ℕ) → i + n ≡ high → AreListed test hay i high (places_from test hay i n)
+pub places_from-listed : (test : ℕ → Bool) (hay : List ℕ) (i n high : ℕ) → i + n ≡ high →
+    AreListed test hay i high (places_from test hay i n)
 unfolding places_from
 places_from-listed test hay i zero high e = record {
   each = λ k d lt. absurd (omega arith);
@@ -62,16 +68,20 @@ places_from-listed test hay i (suc n) high e =
     let rest = places_from-listed test hay (i + 1) n high (omega arith) in
     let Listed : List ℕ → Type 0 = AreListed test hay i high in
     ⊎_elim
-    (λ (yes : test (get_or hay i 0) ≡ true). subst Listed (sym (cond-true _ _ _ yes)) (cons-listed test hay i high later yes (omega arith) rest))
-    (λ (no : test (get_or hay i 0) ≡ false). subst Listed (sym (cond-false _ _ _ no)) (skip-listed test hay i high later (λ yes. let never : false ≡ true = sym no ∙ yes in cc) rest))
+    (λ (yes : test (get_or hay i 0) ≡ true). subst Listed (sym (cond-true _ _ _ yes))
+    (cons-listed test hay i high later yes (omega arith) rest))
+    (λ (no : test (get_or hay i 0) ≡ false). subst Listed (sym (cond-false _ _ _ no))
+    (skip-listed test hay i high later (λ yes. let never : false ≡ true = sym no ∙ yes in cc) rest))
     (cases_Bool (test (get_or hay i 0)))
 
 pub places-listed : (table : List ℕ) → AreListed (is_byte 0) table 0 (length table) (places (is_byte 0) table)
 places-listed table = places_from-listed (is_byte 0) table 0 (length table - 0) (length table) (omega arith)
 
 -- the least zero byte at or after an index is the first that is listed so
-module _ (table zs : List ℕ) (listed : AreListed (is_byte 0) table 0 (length table) zs) (index next : ℕ) (before : (k : ℕ) → k < next → k < length zs → get_or zs k 0 < index) where
-  no_zero : (end : ℕ) → (next < length zs → end ≤ get_or zs next 0) → (place : ℕ) → index ≤ place → place < length table → place < end → get_or table place 0 ≢ 0
+module _ (table zs : List ℕ) (listed : AreListed (is_byte 0) table 0 (length table) zs) (index next : ℕ)
+    (before : (k : ℕ) → k < next → k < length zs → get_or zs k 0 < index) where
+  no_zero : (end : ℕ) → (next < length zs → end ≤ get_or zs next 0) → (place : ℕ) → index ≤ place → place < length table → place < end →
+      get_or table place 0 ≢ 0
   no_zero end up place from within to is =
       let found = listed.all place 0 (omega arith) within (eq-eqb _ _ is) in
       let lt : found.0 < length zs = found.1 in
@@ -109,7 +119,8 @@ text_byte b other = elim (eqb_tells b 0) [ inl same ↦ absurd (other same.1) | 
 end_byte : (b : ℕ) → b ≡ 0 → not (b == 0) ≡ false
 end_byte b same = ap not (eq-eqb b 0 same)
 
-pub text_of-end : (table : List ℕ) (index end : ℕ) → IsTextEnd table index end → index ≤ end → take (end - index) (drop index table) ≡ text_of table index
+pub text_of-end : (table : List ℕ) (index end : ℕ) → IsTextEnd table index end → index ≤ end →
+    take (end - index) (drop index table) ≡ text_of table index
 text_of-end table index end is le =
     let size : length (drop index table) ≡ length table - index = length-drop index table in
     let within : end ≤ length table = is.within in
@@ -120,7 +131,8 @@ text_of-end table index end is le =
     (end - index)
     0
     (omega arith)
-    (λ k lt. text_byte (get_or (drop index table) k 0) (λ zero. is.none (index + k) (omega arith) (omega arith) (sym (get_or-drop index table k 0) ∙ zero)))
+    (λ k lt. text_byte (get_or (drop index table) k 0)
+    (λ zero. is.none (index + k) (omega arith) (omega arith) (sym (get_or-drop index table k 0) ∙ zero)))
     (λ lt.
     let place : index + (end - index) ≡ end = omega arith in
     end_byte
@@ -144,7 +156,8 @@ zeros-partitioned table zs index same =
     let listed = zeros-listed table zs same in
     IsPartitionedBy-ltb (λ z. z) zs index (λ i j d le lt. listed.rising i j d le lt)
 
-module _ (table zs : List ℕ) (index next : ℕ) (same : zs ≡ places (is_byte 0) table) (point : IsPartitionPoint (λ z. ltb z index ≡ true) (λ z. ltb z index ≡ false) zs next) where
+module _ (table zs : List ℕ) (index next : ℕ) (same : zs ≡ places (is_byte 0) table)
+    (point : IsPartitionPoint (λ z. ltb z index ≡ true) (λ z. ltb z index ≡ false) zs next) where
   before_next : (k : ℕ) → k < next → k < length zs → get_or zs k 0 < index
   before_next k lt within = ltb-true _ _ (point.0 k 0 (omega arith) lt)
 

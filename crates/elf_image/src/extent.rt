@@ -88,7 +88,8 @@ pub fn reaches_of(alloc: Global, extents: &[Extent]) -> Result<Vec<Extent>, NoMe
     requires { IsNonDecreasingBy (λ s. s.start) extents.now }
     ensures rising { IfOk result (λ reaches. IsNonDecreasingBy (λ s. s.start) reaches.items) }
     ensures growing { IfOk result (λ reaches. IsNonDecreasingBy (λ s. s.end) reaches.items) }
-    ensures covered { IfOk result (λ reaches. (a e : ℕ) → a < e → IsInOneExtent reaches.items a e ↔ IsInOneExtent extents.now a e) }
+    ensures covered { IfOk result
+        (λ reaches. (a e : ℕ) → a < e → IsInOneExtent reaches.items a e ↔ IsInOneExtent extents.now a e) }
 {
     let mut reaches = Vec::new(alloc);
     let mut reach = 0;

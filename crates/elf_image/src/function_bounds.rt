@@ -12,7 +12,8 @@ use std::alloc::Global;
 /// code. An end of 2^64 or more is none.
 pub fn cuts(alloc: Global, elf: &Elf) -> Result<Vec<u64>, NoMemory>
     ensures ascending { IfOk result (λ cuts. IsStrictlyIncreasing cuts.items) }
-    ensures exact { IfOk result (λ cuts. (a : ℕ) → Contains cuts.items a ↔ IsCutAddress elf.now.symbols.items elf.now.sections.items a) }
+    ensures exact { IfOk result
+        (λ cuts. (a : ℕ) → Contains cuts.items a ↔ IsCutAddress elf.now.symbols.items elf.now.sections.items a) }
 {
     let mut cuts = Vec::new(alloc);
     push_symbol_bounds(&mut cuts, &elf.symbols)?;

@@ -90,7 +90,8 @@ fn count_up_to(segments: &[Segment], address: u64) -> usize
     requires { IsNonDecreasingBy (λ p. p.vaddr) segments.now }
     ensures bound { result ≤ length segments.now }
     ensures below { (k : ℕ) (d : Segment) → k < result → (slice_index_or segments.now k d).vaddr ≤ address }
-    ensures above { (k : ℕ) (d : Segment) → result ≤ k → k < length segments.now → address < (slice_index_or segments.now k d).vaddr }
+    ensures above { (k : ℕ) (d : Segment) → result ≤ k → k < length segments.now →
+        address < (slice_index_or segments.now k d).vaddr }
 {
     segments.partition_point(|p| p.vaddr <= address)
 }

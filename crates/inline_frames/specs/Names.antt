@@ -35,7 +35,8 @@ unit_of_entry s e = find (λ (u : Unit). u.place == e.unit) (units s.units)
 abbrev pub text_of_index : NameSections → Entry → ℕ → Option (List ℕ)
 text_of_index s e index =
     option_and_then
-    (λ u. option_and_then (λ b. option_and_then (text_in s.str) (number_in 4 (b + 4 * index) s.str_offsets)) (base DW_AT_str_offsets_base u))
+    (λ u. option_and_then (λ b. option_and_then (text_in s.str) (number_in 4 (b + 4 * index) s.str_offsets))
+    (base DW_AT_str_offsets_base u))
     (unit_of_entry s e)
 
 abbrev pub text_of : NameSections → Entry → Attr → Option (List ℕ)

@@ -32,7 +32,8 @@ pub data Value : Type 0 where
 -- by its form: numbers are those of forms without a sign
 abbrev pub value_of : ℕ → ℕ → List ℕ → Value
 value_of form n left =
-    if form == DW_FORM_data1 || form == DW_FORM_data2 || form == DW_FORM_data4 || form == DW_FORM_data8 || form == DW_FORM_udata then Number n
+    if form == DW_FORM_data1 || form == DW_FORM_data2 || form == DW_FORM_data4 || form == DW_FORM_data8
+    || form == DW_FORM_udata then Number n
     else (if form == DW_FORM_strp then AtStr n
     else (if form == DW_FORM_line_strp then AtLineStr n
     else (if form == DW_FORM_string then text (text_at left) else Other)))

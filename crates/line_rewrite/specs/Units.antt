@@ -37,7 +37,8 @@ header_in strings bytes = do
   directories ← table_at strings lengths.1
   files ← table_at strings directories.1
   when
-      (maximum.0 == 1 && nat_lt 0 range.0 && nat_lt 0 opcodes.0 && list_all (λ f. nat_lt f.directory (length directories.0)) files.0)
+      (maximum.0 == 1 && nat_lt 0 range.0 && nat_lt 0 opcodes.0
+      && list_all (λ f. nat_lt f.directory (length directories.0)) files.0)
       (record {
         coding = record {
           minimum_instruction_length = minimum.0;

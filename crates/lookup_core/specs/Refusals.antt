@@ -20,7 +20,8 @@ FaultRelation = FaultKind → ℕ → Type 0
 -- Lengths of files are looked at first, then faults by their numbers, then whether there is room, and last the limits
 -- of what was found. Which lengths and limits these are depends on the command. A want of room has two numbers besides
 -- its place.
-pub data IsAnsweredOf (Lengths Numbered : FaultRelation) (IsNoRoom : Fault → Type 0) (Limits : FaultRelation) (fault : Fault) : Type 0 where
+pub data IsAnsweredOf (Lengths Numbered : FaultRelation) (IsNoRoom : Fault → Type 0) (Limits : FaultRelation)
+    (fault : Fault) : Type 0 where
   by_length : IsAnswered Lengths fault → IsAnsweredOf Lengths Numbered IsNoRoom Limits fault
   by_number : IsFree Lengths → IsAnswered Numbered fault → IsAnsweredOf Lengths Numbered IsNoRoom Limits fault
   by_room : IsFree Lengths → IsFree Numbered → IsNoRoom fault → IsAnsweredOf Lengths Numbered IsNoRoom Limits fault

@@ -62,7 +62,8 @@ range_places s = let p = unit_places s.units in record {
   high = p.high;
   bad =
       option_or
-      (first_place (λ w. is_bad s.units w || has_bad_offset ranges_kind s.ranges (unit_of s.units.abbrevs w)) (walked 5 s.units.info))
+      (first_place (λ w. is_bad s.units w || has_bad_offset ranges_kind s.ranges (unit_of s.units.abbrevs w))
+      (walked 5 s.units.info))
       (option_or (bad_address_table s.units.addr) (bad_table ranges_kind s.ranges s.units));
 }
 
@@ -77,5 +78,6 @@ location_places s = let p = unit_places s.units in record {
   form = p.form;
   high = p.high;
   bad = option_or (first_place (λ w. is_bad s.units w || has_bad_offsets s w) (walked 5 s.units.info))
-      (option_or (bad_address_table s.units.addr) (option_or (bad_table ranges_kind s.ranges s.units) (bad_table locations_kind s.locations s.units)));
+      (option_or (bad_address_table s.units.addr)
+      (option_or (bad_table ranges_kind s.ranges s.units) (bad_table locations_kind s.locations s.units)));
 }

@@ -18,7 +18,8 @@ up_to low a = record { low = low; high = if a.form == DW_FORM_addr then a.value 
 abbrev pub ranges_of : ListSections → Unit → Entry → Option (List Range)
 ranges_of s u e = option_or
     (option_and_then (λ high. option_map (λ low. up_to low high ∷ []) (low_pc s.units.addr u e)) (attr DW_AT_high_pc e))
-    (option_and_then (λ a. option_map (filter_map (λ (l : Located). l.range)) (list_of ranges_kind s.ranges s.units.addr u a)) (attr DW_AT_ranges e))
+    (option_and_then (λ a. option_map (filter_map (λ (l : Located). l.range)) (list_of ranges_kind s.ranges s.units.addr u a))
+    (attr DW_AT_ranges e))
 
 -- an entry with its own ranges, and those of the nearest entry that has some: itself or one that it lies in
 pub record Ranged : Type 0 where

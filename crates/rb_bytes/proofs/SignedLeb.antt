@@ -26,13 +26,15 @@ mag-below-lt low m (pos n) h lt = omega arith
 mag-below-lt low m (negsuc n) h lt = rw (below_neg low n h) (omega arith)
 
 -- the value of bytes that are not all
-sleb_value-drop-le : (i byte : ℕ) (bytes : List ℕ) → i ≤ length bytes → mag (sleb_value (drop i (byte ∷ bytes))) ≤ mag (sleb_from byte bytes)
+sleb_value-drop-le : (i byte : ℕ) (bytes : List ℕ) → i ≤ length bytes →
+    mag (sleb_value (drop i (byte ∷ bytes))) ≤ mag (sleb_from byte bytes)
 sleb_value-drop-le zero byte bytes h = omega arith
 sleb_value-drop-le (suc i) byte [] h = absurd (omega arith)
 sleb_value-drop-le (suc i) byte (next ∷ bytes) h =
     omega (arith, sleb_value-drop-le i next bytes (omega arith), mag-below-ge (byte % 128) (sleb_from next bytes) (omega arith))
 
-sleb_value-drop-mul-le : (i byte : ℕ) (bytes : List ℕ) → 0 < i → i ≤ length bytes → 128 * mag (sleb_value (drop i (byte ∷ bytes))) ≤ mag (sleb_from byte bytes)
+sleb_value-drop-mul-le : (i byte : ℕ) (bytes : List ℕ) → 0 < i → i ≤ length bytes →
+    128 * mag (sleb_value (drop i (byte ∷ bytes))) ≤ mag (sleb_from byte bytes)
 sleb_value-drop-mul-le zero byte bytes p h = absurd (omega arith)
 sleb_value-drop-mul-le (suc i) byte [] p h = absurd (omega arith)
 sleb_value-drop-mul-le (suc i) byte (next ∷ bytes) p h =
@@ -45,7 +47,8 @@ fits-shifted z lt =
     record { sfits = shifted }
 
 -- a number that seven bits more make too large for 64 bits
-pub sleb_value-too_large : (i : ℕ) (bytes : List ℕ) → 0 < i → i < length bytes → (FitsSigned w64 (sleb_value (drop i bytes) *ℤ pos 128) → ⊥) → FitsSigned w64 (sleb_value bytes) → ⊥
+pub sleb_value-too_large : (i : ℕ) (bytes : List ℕ) → 0 < i → i < length bytes →
+    (FitsSigned w64 (sleb_value (drop i bytes) *ℤ pos 128) → ⊥) → FitsSigned w64 (sleb_value bytes) → ⊥
 sleb_value-too_large i [] p h large fits = absurd (omega arith)
 sleb_value-too_large i (byte ∷ bytes) p h large fits =
     let z = sleb_value (drop i (byte ∷ bytes)) in
@@ -73,7 +76,12 @@ signed_bits-mag-lt byte = elim (cases_lt (byte % 128) 64) [
 sleb_from-mag-lt : (byte : ℕ) (bytes : List ℕ) → mag (sleb_from byte bytes) < 64 * 128 ^ length bytes
 sleb_from-mag-lt byte [] = omega (arith, signed_bits-mag-lt byte, pow-zero 128)
 sleb_from-mag-lt byte (next ∷ bytes) =
-    omega (arith, mag-below-lt (byte % 128) (64 * 128 ^ length bytes) (sleb_from next bytes) (omega arith) (sleb_from-mag-lt next bytes), pow-succ' 128 (length bytes))
+    omega (
+      arith,
+      mag-below-lt (byte % 128) (64 * 128 ^ length bytes) (sleb_from next bytes) (omega arith)
+          (sleb_from-mag-lt next bytes),
+      pow-succ' 128 (length bytes),
+    )
 
 sleb_value-mag-lt : (bytes : List ℕ) → 0 < length bytes → mag (sleb_value bytes) < 64 * 128 ^ (length bytes - 1)
 sleb_value-mag-lt [] h = absurd (omega arith)
@@ -134,7 +142,8 @@ length-sleb_within-le (suc k) (suc j) z lt = elim (cases_lt (mag z) 64) [
 sleb_within-more : (k : ℕ) (z : ℤ) → mag z < 64 * 128 ^ k → sleb_within (suc k) z ≡ sleb_within k z
 sleb_within-more zero z lt = let small : mag z < 64 = omega arith in sleb_within-last (suc zero) z (fits_seven_bits-true z small)
 sleb_within-more (suc k) z lt = elim (cases_lt (mag z) 64) [
-  | inl small ↦ sleb_within-last (suc (suc k)) z (fits_seven_bits-true z small) ∙ sym (sleb_within-last (suc k) z (fits_seven_bits-true z small))
+  | inl small ↦ sleb_within-last (suc (suc k)) z (fits_seven_bits-true z small)
+      ∙ sym (sleb_within-last (suc k) z (fits_seven_bits-true z small))
   | inr ge ↦ let e = fits_seven_bits-false z ge in
       sleb_within-next (suc k) z e
       ∙ ap (λ bytes. (low_bits z + 128) ∷ bytes) (sleb_within-more k (high_bits z) (rw (mag-high_bits z) (quotient-lt k (mag z) lt)))
@@ -191,14 +200,16 @@ fits_i64-true (pos n) lt = grind arith
 fits_i64-true (negsuc n) lt = grind arith
 
 -- the number at the front of `spelling ++ rest` is `spelling`
-sleb_at-append : (z : ℤ) (spelling rest : List ℕ) → leb_length (spelling ++ rest) ≡ length spelling → sleb_value spelling ≡ z → fits_i64 z ≡ true → sleb_at (spelling ++ rest) ≡ Ok (z, rest)
+sleb_at-append : (z : ℤ) (spelling rest : List ℕ) → leb_length (spelling ++ rest) ≡ length spelling → sleb_value spelling ≡ z →
+    fits_i64 z ≡ true → sleb_at (spelling ++ rest) ≡ Ok (z, rest)
 sleb_at-append z spelling rest e value fits =
     let enough : length spelling ≤ length (spelling ++ rest) = omega (arith, length-append spelling rest) in
     let long : nat_lt (length (spelling ++ rest)) (length spelling) ≡ false = grind arith in
     rw (e, take_at spelling rest _ refl, drop_at spelling rest _ refl, value, fits, long) refl
 
 -- what an answer says
-sleb_at-ok : (z : ℤ) (bytes rest : List ℕ) → sleb_at bytes ≡ Ok (z, rest) → (leb_length bytes ≤ length bytes) × (sleb_value (take (leb_length bytes) bytes) ≡ z) × (drop (leb_length bytes) bytes ≡ rest)
+sleb_at-ok : (z : ℤ) (bytes rest : List ℕ) → sleb_at bytes ≡ Ok (z, rest) → (leb_length bytes ≤ length bytes)
+    × (sleb_value (take (leb_length bytes) bytes) ≡ z) × (drop (leb_length bytes) bytes ≡ rest)
 sleb_at-ok z bytes rest e =
     let k = leb_length bytes in let value = sleb_value (take k bytes) in
     let p = ok_from_tests (nat_lt (length bytes) k) (fits_i64 value) (value, drop k bytes) (z, rest) Short Wide e in
@@ -206,7 +217,8 @@ sleb_at-ok z bytes rest e =
     (grind (arith, common_steps), ap (λ q. q.0) p.1, ap (λ q. q.1) p.1)
 
 -- a number that k bytes are read as takes no more than k bytes
-sleb_within-le-read : (j k : ℕ) (z : ℤ) (bytes rest : List ℕ) → 0 < k → k ≤ length bytes → sleb_value (take k bytes) ≡ z → drop k bytes ≡ rest → length (sleb_within j z) + length rest ≤ length bytes
+sleb_within-le-read : (j k : ℕ) (z : ℤ) (bytes rest : List ℕ) → 0 < k → k ≤ length bytes → sleb_value (take k bytes) ≡ z →
+    drop k bytes ≡ rest → length (sleb_within j z) + length rest ≤ length bytes
 sleb_within-le-read j k z bytes rest h enough value e =
     let taken : length (take k bytes) ≡ k = simp length-take (omega arith) in
     let some : 0 < length (take k bytes) = omega arith in

@@ -39,7 +39,8 @@ length-uleb_within-le : (k j n : ℕ) → 0 < j → n < 128 ^ j → length (uleb
 length-uleb_within-le zero j n h lt = omega arith
 length-uleb_within-le (suc k) zero n h lt = absurd (omega arith)
 length-uleb_within-le (suc k) (suc zero) n h lt = let small : n < 128 = omega arith in grind arith
-length-uleb_within-le (suc k) (suc (suc j)) n h lt = let ih = length-uleb_within-le k (suc j) (n / 128) (omega arith) (quotient-lt (suc j) n lt) in grind arith
+length-uleb_within-le (suc k) (suc (suc j)) n h lt =
+    let ih = length-uleb_within-le k (suc j) (n / 128) (omega arith) (quotient-lt (suc j) n lt) in grind arith
 
 -- the spelling, byte by byte
 
@@ -79,12 +80,14 @@ length-uleb-pos n = length-uleb_within-pos 9 n
 -- reading
 
 -- the number at the front of `spelling ++ rest` is `spelling`
-uleb_at-append : (spelling rest : List ℕ) → leb_length (spelling ++ rest) ≡ length spelling → uleb_value spelling < 2 ^ 64 → uleb_at (spelling ++ rest) ≡ Ok (uleb_value spelling, rest)
+uleb_at-append : (spelling rest : List ℕ) → leb_length (spelling ++ rest) ≡ length spelling → uleb_value spelling < 2 ^ 64 →
+    uleb_at (spelling ++ rest) ≡ Ok (uleb_value spelling, rest)
 uleb_at-append spelling rest e lt =
     let enough : length spelling ≤ length (spelling ++ rest) = omega (arith, length-append spelling rest) in
     rw (e, take_at spelling rest _ refl, drop_at spelling rest _ refl) (grind arith)
 
-uleb_at-ok : (n : ℕ) (bytes rest : List ℕ) → uleb_at bytes ≡ Ok (n, rest) → (leb_length bytes ≤ length bytes) × (uleb_value (take (leb_length bytes) bytes) ≡ n) × (drop (leb_length bytes) bytes ≡ rest)
+uleb_at-ok : (n : ℕ) (bytes rest : List ℕ) → uleb_at bytes ≡ Ok (n, rest) → (leb_length bytes ≤ length bytes)
+    × (uleb_value (take (leb_length bytes) bytes) ≡ n) × (drop (leb_length bytes) bytes ≡ rest)
 uleb_at-ok n bytes rest e =
     let k = leb_length bytes in let value = uleb_value (take k bytes) in
     let p = ok_from_tests (nat_lt (length bytes) k) (nat_lt value (2 ^ 64)) (value, drop k bytes) (n, rest) Short Wide e in
@@ -92,7 +95,8 @@ uleb_at-ok n bytes rest e =
     (grind (arith, common_steps), ap (λ q. q.0) p.1, ap (λ q. q.1) p.1)
 
 -- a number that k bytes are read as takes no more than k bytes
-uleb_within-le-read : (j k n : ℕ) (bytes rest : List ℕ) → 0 < k → k ≤ length bytes → uleb_value (take k bytes) ≡ n → drop k bytes ≡ rest → length (uleb_within j n) + length rest ≤ length bytes
+uleb_within-le-read : (j k n : ℕ) (bytes rest : List ℕ) → 0 < k → k ≤ length bytes → uleb_value (take k bytes) ≡ n →
+    drop k bytes ≡ rest → length (uleb_within j n) + length rest ≤ length bytes
 uleb_within-le-read j k n bytes rest h enough value e =
     let taken : length (take k bytes) ≡ k = simp length-take (omega arith) in
     let lt : n < 128 ^ k = rw (taken, value) at (uleb_value-lt (take k bytes)) in

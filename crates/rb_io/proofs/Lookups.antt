@@ -22,17 +22,21 @@ same_bytes : (xs ys : List ℕ) → bytes_eq xs ys ≡ true → xs ≡ ys
 same_bytes xs ys test = search (rules, bytes_eq-Decides)
 
 -- another name has what it had
-pub get_by_text-others : {Y X : Type 0} (m n : BTreeMap (String Y) X) (w : Option X) (bs : List ℕ) → ChangesAt bs m n w → (cs : List ℕ) → cs ≢ bs → get_by_text n cs ≡ get_by_text m cs
+pub get_by_text-others : {Y X : Type 0} (m n : BTreeMap (String Y) X) (w : Option X) (bs : List ℕ) → ChangesAt bs m n w → (cs : List ℕ) →
+    cs ≢ bs → get_by_text n cs ≡ get_by_text m cs
 get_by_text-others m n w bs changed cs apart =
-    btree_map_updates_text bs m n w changed cs ∙ cond-false _ _ _ (false_from_ne_true (bytes_eq bs cs) (λ test. apart (sym (same_bytes bs cs test))))
+    btree_map_updates_text bs m n w changed cs
+    ∙ cond-false _ _ _ (false_from_ne_true (bytes_eq bs cs) (λ test. apart (sym (same_bytes bs cs test))))
 
 -- a part of what a name has, if the change keeps it, is kept for each name
-pub get_by_text-part : {Y X A : Type 0} (part : Option X → A) (m n : BTreeMap (String Y) X) (w : Option X) (bs : List ℕ) → ChangesAt bs m n w → part w ≡ part (get_by_text m bs) → (cs : List ℕ) → part (get_by_text n cs) ≡ part (get_by_text m cs)
+pub get_by_text-part : {Y X A : Type 0} (part : Option X → A) (m n : BTreeMap (String Y) X) (w : Option X) (bs : List ℕ) →
+    ChangesAt bs m n w → part w ≡ part (get_by_text m bs) → (cs : List ℕ) → part (get_by_text n cs) ≡ part (get_by_text m cs)
 get_by_text-part {Y = Y} {X = X} {A = A} part m n w bs changed same cs = by_test (bytes_eq bs cs) refl
   where
     by_test : (b : Bool) → bytes_eq bs cs ≡ b → part (get_by_text n cs) ≡ part (get_by_text m cs)
     by_test true test =
-        ap part (btree_map_updates_text bs m n w changed cs ∙ cond-true _ _ _ test) ∙ same ∙ ap (λ name. part (get_by_text m name)) (same_bytes bs cs test)
+        ap part (btree_map_updates_text bs m n w changed cs ∙ cond-true _ _ _ test) ∙ same
+        ∙ ap (λ name. part (get_by_text m name)) (same_bytes bs cs test)
     by_test false test = ap part (btree_map_updates_text bs m n w changed cs ∙ cond-false _ _ _ test)
 
 -- a name with no room has no content

@@ -3,6 +3,8 @@ use Rattle.std.proofs.Common.{◌≡◌, ◌+◌, ◌∙◌, sym, ap, ℕ, List,
 use Rattle.std.proofs.lemmas.List.{take-append-drop, drop-drop}
 
 -- what is left begins with the next n bytes, and what is left after them follows
-pub drop-take-drop : (place n : ℕ) (bytes piece : List ℕ) → piece ≡ take n (drop place bytes) → drop place bytes ≡ piece ++ drop (place + n) bytes
+pub drop-take-drop : (place n : ℕ) (bytes piece : List ℕ) → piece ≡ take n (drop place bytes) → drop place bytes ≡ piece
+    ++ drop (place + n) bytes
 drop-take-drop place n bytes piece same =
-    sym (take-append-drop n (drop place bytes)) ∙ ap (λ front. front ++ drop n (drop place bytes)) (sym same) ∙ ap (λ rest. piece ++ rest) (drop-drop n place bytes)
+    sym (take-append-drop n (drop place bytes)) ∙ ap (λ front. front ++ drop n (drop place bytes)) (sym same)
+    ∙ ap (λ rest. piece ++ rest) (drop-drop n place bytes)

@@ -37,10 +37,13 @@ pub trait Files {
     ///
     /// A missing name is a read fault. After another answer than `Done`, `into` is empty.
     fn read_all(&mut self, name: &str, limit: usize, into: &mut Vec<u8>) -> ReadAll
-        ensures done { result ≡ ReadAll.Done → IsTrue (seen self.old).told → (seen self.old).content name.now ≡ Some into.new.items }
+        ensures done { result ≡ ReadAll.Done → IsTrue (seen self.old).told →
+            (seen self.old).content name.now ≡ Some into.new.items }
         ensures within_limit { result ≡ ReadAll.Done → length into.new.items ≤ limit }
-        ensures too_long { result ≡ ReadAll.TooLong → IsTrue (seen self.old).told → IsSomeAnd ((seen self.old).content name.now) (λ bytes. limit < length bytes) }
-        ensures failed { result ≡ ReadAll.Failed → Rose ((seen self.old).read_faults name.now) ((seen self.new).read_faults name.now) }
+        ensures too_long { result ≡ ReadAll.TooLong → IsTrue (seen self.old).told →
+            IsSomeAnd ((seen self.old).content name.now) (λ bytes. limit < length bytes) }
+        ensures failed { result ≡ ReadAll.Failed →
+            Rose ((seen self.old).read_faults name.now) ((seen self.new).read_faults name.now) }
         ensures emptied { result ≢ ReadAll.Done → into.new.items ≡ [] }
         ensures contents_kept { Unchanged (seen self.old).content (seen self.new).content }
         ensures goes_on { FilesGoOn (seen self.old) (seen self.new) };
@@ -48,7 +51,8 @@ pub trait Files {
     /// Makes `bytes` the whole content of `name`. After `Failed` that name alone may hold any bytes.
     fn write_all(&mut self, name: &str, bytes: &[u8]) -> Wrote
         ensures done { result ≡ Wrote.Done → IsTrue (seen self.old).told → (seen self.new).content name.now ≡ Some bytes.now }
-        ensures failed { result ≡ Wrote.Failed → Rose ((seen self.old).write_faults name.now) ((seen self.new).write_faults name.now) }
+        ensures failed { result ≡ Wrote.Failed →
+            Rose ((seen self.old).write_faults name.now) ((seen self.new).write_faults name.now) }
         ensures others_kept { UnchangedBut name.now (seen self.old).content (seen self.new).content }
         ensures goes_on { FilesGoOn (seen self.old) (seen self.new) };
 

@@ -32,7 +32,8 @@ impl<R: Read> Source for HostSource<R> {
         ensures failed { result ≡ Got.Failed → Rose self.old.faults self.new.faults }
         ensures never_falls { self.old.faults ≤ self.new.faults }
         // What the stream knows of its bytes is passed on.
-        ensures passed_on { IfBytes result (λ n. Consumes (R.remaining self.old.stream) (R.remaining self.new.stream) (take n buf.new)) }
+        ensures passed_on { IfBytes result
+            (λ n. Consumes (R.remaining self.old.stream) (R.remaining self.new.stream) (take n buf.new)) }
         ensures end { IfBytes result (λ n. n ≡ 0 → 0 < length buf.old → IsAtEnd (R.remaining self.new.stream)) }
         ensures stream_kept { result ≡ Got.Failed → Keeps (R.remaining self.old.stream) (R.remaining self.new.stream) }
     {
@@ -75,7 +76,8 @@ impl<W: Write> Sink for HostSink<W> {
         ensures failed { result ≡ Put.Failed → Rose self.old.faults self.new.faults }
         ensures never_falls { self.old.faults ≤ self.new.faults }
         // What the stream knows of its bytes is passed on.
-        ensures passed_on { IfTook result (λ n. Appends (W.contents self.old.stream) (W.contents self.new.stream) (take n piece.now)) }
+        ensures passed_on { IfTook result
+            (λ n. Appends (W.contents self.old.stream) (W.contents self.new.stream) (take n piece.now)) }
         ensures stream_kept { result ≡ Put.Failed → Keeps (W.contents self.old.stream) (W.contents self.new.stream) }
     {
         if piece.is_empty() {

@@ -60,7 +60,8 @@ impl MemFiles {
     /// A name that the map hasn't is not there for reading until it is written. This call has no number.
     pub fn prepare(&mut self, name: String, room: usize) -> Result<(), NoMemory>
         ensures contents_kept { Unchanged (content self.old) (content self.new) }
-        ensures room { OnOk result (room_for self.new (string_bytes name) ≡ Some (max (unwrap_or (room_for self.old (string_bytes name)) 0) room)) }
+        ensures room { OnOk result
+            (room_for self.new (string_bytes name) ≡ Some (max (unwrap_or (room_for self.old (string_bytes name)) 0) room)) }
         ensures other_rooms { UnchangedBut (string_bytes name) (room_for self.old) (room_for self.new) }
         ensures err { OnErr result (Unchanged (room_for self.old) (room_for self.new)) }
         ensures calls_kept { calls_of self.new ≡ calls_of self.old }

@@ -67,7 +67,8 @@ impl Sink for MemSink {
 
     fn write(&mut self, piece: &[u8]) -> Put
         ensures within { IfTook result (λ n. n ≤ length piece.now) }
-        ensures added { IfTook result (λ n. Some (bytes_taken self.new) ≡ append_known (Some (bytes_taken self.old)) (take n piece.now)) }
+        ensures added { IfTook result
+            (λ n. Some (bytes_taken self.new) ≡ append_known (Some (bytes_taken self.old)) (take n piece.now)) }
         ensures some { IfTook result (λ n. n ≡ 0 → piece.now ≡ []) }
         ensures taken_kept { result ≡ Put.Failed → Some (bytes_taken self.new) ≡ Some (bytes_taken self.old) }
         ensures failed { result ≡ Put.Failed → Rose (calls_of self.old).faults (calls_of self.new).faults }

@@ -43,7 +43,8 @@ impl Source for MemSource {
 
     fn read(&mut self, buf: &mut [u8]) -> Got
         ensures within { IfBytes result (λ n. n ≤ length buf.new) }
-        ensures moved { IfBytes result (λ n. Some (bytes_left self.old) ≡ prepend_known (take n buf.new) (Some (bytes_left self.new))) }
+        ensures moved { IfBytes result
+            (λ n. Some (bytes_left self.old) ≡ prepend_known (take n buf.new) (Some (bytes_left self.new))) }
         ensures end { IfBytes result (λ n. n ≡ 0 → 0 < length buf.old → IsAtEnd (Some (bytes_left self.old))) }
         ensures left_kept { result ≡ Got.Failed → Some (bytes_left self.new) ≡ Some (bytes_left self.old) }
         ensures failed { result ≡ Got.Failed → Rose (calls_of self.old).faults (calls_of self.new).faults }

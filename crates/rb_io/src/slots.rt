@@ -33,7 +33,8 @@ pub(crate) fn make_room(
     room: usize,
 ) -> Result<(), AllocError>
     ensures contents_kept { Unchanged (content_at slots.old) (content_at slots.new) }
-    ensures ok { OnOk result (room_at slots.new (string_bytes name) ≡ Some (max (unwrap_or (room_at slots.old (string_bytes name)) 0) room)) }
+    ensures ok { OnOk result
+        (room_at slots.new (string_bytes name) ≡ Some (max (unwrap_or (room_at slots.old (string_bytes name)) 0) room)) }
     ensures others_kept { UnchangedBut (string_bytes name) (room_at slots.old) (room_at slots.new) }
     ensures err { OnErr result (Unchanged (room_at slots.old) (room_at slots.new)) }
 {

@@ -74,7 +74,8 @@ pub trait AddrTable: Drop {
     fn read(alloc: Global, elf: &Elf) -> Result<Self, Refusal>
     where
         Self: Sized,
-        ensures reads { MatchResult result (λ t. (means elf.now ≡ Some (holds t)) × IsFree (has elf.now)) (λ e. IsRefusalBy (has elf.now) e) }
+        ensures reads { MatchResult result (λ t. (means elf.now ≡ Some (holds t)) × IsFree (has elf.now))
+            (λ e. IsRefusalBy (has elf.now) e) }
         ensures comes { IfOk result (λ t. comes_from t elf.now) };
 
     /// The answer at an address.
@@ -98,7 +99,8 @@ pub trait AddrTable: Drop {
         requires within { IsWithin 0 runs.now (2 ^ 64 - 1) }
         requires answers { (p : ℕ) → option_map said (run_at runs.now p) ≡ carried (holds self.now) map.now p }
         ensures law { IfOk result (λ w. (i f : Elf) → comes_from self.now i → stands i map.now w f →
-            IsCarried (carries map.now) map.now (λ p. option_map said (run_at runs.now p)) (means f) × IsFree (has f) × keeps i f) }
+            IsCarried (carries map.now) map.now (λ p. option_map said (run_at runs.now p)) (means f) × IsFree (has f)
+            × keeps i f) }
         ensures lists { IfOk result (λ w. lists_for self.now w.lists.items) }
         ensures size { IfOk result (λ w. (n : ℕ) → bounds self.now map.now runs.now n → length w.bytes.items ≤ n) };
 }

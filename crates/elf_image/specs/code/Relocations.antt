@@ -138,7 +138,8 @@ abbrev pub is_supported : ℕ → Bool
 is_supported kind =
     is_ignored kind || is_address kind || is_call_pair kind || is_pcrel_hi kind || is_pcrel_lo kind || is_absolute kind
     || is_pc_difference kind || kind == r.R_RISCV_IRELATIVE || (nat_le r.R_RISCV_ADD8 kind && nat_le kind r.R_RISCV_SUB64)
-    || (nat_le r.R_RISCV_SUB6 kind && nat_le kind r.R_RISCV_SET32) || kind == r.R_RISCV_SET_ULEB128 || kind == r.R_RISCV_SUB_ULEB128
+    || (nat_le r.R_RISCV_SUB6 kind && nat_le kind r.R_RISCV_SET32) || kind == r.R_RISCV_SET_ULEB128
+    || kind == r.R_RISCV_SUB_ULEB128
 
 -- a relocation that counts is one of some kind, and applies to an address
 pub record HasRelocation (elf : Elf) (Is : Relocation → Type 0) (place : ℕ) : Type 0 where

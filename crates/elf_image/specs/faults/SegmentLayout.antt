@@ -67,7 +67,8 @@ SharesFileByte file i place =
 abbrev pub IsLowestCodeBelow : List ℕ → ℕ → ℕ → Type 0
 IsLowestCodeBelow file n i =
     IsCode file i
-    × ((j : ℕ) → IsCode file j → j < n → ((segment file i).vaddr < (segment file j).vaddr) ⊎ (((segment file i).vaddr ≡ (segment file j).vaddr) × (i ≤ j)))
+    × ((j : ℕ) → IsCode file j → j < n → ((segment file i).vaddr < (segment file j).vaddr)
+    ⊎ (((segment file i).vaddr ≡ (segment file j).vaddr) × (i ≤ j)))
 
 abbrev pub IsLowestCode : List ℕ → ℕ → Type 0
 IsLowestCode file i = IsLowestCodeBelow file (e_phnum file) i

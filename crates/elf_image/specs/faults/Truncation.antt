@@ -78,7 +78,8 @@ IsUnnamedSymbol file table index place =
 
 abbrev pub IsUnnamedSymbolOf : List ℕ → Option SectionHeader → ℕ → Type 0
 IsUnnamedSymbolOf file None place = ⊥
-IsUnnamedSymbolOf file (Some table) place = HasSymbolNames file table × SomeBelow (symbol_count table) (IsUnnamedSymbol file table) place
+IsUnnamedSymbolOf file (Some table) place =
+    HasSymbolNames file table × SomeBelow (symbol_count table) (IsUnnamedSymbol file table) place
 
 -- what the table of program headers names, and what that of section headers does
 abbrev pub IsTruncatedBySegments : List ℕ → ℕ → Type 0
@@ -93,7 +94,8 @@ IsTruncatedBySections file place =
 -- what is looked at where the header is whole
 abbrev pub IsTruncatedBeyond : List ℕ → ℕ → Type 0
 IsTruncatedBeyond file place =
-    (IsBadHeaderField file place ⊎ IsTruncatedTable file place) ⊎ (IsTruncatedBySegments file place ⊎ IsTruncatedBySections file place)
+    (IsBadHeaderField file place ⊎ IsTruncatedTable file place)
+    ⊎ (IsTruncatedBySegments file place ⊎ IsTruncatedBySections file place)
 
 -- all places
 abbrev pub IsTruncated : List ℕ → ℕ → Type 0
@@ -104,7 +106,8 @@ pub record IsReadable (file : List ℕ) : Type 0 where
   pub header : HasHeader file
   pub segments : HasSegments file
   pub sections : HasSections file
-  pub ranges : (i : ℕ) → i < e_phnum file → (segment file i).kind ≡ PT_LOAD → IsWhole file (segment file i).offset (segment file i).filesz
+  pub ranges : (i : ℕ) → i < e_phnum file → (segment file i).kind ≡ PT_LOAD →
+      IsWhole file (segment file i).offset (segment file i).filesz
   pub contents : (i : ℕ) → i < e_shnum file → HasContents file (section_header file i)
   pub section_names : HasSectionNames file
   pub symbol_names : IfSome (symbol_table file) (HasSymbolNames file)

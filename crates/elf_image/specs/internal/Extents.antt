@@ -26,7 +26,8 @@ MeetsAnother extents k =
 
 -- the range of an index meets the next
 abbrev pub MeetsNext : List Extent → ℕ → Type 0
-MeetsNext extents k = (k + 1 < length extents) × ((d : Extent) → (slice_index_or extents (k + 1) d).start < (slice_index_or extents k d).end)
+MeetsNext extents k =
+    (k + 1 < length extents) × ((d : Extent) → (slice_index_or extents (k + 1) d).start < (slice_index_or extents k d).end)
 
 -- the greatest end of the ranges below an index, 0 where there is none
 pub record IsReach (extents : List Extent) (k reach : ℕ) : Type 0 where

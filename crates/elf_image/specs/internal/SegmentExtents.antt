@@ -14,7 +14,8 @@ IsAddressExtent file i s =
 abbrev pub IsFileExtent : List ℕ → ℕ → Extent → Type 0
 IsFileExtent file i s =
     let p = segment file i in
-    IsTrue (is_load p) × (s.start ≡ p.offset) × (s.end ≡ p.offset + p.filesz) × (s.start < s.end) × (s.place ≡ segment_place file i)
+    IsTrue (is_load p) × (s.start ≡ p.offset) × (s.end ≡ p.offset + p.filesz) × (s.start < s.end)
+    × (s.place ≡ segment_place file i)
 
 abbrev pub IsCodeExtent : List ℕ → ℕ → Extent → Type 0
 IsCodeExtent file i s = IsTrue (is_code_segment (segment file i)) × IsAddressExtent file i s

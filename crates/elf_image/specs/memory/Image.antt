@@ -23,7 +23,8 @@ has_memory p = is_load p && nat_lt 0 p.memsz
 
 -- no address is loaded by two segments that differ
 abbrev pub LoadOnce : List Segment → Type 0
-LoadOnce segments = (a : ℕ) (p q : Segment) → Contains segments p → Contains segments q → IsTrue (loads_address a p) → IsTrue (loads_address a q) → p ≡ q
+LoadOnce segments = (a : ℕ) (p q : Segment) → Contains segments p → Contains segments q → IsTrue (loads_address a p) →
+    IsTrue (loads_address a q) → p ≡ q
 
 -- the segment that loads an address
 abbrev pub segment_of : List Segment → ℕ → Option Segment

@@ -37,7 +37,8 @@ break_room = 64 * 2 ^ 20
 
 -- the pages on which the segments above start
 abbrev pub pages_above : List Segment → List ℕ
-pages_above segments = map (λ p. rounded_down page_size p.vaddr) (filter (λ p. has_memory p && nat_le (writable_end segments) p.vaddr) segments)
+pages_above segments =
+    map (λ p. rounded_down page_size p.vaddr) (filter (λ p. has_memory p && nat_le (writable_end segments) p.vaddr) segments)
 
 -- It ends below the next segment, and never before its start. Without a writable segment it stays 0.
 abbrev pub break_bound : List Segment → ℕ
@@ -96,7 +97,8 @@ auxiliary_vector file =
 -- and of environment variables, and the auxiliary vector
 abbrev pub stack_entries : List ℕ → List (List ℕ) → List ℕ
 stack_entries file words =
-    length (program_arguments words) ∷ text_addresses (texts_address words) (program_arguments words) ++ 0 ∷ 0 ∷ auxiliary_vector file
+    length (program_arguments words) ∷ text_addresses (texts_address words) (program_arguments words)
+    ++ 0 ∷ 0 ∷ auxiliary_vector file
 
 -- they begin at a multiple of 16
 abbrev pub stack_pointer : List (List ℕ) → ℕ
@@ -108,11 +110,13 @@ start_bytes file words = flat_map (low_bytes 8) (stack_entries file words)
 -- the bytes from the stack pointer to the stack's end
 abbrev pub stack_bytes : List ℕ → List (List ℕ) → List ℕ
 stack_bytes file words =
-    start_bytes file words ++ replicate (texts_address words - stack_pointer words - length (start_bytes file words)) 0 ++ texts words ++ random_bytes
+    start_bytes file words ++ replicate (texts_address words - stack_pointer words - length (start_bytes file words)) 0
+    ++ texts words ++ random_bytes
 
 -- the byte at an address of the stack
 abbrev pub stack_byte : List ℕ → List (List ℕ) → ℕ → ℕ
-stack_byte file words a = if nat_le (stack_pointer words) a then slice_index (stack_bytes file words) (a - stack_pointer words) else 0
+stack_byte file words a =
+    if nat_le (stack_pointer words) a then slice_index (stack_bytes file words) (a - stack_pointer words) else 0
 
 -- The state before the first step.
 

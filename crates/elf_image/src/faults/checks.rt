@@ -110,7 +110,8 @@ pub fn lowest_high_address(segments: SegmentTable) -> Option<u64>
 
 /// The index of the first compressed section.
 pub fn lowest_compressed(sections: &[Section]) -> Option<u64>
-    ensures { (file : List ℕ) → AreSections file (e_shnum file) sections.now → IsLowest (HasFault file fault.CompressedSection) result }
+    ensures { (file : List ℕ) → AreSections file (e_shnum file) sections.now →
+        IsLowest (HasFault file fault.CompressedSection) result }
 {
     for (index, section) in sections.iter().enumerate() {
         if section.is_compressed() {

@@ -189,7 +189,9 @@ fn lower_code(segments: SegmentTable, lowest: u16, index: u16) -> u16
 fn is_lower_code(segments: SegmentTable, index: u16, other: u16) -> bool
     requires index { index < e_phnum segments.file.now }
     requires other { other < e_phnum segments.file.now }
-    ensures { IsTrue result ↔ (IsCode segments.entry.file.now index × ((segment segments.entry.file.now index).vaddr < (segment segments.entry.file.now other).vaddr)) }
+    ensures { IsTrue result
+        ↔ (IsCode segments.entry.file.now index
+        × ((segment segments.entry.file.now index).vaddr < (segment segments.entry.file.now other).vaddr)) }
 {
     let segment = segments.segment_of(index);
     segment.is_code() && segment.vaddr < segments.segment_of(other).vaddr
@@ -205,7 +207,8 @@ fn crosses_end(segments: SegmentTable, code: u16, offset: u64, size: u64) -> boo
 
 // The same of a segment's bytes.
 fn crosses(segment: &Segment, offset: u64, size: u64) -> bool
-    ensures { IsTrue result ↔ ((offset < segment.now.offset + segment.now.filesz) × (segment.now.offset + segment.now.filesz < offset + size)) }
+    ensures { IsTrue result
+        ↔ ((offset < segment.now.offset + segment.now.filesz) × (segment.now.offset + segment.now.filesz < offset + size)) }
 {
     let end = segment.offset as u128 + segment.filesz as u128;
     (offset as u128) < end && end < offset as u128 + size as u128

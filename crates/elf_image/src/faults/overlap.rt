@@ -14,21 +14,24 @@ use std::alloc::Global;
 
 /// The place of a segment that shares an address with another.
 pub fn lowest_shared_address(alloc: Global, segments: SegmentTable) -> Result<Option<u64>, NoMemory>
-    ensures { IfOk result (λ lowest. IsLowest (SomeBelow (e_phnum segments.entry.file.now) (SharesAddress segments.entry.file.now)) lowest) }
+    ensures { IfOk result
+        (λ lowest. IsLowest (SomeBelow (e_phnum segments.entry.file.now) (SharesAddress segments.entry.file.now)) lowest) }
 {
     lowest_shared(address_extents(alloc, segments)?)
 }
 
 /// The place of a segment that shares a byte of the file with another.
 pub fn lowest_shared_byte(alloc: Global, segments: SegmentTable) -> Result<Option<u64>, NoMemory>
-    ensures { IfOk result (λ lowest. IsLowest (SomeBelow (e_phnum segments.entry.file.now) (SharesFileByte segments.entry.file.now)) lowest) }
+    ensures { IfOk result
+        (λ lowest. IsLowest (SomeBelow (e_phnum segments.entry.file.now) (SharesFileByte segments.entry.file.now)) lowest) }
 {
     lowest_shared(file_extents(alloc, segments)?)
 }
 
 /// The addresses of each loaded segment.
 pub fn address_extents(alloc: Global, segments: SegmentTable) -> Result<Vec<Extent>, NoMemory>
-    ensures { IfOk result (λ extents. AreExtents (IsAddressExtent segments.entry.file.now) (e_phnum segments.entry.file.now) extents.items) }
+    ensures { IfOk result
+        (λ extents. AreExtents (IsAddressExtent segments.entry.file.now) (e_phnum segments.entry.file.now) extents.items) }
 {
     let mut extents = Vec::new(alloc);
     for index in 0..e_phnum(segments.file) {
@@ -56,7 +59,8 @@ pub fn address_extent(segments: SegmentTable, index: u16) -> Option<Extent>
 
 // The bytes of the file that each loaded segment takes.
 fn file_extents(alloc: Global, segments: SegmentTable) -> Result<Vec<Extent>, NoMemory>
-    ensures { IfOk result (λ extents. AreExtents (IsFileExtent segments.entry.file.now) (e_phnum segments.entry.file.now) extents.items) }
+    ensures { IfOk result
+        (λ extents. AreExtents (IsFileExtent segments.entry.file.now) (e_phnum segments.entry.file.now) extents.items) }
 {
     let mut extents = Vec::new(alloc);
     for index in 0..e_phnum(segments.file) {

@@ -30,7 +30,8 @@ pub fn lowest_stray_section(alloc: Global, file: &[u8]) -> Result<Option<u64>, N
 
 // The addresses of each executable segment.
 fn code_extents(alloc: Global, segments: SegmentTable) -> Result<Vec<Extent>, NoMemory>
-    ensures { IfOk result (λ extents. AreExtents (IsCodeExtent segments.entry.file.now) (e_phnum segments.entry.file.now) extents.items) }
+    ensures { IfOk result
+        (λ extents. AreExtents (IsCodeExtent segments.entry.file.now) (e_phnum segments.entry.file.now) extents.items) }
 {
     let mut extents = Vec::new(alloc);
     for index in 0..e_phnum(segments.file) {
@@ -56,7 +57,9 @@ fn code_extent(segments: SegmentTable, index: u16) -> Option<Extent>
 fn is_stray(reaches: &[Extent], section: &SectionHeader) -> bool
     requires rising { IsNonDecreasingBy (λ s. s.start) reaches.now }
     requires growing { IsNonDecreasingBy (λ s. s.end) reaches.now }
-    ensures { IsTrue result ↔ (IsTrue (is_code_section section.now) × (section.now.size ≢ 0) × (IsInOneExtent reaches.now section.now.addr (section.now.addr + section.now.size) → ⊥)) }
+    ensures { IsTrue result
+        ↔ (IsTrue (is_code_section section.now) × (section.now.size ≢ 0)
+        × (IsInOneExtent reaches.now section.now.addr (section.now.addr + section.now.size) → ⊥)) }
 {
     if section.size == 0 {
         return false;

@@ -12,7 +12,8 @@ returns-then-section-eq-SHT_SYMTAB-clause-first c =
     let below : c.loop-index.index < e_shnum file = omega arith in
     let is : (section_header file c.loop-index.index).kind ≡ SHT_SYMTAB =
     ap (λ (s : SectionHeader). s.kind) (sym c.section_of-section.ensures) ∙ c.if-section-eq-SHT_SYMTAB.true in
-    ap Some c.section_of-section.ensures ∙ sym (symbol_table_from-found file c.loop-index.index (e_shnum file) below is) ∙ c.loop-index.invariant
+    ap Some c.section_of-section.ensures ∙ sym (symbol_table_from-found file c.loop-index.index (e_shnum file) below is)
+    ∙ c.loop-index.invariant
 
 pub loop-index-preserved : goal.loop-index-preserved
 loop-index-preserved c =

@@ -7,11 +7,13 @@ use Rattle.elf_image.proofs.extent.count_from.Goals as goal
 pub returns-clause-below : goal.returns-clause-below
 returns-clause-below c =
     let parted = IsPartitionedBy-leb (λ (s : Extent). s.start) c.args.extents.now c.args.start c.requires in
-    let point = IsPartitionPoint-from_clause (λ s. nat_le s.start c.args.start) _ _ c.partition_point.ensures.partitioned parted (λ a r q k. search rules) in
+    let point = IsPartitionPoint-from_clause (λ s. nat_le s.start c.args.start) _ _ c.partition_point.ensures.partitioned parted
+    (λ a r q k. search rules) in
     λ k d within. leb-true _ _ (point.0 k d (search rules) within)
 
 pub returns-clause-above : goal.returns-clause-above
 returns-clause-above c =
     let parted = IsPartitionedBy-leb (λ (s : Extent). s.start) c.args.extents.now c.args.start c.requires in
-    let point = IsPartitionPoint-from_clause (λ s. nat_le s.start c.args.start) _ _ c.partition_point.ensures.partitioned parted (λ a r q k. search rules) in
+    let point = IsPartitionPoint-from_clause (λ s. nat_le s.start c.args.start) _ _ c.partition_point.ensures.partitioned parted
+    (λ a r q k. search rules) in
     λ k d from within. leb-false _ _ (point.1 k d from within)

@@ -9,5 +9,6 @@ returns-then-below-gt0 c =
     let bound = c.count_from-below.ensures.bound in (
       (λ high. IsCovered-from_last c.args.extents.now c.args.start c.args.end (c.count_from-below.result - 1) _ (omega arith)
           (c.count_from-below.ensures.below (c.count_from-below.result - 1) _ (omega arith)) (leb-true _ _ high)),
-      (λ covered. le-leb _ _ ((IsCovered-by_last c.args.extents.now c.args.start c.args.end c.count_from-below.result _ c.requires.growing c.count_from-below.ensures.above covered).1 bound)),
+      (λ covered. le-leb _ _
+          ((IsCovered-by_last c.args.extents.now c.args.start c.args.end c.count_from-below.result _ c.requires.growing c.count_from-below.ensures.above covered).1 bound)),
     )

@@ -4,4 +4,5 @@ use Rattle.elf_image.proofs.ExtentLemmas.{MeetingPlace}
 use Rattle.elf_image.proofs.extent.lowest_shared_sorted.Given as goal
 
 abbrev pub invariant-loop-index : goal.invariant-loop-index
-invariant-loop-index l = record { lowest : IsLowest (SomeBelow l.index (MeetingPlace l.extents)) l.lowest; reach : IsReach l.extents l.index l.reach }
+invariant-loop-index l =
+    record { lowest : IsLowest (SomeBelow l.index (MeetingPlace l.extents)) l.lowest; reach : IsReach l.extents l.index l.reach }

@@ -7,7 +7,8 @@ use Rattle.elf_image.proofs.extent.reaches_of.Goals as goal
 pub loop-extent-preserved : goal.loop-extent-preserved
 loop-extent-preserved c =
     let reach : IsReach c.args.extents.now (c.loop-extent.extent-index + 1) c.max-reach.result =
-    IsReach-more c.args.extents.now c.loop-extent.extent-index c.loop-extent.reach _ no_extent c.loop-extent-test.true (search rules) c.loop-extent.invariant.reach in
+    IsReach-more c.args.extents.now c.loop-extent.extent-index c.loop-extent.reach _ no_extent c.loop-extent-test.true
+    (search rules) c.loop-extent.invariant.reach in
     record {
       reach = reach;
       reaches = AreReaches-more c.args.extents.now _ _ c.loop-extent.extent-index _ _ c.loop-extent-test.true refl reach c.in_ok-push.ensures.items c.loop-extent.invariant.reaches;

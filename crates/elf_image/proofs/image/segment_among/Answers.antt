@@ -10,13 +10,16 @@ pub returns-then-loads-clause-first : goal.returns-then-loads-clause-first
 returns-then-loads-clause-first c =
     let some = c.if-above-eq0.false in
     let bound = c.count_up_to-above.ensures.bound in
-    sym (segment_of-last c.args.loads.now c.args.address (c.count_up_to-above.result - 1) _ c.requires.once (omega arith) (sym c.loads.ensures ∙ c.if-loads.true))
+    sym (segment_of-last c.args.loads.now c.args.address (c.count_up_to-above.result - 1) _ c.requires.once (omega arith)
+    (sym c.loads.ensures ∙ c.if-loads.true))
 
 pub returns-else-loads-clause-first : goal.returns-else-loads-clause-first
 returns-else-loads-clause-first c =
     let some = c.if-above-eq0.false in
     let bound = c.count_up_to-above.ensures.bound in
     sym
-    (segment_of-none_last c.args.loads.now c.args.address (c.count_up_to-above.result - 1) _ c.requires.once c.requires.loaded c.requires.rising
-    (omega arith) (c.count_up_to-above.ensures.below _ _ (omega arith)) (λ k e later within. c.count_up_to-above.ensures.above k e (omega arith) within)
+    (segment_of-none_last c.args.loads.now c.args.address
+    (c.count_up_to-above.result - 1) _ c.requires.once c.requires.loaded c.requires.rising
+    (omega arith) (c.count_up_to-above.ensures.below _ _ (omega arith))
+    (λ k e later within. c.count_up_to-above.ensures.above k e (omega arith) within)
     (sym c.loads.ensures ∙ c.if-loads.false))

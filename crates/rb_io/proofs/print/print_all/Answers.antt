@@ -5,6 +5,7 @@ use Rattle.rb_io.proofs.print.print_all.Goals as goal
 pub loop-done-preserved : goal.loop-done-preserved
 loop-done-preserved g c = record {
   within = omega (arith, c.in-Took.ensures.within);
-  taken = TakesAll-take-add _ _ _ c.args.text.now c.loop-done.done c.in-Took.count c.loop-done.invariant.taken (rw c.split_at.ensures.back at c.in-Took.ensures.added);
+  taken = TakesAll-take-add _ _ _ c.args.text.now c.loop-done.done c.in-Took.count c.loop-done.invariant.taken
+      (rw c.split_at.ensures.back at c.in-Took.ensures.added);
   never_falls = omega arith;
 }

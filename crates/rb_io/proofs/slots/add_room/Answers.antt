@@ -6,8 +6,16 @@ use Rattle.rb_io.proofs.slots.add_room.Goals as goal
 
 pub returns-clause-contents_kept : goal.returns-clause-contents_kept
 returns-clause-contents_kept c =
-    record { each = get_by_text-part (option_and_then content_of) c.args.slots.now c.insert.new.self (Some c.in_ok-with_room.field-0) (string_bytes c.args.name) c.in_ok-insert.ensures.updates (c.in_ok-with_room.ensures.content ∙ sym (content_at-none c.args.slots.now (string_bytes c.args.name) c.requires)) }
+    record {
+      each = get_by_text-part (option_and_then content_of) c.args.slots.now c.insert.new.self (Some c.in_ok-with_room.field-0)
+          (string_bytes c.args.name) c.in_ok-insert.ensures.updates
+          (c.in_ok-with_room.ensures.content ∙ sym (content_at-none c.args.slots.now (string_bytes c.args.name) c.requires));
+    }
 
 pub returns-clause-others_kept : goal.returns-clause-others_kept
 returns-clause-others_kept c =
-    record { others = λ other apart. ap (option_map room_of) (get_by_text-others c.args.slots.now c.insert.new.self (Some c.in_ok-with_room.field-0) (string_bytes c.args.name) c.in_ok-insert.ensures.updates other apart) }
+    record {
+      others = λ other apart. ap (option_map room_of)
+          (get_by_text-others c.args.slots.now c.insert.new.self (Some c.in_ok-with_room.field-0)
+          (string_bytes c.args.name) c.in_ok-insert.ensures.updates other apart);
+    }

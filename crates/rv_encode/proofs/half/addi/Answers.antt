@@ -16,4 +16,7 @@ pub returns-in-None-clause-found : goal.returns-in-None-clause-found
 returns-in-None-clause-found c = found_in C_ADDI4SPN c.c_addi4spn.result _ (λ half p. search rules) c.c_addi4spn.ensures.found
 
 pub returns-in-None-clause-none : goal.returns-in-None-clause-none
-returns-in-None-clause-none c = none_in c.c_addi4spn.result _ (λ half h. addi_row h.0 half _ _ _ h.1 (search rules) (c.in_default.ensures.none half) (c.in_default-c_li.ensures.none half) (c.in-None.ensures.none half)) c.c_addi4spn.ensures.none
+returns-in-None-clause-none c =
+    none_in c.c_addi4spn.result _
+    (λ half h. addi_row h.0 half _ _ _ h.1 (search rules) (c.in_default.ensures.none half) (c.in_default-c_li.ensures.none half)
+    (c.in-None.ensures.none half)) c.c_addi4spn.ensures.none

@@ -31,22 +31,26 @@ pub returns-in-Sub-clause-found : goal.returns-in-Sub-clause-found
 returns-in-Sub-clause-found c = found_in C_SUB c.arithmetic_pair.result _ (λ half p. search rules) c.arithmetic_pair.ensures.found
 
 pub returns-in-Xor-clause-found : goal.returns-in-Xor-clause-found
-returns-in-Xor-clause-found c = found_in C_XOR c.arithmetic_pair-in-Xor.result _ (λ half p. search rules) c.arithmetic_pair-in-Xor.ensures.found
+returns-in-Xor-clause-found c =
+    found_in C_XOR c.arithmetic_pair-in-Xor.result _ (λ half p. search rules) c.arithmetic_pair-in-Xor.ensures.found
 
 pub returns-in-Or-clause-found : goal.returns-in-Or-clause-found
 returns-in-Or-clause-found c = found_in C_OR c.arithmetic_pair-in-Or.result _ (λ half p. search rules) c.arithmetic_pair-in-Or.ensures.found
 
 pub returns-in-And-clause-found : goal.returns-in-And-clause-found
-returns-in-And-clause-found c = found_in C_AND c.arithmetic_pair-in-And.result _ (λ half p. search rules) c.arithmetic_pair-in-And.ensures.found
+returns-in-And-clause-found c =
+    found_in C_AND c.arithmetic_pair-in-And.result _ (λ half p. search rules) c.arithmetic_pair-in-And.ensures.found
 
 pub returns-in-Addiw-clause-found : goal.returns-in-Addiw-clause-found
 returns-in-Addiw-clause-found c = found_in C_ADDIW c.c_addiw.result _ (λ half p. search rules) c.c_addiw.ensures.found
 
 pub returns-in-Addw-clause-found : goal.returns-in-Addw-clause-found
-returns-in-Addw-clause-found c = found_in C_ADDW c.arithmetic_pair-in-Addw.result _ (λ half p. search rules) c.arithmetic_pair-in-Addw.ensures.found
+returns-in-Addw-clause-found c =
+    found_in C_ADDW c.arithmetic_pair-in-Addw.result _ (λ half p. search rules) c.arithmetic_pair-in-Addw.ensures.found
 
 pub returns-in-Subw-clause-found : goal.returns-in-Subw-clause-found
-returns-in-Subw-clause-found c = found_in C_SUBW c.arithmetic_pair-in-Subw.result _ (λ half p. search rules) c.arithmetic_pair-in-Subw.ensures.found
+returns-in-Subw-clause-found c =
+    found_in C_SUBW c.arithmetic_pair-in-Subw.result _ (λ half p. search rules) c.arithmetic_pair-in-Subw.ensures.found
 
 pub returns-in-Ebreak-clause-found : goal.returns-in-Ebreak-clause-found
 returns-in-Ebreak-clause-found c = (C_EBREAK, search rules, search rules)

@@ -22,9 +22,13 @@ jal_of : (n half rd : ℕ) (imm : ℤ) → n < 4096 → n % 2 ≡ 0 →
     rd ≡ 0 → signed 11 n ≡ imm → IsRowOf C_J half (Jal rd imm)
 jal_of n half rd imm below even is zero is_imm =
     let placed : jump_offset half ≡ n =
-    ap jump_offset is ∙ (jump_offset_of (field n 5 1) (field n 1 3) (field n 7 1) (field n 6 1) (field n 10 1) (field n 8 2) (field n 4 1) (field n 11 1) (omega arith) (omega arith) (omega arith) (omega arith) (omega arith) (omega arith) (omega arith) (omega arith) ∙ sum_of_fields n below even) in
+    ap jump_offset is
+    ∙ (jump_offset_of (field n 5 1) (field n 1 3) (field n 7 1) (field n 6 1) (field n 10 1) (field n 8 2) (field n 4 1)
+    (field n 11 1) (omega arith) (omega arith) (omega arith) (omega arith) (omega arith) (omega arith) (omega arith) (omega arith)
+    ∙ sum_of_fields n below even) in
     record { matches = record { quadrant_is = omega arith; funct3_is = omega arith }; expands = cc }
 
 pub returns-clause-found : goal.returns-clause-found
 returns-clause-found c =
-    jal_of c.in_ok-number.number _ c.args.rd c.args.imm c.in_ok-number.ensures.below (omega arith) (omega arith) (omega arith) (search rules)
+    jal_of c.in_ok-number.number _ c.args.rd c.args.imm c.in_ok-number.ensures.below (omega arith) (omega arith) (omega arith)
+    (search rules)

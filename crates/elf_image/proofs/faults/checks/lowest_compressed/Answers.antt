@@ -17,7 +17,8 @@ pub loop-index-preserved : goal.loop-index-preserved
 loop-index-preserved c = λ file are.
     let at = section-at file _ c.args.sections.now c.loop-index.index _ are c.loop-index-test.true in
     let same = is_compressed-same file c.loop-index.index _ at in
-    let fails : HasCompressed file c.loop-index.index → ⊥ = λ holds. let is = c.is_compressed.ensures ∙ same ∙ holds in let isnt = c.if-is_compressed.false in absurd (cc) in
+    let fails : HasCompressed file c.loop-index.index → ⊥ = λ holds. let is = c.is_compressed.ensures ∙ same ∙ holds in let isnt =
+    c.if-is_compressed.false in absurd (cc) in
     below_more _ _ (c.loop-index.invariant file are) fails
 
 pub returns : goal.returns

@@ -4,7 +4,8 @@ use Rattle.elf_image.proofs.CodeLemmas.{IsTooMany-more, IsTooMany-old, HasOldSec
 use Rattle.elf_image.proofs.faults.loading.is_too_many.Goals as goal
 
 pub returns-then-has_code_from : goal.returns-then-has_code_from
-returns-then-has_code_from c = IsTooMany-more c.args.segments.file.now c.args.second _ c.if-has_code_from.true (c.has_code_from.ensures.0 c.if-has_code_from.true)
+returns-then-has_code_from c =
+    IsTooMany-more c.args.segments.file.now c.args.second _ c.if-has_code_from.true (c.has_code_from.ensures.0 c.if-has_code_from.true)
 
 pub returns-else-has_code_from : goal.returns-else-has_code_from
 returns-else-has_code_from c =

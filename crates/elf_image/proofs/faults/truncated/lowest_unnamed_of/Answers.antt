@@ -10,7 +10,8 @@ loop-index-init c = IsLowest-begin (IsUnnamedSymbol c.args.file.now c.args.table
 
 pub loop-index-preserved : goal.loop-index-preserved
 loop-index-preserved c =
-    IsLowest-next (IsUnnamedSymbol c.args.file.now c.args.table.now) _ _ _ _ c.lower-lowest.ensures c.loop-index.invariant c.unnamed_symbol.ensures
+    IsLowest-next
+    (IsUnnamedSymbol c.args.file.now c.args.table.now) _ _ _ _ c.lower-lowest.ensures c.loop-index.invariant c.unnamed_symbol.ensures
 
 pub returns : goal.returns
 returns c =

@@ -15,7 +15,8 @@ returns-in-Some c =
     let same : zs ≡ places (is_byte 0) table = c.deref.ensures.value ∙ c.args.self.now.zeros_are in
     let same_lists : zs ≡ c.deref-2.result.now = c.deref.ensures.value ∙ sym c.deref-2.ensures.value in
     let point : IsPartitionPoint (λ z. ltb z index ≡ true) (λ z. ltb z index ≡ false) zs next =
-    IsPartitionPoint-from_clause (λ (z : ℕ). ltb z index) zs next c.partition_point-next.ensures.partitioned (zeros-partitioned table zs index same) (λ a r q k. search rules) in
+    IsPartitionPoint-from_clause (λ (z : ℕ). ltb z index) zs next c.partition_point-next.ensures.partitioned
+    (zeros-partitioned table zs index same) (λ a r q k. search rules) in
     let lookup = c.in-Some.ensures.lookup in
     let sizes : length zs ≡ length c.deref-2.result.now = ap length same_lists in
     let listed : next < length c.deref-2.result.now = ltb-true _ _ (sym lookup.0) in
@@ -32,7 +33,8 @@ returns-in-None c =
     let same : zs ≡ places (is_byte 0) table = c.deref.ensures.value ∙ c.args.self.now.zeros_are in
     let same_lists : zs ≡ c.deref-2.result.now = c.deref.ensures.value ∙ sym c.deref-2.ensures.value in
     let point : IsPartitionPoint (λ z. ltb z index ≡ true) (λ z. ltb z index ≡ false) zs next =
-    IsPartitionPoint-from_clause (λ (z : ℕ). ltb z index) zs next c.partition_point-next.ensures.partitioned (zeros-partitioned table zs index same) (λ a r q k. search rules) in
+    IsPartitionPoint-from_clause (λ (z : ℕ). ltb z index) zs next c.partition_point-next.ensures.partitioned
+    (zeros-partitioned table zs index same) (λ a r q k. search rules) in
     let past : length c.deref-2.result.now ≤ next = c.in-None.ensures.lookup.3 in
     let sizes : length zs ≡ length c.deref-2.result.now = ap length same_lists in
     IsTextEnd-past table zs index next same point (omega arith)
