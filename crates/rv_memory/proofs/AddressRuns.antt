@@ -1,6 +1,6 @@
 -- Runs of addresses that don't wrap.
-use Rattle.std.proofs.Common.{◌≡◌, ◌∙◌, ◌⊎◌, inl, inr, sym, ap, refl, subst, ℕ, zero, suc, ◌+◌, ◌-◌, ◌*◌, ◌^◌, ◌<◌, ◌≤◌, Bool, true, false, IsTrue, List, [], ◌∷◌, length, Option, Some, None, arith}
-use Rattle.std.specs.Prelude.{◌&&◌, ◌||◌, ◌==◌, not, nat_le, nat_lt, if◌then◌else◌, unwrap_or, slice_index}
+use Rattle.std.proofs.Common.{◌≡◌, ◌∙◌, ◌⊎◌, inl, inr, sym, ap, refl, ℕ, zero, suc, ◌+◌, ◌-◌, ◌*◌, ◌^◌, ◌<◌, ◌≤◌, Bool, true, false, IsTrue, List, [], ◌∷◌, length, Option, Some, None, arith}
+use Rattle.std.specs.Prelude.{◌&&◌, ◌||◌, ◌==◌, nat_le, nat_lt, if◌then◌else◌, unwrap_or, slice_index}
 use Rattle.std.specs.Prelude.{max}
 use Rattle.std.proofs.Common.{◌++◌}
 use Rattle.std.proofs.lemmas.List.{get_or_append_left, get_or-append_right}
@@ -23,9 +23,11 @@ all_may-run may a zero room each = refl
 all_may-run may a (suc zero) room each = rw (each a (omega arith) (omega arith)) refl
 all_may-run may a (suc (suc n)) room each =
     let next : plus a 1 ≡ a + 1 = omega arith in
-    rw (each a (omega arith) (omega arith), next) (all_may-run may (a + 1) (suc n) (omega arith) (λ q from to. each q (omega arith) (omega arith)))
+    rw (each a (omega arith) (omega arith), next)
+    (all_may-run may (a + 1) (suc n) (omega arith) (λ q from to. each q (omega arith) (omega arith)))
 
-pub all_may-weaker : (few more : ℕ → Bool) (a n : ℕ) → ((q : ℕ) → few q ≡ true → more q ≡ true) → all_may few a n ≡ true → all_may more a n ≡ true
+pub all_may-weaker : (few more : ℕ → Bool) (a n : ℕ) → ((q : ℕ) → few q ≡ true → more q ≡ true) → all_may few a n ≡ true →
+    all_may more a n ≡ true
 unfolding all_may
 all_may-weaker few more a zero each all = refl
 all_may-weaker few more a (suc n) each all =
@@ -45,7 +47,8 @@ or_third false true z is = refl
 or_third false false z is = is
 
 -- bytes put over others
-pub put_in : (memory : ℕ → ℕ) (a q : ℕ) (bytes : List ℕ) → a + length bytes ≤ 2 ^ 64 → a ≤ q → q < a + length bytes → put memory a bytes q ≡ slice_index bytes (q - a)
+pub put_in : (memory : ℕ → ℕ) (a q : ℕ) (bytes : List ℕ) → a + length bytes ≤ 2 ^ 64 → a ≤ q → q < a + length bytes →
+    put memory a bytes q ≡ slice_index bytes (q - a)
 unfolding put
 put_in memory a q [] room from to = absurd (omega arith)
 put_in memory a q (b ∷ []) room from to =
@@ -54,9 +57,11 @@ put_in memory a q (b ∷ []) room from to =
     rw (eq-eqb q a same, first) refl
 put_in memory a q (b ∷ c ∷ bytes) room from to =
     let next : plus a 1 ≡ a + 1 = omega arith in
-    cases (q == a) refl (λ after. ap (λ p. put memory p (c ∷ bytes) q) next ∙ put_in memory (a + 1) q (c ∷ bytes) (omega arith) after (omega arith))
+    cases (q == a) refl
+    (λ after. ap (λ p. put memory p (c ∷ bytes) q) next ∙ put_in memory (a + 1) q (c ∷ bytes) (omega arith) after (omega arith))
   where
-    cases : (t : Bool) → (q == a) ≡ t → (a + 1 ≤ q → put memory (plus a 1) (c ∷ bytes) q ≡ slice_index (c ∷ bytes) (q - (a + 1))) → (if t then b else put memory (plus a 1) (c ∷ bytes) q) ≡ slice_index (b ∷ c ∷ bytes) (q - a)
+    cases : (t : Bool) → (q == a) ≡ t → (a + 1 ≤ q → put memory (plus a 1) (c ∷ bytes) q ≡ slice_index (c ∷ bytes) (q - (a + 1))) →
+        (if t then b else put memory (plus a 1) (c ∷ bytes) q) ≡ slice_index (b ∷ c ∷ bytes) (q - a)
     cases true test rest =
         let same : q ≡ a = eqb-true q a test in
         let first : q - a ≡ 0 = omega arith in
@@ -67,23 +72,29 @@ put_in memory a q (b ∷ c ∷ bytes) room from to =
         let one : q - a ≡ suc (q - (a + 1)) = omega arith in
         rw one (rest after)
 
-pub put_out : (memory : ℕ → ℕ) (a q : ℕ) (bytes : List ℕ) → a + length bytes ≤ 2 ^ 64 → (q < a) ⊎ (a + length bytes ≤ q) → put memory a bytes q ≡ memory q
+pub put_out : (memory : ℕ → ℕ) (a q : ℕ) (bytes : List ℕ) → a + length bytes ≤ 2 ^ 64 → (q < a) ⊎ (a + length bytes ≤ q) →
+    put memory a bytes q ≡ memory q
 unfolding put
 put_out memory a q [] room out = refl
 put_out memory a q (b ∷ []) room out =
-    let other : (q == a) ≡ false = false_from_ne_true (q == a) (λ e. let same = eqb-true q a e in elim out [ inl low ↦ omega arith | inr high ↦ omega arith ]) in
+    let other : (q == a) ≡ false =
+    false_from_ne_true (q == a) (λ e. let same = eqb-true q a e in elim out [ inl low ↦ omega arith | inr high ↦ omega arith ]) in
     rw other refl
 put_out memory a q (b ∷ c ∷ bytes) room out =
     let next : plus a 1 ≡ a + 1 = omega arith in
-    let other : (q == a) ≡ false = false_from_ne_true (q == a) (λ e. let same = eqb-true q a e in elim out [ inl low ↦ omega arith | inr high ↦ omega arith ]) in
+    let other : (q == a) ≡ false =
+    false_from_ne_true (q == a) (λ e. let same = eqb-true q a e in elim out [ inl low ↦ omega arith | inr high ↦ omega arith ]) in
     let past : (q < a + 1) ⊎ (a + 1 + length (c ∷ bytes) ≤ q) = elim out [ inl low ↦ inl (omega arith) | inr high ↦ inr (omega arith) ] in
     rw (other, next) (put_out memory (a + 1) q (c ∷ bytes) (omega arith) past)
 
 -- a memory of pages after bytes were put into one of them
-pub put_pages : (old new : ℕ → Option ℕ) (unwritten : ℕ → ℕ) (a : ℕ) (bytes : List ℕ) → a + length bytes ≤ 2 ^ 64 → ((q : ℕ) → new q ≡ (if is_within a (length bytes) q then Some (slice_index bytes (q - a)) else old q)) → (q : ℕ) → unwrap_or (new q) (unwritten q) ≡ put (λ p. unwrap_or (old p) (unwritten p)) a bytes q
+pub put_pages : (old new : ℕ → Option ℕ) (unwritten : ℕ → ℕ) (a : ℕ) (bytes : List ℕ) → a + length bytes ≤ 2 ^ 64 →
+    ((q : ℕ) → new q ≡ (if is_within a (length bytes) q then Some (slice_index bytes (q - a)) else old q)) → (q : ℕ) →
+    unwrap_or (new q) (unwritten q) ≡ put (λ p. unwrap_or (old p) (unwritten p)) a bytes q
 put_pages old new unwritten a bytes room is q = by_start (nat_le a q) refl
   where
-    by_end : a ≤ q → nat_le a q ≡ true → (t : Bool) → nat_lt q (a + length bytes) ≡ t → unwrap_or (new q) (unwritten q) ≡ put (λ p. unwrap_or (old p) (unwritten p)) a bytes q
+    by_end : a ≤ q → nat_le a q ≡ true → (t : Bool) → nat_lt q (a + length bytes) ≡ t →
+        unwrap_or (new q) (unwritten q) ≡ put (λ p. unwrap_or (old p) (unwritten p)) a bytes q
     by_end from first true test =
         let within : is_within a (length bytes) q ≡ true = rw (first, test) refl in
         ap (λ r. unwrap_or r (unwritten q)) (is q ∙ ap (λ t. if t then Some (slice_index bytes (q - a)) else old q) within)
@@ -101,16 +112,20 @@ put_pages old new unwritten a bytes room is q = by_start (nat_le a q) refl
         ∙ sym (put_out (λ p. unwrap_or (old p) (unwritten p)) a q bytes room (inl (leb-false a q test)))
 
 -- the segment that loads an address loads all that lies in it
-pub same_segment : (elf : Elf) (a q : ℕ) (p : Segment) → segment_of elf.segments.items a ≡ Some p → IsTrue (loads_address q p) → segment_of elf.segments.items q ≡ Some p
+pub same_segment : (elf : Elf) (a q : ℕ) (p : Segment) → segment_of elf.segments.items a ≡ Some p → IsTrue (loads_address q p) →
+    segment_of elf.segments.items q ≡ Some p
 same_segment elf a q p found here =
     let there = find-found (loads_address a) elf.loads.items p (elf.same a ∙ found) in
-    sym (elf.same q) ∙ find-only (loads_address q) elf.loads.items p there.1 here (λ r r_in r_loads. elf.once q r p r_in there.1 r_loads here)
+    sym (elf.same q)
+    ∙ find-only (loads_address q) elf.loads.items p there.1 here (λ r r_in r_loads. elf.once q r p r_in there.1 r_loads here)
 
-pub loaded_run : (elf : Elf) (flag a n : ℕ) (p : Segment) → segment_of elf.segments.items a ≡ Some p → IsTrue (loads_address a p) → has_flag flag p ≡ true → p.vaddr ≤ a → a + n ≤ end_of p → a + n ≤ 2 ^ 64 → all_may (is_loaded_with flag elf.segments.items) a n ≡ true
+pub loaded_run : (elf : Elf) (flag a n : ℕ) (p : Segment) → segment_of elf.segments.items a ≡ Some p → IsTrue (loads_address a p) →
+    has_flag flag p ≡ true → p.vaddr ≤ a → a + n ≤ end_of p → a + n ≤ 2 ^ 64 → all_may (is_loaded_with flag elf.segments.items) a n ≡ true
 loaded_run elf flag a n p found loads flagged from to room =
     all_may-run (is_loaded_with flag elf.segments.items) a n room
     (λ q low high.
-    ap (λ r. option_map_or (has_flag flag) r false) (same_segment elf a q p found (loads-from_parts q p (loads-parts a p loads).0 (omega arith) (omega arith)))
+    ap (λ r. option_map_or (has_flag flag) r false)
+    (same_segment elf a q p found (loads-from_parts q p (loads-parts a p loads).0 (omega arith) (omega arith)))
     ∙ flagged)
 
 either : (a b : Bool) → (a || b) ≡ true → (a ≡ true) ⊎ (b ≡ true)
@@ -128,24 +143,32 @@ missed from q p clear loads high =
     ]
 
 -- a page without a byte of the file
-pub blank_byte : (file : List ℕ) (segments : List Segment) (from q : ℕ) → list_all (misses from) segments ≡ true → from ≤ q → q < from + 4096 → unwrap_or (image_byte file segments q) 0 ≡ 0
+pub blank_byte : (file : List ℕ) (segments : List Segment) (from q : ℕ) → list_all (misses from) segments ≡ true → from ≤ q →
+    q < from + 4096 → unwrap_or (image_byte file segments q) 0 ≡ 0
 blank_byte file [] from q all low high = refl
-blank_byte file (p ∷ ps) from q all low high = cases (blank_byte file ps from q (and_parts (misses from p) (list_all (misses from) ps) all).1 low high) (loads_address q p) refl
+blank_byte file (p ∷ ps) from q all low high =
+    cases (blank_byte file ps from q (and_parts (misses from p) (list_all (misses from) ps) all).1 low high) (loads_address q p) refl
   where
-    cases : unwrap_or (image_byte file ps q) 0 ≡ 0 → (t : Bool) → loads_address q p ≡ t → unwrap_or (option_map (byte_of file q) (if t then Some p else find (loads_address q) ps)) 0 ≡ 0
+    cases : unwrap_or (image_byte file ps q) 0 ≡ 0 → (t : Bool) → loads_address q p ≡ t →
+        unwrap_or (option_map (byte_of file q) (if t then Some p else find (loads_address q) ps)) 0 ≡ 0
     cases rest false test = rest
     cases rest true test =
         let past = missed from q p (and_parts (misses from p) (list_all (misses from) ps) all).0 test high in
-        let zero : nat_lt (q - p.vaddr) p.filesz ≡ false = false_from_ne_true (nat_lt (q - p.vaddr) p.filesz) (λ e. let inside = ltb-true (q - p.vaddr) p.filesz e in omega arith) in
+        let zero : nat_lt (q - p.vaddr) p.filesz ≡ false =
+        false_from_ne_true (nat_lt (q - p.vaddr) p.filesz) (λ e. let inside = ltb-true (q - p.vaddr) p.filesz e in omega arith) in
         rw zero refl
 
 -- a page that was taken keeps what its addresses read
-pub page_taken : {T E : Type 0} (r : Result T E) (old new : ℕ → Option ℕ) (unwritten : ℕ → ℕ) (n : ℕ) (page : List ℕ) → (IsOk r → (q : ℕ) → new q ≡ (if q / 4096 == n then Some (slice_index page (q % 4096)) else old q)) → OnErr r ((q : ℕ) → new q ≡ old q) → ((k : ℕ) → k < 4096 → slice_index page k ≡ unwritten (n * 4096 + k)) → ((q : ℕ) → q / 4096 ≡ n → old q ≡ None) → (q : ℕ) → unwrap_or (new q) (unwritten q) ≡ unwrap_or (old q) (unwritten q)
+pub page_taken : {T E : Type 0} (r : Result T E) (old new : ℕ → Option ℕ) (unwritten : ℕ → ℕ) (n : ℕ) (page : List ℕ) →
+    (IsOk r → (q : ℕ) → new q ≡ (if q / 4096 == n then Some (slice_index page (q % 4096)) else old q)) →
+    OnErr r ((q : ℕ) → new q ≡ old q) → ((k : ℕ) → k < 4096 → slice_index page k ≡ unwritten (n * 4096 + k)) →
+    ((q : ℕ) → q / 4096 ≡ n → old q ≡ None) → (q : ℕ) → unwrap_or (new q) (unwritten q) ≡ unwrap_or (old q) (unwritten q)
 page_taken (Err e) old new unwritten n page added kept bytes absent q = ap (λ b. unwrap_or b (unwritten q)) (kept q)
 page_taken (Ok x) old new unwritten n page added kept bytes absent q = cases (q / 4096 == n) refl
   where
     cases : (t : Bool) → (q / 4096 == n) ≡ t → unwrap_or (new q) (unwritten q) ≡ unwrap_or (old q) (unwritten q)
-    cases false test = ap (λ b. unwrap_or b (unwritten q)) (added refl q ∙ ap (λ t. if t then Some (slice_index page (q % 4096)) else old q) test)
+    cases false test =
+        ap (λ b. unwrap_or b (unwritten q)) (added refl q ∙ ap (λ t. if t then Some (slice_index page (q % 4096)) else old q) test)
     cases true test =
         let same : q / 4096 ≡ n = eqb-true (q / 4096) n test in
         let whole : n * 4096 + q % 4096 ≡ q = omega arith in
@@ -155,7 +178,8 @@ page_taken (Ok x) old new unwritten n page added kept bytes absent q = cases (q 
         ∙ sym (ap (λ b. unwrap_or b (unwritten q)) (absent q same))
 
 -- one more byte of a list that has what a function says at each place
-pub pushed_more : (f : ℕ → ℕ) (xs : List ℕ) (b k : ℕ) → length xs ≡ k → b ≡ f k → ((j : ℕ) → j < k → slice_index xs j ≡ f j) → (j : ℕ) → j < k + 1 → slice_index (xs ++ b ∷ []) j ≡ f j
+pub pushed_more : (f : ℕ → ℕ) (xs : List ℕ) (b k : ℕ) → length xs ≡ k → b ≡ f k → ((j : ℕ) → j < k → slice_index xs j ≡ f j) → (j : ℕ) →
+    j < k + 1 → slice_index (xs ++ b ∷ []) j ≡ f j
 pushed_more f xs b k size is each j within = elim (cases_lt j k) [
   | inl less ↦ get_or_append_left xs (b ∷ []) 0 j (omega arith) ∙ each j less
   | inr more ↦
@@ -166,7 +190,8 @@ pushed_more f xs b k size is each j within = elim (cases_lt j k) [
 
 -- a memory of pages after the break was raised or lowered
 pub break_moved : (p : Option ℕ) (stack : Bool) (image start now top to q : ℕ) → start ≤ now → now ≤ top →
-    unwrap_or (if nat_le now q && nat_lt q to then option_map (λ b. 0) p else p) (if stack || (nat_le start q && nat_lt q (max top to)) then 0 else image)
+    unwrap_or (if nat_le now q && nat_lt q to then option_map (λ b. 0) p else p)
+    (if stack || (nat_le start q && nat_lt q (max top to)) then 0 else image)
     ≡ (if nat_le now q && nat_lt q to then 0 else unwrap_or p (if stack || (nat_le start q && nat_lt q top) then 0 else image))
 break_moved p stack image start now top to q low high = cases (nat_le now q && nat_lt q to) refl
   where
@@ -182,13 +207,22 @@ break_moved p stack image start now top to q low high = cases (nat_le now q && n
     same apart = elim (cases_lt q top) [
       | inl less ↦ rw (lt-ltb q top less, lt-ltb q (max top to) (omega arith)) refl
       | inr more ↦
-          let past : to ≤ q = elim (cases_lt q to) [ inl under ↦ absurd (let both : (nat_le now q && nat_lt q to) ≡ true = rw (le-leb now q (omega arith), lt-ltb q to under) refl in cc) | inr over ↦ over ] in
-          let one : nat_lt q (max top to) ≡ false = false_from_ne_true (nat_lt q (max top to)) (λ e. let under = ltb-true q (max top to) e in omega arith) in
+          let past : to ≤ q =
+          elim (cases_lt q to) [
+            | inl under ↦ absurd
+                (let both : (nat_le now q && nat_lt q to) ≡ true = rw (le-leb now q (omega arith), lt-ltb q to under) refl in
+                cc)
+            | inr over ↦ over
+          ] in
+          let one : nat_lt q (max top to) ≡ false =
+          false_from_ne_true (nat_lt q (max top to)) (λ e. let under = ltb-true q (max top to) e in omega arith) in
           let two : nat_lt q top ≡ false = false_from_ne_true (nat_lt q top) (λ e. let under = ltb-true q top e in omega arith) in
           rw (one, two) refl
     ]
 
-    cases : (t : Bool) → (nat_le now q && nat_lt q to) ≡ t → unwrap_or (if t then option_map (λ b. 0) p else p) (if stack || (nat_le start q && nat_lt q (max top to)) then 0 else image) ≡ (if t then 0 else unwrap_or p (if stack || (nat_le start q && nat_lt q top) then 0 else image))
+    cases : (t : Bool) → (nat_le now q && nat_lt q to) ≡ t →
+        unwrap_or (if t then option_map (λ b. 0) p else p) (if stack || (nat_le start q && nat_lt q (max top to)) then 0 else image)
+        ≡ (if t then 0 else unwrap_or p (if stack || (nat_le start q && nat_lt q top) then 0 else image))
     cases true test =
         let parts = and_parts (nat_le now q) (nat_lt q to) test in
         let from = leb-true now q parts.0 in

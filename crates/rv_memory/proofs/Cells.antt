@@ -10,7 +10,8 @@ pub little_none : (memory : ℕ → ℕ) (a n : ℕ) → n ≡ 0 → little (mem
 unfolding memory_bytes little
 little_none memory a n e = rw e refl
 
-pub little_step : (memory : ℕ → ℕ) (a n : ℕ) → 0 < n → little (memory_bytes memory a n) ≡ memory a + 256 * little (memory_bytes memory (plus a 1) (n - 1))
+pub little_step : (memory : ℕ → ℕ) (a n : ℕ) → 0 < n →
+    little (memory_bytes memory a n) ≡ memory a + 256 * little (memory_bytes memory (plus a 1) (n - 1))
 unfolding memory_bytes little
 little_step memory a zero h = absurd (omega arith)
 little_step memory a (suc n) h = let e : suc n - 1 ≡ n = omega arith in rw e refl
@@ -20,7 +21,8 @@ unfolding memory_bytes
 cells_none memory a n e = rw e refl
 
 -- the cells from a + i on begin with the one there
-pub cells_next : (memory : ℕ → ℕ) (a i n : ℕ) → i < n → memory_bytes memory (plus a i) (n - i) ≡ memory (plus a i) ∷ memory_bytes memory (plus a (i + 1)) (n - (i + 1))
+pub cells_next : (memory : ℕ → ℕ) (a i n : ℕ) → i < n →
+    memory_bytes memory (plus a i) (n - i) ≡ memory (plus a i) ∷ memory_bytes memory (plus a (i + 1)) (n - (i + 1))
 unfolding memory_bytes
 cells_next memory a i n h =
     let e : n - i ≡ suc (n - (i + 1)) = omega arith in
@@ -28,12 +30,15 @@ cells_next memory a i n h =
     rw (e, next) refl
 
 -- what was copied of the cells, with one more
-pub cells_more : (memory : ℕ → ℕ) (a i n : ℕ) (front whole : List ℕ) → i < n → front ++ memory_bytes memory (plus a i) (n - i) ≡ whole → (front ++ memory (plus a i) ∷ []) ++ memory_bytes memory (plus a (i + 1)) (n - (i + 1)) ≡ whole
+pub cells_more : (memory : ℕ → ℕ) (a i n : ℕ) (front whole : List ℕ) → i < n → front ++ memory_bytes memory (plus a i) (n - i) ≡ whole →
+    (front ++ memory (plus a i) ∷ []) ++ memory_bytes memory (plus a (i + 1)) (n - (i + 1)) ≡ whole
 cells_more memory a i n front whole h e =
-    append_assoc front (memory (plus a i) ∷ []) (memory_bytes memory (plus a (i + 1)) (n - (i + 1))) ∙ ap (λ rest. front ++ rest) (sym (cells_next memory a i n h)) ∙ e
+    append_assoc front (memory (plus a i) ∷ []) (memory_bytes memory (plus a (i + 1)) (n - (i + 1)))
+    ∙ ap (λ rest. front ++ rest) (sym (cells_next memory a i n h)) ∙ e
 
 -- and with none left
-pub cells_all : (memory : ℕ → ℕ) (a i n : ℕ) (front whole : List ℕ) → n ≤ i → front ++ memory_bytes memory (plus a i) (n - i) ≡ whole → front ≡ whole
+pub cells_all : (memory : ℕ → ℕ) (a i n : ℕ) (front whole : List ℕ) → n ≤ i → front ++ memory_bytes memory (plus a i) (n - i) ≡ whole →
+    front ≡ whole
 cells_all memory a i n front whole h e =
     let none : n - i ≡ 0 = omega arith in
     let empty : memory_bytes memory (plus a i) (n - i) ≡ [] = cells_none memory (plus a i) (n - i) none in
@@ -49,7 +54,8 @@ put_none memory a q bytes = let none : drop (length bytes) bytes ≡ [] = drop_o
 
 -- the bytes from place i on, with the first of them last
 pub put_next : (memory : ℕ → ℕ) (a i q : ℕ) (bytes : List ℕ) → i < length bytes →
-    put memory (plus a i) (drop i bytes) q ≡ (if q == plus a i then get_or bytes i 0 else put memory (plus a (i + 1)) (drop (i + 1) bytes) q)
+    put memory (plus a i) (drop i bytes) q
+    ≡ (if q == plus a i then get_or bytes i 0 else put memory (plus a (i + 1)) (drop (i + 1) bytes) q)
 unfolding put
 put_next memory a i q bytes h =
     let next : plus (plus a i) 1 ≡ plus a (i + 1) = omega arith in
@@ -61,7 +67,8 @@ pub all_may_none : (may : ℕ → Bool) (a n : ℕ) → n ≡ 0 → all_may may 
 unfolding all_may
 all_may_none may a n e = rw e refl
 
-pub all_may_next : (may : ℕ → Bool) (a i n : ℕ) → i < n → all_may may (plus a i) (n - i) ≡ may (plus a i) && all_may may (plus a (i + 1)) (n - (i + 1))
+pub all_may_next : (may : ℕ → Bool) (a i n : ℕ) → i < n → all_may may (plus a i) (n - i) ≡ may (plus a i)
+    && all_may may (plus a (i + 1)) (n - (i + 1))
 unfolding all_may
 all_may_next may a i n h =
     let e : n - i ≡ suc (n - (i + 1)) = omega arith in

@@ -1,11 +1,11 @@
 -- The bytes of pages, before and after a write.
 use Rattle.std.proofs.Common.{◌≡◌, ◌∙◌, sym, ap, refl, ℕ, zero, suc, ◌+◌, ◌-◌, ◌*◌, ◌/◌, ◌%◌, ◌^◌, ◌≤◌, ◌<◌, Bool, true, false, List, [], ◌∷◌, ◌++◌, length, take, drop, get_or, Option, Some, None, arith}
-use Rattle.std.specs.Prelude.{◌&&◌, ◌==◌, nat_le, nat_lt, if◌then◌else◌, replicate, Result, Ok, Err, OnErr, IfSome}
+use Rattle.std.specs.Prelude.{◌==◌, nat_le, nat_lt, if◌then◌else◌, replicate, Result, Ok, Err, OnErr}
 use Rattle.std.specs.Option.{option_map, is_some}
-use Rattle.std.proofs.Common.{◌⊎◌, inl, inr, length-append}
+use Rattle.std.proofs.Common.{inl, inr, length-append}
 use Rattle.std.proofs.lemmas.Grind.{common_steps}
 use Rattle.std.proofs.lemmas.List.{take_at, length-replicate, get_or-drop, get_or_append_left, get_or-append_right}
-use Rattle.std.proofs.lemmas.Bool.{leb-true, leb-false, ltb-true, ltb-false, eqb-true, eqb-false, le-leb, lt-ltb, false_from_ne_true, and_parts, eq-eqb, cases_lt}
+use Rattle.std.proofs.lemmas.Bool.{leb-true, ltb-true, eqb-true, eqb-false, le-leb, lt-ltb, false_from_ne_true, and_parts, eq-eqb, cases_lt}
 use Rattle.byteorder.specs.Endian.{little_from}
 use Rattle.elf_image.specs.file.Header.{number_at}
 use Rattle.rv_code.specs.machine.Machine.{plus, memory_bytes, little}
@@ -20,7 +20,8 @@ pub on_err : {T E P : Type 0} (r : Result T E) → P → OnErr r P
 on_err (Ok x) p = tt
 on_err (Err e) p = p
 
-pub byte_in-same : (index : PageIndex) (bytes : List ℕ) (p : Pages) → bytes ≡ p.bytes.items → ((q : ℕ) → place_of index q ≡ place_of p.index q) → (q : ℕ) → byte_in index bytes q ≡ page_byte p q
+pub byte_in-same : (index : PageIndex) (bytes : List ℕ) (p : Pages) → bytes ≡ p.bytes.items →
+    ((q : ℕ) → place_of index q ≡ place_of p.index q) → (q : ℕ) → byte_in index bytes q ≡ page_byte p q
 unfolding byte_in
 byte_in-same index bytes p same places q = rw (same, places (q / 4096)) refl
 
@@ -28,26 +29,33 @@ pub page_byte-none : (p : Pages) (a : ℕ) → place_of p.index (a / 4096) ≡ N
 unfolding byte_in
 page_byte-none p a none = rw none refl
 
-pub page_byte-some : (p : Pages) (a i : ℕ) → place_of p.index (a / 4096) ≡ Some i → page_byte p a ≡ Some (get_or p.bytes.items (i * 4096 + a % 4096) 0)
+pub page_byte-some : (p : Pages) (a i : ℕ) → place_of p.index (a / 4096) ≡ Some i →
+    page_byte p a ≡ Some (get_or p.bytes.items (i * 4096 + a % 4096) 0)
 unfolding byte_in
 page_byte-some p a i found = rw found refl
 
-pub in_pages : (p : Pages) (a i n : ℕ) → place_of p.index (a / 4096) ≡ Some i → a % 4096 + n ≤ 4096 → i * 4096 + a % 4096 + n ≤ length p.bytes.items
+pub in_pages : (p : Pages) (a i n : ℕ) → place_of p.index (a / 4096) ≡ Some i → a % 4096 + n ≤ 4096 →
+    i * 4096 + a % 4096 + n ≤ length p.bytes.items
 in_pages p a i n found in_page =
     let here : i < length p.numbers.items = p.held (a / 4096) i found in
     let size : length p.bytes.items ≡ length p.numbers.items * 4096 = p.sized in
     omega arith
 
 -- bytes written in one page
-pub page_written : (old : Pages) (bytes ys : List ℕ) (a i : ℕ) → place_of old.index (a / 4096) ≡ Some i → a % 4096 + length ys ≤ 4096 → bytes ≡ patched (i * 4096 + a % 4096) ys old.bytes.items → (q : ℕ) → byte_in old.index bytes q ≡ byte_put old a ys q
+pub page_written : (old : Pages) (bytes ys : List ℕ) (a i : ℕ) → place_of old.index (a / 4096) ≡ Some i → a % 4096 + length ys ≤ 4096 →
+    bytes ≡ patched (i * 4096 + a % 4096) ys old.bytes.items → (q : ℕ) → byte_in old.index bytes q ≡ byte_put old a ys q
 unfolding byte_in
 page_written old bytes ys a i found in_page is q =
-    rw is (page_patched (place_of old.index) old.numbers.items old.bytes.items old.numbered ys a i found in_page (in_pages old a i (length ys) found in_page) q)
+    rw is (page_patched (place_of old.index) old.numbers.items old.bytes.items old.numbered ys a i found in_page
+    (in_pages old a i (length ys) found in_page) q)
 
 -- the same where the bytes come as what a vector holds after its slice was written
-pub vector_written : (old : Pages) (now ys : List ℕ) (a i : ℕ) → place_of old.index (a / 4096) ≡ Some i → a % 4096 + length ys ≤ 4096 → now ≡ patched (i * 4096 + a % 4096) ys old.bytes.items → (q : ℕ) → byte_in old.index (take old.bytes.len (now ++ drop (length now) old.bytes.items)) q ≡ byte_put old a ys q
+pub vector_written : (old : Pages) (now ys : List ℕ) (a i : ℕ) → place_of old.index (a / 4096) ≡ Some i → a % 4096 + length ys ≤ 4096 →
+    now ≡ patched (i * 4096 + a % 4096) ys old.bytes.items → (q : ℕ) →
+    byte_in old.index (take old.bytes.len (now ++ drop (length now) old.bytes.items)) q ≡ byte_put old a ys q
 vector_written old now ys a i found in_page is q =
-    let size : length now ≡ length old.bytes.items = ap length is ∙ length-patched (i * 4096 + a % 4096) ys old.bytes.items (in_pages old a i (length ys) found in_page) in
+    let size : length now ≡ length old.bytes.items = ap length is
+    ∙ length-patched (i * 4096 + a % 4096) ys old.bytes.items (in_pages old a i (length ys) found in_page) in
     let len : old.bytes.len ≡ length old.bytes.items = old.bytes.ok.0 in
     page_written old _ ys a i found in_page (take_at now (drop (length now) old.bytes.items) old.bytes.len (size ∙ sym len) ∙ is) q
 
@@ -56,11 +64,15 @@ zeros zero k = refl
 zeros (suc n) zero = refl
 zeros (suc n) (suc k) = zeros n k
 
-pub byte_put-zeros : (p : Pages) (a n i : ℕ) → place_of p.index (a / 4096) ≡ Some i → a % 4096 + n ≤ 4096 → (q : ℕ) → byte_put p a (replicate n 0) q ≡ byte_cleared p a n q
+pub byte_put-zeros : (p : Pages) (a n i : ℕ) → place_of p.index (a / 4096) ≡ Some i → a % 4096 + n ≤ 4096 → (q : ℕ) →
+    byte_put p a (replicate n 0) q ≡ byte_cleared p a n q
 byte_put-zeros p a n i found in_page q =
-    ap (λ (m : ℕ). if is_within a m q then Some (get_or (replicate n 0) (q - a) 0) else page_byte p q) (length-replicate {A = ℕ} n 0) ∙ cases (is_within a n q) refl
+    ap (λ (m : ℕ). if is_within a m q then Some (get_or (replicate n 0) (q - a) 0) else page_byte p q) (length-replicate {A = ℕ} n 0)
+    ∙ cases (is_within a n q) refl
   where
-    cases : (t : Bool) → is_within a n q ≡ t → (if t then Some (get_or (replicate n 0) (q - a) 0) else page_byte p q) ≡ (if t then option_map (λ byte. 0) (page_byte p q) else page_byte p q)
+    cases : (t : Bool) → is_within a n q ≡ t →
+        (if t then Some (get_or (replicate n 0) (q - a) 0) else page_byte p q)
+        ≡ (if t then option_map (λ byte. 0) (page_byte p q) else page_byte p q)
     cases false test = refl
     cases true test =
         let parts = and_parts (nat_le a q) (nat_lt q (a + n)) test in
@@ -69,7 +81,8 @@ byte_put-zeros p a n i found in_page q =
         let page : q / 4096 ≡ a / 4096 = omega arith in
         ap Some (zeros n (q - a)) ∙ sym (ap (option_map (λ byte. 0)) (page_byte-some p q i (ap (place_of p.index) page ∙ found)))
 
-pub byte_cleared-none : (p : Pages) (a n : ℕ) → place_of p.index (a / 4096) ≡ None → a % 4096 + n ≤ 4096 → (q : ℕ) → page_byte p q ≡ byte_cleared p a n q
+pub byte_cleared-none : (p : Pages) (a n : ℕ) → place_of p.index (a / 4096) ≡ None → a % 4096 + n ≤ 4096 → (q : ℕ) →
+    page_byte p q ≡ byte_cleared p a n q
 byte_cleared-none p a n none in_page q = cases (is_within a n q) refl
   where
     cases : (t : Bool) → is_within a n q ≡ t → page_byte p q ≡ (if t then option_map (λ byte. 0) (page_byte p q) else page_byte p q)
@@ -93,11 +106,15 @@ byte_put-one p a byte q = cases (q == a) refl
         rw (within, place) refl
     cases false test =
         let other = eqb-false q a test in
-        let apart : is_within a 1 q ≡ false = false_from_ne_true (is_within a 1 q) (λ e. let parts = and_parts (nat_le a q) (nat_lt q (a + 1)) e in other (let low = leb-true a q parts.0 in let high = ltb-true q (a + 1) parts.1 in omega arith)) in
+        let apart : is_within a 1 q ≡ false =
+        false_from_ne_true (is_within a 1 q)
+        (λ e. let parts = and_parts (nat_le a q) (nat_lt q (a + 1)) e in
+        other (let low = leb-true a q parts.0 in let high = ltb-true q (a + 1) parts.1 in omega arith)) in
         rw apart refl
 
 -- the number that stands in a memory, and that in the bytes that the memory has there
-pub little_from-is : (memory : ℕ → ℕ) (xs : List ℕ) (n i a : ℕ) → a + n ≤ 2 ^ 64 → ((k : ℕ) → k < n → memory (a + k) ≡ get_or xs (i + k) 0) → little_from i n xs ≡ little (memory_bytes memory a n)
+pub little_from-is : (memory : ℕ → ℕ) (xs : List ℕ) (n i a : ℕ) → a + n ≤ 2 ^ 64 →
+    ((k : ℕ) → k < n → memory (a + k) ≡ get_or xs (i + k) 0) → little_from i n xs ≡ little (memory_bytes memory a n)
 unfolding little memory_bytes
 little_from-is memory xs zero i a room same = refl
 little_from-is memory xs (suc zero) i a room same =
@@ -115,7 +132,8 @@ little_from-is memory xs (suc (suc n)) i a room same =
     let head : get_or xs i 0 ≡ memory a = ap (λ (j : ℕ). get_or xs j 0) (sym there) ∙ sym first ∙ ap memory here in
     rw (next, head, rest) refl
 
-pub number-like : (p : Pages) (a n i : ℕ) → a < 2 ^ 64 → place_of p.index (a / 4096) ≡ Some i → a % 4096 + n ≤ 4096 → (memory : ℕ → ℕ) → IsLike p memory → number_at p.bytes.items (i * 4096 + a % 4096) n ≡ little (memory_bytes memory a n)
+pub number-like : (p : Pages) (a n i : ℕ) → a < 2 ^ 64 → place_of p.index (a / 4096) ≡ Some i → a % 4096 + n ≤ 4096 → (memory : ℕ → ℕ) →
+    IsLike p memory → number_at p.bytes.items (i * 4096 + a % 4096) n ≡ little (memory_bytes memory a n)
 number-like p a n i low found in_page memory like =
     little_from-is memory (drop (i * 4096 + a % 4096) p.bytes.items) n 0 a (omega arith)
     (λ k less.
@@ -126,7 +144,10 @@ number-like p a n i low found in_page memory like =
     ∙ sym (get_or-drop (i * 4096 + a % 4096) p.bytes.items (0 + k) 0))
 
 -- One more page.
-module _ (place next : ℕ → Option ℕ) (numbers bytes page : List ℕ) (n : ℕ) (indexed : (i : ℕ) → i < length numbers → place (get_or numbers i 0) ≡ Some i) (held : (q i : ℕ) → place q ≡ Some i → i < length numbers) (numbered : (q i : ℕ) → place q ≡ Some i → get_or numbers i 0 ≡ q) (absent : place n ≡ None) (is : (q : ℕ) → next q ≡ (if q == n then Some (length numbers) else place q)) where
+module _ (place next : ℕ → Option ℕ) (numbers bytes page : List ℕ) (n : ℕ)
+    (indexed : (i : ℕ) → i < length numbers → place (get_or numbers i 0) ≡ Some i)
+    (held : (q i : ℕ) → place q ≡ Some i → i < length numbers) (numbered : (q i : ℕ) → place q ≡ Some i → get_or numbers i 0 ≡ q)
+    (absent : place n ≡ None) (is : (q : ℕ) → next q ≡ (if q == n then Some (length numbers) else place q)) where
   next-new : (q : ℕ) → q ≡ n → next q ≡ Some (length numbers)
   next-new q same = is q ∙ ap (λ t. if t then Some (length numbers) else place q) (eq-eqb q n same)
 
@@ -134,7 +155,8 @@ module _ (place next : ℕ → Option ℕ) (numbers bytes page : List ℕ) (n : 
   next-old q other = is q ∙ ap (λ t. if t then Some (length numbers) else place q) other
 
   last : get_or (numbers ++ n ∷ []) (length numbers) 0 ≡ n
-  last = get_or-append_right numbers (n ∷ []) (length numbers) (length numbers) 0 refl (omega arith) ∙ ap (λ (k : ℕ). get_or (n ∷ []) k 0) {y = 0} (omega arith)
+  last = get_or-append_right numbers (n ∷ []) (length numbers) (length numbers) 0 refl (omega arith)
+      ∙ ap (λ (k : ℕ). get_or (n ∷ []) k 0) {y = 0} (omega arith)
 
   before : (i : ℕ) → i < length numbers → get_or (numbers ++ n ∷ []) i 0 ≡ get_or numbers i 0
   before i less = get_or_append_left numbers (n ∷ []) 0 i less
@@ -143,7 +165,11 @@ module _ (place next : ℕ → Option ℕ) (numbers bytes page : List ℕ) (n : 
   indexed_more i within = elim (cases_lt i (length numbers)) [
     | inl less ↦
         let found : place (get_or numbers i 0) ≡ Some i = indexed i less in
-        let other : (get_or numbers i 0 == n) ≡ false = false_from_ne_true (get_or numbers i 0 == n) (λ e. absurd (let none : place (get_or numbers i 0) ≡ None = ap place (eqb-true (get_or numbers i 0) n e) ∙ absent in let both : Some i ≡ None = sym found ∙ none in cc)) in
+        let other : (get_or numbers i 0 == n) ≡ false =
+        false_from_ne_true (get_or numbers i 0 == n)
+        (λ e. absurd
+        (let none : place (get_or numbers i 0) ≡ None = ap place (eqb-true (get_or numbers i 0) n e) ∙ absent in
+        let both : Some i ≡ None = sym found ∙ none in cc)) in
         ap next (before i less) ∙ next-old (get_or numbers i 0) other ∙ found
     | inr more ↦
         let same : i ≡ length numbers = omega (arith, within, length-append numbers (n ∷ [])) in
@@ -154,36 +180,50 @@ module _ (place next : ℕ → Option ℕ) (numbers bytes page : List ℕ) (n : 
   held_more q i found = cases (q == n) refl
     where
       cases : (t : Bool) → (q == n) ≡ t → i < length (numbers ++ n ∷ [])
-      cases true e = let same : Some (length numbers) ≡ Some i = sym (next-new q (eqb-true q n e)) ∙ found in let here : length numbers ≡ i = cc in omega (arith, length-append numbers (n ∷ []))
+      cases true e = let same : Some (length numbers) ≡ Some i = sym (next-new q (eqb-true q n e)) ∙ found in
+          let here : length numbers ≡ i = cc in omega (arith, length-append numbers (n ∷ []))
       cases false e = let there = held q i (sym (next-old q e) ∙ found) in omega (arith, length-append numbers (n ∷ []))
 
   pub numbered_more : (q i : ℕ) → next q ≡ Some i → get_or (numbers ++ n ∷ []) i 0 ≡ q
   numbered_more q i found = cases (q == n) refl
     where
       cases : (t : Bool) → (q == n) ≡ t → get_or (numbers ++ n ∷ []) i 0 ≡ q
-      cases true e = let same : Some (length numbers) ≡ Some i = sym (next-new q (eqb-true q n e)) ∙ found in let here : length numbers ≡ i = cc in ap (λ k. get_or (numbers ++ n ∷ []) k 0) (sym here) ∙ last ∙ sym (eqb-true q n e)
+      cases true e = let same : Some (length numbers) ≡ Some i = sym (next-new q (eqb-true q n e)) ∙ found in
+          let here : length numbers ≡ i = cc in ap (λ k. get_or (numbers ++ n ∷ []) k 0) (sym here) ∙ last ∙ sym (eqb-true q n e)
       cases false e = let there : place q ≡ Some i = sym (next-old q e) ∙ found in before i (held q i there) ∙ numbered q i there
 
   pub sized_more : length bytes ≡ length numbers * 4096 → length page ≡ 4096 → length (bytes ++ page) ≡ length (numbers ++ n ∷ []) * 4096
   sized_more size whole = omega (arith, length-append numbers (n ∷ []), length-append bytes page)
 
-  pub page_added : length bytes ≡ length numbers * 4096 → length page ≡ 4096 → (q : ℕ) → option_map (λ i. get_or (bytes ++ page) (i * 4096 + q % 4096) 0) (next (q / 4096)) ≡ (if q / 4096 == n then Some (get_or page (q % 4096) 0) else option_map (λ i. get_or bytes (i * 4096 + q % 4096) 0) (place (q / 4096)))
+  pub page_added : length bytes ≡ length numbers * 4096 → length page ≡ 4096 → (q : ℕ) →
+      option_map (λ i. get_or (bytes ++ page) (i * 4096 + q % 4096) 0) (next (q / 4096))
+      ≡ (if q / 4096 == n then Some (get_or page (q % 4096) 0)
+      else option_map (λ i. get_or bytes (i * 4096 + q % 4096) 0) (place (q / 4096)))
   page_added size whole q = cases (q / 4096 == n) refl
     where
-      old : (r : Option ℕ) → place (q / 4096) ≡ r → option_map (λ i. get_or (bytes ++ page) (i * 4096 + q % 4096) 0) r ≡ option_map (λ i. get_or bytes (i * 4096 + q % 4096) 0) r
+      old : (r : Option ℕ) → place (q / 4096) ≡ r →
+          option_map (λ i. get_or (bytes ++ page) (i * 4096 + q % 4096) 0) r ≡ option_map (λ i. get_or bytes (i * 4096 + q % 4096) 0) r
       old None e = refl
       old (Some i) e = let here = held (q / 4096) i e in ap Some (get_or_append_left bytes page 0 (i * 4096 + q % 4096) (omega arith))
 
-      cases : (t : Bool) → (q / 4096 == n) ≡ t → option_map (λ i. get_or (bytes ++ page) (i * 4096 + q % 4096) 0) (next (q / 4096)) ≡ (if t then Some (get_or page (q % 4096) 0) else option_map (λ i. get_or bytes (i * 4096 + q % 4096) 0) (place (q / 4096)))
+      cases : (t : Bool) → (q / 4096 == n) ≡ t →
+          option_map (λ i. get_or (bytes ++ page) (i * 4096 + q % 4096) 0) (next (q / 4096))
+          ≡ (if t then Some (get_or page (q % 4096) 0) else option_map (λ i. get_or bytes (i * 4096 + q % 4096) 0) (place (q / 4096)))
       cases true e =
           ap (option_map (λ i. get_or (bytes ++ page) (i * 4096 + q % 4096) 0)) (next-new (q / 4096) (eqb-true (q / 4096) n e))
-          ∙ ap Some (get_or-append_right bytes page (length numbers * 4096) (length numbers * 4096 + q % 4096) 0 size (omega arith) ∙ ap (λ (k : ℕ). get_or page k 0) {y = q % 4096} (omega arith))
-      cases false e = ap (option_map (λ i. get_or (bytes ++ page) (i * 4096 + q % 4096) 0)) (next-old (q / 4096) e) ∙ old (place (q / 4096)) refl
+          ∙ ap Some (get_or-append_right bytes page (length numbers * 4096) (length numbers * 4096 + q % 4096) 0 size (omega arith)
+          ∙ ap (λ (k : ℕ). get_or page k 0) {y = q % 4096} (omega arith))
+      cases false e = ap (option_map (λ i. get_or (bytes ++ page) (i * 4096 + q % 4096) 0)) (next-old (q / 4096) e)
+          ∙ old (place (q / 4096)) refl
 
-pub byte_in-added : (old : Pages) (index : PageIndex) (bytes : List ℕ) (n : ℕ) (page : List ℕ) → place_of old.index n ≡ None → ((q : ℕ) → place_of index q ≡ (if q == n then Some (length old.numbers.items) else place_of old.index q)) → bytes ≡ old.bytes.items ++ page → length page ≡ 4096 → (q : ℕ) → byte_in index bytes q ≡ (if q / 4096 == n then Some (get_or page (q % 4096) 0) else page_byte old q)
+pub byte_in-added : (old : Pages) (index : PageIndex) (bytes : List ℕ) (n : ℕ) (page : List ℕ) → place_of old.index n ≡ None →
+    ((q : ℕ) → place_of index q ≡ (if q == n then Some (length old.numbers.items) else place_of old.index q)) → bytes ≡ old.bytes.items
+    ++ page → length page ≡ 4096 → (q : ℕ) →
+    byte_in index bytes q ≡ (if q / 4096 == n then Some (get_or page (q % 4096) 0) else page_byte old q)
 unfolding byte_in
 byte_in-added old index bytes n page absent is added whole q =
-    rw added (page_added (place_of old.index) (place_of index) old.numbers.items old.bytes.items page n old.indexed old.held old.numbered absent is old.sized whole q)
+    rw added (page_added (place_of old.index)
+    (place_of index) old.numbers.items old.bytes.items page n old.indexed old.held old.numbered absent is old.sized whole q)
 
 pub place-none : (p : Pages) (a : ℕ) → is_some (page_byte p a) ≡ false → place_of p.index (a / 4096) ≡ None
 unfolding byte_in

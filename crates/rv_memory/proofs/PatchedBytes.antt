@@ -23,7 +23,8 @@ pub length-patched : (at : ℕ) (ys xs : List ℕ) → at + length ys ≤ length
 unfolding patched
 length-patched at ys xs within = grind (arith, common_steps)
 
-pub get_or-patched_there : (at : ℕ) (ys xs : List ℕ) (k : ℕ) → at + length ys ≤ length xs → k < length ys → get_or (patched at ys xs) (at + k) 0 ≡ get_or ys k 0
+pub get_or-patched_there : (at : ℕ) (ys xs : List ℕ) (k : ℕ) → at + length ys ≤ length xs → k < length ys →
+    get_or (patched at ys xs) (at + k) 0 ≡ get_or ys k 0
 unfolding patched
 get_or-patched_there at ys xs k within here =
     let front : length (take at xs) ≡ at = grind (arith, common_steps) in
@@ -32,7 +33,8 @@ get_or-patched_there at ys xs k within here =
     ∙ ap (λ (j : ℕ). get_or (ys ++ drop (at + length ys) xs) j 0) place
     ∙ get_or_append_left ys (drop (at + length ys) xs) 0 k here
 
-pub get_or-patched_beside : (at : ℕ) (ys xs : List ℕ) (k : ℕ) → at + length ys ≤ length xs → (k < at) ⊎ (at + length ys ≤ k) → get_or (patched at ys xs) k 0 ≡ get_or xs k 0
+pub get_or-patched_beside : (at : ℕ) (ys xs : List ℕ) (k : ℕ) → at + length ys ≤ length xs → (k < at) ⊎ (at + length ys ≤ k) →
+    get_or (patched at ys xs) k 0 ≡ get_or xs k 0
 unfolding patched
 get_or-patched_beside at ys xs k within (inl low) =
     let front : length (take at xs) ≡ at = grind (arith, common_steps) in
@@ -48,8 +50,11 @@ get_or-patched_beside at ys xs k within (inr high) =
 -- Pages stand one after another, each at the place of its number.
 module _ (place : ℕ → Option ℕ) (numbers xs : List ℕ) (numbered : (q i : ℕ) → place q ≡ Some i → get_or numbers i 0 ≡ q) where
   -- bytes written inside one of them
-  module _ (ys : List ℕ) (a i : ℕ) (found : place (a / 4096) ≡ Some i) (in_page : a % 4096 + length ys ≤ 4096) (within : i * 4096 + a % 4096 + length ys ≤ length xs) where
-    there : (q : ℕ) → a ≤ q → q < a + length ys → option_map (λ j. get_or (patched (i * 4096 + a % 4096) ys xs) (j * 4096 + q % 4096) 0) (place (q / 4096)) ≡ Some (get_or ys (q - a) 0)
+  module _ (ys : List ℕ) (a i : ℕ) (found : place (a / 4096) ≡ Some i) (in_page : a % 4096 + length ys ≤ 4096)
+      (within : i * 4096 + a % 4096 + length ys ≤ length xs) where
+    there : (q : ℕ) → a ≤ q → q < a + length ys →
+        option_map (λ j. get_or (patched (i * 4096 + a % 4096) ys xs) (j * 4096 + q % 4096) 0) (place (q / 4096))
+        ≡ Some (get_or ys (q - a) 0)
     there q from to =
         let page : q / 4096 ≡ a / 4096 = omega arith in
         let offset : i * 4096 + q % 4096 ≡ i * 4096 + a % 4096 + (q - a) = omega arith in
@@ -57,29 +62,42 @@ module _ (place : ℕ → Option ℕ) (numbers xs : List ℕ) (numbered : (q i :
         ∙ ap (λ k. Some (get_or (patched (i * 4096 + a % 4096) ys xs) k 0)) offset
         ∙ ap Some (get_or-patched_there (i * 4096 + a % 4096) ys xs (q - a) within (omega arith))
 
-    apart : (q j : ℕ) → place (q / 4096) ≡ Some j → (q < a) ⊎ (a + length ys ≤ q) → (j * 4096 + q % 4096 < i * 4096 + a % 4096) ⊎ (i * 4096 + a % 4096 + length ys ≤ j * 4096 + q % 4096)
+    apart : (q j : ℕ) → place (q / 4096) ≡ Some j → (q < a) ⊎ (a + length ys ≤ q) → (j * 4096 + q % 4096 < i * 4096 + a % 4096)
+        ⊎ (i * 4096 + a % 4096 + length ys ≤ j * 4096 + q % 4096)
     apart q j is beside = elim (cases_lt j i) [
       | inl low ↦ inl (omega arith)
       | inr high ↦ elim (eq-or-lt_of_le high) [
         | inr above ↦ inr (omega arith)
         | inl same ↦
-            let page : q / 4096 ≡ a / 4096 = sym (numbered (q / 4096) j is) ∙ ap (λ k. get_or numbers k 0) (sym same) ∙ numbered (a / 4096) i found in
+            let page : q / 4096 ≡ a / 4096 = sym (numbered (q / 4096) j is) ∙ ap (λ k. get_or numbers k 0) (sym same)
+            ∙ numbered (a / 4096) i found in
             elim beside [ inl before ↦ inl (omega arith) | inr after ↦ inr (omega arith) ]
       ]
     ]
 
-    elsewhere : (q : ℕ) → (q < a) ⊎ (a + length ys ≤ q) → (r : Option ℕ) → place (q / 4096) ≡ r → option_map (λ j. get_or (patched (i * 4096 + a % 4096) ys xs) (j * 4096 + q % 4096) 0) r ≡ option_map (λ j. get_or xs (j * 4096 + q % 4096) 0) r
+    elsewhere : (q : ℕ) → (q < a) ⊎ (a + length ys ≤ q) → (r : Option ℕ) → place (q / 4096) ≡ r →
+        option_map (λ j. get_or (patched (i * 4096 + a % 4096) ys xs) (j * 4096 + q % 4096) 0) r
+        ≡ option_map (λ j. get_or xs (j * 4096 + q % 4096) 0) r
     elsewhere q beside None is = refl
-    elsewhere q beside (Some j) is = ap Some (get_or-patched_beside (i * 4096 + a % 4096) ys xs (j * 4096 + q % 4096) within (apart q j is beside))
+    elsewhere q beside (Some j) is =
+        ap Some (get_or-patched_beside (i * 4096 + a % 4096) ys xs (j * 4096 + q % 4096) within (apart q j is beside))
 
-    pub page_patched : (q : ℕ) → option_map (λ j. get_or (patched (i * 4096 + a % 4096) ys xs) (j * 4096 + q % 4096) 0) (place (q / 4096)) ≡ (if is_within a (length ys) q then Some (get_or ys (q - a) 0) else option_map (λ j. get_or xs (j * 4096 + q % 4096) 0) (place (q / 4096)))
+    pub page_patched : (q : ℕ) →
+        option_map (λ j. get_or (patched (i * 4096 + a % 4096) ys xs) (j * 4096 + q % 4096) 0) (place (q / 4096))
+        ≡ (if is_within a (length ys) q then Some (get_or ys (q - a) 0)
+        else option_map (λ j. get_or xs (j * 4096 + q % 4096) 0) (place (q / 4096)))
     page_patched q = by_start (nat_le a q) refl
       where
-        by_end : a ≤ q → (t : Bool) → nat_lt q (a + length ys) ≡ t → option_map (λ j. get_or (patched (i * 4096 + a % 4096) ys xs) (j * 4096 + q % 4096) 0) (place (q / 4096)) ≡ (if t then Some (get_or ys (q - a) 0) else option_map (λ j. get_or xs (j * 4096 + q % 4096) 0) (place (q / 4096)))
+        by_end : a ≤ q → (t : Bool) → nat_lt q (a + length ys) ≡ t →
+            option_map (λ j. get_or (patched (i * 4096 + a % 4096) ys xs) (j * 4096 + q % 4096) 0) (place (q / 4096))
+            ≡ (if t then Some (get_or ys (q - a) 0) else option_map (λ j. get_or xs (j * 4096 + q % 4096) 0) (place (q / 4096)))
         by_end from true test = there q from (ltb-true q (a + length ys) test)
         by_end from false test = elsewhere q (inr (ltb-false q (a + length ys) test)) (place (q / 4096)) refl
 
-        by_start : (t : Bool) → nat_le a q ≡ t → option_map (λ j. get_or (patched (i * 4096 + a % 4096) ys xs) (j * 4096 + q % 4096) 0) (place (q / 4096)) ≡ (if t && nat_lt q (a + length ys) then Some (get_or ys (q - a) 0) else option_map (λ j. get_or xs (j * 4096 + q % 4096) 0) (place (q / 4096)))
+        by_start : (t : Bool) → nat_le a q ≡ t →
+            option_map (λ j. get_or (patched (i * 4096 + a % 4096) ys xs) (j * 4096 + q % 4096) 0) (place (q / 4096))
+            ≡ (if t && nat_lt q (a + length ys) then Some (get_or ys (q - a) 0)
+            else option_map (λ j. get_or xs (j * 4096 + q % 4096) 0) (place (q / 4096)))
         by_start true test = by_end (leb-true a q test) (nat_lt q (a + length ys)) refl
         by_start false test = elsewhere q (inl (leb-false a q test)) (place (q / 4096)) refl
 
@@ -95,10 +113,12 @@ length-low_bytes (suc n) v = ap suc (length-low_bytes n (v / 256))
 
 pub little_bytes-low_bytes : (n v : ℕ) → little_bytes n (v % 256 ^ n) ≡ low_bytes n v
 little_bytes-low_bytes n v =
-    let whole : take n (little_bytes n (v % 256 ^ n)) ≡ little_bytes n (v % 256 ^ n) = take_all n (little_bytes n (v % 256 ^ n)) (omega (arith, length-bytes_low_first 0 n (v % 256 ^ n))) in
+    let whole : take n (little_bytes n (v % 256 ^ n)) ≡ little_bytes n (v % 256 ^ n) =
+    take_all n (little_bytes n (v % 256 ^ n)) (omega (arith, length-bytes_low_first 0 n (v % 256 ^ n))) in
     sym whole ∙ (rw (div-one (v % 256 ^ n)) at (bytes_low_first-low_bytes 0 n n (v % 256 ^ n) (omega arith))) ∙ low_bytes-mod n v
 
-pub number_patched : (at n v : ℕ) (xs zs : List ℕ) → at + n ≤ length xs → zs ≡ little_bytes n (v % 256 ^ n) ++ drop n (take (length xs - at) (drop at xs)) → put_mid at (length xs - at) xs zs ≡ patched at (low_bytes n v) xs
+pub number_patched : (at n v : ℕ) (xs zs : List ℕ) → at + n ≤ length xs → zs ≡ little_bytes n (v % 256 ^ n)
+    ++ drop n (take (length xs - at) (drop at xs)) → put_mid at (length xs - at) xs zs ≡ patched at (low_bytes n v) xs
 unfolding patched
 number_patched at n v xs zs within is =
     ap (λ ys. take at xs ++ (ys ++ drop (length xs - at) (drop at xs))) is
@@ -114,6 +134,7 @@ pub set_patched : (at v : ℕ) (xs : List ℕ) → at + 1 ≤ length xs → set 
 unfolding low_bytes
 set_patched at v xs within = set_one at (v % 256) xs within
 
-pub whole_patched : (at n v : ℕ) (xs zs : List ℕ) → at + n ≤ length xs → v % 256 ^ n ≡ v → zs ≡ little_bytes n v ++ drop n (take (length xs - at) (drop at xs)) → put_mid at (length xs - at) xs zs ≡ patched at (low_bytes n v) xs
+pub whole_patched : (at n v : ℕ) (xs zs : List ℕ) → at + n ≤ length xs → v % 256 ^ n ≡ v → zs ≡ little_bytes n v
+    ++ drop n (take (length xs - at) (drop at xs)) → put_mid at (length xs - at) xs zs ≡ patched at (low_bytes n v) xs
 whole_patched at n v xs zs within fits is =
     number_patched at n v xs zs within (is ∙ ap (λ (w : ℕ). little_bytes n w ++ drop n (take (length xs - at) (drop at xs))) (sym fits))

@@ -17,11 +17,13 @@ put_below memory a q (b ∷ bytes) room below =
     let below' : q < a + 1 = omega (arith, below) in
     cases (q == a) refl (ap (λ p. put memory p bytes q) next ∙ put_below memory (a + 1) q bytes room' below')
   where
-    cases : (t : Bool) → (q == a) ≡ t → put memory (plus a 1) bytes q ≡ memory q → (if t then b else put memory (plus a 1) bytes q) ≡ memory q
+    cases : (t : Bool) → (q == a) ≡ t → put memory (plus a 1) bytes q ≡ memory q →
+        (if t then b else put memory (plus a 1) bytes q) ≡ memory q
     cases true test rest = let same : q ≡ a = eqb-true q a test in absurd (omega (arith, same, below))
     cases false test rest = rest
 
-pub put_there : (memory : ℕ → ℕ) (a q : ℕ) (bytes : List ℕ) → a + length bytes < 2 ^ 64 → a ≤ q → q < a + length bytes → put memory a bytes q ≡ slice_index bytes (q - a)
+pub put_there : (memory : ℕ → ℕ) (a q : ℕ) (bytes : List ℕ) → a + length bytes < 2 ^ 64 → a ≤ q → q < a + length bytes →
+    put memory a bytes q ≡ slice_index bytes (q - a)
 unfolding put
 put_there memory a q [] room from to = absurd (omega (arith, from, to))
 put_there memory a q (b ∷ bytes) room from to =
@@ -30,7 +32,8 @@ put_there memory a q (b ∷ bytes) room from to =
     let to' : q < a + 1 + length bytes = omega (arith, to) in
     cases (q == a) refl (λ after. ap (λ p. put memory p bytes q) next ∙ put_there memory (a + 1) q bytes room' after to')
   where
-    cases : (t : Bool) → (q == a) ≡ t → (a + 1 ≤ q → put memory (plus a 1) bytes q ≡ slice_index bytes (q - (a + 1))) → (if t then b else put memory (plus a 1) bytes q) ≡ slice_index (b ∷ bytes) (q - a)
+    cases : (t : Bool) → (q == a) ≡ t → (a + 1 ≤ q → put memory (plus a 1) bytes q ≡ slice_index bytes (q - (a + 1))) →
+        (if t then b else put memory (plus a 1) bytes q) ≡ slice_index (b ∷ bytes) (q - a)
     cases true test rest =
         let same : q ≡ a = eqb-true q a test in
         let first : q - a ≡ 0 = omega (arith, same) in
@@ -41,7 +44,8 @@ put_there memory a q (b ∷ bytes) room from to =
         let one : q - a ≡ suc (q - (a + 1)) = omega (arith, after) in
         rw one (rest after)
 
-pub put_past : (memory : ℕ → ℕ) (a q : ℕ) (bytes : List ℕ) → a + length bytes < 2 ^ 64 → a + length bytes ≤ q → put memory a bytes q ≡ memory q
+pub put_past : (memory : ℕ → ℕ) (a q : ℕ) (bytes : List ℕ) → a + length bytes < 2 ^ 64 → a + length bytes ≤ q →
+    put memory a bytes q ≡ memory q
 unfolding put
 put_past memory a q [] room past = refl
 put_past memory a q (b ∷ bytes) room past =
@@ -50,7 +54,8 @@ put_past memory a q (b ∷ bytes) room past =
     let past' : a + 1 + length bytes ≤ q = omega (arith, past) in
     cases (q == a) refl (ap (λ p. put memory p bytes q) next ∙ put_past memory (a + 1) q bytes room' past')
   where
-    cases : (t : Bool) → (q == a) ≡ t → put memory (plus a 1) bytes q ≡ memory q → (if t then b else put memory (plus a 1) bytes q) ≡ memory q
+    cases : (t : Bool) → (q == a) ≡ t → put memory (plus a 1) bytes q ≡ memory q →
+        (if t then b else put memory (plus a 1) bytes q) ≡ memory q
     cases true test rest = let same : q ≡ a = eqb-true q a test in absurd (omega (arith, same, past))
     cases false test rest = rest
 
@@ -73,11 +78,13 @@ beside q test P under over = by_end (nat_lt q stack_end) refl
     by_end true before = by_start before (nat_le (stack_end - stack_size) q) refl
 
 -- bytes that end with the stack, over zeros in the stack and the image elsewhere
-module _ (bytes : List ℕ) (pointer : ℕ) (image memory : ℕ → ℕ) (is : (q : ℕ) → memory q ≡ (if in_stack q then 0 else image q)) (ends : pointer + length bytes ≡ stack_end) (within : stack_end - stack_size ≤ pointer) where
+module _ (bytes : List ℕ) (pointer : ℕ) (image memory : ℕ → ℕ) (is : (q : ℕ) → memory q ≡ (if in_stack q then 0 else image q))
+    (ends : pointer + length bytes ≡ stack_end) (within : stack_end - stack_size ≤ pointer) where
   low : pointer + length bytes < 2 ^ 64
   low = omega (arith, ends)
 
-  inside : (q : ℕ) → q < stack_end → memory q ≡ 0 → (t : Bool) → nat_le pointer q ≡ t → put memory pointer bytes q ≡ (if t then slice_index bytes (q - pointer) else 0)
+  inside : (q : ℕ) → q < stack_end → memory q ≡ 0 → (t : Bool) → nat_le pointer q ≡ t →
+      put memory pointer bytes q ≡ (if t then slice_index bytes (q - pointer) else 0)
   inside q under nought true test = put_there memory pointer q bytes low (leb-true pointer q test) (omega (arith, ends, under))
   inside q under nought false test = put_below memory pointer q bytes low (leb-false pointer q test) ∙ nought
 
@@ -87,12 +94,15 @@ module _ (bytes : List ℕ) (pointer : ℕ) (image memory : ℕ → ℕ) (is : (
       (λ under. put_below memory pointer q bytes low (omega (arith, under, within)))
       (λ over. put_past memory pointer q bytes low (omega (arith, ends, over)))
 
-  pub put_stack : (q : ℕ) → put memory pointer bytes q ≡ (if in_stack q then if nat_le pointer q then slice_index bytes (q - pointer) else 0 else image q)
+  pub put_stack : (q : ℕ) →
+      put memory pointer bytes q ≡ (if in_stack q then if nat_le pointer q then slice_index bytes (q - pointer) else 0 else image q)
   put_stack q = by_stack (in_stack q) refl
     where
-      by_stack : (t : Bool) → in_stack q ≡ t → put memory pointer bytes q ≡ (if t then if nat_le pointer q then slice_index bytes (q - pointer) else 0 else image q)
+      by_stack : (t : Bool) → in_stack q ≡ t →
+          put memory pointer bytes q ≡ (if t then if nat_le pointer q then slice_index bytes (q - pointer) else 0 else image q)
       by_stack true test =
-          inside q (ltb-true q stack_end (and_parts (nat_le (stack_end - stack_size) q) (nat_lt q stack_end) test).1) (is q ∙ ap (λ (t : Bool). if t then 0 else image q) test) (nat_le pointer q) refl
+          inside q (ltb-true q stack_end (and_parts (nat_le (stack_end - stack_size) q) (nat_lt q stack_end) test).1)
+          (is q ∙ ap (λ (t : Bool). if t then 0 else image q) test) (nat_le pointer q) refl
       by_stack false test = outside q test ∙ is q ∙ ap (λ (t : Bool). if t then 0 else image q) test
 
 -- the registers at the start
@@ -107,5 +117,7 @@ start_register p zero = refl
 start_register p (suc zero) = refl
 start_register p (suc (suc zero)) = refl
 start_register p (suc (suc (suc n))) =
-    let other : (suc (suc (suc n)) == 2) ≡ false = false_from_ne_true (suc (suc (suc n)) == 2) (λ test. let same : suc (suc (suc n)) ≡ 2 = eqb-true (suc (suc (suc n))) 2 test in omega (arith, same)) in
+    let other : (suc (suc (suc n)) == 2) ≡ false =
+    false_from_ne_true (suc (suc (suc n)) == 2)
+    (λ test. let same : suc (suc (suc n)) ≡ 2 = eqb-true (suc (suc (suc n))) 2 test in omega (arith, same)) in
     rw other (zeros 29 n)

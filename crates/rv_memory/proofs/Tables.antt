@@ -9,7 +9,8 @@ use Rattle.elf_image.specs.memory.Start.{table_address}
 use Rattle.elf_image.proofs.ReadLists.{length-segments_of}
 use Rattle.rv_memory.specs.Table.{loads_range}
 
-pub table_address-is : (file : List ℕ) (phoff : ℕ) (segments : List Segment) (found : Option Segment) → phoff ≡ e_phoff file → segments ≡ segments_of file →
+pub table_address-is : (file : List ℕ) (phoff : ℕ) (segments : List Segment) (found : Option Segment) → phoff ≡ e_phoff file →
+    segments ≡ segments_of file →
     found ≡ find (loads_range phoff (phoff + PHDR_SIZE * length segments)) segments →
     table_address file ≡ option_map_or (λ p. p.vaddr + (phoff - p.offset)) found 0
 table_address-is file phoff segments found at are is =

@@ -1,9 +1,9 @@
 -- Addresses that no program may write, whatever its break.
-use Rattle.std.specs.Prelude.{ℕ, ◌&&◌, ◌||◌, nat_le, nat_lt, Bool, List}
+use Rattle.std.specs.Prelude.{◌≡◌, ◌≤◌, ◌+◌, ◌-◌, ◌⊎◌, ℕ, ◌&&◌, ◌||◌, nat_le, nat_lt, min, Bool, true, false, List, length}
 use Rattle.elf_image.specs.declared.segment.Segment.{Segment}
-use Rattle.elf_image.specs.declared.segment.TheConstants.{PF_W}
-use Rattle.elf_image.specs.memory.Image.{is_loaded_with}
-use Rattle.elf_image.specs.memory.Start.{in_stack}
+use Rattle.elf_image.specs.declared.segment.TheConstants.{PF_W, PF_X}
+use Rattle.elf_image.specs.memory.Image.{has_flag, is_loaded_with}
+use Rattle.elf_image.specs.memory.Start.{in_stack, stack_end, stack_size}
 use Rattle.rv_memory.specs.declared.code_range.CodeRange.{CodeRange}
 
 abbrev pub holds : CodeRange → ℕ → Bool
@@ -12,3 +12,20 @@ holds range q = nat_le range.from q && nat_lt q range.to
 -- it is loaded to be written, in the stack, or in what a break can gain that starts and ends there
 abbrev pub is_ever_writable : List Segment → ℕ → ℕ → ℕ → Bool
 is_ever_writable segments from to q = (is_loaded_with PF_W segments q || in_stack q) || (nat_le from q && nat_lt q to)
+
+-- how many bytes the file has of a segment
+abbrev pub size_of : Segment → ℕ
+size_of p = min p.filesz p.memsz
+
+-- They may be executed and never be written: not by the segment's own rights, nor in the stack, nor in what a break can gain
+-- that starts and ends there. The file has them all.
+pub record IsFixedCode (file : List ℕ) (from to : ℕ) (p : Segment) : Type 0 where
+  pub executable : has_flag PF_X p ≡ true
+  pub unwritable : has_flag PF_W p ≡ false
+  pub below_stack : p.vaddr + size_of p ≤ stack_end - stack_size
+  pub apart : (p.vaddr + size_of p ≤ from) ⊎ (to ≤ p.vaddr)
+  pub in_file : p.offset + size_of p ≤ length file
+
+-- where they are loaded
+abbrev pub range_of : Segment → CodeRange
+range_of p = record { from = p.vaddr; to = p.vaddr + size_of p; offset = p.offset }

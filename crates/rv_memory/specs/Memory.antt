@@ -71,4 +71,5 @@ abbrev pub break_after : Memory → ℕ → ℕ
 break_after m to = if may_stand m to then to else m.program_break
 
 abbrev pub byte_after : Memory → ℕ → ℕ → ℕ
-byte_after m to a = if may_stand m to then (if nat_le m.program_break a && nat_lt a to then 0 else memory_of m a) else memory_of m a
+byte_after m to a =
+    if may_stand m to then (if nat_le m.program_break a && nat_lt a to then 0 else memory_of m a) else memory_of m a

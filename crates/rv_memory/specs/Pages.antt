@@ -1,5 +1,5 @@
 -- The byte that the pages have at an address.
-use Rattle.std.specs.Prelude.{◌≡◌, ℕ, ◌+◌, ◌-◌, ◌*◌, ◌/◌, ◌%◌, ◌<◌, ◌&&◌, nat_le, nat_lt, if◌then◌else◌, Bool, List, length, Option, Some, None, slice_index}
+use Rattle.std.specs.Prelude.{◌≡◌, ℕ, ◌+◌, ◌-◌, ◌*◌, ◌/◌, ◌%◌, ◌&&◌, nat_le, nat_lt, if◌then◌else◌, Bool, List, length, Option, Some, slice_index}
 use Rattle.std.specs.Option.{option_map}
 use Rattle.rv_memory.specs.PageIndex.{place_of}
 use Rattle.rv_memory.specs.declared.page_index.PageIndex.{PageIndex}
@@ -26,7 +26,8 @@ byte_cleared pages a n q = if is_within a n q then option_map (λ byte. 0) (page
 
 -- the byte after those from one address up to another were cleared
 abbrev pub cleared_between : Pages → ℕ → ℕ → ℕ → Option ℕ
-cleared_between pages from to q = if nat_le from q && nat_lt q to then option_map (λ byte. 0) (page_byte pages q) else page_byte pages q
+cleared_between pages from to q =
+    if nat_le from q && nat_lt q to then option_map (λ byte. 0) (page_byte pages q) else page_byte pages q
 
 -- the memory has the pages' bytes where there are pages
 pub record IsLike (pages : Pages) (memory : ℕ → ℕ) : Type 0 where

@@ -1,8 +1,8 @@
 // Bytes and numbers written over a part of a list of bytes.
-ghost use Rattle.std.specs.Prelude.{◌≡◌, ◌≤◌, ◌<◌, ◌+◌, ◌^◌, IfSome, length, replicate};
+ghost use Rattle.std.specs.Prelude.{◌≡◌, ◌≤◌, ◌<◌, ◌+◌, ◌^◌, IfSome, is_some, length, replicate};
 ghost use Rattle.elf_image.specs.file.Header.{number_at};
 ghost use Rattle.rv_code.specs.machine.Machine.{low_bytes};
-ghost use Rattle.rv_memory.specs.Patched.{patched};
+ghost use Rattle.rv_memory.specs.Patched.{patched, is_width};
 
 use byteorder::{ByteOrder, LittleEndian};
 use elf_image::number::{u16_at, u32_at, u64_at};
@@ -82,6 +82,7 @@ pub fn number_in(bytes: &[u8], at: usize, count: u8) -> Option<u64>
     requires { at + count ≤ length bytes.now }
     ensures value { IfSome result (λ number. number ≡ number_at bytes.now at count) }
     ensures below { IfSome result (λ number. number < 256 ^ count) }
+    ensures there { is_some result ≡ is_width count }
 {
     match count {
         1 => Some(bytes[at] as u64),

@@ -1,8 +1,9 @@
 // The code of a program that nothing changes while it runs.
-ghost use Rattle.std.specs.Prelude.{◌≡◌, ◌≤◌, ◌+◌, ◌-◌, ◌^◌, ◌⊎◌, ℕ, IsTrue, false, true, length, slice_index, unwrap_or};
+ghost use Rattle.std.specs.Prelude.{◌≡◌, ◌↔◌, ◌≤◌, ◌+◌, ◌-◌, ◌^◌, ◌⊎◌, ℕ, IsTrue, Some, false, true, length, slice_index, unwrap_or};
 ghost use Rattle.elf_image.specs.declared.segment.TheConstants.{PF_X};
-ghost use Rattle.elf_image.specs.memory.Image.{image_byte, is_loaded_with};
-ghost use Rattle.rv_memory.specs.CodeRange.{holds, is_ever_writable};
+ghost use Rattle.elf_image.specs.declared.segment.Segment.{Segment};
+ghost use Rattle.elf_image.specs.memory.Image.{image_byte, is_loaded_with, segment_of};
+ghost use Rattle.rv_memory.specs.CodeRange.{holds, is_ever_writable, IsFixedCode, range_of};
 
 use crate::rights::{STACK_END, STACK_SIZE};
 use elf_image::Elf;
@@ -24,7 +25,7 @@ const EMPTY: CodeRange = CodeRange {
 
 // Whether two runs of addresses share none.
 fn lie_apart(from: u64, to: u64, start: u64, end: u64) -> bool
-    ensures { IsTrue result → (to ≤ start) ⊎ (end ≤ from) }
+    ensures { IsTrue result ↔ ((to ≤ start) ⊎ (end ≤ from)) }
 {
     if to <= start {
         return true;
@@ -36,7 +37,11 @@ fn lie_apart(from: u64, to: u64, start: u64, end: u64) -> bool
 pub fn code_range(elf: &Elf, break_start: u64, break_bound: u64) -> CodeRange
     ensures fixed { (q : ℕ) → holds result q ≡ true → is_ever_writable elf.now.segments.items break_start break_bound q ≡ false }
     ensures runs { (q : ℕ) → holds result q ≡ true → is_loaded_with PF_X elf.now.segments.items q ≡ true }
-    ensures bytes { (q : ℕ) → holds result q ≡ true → unwrap_or (image_byte elf.now.file.now elf.now.segments.items q) 0 ≡ slice_index elf.now.file.now (result.offset + (q - result.from)) }
+    ensures bytes { (q : ℕ) → holds result q ≡ true →
+        unwrap_or (image_byte elf.now.file.now elf.now.segments.items q) 0
+        ≡ slice_index elf.now.file.now (result.offset + (q - result.from)) }
+    ensures whole { (p : Segment) → segment_of elf.now.segments.items elf.now.entry ≡ Some p →
+        IsFixedCode elf.now.file.now break_start break_bound p → result ≡ range_of p }
     ensures within { result.offset + (result.to - result.from) ≤ length elf.now.file.now }
 {
     let Some(segment) = elf.segment_at(elf.entry) else {
@@ -67,7 +72,7 @@ pub fn code_range(elf: &Elf, break_start: u64, break_bound: u64) -> CodeRange
 impl CodeRange {
     /// Whether the range has all of `count` addresses.
     pub fn has(&self, address: u64, count: u64) -> bool
-        ensures within { IsTrue result → (self.now.from ≤ address) × (address + count ≤ self.now.to) }
+        ensures within { IsTrue result ↔ ((self.now.from ≤ address) × (address + count ≤ self.now.to)) }
         ensures room { IsTrue result → address + count ≤ 2 ^ 64 }
     {
         self.from <= address && address <= self.to && count <= self.to - address

@@ -3,7 +3,7 @@ ghost use Rattle.elf_image.specs.declared.segment.TheConstants.{PF_X};
 ghost use Rattle.elf_image.specs.memory.Image.{image_byte, is_loaded_with};
 ghost use Rattle.rv_memory.specs.CodeRange.{holds, is_ever_writable};
 ghost use Rattle.rv_memory.specs.Pages.{page_byte};
-ghost use Rattle.std.specs.Prelude.{◌≡◌, ◌<◌, ◌≤◌, ◌^◌, ◌+◌, ◌-◌, ◌*◌, ◌%◌, ◌&&◌, ◌==◌, ℕ, Bool, false, None, Some, IfOk, IsOk, IsTrue, OnErr, IfSome, IsSome, length, nat_le, nat_lt, true, slice_index, unwrap_or, if◌then◌else◌};
+ghost use Rattle.std.specs.Prelude.{◌≡◌, ◌↔◌, ◌<◌, ◌≤◌, ◌^◌, ◌+◌, ◌-◌, ◌*◌, ◌%◌, ◌&&◌, ◌==◌, ℕ, Bool, false, None, Some, IfOk, IsOk, IsTrue, OnErr, IfSome, IsSome, length, nat_le, nat_lt, true, slice_index, unwrap_or, if◌then◌else◌};
 
 use crate::code_range::{CodeRange, code_range};
 use crate::image::is_blank;
@@ -36,12 +36,16 @@ pub struct Memory<'a> {
     pub ghost break_from: { break_start ≤ program_break },
     pub ghost break_to: { program_break ≤ break_top },
     pub ghost break_within: { break_top ≤ break_bound },
-    pub ghost code_fixed: { (q : ℕ) → holds code q ≡ true → is_ever_writable elf.now.segments.items break_start break_bound q ≡ false },
+    pub ghost code_fixed: { (q : ℕ) → holds code q ≡ true →
+        is_ever_writable elf.now.segments.items break_start break_bound q ≡ false },
     pub ghost code_runs: { (q : ℕ) → holds code q ≡ true → is_loaded_with PF_X elf.now.segments.items q ≡ true },
-    pub ghost code_bytes: { (q : ℕ) → holds code q ≡ true → unwrap_or (image_byte elf.now.file.now elf.now.segments.items q) 0 ≡ slice_index elf.now.file.now (code.offset + (q - code.from)) },
+    pub ghost code_bytes: { (q : ℕ) → holds code q ≡ true →
+        unwrap_or (image_byte elf.now.file.now elf.now.segments.items q) 0
+        ≡ slice_index elf.now.file.now (code.offset + (q - code.from)) },
     pub ghost code_within: { code.offset + (code.to - code.from) ≤ length elf.now.file.now },
     // It is as it was loaded, also where a page holds it.
-    pub ghost code_stays: { (q byte : ℕ) → holds code q ≡ true → page_byte pages q ≡ Some byte → byte ≡ unwrap_or (image_byte elf.now.file.now elf.now.segments.items q) 0 },
+    pub ghost code_stays: { (q byte : ℕ) → holds code q ≡ true → page_byte pages q ≡ Some byte →
+        byte ≡ unwrap_or (image_byte elf.now.file.now elf.now.segments.items q) 0 },
 }
 
 impl<'a> Memory<'a> {
@@ -52,7 +56,8 @@ impl<'a> Memory<'a> {
     /// The memory of a program that starts, with a stack of zeros.
     pub fn new(alloc: Global, elf: &'a Elf<'a>) -> Memory<'a>
         requires { writable_end elf.now.segments.items ≤ 2 ^ 63 }
-        ensures bytes { (q : ℕ) → memory_of result q ≡ (if in_stack q then 0 else unwrap_or (image_byte elf.now.file.now elf.now.segments.items q) 0) }
+        ensures bytes { (q : ℕ) →
+            memory_of result q ≡ (if in_stack q then 0 else unwrap_or (image_byte elf.now.file.now elf.now.segments.items q) 0) }
         ensures space { space_in result ≡ space_of elf.now.segments.items }
         ensures break_is { result.program_break ≡ break_start elf.now.segments.items }
     {
@@ -109,6 +114,7 @@ impl<'a> Memory<'a> {
         ensures second { IfSome result (λ halves. halves.1 ≡ little (memory_bytes (memory_of self.now) (plus address 2) 2)) }
         ensures first_runs { IfSome result (λ halves. all_may (executes self.now) address 2 ≡ true) }
         ensures second_runs { IfSome result (λ halves. all_may (executes self.now) (plus address 2) 2 ≡ true) }
+        ensures there { IsSome result ↔ ((self.now.code.from ≤ address) × (address + 4 ≤ self.now.code.to)) }
     {
         if !self.code.has(address, 4) {
             return None;
@@ -151,7 +157,8 @@ impl<'a> Memory<'a> {
     pub fn store(&mut self, address: u64, count: u8, number: u64) -> Result<(), NoMemory>
         requires few { count ≤ 8 }
         requires writable { all_may (writes self.old) address count ≡ true }
-        ensures written { IsOk result → (q : ℕ) → memory_of self.new q ≡ put (memory_of self.old) address (low_bytes count number) q }
+        ensures written { IsOk result → (q : ℕ) →
+            memory_of self.new q ≡ put (memory_of self.old) address (low_bytes count number) q }
         ensures unwritten { OnErr result ((q : ℕ) → memory_of self.new q ≡ memory_of self.old q) }
         ensures space_kept { Keeps self.old self.new }
     {
@@ -167,7 +174,8 @@ impl<'a> Memory<'a> {
     fn put_in_page(&mut self, address: u64, count: u8, number: u64) -> bool
         requires few { count ≤ 8 }
         requires writable { all_may (writes self.old) address count ≡ true }
-        ensures written { IsTrue result → (q : ℕ) → memory_of self.new q ≡ put (memory_of self.old) address (low_bytes count number) q }
+        ensures written { IsTrue result → (q : ℕ) →
+            memory_of self.new q ≡ put (memory_of self.old) address (low_bytes count number) q }
         ensures unwritten { result ≡ false → (q : ℕ) → memory_of self.new q ≡ memory_of self.old q }
         ensures space_kept { Keeps self.old self.new }
     {
@@ -230,7 +238,8 @@ impl<'a> Memory<'a> {
     fn unwritten_page(&self, number: u64) -> Result<Vec<u8>, NoMemory>
         requires { number < 2 ^ 52 }
         ensures whole { IfOk result (λ page. length page.items ≡ 4096) }
-        ensures bytes { IfOk result (λ page. (k : ℕ) → k < 4096 → slice_index page.items k ≡ unwritten_byte self.now (number * 4096 + k)) }
+        ensures bytes { IfOk result
+            (λ page. (k : ℕ) → k < 4096 → slice_index page.items k ≡ unwritten_byte self.now (number * 4096 + k)) }
     {
         let from = number * PAGE_SIZE as u64;
         if is_blank(&self.elf.segments, from) {
@@ -341,7 +350,8 @@ impl<'a> Memory<'a> {
 
     // Whether they all lie in the stack, or all in the break.
     fn in_data(&self, address: u64, count: usize) -> bool
-        ensures { IsTrue result → (all_may (reads self.now) address count ≡ true) × (all_may (writes self.now) address count ≡ true) }
+        ensures { IsTrue result → (all_may (reads self.now) address count ≡ true)
+            × (all_may (writes self.now) address count ≡ true) }
     {
         lies_in(STACK_END - STACK_SIZE, STACK_END, address, count)
             || lies_in(self.break_start, self.program_break, address, count)

@@ -11,7 +11,8 @@ pub struct PageGroup {
     pub numbers: Vec<u64>,
     pub places: Vec<usize>,
     pub ghost paired: { length places.items ≡ length numbers.items },
-    pub ghost ascending: { (i j : ℕ) → i < j → j < length numbers.items → slice_index numbers.items i < slice_index numbers.items j },
+    pub ghost ascending: { (i j : ℕ) → i < j → j < length numbers.items →
+        slice_index numbers.items i < slice_index numbers.items j },
 }
 
 impl PageGroup {

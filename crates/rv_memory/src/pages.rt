@@ -1,6 +1,7 @@
 // The pages that a program wrote.
-ghost use Rattle.std.specs.Prelude.{◌≡◌, ◌<◌, ◌≤◌, ◌+◌, ◌*◌, ◌-◌, ◌/◌, ◌%◌, ◌^◌, ◌==◌, ◌&&◌, ℕ, false, None, Some, IfSome, IfOk, IsOk, IsSome, IsTrue, OnErr, length, slice_index, nat_le, nat_lt, if◌then◌else◌};
+ghost use Rattle.std.specs.Prelude.{◌≡◌, ◌<◌, ◌≤◌, ◌+◌, ◌*◌, ◌-◌, ◌/◌, ◌%◌, ◌^◌, ◌==◌, ◌&&◌, ℕ, false, None, Some, IfSome, IfOk, IsOk, IsSome, IsTrue, is_some, OnErr, length, slice_index, nat_le, nat_lt, if◌then◌else◌};
 ghost use Rattle.rv_memory.specs.PageIndex.{place_of};
+ghost use Rattle.rv_memory.specs.Patched.{is_width};
 
 use crate::bytes::{clear_bytes, number_in, put_bytes, put_number};
 use crate::page_index::PageIndex;
@@ -70,8 +71,10 @@ impl Pages {
     /// The number of `count` bytes at an address, all in one page: 1, 2, 4 or 8. None where there is no page.
     pub fn number(&self, address: u64, count: u8) -> Option<u64>
         requires { address % 4096 + count ≤ 4096 }
-        ensures value { IfSome result (λ n. (memory : ℕ → ℕ) → IsLike self.now memory → n ≡ little (memory_bytes memory address count)) }
+        ensures value { IfSome result
+            (λ n. (memory : ℕ → ℕ) → IsLike self.now memory → n ≡ little (memory_bytes memory address count)) }
         ensures below { IfSome result (λ n. n < 256 ^ count) }
+        ensures there { is_some result ≡ (is_some (page_byte self.now address) && is_width count) }
     {
         match self.place(address / PAGE_SIZE as u64) {
             Some(place) => number_in(
@@ -89,6 +92,7 @@ impl Pages {
         requires within { address % 4096 + count ≤ 4096 }
         ensures put { IsTrue result → (q : ℕ) → page_byte self.new q ≡ byte_put self.old address (low_bytes count number) q }
         ensures kept { result ≡ false → (q : ℕ) → page_byte self.new q ≡ page_byte self.old q }
+        ensures there { result ≡ is_some (page_byte self.old address) }
     {
         match self.place(address / PAGE_SIZE as u64) {
             Some(place) => {
@@ -144,7 +148,8 @@ impl Pages {
     pub fn add(&mut self, number: u64, page: &[u8]) -> Result<(), NoMemory>
         requires new { place_of self.old.index number ≡ None }
         requires whole { length page.now ≡ 4096 }
-        ensures added { IsOk result → (q : ℕ) → page_byte self.new q ≡ (if q / 4096 == number then Some (slice_index page.now (q % 4096)) else page_byte self.old q) }
+        ensures added { IsOk result → (q : ℕ) →
+            page_byte self.new q ≡ (if q / 4096 == number then Some (slice_index page.now (q % 4096)) else page_byte self.old q) }
         ensures kept { OnErr result ((q : ℕ) → page_byte self.new q ≡ page_byte self.old q) }
     {
         self.bytes.reserve(PAGE_SIZE)?;

@@ -1,5 +1,5 @@
 // What a program may do with an address.
-ghost use Rattle.std.specs.Prelude.{◌≡◌, ◌<◌, ◌≤◌, ◌+◌, IsTrue};
+ghost use Rattle.std.specs.Prelude.{◌≡◌, ◌↔◌, ◌<◌, ◌≤◌, ◌+◌, IsTrue};
 ghost use Rattle.elf_image.specs.memory.Image.{is_loaded_with};
 ghost use Rattle.elf_image.specs.memory.Start.{in_stack};
 
@@ -39,7 +39,7 @@ pub fn is_loaded_with(elf: &Elf, flag: u32, address: u64) -> bool
 
 /// Whether `count` addresses lie from one address on and before another.
 pub fn lies_in(from: u64, to: u64, address: u64, count: usize) -> bool
-    ensures { IsTrue result → (from ≤ address) × (address + count ≤ to) }
+    ensures { IsTrue result ↔ ((from ≤ address) × (address + count ≤ to)) }
 {
     from <= address && address <= to && count as u64 <= to - address
 }

@@ -62,7 +62,9 @@ fn put_words(out: &mut Vec<u8>, words: &[u64]) -> Result<(), NoMemory>
 // The addresses of the arguments' texts, the first of which stands at `address`.
 fn put_addresses(out: &mut Vec<u8>, address: u64, words: &[String]) -> Result<(), NoMemory>
     requires { address + length (texts (map string_bytes words.now)) ≤ 2 ^ 38 }
-    ensures { OnOk result (out.new.items ≡ out.old.items ++ flat_map (low_bytes 8) (text_addresses address (program_arguments (map string_bytes words.now)))) }
+    ensures { OnOk result
+        (out.new.items ≡ out.old.items
+        ++ flat_map (low_bytes 8) (text_addresses address (program_arguments (map string_bytes words.now)))) }
 {
     put_word(out, address)?;
     let mut next = address + PROGRAM.len() as u64 + 1;

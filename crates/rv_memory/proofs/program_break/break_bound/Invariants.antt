@@ -6,5 +6,7 @@ use Rattle.rv_memory.proofs.program_break.break_bound.Given as goal
 
 abbrev pub invariant-loop-segment : goal.invariant-loop-segment
 invariant-loop-segment l =
-    fold min l.bound (map (λ p. rounded_down page_size p.vaddr) (filter (λ p. has_memory p && nat_le (writable_end l.segments) p.vaddr) (drop l.segment-index l.segments)))
+    fold min l.bound
+    (map (λ p. rounded_down page_size p.vaddr)
+    (filter (λ p. has_memory p && nat_le (writable_end l.segments) p.vaddr) (drop l.segment-index l.segments)))
     ≡ fold min (break_start l.segments + break_room) (pages_above l.segments)

@@ -8,4 +8,5 @@ loop-i-preserved c =
     (cells_more (memory_of c.args.self.now) c.args.address c.loop-i.i c.args.count c.loop-i.bytes.items _ c.loop-i-test.true c.loop-i.invariant)
 
 pub returns : goal.returns
-returns c = cells_all (memory_of c.args.self.now) c.args.address c.loop-i.i c.args.count c.loop-i.bytes.items _ c.loop-i-test.false c.loop-i.invariant
+returns c = cells_all
+    (memory_of c.args.self.now) c.args.address c.loop-i.i c.args.count c.loop-i.bytes.items _ c.loop-i-test.false c.loop-i.invariant

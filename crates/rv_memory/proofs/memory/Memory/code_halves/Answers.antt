@@ -1,12 +1,10 @@
-use Rattle.std.proofs.Common.{◌≡◌, ◌∙◌, ◌+◌, sym, ap, arith}
-use Rattle.rv_code.specs.machine.Machine.{plus, all_may, little, memory_bytes}
-use Rattle.rv_memory.specs.Memory.{memory_of, executes}
+use Rattle.std.proofs.Common.{◌∙◌, arith}
 use Rattle.rv_memory.proofs.CodeKept.{code_half_is, code_runs_at, code_half_next, code_runs_next}
 use Rattle.rv_memory.proofs.memory.Memory.code_halves.Goals as goal
 
 pub returns-clause-first : goal.returns-clause-first
 returns-clause-first c =
-    let within = c.has.ensures.within c.if-not-has.false in
+    let within = c.has.ensures.within.0 c.if-not-has.false in
     let room = c.has.ensures.room c.if-not-has.false in
     let low = within.0 in
     let high = within.1 in
@@ -14,7 +12,7 @@ returns-clause-first c =
 
 pub returns-clause-second : goal.returns-clause-second
 returns-clause-second c =
-    let within = c.has.ensures.within c.if-not-has.false in
+    let within = c.has.ensures.within.0 c.if-not-has.false in
     let room = c.has.ensures.room c.if-not-has.false in
     let low = within.0 in
     let high = within.1 in
@@ -22,7 +20,7 @@ returns-clause-second c =
 
 pub returns-clause-first_runs : goal.returns-clause-first_runs
 returns-clause-first_runs c =
-    let within = c.has.ensures.within c.if-not-has.false in
+    let within = c.has.ensures.within.0 c.if-not-has.false in
     let room = c.has.ensures.room c.if-not-has.false in
     let low = within.0 in
     let high = within.1 in
@@ -30,7 +28,7 @@ returns-clause-first_runs c =
 
 pub returns-clause-second_runs : goal.returns-clause-second_runs
 returns-clause-second_runs c =
-    let within = c.has.ensures.within c.if-not-has.false in
+    let within = c.has.ensures.within.0 c.if-not-has.false in
     let room = c.has.ensures.room c.if-not-has.false in
     let low = within.0 in
     let high = within.1 in

@@ -1,4 +1,4 @@
-use Rattle.std.proofs.Common.{◌≡◌, ◌∙◌, ◌&&◌, ◌^◌, ◌+◌, ◌-◌, ◌<◌, ◌≤◌, ℕ, arith, true, refl, nat_le, nat_lt}
+use Rattle.std.proofs.Common.{◌≡◌, ◌+◌, ◌-◌, ◌<◌, ◌≤◌, ℕ, arith, true, refl}
 use Rattle.std.proofs.lemmas.Bool.{le-leb, lt-ltb}
 use Rattle.elf_image.specs.memory.Start.{in_stack, stack_end, stack_size}
 use Rattle.elf_image.specs.declared.segment.TheConstants.{PF_R, PF_W}
@@ -13,19 +13,29 @@ returns-then-lies_in c = λ yes.
     let m = c.args.self.now in
     let a = c.args.address in
     let n = c.args.count in
-    let within = c.lies_in.ensures yes in
+    let within = c.lies_in.ensures.0 yes in
     let low = within.0 in
     let high = within.1 in
-    let here : (q : ℕ) → a ≤ q → q < a + n → in_stack q ≡ true = λ q from to. in_stack-both q (le-leb (stack_end - stack_size) q (omega arith)) (lt-ltb q stack_end (omega arith)) in
-    (all_may-run (reads m) a n (omega arith) (λ q from to. or_second _ (in_stack q) _ (here q from to)), all_may-run (writes m) a n (omega arith) (λ q from to. or_second _ (in_stack q) _ (here q from to)))
+    let here : (q : ℕ) → a ≤ q → q < a + n → in_stack q ≡ true =
+    λ q from to. in_stack-both q (le-leb (stack_end - stack_size) q (omega arith)) (lt-ltb q stack_end (omega arith)) in (
+      all_may-run (reads m) a n (omega arith) (λ q from to. or_second _ (in_stack q) _ (here q from to)),
+      all_may-run (writes m) a n
+          (omega arith) (λ q from to. or_second _ (in_stack q) _ (here q from to)),
+    )
 
 pub returns-else-lies_in : goal.returns-else-lies_in
 returns-else-lies_in c = λ yes.
     let m = c.args.self.now in
     let a = c.args.address in
     let n = c.args.count in
-    let within = c.lies_in-else-lies_in.ensures yes in
+    let within = c.lies_in-else-lies_in.ensures.0 yes in
     let low = within.0 in
     let high = within.1 in
-    let here : (q : ℕ) → a ≤ q → q < a + n → gained_by_break m q ≡ true = λ q from to. rw (le-leb m.break_start q (omega arith), lt-ltb q m.program_break (omega arith)) refl in
-    (all_may-run (reads m) a n (omega arith) (λ q from to. or_third (is_loaded_with PF_R m.elf.now.segments.items q) (in_stack q) (gained_by_break m q) (here q from to)), all_may-run (writes m) a n (omega arith) (λ q from to. or_third (is_loaded_with PF_W m.elf.now.segments.items q) (in_stack q) (gained_by_break m q) (here q from to)))
+    let here : (q : ℕ) → a ≤ q → q < a + n → gained_by_break m q ≡ true =
+    λ q from to. rw (le-leb m.break_start q (omega arith), lt-ltb q m.program_break (omega arith)) refl in (
+      all_may-run (reads m) a n (omega arith)
+          (λ q from to. or_third (is_loaded_with PF_R m.elf.now.segments.items q) (in_stack q) (gained_by_break m q)
+          (here q from to)),
+      all_may-run (writes m) a n (omega arith)
+          (λ q from to. or_third (is_loaded_with PF_W m.elf.now.segments.items q) (in_stack q) (gained_by_break m q) (here q from to)),
+    )

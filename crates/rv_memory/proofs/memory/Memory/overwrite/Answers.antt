@@ -22,7 +22,8 @@ pub loop-left-preserved : goal.loop-left-preserved
 loop-left-preserved c = record {
   within = omega (arith, c.loop-left.invariant.within);
   room = λ k h. c.overwrite_byte.ensures.kept (plus c.args.address k) (c.loop-left.invariant.room k h);
-  writable = writable-keeps c.loop-left.self c.overwrite_byte.new.self c.overwrite_byte.ensures.space_kept c.args.address (length c.args.bytes.now) c.loop-left.invariant.writable;
+  writable = writable-keeps c.loop-left.self c.overwrite_byte.new.self c.overwrite_byte.ensures.space_kept c.args.address
+      (length c.args.bytes.now) c.loop-left.invariant.writable;
   written = λ q.
       let inside : c.loop-left.left - 1 < length c.args.bytes.now = omega (arith, c.loop-left.invariant.within) in
       let next : c.loop-left.left - 1 + 1 ≡ c.loop-left.left = omega arith in
@@ -33,11 +34,13 @@ loop-left-preserved c = record {
 
 pub overwrite_byte-requires-clause-writable : goal.overwrite_byte-requires-clause-writable
 overwrite_byte-requires-clause-writable c =
-    all_may_each (writes c.loop-left.self) c.args.address (length c.args.bytes.now) (c.loop-left.left - 1) (omega arith) c.loop-left.invariant.writable (omega (arith, c.loop-left.invariant.within))
+    all_may_each (writes c.loop-left.self) c.args.address (length c.args.bytes.now) (c.loop-left.left - 1)
+    (omega arith) c.loop-left.invariant.writable (omega (arith, c.loop-left.invariant.within))
 
 pub returns-clause-written : goal.returns-clause-written
 returns-clause-written c = λ q.
     let m = memory_of c.args.self.now in
     let none : c.loop-left.left ≡ 0 = omega (arith, c.loop-left-test.false) in
     let start : plus c.args.address 0 ≡ c.args.address = omega arith in
-    c.loop-left.invariant.written q ∙ ap (λ k. put m (plus c.args.address k) (drop k c.args.bytes.now) q) none ∙ ap (λ a. put m a c.args.bytes.now q) start
+    c.loop-left.invariant.written q ∙ ap (λ k. put m (plus c.args.address k) (drop k c.args.bytes.now) q) none
+    ∙ ap (λ a. put m a c.args.bytes.now q) start

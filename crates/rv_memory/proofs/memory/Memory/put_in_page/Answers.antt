@@ -1,4 +1,4 @@
-use Rattle.std.proofs.Common.{◌≡◌, ◌^◌, ◌+◌, ◌≤◌, arith, length}
+use Rattle.std.proofs.Common.{◌^◌, ◌+◌, ◌≤◌, arith, length}
 use Rattle.rv_code.specs.machine.Machine.{low_bytes}
 use Rattle.rv_memory.specs.Memory.{unwritten_byte}
 use Rattle.rv_memory.specs.Pages.{page_byte}
@@ -18,4 +18,5 @@ pub invariant_of-self-clause-code_stays : goal.invariant_of-self-clause-code_sta
 invariant_of-self-clause-code_stays c =
     let m = c.args.self.now in
     let low = low_bytes c.args.count c.args.number in
-    code_put_if m c.put.result (page_byte c.put.new.self) c.args.address c.args.count low (length-low_bytes c.args.count c.args.number) (omega arith) c.requires.writable c.put.ensures.put c.put.ensures.kept
+    code_put_if m c.put.result (page_byte c.put.new.self) c.args.address c.args.count low (length-low_bytes c.args.count c.args.number)
+    (omega arith) c.requires.writable c.put.ensures.put c.put.ensures.kept

@@ -1,4 +1,4 @@
-use Rattle.std.proofs.Common.{◌∙◌, [], ◌∷◌, refl, ap}
+use Rattle.std.proofs.Common.{refl}
 use Rattle.rv_memory.specs.PageIndex.{beside}
 use Rattle.rv_memory.proofs.page_group.PageGroup.new.Goals as goal
 

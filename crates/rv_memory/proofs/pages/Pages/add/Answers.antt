@@ -5,13 +5,16 @@ use Rattle.rv_memory.proofs.PageBytes.{on_err, byte_in-same, byte_in-added, inde
 use Rattle.rv_memory.proofs.pages.Pages.add.Goals as goal
 
 pub returns-in_err-reserve-clause-kept : goal.returns-in_err-reserve-clause-kept
-returns-in_err-reserve-clause-kept c = on_err _ (byte_in-same c.args.self.now.index c.reserve.new.self.items c.args.self.now c.reserve.ensures.items (λ n. refl))
+returns-in_err-reserve-clause-kept c =
+    on_err _ (byte_in-same c.args.self.now.index c.reserve.new.self.items c.args.self.now c.reserve.ensures.items (λ n. refl))
 
 pub returns-in_err-reserve-2-clause-kept : goal.returns-in_err-reserve-2-clause-kept
-returns-in_err-reserve-2-clause-kept c = on_err _ (byte_in-same c.args.self.now.index c.reserve.new.self.items c.args.self.now c.reserve.ensures.items (λ n. refl))
+returns-in_err-reserve-2-clause-kept c =
+    on_err _ (byte_in-same c.args.self.now.index c.reserve.new.self.items c.args.self.now c.reserve.ensures.items (λ n. refl))
 
 pub returns-in_err-insert-clause-kept : goal.returns-in_err-insert-clause-kept
-returns-in_err-insert-clause-kept c = on_err _ (byte_in-same c.insert.new.self c.reserve.new.self.items c.args.self.now c.reserve.ensures.items c.in_err-insert.ensures.kept)
+returns-in_err-insert-clause-kept c =
+    on_err _ (byte_in-same c.insert.new.self c.reserve.new.self.items c.args.self.now c.reserve.ensures.items c.in_err-insert.ensures.kept)
 
 pub invariant_of-self-2 : goal.invariant_of-self-2
 invariant_of-self-2 c =
@@ -20,14 +23,19 @@ invariant_of-self-2 c =
     let page = c.args.page.now in
     let xs = p.numbers.items in
     let ok : IsOk c.extend_from_slice.result = search rules in
-    let bytes : c.extend_from_slice.new.self.items ≡ p.bytes.items ++ page = (rw ok at c.extend_from_slice.ensures.items) ∙ ap (λ ys. ys ++ page) c.reserve.ensures.items in
-    let numbers : c.push.new.self.items ≡ xs ++ n ∷ [] = (rw c.unwrap.ensures at c.push.ensures.items) ∙ ap (λ ys. ys ++ n ∷ []) c.reserve-2.ensures.items in
+    let bytes : c.extend_from_slice.new.self.items ≡ p.bytes.items ++ page = (rw ok at c.extend_from_slice.ensures.items)
+    ∙ ap (λ ys. ys ++ page) c.reserve.ensures.items in
+    let numbers : c.push.new.self.items ≡ xs ++ n ∷ [] = (rw c.unwrap.ensures at c.push.ensures.items)
+    ∙ ap (λ ys. ys ++ n ∷ []) c.reserve-2.ensures.items in
     let size : c.len-place.result ≡ length xs = c.len-place.ensures ∙ c.reserve-2.ensures.len ∙ p.numbers.ok.0 in
-    let is : (q : ℕ) → place_of c.insert.new.self q ≡ (if q == n then Some (length xs) else place_of p.index q) = λ q. c.in_ok-insert.ensures.added refl q ∙ ap (λ k. if q == n then Some k else place_of p.index q) size in
+    let is : (q : ℕ) → place_of c.insert.new.self q ≡ (if q == n then Some (length xs) else place_of p.index q) =
+    λ q. c.in_ok-insert.ensures.added refl q ∙ ap (λ k. if q == n then Some k else place_of p.index q) size in
     let old = place_of p.index in
     let new = place_of c.insert.new.self in
     record {
-      sized = ap length bytes ∙ sized_more old new xs p.bytes.items page n p.indexed p.held p.numbered c.requires.new is p.sized c.requires.whole ∙ ap (λ ys. length ys * 4096) (sym numbers);
+      sized = ap length bytes
+          ∙ sized_more old new xs p.bytes.items page n p.indexed p.held p.numbered c.requires.new is p.sized c.requires.whole
+          ∙ ap (λ ys. length ys * 4096) (sym numbers);
       indexed = rw numbers (indexed_more old new xs p.bytes.items page n p.indexed p.held p.numbered c.requires.new is);
       held = rw numbers (held_more old new xs p.bytes.items page n p.indexed p.held p.numbered c.requires.new is);
       numbered = rw numbers (numbered_more old new xs p.bytes.items page n p.indexed p.held p.numbered c.requires.new is);
@@ -39,7 +47,9 @@ returns-clause-added c = λ ok q.
     let n = c.args.number in
     let page = c.args.page.now in
     let done : IsOk c.extend_from_slice.result = search rules in
-    let bytes : c.extend_from_slice.new.self.items ≡ p.bytes.items ++ page = (rw done at c.extend_from_slice.ensures.items) ∙ ap (λ ys. ys ++ page) c.reserve.ensures.items in
+    let bytes : c.extend_from_slice.new.self.items ≡ p.bytes.items ++ page = (rw done at c.extend_from_slice.ensures.items)
+    ∙ ap (λ ys. ys ++ page) c.reserve.ensures.items in
     let size : c.len-place.result ≡ length p.numbers.items = c.len-place.ensures ∙ c.reserve-2.ensures.len ∙ p.numbers.ok.0 in
-    let is : (m : ℕ) → place_of c.insert.new.self m ≡ (if m == n then Some (length p.numbers.items) else place_of p.index m) = λ m. c.in_ok-insert.ensures.added refl m ∙ ap (λ k. if m == n then Some k else place_of p.index m) size in
+    let is : (m : ℕ) → place_of c.insert.new.self m ≡ (if m == n then Some (length p.numbers.items) else place_of p.index m) =
+    λ m. c.in_ok-insert.ensures.added refl m ∙ ap (λ k. if m == n then Some k else place_of p.index m) size in
     byte_in-added p c.insert.new.self c.extend_from_slice.new.self.items n page c.requires.new is bytes c.requires.whole q

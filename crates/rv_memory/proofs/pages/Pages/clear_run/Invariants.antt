@@ -4,7 +4,13 @@ use Rattle.rv_memory.specs.Pages.{page_byte, cleared_between}
 use Rattle.rv_memory.proofs.pages.Pages.clear_run.Given as goal
 
 abbrev pub invariant-loop-at : goal.invariant-loop-at
-invariant-loop-at l = record { from : l.from ≤ l.at; within : l.at ≤ max l.from l.to; done : (q : ℕ) → page_byte l.self q ≡ cleared_between l.initial.self l.from l.at q }
+invariant-loop-at l =
+    record {
+      from : l.from ≤ l.at;
+      within : l.at ≤ max l.from l.to;
+      done : (q : ℕ) →
+          page_byte l.self q ≡ cleared_between l.initial.self l.from l.at q;
+    }
 
 abbrev pub decreases-loop-at : goal.decreases-loop-at
 decreases-loop-at l = l.to - l.at

@@ -1,10 +1,11 @@
 use Rattle.std.proofs.Common.{◌≡◌, ◌∙◌, ◌*◌, ◌+◌, ◌/◌, ◌%◌, ℕ, sym, ap, arith, Some, None, Option, subst}
-use Rattle.std.specs.Prelude.{IfSome}
+use Rattle.std.specs.Prelude.{IfSome, is_some, ◌&&◌}
 use Rattle.elf_image.specs.file.Header.{number_at}
 use Rattle.rv_code.specs.machine.Machine.{memory_bytes, little}
 use Rattle.rv_memory.specs.PageIndex.{place_of}
 use Rattle.rv_memory.specs.Pages.{IsLike}
-use Rattle.rv_memory.proofs.PageBytes.{number-like}
+use Rattle.rv_memory.specs.Patched.{is_width}
+use Rattle.rv_memory.proofs.PageBytes.{number-like, page_byte-some, page_byte-none}
 use Rattle.rv_memory.proofs.pages.Pages.number.Goals as goal
 
 for_some : (P : ℕ → Type 0) (r : Option ℕ) (n : ℕ) → IfSome r (λ m. m ≡ n) → P n → IfSome r P
@@ -16,6 +17,20 @@ returns-in-Some-clause-value c =
     let p = c.args.self.now in
     let a = c.args.address in
     let found : place_of p.index (a / 4096) ≡ Some c.in-Some.place = sym c.place.ensures ∙ c.in-Some.is in
-    for_some (λ n. (memory : ℕ → ℕ) → IsLike p memory → n ≡ little (memory_bytes memory a c.args.count)) c.number_in.result (number_at p.bytes.items (c.in-Some.place * 4096 + a % 4096) c.args.count)
+    for_some (λ n. (memory : ℕ → ℕ) → IsLike p memory → n ≡ little (memory_bytes memory a c.args.count)) c.number_in.result
+    (number_at p.bytes.items (c.in-Some.place * 4096 + a % 4096) c.args.count)
     (rw c.deref.ensures.value at c.number_in.ensures.value)
     (λ memory like. number-like p a c.args.count c.in-Some.place (omega arith) found c.requires memory like)
+
+pub returns-in-Some-clause-there : goal.returns-in-Some-clause-there
+returns-in-Some-clause-there c =
+    let p = c.args.self.now in
+    let a = c.args.address in
+    let found : place_of p.index (a / 4096) ≡ Some c.in-Some.place = sym c.place.ensures ∙ c.in-Some.is in
+    c.number_in.ensures.there
+    ∙ ap (λ (o : Option ℕ). is_some o && is_width c.args.count) (sym (page_byte-some p a c.in-Some.place found))
+
+pub returns-in-None-clause-there : goal.returns-in-None-clause-there
+returns-in-None-clause-there c =
+    ap (λ (o : Option ℕ). is_some o && is_width c.args.count)
+    (sym (page_byte-none c.args.self.now c.args.address (sym c.place.ensures ∙ c.in-None.is)))
