@@ -3,12 +3,6 @@ pub mod Breaks
 pub mod KnownEntries
 pub mod Outcomes
 pub mod Fetches
-pub mod Filling
 pub mod CallSteps
-pub mod Quiet
 pub mod Registers
-pub mod Walking
-pub mod Growing
 pub mod Determined
-pub mod OnlyRuns
-pub mod OnlyAnswers

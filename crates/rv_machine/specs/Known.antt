@@ -1,5 +1,5 @@
 -- Instructions that were decoded before.
-use Rattle.std.specs.Prelude.{◌≡◌, ℕ, ◌<◌, List, length, Option, slice_index_or}
+use Rattle.std.specs.Prelude.{◌≡◌, ℕ, ◌<◌, length, Option, slice_index_or}
 use Rattle.rv_code.specs.declared.inst.Inst.{Inst}
 use Rattle.rv_code.specs.declared.action.Action.{Action}
 use Rattle.rv_code.specs.isa.Action.{action_of}

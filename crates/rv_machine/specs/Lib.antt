@@ -1,6 +1,3 @@
-pub mod Calls
-pub mod Determined
 pub mod Known
-pub mod Runs
 pub mod State
-pub mod StepAnswers
+pub mod Stepped

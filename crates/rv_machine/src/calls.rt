@@ -1,106 +1,31 @@
 // System calls. Linux, syscall(2) and asm-generic/unistd.h.
-ghost use Rattle.std.specs.Prelude.{◌≡◌, ◌<◌, ◌≤◌, ◌==◌, ◌||◌, ℕ, List, true};
+ghost use Rattle.std.specs.Prelude.{◌≡◌, ◌<◌, ◌≤◌, ◌==◌, ◌||◌, ℕ, List, Bool, true};
 ghost use Rattle.rb_io.specs.Views.{SourceSeen, SinkSeen};
 
 use crate::machine::Machine;
-use crate::reading::fill;
 use crate::stepped::Stepped;
 use rb_io::{Got, Put, Sink, Source, print_all};
+use run_core::InputEnd;
+use run_core::calls::{
+    A0, A1, A2, A7, BAD_FILE, MOST_MOVED, NO_SUCH_CALL, SystemCall, is_input, is_output,
+};
 use rv_code::Cause;
 use rv_memory::rights::Access;
-
-/// The registers of arguments, of the result, and of a call's number. psABI, "Integer Register
-/// Convention".
-const A0: u8 = 10;
-
-const A1: u8 = 11;
-
-const A2: u8 = 12;
-
-const A7: u8 = 17;
-
-/// The numbers of calls.
-const READ: u64 = 63;
-
-const WRITE: u64 = 64;
-
-const EXIT: u64 = 93;
-
-const EXIT_GROUP: u64 = 94;
-
-const BRK: u64 = 214;
-
-/// The files that are open.
-const STANDARD_INPUT: u64 = 0;
-
-const STANDARD_OUTPUT: u64 = 1;
-
-const STANDARD_ERROR: u64 = 2;
-
-/// The most bytes that one call moves.
-const MOST_MOVED: u64 = 65536;
-
-/// `EBADF` and `ENOSYS` as results: the negatives of 9 and of 38.
-const BAD_FILE: u64 = 0xffff_ffff_ffff_fff7;
-
-const NO_SUCH_CALL: u64 = 0xffff_ffff_ffff_ffda;
-
-/// The system calls that the machine knows.
-#[derive(Clone, Copy, PartialEq, Eq, Debug)]
-pub enum SystemCall {
-    Read,
-    Write,
-    Exit,
-    Brk,
-    Unknown,
-}
-
-impl SystemCall {
-    ghost use Rattle.rv_code.specs.machine.Machine.{call_of};
-    ghost use Rattle.rv_machine.specs.Calls.{call};
-
-    /// The call of a number.
-    pub fn of(number: u64) -> SystemCall
-        ensures { call result ≡ call_of number }
-    {
-        if number == READ {
-            SystemCall::Read
-        } else if number == WRITE {
-            SystemCall::Write
-        } else if number == EXIT || number == EXIT_GROUP {
-            SystemCall::Exit
-        } else if number == BRK {
-            SystemCall::Brk
-        } else {
-            SystemCall::Unknown
-        }
-    }
-}
-
-// Whether a file is open for reading.
-fn is_input(file: u64) -> bool
-    ensures { result ≡ (file == 0) }
-{
-    file == STANDARD_INPUT
-}
-
-// Whether a file is open for writing.
-fn is_output(file: u64) -> bool
-    ensures { result ≡ (file == 1 || file == 2) }
-{
-    file == STANDARD_OUTPUT || file == STANDARD_ERROR
-}
 
 impl<'a> Machine<'a> {
     ghost use Rattle.rv_code.specs.machine.Machine.{set_register, call_of, Read, Write, Unknown, Exit, Brk};
     ghost use Rattle.rv_code.specs.machine.Step.{a0, a7, calls, refuses_file, sets_break, buffer_size, read_call, write_call, effect};
-    ghost use Rattle.rv_machine.specs.State.{state_of, registers_of, Becomes, Same};
-    ghost use Rattle.rv_machine.specs.StepAnswers.{StepAnswers, Outside};
+    ghost use Rattle.run_core.specs.Inputs.{Outside};
+    ghost use Rattle.run_core.specs.States.{Same};
+    ghost use Rattle.rv_machine.specs.State.{state_of, registers_of};
+    ghost use Rattle.rv_machine.specs.Stepped.{Becomes, StepAnswers};
 
     // Comes back from a call with this result.
     fn return_value(&mut self, value: u64, next: u64) -> Stepped
         ensures going { result ≡ Stepped.Going }
-        ensures state { (input : List ℕ) → Same (record (state_of self.old input) { pc = next; registers = set_register a0 value (registers_of self.old) }) (state_of self.new input) }
+        ensures state { (input : List ℕ) → Same
+            (record (state_of self.old input) { pc = next; registers = set_register a0 value (registers_of self.old) })
+            (state_of self.new input) }
     {
         self.registers[A0 as usize] = value;
         self.pc = next;
@@ -116,7 +41,8 @@ impl<'a> Machine<'a> {
     }
 
     fn exit(&self) -> Stepped
-        ensures { (input : List ℕ) (next : ℕ) → Becomes (calls (state_of self.now input) next Exit) result self.now self.now input }
+        ensures { (input : List ℕ) (next : ℕ) →
+            Becomes (calls (state_of self.now input) next Exit) result self.now self.now input }
     {
         Stepped::Ended((self.register(A0) % 256) as u8)
     }
@@ -130,7 +56,8 @@ impl<'a> Machine<'a> {
     }
 
     fn refuse_file(&mut self, next: u64) -> Stepped
-        ensures { (input : List ℕ) (number : ℕ) → Becomes (refuses_file (state_of self.old input) next number) result self.old self.new input }
+        ensures { (input : List ℕ) (number : ℕ) →
+            Becomes (refuses_file (state_of self.old input) next number) result self.old self.new input }
     {
         self.registers[A0 as usize] = BAD_FILE;
         self.pc = next;
@@ -146,8 +73,14 @@ impl<'a> Machine<'a> {
     }
 
     // Reads standard input into the buffer. Room is taken before anything is read.
-    fn read_input<I: Source>(&mut self, next: u64, input: &mut I) -> Stepped
+    fn read_input<I: Source>(
+        &mut self,
+        next: u64,
+        input_end: &mut InputEnd,
+        input: &mut I,
+    ) -> Stepped
         ensures answer { (output : SinkSeen) → StepAnswers (λ s o. o ≡ read_call s next true) result self.old self.new
+            input_end.old.reached input_end.new.reached
             (record { input = I.seen input.old; output = output })
             (record { input = I.seen input.new; output = output }) }
         ensures count { (I.seen input.old).faults ≤ (I.seen input.new).faults }
@@ -160,7 +93,7 @@ impl<'a> Machine<'a> {
         let Ok(mut buffer) = self.memory.buffer(address, count) else {
             return Stepped::Memory;
         };
-        match fill(input, &mut buffer) {
+        match input_end.fill(input, &mut buffer) {
             Got::Bytes(got) => {
                 let (front, _) = buffer.split_at(got);
                 self.memory.overwrite(address, front);
@@ -172,7 +105,8 @@ impl<'a> Machine<'a> {
 
     // Writes the buffer out.
     fn write_output<O: Sink>(&mut self, next: u64, out: &mut O) -> Stepped
-        ensures answer { (input : SourceSeen) → StepAnswers (λ s o. o ≡ write_call s next true) result self.old self.new
+        ensures answer { (input : SourceSeen) (ended : Bool) →
+            StepAnswers (λ s o. o ≡ write_call s next true) result self.old self.new ended ended
             (record { input = input; output = O.seen out.old })
             (record { input = input; output = O.seen out.new }) }
         ensures count { (O.seen out.old).faults ≤ (O.seen out.new).faults }
@@ -191,21 +125,23 @@ impl<'a> Machine<'a> {
         }
     }
 
-    fn read<I: Source>(&mut self, next: u64, input: &mut I) -> Stepped
+    fn read<I: Source>(&mut self, next: u64, input_end: &mut InputEnd, input: &mut I) -> Stepped
         ensures answer { (output : SinkSeen) → StepAnswers (λ s o. o ≡ calls s next Read) result self.old self.new
+            input_end.old.reached input_end.new.reached
             (record { input = I.seen input.old; output = output })
             (record { input = I.seen input.new; output = output }) }
         ensures count { (I.seen input.old).faults ≤ (I.seen input.new).faults }
     {
         if is_input(self.register(A0)) {
-            self.read_input(next, input)
+            self.read_input(next, input_end, input)
         } else {
             self.refuse_file(next)
         }
     }
 
     fn write<O: Sink>(&mut self, next: u64, out: &mut O) -> Stepped
-        ensures answer { (input : SourceSeen) → StepAnswers (λ s o. o ≡ calls s next Write) result self.old self.new
+        ensures answer { (input : SourceSeen) (ended : Bool) →
+            StepAnswers (λ s o. o ≡ calls s next Write) result self.old self.new ended ended
             (record { input = input; output = O.seen out.old })
             (record { input = input; output = O.seen out.new }) }
         ensures count { (O.seen out.old).faults ≤ (O.seen out.new).faults }
@@ -221,17 +157,19 @@ impl<'a> Machine<'a> {
     pub(crate) fn system_call<I: Source, O: Sink>(
         &mut self,
         next: u64,
+        input_end: &mut InputEnd,
         input: &mut I,
         out: &mut O,
     ) -> Stepped
         ensures answer { StepAnswers (λ s o. o ≡ calls s next (call_of (s.registers a7))) result self.old self.new
+            input_end.old.reached input_end.new.reached
             (record { input = I.seen input.old; output = O.seen out.old })
             (record { input = I.seen input.new; output = O.seen out.new }) }
         ensures reads { (I.seen input.old).faults ≤ (I.seen input.new).faults }
         ensures writes { (O.seen out.old).faults ≤ (O.seen out.new).faults }
     {
         match SystemCall::of(self.register(A7)) {
-            SystemCall::Read => self.read(next, input),
+            SystemCall::Read => self.read(next, input_end, input),
             SystemCall::Write => self.write(next, out),
             SystemCall::Exit => self.exit(),
             SystemCall::Brk => self.brk(next),

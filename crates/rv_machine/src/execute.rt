@@ -11,7 +11,8 @@ impl<'a> Machine<'a> {
     ghost use Rattle.rv_code.specs.isa.Extension.{bytes_of};
     ghost use Rattle.rv_code.specs.machine.Step.{address, effect, loads, stores};
     ghost use Rattle.rv_code.specs.isa.TwosComplement.{unsigned64};
-    ghost use Rattle.rv_machine.specs.State.{state_of, Becomes, HasRegisters};
+    ghost use Rattle.rv_machine.specs.State.{state_of, HasRegisters};
+    ghost use Rattle.rv_machine.specs.Stepped.{Becomes};
 
     // Does an instruction after which the next one stands at `next`.
     pub(crate) fn execute(&mut self, action: Action, next: u64) -> Stepped
@@ -91,7 +92,8 @@ impl<'a> Machine<'a> {
     fn load_number(&mut self, extension: Extension, rd: u8, address: u64, next: u64) -> Stepped
         requires { rd < 32 }
         ensures { (input : List ℕ) → let s = state_of self.old input in
-            Becomes (loads s next rd extension address (all_may (may_read s) address (bytes_of extension))) result self.old self.new input }
+            Becomes (loads s next rd extension address (all_may (may_read s) address (bytes_of extension)))
+            result self.old self.new input }
     {
         let count = extension.bytes();
         if !self.memory.may_all(Access::Read, address, count as usize) {
@@ -105,7 +107,8 @@ impl<'a> Machine<'a> {
     fn store_number(&mut self, count: u8, value: u64, address: u64, next: u64) -> Stepped
         requires { count ≤ 8 }
         ensures { (input : List ℕ) → let s = state_of self.old input in
-            Becomes (stores s next address (low_bytes count value) (all_may (may_write s) address count)) result self.old self.new input }
+            Becomes (stores s next address (low_bytes count value) (all_may (may_write s) address count))
+            result self.old self.new input }
     {
         if !self.memory.may_all(Access::Write, address, count as usize) {
             return self.trap(Cause::Store);

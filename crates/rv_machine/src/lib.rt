@@ -7,7 +7,6 @@ pub mod fetch;
 mod known;
 pub mod load;
 pub mod machine;
-pub mod reading;
 pub mod run;
 pub mod step;
 pub mod stepped;

@@ -23,7 +23,8 @@ impl<'a> Machine<'a> {
         requires read { IsElfOf elf.now.file.now elf.now }
         requires sound { IsSound elf.now.file.now }
         requires limits { IsWithinLimits (map string_bytes words.now) }
-        ensures { IfOk result (λ m. (input : List ℕ) → state_of m input ≡ start elf.now.file.now (map string_bytes words.now) input) }
+        ensures { IfOk result (λ m. (input : List ℕ) →
+            state_of m input ≡ start elf.now.file.now (map string_bytes words.now) input) }
     {
         let bytes = stack_bytes(alloc, elf, words)?;
         let bytes: &[u8] = &bytes;

@@ -16,7 +16,8 @@ pub struct Machine<'a> {
 impl<'a> Machine<'a> {
     ghost use Rattle.rv_code.specs.isa.TwosComplement.{unsigned64};
     ghost use Rattle.rv_code.specs.machine.Step.{operand, address, goes_to, writes_register};
-    ghost use Rattle.rv_machine.specs.State.{state_of, registers_of, Becomes};
+    ghost use Rattle.rv_machine.specs.State.{state_of, registers_of};
+    ghost use Rattle.rv_machine.specs.Stepped.{Becomes};
 
     /// The address of the next instruction.
     pub fn pc(&self) -> u64
@@ -62,7 +63,8 @@ impl<'a> Machine<'a> {
     // Goes to a pc with a register written. Register 0 stays 0.
     pub(crate) fn write_register(&mut self, rd: u8, value: u64, next: u64) -> Stepped
         requires { rd < 32 }
-        ensures { (input : List ℕ) → Becomes (writes_register (state_of self.old input) next rd value) result self.old self.new input }
+        ensures { (input : List ℕ) →
+            Becomes (writes_register (state_of self.old input) next rd value) result self.old self.new input }
     {
         if rd != 0 {
             self.registers[rd as usize] = value;

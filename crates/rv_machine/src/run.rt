@@ -1,11 +1,11 @@
 // Runs of many steps.
-ghost use Rattle.std.specs.Prelude.{◌≡◌, ◌≤◌, ℕ, List, Some};
-ghost use Rattle.rb_io.specs.FaultCounts.{Rose};
+ghost use Rattle.std.specs.Prelude.{◌≡◌, ◌≤◌, ℕ, List};
 
 use crate::known::KnownActions;
 use crate::machine::Machine;
 use crate::stepped::Stepped;
 use rb_io::{Sink, Source};
+use run_core::InputEnd;
 
 /// What a run answers.
 #[derive(Clone, Copy, PartialEq, Eq, Debug)]
@@ -18,28 +18,24 @@ pub struct Ran {
 
 impl<'a> Machine<'a> {
     ghost use Rattle.rv_code.specs.machine.Step.{Steps};
+    ghost use Rattle.run_core.specs.Inputs.{Outside};
+    ghost use Rattle.run_core.specs.Runs.{RunsSomeInput};
     ghost use Rattle.rv_machine.specs.State.{state_of};
-    ghost use Rattle.rv_machine.specs.StepAnswers.{Outside};
-    ghost use Rattle.rv_machine.specs.Determined.{IsDetermined};
-    ghost use Rattle.rv_machine.specs.Runs.{Grows, MachineRunAnswers, determined_steps};
+    ghost use Rattle.rv_machine.specs.Stepped.{answered};
 
-    /// Does at most `limit` steps.
+    /// Does at most `limit` steps. Once a read found the input at its end, it is at its end for the whole run.
     pub fn run<I: Source, O: Sink>(&mut self, limit: u64, input: &mut I, out: &mut O) -> Ran
-        ensures answer { (bytes : List ℕ) → (I.seen input.old).left ≡ Some bytes → MachineRunAnswers result.end limit result.steps self.old self.new bytes
+        ensures answer { RunsSomeInput state_of Steps (answered result.end) limit result.steps self.old self.new
             (record { input = I.seen input.old; output = O.seen out.old })
             (record { input = I.seen input.new; output = O.seen out.new }) }
-        ensures determined { (bytes : List ℕ) → (I.seen input.old).left ≡ Some bytes → IsDetermined Steps (state_of self.old bytes) (determined_steps result.end limit result.steps) }
-        ensures few { result.steps ≤ limit }
-        ensures read_fault { result.end ≡ Stepped.ReadFault → Rose (I.seen input.old).faults (I.seen input.new).faults }
-        ensures write_fault { result.end ≡ Stepped.WriteFault → Rose (O.seen out.old).faults (O.seen out.new).faults }
-        ensures grows { Grows (O.seen out.old).taken (O.seen out.new).taken }
         ensures reads { (I.seen input.old).faults ≤ (I.seen input.new).faults }
         ensures writes { (O.seen out.old).faults ≤ (O.seen out.new).faults }
     {
         let mut known = KnownActions::new(self.memory.allocator());
+        let mut input_end = InputEnd::new();
         let mut steps = 0;
         while steps < limit {
-            match self.step_known(&mut known, input, out) {
+            match self.step_known(&mut known, &mut input_end, input, out) {
                 Stepped::Going => steps += 1,
                 Stepped::Ended(status) => {
                     return Ran {

@@ -1,24 +1,26 @@
 // One step.
-ghost use Rattle.std.specs.Prelude.{◌≡◌, ◌≤◌, ℕ, List};
+ghost use Rattle.std.specs.Prelude.{◌≡◌, ◌≤◌, ℕ, List, Bool, false};
 
 use crate::known::KnownActions;
 use crate::machine::Machine;
 use crate::stepped::Stepped;
 use rb_io::{Sink, Source};
+use run_core::InputEnd;
 use rv_code::{Action, Cause};
 
 impl<'a> Machine<'a> {
     ghost use Rattle.rv_code.specs.machine.Step.{Steps};
+    ghost use Rattle.rv_code.specs.machine.Determined.{HasOneOutcome};
+    ghost use Rattle.run_core.specs.Inputs.{Outside};
     ghost use Rattle.rv_machine.specs.Known.{AreKnown};
     ghost use Rattle.rv_machine.specs.State.{state_of};
-    ghost use Rattle.rv_machine.specs.StepAnswers.{StepAnswers, Outside};
-    ghost use Rattle.rv_machine.specs.Determined.{HasOneOutcome};
+    ghost use Rattle.rv_machine.specs.Stepped.{StepAnswers};
 
     /// Does the instruction at the pc. Input comes from `input`, and output goes to `out`.
     ///
     /// After `Memory`, `Trap` and `Ended` the machine is as it was; after the two faults nothing is said of it.
     pub fn step<I: Source, O: Sink>(&mut self, input: &mut I, out: &mut O) -> Stepped
-        ensures answer { StepAnswers Steps result self.old self.new
+        ensures answer { (ends : Bool) × StepAnswers Steps result self.old self.new false ends
             (record { input = I.seen input.old; output = O.seen out.old })
             (record { input = I.seen input.new; output = O.seen out.new }) }
         ensures determined { (bytes : List ℕ) → HasOneOutcome Steps (state_of self.old bytes) }
@@ -26,19 +28,21 @@ impl<'a> Machine<'a> {
         ensures writes { (O.seen out.old).faults ≤ (O.seen out.new).faults }
     {
         let mut known = KnownActions::none(self.memory.allocator());
-        self.step_known(&mut known, input, out)
+        let mut input_end = InputEnd::new();
+        self.step_known(&mut known, &mut input_end, input, out)
     }
 
-    // The same, with what was decoded before.
+    // The same, with what was decoded before, and whether the input was found at its end.
     pub(crate) fn step_known<I: Source, O: Sink>(
         &mut self,
         known: &mut KnownActions,
+        input_end: &mut InputEnd,
         input: &mut I,
         out: &mut O,
     ) -> Stepped
         requires { AreKnown known.old }
         ensures known { AreKnown known.new }
-        ensures answer { StepAnswers Steps result self.old self.new
+        ensures answer { StepAnswers Steps result self.old self.new input_end.old.reached input_end.new.reached
             (record { input = I.seen input.old; output = O.seen out.old })
             (record { input = I.seen input.new; output = O.seen out.new }) }
         ensures determined { (bytes : List ℕ) → HasOneOutcome Steps (state_of self.old bytes) }
@@ -53,7 +57,7 @@ impl<'a> Machine<'a> {
         };
         let after = self.pc.wrapping_add(length as u64);
         if action == Action::SystemCall {
-            self.system_call(after, input, out)
+            self.system_call(after, input_end, input, out)
         } else {
             self.execute(action, after)
         }

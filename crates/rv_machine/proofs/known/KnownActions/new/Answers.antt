@@ -1,7 +1,5 @@
-use Rattle.std.proofs.Common.{◌≡◌, ◌∙◌, ◌<◌, ℕ, sym, ap, subst, arith, length, get_or}
+use Rattle.std.proofs.Common.{◌≡◌}
 use Rattle.std.specs.Prelude.{replicate}
-use Rattle.std.proofs.lemmas.List.{get_or-replicate, length-replicate}
-use Rattle.rv_machine.specs.declared.known.KnownAction.{KnownAction}
 use Rattle.rv_machine.specs.Known.{IsKnown}
 use Rattle.rv_machine.proofs.KnownEntries.{known_entries}
 use Rattle.rv_machine.proofs.known.KnownActions.new.Goals as goal

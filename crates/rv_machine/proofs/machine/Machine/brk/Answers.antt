@@ -1,4 +1,4 @@
-use Rattle.std.proofs.Common.{◌≡◌, ◌∙◌, sym, ap, refl, ℕ}
+use Rattle.std.proofs.Common.{◌≡◌, ◌∙◌, sym, ap, refl}
 use Rattle.rv_code.specs.machine.Machine.{set_register}
 use Rattle.rv_code.specs.machine.Step.{a0}
 use Rattle.rv_memory.specs.Memory.{break_after, byte_after}

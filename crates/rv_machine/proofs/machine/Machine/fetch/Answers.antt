@@ -1,5 +1,5 @@
-use Rattle.std.proofs.Common.{◌≡◌, ◌≢◌, ◌∙◌, ◌%◌, ℕ, Some, None, sym, ap, true}
-use Rattle.rv_code.specs.machine.Machine.{plus, all_may, may_execute}
+use Rattle.std.proofs.Common.{◌≡◌, ◌≢◌, ◌∙◌, ◌%◌, ℕ, Some, None, sym, ap}
+use Rattle.rv_code.specs.machine.Machine.{plus}
 use Rattle.rv_code.specs.machine.Step.{halfword}
 use Rattle.rv_machine.specs.State.{state_of}
 use Rattle.rv_machine.proofs.Fetches.{fetched_half, fetched_full}

@@ -5,7 +5,7 @@ use Rattle.elf_image.specs.file.Header.{segments_of}
 use Rattle.elf_image.specs.memory.Image.{image_byte}
 use Rattle.elf_image.specs.memory.Start.{break_start, in_stack, space_of, stack_bytes, stack_end, stack_pointer, start, writable_end}
 use Rattle.rv_memory.specs.Memory.{memory_of}
-use Rattle.rv_machine.proofs.CallSteps.{same_state}
+use Rattle.run_core.proofs.SameStates.{same_state}
 use Rattle.elf_image.proofs.LowSegments.{low_end}
 use Rattle.rv_memory.proofs.Spaces.{space_in-keeps}
 use Rattle.rv_memory.proofs.CodeKept.{stack_writable}

@@ -1,14 +1,17 @@
-use Rattle.std.proofs.Common.{◌≡◌, ◌∙◌, ◌<◌, ◌≤◌, sym, ap, refl, arith, Some, true, false, length, take, drop, []}
+use Rattle.std.proofs.Common.{◌≡◌, ◌∙◌, ◌<◌, ◌≤◌, sym, ap, refl, arith, Some, true, false, length, take, drop, [], ◌++◌}
 use Rattle.std.specs.Io.KnownBytes.{prepend_known}
 use Rattle.rv_code.specs.machine.Machine.{Going, all_may, may_write, put, set_register}
 use Rattle.rv_code.specs.machine.Step.{a0, a1, a2, buffer_size}
 use Rattle.rv_memory.specs.Memory.{memory_of}
-use Rattle.rv_machine.specs.State.{state_of, Same}
+use Rattle.run_core.specs.States.{Same}
+use Rattle.run_core.proofs.Reading.{takes_all, drops_moved, written_over, none_read}
+use Rattle.run_core.proofs.SameStates.{same_state}
+use Rattle.rv_machine.specs.State.{state_of}
 use Rattle.rv_memory.proofs.Spaces.{space_in-keeps}
 use Rattle.rv_memory.specs.Memory.{writes}
 use Rattle.rv_memory.proofs.CodeKept.{all_may_front, writable-keeps}
 use Rattle.rv_memory.proofs.Cells.{put_same}
-use Rattle.rv_machine.proofs.CallSteps.{same_state, after_read, read_event, read_call-reads, read_call-traps, HasRead, has_read, read_writes_nothing, written_over}
+use Rattle.rv_machine.proofs.CallSteps.{after_read, read_event, read_call-reads, read_call-traps, read_writes_nothing}
 use Rattle.rv_machine.proofs.machine.Machine.read_input.Goals as goal
 
 pub returns-then-not-may_all-clause-answer : goal.returns-then-not-may_all-clause-answer
@@ -29,44 +32,45 @@ returns-in-Bytes-clause-answer g c = λ output.
     let old = c.args.self.now in
     let new = c.return_value.new.self in
     let moved = c.split_at.result.0.now in
-    let s0 = state_of old [] in
-    let address : c.register-address.result ≡ s0.registers a1 = c.register-address.ensures in
-    let size : c.buffer_size-count.result ≡ buffer_size s0 = c.buffer_size-count.ensures.is [] in
+    let address : c.register-address.result ≡ (state_of old []).registers a1 = c.register-address.ensures in
+    let size : c.buffer_size-count.result ≡ buffer_size (state_of old []) = c.buffer_size-count.ensures.is [] in
     let got : length moved ≡ c.in-Bytes.got = c.split_at.ensures.front_len in
     let filled : length c.deref_mut.result.now ≡ c.buffer_size-count.result = ap length c.deref_mut.ensures.value ∙ c.in-Ok.ensures.size in
-    let few : length moved ≤ buffer_size s0 = omega (arith, got, c.in-Bytes.ensures.within, c.fill.auto.buffer, filled, size) in
-    let told : (g.I.Source.seen c.args.input.now).left ≡ prepend_known moved (g.I.Source.seen c.fill.new.input).left =
-    c.in-Bytes.ensures.moved ∙ ap (λ bytes. prepend_known bytes (g.I.Source.seen c.fill.new.input).left)
-    (sym (c.split_at.ensures.front ∙ ap (take c.in-Bytes.got) (c.deref.ensures.value ∙ written_over c.fill.new.buffer (drop (length c.fill.new.buffer) c.in-Ok.buffer.items) c.in-Ok.buffer.len (sym (c.fill.auto.buffer ∙ c.deref_mut.ensures.len))))) in
-    let has : HasRead (g.I.Source.seen c.args.input.now).left (g.I.Source.seen c.fill.new.input).left (buffer_size s0) moved =
-    has_read (g.I.Source.seen c.args.input.now).left (g.I.Source.seen c.fill.new.input).left (buffer_size s0) moved told few (λ less. c.in-Bytes.ensures.end (omega (arith, less, got, filled, size))) in
-    let s = state_of old has.input in
-    let t = state_of new has.rest in
-    let may : all_may (may_write s) (s.registers a1) (buffer_size s) ≡ true = rw (address, size) at (sym c.may_all.ensures ∙ c.if-not-may_all.false) in
-    let state = c.return_value.ensures.state has.rest in
-    let same : Same (after_read s c.args.next moved) t = record {
-      pc_is = state.pc_is;
-      registers_are = λ r. ap (λ n. set_register a0 n s.registers r) got ∙ state.registers_are r;
-      memory_is = λ q.
-          ap (λ a. put s.memory a moved q) (sym address)
-          ∙ put_same s.memory (memory_of c.buffer.new.self) (λ x. sym (c.buffer.ensures.kept x)) c.register-address.result q moved
-          ∙ sym (c.overwrite.ensures.written q)
-          ∙ state.memory_is q;
-      space_is =
-          space_in-keeps old.memory c.buffer.new.self c.buffer.ensures.space_kept
-          ∙ space_in-keeps c.buffer.new.self c.overwrite.new.self c.overwrite.ensures.space_kept
-          ∙ state.space_is;
-      break_is = sym c.buffer.ensures.space_kept.break_is ∙ sym c.overwrite.ensures.space_kept.break_is ∙ state.break_is;
-      input_is = has.drops ∙ state.input_is;
-    } in
+    let few : length moved ≤ buffer_size (state_of old []) = omega (arith, got, c.in-Bytes.ensures.within, c.fill.auto.buffer, filled, size) in
     rw c.return_value.ensures.going (record {
-      input = has.input;
-      rest = has.rest;
-      event = Some (read_event s moved);
-      comes_to = ap (λ x. Going x (Some (read_event s moved))) (sym (same_state (after_read s c.args.next moved) t same)) ∙ sym (read_call-reads s c.args.next moved may has.takes);
-      input_is = has.input_is;
-      rest_is = has.rest_is;
-      taken_is = read_writes_nothing s moved output.taken;
+      read = moved;
+      goes_on = λ rest may.
+          let s = state_of old (moved ++ rest) in
+          let t = state_of new rest in
+          let takes : take (buffer_size s) (moved ++ rest) ≡ moved =
+          takes_all (buffer_size s) moved rest c.fill.new.self.reached few (λ less. c.in-Bytes.ensures.end (omega (arith, less, got, filled, size))) may in
+          let may_write_all : all_may (may_write s) (s.registers a1) (buffer_size s) ≡ true = rw (address, size) at (sym c.may_all.ensures ∙ c.if-not-may_all.false) in
+          let state = c.return_value.ensures.state rest in
+          let same : Same (after_read s c.args.next moved) t = record {
+            pc_is = state.pc_is;
+            registers_are = λ r. ap (λ n. set_register a0 n s.registers r) got ∙ state.registers_are r;
+            memory_is = λ q.
+                ap (λ a. put s.memory a moved q) (sym address)
+                ∙ put_same s.memory (memory_of c.buffer.new.self) (λ x. sym (c.buffer.ensures.kept x)) c.register-address.result q moved
+                ∙ sym (c.overwrite.ensures.written q)
+                ∙ state.memory_is q;
+            space_is =
+                space_in-keeps old.memory c.buffer.new.self c.buffer.ensures.space_kept
+                ∙ space_in-keeps c.buffer.new.self c.overwrite.new.self c.overwrite.ensures.space_kept
+                ∙ state.space_is;
+            break_is = sym c.buffer.ensures.space_kept.break_is ∙ sym c.overwrite.ensures.space_kept.break_is ∙ state.break_is;
+            input_is = drops_moved moved rest ∙ state.input_is;
+          } in
+          record {
+            event = Some (read_event s moved);
+            comes_to = ap (λ x. Going x (Some (read_event s moved))) (sym (same_state (after_read s c.args.next moved) t same)) ∙ sym (read_call-reads s c.args.next moved may_write_all takes);
+            taken_is = read_writes_nothing s moved output.taken;
+          };
+      read_is =
+          c.in-Bytes.ensures.moved ∙ ap (λ bytes. prepend_known bytes (g.I.Source.seen c.fill.new.input).left)
+          (sym (c.split_at.ensures.front ∙ ap (take c.in-Bytes.got) (c.deref.ensures.value ∙ written_over c.fill.new.buffer (drop (length c.fill.new.buffer) c.in-Ok.buffer.items) c.in-Ok.buffer.len (sym (c.fill.auto.buffer ∙ c.deref_mut.ensures.len)))));
+      end_kept = λ e. (c.in-Bytes.ensures.kept e, none_read moved c.in-Bytes.got got (c.in-Bytes.ensures.none_after_end e));
+      end_is = c.in-Bytes.ensures.rightly;
     })
 
 pub returns-clause-answer : goal.returns-clause-answer

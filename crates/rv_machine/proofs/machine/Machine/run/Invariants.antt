@@ -1,7 +1,6 @@
-use Rattle.std.proofs.Common.{◌≡◌, ◌≤◌, ◌-◌, ℕ, List, Some}
+use Rattle.std.proofs.Common.{◌≤◌, ◌-◌}
 use Rattle.rv_code.specs.machine.Step.{Steps}
-use Rattle.rv_machine.specs.Determined.{IsDetermined}
-use Rattle.rv_machine.specs.Runs.{RunComesTo, Grows}
+use Rattle.run_core.proofs.Walking.{Walk}
 use Rattle.rv_machine.specs.Known.{AreKnown}
 use Rattle.rv_machine.specs.State.{state_of}
 use Rattle.rv_machine.proofs.machine.Machine.run.Given as goal
@@ -12,11 +11,8 @@ invariant-loop-steps g l = record {
   known : AreKnown l.known;
   reads : (g.I.Source.seen l.initial.input).faults ≤ (g.I.Source.seen l.input).faults;
   writes : (g.O.Sink.seen l.initial.out).faults ≤ (g.O.Sink.seen l.out).faults;
-  grows : Grows (g.O.Sink.seen l.initial.out).taken (g.O.Sink.seen l.out).taken;
-  walk : (bytes : List ℕ) → (g.I.Source.seen l.initial.input).left ≡ Some bytes → RunComesTo l.initial.self l.self bytes l.steps
-      (record { input = g.I.Source.seen l.initial.input; output = g.O.Sink.seen l.initial.out })
+  walk : Walk state_of Steps l.initial.self (record { input = g.I.Source.seen l.initial.input; output = g.O.Sink.seen l.initial.out }) l.self l.input_end.reached l.steps
       (record { input = g.I.Source.seen l.input; output = g.O.Sink.seen l.out });
-  determined : (bytes : List ℕ) → (g.I.Source.seen l.initial.input).left ≡ Some bytes → IsDetermined Steps (state_of l.initial.self bytes) l.steps;
 }
 
 abbrev pub decreases-loop-steps : goal.decreases-loop-steps

@@ -6,7 +6,8 @@ use Rattle.rv_code.specs.machine.Step.{a7, calls, effect, fetched, Steps, illega
 use Rattle.rv_machine.specs.State.{state_of, HasRegisters}
 use Rattle.rv_machine.proofs.Determined.{only_no_fetch, only_illegal, only_does}
 use Rattle.rv_machine.proofs.Registers.{has_registers}
-use Rattle.rv_machine.proofs.Quiet.{quiet_answers, answers_by}
+use Rattle.rv_machine.specs.Stepped.{answered}
+use Rattle.run_core.proofs.Quiet.{quiet_answers, answers_by}
 use Rattle.rv_machine.proofs.machine.Machine.step_known.Goals as goal
 
 pub returns-in_default-find-clause-answer : goal.returns-in_default-find-clause-answer
@@ -25,16 +26,16 @@ pub returns-then-eq-clause-answer : goal.returns-then-eq-clause-answer
 returns-then-eq-clause-answer g c =
     let next = plus c.args.self.now.pc c.in-Some-find.length in
     let is : action_of c.in-Some-find.ensures.found.inst ≡ SystemCall = sym c.in-Some-find.ensures.found.action_is ∙ search rules in
-    answers_by (λ s o. o ≡ calls s next (call_of (s.registers a7))) Steps c.args.self.now c.system_call.new.self
+    answers_by state_of (λ s o. o ≡ calls s next (call_of (s.registers a7))) Steps c.args.self.now c.system_call.new.self
     (λ input o same.
     does c.in-Some.half c.in-Some.next c.in-Some-find.ensures.found.inst c.in-Some-find.length (sym (c.in-Some.ensures input)) c.in-Some-find.ensures.found.decodes
     (same ∙ ap (λ a. effect a next (state_of c.args.self.now input)) (sym is)))
-    _ _ c.system_call.result c.system_call.ensures.answer
+    _ _ _ _ (answered c.system_call.result) c.system_call.ensures.answer
 
 pub returns-else-eq-clause-answer : goal.returns-else-eq-clause-answer
 returns-else-eq-clause-answer g c =
     let next = plus c.args.self.now.pc c.in-Some-find.length in
-    quiet_answers Steps c.args.self.now c.execute.new.self (λ s. effect c.in-Some-find.action next s) c.execute.result
+    quiet_answers state_of Steps c.args.self.now c.execute.new.self (λ s. effect c.in-Some-find.action next s) (answered c.execute.result) c.args.input_end.now.reached
     (record { input = g.I.Source.seen c.args.input.now; output = g.O.Sink.seen c.args.out.now })
     (λ input.
     does c.in-Some.half c.in-Some.next c.in-Some-find.ensures.found.inst c.in-Some-find.length (sym (c.in-Some.ensures input)) c.in-Some-find.ensures.found.decodes

@@ -1,9 +1,10 @@
-use Rattle.std.proofs.Common.{length, ◌-◌, ◌≡◌, ◌≤◌, take}
+use Rattle.std.proofs.Common.{length, ◌-◌, ◌≡◌, ◌≤◌, take, false}
 use Rattle.std.specs.Io.KnownBytes.{prepend_known}
-use Rattle.rv_machine.proofs.reading.fill.Given as goal
+use Rattle.run_core.proofs.input_end.InputEnd.fill.Given as goal
 
 abbrev pub invariant-loop-done : goal.invariant-loop-done
 invariant-loop-done g l = record {
+  unended : l.self.reached ≡ false;
   within : l.done ≤ length l.buffer;
   moved : (g.I.Source.seen l.initial.input).left ≡ prepend_known (take l.done l.buffer) (g.I.Source.seen l.input).left;
   never_falls : (g.I.Source.seen l.initial.input).faults ≤ (g.I.Source.seen l.input).faults;

@@ -1,7 +1,7 @@
 -- The system calls that the machine names, as the calls of the definition.
 use Rattle.rv_code.specs.machine.Machine.{Call, Read, Write, Exit, Brk, Unknown}
-use Rattle.rv_machine.specs.declared.calls.SystemCall.{SystemCall}
-use Rattle.rv_machine.specs.declared.calls.SystemCall.TheVariants as system_call
+use Rattle.run_core.specs.declared.calls.SystemCall.{SystemCall}
+use Rattle.run_core.specs.declared.calls.SystemCall.TheVariants as system_call
 
 abbrev pub call : SystemCall → Call
 call system_call.Read = Read

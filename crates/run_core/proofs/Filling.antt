@@ -1,11 +1,8 @@
 -- Bytes that are read piece by piece.
-use Rattle.std.proofs.Common.{◌≡◌, ◌+◌, ◌∙◌, sym, ap, refl, ℕ, List, Option, Some, None, length, take, ◌++◌, append_assoc}
+use Rattle.std.proofs.Common.{◌≡◌, ◌+◌, ◌∙◌, sym, ap, ℕ, List, Option, length, take, ◌++◌}
 use Rattle.std.proofs.Math.Seq.{take-append-add}
 use Rattle.std.specs.Io.KnownBytes.{prepend_known}
-
-prepend_known-append : (xs ys : List ℕ) (known : Option (List ℕ)) → prepend_known xs (prepend_known ys known) ≡ prepend_known (xs ++ ys) known
-prepend_known-append xs ys None = refl
-prepend_known-append xs ys (Some zs) = ap Some (sym (append_assoc xs ys zs))
+use Rattle.run_core.proofs.Told.{prepend_known-append}
 
 -- what was read fills the front of a buffer, and n more bytes stand at the front of the rest
 pub prepend_known-more : (a b c : Option (List ℕ)) (front filled rest : List ℕ) (d n : ℕ) → length front ≡ d → front ≡ filled → a ≡ prepend_known filled b → b ≡ prepend_known (take n rest) c → a ≡ prepend_known (take (d + n) (front ++ rest)) c

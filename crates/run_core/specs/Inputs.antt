@@ -1,0 +1,24 @@
+-- The input of a run: the bytes of a source that may not tell them, up to where it was found at its end.
+use Rattle.std.specs.Prelude.{◌≡◌, ℕ, List, [], Bool, true, Option, None, Some}
+use Rattle.std.specs.Io.KnownBytes.{IsAtEnd}
+use Rattle.rb_io.specs.Views.{SourceSeen, SinkSeen}
+
+-- what is seen of the source and of the sink of a run
+pub record Outside : Type 0 where
+  pub input : SourceSeen
+  pub output : SinkSeen
+
+-- what a source tells that has these bytes, if it tells its bytes at all
+abbrev pub as_told : Option (List ℕ) → List ℕ → Option (List ℕ)
+as_told None bytes = None
+as_told (Some told) bytes = Some bytes
+
+-- The source was found at its end, or it wasn't.
+
+-- then no more bytes come from it
+abbrev pub MayCome : Bool → List ℕ → Type 0
+MayCome ended bytes = ended ≡ true → bytes ≡ []
+
+-- then it has none left
+abbrev pub IsRightly : Bool → Option (List ℕ) → Type 0
+IsRightly ended left = ended ≡ true → IsAtEnd left

@@ -1,0 +1,6 @@
+pub mod Answers
+pub mod Calls
+pub mod Inputs
+pub mod Runs
+pub mod States
+pub mod StepAnswers

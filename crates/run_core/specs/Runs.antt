@@ -1,0 +1,105 @@
+-- What a run of at most so many steps answers.
+use Rattle.std.specs.Prelude.{◌≡◌, ℕ, ◌+◌, ◌<◌, ◌≤◌, List}
+use Rattle.std.specs.Io.KnownBytes.{append_known}
+use Rattle.rb_io.specs.FaultCounts.{Rose}
+use Rattle.rv_code.specs.machine.Determined.{IsDetermined}
+use Rattle.rv_code.specs.machine.Machine.{Event, output, Outcome, SoFar, Run, HaltsAfter}
+use Rattle.run_core.specs.Answers.{Answer}
+use Rattle.run_core.specs.Answers as answer
+use Rattle.run_core.specs.Inputs.{Outside, as_told}
+use Rattle.run_core.specs.StepAnswers.{AsksInput, GivesOutput}
+
+-- How many of the first steps can go only one way. After an exit or a halt there are none.
+abbrev pub determined_steps : {C : Type 0} → Answer C → ℕ → ℕ → ℕ
+determined_steps answer.Going limit n = limit
+determined_steps (answer.Ended status) limit n = limit
+determined_steps (answer.Halted pc cause) limit n = limit
+determined_steps answer.ReadFault limit n = n + 1
+determined_steps answer.WriteFault limit n = n + 1
+determined_steps answer.Memory limit n = n + 1
+
+-- a fault of the source or the sink, or want of memory
+abbrev pub IsInterrupted : {C : Type 0} → Answer C → Type 0
+IsInterrupted answer.Going = ⊥
+IsInterrupted (answer.Ended status) = ⊥
+IsInterrupted (answer.Halted pc cause) = ⊥
+IsInterrupted answer.ReadFault = Unit {0}
+IsInterrupted answer.WriteFault = Unit {0}
+IsInterrupted answer.Memory = Unit {0}
+
+-- what the first `limit` steps from a state come to by the definition, with the steps that count and their calls
+abbrev pub StateRunsTo : {S C : Type 0} → (S → Outcome S C → Type 0) → Answer C → ℕ → ℕ → S → List Event → Type 0
+StateRunsTo {S} step answer.Going limit n s trace = (n ≡ limit) × (t : S) × SoFar step s n trace t
+StateRunsTo step (answer.Ended status) limit n s trace = (n ≤ limit) × Run step s n trace status
+StateRunsTo step (answer.Halted pc cause) limit n s trace = (n < limit) × HaltsAfter step s n trace pc cause
+StateRunsTo step answer.ReadFault limit n s trace = ⊥
+StateRunsTo step answer.WriteFault limit n s trace = ⊥
+StateRunsTo step answer.Memory limit n s trace = ⊥
+
+-- A machine M keeps the state that `state_of` says, before an input, and `step` says what steps from states come to.
+module _ {M S C : Type 0} (state_of : M → List ℕ → S) (step : S → Outcome S C → Type 0) where
+  -- The machine is in a state to which n steps came that neither ended nor halted. The source has left what is left of
+  -- the input, and the sink took what the calls wrote out.
+  pub record RunComesTo (old now : M) (input : List ℕ) (n : ℕ) (before after : Outside) : Type 0 where
+    pub rest : List ℕ
+    pub trace : List Event
+    pub so_far : SoFar step (state_of old input) n trace (state_of now rest)
+    pub left_is : after.input.left ≡ as_told before.input.left rest
+    pub taken_is : after.output.taken ≡ append_known before.output.taken (output trace)
+
+  -- The program ended, with the last of these steps. The machine is in the state before it.
+  pub record HasEnded (status : ℕ) (old now : M) (input : List ℕ) (n : ℕ) (before after : Outside) : Type 0 where
+    pub rest : List ℕ
+    pub trace : List Event
+    pub run : Run step (state_of old input) n trace status
+    pub state_is : run.state ≡ state_of now rest
+    pub left_is : after.input.left ≡ as_told before.input.left rest
+    pub taken_is : after.output.taken ≡ append_known before.output.taken (output trace)
+
+  -- The next step halts. The machine is in the state before it.
+  pub record HasHalted (pc : ℕ) (cause : C) (old now : M) (input : List ℕ) (n : ℕ) (before after : Outside) : Type 0 where
+    pub rest : List ℕ
+    pub trace : List Event
+    pub halts : HaltsAfter step (state_of old input) n trace pc cause
+    pub state_is : halts.state ≡ state_of now rest
+    pub left_is : after.input.left ≡ as_told before.input.left rest
+    pub taken_is : after.output.taken ≡ append_known before.output.taken (output trace)
+
+  -- the next step asks for input, and a read failed
+  pub record HasFailedToRead (old : M) (input : List ℕ) (n : ℕ) (before after : Outside) : Type 0 where
+    pub cause : Rose before.input.faults after.input.faults
+    pub trace : List Event
+    pub state : S
+    pub so_far : SoFar step (state_of old input) n trace state
+    pub asks : AsksInput step state
+    pub taken_is : after.output.taken ≡ append_known before.output.taken (output trace)
+
+  -- the next step writes, and only a prefix of its bytes was taken
+  pub record HasFailedToWrite (old : M) (input : List ℕ) (n : ℕ) (before after : Outside) : Type 0 where
+    pub cause : Rose before.output.faults after.output.faults
+    pub trace : List Event
+    pub state : S
+    pub so_far : SoFar step (state_of old input) n trace state
+    pub gives : GivesOutput step (append_known before.output.taken (output trace)) after.output.taken state
+
+  -- A step that ends is counted, and one that halts or fails isn't, but all are among the first `limit` steps. Going
+  -- says that the steps are up.
+  abbrev pub MachineRunAnswers : Answer C → ℕ → ℕ → M → M → List ℕ → Outside → Outside → Type 0
+  MachineRunAnswers answer.Going limit n old now input before after = (n ≡ limit) × RunComesTo old now input n before after
+  MachineRunAnswers (answer.Ended status) limit n old now input before after =
+      (n ≤ limit) × HasEnded status old now input n before after
+  MachineRunAnswers (answer.Halted pc cause) limit n old now input before after =
+      (n < limit) × HasHalted pc cause old now input n before after
+  MachineRunAnswers answer.ReadFault limit n old now input before after =
+      (n < limit) × HasFailedToRead old input n before after
+  MachineRunAnswers answer.WriteFault limit n old now input before after =
+      (n < limit) × HasFailedToWrite old input n before after
+  MachineRunAnswers answer.Memory limit n old now input before after = (n < limit) × RunComesTo old now input n before after
+
+  -- There is an input, the source's own where it tells its bytes, with which the run answers so. It can answer only so
+  -- with this input, but for faults and want of memory.
+  pub record RunsSomeInput (answer : Answer C) (limit n : ℕ) (old now : M) (before after : Outside) : Type 0 where
+    pub input : List ℕ
+    pub input_is : before.input.left ≡ as_told before.input.left input
+    pub answers : MachineRunAnswers answer limit n old now input before after
+    pub determined : IsDetermined step (state_of old input) (determined_steps answer limit n)

@@ -1,0 +1,7 @@
+//! What machines share that run over a source and a sink, whatever their registers and memory hold.
+#![tactic(auto)]
+
+pub mod calls;
+pub mod input_end;
+
+pub use input_end::InputEnd;
