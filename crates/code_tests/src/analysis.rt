@@ -1,12 +1,13 @@
-// What all calls together find in a file.
+// What all calls together find in a file, and what several tests put into files and expect of them.
 use elf_image::read;
 use func_find::functions;
 use rb_bytes::fault::{FaultKind, Refusal};
-use rv_code::Func;
+use rv_code::cell::{CellKind, CodeCell};
+use rv_code::{Func, Role};
 use rv_reloc::{Refs, references, starts};
 use std::alloc::Global;
 use std::test::Fail;
-use test_files::Relocation;
+use test_files::{Relocation, Section, exit7_code, program};
 
 /// The code of a file.
 #[derive(Drop)]
@@ -37,13 +38,18 @@ pub fn accepted(alloc: Global, file: &[u8], whole: &[(u64, u64)]) -> Result<Anal
     }
 }
 
-/// The kind and place of what refuses a file.
-pub fn refused(alloc: Global, file: &[u8]) -> Option<(FaultKind, u64)> {
-    match analyse(alloc, file, &[]) {
+/// The kind and place of what refuses a file, of which these ranges have exception tables.
+pub fn refused_with(alloc: Global, file: &[u8], whole: &[(u64, u64)]) -> Option<(FaultKind, u64)> {
+    match analyse(alloc, file, whole) {
         Ok(_) => None,
         Err(Refusal::Fault(fault)) => Some((fault.kind, fault.place)),
         Err(Refusal::Memory) => None,
     }
+}
+
+/// The kind and place of what refuses a file without exception tables.
+pub fn refused(alloc: Global, file: &[u8]) -> Option<(FaultKind, u64)> {
+    refused_with(alloc, file, &[])
 }
 
 /// A relocation of the code.
@@ -65,5 +71,47 @@ pub fn of_section<'a>(
         kind,
         symbol,
         addend,
+    }
+}
+
+/// The smallest example with a field at 10088, behind the code, to which these relocations apply, by their types and addends.
+pub fn data_file(alloc: Global, field: &[u8], relocations: &[(u32, i64)]) -> Result<Vec<u8>, Fail> {
+    let code = exit7_code(alloc)?;
+    let mut file = program(alloc, &code, &[Section::loaded(b".rodata", 0x10088, field)])?;
+    for (kind, addend) in relocations {
+        file.relocations
+            .push(of_section(b".rodata", 0x10088, *kind, b"", *addend))?;
+    }
+    Ok(file.build(alloc)?)
+}
+
+/// The roles of an AUIPC and of the instruction with the lower part of its target.
+pub fn pair_roles(hi: u64, lo: u64, target: u64) -> [(u64, Role); 2] {
+    [(hi, Role::Hi { target }), (lo, Role::Lo { hi, target })]
+}
+
+/// The roles of the two instructions of a call.
+pub fn call_roles(hi: u64, lo: u64, target: u64) -> [(u64, Role); 2] {
+    [
+        (hi, Role::CallHi { target }),
+        (lo, Role::CallLo { hi, target }),
+    ]
+}
+
+/// A field of so many bytes with a code address.
+pub fn address_cell(addr: u64, width: u8, to: u64) -> CodeCell {
+    CodeCell {
+        addr,
+        width,
+        kind: CellKind::Abs { to },
+    }
+}
+
+/// A field of so many bytes with the difference of two labels.
+pub fn difference_cell(addr: u64, width: u8, to: u64, from: u64) -> CodeCell {
+    CodeCell {
+        addr,
+        width,
+        kind: CellKind::Diff { to, from },
     }
 }

@@ -1,13 +1,14 @@
 // What relocations of each type give the instructions and fields that they fit, and which they don't fit. psABI, "Relocations".
 // Types are given by their numbers in its table. The code of each file begins at 10078.
-use crate::analysis::{accepted, of_code, of_section, refused};
+use crate::analysis::{
+    accepted, call_roles, data_file, difference_cell, of_code, pair_roles, refused,
+};
 use rb_bytes::fault::FaultKind;
-use rv_code::cell::{CellKind, CodeCell};
 use rv_code::{Inst, Role};
 use std::alloc::Global;
 use std::test::Fail;
 use test_files::inst::{A0, A4, A5, EXIT, RA, X0, add, addi, auipc, jalr, ld, lui, sd};
-use test_files::{Section, Symbol, assemble, exit7_code, program, two_segments};
+use test_files::{Section, Symbol, assemble, program, two_segments};
 
 // An AUIPC with an upper part of this type, and an instruction with a lower part of that type, for eight zeros at 20000.
 fn distance_file(alloc: Global, upper: u32, inst: Inst, lower: u32) -> Result<Vec<u8>, Fail> {
@@ -38,16 +39,7 @@ fn parts_of_distances(rt: HostRuntime) -> Result<(), Fail> {
     ] {
         let file = distance_file(rt.alloc(), upper, inst, lower)?;
         let found = accepted(rt.alloc(), &file, &[])?;
-        let roles = [
-            (0x10078, Role::Hi { target: 0x20000 }),
-            (
-                0x1007c,
-                Role::Lo {
-                    hi: 0x10078,
-                    target: 0x20000,
-                },
-            ),
-        ];
+        let roles = pair_roles(0x10078, 0x1007c, 0x20000);
         assert_eq!(rt;
             found.refs.roles.as_slice(),
             roles.as_slice(),
@@ -73,38 +65,63 @@ fn lower_parts_that_do_not_fit(rt: HostRuntime) -> Result<(), Fail> {
     Ok(())
 }
 
-// An AUIPC with an upper part, and a load to which another relocation applies.
-fn upper_file(alloc: Global, imm: i64, lower: u32) -> Result<Vec<u8>, Fail> {
+// An AUIPC with an upper part of this type, and a load to which another relocation applies.
+fn upper_file(alloc: Global, upper: u32, imm: i64, lower: u32) -> Result<Vec<u8>, Fail> {
     let [set_exit, call] = EXIT;
     let code = assemble(alloc, &[auipc(A5, imm), ld(A5, -120, A5), set_exit, call])?;
     let mut file = program(alloc, &code, &[])?;
     file.symbols.push(Symbol::label(b"p", 0x10078))?;
-    file.relocations.push(of_code(0x10078, 23, b"", 0))?;
+    file.relocations.push(of_code(0x10078, upper, b"", 0))?;
     file.relocations.push(of_code(0x1007c, lower, b"p", 0))?;
     Ok(file.build(alloc)?)
 }
 
-// An upper part that no lower part names, and one whose target is below 0.
+// An upper part of each type that no lower part names; and one whose target is below 0 or above 7fff0000.
 #[test]
 fn upper_parts_that_do_not_fit(rt: HostRuntime) -> Result<(), Fail> {
-    for (imm, lower) in [(0x10, 0), (-0x11, 24)] {
-        let file = upper_file(rt.alloc(), imm, lower)?;
+    for (upper, imm, lower) in [
+        (20, 0x10, 0),
+        (21, 0x10, 0),
+        (22, 0x10, 0),
+        (23, 0x10, 0),
+        (23, -0x11, 24),
+        (23, 0x7fff0, 24),
+    ] {
+        let file = upper_file(rt.alloc(), upper, imm, lower)?;
         let wanted = Some((FaultKind::RelocMismatch, 0x10078));
-        assert_eq!(rt; refused(rt.alloc(), &file), wanted, "{imm}");
+        assert_eq!(rt; refused(rt.alloc(), &file), wanted, "{upper} {imm}");
     }
     Ok(())
 }
 
-// An AUIPC with two loads for it: the first by a symbol of this value and by this addend.
-fn lower_file(alloc: Global, value: u64, addend: i64) -> Result<Vec<u8>, Fail> {
+// The highest address that a target may have: 10078 + 7ffe0000 - 78.
+#[test]
+fn the_highest_target(rt: HostRuntime) -> Result<(), Fail> {
+    let file = upper_file(rt.alloc(), 23, 0x7ffe0, 24)?;
+    let found = accepted(rt.alloc(), &file, &[])?;
+    let roles = pair_roles(0x10078, 0x1007c, 0x7fff_0000);
+    assert_eq!(rt; found.refs.roles.as_slice(), roles.as_slice());
+    Ok(())
+}
+
+// An AUIPC and two instructions for it, of which this is the first, with a lower part of this type, by a symbol of this value
+// and by this addend.
+fn lower_file(
+    alloc: Global,
+    first: Inst,
+    lower: u32,
+    value: u64,
+    addend: i64,
+) -> Result<Vec<u8>, Fail> {
     let [set_exit, call] = EXIT;
-    let load = ld(A4, -120, A5);
-    let code = assemble(alloc, &[auipc(A5, 0x10), load, load, set_exit, call])?;
+    let insts = [auipc(A5, 0x10), first, ld(A4, -120, A5), set_exit, call];
+    let code = assemble(alloc, &insts)?;
     let mut file = program(alloc, &code, &[])?;
     file.symbols.push(Symbol::label(b"p", value))?;
     file.symbols.push(Symbol::label(b"q", 0x10078))?;
     file.relocations.push(of_code(0x10078, 23, b"", 0))?;
-    file.relocations.push(of_code(0x1007c, 24, b"p", addend))?;
+    file.relocations
+        .push(of_code(0x1007c, lower, b"p", addend))?;
     file.relocations.push(of_code(0x10080, 24, b"q", 0))?;
     Ok(file.build(alloc)?)
 }
@@ -112,12 +129,36 @@ fn lower_file(alloc: Global, value: u64, addend: i64) -> Result<Vec<u8>, Fail> {
 // A lower part's symbol is at the AUIPC, whatever the addend is.
 #[test]
 fn symbols_of_lower_parts(rt: HostRuntime) -> Result<(), Fail> {
-    let file = lower_file(rt.alloc(), 0x10078, 4)?;
-    let found = accepted(rt.alloc(), &file, &[])?;
-    assert_eq!(rt; found.refs.roles.len(), 3);
-    let file = lower_file(rt.alloc(), 0x1007c, -4)?;
-    let wanted = Some((FaultKind::RelocMismatch, 0x1007c));
-    assert_eq!(rt; refused(rt.alloc(), &file), wanted);
+    for (first, lower) in [(ld(A4, -120, A5), 24), (sd(A4, -120, A5), 25)] {
+        let file = lower_file(rt.alloc(), first, lower, 0x10078, 4)?;
+        let found = accepted(rt.alloc(), &file, &[])?;
+        assert_eq!(rt; found.refs.roles.len(), 3, "{lower}");
+        let file = lower_file(rt.alloc(), first, lower, 0x1007c, -4)?;
+        let wanted = Some((FaultKind::RelocMismatch, 0x1007c));
+        assert_eq!(rt; refused(rt.alloc(), &file), wanted, "{lower}");
+    }
+    Ok(())
+}
+
+// A lower part for the AUIPC of a call.
+#[test]
+fn a_lower_part_of_a_call(rt: HostRuntime) -> Result<(), Fail> {
+    let [set_exit, call] = EXIT;
+    let insts = [
+        auipc(RA, 0),
+        jalr(RA, 8, RA),
+        addi(A0, RA, 8),
+        set_exit,
+        call,
+    ];
+    let code = assemble(rt.alloc(), &insts)?;
+    let mut file = program(rt.alloc(), &code, &[])?;
+    file.symbols.push(Symbol::label(b"p", 0x10078))?;
+    file.relocations.push(of_code(0x10078, 19, b"", 0x10080))?;
+    file.relocations.push(of_code(0x10080, 24, b"p", 0))?;
+    let bytes = file.build(rt.alloc())?;
+    let wanted = Some((FaultKind::RelocMismatch, 0x10080));
+    assert_eq!(rt; refused(rt.alloc(), &bytes), wanted);
     Ok(())
 }
 
@@ -182,21 +223,13 @@ fn call_file(alloc: Global, upper: i64, jump: Inst) -> Result<Vec<u8>, Fail> {
 fn a_call_of_the_older_type(rt: HostRuntime) -> Result<(), Fail> {
     let file = call_file(rt.alloc(), 0, jalr(RA, 8, RA))?;
     let found = accepted(rt.alloc(), &file, &[])?;
-    let roles = [
-        (0x10078, Role::CallHi { target: 0x10080 }),
-        (
-            0x1007c,
-            Role::CallLo {
-                hi: 0x10078,
-                target: 0x10080,
-            },
-        ),
-    ];
+    let roles = call_roles(0x10078, 0x1007c, 0x10080);
     assert_eq!(rt; found.refs.roles.as_slice(), roles.as_slice());
     Ok(())
 }
 
-// No JALR; one through another register; through x0 to another address than 0, by either part; and a target below 0.
+// No JALR; one through another register; through x0 to another address than 0, by either part; and a target
+// below 0 or above 7fff0000.
 #[test]
 fn calls_that_do_not_fit(rt: HostRuntime) -> Result<(), Fail> {
     for (upper, jump) in [
@@ -205,6 +238,7 @@ fn calls_that_do_not_fit(rt: HostRuntime) -> Result<(), Fail> {
         (0, jalr(RA, 8, X0)),
         (1, jalr(RA, 0, X0)),
         (-0x11, jalr(RA, 0, RA)),
+        (0x7fff0, jalr(RA, 0, RA)),
     ] {
         let file = call_file(rt.alloc(), upper, jump)?;
         let wanted = Some((FaultKind::RelocMismatch, 0x10078));
@@ -216,18 +250,8 @@ fn calls_that_do_not_fit(rt: HostRuntime) -> Result<(), Fail> {
 // A field of eight bytes, the first of which is given, to which these relocations apply by their types: the first with the
 // address 1007c or another, the second with 10078.
 fn field_file(alloc: Global, first: u8, plus: u32, to: i64, minus: u32) -> Result<Vec<u8>, Fail> {
-    let code = exit7_code(alloc)?;
-    let field = [first, 0, 0, 0, 0, 0, 0, 0];
-    let mut file = program(
-        alloc,
-        &code,
-        &[Section::loaded(b".rodata", 0x10088, &field)],
-    )?;
-    file.relocations
-        .push(of_section(b".rodata", 0x10088, plus, b"", to))?;
-    file.relocations
-        .push(of_section(b".rodata", 0x10088, minus, b"", 0x10078))?;
-    Ok(file.build(alloc)?)
+    let labels = [(plus, to), (minus, 0x10078)];
+    data_file(alloc, &[first, 0, 0, 0, 0, 0, 0, 0], &labels)
 }
 
 // ADD32 with SUB32, and ADD64 with SUB64.
@@ -236,49 +260,23 @@ fn wide_differences(rt: HostRuntime) -> Result<(), Fail> {
     for (plus, minus, width) in [(35, 39, 4), (36, 40, 8)] {
         let file = field_file(rt.alloc(), 4, plus, 0x1007c, minus)?;
         let found = accepted(rt.alloc(), &file, &[])?;
-        let kind = CellKind::Diff {
-            to: 0x1007c,
-            from: 0x10078,
-        };
-        let cell = CodeCell {
-            addr: 0x10088,
-            width,
-            kind,
-        };
+        let cell = difference_cell(0x10088, width, 0x1007c, 0x10078);
         assert_eq!(rt; found.refs.cells.as_slice(), [cell].as_slice(), "{plus}");
     }
     Ok(())
 }
 
-// A field behind the code that holds -12.
-fn own_file(alloc: Global, kind: u32) -> Result<Vec<u8>, Fail> {
-    let code = exit7_code(alloc)?;
-    let field = [0xf4, 0xff, 0xff, 0xff];
-    let mut file = program(
-        alloc,
-        &code,
-        &[Section::loaded(b".rodata", 0x10088, &field)],
-    )?;
-    file.relocations
-        .push(of_section(b".rodata", 0x10088, kind, b"", 0x1007c))?;
-    Ok(file.build(alloc)?)
-}
-
-// 32_PCREL and PLT32, from the field itself: -12.
+// 32_PCREL and PLT32, from the field itself: -12, and another number.
 #[test]
 fn distances_from_the_field(rt: HostRuntime) -> Result<(), Fail> {
     for kind in [57, 59] {
-        let file = own_file(rt.alloc(), kind)?;
+        let file = data_file(rt.alloc(), &[0xf4, 0xff, 0xff, 0xff], &[(kind, 0x1007c)])?;
         let found = accepted(rt.alloc(), &file, &[])?;
-        let cell = CodeCell {
-            addr: 0x10088,
-            width: 4,
-            kind: CellKind::Diff {
-                to: 0x1007c,
-                from: 0x10088,
-            },
-        };
+        let cell = difference_cell(0x10088, 4, 0x1007c, 0x10088);
         assert_eq!(rt; found.refs.cells.as_slice(), [cell].as_slice(), "{kind}");
+        let file = data_file(rt.alloc(), &[0xf3, 0xff, 0xff, 0xff], &[(kind, 0x1007c)])?;
+        let wanted = Some((FaultKind::RelocMismatch, 0x10088));
+        assert_eq!(rt; refused(rt.alloc(), &file), wanted, "{kind}");
     }
     Ok(())
 }
@@ -331,6 +329,40 @@ fn differences_that_do_not_fit(rt: HostRuntime) -> Result<(), Fail> {
             wanted,
             "{first} {plus} {minus}"
         );
+    }
+    Ok(())
+}
+
+// A code address that is added twice; one that is subtracted alone; and a number in LEB128 that goes on behind its section.
+#[test]
+fn labels_and_fields_that_do_not_fit(rt: HostRuntime) -> Result<(), Fail> {
+    for (field, relocations) in [
+        ([4, 0, 0, 0], [(35, 0x1007c), (35, 0x1007c), (39, 0x10078)]),
+        ([4, 0, 0, 0], [(39, 0x10078), (0, 0), (0, 0)]),
+        (
+            [0x88, 0x80, 0x80, 0x80],
+            [(60, 0x10080), (61, 0x10078), (0, 0)],
+        ),
+    ] {
+        let file = data_file(rt.alloc(), &field, &relocations)?;
+        let wanted = Some((FaultKind::RelocMismatch, 0x10088));
+        assert_eq!(rt; refused(rt.alloc(), &file), wanted, "{relocations:?}");
+    }
+    Ok(())
+}
+
+// Labels that are no code addresses: alone, and two outside all memory, of which the difference alone counts.
+#[test]
+fn labels_that_are_no_code(rt: HostRuntime) -> Result<(), Fail> {
+    for relocations in [
+        [(35, 0x20000), (0, 0)],
+        [(39, 0x20000), (0, 0)],
+        [(35, -4), (39, -8)],
+        [(35, 0x7fff_0008), (39, 0x7fff_0004)],
+    ] {
+        let file = data_file(rt.alloc(), &[4, 0, 0, 0], &relocations)?;
+        let found = accepted(rt.alloc(), &file, &[])?;
+        assert_eq!(rt; found.refs.cells.len(), 0, "{relocations:?}");
     }
     Ok(())
 }

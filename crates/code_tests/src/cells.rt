@@ -1,21 +1,35 @@
 // Which fields are code cells. The code of each file begins at 10078.
-use crate::analysis::{accepted, of_section};
+use crate::analysis::{
+    accepted, address_cell, data_file, difference_cell, of_section, refused_with,
+};
 use elf_image::relocation::*;
 use elf_image::section::SHT_NOBITS;
-use rv_code::cell::{CellKind, CodeCell};
+use rb_bytes::fault::FaultKind;
 use std::alloc::Global;
 use std::test::Fail;
+use test_files::inst::{X0, jal};
 use test_files::shapes::DATA;
-use test_files::{Section, exit7_code, program, two_segments};
+use test_files::{Section, Symbol, assemble, exit7_code, program, two_segments};
+
+// A section of these bytes at an address, to which relocations apply, by their addresses, types and addends.
+fn section_file(
+    alloc: Global,
+    addr: u64,
+    bytes: &[u8],
+    relocations: &[(u64, u32, i64)],
+) -> Result<Vec<u8>, Fail> {
+    let code = exit7_code(alloc)?;
+    let mut file = program(alloc, &code, &[Section::loaded(b".data", addr, bytes)])?;
+    for (place, kind, addend) in relocations {
+        file.relocations
+            .push(of_section(b".data", *place, *kind, b"", *addend))?;
+    }
+    Ok(file.build(alloc)?)
+}
 
 // A field of eight bytes at an address, for an address.
 fn address_file(alloc: Global, addr: u64, value: u64) -> Result<Vec<u8>, Fail> {
-    let code = exit7_code(alloc)?;
-    let field = value.to_le_bytes();
-    let mut file = program(alloc, &code, &[Section::loaded(b".data", addr, &field)])?;
-    file.relocations
-        .push(of_section(b".data", addr, R_RISCV_64, b"", 0))?;
-    Ok(file.build(alloc)?)
+    section_file(alloc, addr, &value.to_le_bytes(), &[(addr, R_RISCV_64, 0)])
 }
 
 // The address of an instruction is one; those of its middle and of the code's end aren't. The file's header has the entry
@@ -38,28 +52,14 @@ fn addresses(rt: HostRuntime) -> Result<(), Fail> {
 // A field that is an address and the difference of that address and 0 is the address.
 #[test]
 fn an_address_that_is_a_difference(rt: HostRuntime) -> Result<(), Fail> {
-    let code = exit7_code(rt.alloc())?;
-    let field = [0x7c, 0, 1, 0];
-    let mut file = program(
-        rt.alloc(),
-        &code,
-        &[Section::loaded(b".data", 0x10088, &field)],
-    )?;
-    for (kind, addend) in [
+    let labels = [
         (R_RISCV_ADD32, 0x1007c),
         (R_RISCV_SUB32, 0),
         (R_RISCV_32, 0),
-    ] {
-        file.relocations
-            .push(of_section(b".data", 0x10088, kind, b"", addend))?;
-    }
-    let bytes = file.build(rt.alloc())?;
+    ];
+    let bytes = data_file(rt.alloc(), &[0x7c, 0, 1, 0], &labels)?;
     let found = accepted(rt.alloc(), &bytes, &[])?;
-    let cell = CodeCell {
-        addr: 0x10088,
-        width: 4,
-        kind: CellKind::Abs { to: 0x1007c },
-    };
+    let cell = address_cell(0x10088, 4, 0x1007c);
     assert_eq!(rt; found.refs.cells.as_slice(), [cell].as_slice());
     Ok(())
 }
@@ -86,5 +86,121 @@ fn a_field_that_is_filled_with_zeros(rt: HostRuntime) -> Result<(), Fail> {
     let bytes = file.build(rt.alloc())?;
     let found = accepted(rt.alloc(), &bytes, &[])?;
     assert_eq!(rt; found.refs.cells.len(), 0);
+    Ok(())
+}
+
+// A difference, an address that begins in its middle, and a difference that shares bytes with that address alone: the first
+// and the last count.
+#[test]
+fn fields_that_share_bytes(rt: HostRuntime) -> Result<(), Fail> {
+    let file = section_file(
+        rt.alloc(),
+        0x10088,
+        &[0, 0, 0x7c, 0, 1, 0, 0, 0, 0, 0],
+        &[
+            (0x1008e, R_RISCV_ADD32, 0x1007c),
+            (0x1008e, R_RISCV_SUB32, 0x1007c),
+            (0x1008a, R_RISCV_64, 0),
+            (0x10088, R_RISCV_ADD32, 0x7d007c),
+            (0x10088, R_RISCV_SUB32, 0x1007c),
+        ],
+    )?;
+    let found = accepted(rt.alloc(), &file, &[])?;
+    let cells = [
+        difference_cell(0x10088, 4, 0x7d007c, 0x1007c),
+        difference_cell(0x1008e, 4, 0x1007c, 0x1007c),
+    ];
+    assert_eq!(rt; found.refs.cells.as_slice(), cells.as_slice());
+    Ok(())
+}
+
+// A label that is no address doesn't matter where the difference is no cell: behind the first half of an address, and in the
+// file's header, whose entry point is 10078.
+#[test]
+fn labels_of_fields_that_are_no_cells(rt: HostRuntime) -> Result<(), Fail> {
+    let below = -0x1_0000_0000;
+    let file = section_file(
+        rt.alloc(),
+        0x10088,
+        &[0x78, 0, 1, 0, 0, 0, 0, 0],
+        &[
+            (0x10088, R_RISCV_64, 0),
+            (0x1008c, R_RISCV_ADD32, 0x1007c),
+            (0x1008c, R_RISCV_SUB32, below + 0x1007c),
+        ],
+    )?;
+    let found = accepted(rt.alloc(), &file, &[])?;
+    let cell = address_cell(0x10088, 8, 0x10078);
+    assert_eq!(rt; found.refs.cells.as_slice(), [cell].as_slice());
+    let file = section_file(
+        rt.alloc(),
+        0x10018,
+        &[0x78, 0, 1, 0],
+        &[
+            (0x10018, R_RISCV_ADD32, 0x10078),
+            (0x10018, R_RISCV_SUB32, below),
+        ],
+    )?;
+    let found = accepted(rt.alloc(), &file, &[])?;
+    assert_eq!(rt; found.refs.cells.len(), 0);
+    Ok(())
+}
+
+// A field for the address behind the smallest example, where four bytes stand that no symbol covers.
+fn padded_file(alloc: Global, padding: &[u8]) -> Result<Vec<u8>, Fail> {
+    let mut code = assemble(alloc, &[jal(X0, 0)])?;
+    code.extend_from_slice(padding)?;
+    let field = 0x1007c_u64.to_le_bytes();
+    let mut file = program(alloc, &code, &[Section::loaded(b".data", 0x10080, &field)])?;
+    file.symbols.push(Symbol::function(b"f", 0x10078, 4))?;
+    file.relocations
+        .push(of_section(b".data", 0x10080, R_RISCV_64, b"", 0))?;
+    Ok(file.build(alloc)?)
+}
+
+// Zeros have no code address; a nop has one, and becomes a function by the field that names it.
+#[test]
+fn addresses_of_padding(rt: HostRuntime) -> Result<(), Fail> {
+    for (padding, cells, funcs) in [([0, 0, 0, 0], 0, 1), ([0x13, 0, 0, 0], 1, 2)] {
+        let file = padded_file(rt.alloc(), &padding)?;
+        let found = accepted(rt.alloc(), &file, &[])?;
+        assert_eq!(rt; found.refs.cells.len(), cells, "{padding:?}");
+        assert_eq!(rt; found.funcs.len(), funcs, "{padding:?}");
+    }
+    Ok(())
+}
+
+// The smallest example as two functions, with a field of one byte for the difference of a label and the first one's start.
+fn two_functions(alloc: Global, to: u8) -> Result<Vec<u8>, Fail> {
+    let code = exit7_code(alloc)?;
+    let field = [to];
+    let mut file = program(alloc, &code, &[Section::loaded(b".data", 0x10088, &field)])?;
+    file.symbols.push(Symbol::function(b"f", 0x10078, 8))?;
+    file.symbols.push(Symbol::function(b"g", 0x10080, 8))?;
+    for (kind, addend) in [(R_RISCV_ADD8, 0x10078 + to as i64), (R_RISCV_SUB8, 0x10078)] {
+        file.relocations
+            .push(of_section(b".data", 0x10088, kind, b"", addend))?;
+    }
+    Ok(file.build(alloc)?)
+}
+
+// Both labels have to be of one whole function; its end is one of its labels.
+#[test]
+fn differences_of_whole_functions(rt: HostRuntime) -> Result<(), Fail> {
+    let first = (0x10078, 0x1007c);
+    let second = (0x10080, 0x10084);
+    for (to, whole, is_refused) in [
+        (8, [first, first], false),
+        (8, [second, second], true),
+        (12, [first, second], true),
+    ] {
+        let file = two_functions(rt.alloc(), to)?;
+        let wanted = if is_refused {
+            Some((FaultKind::NarrowDiff, 0x10088))
+        } else {
+            None
+        };
+        assert_eq!(rt; refused_with(rt.alloc(), &file, &whole), wanted, "{to}");
+    }
     Ok(())
 }

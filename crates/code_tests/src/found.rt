@@ -1,13 +1,15 @@
 // What is found in files as compilers and linkers lay them out. The code of each begins at 10078.
-use crate::analysis::{accepted, of_code, of_section, refused};
+use crate::analysis::{
+    accepted, address_cell, call_roles, data_file, difference_cell, of_code, of_section,
+    pair_roles, refused,
+};
 use elf_image::relocation::*;
 use rb_bytes::fault::FaultKind;
-use rv_code::cell::{CellKind, CodeCell};
 use rv_code::{Inst, Role};
 use std::alloc::Global;
 use std::test::Fail;
 use test_files::inst::{A0, A4, A5, EXIT, NOP, RA, X0, add, addi, auipc, jal, jalr, ld, lui, lw};
-use test_files::{Section, Symbol, assemble, exit7, exit7_code, program, two_segments};
+use test_files::{Section, Symbol, assemble, exit7, program, two_segments};
 
 // An entry of the global offset table, with the function that it is to hold, by the relocation's addend, and the lower part
 // that names it.
@@ -45,22 +47,9 @@ fn an_entry_of_the_global_offset_table(rt: HostRuntime) -> Result<(), Fail> {
         found.starts.as_slice(),
         [0x10078, 0x1007c, 0x10080, 0x10084, 0x10088].as_slice()
     );
-    let roles = [
-        (0x10078, Role::Hi { target: 0x20000 }),
-        (
-            0x1007c,
-            Role::Lo {
-                hi: 0x10078,
-                target: 0x20000,
-            },
-        ),
-    ];
+    let roles = pair_roles(0x10078, 0x1007c, 0x20000);
     assert_eq!(rt; found.refs.roles.as_slice(), roles.as_slice());
-    let cell = CodeCell {
-        addr: 0x20000,
-        width: 8,
-        kind: CellKind::Abs { to: 0x10084 },
-    };
+    let cell = address_cell(0x20000, 8, 0x10084);
     assert_eq!(rt; found.refs.cells.as_slice(), [cell].as_slice());
     assert_eq!(rt; found.funcs.len(), 2);
     Ok(())
@@ -87,11 +76,33 @@ fn entries_of_the_table_that_do_not_fit(rt: HostRuntime) -> Result<(), Fail> {
     Ok(())
 }
 
+// Code that begins with the address of a table behind it, at 10098, to whose bytes these relocations apply, by their
+// addresses, types and addends.
+fn table_file(
+    alloc: Global,
+    insts: &[Inst],
+    table: &[u8],
+    relocations: &[(u64, u32, i64)],
+) -> Result<Vec<u8>, Fail> {
+    let code = assemble(alloc, insts)?;
+    let mut file = program(alloc, &code, &[Section::loaded(b".rodata", 0x10098, table)])?;
+    file.symbols.push(Symbol::label(b"p", 0x10078))?;
+    file.relocations
+        .push(of_code(0x10078, R_RISCV_PCREL_HI20, b"", 0x10098))?;
+    file.relocations
+        .push(of_code(0x1007c, R_RISCV_PCREL_LO12_I, b"p", 0))?;
+    for (place, kind, addend) in relocations {
+        file.relocations
+            .push(of_section(b".rodata", *place, *kind, b"", *addend))?;
+    }
+    Ok(file.build(alloc)?)
+}
+
 // A switch by a table of distances from the table.
 #[test]
 fn a_table_of_distances(rt: HostRuntime) -> Result<(), Fail> {
     let [set_exit, call] = EXIT;
-    let code = assemble(
+    let file = table_file(
         rt.alloc(),
         &[
             auipc(A5, 0),
@@ -103,54 +114,20 @@ fn a_table_of_distances(rt: HostRuntime) -> Result<(), Fail> {
             set_exit,
             call,
         ],
+        &[0xf4, 0xff, 0xff, 0xff, 0xf8, 0xff, 0xff, 0xff],
+        &[
+            (0x10098, R_RISCV_ADD32, 0x1008c),
+            (0x10098, R_RISCV_SUB32, 0x10098),
+            (0x1009c, R_RISCV_ADD32, 0x10090),
+            (0x1009c, R_RISCV_SUB32, 0x10098),
+        ],
     )?;
-    let table = [0xf4, 0xff, 0xff, 0xff, 0xf8, 0xff, 0xff, 0xff];
-    let mut file = program(
-        rt.alloc(),
-        &code,
-        &[Section::loaded(b".rodata", 0x10098, &table)],
-    )?;
-    file.symbols.push(Symbol::label(b"p", 0x10078))?;
-    file.relocations
-        .push(of_code(0x10078, R_RISCV_PCREL_HI20, b"", 0x10098))?;
-    file.relocations
-        .push(of_code(0x1007c, R_RISCV_PCREL_LO12_I, b"p", 0))?;
-    for (at, to) in [(0x10098, 0x1008c), (0x1009c, 0x10090)] {
-        file.relocations
-            .push(of_section(b".rodata", at, R_RISCV_ADD32, b"", to))?;
-        file.relocations
-            .push(of_section(b".rodata", at, R_RISCV_SUB32, b"", 0x10098))?;
-    }
-    let bytes = file.build(rt.alloc())?;
-    let found = accepted(rt.alloc(), &bytes, &[])?;
-    let roles = [
-        (0x10078, Role::Hi { target: 0x10098 }),
-        (
-            0x1007c,
-            Role::Lo {
-                hi: 0x10078,
-                target: 0x10098,
-            },
-        ),
-    ];
+    let found = accepted(rt.alloc(), &file, &[])?;
+    let roles = pair_roles(0x10078, 0x1007c, 0x10098);
     assert_eq!(rt; found.refs.roles.as_slice(), roles.as_slice());
     let cells = [
-        CodeCell {
-            addr: 0x10098,
-            width: 4,
-            kind: CellKind::Diff {
-                to: 0x1008c,
-                from: 0x10098,
-            },
-        },
-        CodeCell {
-            addr: 0x1009c,
-            width: 4,
-            kind: CellKind::Diff {
-                to: 0x10090,
-                from: 0x10098,
-            },
-        },
+        difference_cell(0x10098, 4, 0x1008c, 0x10098),
+        difference_cell(0x1009c, 4, 0x10090, 0x10098),
     ];
     assert_eq!(rt; found.refs.cells.as_slice(), cells.as_slice());
     Ok(())
@@ -205,16 +182,7 @@ fn call_file(alloc: Global, jump: Inst, symbol: &[u8]) -> Result<Vec<u8>, Fail> 
 fn a_call(rt: HostRuntime) -> Result<(), Fail> {
     let file = call_file(rt.alloc(), jalr(RA, 8, RA), b"g")?;
     let found = accepted(rt.alloc(), &file, &[])?;
-    let roles = [
-        (0x10078, Role::CallHi { target: 0x10080 }),
-        (
-            0x1007c,
-            Role::CallLo {
-                hi: 0x10078,
-                target: 0x10080,
-            },
-        ),
-    ];
+    let roles = call_roles(0x10078, 0x1007c, 0x10080);
     assert_eq!(rt; found.refs.roles.as_slice(), roles.as_slice());
     assert_eq!(rt; found.funcs.len(), 2);
     Ok(())
@@ -231,54 +199,29 @@ fn a_call_of_an_undefined_weak_symbol(rt: HostRuntime) -> Result<(), Fail> {
     Ok(())
 }
 
-// A field behind the code, to which these relocations apply, by their types and addends.
-fn data_file(alloc: Global, field: &[u8], relocations: &[(u32, i64)]) -> Result<Vec<u8>, Fail> {
-    let code = exit7_code(alloc)?;
-    let mut file = program(alloc, &code, &[Section::loaded(b".rodata", 0x10088, field)])?;
-    for (kind, addend) in relocations {
-        file.relocations
-            .push(of_section(b".rodata", 0x10088, *kind, b"", *addend))?;
-    }
-    Ok(file.build(alloc)?)
-}
-
 // The address that a field holds, whatever its relocation says, and the wider of two fields; a distance from the highest
 // address; and one from the field itself.
 #[test]
 fn fields_that_are_cells(rt: HostRuntime) -> Result<(), Fail> {
-    for (field, relocations, width, kind) in [
+    for (field, relocations, cell) in [
         (
             [0x7c, 0, 1, 0, 0, 0, 0, 0],
             [(R_RISCV_32, 0x1007c), (R_RISCV_64, 0x10078)],
-            8,
-            CellKind::Abs { to: 0x1007c },
+            address_cell(0x10088, 8, 0x1007c),
         ),
         (
             [0x7c, 0, 2, 0x80, 0, 0, 0, 0],
             [(R_RISCV_ADD32, 0x1007c), (R_RISCV_SUB32, 0x7fff_0000)],
-            4,
-            CellKind::Diff {
-                to: 0x1007c,
-                from: 0x7fff_0000,
-            },
+            difference_cell(0x10088, 4, 0x1007c, 0x7fff_0000),
         ),
         (
             [0xf4, 0xff, 0xff, 0xff, 0, 0, 0, 0],
             [(R_RISCV_32_PCREL, 0x1007c), (R_RISCV_NONE, 0)],
-            4,
-            CellKind::Diff {
-                to: 0x1007c,
-                from: 0x10088,
-            },
+            difference_cell(0x10088, 4, 0x1007c, 0x10088),
         ),
     ] {
         let bytes = data_file(rt.alloc(), &field, &relocations)?;
         let found = accepted(rt.alloc(), &bytes, &[])?;
-        let cell = CodeCell {
-            addr: 0x10088,
-            width,
-            kind,
-        };
         assert_eq!(rt; found.refs.cells.as_slice(), [cell].as_slice());
     }
     Ok(())
@@ -328,15 +271,11 @@ fn fields_that_do_not_fit(rt: HostRuntime) -> Result<(), Fail> {
 // A distance in LEB128 between two labels of a function that stays whole. DWARF 5, section 7.6.
 #[test]
 fn a_distance_within_a_whole_function(rt: HostRuntime) -> Result<(), Fail> {
-    let code = exit7_code(rt.alloc())?;
-    let mut file = program(
-        rt.alloc(),
-        &code,
-        &[Section::loaded(b".rodata", 0x10088, &[0x88, 0])],
-    )?;
-    file.relocations.push(of_section(b".rodata", 0x10088, R_RISCV_SET_ULEB128, b"", 0x10080))?;
-    file.relocations.push(of_section(b".rodata", 0x10088, R_RISCV_SUB_ULEB128, b"", 0x10078))?;
-    let bytes = file.build(rt.alloc())?;
+    let labels = [
+        (R_RISCV_SET_ULEB128, 0x10080),
+        (R_RISCV_SUB_ULEB128, 0x10078),
+    ];
+    let bytes = data_file(rt.alloc(), &[0x88, 0], &labels)?;
     assert_eq!(rt;
         refused(rt.alloc(), &bytes),
         Some((FaultKind::NarrowDiff, 0x10088))
@@ -389,5 +328,81 @@ fn nops_behind_a_function(rt: HostRuntime) -> Result<(), Fail> {
         assert_eq!(rt; found.starts.as_slice(), [0x10078, 0x1007c].as_slice());
         assert_eq!(rt; found.funcs.len(), wanted);
     }
+    Ok(())
+}
+
+// A switch by a table of addresses.
+#[test]
+fn a_table_of_addresses(rt: HostRuntime) -> Result<(), Fail> {
+    let [set_exit, call] = EXIT;
+    let file = table_file(
+        rt.alloc(),
+        &[
+            auipc(A5, 0),
+            addi(A5, A5, 32),
+            ld(A4, 8, A5),
+            jalr(X0, 0, A4),
+            addi(A0, X0, 5),
+            addi(A0, X0, 6),
+            set_exit,
+            call,
+        ],
+        &[0x88, 0, 1, 0, 0, 0, 0, 0, 0x8c, 0, 1, 0, 0, 0, 0, 0],
+        &[
+            (0x10098, R_RISCV_64, 0x10088),
+            (0x100a0, R_RISCV_64, 0x1008c),
+        ],
+    )?;
+    let found = accepted(rt.alloc(), &file, &[])?;
+    let roles = pair_roles(0x10078, 0x1007c, 0x10098);
+    assert_eq!(rt; found.refs.roles.as_slice(), roles.as_slice());
+    let cells = [
+        address_cell(0x10098, 8, 0x10088),
+        address_cell(0x100a0, 8, 0x1008c),
+    ];
+    assert_eq!(rt; found.refs.cells.as_slice(), cells.as_slice());
+    Ok(())
+}
+
+// The thread pointer. psABI, "Integer Register Convention".
+const TP: u8 = 4;
+
+// A variable of a thread by its distance from tp, as executables address it: `lui a5, %tprel_hi(x); add a5, a5, tp,
+// %tprel_add(x); lw a0, %tprel_lo(x)(a5)`. It has no address, so it gives no role.
+#[test]
+fn a_variable_of_a_thread(rt: HostRuntime) -> Result<(), Fail> {
+    let [set_exit, call] = EXIT;
+    let code = assemble(
+        rt.alloc(),
+        &[lui(A5, 0), add(A5, A5, TP), lw(A0, 16, A5), set_exit, call],
+    )?;
+    let mut file = program(rt.alloc(), &code, &[])?;
+    for (place, kind) in [
+        (0x10078, R_RISCV_TPREL_HI20),
+        (0x1007c, R_RISCV_TPREL_ADD),
+        (0x10080, R_RISCV_TPREL_LO12_I),
+    ] {
+        file.relocations.push(of_code(place, kind, b"", 16))?;
+    }
+    let bytes = file.build(rt.alloc())?;
+    let found = accepted(rt.alloc(), &bytes, &[])?;
+    assert_eq!(rt; found.refs.roles.len(), 0);
+    assert_eq!(rt; found.funcs.len(), 1);
+    Ok(())
+}
+
+// A call that is its function's last instruction isn't taken to come back, so a nop behind it is padding.
+#[test]
+fn a_nop_behind_a_call(rt: HostRuntime) -> Result<(), Fail> {
+    let code = assemble(rt.alloc(), &[auipc(RA, 0), jalr(RA, 0, RA), NOP])?;
+    let mut file = program(rt.alloc(), &code, &[])?;
+    file.symbols.push(Symbol::function(b"f", 0x10078, 8))?;
+    file.relocations
+        .push(of_code(0x10078, R_RISCV_CALL_PLT, b"f", 0))?;
+    let bytes = file.build(rt.alloc())?;
+    let found = accepted(rt.alloc(), &bytes, &[])?;
+    let roles = call_roles(0x10078, 0x1007c, 0x10078);
+    assert_eq!(rt; found.refs.roles.as_slice(), roles.as_slice());
+    assert_eq!(rt; found.funcs.len(), 1);
     Ok(())
 }

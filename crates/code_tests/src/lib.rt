@@ -14,4 +14,6 @@ mod functions;
 #[cfg(test)]
 mod refused;
 #[cfg(test)]
+mod starts;
+#[cfg(test)]
 mod types;

@@ -1,11 +1,12 @@
 // Files that are refused: which fault, and where. The code of each begins at 10078.
-use crate::analysis::{of_code, of_section, refused};
+use crate::analysis::{data_file, of_code, refused};
 use elf_image::relocation::*;
 use rb_bytes::fault::FaultKind;
 use std::test::Fail;
 use test_files::bytes::patch;
 use test_files::inst::{A0, A1, A2, EXIT, addi, auipc};
-use test_files::{Section, Symbol, assemble, exit7_code, program};
+use test_files::shapes::BASE;
+use test_files::{Section, Symbol, assemble, exit7_code, program, program_at};
 
 // A number that is no type of relocation. psABI, "Relocations".
 const UNKNOWN: u32 = 62;
@@ -68,19 +69,12 @@ fn the_lowest_number_counts(rt: HostRuntime) -> Result<(), Fail> {
 // A difference of code addresses in 16 bits; and a field that holds another number.
 #[test]
 fn narrow_differences(rt: HostRuntime) -> Result<(), Fail> {
-    let code = exit7_code(rt.alloc())?;
     for (field, wanted) in [
         ([4, 0], FaultKind::NarrowDiff),
         ([5, 0], FaultKind::RelocMismatch),
     ] {
-        let mut file = program(
-            rt.alloc(),
-            &code,
-            &[Section::loaded(b".rodata", 0x10088, &field)],
-        )?;
-        file.relocations.push(of_section(b".rodata", 0x10088, R_RISCV_ADD16, b"", 0x1007c))?;
-        file.relocations.push(of_section(b".rodata", 0x10088, R_RISCV_SUB16, b"", 0x10078))?;
-        let bytes = file.build(rt.alloc())?;
+        let labels = [(R_RISCV_ADD16, 0x1007c), (R_RISCV_SUB16, 0x10078)];
+        let bytes = data_file(rt.alloc(), &field, &labels)?;
         assert_eq!(rt;
             refused(rt.alloc(), &bytes),
             Some((wanted, 0x10088)),
@@ -139,6 +133,41 @@ fn entries_and_instructions(rt: HostRuntime) -> Result<(), Fail> {
             refused(rt.alloc(), &bytes),
             Some((wanted, 0x10078)),
             "{word}"
+        );
+    }
+    Ok(())
+}
+
+// An AUIPC without a relocation that can't be an instruction either: at an odd address, and cut off by a function's symbol.
+#[test]
+fn a_bare_auipc_that_is_no_instruction(rt: HostRuntime) -> Result<(), Fail> {
+    let [set_exit, call] = EXIT;
+    let code = assemble(rt.alloc(), &[auipc(A0, 0), set_exit, call])?;
+    let odd = program_at(rt.alloc(), BASE, 0x10079, &code, &[])?;
+    let bytes = odd.build(rt.alloc())?;
+    let wanted = Some((FaultKind::BadInstruction, 0x10079));
+    assert_eq!(rt; refused(rt.alloc(), &bytes), wanted);
+    let mut cut = program(rt.alloc(), &code, &[])?;
+    cut.symbols.push(Symbol::function(b"f", 0x1007a, 0))?;
+    let bytes = cut.build(rt.alloc())?;
+    let wanted = Some((FaultKind::BadInstruction, 0x10078));
+    assert_eq!(rt; refused(rt.alloc(), &bytes), wanted);
+    Ok(())
+}
+
+// An AUIPC without a relocation before what is no instruction, and behind it: the lower place counts.
+#[test]
+fn a_bare_auipc_and_no_instruction(rt: HostRuntime) -> Result<(), Fail> {
+    let [set_exit, call] = EXIT;
+    let code = assemble(rt.alloc(), &[auipc(A0, 0), auipc(A0, 0), set_exit, call])?;
+    for (offset, wanted) in [(4, FaultKind::BareAuipc), (0, FaultKind::BadInstruction)] {
+        let mut code = code.clone()?;
+        patch(&mut code, offset, &[0; 4]);
+        let bytes = program(rt.alloc(), &code, &[])?.build(rt.alloc())?;
+        assert_eq!(rt;
+            refused(rt.alloc(), &bytes),
+            Some((wanted, 0x10078)),
+            "{offset}"
         );
     }
     Ok(())

@@ -42,14 +42,16 @@ AreApart-functions elf tabled parts are = record {
   ordered = are.ordered;
 }
 
-pub code_parts_of : (elf : Elf) (tabled : List (ℕ × ℕ)) (parts : List Part) → AreFunctionParts elf tabled parts → All (λ p. IsCodePart elf p.start p.end) parts
+pub code_parts_of : (elf : Elf) (tabled : List (ℕ × ℕ)) (parts : List Part) → AreFunctionParts elf tabled parts →
+    All (λ p. IsCodePart elf p.start p.end) parts
 code_parts_of elf tabled parts are = λ k d within.
     let x = slice_index_or parts k d in
     IsCodePart-function elf tabled x.start x.end (are.only x (k, within, get_or_default parts k x d within))
 
 -- Code addresses.
 
-pub IsCodeIn-address : (elf : Elf) (tabled : List (ℕ × ℕ)) (starts : List ℕ) (parts : List Part) → AreStarts elf starts → AreFunctionParts elf tabled parts → (a : ℕ) → IsCodeIn starts parts a ↔ IsCodeAddress elf tabled a
+pub IsCodeIn-address : (elf : Elf) (tabled : List (ℕ × ℕ)) (starts : List ℕ) (parts : List Part) → AreStarts elf starts →
+    AreFunctionParts elf tabled parts → (a : ℕ) → IsCodeIn starts parts a ↔ IsCodeAddress elf tabled a
 IsCodeIn-address elf tabled starts parts are functions a = (
   (λ is.
       let (p, holds) = is.held in
@@ -58,18 +60,21 @@ IsCodeIn-address elf tabled starts parts are functions a = (
         start = p.start;
         end = p.end;
         function = function;
-        starts = (StartsIn-inside elf starts p.start p.end are (IsCodePart-function elf tabled p.start p.end function) a).0 (is.start, holds.above, holds.below);
+        starts = (StartsIn-inside elf starts p.start p.end are (IsCodePart-function elf tabled p.start p.end function) a).0
+            (is.start, holds.above, holds.below);
       }),
   (λ is.
       let p : Part = record { start = is.start; end = is.end } in
       let (low, high) = starts_inside elf is.start is.end a is.starts in
       record {
-        start = are.each a (record { start = is.start; end = is.end; is_start = record { part = IsCodePart-function elf tabled is.start is.end is.function; starts = is.starts } });
+        start = are.each a
+            (record { start = is.start; end = is.end; is_start = record { part = IsCodePart-function elf tabled is.start is.end is.function; starts = is.starts } });
         held = (p, record { listed = functions.each p is.function; above = low; below = high });
       }),
 )
 
-IsInsideIn-instruction : (elf : Elf) (tabled : List (ℕ × ℕ)) (starts : List ℕ) (parts : List Part) → AreStarts elf starts → AreFunctionParts elf tabled parts → (a : ℕ) → IsInsideIn starts parts a ↔ IsInsideInstruction elf tabled a
+IsInsideIn-instruction : (elf : Elf) (tabled : List (ℕ × ℕ)) (starts : List ℕ) (parts : List Part) → AreStarts elf starts →
+    AreFunctionParts elf tabled parts → (a : ℕ) → IsInsideIn starts parts a ↔ IsInsideInstruction elf tabled a
 IsInsideIn-instruction elf tabled starts parts are functions a =
     let (to, from) = IsCodeIn-address elf tabled starts parts are functions a in (
       (λ is.
@@ -90,7 +95,8 @@ IsInsideIn-instruction elf tabled starts parts are functions a =
 
 -- Roles.
 
-role_of : (roles : List (ℕ × Role)) → AllPairs (λ r s. r.0 < s.0) roles → (a : ℕ) (r s : Role) → Contains roles (a, r) → Contains roles (a, s) → r ≡ s
+role_of : (roles : List (ℕ × Role)) → AllPairs (λ r s. r.0 < s.0) roles → (a : ℕ) (r s : Role) → Contains roles (a, r) →
+    Contains roles (a, s) → r ≡ s
 role_of roles ordered a r s (j, within, at) (k, within', at') =
     let at_k : slice_index_or roles k (a, r) ≡ (a, s) = get_or_default roles k (a, r) (a, s) within' ∙ at' in
     ⊎_elim
@@ -111,35 +117,50 @@ role_of roles ordered a r s (j, within, at) (k, within', at') =
     (cases_lt k j))
     (cases_lt j k)
 
-role_is : (elf : Elf) (roles : List (ℕ × Role)) → AreRoles elf roles → (a : ℕ) (role is : Role) → HasRole elf a role → RoleIs elf a is → is ≡ role
+role_is : (elf : Elf) (roles : List (ℕ × Role)) → AreRoles elf roles → (a : ℕ) (role is : Role) → HasRole elf a role → RoleIs elf a is →
+    is ≡ role
 role_is elf roles are a role is has (inl other) = role_of roles are.ordered a is role (are.each (a, is) other) (are.each (a, role) has)
 role_is elf roles are a role is has (inr (none, plain)) = absurd (none has.relocation has.key role has.claims)
 
 -- Bad targets.
 
-misled_from : (elf : Elf) (tabled : List (ℕ × ℕ)) (starts : List ℕ) (roles : List (ℕ × Role)) (wholes parts : List Part) (funcs : List Func) → AreStarts elf starts → AreRoles elf roles → AreFunctionParts elf tabled parts → AreMadeOf elf wholes parts funcs → (place : ℕ) → IsBadTarget elf tabled place → HasMisled starts parts funcs place
+misled_from : (elf : Elf) (tabled : List (ℕ × ℕ)) (starts : List ℕ) (roles : List (ℕ × Role)) (wholes parts : List Part)
+    (funcs : List Func) → AreStarts elf starts → AreRoles elf roles → AreFunctionParts elf tabled parts →
+    AreMadeOf elf wholes parts funcs → (place : ℕ) → IsBadTarget elf tabled place → HasMisled starts parts funcs place
 misled_from elf tabled starts roles wholes parts funcs are are_roles functions made place bad = found bad
   where
-    listed : (a : ℕ) → IsCodeAddress elf tabled a → (f : Func) × Contains funcs f × ((q : Placed) × Contains f.insts.items q × (q.addr ≡ a) × ((end : ℕ) × IsPlacedAt elf end q.addr q))
+    listed : (a : ℕ) → IsCodeAddress elf tabled a → (f : Func) × Contains funcs f
+        × ((q : Placed) × Contains f.insts.items q × (q.addr ≡ a) × ((end : ℕ) × IsPlacedAt elf end q.addr q))
     listed a code =
         let p : Part = record { start = code.start; end = code.end } in
         let (f, in_funcs, is) = made.each p (functions.each p code.function) in
         let (q, in_insts, at) = is.insts.all a code.starts in
         (f, in_funcs, (q, in_insts, at, (code.end, (is.insts.each q in_insts).1)))
 
-    misled : (f : Func) (q : Placed) → Contains funcs f → Contains f.insts.items q → q.addr ≡ place → IsMisled starts parts q → HasMisled starts parts funcs place
+    misled : (f : Func) (q : Placed) → Contains funcs f → Contains f.insts.items q → q.addr ≡ place → IsMisled starts parts q →
+        HasMisled starts parts funcs place
     misled f q (k, within, is) in_insts at wrong = (k, f, within, is, record { item = q; listed = in_insts; bad = wrong; place_is = at })
 
     found : IsBadTarget elf tabled place → HasMisled starts parts funcs place
     found (direct code inst bytes there to goes none) =
         let (f, in_funcs, (q, in_insts, at, (end, placed))) = listed place code in
         let same : inst ≡ q.inst = placed.only inst bytes (subst (λ (x : ℕ). IsInstAt elf x inst bytes) (sym at) there) in
-        let aims : target_of q ≡ Some to = subst (λ (x : ℕ). target x (action_of q.inst) ≡ Some to) (sym at) (subst (λ (i : Inst). target place (action_of i) ≡ Some to) same goes) in
-        misled f q in_funcs in_insts at (inl (record { to = to; target_is = aims; no_code = λ is. none ((IsCodeIn-address elf tabled starts parts are functions to).0 is) }))
+        let aims : target_of q ≡ Some to =
+        subst (λ (x : ℕ). target x (action_of q.inst) ≡ Some to) (sym at)
+        (subst (λ (i : Inst). target place (action_of i) ≡ Some to) same goes) in
+        misled f q in_funcs in_insts at
+        (inl (record {
+          to = to;
+          target_is = aims;
+          no_code = λ is. none
+              ((IsCodeIn-address elf tabled starts parts are functions to).0 is);
+        }))
     found (pair code to has inside) =
         let (f, in_funcs, (q, in_insts, at, (end, placed))) = listed place code in
-        let is : q.role ≡ CallHi to = role_is elf roles are_roles q.addr (CallHi to) q.role (subst (λ (x : ℕ). HasRole elf x (CallHi to)) (sym at) has) placed.role in
-        misled f q in_funcs in_insts at (inr (record { to = to; role_is = is; inside = (IsInsideIn-instruction elf tabled starts parts are functions to).1 inside }))
+        let is : q.role ≡ CallHi to =
+        role_is elf roles are_roles q.addr (CallHi to) q.role (subst (λ (x : ℕ). HasRole elf x (CallHi to)) (sym at) has) placed.role in
+        misled f q in_funcs in_insts at
+        (inr (record { to = to; role_is = is; inside = (IsInsideIn-instruction elf tabled starts parts are functions to).1 inside }))
 
 no_plain_call : (to : ℕ) → Plain ≡ CallHi to → ⊥
 no_plain_call to is = cc
@@ -148,12 +169,15 @@ has_role : (elf : Elf) (a to : ℕ) (role : Role) → role ≡ CallHi to → Rol
 has_role elf a to role is (inl has) = subst (HasRole elf a) is has
 has_role elf a to role is (inr (none, plain)) = absurd (no_plain_call to (sym plain ∙ is))
 
-misled_to : (elf : Elf) (tabled : List (ℕ × ℕ)) (starts : List ℕ) (wholes parts : List Part) (funcs : List Func) → AreStarts elf starts → AreFunctionParts elf tabled parts → AreMadeOf elf wholes parts funcs → (place : ℕ) → HasMisled starts parts funcs place → IsBadTarget elf tabled place
+misled_to : (elf : Elf) (tabled : List (ℕ × ℕ)) (starts : List ℕ) (wholes parts : List Part) (funcs : List Func) → AreStarts elf starts →
+    AreFunctionParts elf tabled parts → AreMadeOf elf wholes parts funcs → (place : ℕ) → HasMisled starts parts funcs place →
+    IsBadTarget elf tabled place
 misled_to elf tabled starts wholes parts funcs are functions made place (k, f, within, is, wrong) =
     let (p, in_parts, of) = made.only f (k, within, is) in
     let q = wrong.item in
     let (begins, placed) = of.insts.each q wrong.listed in
-    let code : IsCodeAddress elf tabled q.addr = record { start = p.start; end = p.end; function = functions.only p in_parts; starts = begins } in
+    let code : IsCodeAddress elf tabled q.addr =
+    record { start = p.start; end = p.end; function = functions.only p in_parts; starts = begins } in
     subst (IsBadTarget elf tabled) wrong.place_is
     (⊎_elim
     (λ (jumps : JumpsNowhere starts parts q). direct code q.inst q.len placed.valid.before.is_inst jumps.to jumps.target_is
@@ -162,17 +186,31 @@ misled_to elf tabled starts wholes parts funcs are functions made place (k, f, w
     ((IsInsideIn-instruction elf tabled starts parts are functions calls.to).0 calls.inside))
     wrong.bad)
 
-pub IsLowest-target : (elf : Elf) (tabled : List (ℕ × ℕ)) (starts : List ℕ) (roles : List (ℕ × Role)) (wholes parts : List Part) (funcs : List Func) (lowest : Option ℕ) → AreStarts elf starts → AreRoles elf roles → AreFunctionParts elf tabled parts → AreMadeOf elf wholes parts funcs → IsLowest (HasMisled starts parts funcs) lowest → IsLowest (HasFunctionFault elf tabled BadTarget) lowest
+pub IsLowest-target : (elf : Elf) (tabled : List (ℕ × ℕ)) (starts : List ℕ) (roles : List (ℕ × Role)) (wholes parts : List Part)
+    (funcs : List Func) (lowest : Option ℕ) → AreStarts elf starts → AreRoles elf roles → AreFunctionParts elf tabled parts →
+    AreMadeOf elf wholes parts funcs → IsLowest (HasMisled starts parts funcs) lowest →
+    IsLowest (HasFunctionFault elf tabled BadTarget) lowest
 IsLowest-target elf tabled starts roles wholes parts funcs lowest are are_roles functions made =
     IsLowest-same lowest
     (misled_to elf tabled starts wholes parts funcs are functions made)
     (misled_from elf tabled starts roles wholes parts funcs are are_roles functions made)
 
-pub IsLowest-entry : (elf : Elf) (tabled : List (ℕ × ℕ)) (starts : List ℕ) (parts : List Part) (lowest : Option ℕ) → AreStarts elf starts → AreFunctionParts elf tabled parts → IsLowest (IsBadStart starts parts elf.entry) lowest → IsLowest (HasFunctionFault elf tabled BadEntry) lowest
+pub IsLowest-entry : (elf : Elf) (tabled : List (ℕ × ℕ)) (starts : List ℕ) (parts : List Part) (lowest : Option ℕ) →
+    AreStarts elf starts → AreFunctionParts elf tabled parts → IsLowest (IsBadStart starts parts elf.entry) lowest →
+    IsLowest (HasFunctionFault elf tabled BadEntry) lowest
 IsLowest-entry elf tabled starts parts lowest are functions =
     IsLowest-same lowest
-    (λ place (none, is). record { is_entry = is; no_code = λ code. none ((IsCodeIn-address elf tabled starts parts are functions elf.entry).1 (subst (IsCodeAddress elf tabled) is code)) })
-    (λ place bad. ((λ code. bad.no_code (subst (IsCodeAddress elf tabled) (sym bad.is_entry) ((IsCodeIn-address elf tabled starts parts are functions elf.entry).0 code))), bad.is_entry))
+    (λ place (none, is). record {
+      is_entry = is;
+      no_code = λ code. none
+          ((IsCodeIn-address elf tabled starts parts are functions elf.entry).1 (subst (IsCodeAddress elf tabled) is code));
+    })
+    (λ place bad. (
+      (λ code. bad.no_code
+          (subst (IsCodeAddress elf tabled) (sym bad.is_entry)
+          ((IsCodeIn-address elf tabled starts parts are functions elf.entry).0 code))),
+      bad.is_entry,
+    ))
 
 -- Which faults are absent.
 
@@ -183,21 +221,26 @@ lacks_below_entry elf tabled BareAuipc low = absurd (omega arith)
 lacks_below_entry elf tabled BadTarget low = absurd (omega arith)
 lacks_below_entry elf tabled _ low = λ place has. has
 
-pub lacks_below_instruction : (elf : Elf) (tabled : List (ℕ × ℕ)) → Lacks (HasFunctionFault elf tabled) BadEntry → LacksBelow (HasFunctionFault elf tabled) 16
+pub lacks_below_instruction : (elf : Elf) (tabled : List (ℕ × ℕ)) → Lacks (HasFunctionFault elf tabled) BadEntry →
+    LacksBelow (HasFunctionFault elf tabled) 16
 lacks_below_instruction elf tabled no_entry BadEntry low = no_entry
 lacks_below_instruction elf tabled no_entry BadInstruction low = absurd (omega arith)
 lacks_below_instruction elf tabled no_entry BareAuipc low = absurd (omega arith)
 lacks_below_instruction elf tabled no_entry BadTarget low = absurd (omega arith)
 lacks_below_instruction elf tabled no_entry _ low = λ place has. has
 
-pub lacks_below_target : (elf : Elf) (tabled : List (ℕ × ℕ)) → Lacks (HasFunctionFault elf tabled) BadEntry → Lacks (HasFunctionFault elf tabled) BadInstruction → Lacks (HasFunctionFault elf tabled) BareAuipc → LacksBelow (HasFunctionFault elf tabled) 17
+pub lacks_below_target : (elf : Elf) (tabled : List (ℕ × ℕ)) → Lacks (HasFunctionFault elf tabled) BadEntry →
+    Lacks (HasFunctionFault elf tabled) BadInstruction → Lacks (HasFunctionFault elf tabled) BareAuipc →
+    LacksBelow (HasFunctionFault elf tabled) 17
 lacks_below_target elf tabled no_entry no_bad no_bare BadEntry low = no_entry
 lacks_below_target elf tabled no_entry no_bad no_bare BadInstruction low = no_bad
 lacks_below_target elf tabled no_entry no_bad no_bare BareAuipc low = no_bare
 lacks_below_target elf tabled no_entry no_bad no_bare BadTarget low = absurd (omega arith)
 lacks_below_target elf tabled no_entry no_bad no_bare _ low = λ place has. has
 
-pub lacks_all : (elf : Elf) (tabled : List (ℕ × ℕ)) → Lacks (HasFunctionFault elf tabled) BadEntry → Lacks (HasFunctionFault elf tabled) BadInstruction → Lacks (HasFunctionFault elf tabled) BareAuipc → Lacks (HasFunctionFault elf tabled) BadTarget → IsFree (HasFunctionFault elf tabled)
+pub lacks_all : (elf : Elf) (tabled : List (ℕ × ℕ)) → Lacks (HasFunctionFault elf tabled) BadEntry →
+    Lacks (HasFunctionFault elf tabled) BadInstruction → Lacks (HasFunctionFault elf tabled) BareAuipc →
+    Lacks (HasFunctionFault elf tabled) BadTarget → IsFree (HasFunctionFault elf tabled)
 lacks_all elf tabled no_entry no_bad no_bare no_target BadEntry = no_entry
 lacks_all elf tabled no_entry no_bad no_bare no_target BadInstruction = no_bad
 lacks_all elf tabled no_entry no_bad no_bare no_target BareAuipc = no_bare
@@ -210,33 +253,47 @@ lacks Has (Some l) is some place has = let no : Some l ≡ None = is in absurd (
 
 -- Bad instructions.
 
-not_good : (elf : Elf) (tabled : List (ℕ × ℕ)) (parts : List Part) → AreFunctionParts elf tabled parts → ((p : Part) (a : ℕ) → Contains parts p → StartsIn elf p.start p.end a → IsGoodBefore elf p.end a) → Lacks (HasFunctionFault elf tabled) BadInstruction
+not_good : (elf : Elf) (tabled : List (ℕ × ℕ)) (parts : List Part) → AreFunctionParts elf tabled parts →
+    ((p : Part) (a : ℕ) → Contains parts p → StartsIn elf p.start p.end a → IsGoodBefore elf p.end a) →
+    Lacks (HasFunctionFault elf tabled) BadInstruction
 not_good elf tabled parts functions all_good place bad =
     let p : Part = record { start = bad.start; end = bad.end } in
     let fine = all_good p place (functions.each p bad.function) bad.starts in
-    bad.invalid fine.inst fine.bytes (HasValidInst-from elf bad.start bad.end place fine.inst fine.bytes (IsCodePart-function elf tabled bad.start bad.end bad.function) bad.starts fine.valid)
+    bad.invalid fine.inst fine.bytes
+    (HasValidInst-from elf bad.start bad.end place fine.inst fine.bytes
+    (IsCodePart-function elf tabled bad.start bad.end bad.function) bad.starts fine.valid)
 
 bare_before : (elf : Elf) (tabled : List (ℕ × ℕ)) (place : ℕ) → (bad : IsBareAuipc elf tabled place) → IsBareBefore elf bad.end place
-bare_before elf tabled place bad = record { rd = bad.rd; imm = bad.imm; auipc = HasValidInst-before elf bad.start bad.end place _ 4 bad.auipc; no_role = bad.no_role }
+bare_before elf tabled place bad =
+    record { rd = bad.rd; imm = bad.imm; auipc = HasValidInst-before elf bad.start bad.end place _ 4 bad.auipc; no_role = bad.no_role }
 
-not_bare : (elf : Elf) (tabled : List (ℕ × ℕ)) (parts : List Part) → AreFunctionParts elf tabled parts → ((p : Part) (a : ℕ) → Contains parts p → StartsIn elf p.start p.end a → IsGoodBefore elf p.end a) → Lacks (HasFunctionFault elf tabled) BareAuipc
+not_bare : (elf : Elf) (tabled : List (ℕ × ℕ)) (parts : List Part) → AreFunctionParts elf tabled parts →
+    ((p : Part) (a : ℕ) → Contains parts p → StartsIn elf p.start p.end a → IsGoodBefore elf p.end a) →
+    Lacks (HasFunctionFault elf tabled) BareAuipc
 not_bare elf tabled parts functions all_good place bad =
     let p : Part = record { start = bad.start; end = bad.end } in
     let fine = all_good p place (functions.each p bad.function) bad.auipc.has.starts.starts in
     fine.not_bare (bare_before elf tabled place bad)
 
-made_good : (elf : Elf) (wholes parts : List Part) (funcs : List Func) → AreMadeOf elf wholes parts funcs → (p : Part) (a : ℕ) → Contains parts p → StartsIn elf p.start p.end a → IsGoodBefore elf p.end a
+made_good : (elf : Elf) (wholes parts : List Part) (funcs : List Func) → AreMadeOf elf wholes parts funcs → (p : Part) (a : ℕ) →
+    Contains parts p → StartsIn elf p.start p.end a → IsGoodBefore elf p.end a
 made_good elf wholes parts funcs made p a listed starts =
     let (f, in_funcs, is) = made.each p listed in
     let (q, in_insts, at) = is.insts.all a starts in
     let placed = (is.insts.each q in_insts).1 in
     subst (IsGoodBefore elf p.end) at (record { inst = q.inst; bytes = q.len; valid = placed.valid; not_bare = placed.not_bare })
 
-pub no_bad : (elf : Elf) (tabled : List (ℕ × ℕ)) (wholes parts : List Part) (funcs : List Func) → AreFunctionParts elf tabled parts → AreMadeOf elf wholes parts funcs → Lacks (HasFunctionFault elf tabled) BadInstruction × Lacks (HasFunctionFault elf tabled) BareAuipc
-no_bad elf tabled wholes parts funcs functions made = (not_good elf tabled parts functions (made_good elf wholes parts funcs made), not_bare elf tabled parts functions (made_good elf wholes parts funcs made))
+pub no_bad : (elf : Elf) (tabled : List (ℕ × ℕ)) (wholes parts : List Part) (funcs : List Func) → AreFunctionParts elf tabled parts →
+    AreMadeOf elf wholes parts funcs → Lacks (HasFunctionFault elf tabled) BadInstruction × Lacks (HasFunctionFault elf tabled) BareAuipc
+no_bad elf tabled wholes parts funcs functions made = (
+  not_good elf tabled parts functions (made_good elf wholes parts funcs made),
+  not_bare elf tabled parts functions
+      (made_good elf wholes parts funcs made),
+)
 
 -- the first of them is answered
-pub IsAnswered-first_bad : (elf : Elf) (tabled : List (ℕ × ℕ)) (parts : List Part) (fault : Fault) → AreFunctionParts elf tabled parts → Lacks (HasFunctionFault elf tabled) BadEntry → IsFirstIn elf parts fault → IsAnswered (HasFunctionFault elf tabled) fault
+pub IsAnswered-first_bad : (elf : Elf) (tabled : List (ℕ × ℕ)) (parts : List Part) (fault : Fault) → AreFunctionParts elf tabled parts →
+    Lacks (HasFunctionFault elf tabled) BadEntry → IsFirstIn elf parts fault → IsAnswered (HasFunctionFault elf tabled) fault
 IsAnswered-first_bad elf tabled parts fault functions no_entry first = answered first.is
   where
     place : ℕ
@@ -255,7 +312,9 @@ IsAnswered-first_bad elf tabled parts fault functions no_entry first = answered 
         (λ (below : other < first.place).
         let p : Part = record { start = has.start; end = has.end } in
         let fine = first.earlier p other (functions.each p has.function) has.starts below in
-        absurd (has.invalid fine.inst fine.bytes (HasValidInst-from elf has.start has.end other fine.inst fine.bytes (IsCodePart-function elf tabled has.start has.end has.function) has.starts fine.valid)))
+        absurd (has.invalid fine.inst fine.bytes
+        (HasValidInst-from elf has.start has.end other fine.inst fine.bytes
+        (IsCodePart-function elf tabled has.start has.end has.function) has.starts fine.valid)))
         (λ (above : first.place ≤ other). above)
         (cases_lt other first.place)
     least BareAuipc other number has = ⊎_elim
@@ -296,14 +355,16 @@ IsAnswered-first_bad elf tabled parts fault functions no_entry first = answered 
     })
 
 -- a bad target is answered where nothing else is wrong
-least_target : (elf : Elf) (tabled : List (ℕ × ℕ)) (place : ℕ) → IsLowest (HasFunctionFault elf tabled BadTarget) (Some place) → (kind : FaultKind) (other : ℕ) → number_of kind ≡ 17 → HasFunctionFault elf tabled kind other → place ≤ other
+least_target : (elf : Elf) (tabled : List (ℕ × ℕ)) (place : ℕ) → IsLowest (HasFunctionFault elf tabled BadTarget) (Some place) →
+    (kind : FaultKind) (other : ℕ) → number_of kind ≡ 17 → HasFunctionFault elf tabled kind other → place ≤ other
 least_target elf tabled place lowest BadEntry other number has = absurd (omega arith)
 least_target elf tabled place lowest BadInstruction other number has = absurd (omega arith)
 least_target elf tabled place lowest BareAuipc other number has = absurd (omega arith)
 least_target elf tabled place lowest BadTarget other number has = lowest.least other has
 least_target elf tabled place lowest _ other number has = absurd has
 
-pub IsAnswered-target : (elf : Elf) (tabled : List (ℕ × ℕ)) (place : ℕ) → LacksBelow (HasFunctionFault elf tabled) 17 → IsLowest (HasFunctionFault elf tabled BadTarget) (Some place) → IsAnswered (HasFunctionFault elf tabled) (fault_at BadTarget place)
+pub IsAnswered-target : (elf : Elf) (tabled : List (ℕ × ℕ)) (place : ℕ) → LacksBelow (HasFunctionFault elf tabled) 17 →
+    IsLowest (HasFunctionFault elf tabled BadTarget) (Some place) → IsAnswered (HasFunctionFault elf tabled) (fault_at BadTarget place)
 IsAnswered-target elf tabled place none lowest = record {
   present = lowest.present;
   first = none;
@@ -313,21 +374,29 @@ IsAnswered-target elf tabled place none lowest = record {
 
 -- The functions.
 
-IsFunction-made : (elf : Elf) (tabled : List (ℕ × ℕ)) (wholes : List Part) (p : Part) (f : Func) → AreWholeParts elf tabled wholes → IsFunctionPart elf tabled p.start p.end → IsMadeOf elf wholes p f → IsFunction elf tabled f
+IsFunction-made : (elf : Elf) (tabled : List (ℕ × ℕ)) (wholes : List Part) (p : Part) (f : Func) → AreWholeParts elf tabled wholes →
+    IsFunctionPart elf tabled p.start p.end → IsMadeOf elf wholes p f → IsFunction elf tabled f
 IsFunction-made elf tabled wholes p f are function made = record {
-  part = subst (λ (s : ℕ). IsFunctionPart elf tabled s f.end) (sym made.start) (subst (IsFunctionPart elf tabled p.start) (sym made.end) function);
+  part = subst (λ (s : ℕ). IsFunctionPart elf tabled s f.end) (sym made.start)
+      (subst (IsFunctionPart elf tabled p.start) (sym made.end) function);
   whole = (
-    (λ is. subst (λ (s : ℕ). IsWholePart elf tabled s f.end) (sym made.start) (subst (IsWholePart elf tabled p.start) (sym made.end) (are.only p (made.whole.0 is)))),
-    (λ whole. made.whole.1 (are.each p (subst (λ (s : ℕ). IsWholePart elf tabled s p.end) made.start (subst (IsWholePart elf tabled f.start) made.end whole)))),
+    (λ is. subst (λ (s : ℕ). IsWholePart elf tabled s f.end) (sym made.start)
+        (subst (IsWholePart elf tabled p.start) (sym made.end) (are.only p (made.whole.0 is)))),
+    (λ whole. made.whole.1
+        (are.each p (subst (λ (s : ℕ). IsWholePart elf tabled s p.end) made.start
+        (subst (IsWholePart elf tabled f.start) made.end whole)))),
   );
-  insts = subst (λ (s : ℕ). AreInsts elf s f.insts.items f.end) (sym made.start) (subst (AreInsts elf p.start f.insts.items) (sym made.end) made.insts.follow);
+  insts = subst (λ (s : ℕ). AreInsts elf s f.insts.items f.end) (sym made.start)
+      (subst (AreInsts elf p.start f.insts.items) (sym made.end) made.insts.follow);
 }
 
-pub AreFunctions-made : (elf : Elf) (tabled : List (ℕ × ℕ)) (wholes parts : List Part) (funcs : List Func) → AreWholeParts elf tabled wholes → AreFunctionParts elf tabled parts → AreMadeOf elf wholes parts funcs → AreFunctions elf tabled funcs
+pub AreFunctions-made : (elf : Elf) (tabled : List (ℕ × ℕ)) (wholes parts : List Part) (funcs : List Func) →
+    AreWholeParts elf tabled wholes → AreFunctionParts elf tabled parts → AreMadeOf elf wholes parts funcs → AreFunctions elf tabled funcs
 AreFunctions-made elf tabled wholes parts funcs are functions made = record {
   only = λ f listed. let (p, in_parts, is) = made.only f listed in IsFunction-made elf tabled wholes p f are (functions.only p in_parts) is;
   each = λ start end function.
-      let (f, in_funcs, is) = made.each (record { start = start; end = end }) (functions.each (record { start = start; end = end }) function) in
+      let (f, in_funcs, is) =
+      made.each (record { start = start; end = end }) (functions.each (record { start = start; end = end }) function) in
       (f, in_funcs, is.start, is.end);
   ordered = λ i j d less within.
       let f = slice_index_or funcs i d in
@@ -339,6 +408,8 @@ AreFunctions-made elf tabled wholes parts funcs are functions made = record {
       omega arith;
 }
 
-pub IsRefusalBy-first : (elf : Elf) (tabled : List (ℕ × ℕ)) (parts : List Part) (r : Refusal) → AreFunctionParts elf tabled parts → Lacks (HasFunctionFault elf tabled) BadEntry → IsFirstRefusal elf parts r → IsRefusalBy (HasFunctionFault elf tabled) r
-IsRefusalBy-first elf tabled parts (refusal.Fault fault) functions no_entry first = IsAnswered-first_bad elf tabled parts fault functions no_entry first
+pub IsRefusalBy-first : (elf : Elf) (tabled : List (ℕ × ℕ)) (parts : List Part) (r : Refusal) → AreFunctionParts elf tabled parts →
+    Lacks (HasFunctionFault elf tabled) BadEntry → IsFirstRefusal elf parts r → IsRefusalBy (HasFunctionFault elf tabled) r
+IsRefusalBy-first elf tabled parts (refusal.Fault fault) functions no_entry first =
+    IsAnswered-first_bad elf tabled parts fault functions no_entry first
 IsRefusalBy-first elf tabled parts refusal.Memory functions no_entry first = tt

@@ -23,14 +23,16 @@ use Rattle.func_find.proofs.StartsApart.{starts_apart, length_is}
 
 -- A valid instruction of a code part.
 
-pub HasValidInst-from : (elf : Elf) (start end a : ℕ) (inst : Inst) (bytes : ℕ) → IsCodePart elf start end → StartsIn elf start end a → IsValidBefore elf end a inst bytes → HasValidInst elf start end a inst bytes
+pub HasValidInst-from : (elf : Elf) (start end a : ℕ) (inst : Inst) (bytes : ℕ) → IsCodePart elf start end → StartsIn elf start end a →
+    IsValidBefore elf end a inst bytes → HasValidInst elf start end a inst bytes
 HasValidInst-from elf start end a inst bytes part starts valid = record {
   has = record { starts = record { part = part; starts = starts }; is_inst = valid.before.is_inst; inside = valid.before.inside };
   even = valid.even;
   allowed = valid.allowed;
 }
 
-pub HasValidInst-before : (elf : Elf) (start end a : ℕ) (inst : Inst) (bytes : ℕ) → HasValidInst elf start end a inst bytes → IsValidBefore elf end a inst bytes
+pub HasValidInst-before : (elf : Elf) (start end a : ℕ) (inst : Inst) (bytes : ℕ) → HasValidInst elf start end a inst bytes →
+    IsValidBefore elf end a inst bytes
 HasValidInst-before elf start end a inst bytes has = record {
   before = record { is_inst = has.has.is_inst; inside = has.has.inside };
   even = has.even;
@@ -49,47 +51,59 @@ nop_not_zero elf start end nop zeros =
     let (is, inside) = nop.nops start (at_start bytes) in
     let long : 2 ≤ length_at elf start = length_two (halfword_at elf start % 4 == 3) in
     let low : unwrap_or (byte_at elf start) 0 ≡ 0 = ap (λ (o : Option ℕ). unwrap_or o 0) (zeros.zeros start (omega arith) bytes) in
-    let high : unwrap_or (byte_at elf (start + 1)) 0 ≡ 0 = ap (λ (o : Option ℕ). unwrap_or o 0) (zeros.zeros (start + 1) (omega arith) (omega arith)) in
+    let high : unwrap_or (byte_at elf (start + 1)) 0 ≡ 0 =
+    ap (λ (o : Option ℕ). unwrap_or o 0) (zeros.zeros (start + 1) (omega arith) (omega arith)) in
     let half : halfword_at elf start ≡ 0 = rw (low, high) refl in
     ⊎_elim (λ (one : halfword_at elf start ≡ 0x0001). omega arith) (λ (two, rest). omega arith) is
 
-pub IsCodePart-function : (elf : Elf) (tabled : List (ℕ × ℕ)) (start end : ℕ) → IsFunctionPart elf tabled start end → IsCodePart elf start end
+pub IsCodePart-function : (elf : Elf) (tabled : List (ℕ × ℕ)) (start end : ℕ) → IsFunctionPart elf tabled start end →
+    IsCodePart elf start end
 IsCodePart-function elf tabled _ _ (code start end is other) = is
-IsCodePart-function elf tabled _ _ (referred start end a nops starts refers) = record { part = nops.part; no_padding = nop_not_zero elf start end nops }
-IsCodePart-function elf tabled _ _ (fallen_into start end before a inst bytes nops function has ends goes) = record { part = nops.part; no_padding = nop_not_zero elf start end nops }
+IsCodePart-function elf tabled _ _ (referred start end a nops starts refers) =
+    record { part = nops.part; no_padding = nop_not_zero elf start end nops }
+IsCodePart-function elf tabled _ _ (fallen_into start end before a inst bytes nops function has ends goes) =
+    record { part = nops.part; no_padding = nop_not_zero elf start end nops }
 
 -- The three tests, in their order.
 
-pub IsNopPart-tests : (elf : Elf) (start end : ℕ) (inside : List ℕ) → IsCodePart elf start end → ((a : ℕ) → Contains inside a ↔ StartsIn elf start end a) → (IsCovered elf start end → ⊥) → All (IsNopBefore elf end) inside → IsNopPart elf start end
+pub IsNopPart-tests : (elf : Elf) (start end : ℕ) (inside : List ℕ) → IsCodePart elf start end →
+    ((a : ℕ) → Contains inside a ↔ StartsIn elf start end a) → (IsCovered elf start end → ⊥) → All (IsNopBefore elf end) inside →
+    IsNopPart elf start end
 IsNopPart-tests elf start end inside part are uncovered nops = record {
   part = part.part;
   uncovered = uncovered;
   nops = λ a starts. let nop = All-contains (IsNopBefore elf end) inside a nops ((are a).1 starts) in (nop.nop, nop.inside);
 }
 
-pub IsNopPart-all : (elf : Elf) (start end : ℕ) (inside : List ℕ) → ((a : ℕ) → Contains inside a ↔ StartsIn elf start end a) → IsNopPart elf start end → All (IsNopBefore elf end) inside
+pub IsNopPart-all : (elf : Elf) (start end : ℕ) (inside : List ℕ) → ((a : ℕ) → Contains inside a ↔ StartsIn elf start end a) →
+    IsNopPart elf start end → All (IsNopBefore elf end) inside
 IsNopPart-all elf start end inside are nop = λ k d within.
     let a = slice_index_or inside k d in
     let (is, before) = nop.nops a ((are a).0 (k, within, get_or_default inside k a d within)) in
     record { nop = is; inside = before }
 
-pub HasReferred-any : (elf : Elf) (tabled : List (ℕ × ℕ)) (start end : ℕ) (addresses inside : List ℕ) → AreReferred elf tabled addresses → ((a : ℕ) → Contains inside a ↔ StartsIn elf start end a) → Any (Contains addresses) inside ↔ HasReferred elf tabled start end
+pub HasReferred-any : (elf : Elf) (tabled : List (ℕ × ℕ)) (start end : ℕ) (addresses inside : List ℕ) →
+    AreReferred elf tabled addresses → ((a : ℕ) → Contains inside a ↔ StartsIn elf start end a) →
+    Any (Contains addresses) inside ↔ HasReferred elf tabled start end
 HasReferred-any elf tabled start end addresses inside names are = (
   (λ (k, a, within, is, listed). record { place = a; starts = (are a).0 (k, within, is); referred_there = (names a).0 listed }),
   (λ has. let (k, within, is) = (are has.place).1 has.starts in (k, has.place, within, is, (names has.place).1 has.referred_there)),
 )
 
-pub IsFunctionPart-referred : (elf : Elf) (tabled : List (ℕ × ℕ)) (start end : ℕ) → IsNopPart elf start end → HasReferred elf tabled start end → IsFunctionPart elf tabled start end
+pub IsFunctionPart-referred : (elf : Elf) (tabled : List (ℕ × ℕ)) (start end : ℕ) → IsNopPart elf start end →
+    HasReferred elf tabled start end → IsFunctionPart elf tabled start end
 IsFunctionPart-referred elf tabled start end nops has = referred start end has.place nops has.starts has.referred_there
 
-pub IsFunctionPart-entered : (elf : Elf) (tabled : List (ℕ × ℕ)) (start end : ℕ) → IsNopPart elf start end → (HasReferred elf tabled start end → ⊥) → IsEntered elf tabled start ↔ IsFunctionPart elf tabled start end
+pub IsFunctionPart-entered : (elf : Elf) (tabled : List (ℕ × ℕ)) (start end : ℕ) → IsNopPart elf start end →
+    (HasReferred elf tabled start end → ⊥) → IsEntered elf tabled start ↔ IsFunctionPart elf tabled start end
 IsFunctionPart-entered elf tabled start end nops none = (enters, entered)
   where
     enters : IsEntered elf tabled start → IsFunctionPart elf tabled start end
     enters is =
         let falls = is.falls_in.falls_there in
         fallen_into start end is.before is.falls_in.last falls.inst falls.bytes nops is.function
-        (HasValidInst-from elf is.before start is.falls_in.last falls.inst falls.bytes (IsCodePart-function elf tabled is.before start is.function) is.falls_in.starts falls.valid)
+        (HasValidInst-from elf is.before start is.falls_in.last falls.inst falls.bytes
+        (IsCodePart-function elf tabled is.before start is.function) is.falls_in.starts falls.valid)
         falls.ends falls.falls_out
 
     entered : IsFunctionPart elf tabled start end → IsEntered elf tabled start
@@ -101,13 +115,16 @@ IsFunctionPart-entered elf tabled start end nops none = (enters, entered)
       falls_in = record {
         last = a;
         starts = has.has.starts.starts;
-        falls_there = record { inst = inst; bytes = bytes; valid = HasValidInst-before elf before start a inst bytes has; ends = ends; falls_out = goes };
+        falls_there =
+            record { inst = inst; bytes = bytes; valid = HasValidInst-before elf before start a inst bytes has; ends = ends; falls_out = goes };
       };
     }
 
 -- The last instruction of a part.
 
-pub FallsOut-last : (elf : Elf) (start end count : ℕ) (inside : List ℕ) (d : ℕ) → AllPairs (λ a b. a < b) inside → ((a : ℕ) → Contains inside a ↔ StartsIn elf start end a) → count ≡ length inside → 0 < count → FallsAt elf end (slice_index_or inside (count - 1) d) ↔ FallsOut elf start end
+pub FallsOut-last : (elf : Elf) (start end count : ℕ) (inside : List ℕ) (d : ℕ) → AllPairs (λ a b. a < b) inside →
+    ((a : ℕ) → Contains inside a ↔ StartsIn elf start end a) → count ≡ length inside → 0 < count →
+    FallsAt elf end (slice_index_or inside (count - 1) d) ↔ FallsOut elf start end
 FallsOut-last elf start end count inside d ordered are all some = (
   (λ falls. record { last = x; starts = starts; falls_there = falls }),
   (λ out.
@@ -132,11 +149,14 @@ FallsOut-last elf start end count inside d ordered are all some = (
     x = slice_index_or inside (count - 1) d
 
     starts : StartsIn elf start end (slice_index_or inside (count - 1) d)
-    starts = (are (slice_index_or inside (count - 1) d)).0 (count - 1, omega arith, get_or_default inside (count - 1) (slice_index_or inside (count - 1) d) d (omega arith))
+    starts = (are (slice_index_or inside (count - 1) d)).0
+        (count - 1, omega arith, get_or_default inside (count - 1) (slice_index_or inside (count - 1) d) d (omega arith))
 
 -- The function that ends where a part starts is the last one before it.
 
-pub IsEntered-from : (elf : Elf) (tabled : List (ℕ × ℕ)) (start count : ℕ) (before : List Part) (d : Part) → AreFunctionsBefore elf tabled start before → count ≡ length before → 0 < count → (slice_index_or before (count - 1) d).end ≡ start → FallsOut elf (slice_index_or before (count - 1) d).start (slice_index_or before (count - 1) d).end → IsEntered elf tabled start
+pub IsEntered-from : (elf : Elf) (tabled : List (ℕ × ℕ)) (start count : ℕ) (before : List Part) (d : Part) →
+    AreFunctionsBefore elf tabled start before → count ≡ length before → 0 < count → (slice_index_or before (count - 1) d).end ≡ start →
+    FallsOut elf (slice_index_or before (count - 1) d).start (slice_index_or before (count - 1) d).end → IsEntered elf tabled start
 IsEntered-from elf tabled start count before d are all some ends falls =
     let x = slice_index_or before (count - 1) d in
     let function = are.only x (count - 1, omega arith, get_or_default before (count - 1) x d (omega arith)) in
@@ -146,7 +166,10 @@ IsEntered-from elf tabled start count before d are all some ends falls =
       falls_in = subst (FallsOut elf x.start) ends falls;
     }
 
-pub IsEntered-last : (elf : Elf) (tabled : List (ℕ × ℕ)) (start count : ℕ) (before : List Part) (d : Part) → AreFunctionsBefore elf tabled start before → count ≡ length before → IsEntered elf tabled start → (0 < count) × ((slice_index_or before (count - 1) d).end ≡ start) × FallsOut elf (slice_index_or before (count - 1) d).start (slice_index_or before (count - 1) d).end
+pub IsEntered-last : (elf : Elf) (tabled : List (ℕ × ℕ)) (start count : ℕ) (before : List Part) (d : Part) →
+    AreFunctionsBefore elf tabled start before → count ≡ length before → IsEntered elf tabled start → (0 < count)
+    × ((slice_index_or before (count - 1) d).end ≡ start)
+    × FallsOut elf (slice_index_or before (count - 1) d).start (slice_index_or before (count - 1) d).end
 IsEntered-last elf tabled start count before d are all entered =
     let p : Part = record { start = entered.before; end = start } in
     let (k, within, there) = are.each p entered.function (omega arith) in
@@ -167,7 +190,9 @@ IsEntered-last elf tabled start count before d are all entered =
     (cases_lt k (count - 1))
 
 -- those of the first parts are those before the next
-pub AreFunctionsBefore-chosen : (elf : Elf) (tabled : List (ℕ × ℕ)) (parts kept : List Part) (i : ℕ) (d : Part) → AreCodeParts elf parts → i < length parts → ChosenOf (λ p. IsFunctionPart elf tabled p.start p.end) Follows parts i kept → AreFunctionsBefore elf tabled (slice_index_or parts i d).start kept
+pub AreFunctionsBefore-chosen : (elf : Elf) (tabled : List (ℕ × ℕ)) (parts kept : List Part) (i : ℕ) (d : Part) →
+    AreCodeParts elf parts → i < length parts → ChosenOf (λ p. IsFunctionPart elf tabled p.start p.end) Follows parts i kept →
+    AreFunctionsBefore elf tabled (slice_index_or parts i d).start kept
 AreFunctionsBefore-chosen elf tabled parts kept i d are within chosen = record {
   only = λ p listed. (chosen.only p listed).1;
   each = λ p function below. chosen.each p (early p (are.each p (IsCodePart-function elf tabled p.start p.end function)) below, function);
@@ -207,7 +232,8 @@ AreFunctionsBefore-chosen elf tabled parts kept i d are within chosen = record {
         (cases_lt k i)
 
 -- The starts of the file inside a part.
-pub inside_starts : (elf : Elf) (starts inside : List ℕ) (start end : ℕ) → AreStarts elf starts → IsCodePart elf start end → ((a : ℕ) → Contains inside a ↔ (Contains starts a × (start ≤ a) × (a < end))) → (a : ℕ) → Contains inside a ↔ StartsIn elf start end a
+pub inside_starts : (elf : Elf) (starts inside : List ℕ) (start end : ℕ) → AreStarts elf starts → IsCodePart elf start end →
+    ((a : ℕ) → Contains inside a ↔ (Contains starts a × (start ≤ a) × (a < end))) → (a : ℕ) → Contains inside a ↔ StartsIn elf start end a
 inside_starts elf starts inside start end are part members a =
     let (to, from) = StartsIn-inside elf starts start end are part a in
     let (out, back) = members a in

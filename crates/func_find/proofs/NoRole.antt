@@ -10,7 +10,8 @@ use Rattle.elf_image.specs.code.Roles.{Claims, HasRole, HasNoRole}
 NoneBelow : Elf → ℕ → ℕ → Type 0
 NoneBelow elf a n = (r : Relocation) (key : ℕ) (role : Role) → r.kind < n → Claims elf r a key role → ⊥
 
-none_by_key : (elf : Elf) (a n m : ℕ) → ((role : Role) → HasRole elf a role → ⊥) → NoneBelow elf a n → (r : Relocation) (key : ℕ) (role : Role) → r.kind ≤ n → key < m → Claims elf r a key role → ⊥
+none_by_key : (elf : Elf) (a n m : ℕ) → ((role : Role) → HasRole elf a role → ⊥) → NoneBelow elf a n →
+    (r : Relocation) (key : ℕ) (role : Role) → r.kind ≤ n → key < m → Claims elf r a key role → ⊥
 unfolding NoneBelow
 none_by_key elf a n zero none lower r key role upto below claims = absurd (omega arith)
 none_by_key elf a n (suc m) none lower r key role upto below claims = none role (record {
@@ -32,7 +33,8 @@ none_by_key elf a n (suc m) none lower r key role upto below claims = none role 
 none_by_kind : (elf : Elf) (a n : ℕ) → ((role : Role) → HasRole elf a role → ⊥) → NoneBelow elf a n
 unfolding NoneBelow
 none_by_kind elf a zero none r key role below claims = absurd (omega arith)
-none_by_kind elf a (suc n) none r key role below claims = none_by_key elf a n (suc key) none (none_by_kind elf a n none) r key role (omega arith) (omega arith) claims
+none_by_kind elf a (suc n) none r key role below claims =
+    none_by_key elf a n (suc key) none (none_by_kind elf a n none) r key role (omega arith) (omega arith) claims
 
 pub HasNoRole-none : (elf : Elf) (a : ℕ) → ((role : Role) → HasRole elf a role → ⊥) → HasNoRole elf a
 unfolding NoneBelow

@@ -26,7 +26,8 @@ pair_is r s is = cc
 abbrev pub IsOnlyValid : Elf → ℕ → ℕ → Inst × ℕ → Type 0
 IsOnlyValid elf end a found = (inst : Inst) (bytes : ℕ) → IsValidBefore elf end a inst bytes → Some found ≡ Some (inst, bytes)
 
-only_inst : (elf : Elf) (end a : ℕ) (found : Inst × ℕ) → IsValidBefore elf end a found.0 found.1 → IsOnlyValid elf end a found → (inst : Inst) (bytes : ℕ) → IsInstAt elf a inst bytes → inst ≡ found.0
+only_inst : (elf : Elf) (end a : ℕ) (found : Inst × ℕ) → IsValidBefore elf end a found.0 found.1 → IsOnlyValid elf end a found →
+    (inst : Inst) (bytes : ℕ) → IsInstAt elf a inst bytes → inst ≡ found.0
 only_inst elf end a found valid only inst bytes is =
     let long : bytes ≡ length_at elf a = length_is elf a inst bytes is in
     let long' : found.1 ≡ length_at elf a = length_is elf a found.0 found.1 valid.before.is_inst in
@@ -39,7 +40,9 @@ only_inst elf end a found valid only inst bytes is =
     } in
     sym (ap (λ (x : Inst × ℕ). x.0) (pair_is found (inst, bytes) (only inst bytes valid')))
 
-pub placed_role : (elf : Elf) (end a : ℕ) (roles : List (ℕ × Role)) (found : Inst × ℕ) (role : Role) → AreRoles elf roles → IsValidBefore elf end a found.0 found.1 → IsOnlyValid elf end a found → Contains roles (a, role) → IsPlacedAt elf end a (record { addr = a; len = found.1; inst = found.0; role = role })
+pub placed_role : (elf : Elf) (end a : ℕ) (roles : List (ℕ × Role)) (found : Inst × ℕ) (role : Role) → AreRoles elf roles →
+    IsValidBefore elf end a found.0 found.1 → IsOnlyValid elf end a found → Contains roles (a, role) →
+    IsPlacedAt elf end a (record { addr = a; len = found.1; inst = found.0; role = role })
 placed_role elf end a roles found role are valid only listed =
     let has : HasRole elf a role = are.only (a, role) listed in
     record {
@@ -50,10 +53,14 @@ placed_role elf end a roles found role are valid only listed =
       not_bare = λ bare. bare.no_role has.relocation has.key role has.claims;
     }
 
-no_role : (elf : Elf) (a : ℕ) (roles : List (ℕ × Role)) → AreRoles elf roles → ((role : Role) → Contains roles (a, role) → ⊥) → HasNoRole elf a
+no_role : (elf : Elf) (a : ℕ) (roles : List (ℕ × Role)) → AreRoles elf roles → ((role : Role) → Contains roles (a, role) → ⊥) →
+    HasNoRole elf a
 no_role elf a roles are none = HasNoRole-none elf a (λ role has. none role (are.each (a, role) has))
 
-pub placed_plain : (elf : Elf) (end a : ℕ) (roles : List (ℕ × Role)) (found : Inst × ℕ) (auipc : Bool) → AreRoles elf roles → IsValidBefore elf end a found.0 found.1 → IsOnlyValid elf end a found → ((role : Role) → Contains roles (a, role) → ⊥) → IsTrue auipc ↔ (IsAuipc found.0 × (found.1 ≡ 4)) → auipc ≡ false → IsPlacedAt elf end a (record { addr = a; len = found.1; inst = found.0; role = Plain })
+pub placed_plain : (elf : Elf) (end a : ℕ) (roles : List (ℕ × Role)) (found : Inst × ℕ) (auipc : Bool) → AreRoles elf roles →
+    IsValidBefore elf end a found.0 found.1 → IsOnlyValid elf end a found → ((role : Role) → Contains roles (a, role) → ⊥) →
+    IsTrue auipc ↔ (IsAuipc found.0 × (found.1 ≡ 4)) → auipc ≡ false →
+    IsPlacedAt elf end a (record { addr = a; len = found.1; inst = found.0; role = Plain })
 placed_plain elf end a roles found auipc are valid only none test isnt = record {
   addr = refl;
   valid = valid;
@@ -66,7 +73,9 @@ placed_plain elf end a roles found auipc are valid only none test isnt = record 
       absurd (cc);
 }
 
-pub fault_bare : (elf : Elf) (end a : ℕ) (roles : List (ℕ × Role)) (found : Inst × ℕ) (fault : Fault) → AreRoles elf roles → IsValidBefore elf end a found.0 found.1 → ((role : Role) → Contains roles (a, role) → ⊥) → IsAuipc found.0 × (found.1 ≡ 4) → fault ≡ fault_at BareAuipc a → IsFaultBefore elf end a fault
+pub fault_bare : (elf : Elf) (end a : ℕ) (roles : List (ℕ × Role)) (found : Inst × ℕ) (fault : Fault) → AreRoles elf roles →
+    IsValidBefore elf end a found.0 found.1 → ((role : Role) → Contains roles (a, role) → ⊥) → IsAuipc found.0 × (found.1 ≡ 4) →
+    fault ≡ fault_at BareAuipc a → IsFaultBefore elf end a fault
 fault_bare elf end a roles found fault are valid none ((rd, imm, is), four) fault_is =
     bare fault_is (record {
       rd = rd;
@@ -84,12 +93,16 @@ rising roles up i j d upto within =
     (λ (more : j ≤ i). let e : i ≡ j = omega arith in let s = ap (λ (k : ℕ). (slice_index_or roles k d).0) e in omega arith)
     (cases_lt i j)
 
-pub role_there : (roles : List (ℕ × Role)) (a k : ℕ) (d : ℕ × Role) → k < length roles → (slice_index_or roles k d).0 ≡ a → Contains roles (a, (slice_index_or roles k d).1)
+pub role_there : (roles : List (ℕ × Role)) (a k : ℕ) (d : ℕ × Role) → k < length roles → (slice_index_or roles k d).0 ≡ a →
+    Contains roles (a, (slice_index_or roles k d).1)
 role_there roles a k d within is =
     let x = slice_index_or roles k d in
     (k, within, get_or_default roles k (a, x.1) d within ∙ (λ i. (is i, x.1)))
 
-pub role_absent : (roles : List (ℕ × Role)) (a k : ℕ) (d : ℕ × Role) → AllPairs (λ r s. r.0 < s.0) roles → ((j : ℕ) (e : ℕ × Role) → j < k → (slice_index_or roles j e).0 < a) → ((j : ℕ) (e : ℕ × Role) → k ≤ j → j < length roles → a ≤ (slice_index_or roles j e).0) → (k < length roles → (slice_index_or roles k d).0 ≢ a) → (role : Role) → Contains roles (a, role) → ⊥
+pub role_absent : (roles : List (ℕ × Role)) (a k : ℕ) (d : ℕ × Role) → AllPairs (λ r s. r.0 < s.0) roles →
+    ((j : ℕ) (e : ℕ × Role) → j < k → (slice_index_or roles j e).0 < a) →
+    ((j : ℕ) (e : ℕ × Role) → k ≤ j → j < length roles → a ≤ (slice_index_or roles j e).0) →
+    (k < length roles → (slice_index_or roles k d).0 ≢ a) → (role : Role) → Contains roles (a, role) → ⊥
 role_absent roles a k d up below above isnt role (j, within, there) =
     let at : (slice_index_or roles j (a, role)).0 ≡ a = ap (λ (x : ℕ × Role). x.0) there in
     ⊎_elim
@@ -101,6 +114,8 @@ role_absent roles a k d up below above isnt role (j, within, there) =
     omega arith)
     (λ (not_after : j ≤ k).
     let e : j ≡ k = omega arith in
-    isnt (omega arith) (ap (λ (x : ℕ × Role). x.0) (get_or_default roles k d (a, role) (omega arith) ∙ sym (ap (λ (i : ℕ). slice_index_or roles i (a, role)) e)) ∙ at))
+    isnt (omega arith)
+    (ap (λ (x : ℕ × Role). x.0)
+    (get_or_default roles k d (a, role) (omega arith) ∙ sym (ap (λ (i : ℕ). slice_index_or roles i (a, role)) e)) ∙ at))
     (cases_lt k j))
     (cases_lt j k)

@@ -20,9 +20,11 @@ use Rattle.rv_reloc.proofs.StartLists.{starts_inside}
 use Rattle.func_find.specs.InstLists.{IsPlacedAt, IsGoodBefore, IsFaultBefore, IsFirstIn, IsFirstRefusal, ArePlaced, IsMadeOf, AreMadeOf}
 use Rattle.func_find.proofs.StartsApart.{starts_apart, length_is}
 
-AreInsts-push : (elf : Elf) (a mid : ℕ) (ps : List Placed) (p : Placed) → AreInsts elf a ps mid → p.addr ≡ mid → IsInstAt elf mid p.inst p.len → RoleIs elf mid p.role → AreInsts elf a (ps ++ p ∷ []) (mid + p.len)
+AreInsts-push : (elf : Elf) (a mid : ℕ) (ps : List Placed) (p : Placed) → AreInsts elf a ps mid → p.addr ≡ mid →
+    IsInstAt elf mid p.inst p.len → RoleIs elf mid p.role → AreInsts elf a (ps ++ p ∷ []) (mid + p.len)
 AreInsts-push elf a mid [] p at addr inst role =
-    subst (λ (x : ℕ). (p.addr ≡ x) × IsInstAt elf x p.inst p.len × RoleIs elf x p.role × (x + p.len ≡ mid + p.len)) (sym at) (addr, inst, role, refl)
+    subst (λ (x : ℕ). (p.addr ≡ x) × IsInstAt elf x p.inst p.len × RoleIs elf x p.role × (x + p.len ≡ mid + p.len)) (sym at)
+    (addr, inst, role, refl)
 AreInsts-push elf a mid (q ∷ ps) p (addr_q, inst_q, role_q, rest) addr inst role =
     (addr_q, inst_q, role_q, AreInsts-push elf (a + q.len) mid ps p rest addr inst role)
 
@@ -43,7 +45,9 @@ placed_none elf start end some = record {
   bound = omega arith;
 }
 
-pub placed_next : (elf : Elf) (start end address next : ℕ) (was now : List Placed) (p : Placed) → address < end → IsPlacedAt elf end address p → now ≡ was ++ p ∷ [] → next ≡ address + p.len → ArePlacedTo elf start end address was → ArePlacedTo elf start end next now
+pub placed_next : (elf : Elf) (start end address next : ℕ) (was now : List Placed) (p : Placed) → address < end →
+    IsPlacedAt elf end address p → now ≡ was ++ p ∷ [] → next ≡ address + p.len → ArePlacedTo elf start end address was →
+    ArePlacedTo elf start end next now
 placed_next elf start end address next was now p inside placed pushed is are =
     let starts : StartsIn elf start end address = are.next inside in
     let long : p.len ≡ length_at elf address = length_is elf address p.inst p.len placed.valid.before.is_inst in
@@ -64,11 +68,13 @@ placed_next elf start end address next was now p inside placed pushed is are =
           (λ (not_above : a ≤ address). let e : address ≡ a = omega arith in (p, Contains-push was p, addr ∙ e))
           (cases_lt address a))
           (cases_lt a address);
-      next = λ less. subst (λ (n : ℕ). StartsIn elf start end (address + n)) (sym long) (after address starts (subst (λ (n : ℕ). address + n < end) long less));
+      next = λ less. subst (λ (n : ℕ). StartsIn elf start end (address + n)) (sym long)
+          (after address starts (subst (λ (n : ℕ). address + n < end) long less));
       bound = within;
     }))
 
-pub placed_all : (elf : Elf) (start end address : ℕ) (insts : List Placed) → end ≤ address → ArePlacedTo elf start end address insts → ArePlaced elf start end insts
+pub placed_all : (elf : Elf) (start end address : ℕ) (insts : List Placed) → end ≤ address → ArePlacedTo elf start end address insts →
+    ArePlaced elf start end insts
 placed_all elf start end address insts past are =
     let bound = are.bound in
     let e : address ≡ end = omega arith in
@@ -79,10 +85,12 @@ placed_all elf start end address insts past are =
     }
 
 good : (elf : Elf) (end : ℕ) (p : Placed) (a : ℕ) → IsPlacedAt elf end p.addr p → p.addr ≡ a → IsGoodBefore elf end a
-good elf end p a placed at = subst (IsGoodBefore elf end) at (record { inst = p.inst; bytes = p.len; valid = placed.valid; not_bare = placed.not_bare })
+good elf end p a placed at =
+    subst (IsGoodBefore elf end) at (record { inst = p.inst; bytes = p.len; valid = placed.valid; not_bare = placed.not_bare })
 
 -- the first that can't be there
-pub first_bad : (elf : Elf) (part : Part) (address : ℕ) (insts : List Placed) (fault : Fault) → address < part.end → IsFaultBefore elf part.end address fault → ArePlacedTo elf part.start part.end address insts → IsFirstIn elf (part ∷ []) fault
+pub first_bad : (elf : Elf) (part : Part) (address : ℕ) (insts : List Placed) (fault : Fault) → address < part.end →
+    IsFaultBefore elf part.end address fault → ArePlacedTo elf part.start part.end address insts → IsFirstIn elf (part ∷ []) fault
 first_bad elf part address insts fault inside bad are = record {
   part = part;
   listed = (0, omega arith, refl);
@@ -107,7 +115,9 @@ made_none elf wholes parts = record {
   ordered = λ i j d less within. absurd (omega arith);
 }
 
-pub made_next : (elf : Elf) (wholes parts : List Part) (i : ℕ) (d : Part) (was now : List Func) (func : Func) → AllPairs Follows parts → i < length parts → IsMadeOf elf wholes (slice_index_or parts i d) func → now ≡ was ++ func ∷ [] → AreMadeOf elf wholes (take i parts) was → AreMadeOf elf wholes (take (i + 1) parts) now
+pub made_next : (elf : Elf) (wholes parts : List Part) (i : ℕ) (d : Part) (was now : List Func) (func : Func) → AllPairs Follows parts →
+    i < length parts → IsMadeOf elf wholes (slice_index_or parts i d) func → now ≡ was ++ func ∷ [] →
+    AreMadeOf elf wholes (take i parts) was → AreMadeOf elf wholes (take (i + 1) parts) now
 made_next elf wholes parts i d was now func ordered within made pushed are =
     subst (λ (fs : List Func). AreMadeOf elf wholes (take (i + 1) parts) fs) (sym pushed)
     (subst (λ (ps : List Part). AreMadeOf elf wholes ps (was ++ func ∷ [])) (sym (take_more parts i d within)) (record {
@@ -139,11 +149,14 @@ made_next elf wholes parts i d was now func ordered within made pushed are =
         let same : (slice_index_or parts k d).end ≡ p.end = ap (λ (q : Part). q.end) at in
         omega arith
 
-pub made_all : (elf : Elf) (wholes parts : List Part) (i : ℕ) (funcs : List Func) → i ≡ length parts → AreMadeOf elf wholes (take i parts) funcs → AreMadeOf elf wholes parts funcs
+pub made_all : (elf : Elf) (wholes parts : List Part) (i : ℕ) (funcs : List Func) → i ≡ length parts →
+    AreMadeOf elf wholes (take i parts) funcs → AreMadeOf elf wholes parts funcs
 made_all elf wholes parts i funcs all = subst (λ (ps : List Part). AreMadeOf elf wholes ps funcs) (take_all i parts (omega arith))
 
 -- the first fault of a part is that of all, where those before it have none
-pub first_of_all : (elf : Elf) (wholes parts : List Part) (i : ℕ) (d : Part) (funcs : List Func) (fault : Fault) → AllPairs Follows parts → i < length parts → AreMadeOf elf wholes (take i parts) funcs → IsFirstIn elf (slice_index_or parts i d ∷ []) fault → IsFirstIn elf parts fault
+pub first_of_all : (elf : Elf) (wholes parts : List Part) (i : ℕ) (d : Part) (funcs : List Func) (fault : Fault) →
+    AllPairs Follows parts → i < length parts → AreMadeOf elf wholes (take i parts) funcs →
+    IsFirstIn elf (slice_index_or parts i d ∷ []) fault → IsFirstIn elf parts fault
 first_of_all elf wholes parts i d funcs fault ordered within are first = record {
   part = first.part;
   listed = ⊎_elim
@@ -186,6 +199,9 @@ first_of_all elf wholes parts i d funcs fault ordered within are first = record 
         omega arith
     bounded (inr (k, none, is)) = absurd (omega arith)
 
-pub first_refusal : (elf : Elf) (wholes parts : List Part) (i : ℕ) (d : Part) (funcs : List Func) (r : Refusal) → AllPairs Follows parts → i < length parts → AreMadeOf elf wholes (take i parts) funcs → IsFirstRefusal elf (slice_index_or parts i d ∷ []) r → IsFirstRefusal elf parts r
-first_refusal elf wholes parts i d funcs (refusal.Fault fault) ordered within are first = first_of_all elf wholes parts i d funcs fault ordered within are first
+pub first_refusal : (elf : Elf) (wholes parts : List Part) (i : ℕ) (d : Part) (funcs : List Func) (r : Refusal) →
+    AllPairs Follows parts → i < length parts → AreMadeOf elf wholes (take i parts) funcs →
+    IsFirstRefusal elf (slice_index_or parts i d ∷ []) r → IsFirstRefusal elf parts r
+first_refusal elf wholes parts i d funcs (refusal.Fault fault) ordered within are first =
+    first_of_all elf wholes parts i d funcs fault ordered within are first
 first_refusal elf wholes parts i d funcs refusal.Memory ordered within are first = tt

@@ -11,13 +11,18 @@ use Rattle.rv_reloc.specs.Refs.{AreRefs}
 use Rattle.func_find.specs.Referred.{Gains, GoesTo, PartGoesTo, AreReferred}
 use Rattle.func_find.proofs.Judged.{HasValidInst-from, HasValidInst-before}
 
-pub part_goes : (elf : Elf) (p : Part) (inside : List ℕ) → ((a : ℕ) → Contains inside a ↔ StartsIn elf p.start p.end a) → (a : ℕ) → Any (λ from. GoesTo elf p.end from a) inside ↔ PartGoesTo elf p a
+pub part_goes : (elf : Elf) (p : Part) (inside : List ℕ) → ((a : ℕ) → Contains inside a ↔ StartsIn elf p.start p.end a) → (a : ℕ) →
+    Any (λ from. GoesTo elf p.end from a) inside ↔ PartGoesTo elf p a
 part_goes elf p inside are a = (
   (λ (k, from, within, is, goes). record { from = from; starts = (are from).0 (k, within, is); goes = goes }),
   (λ part. let (k, within, is) = (are part.from).1 part.starts in (k, part.from, within, is, part.goes)),
 )
 
-pub AreReferred-lists : (elf : Elf) (tabled : List (ℕ × ℕ)) (parts : List Part) (refs : Refs) (one two three four last : List ℕ) → AreCodeParts elf parts → AreRefs elf tabled refs → one ≡ elf.entry ∷ [] → Gains one two (λ a. Any (λ p. PartGoesTo elf p a) parts) → Gains two three (λ a. Any (λ r. RoleNames r.1 a) refs.roles.items) → Gains three four (λ a. Any (λ c. CellNames c a) refs.cells.items) → ((a : ℕ) → Contains last a ↔ Contains four a) → AreReferred elf tabled last
+pub AreReferred-lists : (elf : Elf) (tabled : List (ℕ × ℕ)) (parts : List Part) (refs : Refs) (one two three four last : List ℕ) →
+    AreCodeParts elf parts → AreRefs elf tabled refs → one ≡ elf.entry ∷ [] → Gains one two (λ a. Any (λ p. PartGoesTo elf p a) parts) →
+    Gains two three (λ a. Any (λ r. RoleNames r.1 a) refs.roles.items) →
+    Gains three four (λ a. Any (λ c. CellNames c a) refs.cells.items) → ((a : ℕ) → Contains last a ↔ Contains four a) →
+    AreReferred elf tabled last
 AreReferred-lists elf tabled parts refs one two three four last are refers first jumps roles cells same a = (
   (λ listed. ⊎_elim
       (λ in_three. ⊎_elim
@@ -35,7 +40,9 @@ AreReferred-lists elf tabled parts refs one two three four last are refers first
 
     from_part : Any (λ p. PartGoesTo elf p a) parts → IsReferred elf tabled a
     from_part (k, p, within, is, part) =
-        jump p.start p.end part.from part.goes.inst part.goes.bytes (HasValidInst-from elf p.start p.end part.from part.goes.inst part.goes.bytes (are.only p (k, within, is)) part.starts part.goes.valid) part.goes.target_is
+        jump p.start p.end part.from part.goes.inst part.goes.bytes
+        (HasValidInst-from elf p.start p.end part.from part.goes.inst part.goes.bytes
+        (are.only p (k, within, is)) part.starts part.goes.valid) part.goes.target_is
 
     from_role : Any (λ r. RoleNames r.1 a) refs.roles.items → IsReferred elf tabled a
     from_role (k, r, within, is, names) = role r.0 r.1 (refers.roles.only r (k, within, is)) names

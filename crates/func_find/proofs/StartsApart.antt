@@ -8,8 +8,10 @@ use Rattle.elf_image.specs.code.Parts.{StartsIn, IsInstAt, length_at, halfword_a
 use Rattle.rv_reloc.proofs.StartLists.{length_positive, starts_cases, starts_inside}
 
 -- no start lies in the instruction of another
-starts_apart_by : (elf : Elf) (n start end a b : ℕ) → end ≤ start + n → StartsIn elf start end a → StartsIn elf start end b → a < b → a + length_at elf a ≤ b
-starts_apart_by elf zero start end a b enough first second less = let (low, high) = starts_inside elf start end a first in absurd (omega arith)
+starts_apart_by : (elf : Elf) (n start end a b : ℕ) → end ≤ start + n → StartsIn elf start end a → StartsIn elf start end b → a < b →
+    a + length_at elf a ≤ b
+starts_apart_by elf zero start end a b enough first second less =
+    let (low, high) = starts_inside elf start end a first in absurd (omega arith)
 starts_apart_by elf (suc n) start end a b enough first second less =
     let long : 0 < length_at elf start = length_positive elf start in
     ⊎_elim
@@ -42,5 +44,7 @@ half_length half isnt = rw (ne_eqb (half % 4) 3 isnt) refl
 pub length_is : (elf : Elf) (a : ℕ) (inst : Inst) (bytes : ℕ) → IsInstAt elf a inst bytes → bytes ≡ length_at elf a
 length_is elf a inst bytes =
     ⊎_elim
-    (λ (two : DecodesHalf (halfword_at elf a) inst bytes). two.two_bytes ∙ sym (half_length (halfword_at elf a) (let isnt = two.is_half in λ is. isnt (omega arith))))
-    (λ (full : DecodesFull (halfword_at elf a) (Some (halfword_at elf (a + 2))) inst bytes). full.four_bytes ∙ sym (full_length (halfword_at elf a) (let is = full.is_full in omega arith)))
+    (λ (two : DecodesHalf (halfword_at elf a) inst bytes). two.two_bytes
+    ∙ sym (half_length (halfword_at elf a) (let isnt = two.is_half in λ is. isnt (omega arith))))
+    (λ (full : DecodesFull (halfword_at elf a) (Some (halfword_at elf (a + 2))) inst bytes). full.four_bytes
+    ∙ sym (full_length (halfword_at elf a) (let is = full.is_full in omega arith)))

@@ -9,9 +9,9 @@ use Rattle.elf_image.specs.code.Functions.{IsReferred}
 use Rattle.rv_reloc.specs.declared.parts.Part.{Part}
 use Rattle.func_find.specs.Valid.{IsValidBefore}
 
--- a list got all numbers of a set, and nothing else
-abbrev pub Gains : List ℕ → List ℕ → (ℕ → Type 0) → Type 0
-Gains old new Is = (a : ℕ) → Contains new a ↔ (Contains old a ⊎ Is a)
+-- a list got all members of a set, and nothing else
+abbrev pub Gains : {A : Type 0} → List A → List A → (A → Type 0) → Type 0
+Gains {A} old new Is = (a : A) → Contains new a ↔ (Contains old a ⊎ Is a)
 
 -- the instruction at an address goes to another
 pub record GoesTo (elf : Elf) (end from to : ℕ) : Type 0 where

@@ -9,11 +9,11 @@ ghost use Rattle.func_find.specs.FunctionParts.{AreFunctionParts, AreFunctionsBe
 ghost use Rattle.func_find.specs.Referred.{AreReferred};
 ghost use Rattle.func_find.specs.Valid.{IsNopBefore};
 
-use crate::flow::falls_out;
 use crate::referred::Referred;
 use crate::valid::{is_nop_before, valid_before};
 use elf_image::Elf;
 use rb_bytes::fault::NoMemory;
+use rv_code::flow::falls;
 use rv_reloc::instruction_starts::starts_in;
 use rv_reloc::parts::Part;
 use rv_reloc::ranges::{Ranges, function_ranges};
@@ -30,7 +30,9 @@ pub fn function_parts(
 ) -> Result<Vec<Part>, NoMemory>
     requires starts { AreStarts elf.now starts.now }
     requires parts { AreCodeParts elf.now parts.now }
-    ensures { IfOk result (λ kept. (tabled : List (ℕ × ℕ)) → AreReferred elf.now tabled referred.now.addresses.items → AreFunctionParts elf.now tabled kept.items) }
+    ensures { IfOk result
+        (λ kept. (tabled : List (ℕ × ℕ)) → AreReferred elf.now tabled referred.now.addresses.items →
+        AreFunctionParts elf.now tabled kept.items) }
 {
     let covers = function_ranges(alloc, elf)?;
     let mut kept = Vec::new(alloc);
@@ -56,7 +58,9 @@ fn is_function(
     requires covers { (s e : ℕ) → s < e → IsInOneExtent covers.now.reaches.items s e ↔ IsCovered elf.now s e }
     requires before { All (λ p. IsCodePart elf.now p.start p.end) before.now }
     requires part { IsCodePart elf.now part.now.start part.now.end }
-    ensures { (tabled : List (ℕ × ℕ)) → AreReferred elf.now tabled referred.now.addresses.items → AreFunctionsBefore elf.now tabled part.now.start before.now → IsTrue result ↔ IsFunctionPart elf.now tabled part.now.start part.now.end }
+    ensures { (tabled : List (ℕ × ℕ)) → AreReferred elf.now tabled referred.now.addresses.items →
+        AreFunctionsBefore elf.now tabled part.now.start before.now →
+        IsTrue result ↔ IsFunctionPart elf.now tabled part.now.start part.now.end }
 {
     let inside = starts_in(starts, part);
     if !is_nop_part(elf, covers, part, inside) {
@@ -99,7 +103,8 @@ fn has_any(referred: &Referred, addresses: &[u64]) -> bool
 fn is_entered(elf: &Elf, starts: &[u64], before: &[Part], start: u64) -> bool
     requires starts { AreStarts elf.now starts.now }
     requires before { All (λ p. IsCodePart elf.now p.start p.end) before.now }
-    ensures { (tabled : List (ℕ × ℕ)) → AreFunctionsBefore elf.now tabled start before.now → IsTrue result ↔ IsEntered elf.now tabled start }
+    ensures { (tabled : List (ℕ × ℕ)) → AreFunctionsBefore elf.now tabled start before.now →
+        IsTrue result ↔ IsEntered elf.now tabled start }
 {
     let count = before.len();
     if count == 0 {
@@ -131,7 +136,7 @@ fn falls_at(elf: &Elf, end: u64, address: u64) -> bool
         return false;
     }
     match valid_before(elf, end, address) {
-        Some(found) => end - address == found.1 as u64 && falls_out(&found.0),
+        Some(found) => end - address == found.1 as u64 && falls(&found.0, true),
         None => false,
     }
 }

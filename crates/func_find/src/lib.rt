@@ -2,7 +2,6 @@
 #![tactic(auto)]
 
 pub mod finding;
-pub mod flow;
 pub mod function_parts;
 pub mod inst_lists;
 pub mod referred;

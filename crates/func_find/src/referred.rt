@@ -7,11 +7,11 @@ ghost use Rattle.rv_reloc.specs.Parts.{AreCodeParts};
 ghost use Rattle.rv_reloc.specs.Refs.{AreRefs};
 ghost use Rattle.func_find.specs.Referred.{AreReferred, Gains, GoesTo, PartGoesTo};
 
-use crate::flow::target;
 use crate::valid::valid_before;
 use elf_image::Elf;
 use elf_image::function_bounds::make_ascending;
 use rb_bytes::fault::NoMemory;
+use rv_code::flow::target;
 use rv_code::{CellKind, CodeCell, Role};
 use rv_reloc::Refs;
 use rv_reloc::instruction_starts::starts_in;
@@ -38,7 +38,8 @@ impl Referred {
     ) -> Result<Referred, NoMemory>
         requires starts { AreStarts elf.now starts.now }
         requires parts { AreCodeParts elf.now parts.now }
-        ensures { IfOk result (λ r. (tabled : List (ℕ × ℕ)) → AreRefs elf.now tabled refs.now → AreReferred elf.now tabled r.addresses.items) }
+        ensures { IfOk result
+            (λ r. (tabled : List (ℕ × ℕ)) → AreRefs elf.now tabled refs.now → AreReferred elf.now tabled r.addresses.items) }
     {
         let mut addresses = Vec::new(alloc);
         addresses.push(elf.entry)?;
@@ -81,7 +82,8 @@ fn push_targets_of(
     end: u64,
     froms: &[u64],
 ) -> Result<(), NoMemory>
-    ensures { OnOk result (Gains addresses.old.items addresses.new.items (λ a. Any (λ from. GoesTo elf.now end from a) froms.now)) }
+    ensures { OnOk result
+        (Gains addresses.old.items addresses.new.items (λ a. Any (λ from. GoesTo elf.now end from a) froms.now)) }
 {
     for from in froms {
         push_some(addresses, target_of(elf, end, *from))?;
@@ -102,7 +104,8 @@ fn target_of(elf: &Elf, end: u64, from: u64) -> Option<u64>
     }
 }
 
-fn push_some(addresses: &mut Vec<u64>, address: Option<u64>) -> Result<(), NoMemory>
+/// Appends an address, if there is one.
+pub fn push_some(addresses: &mut Vec<u64>, address: Option<u64>) -> Result<(), NoMemory>
     ensures { OnOk result (Gains addresses.old.items addresses.new.items (λ a. address ≡ Some a)) }
 {
     if let Some(address) = address {
@@ -111,7 +114,8 @@ fn push_some(addresses: &mut Vec<u64>, address: Option<u64>) -> Result<(), NoMem
     Ok(())
 }
 
-fn push_roles(addresses: &mut Vec<u64>, roles: &[(u64, Role)]) -> Result<(), NoMemory>
+/// Appends the addresses that roles name.
+pub fn push_roles(addresses: &mut Vec<u64>, roles: &[(u64, Role)]) -> Result<(), NoMemory>
     ensures { OnOk result (Gains addresses.old.items addresses.new.items (λ a. Any (λ r. RoleNames r.1 a) roles.now)) }
 {
     for role in roles {
@@ -135,7 +139,8 @@ fn role_target(role: &Role) -> Option<u64>
     }
 }
 
-fn push_cells(addresses: &mut Vec<u64>, cells: &[CodeCell]) -> Result<(), NoMemory>
+/// Appends the addresses that cells name.
+pub fn push_cells(addresses: &mut Vec<u64>, cells: &[CodeCell]) -> Result<(), NoMemory>
     ensures { OnOk result (Gains addresses.old.items addresses.new.items (λ a. Any (λ c. CellNames c a) cells.now)) }
 {
     for cell in cells {

@@ -5,8 +5,8 @@ ghost use Rattle.rv_reloc.specs.Parts.{AreApart};
 ghost use Rattle.rv_reloc.specs.Places.{IsPlaceOf};
 ghost use Rattle.func_find.specs.Targets.{CallsInside, HasMisled, IsCodeIn, IsHeld, IsInsideIn, IsMisled, JumpsNowhere};
 
-use crate::flow::target;
 use elf_image::lowest::{lower, place_if};
+use rv_code::flow::target;
 use rv_code::{Func, Placed, Role};
 use rv_reloc::code::is_start;
 use rv_reloc::parts::{Part, part_at};

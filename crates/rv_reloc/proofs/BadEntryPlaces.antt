@@ -18,7 +18,8 @@ use Rattle.rv_reloc.proofs.PairTargets.{low_of_upper, upper_low, upper_target, t
 
 -- What is looked up among the labels.
 
-pub misses-number : (elf : Elf) (labels : List SlotLabel) (hi entry number : ℕ) → AreSlotLabels elf labels → loaded_number elf entry 8 ≡ Some number → HasOtherLabel labels hi number ↔ MissesLabel elf hi entry
+pub misses-number : (elf : Elf) (labels : List SlotLabel) (hi entry number : ℕ) → AreSlotLabels elf labels →
+    loaded_number elf entry 8 ≡ Some number → HasOtherLabel labels hi number ↔ MissesLabel elf hi entry
 misses-number elf labels hi entry number are there = (
   λ other. record {
     wanted = other.found;
@@ -34,7 +35,8 @@ misses-number elf labels hi entry number are there = (
   },
 )
 
-pub misses-none : (elf : Elf) (labels : List SlotLabel) (hi entry : ℕ) → AreSlotLabels elf labels → loaded_number elf entry 8 ≡ None → HasLabelAt labels hi ↔ MissesLabel elf hi entry
+pub misses-none : (elf : Elf) (labels : List SlotLabel) (hi entry : ℕ) → AreSlotLabels elf labels → loaded_number elf entry 8 ≡ None →
+    HasLabelAt labels hi ↔ MissesLabel elf hi entry
 misses-none elf labels hi entry are none = (
   λ any. record {
     wanted = any.found;
@@ -47,7 +49,8 @@ misses-none elf labels hi entry are none = (
 
 -- What a lower part makes.
 
-pub entry-names : (elf : Elf) (l : Low) (target : ℤ) (entry : ℕ) → IsTargetOf elf l target → ((z : ℤ) → IsTargetOf elf l z → target ≡ z) → pos entry ≡ target → IsAddress target → MissesLabel elf l.hi entry ↔ NamesBadEntry elf l
+pub entry-names : (elf : Elf) (l : Low) (target : ℤ) (entry : ℕ) → IsTargetOf elf l target →
+    ((z : ℤ) → IsTargetOf elf l z → target ≡ z) → pos entry ≡ target → IsAddress target → MissesLabel elf l.hi entry ↔ NamesBadEntry elf l
 entry-names elf l target entry makes only is address = (
   λ misses. record {
     entry = entry;
@@ -61,7 +64,8 @@ entry-names elf l target entry makes only is address = (
       subst (MissesLabel elf l.hi) same names.misses,
 )
 
-pub entry-far : (elf : Elf) (l : Low) (target : ℤ) → ((z : ℤ) → IsTargetOf elf l z → target ≡ z) → (IsAddress target → ⊥) → NamesBadEntry elf l → ⊥
+pub entry-far : (elf : Elf) (l : Low) (target : ℤ) → ((z : ℤ) → IsTargetOf elf l z → target ≡ z) → (IsAddress target → ⊥) →
+    NamesBadEntry elf l → ⊥
 entry-far elf l target only far names = far (subst IsAddress (sym (only (pos names.entry) names.makes)) names.address)
 
 -- By the relocations of AUIPCs.
@@ -69,7 +73,8 @@ entry-far elf l target only far names = far (subst IsAddress (sym (only (pos nam
 slot_is_hi : (kind : ℕ) → kind ≡ R_RISCV_GOT_HI20 → IsTrue (is_pcrel_hi kind)
 slot_is_hi kind is = subst (λ (k : ℕ). IsTrue (is_pcrel_hi k)) (sym is) refl
 
-of_lows : (elf : Elf) (lows : List Low) → AreLows elf lows → (p : ℕ) → IsPlaceOf (λ l. l.hi) (NamesBadEntry elf) lows p → HasRelocation elf (HasBadEntry elf) p
+of_lows : (elf : Elf) (lows : List Low) → AreLows elf lows → (p : ℕ) → IsPlaceOf (λ l. l.hi) (NamesBadEntry elf) lows p →
+    HasRelocation elf (HasBadEntry elf) p
 of_lows elf lows are p is =
     let l = is.item in
     let low = (are.all l).0 is.listed in
@@ -85,12 +90,14 @@ of_lows elf lows are p is =
         entry = is.bad.entry;
         makes = target_upper elf source l (pos is.bad.entry) misses.is.counts (slot_is_hi source.kind said.is_slot) low is.bad.makes here;
         address = is.bad.address;
-        unfit = λ holds. misses.unfit (subst (λ (z : ℤ). IsSomeAnd (loaded_number elf is.bad.entry 8) (λ v. z ≡ pos v)) said.label_is holds);
+        unfit = λ holds. misses.unfit
+            (subst (λ (z : ℤ). IsSomeAnd (loaded_number elf is.bad.entry 8) (λ v. z ≡ pos v)) said.label_is holds);
       };
       place_is = here ∙ is.place_is;
     }
 
-of_uppers : (elf : Elf) (lows : List Low) → AreLows elf lows → (p : ℕ) → HasRelocation elf (HasBadEntry elf) p → IsPlaceOf (λ l. l.hi) (NamesBadEntry elf) lows p
+of_uppers : (elf : Elf) (lows : List Low) → AreLows elf lows → (p : ℕ) → HasRelocation elf (HasBadEntry elf) p →
+    IsPlaceOf (λ l. l.hi) (NamesBadEntry elf) lows p
 of_uppers elf lows are p has =
     let r = has.relocation in
     let bad = has.is in
@@ -111,5 +118,6 @@ of_uppers elf lows are p has =
       place_is = has.place_is;
     }
 
-pub IsLowest-entries : (elf : Elf) (lows : List Low) (lowest : Option ℕ) → AreLows elf lows → IsLowest (IsPlaceOf (λ l. l.hi) (NamesBadEntry elf) lows) lowest → IsLowest (HasRelocation elf (HasBadEntry elf)) lowest
+pub IsLowest-entries : (elf : Elf) (lows : List Low) (lowest : Option ℕ) → AreLows elf lows →
+    IsLowest (IsPlaceOf (λ l. l.hi) (NamesBadEntry elf) lows) lowest → IsLowest (HasRelocation elf (HasBadEntry elf)) lowest
 IsLowest-entries elf lows lowest are is = IsLowest-same lowest (of_lows elf lows are) (of_uppers elf lows are) is

@@ -24,7 +24,8 @@ call_of pair = record { auipc = record { rd = pair.rd; imm = pair.upper }; jalr 
 pub pair_call : (elf : Elf) (r : Relocation) (pair : CallPair elf r) → IsCallAt elf r.place (call_of pair)
 pair_call elf r pair = record { start = pair.start; end = pair.end; auipc = pair.auipc; link = pair.link; jalr = pair.jalr }
 
-abbrev pub call_pair : (elf : Elf) (r : Relocation) (c : Call) → Contains (relocations elf) r → IsTrue (is_call_pair r.kind) → IsCallAt elf r.place c → CallPair elf r
+abbrev pub call_pair : (elf : Elf) (r : Relocation) (c : Call) → Contains (relocations elf) r → IsTrue (is_call_pair r.kind) →
+    IsCallAt elf r.place c → CallPair elf r
 call_pair elf r c counts is_call is = record {
   counts = counts;
   is_call = is_call;
@@ -44,7 +45,8 @@ call_pair elf r c counts is_call is = record {
 pub bad-none : (elf : Elf) (r : Relocation) → IsTrue (is_call_pair r.kind) → ((c : Call) → IsCallAt elf r.place c → ⊥) → IsBadCall elf r
 bad-none elf r is_call none = IsBadCall.pair is_call (λ (pair, which). none (call_of pair) (pair_call elf r pair))
 
-pub unfit-bad : (elf : Elf) (r : Relocation) (c : Call) → Contains (relocations elf) r → IsTrue (is_call_pair r.kind) → IsCallAt elf r.place c → ((d : Call) → IsCallAt elf r.place d → c ≡ d) → (FitsCall r.place c → ⊥) → IsBadCall elf r
+pub unfit-bad : (elf : Elf) (r : Relocation) (c : Call) → Contains (relocations elf) r → IsTrue (is_call_pair r.kind) →
+    IsCallAt elf r.place c → ((d : Call) → IsCallAt elf r.place d → c ≡ d) → (FitsCall r.place c → ⊥) → IsBadCall elf r
 unfit-bad elf r c counts is_call is only unfit =
     ⊎_elim
     (λ (zero : c.jalr.base ≡ 0). IsBadCall.pair is_call (λ (pair, which).
@@ -65,7 +67,8 @@ unfit-bad elf r c counts is_call is only unfit =
     (cases_eq c.jalr.base c.auipc.rd))
     (cases_eq c.jalr.base 0)
 
-bad-unfit : (elf : Elf) (r : Relocation) (c : Call) → Contains (relocations elf) r → IsTrue (is_call_pair r.kind) → IsCallAt elf r.place c → ((d : Call) → IsCallAt elf r.place d → c ≡ d) → IsBadCall elf r → FitsCall r.place c → ⊥
+bad-unfit : (elf : Elf) (r : Relocation) (c : Call) → Contains (relocations elf) r → IsTrue (is_call_pair r.kind) →
+    IsCallAt elf r.place c → ((d : Call) → IsCallAt elf r.place d → c ≡ d) → IsBadCall elf r → FitsCall r.place c → ⊥
 bad-unfit elf r c counts is_call is only (IsBadCall.pair _ refuted) fits =
     refuted (call_pair elf r c counts is_call is, ⊎_elim (λ (through, address). inl through) (λ weak. inr weak) fits)
 bad-unfit elf r c counts is_call is only (IsBadCall.address target to refuted) fits =
@@ -73,7 +76,9 @@ bad-unfit elf r c counts is_call is only (IsBadCall.address target to refuted) f
     let fits' = subst (FitsCall r.place) e fits in
     ⊎_elim (λ (through, address). refuted (subst IsAddress (sym to.target_is) address)) (λ weak. to.not_zero weak.0) fits'
 
-pub bad-some : (elf : Elf) (r : Relocation) (c : Call) (fits : Bool) → Contains (relocations elf) r → IsTrue (is_call_pair r.kind) → IsCallAt elf r.place c → ((d : Call) → IsCallAt elf r.place d → c ≡ d) → IsTrue fits ↔ FitsCall r.place c → IsTrue (not fits) ↔ IsBadCall elf r
+pub bad-some : (elf : Elf) (r : Relocation) (c : Call) (fits : Bool) → Contains (relocations elf) r → IsTrue (is_call_pair r.kind) →
+    IsCallAt elf r.place c → ((d : Call) → IsCallAt elf r.place d → c ≡ d) → IsTrue fits ↔ FitsCall r.place c →
+    IsTrue (not fits) ↔ IsBadCall elf r
 bad-some elf r c true counts is_call is only tells = (
   λ refuted. let e : false ≡ true = refuted in absurd (cc),
   λ bad. absurd (bad-unfit elf r c counts is_call is only bad (tells.0 refl)),
@@ -104,41 +109,57 @@ held_once parts a p q apart p_holds q_holds =
     let q_start = ap (λ (x : Part). x.start) q_is in
     let q_end = ap (λ (x : Part). x.end) q_is in
     ⊎_elim
-    (λ (less : k < j). let o : (slice_index_or parts k p).end ≤ (slice_index_or parts j p).start = apart.ordered k j p less j_within in absurd (omega arith))
+    (λ (less : k < j). let o : (slice_index_or parts k p).end ≤ (slice_index_or parts j p).start = apart.ordered k j p less j_within in
+    absurd (omega arith))
     (λ (more : j ≤ k). ⊎_elim
-    (λ (above : j < k). let o : (slice_index_or parts j p).end ≤ (slice_index_or parts k p).start = apart.ordered j k p above k_within in absurd (omega arith))
+    (λ (above : j < k). let o : (slice_index_or parts j p).end ≤ (slice_index_or parts k p).start = apart.ordered j k p above k_within in
+    absurd (omega arith))
     (λ (upto : k ≤ j). let e : k ≡ j = omega arith in sym k_is ∙ ap (λ (i : ℕ). slice_index_or parts i p) e ∙ q_is)
     (cases_lt j k))
     (cases_lt k j)
 
-part_of : (elf : Elf) (parts : List Part) (start end a : ℕ) (part : Part) → AreCodeParts elf parts → HoldsAddress parts a part → IsStartIn elf start end a → (record { start = start; end = end }) ≡ part
+part_of : (elf : Elf) (parts : List Part) (start end a : ℕ) (part : Part) → AreCodeParts elf parts → HoldsAddress parts a part →
+    IsStartIn elf start end a → (record { start = start; end = end }) ≡ part
 part_of elf parts start end a part are holds here =
-    held_once parts a (record { start = start; end = end }) part (AreApart-parts elf parts are) (start_held elf parts a are (record { start = start; end = end; is_start = here })) holds
+    held_once parts a (record { start = start; end = end }) part (AreApart-parts elf parts are)
+    (start_held elf parts a are (record { start = start; end = end; is_start = here })) holds
 
-pub jump_there : (elf : Elf) (parts : List Part) (a : ℕ) (part : Part) (o : Option Jump) → AreCodeParts elf parts → HoldsAddress parts a part → a + 4 < part.end → IfSome o (λ j. (link : ℕ) × IsFullAt elf (a + 4) (Jalr link j.base j.imm)) → IfSome o (λ j. (start end : ℕ) → IsStartIn elf start end a → IsJumpAfter elf start end a j)
+pub jump_there : (elf : Elf) (parts : List Part) (a : ℕ) (part : Part) (o : Option Jump) → AreCodeParts elf parts →
+    HoldsAddress parts a part → a + 4 < part.end → IfSome o (λ j. (link : ℕ) × IsFullAt elf (a + 4) (Jalr link j.base j.imm)) →
+    IfSome o (λ j. (start end : ℕ) → IsStartIn elf start end a → IsJumpAfter elf start end a j)
 jump_there elf parts a part None are holds inside is = is
 jump_there elf parts a part (Some j) are holds inside (link, full) = λ start end here.
     let above = holds.above in
     let here_is = part_of elf parts start end a part are holds here in
-    let next_is = part_of elf parts full.start full.end (a + 4) part are (record { listed = holds.listed; above = omega arith; below = inside }) full.has.starts in
-    record { link = link; jalr = subst (λ (p : Part). HasInst elf p.start p.end (a + 4) (Jalr link j.base j.imm) 4) (next_is ∙ sym here_is) full.has }
+    let next_is =
+    part_of elf parts full.start full.end (a + 4) part are
+    (record { listed = holds.listed; above = omega arith; below = inside }) full.has.starts in
+    record {
+      link = link;
+      jalr = subst (λ (p : Part). HasInst elf p.start p.end (a + 4) (Jalr link j.base j.imm) 4)
+          (next_is ∙ sym here_is) full.has;
+    }
 
-pub jump_full : (elf : Elf) (start end a : ℕ) (j : Jump) → (after : IsJumpAfter elf start end a j) → IsFullAt elf (a + 4) (Jalr after.link j.base j.imm)
+pub jump_full : (elf : Elf) (start end a : ℕ) (j : Jump) → (after : IsJumpAfter elf start end a j) →
+    IsFullAt elf (a + 4) (Jalr after.link j.base j.imm)
 jump_full elf start end a j after = record { start = start; end = end; has = after.jalr }
 
 -- a part without room for the JALR
-pub jump_past : (elf : Elf) (parts : List Part) (start end a : ℕ) (j : Jump) (part : Part) → AreCodeParts elf parts → HoldsAddress parts a part → part.end - a ≤ 4 → IsStartIn elf start end a → IsJumpAfter elf start end a j → ⊥
+pub jump_past : (elf : Elf) (parts : List Part) (start end a : ℕ) (j : Jump) (part : Part) → AreCodeParts elf parts →
+    HoldsAddress parts a part → part.end - a ≤ 4 → IsStartIn elf start end a → IsJumpAfter elf start end a j → ⊥
 jump_past elf parts start end a j part are holds short here after =
     let same = ap (λ (p : Part). p.end) (part_of elf parts start end a part are holds here) in
     let inside = after.jalr.inside in
     omega arith
 
-pub jump_held : (elf : Elf) (parts : List Part) (start end a : ℕ) → AreCodeParts elf parts → IsStartIn elf start end a → HoldsAddress parts a (record { start = start; end = end })
+pub jump_held : (elf : Elf) (parts : List Part) (start end a : ℕ) → AreCodeParts elf parts → IsStartIn elf start end a →
+    HoldsAddress parts a (record { start = start; end = end })
 jump_held elf parts start end a are here = start_held elf parts a are (record { start = start; end = end; is_start = here })
 
 -- Both instructions.
 
-pub call_there : (elf : Elf) (a : ℕ) (u : Upper) (j : Jump) → IsFullAt elf a (Auipc u.rd u.imm) → ((start end : ℕ) → IsStartIn elf start end a → IsJumpAfter elf start end a j) → IsCallAt elf a (record { auipc = u; jalr = j })
+pub call_there : (elf : Elf) (a : ℕ) (u : Upper) (j : Jump) → IsFullAt elf a (Auipc u.rd u.imm) →
+    ((start end : ℕ) → IsStartIn elf start end a → IsJumpAfter elf start end a j) → IsCallAt elf a (record { auipc = u; jalr = j })
 call_there elf a u j full after =
     let next = after full.start full.end full.has.starts in
     record { start = full.start; end = full.end; auipc = full.has; link = next.link; jalr = next.jalr }

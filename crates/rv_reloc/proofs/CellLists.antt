@@ -34,9 +34,11 @@ bad_field f width to from is unfit = record { bad = subst IsBadContent (sym is) 
 
 difference_of : (c : Content) (to from : ℤ) → content c ≡ spec.Difference to from → c ≡ Difference to from
 difference_of (Address a) to from is = absurd (cc)
-difference_of (Difference to' from') to from is = let e : to' ≡ to = cc in let g : from' ≡ from = cc in ap (λ (z : ℤ). Difference z from') e ∙ ap (λ (z : ℤ). Difference to z) g
+difference_of (Difference to' from') to from is =
+    let e : to' ≡ to = cc in let g : from' ≡ from = cc in ap (λ (z : ℤ). Difference z from') e ∙ ap (λ (z : ℤ). Difference to z) g
 
-bad_counted : (elf : Elf) (tabled : List (ℕ × ℕ)) (f : Candidate) (c : Content) → f.content ≡ c → IsBadContent c → Counts elf tabled (field f) true → HasBadLabel elf tabled f.place
+bad_counted : (elf : Elf) (tabled : List (ℕ × ℕ)) (f : Candidate) (c : Content) → f.content ≡ c → IsBadContent c →
+    Counts elf tabled (field f) true → HasBadLabel elf tabled f.place
 bad_counted elf tabled f (Address a) is bad counted = absurd bad
 bad_counted elf tabled f (Difference to from) is bad counted = record {
   width = f.width;
@@ -46,12 +48,15 @@ bad_counted elf tabled f (Difference to from) is bad counted = record {
   unfit = bad;
 }
 
-pub of_bad_field : (elf : Elf) (tabled : List (ℕ × ℕ)) (counted : List Candidate) → AreCounted elf tabled (map field counted) → (p : ℕ) → IsPlaceOf (λ f. f.place) IsBadField counted p → HasBadLabel elf tabled p
+pub of_bad_field : (elf : Elf) (tabled : List (ℕ × ℕ)) (counted : List Candidate) → AreCounted elf tabled (map field counted) → (p : ℕ) →
+    IsPlaceOf (λ f. f.place) IsBadField counted p → HasBadLabel elf tabled p
 of_bad_field elf tabled counted are p is =
     subst (HasBadLabel elf tabled) is.place_is
-    (bad_counted elf tabled is.item is.item.content refl is.bad.bad (are.only (field is.item) (Contains-map field counted is.item is.listed)))
+    (bad_counted elf tabled is.item is.item.content refl is.bad.bad
+    (are.only (field is.item) (Contains-map field counted is.item is.listed)))
 
-to_place : (elf : Elf) (tabled : List (ℕ × ℕ)) (counted : List Candidate) → AreCounted elf tabled (map field counted) → (p : ℕ) → HasBadLabel elf tabled p → IsPlaceOf (λ f. f.place) IsBadField counted p
+to_place : (elf : Elf) (tabled : List (ℕ × ℕ)) (counted : List Candidate) → AreCounted elf tabled (map field counted) → (p : ℕ) →
+    HasBadLabel elf tabled p → IsPlaceOf (λ f. f.place) IsBadField counted p
 to_place elf tabled counted are p is =
     let there : Field = record { place = p; width = is.width; content = spec.Difference is.to is.from } in
     let (f, listed, same) = Contains-from_map field counted there (are.each there is.counted) in
@@ -62,7 +67,9 @@ to_place elf tabled counted are p is =
       place_is = ap (λ (g : Field). g.place) same;
     }
 
-pub bad-label : (elf : Elf) (tabled : List (ℕ × ℕ)) (counted : List Candidate) (lowest : Option ℕ) → AreCounted elf tabled (map field counted) → IsLowest (IsPlaceOf (λ f. f.place) IsBadField counted) lowest → IsLowest (HasBadLabel elf tabled) lowest
+pub bad-label : (elf : Elf) (tabled : List (ℕ × ℕ)) (counted : List Candidate) (lowest : Option ℕ) →
+    AreCounted elf tabled (map field counted) → IsLowest (IsPlaceOf (λ f. f.place) IsBadField counted) lowest →
+    IsLowest (HasBadLabel elf tabled) lowest
 bad-label elf tabled counted lowest are is = IsLowest-same lowest (of_bad_field elf tabled counted are) (to_place elf tabled counted are) is
 
 address_or_not : (z : ℤ) → IsAddress z ⊎ (IsAddress z → ⊥)
@@ -73,14 +80,19 @@ address_or_not z = by_lt_z z (pos 0)
 good_content : (c : Content) → (IsBadContent c → ⊥) → AreAddresses c
 good_content (Address a) good = tt
 good_content (Difference to from) good = ⊎_elim
-    (λ (is_to : IsAddress to). ⊎_elim (λ (is_from : IsAddress from). (is_to, is_from)) (λ (other : IsAddress from → ⊥). absurd (good (λ both. other both.1))) (address_or_not from))
+    (λ (is_to : IsAddress to). ⊎_elim (λ (is_from : IsAddress from). (is_to, is_from))
+    (λ (other : IsAddress from → ⊥). absurd (good (λ both. other both.1))) (address_or_not from))
     (λ (other : IsAddress to → ⊥). absurd (good (λ both. other both.0)))
     (address_or_not to)
 
 pub none-bad : (counted : List Candidate) → IsLowest (IsPlaceOf (λ f. f.place) IsBadField counted) None → All HasAddresses counted
 none-bad counted is k d within =
     let f = slice_index_or counted k d in
-    record { labels = good_content f.content (λ bad. is.least f.place (record { item = f; listed = (k, within, get_or_default counted k f d within); bad = record { bad = bad }; place_is = refl })) }
+    record {
+      labels = good_content f.content
+          (λ bad. is.least f.place
+          (record { item = f; listed = (k, within, get_or_default counted k f d within); bad = record { bad = bad }; place_is = refl }));
+    }
 
 -- Cells.
 
@@ -95,7 +107,8 @@ same_kind (Difference to from) (Abs to') is = absurd is
 same_kind (Difference to from) (Diff to' from') is =
     ap (λ (x : ℕ). Diff x (unsigned_abs from)) (ap unsigned_abs is.0) ∙ ap (λ (x : ℕ). Diff to' x) (ap unsigned_abs is.1)
 
-pub cells-all : (elf : Elf) (tabled : List (ℕ × ℕ)) (counted : List Candidate) (cells : List CodeCell) → All HasAddresses counted → AreCounted elf tabled (map field counted) → cells ≡ map cell_of counted → AreCells elf tabled cells
+pub cells-all : (elf : Elf) (tabled : List (ℕ × ℕ)) (counted : List Candidate) (cells : List CodeCell) → All HasAddresses counted →
+    AreCounted elf tabled (map field counted) → cells ≡ map cell_of counted → AreCells elf tabled cells
 cells-all elf tabled counted cells good are made = subst (AreCells elf tabled) (sym made) (record {
   only = λ cell listed.
       let (f, has_f, same) = Contains-from_map cell_of counted cell listed in
@@ -107,7 +120,10 @@ cells-all elf tabled counted cells good are made = subst (AreCells elf tabled) (
   each = λ cell is.
       let there : Field = record { place = cell.addr; width = cell.width; content = is.content } in
       let (f, has_f, same) = Contains-from_map field counted there (are.each there is.counted) in
-      subst (Contains (map cell_of counted)) (made_of cell f (ap (λ (g : Field). g.place) same) (ap (λ (g : Field). g.width) same) (subst (λ (c : spec.Content). SameContent c cell.kind) (sym (ap (λ (g : Field). g.content) same)) is.same)) (Contains-map cell_of counted f has_f);
+      subst (Contains (map cell_of counted))
+      (made_of cell f (ap (λ (g : Field). g.place) same) (ap (λ (g : Field). g.width) same)
+      (subst (λ (c : spec.Content). SameContent c cell.kind) (sym (ap (λ (g : Field). g.content) same)) is.same))
+      (Contains-map cell_of counted f has_f);
   ordered = λ i j d less within.
       let inside : j < length counted = (let n = length-map counted cell_of in omega arith) in
       let f = slice_index_or counted i none in
@@ -131,11 +147,13 @@ cells-all elf tabled counted cells good are made = subst (AreCells elf tabled) (
     labels : (f : Candidate) → Contains counted f → AreAddresses f.content
     labels f (k, within, is) = subst (λ (g : Candidate). AreAddresses g.content) is (let l = good k f within in l.labels)
 
-    made_of : (cell : CodeCell) (f : Candidate) → f.place ≡ cell.addr → f.width ≡ cell.width → SameContent (content f.content) cell.kind → cell_of f ≡ cell
+    made_of : (cell : CodeCell) (f : Candidate) → f.place ≡ cell.addr → f.width ≡ cell.width →
+        SameContent (content f.content) cell.kind → cell_of f ≡ cell
     made_of cell f place width same = λ i. record { addr = place i; width = width i; kind = same_kind f.content cell.kind same i }
 
     can_be : (f : Field) → Counts elf tabled f true → CanBeCell elf tabled f
     can_be f (counts _ can others) = can
 
     some_bytes : (f : Candidate) → Contains counted f → 0 < f.width
-    some_bytes f listed = let can = can_be (field f) (are.only (field f) (Contains-map field counted f listed)) in has-bytes elf tabled (field f) can.is_field
+    some_bytes f listed = let can = can_be (field f) (are.only (field f) (Contains-map field counted f listed)) in
+        has-bytes elf tabled (field f) can.is_field

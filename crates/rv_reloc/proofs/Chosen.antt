@@ -18,7 +18,8 @@ chosen_begin P R xs = record {
 }
 
 -- one of the first n items stands before the n-th
-before : {A : Type 0} (R : A → A → Type 0) (xs : List A) (n : ℕ) (y x d : A) → AllPairs R xs → n < length xs → x ≡ slice_index_or xs n d → Contains (take n xs) y → R y x
+before : {A : Type 0} (R : A → A → Type 0) (xs : List A) (n : ℕ) (y x d : A) → AllPairs R xs → n < length xs →
+    x ≡ slice_index_or xs n d → Contains (take n xs) y → R y x
 before R xs n y x d ordered within is (k, low, there) =
     let short : k < n = let len = length-take n xs in omega arith in
     let at : slice_index_or xs k d ≡ y = get_or_default xs k d y (omega arith) ∙ sym (get_or-take n xs k y short) ∙ there in
@@ -27,7 +28,8 @@ before R xs n y x d ordered within is (k, low, there) =
 taken : {A : Type 0} (xs : List A) (n : ℕ) (x d : A) → n < length xs → x ≡ slice_index_or xs n d → take (n + 1) xs ≡ take n xs ++ x ∷ []
 taken xs n x d within is = take_more xs n d within ∙ ap (λ (z : _). take n xs ++ z ∷ []) (sym is)
 
-pub chosen_keep : {A : Type 0} (P : A → Type 0) (R : A → A → Type 0) (xs chosen now : List A) (n : ℕ) (x d : A) → AllPairs R xs → n < length xs → x ≡ slice_index_or xs n d → P x → now ≡ chosen ++ x ∷ [] → ChosenOf P R xs n chosen → ChosenOf P R xs (n + 1) now
+pub chosen_keep : {A : Type 0} (P : A → Type 0) (R : A → A → Type 0) (xs chosen now : List A) (n : ℕ) (x d : A) → AllPairs R xs →
+    n < length xs → x ≡ slice_index_or xs n d → P x → now ≡ chosen ++ x ∷ [] → ChosenOf P R xs n chosen → ChosenOf P R xs (n + 1) now
 chosen_keep {A} P R xs chosen now n x d ordered within is kept pushed lists =
     subst (λ (ys : List A). ListsAll (λ y. Contains ys y × P y) R now) (sym (taken xs n x d within is))
     (subst (ListsAll (λ y. Contains (take n xs ++ x ∷ []) y × P y) R) (sym pushed) (record {
@@ -44,7 +46,8 @@ chosen_keep {A} P R xs chosen now n x d ordered within is kept pushed lists =
           before R xs n y x d ordered within is (lists.only y (k, inside, get_or_default chosen k y d' inside)).0);
     }))
 
-pub chosen_skip : {A : Type 0} (P : A → Type 0) (R : A → A → Type 0) (xs chosen : List A) (n : ℕ) (x d : A) → n < length xs → x ≡ slice_index_or xs n d → (P x → ⊥) → ChosenOf P R xs n chosen → ChosenOf P R xs (n + 1) chosen
+pub chosen_skip : {A : Type 0} (P : A → Type 0) (R : A → A → Type 0) (xs chosen : List A) (n : ℕ) (x d : A) → n < length xs →
+    x ≡ slice_index_or xs n d → (P x → ⊥) → ChosenOf P R xs n chosen → ChosenOf P R xs (n + 1) chosen
 chosen_skip {A} P R xs chosen n x d within is dropped lists =
     subst (λ (ys : List A). ListsAll (λ y. Contains ys y × P y) R chosen) (sym (taken xs n x d within is)) (record {
       only = λ y is_in. let (there, holds) = lists.only y is_in in (Contains-append_left (take n xs) (x ∷ []) y there, holds);
@@ -56,7 +59,8 @@ chosen_skip {A} P R xs chosen n x d within is dropped lists =
     })
 
 -- of all items
-pub chosen_all : {A : Type 0} (P : A → Type 0) (R : A → A → Type 0) (xs chosen : List A) (n : ℕ) → n ≡ length xs → ((x : A) → P x → Contains xs x) → ChosenOf P R xs n chosen → ListsAll P R chosen
+pub chosen_all : {A : Type 0} (P : A → Type 0) (R : A → A → Type 0) (xs chosen : List A) (n : ℕ) → n ≡ length xs →
+    ((x : A) → P x → Contains xs x) → ChosenOf P R xs n chosen → ListsAll P R chosen
 chosen_all {A} P R xs chosen n all listed lists = record {
   only = λ x is_in. (lists.only x is_in).1;
   each = λ x holds. lists.each x (subst (λ (ys : List A). Contains ys x) (sym (take_all n xs (omega arith))) (listed x holds), holds);

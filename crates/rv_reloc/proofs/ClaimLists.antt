@@ -28,14 +28,17 @@ claims_where elf r a key role (Claims.abs_hi target to kind rd imm full here key
 claims_where elf r a key role (Claims.abs_lo target to kind inst full some here key_is role_is) = inl here
 
 -- a relocation without the types that make claims
-pub claims_kind : (elf : Elf) (r : Relocation) (a key : ℕ) (role : Role) → (IsTrue (is_call_pair r.kind) → ⊥) → (IsTrue (is_pcrel_hi r.kind) → ⊥) → (IsTrue (is_pcrel_lo r.kind) → ⊥) → (IsTrue (is_absolute r.kind) → ⊥) → Claims elf r a key role → ⊥
+pub claims_kind : (elf : Elf) (r : Relocation) (a key : ℕ) (role : Role) → (IsTrue (is_call_pair r.kind) → ⊥) →
+    (IsTrue (is_pcrel_hi r.kind) → ⊥) → (IsTrue (is_pcrel_lo r.kind) → ⊥) → (IsTrue (is_absolute r.kind) → ⊥) → Claims elf r a key role → ⊥
 claims_kind elf r a key role call hi lo absolute (Claims.call_hi target to here key_is role_is) = call to.pair.is_call
 claims_kind elf r a key role call hi lo absolute (Claims.call_lo target to here key_is role_is) = call to.pair.is_call
 claims_kind elf r a key role call hi lo absolute (Claims.weak_call pair zero here key_is role_is) = call pair.is_call
 claims_kind elf r a key role call hi lo absolute (Claims.hi target to here key_is role_is) = hi to.is_hi
 claims_kind elf r a key role call hi lo absolute (Claims.lo at target to here key_is role_is) = lo to.part.is_low
-claims_kind elf r a key role call hi lo absolute (Claims.abs_hi target to kind rd imm full here key_is role_is) = absolute (kind_absolute r.kind (inl kind))
-claims_kind elf r a key role call hi lo absolute (Claims.abs_lo target to kind inst full some here key_is role_is) = absolute (kind_absolute r.kind (inr kind))
+claims_kind elf r a key role call hi lo absolute (Claims.abs_hi target to kind rd imm full here key_is role_is) =
+    absolute (kind_absolute r.kind (inl kind))
+claims_kind elf r a key role call hi lo absolute (Claims.abs_lo target to kind inst full some here key_is role_is) =
+    absolute (kind_absolute r.kind (inr kind))
 
 pub claims_begin : (elf : Elf) (records : List Record) (claims : List Claim) → claims ≡ [] → AreClaimsOf elf (take 0 records) claims
 claims_begin elf records claims none = record {
@@ -48,22 +51,34 @@ claim_is elf r a c is = record { source = r; is_claim = subst (λ (n : ℕ). IsC
 
 listed_is : {A : Type 0} (Is : A → Type 0) (o : Option A) (x : A) → IfSome o Is → Contains (option_to_list o) x → Is x
 listed_is Is None x is (k, within, there) = absurd (omega arith)
-listed_is {A} Is (Some y) x is (k, within, there) = let first : k ≡ 0 = omega arith in subst Is (subst (λ (n : ℕ). slice_index_or (y ∷ []) n x ≡ x) first there) is
+listed_is {A} Is (Some y) x is (k, within, there) =
+    let first : k ≡ 0 = omega arith in subst Is (subst (λ (n : ℕ). slice_index_or (y ∷ []) n x ≡ x) first there) is
 
-found : (elf : Elf) (r : Relocation) (a key : ℕ) (o : Option Claim) → IfSome o (IsClaimOf elf r a) → IsSomeAnd o (λ c. c.key ≡ key) → (c : Claim) × Contains (option_to_list o) c × (c.at ≡ a) × (c.kind ≡ r.kind) × (c.key ≡ key)
+found : (elf : Elf) (r : Relocation) (a key : ℕ) (o : Option Claim) → IfSome o (IsClaimOf elf r a) → IsSomeAnd o (λ c. c.key ≡ key) →
+    (c : Claim) × Contains (option_to_list o) c × (c.at ≡ a) × (c.kind ≡ r.kind) × (c.key ≡ key)
 found elf r a key None is some = absurd some
 found elf r a key (Some c) is some = (c, (0, omega arith, refl), is.at_is, is.kind_is, some)
 
-pub claims_next : (elf : Elf) (records : List Record) (i : ℕ) (x : Record) (claims next now : List Claim) (one two : Option Claim) → i < length records → x ≡ slice_index_or records i x → next ≡ claims ++ option_to_list one → now ≡ next ++ option_to_list two → IfSome one (IsClaimOf elf (seen x) x.place) → ((key : ℕ) (role : Role) → Claims elf (seen x) x.place key role → IsSomeAnd one (λ c. c.key ≡ key)) → IfSome two (IsClaimOf elf (seen x) (x.place + 4)) → ((key : ℕ) (role : Role) → Claims elf (seen x) (x.place + 4) key role → IsSomeAnd two (λ c. c.key ≡ key)) → AreClaimsOf elf (take i records) claims → AreClaimsOf elf (take (i + 1) records) now
+pub claims_next : (elf : Elf) (records : List Record) (i : ℕ) (x : Record) (claims next now : List Claim) (one two : Option Claim) →
+    i < length records → x ≡ slice_index_or records i x → next ≡ claims ++ option_to_list one → now ≡ next ++ option_to_list two →
+    IfSome one (IsClaimOf elf (seen x) x.place) →
+    ((key : ℕ) (role : Role) → Claims elf (seen x) x.place key role → IsSomeAnd one (λ c. c.key ≡ key)) →
+    IfSome two (IsClaimOf elf (seen x) (x.place + 4)) →
+    ((key : ℕ) (role : Role) → Claims elf (seen x) (x.place + 4) key role → IsSomeAnd two (λ c. c.key ≡ key)) →
+    AreClaimsOf elf (take i records) claims → AreClaimsOf elf (take (i + 1) records) now
 claims_next elf records i x claims next now one two within at pushed pushed' is each is' each' before =
-    let taken : take (i + 1) records ≡ take i records ++ x ∷ [] = take_more records i x within ∙ ap (λ (r : Record). take i records ++ r ∷ []) (sym at) in
+    let taken : take (i + 1) records ≡ take i records ++ x ∷ [] = take_more records i x within
+    ∙ ap (λ (r : Record). take i records ++ r ∷ []) (sym at) in
     subst (λ (rs : List Record). AreClaimsOf elf rs now) (sym taken) (record {
       sound = λ c listed. ⊎_elim
-          (λ early. ⊎_elim (before.sound c) (λ here. claim_is elf (seen x) x.place c (listed_is (IsClaimOf elf (seen x) x.place) one c is here)) (Contains-append_cases claims (option_to_list one) c (subst (λ (cs : List Claim). Contains cs c) pushed early)))
+          (λ early. ⊎_elim (before.sound c)
+          (λ here. claim_is elf (seen x) x.place c (listed_is (IsClaimOf elf (seen x) x.place) one c is here))
+          (Contains-append_cases claims (option_to_list one) c (subst (λ (cs : List Claim). Contains cs c) pushed early)))
           (λ here. claim_is elf (seen x) (x.place + 4) c (listed_is (IsClaimOf elf (seen x) (x.place + 4)) two c is' here))
           (Contains-append_cases next (option_to_list two) c (subst (λ (cs : List Claim). Contains cs c) pushed' listed));
       cover = λ r listed a key role claimed. ⊎_elim
-          (λ early. let (c, in_claims, c_at, c_kind, c_key) = before.cover r early a key role claimed in (c, keep c (enter c (Contains-append_left claims (option_to_list one) c in_claims)), c_at, c_kind, c_key))
+          (λ early. let (c, in_claims, c_at, c_kind, c_key) = before.cover r early a key role claimed in
+          (c, keep c (enter c (Contains-append_left claims (option_to_list one) c in_claims)), c_at, c_kind, c_key))
           (λ (same : x ≡ r). covered r same a key role claimed)
           (Contains-push_cases (take i records) x r listed);
     })
@@ -74,32 +89,51 @@ claims_next elf records i x claims next now one two within at pushed pushed' is 
     keep : (c : Claim) → Contains next c → Contains now c
     keep c is_in = subst (λ (cs : List Claim). Contains cs c) (sym pushed') (Contains-append_left next (option_to_list two) c is_in)
 
-    here_at : (a key : ℕ) (role : Role) → Claims elf (seen x) a key role → (c : Claim) × Contains now c × (c.at ≡ a) × (c.kind ≡ x.kind) × (c.key ≡ key)
+    here_at : (a key : ℕ) (role : Role) → Claims elf (seen x) a key role → (c : Claim) × Contains now c × (c.at ≡ a) × (c.kind ≡ x.kind)
+        × (c.key ≡ key)
     here_at a key role claimed = ⊎_elim
         (λ (there : a ≡ x.place).
-        let (c, is_in, c_at, c_kind, c_key) = found elf (seen x) x.place key one is (each key role (subst (λ (n : ℕ). Claims elf (seen x) n key role) there claimed)) in
+        let (c, is_in, c_at, c_kind, c_key) =
+        found elf (seen x) x.place key one is (each key role (subst (λ (n : ℕ). Claims elf (seen x) n key role) there claimed)) in
         (c, keep c (enter c (Contains-append_right claims (option_to_list one) c is_in)), c_at ∙ sym there, c_kind, c_key))
         (λ (there : a ≡ x.place + 4).
-        let (c, is_in, c_at, c_kind, c_key) = found elf (seen x) (x.place + 4) key two is' (each' key role (subst (λ (n : ℕ). Claims elf (seen x) n key role) there claimed)) in
-        (c, subst (λ (cs : List Claim). Contains cs c) (sym pushed') (Contains-append_right next (option_to_list two) c is_in), c_at ∙ sym there, c_kind, c_key))
+        let (c, is_in, c_at, c_kind, c_key) =
+        found elf (seen x) (x.place + 4) key two is'
+        (each' key role (subst (λ (n : ℕ). Claims elf (seen x) n key role) there claimed)) in (
+          c,
+          subst (λ (cs : List Claim). Contains cs c) (sym pushed') (Contains-append_right next (option_to_list two) c is_in),
+          c_at
+              ∙ sym there,
+          c_kind,
+          c_key,
+        ))
         (claims_where elf (seen x) a key role claimed)
 
-    covered : (r : Record) → x ≡ r → (a key : ℕ) (role : Role) → Claims elf (seen r) a key role → (c : Claim) × Contains now c × (c.at ≡ a) × (c.kind ≡ r.kind) × (c.key ≡ key)
+    covered : (r : Record) → x ≡ r → (a key : ℕ) (role : Role) → Claims elf (seen r) a key role → (c : Claim) × Contains now c
+        × (c.at ≡ a) × (c.kind ≡ r.kind) × (c.key ≡ key)
     covered r same a key role claimed =
         subst (λ (q : Record). (c : Claim) × Contains now c × (c.at ≡ a) × (c.kind ≡ q.kind) × (c.key ≡ key)) same
         (here_at a key role (subst (λ (q : Record). Claims elf (seen q) a key role) (sym same) claimed))
 
-pub claims_all : (elf : Elf) (records : List Record) (i : ℕ) (claims : List Claim) → length records ≤ i → AreClaimsOf elf (take i records) claims → AreClaimsOf elf records claims
+pub claims_all : (elf : Elf) (records : List Record) (i : ℕ) (claims : List Claim) → length records ≤ i →
+    AreClaimsOf elf (take i records) claims → AreClaimsOf elf records claims
 claims_all elf records i claims all are = subst (λ (rs : List Record). AreClaimsOf elf rs claims) (take_all i records all) are
 
-pub AreClaims-sorted : (elf : Elf) (records : List Record) (were claims : List Claim) → AreRecords elf records → AreClaimsOf elf records were → IsPermutation were claims → AllPairs IsClaimUpTo claims → AreClaims elf claims
+pub AreClaims-sorted : (elf : Elf) (records : List Record) (were claims : List Claim) → AreRecords elf records →
+    AreClaimsOf elf records were → IsPermutation were claims → AllPairs IsClaimUpTo claims → AreClaims elf claims
 AreClaims-sorted elf records were claims are of moved ordered = record {
   ordered = ordered;
   sound = λ c listed. of.sound c (Contains-permutation claims were c (IsPermutation-sym were claims moved) listed);
   cover = λ r a key role claimed.
       let (q, listed, same) = kept elf records r are (counted r a key role claimed) in
-      let (c, is_in, c_at, c_kind, c_key) = of.cover q listed a key role (subst (λ (s : Relocation). Claims elf s a key role) (sym same) claimed) in
-      (c, Contains-permutation were claims c moved is_in, c_at, inr (c_kind ∙ ap (λ (s : Relocation). s.kind) same, (let e = c_key in omega arith)));
+      let (c, is_in, c_at, c_kind, c_key) =
+      of.cover q listed a key role (subst (λ (s : Relocation). Claims elf s a key role) (sym same) claimed) in (
+        c,
+        Contains-permutation were claims c moved is_in,
+        c_at,
+        inr
+            (c_kind ∙ ap (λ (s : Relocation). s.kind) same, (let e = c_key in omega arith)),
+      );
 }
   where
     counted : (r : Relocation) (a key : ℕ) (role : Role) → Claims elf r a key role → Contains (relocations elf) r

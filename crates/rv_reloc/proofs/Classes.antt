@@ -82,17 +82,20 @@ none (Bits n) = refl
 none Uleb128 = refl
 
 by_plus : (plus minus : Option Width) (call upper : Bool) (w : Width) → same_width w plus ≡ class_by plus minus call upper == plus_class w
-by_plus (Some v) minus call upper w = same_code v w ∙ eqb_same (width_code v) (width_code w) (plus_class v) (plus_class w) (λ e. omega arith) (λ e. omega arith)
+by_plus (Some v) minus call upper w =
+    same_code v w ∙ eqb_same (width_code v) (width_code w) (plus_class v) (plus_class w) (λ e. omega arith) (λ e. omega arith)
 by_plus None (Some v) call upper w = none w ∙ sym (ne_eqb (minus_class v) (plus_class w) (λ e. omega arith))
 by_plus None None true upper w = none w ∙ sym (ne_eqb 0 (plus_class w) (λ e. omega arith))
 by_plus None None false true w = none w ∙ sym (ne_eqb 1 (plus_class w) (λ e. omega arith))
 by_plus None None false false w = none w ∙ sym (ne_eqb 2 (plus_class w) (λ e. omega arith))
 
-by_minus : (plus minus : Option Width) (call upper : Bool) (w : Width) → (plus ≡ None) ⊎ (minus ≡ None) → same_width w minus ≡ class_by plus minus call upper == minus_class w
+by_minus : (plus minus : Option Width) (call upper : Bool) (w : Width) → (plus ≡ None) ⊎ (minus ≡ None) →
+    same_width w minus ≡ class_by plus minus call upper == minus_class w
 by_minus (Some v) (Some u) call upper w (inl e) = absurd (cc)
 by_minus (Some v) (Some u) call upper w (inr e) = absurd (cc)
 by_minus (Some v) None call upper w one = none w ∙ sym (ne_eqb (plus_class v) (minus_class w) (λ e. omega arith))
-by_minus None (Some v) call upper w one = same_code v w ∙ eqb_same (width_code v) (width_code w) (minus_class v) (minus_class w) (λ e. omega arith) (λ e. omega arith)
+by_minus None (Some v) call upper w one =
+    same_code v w ∙ eqb_same (width_code v) (width_code w) (minus_class v) (minus_class w) (λ e. omega arith) (λ e. omega arith)
 by_minus None None true upper w one = none w ∙ sym (ne_eqb 0 (minus_class w) (λ e. omega arith))
 by_minus None None false true w one = none w ∙ sym (ne_eqb 1 (minus_class w) (λ e. omega arith))
 by_minus None None false false w one = none w ∙ sym (ne_eqb 2 (minus_class w) (λ e. omega arith))

@@ -16,7 +16,8 @@ whole (negsuc n) below = absurd (omega (arith, ints))
 same_address : (z : ℤ) (a b : ℕ) → z ≡ pos a → z ≡ pos b → a ≡ b
 same_address z a b e f = let g : pos a ≡ pos b = sym e ∙ f in cc
 
-pub code-found : (elf : Elf) (starts : List ℕ) (z y : ℤ) (a : ℕ) (r : Bool) → AreStarts elf starts → y ≡ z → pos 0 ≤ℤ y → a ≡ unsigned_abs y → IsTrue r ↔ Contains starts a → IsTrue r ↔ IsCodeLabel elf z
+pub code-found : (elf : Elf) (starts : List ℕ) (z y : ℤ) (a : ℕ) (r : Bool) → AreStarts elf starts → y ≡ z → pos 0 ≤ℤ y →
+    a ≡ unsigned_abs y → IsTrue r ↔ Contains starts a → IsTrue r ↔ IsCodeLabel elf z
 code-found elf starts z y a r are same not_below is test =
     let here : z ≡ pos a = sym same ∙ whole y not_below ∙ ap pos (sym is) in (
       λ yes_is. (a, here, are.only a (test.0 yes_is)),
@@ -24,7 +25,8 @@ code-found elf starts z y a r are same not_below is test =
     )
 
 -- a number that isn't one of 64 bits is no code address
-pub code-missing : (elf : Elf) (starts : List ℕ) (z y : ℤ) → AreStarts elf starts → y ≡ z → ((i : ℕ) → Fits w64 (slice_index_or starts i 0)) → (FitsUnsigned w64 y → ⊥) → IsTrue false ↔ IsCodeLabel elf z
+pub code-missing : (elf : Elf) (starts : List ℕ) (z y : ℤ) → AreStarts elf starts → y ≡ z →
+    ((i : ℕ) → Fits w64 (slice_index_or starts i 0)) → (FitsUnsigned w64 y → ⊥) → IsTrue false ↔ IsCodeLabel elf z
 code-missing elf starts z y are same fits none = (
   λ wrong. let e : false ≡ true = wrong in absurd (cc),
   λ (a, there, is_start).

@@ -43,7 +43,8 @@ pub is_cut : (elf : Elf) (cuts : List ℕ) (k : ℕ) → AreCuts elf cuts → k 
 is_cut elf cuts k are within = (are.exact (slice_index cuts k)).0 (k, within, get_or_default cuts k (slice_index cuts k) 0 within)
 
 -- neighbours bound a part
-pub part_at : (elf : Elf) (cuts : List ℕ) (k : ℕ) → AreCuts elf cuts → k + 1 < length cuts → IsInCode elf (slice_index cuts k) → IsPart elf (slice_index cuts k) (slice_index cuts (k + 1))
+pub part_at : (elf : Elf) (cuts : List ℕ) (k : ℕ) → AreCuts elf cuts → k + 1 < length cuts → IsInCode elf (slice_index cuts k) →
+    IsPart elf (slice_index cuts k) (slice_index cuts (k + 1))
 part_at elf cuts k are within in_code = record {
   starts = is_cut elf cuts k are (omega arith);
   ends = is_cut elf cuts (k + 1) are within;
@@ -57,7 +58,8 @@ part_at elf cuts k are within in_code = record {
 }
 
 -- a part's bounds are neighbours
-pub part_from : (elf : Elf) (cuts : List ℕ) (start end : ℕ) → AreCuts elf cuts → IsPart elf start end → (k : ℕ) × (k + 1 < length cuts) × (slice_index cuts k ≡ start) × (slice_index cuts (k + 1) ≡ end)
+pub part_from : (elf : Elf) (cuts : List ℕ) (start end : ℕ) → AreCuts elf cuts → IsPart elf start end → (k : ℕ) × (k + 1 < length cuts)
+    × (slice_index cuts k ≡ start) × (slice_index cuts (k + 1) ≡ end)
 part_from elf cuts start end are part =
     let (j, at_j, starts) = cut_at elf cuts start are part.starts in
     let (k, at_k, ends) = cut_at elf cuts end are part.ends in
@@ -82,7 +84,8 @@ parts_begin elf cuts are = record {
   each = λ p is.
       let (k, within, starts, ends) = part_from elf cuts p.start p.end are is.0.part in
       let below = is.1 in
-      let up = ⊎_elim (λ (e : 0 < k + 1). rises cuts 0 (k + 1) are.ascending e within) (λ (e : k + 1 ≤ 0). absurd (omega arith)) (cases_lt 0 (k + 1)) in
+      let up = ⊎_elim (λ (e : 0 < k + 1). rises cuts 0 (k + 1) are.ascending e within) (λ (e : k + 1 ≤ 0). absurd (omega arith))
+      (cases_lt 0 (k + 1)) in
       absurd (omega arith);
   ordered = λ i j d less within. absurd (omega arith);
 }
@@ -97,7 +100,9 @@ part_kept elf start end code = record {
 }
 
 -- a part up to the next cut is one up to this cut, or goes to the next one
-part_cases : (elf : Elf) (cuts : List ℕ) (k : ℕ) (p : Part) → AreCuts elf cuts → k + 1 < length cuts → IsPartUpTo elf (slice_index cuts (k + 1)) p → IsPartUpTo elf (slice_index cuts k) p ⊎ ((p.start ≡ slice_index cuts k) × (p.end ≡ slice_index cuts (k + 1)))
+part_cases : (elf : Elf) (cuts : List ℕ) (k : ℕ) (p : Part) → AreCuts elf cuts → k + 1 < length cuts →
+    IsPartUpTo elf (slice_index cuts (k + 1)) p → IsPartUpTo elf (slice_index cuts k) p
+    ⊎ ((p.start ≡ slice_index cuts k) × (p.end ≡ slice_index cuts (k + 1)))
 part_cases elf cuts k p are within is =
     let (j, inside, starts, ends) = part_from elf cuts p.start p.end are is.0.part in
     let high = is.1 in
@@ -110,7 +115,8 @@ part_cases elf cuts k p are within is =
     (λ (more : k ≤ j).
     ⊎_elim
     (λ (above : k < j). let r = rises cuts (k + 1) (j + 1) are.ascending (omega arith) inside in absurd (omega arith))
-    (λ (not_above : j ≤ k). let e : k ≡ j = omega arith in inr (sym (ap (slice_index cuts) e ∙ starts), sym (ap (λ (n : ℕ). slice_index cuts (n + 1)) e ∙ ends)))
+    (λ (not_above : j ≤ k). let e : k ≡ j = omega arith in
+    inr (sym (ap (slice_index cuts) e ∙ starts), sym (ap (λ (n : ℕ). slice_index cuts (n + 1)) e ∙ ends)))
     (cases_lt k j))
     (cases_lt j k)
 
@@ -118,7 +124,10 @@ up_to : (elf : Elf) (low high : ℕ) (p : Part) → low ≤ high → IsPartUpTo 
 up_to elf low high p above is = let below = is.1 in (is.0, omega arith)
 
 -- a stretch with code
-pub parts_keeps : (elf : Elf) (cuts : List ℕ) (parts now : List Part) (k : ℕ) → AreCuts elf cuts → k + 1 < length cuts → HoldsCode elf (slice_index cuts k) (slice_index cuts (k + 1)) → now ≡ parts ++ record { start = slice_index cuts k; end = slice_index cuts (k + 1) } ∷ [] → ListsAll (IsPartUpTo elf (slice_index cuts k)) Follows parts → ListsAll (IsPartUpTo elf (slice_index cuts (k + 1))) Follows now
+pub parts_keeps : (elf : Elf) (cuts : List ℕ) (parts now : List Part) (k : ℕ) → AreCuts elf cuts → k + 1 < length cuts →
+    HoldsCode elf (slice_index cuts k) (slice_index cuts (k + 1)) → now ≡ parts
+    ++ record { start = slice_index cuts k; end = slice_index cuts (k + 1) } ∷ [] →
+    ListsAll (IsPartUpTo elf (slice_index cuts k)) Follows parts → ListsAll (IsPartUpTo elf (slice_index cuts (k + 1))) Follows now
 parts_keeps elf cuts parts now k are within kept pushed listed =
     subst (ListsAll (IsPartUpTo elf (slice_index cuts (k + 1))) Follows) (sym pushed) (record {
       only = λ p is_in. ⊎_elim
@@ -127,9 +136,12 @@ parts_keeps elf cuts parts now k are within kept pushed listed =
           (Contains-push_cases parts x p is_in);
       each = λ p is. ⊎_elim
           (λ before. Contains-append_left parts (x ∷ []) p (listed.each p before))
-          (λ (starts, ends). subst (Contains (parts ++ x ∷ [])) (λ i. record { start = sym starts i; end = sym ends i }) (Contains-push parts x))
+          (λ (starts, ends). subst (Contains (parts ++ x ∷ [])) (λ i. record { start = sym starts i; end = sym ends i })
+          (Contains-push parts x))
           (part_cases elf cuts k p are within is);
-      ordered = all_pairs_push Follows parts x listed.ordered (λ j d inside. (listed.only (slice_index_or parts j d) (j, inside, get_or_default parts j (slice_index_or parts j d) d inside)).1);
+      ordered = all_pairs_push Follows parts x listed.ordered
+          (λ j d inside.
+          (listed.only (slice_index_or parts j d) (j, inside, get_or_default parts j (slice_index_or parts j d) d inside)).1);
     })
   where
     x : Part
@@ -142,12 +154,16 @@ parts_keeps elf cuts parts now k are within kept pushed listed =
     low = let r = rises cuts k (k + 1) are.ascending (omega arith) within in omega arith
 
 -- a stretch without
-pub parts_drops : (elf : Elf) (cuts : List ℕ) (parts : List Part) (k : ℕ) → AreCuts elf cuts → k + 1 < length cuts → (HoldsCode elf (slice_index cuts k) (slice_index cuts (k + 1)) → ⊥) → ListsAll (IsPartUpTo elf (slice_index cuts k)) Follows parts → ListsAll (IsPartUpTo elf (slice_index cuts (k + 1))) Follows parts
+pub parts_drops : (elf : Elf) (cuts : List ℕ) (parts : List Part) (k : ℕ) → AreCuts elf cuts → k + 1 < length cuts →
+    (HoldsCode elf (slice_index cuts k) (slice_index cuts (k + 1)) → ⊥) → ListsAll (IsPartUpTo elf (slice_index cuts k)) Follows parts →
+    ListsAll (IsPartUpTo elf (slice_index cuts (k + 1))) Follows parts
 parts_drops elf cuts parts k are within dropped listed = record {
   only = λ p is_in. up_to elf _ _ p low (listed.only p is_in);
   each = λ p is. ⊎_elim
       (λ before. listed.each p before)
-      (λ (starts, ends). absurd (dropped (subst (λ (s : ℕ). HoldsCode elf s (slice_index cuts (k + 1))) starts (subst (HoldsCode elf p.start) ends (part_kept elf p.start p.end is.0)))))
+      (λ (starts, ends). absurd
+      (dropped (subst (λ (s : ℕ). HoldsCode elf s (slice_index cuts (k + 1))) starts
+      (subst (HoldsCode elf p.start) ends (part_kept elf p.start p.end is.0)))))
       (part_cases elf cuts k p are within is);
   ordered = listed.ordered;
 }
@@ -156,7 +172,8 @@ parts_drops elf cuts parts k are within dropped listed = record {
     low = let r = rises cuts k (k + 1) are.ascending (omega arith) within in omega arith
 
 -- the end of the last part is a cut
-pub parts_all : (elf : Elf) (cuts : List ℕ) (parts : List Part) (k : ℕ) → AreCuts elf cuts → length cuts ≤ k + 1 → ListsAll (IsPartUpTo elf (slice_index cuts k)) Follows parts → k < length cuts → AreCodeParts elf parts
+pub parts_all : (elf : Elf) (cuts : List ℕ) (parts : List Part) (k : ℕ) → AreCuts elf cuts → length cuts ≤ k + 1 →
+    ListsAll (IsPartUpTo elf (slice_index cuts k)) Follows parts → k < length cuts → AreCodeParts elf parts
 parts_all elf cuts parts k are all listed within = record {
   only = λ p is_in. (listed.only p is_in).0;
   each = λ p is.
@@ -169,7 +186,8 @@ parts_all elf cuts parts k are all listed within = record {
 }
 
 -- no part without cuts
-pub parts_none : (elf : Elf) (cuts : List ℕ) (parts : List Part) (bound : ℕ) → AreCuts elf cuts → length cuts ≡ 0 → ListsAll (IsPartUpTo elf bound) Follows parts → AreCodeParts elf parts
+pub parts_none : (elf : Elf) (cuts : List ℕ) (parts : List Part) (bound : ℕ) → AreCuts elf cuts → length cuts ≡ 0 →
+    ListsAll (IsPartUpTo elf bound) Follows parts → AreCodeParts elf parts
 parts_none elf cuts parts bound are none listed = record {
   only = λ p is_in. (listed.only p is_in).0;
   each = λ p is. let (j, inside, starts, ends) = part_from elf cuts p.start p.end are is.part in absurd (omega arith);
@@ -177,30 +195,45 @@ parts_none elf cuts parts bound are none listed = record {
 }
 
 -- what is kept
-pub kept_if : (elf : Elf) (start end : ℕ) (covered zeros : Bool) → IsInCode elf start → IsTrue covered ↔ IsCovered elf start end → IsTrue zeros ↔ AreZeros elf start end → IsTrue (covered || not zeros) ↔ HoldsCode elf start end
-kept_if elf start end true zeros in_code cover blank = (λ _. record { in_code = in_code; no_padding = λ padding. padding.0 (cover.0 refl) }, λ _. refl)
-kept_if elf start end false true in_code cover blank = (λ no. let e : false ≡ true = no in absurd (cc), λ kept. absurd (kept.no_padding (λ is. let e : false ≡ true = cover.1 is in cc, blank.0 refl)))
-kept_if elf start end false false in_code cover blank = (λ _. record { in_code = in_code; no_padding = λ padding. let e : false ≡ true = blank.1 padding.1 in cc }, λ _. refl)
+pub kept_if : (elf : Elf) (start end : ℕ) (covered zeros : Bool) → IsInCode elf start → IsTrue covered ↔ IsCovered elf start end →
+    IsTrue zeros ↔ AreZeros elf start end → IsTrue (covered || not zeros) ↔ HoldsCode elf start end
+kept_if elf start end true zeros in_code cover blank =
+    (λ _. record { in_code = in_code; no_padding = λ padding. padding.0 (cover.0 refl) }, λ _. refl)
+kept_if elf start end false true in_code cover blank = (
+  λ no. let e : false ≡ true = no in
+      absurd (cc),
+  λ kept. absurd (kept.no_padding (λ is. let e : false ≡ true = cover.1 is in cc, blank.0 refl)),
+)
+kept_if elf start end false false in_code cover blank =
+    (λ _. record { in_code = in_code; no_padding = λ padding. let e : false ≡ true = blank.1 padding.1 in cc }, λ _. refl)
 
 -- The same of what a loop reads at an index.
 
 read_at : (cuts : List ℕ) (k a : ℕ) → k < length cuts → a ≡ slice_index_or cuts k a → a ≡ slice_index cuts k
 read_at cuts k a within is = is ∙ get_or_default cuts k a 0 within
 
-pub parts_push : (elf : Elf) (cuts : List ℕ) (parts now : List Part) (k start end : ℕ) → AreCuts elf cuts → k < length cuts - 1 → start ≡ slice_index_or cuts k start → end ≡ slice_index_or cuts (k + 1) end → HoldsCode elf start end → now ≡ parts ++ record { start = start; end = end } ∷ [] → ListsAll (IsPartUpTo elf (slice_index cuts k)) Follows parts → ListsAll (IsPartUpTo elf (slice_index cuts (k + 1))) Follows now
+pub parts_push : (elf : Elf) (cuts : List ℕ) (parts now : List Part) (k start end : ℕ) → AreCuts elf cuts → k < length cuts - 1 →
+    start ≡ slice_index_or cuts k start → end ≡ slice_index_or cuts (k + 1) end → HoldsCode elf start end → now ≡ parts
+    ++ record { start = start; end = end } ∷ [] → ListsAll (IsPartUpTo elf (slice_index cuts k)) Follows parts →
+    ListsAll (IsPartUpTo elf (slice_index cuts (k + 1))) Follows now
 parts_push elf cuts parts now k start end are within starts ends kept pushed listed =
     let s = read_at cuts k start (omega arith) starts in
     let e = read_at cuts (k + 1) end (omega arith) ends in
-    parts_keeps elf cuts parts now k are (omega arith) (subst (λ (a : ℕ). HoldsCode elf a (slice_index cuts (k + 1))) s (subst (HoldsCode elf start) e kept))
+    parts_keeps elf cuts parts now k are (omega arith)
+    (subst (λ (a : ℕ). HoldsCode elf a (slice_index cuts (k + 1))) s (subst (HoldsCode elf start) e kept))
     (pushed ∙ (λ i. parts ++ record { start = s i; end = e i } ∷ [])) listed
 
-pub parts_skip : (elf : Elf) (cuts : List ℕ) (parts : List Part) (k start end : ℕ) → AreCuts elf cuts → k < length cuts - 1 → start ≡ slice_index_or cuts k start → end ≡ slice_index_or cuts (k + 1) end → (HoldsCode elf start end → ⊥) → ListsAll (IsPartUpTo elf (slice_index cuts k)) Follows parts → ListsAll (IsPartUpTo elf (slice_index cuts (k + 1))) Follows parts
+pub parts_skip : (elf : Elf) (cuts : List ℕ) (parts : List Part) (k start end : ℕ) → AreCuts elf cuts → k < length cuts - 1 →
+    start ≡ slice_index_or cuts k start → end ≡ slice_index_or cuts (k + 1) end → (HoldsCode elf start end → ⊥) →
+    ListsAll (IsPartUpTo elf (slice_index cuts k)) Follows parts → ListsAll (IsPartUpTo elf (slice_index cuts (k + 1))) Follows parts
 parts_skip elf cuts parts k start end are within starts ends dropped listed =
     let s = read_at cuts k start (omega arith) starts in
     let e = read_at cuts (k + 1) end (omega arith) ends in
-    parts_drops elf cuts parts k are (omega arith) (λ kept. dropped (subst (λ (a : ℕ). HoldsCode elf a end) (sym s) (subst (HoldsCode elf (slice_index cuts k)) (sym e) kept))) listed
+    parts_drops elf cuts parts k are (omega arith)
+    (λ kept. dropped (subst (λ (a : ℕ). HoldsCode elf a end) (sym s) (subst (HoldsCode elf (slice_index cuts k)) (sym e) kept))) listed
 
-pub parts_end : (elf : Elf) (cuts : List ℕ) (parts : List Part) (k : ℕ) → AreCuts elf cuts → k ≡ length cuts - 1 → ListsAll (IsPartUpTo elf (slice_index cuts k)) Follows parts → AreCodeParts elf parts
+pub parts_end : (elf : Elf) (cuts : List ℕ) (parts : List Part) (k : ℕ) → AreCuts elf cuts → k ≡ length cuts - 1 →
+    ListsAll (IsPartUpTo elf (slice_index cuts k)) Follows parts → AreCodeParts elf parts
 parts_end elf cuts parts k are all listed =
     ⊎_elim
     (λ (some : 0 < length cuts). parts_all elf cuts parts k are (omega arith) listed (omega arith))
@@ -208,7 +241,8 @@ parts_end elf cuts parts k are all listed =
     (cases_lt 0 (length cuts))
 
 -- neighbours rise
-pub read_rises : (elf : Elf) (cuts : List ℕ) (k start end : ℕ) → AreCuts elf cuts → k < length cuts - 1 → start ≡ slice_index_or cuts k start → end ≡ slice_index_or cuts (k + 1) end → start < end
+pub read_rises : (elf : Elf) (cuts : List ℕ) (k start end : ℕ) → AreCuts elf cuts → k < length cuts - 1 →
+    start ≡ slice_index_or cuts k start → end ≡ slice_index_or cuts (k + 1) end → start < end
 read_rises elf cuts k start end are within starts ends =
     let s = read_at cuts k start (omega arith) starts in
     let e = read_at cuts (k + 1) end (omega arith) ends in

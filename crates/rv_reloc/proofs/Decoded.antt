@@ -6,7 +6,8 @@ use Rattle.elf_image.specs.declared.elf.Elf.{Elf}
 use Rattle.elf_image.specs.code.Parts.{IsInstAt}
 
 -- a form of two bytes doesn't look at the next halfword
-pub Decodes-two : (half : ℕ) (next next' : Option ℕ) (inst : Inst) (bytes : ℕ) → bytes ≢ 4 → Decodes half next inst bytes → Decodes half next' inst bytes
+pub Decodes-two : (half : ℕ) (next next' : Option ℕ) (inst : Inst) (bytes : ℕ) → bytes ≢ 4 → Decodes half next inst bytes →
+    Decodes half next' inst bytes
 Decodes-two half next next' inst bytes short =
     ⊎_elim (λ (two : DecodesHalf half inst bytes). inl two) (λ (full : DecodesFull half next inst bytes). absurd (short full.four_bytes))
 
@@ -14,7 +15,8 @@ pub Decodes-none_four : (half : ℕ) (inst : Inst) (bytes : ℕ) → Decodes hal
 Decodes-none_four half inst bytes =
     ⊎_elim (λ (two : DecodesHalf half inst bytes). two.two_bytes) (λ (full : DecodesFull half None inst bytes). absurd full.row)
 
-pub Decodes-same : (h h' n n' : ℕ) (inst : Inst) (bytes : ℕ) → h ≡ h' → n ≡ n' → Decodes h' (Some n') inst bytes → Decodes h (Some n) inst bytes
+pub Decodes-same : (h h' n n' : ℕ) (inst : Inst) (bytes : ℕ) → h ≡ h' → n ≡ n' → Decodes h' (Some n') inst bytes →
+    Decodes h (Some n) inst bytes
 Decodes-same h h' n n' inst bytes same next is =
     subst (λ (x : ℕ). Decodes x (Some n) inst bytes) (sym same) (subst (λ (x : ℕ). Decodes h' (Some x) inst bytes) (sym next) is)
 
@@ -24,6 +26,9 @@ IsInstAt-bytes elf a inst bytes =
     ⊎_elim (λ (two : DecodesHalf _ inst bytes). inl two.two_bytes) (λ (full : DecodesFull _ _ inst bytes). inr full.four_bytes)
 
 -- a decoder's answer
-pub decoded : (half : ℕ) (next : Option ℕ) (o : Option (Inst × ℕ)) → IfSome o (λ r. (i : Inst) (bytes : ℕ) → Decodes half next i bytes → (i ≡ r.0) × (bytes ≡ r.1)) → IfNone o ((i : Inst) (bytes : ℕ) → Decodes half next i bytes → ⊥) → (inst : Inst) (bytes : ℕ) → Decodes half next inst bytes → o ≡ Some (inst, bytes)
+pub decoded : (half : ℕ) (next : Option ℕ) (o : Option (Inst × ℕ)) →
+    IfSome o (λ r. (i : Inst) (bytes : ℕ) → Decodes half next i bytes → (i ≡ r.0) × (bytes ≡ r.1)) →
+    IfNone o ((i : Inst) (bytes : ℕ) → Decodes half next i bytes → ⊥) → (inst : Inst) (bytes : ℕ) → Decodes half next inst bytes →
+    o ≡ Some (inst, bytes)
 decoded half next None only none inst bytes is = absurd (none inst bytes is)
 decoded half next (Some r) only none inst bytes is = let (same, long) = only inst bytes is in λ i. Some (sym same i, sym long i)

@@ -20,7 +20,9 @@ use Rattle.rv_reloc.specs.Labels.{width_of}
 
 same-width-is : (w : Width) (o : Option Width) → same_width w o ≡ true → o ≡ Some w
 same-width-is (Bits n) None is = absurd (cc)
-same-width-is (Bits n) (Some (Bits m)) is = ⊎_elim (λ (e : n ≡ m). ap (λ (k : ℕ). Some (Bits k)) (sym e)) (λ (e : n ≢ m). let f : false ≡ true = sym (ne_eqb n m e) ∙ is in absurd (cc)) (cases_eq n m)
+same-width-is (Bits n) (Some (Bits m)) is =
+    ⊎_elim (λ (e : n ≡ m). ap (λ (k : ℕ). Some (Bits k)) (sym e))
+    (λ (e : n ≢ m). let f : false ≡ true = sym (ne_eqb n m e) ∙ is in absurd (cc)) (cases_eq n m)
 same-width-is (Bits n) (Some Uleb128) is = absurd (cc)
 same-width-is Uleb128 None is = absurd (cc)
 same-width-is Uleb128 (Some (Bits m)) is = absurd (cc)
@@ -39,7 +41,8 @@ second_of true b both = both
 second_of false b both = absurd (cc)
 
 pub passes-plus : (r : Relocation) (w : Width) → plus_width r.kind ≡ Some w → is_plus r.place w r ≡ true
-passes-plus r w is = is_both (r.place == r.place) (same_width w (plus_width r.kind)) (eq-eqb r.place r.place refl) (ap (same_width w) is ∙ is-same-width w)
+passes-plus r w is =
+    is_both (r.place == r.place) (same_width w (plus_width r.kind)) (eq-eqb r.place r.place refl) (ap (same_width w) is ∙ is-same-width w)
 
 pub plus-passed : (place : ℕ) (r : Relocation) (w : Width) → is_plus place w r ≡ true → plus_width r.kind ≡ Some w
 plus-passed place r w is = same-width-is w (plus_width r.kind) (second_of (r.place == place) (same_width w (plus_width r.kind)) is)
@@ -49,7 +52,8 @@ pc_no_plus kind is = ⊎_elim
     (λ (e : kind ≡ R_RISCV_32_PCREL). ap plus_width e)
     (λ (other : kind ≢ R_RISCV_32_PCREL). ⊎_elim
     (λ (e : kind ≡ R_RISCV_PLT32). ap plus_width e)
-    (λ (other' : kind ≢ R_RISCV_PLT32). let f : false ≡ true = rw (ne_eqb kind R_RISCV_32_PCREL other, ne_eqb kind R_RISCV_PLT32 other') at is in absurd (cc))
+    (λ (other' : kind ≢ R_RISCV_PLT32). let f : false
+    ≡ true = rw (ne_eqb kind R_RISCV_32_PCREL other, ne_eqb kind R_RISCV_PLT32 other') at is in absurd (cc))
     (cases_eq kind R_RISCV_PLT32))
     (cases_eq kind R_RISCV_32_PCREL)
 
@@ -62,7 +66,8 @@ count_listed : {A : Type 0} (test : A → Bool) (xs : List A) (y : A) → Contai
 count_listed {A} test xs y (k, within, is) passes =
     count-some test xs k within (λ (d : A). ap test (get_or_default xs k d y within ∙ is) ∙ passes)
 
-both-only : {A : Type 0} (test : A → Bool) (xs : List A) (x y : A) → Contains xs x → test x ≡ true → Contains xs y → test y ≡ true → count_by test xs ≡ 1 → x ≡ y
+both-only : {A : Type 0} (test : A → Bool) (xs : List A) (x y : A) → Contains xs x → test x ≡ true → Contains xs y → test y ≡ true →
+    count_by test xs ≡ 1 → x ≡ y
 both-only test [] x y (k, within, is) tx has ty one = absurd (omega arith)
 both-only {A} test (z ∷ zs) x y has_x tx has_y ty one =
     let total = count-cons test z zs in
@@ -90,7 +95,9 @@ only-this test xs x y only listed passes = both-only test xs x y only.listed onl
 
 -- Differences.
 
-pub difference-made : (elf : Elf) (r plus minus : Relocation) (w : Width) → Contains (relocations elf) r → plus_width r.kind ≡ Some w → IsOnly (is_plus r.place w) (relocations elf) plus → IsOnly (is_minus r.place w) (relocations elf) minus → IsDifference elf r w (label elf r) (label elf minus)
+pub difference-made : (elf : Elf) (r plus minus : Relocation) (w : Width) → Contains (relocations elf) r → plus_width r.kind ≡ Some w →
+    IsOnly (is_plus r.place w) (relocations elf) plus → IsOnly (is_minus r.place w) (relocations elf) minus →
+    IsDifference elf r w (label elf r) (label elf minus)
 difference-made elf r plus minus w listed width only_plus only_minus =
     let same : plus ≡ r = only-this (is_plus r.place w) (relocations elf) plus r only_plus listed (passes-plus r w width) in
     of_labels (subst (IsOnly (is_plus r.place w) (relocations elf)) same only_plus) minus only_minus refl refl
@@ -107,7 +114,8 @@ pub record IsMade (elf : Elf) (r : Relocation) (w w' : Width) (to from : ℤ) : 
 some_once : (o : Option Width) (v w : Width) → o ≡ Some v → o ≡ Some w → v ≡ w
 some_once o v w e f = let g : Some v ≡ Some w = sym e ∙ f in cc
 
-pub made-by_labels : (elf : Elf) (r : Relocation) (w w' : Width) (to from : ℤ) → plus_width r.kind ≡ Some w → IsDifference elf r w' to from → IsMade elf r w w' to from
+pub made-by_labels : (elf : Elf) (r : Relocation) (w w' : Width) (to from : ℤ) → plus_width r.kind ≡ Some w →
+    IsDifference elf r w' to from → IsMade elf r w w' to from
 made-by_labels elf r w w' to from width (of_labels only minus only_minus to_is from_is) =
     let same : w' ≡ w = some_once (plus_width r.kind) w' w (plus-passed r.place r w' only.passes) width in
     record {
@@ -126,11 +134,14 @@ pub record IsByPlace (elf : Elf) (r : Relocation) (w : Width) (to from : ℤ) : 
   pub to_is : to ≡ label elf r
   pub from_is : from ≡ pos r.place
 
-pub by-place : (elf : Elf) (r : Relocation) (w : Width) (to from : ℤ) → is_pc_difference r.kind ≡ true → IsDifference elf r w to from → IsByPlace elf r w to from
-by-place elf r w to from pc (of_labels only minus only_minus to_is from_is) = absurd (pc_and_plus r.kind w pc (plus-passed r.place r w only.passes))
+pub by-place : (elf : Elf) (r : Relocation) (w : Width) (to from : ℤ) → is_pc_difference r.kind ≡ true → IsDifference elf r w to from →
+    IsByPlace elf r w to from
+by-place elf r w to from pc (of_labels only minus only_minus to_is from_is) =
+    absurd (pc_and_plus r.kind w pc (plus-passed r.place r w only.passes))
 by-place elf r w to from pc (of_place listed pc' width_is to_is from_is) = record { width_is = width_is; to_is = to_is; from_is = from_is }
 
-pub no-difference : (elf : Elf) (r : Relocation) (w : Width) (to from : ℤ) → is_pc_difference r.kind ≡ false → plus_width r.kind ≡ None → IsDifference elf r w to from → ⊥
+pub no-difference : (elf : Elf) (r : Relocation) (w : Width) (to from : ℤ) → is_pc_difference r.kind ≡ false → plus_width r.kind ≡ None →
+    IsDifference elf r w to from → ⊥
 no-difference elf r w to from pc none (of_labels only minus only_minus to_is from_is) =
     let e : None ≡ Some w = sym none ∙ plus-passed r.place r w only.passes in absurd (cc)
 no-difference elf r w to from pc none (of_place listed pc' width_is to_is from_is) = let e : false ≡ true = sym pc ∙ pc' in absurd (cc)
@@ -165,24 +176,41 @@ pub bad-cases : (elf : Elf) (r : Relocation) → IsBadDifference elf r → Holds
 bad-cases elf r (number w to from is other) = inl (record { width = w; to = to; from = from; is = is; other = other })
 bad-cases elf r (unpaired w width code alone) = inr (record { width = w; width_is = width; is_code = code; alone = alone })
 
-the_width : (w : Width) (to from : ℤ) (d : Difference) → IsTheDifference w to from d → (P : Width → ℤ → ℤ → Type 0) → P w to from → P (width_of d.width) d.to d.from
+the_width : (w : Width) (to from : ℤ) (d : Difference) → IsTheDifference w to from d → (P : Width → ℤ → ℤ → Type 0) → P w to from →
+    P (width_of d.width) d.to d.from
 the_width w to from d the P is =
-    subst (λ (v : Width). P v d.to d.from) (sym the.width_is) (subst (λ (y : ℤ). P w y d.from) (sym the.to_is) (subst (λ (z : ℤ). P w to z) (sym the.from_is) is))
+    subst (λ (v : Width). P v d.to d.from) (sym the.width_is)
+    (subst (λ (y : ℤ). P w y d.from) (sym the.to_is) (subst (λ (z : ℤ). P w to z) (sym the.from_is) is))
 
-pub other-found : (elf : Elf) (r : Relocation) (d : Difference) (b : Bool) → IsDifferenceOf elf r d → ((w : Width) (to from : ℤ) → IsDifference elf r w to from → IsTheDifference w to from d) → IsTrue b ↔ HoldsDifference elf r (width_of d.width) d.to d.from → IsTrue (not b) ↔ HoldsOther elf r
+pub other-found : (elf : Elf) (r : Relocation) (d : Difference) (b : Bool) → IsDifferenceOf elf r d →
+    ((w : Width) (to from : ℤ) → IsDifference elf r w to from → IsTheDifference w to from d) →
+    IsTrue b ↔ HoldsDifference elf r (width_of d.width) d.to d.from → IsTrue (not b) ↔ HoldsOther elf r
 other-found elf r d true is only test = (
   λ wrong. let e : false ≡ true = wrong in absurd (cc),
-  λ other. absurd (the_width other.width other.to other.from d (only other.width other.to other.from other.is) (λ w to from. HoldsDifference elf r w to from → ⊥) other.other (test.0 refl)),
+  λ other. absurd
+      (the_width other.width other.to other.from d (only other.width other.to other.from other.is)
+      (λ w to from. HoldsDifference elf r w to from → ⊥) other.other (test.0 refl)),
 )
 other-found elf r d false is only test = (
-  λ _. record { width = width_of d.width; to = d.to; from = d.from; is = is.is; other = λ holds. let e : false ≡ true = test.1 holds in absurd (cc) },
+  λ _. record {
+    width = width_of d.width;
+    to = d.to;
+    from = d.from;
+    is = is.is;
+    other = λ holds. let e : false ≡ true = test.1 holds in
+        absurd (cc);
+  },
   λ _. refl,
 )
 
-pub none-other : (elf : Elf) (r : Relocation) → ((w : Width) (to from : ℤ) → IsDifference elf r w to from → ⊥) → IsTrue false ↔ HoldsOther elf r
-none-other elf r none = (λ wrong. let e : false ≡ true = wrong in absurd (cc), λ other. absurd (none other.width other.to other.from other.is))
+pub none-other : (elf : Elf) (r : Relocation) → ((w : Width) (to from : ℤ) → IsDifference elf r w to from → ⊥) →
+    IsTrue false ↔ HoldsOther elf r
+none-other elf r none =
+    (λ wrong. let e : false ≡ true = wrong in absurd (cc), λ other. absurd (none other.width other.to other.from other.is))
 
-pub unpaired-found : (elf : Elf) (r : Relocation) (w : Width) (b : Bool) → (plus_width r.kind ≡ Some w) ⊎ (minus_width r.kind ≡ Some w) → ((v : Width) → (plus_width r.kind ≡ Some v) ⊎ (minus_width r.kind ≡ Some v) → w ≡ v) → IsCodeLabel elf (label elf r) → IsTrue b ↔ IsPaired elf r.place w → IsTrue (not b) ↔ IsUnpaired elf r
+pub unpaired-found : (elf : Elf) (r : Relocation) (w : Width) (b : Bool) → (plus_width r.kind ≡ Some w) ⊎ (minus_width r.kind ≡ Some w) →
+    ((v : Width) → (plus_width r.kind ≡ Some v) ⊎ (minus_width r.kind ≡ Some v) → w ≡ v) → IsCodeLabel elf (label elf r) →
+    IsTrue b ↔ IsPaired elf r.place w → IsTrue (not b) ↔ IsUnpaired elf r
 unpaired-found elf r w true width once code test = (
   λ wrong. let e : false ≡ true = wrong in absurd (cc),
   λ alone. absurd (alone.alone (subst (IsPaired elf r.place) (once alone.width alone.width_is) (test.0 refl))),
@@ -193,18 +221,26 @@ unpaired-found elf r w false width once code test = (
 )
 
 -- A difference of labels in one whole part is none that is narrow, and one that can be a cell isn't either.
-pub narrow-found : (elf : Elf) (tabled : List (ℕ × ℕ)) (r : Relocation) (d : Difference) (b : Bool) → IsDifferenceOf elf r d → ((w : Width) (to from : ℤ) → IsDifference elf r w to from → IsTheDifference w to from d) → IsTrue b ↔ (IsFalse (can_be_cell r) × HasCodeLabel elf d.to d.from × (IsInOneWhole elf tabled d.to d.from → ⊥)) → IsTrue b ↔ IsNarrow elf tabled r
+pub narrow-found : (elf : Elf) (tabled : List (ℕ × ℕ)) (r : Relocation) (d : Difference) (b : Bool) → IsDifferenceOf elf r d →
+    ((w : Width) (to from : ℤ) → IsDifference elf r w to from → IsTheDifference w to from d) →
+    IsTrue b ↔ (IsFalse (can_be_cell r) × HasCodeLabel elf d.to d.from × (IsInOneWhole elf tabled d.to d.from → ⊥)) →
+    IsTrue b ↔ IsNarrow elf tabled r
 narrow-found elf tabled r d b is only test = (
-  λ yes_is. let n = test.0 yes_is in record { width = width_of d.width; to = d.to; from = d.from; difference = is.is; no_cell = n.0; has_code = n.1; across = n.2 },
+  λ yes_is. let n = test.0 yes_is in
+      record { width = width_of d.width; to = d.to; from = d.from; difference = is.is; no_cell = n.0; has_code = n.1; across = n.2 },
   λ narrow. test.1 (
     narrow.no_cell,
-    the_width narrow.width narrow.to narrow.from d (only narrow.width narrow.to narrow.from narrow.difference) (λ w to from. HasCodeLabel elf to from) narrow.has_code,
-    the_width narrow.width narrow.to narrow.from d (only narrow.width narrow.to narrow.from narrow.difference) (λ w to from. IsInOneWhole elf tabled to from → ⊥) narrow.across,
+    the_width narrow.width narrow.to narrow.from d (only narrow.width narrow.to narrow.from narrow.difference)
+        (λ w to from. HasCodeLabel elf to from) narrow.has_code,
+    the_width narrow.width narrow.to narrow.from d (only narrow.width narrow.to narrow.from narrow.difference)
+        (λ w to from. IsInOneWhole elf tabled to from → ⊥) narrow.across,
   ),
 )
 
-pub none-narrow : (elf : Elf) (tabled : List (ℕ × ℕ)) (r : Relocation) → ((w : Width) (to from : ℤ) → IsDifference elf r w to from → ⊥) → IsTrue false ↔ IsNarrow elf tabled r
-none-narrow elf tabled r none = (λ wrong. let e : false ≡ true = wrong in absurd (cc), λ narrow. absurd (none narrow.width narrow.to narrow.from narrow.difference))
+pub none-narrow : (elf : Elf) (tabled : List (ℕ × ℕ)) (r : Relocation) → ((w : Width) (to from : ℤ) → IsDifference elf r w to from → ⊥) →
+    IsTrue false ↔ IsNarrow elf tabled r
+none-narrow elf tabled r none =
+    (λ wrong. let e : false ≡ true = wrong in absurd (cc), λ narrow. absurd (none narrow.width narrow.to narrow.from narrow.difference))
 
 -- The widths of cells.
 
@@ -220,14 +256,17 @@ added kind bits is width = ⊎_elim
     (λ (e : kind ≡ R_RISCV_ADD32). inl (bits_once kind bits 32 width (ap plus_width e)))
     (λ (other : kind ≢ R_RISCV_ADD32). ⊎_elim
     (λ (e : kind ≡ R_RISCV_ADD64). inr (bits_once kind bits 64 width (ap plus_width e)))
-    (λ (other' : kind ≢ R_RISCV_ADD64). let f : false ≡ true = rw (ne_eqb kind R_RISCV_ADD32 other, ne_eqb kind R_RISCV_ADD64 other') at is in absurd (cc))
+    (λ (other' : kind ≢ R_RISCV_ADD64). let f : false
+    ≡ true = rw (ne_eqb kind R_RISCV_ADD32 other, ne_eqb kind R_RISCV_ADD64 other') at is in absurd (cc))
     (cases_eq kind R_RISCV_ADD64))
     (cases_eq kind R_RISCV_ADD32)
 
-pub cell-bits : (elf : Elf) (r : Relocation) (bits : ℕ) (to from : ℤ) → IsDifference elf r (Bits bits) to from → can_be_cell r ≡ true → (bits ≡ 32) ⊎ (bits ≡ 64)
+pub cell-bits : (elf : Elf) (r : Relocation) (bits : ℕ) (to from : ℤ) → IsDifference elf r (Bits bits) to from → can_be_cell r ≡ true →
+    (bits ≡ 32) ⊎ (bits ≡ 64)
 cell-bits elf r bits to from (of_labels only minus only_minus to_is from_is) can =
     let width = plus-passed r.place r (Bits bits) only.passes in
-    ⊎_elim (λ add. added r.kind bits add width) (λ pc. absurd (pc_and_plus r.kind (Bits bits) pc width)) (either_of (is_add r.kind) (is_pc_difference r.kind) can)
+    ⊎_elim (λ add. added r.kind bits add width) (λ pc. absurd (pc_and_plus r.kind (Bits bits) pc width))
+    (either_of (is_add r.kind) (is_pc_difference r.kind) can)
 cell-bits elf r bits to from (of_place listed pc width_is to_is from_is) can = let e : bits ≡ 32 = cc in inl e
 
 pub difference-listed : (elf : Elf) (r : Relocation) (w : Width) (to from : ℤ) → IsDifference elf r w to from → Contains (relocations elf) r

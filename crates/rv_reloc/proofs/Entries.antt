@@ -8,7 +8,8 @@ use Rattle.elf_image.specs.declared.elf.Elf.{Elf}
 use Rattle.rv_reloc.specs.declared.records.Record.{Record}
 use Rattle.rv_reloc.specs.Records.{seen, counts}
 
-entries_from-suc : (file : List ℕ) (section : Section) (offset n : ℕ) → entries_from file section offset (suc n) ≡ relocation_at file section offset ∷ entries_from file section (offset + RELA_SIZE) n
+entries_from-suc : (file : List ℕ) (section : Section) (offset n : ℕ) →
+    entries_from file section offset (suc n) ≡ relocation_at file section offset ∷ entries_from file section (offset + RELA_SIZE) n
 unfolding entries_from
 entries_from-suc file section offset n = refl
 
@@ -19,7 +20,10 @@ entries_from-none file section offset zero e = refl
 entries_from-none file section offset (suc n) e = absurd (omega arith)
 
 -- one more is read
-pub entries_from-next : (file : List ℕ) (section : Section) (start index count : ℕ) → index < count → entries_from file section (start + RELA_SIZE * index) (count - index) ≡ relocation_at file section (start + RELA_SIZE * index) ∷ entries_from file section (start + RELA_SIZE * (index + 1)) (count - (index + 1))
+pub entries_from-next : (file : List ℕ) (section : Section) (start index count : ℕ) → index < count →
+    entries_from file section (start + RELA_SIZE * index) (count - index)
+    ≡ relocation_at file section (start + RELA_SIZE * index) ∷ entries_from file section (start + RELA_SIZE * (index + 1))
+    (count - (index + 1))
 entries_from-next file section start index count within =
     let n : count - index ≡ suc (count - (index + 1)) = omega arith in
     let o : start + RELA_SIZE * index + RELA_SIZE ≡ start + RELA_SIZE * (index + 1) = omega arith in
@@ -27,7 +31,8 @@ entries_from-next file section start index count within =
     ∙ entries_from-suc file section (start + RELA_SIZE * index) (count - (index + 1))
     ∙ ap (λ (o : ℕ). relocation_at file section (start + RELA_SIZE * index) ∷ entries_from file section o (count - (index + 1))) o
 
-pub read_one : (was now : List Record) (r : Record) (left : List Relocation) (one : Relocation) → now ≡ was ++ r ∷ [] → seen r ≡ one → map seen now ++ left ≡ map seen was ++ one ∷ left
+pub read_one : (was now : List Record) (r : Record) (left : List Relocation) (one : Relocation) → now ≡ was ++ r ∷ [] → seen r ≡ one →
+    map seen now ++ left ≡ map seen was ++ one ∷ left
 read_one was now r left one pushed is =
     ap (λ (rs : List Record). map seen rs ++ left) pushed
     ∙ ap (λ (rs : List Relocation). rs ++ left) (map-append seen was (r ∷ []))
@@ -35,7 +40,8 @@ read_one was now r left one pushed is =
     ∙ ap (λ (x : Relocation). map seen was ++ x ∷ left) is
 
 -- a table that applies to no section
-pub entries_of-missing : (elf : Elf) (table : Section) → table.kind ≡ SHT_RELA → slice_get elf.sections.items table.info ≡ None → entries_of elf table ≡ []
+pub entries_of-missing : (elf : Elf) (table : Section) → table.kind ≡ SHT_RELA → slice_get elf.sections.items table.info ≡ None →
+    entries_of elf table ≡ []
 entries_of-missing elf table kind none = rw (eq-eqb table.kind SHT_RELA kind, none) refl
 
 pub slice_get-none : {A : Type 0} (xs : List A) (i : ℕ) → length xs ≤ i → slice_get xs i ≡ None

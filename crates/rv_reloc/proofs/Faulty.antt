@@ -9,7 +9,8 @@ use Rattle.rv_reloc.specs.Places.{IsPlaceOf}
 use Rattle.rv_reloc.specs.Records.{seen, AreRecords}
 use Rattle.rv_reloc.proofs.Kept.{counts, kept}
 
-of_record : (elf : Elf) (records : List Record) (Is : Relocation → Type 0) (place : ℕ) → AreRecords elf records → IsPlaceOf (λ r. r.place) (λ r. Is (seen r)) records place → HasRelocation elf Is place
+of_record : (elf : Elf) (records : List Record) (Is : Relocation → Type 0) (place : ℕ) → AreRecords elf records →
+    IsPlaceOf (λ r. r.place) (λ r. Is (seen r)) records place → HasRelocation elf Is place
 of_record elf records Is place are is = record {
   relocation = seen is.item;
   counts = counts elf records is.item are is.listed;
@@ -17,7 +18,8 @@ of_record elf records Is place are is = record {
   place_is = is.place_is;
 }
 
-of_relocation : (elf : Elf) (records : List Record) (Is : Relocation → Type 0) (place : ℕ) → AreRecords elf records → HasRelocation elf Is place → IsPlaceOf (λ r. r.place) (λ r. Is (seen r)) records place
+of_relocation : (elf : Elf) (records : List Record) (Is : Relocation → Type 0) (place : ℕ) → AreRecords elf records →
+    HasRelocation elf Is place → IsPlaceOf (λ r. r.place) (λ r. Is (seen r)) records place
 of_relocation elf records Is place are is =
     let (r, listed, same) = kept elf records is.relocation are is.counts in
     record {
@@ -27,5 +29,7 @@ of_relocation elf records Is place are is =
       place_is = ap (λ (q : Relocation). q.place) same ∙ is.place_is;
     }
 
-pub lowest-relocation : (elf : Elf) (records : List Record) (Is : Relocation → Type 0) (lowest : Option ℕ) → AreRecords elf records → IsLowest (IsPlaceOf (λ r. r.place) (λ r. Is (seen r)) records) lowest → IsLowest (HasRelocation elf Is) lowest
-lowest-relocation elf records Is lowest are is = IsLowest-same lowest (λ p. of_record elf records Is p are) (λ p. of_relocation elf records Is p are) is
+pub lowest-relocation : (elf : Elf) (records : List Record) (Is : Relocation → Type 0) (lowest : Option ℕ) → AreRecords elf records →
+    IsLowest (IsPlaceOf (λ r. r.place) (λ r. Is (seen r)) records) lowest → IsLowest (HasRelocation elf Is) lowest
+lowest-relocation elf records Is lowest are is =
+    IsLowest-same lowest (λ p. of_record elf records Is p are) (λ p. of_relocation elf records Is p are) is

@@ -34,18 +34,22 @@ up_to_same k1 y1 k2 y2 (inr (e, a)) (inr (f, b)) = (e, omega arith)
 pub first_zero : (claims : List Claim) (k : ℕ) → k ≡ 0 → IsFirst claims k
 first_zero claims k none j d less = absurd (omega arith)
 
-pub first_above : (claims : List Claim) (k : ℕ) → AllPairs IsClaimUpTo claims → k < length claims → ((d : Claim) → (slice_index_or claims (k - 1) d).at < (slice_index_or claims k d).at) → IsFirst claims k
+pub first_above : (claims : List Claim) (k : ℕ) → AllPairs IsClaimUpTo claims → k < length claims →
+    ((d : Claim) → (slice_index_or claims (k - 1) d).at < (slice_index_or claims k d).at) → IsFirst claims k
 first_above claims k ordered within rises j d less =
     let here = rises d in
     ⊎_elim
-    (λ (before : j < k - 1). let low = not_above (slice_index_or claims j d) (slice_index_or claims (k - 1) d) (ordered j (k - 1) d before (omega arith)) in omega arith)
-    (λ (beside : k - 1 ≤ j). let e : j ≡ k - 1 = omega arith in subst (λ (i : ℕ). (slice_index_or claims i d).at < (slice_index_or claims k d).at) (sym e) here)
+    (λ (before : j < k - 1). let low = not_above (slice_index_or claims j d) (slice_index_or claims (k - 1) d)
+    (ordered j (k - 1) d before (omega arith)) in omega arith)
+    (λ (beside : k - 1 ≤ j). let e : j ≡ k - 1 = omega arith in
+    subst (λ (i : ℕ). (slice_index_or claims i d).at < (slice_index_or claims k d).at) (sym e) here)
     (cases_lt j (k - 1))
 
 -- Roles, one claim after another.
 
 abbrev pub IsFirstBelow : List Claim → ℕ → ℕ × Role → Type 0
-IsFirstBelow claims i r = (k : ℕ) × (k < i) × IsFirst claims k × ((d : Claim) → ((slice_index_or claims k d).at ≡ r.0) × ((slice_index_or claims k d).role ≡ r.1))
+IsFirstBelow claims i r =
+    (k : ℕ) × (k < i) × IsFirst claims k × ((d : Claim) → ((slice_index_or claims k d).at ≡ r.0) × ((slice_index_or claims k d).role ≡ r.1))
 
 abbrev pub IsBefore : ℕ × Role → ℕ × Role → Type 0
 IsBefore r s = r.0 < s.0
@@ -57,25 +61,30 @@ roles_begin claims roles none = subst (ListsAll (IsFirstBelow claims 0) IsBefore
   ordered = λ i j d less within. absurd (omega arith);
 })
 
-below_cases : (claims : List Claim) (i : ℕ) (r : ℕ × Role) → IsFirstBelow claims (i + 1) r → IsFirstBelow claims i r ⊎ (IsFirst claims i × ((d : Claim) → ((slice_index_or claims i d).at ≡ r.0) × ((slice_index_or claims i d).role ≡ r.1)))
+below_cases : (claims : List Claim) (i : ℕ) (r : ℕ × Role) → IsFirstBelow claims (i + 1) r → IsFirstBelow claims i r
+    ⊎ (IsFirst claims i × ((d : Claim) → ((slice_index_or claims i d).at ≡ r.0) × ((slice_index_or claims i d).role ≡ r.1)))
 below_cases claims i r (k, below, first, same) =
     ⊎_elim
     (λ (less : k < i). inl (k, less, first, same))
     (λ (more : i ≤ k). let e : k ≡ i = omega arith in
-    inr (subst (λ (n : ℕ). IsFirst claims n × ((d : Claim) → ((slice_index_or claims n d).at ≡ r.0) × ((slice_index_or claims n d).role ≡ r.1))) e (first, same)))
+    inr (subst (λ (n : ℕ). IsFirst claims n
+    × ((d : Claim) → ((slice_index_or claims n d).at ≡ r.0) × ((slice_index_or claims n d).role ≡ r.1))) e (first, same)))
     (cases_lt k i)
 
 later : (claims : List Claim) (i : ℕ) (r : ℕ × Role) → IsFirstBelow claims i r → IsFirstBelow claims (i + 1) r
 later claims i r (k, below, first, same) = (k, omega arith, first, same)
 
-pub roles_skip : (claims : List Claim) (roles : List (ℕ × Role)) (i : ℕ) → (IsFirst claims i → ⊥) → ListsAll (IsFirstBelow claims i) IsBefore roles → ListsAll (IsFirstBelow claims (i + 1)) IsBefore roles
+pub roles_skip : (claims : List Claim) (roles : List (ℕ × Role)) (i : ℕ) → (IsFirst claims i → ⊥) →
+    ListsAll (IsFirstBelow claims i) IsBefore roles → ListsAll (IsFirstBelow claims (i + 1)) IsBefore roles
 roles_skip claims roles i other lists = record {
   only = λ r is_in. later claims i r (lists.only r is_in);
   each = λ r is. ⊎_elim (lists.each r) (λ (first, same). absurd (other first)) (below_cases claims i r is);
   ordered = lists.ordered;
 }
 
-pub roles_push : (claims : List Claim) (roles now : List (ℕ × Role)) (i : ℕ) (x : Claim) → i < length claims → x ≡ slice_index_or claims i x → IsFirst claims i → now ≡ roles ++ (x.at, x.role) ∷ [] → ListsAll (IsFirstBelow claims i) IsBefore roles → ListsAll (IsFirstBelow claims (i + 1)) IsBefore now
+pub roles_push : (claims : List Claim) (roles now : List (ℕ × Role)) (i : ℕ) (x : Claim) → i < length claims →
+    x ≡ slice_index_or claims i x → IsFirst claims i → now ≡ roles ++ (x.at, x.role) ∷ [] →
+    ListsAll (IsFirstBelow claims i) IsBefore roles → ListsAll (IsFirstBelow claims (i + 1)) IsBefore now
 roles_push claims roles now i x within is first pushed lists =
     subst (ListsAll (IsFirstBelow claims (i + 1)) IsBefore) (sym pushed) (record {
       only = λ r is_in. ⊎_elim
@@ -85,10 +94,12 @@ roles_push claims roles now i x within is first pushed lists =
       each = λ r belongs. ⊎_elim
           (λ before. Contains-append_left roles ((x.at, x.role) ∷ []) r (lists.each r before))
           (λ (_, same). let both = same x in let (a, b) = here x in
-          subst (Contains (roles ++ (x.at, x.role) ∷ [])) (λ j. ((sym a ∙ both.0) j, (sym b ∙ both.1) j)) (Contains-push roles (x.at, x.role)))
+          subst (Contains (roles ++ (x.at, x.role) ∷ [])) (λ j. ((sym a ∙ both.0) j, (sym b ∙ both.1) j))
+          (Contains-push roles (x.at, x.role)))
           (below_cases claims i r belongs);
       ordered = all_pairs_push IsBefore roles (x.at, x.role) lists.ordered (λ j d inside.
-          let (k, below, _, same) = lists.only (slice_index_or roles j d) (j, inside, get_or_default roles j (slice_index_or roles j d) d inside) in
+          let (k, below, _, same) =
+          lists.only (slice_index_or roles j d) (j, inside, get_or_default roles j (slice_index_or roles j d) d inside) in
           let low = first k x below in
           let (a, b) = here x in
           let (p, q) = same x in
@@ -96,7 +107,8 @@ roles_push claims roles now i x within is first pushed lists =
     })
   where
     here : (d : Claim) → ((slice_index_or claims i d).at ≡ x.at) × ((slice_index_or claims i d).role ≡ x.role)
-    here d = let e : slice_index_or claims i d ≡ x = get_or_default claims i d x within ∙ sym is in (ap (λ (c : Claim). c.at) e, ap (λ (c : Claim). c.role) e)
+    here d = let e : slice_index_or claims i d ≡ x = get_or_default claims i d x within ∙ sym is in
+        (ap (λ (c : Claim). c.at) e, ap (λ (c : Claim). c.role) e)
 
 -- The roles that count.
 
@@ -104,7 +116,8 @@ at_index : (elf : Elf) (claims : List Claim) (k : ℕ) (d : Claim) → k < lengt
 at_index elf claims k d within = (k, within, get_or_default claims k (slice_index_or claims k d) d within)
 
 -- where a list has a claim at an address, it has a first one
-first_down : (claims : List Claim) (n k : ℕ) (d : Claim) → k ≤ n → AllPairs IsClaimUpTo claims → k < length claims → (j : ℕ) × (j ≤ k) × IsFirst claims j × ((slice_index_or claims j d).at ≡ (slice_index_or claims k d).at)
+first_down : (claims : List Claim) (n k : ℕ) (d : Claim) → k ≤ n → AllPairs IsClaimUpTo claims → k < length claims → (j : ℕ) × (j ≤ k)
+    × IsFirst claims j × ((slice_index_or claims j d).at ≡ (slice_index_or claims k d).at)
 first_down claims zero k d bound ordered within = (k, omega arith, first_zero claims k (omega arith), refl)
 first_down claims (suc n) k d bound ordered within =
     ⊎_elim
@@ -127,7 +140,9 @@ first_down claims (suc n) k d bound ordered within =
     (cases_eq k 0)
 
 -- the first at an address is up to any there
-first_least : (claims : List Claim) (k j : ℕ) (d : Claim) → AllPairs IsClaimUpTo claims → IsFirst claims k → k < length claims → j < length claims → (slice_index_or claims j d).at ≡ (slice_index_or claims k d).at → IsUpTo (slice_index_or claims k d).kind (slice_index_or claims k d).key (slice_index_or claims j d).kind (slice_index_or claims j d).key
+first_least : (claims : List Claim) (k j : ℕ) (d : Claim) → AllPairs IsClaimUpTo claims → IsFirst claims k → k < length claims →
+    j < length claims → (slice_index_or claims j d).at ≡ (slice_index_or claims k d).at →
+    IsUpTo (slice_index_or claims k d).kind (slice_index_or claims k d).key (slice_index_or claims j d).kind (slice_index_or claims j d).key
 first_least claims k j d ordered first within inside same =
     ⊎_elim
     (λ (less : j < k). let low = first j d less in absurd (omega arith))
@@ -138,11 +153,13 @@ first_least claims k j d ordered first within inside same =
     (cases_lt k j))
     (cases_lt j k)
 
-role_from : (elf : Elf) (claims : List Claim) (r : ℕ × Role) → AreClaims elf claims → IsFirstBelow claims (length claims) r → HasRole elf r.0 r.1
+role_from : (elf : Elf) (claims : List Claim) (r : ℕ × Role) → AreClaims elf claims → IsFirstBelow claims (length claims) r →
+    HasRole elf r.0 r.1
 role_from elf claims r are (k, within, first, same) = record {
   relocation = claim.source;
   key = c.key;
-  claims = subst (λ (a : ℕ). Claims elf claim.source a c.key r.1) (same d).0 (subst (λ (role : Role). Claims elf claim.source c.at c.key role) (same d).1 claim.is_claim.claims);
+  claims = subst (λ (a : ℕ). Claims elf claim.source a c.key r.1) (same d).0
+      (subst (λ (role : Role). Claims elf claim.source c.at c.key role) (same d).1 claim.is_claim.claims);
   first = λ q key' role' claimed.
       let (other, listed, there, before) = are.cover q r.0 key' role' claimed in
       let (j, inside, is) = listed in
@@ -163,7 +180,8 @@ role_from elf claims r are (k, within, first, same) = record {
     claim : IsClaim elf c
     claim = are.sound c (at_index elf claims k d within)
 
-role_listed : (elf : Elf) (claims : List Claim) (r : ℕ × Role) → AreClaims elf claims → HasRole elf r.0 r.1 → IsFirstBelow claims (length claims) r
+role_listed : (elf : Elf) (claims : List Claim) (r : ℕ × Role) → AreClaims elf claims → HasRole elf r.0 r.1 →
+    IsFirstBelow claims (length claims) r
 role_listed elf claims r are has =
     let (other, listed, there, before) = are.cover has.relocation r.0 has.key r.1 has.claims in
     let (j, inside, is) = listed in
@@ -171,16 +189,20 @@ role_listed elf claims r are has =
     let (k, below, first, same) = first_down claims j j d (omega arith) are.ordered inside in
     let place : (slice_index_or claims k d).at ≡ r.0 = same ∙ ap (λ (x : Claim). x.at) e ∙ there in
     let least = first_least claims k j d are.ordered first (omega arith) inside (sym same) in
-    let up = up_to_trans (slice_index_or claims k d).kind (slice_index_or claims k d).key (slice_index_or claims j d).kind (slice_index_or claims j d).key has.relocation.kind has.key least
+    let up = up_to_trans (slice_index_or claims k d).kind (slice_index_or claims k d).key (slice_index_or claims j d).kind
+    (slice_index_or claims j d).key has.relocation.kind has.key least
     (subst (λ (x : Claim). IsUpTo x.kind x.key has.relocation.kind has.key) (sym e) before) in
     let claim = are.sound (slice_index_or claims k d) (at_index elf claims k d (omega arith)) in
-    let down' = has.first claim.source (slice_index_or claims k d).key (slice_index_or claims k d).role (subst (λ (a : ℕ). Claims elf claim.source a (slice_index_or claims k d).key (slice_index_or claims k d).role) place claim.is_claim.claims) in
+    let down' = has.first claim.source (slice_index_or claims k d).key (slice_index_or claims k d).role
+    (subst (λ (a : ℕ). Claims elf claim.source a (slice_index_or claims k d).key
+    (slice_index_or claims k d).role) place claim.is_claim.claims) in
     let down = subst (λ (n : ℕ). IsUpTo has.relocation.kind has.key n (slice_index_or claims k d).key) (sym claim.is_claim.kind_is) down' in
     let (kinds, keys) = up_to_same has.relocation.kind has.key (slice_index_or claims k d).kind (slice_index_or claims k d).key down up in
     let same_claim : Claims elf has.relocation (slice_index_or claims k d).at (slice_index_or claims k d).key r.1 =
     subst (λ (a : ℕ). Claims elf has.relocation a (slice_index_or claims k d).key r.1) (sym place)
     (subst (λ (n : ℕ). Claims elf has.relocation r.0 n r.1) keys has.claims) in
-    let role : r.1 ≡ (slice_index_or claims k d).role = claim.is_claim.sure has.relocation r.1 (kinds ∙ claim.is_claim.kind_is) same_claim in (
+    let role : r.1 ≡ (slice_index_or claims k d).role =
+    claim.is_claim.sure has.relocation r.1 (kinds ∙ claim.is_claim.kind_is) same_claim in (
       k,
       omega arith,
       first,
@@ -192,9 +214,11 @@ role_listed elf claims r are has =
     d : Claim
     d = record { at = 0; kind = 0; key = 0; role = Plain }
 
-pub roles_all : (elf : Elf) (claims : List Claim) (roles : List (ℕ × Role)) (i : ℕ) → AreClaims elf claims → i ≡ length claims → ListsAll (IsFirstBelow claims i) IsBefore roles → AreRoles elf roles
+pub roles_all : (elf : Elf) (claims : List Claim) (roles : List (ℕ × Role)) (i : ℕ) → AreClaims elf claims → i ≡ length claims →
+    ListsAll (IsFirstBelow claims i) IsBefore roles → AreRoles elf roles
 roles_all elf claims roles i are all lists =
-    let whole : ListsAll (IsFirstBelow claims (length claims)) IsBefore roles = subst (λ (n : ℕ). ListsAll (IsFirstBelow claims n) IsBefore roles) all lists in
+    let whole : ListsAll (IsFirstBelow claims (length claims)) IsBefore roles =
+    subst (λ (n : ℕ). ListsAll (IsFirstBelow claims n) IsBefore roles) all lists in
     record {
       only = λ r is_in. role_from elf claims r are (whole.only r is_in);
       each = λ r has. whole.each r (role_listed elf claims r are has);
@@ -202,7 +226,8 @@ roles_all elf claims roles i are all lists =
     }
 
 -- the test of neighbours
-pub first_if : (claims : List Claim) (k : ℕ) (e : Claim) → AllPairs IsClaimUpTo claims → k < length claims → k ≢ 0 → IsTrue (nat_lt (slice_index_or claims (k - 1) e).at (slice_index_or claims k e).at) ↔ IsFirst claims k
+pub first_if : (claims : List Claim) (k : ℕ) (e : Claim) → AllPairs IsClaimUpTo claims → k < length claims → k ≢ 0 →
+    IsTrue (nat_lt (slice_index_or claims (k - 1) e).at (slice_index_or claims k e).at) ↔ IsFirst claims k
 first_if claims k e ordered within some = (
   λ is. let less = ltb-true (slice_index_or claims (k - 1) e).at (slice_index_or claims k e).at is in
       first_above claims k ordered within (λ d.

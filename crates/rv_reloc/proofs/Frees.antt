@@ -19,14 +19,19 @@ joined (Some x) P some is = is
 
 pub free-from_bytes : (elf : Elf) (place width : ℕ) → ((i : ℕ) → i < width → IsFreeByte elf (place + i)) → AreFree elf place width
 free-from_bytes elf place width bytes = record {
-  from_file = λ i within. let b = both (file_offset elf.segments.items (place + i)) (λ offset. IsInHeaders elf offset → ⊥) (bytes i within) in b.0;
-  no_header = λ i within. let b = both (file_offset elf.segments.items (place + i)) (λ offset. IsInHeaders elf offset → ⊥) (bytes i within) in b.1;
+  from_file = λ i within. let b =
+      both (file_offset elf.segments.items (place + i)) (λ offset. IsInHeaders elf offset → ⊥) (bytes i within) in b.0;
+  no_header = λ i within. let b =
+      both (file_offset elf.segments.items (place + i)) (λ offset. IsInHeaders elf offset → ⊥) (bytes i within) in b.1;
 }
 
 pub free-byte : (elf : Elf) (place width i : ℕ) → AreFree elf place width → i < width → IsFreeByte elf (place + i)
-free-byte elf place width i free within = joined (file_offset elf.segments.items (place + i)) (λ offset. IsInHeaders elf offset → ⊥) (free.from_file i within) (free.no_header i within)
+free-byte elf place width i free within =
+    joined (file_offset elf.segments.items (place + i)) (λ offset. IsInHeaders elf offset → ⊥) (free.from_file i within)
+    (free.no_header i within)
 
-loaded : (f : ℕ → Segment → ℕ) (g : ℕ → Segment → Option ℕ) (a : ℕ) (o : Option Segment) → IsSome (option_and_then (g a) o) → IsSome (option_map (f a) o)
+loaded : (f : ℕ → Segment → ℕ) (g : ℕ → Segment → Option ℕ) (a : ℕ) (o : Option Segment) → IsSome (option_and_then (g a) o) →
+    IsSome (option_map (f a) o)
 loaded f g a None is = absurd (cc)
 loaded f g a (Some p) is = refl
 

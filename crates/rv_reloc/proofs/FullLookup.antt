@@ -8,7 +8,8 @@ use Rattle.rv_reloc.specs.declared.parts.Part.{Part}
 use Rattle.rv_reloc.specs.Parts.{AreCodeParts, HoldsAddress, IsInstBefore}
 use Rattle.rv_reloc.proofs.StartLists.{starts_inside}
 
-pub start_held : (elf : Elf) (parts : List Part) (a : ℕ) → AreCodeParts elf parts → (is : IsStart elf a) → HoldsAddress parts a (record { start = is.start; end = is.end })
+pub start_held : (elf : Elf) (parts : List Part) (a : ℕ) → AreCodeParts elf parts → (is : IsStart elf a) →
+    HoldsAddress parts a (record { start = is.start; end = is.end })
 start_held elf parts a are is =
     let inside = starts_inside elf is.start is.end a is.is_start.starts in
     record { listed = are.each (record { start = is.start; end = is.end }) is.is_start.part; above = inside.0; below = inside.1 }
@@ -16,7 +17,8 @@ start_held elf parts a are is =
 abbrev pub full_start : (elf : Elf) (a : ℕ) (inst : Inst) → IsFullAt elf a inst → IsStart elf a
 full_start elf a inst full = record { start = full.start; end = full.end; is_start = full.has.starts }
 
-pub full_there : (elf : Elf) (a end : ℕ) (inst : Inst) → (is : IsStart elf a) → is.end ≡ end → IsInstBefore elf end a inst 4 → IsFullAt elf a inst
+pub full_there : (elf : Elf) (a end : ℕ) (inst : Inst) → (is : IsStart elf a) → is.end ≡ end → IsInstBefore elf end a inst 4 →
+    IsFullAt elf a inst
 full_there elf a end inst is same full =
     let within = full.inside in
     record { start = is.start; end = is.end; has = record { starts = is.is_start; is_inst = full.is_inst; inside = omega arith } }

@@ -12,7 +12,11 @@ rising xs up i j d upto within =
     (λ (more : j ≤ i). let e : i ≡ j = omega arith in let s = ap (λ (k : ℕ). slice_index_or xs k d) e in omega arith)
     (cases_lt i j)
 
-pub Contains-between : (xs below inside : List ℕ) (n m low high : ℕ) → below ≡ take n xs → inside ≡ drop m below → length below ≡ n → length inside + m ≡ length below → n ≤ length xs → ((k d : ℕ) → k < n → slice_index_or xs k d < high) → ((k d : ℕ) → n ≤ k → k < length xs → high ≤ slice_index_or xs k d) → ((k d : ℕ) → k < m → slice_index_or below k d < low) → ((k d : ℕ) → m ≤ k → k < length below → low ≤ slice_index_or below k d) → (a : ℕ) → Contains inside a ↔ (Contains xs a × (low ≤ a) × (a < high))
+pub Contains-between : (xs below inside : List ℕ) (n m low high : ℕ) → below ≡ take n xs → inside ≡ drop m below → length below ≡ n →
+    length inside + m ≡ length below → n ≤ length xs → ((k d : ℕ) → k < n → slice_index_or xs k d < high) →
+    ((k d : ℕ) → n ≤ k → k < length xs → high ≤ slice_index_or xs k d) → ((k d : ℕ) → k < m → slice_index_or below k d < low) →
+    ((k d : ℕ) → m ≤ k → k < length below → low ≤ slice_index_or below k d) → (a : ℕ) →
+    Contains inside a ↔ (Contains xs a × (low ≤ a) × (a < high))
 Contains-between xs below inside n m low high front back front_len back_len bound under over under' over' a = (
   (λ (k, within, there).
       let early : m + k < n = omega arith in
@@ -22,9 +26,11 @@ Contains-between xs below inside n m low high front back front_len back_len boun
       let down = under (m + k) a early in
       ((m + k, omega arith, at'), omega arith, omega arith)),
   (λ ((k, within, there), from, to).
-      let early : k < n = ⊎_elim (λ (less : k < n). less) (λ (more : n ≤ k). let up = over k a more within in absurd (omega arith)) (cases_lt k n) in
+      let early : k < n =
+      ⊎_elim (λ (less : k < n). less) (λ (more : n ≤ k). let up = over k a more within in absurd (omega arith)) (cases_lt k n) in
       let at : slice_index_or below k a ≡ a = in_front k early ∙ there in
-      let late : m ≤ k = ⊎_elim (λ (less : k < m). let down = under' k a less in absurd (omega arith)) (λ (more : m ≤ k). more) (cases_lt k m) in
+      let late : m ≤ k =
+      ⊎_elim (λ (less : k < m). let down = under' k a less in absurd (omega arith)) (λ (more : m ≤ k). more) (cases_lt k m) in
       let e : m + (k - m) ≡ k = omega arith in
       (k - m, omega arith, in_back (k - m) ∙ ap (λ (j : ℕ). slice_index_or below j a) e ∙ at)),
 )

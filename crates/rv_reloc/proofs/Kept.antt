@@ -13,21 +13,30 @@ use Rattle.rv_reloc.proofs.Lists.{Contains-map, Contains-from_map}
 use Rattle.rv_reloc.proofs.Only.{only-permutation, only-map, only-from_map}
 use Rattle.rv_reloc.proofs.Ordered.{has_key-true, has_key-same}
 
-pub counts : (elf : Elf) (records : List Record) (r : Record) → AreRecords elf records → Contains records r → Contains (relocations elf) (seen r)
-counts elf records r are listed = Contains-permutation (map seen records) (relocations elf) (seen r) are.all (Contains-map seen records r listed)
+pub counts : (elf : Elf) (records : List Record) (r : Record) → AreRecords elf records → Contains records r →
+    Contains (relocations elf) (seen r)
+counts elf records r are listed =
+    Contains-permutation (map seen records) (relocations elf) (seen r) are.all (Contains-map seen records r listed)
 
-pub kept : (elf : Elf) (records : List Record) (r : Relocation) → AreRecords elf records → Contains (relocations elf) r → (q : Record) × Contains records q × (seen q ≡ r)
+pub kept : (elf : Elf) (records : List Record) (r : Relocation) → AreRecords elf records → Contains (relocations elf) r → (q : Record)
+    × Contains records q × (seen q ≡ r)
 kept elf records r are listed =
-    Contains-from_map seen records r (Contains-permutation (relocations elf) (map seen records) r (IsPermutation-sym (map seen records) (relocations elf) are.all) listed)
+    Contains-from_map seen records r
+    (Contains-permutation (relocations elf) (map seen records) r
+    (IsPermutation-sym (map seen records) (relocations elf) are.all) listed)
 
-pub AreRecords-sorted : (elf : Elf) (were records : List Record) → map seen were ≡ relocations elf → IsPermutation were records → AreInOrder records → AreRecords elf records
+pub AreRecords-sorted : (elf : Elf) (were records : List Record) → map seen were ≡ relocations elf → IsPermutation were records →
+    AreInOrder records → AreRecords elf records
 AreRecords-sorted elf were records all moved ordered = record {
-  all = subst (λ (rs : List Relocation). IsPermutation (map seen records) rs) all (IsPermutation-sym (map seen were) (map seen records) (IsPermutation-map seen were records moved));
+  all = subst (λ (rs : List Relocation). IsPermutation (map seen records) rs) all
+      (IsPermutation-sym (map seen were) (map seen records) (IsPermutation-map seen were records moved));
   ordered = ordered;
 }
 
 -- one of a class at a place
-pub any-relocation : (elf : Elf) (records : List Record) (place at : ℕ) (is : ℕ → Bool) → ((kind : ℕ) → (class kind ≡ at) ↔ IsTrue (is kind)) → AreRecords elf records → Any (λ r. IsTrue (has_key place at r)) records ↔ HasRelocation elf (λ r. IsTrue (is r.kind)) place
+pub any-relocation : (elf : Elf) (records : List Record) (place at : ℕ) (is : ℕ → Bool) →
+    ((kind : ℕ) → (class kind ≡ at) ↔ IsTrue (is kind)) → AreRecords elf records →
+    Any (λ r. IsTrue (has_key place at r)) records ↔ HasRelocation elf (λ r. IsTrue (is r.kind)) place
 any-relocation elf records place at is tells are = (
   λ (k, x, within, there, passes).
       let (p, c) = has_key-true place at x passes in
@@ -35,17 +44,30 @@ any-relocation elf records place at is tells are = (
   λ has.
       let (q, listed, same) = kept elf records has.relocation are has.counts in
       let (k, within, there) = listed in
-      let kind : q.kind ≡ has.relocation.kind = ap (λ (r : Relocation). r.kind) same in
-      (k, q, within, there, has_key-same place at q (ap (λ (r : Relocation). r.place) same ∙ has.place_is) ((tells q.kind).1 (subst (λ (n : ℕ). IsTrue (is n)) (sym kind) has.is))),
+      let kind : q.kind ≡ has.relocation.kind = ap (λ (r : Relocation). r.kind) same in (
+        k,
+        q,
+        within,
+        there,
+        has_key-same place at q (ap (λ (r : Relocation). r.place) same ∙ has.place_is)
+            ((tells q.kind).1 (subst (λ (n : ℕ). IsTrue (is n)) (sym kind) has.is)),
+      ),
 )
 
 -- the only one of a class at a place
-pub only-relocation : (elf : Elf) (records : List Record) (place at : ℕ) (is : Relocation → Bool) → ((r : Relocation) → is r ≡ (r.place == place && class r.kind == at)) → AreRecords elf records → (q : Record) → IsOnly (has_key place at) records q → IsOnly is (relocations elf) (seen q)
+pub only-relocation : (elf : Elf) (records : List Record) (place at : ℕ) (is : Relocation → Bool) →
+    ((r : Relocation) → is r ≡ (r.place == place && class r.kind == at)) → AreRecords elf records → (q : Record) →
+    IsOnly (has_key place at) records q → IsOnly is (relocations elf) (seen q)
 only-relocation elf records place at is same are q only =
     only-permutation is (map seen records) (relocations elf) (seen q) are.all
     (only-map seen is records q (subst (λ (test : Record → Bool). IsOnly test records q) (λ i r. sym (same (seen r)) i) only))
 
-pub only-kept : (elf : Elf) (records : List Record) (place at : ℕ) (is : Relocation → Bool) → ((r : Relocation) → is r ≡ (r.place == place && class r.kind == at)) → AreRecords elf records → (r : Relocation) → IsOnly is (relocations elf) r → (q : Record) × IsOnly (has_key place at) records q × (seen q ≡ r)
+pub only-kept : (elf : Elf) (records : List Record) (place at : ℕ) (is : Relocation → Bool) →
+    ((r : Relocation) → is r ≡ (r.place == place && class r.kind == at)) → AreRecords elf records → (r : Relocation) →
+    IsOnly is (relocations elf) r → (q : Record) × IsOnly (has_key place at) records q × (seen q ≡ r)
 only-kept elf records place at is same are r only =
-    let (q, one, there) = only-from_map seen is records r (only-permutation is (relocations elf) (map seen records) r (IsPermutation-sym (map seen records) (relocations elf) are.all) only) in
+    let (q, one, there) =
+    only-from_map seen is records r
+    (only-permutation is (relocations elf) (map seen records) r
+    (IsPermutation-sym (map seen records) (relocations elf) are.all) only) in
     (q, subst (λ (test : Record → Bool). IsOnly test records q) (λ i z. same (seen z) i) one, there)

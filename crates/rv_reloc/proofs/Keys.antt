@@ -1,55 +1,47 @@
 -- The order of fields by place, width and content, as a sort gives it.
-use Rattle.std.proofs.Common.{◌≡◌, ◌∙◌, sym, subst, ap, refl, ℕ, zero, suc, ◌+◌, ◌-◌, ◌<◌, ◌≤◌, ℤ, ◌<ℤ◌, ◌≤ℤ◌, ◌⊎◌, inl, inr, ⊎_elim, true, false, List, map, length, slice_index_or, arith}
+use Rattle.std.proofs.Common.{◌≡◌, ◌∙◌, sym, subst, ap, refl, ℕ, ◌+◌, ◌<◌, ◌≤◌, ℤ, ◌<ℤ◌, ◌⊎◌, inl, inr, ⊎_elim, true, false, List, map, length, slice_index_or, arith}
 use Rattle.std.proofs.lemmas.Cmp.{ranked, int_ranked}
 use Rattle.std.proofs.lemmas.Int.{ints}
 use Rattle.std.proofs.lemmas.List.{get_or-map, length-map}
 use Rattle.std.specs.declared.cmp.Ordering.{Ordering}
 use Rattle.std.specs.declared.cmp.Ordering.TheVariants.{Less, Equal, Greater}
 use Rattle.std.specs.List.{AllPairs}
-use Rattle.std.specs.Ordering.{MatchOrdering, nat_cmp, int_cmp, is_lt, ordering_then}
+use Rattle.std.specs.Ordering.{nat_cmp, int_cmp, is_lt, ordering_then}
 use Rattle.elf_image.specs.code.Cells as cells
 use Rattle.elf_image.specs.code.Cells.{Field, CanBeCell}
 use Rattle.rv_reloc.specs.Sweep.{field, content, IsContentUpTo, IsKeyUpTo}
 use Rattle.rv_reloc.specs.declared.sweep.Candidate.{Candidate}
 use Rattle.rv_reloc.specs.declared.sweep.Content.{Content}
 use Rattle.rv_reloc.specs.declared.sweep.Content.TheVariants.{Address, Difference}
-
--- What a comparison says.
-
-not_less : (o : Ordering) (A B C : Type 0) → MatchOrdering o A B C → is_lt o ≡ false → B ⊎ C
-not_less Less A B C is up = absurd (cc)
-not_less Equal A B C is up = inl is
-not_less Greater A B C is up = inr is
-
-then_not_less : (o p : Ordering) (A B C : Type 0) → MatchOrdering o A B C → is_lt (ordering_then o p) ≡ false → (B × (is_lt p ≡ false)) ⊎ C
-then_not_less Less p A B C is up = absurd (cc)
-then_not_less Equal p A B C is up = inl (is, up)
-then_not_less Greater p A B C is up = inr is
+use Rattle.rv_reloc.proofs.Lexicographic.{then_not_less, number_up, integer_up, then_up, less_trans, AllPairs-from_next}
 
 -- the comparison of contents, case by case
 pub record ComparesContents (cmp : Content → Content → Ordering) : Type 0 where
   pub addresses : (a b : ℕ) → cmp (Address a) (Address b) ≡ nat_cmp a b
   pub address_first : (a : ℕ) (to from : ℤ) → cmp (Address a) (Difference to from) ≡ Less
-  pub differences : (to from to' from' : ℤ) → cmp (Difference to from) (Difference to' from') ≡ ordering_then (int_cmp to to') (int_cmp from from')
+  pub differences : (to from to' from' : ℤ) →
+      cmp (Difference to from) (Difference to' from') ≡ ordering_then (int_cmp to to') (int_cmp from from')
 
-content_up : (cmp : Content → Content → Ordering) → ComparesContents cmp → (c d : Content) → is_lt (cmp d c) ≡ false → IsContentUpTo (content c) (content d)
+content_up : (cmp : Content → Content → Ordering) → ComparesContents cmp → (c d : Content) → is_lt (cmp d c) ≡ false →
+    IsContentUpTo (content c) (content d)
 content_up cmp is (Address a) (Address b) up =
-    let h = not_less (nat_cmp b a) _ _ _ (ranked b a (nat_cmp b a) refl) (sym (ap is_lt (is.addresses b a)) ∙ up) in
-    ⊎_elim (λ (same : b ≡ a). let rises : a ≤ b = omega arith in rises) (λ (less : a < b). let rises : a ≤ b = omega arith in rises) h
+    number_up a b (sym (ap is_lt (is.addresses b a)) ∙ up)
 content_up cmp is (Address a) (Difference to from) up = tt
-content_up cmp is (Difference to from) (Address b) up = let e : true ≡ false = sym (ap is_lt (is.address_first b to from)) ∙ up in absurd (cc)
+content_up cmp is (Difference to from) (Address b) up =
+    let e : true ≡ false = sym (ap is_lt (is.address_first b to from)) ∙ up in absurd (cc)
 content_up cmp is (Difference to from) (Difference to' from') up =
-    let h = then_not_less (int_cmp to' to) (int_cmp from' from) _ _ _ (int_ranked to' to (int_cmp to' to) refl) (sym (ap is_lt (is.differences to' from' to from)) ∙ up) in
+    let h = then_not_less (int_cmp to' to) (int_cmp from' from) _ _ _ (int_ranked to' to (int_cmp to' to) refl)
+    (sym (ap is_lt (is.differences to' from' to from)) ∙ up) in
     ⊎_elim
     (λ (both : (to' ≡ to) × (is_lt (int_cmp from' from) ≡ false)).
-    let g = not_less (int_cmp from' from) _ _ _ (int_ranked from' from (int_cmp from' from) refl) both.1 in
-    inr (sym both.0, ⊎_elim (λ (same : from' ≡ from). let rises : from ≤ℤ from' = omega (arith, ints) in rises) (λ (less : from <ℤ from'). let rises : from ≤ℤ from' = omega (arith, ints) in rises) g))
+    inr (sym both.0, integer_up from from' both.1))
     (λ (less : to <ℤ to'). inl less)
     h
 
 -- the key of the next isn't less
 abbrev pub IsNotLess : (Content → Content → Ordering) → Candidate → Candidate → Type 0
-IsNotLess cmp x y = is_lt (ordering_then (ordering_then (nat_cmp y.place x.place) (nat_cmp x.width y.width)) (cmp y.content x.content)) ≡ false
+IsNotLess cmp x y =
+    is_lt (ordering_then (ordering_then (nat_cmp y.place x.place) (nat_cmp x.width y.width)) (cmp y.content x.content)) ≡ false
 
 reassociate : (o p q : Ordering) → ordering_then (ordering_then o p) q ≡ ordering_then o (ordering_then p q)
 reassociate Less p q = refl
@@ -58,20 +50,14 @@ reassociate Greater p q = refl
 
 key_up : (cmp : Content → Content → Ordering) → ComparesContents cmp → (x y : Candidate) → IsNotLess cmp x y → IsKeyUpTo (field x) (field y)
 key_up cmp is x y up =
-    let places = nat_cmp y.place x.place in
     let widths = nat_cmp x.width y.width in
-    let h = then_not_less places (ordering_then widths (cmp y.content x.content)) _ _ _ (ranked y.place x.place places refl) (sym (ap is_lt (reassociate places widths (cmp y.content x.content))) ∙ up) in
-    ⊎_elim
-    (λ (both : (y.place ≡ x.place) × (is_lt (ordering_then widths (cmp y.content x.content)) ≡ false)).
-    inr (
-      sym both.0,
-      ⊎_elim
-          (λ (alike : (x.width ≡ y.width) × (is_lt (cmp y.content x.content) ≡ false)). inr (alike.0, content_up cmp is x.content y.content alike.1))
-          (λ (wider : y.width < x.width). inl wider)
-          (then_not_less widths (cmp y.content x.content) _ _ _ (ranked x.width y.width widths refl) both.1),
-    ))
-    (λ (less : x.place < y.place). inl less)
-    h
+    then_up x.place y.place (ordering_then widths (cmp y.content x.content)) _
+    (λ later. ⊎_elim
+    (λ (alike : (x.width ≡ y.width) × (is_lt (cmp y.content x.content) ≡ false)). inr
+    (alike.0, content_up cmp is x.content y.content alike.1))
+    (λ (wider : y.width < x.width). inl wider)
+    (then_not_less widths (cmp y.content x.content) _ _ _ (ranked x.width y.width widths refl) later))
+    (sym (ap is_lt (reassociate (nat_cmp y.place x.place) widths (cmp y.content x.content))) ∙ up)
 
 -- The order goes on.
 
@@ -82,37 +68,38 @@ content_trans (cells.Address a) (cells.Difference to from) (cells.Address c) p q
 content_trans (cells.Address a) (cells.Difference to from) (cells.Difference to' from') p q = tt
 content_trans (cells.Difference to from) (cells.Address b) e p q = absurd p
 content_trans (cells.Difference to from) (cells.Difference to' from') (cells.Address c) p q = absurd q
-content_trans (cells.Difference to from) (cells.Difference to' from') (cells.Difference to2 from2) (inl p) (inl q) = inl (omega (arith, ints))
-content_trans (cells.Difference to from) (cells.Difference to' from') (cells.Difference to2 from2) (inl p) (inr (e, q)) = inl (omega (arith, ints))
-content_trans (cells.Difference to from) (cells.Difference to' from') (cells.Difference to2 from2) (inr (e, p)) (inl q) = inl (omega (arith, ints))
-content_trans (cells.Difference to from) (cells.Difference to' from') (cells.Difference to2 from2) (inr (e, p)) (inr (f, q)) = inr (e ∙ f, omega (arith, ints))
+content_trans (cells.Difference to from) (cells.Difference to' from') (cells.Difference to2 from2) (inl p) (inl q) =
+    inl (omega (arith, ints))
+content_trans (cells.Difference to from) (cells.Difference to' from') (cells.Difference to2 from2) (inl p) (inr (e, q)) =
+    inl (omega (arith, ints))
+content_trans (cells.Difference to from) (cells.Difference to' from') (cells.Difference to2 from2) (inr (e, p)) (inl q) =
+    inl (omega (arith, ints))
+content_trans (cells.Difference to from) (cells.Difference to' from') (cells.Difference to2 from2) (inr (e, p)) (inr (f, q)) =
+    inr (e ∙ f, omega (arith, ints))
 
-widths_trans : (f g h : Field) → (g.width < f.width) ⊎ ((f.width ≡ g.width) × IsContentUpTo f.content g.content) → (h.width < g.width) ⊎ ((g.width ≡ h.width) × IsContentUpTo g.content h.content) → (h.width < f.width) ⊎ ((f.width ≡ h.width) × IsContentUpTo f.content h.content)
+widths_trans : (f g h : Field) → (g.width < f.width) ⊎ ((f.width ≡ g.width) × IsContentUpTo f.content g.content) → (h.width < g.width)
+    ⊎ ((g.width ≡ h.width) × IsContentUpTo g.content h.content) → (h.width < f.width)
+    ⊎ ((f.width ≡ h.width) × IsContentUpTo f.content h.content)
 widths_trans f g h (inl a) (inl b) = inl (omega arith)
 widths_trans f g h (inl a) (inr (e, b)) = inl (omega arith)
 widths_trans f g h (inr (e, a)) (inl b) = inl (omega arith)
 widths_trans f g h (inr (e, a)) (inr (e', b)) = inr (e ∙ e', content_trans f.content g.content h.content a b)
 
 key_trans : (f g h : Field) → IsKeyUpTo f g → IsKeyUpTo g h → IsKeyUpTo f h
-key_trans f g h (inl a) (inl b) = inl (omega arith)
-key_trans f g h (inl a) (inr (e, b)) = inl (omega arith)
-key_trans f g h (inr (e, a)) (inl b) = inl (omega arith)
-key_trans f g h (inr (e, a)) (inr (e', b)) = inr (e ∙ e', widths_trans f g h a b)
-
-pairs_from_next : (xs : List Candidate) → ((k : ℕ) (d : Candidate) → k + 1 < length xs → IsKeyUpTo (field (slice_index_or xs k d)) (field (slice_index_or xs (k + 1) d))) → (n i j : ℕ) (d : Candidate) → j ≡ i + suc n → j < length xs → IsKeyUpTo (field (slice_index_or xs i d)) (field (slice_index_or xs j d))
-pairs_from_next xs next zero i j d gap within =
-    let e : i + 1 ≡ j = omega arith in
-    subst (λ (k : ℕ). IsKeyUpTo (field (slice_index_or xs i d)) (field (slice_index_or xs k d))) e (next i d (omega arith))
-pairs_from_next xs next (suc n) i j d gap within =
-    key_trans (field (slice_index_or xs i d)) (field (slice_index_or xs (i + 1) d)) (field (slice_index_or xs j d)) (next i d (omega arith)) (pairs_from_next xs next n (i + 1) j d (omega arith) within)
+key_trans f g h = less_trans f.place g.place h.place _ _ _ (widths_trans f g h)
 
 none : Candidate
 none = record { place = 0; width = 0; content = Address 0 }
 
-pub keys-sorted : (cmp : Content → Content → Ordering) (xs : List Candidate) → ComparesContents cmp → ((k : ℕ) (d : Candidate) → 0 ≤ k → k + 1 < length xs → IsNotLess cmp (slice_index_or xs k d) (slice_index_or xs (k + 1) d)) → AllPairs IsKeyUpTo (map field xs)
+pub keys-sorted : (cmp : Content → Content → Ordering) (xs : List Candidate) → ComparesContents cmp →
+    ((k : ℕ) (d : Candidate) → 0 ≤ k → k + 1 < length xs → IsNotLess cmp (slice_index_or xs k d) (slice_index_or xs (k + 1) d)) →
+    AllPairs IsKeyUpTo (map field xs)
 keys-sorted cmp xs is sorted i j d less within =
     let inside : j < length xs = (let n = length-map xs field in omega arith) in
-    let up = pairs_from_next xs (λ k e before. key_up cmp is (slice_index_or xs k e) (slice_index_or xs (k + 1) e) (sorted k e (omega arith) before)) (j - i - 1) i j none (omega arith) inside in
+    let up = AllPairs-from_next (λ x y. IsKeyUpTo (field x) (field y)) (λ x y z. key_trans (field x) (field y) (field z)) xs
+    (λ k e before. key_up cmp is (slice_index_or xs k e) (slice_index_or xs (k + 1) e)
+    (sorted k e (omega arith) before)) i j none less inside in
     let at_i = get_or-map field xs i none d (omega arith) in
     let at_j = get_or-map field xs j none d inside in
-    subst (λ (f : Field). IsKeyUpTo f (slice_index_or (map field xs) j d)) (sym at_i) (subst (λ (g : Field). IsKeyUpTo (field (slice_index_or xs i none)) g) (sym at_j) up)
+    subst (λ (f : Field). IsKeyUpTo f (slice_index_or (map field xs) j d)) (sym at_i)
+    (subst (λ (g : Field). IsKeyUpTo (field (slice_index_or xs i none)) g) (sym at_j) up)

@@ -12,7 +12,9 @@ use Rattle.rv_reloc.specs.Records.{seen, AreRecords}
 use Rattle.rv_reloc.specs.Slots.{IsSlotLabelOf, IsLabelFrom, AreSlotLabels}
 use Rattle.rv_reloc.proofs.Kept.{counts, kept}
 
-pub AreSlotLabels-sorted : (elf : Elf) (records : List Record) (were labels : List SlotLabel) → AreRecords elf records → AreFound (λ r s. IsSlotLabelOf elf (seen r) s) records were → IsPermutation were labels → AllPairs (λ s t. IsLabelFrom s.place s.label t) labels → AreSlotLabels elf labels
+pub AreSlotLabels-sorted : (elf : Elf) (records : List Record) (were labels : List SlotLabel) → AreRecords elf records →
+    AreFound (λ r s. IsSlotLabelOf elf (seen r) s) records were → IsPermutation were labels →
+    AllPairs (λ s t. IsLabelFrom s.place s.label t) labels → AreSlotLabels elf labels
 AreSlotLabels-sorted elf records were labels are found moved ordered = record {
   all = λ s. (
     λ listed.
@@ -20,7 +22,8 @@ AreSlotLabels-sorted elf records were labels are found moved ordered = record {
         record { source = seen r; counts = counts elf records r are has_r; is = is },
     λ is.
         let (r, listed, same) = kept elf records is.source are is.counts in
-        Contains-permutation were labels s moved (found.each r s listed (subst (λ (q : Relocation). IsSlotLabelOf elf q s) (sym same) is.is)),
+        Contains-permutation were labels s moved
+        (found.each r s listed (subst (λ (q : Relocation). IsSlotLabelOf elf q s) (sym same) is.is)),
   );
   ordered = ordered;
 }

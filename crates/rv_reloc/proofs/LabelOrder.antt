@@ -1,5 +1,5 @@
 -- Labels by place and by themselves.
-use Rattle.std.proofs.Common.{◌≡◌, ◌≢◌, ◌∙◌, sym, subst, ap, refl, ℕ, zero, suc, ◌+◌, ◌-◌, ◌<◌, ◌≤◌, ℤ, ◌⊎◌, inl, inr, ⊎_elim, Bool, true, false, ◌&&◌, ◌||◌, ◌==◌, nat_lt, List, length, slice_index_or, arith}
+use Rattle.std.proofs.Common.{◌≡◌, ◌≢◌, ◌∙◌, sym, subst, ap, refl, ℕ, ◌+◌, ◌<◌, ◌≤◌, ℤ, ◌⊎◌, inl, inr, ⊎_elim, Bool, true, false, ◌&&◌, ◌||◌, ◌==◌, nat_lt, List, length, slice_index_or, arith}
 use Rattle.std.specs.Prelude.{◌<ℤ◌, ◌≤ℤ◌, int_lt}
 use Rattle.std.specs.List.{Contains, AllPairs}
 use Rattle.std.specs.List.Sorted.{IsPartitionedBy}
@@ -8,6 +8,7 @@ use Rattle.std.proofs.lemmas.Bool.{cases_lt, cases_eq, lt-ltb, le-ltb, eq-eqb, n
 use Rattle.std.proofs.lemmas.Int.{ints, by_lt_z}
 use Rattle.rv_reloc.specs.declared.slots.SlotLabel.{SlotLabel}
 use Rattle.rv_reloc.specs.Slots.{IsLabelBelow, IsLabelFrom}
+use Rattle.rv_reloc.proofs.Lexicographic.{integer_up, then_up, less_trans, AllPairs-from_next}
 
 lt_test : (a b : ℤ) → a <ℤ b → int_lt a b ≡ true
 lt_test a b less = grind (arith, ints)
@@ -34,30 +35,22 @@ below_or_from p q c d =
     (cases_eq p q))
     (cases_lt p q)
 
--- what the comparison of keys says
-from_cmp : (p q : ℕ) (c d : ℤ) → is_lt (ordering_then (nat_cmp q p) (int_cmp d c)) ≡ false → (p < q) ⊎ ((p ≡ q) × (c ≤ℤ d))
-from_cmp p q c d is = ⊎_elim below (λ from. from) (below_or_from q p d c)
-  where
-    below : (q < p) ⊎ ((q ≡ p) × (d <ℤ c)) → (p < q) ⊎ ((p ≡ q) × (c ≤ℤ d))
-    below (inl less) = let e : true ≡ false = rw (lt-ltb q p less) at is in absurd (cc)
-    below (inr (same, low)) = let e : true ≡ false = rw (le-ltb q p (omega arith), eq-eqb q p same, lt_test d c low) at is in absurd (cc)
-
 from_trans : (x y z : SlotLabel) → IsLabelFrom x.place x.label y → IsLabelFrom y.place y.label z → IsLabelFrom x.place x.label z
-from_trans x y z (inl a) (inl b) = inl (omega arith)
-from_trans x y z (inl a) (inr (e, b)) = inl (omega arith)
-from_trans x y z (inr (e, a)) (inl b) = inl (omega arith)
-from_trans x y z (inr (e, a)) (inr (f, b)) = inr (e ∙ f, upto_trans x.label y.label z.label a b)
+from_trans x y z =
+    less_trans x.place y.place z.place (x.label ≤ℤ y.label) (y.label ≤ℤ z.label) (x.label ≤ℤ z.label)
+    (upto_trans x.label y.label z.label)
 
-chain : (xs : List SlotLabel) → ((k : ℕ) (d : SlotLabel) → k + 1 < length xs → IsLabelFrom (slice_index_or xs k d).place (slice_index_or xs k d).label (slice_index_or xs (k + 1) d)) → (n i j : ℕ) (d : SlotLabel) → j ≡ i + suc n → j < length xs → IsLabelFrom (slice_index_or xs i d).place (slice_index_or xs i d).label (slice_index_or xs j d)
-chain xs next zero i j d gap within =
-    let e : i + 1 ≡ j = omega arith in
-    subst (λ (k : ℕ). IsLabelFrom (slice_index_or xs i d).place (slice_index_or xs i d).label (slice_index_or xs k d)) e (next i d (omega arith))
-chain xs next (suc n) i j d gap within =
-    from_trans (slice_index_or xs i d) (slice_index_or xs (i + 1) d) (slice_index_or xs j d) (next i d (omega arith)) (chain xs next n (i + 1) j d (omega arith) within)
-
-pub labels-sorted : (xs : List SlotLabel) → ((k : ℕ) (d : SlotLabel) → 0 ≤ k → k + 1 < length xs → is_lt (ordering_then (nat_cmp (slice_index_or xs (k + 1) d).place (slice_index_or xs k d).place) (int_cmp (slice_index_or xs (k + 1) d).label (slice_index_or xs k d).label)) ≡ false) → AllPairs (λ s t. IsLabelFrom s.place s.label t) xs
-labels-sorted xs sorted i j d less within =
-    chain xs (λ k e inside. from_cmp (slice_index_or xs k e).place (slice_index_or xs (k + 1) e).place (slice_index_or xs k e).label (slice_index_or xs (k + 1) e).label (sorted k e (omega arith) inside)) (j - i - 1) i j d (omega arith) within
+pub labels-sorted : (xs : List SlotLabel) →
+    ((k : ℕ) (d : SlotLabel) → 0 ≤ k → k + 1 < length xs →
+    is_lt (ordering_then (nat_cmp (slice_index_or xs (k + 1) d).place (slice_index_or xs k d).place)
+    (int_cmp (slice_index_or xs (k + 1) d).label (slice_index_or xs k d).label)) ≡ false) →
+    AllPairs (λ s t. IsLabelFrom s.place s.label t) xs
+labels-sorted xs sorted =
+    AllPairs-from_next (λ s t. IsLabelFrom s.place s.label t) from_trans xs
+    (λ k d inside.
+    let x = slice_index_or xs k d in
+    let y = slice_index_or xs (k + 1) d in
+    then_up x.place y.place (int_cmp y.label x.label) (x.label ≤ℤ y.label) (integer_up x.label y.label) (sorted k d (omega arith) inside))
 
 -- The test that a search asks.
 
@@ -75,21 +68,29 @@ from_test place label x (inl more) =
 from_test place label x (inr (p, c)) = rw (le-ltb x.place place (omega arith), eq-eqb x.place place (sym p), ge_test x.label label c) refl
 
 pub test_below : (place : ℕ) (label : ℤ) (x : SlotLabel) → is_below place label x ≡ true → IsLabelBelow place label x
-test_below place label x is = ⊎_elim (λ below. below) (λ from. let f = from_test place label x from in let e : true ≡ false = sym is ∙ f in absurd (cc)) (below_or_from x.place place x.label label)
+test_below place label x is =
+    ⊎_elim (λ below. below) (λ from. let f = from_test place label x from in let e : true ≡ false = sym is ∙ f in absurd (cc))
+    (below_or_from x.place place x.label label)
 
 pub test_from : (place : ℕ) (label : ℤ) (x : SlotLabel) → is_below place label x ≡ false → IsLabelFrom place label x
-test_from place label x is = ⊎_elim (λ below. let f = below_test place label x below in let e : true ≡ false = sym f ∙ is in absurd (cc)) (λ from. from) (below_or_from x.place place x.label label)
+test_from place label x is =
+    ⊎_elim (λ below. let f = below_test place label x below in let e : true ≡ false = sym f ∙ is in absurd (cc)) (λ from. from)
+    (below_or_from x.place place x.label label)
 
-below_back : (place : ℕ) (label : ℤ) (x y : SlotLabel) → IsLabelFrom x.place x.label y → IsLabelBelow place label y → IsLabelBelow place label x
+below_back : (place : ℕ) (label : ℤ) (x y : SlotLabel) → IsLabelFrom x.place x.label y → IsLabelBelow place label y →
+    IsLabelBelow place label x
 below_back place label x y (inl a) (inl b) = inl (omega arith)
 below_back place label x y (inl a) (inr (e, b)) = inl (omega arith)
 below_back place label x y (inr (e, a)) (inl b) = inl (omega arith)
 below_back place label x y (inr (e, a)) (inr (f, b)) = inr (e ∙ f, upto_below x.label y.label label a b)
 
-pub parted : (place : ℕ) (label : ℤ) (items : List SlotLabel) → AllPairs (λ s t. IsLabelFrom s.place s.label t) items → IsPartitionedBy (is_below place label) items
+pub parted : (place : ℕ) (label : ℤ) (items : List SlotLabel) → AllPairs (λ s t. IsLabelFrom s.place s.label t) items →
+    IsPartitionedBy (is_below place label) items
 parted place label items ordered i j d upto within is =
     ⊎_elim
-    (λ (less : i < j). below_test place label (slice_index_or items i d) (below_back place label (slice_index_or items i d) (slice_index_or items j d) (ordered i j d less within) (test_below place label (slice_index_or items j d) is)))
+    (λ (less : i < j). below_test place label (slice_index_or items i d)
+    (below_back place label (slice_index_or items i d) (slice_index_or items j d) (ordered i j d less within)
+    (test_below place label (slice_index_or items j d) is)))
     (λ (more : j ≤ i). let e : j ≡ i = omega arith in subst (λ (k : ℕ). is_below place label (slice_index_or items k d) ≡ true) e is)
     (cases_lt i j)
 
@@ -98,7 +99,13 @@ parted place label items ordered i j d upto within is =
 both_upto : (a b : ℤ) → a ≤ℤ b → b ≤ℤ a → (b <ℤ a → ⊥)
 both_upto a b one other less = not_both a b one less
 
-pub listed-first : (items : List SlotLabel) (place : ℕ) (label : ℤ) (n : ℕ) → AllPairs (λ s t. IsLabelFrom s.place s.label t) items → n ≤ length items → ((k : ℕ) (d : SlotLabel) → k < n → IsLabelBelow place label (slice_index_or items k d)) → ((k : ℕ) (d : SlotLabel) → n ≤ k → k < length items → IsLabelFrom place label (slice_index_or items k d)) → Contains items (record { place = place; label = label }) → (n < length items) × ((slice_index_or items n (record { place = place; label = label })).place ≡ place) × ((slice_index_or items n (record { place = place; label = label })).label ≤ℤ label) × (label ≤ℤ (slice_index_or items n (record { place = place; label = label })).label)
+pub listed-first : (items : List SlotLabel) (place : ℕ) (label : ℤ) (n : ℕ) → AllPairs (λ s t. IsLabelFrom s.place s.label t) items →
+    n ≤ length items → ((k : ℕ) (d : SlotLabel) → k < n → IsLabelBelow place label (slice_index_or items k d)) →
+    ((k : ℕ) (d : SlotLabel) → n ≤ k → k < length items → IsLabelFrom place label (slice_index_or items k d)) →
+    Contains items (record { place = place; label = label }) → (n < length items)
+    × ((slice_index_or items n (record { place = place; label = label })).place ≡ place)
+    × ((slice_index_or items n (record { place = place; label = label })).label ≤ℤ label)
+    × (label ≤ℤ (slice_index_or items n (record { place = place; label = label })).label)
 listed-first items place label n ordered bound below above (k, within, there) =
     let item : SlotLabel = record { place = place; label = label } in
     let at_place : (slice_index_or items k item).place ≡ place = ap (λ (s : SlotLabel). s.place) there in
@@ -113,7 +120,13 @@ listed-first items place label n ordered bound below above (k, within, there) =
     let from : IsLabelFrom place label (slice_index_or items n item) = above n item (omega arith) inside in
     let upto : IsLabelFrom (slice_index_or items n item).place (slice_index_or items n item).label (slice_index_or items k item) = ⊎_elim
     (λ (earlier : n < k). ordered n k item earlier within)
-    (λ (here : k ≤ n). let e : n ≡ k = omega arith in inr (ap (λ (i : ℕ). (slice_index_or items i item).place) e, subst (λ (i : ℕ). (slice_index_or items n item).label ≤ℤ (slice_index_or items i item).label) e (same_upto (slice_index_or items n item).label)))
+    (λ (here : k ≤ n). let e : n ≡ k = omega arith in
+    inr (
+      ap (λ (i : ℕ). (slice_index_or items i item).place) e,
+      subst
+          (λ (i : ℕ). (slice_index_or items n item).label ≤ℤ (slice_index_or items i item).label) e
+          (same_upto (slice_index_or items n item).label),
+    ))
     (cases_lt n k) in
     ⊎_elim
     (λ (past : place < (slice_index_or items n item).place). absurd (⊎_elim (λ less. omega arith) (λ (same, _). omega arith) upto))

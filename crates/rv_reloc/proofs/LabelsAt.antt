@@ -33,20 +33,24 @@ from_at place label s here (inl more) = absurd (omega arith)
 from_at place label s here (inr (same, high)) = high
 
 -- neighbours in a list are in the order of their places
-places_up : (items : List SlotLabel) (j k : ℕ) (d : SlotLabel) → AllPairs (λ s t. IsLabelFrom s.place s.label t) items → j ≤ k → k < length items → (slice_index_or items j d).place ≤ (slice_index_or items k d).place
+places_up : (items : List SlotLabel) (j k : ℕ) (d : SlotLabel) → AllPairs (λ s t. IsLabelFrom s.place s.label t) items → j ≤ k →
+    k < length items → (slice_index_or items j d).place ≤ (slice_index_or items k d).place
 places_up items j k d ordered upto within =
     ⊎_elim
     (λ (less : j < k). from_place _ _ (slice_index_or items k d) (ordered j k d less within))
     (λ (more : k ≤ j). let e : j ≡ k = omega arith in let f = ap (λ (i : ℕ). (slice_index_or items i d).place) e in omega arith)
     (cases_lt j k)
 
-module _ (items : List SlotLabel) (place : ℕ) (label z : ℤ) (n : ℕ) (same : z ≡ label) (bound : n ≤ length items) (below : (k : ℕ) (d : SlotLabel) → k < n → IsLabelBelow place z (slice_index_or items k d)) (above : (k : ℕ) (d : SlotLabel) → n ≤ k → k < length items → IsLabelFrom place z (slice_index_or items k d)) where
+module _ (items : List SlotLabel) (place : ℕ) (label z : ℤ) (n : ℕ) (same : z ≡ label) (bound : n ≤ length items)
+    (below : (k : ℕ) (d : SlotLabel) → k < n → IsLabelBelow place z (slice_index_or items k d))
+    (above : (k : ℕ) (d : SlotLabel) → n ≤ k → k < length items → IsLabelFrom place z (slice_index_or items k d)) where
   pub below-is : 0 < n → (at items (n - 1)).place ≡ place → HasLabelBelow items place label
   below-is some here = record {
     found = at items (n - 1);
     listed = (n - 1, omega arith, get_or_default items (n - 1) (at items (n - 1)) no_label (omega arith));
     place_is = here;
-    below = subst (λ (y : ℤ). (at items (n - 1)).label <ℤ y) same (below_at place z (at items (n - 1)) here (below (n - 1) no_label (omega arith)));
+    below = subst (λ (y : ℤ). (at items (n - 1)).label <ℤ y) same
+        (below_at place z (at items (n - 1)) here (below (n - 1) no_label (omega arith)));
   }
 
   pub from-is : n < length items → (at items n).place ≡ place → HasLabelFrom items place label
@@ -57,7 +61,8 @@ module _ (items : List SlotLabel) (place : ℕ) (label z : ℤ) (n : ℕ) (same 
     above = subst (λ (y : ℤ). y ≤ℤ (at items n).label) same (from_at place z (at items n) here (above n no_label (omega arith) within));
   }
 
-  pub below-only : AllPairs (λ s t. IsLabelFrom s.place s.label t) items → HasLabelBelow items place label → (0 < n) × ((at items (n - 1)).place ≡ place)
+  pub below-only : AllPairs (λ s t. IsLabelFrom s.place s.label t) items → HasLabelBelow items place label → (0 < n)
+      × ((at items (n - 1)).place ≡ place)
   below-only ordered has =
       let (k, within, there) = has.listed in
       let there' : at items k ≡ has.found = get_or_default items k no_label has.found within ∙ there in
@@ -69,11 +74,13 @@ module _ (items : List SlotLabel) (place : ℕ) (label z : ℤ) (n : ℕ) (same 
       (omega arith, omega arith))
       (λ (more : n ≤ k).
       let high = from_at place z (at items k) here (above k no_label more within) in
-      let low = subst (λ (y : ℤ). (at items k).label <ℤ y) (sym same) (subst (λ (s : SlotLabel). s.label <ℤ label) (sym there') has.below) in
+      let low = subst (λ (y : ℤ). (at items k).label <ℤ y) (sym same)
+      (subst (λ (s : SlotLabel). s.label <ℤ label) (sym there') has.below) in
       absurd (not_both z (at items k).label high low))
       (cases_lt k n)
 
-  pub from-only : AllPairs (λ s t. IsLabelFrom s.place s.label t) items → HasLabelFrom items place label → (n < length items) × ((at items n).place ≡ place)
+  pub from-only : AllPairs (λ s t. IsLabelFrom s.place s.label t) items → HasLabelFrom items place label → (n < length items)
+      × ((at items n).place ≡ place)
   from-only ordered has =
       let (k, within, there) = has.listed in
       let there' : at items k ≡ has.found = get_or_default items k no_label has.found within ∙ there in
@@ -81,7 +88,8 @@ module _ (items : List SlotLabel) (place : ℕ) (label z : ℤ) (n : ℕ) (same 
       ⊎_elim
       (λ (less : k < n).
       let low = below_at place z (at items k) here (below k no_label less) in
-      let high = subst (λ (y : ℤ). y ≤ℤ (at items k).label) (sym same) (subst (λ (s : SlotLabel). label ≤ℤ s.label) (sym there') has.above) in
+      let high = subst (λ (y : ℤ). y ≤ℤ (at items k).label) (sym same)
+      (subst (λ (s : SlotLabel). label ≤ℤ s.label) (sym there') has.above) in
       absurd (not_both z (at items k).label high low))
       (λ (more : n ≤ k).
       let inside : n < length items = omega arith in
@@ -92,7 +100,8 @@ module _ (items : List SlotLabel) (place : ℕ) (label z : ℤ) (n : ℕ) (same 
 
 -- Another label, and any label.
 
-pub other-below : (items : List SlotLabel) (place number : ℕ) (z : ℤ) → z ≡ pos number → HasLabelBelow items place z → HasOtherLabel items place number
+pub other-below : (items : List SlotLabel) (place number : ℕ) (z : ℤ) → z ≡ pos number → HasLabelBelow items place z →
+    HasOtherLabel items place number
 other-below items place number z is has = record {
   found = has.found;
   listed = has.listed;
@@ -100,7 +109,8 @@ other-below items place number z is has = record {
   differs = λ same. let low = has.below in not_both z has.found.label (omega (arith, ints)) low;
 }
 
-pub other-from : (items : List SlotLabel) (place number : ℕ) (z : ℤ) → z ≡ pos number +ℤ pos 1 → HasLabelFrom items place z → HasOtherLabel items place number
+pub other-from : (items : List SlotLabel) (place number : ℕ) (z : ℤ) → z ≡ pos number +ℤ pos 1 → HasLabelFrom items place z →
+    HasOtherLabel items place number
 other-from items place number z is has = record {
   found = has.found;
   listed = has.listed;
@@ -108,11 +118,19 @@ other-from items place number z is has = record {
   differs = λ same. let high = has.above in omega (arith, ints);
 }
 
-pub other-cases : (items : List SlotLabel) (place number : ℕ) (y z : ℤ) → y ≡ pos number → z ≡ pos number +ℤ pos 1 → HasOtherLabel items place number → HasLabelBelow items place y ⊎ HasLabelFrom items place z
+pub other-cases : (items : List SlotLabel) (place number : ℕ) (y z : ℤ) → y ≡ pos number → z ≡ pos number +ℤ pos 1 →
+    HasOtherLabel items place number → HasLabelBelow items place y ⊎ HasLabelFrom items place z
 other-cases items place number y z is is' has =
     by_lt_z has.found.label (pos number)
-    (λ low. inl (record { found = has.found; listed = has.listed; place_is = has.place_is; below = subst (λ (x : ℤ). has.found.label <ℤ x) (sym is) low }))
-    (λ high. inr (record { found = has.found; listed = has.listed; place_is = has.place_is; above = next has.found.label high has.differs }))
+    (λ low. inl (record {
+      found = has.found;
+      listed = has.listed;
+      place_is = has.place_is;
+      below = subst
+          (λ (x : ℤ). has.found.label <ℤ x) (sym is) low;
+    }))
+    (λ high. inr
+    (record { found = has.found; listed = has.listed; place_is = has.place_is; above = next has.found.label high has.differs }))
   where
     next : (x : ℤ) → pos number ≤ℤ x → x ≢ pos number → z ≤ℤ x
     next x high differs = by_lt_z x z (λ low. absurd (differs (grind (arith, ints)))) (λ up. up)
@@ -123,8 +141,16 @@ at-below items place z has = record { found = has.found; listed = has.listed; pl
 pub at-from : (items : List SlotLabel) (place : ℕ) (z : ℤ) → HasLabelFrom items place z → HasLabelAt items place
 at-from items place z has = record { found = has.found; listed = has.listed; place_is = has.place_is }
 
-pub at-cases : (items : List SlotLabel) (place : ℕ) (y z : ℤ) → y ≡ z → HasLabelAt items place → HasLabelBelow items place y ⊎ HasLabelFrom items place z
+pub at-cases : (items : List SlotLabel) (place : ℕ) (y z : ℤ) → y ≡ z → HasLabelAt items place → HasLabelBelow items place y
+    ⊎ HasLabelFrom items place z
 at-cases items place y z same has =
     by_lt_z has.found.label y
     (λ low. inl (record { found = has.found; listed = has.listed; place_is = has.place_is; below = low }))
-    (λ high. inr (record { found = has.found; listed = has.listed; place_is = has.place_is; above = subst (λ (x : ℤ). x ≤ℤ has.found.label) same high }))
+    (λ high. inr
+    (record {
+      found = has.found;
+      listed = has.listed;
+      place_is = has.place_is;
+      above = subst
+          (λ (x : ℤ). x ≤ℤ has.found.label) same high;
+    }))

@@ -29,12 +29,14 @@ from_last (Some c) b rest e last =
     let here : is_last c ≡ true = ap is_last same ∙ last in
     ap (λ (t : Bool). if t then Some (c ∷ []) else option_map (λ bs. c ∷ bs) rest) here ∙ ap (λ (x : ℕ). Some (x ∷ [])) same
 
-from_more : (o : Option ℕ) (b : ℕ) (rest : Option (List ℕ)) → o ≡ Some b → is_last b ≡ false → leb_from o rest ≡ option_map (λ bs. b ∷ bs) rest
+from_more : (o : Option ℕ) (b : ℕ) (rest : Option (List ℕ)) → o ≡ Some b → is_last b ≡ false →
+    leb_from o rest ≡ option_map (λ bs. b ∷ bs) rest
 from_more None b rest e last = absurd (cc)
 from_more (Some c) b rest e last =
     let same : c ≡ b = cc in
     let here : is_last c ≡ false = ap is_last same ∙ last in
-    ap (λ (t : Bool). if t then Some (c ∷ []) else option_map (λ bs. c ∷ bs) rest) here ∙ ap (λ (x : ℕ). option_map (λ bs. x ∷ bs) rest) same
+    ap (λ (t : Bool). if t then Some (c ∷ []) else option_map (λ bs. c ∷ bs) rest) here
+    ∙ ap (λ (x : ℕ). option_map (λ bs. x ∷ bs) rest) same
 
 from_none : (o : Option ℕ) (rest : Option (List ℕ)) → o ≡ None → leb_from o rest ≡ None
 from_none None rest e = refl
@@ -52,7 +54,8 @@ pub never-unloaded : (elf : Elf) (a : ℕ) → byte_at elf a ≡ None → (n : �
 never-unloaded elf a none zero = at_zero elf a
 never-unloaded elf a none (suc n) = at_suc elf a n ∙ from_none (byte_at elf a) (leb_at elf (a + 1) n) none
 
-never-more : (elf : Elf) (a b : ℕ) → byte_at elf a ≡ Some b → is_last b ≡ false → ((n : ℕ) → leb_at elf (a + 1) n ≡ None) → (n : ℕ) → leb_at elf a n ≡ None
+never-more : (elf : Elf) (a b : ℕ) → byte_at elf a ≡ Some b → is_last b ≡ false → ((n : ℕ) → leb_at elf (a + 1) n ≡ None) → (n : ℕ) →
+    leb_at elf a n ≡ None
 never-more elf a b byte more never zero = at_zero elf a
 never-more elf a b byte more never (suc n) =
     at_suc elf a n ∙ from_more (byte_at elf a) b (leb_at elf (a + 1) n) byte more ∙ none_more b (leb_at elf (a + 1) n) (never n)
@@ -71,18 +74,24 @@ bytes-last elf a b byte last = record {
   beyond = λ n few. last_beyond elf a n (omega arith);
 }
 
-more_within : (elf : Elf) (a b : ℕ) (bs : List ℕ) → byte_at elf a ≡ Some b → is_last b ≡ false → AreLebBytes elf (a + 1) bs → (n : ℕ) → length (b ∷ bs) ≤ n → leb_at elf a n ≡ Some (b ∷ bs)
+more_within : (elf : Elf) (a b : ℕ) (bs : List ℕ) → byte_at elf a ≡ Some b → is_last b ≡ false → AreLebBytes elf (a + 1) bs → (n : ℕ) →
+    length (b ∷ bs) ≤ n → leb_at elf a n ≡ Some (b ∷ bs)
 more_within elf a b bs byte more are zero upto = absurd (omega arith)
 more_within elf a b bs byte more are (suc n) upto =
-    at_suc elf a n ∙ from_more (byte_at elf a) b (leb_at elf (a + 1) n) byte more ∙ some_more b (leb_at elf (a + 1) n) bs (are.within n (omega arith))
+    at_suc elf a n ∙ from_more (byte_at elf a) b (leb_at elf (a + 1) n) byte more
+    ∙ some_more b (leb_at elf (a + 1) n) bs (are.within n (omega arith))
 
-more_beyond : (elf : Elf) (a b : ℕ) (bs : List ℕ) → byte_at elf a ≡ Some b → is_last b ≡ false → AreLebBytes elf (a + 1) bs → (n : ℕ) → n < length (b ∷ bs) → leb_at elf a n ≡ None
+more_beyond : (elf : Elf) (a b : ℕ) (bs : List ℕ) → byte_at elf a ≡ Some b → is_last b ≡ false → AreLebBytes elf (a + 1) bs → (n : ℕ) →
+    n < length (b ∷ bs) → leb_at elf a n ≡ None
 more_beyond elf a b bs byte more are zero few = at_zero elf a
 more_beyond elf a b bs byte more are (suc n) few =
-    at_suc elf a n ∙ from_more (byte_at elf a) b (leb_at elf (a + 1) n) byte more ∙ none_more b (leb_at elf (a + 1) n) (are.beyond n (omega arith))
+    at_suc elf a n ∙ from_more (byte_at elf a) b (leb_at elf (a + 1) n) byte more
+    ∙ none_more b (leb_at elf (a + 1) n) (are.beyond n (omega arith))
 
-bytes-more : (elf : Elf) (a b : ℕ) (bs : List ℕ) → byte_at elf a ≡ Some b → is_last b ≡ false → AreLebBytes elf (a + 1) bs → AreLebBytes elf a (b ∷ bs)
-bytes-more elf a b bs byte more are = record { within = more_within elf a b bs byte more are; beyond = more_beyond elf a b bs byte more are }
+bytes-more : (elf : Elf) (a b : ℕ) (bs : List ℕ) → byte_at elf a ≡ Some b → is_last b ≡ false → AreLebBytes elf (a + 1) bs →
+    AreLebBytes elf a (b ∷ bs)
+bytes-more elf a b bs byte more are =
+    record { within = more_within elf a b bs byte more are; beyond = more_beyond elf a b bs byte more are }
 
 -- All bytes.
 
@@ -91,29 +100,35 @@ pub bytes-from : (elf : Elf) (n a : ℕ) (bs : List ℕ) → leb_at elf a n ≡ 
 bytes-from elf zero a bs is = let e : None ≡ Some bs = sym (at_zero elf a) ∙ is in absurd (cc)
 bytes-from elf (suc n) a bs is = by (bytes-from elf n (a + 1)) (byte_at elf a) refl
   where
-    rest_by : ((cs : List ℕ) → leb_at elf (a + 1) n ≡ Some cs → AreLebBytes elf (a + 1) cs) → (b : ℕ) → byte_at elf a ≡ Some b → is_last b ≡ false → (o : Option (List ℕ)) → leb_at elf (a + 1) n ≡ o → AreLebBytes elf a bs
+    rest_by : ((cs : List ℕ) → leb_at elf (a + 1) n ≡ Some cs → AreLebBytes elf (a + 1) cs) → (b : ℕ) → byte_at elf a ≡ Some b →
+        is_last b ≡ false → (o : Option (List ℕ)) → leb_at elf (a + 1) n ≡ o → AreLebBytes elf a bs
     rest_by later b byte more None rest =
-        let e : None ≡ Some bs = sym (none_more b (leb_at elf (a + 1) n) rest) ∙ sym (from_more (byte_at elf a) b (leb_at elf (a + 1) n) byte more) ∙ sym (at_suc elf a n) ∙ is in
+        let e : None ≡ Some bs = sym (none_more b (leb_at elf (a + 1) n) rest)
+        ∙ sym (from_more (byte_at elf a) b (leb_at elf (a + 1) n) byte more) ∙ sym (at_suc elf a n) ∙ is in
         absurd (cc)
     rest_by later b byte more (Some cs) rest =
-        let e : Some (b ∷ cs) ≡ Some bs = sym (some_more b (leb_at elf (a + 1) n) cs rest) ∙ sym (from_more (byte_at elf a) b (leb_at elf (a + 1) n) byte more) ∙ sym (at_suc elf a n) ∙ is in
+        let e : Some (b ∷ cs) ≡ Some bs = sym (some_more b (leb_at elf (a + 1) n) cs rest)
+        ∙ sym (from_more (byte_at elf a) b (leb_at elf (a + 1) n) byte more) ∙ sym (at_suc elf a n) ∙ is in
         let same : b ∷ cs ≡ bs = cc in
         subst (AreLebBytes elf a) same (bytes-more elf a b cs byte more (later cs rest))
 
-    last_by : ((cs : List ℕ) → leb_at elf (a + 1) n ≡ Some cs → AreLebBytes elf (a + 1) cs) → (b : ℕ) → byte_at elf a ≡ Some b → (t : Bool) → is_last b ≡ t → AreLebBytes elf a bs
+    last_by : ((cs : List ℕ) → leb_at elf (a + 1) n ≡ Some cs → AreLebBytes elf (a + 1) cs) → (b : ℕ) → byte_at elf a ≡ Some b →
+        (t : Bool) → is_last b ≡ t → AreLebBytes elf a bs
     last_by later b byte true last =
         let e : Some (b ∷ []) ≡ Some bs = sym (from_last (byte_at elf a) b (leb_at elf (a + 1) n) byte last) ∙ sym (at_suc elf a n) ∙ is in
         let same : b ∷ [] ≡ bs = cc in
         subst (AreLebBytes elf a) same (bytes-last elf a b byte last)
     last_by later b byte false more = rest_by later b byte more (leb_at elf (a + 1) n) refl
 
-    by : ((cs : List ℕ) → leb_at elf (a + 1) n ≡ Some cs → AreLebBytes elf (a + 1) cs) → (o : Option ℕ) → byte_at elf a ≡ o → AreLebBytes elf a bs
+    by : ((cs : List ℕ) → leb_at elf (a + 1) n ≡ Some cs → AreLebBytes elf (a + 1) cs) → (o : Option ℕ) → byte_at elf a ≡ o →
+        AreLebBytes elf a bs
     by later None byte = let e : None ≡ Some bs = sym (never-unloaded elf a byte (suc n)) ∙ is in absurd (cc)
     by later (Some b) byte = last_by later b byte (is_last b) refl
 
 pub bytes-once : (elf : Elf) (a : ℕ) (bs cs : List ℕ) → AreLebBytes elf a bs → AreLebBytes elf a cs → bs ≡ cs
 bytes-once elf a bs cs are are' =
-    let e : Some bs ≡ Some cs = sym (are.within (length bs + length cs) (omega arith)) ∙ are'.within (length bs + length cs) (omega arith) in
+    let e : Some bs ≡ Some cs = sym (are.within (length bs + length cs) (omega arith))
+    ∙ are'.within (length bs + length cs) (omega arith) in
     cc
 
 pub bytes-some : (elf : Elf) (a : ℕ) (bs : List ℕ) → AreLebBytes elf a bs → 0 < length bs
@@ -133,7 +148,9 @@ front elf a b bs are byte = by (is_last b) refl
   where
     rest_by : is_last b ≡ false → (o : Option (List ℕ)) → leb_at elf (a + 1) (length bs) ≡ o → Front elf a b bs
     rest_by last None rest =
-        let e : None ≡ Some bs = sym (none_more b (leb_at elf (a + 1) (length bs)) rest) ∙ sym (from_more (byte_at elf a) b (leb_at elf (a + 1) (length bs)) byte last) ∙ sym (at_suc elf a (length bs)) ∙ are.within (suc (length bs)) (omega arith) in
+        let e : None ≡ Some bs = sym (none_more b (leb_at elf (a + 1) (length bs)) rest)
+        ∙ sym (from_more (byte_at elf a) b (leb_at elf (a + 1) (length bs)) byte last) ∙ sym (at_suc elf a (length bs))
+        ∙ are.within (suc (length bs)) (omega arith) in
         absurd (cc)
     rest_by last (Some cs) rest =
         let after = bytes-from elf (length bs) (a + 1) cs rest in
@@ -151,7 +168,8 @@ unloaded-bytes elf a bs are byte = never-bytes elf a bs are (never-unloaded elf 
 pub tail-unloaded : (elf : Elf) (a : ℕ) → byte_at elf a ≡ None → TailAt elf a None
 tail-unloaded elf a byte = no_tail (never-unloaded elf a byte)
 
-pub tail-last : (elf : Elf) (a b : ℕ) (t : Tail) → byte_at elf a ≡ Some b → b < 128 → t.end ≡ a + 1 → IsTrue t.is_zeros ↔ HoldBits (b ∷ []) (pos 0) → IsTrue t.is_ones ↔ HoldBits (b ∷ []) (negsuc 0) → TailAt elf a (Some t)
+pub tail-last : (elf : Elf) (a b : ℕ) (t : Tail) → byte_at elf a ≡ Some b → b < 128 → t.end ≡ a + 1 →
+    IsTrue t.is_zeros ↔ HoldBits (b ∷ []) (pos 0) → IsTrue t.is_ones ↔ HoldBits (b ∷ []) (negsuc 0) → TailAt elf a (Some t)
 tail-last elf a b t byte low end zeros ones = is_tail t (record {
   bytes = b ∷ [];
   are = bytes-last elf a b byte (lt-ltb b 128 low);
@@ -166,7 +184,9 @@ tail_of t (is_tail _ is) = is
 no_tail_of : {elf : Elf} {a : ℕ} → TailAt elf a None → (n : ℕ) → leb_at elf a n ≡ None
 no_tail_of (no_tail never) = never
 
-pub tail-more : (elf : Elf) (a b : ℕ) (t u : Tail) → byte_at elf a ≡ Some b → 128 ≤ b → TailAt elf (a + 1) (Some t) → u.end ≡ t.end → IsTrue u.is_zeros ↔ ((b % 128 ≡ 0) × IsTrue t.is_zeros) → IsTrue u.is_ones ↔ ((b % 128 ≡ 127) × IsTrue t.is_ones) → TailAt elf a (Some u)
+pub tail-more : (elf : Elf) (a b : ℕ) (t u : Tail) → byte_at elf a ≡ Some b → 128 ≤ b → TailAt elf (a + 1) (Some t) → u.end ≡ t.end →
+    IsTrue u.is_zeros ↔ ((b % 128 ≡ 0) × IsTrue t.is_zeros) → IsTrue u.is_ones ↔ ((b % 128 ≡ 127) × IsTrue t.is_ones) →
+    TailAt elf a (Some u)
 tail-more elf a b t u byte high next end zeros ones =
     let is = tail_of t next in
     is_tail u (record {
@@ -189,40 +209,47 @@ no_tail-never elf a n at = no_tail_of at n
 
 -- Bits.
 
-pub zeros-hold : (elf : Elf) (a : ℕ) (t : Tail) (bs : List ℕ) (z : ℤ) → TailAt elf a (Some t) → AreLebBytes elf a bs → z ≡ pos 0 → IsTrue t.is_zeros ↔ HoldBits bs z
+pub zeros-hold : (elf : Elf) (a : ℕ) (t : Tail) (bs : List ℕ) (z : ℤ) → TailAt elf a (Some t) → AreLebBytes elf a bs → z ≡ pos 0 →
+    IsTrue t.is_zeros ↔ HoldBits bs z
 zeros-hold elf a t bs z at are is =
     let tail = tail_of t at in
     let same = bytes-once elf a tail.bytes bs tail.are are in
-    subst (λ (y : ℤ). IsTrue t.is_zeros ↔ HoldBits bs y) (sym is) (subst (λ (cs : List ℕ). IsTrue t.is_zeros ↔ HoldBits cs (pos 0)) same tail.zeros)
+    subst (λ (y : ℤ). IsTrue t.is_zeros ↔ HoldBits bs y) (sym is)
+    (subst (λ (cs : List ℕ). IsTrue t.is_zeros ↔ HoldBits cs (pos 0)) same tail.zeros)
 
 minus_one : (z : ℤ) → magnitude z ≡ 0 → z ≢ pos 0 → z ≡ negsuc 0
 minus_one (pos n) small other = absurd (other (ap pos small))
 minus_one (negsuc n) small other = ap negsuc small
 
-pub ones-hold : (elf : Elf) (a : ℕ) (t : Tail) (bs : List ℕ) (z : ℤ) → TailAt elf a (Some t) → AreLebBytes elf a bs → magnitude z ≡ 0 → z ≢ pos 0 → IsTrue t.is_ones ↔ HoldBits bs z
+pub ones-hold : (elf : Elf) (a : ℕ) (t : Tail) (bs : List ℕ) (z : ℤ) → TailAt elf a (Some t) → AreLebBytes elf a bs → magnitude z ≡ 0 →
+    z ≢ pos 0 → IsTrue t.is_ones ↔ HoldBits bs z
 ones-hold elf a t bs z at are small other =
     let tail = tail_of t at in
     let same = bytes-once elf a tail.bytes bs tail.are are in
-    subst (λ (y : ℤ). IsTrue t.is_ones ↔ HoldBits bs y) (sym (minus_one z small other)) (subst (λ (cs : List ℕ). IsTrue t.is_ones ↔ HoldBits cs (negsuc 0)) same tail.ones)
+    subst (λ (y : ℤ). IsTrue t.is_ones ↔ HoldBits bs y) (sym (minus_one z small other))
+    (subst (λ (cs : List ℕ). IsTrue t.is_ones ↔ HoldBits cs (negsuc 0)) same tail.ones)
 
 pub no_tail-hold : (elf : Elf) (a : ℕ) (bs : List ℕ) → TailAt elf a None → AreLebBytes elf a bs → ⊥
 no_tail-hold elf a bs at are = never-bytes elf a bs are (no_tail_of at)
 
-pub first-bits : (elf : Elf) (a b : ℕ) (bs : List ℕ) (z : ℤ) → AreLebBytes elf a bs → byte_at elf a ≡ Some b → HoldBits bs z → b % 128 ≡ low_bits z
+pub first-bits : (elf : Elf) (a b : ℕ) (bs : List ℕ) (z : ℤ) → AreLebBytes elf a bs → byte_at elf a ≡ Some b → HoldBits bs z →
+    b % 128 ≡ low_bits z
 first-bits elf a b bs z are byte hold = by (front elf a b bs are byte)
   where
     by : Front elf a b bs → b % 128 ≡ low_bits z
     by (one last is) = let h = subst (λ (cs : List ℕ). HoldBits cs z) is hold in h.0
     by (more last cs is after) = let h = subst (λ (ds : List ℕ). HoldBits ds z) is hold in h.0
 
-pub last-bits : (elf : Elf) (a b : ℕ) (bs : List ℕ) (z : ℤ) → AreLebBytes elf a bs → byte_at elf a ≡ Some b → b < 128 → b % 128 ≡ low_bits z → HoldBits bs z
+pub last-bits : (elf : Elf) (a b : ℕ) (bs : List ℕ) (z : ℤ) → AreLebBytes elf a bs → byte_at elf a ≡ Some b → b < 128 →
+    b % 128 ≡ low_bits z → HoldBits bs z
 last-bits elf a b bs z are byte low same = by (front elf a b bs are byte)
   where
     by : Front elf a b bs → HoldBits bs z
     by (one last is) = subst (λ (cs : List ℕ). HoldBits cs z) (sym is) (same, tt)
     by (more last cs is after) = let e : true ≡ false = sym (lt-ltb b 128 low) ∙ last in absurd (cc)
 
-pub more-bits : (elf : Elf) (a b : ℕ) (bs : List ℕ) (z : ℤ) (r : Bool) → AreLebBytes elf a bs → byte_at elf a ≡ Some b → 128 ≤ b → b % 128 ≡ low_bits z → ((cs : List ℕ) → AreLebBytes elf (a + 1) cs → IsTrue r ↔ HoldBits cs (high_bits z)) → IsTrue r ↔ HoldBits bs z
+pub more-bits : (elf : Elf) (a b : ℕ) (bs : List ℕ) (z : ℤ) (r : Bool) → AreLebBytes elf a bs → byte_at elf a ≡ Some b → 128 ≤ b →
+    b % 128 ≡ low_bits z → ((cs : List ℕ) → AreLebBytes elf (a + 1) cs → IsTrue r ↔ HoldBits cs (high_bits z)) → IsTrue r ↔ HoldBits bs z
 more-bits elf a b bs z r are byte high same rest = by (front elf a b bs are byte)
   where
     by : Front elf a b bs → IsTrue r ↔ HoldBits bs z
@@ -253,17 +280,22 @@ tail-end elf a low high = tail-unloaded elf a (by (byte_at elf a) refl)
 
 -- Fields in sections.
 
-pub size-beyond : (elf : Elf) (a n : ℕ) (t : Tail) → TailAt elf a (Some t) → (n ≡ 0) ⊎ (a + n < t.end) → None ≡ option_map length (leb_at elf a n)
+pub size-beyond : (elf : Elf) (a n : ℕ) (t : Tail) → TailAt elf a (Some t) → (n ≡ 0) ⊎ (a + n < t.end) →
+    None ≡ option_map length (leb_at elf a n)
 size-beyond elf a n t at short =
     let is = tail_of t at in
     let some = bytes-some elf a is.bytes is.are in
     let end = is.end in
-    let few : n < length is.bytes = ⊎_elim (λ (none : n ≡ 0). let less : n < length is.bytes = omega arith in less) (λ (before : a + n < t.end). let less : n < length is.bytes = omega arith in less) short in
+    let few : n < length is.bytes =
+    ⊎_elim (λ (none : n ≡ 0). let less : n < length is.bytes = omega arith in less)
+    (λ (before : a + n < t.end). let less : n < length is.bytes = omega arith in less) short in
     sym (ap (option_map length) (is.are.beyond n few))
 
-pub field-holds : (elf : Elf) (a n m : ℕ) (z : ℤ) (r : Bool) → option_map length (leb_at elf a n) ≡ Some m → ((bs : List ℕ) → AreLebBytes elf a bs → IsTrue r ↔ HoldBits bs z) → IsTrue r ↔ IsSomeAnd (leb_at elf a n) (λ bs. HoldBits bs z)
+pub field-holds : (elf : Elf) (a n m : ℕ) (z : ℤ) (r : Bool) → option_map length (leb_at elf a n) ≡ Some m →
+    ((bs : List ℕ) → AreLebBytes elf a bs → IsTrue r ↔ HoldBits bs z) → IsTrue r ↔ IsSomeAnd (leb_at elf a n) (λ bs. HoldBits bs z)
 field-holds elf a n m z r size test = by (leb_at elf a n) refl
   where
     by : (o : Option (List ℕ)) → leb_at elf a n ≡ o → IsTrue r ↔ IsSomeAnd (leb_at elf a n) (λ bs. HoldBits bs z)
     by None is = let e : None ≡ Some m = sym (ap (option_map length) is) ∙ size in absurd (cc)
-    by (Some bs) is = subst (λ (o : Option (List ℕ)). IsTrue r ↔ IsSomeAnd o (λ cs. HoldBits cs z)) (sym is) (test bs (bytes-from elf n a bs is))
+    by (Some bs) is =
+        subst (λ (o : Option (List ℕ)). IsTrue r ↔ IsSomeAnd o (λ cs. HoldBits cs z)) (sym is) (test bs (bytes-from elf n a bs is))

@@ -20,6 +20,7 @@ pub mod FarLists
 pub mod Faulty
 pub mod FieldsFound
 pub mod Finds
+pub mod FileBytes
 pub mod FirstLow
 pub mod FirstRoles
 pub mod Frees
@@ -32,6 +33,7 @@ pub mod LabelLists
 pub mod LabelOrder
 pub mod LabelsAt
 pub mod Lebs
+pub mod Lexicographic
 pub mod Lists
 pub mod LoadedNumbers
 pub mod LowFiles

@@ -19,7 +19,8 @@ goes_on elf a n = refl
 pub number-begin : (elf : Elf) (a n : ℕ) → n ≡ 0 → Some 0 ≡ loaded_number elf a n
 number-begin elf a n none = begins elf a ∙ ap (λ (k : ℕ). loaded_number elf a k) (sym none)
 
-more : (first : Option ℕ) (rest : Option (List ℕ)) (b x : ℕ) → first ≡ Some b → option_map little rest ≡ Some x → Some (b + 256 * x) ≡ option_map little (and_more first rest)
+more : (first : Option ℕ) (rest : Option (List ℕ)) (b x : ℕ) → first ≡ Some b → option_map little rest ≡ Some x →
+    Some (b + 256 * x) ≡ option_map little (and_more first rest)
 unfolding little
 more None rest b x e f = absurd (cc)
 more (Some c) None b x e f = absurd (cc)
@@ -34,17 +35,20 @@ no_rest None rest e = refl
 no_rest (Some c) None e = refl
 no_rest (Some c) (Some bs) e = absurd (cc)
 
-whole : (elf : Elf) (a n m : ℕ) → n ≡ suc m → option_map little (and_more (byte_at elf a) (bytes_in (byte_at elf) (a + 1) m)) ≡ loaded_number elf a n
+whole : (elf : Elf) (a n m : ℕ) → n ≡ suc m →
+    option_map little (and_more (byte_at elf a) (bytes_in (byte_at elf) (a + 1) m)) ≡ loaded_number elf a n
 whole elf a n m is = ap (option_map little) (sym (goes_on elf a m)) ∙ ap (λ (k : ℕ). loaded_number elf a k) (sym is)
 
-pub number-more : (elf : Elf) (a n m b x : ℕ) → n ≡ suc m → byte_at elf a ≡ Some b → loaded_number elf (a + 1) m ≡ Some x → Some (b + 256 * x) ≡ loaded_number elf a n
+pub number-more : (elf : Elf) (a n m b x : ℕ) → n ≡ suc m → byte_at elf a ≡ Some b → loaded_number elf (a + 1) m ≡ Some x →
+    Some (b + 256 * x) ≡ loaded_number elf a n
 number-more elf a n m b x is first rest = more (byte_at elf a) (bytes_in (byte_at elf) (a + 1) m) b x first rest ∙ whole elf a n m is
 
 pub number-no_rest : (elf : Elf) (a n m : ℕ) → n ≡ suc m → loaded_number elf (a + 1) m ≡ None → None ≡ loaded_number elf a n
 number-no_rest elf a n m is rest = no_rest (byte_at elf a) (bytes_in (byte_at elf) (a + 1) m) rest ∙ whole elf a n m is
 
 pub number-no_first : (elf : Elf) (a n m : ℕ) → n ≡ suc m → byte_at elf a ≡ None → None ≡ loaded_number elf a n
-number-no_first elf a n m is first = ap (λ (o : Option ℕ). option_map little (and_more o (bytes_in (byte_at elf) (a + 1) m))) (sym first) ∙ whole elf a n m is
+number-no_first elf a n m is first =
+    ap (λ (o : Option ℕ). option_map little (and_more o (bytes_in (byte_at elf) (a + 1) m))) (sym first) ∙ whole elf a n m is
 
 pub power-more : (b x n m : ℕ) → n ≡ suc m → b < 256 → x < 256 ^ m → b + 256 * x < 256 ^ n
 power-more b x n m is low below =
@@ -58,10 +62,13 @@ power-seven x m small below =
     let p : 256 ^ m ≤ 256 ^ 7 = pow-le-pow_right positive small in
     omega arith
 
-first_byte : (elf : Elf) (a : ℕ) (o : Option ℕ) (rest : Option (List ℕ)) (x : ℕ) → byte_at elf a ≡ o → option_map little (and_more o rest) ≡ Some x → IsSome (byte_at elf a)
+first_byte : (elf : Elf) (a : ℕ) (o : Option ℕ) (rest : Option (List ℕ)) (x : ℕ) → byte_at elf a ≡ o →
+    option_map little (and_more o rest) ≡ Some x → IsSome (byte_at elf a)
 first_byte elf a None rest x is loaded = absurd (cc)
 first_byte elf a (Some b) rest x is loaded = subst (λ (o : Option ℕ). IsSome o) (sym is) refl
 
 -- what is loaded isn't above all that can be
 pub number-low : (elf : Elf) (a m x : ℕ) → IsLow elf → loaded_number elf a (suc m) ≡ Some x → a < address_end
-number-low elf a m x low loaded = low.below a (first_byte elf a (byte_at elf a) (bytes_in (byte_at elf) (a + 1) m) x refl (ap (option_map little) (sym (goes_on elf a m)) ∙ loaded))
+number-low elf a m x low loaded =
+    low.below a (first_byte elf a (byte_at elf a) (bytes_in (byte_at elf) (a + 1) m) x refl
+    (ap (option_map little) (sym (goes_on elf a m)) ∙ loaded))

@@ -27,11 +27,13 @@ segment_low file a p sound e =
     absurd (sound HighAddress a ((found.1).0, at.0, (loads, high))))
     (cases_lt a address_end)
 
-by_segment : (file read : List ℕ) (a : ℕ) (o : Option Segment) → IsSound file → segment_of (segments_of file) a ≡ o → IsSome (option_map (byte_of read a) o) → a < address_end
+by_segment : (file read : List ℕ) (a : ℕ) (o : Option Segment) → IsSound file → segment_of (segments_of file) a ≡ o →
+    IsSome (option_map (byte_of read a) o) → a < address_end
 by_segment file read a None sound e some = let wrong : false ≡ true = some in absurd (cc)
 by_segment file read a (Some p) sound e some = segment_low file a p sound e
 
 pub IsLow-read : (elf : Elf) → IsRead elf → IsLow elf
 IsLow-read elf is = record {
-  below = λ a some. by_segment is.file elf.file.now a (segment_of elf.segments.items a) is.sound (ap (λ (l : List Segment). segment_of l a) (sym is.fields.segments)) some;
+  below = λ a some. by_segment is.file elf.file.now a (segment_of elf.segments.items a) is.sound
+      (ap (λ (l : List Segment). segment_of l a) (sym is.fields.segments)) some;
 }

@@ -12,7 +12,8 @@ use Rattle.rv_reloc.specs.Lows.{IsLowOf, IsLowPart, AreLows}
 use Rattle.rv_reloc.specs.Records.{seen, AreRecords}
 use Rattle.rv_reloc.proofs.Kept.{counts, kept}
 
-low_part : (elf : Elf) (records : List Record) (l : Low) (r : Record) → AreRecords elf records → Contains records r → IsLowOf elf (seen r) l → IsLowPart elf l
+low_part : (elf : Elf) (records : List Record) (l : Low) (r : Record) → AreRecords elf records → Contains records r →
+    IsLowOf elf (seen r) l → IsLowPart elf l
 low_part elf records l r are listed is = record {
   source = seen r;
   part = record {
@@ -25,7 +26,8 @@ low_part elf records l r are listed is = record {
   };
 }
 
-low_of : (elf : Elf) (records : List Record) (l : Low) → AreRecords elf records → (is : IsLowPart elf l) → (r : Record) × Contains records r × IsLowOf elf (seen r) l
+low_of : (elf : Elf) (records : List Record) (l : Low) → AreRecords elf records → (is : IsLowPart elf l) → (r : Record)
+    × Contains records r × IsLowOf elf (seen r) l
 low_of elf records l are is =
     let (r, listed, same) = kept elf records is.source are is.part.counts in (
       r,
@@ -39,16 +41,19 @@ low_of elf records l are is =
       }),
     )
 
-pub AreLows-sorted : (elf : Elf) (records : List Record) (were lows : List Low) → AreRecords elf records → AreFound (λ r l. IsLowOf elf (seen r) l) records were → IsPermutation were lows → IsNonDecreasingBy (λ l. l.hi) lows → AreLows elf lows
+pub AreLows-sorted : (elf : Elf) (records : List Record) (were lows : List Low) → AreRecords elf records →
+    AreFound (λ r l. IsLowOf elf (seen r) l) records were → IsPermutation were lows → IsNonDecreasingBy (λ l. l.hi) lows → AreLows elf lows
 AreLows-sorted elf records were lows are found moved rising = record {
   all = λ l. (
-    λ listed. let (r, has_r, is) = found.only l (Contains-permutation lows were l (IsPermutation-sym were lows moved) listed) in low_part elf records l r are has_r is,
+    λ listed. let (r, has_r, is) = found.only l (Contains-permutation lows were l (IsPermutation-sym were lows moved) listed) in
+        low_part elf records l r are has_r is,
     λ is. let (r, listed, low) = low_of elf records l are is in Contains-permutation were lows l moved (found.each r l listed low),
   );
   rising = rising;
 }
 
-pub low_same : (hi : ℕ) (imm imm' : ℤ) (l : Low) (o : Option ℤ) → l.hi ≡ hi → imm' ≡ imm → o ≡ Some imm → o ≡ Some l.imm → Some (record { hi = hi; imm = imm' }) ≡ Some l
+pub low_same : (hi : ℕ) (imm imm' : ℤ) (l : Low) (o : Option ℤ) → l.hi ≡ hi → imm' ≡ imm → o ≡ Some imm → o ≡ Some l.imm →
+    Some (record { hi = hi; imm = imm' }) ≡ Some l
 low_same hi imm imm' l o his same is is' =
     let e : imm ≡ l.imm = cc in
     let f : imm' ≡ l.imm = same ∙ e in

@@ -28,8 +28,15 @@ entry_cases : (elf : Elf) (r : Relocation) → IsBadPair elf r → MakesNoAddres
 entry_cases elf r (IsBadPair.address target makes unfit) = inl (record { number = target; makes = makes; unfit = unfit })
 entry_cases elf r (IsBadPair.slot is entry makes unfit) =
     ⊎_elim
-    (λ (low : entry < 0x7fff0001). inr (record { is_slot = is; entry = entry; makes = makes; address = (omega (arith, ints), omega (arith, ints)); unfit = unfit }))
-    (λ (high : 0x7fff0001 ≤ entry). inl (record { number = pos entry; makes = makes; unfit = λ (address : IsAddress (pos entry)). let upto = address.1 in omega (arith, ints) }))
+    (λ (low : entry < 0x7fff0001). inr
+    (record { is_slot = is; entry = entry; makes = makes; address = (omega (arith, ints), omega (arith, ints)); unfit = unfit }))
+    (λ (high : 0x7fff0001 ≤ entry). inl
+    (record {
+      number = pos entry;
+      makes = makes;
+      unfit = λ (address : IsAddress (pos entry)). let upto = address.1 in
+          omega (arith, ints);
+    }))
     (cases_lt entry 0x7fff0001)
 
 unfit_cases : (elf : Elf) (r : Relocation) → IsMisfit elf r → IsUnfit elf r ⊎ HasBadEntry elf r
@@ -55,17 +62,24 @@ of_entry elf r bad = IsMisfit.pair (IsBadPair.slot bad.is_slot bad.entry bad.mak
 
 -- The places of all.
 
-to_misfit : (elf : Elf) (p : ℕ) → HasRelocation elf (IsUnfit elf) p ⊎ HasRelocation elf (HasBadEntry elf) p → HasRelocation elf (IsMisfit elf) p
-to_misfit elf p (inl has) = record { relocation = has.relocation; counts = has.counts; is = of_unfit elf has.relocation has.is; place_is = has.place_is }
-to_misfit elf p (inr has) = record { relocation = has.relocation; counts = has.counts; is = of_entry elf has.relocation has.is; place_is = has.place_is }
+to_misfit : (elf : Elf) (p : ℕ) → HasRelocation elf (IsUnfit elf) p ⊎ HasRelocation elf (HasBadEntry elf) p →
+    HasRelocation elf (IsMisfit elf) p
+to_misfit elf p (inl has) =
+    record { relocation = has.relocation; counts = has.counts; is = of_unfit elf has.relocation has.is; place_is = has.place_is }
+to_misfit elf p (inr has) =
+    record { relocation = has.relocation; counts = has.counts; is = of_entry elf has.relocation has.is; place_is = has.place_is }
 
-from_misfit : (elf : Elf) (p : ℕ) → HasRelocation elf (IsMisfit elf) p → HasRelocation elf (IsUnfit elf) p ⊎ HasRelocation elf (HasBadEntry elf) p
+from_misfit : (elf : Elf) (p : ℕ) → HasRelocation elf (IsMisfit elf) p → HasRelocation elf (IsUnfit elf) p
+    ⊎ HasRelocation elf (HasBadEntry elf) p
 from_misfit elf p has =
     ⊎_elim
     (λ unfit. inl (record { relocation = has.relocation; counts = has.counts; is = unfit; place_is = has.place_is }))
     (λ entry. inr (record { relocation = has.relocation; counts = has.counts; is = entry; place_is = has.place_is }))
     (unfit_cases elf has.relocation has.is)
 
-pub IsLowest-misfit : (elf : Elf) (records : List Record) (a b all : Option ℕ) → AreRecords elf records → all ≡ lower a b → IsLowest (IsPlaceOf (λ r. r.place) (λ r. IsUnfit elf (seen r)) records) a → IsLowest (HasRelocation elf (HasBadEntry elf)) b → IsLowest (HasRelocation elf (IsMisfit elf)) all
+pub IsLowest-misfit : (elf : Elf) (records : List Record) (a b all : Option ℕ) → AreRecords elf records → all ≡ lower a b →
+    IsLowest (IsPlaceOf (λ r. r.place) (λ r. IsUnfit elf (seen r)) records) a → IsLowest (HasRelocation elf (HasBadEntry elf)) b →
+    IsLowest (HasRelocation elf (IsMisfit elf)) all
 IsLowest-misfit elf records a b all are joined unfit entry =
-    IsLowest-same all (to_misfit elf) (from_misfit elf) (IsLowest-lower a b all joined (lowest-relocation elf records (IsUnfit elf) a are unfit) entry)
+    IsLowest-same all (to_misfit elf) (from_misfit elf)
+    (IsLowest-lower a b all joined (lowest-relocation elf records (IsUnfit elf) a are unfit) entry)

@@ -11,7 +11,9 @@ use Rattle.rv_reloc.specs.Named.{NamesUpper, AreNamed}
 use Rattle.rv_reloc.specs.Records.{seen, AreRecords}
 use Rattle.rv_reloc.proofs.Kept.{counts, kept}
 
-pub AreNamed-ascending : (elf : Elf) (records : List Record) (were named : List ℕ) → AreRecords elf records → AreFound (λ r a. NamesUpper elf (seen r) a) records were → ((a : ℕ) → Contains named a ↔ Contains were a) → IsStrictlyIncreasing named → AreNamed elf named
+pub AreNamed-ascending : (elf : Elf) (records : List Record) (were named : List ℕ) → AreRecords elf records →
+    AreFound (λ r a. NamesUpper elf (seen r) a) records were → ((a : ℕ) → Contains named a ↔ Contains were a) →
+    IsStrictlyIncreasing named → AreNamed elf named
 AreNamed-ascending elf records were named are found same rising = record {
   all = λ a. (
     λ listed.
@@ -20,7 +22,8 @@ AreNamed-ascending elf records were named are found same rising = record {
         (k, seen r, within, there, (is.is_low, is.names)),
     λ (k, r, within, there, (is_low, names)).
         let (q, listed, is) = kept elf records r are (k, within, there) in
-        (same a).1 (found.each q a listed (subst (λ (s : Relocation). NamesUpper elf s a) (sym is) (record { is_low = is_low; names = names }))),
+        (same a).1 (found.each q a listed
+        (subst (λ (s : Relocation). NamesUpper elf s a) (sym is) (record { is_low = is_low; names = names }))),
   );
   ascending = AllPairs-from_increasing named rising;
 }

@@ -19,16 +19,27 @@ count-map f test [] = refl
 count-map f test (x ∷ xs) =
     let rest = count-map f test xs in
     let left : count_by test (map f (x ∷ xs)) ≡ one_if (test (f x)) + count_by test (map f xs) = count-cons test (f x) (map f xs) in
-    let right : count_by (λ y. test (f y)) (x ∷ xs) ≡ one_if (test (f x)) + count_by (λ y. test (f y)) xs = count-cons (λ y. test (f y)) x xs in
+    let right : count_by (λ y. test (f y)) (x ∷ xs) ≡ one_if (test (f x)) + count_by (λ y. test (f y)) xs =
+    count-cons (λ y. test (f y)) x xs in
     omega arith
 
-pub only-map : {A B : Type 0} (f : A → B) (test : B → Bool) (xs : List A) (x : A) → IsOnly (λ y. test (f y)) xs x → IsOnly test (map f xs) (f x)
+pub only-map : {A B : Type 0} (f : A → B) (test : B → Bool) (xs : List A) (x : A) → IsOnly (λ y. test (f y)) xs x →
+    IsOnly test (map f xs) (f x)
 only-map f test xs x is = record { listed = Contains-map f xs x is.listed; passes = is.passes; alone = count-map f test xs ∙ is.alone }
 
-pub only-from_map : {A B : Type 0} (f : A → B) (test : B → Bool) (xs : List A) (y : B) → IsOnly test (map f xs) y → (x : A) × IsOnly (λ z. test (f z)) xs x × (f x ≡ y)
+pub only-from_map : {A B : Type 0} (f : A → B) (test : B → Bool) (xs : List A) (y : B) → IsOnly test (map f xs) y → (x : A)
+    × IsOnly (λ z. test (f z)) xs x × (f x ≡ y)
 only-from_map {B = B} f test xs y is =
-    let (x, listed, same) = Contains-from_map f xs y is.listed in
-    (x, record { listed = listed; passes = subst (λ (z : B). test z ≡ true) (sym same) is.passes; alone = sym (count-map f test xs) ∙ is.alone }, same)
+    let (x, listed, same) = Contains-from_map f xs y is.listed in (
+      x,
+      record {
+        listed = listed;
+        passes = subst (λ (z : B). test z ≡ true) (sym same) is.passes;
+        alone = sym (count-map f test xs)
+            ∙ is.alone;
+      },
+      same,
+    )
 
 -- what is found
 

@@ -9,7 +9,8 @@ use Rattle.rv_reloc.specs.Parts.{AreApart, HoldsAddress, AreCodeParts}
 
 pub AreApart-parts : (elf : Elf) (parts : List Part) → AreCodeParts elf parts → AreApart parts
 AreApart-parts elf parts are = record {
-  has_bytes = λ k d within. (are.only (slice_index_or parts k d) (k, within, get_or_default parts k (slice_index_or parts k d) d within)).part.has_bytes;
+  has_bytes = λ k d within.
+      (are.only (slice_index_or parts k d) (k, within, get_or_default parts k (slice_index_or parts k d) d within)).part.has_bytes;
   ordered = are.ordered;
 }
 
@@ -21,7 +22,9 @@ rising parts are i j d upto within =
     (cases_lt i j)
 
 -- the last part that begins at an address or below it is the one that holds it, if one does
-pub last_holds : (parts : List Part) (a count : ℕ) (x p : Part) → AreApart parts → 0 < count → count ≤ length parts → x ≡ slice_index_or parts (count - 1) x → x.start ≤ a → ((k : ℕ) (d : Part) → count ≤ k → k < length parts → a < (slice_index_or parts k d).start) → HoldsAddress parts a p → x ≡ p
+pub last_holds : (parts : List Part) (a count : ℕ) (x p : Part) → AreApart parts → 0 < count → count ≤ length parts →
+    x ≡ slice_index_or parts (count - 1) x → x.start ≤ a →
+    ((k : ℕ) (d : Part) → count ≤ k → k < length parts → a < (slice_index_or parts k d).start) → HoldsAddress parts a p → x ≡ p
 last_holds parts a count x p are some bound is low above holds =
     let (k, within, there) = holds.listed in
     let at = get_or_default parts k p x within in
@@ -43,7 +46,8 @@ last_holds parts a count x p are some bound is low above holds =
     upto m n = ⊎_elim (λ (less : n < m). inr less) (λ (more : m ≤ n). inl more) (cases_lt n m)
 
 -- before the first part is none
-pub none_holds : (parts : List Part) (a : ℕ) (p : Part) → ((k : ℕ) (d : Part) → k < length parts → a < (slice_index_or parts k d).start) → HoldsAddress parts a p → ⊥
+pub none_holds : (parts : List Part) (a : ℕ) (p : Part) →
+    ((k : ℕ) (d : Part) → k < length parts → a < (slice_index_or parts k d).start) → HoldsAddress parts a p → ⊥
 none_holds parts a p above holds =
     let (k, within, there) = holds.listed in
     let high = above k p within in

@@ -35,21 +35,29 @@ lacks_all elf tabled lacks IfuncOrPlt = lacks IfuncOrPlt (omega arith)
 lacks_all elf tabled lacks AlreadyMoved = lacks AlreadyMoved (omega arith)
 lacks_all elf tabled lacks _ = λ place has. has
 
-pub no_misfit : (elf : Elf) (tabled : List (ℕ × ℕ)) → LacksBelow (HasReferenceFault elf tabled) 15 → (r : Relocation) → Contains (relocations elf) r → IsMisfit elf r → ⊥
-no_misfit elf tabled lacks r counts is = lacks RelocMismatch (omega arith) r.place (inl (record { relocation = r; counts = counts; is = is; place_is = refl }))
+pub no_misfit : (elf : Elf) (tabled : List (ℕ × ℕ)) → LacksBelow (HasReferenceFault elf tabled) 15 → (r : Relocation) →
+    Contains (relocations elf) r → IsMisfit elf r → ⊥
+no_misfit elf tabled lacks r counts is =
+    lacks RelocMismatch (omega arith) r.place (inl (record { relocation = r; counts = counts; is = is; place_is = refl }))
 
-pub no_mismatch : (elf : Elf) (tabled : List (ℕ × ℕ)) → LacksBelow (HasReferenceFault elf tabled) 15 → (place : ℕ) → IsLoMismatch elf place → ⊥
+pub no_mismatch : (elf : Elf) (tabled : List (ℕ × ℕ)) → LacksBelow (HasReferenceFault elf tabled) 15 → (place : ℕ) →
+    IsLoMismatch elf place → ⊥
 no_mismatch elf tabled lacks place is = lacks LoMismatch (omega arith) place is
 
-pub all_addresses : (elf : Elf) (tabled : List (ℕ × ℕ)) (counted : List Candidate) → AreCounted elf tabled (map field counted) → LacksBelow (HasReferenceFault elf tabled) 15 → All HasAddresses counted
-all_addresses elf tabled counted are lacks = none-bad counted (IsLowest-none (λ p is. lacks RelocMismatch (omega arith) p (inr (of_bad_field elf tabled counted are p is))))
+pub all_addresses : (elf : Elf) (tabled : List (ℕ × ℕ)) (counted : List Candidate) → AreCounted elf tabled (map field counted) →
+    LacksBelow (HasReferenceFault elf tabled) 15 → All HasAddresses counted
+all_addresses elf tabled counted are lacks =
+    none-bad counted (IsLowest-none (λ p is. lacks RelocMismatch (omega arith) p (inr (of_bad_field elf tabled counted are p is))))
 
 -- The lists as the code passes them on.
 
-pub asked : (elf : Elf) (tabled : List (ℕ × ℕ)) (wholes passed again : List Part) (counted seen : List Candidate) → passed ≡ wholes → again ≡ wholes → seen ≡ counted → AreWholeParts elf tabled wholes → (AreWholeParts elf tabled passed → AreCounted elf tabled (map field counted)) → AreAsked elf tabled again seen
+pub asked : (elf : Elf) (tabled : List (ℕ × ℕ)) (wholes passed again : List Part) (counted seen : List Candidate) → passed ≡ wholes →
+    again ≡ wholes → seen ≡ counted → AreWholeParts elf tabled wholes →
+    (AreWholeParts elf tabled passed → AreCounted elf tabled (map field counted)) → AreAsked elf tabled again seen
 asked elf tabled wholes passed again counted seen e f g are counts = record {
   wholes_are = subst (AreWholeParts elf tabled) (sym f) are;
-  counted_are = subst (λ (cs : List Candidate). AreCounted elf tabled (map field cs)) (sym g) (counts (subst (AreWholeParts elf tabled) (sym e) are));
+  counted_are =
+      subst (λ (cs : List Candidate). AreCounted elf tabled (map field cs)) (sym g) (counts (subst (AreWholeParts elf tabled) (sym e) are));
 }
 
 -- all items of a list that is passed on, or that was

@@ -41,7 +41,8 @@ within_suc elf end a n less = below a end _ _ less
 -- enough steps are enough
 within_enough : (elf : Elf) (end a n m : ℕ) → end ≤ a + n → end ≤ a + m → starts_within elf end a n ≡ starts_within elf end a m
 within_enough elf end a zero m n_enough m_enough = within_past elf end a zero (omega arith) ∙ sym (within_past elf end a m (omega arith))
-within_enough elf end a (suc n) zero n_enough m_enough = within_past elf end a (suc n) (omega arith) ∙ sym (within_past elf end a zero (omega arith))
+within_enough elf end a (suc n) zero n_enough m_enough =
+    within_past elf end a (suc n) (omega arith) ∙ sym (within_past elf end a zero (omega arith))
 within_enough elf end a (suc n) (suc m) n_enough m_enough =
     let long : 0 < length_at elf a = length_positive elf a in
     ⊎_elim
@@ -57,7 +58,8 @@ starts_from-next elf end a less =
     let long : 0 < length_at elf a = length_positive elf a in
     let n : end - a ≡ suc (end - a - 1) = omega arith in
     ap (starts_within elf end a) n ∙ within_suc elf end a (end - a - 1) less
-    ∙ ap (λ (xs : List ℕ). a ∷ xs) (within_enough elf end (a + length_at elf a) (end - a - 1) (end - (a + length_at elf a)) (omega arith) (omega arith))
+    ∙ ap (λ (xs : List ℕ). a ∷ xs)
+    (within_enough elf end (a + length_at elf a) (end - a - 1) (end - (a + length_at elf a)) (omega arith) (omega arith))
 
 pub starts_from-past : (elf : Elf) (end a : ℕ) → end ≤ a → starts_from elf end a ≡ []
 starts_from-past elf end a past = within_past elf end a (end - a) past
@@ -72,7 +74,9 @@ pub starts_cases : (elf : Elf) (start end a : ℕ) → StartsIn elf start end a 
 starts_cases elf start end _ (at_start inside) = inl refl
 starts_cases elf start end _ (after a before inside) =
     ⊎_elim
-    (λ (first : a ≡ start). inr (subst (λ (b : ℕ). StartsIn elf (start + length_at elf start) end (b + length_at elf b)) (sym first) (at_start (subst (λ (b : ℕ). b + length_at elf b < end) first inside))))
+    (λ (first : a ≡ start). inr
+    (subst (λ (b : ℕ). StartsIn elf (start + length_at elf start) end (b + length_at elf b)) (sym first)
+    (at_start (subst (λ (b : ℕ). b + length_at elf b < end) first inside))))
     (λ later. inr (after a later inside))
     (starts_cases elf start end a before)
 
@@ -83,29 +87,42 @@ starts_inside elf start end _ (after a before inside) = let low = (starts_inside
 -- Lists of all numbers of a set.
 
 lists_none : (P : ℕ → Type 0) → ((a : ℕ) → P a → ⊥) → ListsNumbers P []
-lists_none P none = record { only = λ a (k, within, is). absurd (omega arith); each = λ a is. absurd (none a is); ordered = λ i j d less within. absurd (omega arith) }
+lists_none P none =
+    record {
+      only = λ a (k, within, is). absurd (omega arith);
+      each = λ a is. absurd (none a is);
+      ordered = λ i j d less within. absurd
+          (omega arith);
+    }
 
-lists_cons : (P : ℕ → Type 0) (x : ℕ) (xs : List ℕ) → ListsNumbers P xs → ((a : ℕ) → P a → x < a) → ListsNumbers (λ a. (a ≡ x) ⊎ P a) (x ∷ xs)
+lists_cons : (P : ℕ → Type 0) (x : ℕ) (xs : List ℕ) → ListsNumbers P xs → ((a : ℕ) → P a → x < a) →
+    ListsNumbers (λ a. (a ≡ x) ⊎ P a) (x ∷ xs)
 lists_cons P x xs lists less = record {
   only = λ a is_in. ⊎_elim (λ same. inl (sym same)) (λ later. inr (lists.only a later)) (Contains-cons_cases x xs a is_in);
   each = λ a. ⊎_elim (λ same. (0, omega arith, sym same)) (λ is. let (k, within, there) = lists.each a is in (suc k, omega arith, there));
-  ordered = AllPairs-cons (λ a b. a < b) x xs (λ k d within. less (slice_index_or xs k d) (lists.only _ (k, within, get_or_default xs k (slice_index_or xs k d) d within))) lists.ordered;
+  ordered = AllPairs-cons (λ a b. a < b) x xs
+      (λ k d within. less (slice_index_or xs k d)
+      (lists.only _ (k, within, get_or_default xs k (slice_index_or xs k d) d within))) lists.ordered;
 }
 
 lists_same : {P Q : ℕ → Type 0} (xs : List ℕ) → ((a : ℕ) → P a → Q a) → ((a : ℕ) → Q a → P a) → ListsNumbers P xs → ListsNumbers Q xs
-lists_same xs to from lists = record { only = λ a is_in. to a (lists.only a is_in); each = λ a is. lists.each a (from a is); ordered = lists.ordered }
+lists_same xs to from lists =
+    record { only = λ a is_in. to a (lists.only a is_in); each = λ a is. lists.each a (from a is); ordered = lists.ordered }
 
-AllPairs-append : {A : Type 0} (R : A → A → Type 0) (xs ys : List A) → AllPairs R xs → AllPairs R ys → ((a b : A) → Contains xs a → Contains ys b → R a b) → AllPairs R (xs ++ ys)
+AllPairs-append : {A : Type 0} (R : A → A → Type 0) (xs ys : List A) → AllPairs R xs → AllPairs R ys →
+    ((a b : A) → Contains xs a → Contains ys b → R a b) → AllPairs R (xs ++ ys)
 AllPairs-append R [] ys left right across = right
 AllPairs-append R (x ∷ xs) ys left right across =
     AllPairs-cons R x (xs ++ ys)
     (All-append (R x) xs ys
     (λ k d within. left 0 (suc k) d (omega arith) (omega arith))
-    (λ k d within. across x (slice_index_or ys k d) (0, omega arith, refl) (k, within, get_or_default ys k (slice_index_or ys k d) d within)))
+    (λ k d within. across x (slice_index_or ys k d) (0, omega arith, refl)
+    (k, within, get_or_default ys k (slice_index_or ys k d) d within)))
     (AllPairs-append R xs ys (λ i j d less within. left (suc i) (suc j) d (omega arith) (omega arith)) right
     (λ a b (k, within, is) is_b. across a b (suc k, omega arith, is) is_b))
 
-pub lists_append : (P Q : ℕ → Type 0) (xs ys : List ℕ) → ListsNumbers P xs → ListsNumbers Q ys → ((a b : ℕ) → P a → Q b → a < b) → ListsNumbers (λ a. P a ⊎ Q a) (xs ++ ys)
+pub lists_append : (P Q : ℕ → Type 0) (xs ys : List ℕ) → ListsNumbers P xs → ListsNumbers Q ys → ((a b : ℕ) → P a → Q b → a < b) →
+    ListsNumbers (λ a. P a ⊎ Q a) (xs ++ ys)
 lists_append P Q xs ys left right less = record {
   only = λ a is_in. ⊎_elim (λ l. inl (left.only a l)) (λ r. inr (right.only a r)) (Contains-append_cases xs ys a is_in);
   each = λ a. ⊎_elim (λ l. Contains-append_left xs ys a (left.each a l)) (λ r. Contains-append_right xs ys a (right.each a r));
@@ -161,5 +178,10 @@ unfolding InSome
 starts-list elf ps are =
     lists_same (starts_of elf ps)
     (λ a (p, listed, starts). record { start = p.start; end = p.end; is_start = record { part = are.only p listed; starts = starts } })
-    (λ a is. (record { start = is.start; end = is.end }, are.each (record { start = is.start; end = is.end }) is.is_start.part, is.is_start.starts))
+    (λ a is. (
+      record { start = is.start; end = is.end },
+      are.each
+          (record { start = is.start; end = is.end }) is.is_start.part,
+      is.is_start.starts,
+    ))
     (starts_of-lists elf ps are.ordered)

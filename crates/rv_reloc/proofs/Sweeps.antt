@@ -37,7 +37,8 @@ one_way f g (inr (same, inr (width, is))) (inr (same', inr (width', back))) = co
 
 not_back : (x g : Field) → IsFieldBefore g x → IsFieldUpTo x g → ⊥
 not_back x g before (inl after) = one_way g x before after
-not_back x g before (inr same) = one_way g g (subst (λ (h : Field). IsFieldBefore g h) same before) (subst (λ (h : Field). IsFieldBefore g h) same before)
+not_back x g before (inr same) =
+    one_way g g (subst (λ (h : Field). IsFieldBefore g h) same before) (subst (λ (h : Field). IsFieldBefore g h) same before)
 
 pub not_above : (f g : Field) → IsFieldBefore f g → f.place ≤ g.place
 not_above f g (inl lower) = omega arith
@@ -83,39 +84,51 @@ IsSweptTo-begin elf tabled fields = record {
 }
 
 -- a field that is before the one of an index has a lower index
-earlier_if_before : (elf : Elf) (tabled : List (ℕ × ℕ)) (fields : List Field) (i : ℕ) (x g : Field) → AreCandidates elf tabled fields → i < length fields → x ≡ slice_index_or fields i x → CanBeCell elf tabled g → IsFieldBefore g x → Earlier fields i g
+earlier_if_before : (elf : Elf) (tabled : List (ℕ × ℕ)) (fields : List Field) (i : ℕ) (x g : Field) → AreCandidates elf tabled fields →
+    i < length fields → x ≡ slice_index_or fields i x → CanBeCell elf tabled g → IsFieldBefore g x → Earlier fields i g
 earlier_if_before elf tabled fields i x g are within is can before =
     let (k, inside, there) = are.each g can in
     let same : slice_index_or fields k x ≡ g = get_or_default fields k x g inside ∙ there in
     ⊎_elim
     (λ (less : k < i). (k, less, there))
     (λ (more : i ≤ k). ⊎_elim
-    (λ (above : i < k). absurd (not_back x g before (subst (λ (h : Field). IsFieldUpTo x h) same (subst (λ (h : Field). IsFieldUpTo h (slice_index_or fields k x)) (sym is) (are.ordered i k x above inside)))))
+    (λ (above : i < k). absurd
+    (not_back x g before
+    (subst (λ (h : Field). IsFieldUpTo x h) same
+    (subst (λ (h : Field). IsFieldUpTo h (slice_index_or fields k x)) (sym is) (are.ordered i k x above inside)))))
     (λ (not_above : k ≤ i). let e : k ≡ i = omega arith in
     let g_is : g ≡ x = sym same ∙ ap (λ (j : ℕ). slice_index_or fields j x) e ∙ sym is in
     absurd (one_way x x (subst (λ (h : Field). IsFieldBefore h x) g_is before) (subst (λ (h : Field). IsFieldBefore h x) g_is before)))
     (cases_lt i k))
     (cases_lt k i)
 
-up_to_if_earlier : (elf : Elf) (tabled : List (ℕ × ℕ)) (fields : List Field) (i : ℕ) (x g : Field) → AreCandidates elf tabled fields → i < length fields → x ≡ slice_index_or fields i x → Earlier fields i g → IsFieldUpTo g x
+up_to_if_earlier : (elf : Elf) (tabled : List (ℕ × ℕ)) (fields : List Field) (i : ℕ) (x g : Field) → AreCandidates elf tabled fields →
+    i < length fields → x ≡ slice_index_or fields i x → Earlier fields i g → IsFieldUpTo g x
 up_to_if_earlier elf tabled fields i x g are within is (k, less, there) =
     let same : slice_index_or fields k x ≡ g = get_or_default fields k x g (omega arith) ∙ there in
-    subst (λ (h : Field). IsFieldUpTo h x) same (subst (λ (h : Field). IsFieldUpTo (slice_index_or fields k x) h) (sym is) (are.ordered k i x less within))
+    subst (λ (h : Field). IsFieldUpTo h x) same
+    (subst (λ (h : Field). IsFieldUpTo (slice_index_or fields k x) h) (sym is) (are.ordered k i x less within))
 
-earlier_cases : (fields : List Field) (i : ℕ) (x f : Field) → i < length fields → x ≡ slice_index_or fields i x → Earlier fields (i + 1) f → Earlier fields i f ⊎ (x ≡ f)
+earlier_cases : (fields : List Field) (i : ℕ) (x f : Field) → i < length fields → x ≡ slice_index_or fields i x →
+    Earlier fields (i + 1) f → Earlier fields i f ⊎ (x ≡ f)
 earlier_cases fields i x f within is (k, below, there) =
     ⊎_elim
     (λ (less : k < i). inl (k, less, there))
-    (λ (more : i ≤ k). let e : i ≡ k = omega arith in inr (is ∙ get_or_default fields i x f within ∙ ap (λ (j : ℕ). slice_index_or fields j f) e ∙ there))
+    (λ (more : i ≤ k). let e : i ≡ k = omega arith in
+    inr (is ∙ get_or_default fields i x f within ∙ ap (λ (j : ℕ). slice_index_or fields j f) e ∙ there))
     (cases_lt k i)
 
 later : (fields : List Field) (i : ℕ) (f : Field) → Earlier fields i f → Earlier fields (i + 1) f
 later fields i f (k, below, there) = (k, omega arith, there)
 
 -- a field gives way to one that reaches into it
-pub IsSweptTo-drops : (elf : Elf) (tabled : List (ℕ × ℕ)) (fields kept : List Field) (i reach : ℕ) (x : Field) → AreCandidates elf tabled fields → i < length fields → x ≡ slice_index_or fields i x → x.place < reach → IsSweptTo elf tabled fields i kept reach → IsSweptTo elf tabled fields (i + 1) kept reach
+pub IsSweptTo-drops : (elf : Elf) (tabled : List (ℕ × ℕ)) (fields kept : List Field) (i reach : ℕ) (x : Field) →
+    AreCandidates elf tabled fields → i < length fields → x ≡ slice_index_or fields i x → x.place < reach →
+    IsSweptTo elf tabled fields i kept reach → IsSweptTo elf tabled fields (i + 1) kept reach
 IsSweptTo-drops elf tabled fields kept i reach x are within is low to = record {
-  judged = λ f early. ⊎_elim (λ before. to.judged f before) (λ (same : x ≡ f). subst (λ (h : Field). Contains kept h ⊎ Counts elf tabled h false) same drops) (earlier_cases fields i x f within is early);
+  judged = λ f early. ⊎_elim (λ before. to.judged f before)
+      (λ (same : x ≡ f). subst (λ (h : Field). Contains kept h ⊎ Counts elf tabled h false) same drops)
+      (earlier_cases fields i x f within is early);
   counted = to.counted;
   earlier = λ f is_in. later fields i f (to.earlier f is_in);
   below = to.below;
@@ -140,17 +153,24 @@ IsSweptTo-drops elf tabled fields kept i reach x are within is low to = record {
         to.reached
 
 -- a field that nothing reaches into counts
-pub IsSweptTo-keeps : (elf : Elf) (tabled : List (ℕ × ℕ)) (fields kept : List Field) (i reach : ℕ) (x : Field) → AreCandidates elf tabled fields → i < length fields → x ≡ slice_index_or fields i x → reach ≤ x.place → IsSweptTo elf tabled fields i kept reach → IsSweptTo elf tabled fields (i + 1) (kept ++ x ∷ []) (x.place + x.width)
+pub IsSweptTo-keeps : (elf : Elf) (tabled : List (ℕ × ℕ)) (fields kept : List Field) (i reach : ℕ) (x : Field) →
+    AreCandidates elf tabled fields → i < length fields → x ≡ slice_index_or fields i x → reach ≤ x.place →
+    IsSweptTo elf tabled fields i kept reach → IsSweptTo elf tabled fields (i + 1) (kept ++ x ∷ []) (x.place + x.width)
 IsSweptTo-keeps elf tabled fields kept i reach x are within is high to = record {
   judged = λ f early. ⊎_elim
       (λ before. ⊎_elim (λ is_in. inl (Contains-append_left kept (x ∷ []) f is_in)) (λ gives. inr gives) (to.judged f before))
       (λ (same : x ≡ f). inl (subst (Contains (kept ++ x ∷ [])) same (Contains-push kept x)))
       (earlier_cases fields i x f within is early);
-  counted = λ f is_in. ⊎_elim (to.counted f) (λ (same : x ≡ f). subst (λ (h : Field). Counts elf tabled h true) same wins) (Contains-push_cases kept x f is_in);
-  earlier = λ f is_in. ⊎_elim (λ before. later fields i f (to.earlier f before)) (λ (same : x ≡ f). subst (Earlier fields (i + 1)) same (i, omega arith, sym is)) (Contains-push_cases kept x f is_in);
-  below = λ f is_in. ⊎_elim (λ before. let b = to.below f before in omega arith) (λ (same : x ≡ f). let p = ap (λ (h : Field). h.place + h.width) same in omega arith) (Contains-push_cases kept x f is_in);
+  counted = λ f is_in. ⊎_elim (to.counted f) (λ (same : x ≡ f). subst (λ (h : Field). Counts elf tabled h true) same wins)
+      (Contains-push_cases kept x f is_in);
+  earlier = λ f is_in. ⊎_elim (λ before. later fields i f (to.earlier f before))
+      (λ (same : x ≡ f). subst (Earlier fields (i + 1)) same (i, omega arith, sym is)) (Contains-push_cases kept x f is_in);
+  below = λ f is_in. ⊎_elim (λ before. let b = to.below f before in omega arith)
+      (λ (same : x ≡ f). let p = ap (λ (h : Field). h.place + h.width) same in omega arith) (Contains-push_cases kept x f is_in);
   reached = inr (x, Contains-push kept x, refl);
-  ordered = all_pairs_push (λ (f g : Field). f.place + f.width ≤ g.place) kept x to.ordered (λ k d inside. let b = to.below (slice_index_or kept k d) (k, inside, get_or_default kept k (slice_index_or kept k d) d inside) in omega arith);
+  ordered = all_pairs_push (λ (f g : Field). f.place + f.width ≤ g.place) kept x to.ordered
+      (λ k d inside. let b = to.below (slice_index_or kept k d) (k, inside, get_or_default kept k (slice_index_or kept k d) d inside) in
+      omega arith);
 }
   where
     listed : Contains fields x
@@ -161,7 +181,8 @@ IsSweptTo-keeps elf tabled fields kept i reach x are within is high to = record 
         ⊎_elim (λ is_in. let b = to.below g is_in in let s = share.0 in let t = share.1 in absurd (omega arith)) (λ gives. gives)
         (to.judged g (earlier_if_before elf tabled fields i x g are within is can before)))
 
-pub IsSweptTo-all : (elf : Elf) (tabled : List (ℕ × ℕ)) (fields kept : List Field) (i reach : ℕ) → AreCandidates elf tabled fields → i ≡ length fields → IsSweptTo elf tabled fields i kept reach → AreCounted elf tabled kept
+pub IsSweptTo-all : (elf : Elf) (tabled : List (ℕ × ℕ)) (fields kept : List Field) (i reach : ℕ) → AreCandidates elf tabled fields →
+    i ≡ length fields → IsSweptTo elf tabled fields i kept reach → AreCounted elf tabled kept
 IsSweptTo-all elf tabled fields kept i reach are all to = record {
   only = to.counted;
   each = λ f wins.
@@ -171,6 +192,9 @@ IsSweptTo-all elf tabled fields kept i reach are all to = record {
 }
 
 -- the same of the list that a push gives
-pub IsSweptTo-pushed : (elf : Elf) (tabled : List (ℕ × ℕ)) (fields kept now : List Field) (i reach : ℕ) (x : Field) → now ≡ kept ++ x ∷ [] → AreCandidates elf tabled fields → i < length fields → x ≡ slice_index_or fields i x → reach ≤ x.place → IsSweptTo elf tabled fields i kept reach → IsSweptTo elf tabled fields (i + 1) now (x.place + x.width)
+pub IsSweptTo-pushed : (elf : Elf) (tabled : List (ℕ × ℕ)) (fields kept now : List Field) (i reach : ℕ) (x : Field) → now ≡ kept
+    ++ x ∷ [] → AreCandidates elf tabled fields → i < length fields → x ≡ slice_index_or fields i x → reach ≤ x.place →
+    IsSweptTo elf tabled fields i kept reach → IsSweptTo elf tabled fields (i + 1) now (x.place + x.width)
 IsSweptTo-pushed elf tabled fields kept now i reach x pushed are within is high to =
-    subst (λ (list : List Field). IsSweptTo elf tabled fields (i + 1) list (x.place + x.width)) (sym pushed) (IsSweptTo-keeps elf tabled fields kept i reach x are within is high to)
+    subst (λ (list : List Field). IsSweptTo elf tabled fields (i + 1) list (x.place + x.width)) (sym pushed)
+    (IsSweptTo-keeps elf tabled fields kept i reach x are within is high to)

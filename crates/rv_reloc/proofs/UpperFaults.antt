@@ -18,7 +18,8 @@ bad-is_hi elf r (IsBadUpper.alone is refuted) = is
 pub bad-no_auipc : (elf : Elf) (r : Relocation) → IsTrue (is_pcrel_hi r.kind) → (IsAuipc elf r.place → ⊥) → IsBadUpper elf r
 bad-no_auipc elf r is none = IsBadUpper.no_auipc is none
 
-pub bad-auipc : (elf : Elf) (r : Relocation) (named : List ℕ) (here : Bool) → AreNamed elf named → IsTrue (is_pcrel_hi r.kind) → IsAuipc elf r.place → IsTrue here ↔ Contains named r.place → IsTrue (not here) ↔ IsBadUpper elf r
+pub bad-auipc : (elf : Elf) (r : Relocation) (named : List ℕ) (here : Bool) → AreNamed elf named → IsTrue (is_pcrel_hi r.kind) →
+    IsAuipc elf r.place → IsTrue here ↔ Contains named r.place → IsTrue (not here) ↔ IsBadUpper elf r
 bad-auipc elf r named true are is auipc tells = (λ refuted. let e : false ≡ true = refuted in absurd (cc), λ bad. absurd (by bad))
   where
     by : IsBadUpper elf r → ⊥
@@ -29,7 +30,9 @@ bad-auipc elf r named false are is auipc tells = (
   λ _. refl,
 )
 
-pub upper-auipc : (elf : Elf) (a : ℕ) (upper call : Bool) → IsAuipc elf a → IsTrue upper ↔ HasRelocation elf (λ r. IsTrue (is_pcrel_hi r.kind)) a → IsTrue call ↔ HasRelocation elf (λ r. IsTrue (is_call_pair r.kind)) a → IsTrue (upper && not call) ↔ IsUpper elf a
+pub upper-auipc : (elf : Elf) (a : ℕ) (upper call : Bool) → IsAuipc elf a →
+    IsTrue upper ↔ HasRelocation elf (λ r. IsTrue (is_pcrel_hi r.kind)) a →
+    IsTrue call ↔ HasRelocation elf (λ r. IsTrue (is_call_pair r.kind)) a → IsTrue (upper && not call) ↔ IsUpper elf a
 upper-auipc elf a false call auipc is_upper is_call = (
   λ is. let e : false ≡ true = is in absurd (cc),
   λ upper. is_upper.1 upper.upper,
@@ -59,9 +62,11 @@ immediate_some o imm is = ap is_some is
 pub bad-no_low : (elf : Elf) (r : Relocation) → IsTrue (is_pcrel_lo r.kind) → ((l : Low) → IsLowOf elf r l → ⊥) → IsBadLower elf r
 bad-no_low elf r is none = IsBadLower.no_lower is (λ (inst, there, some).
     let (imm, immediate) = some_immediate (lower_immediate r.kind inst) some in
-    none (record { hi = symbol_value elf r; imm = imm }) (record { is_low = is; names = refl; inst = inst; there = there; immediate = immediate }))
+    none (record { hi = symbol_value elf r; imm = imm })
+    (record { is_low = is; names = refl; inst = inst; there = there; immediate = immediate }))
 
-pub bad-low : (elf : Elf) (r : Relocation) (l : Low) (upper : Bool) → IsTrue (is_pcrel_lo r.kind) → IsLowOf elf r l → IsTrue upper ↔ IsUpper elf l.hi → IsTrue (not upper) ↔ IsBadLower elf r
+pub bad-low : (elf : Elf) (r : Relocation) (l : Low) (upper : Bool) → IsTrue (is_pcrel_lo r.kind) → IsLowOf elf r l →
+    IsTrue upper ↔ IsUpper elf l.hi → IsTrue (not upper) ↔ IsBadLower elf r
 bad-low elf r l true is low tells = (λ refuted. let e : false ≡ true = refuted in absurd (cc), λ bad. absurd (by bad))
   where
     by : IsBadLower elf r → ⊥

@@ -6,6 +6,7 @@ pub mod Claimed
 pub mod Differences
 pub mod Found
 pub mod GotFields
+pub mod Halves
 pub mod Index
 pub mod Instructions
 pub mod Labels

@@ -29,7 +29,8 @@ pub record AreLows (elf : Elf) (lows : List Low) : Type 0 where
 abbrev pub DiffersFromNext : List Low → ℕ → Type 0
 DiffersFromNext lows k =
     (k + 1 < length lows)
-    × ((d : Low) → ((slice_index_or lows k d).hi ≡ (slice_index_or lows (k + 1) d).hi) × ((slice_index_or lows k d).imm ≢ (slice_index_or lows (k + 1) d).imm))
+    × ((d : Low) → ((slice_index_or lows k d).hi ≡ (slice_index_or lows (k + 1) d).hi)
+    × ((slice_index_or lows k d).imm ≢ (slice_index_or lows (k + 1) d).imm))
 
 -- two lower parts of one AUIPC differ
 pub record TwoDiffer (lows : List Low) (hi : ℕ) : Type 0 where

@@ -7,7 +7,6 @@ ghost use Rattle.rv_reloc.specs.BadEntries.{MissesLabel, NamesBadEntry, HasBadEn
 ghost use Rattle.rv_reloc.specs.Loaded.{IsLow};
 ghost use Rattle.rv_reloc.specs.Lows.{AreLows};
 ghost use Rattle.rv_reloc.specs.Parts.{AreCodeParts};
-ghost use Rattle.rv_reloc.specs.Places.{IsPlaceOf};
 ghost use Rattle.rv_reloc.specs.Slots.{AreSlotLabels};
 
 use crate::loaded::loaded_number;
@@ -54,30 +53,6 @@ fn names_bad_entry(
     }
 }
 
-// The lowest AUIPC of a lower part that names such an entry with it.
-fn lowest_of_lows(
-    elf: &Elf,
-    starts: &[u64],
-    parts: &[Part],
-    labels: &[SlotLabel],
-    lows: &[Low],
-) -> Option<u64>
-    requires low { IsLow elf.now }
-    requires starts { AreStarts elf.now starts.now }
-    requires parts { AreCodeParts elf.now parts.now }
-    requires labels { AreSlotLabels elf.now labels.now }
-    ensures { IsLowest (IsPlaceOf (λ l. l.hi) (NamesBadEntry elf.now) lows.now) result }
-{
-    let mut lowest = None;
-    for low in lows {
-        lowest = lower(
-            lowest,
-            place_if(names_bad_entry(elf, starts, parts, labels, low), low.hi),
-        );
-    }
-    lowest
-}
-
 /// The lowest place of a relocation for an entry of the global offset table that doesn't hold its label. Entries are asked
 /// once for each lower part, whatever the relocations of its AUIPC.
 pub fn lowest_bad_entry(
@@ -94,5 +69,12 @@ pub fn lowest_bad_entry(
     requires lows { AreLows elf.now lows.now }
     ensures { IsLowest (HasRelocation elf.now (HasBadEntry elf.now)) result }
 {
-    lowest_of_lows(elf, starts, parts, labels, lows)
+    let mut lowest = None;
+    for low in lows {
+        lowest = lower(
+            lowest,
+            place_if(names_bad_entry(elf, starts, parts, labels, low), low.hi),
+        );
+    }
+    lowest
 }

@@ -81,7 +81,8 @@ fn jalr_at(elf: &Elf, starts: &[u64], parts: &[Part], address: u64) -> Option<Ju
     requires starts { AreStarts elf.now starts.now }
     requires parts { AreCodeParts elf.now parts.now }
     ensures there { IfSome result (λ j. (link : ℕ) × IsFullAt elf.now address (Jalr link j.base j.imm)) }
-    ensures only { (link base : ℕ) (imm : ℤ) → IsFullAt elf.now address (Jalr link base imm) → result ≡ Some (record { base = base; imm = imm }) }
+    ensures only { (link base : ℕ) (imm : ℤ) → IsFullAt elf.now address (Jalr link base imm) →
+        result ≡ Some (record { base = base; imm = imm }) }
 {
     match full_at(elf, starts, parts, address) {
         Some(inst) => jalr_of(&inst),
@@ -93,8 +94,10 @@ fn jalr_at(elf: &Elf, starts: &[u64], parts: &[Part], address: u64) -> Option<Ju
 fn jump_after(elf: &Elf, starts: &[u64], parts: &[Part], address: u64) -> Option<Jump>
     requires starts { AreStarts elf.now starts.now }
     requires parts { AreCodeParts elf.now parts.now }
-    ensures there { IfSome result (λ j. (start end : ℕ) → IsStartIn elf.now start end address → IsJumpAfter elf.now start end address j) }
-    ensures only { (start end : ℕ) (j : Jump) → IsStartIn elf.now start end address → IsJumpAfter elf.now start end address j → result ≡ Some j }
+    ensures there { IfSome result
+        (λ j. (start end : ℕ) → IsStartIn elf.now start end address → IsJumpAfter elf.now start end address j) }
+    ensures only { (start end : ℕ) (j : Jump) → IsStartIn elf.now start end address → IsJumpAfter elf.now start end address j →
+        result ≡ Some j }
     ensures room { OnSome result (address + 4 < 2 ^ 64) }
 {
     match part_at(parts, address) {

@@ -1,10 +1,9 @@
 // The fields that can be cells.
 ghost use Rattle.std.specs.Prelude.{◌≡◌, ◌↔◌, ℕ, ℤ, ◌+◌, ◌<◌, ◌≤◌, ◌++◌, ◌^◌, IsTrue, IsSomeAnd, IfSome, IfOk, OnOk, OnSome, All, List, Contains, Some, map, option_map};
-ghost use Rattle.std.specs.Option.{option_to_list};
 ghost use Rattle.elf_image.specs.code.Cells.{Field, address_width};
 ghost use Rattle.elf_image.specs.code.FileCode.{AreStarts};
 ghost use Rattle.elf_image.specs.memory.LoadedBytes.{file_offset, offset_in, IsInHeaders};
-ghost use Rattle.rv_reloc.specs.Candidates.{AreFree, IsFreeByte, IsCodeField, IsDifferenceField, IsCellField, IsFieldOf, cell_bytes};
+ghost use Rattle.rv_reloc.specs.Candidates.{AreFree, IsFreeByte, IsCodeField, IsCellField, IsFieldOf, cell_bytes};
 ghost use Rattle.rv_reloc.specs.Found.{AreFound};
 ghost use Rattle.rv_reloc.specs.Parts.{AreApart};
 ghost use Rattle.rv_reloc.specs.Records.{AreRecords, seen};
@@ -15,6 +14,7 @@ ghost use Rattle.rv_reloc.specs.Sweep.{field};
 
 use crate::code::is_start;
 use crate::differences::{Difference, crosses, difference_of};
+use crate::found::push_found;
 use crate::labels::{Width, can_be_cell};
 use crate::loaded::loaded_number;
 use crate::parts::Part;
@@ -148,8 +148,10 @@ fn cell_field(
     requires low { IsLow elf.now }
     requires starts { AreStarts elf.now starts.now }
     requires wholes { AreApart wholes.now }
-    ensures is { (tabled : List (ℕ × ℕ)) → AreWholeParts elf.now tabled wholes.now → IfSome (option_map field result) (IsCellField elf.now tabled place difference.now) }
-    ensures only { (tabled : List (ℕ × ℕ)) (f : Field) → AreWholeParts elf.now tabled wholes.now → IsCellField elf.now tabled place difference.now f → option_map field result ≡ Some f }
+    ensures is { (tabled : List (ℕ × ℕ)) → AreWholeParts elf.now tabled wholes.now →
+        IfSome (option_map field result) (IsCellField elf.now tabled place difference.now) }
+    ensures only { (tabled : List (ℕ × ℕ)) (f : Field) → AreWholeParts elf.now tabled wholes.now →
+        IsCellField elf.now tabled place difference.now f → option_map field result ≡ Some f }
 {
     if !crosses(elf, starts, wholes, difference) {
         return None;
@@ -172,31 +174,6 @@ fn cell_field(
     }
 }
 
-// The difference in a relocation's field, if that can be a cell.
-fn difference_field(
-    elf: &Elf,
-    starts: &[u64],
-    wholes: &[Part],
-    records: &[Record],
-    relocation: &Record,
-) -> Option<Candidate>
-    requires low { IsLow elf.now }
-    requires starts { AreStarts elf.now starts.now }
-    requires wholes { AreApart wholes.now }
-    requires records { AreRecords elf.now records.now }
-    requires listed { Contains (relocations elf.now) (seen relocation.now) }
-    ensures is { (tabled : List (ℕ × ℕ)) → AreWholeParts elf.now tabled wholes.now → IfSome (option_map field result) (IsDifferenceField elf.now tabled (seen relocation.now)) }
-    ensures only { (tabled : List (ℕ × ℕ)) (f : Field) → AreWholeParts elf.now tabled wholes.now → IsDifferenceField elf.now tabled (seen relocation.now) f → option_map field result ≡ Some f }
-{
-    if !can_be_cell(relocation) {
-        return None;
-    }
-    match difference_of(elf, records, relocation) {
-        Some(difference) => cell_field(elf, starts, wholes, relocation.place, &difference),
-        None => None,
-    }
-}
-
 // A relocation's field, if it can be a cell.
 fn field_of(
     elf: &Elf,
@@ -210,8 +187,10 @@ fn field_of(
     requires wholes { AreApart wholes.now }
     requires records { AreRecords elf.now records.now }
     requires listed { Contains (relocations elf.now) (seen relocation.now) }
-    ensures is { (tabled : List (ℕ × ℕ)) → AreWholeParts elf.now tabled wholes.now → IfSome (option_map field result) (IsFieldOf elf.now tabled (seen relocation.now)) }
-    ensures only { (tabled : List (ℕ × ℕ)) (f : Field) → AreWholeParts elf.now tabled wholes.now → IsFieldOf elf.now tabled (seen relocation.now) f → option_map field result ≡ Some f }
+    ensures is { (tabled : List (ℕ × ℕ)) → AreWholeParts elf.now tabled wholes.now →
+        IfSome (option_map field result) (IsFieldOf elf.now tabled (seen relocation.now)) }
+    ensures only { (tabled : List (ℕ × ℕ)) (f : Field) → AreWholeParts elf.now tabled wholes.now →
+        IsFieldOf elf.now tabled (seen relocation.now) f → option_map field result ≡ Some f }
 {
     if is_address(relocation.kind) {
         return code_field(
@@ -221,17 +200,13 @@ fn field_of(
             address_width(relocation.kind),
         );
     }
-    difference_field(elf, starts, wholes, records, relocation)
-}
-
-/// Appends a field, if there is one.
-pub fn push_field(fields: &mut Vec<Candidate>, found: Option<Candidate>) -> Result<(), NoMemory>
-    ensures { OnOk result (map field fields.new.items ≡ map field fields.old.items ++ option_to_list (option_map field found)) }
-{
-    if let Some(found) = found {
-        fields.push(found)?;
+    if !can_be_cell(relocation) {
+        return None;
     }
-    Ok(())
+    match difference_of(elf, records, relocation) {
+        Some(difference) => cell_field(elf, starts, wholes, relocation.place, &difference),
+        None => None,
+    }
 }
 
 /// The fields of relocations that can be cells.
@@ -246,11 +221,12 @@ pub fn fields_of(
     requires starts { AreStarts elf.now starts.now }
     requires wholes { AreApart wholes.now }
     requires records { AreRecords elf.now records.now }
-    ensures { (tabled : List (ℕ × ℕ)) → AreWholeParts elf.now tabled wholes.now → IfOk result (λ fields. AreFound (λ r f. IsFieldOf elf.now tabled (seen r) f) records.now (map field fields.items)) }
+    ensures { (tabled : List (ℕ × ℕ)) → AreWholeParts elf.now tabled wholes.now →
+        IfOk result (λ fields. AreFound (λ r f. IsFieldOf elf.now tabled (seen r) f) records.now (map field fields.items)) }
 {
     let mut fields = Vec::new(alloc);
     for relocation in records {
-        push_field(
+        push_found(
             &mut fields,
             field_of(elf, starts, wholes, records, relocation),
         )?;

@@ -64,7 +64,8 @@ fn lowest_bad_field(counted: &[Candidate]) -> Option<u64>
 
 /// The lowest place of a cell with a difference of which a label is no address. Without one, all labels are.
 pub fn lowest_bad_label(counted: &[Candidate]) -> Option<u64>
-    ensures lowest { (elf : file.Elf) (tabled : List (ℕ × ℕ)) → AreCounted elf tabled (map field counted.now) → IsLowest (HasBadLabel elf tabled) result }
+    ensures lowest { (elf : file.Elf) (tabled : List (ℕ × ℕ)) → AreCounted elf tabled (map field counted.now) →
+        IsLowest (HasBadLabel elf tabled) result }
     ensures none { IfNone result (All HasAddresses counted.now) }
 {
     lowest_bad_field(counted)
@@ -98,7 +99,8 @@ fn cell_of(field: &Candidate) -> CodeCell
 /// The code cells, of the fields that count.
 pub fn cells(alloc: Global, counted: &[Candidate]) -> Result<Vec<CodeCell>, NoMemory>
     requires { All HasAddresses counted.now }
-    ensures { (elf : file.Elf) (tabled : List (ℕ × ℕ)) → AreCounted elf tabled (map field counted.now) → IfOk result (λ cells. AreCells elf tabled cells.items) }
+    ensures { (elf : file.Elf) (tabled : List (ℕ × ℕ)) → AreCounted elf tabled (map field counted.now) →
+        IfOk result (λ cells. AreCells elf tabled cells.items) }
 {
     let mut cells = Vec::new(alloc);
     for field in counted {
@@ -126,7 +128,8 @@ pub fn counted_fields(
     requires records { AreRecords elf.now records.now }
     requires labels { AreSlotLabels elf.now labels.now }
     requires lows { AreLows elf.now lows.now }
-    ensures { (tabled : List (ℕ × ℕ)) → AreWholeParts elf.now tabled wholes.now → IfOk result (λ counted. AreCounted elf.now tabled (map field counted.items)) }
+    ensures { (tabled : List (ℕ × ℕ)) → AreWholeParts elf.now tabled wholes.now →
+        IfOk result (λ counted. AreCounted elf.now tabled (map field counted.items)) }
 {
     let mut fields = fields_of(alloc, elf, starts, wholes, records)?;
     let slots = got_fields(alloc, elf, starts, parts, labels, lows)?;

@@ -1,6 +1,5 @@
 // All claims to roles, and the roles that count.
-ghost use Rattle.std.specs.Prelude.{◌≡◌, ◌+◌, ◌++◌, ℕ, IfOk, OnOk, IfSome, IsSomeAnd, Contains, AllPairs, All};
-ghost use Rattle.std.specs.Option.{option_to_list};
+ghost use Rattle.std.specs.Prelude.{◌≡◌, ◌+◌, ℕ, IfOk, OnOk, IfSome, IsSomeAnd, Contains, AllPairs, All};
 ghost use Rattle.std.specs.List.Sorted.{IsPermutation};
 ghost use Rattle.rv_code.specs.declared.placed.Role.{Role};
 ghost use Rattle.elf_image.specs.code.FileCode.{AreStarts, AreRoles};
@@ -13,6 +12,7 @@ ghost use Rattle.rv_reloc.specs.Parts.{AreCodeParts};
 ghost use Rattle.rv_reloc.specs.Records.{seen, AreRecords};
 
 use crate::claims::{absolute_claim, call_claim, call_low_claim, lower_claim, upper_claim};
+use crate::found::push_found;
 use crate::lows::Low;
 use crate::parts::Part;
 use crate::records::Record;
@@ -38,7 +38,8 @@ fn claim_at(
     requires fits { (r : Relocation) → Contains (relocations elf.now) r → IsMisfit elf.now r → ⊥ }
     requires alike { (place : ℕ) → IsLoMismatch elf.now place → ⊥ }
     ensures is { IfSome result (IsClaimOf elf.now (seen relocation.now) relocation.now.place) }
-    ensures each { (key : ℕ) (role : Role) → Claims elf.now (seen relocation.now) relocation.now.place key role → IsSomeAnd result (λ c. c.key ≡ key) }
+    ensures each { (key : ℕ) (role : Role) → Claims elf.now (seen relocation.now) relocation.now.place key role →
+        IsSomeAnd result (λ c. c.key ≡ key) }
 {
     if is_call_pair(relocation.kind) {
         return call_claim(elf, starts, parts, relocation);
@@ -62,21 +63,13 @@ fn claim_after(elf: &Elf, starts: &[u64], parts: &[Part], relocation: &Record) -
     requires counts { Contains (relocations elf.now) (seen relocation.now) }
     requires fits { (r : Relocation) → Contains (relocations elf.now) r → IsMisfit elf.now r → ⊥ }
     ensures is { IfSome result (IsClaimOf elf.now (seen relocation.now) (relocation.now.place + 4)) }
-    ensures each { (key : ℕ) (role : Role) → Claims elf.now (seen relocation.now) (relocation.now.place + 4) key role → IsSomeAnd result (λ c. c.key ≡ key) }
+    ensures each { (key : ℕ) (role : Role) → Claims elf.now (seen relocation.now) (relocation.now.place + 4) key role →
+        IsSomeAnd result (λ c. c.key ≡ key) }
 {
     if !is_call_pair(relocation.kind) {
         return None;
     }
     call_low_claim(elf, starts, parts, relocation)
-}
-
-fn push_claim(claims: &mut Vec<Claim>, claim: Option<Claim>) -> Result<(), NoMemory>
-    ensures { OnOk result (claims.new.items ≡ claims.old.items ++ option_to_list claim) }
-{
-    if let Some(claim) = claim {
-        claims.push(claim)?;
-    }
-    Ok(())
 }
 
 // The claims of relocations, one relocation after another.
@@ -98,8 +91,8 @@ fn read_claims(
 {
     let mut claims = Vec::new(alloc);
     for relocation in records {
-        push_claim(&mut claims, claim_at(elf, starts, parts, lows, relocation))?;
-        push_claim(&mut claims, claim_after(elf, starts, parts, relocation))?;
+        push_found(&mut claims, claim_at(elf, starts, parts, lows, relocation))?;
+        push_found(&mut claims, claim_after(elf, starts, parts, relocation))?;
     }
     Ok(claims)
 }

@@ -29,7 +29,8 @@ pub fn call_claim(elf: &Elf, starts: &[u64], parts: &[Part], relocation: &Record
     requires kind { IsTrue (is_call_pair relocation.now.kind) }
     requires fits { IsMisfit elf.now (seen relocation.now) → ⊥ }
     ensures is { IfSome result (IsClaimOf elf.now (seen relocation.now) relocation.now.place) }
-    ensures each { (key : ℕ) (role : Role) → Claims elf.now (seen relocation.now) relocation.now.place key role → IsSomeAnd result (λ c. c.key ≡ key) }
+    ensures each { (key : ℕ) (role : Role) → Claims elf.now (seen relocation.now) relocation.now.place key role →
+        IsSomeAnd result (λ c. c.key ≡ key) }
 {
     match call_at(elf, starts, parts, relocation.place) {
         Some(call) => match call.named(relocation.place) {
@@ -58,7 +59,8 @@ pub fn call_low_claim(
     requires kind { IsTrue (is_call_pair relocation.now.kind) }
     requires fits { IsMisfit elf.now (seen relocation.now) → ⊥ }
     ensures is { IfSome result (IsClaimOf elf.now (seen relocation.now) (relocation.now.place + 4)) }
-    ensures each { (key : ℕ) (role : Role) → Claims elf.now (seen relocation.now) (relocation.now.place + 4) key role → IsSomeAnd result (λ c. c.key ≡ key) }
+    ensures each { (key : ℕ) (role : Role) → Claims elf.now (seen relocation.now) (relocation.now.place + 4) key role →
+        IsSomeAnd result (λ c. c.key ≡ key) }
 {
     match call_at(elf, starts, parts, relocation.place) {
         Some(call) => match call.target(relocation.place) {
@@ -93,7 +95,8 @@ pub fn upper_claim(
     requires fits { IsMisfit elf.now (seen relocation.now) → ⊥ }
     requires alike { (place : ℕ) → IsLoMismatch elf.now place → ⊥ }
     ensures is { IfSome result (IsClaimOf elf.now (seen relocation.now) relocation.now.place) }
-    ensures each { (key : ℕ) (role : Role) → Claims elf.now (seen relocation.now) relocation.now.place key role → IsSomeAnd result (λ c. c.key ≡ key) }
+    ensures each { (key : ℕ) (role : Role) → Claims elf.now (seen relocation.now) relocation.now.place key role →
+        IsSomeAnd result (λ c. c.key ≡ key) }
 {
     match first_low(lows, relocation.place) {
         Some(low) => match low_address(elf, starts, parts, &low) {
@@ -117,7 +120,8 @@ pub fn lower_claim(elf: &Elf, starts: &[u64], parts: &[Part], relocation: &Recor
     requires kind { IsTrue (is_pcrel_lo relocation.now.kind) }
     requires fits { (r : Relocation) → Contains (relocations elf.now) r → IsMisfit elf.now r → ⊥ }
     ensures is { IfSome result (IsClaimOf elf.now (seen relocation.now) relocation.now.place) }
-    ensures each { (key : ℕ) (role : Role) → Claims elf.now (seen relocation.now) relocation.now.place key role → IsSomeAnd result (λ c. c.key ≡ key) }
+    ensures each { (key : ℕ) (role : Role) → Claims elf.now (seen relocation.now) relocation.now.place key role →
+        IsSomeAnd result (λ c. c.key ≡ key) }
 {
     match low_of(elf, starts, parts, relocation) {
         Some(low) => match low_address(elf, starts, parts, &low) {
@@ -156,7 +160,8 @@ pub fn absolute_claim(
     requires kind { IsTrue (is_absolute relocation.now.kind) }
     requires fits { IsMisfit elf.now (seen relocation.now) → ⊥ }
     ensures is { IfSome result (IsClaimOf elf.now (seen relocation.now) relocation.now.place) }
-    ensures each { (key : ℕ) (role : Role) → Claims elf.now (seen relocation.now) relocation.now.place key role → IsSomeAnd result (λ c. c.key ≡ key) }
+    ensures each { (key : ℕ) (role : Role) → Claims elf.now (seen relocation.now) relocation.now.place key role →
+        IsSomeAnd result (λ c. c.key ≡ key) }
 {
     match absolute_target(elf, starts, relocation) {
         Some(target) => {

@@ -47,7 +47,8 @@ fn labels_difference(
     requires listed { Contains (relocations elf.now) (seen relocation.now) }
     requires width { plus_width relocation.now.kind ≡ Some (width_of width) }
     ensures is { IfSome result (IsDifferenceOf elf.now (seen relocation.now)) }
-    ensures only { (w : spec.Width) (to from : ℤ) → IsDifference elf.now (seen relocation.now) w to from → IsSomeAnd result (IsTheDifference w to from) }
+    ensures only { (w : spec.Width) (to from : ℤ) → IsDifference elf.now (seen relocation.now) w to from →
+        IsSomeAnd result (IsTheDifference w to from) }
 {
     match only_plus(records, relocation.place, width) {
         Some(_) => match only_minus(records, relocation.place, width) {
@@ -67,7 +68,8 @@ pub fn difference_of(elf: &Elf, records: &[Record], relocation: &Record) -> Opti
     requires records { AreRecords elf.now records.now }
     requires listed { Contains (relocations elf.now) (seen relocation.now) }
     ensures is { IfSome result (IsDifferenceOf elf.now (seen relocation.now)) }
-    ensures only { (w : spec.Width) (to from : ℤ) → IsDifference elf.now (seen relocation.now) w to from → IsSomeAnd result (IsTheDifference w to from) }
+    ensures only { (w : spec.Width) (to from : ℤ) → IsDifference elf.now (seen relocation.now) w to from →
+        IsSomeAnd result (IsTheDifference w to from) }
 {
     if is_pc_difference(relocation.kind) {
         return Some(Difference {
@@ -84,7 +86,8 @@ pub fn difference_of(elf: &Elf, records: &[Record], relocation: &Record) -> Opti
 
 // The width of a field to which a relocation adds a label, or from which it subtracts one.
 fn label_width(kind: u32) -> Option<Width>
-    ensures { (w : spec.Width) → (option_map width_of result ≡ Some w) ↔ ((plus_width kind ≡ Some w) ⊎ (minus_width kind ≡ Some w)) }
+    ensures { (w : spec.Width) →
+        (option_map width_of result ≡ Some w) ↔ ((plus_width kind ≡ Some w) ⊎ (minus_width kind ≡ Some w)) }
 {
     match plus_width(kind) {
         Some(width) => Some(width),
@@ -165,7 +168,8 @@ pub fn is_narrow(
     requires wholes { AreApart wholes.now }
     requires records { AreRecords elf.now records.now }
     requires listed { Contains (relocations elf.now) (seen relocation.now) }
-    ensures { (tabled : List (ℕ × ℕ)) → AreWholeParts elf.now tabled wholes.now → IsTrue result ↔ IsNarrow elf.now tabled (seen relocation.now) }
+    ensures { (tabled : List (ℕ × ℕ)) → AreWholeParts elf.now tabled wholes.now →
+        IsTrue result ↔ IsNarrow elf.now tabled (seen relocation.now) }
 {
     if can_be_cell(relocation) {
         return false;
@@ -180,7 +184,10 @@ pub fn is_narrow(
 pub fn crosses(elf: &Elf, starts: &[u64], wholes: &[Part], difference: &Difference) -> bool
     requires starts { AreStarts elf.now starts.now }
     requires wholes { AreApart wholes.now }
-    ensures { (tabled : List (ℕ × ℕ)) → AreWholeParts elf.now tabled wholes.now → IsTrue result ↔ (HasCodeLabel elf.now difference.now.to difference.now.from × (IsInOneWhole elf.now tabled difference.now.to difference.now.from → ⊥)) }
+    ensures { (tabled : List (ℕ × ℕ)) → AreWholeParts elf.now tabled wholes.now →
+        IsTrue result
+        ↔ (HasCodeLabel elf.now difference.now.to difference.now.from
+        × (IsInOneWhole elf.now tabled difference.now.to difference.now.from → ⊥)) }
 {
     if !has_code_label(elf, starts, difference.to, difference.from) {
         return false;

@@ -39,8 +39,10 @@ pub fn check(
     requires records { AreRecords elf.now records.now }
     requires lows { AreLows elf.now lows.now }
     requires misfit { IsLowest (HasRelocation elf.now (IsMisfit elf.now)) misfit }
-    ensures lacks { (tabled : List (ℕ × ℕ)) → AreAsked elf.now tabled wholes.now counted.now → OnOk result (LacksBelow (HasReferenceFault elf.now tabled) 15) }
-    ensures fault { (tabled : List (ℕ × ℕ)) → AreAsked elf.now tabled wholes.now counted.now → IfErr result (IsAnswered (HasReferenceFault elf.now tabled)) }
+    ensures lacks { (tabled : List (ℕ × ℕ)) → AreAsked elf.now tabled wholes.now counted.now →
+        OnOk result (LacksBelow (HasReferenceFault elf.now tabled) 15) }
+    ensures fault { (tabled : List (ℕ × ℕ)) → AreAsked elf.now tabled wholes.now counted.now →
+        IfErr result (IsAnswered (HasReferenceFault elf.now tabled)) }
 {
     let mismatch = lower(misfit, lowest_bad_label(counted));
     refuse_at(FaultKind::RelocType, lowest_reloc_type(records))?;

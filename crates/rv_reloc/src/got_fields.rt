@@ -1,25 +1,25 @@
 // Entries of the global offset table, which an AUIPC and its lower parts name.
-ghost use Rattle.std.specs.Prelude.{◌≡◌, ◌↔◌, ℕ, ℤ, IfOk, IfSome, IsTrue, Some, map, option_map};
+ghost use Rattle.std.specs.Prelude.{◌≡◌, ◌↔◌, IfOk, IfSome, IsTrue, Some, map, option_map};
 ghost use Rattle.elf_image.specs.code.Cells.{Field};
 ghost use Rattle.elf_image.specs.code.FileCode.{AreStarts};
 ghost use Rattle.rv_reloc.specs.Found.{AreFound};
-ghost use Rattle.rv_reloc.specs.GotFields.{IsSlotOf, NamesEntry, IsNamedField, HasUpper, upper_of};
+ghost use Rattle.rv_reloc.specs.GotFields.{IsSlotOf, NamesEntry, IsNamedField};
 ghost use Rattle.rv_reloc.specs.Loaded.{IsLow};
 ghost use Rattle.rv_reloc.specs.Parts.{AreCodeParts};
 ghost use Rattle.rv_reloc.specs.Slots.{AreSlotLabels};
 ghost use Rattle.rv_reloc.specs.Sweep.{field};
 
-use crate::candidates::{code_field, push_field};
-use crate::code::full_at;
+use crate::candidates::code_field;
+use crate::found::push_found;
 use crate::loaded::loaded_number;
 use crate::lows::Low;
+use crate::pairs::low_target;
 use crate::parts::Part;
 use crate::slots::{SlotLabel, has_label};
 use crate::sweep::Candidate;
-use crate::targets::{natural, pair_target};
+use crate::targets::natural;
 use elf_image::Elf;
 use rb_bytes::fault::NoMemory;
-use rv_code::Inst;
 use std::alloc::Global;
 
 // Whether a relocation says that the entry that the AUIPC at an address names has a label.
@@ -71,34 +71,12 @@ fn slot_of(
     ensures is { IfSome (option_map field result) (IsSlotOf elf.now low.now) }
     ensures only { (f : Field) → IsSlotOf elf.now low.now f → option_map field result ≡ Some f }
 {
-    match upper_at(elf, starts, parts, low.hi) {
-        Some(upper) => match natural(pair_target(low.hi, upper, low.imm)) {
+    match low_target(elf, starts, parts, low) {
+        Some(number) => match natural(number) {
             Some(slot) => named_field(elf, starts, labels, low.hi, slot),
             None => None,
         },
         None => None,
-    }
-}
-
-// The upper immediate of the AUIPC at an address.
-fn upper_at(elf: &Elf, starts: &[u64], parts: &[Part], address: u64) -> Option<i64>
-    requires starts { AreStarts elf.now starts.now }
-    requires parts { AreCodeParts elf.now parts.now }
-    ensures is { IfSome result (HasUpper elf.now address) }
-    ensures only { (upper : ℤ) → HasUpper elf.now address upper → result ≡ Some upper }
-{
-    match full_at(elf, starts, parts, address) {
-        Some(inst) => upper_of(&inst),
-        None => None,
-    }
-}
-
-fn upper_of(inst: &Inst) -> Option<i64>
-    ensures { result ≡ upper_of inst.now }
-{
-    match *inst {
-        Inst::Auipc { imm, .. } => Some(imm),
-        _ => None,
     }
 }
 
@@ -119,7 +97,7 @@ pub fn got_fields(
 {
     let mut slots = Vec::new(alloc);
     for low in lows {
-        push_field(&mut slots, slot_of(elf, starts, parts, labels, low))?;
+        push_found(&mut slots, slot_of(elf, starts, parts, labels, low))?;
     }
     Ok(slots)
 }

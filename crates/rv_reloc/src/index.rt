@@ -73,7 +73,8 @@ fn count_below(records: &[Record], place: u64, at: u64) -> usize
     requires { AreInOrder records.now }
     ensures bound { result ≤ length records.now }
     ensures below { (k : ℕ) (d : Record) → k < result → IsBelow place at (slice_index_or records.now k d) }
-    ensures above { (k : ℕ) (d : Record) → result ≤ k → k < length records.now → IsFrom place at (slice_index_or records.now k d) }
+    ensures above { (k : ℕ) (d : Record) → result ≤ k → k < length records.now →
+        IsFrom place at (slice_index_or records.now k d) }
 {
     records.partition_point(|r| r.place < place || (r.place == place && class(r.kind) < at))
 }
@@ -112,7 +113,8 @@ pub fn only<'a>(records: &[Record<'a>], place: u64, at: u64) -> Option<Record<'a
 /// Whether a relocation for a call applies to a place.
 pub fn has_call(records: &[Record], place: u64) -> bool
     requires { AreInOrder records.now }
-    ensures { (elf : Elf) → AreRecords elf records.now → IsTrue result ↔ HasRelocation elf (λ r. IsTrue (is_call_pair r.kind)) place }
+    ensures { (elf : Elf) → AreRecords elf records.now →
+        IsTrue result ↔ HasRelocation elf (λ r. IsTrue (is_call_pair r.kind)) place }
 {
     has(records, place, CALL_CLASS)
 }
@@ -120,7 +122,8 @@ pub fn has_call(records: &[Record], place: u64) -> bool
 /// Whether a relocation for an upper part that is not a call's applies to a place.
 pub fn has_upper(records: &[Record], place: u64) -> bool
     requires { AreInOrder records.now }
-    ensures { (elf : Elf) → AreRecords elf records.now → IsTrue result ↔ HasRelocation elf (λ r. IsTrue (is_pcrel_hi r.kind)) place }
+    ensures { (elf : Elf) → AreRecords elf records.now →
+        IsTrue result ↔ HasRelocation elf (λ r. IsTrue (is_pcrel_hi r.kind)) place }
 {
     has(records, place, UPPER_CLASS)
 }
@@ -128,8 +131,10 @@ pub fn has_upper(records: &[Record], place: u64) -> bool
 /// The only relocation that adds or sets a label of a width at a place.
 pub fn only_plus<'a>(records: &[Record<'a>], place: u64, width: Width) -> Option<Record<'a>>
     requires { AreInOrder records.now }
-    ensures is { (elf : Elf) → AreRecords elf records.now → IfSome result (λ r. IsOnly (is_plus place (width_of width)) (relocations elf) (seen r)) }
-    ensures only { (elf : Elf) (r : Relocation) → AreRecords elf records.now → IsOnly (is_plus place (width_of width)) (relocations elf) r → IsSomeAnd result (λ q. seen q ≡ r) }
+    ensures is { (elf : Elf) → AreRecords elf records.now →
+        IfSome result (λ r. IsOnly (is_plus place (width_of width)) (relocations elf) (seen r)) }
+    ensures only { (elf : Elf) (r : Relocation) → AreRecords elf records.now →
+        IsOnly (is_plus place (width_of width)) (relocations elf) r → IsSomeAnd result (λ q. seen q ≡ r) }
 {
     only(records, place, plus_class(width))
 }
@@ -137,8 +142,10 @@ pub fn only_plus<'a>(records: &[Record<'a>], place: u64, width: Width) -> Option
 /// The only relocation that subtracts a label of a width at a place.
 pub fn only_minus<'a>(records: &[Record<'a>], place: u64, width: Width) -> Option<Record<'a>>
     requires { AreInOrder records.now }
-    ensures is { (elf : Elf) → AreRecords elf records.now → IfSome result (λ r. IsOnly (is_minus place (width_of width)) (relocations elf) (seen r)) }
-    ensures only { (elf : Elf) (r : Relocation) → AreRecords elf records.now → IsOnly (is_minus place (width_of width)) (relocations elf) r → IsSomeAnd result (λ q. seen q ≡ r) }
+    ensures is { (elf : Elf) → AreRecords elf records.now →
+        IfSome result (λ r. IsOnly (is_minus place (width_of width)) (relocations elf) (seen r)) }
+    ensures only { (elf : Elf) (r : Relocation) → AreRecords elf records.now →
+        IsOnly (is_minus place (width_of width)) (relocations elf) r → IsSomeAnd result (λ q. seen q ≡ r) }
 {
     only(records, place, minus_class(width))
 }

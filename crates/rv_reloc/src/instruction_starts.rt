@@ -1,9 +1,11 @@
 // The starts of instructions.
-ghost use Rattle.std.specs.Prelude.{◌≡◌, ◌<◌, ◌≤◌, ◌++◌, ◌↔◌, ℕ, IfOk, OnOk, length, slice_index_or, Contains, AllPairs};
+ghost use Rattle.std.specs.Prelude.{◌≡◌, ◌<◌, ◌≤◌, ◌+◌, ◌-◌, ◌/◌, ◌++◌, ◌↔◌, ℕ, IfOk, OnOk, length, slice_index_or, Contains, AllPairs};
+ghost use Rattle.elf_image.specs.declared.elf.Elf.{Elf};
 ghost use Rattle.elf_image.specs.code.FileCode.{AreStarts};
-ghost use Rattle.elf_image.specs.code.Parts.{length_at};
+ghost use Rattle.rv_reloc.specs.Halves.{AreHalvesOf, AreMarksOf};
 ghost use Rattle.rv_reloc.specs.Starts.{starts_from, starts_of};
 
+use crate::halves::{halves_taken, read_halves, read_marks};
 use crate::parts::{Part, code_parts};
 use elf_image::Elf;
 use rb_bytes::fault::NoMemory;
@@ -22,35 +24,34 @@ fn starts_of(alloc: Global, elf: &Elf, parts: &[Part]) -> Result<Vec<u64>, NoMem
     ensures { IfOk result (λ starts. starts.items ≡ starts_of elf.now parts.now) }
 {
     let mut starts = Vec::new(alloc);
+    let mut halves = Vec::new(alloc);
+    let mut marks = Vec::new(alloc);
     for part in parts {
-        push_starts(&mut starts, elf, part)?;
+        read_halves(&mut halves, elf, part)?;
+        read_marks(&mut marks, &halves)?;
+        push_starts(&mut starts, part, &halves, &marks)?;
     }
     Ok(starts)
 }
 
-fn push_starts(starts: &mut Vec<u64>, elf: &Elf, part: &Part) -> Result<(), NoMemory>
-    ensures { OnOk result (starts.new.items ≡ starts.old.items ++ starts_from elf.now part.now.end part.now.start) }
+// A marked halfword begins an instruction of four bytes, so the halfword after it begins none.
+fn push_starts(
+    starts: &mut Vec<u64>,
+    part: &Part,
+    halves: &[u16],
+    marks: &[u64],
+) -> Result<(), NoMemory>
+    requires count { length halves.now ≡ (part.now.end - part.now.start + 1) / 2 }
+    requires marks { AreMarksOf halves.now marks.now }
+    ensures { (elf : Elf) → AreHalvesOf elf part.now halves.now →
+        OnOk result (starts.new.items ≡ starts.old.items ++ starts_from elf part.now.end part.now.start) }
 {
-    let mut address = part.start;
-    while address < part.end {
-        starts.push(address)?;
-        let length = length_at(elf, address);
-        if part.end - address <= length {
-            return Ok(());
-        }
-        address += length;
+    let mut index = 0;
+    while index < halves.len() {
+        starts.push(part.start + 2 * index as u64)?;
+        index += halves_taken(marks, index);
     }
     Ok(())
-}
-
-/// How many bytes what stands at an address takes, by its first byte: 2 or 4. ISA manual, section 1.5.
-pub fn length_at(elf: &Elf, address: u64) -> u64
-    ensures { result ≡ length_at elf.now address }
-{
-    match elf.image_byte(address) {
-        Some(byte) => { if byte % 4 == 3 { 4 } else { 2 } }
-        None => 2,
-    }
 }
 
 /// The starts of the instructions of a part, of those of the file.

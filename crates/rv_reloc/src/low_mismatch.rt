@@ -4,7 +4,7 @@ ghost use Rattle.std.specs.List.Sorted.{IsNonDecreasingBy};
 ghost use Rattle.elf_image.specs.declared.elf.Elf.{Elf};
 ghost use Rattle.elf_image.specs.faults.LowestPlace.{IsLowest};
 ghost use Rattle.elf_image.specs.faults.ReferenceFaults.{IsLoMismatch};
-ghost use Rattle.rv_reloc.specs.Lows.{AreLows, DiffersFromNext, TwoDiffer};
+ghost use Rattle.rv_reloc.specs.Lows.{AreLows, DiffersFromNext};
 
 use crate::lows::Low;
 use elf_image::lowest::{lower, place_if};
@@ -18,21 +18,14 @@ fn differs_from_next(lows: &[Low], index: usize) -> bool
         && lows[index].imm != lows[index + 1].imm
 }
 
-fn lowest_differing(lows: &[Low]) -> Option<u64>
+/// The lowest AUIPC of which two lower parts differ.
+pub fn lowest_low_mismatch(lows: &[Low]) -> Option<u64>
     requires { IsNonDecreasingBy (λ l. l.hi) lows.now }
-    ensures { IsLowest (TwoDiffer lows.now) result }
+    ensures { (elf : Elf) → AreLows elf lows.now → IsLowest (IsLoMismatch elf) result }
 {
     let mut lowest = None;
     for (index, low) in lows.iter().enumerate() {
         lowest = lower(lowest, place_if(differs_from_next(lows, index), low.hi));
     }
     lowest
-}
-
-/// The lowest AUIPC of which two lower parts differ.
-pub fn lowest_low_mismatch(lows: &[Low]) -> Option<u64>
-    requires { IsNonDecreasingBy (λ l. l.hi) lows.now }
-    ensures { (elf : Elf) → AreLows elf lows.now → IsLowest (IsLoMismatch elf) result }
-{
-    lowest_differing(lows)
 }

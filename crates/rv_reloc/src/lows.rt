@@ -1,6 +1,5 @@
 // The lower parts of distances, by the AUIPC that they name.
-ghost use Rattle.std.specs.Prelude.{◌≡◌, ◌++◌, ◌<◌, ◌≤◌, ℕ, IfOk, OnOk, IfSome, IsSome, Some, Contains, length, slice_index_or};
-ghost use Rattle.std.specs.Option.{option_to_list};
+ghost use Rattle.std.specs.Prelude.{◌≡◌, ◌<◌, ◌≤◌, ℕ, IfOk, OnOk, IfSome, IsSome, Some, Contains, length, slice_index_or};
 ghost use Rattle.std.specs.List.Sorted.{IsNonDecreasingBy, IsPermutation};
 ghost use Rattle.elf_image.specs.code.FileCode.{AreStarts};
 ghost use Rattle.elf_image.specs.code.Roles.{immediate_i, immediate_s, lower_immediate};
@@ -11,6 +10,7 @@ ghost use Rattle.rv_reloc.specs.Lows.{IsLowOf, AreLows};
 ghost use Rattle.rv_reloc.specs.Records.{seen, AreRecords};
 
 use crate::code::full_at;
+use crate::found::push_found;
 use crate::labels::symbol_value;
 use crate::parts::Part;
 use crate::records::Record;
@@ -86,15 +86,6 @@ pub fn low_of(elf: &Elf, starts: &[u64], parts: &[Part], relocation: &Record) ->
     }
 }
 
-fn push_low(lows: &mut Vec<Low>, low: Option<Low>) -> Result<(), NoMemory>
-    ensures { OnOk result (lows.new.items ≡ lows.old.items ++ option_to_list low) }
-{
-    if let Some(low) = low {
-        lows.push(low)?;
-    }
-    Ok(())
-}
-
 // The lower parts of relocations, one relocation after another.
 fn read_lows(
     alloc: Global,
@@ -109,7 +100,7 @@ fn read_lows(
 {
     let mut lows = Vec::new(alloc);
     for record in records {
-        push_low(&mut lows, low_of(elf, starts, parts, record))?;
+        push_found(&mut lows, low_of(elf, starts, parts, record))?;
     }
     Ok(lows)
 }

@@ -1,12 +1,12 @@
 // The addresses that relocations for lower parts name.
-ghost use Rattle.std.specs.Prelude.{◌≡◌, ◌↔◌, ◌++◌, ◌<◌, ℕ, IfOk, OnOk, IfSome, IsTrue, Some, Contains, AllPairs};
-ghost use Rattle.std.specs.Option.{option_to_list};
+ghost use Rattle.std.specs.Prelude.{◌≡◌, ◌↔◌, ◌<◌, ℕ, IfOk, IfSome, IsTrue, Some, Contains, AllPairs};
 ghost use Rattle.std.specs.List.Sorted.{IsStrictlyIncreasing};
 ghost use Rattle.rv_reloc.specs.Found.{AreFound};
 ghost use Rattle.rv_reloc.specs.Named.{NamesUpper, AreNamed};
 ghost use Rattle.rv_reloc.specs.Records.{seen, AreRecords};
 
 use crate::code::is_start;
+use crate::found::push_found;
 use crate::labels::symbol_value;
 use crate::records::Record;
 use crate::types::is_pcrel_lo;
@@ -27,23 +27,13 @@ fn named_by(elf: &Elf, relocation: &Record) -> Option<u64>
     }
 }
 
-/// Adds an address, if there is one.
-pub fn push_address(addresses: &mut Vec<u64>, address: Option<u64>) -> Result<(), NoMemory>
-    ensures { OnOk result (addresses.new.items ≡ addresses.old.items ++ option_to_list address) }
-{
-    if let Some(address) = address {
-        addresses.push(address)?;
-    }
-    Ok(())
-}
-
 // The addresses that relocations name, one relocation after another.
 fn read_named(alloc: Global, elf: &Elf, records: &[Record]) -> Result<Vec<u64>, NoMemory>
     ensures { IfOk result (λ named. AreFound (λ r a. NamesUpper elf.now (seen r) a) records.now named.items) }
 {
     let mut named = Vec::new(alloc);
     for relocation in records {
-        push_address(&mut named, named_by(elf, relocation))?;
+        push_found(&mut named, named_by(elf, relocation))?;
     }
     Ok(named)
 }

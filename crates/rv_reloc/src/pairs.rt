@@ -9,9 +9,10 @@ ghost use Rattle.rv_reloc.specs.Pairs.{IsTargetOf, IsFar, AreFar, MakesNoAddress
 ghost use Rattle.rv_reloc.specs.Parts.{AreCodeParts};
 ghost use Rattle.rv_reloc.specs.Records.{seen};
 
+use crate::found::push_found;
 use crate::instructions::auipc_at;
 use crate::lows::Low;
-use crate::named::{is_named, push_address};
+use crate::named::is_named;
 use crate::parts::Part;
 use crate::records::Record;
 use crate::targets::{address_of, pair_target};
@@ -80,7 +81,7 @@ fn read_far(
 {
     let mut far = Vec::new(alloc);
     for low in lows {
-        push_address(&mut far, far_of(elf, starts, parts, low))?;
+        push_found(&mut far, far_of(elf, starts, parts, low))?;
     }
     Ok(far)
 }

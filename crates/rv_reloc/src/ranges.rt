@@ -89,7 +89,8 @@ fn symbol_extents(alloc: Global, symbols: &[Symbol]) -> Result<Vec<Extent>, Allo
 
 /// The addresses that symbols of functions name.
 pub fn function_ranges(alloc: Global, elf: &Elf) -> Result<Ranges, NoMemory>
-    ensures { IfOk result (λ r. (start end : ℕ) → start < end → IsInOneExtent r.reaches.items start end ↔ IsCovered elf.now start end) }
+    ensures { IfOk result
+        (λ r. (start end : ℕ) → start < end → IsInOneExtent r.reaches.items start end ↔ IsCovered elf.now start end) }
 {
     Ranges::new(alloc, symbol_extents(alloc, &elf.symbols)?)
 }

@@ -59,7 +59,8 @@ fn push_entries<'a>(
     count: usize,
 ) -> Result<(), NoMemory>
     requires { start + RELA_SIZE * count ≤ length file.now }
-    ensures { OnOk result (map seen records.new.items ≡ map seen records.old.items ++ entries_from file.now section.now start count) }
+    ensures { OnOk result
+        (map seen records.new.items ≡ map seen records.old.items ++ entries_from file.now section.now start count) }
 {
     for index in 0..count {
         records.push(record_at(file, section, start + RELA_SIZE * index))?;

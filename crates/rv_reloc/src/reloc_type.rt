@@ -1,29 +1,20 @@
 // Relocations of types that are not supported.
-ghost use Rattle.std.specs.Prelude.{IsFalse};
 ghost use Rattle.elf_image.specs.declared.elf.Elf.{Elf};
 ghost use Rattle.elf_image.specs.faults.LowestPlace.{IsLowest};
 ghost use Rattle.elf_image.specs.faults.ReferenceFaults.{IsRelocType};
-ghost use Rattle.elf_image.specs.code.Relocations.{is_supported};
-ghost use Rattle.rv_reloc.specs.Places.{IsPlaceOf};
 ghost use Rattle.rv_reloc.specs.Records.{AreRecords};
 
 use crate::records::Record;
 use crate::types::is_supported;
 use elf_image::lowest::{lower, place_if};
 
-fn lowest_unsupported(records: &[Record]) -> Option<u64>
-    ensures { IsLowest (IsPlaceOf (λ r. r.place) (λ r. IsFalse (is_supported r.kind)) records.now) result }
+/// The lowest place of a relocation of a type that is not supported.
+pub fn lowest_reloc_type(records: &[Record]) -> Option<u64>
+    ensures { (elf : Elf) → AreRecords elf records.now → IsLowest (IsRelocType elf) result }
 {
     let mut lowest = None;
     for record in records {
         lowest = lower(lowest, place_if(!is_supported(record.kind), record.place));
     }
     lowest
-}
-
-/// The lowest place of a relocation of a type that is not supported.
-pub fn lowest_reloc_type(records: &[Record]) -> Option<u64>
-    ensures { (elf : Elf) → AreRecords elf records.now → IsLowest (IsRelocType elf) result }
-{
-    lowest_unsupported(records)
 }

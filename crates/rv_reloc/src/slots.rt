@@ -1,12 +1,12 @@
 // The labels that entries of the global offset table are to hold.
-ghost use Rattle.std.specs.Prelude.{◌≡◌, ◌↔◌, ◌++◌, ◌<◌, ◌≤◌, ℕ, pos, IfOk, OnOk, IfSome, IsTrue, IsSomeAnd, Some, Contains, AllPairs, length, slice_index_or};
-ghost use Rattle.std.specs.Option.{option_to_list};
+ghost use Rattle.std.specs.Prelude.{◌≡◌, ◌↔◌, ◌<◌, ◌≤◌, ℕ, pos, IfOk, OnOk, IfSome, IsTrue, IsSomeAnd, Some, Contains, AllPairs, length, slice_index_or};
 ghost use Rattle.std.specs.List.Sorted.{IsPermutation};
 ghost use Rattle.rv_reloc.specs.declared.slots.SlotLabel.{SlotLabel};
 ghost use Rattle.rv_reloc.specs.Found.{AreFound};
 ghost use Rattle.rv_reloc.specs.Records.{seen, AreRecords};
 ghost use Rattle.rv_reloc.specs.Slots.{IsSlotLabelOf, IsLabelBelow, IsLabelFrom, AreSlotLabels, HasLabelAt, HasLabelBelow, HasLabelFrom, HasOtherLabel};
 
+use crate::found::push_found;
 use crate::labels::label;
 use crate::records::Record;
 use elf_image::Elf;
@@ -35,21 +35,12 @@ fn slot_label(elf: &Elf, relocation: &Record) -> Option<SlotLabel>
     }
 }
 
-fn push_label(labels: &mut Vec<SlotLabel>, label: Option<SlotLabel>) -> Result<(), NoMemory>
-    ensures { OnOk result (labels.new.items ≡ labels.old.items ++ option_to_list label) }
-{
-    if let Some(label) = label {
-        labels.push(label)?;
-    }
-    Ok(())
-}
-
 fn read_labels(alloc: Global, elf: &Elf, records: &[Record]) -> Result<Vec<SlotLabel>, NoMemory>
     ensures { IfOk result (λ labels. AreFound (λ r s. IsSlotLabelOf elf.now (seen r) s) records.now labels.items) }
 {
     let mut labels = Vec::new(alloc);
     for relocation in records {
-        push_label(&mut labels, slot_label(elf, relocation))?;
+        push_found(&mut labels, slot_label(elf, relocation))?;
     }
     Ok(labels)
 }
@@ -78,7 +69,8 @@ fn count_below(labels: &[SlotLabel], place: u64, label: i128) -> usize
     requires { AllPairs (λ s t. IsLabelFrom s.place s.label t) labels.now }
     ensures bound { result ≤ length labels.now }
     ensures below { (k : ℕ) (d : SlotLabel) → k < result → IsLabelBelow place label (slice_index_or labels.now k d) }
-    ensures above { (k : ℕ) (d : SlotLabel) → result ≤ k → k < length labels.now → IsLabelFrom place label (slice_index_or labels.now k d) }
+    ensures above { (k : ℕ) (d : SlotLabel) → result ≤ k → k < length labels.now →
+        IsLabelFrom place label (slice_index_or labels.now k d) }
 {
     labels.partition_point(|s| s.place < place || (s.place == place && s.label < label))
 }

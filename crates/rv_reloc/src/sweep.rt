@@ -34,7 +34,8 @@ pub fn sort_fields(fields: &mut Vec<Candidate>) -> Result<(), NoMemory>
 
 /// Those that count, of all that can be cells, in their order.
 pub fn sweep(alloc: Global, candidates: &[Candidate]) -> Result<Vec<Candidate>, NoMemory>
-    ensures { (elf : Elf) (tabled : List (ℕ × ℕ)) → AreCandidates elf tabled (map field candidates.now) → IfOk result (λ counted. AreCounted elf tabled (map field counted.items)) }
+    ensures { (elf : Elf) (tabled : List (ℕ × ℕ)) → AreCandidates elf tabled (map field candidates.now) →
+        IfOk result (λ counted. AreCounted elf tabled (map field counted.items)) }
 {
     let mut counted = Vec::new(alloc);
     let mut reach: u128 = 0;

@@ -68,7 +68,9 @@ fn tabled_ranges(alloc: Global, tabled: &[(u64, u64)]) -> Result<Ranges, NoMemor
 fn is_whole(elf: &Elf, starts: &[u64], part: &Part, ranges: &Ranges) -> bool
     requires starts { AreStarts elf.now starts.now }
     requires part { IsCodePart elf.now part.now.start part.now.end }
-    ensures { (tabled : List (ℕ × ℕ)) → ((a : ℕ) → IsInOneExtent ranges.now.reaches.items a (a + 1) ↔ Any (IsInTabled a) tabled) → IsTrue result ↔ IsWholePart elf.now tabled part.now.start part.now.end }
+    ensures { (tabled : List (ℕ × ℕ)) →
+        ((a : ℕ) → IsInOneExtent ranges.now.reaches.items a (a + 1) ↔ Any (IsInTabled a) tabled) →
+        IsTrue result ↔ IsWholePart elf.now tabled part.now.start part.now.end }
 {
     any_held(ranges, starts_in(starts, part))
 }
@@ -89,7 +91,8 @@ fn holds(ranges: &Ranges, address: u64) -> bool
 /// Whether both labels lie in one of the whole parts, its end included.
 pub fn in_one_whole(wholes: &[Part], to: i128, from: i128) -> bool
     requires { AreApart wholes.now }
-    ensures { (elf : Elf) (tabled : List (ℕ × ℕ)) → AreWholeParts elf tabled wholes.now → IsTrue result ↔ IsInOneWhole elf tabled to from }
+    ensures { (elf : Elf) (tabled : List (ℕ × ℕ)) → AreWholeParts elf tabled wholes.now →
+        IsTrue result ↔ IsInOneWhole elf tabled to from }
 {
     let above = count_up_to(wholes, lower(to, from));
     if above == 0 {

@@ -22,8 +22,12 @@ pub returns-in-Some-clause-fault : goal.returns-in-Some-clause-fault
 returns-in-Some-clause-fault c =
     let elf = c.args.elf.now in
     let whole = c.args.whole.now in
-    let functions = subst (AreFunctionParts elf whole) (sym c.as_slice-kept.ensures.value) (c.in_ok-function_parts.ensures whole (c.in_ok-referred.ensures whole c.requires.refs)) in
-    let lowest = IsLowest-entry elf whole c.args.starts.now c.as_slice-kept.result.now (Some c.in-Some.place) c.requires.starts functions c.in-Some.ensures in
+    let functions =
+    subst (AreFunctionParts elf whole) (sym c.as_slice-kept.ensures.value)
+    (c.in_ok-function_parts.ensures whole (c.in_ok-referred.ensures whole c.requires.refs)) in
+    let lowest =
+    IsLowest-entry elf whole c.args.starts.now c.as_slice-kept.result.now
+    (Some c.in-Some.place) c.requires.starts functions c.in-Some.ensures in
     subst (IsAnswered (HasFunctionFault elf whole)) (sym c.at.ensures)
     (IsAnswered-first (HasFunctionFault elf whole) BadEntry c.in-Some.place (omega arith) (lacks_below_entry elf whole) lowest)
 
@@ -31,13 +35,17 @@ pub functions_of-requires-clause-parts : goal.functions_of-requires-clause-parts
 functions_of-requires-clause-parts c =
     let elf = c.args.elf.now in
     let whole = c.args.whole.now in
-    code_parts_of elf whole c.as_slice-kept.result.now (subst (AreFunctionParts elf whole) (sym c.as_slice-kept.ensures.value) (c.in_ok-function_parts.ensures whole (c.in_ok-referred.ensures whole c.requires.refs)))
+    code_parts_of elf whole c.as_slice-kept.result.now
+    (subst (AreFunctionParts elf whole) (sym c.as_slice-kept.ensures.value)
+    (c.in_ok-function_parts.ensures whole (c.in_ok-referred.ensures whole c.requires.refs)))
 
 pub functions_of-requires-clause-ordered : goal.functions_of-requires-clause-ordered
 functions_of-requires-clause-ordered c =
     let elf = c.args.elf.now in
     let whole = c.args.whole.now in
-    let functions = subst (AreFunctionParts elf whole) (sym c.as_slice-kept.ensures.value) (c.in_ok-function_parts.ensures whole (c.in_ok-referred.ensures whole c.requires.refs)) in
+    let functions =
+    subst (AreFunctionParts elf whole) (sym c.as_slice-kept.ensures.value)
+    (c.in_ok-function_parts.ensures whole (c.in_ok-referred.ensures whole c.requires.refs)) in
     functions.ordered
 
 pub functions_of-requires-clause-wholes : goal.functions_of-requires-clause-wholes
@@ -49,8 +57,12 @@ returns-in-Err-clause-fault c =
     let elf = c.args.elf.now in
     let whole = c.args.whole.now in
     let kept = c.as_slice-kept.result.now in
-    let functions = subst (AreFunctionParts elf whole) (sym c.as_slice-kept.ensures.value) (c.in_ok-function_parts.ensures whole (c.in_ok-referred.ensures whole c.requires.refs)) in
-    let no_entry = lacks (HasFunctionFault elf whole BadEntry) None refl (IsLowest-entry elf whole c.args.starts.now kept None c.requires.starts functions c.in-None.ensures) in
+    let functions =
+    subst (AreFunctionParts elf whole) (sym c.as_slice-kept.ensures.value)
+    (c.in_ok-function_parts.ensures whole (c.in_ok-referred.ensures whole c.requires.refs)) in
+    let no_entry =
+    lacks (HasFunctionFault elf whole BadEntry) None refl
+    (IsLowest-entry elf whole c.args.starts.now kept None c.requires.starts functions c.in-None.ensures) in
     IsRefusalBy-first elf whole kept c.in-Err.refusal functions no_entry c.in-Err.ensures.fault
 
 pub lowest_misled-requires-clause-parts : goal.lowest_misled-requires-clause-parts
@@ -67,11 +79,19 @@ returns-in-Some-lowest_misled-clause-fault c =
     let wholes = c.as_slice-wholes.result.now in
     let funcs = c.in-Ok.funcs.items in
     let place = c.in-Some-lowest_misled.place in
-    let functions = subst (AreFunctionParts elf whole) (sym c.as_slice-kept.ensures.value) (c.in_ok-function_parts.ensures whole (c.in_ok-referred.ensures whole c.requires.refs)) in
-    let no_entry = lacks (HasFunctionFault elf whole BadEntry) None refl (IsLowest-entry elf whole starts kept None c.requires.starts functions c.in-None.ensures) in
+    let functions =
+    subst (AreFunctionParts elf whole) (sym c.as_slice-kept.ensures.value)
+    (c.in_ok-function_parts.ensures whole (c.in_ok-referred.ensures whole c.requires.refs)) in
+    let no_entry =
+    lacks (HasFunctionFault elf whole BadEntry) None refl
+    (IsLowest-entry elf whole starts kept None c.requires.starts functions c.in-None.ensures) in
     let (no_bad_inst, no_bare) = no_bad elf whole wholes kept funcs functions c.in-Ok.ensures.made in
-    let misled = subst (λ (fs : List Func). IsLowest (HasMisled starts kept fs) (Some place)) c.deref-5.ensures.value c.in-Some-lowest_misled.ensures in
-    let lowest = IsLowest-target elf whole starts c.args.refs.now.roles.items wholes kept funcs (Some place) c.requires.starts c.requires.refs.roles functions c.in-Ok.ensures.made misled in
+    let misled =
+    subst (λ (fs : List Func). IsLowest (HasMisled starts kept fs)
+    (Some place)) c.deref-5.ensures.value c.in-Some-lowest_misled.ensures in
+    let lowest =
+    IsLowest-target elf whole starts c.args.refs.now.roles.items wholes kept funcs
+    (Some place) c.requires.starts c.requires.refs.roles functions c.in-Ok.ensures.made misled in
     subst (IsAnswered (HasFunctionFault elf whole)) (sym c.at-in-Some-lowest_misled.ensures)
     (IsAnswered-target elf whole place (lacks_below_target elf whole no_entry no_bad_inst no_bare) lowest)
 
@@ -79,7 +99,9 @@ pub returns-clause-functions : goal.returns-clause-functions
 returns-clause-functions c =
     let elf = c.args.elf.now in
     let whole = c.args.whole.now in
-    let functions = subst (AreFunctionParts elf whole) (sym c.as_slice-kept.ensures.value) (c.in_ok-function_parts.ensures whole (c.in_ok-referred.ensures whole c.requires.refs)) in
+    let functions =
+    subst (AreFunctionParts elf whole) (sym c.as_slice-kept.ensures.value)
+    (c.in_ok-function_parts.ensures whole (c.in_ok-referred.ensures whole c.requires.refs)) in
     let wholes = subst (AreWholeParts elf whole) (sym c.as_slice-wholes.ensures.value) c.in_ok-whole_parts.ensures in
     AreFunctions-made elf whole c.as_slice-wholes.result.now c.as_slice-kept.result.now c.in-Ok.funcs.items wholes functions c.in-Ok.ensures.made
 
@@ -91,9 +113,16 @@ returns-clause-free c =
     let kept = c.as_slice-kept.result.now in
     let wholes = c.as_slice-wholes.result.now in
     let funcs = c.in-Ok.funcs.items in
-    let functions = subst (AreFunctionParts elf whole) (sym c.as_slice-kept.ensures.value) (c.in_ok-function_parts.ensures whole (c.in_ok-referred.ensures whole c.requires.refs)) in
-    let no_entry = lacks (HasFunctionFault elf whole BadEntry) None refl (IsLowest-entry elf whole starts kept None c.requires.starts functions c.in-None.ensures) in
+    let functions =
+    subst (AreFunctionParts elf whole) (sym c.as_slice-kept.ensures.value)
+    (c.in_ok-function_parts.ensures whole (c.in_ok-referred.ensures whole c.requires.refs)) in
+    let no_entry =
+    lacks (HasFunctionFault elf whole BadEntry) None refl
+    (IsLowest-entry elf whole starts kept None c.requires.starts functions c.in-None.ensures) in
     let (no_bad_inst, no_bare) = no_bad elf whole wholes kept funcs functions c.in-Ok.ensures.made in
-    let misled = subst (λ (fs : List Func). IsLowest (HasMisled starts kept fs) None) c.deref-5.ensures.value c.in-None-lowest_misled.ensures in
-    let no_target = lacks (HasFunctionFault elf whole BadTarget) None refl (IsLowest-target elf whole starts c.args.refs.now.roles.items wholes kept funcs None c.requires.starts c.requires.refs.roles functions c.in-Ok.ensures.made misled) in
+    let misled =
+    subst (λ (fs : List Func). IsLowest (HasMisled starts kept fs) None) c.deref-5.ensures.value c.in-None-lowest_misled.ensures in
+    let no_target =
+    lacks (HasFunctionFault elf whole BadTarget) None refl
+    (IsLowest-target elf whole starts c.args.refs.now.roles.items wholes kept funcs None c.requires.starts c.requires.refs.roles functions c.in-Ok.ensures.made misled) in
     lacks_all elf whole no_entry no_bad_inst no_bare no_target

@@ -12,11 +12,11 @@ returns-then-end-address c = (
     bytes = c.in-Some.found.1;
     valid = c.in-Some.ensures.there;
     ends = (let is = c.if-end-address.true in let less = c.if-address-end.false in omega arith);
-    falls_out = sym c.falls_out.ensures ∙ out;
+    falls_out = sym c.falls.ensures ∙ out;
   }),
   (λ at.
       let same = pair_is _ (at.inst, at.bytes) (c.in-Some.ensures.only at.inst at.bytes at.valid) in
-      c.falls_out.ensures ∙ ap (λ (x : Inst × ℕ). falls (action_of x.0) true) same ∙ at.falls_out),
+      c.falls.ensures ∙ ap (λ (x : Inst × ℕ). falls (action_of x.0) true) same ∙ at.falls_out),
 )
 
 pub returns-in-None : goal.returns-in-None

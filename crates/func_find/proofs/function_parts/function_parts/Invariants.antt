@@ -10,5 +10,6 @@ use Rattle.func_find.proofs.function_parts.function_parts.Given as goal
 abbrev pub invariant-loop-part : goal.invariant-loop-part
 invariant-loop-part l = record {
   code : All (λ p. IsCodePart l.elf p.start p.end) l.kept.items;
-  chosen : (tabled : List (ℕ × ℕ)) → AreReferred l.elf tabled l.referred.addresses.items → ChosenOf (λ p. IsFunctionPart l.elf tabled p.start p.end) Follows l.parts l.part-index l.kept.items;
+  chosen : (tabled : List (ℕ × ℕ)) → AreReferred l.elf tabled l.referred.addresses.items →
+      ChosenOf (λ p. IsFunctionPart l.elf tabled p.start p.end) Follows l.parts l.part-index l.kept.items;
 }

@@ -18,8 +18,10 @@ pub returns-then-last-start : goal.returns-then-last-start
 returns-then-last-start c = λ tabled are.
     let d : Part = record { start = 0; end = 0 } in
     let some = c.if-count-eq0.false in (
-      (λ out. IsEntered-from c.args.elf.now tabled c.args.start (length c.args.before.now) c.args.before.now d are refl (omega arith) c.if-last-start.true (c.part_falls_out.ensures.0 out)),
-      (λ entered. c.part_falls_out.ensures.1 (IsEntered-last c.args.elf.now tabled c.args.start (length c.args.before.now) c.args.before.now d are refl entered).2),
+      (λ out. IsEntered-from c.args.elf.now tabled c.args.start (length c.args.before.now) c.args.before.now d are refl
+          (omega arith) c.if-last-start.true (c.part_falls_out.ensures.0 out)),
+      (λ entered. c.part_falls_out.ensures.1
+          (IsEntered-last c.args.elf.now tabled c.args.start (length c.args.before.now) c.args.before.now d are refl entered).2),
     )
 
 pub returns-else-last-start : goal.returns-else-last-start
@@ -27,5 +29,6 @@ returns-else-last-start c = λ tabled are.
     let d : Part = record { start = 0; end = 0 } in
     let isnt = c.if-last-start.false in (
       (λ is. absurd (isnt (eqb-true _ _ is))),
-      (λ entered. absurd (isnt (IsEntered-last c.args.elf.now tabled c.args.start (length c.args.before.now) c.args.before.now d are refl entered).1)),
+      (λ entered. absurd
+          (isnt (IsEntered-last c.args.elf.now tabled c.args.start (length c.args.before.now) c.args.before.now d are refl entered).1)),
     )

@@ -7,7 +7,8 @@ clash : (b : Bool) → b ≡ true → b ≡ false → ⊥
 clash b is isnt = let no : true ≡ false = sym is ∙ isnt in cc
 
 pub is_nop_part-requires-clause-inside : goal.is_nop_part-requires-clause-inside
-is_nop_part-requires-clause-inside c = inside_starts c.args.elf.now c.args.starts.now c.starts_in-inside.result.now _ _ c.requires.starts c.requires.part c.starts_in-inside.ensures.members
+is_nop_part-requires-clause-inside c =
+    inside_starts c.args.elf.now c.args.starts.now c.starts_in-inside.result.now _ _ c.requires.starts c.requires.part c.starts_in-inside.ensures.members
 
 pub returns-then-not-is_nop_part : goal.returns-then-not-is_nop_part
 returns-then-not-is_nop_part c = λ tabled names are. (
@@ -17,7 +18,8 @@ returns-then-not-is_nop_part c = λ tabled names are. (
 
 pub returns-then-has_any : goal.returns-then-has_any
 returns-then-has_any c = λ tabled names are.
-    let inside = inside_starts c.args.elf.now c.args.starts.now c.starts_in-inside.result.now _ _ c.requires.starts c.requires.part c.starts_in-inside.ensures.members in (
+    let inside =
+    inside_starts c.args.elf.now c.args.starts.now c.starts_in-inside.result.now _ _ c.requires.starts c.requires.part c.starts_in-inside.ensures.members in (
       (λ _. IsFunctionPart-referred c.args.elf.now tabled _ _ (c.is_nop_part.ensures.0 c.if-not-is_nop_part.false)
           ((HasReferred-any c.args.elf.now tabled c.args.part.now.start c.args.part.now.end _ c.starts_in-inside.result.now names inside).0 (c.has_any.ensures.0 c.if-has_any.true))),
       λ _. refl,
@@ -25,8 +27,13 @@ returns-then-has_any c = λ tabled names are.
 
 pub returns : goal.returns
 returns c = λ tabled names are.
-    let inside = inside_starts c.args.elf.now c.args.starts.now c.starts_in-inside.result.now _ _ c.requires.starts c.requires.part c.starts_in-inside.ensures.members in
-    let (to, from) = IsFunctionPart-entered c.args.elf.now tabled c.args.part.now.start c.args.part.now.end (c.is_nop_part.ensures.0 c.if-not-is_nop_part.false)
-    (λ has. clash _ (c.has_any.ensures.1 ((HasReferred-any c.args.elf.now tabled _ _ _ c.starts_in-inside.result.now names inside).1 has)) c.if-has_any.false) in
+    let inside =
+    inside_starts c.args.elf.now c.args.starts.now c.starts_in-inside.result.now _ _ c.requires.starts c.requires.part c.starts_in-inside.ensures.members in
+    let (to, from) =
+    IsFunctionPart-entered c.args.elf.now tabled c.args.part.now.start c.args.part.now.end
+    (c.is_nop_part.ensures.0 c.if-not-is_nop_part.false)
+    (λ has. clash _
+    (c.has_any.ensures.1
+    ((HasReferred-any c.args.elf.now tabled _ _ _ c.starts_in-inside.result.now names inside).1 has)) c.if-has_any.false) in
     let (out, back) = c.is_entered.ensures tabled are in
     ((λ is. to (out is)), λ function. back (from function))

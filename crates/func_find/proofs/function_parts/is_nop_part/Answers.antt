@@ -14,6 +14,7 @@ returns-then-hold c = (
 pub returns : goal.returns
 returns c = (
   (λ nops. IsNopPart-tests c.args.elf.now _ _ c.args.inside.now c.requires.part c.requires.inside
-      (λ covered. clash _ (c.hold.ensures.1 ((c.requires.covers _ _ c.requires.part.part.has_bytes).1 covered)) c.if-hold.false) (c.are_nops.ensures.0 nops)),
+      (λ covered. clash _ (c.hold.ensures.1 ((c.requires.covers _ _ c.requires.part.part.has_bytes).1 covered)) c.if-hold.false)
+      (c.are_nops.ensures.0 nops)),
   (λ nop. c.are_nops.ensures.1 (IsNopPart-all c.args.elf.now _ _ c.args.inside.now c.requires.inside nop)),
 )

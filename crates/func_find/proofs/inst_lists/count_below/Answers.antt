@@ -8,11 +8,13 @@ use Rattle.func_find.proofs.inst_lists.count_below.Goals as goal
 pub returns-clause-below : goal.returns-clause-below
 returns-clause-below c =
     let parted = IsPartitionedBy-ltb (λ (r : ℕ × Role). r.0) c.args.roles.now c.args.address (rising _ c.requires) in
-    let point = IsPartitionPoint-from_clause (λ (r : ℕ × Role). nat_lt r.0 c.args.address) _ _ c.partition_point.ensures.partitioned parted (λ a r q k. search rules) in
+    let point = IsPartitionPoint-from_clause
+    (λ (r : ℕ × Role). nat_lt r.0 c.args.address) _ _ c.partition_point.ensures.partitioned parted (λ a r q k. search rules) in
     λ k d within. ltb-true _ _ (point.0 k d (search rules) within)
 
 pub returns-clause-above : goal.returns-clause-above
 returns-clause-above c =
     let parted = IsPartitionedBy-ltb (λ (r : ℕ × Role). r.0) c.args.roles.now c.args.address (rising _ c.requires) in
-    let point = IsPartitionPoint-from_clause (λ (r : ℕ × Role). nat_lt r.0 c.args.address) _ _ c.partition_point.ensures.partitioned parted (λ a r q k. search rules) in
+    let point = IsPartitionPoint-from_clause
+    (λ (r : ℕ × Role). nat_lt r.0 c.args.address) _ _ c.partition_point.ensures.partitioned parted (λ a r q k. search rules) in
     λ k d from within. ltb-false _ _ (point.1 k d from within)

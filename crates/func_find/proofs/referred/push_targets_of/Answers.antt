@@ -9,4 +9,5 @@ loop-from-preserved c =
     (gains_same _ _ _ _ c.target_of.ensures c.in_ok-push_some.ensures) c.loop-from.invariant
 
 pub returns : goal.returns
-returns c = gains_all (λ from a. GoesTo c.args.elf.now c.args.end from a) c.args.froms.now c.loop-from.from-index _ _ (omega arith) c.loop-from.invariant
+returns c = gains_all (λ from a. GoesTo c.args.elf.now c.args.end from a) c.args.froms.now c.loop-from.from-index _ _
+    (omega arith) c.loop-from.invariant

@@ -7,7 +7,13 @@ use Rattle.func_find.proofs.referred.target_of.Goals as goal
 
 pub returns-in-Some : goal.returns-in-Some
 returns-in-Some c = λ a. (
-  (λ is. record { inst = c.in-Some.found.0; bytes = c.in-Some.found.1; valid = c.in-Some.ensures.there; target_is = sym c.target.ensures ∙ is }),
+  (λ is. record {
+    inst = c.in-Some.found.0;
+    bytes = c.in-Some.found.1;
+    valid = c.in-Some.ensures.there;
+    target_is = sym c.target.ensures
+        ∙ is;
+  }),
   (λ goes.
       let same = pair_is _ (goes.inst, goes.bytes) (c.in-Some.ensures.only goes.inst goes.bytes goes.valid) in
       c.target.ensures ∙ ap (λ (x : Inst × ℕ). target c.args.from (action_of x.0)) same ∙ goes.target_is),

@@ -21,7 +21,8 @@ returns-then-is_start-clause-only c = λ target to.
     let (k, within, there) = c.requires.starts.each target to.is_code in
     let low = c.type_inv.starts k in
     let at : slice_index_or c.args.starts.now k 0 ≡ target = get_or_default c.args.starts.now k 0 target within ∙ there in
-    ap Some (same_some _ _ _ c.in-Some.is (c.natural.ensures.each target (omega arith) (sym (to_z-of_z w128 _ fits ∙ c.label.ensures.label ∙ to.target_is))))
+    ap Some (same_some _ _ _ c.in-Some.is
+    (c.natural.ensures.each target (omega arith) (sym (to_z-of_z w128 _ fits ∙ c.label.ensures.label ∙ to.target_is))))
 
 pub returns-else-is_start-clause-only : goal.returns-else-is_start-clause-only
 returns-else-is_start-clause-only c = λ target to.
@@ -29,8 +30,10 @@ returns-else-is_start-clause-only c = λ target to.
     let (k, within, there) = c.requires.starts.each target to.is_code in
     let low = c.type_inv.starts k in
     let at : slice_index_or c.args.starts.now k 0 ≡ target = get_or_default c.args.starts.now k 0 target within ∙ there in
-    let same = same_some _ _ _ c.in-Some.is (c.natural.ensures.each target (omega arith) (sym (to_z-of_z w128 _ fits ∙ c.label.ensures.label ∙ to.target_is))) in
-    let e : false ≡ true = sym c.if-is_start.false ∙ c.is_start.ensures.1 (subst (Contains c.args.starts.now) (sym same) (k, within, there)) in
+    let same = same_some _ _ _ c.in-Some.is
+    (c.natural.ensures.each target (omega arith) (sym (to_z-of_z w128 _ fits ∙ c.label.ensures.label ∙ to.target_is))) in
+    let e : false ≡ true = sym c.if-is_start.false
+    ∙ c.is_start.ensures.1 (subst (Contains c.args.starts.now) (sym same) (k, within, there)) in
     absurd (cc)
 
 pub returns-in-None-clause-only : goal.returns-in-None-clause-only
@@ -39,4 +42,5 @@ returns-in-None-clause-only c = λ target to.
     let (k, within, there) = c.requires.starts.each target to.is_code in
     let low = c.type_inv.starts k in
     let at : slice_index_or c.args.starts.now k 0 ≡ target = get_or_default c.args.starts.now k 0 target within ∙ there in
-    absurd (not_found _ _ c.in-None.is (c.natural.ensures.each target (omega arith) (sym (to_z-of_z w128 _ fits ∙ c.label.ensures.label ∙ to.target_is))))
+    absurd (not_found _ _ c.in-None.is
+    (c.natural.ensures.each target (omega arith) (sym (to_z-of_z w128 _ fits ∙ c.label.ensures.label ∙ to.target_is))))

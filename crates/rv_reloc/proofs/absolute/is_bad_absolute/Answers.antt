@@ -10,7 +10,8 @@ has_absolute-requires-clause-kind c = sym c.is_absolute.ensures ∙ c.if-not-is_
 pub returns-then-not-is_absolute : goal.returns-then-not-is_absolute
 returns-then-not-is_absolute c = (
   λ is. let e : false ≡ true = is in absurd (cc),
-  λ bad. let is = kind_absolute c.args.relocation.now.kind bad.absolute in let e = c.is_absolute.ensures in let no = c.if-not-is_absolute.true in absurd (cc),
+  λ bad. let is = kind_absolute c.args.relocation.now.kind bad.absolute in let e = c.is_absolute.ensures in let no =
+      c.if-not-is_absolute.true in absurd (cc),
 )
 
 pub returns-in-Some : goal.returns-in-Some

@@ -9,7 +9,8 @@ use Rattle.rv_reloc.proofs.calls.jalr_at.Goals as goal
 
 pub returns-in-Some-clause-there : goal.returns-in-Some-clause-there
 returns-in-Some-clause-there c =
-    subst (λ (o : Option Jump). IfSome o (λ j. (link : ℕ) × IsFullAt c.args.elf.now c.args.address (Jalr link j.base j.imm))) (sym c.jalr_of.ensures)
+    subst (λ (o : Option Jump). IfSome o (λ j. (link : ℕ) × IsFullAt c.args.elf.now c.args.address (Jalr link j.base j.imm)))
+    (sym c.jalr_of.ensures)
     (as_jalr (IsFullAt c.args.elf.now c.args.address) c.in-Some.inst c.in-Some.ensures.there)
 
 pub returns-in-Some-clause-only : goal.returns-in-Some-clause-only

@@ -15,6 +15,7 @@ returns-else-not-are_free-clause-is c = λ tabled are.
       across = crossing.1;
       width_is = sym c.in-Some.ensures;
       place_is = refl;
-      content_is = ap (λ (z : ℤ). Difference z (to_z w128 (of_z w128 d.from))) (to_z-of_z w128 d.to fits) ∙ ap (λ (z : ℤ). Difference d.to z) (to_z-of_z w128 d.from fits');
+      content_is = ap (λ (z : ℤ). Difference z (to_z w128 (of_z w128 d.from))) (to_z-of_z w128 d.to fits)
+          ∙ ap (λ (z : ℤ). Difference d.to z) (to_z-of_z w128 d.from fits');
       free = c.are_free.ensures.0 c.if-not-are_free.false;
     }

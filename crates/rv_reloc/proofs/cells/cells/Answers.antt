@@ -6,4 +6,5 @@ use Rattle.rv_reloc.proofs.cells.cells.Goals as goal
 
 pub returns : goal.returns
 returns c = λ elf tabled are.
-    cells-all elf tabled c.args.counted.now c.loop-field.cells.items c.requires are (c.loop-field.invariant ∙ ap (map cell_of) (take_all c.loop-field.field-index c.args.counted.now (omega arith)))
+    cells-all elf tabled c.args.counted.now c.loop-field.cells.items c.requires are
+    (c.loop-field.invariant ∙ ap (map cell_of) (take_all c.loop-field.field-index c.args.counted.now (omega arith)))

@@ -9,16 +9,18 @@ loop-relocation-init c = claims_begin c.args.elf.now c.args.records.now _ c.new-
 
 pub claim_at-requires-clause-counts : goal.claim_at-requires-clause-counts
 claim_at-requires-clause-counts c =
-    counts c.args.elf.now c.args.records.now _ c.requires.records (c.loop-relocation.relocation-index, c.loop-relocation-test.true, sym (get_or_default _ _ _ _ c.loop-relocation-test.true))
+    counts c.args.elf.now c.args.records.now _ c.requires.records
+    (c.loop-relocation.relocation-index, c.loop-relocation-test.true, sym (get_or_default _ _ _ _ c.loop-relocation-test.true))
 
 pub claim_after-requires-clause-counts : goal.claim_after-requires-clause-counts
 claim_after-requires-clause-counts c =
-    counts c.args.elf.now c.args.records.now _ c.requires.records (c.loop-relocation.relocation-index, c.loop-relocation-test.true, sym (get_or_default _ _ _ _ c.loop-relocation-test.true))
+    counts c.args.elf.now c.args.records.now _ c.requires.records
+    (c.loop-relocation.relocation-index, c.loop-relocation-test.true, sym (get_or_default _ _ _ _ c.loop-relocation-test.true))
 
 pub loop-relocation-preserved : goal.loop-relocation-preserved
 loop-relocation-preserved c =
     claims_next c.args.elf.now c.args.records.now c.loop-relocation.relocation-index _ c.loop-relocation.claims.items _ _ c.claim_at.result c.claim_after.result
-    c.loop-relocation-test.true (get_or_default _ _ _ _ c.loop-relocation-test.true) c.in_ok-push_claim.ensures c.in_ok-push_claim-2.ensures
+    c.loop-relocation-test.true (get_or_default _ _ _ _ c.loop-relocation-test.true) c.in_ok-push_found.ensures c.in_ok-push_found-2.ensures
     c.claim_at.ensures.is c.claim_at.ensures.each c.claim_after.ensures.is c.claim_after.ensures.each c.loop-relocation.invariant
 
 pub returns : goal.returns

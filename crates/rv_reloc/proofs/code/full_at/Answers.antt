@@ -29,12 +29,15 @@ pub returns-in-Some-clause-only : goal.returns-in-Some-clause-only
 returns-in-Some-clause-only c = λ inst full.
     let elf = c.args.elf.now in
     let a = c.args.address in
-    let same = same_part _ _ _ c.in-Some.is (c.part_at.ensures.only _ (start_held elf c.args.parts.now a c.requires.parts (full_start elf a inst full))) in
+    let same = same_part _ _ _ c.in-Some.is
+    (c.part_at.ensures.only _ (start_held elf c.args.parts.now a c.requires.parts (full_start elf a inst full))) in
     c.full_before.ensures.only inst (full_before elf a c.in-Some.part.end inst full same)
 
 pub returns-in-None-clause-only : goal.returns-in-None-clause-only
 returns-in-None-clause-only c = λ inst full.
-    absurd (no_part _ _ c.in-None.is (c.part_at.ensures.only _ (start_held c.args.elf.now c.args.parts.now c.args.address c.requires.parts (full_start c.args.elf.now c.args.address inst full))))
+    absurd (no_part _ _ c.in-None.is
+    (c.part_at.ensures.only _
+    (start_held c.args.elf.now c.args.parts.now c.args.address c.requires.parts (full_start c.args.elf.now c.args.address inst full))))
 
 pub returns-then-not-is_start-clause-only : goal.returns-then-not-is_start-clause-only
 returns-then-not-is_start-clause-only c = λ inst full.

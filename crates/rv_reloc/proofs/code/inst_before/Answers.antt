@@ -10,7 +10,8 @@ returns-then-end-address-lt4-clause-only c = λ inst bytes before.
     let short : bytes ≢ 4 = omega arith in
     let next = Some (halfword_at c.args.elf.now (c.args.address + 2)) in
     decoded _ _ _ c.decode.ensures.only c.decode.ensures.none inst bytes
-    (Decodes-two _ next None inst bytes short (subst (λ (h : ℕ). Decodes h next inst bytes) (sym c.halfword_at-half.ensures) before.is_inst))
+    (Decodes-two _ next None inst bytes short
+    (subst (λ (h : ℕ). Decodes h next inst bytes) (sym c.halfword_at-half.ensures) before.is_inst))
 
 pub returns-clause-only : goal.returns-clause-only
 returns-clause-only c = λ inst bytes before.

@@ -13,7 +13,9 @@ returns c = λ tabled are.
     let fits' : FitsSigned w128 d.from = search rules in
     let to = to_z-of_z w128 d.to fits in
     let from = to_z-of_z w128 d.from fits' in
-    let code = subst (λ (z : ℤ). HasCodeLabel elf z (to_z w128 (of_z w128 d.from))) to (c.has_code_label.ensures.0 c.if-not-has_code_label.false) in
-    let one = subst (λ (z : ℤ). IsTrue c.in_one_whole.result ↔ IsInOneWhole elf tabled z (to_z w128 (of_z w128 d.from))) to (c.in_one_whole.ensures elf tabled are) in
+    let code = subst (λ (z : ℤ). HasCodeLabel elf z (to_z w128 (of_z w128 d.from))) to
+    (c.has_code_label.ensures.0 c.if-not-has_code_label.false) in
+    let one = subst (λ (z : ℤ). IsTrue c.in_one_whole.result ↔ IsInOneWhole elf tabled z (to_z w128 (of_z w128 d.from))) to
+    (c.in_one_whole.ensures elf tabled are) in
     crosses-found c.in_one_whole.result (HasCodeLabel elf d.to d.from) (IsInOneWhole elf tabled d.to d.from)
     (subst (HasCodeLabel elf d.to) from code) (subst (λ (z : ℤ). IsTrue c.in_one_whole.result ↔ IsInOneWhole elf tabled d.to z) from one)

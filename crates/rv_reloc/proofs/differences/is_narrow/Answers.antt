@@ -7,7 +7,8 @@ pub returns-in-Some : goal.returns-in-Some
 returns-in-Some c = λ tabled are.
     let test = c.crosses.ensures tabled are in
     let no_cell = sym c.can_be_cell.ensures ∙ c.if-can_be_cell.false in
-    narrow-found c.args.elf.now tabled (seen c.args.relocation.now) c.in-Some.difference c.crosses.result c.in-Some.ensures.is c.in-Some.ensures.only
+    narrow-found c.args.elf.now tabled
+    (seen c.args.relocation.now) c.in-Some.difference c.crosses.result c.in-Some.ensures.is c.in-Some.ensures.only
     (λ yes_is. let both = test.0 yes_is in (no_cell, both.0, both.1), λ narrow. test.1 (narrow.1, narrow.2))
 
 pub returns-in-None : goal.returns-in-None

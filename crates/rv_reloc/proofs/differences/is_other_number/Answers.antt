@@ -14,8 +14,11 @@ returns-in-Some c =
     let d = c.in-Some.difference in
     let fits : FitsSigned w128 d.to = search rules in
     let fits' : FitsSigned w128 d.from = search rules in
-    let test = subst (λ (z : ℤ). IsTrue c.holds_difference.result ↔ HoldsDifference elf r (width_of d.width) z (to_z w128 (of_z w128 d.from))) (to_z-of_z w128 d.to fits) c.holds_difference.ensures in
-    let test' = subst (λ (z : ℤ). IsTrue c.holds_difference.result ↔ HoldsDifference elf r (width_of d.width) d.to z) (to_z-of_z w128 d.from fits') test in
+    let test = subst
+    (λ (z : ℤ). IsTrue c.holds_difference.result ↔ HoldsDifference elf r (width_of d.width) z (to_z w128 (of_z w128 d.from)))
+    (to_z-of_z w128 d.to fits) c.holds_difference.ensures in
+    let test' = subst (λ (z : ℤ). IsTrue c.holds_difference.result ↔ HoldsDifference elf r (width_of d.width) d.to z)
+    (to_z-of_z w128 d.from fits') test in
     other-found elf r d c.holds_difference.result c.in-Some.ensures.is c.in-Some.ensures.only test'
 
 pub returns-in-None : goal.returns-in-None

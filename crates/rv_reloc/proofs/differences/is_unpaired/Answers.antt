@@ -12,7 +12,8 @@ returns-then-not-is_code_label c =
     let elf = c.args.elf.now in
     let r = seen c.args.relocation.now in
     let fits : FitsSigned w128 c.label.result = search rules in
-    let code = subst (λ (z : ℤ). IsTrue c.is_code_label.result ↔ IsCodeLabel elf z) (to_z-of_z w128 c.label.result fits ∙ c.label.ensures.label) c.is_code_label.ensures in (
+    let code = subst (λ (z : ℤ). IsTrue c.is_code_label.result ↔ IsCodeLabel elf z)
+    (to_z-of_z w128 c.label.result fits ∙ c.label.ensures.label) c.is_code_label.ensures in (
       λ wrong. let e : false ≡ true = wrong in absurd (cc),
       λ alone. let e : false ≡ true = sym c.if-not-is_code_label.true ∙ code.1 alone.is_code in absurd (cc),
     )
@@ -23,8 +24,10 @@ returns-else-not-is_code_label c =
     let r = seen c.args.relocation.now in
     let w = width_of c.in-Some.width in
     let fits : FitsSigned w128 c.label.result = search rules in
-    let code = subst (λ (z : ℤ). IsTrue c.is_code_label.result ↔ IsCodeLabel elf z) (to_z-of_z w128 c.label.result fits ∙ c.label.ensures.label) c.is_code_label.ensures in
-    unpaired-found elf r w c.is_paired.result ((c.in-Some.ensures w).0 refl) (λ v is. let e : Some w ≡ Some v = (c.in-Some.ensures v).1 is in cc) (code.0 c.if-not-is_code_label.false) c.is_paired.ensures
+    let code = subst (λ (z : ℤ). IsTrue c.is_code_label.result ↔ IsCodeLabel elf z)
+    (to_z-of_z w128 c.label.result fits ∙ c.label.ensures.label) c.is_code_label.ensures in
+    unpaired-found elf r w c.is_paired.result ((c.in-Some.ensures w).0 refl)
+    (λ v is. let e : Some w ≡ Some v = (c.in-Some.ensures v).1 is in cc) (code.0 c.if-not-is_code_label.false) c.is_paired.ensures
 
 pub returns-in-None : goal.returns-in-None
 returns-in-None c = (

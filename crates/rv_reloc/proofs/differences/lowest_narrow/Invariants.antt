@@ -8,4 +8,5 @@ use Rattle.rv_reloc.proofs.differences.lowest_narrow.Given as goal
 
 abbrev pub invariant-loop-relocation : goal.invariant-loop-relocation
 invariant-loop-relocation l =
-    (tabled : List (ℕ × ℕ)) → AreWholeParts l.elf tabled l.wholes → IsLowest (IsPlaceOf (λ r. r.place) (λ r. IsNarrow l.elf tabled (seen r)) (take l.relocation-index l.records)) l.lowest
+    (tabled : List (ℕ × ℕ)) → AreWholeParts l.elf tabled l.wholes →
+    IsLowest (IsPlaceOf (λ r. r.place) (λ r. IsNarrow l.elf tabled (seen r)) (take l.relocation-index l.records)) l.lowest

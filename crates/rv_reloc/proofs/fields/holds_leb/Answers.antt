@@ -17,5 +17,8 @@ returns-in-Some c =
     to_z-of_z w128 c.difference_of.result fits ∙ c.difference_of.ensures.value
     ∙ ap (λ (z : ℤ). z -ℤ to_z w128 (of_z w128 c.args.from)) (to_z-of_z w128 c.args.to fits_to)
     ∙ ap (λ (z : ℤ). c.args.to -ℤ z) (to_z-of_z w128 c.args.from fits_from) in
-    let test = subst (λ (z : ℤ). (bs : List _) → AreLebBytes c.args.elf.now place bs → IsTrue c.holds_bits.result ↔ HoldBits bs z) value c.holds_bits.ensures in
-    field-holds c.args.elf.now place (section.addr + section.size - place) c.in-Some.field-0 (c.args.to -ℤ c.args.from) c.holds_bits.result (sym c.leb_size.ensures ∙ c.in-Some.is) test
+    let test = subst
+    (λ (z : ℤ). (bs : List _) → AreLebBytes c.args.elf.now place bs →
+    IsTrue c.holds_bits.result ↔ HoldBits bs z) value c.holds_bits.ensures in
+    field-holds c.args.elf.now place (section.addr + section.size - place) c.in-Some.field-0
+    (c.args.to -ℤ c.args.from) c.holds_bits.result (sym c.leb_size.ensures ∙ c.in-Some.is) test

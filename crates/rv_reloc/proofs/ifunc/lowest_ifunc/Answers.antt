@@ -9,7 +9,9 @@ loop-symbol-init c = IsPlaceOf-begin _ _
 
 pub loop-symbol-preserved : goal.loop-symbol-preserved
 loop-symbol-preserved c =
-    IsPlaceOf-next _ _ c.args.symbols.now c.loop-symbol.symbol-index _ _ _ _ _ _ c.loop-symbol-test.true (get_or_default _ _ _ _ c.loop-symbol-test.true) c.lower-lowest.ensures c.loop-symbol.invariant c.place_if.ensures refl (eqb-true _ _, eq-eqb _ _)
+    IsPlaceOf-next _ _ c.args.symbols.now c.loop-symbol.symbol-index _ _ _ _ _ _ c.loop-symbol-test.true
+    (get_or_default _ _ _ _ c.loop-symbol-test.true) c.lower-lowest.ensures c.loop-symbol.invariant c.place_if.ensures refl
+    (eqb-true _ _, eq-eqb _ _)
 
 pub returns : goal.returns
 returns c =

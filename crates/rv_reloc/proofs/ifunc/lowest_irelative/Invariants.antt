@@ -5,4 +5,5 @@ use Rattle.rv_reloc.specs.Places.{IsPlaceOf}
 use Rattle.rv_reloc.proofs.ifunc.lowest_irelative.Given as goal
 
 abbrev pub invariant-loop-relocation : goal.invariant-loop-relocation
-invariant-loop-relocation l = IsLowest (IsPlaceOf (λ x. x.place) (λ x. x.kind ≡ R_RISCV_IRELATIVE) (take l.relocation-index l.records)) l.lowest
+invariant-loop-relocation l =
+    IsLowest (IsPlaceOf (λ x. x.place) (λ x. x.kind ≡ R_RISCV_IRELATIVE) (take l.relocation-index l.records)) l.lowest

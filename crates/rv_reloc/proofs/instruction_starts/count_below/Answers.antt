@@ -7,11 +7,13 @@ use Rattle.rv_reloc.proofs.instruction_starts.count_below.Goals as goal
 pub returns-clause-below : goal.returns-clause-below
 returns-clause-below c =
     let parted = IsPartitionedBy-ltb (λ a. a) c.args.addresses.now c.args.address (rising _ c.requires) in
-    let point = IsPartitionPoint-from_clause (λ a. nat_lt a c.args.address) _ _ c.partition_point.ensures.partitioned parted (λ a r q k. search rules) in
+    let point = IsPartitionPoint-from_clause (λ a. nat_lt a c.args.address) _ _ c.partition_point.ensures.partitioned parted
+    (λ a r q k. search rules) in
     λ k d within. ltb-true _ _ (point.0 k d (search rules) within)
 
 pub returns-clause-above : goal.returns-clause-above
 returns-clause-above c =
     let parted = IsPartitionedBy-ltb (λ a. a) c.args.addresses.now c.args.address (rising _ c.requires) in
-    let point = IsPartitionPoint-from_clause (λ a. nat_lt a c.args.address) _ _ c.partition_point.ensures.partitioned parted (λ a r q k. search rules) in
+    let point = IsPartitionPoint-from_clause (λ a. nat_lt a c.args.address) _ _ c.partition_point.ensures.partitioned parted
+    (λ a r q k. search rules) in
     λ k d from within. ltb-false _ _ (point.1 k d from within)

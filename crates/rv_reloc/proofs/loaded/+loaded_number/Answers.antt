@@ -17,11 +17,13 @@ overflow_add-result t c =
 
 pub returns-in-Some-loaded_number-clause-value : goal.returns-in-Some-loaded_number-clause-value
 returns-in-Some-loaded_number-clause-value t c =
-    number-more c.args.elf.now c.args.address c.args.size (c.args.size - 1) _ _ (omega arith) (sym c.in-Some.ensures.value) (sym c.in-Some-loaded_number.ensures.value)
+    number-more c.args.elf.now c.args.address c.args.size (c.args.size - 1) _ _ (omega arith) (sym c.in-Some.ensures.value)
+    (sym c.in-Some-loaded_number.ensures.value)
 
 pub returns-in-Some-loaded_number-clause-below : goal.returns-in-Some-loaded_number-clause-below
 returns-in-Some-loaded_number-clause-below t c =
-    power-more c.in-Some.first c.in-Some-loaded_number.rest c.args.size (c.args.size - 1) (omega arith) (omega arith) c.in-Some-loaded_number.ensures.below
+    power-more c.in-Some.first c.in-Some-loaded_number.rest c.args.size (c.args.size - 1) (omega arith)
+    (omega arith) c.in-Some-loaded_number.ensures.below
 
 pub returns-in-None-loaded_number-clause-value : goal.returns-in-None-loaded_number-clause-value
 returns-in-None-loaded_number-clause-value t c =

@@ -14,14 +14,16 @@ returns-in-Some-lower_immediate-clause-only c = λ l is.
     let kind = c.args.relocation.now.kind in
     let inst = same_inst _ _ _ c.in-Some.is (c.full_at.ensures.only is.inst is.there) in
     let fits : FitsSigned w64 c.in-Some-lower_immediate.imm = search rules in
-    low_same _ c.in-Some-lower_immediate.imm _ l c.lower_immediate.result (sym is.names ∙ sym c.symbol_value-hi.ensures) (to_z-of_z w64 _ fits) c.in-Some-lower_immediate.is
+    low_same _ c.in-Some-lower_immediate.imm _ l c.lower_immediate.result (sym is.names ∙ sym c.symbol_value-hi.ensures)
+    (to_z-of_z w64 _ fits) c.in-Some-lower_immediate.is
     (c.lower_immediate.ensures ∙ ap (lower_immediate kind) (sym inst) ∙ is.immediate)
 
 pub returns-in-None-lower_immediate-clause-only : goal.returns-in-None-lower_immediate-clause-only
 returns-in-None-lower_immediate-clause-only c = λ l is.
     let kind = c.args.relocation.now.kind in
     let inst = same_inst _ _ _ c.in-Some.is (c.full_at.ensures.only is.inst is.there) in
-    let e : None ≡ Some l.imm = sym c.in-None-lower_immediate.is ∙ c.lower_immediate.ensures ∙ ap (lower_immediate kind) (sym inst) ∙ is.immediate in
+    let e : None ≡ Some l.imm = sym c.in-None-lower_immediate.is ∙ c.lower_immediate.ensures ∙ ap (lower_immediate kind) (sym inst)
+    ∙ is.immediate in
     absurd (cc)
 
 pub returns-in-None-clause-only : goal.returns-in-None-clause-only

@@ -9,11 +9,13 @@ loop-relocation-init c = IsPlaceOf-begin _ _
 
 pub is_unfit-unfit-requires-clause-counts : goal.is_unfit-unfit-requires-clause-counts
 is_unfit-unfit-requires-clause-counts c =
-    counts c.args.elf.now c.args.records.now _ c.requires.records (c.loop-relocation.relocation-index, c.loop-relocation-test.true, sym (get_or_default _ _ _ _ c.loop-relocation-test.true))
+    counts c.args.elf.now c.args.records.now _ c.requires.records
+    (c.loop-relocation.relocation-index, c.loop-relocation-test.true, sym (get_or_default _ _ _ _ c.loop-relocation-test.true))
 
 pub loop-relocation-preserved : goal.loop-relocation-preserved
 loop-relocation-preserved c =
-    IsPlaceOf-next _ _ c.args.records.now c.loop-relocation.relocation-index _ _ _ _ _ _ c.loop-relocation-test.true (get_or_default _ _ _ _ c.loop-relocation-test.true) c.lower-lowest.ensures c.loop-relocation.invariant c.place_if.ensures refl c.is_unfit-unfit.ensures
+    IsPlaceOf-next _ _ c.args.records.now c.loop-relocation.relocation-index _ _ _ _ _ _ c.loop-relocation-test.true
+    (get_or_default _ _ _ _ c.loop-relocation-test.true) c.lower-lowest.ensures c.loop-relocation.invariant c.place_if.ensures refl c.is_unfit-unfit.ensures
 
 pub returns : goal.returns
 returns c =

@@ -10,7 +10,10 @@ loop-relocation-init c = AreFound-begin (λ r a. NamesUpper c.args.elf.now (seen
 
 pub loop-relocation-preserved : goal.loop-relocation-preserved
 loop-relocation-preserved c =
-    AreFound-next (λ r a. NamesUpper c.args.elf.now (seen r) a) c.args.records.now c.loop-relocation.relocation-index _ c.loop-relocation.named.items _ c.named_by.result c.loop-relocation-test.true (get_or_default _ _ _ _ c.loop-relocation-test.true) c.in_ok-push_address.ensures c.named_by.ensures.is c.named_by.ensures.only c.loop-relocation.invariant
+    AreFound-next
+    (λ r a. NamesUpper c.args.elf.now
+    (seen r) a) c.args.records.now c.loop-relocation.relocation-index _ c.loop-relocation.named.items _ c.named_by.result c.loop-relocation-test.true (get_or_default _ _ _ _ c.loop-relocation-test.true) c.in_ok-push_found.ensures c.named_by.ensures.is c.named_by.ensures.only c.loop-relocation.invariant
 
 pub returns : goal.returns
-returns c = AreFound-all (λ r a. NamesUpper c.args.elf.now (seen r) a) c.args.records.now c.loop-relocation.relocation-index _ (omega arith) c.loop-relocation.invariant
+returns c = AreFound-all (λ r a. NamesUpper c.args.elf.now (seen r) a) c.args.records.now c.loop-relocation.relocation-index _
+    (omega arith) c.loop-relocation.invariant

@@ -14,5 +14,6 @@ returns-then-not-is_pcrel_hi c = (
 
 pub returns : goal.returns
 returns c =
-    let tells = far-makes c.args.elf.now c.args.far.now (seen c.args.relocation.now) c.requires.far c.requires.counts (sym c.is_pcrel_hi.ensures ∙ c.if-not-is_pcrel_hi.false) in
+    let tells = far-makes c.args.elf.now c.args.far.now (seen c.args.relocation.now) c.requires.far c.requires.counts
+    (sym c.is_pcrel_hi.ensures ∙ c.if-not-is_pcrel_hi.false) in
     (λ is. tells.0 (c.is_named.ensures.0 is), λ makes. c.is_named.ensures.1 (tells.1 makes))

@@ -27,7 +27,8 @@ returns-in-Some-clause-only c = λ z is.
     let upper : FitsSigned w64 c.in-Some.auipc.imm = search rules in
     let lower : FitsSigned w64 c.args.low.now.imm = search rules in
     let same = ap (λ (u : Upper). u.imm) (same_some _ _ _ c.in-Some.is (c.auipc_at.ensures.only is.rd is.upper is.auipc)) in
-    ap Some (kept _ _ _ _ _ _ _ (to_z-of_z w128 _ number) c.pair_target.ensures (to_z-of_z w64 _ upper ∙ same) (to_z-of_z w64 _ lower) ∙ sym is.target_is)
+    ap Some (kept _ _ _ _ _ _ _ (to_z-of_z w128 _ number) c.pair_target.ensures (to_z-of_z w64 _ upper ∙ same) (to_z-of_z w64 _ lower)
+    ∙ sym is.target_is)
 
 pub returns-in-None-clause-only : goal.returns-in-None-clause-only
 returns-in-None-clause-only c = λ z is. absurd (not_found _ _ c.in-None.is (c.auipc_at.ensures.only is.rd is.upper is.auipc))

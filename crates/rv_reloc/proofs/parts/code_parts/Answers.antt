@@ -6,26 +6,32 @@ use Rattle.rv_reloc.proofs.parts.code_parts.Goals as goal
 
 pub holds_code-requires-clause-stretch : goal.holds_code-requires-clause-stretch
 holds_code-requires-clause-stretch c =
-    let are : AreCuts c.args.elf.now c.in_ok-cuts.cuts.items = record { ascending = c.in_ok-cuts.ensures.ascending; exact = c.in_ok-cuts.ensures.exact } in
+    let are : AreCuts c.args.elf.now c.in_ok-cuts.cuts.items =
+    record { ascending = c.in_ok-cuts.ensures.ascending; exact = c.in_ok-cuts.ensures.exact } in
     read_rises _ _ c.loop-index.index _ _ are (omega arith) c.index-start.ensures c.index-end.ensures
 
 pub loop-index-init : goal.loop-index-init
 loop-index-init c =
-    let are : AreCuts c.args.elf.now c.in_ok-cuts.cuts.items = record { ascending = c.in_ok-cuts.ensures.ascending; exact = c.in_ok-cuts.ensures.exact } in
+    let are : AreCuts c.args.elf.now c.in_ok-cuts.cuts.items =
+    record { ascending = c.in_ok-cuts.ensures.ascending; exact = c.in_ok-cuts.ensures.exact } in
     subst (ListsAll _ Follows) (sym c.new-parts.ensures.items) (parts_begin c.args.elf.now c.in_ok-cuts.cuts.items are)
 
 pub loop-index-preserved-then-not-holds_code : goal.loop-index-preserved-then-not-holds_code
 loop-index-preserved-then-not-holds_code c =
-    let are : AreCuts c.args.elf.now c.in_ok-cuts.cuts.items = record { ascending = c.in_ok-cuts.ensures.ascending; exact = c.in_ok-cuts.ensures.exact } in
+    let are : AreCuts c.args.elf.now c.in_ok-cuts.cuts.items =
+    record { ascending = c.in_ok-cuts.ensures.ascending; exact = c.in_ok-cuts.ensures.exact } in
     parts_skip _ _ _ c.loop-index.index _ _ are (omega arith) c.index-start.ensures c.index-end.ensures
     (λ kept. let is = c.holds_code.ensures.1 kept in let isnt = c.if-not-holds_code.true in absurd (cc)) c.loop-index.invariant
 
 pub loop-index-preserved : goal.loop-index-preserved
 loop-index-preserved c =
-    let are : AreCuts c.args.elf.now c.in_ok-cuts.cuts.items = record { ascending = c.in_ok-cuts.ensures.ascending; exact = c.in_ok-cuts.ensures.exact } in
-    parts_push _ _ _ _ c.loop-index.index _ _ are (omega arith) c.index-start.ensures c.index-end.ensures (c.holds_code.ensures.0 c.if-not-holds_code.false) c.in_ok-push.ensures.items c.loop-index.invariant
+    let are : AreCuts c.args.elf.now c.in_ok-cuts.cuts.items =
+    record { ascending = c.in_ok-cuts.ensures.ascending; exact = c.in_ok-cuts.ensures.exact } in
+    parts_push _ _ _ _ c.loop-index.index _ _ are (omega arith) c.index-start.ensures c.index-end.ensures
+    (c.holds_code.ensures.0 c.if-not-holds_code.false) c.in_ok-push.ensures.items c.loop-index.invariant
 
 pub returns : goal.returns
 returns c =
-    let are : AreCuts c.args.elf.now c.in_ok-cuts.cuts.items = record { ascending = c.in_ok-cuts.ensures.ascending; exact = c.in_ok-cuts.ensures.exact } in
+    let are : AreCuts c.args.elf.now c.in_ok-cuts.cuts.items =
+    record { ascending = c.in_ok-cuts.ensures.ascending; exact = c.in_ok-cuts.ensures.exact } in
     parts_end _ _ _ c.loop-index.index are (omega arith) c.loop-index.invariant

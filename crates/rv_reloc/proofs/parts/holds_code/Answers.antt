@@ -14,7 +14,11 @@ returns-then-not-hold c = (
 pub returns-then-hold : goal.returns-then-hold
 returns-then-hold c =
     let in_code = (c.requires.code c.args.start).0 (c.hold.ensures.0 c.if-not-hold.false) in (
-      (λ _. record { in_code = in_code; no_padding = λ (uncovered, zeros). uncovered ((c.requires.functions c.args.start c.args.end c.requires.stretch).0 (c.hold-2.ensures.0 c.if-hold.true)) }),
+      (λ _. record {
+        in_code = in_code;
+        no_padding = λ (uncovered, zeros). uncovered
+            ((c.requires.functions c.args.start c.args.end c.requires.stretch).0 (c.hold-2.ensures.0 c.if-hold.true));
+      }),
       λ _. c.if-hold.true,
     )
 

@@ -11,11 +11,15 @@ use Rattle.rv_reloc.specs.Ranges.{symbol_extent}
 use Rattle.rv_reloc.proofs.RangeLists.{IsInOneExtent-functions}
 use Rattle.rv_reloc.proofs.ranges.function_ranges.Goals as goal
 
-asked : {E : Type 0} (elf : Elf) (extents : List Extent) (r : Result Ranges E) → extents ≡ map symbol_extent (filter names_function elf.symbols.items) → IfOk r (λ x. (a e : ℕ) → a < e → IsInOneExtent x.reaches.items a e ↔ IsInOneExtent extents a e) → IfOk r (λ x. (start end : ℕ) → start < end → IsInOneExtent x.reaches.items start end ↔ IsCovered elf start end)
+asked : {E : Type 0} (elf : Elf) (extents : List Extent) (r : Result Ranges E) →
+    extents ≡ map symbol_extent (filter names_function elf.symbols.items) →
+    IfOk r (λ x. (a e : ℕ) → a < e → IsInOneExtent x.reaches.items a e ↔ IsInOneExtent extents a e) →
+    IfOk r (λ x. (start end : ℕ) → start < end → IsInOneExtent x.reaches.items start end ↔ IsCovered elf start end)
 asked elf extents (Ok x) are same = IsInOneExtent-functions elf x.reaches.items extents same are
 asked elf extents (Err e) are same = same
 
 pub returns : goal.returns
 returns c =
-    let are = c.in_ok-symbol_extents.ensures ∙ ap (λ (ss : List Symbol). map symbol_extent (filter names_function ss)) c.deref.ensures.value in
+    let are = c.in_ok-symbol_extents.ensures
+    ∙ ap (λ (ss : List Symbol). map symbol_extent (filter names_function ss)) c.deref.ensures.value in
     asked c.args.elf.now _ c.new.result are c.new.ensures

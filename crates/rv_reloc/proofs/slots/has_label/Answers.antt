@@ -14,7 +14,11 @@ abbrev no_label : SlotLabel
 no_label = record { place = 0; label = pos 0 }
 
 -- where a label that is listed is, by what a search with a number that is the label said
-found : (items : List SlotLabel) (place : ℕ) (label z : ℤ) (n : ℕ) → z ≡ label → AllPairs (λ s t. IsLabelFrom s.place s.label t) items → n ≤ length items → ((k : ℕ) (d : SlotLabel) → k < n → IsLabelBelow place z (slice_index_or items k d)) → ((k : ℕ) (d : SlotLabel) → n ≤ k → k < length items → IsLabelFrom place z (slice_index_or items k d)) → Contains items (record { place = place; label = label }) → (n < length items) × ((slice_index_or items n no_label).place ≡ place) × ((slice_index_or items n no_label).label ≡ label)
+found : (items : List SlotLabel) (place : ℕ) (label z : ℤ) (n : ℕ) → z ≡ label → AllPairs (λ s t. IsLabelFrom s.place s.label t) items →
+    n ≤ length items → ((k : ℕ) (d : SlotLabel) → k < n → IsLabelBelow place z (slice_index_or items k d)) →
+    ((k : ℕ) (d : SlotLabel) → n ≤ k → k < length items → IsLabelFrom place z (slice_index_or items k d)) →
+    Contains items (record { place = place; label = label }) → (n < length items) × ((slice_index_or items n no_label).place ≡ place)
+    × ((slice_index_or items n no_label).label ≡ label)
 found items place label z n same ordered bound below above listed =
     let target : SlotLabel = record { place = place; label = label } in
     let (inside, at, low, high) = listed-first items place label n ordered bound
@@ -39,7 +43,9 @@ returns c =
           let place = c.if-found-place.false in
           (n, inside, get_or_default items n target no_label inside ∙ (λ i. record { place = place i; label = same i })),
       λ listed.
-          let (_, place, same) = found items c.args.place c.args.label _ n (to_z-of_z w128 _ wanted) c.requires bound c.count_below-index.ensures.below c.count_below-index.ensures.above listed in
+          let (_, place, same) =
+          found items c.args.place c.args.label _ n
+          (to_z-of_z w128 _ wanted) c.requires bound c.count_below-index.ensures.below c.count_below-index.ensures.above listed in
           eq-eqb _ _ (ap (of_z w128) same),
     )
 
@@ -51,6 +57,8 @@ returns-then-found-place c = (
       let n = c.count_below-index.result in
       let target : SlotLabel = record { place = c.args.place; label = c.args.label } in
       let wanted : FitsSigned w128 c.args.label = search rules in
-      let (inside, place, same) = found items c.args.place c.args.label _ n (to_z-of_z w128 _ wanted) c.requires c.count_below-index.ensures.bound c.count_below-index.ensures.below c.count_below-index.ensures.above listed in
+      let (inside, place, same) =
+      found items c.args.place c.args.label _ n
+      (to_z-of_z w128 _ wanted) c.requires c.count_below-index.ensures.bound c.count_below-index.ensures.below c.count_below-index.ensures.above listed in
       absurd (c.if-found-place.true place),
 )

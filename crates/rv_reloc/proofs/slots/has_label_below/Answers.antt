@@ -11,7 +11,9 @@ returns-then-index-eq0 c = (
   λ has.
       let fits : FitsSigned w128 c.args.number = search rules in
       let found = c.count_below-index.ensures in
-      let (some, _) = below-only c.args.labels.now c.args.place c.args.number _ c.count_below-index.result (to_z-of_z w128 _ fits) found.bound found.below found.above c.requires has in
+      let (some, _) =
+      below-only c.args.labels.now c.args.place c.args.number _ c.count_below-index.result
+      (to_z-of_z w128 _ fits) found.bound found.below found.above c.requires has in
       let none = c.if-index-eq0.true in
       absurd (omega arith),
 )
@@ -22,6 +24,9 @@ returns c =
     let found = c.count_below-index.ensures in
     let other = c.if-index-eq0.false in
     let some : 0 < c.count_below-index.result = omega arith in (
-      λ is. below-is c.args.labels.now c.args.place c.args.number _ c.count_below-index.result (to_z-of_z w128 _ fits) found.bound found.below found.above some (eqb-true _ _ is),
-      λ has. let (_, here) = below-only c.args.labels.now c.args.place c.args.number _ c.count_below-index.result (to_z-of_z w128 _ fits) found.bound found.below found.above c.requires has in eq-eqb _ _ here,
+      λ is. below-is c.args.labels.now c.args.place c.args.number _ c.count_below-index.result
+          (to_z-of_z w128 _ fits) found.bound found.below found.above some (eqb-true _ _ is),
+      λ has. let (_, here) =
+          below-only c.args.labels.now c.args.place c.args.number _ c.count_below-index.result
+          (to_z-of_z w128 _ fits) found.bound found.below found.above c.requires has in eq-eqb _ _ here,
     )

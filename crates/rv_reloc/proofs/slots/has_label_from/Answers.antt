@@ -11,7 +11,9 @@ returns-then-index-labels c = (
   λ has.
       let fits : FitsSigned w128 c.args.number = search rules in
       let found = c.count_below-index.ensures in
-      let (inside, _) = from-only c.args.labels.now c.args.place c.args.number _ c.count_below-index.result (to_z-of_z w128 _ fits) found.bound found.below found.above c.requires has in
+      let (inside, _) =
+      from-only c.args.labels.now c.args.place c.args.number _ c.count_below-index.result
+      (to_z-of_z w128 _ fits) found.bound found.below found.above c.requires has in
       let all = c.if-index-labels.true in
       absurd (omega arith),
 )
@@ -23,6 +25,9 @@ returns c =
     let bound = found.bound in
     let other = c.if-index-labels.false in
     let inside : c.count_below-index.result < length c.args.labels.now = omega arith in (
-      λ is. from-is c.args.labels.now c.args.place c.args.number _ c.count_below-index.result (to_z-of_z w128 _ fits) found.bound found.below found.above inside (eqb-true _ _ is),
-      λ has. let (_, here) = from-only c.args.labels.now c.args.place c.args.number _ c.count_below-index.result (to_z-of_z w128 _ fits) found.bound found.below found.above c.requires has in eq-eqb _ _ here,
+      λ is. from-is c.args.labels.now c.args.place c.args.number _ c.count_below-index.result
+          (to_z-of_z w128 _ fits) found.bound found.below found.above inside (eqb-true _ _ is),
+      λ has. let (_, here) =
+          from-only c.args.labels.now c.args.place c.args.number _ c.count_below-index.result
+          (to_z-of_z w128 _ fits) found.bound found.below found.above c.requires has in eq-eqb _ _ here,
     )

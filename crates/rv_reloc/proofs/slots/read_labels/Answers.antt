@@ -10,7 +10,10 @@ loop-relocation-init c = AreFound-begin (λ r s. IsSlotLabelOf c.args.elf.now (s
 
 pub loop-relocation-preserved : goal.loop-relocation-preserved
 loop-relocation-preserved c =
-    AreFound-next (λ r s. IsSlotLabelOf c.args.elf.now (seen r) s) c.args.records.now c.loop-relocation.relocation-index _ c.loop-relocation.labels.items _ c.slot_label.result c.loop-relocation-test.true (get_or_default _ _ _ _ c.loop-relocation-test.true) c.in_ok-push_label.ensures c.slot_label.ensures.is c.slot_label.ensures.only c.loop-relocation.invariant
+    AreFound-next
+    (λ r s. IsSlotLabelOf c.args.elf.now
+    (seen r) s) c.args.records.now c.loop-relocation.relocation-index _ c.loop-relocation.labels.items _ c.slot_label.result c.loop-relocation-test.true (get_or_default _ _ _ _ c.loop-relocation-test.true) c.in_ok-push_found.ensures c.slot_label.ensures.is c.slot_label.ensures.only c.loop-relocation.invariant
 
 pub returns : goal.returns
-returns c = AreFound-all (λ r s. IsSlotLabelOf c.args.elf.now (seen r) s) c.args.records.now c.loop-relocation.relocation-index _ (omega arith) c.loop-relocation.invariant
+returns c = AreFound-all (λ r s. IsSlotLabelOf c.args.elf.now (seen r) s) c.args.records.now c.loop-relocation.relocation-index _
+    (omega arith) c.loop-relocation.invariant

@@ -5,4 +5,5 @@ use Rattle.rv_reloc.proofs.Sweeps.{IsSweptTo}
 use Rattle.rv_reloc.proofs.sweep.sweep.Given as goal
 
 abbrev pub invariant-loop-candidate : goal.invariant-loop-candidate
-invariant-loop-candidate l = (elf : Elf) (tabled : List (ℕ × ℕ)) → AreCandidates elf tabled (map field l.candidates) → IsSweptTo elf tabled (map field l.candidates) l.candidate-index (map field l.counted.items) l.reach
+invariant-loop-candidate l = (elf : Elf) (tabled : List (ℕ × ℕ)) → AreCandidates elf tabled (map field l.candidates) →
+    IsSweptTo elf tabled (map field l.candidates) l.candidate-index (map field l.counted.items) l.reach

@@ -13,7 +13,9 @@ returns-then-byte-low_bits t c = λ bytes are.
     let fits : FitsSigned w128 c.args.number = search rules in
     let low : c.low_bits.result ≡ low_bits c.args.number = c.low_bits.ensures ∙ ap low_bits (to_z-of_z w128 c.args.number fits) in (
       λ wrong. let e : false ≡ true = wrong in absurd (cc),
-      λ hold. absurd (c.if-byte-low_bits.true (first-bits c.args.elf.now c.args.address c.in-Some.byte bytes c.args.number are (sym c.in-Some.ensures.value) hold ∙ sym low)),
+      λ hold. absurd
+          (c.if-byte-low_bits.true
+          (first-bits c.args.elf.now c.args.address c.in-Some.byte bytes c.args.number are (sym c.in-Some.ensures.value) hold ∙ sym low)),
     )
 
 pub holds_within-requires : goal.holds_within-requires
@@ -35,19 +37,25 @@ holds_within-requires t c =
 pub returns-then-byte-lt128 : goal.returns-then-byte-lt128
 returns-then-byte-lt128 t c = λ bytes are.
     let fits : FitsSigned w128 c.args.number = search rules in
-    let same : c.in-Some.byte % 128 ≡ low_bits c.args.number = c.if-byte-low_bits.false ∙ c.low_bits.ensures ∙ ap low_bits (to_z-of_z w128 c.args.number fits) in (
-      λ _. last-bits c.args.elf.now c.args.address c.in-Some.byte bytes c.args.number are (sym c.in-Some.ensures.value) c.if-byte-lt128.true same,
+    let same : c.in-Some.byte % 128 ≡ low_bits c.args.number = c.if-byte-low_bits.false ∙ c.low_bits.ensures
+    ∙ ap low_bits (to_z-of_z w128 c.args.number fits) in (
+      λ _. last-bits c.args.elf.now c.args.address c.in-Some.byte bytes c.args.number are
+          (sym c.in-Some.ensures.value) c.if-byte-lt128.true same,
       λ _. lt-ltb c.in-Some.byte 128 c.if-byte-lt128.true,
     )
 
 pub returns-else-byte-lt128 : goal.returns-else-byte-lt128
 returns-else-byte-lt128 t c = λ bytes are.
     let fits : FitsSigned w128 c.args.number = search rules in
-    let same : c.in-Some.byte % 128 ≡ low_bits c.args.number = c.if-byte-low_bits.false ∙ c.low_bits.ensures ∙ ap low_bits (to_z-of_z w128 c.args.number fits) in
+    let same : c.in-Some.byte % 128 ≡ low_bits c.args.number = c.if-byte-low_bits.false ∙ c.low_bits.ensures
+    ∙ ap low_bits (to_z-of_z w128 c.args.number fits) in
     let high : c.high_bits.result ≡ high_bits c.args.number = c.high_bits.ensures ∙ ap high_bits (to_z-of_z w128 c.args.number fits) in
     let fits_high : FitsSigned w128 c.high_bits.result = search rules in
-    let rest = subst (λ (z : ℤ). (cs : List ℕ) → AreLebBytes c.args.elf.now (c.args.address + 1) cs → IsTrue c.holds_within.result ↔ HoldBits cs z) (to_z-of_z w128 c.high_bits.result fits_high ∙ high) c.holds_within.ensures in
-    more-bits c.args.elf.now c.args.address c.in-Some.byte bytes c.args.number c.holds_within.result are (sym c.in-Some.ensures.value) c.if-byte-lt128.false same rest
+    let rest = subst
+    (λ (z : ℤ). (cs : List ℕ) → AreLebBytes c.args.elf.now (c.args.address + 1) cs → IsTrue c.holds_within.result ↔ HoldBits cs z)
+    (to_z-of_z w128 c.high_bits.result fits_high ∙ high) c.holds_within.ensures in
+    more-bits c.args.elf.now c.args.address c.in-Some.byte bytes c.args.number c.holds_within.result are
+    (sym c.in-Some.ensures.value) c.if-byte-lt128.false same rest
 
 pub returns-in-None : goal.returns-in-None
 returns-in-None t c = λ bytes are. absurd (unloaded-bytes _ _ bytes are (sym c.in-None.ensures.value))

@@ -10,5 +10,7 @@ returns-in-None c = tail-unloaded _ _ (sym c.in-None.ensures.value)
 
 pub returns-in-Some : goal.returns-in-Some
 returns-in-Some c =
-    let ends : is_last c.in-Some.byte ≡ true = subst (λ (o : Option ℕ). IsTrue (ends_with o)) (sym c.in-Some.ensures.value) c.requires.ends in
-    tail-last _ _ _ _ (sym c.in-Some.ensures.value) (ltb-true c.in-Some.byte 128 ends) c.last_tail.ensures.end c.last_tail.ensures.zeros c.last_tail.ensures.ones
+    let ends : is_last c.in-Some.byte ≡ true =
+    subst (λ (o : Option ℕ). IsTrue (ends_with o)) (sym c.in-Some.ensures.value) c.requires.ends in
+    tail-last _ _ _ _ (sym c.in-Some.ensures.value)
+    (ltb-true c.in-Some.byte 128 ends) c.last_tail.ensures.end c.last_tail.ensures.zeros c.last_tail.ensures.ones

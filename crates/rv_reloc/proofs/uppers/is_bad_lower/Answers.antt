@@ -7,7 +7,8 @@ use Rattle.rv_reloc.proofs.uppers.is_bad_lower.Goals as goal
 pub returns-then-not-is_pcrel_lo : goal.returns-then-not-is_pcrel_lo
 returns-then-not-is_pcrel_lo c = (
   λ is. let e : false ≡ true = is in absurd (cc),
-  λ bad. let is = bad-is_lo c.args.elf.now (seen c.args.relocation.now) bad in let e = c.is_pcrel_lo.ensures in let no = c.if-not-is_pcrel_lo.true in absurd (cc),
+  λ bad. let is = bad-is_lo c.args.elf.now (seen c.args.relocation.now) bad in let e = c.is_pcrel_lo.ensures in let no =
+      c.if-not-is_pcrel_lo.true in absurd (cc),
 )
 
 pub returns-in-Some : goal.returns-in-Some

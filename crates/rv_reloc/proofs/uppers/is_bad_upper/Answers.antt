@@ -10,7 +10,8 @@ is_named-requires c = c.requires.named.ascending
 pub returns-then-not-is_pcrel_hi : goal.returns-then-not-is_pcrel_hi
 returns-then-not-is_pcrel_hi c = (
   λ is. let e : false ≡ true = is in absurd (cc),
-  λ bad. let is = bad-is_hi c.args.elf.now (seen c.args.relocation.now) bad in let e = c.is_pcrel_hi.ensures in let no = c.if-not-is_pcrel_hi.true in absurd (cc),
+  λ bad. let is = bad-is_hi c.args.elf.now (seen c.args.relocation.now) bad in let e = c.is_pcrel_hi.ensures in let no =
+      c.if-not-is_pcrel_hi.true in absurd (cc),
 )
 
 pub returns-in-Some : goal.returns-in-Some

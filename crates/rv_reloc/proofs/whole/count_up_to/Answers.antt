@@ -21,10 +21,12 @@ fails_above a z fails = grind (arith, ints)
 
 pub returns-clause-below : goal.returns-clause-below
 returns-clause-below c =
-    let point = IsPartitionPoint-from_clause (λ p. int_le (pos p.start) c.args.label) _ _ c.partition_point.ensures.partitioned (parted _ _ c.requires) (λ a r q k. search rules) in
+    let point = IsPartitionPoint-from_clause (λ p. int_le (pos p.start) c.args.label) _ _ c.partition_point.ensures.partitioned
+    (parted _ _ c.requires) (λ a r q k. search rules) in
     λ k d within. passes_by _ _ (point.0 k d (search rules) within)
 
 pub returns-clause-above : goal.returns-clause-above
 returns-clause-above c =
-    let point = IsPartitionPoint-from_clause (λ p. int_le (pos p.start) c.args.label) _ _ c.partition_point.ensures.partitioned (parted _ _ c.requires) (λ a r q k. search rules) in
+    let point = IsPartitionPoint-from_clause (λ p. int_le (pos p.start) c.args.label) _ _ c.partition_point.ensures.partitioned
+    (parted _ _ c.requires) (λ a r q k. search rules) in
     λ k d from within. fails_above _ _ (point.1 k d from within)

@@ -37,7 +37,9 @@ returns c = λ elf tabled are.
       (λ is. IsInOneWhole-from elf tabled wholes x to from are (Contains-get_or wholes (count - 1) d (omega arith)) (says is)),
       (λ is.
           let (p, listed, holds) = IsInOneWhole-part elf tabled wholes to from are is in
-          told (last_holds_both wholes count x p d c.lower.result to from c.requires (simp to_z-of_z at c.lower.ensures.to) (simp to_z-of_z at c.lower.ensures.from)
-          (simp to_z-of_z at c.lower.ensures.is) (omega arith) bound refl (simp to_z-of_z at (c.count_up_to-above.ensures.below (count - 1) d (omega arith)))
+          told (last_holds_both wholes count x p d c.lower.result to from c.requires (simp to_z-of_z at c.lower.ensures.to)
+          (simp to_z-of_z at c.lower.ensures.from)
+          (simp to_z-of_z at c.lower.ensures.is) (omega arith) bound refl
+          (simp to_z-of_z at (c.count_up_to-above.ensures.below (count - 1) d (omega arith)))
           (λ k e late within. simp to_z-of_z at (c.count_up_to-above.ensures.above k e late within)) listed holds)),
     )

@@ -8,7 +8,9 @@ use Rattle.rv_reloc.specs.Ranges.{tabled_extent}
 use Rattle.rv_reloc.proofs.RangeLists.{IsInOneExtent-tabled}
 use Rattle.rv_reloc.proofs.whole.tabled_ranges.Goals as goal
 
-asked : {E : Type 0} (tabled : List (ℕ × ℕ)) (extents : List Extent) (r : Result Ranges E) → extents ≡ map tabled_extent tabled → IfOk r (λ x. (a e : ℕ) → a < e → IsInOneExtent x.reaches.items a e ↔ IsInOneExtent extents a e) → IfOk r (λ x. (a : ℕ) → IsInOneExtent x.reaches.items a (a + 1) ↔ Any (IsInTabled a) tabled)
+asked : {E : Type 0} (tabled : List (ℕ × ℕ)) (extents : List Extent) (r : Result Ranges E) → extents ≡ map tabled_extent tabled →
+    IfOk r (λ x. (a e : ℕ) → a < e → IsInOneExtent x.reaches.items a e ↔ IsInOneExtent extents a e) →
+    IfOk r (λ x. (a : ℕ) → IsInOneExtent x.reaches.items a (a + 1) ↔ Any (IsInTabled a) tabled)
 asked tabled extents (Ok x) are same = IsInOneExtent-tabled tabled x.reaches.items extents same are
 asked tabled extents (Err e) are same = same
 

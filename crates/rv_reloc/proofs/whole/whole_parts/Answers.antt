@@ -23,5 +23,6 @@ loop-part-preserved c =
 
 pub returns : goal.returns
 returns c =
-    chosen_all (λ p. IsWholePart c.args.elf.now c.args.tabled.now p.start p.end) Follows c.args.parts.now _ c.loop-part.part-index (omega arith)
+    chosen_all (λ p. IsWholePart c.args.elf.now c.args.tabled.now p.start p.end) Follows c.args.parts.now _ c.loop-part.part-index
+    (omega arith)
     (λ p whole. c.requires.parts.each p whole.starts.part) c.loop-part.invariant
