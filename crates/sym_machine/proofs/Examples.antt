@@ -78,14 +78,17 @@ difference_from_elsewhere = refl
 
 -- Memory.
 
-whole_of_four : loaded Signed32 (SymbolByte (Hi 5) 4 0 ∷ SymbolByte (Hi 5) 4 1 ∷ SymbolByte (Hi 5) 4 2 ∷ SymbolByte (Hi 5) 4 3 ∷ []) ≡ Some (Sym (Hi 5))
+whole_of_four : loaded Signed32 (SymbolByte (Hi 5) 4 0 ∷ SymbolByte (Hi 5) 4 1 ∷ SymbolByte (Hi 5) 4 2 ∷ SymbolByte (Hi 5) 4 3 ∷ [])
+    ≡ Some (Sym (Hi 5))
 whole_of_four = refl
 
 -- an upper part of a distance can be negative, so its bytes extended by zeros are a piece
-unsigned_of_four : loaded Zero32 (SymbolByte (Hi 5) 4 0 ∷ SymbolByte (Hi 5) 4 1 ∷ SymbolByte (Hi 5) 4 2 ∷ SymbolByte (Hi 5) 4 3 ∷ []) ≡ Some (Piece (Hi 5) 4 0 4 Unsigned)
+unsigned_of_four : loaded Zero32 (SymbolByte (Hi 5) 4 0 ∷ SymbolByte (Hi 5) 4 1 ∷ SymbolByte (Hi 5) 4 2 ∷ SymbolByte (Hi 5) 4 3 ∷ [])
+    ≡ Some (Piece (Hi 5) 4 0 4 Unsigned)
 unsigned_of_four = refl
 
-upper_half : loaded Signed32 (SymbolByte (Hi 5) 8 4 ∷ SymbolByte (Hi 5) 8 5 ∷ SymbolByte (Hi 5) 8 6 ∷ SymbolByte (Hi 5) 8 7 ∷ []) ≡ Some (Piece (Hi 5) 8 4 4 Signed)
+upper_half : loaded Signed32 (SymbolByte (Hi 5) 8 4 ∷ SymbolByte (Hi 5) 8 5 ∷ SymbolByte (Hi 5) 8 6 ∷ SymbolByte (Hi 5) 8 7 ∷ [])
+    ≡ Some (Piece (Hi 5) 8 4 4 Signed)
 upper_half = refl
 
 with_a_number : loaded Signed16 (SymbolByte (Hi 5) 8 4 ∷ Byte 3 ∷ []) ≡ None

@@ -1,5 +1,7 @@
 pub mod HiddenFields
 pub mod Rules
+pub mod State
 pub mod SymStart
 pub mod SymStep
 pub mod Values
+pub mod internal

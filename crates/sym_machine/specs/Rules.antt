@@ -89,7 +89,8 @@ from_difference funcs _ w = None
 
 -- ADD, in either order; where both could be meant, the difference is
 abbrev pub sum : List Func → Value → Value → Option Value
-sum funcs v w = option_or (from_difference funcs v w) (option_or (from_difference funcs w v) (option_or (copied v w) (copied w v)))
+sum funcs v w =
+    option_or (from_difference funcs v w) (option_or (from_difference funcs w v) (option_or (copied v w) (copied w v)))
 
 -- pointers of one kind at two addresses
 abbrev pub compared : Comparing → Pointer → Pointer → ℕ → ℕ → Value

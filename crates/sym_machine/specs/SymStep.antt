@@ -78,7 +78,8 @@ stores_at s next n cells a = checks s reason.Access (all_may (may_write s) a n) 
 
 abbrev pub stores : SymState → ℕ → ℕ → Value → Option Value → SymOutcome
 stores s next n value at =
-    needs s reason.Operate at (λ v. needs s reason.Operate (stored n value) (λ cells. needs s reason.Access (number v) (stores_at s next n cells)))
+    needs s reason.Operate at
+    (λ v. needs s reason.Operate (stored n value) (λ cells. needs s reason.Access (number v) (stores_at s next n cells)))
 
 -- Branches, and jumps through registers.
 
@@ -114,7 +115,8 @@ refuses_file s next number file at size =
 abbrev pub reads_input : SymState → ℕ → ℕ → ℕ → List ℕ → SymOutcome
 reads_input s next at size bytes =
     checks s reason.Access (all_may (may_write s) at (min size most_moved))
-    (returns (record s { memory = put s.memory at (map Byte bytes); input = drop (length bytes) s.input }) next (moved 63 0 at size bytes))
+    (returns (record s { memory = put s.memory at (map Byte bytes); input = drop (length bytes) s.input }) next
+    (moved 63 0 at size bytes))
 
 -- bytes of a buffer go out, all of which may be read
 abbrev pub writes_output : SymState → ℕ → ℕ → ℕ → ℕ → List MemoryByte → SymOutcome

@@ -1,0 +1,17 @@
+use Rattle.std.proofs.Common.{◌≡◌, ◌∙◌, ◌+◌, sym, ap, suc, ℕ, arith}
+use Rattle.std.specs.Prelude.{List}
+use Rattle.rv_code.specs.declared.placed.Func.{Func}
+use Rattle.sym_machine.specs.internal.FunctionOrder.{addr_at}
+use Rattle.sym_machine.proofs.Functions.{next_of-found, next_of-none, nowhere, insts_at, first_of_some}
+use Rattle.sym_machine.proofs.inst_index.InstIndex.next_of.Goals as goal
+
+pub returns-in-Some : goal.returns-in-Some
+returns-in-Some c =
+    let funcs = c.args.self.now.funcs.now in
+    let at = c.in-Some.ensures.found in
+    let d = first_of_some funcs c.in-Some.at.func at.func in
+    let one : c.in-Some.at.index + 1 ≡ suc c.in-Some.at.index = omega arith in
+    c.next_in.ensures d ∙ ap (addr_at (insts_at funcs c.in-Some.at.func d)) one ∙ sym (next_of-found funcs c.args.self.now.searchable c.in-Some.at.func c.in-Some.at.index c.args.address at d)
+
+pub returns-in-None : goal.returns-in-None
+returns-in-None c = sym (next_of-none c.args.self.now.funcs.now c.args.address (nowhere c.args.self.now.funcs.now c.args.self.now.searchable c.args.address c.in-None.ensures.none))

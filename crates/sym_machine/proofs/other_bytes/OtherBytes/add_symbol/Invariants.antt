@@ -1,0 +1,8 @@
+use Rattle.std.proofs.Common.{◌≡◌, ◌+◌, ◌-◌, ℕ, Some}
+use Rattle.std.specs.Prelude.{◌&&◌, nat_le, nat_lt, if◌then◌else◌}
+use Rattle.sym_machine.specs.declared.value.MemoryByte.TheVariants.{SymbolByte}
+use Rattle.sym_machine.specs.internal.Special.{special}
+use Rattle.sym_machine.proofs.other_bytes.OtherBytes.add_symbol.Given as goal
+
+abbrev pub invariant-loop-index : goal.invariant-loop-index
+invariant-loop-index l = (q : ℕ) → special l.self q ≡ (if nat_le l.start q && nat_lt q (l.start + l.index) then Some (SymbolByte l.symbol l.width (q - l.start)) else special l.initial.self q)

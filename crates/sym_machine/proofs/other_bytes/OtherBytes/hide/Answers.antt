@@ -1,0 +1,31 @@
+use Rattle.std.proofs.Common.{◌≡◌, ◌∙◌, ◌+◌, sym, ap, arith, ℕ, Some, Bool, true, false, refl, Option}
+use Rattle.std.specs.Prelude.{◌&&◌, ◌==◌, nat_le, nat_lt, if◌then◌else◌, option_map}
+use Rattle.sym_machine.specs.declared.other_bytes.OtherByte.{OtherByte}
+use Rattle.sym_machine.specs.declared.other_bytes.OtherByte.TheVariants as other
+use Rattle.sym_machine.specs.declared.value.MemoryByte.{MemoryByte}
+use Rattle.sym_machine.specs.declared.value.MemoryByte.TheVariants.{Hidden}
+use Rattle.sym_machine.specs.internal.Memory.{as_byte}
+use Rattle.sym_machine.specs.internal.OtherBytes.{other_byte}
+use Rattle.sym_machine.specs.internal.Special.{special}
+use Rattle.sym_machine.proofs.StartRuns.{run_none, run_more}
+use Rattle.sym_machine.proofs.other_bytes.OtherBytes.hide.Goals as goal
+
+map_if : (t : Bool) (x : OtherByte) (o : Option OtherByte) → option_map as_byte (if t then Some x else o) ≡ (if t then Some (as_byte x) else option_map as_byte o)
+map_if true x o = refl
+map_if false x o = refl
+
+pub loop-index-init : goal.loop-index-init
+loop-index-init c = λ q. run_none (Some Hidden) (special c.args.self.now q) c.args.start q
+
+pub loop-index-preserved : goal.loop-index-preserved
+loop-index-preserved c = λ q.
+    let i = c.loop-index.index in
+    ap (option_map as_byte) (c.in_ok-add_byte.ensures q)
+    ∙ map_if (q == c.args.start + i) other.Hidden (other_byte c.loop-index.self q)
+    ∙ ap (λ (o : Option MemoryByte). if q == c.args.start + i then Some Hidden else o) (c.loop-index.invariant q)
+    ∙ run_more (Some Hidden) (Some Hidden) (special c.args.self.now q) c.args.start i q (λ here. refl)
+
+pub returns : goal.returns
+returns c = λ q.
+    let end : c.loop-index.index ≡ c.args.size = omega arith in
+    c.loop-index.invariant q ∙ ap (λ (n : ℕ). if nat_le c.args.start q && nat_lt q (c.args.start + n) then Some Hidden else special c.args.self.now q) end

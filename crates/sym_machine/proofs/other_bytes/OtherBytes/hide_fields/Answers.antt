@@ -1,0 +1,24 @@
+use Rattle.std.proofs.Common.{◌≡◌, ◌∙◌, sym, ap, Some, ℕ, List, map}
+use Rattle.std.specs.Prelude.{Result, Ok, Err, OnOk, if◌then◌else◌, ◌&&◌}
+use Rattle.std.specs.List.{list_any}
+use Rattle.elf_image.specs.declared.segment.Segment.{Segment}
+use Rattle.sym_machine.specs.declared.value.MemoryByte.TheVariants.{Hidden}
+use Rattle.sym_machine.specs.HiddenFields.{is_hidden_field}
+use Rattle.sym_machine.specs.internal.Fields.{range_of_field}
+use Rattle.sym_machine.specs.internal.Special.{special, covers}
+use Rattle.sym_machine.proofs.StartFields.{hidden_everywhere}
+use Rattle.sym_machine.proofs.other_bytes.OtherBytes.hide_fields.Goals as goal
+
+on_ok : {T E P Q : Type 0} (r : Result T E) → (P → Q) → OnOk r P → OnOk r Q
+on_ok (Ok x) f p = f p
+on_ok (Err e) f p = tt
+
+pub returns : goal.returns
+returns c =
+    on_ok c.hide_in_segments.result
+    (λ all q.
+    let old = special c.args.self.now q in
+    all c.args.tight (ap (map range_of_field) c.deref.ensures.value ∙ c.in_ok-fields.ensures) q
+    ∙ ap (λ (segments : List Segment). if list_any (covers q) segments && is_hidden_field c.args.elf.now c.args.tight q then Some Hidden else old) c.deref-2.ensures.value
+    ∙ hidden_everywhere c.args.elf.now c.args.tight q (Some Hidden) old)
+    c.hide_in_segments.ensures

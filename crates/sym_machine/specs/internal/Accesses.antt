@@ -1,0 +1,28 @@
+-- What loads and stores move, as the code has it.
+use Rattle.std.specs.Prelude.{ℕ, List, Option, map}
+use Rattle.rv_code.specs.declared.action.Action.{Action}
+use Rattle.rv_code.specs.declared.action.Action.TheVariants.{Store, SystemCall}
+use Rattle.rv_code.specs.declared.action.Extension.{Extension}
+use Rattle.rv_code.specs.machine.Machine.{plus, low_bytes}
+use Rattle.sym_machine.specs.declared.accesses.Stored.{Stored}
+use Rattle.sym_machine.specs.declared.accesses.Stored.TheVariants as store
+use Rattle.sym_machine.specs.declared.memory.SymbolBytes.{SymbolBytes}
+use Rattle.sym_machine.specs.declared.value.Value.{Value}
+use Rattle.sym_machine.specs.declared.value.MemoryByte.{MemoryByte}
+use Rattle.sym_machine.specs.declared.value.MemoryByte.TheVariants.{Byte}
+use Rattle.sym_machine.specs.Values.{symbol_bytes}
+use Rattle.sym_machine.specs.Rules.{piece}
+
+-- what stands in memory after a store of n bytes
+abbrev pub stored_cells : ℕ → Stored → List MemoryByte
+stored_cells n (store.Number x) = map Byte (low_bytes n x)
+stored_cells n (store.Symbol from) = symbol_bytes from.symbol from.width from.first n
+
+abbrev pub symbol_piece : Extension → SymbolBytes → Option Value
+symbol_piece e from = piece e from.symbol from.width from.first
+
+-- an action that is neither a store nor a system call
+abbrev pub IsQuiet : Action → Type 0
+IsQuiet (Store n rs1 rs2 imm) = ⊥
+IsQuiet SystemCall = ⊥
+IsQuiet _ = Unit {0}

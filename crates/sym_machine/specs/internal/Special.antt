@@ -1,0 +1,25 @@
+-- The bytes at the start that are no numbers.
+use Rattle.std.specs.Prelude.{ℕ, ◌-◌, ◌+◌, ◌&&◌, nat_le, nat_lt, min, if◌then◌else◌, Bool, List, Option, Some, option_map}
+use Rattle.elf_image.specs.declared.segment.Segment.{Segment}
+use Rattle.elf_image.specs.memory.Image.{is_load}
+use Rattle.elf_image.specs.memory.LoadedBytes.{Range, is_in_range}
+use Rattle.sym_machine.specs.declared.value.Symbol.{Symbol}
+use Rattle.sym_machine.specs.declared.value.MemoryByte.{MemoryByte}
+use Rattle.sym_machine.specs.declared.value.MemoryByte.TheVariants.{SymbolByte, Hidden}
+use Rattle.sym_machine.specs.declared.other_bytes.OtherBytes.{OtherBytes}
+use Rattle.sym_machine.specs.internal.OtherBytes.{other_byte}
+use Rattle.sym_machine.specs.internal.Memory.{as_byte}
+
+abbrev pub special : OtherBytes → ℕ → Option MemoryByte
+special others a = option_map as_byte (other_byte others a)
+
+-- after a symbol was put over a range, or all of it was hidden
+abbrev pub symbol_over : Symbol → ℕ → Range → OtherBytes → ℕ → Option MemoryByte
+symbol_over y w range old q = if is_in_range q range then Some (SymbolByte y w (q - range.start)) else special old q
+
+abbrev pub hidden_over : Range → OtherBytes → ℕ → Option MemoryByte
+hidden_over range old q = if is_in_range q range then Some Hidden else special old q
+
+-- a segment loads a byte of the file to an address
+abbrev pub covers : ℕ → Segment → Bool
+covers q p = is_load p && (nat_le p.vaddr q && nat_lt q (p.vaddr + min p.filesz p.memsz))

@@ -1,0 +1,151 @@
+// Where loads and stores go, and what they move.
+ghost use Rattle.std.specs.Prelude.{◌≡◌, Option, Some, None, option_map};
+ghost use Rattle.sym_machine.specs.Values.{stored};
+ghost use Rattle.sym_machine.specs.Rules.{is_unsigned, piece};
+ghost use Rattle.sym_machine.specs.internal.Cases.{moved};
+ghost use Rattle.sym_machine.specs.internal.Accesses.{stored_cells, symbol_piece};
+
+use crate::inst_index::InstIndex;
+use crate::memory::SymbolBytes;
+use crate::value::{Signedness, Symbol, Value};
+use rv_code::{Extension, Role};
+
+/// What a store writes.
+#[derive(Clone, Copy, PartialEq, Eq, Debug)]
+pub enum Stored {
+    /// The low bytes of a number.
+    Number(u64),
+    /// Bytes of a symbol.
+    Symbol(SymbolBytes),
+}
+
+/// What a store of `count` bytes of a value writes.
+pub fn what_to_store(count: u8, value: Value) -> Option<Stored>
+    ensures { option_map (stored_cells count) result ≡ stored count value }
+{
+    match value {
+        Value::Num(number) => Some(Stored::Number(number)),
+        Value::Sym(symbol) => Some(Stored::Symbol(SymbolBytes {
+            symbol,
+            width: if count == 4 { 4 } else { 8 },
+            first: 0,
+        })),
+        Value::Piece {
+            symbol,
+            width,
+            first,
+            bytes,
+            ..
+        } => {
+            if count <= bytes {
+                Some(Stored::Symbol(SymbolBytes {
+                    symbol,
+                    width,
+                    first,
+                }))
+            } else {
+                None
+            }
+        }
+    }
+}
+
+// Whether an LWU gives a symbol back whole.
+fn is_unsigned(symbol: Symbol) -> bool
+    ensures { result ≡ is_unsigned symbol }
+{
+    match symbol {
+        Symbol::Points(_) => true,
+        Symbol::Abs(_) => true,
+        Symbol::Hi(_) => false,
+        Symbol::Diff { .. } => false,
+        Symbol::Apart { .. } => false,
+    }
+}
+
+fn part(from: SymbolBytes, bytes: u8, extended: Signedness) -> Value
+    ensures { result ≡ Value.Piece from.symbol from.width from.first bytes extended }
+{
+    Value::Piece {
+        symbol: from.symbol,
+        width: from.width,
+        first: from.first,
+        bytes,
+        extended,
+    }
+}
+
+fn whole(from: SymbolBytes) -> Option<Value>
+    ensures { result ≡ piece Extension.Whole64 from.symbol from.width from.first }
+{
+    if from.width == 8 && from.first == 0 {
+        Some(Value::Sym(from.symbol))
+    } else {
+        None
+    }
+}
+
+fn signed_word(from: SymbolBytes) -> Value
+    ensures { Some result ≡ piece Extension.Signed32 from.symbol from.width from.first }
+{
+    if from.width == 4 && from.first == 0 {
+        Value::Sym(from.symbol)
+    } else {
+        part(from, 4, Signedness::Signed)
+    }
+}
+
+fn unsigned_word(from: SymbolBytes) -> Value
+    ensures { Some result ≡ piece Extension.Zero32 from.symbol from.width from.first }
+{
+    if from.width == 4 && from.first == 0 && is_unsigned(from.symbol) {
+        Value::Sym(from.symbol)
+    } else {
+        part(from, 4, Signedness::Unsigned)
+    }
+}
+
+/// What a load of bytes of a symbol gives.
+pub fn piece(extension: Extension, from: SymbolBytes) -> Option<Value>
+    ensures { result ≡ symbol_piece extension from }
+{
+    match extension {
+        Extension::Whole64 => whole(from),
+        Extension::Signed32 => Some(signed_word(from)),
+        Extension::Zero32 => Some(unsigned_word(from)),
+        Extension::Signed16 => Some(part(from, 2, Signedness::Signed)),
+        Extension::Zero16 => Some(part(from, 2, Signedness::Unsigned)),
+        Extension::Signed8 => Some(part(from, 1, Signedness::Signed)),
+        Extension::Zero8 => Some(part(from, 1, Signedness::Unsigned)),
+    }
+}
+
+// A base with an offset.
+fn moved(base: Value, offset: u64) -> Value
+    ensures { result ≡ moved base offset }
+{
+    match base {
+        Value::Num(address) => Value::Num(address.wrapping_add(offset)),
+        Value::Sym(_) => base,
+        Value::Piece { .. } => base,
+    }
+}
+
+impl<'a> InstIndex<'a> {
+    ghost use Rattle.sym_machine.specs.Rules.{place};
+
+    /// The value that is the address of a load or a store.
+    pub fn address_of(&self, part: Role, base: Value, offset: u64) -> Option<Value>
+        ensures { result ≡ place self.now.funcs.now part base offset }
+    {
+        match part {
+            Role::Lo { .. } => self.joined(part, base),
+            Role::CallLo { .. } => self.joined(part, base),
+            Role::AbsLo { .. } => None,
+            Role::Plain => Some(moved(base, offset)),
+            Role::CallHi { .. } => Some(moved(base, offset)),
+            Role::Hi { .. } => Some(moved(base, offset)),
+            Role::AbsHi { .. } => Some(moved(base, offset)),
+        }
+    }
+}

@@ -1,0 +1,225 @@
+// The instructions of functions by their addresses.
+ghost use Rattle.std.specs.Prelude.{◌≡◌, ◌<◌, ◌≤◌, ◌%◌, ◌^◌, ◌+◌, ℕ, List, None, IfSome, IfNone, IsTrue, length, slice_index_or};
+ghost use Rattle.std.specs.List.Sorted.{IsNonDecreasingBy};
+ghost use Rattle.rv_code.specs.declared.placed.Func.{Func};
+ghost use Rattle.rv_code.specs.declared.placed.Placed.{Placed};
+ghost use Rattle.rv_code.specs.layout.FunctionLists.{AreLaidOut};
+ghost use Rattle.rv_code.specs.layout.Flow.{placed_at};
+ghost use Rattle.rv_code.specs.layout.ProgramCode.{is_code_address};
+ghost use Rattle.sym_machine.specs.internal.FunctionOrder.{IsSearchable, IsInstAt, addr_at};
+
+use rv_code::{Func, Placed};
+use std::alloc::Global;
+
+/// Where an instruction stands: the place of its function in the list, and its own in the function's `insts`.
+#[derive(Clone, Copy, PartialEq, Eq, Debug)]
+pub struct InstPlace {
+    pub func: usize,
+    pub index: usize,
+}
+
+/// Functions, in which an instruction is looked up by its address.
+#[derive(Drop)]
+pub struct InstIndex<'a> {
+    pub funcs: &'a [Func],
+    pub ghost searchable: { IsSearchable funcs.now },
+}
+
+impl<'a> InstIndex<'a> {
+    ghost use Rattle.sym_machine.specs.SymStep.{instruction};
+    ghost use Rattle.sym_machine.specs.Rules.{next_of};
+
+    /// An index of functions.
+    pub fn new(funcs: &'a [Func]) -> InstIndex<'a>
+        requires { AreLaidOut funcs.now }
+        ensures { result.funcs.now ≡ funcs.now }
+    {
+        InstIndex { funcs }
+    }
+
+    /// Where the instruction that starts at an address stands.
+    pub fn place(&self, address: u64) -> Option<InstPlace>
+        ensures found { IfSome result (λ at. IsInstAt self.now.funcs.now at.func at.index address) }
+        ensures none { IfNone result (placed_at self.now.funcs.now address ≡ None) }
+    {
+        place_in(self.funcs, address)
+    }
+
+    /// Whether an instruction starts at an address.
+    pub fn is_code_address(&self, address: u64) -> bool
+        ensures { result ≡ is_code_address self.now.funcs.now address }
+    {
+        self.place(address).is_some()
+    }
+
+    /// The instruction at a pc, looked up first where it ran last. There is none at an odd pc.
+    pub fn fetch(&self, recent: &mut RecentPlaces, pc: u64) -> Option<Placed>
+        ensures { result ≡ instruction self.now.funcs.now pc }
+    {
+        if pc % 2 != 0 {
+            return None;
+        }
+        let at = recent.place(pc);
+        if is_inst_at(self.funcs, at, pc) {
+            return Some(inst_at(self.funcs, at));
+        }
+        let Some(at) = self.place(pc) else {
+            return None;
+        };
+        recent.keep(pc, at);
+        Some(inst_at(self.funcs, at))
+    }
+
+    /// The address of the instruction after the one at an address, in its function.
+    pub fn next_of(&self, address: u64) -> Option<u64>
+        ensures { result ≡ next_of self.now.funcs.now address }
+    {
+        match self.place(address) {
+            Some(at) => next_in(self.funcs, at),
+            None => None,
+        }
+    }
+}
+
+/// How many places are kept at hand.
+const RECENT: usize = 8192;
+
+/// Where instructions that ran last stand, by the lowest bits of their addresses. No place is trusted.
+#[derive(Drop)]
+pub struct RecentPlaces {
+    places: Vec<InstPlace>,
+}
+
+impl RecentPlaces {
+    /// No place is kept.
+    pub fn none(alloc: Global) -> RecentPlaces {
+        RecentPlaces {
+            places: Vec::new(alloc),
+        }
+    }
+
+    /// Room for the places of a run. Where memory runs out, none is kept.
+    pub fn new(alloc: Global) -> RecentPlaces {
+        let first = InstPlace { func: 0, index: 0 };
+        match Vec::from_elem(alloc, first, RECENT) {
+            Ok(places) => RecentPlaces { places },
+            Err(_) => RecentPlaces::none(alloc),
+        }
+    }
+
+    // A place at which the instruction at an address may stand.
+    fn place(&self, address: u64) -> InstPlace {
+        let slot = slot_of(address);
+        if slot < self.places.len() {
+            self.places[slot]
+        } else {
+            InstPlace { func: 0, index: 0 }
+        }
+    }
+
+    fn keep(&mut self, address: u64, at: InstPlace) {
+        let slot = slot_of(address);
+        if slot < self.places.len() {
+            self.places[slot] = at;
+        }
+    }
+}
+
+// Where the place of the instruction at an address is kept.
+fn slot_of(address: u64) -> usize {
+    (address / 2 % RECENT as u64) as usize
+}
+
+// Whether an instruction at an address stands at a place.
+fn is_inst_at(funcs: &[Func], at: InstPlace, address: u64) -> bool
+    ensures { IsTrue result → IsInstAt funcs.now at.func at.index address }
+{
+    if at.func >= funcs.len() {
+        return false;
+    }
+    let insts: &[Placed] = &funcs[at.func].insts;
+    if at.index >= insts.len() {
+        return false;
+    }
+    insts[at.index].addr == address
+}
+
+// The instruction at a place.
+fn inst_at(funcs: &[Func], at: InstPlace) -> Placed
+    requires func { at.func < length funcs.now }
+    requires index { (d : Func) → at.index < length (slice_index_or funcs.now at.func d).insts.items }
+    ensures { (d : Func) (e : Placed) → result ≡ slice_index_or (slice_index_or funcs.now at.func d).insts.items at.index e }
+{
+    let insts: &[Placed] = &funcs[at.func].insts;
+    insts[at.index]
+}
+
+// The address of an instruction of a function.
+fn address_at(insts: &[Placed], index: usize) -> u64
+    requires { index < length insts.now }
+    ensures { (e : Placed) → result ≡ (slice_index_or insts.now index e).addr }
+{
+    insts[index].addr
+}
+
+// The address of the instruction after one at a place, in its function.
+fn next_in(funcs: &[Func], at: InstPlace) -> Option<u64>
+    requires func { at.func < length funcs.now }
+    ensures { (d : Func) → result ≡ addr_at (slice_index_or funcs.now at.func d).insts.items (at.index + 1) }
+{
+    let insts: &[Placed] = &funcs[at.func].insts;
+    if at.index >= insts.len() {
+        return None;
+    }
+    match insts.get(at.index + 1) {
+        Some(next) => Some(next.addr),
+        None => None,
+    }
+}
+
+fn place_in(funcs: &[Func], address: u64) -> Option<InstPlace>
+    requires { IsSearchable funcs.now }
+    ensures found { IfSome result (λ at. IsInstAt funcs.now at.func at.index address) }
+    ensures none { IfNone result (placed_at funcs.now address ≡ None) }
+{
+    let above = starts_up_to(funcs, address);
+    if above == 0 {
+        return None;
+    }
+    let func = &funcs[above - 1];
+    if func.end <= address {
+        return None;
+    }
+    let insts: &[Placed] = &func.insts;
+    let below = insts_up_to(insts, address);
+    if below == 0 {
+        return None;
+    }
+    if address_at(insts, below - 1) != address {
+        return None;
+    }
+    Some(InstPlace {
+        func: above - 1,
+        index: below - 1,
+    })
+}
+
+// How many functions start at an address or below it.
+fn starts_up_to(funcs: &[Func], address: u64) -> usize
+    requires { IsNonDecreasingBy (λ f. f.start) funcs.now }
+    ensures bound { result ≤ length funcs.now }
+    ensures below { (k : ℕ) (d : Func) → k < result → (slice_index_or funcs.now k d).start ≤ address }
+    ensures above { (k : ℕ) (d : Func) → result ≤ k → k < length funcs.now → address < (slice_index_or funcs.now k d).start }
+{
+    funcs.partition_point(|f| f.start <= address)
+}
+
+// How many instructions start at an address or below it.
+fn insts_up_to(insts: &[Placed], address: u64) -> usize
+    requires { IsNonDecreasingBy (λ p. p.addr) insts.now }
+    ensures bound { result ≤ length insts.now }
+    ensures below { (k : ℕ) (d : Placed) → k < result → (slice_index_or insts.now k d).addr ≤ address }
+    ensures above { (k : ℕ) (d : Placed) → result ≤ k → k < length insts.now → address < (slice_index_or insts.now k d).addr }
+{
+    insts.partition_point(|p| p.addr <= address)
+}

@@ -1,0 +1,173 @@
+// Upper and lower parts of addresses. psABI, "Relocations".
+ghost use Rattle.std.specs.Prelude.{◌≡◌, Option, Some, None, if◌then◌else◌};
+ghost use Rattle.sym_machine.specs.Rules.{upper_of_distance, upper_of_address, is_hi, is_abs, is_lower};
+
+use crate::inst_index::InstIndex;
+use crate::value::{Pointer, Symbol, Value};
+use rv_code::Role;
+
+/// What AUIPC gives at an address.
+pub fn upper_of_distance(part: Role, address: u64) -> Option<Value>
+    ensures { result ≡ upper_of_distance part address }
+{
+    match part {
+        Role::Hi { .. } => Some(Value::Sym(Symbol::Hi(address))),
+        Role::CallHi { .. } => Some(Value::Sym(Symbol::Hi(address))),
+        Role::Plain => None,
+        Role::CallLo { .. } => None,
+        Role::Lo { .. } => None,
+        Role::AbsHi { .. } => None,
+        Role::AbsLo { .. } => None,
+    }
+}
+
+/// What LUI gives with a number as its immediate.
+pub fn upper_of_address(part: Role, number: u64) -> Value
+    ensures { result ≡ upper_of_address part number }
+{
+    match part {
+        Role::AbsHi { target } => Value::Sym(Symbol::Abs(target)),
+        Role::Plain => Value::Num(number),
+        Role::CallHi { .. } => Value::Num(number),
+        Role::CallLo { .. } => Value::Num(number),
+        Role::Hi { .. } => Value::Num(number),
+        Role::Lo { .. } => Value::Num(number),
+        Role::AbsLo { .. } => Value::Num(number),
+    }
+}
+
+/// Whether a role is that of a lower part.
+pub fn is_lower(part: Role) -> bool
+    ensures { result ≡ is_lower part }
+{
+    match part {
+        Role::Lo { .. } => true,
+        Role::CallLo { .. } => true,
+        Role::AbsLo { .. } => true,
+        Role::Plain => false,
+        Role::CallHi { .. } => false,
+        Role::Hi { .. } => false,
+        Role::AbsHi { .. } => false,
+    }
+}
+
+// Whether a value is what the AUIPC at an address gave.
+fn is_hi(address: u64, value: Value) -> bool
+    ensures { result ≡ is_hi address value }
+{
+    match value {
+        Value::Num(_) => false,
+        Value::Sym(symbol) => is_symbol_hi(address, symbol),
+        Value::Piece { .. } => false,
+    }
+}
+
+fn is_symbol_hi(address: u64, symbol: Symbol) -> bool
+    ensures { result ≡ is_hi address (Value.Sym symbol) }
+{
+    match symbol {
+        Symbol::Hi(from) => address == from,
+        Symbol::Points(_) => false,
+        Symbol::Abs(_) => false,
+        Symbol::Diff { .. } => false,
+        Symbol::Apart { .. } => false,
+    }
+}
+
+// Whether a value is the upper part of an address.
+fn is_abs(target: u64, value: Value) -> bool
+    ensures { result ≡ is_abs target value }
+{
+    match value {
+        Value::Num(_) => false,
+        Value::Sym(symbol) => is_symbol_abs(target, symbol),
+        Value::Piece { .. } => false,
+    }
+}
+
+fn is_symbol_abs(target: u64, symbol: Symbol) -> bool
+    ensures { result ≡ is_abs target (Value.Sym symbol) }
+{
+    match symbol {
+        Symbol::Abs(to) => target == to,
+        Symbol::Points(_) => false,
+        Symbol::Hi(_) => false,
+        Symbol::Diff { .. } => false,
+        Symbol::Apart { .. } => false,
+    }
+}
+
+impl<'a> InstIndex<'a> {
+    ghost use Rattle.sym_machine.specs.Values.{value_of, is_value_of};
+    ghost use Rattle.sym_machine.specs.Rules.{joined, only_if};
+
+    /// The value of an address: a pointer where an instruction starts there.
+    pub fn value_of(&self, address: u64) -> Value
+        ensures { result ≡ value_of self.now.funcs.now address }
+    {
+        if self.is_code_address(address) {
+            Value::Sym(Symbol::Points(Pointer::Code(address)))
+        } else {
+            Value::Num(address)
+        }
+    }
+
+    /// Whether a value is the value of an address.
+    pub fn is_value_of(&self, address: u64, value: Value) -> bool
+        ensures { result ≡ is_value_of self.now.funcs.now address value }
+    {
+        match value {
+            Value::Num(number) => !self.is_code_address(address) && number == address,
+            Value::Sym(symbol) => self.is_symbol_of(address, symbol),
+            Value::Piece { .. } => false,
+        }
+    }
+
+    fn is_symbol_of(&self, address: u64, symbol: Symbol) -> bool
+        ensures { result ≡ is_value_of self.now.funcs.now address (Value.Sym symbol) }
+    {
+        match symbol {
+            Symbol::Points(Pointer::Code(to)) => self.is_code_address(address) && to == address,
+            Symbol::Points(Pointer::Ret(_)) => false,
+            Symbol::Hi(_) => false,
+            Symbol::Abs(_) => false,
+            Symbol::Diff { .. } => false,
+            Symbol::Apart { .. } => false,
+        }
+    }
+
+    /// What a lower part and its base give together.
+    pub fn joined(&self, part: Role, base: Value) -> Option<Value>
+        ensures { result ≡ joined self.now.funcs.now part base }
+    {
+        match part {
+            Role::Lo { hi, target } => self.joined_distance(hi, target, base),
+            Role::CallLo { hi, target } => self.joined_distance(hi, target, base),
+            Role::AbsLo { target } => joined_address(target, base),
+            Role::Plain => None,
+            Role::CallHi { .. } => None,
+            Role::Hi { .. } => None,
+            Role::AbsHi { .. } => None,
+        }
+    }
+
+    fn joined_distance(&self, hi: u64, target: u64, base: Value) -> Option<Value>
+        ensures { result ≡ only_if (is_hi hi base) (value_of self.now.funcs.now target) }
+    {
+        if is_hi(hi, base) {
+            Some(self.value_of(target))
+        } else {
+            None
+        }
+    }
+}
+
+fn joined_address(target: u64, base: Value) -> Option<Value>
+    ensures { result ≡ (if is_abs target base then Some (Value.Sym (Symbol.Points (Pointer.Code target))) else None) }
+{
+    if is_abs(target, base) {
+        Some(Value::Sym(Symbol::Points(Pointer::Code(target))))
+    } else {
+        None
+    }
+}

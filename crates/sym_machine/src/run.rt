@@ -1,0 +1,62 @@
+// Runs of many steps.
+ghost use Rattle.std.specs.Prelude.{◌≡◌, ◌≤◌, ℕ, List};
+
+use crate::inst_index::RecentPlaces;
+use crate::machine::SymMachine;
+use crate::outcome::{SymRan, SymStepped};
+use rb_io::{Sink, Source};
+use run_core::InputEnd;
+
+impl<'a> SymMachine<'a> {
+    ghost use Rattle.run_core.specs.Inputs.{Outside};
+    ghost use Rattle.run_core.specs.Runs.{RunsSomeInput};
+    ghost use Rattle.sym_machine.specs.SymStep.{SymSteps};
+    ghost use Rattle.sym_machine.specs.State.{state_of, funcs_of, answered};
+
+    /// Does at most `limit` steps. Once a read found the input at its end, it is at its end for the whole run.
+    pub fn run<I: Source, O: Sink>(&mut self, limit: u64, input: &mut I, out: &mut O) -> SymRan
+        ensures answer { RunsSomeInput state_of (SymSteps (funcs_of self.old)) (answered result.end) limit result.steps self.old self.new
+            (record { input = I.seen input.old; output = O.seen out.old })
+            (record { input = I.seen input.new; output = O.seen out.new }) }
+        ensures reads { (I.seen input.old).faults ≤ (I.seen input.new).faults }
+        ensures writes { (O.seen out.old).faults ≤ (O.seen out.new).faults }
+        ensures funcs { funcs_of self.new ≡ funcs_of self.old }
+    {
+        let mut recent = RecentPlaces::new(self.memory.bytes.allocator());
+        let mut input_end = InputEnd::new();
+        let mut steps = 0;
+        while steps < limit {
+            match self.step_on(&mut recent, &mut input_end, input, out) {
+                SymStepped::Going => steps += 1,
+                SymStepped::Ended(status) => {
+                    return SymRan {
+                        end: SymStepped::Ended(status),
+                        steps: steps + 1,
+                    };
+                }
+                SymStepped::Stuck(pc, why) => {
+                    return SymRan {
+                        end: SymStepped::Stuck(pc, why),
+                        steps,
+                    };
+                }
+                SymStepped::ReadFault => return SymRan {
+                    end: SymStepped::ReadFault,
+                    steps,
+                },
+                SymStepped::WriteFault => return SymRan {
+                    end: SymStepped::WriteFault,
+                    steps,
+                },
+                SymStepped::Memory => return SymRan {
+                    end: SymStepped::Memory,
+                    steps,
+                },
+            }
+        }
+        SymRan {
+            end: SymStepped::Going,
+            steps,
+        }
+    }
+}

@@ -1,0 +1,197 @@
+// The bytes at the start that are no numbers: of code cells, of hidden fields and of the entry point.
+ghost use Rattle.std.specs.Prelude.{◌≡◌, ◌≤◌, ◌<◌, ◌+◌, ◌-◌, ◌*◌, ◌^◌, ◌==◌, ◌&&◌, ◌||◌, ℕ, List, Bool, All, Some, None, IfOk, OnOk, map, length, if◌then◌else◌, nat_le, nat_lt, min, Contains, true};
+ghost use Rattle.std.specs.List.{list_any};
+ghost use Rattle.std.specs.Option.{option_or};
+ghost use Rattle.elf_image.specs.memory.LoadedBytes.{is_in_range};
+ghost use Rattle.elf_image.specs.memory.Start.{stack_pointer};
+ghost use Rattle.sym_machine.specs.HiddenFields.{hidden_fields, is_hidden_field, is_hidden_entry, at_phdr, at_phnum, at_entry, auxiliary_value};
+ghost use Rattle.sym_machine.specs.SymStart.{symbol_of, code_cell_byte, entry_byte, hidden_byte};
+ghost use Rattle.sym_machine.specs.internal.Fields.{range_of_field, AreLow};
+
+use crate::hidden::{Field, entry_address, hidden_fields, is_hidden_field};
+use crate::other_bytes::{OtherByte, OtherBytes};
+use crate::value::{Pointer, Symbol};
+use elf_image::segment::PT_LOAD;
+use elf_image::{Elf, Segment};
+use rb_bytes::fault::NoMemory;
+use rv_code::cell::{CellKind, CodeCell};
+use std::alloc::Global;
+
+// What a code cell holds.
+fn symbol_of(kind: CellKind) -> Symbol
+    ensures { result ≡ symbol_of kind }
+{
+    match kind {
+        CellKind::Abs { to } => Symbol::Points(Pointer::Code(to)),
+        CellKind::Diff { to, from } => Symbol::Diff { to, from },
+    }
+}
+
+impl OtherBytes {
+    ghost use Rattle.sym_machine.specs.declared.value.MemoryByte.TheVariants.{Hidden};
+    ghost use Rattle.sym_machine.specs.internal.OtherBytes.{other_byte};
+    ghost use Rattle.sym_machine.specs.internal.Special.{special, symbol_over, hidden_over, covers};
+
+    fn add_byte(&mut self, address: u64, byte: OtherByte) -> Result<(), NoMemory>
+        ensures { OnOk result ((q : ℕ) → other_byte self.new q ≡ (if q == address then Some byte else other_byte self.old q)) }
+    {
+        self.reserve(address)?;
+        self.put(address, byte);
+        Ok(())
+    }
+
+    // Puts all bytes of a symbol, which is kept in `width` bytes, from an address on.
+    fn add_symbol(&mut self, start: u64, width: u8, symbol: Symbol) -> Result<(), NoMemory>
+        requires { start + width ≤ 2 ^ 64 }
+        ensures { OnOk result ((q : ℕ) → special self.new q ≡ symbol_over symbol width (record { start = start; size = width }) self.old q) }
+    {
+        for index in 0..width {
+            let byte = OtherByte::Symbol {
+                symbol,
+                width,
+                index,
+            };
+            self.add_byte(start + index as u64, byte)?;
+        }
+        Ok(())
+    }
+
+    // Hides `size` bytes from an address on.
+    fn hide(&mut self, start: u64, size: u64) -> Result<(), NoMemory>
+        requires { start + size ≤ 2 ^ 64 }
+        ensures { OnOk result ((q : ℕ) → special self.new q ≡ hidden_over (record { start = start; size = size }) self.old q) }
+    {
+        for index in 0..size {
+            self.add_byte(start + index, OtherByte::Hidden)?;
+        }
+        Ok(())
+    }
+
+    // Code cells: of those that share a byte the first counts, so it comes last.
+    fn add_cells(&mut self, cells: &[CodeCell]) -> Result<(), NoMemory>
+        requires none { (q : ℕ) → special self.old q ≡ None }
+        requires low { All (λ cell. cell.addr + cell.width ≤ 2 ^ 64) cells.now }
+        ensures { OnOk result ((q : ℕ) → special self.new q ≡ code_cell_byte cells.now q) }
+    {
+        let mut left = cells.len();
+        while left > 0 {
+            left -= 1;
+            let cell = cells[left];
+            self.add_symbol(cell.addr, cell.width, symbol_of(cell.kind))?;
+        }
+        Ok(())
+    }
+
+    // The hidden bytes that a segment loads.
+    fn hide_in_segment(&mut self, elf: &Elf, fields: &[Field], p: &Segment) -> Result<(), NoMemory>
+        requires low { AreLow elf.now.segments.items }
+        requires one { Contains elf.now.segments.items p.now }
+        ensures { OnOk result ((tight : Bool) → map range_of_field fields.now ≡ hidden_fields elf.now tight →
+            (q : ℕ) → special self.new q ≡ (if covers q p.now && is_hidden_field elf.now tight q then Some Hidden else special self.old q)) }
+    {
+        if p.kind != PT_LOAD {
+            return Ok(());
+        }
+        for index in 0..p.filesz.min(p.memsz) {
+            self.hide_at(elf, fields, p.vaddr + index)?;
+        }
+        Ok(())
+    }
+
+    // Hides the byte at an address, if it is one of a hidden field.
+    fn hide_at(&mut self, elf: &Elf, fields: &[Field], address: u64) -> Result<(), NoMemory>
+        ensures { OnOk result ((tight : Bool) → map range_of_field fields.now ≡ hidden_fields elf.now tight →
+            (q : ℕ) → special self.new q ≡ (if q == address && is_hidden_field elf.now tight q then Some Hidden else special self.old q)) }
+    {
+        if is_hidden_field(elf, fields, address) {
+            self.add_byte(address, OtherByte::Hidden)?;
+        }
+        Ok(())
+    }
+
+    fn hide_fields(&mut self, alloc: Global, elf: &Elf, tight: bool) -> Result<(), NoMemory>
+        requires low { AreLow elf.now.segments.items }
+        ensures { OnOk result ((q : ℕ) → special self.new q ≡ (if is_hidden_field elf.now tight q then Some Hidden else special self.old q)) }
+    {
+        let fields = hidden_fields(alloc, elf, tight)?;
+        self.hide_in_segments(elf, &fields, &elf.segments)
+    }
+
+    fn hide_in_segments(
+        &mut self,
+        elf: &Elf,
+        fields: &[Field],
+        segments: &[Segment],
+    ) -> Result<(), NoMemory>
+        requires low { AreLow elf.now.segments.items }
+        requires all { segments.now ≡ elf.now.segments.items }
+        ensures { OnOk result ((tight : Bool) → map range_of_field fields.now ≡ hidden_fields elf.now tight →
+            (q : ℕ) → special self.new q ≡ (if list_any (covers q) segments.now && is_hidden_field elf.now tight q then Some Hidden else special self.old q)) }
+    {
+        for index in 0..segments.len() {
+            self.hide_in_segment(elf, fields, &segments[index])?;
+        }
+        Ok(())
+    }
+
+    // In a tight file, the words on the stack that speak of the table of program headers.
+    fn hide_entries(&mut self, pointer: u64, count: usize, tight: bool) -> Result<(), NoMemory>
+        requires low { pointer + 8 * (count + 20) ≤ 2 ^ 64 }
+        ensures { OnOk result ((words : List (List ℕ)) → pointer ≡ stack_pointer words → count ≡ length words →
+            (q : ℕ) → special self.new q ≡ (if is_hidden_entry tight words q then Some Hidden else special self.old q)) }
+    {
+        if !tight {
+            return Ok(());
+        }
+        self.hide(auxiliary_value(pointer, count, 2), 8)?;
+        self.hide(auxiliary_value(pointer, count, 0), 8)
+    }
+
+    // The entry point, on the stack and in the file's header.
+    fn add_entry(&mut self, elf: &Elf, pointer: u64, count: usize) -> Result<(), NoMemory>
+        requires low { AreLow elf.now.segments.items }
+        requires stack { pointer + 8 * (count + 20) ≤ 2 ^ 64 }
+        ensures { OnOk result ((words : List (List ℕ)) → pointer ≡ stack_pointer words → count ≡ length words →
+            (q : ℕ) → special self.new q ≡ option_or (entry_byte elf.now words q) (special self.old q)) }
+    {
+        let symbol = Symbol::Points(Pointer::Code(elf.entry));
+        self.add_symbol(auxiliary_value(pointer, count, 4), 8, symbol)?;
+        match entry_address(elf) {
+            Some(address) => self.add_symbol(address, 8, symbol),
+            None => Ok(()),
+        }
+    }
+
+    /// The bytes of a file that starts with `count` words and this stack pointer.
+    pub(crate) fn start(
+        alloc: Global,
+        elf: &Elf,
+        cells: &[CodeCell],
+        pointer: u64,
+        count: usize,
+        tight: bool,
+    ) -> Result<OtherBytes, NoMemory>
+        requires low { AreLow elf.now.segments.items }
+        requires cells { All (λ cell. cell.addr + cell.width ≤ 2 ^ 64) cells.now }
+        requires stack { pointer + 8 * (count + 20) ≤ 2 ^ 64 }
+        ensures { IfOk result (λ others. (words : List (List ℕ)) → pointer ≡ stack_pointer words → count ≡ length words →
+            (q : ℕ) → special others q ≡ option_or (entry_byte elf.now words q) (option_or (hidden_byte elf.now tight words q) (code_cell_byte cells.now q))) }
+    {
+        let mut others = OtherBytes::new(alloc)?;
+        others.add_cells(cells)?;
+        others.hide_fields(alloc, elf, tight)?;
+        others.hide_entries(pointer, count, tight)?;
+        others.add_entry(elf, pointer, count)?;
+        Ok(others)
+    }
+}
+
+// The address of the `n`-th value of the auxiliary vector.
+fn auxiliary_value(pointer: u64, count: usize, n: u64) -> u64
+    requires low { pointer + 8 * (count + 20) ≤ 2 ^ 64 }
+    requires few { n ≤ 4 }
+    ensures is { (words : List (List ℕ)) → pointer ≡ stack_pointer words → count ≡ length words → (auxiliary_value words n) ≡ record { start = result; size = 8 } }
+    ensures low { result + 8 ≤ 2 ^ 64 }
+{
+    pointer + 8 * (count as u64 + 5 + 2 * n)
+}

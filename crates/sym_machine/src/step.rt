@@ -1,0 +1,87 @@
+// One step.
+ghost use Rattle.std.specs.Prelude.{◌≡◌, ◌≤◌, ℕ, List, Bool, false};
+
+use crate::inst_index::RecentPlaces;
+use crate::machine::SymMachine;
+use crate::outcome::{Reason, SymStepped};
+use rb_io::{Sink, Source};
+use run_core::InputEnd;
+use rv_code::{Action, Role};
+
+impl<'a> SymMachine<'a> {
+    ghost use Rattle.std.specs.Prelude.{◌≢◌};
+    ghost use Rattle.rv_code.specs.isa.Action.{action_of};
+    ghost use Rattle.rv_code.specs.declared.inst.Inst.{Inst};
+    ghost use Rattle.run_core.specs.Inputs.{Outside};
+    ghost use Rattle.sym_machine.specs.SymStep.{SymSteps, effect};
+    ghost use Rattle.sym_machine.specs.State.{state_of, funcs_of, Becomes, StepAnswers};
+
+    /// Does the instruction at the pc. Input comes from `input`, and output goes to `out`.
+    ///
+    /// After `Memory`, `Stuck` and `Ended` the machine is as it was; after the two faults nothing is said of it.
+    pub fn step<I: Source, O: Sink>(&mut self, input: &mut I, out: &mut O) -> SymStepped
+        ensures answer { (ends : Bool) × StepAnswers (SymSteps (funcs_of self.old)) result self.old self.new false ends
+            (record { input = I.seen input.old; output = O.seen out.old })
+            (record { input = I.seen input.new; output = O.seen out.new }) }
+        ensures reads { (I.seen input.old).faults ≤ (I.seen input.new).faults }
+        ensures writes { (O.seen out.old).faults ≤ (O.seen out.new).faults }
+        ensures funcs { funcs_of self.new ≡ funcs_of self.old }
+    {
+        let mut recent = RecentPlaces::none(self.memory.bytes.allocator());
+        let mut input_end = InputEnd::new();
+        self.step_on(&mut recent, &mut input_end, input, out)
+    }
+
+    // The same, with the places of instructions that ran, where the input may have been found at its end.
+    pub(crate) fn step_on<I: Source, O: Sink>(
+        &mut self,
+        recent: &mut RecentPlaces,
+        input_end: &mut InputEnd,
+        input: &mut I,
+        out: &mut O,
+    ) -> SymStepped
+        ensures answer { StepAnswers (SymSteps (funcs_of self.old)) result self.old self.new input_end.old.reached input_end.new.reached
+            (record { input = I.seen input.old; output = O.seen out.old })
+            (record { input = I.seen input.new; output = O.seen out.new }) }
+        ensures reads { (I.seen input.old).faults ≤ (I.seen input.new).faults }
+        ensures writes { (O.seen out.old).faults ≤ (O.seen out.new).faults }
+        ensures funcs { funcs_of self.new ≡ funcs_of self.old }
+    {
+        let Some(inst) = self.code.fetch(recent, self.pc) else {
+            return self.stuck(Reason::FellOff);
+        };
+        let next = self.pc.wrapping_add(inst.len as u64);
+        let action = inst.inst.action();
+        if action == Action::SystemCall {
+            self.system_call(next, input_end, input, out)
+        } else {
+            self.execute(inst.role, action, next)
+        }
+    }
+
+    // Does an instruction with a role after which the next one stands at `next`.
+    fn execute(&mut self, part: Role, action: Action, next: u64) -> SymStepped
+        requires no_call { action ≢ Action.SystemCall }
+        requires action { (i : Inst) × (action ≡ action_of i) }
+        ensures answer { (input : List ℕ) → Becomes (effect (funcs_of self.old) part action next (state_of self.old input)) result self.old self.new input }
+        ensures code { self.new.code ≡ self.old.code }
+    {
+        match action {
+            Action::Store {
+                bytes,
+                rs1,
+                rs2,
+                imm,
+            } => {
+                let base = self.register(rs1);
+                let value = self.register(rs2);
+                self.store(part, bytes, base, imm.cast_unsigned(), value, next)
+            }
+            Action::SystemCall => unreachable!(),
+            _ => {
+                let change = self.change(part, action, next);
+                self.apply(change)
+            }
+        }
+    }
+}

@@ -1,0 +1,97 @@
+// Symbols that are the same, and numbers among values.
+ghost use Rattle.std.specs.Prelude.{◌≡◌};
+ghost use Rattle.sym_machine.specs.Values.{same_pointer, same_comparing, same_symbol, number};
+
+use crate::value::{Comparing, Pointer, Symbol, Value};
+
+/// Whether two pointers are the same.
+pub fn same_pointer(left: Pointer, right: Pointer) -> bool
+    ensures { result ≡ same_pointer left right }
+{
+    match left {
+        Pointer::Code(a) => match right {
+            Pointer::Code(b) => a == b,
+            Pointer::Ret(_) => false,
+        },
+        Pointer::Ret(a) => match right {
+            Pointer::Code(_) => false,
+            Pointer::Ret(b) => a == b,
+        },
+    }
+}
+
+fn same_comparing(left: Comparing, right: Comparing) -> bool
+    ensures { result ≡ same_comparing left right }
+{
+    match left {
+        Comparing::Sub => match right {
+            Comparing::Sub => true,
+            Comparing::Xor => false,
+        },
+        Comparing::Xor => match right {
+            Comparing::Sub => false,
+            Comparing::Xor => true,
+        },
+    }
+}
+
+/// Whether two symbols are the same.
+pub fn same_symbol(left: Symbol, right: Symbol) -> bool
+    ensures { result ≡ same_symbol left right }
+{
+    match left {
+        Symbol::Points(p) => match right {
+            Symbol::Points(q) => same_pointer(p, q),
+            _ => false,
+        },
+        Symbol::Hi(a) => match right {
+            Symbol::Hi(b) => a == b,
+            _ => false,
+        },
+        Symbol::Abs(a) => match right {
+            Symbol::Abs(b) => a == b,
+            _ => false,
+        },
+        Symbol::Diff { to, from } => match right {
+            Symbol::Diff {
+                to: other_to,
+                from: other_from,
+            } => to == other_to && from == other_from,
+            _ => false,
+        },
+        Symbol::Apart {
+            by,
+            left,
+            right: other,
+        } => is_apart(by, left, other, right),
+    }
+}
+
+// Whether a symbol is what comparing these two pointers gave.
+fn is_apart(by: Comparing, left: Pointer, right: Pointer, symbol: Symbol) -> bool
+    ensures { result ≡ same_symbol (Symbol.Apart by left right) symbol }
+{
+    match symbol {
+        Symbol::Apart {
+            by: other_by,
+            left: other_left,
+            right: other_right,
+        } => {
+            same_comparing(by, other_by)
+                && same_pointer(left, other_left)
+                && same_pointer(right, other_right)
+        }
+        _ => false,
+    }
+}
+
+/// The number that a value is, if it is one.
+pub fn number(value: Value) -> Option<u64>
+    ensures { result ≡ number value }
+{
+    match value {
+        Value::Num(number) => Some(number),
+        Value::Sym(_) => None,
+        Value::Piece { .. } => None,
+    }
+}
