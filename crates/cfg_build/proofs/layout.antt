@@ -1,0 +1,4 @@
+pub mod AcceptedCode
+pub mod BlockPartition
+pub mod FunctionInsts
+pub mod InstAddresses

@@ -1,0 +1,20 @@
+use Rattle.std.proofs.Common.{◌≡◌, subst, List, Some, arith}
+use Rattle.std.specs.Prelude.{Any}
+use Rattle.rv_code.specs.declared.placed.Placed.{Placed}
+use Rattle.rv_code.specs.layout.Flow.{target_of}
+use Rattle.func_find.specs.Referred.{Gains}
+use Rattle.func_find.proofs.Gains.{gains_next, gains_all}
+use Rattle.cfg_build.proofs.named.push_targets.Goals as goal
+
+pub loop-func-preserved : goal.loop-func-preserved
+loop-func-preserved c =
+    gains_next (λ f a. Any (λ p. target_of p ≡ Some a) f.insts.items) c.args.funcs.now c.loop-func.func-index c.func-item.result
+    c.func-item.result _ _ _ c.loop-func-test.true c.func-item.is
+    (subst (λ (ps : List Placed). Gains c.loop-func.addresses.items c.push_targets_of.new.addresses.items (λ a. Any
+    (λ p. target_of p ≡ Some a) ps)) c.deref.ensures.value c.in_ok-push_targets_of.ensures)
+    c.loop-func.invariant
+
+pub returns : goal.returns
+returns c =
+    gains_all (λ f a. Any (λ p. target_of p ≡ Some a) f.insts.items) c.args.funcs.now c.loop-func.func-index _ _ (omega arith)
+    c.loop-func.invariant

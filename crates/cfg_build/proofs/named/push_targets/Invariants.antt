@@ -1,0 +1,11 @@
+use Rattle.std.proofs.Common.{◌≡◌, Some, take}
+use Rattle.std.specs.Prelude.{Any}
+use Rattle.rv_code.specs.layout.Flow.{target_of}
+use Rattle.func_find.specs.Referred.{Gains}
+use Rattle.func_find.proofs.Gains.{Given}
+use Rattle.cfg_build.proofs.named.push_targets.Given as goal
+
+abbrev pub invariant-loop-func : goal.invariant-loop-func
+invariant-loop-func l =
+    Gains l.initial.addresses.items l.addresses.items
+    (Given (λ f a. Any (λ p. target_of p ≡ Some a) f.insts.items) (take l.func-index l.funcs))

@@ -1,0 +1,149 @@
+// The edges between blocks.
+ghost use Rattle.std.specs.Prelude.{◌≡◌, ◌+◌, ◌<◌, ◌≤◌, ◌⊎◌, ◌↔◌, ℕ, List, All, Any, AllPairs, Contains, IfOk, IfSome, OnOk, Some, map, length, slice_get};
+ghost use Rattle.rv_code.specs.declared.cell.CodeCell.{CodeCell};
+ghost use Rattle.rv_code.specs.layout.Edges.{AreEdges, AreTablePairs};
+ghost use Rattle.rv_code.specs.layout.FunctionLists.{AreLaidOut, IsLaidOut, code_limit};
+ghost use Rattle.rv_code.specs.layout.Lists.{IsPairBefore, ListsPairs};
+ghost use Rattle.func_find.specs.Referred.{Gains};
+ghost use Rattle.cfg_build.specs.EdgeLists.{AreStretches, IsNextOf, IsStretch, LeadsFrom, start_of, IsBlockAt};
+
+use crate::ends::{fall_target, jump_target};
+use elf_image::function_bounds::make_ascending;
+use func_find::referred::push_some;
+use rb_bytes::fault::NoMemory;
+use rv_code::{Block, Func};
+use std::alloc::{AllocError, Global};
+
+/// The edges between blocks of functions, as places in the list of blocks, by source and by target. `targets` are the pairs
+/// of an indirect jump and an address to which a table leads it, in order.
+pub fn edges(
+    alloc: Global,
+    funcs: &[Func],
+    blocks: &[Block],
+    targets: &[(u64, u64)],
+) -> Result<Vec<(usize, usize)>, NoMemory>
+    requires funcs { AreLaidOut funcs.now }
+    requires blocks { AreStretches funcs.now blocks.now }
+    requires targets { AllPairs IsPairBefore targets.now }
+    ensures { IfOk result (λ edges. (cells : List CodeCell) → AreTablePairs funcs.now cells targets.now →
+        AreEdges funcs.now cells blocks.now edges.items) }
+{
+    let starts = block_starts(alloc, funcs, blocks)?;
+    let mut edges = Vec::new(alloc);
+    let mut leads = Vec::new(alloc);
+    for (source, block) in blocks.iter().enumerate() {
+        leads.clear();
+        push_leads(&mut leads, &funcs[block.func], block.last, targets)?;
+        make_ascending(&mut leads);
+        push_edges(&mut edges, blocks, &starts, source, block.func, &leads)?;
+    }
+    Ok(edges)
+}
+
+// The addresses at which blocks begin.
+fn block_starts(alloc: Global, funcs: &[Func], blocks: &[Block]) -> Result<Vec<u64>, AllocError>
+    requires { All (IsStretch funcs.now) blocks.now }
+    ensures { IfOk result (λ starts. starts.items ≡ map (start_of funcs.now) blocks.now) }
+{
+    let mut starts = Vec::new(alloc);
+    for block in blocks {
+        starts.push(start_of(funcs, block))?;
+    }
+    Ok(starts)
+}
+
+fn start_of(funcs: &[Func], block: &Block) -> u64
+    requires { IsStretch funcs.now block.now }
+    ensures { result ≡ start_of funcs.now block.now }
+{
+    funcs[block.func].insts[block.first].addr
+}
+
+// Appends the addresses to which the i-th instruction of a function leads control, if a block ends with it.
+fn push_leads(
+    leads: &mut Vec<u64>,
+    func: &Func,
+    i: usize,
+    targets: &[(u64, u64)],
+) -> Result<(), NoMemory>
+    requires inside { i < length func.now.insts.items }
+    requires laid_out { IsLaidOut func.now }
+    requires low { func.now.end ≤ code_limit }
+    requires targets { AllPairs IsPairBefore targets.now }
+    ensures { OnOk result (Gains leads.old.items leads.new.items (LeadsFrom targets.now func.now i)) }
+{
+    let inst = func.insts[i];
+    push_some(leads, jump_target(&inst))?;
+    push_some(leads, fall_target(&inst, i + 1 == func.insts.len()))?;
+    push_table(leads, targets, inst.addr)?;
+    Ok(())
+}
+
+// Appends the addresses to which a table leads a jump.
+fn push_table(leads: &mut Vec<u64>, targets: &[(u64, u64)], jump: u64) -> Result<(), NoMemory>
+    requires { AllPairs IsPairBefore targets.now }
+    ensures { OnOk result (Gains leads.old.items leads.new.items (λ a. Contains targets.now (jump, a))) }
+{
+    for pair in pairs_of(targets, jump) {
+        leads.push(pair.1)?;
+    }
+    Ok(())
+}
+
+// The pairs of a jump.
+fn pairs_of<'a>(targets: &'a [(u64, u64)], jump: u64) -> &'a [(u64, u64)]
+    requires { AllPairs IsPairBefore targets.now }
+    ensures { (e : ℕ × ℕ) → Contains result.now e ↔ (Contains targets.now e × (e.0 ≡ jump)) }
+{
+    let (upto, _) = targets.split_at(targets.partition_point(|e| e.0 <= jump));
+    let (_, pairs) = upto.split_at(upto.partition_point(|e| e.0 < jump));
+    pairs
+}
+
+// Appends the edges from a block of a function to those of its blocks that begin at these addresses.
+fn push_edges(
+    edges: &mut Vec<(usize, usize)>,
+    blocks: &[Block],
+    starts: &[u64],
+    source: usize,
+    func: usize,
+    leads: &[u64],
+) -> Result<(), NoMemory>
+    requires starts { AllPairs (λ a b. a < b) starts.now }
+    requires all { length starts.now ≡ length blocks.now }
+    requires leads { AllPairs (λ a b. a < b) leads.now }
+    requires ordered { AllPairs IsPairBefore edges.old.items }
+    requires before { All (λ e. e.0 < source) edges.old.items }
+    ensures { OnOk result (ListsPairs (λ e. Contains edges.old.items e ⊎ IsNextOf blocks.now starts.now source func leads.now e)
+        edges.new.items) }
+{
+    for lead in leads {
+        match block_at(blocks, starts, func, *lead) {
+            Some(target) => edges.push((source, target))?,
+            None => {}
+        }
+    }
+    Ok(())
+}
+
+// The block of a function that begins at an address.
+fn block_at(blocks: &[Block], starts: &[u64], func: usize, address: u64) -> Option<usize>
+    requires starts { AllPairs (λ a b. a < b) starts.now }
+    requires all { length starts.now ≡ length blocks.now }
+    ensures { (t : ℕ) → (result ≡ Some t) ↔ IsBlockAt blocks.now starts.now func address t }
+{
+    let place = index_of(starts, address)?;
+    if blocks[place].func != func {
+        return None;
+    }
+    Some(place)
+}
+
+// The place of a number in a list that goes up.
+fn index_of(numbers: &[u64], number: u64) -> Option<usize>
+    requires { AllPairs (λ a b. a < b) numbers.now }
+    ensures inside { IfSome result (λ k. k < length numbers.now) }
+    ensures is { (k : ℕ) → (result ≡ Some k) ↔ (slice_get numbers.now k ≡ Some number) }
+{
+    numbers.binary_search(&number).ok()
+}

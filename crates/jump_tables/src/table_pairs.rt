@@ -1,0 +1,99 @@
+// The pairs of an indirect jump and an address to which a table can lead it.
+ghost use Rattle.std.specs.Prelude.{◌≡◌, ◌<◌, ◌↔◌, ℕ, AllPairs, Any, Contains, IfOk, OnOk, IsTrue};
+ghost use Rattle.rv_code.specs.layout.Edges.{AreTablePairs, IsTableJump};
+ghost use Rattle.rv_code.specs.layout.Lists.{IsPairBefore};
+ghost use Rattle.func_find.specs.Referred.{Gains};
+ghost use Rattle.jump_tables.specs.TablePairs.{IsPairOf};
+
+use crate::labels::{labels, named_addresses};
+use rb_bytes::fault::NoMemory;
+use rv_code::{Action, CodeCell, Func, Placed, RETURN_ADDRESS, Role, ZERO};
+use std::alloc::Global;
+
+/// The pairs of an indirect jump through a table and an address of its function that a cell names, by jump and by address.
+pub fn tables(
+    alloc: Global,
+    funcs: &[Func],
+    cells: &[CodeCell],
+) -> Result<Vec<(u64, u64)>, NoMemory>
+    ensures { IfOk result (λ pairs. AreTablePairs funcs.now cells.now pairs.items) }
+{
+    let named = named_addresses(alloc, cells)?;
+    let mut pairs = Vec::new(alloc);
+    for func in funcs {
+        push_pairs(alloc, &mut pairs, &func.insts, &named)?;
+    }
+    make_ordered(&mut pairs);
+    Ok(pairs)
+}
+
+// Appends the pairs of a function with these instructions.
+fn push_pairs(
+    alloc: Global,
+    pairs: &mut Vec<(u64, u64)>,
+    insts: &[Placed],
+    named: &[u64],
+) -> Result<(), NoMemory>
+    requires { AllPairs (λ a b. a < b) named.now }
+    ensures { OnOk result (Gains pairs.old.items pairs.new.items (IsPairOf insts.now named.now)) }
+{
+    if !has_table_jump(insts) {
+        return Ok(());
+    }
+    let labels = labels(alloc, insts, named)?;
+    for inst in insts {
+        if !is_table_jump(inst) {
+            continue;
+        }
+        push_row(pairs, inst.addr, &labels)?;
+    }
+    Ok(())
+}
+
+// Appends the pairs of a jump and each of these addresses.
+fn push_row(pairs: &mut Vec<(u64, u64)>, jump: u64, labels: &[u64]) -> Result<(), NoMemory>
+    ensures { OnOk result (Gains pairs.old.items pairs.new.items (λ e. (e.0 ≡ jump) × Contains labels.now e.1)) }
+{
+    for label in labels {
+        pairs.push((jump, *label))?;
+    }
+    Ok(())
+}
+
+fn has_table_jump(insts: &[Placed]) -> bool
+    ensures { IsTrue result ↔ Any IsTableJump insts.now }
+{
+    insts.iter().any(|inst| is_table_jump(inst))
+}
+
+/// Whether an instruction is an indirect jump through a table: a JALR that saves nothing, holds no part of an address and
+/// isn't a return.
+pub fn is_table_jump(inst: &Placed) -> bool
+    ensures { IsTrue result ↔ IsTableJump inst.now }
+{
+    if inst.role != Role::Plain {
+        return false;
+    }
+    match inst.inst.action() {
+        Action::JumpTo { rd, rs1, .. } => rd == ZERO && rs1 != RETURN_ADDRESS,
+        Action::Branch { .. }
+        | Action::Jump { .. }
+        | Action::Compute { .. }
+        | Action::Upper { .. }
+        | Action::UpperPc { .. }
+        | Action::Load { .. }
+        | Action::Store { .. }
+        | Action::Fence
+        | Action::SystemCall
+        | Action::Breakpoint => false,
+    }
+}
+
+// Sorts pairs, and keeps each once.
+fn make_ordered(pairs: &mut Vec<(u64, u64)>)
+    ensures ordered { AllPairs IsPairBefore pairs.new.items }
+    ensures same { (e : ℕ × ℕ) → Contains pairs.new.items e ↔ Contains pairs.old.items e }
+{
+    pairs.sort_unstable();
+    pairs.dedup();
+}
