@@ -1,0 +1,16 @@
+-- What a profile that was read holds.
+use Rattle.std.specs.Prelude.{ℕ, List}
+use Rattle.edge_profile.specs.Counts.{Counted, count_among}
+use Rattle.edge_profile.specs.declared.profile.Profile.{Profile}
+
+-- the pairs of positive count, with their counts, in order
+abbrev pub pairs_of : Profile → List Counted
+pairs_of profile = profile.pairs.items
+
+-- the count of each pair
+abbrev pub counts_of : Profile → ℕ → ℕ → ℕ
+counts_of profile from to = count_among from to (pairs_of profile)
+
+-- how many lines said nothing
+abbrev pub ignored_of : Profile → ℕ
+ignored_of profile = profile.ignored

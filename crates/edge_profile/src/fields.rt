@@ -1,0 +1,112 @@
+// A line of a profile: its fields, and what they say.
+ghost use Rattle.std.specs.Prelude.{◌≡◌, ◌≢◌, ◌∷◌, [], IfSome, IfNone, length, option_map, bytes_eq};
+ghost use Rattle.edge_profile.specs.Grammar.{fields, branch_line};
+ghost use Rattle.edge_profile.specs.Fields.{line_read, place_read};
+ghost use Rattle.edge_profile.specs.Fields.{fields_in, list_of_eight, named_place_of};
+
+use crate::number::{decimal_number, hex_number};
+use crate::split::split_once;
+
+/// So many bytes after the start of a function with a name.
+#[derive(Clone, Copy)]
+pub struct Place<'a> {
+    pub name: &'a [u8],
+    pub offset: u64,
+}
+
+/// From one place control went to another, so many times.
+#[derive(Clone, Copy)]
+pub struct Line<'a> {
+    pub from: Place<'a>,
+    pub to: Place<'a>,
+    pub count: u64,
+}
+
+// The eight fields of a line, in order.
+#[derive(Clone, Copy)]
+pub struct EightFields<'a> {
+    pub one: &'a [u8],
+    pub from: &'a [u8],
+    pub from_offset: &'a [u8],
+    pub other: &'a [u8],
+    pub to: &'a [u8],
+    pub to_offset: &'a [u8],
+    pub mispredictions: &'a [u8],
+    pub count: &'a [u8],
+}
+
+// Takes the next field of what is left of a line; nothing is left after the last.
+fn next_field<'a>(left: &mut Option<&'a [u8]>) -> Option<&'a [u8]>
+    ensures some { IfSome result (λ field. fields_in left.old ≡ field.now ∷ fields_in left.new) }
+    ensures none { IfNone result (fields_in left.old ≡ []) }
+{
+    let line = match *left {
+        Some(line) => line,
+        None => return None,
+    };
+    match split_once(line, b' ') {
+        Some((field, rest)) => {
+            *left = Some(rest);
+            Some(field)
+        }
+        None => {
+            *left = None;
+            Some(line)
+        }
+    }
+}
+
+// The fields of a line that has eight.
+fn eight_fields(line: &[u8]) -> Option<EightFields<'_>>
+    ensures some { IfSome result (λ f. fields line.now ≡ list_of_eight f) }
+    ensures none { IfNone result (length (fields line.now) ≢ 8) }
+{
+    let mut left = Some(line);
+    let eight = EightFields {
+        one: next_field(&mut left)?,
+        from: next_field(&mut left)?,
+        from_offset: next_field(&mut left)?,
+        other: next_field(&mut left)?,
+        to: next_field(&mut left)?,
+        to_offset: next_field(&mut left)?,
+        mispredictions: next_field(&mut left)?,
+        count: next_field(&mut left)?,
+    };
+    match next_field(&mut left) {
+        Some(_) => None,
+        None => Some(eight),
+    }
+}
+
+/// What a line says, if it has the form of one.
+pub fn branch_line(line: &[u8]) -> Option<Line<'_>>
+    ensures { option_map line_read result ≡ branch_line (fields line.now) }
+{
+    let fields = eight_fields(line)?;
+    if !is_one(fields.one) {
+        return None;
+    }
+    if !is_one(fields.other) {
+        return None;
+    }
+    if decimal_number(fields.mispredictions).is_none() {
+        return None;
+    }
+    let from = place_at(fields.from, fields.from_offset)?;
+    let to = place_at(fields.to, fields.to_offset)?;
+    let count = decimal_number(fields.count)?;
+    Some(Line { from, to, count })
+}
+
+fn is_one(field: &[u8]) -> bool
+    ensures { result ≡ bytes_eq field.now (49 ∷ []) }
+{
+    field == b"1".as_slice()
+}
+
+fn place_at<'a>(name: &'a [u8], offset: &[u8]) -> Option<Place<'a>>
+    ensures { option_map place_read result ≡ named_place_of name.now offset.now }
+{
+    let offset = hex_number(offset)?;
+    Some(Place { name, offset })
+}

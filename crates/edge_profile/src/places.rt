@@ -1,0 +1,95 @@
+// Where instructions stand among functions.
+ghost use Rattle.std.specs.Prelude.{◌≡◌, ◌==◌, ◌<◌, ◌≤◌, ◌-◌, ℕ, false, IfSome, IfNone, AllPairs, length, slice_index_or};
+ghost use Rattle.std.specs.List.{list_any};
+ghost use Rattle.rv_code.specs.layout.FunctionLists.{AreLaidOut};
+ghost use Rattle.rv_code.specs.layout.ProgramCode.{is_code_address};
+ghost use Rattle.rv_code.specs.declared.placed.Func.{Func};
+ghost use Rattle.rv_code.specs.declared.placed.Placed.{Placed};
+ghost use Rattle.edge_profile.specs.Places.{IsPlaceOf};
+ghost use Rattle.edge_profile.specs.Weights.{starts_at};
+
+use rv_code::{Func, Placed};
+
+/// An instruction's place: its function's place in the list of functions, and its own in that one's instructions.
+#[derive(Clone, Copy, PartialEq, Eq, Debug)]
+pub struct InstPlace {
+    pub func: usize,
+    pub inst: usize,
+}
+
+/// The place of the instruction that starts at an address.
+pub fn place_of(funcs: &[Func], address: u64) -> Option<InstPlace>
+    requires { AreLaidOut funcs.now }
+    ensures some { IfSome result (λ p. IsPlaceOf funcs.now address p.func p.inst) }
+    ensures none { IfNone result (is_code_address funcs.now address ≡ false) }
+{
+    let below = count_up_to(funcs, address);
+    if below == 0 {
+        return None;
+    }
+    let func = below - 1;
+    match inst_at(&funcs[func].insts, address) {
+        Some(inst) => Some(InstPlace { func, inst }),
+        None => None,
+    }
+}
+
+/// Whether an instruction starts at an address.
+pub fn starts_instruction(funcs: &[Func], address: u64) -> bool
+    requires { AreLaidOut funcs.now }
+    ensures { result ≡ is_code_address funcs.now address }
+{
+    match place_of(funcs, address) {
+        Some(_place) => true,
+        None => false,
+    }
+}
+
+/// Whether a function starts at an address.
+pub fn starts_function(funcs: &[Func], address: u64) -> bool
+    requires { AreLaidOut funcs.now }
+    ensures { result ≡ list_any (λ f. f.start == address) funcs.now }
+{
+    let below = count_up_to(funcs, address);
+    if below == 0 {
+        return false;
+    }
+    funcs[below - 1].start == address
+}
+
+// How many functions start at an address or below it.
+fn count_up_to(funcs: &[Func], address: u64) -> usize
+    requires { AreLaidOut funcs.now }
+    ensures bound { result ≤ length funcs.now }
+    ensures below { (k : ℕ) (d : Func) → k < result → (slice_index_or funcs.now k d).start ≤ address }
+    ensures above { (k : ℕ) (d : Func) → result ≤ k → k < length funcs.now → address < (slice_index_or funcs.now k d).start }
+{
+    funcs.partition_point(|f| f.start <= address)
+}
+
+// The place of the instruction that starts at an address.
+fn inst_at(insts: &[Placed], address: u64) -> Option<usize>
+    requires { AllPairs (λ p q. p.addr < q.addr) insts.now }
+    ensures within { IfSome result (λ i. i < length insts.now) }
+    ensures starts { IfSome result (λ i. (d : Placed) → (slice_index_or insts.now i d).addr ≡ address) }
+    ensures none { IfNone result (starts_at insts.now address ≡ false) }
+{
+    let below = count_below(insts, address);
+    if below == insts.len() {
+        return None;
+    }
+    if insts[below].addr != address {
+        return None;
+    }
+    Some(below)
+}
+
+// How many instructions start below an address.
+fn count_below(insts: &[Placed], address: u64) -> usize
+    requires { AllPairs (λ p q. p.addr < q.addr) insts.now }
+    ensures bound { result ≤ length insts.now }
+    ensures below { (k : ℕ) (d : Placed) → k < result → (slice_index_or insts.now k d).addr < address }
+    ensures above { (k : ℕ) (d : Placed) → result ≤ k → k < length insts.now → address ≤ (slice_index_or insts.now k d).addr }
+{
+    insts.partition_point(|p| p.addr < address)
+}

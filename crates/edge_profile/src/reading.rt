@@ -1,0 +1,73 @@
+// Reading a profile's text.
+ghost use Rattle.std.specs.Prelude.{◌≡◌, ◌+◌, ◌<◌, ◌≤◌, ◌^◌, ℕ, List, IfOk, length, option_map};
+ghost use Rattle.elf_image.specs.declared.elf.Symbol.{Symbol};
+ghost use Rattle.rv_code.specs.layout.FunctionLists.{AreLaidOut};
+ghost use Rattle.edge_profile.specs.Counts.{counted_by, counted_in, count_in, ignored_in};
+ghost use Rattle.edge_profile.specs.FunctionNames.{AreNamesOf};
+ghost use Rattle.edge_profile.specs.Reading.{SaysAll};
+ghost use Rattle.edge_profile.specs.Profile.{counts_of, ignored_of};
+
+use crate::fields::branch_line;
+use crate::function_names::{FunctionNames, address_at};
+use crate::lines::Lines;
+use crate::pairs::merged;
+use crate::profile::Profile;
+use elf_image::Elf;
+use rb_bytes::fault::NoMemory;
+use rv_code::Func;
+use std::alloc::Global;
+
+// What the lines of a text say, and how many say nothing.
+#[derive(Drop)]
+pub struct Said {
+    pub counted: Vec<(u64, u64, u64)>,
+    pub ignored: u64,
+}
+
+/// Reads a profile of a file with these functions.
+pub fn read(alloc: Global, text: &[u8], elf: &Elf, funcs: &[Func]) -> Result<Profile, NoMemory>
+    requires text { length text.now ≤ 67108864 }
+    requires funcs { AreLaidOut funcs.now }
+    ensures counts { IfOk result (λ profile. (from to : ℕ) → counts_of profile from to ≡ count_in text.now elf.now funcs.now from to) }
+    ensures ignored { IfOk result (λ profile. ignored_of profile ≡ ignored_in text.now elf.now funcs.now) }
+{
+    let names = FunctionNames::new(alloc, &elf.symbols)?;
+    let said = said_in(alloc, text, &names, funcs)?;
+    let Said { counted, ignored } = said;
+    let pairs = merged(alloc, counted)?;
+    Ok(Profile { pairs, ignored })
+}
+
+// What the lines of a text say.
+fn said_in(
+    alloc: Global,
+    text: &[u8],
+    names: &FunctionNames,
+    funcs: &[Func],
+) -> Result<Said, NoMemory>
+    requires text { length text.now ≤ 67108864 }
+    requires funcs { AreLaidOut funcs.now }
+    ensures all { IfOk result (λ said. (symbols : List Symbol) → AreNamesOf symbols names.now → SaysAll symbols funcs.now text.now said) }
+    ensures few { IfOk result (λ said. length said.counted.items ≤ length text.now) }
+{
+    let mut counted = Vec::new(alloc);
+    let mut ignored = 0;
+    for line in (Lines { left: text }) {
+        match counted_by(names, funcs, line) {
+            Some(pair) => counted.push(pair)?,
+            None => ignored += 1,
+        }
+    }
+    Ok(Said { counted, ignored })
+}
+
+// The pair and the count of a line.
+fn counted_by(names: &FunctionNames, funcs: &[Func], line: &[u8]) -> Option<(u64, u64, u64)>
+    requires { AreLaidOut funcs.now }
+    ensures { (symbols : List Symbol) → AreNamesOf symbols names.now → result ≡ counted_by symbols funcs.now line.now }
+{
+    let line = branch_line(line)?;
+    let from = address_at(names, funcs, &line.from)?;
+    let to = address_at(names, funcs, &line.to)?;
+    Some((from, to, line.count))
+}

@@ -1,0 +1,19 @@
+// Text cut at a byte.
+ghost use Rattle.std.specs.Prelude.{◌≡◌, ◌==◌, ◌++◌, ◌∷◌, false, All, IfSome, IfNone};
+
+use memchr::memchr;
+
+/// What stands before the first of these bytes, and what after it.
+pub fn split_once(text: &[u8], byte: u8) -> Option<(&[u8], &[u8])>
+    ensures parts { IfSome result (λ p. text.now ≡ p.0.now ++ byte ∷ p.1.now) }
+    ensures first { IfSome result (λ p. All (λ c. (c == byte) ≡ false) p.0.now) }
+    ensures none { IfNone result (All (λ c. (c == byte) ≡ false) text.now) }
+{
+    match memchr(byte, text) {
+        Some(end) => {
+            let (before, rest) = text.split_at(end);
+            Some((before, &rest[1..]))
+        }
+        None => None,
+    }
+}

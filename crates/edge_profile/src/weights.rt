@@ -1,0 +1,134 @@
+// How often blocks run.
+ghost use Rattle.std.specs.Prelude.{◌≡◌, ◌+◌, ◌*◌, ◌<◌, ◌≤◌, ◌^◌, ◌&&◌, ◌||◌, ℕ, IfOk, IfSome, Some, true, false, if◌then◌else◌, length, map, not, slice_index, slice_index_or, sum};
+ghost use Rattle.rv_code.specs.declared.placed.Block.{Block};
+ghost use Rattle.rv_code.specs.layout.FunctionLists.{AreLaidOut};
+ghost use Rattle.edge_profile.specs.BlockPlaces.{AreApart, IsHolder, begins_by, ends_from, has_inst, is_at, raised_at};
+ghost use Rattle.edge_profile.specs.Profile.{pairs_of};
+ghost use Rattle.edge_profile.specs.Weights.{block_weight, insts_of_block, touches};
+
+use crate::places::{InstPlace, place_of};
+use crate::profile::Profile;
+use rb_bytes::fault::NoMemory;
+use rv_code::{Block, Func};
+use std::alloc::Global;
+
+/// The weight of each block: the sum of the counts of all pairs of which an end is one of its instructions.
+pub fn block_weights(
+    alloc: Global,
+    funcs: &[Func],
+    blocks: &[Block],
+    profile: &Profile,
+) -> Result<Vec<u128>, NoMemory>
+    requires funcs { AreLaidOut funcs.now }
+    requires blocks { AreApart blocks.now }
+    ensures weights { IfOk result (λ weights. weights.items ≡ map (block_weight (pairs_of profile.now) funcs.now) blocks.now) }
+    ensures few { IfOk result (λ weights. sum weights.items < 2 ^ 101) }
+{
+    let mut weights = vec![in alloc; 0u128; blocks.len()]?;
+    for pair in profile.pairs() {
+        add(&mut weights, funcs, blocks, pair);
+    }
+    Ok(weights)
+}
+
+// Adds the count of a pair to the weights of the blocks that it touches.
+fn add(weights: &mut [u128], funcs: &[Func], blocks: &[Block], pair: &(u64, u64, u128))
+    requires funcs { AreLaidOut funcs.now }
+    requires blocks { AreApart blocks.now }
+    requires lengths { length weights.old ≡ length blocks.now }
+    requires fits { (k : ℕ) → slice_index weights.old k + 2 * pair.now.2 < 2 ^ 128 }
+    ensures weights { (k : ℕ) (d : Block) → k < length blocks.now → slice_index weights.new k ≡ slice_index weights.old k + (if touches (insts_of_block funcs.now (slice_index_or blocks.now k d)) pair.now then pair.now.2 else 0) }
+    ensures total { sum weights.new ≤ sum weights.old + 2 * pair.now.2 }
+{
+    let from = block_at(funcs, blocks, pair.0);
+    let to = block_at(funcs, blocks, pair.1);
+    raise(weights, from, pair.2);
+    raise(weights, unless_same(to, from), pair.2);
+}
+
+// Raises the number at a place.
+fn raise(numbers: &mut [u128], place: Option<usize>, by: u128)
+    requires within { IfSome place (λ k. k < length numbers.old) }
+    requires fits { (k : ℕ) → slice_index numbers.old k + by < 2 ^ 128 }
+    ensures { numbers.new ≡ raised_at numbers.old place by }
+{
+    match place {
+        Some(at) => numbers[at] += by,
+        None => {}
+    }
+}
+
+// A place, unless it is another one.
+fn unless_same(place: Option<usize>, other: Option<usize>) -> Option<usize>
+    ensures places { (k : ℕ) → is_at k result ≡ (is_at k place && not (is_at k other)) }
+    ensures within { (n : ℕ) → IfSome place (λ k. k < n) → IfSome result (λ k. k < n) }
+{
+    match place {
+        Some(at) => unless_at(at, other),
+        None => None,
+    }
+}
+
+fn unless_at(place: usize, other: Option<usize>) -> Option<usize>
+    ensures places { (k : ℕ) → is_at k result ≡ (is_at k (Some place) && not (is_at k other)) }
+    ensures within { IfSome result (λ k. k ≡ place) }
+{
+    match other {
+        Some(at) => if at == place { None } else { Some(place) },
+        None => Some(place),
+    }
+}
+
+// The place of the block that has the instruction at an address.
+fn block_at(funcs: &[Func], blocks: &[Block], address: u64) -> Option<usize>
+    requires funcs { AreLaidOut funcs.now }
+    requires blocks { AreApart blocks.now }
+    ensures holder { IsHolder funcs.now blocks.now address result }
+    ensures within { IfSome result (λ k. k < length blocks.now) }
+{
+    match place_of(funcs, address) {
+        Some(place) => block_with(blocks, &place),
+        None => None,
+    }
+}
+
+// The place of the block that has an instruction.
+fn block_with(blocks: &[Block], place: &InstPlace) -> Option<usize>
+    requires { AreApart blocks.now }
+    ensures has { (k : ℕ) (d : Block) → k < length blocks.now → has_inst place.now.func place.now.inst (slice_index_or blocks.now k d) ≡ is_at k result }
+    ensures within { IfSome result (λ k. k < length blocks.now) }
+{
+    let below = count_up_to(blocks, place);
+    if below == 0 {
+        return None;
+    }
+    if ends_from(&blocks[below - 1], place) {
+        Some(below - 1)
+    } else {
+        None
+    }
+}
+
+// How many blocks begin with an instruction or before it.
+fn count_up_to(blocks: &[Block], place: &InstPlace) -> usize
+    requires { AreApart blocks.now }
+    ensures bound { result ≤ length blocks.now }
+    ensures below { (k : ℕ) (d : Block) → k < result → begins_by place.now.func place.now.inst (slice_index_or blocks.now k d) ≡ true }
+    ensures above { (k : ℕ) (d : Block) → result ≤ k → k < length blocks.now → begins_by place.now.func place.now.inst (slice_index_or blocks.now k d) ≡ false }
+{
+    blocks.partition_point(|b| begins_by(b, place))
+}
+
+// Whether a block begins with an instruction or before it.
+fn begins_by(block: &Block, place: &InstPlace) -> bool
+    ensures { result ≡ begins_by place.now.func place.now.inst block.now }
+{
+    block.func < place.func || (block.func == place.func && block.first <= place.inst)
+}
+
+// Whether a block of an instruction's function ends with it or after it.
+fn ends_from(block: &Block, place: &InstPlace) -> bool
+    ensures { result ≡ ends_from place.now.func place.now.inst block.now }
+{
+    block.func == place.func && place.inst <= block.last
+}
