@@ -1,0 +1,15 @@
+pub mod ChainLists
+pub mod Counting
+pub mod Disjoint
+pub mod Firsts
+pub mod Marking
+pub mod Members
+pub mod PartLists
+pub mod Paths
+pub mod Premises
+pub mod Sorting
+pub mod Splitting
+pub mod Starting
+pub mod Steps
+pub mod Taking
+pub mod Whole

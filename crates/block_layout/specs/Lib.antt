@@ -1,0 +1,7 @@
+pub mod EdgeCounts
+pub mod EdgeLists
+pub mod FunctionParts
+pub mod Linking
+pub mod Links
+pub mod Parts
+pub mod Walks

@@ -1,0 +1,84 @@
+// Edges with their counts, in the order in which they are taken.
+ghost use Rattle.std.specs.Prelude.{◌≡◌, ◌<◌, ◌≤◌, ℕ, All, AllPairs, IfOk, IsPermutation, IsSomeAnd, OnOk, length, slice_index_or};
+ghost use Rattle.rv_code.specs.declared.placed.Block.{Block};
+ghost use Rattle.rv_code.specs.declared.placed.Func.{Func};
+ghost use Rattle.rv_code.specs.layout.Blocks.{func_of};
+ghost use Rattle.rv_code.specs.layout.Lists.{IsPairBefore};
+ghost use Rattle.edge_profile.specs.Profile.{counts_of};
+ghost use Rattle.block_layout.specs.EdgeCounts.{address_in, edge_count};
+ghost use Rattle.block_layout.specs.EdgeLists.{IsStretch, IsWithin, AreCounted, HaveOtherEnds, IsKeyBefore};
+
+use edge_profile::Profile;
+use rb_bytes::fault::NoMemory;
+use rv_code::{Block, Func};
+use std::alloc::Global;
+use std::cmp::Reverse;
+
+/// An edge between two blocks, by their places among the blocks, and how often control went along it.
+#[derive(Clone, Copy, PartialEq, Eq, Debug)]
+pub struct Edge {
+    pub from: usize,
+    pub to: usize,
+    pub count: u128,
+}
+
+/// The edges of positive count, in the order in which they are taken.
+pub fn counted_edges(
+    alloc: Global,
+    funcs: &[Func],
+    blocks: &[Block],
+    edges: &[(usize, usize)],
+    profile: &Profile,
+) -> Result<Vec<Edge>, NoMemory>
+    requires blocks { All (IsStretch funcs.now) blocks.now }
+    requires edges { All (IsWithin (length blocks.now)) edges.now }
+    requires ordered { AllPairs IsPairBefore edges.now }
+    ensures counted { IfOk result (λ taken. AreCounted (edge_count (counts_of profile.now) funcs.now blocks.now) edges.now taken.items) }
+    ensures sorted { IfOk result (λ taken. AllPairs IsKeyBefore taken.items) }
+    ensures once { IfOk result (λ taken. AllPairs HaveOtherEnds taken.items) }
+{
+    let mut taken = Vec::new(alloc);
+    for edge in edges {
+        let count = count_along(funcs, &blocks[edge.0], &blocks[edge.1], profile);
+        if count == 0 {
+            continue;
+        }
+        taken.push(Edge {
+            from: edge.0,
+            to: edge.1,
+            count,
+        })?;
+    }
+    sort_edges(&mut taken);
+    Ok(taken)
+}
+
+// How often control went from the end of a block to the start of another.
+fn count_along(funcs: &[Func], source: &Block, target: &Block, profile: &Profile) -> u128
+    requires source { IsStretch funcs.now source.now }
+    requires target { IsStretch funcs.now target.now }
+    ensures { result ≡ counts_of profile.now (address_in funcs.now source.now source.now.last) (address_in funcs.now target.now target.now.first) }
+{
+    let last = address_in(funcs, source, source.last);
+    let first = address_in(funcs, target, target.first);
+    profile.count(last, first)
+}
+
+// The address of an instruction of a block's function.
+fn address_in(funcs: &[Func], block: &Block, inst: usize) -> u64
+    requires { IsSomeAnd (func_of funcs.now block.now) (λ func. inst < length func.insts.items) }
+    ensures { result ≡ address_in funcs.now block.now inst }
+{
+    match funcs.get(block.func) {
+        Some(func) => func.insts[inst].addr,
+        None => 0,
+    }
+}
+
+// Puts edges in the order in which they are taken: by greater count, then by source and target.
+fn sort_edges(edges: &mut Vec<Edge>)
+    ensures permutation { IsPermutation edges.old.items edges.new.items }
+    ensures sorted { AllPairs IsKeyBefore edges.new.items }
+{
+    edges.sort_unstable_by_key(|e| (Reverse(e.count), e.from, e.to));
+}

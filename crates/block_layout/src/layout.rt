@@ -1,0 +1,40 @@
+// The hot and cold parts of functions, by a profile.
+ghost use Rattle.std.specs.Prelude.{◌≡◌, All, AllPairs, IfOk, length};
+ghost use Rattle.rv_code.specs.layout.FunctionLists.{AreLaidOut};
+ghost use Rattle.rv_code.specs.layout.Lists.{IsPairBefore};
+ghost use Rattle.edge_profile.specs.BlockPlaces.{AreApart};
+ghost use Rattle.edge_profile.specs.Profile.{counts_of, pairs_of};
+ghost use Rattle.block_layout.specs.EdgeLists.{IsInner, IsStretch};
+ghost use Rattle.block_layout.specs.Parts.{AreChains, HaveAllBlocks};
+
+use crate::edge_counts::counted_edges;
+use crate::functions::function_parts;
+use crate::links::link_edges;
+use edge_profile::Profile;
+use edge_profile::weights::block_weights;
+use rb_bytes::fault::NoMemory;
+use rv_code::{Block, Chains, Func};
+use std::alloc::Global;
+
+/// The hot and the cold part of each function, by the counts of a profile. Edges are pairs of places of blocks.
+pub fn chains(
+    alloc: Global,
+    funcs: &[Func],
+    blocks: &[Block],
+    edges: &[(usize, usize)],
+    profile: &Profile,
+) -> Result<Chains, NoMemory>
+    requires funcs { AreLaidOut funcs.now }
+    requires blocks { AreApart blocks.now }
+    requires stretches { All (IsStretch funcs.now) blocks.now }
+    requires edges { All (IsInner blocks.now) edges.now }
+    requires ordered { AllPairs IsPairBefore edges.now }
+    ensures chains { IfOk result (AreChains (counts_of profile.now) (pairs_of profile.now) funcs.now blocks.now edges.now) }
+    ensures all { IfOk result (HaveAllBlocks (length funcs.now) blocks.now) }
+{
+    let weights = block_weights(alloc, funcs, blocks, profile)?;
+    let taken = counted_edges(alloc, funcs, blocks, edges, profile)?;
+    let links = link_edges(alloc, blocks, &taken)?;
+    let parts = function_parts(alloc, funcs.len(), blocks, &links, &weights)?;
+    Ok(parts)
+}

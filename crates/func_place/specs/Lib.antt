@@ -1,0 +1,11 @@
+pub mod Bands
+pub mod Calls
+pub mod Clusters
+pub mod Faults
+pub mod Nearness
+pub mod Placement
+pub mod Ranks
+pub mod Stretches
+pub mod UnitOrder
+pub mod Units
+pub mod internal

@@ -1,0 +1,72 @@
+// Units in bands.
+ghost use Rattle.std.specs.Prelude.{◌≡◌, ◌<◌, ◌≤◌, ◌++◌, All, length, OnOk, IfOk, map};
+ghost use Rattle.std.specs.List.{flat_map};
+ghost use Rattle.func_place.specs.Bands.{blocks_of, order_of};
+ghost use Rattle.func_place.specs.internal.Grouping.{list_at};
+
+use crate::clusters::LIMIT;
+use std::alloc::{AllocError, Global};
+
+/// The blocks of units, band by band.
+pub fn order_units(
+    alloc: Global,
+    sizes: &[u128],
+    units: &[usize],
+    hot: &[Vec<usize>],
+    cold: &[Vec<usize>],
+) -> Result<Vec<usize>, AllocError>
+    requires sizes_in { All (λ size. size ≤ 1000000) sizes.now }
+    requires units_in { All (λ u. u < length sizes.now) units.now }
+    requires hot_in { length hot.now ≡ length sizes.now }
+    requires cold_in { length cold.now ≡ length sizes.now }
+    ensures { IfOk result (λ v. v.items ≡ order_of sizes.now (list_at (map (λ v. v.items) hot.now)) (list_at (map
+        (λ v. v.items) cold.now)) units.now) }
+{
+    let mut order = Vec::new(alloc);
+    let mut band = Vec::new(alloc);
+    let mut filled = 0;
+    for &unit in units {
+        let size = sizes[unit];
+        if filled + size > LIMIT {
+            put_band(&mut order, &band, hot, cold)?;
+            band.clear();
+            filled = 0;
+        }
+        band.push(unit)?;
+        filled += size;
+    }
+    put_band(&mut order, &band, hot, cold)?;
+    Ok(order)
+}
+
+// Appends the blocks of a band.
+fn put_band(
+    order: &mut Vec<usize>,
+    band: &[usize],
+    hot: &[Vec<usize>],
+    cold: &[Vec<usize>],
+) -> Result<(), AllocError>
+    requires hot_in { All (λ u. u < length hot.now) band.now }
+    requires cold_in { All (λ u. u < length cold.now) band.now }
+    ensures { OnOk result (order.new.items ≡ order.old.items ++ blocks_of (list_at (map (λ v. v.items) hot.now))
+        (list_at (map (λ v. v.items) cold.now)) band.now) }
+{
+    put_parts(order, band, hot)?;
+    put_parts(order, band, cold)
+}
+
+// Appends the blocks of some units.
+fn put_parts(
+    order: &mut Vec<usize>,
+    units: &[usize],
+    parts: &[Vec<usize>],
+) -> Result<(), AllocError>
+    requires { All (λ u. u < length parts.now) units.now }
+    ensures { OnOk result (order.new.items ≡ order.old.items ++ flat_map (list_at (map
+        (λ v. v.items) parts.now)) units.now) }
+{
+    for &unit in units {
+        order.extend_from_slice(&parts[unit])?;
+    }
+    Ok(())
+}

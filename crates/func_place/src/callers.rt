@@ -1,0 +1,81 @@
+// Which other unit calls a unit most.
+ghost use Rattle.std.specs.Prelude.{◌≡◌, ℕ, ◌+◌, ◌<◌, ◌^◌, None, All, length, IfOk, sum_by, slice_index_or};
+ghost use Rattle.std.specs.List.Sorted.{IsPermutation};
+ghost use Rattle.func_place.specs.Calls.{heaviest_caller};
+ghost use Rattle.func_place.specs.internal.Heaviest.{AreByCallee, more_of};
+
+use crate::calls::Call;
+use std::alloc::{AllocError, Global};
+
+/// The heaviest caller of each unit.
+pub fn heaviest_callers(
+    alloc: Global,
+    heats: &[u128],
+    calls: &[Call],
+) -> Result<Vec<Option<usize>>, AllocError>
+    requires inside { All (λ c. (c.from < length heats.now) × (c.to < length heats.now)) calls.now }
+    requires room { sum_by (λ c. c.count) calls.now < 2 ^ 128 }
+    ensures len { IfOk result (λ v. length v.items ≡ length heats.now) }
+    ensures heaviest { IfOk result (λ v. (u : ℕ) → slice_index_or v.items u None ≡
+        heaviest_caller heats.now calls.now u) }
+{
+    let sorted = by_callee(alloc, calls)?;
+    heaviest_of_sorted(alloc, heats, &sorted)
+}
+
+// The counts by the unit that is called, and then by the caller.
+fn by_callee(alloc: Global, calls: &[Call]) -> Result<Vec<Call>, AllocError>
+    ensures each { IfOk result (λ v. IsPermutation calls.now v.items) }
+    ensures ordered { IfOk result (λ v. AreByCallee v.items) }
+{
+    let mut sorted = calls.to_vec(alloc)?;
+    sorted.sort_by_key(|call| (call.to, call.from))?;
+    Ok(sorted)
+}
+
+// Counts of one pair follow one another, so their sum is at hand when the last of them is reached.
+fn heaviest_of_sorted(
+    alloc: Global,
+    heats: &[u128],
+    calls: &[Call],
+) -> Result<Vec<Option<usize>>, AllocError>
+    requires ordered { AreByCallee calls.now }
+    requires inside { All (λ c. (c.from < length heats.now) × (c.to < length heats.now)) calls.now }
+    requires room { sum_by (λ c. c.count) calls.now < 2 ^ 128 }
+    ensures len { IfOk result (λ v. length v.items ≡ length heats.now) }
+    ensures heaviest { IfOk result (λ v. (u : ℕ) → slice_index_or v.items u None ≡
+        heaviest_caller heats.now calls.now u) }
+{
+    let mut heaviest: Vec<Option<usize>> = vec![in alloc; None; heats.len()]?;
+    let mut most: Vec<u128> = vec![in alloc; 0; heats.len()]?;
+    let mut run = Call {
+        from: 0,
+        to: 0,
+        count: 0,
+    };
+    for call in calls {
+        run = more_of(&run, call);
+        if run.from != run.to && heats[run.from] > 0 && most[run.to] < run.count {
+            most[run.to] = run.count;
+            heaviest[run.to] = Some(run.from);
+        }
+    }
+    Ok(heaviest)
+}
+
+// One more count of the pair that was counted, or the first one of the next pair.
+fn more_of(run: &Call, call: &Call) -> Call
+    requires { run.now.count + call.now.count < 2 ^ 128 }
+    ensures { result ≡ more_of run.now call.now }
+{
+    let same = run.from == call.from && run.to == call.to;
+    Call {
+        from: call.from,
+        to: call.to,
+        count: if same {
+            run.count + call.count
+        } else {
+            call.count
+        },
+    }
+}

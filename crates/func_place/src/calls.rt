@@ -1,0 +1,9 @@
+// What is counted from unit to unit.
+
+/// A count from one unit to another. Units are named by numbers.
+#[derive(Clone, Copy, PartialEq, Eq, Debug)]
+pub struct Call {
+    pub from: usize,
+    pub to: usize,
+    pub count: u128,
+}

@@ -1,0 +1,59 @@
+// What keeps code from being placed.
+ghost use Rattle.std.specs.Prelude.{◌≡◌, ◌<◌, ◌≤◌, All, MatchOption, length};
+ghost use Rattle.func_place.specs.Faults.{leaves};
+ghost use Rattle.func_place.specs.internal.FirstFaults.{IsFirstLong, IsFirstLeaving, IsFirstKept, StaysIn};
+
+use crate::clusters::LIMIT;
+use crate::ties::holds;
+use rv_code::flow::{is_branch, target};
+use rv_code::{Func, Placed};
+
+/// The address of the first unit that is too long, for the worst size of each unit.
+pub fn first_long(funcs: &[Func], sizes: &[u128]) -> Option<u64>
+    requires { length sizes.now ≡ length funcs.now }
+    ensures { MatchOption result (All (λ size. size ≤ 1000000) sizes.now) (IsFirstLong funcs.now sizes.now) }
+{
+    for (unit, size) in sizes.iter().enumerate() {
+        if *size > LIMIT {
+            return Some(funcs[unit].start);
+        }
+    }
+    None
+}
+
+/// The address of the first instruction of a function that goes out of it, where the function keeps its inner bytes and the
+/// instruction can't reach far.
+pub fn first_kept(funcs: &[Func]) -> Option<u64>
+    ensures { MatchOption result (All StaysIn funcs.now) (IsFirstKept funcs.now) }
+{
+    for func in funcs {
+        match first_leaving(func) {
+            Some(place) => return Some(place),
+            None => {}
+        }
+    }
+    None
+}
+
+fn first_leaving(func: &Func) -> Option<u64>
+    ensures { MatchOption result (StaysIn func.now) (IsFirstLeaving func.now) }
+{
+    for inst in &func.insts {
+        if leaves(func, inst) {
+            return Some(inst.addr);
+        }
+    }
+    None
+}
+
+fn leaves(func: &Func, inst: &Placed) -> bool
+    ensures { result ≡ leaves func.now inst.now }
+{
+    if !(func.whole && (is_branch(&inst.inst) || inst.len == 2)) {
+        return false;
+    }
+    match target(inst.addr, &inst.inst) {
+        Some(to) => !holds(func, to),
+        None => false,
+    }
+}

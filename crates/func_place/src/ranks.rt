@@ -1,0 +1,98 @@
+// The order in which hot units are taken, and the order of clusters.
+ghost use Rattle.std.specs.Prelude.{◌≡◌, ℕ, ◌<◌, ◌≤◌, ◌^◌, List, All, length, IfOk, slice_index};
+ghost use Rattle.std.specs.Ordering.{is_lt};
+ghost use Rattle.func_place.specs.Calls.{hot_units};
+ghost use Rattle.func_place.specs.Ranks.{IsInOrder, hotter, denser_by, denser, heads};
+ghost use Rattle.func_place.specs.internal.ClusterState.{state_of, count_of, heat_at, IsSound, Keeps};
+
+use crate::clusters::Clusters;
+use std::alloc::{AllocError, Global};
+use std::cmp::{Ordering, Reverse};
+
+/// The hot units in the order in which they are taken.
+pub fn hot_order(alloc: Global, heats: &[u128]) -> Result<Vec<usize>, AllocError>
+    ensures ordered { IfOk result (λ v. IsInOrder (hotter heats.now) (hot_units heats.now) v.items) }
+    ensures inside { IfOk result (λ v. All (λ u. u < length heats.now) v.items) }
+    ensures hot { IfOk result (λ v. All (λ u. 0 < slice_index heats.now u) v.items) }
+{
+    let mut taken = Vec::new(alloc);
+    for (unit, heat) in heats.iter().enumerate() {
+        if *heat > 0 {
+            taken.push(unit)?;
+        }
+    }
+    taken.sort_by_key(|unit| (Reverse(heat_of(heats, *unit)), *unit))?;
+    Ok(taken)
+}
+
+// A unit's heat.
+fn heat_of(heats: &[u128], unit: usize) -> u128
+    ensures { result ≡ slice_index heats.now unit }
+{
+    heats.get(unit).copied().unwrap_or(0)
+}
+
+/// A cluster's heat and worst size, and its first unit. Only clusters with a size can be compared by density.
+#[derive(Clone, Copy)]
+pub struct Rank {
+    pub heat: u128,
+    pub size: u128,
+    pub unit: usize,
+    ghost fits: { heat < 2 ^ 101 },
+    ghost some: { 0 < size },
+    ghost small: { size ≤ 1000000 },
+}
+
+// Whether a cluster is denser than another, or as dense and begins with a lower unit.
+fn is_denser(a: &Rank, b: &Rank) -> bool
+    ensures { result ≡ denser_by a.now.heat a.now.size a.now.unit b.now.heat b.now.size b.now.unit }
+{
+    let (more, less) = (a.heat * b.size, b.heat * a.size);
+    less < more || (less == more && a.unit < b.unit)
+}
+
+fn compare(a: &Rank, b: &Rank) -> Ordering
+    ensures { is_lt result ≡ denser_by a.now.heat a.now.size a.now.unit b.now.heat b.now.size b.now.unit }
+{
+    if is_denser(a, b) {
+        Ordering::Less
+    } else {
+        Ordering::Greater
+    }
+}
+
+// Puts clusters in their order.
+fn sort_ranks(ranks: &mut Vec<Rank>) -> Result<(), AllocError>
+    ensures { IfOk result (λ _. IsInOrder
+        (λ a b. denser_by a.heat a.size a.unit b.heat b.size b.unit) ranks.old.items ranks.new.items) }
+{
+    ranks.sort_by(|a, b| compare(a, b))?;
+    Ok(())
+}
+
+/// The first units of clusters, in the order of the clusters.
+pub fn rank_clusters(
+    alloc: Global,
+    clusters: &Clusters,
+    taken: &[usize],
+) -> Result<Vec<usize>, AllocError>
+    requires sound { IsSound (state_of clusters.now) }
+    requires taken_in { All (λ u. u < count_of (state_of clusters.now)) taken.now }
+    requires hot { All (λ u. 0 < heat_at (state_of clusters.now) u) taken.now }
+    ensures { IfOk result (λ v. (sizes heats : List ℕ) (cluster : ℕ → List ℕ) →
+        Keeps sizes heats cluster (state_of clusters.now) → IsInOrder
+        (denser sizes heats cluster) (heads cluster taken.now) v.items) }
+{
+    let mut ranks = Vec::new(alloc);
+    for &unit in taken {
+        if clusters.begins(unit) {
+            ranks.push(clusters.rank(unit))?;
+        }
+    }
+    sort_ranks(&mut ranks)?;
+    let mut units = Vec::new(alloc);
+    for rank in &ranks {
+        units.push(rank.unit)?;
+    }
+    Ok(units)
+}

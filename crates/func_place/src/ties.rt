@@ -1,0 +1,139 @@
+// Which functions lead into each other.
+ghost use Rattle.std.specs.Prelude.{◌≡◌, ◌≢◌, ◌↔◌, ℕ, ◌+◌, ◌<◌, ◌^◌, [], if◌then◌else◌, IfOk, OnOk, length, slice_get};
+ghost use Rattle.rv_code.specs.layout.FunctionLists.{AreLaidOut};
+ghost use Rattle.rv_code.specs.layout.Flow.{falls_at};
+ghost use Rattle.func_place.specs.Units.{holds, function_at};
+ghost use Rattle.func_place.specs.internal.Gains.{Gains};
+ghost use Rattle.func_place.specs.internal.TieList.{Ties, TiesOf, TiesFrom, TiesAt};
+
+use rv_code::flow::{falls, target};
+use rv_code::{Func, Placed};
+use std::alloc::{AllocError, Global};
+
+/// The pairs of a function and another one into which it leads, by their places.
+pub fn ties(alloc: Global, funcs: &[Func]) -> Result<Vec<(usize, usize)>, AllocError>
+    requires { AreLaidOut funcs.now }
+    ensures { IfOk result (λ v. Gains [] v.items (Ties funcs.now)) }
+{
+    let mut ties = Vec::new(alloc);
+    for place in 0..funcs.len() {
+        put_ties_of(&mut ties, funcs, place)?;
+    }
+    Ok(ties)
+}
+
+// Appends the pairs of one function.
+fn put_ties_of(
+    ties: &mut Vec<(usize, usize)>,
+    funcs: &[Func],
+    place: usize,
+) -> Result<(), AllocError>
+    requires funcs { AreLaidOut funcs.now }
+    requires inside { place < length funcs.now }
+    ensures { OnOk result (Gains ties.old.items ties.new.items (TiesOf funcs.now place)) }
+{
+    let func = &funcs[place];
+    for i in 0..func.insts.len() {
+        put_ties_from(ties, funcs, place, func, i)?;
+    }
+    Ok(())
+}
+
+// Appends those of one instruction of a function.
+fn put_ties_from(
+    ties: &mut Vec<(usize, usize)>,
+    funcs: &[Func],
+    place: usize,
+    func: &Func,
+    i: usize,
+) -> Result<(), AllocError>
+    requires funcs { AreLaidOut funcs.now }
+    requires is_func { slice_get funcs.now place ≡ Some func.now }
+    requires inside { place < length funcs.now }
+    requires i_in { i < length func.now.insts.items }
+    ensures { OnOk result (Gains ties.old.items ties.new.items (TiesFrom funcs.now place i)) }
+{
+    let inst = &func.insts[i];
+    put_tie(ties, funcs, place, target(inst.addr, &inst.inst))?;
+    put_tie(ties, funcs, place, fall_of(func, i, inst))?;
+    Ok(())
+}
+
+// Where the i-th instruction of a function falls.
+fn fall_of(func: &Func, i: usize, inst: &Placed) -> Option<u64>
+    requires i_in { i < length func.now.insts.items }
+    requires room { inst.now.addr + inst.now.len < 2 ^ 64 }
+    ensures { result ≡ (if falls_at func.now i inst.now then Some (inst.now.addr + inst.now.len) else None) }
+{
+    if falls(&inst.inst, i + 1 == func.insts.len()) {
+        Some(inst.addr + inst.len as u64)
+    } else {
+        None
+    }
+}
+
+// Appends the pair of a function and another one in which an address lies, if there is an address.
+fn put_tie(
+    ties: &mut Vec<(usize, usize)>,
+    funcs: &[Func],
+    place: usize,
+    to: Option<u64>,
+) -> Result<(), AllocError>
+    requires funcs { AreLaidOut funcs.now }
+    requires inside { place < length funcs.now }
+    ensures { OnOk result (Gains ties.old.items ties.new.items (λ t. (a : ℕ) × (to ≡
+        Some a) × TiesAt funcs.now place a t)) }
+{
+    if let Some(address) = to {
+        put_tie_at(ties, funcs, place, address)?;
+    }
+    Ok(())
+}
+
+fn put_tie_at(
+    ties: &mut Vec<(usize, usize)>,
+    funcs: &[Func],
+    place: usize,
+    address: u64,
+) -> Result<(), AllocError>
+    requires funcs { AreLaidOut funcs.now }
+    requires inside { place < length funcs.now }
+    ensures { OnOk result (Gains ties.old.items ties.new.items (TiesAt funcs.now place address)) }
+{
+    if let Some(other) = other_function_at(funcs, place, address) {
+        ties.push((place, other))?;
+    }
+    Ok(())
+}
+
+// The place of the function in which an address lies, unless it is this one.
+fn other_function_at(funcs: &[Func], place: usize, address: u64) -> Option<usize>
+    requires funcs { AreLaidOut funcs.now }
+    requires inside { place < length funcs.now }
+    ensures { (g : ℕ) → (result ≡ Some g) ↔ ((function_at funcs.now address ≡ Some g) × (g ≢ place)) }
+{
+    if holds(&funcs[place], address) {
+        return None;
+    }
+    function_at(funcs, address)
+}
+
+/// Whether an address lies in a function.
+pub fn holds(func: &Func, address: u64) -> bool
+    ensures { result ≡ holds address func.now }
+{
+    func.start <= address && address < func.end
+}
+
+/// The place of the function in which an address lies.
+pub fn function_at(funcs: &[Func], address: u64) -> Option<usize>
+    requires { AreLaidOut funcs.now }
+    ensures { result ≡ function_at funcs.now address }
+{
+    let above = funcs.partition_point(|func| func.end <= address);
+    if above < funcs.len() && funcs[above].start <= address {
+        Some(above)
+    } else {
+        None
+    }
+}

@@ -1,0 +1,52 @@
+// What a profile counts from unit to unit.
+ghost use Rattle.std.specs.Prelude.{◌≡◌, IfOk, length, slice_index};
+ghost use Rattle.rv_code.specs.layout.FunctionLists.{AreLaidOut};
+ghost use Rattle.func_place.specs.Placement.{unit_call, unit_calls};
+
+use crate::calls::Call;
+use crate::ties::function_at;
+use rv_code::Func;
+use std::alloc::{AllocError, Global};
+
+/// The counts of pairs of addresses, as counts between the units in which these lie.
+pub fn calls_of(
+    alloc: Global,
+    funcs: &[Func],
+    units: &[usize],
+    pairs: &[(u64, u64, u128)],
+) -> Result<Vec<Call>, AllocError>
+    requires { AreLaidOut funcs.now }
+    ensures { IfOk result (λ v. v.items ≡ unit_calls funcs.now units.now pairs.now) }
+{
+    let mut calls = Vec::new(alloc);
+    for pair in pairs {
+        match call_of(funcs, units, pair) {
+            Some(call) => calls.push(call)?,
+            None => {}
+        }
+    }
+    Ok(calls)
+}
+
+fn call_of(funcs: &[Func], units: &[usize], pair: &(u64, u64, u128)) -> Option<Call>
+    requires { AreLaidOut funcs.now }
+    ensures { result ≡ unit_call funcs.now units.now pair.now }
+{
+    match function_at(funcs, pair.0) {
+        Some(from) => match function_at(funcs, pair.1) {
+            Some(to) => Some(Call {
+                from: unit_at(units, from),
+                to: unit_at(units, to),
+                count: pair.2,
+            }),
+            None => None,
+        },
+        None => None,
+    }
+}
+
+fn unit_at(units: &[usize], function: usize) -> usize
+    ensures { result ≡ slice_index units.now function }
+{
+    units.get(function).copied().unwrap_or(0)
+}
