@@ -1,0 +1,111 @@
+-- What isn't enough stays so while forms grow.
+use Rattle.std.proofs.Common.{◌≡◌, ℕ, zero, suc, ◌+◌, ◌-◌, ◌<◌, ◌≤◌, List, length, Option, Some, None, Bool, true, false, refl, sym, ◌∙◌, subst, arith, inl, inr}
+use Rattle.std.specs.Prelude.{nat_lt, nat_le}
+use Rattle.std.specs.Option.{option_map_or}
+use Rattle.std.proofs.lemmas.Bool.{and_parts, and_from, leb-true, ltb-true, le-leb, lt-ltb, cases_lt, cases_order}
+use Rattle.rv_code.specs.declared.layout.Form.{Form}
+use Rattle.branch_fixup.specs.declared.growth.Tail.{Tail}
+use Rattle.branch_fixup.specs.Reach.{reaches}
+use Rattle.branch_fixup.specs.Growth.{tail_at, length_at, place, from_at, to_at, half_of, is_enough, AreTails}
+
+pub not_true : (b : Bool) → (b ≡ true → ⊥) → b ≡ false
+not_true true h = absurd (h refl)
+not_true false h = refl
+
+pub no : (b : Bool) → b ≡ false → b ≡ true → ⊥
+no b h k = let e : false ≡ true = sym h ∙ k in cc
+
+pub reach_if : (half f t : ℕ) → t < f + half → f ≤ t + half → reaches half f t ≡ true
+reach_if half f t h k = and_from (nat_lt t (f + half)) (nat_le f (t + half)) (lt-ltb t (f + half) h) (le-leb f (t + half) k)
+
+-- a longer way ahead, or back
+pub data IsFarther (f t g u : ℕ) : Type 0 where
+  ahead : f ≤ t → g ≤ u → t + g ≤ u + f → IsFarther f t g u
+  back : t ≤ f → u ≤ g → f + u ≤ g + t → IsFarther f t g u
+
+pub short_more : (half f t g u : ℕ) → IsFarther f t g u → reaches half f t ≡ false → reaches half g u ≡ false
+short_more half f t g u (ahead a b c) h =
+    not_true (reaches half g u) (λ k.
+    let p = and_parts (nat_lt u (g + half)) (nat_le g (u + half)) k in
+    let x = ltb-true u (g + half) p.0 in
+    no (reaches half f t) h (reach_if half f t (omega (arith, a, b, c, x)) (omega (arith, a))))
+short_more half f t g u (back a b c) h =
+    not_true (reaches half g u) (λ k.
+    let p = and_parts (nat_lt u (g + half)) (nat_le g (u + half)) k in
+    let x = leb-true g (u + half) p.1 in
+    let y = ltb-true u (g + half) p.0 in
+    no (reaches half f t) h (reach_if half f t (omega (arith, a, b, c, x, y)) (omega (arith, a, b, c, x))))
+
+-- forms that are no shorter
+pub record IsBelow (ts : List Tail) (xs ys : List Form) : Type 0 where
+  pub each : (k : ℕ) → length_at ts xs k ≤ length_at ts ys k
+
+gap : (ts : List Tail) (xs ys : List Form) → IsBelow ts xs ys → (a n : ℕ) →
+    place ts xs (n + a) + place ts ys a ≤ place ts ys (n + a) + place ts xs a
+gap ts xs ys b a zero = let z : 0 + a ≡ a = omega arith in rw z (omega arith)
+gap ts xs ys b a (suc n) =
+    let z : suc n + a ≡ suc (n + a) = omega arith in
+    let more = b.each (n + a) in
+    let rest = gap ts xs ys b a n in
+    rw z (omega (arith, more, rest))
+
+rises : (ts : List Tail) (xs : List Form) (a n : ℕ) → place ts xs a ≤ place ts xs (n + a)
+rises ts xs a zero = let z : 0 + a ≡ a = omega arith in rw z (omega arith)
+rises ts xs a (suc n) =
+    let z : suc n + a ≡ suc (n + a) = omega arith in
+    let rest = rises ts xs a n in
+    rw z (omega (arith, rest))
+
+-- the way from k ahead to t, and back
+ahead_gap : (ts : List Tail) (xs ys : List Form) → IsBelow ts xs ys → (k t : ℕ) → k < t →
+    (place ts xs k + (tail_at ts k).before ≤ place ts xs t) × (place ts ys k + (tail_at ts k).before ≤ place ts ys t) ×
+    (place ts xs t + place ts ys k ≤ place ts ys t + place ts xs k)
+ahead_gap ts xs ys b k t h =
+    let z : t - suc k + suc k ≡ t = omega (arith, h) in
+    let w : t - k + k ≡ t = omega (arith, h) in
+    let up : place ts xs (suc k) ≤ place ts xs t = subst (λ (j : ℕ). place ts xs (suc k) ≤ place ts xs j) z
+    (rises ts xs (suc k) (t - suc k)) in
+    let up_2 : place ts ys (suc k) ≤ place ts ys t = subst (λ (j : ℕ). place ts ys (suc k) ≤ place ts ys j) z
+    (rises ts ys (suc k) (t - suc k)) in
+    let g : place ts xs t + place ts ys k ≤ place ts ys t + place ts xs k =
+    subst (λ (j : ℕ). place ts xs j + place ts ys k ≤ place ts ys j + place ts xs k) w (gap ts xs ys b k (t - k)) in
+    (omega (arith, up), omega (arith, up_2), g)
+
+pub farther : (ts : List Tail) (xs ys : List Form) → AreTails ts → IsBelow ts xs ys → (k : ℕ) → k < length ts →
+    IsFarther (from_at ts xs k) (to_at ts xs k) (from_at ts ys k) (to_at ts ys k)
+farther ts xs ys tails b k k_in = by (tail_at ts k).to refl
+  where
+    inside : (tail_at ts k).offset ≤ (tail_at ts (tail_at ts k).to).before
+    inside = tails.to_inside k k_in
+
+    by : (t : ℕ) → (tail_at ts k).to ≡ t → IsFarther (from_at ts xs k) (place ts xs t + (tail_at ts k).offset)
+        (from_at ts ys k) (place ts ys t + (tail_at ts k).offset)
+    by t e = elim (cases_order k t) [
+      | inl same ↦ elim (cases_lt (tail_at ts k).before (tail_at ts k).offset) [
+        | inl less ↦ subst (λ (j : ℕ). IsFarther (from_at ts xs k) (place ts xs j + (tail_at ts k).offset)
+            (from_at ts ys k) (place ts ys j + (tail_at ts k).offset)) same
+            (ahead (omega (arith, less)) (omega (arith, less)) (omega arith))
+        | inr more ↦ subst (λ (j : ℕ). IsFarther (from_at ts xs k) (place ts xs j + (tail_at ts k).offset)
+            (from_at ts ys k) (place ts ys j + (tail_at ts k).offset)) same
+            (back (omega (arith, more)) (omega (arith, more)) (omega arith))
+      ]
+      | inr apart ↦ elim apart [
+        | inl before ↦ let g = ahead_gap ts xs ys b k t before in let x = g.0 in let y = g.1 in let z = g.2 in
+            ahead (omega (arith, x)) (omega (arith, y)) (omega (arith, z))
+        | inr after ↦
+            let g = ahead_gap ts xs ys b t k after in let x = g.0 in let y = g.1 in let z = g.2 in
+            let within : (tail_at ts k).offset ≤ (tail_at ts t).before =
+            subst (λ (j : ℕ). (tail_at ts k).offset ≤ (tail_at ts j).before) e inside in
+            back (omega (arith, x, within)) (omega (arith, y, within)) (omega (arith, z))
+      ]
+    ]
+
+pub not_enough_more : (ts : List Tail) (xs ys : List Form) → AreTails ts → IsBelow ts xs ys → (k : ℕ) (f : Form) →
+    k < length ts → is_enough ts xs k f ≡ false → is_enough ts ys k f ≡ false
+not_enough_more ts xs ys tails b k f k_in h = by (half_of f) h
+  where
+    by : (o : Option ℕ) → option_map_or (λ half. reaches half (from_at ts xs k) (to_at ts xs k)) o true ≡ false →
+        option_map_or (λ half. reaches half (from_at ts ys k) (to_at ts ys k)) o true ≡ false
+    by None h = h
+    by (Some half) h = short_more half (from_at ts xs k) (to_at ts xs k) (from_at ts ys k) (to_at ts ys k)
+        (farther ts xs ys tails b k k_in) h

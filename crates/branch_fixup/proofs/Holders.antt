@@ -1,0 +1,187 @@
+-- Which block of a plan holds an address.
+use Rattle.std.proofs.Common.{◌≡◌, ℕ, ◌+◌, ◌<◌, ◌≤◌, List, [], ◌∷◌, ◌++◌, length, map, Some, None, true, refl, sym, ap, ◌∙◌, subst, arith, inl, inr, All, get_or}
+use Rattle.std.specs.Prelude.{slice_get, slice_index, Contains, AllPairs, option_map}
+use Rattle.std.proofs.lemmas.List.{length-map}
+use Rattle.std.proofs.lemmas.List.Elements.{Contains-push}
+use Rattle.std.proofs.lemmas.Option.{slice_get_within, get_or_from_slice_get, slice_get-get_or, slice_get-map, slice_get_past}
+use Rattle.rv_code.specs.declared.placed.Placed.{Placed}
+use Rattle.rv_code.specs.declared.placed.Func.{Func}
+use Rattle.rv_code.specs.declared.placed.Block.{Block}
+use Rattle.rv_code.specs.layout.ProgramCode.{ProgramCode, is_code_address}
+use Rattle.rv_code.specs.layout.Blocks.{AreBlocks}
+use Rattle.rv_code.specs.layout.FunctionLists.{AreLaidOut}
+use Rattle.branch_fixup.specs.BlockInsts.{IsBlockIn, start_of}
+use Rattle.branch_fixup.specs.Ends.{begins_of}
+use Rattle.branch_fixup.specs.Inputs.{IsOrder, AreBlocksOf, code_of}
+use Rattle.branch_fixup.specs.Lookup.{IsHolder}
+use Rattle.branch_fixup.specs.Strips.{Strip, strip_of, strips_of, insts_in, first_in}
+use Rattle.branch_fixup.proofs.Covered.{block_of, covers, blocks_apart}
+use Rattle.branch_fixup.proofs.Falls.{code_at}
+use Rattle.branch_fixup.proofs.Follows.{follow_at, follow_up, laid_func, some_length, funcs_apart}
+use Rattle.branch_fixup.proofs.Lists.{there}
+use Rattle.branch_fixup.proofs.Orders.{order_within, order_has}
+use Rattle.branch_fixup.proofs.Planned.{StripOf, strip_for, in_block, block_in_insts, Planned, planned_length, planned_at, strip_length}
+
+some_func : (f g : Func) → Some f ≡ Some g → f ≡ g
+some_func f g h = cc
+
+some_block : (b c : Block) → Some b ≡ Some c → b ≡ c
+some_block b c h = cc
+
+some_strip : (s t : Strip) → Some s ≡ Some t → s ≡ t
+some_strip s t h = cc
+
+some_nat : (m n : ℕ) → Some m ≡ Some n → m ≡ n
+some_nat m n h = cc
+
+pub first_there : (inner : List Placed) (last : Placed) → (p : Placed) × Contains (inner ++ last ∷ []) p ×
+    (p.addr ≡ first_in inner last)
+first_there [] last = (last, (0, omega arith, refl), refl)
+first_there (p ∷ ps) last = (p, (0, omega arith, refl), refl)
+
+pub last_there : (s : Strip) → Contains (insts_in s) s.last
+last_there s = Contains-push s.inner s.last
+
+-- the instructions of a block come before those of one later in the list
+pub blocks_up : (code : ProgramCode) (blocks : List Block) (m n : ℕ) (b c : Block) (s t : Strip) →
+    AreLaidOut code.funcs → AreBlocks code blocks → StripOf code b s → StripOf code c t → slice_get blocks m ≡ Some b →
+    slice_get blocks n ≡ Some c → m < n → (p q : Placed) → Contains (insts_in s) p → Contains (insts_in t) q →
+    p.addr + p.len ≤ q.addr
+blocks_up code blocks m n b c s t laid are x y at_m at_n less p q has_p has_q =
+    let i = in_block code b s x p has_p in
+    let j = in_block code c t y q has_q in
+    let lx = laid_func code.funcs b.func x.func laid x.at in
+    let ly = laid_func code.funcs c.func y.func laid y.at in
+    elim (blocks_apart code blocks m n b c are at_m at_n less) [
+      | inl func ↦
+          let d = funcs_apart code.funcs b.func c.func x.func y.func laid x.at y.at func in
+          let u = (follow_at x.func.start x.func.insts.items x.func.end i.i p lx.follow i.at).1 in
+          let v = (follow_at y.func.start y.func.insts.items y.func.end j.i q ly.follow j.at).0 in
+          omega (arith, d, u, v)
+      | inr in_one ↦
+          let same : y.func ≡ x.func = some_func y.func x.func (sym y.at ∙ ap (slice_get code.funcs) (sym in_one.0) ∙ x.at) in
+          let apart = in_one.1 in
+          let high = i.high in
+          let low = j.low in
+          follow_up x.func.start x.func.insts.items x.func.end i.i j.i p q lx.follow i.at
+          (subst (λ (z : Func). slice_get z.insts.items j.i ≡ Some q) same j.at) (omega (arith, apart, high, low))
+    ]
+
+pub are_block_in : (code : ProgramCode) (blocks : List Block) → AreBlocks code blocks → All (IsBlockIn code.funcs) blocks
+are_block_in code blocks are = λ k d within.
+    let b : Block = get_or blocks k d in
+    let x = block_of code blocks k b are (slice_get-get_or blocks k d within) in
+    rw x.at (x.is.some, x.is.inside)
+
+module _ (code : ProgramCode) (blocks : List Block) (laid : AreLaidOut code.funcs) (are : AreBlocks code blocks) where
+  abbrev starts : List ℕ
+  starts = map (start_of code.funcs) blocks
+
+  pub starts_length : length starts ≡ length blocks
+  starts_length = length-map blocks (start_of code.funcs)
+
+  pub start_is : (m d : ℕ) (b : Block) (s : Strip) → slice_get blocks m ≡ Some b → StripOf code b s →
+      get_or starts m d ≡ first_in s.inner s.last
+  start_is m d b s at x =
+      let e : slice_get starts m ≡ Some (start_of code.funcs b) = slice_get-map (start_of code.funcs) blocks m
+      ∙ ap (option_map (start_of code.funcs)) at in
+      get_or_from_slice_get starts m (start_of code.funcs b) d e ∙ rw x.strip_is refl
+
+  pub starts_up : AllPairs (λ a b. a < b) starts
+  starts_up m n d less within =
+      let len = starts_length in
+      let (b, at_m) = there blocks m (omega (arith, less, within, len)) in
+      let (c, at_n) = there blocks n (omega (arith, within, len)) in
+      let (s, x) = strip_for code b (block_of code blocks m b are at_m) in
+      let (t, y) = strip_for code c (block_of code blocks n c are at_n) in
+      let (p, has_p, first_p) = first_there s.inner s.last in
+      let (q, has_q, first_q) = first_there t.inner t.last in
+      let u = blocks_up code blocks m n b c s t laid are x y at_m at_n less p q has_p has_q in
+      let l = (some_length p (strip_length code b s laid x p has_p)).0 in
+      let e = start_is m d b s at_m x in
+      let f = start_is n d c t at_n y in
+      omega (arith, u, l, e, f, first_p, first_q)
+
+  -- the block with an instruction holds its address, among the starts
+  pub holds : (m : ℕ) (b : Block) (s : Strip) → slice_get blocks m ≡ Some b → StripOf code b s → (p : Placed) →
+      Contains (insts_in s) p → first_in s.inner s.last ≤ p.addr → IsHolder starts p.addr m
+  holds m b s at x p has_p low =
+      let len = starts_length in
+      let within = slice_get_within blocks m b at in
+      let e = start_is m 0 b s at x in
+      record { within = omega (arith, within, len); above = omega (arith, e, low); below = below }
+    where
+      below : (k : ℕ) → m < k → k < length starts → p.addr < slice_index starts k
+      below k less inside =
+          let len = starts_length in
+          let (c, at_c) = there blocks k (omega (arith, inside, len)) in
+          let (t, y) = strip_for code c (block_of code blocks k c are at_c) in
+          let (q, has_q, first_q) = first_there t.inner t.last in
+          let u = blocks_up code blocks m k b c s t laid are x y at at_c less p q has_p has_q in
+          let l = (some_length p (strip_length code b s laid x p has_p)).0 in
+          let f = start_is k 0 c t at_c y in
+          omega (arith, u, l, f, first_q)
+
+  module _ (order : List ℕ) (perm : IsOrder blocks order) where
+    abbrev strips : List Strip
+    strips = strips_of code.funcs blocks order
+
+    -- where a code address is in the plan
+    pub record Held (a : ℕ) : Type 0 where
+      pub j : ℕ
+      pub s : Strip
+      pub p : Placed
+      pub at : slice_get strips j ≡ Some s
+      pub plan : Planned code blocks order j s
+      pub has : Contains (insts_in s) p
+      pub addr : p.addr ≡ a
+
+    pub held : (a : ℕ) → is_code_address code.funcs a ≡ true → Held a
+    held a is =
+        let c = code_at code.funcs a is in
+        let v = covers code blocks are c.f c.i c.func c.at_func (slice_get_within c.func.insts.items c.i c.p c.at_inst) in
+        let (j, place) = order_has blocks order perm v.m (slice_get_within blocks v.m v.b v.at) in
+        let (s, at, plan) = planned_at code blocks are order perm j v.m place in
+        let same_m : plan.m ≡ v.m = some_nat plan.m v.m (sym plan.place ∙ place) in
+        let same_b : plan.b ≡ v.b = some_block plan.b v.b (sym plan.block ∙ ap (slice_get blocks) same_m ∙ v.at) in
+        let same_f : plan.of.func ≡ c.func = some_func plan.of.func c.func
+        (sym plan.of.at ∙ ap (λ (z : Block). slice_get code.funcs z.func) same_b ∙ ap (slice_get code.funcs) v.func
+        ∙ c.at_func) in
+        let first : plan.b.first ≡ v.b.first = ap (λ (z : Block). z.first) same_b in
+        let last : plan.b.last ≡ v.b.last = ap (λ (z : Block). z.last) same_b in
+        let low = v.low in
+        let high = v.high in
+        record {
+          j = j;
+          s = s;
+          p = c.p;
+          at = at;
+          plan = plan;
+          has = block_in_insts code plan.b s plan.of c.p c.i (omega (arith, first, low)) (omega (arith, last, high))
+              (subst (λ (z : Func). slice_get z.insts.items c.i ≡ Some c.p) (sym same_f) c.at_inst);
+          addr = c.addr;
+        }
+
+-- what the code reads at a place of the plan
+pub planned_read : (funcs : List Func) (blocks : List Block) (order : List ℕ) → AreBlocksOf funcs blocks →
+    IsOrder blocks order → (k : ℕ) (d : Block) → k < length order → slice_get
+    (strips_of funcs blocks order) k ≡ strip_of funcs (get_or blocks (get_or order k 0) d)
+planned_read funcs blocks order are perm k d within =
+    let code : ProgramCode = code_of funcs are.roles are.cells are.entry in
+    let (s, at, plan) = planned_at code blocks are.are order perm k (get_or order k 0) (slice_get-get_or order k 0 within) in
+    let same_m : plan.m ≡ get_or order k 0 = some_nat plan.m (get_or order k 0)
+    (sym plan.place ∙ slice_get-get_or order k 0 within) in
+    let block : get_or blocks (get_or order k 0) d ≡ plan.b = ap (λ (m : ℕ). get_or blocks m d) (sym same_m)
+    ∙ get_or_from_slice_get blocks plan.m plan.b d plan.block in
+    at ∙ sym plan.of.strip_is ∙ ap (strip_of funcs) (sym block)
+
+pub place_within : (blocks : List Block) (order : List ℕ) → IsOrder blocks order → (k : ℕ) → k < length order →
+    get_or order k 0 < length blocks
+place_within blocks order perm k within = order_within blocks order perm k (get_or order k 0) (slice_get-get_or order k 0 within)
+
+pub begins_nowhere : (funcs : List Func) (blocks : List Block) (order : List ℕ) → AreBlocksOf funcs blocks →
+    IsOrder blocks order → (k : ℕ) → length order ≤ k → None ≡ begins_of (strips_of funcs blocks order) k
+begins_nowhere funcs blocks order are perm k past =
+    let code : ProgramCode = code_of funcs are.roles are.cells are.entry in
+    let len = planned_length code blocks are.are order perm in
+    rw (slice_get_past (strips_of funcs blocks order) k (omega (arith, len, past))) refl

@@ -1,0 +1,122 @@
+-- Elements of lists, by their places.
+use Rattle.std.proofs.Common.{◌≡◌, ℕ, zero, suc, ◌+◌, ◌<◌, List, [], ◌∷◌, ◌++◌, length, Some, Bool, true, false, cond, refl, sym, ap, ◌∙◌, subst, arith, inl, inr, ◌⊎◌, take, drop}
+use Rattle.std.specs.Prelude.{Contains, slice_get, flat_map, find, is_some}
+use Rattle.std.proofs.lemmas.List.Elements.{Contains-append_left, Contains-append_right, Contains-append_cases}
+use Rattle.std.proofs.lemmas.Option.{slice_get_within, get_or_from_slice_get, slice_get-get_or}
+
+pub Contains-cons_cases : {X : Type 0} (y : X) (ys : List X) (x : X) → Contains (y ∷ ys) x → (y ≡ x) ⊎ Contains ys x
+Contains-cons_cases y ys x (zero, within, is) = inl is
+Contains-cons_cases y ys x (suc k, within, is) = inr (k, omega arith, is)
+
+pub Contains-there : {X : Type 0} (y : X) (ys : List X) (x : X) → Contains ys x → Contains (y ∷ ys) x
+Contains-there y ys x (k, within, is) = (suc k, omega arith, is)
+
+pub Contains-nil : {X : Type 0} (x : X) → Contains [] x → ⊥
+Contains-nil x c = let l = c.1 in absurd (omega (arith, l))
+
+pub at_contains : {X : Type 0} (xs : List X) (k : ℕ) (x : X) → slice_get xs k ≡ Some x → Contains xs x
+at_contains xs k x h = (k, slice_get_within xs k x h, get_or_from_slice_get xs k x x h)
+
+pub contains_at : {X : Type 0} (xs : List X) (x : X) → Contains xs x → (k : ℕ) × (slice_get xs k ≡ Some x)
+contains_at xs x (k, within, is) = (k, slice_get-get_or xs k x within ∙ ap Some is)
+
+pub at_drop : {X : Type 0} (n : ℕ) (xs : List X) (k m : ℕ) → m ≡ n + k → slice_get (drop n xs) k ≡ slice_get xs m
+at_drop zero xs k m e = ap (slice_get xs) (let h : k ≡ m = omega (arith, e) in h)
+at_drop (suc n) [] k m e = refl
+at_drop (suc n) (x ∷ xs) k zero e = absurd (omega (arith, e))
+at_drop (suc n) (x ∷ xs) k (suc m) e = at_drop n xs k m (omega (arith, e))
+
+pub at_take : {X : Type 0} (n : ℕ) (xs : List X) (k : ℕ) → k < n → slice_get (take n xs) k ≡ slice_get xs k
+at_take zero xs k h = absurd (omega (arith, h))
+at_take (suc n) [] k h = refl
+at_take (suc n) (x ∷ xs) zero h = refl
+at_take (suc n) (x ∷ xs) (suc k) h = at_take n xs k (omega (arith, h))
+
+pub take_in : {X : Type 0} (n : ℕ) (xs : List X) (k : ℕ) (x : X) → slice_get (take n xs) k ≡ Some x → k < n
+take_in zero xs k x h = absurd (cc)
+take_in (suc n) [] k x h = absurd (cc)
+take_in (suc n) (y ∷ xs) zero x h = omega arith
+take_in (suc n) (y ∷ xs) (suc k) x h = let i = take_in n xs k x h in omega (arith, i)
+
+some_is : {X : Type 0} (x y : X) → Some x ≡ Some y → x ≡ y
+some_is x y h = cc
+
+pub take_one_more : {X : Type 0} (n : ℕ) (xs : List X) (x : X) → slice_get xs n ≡ Some x → take (suc n) xs ≡ take n xs ++ x ∷ []
+take_one_more n [] x h = absurd (cc)
+take_one_more zero (y ∷ xs) x h = ap (λ (z : _). z ∷ []) (some_is y x h)
+take_one_more (suc n) (y ∷ xs) x h = ap (λ (zs : List _). y ∷ zs) (take_one_more n xs x h)
+
+-- Lists of lists.
+
+pub flat_at : {A B : Type 0} (f : A → List B) (xs : List A) (i : ℕ) (a : A) (b : B) → slice_get xs i ≡ Some a →
+    Contains (f a) b → Contains (flat_map f xs) b
+flat_at f [] i a b h c = absurd (cc)
+flat_at f (x ∷ xs) zero a b h c = Contains-append_left (f x) (flat_map f xs) b
+    (subst (λ (y : _). Contains (f y) b) (sym (some_is x a h)) c)
+flat_at f (x ∷ xs) (suc i) a b h c = Contains-append_right (f x) (flat_map f xs) b (flat_at f xs i a b h c)
+
+-- where an element of one of the lists is
+pub record InFlat {A B : Type 0} (f : A → List B) (xs : List A) (b : B) : Type 0 where
+  pub i : ℕ
+  pub a : A
+  pub at : slice_get xs i ≡ Some a
+  pub has : Contains (f a) b
+
+pub at_flat : {A B : Type 0} (f : A → List B) (xs : List A) (b : B) → Contains (flat_map f xs) b → InFlat f xs b
+at_flat f [] b c = absurd (Contains-nil b c)
+at_flat f (x ∷ xs) b c = elim (Contains-append_cases (f x) (flat_map f xs) b c) [
+  | inl here ↦ record { i = 0; a = x; at = refl; has = here }
+  | inr later ↦ let r = at_flat f xs b later in record { i = suc r.i; a = r.a; at = r.at; has = r.has }
+]
+
+-- Finding.
+
+pub record Found {X : Type 0} (p : X → Bool) (xs : List X) : Type 0 where
+  pub k : ℕ
+  pub x : X
+  pub at : slice_get xs k ≡ Some x
+  pub passes : p x ≡ true
+
+found_there : {X : Type 0} (p : X → Bool) (y : X) (ys : List X) → Found p ys → Found p (y ∷ ys)
+found_there p y ys f = record { k = suc f.k; x = f.x; at = f.at; passes = f.passes }
+
+-- one passes, or none does
+pub look : {X : Type 0} (p : X → Bool) (xs : List X) → Found p xs ⊎ ((k : ℕ) (x : X) → slice_get xs k ≡ Some x → p x ≡ false)
+look p [] = inr (λ k x h. absurd (cc))
+look p (y ∷ ys) = by (p y) refl (look p ys)
+  where
+    by : (b : Bool) → p y ≡ b → Found p ys ⊎ ((k : ℕ) (x : _) → slice_get ys k ≡ Some x → p x ≡ false) →
+        Found p (y ∷ ys) ⊎ ((k : ℕ) (x : _) → slice_get (y ∷ ys) k ≡ Some x → p x ≡ false)
+    by true e r = inl (record { k = 0; x = y; at = refl; passes = e })
+    by false e (inl f) = inl (found_there p y ys f)
+    by false e (inr n) = inr none
+      where
+        none : (k : ℕ) (x : _) → slice_get (y ∷ ys) k ≡ Some x → p x ≡ false
+        none zero x h = ap p (sym (some_is y x h)) ∙ e
+        none (suc k) x h = n k x h
+
+found_by : {X : Type 0} (p : X → Bool) (y : X) (ys : List X) (b : Bool) → p y ≡ b →
+    (is_some (find p ys) ≡ true → Found p ys) → is_some (cond b (Some y) (find p ys)) ≡ true → Found p (y ∷ ys)
+found_by p y ys true e more h = record { k = 0; x = y; at = refl; passes = e }
+found_by p y ys false e more h = found_there p y ys (more h)
+
+pub find_found : {X : Type 0} (p : X → Bool) (xs : List X) → is_some (find p xs) ≡ true → Found p xs
+find_found p [] h = absurd (cc)
+find_found p (y ∷ ys) h = found_by p y ys (p y) refl (find_found p ys) h
+
+some_by : {X : Type 0} (p : X → Bool) (y : X) (ys : List X) (b : Bool) → (b ≡ false → is_some (find p ys) ≡ true) →
+    is_some (cond b (Some y) (find p ys)) ≡ true
+some_by p y ys true more = refl
+some_by p y ys false more = more refl
+
+pub found_find : {X : Type 0} (p : X → Bool) (xs : List X) (k : ℕ) (x : X) → slice_get xs k ≡ Some x → p x ≡ true →
+    is_some (find p xs) ≡ true
+found_find p [] k x h t = absurd (cc)
+found_find p (y ∷ ys) zero x h t = some_by p y ys (p y) (λ f. absurd (let e : p y ≡ true = ap p (some_is y x h)
+    ∙ t in let c : true ≡ false = sym e ∙ f in cc))
+found_find p (y ∷ ys) (suc k) x h t = some_by p y ys (p y) (λ f. found_find p ys k x h t)
+
+pub there : {X : Type 0} (xs : List X) (i : ℕ) → i < length xs → (x : X) × (slice_get xs i ≡ Some x)
+there [] i h = absurd (omega (arith, h))
+there (x ∷ xs) zero h = (x, refl)
+there (x ∷ xs) (suc i) h = there xs i (omega (arith, h))

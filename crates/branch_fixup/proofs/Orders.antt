@@ -1,0 +1,100 @@
+-- A plan's order: all places of a list, each once.
+use Rattle.std.proofs.Common.{◌≡◌, ◌≢◌, ℕ, zero, suc, ◌+◌, ◌<◌, List, [], ◌∷◌, ◌++◌, length, Some, sym, ap, ◌∙◌, subst, arith, inl, inr, All, zero-add}
+use Rattle.std.specs.Prelude.{slice_get, Contains, AllPairs}
+use Rattle.std.specs.List.{range_with_len, remove}
+use Rattle.std.specs.List.Sorted.{IsPermutation}
+use Rattle.std.proofs.lemmas.Bool.{cases_order}
+use Rattle.std.proofs.lemmas.List.FromFn.{length-range_with_len, get_or-range_with_len}
+use Rattle.std.proofs.lemmas.List.Elements.{All-contains}
+use Rattle.std.proofs.lemmas.List.Sorted.{All-permutation, Contains-permutation, IsPermutation-cons, IsPermutation-refl, IsPermutation-remove, IsPermutation-sym, IsPermutation-to_front, IsPermutation-trans, length_permutation}
+use Rattle.std.proofs.lemmas.Option.{slice_get_within, get_or_from_slice_get}
+use Rattle.addr_map.proofs.Orders.{AllPairs-permutation}
+use Rattle.rv_code.specs.declared.placed.Block.{Block}
+use Rattle.branch_fixup.specs.Inputs.{IsOrder}
+use Rattle.branch_fixup.proofs.Lists.{Contains-cons_cases, at_contains, contains_at}
+
+range_below : (n : ℕ) → All (λ x. x < n) (range_with_len 0 n)
+range_below n = λ k d within. let l = length-range_with_len 0 n in let e =
+    get_or-range_with_len 0 n k d (omega (arith, within, l)) in omega (arith, within, l, e)
+
+range_differ : (n : ℕ) → AllPairs (λ x y. x ≢ y) (range_with_len 0 n)
+range_differ n = λ i j d less within.
+    let l = length-range_with_len 0 n in
+    let e = get_or-range_with_len 0 n i d (omega (arith, less, within, l)) in
+    let f = get_or-range_with_len 0 n j d (omega (arith, within, l)) in
+    λ same. absurd (omega (arith, less, e, f, same))
+
+pub order_length : (blocks : List Block) (order : List ℕ) → IsOrder blocks order → length order ≡ length blocks
+order_length blocks order is = length_permutation (range_with_len 0 (length blocks)) order is
+    ∙ length-range_with_len 0 (length blocks)
+
+pub order_within : (blocks : List Block) (order : List ℕ) → IsOrder blocks order → (k m : ℕ) →
+    slice_get order k ≡ Some m → m < length blocks
+order_within blocks order is k m at =
+    All-contains (λ x. x < length blocks) order m (All-permutation (λ x. x < length blocks)
+    (range_with_len 0 (length blocks)) order is (range_below (length blocks))) (at_contains order k m at)
+
+pub order_has : (blocks : List Block) (order : List ℕ) → IsOrder blocks order → (m : ℕ) → m < length blocks →
+    (k : ℕ) × (slice_get order k ≡ Some m)
+order_has blocks order is m within =
+    let l = length-range_with_len 0 (length blocks) in
+    contains_at order m (Contains-permutation (range_with_len 0 (length blocks)) order m is
+    (m, omega (arith, within, l), get_or-range_with_len 0 (length blocks) m m within ∙ zero-add m))
+
+pub order_differ : (blocks : List Block) (order : List ℕ) → IsOrder blocks order → AllPairs (λ x y. x ≢ y) order
+order_differ blocks order is = AllPairs-permutation (λ (x y : ℕ). x ≢ y) (λ x y ne e. ne (sym e))
+    (range_with_len 0 (length blocks)) order is (range_differ (length blocks))
+
+pub order_once : (blocks : List Block) (order : List ℕ) → IsOrder blocks order → (i j m n : ℕ) →
+    slice_get order i ≡ Some m → slice_get order j ≡ Some n → m ≡ n → i ≡ j
+order_once blocks order is i j m n at_i at_j e = elim (cases_order i j) [
+  | inl same ↦ same
+  | inr apart ↦ elim apart [
+    | inl less ↦
+        let ne = order_differ blocks order is i j 0 less (slice_get_within order j n at_j) in
+        absurd (ne (get_or_from_slice_get order i m 0 at_i ∙ e ∙ sym (get_or_from_slice_get order j n 0 at_j)))
+    | inr more ↦
+        let ne = order_differ blocks order is j i 0 more (slice_get_within order i m at_i) in
+        absurd (ne (get_or_from_slice_get order j n 0 at_j ∙ sym e ∙ sym (get_or_from_slice_get order i m 0 at_i)))
+  ]
+]
+
+pub order_all_within : (blocks : List Block) (order : List ℕ) → IsOrder blocks order → All (λ m. m < length blocks) order
+order_all_within blocks order is = All-permutation (λ x. x < length blocks) (range_with_len 0 (length blocks)) order is
+    (range_below (length blocks))
+
+-- An order that has each place once is a permutation.
+
+range_more : (a n : ℕ) → range_with_len a (suc n) ≡ range_with_len a n ++ (a + n) ∷ []
+range_more a zero = ap (λ (x : ℕ). x ∷ []) (let e : a ≡ a + 0 = omega arith in e)
+range_more a (suc n) =
+    ap (λ (l : List ℕ). a ∷ l) (range_more (a + 1) n)
+    ∙ ap (λ (x : ℕ). a ∷ (range_with_len (a + 1) n ++ x ∷ [])) (let e : a + 1 + n ≡ a + suc n = omega arith in e)
+
+pub order_by_once : (n : ℕ) (order : List ℕ) → All (λ m. m < n) order → ((m : ℕ) → m < n → Contains order m) →
+    AllPairs (λ x y. x ≢ y) order → IsPermutation (range_with_len 0 n) order
+order_by_once zero [] below has differ = IsPermutation-refl []
+order_by_once zero (x ∷ xs) below has differ = absurd (let h = below 0 0 (omega arith) in omega (arith, h))
+order_by_once (suc n) order below has differ =
+    let (i, within, is) = has n (omega arith) in
+    let rest : List ℕ = remove order i in
+    let moved : IsPermutation order (n ∷ rest) = IsPermutation-remove order i n within (sym is) in
+    let below_2 = All-permutation (λ m. m < suc n) order (n ∷ rest) moved below in
+    let differ_2 = AllPairs-permutation (λ (x y : ℕ). x ≢ y) (λ x y ne e. ne (sym e)) order (n ∷ rest) moved differ in
+    let low : All (λ m. m < n) rest = λ k d inside. (let b = below_2 (suc k) d (omega (arith, inside)) in let ne =
+    differ_2 0 (suc k) d (omega arith) (omega (arith, inside)) in omega (arith, b, ne)) in
+    let here : (m : ℕ) → m < n → Contains rest m = λ m less. elim (Contains-cons_cases n rest m
+    (Contains-permutation order (n ∷ rest) m moved (has m (omega (arith, less))))) [
+      | inl same ↦ absurd (omega (arith, same, less))
+      | inr later ↦ later
+    ] in
+    let apart : AllPairs (λ x y. x ≢ y) rest = λ j k d less inside. differ_2 (suc j) (suc k) d (omega (arith, less))
+    (omega (arith, inside)) in
+    let before = order_by_once n rest low here apart in
+    let all : range_with_len 0 (suc n) ≡ range_with_len 0 n ++ n ∷ [] = range_more 0 n
+    ∙ ap (λ (x : ℕ). range_with_len 0 n ++ x ∷ []) (zero-add n) in
+    subst (λ (l : List ℕ). IsPermutation l order) (sym all)
+    (IsPermutation-trans (range_with_len 0 n ++ n ∷ []) (n ∷ range_with_len 0 n) order
+    (IsPermutation-to_front (range_with_len 0 n) n)
+    (IsPermutation-trans (n ∷ range_with_len 0 n) (n ∷ rest) order (IsPermutation-cons n
+    (range_with_len 0 n) rest before) (IsPermutation-sym order (n ∷ rest) moved)))

@@ -1,0 +1,68 @@
+-- Which forms blocks in an order have: those of the table of endings, that reach, and that are locally the least.
+use Rattle.std.specs.Prelude.{◌≡◌, ℕ, ◌==◌, if◌then◌else◌, true, false, IsTrue, IfSome, List, [], ◌∷◌, Option, Some, None, slice_get, slice_set}
+use Rattle.std.specs.List.{list_all}
+use Rattle.rv_code.specs.declared.layout.Form.{Form}
+use Rattle.rv_code.specs.declared.layout.Form.TheVariants as form
+use Rattle.rv_code.specs.declared.layout.Size.TheVariants.{Half, Full, Long}
+use Rattle.rv_code.specs.declared.placed.Placed.{Placed}
+use Rattle.rv_code.specs.declared.placed.Func.{Func}
+use Rattle.rv_code.specs.declared.placed.Block.{Block}
+use Rattle.rv_code.specs.declared.placed.Role.{Role}
+use Rattle.rv_code.specs.declared.cell.CodeCell.{CodeCell}
+use Rattle.rv_code.specs.layout.Blocks.{AreBlocks}
+use Rattle.rv_code.specs.layout.Flow.{action_at, target_of}
+use Rattle.rv_code.specs.layout.ProgramCode.{is_code_address, IsNamed}
+use Rattle.addr_map.specs.declared.span.Span.{Span}
+use Rattle.addr_map.specs.Spans.{new, IsMap}
+use Rattle.branch_fixup.specs.Endings.{end_of_form, ending}
+use Rattle.branch_fixup.specs.Inputs.{code_of}
+use Rattle.branch_fixup.specs.Pieces.{end_from}
+use Rattle.branch_fixup.specs.Reach.{lands, main_leap, AllLand}
+use Rattle.branch_fixup.specs.Strips.{Strip, is_alone, first_of, pieces_of, spans_of}
+
+-- a form of two bytes stands only for an instruction that has two in the input
+abbrev pub FitsLength : ℕ → Form → Type 0
+FitsLength len (form.Branch inverted Half jump) = len ≡ 2
+FitsLength len (form.Goto true) = len ≡ 2
+FitsLength len _ = Unit {0}
+
+-- each block ends by the table, before the next one
+abbrev pub EndByTable : List Strip → List Form → Type 0
+EndByTable [] [] = Unit {0}
+EndByTable [] (f ∷ fs) = ⊥
+EndByTable (s ∷ ss) [] = ⊥
+EndByTable (s ∷ ss) (f ∷ fs) =
+    (end_of_form f ≡ ending s.whole (is_alone s.inner) (action_at s.last) s.fall (target_of s.last) (first_of ss))
+    × FitsLength s.last.len f × EndByTable ss fs
+
+-- the next shorter form
+abbrev pub shorter : ℕ → Form → Option Form
+shorter len (form.Branch inverted Long jump) = Some (form.Branch inverted Full jump)
+shorter len (form.Branch inverted Full jump) = if len == 2 then Some (form.Branch inverted Half jump) else None
+shorter len (form.Goto false) = if len == 2 then Some (form.Goto true) else None
+shorter len _ = None
+
+-- an instruction in a form doesn't reach, where these are the spans
+abbrev pub FallsShort : List Span → Placed → Form → Type 0
+FallsShort spans p f = list_all lands (main_leap (new spans) (new spans p.addr) p f) ≡ false
+
+-- The k-th block, which is in form f, can't have the next shorter one with all others as they are: at the addresses that
+-- then follow it doesn't reach.
+abbrev pub IsLeast : List Strip → ℕ → List Form → ℕ → Strip → Form → Type 0
+IsLeast ss base fs k s f = IfSome (shorter s.last.len f) (λ g. FallsShort (spans_of ss base (slice_set fs k g)) s.last g)
+
+-- the forms of blocks, from an address on
+pub record AreForms (ss : List Strip) (base : ℕ) (fs : List Form) : Type 0 where
+  pub by_table : EndByTable ss fs
+  pub reach : AllLand (new (spans_of ss base fs)) base (pieces_of ss fs)
+  pub least : (k : ℕ) (s : Strip) (f : Form) → slice_get ss k ≡ Some s → slice_get fs k ≡ Some f → IsLeast ss base fs k s f
+
+-- where the new code ends
+abbrev pub end_of : List Strip → ℕ → List Form → ℕ
+end_of ss base fs = end_from base (pieces_of ss fs)
+
+-- The spans are a valid map of functions, for whatever roles, code cells and entry point these are the blocks.
+abbrev pub AreMap : List Func → List Block → List Span → Type 0
+AreMap funcs blocks spans =
+    (roles : List (ℕ × Role)) (cells : List CodeCell) (entry : ℕ) → AreBlocks (code_of funcs roles cells entry) blocks →
+    IsMap (λ a. IsTrue (is_code_address funcs a)) (IsNamed (code_of funcs roles cells entry)) spans

@@ -1,0 +1,87 @@
+-- Forms that grow: blocks in their new order, each seen as how it ends.
+use Rattle.std.specs.Prelude.{◌≡◌, ℕ, zero, suc, ◌+◌, ◌^◌, ◌<◌, ◌≤◌, Bool, true, false, IfSome, List, Option, Some, None, length, sum_by, slice_index, slice_index_or, slice_set}
+use Rattle.std.specs.Option.{option_map_or}
+use Rattle.rv_code.specs.declared.layout.Form.{Form}
+use Rattle.rv_code.specs.declared.layout.Form.TheVariants as form
+use Rattle.rv_code.specs.declared.layout.Size.TheVariants.{Half, Full, Long}
+use Rattle.branch_fixup.specs.declared.growth.Tail.{Tail}
+use Rattle.branch_fixup.specs.Pieces.{length_in}
+use Rattle.branch_fixup.specs.Forms.{shorter, FitsLength}
+use Rattle.branch_fixup.specs.Reach.{reaches}
+
+abbrev pub tail_at : List Tail → ℕ → Tail
+tail_at ts k = slice_index_or ts k (record { before = 0; len = 0; to = 0; offset = 0 })
+
+abbrev pub form_at : List Form → ℕ → Form
+form_at fs k = slice_index_or fs k form.Plain
+
+abbrev pub length_at : List Tail → List Form → ℕ → ℕ
+length_at ts fs k = (tail_at ts k).before + length_in (tail_at ts k).len (form_at fs k)
+
+-- where a block begins, from the start of the code
+abbrev pub place : List Tail → List Form → ℕ → ℕ
+place ts fs zero = 0
+place ts fs (suc k) = place ts fs k + length_at ts fs k
+
+-- where its branch or jump is, and where that leads
+abbrev pub from_at : List Tail → List Form → ℕ → ℕ
+from_at ts fs k = place ts fs k + (tail_at ts k).before
+
+abbrev pub to_at : List Tail → List Form → ℕ → ℕ
+to_at ts fs k = place ts fs (tail_at ts k).to + (tail_at ts k).offset
+
+-- the reach of a form that can grow
+abbrev pub half_of : Form → Option ℕ
+half_of (form.Branch inverted Half jump) = Some (2 ^ 8)
+half_of (form.Branch inverted Full jump) = Some (2 ^ 12)
+half_of (form.Goto true) = Some (2 ^ 11)
+half_of _ = None
+
+-- a form would reach where the block is
+abbrev pub is_enough : List Tail → List Form → ℕ → Form → Bool
+is_enough ts fs k f = option_map_or (λ half. reaches half (from_at ts fs k) (to_at ts fs k)) (half_of f) true
+
+-- the same where the blocks begin at these places
+abbrev pub is_enough_at : List Tail → List ℕ → ℕ → Form → Bool
+is_enough_at ts places k f =
+    option_map_or (λ half. reaches half (slice_index places k + (tail_at ts k).before)
+    (slice_index places (tail_at ts k).to + (tail_at ts k).offset)) (half_of f) true
+
+-- the next longer form
+abbrev pub longer : Form → Form
+longer (form.Branch inverted Half jump) = form.Branch inverted Full jump
+longer (form.Branch inverted Full jump) = form.Branch inverted Long jump
+longer (form.Goto true) = form.Goto false
+longer f = f
+
+-- the most bytes of a block: its last instruction takes at most 12, for a branch of the long form and a JAL
+abbrev pub most_of : Tail → ℕ
+most_of t = t.before + 12
+
+-- Each block leads to a block, and not past the last instruction of it. All have few bytes.
+pub record AreTails (ts : List Tail) : Type 0 where
+  pub to_block : (k : ℕ) → k < length ts → (tail_at ts k).to < length ts
+  pub to_inside : (k : ℕ) → k < length ts → (tail_at ts k).offset ≤ (tail_at ts (tail_at ts k).to).before
+  pub short : (k : ℕ) → k < length ts → (tail_at ts k).len ≤ 4
+  pub low : sum_by most_of ts < 2 ^ 62
+
+-- A form is needed: the next shorter one, with all others as they are, isn't enough.
+abbrev pub IsNeeded : List Tail → List Form → ℕ → Type 0
+IsNeeded ts fs k =
+    IfSome (shorter (tail_at ts k).len (form_at fs k)) (λ f. is_enough ts (slice_set fs k f) k f ≡ false)
+
+pub record AreEnough (ts : List Tail) (fs : List Form) : Type 0 where
+  pub enough : (k : ℕ) → k < length fs → is_enough ts fs k (form_at fs k) ≡ true
+
+-- how often a form can still grow
+abbrev pub left_of : Form → ℕ
+left_of (form.Branch inverted Half jump) = 2
+left_of (form.Branch inverted Full jump) = 1
+left_of (form.Goto true) = 1
+left_of _ = 0
+
+-- forms that are needed, of which none of two bytes stands for four
+pub record AreGrown (ts : List Tail) (fs : List Form) : Type 0 where
+  pub one_each : length fs ≡ length ts
+  pub needed : (k : ℕ) → k < length ts → IsNeeded ts fs k
+  pub fits : (k : ℕ) → k < length ts → FitsLength (tail_at ts k).len (form_at fs k)

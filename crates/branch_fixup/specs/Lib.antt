@@ -1,0 +1,10 @@
+pub mod Pieces
+pub mod Endings
+pub mod Strips
+pub mod Reach
+pub mod Forms
+pub mod Inputs
+pub mod Growth
+pub mod BlockInsts
+pub mod Lookup
+pub mod Ends

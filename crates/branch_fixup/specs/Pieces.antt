@@ -1,0 +1,49 @@
+-- The new code, instruction by instruction: in which form each one is, how long that makes it, and so where it is.
+use Rattle.std.specs.Prelude.{ℕ, ◌+◌, if◌then◌else◌, Bool, List, [], ◌∷◌}
+use Rattle.rv_code.specs.declared.layout.Form.{Form}
+use Rattle.rv_code.specs.declared.layout.Form.TheVariants.{Plain, Jump, Branch, Goto, Dropped}
+use Rattle.rv_code.specs.declared.layout.Size.{Size}
+use Rattle.rv_code.specs.declared.layout.Size.TheVariants.{Half, Full, Long}
+use Rattle.rv_code.specs.declared.placed.Placed.{Placed}
+use Rattle.addr_map.specs.declared.span.Span.{Span}
+
+-- An instruction of the input, and its form in the new code. That of one that doesn't end a block is `Plain`.
+pub record Piece : Type 0 where
+  pub placed : Placed
+  pub form : Form
+
+abbrev pub as_it_is : Placed → Piece
+as_it_is p = record { placed = p; form = Plain }
+
+-- Lengths in bytes.
+
+abbrev pub bytes_of_size : Size → ℕ
+bytes_of_size Half = 2
+bytes_of_size Full = 4
+bytes_of_size Long = 8
+
+-- of a JAL, if one is added
+abbrev pub bytes_of_jump : Bool → ℕ
+bytes_of_jump jump = if jump then 4 else 0
+
+-- an instruction that has `len` bytes in the input, with what is added after it
+abbrev pub length_in : ℕ → Form → ℕ
+length_in len Plain = len
+length_in len Jump = len + 4
+length_in len (Branch inverted size jump) = bytes_of_size size + bytes_of_jump jump
+length_in len (Goto half) = if half then 2 else 4
+length_in len Dropped = 0
+
+abbrev pub length_of : Piece → ℕ
+length_of p = length_in p.placed.len p.form
+
+-- Pieces one after another from an address on: their spans. A jump that is left out has an empty one, at the address at
+-- which the next piece begins.
+abbrev pub laid_from : ℕ → List Piece → List Span
+laid_from a [] = []
+laid_from a (p ∷ ps) = record { out = a; len = length_of p; input = p.placed.addr } ∷ laid_from (a + length_of p) ps
+
+-- where they end
+abbrev pub end_from : ℕ → List Piece → ℕ
+end_from a [] = a
+end_from a (p ∷ ps) = end_from (a + length_of p) ps

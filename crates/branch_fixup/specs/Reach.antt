@@ -1,0 +1,68 @@
+-- How far branches and jumps reach. ISA manual, sections 2.5 and 26.4.
+use Rattle.std.specs.Prelude.{ℕ, ◌+◌, ◌^◌, ◌==◌, ◌&&◌, nat_lt, nat_le, if◌then◌else◌, Bool, IsTrue, List, [], ◌∷◌, ◌++◌}
+use Rattle.std.specs.Option.{option_map_or}
+use Rattle.std.specs.List.{list_all}
+use Rattle.rv_code.specs.declared.layout.Form.{Form}
+use Rattle.rv_code.specs.declared.layout.Form.TheVariants as form
+use Rattle.rv_code.specs.declared.layout.Size.{Size}
+use Rattle.rv_code.specs.declared.layout.Size.TheVariants.{Half, Full, Long}
+use Rattle.rv_code.specs.declared.placed.Placed.{Placed}
+use Rattle.rv_code.specs.layout.Flow.{action_at, target_of, is_branch}
+use Rattle.branch_fixup.specs.Pieces.{Piece, length_of, bytes_of_size}
+
+-- from one address to another, by a distance whose sign bit is worth `half`
+abbrev pub reaches : ℕ → ℕ → ℕ → Bool
+reaches half from to = nat_lt to (from + half) && nat_le from (to + half)
+
+-- what the sign bit is worth in a branch or jump of the input that has so many bytes
+abbrev pub reach_of : ℕ → Placed → ℕ
+reach_of bytes p =
+    if is_branch (action_at p)
+    then (if bytes == 2 then 2 ^ 8 else 2 ^ 12)
+    else (if bytes == 2 then 2 ^ 11 else 2 ^ 20)
+
+-- a branch or jump of the new code: what its distance's sign bit is worth, where it is, and where it goes
+pub record Leap : Type 0 where
+  pub half : ℕ
+  pub from : ℕ
+  pub to : ℕ
+
+abbrev pub lands : Leap → Bool
+lands l = reaches l.half l.from l.to
+
+abbrev pub jal : ℕ → ℕ → Leap
+jal from to = record { half = 2 ^ 20; from = from; to = to }
+
+-- where a branch or jump of the input goes; `new` says where an address is in the new code
+abbrev pub goal : (ℕ → ℕ) → Placed → ℕ
+goal new p = option_map_or new (target_of p) 0
+
+-- The branch or jump that stands at an address for an instruction: none where that is no branch or jump, or is left out. The
+-- long form's JAL stands after its branch, which skips it.
+abbrev pub main_leap : (ℕ → ℕ) → ℕ → Placed → Form → List Leap
+main_leap new a p (form.Branch inverted size jump) = by size
+  where
+    to : ℕ
+    to = if inverted then new (p.addr + p.len) else goal new p
+
+    by : Size → List Leap
+    by Half = record { half = 2 ^ 8; from = a; to = to } ∷ []
+    by Full = record { half = 2 ^ 12; from = a; to = to } ∷ []
+    by Long = jal (a + 4) to ∷ []
+main_leap new a p (form.Goto half) = record { half = if half then 2 ^ 11 else 2 ^ 20; from = a; to = goal new p } ∷ []
+main_leap new a p form.Dropped = []
+main_leap new a p _ = option_map_or (λ t. record { half = reach_of p.len p; from = a; to = new t } ∷ []) (target_of p) []
+
+-- the jump that is added after it
+abbrev pub added_leap : (ℕ → ℕ) → ℕ → Placed → Form → List Leap
+added_leap new a p form.Jump = jal (a + p.len) (new (p.addr + p.len)) ∷ []
+added_leap new a p (form.Branch inverted size jump) =
+    if jump then jal (a + bytes_of_size size) (new (p.addr + p.len)) ∷ [] else []
+added_leap new a p _ = []
+
+-- all those of pieces from an address on reach
+abbrev pub AllLand : (ℕ → ℕ) → ℕ → List Piece → Type 0
+AllLand new a [] = Unit {0}
+AllLand new a (p ∷ ps) =
+    IsTrue (list_all lands (main_leap new a p.placed p.form ++ added_leap new a p.placed p.form))
+    × AllLand new (a + length_of p) ps

@@ -1,0 +1,104 @@
+// The instructions of a block.
+ghost use Rattle.std.specs.Prelude.{◌≡◌, ◌+◌, ◌<◌, Some, length, slice_get};
+ghost use Rattle.rv_code.specs.layout.FunctionLists.{AreLaidOut};
+ghost use Rattle.branch_fixup.specs.Endings.{fall_of};
+ghost use Rattle.branch_fixup.specs.Ends.{begins_of};
+ghost use Rattle.branch_fixup.specs.Inputs.{AreBlocksOf, IsOrder};
+ghost use Rattle.branch_fixup.specs.Strips.{strip_of, strips_of, first_in};
+ghost use Rattle.branch_fixup.specs.BlockInsts.{IsBlockIn, seen, starts_at};
+
+use rv_code::flow::falls;
+use rv_code::{Block, Func, Placed};
+
+/// A block, by its instructions.
+#[derive(Clone, Copy)]
+pub struct BlockInsts<'a> {
+    /// The instructions before the last one.
+    pub inner: &'a [Placed],
+    pub last: Placed,
+    /// Whether its function moves as one piece.
+    pub whole: bool,
+    /// The address into which the last instruction falls, if it falls into an instruction.
+    pub fall: Option<u64>,
+}
+
+/// The instructions of a block.
+pub fn insts_of<'a>(funcs: &'a [Func], block: &Block) -> BlockInsts<'a>
+    requires laid { AreLaidOut funcs.now }
+    requires is { IsBlockIn funcs.now block.now }
+    ensures { strip_of funcs.now block.now ≡ Some (seen result) }
+{
+    let func = &funcs[block.func];
+    let insts = func.insts.as_slice();
+    let last = insts[block.last];
+    BlockInsts {
+        inner: &insts[block.first..block.last],
+        last,
+        whole: func.whole,
+        fall: fall_of(funcs, block.func, func, block.last, &last),
+    }
+}
+
+/// The instructions of the block at a place of a plan.
+pub fn planned<'a>(funcs: &'a [Func], blocks: &[Block], order: &[usize], k: usize) -> BlockInsts<'a>
+    requires laid { AreLaidOut funcs.now }
+    requires blocks { AreBlocksOf funcs.now blocks.now }
+    requires order { IsOrder blocks.now order.now }
+    requires inside { k < length order.now }
+    ensures { slice_get (strips_of funcs.now blocks.now order.now) k ≡ Some (seen result) }
+{
+    insts_of(funcs, &blocks[order[k]])
+}
+
+/// Where the block at a place of a plan begins, if there is one.
+pub fn begins_of(funcs: &[Func], blocks: &[Block], order: &[usize], k: usize) -> Option<u64>
+    requires laid { AreLaidOut funcs.now }
+    requires blocks { AreBlocksOf funcs.now blocks.now }
+    requires order { IsOrder blocks.now order.now }
+    ensures { result ≡ begins_of (strips_of funcs.now blocks.now order.now) k }
+{
+    if k < order.len() {
+        Some(start_of(&planned(funcs, blocks, order, k)))
+    } else {
+        None
+    }
+}
+
+/// The address of its first instruction.
+pub fn start_of(block: &BlockInsts) -> u64
+    ensures { result ≡ first_in block.now.inner.now block.now.last }
+{
+    match block.inner.first() {
+        Some(inst) => inst.addr,
+        None => block.last.addr,
+    }
+}
+
+// The address into which the instruction at a place of a function falls, if it does and an instruction is there. `index` is
+// the function's.
+fn fall_of(funcs: &[Func], index: usize, func: &Func, place: usize, inst: &Placed) -> Option<u64>
+    requires laid { AreLaidOut funcs.now }
+    requires func { slice_get funcs.now index ≡ Some func.now }
+    requires inst { slice_get func.now.insts.items place ≡ Some inst.now }
+    ensures { result ≡ fall_of funcs.now func.now place inst.now }
+{
+    let is_last = place + 1 == func.insts.len();
+    if !falls(&inst.inst, is_last) {
+        return None;
+    }
+    let next = inst.addr + inst.len as u64;
+    if is_last && !starts_at(funcs, index + 1, next) {
+        return None;
+    }
+    Some(next)
+}
+
+// Whether the function at an index starts at an address.
+fn starts_at(funcs: &[Func], index: usize, address: u64) -> bool
+    ensures { result ≡ starts_at funcs.now index address }
+{
+    match funcs.get(index) {
+        Some(func) => func.start == address,
+        None => false,
+    }
+}

@@ -1,0 +1,47 @@
+// How the blocks of a plan end, in their shortest forms.
+ghost use Rattle.std.specs.Prelude.{◌≡◌, ◌<◌, IfOk, All, length};
+ghost use Rattle.rv_code.specs.layout.FunctionLists.{AreLaidOut};
+ghost use Rattle.branch_fixup.specs.BlockInsts.{IsBlockIn};
+ghost use Rattle.branch_fixup.specs.Ends.{AreEnds};
+ghost use Rattle.branch_fixup.specs.Inputs.{AreDirect, AreBlocksOf, IsOrder};
+ghost use Rattle.branch_fixup.specs.Strips.{strips_of};
+
+use crate::block_insts::{begins_of, planned, start_of};
+use crate::endings::{lead_of, shortest_form};
+use crate::growth::Tail;
+use crate::lookup::{block_starts, find, places_in};
+use rv_code::{Block, Form, Func};
+use std::alloc::{AllocError, Global};
+
+/// How each block ends in its shortest form, in the plan's order.
+pub fn ends(
+    alloc: Global,
+    funcs: &[Func],
+    blocks: &[Block],
+    order: &[usize],
+) -> Result<(Vec<Tail>, Vec<Form>), AllocError>
+    requires laid { AreLaidOut funcs.now }
+    requires direct { AreDirect funcs.now }
+    requires blocks { AreBlocksOf funcs.now blocks.now }
+    requires order { IsOrder blocks.now order.now }
+    ensures { IfOk result (λ r. AreEnds (strips_of funcs.now blocks.now order.now) (length order.now) r.0.items r.1.items) }
+{
+    let starts = block_starts(alloc, funcs, blocks)?;
+    let places = places_in(alloc, order)?;
+    let mut tails = Vec::new(alloc);
+    let mut forms = Vec::new(alloc);
+    for k in 0..order.len() {
+        let block = planned(funcs, blocks, order, k);
+        let form = shortest_form(&block, begins_of(funcs, blocks, order, k + 1));
+        let start = start_of(&block);
+        let (to, offset) = find(&starts, &places, lead_of(&block, form).unwrap_or(start));
+        tails.push(Tail {
+            before: block.last.addr - start,
+            len: block.last.len,
+            to,
+            offset,
+        })?;
+        forms.push(form)?;
+    }
+    Ok((tails, forms))
+}

@@ -1,0 +1,59 @@
+// Where an address of the input is in a plan.
+ghost use Rattle.std.specs.Prelude.{◌≡◌, ◌≢◌, ◌<◌, ◌≤◌, ℕ, IfOk, All, AllPairs, length, map, slice_index, slice_index_or};
+ghost use Rattle.rv_code.specs.layout.FunctionLists.{AreLaidOut};
+ghost use Rattle.branch_fixup.specs.BlockInsts.{IsBlockIn, start_of};
+ghost use Rattle.branch_fixup.specs.Lookup.{ArePlaces, Finds};
+
+use crate::block_insts::{insts_of, start_of};
+use rv_code::{Block, Func};
+use std::alloc::{AllocError, Global};
+
+/// Where each block begins, in the order of the list.
+pub fn block_starts(alloc: Global, funcs: &[Func], blocks: &[Block]) -> Result<Vec<u64>, AllocError>
+    requires laid { AreLaidOut funcs.now }
+    requires each { All (IsBlockIn funcs.now) blocks.now }
+    ensures { IfOk result (λ starts. starts.items ≡ map (start_of funcs.now) blocks.now) }
+{
+    let mut starts = Vec::new(alloc);
+    for block in blocks {
+        starts.push(start_of(&insts_of(funcs, block)))?;
+    }
+    Ok(starts)
+}
+
+/// The place in an order of each of the numbers below its length.
+pub fn places_in(alloc: Global, order: &[usize]) -> Result<Vec<usize>, AllocError>
+    requires below { All (λ m. m < length order.now) order.now }
+    requires differ { AllPairs (λ m n. m ≢ n) order.now }
+    ensures length { IfOk result (λ places. length places.items ≡ length order.now) }
+    ensures each { IfOk result (λ places. ArePlaces order.now places.items) }
+{
+    let mut places = vec![in alloc; 0; order.len()]?;
+    for k in 0..order.len() {
+        places[order[k]] = k;
+    }
+    Ok(places)
+}
+
+/// The block that holds an address, by its place in the plan, and how far into it that is.
+pub fn find(starts: &[u64], places: &[usize], address: u64) -> (usize, u64)
+    requires ascending { AllPairs (λ a b. a < b) starts.now }
+    requires one_each { length places.now ≡ length starts.now }
+    ensures { Finds starts.now places.now address result.0 result.1 }
+{
+    let above = count_up_to(starts, address);
+    if above == 0 {
+        return (0, 0);
+    }
+    (places[above - 1], address - starts[above - 1])
+}
+
+// How many of ascending numbers are at most an address.
+fn count_up_to(starts: &[u64], address: u64) -> usize
+    requires { AllPairs (λ a b. a < b) starts.now }
+    ensures bound { result ≤ length starts.now }
+    ensures below { (k : ℕ) (d : ℕ) → k < result → slice_index_or starts.now k d ≤ address }
+    ensures above { (k : ℕ) (d : ℕ) → result ≤ k → k < length starts.now → address < slice_index_or starts.now k d }
+{
+    starts.partition_point(|start| *start <= address)
+}

@@ -1,0 +1,78 @@
+// Where the instructions stand.
+ghost use Rattle.std.specs.Prelude.{◌≡◌, ◌+◌, ◌≤◌, ◌<◌, ◌^◌, ◌++◌, IfOk, length, map};
+ghost use Rattle.rv_code.specs.layout.FunctionLists.{AreLaidOut};
+ghost use Rattle.branch_fixup.specs.BlockInsts.{seen};
+ghost use Rattle.branch_fixup.specs.Inputs.{AreBlocksOf, IsOrder};
+ghost use Rattle.branch_fixup.specs.Pieces.{as_it_is, laid_from, end_from};
+ghost use Rattle.branch_fixup.specs.Strips.{strips_of, pieces_of, pieces_of_strip, spans_of};
+
+use crate::block_insts::{BlockInsts, planned};
+use crate::lengths::length_in;
+use addr_map::Span;
+use rv_code::{Block, Form, Func, Placed};
+use std::alloc::{AllocError, Global};
+
+// Appends the spans of instructions that keep their lengths, from an address on. Gives the address at which they end.
+fn put_inner(spans: &mut Vec<Span>, mut at: u64, insts: &[Placed]) -> Result<u64, AllocError>
+    requires { end_from at (map as_it_is insts.now) < 2 ^ 63 }
+    ensures spans { IfOk result (λ end. spans.new.items ≡ spans.old.items ++ laid_from at (map as_it_is insts.now)) }
+    ensures end { IfOk result (λ end. end ≡ end_from at (map as_it_is insts.now)) }
+{
+    for inst in insts {
+        spans.push(Span {
+            out: at,
+            len: inst.len,
+            input: inst.addr,
+        })?;
+        at += inst.len as u64;
+    }
+    Ok(at)
+}
+
+// The same of a whole block, whose last instruction is in a form.
+fn put_block(
+    spans: &mut Vec<Span>,
+    at: u64,
+    block: &BlockInsts,
+    form: Form,
+) -> Result<u64, AllocError>
+    requires low { end_from at (pieces_of_strip (seen block.now) form) < 2 ^ 63 }
+    requires short { block.now.last.len ≤ 4 }
+    ensures spans { IfOk result (λ end.
+        spans.new.items ≡ spans.old.items ++ laid_from at (pieces_of_strip (seen block.now) form)) }
+    ensures end { IfOk result (λ end. end ≡ end_from at (pieces_of_strip (seen block.now) form)) }
+{
+    let last_at = put_inner(spans, at, block.inner)?;
+    let len = length_in(block.last.len, form);
+    spans.push(Span {
+        out: last_at,
+        len,
+        input: block.last.addr,
+    })?;
+    Ok(last_at + len as u64)
+}
+
+/// The spans of blocks in an order, with their forms, from an address on.
+pub fn spans(
+    alloc: Global,
+    funcs: &[Func],
+    blocks: &[Block],
+    order: &[usize],
+    forms: &[Form],
+    base: u64,
+) -> Result<Vec<Span>, AllocError>
+    requires laid { AreLaidOut funcs.now }
+    requires blocks { AreBlocksOf funcs.now blocks.now }
+    requires order { IsOrder blocks.now order.now }
+    requires one_each { length forms.now ≡ length order.now }
+    requires low { end_from base (pieces_of (strips_of funcs.now blocks.now order.now) forms.now) < 2 ^ 63 }
+    ensures { IfOk result (λ spans. spans.items ≡ spans_of (strips_of funcs.now blocks.now order.now) base forms.now) }
+{
+    let mut spans = Vec::new(alloc);
+    let mut at = base;
+    for k in 0..order.len() {
+        let block = planned(funcs, blocks, order, k);
+        at = put_block(&mut spans, at, &block, forms[k])?;
+    }
+    Ok(spans)
+}

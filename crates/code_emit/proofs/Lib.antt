@@ -1,0 +1,17 @@
+pub mod Standing
+pub mod Coded
+pub mod Parts
+pub mod Fit
+pub mod CanStand
+pub mod Keeps
+pub mod Walk
+pub mod StripEnds
+pub mod CellNumbers
+pub mod Next
+pub mod Flows
+pub mod Pieces
+pub mod Facts
+pub mod EmitKeeps
+pub mod AllBlocks
+pub mod Accepted
+pub mod SpanBytes

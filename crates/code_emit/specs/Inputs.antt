@@ -1,0 +1,105 @@
+-- What code is like that can be written anew, and which forms and map belong together.
+use Rattle.std.specs.Prelude.{◌≡◌, ◌⊎◌, ℕ, ◌+◌, ◌%◌, ◌^◌, ◌<◌, ◌≤◌, IfSome, List, Option}
+use Rattle.rv_code.specs.declared.cell.CellKind.{CellKind}
+use Rattle.rv_code.specs.declared.cell.CellKind.TheVariants.{Abs, Diff}
+use Rattle.rv_code.specs.declared.cell.CodeCell.{CodeCell}
+use Rattle.rv_code.specs.declared.inst.Inst.{Inst}
+use Rattle.rv_code.specs.declared.inst.Inst.TheVariants.{Lui, Auipc, Jalr, Lb, Lh, Lw, Ld, Lbu, Lhu, Lwu, Sb, Sh, Sw, Sd, Addi}
+use Rattle.rv_code.specs.declared.layout.Form.{Form}
+use Rattle.rv_code.specs.declared.placed.Placed.{Placed}
+use Rattle.rv_code.specs.declared.placed.Role.{Role}
+use Rattle.rv_code.specs.declared.placed.Role.TheVariants as role
+use Rattle.rv_code.specs.isa.Decoding.{Decodes}
+use Rattle.rv_code.specs.layout.Flow.{target_of}
+use Rattle.rv_code.specs.layout.FunctionLists.{code_limit}
+use Rattle.addr_map.specs.declared.span.Span.{Span}
+use Rattle.addr_map.specs.MapText.{AreInLineOrder}
+use Rattle.addr_map.specs.Spans.{new}
+use Rattle.branch_fixup.specs.Forms.{AreForms, end_of}
+use Rattle.branch_fixup.specs.Strips.{Strip, spans_of}
+
+-- The instructions that have a part of an address.
+
+abbrev pub IsAuipc : Inst → Type 0
+IsAuipc (Auipc rd imm) = Unit {0}
+IsAuipc _ = ⊥
+
+abbrev pub IsLui : Inst → Type 0
+IsLui (Lui rd imm) = Unit {0}
+IsLui _ = ⊥
+
+-- one with an immediate of 12 bits that can be a lower part
+abbrev pub IsLower : Inst → Type 0
+IsLower (Addi rd rs1 imm) = Unit {0}
+IsLower (Jalr rd rs1 imm) = Unit {0}
+IsLower (Lb rd rs1 imm) = Unit {0}
+IsLower (Lh rd rs1 imm) = Unit {0}
+IsLower (Lw rd rs1 imm) = Unit {0}
+IsLower (Ld rd rs1 imm) = Unit {0}
+IsLower (Lbu rd rs1 imm) = Unit {0}
+IsLower (Lhu rd rs1 imm) = Unit {0}
+IsLower (Lwu rd rs1 imm) = Unit {0}
+IsLower (Sb rs1 rs2 imm) = Unit {0}
+IsLower (Sh rs1 rs2 imm) = Unit {0}
+IsLower (Sw rs1 rs2 imm) = Unit {0}
+IsLower (Sd rs1 rs2 imm) = Unit {0}
+IsLower _ = ⊥
+
+-- A role fits an instruction of so many bytes: it is of the kind that the role wants, and not compressed. The addresses of
+-- roles lie at most at the limit of code.
+abbrev pub FitsRole : Role → Inst → ℕ → Type 0
+FitsRole role.Plain inst bytes = Unit {0}
+FitsRole (role.CallHi target) inst bytes = IsAuipc inst × (bytes ≡ 4) × (target ≤ code_limit)
+FitsRole (role.CallLo hi target) inst bytes = IsLower inst × (bytes ≡ 4) × (target ≤ code_limit) × (hi ≤ code_limit)
+FitsRole (role.Hi target) inst bytes = IsAuipc inst × (bytes ≡ 4) × (target ≤ code_limit)
+FitsRole (role.Lo hi target) inst bytes = IsLower inst × (bytes ≡ 4) × (target ≤ code_limit) × (hi ≤ code_limit)
+FitsRole (role.AbsHi target) inst bytes = IsLui inst × (bytes ≡ 4) × (target ≤ code_limit)
+FitsRole (role.AbsLo target) inst bytes = IsLower inst × (bytes ≡ 4) × (target ≤ code_limit)
+
+-- an instruction of RV64IMC, whose role fits it
+pub record CanMove (p : Placed) : Type 0 where
+  pub half : ℕ
+  pub next : Option ℕ
+  pub decodes : Decodes half next p.inst p.len
+  pub role : FitsRole p.role p.inst p.len
+
+-- Cells have four or eight bytes, and name addresses at most at the limit.
+abbrev pub IsLowKind : CellKind → Type 0
+IsLowKind (Abs to) = to ≤ code_limit
+IsLowKind (Diff to from) = (to ≤ code_limit) × (from ≤ code_limit)
+
+pub record IsLowCell (c : CodeCell) : Type 0 where
+  pub width : (c.width ≡ 4) ⊎ (c.width ≡ 8)
+  pub kind : IsLowKind c.kind
+
+-- Forms and spans of blocks in an order, from an even address on: below the limit of code. The map has these spans.
+pub record AreMapped (ss : List Strip) (fs : List Form) (base : ℕ) (map : List Span) : Type 0 where
+  pub forms : AreForms ss base fs
+  pub map_is : AreInLineOrder (spans_of ss base fs) map
+  pub even : base % 2 ≡ 0
+  pub low : end_of ss base fs ≤ code_limit
+
+pub record HaveMap (ss : List Strip) (fs : List Form) (map : List Span) : Type 0 where
+  pub base : ℕ
+  pub mapped : AreMapped ss fs base map
+
+-- for the functions that make single instructions
+
+-- new addresses of low ones are low
+abbrev pub AreLow : List Span → Type 0
+AreLow spans = (t : ℕ) → t < 2 ^ 62 → new spans t < 2 ^ 62
+
+abbrev pub IsLowRole : Role → Type 0
+IsLowRole role.Plain = Unit {0}
+IsLowRole (role.CallHi target) = target < 2 ^ 62
+IsLowRole (role.CallLo hi target) = (hi < 2 ^ 62) × (target < 2 ^ 62)
+IsLowRole (role.Hi target) = target < 2 ^ 62
+IsLowRole (role.Lo hi target) = (hi < 2 ^ 62) × (target < 2 ^ 62)
+IsLowRole (role.AbsHi target) = target < 2 ^ 62
+IsLowRole (role.AbsLo target) = target < 2 ^ 62
+
+-- the addresses that an instruction of the input speaks of are low
+pub record HasLowTargets (p : Placed) : Type 0 where
+  pub role : IsLowRole p.role
+  pub goal : IfSome (target_of p) (λ t. t < 2 ^ 62)
+  pub end : p.addr + p.len < 2 ^ 62

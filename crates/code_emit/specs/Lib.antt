@@ -1,0 +1,4 @@
+pub mod Made
+pub mod Bytes
+pub mod Inputs
+pub mod Output

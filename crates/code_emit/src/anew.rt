@@ -1,0 +1,162 @@
+// Single instructions for the new code.
+ghost use Rattle.std.specs.Prelude.{◌≡◌, ◌<◌, ◌^◌, pos, ◌≤ℤ◌, ◌-ℤ◌};
+ghost use Rattle.rv_code.specs.isa.HiLo.{hi20, lo12};
+ghost use Rattle.move_law.specs.RelocatedValues.{distance};
+ghost use Rattle.move_law.specs.Faithful.{with_immediate, made_anew};
+ghost use Rattle.code_emit.specs.Made.{with_distance, opposite_of, turned, kept};
+ghost use Rattle.branch_fixup.specs.Reach.{goal};
+ghost use Rattle.code_emit.specs.Inputs.{AreLow, HasLowTargets};
+ghost use Rattle.addr_map.specs.Spans.{new};
+
+use addr_map::AddrMap;
+use rv_code::flow::target;
+use rv_code::{Inst, Placed, Role};
+
+/// The new address of the instruction at `a`. Any other address stays as it is.
+pub fn new_of(moved: &AddrMap, a: u64) -> u64
+    ensures { result ≡ new moved.now a }
+{
+    moved.moved(a).unwrap_or(a)
+}
+
+/// How far one address is from another.
+pub fn distance(to: u64, from: u64) -> i64
+    requires to_low { to < 2 ^ 62 }
+    requires from_low { from < 2 ^ 62 }
+    ensures { result ≡ distance to from }
+{
+    to as i64 - from as i64
+}
+
+fn number(n: u64) -> i64
+    requires { n < 2 ^ 62 }
+    ensures { result ≡ pos n }
+{
+    n as i64
+}
+
+// The upper part of a number, which is rounded.
+fn upper(v: i64) -> i64
+    requires { v ≤ℤ pos (2 ^ 62) }
+    ensures { result ≡ hi20 v }
+{
+    (v + 0x800) >> 12
+}
+
+// The lower part that belongs to it.
+fn lower(v: i64) -> i64
+    requires low { (pos 0 -ℤ pos (2 ^ 62)) ≤ℤ v }
+    requires high { v ≤ℤ pos (2 ^ 62) }
+    ensures { result ≡ lo12 v }
+{
+    v - 4096 * upper(v)
+}
+
+// An instruction with another immediate, where it can have one of an address.
+fn with_immediate(inst: &Inst, imm: i64) -> Inst
+    ensures { result ≡ with_immediate inst.now imm }
+{
+    match *inst {
+        Inst::Lui { rd, .. } => Inst::Lui { rd, imm },
+        Inst::Auipc { rd, .. } => Inst::Auipc { rd, imm },
+        Inst::Addi { rd, rs1, .. } => Inst::Addi { rd, rs1, imm },
+        Inst::Jalr { rd, rs1, .. } => Inst::Jalr { rd, rs1, imm },
+        Inst::Lb { rd, rs1, .. } => Inst::Lb { rd, rs1, imm },
+        Inst::Lh { rd, rs1, .. } => Inst::Lh { rd, rs1, imm },
+        Inst::Lw { rd, rs1, .. } => Inst::Lw { rd, rs1, imm },
+        Inst::Ld { rd, rs1, .. } => Inst::Ld { rd, rs1, imm },
+        Inst::Lbu { rd, rs1, .. } => Inst::Lbu { rd, rs1, imm },
+        Inst::Lhu { rd, rs1, .. } => Inst::Lhu { rd, rs1, imm },
+        Inst::Lwu { rd, rs1, .. } => Inst::Lwu { rd, rs1, imm },
+        Inst::Sb { rs1, rs2, .. } => Inst::Sb { rs1, rs2, imm },
+        Inst::Sh { rs1, rs2, .. } => Inst::Sh { rs1, rs2, imm },
+        Inst::Sw { rs1, rs2, .. } => Inst::Sw { rs1, rs2, imm },
+        Inst::Sd { rs1, rs2, .. } => Inst::Sd { rs1, rs2, imm },
+        _ => *inst,
+    }
+}
+
+/// A branch or a JAL with another distance.
+pub fn with_distance(inst: &Inst, imm: i64) -> Inst
+    ensures { result ≡ with_distance inst.now imm }
+{
+    match *inst {
+        Inst::Jal { rd, .. } => Inst::Jal { rd, imm },
+        Inst::Beq { rs1, rs2, .. } => Inst::Beq { rs1, rs2, imm },
+        Inst::Bne { rs1, rs2, .. } => Inst::Bne { rs1, rs2, imm },
+        Inst::Blt { rs1, rs2, .. } => Inst::Blt { rs1, rs2, imm },
+        Inst::Bge { rs1, rs2, .. } => Inst::Bge { rs1, rs2, imm },
+        Inst::Bltu { rs1, rs2, .. } => Inst::Bltu { rs1, rs2, imm },
+        Inst::Bgeu { rs1, rs2, .. } => Inst::Bgeu { rs1, rs2, imm },
+        _ => *inst,
+    }
+}
+
+/// The branch of opposite sense, where asked for.
+pub fn turned(opposite: bool, inst: &Inst) -> Inst
+    ensures { result ≡ turned opposite inst.now }
+{
+    if !opposite {
+        return *inst;
+    }
+    match *inst {
+        Inst::Beq { rs1, rs2, imm } => Inst::Bne { rs1, rs2, imm },
+        Inst::Bne { rs1, rs2, imm } => Inst::Beq { rs1, rs2, imm },
+        Inst::Blt { rs1, rs2, imm } => Inst::Bge { rs1, rs2, imm },
+        Inst::Bge { rs1, rs2, imm } => Inst::Blt { rs1, rs2, imm },
+        Inst::Bltu { rs1, rs2, imm } => Inst::Bgeu { rs1, rs2, imm },
+        Inst::Bgeu { rs1, rs2, imm } => Inst::Bltu { rs1, rs2, imm },
+        _ => *inst,
+    }
+}
+
+// An instruction that is no branch and no JAL: by its role with the parts of new addresses.
+fn anew(moved: &AddrMap, p: &Placed) -> Inst
+    requires lows { AreLow moved.now }
+    requires targets { HasLowTargets p.now }
+    ensures { result ≡ made_anew (new moved.now) p.now.addr p.now.role p.now.inst }
+{
+    match p.role {
+        Role::Plain => p.inst,
+        Role::CallHi { target } | Role::Hi { target } => {
+            with_immediate(
+                &p.inst,
+                upper(distance(new_of(moved, target), new_of(moved, p.addr))),
+            )
+        }
+        Role::CallLo { hi, target } | Role::Lo { hi, target } => {
+            with_immediate(
+                &p.inst,
+                lower(distance(new_of(moved, target), new_of(moved, hi))),
+            )
+        }
+        Role::AbsHi { target } => with_immediate(&p.inst, upper(number(new_of(moved, target)))),
+        Role::AbsLo { target } => with_immediate(&p.inst, lower(number(new_of(moved, target)))),
+    }
+}
+
+/// An instruction that keeps its width, for the new address `a`.
+pub fn kept(moved: &AddrMap, a: u64, p: &Placed) -> Inst
+    requires low { a < 2 ^ 62 }
+    requires lows { AreLow moved.now }
+    requires targets { HasLowTargets p.now }
+    ensures { result ≡ kept (new moved.now) a p.now }
+{
+    match target(p.addr, &p.inst) {
+        Some(t) => with_distance(&p.inst, distance(new_of(moved, t), a)),
+        None => anew(moved, p),
+    }
+}
+
+/// Where its branch or JAL goes.
+pub fn goal(moved: &AddrMap, p: &Placed) -> u64
+    requires lows { AreLow moved.now }
+    requires targets { HasLowTargets p.now }
+    ensures value { result ≡ goal (new moved.now) p.now }
+    ensures low { result < 2 ^ 62 }
+{
+    match target(p.addr, &p.inst) {
+        Some(t) => new_of(moved, t),
+        None => 0,
+    }
+}

@@ -1,0 +1,34 @@
+// Instructions are added to the new code.
+ghost use Rattle.std.specs.Prelude.{◌≡◌, ◌++◌, [], ◌∷◌, OnOk};
+ghost use Rattle.code_emit.specs.Bytes.{half_bytes, full_bytes, Adds, IsEncodable};
+ghost use Rattle.rv_encode.specs.Fits.{Fits};
+ghost use Rattle.rv_encode.specs.Encoding.{bytes};
+
+use rv_code::{Inst, Width};
+use rv_encode::{Word, encode};
+use std::alloc::AllocError;
+
+fn push_half(code: &mut Vec<u8>, half: u16) -> Result<(), AllocError>
+    ensures ok { OnOk result (code.new.items ≡ code.old.items ++ half_bytes half) }
+{
+    code.extend_from_slice(&half.to_le_bytes())
+}
+
+fn push_full(code: &mut Vec<u8>, word: u32) -> Result<(), AllocError>
+    ensures ok { OnOk result (code.new.items ≡ code.old.items ++ full_bytes word) }
+{
+    code.extend_from_slice(&word.to_le_bytes())
+}
+
+/// An instruction that some word of the width is.
+#[tactic(auto, using(crate::proofs::Coded::adds_half, crate::proofs::Coded::adds_full))]
+pub fn push(code: &mut Vec<u8>, inst: &Inst, want: Width) -> Result<(), AllocError>
+    requires { IsEncodable want inst.now }
+    ensures ok { OnOk result (Adds code.old.items code.new.items (record { inst = inst.now; bytes = bytes want } ∷ [])) }
+{
+    match encode(inst, want) {
+        Some(Word::Half(half)) => push_half(code, half),
+        Some(Word::Full(word)) => push_full(code, word),
+        None => unreachable!(),
+    }
+}

@@ -1,0 +1,97 @@
+// The new code of all blocks, and the new content of all cells.
+ghost use Rattle.std.specs.Prelude.{◌≡◌, ◌+◌, ℕ, All, IfOk, [], length, map};
+ghost use Rattle.rv_code.specs.layout.Flow.{insts_of};
+ghost use Rattle.rv_code.specs.layout.FunctionLists.{AreLaidOut};
+ghost use Rattle.addr_map.specs.Spans.{new};
+ghost use Rattle.move_law.specs.Faithful.{KeepsInst, GoesOn};
+ghost use Rattle.move_law.specs.Rewrite.{Rewrite, Goes};
+ghost use Rattle.branch_fixup.specs.Forms.{end_of};
+ghost use Rattle.branch_fixup.specs.Inputs.{AreBlocksOf, AreDirect, IsOrder};
+ghost use Rattle.branch_fixup.specs.Strips.{pieces_of, strips_of};
+ghost use Rattle.code_emit.specs.Bytes.{Adds};
+ghost use Rattle.code_emit.specs.Inputs.{AreLow, AreMapped, CanMove, HaveMap, IsLowCell};
+ghost use Rattle.code_emit.specs.Made.{made_from};
+ghost use Rattle.code_emit.specs.Output.{Puts, new_cell};
+
+use crate::anew::new_of;
+use crate::block::put_block;
+use crate::cells::contents;
+use addr_map::AddrMap;
+use branch_fixup::block_insts::{planned, start_of};
+use rb_bytes::fault::NoMemory;
+use rv_code::{Block, CodeCell, Emitted, Form, Func, Plan};
+use std::alloc::{AllocError, Global};
+
+// The blocks in an order, one after another.
+fn code(
+    alloc: Global,
+    funcs: &[Func],
+    blocks: &[Block],
+    order: &[usize],
+    forms: &[Form],
+    moved: &AddrMap,
+) -> Result<Vec<u8>, AllocError>
+    requires laid { AreLaidOut funcs.now }
+    requires direct { AreDirect funcs.now }
+    requires blocks { AreBlocksOf funcs.now blocks.now }
+    requires order { IsOrder blocks.now order.now }
+    requires insts { All CanMove (insts_of funcs.now) }
+    requires mapped { HaveMap (strips_of funcs.now blocks.now order.now) forms.now moved.now }
+    requires one_each { length forms.now ≡ length order.now }
+    ensures { IfOk result
+        (λ code. (base : ℕ) → AreMapped (strips_of funcs.now blocks.now order.now) forms.now base moved.now →
+        Adds [] code.items (made_from (new moved.now) base (pieces_of (strips_of funcs.now blocks.now order.now) forms.now))) }
+{
+    let mut code = Vec::new(alloc);
+    for k in 0..order.len() {
+        let block = planned(funcs, blocks, order, k);
+        let at = new_of(moved, start_of(&block));
+        put_block(&mut code, moved, at, &block, forms[k])?;
+    }
+    Ok(code)
+}
+
+/// The bytes of the new code, and for each code cell its address, its width in bytes and its new content.
+///
+/// The blocks are all those of the functions, the plan has each once, and the forms, one for each block in the plan's order,
+/// are those that `branch_fixup::forms` gives. The map has the spans that it gives, and all of them end at most at 7fff0000
+/// (hexadecimal).
+pub fn emit(
+    alloc: Global,
+    funcs: &[Func],
+    blocks: &[Block],
+    plan: &Plan,
+    forms: &[Form],
+    moved: &AddrMap,
+    cells: &[CodeCell],
+) -> Result<Emitted, NoMemory>
+    requires laid { AreLaidOut funcs.now }
+    requires direct { AreDirect funcs.now }
+    requires blocks { AreBlocksOf funcs.now blocks.now }
+    requires order { IsOrder blocks.now plan.now.order.items }
+    requires insts { All CanMove (insts_of funcs.now) }
+    requires cells { All IsLowCell cells.now }
+    requires mapped { HaveMap (strips_of funcs.now blocks.now plan.now.order.items) forms.now moved.now }
+
+    // the code is that of one stretch of bytes
+    ensures length { IfOk result
+        (λ e. (base : ℕ) → AreMapped (strips_of funcs.now blocks.now plan.now.order.items) forms.now base moved.now →
+        base + length e.code.items ≡ end_of (strips_of funcs.now blocks.now plan.now.order.items) base forms.now) }
+
+    // in every rewrite with this map that has the code there, each instruction is kept, and goes on to what followed it
+    ensures insts { IfOk result
+        (λ e. (base : ℕ) → AreMapped (strips_of funcs.now blocks.now plan.now.order.items) forms.now base moved.now →
+        (r : Rewrite) → Puts r funcs.now moved.now base e.code.items → All (KeepsInst r (Goes r.output)) (insts_of funcs.now)) }
+    ensures goes_on { IfOk result
+        (λ e. (base : ℕ) → AreMapped (strips_of funcs.now blocks.now plan.now.order.items) forms.now base moved.now →
+        (r : Rewrite) → Puts r funcs.now moved.now base e.code.items → All (GoesOn r (Goes r.output)) (insts_of funcs.now)) }
+    ensures cells { IfOk result (λ e. e.cells.items ≡ map (new_cell (new moved.now)) cells.now) }
+{
+    let order = plan.order.as_slice();
+    let bytes = code(alloc, funcs, blocks, order, forms, moved)?;
+    let fields = contents(alloc, moved, cells)?;
+    Ok(Emitted {
+        code: bytes,
+        cells: fields,
+    })
+}

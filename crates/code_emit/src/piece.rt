@@ -1,0 +1,177 @@
+// What stands in the new code for one instruction.
+ghost use Rattle.std.specs.Prelude.{◌≡◌, ◌<◌, ◌+◌, ◌^◌, OnOk, [], ◌∷◌, if◌then◌else◌};
+ghost use Rattle.addr_map.specs.Spans.{new};
+ghost use Rattle.code_emit.specs.Made.{jump_to, branch_to, added, made};
+ghost use Rattle.branch_fixup.specs.Reach.{goal};
+ghost use Rattle.branch_fixup.specs.Pieces.{bytes_of_size};
+ghost use Rattle.code_emit.specs.Bytes.{Adds, AllCanStand, CanStand, width_of_bytes};
+ghost use Rattle.code_emit.specs.Inputs.{AreLow, HasLowTargets};
+
+use crate::anew::{distance, goal, kept, new_of, turned, with_distance};
+use crate::code::push;
+use addr_map::AddrMap;
+use branch_fixup::lengths::bytes_of_size;
+use rv_code::{Form, Inst, Placed, Size, Width};
+use std::alloc::AllocError;
+
+fn width_of(bytes: u8) -> Width
+    ensures { result ≡ width_of_bytes bytes }
+{
+    if bytes == 2 { Width::Half } else { Width::Full }
+}
+
+// An instruction of two or four bytes.
+#[tactic(auto, using(crate::proofs::Coded::adds_as_long))]
+fn put(code: &mut Vec<u8>, inst: &Inst, bytes: u8) -> Result<(), AllocError>
+    requires { CanStand (record { inst = inst.now; bytes = bytes }) }
+    ensures ok { OnOk result (Adds code.old.items code.new.items (record { inst = inst.now; bytes = bytes } ∷ [])) }
+{
+    push(code, inst, width_of(bytes))
+}
+
+// A `JAL x0` at `a`.
+fn put_jump(code: &mut Vec<u8>, to: u64, a: u64) -> Result<(), AllocError>
+    requires can { CanStand (jump_to to a) }
+    requires to_low { to < 2 ^ 62 }
+    requires low { a < 2 ^ 62 }
+    ensures ok { OnOk result (Adds code.old.items code.new.items (jump_to to a ∷ [])) }
+{
+    let jump = Inst::Jal {
+        rd: 0,
+        imm: distance(to, a),
+    };
+    put(code, &jump, 4)
+}
+
+// A branch at `a` that goes to an address.
+#[tactic(auto, using(crate::proofs::Coded::adds_both))]
+fn put_branch(
+    code: &mut Vec<u8>,
+    to: u64,
+    inst: &Inst,
+    inverted: bool,
+    size: Size,
+    a: u64,
+) -> Result<(), AllocError>
+    requires can { AllCanStand (branch_to to inst.now inverted size a) }
+    requires to_low { to < 2 ^ 62 }
+    requires low { a < 2 ^ 61 }
+    ensures ok { OnOk result (Adds code.old.items code.new.items (branch_to to inst.now inverted size a)) }
+{
+    match size {
+        Size::Half => put(
+            code,
+            &with_distance(&turned(inverted, inst), distance(to, a)),
+            2,
+        ),
+        Size::Full => put(
+            code,
+            &with_distance(&turned(inverted, inst), distance(to, a)),
+            4,
+        ),
+        Size::Long => {
+            put(code, &with_distance(&turned(!inverted, inst), 8), 4)?;
+            put_jump(code, to, a + 4)
+        }
+    }
+}
+
+// Where its branch leads, as it is or turned.
+fn branch_goal(moved: &AddrMap, p: &Placed, inverted: bool) -> u64
+    requires lows { AreLow moved.now }
+    requires targets { HasLowTargets p.now }
+    ensures low { result < 2 ^ 62 }
+    ensures value { result ≡ (if inverted then new moved.now (p.now.addr + p.now.len) else goal (new moved.now) p.now) }
+{
+    if inverted {
+        new_of(moved, p.addr + p.len as u64)
+    } else {
+        goal(moved, p)
+    }
+}
+
+// The added jump, if there is one.
+#[tactic(auto, using(crate::proofs::Coded::adds_none))]
+fn put_added(
+    code: &mut Vec<u8>,
+    moved: &AddrMap,
+    p: &Placed,
+    jump: bool,
+    a: u64,
+) -> Result<(), AllocError>
+    requires can { AllCanStand (added (new moved.now) p.now jump a) }
+    requires lows { AreLow moved.now }
+    requires low { a < 2 ^ 62 }
+    requires targets { HasLowTargets p.now }
+    ensures ok { OnOk result (Adds code.old.items code.new.items (added (new moved.now) p.now jump a)) }
+{
+    if jump {
+        put_jump(code, new_of(moved, p.addr + p.len as u64), a)
+    } else {
+        Ok(())
+    }
+}
+
+fn put_whole_branch(
+    code: &mut Vec<u8>,
+    moved: &AddrMap,
+    p: &Placed,
+    inverted: bool,
+    size: Size,
+    jump: bool,
+    a: u64,
+) -> Result<(), AllocError>
+    requires can { AllCanStand (made (new moved.now) a p.now (Form.Branch inverted size jump)) }
+    requires lows { AreLow moved.now }
+    requires low { a < 2 ^ 61 }
+    requires targets { HasLowTargets p.now }
+    ensures ok { OnOk result
+        (Adds code.old.items code.new.items (made (new moved.now) a p.now (Form.Branch inverted size jump))) }
+{
+    put_branch(
+        code,
+        branch_goal(moved, p, inverted),
+        &p.inst,
+        inverted,
+        size,
+        a,
+    )?;
+    put_added(code, moved, p, jump, a + bytes_of_size(size) as u64)
+}
+
+/// An instruction in its form, at `a`.
+#[tactic(auto, using(crate::proofs::Coded::adds_both, crate::proofs::Coded::adds_none))]
+pub fn put_piece(
+    code: &mut Vec<u8>,
+    moved: &AddrMap,
+    p: &Placed,
+    form: Form,
+    a: u64,
+) -> Result<(), AllocError>
+    requires can { AllCanStand (made (new moved.now) a p.now form) }
+    requires lows { AreLow moved.now }
+    requires low { a < 2 ^ 61 }
+    requires targets { HasLowTargets p.now }
+    ensures ok { OnOk result (Adds code.old.items code.new.items (made (new moved.now) a p.now form)) }
+{
+    match form {
+        Form::Plain => put(code, &kept(moved, a, p), p.len),
+        Form::Jump => {
+            put(code, &kept(moved, a, p), p.len)?;
+            put_jump(code, new_of(moved, p.addr + p.len as u64), a + p.len as u64)
+        }
+        Form::Branch {
+            inverted,
+            size,
+            jump,
+        } => put_whole_branch(code, moved, p, inverted, size, jump, a),
+        Form::Goto { half } => {
+            let jump = Inst::Jal {
+                rd: 0,
+                imm: distance(goal(moved, p), a),
+            };
+            put(code, &jump, if half { 2 } else { 4 })
+        }
+        Form::Dropped => Ok(()),
+    }
+}
