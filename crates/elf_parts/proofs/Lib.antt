@@ -1,0 +1,6 @@
+pub mod JoinedParts
+pub mod MoreNames
+pub mod Patches
+pub mod ReadBack
+pub mod SameBytes
+pub mod Spelled

@@ -1,0 +1,14 @@
+-- Numbers to be put over bytes of a file.
+use Rattle.std.specs.Prelude.{◌≡◌, ◌⊎◌, ℕ, ◌+◌, ◌<◌, ◌≤◌, ◌^◌}
+use Rattle.byteorder.specs.Endian.{little_bytes}
+use Rattle.elf_parts.specs.declared.number_at.NumberAt.{NumberAt}
+use Rattle.elf_parts.specs.Patches.{Patch}
+
+abbrev pub patch_of : NumberAt → Patch
+patch_of n = record { offset = n.offset; bytes = little_bytes n.width n.value }
+
+-- it has a width that can be, fits it, and lies within so many bytes
+pub record CanPut (size : ℕ) (n : NumberAt) : Type 0 where
+  pub width : (n.width ≡ 2) ⊎ ((n.width ≡ 4) ⊎ (n.width ≡ 8))
+  pub fits : n.value < 256 ^ n.width
+  pub within : n.offset + n.width ≤ size

@@ -1,0 +1,13 @@
+//! The parts of an ELF file that is written: its headers as bytes, what is put over the input's bytes, and what is
+//! added behind them.
+#![tactic(auto)]
+
+pub mod assembly;
+pub mod number_at;
+pub mod parts;
+pub mod patch;
+pub mod spell;
+
+pub use assembly::assemble;
+pub use number_at::NumberAt;
+pub use parts::Parts;

@@ -1,0 +1,38 @@
+// The parts of a written file before its tail: the front of the input, the new area, and loaded bytes behind it.
+ghost use Rattle.std.specs.Prelude.{IfOk, length};
+ghost use Rattle.elf_parts.specs.Parts.{CanStand, HasParts};
+
+use crate::patch::fill_to;
+use rb_bytes::fault::NoMemory;
+use std::alloc::Global;
+
+/// How the parts lie. All fields are offsets in bytes.
+#[derive(Clone, Copy, PartialEq, Eq, Debug)]
+pub struct Parts {
+    /// The bytes of the input below this keep their offsets.
+    pub keep: usize,
+    /// Where the new area stands.
+    pub area_at: usize,
+    /// The bytes of the input from `low` to before `high` stand at `behind_at`.
+    pub low: usize,
+    pub high: usize,
+    pub behind_at: usize,
+}
+
+/// The parts, with zeros between them.
+pub fn join_parts(
+    alloc: Global,
+    parts: &Parts,
+    input: &[u8],
+    area: &[u8],
+) -> Result<Vec<u8>, NoMemory>
+    requires { CanStand parts.now (length input.now) (length area.now) }
+    ensures { IfOk result (λ base. HasParts parts.now input.now area.now base.items) }
+{
+    let mut base = Vec::from_slice(alloc, &input[..parts.keep])?;
+    fill_to(&mut base, parts.area_at)?;
+    base.extend_from_slice(area)?;
+    fill_to(&mut base, parts.behind_at)?;
+    base.extend_from_slice(&input[parts.low..parts.high])?;
+    Ok(base)
+}

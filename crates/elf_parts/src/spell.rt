@@ -1,0 +1,121 @@
+// Headers and symbols written as bytes. gABI, "Program Header", "Section Header" and "Symbol Table".
+ghost use Rattle.std.specs.Prelude.{◌≡◌, ◌++◌, All, OnOk};
+ghost use Rattle.byteorder.specs.Endian.{little_bytes};
+ghost use Rattle.elf_parts.specs.Spelled as spec;
+
+use elf_image::{SectionHeader, Segment};
+use rb_bytes::fault::NoMemory;
+
+/// An entry of the symbol table, with its fields in the order of the file. gABI, "Symbol Table".
+#[derive(Clone, Copy, PartialEq, Eq, Debug)]
+pub struct SymbolEntry {
+    /// `st_name`: where its name begins in the table of names.
+    pub name: u32,
+    /// `st_info`.
+    pub info: u8,
+    /// `st_other`.
+    pub other: u8,
+    /// `st_shndx`.
+    pub section: u16,
+    /// `st_value`.
+    pub value: u64,
+    /// `st_size`.
+    pub size: u64,
+}
+
+fn put_u8(out: &mut Vec<u8>, value: u8) -> Result<(), NoMemory>
+    ensures { OnOk result (out.new.items ≡ out.old.items ++ little_bytes 1 value) }
+{
+    out.extend_from_slice(&value.to_le_bytes())?;
+    Ok(())
+}
+
+fn put_u16(out: &mut Vec<u8>, value: u16) -> Result<(), NoMemory>
+    ensures { OnOk result (out.new.items ≡ out.old.items ++ little_bytes 2 value) }
+{
+    out.extend_from_slice(&value.to_le_bytes())?;
+    Ok(())
+}
+
+fn put_u32(out: &mut Vec<u8>, value: u32) -> Result<(), NoMemory>
+    ensures { OnOk result (out.new.items ≡ out.old.items ++ little_bytes 4 value) }
+{
+    out.extend_from_slice(&value.to_le_bytes())?;
+    Ok(())
+}
+
+fn put_u64(out: &mut Vec<u8>, value: u64) -> Result<(), NoMemory>
+    ensures { OnOk result (out.new.items ≡ out.old.items ++ little_bytes 8 value) }
+{
+    out.extend_from_slice(&value.to_le_bytes())?;
+    Ok(())
+}
+
+/// Appends a program header.
+pub fn put_segment(out: &mut Vec<u8>, p: &Segment) -> Result<(), NoMemory>
+    ensures bytes { OnOk result (out.new.items ≡ out.old.items ++ spec.segment_bytes p.now) }
+    ensures fits { OnOk result (spec.SegmentFits p.now) }
+{
+    put_u32(out, p.kind)?;
+    put_u32(out, p.flags)?;
+    put_u64(out, p.offset)?;
+    put_u64(out, p.vaddr)?;
+    put_u64(out, p.paddr)?;
+    put_u64(out, p.filesz)?;
+    put_u64(out, p.memsz)?;
+    put_u64(out, p.align)?;
+    Ok(())
+}
+
+/// Appends a table of program headers.
+#[tactic(auto, using(crate::proofs::Spelled::tables))]
+pub fn put_segments(out: &mut Vec<u8>, segments: &[Segment]) -> Result<(), NoMemory>
+    ensures bytes { OnOk result (out.new.items ≡ out.old.items ++ spec.segment_table segments.now) }
+    ensures fits { OnOk result (All spec.SegmentFits segments.now) }
+{
+    for p in segments {
+        put_segment(out, p)?;
+    }
+    Ok(())
+}
+
+/// Appends a section header.
+pub fn put_section(out: &mut Vec<u8>, s: &SectionHeader) -> Result<(), NoMemory>
+    ensures { OnOk result (out.new.items ≡ out.old.items ++ spec.section_bytes s.now) }
+{
+    put_u32(out, s.name)?;
+    put_u32(out, s.kind)?;
+    put_u64(out, s.flags)?;
+    put_u64(out, s.addr)?;
+    put_u64(out, s.offset)?;
+    put_u64(out, s.size)?;
+    put_u32(out, s.link)?;
+    put_u32(out, s.info)?;
+    put_u64(out, s.align)?;
+    put_u64(out, s.entsize)?;
+    Ok(())
+}
+
+/// Appends a table of section headers.
+#[tactic(auto, using(crate::proofs::Spelled::section_tables))]
+pub fn put_sections(out: &mut Vec<u8>, sections: &[SectionHeader]) -> Result<(), NoMemory>
+    ensures { OnOk result (out.new.items ≡ out.old.items ++ spec.section_table sections.now) }
+{
+    for s in sections {
+        put_section(out, s)?;
+    }
+    Ok(())
+}
+
+/// Appends an entry of the symbol table.
+pub fn put_symbol(out: &mut Vec<u8>, s: &SymbolEntry) -> Result<(), NoMemory>
+    ensures { OnOk result (out.new.items ≡ out.old.items ++ spec.symbol_bytes s.now) }
+{
+    put_u32(out, s.name)?;
+    put_u8(out, s.info)?;
+    put_u8(out, s.other)?;
+    put_u16(out, s.section)?;
+    put_u64(out, s.value)?;
+    put_u64(out, s.size)?;
+    Ok(())
+}

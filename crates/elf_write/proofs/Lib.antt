@@ -1,0 +1,12 @@
+pub mod CellLists
+pub mod CellPatches
+pub mod Extended
+pub mod FreeRange
+pub mod HiddenBytes
+pub mod Images
+pub mod LeftBytes
+pub mod LoadedNumbers
+pub mod Loads
+pub mod NewSegments
+pub mod TableBytes
+pub mod WrittenImages

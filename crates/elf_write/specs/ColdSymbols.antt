@@ -1,0 +1,20 @@
+-- The symbols that are added for cold parts, each given by the address of its first instruction in the input.
+use Rattle.std.specs.Prelude.{ℕ, ◌&&◌, ◌==◌, ◌++◌, nat_le, nat_lt, List, Option, find, codes, option_map, option_and_then}
+use Rattle.rv_code.specs.declared.placed.Func.{Func}
+use Rattle.elf_image.specs.declared.elf.Symbol.{Symbol}
+use Rattle.elf_image.specs.code.Cuts.{names_function}
+
+-- where the function starts that has an address
+abbrev pub start_around : List Func → ℕ → Option ℕ
+start_around funcs a = option_map (λ f. f.start) (find (λ f. nat_le f.start a && nat_lt a f.end) funcs)
+
+-- the first symbol of a function that starts there
+abbrev pub first_named : List Symbol → ℕ → Option Symbol
+first_named symbols start = find (λ s. names_function s && (s.value == start)) symbols
+
+-- The symbol by which a cold part is called. Without one it gets no symbol.
+abbrev pub named_around : List Symbol → List Func → ℕ → Option Symbol
+named_around symbols funcs a = option_and_then (first_named symbols) (start_around funcs a)
+
+abbrev pub cold_name : List ℕ → List ℕ
+cold_name name = name ++ codes ".cold"

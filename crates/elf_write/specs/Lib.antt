@@ -1,0 +1,15 @@
+pub mod Area
+pub mod Carried
+pub mod CellNumbers
+pub mod ColdSymbols
+pub mod Extended
+pub mod NameTables
+pub mod NameWeight
+pub mod Need
+pub mod NewSegments
+pub mod NoRoom
+pub mod OldNames
+pub mod Placing
+pub mod Room
+pub mod Source
+pub mod Written

@@ -1,0 +1,22 @@
+-- The tables of names of a file, which are written anew. gABI, "String Table".
+use Rattle.std.specs.Prelude.{ℕ, ◌==◌, if◌then◌else◌, List, Option, Some, None, length, find, slice_get, option_map}
+use Rattle.std.specs.Option.{option_map_or}
+use Rattle.elf_image.specs.declared.elf.Elf.{Elf}
+use Rattle.elf_image.specs.declared.elf.Section.{Section}
+use Rattle.elf_image.specs.declared.section.TheConstants.{SHT_SYMTAB}
+use Rattle.elf_image.specs.file.Header.{e_shstrndx}
+
+-- the section with the names of sections
+abbrev pub names_of_sections : Elf → Option Section
+names_of_sections elf = slice_get elf.sections.items (e_shstrndx elf.file.now)
+
+-- the one with the names of symbols, where there are symbols
+abbrev pub symbols_section : Elf → Option Section
+symbols_section elf = find (λ s. s.kind == SHT_SYMTAB) elf.sections.items
+
+abbrev pub names_of_symbols : Elf → Option Section
+names_of_symbols elf =
+    if length elf.symbols.items == 0 then None else option_map_or (λ s. slice_get elf.sections.items s.link) (symbols_section elf) None
+
+abbrev pub size_of : Option Section → ℕ
+size_of section = option_map_or (λ s. s.size) section 0

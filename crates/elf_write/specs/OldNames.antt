@@ -1,0 +1,16 @@
+-- How sections are called whose place new ones take.
+use Rattle.std.specs.Prelude.{ℕ, ◌||◌, if◌then◌else◌, Bool, nat_eq, List, ◌++◌, codes}
+use Rattle.std.specs.List.{starts_with}
+use Rattle.elf_image.specs.declared.elf.Section.{Section}
+use Rattle.elf_image.specs.code.Cuts.{holds_code}
+use Rattle.elf_image.specs.file.SectionNames.{names_frames}
+
+-- each one with instructions, and all that are called as the unwind tables are, loaded or not
+abbrev pub is_renamed : Section → Bool
+is_renamed s = holds_code s || names_frames s.name.now
+
+abbrev pub old_name : List ℕ → List ℕ
+old_name name = if starts_with nat_eq name (codes ".") then codes ".old" ++ name else codes ".old." ++ name
+
+abbrev pub new_name : Section → List ℕ
+new_name s = if is_renamed s then old_name s.name.now else s.name.now

@@ -1,0 +1,228 @@
+// The new area, and where the loaded bytes of the input are beside it.
+ghost use Rattle.std.specs.Prelude.{◌≡◌, ◌+◌, ◌^◌, ◌<◌, IfOk, Some};
+ghost use Rattle.elf_image.specs.memory.CodeSegment.{executable_segment, executable_end};
+ghost use Rattle.elf_write.specs.Area as spec;
+
+use crate::capacity::{area_above, area_start, greatest_align, new_segment_start};
+use crate::round::{rounded_up, sum};
+use elf_image::Segment;
+use elf_image::segment::PT_LOAD;
+use rb_bytes::fault::NoMemory;
+
+/// The new area: the new code, and behind it the tables that are loaded.
+#[derive(Clone, Copy, PartialEq, Eq, Debug)]
+pub struct Area {
+    /// Whether it stands in a segment of its own.
+    pub tight: bool,
+    /// The address of its segment.
+    pub address: u64,
+    /// That segment's offset in the written file.
+    pub offset: u64,
+    /// Where the new code starts and ends.
+    pub start: u64,
+    pub code_end: u64,
+    /// Where the unwind table and its index start, if they are there.
+    pub frames: Option<u64>,
+    pub index: Option<u64>,
+    pub end: u64,
+}
+
+impl Area {
+    ghost use Rattle.elf_write.specs.Area.{offset_in};
+
+    /// Where an address of the area is in the written file.
+    pub fn offset_of(&self, address: u64) -> Result<u64, NoMemory>
+        ensures { IfOk result (λ offset. offset ≡ offset_in self.now address) }
+    {
+        sum(self.offset, address.saturating_sub(self.address))
+    }
+}
+
+// An address as a number of 64 bits.
+fn in_64_bits(address: u128) -> Result<u64, NoMemory>
+    ensures { IfOk result (λ a. a ≡ address) }
+{
+    if address <= u64::MAX as u128 {
+        Ok(address as u64)
+    } else {
+        Err(NoMemory)
+    }
+}
+
+fn has_file_bytes(p: &Segment) -> bool
+    ensures { result ≡ spec.has_file_bytes p.now }
+{
+    p.kind == PT_LOAD && p.filesz > 0
+}
+
+// Where the bytes of a program header end in the file.
+fn file_end_of(p: &Segment) -> u128
+    ensures end { result ≡ spec.file_end_of p.now }
+    ensures low { result < 2 ^ 65 }
+{
+    p.offset as u128 + p.filesz as u128
+}
+
+/// Where the last loaded byte ends in the file.
+pub fn loads_end(segments: &[Segment]) -> Result<u64, NoMemory>
+    ensures { IfOk result (λ end. end ≡ spec.loads_end segments.now) }
+{
+    let mut end: u128 = 0;
+    for p in segments {
+        if has_file_bytes(p) {
+            end = end.max(file_end_of(p));
+        }
+    }
+    in_64_bits(end)
+}
+
+/// Where the first loaded byte at or behind an offset stands in the file.
+pub fn lowest_behind(segments: &[Segment], offset: u64) -> Option<u64>
+    ensures { result ≡ spec.lowest_behind offset segments.now }
+{
+    let mut low: Option<u64> = None;
+    for p in segments {
+        if has_file_bytes(p) && offset <= p.offset {
+            low = match low {
+                Some(low) => Some(p.offset.min(low)),
+                None => Some(p.offset),
+            };
+        }
+    }
+    low
+}
+
+// The address of the area's segment.
+fn segment_address(segments: &[Segment], code: &Segment, tight: bool) -> Result<u64, NoMemory>
+    requires { code.now ≡ spec.code_segment segments.now }
+    ensures { IfOk result (λ address. address ≡ spec.segment_address segments.now tight) }
+{
+    if tight {
+        in_64_bits(new_segment_start(segments))
+    } else {
+        Ok(code.vaddr)
+    }
+}
+
+// The offset of the area's segment in the written file.
+fn segment_offset(segments: &[Segment], code: &Segment, tight: bool) -> Result<u64, NoMemory>
+    requires { code.now ≡ spec.code_segment segments.now }
+    ensures { IfOk result (λ offset. offset ≡ spec.segment_offset segments.now tight) }
+{
+    if tight {
+        rounded_up(greatest_align(segments), loads_end(segments)?)
+    } else {
+        Ok(code.offset)
+    }
+}
+
+fn start_of(segments: &[Segment], tight: bool) -> Result<u64, NoMemory>
+    ensures { IfOk result (λ start. start ≡ spec.start_of segments.now tight) }
+{
+    if tight {
+        in_64_bits(area_above(segments))
+    } else {
+        in_64_bits(area_start(segments))
+    }
+}
+
+// Where a table starts behind an end, if there is one.
+fn table_start(align: u64, end: u64, size: Option<usize>) -> Result<Option<u64>, NoMemory>
+    requires { 0 < align }
+    ensures { IfOk result (λ start. start ≡ spec.table_start align end size) }
+{
+    match size {
+        Some(_) => Ok(Some(rounded_up(align, end)?)),
+        None => Ok(None),
+    }
+}
+
+// Where it ends; without one nothing is added.
+fn table_end(align: u64, end: u64, size: Option<usize>) -> Result<u64, NoMemory>
+    requires { 0 < align }
+    ensures { IfOk result (λ after. after ≡ spec.table_end align end size) }
+{
+    match size {
+        Some(size) => sum(rounded_up(align, end)?, size as u64),
+        None => Ok(end),
+    }
+}
+
+/// The area for so many bytes of code, and for tables of these sizes, in a file with this executable segment.
+pub fn area_of(
+    segments: &[Segment],
+    executable: &Segment,
+    tight: bool,
+    code: usize,
+    frames: Option<usize>,
+    index: Option<usize>,
+) -> Result<Area, NoMemory>
+    requires { executable.now ≡ spec.code_segment segments.now }
+    ensures { IfOk result (λ area. area ≡ spec.area_of segments.now tight code frames index) }
+{
+    let start = start_of(segments, tight)?;
+    let code_end = sum(start, code as u64)?;
+    let frames_end = table_end(8, code_end, frames)?;
+    Ok(Area {
+        tight,
+        address: segment_address(segments, executable, tight)?,
+        offset: segment_offset(segments, executable, tight)?,
+        start,
+        code_end,
+        frames: table_start(8, code_end, frames)?,
+        index: table_start(4, frames_end, index)?,
+        end: table_end(4, frames_end, index)?,
+    })
+}
+
+/// Where bytes of the input are in the written file: those from an offset on move.
+#[derive(Clone, Copy, PartialEq, Eq, Debug)]
+pub struct Shift {
+    /// The end of the executable segment in the input.
+    pub from: u64,
+    pub by: u64,
+}
+
+impl Shift {
+    ghost use Rattle.elf_write.specs.Area.{code_segment, moved_by, shift_of};
+
+    /// How the bytes behind the executable segment make room for an area.
+    pub fn new(segments: &[Segment], executable: &Segment, area: &Area) -> Result<Shift, NoMemory>
+        requires { executable.now ≡ code_segment segments.now }
+        ensures { IfOk result (λ shift. shift ≡ shift_of segments.now area.now) }
+    {
+        let from = sum(executable.offset, executable.filesz)?;
+        Ok(Shift {
+            from,
+            by: step_of(segments, from, area)?,
+        })
+    }
+
+    /// Where the byte at an offset went.
+    pub fn moved(&self, offset: u64) -> Result<u64, NoMemory>
+        ensures { IfOk result (λ o. o ≡ moved_by self.now.from self.now.by offset) }
+    {
+        if self.from <= offset {
+            sum(offset, self.by)
+        } else {
+            Ok(offset)
+        }
+    }
+}
+
+// How far the bytes from an offset on move to make room for an area.
+fn step_of(segments: &[Segment], from: u64, area: &Area) -> Result<u64, NoMemory>
+    requires { from ≡ spec.code_file_end segments.now }
+    ensures { IfOk result (λ step. step ≡ spec.step_of segments.now area.now) }
+{
+    if area.tight {
+        return Ok(0);
+    }
+    match lowest_behind(segments, from) {
+        Some(low) => {
+            let end = area.offset_of(area.end)?;
+            rounded_up(greatest_align(segments), end.saturating_sub(low))
+        }
+        None => Ok(0),
+    }
+}

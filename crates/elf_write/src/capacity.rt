@@ -1,0 +1,217 @@
+// How much room the new area has.
+ghost use Rattle.std.specs.Prelude.{◌≡◌, ◌+◌, ◌-◌, ◌^◌, ◌<◌, min};
+ghost use Rattle.elf_image.specs.memory.CodeSegment.{executable_end};
+ghost use Rattle.elf_image.specs.memory.Start.{rounded_up};
+ghost use Rattle.elf_write.specs.Room as spec;
+ghost use Rattle.elf_write.specs.NoRoom as fault;
+ghost use Rattle.elf_image.specs.memory.Start.{writable_end};
+
+use crate::code_segment::executable_segment;
+use elf_image::segment::{PF_W, PHDR_SIZE, PT_LOAD};
+use elf_image::{Elf, Segment};
+use rb_bytes::fault::{Fault, FaultKind};
+
+/// All that is loaded lies below this address.
+pub const ADDRESS_END: u64 = 0x7fff_0000;
+
+pub const PAGE_SIZE: u64 = 4096;
+
+/// The new area starts at a multiple of this.
+pub const AREA_ALIGN: u64 = 16;
+
+/// The size of the ELF header. gABI, "ELF Header".
+const HEADER_SIZE: u128 = 64;
+
+// How far the break can grow.
+const BREAK_ROOM: u128 = 0x400_0000;
+
+// Rounds up to a multiple of a unit.
+fn rounded_up(unit: u64, n: u128) -> u128
+    requires some { 0 < unit }
+    requires low { n < 2 ^ 66 }
+    ensures up { result ≡ rounded_up unit n }
+    ensures low { result < n + unit }
+{
+    let unit = unit as u128;
+    (n + (unit - 1)) / unit * unit
+}
+
+fn end_of(p: &Segment) -> u128
+    ensures end { result ≡ p.now.vaddr + p.now.memsz }
+    ensures low { result < 2 ^ 65 }
+{
+    p.vaddr as u128 + p.memsz as u128
+}
+
+// The address at which the executable segment ends.
+fn code_end(segments: &[Segment]) -> u128
+    ensures end { result ≡ spec.code_end segments.now }
+    ensures low { result < 2 ^ 65 }
+{
+    match executable_segment(segments) {
+        Some((_, p)) => end_of(&p),
+        None => 0,
+    }
+}
+
+/// Where the new area starts behind the executable segment.
+pub fn area_start(segments: &[Segment]) -> u128
+    ensures { result ≡ spec.area_start segments.now }
+{
+    rounded_up(AREA_ALIGN, code_end(segments))
+}
+
+// The page on which the lowest segment at or above an address starts, below the address that ends all.
+fn limit_above(segments: &[Segment], end: u128) -> u64
+    ensures { result ≡ spec.limit_above end segments.now }
+{
+    let mut limit = ADDRESS_END;
+    for p in segments {
+        if p.kind == PT_LOAD && end <= p.vaddr as u128 {
+            limit = limit.min(p.vaddr / PAGE_SIZE * PAGE_SIZE);
+        }
+    }
+    limit
+}
+
+// How many bytes there are from a start to before an end.
+fn bytes_between(start: u128, end: u64) -> u64
+    ensures { result ≡ end - start }
+{
+    if start < end as u128 {
+        end - start as u64
+    } else {
+        0
+    }
+}
+
+// Where the executable segment ends in the file.
+fn file_end(segments: &[Segment]) -> u128
+    ensures { result ≡ executable_end segments.now }
+{
+    match executable_segment(segments) {
+        Some((_, p)) => p.offset as u128 + p.filesz as u128,
+        None => 0,
+    }
+}
+
+/// How many bytes the new area can have behind the executable segment.
+pub fn room(elf: &Elf) -> u64
+    ensures { result ≡ spec.room elf.now.segments.items }
+{
+    if file_end(&elf.segments) < HEADER_SIZE {
+        return 0;
+    }
+    let limit = limit_above(&elf.segments, code_end(&elf.segments));
+    bytes_between(area_start(&elf.segments), limit)
+}
+
+/// The greatest alignment of the loaded segments, at least that of a page.
+pub fn greatest_align(segments: &[Segment]) -> u64
+    ensures greatest { result ≡ spec.greatest_align segments.now }
+    ensures some { 0 < result }
+{
+    let mut align = PAGE_SIZE;
+    for p in segments {
+        if p.kind == PT_LOAD {
+            align = align.max(p.align);
+        }
+    }
+    align
+}
+
+fn highest_end(segments: &[Segment]) -> u128
+    ensures end { result ≡ spec.highest_end segments.now }
+    ensures low { result < 2 ^ 65 }
+{
+    let mut end = 0;
+    for p in segments {
+        if p.kind == PT_LOAD {
+            end = end.max(end_of(p));
+        }
+    }
+    end
+}
+
+// Where the highest writable segment ends, 0 where none is writable.
+fn writable_end(segments: &[Segment]) -> u128
+    ensures end { result ≡ writable_end segments.now }
+    ensures low { result < 2 ^ 65 }
+{
+    let mut end = 0;
+    for p in segments {
+        if p.has_memory() && p.has_flag(PF_W) {
+            end = end.max(end_of(p));
+        }
+    }
+    end
+}
+
+fn break_end(segments: &[Segment]) -> u128
+    ensures end { result ≡ spec.break_end segments.now }
+    ensures low { result < 2 ^ 65 + 2 ^ 27 }
+{
+    let end = writable_end(segments);
+    if end == 0 {
+        return 0;
+    }
+    rounded_up(PAGE_SIZE, end) + BREAK_ROOM
+}
+
+/// Where a segment of the new area's own starts.
+pub fn new_segment_start(segments: &[Segment]) -> u128
+    ensures start { result ≡ spec.new_segment_start segments.now }
+    ensures low { result < 2 ^ 65 + 2 ^ 64 + 2 ^ 27 }
+{
+    let end = highest_end(segments).max(break_end(segments));
+    rounded_up(greatest_align(segments), end)
+}
+
+/// Where the new area starts in it, behind the table of program headers.
+pub fn area_above(segments: &[Segment]) -> u128
+    ensures { result ≡ spec.area_above segments.now }
+{
+    let table = PHDR_SIZE as u128 * (segments.len() as u128 + 1);
+    rounded_up(AREA_ALIGN, new_segment_start(segments) + table)
+}
+
+/// How many bytes the new area can have in a segment of its own.
+pub fn room_above(elf: &Elf) -> u64
+    ensures { result ≡ spec.room_above elf.now.segments.items }
+{
+    bytes_between(area_above(&elf.segments), ADDRESS_END)
+}
+
+/// Whether a file is tight: a new area of so many bytes has no room behind the executable segment.
+pub fn is_tight(elf: &Elf, need: u64) -> bool
+    ensures { result ≡ spec.is_tight elf.now.segments.items need }
+{
+    room(elf) < need
+}
+
+// An address, or the highest of 64 bits.
+fn capped(address: u128) -> u64
+    ensures { result ≡ min address (2 ^ 64 - 1) }
+{
+    if address < u64::MAX as u128 {
+        address as u64
+    } else {
+        u64::MAX
+    }
+}
+
+/// The fault `NoRoom`, exactly where a new area of so many bytes has room in neither place.
+pub fn no_room(elf: &Elf, need: u64) -> Option<Fault>
+    ensures { result ≡ fault.no_room elf.now.segments.items need }
+{
+    let room = room_above(elf);
+    if !is_tight(elf, need) || room >= need {
+        return None;
+    }
+    Some(Fault {
+        kind: FaultKind::NoRoom,
+        place: capped(area_above(&elf.segments)),
+        need,
+        room,
+    })
+}

@@ -1,0 +1,20 @@
+// The symbols by which functions are called.
+
+use elf_image::Symbol;
+use rb_bytes::fault::NoMemory;
+use std::alloc::Global;
+use std::collections::BTreeMap;
+
+/// Of each function the first symbol that names it, by the address where the function starts.
+pub fn first_names<'a>(
+    alloc: Global,
+    symbols: &[Symbol<'a>],
+) -> Result<BTreeMap<u64, Symbol<'a>>, NoMemory> {
+    let mut names = BTreeMap::new(alloc);
+    for symbol in symbols {
+        if symbol.names_function() && !names.contains_key(&symbol.value) {
+            names.insert(symbol.value, *symbol)?;
+        }
+    }
+    Ok(names)
+}

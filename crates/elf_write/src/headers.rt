@@ -1,0 +1,227 @@
+// The section headers of a written file, and the contents behind its loaded bytes. gABI, "Section Header".
+ghost use Rattle.std.specs.Prelude.{◌≡◌, ◌==◌, if◌then◌else◌, [], take, drop};
+ghost use Rattle.elf_image.specs.faults.Truncation.{IsReadable};
+
+use crate::area::{Area, Shift};
+use crate::names::NameTable;
+use crate::old_name::{is_renamed, old_prefix};
+use crate::sections::{Contents, Table, table_named};
+use crate::tail::Tail;
+use elf_image::entries::SectionTable;
+use elf_image::header::e_shnum;
+use elf_image::named::{EH_FRAME, EH_FRAME_HDR};
+use elf_image::relocation::SHT_RELA;
+use elf_image::section::{SHF_ALLOC, SHF_EXECINSTR, SHT_NOBITS, SHT_PROGBITS, SHT_STRTAB};
+use elf_image::{Elf, Section, SectionHeader};
+use rb_bytes::fault::NoMemory;
+use std::alloc::Global;
+
+/// The type of no section. gABI, "Section Types".
+pub const SHT_NULL: u32 = 0;
+
+/// The contents that are written anew.
+#[derive(Clone, Copy)]
+pub struct NewContents<'a> {
+    pub section_names: &'a [u8],
+    pub symbols: &'a [u8],
+    pub symbol_names: &'a [u8],
+    pub tables: &'a [Table],
+}
+
+/// The headers of the input's sections, with new names where they are renamed.
+pub fn old_headers(
+    alloc: Global,
+    elf: &Elf,
+    names: &mut NameTable,
+) -> Result<Vec<SectionHeader>, NoMemory>
+    requires { IsReadable elf.now.file.now }
+{
+    let table = SectionTable { file: elf.file };
+    let mut headers = Vec::new(alloc);
+    for i in 0..e_shnum(elf.file) {
+        let mut header = table.section_of(i);
+        if let Some(section) = elf.sections.get(i as usize) {
+            if is_renamed(section) {
+                header.name = names.add(old_prefix(section.name), section.name)?;
+            }
+        }
+        headers.push(header)?;
+    }
+    Ok(headers)
+}
+
+// A section in the new area.
+fn area_section(
+    name: u32,
+    flags: u64,
+    area: &Area,
+    addr: u64,
+    size: u64,
+    align: u64,
+) -> Result<SectionHeader, NoMemory> {
+    Ok(SectionHeader {
+        name,
+        kind: SHT_PROGBITS,
+        flags,
+        addr,
+        offset: area.offset_of(addr)?,
+        size,
+        link: 0,
+        info: 0,
+        align,
+        entsize: 0,
+    })
+}
+
+/// The headers of the sections in the new area: the code, the unwind table and its index.
+pub fn area_headers(
+    headers: &mut Vec<SectionHeader>,
+    area: &Area,
+    tables: &[Table],
+    names: &mut NameTable,
+) -> Result<(), NoMemory> {
+    let code = area.code_end.saturating_sub(area.start);
+    let name = names.add(b".text", b"")?;
+    headers.push(area_section(name, SHF_ALLOC + SHF_EXECINSTR, area, area.start, code, 16)?)?;
+    if let Some(frames) = area.frames {
+        let name = names.add(EH_FRAME, b"")?;
+        let size = table_size(tables, EH_FRAME);
+        headers.push(area_section(name, SHF_ALLOC, area, frames, size, 8)?)?;
+    }
+    if let Some(index) = area.index {
+        let name = names.add(EH_FRAME_HDR, b"")?;
+        let size = table_size(tables, EH_FRAME_HDR);
+        headers.push(area_section(name, SHF_ALLOC, area, index, size, 4)?)?;
+    }
+    Ok(())
+}
+
+fn table_size(tables: &[Table], name: &[u8]) -> u64 {
+    match table_named(tables, name) {
+        Some(i) => match tables.get(i) {
+            Some(table) => table.1.len() as u64,
+            None => 0,
+        },
+        None => 0,
+    }
+}
+
+// The flags of a section that is written anew: it holds no instructions.
+fn without_code(flags: u64) -> u64 {
+    if flags / SHF_EXECINSTR % 2 == 1 {
+        flags - SHF_EXECINSTR
+    } else {
+        flags
+    }
+}
+
+/// The bytes of a section of a file, as far as it has them.
+pub fn bytes_of<'a>(file: &'a [u8], section: &Section) -> &'a [u8]
+    ensures { result.now ≡ (if section.now.kind == SHT_NOBITS then [] else take section.now.size (drop section.now.offset file.now)) }
+{
+    let start = (section.offset as usize).min(file.len());
+    let rest = &file[start..];
+    if section.kind == SHT_NOBITS {
+        return &rest[..0];
+    }
+    &rest[..(section.size as usize).min(rest.len())]
+}
+
+impl<'a> NewContents<'a> {
+    // The bytes that are written for a section, if they stand behind the loaded ones.
+    fn written(&self, elf: &Elf<'a>, contents: Contents, section: &Section) -> Option<&'a [u8]> {
+        match contents {
+            Contents::Dropped | Contents::Kept => None,
+            Contents::Copied => Some(bytes_of(elf.file, section)),
+            Contents::SectionNames => Some(self.section_names),
+            Contents::Symbols => Some(self.symbols),
+            Contents::SymbolNames => Some(self.symbol_names),
+            Contents::Given(table) => self.tables.get(table).map(|t| t.1.as_slice()),
+        }
+    }
+}
+
+/// Sets what a header says of its contents, but for the places of those that are written.
+pub fn set_contents(
+    header: &mut SectionHeader,
+    contents: Contents,
+    shift: &Shift,
+) -> Result<(), NoMemory> {
+    match contents {
+        Contents::Dropped => {
+            header.kind = SHT_NULL;
+            header.offset = 0;
+            header.size = 0;
+        }
+        Contents::Kept => header.offset = shift.moved(header.offset)?,
+        Contents::Copied => {}
+        Contents::SectionNames | Contents::Symbols | Contents::SymbolNames => {
+            header.flags = without_code(header.flags);
+            header.kind = match header.kind {
+                SHT_RELA => SHT_NULL,
+                SHT_NOBITS => SHT_STRTAB,
+                kind => kind,
+            };
+        }
+        Contents::Given(_) => {
+            if header.kind == SHT_NOBITS {
+                header.kind = SHT_PROGBITS;
+            }
+        }
+    }
+    Ok(())
+}
+
+// The sections whose contents are written, by their offsets in the input and then by their indices.
+fn order_of(
+    alloc: Global,
+    elf: &Elf,
+    contents: &[Contents],
+) -> Result<Vec<(u64, usize)>, NoMemory> {
+    let mut order = Vec::new(alloc);
+    for i in 0..elf.sections.len() {
+        if let Some(contents) = contents.get(i) {
+            if contents.is_written() {
+                order.push((elf.sections[i].offset, i))?;
+            }
+        }
+    }
+    order.sort_unstable();
+    Ok(order)
+}
+
+// Writes the contents of the section of an index.
+fn place_bytes(
+    headers: &mut [SectionHeader],
+    index: usize,
+    bytes: &[u8],
+    tail: &mut Tail,
+) -> Result<(), NoMemory> {
+    if index < headers.len() {
+        let place = tail.add(headers[index].align, bytes)?;
+        headers[index].offset = place;
+        headers[index].size = bytes.len() as u64;
+    }
+    Ok(())
+}
+
+/// Writes the contents of sections behind the loaded bytes, and sets what their headers say of them.
+pub fn place_contents<'a>(
+    alloc: Global,
+    elf: &Elf<'a>,
+    contents: &[Contents],
+    new: &NewContents<'a>,
+    headers: &mut [SectionHeader],
+    tail: &mut Tail,
+) -> Result<(), NoMemory> {
+    let order = order_of(alloc, elf, contents)?;
+    for entry in &order {
+        let i = entry.1;
+        if let (Some(section), Some(contents)) = (elf.sections.get(i), contents.get(i)) {
+            if let Some(bytes) = new.written(elf, *contents, section) {
+                place_bytes(headers, i, bytes, tail)?;
+            }
+        }
+    }
+    Ok(())
+}

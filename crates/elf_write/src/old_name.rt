@@ -1,0 +1,32 @@
+// Sections whose place new ones take.
+ghost use Rattle.std.specs.Prelude.{◌≡◌, ◌++◌, IfOk};
+ghost use Rattle.elf_image.specs.file.SectionNames.{names_frames};
+ghost use Rattle.elf_write.specs.OldNames as spec;
+
+use elf_image::Section;
+use elf_image::named::{EH_FRAME, EH_FRAME_HDR};
+
+/// Whether a name is that of the unwind tables that are loaded, or of their index.
+pub fn names_frames(name: &[u8]) -> bool
+    ensures { result ≡ names_frames name.now }
+{
+    name == EH_FRAME || name == EH_FRAME_HDR
+}
+
+/// Whether a section keeps its place and contents under another name.
+pub fn is_renamed(section: &Section) -> bool
+    ensures { result ≡ spec.is_renamed section.now }
+{
+    section.holds_code() || names_frames(section.name)
+}
+
+/// What stands before the name of a section that is renamed.
+pub fn old_prefix(name: &[u8]) -> &'static [u8]
+    ensures { result.now ++ name.now ≡ spec.old_name name.now }
+{
+    if name.starts_with(b".") {
+        b".old"
+    } else {
+        b".old."
+    }
+}

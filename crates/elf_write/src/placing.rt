@@ -1,0 +1,144 @@
+// How a written file is put together: where its parts lie, and where its table of program headers stands.
+ghost use Rattle.std.specs.Prelude.{◌≡◌, ◌≤◌, ◌<◌, IfOk, All, IsTrue, ◌↔◌, true, false};
+ghost use Rattle.elf_parts.specs.Parts.{CanStand};
+ghost use Rattle.elf_parts.specs.Numbers.{CanPut};
+ghost use Rattle.elf_write.specs.Area as moves;
+ghost use Rattle.elf_write.specs.Placing as spec;
+
+use crate::area::{Area, Shift, loads_end, lowest_behind};
+use crate::round::sum;
+use crate::tail::Tail;
+use elf_image::header::EHDR_SIZE;
+use elf_image::segment::{PHDR_SIZE, PT_LOAD};
+use elf_image::{Elf, Segment};
+use elf_parts::{NumberAt, Parts};
+use rb_bytes::fault::NoMemory;
+
+// The bytes of the input that keep their places, where the area has a segment of its own.
+fn tight_parts(segments: &[Segment], area: &Area) -> Result<Parts, NoMemory>
+    ensures { IfOk result (λ parts. spec.IsAbove segments.now area.now parts) }
+{
+    let keep = loads_end(segments)?.max(EHDR_SIZE as u64);
+    Ok(Parts {
+        keep: keep as usize,
+        area_at: area.offset_of(area.start)? as usize,
+        low: 0,
+        high: 0,
+        behind_at: area.offset_of(area.end)? as usize,
+    })
+}
+
+// The same, where it lies behind the executable segment and others move.
+fn parts_behind(segments: &[Segment], area: &Area, shift: &Shift) -> Result<Parts, NoMemory>
+    ensures { IfOk result (λ parts. spec.IsBehind segments.now area.now shift.now parts) }
+{
+    let area_at = area.offset_of(area.start)? as usize;
+    let keep = shift.from as usize;
+    match lowest_behind(segments, shift.from) {
+        Some(low) => Ok(Parts {
+            keep,
+            area_at,
+            low: low as usize,
+            high: loads_end(segments)? as usize,
+            behind_at: sum(low, shift.by)? as usize,
+        }),
+        None => Ok(Parts {
+            keep,
+            area_at,
+            low: 0,
+            high: 0,
+            behind_at: area.offset_of(area.end)? as usize,
+        }),
+    }
+}
+
+// Whether parts lie apart, and come from an input of some size. The area doesn't stand in the file's header.
+fn can_stand(parts: &Parts, input: usize, area: usize) -> bool
+    ensures { IsTrue result ↔ (CanStand parts.now input area × (64 ≤ parts.now.keep)) }
+{
+    EHDR_SIZE <= parts.keep
+        && parts.keep <= input
+        && parts.keep <= parts.area_at
+        && parts.area_at as u128 + area as u128 <= parts.behind_at as u128
+        && parts.low <= parts.high
+        && parts.high <= input
+}
+
+/// How the loaded bytes of the input lie beside an area of so many bytes. Where they can't, as where the area would stand
+/// on the file's header, no memory has room for the file.
+pub fn parts_of(
+    segments: &[Segment],
+    area: &Area,
+    shift: &Shift,
+    input: usize,
+    bytes: usize,
+) -> Result<Parts, NoMemory>
+    ensures can { IfOk result (λ parts. CanStand parts input bytes) }
+    ensures header { IfOk result (λ parts. 64 ≤ parts.keep) }
+    ensures above { IfOk result (λ parts. area.now.tight ≡ true → spec.IsAbove segments.now area.now parts) }
+    ensures behind { IfOk result (λ parts. area.now.tight ≡ false → spec.IsBehind segments.now area.now shift.now parts) }
+{
+    let parts = if area.tight {
+        tight_parts(segments, area)?
+    } else {
+        parts_behind(segments, area, shift)?
+    };
+    if !can_stand(&parts, input, bytes) {
+        return Err(NoMemory);
+    }
+    Ok(parts)
+}
+
+// Whether one segment loads the whole table of program headers from the file.
+fn has_loaded_table(elf: &Elf) -> bool {
+    let end = elf.phoff as u128 + PHDR_SIZE as u128 * elf.segments.len() as u128;
+    elf.segments.iter().any(|p| {
+        p.kind == PT_LOAD
+            && p.offset <= elf.phoff
+            && end <= p.offset as u128 + p.filesz.min(p.memsz) as u128
+    })
+}
+
+/// Where the table of program headers stands: with the new code, where it stood, or behind the loaded bytes, where
+/// zeros are added for it.
+pub fn table_place(elf: &Elf, area: &Area, shift: &Shift, tail: &mut Tail) -> Result<u64, NoMemory>
+    ensures header { IfOk result (λ at. 64 ≤ at) }
+    ensures above { IfOk result (λ at. area.now.tight ≡ true → at ≡ area.now.offset) }
+    ensures behind { IfOk result (λ at. area.now.tight ≡ false → at < tail.old.base → at ≡ moves.moved_by shift.now.from shift.now.by elf.now.phoff) }
+    ensures base { IfOk result (λ at. tail.new.base ≡ tail.old.base) }
+{
+    let place = if area.tight {
+        area.offset
+    } else if elf.phoff < shift.from || has_loaded_table(elf) {
+        shift.moved(elf.phoff)?
+    } else {
+        let place = tail.align_to(8)?;
+        tail.fill(PHDR_SIZE.saturating_mul(elf.segments.len()))?;
+        place
+    };
+    if place < EHDR_SIZE as u64 {
+        return Err(NoMemory);
+    }
+    Ok(place)
+}
+
+// Whether a number has one of the widths of a field, fits it, and lies within so many bytes.
+fn can_put(size: usize, n: &NumberAt) -> bool
+    ensures { IsTrue result ↔ CanPut size n.now }
+{
+    let fits = if n.width == 2 {
+        n.value < 0x1_0000
+    } else if n.width == 4 {
+        n.value < 0x1_0000_0000
+    } else {
+        n.width == 8
+    };
+    fits && n.offset as u128 + n.width as u128 <= size as u128
+}
+
+/// Whether all numbers do.
+pub fn can_put_all(size: usize, numbers: &[NumberAt]) -> bool
+    ensures { IsTrue result ↔ All (CanPut size) numbers.now }
+{
+    numbers.iter().all(|n| can_put(size, n))
+}

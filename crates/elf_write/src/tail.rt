@@ -1,0 +1,71 @@
+// What stands in a written file behind all that it loads.
+ghost use Rattle.std.specs.Prelude.{◌≡◌, ◌+◌, IfOk, length};
+
+use crate::round::{rounded_up, sum};
+use elf_parts::patch::fill_to;
+use rb_bytes::fault::NoMemory;
+use std::alloc::Global;
+
+/// Bytes from an offset of the file on, to which more are added.
+#[derive(Drop)]
+pub struct Tail {
+    /// The offset at which they begin.
+    pub base: u64,
+    bytes: Vec<u8>,
+}
+
+impl Tail {
+    ghost use Rattle.std.specs.Prelude.{◌≡◌, ◌+◌, ◌≤◌, IfOk, length};
+
+    pub fn new(alloc: Global, base: u64) -> Tail
+        ensures { result.base ≡ base }
+    {
+        Tail {
+            base,
+            bytes: Vec::new(alloc),
+        }
+    }
+
+    /// Where the file ends now.
+    pub fn end(&self) -> Result<u64, NoMemory>
+        ensures { IfOk result (λ end. end ≡ self.now.base + length self.now.bytes.items) }
+    {
+        sum(self.base, self.bytes.len() as u64)
+    }
+
+    /// Adds zeros up to a multiple of an alignment, of which 0 is none, and says where the file ends then.
+    pub fn align_to(&mut self, align: u64) -> Result<u64, NoMemory>
+        ensures base { self.new.base ≡ self.old.base }
+        ensures behind { IfOk result (λ place. self.old.base ≤ place) }
+    {
+        let end = self.end()?;
+        let place = rounded_up(align.max(1), end)?;
+        let size = (place - self.base) as usize;
+        fill_to(&mut self.bytes, size)?;
+        Ok(place)
+    }
+
+    /// Adds bytes at a multiple of an alignment, and says where they stand.
+    pub fn add(&mut self, align: u64, bytes: &[u8]) -> Result<u64, NoMemory>
+        ensures { self.new.base ≡ self.old.base }
+    {
+        let place = self.align_to(align)?;
+        self.bytes.extend_from_slice(bytes)?;
+        Ok(place)
+    }
+
+    /// Adds zeros.
+    pub fn fill(&mut self, count: usize) -> Result<(), NoMemory>
+        ensures { self.new.base ≡ self.old.base }
+    {
+        let size = self.bytes.len().checked_add(count).ok_or(NoMemory)?;
+        fill_to(&mut self.bytes, size)
+    }
+
+    /// What was added.
+    pub fn bytes(&self) -> &[u8]
+        ensures { result.now ≡ self.now.bytes.items }
+    {
+        &self.bytes
+    }
+}
