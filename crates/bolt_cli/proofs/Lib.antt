@@ -18,3 +18,8 @@ pub mod RunArguments
 pub mod WordExamples
 pub mod RunEnds
 pub mod RunAnswering
+pub mod ByteRunAnswering
+pub mod FrameSections
+pub mod CodeFaultOrder
+pub mod CellBounds
+pub mod SymbolRunAnswering

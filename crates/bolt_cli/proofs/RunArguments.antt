@@ -1,9 +1,9 @@
 -- The arguments of `run`, one after the other.
-use Rattle.std.proofs.Common.{◌≡◌, ℕ, ◌&&◌, nat_le, not, Bool, true, List, [], ◌∷◌, length, refl, arith, Option, Some, None, sum_by}
+use Rattle.std.proofs.Common.{◌≡◌, ℕ, ◌&&◌, nat_le, not, Bool, true, false, List, [], ◌∷◌, length, refl, arith, Option, Some, None, sum_by}
 use Rattle.std.specs.List.{list_all}
 use Rattle.std.proofs.lemmas.Bool.Decides.{nat_tests}
 use Rattle.rv_memory.specs.Limits.{IsWithinLimits}
-use Rattle.bolt_cli.specs.Words.{limit_of, decimal_number, holds_zero, are_program_words}
+use Rattle.bolt_cli.specs.Words.{limit_of, symbols_of, decimal_number, holds_zero, are_program_words}
 
 -- the limit that the values of `--steps` say after the one that was read, if one was
 abbrev pub limit_after : Option ℕ → List (Option (List ℕ)) → Option ℕ
@@ -21,6 +21,16 @@ limit_of_bad digits (value ∷ values) bad = refl
 pub limit_of_number : (digits : List ℕ) (values : List (Option (List ℕ))) (limit : ℕ) → decimal_number digits ≡ Some limit → limit_of (Some digits ∷ values) ≡ limit_after (Some limit) values
 limit_of_number digits [] limit good = good
 limit_of_number digits (value ∷ values) limit good = refl
+
+-- whether `--symbols` is there, after it was or wasn't
+abbrev pub symbols_after : Bool → List (Option (List ℕ)) → Option Bool
+symbols_after false values = symbols_of values
+symbols_after true [] = Some true
+symbols_after true (value ∷ values) = None
+
+pub symbols_of_more : (value : Option (List ℕ)) (values : List (Option (List ℕ))) → symbols_of (value ∷ values) ≡ symbols_after true values
+symbols_of_more value [] = refl
+symbols_of_more value (next ∷ values) = refl
 
 -- at most so many words, of at most so many bytes together, and no byte of them zero
 abbrev pub fits : ℕ → ℕ → List (List ℕ) → Bool

@@ -5,14 +5,15 @@ use Rattle.rb_io.specs.Views.{FilesGoOn}
 use Rattle.bolt_cli.specs.declared.status.Status.{Status}
 use Rattle.bolt_cli.specs.declared.status.Status.TheVariants as status
 use Rattle.bolt_cli.specs.World.{World}
-use Rattle.bolt_cli.specs.Words.{Command, Rewrite, Run}
+use Rattle.bolt_cli.specs.Words.{Command, Rewrite, Run, RunSymbols}
 use Rattle.bolt_cli.specs.Lines.{usage_line}
 use Rattle.bolt_cli.specs.Printing.{PrintsOnly, FailsAtLine}
 use Rattle.bolt_cli.specs.rewrite.Refusals.{IsAccepted}
-use Rattle.bolt_cli.specs.run.Endings.{IsRunnable}
 use Rattle.bolt_cli.specs.rewrite.RewriteAnswers.{RewriteAnswers, OfInputs, IsOkOrNoMemory}
 use Rattle.bolt_cli.specs.rewrite.RewriteAnswers as rewrite
+use Rattle.bolt_cli.specs.run.ByteRuns.{byte_mode, IsRunnable}
 use Rattle.bolt_cli.specs.run.RunAnswers.{RunAnswers, RunCompletes}
+use Rattle.bolt_cli.specs.run.SymbolRuns.{symbol_mode, CanRunSymbols}
 
 -- the answers to words that are no command
 abbrev pub UsageAnswers : Status → World → World → Type 0
@@ -22,7 +23,8 @@ UsageAnswers _ old new = ⊥
 
 abbrev pub CommandAnswers : Option Command → Status → World → World → Type 0
 CommandAnswers (Some (Rewrite names)) answer old new = RewriteAnswers answer names old new
-CommandAnswers (Some (Run words)) answer old new = RunAnswers words old new answer
+CommandAnswers (Some (Run words)) answer old new = RunAnswers byte_mode words old new answer
+CommandAnswers (Some (RunSymbols words)) answer old new = RunAnswers symbol_mode words old new answer
 CommandAnswers None answer old new = UsageAnswers answer old new
 
 -- A rewrite is done, or wants memory, where none of its faults is present and no count rose. A run of a file that can be
@@ -32,12 +34,16 @@ Completes (Some (Rewrite names)) answer old new =
     IsTrue old.files.told → OfInputs old names IsAccepted → rewrite.NoneRose names old new → IsOkOrNoMemory answer
 Completes (Some (Run words)) answer old new =
     IsTrue old.files.told → (file : List ℕ) → old.files.content words.file ≡ Some file → IsRunnable file →
-    RunCompletes words file answer old new
+    RunCompletes byte_mode words file answer old new
+Completes (Some (RunSymbols words)) answer old new =
+    IsTrue old.files.told → (file : List ℕ) → old.files.content words.file ≡ Some file → CanRunSymbols file →
+    RunCompletes symbol_mode words file answer old new
 Completes None answer old new = Unit {0}
 
 -- the command doesn't touch standard input
 abbrev pub LeavesInput : Option Command → Type 0
 LeavesInput (Some (Run words)) = ⊥
+LeavesInput (Some (RunSymbols words)) = ⊥
 LeavesInput _ = Unit {0}
 
 -- What a command does, or words that are none: its answer, and the world after it.

@@ -7,6 +7,8 @@ use Rattle.rb_bytes.specs.declared.fault.FaultKind.{FaultKind}
 use Rattle.rb_bytes.specs.declared.fault.FaultKind.TheVariants.{NoRoom}
 use Rattle.rv_code.specs.declared.cause.Cause.{Cause}
 use Rattle.rv_code.specs.declared.cause.Cause.TheVariants.{Fetch, Illegal, Load, Store, Break}
+use Rattle.sym_machine.specs.declared.outcome.Reason.{Reason}
+use Rattle.sym_machine.specs.declared.outcome.Reason.TheVariants as reason
 
 abbrev pub usage_line : List ℕ
 usage_line = codes "usage: rewrite IN PROFILE OUT MAP, map IN PROFILE, run [--symbols] [--steps N] FILE [WORDS], lookup FILE ADDR, sample N OUT PROFILE\n"
@@ -46,6 +48,22 @@ cause_name Break = codes "Break"
 -- a trap at an address
 abbrev pub trapped_line : ℕ → Cause → ℕ → List ℕ
 trapped_line pc cause steps = codes "[trapped " ++ cause_name cause ++ codes " at " ++ hexadecimal pc ++ after_steps steps
+
+abbrev pub reason_name : Reason → List ℕ
+reason_name reason.NotCode = codes "NotCode"
+reason_name reason.EndOfFunction = codes "EndOfFunction"
+reason_name reason.FellOff = codes "FellOff"
+reason_name reason.Operate = codes "Operate"
+reason_name reason.Compare = codes "Compare"
+reason_name reason.Mixed = codes "Mixed"
+reason_name reason.Hidden = codes "Hidden"
+reason_name reason.Access = codes "Access"
+reason_name reason.CallArg = codes "CallArg"
+reason_name reason.Break = codes "Break"
+
+-- the symbol machine is stuck at an address
+abbrev pub stuck_line : ℕ → Reason → ℕ → List ℕ
+stuck_line pc why steps = codes "[stuck " ++ reason_name why ++ codes " at " ++ hexadecimal pc ++ after_steps steps
 
 abbrev pub out_of_steps_line : ℕ → List ℕ
 out_of_steps_line steps = codes "[out of steps" ++ after_steps steps

@@ -4,7 +4,7 @@ use Rattle.std.specs.Option.{option_map}
 use Rattle.elf_image.specs.code.Cuts.{holds_code}
 use Rattle.elf_image.specs.declared.elf.Section.{Section}
 use Rattle.rv_memory.specs.Limits.{IsWithinLimits}
-use Rattle.bolt_cli.specs.Words.{Argument, Positional, OptionWord, Expected, AnyArgument, OnlyPositional, arguments, positionals, RewriteNames, RunWords, Command, Rewrite, Run}
+use Rattle.bolt_cli.specs.Words.{Argument, Positional, OptionWord, Expected, AnyArgument, OnlyPositional, arguments, positionals, RewriteNames, RunWords, Command, Rewrite, Run, RunSymbols}
 use Rattle.bolt_cli.specs.declared.words.Argument.{Argument as ArgumentRead}
 use Rattle.bolt_cli.specs.declared.words.Argument.TheVariants as argument
 use Rattle.bolt_cli.specs.declared.words.Arguments.{Arguments}
@@ -39,16 +39,19 @@ run_read w = record { file = w.file.now; words = positionals (arguments_of w.arg
 abbrev pub command_read : CommandRead → Command
 command_read (read.Rewrite w) = Rewrite (names_read w)
 command_read (read.Run w) = Run (run_read w)
+command_read (read.RunSymbols w) = RunSymbols (run_read w)
 
 -- the output and the map of a rewrite have different names
 abbrev pub NamesDiffer : CommandRead → Type 0
 NamesDiffer (read.Rewrite w) = w.out.now ≢ w.map.now
 NamesDiffer (read.Run w) = Unit {0}
+NamesDiffer (read.RunSymbols w) = Unit {0}
 
 -- the words of a run may be given to a program
 abbrev pub WordsFit : CommandRead → Type 0
 WordsFit (read.Rewrite w) = Unit {0}
 WordsFit (read.Run w) = IsWithinLimits (run_read w).words
+WordsFit (read.RunSymbols w) = IsWithinLimits (run_read w).words
 
 -- how many bytes of code a section has that was read
 abbrev pub section_code : Section → ℕ

@@ -13,3 +13,4 @@ exit_number status.WriteFault = 223
 exit_number status.NoMemory = 224
 exit_number (status.Trapped pc cause) = 225
 exit_number status.OutOfSteps = 226
+exit_number (status.Stuck pc reason) = 227

@@ -1,5 +1,5 @@
 -- Which words are which command.
-use Rattle.std.specs.Prelude.{ℕ, ◌^◌, ◌&&◌, ◌==◌, nat_eq, nat_lt, nat_le, not, if◌then◌else◌, Bool, true, List, [], ◌∷◌, length, map, sum_by, option_and_then, Option, Some, None, codes}
+use Rattle.std.specs.Prelude.{ℕ, ◌^◌, ◌&&◌, ◌||◌, ◌==◌, nat_eq, nat_lt, nat_le, not, if◌then◌else◌, Bool, true, false, List, [], ◌∷◌, length, map, sum_by, option_and_then, Option, Some, None, codes}
 use Rattle.std.specs.List.{starts_with, list_all, list_any, before_first, after_first}
 use Rattle.std.specs.Option.{option_map}
 use Rattle.std.specs.Str.{bytes_eq, byte}
@@ -13,6 +13,10 @@ is_option word = nat_lt 1 (length word) && starts_with nat_eq word (codes "-")
 -- the option that says the most steps of a run
 abbrev pub steps_name : List ℕ
 steps_name = codes "--steps"
+
+-- the option that runs a file on the symbol machine, and has no value
+abbrev pub symbols_name : List ℕ
+symbols_name = codes "--symbols"
 
 -- an option whose value is the next word, whatever that is
 abbrev pub takes_value : List ℕ → Bool
@@ -100,10 +104,17 @@ limit_of [] = Some 100000000
 limit_of (Some digits ∷ []) = decimal_number digits
 limit_of _ = None
 
+-- whether `--symbols` is there, once, or not at all
+abbrev pub symbols_of : List (Option (List ℕ)) → Option Bool
+symbols_of [] = Some false
+symbols_of (value ∷ []) = Some true
+symbols_of _ = None
+
 -- a positional word, or an option that `run` has
 abbrev pub is_run_argument : Argument → Bool
 is_run_argument (Positional word) = true
-is_run_argument (OptionWord name value) = bytes_eq name steps_name
+is_run_argument (OptionWord name None) = bytes_eq name steps_name || bytes_eq name symbols_name
+is_run_argument (OptionWord name (Some value)) = bytes_eq name steps_name
 
 abbrev pub holds_zero : List ℕ → Bool
 holds_zero word = list_any (λ character. character == 0) word
@@ -119,16 +130,26 @@ run_words_of [] limit = None
 run_words_of (file ∷ words) limit =
     if are_program_words words then Some (record { file = file; words = words; limit = limit }) else None
 
--- `FILE [WORDS]`, and `--steps` anywhere among them
-abbrev pub run_of : List Argument → Option RunWords
-run_of arguments =
-    if list_all is_run_argument arguments
-    then option_and_then (run_words_of (positionals arguments)) (limit_of (values_of steps_name arguments))
-    else None
-
 pub data Command : Type 0 where
   Rewrite : RewriteNames → Command
+  -- on the byte machine, and on the symbol machine
   Run : RunWords → Command
+  RunSymbols : RunWords → Command
+
+abbrev pub run_command : Bool → RunWords → Command
+run_command false words = Run words
+run_command true words = RunSymbols words
+
+-- `FILE [WORDS]`, and `--steps` and `--symbols` anywhere among them
+abbrev pub run_of : List Argument → Option Command
+run_of arguments =
+    if list_all is_run_argument arguments
+    then option_and_then
+    (λ limit. option_and_then
+    (λ symbols. option_map (run_command symbols) (run_words_of (positionals arguments) limit))
+    (symbols_of (values_of symbols_name arguments)))
+    (limit_of (values_of steps_name arguments))
+    else None
 
 -- The first word names the command.
 abbrev pub command_of : List (List ℕ) → Option Command
@@ -137,5 +158,5 @@ command_of (name ∷ words) =
     if bytes_eq name (codes "rewrite")
     then option_map Rewrite (rewrite_of (arguments AnyArgument words))
     else if bytes_eq name (codes "run")
-    then option_map Run (run_of (arguments AnyArgument words))
+    then run_of (arguments AnyArgument words)
     else None

@@ -1,11 +1,12 @@
 // The lines that commands print.
 ghost use Rattle.std.specs.Prelude.{◌≡◌, ◌*◌, ◌++◌, OnOk, OnErr, IfOk, codes};
-ghost use Rattle.bolt_cli.specs.Lines.{usage_line, refused_line, refused_end, summary_line, after_steps, ended_line, cause_name, trapped_line, out_of_steps_line};
+ghost use Rattle.bolt_cli.specs.Lines.{usage_line, refused_line, refused_end, summary_line, after_steps, ended_line, cause_name, trapped_line, reason_name, stuck_line, out_of_steps_line};
 
 use rb_bytes::fault::{Fault, FaultKind, NoMemory};
 use rb_bytes::text::{put_decimal, put_hex};
 use rv_code::Cause;
 use std::alloc::Global;
+use sym_machine::Reason;
 
 /// The line for words that are no command.
 pub fn usage() -> &'static [u8]
@@ -88,7 +89,7 @@ pub fn ended(alloc: Global, status: u8, steps: u64) -> Result<Vec<u8>, NoMemory>
     Ok(line)
 }
 
-fn name(cause: Cause) -> &'static [u8]
+fn cause_name(cause: Cause) -> &'static [u8]
     ensures { result.now ≡ cause_name cause }
 {
     match cause {
@@ -105,7 +106,36 @@ pub fn trapped(alloc: Global, pc: u64, cause: Cause, steps: u64) -> Result<Vec<u
     ensures { IfOk result (λ line. line.items ≡ trapped_line pc cause steps) }
 {
     let mut line = Vec::from_slice(alloc, b"[trapped ")?;
-    line.extend_from_slice(name(cause))?;
+    line.extend_from_slice(cause_name(cause))?;
+    line.extend_from_slice(b" at ")?;
+    put_hex(&mut line, pc)?;
+    put_after_steps(&mut line, steps)?;
+    Ok(line)
+}
+
+fn reason_name(reason: Reason) -> &'static [u8]
+    ensures { result.now ≡ reason_name reason }
+{
+    match reason {
+        Reason::NotCode => b"NotCode",
+        Reason::EndOfFunction => b"EndOfFunction",
+        Reason::FellOff => b"FellOff",
+        Reason::Operate => b"Operate",
+        Reason::Compare => b"Compare",
+        Reason::Mixed => b"Mixed",
+        Reason::Hidden => b"Hidden",
+        Reason::Access => b"Access",
+        Reason::CallArg => b"CallArg",
+        Reason::Break => b"Break",
+    }
+}
+
+/// The line for a run in which the symbol machine got stuck at an address.
+pub fn stuck(alloc: Global, pc: u64, reason: Reason, steps: u64) -> Result<Vec<u8>, NoMemory>
+    ensures { IfOk result (λ line. line.items ≡ stuck_line pc reason steps) }
+{
+    let mut line = Vec::from_slice(alloc, b"[stuck ")?;
+    line.extend_from_slice(reason_name(reason))?;
     line.extend_from_slice(b" at ")?;
     put_hex(&mut line, pc)?;
     put_after_steps(&mut line, steps)?;

@@ -1,9 +1,11 @@
 //! The program: it reads its words, does the command, and ends with the number of the answer.
 #![tactic(auto)]
 
+mod closing;
 mod code_limit;
 mod first_form;
 mod first_write;
+mod frames;
 mod lines;
 mod permissions;
 mod printing;
@@ -11,6 +13,8 @@ mod refusal;
 mod rewrite;
 mod run;
 mod status;
+mod symbol_code;
+mod symbol_run;
 #[cfg(test)]
 mod tests;
 mod tool;

@@ -1,43 +1,36 @@
 // The command `run`: the file is read whole, and then runs on the byte machine.
-ghost use Rattle.std.specs.Prelude.{◌≤◌, Some};
+ghost use Rattle.std.specs.Prelude.{◌≡◌, ◌≤◌, Some};
 ghost use Rattle.elf_image.specs.faults.FileFaults.{IsSound};
 ghost use Rattle.elf_image.specs.file.ParsedFile.{IsElfOf};
 ghost use Rattle.rv_memory.specs.Limits.{IsWithinLimits};
 ghost use Rattle.bolt_cli.specs.CommandAnswers.{KeepsInput, Serves};
 ghost use Rattle.bolt_cli.specs.ParsedWords.{run_read};
-ghost use Rattle.bolt_cli.specs.run.RunAnswers.{IsExact};
-ghost use Rattle.bolt_cli.specs.run.Phases.{AnswersRun, Closed};
+ghost use Rattle.rv_machine.specs.Stepped.{answered};
+ghost use Rattle.bolt_cli.specs.run.ByteRuns.{byte_machine};
+ghost use Rattle.bolt_cli.specs.run.RunAnswers.{AnswersRun, IsExact};
+ghost use Rattle.bolt_cli.specs.run.Phases.{status_of};
 ghost use Rattle.bolt_cli.specs.Words.{Run};
 ghost use Rattle.bolt_cli.specs.World.{world};
 
+use crate::closing::close;
 use crate::code_limit::has_too_much_code;
-use crate::lines;
-use crate::printing::print_line;
 use crate::refusal::{FILE_LIMIT, refuse};
 use crate::status::Status;
 use crate::words::{RunWords, program_words};
 use elf_image::{Elf, read};
 use rb_bytes::fault::{Fault, FaultKind, Refusal};
 use rb_io::{Files, ReadAll, Sink, Source};
-use rv_machine::{Machine, Ran, Stepped};
+use rv_machine::{Machine, Stepped};
 use std::alloc::Global;
 
-// Says how a run came out, where it did.
-fn close<O: Sink>(alloc: Global, ran: Ran, out: &mut O) -> Status
-    ensures closed { Closed result ran.steps (O.seen out.old) (O.seen out.new) ran.end }
-    ensures never_falls { (O.seen out.old).faults ≤ (O.seen out.new).faults }
+// The answer to what the byte machine came to.
+fn status_of(end: Stepped) -> Status
+    ensures { result ≡ status_of Status.Trapped (answered end) }
 {
-    let steps = ran.steps;
-    match ran.end {
-        Stepped::Going => print_line(lines::out_of_steps(alloc, steps), Status::OutOfSteps, out),
-        Stepped::Ended(value) => {
-            let line = lines::ended(alloc, value, steps);
-            print_line(line, Status::Ended(value), out)
-        }
-        Stepped::Trap(pc, cause) => {
-            let line = lines::trapped(alloc, pc, cause, steps);
-            print_line(line, Status::Trapped(pc, cause), out)
-        }
+    match end {
+        Stepped::Going => Status::OutOfSteps,
+        Stepped::Ended(value) => Status::Ended(value),
+        Stepped::Trap(pc, cause) => Status::Trapped(pc, cause),
         Stepped::ReadFault => Status::ReadFault,
         Stepped::WriteFault => Status::WriteFault,
         Stepped::Memory => Status::NoMemory,
@@ -55,10 +48,11 @@ fn run_elf<I: Source, O: Sink>(
     requires limits { IsWithinLimits (run_read words.now).words }
     requires fields { IsElfOf elf.now.file.now elf.now }
     requires sound { IsSound elf.now.file.now }
-    ensures answer { AnswersRun result (run_read words.now)
+    ensures answer { AnswersRun (byte_machine elf.now.file.now (run_read words.now).words) words.now.limit
         (record { input = I.seen input.old; output = O.seen out.old })
-        (record { input = I.seen input.new; output = O.seen out.new }) elf.now.file.now }
-    ensures exact { IsExact result (run_read words.now) (I.seen input.old).left elf.now.file.now }
+        (record { input = I.seen input.new; output = O.seen out.new }) result }
+    ensures exact { IsExact (byte_machine elf.now.file.now (run_read words.now).words) words.now.limit
+        (I.seen input.old).left result }
     ensures reads { (I.seen input.old).faults ≤ (I.seen input.new).faults }
     ensures writes { (O.seen out.old).faults ≤ (O.seen out.new).faults }
 {
@@ -69,7 +63,7 @@ fn run_elf<I: Source, O: Sink>(
         return Status::NoMemory;
     };
     let ran = machine.run(words.limit, input, out);
-    close(alloc, ran, out)
+    close(alloc, status_of(ran.end), ran.steps, out)
 }
 
 /// Does `run`.

@@ -4,6 +4,7 @@ ghost use Rattle.bolt_cli.specs.Status.{exit_number};
 
 use rb_bytes::fault::Fault;
 use rv_code::Cause;
+use sym_machine::Reason;
 
 /// How a command ended. The program ends with its number.
 #[derive(Clone, Copy, PartialEq, Eq, Debug)]
@@ -26,6 +27,8 @@ pub enum Status {
     Trapped(u64, Cause),
     /// The program that was run goes on after as many steps as it was given.
     OutOfSteps,
+    /// The symbol machine got stuck in the program that was run, at this pc.
+    Stuck(u64, Reason),
 }
 
 impl Status {
@@ -43,6 +46,7 @@ impl Status {
             Status::NoMemory => 224,
             Status::Trapped(_, _) => 225,
             Status::OutOfSteps => 226,
+            Status::Stuck(_, _) => 227,
         }
     }
 }

@@ -4,6 +4,8 @@
 mod example;
 mod refused;
 mod run;
+mod symbols;
+mod symbols_refused;
 
 use self::example::exit7_moved;
 use crate::status::Status;

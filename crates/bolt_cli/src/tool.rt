@@ -10,6 +10,7 @@ use crate::lines;
 use crate::rewrite::rewrite;
 use crate::run::run;
 use crate::status::Status;
+use crate::symbol_run::run_symbols;
 use crate::words::{Command, parse};
 use rb_io::{Files, Put, Sink, Source, print_all};
 use std::alloc::Global;
@@ -43,6 +44,7 @@ fn perform<F: Files, I: Source, O: Sink>(
     match command {
         Command::Rewrite(words) => rewrite(alloc, words, files, out),
         Command::Run(words) => run(alloc, words, files, input, out),
+        Command::RunSymbols(words) => run_symbols(alloc, words, files, input, out),
     }
 }
 

@@ -4,7 +4,7 @@ ghost use Rattle.std.specs.Option.{option_map};
 ghost use Rattle.std.specs.List.{list_all};
 ghost use Rattle.std.specs.Char.{is_ascii_digit};
 ghost use Rattle.rv_memory.specs.Limits.{IsWithinLimits};
-ghost use Rattle.bolt_cli.specs.Words.{Positional, steps_name, is_option, option_of, decimal_number, limit_of, values_of, is_run_argument, positionals, holds_zero, are_program_words, rewrite_of, run_of, command_of};
+ghost use Rattle.bolt_cli.specs.Words.{Positional, steps_name, symbols_name, is_option, option_of, decimal_number, limit_of, symbols_of, values_of, is_run_argument, positionals, holds_zero, are_program_words, rewrite_of, run_of, command_of};
 ghost use Rattle.bolt_cli.specs.ParsedWords.{IsNoPositional, argument_read, arguments_of, command_read, run_read, names_read, NamesDiffer, WordsFit};
 
 use rb_bytes::fault::NoMemory;
@@ -12,6 +12,9 @@ use std::alloc::Global;
 
 // The option that limits a run's steps.
 const STEPS: &str = "--steps";
+
+// The option that runs a file on the symbol machine.
+const SYMBOLS: &str = "--symbols";
 
 // The most steps of a run where no option says it.
 const DEFAULT_LIMIT: u64 = 100_000_000;
@@ -44,6 +47,7 @@ pub struct RunWords<'a> {
 pub enum Command<'a> {
     Rewrite(RewriteWords<'a>),
     Run(RunWords<'a>),
+    RunSymbols(RunWords<'a>),
 }
 
 /// An argument of a command.
@@ -188,7 +192,11 @@ fn has_run_arguments(arguments: Arguments<'_>) -> bool
     for argument in arguments {
         let known = match argument {
             Argument::Positional(_) => true,
-            Argument::OptionWord { name, .. } => name == STEPS,
+            Argument::OptionWord {
+                name,
+                value: Some(_),
+            } => name == STEPS,
+            Argument::OptionWord { name, value: None } => name == STEPS || name == SYMBOLS,
         };
         if !known {
             return false;
@@ -219,6 +227,27 @@ fn limit(arguments: Arguments<'_>) -> Option<u64>
         limit = Some(number(value?)?);
     }
     Some(limit.unwrap_or(DEFAULT_LIMIT))
+}
+
+// Whether a file is run on the symbol machine.
+#[tactic(auto, using(crate::proofs::RunArguments::symbols_of_more))]
+fn symbols(arguments: Arguments<'_>) -> Option<bool>
+    ensures { result ≡ symbols_of (values_of symbols_name (arguments_of arguments.entry)) }
+{
+    let mut symbols = false;
+    for argument in arguments {
+        let Argument::OptionWord { name, .. } = argument else {
+            continue;
+        };
+        if name != SYMBOLS {
+            continue;
+        }
+        if symbols {
+            return None;
+        }
+        symbols = true;
+    }
+    Some(symbols)
 }
 
 // Takes the first positional word.
@@ -260,23 +289,30 @@ fn are_program_words(arguments: Arguments<'_>) -> bool
 
 // The words after `run`.
 #[tactic(auto, using(crate::proofs::RunArguments::within_limits))]
-fn run_words(mut arguments: Arguments<'_>) -> Option<RunWords<'_>>
-    ensures command { option_map run_read result ≡ run_of (arguments_of arguments.entry) }
-    ensures limits { IfSome result (λ w. IsWithinLimits (run_read w).words) }
+fn run_words(mut arguments: Arguments<'_>) -> Option<Command<'_>>
+    ensures command { option_map command_read result ≡ run_of (arguments_of arguments.entry) }
+    ensures apart { IfSome result NamesDiffer }
+    ensures limits { IfSome result WordsFit }
 {
     if !has_run_arguments(arguments) {
         return None;
     }
     let limit = limit(arguments)?;
+    let symbols = symbols(arguments)?;
     let file = first_positional(&mut arguments)?;
     if !are_program_words(arguments) {
         return None;
     }
-    Some(RunWords {
+    let words = RunWords {
         file,
         limit,
         arguments,
-    })
+    };
+    if symbols {
+        Some(Command::RunSymbols(words))
+    } else {
+        Some(Command::Run(words))
+    }
 }
 
 /// The command that the words are, if they are one. Takes no memory.
@@ -296,7 +332,7 @@ pub fn parse(words: &[String]) -> Option<Command<'_>>
         return rewrite_words(arguments).map(Command::Rewrite);
     }
     if name.as_str() == "run" {
-        return run_words(arguments).map(Command::Run);
+        return run_words(arguments);
     }
     None
 }

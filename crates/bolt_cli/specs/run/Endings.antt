@@ -1,54 +1,45 @@
--- Runs of a file of at most so many steps, and which files are run.
-use Rattle.std.specs.Prelude.{◌≡◌, ℕ, ◌<◌, ◌≤◌, List, length}
-use Rattle.rb_bytes.specs.Fault.{fault_at}
-use Rattle.rb_bytes.specs.declared.fault.Fault.{Fault}
-use Rattle.rb_bytes.specs.declared.fault.FaultKind.TheVariants.{TooLarge}
-use Rattle.rv_code.specs.declared.cause.Cause.{Cause}
-use Rattle.rv_code.specs.machine.Machine.{Event}
-use Rattle.elf_image.specs.faults.FileFaults.{IsFirstFault, IsSound}
-use Rattle.elf_image.specs.memory.Start.{Runs, TrapsAfter, RunsSoFar}
-use Rattle.bolt_cli.specs.CodeLimit.{HasTooMuchCode}
-use Rattle.bolt_cli.specs.Lines.{ended_line, trapped_line, out_of_steps_line}
-use Rattle.bolt_cli.specs.rewrite.Refusals.{file_limit}
+-- How a run of at most so many steps comes out, on any machine.
+use Rattle.std.specs.Prelude.{◌≡◌, ℕ, ◌<◌, ◌≤◌, List, []}
+use Rattle.rv_code.specs.machine.Machine.{State, Event, Outcome, SoFar, Run, HaltsAfter}
+use Rattle.bolt_cli.specs.Lines.{ended_line, trapped_line, stuck_line, out_of_steps_line}
 use Rattle.bolt_cli.specs.declared.status.Status.{Status}
 use Rattle.bolt_cli.specs.declared.status.Status.TheVariants as status
 
--- How a run comes out: it ends with a status, it traps at a pc for a cause, or its steps are up.
-pub data Ending : Type 0 where
-  Ends : ℕ → Ending
-  Traps : ℕ → Cause → Ending
-  RunsOn : Ending
+-- It ends with a status, the machine halts at a pc for a cause, or its steps are up.
+pub data Ending (C : Type 0) : Type 0 where
+  Ends : ℕ → Ending C
+  Stops : ℕ → C → Ending C
+  RunsOn : Ending C
 
--- the answer that says so
-abbrev pub answer_of : Ending → Status
-answer_of (Ends value) = status.Ended value
-answer_of (Traps pc cause) = status.Trapped pc cause
-answer_of RunsOn = status.OutOfSteps
+-- A machine with a program in it: what steps from its states come to, its state before the first step, with an input,
+-- and the answer that says that it halts.
+pub record Loaded (V X C : Type 0) : Type 1 where
+  pub step : State V X → Outcome (State V X) C → Type 0
+  pub start : List ℕ → State V X
+  pub halted : ℕ → C → Status
 
--- the line that says so, after so many steps
-abbrev pub closing_line : Ending → ℕ → List ℕ
-closing_line (Ends value) steps = ended_line value steps
-closing_line (Traps pc cause) steps = trapped_line pc cause steps
-closing_line RunsOn steps = out_of_steps_line steps
+-- the line that says how a run came out, after so many steps; other answers have none
+abbrev pub closing_line : Status → ℕ → List ℕ
+closing_line (status.Ended value) steps = ended_line value steps
+closing_line (status.Trapped pc cause) steps = trapped_line pc cause steps
+closing_line (status.Stuck pc reason) steps = stuck_line pc reason steps
+closing_line status.OutOfSteps steps = out_of_steps_line steps
+closing_line _ steps = []
 
--- A run of a file with these words and this input comes out so after n steps, made these calls, and leaves this
--- of its input. The step that ends is counted and the one that traps isn't, but both are among the first `limit`.
-module _ (file : List ℕ) (words : List (List ℕ)) (input : List ℕ) (limit : ℕ) where
-  abbrev pub RunsTo : Ending → ℕ → List Event → List ℕ → Type 0
-  RunsTo (Ends value) n trace rest = (n ≤ limit) × ((run : Runs file words input n trace value) × (run.state.input ≡ rest))
-  RunsTo (Traps pc cause) n trace rest =
-      (n < limit) × ((run : TrapsAfter file words input n trace pc cause) × (run.state.input ≡ rest))
-  RunsTo RunsOn n trace rest = (n ≡ limit) × ((run : RunsSoFar file words input n trace) × (run.state.input ≡ rest))
+module _ {V X C : Type 0} (machine : Loaded V X C) where
+  -- the answer that says so
+  abbrev pub answer_of : Ending C → Status
+  answer_of (Ends value) = status.Ended value
+  answer_of (Stops pc cause) = machine.halted pc cause
+  answer_of RunsOn = status.OutOfSteps
 
--- a file that is run
-pub record IsRunnable (file : List ℕ) : Type 0 where
-  pub fits : length file ≤ file_limit
-  pub sound : IsSound file
-  pub code_fits : HasTooMuchCode file → ⊥
-
--- Why a file isn't run: its length comes first, then what is wrong in it, and then the size of its code.
-pub data CannotRun (file : List ℕ) (fault : Fault) : Type 0 where
-  too_long : file_limit < length file → fault ≡ fault_at TooLarge 0 → CannotRun file fault
-  unsound : length file ≤ file_limit → IsFirstFault file fault → CannotRun file fault
-  much_code : length file ≤ file_limit → IsSound file → HasTooMuchCode file → fault ≡ fault_at TooLarge 2
-      → CannotRun file fault
+  -- The run with this input comes out so after n steps, made these calls, and leaves this of its input. The step that ends
+  -- is counted and the one that halts isn't, but both are among the first `limit`.
+  abbrev pub RunsTo : List ℕ → ℕ → Ending C → ℕ → List Event → List ℕ → Type 0
+  RunsTo input limit (Ends value) n trace rest =
+      (n ≤ limit) × ((run : Run machine.step (machine.start input) n trace value) × (run.state.input ≡ rest))
+  RunsTo input limit (Stops pc cause) n trace rest =
+      (n < limit) × ((run : HaltsAfter machine.step (machine.start input) n trace pc cause) × (run.state.input ≡ rest))
+  RunsTo input limit RunsOn n trace rest =
+      (n ≡ limit)
+      × ((state : State V X) × (SoFar machine.step (machine.start input) n trace state × (state.input ≡ rest)))

@@ -1,41 +1,31 @@
 -- What the steps of the command `run` come to, once its file is read.
-use Rattle.std.specs.Prelude.{◌≡◌, ◌⊎◌, ℕ, List}
-use Rattle.rb_io.specs.FaultCounts.{Rose}
-use Rattle.rb_io.specs.TakenText.{TakesAll, TakesPrefix}
+use Rattle.std.specs.Prelude.{◌≡◌, ℕ}
 use Rattle.rb_io.specs.Views.{SinkSeen}
-use Rattle.rv_machine.specs.StepAnswers.{Outside}
-use Rattle.rv_machine.specs.declared.stepped.Stepped.{Stepped}
-use Rattle.rv_machine.specs.declared.stepped.Stepped.TheVariants as stepped
+use Rattle.run_core.specs.Answers.{Answer}
+use Rattle.run_core.specs.Answers as answer
 use Rattle.bolt_cli.specs.rewrite.Phases.{LinePrinted}
-use Rattle.bolt_cli.specs.run.RunAnswers.{ComesOut, StopsAtRead, StopsAtWrite, StopsAnywhere}
-use Rattle.bolt_cli.specs.run.Endings.{Ending, Ends, Traps, RunsOn, answer_of, closing_line}
-use Rattle.bolt_cli.specs.Words.{RunWords}
+use Rattle.bolt_cli.specs.run.Endings.{closing_line}
 use Rattle.bolt_cli.specs.declared.status.Status.{Status}
 use Rattle.bolt_cli.specs.declared.status.Status.TheVariants as status
 
--- After a run that came out the closing line was printed, or a prefix of it, or none of it.
-module _ (answer : Status) (steps : ℕ) (before after : SinkSeen) where
-  abbrev pub SaysEnding : Ending → Type 0
-  SaysEnding ending = LinePrinted answer (answer_of ending) (closing_line ending steps) before after
+-- the answer to what a run on a machine came to, and `halted` says that the machine halts
+abbrev pub status_of : {C : Type 0} → (ℕ → C → Status) → Answer C → Status
+status_of halted answer.Going = status.OutOfSteps
+status_of halted (answer.Ended value) = status.Ended value
+status_of halted (answer.Halted pc cause) = halted pc cause
+status_of halted answer.ReadFault = status.ReadFault
+status_of halted answer.WriteFault = status.WriteFault
+status_of halted answer.Memory = status.NoMemory
 
-  -- nothing is printed after a fault, or for want of memory
-  abbrev pub Closed : Stepped → Type 0
-  Closed stepped.Going = SaysEnding RunsOn
-  Closed (stepped.Ended value) = SaysEnding (Ends value)
-  Closed (stepped.Trap pc cause) = SaysEnding (Traps pc cause)
-  Closed stepped.ReadFault = (answer ≡ status.ReadFault) × (after.taken ≡ before.taken)
-  Closed stepped.WriteFault = (answer ≡ status.WriteFault) × (after.taken ≡ before.taken)
-  Closed stepped.Memory = (answer ≡ status.NoMemory) × (after.taken ≡ before.taken)
+-- After a run that came out the closing line was printed, or a prefix of it, or none of it. Nothing is printed after a
+-- fault, or for want of memory.
+module _ (result : Status) (steps : ℕ) (before after : SinkSeen) where
+  abbrev pub SaysEnding : Status → Type 0
+  SaysEnding came = LinePrinted result came (closing_line came steps) before after
 
--- the answers of a run that got under way, of the file's bytes
-abbrev pub AnswersRun : Status → RunWords → Outside → Outside → List ℕ → Type 0
-AnswersRun (status.Ended value) words before after file = ComesOut TakesAll (Ends value) words before after file
-AnswersRun (status.Trapped pc cause) words before after file = ComesOut TakesAll (Traps pc cause) words before after file
-AnswersRun status.OutOfSteps words before after file = ComesOut TakesAll RunsOn words before after file
-AnswersRun status.ReadFault words before after file =
-    Rose before.input.faults after.input.faults × StopsAtRead words before after file
-AnswersRun status.WriteFault words before after file =
-    Rose before.output.faults after.output.faults
-    × (StopsAtWrite words before after file ⊎ ((ending : Ending) × ComesOut TakesPrefix ending words before after file))
-AnswersRun status.NoMemory words before after file = StopsAnywhere words before after file
-AnswersRun _ words before after file = ⊥
+  abbrev pub Closed : Status → Type 0
+  Closed (status.Ended value) = SaysEnding (status.Ended value)
+  Closed (status.Trapped pc cause) = SaysEnding (status.Trapped pc cause)
+  Closed (status.Stuck pc reason) = SaysEnding (status.Stuck pc reason)
+  Closed status.OutOfSteps = SaysEnding status.OutOfSteps
+  Closed came = (result ≡ came) × (after.taken ≡ before.taken)

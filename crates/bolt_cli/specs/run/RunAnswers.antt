@@ -1,18 +1,18 @@
--- What holds at the end of a run, by its answer. Of a run that got under way, the bytes are those that were read
--- of the file. What its steps did is said where standard input tells its bytes.
+-- What holds at the end of a run, by its answer. What is said of its steps is said of some input, which is the one that
+-- standard input tells, where it tells its bytes.
 use Rattle.std.specs.Prelude.{◌≡◌, ◌⊎◌, ℕ, ◌<◌, ◌≤◌, List, Option, Some, IsTrue, IsSomeAnd}
 use Rattle.std.specs.Io.KnownBytes.{append_known}
 use Rattle.rb_io.specs.FaultCounts.{Rose}
 use Rattle.rb_io.specs.Names.{Unchanged}
 use Rattle.rb_io.specs.TakenText.{TakesAll, TakesPrefix}
 use Rattle.rb_bytes.specs.declared.fault.Fault.{Fault}
-use Rattle.rv_code.specs.machine.Machine.{Event, output, SoFar}
-use Rattle.rv_code.specs.machine.Step.{ByteState, Steps}
-use Rattle.elf_image.specs.memory.Start.{start}
-use Rattle.rv_machine.specs.StepAnswers.{Outside, AsksInput, GivesOutput}
+use Rattle.rv_code.specs.machine.Machine.{State, Event, output, SoFar}
+use Rattle.run_core.specs.Inputs.{Outside, as_told}
+use Rattle.run_core.specs.StepAnswers.{AsksInput, GivesOutput}
 use Rattle.bolt_cli.specs.Lines.{refused_line}
 use Rattle.bolt_cli.specs.Printing.{PrintsOnly, IsSilent, FailsAtLine}
-use Rattle.bolt_cli.specs.run.Endings.{Ending, Ends, Traps, RunsOn, answer_of, closing_line, RunsTo, IsRunnable, CannotRun}
+use Rattle.bolt_cli.specs.run.Endings.{Ending, Loaded, answer_of, closing_line, RunsTo}
+use Rattle.bolt_cli.specs.run.Modes.{Mode}
 use Rattle.bolt_cli.specs.Words.{RunWords}
 use Rattle.bolt_cli.specs.World.{World, ReadRose}
 use Rattle.bolt_cli.specs.declared.status.Status.{Status}
@@ -22,129 +22,119 @@ use Rattle.bolt_cli.specs.declared.status.Status.TheVariants as status
 abbrev pub Taking : Type 1
 Taking = Option (List ℕ) → Option (List ℕ) → List ℕ → Type 0
 
--- The whole run comes out so, after these steps. Its output was taken, and then of the closing line as much as
--- `Takes` says; and what is left of the input is what the run leaves.
-pub record HasRun (Takes : Taking) (ending : Ending) (words : RunWords) (before after : Outside) (file input : List ℕ)
-    (steps : ℕ) : Type 0 where
-  pub trace : List Event
-  pub rest : List ℕ
-  pub runs : RunsTo file words.words input words.limit ending steps trace rest
-  pub line : Takes (append_known before.output.taken (output trace)) after.output.taken (closing_line ending steps)
-  pub left_is : after.input.left ≡ Some rest
+-- A machine with a program in it does at most `limit` steps.
+module _ {V X C : Type 0} (machine : Loaded V X C) (limit : ℕ) (before after : Outside) where
+  -- The whole run comes out so. Its output was taken, and then of the closing line as much as `Takes` says; and what is left
+  -- of the input is what the run leaves.
+  pub record ComesOut (Takes : Taking) (ending : Ending C) : Type 0 where
+    pub input : List ℕ
+    pub input_is : before.input.left ≡ as_told before.input.left input
+    pub steps : ℕ
+    pub trace : List Event
+    pub rest : List ℕ
+    pub runs : RunsTo machine input limit ending steps trace rest
+    pub line : Takes (append_known before.output.taken (output trace)) after.output.taken
+        (closing_line (answer_of machine ending) steps)
+    pub left_is : after.input.left ≡ as_told before.input.left rest
 
--- Such a run: where the input isn't told, it had some output, and some count of steps within the limit.
-pub record ComesOut (Takes : Taking) (ending : Ending) (words : RunWords) (before after : Outside) (file : List ℕ)
-    : Type 0 where
-  pub steps : ℕ
-  pub few : steps ≤ words.limit
-  pub line : (printed : List ℕ)
-      × Takes (append_known before.output.taken printed) after.output.taken (closing_line ending steps)
-  pub run : (input : List ℕ) → before.input.left ≡ Some input → HasRun Takes ending words before after file input steps
+  -- The first steps of a run, and P holds of their count, of their output and of the state that they come to.
+  pub record FirstSteps (P : ℕ → List ℕ → State V X → Type 0) : Type 0 where
+    pub input : List ℕ
+    pub input_is : before.input.left ≡ as_told before.input.left input
+    pub steps : ℕ
+    pub trace : List Event
+    pub state : State V X
+    pub so_far : SoFar machine.step (machine.start input) steps trace state
+    pub fits : P steps (output trace) state
 
--- the first steps of a run, and P holds of their count, of their output and of the state that they come to
-pub record FirstSteps (P : ℕ → List ℕ → ByteState → Type 0) (words : RunWords) (file input : List ℕ) : Type 0 where
-  pub steps : ℕ
-  pub trace : List Event
-  pub state : ByteState
-  pub so_far : SoFar Steps (start file words.words input) steps trace state
-  pub fits : P steps (output trace) state
+  -- The next step asks for input. The output before that was taken.
+  abbrev pub StopsAtRead : Type 0
+  StopsAtRead = FirstSteps
+      (λ steps printed state. (steps < limit) × TakesAll before.output.taken after.output.taken printed
+      × AsksInput machine.step state)
 
--- The run stopped there, and what was taken is only more than before.
-pub record RunStops (P : ℕ → List ℕ → ByteState → Type 0) (words : RunWords) (before after : Outside) (file : List ℕ)
-    : Type 0 where
-  pub grown : (printed : List ℕ) × TakesAll before.output.taken after.output.taken printed
-  pub run : (input : List ℕ) → before.input.left ≡ Some input → FirstSteps P words file input
+  -- The next step writes. The output before that was taken, and a proper prefix of what that step writes.
+  abbrev pub StopsAtWrite : Type 0
+  StopsAtWrite = FirstSteps
+      (λ steps printed state. (steps < limit)
+      × GivesOutput machine.step (append_known before.output.taken printed) after.output.taken state)
 
--- One of its steps asks for input. The output before that was taken.
-abbrev pub StopsAtRead : RunWords → Outside → Outside → List ℕ → Type 0
-StopsAtRead words before after = RunStops
-    (λ steps printed state. (steps < words.limit) × TakesAll before.output.taken after.output.taken printed
-    × AsksInput Steps state)
-    words before after
+  -- The output of the first steps was taken, which may be all of them.
+  abbrev pub StopsAnywhere : Type 0
+  StopsAnywhere = FirstSteps
+      (λ steps printed state. (steps ≤ limit) × TakesAll before.output.taken after.output.taken printed
+      × (after.input.left ≡ as_told before.input.left state.input))
 
--- One of its steps writes. The output before that was taken, and a proper prefix of what that step writes.
-abbrev pub StopsAtWrite : RunWords → Outside → Outside → List ℕ → Type 0
-StopsAtWrite words before after = RunStops
-    (λ steps printed state. (steps < words.limit)
-    × GivesOutput Steps (append_known before.output.taken printed) after.output.taken state)
-    words before after
-
--- The output of its first steps was taken, which may be all of them.
-abbrev pub StopsAnywhere : RunWords → Outside → Outside → List ℕ → Type 0
-StopsAnywhere words before after = RunStops
-    (λ steps printed state. (steps ≤ words.limit) × TakesAll before.output.taken after.output.taken printed
-    × (after.input.left ≡ Some state.input))
-    words before after
+  -- how a run is answered that got under way
+  pub data AnswersRun (answer : Status) : Type 0 where
+    came_out : (ending : Ending C) → answer ≡ answer_of machine ending → ComesOut TakesAll ending → AnswersRun answer
+    at_input : answer ≡ status.ReadFault → Rose before.input.faults after.input.faults → StopsAtRead → AnswersRun answer
+    at_output : answer ≡ status.WriteFault → Rose before.output.faults after.output.faults → StopsAtWrite
+        → AnswersRun answer
+    at_closing : answer ≡ status.WriteFault → Rose before.output.faults after.output.faults → (ending : Ending C)
+        → ComesOut TakesPrefix ending → AnswersRun answer
+    out_of_memory : answer ≡ status.NoMemory → StopsAnywhere → AnswersRun answer
 
 abbrev pub outside : World → Outside
 outside w = record { input = w.input; output = w.output }
 
--- the fault is present, where files are told
-abbrev pub IsPresent : RunWords → World → Fault → Type 0
-IsPresent words w fault = IsTrue w.files.told → IsSomeAnd (w.files.content words.file) (λ file. CannotRun file fault)
+module _ {P V X C : Type 0} (mode : Mode P V X C) (words : RunWords) where
+  -- the fault is present, where files are told
+  abbrev pub IsPresent : World → Fault → Type 0
+  IsPresent w fault = IsTrue w.files.told → IsSomeAnd (w.files.content words.file) (λ file. mode.CannotRun file fault)
 
-module _ (words : RunWords) (old new : World) where
-  -- The file was read and can be run, no file was written, and P holds of standard input and output and these bytes.
-  pub record IsUnderWay (P : Outside → Outside → List ℕ → Type 0) : Type 0 where
+  -- The file was read, it can be run, no file was written, and the machine with its program answered so.
+  pub record IsUnderWay (old new : World) (answer : Status) : Type 0 where
     pub file : List ℕ
     pub file_is : IsTrue old.files.told → old.files.content words.file ≡ Some file
-    pub runnable : IsRunnable file
     pub unwritten : Unchanged old.files.content new.files.content
-    pub run : P (outside old) (outside new) file
+    pub program : P
+    pub program_is : mode.IsProgram file program
+    pub run : AnswersRun (mode.machine program words.words) words.limit (outside old) (outside new) answer
 
-  -- the run came out so, and the closing line was printed
-  abbrev pub Finishes : Ending → Type 0
-  Finishes ending = IsUnderWay (ComesOut TakesAll ending words)
+  -- Where nothing is run, standard input stays as it was.
+  pub data RunAnswers (old new : World) (answer : Status) : Type 0 where
+    under_way : IsUnderWay old new answer → RunAnswers old new answer
+    refused : (fault : Fault) → answer ≡ status.Refused fault → IsPresent old fault → PrintsOnly (refused_line fault) old new
+        → new.input ≡ old.input → RunAnswers old new answer
+    at_refusal : (fault : Fault) → answer ≡ status.WriteFault → IsPresent old fault → FailsAtLine (refused_line fault) old new
+        → new.input ≡ old.input → RunAnswers old new answer
+    at_file : answer ≡ status.ReadFault → ReadRose old new words.file → IsSilent old new → new.input ≡ old.input
+        → RunAnswers old new answer
+    before_run : answer ≡ status.NoMemory → IsSilent old new → new.input ≡ old.input → RunAnswers old new answer
 
-  -- where nothing is run, standard input stays as it was
-  pub record Refuses (fault : Fault) : Type 0 where
-    pub present : IsPresent words old fault
-    pub prints : PrintsOnly (refused_line fault) old new
-    pub unread : new.input ≡ old.input
+-- a fault of a file or a stream, or want of memory, cut the command short
+pub data IsCutShort (answer : Status) : Type 0 where
+  read_fault : answer ≡ status.ReadFault → IsCutShort answer
+  write_fault : answer ≡ status.WriteFault → IsCutShort answer
+  no_memory : answer ≡ status.NoMemory → IsCutShort answer
 
-  pub data FailsToRead : Type 0 where
-    at_file : ReadRose old new words.file → IsSilent old new → new.input ≡ old.input → FailsToRead
-    at_input : Rose old.input.faults new.input.faults → IsUnderWay (StopsAtRead words) → FailsToRead
+-- the answer says how a run came out, or that memory was wanting
+abbrev pub IsRunAnswer : Status → Type 0
+IsRunAnswer (status.Ended value) = Unit {0}
+IsRunAnswer (status.Trapped pc cause) = Unit {0}
+IsRunAnswer (status.Stuck pc reason) = Unit {0}
+IsRunAnswer status.OutOfSteps = Unit {0}
+IsRunAnswer status.NoMemory = Unit {0}
+IsRunAnswer _ = ⊥
 
-  pub data FailsToWrite : Type 0 where
-    at_refusal : (fault : Fault) → IsPresent words old fault → FailsAtLine (refused_line fault) old new
-        → new.input ≡ old.input → FailsToWrite
-    at_output : Rose old.output.faults new.output.faults → IsUnderWay (StopsAtWrite words) → FailsToWrite
-    at_closing : Rose old.output.faults new.output.faults → (ending : Ending)
-        → IsUnderWay (ComesOut TakesPrefix ending words) → FailsToWrite
+-- where the input is told, the answer says how the run comes out, unless it was cut short
+abbrev pub IsExact : {V X C : Type 0} → Loaded V X C → ℕ → Option (List ℕ) → Status → Type 0
+IsExact {C = C} machine limit left answer = (input : List ℕ) → left ≡ Some input →
+    (ending : Ending C) (steps : ℕ) (trace : List Event) (rest : List ℕ) → RunsTo machine input limit ending steps trace rest →
+    (answer ≡ answer_of machine ending) ⊎ IsCutShort answer
 
-  pub data RunsOutOfMemory : Type 0 where
-    before_run : IsSilent old new → new.input ≡ old.input → RunsOutOfMemory
-    in_run : IsUnderWay (StopsAnywhere words) → RunsOutOfMemory
+-- No count of faults rose: of the file, of standard input and of standard output.
+pub record NoneRose (words : RunWords) (old new : World) : Type 0 where
+  pub file : ReadRose old new words.file → ⊥
+  pub input : Rose old.input.faults new.input.faults → ⊥
+  pub out : Rose old.output.faults new.output.faults → ⊥
 
-  abbrev pub RunAnswers : Status → Type 0
-  RunAnswers (status.Ended value) = Finishes (Ends value)
-  RunAnswers (status.Trapped pc cause) = Finishes (Traps pc cause)
-  RunAnswers status.OutOfSteps = Finishes RunsOn
-  RunAnswers (status.Refused fault) = Refuses fault
-  RunAnswers status.ReadFault = FailsToRead
-  RunAnswers status.WriteFault = FailsToWrite
-  RunAnswers status.NoMemory = RunsOutOfMemory
-  RunAnswers _ = ⊥
-
-  -- No count of faults rose: of the file, of standard input and of standard output.
-  pub record NoneRose : Type 0 where
-    pub file : ReadRose old new words.file → ⊥
-    pub input : Rose old.input.faults new.input.faults → ⊥
-    pub out : Rose old.output.faults new.output.faults → ⊥
-
--- the answer says that a run came out so, or memory was wanting
-abbrev pub Says : Status → Ending → Type 0
-Says answer ending = (answer ≡ answer_of ending) ⊎ (answer ≡ status.NoMemory)
-
--- Where the input is told, the answer says how the file's run comes out, unless a fault came first.
-abbrev pub IsExact : Status → RunWords → Option (List ℕ) → List ℕ → Type 0
-IsExact answer words left file = (input : List ℕ) → left ≡ Some input →
-    (ending : Ending) (steps : ℕ) (trace : List Event) (rest : List ℕ) →
-    RunsTo file words.words input words.limit ending steps trace rest →
-    Says answer ending ⊎ (answer ≡ status.ReadFault) ⊎ (answer ≡ status.WriteFault)
-
--- The answer is exact, and where no count of faults rose it says how a run came out.
-pub record RunCompletes (words : RunWords) (file : List ℕ) (answer : Status) (old new : World) : Type 0 where
-  pub some : NoneRose words old new → (ending : Ending) × Says answer ending
-  pub exactly : IsExact answer words old.input.left file
+-- Of a file that can be run: where no count of faults rose, the answer says how a run came out. It is exact for the
+-- machine with the file's program, unless it was cut short.
+pub record RunCompletes {P V X C : Type 0} (mode : Mode P V X C) (words : RunWords) (file : List ℕ) (answer : Status)
+    (old new : World) : Type 0 where
+  pub some : NoneRose words old new → IsRunAnswer answer
+  pub exactly : IsCutShort answer
+      ⊎ ((program : P) × (mode.IsProgram file program
+      × IsExact (mode.machine program words.words) words.limit old.input.left answer))

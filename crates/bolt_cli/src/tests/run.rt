@@ -364,7 +364,7 @@ fn programs_are_given_at_most_so_many_words(rt: HostRuntime) -> Result<(), Fail>
 #[test]
 fn words_that_are_no_run(rt: HostRuntime) -> Result<(), Fail> {
     let alloc = rt.alloc();
-    let lines: [&[&str]; 16] = [
+    let lines: [&[&str]; 18] = [
         &["run"],
         &["run", "--"],
         &["run", "--steps", "5"],
@@ -377,7 +377,9 @@ fn words_that_are_no_run(rt: HostRuntime) -> Result<(), Fail> {
         &["run", "--steps=18446744073709551616", "in"],
         &["run", "--steps=000000000000000000005", "in"],
         &["run", "--steps", "5", "--steps", "6", "in"],
-        &["run", "--symbols", "in"],
+        &["run", "--symbols"],
+        &["run", "--symbols=", "in"],
+        &["run", "--symbols", "in", "--symbols"],
         &["run", "-s", "in"],
         &["run", "--step=5", "in"],
         &["run", "in", "a\0b"],

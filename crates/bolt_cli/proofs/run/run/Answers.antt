@@ -1,13 +1,14 @@
-use Rattle.std.proofs.Common.{◌≤◌, sym, subst, refl, inl, inr, ℕ, List, length, arith}
+use Rattle.std.proofs.Common.{◌≤◌, sym, subst, refl, inr, ◌<◌, ℕ, List, length, arith}
 use Rattle.bolt_cli.specs.ParsedWords.{run_read}
 use Rattle.bolt_cli.specs.rewrite.Refusals.{file_limit}
-use Rattle.bolt_cli.specs.run.Endings.{unsound, much_code}
-use Rattle.bolt_cli.specs.run.RunAnswers.{at_file, before_run}
+use Rattle.bolt_cli.specs.run.ByteRuns.{CannotRun, too_long, unsound, much_code}
+use Rattle.bolt_cli.specs.run.RunAnswers.{at_file, before_run, read_fault, no_memory}
 use Rattle.bolt_cli.specs.Words.{RunWords}
 use Rattle.bolt_cli.specs.World.{World, world}
 use Rattle.bolt_cli.specs.declared.status.Status.TheVariants as status
 use Rattle.bolt_cli.proofs.CodeSizes.{code_fits, code_passes}
-use Rattle.bolt_cli.proofs.RunAnswering.{serves, refusal_serves, under_way, present_long, present_fault, passed_is, kept_is, kept_fits, kept_sound, other_exact}
+use Rattle.bolt_cli.proofs.RunAnswering.{present_long, present_fault, passed_is, kept_is, kept_fits, kept_sound}
+use Rattle.bolt_cli.proofs.ByteRunAnswering.{serves, refusal_serves, goes_under_way, other_exact}
 use Rattle.bolt_cli.proofs.run.run.Goals as goal
 
 pub returns-in-TooLong-clause-serves : goal.returns-in-TooLong-clause-serves
@@ -16,7 +17,7 @@ returns-in-TooLong-clause-serves g c =
     let old : World = world (g.F.Files.seen c.args.files.now) (g.I.Source.seen c.args.input.now) (g.O.Sink.seen c.args.out.now) in
     let new : World = world (g.F.Files.seen c.read_all.new.self) (g.I.Source.seen c.args.input.now) (g.O.Sink.seen c.refuse.new.out) in
     refusal_serves words old new c.refuse.result c.at.result c.refuse.ensures.line c.in-TooLong.ensures.contents_kept
-    (λ told. present_long (old.files.content words.file) c.at.result c.at.ensures (c.in-TooLong.ensures.too_long refl told)) refl
+    (λ told. present_long (old.files.content words.file) (λ file. file_limit < length file) (λ file. CannotRun file c.at.result) (λ file long. too_long long c.at.ensures) (c.in-TooLong.ensures.too_long refl told)) refl
     c.in-TooLong.ensures.goes_on c.refuse.ensures.never_falls
 
 pub returns-in-Failed-clause-serves : goal.returns-in-Failed-clause-serves
@@ -25,8 +26,8 @@ returns-in-Failed-clause-serves g c =
     let old : World = world (g.F.Files.seen c.args.files.now) (g.I.Source.seen c.args.input.now) (g.O.Sink.seen c.args.out.now) in
     let new : World = world (g.F.Files.seen c.read_all.new.self) (g.I.Source.seen c.args.input.now) (g.O.Sink.seen c.args.out.now) in
     serves words old new status.ReadFault
-    (at_file (c.in-Failed.ensures.failed refl) (record { unprinted = refl; unwritten = c.in-Failed.ensures.contents_kept }) refl)
-    (λ told file is input left ending steps trace rest runs. inr (inl refl))
+    (at_file refl (c.in-Failed.ensures.failed refl) (record { unprinted = refl; unwritten = c.in-Failed.ensures.contents_kept }) refl)
+    (λ told file is input left ending steps trace rest runs. inr (read_fault refl))
     c.in-Failed.ensures.goes_on (omega arith) (omega arith)
 
 pub returns-in-Memory-clause-serves : goal.returns-in-Memory-clause-serves
@@ -35,8 +36,8 @@ returns-in-Memory-clause-serves g c =
     let old : World = world (g.F.Files.seen c.args.files.now) (g.I.Source.seen c.args.input.now) (g.O.Sink.seen c.args.out.now) in
     let new : World = world (g.F.Files.seen c.read_all.new.self) (g.I.Source.seen c.args.input.now) (g.O.Sink.seen c.args.out.now) in
     serves words old new status.NoMemory
-    (before_run (record { unprinted = refl; unwritten = c.in-Memory.ensures.contents_kept }) refl)
-    (λ told file is input left ending steps trace rest runs. inl (inr refl))
+    (before_run refl (record { unprinted = refl; unwritten = c.in-Memory.ensures.contents_kept }) refl)
+    (λ told file is input left ending steps trace rest runs. inr (no_memory refl))
     c.in-Memory.ensures.goes_on (omega arith) (omega arith)
 
 pub returns-in-Err-Fault-clause-serves : goal.returns-in-Err-Fault-clause-serves
@@ -45,7 +46,7 @@ returns-in-Err-Fault-clause-serves g c =
     let old : World = world (g.F.Files.seen c.args.files.now) (g.I.Source.seen c.args.input.now) (g.O.Sink.seen c.args.out.now) in
     let new : World = world (g.F.Files.seen c.read_all.new.self) (g.I.Source.seen c.args.input.now) (g.O.Sink.seen c.refuse-in-Err-Fault.new.out) in
     refusal_serves words old new c.refuse-in-Err-Fault.result c.in-Err-Fault.fault c.refuse-in-Err-Fault.ensures.line c.in-Done.ensures.contents_kept
-    (λ told. present_fault (old.files.content words.file) c.deref.result.now c.in-Err-Fault.fault
+    (λ told. present_fault (old.files.content words.file) c.deref.result.now (λ file. CannotRun file c.in-Err-Fault.fault)
     (passed_is (old.files.content words.file) c.read_all.new.into.items c.deref.result.now c.deref.result.now c.deref.ensures.value (c.in-Done.ensures.done refl told))
     (unsound (subst (λ (f : List ℕ). length f ≤ file_limit) (sym c.deref.ensures.value) (c.in-Done.ensures.within_limit refl)) (rw c.in-Err-Fault.field-0-is at c.in-Err-Fault.ensures.refusal))) refl
     c.in-Done.ensures.goes_on c.refuse-in-Err-Fault.ensures.never_falls
@@ -57,7 +58,7 @@ returns-then-has_too_much_code-clause-serves g c =
     let new : World = world (g.F.Files.seen c.read_all.new.self) (g.I.Source.seen c.args.input.now) (g.O.Sink.seen c.refuse-then-has_too_much_code.new.out) in
     let kept : List ℕ = c.in-Ok.elf.file.now in
     refusal_serves words old new c.refuse-then-has_too_much_code.result c.at-then-has_too_much_code.result c.refuse-then-has_too_much_code.ensures.line c.in-Done.ensures.contents_kept
-    (λ told. present_fault (old.files.content words.file) kept c.at-then-has_too_much_code.result
+    (λ told. present_fault (old.files.content words.file) kept (λ file. CannotRun file c.at-then-has_too_much_code.result)
     (kept_is (old.files.content words.file) c.read_all.new.into.items c.deref.result.now kept c.deref.ensures.value c.in-Ok.ensures.fields.file_is (c.in-Done.ensures.done refl told))
     (much_code
     (kept_fits (old.files.content words.file) c.read_all.new.into.items c.deref.result.now kept c.deref.ensures.value c.in-Ok.ensures.fields.file_is (c.in-Done.ensures.within_limit refl))
@@ -73,12 +74,12 @@ returns-clause-serves g c =
     let kept : List ℕ = c.in-Ok.elf.file.now in
     let is = kept_is (old.files.content words.file) c.read_all.new.into.items c.deref.result.now kept c.deref.ensures.value c.in-Ok.ensures.fields.file_is in
     serves words old new c.run_elf.result
-    (under_way words old new c.run_elf.result kept (λ told. is (c.in-Done.ensures.done refl told))
+    (goes_under_way words old new c.run_elf.result kept (λ told. is (c.in-Done.ensures.done refl told))
     (record {
       fits = kept_fits (old.files.content words.file) c.read_all.new.into.items c.deref.result.now kept c.deref.ensures.value c.in-Ok.ensures.fields.file_is (c.in-Done.ensures.within_limit refl);
       sound = kept_sound (old.files.content words.file) c.read_all.new.into.items c.deref.result.now kept c.deref.ensures.value c.in-Ok.ensures.fields.file_is c.in-Ok.ensures.sound;
       code_fits = code_fits kept kept c.has_too_much_code.result refl c.has_too_much_code.ensures.1 c.if-has_too_much_code.false;
     })
     c.in-Done.ensures.contents_kept c.run_elf.ensures.answer)
-    (λ told file file_is. other_exact (old.files.content words.file) kept file c.run_elf.result words old.input.left (is (c.in-Done.ensures.done refl told)) file_is c.run_elf.ensures.exact)
+    (λ told file file_is. other_exact words old new c.run_elf.result kept file (is (c.in-Done.ensures.done refl told)) file_is c.run_elf.ensures.exact)
     c.in-Done.ensures.goes_on c.run_elf.ensures.reads c.run_elf.ensures.writes

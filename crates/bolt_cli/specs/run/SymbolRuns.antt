@@ -1,0 +1,116 @@
+-- Runs on the symbol machine, which is given a file's functions and code cells, and whether the file is tight.
+use Rattle.std.specs.Prelude.{◌≡◌, ℕ, ◌<◌, ◌≤◌, List, [], length, IsTrue, codes}
+use Rattle.std.specs.Str.{bytes_eq}
+use Rattle.rb_bytes.specs.Fault.{fault_at}
+use Rattle.rb_bytes.specs.declared.fault.Fault.{Fault}
+use Rattle.rb_bytes.specs.declared.fault.FaultKind.TheVariants.{TooLarge, NotBuilt}
+use Rattle.rv_code.specs.declared.placed.Block.{Block}
+use Rattle.rv_code.specs.declared.placed.Func.{Func}
+use Rattle.rv_code.specs.declared.placed.Role.{Role}
+use Rattle.rv_code.specs.layout.Blocks.{AreBlocks}
+use Rattle.elf_image.specs.code.FileCode.{AreRoles, AreCells}
+use Rattle.elf_image.specs.code.Functions.{AreFunctions}
+use Rattle.elf_image.specs.declared.elf.Elf.{Elf}
+use Rattle.elf_image.specs.faults.CodeFaults.{HasCodeFault}
+use Rattle.elf_image.specs.faults.FileFaults.{IsFirstFault, IsSound}
+use Rattle.elf_image.specs.faults.FirstFault.{IsAnswered, IsFree}
+use Rattle.elf_image.specs.file.Header.{e_shnum}
+use Rattle.elf_image.specs.file.ParsedFile.{IsElfOf}
+use Rattle.elf_image.specs.file.Sections.{section_header, section_name}
+use Rattle.elf_write.specs.Need.{need}
+use Rattle.elf_write.specs.Room.{is_tight}
+use Rattle.sym_machine.specs.SymStart.{Program, program_start}
+use Rattle.sym_machine.specs.SymStep.{SymSteps}
+use Rattle.sym_machine.specs.declared.outcome.Reason.{Reason}
+use Rattle.sym_machine.specs.declared.value.MemoryByte.{MemoryByte}
+use Rattle.sym_machine.specs.declared.value.Value.{Value}
+use Rattle.bolt_cli.specs.CodeLimit.{HasTooMuchCode}
+use Rattle.bolt_cli.specs.rewrite.Refusals.{file_limit}
+use Rattle.bolt_cli.specs.run.Endings.{Loaded}
+use Rattle.bolt_cli.specs.run.Modes.{Mode}
+use Rattle.bolt_cli.specs.declared.status.Status.TheVariants as status
+
+abbrev pub symbol_machine : Program → List (List ℕ) → Loaded Value MemoryByte Reason
+symbol_machine program words =
+    record { step = SymSteps program.funcs; start = program_start program words; halted = status.Stuck }
+
+-- Which files are run.
+
+abbrev pub function_limit : ℕ
+function_limit = 200000
+
+-- The ranges of code that have exception tables. None is known yet, since files with unwind tables aren't run.
+abbrev pub tabled : List (ℕ × ℕ)
+tabled = []
+
+-- the section of an index has the name of unwind tables, and has contents
+pub record IsFrameSection (file : List ℕ) (i : ℕ) : Type 0 where
+  pub there : i < e_shnum file
+  pub named : IsTrue (bytes_eq (section_name file i) (codes ".eh_frame"))
+  pub filled : 0 < (section_header file i).size
+
+abbrev pub HasFrames : List ℕ → Type 0
+HasFrames file = (i : ℕ) × IsFrameSection file i
+
+-- a file that was read, in which the reader finds nothing wrong, and without unwind tables
+pub record IsPlain (file : List ℕ) : Type 0 where
+  pub fits : length file ≤ file_limit
+  pub sound : IsSound file
+  pub frameless : HasFrames file → ⊥
+
+-- a file as its reader keeps it, with what is wrong in its code
+abbrev pub HasFault : Elf → Fault → Type 0
+HasFault elf fault = IsAnswered (HasCodeFault elf tabled) fault
+
+abbrev pub HasNoFault : Elf → Type 0
+HasNoFault elf = IsFree (HasCodeFault elf tabled)
+
+-- no fault is found, however the file is kept
+pub record CanRunSymbols (file : List ℕ) : Type 0 where
+  pub plain : IsPlain file
+  pub code_sound : (elf : Elf) → IsElfOf file elf → HasNoFault elf
+  pub code_fits : HasTooMuchCode file → ⊥
+  pub few : (elf : Elf) (funcs : List Func) → IsElfOf file elf → AreFunctions elf tabled funcs → length funcs ≤ function_limit
+
+-- Why a file isn't run: its length comes first, then what is wrong in it; then unwind tables, which aren't built; then what
+-- is wrong in its code; and then the size of its code and the count of its functions.
+pub data CannotRunSymbols (file : List ℕ) (fault : Fault) : Type 0 where
+  too_long : file_limit < length file → fault ≡ fault_at TooLarge 0 → CannotRunSymbols file fault
+  unsound : length file ≤ file_limit → IsFirstFault file fault → CannotRunSymbols file fault
+  not_built : length file ≤ file_limit → IsSound file → HasFrames file → fault ≡ fault_at NotBuilt 0
+      → CannotRunSymbols file fault
+  bad_code : IsPlain file → (elf : Elf) → IsElfOf file elf → HasFault elf fault → CannotRunSymbols file fault
+  much_code : IsPlain file → (elf : Elf) → IsElfOf file elf → HasNoFault elf → HasTooMuchCode file
+      → fault ≡ fault_at TooLarge 2 → CannotRunSymbols file fault
+  many_functions : IsPlain file → (elf : Elf) → IsElfOf file elf → HasNoFault elf → (HasTooMuchCode file → ⊥)
+      → (funcs : List Func) → AreFunctions elf tabled funcs → function_limit < length funcs → fault ≡ fault_at TooLarge 3
+      → CannotRunSymbols file fault
+
+-- What the machine is given.
+
+-- The file is tight: what its new code may need is more than there is room for behind the old one.
+pub record IsTightness (program : Program) : Type 0 where
+  pub roles : List (ℕ × Role)
+  pub roles_are : AreRoles program.elf roles
+  pub blocks : List Block
+  pub blocks_are : AreBlocks
+      (record { funcs = program.funcs; roles = roles; cells = program.cells; entry = program.elf.entry }) blocks
+  pub tight_is : program.tight ≡ is_tight program.elf.segments.items (need program.elf program.funcs blocks)
+
+pub record IsSymbolProgram (file : List ℕ) (program : Program) : Type 0 where
+  pub plain : IsPlain file
+  pub read : IsElfOf file program.elf
+  pub code_sound : HasNoFault program.elf
+  pub code_fits : HasTooMuchCode file → ⊥
+  pub few : length program.funcs ≤ function_limit
+  pub funcs_are : AreFunctions program.elf tabled program.funcs
+  pub cells_are : AreCells program.elf tabled program.cells
+  pub tightness : IsTightness program
+
+abbrev pub symbol_mode : Mode Program Value MemoryByte Reason
+symbol_mode = record {
+  IsProgram = IsSymbolProgram;
+  machine = symbol_machine;
+  CanRun = CanRunSymbols;
+  CannotRun = CannotRunSymbols;
+}
