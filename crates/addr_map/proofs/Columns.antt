@@ -4,7 +4,8 @@ use Rattle.std.proofs.Common.{get_or, arith, sym, ap, ⊎_elim}
 use Rattle.std.specs.Prelude.{min}
 use Rattle.std.proofs.lemmas.Bool.{cases_lt}
 use Rattle.std.proofs.lemmas.Grind.{common_steps}
-use Rattle.std.proofs.lemmas.List.{get_or-take, get_or-drop, length-take, length-drop}
+use Rattle.std.specs.List.Sorted.{IsNonDecreasingBy}
+use Rattle.std.proofs.lemmas.List.{get_or_default, get_or-take, get_or-drop, length-take, length-drop}
 use Rattle.std.proofs.lemmas.List.Sums.{sum_by-cons}
 use Rattle.rb_lanes.specs.Ranking.{rank}
 use Rattle.addr_map.specs.internal.Columns.{IsAscending, IsFirsts, IsGroupCount}
@@ -41,6 +42,10 @@ rank_is (y ∷ ys) x (suc k) r =
 
 tail_ascends : (y : ℕ) (ys : List ℕ) → IsAscending (y ∷ ys) → IsAscending ys
 tail_ascends y ys up i j le lt = up (suc i) (suc j) (omega arith) (omega arith)
+
+-- a column that ascends, with any number for one past its end
+pub non_decreasing : (xs : List ℕ) → IsAscending xs → IsNonDecreasingBy (λ n. n) xs
+non_decreasing xs up i j d le lt = rw (get_or_default xs i d 0 (omega arith), get_or_default xs j d 0 lt) (up i j le lt)
 
 -- there is one in a column that ascends
 found : (xs : List ℕ) (x : ℕ) → IsAscending xs → (k : ℕ) × IsRank xs x k
@@ -116,7 +121,7 @@ pub length_group : (column : List ℕ) (start i : ℕ) → i < length (take 64 (
 length_group column start i lt = let a = length-take 64 (drop start column) in let b = length-drop start column in
     (omega arith, omega arith)
 
-group_ascends : (column : List ℕ) (start : ℕ) → IsAscending column → IsAscending (take 64 (drop start column))
+pub group_ascends : (column : List ℕ) (start : ℕ) → IsAscending column → IsAscending (take 64 (drop start column))
 group_ascends column start up i j le lt =
     let inside = length_group column start j lt in
     rw (in_group column start i (omega arith), in_group column start j inside.0)

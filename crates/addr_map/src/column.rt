@@ -1,10 +1,10 @@
-// Ascending columns of numbers, in which a place is found by a few short counts.
+// Ascending columns of numbers, in which a place is found by a few short searches.
 ghost use Rattle.std.specs.Prelude.{◌≡◌, IfOk};
+ghost use Rattle.std.specs.List.Sorted.{IsNonDecreasingBy};
 ghost use Rattle.rb_lanes.specs.Ranking.{rank};
 ghost use Rattle.addr_map.specs.internal.Columns.{IsAscending, IsFirsts, IsGroupCount, AreLevels};
 
 use rb_bytes::fault::NoMemory;
-use rb_lanes::rank;
 use std::alloc::Global;
 use std::marker::Model;
 
@@ -88,7 +88,7 @@ fn rank_below(column: &[u64], levels: &[Vec<u64>], x: u64) -> usize
     ensures { result ≡ rank column.now x }
 {
     match levels.split_first() {
-        None => rank(column, x),
+        None => rank_among(column, x),
         Some((firsts, higher)) => rank_in_group(column, rank_below(firsts, higher, x), x),
     }
 }
@@ -105,5 +105,13 @@ fn rank_in_group(column: &[u64], groups: usize, x: u64) -> usize
     let start = GROUP * (groups - 1);
     let (_, rest) = column.split_at(start);
     let (group, _) = rest.split_at(GROUP.min(rest.len()));
-    start + rank(group, x)
+    start + rank_among(group, x)
+}
+
+// How many of a few numbers that ascend are at most `x`.
+fn rank_among(numbers: &[u64], x: u64) -> usize
+    requires { IsNonDecreasingBy (λ n. n) numbers.now }
+    ensures { result ≡ rank numbers.now x }
+{
+    numbers.partition_point(|n| *n <= x)
 }
