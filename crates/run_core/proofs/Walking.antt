@@ -1,5 +1,5 @@
 -- Steps after steps: what a loop over a machine's steps keeps, and what it comes to.
-use Rattle.std.proofs.Common.{◌≡◌, ◌∙◌, ◌+◌, ◌<◌, ◌≤◌, ℕ, suc, List, [], ◌∷◌, ◌++◌, Bool, false, refl, sym, ap, subst, arith, append_assoc, take}
+use Rattle.std.proofs.Common.{◌≡◌, ◌∙◌, ◌+◌, ◌<◌, ◌≤◌, ℕ, suc, List, [], ◌∷◌, ◌++◌, Bool, false, Option, refl, sym, ap, subst, arith, append_assoc, take}
 use Rattle.std.specs.Prelude.{if◌then◌else◌, ◌==◌}
 use Rattle.std.specs.Io.KnownBytes.{append_known, prepend_known}
 use Rattle.rb_io.proofs.Printing.{append_known-append}
@@ -12,12 +12,12 @@ use Rattle.run_core.specs.Runs.{RunsSomeInput}
 use Rattle.run_core.specs.StepAnswers.{StepGoes, StepStops, FailsToRead, FailsToWrite, RanOut}
 use Rattle.run_core.proofs.Told.{told, told_is, told_may_come, told_before, as_told-prepend, prepend_known-nil, prepend_known-append, append_known-nil}
 
-output-append : (es fs : List Event) → output (es ++ fs) ≡ output es ++ output fs
+pub output-append : (es fs : List Event) → output (es ++ fs) ≡ output es ++ output fs
 unfolding output
 output-append [] fs = refl
 output-append (e ∷ es) fs = ap (λ rest. (if e.number == 64 then e.moved else []) ++ rest) (output-append es fs) ∙ sym (append_assoc (if e.number == 64 then e.moved else []) (output es) (output fs))
 
-output-nil : output [] ≡ []
+pub output-nil : output [] ≡ []
 unfolding output
 output-nil = refl
 
@@ -36,8 +36,11 @@ module _ {M S C : Type 0} (state_of : M → List ℕ → S) (step : S → Outcom
     pub read_is : before.input.left ≡ prepend_known read after.input.left
     pub end_is : IsRightly ended after.input.left
 
+  pub not_ended : (ended : Bool) → ended ≡ false → (left : Option (List ℕ)) → IsRightly ended left
+  not_ended ended none left = λ e. absurd (cc)
+
   -- no step was done yet
-  pub no_step : (ended : Bool) → ended ≡ false → Walk old ended 0 before
+  abbrev pub no_step : (ended : Bool) → ended ≡ false → Walk old ended 0 before
   no_step ended none = record {
     read = [];
     came = λ rest may. record {
@@ -47,26 +50,32 @@ module _ {M S C : Type 0} (state_of : M → List ℕ → S) (step : S → Outcom
       taken_is = rw output-nil (append_known-nil before.output.taken);
     };
     read_is = prepend_known-nil before.input.left;
-    end_is = λ e. absurd (cc);
+    end_is = not_ended ended none before.input.left;
   }
 
   module _ (mid : M) (ended : Bool) (n : ℕ) (between : Outside) (walk : Walk mid ended n between) (one : (bytes : List ℕ) → HasOneOutcome step (state_of mid bytes)) where
-    determined_further : (rest : List ℕ) → MayCome ended rest → IsDetermined step (state_of old (walk.read ++ rest)) (n + 1)
+    pub determined_further : (rest : List ℕ) → MayCome ended rest → IsDetermined step (state_of old (walk.read ++ rest)) (n + 1)
     determined_further rest may = let c = walk.came rest may in more_determined step (state_of old (walk.read ++ rest)) c.determined c.so_far (one rest)
 
+    pub next_is : suc n ≡ n + 1
+    next_is = omega arith
+
+    pub may_before : (new : M) (ends : Bool) (after : Outside) (goes : StepGoes state_of step mid new ended ends between after) (rest : List ℕ) → MayCome ends rest → MayCome ended (goes.read ++ rest)
+    may_before new ends after goes rest may = λ e. let kept = goes.end_kept e in rw (kept.1) (may kept.0)
+
     -- one step more
-    pub step_more : (new : M) (ends : Bool) (after : Outside) → StepGoes state_of step mid new ended ends between after → Walk new ends (n + 1) after
+    abbrev pub step_more : (new : M) (ends : Bool) (after : Outside) → StepGoes state_of step mid new ended ends between after → Walk new ends (n + 1) after
     step_more new ends after goes = record {
       read = walk.read ++ goes.read;
       came = λ rest may.
-          let c = walk.came (goes.read ++ rest) (may_before rest may) in
+          let c = walk.came (goes.read ++ rest) (may_before new ends after goes rest may) in
           let g = goes.goes_on rest may in
           let far : SoFar step (state_of old (walk.read ++ (goes.read ++ rest))) (n + 1) (c.trace ++ events g.event) (state_of new rest) =
-          subst (λ k. SoFar step (state_of old (walk.read ++ (goes.read ++ rest))) k (c.trace ++ events g.event) (state_of new rest)) next (more g.event c.so_far g.comes_to) in
+          subst (λ k. SoFar step (state_of old (walk.read ++ (goes.read ++ rest))) k (c.trace ++ events g.event) (state_of new rest)) next_is (more g.event c.so_far g.comes_to) in
           record {
             trace = c.trace ++ events g.event;
             so_far = subst (λ xs. SoFar step (state_of old xs) (n + 1) (c.trace ++ events g.event) (state_of new rest)) (sym (append_assoc walk.read goes.read rest)) far;
-            determined = subst (λ xs. IsDetermined step (state_of old xs) (n + 1)) (sym (append_assoc walk.read goes.read rest)) (determined_further (goes.read ++ rest) (may_before rest may));
+            determined = subst (λ xs. IsDetermined step (state_of old xs) (n + 1)) (sym (append_assoc walk.read goes.read rest)) (determined_further (goes.read ++ rest) (may_before new ends after goes rest may));
             taken_is =
                 g.taken_is
                 ∙ ap (λ known. append_known known (output (events g.event))) c.taken_is
@@ -76,12 +85,6 @@ module _ {M S C : Type 0} (state_of : M → List ℕ → S) (step : S → Outcom
       read_is = walk.read_is ∙ ap (prepend_known walk.read) goes.read_is ∙ prepend_known-append walk.read goes.read after.input.left;
       end_is = goes.end_is walk.end_is;
     }
-      where
-        next : suc n ≡ n + 1
-        next = omega arith
-
-        may_before : (rest : List ℕ) → MayCome ends rest → MayCome ended (goes.read ++ rest)
-        may_before rest may = λ e. let kept = goes.end_kept e in rw (kept.1) (may kept.0)
 
     -- The input up to here, as far as the source tells it.
 
@@ -91,13 +94,13 @@ module _ {M S C : Type 0} (state_of : M → List ℕ → S) (step : S → Outcom
     abbrev input_now : List ℕ
     input_now = walk.read ++ rest_now
 
-    came_now : Came mid input_now rest_now n between
+    pub came_now : Came mid input_now rest_now n between
     came_now = walk.came rest_now (told_may_come ended between.input.left walk.end_is)
 
-    input_now_is : before.input.left ≡ as_told before.input.left input_now
+    pub input_now_is : before.input.left ≡ as_told before.input.left input_now
     input_now_is = told_before before.input.left between.input.left walk.read rest_now walk.read_is (told_is between.input.left)
 
-    rest_now_is : between.input.left ≡ as_told before.input.left rest_now
+    pub rest_now_is : between.input.left ≡ as_told before.input.left rest_now
     rest_now_is = told_is between.input.left ∙ as_told-prepend before.input.left between.input.left walk.read rest_now walk.read_is
 
     determined_now : IsDetermined step (state_of old input_now) (n + 1)
@@ -105,12 +108,12 @@ module _ {M S C : Type 0} (state_of : M → List ℕ → S) (step : S → Outcom
 
     module _ (new : M) (after : Outside) (limit : ℕ) (below : n < limit) where
       -- where it stops, all steps are determined, since there are no others
-      determined_by_stop : (o : Outcome S C) → IsStop o → StepStops state_of step o mid new between after → IsDetermined step (state_of old input_now) limit
+      pub determined_by_stop : (o : Outcome S C) → IsStop o → StepStops state_of step o mid new between after → IsDetermined step (state_of old input_now) limit
       determined_by_stop o is_stop stops =
           stop_determines step (state_of old input_now) (fewer step (state_of old input_now) (omega arith) determined_now)
           (record { so_far = came_now.so_far; comes_to = stops.comes_to rest_now; is_stop = is_stop }) limit
 
-      pub ends_run : (status : ℕ) → StepStops state_of step (Ended status) mid new between after → RunsSomeInput state_of step (answer.Ended status) limit (n + 1) old new before after
+      abbrev pub ends_run : (status : ℕ) → StepStops state_of step (Ended status) mid new between after → RunsSomeInput state_of step (answer.Ended status) limit (n + 1) old new before after
       ends_run status stops = record {
         input = input_now;
         input_is = input_now_is;
@@ -128,7 +131,7 @@ module _ {M S C : Type 0} (state_of : M → List ℕ → S) (step : S → Outcom
         determined = determined_by_stop (Ended status) tt stops;
       }
 
-      pub halts_run : (pc : ℕ) (cause : C) → StepStops state_of step (Halts pc cause) mid new between after → RunsSomeInput state_of step (answer.Halted pc cause) limit n old new before after
+      abbrev pub halts_run : (pc : ℕ) (cause : C) → StepStops state_of step (Halts pc cause) mid new between after → RunsSomeInput state_of step (answer.Halted pc cause) limit n old new before after
       halts_run pc cause stops = record {
         input = input_now;
         input_is = input_now_is;
@@ -207,7 +210,7 @@ module _ {M S C : Type 0} (state_of : M → List ℕ → S) (step : S → Outcom
       }
 
   -- the steps are up
-  pub steps_up : (now : M) (ended : Bool) (n limit : ℕ) (after : Outside) → Walk now ended n after → n ≡ limit → RunsSomeInput state_of step answer.Going limit n old now before after
+  abbrev pub steps_up : (now : M) (ended : Bool) (n limit : ℕ) (after : Outside) → Walk now ended n after → n ≡ limit → RunsSomeInput state_of step answer.Going limit n old now before after
   steps_up now ended n limit after walk up =
       let rest = told after.input.left in
       let c = walk.came rest (told_may_come ended after.input.left walk.end_is) in

@@ -4,7 +4,7 @@
 pub mod calls;
 pub mod execute;
 pub mod fetch;
-mod known;
+pub mod known;
 pub mod load;
 pub mod machine;
 pub mod run;

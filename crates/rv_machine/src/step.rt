@@ -32,8 +32,8 @@ impl<'a> Machine<'a> {
         self.step_known(&mut known, &mut input_end, input, out)
     }
 
-    // The same, with what was decoded before, and whether the input was found at its end.
-    pub(crate) fn step_known<I: Source, O: Sink>(
+    /// The same, with what was decoded before, and whether the input was found at its end.
+    pub fn step_known<I: Source, O: Sink>(
         &mut self,
         known: &mut KnownActions,
         input_end: &mut InputEnd,
