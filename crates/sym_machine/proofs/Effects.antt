@@ -1,23 +1,21 @@
 -- What loads, stores and jumps come to, by what the machine found.
-use Rattle.std.proofs.Common.{◌≡◌, ◌∙◌, sym, ap, refl, ℕ, suc, Bool, true, false, List, [], ◌∷◌, Option, Some, None}
-use Rattle.std.specs.Prelude.{if◌then◌else◌, option_map, not}
+use Rattle.std.proofs.Common.{◌≡◌, ap, refl, ℕ, suc, Bool, true, false, List, [], ◌∷◌, Option, Some, None}
+use Rattle.std.specs.Prelude.{if◌then◌else◌, option_map}
 use Rattle.std.specs.List.{list_any}
 use Rattle.rv_code.specs.declared.action.Extension.{Extension}
 use Rattle.rv_code.specs.declared.placed.Role.{Role}
 use Rattle.rv_code.specs.declared.placed.Func.{Func}
 use Rattle.rv_code.specs.isa.Extension.{bytes_of, extended}
-use Rattle.rv_code.specs.machine.Machine.{all_may, may_read, may_write, memory_bytes, little}
+use Rattle.rv_code.specs.machine.Machine.{all_may, may_read, memory_bytes, little}
 use Rattle.sym_machine.specs.declared.memory.SymbolBytes.{SymbolBytes}
-use Rattle.sym_machine.specs.declared.outcome.Reason.TheVariants as reason
 use Rattle.sym_machine.specs.declared.value.Pointer.{Pointer}
-use Rattle.sym_machine.specs.declared.value.Symbol.{Symbol}
 use Rattle.sym_machine.specs.declared.value.Value.{Value}
 use Rattle.sym_machine.specs.declared.value.Value.TheVariants.{Num}
 use Rattle.sym_machine.specs.declared.value.MemoryByte.{MemoryByte}
 use Rattle.sym_machine.specs.declared.value.MemoryByte.TheVariants.{Byte, SymbolByte, Hidden}
-use Rattle.sym_machine.specs.Values.{numbers, number, and_byte, is_hidden, are_symbol_bytes, stored}
-use Rattle.sym_machine.specs.Rules.{goal, pointer, destination, loaded, loaded_symbol, piece}
-use Rattle.sym_machine.specs.SymStep.{SymState, jumps, jumps_to, loads_at, stores, stores_at, writes_register}
+use Rattle.sym_machine.specs.Values.{numbers, and_byte, is_hidden, are_symbol_bytes}
+use Rattle.sym_machine.specs.Rules.{goal, pointer, destination, loaded_symbol, piece}
+use Rattle.sym_machine.specs.SymStep.{SymState, jumps, jumps_to, loads_at, writes_register}
 use Rattle.sym_machine.specs.internal.Accesses.{symbol_piece}
 use Rattle.sym_machine.specs.internal.Memory.{symbol_in}
 

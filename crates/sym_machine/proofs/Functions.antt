@@ -1,7 +1,6 @@
 -- Instructions of functions by their addresses: each is found, and nothing else is.
-use Rattle.std.proofs.Common.{◌≡◌, ◌∙◌, sym, subst, ap, refl, ℕ, zero, suc, ◌+◌, ◌-◌, ◌<◌, ◌≤◌, ◌⊎◌, inl, inr, ⊎_elim, Bool, true, false, List, [], ◌∷◌, ◌++◌, Option, Some, None, IfSome, IfNone, All, length, slice_index_or, arith}
-use Rattle.std.specs.Prelude.{Contains, ◌==◌, if◌then◌else◌, is_some}
-use Rattle.std.specs.List.{flat_map, slice_get}
+use Rattle.std.proofs.Common.{◌≡◌, ◌∙◌, sym, subst, ap, refl, ℕ, zero, suc, ◌+◌, ◌-◌, ◌<◌, ◌≤◌, ◌⊎◌, inl, inr, ⊎_elim, true, false, List, [], ◌∷◌, ◌++◌, Option, Some, None, IfSome, IfNone, All, length, slice_index_or, arith}
+use Rattle.std.specs.Prelude.{Contains, ◌==◌, is_some}
 use Rattle.std.specs.Option.{option_or}
 use Rattle.std.proofs.lemmas.Bool.{cases_lt, cases_order, eq-eqb, eqb-true, false_from_ne_true}
 use Rattle.std.proofs.lemmas.List.{get_or_default}
@@ -9,7 +8,7 @@ use Rattle.std.proofs.lemmas.List.Elements.{Contains-append_left, Contains-appen
 use Rattle.rv_code.specs.declared.placed.Placed.{Placed}
 use Rattle.rv_code.specs.declared.placed.Func.{Func}
 use Rattle.rv_code.specs.layout.Flow.{insts_of, placed_at}
-use Rattle.rv_code.specs.layout.FunctionLists.{Follow, HasLength, IsLaidOut, AreLaidOut}
+use Rattle.rv_code.specs.layout.FunctionLists.{Follow, HasLength, AreLaidOut}
 use Rattle.elf_image.proofs.LoadLemmas.{Contains-cons_cases, Contains-there, find-only, find-none, find-finds}
 use Rattle.sym_machine.specs.declared.inst_index.InstPlace.{InstPlace}
 use Rattle.sym_machine.specs.Rules.{next_in, next_of}

@@ -1,16 +1,15 @@
 -- What stands in memory where numbers and other bytes do, and after each way of writing.
-use Rattle.std.proofs.Common.{◌≡◌, ◌∙◌, sym, ap, refl, ℕ, zero, suc, ◌+◌, ◌-◌, ◌/◌, ◌%◌, ◌^◌, ◌≤◌, ◌<◌, Bool, true, false, List, [], ◌∷◌, ◌++◌, length, Option, Some, None, arith}
-use Rattle.std.specs.Prelude.{◌&&◌, ◌||◌, ◌==◌, not, nat_le, nat_lt, if◌then◌else◌, replicate, is_none, option_map, map}
+use Rattle.std.proofs.Common.{◌≡◌, ◌∙◌, sym, ap, refl, ℕ, zero, suc, ◌+◌, ◌-◌, ◌/◌, ◌<◌, Bool, true, false, List, [], ◌∷◌, length, Option, Some, None, arith}
+use Rattle.std.specs.Prelude.{◌&&◌, ◌||◌, ◌==◌, not, nat_le, nat_lt, if◌then◌else◌, replicate, is_none, map}
 use Rattle.std.specs.List.{list_any}
-use Rattle.std.specs.Option.{option_map_or}
 use Rattle.std.proofs.lemmas.Bool.{and_parts, eqb-true, leb-true, ltb-true}
-use Rattle.rv_code.specs.machine.Machine.{plus, memory_bytes, put, all_may, low_bytes, little}
+use Rattle.rv_code.specs.machine.Machine.{plus, memory_bytes, put, all_may, low_bytes}
 use Rattle.sym_machine.specs.declared.value.Symbol.{Symbol}
 use Rattle.sym_machine.specs.declared.value.MemoryByte.{MemoryByte}
 use Rattle.sym_machine.specs.declared.value.MemoryByte.TheVariants.{Byte, SymbolByte, Hidden}
 use Rattle.sym_machine.specs.declared.other_bytes.OtherByte.{OtherByte}
 use Rattle.sym_machine.specs.declared.other_bytes.OtherByte.TheVariants as other
-use Rattle.sym_machine.specs.internal.Memory.{as_byte, cell_over, other_bytes, symbol_in, symbol_byte, is_byte_of}
+use Rattle.sym_machine.specs.internal.Memory.{cell_over, other_bytes, symbol_in, symbol_byte, is_byte_of}
 use Rattle.sym_machine.specs.declared.memory.SymbolBytes.{SymbolBytes}
 use Rattle.sym_machine.specs.Values.{numbers, and_byte, is_hidden, symbol_bytes, are_symbol_bytes}
 

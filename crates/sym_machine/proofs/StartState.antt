@@ -1,5 +1,5 @@
 -- The state at the start: low segments, registers, and cells over bytes.
-use Rattle.std.proofs.Common.{◌≡◌, ◌∙◌, sym, subst, refl, ℕ, zero, suc, ◌+◌, ◌-◌, ◌^◌, ◌<◌, ◌≤◌, ◌&&◌, nat_le, nat_lt, true, false, IsTrue, List, [], ◌∷◌, Option, Some, None, arith, ⊎_elim, ap}
+use Rattle.std.proofs.Common.{◌≡◌, ◌∙◌, sym, subst, refl, ℕ, zero, suc, ◌+◌, ◌-◌, ◌^◌, ◌<◌, ◌≤◌, ◌&&◌, nat_le, nat_lt, true, false, IsTrue, List, ◌∷◌, Option, Some, None, arith, ⊎_elim}
 use Rattle.std.specs.Prelude.{Contains, replicate, if◌then◌else◌, ◌==◌, unwrap_or, option_map, slice_index_or}
 use Rattle.std.proofs.lemmas.Bool.{and_parts, and_from, ltb-true, le-leb, lt-ltb, cases_lt, eqb-true, false_from_ne_true}
 use Rattle.rb_bytes.specs.declared.fault.FaultKind.TheVariants.{HighAddress}
@@ -9,7 +9,6 @@ use Rattle.elf_image.specs.memory.Image.{is_load, has_memory, end_of, loads_addr
 use Rattle.elf_image.specs.faults.SegmentLayout.{address_end}
 use Rattle.elf_image.specs.faults.FileFaults.{IsSound}
 use Rattle.elf_image.proofs.ReadLists.{get_or-segments}
-use Rattle.sym_machine.specs.declared.value.Value.{Value}
 use Rattle.sym_machine.specs.declared.value.Value.TheVariants.{Num}
 use Rattle.sym_machine.specs.declared.value.MemoryByte.TheVariants.{Byte}
 use Rattle.sym_machine.specs.declared.other_bytes.OtherByte.{OtherByte}

@@ -3,6 +3,7 @@ pub mod Calls
 pub mod Cases
 pub mod Fields
 pub mod FunctionOrder
+pub mod KnownInsts
 pub mod Memory
 pub mod OtherBytes
 pub mod Special

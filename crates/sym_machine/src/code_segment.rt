@@ -1,20 +1,41 @@
 // The executable segment.
-ghost use Rattle.std.specs.Prelude.{◌≡◌, IfSome, ◌<◌, length};
-ghost use Rattle.elf_image.specs.memory.CodeSegment.{executable_segment, is_lowest};
+ghost use Rattle.std.specs.Prelude.{◌≡◌, ◌&&◌, ◌||◌, ℕ, nat_lt};
+ghost use Rattle.std.specs.List.{list_any};
+ghost use Rattle.elf_image.specs.memory.CodeSegment.{executable_segment};
+ghost use Rattle.elf_image.specs.faults.SegmentLayout.{is_code_segment};
+ghost use Rattle.sym_machine.specs.internal.Fields.{is_above};
 
 use elf_image::Segment;
 
-// Whether no executable segment is at a lower address.
-fn is_lowest(segments: &[Segment], p: &Segment) -> bool
-    ensures { result ≡ is_lowest segments.now p.now }
+// The lowest address of an executable segment.
+fn lowest_address(segments: &[Segment]) -> Option<u64>
+    ensures { (a : ℕ) → list_any (λ q. is_code_segment q && nat_lt q.vaddr a) segments.now ≡ is_above result a }
 {
-    let address = p.vaddr;
+    let mut lowest: Option<u64> = None;
     for q in segments {
-        if q.is_code() && q.vaddr < address {
-            return false;
+        if q.is_code() {
+            lowest = Some(lower(lowest, q.vaddr));
         }
     }
-    true
+    lowest
+}
+
+fn lower(lowest: Option<u64>, address: u64) -> u64
+    ensures { (a : ℕ) → nat_lt result a ≡ (is_above lowest a || nat_lt address a) }
+{
+    match lowest {
+        Some(other) => other.min(address),
+        None => address,
+    }
+}
+
+fn is_above(lowest: Option<u64>, address: u64) -> bool
+    ensures { result ≡ is_above lowest address }
+{
+    match lowest {
+        Some(other) => other < address,
+        None => false,
+    }
 }
 
 /// The index and the program header of the executable segment: of several the lowest, and of those at one address the
@@ -22,9 +43,10 @@ fn is_lowest(segments: &[Segment], p: &Segment) -> bool
 pub fn executable_segment(segments: &[Segment]) -> Option<(usize, Segment)>
     ensures { result ≡ executable_segment segments.now }
 {
+    let lowest = lowest_address(segments);
     for i in 0..segments.len() {
         let p = &segments[i];
-        if p.is_code() && is_lowest(segments, p) {
+        if p.is_code() && !is_above(lowest, p.vaddr) {
             return Some((i, *p));
         }
     }

@@ -1,30 +1,19 @@
 // Hidden fields of a file's headers.
-ghost use Rattle.std.specs.Prelude.{◌≡◌, ◌≤◌, ◌<◌, ◌+◌, ◌-◌, ◌*◌, ◌^◌, ◌++◌, ◌&&◌, ◌||◌, ℕ, IfOk, IfSome, OnOk, map, length, Bool, nat_le, option_map, option_copied, find, is_none};
+ghost use Rattle.std.specs.Prelude.{◌≡◌, ◌≤◌, ◌<◌, ◌+◌, ◌-◌, ◌*◌, ◌^◌, ◌++◌, ◌&&◌, ◌||◌, ℕ, IfOk, IfSome, OnOk, map, length, Bool, nat_le, option_map, option_copied, find, is_none, List};
 ghost use Rattle.std.specs.List.{list_any, flat_map, enumerate_from};
+ghost use Rattle.elf_image.specs.declared.elf.Elf.{Elf};
+ghost use Rattle.elf_image.specs.declared.segment.Segment.{Segment};
 ghost use Rattle.elf_image.specs.memory.CodeSegment.{executable_segment, executable_end};
 ghost use Rattle.elf_image.specs.memory.LoadedBytes.{is_in_range, loads_range, address_of, file_offset, offset_in};
 ghost use Rattle.sym_machine.specs.HiddenFields.{only, e_entry_field, hidden_in_segment, hidden_fields, is_hidden_field, is_executable_segment};
 ghost use Rattle.sym_machine.specs.internal.Fields.{range_of_field, AreLow};
 
 use crate::code_segment::executable_segment;
+use crate::fields::{Field, Fields};
 use elf_image::segment::{PHDR_SIZE, PT_GNU_EH_FRAME, PT_LOAD};
 use elf_image::{Elf, Segment};
 use rb_bytes::fault::NoMemory;
 use std::alloc::Global;
-
-/// So many bytes of the file from an offset on.
-#[derive(Clone, Copy, PartialEq, Eq, Debug)]
-pub struct Field {
-    pub start: u128,
-    pub size: u64,
-}
-
-// Whether a field has the byte at an offset.
-fn has(field: &Field, offset: u128) -> bool
-    ensures { result ≡ is_in_range offset (range_of_field field.now) }
-{
-    field.start <= offset && offset - field.start < field.size as u128
-}
 
 fn push_if(out: &mut Vec<Field>, test: bool, start: u128, size: u64) -> Result<(), NoMemory>
     ensures { OnOk result (map range_of_field out.new.items ≡ map range_of_field out.old.items ++ only test (record { start = start; size = size })) }
@@ -36,19 +25,19 @@ fn push_if(out: &mut Vec<Field>, test: bool, start: u128, size: u64) -> Result<(
 }
 
 // The offset past the executable segment's bytes.
-fn executable_end(segments: &[Segment]) -> u128
-    ensures { result ≡ executable_end segments.now }
+fn executable_end(executable: Option<(usize, Segment)>) -> u128
+    ensures { (segments : List Segment) → executable ≡ executable_segment segments → result ≡ executable_end segments }
 {
-    match executable_segment(segments) {
+    match executable {
         Some((_, p)) => p.offset as u128 + p.filesz as u128,
         None => 0,
     }
 }
 
-fn is_executable_segment(elf: &Elf, index: usize) -> bool
-    ensures { result ≡ is_executable_segment elf.now index }
+fn is_executable_segment(executable: Option<(usize, Segment)>, index: usize) -> bool
+    ensures { (elf : Elf) → executable ≡ executable_segment elf.segments.items → result ≡ is_executable_segment elf index }
 {
-    match executable_segment(&elf.segments) {
+    match executable {
         Some((at, _)) => at == index,
         None => false,
     }
@@ -85,15 +74,16 @@ pub fn entry_address(elf: &Elf) -> Option<u64>
 fn push_fields(
     out: &mut Vec<Field>,
     elf: &Elf,
-    end: u128,
+    executable: Option<(usize, Segment)>,
     index: usize,
     p: &Segment,
 ) -> Result<(), NoMemory>
-    requires { end ≡ executable_end elf.now.segments.items }
+    requires { executable ≡ executable_segment elf.now.segments.items }
     ensures { OnOk result (map range_of_field out.new.items ≡ map range_of_field out.old.items ++ hidden_in_segment elf.now (index, p.now)) }
 {
     let at = elf.phoff as u128 + PHDR_SIZE as u128 * index as u128;
-    push_if(out, is_executable_segment(elf, index), at + 32, 16)?;
+    let end = executable_end(executable);
+    push_if(out, is_executable_segment(executable, index), at + 32, 16)?;
     push_if(out, end <= p.offset as u128, at + 8, 8)?;
     push_if(out, p.kind == PT_GNU_EH_FRAME, at + 8, 40)?;
     Ok(())
@@ -104,7 +94,8 @@ pub fn hidden_fields(alloc: Global, elf: &Elf, tight: bool) -> Result<Vec<Field>
     requires { AreLow elf.now.segments.items }
     ensures { IfOk result (λ fields. map range_of_field fields.items ≡ hidden_fields elf.now tight) }
 {
-    let end = executable_end(&elf.segments);
+    let executable = executable_segment(&elf.segments);
+    let end = executable_end(executable);
     let mut out = Vec::new(alloc);
     push_if(&mut out, true, 0x28, 8)?;
     push_if(&mut out, true, 0x3c, 2)?;
@@ -112,7 +103,7 @@ pub fn hidden_fields(alloc: Global, elf: &Elf, tight: bool) -> Result<Vec<Field>
     push_if(&mut out, tight || end <= elf.phoff as u128, 0x20, 8)?;
     push_if(&mut out, tight, 0x38, 2)?;
     push_if(&mut out, entry_address(elf).is_none(), 0x18, 8)?;
-    push_all(&mut out, elf, end, &elf.segments)?;
+    push_all(&mut out, elf, executable, &elf.segments)?;
     Ok(out)
 }
 
@@ -120,14 +111,14 @@ pub fn hidden_fields(alloc: Global, elf: &Elf, tight: bool) -> Result<Vec<Field>
 fn push_all(
     out: &mut Vec<Field>,
     elf: &Elf,
-    end: u128,
+    executable: Option<(usize, Segment)>,
     segments: &[Segment],
 ) -> Result<(), NoMemory>
-    requires { end ≡ executable_end elf.now.segments.items }
+    requires { executable ≡ executable_segment elf.now.segments.items }
     ensures { OnOk result (map range_of_field out.new.items ≡ map range_of_field out.old.items ++ flat_map (hidden_in_segment elf.now) (enumerate_from 0 segments.now)) }
 {
     for index in 0..segments.len() {
-        push_fields(out, elf, end, index, &segments[index])?;
+        push_fields(out, elf, executable, index, &segments[index])?;
     }
     Ok(())
 }
@@ -154,19 +145,12 @@ fn offset_in(address: u64, p: &Segment) -> Option<u128>
     }
 }
 
-// Whether one of these fields has the byte at an offset.
-fn has_any(fields: &[Field], offset: u128) -> bool
-    ensures { result ≡ list_any (λ field. is_in_range offset (range_of_field field)) fields.now }
-{
-    fields.iter().any(|field| has(field, offset))
-}
-
 /// Whether the byte at an address is one of a hidden field of the headers.
-pub fn is_hidden_field(elf: &Elf, fields: &[Field], address: u64) -> bool
-    ensures { (tight : Bool) → map range_of_field fields.now ≡ hidden_fields elf.now tight → result ≡ is_hidden_field elf.now tight address }
+pub fn is_hidden_field(elf: &Elf, fields: &Fields, address: u64) -> bool
+    ensures { (tight : Bool) → map range_of_field fields.now.list.items ≡ hidden_fields elf.now tight → result ≡ is_hidden_field elf.now tight address }
 {
     match file_offset(elf, address) {
-        Some(offset) => has_any(fields, offset),
+        Some(offset) => fields.has(offset),
         None => false,
     }
 }

@@ -9,7 +9,6 @@ ghost use Rattle.rv_code.specs.layout.ProgramCode.{is_code_address};
 ghost use Rattle.sym_machine.specs.internal.FunctionOrder.{IsSearchable, IsInstAt, addr_at};
 
 use rv_code::{Func, Placed};
-use std::alloc::Global;
 
 /// Where an instruction stands: the place of its function in the list, and its own in the function's `insts`.
 #[derive(Clone, Copy, PartialEq, Eq, Debug)]
@@ -52,22 +51,17 @@ impl<'a> InstIndex<'a> {
         self.place(address).is_some()
     }
 
-    /// The instruction at a pc, looked up first where it ran last. There is none at an odd pc.
-    pub fn fetch(&self, recent: &mut RecentPlaces, pc: u64) -> Option<Placed>
+    /// The instruction at a pc. There is none at an odd pc.
+    pub fn fetch(&self, pc: u64) -> Option<Placed>
         ensures { result ≡ instruction self.now.funcs.now pc }
     {
         if pc % 2 != 0 {
             return None;
         }
-        let at = recent.place(pc);
-        if is_inst_at(self.funcs, at, pc) {
-            return Some(inst_at(self.funcs, at));
+        match self.place(pc) {
+            Some(at) => Some(inst_at(self.funcs, at)),
+            None => None,
         }
-        let Some(at) = self.place(pc) else {
-            return None;
-        };
-        recent.keep(pc, at);
-        Some(inst_at(self.funcs, at))
     }
 
     /// The address of the instruction after the one at an address, in its function.
@@ -79,69 +73,6 @@ impl<'a> InstIndex<'a> {
             None => None,
         }
     }
-}
-
-/// How many places are kept at hand.
-const RECENT: usize = 8192;
-
-/// Where instructions that ran last stand, by the lowest bits of their addresses. No place is trusted.
-#[derive(Drop)]
-pub struct RecentPlaces {
-    places: Vec<InstPlace>,
-}
-
-impl RecentPlaces {
-    /// No place is kept.
-    pub fn none(alloc: Global) -> RecentPlaces {
-        RecentPlaces {
-            places: Vec::new(alloc),
-        }
-    }
-
-    /// Room for the places of a run. Where memory runs out, none is kept.
-    pub fn new(alloc: Global) -> RecentPlaces {
-        let first = InstPlace { func: 0, index: 0 };
-        match Vec::from_elem(alloc, first, RECENT) {
-            Ok(places) => RecentPlaces { places },
-            Err(_) => RecentPlaces::none(alloc),
-        }
-    }
-
-    // A place at which the instruction at an address may stand.
-    fn place(&self, address: u64) -> InstPlace {
-        let slot = slot_of(address);
-        if slot < self.places.len() {
-            self.places[slot]
-        } else {
-            InstPlace { func: 0, index: 0 }
-        }
-    }
-
-    fn keep(&mut self, address: u64, at: InstPlace) {
-        let slot = slot_of(address);
-        if slot < self.places.len() {
-            self.places[slot] = at;
-        }
-    }
-}
-
-// Where the place of the instruction at an address is kept.
-fn slot_of(address: u64) -> usize {
-    (address / 2 % RECENT as u64) as usize
-}
-
-// Whether an instruction at an address stands at a place.
-fn is_inst_at(funcs: &[Func], at: InstPlace, address: u64) -> bool
-    ensures { IsTrue result → IsInstAt funcs.now at.func at.index address }
-{
-    if at.func >= funcs.len() {
-        return false;
-    }
-    let insts: &[Placed] = &funcs[at.func].insts;
-    if at.index >= insts.len() {
-        return false;
-    }
-    insts[at.index].addr == address
 }
 
 // The instruction at a place.

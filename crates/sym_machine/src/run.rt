@@ -1,7 +1,7 @@
 // Runs of many steps.
 ghost use Rattle.std.specs.Prelude.{◌≡◌, ◌≤◌, ℕ, List};
 
-use crate::inst_index::RecentPlaces;
+use crate::known::KnownInsts;
 use crate::machine::SymMachine;
 use crate::outcome::{SymRan, SymStepped};
 use rb_io::{Sink, Source};
@@ -22,11 +22,11 @@ impl<'a> SymMachine<'a> {
         ensures writes { (O.seen out.old).faults ≤ (O.seen out.new).faults }
         ensures funcs { funcs_of self.new ≡ funcs_of self.old }
     {
-        let mut recent = RecentPlaces::new(self.memory.bytes.allocator());
+        let mut known = KnownInsts::new(self.memory.bytes.allocator());
         let mut input_end = InputEnd::new();
         let mut steps = 0;
         while steps < limit {
-            match self.step_on(&mut recent, &mut input_end, input, out) {
+            match self.step_on(&mut known, &mut input_end, input, out) {
                 SymStepped::Going => steps += 1,
                 SymStepped::Ended(status) => {
                     return SymRan {

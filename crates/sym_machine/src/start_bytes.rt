@@ -8,7 +8,8 @@ ghost use Rattle.sym_machine.specs.HiddenFields.{hidden_fields, is_hidden_field,
 ghost use Rattle.sym_machine.specs.SymStart.{symbol_of, code_cell_byte, entry_byte, hidden_byte};
 ghost use Rattle.sym_machine.specs.internal.Fields.{range_of_field, AreLow};
 
-use crate::hidden::{Field, entry_address, hidden_fields, is_hidden_field};
+use crate::fields::Fields;
+use crate::hidden::{entry_address, hidden_fields, is_hidden_field};
 use crate::other_bytes::{OtherByte, OtherBytes};
 use crate::value::{Pointer, Symbol};
 use elf_image::segment::PT_LOAD;
@@ -83,10 +84,10 @@ impl OtherBytes {
     }
 
     // The hidden bytes that a segment loads.
-    fn hide_in_segment(&mut self, elf: &Elf, fields: &[Field], p: &Segment) -> Result<(), NoMemory>
+    fn hide_in_segment(&mut self, elf: &Elf, fields: &Fields, p: &Segment) -> Result<(), NoMemory>
         requires low { AreLow elf.now.segments.items }
         requires one { Contains elf.now.segments.items p.now }
-        ensures { OnOk result ((tight : Bool) → map range_of_field fields.now ≡ hidden_fields elf.now tight →
+        ensures { OnOk result ((tight : Bool) → map range_of_field fields.now.list.items ≡ hidden_fields elf.now tight →
             (q : ℕ) → special self.new q ≡ (if covers q p.now && is_hidden_field elf.now tight q then Some Hidden else special self.old q)) }
     {
         if p.kind != PT_LOAD {
@@ -99,8 +100,8 @@ impl OtherBytes {
     }
 
     // Hides the byte at an address, if it is one of a hidden field.
-    fn hide_at(&mut self, elf: &Elf, fields: &[Field], address: u64) -> Result<(), NoMemory>
-        ensures { OnOk result ((tight : Bool) → map range_of_field fields.now ≡ hidden_fields elf.now tight →
+    fn hide_at(&mut self, elf: &Elf, fields: &Fields, address: u64) -> Result<(), NoMemory>
+        ensures { OnOk result ((tight : Bool) → map range_of_field fields.now.list.items ≡ hidden_fields elf.now tight →
             (q : ℕ) → special self.new q ≡ (if q == address && is_hidden_field elf.now tight q then Some Hidden else special self.old q)) }
     {
         if is_hidden_field(elf, fields, address) {
@@ -113,19 +114,20 @@ impl OtherBytes {
         requires low { AreLow elf.now.segments.items }
         ensures { OnOk result ((q : ℕ) → special self.new q ≡ (if is_hidden_field elf.now tight q then Some Hidden else special self.old q)) }
     {
-        let fields = hidden_fields(alloc, elf, tight)?;
+        let list = hidden_fields(alloc, elf, tight)?;
+        let fields = Fields::new(alloc, list, elf.file.len())?;
         self.hide_in_segments(elf, &fields, &elf.segments)
     }
 
     fn hide_in_segments(
         &mut self,
         elf: &Elf,
-        fields: &[Field],
+        fields: &Fields,
         segments: &[Segment],
     ) -> Result<(), NoMemory>
         requires low { AreLow elf.now.segments.items }
         requires all { segments.now ≡ elf.now.segments.items }
-        ensures { OnOk result ((tight : Bool) → map range_of_field fields.now ≡ hidden_fields elf.now tight →
+        ensures { OnOk result ((tight : Bool) → map range_of_field fields.now.list.items ≡ hidden_fields elf.now tight →
             (q : ℕ) → special self.new q ≡ (if list_any (covers q) segments.now && is_hidden_field elf.now tight q then Some Hidden else special self.old q)) }
     {
         for index in 0..segments.len() {

@@ -1,7 +1,7 @@
 // One step.
 ghost use Rattle.std.specs.Prelude.{◌≡◌, ◌≤◌, ℕ, List, Bool, false};
 
-use crate::inst_index::RecentPlaces;
+use crate::known::KnownInsts;
 use crate::machine::SymMachine;
 use crate::outcome::{Reason, SymStepped};
 use rb_io::{Sink, Source};
@@ -15,6 +15,7 @@ impl<'a> SymMachine<'a> {
     ghost use Rattle.run_core.specs.Inputs.{Outside};
     ghost use Rattle.sym_machine.specs.SymStep.{SymSteps, effect};
     ghost use Rattle.sym_machine.specs.State.{state_of, funcs_of, Becomes, StepAnswers};
+    ghost use Rattle.sym_machine.specs.internal.KnownInsts.{AreKnown};
 
     /// Does the instruction at the pc. Input comes from `input`, and output goes to `out`.
     ///
@@ -27,19 +28,21 @@ impl<'a> SymMachine<'a> {
         ensures writes { (O.seen out.old).faults ≤ (O.seen out.new).faults }
         ensures funcs { funcs_of self.new ≡ funcs_of self.old }
     {
-        let mut recent = RecentPlaces::none(self.memory.bytes.allocator());
+        let mut known = KnownInsts::none(self.memory.bytes.allocator());
         let mut input_end = InputEnd::new();
-        self.step_on(&mut recent, &mut input_end, input, out)
+        self.step_on(&mut known, &mut input_end, input, out)
     }
 
-    // The same, with the places of instructions that ran, where the input may have been found at its end.
+    // The same, with what was looked up before, where the input may have been found at its end.
     pub(crate) fn step_on<I: Source, O: Sink>(
         &mut self,
-        recent: &mut RecentPlaces,
+        known: &mut KnownInsts,
         input_end: &mut InputEnd,
         input: &mut I,
         out: &mut O,
     ) -> SymStepped
+        requires { AreKnown (funcs_of self.old) known.old }
+        ensures known { AreKnown (funcs_of self.new) known.new }
         ensures answer { StepAnswers (SymSteps (funcs_of self.old)) result self.old self.new input_end.old.reached input_end.new.reached
             (record { input = I.seen input.old; output = O.seen out.old })
             (record { input = I.seen input.new; output = O.seen out.new }) }
@@ -47,15 +50,14 @@ impl<'a> SymMachine<'a> {
         ensures writes { (O.seen out.old).faults ≤ (O.seen out.new).faults }
         ensures funcs { funcs_of self.new ≡ funcs_of self.old }
     {
-        let Some(inst) = self.code.fetch(recent, self.pc) else {
+        let Some(inst) = known.find(&self.code, self.pc) else {
             return self.stuck(Reason::FellOff);
         };
-        let next = self.pc.wrapping_add(inst.len as u64);
-        let action = inst.inst.action();
-        if action == Action::SystemCall {
+        let next = self.pc.wrapping_add(inst.length as u64);
+        if inst.action == Action::SystemCall {
             self.system_call(next, input_end, input, out)
         } else {
-            self.execute(inst.role, action, next)
+            self.execute(inst.role, inst.action, next)
         }
     }
 

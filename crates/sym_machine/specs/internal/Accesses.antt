@@ -3,7 +3,7 @@ use Rattle.std.specs.Prelude.{ℕ, List, Option, map}
 use Rattle.rv_code.specs.declared.action.Action.{Action}
 use Rattle.rv_code.specs.declared.action.Action.TheVariants.{Store, SystemCall}
 use Rattle.rv_code.specs.declared.action.Extension.{Extension}
-use Rattle.rv_code.specs.machine.Machine.{plus, low_bytes}
+use Rattle.rv_code.specs.machine.Machine.{low_bytes}
 use Rattle.sym_machine.specs.declared.accesses.Stored.{Stored}
 use Rattle.sym_machine.specs.declared.accesses.Stored.TheVariants as store
 use Rattle.sym_machine.specs.declared.memory.SymbolBytes.{SymbolBytes}

@@ -1,5 +1,5 @@
 -- The rules by the cases in which the code has them.
-use Rattle.std.specs.Prelude.{ℕ, ◌&&◌, Bool, Option, Some, None, is_some, List, option_and_then}
+use Rattle.std.specs.Prelude.{ℕ, ◌&&◌, Bool, Option, Some, None, is_some, option_and_then}
 use Rattle.sym_machine.specs.declared.value.Pointer.{Pointer}
 use Rattle.sym_machine.specs.declared.value.Comparing.{Comparing}
 use Rattle.sym_machine.specs.declared.value.Symbol.TheVariants.{Points}

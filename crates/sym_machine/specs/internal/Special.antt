@@ -1,5 +1,5 @@
 -- The bytes at the start that are no numbers.
-use Rattle.std.specs.Prelude.{ℕ, ◌-◌, ◌+◌, ◌&&◌, nat_le, nat_lt, min, if◌then◌else◌, Bool, List, Option, Some, option_map}
+use Rattle.std.specs.Prelude.{ℕ, ◌-◌, ◌+◌, ◌&&◌, nat_le, nat_lt, min, if◌then◌else◌, Bool, Option, Some, option_map}
 use Rattle.elf_image.specs.declared.segment.Segment.{Segment}
 use Rattle.elf_image.specs.memory.Image.{is_load}
 use Rattle.elf_image.specs.memory.LoadedBytes.{Range, is_in_range}

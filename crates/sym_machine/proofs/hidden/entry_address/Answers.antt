@@ -1,7 +1,4 @@
-use Rattle.std.proofs.Common.{◌≡◌, ◌∙◌, sym, ap, Some, arith}
-use Rattle.std.specs.Prelude.{find}
-use Rattle.elf_image.specs.memory.LoadedBytes.{loads_range}
-use Rattle.sym_machine.specs.HiddenFields.{e_entry_field}
+use Rattle.std.proofs.Common.{sym, arith}
 use Rattle.sym_machine.proofs.StartFields.{entry_lies}
 use Rattle.sym_machine.proofs.hidden.entry_address.Goals as goal
 

@@ -11,7 +11,7 @@ pub returns-in-Some : goal.returns-in-Some
 returns-in-Some c = λ tight fields.
     let elf = c.args.elf.now in
     let at : file_offset elf.segments.items c.args.address ≡ Some c.in-Some.offset = sym c.file_offset.ensures ∙ c.in-Some.is in
-    c.has_any.ensures
-    ∙ sym (list_any-map (is_in_range c.in-Some.offset) range_of_field c.args.fields.now)
+    c.has.ensures
+    ∙ sym (list_any-map (is_in_range c.in-Some.offset) range_of_field c.args.fields.now.list.items)
     ∙ ap (list_any (is_in_range c.in-Some.offset)) fields
     ∙ sym (ap (λ o. option_map_or (λ offset. list_any (is_in_range offset) (hidden_fields elf tight)) o false) at)

@@ -1,6 +1,4 @@
-use Rattle.std.proofs.Common.{◌≡◌, ◌∙◌, ◌+◌, sym, ap, suc, ℕ, arith}
-use Rattle.std.specs.Prelude.{List}
-use Rattle.rv_code.specs.declared.placed.Func.{Func}
+use Rattle.std.proofs.Common.{◌≡◌, ◌∙◌, ◌+◌, sym, ap, suc, arith}
 use Rattle.sym_machine.specs.internal.FunctionOrder.{addr_at}
 use Rattle.sym_machine.proofs.Functions.{next_of-found, next_of-none, nowhere, insts_at, first_of_some}
 use Rattle.sym_machine.proofs.inst_index.InstIndex.next_of.Goals as goal

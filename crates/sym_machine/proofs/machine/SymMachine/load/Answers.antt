@@ -14,7 +14,7 @@ use Rattle.rv_memory.proofs.StackMemory.{put_stack}
 use Rattle.run_core.proofs.SameStates.{same_state}
 use Rattle.sym_machine.specs.declared.value.Value.TheVariants.{Num}
 use Rattle.sym_machine.specs.declared.value.MemoryByte.TheVariants.{Byte}
-use Rattle.sym_machine.specs.SymStart.{sym_start, sym_memory}
+use Rattle.sym_machine.specs.SymStart.{sym_start}
 use Rattle.sym_machine.specs.internal.Fields.{AreLow}
 use Rattle.sym_machine.specs.internal.OtherBytes.{other_byte}
 use Rattle.sym_machine.specs.internal.Special.{special}

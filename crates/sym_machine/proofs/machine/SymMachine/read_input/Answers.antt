@@ -1,7 +1,7 @@
-use Rattle.std.proofs.Common.{◌≡◌, ◌∙◌, ◌<◌, ◌≤◌, sym, ap, refl, arith, Some, true, false, length, take, drop, [], ◌++◌}
+use Rattle.std.proofs.Common.{◌≡◌, ◌∙◌, ◌<◌, ◌≤◌, sym, ap, refl, arith, Some, true, length, take, drop, ◌++◌}
 use Rattle.std.specs.Prelude.{min, map}
 use Rattle.std.specs.Io.KnownBytes.{prepend_known}
-use Rattle.rv_code.specs.machine.Machine.{Going, all_may, may_write, put, set_register, most_moved}
+use Rattle.rv_code.specs.machine.Machine.{Going, all_may, may_write, set_register, most_moved}
 use Rattle.rv_code.specs.machine.Step.{a0}
 use Rattle.rv_memory.specs.Memory.{writes}
 use Rattle.rv_memory.proofs.CodeKept.{all_may_front, writable-keeps}

@@ -7,7 +7,7 @@ use Rattle.run_core.proofs.Walking.{no_step, step_more, ends_run, halts_run, fai
 use Rattle.sym_machine.specs.declared.machine.SymMachine.{SymMachine}
 use Rattle.sym_machine.specs.declared.outcome.SymStepped.{SymStepped}
 use Rattle.sym_machine.specs.declared.outcome.SymStepped.TheVariants as stepped
-use Rattle.sym_machine.specs.SymStep.{SymState, SymSteps}
+use Rattle.sym_machine.specs.SymStep.{SymSteps}
 use Rattle.sym_machine.specs.State.{state_of, funcs_of, StepAnswers}
 use Rattle.sym_machine.proofs.machine.SymMachine.run.Goals as goal
 
@@ -24,6 +24,7 @@ pub loop-steps-init : goal.loop-steps-init
 loop-steps-init g c = record {
   within = omega arith;
   funcs = λ i. funcs_of c.args.self.now;
+  known = c.new-known.ensures (funcs_of c.args.self.now);
   reads = omega arith;
   writes = omega arith;
   walk = no_step state_of (SymSteps (funcs_of c.args.self.now)) c.args.self.now _ c.new-input_end.result.reached c.new-input_end.ensures;
@@ -33,6 +34,7 @@ pub loop-steps-preserved : goal.loop-steps-preserved
 loop-steps-preserved g c = record {
   within = omega (arith, c.loop-steps-test.true);
   funcs = c.step_on.ensures.funcs ∙ c.loop-steps.invariant.funcs;
+  known = c.step_on.ensures.known;
   reads = omega (arith, c.loop-steps.invariant.reads, c.step_on.ensures.reads);
   writes = omega (arith, c.loop-steps.invariant.writes, c.step_on.ensures.writes);
   walk = step_more state_of (SymSteps (funcs_of c.args.self.now)) c.args.self.now _ c.loop-steps.self c.loop-steps.input_end.reached c.loop-steps.steps _ c.loop-steps.invariant.walk (one_outcome (funcs_of c.args.self.now) c.loop-steps.self)

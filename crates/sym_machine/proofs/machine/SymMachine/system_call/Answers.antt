@@ -1,4 +1,4 @@
-use Rattle.std.proofs.Common.{◌≡◌, ◌∙◌, sym, ap, Some}
+use Rattle.std.proofs.Common.{◌≡◌, ◌∙◌, sym, Some}
 use Rattle.rv_code.specs.machine.Machine.{call_of, Read, Write, Exit, Brk, Unknown}
 use Rattle.rv_code.specs.machine.Step.{a7}
 use Rattle.run_core.proofs.Quiet.{quiet_answers, answers_by}

@@ -1,4 +1,4 @@
-use Rattle.std.proofs.Common.{◌≡◌, ◌∙◌, sym, ap, refl, ℕ, None}
+use Rattle.std.proofs.Common.{◌∙◌, ap, None}
 use Rattle.std.specs.Prelude.{◌&&◌, nat_le, nat_lt, if◌then◌else◌}
 use Rattle.rv_memory.specs.Memory.{memory_of, may_stand}
 use Rattle.sym_machine.specs.internal.OtherBytes.{other_byte}

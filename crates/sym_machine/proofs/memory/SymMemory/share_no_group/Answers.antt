@@ -1,4 +1,4 @@
-use Rattle.std.proofs.Common.{◌≡◌, ◌∙◌, ◌/◌, ap, arith, false, rules}
+use Rattle.std.proofs.Common.{◌≡◌, ap, arith, false, rules}
 use Rattle.std.specs.Prelude.{is_none}
 use Rattle.rv_memory.proofs.AddressRuns.{all_may-run}
 use Rattle.sym_machine.specs.internal.OtherBytes.{has_group}

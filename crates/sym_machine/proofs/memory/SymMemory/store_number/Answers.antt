@@ -1,4 +1,4 @@
-use Rattle.std.proofs.Common.{◌≡◌, ◌∙◌, sym, ap, refl, None, length}
+use Rattle.std.proofs.Common.{◌∙◌, sym, ap, refl, None, length}
 use Rattle.std.specs.Prelude.{replicate}
 use Rattle.rv_code.specs.machine.Machine.{put, low_bytes}
 use Rattle.rv_memory.specs.Memory.{memory_of}

@@ -1,4 +1,4 @@
-use Rattle.std.proofs.Common.{◌≡◌, ◌∙◌, sym, ap, refl, ℕ}
+use Rattle.std.proofs.Common.{◌∙◌, ap}
 use Rattle.rv_code.specs.machine.Machine.{put}
 use Rattle.rv_memory.specs.Memory.{memory_of}
 use Rattle.sym_machine.specs.internal.OtherBytes.{other_byte}

@@ -1,5 +1,4 @@
-use Rattle.std.proofs.Common.{◌≡◌, ◌∙◌, ◌-◌, sym, ap, arith, None, Some, false, true}
-use Rattle.rv_code.specs.machine.Machine.{plus, memory_bytes}
+use Rattle.std.proofs.Common.{◌≡◌, ◌∙◌, sym, ap, arith, None, Some, false, true}
 use Rattle.sym_machine.specs.internal.Memory.{cell_at, symbol_in, symbol_byte}
 use Rattle.sym_machine.proofs.MemoryCells.{cells_none, symbol_none, symbol_some}
 use Rattle.sym_machine.proofs.memory.SymMemory.symbol.Goals as goal

@@ -1,8 +1,7 @@
-use Rattle.std.proofs.Common.{◌≡◌, ◌∙◌, ◌++◌, ◌∷◌, [], List, ℕ, zero, suc, ◌*◌, ◌+◌, ◌%◌, Option, Some, None, sym, ap, refl, rules, length, get_or, arith}
-use Rattle.std.specs.Prelude.{IsOk, ◌==◌, if◌then◌else◌, slice_set}
+use Rattle.std.proofs.Common.{◌≡◌, ◌∙◌, ◌++◌, ◌∷◌, [], List, ℕ, zero, suc, ◌*◌, ◌+◌, ◌%◌, Option, Some, None, sym, ap, refl, rules, length, get_or}
+use Rattle.std.specs.Prelude.{IsOk, ◌==◌, if◌then◌else◌}
 use Rattle.std.proofs.lemmas.List.{length-set}
 use Rattle.rv_memory.specs.PageIndex.{place_of}
-use Rattle.rv_memory.proofs.PageBytes.{on_err}
 use Rattle.sym_machine.specs.declared.other_bytes.OtherByte.{OtherByte}
 use Rattle.sym_machine.proofs.Groups.{byte_in-same, byte_in-added, indexed_more, held_more, numbered_more, sized_more, marked_more}
 use Rattle.sym_machine.proofs.other_bytes.OtherBytes.add.Goals as goal

@@ -1,6 +1,6 @@
 use Rattle.std.proofs.Common.{◌≡◌, ◌∙◌, ◌*◌, ◌+◌, ◌/◌, ◌%◌, sym, ap, Some, None, get_or}
 use Rattle.rv_memory.specs.PageIndex.{place_of}
-use Rattle.sym_machine.proofs.Groups.{other_byte-some, other_byte-none, in_groups}
+use Rattle.sym_machine.proofs.Groups.{other_byte-some, other_byte-none}
 use Rattle.sym_machine.proofs.other_bytes.OtherBytes.byte.Goals as goal
 
 pub returns-in-Some : goal.returns-in-Some

@@ -1,4 +1,4 @@
-use Rattle.std.proofs.Common.{◌≡◌, ◌∙◌, ◌+◌, sym, ap, arith, ℕ, Some, Bool, true, false, refl, Option}
+use Rattle.std.proofs.Common.{◌≡◌, ◌∙◌, ◌+◌, ap, arith, ℕ, Some, Bool, true, false, refl, Option}
 use Rattle.std.specs.Prelude.{◌&&◌, ◌==◌, nat_le, nat_lt, if◌then◌else◌, option_map}
 use Rattle.sym_machine.specs.declared.other_bytes.OtherByte.{OtherByte}
 use Rattle.sym_machine.specs.declared.other_bytes.OtherByte.TheVariants as other

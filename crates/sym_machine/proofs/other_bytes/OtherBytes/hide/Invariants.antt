@@ -1,4 +1,4 @@
-use Rattle.std.proofs.Common.{◌≡◌, ◌+◌, ◌-◌, ℕ, Some}
+use Rattle.std.proofs.Common.{◌≡◌, ◌+◌, ℕ, Some}
 use Rattle.std.specs.Prelude.{◌&&◌, nat_le, nat_lt, if◌then◌else◌}
 use Rattle.sym_machine.specs.declared.value.MemoryByte.TheVariants.{Hidden}
 use Rattle.sym_machine.specs.internal.Special.{special}

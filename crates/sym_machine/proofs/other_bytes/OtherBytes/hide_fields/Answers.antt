@@ -1,4 +1,4 @@
-use Rattle.std.proofs.Common.{◌≡◌, ◌∙◌, sym, ap, Some, ℕ, List, map}
+use Rattle.std.proofs.Common.{◌∙◌, ap, Some, List, map}
 use Rattle.std.specs.Prelude.{Result, Ok, Err, OnOk, if◌then◌else◌, ◌&&◌}
 use Rattle.std.specs.List.{list_any}
 use Rattle.elf_image.specs.declared.segment.Segment.{Segment}
@@ -18,7 +18,7 @@ returns c =
     on_ok c.hide_in_segments.result
     (λ all q.
     let old = special c.args.self.now q in
-    all c.args.tight (ap (map range_of_field) c.deref.ensures.value ∙ c.in_ok-fields.ensures) q
-    ∙ ap (λ (segments : List Segment). if list_any (covers q) segments && is_hidden_field c.args.elf.now c.args.tight q then Some Hidden else old) c.deref-2.ensures.value
+    all c.args.tight (ap (map range_of_field) c.in_ok-fields.ensures ∙ c.in_ok-list.ensures) q
+    ∙ ap (λ (segments : List Segment). if list_any (covers q) segments && is_hidden_field c.args.elf.now c.args.tight q then Some Hidden else old) c.deref.ensures.value
     ∙ hidden_everywhere c.args.elf.now c.args.tight q (Some Hidden) old)
     c.hide_in_segments.ensures

@@ -1,4 +1,4 @@
-use Rattle.std.proofs.Common.{◌≡◌, ◌∙◌, ◌<◌, ◌%◌, sym, ap, arith, Option, Some, None, refl, ℕ, get_or, rules}
+use Rattle.std.proofs.Common.{◌≡◌, ◌%◌, ap, arith, Option, Some, None, refl, ℕ, get_or, rules}
 use Rattle.rv_memory.specs.PageIndex.{place_of}
 use Rattle.sym_machine.specs.declared.other_bytes.OtherBytes.{OtherBytes}
 use Rattle.sym_machine.proofs.other_bytes.OtherBytes.place.Goals as goal
