@@ -13,7 +13,7 @@ use Rattle.block_layout.specs.Parts.{greatest}
 use Rattle.block_layout.specs.Walks.{AreBetween, IsHotBetween, AreHotBetween, IsUpTo, heads}
 use Rattle.block_layout.specs.declared.hot_chains.HotChain.{HotChain}
 use Rattle.block_layout.proofs.Paths.{IsWithin, as_path, inside_path}
-use Rattle.block_layout.proofs.Sorting.{AllPairs-permutation}
+use Rattle.addr_map.proofs.Orders.{AllPairs-permutation}
 
 module _ {p : Links} {h : ℕ} {xs ys : List ℕ} (one : IsChain p h xs) (other : IsChain p h ys) where
   same_at : (k : ℕ) → k < length xs → k < length ys → get_or xs k 0 ≡ get_or ys k 0

@@ -14,7 +14,7 @@ use Rattle.rv_code.specs.declared.placed.Block.{Block}
 use Rattle.block_layout.specs.EdgeCounts.{address_in, edge_count}
 use Rattle.block_layout.specs.EdgeLists.{AreCounted, HaveOtherEnds}
 use Rattle.block_layout.specs.declared.edge_counts.Edge.{Edge}
-use Rattle.block_layout.proofs.Sorting.{AllPairs-permutation}
+use Rattle.addr_map.proofs.Orders.{AllPairs-permutation}
 
 abbrev pub ends : Edge → ℕ × ℕ
 ends e = (e.from, e.to)

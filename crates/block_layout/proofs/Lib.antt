@@ -12,4 +12,6 @@ pub mod Splitting
 pub mod Starting
 pub mod Steps
 pub mod Taking
+pub mod UniqueLinks
+pub mod UniqueParts
 pub mod Whole

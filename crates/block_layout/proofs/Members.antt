@@ -8,7 +8,7 @@ use Rattle.std.proofs.lemmas.List.Elements.{Contains-append_cases}
 use Rattle.std.proofs.lemmas.List.FromFn.{get_or-range_with_len, length-range_with_len}
 use Rattle.std.proofs.lemmas.List.Kept.{AllPairs-cons, AllPairs-filter}
 use Rattle.std.proofs.lemmas.List.Sorted.{IsPermutation-refl, IsPermutation-cons, IsPermutation-trans, IsPermutation-sym, IsPermutation-remove, Contains-permutation}
-use Rattle.block_layout.proofs.Sorting.{AllPairs-permutation}
+use Rattle.addr_map.proofs.Orders.{AllPairs-permutation}
 
 abbrev pub Distinct : List ℕ → Type 0
 Distinct xs = AllPairs (λ a b. a ≢ b) xs

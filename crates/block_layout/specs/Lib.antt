@@ -1,6 +1,7 @@
 pub mod EdgeCounts
 pub mod EdgeLists
 pub mod FunctionParts
+pub mod Laws
 pub mod Linking
 pub mod Links
 pub mod Parts
