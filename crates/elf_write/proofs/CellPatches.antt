@@ -1,5 +1,5 @@
 -- A number that is put where a code cell went leaves all bytes that aren't the cell's.
-use Rattle.std.proofs.Common.{◌≡◌, ◌∙◌, sym, ap, subst, refl, ℕ, ◌+◌, ◌-◌, ◌≤◌, ◌<◌, ◌⊎◌, inl, inr, List, length, IsTrue, arith}
+use Rattle.std.proofs.Common.{◌≡◌, sym, subst, ℕ, ◌+◌, ◌-◌, ◌≤◌, ◌<◌, ◌⊎◌, inl, inr, length, IsTrue, arith}
 use Rattle.std.proofs.lemmas.Bool.{cases_lt}
 use Rattle.byteorder.specs.Endian.{little_bytes}
 use Rattle.byteorder.specs.Numbers.{length-bytes_low_first}
@@ -7,7 +7,7 @@ use Rattle.elf_image.specs.declared.segment.Segment.{Segment}
 use Rattle.elf_image.specs.memory.Image.{is_load}
 use Rattle.elf_image.specs.faults.SegmentLayout.{IsFileByte}
 use Rattle.elf_write.specs.Area.{moved_by}
-use Rattle.elf_parts.specs.Patches.{IsBeside, Leaves}
+use Rattle.elf_parts.specs.Patches.{Leaves}
 use Rattle.elf_write.proofs.Loads.{moved-behind, moved-before}
 
 -- what lies lower goes lower

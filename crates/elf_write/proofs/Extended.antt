@@ -1,9 +1,9 @@
 -- Sets of which no two share a number, extended by a fresh one.
-use Rattle.std.proofs.Common.{◌≡◌, ◌∙◌, sym, ap, subst, refl, ℕ, ◌+◌, ◌-◌, ◌≤◌, ◌<◌, ◌⊎◌, inl, inr, List, Bool, true, false, arith}
-use Rattle.std.specs.Prelude.{◌==◌, nat_lt, if◌then◌else◌}
-use Rattle.std.proofs.lemmas.Bool.{lt-ltb, le-ltb, ltb-true, ltb-false, eqb-true, eqb-false}
+use Rattle.std.proofs.Common.{◌≡◌, ◌∙◌, sym, refl, ℕ, ◌≤◌, ◌<◌, ◌⊎◌, inl, inr, List, Bool, true, false, arith}
+use Rattle.std.specs.Prelude.{◌==◌, nat_lt}
+use Rattle.std.proofs.lemmas.Bool.{eqb-true, eqb-false}
 use Rattle.std.proofs.lemmas.Grind.{common_steps}
-use Rattle.elf_image.specs.file.Header.{e_phnum, segment, segment_place, segments_of}
+use Rattle.elf_image.specs.file.Header.{e_phnum, segment_place, segments_of}
 use Rattle.elf_image.specs.memory.Image.{LoadOnce}
 use Rattle.elf_image.specs.faults.SegmentLayout.{SharesAddress}
 use Rattle.elf_image.specs.faults.LowestPlace.{SomeBelow}

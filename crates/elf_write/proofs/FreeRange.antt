@@ -1,13 +1,13 @@
 -- The area behind the executable segment meets no other segment, where it ends at or below the limit.
-use Rattle.std.proofs.Common.{◌≡◌, ◌∙◌, sym, ap, subst, refl, ℕ, zero, suc, ◌+◌, ◌-◌, ◌*◌, ◌/◌, ◌≤◌, ◌<◌, ◌⊎◌, inl, inr, List, [], ◌∷◌, Bool, true, false, IsTrue, length, get_or, min, arith}
-use Rattle.std.specs.Prelude.{Contains, map, filter, fold, ◌&&◌, ◌==◌, nat_le}
+use Rattle.std.proofs.Common.{◌≡◌, sym, subst, refl, ℕ, zero, suc, ◌-◌, ◌≤◌, ◌<◌, ◌⊎◌, inl, inr, List, [], ◌∷◌, Bool, true, false, IsTrue, length, get_or, min, arith}
+use Rattle.std.specs.Prelude.{fold, ◌&&◌, nat_le}
 use Rattle.std.proofs.lemmas.Bool.{and_from, le-leb, cases_lt}
 use Rattle.elf_image.specs.declared.segment.Segment.{Segment}
 use Rattle.elf_image.specs.file.Header.{e_phnum, segment, segments_of}
 use Rattle.elf_image.specs.memory.Image.{is_load, end_of, loads_address}
 use Rattle.elf_image.specs.faults.SegmentLayout.{address_end}
 use Rattle.elf_image.specs.memory.Start.{page_size, rounded_down}
-use Rattle.elf_image.proofs.LoadLemmas.{loads-parts, loads-from_parts, Contains-cons_cases}
+use Rattle.elf_image.proofs.LoadLemmas.{loads-parts, loads-from_parts}
 use Rattle.elf_image.proofs.ReadLists.{length-segments_of, get_or-segments}
 use Rattle.elf_write.specs.Extended.{Loads, ShareNone}
 use Rattle.elf_write.specs.NewSegments.{IsFreeRange}
@@ -19,7 +19,7 @@ fold-min-le [] a = omega arith
 fold-min-le (x ∷ xs) a = let rest : fold min (min a x) xs ≤ min a x = fold-min-le xs (min a x) in omega arith
 
 -- the limit is at or below each segment at or above an address
-limit-below : (end : ℕ) (ps : List Segment) (top k : ℕ) (d : Segment) → k < length ps → IsTrue (is_load (get_or ps k d)) → end ≤ (get_or ps k d).vaddr → fold min top (pages_from end ps) ≤ (get_or ps k d).vaddr
+pub limit-below : (end : ℕ) (ps : List Segment) (top k : ℕ) (d : Segment) → k < length ps → IsTrue (is_load (get_or ps k d)) → end ≤ (get_or ps k d).vaddr → fold min top (pages_from end ps) ≤ (get_or ps k d).vaddr
 limit-below end [] top k d below load above = absurd (omega arith)
 limit-below end (p ∷ ps) top zero d below load above =
     let passes : (is_load p && nat_le end p.vaddr) ≡ true = and_from (is_load p) (nat_le end p.vaddr) load (le-leb end p.vaddr above) in

@@ -1,9 +1,9 @@
 -- Bytes of a file's headers that its rewriting may change.
-use Rattle.std.proofs.Common.{◌≡◌, ◌∙◌, sym, ap, subst, refl, ℕ, zero, suc, ◌+◌, ◌-◌, ◌*◌, ◌≤◌, ◌<◌, ◌⊎◌, inl, inr, List, [], ◌∷◌, ◌++◌, Option, Some, None, Bool, true, false, IsTrue, length, get_or, arith, min}
-use Rattle.std.specs.Prelude.{Contains, find, flat_map, is_none, ◌||◌, ◌&&◌, ◌==◌, nat_le, nat_lt, if◌then◌else◌, option_map, option_and_then, IsFalse}
+use Rattle.std.proofs.Common.{◌≡◌, ◌∙◌, sym, ap, subst, refl, ℕ, ◌+◌, ◌-◌, ◌*◌, ◌≤◌, ◌<◌, ◌⊎◌, inl, inr, List, [], ◌∷◌, ◌++◌, Option, Some, None, Bool, true, false, IsTrue, length, get_or, arith, min}
+use Rattle.std.specs.Prelude.{Contains, find, flat_map, is_none, ◌||◌, ◌&&◌, nat_le, nat_lt, option_map, option_and_then}
 use Rattle.std.specs.List.{list_any, enumerate_from}
 use Rattle.std.specs.Option.{option_map_or}
-use Rattle.std.proofs.lemmas.Bool.{lt-ltb, le-leb, leb-true, and_from, eq-eqb, cases_lt}
+use Rattle.std.proofs.lemmas.Bool.{lt-ltb, le-leb, leb-true, and_from, eq-eqb}
 use Rattle.std.proofs.lemmas.List.{get_or_default}
 use Rattle.std.proofs.lemmas.List.Folds.{list_any-append, list_any_at}
 use Rattle.std.proofs.lemmas.List.FromFn.{length-enumerate_from, get_or-enumerate_from}
@@ -11,8 +11,8 @@ use Rattle.elf_image.specs.declared.elf.Elf.{Elf}
 use Rattle.elf_image.specs.declared.segment.Segment.{Segment}
 use Rattle.elf_image.specs.declared.segment.TheConstants.{PHDR_SIZE, PT_GNU_EH_FRAME}
 use Rattle.elf_image.specs.faults.SegmentLayout.{IsFileByte}
-use Rattle.elf_image.specs.memory.CodeSegment.{executable_segment, executable_end}
-use Rattle.elf_image.specs.memory.Image.{is_load, end_of, loads_address, segment_of, LoadOnce}
+use Rattle.elf_image.specs.memory.CodeSegment.{executable_end}
+use Rattle.elf_image.specs.memory.Image.{is_load, loads_address, segment_of, LoadOnce}
 use Rattle.elf_image.specs.memory.LoadedBytes.{Range, is_in_range, address_of, address_in, loads_range, file_offset, offset_in}
 use Rattle.elf_image.proofs.LoadLemmas.{find-found, loads-from_parts, Contains-cons_cases}
 use Rattle.sym_machine.specs.HiddenFields.{e_entry_field, e_phoff_field, e_phnum_field, section_fields, p_offset_field, size_fields, place_fields, only, is_executable_segment, hidden_in_segment, hidden_fields, is_hidden_field}

@@ -1,13 +1,12 @@
 -- The memory of a written file: what the input's segments loaded is loaded from where their bytes went, and what stands in
 -- a segment's bytes stands in memory.
 use Rattle.std.proofs.Common.{◌≡◌, ◌∙◌, sym, ap, subst, refl, ℕ, ◌+◌, ◌-◌, ◌≤◌, ◌<◌, ◌⊎◌, inl, inr, List, Option, Some, None, Bool, true, false, IsTrue, length, get_or, arith}
-use Rattle.std.specs.Prelude.{Contains, find, nat_lt, if◌then◌else◌, IsSome, IsFalse, slice_index, option_map}
+use Rattle.std.specs.Prelude.{Contains, nat_lt, IsSome, IsFalse, option_map}
 use Rattle.std.specs.Option.{option_map_or}
 use Rattle.std.proofs.lemmas.Bool.{lt-ltb, le-ltb, ltb-true, ltb-false}
-use Rattle.std.proofs.lemmas.Option.{same_Some}
 use Rattle.elf_image.specs.declared.segment.Segment.{Segment}
 use Rattle.elf_image.specs.file.Header.{is_set}
-use Rattle.elf_image.specs.memory.Image.{image_byte, byte_of, is_load, is_loaded_with, has_flag, loads_address, segment_of, end_of, LoadOnce}
+use Rattle.elf_image.specs.memory.Image.{image_byte, byte_of, is_load, has_flag, loads_address, segment_of, end_of, LoadOnce}
 use Rattle.elf_image.proofs.LoadLemmas.{find-found, find-only, loads-parts, loads-from_parts}
 use Rattle.elf_write.specs.Carried.{CarriesSegment, CarriesSegments, CarriesByte, CarriesImage, HoldsBytes}
 use Rattle.elf_parts.specs.Patches.{Stands}
@@ -17,7 +16,7 @@ pub segment_of-once : (qs : List Segment) (a : ℕ) (q : Segment) → LoadOnce q
 segment_of-once qs a q once there loads = find-only (loads_address a) qs q there loads (λ y in_list also. once a y q in_list there also loads)
 
 -- the bytes of a segment, by their places in it
-byte_of-from_file : (file : List ℕ) (a : ℕ) (p : Segment) → a - p.vaddr < p.filesz → byte_of file a p ≡ get_or file (p.offset + (a - p.vaddr)) 0
+pub byte_of-from_file : (file : List ℕ) (a : ℕ) (p : Segment) → a - p.vaddr < p.filesz → byte_of file a p ≡ get_or file (p.offset + (a - p.vaddr)) 0
 byte_of-from_file file a p inside = rw (lt-ltb (a - p.vaddr) p.filesz inside) refl
 
 byte_of-zero : (file : List ℕ) (a : ℕ) (p : Segment) → p.filesz ≤ a - p.vaddr → byte_of file a p ≡ 0

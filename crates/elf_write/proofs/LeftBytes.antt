@@ -1,9 +1,9 @@
 -- What is put over a file's bytes leaves the loaded ones as they are, but for those that may change.
-use Rattle.std.proofs.Common.{◌≡◌, ◌∙◌, sym, ap, subst, refl, ℕ, ◌+◌, ◌-◌, ◌*◌, ◌≤◌, ◌<◌, ◌⊎◌, inl, inr, List, [], ◌∷◌, Option, Some, Bool, true, false, length, get_or, arith}
-use Rattle.std.specs.Prelude.{Contains, slice_index, ◌==◌, ◌||◌, nat_le, IsFalse}
+use Rattle.std.proofs.Common.{◌≡◌, ◌∙◌, sym, ap, subst, refl, ℕ, ◌+◌, ◌-◌, ◌*◌, ◌≤◌, ◌<◌, ◌⊎◌, inl, inr, List, ◌∷◌, Option, Some, Bool, true, false, length, get_or, arith}
+use Rattle.std.specs.Prelude.{slice_index, ◌==◌}
 use Rattle.std.specs.List.{list_any}
 use Rattle.std.specs.Option.{option_map_or}
-use Rattle.std.proofs.lemmas.Bool.{cases_lt, eqb-true, eqb-false, eq-eqb, le-leb}
+use Rattle.std.proofs.lemmas.Bool.{cases_lt, eqb-true, eqb-false, eq-eqb}
 use Rattle.byteorder.specs.Endian.{little_bytes}
 use Rattle.byteorder.specs.Numbers.{length-bytes_low_first}
 use Rattle.elf_image.specs.declared.elf.Elf.{Elf}
@@ -13,7 +13,7 @@ use Rattle.elf_image.specs.file.Header.{number_at, segment_at}
 use Rattle.elf_image.specs.memory.CodeSegment.{executable_segment, executable_end}
 use Rattle.elf_image.specs.memory.LoadedBytes.{is_in_range}
 use Rattle.sym_machine.specs.HiddenFields.{hidden_fields, is_executable_segment}
-use Rattle.elf_parts.specs.Patches.{IsBeside, Leaves}
+use Rattle.elf_parts.specs.Patches.{Leaves}
 use Rattle.elf_parts.specs.Spelled.{Number, number, segment_numbers, segment_table}
 use Rattle.elf_parts.proofs.SameBytes.{little_bytes-same}
 use Rattle.elf_parts.proofs.Spelled.{length-segment_table}

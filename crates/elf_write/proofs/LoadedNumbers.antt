@@ -1,8 +1,7 @@
 -- Numbers in the memory of a file whose bytes are known.
-use Rattle.std.proofs.Common.{◌≡◌, ◌∙◌, sym, ap, subst, refl, ℕ, zero, suc, ◌+◌, ◌*◌, ◌/◌, ◌%◌, ◌≤◌, ◌<◌, ◌^◌, List, [], ◌∷◌, Option, Some, length, get_or, arith}
+use Rattle.std.proofs.Common.{◌≡◌, ◌∙◌, sym, ap, subst, refl, ℕ, suc, ◌+◌, ◌*◌, ◌/◌, ◌%◌, ◌<◌, ◌^◌, List, [], ◌∷◌, Option, Some, length, get_or, arith}
 use Rattle.std.specs.Prelude.{option_map}
 use Rattle.std.proofs.lemmas.List.{append-nil}
-use Rattle.std.proofs.Math.Nat.{pow-succ'}
 use Rattle.byteorder.specs.Endian.{little_bytes, little_from}
 use Rattle.byteorder.specs.Numbers.{length-bytes_low_first, little_from-cons, little_from-bytes}
 use Rattle.rv_code.specs.machine.Machine.{little}

@@ -1,15 +1,14 @@
 -- The segments of the input are carried by those of the written file.
-use Rattle.std.proofs.Common.{◌≡◌, ◌∙◌, sym, ap, subst, refl, ℕ, ◌+◌, ◌-◌, ◌≤◌, ◌<◌, ◌⊎◌, inl, inr, List, Option, Some, None, Bool, true, false, IsTrue, length, get_or, arith, eqb}
-use Rattle.std.specs.Prelude.{Contains, nat_le, IsFalse, if◌then◌else◌}
+use Rattle.std.proofs.Common.{◌≡◌, ◌∙◌, sym, ap, subst, refl, ℕ, ◌+◌, ◌-◌, ◌≤◌, ◌<◌, ◌⊎◌, inl, inr, List, Bool, true, false, IsTrue, get_or, arith, eqb}
+use Rattle.std.specs.Prelude.{Contains, nat_le, IsFalse}
 use Rattle.std.proofs.lemmas.Bool.{le-leb, lt-leb, leb-true, leb-false}
 use Rattle.elf_image.specs.declared.segment.Segment.{Segment}
 use Rattle.elf_image.specs.declared.segment.TheConstants.{PT_LOAD}
 use Rattle.elf_image.specs.memory.Image.{is_load}
 use Rattle.elf_image.specs.faults.SegmentLayout.{IsFileByte}
-use Rattle.elf_write.specs.Carried.{CarriesSegment, CarriesSegments}
+use Rattle.elf_write.specs.Carried.{CarriesSegment}
 use Rattle.elf_write.specs.Area.{moved_by}
 use Rattle.elf_write.specs.NewSegments.{IsNewLoad, CrossesNot}
-use Rattle.elf_parts.specs.Patches.{Stands}
 
 -- Each byte that the input loads is in the written file, unless it may change.
 abbrev pub KeepsLoaded : List ℕ → List ℕ → List Segment → ℕ → ℕ → (ℕ → Bool) → Type 0
@@ -24,7 +23,7 @@ pub moved-before : (file_end delta o : ℕ) → o < file_end → moved_by file_e
 moved-before file_end delta o before = rw (lt-leb file_end o before) refl
 
 -- a segment that doesn't cross the end moves whole
-moved-whole : (file_end delta : ℕ) (p : Segment) (k : ℕ) → CrossesNot file_end p → k < p.filesz → moved_by file_end delta p.offset + k ≡ moved_by file_end delta (p.offset + k)
+pub moved-whole : (file_end delta : ℕ) (p : Segment) (k : ℕ) → CrossesNot file_end p → k < p.filesz → moved_by file_end delta p.offset + k ≡ moved_by file_end delta (p.offset + k)
 moved-whole file_end delta p k apart inside = cases (nat_le file_end p.offset) refl
   where
     cases : (b : Bool) → nat_le file_end p.offset ≡ b → moved_by file_end delta p.offset + k ≡ moved_by file_end delta (p.offset + k)

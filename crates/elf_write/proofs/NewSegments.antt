@@ -1,7 +1,7 @@
 -- The program headers of a written file load what those of the input do, and the new area.
-use Rattle.std.proofs.Common.{◌≡◌, ◌∙◌, sym, ap, subst, refl, ℕ, zero, suc, ◌+◌, ◌-◌, ◌≤◌, ◌<◌, ◌⊎◌, inl, inr, List, [], ◌∷◌, ◌++◌, Bool, true, false, IsTrue, length, get_or, take, drop, arith, length-append}
-use Rattle.std.specs.Prelude.{Contains, ◌==◌, ◌&&◌, not, if◌then◌else◌}
-use Rattle.std.proofs.lemmas.Bool.{eqb-true, eqb-false, eq-eqb, ne_eqb, lt-ltb, le-ltb, cases_lt}
+use Rattle.std.proofs.Common.{◌≡◌, ◌∙◌, sym, ap, subst, refl, ℕ, suc, ◌+◌, ◌-◌, ◌≤◌, ◌<◌, ◌⊎◌, inl, inr, List, [], ◌∷◌, ◌++◌, Bool, true, false, IsTrue, length, get_or, take, drop, arith, length-append}
+use Rattle.std.specs.Prelude.{Contains, ◌==◌}
+use Rattle.std.proofs.lemmas.Bool.{eqb-true, ne_eqb, lt-ltb, le-ltb, cases_lt}
 use Rattle.std.proofs.lemmas.Grind.{common_steps}
 use Rattle.std.proofs.lemmas.List.{get_or-drop, get_or-take, get_or_append_left, get_or-append_right, get_or_default}
 use Rattle.elf_image.specs.declared.segment.Segment.{Segment}
@@ -10,7 +10,7 @@ use Rattle.elf_image.specs.file.Header.{e_phnum, segment, segments_of}
 use Rattle.elf_image.specs.memory.Image.{is_load, end_of, loads_address}
 use Rattle.elf_image.proofs.LoadLemmas.{loads-parts, loads-from_parts}
 use Rattle.elf_image.proofs.ReadLists.{length-segments_of, get_or-segments}
-use Rattle.elf_write.specs.Extended.{Extends, Loads, LoadsMore, old_index}
+use Rattle.elf_write.specs.Extended.{Loads, LoadsMore, old_index}
 use Rattle.elf_write.specs.NewSegments.{IsNewLoad, IsRenewed, AreRenewed, grows_at, inserted, IsFreeRange}
 use Rattle.elf_write.proofs.Extended.{old_index-once}
 
@@ -85,7 +85,7 @@ loads_more-behind file written file_end step end code qs are is free = record {
 
 -- A file with its area in a segment of its own.
 
-length-inserted : (at : ℕ) (new : Segment) (xs : List Segment) → at ≤ length xs → length (inserted at new xs) ≡ length xs + 1
+pub length-inserted : (at : ℕ) (new : Segment) (xs : List Segment) → at ≤ length xs → length (inserted at new xs) ≡ length xs + 1
 length-inserted at new xs within = grind (arith, common_steps)
 
 inserted-before : (at : ℕ) (new : Segment) (xs : List Segment) (k : ℕ) (d : Segment) → at ≤ length xs → k < at → get_or (inserted at new xs) k d ≡ get_or xs k d

@@ -8,7 +8,7 @@ use Rattle.byteorder.specs.Endian.{little_bytes}
 use Rattle.byteorder.specs.Numbers.{length-bytes_low_first}
 use Rattle.elf_image.specs.declared.segment.Segment.{Segment}
 use Rattle.elf_image.specs.declared.segment.TheConstants.{PHDR_SIZE}
-use Rattle.elf_image.specs.file.Header.{number_at, segment_at, segments_from}
+use Rattle.elf_image.specs.file.Header.{number_at, segment_at}
 use Rattle.elf_parts.specs.Spelled.{Number, number, spelled, segment_numbers, segment_bytes, segment_table}
 use Rattle.elf_parts.proofs.SameBytes.{little_bytes-same}
 use Rattle.elf_parts.proofs.Spelled.{length-segment_bytes}

@@ -1,12 +1,12 @@
 -- The image of a file that was joined of its parts, got a tail, and was patched.
-use Rattle.std.proofs.Common.{◌≡◌, ◌∙◌, sym, ap, subst, refl, ℕ, ◌+◌, ◌-◌, ◌≤◌, ◌<◌, List, ◌++◌, Bool, IsTrue, length, get_or, arith}
+use Rattle.std.proofs.Common.{◌≡◌, ◌∙◌, sym, subst, ℕ, ◌+◌, ◌-◌, ◌≤◌, ◌<◌, List, ◌++◌, Bool, IsTrue, length, get_or, arith}
 use Rattle.std.specs.Prelude.{All, Contains, IsFalse}
 use Rattle.std.proofs.lemmas.List.{get_or_append_left}
 use Rattle.elf_image.specs.declared.segment.Segment.{Segment}
 use Rattle.elf_image.specs.memory.Image.{is_load, LoadOnce}
 use Rattle.elf_image.specs.faults.SegmentLayout.{IsFileByte}
 use Rattle.elf_parts.specs.declared.parts.Parts.{Parts}
-use Rattle.elf_write.specs.Carried.{CarriesSegments, CarriesImage}
+use Rattle.elf_write.specs.Carried.{CarriesImage}
 use Rattle.elf_write.specs.Area.{moved_by}
 use Rattle.elf_write.specs.NewSegments.{IsNewLoad, CrossesNot}
 use Rattle.elf_parts.specs.Parts.{CanStand, HasParts}
@@ -20,7 +20,7 @@ use Rattle.elf_parts.proofs.SameBytes.{get_or-put_all_leaves}
 -- low and high.
 pub record PartsFit (parts : Parts) (ps : List Segment) (file_end delta : ℕ) : Type 0 where
   pub enough : file_end ≤ parts.keep
-  pub moved : parts.low + delta ≡ parts.behind_at
+  pub moved : parts.low < parts.high → parts.low + delta ≡ parts.behind_at
   pub apart : (p : Segment) → Contains ps p → IsTrue (is_load p) → CrossesNot file_end p
   pub all : (p : Segment) → Contains ps p → IsTrue (is_load p) → file_end ≤ p.offset → 0 < p.filesz → (parts.low ≤ p.offset) × (p.offset + p.filesz ≤ parts.high)
 
@@ -67,7 +67,9 @@ image-written input area tail base patches parts ps qs file_end delta changed ca
     in_base =
         keeps-stretches input (base ++ tail) ps file_end delta parts.low parts.high parts.keep fit.enough
         (λ k below. in_front k (omega (arith, base_size, front_size)) ∙ front-byte parts input area base k has can.front below)
-        (λ k from below. in_front (k + delta) (omega (arith, base_size, fit.moved, ordered)) ∙ behind-byte parts input area base delta k has can.from_input fit.moved from below)
+        (λ k from below.
+        let moved : parts.low + delta ≡ parts.behind_at = fit.moved (omega arith) in
+        in_front (k + delta) (omega (arith, base_size, moved, ordered)) ∙ behind-byte parts input area base delta k has can.from_input moved from below)
         fit.apart fit.all
 
     keeps : KeepsLoaded input written ps file_end delta changed

@@ -1,7 +1,7 @@
 -- What a written file has of its input's memory, and what else it has there.
-use Rattle.std.specs.Prelude.{◌≡◌, ◌⊎◌, ℕ, ◌+◌, ◌<◌, ◌≤◌, Bool, List, Contains, Option, Some, IsTrue, IsFalse, IsSome, slice_index, length}
+use Rattle.std.specs.Prelude.{◌≡◌, ◌⊎◌, ℕ, ◌+◌, ◌<◌, ◌≤◌, Bool, List, Contains, Some, IsTrue, IsFalse, IsSome, slice_index, length}
 use Rattle.elf_image.specs.declared.segment.Segment.{Segment}
-use Rattle.elf_image.specs.memory.Image.{image_byte, is_load, is_loaded_with, loads_address, LoadOnce}
+use Rattle.elf_image.specs.memory.Image.{image_byte, is_load, is_loaded_with}
 
 -- A loaded segment of the input, and the one of the written file that loads the same. Its memory may have grown at the end.
 -- Of the addresses that may have changed

@@ -1,5 +1,5 @@
 -- Code cells as numbers that are put over the bytes of a file.
-use Rattle.std.specs.Prelude.{◌≡◌, ℕ, ◌+◌, ◌-◌, ◌<◌, ◌≤◌, List, length, IsSomeAnd, slice_index_or}
+use Rattle.std.specs.Prelude.{◌≡◌, ℕ, ◌+◌, ◌-◌, ◌<◌, ◌≤◌, List, length, min, IsSomeAnd, slice_index_or}
 use Rattle.elf_image.specs.declared.elf.Elf.{Elf}
 use Rattle.elf_image.specs.declared.segment.Segment.{Segment}
 use Rattle.elf_image.specs.memory.Image.{segment_of}
@@ -7,9 +7,9 @@ use Rattle.elf_parts.specs.declared.number_at.NumberAt.{NumberAt}
 use Rattle.elf_write.specs.declared.area.Shift.{Shift}
 use Rattle.elf_write.specs.Area.{moved_by}
 
--- A cell's bytes all come from one segment, and the number stands where the first of them went.
+-- One segment loads all bytes of a cell from the file, and the number stands where the first of them went.
 pub record StandsIn (shift : Shift) (cell : ℕ × ℕ × ℕ) (number : NumberAt) (p : Segment) : Type 0 where
-  pub inside : (cell.0 - p.vaddr) + cell.1 ≤ p.filesz
+  pub inside : (cell.0 - p.vaddr) + cell.1 ≤ min p.filesz p.memsz
   pub offset : number.offset ≡ moved_by shift.from shift.by (p.offset + (cell.0 - p.vaddr))
 
 pub record IsCellNumber (elf : Elf) (shift : Shift) (cell : ℕ × ℕ × ℕ) (number : NumberAt) : Type 0 where

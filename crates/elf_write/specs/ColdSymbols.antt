@@ -1,12 +1,13 @@
 -- The symbols that are added for cold parts, each given by the address of its first instruction in the input.
-use Rattle.std.specs.Prelude.{ℕ, ◌&&◌, ◌==◌, ◌++◌, nat_le, nat_lt, List, Option, find, codes, option_map, option_and_then}
+use Rattle.std.specs.Prelude.{ℕ, ◌&&◌, ◌==◌, ◌++◌, List, Option, find, codes, option_map, option_and_then}
 use Rattle.rv_code.specs.declared.placed.Func.{Func}
 use Rattle.elf_image.specs.declared.elf.Symbol.{Symbol}
 use Rattle.elf_image.specs.code.Cuts.{names_function}
+use Rattle.elf_write.specs.Runs.{holds}
 
 -- where the function starts that has an address
 abbrev pub start_around : List Func → ℕ → Option ℕ
-start_around funcs a = option_map (λ f. f.start) (find (λ f. nat_le f.start a && nat_lt a f.end) funcs)
+start_around funcs a = option_map (λ f. f.start) (find (holds a) funcs)
 
 -- the first symbol of a function that starts there
 abbrev pub first_named : List Symbol → ℕ → Option Symbol

@@ -1,5 +1,5 @@
 -- Ranges of a written file's segments: those of the input, and one that is new.
-use Rattle.std.specs.Prelude.{◌≡◌, ◌≢◌, ◌⊎◌, ℕ, ◌+◌, ◌-◌, ◌<◌, ◌≤◌, ◌==◌, nat_lt, if◌then◌else◌, Bool, IsTrue, List}
+use Rattle.std.specs.Prelude.{◌≡◌, ◌⊎◌, ℕ, ◌-◌, ◌<◌, ◌≤◌, ◌==◌, nat_lt, if◌then◌else◌, Bool, IsTrue, List}
 use Rattle.elf_image.specs.file.Header.{e_phnum, segment}
 use Rattle.elf_image.specs.memory.Image.{loads_address}
 

@@ -28,6 +28,7 @@ pub record IsRenewed (file_end step end : ℕ) (tight grows : Bool) (p q : Segme
   pub load : IsTrue (is_load p) → IsNewLoad file_end step p q
   pub same : IsTrue (is_load p) → grows ≡ false → q.memsz ≡ p.memsz
   pub grown : grows ≡ true → end_of q ≡ end
+  pub place : grows ≡ true → q.offset ≡ p.offset
   -- what it says else, but for the header of the unwind table's index
   pub flags : q.flags ≡ p.flags
   pub align : q.align ≡ p.align

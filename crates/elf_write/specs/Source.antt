@@ -1,7 +1,7 @@
 -- What a file is written of, and where its new code stands.
-use Rattle.std.specs.Prelude.{ℕ, ◌+◌, ◌-◌, ◌<◌, ◌≤◌, ◌||◌, if◌then◌else◌, Bool, List, Option, length}
+use Rattle.std.specs.Prelude.{ℕ, ◌+◌, ◌-◌, ◌<◌, ◌≤◌, ◌||◌, if◌then◌else◌, Bool, List, Option, String, Vec, codes, length}
 use Rattle.std.specs.List.{list_any}
-use Rattle.rv_code.specs.declared.placed.Func.{Func}
+use Rattle.rv_code.specs.declared.layout.Emitted.{Emitted}
 use Rattle.elf_image.specs.declared.elf.Elf.{Elf}
 use Rattle.elf_image.specs.memory.LoadedBytes.{Range, is_in_range}
 use Rattle.addr_map.specs.declared.span.Span.{Span}
@@ -11,6 +11,7 @@ use Rattle.move_law.specs.Faithful.{is_in_entry_field}
 use Rattle.elf_write.specs.declared.area.Area.{Area}
 use Rattle.elf_write.specs.Area.{area_of, start_of}
 use Rattle.elf_write.specs.Room.{room, room_above}
+use Rattle.elf_write.specs.TableSizes.{table_size}
 
 pub record Source : Type 0 where
   pub elf : Elf
@@ -22,6 +23,16 @@ pub record Source : Type 0 where
   -- the sizes of the unwind table and of its index, if they are there
   pub frames : Option ℕ
   pub index : Option ℕ
+
+abbrev pub source_of : {Y Z : Type 0} → Elf → Emitted → List Span → List (String Y × Vec ℕ Z) → Source
+source_of elf emitted spans tables = record {
+  elf = elf;
+  code = emitted.code.items;
+  cells = emitted.cells.items;
+  spans = spans;
+  frames = table_size tables (codes ".eh_frame");
+  index = table_size tables (codes ".eh_frame_hdr");
+}
 
 abbrev pub source_area : Source → Bool → Area
 source_area s tight = area_of s.elf.segments.items tight (length s.code) s.frames s.index

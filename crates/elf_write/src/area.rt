@@ -116,7 +116,8 @@ fn segment_offset(segments: &[Segment], code: &Segment, tight: bool) -> Result<u
     }
 }
 
-fn start_of(segments: &[Segment], tight: bool) -> Result<u64, NoMemory>
+/// Where the new code starts.
+pub fn start_of(segments: &[Segment], tight: bool) -> Result<u64, NoMemory>
     ensures { IfOk result (λ start. start ≡ spec.start_of segments.now tight) }
 {
     if tight {

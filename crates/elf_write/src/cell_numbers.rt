@@ -9,13 +9,14 @@ use elf_parts::NumberAt;
 use rb_bytes::fault::NoMemory;
 use std::alloc::Global;
 
-// Where a code cell stands in the written file, and what it holds. A cell that two segments share has no such place.
+// Where a code cell stands in the written file, and what it holds. A cell that two segments share has no such place, nor one
+// that a segment doesn't load whole.
 fn cell_number(elf: &Elf, shift: &Shift, cell: &(u64, u8, u64)) -> Result<NumberAt, NoMemory>
     ensures { IfOk result (IsCellNumber elf.now shift.now cell.now) }
 {
     let p = elf.segment_at(cell.0).ok_or(NoMemory)?;
     let place = cell.0 - p.vaddr;
-    if place as u128 + cell.1 as u128 > p.filesz as u128 {
+    if place as u128 + cell.1 as u128 > p.filesz.min(p.memsz) as u128 {
         return Err(NoMemory);
     }
     Ok(NumberAt {

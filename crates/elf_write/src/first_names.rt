@@ -1,4 +1,6 @@
 // The symbols by which functions are called.
+ghost use Rattle.std.specs.Prelude.{IfOk};
+ghost use Rattle.elf_write.specs.FirstNames.{AreFirstNames};
 
 use elf_image::Symbol;
 use rb_bytes::fault::NoMemory;
@@ -9,7 +11,9 @@ use std::collections::BTreeMap;
 pub fn first_names<'a>(
     alloc: Global,
     symbols: &[Symbol<'a>],
-) -> Result<BTreeMap<u64, Symbol<'a>>, NoMemory> {
+) -> Result<BTreeMap<u64, Symbol<'a>>, NoMemory>
+    ensures { IfOk result (AreFirstNames symbols.now) }
+{
     let mut names = BTreeMap::new(alloc);
     for symbol in symbols {
         if symbol.names_function() && !names.contains_key(&symbol.value) {

@@ -1,11 +1,14 @@
 // The section headers of a written file, and the contents behind its loaded bytes. gABI, "Section Header".
-ghost use Rattle.std.specs.Prelude.{◌≡◌, ◌==◌, if◌then◌else◌, [], take, drop};
+ghost use Rattle.std.specs.Prelude.{◌≡◌, OnOk};
 ghost use Rattle.elf_image.specs.faults.Truncation.{IsReadable};
+ghost use Rattle.elf_write.specs.Contents.{section_bytes};
+ghost use Rattle.elf_write.specs.NewSections.{without_code};
 
 use crate::area::{Area, Shift};
+use crate::area_bytes::table_size;
 use crate::names::NameTable;
 use crate::old_name::{is_renamed, old_prefix};
-use crate::sections::{Contents, Table, table_named};
+use crate::sections::{Contents, Table};
 use crate::tail::Tail;
 use elf_image::entries::SectionTable;
 use elf_image::header::e_shnum;
@@ -85,29 +88,21 @@ pub fn area_headers(
     headers.push(area_section(name, SHF_ALLOC + SHF_EXECINSTR, area, area.start, code, 16)?)?;
     if let Some(frames) = area.frames {
         let name = names.add(EH_FRAME, b"")?;
-        let size = table_size(tables, EH_FRAME);
+        let size = table_size(tables, EH_FRAME).unwrap_or(0) as u64;
         headers.push(area_section(name, SHF_ALLOC, area, frames, size, 8)?)?;
     }
     if let Some(index) = area.index {
         let name = names.add(EH_FRAME_HDR, b"")?;
-        let size = table_size(tables, EH_FRAME_HDR);
+        let size = table_size(tables, EH_FRAME_HDR).unwrap_or(0) as u64;
         headers.push(area_section(name, SHF_ALLOC, area, index, size, 4)?)?;
     }
     Ok(())
 }
 
-fn table_size(tables: &[Table], name: &[u8]) -> u64 {
-    match table_named(tables, name) {
-        Some(i) => match tables.get(i) {
-            Some(table) => table.1.len() as u64,
-            None => 0,
-        },
-        None => 0,
-    }
-}
-
-// The flags of a section that is written anew: it holds no instructions.
-fn without_code(flags: u64) -> u64 {
+/// The flags of a section that is written anew: it holds no instructions.
+pub fn without_code(flags: u64) -> u64
+    ensures { result ≡ without_code flags }
+{
     if flags / SHF_EXECINSTR % 2 == 1 {
         flags - SHF_EXECINSTR
     } else {
@@ -117,7 +112,7 @@ fn without_code(flags: u64) -> u64 {
 
 /// The bytes of a section of a file, as far as it has them.
 pub fn bytes_of<'a>(file: &'a [u8], section: &Section) -> &'a [u8]
-    ensures { result.now ≡ (if section.now.kind == SHT_NOBITS then [] else take section.now.size (drop section.now.offset file.now)) }
+    ensures { result.now ≡ section_bytes file.now section.now }
 {
     let start = (section.offset as usize).min(file.len());
     let rest = &file[start..];
@@ -196,7 +191,9 @@ fn place_bytes(
     index: usize,
     bytes: &[u8],
     tail: &mut Tail,
-) -> Result<(), NoMemory> {
+) -> Result<(), NoMemory>
+    ensures { tail.new.base ≡ tail.old.base }
+{
     if index < headers.len() {
         let place = tail.add(headers[index].align, bytes)?;
         headers[index].offset = place;
@@ -213,7 +210,9 @@ pub fn place_contents<'a>(
     new: &NewContents<'a>,
     headers: &mut [SectionHeader],
     tail: &mut Tail,
-) -> Result<(), NoMemory> {
+) -> Result<(), NoMemory>
+    ensures { OnOk result (tail.new.base ≡ tail.old.base) }
+{
     let order = order_of(alloc, elf, contents)?;
     for entry in &order {
         let i = entry.1;

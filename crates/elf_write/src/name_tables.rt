@@ -1,5 +1,7 @@
 // The sections with symbols and names, which are written anew.
-ghost use Rattle.elf_image.specs.faults.Truncation.{HasHeader};
+ghost use Rattle.std.specs.Prelude.{◌≡◌};
+ghost use Rattle.std.specs.Option.{option_copied};
+ghost use Rattle.elf_write.specs.NameTables as spec;
 
 use elf_image::header::e_shstrndx;
 use elf_image::section::SHT_SYMTAB;
@@ -17,24 +19,57 @@ pub struct OwnSections {
     pub symbol_names: Option<usize>,
 }
 
-// The first section of a type.
-fn section_of_kind(sections: &[Section], kind: u32) -> Option<usize> {
-    sections.iter().position(|s| s.kind == kind)
+/// The index of the symbol table.
+pub fn place_of_symbols(elf: &Elf) -> Option<usize>
+    ensures { result ≡ spec.place_of_symbols elf.now }
+{
+    elf.sections.iter().position(|s| s.kind == SHT_SYMTAB)
+}
+
+/// The section with the symbols.
+pub fn symbols_section<'a>(elf: &'a Elf<'a>) -> Option<&'a Section<'a>>
+    ensures { option_copied result ≡ spec.symbols_section elf.now }
+{
+    elf.sections.iter().find(|s| s.kind == SHT_SYMTAB)
+}
+
+// An index, if there is a section of it.
+fn among(sections: &[Section], index: usize) -> Option<usize>
+    ensures { result ≡ spec.among sections.now index }
+{
+    if index < sections.len() {
+        Some(index)
+    } else {
+        None
+    }
+}
+
+// The index of the section with the names of symbols, if there are symbols.
+fn place_of_names(elf: &Elf) -> Option<usize>
+    ensures { result ≡ spec.place_of_names elf.now }
+{
+    if elf.symbols.is_empty() {
+        return None;
+    }
+    match symbols_section(elf) {
+        Some(table) => among(&elf.sections, table.link as usize),
+        None => None,
+    }
 }
 
 impl OwnSections {
+    ghost use Rattle.std.specs.Prelude.{IfOk};
     ghost use Rattle.elf_image.specs.faults.Truncation.{HasHeader};
+    ghost use Rattle.elf_write.specs.KnownSections.{IsOwnOf};
 
     /// Those of a file. A table that is one of names and of symbols can't be written.
     pub fn new(elf: &Elf) -> Result<OwnSections, NoMemory>
         requires { HasHeader elf.now.file.now }
+        ensures { IfOk result (IsOwnOf elf.now) }
     {
         let section_names = e_shstrndx(elf.file) as usize;
-        let symbols = section_of_kind(&elf.sections, SHT_SYMTAB);
-        let symbol_names = match symbols {
-            Some(table) => names_of_table(elf, table),
-            None => None,
-        };
+        let symbols = place_of_symbols(elf);
+        let symbol_names = place_of_names(elf);
         if symbols == Some(section_names) || (symbols.is_some() && symbols == symbol_names) {
             return Err(NoMemory);
         }
@@ -50,15 +85,5 @@ impl OwnSections {
         self.section_names == index
             || self.symbols == Some(index)
             || self.symbol_names == Some(index)
-    }
-}
-
-// The section with the names of a symbol table, if that has symbols.
-fn names_of_table(elf: &Elf, table: usize) -> Option<usize> {
-    let index = elf.sections.get(table)?.link as usize;
-    if elf.symbols.is_empty() || index >= elf.sections.len() {
-        None
-    } else {
-        Some(index)
     }
 }

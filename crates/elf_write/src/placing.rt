@@ -1,9 +1,11 @@
 // How a written file is put together: where its parts lie, and where its table of program headers stands.
-ghost use Rattle.std.specs.Prelude.{◌≡◌, ◌≤◌, ◌<◌, IfOk, All, IsTrue, ◌↔◌, true, false};
+ghost use Rattle.std.specs.Prelude.{◌≡◌, ◌≤◌, ◌<◌, ◌^◌, IfOk, All, IsTrue, ◌↔◌, true, false};
 ghost use Rattle.elf_parts.specs.Parts.{CanStand};
 ghost use Rattle.elf_parts.specs.Numbers.{CanPut};
-ghost use Rattle.elf_write.specs.Area as moves;
+ghost use Rattle.elf_write.specs.Made as made;
 ghost use Rattle.elf_write.specs.Placing as spec;
+ghost use Rattle.elf_image.specs.memory.LoadedBytes.{loads_range};
+ghost use Rattle.std.specs.List.{list_any};
 
 use crate::area::{Area, Shift, loads_end, lowest_behind};
 use crate::round::sum;
@@ -89,27 +91,55 @@ pub fn parts_of(
     Ok(parts)
 }
 
-// Whether one segment loads the whole table of program headers from the file.
-fn has_loaded_table(elf: &Elf) -> bool {
-    let end = elf.phoff as u128 + PHDR_SIZE as u128 * elf.segments.len() as u128;
-    elf.segments.iter().any(|p| {
+// Whether one segment loads the whole table of program headers.
+fn is_loaded_table(elf: &Elf) -> bool
+    ensures { result ≡ list_any (loads_range (made.table_of elf.now)) elf.now.segments.items }
+{
+    let table = Range {
+        start: elf.phoff,
+        size: PHDR_SIZE as u128 * elf.segments.len() as u128,
+    };
+    elf.segments.iter().any(|p| table.is_loaded_by(p))
+}
+
+// Whether the table stands before the end of the executable segment, or whole in a loaded one.
+fn is_kept_table(elf: &Elf, shift: &Shift) -> bool
+    ensures { result ≡ made.is_kept_table elf.now shift.now }
+{
+    elf.phoff < shift.from || is_loaded_table(elf)
+}
+
+// Bytes of the file.
+#[derive(Clone, Copy)]
+struct Range {
+    start: u64,
+    size: u128,
+    ghost low: { size < 2 ^ 72 },
+}
+
+impl Range {
+    ghost use Rattle.std.specs.Prelude.{◌≡◌};
+    ghost use Rattle.elf_image.specs.memory.LoadedBytes.{loads_range};
+
+    // Whether a segment loads all of them.
+    fn is_loaded_by(&self, p: &Segment) -> bool
+        ensures { result ≡ loads_range (record { start = self.now.start; size = self.now.size }) p.now }
+    {
         p.kind == PT_LOAD
-            && p.offset <= elf.phoff
-            && end <= p.offset as u128 + p.filesz.min(p.memsz) as u128
-    })
+            && p.offset <= self.start
+            && self.start as u128 + self.size <= p.offset as u128 + p.filesz.min(p.memsz) as u128
+    }
 }
 
 /// Where the table of program headers stands: with the new code, where it stood, or behind the loaded bytes, where
 /// zeros are added for it.
 pub fn table_place(elf: &Elf, area: &Area, shift: &Shift, tail: &mut Tail) -> Result<u64, NoMemory>
-    ensures header { IfOk result (λ at. 64 ≤ at) }
-    ensures above { IfOk result (λ at. area.now.tight ≡ true → at ≡ area.now.offset) }
-    ensures behind { IfOk result (λ at. area.now.tight ≡ false → at < tail.old.base → at ≡ moves.moved_by shift.now.from shift.now.by elf.now.phoff) }
+    ensures place { IfOk result (λ at. made.IsTablePlace elf.now area.now shift.now tail.old.base at) }
     ensures base { IfOk result (λ at. tail.new.base ≡ tail.old.base) }
 {
     let place = if area.tight {
         area.offset
-    } else if elf.phoff < shift.from || has_loaded_table(elf) {
+    } else if is_kept_table(elf, shift) {
         shift.moved(elf.phoff)?
     } else {
         let place = tail.align_to(8)?;

@@ -1,12 +1,14 @@
 // Which contents the sections of a written file have. gABI, "Section Header".
+ghost use Rattle.std.specs.Prelude.{◌≡◌, IfOk, map, position, string_bytes};
+ghost use Rattle.elf_image.specs.file.SectionNames.{is_called, is_meant_by};
+ghost use Rattle.elf_write.specs.Contents as spec;
 
-use crate::area::{Area, Shift, loads_end};
+use crate::kept_bytes::KeptBytes;
 use crate::name_tables::OwnSections;
 use crate::old_name::names_frames;
 use elf_image::relocation::SHT_RELA;
 use elf_image::section::SHT_NOBITS;
-use elf_image::segment::PT_LOAD;
-use elf_image::{Elf, Section, Segment};
+use elf_image::{Elf, Section};
 use rb_bytes::fault::NoMemory;
 use std::alloc::Global;
 
@@ -44,13 +46,10 @@ impl Contents {
 /// Bytes that take the place of a section's, by the section's name.
 pub type Table = (String, Vec<u8>);
 
-/// The place among the tables of the one with a name.
-pub fn table_named(tables: &[Table], name: &[u8]) -> Option<usize> {
-    tables.iter().position(|t| t.0.as_bytes() == name)
-}
-
 // Whether a name means a section, if it is its own.
-fn is_meant_by(name: &[u8], section: &Section) -> bool {
+fn is_meant_by(name: &[u8], section: &Section) -> bool
+    ensures { result ≡ is_meant_by name.now section.now }
+{
     if names_frames(name) {
         section.is_loaded() && !section.holds_code()
     } else if name.starts_with(b".debug_") {
@@ -61,26 +60,36 @@ fn is_meant_by(name: &[u8], section: &Section) -> bool {
 }
 
 /// The index of the section that a name means.
-pub fn index_called(sections: &[Section], name: &[u8]) -> Option<usize> {
+pub fn index_called(sections: &[Section], name: &[u8]) -> Option<usize>
+    ensures { result ≡ position (is_called name.now) sections.now }
+{
     sections
         .iter()
         .position(|s| s.name == name && is_meant_by(name, s))
 }
 
-/// For each table the index of the section whose place it takes. Those that stand in the new area take none.
+// The index of the section whose place a table with a name takes. Those that stand in the new area take none.
+fn place_replaced(sections: &[Section], name: &[u8]) -> Option<usize>
+    ensures { result ≡ spec.place_replaced sections.now name.now }
+{
+    if names_frames(name) {
+        None
+    } else {
+        index_called(sections, name)
+    }
+}
+
+/// For each table the index of the section whose place it takes.
 pub fn replaced_by(
     alloc: Global,
-    elf: &Elf,
+    sections: &[Section],
     tables: &[Table],
-) -> Result<Vec<Option<usize>>, NoMemory> {
+) -> Result<Vec<Option<usize>>, NoMemory>
+    ensures { IfOk result (λ r. r.items ≡ map (λ t. spec.place_replaced sections.now (string_bytes t.0)) tables.now) }
+{
     let mut replaced = Vec::new(alloc);
     for table in tables {
-        let name = table.0.as_bytes();
-        if names_frames(name) {
-            replaced.push(None)?;
-        } else {
-            replaced.push(index_called(&elf.sections, name))?;
-        }
+        replaced.push(place_replaced(sections, table.0.as_bytes()))?;
     }
     Ok(replaced)
 }
@@ -91,7 +100,9 @@ const DEBUG_MACRO: &[u8] = b".debug_macro";
 const GDB_INDEX: &[u8] = b".gdb_index";
 
 // Relocations are left out, and tables with addresses of code that can't be carried over.
-fn is_left_out(section: &Section) -> bool {
+fn is_left_out(section: &Section) -> bool
+    ensures { result ≡ spec.is_left_out section.now }
+{
     section.kind == SHT_RELA
         || (!section.is_loaded() && (section.name == DEBUG_MACRO || section.name == GDB_INDEX))
 }
@@ -103,69 +114,70 @@ pub struct Sections<'a> {
     pub own: OwnSections,
     /// For each table the index of the section whose place it takes.
     pub replaced: &'a [Option<usize>],
-    pub area: Area,
-    pub shift: Shift,
+    pub kept: &'a KeptBytes,
 }
 
 impl<'a> Sections<'a> {
+    ghost use Rattle.std.specs.Prelude.{◌≡◌, ℕ, List, Option, Some, None, position, unwrap_or, option_map};
+    ghost use Rattle.std.specs.Option.{option_map_or};
+    ghost use Rattle.elf_image.specs.declared.segment.Segment.{Segment};
+    ghost use Rattle.elf_write.specs.declared.area.Area.{Area};
+    ghost use Rattle.elf_write.specs.declared.area.Shift.{Shift};
+    ghost use Rattle.elf_write.specs.Contents as spec;
+    ghost use Rattle.elf_write.specs.KeptBytes.{Keeps};
+
     // The table that takes the place of the section of an index.
-    fn table_for(&self, index: usize) -> Option<usize> {
+    fn table_for(&self, index: usize) -> Option<usize>
+        ensures { result ≡ position (spec.is_at index) self.now.replaced.now }
+    {
         self.replaced.iter().position(|r| *r == Some(index))
     }
 
-    // Whether the bytes of a section stand among those that keep their places or move with the segments.
-    fn stays(&self, section: &Section) -> Result<bool, NoMemory> {
-        let start = section.offset as u128;
-        let end = start + section.size as u128;
-        if self.area.tight {
-            return Ok(end <= loads_end(&self.elf.segments)? as u128);
+    // Where the contents are of a section that isn't replaced.
+    fn own_contents(&self, section: &Section) -> Contents
+        ensures { (segments : List Segment) (area : Area) (shift : Shift) → Keeps segments area shift self.now.kept.now →
+            result ≡ spec.own_contents segments area shift section.now }
+    {
+        if section.kind == SHT_NOBITS {
+            return Contents::Kept;
         }
-        if end <= self.shift.from as u128 {
-            return Ok(true);
+        if section.is_loaded() && (section.size == 0 || self.kept.has(section)) {
+            return Contents::Kept;
         }
-        Ok(self.elf.segments.iter().any(|p| self.holds(p, start, end)))
-    }
-
-    // Whether a segment behind the executable one loads bytes of the file.
-    fn holds(&self, p: &Segment, start: u128, end: u128) -> bool {
-        p.kind == PT_LOAD
-            && self.shift.from <= p.offset
-            && p.offset as u128 <= start
-            && end <= p.offset as u128 + p.filesz as u128
+        Contents::Copied
     }
 
     /// Where the contents of each section are.
     pub fn contents(&self, alloc: Global) -> Result<Vec<Contents>, NoMemory> {
         let mut contents = Vec::new(alloc);
         for i in 0..self.elf.sections.len() {
-            contents.push(self.contents_of(i, &self.elf.sections[i])?)?;
+            contents.push(self.contents_of(i, &self.elf.sections[i]))?;
         }
         Ok(contents)
     }
 
-    // Where the contents of the section of an index are.
-    fn contents_of(&self, index: usize, section: &Section) -> Result<Contents, NoMemory> {
+    /// Where the contents of the section of an index are.
+    pub fn contents_of(&self, index: usize, section: &Section) -> Contents
+        ensures { (segments : List Segment) (area : Area) (shift : Shift) → Keeps segments area shift self.now.kept.now →
+            result ≡ spec.contents_by self.now.own.section_names self.now.own.symbols self.now.own.symbol_names (position
+            (spec.is_at index) self.now.replaced.now)
+            (spec.own_contents segments area shift section.now) index section.now }
+    {
         if self.own.section_names == index {
-            return Ok(Contents::SectionNames);
+            return Contents::SectionNames;
         }
         if self.own.symbols == Some(index) {
-            return Ok(Contents::Symbols);
+            return Contents::Symbols;
         }
         if self.own.symbol_names == Some(index) {
-            return Ok(Contents::SymbolNames);
+            return Contents::SymbolNames;
         }
         if is_left_out(section) {
-            return Ok(Contents::Dropped);
+            return Contents::Dropped;
         }
-        if let Some(table) = self.table_for(index) {
-            return Ok(Contents::Given(table));
+        match self.table_for(index) {
+            Some(table) => Contents::Given(table),
+            None => self.own_contents(section),
         }
-        if section.kind == SHT_NOBITS {
-            return Ok(Contents::Kept);
-        }
-        if section.is_loaded() && (section.size == 0 || self.stays(section)?) {
-            return Ok(Contents::Kept);
-        }
-        Ok(Contents::Copied)
     }
 }

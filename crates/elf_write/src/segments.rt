@@ -4,11 +4,11 @@ ghost use Rattle.elf_write.specs.NewSegments as spec;
 
 use crate::area::{Area, Shift};
 use crate::capacity::greatest_align;
+use crate::homes::homes_of;
 use crate::round::{rounded_up, sum};
 use crate::sections::Contents;
-use elf_image::section::SHT_NOBITS;
 use elf_image::segment::{PF_R, PF_X, PHDR_SIZE, PT_GNU_EH_FRAME, PT_LOAD};
-use elf_image::{Elf, Section, SectionHeader, Segment};
+use elf_image::{Elf, SectionHeader, Segment};
 use rb_bytes::fault::NoMemory;
 use std::alloc::Global;
 
@@ -30,15 +30,6 @@ pub struct Places<'a> {
     pub index_size: u64,
     /// The size of the written file.
     pub file_size: u64,
-}
-
-// Whether bytes of the file from one offset to before another are loaded.
-fn is_loaded_between(segments: &[Segment], start: u64, end: u128) -> bool {
-    segments.iter().any(|p| {
-        p.kind == PT_LOAD
-            && (p.offset as u128) < end
-            && (start as u128) < p.offset as u128 + p.filesz.min(p.memsz) as u128
-    })
 }
 
 // A header that names so many bytes at an address of the area.
@@ -83,67 +74,62 @@ impl<'a> Places<'a> {
         if self.area.tight { count + 1 } else { count }
     }
 
-    // Whether the written contents of an unloaded section hold the bytes of a header.
-    fn holds(&self, contents: Contents, section: &Section, p: &Segment) -> bool {
-        contents.is_written()
-            && !section.is_loaded()
-            && section.kind != SHT_NOBITS
-            && section.offset <= p.offset
-            && p.offset as u128 + p.filesz as u128 <= section.offset as u128 + section.size as u128
-    }
-
-    // Where the bytes of a header are, if the written contents of an unloaded section hold them.
-    fn place_in_section(&self, p: &Segment) -> Result<Option<u64>, NoMemory> {
-        for i in 0..self.elf.sections.len() {
-            let section = &self.elf.sections[i];
-            if let (Some(contents), Some(header)) = (self.contents.get(i), self.headers.get(i)) {
-                if self.holds(*contents, section, p) {
-                    let inside = p.offset.saturating_sub(section.offset);
-                    return Ok(Some(sum(header.offset, inside)?));
-                }
-            }
+    // Where the bytes of a header are, which stand in the contents of the section of an index.
+    fn place_in(&self, p: &Segment, home: usize) -> Result<Option<u64>, NoMemory> {
+        match (self.elf.sections.get(home), self.headers.get(home)) {
+            (Some(section), Some(header)) => Ok(Some(sum(
+                header.offset,
+                p.offset.saturating_sub(section.offset),
+            )?)),
+            _ => Ok(None),
         }
-        Ok(None)
     }
 
     // Where bytes go that stay beside the loaded ones: none begin in the new area and end behind it.
-    fn beside(&self, p: &Segment) -> Result<u64, NoMemory> {
+    fn beside(&self, p: &Segment, align: u64) -> Result<u64, NoMemory>
+        requires { 0 < align }
+    {
         let at = self.shift.moved(p.offset)?;
         let end = self.area.offset_of(self.area.end)?;
         if !self.area.tight && at < end && (end as u128) < at as u128 + p.filesz as u128 {
-            return sum(
-                at,
-                rounded_up(greatest_align(&self.elf.segments), end - at)?,
-            );
+            let step = rounded_up(align, end - at)?;
+            return Ok(sum(at, step)?.min(self.file_size));
         }
         Ok(at.min(self.file_size))
     }
 
     // Where the bytes of a header go that stand behind the executable segment.
-    fn place_behind(&self, p: &Segment) -> Result<u64, NoMemory>
+    fn place_behind(&self, p: &Segment, home: Option<usize>, align: u64) -> Result<u64, NoMemory>
+        requires { 0 < align }
         ensures { IfOk result (λ o. p.now.kind ≡ PT_LOAD → 0 < p.now.filesz → o ≡ moved_by self.now.shift.from self.now.shift.by p.now.offset) }
     {
         if p.kind == PT_LOAD {
             if p.filesz > 0 {
                 return self.shift.moved(p.offset);
             }
-            return self.beside(p);
+            return self.beside(p, align);
         }
         if p.kind == PT_PHDR {
             return Ok(self.table_at);
         }
-        let end = p.offset as u128 + p.filesz as u128;
-        if p.filesz > 0 && !is_loaded_between(&self.elf.segments, p.offset, end) {
-            if let Some(place) = self.place_in_section(p)? {
+        if let Some(home) = home {
+            if let Some(place) = self.place_in(p, home)? {
                 return Ok(place);
             }
         }
-        self.beside(p)
+        self.beside(p, align)
     }
 
     // A program header of the input in the written file.
-    fn renewed(&self, p: &Segment, is_code: bool) -> Result<Segment, NoMemory>
-        requires { is_code ≡ true → self.now.area.tight ≡ false → CanGrow self.now.shift.from self.now.area.end p.now }
+    fn renewed(
+        &self,
+        p: &Segment,
+        is_code: bool,
+        home: Option<usize>,
+        align: u64,
+    ) -> Result<Segment, NoMemory>
+        requires align { 0 < align }
+        requires grows { is_code ≡ true → self.now.area.tight ≡ false → CanGrow self.now.shift.from self.now.area.end p.now }
         ensures { IfOk result (IsRenewed self.now.shift.from self.now.shift.by self.now.area.end self.now.area.tight (not self.now.area.tight && is_code) p.now) }
     {
         if is_code && !self.area.tight {
@@ -160,7 +146,7 @@ impl<'a> Places<'a> {
         }
         if self.shift.from <= p.offset {
             return Ok(Segment {
-                offset: self.place_behind(p)?,
+                offset: self.place_behind(p, home, align)?,
                 ..*p
             });
         }
@@ -172,9 +158,15 @@ impl<'a> Places<'a> {
         requires { CanGrowAt self.now.shift.from self.now.area.end self.now.area.tight code self.now.elf.now.segments.items }
         ensures { IfOk result (λ qs. AreRenewed self.now.shift.from self.now.shift.by self.now.area.end self.now.area.tight (grows_at self.now.area.tight code) self.now.elf.now.segments.items qs.items) }
     {
+        let align = greatest_align(&self.elf.segments);
+        let homes = homes_of(alloc, &self.elf.segments, &self.elf.sections, self.contents)?;
         let mut segments = Vec::new(alloc);
         for i in 0..self.elf.segments.len() {
-            let renewed = self.renewed(&self.elf.segments[i], i == code)?;
+            let home = match homes.get(i) {
+                Some(home) => *home,
+                None => None,
+            };
+            let renewed = self.renewed(&self.elf.segments[i], i == code, home, align)?;
             segments.push(renewed)?;
         }
         Ok(segments)

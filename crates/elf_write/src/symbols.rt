@@ -1,9 +1,14 @@
 // The symbol table of a written file. gABI, "Symbol Table".
+ghost use Rattle.std.specs.Prelude.{◌≡◌, List};
+ghost use Rattle.rv_code.specs.layout.FunctionLists.{AreLaidOut};
+ghost use Rattle.elf_image.specs.declared.elf.Symbol.{Symbol};
+ghost use Rattle.elf_write.specs.ColdSymbols as spec;
+ghost use Rattle.elf_write.specs.FirstNames.{AreFirstNames};
 
 use crate::first_names::first_names;
 use crate::headers::bytes_of;
 use crate::names::NameTable;
-use crate::runs::{Run, bytes_left, func_around};
+use crate::runs::{Run, bytes_left, func_around, start_around};
 use addr_map::AddrMap;
 use elf_image::number::u32_at;
 use elf_image::symbol::{STT_FUNC, SYM_SIZE};
@@ -27,7 +32,9 @@ pub struct NewCode<'a> {
 
 impl<'a> NewCode<'a> {
     // How many bytes of the function that has an address of the input follow at one of the new code.
-    fn size_from(&self, old: u64, new: u64) -> u64 {
+    fn size_from(&self, old: u64, new: u64) -> u64
+        requires { AreLaidOut self.now.funcs.now }
+    {
         match func_around(self.funcs, old) {
             Some(func) => bytes_left(self.runs, func, new),
             None => 0,
@@ -35,7 +42,9 @@ impl<'a> NewCode<'a> {
     }
 
     // A symbol as it stands in the written file.
-    fn entry_of(&self, symbol: &Symbol, name: u32) -> SymbolEntry {
+    fn entry_of(&self, symbol: &Symbol, name: u32) -> SymbolEntry
+        requires { AreLaidOut self.now.funcs.now }
+    {
         let mut entry = SymbolEntry {
             name,
             info: symbol.info,
@@ -55,7 +64,9 @@ impl<'a> NewCode<'a> {
     }
 
     // The symbol of the cold part that begins with the instruction at an address of the input.
-    fn cold_entry(&self, address: u64, name: u32) -> Option<SymbolEntry> {
+    fn cold_entry(&self, address: u64, name: u32) -> Option<SymbolEntry>
+        requires { AreLaidOut self.now.funcs.now }
+    {
         let to = self.map.moved(address)?;
         Some(SymbolEntry {
             name,
@@ -73,11 +84,11 @@ pub fn named_around<'a>(
     names: &BTreeMap<u64, Symbol<'a>>,
     funcs: &[Func],
     address: u64,
-) -> Option<Symbol<'a>> {
-    match func_around(funcs, address) {
-        Some(func) => names.get(&funcs.get(func)?.start).copied(),
-        None => None,
-    }
+) -> Option<Symbol<'a>>
+    requires { AreLaidOut funcs.now }
+    ensures { (symbols : List Symbol) → AreFirstNames symbols names.now → result ≡ spec.named_around symbols funcs.now address }
+{
+    names.get(&start_around(funcs, address)?).copied()
 }
 
 /// The symbols of cold parts, with their names added to a table.
@@ -87,7 +98,9 @@ pub fn cold_symbols(
     code: &NewCode,
     cold: &[u64],
     table: &mut NameTable,
-) -> Result<Vec<SymbolEntry>, NoMemory> {
+) -> Result<Vec<SymbolEntry>, NoMemory>
+    requires { AreLaidOut code.now.funcs.now }
+{
     let names = first_names(alloc, &elf.symbols)?;
     let mut entries = Vec::new(alloc);
     for address in cold {
@@ -108,7 +121,9 @@ pub fn symbol_table(
     section: &Section,
     code: &NewCode,
     cold: &[SymbolEntry],
-) -> Result<Vec<u8>, NoMemory> {
+) -> Result<Vec<u8>, NoMemory>
+    requires { AreLaidOut code.now.funcs.now }
+{
     let mut bytes = Vec::new(alloc);
     let mut rest = bytes_of(elf.file, section);
     let local = local_count(elf, section);

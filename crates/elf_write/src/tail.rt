@@ -6,6 +6,9 @@ use elf_parts::patch::fill_to;
 use rb_bytes::fault::NoMemory;
 use std::alloc::Global;
 
+/// No file is written that has more bytes: only a huge alignment can ask for one.
+pub const FILE_LIMIT: u64 = 1 << 30;
+
 /// Bytes from an offset of the file on, to which more are added.
 #[derive(Drop)]
 pub struct Tail {
@@ -40,6 +43,9 @@ impl Tail {
     {
         let end = self.end()?;
         let place = rounded_up(align.max(1), end)?;
+        if place > FILE_LIMIT {
+            return Err(NoMemory);
+        }
         let size = (place - self.base) as usize;
         fill_to(&mut self.bytes, size)?;
         Ok(place)

@@ -1,4 +1,4 @@
-use Rattle.std.proofs.Common.{◌≡◌, ◌∙◌, sym, subst, ℕ, ◌+◌, ◌<◌, List, ◌∷◌, [], ◌++◌, length, get_or, take, arith, rules}
+use Rattle.std.proofs.Common.{◌≡◌, sym, subst, ℕ, ◌+◌, ◌<◌, List, ◌∷◌, [], ◌++◌, length, take, rules}
 use Rattle.std.proofs.lemmas.List.{get_or_default}
 use Rattle.elf_parts.specs.declared.number_at.NumberAt.{NumberAt}
 use Rattle.elf_write.specs.CellNumbers.{AreCellNumbers, IsCellNumber}

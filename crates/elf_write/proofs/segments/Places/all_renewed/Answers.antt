@@ -1,4 +1,4 @@
-use Rattle.std.proofs.Common.{◌≡◌, ◌∙◌, sym, subst, ℕ, ◌+◌, ◌<◌, List, ◌∷◌, [], ◌++◌, length, get_or, arith, rules}
+use Rattle.std.proofs.Common.{◌≡◌, ◌∙◌, sym, subst, ℕ, ◌+◌, ◌<◌, List, ◌∷◌, [], ◌++◌, length, get_or, rules}
 use Rattle.std.proofs.lemmas.List.{get_or_default}
 use Rattle.elf_image.specs.declared.segment.Segment.{Segment}
 use Rattle.elf_write.specs.NewSegments.{AreRenewed, IsRenewed, grows_at}

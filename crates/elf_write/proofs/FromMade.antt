@@ -1,0 +1,37 @@
+-- A file that was made, and that the reader takes, is written as it has to be.
+use Rattle.std.proofs.Common.{ℕ, ◌<◌, List, Bool, length, get_or}
+use Rattle.std.specs.Prelude.{All, AllPairs}
+use Rattle.elf_image.specs.faults.FileFaults.{IsSound}
+use Rattle.elf_image.specs.file.Header.{segments_of}
+use Rattle.elf_image.specs.file.ParsedFile.{IsElfOf}
+use Rattle.elf_image.specs.memory.Image.{LoadOnce}
+use Rattle.elf_write.specs.Carried.{CarriesImage}
+use Rattle.elf_write.specs.Made.{IsMade}
+use Rattle.elf_write.specs.Source.{Source, IsPlaced, is_changed}
+use Rattle.elf_write.specs.Written.{CanHold, AreApart, IsWritten}
+use Rattle.elf_write.proofs.CellsWritten.{cells-written, wide}
+use Rattle.elf_write.proofs.CodeWritten.{code-written, executable-written}
+use Rattle.elf_write.proofs.EntryWritten.{entry-written, entry_field-written}
+use Rattle.elf_write.proofs.MadeSegments.{new-loads}
+use Rattle.elf_write.proofs.MadeHeaders.{headers-written}
+use Rattle.elf_write.proofs.PlacesWritten.{places-written}
+use Rattle.elf_write.proofs.SoundFiles.{load_once}
+
+pub written : (s : Source) (tight : Bool) (w : List ℕ) → IsElfOf s.elf.file.now s.elf → IsSound s.elf.file.now → All (CanHold s.elf) s.cells → AllPairs AreApart s.cells → IsMade s tight w → IsPlaced s tight → IsSound w → CarriesImage s.elf.file.now w (is_changed s tight) s.elf.segments.items (segments_of w) → IsWritten s tight w
+written s tight w read sound can apart made placed sound_w image = record {
+  image = image;
+  code = code-written s tight w read sound made placed some once;
+  executable = executable-written s tight w read sound made placed some once;
+  cells = cells-written s tight w read sound made can apart (new-loads s tight w made) once;
+  entry = entry-written s tight w made;
+  entry_field = entry_field-written s tight w made read sound (new-loads s tight w made) once;
+  places = places-written s tight w read sound made placed;
+  headers = headers-written s tight w made;
+  sound = sound_w;
+}
+  where
+    once : LoadOnce (segments_of w)
+    once = load_once w sound_w
+
+    some : (i : ℕ) (c : ℕ × ℕ × ℕ) → i < length s.cells → 0 < (get_or s.cells i c).1
+    some i c below = wide (get_or s.cells i c).1 (can i c below).width

@@ -1,0 +1,67 @@
+// The bytes of the new area: the new code, and the tables that are loaded behind it.
+ghost use Rattle.std.specs.Prelude.{◌≡◌, ℕ, List, IfOk, OnOk, find, string_bytes};
+ghost use Rattle.std.specs.Option.{option_copied};
+ghost use Rattle.std.specs.Str.{bytes_eq};
+ghost use Rattle.elf_parts.specs.Patches.{Stands};
+ghost use Rattle.elf_write.specs.TableSizes as spec;
+
+use crate::area::Area;
+use crate::sections::Table;
+use elf_image::named::{EH_FRAME, EH_FRAME_HDR};
+use elf_parts::patch::fill_to;
+use rb_bytes::fault::NoMemory;
+use std::alloc::Global;
+
+/// The first table with a name.
+pub fn table_called<'a>(tables: &'a [Table], name: &[u8]) -> Option<&'a Table>
+    ensures { option_copied result ≡ find (λ t. bytes_eq (string_bytes t.0) name.now) tables.now }
+{
+    tables.iter().find(|t| t.0.as_bytes() == name)
+}
+
+/// Its size.
+pub fn table_size(tables: &[Table], name: &[u8]) -> Option<usize>
+    ensures { result ≡ spec.table_size tables.now name.now }
+{
+    match table_called(tables, name) {
+        Some(table) => Some(table.1.len()),
+        None => None,
+    }
+}
+
+// Adds the table with a name at its address, behind bytes from a start on.
+fn add_table(
+    bytes: &mut Vec<u8>,
+    start: u64,
+    address: Option<u64>,
+    table: Option<&Table>,
+) -> Result<(), NoMemory>
+    ensures { OnOk result ((xs : List ℕ) → Stands bytes.old.items 0 xs → Stands bytes.new.items 0 xs) }
+{
+    if let (Some(address), Some(table)) = (address, table) {
+        let place = address.saturating_sub(start) as usize;
+        if place < bytes.len() {
+            return Err(NoMemory);
+        }
+        fill_to(bytes, place)?;
+        bytes.extend_from_slice(&table.1)?;
+    }
+    Ok(())
+}
+
+/// All bytes of the area.
+pub fn area_bytes(
+    alloc: Global,
+    area: &Area,
+    code: &[u8],
+    tables: &[Table],
+) -> Result<Vec<u8>, NoMemory>
+    ensures { IfOk result (λ bytes. Stands bytes.items 0 code.now) }
+{
+    let mut bytes = Vec::from_slice(alloc, code)?;
+    let frames = table_called(tables, EH_FRAME);
+    add_table(&mut bytes, area.start, area.frames, frames)?;
+    let index = table_called(tables, EH_FRAME_HDR);
+    add_table(&mut bytes, area.start, area.index, index)?;
+    Ok(bytes)
+}

@@ -1,0 +1,257 @@
+// The sections of a written file: their contents behind its loaded bytes, and their headers behind those.
+ghost use Rattle.std.specs.Prelude.{◌≡◌, IfOk};
+ghost use Rattle.elf_image.specs.faults.Truncation.{IsReadable};
+ghost use Rattle.elf_image.specs.file.Header.{e_shstrndx};
+
+use crate::area_bytes::table_called;
+use crate::headers::{
+    NewContents, area_headers, bytes_of, old_headers, place_contents, set_contents,
+};
+use crate::kept_bytes::KeptBytes;
+use crate::layout::Layout;
+use crate::name_tables::OwnSections;
+use crate::names::NameTable;
+use crate::round::sum;
+use crate::runs::runs;
+use crate::section_tables::DEBUG_RNGLISTS;
+use crate::sections::{Contents, Sections, Table, index_called, replaced_by};
+use crate::symbols::{NewCode, cold_symbols, local_count, symbol_table};
+use crate::tail::Tail;
+use addr_map::AddrMap;
+use elf_image::section::{SHDR_SIZE, SHT_PROGBITS};
+use elf_image::{Elf, SectionHeader};
+use elf_parts::spell::{SymbolEntry, put_sections};
+use rb_bytes::fault::NoMemory;
+use rv_code::Func;
+use std::alloc::Global;
+
+/// What the sections of a written file are made of.
+#[derive(Clone, Copy)]
+pub struct SectionSource<'a> {
+    pub elf: &'a Elf<'a>,
+    pub funcs: &'a [Func],
+    /// The addresses of cold parts in the input.
+    pub cold: &'a [u64],
+    pub map: &'a AddrMap,
+    pub tables: &'a [Table],
+}
+
+/// The sections of a written file.
+#[derive(Drop)]
+pub struct NewSections {
+    /// Their headers.
+    pub headers: Vec<SectionHeader>,
+    /// Where the contents of each of the input's sections are.
+    pub contents: Vec<Contents>,
+    /// The index of the section with the names of sections.
+    pub names: usize,
+    /// Where the table of headers stands.
+    pub table_at: u64,
+}
+
+// The tables of names: that of sections, and that of symbols, where it is another one.
+#[derive(Drop)]
+struct NewNames {
+    sections: NameTable,
+    symbols: Option<NameTable>,
+}
+
+impl NewNames {
+    fn new(alloc: Global, elf: &Elf, own: &OwnSections) -> Result<NewNames, NoMemory> {
+        let sections = names_at(alloc, elf, own.section_names)?;
+        let symbols = match own.symbol_names {
+            Some(index) => {
+                if index == own.section_names {
+                    None
+                } else {
+                    Some(names_at(alloc, elf, index)?)
+                }
+            }
+            None => None,
+        };
+        Ok(NewNames { sections, symbols })
+    }
+
+    // The bytes of the table for symbols.
+    fn of_symbols(&self) -> &[u8] {
+        match &self.symbols {
+            Some(table) => table.bytes(),
+            None => self.sections.bytes(),
+        }
+    }
+}
+
+// A table with the bytes of the section of an index.
+fn names_at(alloc: Global, elf: &Elf, index: usize) -> Result<NameTable, NoMemory> {
+    let section = elf.sections.get(index).ok_or(NoMemory)?;
+    NameTable::new(alloc, bytes_of(elf.file, section))
+}
+
+// The header of the table of ranges, where one is given and the input has none.
+fn added_ranges(
+    elf: &Elf,
+    tables: &[Table],
+    names: &mut NameTable,
+) -> Result<Option<SectionHeader>, NoMemory> {
+    if table_called(tables, DEBUG_RNGLISTS).is_none()
+        || index_called(&elf.sections, DEBUG_RNGLISTS).is_some()
+    {
+        return Ok(None);
+    }
+    Ok(Some(SectionHeader {
+        name: names.add(DEBUG_RNGLISTS, b"")?,
+        kind: SHT_PROGBITS,
+        flags: 0,
+        addr: 0,
+        offset: 0,
+        size: 0,
+        link: 0,
+        info: 0,
+        align: 1,
+        entsize: 0,
+    }))
+}
+
+impl<'a> SectionSource<'a> {
+    ghost use Rattle.rv_code.specs.layout.FunctionLists.{AreLaidOut};
+    ghost use Rattle.std.specs.Prelude.{◌≡◌, IfOk};
+    ghost use Rattle.elf_image.specs.faults.Truncation.{IsReadable};
+    ghost use Rattle.elf_image.specs.file.Header.{e_shstrndx};
+
+    // The symbols that are added, with their names.
+    fn added_symbols(
+        &self,
+        alloc: Global,
+        own: &OwnSections,
+        code: &NewCode,
+        names: &mut NewNames,
+    ) -> Result<Vec<SymbolEntry>, NoMemory>
+        requires { AreLaidOut code.now.funcs.now }
+    {
+        if own.symbol_names.is_none() {
+            return Ok(Vec::new(alloc));
+        }
+        match &mut names.symbols {
+            Some(table) => cold_symbols(alloc, self.elf, code, self.cold, table),
+            None => cold_symbols(alloc, self.elf, code, self.cold, &mut names.sections),
+        }
+    }
+
+    // The bytes of the symbol table. Its header says how many symbols there are up to the last that is added.
+    fn symbols(
+        &self,
+        alloc: Global,
+        own: &OwnSections,
+        names: &mut NewNames,
+        headers: &mut [SectionHeader],
+        text: u16,
+    ) -> Result<Vec<u8>, NoMemory>
+        requires { AreLaidOut self.now.funcs.now }
+    {
+        let Some(index) = own.symbols else {
+            return Ok(Vec::new(alloc));
+        };
+        let section = self.elf.sections.get(index).ok_or(NoMemory)?;
+        let runs = runs(alloc, self.funcs, self.map)?;
+        let code = NewCode {
+            funcs: self.funcs,
+            map: self.map,
+            runs: &runs,
+            section: text,
+        };
+        let added = self.added_symbols(alloc, own, &code, names)?;
+        if !added.is_empty() && index < headers.len() {
+            let count = sum(local_count(self.elf, section) as u64, added.len() as u64)?;
+            headers[index].info = u32::try_from(count).map_err(|_| NoMemory)?;
+        }
+        symbol_table(alloc, self.elf, section, &code, &added)
+    }
+
+    // Where the contents of the input's sections are, and what their headers say of that.
+    fn old_contents(
+        &self,
+        alloc: Global,
+        own: OwnSections,
+        layout: &Layout,
+        headers: &mut [SectionHeader],
+    ) -> Result<Vec<Contents>, NoMemory> {
+        let replaced = replaced_by(alloc, &self.elf.sections, self.tables)?;
+        let kept = KeptBytes::new(alloc, &self.elf.segments, &layout.area, &layout.shift)?;
+        let sections = Sections {
+            elf: self.elf,
+            own,
+            replaced: &replaced,
+            kept: &kept,
+        };
+        let contents = sections.contents(alloc)?;
+        for i in 0..contents.len().min(headers.len()) {
+            set_contents(&mut headers[i], contents[i], &layout.shift)?;
+        }
+        Ok(contents)
+    }
+
+    /// Writes the contents of all sections into a tail, and their headers behind them.
+    pub fn put(
+        &self,
+        alloc: Global,
+        layout: &Layout,
+        tail: &mut Tail,
+    ) -> Result<NewSections, NoMemory>
+        requires readable { IsReadable self.now.elf.now.file.now }
+        requires laid_out { AreLaidOut self.now.funcs.now }
+        ensures names { IfOk result (λ new. new.names ≡ e_shstrndx self.now.elf.now.file.now) }
+        ensures base { IfOk result (λ new. tail.new.base ≡ tail.old.base) }
+    {
+        let own = OwnSections::new(self.elf)?;
+        let mut names = NewNames::new(alloc, self.elf, &own)?;
+        let mut headers = old_headers(alloc, self.elf, &mut names.sections)?;
+        let text = u16::try_from(headers.len()).map_err(|_| NoMemory)?;
+        area_headers(&mut headers, &layout.area, self.tables, &mut names.sections)?;
+        let ranges = added_ranges(self.elf, self.tables, &mut names.sections)?;
+        let symbols = self.symbols(alloc, &own, &mut names, &mut headers, text)?;
+        let contents = self.old_contents(alloc, own, layout, &mut headers)?;
+        let new = NewContents {
+            section_names: names.sections.bytes(),
+            symbols: &symbols,
+            symbol_names: names.of_symbols(),
+            tables: self.tables,
+        };
+        place_contents(alloc, self.elf, &contents, &new, &mut headers, tail)?;
+        if let (Some(header), Some(table)) = (ranges, table_called(self.tables, DEBUG_RNGLISTS)) {
+            headers.push(SectionHeader {
+                offset: tail.add(1, &table.1)?,
+                size: table.1.len() as u64,
+                ..header
+            })?;
+        }
+        let table_at = put_table(alloc, &mut headers, tail)?;
+        Ok(NewSections {
+            headers,
+            contents,
+            names: own.section_names,
+            table_at,
+        })
+    }
+}
+
+// Writes the table of headers, and says where it stands. No section stands behind the file's end.
+fn put_table(
+    alloc: Global,
+    headers: &mut Vec<SectionHeader>,
+    tail: &mut Tail,
+) -> Result<u64, NoMemory>
+    ensures { IfOk result (λ at. tail.new.base ≡ tail.old.base) }
+{
+    let table_at = tail.align_to(8)?;
+    let size = (headers.len() as u64)
+        .checked_mul(SHDR_SIZE as u64)
+        .ok_or(NoMemory)?;
+    let end = table_at.checked_add(size).ok_or(NoMemory)?;
+    for header in headers.iter_mut() {
+        header.offset = header.offset.min(end);
+    }
+    let mut bytes = Vec::new(alloc);
+    put_sections(&mut bytes, headers)?;
+    tail.add(1, &bytes)?;
+    Ok(table_at)
+}

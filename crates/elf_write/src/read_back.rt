@@ -1,0 +1,191 @@
+// Whether a file that was written has the sections and the symbols that it must have, as they are read back.
+ghost use Rattle.std.specs.Prelude.{◌≡◌, IfOk, IsTrue};
+ghost use Rattle.rv_code.specs.layout.FunctionLists.{AreLaidOut};
+ghost use Rattle.elf_image.specs.faults.FileFaults.{IsSound};
+ghost use Rattle.elf_image.specs.faults.Truncation.{HasHeader};
+ghost use Rattle.elf_image.specs.file.ParsedFile.{IsElfOf};
+ghost use Rattle.elf_write.specs.AllRuns.{AreRuns};
+ghost use Rattle.elf_write.specs.Area.{shift_of};
+ghost use Rattle.elf_write.specs.NewSections.{AreNewSections};
+ghost use Rattle.elf_write.specs.NewSymbols.{HaveNewSymbols};
+ghost use Rattle.elf_write.specs.NewTables.{HasNewTables, area_for};
+
+use crate::area::{Area, Shift, area_of};
+use crate::area_bytes::table_size;
+use crate::code_segment::executable_segment;
+use crate::kept_bytes::KeptBytes;
+use crate::name_tables::{OwnSections, place_of_symbols, symbols_section};
+use crate::new_sections::SectionSource;
+use crate::runs::{Run, runs};
+use crate::section_tables::SectionTables;
+use crate::sections::{Sections, Table, replaced_by};
+use crate::symbol_check::CodeSymbols;
+use crate::symbol_tables::SymbolTables;
+use elf_image::named::{EH_FRAME, EH_FRAME_HDR};
+use elf_image::{Elf, read};
+use rb_bytes::fault::NoMemory;
+use std::alloc::Global;
+
+// The new area for some code and tables, and how bytes move to make room for it.
+fn area_for(
+    elf: &Elf,
+    tables: &[Table],
+    code: &[u8],
+    tight: bool,
+) -> Result<(Area, Shift), NoMemory>
+    ensures area { IfOk result (λ r. r.0 ≡ area_for elf.now tables.now code.now tight) }
+    ensures shift { IfOk result (λ r. r.1 ≡ shift_of elf.now.segments.items r.0) }
+{
+    let segments = elf.segments.as_slice();
+    let (_, executable) = executable_segment(segments).ok_or(NoMemory)?;
+    let frames = table_size(tables, EH_FRAME);
+    let header = table_size(tables, EH_FRAME_HDR);
+    let area = area_of(segments, &executable, tight, code.len(), frames, header)?;
+    let shift = Shift::new(segments, &executable, &area)?;
+    Ok((area, shift))
+}
+
+// Whether the sections are those that the file must have.
+fn has_sections(alloc: Global, tables: &SectionTables) -> Result<bool, NoMemory>
+    requires old_header { HasHeader tables.now.elf.now.file.now }
+    requires new_header { HasHeader tables.now.new.now.file.now }
+    ensures { IfOk result (λ holds. IsTrue holds →
+        AreNewSections tables.now.elf.now tables.now.new.now tables.now.tables.now tables.now.area tables.now.shift
+        tables.now.code.now) }
+{
+    let elf = tables.elf;
+    let own = OwnSections::new(elf)?;
+    let replaced = replaced_by(alloc, &elf.sections, tables.tables)?;
+    let kept = KeptBytes::new(alloc, &elf.segments, &tables.area, &tables.shift)?;
+    let known = Sections {
+        elf,
+        own,
+        replaced: &replaced,
+        kept: &kept,
+    };
+    Ok(tables.are_new(&known))
+}
+
+// Whether the symbols are, by the runs of functions in the new code.
+fn symbols_are_new(
+    alloc: Global,
+    source: &SectionSource,
+    runs: &[Run],
+    new: &Elf,
+) -> Result<bool, NoMemory>
+    requires laid_out { AreLaidOut source.now.funcs.now }
+    requires runs { AreRuns source.now.funcs.now source.now.map.now runs.now }
+    ensures { IfOk result (λ holds. IsTrue holds →
+        HaveNewSymbols source.now.elf.now new.now source.now.funcs.now source.now.map.now source.now.cold.now) }
+{
+    let elf = source.elf;
+    if place_of_symbols(new) != place_of_symbols(elf) {
+        return Ok(false);
+    }
+    let (Some(table), Some(new_table)) = (symbols_section(elf), symbols_section(new)) else {
+        return Ok(true);
+    };
+    let code = CodeSymbols {
+        funcs: source.funcs,
+        map: source.map,
+        runs,
+        text: u16::try_from(elf.sections.len()).map_err(|_| NoMemory)?,
+    };
+    let tables = SymbolTables {
+        old: &elf.symbols,
+        new: &new.symbols,
+        code,
+        cold: source.cold,
+    };
+    tables.are_new(alloc, table, new_table)
+}
+
+// Whether the symbols are those that the file must have.
+fn has_symbols(alloc: Global, source: &SectionSource, new: &Elf) -> Result<bool, NoMemory>
+    requires { AreLaidOut source.now.funcs.now }
+    ensures { IfOk result (λ holds. IsTrue holds →
+        HaveNewSymbols source.now.elf.now new.now source.now.funcs.now source.now.map.now source.now.cold.now) }
+{
+    let runs = runs(alloc, source.funcs, source.map)?;
+    symbols_are_new(alloc, source, &runs, new)
+}
+
+// Whether both are.
+fn has_new_tables(
+    alloc: Global,
+    source: &SectionSource,
+    code: &[u8],
+    tight: bool,
+    new: &Elf,
+) -> Result<bool, NoMemory>
+    requires old_header { HasHeader source.now.elf.now.file.now }
+    requires new_header { HasHeader new.now.file.now }
+    requires laid_out { AreLaidOut source.now.funcs.now }
+    ensures sections { IfOk result (λ holds. IsTrue holds →
+        AreNewSections source.now.elf.now new.now source.now.tables.now
+        (area_for source.now.elf.now source.now.tables.now code.now tight)
+        (shift_of source.now.elf.now.segments.items
+        (area_for source.now.elf.now source.now.tables.now code.now tight)) code.now) }
+    ensures symbols { IfOk result (λ holds. IsTrue holds →
+        HaveNewSymbols source.now.elf.now new.now source.now.funcs.now source.now.map.now source.now.cold.now) }
+{
+    let (area, shift) = area_for(source.elf, source.tables, code, tight)?;
+    let tables = SectionTables {
+        elf: source.elf,
+        new,
+        tables: source.tables,
+        area,
+        shift,
+        code,
+    };
+    if !has_sections(alloc, &tables)? {
+        return Ok(false);
+    }
+    has_symbols(alloc, source, new)
+}
+
+// The same, where memory that was wanting counts as no.
+fn finds_new_tables(
+    alloc: Global,
+    source: &SectionSource,
+    code: &[u8],
+    tight: bool,
+    new: &Elf,
+) -> bool
+    requires old_header { HasHeader source.now.elf.now.file.now }
+    requires new_header { HasHeader new.now.file.now }
+    requires laid_out { AreLaidOut source.now.funcs.now }
+    ensures sections { IsTrue result →
+        AreNewSections source.now.elf.now new.now source.now.tables.now
+        (area_for source.now.elf.now source.now.tables.now code.now tight)
+        (shift_of source.now.elf.now.segments.items (area_for source.now.elf.now source.now.tables.now code.now tight))
+        code.now }
+    ensures symbols { IsTrue result →
+        HaveNewSymbols source.now.elf.now new.now source.now.funcs.now source.now.map.now source.now.cold.now }
+{
+    match has_new_tables(alloc, source, code, tight, new) {
+        Ok(holds) => holds,
+        Err(_) => false,
+    }
+}
+
+/// Whether the reader takes a file, and finds the sections and symbols in it that the file must have.
+pub fn is_accepted(
+    alloc: Global,
+    source: &SectionSource,
+    code: &[u8],
+    tight: bool,
+    file: &[u8],
+) -> bool
+    requires header { HasHeader source.now.elf.now.file.now }
+    requires laid_out { AreLaidOut source.now.funcs.now }
+    ensures sound { IsTrue result → IsSound file.now }
+    ensures tables { IsTrue result →
+        HasNewTables source.now.elf.now source.now.tables.now code.now source.now.funcs.now source.now.cold.now
+        source.now.map.now tight file.now }
+{
+    match read(alloc, file) {
+        Ok(found) => finds_new_tables(alloc, source, code, tight, &found),
+        Err(_) => false,
+    }
+}

@@ -1,0 +1,196 @@
+// Whether a file that was written has the sections that it must have, as they are read back. gABI, "Section Header".
+ghost use Rattle.std.specs.Prelude.{◌≡◌, IsTrue};
+ghost use Rattle.elf_write.specs.NewSections as spec;
+ghost use Rattle.elf_write.specs.OldNames.{new_name};
+
+use crate::area::{Area, Shift};
+use crate::headers::{SHT_NULL, bytes_of, without_code};
+use crate::name_parts::is_joined;
+use crate::old_name::{is_renamed, old_prefix};
+use crate::sections::{Contents, Table};
+use elf_image::Section;
+use elf_image::relocation::SHT_RELA;
+use elf_image::section::{SHT_NOBITS, SHT_PROGBITS, SHT_STRTAB};
+
+// Whether a name is the one that a section of the input gets.
+fn is_new_name(s: &Section, name: &[u8]) -> bool
+    ensures { IsTrue result → name.now ≡ new_name s.now }
+{
+    if is_renamed(s) {
+        is_joined(name, old_prefix(s.name), s.name)
+    } else {
+        name == s.name
+    }
+}
+
+/// Whether a section has what stays of a header.
+pub fn keeps_header(s: &Section, n: &Section) -> bool
+    ensures { IsTrue result → spec.KeepsHeader s.now n.now }
+{
+    is_new_name(s, n.name)
+        && n.addr == s.addr
+        && n.link == s.link
+        && n.align == s.align
+        && n.entsize == s.entsize
+}
+
+fn is_aligned(n: &Section) -> bool
+    ensures { IsTrue result → spec.IsAligned n.now }
+{
+    n.offset % n.align.max(1) == 0
+}
+
+fn holds_contents(w: &[u8], bytes: &[u8], n: &Section) -> bool
+    ensures { IsTrue result → spec.HoldsContents w.now bytes.now n.now }
+{
+    bytes_of(w, n) == bytes && n.size == bytes.len() as u64 && is_aligned(n)
+}
+
+fn same_flags(s: &Section, n: &Section) -> bool
+    ensures { IsTrue result → spec.SameFlags s.now n.now }
+{
+    n.flags == s.flags && n.info == s.info
+}
+
+fn is_dropped(s: &Section, n: &Section) -> bool
+    ensures { IsTrue result → spec.IsDropped s.now n.now }
+{
+    n.kind == SHT_NULL && same_flags(s, n) && n.offset == 0 && n.size == 0
+}
+
+// Whether the contents are where the loaded bytes of the input went.
+fn is_kept(shift: &Shift, w: &[u8], s: &Section, n: &Section) -> bool
+    ensures { IsTrue result → spec.IsKept shift.now w.now s.now n.now }
+{
+    match shift.moved(s.offset) {
+        Ok(moved) => {
+            n.kind == s.kind
+                && same_flags(s, n)
+                && n.offset == moved.min(w.len() as u64)
+                && n.size == s.size
+        }
+        Err(_) => false,
+    }
+}
+
+fn is_rewritten(w: &[u8], bytes: &[u8], kind: u32, s: &Section, n: &Section) -> bool
+    ensures { IsTrue result → spec.IsRewritten w.now bytes.now kind s.now n.now }
+{
+    n.kind == kind && same_flags(s, n) && holds_contents(w, bytes, n)
+}
+
+fn kind_of_own(kind: u32) -> u32
+    ensures { result ≡ spec.kind_of_own kind }
+{
+    match kind {
+        SHT_RELA => SHT_NULL,
+        SHT_NOBITS => SHT_STRTAB,
+        kind => kind,
+    }
+}
+
+fn kind_of_given(kind: u32) -> u32
+    ensures { result ≡ spec.kind_of_given kind }
+{
+    if kind == SHT_NOBITS {
+        SHT_PROGBITS
+    } else {
+        kind
+    }
+}
+
+fn is_own(s: &Section, n: &Section) -> bool
+    ensures { IsTrue result → spec.IsOwn s.now n.now }
+{
+    n.kind == kind_of_own(s.kind) && n.flags == without_code(s.flags) && is_aligned(n)
+}
+
+// The bytes of a table by its place.
+fn given_bytes(tables: &[Table], place: usize) -> &[u8]
+    ensures { result.now ≡ spec.given_bytes tables.now place }
+{
+    match tables.get(place) {
+        Some(table) => &table.1,
+        None => &[],
+    }
+}
+
+/// The input and the written file, as far as the contents of sections are concerned.
+#[derive(Clone, Copy)]
+pub struct Files<'a> {
+    pub old: &'a [u8],
+    pub new: &'a [u8],
+    pub tables: &'a [Table],
+    pub shift: Shift,
+}
+
+impl<'a> Files<'a> {
+    ghost use Rattle.std.specs.Prelude.{IsTrue};
+    ghost use Rattle.elf_write.specs.NewSections.{Follows};
+
+    /// Whether a section of the written file is what one of the input becomes, by where its contents are.
+    pub fn follows(&self, contents: Contents, s: &Section, n: &Section) -> bool
+        ensures { IsTrue result →
+            Follows self.now.tables.now self.now.shift self.now.old.now self.now.new.now contents s.now n.now }
+    {
+        match contents {
+            Contents::Dropped => is_dropped(s, n),
+            Contents::Kept => is_kept(&self.shift, self.new, s, n),
+            Contents::Copied => is_rewritten(self.new, bytes_of(self.old, s), s.kind, s, n),
+            Contents::SectionNames | Contents::SymbolNames => is_own(s, n) && n.info == s.info,
+            Contents::Symbols => is_own(s, n),
+            Contents::Given(place) => {
+                let bytes = given_bytes(self.tables, place);
+                is_rewritten(self.new, bytes, kind_of_given(s.kind), s, n)
+            }
+        }
+    }
+}
+
+/// A section that is added.
+#[derive(Clone, Copy)]
+pub struct Added<'a> {
+    pub name: &'a [u8],
+    pub bytes: &'a [u8],
+    pub flags: u64,
+    pub addr: u64,
+    pub align: u64,
+}
+
+impl<'a> Added<'a> {
+    ghost use Rattle.std.specs.Prelude.{IsTrue};
+    ghost use Rattle.elf_write.specs.NewSections.{IsAdded, IsHeader, IsInArea};
+
+    // Whether a section says of itself what it must.
+    fn has_header(&self, n: &Section) -> bool
+        ensures { IsTrue result → IsHeader self.now.name.now self.now.flags self.now.addr self.now.align n.now }
+    {
+        n.name == self.name
+            && n.kind == SHT_PROGBITS
+            && n.flags == self.flags
+            && n.addr == self.addr
+            && n.link == 0
+            && n.info == 0
+            && n.align == self.align
+            && n.entsize == 0
+    }
+
+    /// Whether a section of a file is this one.
+    pub fn is(&self, w: &[u8], n: &Section) -> bool
+        ensures { IsTrue result →
+            IsAdded w.now self.now.name.now self.now.bytes.now self.now.flags self.now.addr self.now.align n.now }
+    {
+        self.has_header(n) && bytes_of(w, n) == self.bytes && n.size == self.bytes.len() as u64
+    }
+
+    /// Whether it is this one, in an area.
+    pub fn is_in(&self, w: &[u8], area: &Area, n: &Section) -> bool
+        ensures { IsTrue result →
+            IsInArea w.now area.now self.now.name.now self.now.bytes.now self.now.flags self.now.addr self.now.align n.now }
+    {
+        match area.offset_of(self.addr) {
+            Ok(offset) => self.is(w, n) && n.offset == offset,
+            Err(_) => false,
+        }
+    }
+}

@@ -1,0 +1,264 @@
+// Whether the table of sections of a file that was written is what it must be. gABI, "Section Header".
+ghost use Rattle.std.specs.Prelude.{◌≡◌};
+ghost use Rattle.elf_write.specs.NewSections as spec;
+
+use crate::area::{Area, Shift};
+use crate::area_bytes::table_called;
+use crate::section_check::{Added, Files, keeps_header};
+use crate::sections::{Contents, Sections, Table};
+use elf_image::header::e_shstrndx;
+use elf_image::named::{EH_FRAME, EH_FRAME_HDR};
+use elf_image::section::{SHF_ALLOC, SHF_EXECINSTR};
+use elf_image::{Elf, Section};
+
+/// The name of the table of ranges, which is added where the input has none.
+pub const DEBUG_RNGLISTS: &[u8] = b".debug_rnglists";
+
+// The bytes of the table with a name; none without one.
+fn bytes_called<'a>(tables: &'a [Table], name: &[u8]) -> &'a [u8]
+    ensures { result.now ≡ spec.bytes_called tables.now name.now }
+{
+    match table_called(tables, name) {
+        Some(table) => &table.1,
+        None => &[],
+    }
+}
+
+fn one_if(test: bool) -> usize
+    ensures { result ≡ spec.one_if test }
+{
+    if test { 1 } else { 0 }
+}
+
+/// The input, and the written file as it was read back.
+#[derive(Clone, Copy)]
+pub struct SectionTables<'a> {
+    pub elf: &'a Elf<'a>,
+    pub new: &'a Elf<'a>,
+    pub tables: &'a [Table],
+    pub area: Area,
+    pub shift: Shift,
+    /// The bytes of the new code.
+    pub code: &'a [u8],
+}
+
+impl<'a> SectionTables<'a> {
+    ghost use Rattle.std.specs.Prelude.{◌≡◌, ℕ, ◌+◌, ◌-◌, ◌<◌, IfSome, IsTrue, Some, codes, is_some, length, slice_get};
+    ghost use Rattle.elf_image.specs.declared.elf.Section.{Section};
+    ghost use Rattle.elf_image.specs.faults.Truncation.{HasHeader};
+    ghost use Rattle.elf_write.specs.Contents.{contents_of};
+    ghost use Rattle.elf_write.specs.KnownSections.{Knows};
+    ghost use Rattle.elf_write.specs.NewSections.{AreNewSections, At, Follows, IsAdded, IsInArea, KeepsHeader, adds_ranges, bytes_called, one_if};
+
+    // Where the contents of a section of the input are, which has an index.
+    fn contents_of(&self, known: &Sections, index: usize, s: &Section) -> Contents
+        requires { Knows self.now.elf.now self.now.tables.now self.now.area self.now.shift known.now }
+        ensures { result ≡ contents_of self.now.elf.now self.now.tables.now self.now.area self.now.shift index s.now }
+    {
+        known.contents_of(index, s)
+    }
+
+    // Whether a section is what one of the input becomes, which has an index.
+    fn becomes(&self, known: &Sections, index: usize, s: &Section, n: &Section) -> bool
+        requires { Knows self.now.elf.now self.now.tables.now self.now.area self.now.shift known.now }
+        ensures keeps { IsTrue result → KeepsHeader s.now n.now }
+        ensures follows { IsTrue result →
+            Follows self.now.tables.now self.now.shift self.now.elf.now.file.now self.now.new.now.file.now
+            (contents_of self.now.elf.now self.now.tables.now self.now.area self.now.shift index s.now) s.now n.now }
+    {
+        let files = Files {
+            old: self.elf.file,
+            new: self.new.file,
+            tables: self.tables,
+            shift: self.shift,
+        };
+        keeps_header(s, n) && files.follows(self.contents_of(known, index, s), s, n)
+    }
+
+    // Whether the section of an index is what that of the input becomes.
+    fn follows(&self, known: &Sections, index: usize) -> bool
+        requires { Knows self.now.elf.now self.now.tables.now self.now.area self.now.shift known.now }
+        ensures keeps { IsTrue result → (s n : Section) → slice_get self.now.elf.now.sections.items index ≡ Some s →
+            slice_get self.now.new.now.sections.items index ≡ Some n → KeepsHeader s n }
+        ensures follows { IsTrue result → (s n : Section) → slice_get self.now.elf.now.sections.items index ≡ Some s →
+            slice_get self.now.new.now.sections.items index ≡ Some n →
+            Follows self.now.tables.now self.now.shift self.now.elf.now.file.now self.now.new.now.file.now
+            (contents_of self.now.elf.now self.now.tables.now self.now.area self.now.shift index s) s n }
+    {
+        match (self.elf.sections.get(index), self.new.sections.get(index)) {
+            (Some(s), Some(n)) => self.becomes(known, index, s, n),
+            _ => false,
+        }
+    }
+
+    fn all_follow(&self, known: &Sections) -> bool
+        requires { Knows self.now.elf.now self.now.tables.now self.now.area self.now.shift known.now }
+        ensures keeps { IsTrue result → (i : ℕ) (s n : Section) → slice_get self.now.elf.now.sections.items i ≡ Some s →
+            slice_get self.now.new.now.sections.items i ≡ Some n → KeepsHeader s n }
+        ensures follows { IsTrue result → (i : ℕ) (s n : Section) → slice_get self.now.elf.now.sections.items i ≡ Some s →
+            slice_get self.now.new.now.sections.items i ≡ Some n →
+            Follows self.now.tables.now self.now.shift self.now.elf.now.file.now self.now.new.now.file.now
+            (contents_of self.now.elf.now self.now.tables.now self.now.area self.now.shift i s) s n }
+    {
+        for i in 0..self.elf.sections.len() {
+            if !self.follows(known, i) {
+                return false;
+            }
+        }
+        true
+    }
+
+    // Whether the section of an index is one that is added in the new area.
+    fn is_in_area(&self, index: usize, added: &Added) -> bool
+        ensures { IsTrue result →
+            At self.now.new.now.sections.items index
+            (IsInArea self.now.new.now.file.now self.now.area added.now.name.now added.now.bytes.now added.now.flags
+            added.now.addr added.now.align) }
+    {
+        match self.new.sections.get(index) {
+            Some(n) => added.is_in(self.new.file, &self.area, n),
+            None => false,
+        }
+    }
+
+    fn is_added(&self, index: usize, added: &Added) -> bool
+        ensures { IsTrue result →
+            At self.now.new.now.sections.items index
+            (IsAdded self.now.new.now.file.now added.now.name.now added.now.bytes.now added.now.flags added.now.addr
+            added.now.align) }
+    {
+        match self.new.sections.get(index) {
+            Some(n) => added.is(self.new.file, n),
+            None => false,
+        }
+    }
+
+    fn has_text(&self, index: usize) -> bool
+        ensures { IsTrue result →
+            At self.now.new.now.sections.items index (IsInArea self.now.new.now.file.now self.now.area
+            (codes ".text") self.now.code.now (SHF_ALLOC + SHF_EXECINSTR) self.now.area.start 16) }
+    {
+        self.is_in_area(
+            index,
+            &Added {
+                name: b".text",
+                bytes: self.code,
+                flags: SHF_ALLOC + SHF_EXECINSTR,
+                addr: self.area.start,
+                align: 16,
+            },
+        )
+    }
+
+    fn has_frames(&self, index: usize) -> bool
+        ensures { IsTrue result → IfSome self.now.area.frames (λ a. At self.now.new.now.sections.items index
+            (IsInArea self.now.new.now.file.now self.now.area (codes ".eh_frame") (bytes_called self.now.tables.now
+            (codes ".eh_frame")) SHF_ALLOC a 8)) }
+    {
+        match self.area.frames {
+            Some(addr) => self.is_in_area(
+                index,
+                &Added {
+                    name: EH_FRAME,
+                    bytes: bytes_called(self.tables, EH_FRAME),
+                    flags: SHF_ALLOC,
+                    addr,
+                    align: 8,
+                },
+            ),
+            None => true,
+        }
+    }
+
+    fn has_index(&self, index: usize) -> bool
+        ensures { IsTrue result → IfSome self.now.area.index (λ a. At self.now.new.now.sections.items index
+            (IsInArea self.now.new.now.file.now self.now.area (codes ".eh_frame_hdr") (bytes_called self.now.tables.now
+            (codes ".eh_frame_hdr")) SHF_ALLOC a 4)) }
+    {
+        match self.area.index {
+            Some(addr) => self.is_in_area(
+                index,
+                &Added {
+                    name: EH_FRAME_HDR,
+                    bytes: bytes_called(self.tables, EH_FRAME_HDR),
+                    flags: SHF_ALLOC,
+                    addr,
+                    align: 4,
+                },
+            ),
+            None => true,
+        }
+    }
+
+    // Whether a table of ranges is added.
+    fn adds_ranges(&self) -> bool
+        ensures { result ≡ adds_ranges self.now.elf.now.sections.items self.now.tables.now }
+    {
+        table_called(self.tables, DEBUG_RNGLISTS).is_some()
+            && self.elf.section_called(DEBUG_RNGLISTS).is_none()
+    }
+
+    fn has_ranges(&self, index: usize) -> bool
+        ensures { IsTrue result → IsTrue (adds_ranges self.now.elf.now.sections.items self.now.tables.now) →
+            At self.now.new.now.sections.items index
+            (IsAdded self.now.new.now.file.now (codes ".debug_rnglists") (bytes_called self.now.tables.now
+            (codes ".debug_rnglists")) 0 0 1) }
+    {
+        if !self.adds_ranges() {
+            return true;
+        }
+        self.is_added(
+            index,
+            &Added {
+                name: DEBUG_RNGLISTS,
+                bytes: bytes_called(self.tables, DEBUG_RNGLISTS),
+                flags: 0,
+                addr: 0,
+                align: 1,
+            },
+        )
+    }
+
+    // How many sections there must be.
+    fn has_count(&self) -> bool
+        ensures { IsTrue result →
+            length self.now.new.now.sections.items ≡ (length self.now.elf.now.sections.items + 1) + (one_if
+            (is_some self.now.area.frames) + (one_if (is_some self.now.area.index) + one_if
+            (adds_ranges self.now.elf.now.sections.items self.now.tables.now))) }
+    {
+        let area = one_if(self.area.frames.is_some()) + one_if(self.area.index.is_some());
+        let added = area + one_if(self.adds_ranges());
+        self.new.sections.len() == self.elf.sections.len() + 1 + added
+    }
+
+    /// Whether the sections are those that the file must have.
+    pub fn are_new(&self, known: &Sections) -> bool
+        requires known { Knows self.now.elf.now self.now.tables.now self.now.area self.now.shift known.now }
+        requires old_header { HasHeader self.now.elf.now.file.now }
+        requires new_header { HasHeader self.now.new.now.file.now }
+        ensures { IsTrue result →
+            AreNewSections self.now.elf.now self.now.new.now self.now.tables.now self.now.area self.now.shift
+            self.now.code.now }
+    {
+        let count = self.elf.sections.len();
+        if e_shstrndx(self.new.file) != e_shstrndx(self.elf.file) {
+            return false;
+        }
+        if !self.has_count() {
+            return false;
+        }
+        if !self.all_follow(known) {
+            return false;
+        }
+        if !self.has_text(count) {
+            return false;
+        }
+        if !self.has_frames(count + 1) {
+            return false;
+        }
+        if !self.has_index(count + 1 + one_if(self.area.frames.is_some())) {
+            return false;
+        }
+        self.has_ranges(self.new.sections.len() - 1)
+    }
+}

@@ -1,0 +1,172 @@
+// The written file.
+ghost use Rattle.std.specs.Prelude.{◌≡◌, ◌<◌, ◌⊎◌, ◌+◌, ◌≤◌, All, AllPairs, Bool, IfOk, IsTrue, OnOk, Some, length};
+ghost use Rattle.elf_image.specs.faults.FileFaults.{IsSound};
+ghost use Rattle.elf_image.specs.faults.Truncation.{IsReadable};
+ghost use Rattle.elf_image.specs.file.Header.{e_shstrndx};
+ghost use Rattle.elf_image.specs.file.ParsedFile.{IsElfOf};
+ghost use Rattle.addr_map.specs.Spans.{moved};
+ghost use Rattle.elf_parts.specs.Parts.{CanStand, size_of};
+ghost use Rattle.rv_code.specs.layout.FunctionLists.{AreLaidOut};
+ghost use Rattle.elf_write.specs.NewTables.{HasNewTables};
+ghost use Rattle.elf_write.specs.Made.{IsMade, IsPut, header_numbers};
+ghost use Rattle.elf_write.specs.Source.{IsPlaced, source_of};
+ghost use Rattle.elf_write.specs.Written.{AreApart, CanHold, IsWritten};
+
+use crate::area_bytes::table_size;
+use crate::cell_numbers::cell_numbers;
+use crate::header_fields::HeaderFields;
+use crate::layout::{Layout, is_above};
+use crate::new_sections::{NewSections, SectionSource};
+use crate::placing::{can_put_all, table_place};
+use crate::read_back::is_accepted;
+use crate::sections::Table;
+use crate::segments::Places;
+use crate::tail::Tail;
+use addr_map::AddrMap;
+use elf_image::named::EH_FRAME_HDR;
+use elf_image::{Elf, Segment};
+use elf_parts::spell::put_segments;
+use elf_parts::{NumberAt, assemble};
+use rb_bytes::fault::NoMemory;
+use rv_code::{Emitted, Func};
+use std::alloc::Global;
+
+// The parts of a file, with numbers and its table of program headers put over them.
+fn put_together(
+    alloc: Global,
+    elf: &Elf,
+    layout: &Layout,
+    tail: &Tail,
+    cells: &[NumberAt],
+    segments: &[Segment],
+    fields: &[NumberAt],
+    table_at: u64,
+) -> Result<Vec<u8>, NoMemory>
+    requires can { CanStand layout.now.parts (length elf.now.file.now) (length layout.now.bytes.items) }
+    requires base { tail.now.base ≡ size_of layout.now.parts }
+    ensures { IfOk result
+        (λ w. IsPut layout.now elf.now.file.now tail.now.bytes.items cells.now segments.now fields.now table_at w.items) }
+{
+    let mut table = Vec::new(alloc);
+    put_segments(&mut table, segments)?;
+    let size = tail.end()? as usize;
+    if !can_put_all(size, cells)
+        || !can_put_all(size, fields)
+        || table_at as u128 + table.len() as u128 > size as u128
+    {
+        return Err(NoMemory);
+    }
+    assemble(
+        alloc,
+        &layout.parts,
+        elf.file,
+        &layout.bytes,
+        tail.bytes(),
+        cells,
+        table_at as usize,
+        &table,
+        fields,
+    )
+}
+
+// The fields of the file's header.
+fn fields_of(
+    elf: &Elf,
+    map: &AddrMap,
+    sections: &NewSections,
+    segments: &[Segment],
+    table_at: u64,
+) -> Result<HeaderFields, NoMemory>
+    ensures entry { IfOk result (λ fields. moved map.now elf.now.entry ≡ Some fields.entry) }
+    ensures segments_at { IfOk result (λ fields. fields.segments_at ≡ table_at) }
+    ensures segments { IfOk result (λ fields. fields.segments ≡ length segments.now) }
+    ensures sections_at { IfOk result (λ fields. fields.sections_at ≡ sections.now.table_at) }
+    ensures sections { IfOk result (λ fields. fields.sections ≡ length sections.now.headers.items) }
+    ensures names { IfOk result (λ fields. fields.names ≡ sections.now.names) }
+{
+    Ok(HeaderFields {
+        entry: map.moved(elf.entry).ok_or(NoMemory)?,
+        segments_at: table_at,
+        segments: segments.len() as u64,
+        sections_at: sections.table_at,
+        sections: sections.headers.len() as u64,
+        names: sections.names as u64,
+    })
+}
+
+// The file with its new area in one of the two places.
+fn made(
+    alloc: Global,
+    source: &SectionSource,
+    emitted: &Emitted,
+    tight: bool,
+) -> Result<Vec<u8>, NoMemory>
+    requires readable { IsReadable source.now.elf.now.file.now }
+    requires read { IsElfOf source.now.elf.now.file.now source.now.elf.now }
+    requires sound { IsSound source.now.elf.now.file.now }
+    requires laid_out { AreLaidOut source.now.funcs.now }
+    ensures { IfOk result (λ w. IsMade
+        (source_of source.now.elf.now emitted.now source.now.map.now source.now.tables.now) tight w.items) }
+{
+    let elf = source.elf;
+    let layout = Layout::new(alloc, elf, tight, &emitted.code, source.tables)?;
+    let mut tail = Tail::new(alloc, layout.end()?);
+    let table_at = table_place(elf, &layout.area, &layout.shift, &mut tail)?;
+    let sections = source.put(alloc, &layout, &mut tail)?;
+    let places = Places {
+        elf,
+        area: layout.area,
+        shift: layout.shift,
+        table_at,
+        contents: &sections.contents,
+        headers: &sections.headers,
+        index_size: table_size(source.tables, EH_FRAME_HDR).unwrap_or(0) as u64,
+        file_size: tail.end()?,
+    };
+    let segments = places.segments(alloc, layout.code)?;
+    let cells = cell_numbers(alloc, elf, &layout.shift, &emitted.cells)?;
+    let fields = fields_of(elf, source.map, &sections, &segments, table_at)?.numbers(alloc)?;
+    put_together(
+        alloc, elf, &layout, &tail, &cells, &segments, &fields, table_at,
+    )
+}
+
+/// The written file, by the functions of the input, the addresses of their cold parts, the new code and the new contents of
+/// code cells, the map, and the tables that are written anew.
+///
+/// What is written is read back, so no file is ever answered that the reader refuses, or whose sections or symbols aren't
+/// what they must be.
+pub fn write(
+    alloc: Global,
+    elf: &Elf,
+    funcs: &[Func],
+    cold: &[u64],
+    emitted: &Emitted,
+    map: &AddrMap,
+    tables: &[Table],
+) -> Result<Vec<u8>, NoMemory>
+    requires read { IsElfOf elf.now.file.now elf.now }
+    requires sound { IsSound elf.now.file.now }
+    requires bytes { All (λ b. b < 256) elf.now.file.now }
+    requires cells { All (CanHold elf.now) emitted.now.cells.items }
+    requires apart { AllPairs AreApart emitted.now.cells.items }
+    requires laid_out { AreLaidOut funcs.now }
+    ensures written { IfOk result (λ w. (tight : Bool) → IsPlaced (source_of elf.now emitted.now map.now tables.now) tight →
+        IsWritten (source_of elf.now emitted.now map.now tables.now) tight w.items) }
+    ensures tables { IfOk result (λ w. (tight : Bool) → IsPlaced (source_of elf.now emitted.now map.now tables.now) tight →
+        HasNewTables elf.now tables.now emitted.now.code.items funcs.now cold.now map.now tight w.items) }
+{
+    let source = SectionSource {
+        elf,
+        funcs,
+        cold,
+        map,
+        tables,
+    };
+    let tight = is_above(elf, map)?;
+    let file = made(alloc, &source, emitted, tight)?;
+    if !is_accepted(alloc, &source, &emitted.code, tight, &file) {
+        return Err(NoMemory);
+    }
+    Ok(file)
+}
