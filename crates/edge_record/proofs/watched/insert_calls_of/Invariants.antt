@@ -1,0 +1,10 @@
+use Rattle.std.proofs.Common.{◌≡◌, ◌||◌, ℕ, take}
+use Rattle.edge_record.specs.AddressSets.{has, HaveSameRoom}
+use Rattle.edge_record.specs.Taken.{saves_at}
+use Rattle.edge_record.proofs.watched.insert_calls_of.Given as goal
+
+abbrev pub invariant-loop-inst : goal.invariant-loop-inst
+invariant-loop-inst l = record {
+  added : (a : ℕ) → has l.set a ≡ (saves_at (take l.inst-index l.insts) a || has l.initial.set a);
+  room : HaveSameRoom l.initial.set l.set;
+}

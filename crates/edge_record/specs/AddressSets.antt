@@ -1,0 +1,21 @@
+-- What sets of addresses hold, and which moves they tell of.
+use Rattle.std.specs.Prelude.{◌≡◌, ◌<◌, ◌≤◌, ◌+◌, ◌-◌, ◌&&◌, ℕ, Bool, false, nat_le, length, slice_index_or}
+use Rattle.edge_record.specs.Moves.{Move}
+use Rattle.edge_record.specs.declared.address_set.AddressSet.{AddressSet}
+use Rattle.edge_record.specs.declared.watched.Watched.{Watched}
+
+abbrev pub has : AddressSet → ℕ → Bool
+has set a = nat_le set.low a && slice_index_or set.marks.items (a - set.low) false
+
+-- a set can be given an address
+pub record HasRoomFor (set : AddressSet) (a : ℕ) : Type 0 where
+  pub from : set.low ≤ a
+  pub below : a < set.low + length set.marks.items
+
+-- two sets can be given the same addresses
+pub record HaveSameRoom (old new : AddressSet) : Type 0 where
+  pub low : new.low ≡ old.low
+  pub size : length new.marks.items ≡ length old.marks.items
+
+abbrev pub watches : Watched → Move → Bool
+watches watched m = has watched.sources m.0 && has watched.code m.1

@@ -1,0 +1,65 @@
+-- What a recorded run answers.
+use Rattle.std.specs.Prelude.{◌≡◌, ℕ, ◌-◌, ◌≤◌, List, []}
+use Rattle.std.specs.Io.KnownBytes.{append_known}
+use Rattle.rv_code.specs.declared.cause.Cause.{Cause}
+use Rattle.rv_code.specs.declared.placed.Func.{Func}
+use Rattle.rv_code.specs.declared.placed.Block.{Block}
+use Rattle.rv_code.specs.machine.Machine.{Event, output, SoFar}
+use Rattle.rv_code.specs.machine.Step.{ByteState, Steps}
+use Rattle.elf_image.specs.declared.elf.Elf.{Elf}
+use Rattle.run_core.specs.Answers.{Answer}
+use Rattle.run_core.specs.Answers as answer
+use Rattle.run_core.specs.Inputs.{Outside, as_told}
+use Rattle.run_core.specs.Runs.{RunsSomeInput}
+use Rattle.rv_machine.specs.State.{state_of}
+use Rattle.rv_machine.specs.declared.machine.Machine.{Machine}
+use Rattle.edge_record.specs.EdgeText.{IsEdgeText}
+use Rattle.edge_record.specs.Moves.{Move, Moves}
+use Rattle.edge_record.specs.Taken.{taken}
+
+-- how many of the steps that count go on: all but one that ends
+abbrev pub steps_gone : Answer Cause → ℕ → ℕ
+steps_gone (answer.Ended status) n = n - 1
+steps_gone _ n = n
+
+-- Steps of the byte machine make these moves.
+abbrev pub ByteMoves : ByteState → ℕ → List Move → ByteState → Type 0
+ByteMoves s n moves t = Moves Steps (λ u. u.pc) s n moves t
+
+-- A machine that begins in the states of `start`, one for each input, does at most `limit` steps.
+module _ (start : List ℕ → ByteState) (limit : ℕ) (before after : Outside) where
+  -- Some first steps were done, which may be all of them, and their output was taken.
+  pub record StopsAnywhere : Type 0 where
+    pub input : List ℕ
+    pub input_is : before.input.left ≡ as_told before.input.left input
+    pub steps : ℕ
+    pub within : steps ≤ limit
+    pub trace : List Event
+    pub state : ByteState
+    pub so_far : SoFar Steps (start input) steps trace state
+    pub left_is : after.input.left ≡ as_told before.input.left state.input
+    pub taken_is : after.output.taken ≡ append_known before.output.taken (output trace)
+
+  -- It answers so after n steps, as a run of the byte machine does.
+  pub record RunsFromStart (answer : Answer Cause) (n : ℕ) : Type 0 where
+    pub machine : Machine
+    pub ends_as : Machine
+    pub starts : (input : List ℕ) → state_of machine input ≡ start input
+    pub runs : RunsSomeInput state_of Steps answer limit n machine ends_as before after
+
+  -- Where the run comes out, the text has the counts of its moves. After a fault, and for want of memory, it is empty.
+  module _ (elf : Elf) (funcs : List Func) (blocks : List Block) (n : ℕ) (text : List ℕ) where
+    pub record IsRecorded (answer : Answer Cause) : Type 0 where
+      pub run : RunsFromStart answer n
+      pub moves : List Move
+      pub state : ByteState
+      pub gone : ByteMoves (start run.runs.input) (steps_gone answer n) moves state
+      pub text_is : IsEdgeText elf funcs (taken funcs blocks moves) text
+
+    abbrev pub Records : Answer Cause → Type 0
+    Records answer.Going = IsRecorded answer.Going
+    Records (answer.Ended status) = IsRecorded (answer.Ended status)
+    Records (answer.Halted pc cause) = IsRecorded (answer.Halted pc cause)
+    Records answer.ReadFault = RunsFromStart answer.ReadFault n × (text ≡ [])
+    Records answer.WriteFault = RunsFromStart answer.WriteFault n × (text ≡ [])
+    Records answer.Memory = StopsAnywhere × (text ≡ [])

@@ -1,0 +1,48 @@
+// Sets of addresses that lie near to one another.
+ghost use Rattle.std.specs.Prelude.{◌≡◌, ◌==◌, ◌||◌, ℕ, false, length, IfOk};
+
+use rb_bytes::fault::NoMemory;
+use std::alloc::Global;
+
+/// Some of the addresses of a stretch, with a mark for each address of it.
+#[derive(Drop)]
+pub struct AddressSet {
+    pub(crate) low: u64,
+    pub(crate) marks: Vec<bool>,
+}
+
+impl AddressSet {
+    ghost use Rattle.std.specs.Prelude.{◌≡◌, ◌==◌, ◌||◌, ℕ, false, length, IfOk};
+    ghost use Rattle.edge_record.specs.AddressSets.{has, HasRoomFor, HaveSameRoom};
+
+    /// None of the `size` addresses from `low` on.
+    pub fn new(alloc: Global, low: u64, size: usize) -> Result<AddressSet, NoMemory>
+        ensures none { IfOk result (λ set. (a : ℕ) → has set a ≡ false) }
+        ensures low { IfOk result (λ set. set.low ≡ low) }
+        ensures size { IfOk result (λ set. length set.marks.items ≡ size) }
+    {
+        let marks = Vec::from_elem(alloc, false, size)?;
+        Ok(AddressSet { low, marks })
+    }
+
+    /// Adds an address.
+    pub fn insert(&mut self, address: u64)
+        requires { HasRoomFor self.old address }
+        ensures added { (a : ℕ) → has self.new a ≡ (address == a || has self.old a) }
+        ensures room { HaveSameRoom self.old self.new }
+    {
+        let place = (address - self.low) as usize;
+        self.marks[place] = true;
+    }
+
+    /// Whether an address is one of these.
+    pub fn has(&self, address: u64) -> bool
+        ensures { result ≡ has self.now address }
+    {
+        if address < self.low {
+            return false;
+        }
+        let place = (address - self.low) as usize;
+        place < self.marks.len() && self.marks[place]
+    }
+}

@@ -1,0 +1,109 @@
+// A profile of one run.
+ghost use Rattle.std.specs.Prelude.{◌≡◌, ◌≤◌, map, string_bytes};
+ghost use Rattle.elf_image.specs.faults.FileFaults.{IsSound};
+ghost use Rattle.elf_image.specs.file.ParsedFile.{IsElfOf};
+ghost use Rattle.elf_image.specs.memory.Start.{start};
+ghost use Rattle.rv_code.specs.layout.FunctionLists.{AreLaidOut};
+ghost use Rattle.rv_memory.specs.Limits.{IsWithinLimits};
+ghost use Rattle.rv_machine.specs.Stepped.{answered};
+ghost use Rattle.edge_record.specs.EdgeCounts.{said_of};
+ghost use Rattle.edge_record.specs.Recording.{Records};
+ghost use Rattle.edge_record.specs.Texts.{IsFinished};
+
+use crate::edge_counts::EdgeCounts;
+use crate::text::edge_text;
+use crate::watch::watch_run;
+use crate::watched::Watched;
+use elf_image::Elf;
+use rb_io::{Sink, Source};
+use rv_code::{Block, Func};
+use rv_machine::{Machine, Ran, Stepped};
+use std::alloc::Global;
+
+/// A run, and the text of its profile.
+#[derive(Drop)]
+pub struct Recorded {
+    /// What the run answers. `Memory` may come in place of any other end.
+    pub ran: Ran,
+    /// The profile, which is empty after a fault of the source or the sink, and for want of memory.
+    pub text: Vec<u8>,
+}
+
+impl Recorded {
+    ghost use Rattle.std.specs.Prelude.{◌≡◌, []};
+
+    fn out_of_memory(alloc: Global) -> Recorded
+        ensures end { result.ran.end ≡ Stepped.Memory }
+        ensures text { result.text.items ≡ [] }
+    {
+        Recorded {
+            ran: Ran {
+                end: Stepped::Memory,
+                steps: 0,
+            },
+            text: Vec::new(alloc),
+        }
+    }
+}
+
+/// Runs a file with these words as its arguments for at most `limit` steps, as `Machine::run` does, and records how often
+/// control went from the last instruction of a block, or from one that saves a return address, to which instruction.
+pub fn trace_edges<I: Source, O: Sink>(
+    alloc: Global,
+    elf: &Elf<'_>,
+    funcs: &[Func],
+    blocks: &[Block],
+    words: &[String],
+    limit: u64,
+    input: &mut I,
+    out: &mut O,
+) -> Recorded
+    requires read { IsElfOf elf.now.file.now elf.now }
+    requires sound { IsSound elf.now.file.now }
+    requires limits { IsWithinLimits (map string_bytes words.now) }
+    requires funcs { AreLaidOut funcs.now }
+    ensures answer { Records (start elf.now.file.now (map string_bytes words.now)) limit
+        (record { input = I.seen input.old; output = O.seen out.old })
+        (record { input = I.seen input.new; output = O.seen out.new })
+        elf.now funcs.now blocks.now result.ran.steps result.text.items (answered result.ran.end) }
+    ensures reads { (I.seen input.old).faults ≤ (I.seen input.new).faults }
+    ensures writes { (O.seen out.old).faults ≤ (O.seen out.new).faults }
+{
+    let Ok(watched) = Watched::new(alloc, funcs, blocks) else {
+        return Recorded::out_of_memory(alloc);
+    };
+    let Ok(mut machine) = Machine::load(alloc, elf, words) else {
+        return Recorded::out_of_memory(alloc);
+    };
+    let mut counts = EdgeCounts::new(alloc);
+    let ran = watch_run(
+        alloc,
+        &mut machine,
+        &watched,
+        &mut counts,
+        limit,
+        input,
+        out,
+    );
+    finish(alloc, funcs, &counts, ran)
+}
+
+// The text to what a run came to.
+fn finish(alloc: Global, funcs: &[Func], counts: &EdgeCounts, ran: Ran) -> Recorded
+    requires { AreLaidOut funcs.now }
+    ensures { IsFinished funcs.now (said_of counts.now) (answered ran.end) ran.steps
+        (answered result.ran.end) result.ran.steps result.text.items }
+{
+    match ran.end {
+        Stepped::Going | Stepped::Ended(_) | Stepped::Trap(..) => {
+            match edge_text(alloc, funcs, counts) {
+                Ok(text) => Recorded { ran, text },
+                Err(_) => Recorded::out_of_memory(alloc),
+            }
+        }
+        Stepped::ReadFault | Stepped::WriteFault | Stepped::Memory => Recorded {
+            ran,
+            text: Vec::new(alloc),
+        },
+    }
+}

@@ -1,0 +1,128 @@
+// Which moves of a run are counted.
+ghost use Rattle.std.specs.Prelude.{◌≡◌, ◌+◌, ◌<◌, ◌≤◌, ◌||◌, ℕ, All, IfOk, IfSome, option_copied};
+ghost use Rattle.std.specs.List.{list_any};
+ghost use Rattle.rv_code.specs.layout.FunctionLists.{AreLaidOut};
+ghost use Rattle.edge_profile.specs.Weights.{starts_at};
+ghost use Rattle.edge_record.specs.AddressSets.{has, HasRoomFor, HaveSameRoom, watches};
+ghost use Rattle.edge_record.specs.Moves.{Move};
+ghost use Rattle.edge_record.specs.Taken.{ends_at, is_counted, last_of, saves_at};
+
+use crate::address_set::AddressSet;
+use rb_bytes::fault::NoMemory;
+use rv_code::flow::is_call;
+use rv_code::{Block, Func, Placed};
+use std::alloc::Global;
+
+/// The addresses of instructions, and of those from which control may go elsewhere.
+#[derive(Drop)]
+pub struct Watched {
+    pub(crate) code: AddressSet,
+    pub(crate) sources: AddressSet,
+}
+
+impl Watched {
+    ghost use Rattle.std.specs.Prelude.{◌≡◌, IfOk};
+    ghost use Rattle.rv_code.specs.layout.FunctionLists.{AreLaidOut};
+    ghost use Rattle.edge_record.specs.AddressSets.{watches};
+    ghost use Rattle.edge_record.specs.Moves.{Move};
+    ghost use Rattle.edge_record.specs.Taken.{is_counted};
+
+    /// Those of functions with these blocks.
+    pub fn new(alloc: Global, funcs: &[Func], blocks: &[Block]) -> Result<Watched, NoMemory>
+        requires { AreLaidOut funcs.now }
+        ensures { IfOk result (λ watched. (m : Move) → watches watched m ≡ is_counted funcs.now blocks.now m) }
+    {
+        let (low, size) = code_range(funcs);
+        let mut code = AddressSet::new(alloc, low, size)?;
+        insert_code(&mut code, funcs);
+        let mut sources = AddressSet::new(alloc, low, size)?;
+        insert_calls(&mut sources, funcs);
+        insert_ends(&mut sources, funcs, blocks);
+        Ok(Watched { code, sources })
+    }
+
+    /// Whether a move from one address to another is counted.
+    pub fn counts(&self, from: u64, to: u64) -> bool
+        ensures { result ≡ watches self.now (from, to) }
+    {
+        self.sources.has(from) && self.code.has(to)
+    }
+}
+
+// Where the code of functions starts, and its length with all that lies between them.
+fn code_range(funcs: &[Func]) -> (u64, usize)
+    requires { AreLaidOut funcs.now }
+    ensures { All (λ f. All (λ p. (result.0 ≤ p.addr) × (p.addr < result.0 + result.1)) f.insts.items) funcs.now }
+{
+    if funcs.is_empty() {
+        return (0, 0);
+    }
+    let low = funcs[0].start;
+    let high = funcs[funcs.len() - 1].end;
+    (low, (high - low) as usize)
+}
+
+// Adds the addresses of all instructions.
+fn insert_code(set: &mut AddressSet, funcs: &[Func])
+    requires { All (λ f. All (λ p. HasRoomFor set.old p.addr) f.insts.items) funcs.now }
+    ensures added { (a : ℕ) → has set.new a ≡ (list_any (λ f. starts_at f.insts.items a) funcs.now || has set.old a) }
+    ensures room { HaveSameRoom set.old set.new }
+{
+    for func in funcs {
+        insert_insts(set, &func.insts);
+    }
+}
+
+fn insert_insts(set: &mut AddressSet, insts: &[Placed])
+    requires { All (λ p. HasRoomFor set.old p.addr) insts.now }
+    ensures added { (a : ℕ) → has set.new a ≡ (starts_at insts.now a || has set.old a) }
+    ensures room { HaveSameRoom set.old set.new }
+{
+    for inst in insts {
+        set.insert(inst.addr);
+    }
+}
+
+// Adds the addresses of the instructions that save a return address.
+fn insert_calls(set: &mut AddressSet, funcs: &[Func])
+    requires { All (λ f. All (λ p. HasRoomFor set.old p.addr) f.insts.items) funcs.now }
+    ensures added { (a : ℕ) → has set.new a ≡ (list_any (λ f. saves_at f.insts.items a) funcs.now || has set.old a) }
+    ensures room { HaveSameRoom set.old set.new }
+{
+    for func in funcs {
+        insert_calls_of(set, &func.insts);
+    }
+}
+
+fn insert_calls_of(set: &mut AddressSet, insts: &[Placed])
+    requires { All (λ p. HasRoomFor set.old p.addr) insts.now }
+    ensures added { (a : ℕ) → has set.new a ≡ (saves_at insts.now a || has set.old a) }
+    ensures room { HaveSameRoom set.old set.new }
+{
+    for inst in insts {
+        if is_call(&inst.inst) {
+            set.insert(inst.addr);
+        }
+    }
+}
+
+// Adds the addresses of the last instructions of blocks.
+fn insert_ends(set: &mut AddressSet, funcs: &[Func], blocks: &[Block])
+    requires { All (λ f. All (λ p. HasRoomFor set.old p.addr) f.insts.items) funcs.now }
+    ensures { (a : ℕ) → has set.new a ≡ (list_any (λ b. ends_at funcs.now a b) blocks.now || has set.old a) }
+{
+    for block in blocks {
+        match last_of(funcs, block) {
+            Some(inst) => set.insert(inst.addr),
+            None => {}
+        }
+    }
+}
+
+// The last instruction of a block.
+fn last_of<'a>(funcs: &'a [Func], block: &Block) -> Option<&'a Placed>
+    ensures { option_copied result ≡ last_of funcs.now block.now }
+{
+    let func = funcs.get(block.func)?;
+    func.insts.get(block.last)
+}
