@@ -1,0 +1,16 @@
+pub mod CellFields
+pub mod CodeFaultOrder
+pub mod CodeSizes
+pub mod Direct
+pub mod Joined
+pub mod Layouts
+pub mod Maps
+pub mod Near
+pub mod NewArea
+pub mod PassedLimits
+pub mod Ranges
+pub mod Rewrites
+pub mod SomeCode
+pub mod SoundCode
+pub mod TableSections
+pub mod WrittenOutput

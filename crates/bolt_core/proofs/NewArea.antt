@@ -1,0 +1,99 @@
+-- Where new code goes that has room.
+use Rattle.std.proofs.Common.{◌≡◌, refl, ℕ, ◌+◌, ◌-◌, ◌*◌, ◌/◌, ◌%◌, ◌<◌, ◌≤◌, Some, None, Bool, true, false, List, [], ◌∷◌, cond, min, arith}
+use Rattle.std.specs.Prelude.{◌&&◌, fold, nat_lt}
+use Rattle.std.proofs.lemmas.Bool.{ltb-false}
+use Rattle.rb_bytes.specs.declared.fault.Fault.{Fault}
+use Rattle.rv_code.specs.declared.placed.Block.{Block}
+use Rattle.rv_code.specs.declared.placed.Func.{Func}
+use Rattle.elf_image.specs.declared.elf.Elf.{Elf}
+use Rattle.elf_image.specs.declared.segment.Segment.{Segment}
+use Rattle.elf_image.specs.faults.SegmentLayout.{address_end}
+use Rattle.elf_image.specs.file.Header.{header_size}
+use Rattle.elf_image.specs.memory.CodeSegment.{executable_end}
+use Rattle.elf_write.specs.Area.{start_of}
+use Rattle.elf_write.specs.Need.{capped, code_need, need}
+use Rattle.elf_write.specs.NoRoom.{has_no_room, no_room, no_room_fault}
+use Rattle.elf_write.specs.Room.{area_limit, area_start, code_end, is_tight, pages_from, room, room_above}
+
+fold-min-le : (xs : List ℕ) (a : ℕ) → fold min a xs ≤ a
+fold-min-le [] a = omega arith
+fold-min-le (x ∷ xs) a = let rest : fold min (min a x) xs ≤ min a x = fold-min-le xs (min a x) in omega (arith, rest)
+
+low_limit : (segments : List Segment) → area_limit segments ≤ address_end
+low_limit segments = fold-min-le (pages_from (code_end segments) segments) address_end
+
+-- the numbers of both places
+pub record Fits (n start have : ℕ) : Type 0 where
+  pub within : n ≤ have
+  pub low : start + n ≤ address_end
+
+behind : (n limit start : ℕ) (none : Bool) → limit ≤ address_end → 0 < n → n ≤ cond none 0 (limit - start) → Fits n start
+    (cond none 0 (limit - start))
+behind n limit start true low some fits = absurd (omega (arith, some, fits))
+behind n limit start false low some fits = record { within = fits; low = omega (arith, low, some, fits) }
+
+no_fault : (b : Bool) (f : Fault) → cond b (Some f) None ≡ None → b ≡ false
+no_fault true f e = absurd (cc)
+no_fault false f e = refl
+
+both_false : (a b : Bool) → a ≡ true → (a && b) ≡ false → b ≡ false
+both_false true b h e = e
+both_false false b h e = absurd (cc)
+
+room_of : List Segment → Bool → ℕ
+room_of segments tight = cond tight (room_above segments) (room segments)
+
+fits_in : (segments : List Segment) (n : ℕ) (tight : Bool) → is_tight segments n ≡ tight → has_no_room segments n ≡ false → 0
+    < n →
+    Fits n (start_of segments tight) (cond tight (room_above segments) (room segments))
+fits_in segments n true is_so has some =
+    let fits = ltb-false (room_above segments) n (both_false (is_tight segments n) (nat_lt (room_above segments) n) is_so has) in
+    record { within = fits; low = omega (arith, some, fits) }
+fits_in segments n false is_so has some =
+    behind n (area_limit segments) (area_start segments) (nat_lt (executable_end segments) header_size) (low_limit segments) some
+    (ltb-false (room segments) n is_so)
+
+pub fits_somewhere : (segments : List Segment) (n : ℕ) → no_room segments n ≡ None → 0 < n →
+    Fits n (start_of segments (is_tight segments n)) (cond (is_tight segments n) (room_above segments) (room segments))
+fits_somewhere segments n none some =
+    fits_in segments n (is_tight segments n) refl (no_fault (has_no_room segments n) (no_room_fault segments n) none) some
+
+-- The code is no longer than what is needed.
+
+uncapped : (n limit : ℕ) → capped n ≤ limit → limit ≤ address_end → n ≤ capped n
+uncapped n limit low high = omega (arith, low, high)
+
+pub record HasRoom (elf : Elf) (funcs : List Func) (blocks : List Block) : Type 0 where
+  pub low : start_of elf.segments.items (is_tight elf.segments.items (need elf funcs blocks)) + code_need funcs blocks ≤
+      address_end
+  pub within : code_need funcs blocks ≤ cond (is_tight elf.segments.items (need elf funcs blocks))
+      (room_above elf.segments.items) (room elf.segments.items)
+
+by_sum : (code more start have : ℕ) → Fits (capped (code + more)) start have → (start + code ≤ address_end) × (code ≤ have)
+by_sum code more start have fits =
+    let within = fits.within in
+    let low = fits.low in
+    let all : code + more ≤ capped (code + more) = uncapped (code + more) (start + capped (code + more)) (omega arith) low in
+    (omega (arith, all, low), omega (arith, all, within))
+
+some_capped : (code more : ℕ) → 0 < code → 0 < capped (code + more)
+some_capped code more some = omega (arith, some)
+
+pub has_room : (elf : Elf) (funcs : List Func) (blocks : List Block) → 0 < code_need funcs blocks →
+    no_room elf.segments.items (need elf funcs blocks) ≡ None → HasRoom elf funcs blocks
+has_room elf funcs blocks some none =
+    let n : ℕ = need elf funcs blocks in
+    let fits = fits_somewhere elf.segments.items n none
+    (some_capped (code_need funcs blocks) _ some) in
+    let both = by_sum (code_need funcs blocks) _ (start_of elf.segments.items (is_tight elf.segments.items n))
+    (cond (is_tight elf.segments.items n) (room_above elf.segments.items) (room elf.segments.items)) fits in
+    record { low = both.0; within = both.1 }
+
+-- The area starts at an even address.
+
+even_up : (n : ℕ) → (n + 15) / 16 * 16 % 2 ≡ 0
+even_up n = omega arith
+
+pub start_even : (segments : List Segment) (tight : Bool) → start_of segments tight % 2 ≡ 0
+start_even segments true = even_up _
+start_even segments false = even_up _

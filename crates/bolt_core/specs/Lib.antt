@@ -1,0 +1,9 @@
+pub mod CodeLimit
+pub mod Limits
+pub mod ProfileOrder
+pub mod Program
+pub mod Refusals
+pub mod Rewriting
+pub mod Seen
+pub mod Tables
+pub mod internal

@@ -1,0 +1,124 @@
+-- What a rewritten file is to its input and its profile.
+use Rattle.std.specs.Prelude.{◌≡◌, ◌+◌, ◌*◌, ◌≤◌, ℕ, Bool, List, [], None, IfSome, length, sum_by}
+use Rattle.std.specs.declared.alloc.Global.{Global}
+use Rattle.rv_code.specs.declared.layout.Chains.{Chains}
+use Rattle.rv_code.specs.declared.layout.Form.{Form}
+use Rattle.rv_code.specs.layout.Flow.{insts_of}
+use Rattle.rv_code.specs.machine.Machine.{Event}
+use Rattle.elf_image.specs.faults.FileFaults.{IsSound}
+use Rattle.elf_image.specs.file.Header.{segments_of}
+use Rattle.elf_image.specs.memory.CodeSegment.{executable_segment}
+use Rattle.elf_image.specs.memory.Start.{Runs, RunsSoFar}
+use Rattle.addr_map.specs.declared.span.Span.{Span}
+use Rattle.addr_map.specs.MapText.{AreInLineOrder}
+use Rattle.addr_map.specs.Spans.{IsStretch}
+use Rattle.sym_machine.specs.SymStart.{SymRuns, SymRunsSoFar}
+use Rattle.edge_profile.specs.Counts.{Counted, ignored_in}
+use Rattle.move_law.specs.Faithful.{IsFaithful}
+use Rattle.move_law.specs.Laws.{FitStack}
+use Rattle.move_law.specs.Rewrite.{Rewrite, executable_of, program}
+use Rattle.branch_fixup.specs.Forms.{AreForms}
+use Rattle.branch_fixup.specs.Strips.{spans_of, strips_of}
+use Rattle.elf_write.specs.Area.{area_of, shift_of, start_of}
+use Rattle.elf_write.specs.Carried.{HoldsBytes}
+use Rattle.elf_write.specs.NewSegments.{AreNewHeaders}
+use Rattle.elf_write.specs.NewTables.{HasNewTables}
+use Rattle.elf_write.specs.Room.{is_tight}
+use Rattle.bolt_core.specs.Limits.{IsTooLarge}
+use Rattle.bolt_core.specs.ProfileOrder.{IsProfileOrder, cold_starts, hot_count}
+use Rattle.bolt_core.specs.Program.{IsProgramOf, Program}
+use Rattle.bolt_core.specs.Refusals.{CanStand, needed_bytes}
+
+-- a file has no room for the new code behind its executable segment
+abbrev pub is_tight_program : Program → Bool
+is_tight_program x = is_tight x.elf.segments.items (needed_bytes x)
+
+-- where its new code starts
+abbrev pub new_start : Program → ℕ
+new_start x = start_of x.elf.segments.items (is_tight_program x)
+
+abbrev pub rewrite_of : Program → List ℕ → List Span → Rewrite
+rewrite_of x written spans = record {
+  input = x.elf;
+  code = x.code;
+  tight = is_tight_program x;
+  output = executable_of written;
+  spans = spans;
+}
+
+-- Each run of the input that ends on the symbol machine is matched by one of the written file on the byte machine, with the
+-- same arguments and input, the same system calls and the same status.
+abbrev pub KeepsRuns : Program → List ℕ → List Span → Type 0
+KeepsRuns x written spans = (words : List (List ℕ)) (input : List ℕ) → FitStack words →
+    (n : ℕ) (trace : List Event) (status : ℕ) → SymRuns (program (rewrite_of x written spans)) words input n trace status →
+    (m : ℕ) × (m ≤ 3 * n + 1) × Runs written words input m trace status
+
+-- Every other run is matched as far as it goes.
+abbrev pub KeepsRunsSoFar : Program → List ℕ → List Span → Type 0
+KeepsRunsSoFar x written spans = (words : List (List ℕ)) (input : List ℕ) → FitStack words →
+    (n : ℕ) (trace : List Event) → SymRunsSoFar (program (rewrite_of x written spans)) words input n trace →
+    (m : ℕ) × (m ≤ 3 * n) × RunsSoFar written words input m trace
+
+-- The new code has the blocks in an order, each in a form, from the start of the new area on: the spans are theirs.
+pub record IsLaidOutBy (x : Program) (order : List ℕ) (spans : List Span) : Type 0 where
+  pub forms : List Form
+  pub are_forms : AreForms (strips_of x.code.funcs x.blocks order) (new_start x) forms
+  pub spans_are : AreInLineOrder (spans_of (strips_of x.code.funcs x.blocks order) (new_start x) forms) spans
+
+-- The sections and symbols of the written file: those that follow from the input and the map, with no table but these.
+abbrev pub FollowsTables : Program → Chains → List ℕ → List Span → List ℕ → Type 0
+FollowsTables x parts code spans written =
+    HasNewTables {Y = Global} {Z = Global} x.elf [] code x.code.funcs (cold_starts x.code.funcs x.blocks parts) spans
+    (is_tight_program x) written
+
+-- The program headers of the written file are those of the input, of which the executable segment's may grow; and one more
+-- where the new code has a segment of its own.
+abbrev pub FollowsSegments : Program → List ℕ → List ℕ → Type 0
+FollowsSegments x code written =
+    let segments = x.elf.segments.items in
+    let area = area_of segments (is_tight_program x) (length code) None None in
+    let shift = shift_of segments area in
+    IfSome (executable_segment segments) (λ e. AreNewHeaders shift.from shift.by area e.0 segments (segments_of written))
+
+-- what was counted of a rewrite
+pub record Counts : Type 0 where
+  pub functions : ℕ
+  pub instructions : ℕ
+  pub bytes : ℕ
+  pub hot : ℕ
+  pub ignored : ℕ
+
+abbrev pub counts_of_rewrite : Program → List ℕ → List Counted → List Span → Counts
+counts_of_rewrite x profile pairs spans = record {
+  functions = length x.code.funcs;
+  instructions = length (insts_of x.code.funcs);
+  bytes = sum_by (λ s. s.len) spans;
+  hot = hot_count x pairs;
+  ignored = ignored_in profile x.elf x.code.funcs;
+}
+
+pub record IsRewritten (file profile written : List ℕ) (spans : List Span) (counts : Counts) : Type 0 where
+  -- no fault is present
+  pub program : Program
+  pub accepted : IsProgramOf file profile program
+  pub stands : CanStand program
+  pub pairs : List Counted
+  pub parts : Chains
+  pub order : List ℕ
+  pub fits : (place : ℕ) → IsTooLarge program.elf program.code.funcs (cold_starts program.code.funcs program.blocks parts)
+      place → ⊥
+  -- the written file is one that its reader accepts, and a faithful rewrite, so it keeps the runs of the input
+  pub sound : IsSound written
+  pub faithful : IsFaithful (rewrite_of program written spans)
+  pub runs : KeepsRuns program written spans
+  pub so_far : KeepsRunsSoFar program written spans
+  -- the new code stands in the profile's order, and is one stretch from the new area's start on
+  pub ordered : IsProfileOrder program profile pairs parts order
+  pub laid_out : IsLaidOutBy program order spans
+  -- these are its bytes, and headers, sections and symbols follow the input's and name it
+  pub code : List ℕ
+  pub stretch : IsStretch spans (new_start program) (new_start program + length code)
+  pub code_stands : HoldsBytes written (segments_of written) (new_start program) code
+  pub tables : FollowsTables program parts code spans written
+  pub headers : FollowsSegments program code written
+  pub counted : counts ≡ counts_of_rewrite program profile pairs spans

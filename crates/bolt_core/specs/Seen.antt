@@ -1,0 +1,12 @@
+-- A rewrite as the code keeps it.
+use Rattle.bolt_core.specs.Rewriting.{Counts}
+use Rattle.bolt_core.specs.declared.rewriting.Rewritten.{Rewritten}
+
+abbrev pub counts_seen : Rewritten → Counts
+counts_seen r = record {
+  functions = r.functions;
+  instructions = r.instructions;
+  bytes = r.bytes;
+  hot = r.hot;
+  ignored = r.ignored;
+}

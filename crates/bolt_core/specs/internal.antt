@@ -1,0 +1,6 @@
+pub mod Laid
+pub mod MovedCode
+pub mod ReadCode
+pub mod ReadTables
+pub mod RoomRefusals
+pub mod WrittenCode

@@ -1,0 +1,80 @@
+// Where the cold parts of functions begin.
+ghost use Rattle.std.specs.Prelude.{◌≡◌, ◌++◌, [], IfOk, OnOk};
+ghost use Rattle.std.specs.List.{cons_option};
+ghost use Rattle.block_layout.specs.EdgeCounts.{first_address};
+ghost use Rattle.block_layout.specs.Parts.{list_of};
+ghost use Rattle.bolt_core.specs.ProfileOrder.{cold_start, cold_starts};
+
+use rb_bytes::fault::NoMemory;
+use rv_code::{Block, Chains, Func};
+use std::alloc::Global;
+
+// The address of the first instruction of the block at a place.
+fn first_address(funcs: &[Func], blocks: &[Block], place: usize) -> u64
+    ensures { result ≡ first_address funcs.now blocks.now place }
+{
+    match blocks.get(place) {
+        Some(block) => match funcs.get(block.func) {
+            Some(func) => match func.insts.get(block.first) {
+                Some(inst) => inst.addr,
+                None => 0,
+            },
+            None => 0,
+        },
+        None => 0,
+    }
+}
+
+// The blocks of the part of the function at a place.
+fn list_at(lists: &[Vec<usize>], place: usize) -> &[usize]
+    ensures { result.now ≡ list_of lists.now place }
+{
+    match lists.get(place) {
+        Some(list) => list.as_slice(),
+        None => &[],
+    }
+}
+
+// Where the cold part of a function begins, if it has a hot and a cold one.
+fn cold_start(funcs: &[Func], blocks: &[Block], hot: &[usize], cold: &[usize]) -> Option<u64>
+    ensures { result ≡ cold_start funcs.now blocks.now hot.now cold.now }
+{
+    if hot.is_empty() {
+        return None;
+    }
+    match cold.first() {
+        Some(place) => Some(first_address(funcs, blocks, *place)),
+        None => None,
+    }
+}
+
+// Appends an address, if there is one.
+fn push_some(starts: &mut Vec<u64>, start: Option<u64>) -> Result<(), NoMemory>
+    ensures { OnOk result (starts.new.items ≡ starts.old.items ++ cons_option start []) }
+{
+    match start {
+        Some(start) => starts.push(start)?,
+        None => {}
+    }
+    Ok(())
+}
+
+/// For each function with a hot and a cold part the address in the input of the cold part's first instruction, in the order
+/// of functions.
+pub fn cold_starts(
+    alloc: Global,
+    funcs: &[Func],
+    blocks: &[Block],
+    parts: &Chains,
+) -> Result<Vec<u64>, NoMemory>
+    ensures { IfOk result (λ starts. starts.items ≡ cold_starts funcs.now blocks.now parts.now) }
+{
+    let mut starts = Vec::new(alloc);
+    for f in 0..funcs.len() {
+        let hot = list_at(&parts.hot, f);
+        let cold = list_at(&parts.cold, f);
+        let start = cold_start(funcs, blocks, hot, cold);
+        push_some(&mut starts, start)?;
+    }
+    Ok(starts)
+}

@@ -1,0 +1,17 @@
+// How many instructions functions have.
+ghost use Rattle.std.specs.Prelude.{◌≡◌, IfOk, length};
+ghost use Rattle.rv_code.specs.layout.Flow.{insts_of};
+
+use rb_bytes::fault::NoMemory;
+use rv_code::Func;
+
+/// How many instructions functions have together. More than 2^64 don't fit in memory.
+pub fn count_insts(funcs: &[Func]) -> Result<u64, NoMemory>
+    ensures { IfOk result (λ count. count ≡ length (insts_of funcs.now)) }
+{
+    let mut count: u64 = 0;
+    for func in funcs {
+        count = count.checked_add(func.insts.len() as u64).ok_or(NoMemory)?;
+    }
+    Ok(count)
+}

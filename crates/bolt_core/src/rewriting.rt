@@ -1,0 +1,129 @@
+// A file rewritten by a profile.
+ghost use Rattle.std.specs.Prelude.{◌≡◌, ◌<◌, All, IfOk, IfErr, MatchOption};
+ghost use Rattle.elf_write.specs.Need.{HasNoFrames};
+ghost use Rattle.bolt_core.specs.Program.{Fit, IsProgramOf};
+ghost use Rattle.bolt_core.specs.Refusals.{IsRefusal, IsRefused};
+ghost use Rattle.bolt_core.specs.Rewriting.{IsRewritten};
+ghost use Rattle.bolt_core.specs.Seen.{counts_seen};
+ghost use Rattle.bolt_core.specs.internal.ReadCode.{program_of};
+
+use crate::counting::count_insts;
+use crate::file_code::read_code;
+use crate::layout::lay_out;
+use crate::tables::has_tables;
+use crate::writing::{Output, write_program};
+use addr_map::AddrMap;
+use cfg_build::blocks;
+use elf_image::{Elf, read};
+use rb_bytes::fault::{Fault, FaultKind, Refusal};
+use rv_code::{Block, Func};
+use rv_reloc::Refs;
+use std::alloc::Global;
+
+/// The most bytes of a file, and of a profile: 64 MiB.
+const FILE_LIMIT: usize = 64 * 1024 * 1024;
+
+/// A rewritten file, and what was counted of it.
+#[derive(Drop)]
+pub struct Rewritten {
+    /// The bytes of the written file.
+    pub file: Vec<u8>,
+    /// Where each instruction of the input went.
+    pub map: AddrMap,
+    /// How many functions and instructions were moved.
+    pub functions: u64,
+    pub instructions: u64,
+    /// How many bytes the new code has.
+    pub bytes: u64,
+    /// How many blocks are hot.
+    pub hot: u64,
+    /// How many lines of the profile say nothing.
+    pub ignored: u64,
+}
+
+// The fault of a file or a profile that is too long.
+fn long_input(file: &[u8], profile: &[u8]) -> Option<Fault>
+    ensures { MatchOption result (Fit file.now profile.now) (IsRefused file.now profile.now) }
+{
+    if file.len() > FILE_LIMIT {
+        return Some(Fault::at(FaultKind::TooLarge, 0));
+    }
+    if profile.len() > FILE_LIMIT {
+        return Some(Fault::at(FaultKind::TooLarge, 1));
+    }
+    None
+}
+
+// What a slice of bytes holds are bytes.
+fn are_bytes(bytes: &[u8])
+    ensures { All (λ b. b < 256) bytes.now }
+{}
+
+/// Rewrites a file so that its code lies in the order that a profile asks for, or says why it is refused.
+pub fn rewrite(alloc: Global, file: &[u8], profile: &[u8]) -> Result<Rewritten, Refusal>
+    ensures rewritten { IfOk result (λ r. IsRewritten file.now profile.now r.file.items r.map (counts_seen r)) }
+    ensures refused { IfErr result (IsRefusal file.now profile.now) }
+{
+    match long_input(file, profile) {
+        Some(fault) => return Err(Refusal::Fault(fault)),
+        None => {}
+    }
+    are_bytes(file);
+    let elf = match read(alloc, file) {
+        Ok(elf) => elf,
+        Err(refusal) => return Err(refusal),
+    };
+    if has_tables(&elf) {
+        return Err(Refusal::Fault(Fault::at(FaultKind::NotBuilt, 0)));
+    }
+    let code = match read_code(alloc, &elf) {
+        Ok(code) => code,
+        Err(refusal) => return Err(refusal),
+    };
+    let blocks = blocks(alloc, &code.funcs, &code.refs, elf.entry)?;
+    rewrite_program(alloc, &elf, &code.funcs, &code.refs, &blocks, profile)
+}
+
+// Lays out a program by a profile, and writes it so.
+fn rewrite_program(
+    alloc: Global,
+    elf: &Elf<'_>,
+    funcs: &[Func],
+    refs: &Refs,
+    blocks: &[Block],
+    profile: &[u8],
+) -> Result<Rewritten, Refusal>
+    requires bytes { All (λ b. b < 256) elf.now.file.now }
+    requires program { IsProgramOf elf.now.file.now profile.now (program_of elf.now funcs.now refs.now blocks.now) }
+    requires empty { HasNoFrames elf.now }
+    ensures rewritten { IfOk result (λ r. IsRewritten elf.now.file.now profile.now r.file.items r.map (counts_seen r)) }
+    ensures refused { IfErr result (IsRefusal elf.now.file.now profile.now) }
+{
+    let layout = match lay_out(alloc, elf, funcs, refs, blocks, profile) {
+        Ok(layout) => layout,
+        Err(refusal) => return Err(refusal),
+    };
+    let start = layout.site.start;
+    let output = write_program(
+        alloc,
+        elf,
+        funcs,
+        refs,
+        blocks,
+        &layout.plan,
+        &layout.cold,
+        start,
+    )?;
+    let Output { file, map, bytes } = output;
+    are_bytes(&file);
+    let instructions = count_insts(funcs)?;
+    Ok(Rewritten {
+        file,
+        map,
+        functions: funcs.len() as u64,
+        instructions,
+        bytes,
+        hot: layout.hot,
+        ignored: layout.ignored,
+    })
+}
