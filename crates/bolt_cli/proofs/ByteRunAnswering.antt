@@ -1,5 +1,5 @@
 -- The command `run` on the byte machine serves.
-use Rattle.std.proofs.Common.{◌≡◌, ◌≤◌, ◌<◌, subst, sym, refl, inr, ℕ, List, Some, IsTrue, arith}
+use Rattle.std.proofs.Common.{◌≡◌, ◌≤◌, subst, sym, refl, inr, ℕ, List, Some, IsTrue, arith}
 use Rattle.rb_io.specs.Names.{Unchanged}
 use Rattle.rb_io.specs.Views.{FilesGoOn, SourceSeen}
 use Rattle.rb_bytes.specs.declared.fault.Fault.{Fault}
@@ -8,7 +8,7 @@ use Rattle.bolt_cli.specs.CommandAnswers.{Serves}
 use Rattle.bolt_cli.specs.Lines.{refused_line}
 use Rattle.bolt_cli.specs.rewrite.Phases.{LinePrinted}
 use Rattle.bolt_cli.specs.run.ByteRuns.{byte_machine, byte_mode, IsRunnable, CannotRun, too_long, unsound, much_code}
-use Rattle.bolt_cli.specs.run.RunAnswers.{AnswersRun, IsPresent, RunAnswers, under_way, IsRunAnswer, IsExact, outside}
+use Rattle.bolt_cli.specs.run.RunAnswers.{AnswersRun, IsPresent, IsUnderWay, RunAnswers, under_way, IsRunAnswer, IsExact, outside}
 use Rattle.bolt_cli.specs.Words.{RunWords, Run}
 use Rattle.bolt_cli.specs.World.{World}
 use Rattle.bolt_cli.specs.declared.status.Status.{Status}
@@ -46,7 +46,7 @@ module _ (words : RunWords) (old new : World) where
       → Unchanged old.files.content new.files.content → IsPresent byte_mode words old fault → new.input ≡ old.input → FilesGoOn old.files new.files → old.output.faults ≤ new.output.faults
       → Serves (Some (Run words)) answer old new
   refusal_serves answer fault printed same present unread go_on output = record {
-    answers = refuses byte_mode words old new answer fault printed same present unread;
+    answers = refuses byte_mode words old new (IsUnderWay byte_mode words old new answer) answer fault printed same present unread;
     completes = λ told file is runnable. absurd (none_present byte_mode words old new not_both trap_said file told is runnable fault present);
     files_go_on = go_on;
     input_faults = let P : SourceSeen → Type 0 = λ input. old.input.faults ≤ input.faults in subst P (sym unread) (omega arith);

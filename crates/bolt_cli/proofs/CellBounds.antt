@@ -1,10 +1,10 @@
 -- The code cells of a file that was read end below 2^64, since their bytes are loaded from it.
-use Rattle.std.proofs.Common.{◌≡◌, ◌∙◌, ◌+◌, ◌-◌, ◌/◌, ◌^◌, ◌<◌, ◌≤◌, ◌⊎◌, zero, suc, ℕ, List, [], ◌∷◌, Option, Some, None, Bool, true, false, get_or, refl, sym, ap, subst, arith, length, inl, inr, IsTrue, IsSome, ⊎_elim}
-use Rattle.std.specs.Prelude.{◌==◌, ◌&&◌, ◌||◌, All, Contains, find, option_and_then, if◌then◌else◌}
+use Rattle.std.proofs.Common.{◌≡◌, ◌∙◌, ◌+◌, ◌-◌, ◌^◌, ◌<◌, ◌≤◌, zero, ℕ, List, [], ◌∷◌, Option, Some, None, Bool, true, false, get_or, refl, sym, ap, subst, arith, IsTrue, IsSome, ⊎_elim}
+use Rattle.std.specs.Prelude.{◌==◌, ◌||◌, All, Contains, if◌then◌else◌}
 use Rattle.std.proofs.lemmas.Bool.{and_parts, eqb-true, cases_lt}
 use Rattle.rb_bytes.specs.declared.fault.FaultKind.TheVariants.{HighAddress}
 use Rattle.rv_code.specs.declared.cell.CodeCell.{CodeCell}
-use Rattle.elf_image.specs.code.Cells.{IsDifference, of_labels, of_place, same_width, can_be_cell, address_width, Field, IsField, pointer, slot, difference, CanBeCell, Counts, counts, gives_way, IsCell}
+use Rattle.elf_image.specs.code.Cells.{IsDifference, of_labels, of_place, same_width, can_be_cell, Field, IsField, pointer, slot, difference, CanBeCell, Counts, counts, gives_way, IsCell}
 use Rattle.elf_image.specs.code.FileCode.{AreCells}
 use Rattle.elf_image.specs.code.Relocations.{Relocation, Width, Bits, plus_width, is_add, is_pc_difference}
 use Rattle.elf_image.specs.declared.elf.Elf.{Elf}
@@ -14,7 +14,7 @@ use Rattle.elf_image.specs.faults.SegmentLayout.{address_end}
 use Rattle.elf_image.specs.file.Header.{segment, segments_of}
 use Rattle.elf_image.specs.file.ParsedFile.{IsElfOf}
 use Rattle.elf_image.specs.memory.Image.{loads_address}
-use Rattle.elf_image.specs.memory.LoadedBytes.{file_offset, offset_in}
+use Rattle.elf_image.specs.memory.LoadedBytes.{file_offset}
 use Rattle.std.proofs.lemmas.List.{get_or_default}
 use Rattle.elf_image.proofs.LoadLemmas.{Contains-there}
 use Rattle.elf_image.proofs.ReadLists.{get_or-segments}

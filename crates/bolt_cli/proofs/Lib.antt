@@ -1,15 +1,3 @@
-pub mod CodeSizes
-pub mod Effects
-pub mod Fetching
-pub mod MovedCode
-pub mod OneSegment
-pub mod StraightCode
-pub mod StraightRuns
-pub mod MovedBytes
-pub mod SpanLists
-pub mod StraightWords
-pub mod MovedArea
-pub mod FirstForms
 pub mod Answering
 pub mod Completing
 pub mod OptionWords
@@ -20,6 +8,8 @@ pub mod RunEnds
 pub mod RunAnswering
 pub mod ByteRunAnswering
 pub mod FrameSections
-pub mod CodeFaultOrder
 pub mod CellBounds
 pub mod SymbolRunAnswering
+pub mod FaultlessCode
+pub mod RecordEnds
+pub mod RecordAnswering

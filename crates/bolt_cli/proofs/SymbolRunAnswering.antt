@@ -1,17 +1,19 @@
 -- The command `run` on the symbol machine serves.
-use Rattle.std.proofs.Common.{◌≡◌, ◌≤◌, ◌<◌, ◌⊎◌, subst, sym, ℕ, List, Some, IsTrue, arith, inl, inr}
+use Rattle.std.proofs.Common.{◌≡◌, ◌≤◌, ◌⊎◌, subst, sym, ℕ, List, length, Some, IsTrue, arith, inr}
 use Rattle.rb_io.specs.Names.{Unchanged}
 use Rattle.rb_io.specs.Views.{FilesGoOn, SourceSeen}
 use Rattle.rb_bytes.specs.declared.fault.Fault.{Fault}
 use Rattle.sym_machine.specs.SymStart.{Program}
 use Rattle.sym_machine.specs.declared.outcome.Reason.{Reason}
+use Rattle.elf_readings.proofs.Readings.{reading_law}
+use Rattle.bolt_core.specs.Program.{tabled}
 use Rattle.bolt_cli.specs.CommandAnswers.{Serves, KeepsInput}
 use Rattle.bolt_cli.specs.Lines.{refused_line}
 use Rattle.bolt_cli.specs.rewrite.Phases.{LinePrinted}
 use Rattle.bolt_cli.specs.run.SymbolRuns.{symbol_machine, symbol_mode, IsSymbolProgram, CanRunSymbols, CannotRunSymbols, too_long, unsound, not_built, bad_code, much_code, many_functions}
 use Rattle.run_core.specs.Inputs.{Outside}
 use Rattle.bolt_cli.specs.run.Endings.{Ends, Stops, RunsOn}
-use Rattle.bolt_cli.specs.run.RunAnswers.{AnswersRun, came_out, at_input, at_output, at_closing, out_of_memory, IsPresent, RunAnswers, under_way, IsRunAnswer, IsCutShort, IsExact, outside}
+use Rattle.bolt_cli.specs.run.RunAnswers.{AnswersRun, came_out, at_input, at_output, at_closing, out_of_memory, stopped, IsPresent, IsUnderWay, RunAnswers, under_way, IsRunAnswer, IsCutShort, IsExact, outside}
 use Rattle.bolt_cli.specs.Words.{RunWords, RunSymbols}
 use Rattle.bolt_cli.specs.World.{World}
 use Rattle.bolt_cli.specs.declared.status.Status.{Status}
@@ -19,13 +21,19 @@ use Rattle.bolt_cli.specs.declared.status.Status.TheVariants as status
 use Rattle.bolt_cli.proofs.RunAnswering.{refuses, none_present, completes, same_content}
 
 -- a file that can't be run isn't one that can
-not_both : (file : List ℕ) (fault : Fault) → CannotRunSymbols file fault → CanRunSymbols file → ⊥
-not_both file fault (too_long long e) can = let fits = can.plain.fits in absurd (omega arith)
-not_both file fault (unsound fits present) can = can.plain.sound fault.kind fault.place present.present
-not_both file fault (not_built fits sound frames e) can = can.plain.frameless frames
-not_both file fault (bad_code plain elf is has) can = can.code_sound elf is fault.kind fault.place has.present
-not_both file fault (much_code plain elf is free much e) can = can.code_fits much
-not_both file fault (many_functions plain elf is free fits funcs are many e) can = let few = can.few elf funcs is are in absurd (omega arith)
+pub not_both : (file : List ℕ) (fault : Fault) → CannotRunSymbols file fault → CanRunSymbols file → ⊥
+not_both file fault (too_long long e) can = let fits = can.faultless.plain.fits in absurd (omega arith)
+not_both file fault (unsound fits present) can = can.faultless.plain.sound fault.kind fault.place present.present
+not_both file fault (not_built fits sound frames e) can = can.faultless.plain.frameless frames
+not_both file fault (bad_code plain elf is has) can =
+    let one = reading_law file elf can.elf is can.faultless.read tabled in
+    one.0.free.1 can.faultless.code_sound fault.kind fault.place has.present
+not_both file fault (much_code plain elf is free much e) can = can.faultless.code_fits much
+not_both file fault (many_functions plain elf is free fits funcs are many e) can =
+    let one = reading_law file elf can.elf is can.faultless.read tabled in
+    let same : length funcs ≡ length can.funcs = one.1.function_count funcs can.funcs are can.faultless.funcs_are in
+    let few = can.faultless.few in
+    absurd (omega arith)
 
 -- a run that got under way refuses no file, so it may have read its input
 module _ (program : Program) (words : RunWords) (before after : Outside) (answer : Status) where
@@ -33,10 +41,10 @@ module _ (program : Program) (words : RunWords) (before after : Outside) (answer
   not_refused fault (came_out (Ends value) so out) same = absurd (cc)
   not_refused fault (came_out (Stops pc why) so out) same = absurd (cc)
   not_refused fault (came_out RunsOn so out) same = absurd (cc)
-  not_refused fault (at_input so rose stops) same = absurd (cc)
-  not_refused fault (at_output so rose stops) same = absurd (cc)
+  not_refused fault (stopped (at_input so rose stops)) same = absurd (cc)
+  not_refused fault (stopped (at_output so rose stops)) same = absurd (cc)
   not_refused fault (at_closing so rose ending out) same = absurd (cc)
-  not_refused fault (out_of_memory so stops) same = absurd (cc)
+  not_refused fault (stopped (out_of_memory so stops)) same = absurd (cc)
 
   pub keeps_input : {Input : Type 0} (old new : Input) → AnswersRun (symbol_machine program words.words) words.limit before after answer → KeepsInput (Some (RunSymbols words)) answer old new
   keeps_input old new run = record { refused = λ fault same. absurd (not_refused fault run same); untouched = λ leaves. absurd leaves }
@@ -70,7 +78,7 @@ module _ (words : RunWords) (old new : World) where
       → Unchanged old.files.content new.files.content → IsPresent symbol_mode words old fault → new.input ≡ old.input → FilesGoOn old.files new.files → old.output.faults ≤ new.output.faults
       → Serves (Some (RunSymbols words)) answer old new
   refusal_serves answer fault printed same present unread go_on output = record {
-    answers = refuses symbol_mode words old new answer fault printed same present unread;
+    answers = refuses symbol_mode words old new (IsUnderWay symbol_mode words old new answer) answer fault printed same present unread;
     completes = λ told file is can. absurd (none_present symbol_mode words old new not_both stuck_said file told is can fault present);
     files_go_on = go_on;
     input_faults = let P : SourceSeen → Type 0 = λ input. old.input.faults ≤ input.faults in subst P (sym unread) (omega arith);

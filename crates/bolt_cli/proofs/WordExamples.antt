@@ -1,6 +1,6 @@
 -- Words that are commands, and words that are none.
 use Rattle.std.proofs.Common.{◌≡◌, ℕ, List, [], ◌∷◌, Option, Some, None, codes, refl}
-use Rattle.bolt_cli.specs.Words.{Command, Run, command_of}
+use Rattle.bolt_cli.specs.Words.{Command, Record, Run, command_of}
 
 run : List ℕ
 run = codes "run"
@@ -57,3 +57,16 @@ too_large = refl
 zero_byte : command_of (run ∷ codes "f" ∷ (97 ∷ 0 ∷ []) ∷ []) ≡ None
 unfolding run
 zero_byte = refl
+
+record_of_f : Option Command
+record_of_f = Some (Record (record { run = record { file = codes "f"; words = codes "a" ∷ []; limit = 7 }; out = codes "o" }))
+
+recorded_run : command_of (codes "record" ∷ codes "f" ∷ codes "--steps=7" ∷ codes "o" ∷ codes "a" ∷ []) ≡ record_of_f
+unfolding record_of_f
+recorded_run = refl
+
+recorded_over : command_of (codes "record" ∷ codes "f" ∷ codes "f" ∷ []) ≡ None
+recorded_over = refl
+
+recorded_on_symbols : command_of (codes "record" ∷ codes "--symbols" ∷ codes "f" ∷ codes "o" ∷ []) ≡ None
+recorded_on_symbols = refl

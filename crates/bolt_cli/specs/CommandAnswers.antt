@@ -5,12 +5,13 @@ use Rattle.rb_io.specs.Views.{FilesGoOn}
 use Rattle.bolt_cli.specs.declared.status.Status.{Status}
 use Rattle.bolt_cli.specs.declared.status.Status.TheVariants as status
 use Rattle.bolt_cli.specs.World.{World}
-use Rattle.bolt_cli.specs.Words.{Command, Rewrite, Run, RunSymbols}
+use Rattle.bolt_cli.specs.Words.{Command, Rewrite, Map, Run, RunSymbols, Record}
 use Rattle.bolt_cli.specs.Lines.{usage_line}
 use Rattle.bolt_cli.specs.Printing.{PrintsOnly, FailsAtLine}
-use Rattle.bolt_cli.specs.rewrite.Refusals.{IsAccepted}
-use Rattle.bolt_cli.specs.rewrite.RewriteAnswers.{RewriteAnswers, OfInputs, IsOkOrNoMemory}
-use Rattle.bolt_cli.specs.rewrite.RewriteAnswers as rewrite
+use Rattle.bolt_cli.specs.recording.RecordAnswers.{RecordAnswers, RecordCompletes}
+use Rattle.bolt_cli.specs.rewrite.InputAnswers.{IsAccepted, IsOkOrNoMemory, NoneRose, OfInputs}
+use Rattle.bolt_cli.specs.rewrite.MapAnswers.{MapAnswers}
+use Rattle.bolt_cli.specs.rewrite.RewriteAnswers.{NoneRoseWriting, RewriteAnswers}
 use Rattle.bolt_cli.specs.run.ByteRuns.{byte_mode, IsRunnable}
 use Rattle.bolt_cli.specs.run.RunAnswers.{RunAnswers, RunCompletes}
 use Rattle.bolt_cli.specs.run.SymbolRuns.{symbol_mode, CanRunSymbols}
@@ -22,28 +23,36 @@ UsageAnswers status.WriteFault old new = FailsAtLine usage_line old new
 UsageAnswers _ old new = ⊥
 
 abbrev pub CommandAnswers : Option Command → Status → World → World → Type 0
-CommandAnswers (Some (Rewrite names)) answer old new = RewriteAnswers answer names old new
+CommandAnswers (Some (Rewrite names)) answer old new = RewriteAnswers names old new answer
+CommandAnswers (Some (Map names)) answer old new = MapAnswers names old new answer
 CommandAnswers (Some (Run words)) answer old new = RunAnswers byte_mode words old new answer
 CommandAnswers (Some (RunSymbols words)) answer old new = RunAnswers symbol_mode words old new answer
+CommandAnswers (Some (Record words)) answer old new = RecordAnswers words old new answer
 CommandAnswers None answer old new = UsageAnswers answer old new
 
--- A rewrite is done, or wants memory, where none of its faults is present and no count rose. A run of a file that can be
--- run answers how that comes out.
+-- A rewrite is done and a map is printed, or memory is wanting, where no fault is present and no count rose. A run of a
+-- file that can be run answers how that comes out.
 abbrev pub Completes : Option Command → Status → World → World → Type 0
 Completes (Some (Rewrite names)) answer old new =
-    IsTrue old.files.told → OfInputs old names IsAccepted → rewrite.NoneRose names old new → IsOkOrNoMemory answer
+    IsTrue old.files.told → OfInputs old names.inputs IsAccepted → NoneRoseWriting names old new → IsOkOrNoMemory answer
+Completes (Some (Map names)) answer old new =
+    IsTrue old.files.told → OfInputs old names IsAccepted → NoneRose names old new → IsOkOrNoMemory answer
 Completes (Some (Run words)) answer old new =
     IsTrue old.files.told → (file : List ℕ) → old.files.content words.file ≡ Some file → IsRunnable file →
     RunCompletes byte_mode words file answer old new
 Completes (Some (RunSymbols words)) answer old new =
     IsTrue old.files.told → (file : List ℕ) → old.files.content words.file ≡ Some file → CanRunSymbols file →
     RunCompletes symbol_mode words file answer old new
+Completes (Some (Record words)) answer old new =
+    IsTrue old.files.told → (file : List ℕ) → old.files.content words.run.file ≡ Some file → CanRunSymbols file →
+    RecordCompletes words file answer old new
 Completes None answer old new = Unit {0}
 
 -- the command doesn't touch standard input
 abbrev pub LeavesInput : Option Command → Type 0
 LeavesInput (Some (Run words)) = ⊥
 LeavesInput (Some (RunSymbols words)) = ⊥
+LeavesInput (Some (Record words)) = ⊥
 LeavesInput _ = Unit {0}
 
 -- What a command does, or words that are none: its answer, and the world after it.

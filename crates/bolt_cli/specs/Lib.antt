@@ -1,6 +1,6 @@
+pub mod recording
 pub mod rewrite
 pub mod run
-pub mod CodeLimit
 pub mod CommandAnswers
 pub mod Lines
 pub mod ParsedWords

@@ -9,9 +9,10 @@ use Rattle.rv_code.specs.declared.cause.Cause.{Cause}
 use Rattle.rv_code.specs.declared.cause.Cause.TheVariants.{Fetch, Illegal, Load, Store, Break}
 use Rattle.sym_machine.specs.declared.outcome.Reason.{Reason}
 use Rattle.sym_machine.specs.declared.outcome.Reason.TheVariants as reason
+use Rattle.bolt_core.specs.Rewriting.{Counts}
 
 abbrev pub usage_line : List ℕ
-usage_line = codes "usage: rewrite IN PROFILE OUT MAP, map IN PROFILE, run [--symbols] [--steps N] FILE [WORDS], lookup FILE ADDR, sample N OUT PROFILE\n"
+usage_line = codes "usage: rewrite IN PROFILE OUT MAP, map IN PROFILE, run [--symbols] [--steps N] FILE [WORDS], lookup FILE ADDR, sample N OUT PROFILE, record [--steps N] FILE OUT [WORDS]\n"
 
 -- how a refusal ends: want of room has what is needed and what there is
 abbrev pub refused_end : FaultKind → ℕ → ℕ → List ℕ
@@ -24,11 +25,11 @@ refused_line fault =
     ++ hexadecimal fault.place ++ refused_end fault.kind fault.need fault.room
 
 -- what was moved
-abbrev pub summary_line : ℕ → ℕ → ℕ → ℕ → ℕ → List ℕ
-summary_line functions instructions bytes hot ignored =
-    codes "moved " ++ decimal functions ++ codes " functions, " ++ decimal instructions ++ codes " instructions, "
-    ++ decimal bytes ++ codes " bytes; " ++ decimal hot ++ codes " hot blocks; "
-    ++ decimal ignored ++ codes " profile lines ignored\n"
+abbrev pub summary_line : Counts → List ℕ
+summary_line counts =
+    codes "moved " ++ decimal counts.functions ++ codes " functions, " ++ decimal counts.instructions
+    ++ codes " instructions, " ++ decimal counts.bytes ++ codes " bytes; " ++ decimal counts.hot ++ codes " hot blocks; "
+    ++ decimal counts.ignored ++ codes " profile lines ignored\n"
 
 -- how a run ended, after how many steps
 

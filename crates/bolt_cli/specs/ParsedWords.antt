@@ -1,15 +1,15 @@
 -- What the readers of words and of files have read.
-use Rattle.std.specs.Prelude.{◌≢◌, ℕ, Bool, true, false, List, [], ◌∷◌, map, string_bytes, if◌then◌else◌}
+use Rattle.std.specs.Prelude.{◌≢◌, Bool, true, false, List, [], ◌∷◌, map, string_bytes}
 use Rattle.std.specs.Option.{option_map}
-use Rattle.elf_image.specs.code.Cuts.{holds_code}
-use Rattle.elf_image.specs.declared.elf.Section.{Section}
 use Rattle.rv_memory.specs.Limits.{IsWithinLimits}
-use Rattle.bolt_cli.specs.Words.{Argument, Positional, OptionWord, Expected, AnyArgument, OnlyPositional, arguments, positionals, RewriteNames, RunWords, Command, Rewrite, Run, RunSymbols}
+use Rattle.bolt_cli.specs.Words.{Argument, Positional, OptionWord, Expected, AnyArgument, OnlyPositional, arguments, positionals, InputNames, RewriteNames, RunWords, RecordWords, Command, Rewrite, Map, Run, RunSymbols, Record}
 use Rattle.bolt_cli.specs.declared.words.Argument.{Argument as ArgumentRead}
 use Rattle.bolt_cli.specs.declared.words.Argument.TheVariants as argument
 use Rattle.bolt_cli.specs.declared.words.Arguments.{Arguments}
+use Rattle.bolt_cli.specs.declared.words.InputWords.{InputWords}
 use Rattle.bolt_cli.specs.declared.words.RewriteWords.{RewriteWords}
 use Rattle.bolt_cli.specs.declared.words.RunWords.{RunWords as RunWordsRead}
+use Rattle.bolt_cli.specs.declared.words.RecordWords.{RecordWords as RecordWordsRead}
 use Rattle.bolt_cli.specs.declared.words.Command.{Command as CommandRead}
 use Rattle.bolt_cli.specs.declared.words.Command.TheVariants as read
 
@@ -30,29 +30,37 @@ IsNoPositional [] = Unit {0}
 IsNoPositional (Positional word ∷ rest) = ⊥
 IsNoPositional (OptionWord name value ∷ rest) = Unit {0}
 
+abbrev pub inputs_read : InputWords → InputNames
+inputs_read w = record { file = w.file.now; profile = w.profile.now }
+
 abbrev pub names_read : RewriteWords → RewriteNames
-names_read w = record { file = w.file.now; profile = w.profile.now; out = w.out.now; map = w.map.now }
+names_read w = record { inputs = inputs_read w.inputs; out = w.out.now; map = w.map.now }
 
 abbrev pub run_read : RunWordsRead → RunWords
 run_read w = record { file = w.file.now; words = positionals (arguments_of w.arguments); limit = w.limit }
 
+abbrev pub record_read : RecordWordsRead → RecordWords
+record_read w = record { run = run_read w.run; out = w.out.now }
+
 abbrev pub command_read : CommandRead → Command
 command_read (read.Rewrite w) = Rewrite (names_read w)
+command_read (read.Map w) = Map (inputs_read w)
 command_read (read.Run w) = Run (run_read w)
 command_read (read.RunSymbols w) = RunSymbols (run_read w)
+command_read (read.Record w) = Record (record_read w)
 
 -- the output and the map of a rewrite have different names
 abbrev pub NamesDiffer : CommandRead → Type 0
 NamesDiffer (read.Rewrite w) = w.out.now ≢ w.map.now
+NamesDiffer (read.Map w) = Unit {0}
 NamesDiffer (read.Run w) = Unit {0}
 NamesDiffer (read.RunSymbols w) = Unit {0}
+NamesDiffer (read.Record w) = Unit {0}
 
 -- the words of a run may be given to a program
 abbrev pub WordsFit : CommandRead → Type 0
 WordsFit (read.Rewrite w) = Unit {0}
+WordsFit (read.Map w) = Unit {0}
 WordsFit (read.Run w) = IsWithinLimits (run_read w).words
 WordsFit (read.RunSymbols w) = IsWithinLimits (run_read w).words
-
--- how many bytes of code a section has that was read
-abbrev pub section_code : Section → ℕ
-section_code section = if holds_code section then section.size else 0
+WordsFit (read.Record w) = IsWithinLimits (run_read w.run).words

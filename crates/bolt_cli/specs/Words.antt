@@ -72,10 +72,14 @@ values_of name (Positional word ∷ rest) = values_of name rest
 values_of name (OptionWord other value ∷ rest) =
     if bytes_eq other name then value ∷ values_of name rest else values_of name rest
 
--- the names of the files of a rewrite: the input, its profile, the output and its map
-pub record RewriteNames : Type 0 where
+-- the names of an input and of its profile
+pub record InputNames : Type 0 where
   pub file : List ℕ
   pub profile : List ℕ
+
+-- the names of the files of a rewrite: its inputs, the output and its map
+pub record RewriteNames : Type 0 where
+  pub inputs : InputNames
   pub out : List ℕ
   pub map : List ℕ
 
@@ -85,11 +89,23 @@ pub record RunWords : Type 0 where
   pub words : List (List ℕ)
   pub limit : ℕ
 
+-- the run that is recorded, and the name of its profile
+pub record RecordWords : Type 0 where
+  pub run : RunWords
+  pub out : List ℕ
+
 -- `IN PROFILE OUT MAP`, where OUT and MAP differ
 abbrev pub rewrite_of : List Argument → Option RewriteNames
 rewrite_of (Positional file ∷ Positional profile ∷ Positional out ∷ Positional map ∷ []) =
-    if bytes_eq out map then None else Some (record { file = file; profile = profile; out = out; map = map })
+    if bytes_eq out map
+    then None
+    else Some (record { inputs = record { file = file; profile = profile }; out = out; map = map })
 rewrite_of _ = None
+
+-- `IN PROFILE`
+abbrev pub map_of : List Argument → Option InputNames
+map_of (Positional file ∷ Positional profile ∷ []) = Some (record { file = file; profile = profile })
+map_of _ = None
 
 -- the number that 1 to 20 decimal digits write, below 2^64
 abbrev pub decimal_number : List ℕ → Option ℕ
@@ -130,11 +146,35 @@ run_words_of [] limit = None
 run_words_of (file ∷ words) limit =
     if are_program_words words then Some (record { file = file; words = words; limit = limit }) else None
 
+-- a positional word, or the option that `record` has
+abbrev pub is_record_argument : Argument → Bool
+is_record_argument (Positional word) = true
+is_record_argument (OptionWord name value) = bytes_eq name steps_name
+
+-- `FILE OUT [WORDS]`, where FILE and OUT differ
+abbrev pub record_words_of : List (List ℕ) → ℕ → Option RecordWords
+record_words_of (file ∷ out ∷ words) limit =
+    if bytes_eq file out
+    then None
+    else option_map (λ run. record { run = run; out = out }) (run_words_of (file ∷ words) limit)
+record_words_of _ limit = None
+
+-- the same, and `--steps` anywhere among them
+abbrev pub record_of : List Argument → Option RecordWords
+record_of arguments =
+    if list_all is_record_argument arguments
+    then option_and_then (record_words_of (positionals arguments)) (limit_of (values_of steps_name arguments))
+    else None
+
 pub data Command : Type 0 where
   Rewrite : RewriteNames → Command
+  -- prints the map of a rewrite
+  Map : InputNames → Command
   -- on the byte machine, and on the symbol machine
   Run : RunWords → Command
   RunSymbols : RunWords → Command
+  -- on the byte machine, with a profile of the run
+  Record : RecordWords → Command
 
 abbrev pub run_command : Bool → RunWords → Command
 run_command false words = Run words
@@ -157,6 +197,10 @@ command_of [] = None
 command_of (name ∷ words) =
     if bytes_eq name (codes "rewrite")
     then option_map Rewrite (rewrite_of (arguments AnyArgument words))
+    else if bytes_eq name (codes "map")
+    then option_map Map (map_of (arguments AnyArgument words))
     else if bytes_eq name (codes "run")
     then run_of (arguments AnyArgument words)
+    else if bytes_eq name (codes "record")
+    then option_map Record (record_of (arguments AnyArgument words))
     else None

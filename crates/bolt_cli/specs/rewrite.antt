@@ -1,9 +1,5 @@
-pub mod FirstForm
-pub mod FirstMap
+pub mod InputAnswers
 pub mod Inputs
-pub mod ParsedForm
+pub mod MapAnswers
 pub mod Phases
-pub mod Refusals
 pub mod RewriteAnswers
-pub mod RewrittenFile
-pub mod WrittenBytes

@@ -1,7 +1,9 @@
 // The lines that commands print.
 ghost use Rattle.std.specs.Prelude.{◌≡◌, ◌*◌, ◌++◌, OnOk, OnErr, IfOk, codes};
+ghost use Rattle.bolt_core.specs.Seen.{counts_seen};
 ghost use Rattle.bolt_cli.specs.Lines.{usage_line, refused_line, refused_end, summary_line, after_steps, ended_line, cause_name, trapped_line, reason_name, stuck_line, out_of_steps_line};
 
+use bolt_core::Rewritten;
 use rb_bytes::fault::{Fault, FaultKind, NoMemory};
 use rb_bytes::text::{put_decimal, put_hex};
 use rv_code::Cause;
@@ -12,7 +14,7 @@ use sym_machine::Reason;
 pub fn usage() -> &'static [u8]
     ensures { result.now ≡ usage_line }
 {
-    b"usage: rewrite IN PROFILE OUT MAP, map IN PROFILE, run [--symbols] [--steps N] FILE [WORDS], lookup FILE ADDR, sample N OUT PROFILE\n"
+    b"usage: rewrite IN PROFILE OUT MAP, map IN PROFILE, run [--symbols] [--steps N] FILE [WORDS], lookup FILE ADDR, sample N OUT PROFILE, record [--steps N] FILE OUT [WORDS]\n"
 }
 
 fn put_refused_end(line: &mut Vec<u8>, fault: &Fault) -> Result<(), NoMemory>
@@ -42,30 +44,20 @@ pub fn refused(alloc: Global, fault: &Fault) -> Result<Vec<u8>, NoMemory>
     Ok(line)
 }
 
-/// What a rewrite did, in counts.
-#[derive(Clone, Copy)]
-pub struct Summary {
-    pub functions: u64,
-    pub instructions: u64,
-    pub bytes: u64,
-    pub hot: u64,
-    pub ignored: u64,
-}
-
 /// The line for a file that was rewritten.
-pub fn moved(alloc: Global, counts: &Summary) -> Result<Vec<u8>, NoMemory>
-    ensures { IfOk result (λ line. line.items ≡ summary_line counts.now.functions counts.now.instructions counts.now.bytes counts.now.hot counts.now.ignored) }
+pub fn moved(alloc: Global, rewritten: &Rewritten) -> Result<Vec<u8>, NoMemory>
+    ensures { IfOk result (λ line. line.items ≡ summary_line (counts_seen rewritten.now)) }
 {
     let mut line = Vec::from_slice(alloc, b"moved ")?;
-    put_decimal(&mut line, counts.functions)?;
+    put_decimal(&mut line, rewritten.functions)?;
     line.extend_from_slice(b" functions, ")?;
-    put_decimal(&mut line, counts.instructions)?;
+    put_decimal(&mut line, rewritten.instructions)?;
     line.extend_from_slice(b" instructions, ")?;
-    put_decimal(&mut line, counts.bytes)?;
+    put_decimal(&mut line, rewritten.bytes)?;
     line.extend_from_slice(b" bytes; ")?;
-    put_decimal(&mut line, counts.hot)?;
+    put_decimal(&mut line, rewritten.hot)?;
     line.extend_from_slice(b" hot blocks; ")?;
-    put_decimal(&mut line, counts.ignored)?;
+    put_decimal(&mut line, rewritten.ignored)?;
     line.extend_from_slice(b" profile lines ignored\n")?;
     Ok(line)
 }

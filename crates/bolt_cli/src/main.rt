@@ -2,13 +2,14 @@
 #![tactic(auto)]
 
 mod closing;
-mod code_limit;
-mod first_form;
-mod first_write;
 mod frames;
+mod inputs;
 mod lines;
 mod permissions;
+mod print_map;
 mod printing;
+mod record_code;
+mod recording;
 mod refusal;
 mod rewrite;
 mod run;

@@ -6,7 +6,7 @@ use std::{fs, io};
 /// by those who ran it before. An output that is a device, as `/dev/null`, keeps its own.
 pub fn keep_permissions<R: std::rt::Files>(rt: &R, words: &[String]) {
     if let Some(Command::Rewrite(names)) = parse(words) {
-        let _ = copy_permissions(rt, names.file, names.out);
+        let _ = copy_permissions(rt, names.inputs.file, names.out);
     }
 }
 

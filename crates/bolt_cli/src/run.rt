@@ -13,10 +13,10 @@ ghost use Rattle.bolt_cli.specs.Words.{Run};
 ghost use Rattle.bolt_cli.specs.World.{world};
 
 use crate::closing::close;
-use crate::code_limit::has_too_much_code;
 use crate::refusal::{FILE_LIMIT, refuse};
 use crate::status::Status;
 use crate::words::{RunWords, program_words};
+use bolt_core::code_limit::has_too_much_code;
 use elf_image::{Elf, read};
 use rb_bytes::fault::{Fault, FaultKind, Refusal};
 use rb_io::{Files, ReadAll, Sink, Source};

@@ -1,11 +1,18 @@
-// The top call on the smallest example, on files that are refused, and under files and streams that
+// The top call on the smallest example and on other programs, on files that are refused, and under files and streams that
 // fail. Texts, numbers and headers are worked out by hand.
 
+mod code_refused;
 mod example;
+mod maps;
+mod programs;
+mod reach;
+mod recording;
 mod refused;
+mod rewriting;
+mod rewritten;
+mod room;
 mod run;
 mod symbols;
-mod symbols_refused;
 
 use self::example::exit7_moved;
 use crate::status::Status;
@@ -18,9 +25,8 @@ use std::process::Abort;
 use std::test::Fail;
 use test_files::bytes::patch;
 use test_files::headers::SH_ADDRALIGN;
-use test_files::inst::{X0, jal};
 use test_files::shapes::EXIT7_NAMES;
-use test_files::{assemble, exit7, program};
+use test_files::{Section, exit7, exit7_code, program};
 
 const MAP: &[u8] = b"10090 4 10078\n10094 4 1007c\n10098 4 10080\n1009c 4 10084\n";
 
@@ -30,7 +36,7 @@ const SUMMARY: &[u8] =
 const ENDED: &[u8] = b"[ended 7 after 4 steps]\n";
 
 const USAGE: &[u8] =
-    b"usage: rewrite IN PROFILE OUT MAP, map IN PROFILE, run [--symbols] [--steps N] FILE [WORDS], lookup FILE ADDR, sample N OUT PROFILE\n";
+    b"usage: rewrite IN PROFILE OUT MAP, map IN PROFILE, run [--symbols] [--steps N] FILE [WORDS], lookup FILE ADDR, sample N OUT PROFILE, record [--steps N] FILE OUT [WORDS]\n";
 
 fn text(alloc: Global, text: &str) -> Result<String, Fail> {
     Ok(String::from_str(alloc, text)?)
@@ -44,14 +50,25 @@ fn words(alloc: Global, words: &[&str]) -> Result<Vec<String>, Fail> {
     Ok(list)
 }
 
-// Files with an input, an empty profile, and room for the output and the map.
-fn files(alloc: Global, input: Vec<u8>, fail: &[u64]) -> Result<MemFiles, Fail> {
+// Files with an input, its profile, and so much room for the output and for the map.
+fn files_with(
+    alloc: Global,
+    input: Vec<u8>,
+    profile: &[u8],
+    room: usize,
+    fail: &[u64],
+) -> Result<MemFiles, Fail> {
     let mut files = MemFiles::new(alloc, Vec::from_slice(alloc, fail)?);
     files.put(text(alloc, "in")?, input)?;
-    files.put(text(alloc, "profile")?, Vec::new(alloc))?;
-    files.prepare(text(alloc, "out")?, 4096)?;
-    files.prepare(text(alloc, "map")?, 4096)?;
+    files.put(text(alloc, "profile")?, Vec::from_slice(alloc, profile)?)?;
+    files.prepare(text(alloc, "out")?, room)?;
+    files.prepare(text(alloc, "map")?, room)?;
     Ok(files)
+}
+
+// The same, with an empty profile.
+fn files(alloc: Global, input: Vec<u8>, fail: &[u64]) -> Result<MemFiles, Fail> {
+    files_with(alloc, input, b"", 4096, fail)
 }
 
 // Does what the words say, on a sink with so much room.
@@ -123,9 +140,12 @@ fn other_files_are_refused(rt: HostRuntime) -> Result<(), Fail> {
     patch(&mut short, E_MACHINE, &[0]);
     short.truncate(19);
     check_refused(&rt, alloc, short, FaultKind::Truncated, truncated)?;
-    let jump = assemble(alloc, &[jal(X0, 0)])?;
-    let jump = program(alloc, &jump, &[])?.build(alloc)?;
-    check_refused(&rt, alloc, jump, FaultKind::NotBuilt, not_built)?;
+    let code = exit7_code(alloc)?;
+    let mut tables = program(alloc, &code, &[])?;
+    let units = Section::unloaded(b".debug_info", b"\0\0\0\0");
+    tables.sections.push(units)?;
+    let tables = tables.build(alloc)?;
+    check_refused(&rt, alloc, tables, FaultKind::NotBuilt, not_built)?;
     Ok(())
 }
 
@@ -150,7 +170,7 @@ fn a_huge_output_is_not_made(rt: HostRuntime) -> Result<(), Fail> {
 #[test]
 fn words_that_are_no_command(rt: HostRuntime) -> Result<(), Fail> {
     let alloc = rt.alloc();
-    let lines: [&[&str]; 11] = [
+    let lines: [&[&str]; 12] = [
         &[],
         &["rewrite"],
         &["rewrite", "in", "profile", "out"],
@@ -159,13 +179,14 @@ fn words_that_are_no_command(rt: HostRuntime) -> Result<(), Fail> {
         &["rewrite", "-x", "profile", "out", "map"],
         &["rewrite", "--steps=3", "in", "profile", "out", "map"],
         &["--", "rewrite", "in", "profile", "out", "map"],
-        &["map", "in", "profile"],
+        &["map", "in"],
+        &["map", "in", "profile", "out"],
         &["run", "--steps=x", "in"],
         &["lookup", "in", "zz"],
     ];
     for line in lines {
         let mut files = files(alloc, exit7(alloc)?, &[])?;
-        let (status, out) = answer(alloc, line, &mut files, 200)?;
+        let (status, out) = answer(alloc, line, &mut files, 300)?;
         assert_eq!(rt; status, Status::Usage);
         assert_eq!(rt; status.number(), 220);
         assert_eq!(rt; out.taken(), USAGE);

@@ -7,6 +7,8 @@ ghost use Rattle.bolt_cli.specs.Words.{command_of};
 ghost use Rattle.bolt_cli.specs.World.{world};
 
 use crate::lines;
+use crate::print_map::print_map;
+use crate::recording::record_run;
 use crate::rewrite::rewrite;
 use crate::run::run;
 use crate::status::Status;
@@ -43,8 +45,10 @@ fn perform<F: Files, I: Source, O: Sink>(
 {
     match command {
         Command::Rewrite(words) => rewrite(alloc, words, files, out),
+        Command::Map(words) => print_map(alloc, words, files, out),
         Command::Run(words) => run(alloc, words, files, input, out),
         Command::RunSymbols(words) => run_symbols(alloc, words, files, input, out),
+        Command::Record(words) => record_run(alloc, words, files, input, out),
     }
 }
 

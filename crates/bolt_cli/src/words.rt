@@ -4,8 +4,8 @@ ghost use Rattle.std.specs.Option.{option_map};
 ghost use Rattle.std.specs.List.{list_all};
 ghost use Rattle.std.specs.Char.{is_ascii_digit};
 ghost use Rattle.rv_memory.specs.Limits.{IsWithinLimits};
-ghost use Rattle.bolt_cli.specs.Words.{Positional, steps_name, symbols_name, is_option, option_of, decimal_number, limit_of, symbols_of, values_of, is_run_argument, positionals, holds_zero, are_program_words, rewrite_of, run_of, command_of};
-ghost use Rattle.bolt_cli.specs.ParsedWords.{IsNoPositional, argument_read, arguments_of, command_read, run_read, names_read, NamesDiffer, WordsFit};
+ghost use Rattle.bolt_cli.specs.Words.{Positional, steps_name, symbols_name, is_option, option_of, decimal_number, limit_of, symbols_of, values_of, is_run_argument, is_record_argument, positionals, holds_zero, are_program_words, rewrite_of, map_of, run_of, record_of, command_of};
+ghost use Rattle.bolt_cli.specs.ParsedWords.{IsNoPositional, argument_read, arguments_of, command_read, run_read, record_read, inputs_read, names_read, NamesDiffer, WordsFit};
 
 use rb_bytes::fault::NoMemory;
 use std::alloc::Global;
@@ -24,11 +24,17 @@ const MOST_WORDS: usize = 64;
 
 const MOST_BYTES: usize = 65536;
 
+/// An input and its profile.
+#[derive(Clone, Copy)]
+pub struct InputWords<'a> {
+    pub file: &'a str,
+    pub profile: &'a str,
+}
+
 /// The files of `rewrite`.
 #[derive(Clone, Copy)]
 pub struct RewriteWords<'a> {
-    pub file: &'a str,
-    pub profile: &'a str,
+    pub inputs: InputWords<'a>,
     pub out: &'a str,
     pub map: &'a str,
 }
@@ -42,12 +48,21 @@ pub struct RunWords<'a> {
     pub arguments: Arguments<'a>,
 }
 
+/// The run that `record` does, and the name of its profile.
+#[derive(Clone, Copy)]
+pub struct RecordWords<'a> {
+    pub run: RunWords<'a>,
+    pub out: &'a str,
+}
+
 /// A command with its words.
 #[derive(Clone, Copy)]
 pub enum Command<'a> {
     Rewrite(RewriteWords<'a>),
+    Map(InputWords<'a>),
     Run(RunWords<'a>),
     RunSymbols(RunWords<'a>),
+    Record(RecordWords<'a>),
 }
 
 /// An argument of a command.
@@ -158,11 +173,22 @@ fn rewrite_words(mut arguments: Arguments<'_>) -> Option<RewriteWords<'_>>
         return None;
     }
     Some(RewriteWords {
-        file,
-        profile,
+        inputs: InputWords { file, profile },
         out,
         map,
     })
+}
+
+// The words after `map`.
+fn map_words(mut arguments: Arguments<'_>) -> Option<InputWords<'_>>
+    ensures { option_map inputs_read result ≡ map_of (arguments_of arguments.entry) }
+{
+    let file = next_positional(&mut arguments)?;
+    let profile = next_positional(&mut arguments)?;
+    if arguments.next().is_some() {
+        return None;
+    }
+    Some(InputWords { file, profile })
 }
 
 // A text of decimal digits, or of nothing.
@@ -315,6 +341,45 @@ fn run_words(mut arguments: Arguments<'_>) -> Option<Command<'_>>
     }
 }
 
+// No options but that of `record` are among the arguments.
+fn has_record_arguments(arguments: Arguments<'_>) -> bool
+    ensures { result ≡ list_all is_record_argument (arguments_of arguments.entry) }
+{
+    for argument in arguments {
+        let known = match argument {
+            Argument::Positional(_) => true,
+            Argument::OptionWord { name, .. } => name == STEPS,
+        };
+        if !known {
+            return false;
+        }
+    }
+    true
+}
+
+// The words after `record`.
+#[tactic(auto, using(crate::proofs::RunArguments::within_limits))]
+fn record_words(mut arguments: Arguments<'_>) -> Option<RecordWords<'_>>
+    ensures command { option_map record_read result ≡ record_of (arguments_of arguments.entry) }
+    ensures limits { IfSome result (λ w. IsWithinLimits (run_read w.run).words) }
+{
+    if !has_record_arguments(arguments) {
+        return None;
+    }
+    let limit = limit(arguments)?;
+    let file = first_positional(&mut arguments)?;
+    let out = first_positional(&mut arguments)?;
+    if file == out || !are_program_words(arguments) {
+        return None;
+    }
+    let run = RunWords {
+        file,
+        limit,
+        arguments,
+    };
+    Some(RecordWords { run, out })
+}
+
 /// The command that the words are, if they are one. Takes no memory.
 pub fn parse(words: &[String]) -> Option<Command<'_>>
     ensures command { option_map command_read result ≡ command_of (map string_bytes words.now) }
@@ -331,8 +396,14 @@ pub fn parse(words: &[String]) -> Option<Command<'_>>
     if name.as_str() == "rewrite" {
         return rewrite_words(arguments).map(Command::Rewrite);
     }
+    if name.as_str() == "map" {
+        return map_words(arguments).map(Command::Map);
+    }
     if name.as_str() == "run" {
         return run_words(arguments);
+    }
+    if name.as_str() == "record" {
+        return record_words(arguments).map(Command::Record);
     }
     None
 }

@@ -9,6 +9,6 @@ pub record Mode (P V X C : Type 0) : Type 1 where
   pub IsProgram : List ℕ → P → Type 0
   -- the machine with that in it, and with the words of its arguments
   pub machine : P → List (List ℕ) → Loaded V X C
-  -- no fault is found in a file, however its reader keeps it; and the fault for which one isn't run
+  -- no fault is found in a file; and the fault for which one isn't run
   pub CanRun : List ℕ → Type 0
   pub CannotRun : List ℕ → Fault → Type 0

@@ -1,16 +1,14 @@
 -- What was read of a file for the symbol machine.
-use Rattle.std.specs.Prelude.{◌≡◌, ◌&&◌, ℕ, nat_lt, Bool, List, codes, IsNone}
+use Rattle.std.specs.Prelude.{◌&&◌, ℕ, nat_lt, Bool, List, codes}
 use Rattle.std.specs.Str.{bytes_eq}
 use Rattle.rb_bytes.specs.declared.fault.Refusal.{Refusal}
 use Rattle.rb_bytes.specs.declared.fault.Refusal.TheVariants as refusal
-use Rattle.elf_image.specs.code.Functions.{AreFunctions}
 use Rattle.elf_image.specs.declared.elf.Elf.{Elf}
 use Rattle.elf_image.specs.declared.elf.Section.{Section}
-use Rattle.rv_reloc.specs.Refs.{AreRefs}
 use Rattle.sym_machine.specs.SymStart.{Program}
-use Rattle.bolt_cli.specs.declared.symbol_code.FileCode.{FileCode}
+use Rattle.bolt_core.specs.declared.file_code.FileCode.{FileCode}
 use Rattle.bolt_cli.specs.declared.symbol_code.SymbolCode.{SymbolCode}
-use Rattle.bolt_cli.specs.run.SymbolRuns.{HasNoFault, CannotRunSymbols, IsTightness, tabled}
+use Rattle.bolt_cli.specs.run.SymbolRuns.{CannotRunSymbols, IsTightness}
 
 abbrev pub is_frame_section : Section → Bool
 is_frame_section section = bytes_eq section.name.now (codes ".eh_frame") && nat_lt 0 section.size
@@ -20,12 +18,6 @@ program_by elf code tight = record { elf = elf; funcs = code.funcs.items; cells 
 
 abbrev pub program_of : Elf → SymbolCode → Program
 program_of elf code = program_by elf code.code code.tight
-
--- the code of a file, in which no fault is present
-pub record IsReadCode (elf : Elf) (code : FileCode) : Type 0 where
-  pub refs : AreRefs elf tabled code.refs
-  pub funcs : AreFunctions elf tabled code.funcs.items
-  pub no_fault : HasNoFault elf
 
 abbrev pub IsTightnessOf : Elf → FileCode → Bool → Type 0
 IsTightnessOf elf code tight = IsTightness (program_by elf code tight)

@@ -65,15 +65,18 @@ module _ {V X C : Type 0} (machine : Loaded V X C) (limit : ℕ) (before after :
       (λ steps printed state. (steps ≤ limit) × TakesAll before.output.taken after.output.taken printed
       × (after.input.left ≡ as_told before.input.left state.input))
 
+  -- how a run is answered that was cut short
+  pub data StopsRun (answer : Status) : Type 0 where
+    at_input : answer ≡ status.ReadFault → Rose before.input.faults after.input.faults → StopsAtRead → StopsRun answer
+    at_output : answer ≡ status.WriteFault → Rose before.output.faults after.output.faults → StopsAtWrite → StopsRun answer
+    out_of_memory : answer ≡ status.NoMemory → StopsAnywhere → StopsRun answer
+
   -- how a run is answered that got under way
   pub data AnswersRun (answer : Status) : Type 0 where
     came_out : (ending : Ending C) → answer ≡ answer_of machine ending → ComesOut TakesAll ending → AnswersRun answer
-    at_input : answer ≡ status.ReadFault → Rose before.input.faults after.input.faults → StopsAtRead → AnswersRun answer
-    at_output : answer ≡ status.WriteFault → Rose before.output.faults after.output.faults → StopsAtWrite
-        → AnswersRun answer
     at_closing : answer ≡ status.WriteFault → Rose before.output.faults after.output.faults → (ending : Ending C)
         → ComesOut TakesPrefix ending → AnswersRun answer
-    out_of_memory : answer ≡ status.NoMemory → StopsAnywhere → AnswersRun answer
+    stopped : StopsRun answer → AnswersRun answer
 
 abbrev pub outside : World → Outside
 outside w = record { input = w.input; output = w.output }
@@ -92,16 +95,19 @@ module _ {P V X C : Type 0} (mode : Mode P V X C) (words : RunWords) where
     pub program_is : mode.IsProgram file program
     pub run : AnswersRun (mode.machine program words.words) words.limit (outside old) (outside new) answer
 
-  -- Where nothing is run, standard input stays as it was.
-  pub data RunAnswers (old new : World) (answer : Status) : Type 0 where
-    under_way : IsUnderWay old new answer → RunAnswers old new answer
+  -- Where nothing is run, standard input stays as it was. U holds of a run that got under way.
+  pub data FileAnswers (U : Type 0) (old new : World) (answer : Status) : Type 0 where
+    under_way : U → FileAnswers U old new answer
     refused : (fault : Fault) → answer ≡ status.Refused fault → IsPresent old fault → PrintsOnly (refused_line fault) old new
-        → new.input ≡ old.input → RunAnswers old new answer
+        → new.input ≡ old.input → FileAnswers U old new answer
     at_refusal : (fault : Fault) → answer ≡ status.WriteFault → IsPresent old fault → FailsAtLine (refused_line fault) old new
-        → new.input ≡ old.input → RunAnswers old new answer
+        → new.input ≡ old.input → FileAnswers U old new answer
     at_file : answer ≡ status.ReadFault → ReadRose old new words.file → IsSilent old new → new.input ≡ old.input
-        → RunAnswers old new answer
-    before_run : answer ≡ status.NoMemory → IsSilent old new → new.input ≡ old.input → RunAnswers old new answer
+        → FileAnswers U old new answer
+    before_run : answer ≡ status.NoMemory → IsSilent old new → new.input ≡ old.input → FileAnswers U old new answer
+
+  abbrev pub RunAnswers : World → World → Status → Type 0
+  RunAnswers old new answer = FileAnswers (IsUnderWay old new answer) old new answer
 
 -- a fault of a file or a stream, or want of memory, cut the command short
 pub data IsCutShort (answer : Status) : Type 0 where
@@ -130,11 +136,14 @@ pub record NoneRose (words : RunWords) (old new : World) : Type 0 where
   pub input : Rose old.input.faults new.input.faults → ⊥
   pub out : Rose old.output.faults new.output.faults → ⊥
 
--- Of a file that can be run: where no count of faults rose, the answer says how a run came out. It is exact for the
--- machine with the file's program, unless it was cut short.
-pub record RunCompletes {P V X C : Type 0} (mode : Mode P V X C) (words : RunWords) (file : List ℕ) (answer : Status)
-    (old new : World) : Type 0 where
-  pub some : NoneRose words old new → IsRunAnswer answer
+-- Of a file that can be run: where it is quiet, the answer says how a run came out. It is exact for the machine with the
+-- file's program, unless it was cut short.
+pub record IsComplete {P V X C : Type 0} (mode : Mode P V X C) (words : RunWords) (file : List ℕ) (left : Option (List ℕ))
+    (answer : Status) (IsQuiet : Type 0) : Type 0 where
+  pub some : IsQuiet → IsRunAnswer answer
   pub exactly : IsCutShort answer
-      ⊎ ((program : P) × (mode.IsProgram file program
-      × IsExact (mode.machine program words.words) words.limit old.input.left answer))
+      ⊎ ((program : P) × (mode.IsProgram file program × IsExact (mode.machine program words.words) words.limit left answer))
+
+-- it is quiet where no count of faults rose
+abbrev pub RunCompletes : {P V X C : Type 0} → Mode P V X C → RunWords → List ℕ → Status → World → World → Type 0
+RunCompletes mode words file answer old new = IsComplete mode words file old.input.left answer (NoneRose words old new)

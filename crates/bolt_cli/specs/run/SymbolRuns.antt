@@ -1,5 +1,5 @@
 -- Runs on the symbol machine, which is given a file's functions and code cells, and whether the file is tight.
-use Rattle.std.specs.Prelude.{◌≡◌, ℕ, ◌<◌, ◌≤◌, List, [], length, IsTrue, codes}
+use Rattle.std.specs.Prelude.{◌≡◌, ℕ, ◌<◌, ◌≤◌, List, length, IsTrue, codes}
 use Rattle.std.specs.Str.{bytes_eq}
 use Rattle.rb_bytes.specs.Fault.{fault_at}
 use Rattle.rb_bytes.specs.declared.fault.Fault.{Fault}
@@ -24,8 +24,9 @@ use Rattle.sym_machine.specs.SymStep.{SymSteps}
 use Rattle.sym_machine.specs.declared.outcome.Reason.{Reason}
 use Rattle.sym_machine.specs.declared.value.MemoryByte.{MemoryByte}
 use Rattle.sym_machine.specs.declared.value.Value.{Value}
-use Rattle.bolt_cli.specs.CodeLimit.{HasTooMuchCode}
-use Rattle.bolt_cli.specs.rewrite.Refusals.{file_limit}
+use Rattle.bolt_core.specs.CodeLimit.{HasTooMuchCode}
+use Rattle.bolt_core.specs.Program.{file_limit, tabled}
+use Rattle.bolt_core.specs.Limits.{function_limit}
 use Rattle.bolt_cli.specs.run.Endings.{Loaded}
 use Rattle.bolt_cli.specs.run.Modes.{Mode}
 use Rattle.bolt_cli.specs.declared.status.Status.TheVariants as status
@@ -35,13 +36,6 @@ symbol_machine program words =
     record { step = SymSteps program.funcs; start = program_start program words; halted = status.Stuck }
 
 -- Which files are run.
-
-abbrev pub function_limit : ℕ
-function_limit = 200000
-
--- The ranges of code that have exception tables. None is known yet, since files with unwind tables aren't run.
-abbrev pub tabled : List (ℕ × ℕ)
-tabled = []
 
 -- the section of an index has the name of unwind tables, and has contents
 pub record IsFrameSection (file : List ℕ) (i : ℕ) : Type 0 where
@@ -65,12 +59,19 @@ HasFault elf fault = IsAnswered (HasCodeFault elf tabled) fault
 abbrev pub HasNoFault : Elf → Type 0
 HasNoFault elf = IsFree (HasCodeFault elf tabled)
 
--- no fault is found, however the file is kept
-pub record CanRunSymbols (file : List ℕ) : Type 0 where
+-- the functions of a file, in which no fault is found
+pub record IsFaultless (file : List ℕ) (elf : Elf) (funcs : List Func) : Type 0 where
   pub plain : IsPlain file
-  pub code_sound : (elf : Elf) → IsElfOf file elf → HasNoFault elf
+  pub read : IsElfOf file elf
+  pub code_sound : HasNoFault elf
   pub code_fits : HasTooMuchCode file → ⊥
-  pub few : (elf : Elf) (funcs : List Func) → IsElfOf file elf → AreFunctions elf tabled funcs → length funcs ≤ function_limit
+  pub few : length funcs ≤ function_limit
+  pub funcs_are : AreFunctions elf tabled funcs
+
+pub record CanRunSymbols (file : List ℕ) : Type 0 where
+  pub elf : Elf
+  pub funcs : List Func
+  pub faultless : IsFaultless file elf funcs
 
 -- Why a file isn't run: its length comes first, then what is wrong in it; then unwind tables, which aren't built; then what
 -- is wrong in its code; and then the size of its code and the count of its functions.
@@ -98,12 +99,7 @@ pub record IsTightness (program : Program) : Type 0 where
   pub tight_is : program.tight ≡ is_tight program.elf.segments.items (need program.elf program.funcs blocks)
 
 pub record IsSymbolProgram (file : List ℕ) (program : Program) : Type 0 where
-  pub plain : IsPlain file
-  pub read : IsElfOf file program.elf
-  pub code_sound : HasNoFault program.elf
-  pub code_fits : HasTooMuchCode file → ⊥
-  pub few : length program.funcs ≤ function_limit
-  pub funcs_are : AreFunctions program.elf tabled program.funcs
+  pub faultless : IsFaultless file program.elf program.funcs
   pub cells_are : AreCells program.elf tabled program.cells
   pub tightness : IsTightness program
 

@@ -2,13 +2,14 @@
 
 use super::{REWRITE, answer, files, text};
 use crate::status::Status;
-use elf_image::header::{E_FLAGS, E_TYPE};
+use elf_image::header::{E_FLAGS, E_SHNUM, E_TYPE};
+use elf_image::section::SHDR_SIZE;
 use rb_bytes::fault::{Fault, FaultKind};
 use rb_io::MemFiles;
 use std::alloc::Global;
 use std::process::Abort;
 use std::test::Fail;
-use test_files::bytes::patch;
+use test_files::bytes::{grow, patch};
 use test_files::headers::{P_FLAGS, P_MEMSZ, P_VADDR, SH_ADDR, SH_FLAGS};
 use test_files::inst::NOP;
 use test_files::shapes::{EXIT7_NAMES, EXIT7_SEGMENT, EXIT7_TEXT};
@@ -19,6 +20,9 @@ const TOO_LONG: usize = 64 * 1024 * 1024 + 1;
 
 // How many instructions of four bytes 16 MiB of code have.
 const MOST_INSTRUCTIONS: u32 = 4 * 1024 * 1024;
+
+// How many section headers are added to three, to pass what is rewritten.
+const MORE_SECTIONS: usize = 64_998;
 
 // Bytes that stand in place of the example's, from an offset on.
 #[derive(Clone, Copy)]
@@ -47,8 +51,8 @@ fn zeros(alloc: Global, count: usize) -> Result<Vec<u8>, Fail> {
     Ok(vec![in alloc; 0; count]?)
 }
 
-// Does what the words say, and checks that a file is refused so.
-fn check_command(
+/// Does what the words say, and checks that a file is refused so.
+pub fn check_command(
     rt: &impl Abort,
     alloc: Global,
     words: &[&str],
@@ -201,5 +205,24 @@ fn too_much_code(rt: HostRuntime) -> Result<(), Fail> {
     }
     let input = program(alloc, &code, &[])?.build(alloc)?;
     let fault = Fault::at(FaultKind::TooLarge, 2);
-    check(&rt, alloc, input, fault, b"refused 28 TooLarge at 2\n")
+    let mut files = files(alloc, input, &[])?;
+    let line = b"refused 28 TooLarge at 2\n";
+    check_command(&rt, alloc, &["run", "in"], &mut files, fault, line)
+}
+
+// A file with many section headers is run, and isn't rewritten.
+#[test]
+fn too_many_sections(rt: HostRuntime) -> Result<(), Fail> {
+    let alloc = rt.alloc();
+    let mut input = exit7(alloc)?;
+    let size = input.len().saturating_add(MORE_SECTIONS * SHDR_SIZE);
+    grow(&mut input, size)?;
+    patch(&mut input, E_SHNUM, &65_001u16.to_le_bytes());
+    let mut files = files(alloc, input, &[])?;
+    let fault = Fault::at(FaultKind::TooLarge, 5);
+    let line = b"refused 28 TooLarge at 5\n";
+    check_command(&rt, alloc, &REWRITE, &mut files, fault, line)?;
+    let (status, _out) = answer(alloc, &["run", "in"], &mut files, 200)?;
+    assert_eq!(rt; status, Status::Ended(7));
+    Ok(())
 }

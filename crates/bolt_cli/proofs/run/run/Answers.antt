@@ -1,13 +1,13 @@
 use Rattle.std.proofs.Common.{◌≤◌, sym, subst, refl, inr, ◌<◌, ℕ, List, length, arith}
 use Rattle.bolt_cli.specs.ParsedWords.{run_read}
-use Rattle.bolt_cli.specs.rewrite.Refusals.{file_limit}
+use Rattle.bolt_core.specs.CodeLimit.{HasTooMuchCode}
+use Rattle.bolt_core.specs.Program.{file_limit}
 use Rattle.bolt_cli.specs.run.ByteRuns.{CannotRun, too_long, unsound, much_code}
 use Rattle.bolt_cli.specs.run.RunAnswers.{at_file, before_run, read_fault, no_memory}
 use Rattle.bolt_cli.specs.Words.{RunWords}
 use Rattle.bolt_cli.specs.World.{World, world}
 use Rattle.bolt_cli.specs.declared.status.Status.TheVariants as status
-use Rattle.bolt_cli.proofs.CodeSizes.{code_fits, code_passes}
-use Rattle.bolt_cli.proofs.RunAnswering.{present_long, present_fault, passed_is, kept_is, kept_fits, kept_sound}
+use Rattle.bolt_cli.proofs.RunAnswering.{denied, present_long, present_fault, passed_is, kept_is, kept_fits, kept_sound}
 use Rattle.bolt_cli.proofs.ByteRunAnswering.{serves, refusal_serves, goes_under_way, other_exact}
 use Rattle.bolt_cli.proofs.run.run.Goals as goal
 
@@ -63,7 +63,7 @@ returns-then-has_too_much_code-clause-serves g c =
     (much_code
     (kept_fits (old.files.content words.file) c.read_all.new.into.items c.deref.result.now kept c.deref.ensures.value c.in-Ok.ensures.fields.file_is (c.in-Done.ensures.within_limit refl))
     (kept_sound (old.files.content words.file) c.read_all.new.into.items c.deref.result.now kept c.deref.ensures.value c.in-Ok.ensures.fields.file_is c.in-Ok.ensures.sound)
-    (code_passes kept kept c.has_too_much_code.result refl c.has_too_much_code.ensures.0 c.if-has_too_much_code.true) c.at-then-has_too_much_code.ensures)) refl
+    (c.has_too_much_code.ensures.0 c.if-has_too_much_code.true) c.at-then-has_too_much_code.ensures)) refl
     c.in-Done.ensures.goes_on c.refuse-then-has_too_much_code.ensures.never_falls
 
 pub returns-clause-serves : goal.returns-clause-serves
@@ -78,7 +78,7 @@ returns-clause-serves g c =
     (record {
       fits = kept_fits (old.files.content words.file) c.read_all.new.into.items c.deref.result.now kept c.deref.ensures.value c.in-Ok.ensures.fields.file_is (c.in-Done.ensures.within_limit refl);
       sound = kept_sound (old.files.content words.file) c.read_all.new.into.items c.deref.result.now kept c.deref.ensures.value c.in-Ok.ensures.fields.file_is c.in-Ok.ensures.sound;
-      code_fits = code_fits kept kept c.has_too_much_code.result refl c.has_too_much_code.ensures.1 c.if-has_too_much_code.false;
+      code_fits = denied (HasTooMuchCode kept) c.has_too_much_code.result c.has_too_much_code.ensures.1 c.if-has_too_much_code.false;
     })
     c.in-Done.ensures.contents_kept c.run_elf.ensures.answer)
     (λ told file file_is. other_exact words old new c.run_elf.result kept file (is (c.in-Done.ensures.done refl told)) file_is c.run_elf.ensures.exact)

@@ -9,7 +9,7 @@ use Rattle.rv_machine.specs.Stepped.{answered}
 use Rattle.bolt_cli.specs.ParsedWords.{run_read}
 use Rattle.bolt_cli.specs.run.ByteRuns.{byte_machine}
 use Rattle.bolt_cli.specs.run.Phases.{Closed}
-use Rattle.bolt_cli.specs.run.RunAnswers.{out_of_memory, no_memory}
+use Rattle.bolt_cli.specs.run.RunAnswers.{out_of_memory, stopped, no_memory}
 use Rattle.bolt_cli.specs.declared.status.Status.{Status}
 use Rattle.bolt_cli.proofs.RunEnds.{no_step, answers, exact}
 use Rattle.bolt_cli.proofs.run.run_elf.Goals as goal
@@ -21,10 +21,10 @@ started m file given items words same read loaded input =
     loaded input ∙ ap (λ list. start file (map string_bytes list) input) same ∙ ap (λ list. start file list input) read
 
 pub returns-in_default-clause-answer : goal.returns-in_default-clause-answer
-returns-in_default-clause-answer g c = out_of_memory refl (no_step (byte_machine c.args.elf.now.file.now (run_read c.args.words.now).words) c.args.words.now.limit _ (λ input. refl))
+returns-in_default-clause-answer g c = stopped (out_of_memory refl (no_step (byte_machine c.args.elf.now.file.now (run_read c.args.words.now).words) c.args.words.now.limit _ (λ input. refl)))
 
 pub returns-in_default-load-clause-answer : goal.returns-in_default-load-clause-answer
-returns-in_default-load-clause-answer g c = out_of_memory refl (no_step (byte_machine c.args.elf.now.file.now (run_read c.args.words.now).words) c.args.words.now.limit _ (λ input. refl))
+returns-in_default-load-clause-answer g c = stopped (out_of_memory refl (no_step (byte_machine c.args.elf.now.file.now (run_read c.args.words.now).words) c.args.words.now.limit _ (λ input. refl)))
 
 pub returns-in_default-clause-exact : goal.returns-in_default-clause-exact
 returns-in_default-clause-exact g c = λ input is ending n trace rest run. inr (no_memory refl)

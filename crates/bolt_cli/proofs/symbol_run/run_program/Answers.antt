@@ -6,8 +6,6 @@ use Rattle.rv_code.specs.declared.cell.CodeCell.{CodeCell}
 use Rattle.elf_image.specs.declared.elf.Elf.{Elf}
 use Rattle.run_core.specs.Inputs.{Outside}
 use Rattle.run_core.specs.Runs.{RunsSomeInput}
-use Rattle.rv_code.specs.layout.FunctionLists.{AreLaidOut}
-use Rattle.cfg_build.proofs.layout.AcceptedCode.{AreLaidOut-functions}
 use Rattle.sym_machine.specs.SymStart.{Program, sym_start}
 use Rattle.sym_machine.specs.SymStep.{SymSteps}
 use Rattle.sym_machine.specs.State.{state_of, answered, funcs_of}
@@ -15,18 +13,20 @@ use Rattle.sym_machine.specs.declared.machine.SymMachine.{SymMachine}
 use Rattle.bolt_cli.specs.ParsedWords.{run_read}
 use Rattle.bolt_cli.specs.run.ParsedCode.{program_of}
 use Rattle.bolt_cli.specs.run.Phases.{Closed}
-use Rattle.bolt_cli.specs.run.RunAnswers.{out_of_memory, no_memory}
-use Rattle.bolt_cli.specs.run.SymbolRuns.{symbol_machine, IsSymbolProgram, tabled}
+use Rattle.bolt_cli.specs.run.RunAnswers.{out_of_memory, stopped, no_memory}
+use Rattle.bolt_cli.specs.run.SymbolRuns.{symbol_machine}
+use Rattle.bolt_core.specs.Program.{tabled}
 use Rattle.bolt_cli.specs.declared.status.Status.{Status}
+use Rattle.bolt_cli.proofs.FaultlessCode.{laid_out}
 use Rattle.bolt_cli.proofs.CellBounds.{cells_end}
 use Rattle.bolt_cli.proofs.RunEnds.{no_step, answers, exact}
 use Rattle.bolt_cli.proofs.symbol_run.run_program.Goals as goal
 
 pub returns-in_default-clause-answer : goal.returns-in_default-clause-answer
-returns-in_default-clause-answer g c = out_of_memory refl (no_step (symbol_machine (program_of c.args.elf.now c.args.code.now) (run_read c.args.words.now).words) c.args.words.now.limit _ (λ input. refl))
+returns-in_default-clause-answer g c = stopped (out_of_memory refl (no_step (symbol_machine (program_of c.args.elf.now c.args.code.now) (run_read c.args.words.now).words) c.args.words.now.limit _ (λ input. refl)))
 
 pub returns-in_default-load-clause-answer : goal.returns-in_default-load-clause-answer
-returns-in_default-load-clause-answer g c = out_of_memory refl (no_step (symbol_machine (program_of c.args.elf.now c.args.code.now) (run_read c.args.words.now).words) c.args.words.now.limit _ (λ input. refl))
+returns-in_default-load-clause-answer g c = stopped (out_of_memory refl (no_step (symbol_machine (program_of c.args.elf.now c.args.code.now) (run_read c.args.words.now).words) c.args.words.now.limit _ (λ input. refl)))
 
 pub returns-in_default-clause-exact : goal.returns-in_default-clause-exact
 returns-in_default-clause-exact g c = λ input is ending n trace rest run. inr (no_memory refl)
@@ -40,19 +40,15 @@ started : (m : SymMachine) (elf : Elf) (tight : Bool) (given_cells cells : List 
 started m elf tight given_cells cells given items words same_cells same read loaded input =
     loaded input ∙ ap (λ cs. sym_start elf cs tight (map string_bytes given) input) same_cells ∙ ap (λ list. sym_start elf cells tight (map string_bytes list) input) same ∙ ap (λ list. sym_start elf cells tight list input) read
 
--- functions of a file that can be run lie apart
-laid_out : (file : List ℕ) (program : Program) (given : List Func) → given ≡ program.funcs → IsSymbolProgram file program → AreLaidOut given
-laid_out file program given same is =
-    subst AreLaidOut (sym same) (AreLaidOut-functions program.elf file is.read is.plain.sound tabled program.funcs is.funcs_are (λ kind place has. is.code_sound kind place (inr has)))
-
 pub load-requires-clause-laid_out : goal.load-requires-clause-laid_out
-load-requires-clause-laid_out g c = laid_out c.args.elf.now.file.now (program_of c.args.elf.now c.args.code.now) c.as_slice-funcs.result.now c.as_slice-funcs.ensures.value c.requires.program
+load-requires-clause-laid_out g c =
+    laid_out c.args.elf.now.file.now c.args.elf.now c.args.code.now.code.funcs.items c.as_slice-funcs.result.now c.as_slice-funcs.ensures.value c.requires.program.faultless
 
 pub load-requires-clause-cells : goal.load-requires-clause-cells
 load-requires-clause-cells g c =
     let is = c.requires.program in
     subst (λ (cells : List CodeCell). All (λ cell. cell.addr + cell.width ≤ 2 ^ 64) cells) (sym c.as_slice-cells.ensures.value)
-    (cells_end c.args.elf.now.file.now c.args.elf.now is.read is.plain.sound tabled c.args.code.now.code.refs.cells.items is.cells_are)
+    (cells_end c.args.elf.now.file.now c.args.elf.now is.faultless.read is.faultless.plain.sound tabled c.args.code.now.code.refs.cells.items is.cells_are)
 
 pub returns-clause-answer : goal.returns-clause-answer
 returns-clause-answer g c =

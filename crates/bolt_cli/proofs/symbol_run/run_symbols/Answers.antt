@@ -1,13 +1,13 @@
 use Rattle.std.proofs.Common.{◌≤◌, ◌<◌, sym, subst, refl, inl, ℕ, List, length, arith}
 use Rattle.bolt_cli.specs.ParsedWords.{run_read}
-use Rattle.bolt_cli.specs.rewrite.Refusals.{file_limit}
+use Rattle.bolt_core.specs.Program.{file_limit}
 use Rattle.bolt_cli.specs.run.ParsedCode.{program_of}
 use Rattle.bolt_cli.specs.run.SymbolRuns.{CannotRunSymbols, too_long, unsound}
 use Rattle.bolt_cli.specs.run.RunAnswers.{at_file, before_run, read_fault, no_memory}
 use Rattle.bolt_cli.specs.Words.{RunWords}
 use Rattle.bolt_cli.specs.World.{World, world}
 use Rattle.bolt_cli.specs.declared.status.Status.TheVariants as status
-use Rattle.bolt_cli.proofs.RunAnswering.{present_long, present_fault, passed_is, kept_is, kept_fits, kept_sound}
+use Rattle.bolt_cli.proofs.RunAnswering.{present_long, present_fault, passed_is, kept_is}
 use Rattle.bolt_cli.proofs.SymbolRunAnswering.{serves, refusal_serves, goes_under_way, other_exact, keeps_input}
 use Rattle.bolt_cli.proofs.symbol_run.run_symbols.Goals as goal
 

@@ -1,0 +1,4 @@
+pub mod Phases
+pub mod RecordAnswers
+pub mod RecordRuns
+pub mod RecordedCode

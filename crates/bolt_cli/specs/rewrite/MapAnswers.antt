@@ -1,0 +1,16 @@
+-- What holds at the end of a command that prints the map of a rewrite, by its answer. It writes no file.
+use Rattle.std.specs.Prelude.{◌≡◌}
+use Rattle.addr_map.specs.MapText.{map_text}
+use Rattle.bolt_cli.specs.declared.status.Status.{Status}
+use Rattle.bolt_cli.specs.declared.status.Status.TheVariants as status
+use Rattle.bolt_cli.specs.Printing.{PrintsOnly, FailsAtLine}
+use Rattle.bolt_cli.specs.rewrite.InputAnswers.{IsMadeOf, IsStopped, Made}
+use Rattle.bolt_cli.specs.Words.{InputNames}
+use Rattle.bolt_cli.specs.World.{World}
+
+pub data MapAnswers (names : InputNames) (old new : World) (answer : Status) : Type 0 where
+  printed : answer ≡ status.Ok → (made : Made) → IsMadeOf names old.files made → PrintsOnly (map_text made.spans) old new
+      → MapAnswers names old new answer
+  at_text : answer ≡ status.WriteFault → (made : Made) → IsMadeOf names old.files made
+      → FailsAtLine (map_text made.spans) old new → MapAnswers names old new answer
+  stopped : IsStopped names old new answer → MapAnswers names old new answer

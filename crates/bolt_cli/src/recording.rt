@@ -1,0 +1,163 @@
+// The command `record`: the file is read whole, and runs on the byte machine. A profile of the run is written, and then
+// its closing line.
+ghost use Rattle.std.specs.Prelude.{◌≤◌, Some};
+ghost use Rattle.rb_io.specs.Views.{FilesGoOn, SourceSeen};
+ghost use Rattle.rv_memory.specs.Limits.{IsWithinLimits};
+ghost use Rattle.rv_machine.specs.Stepped.{answered};
+ghost use Rattle.bolt_cli.specs.CommandAnswers.{KeepsInput, Serves};
+ghost use Rattle.bolt_cli.specs.ParsedWords.{record_read, run_read};
+ghost use Rattle.bolt_cli.specs.recording.Phases.{Finished, ProfileWritten};
+ghost use Rattle.bolt_cli.specs.recording.RecordAnswers.{RecordsRun};
+ghost use Rattle.bolt_cli.specs.recording.RecordRuns.{IsRecordProgram};
+ghost use Rattle.bolt_cli.specs.recording.RecordedCode.{recorded_program};
+ghost use Rattle.bolt_cli.specs.run.ByteRuns.{byte_machine};
+ghost use Rattle.bolt_cli.specs.run.Endings.{closing_line};
+ghost use Rattle.bolt_cli.specs.run.RunAnswers.{IsExact};
+ghost use Rattle.bolt_cli.specs.Words.{Record};
+ghost use Rattle.bolt_cli.specs.World.{world};
+
+use crate::closing::closing_line;
+use crate::record_code::{RecordCode, record_code};
+use crate::refusal::{FILE_LIMIT, refuse};
+use crate::status::Status;
+use crate::words::{RecordWords, program_words};
+use edge_record::{Recorded, trace_edges};
+use elf_image::{Elf, read};
+use rb_bytes::fault::{Fault, FaultKind, Refusal};
+use rb_io::{Files, Put, ReadAll, Sink, Source, Wrote, print_all};
+use rv_machine::Stepped;
+use std::alloc::Global;
+
+// Writes the profile of a run that came out, and then says how it did. All memory is taken before.
+fn write_profile<F: Files, O: Sink>(
+    alloc: Global,
+    name: &str,
+    recorded: &Recorded,
+    came: Status,
+    files: &mut F,
+    out: &mut O,
+) -> Status
+    ensures written { (input seen : SourceSeen) → ProfileWritten result came name.now recorded.now.text.items
+        (closing_line came recorded.now.ran.steps)
+        (world (F.seen files.old) input (O.seen out.old)) (world (F.seen files.new) seen (O.seen out.new)) }
+    ensures files_go_on { FilesGoOn (F.seen files.old) (F.seen files.new) }
+    ensures never_falls { (O.seen out.old).faults ≤ (O.seen out.new).faults }
+{
+    let Ok(line) = closing_line(alloc, came, recorded.ran.steps) else {
+        return Status::NoMemory;
+    };
+    if files.write_all(name, &recorded.text) == Wrote::Failed {
+        return Status::WriteFault;
+    }
+    match print_all(out, &line) {
+        Put::Took(_) => came,
+        Put::Failed => Status::WriteFault,
+    }
+}
+
+// Does what is left to do after a run.
+fn finish<F: Files, O: Sink>(
+    alloc: Global,
+    name: &str,
+    recorded: &Recorded,
+    files: &mut F,
+    out: &mut O,
+) -> Status
+    ensures finished { (input seen : SourceSeen) → Finished result name.now recorded.now.text.items recorded.now.ran.steps
+        (world (F.seen files.old) input (O.seen out.old)) (world (F.seen files.new) seen (O.seen out.new))
+        (answered recorded.now.ran.end) }
+    ensures files_go_on { FilesGoOn (F.seen files.old) (F.seen files.new) }
+    ensures never_falls { (O.seen out.old).faults ≤ (O.seen out.new).faults }
+{
+    match recorded.ran.end {
+        Stepped::Going => write_profile(alloc, name, recorded, Status::OutOfSteps, files, out),
+        Stepped::Ended(value) => {
+            write_profile(alloc, name, recorded, Status::Ended(value), files, out)
+        }
+        Stepped::Trap(pc, cause) => {
+            write_profile(
+                alloc,
+                name,
+                recorded,
+                Status::Trapped(pc, cause),
+                files,
+                out,
+            )
+        }
+        Stepped::ReadFault => Status::ReadFault,
+        Stepped::WriteFault => Status::WriteFault,
+        Stepped::Memory => Status::NoMemory,
+    }
+}
+
+// Runs a file that was read, and writes a profile of the run.
+fn record_elf<F: Files, I: Source, O: Sink>(
+    alloc: Global,
+    words: &RecordWords<'_>,
+    elf: &Elf<'_>,
+    code: &RecordCode,
+    files: &mut F,
+    input: &mut I,
+    out: &mut O,
+) -> Status
+    requires limits { IsWithinLimits (run_read words.now.run).words }
+    requires program { IsRecordProgram elf.now.file.now (recorded_program elf.now code.now) }
+    ensures answer { RecordsRun (recorded_program elf.now code.now) (record_read words.now)
+        (world (F.seen files.old) (I.seen input.old) (O.seen out.old))
+        (world (F.seen files.new) (I.seen input.new) (O.seen out.new)) result }
+    ensures exact { IsExact (byte_machine elf.now.file.now (run_read words.now.run).words) words.now.run.limit
+        (I.seen input.old).left result }
+    ensures files_go_on { FilesGoOn (F.seen files.old) (F.seen files.new) }
+    ensures reads { (I.seen input.old).faults ≤ (I.seen input.new).faults }
+    ensures writes { (O.seen out.old).faults ≤ (O.seen out.new).faults }
+{
+    let Ok(program) = program_words(alloc, &words.run) else {
+        return Status::NoMemory;
+    };
+    let funcs = code.code.funcs.as_slice();
+    let recorded = trace_edges(
+        alloc,
+        elf,
+        funcs,
+        &code.blocks,
+        &program,
+        words.run.limit,
+        input,
+        out,
+    );
+    finish(alloc, words.out, &recorded, files, out)
+}
+
+/// Does `record`.
+pub fn record_run<F: Files, I: Source, O: Sink>(
+    alloc: Global,
+    words: &RecordWords<'_>,
+    files: &mut F,
+    input: &mut I,
+    out: &mut O,
+) -> Status
+    requires { IsWithinLimits (run_read words.now.run).words }
+    ensures serves { Serves (Some (Record (record_read words.now))) result
+        (world (F.seen files.old) (I.seen input.old) (O.seen out.old))
+        (world (F.seen files.new) (I.seen input.new) (O.seen out.new)) }
+    ensures input_kept { KeepsInput (Some (Record (record_read words.now))) result input.old input.new }
+{
+    let mut file = Vec::new(alloc);
+    match files.read_all(words.run.file, FILE_LIMIT, &mut file) {
+        ReadAll::Done => {}
+        ReadAll::TooLong => return refuse(alloc, Fault::at(FaultKind::TooLarge, 0), out),
+        ReadAll::Failed => return Status::ReadFault,
+        ReadAll::Memory => return Status::NoMemory,
+    }
+    let elf = match read(alloc, &file) {
+        Ok(elf) => elf,
+        Err(Refusal::Fault(fault)) => return refuse(alloc, fault, out),
+        Err(Refusal::Memory) => return Status::NoMemory,
+    };
+    let code = match record_code(alloc, &elf) {
+        Ok(code) => code,
+        Err(Refusal::Fault(fault)) => return refuse(alloc, fault, out),
+        Err(Refusal::Memory) => return Status::NoMemory,
+    };
+    record_elf(alloc, words, &elf, &code, files, input, out)
+}

@@ -1,0 +1,139 @@
+// Branches whose targets move away: the shortest form that reaches is taken, and functions of the greatest size.
+
+use super::programs::{branch_over, nops};
+use super::rewriting::{MapText, Rewriting, check, check_in};
+use super::{REWRITE, answer, files_with};
+use crate::status::Status;
+use rb_bytes::fault::{Fault, FaultKind};
+use std::alloc::Global;
+use std::process::Abort;
+use std::test::Fail;
+
+// A branch over one instruction, the size of the block that comes between, and what becomes of it.
+#[derive(Clone, Copy)]
+struct Branch<'a> {
+    short: bool,
+    size: u64,
+    rewriting: Rewriting<'a>,
+}
+
+fn check_branch(rt: &impl Abort, alloc: Global, branch: &Branch<'_>) -> Result<(), Fail> {
+    let input = branch_over(alloc, branch.short, branch.size)?;
+    check(rt, alloc, input, &branch.rewriting)
+}
+
+// The branch of two bytes reaches 254 bytes far.
+#[test]
+fn a_branch_of_two_bytes_reaches(rt: HostRuntime) -> Result<(), Fail> {
+    let branch = Branch {
+        short: true,
+        size: 252,
+        rewriting: Rewriting {
+            profile: b"1 @10078 0 1 @10078 4 0 1\n",
+            map: MapText::Ends(b"10180 2 10078\n", b"\n1027e 6 1007a\n"),
+            summary: b"moved 1 functions, 126 instructions, 260 bytes; 2 hot blocks; 0 profile lines ignored\n",
+            // C.BEQZ a0,254; C.NOP and JAL x0,-254
+            bytes: &[(0x180, b"\x7d\xcd"), (0x27e, b"\x01\x00\x6f\xf0\x3f\xf0")],
+            status: Status::Ended(0),
+            before: b"[ended 0 after 126 steps]\n",
+            after: b"[ended 0 after 127 steps]\n",
+        },
+    };
+    check_branch(&rt, rt.alloc(), &branch)
+}
+
+#[test]
+fn a_branch_of_four_bytes_is_wanted(rt: HostRuntime) -> Result<(), Fail> {
+    let branch = Branch {
+        short: true,
+        size: 254,
+        rewriting: Rewriting {
+            profile: b"1 @10078 0 1 @10078 4 0 1\n",
+            map: MapText::Ends(b"10180 4 10078\n", b"\n10282 6 1007a\n"),
+            summary: b"moved 1 functions, 127 instructions, 264 bytes; 2 hot blocks; 0 profile lines ignored\n",
+            // BEQ a0,x0,258; C.NOP and JAL x0,-256
+            bytes: &[
+                (0x180, b"\x63\x01\x05\x10"),
+                (0x282, b"\x01\x00\x6f\xf0\x1f\xf0"),
+            ],
+            status: Status::Ended(0),
+            before: b"[ended 0 after 127 steps]\n",
+            after: b"[ended 0 after 128 steps]\n",
+        },
+    };
+    check_branch(&rt, rt.alloc(), &branch)
+}
+
+// The branch of four bytes reaches 4094 bytes far.
+#[test]
+fn a_branch_of_four_bytes_reaches(rt: HostRuntime) -> Result<(), Fail> {
+    let branch = Branch {
+        short: false,
+        size: 4090,
+        rewriting: Rewriting {
+            profile: b"1 @10078 0 1 @10078 6 0 1\n",
+            map: MapText::Ends(b"11080 4 10078\n", b"\n1207e 6 1007c\n"),
+            summary: b"moved 1 functions, 2045 instructions, 4100 bytes; 2 hot blocks; 0 profile lines ignored\n",
+            // BEQ a0,x0,4094
+            bytes: &[(0x1080, b"\xe3\x0f\x05\x7e")],
+            status: Status::Ended(0),
+            before: b"[ended 0 after 2045 steps]\n",
+            after: b"[ended 0 after 2046 steps]\n",
+        },
+    };
+    check_branch(&rt, rt.alloc(), &branch)
+}
+
+#[test]
+fn a_branch_around_a_jump_is_wanted(rt: HostRuntime) -> Result<(), Fail> {
+    let branch = Branch {
+        short: false,
+        size: 4092,
+        rewriting: Rewriting {
+            profile: b"1 @10078 0 1 @10078 6 0 1\n",
+            map: MapText::Ends(b"11080 8 10078\n", b"\n12084 6 1007c\n"),
+            summary: b"moved 1 functions, 2046 instructions, 4106 bytes; 2 hot blocks; 0 profile lines ignored\n",
+            // BNE a0,x0,8; JAL x0,4096
+            bytes: &[(0x1080, b"\x63\x14\x05\x00\x6f\x10\0\0")],
+            status: Status::Ended(0),
+            before: b"[ended 0 after 2046 steps]\n",
+            after: b"[ended 0 after 2048 steps]\n",
+        },
+    };
+    check_branch(&rt, rt.alloc(), &branch)
+}
+
+// A function of 999,996 bytes may fall, which takes 4 more.
+#[test]
+fn the_longest_function(rt: HostRuntime) -> Result<(), Fail> {
+    let alloc = rt.alloc();
+    let mut files = files_with(alloc, nops(alloc, 249_997)?, b"", 8 * 1024 * 1024, &[])?;
+    check_in(
+        &rt,
+        alloc,
+        &mut files,
+        &Rewriting {
+            profile: b"",
+            map: MapText::Ends(b"1042c0 4 10078\n", b"\n1f84f8 4 1042b0\n"),
+            summary: b"moved 1 functions, 249999 instructions, 999996 bytes; 0 hot blocks; 0 profile lines ignored\n",
+            bytes: &[],
+            status: Status::Ended(0),
+            before: b"[ended 0 after 249999 steps]\n",
+            after: b"[ended 0 after 249999 steps]\n",
+        },
+    )
+}
+
+#[test]
+fn a_function_that_is_too_long(rt: HostRuntime) -> Result<(), Fail> {
+    let alloc = rt.alloc();
+    let mut files = files_with(alloc, nops(alloc, 249_998)?, b"", 0, &[])?;
+    let (status, out) = answer(alloc, &REWRITE, &mut files, 200)?;
+    assert_eq!(rt;
+        out.taken(),
+        b"refused 18 UnitTooLong at 10078\n".as_slice()
+    );
+    let fault = Fault::at(FaultKind::UnitTooLong, 0x10078);
+    assert_eq!(rt; status, Status::Refused(fault));
+    Ok(())
+}

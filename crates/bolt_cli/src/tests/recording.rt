@@ -1,0 +1,104 @@
+// The command `record`.
+
+use super::programs::countdown;
+use super::{USAGE, answer, files};
+use crate::status::Status;
+use rb_bytes::fault::{Fault, FaultKind};
+use std::test::Fail;
+use test_files::exit7;
+
+const RECORD: [&str; 3] = ["record", "in", "out"];
+
+const COUNTDOWN: &[u8] = b"\
+1 @10078 0 1 @10078 4 0 1
+1 @10078 4 1 @10078 8 0 3
+1 @10078 4 1 @10078 10 0 1
+1 @10078 c 1 @10078 4 0 3
+";
+
+// Four steps: the last one goes back to 1007c.
+const FOUR_STEPS: &[u8] = b"\
+1 @10078 0 1 @10078 4 0 1
+1 @10078 4 1 @10078 8 0 1
+1 @10078 c 1 @10078 4 0 1
+";
+
+#[test]
+fn a_loop_is_recorded(rt: HostRuntime) -> Result<(), Fail> {
+    let alloc = rt.alloc();
+    let mut files = files(alloc, countdown(alloc)?, &[])?;
+    let (status, out) = answer(alloc, &RECORD, &mut files, 200)?;
+    assert_eq!(rt; status, Status::Ended(0));
+    assert_eq!(rt; out.taken(), b"[ended 0 after 13 steps]\n".as_slice());
+    assert_eq!(rt; files.content("out").ok_or("no profile")?, COUNTDOWN);
+    assert!(rt; files.content("map").is_none());
+    Ok(())
+}
+
+#[test]
+fn some_steps_are_recorded(rt: HostRuntime) -> Result<(), Fail> {
+    let alloc = rt.alloc();
+    let mut files = files(alloc, countdown(alloc)?, &[])?;
+    let line = ["record", "in", "--steps=4", "out", "word"];
+    let (status, out) = answer(alloc, &line, &mut files, 200)?;
+    assert_eq!(rt; status, Status::OutOfSteps);
+    assert_eq!(rt; out.taken(), b"[out of steps after 4 steps]\n".as_slice());
+    assert_eq!(rt; files.content("out").ok_or("no profile")?, FOUR_STEPS);
+    Ok(())
+}
+
+#[test]
+fn words_that_record_nothing(rt: HostRuntime) -> Result<(), Fail> {
+    let alloc = rt.alloc();
+    let lines: [&[&str]; 7] = [
+        &["record"],
+        &["record", "in"],
+        &["record", "in", "in"],
+        &["record", "--symbols", "in", "out"],
+        &["record", "--steps", "in", "out"],
+        &["record", "--steps", "3", "--steps=4", "in", "out"],
+        &["record", "--steps=x", "in", "out"],
+    ];
+    for line in lines {
+        let mut files = files(alloc, exit7(alloc)?, &[])?;
+        let (status, out) = answer(alloc, line, &mut files, 300)?;
+        assert_eq!(rt; status, Status::Usage);
+        assert_eq!(rt; out.taken(), USAGE);
+        assert!(rt; files.content("out").is_none());
+    }
+    Ok(())
+}
+
+#[test]
+fn files_that_are_not_recorded(rt: HostRuntime) -> Result<(), Fail> {
+    let alloc = rt.alloc();
+    let mut cut = exit7(alloc)?;
+    cut.truncate(63);
+    let mut files = files(alloc, cut, &[])?;
+    let (status, out) = answer(alloc, &RECORD, &mut files, 200)?;
+    assert_eq!(rt; status, Status::Refused(Fault::at(FaultKind::Truncated, 0)));
+    assert_eq!(rt; out.taken(), b"refused 2 Truncated at 0\n".as_slice());
+    assert!(rt; files.content("out").is_none());
+    Ok(())
+}
+
+#[test]
+fn recordings_that_fail(rt: HostRuntime) -> Result<(), Fail> {
+    let alloc = rt.alloc();
+    // which call of the files fails, the room of standard output, how much it took, and whether the profile is written
+    let cases = [
+        (1, 200, Status::ReadFault, 0, false),
+        (2, 200, Status::WriteFault, 0, false),
+        (3, 0, Status::WriteFault, 0, true),
+        (3, 10, Status::WriteFault, 10, true),
+        (3, 200, Status::Ended(0), 25, true),
+    ];
+    for (fail, room, wanted, taken, written) in cases {
+        let mut files = files(alloc, countdown(alloc)?, &[fail])?;
+        let (status, out) = answer(alloc, &RECORD, &mut files, room)?;
+        assert_eq!(rt; status, wanted);
+        assert_eq!(rt; out.taken().len(), taken);
+        assert_eq!(rt; files.content("out").is_some(), written);
+    }
+    Ok(())
+}

@@ -1,0 +1,112 @@
+// Files with another segment behind their code: with room for the new code, and without it, where it gets a segment of its
+// own.
+
+use super::programs::{beside_segment, headers_from_stack};
+use super::rewriting::{MapText, ROOM, Rewriting, check};
+use super::{REWRITE, answer, files_with};
+use crate::status::Status;
+use elf_image::segment::{PF_R, PF_W};
+use rb_bytes::fault::{Fault, FaultKind};
+use rb_io::MemFiles;
+use std::alloc::Global;
+use std::process::Abort;
+use std::test::Fail;
+
+// The smallest example's code, which is moved so.
+fn moved_to<'a>(lines: &'a [u8]) -> Rewriting<'a> {
+    Rewriting {
+        profile: b"",
+        map: MapText::Whole(lines),
+        summary: b"moved 1 functions, 4 instructions, 16 bytes; 0 hot blocks; 0 profile lines ignored\n",
+        bytes: &[],
+        status: Status::Ended(7),
+        before: b"[ended 7 after 4 steps]\n",
+        after: b"[ended 7 after 4 steps]\n",
+    }
+}
+
+#[test]
+fn new_code_behind_the_old(rt: HostRuntime) -> Result<(), Fail> {
+    let alloc = rt.alloc();
+    let input = beside_segment(alloc, 0x10fd0, PF_R, None)?;
+    let lines = b"10fe0 4 10fd0\n10fe4 4 10fd4\n10fe8 4 10fd8\n10fec 4 10fdc\n";
+    check(&rt, alloc, input, &moved_to(lines))
+}
+
+#[test]
+fn new_code_above_all(rt: HostRuntime) -> Result<(), Fail> {
+    let alloc = rt.alloc();
+    let input = beside_segment(alloc, 0x10fe0, PF_R, None)?;
+    let lines = b"120b0 4 10fe0\n120b4 4 10fe4\n120b8 4 10fe8\n120bc 4 10fec\n";
+    check(&rt, alloc, input, &moved_to(lines))
+}
+
+// What a program may ask the system for comes behind its segments.
+#[test]
+fn new_code_above_the_break(rt: HostRuntime) -> Result<(), Fail> {
+    let alloc = rt.alloc();
+    let input = beside_segment(alloc, 0x10fe0, PF_R | PF_W, None)?;
+    let lines = b"40120b0 4 10fe0\n40120b4 4 10fe4\n40120b8 4 10fe8\n40120bc 4 10fec\n";
+    check(&rt, alloc, input, &moved_to(lines))
+}
+
+#[test]
+fn no_room_above(rt: HostRuntime) -> Result<(), Fail> {
+    let alloc = rt.alloc();
+    let input = beside_segment(alloc, 0x10fe0, PF_R, Some(0x7ffe_f000))?;
+    let mut files = files_with(alloc, input, b"", 0, &[])?;
+    let (status, out) = answer(alloc, &REWRITE, &mut files, 200)?;
+    assert_eq!(rt;
+        out.taken(),
+        b"refused 27 NoRoom at 7fff00e0: need 20 room 0\n".as_slice()
+    );
+    let fault = Fault {
+        kind: FaultKind::NoRoom,
+        place: 0x7fff_00e0,
+        need: 20,
+        room: 0,
+    };
+    assert_eq!(rt; status, Status::Refused(fault));
+    Ok(())
+}
+
+// The rewritten file isn't rewritten again.
+fn refuses_moved(rt: &impl Abort, alloc: Global, files: &mut MemFiles) -> Result<(), Fail> {
+    let line = ["rewrite", "out", "profile", "again", "map"];
+    let (status, out) = answer(alloc, &line, files, 200)?;
+    assert_eq!(rt; out.taken(), b"refused 14 AlreadyMoved at 1\n".as_slice());
+    let fault = Fault::at(FaultKind::AlreadyMoved, 1);
+    assert_eq!(rt; status, Status::Refused(fault));
+    Ok(())
+}
+
+#[test]
+fn files_that_were_moved(rt: HostRuntime) -> Result<(), Fail> {
+    let alloc = rt.alloc();
+    for text in [0x10fd0, 0x10fe0] {
+        let input = beside_segment(alloc, text, PF_R, None)?;
+        let mut files = files_with(alloc, input, b"", ROOM, &[])?;
+        let (status, _out) = answer(alloc, &REWRITE, &mut files, 200)?;
+        assert_eq!(rt; status, Status::Ok);
+        refuses_moved(&rt, alloc, &mut files)?;
+    }
+    Ok(())
+}
+
+// A program that reads the address of its program headers from the stack keeps its run where there is room.
+#[test]
+fn headers_that_a_program_reads(rt: HostRuntime) -> Result<(), Fail> {
+    let alloc = rt.alloc();
+    let input = headers_from_stack(alloc, 0x10fd0)?;
+    check(
+        &rt,
+        alloc,
+        input,
+        &Rewriting {
+            status: Status::Ended(71),
+            before: b"[ended 71 after 4 steps]\n",
+            after: b"[ended 71 after 4 steps]\n",
+            ..moved_to(b"10fe0 4 10fd0\n10fe4 4 10fd4\n10fe8 4 10fd8\n10fec 4 10fdc\n")
+        },
+    )
+}
