@@ -1,0 +1,252 @@
+#!/usr/bin/env python3
+"""Rewrites C programs and looks at what comes out with other tools.
+
+    python3 bench/real_programs.py [--tool COMMAND] [--keep FOLDER] [PROGRAM..]
+
+Each program of `bench/programs` is compiled by GCC with GNU ld and by Clang with lld, with picolibc for RV64IMC, and
+linked with a script that leaves room behind the code and with the linker's own script with and without room. COMMAND
+(`./sudrepka` where it isn't given) rewrites each executable by a profile of a short run, which its `record` writes, or
+this script where there is no such command. Then
+
+- `run` and `qemu-riscv64` have to say the same of both files, for a short and for a longer run, and `run --symbols` has to
+  follow the input to its end;
+- `readelf -aW` and `eu-elflint` may not complain of the output where they don't of the input;
+- `objdump` has to find an instruction at each line of the map, with the same operation but for branches and jumps;
+- `gdb` has to find the functions at their new addresses, and to read the same instructions there.
+
+A line for each file has the counts of steps before and after; a line for each problem follows it. The status is 0 where
+there is none.
+"""
+import argparse
+import glob
+import os
+import re
+import shutil
+import subprocess
+import sys
+import tempfile
+
+sys.path.insert(0, os.path.dirname(os.path.abspath(__file__)))
+from profiles import CROSS, output, record  # noqa: E402
+
+ROOT = os.path.dirname(os.path.dirname(os.path.abspath(__file__)))
+PROGRAMS = os.path.join(ROOT, "bench", "programs")
+PICOLIBC = "/usr/lib/picolibc/riscv64-unknown-elf"
+LONGER = {"sorting": "150", "interpreter": "400", "shapes": "500", "packing": "5000"}
+
+MACHINE = ["-march=rv64imc", "-mabi=lp64", "-mcmodel=medany"]
+COMPILE = ["-g0", "-fno-asynchronous-unwind-tables", "-ftls-model=local-exec", "-ffunction-sections", "-nostdlib"]
+# The assembler has to leave relaxation to the linker, or a call inside one section has no relocation; and GNU ld's
+# relaxations leave relocations of types of its own.
+LINK = ["-Wl,--emit-relocs", "-Wl,--no-relax", "-Wl,--gc-sections", "-Wl,--strip-debug"]
+NO_DATA = ["-Wl,--defsym=__tdata_start=0,--defsym=__tdata_end=0"]  # no thread-local data with a first value
+LAYOUTS = {
+    "roomy": ["-T", os.path.join(PROGRAMS, "roomy.ld")],
+    "default": ["-T", os.path.join(PROGRAMS, "no_tables.ld"), *NO_DATA],
+    "pages": ["-T", os.path.join(PROGRAMS, "no_tables.ld"), *NO_DATA, "-Wl,-z,max-page-size=0x100000"],
+}
+# With such pages GNU ld would put the code at address 0.
+OF_LINKER = {("gcc", "pages"): ["-Wl,-Ttext-segment=0x100000"]}
+
+
+def newest(name):
+    """A tool of LLVM, the newest that is there."""
+    for version in ("-19", "-18", "-17", "-16", "-15", "-14", ""):
+        if shutil.which(name + version):
+            return shutil.which(name + version)
+    return None
+
+
+def compilers():
+    library = os.path.join(PICOLIBC, "lib", "rv64im", "lp64")
+    gcc = CROSS + "gcc"
+    found = {}
+    if shutil.which(gcc):
+        group = [f"-L{library}", "-Wl,--start-group", "-lc", "-lgcc", "-Wl,--end-group"]
+        found["gcc"] = ([gcc, "-nostartfiles"], group)
+    clang, lld = newest("clang"), newest("ld.lld")
+    if clang and lld and found:
+        libgcc = output([gcc, *MACHINE, "-print-libgcc-file-name"]).strip()
+        found["clang"] = ([clang, "--target=riscv64-unknown-elf", f"-fuse-ld={lld}"], [os.path.join(library, "libc.a"), libgcc])
+    return found
+
+
+def build(path, program, compiler, parts, layout, level):
+    front, libraries = parts
+    layouts = LAYOUTS[layout] + OF_LINKER.get((compiler, layout), [])
+    sources = [os.path.join(PROGRAMS, "start.c"), program + ".c"]
+    include = ["-isystem", os.path.join(PICOLIBC, "include")]
+    command = [*front, *MACHINE, *COMPILE, level, *include, *LINK, *layouts, *sources, *libraries, "-o", path]
+    done = subprocess.run(command, capture_output=True, text=True, check=False)
+    if done.returncode != 0:
+        sys.exit(f"{' '.join(command)}\n{done.stderr}")
+
+
+class Checks:
+    """What is asked of an input and its rewritten file."""
+
+    def __init__(self, tool, old, new, map_path):
+        self.tool, self.old, self.new, self.problems = tool, old, new, []
+        with open(map_path, encoding="ascii") as file:
+            rows = [line.split() for line in file]
+        self.spans = [(int(new, 16), int(length), int(old, 16)) for new, length, old in rows]
+        self.moved = {old: new for new, _, old in self.spans}
+
+    def say(self, problem):
+        self.problems.append(problem)
+
+    def run_with(self, path, options, words):
+        """The status, what was printed, and the count of steps."""
+        done = subprocess.run([*self.tool, "run", *options, path, *words], capture_output=True, check=False)
+        printed, _, line = done.stdout.rpartition(b"[")
+        found = re.match(rb"ended \d+ after (\d+) steps\]", line)
+        status, steps = done.returncode, int(found[1]) if found else None
+        if steps is None:
+            self.say(f"run {' '.join(options)} of {os.path.basename(path)} says {done.stdout[-80:]!r}")
+        return status, printed, steps
+
+    def runs(self, words):
+        """Runs both files on all machines."""
+        before = self.run_with(self.old, [], words)
+        after = self.run_with(self.new, [], words)
+        if self.run_with(self.old, ["--symbols"], words) != before:
+            self.say("the symbol machine runs otherwise")
+        if before[:2] != after[:2]:
+            self.say("the output runs otherwise")
+        if shutil.which("qemu-riscv64"):
+            for path in (self.old, self.new):
+                done = subprocess.run(["qemu-riscv64", path, *words], capture_output=True, check=False)
+                if (done.returncode, done.stdout) != before[:2]:
+                    self.say(f"qemu runs {os.path.basename(path)} otherwise")
+        return before[2], after[2]
+
+    def complaints(self, command, pattern, kept=lambda line: line):
+        """Lines that a tool prints of the output and not of the input, without numbers."""
+        found = []
+        for path in (self.old, self.new):
+            done = subprocess.run([*command, path], capture_output=True, text=True, errors="replace", check=False)
+            lines = [line for line in (done.stdout + done.stderr).splitlines() if re.search(pattern, line)]
+            found.append({re.sub(r"\[ *\d+\]|\b\d+\b", "N", kept(line)) for line in lines})
+        return sorted(found[1] - found[0])
+
+    def readers(self):
+        for line in self.complaints([CROSS + "readelf", "-aW"], r"(?i)warning|error|corrupt|unknown section|overlap"):
+            self.say(f"readelf: {line}")
+        if shutil.which("eu-elflint"):
+            for line in self.complaints(["eu-elflint", "--gnu-ld"], r"."):
+                # gABI, "Section Header": the other members of a header of type SHT_NULL are undefined.
+                if not re.search(r"NULL section|is NULL|zeroth section has nonzero offset|^No errors", line):
+                    self.say(f"eu-elflint: {line}")
+
+    def instructions(self, path, section):
+        """The instructions that objdump finds: by address the number of bytes, the operation and its operands."""
+        found = {}
+        # Without mapping symbols: binutils 2.40 takes one without an instruction set to keep that of the one before it.
+        copy = path + ".plain"
+        output([CROSS + "objcopy", "--wildcard", "--strip-symbol=$*", path, copy])
+        text = output([CROSS + "objdump", "-d", "-M", "no-aliases", "-j", section, copy])
+        os.remove(copy)
+        for line in text.splitlines():
+            row = re.match(r" *([0-9a-f]+):\t([0-9a-f]+) *\t(\S+)(?:\t(.*))?", line)
+            if row:
+                found[int(row[1], 16)] = (len(row[2]) // 2, row[3], row[4] or "")
+        return found
+
+    def disassembly(self):
+        old, new = self.instructions(self.old, ".text"), self.instructions(self.new, ".text")
+        seen = set()
+        for at, length, source in self.spans:
+            if length == 0:
+                continue
+            seen.add(at)
+            if at not in new or source not in old:
+                self.say(f"objdump has no instruction at {at:x}")
+                continue
+            was, now = old[source][1].removeprefix("c."), new[at][1].removeprefix("c.")
+            rest = at + new[at][0]
+            while rest < at + length and rest in new:  # jumps that were added
+                seen.add(rest)
+                rest += new[rest][0]
+            same = was == now or (was[0] == "b" == now[0]) or {was, now} <= {"j", "jal"}
+            if not same:
+                self.say(f"objdump: {was} at {source:x} became {now} at {at:x}")
+        for at in set(new) - seen:
+            self.say(f"objdump: {new[at][1]} at {at:x} is no instruction of the map")
+        return new
+
+    def debugger(self, new):
+        if not shutil.which("gdb-multiarch"):
+            return
+        names = {}
+        for line in output([CROSS + "nm", self.old]).splitlines():
+            value, kind, name = line.split()[-3:] if len(line.split()) >= 3 else ("0", "U", "")
+            if kind in "tT" and re.fullmatch(r"\w+", name) and int(value, 16) in self.moved:
+                names.setdefault(name, set()).add(self.moved[int(value, 16)])
+        single = {name: places.pop() for name, places in names.items() if len(places) == 1}
+        # gdb reads such sections, which take no memory, in place of what is at their addresses
+        sections = output([CROSS + "readelf", "-SW", self.new]).replace("[", " ").splitlines()
+        threads = [row.split() for row in sections if " NOBITS " in row]
+        hidden = [(int(row[3], 16), int(row[5], 16)) for row in threads if "T" in row[7]]
+        single = {name: at for name, at in single.items() if not any(a - 8 < at < a + size for a, size in hidden)}
+        words = ["gdb-multiarch", "-batch", "-nx", "-ex", "set riscv use-compressed-breakpoints auto"]
+        for name in single:
+            words += ["-ex", f"output (long)&'{name}'", "-ex", "echo \\n", "-ex", f"x/2i &'{name}'", "-ex", "echo ;\\n"]
+        printed = output([*words, self.new]).split(";\n")
+        for (name, place), text in zip(single.items(), printed):
+            lines = text.strip().splitlines()
+            if not lines or lines[0].strip() != str(place):
+                self.say(f"gdb finds {name} at {lines[:1]}, not at {place:x}")
+                continue
+            places = [int(found[1], 16) for line in lines[1:] if (found := re.search(r"0x([0-9a-f]+)", line))]
+            if not places or any(at not in new and at < max(new) for at in places):
+                self.say(f"gdb reads other instructions in {name}: {lines[1:]}")
+
+
+def check(tool, name, old, folder):
+    """Rewrites an executable and prints what was found. Gives the number of problems."""
+    path = lambda end: os.path.join(folder, f"{name}.{end}")
+    record(tool, old, [], path("profile"))
+    command = [*tool, "rewrite", old, path("profile"), path("moved"), path("map")]
+    done = subprocess.run(command, capture_output=True, text=True, check=False)
+    if done.returncode != 0:
+        print(f"{name:30} {done.stdout.strip() or done.returncode}", flush=True)
+        return 1
+    os.chmod(path("moved"), 0o755)
+    checks = Checks(tool, old, path("moved"), path("map"))
+    short = checks.runs([])
+    longer = checks.runs([LONGER[name.split(".")[0]]]) if name.split(".")[0] in LONGER else short
+    checks.readers()
+    checks.debugger(checks.disassembly())
+    steps = ", ".join(f"{before} to {after} steps" for before, after in (short, longer))
+    print(f"{name:30} {done.stdout.strip()}; {steps}", flush=True)
+    for problem in checks.problems[:10]:
+        print(f"    {problem}", flush=True)
+    return len(checks.problems)
+
+
+def main():
+    every = sorted(set(LONGER))
+    words = argparse.ArgumentParser(description="rewrites C programs and looks at the output with other tools")
+    words.add_argument("--tool", default=os.path.join(ROOT, "sudrepka"), help="the command that takes `rewrite ..`")
+    words.add_argument("--keep", help="a folder for all files")
+    words.add_argument("programs", nargs="*", default=every)
+    given = words.parse_args()
+    tool = given.tool.split()
+    problems = 0
+    with tempfile.TemporaryDirectory() as room:
+        folder = given.keep or room
+        os.makedirs(folder, exist_ok=True)
+        for program in given.programs:
+            for compiler, parts in compilers().items():
+                for layout in LAYOUTS:
+                    for level in ("-O2", "-Os"):
+                        name = f"{program}.{compiler}.{layout}{level}"
+                        path = os.path.join(folder, name)
+                        build(path, os.path.join(PROGRAMS, program), compiler, parts, layout, level)
+                        problems += check(tool, name, path, folder)
+    print(f"{problems} problems")
+    sys.exit(1 if problems else 0)
+
+
+if __name__ == "__main__":
+    main()
