@@ -85,7 +85,9 @@ sleb_from-mag-lt byte (next ∷ bytes) =
 
 sleb_value-mag-lt : (bytes : List ℕ) → 0 < length bytes → mag (sleb_value bytes) < 64 * 128 ^ (length bytes - 1)
 sleb_value-mag-lt [] h = absurd (omega arith)
-sleb_value-mag-lt (byte ∷ bytes) h = let e : suc (length bytes) - 1 ≡ length bytes = omega arith in rw e (sleb_from-mag-lt byte bytes)
+sleb_value-mag-lt (byte ∷ bytes) h =
+    let e : suc (length bytes) - 1 ≡ length bytes = omega arith in
+    rw e (sleb_from-mag-lt byte bytes)
 
 -- the spelling's bytes
 
@@ -93,7 +95,8 @@ sleb_within-last : (k : ℕ) (z : ℤ) → fits_seven_bits z ≡ true → sleb_w
 sleb_within-last zero z e = refl
 sleb_within-last (suc k) z e = rw e refl
 
-sleb_within-next : (k : ℕ) (z : ℤ) → fits_seven_bits z ≡ false → sleb_within (suc k) z ≡ (low_bits z + 128) ∷ sleb_within k (high_bits z)
+sleb_within-next : (k : ℕ) (z : ℤ) → fits_seven_bits z ≡ false →
+    sleb_within (suc k) z ≡ (low_bits z + 128) ∷ sleb_within k (high_bits z)
 sleb_within-next k z e = rw e refl
 
 low_bits-lt : (z : ℤ) → low_bits z < 128
@@ -146,7 +149,8 @@ sleb_within-more (suc k) z lt = elim (cases_lt (mag z) 64) [
       ∙ sym (sleb_within-last (suc k) z (fits_seven_bits-true z small))
   | inr ge ↦ let e = fits_seven_bits-false z ge in
       sleb_within-next (suc k) z e
-      ∙ ap (λ bytes. (low_bits z + 128) ∷ bytes) (sleb_within-more k (high_bits z) (rw (mag-high_bits z) (quotient-lt k (mag z) lt)))
+      ∙ ap (λ bytes. (low_bits z + 128) ∷ bytes)
+      (sleb_within-more k (high_bits z) (rw (mag-high_bits z) (quotient-lt k (mag z) lt)))
       ∙ sym (sleb_within-next k z e)
 ]
 
@@ -167,7 +171,8 @@ leb_length-sleb_within (suc k) z rest = elim (cases_lt (mag z) 64) [
       ∙ ap suc (leb_length-sleb_within k (high_bits z) rest))
 ]
 
-sleb_from-value : (byte : ℕ) (bytes : List ℕ) → 0 < length bytes → sleb_from byte bytes ≡ pos (byte % 128) +ℤ pos 128 *ℤ sleb_value bytes
+sleb_from-value : (byte : ℕ) (bytes : List ℕ) → 0 < length bytes →
+    sleb_from byte bytes ≡ pos (byte % 128) +ℤ pos 128 *ℤ sleb_value bytes
 sleb_from-value byte [] h = absurd (omega arith)
 sleb_from-value byte (next ∷ bytes) h = refl
 

@@ -12,7 +12,8 @@ not_true : (b : Bool) → (b ≡ true → ⊥) → b ≡ false
 not_true true h = absurd (h refl)
 not_true false h = refl
 
-pub text_at-found : (left : List ℕ) (n : ℕ) → IsFirstByte (is_byte 0) left (Some n) → text_at left ≡ Ok (take n left, drop (n + 1) left)
+pub text_at-found : (left : List ℕ) (n : ℕ) → IsFirstByte (is_byte 0) left (Some n) →
+    text_at left ≡ Ok (take n left, drop (n + 1) left)
 text_at-found left n found =
     let e : position_or_len (λ b. b == 0) left ≡ n = position_or_len_is _ left n 0 (omega (arith, found.0.high))
     (λ k lt. not_true _ (found.0.before k (omega arith) lt)) (λ _. found.1) in

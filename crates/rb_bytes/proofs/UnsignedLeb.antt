@@ -31,9 +31,11 @@ uleb_value-uleb_within : (k n : ℕ) → n < 128 ^ suc k → uleb_value (uleb_wi
 uleb_value-uleb_within zero n lt = omega arith
 uleb_value-uleb_within (suc k) n lt = let ih = uleb_value-uleb_within k (n / 128) (quotient-lt (suc k) n lt) in grind arith
 
-leb_length-uleb_within : (k n : ℕ) (rest : List ℕ) → n < 128 ^ suc k → leb_length (uleb_within k n ++ rest) ≡ length (uleb_within k n)
+leb_length-uleb_within : (k n : ℕ) (rest : List ℕ) → n < 128 ^ suc k →
+    leb_length (uleb_within k n ++ rest) ≡ length (uleb_within k n)
 leb_length-uleb_within zero n rest lt = let small : n < 128 = omega arith in grind arith
-leb_length-uleb_within (suc k) n rest lt = let ih = leb_length-uleb_within k (n / 128) rest (quotient-lt (suc k) n lt) in grind arith
+leb_length-uleb_within (suc k) n rest lt =
+    let ih = leb_length-uleb_within k (n / 128) rest (quotient-lt (suc k) n lt) in grind arith
 
 length-uleb_within-le : (k j n : ℕ) → 0 < j → n < 128 ^ j → length (uleb_within k n) ≤ j
 length-uleb_within-le zero j n h lt = omega arith
@@ -67,7 +69,8 @@ uleb_within-next k n le = grind arith
 
 pub uleb-next : (n : ℕ) → 128 ≤ n → n < 2 ^ 64 → uleb n ≡ (n % 128 + 128) ∷ uleb (n / 128)
 unfolding uleb
-uleb-next n le lt = uleb_within-next 8 n le ∙ ap (λ bytes. (n % 128 + 128) ∷ bytes) (sym (uleb_within-more 8 (n / 128) (omega arith)))
+uleb-next n le lt =
+    uleb_within-next 8 n le ∙ ap (λ bytes. (n % 128 + 128) ∷ bytes) (sym (uleb_within-more 8 (n / 128) (omega arith)))
 
 length-uleb_within-pos : (k n : ℕ) → 0 < length (uleb_within k n)
 length-uleb_within-pos zero n = omega arith

@@ -2,7 +2,12 @@
 use Rattle.std.specs.Prelude.{ℕ, List, codes}
 use Rattle.rb_bytes.specs.declared.fault.Fault.{Fault}
 use Rattle.rb_bytes.specs.declared.fault.FaultKind.{FaultKind}
-use Rattle.rb_bytes.specs.declared.fault.FaultKind.TheVariants.{NotElf, Truncated, Flags, NotStatic, ExecSegments, WritableCode, HighAddress, CompressedSection, RelocType, RelocMismatch, LoMismatch, NarrowDiff, IfuncOrPlt, AlreadyMoved, BadEntry, BadInstruction, BareAuipc, BadTarget, UnitTooLong, KeptBranch, RegisteredFrames, FrameFault, DwarfVersion, DwarfForm, HighPcForm, DwarfFault, LineFault, NoRoom, TooLarge, NotBuilt}
+use Rattle.rb_bytes.specs.declared.fault.FaultKind.TheVariants.{NotElf, Truncated, Flags, NotStatic, ExecSegments, WritableCode}
+use Rattle.rb_bytes.specs.declared.fault.FaultKind.TheVariants.{HighAddress, CompressedSection, RelocType, RelocMismatch}
+use Rattle.rb_bytes.specs.declared.fault.FaultKind.TheVariants.{LoMismatch, NarrowDiff, IfuncOrPlt, AlreadyMoved, BadEntry}
+use Rattle.rb_bytes.specs.declared.fault.FaultKind.TheVariants.{BadInstruction, BareAuipc, BadTarget, UnitTooLong, KeptBranch}
+use Rattle.rb_bytes.specs.declared.fault.FaultKind.TheVariants.{RegisteredFrames, FrameFault, DwarfVersion, DwarfForm, HighPcForm}
+use Rattle.rb_bytes.specs.declared.fault.FaultKind.TheVariants.{DwarfFault, LineFault, NoRoom, TooLarge, NotBuilt}
 
 -- the number of a kind; two kinds share the number 16
 abbrev pub number_of : FaultKind → ℕ

@@ -2,7 +2,8 @@
 ghost use Rattle.std.specs.Prelude.{◌≡◌, ◌<◌, ◌^◌, ◌++◌, FitsSigned, length, OnOk, OnErr, position};
 ghost use Rattle.std.specs.Int.{w64};
 ghost use Rattle.std.specs.Option.{SomeIff};
-ghost use Rattle.rb_bytes.specs.Leb.{is_last, uleb_value, sleb_value, signed_bits, low_bits, high_bits, fits_seven_bits, uleb, sleb, IsShortestUleb, IsShortestSleb};
+ghost use Rattle.rb_bytes.specs.Leb.{is_last, uleb_value, sleb_value, signed_bits, low_bits, high_bits, fits_seven_bits, uleb};
+ghost use Rattle.rb_bytes.specs.Leb.{sleb, IsShortestUleb, IsShortestSleb};
 
 use crate::fault::NoMemory;
 

@@ -22,8 +22,8 @@ same_bytes : (xs ys : List ℕ) → bytes_eq xs ys ≡ true → xs ≡ ys
 same_bytes xs ys test = search (rules, bytes_eq-Decides)
 
 -- another name has what it had
-pub get_by_text-others : {Y X : Type 0} (m n : BTreeMap (String Y) X) (w : Option X) (bs : List ℕ) → ChangesAt bs m n w → (cs : List ℕ) →
-    cs ≢ bs → get_by_text n cs ≡ get_by_text m cs
+pub get_by_text-others : {Y X : Type 0} (m n : BTreeMap (String Y) X) (w : Option X) (bs : List ℕ) →
+    ChangesAt bs m n w → (cs : List ℕ) → cs ≢ bs → get_by_text n cs ≡ get_by_text m cs
 get_by_text-others m n w bs changed cs apart =
     btree_map_updates_text bs m n w changed cs
     ∙ cond-false _ _ _ (false_from_ne_true (bytes_eq bs cs) (λ test. apart (sym (same_bytes bs cs test))))
@@ -40,7 +40,8 @@ get_by_text-part {Y = Y} {X = X} {A = A} part m n w bs changed same cs = by_test
     by_test false test = ap part (btree_map_updates_text bs m n w changed cs ∙ cond-false _ _ _ test)
 
 -- a name with no room has no content
-pub content_at-none : (slots : BTreeMap (String Global) Slot) (name : List ℕ) → room_at slots name ≡ None → content_at slots name ≡ None
+pub content_at-none : (slots : BTreeMap (String Global) Slot) (name : List ℕ) → room_at slots name ≡ None →
+    content_at slots name ≡ None
 content_at-none slots name no_room = none_of (get_by_text slots name) no_room
   where
     none_of : (found : Option Slot) → option_map room_of found ≡ None → option_and_then content_of found ≡ None

@@ -22,7 +22,8 @@ TakesAll-take-add a b c text i n first next =
     TakesAll-append a b c (take i text) (take n (drop i text)) first next ∙ ap (append_known a) (sym (take-add i n text))
 
 -- all of one text, and then a prefix of the next
-pub TakesFront-append : (a b c : Option (List ℕ)) (xs ys : List ℕ) → TakesAll a b xs → TakesPrefix b c ys → TakesPrefix a c (xs ++ ys)
+pub TakesFront-append : (a b c : Option (List ℕ)) (xs ys : List ℕ) → TakesAll a b xs → TakesPrefix b c ys →
+    TakesPrefix a c (xs ++ ys)
 TakesFront-append a b c xs ys first next =
     let less : length xs + next.0 < length (xs ++ ys) = omega (arith, next.1, length-append xs ys) in (
       length xs + next.0,

@@ -25,7 +25,12 @@ impl<'a, R: std::rt::Files> HostFiles<'a, R> {
 }
 
 impl<'a, R: std::rt::Files> Files for HostFiles<'a, R> {
-    ghost seen = { λ files. record { told = false; content = λ name. None; read_faults = λ name. files.faults; write_faults = λ name. files.faults } };
+    ghost seen = { λ files. record {
+      told = false;
+      content = λ name. None;
+      read_faults = λ name. files.faults;
+      write_faults = λ name. files.faults;
+    } };
 
     fn read_all(&mut self, name: &str, limit: usize, into: &mut Vec<u8>) -> ReadAll {
         into.clear();

@@ -73,7 +73,8 @@ impl Sink for MemSink {
         ensures taken_kept { result ≡ Put.Failed → Some (bytes_taken self.new) ≡ Some (bytes_taken self.old) }
         ensures failed { result ≡ Put.Failed → Rose (calls_of self.old).faults (calls_of self.new).faults }
         ensures never_falls { (calls_of self.old).faults ≤ (calls_of self.new).faults }
-        // It fails exactly where its number is to fail or no room is left for a piece that is not empty, and else takes what fits.
+        // It fails exactly where its number is to fail or no room is left for a piece that is not empty, and else
+        // takes what fits.
         ensures answer { result ≡ write_answer self.old (length piece.now) }
         ensures room { room_left self.new ≡ room_after (room_left self.old) result }
         ensures calls { calls_of self.new ≡ after_call (calls_of self.old) (put_failed result) }

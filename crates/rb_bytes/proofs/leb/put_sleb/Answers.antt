@@ -11,7 +11,8 @@ bytes-preserved c =
     let rest_fits : FitsSigned w64 z = search rules in
     let fits : FitsSigned w64 higher = search rules in
     let next : (c.low_bits.result + 128) ∷ sleb higher ≡ sleb z =
-    rw (c.low_bits.ensures, c.high_bits-rest.ensures) (sym (sleb-next z (sym c.fits_seven_bits.ensures ∙ c.bytes-test.true) rest_fits)) in
+    rw (c.low_bits.ensures, c.high_bits-rest.ensures)
+    (sym (sleb-next z (sym c.fits_seven_bits.ensures ∙ c.bytes-test.true) rest_fits)) in
     let one_less : suc (length (sleb higher)) ≡ length (sleb z) = ap length next in
     let pushed = rw c.unwrap.ensures at c.push.ensures.items in
     let longer = rw c.unwrap.ensures at c.push.ensures.len in
