@@ -6,6 +6,7 @@ pub mod cause;
 pub mod cell;
 pub mod field;
 pub mod flow;
+pub mod functions;
 pub mod inst;
 pub mod layout;
 pub mod op;

@@ -66,7 +66,8 @@ module _ {S C : Type 0} (step : S → Outcome S C → Type 0) (s : S) where
   pub stop_is_last : {n k : ℕ} {trace front : List Event} {u t : S} {o : Outcome S C} → IsDetermined step s (suc k) →
       SoFar step s n trace u → Stop k front t o → n ≤ k
   stop_is_last determined starts stop = omega arith
-  stop_is_last {k = k} {front = front} {t = t'} {o = o} determined (more {n = n} {trace = trace} {t = t} {u = u} e so_far went) stop =
+  stop_is_last {k = k} {front = front} {t = t'} {o = o} determined (more {n = n} {trace = trace} {t = t} {u =
+      u} e so_far went) stop =
       ⊎_elim
       (λ (later : n < k). omega arith)
       (λ (earlier : k ≤ n).
@@ -100,8 +101,8 @@ module _ {S C : Type 0} (step : S → Outcome S C → Type 0) (s : S) where
   }
 
   -- one more step is determined
-  pub more_determined : {n : ℕ} {trace : List Event} {t : S} → IsDetermined step s n → SoFar step s n trace t → HasOneOutcome step t →
-      IsDetermined step s (n + 1)
+  pub more_determined : {n : ℕ} {trace : List Event} {t : S} → IsDetermined step s n →
+      SoFar step s n trace t → HasOneOutcome step t → IsDetermined step s (n + 1)
   more_determined {n = n} {trace = trace} {t = t} determined so_far one = record {
     one_outcome = λ k below front u there.
         ⊎_elim

@@ -103,7 +103,8 @@ double_offset half = field half 5 2 * 2 ^ 6 + field half 10 3 * 2 ^ 3
 -- 12 = imm[11], 11 = imm[4], 10:9 = imm[9:8], 8 = imm[10], 7 = imm[6], 6 = imm[7], 5:3 = imm[3:1], 2 = imm[5]
 abbrev pub jump_offset : ℕ → ℕ
 jump_offset half =
-    field half 12 1 * 2 ^ 11 + field half 8 1 * 2 ^ 10 + field half 9 2 * 2 ^ 8 + field half 6 1 * 2 ^ 7 + field half 7 1 * 2 ^ 6 + field half 2 1 * 2 ^ 5 + field half 11 1 * 2 ^ 4 + field half 3 3 * 2
+    field half 12 1 * 2 ^ 11 + field half 8 1 * 2 ^ 10 + field half 9 2 * 2 ^ 8 + field half 6 1 * 2 ^ 7 + field half 7 1 * 2 ^ 6
+    + field half 2 1 * 2 ^ 5 + field half 11 1 * 2 ^ 4 + field half 3 3 * 2
 
 -- 12 = imm[8], 11:10 = imm[4:3], 6:5 = imm[7:6], 4:3 = imm[2:1], 2 = imm[5]
 abbrev pub branch_offset : ℕ → ℕ
