@@ -2,9 +2,10 @@
 //
 // A format's word is None where no word has these fields: where a register is none of the 32, or the
 // immediate is out of reach or not a multiple of its unit.
-ghost use Rattle.std.specs.Prelude.{◌<◌, ◌^◌, ℕ, IsSome, IfSome, IfNone};
+ghost use Rattle.std.specs.Prelude.{◌<◌, ◌^◌, IsSome};
 ghost use Rattle.rv_code.specs.isa.Reach.{IsWithin, Reaches};
 ghost use Rattle.rv_code.specs.isa.FullRows.{FormatR, FormatI, FormatS, FormatB, FormatU, FormatJ, Shift64, Shift32};
+ghost use Rattle.rv_encode.specs.internal.Finding.{Finds};
 
 use crate::operand::unsigned;
 use rv_code::field::bits;
@@ -14,8 +15,7 @@ pub fn format_r(opcode: u32, funct3: u32, funct7: u32, rd: u8, rs1: u8, rs2: u8)
     requires opcode { opcode < 2 ^ 7 }
     requires funct3 { funct3 < 2 ^ 3 }
     requires funct7 { funct7 < 2 ^ 7 }
-    ensures found { IfSome result (λ word. FormatR word opcode funct3 funct7 rd rs1 rs2) }
-    ensures none { IfNone result ((word : ℕ) → FormatR word opcode funct3 funct7 rd rs1 rs2 → ⊥) }
+    ensures { Finds (λ word. FormatR word opcode funct3 funct7 rd rs1 rs2) result }
 {
     if rd >= 32 || rs1 >= 32 || rs2 >= 32 {
         return None;
@@ -34,9 +34,8 @@ pub fn format_r(opcode: u32, funct3: u32, funct7: u32, rd: u8, rs1: u8, rs2: u8)
 pub fn format_i(opcode: u32, funct3: u32, rd: u8, rs1: u8, imm: i64) -> Option<u32>
     requires opcode { opcode < 2 ^ 7 }
     requires funct3 { funct3 < 2 ^ 3 }
-    ensures found { IfSome result (λ word. FormatI word opcode funct3 rd rs1 imm) }
+    ensures found { Finds (λ word. FormatI word opcode funct3 rd rs1 imm) result }
     ensures room { rd < 32 → rs1 < 32 → IsWithin (2 ^ 11) imm → IsSome result }
-    ensures none { IfNone result ((word : ℕ) → FormatI word opcode funct3 rd rs1 imm → ⊥) }
 {
     if rd >= 32 || rs1 >= 32 {
         return None;
@@ -50,8 +49,7 @@ pub fn shift_64(opcode: u32, funct3: u32, funct6: u32, rd: u8, rs1: u8, amount: 
     requires opcode { opcode < 2 ^ 7 }
     requires funct3 { funct3 < 2 ^ 3 }
     requires funct6 { funct6 < 2 ^ 6 }
-    ensures found { IfSome result (λ word. Shift64 word opcode funct3 funct6 rd rs1 amount) }
-    ensures none { IfNone result ((word : ℕ) → Shift64 word opcode funct3 funct6 rd rs1 amount → ⊥) }
+    ensures { Finds (λ word. Shift64 word opcode funct3 funct6 rd rs1 amount) result }
 {
     if rd >= 32 || rs1 >= 32 || amount < 0 || amount >= 64 {
         return None;
@@ -71,8 +69,7 @@ pub fn shift_32(opcode: u32, funct3: u32, funct7: u32, rd: u8, rs1: u8, amount: 
     requires opcode { opcode < 2 ^ 7 }
     requires funct3 { funct3 < 2 ^ 3 }
     requires funct7 { funct7 < 2 ^ 7 }
-    ensures found { IfSome result (λ word. Shift32 word opcode funct3 funct7 rd rs1 amount) }
-    ensures none { IfNone result ((word : ℕ) → Shift32 word opcode funct3 funct7 rd rs1 amount → ⊥) }
+    ensures { Finds (λ word. Shift32 word opcode funct3 funct7 rd rs1 amount) result }
 {
     if rd >= 32 || rs1 >= 32 || amount < 0 || amount >= 32 {
         return None;
@@ -91,9 +88,8 @@ pub fn shift_32(opcode: u32, funct3: u32, funct7: u32, rd: u8, rs1: u8, amount: 
 pub fn format_s(opcode: u32, funct3: u32, rs1: u8, rs2: u8, imm: i64) -> Option<u32>
     requires opcode { opcode < 2 ^ 7 }
     requires funct3 { funct3 < 2 ^ 3 }
-    ensures found { IfSome result (λ word. FormatS word opcode funct3 rs1 rs2 imm) }
+    ensures found { Finds (λ word. FormatS word opcode funct3 rs1 rs2 imm) result }
     ensures room { rs1 < 32 → rs2 < 32 → IsWithin (2 ^ 11) imm → IsSome result }
-    ensures none { IfNone result ((word : ℕ) → FormatS word opcode funct3 rs1 rs2 imm → ⊥) }
 {
     if rs1 >= 32 || rs2 >= 32 {
         return None;
@@ -113,9 +109,8 @@ pub fn format_s(opcode: u32, funct3: u32, rs1: u8, rs2: u8, imm: i64) -> Option<
 pub fn format_b(opcode: u32, funct3: u32, rs1: u8, rs2: u8, imm: i64) -> Option<u32>
     requires opcode { opcode < 2 ^ 7 }
     requires funct3 { funct3 < 2 ^ 3 }
-    ensures found { IfSome result (λ word. FormatB word opcode funct3 rs1 rs2 imm) }
+    ensures found { Finds (λ word. FormatB word opcode funct3 rs1 rs2 imm) result }
     ensures room { rs1 < 32 → rs2 < 32 → Reaches (2 ^ 12) imm → IsSome result }
-    ensures none { IfNone result ((word : ℕ) → FormatB word opcode funct3 rs1 rs2 imm → ⊥) }
 {
     if rs1 >= 32 || rs2 >= 32 {
         return None;
@@ -139,9 +134,8 @@ pub fn format_b(opcode: u32, funct3: u32, rs1: u8, rs2: u8, imm: i64) -> Option<
 /// A word of format U; `imm` is bits 31:12 alone.
 pub fn format_u(opcode: u32, rd: u8, imm: i64) -> Option<u32>
     requires { opcode < 2 ^ 7 }
-    ensures found { IfSome result (λ word. FormatU word opcode rd imm) }
+    ensures found { Finds (λ word. FormatU word opcode rd imm) result }
     ensures room { rd < 32 → IsWithin (2 ^ 19) imm → IsSome result }
-    ensures none { IfNone result ((word : ℕ) → FormatU word opcode rd imm → ⊥) }
 {
     if rd >= 32 {
         return None;
@@ -153,9 +147,8 @@ pub fn format_u(opcode: u32, rd: u8, imm: i64) -> Option<u32>
 /// A word of format J; `imm` is a distance in bytes.
 pub fn format_j(opcode: u32, rd: u8, imm: i64) -> Option<u32>
     requires { opcode < 2 ^ 7 }
-    ensures found { IfSome result (λ word. FormatJ word opcode rd imm) }
+    ensures found { Finds (λ word. FormatJ word opcode rd imm) result }
     ensures room { rd < 32 → Reaches (2 ^ 20) imm → IsSome result }
-    ensures none { IfNone result ((word : ℕ) → FormatJ word opcode rd imm → ⊥) }
 {
     if rd >= 32 {
         return None;

@@ -1,8 +1,8 @@
 // Four-byte instructions.
-ghost use Rattle.std.specs.Prelude.{◌≡◌, ℕ, IsSome, IfSome, IfNone};
+ghost use Rattle.std.specs.Prelude.{◌≡◌, IsSome, IfSome};
 ghost use Rattle.rv_encode.specs.Fits.{FitsFull};
 ghost use Rattle.rv_code.specs.isa.Bits.{field};
-ghost use Rattle.rv_code.specs.isa.FullRows.{IsFull};
+ghost use Rattle.rv_encode.specs.internal.Finding.{FindsFull};
 
 use crate::format::{
     format_b, format_i, format_j, format_r, format_s, format_u, shift_32, shift_64,
@@ -14,10 +14,9 @@ use rv_code::opcode::{
 
 /// The word of an instruction, or None where no word is it.
 pub fn encode_full(inst: &Inst) -> Option<u32>
-    ensures found { IfSome result (λ word. IsFull word inst.now) }
+    ensures found { FindsFull inst.now result }
     ensures not_compressed { IfSome result (λ word. field word 0 2 ≡ 3) }
     ensures room { FitsFull inst.now → IsSome result }
-    ensures none { IfNone result ((word : ℕ) → IsFull word inst.now → ⊥) }
 {
     match *inst {
         Inst::Lui { rd, imm } => format_u(LUI, rd, imm),

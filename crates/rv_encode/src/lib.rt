@@ -8,6 +8,7 @@ mod front;
 mod full;
 mod half;
 mod jump;
+mod layout;
 mod memory;
 mod operand;
 mod word;

@@ -1,6 +1,7 @@
 use Rattle.std.proofs.Common.{arith, inl, inr, refl, subst, sym, ◌≡◌, ℕ, ◌+◌, ◌*◌, ◌/◌, ◌%◌, ◌^◌, Option, Some, None, IsSomeAnd}
 use Rattle.rv_code.specs.isa.FullRows.{IsFull}
 use Rattle.rv_code.specs.declared.inst.Inst.{Inst}
+use Rattle.rv_encode.proofs.Forms.{form_of_half, half_of_form, not_full}
 use Rattle.rv_encode.proofs.front.encode.Goals as goal
 
 -- where no word is the instruction, no two halfwords are
@@ -9,9 +10,14 @@ no_full : (next : Option ℕ) (half : ℕ) (inst : Inst) → ((word : ℕ) → I
 no_full (Some upper) half inst none row = none (upper * 2 ^ 16 + half) row
 no_full None half inst none row = row
 
+pub returns-in-Some-clause-found : goal.returns-in-Some-clause-found
+returns-in-Some-clause-found c =
+    let row = half_of_form _ c.args.inst.now c.in-Some.ensures.found in
+    λ next. inl (record { is_half = not_full row.0 _ row.1; two_bytes = refl; row = row })
+
 pub returns-in-None-clause-none : goal.returns-in-None-clause-none
 returns-in-None-clause-none c = λ half next d. elim d [
-  | inl p ↦ c.in-None.ensures.none half p.row
+  | inl p ↦ c.in-None.ensures.found half (form_of_half half c.args.inst.now p.row)
   | inr p ↦ let differ = rw c.in-Half.is at p.four_bytes in absurd (omega arith)
 ]
 
@@ -28,5 +34,5 @@ returns-in-Some-encode_full-clause-found c =
 pub returns-in-None-encode_full-clause-none : goal.returns-in-None-encode_full-clause-none
 returns-in-None-encode_full-clause-none c = λ half next d. elim d [
   | inl p ↦ let differ = rw c.in-Full.is at p.two_bytes in absurd (omega arith)
-  | inr p ↦ no_full next half c.args.inst.now c.in-None-encode_full.ensures.none p.row
+  | inr p ↦ no_full next half c.args.inst.now c.in-None-encode_full.ensures.found p.row
 ]

@@ -1,0 +1,48 @@
+// Halfwords whose layout several rows share. ISA manual, section 26.2.
+ghost use Rattle.std.specs.Prelude.{◌<◌, ◌+◌};
+ghost use Rattle.rv_encode.specs.internal.HalfForms.{HasSixBits, HasArithmetic, HasRegisters};
+
+use rv_code::field::bits;
+
+/// A register in bits 11:7, and a number of six bits.
+pub fn six_bits(quadrant: u32, funct3: u32, register: u32, number: u32) -> u16
+    requires quadrant { quadrant < 4 }
+    requires funct3 { funct3 < 8 }
+    requires register { register < 32 }
+    requires number { number < 64 }
+    ensures { HasSixBits result quadrant funct3 register number }
+{
+    let half = quadrant
+        + (bits(number, 0, 5) << 2)
+        + (register << 7)
+        + (bits(number, 5, 1) << 12)
+        + (funct3 << 13);
+    half as u16
+}
+
+/// Arithmetic on one of the registers 8 to 15, told apart by bits 11:10, with a number of six bits.
+pub fn arithmetic(kind: u32, register: u32, number: u32) -> u16
+    requires kind { kind < 4 }
+    requires register { register < 8 }
+    requires number { number < 64 }
+    ensures { HasArithmetic result kind (8 + register) number }
+{
+    let half = 1
+        + (bits(number, 0, 5) << 2)
+        + (register << 7)
+        + (kind << 10)
+        + (bits(number, 5, 1) << 12)
+        + (4 << 13);
+    half as u16
+}
+
+/// Two registers, in a row told apart by bit 12.
+pub fn registers(bit12: u32, first: u32, second: u32) -> u16
+    requires bit12 { bit12 < 2 }
+    requires first { first < 32 }
+    requires second { second < 32 }
+    ensures { HasRegisters result bit12 first second }
+{
+    let half = 2 + (second << 2) + (first << 7) + (bit12 << 12) + (4 << 13);
+    half as u16
+}
