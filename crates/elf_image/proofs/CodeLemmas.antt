@@ -24,7 +24,8 @@ IsSecondCode-next file first i code lowest code_i past next = (
     omega arith,
     λ k code_k below.
         let from = lowest k code_k (omega arith) in
-        elim (cases_lt first k) [ inl after ↦ absurd (let far = next k code_k (omega arith) in omega arith) | inr by ↦ omega arith ],
+        elim (cases_lt first k)
+        [ inl after ↦ absurd (let far = next k code_k (omega arith) in omega arith) | inr by ↦ omega arith ],
   ),
 )
 
@@ -52,7 +53,8 @@ second_only file i k one other =
     ]
 
 pub IsLowest-second : (file : List ℕ) (second : ℕ) (o : Option ℕ) → IsSecondCode file second →
-    IsLowest (λ p. IsTooMany file second × (p ≡ segment_place file second)) o → IsLowest (SomeBelow (e_phnum file) (IsOneTooMany file)) o
+    IsLowest (λ p. IsTooMany file second × (p ≡ segment_place file second)) o →
+    IsLowest (SomeBelow (e_phnum file) (IsOneTooMany file)) o
 IsLowest-second file second o is lowest =
     IsLowest-same o
     (λ p (many, at). (second, (is.0).0, ((is, many), at)))
@@ -63,7 +65,8 @@ IsLowest-second file second o is lowest =
     lowest
 
 -- whether a section was moved
-pub HasOldSection-same : (file : List ℕ) (sections : List Section) → AreSections file (e_shnum file) sections → Any (λ s. IsTrue (starts_with nat_eq s.name.now (codes ".old."))) sections ↔ HasOldSection file
+pub HasOldSection-same : (file : List ℕ) (sections : List Section) → AreSections file (e_shnum file) sections →
+    Any (λ s. IsTrue (starts_with nat_eq s.name.now (codes ".old."))) sections ↔ HasOldSection file
 HasOldSection-same file sections are = (
   (λ (k, s, within, is, old).
       let at = section-at file _ sections k s are within in
@@ -84,7 +87,8 @@ HasOldSection-same file sections are = (
       ]),
 )
 
-pub IfSome-second : (file : List ℕ) (first : ℕ) (o : Option ℕ) → IsCode file first → ((k : ℕ) → IsCode file k → 0 ≤ k → first ≤ k) →
+pub IfSome-second : (file : List ℕ) (first : ℕ) (o : Option ℕ) → IsCode file first →
+    ((k : ℕ) → IsCode file k → 0 ≤ k → first ≤ k) →
     IfSome o (IsCode file) → IfSome o (λ i. first + 1 ≤ i) → IfSome o (λ i. (k : ℕ) → IsCode file k → first + 1 ≤ k → i ≤ k) →
     IfSome o (IsSecondCode file)
 IfSome-second file first None code lowest code_i past next = code_i

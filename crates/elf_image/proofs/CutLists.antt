@@ -5,7 +5,8 @@ use Rattle.std.proofs.lemmas.Bool.{ltb-true, ltb-false}
 use Rattle.std.proofs.lemmas.List.Elements.{Contains-append_left, Contains-append_right, Contains-append_cases}
 use Rattle.elf_image.specs.declared.elf.Section.{Section}
 use Rattle.elf_image.specs.declared.elf.Symbol.{Symbol}
-use Rattle.elf_image.specs.code.Cuts.{names_function, holds_code, IsBound, IsCutAddress}
+use Rattle.elf_image.specs.code.Cuts.{names_function, IsBound, IsCutAddress}
+use Rattle.elf_image.specs.file.Sections.{holds_code}
 use Rattle.elf_image.specs.internal.CutLists.{bounds, bounds_of_symbol, bounds_of_section, symbol_bounds, section_bounds}
 use Rattle.elf_image.proofs.LoadLemmas.{Contains-cons_cases}
 
@@ -59,7 +60,8 @@ bounds-from_IsBound start size a =
     Contains (if b then start ∷ (start + size) ∷ [] else start ∷ []) a) [
       | true ↦ λ below. ⊎_elim (λ same. (0, omega arith, sym same)) (λ end. (1, omega arith, sym end.0))
       | false ↦ λ above. ⊎_elim (λ same. (0, omega arith, sym same))
-          (λ end. absurd (let far = ltb-false (start + size) (2 ^ 64) above in let same = end.0 in let fits = end.1 in omega arith))
+          (λ end. absurd
+          (let far = ltb-false (start + size) (2 ^ 64) above in let same = end.0 in let fits = end.1 in omega arith))
     ]
     refl
 
@@ -83,8 +85,8 @@ IsCutAddress-from_lists symbols sections a is_in =
     (Contains-flat_map bounds_of_symbol (λ x symbol. IsTrue (names_function symbol) × IsBound symbol.value symbol.size x)
     (λ symbol x. chosen-bounds (names_function symbol) symbol.value symbol.size x) symbols a of_symbol))
     (λ of_section. inr
-    (Contains-flat_map bounds_of_section (λ x section. IsTrue (holds_code section) × IsBound section.addr section.size x)
-    (λ section x. chosen-bounds (holds_code section) section.addr section.size x) sections a of_section))
+    (Contains-flat_map bounds_of_section (λ x section. IsTrue (holds_code section.flags) × IsBound section.addr section.size x)
+    (λ section x. chosen-bounds (holds_code section.flags) section.addr section.size x) sections a of_section))
     (Contains-append_cases (symbol_bounds symbols) (section_bounds sections) a is_in)
 
 pub lists-from_IsCutAddress : (symbols : List Symbol) (sections : List Section) (a : ℕ) → IsCutAddress symbols sections a →
@@ -95,6 +97,7 @@ lists-from_IsCutAddress symbols sections a is =
     (Contains-flat_map_from bounds_of_symbol (λ x symbol. IsTrue (names_function symbol) × IsBound symbol.value symbol.size x)
     (λ symbol x. chosen-bounds_from (names_function symbol) symbol.value symbol.size x) symbols a of_symbol))
     (λ of_section. Contains-append_right (symbol_bounds symbols) (section_bounds sections) a
-    (Contains-flat_map_from bounds_of_section (λ x section. IsTrue (holds_code section) × IsBound section.addr section.size x)
-    (λ section x. chosen-bounds_from (holds_code section) section.addr section.size x) sections a of_section))
+    (Contains-flat_map_from bounds_of_section
+    (λ x section. IsTrue (holds_code section.flags) × IsBound section.addr section.size x)
+    (λ section x. chosen-bounds_from (holds_code section.flags) section.addr section.size x) sections a of_section))
     is

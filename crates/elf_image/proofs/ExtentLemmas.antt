@@ -41,7 +41,8 @@ MeetsNext-from_another extents k reach e rising reached past (m, within, differ,
       | inl same ↦ absurd (differ same)
       | inr apart ↦ elim apart [
         | inl earlier ↦ absurd (let here = (meet e).0 in let end = reached.above m e earlier in omega arith)
-        | inr later ↦ (omega arith, λ d. let here = (meet d).1 in let before = rising (k + 1) m d (omega arith) within in omega arith)
+        | inr later ↦
+            (omega arith, λ d. let here = (meet d).1 in let before = rising (k + 1) m d (omega arith) within in omega arith)
       ]
     ]
 
@@ -54,13 +55,16 @@ IsReach-more extents k reach new e within is reached = record {
   above = λ m d below. elim (cases_lt m k) [
     | inl earlier ↦ let before = reached.above m d earlier in omega arith
     | inr from ↦ let last : m ≡ k = omega arith in
-        let at : get_or extents m d ≡ get_or extents k e = ap (λ (j : ℕ). get_or extents j d) last ∙ get_or_default extents k d e within in
+        let at : get_or extents m d ≡ get_or extents k e =
+        ap (λ (j : ℕ). get_or extents j d) last ∙ get_or_default extents k d e within in
         let end = ap (λ (s : Extent). s.end) at in omega arith
   ];
   reached = elim (cases_lt reach (get_or extents k e).end) [
-    | inl beyond ↦ inr (k, omega arith, λ d. let end = ap (λ (s : Extent). s.end) (get_or_default extents k d e within) in omega arith)
+    | inl beyond ↦
+        inr (k, omega arith, λ d. let end = ap (λ (s : Extent). s.end) (get_or_default extents k d e within) in omega arith)
     | inr by ↦ let same : new ≡ reach = omega arith in
-        ⊎_elim (λ zero_reach. inl (same ∙ zero_reach)) (λ (m, below, end). inr (m, omega arith, λ d. end d ∙ sym same)) reached.reached
+        ⊎_elim (λ zero_reach. inl (same ∙ zero_reach))
+        (λ (m, below, end). inr (m, omega arith, λ d. end d ∙ sym same)) reached.reached
   ];
 }
 
@@ -96,7 +100,8 @@ meeting_shares extents places not_empty place (k, within, ((m, there, differ, me
       ),
     )
 
-shares_meet : (extents : List Extent) → (place : ℕ) → SharesAnother extents place → SomeBelow (length extents) (MeetingPlace extents) place
+shares_meet : (extents : List Extent) → (place : ℕ) → SharesAnother extents place →
+    SomeBelow (length extents) (MeetingPlace extents) place
 shares_meet extents place (s, t, (k, within, is), (m, there, is_t), (at, other, (x, in_s, in_t))) =
     let same_s : (d : Extent) → get_or extents k d ≡ s = λ d. get_or_default extents k d s within ∙ is in
     let same_t : (d : Extent) → get_or extents m d ≡ t = λ d. get_or_default extents m d t there ∙ is_t in
@@ -141,7 +146,8 @@ pub HavePlaces-permutation : (xs ys : List Extent) → IsPermutation xs ys → H
 HavePlaces-permutation xs ys order places =
     let same : Extent → Extent → Bool = λ s t. nat_eq s.place t.place in
     let flips : (s t : Extent) → same s t ≡ same t s = λ s t. eqb_comm s.place t.place in
-    let apart : IsDistinct same xs = IsDistinct-from_apart same xs (λ i j d before within. ne_eqb _ _ (places i j d before within)) in
+    let apart : IsDistinct same xs =
+    IsDistinct-from_apart same xs (λ i j d before within. ne_eqb _ _ (places i j d before within)) in
     λ i j d before within. eqb-false _ _
     (apart_from_distinct same ys i j d (IsDistinct-IsPermutation same flips xs ys order apart) before within)
 

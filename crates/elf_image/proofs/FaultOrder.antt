@@ -104,16 +104,18 @@ refused-fault Has n (Err _) step = step
 
 -- where it goes on, and where it stops
 pub went_on : {U : Type 0} (u : U) (Has : FaultKind → ℕ → Type 0) (kind : FaultKind) (lowest : Option ℕ) (r : Result U Fault) →
-    MatchOption lowest (r ≡ Ok u) (λ p. r ≡ Err (fault_at kind p)) → r ≡ Ok u → number_of kind < 16 → LacksBelow Has (number_of kind) →
-    IsLowest (Has kind) lowest → LacksBelow Has (number_of kind + 1)
+    MatchOption lowest (r ≡ Ok u) (λ p. r ≡ Err (fault_at kind p)) → r ≡ Ok u → number_of kind < 16 →
+    LacksBelow Has (number_of kind) → IsLowest (Has kind) lowest → LacksBelow Has (number_of kind + 1)
 went_on u Has kind lowest r e ok low before is =
-    MatchResult-at_ok (λ _. LacksBelow Has (number_of kind + 1)) (IsAnswered Has) u ok (refused u Has kind lowest r e low before is)
+    MatchResult-at_ok (λ _. LacksBelow Has (number_of kind + 1)) (IsAnswered Has) u ok
+    (refused u Has kind lowest r e low before is)
 
 pub stopped : {U : Type 0} (u : U) (Has : FaultKind → ℕ → Type 0) (kind : FaultKind) (lowest : Option ℕ) (r : Result U Fault)
     (fault : Fault) → MatchOption lowest (r ≡ Ok u) (λ p. r ≡ Err (fault_at kind p)) → r ≡ Err fault → number_of kind < 16 →
     LacksBelow Has (number_of kind) → IsLowest (Has kind) lowest → IsAnswered Has fault
 stopped u Has kind lowest r fault e err low before is =
-    MatchResult-at_err (λ _. LacksBelow Has (number_of kind + 1)) (IsAnswered Has) fault err (refused u Has kind lowest r e low before is)
+    MatchResult-at_err (λ _. LacksBelow Has (number_of kind + 1)) (IsAnswered Has) fault err
+    (refused u Has kind lowest r e low before is)
 
 -- none is present
 pub IsSound-lacks : (file : List ℕ) → LacksBelow (HasFault file) 9 → IsSound file

@@ -108,17 +108,18 @@ pub All-order : (segments some loads : List Segment) → some ≡ filter has_mem
     All (λ p. IsTrue (has_memory p)) loads
 All-order segments some loads is order =
     let HasMemory : Segment → Type 0 = λ p. IsTrue (has_memory p) in
-    All-permutation HasMemory some loads order (All-same HasMemory some (filter has_memory segments) is (filter_passes has_memory segments))
+    All-permutation HasMemory some loads order
+    (All-same HasMemory some (filter has_memory segments) is (filter_passes has_memory segments))
 
-Contains-order : (segments some loads : List Segment) → some ≡ filter has_memory segments → IsPermutation some loads → (p : Segment) →
-    Contains loads p → Contains segments p
+Contains-order : (segments some loads : List Segment) → some ≡ filter has_memory segments →
+    IsPermutation some loads → (p : Segment) → Contains loads p → Contains segments p
 Contains-order segments some loads is order p p_in =
     let here : Contains some p = Contains-permutation loads some p (IsPermutation-sym some loads order) p_in in
     let P : List Segment → Type 0 = λ xs. Contains xs p in
     Contains-from_filter has_memory segments p (subst P is here)
 
-Contains-loads : (segments some loads : List Segment) → some ≡ filter has_memory segments → IsPermutation some loads → (p : Segment) →
-    Contains segments p → IsTrue (has_memory p) → Contains loads p
+Contains-loads : (segments some loads : List Segment) → some ≡ filter has_memory segments →
+    IsPermutation some loads → (p : Segment) → Contains segments p → IsTrue (has_memory p) → Contains loads p
 Contains-loads segments some loads is order p p_in loaded =
     let P : List Segment → Type 0 = λ xs. Contains xs p in
     Contains-permutation some loads p order (subst P (sym is) (Contains-filter has_memory segments p p_in loaded))
@@ -134,7 +135,8 @@ segment_of-order segments some loads once is order a =
     elim (find (loads_address a) segments) as (λ r. find (loads_address a) segments ≡ r → find (loads_address a) loads ≡ r) [
       | None ↦ λ nowhere. find-none (loads_address a) loads
           (λ p p_in. false_from_ne_true (loads_address a p)
-          (λ loads_it. let finds = find-finds (loads_address a) segments p (Contains-order segments some loads is order p p_in) loads_it in
+          (λ loads_it. let finds =
+          find-finds (loads_address a) segments p (Contains-order segments some loads is order p p_in) loads_it in
           absurd (let both : None ≡ Some finds.0 = sym nowhere ∙ finds.1 in cc)))
       | Some p ↦ λ found.
           let there = find-found (loads_address a) segments p found in
@@ -147,8 +149,8 @@ segment_of-order segments some loads once is order a =
 -- The segment that stands last of those that begin at an address or below it.
 
 -- where it is none, none loads the address
-pub segment_of-none_below : (loads : List Segment) (a : ℕ) → ((k : ℕ) (d : Segment) → k < length loads → a < (get_or loads k d).vaddr) →
-    segment_of loads a ≡ None
+pub segment_of-none_below : (loads : List Segment) (a : ℕ) →
+    ((k : ℕ) (d : Segment) → k < length loads → a < (get_or loads k d).vaddr) → segment_of loads a ≡ None
 segment_of-none_below loads a above =
     find-none (loads_address a) loads
     (λ p p_in. false_from_ne_true (loads_address a p)
@@ -176,10 +178,11 @@ same_as_last loads a p last once p_in last_in memory before below loads_it =
     (loads-from_parts last.vaddr last loaded.0 (omega arith) (omega arith))
 
 -- and where it doesn't, none does
-pub segment_of-none_last : (loads : List Segment) (a i : ℕ) (d : Segment) → LoadOnce loads → All (λ p. IsTrue (has_memory p)) loads →
+pub segment_of-none_last : (loads : List Segment) (a i : ℕ) (d : Segment) → LoadOnce loads →
+    All (λ p. IsTrue (has_memory p)) loads →
     IsNonDecreasingBy (λ p. p.vaddr) loads → i < length loads → (get_or loads i d).vaddr ≤ a →
-    ((k : ℕ) (e : Segment) → i < k → k < length loads → a < (get_or loads k e).vaddr) → loads_address a (get_or loads i d) ≡ false →
-    segment_of loads a ≡ None
+    ((k : ℕ) (e : Segment) → i < k → k < length loads → a < (get_or loads k e).vaddr) →
+    loads_address a (get_or loads i d) ≡ false → segment_of loads a ≡ None
 segment_of-none_last loads a i d once loaded rising within below above fails =
     find-none (loads_address a) loads
     (λ p p_in. false_from_ne_true (loads_address a p)

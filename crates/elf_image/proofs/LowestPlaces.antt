@@ -4,7 +4,8 @@ use Rattle.std.proofs.lemmas.Bool.{cases_lt}
 use Rattle.elf_image.specs.faults.LowestPlace.{IsLowest, lower, SomeBelow}
 
 -- a set with the same places
-pub IsLowest-same : {P Q : ℕ → Type 0} (o : Option ℕ) → ((p : ℕ) → P p → Q p) → ((p : ℕ) → Q p → P p) → IsLowest P o → IsLowest Q o
+pub IsLowest-same : {P Q : ℕ → Type 0} (o : Option ℕ) → ((p : ℕ) → P p → Q p) → ((p : ℕ) → Q p → P p) →
+    IsLowest P o → IsLowest Q o
 IsLowest-same None to from is = record { present = is.present; least = λ p q. is.least p (from p q) }
 IsLowest-same (Some l) to from is = record { present = to l is.present; least = λ p q. is.least p (from p q) }
 
@@ -72,15 +73,16 @@ pub IsLowest-more : (S : ℕ → ℕ → Type 0) (n : ℕ) (a b : Option ℕ) �
 IsLowest-more S n a b before here = IsLowest-same (lower a b) (some_more S n) (some_fewer S n) (IsLowest-or a b before here)
 
 -- the same of what the code's calls of `lower` and `place_if` give
-pub IsLowest-lower : {P Q : ℕ → Type 0} (a b r : Option ℕ) → r ≡ lower a b → IsLowest P a → IsLowest Q b → IsLowest (λ p. P p ⊎ Q p) r
+pub IsLowest-lower : {P Q : ℕ → Type 0} (a b r : Option ℕ) → r ≡ lower a b → IsLowest P a → IsLowest Q b →
+    IsLowest (λ p. P p ⊎ Q p) r
 IsLowest-lower a b r e left right = subst (IsLowest _) (sym e) (IsLowest-or a b left right)
 
-pub IsLowest-next : (S : ℕ → ℕ → Type 0) (n : ℕ) (a b r : Option ℕ) → r ≡ lower a b → IsLowest (SomeBelow n S) a → IsLowest (S n) b →
-    IsLowest (SomeBelow (n + 1) S) r
+pub IsLowest-next : (S : ℕ → ℕ → Type 0) (n : ℕ) (a b r : Option ℕ) → r ≡ lower a b →
+    IsLowest (SomeBelow n S) a → IsLowest (S n) b → IsLowest (SomeBelow (n + 1) S) r
 IsLowest-next S n a b r e before here = subst (IsLowest _) (sym e) (IsLowest-more S n a b before here)
 
-pub IsLowest-place : (C : Type 0) (holds : Bool) (at place : ℕ) (r : Option ℕ) → r ≡ (if holds then Some at else None) → at ≡ place →
-    IsTrue holds ↔ C → IsLowest (λ p. C × (p ≡ place)) r
+pub IsLowest-place : (C : Type 0) (holds : Bool) (at place : ℕ) (r : Option ℕ) →
+    r ≡ (if holds then Some at else None) → at ≡ place → IsTrue holds ↔ C → IsLowest (λ p. C × (p ≡ place)) r
 IsLowest-place C holds at place r e same test =
     subst
     (λ (l : ℕ). IsLowest (λ p. C × (p ≡ l)) r)

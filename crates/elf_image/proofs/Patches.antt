@@ -10,7 +10,8 @@ use Rattle.elf_image.specs.file.Patches.{patched_number}
 
 -- a write at the front of what follows a place
 pub patched_at : (a n : ℕ) (xs bytes : List ℕ) → take a xs
-    ++ ((bytes ++ drop n (take (length xs - a) (drop a xs))) ++ drop (length xs - a) (drop a xs)) ≡ take a xs ++ (bytes ++ drop (a + n) xs)
+    ++ ((bytes ++ drop n (take (length xs - a) (drop a xs))) ++ drop (length xs - a) (drop a xs)) ≡ take a xs
+    ++ (bytes ++ drop (a + n) xs)
 patched_at a n xs bytes = grind (arith, common_steps)
 
 -- a number is made of its bytes alone
@@ -53,11 +54,13 @@ number_at-patched a n v xs o m within (inr high) =
     number_at-same _ xs o m (λ k from to. get_or-patched a n v xs k within (inr (omega arith)))
 
 -- the number stands there
-pub number_at-patched_there : (a n v : ℕ) (xs : List ℕ) → a + n ≤ length xs → v < 256 ^ n → number_at (patched_number a n v xs) a n ≡ v
+pub number_at-patched_there : (a n v : ℕ) (xs : List ℕ) → a + n ≤ length xs → v < 256 ^ n →
+    number_at (patched_number a n v xs) a n ≡ v
 number_at-patched_there a n v xs within fits =
     let front : length (take a xs) ≡ a = grind (arith, common_steps) in
     let rest : drop a (patched_number a n v xs) ≡ little_bytes n v ++ drop (a + n) xs =
-    ap (λ (j : ℕ). drop j (patched_number a n v xs)) (sym front) ∙ drop-append_seam (take a xs) (little_bytes n v ++ drop (a + n) xs) in
+    ap (λ (j : ℕ). drop j (patched_number a n v xs)) (sym front)
+    ∙ drop-append_seam (take a xs) (little_bytes n v ++ drop (a + n) xs) in
     ap (λ (ys : List ℕ). little_number n ys) rest ∙ little_number-reads_back n v (drop (a + n) xs) fits
 
 pub length-patched : (a n v : ℕ) (xs : List ℕ) → a + n ≤ length xs → length (patched_number a n v xs) ≡ length xs

@@ -10,7 +10,8 @@ use Rattle.elf_image.specs.declared.section.SectionHeader.{SectionHeader}
 use Rattle.elf_image.specs.declared.segment.TheConstants.{PF_X}
 use Rattle.elf_image.specs.file.Header.{e_phnum, segment, segment_place}
 use Rattle.elf_image.specs.memory.Image.{is_load, has_flag, end_of}
-use Rattle.elf_image.specs.faults.SegmentLayout.{LiesInCode, is_code_section}
+use Rattle.elf_image.specs.faults.SegmentLayout.{LiesInCode}
+use Rattle.elf_image.specs.file.Sections.{holds_code}
 use Rattle.elf_image.specs.internal.SegmentExtents.{AreExtents, IsCodeExtent}
 use Rattle.elf_image.specs.internal.Extents.{IsReach, IsInOneExtent}
 
@@ -21,7 +22,8 @@ pub record AreReaches (extents reaches : List Extent) (n : ℕ) : Type 0 where
   pub reach : (k : ℕ) (d : Extent) → k < n → IsReach extents (k + 1) (get_or reaches k d).end
 
 pub AreReaches-begin : (extents : List Extent) → AreReaches extents [] 0
-AreReaches-begin extents = record { count = refl; start = λ k d below. absurd (omega arith); reach = λ k d below. absurd (omega arith) }
+AreReaches-begin extents =
+    record { count = refl; start = λ k d below. absurd (omega arith); reach = λ k d below. absurd (omega arith) }
 
 pub AreReaches-more : (extents old new : List Extent) (n : ℕ) (t e : Extent) → n < length extents →
     t.start ≡ (get_or extents n e).start → IsReach extents (n + 1) t.end → new ≡ old ++ t ∷ [] → AreReaches extents old n →
@@ -44,14 +46,16 @@ AreReaches-more extents old new n t e within start reach is are =
             (get_or_default extents n e d within ∙ ap (λ (j : ℕ). get_or extents j d) (sym same)))
       ];
       reach = λ k d below. elim (cases_lt k n) [
-        | inl earlier ↦ subst (IsReach extents (k + 1)) (ap (λ (s : Extent). s.end) (sym (old_at k d earlier))) (are.reach k d earlier)
+        | inl earlier ↦
+            subst (IsReach extents (k + 1)) (ap (λ (s : Extent). s.end) (sym (old_at k d earlier))) (are.reach k d earlier)
         | inr last ↦ let same : k ≡ n = omega arith in
             let Reach : ℕ → Type 0 = λ j. IsReach extents (j + 1) (get_or new k d).end in
             subst Reach (sym same) (subst (IsReach extents (n + 1)) (ap (λ (s : Extent). s.end) (sym (last_at k d same))) reach)
       ];
     }
 
-pub AreReaches-growing : (extents reaches : List Extent) (n : ℕ) → AreReaches extents reaches n → IsNonDecreasingBy (λ s. s.end) reaches
+pub AreReaches-growing : (extents reaches : List Extent) (n : ℕ) → AreReaches extents reaches n →
+    IsNonDecreasingBy (λ s. s.end) reaches
 AreReaches-growing extents reaches n are i j d before within =
     let count = are.count in
     let here = are.reach i d (omega arith) in
@@ -70,7 +74,8 @@ AreReaches-rising extents reaches n all rising are i j d before within =
 
 -- what the grown ranges hold the given ones hold
 pub IsCovered-from_reaches : (extents reaches : List Extent) (n a e : ℕ) → n ≡ length extents →
-    IsNonDecreasingBy (λ s. s.start) extents → AreReaches extents reaches n → a < e → IsInOneExtent reaches a e → IsInOneExtent extents a e
+    IsNonDecreasingBy (λ s. s.start) extents → AreReaches extents reaches n → a < e → IsInOneExtent reaches a e →
+    IsInOneExtent extents a e
 IsCovered-from_reaches extents reaches n a e all rising are some (s, (k, within, is), low, high) =
     let count = are.count in
     let start = are.start k s (omega arith) in
@@ -98,7 +103,8 @@ pub IsCovered-from_last : (extents : List Extent) (a e i : ℕ) (d : Extent) →
 IsCovered-from_last extents a e i d within low high = (get_or extents i d, Contains-get_or extents i d within, low, high)
 
 pub IsCovered-by_last : (extents : List Extent) (a e below : ℕ) (d : Extent) → IsNonDecreasingBy (λ s. s.end) extents →
-    ((k : ℕ) (f : Extent) → below ≤ k → k < length extents → a < (get_or extents k f).start) → IsInOneExtent extents a e → (0 < below)
+    ((k : ℕ) (f : Extent) → below ≤ k → k < length extents → a < (get_or extents k f).start) →
+    IsInOneExtent extents a e → (0 < below)
     × (below ≤ length extents → e ≤ (get_or extents (below - 1) d).end)
 IsCovered-by_last extents a e below d growing above (s, (k, within, is), low, high) =
     let at_start = ap (λ (r : Extent). r.start) is in
@@ -112,8 +118,8 @@ pub IsCovered-permutation : (xs ys : List Extent) (a e : ℕ) → IsPermutation 
 IsCovered-permutation xs ys a e order (s, is_in, low, high) = (s, Contains-permutation xs ys s order is_in, low, high)
 
 -- the ranges of executable segments
-LiesInCode-from_extents : (file : List ℕ) (extents : List Extent) (a e : ℕ) → AreExtents (IsCodeExtent file) (e_phnum file) extents →
-    IsInOneExtent extents a e → LiesInCode file a e
+LiesInCode-from_extents : (file : List ℕ) (extents : List Extent) (a e : ℕ) →
+    AreExtents (IsCodeExtent file) (e_phnum file) extents → IsInOneExtent extents a e → LiesInCode file a e
 LiesInCode-from_extents file extents a e are (s, is_in, low, high) =
     let of = are.each s is_in in
     let is = of.2 in
@@ -122,29 +128,34 @@ LiesInCode-from_extents file extents a e are (s, is_in, low, high) =
     let end = extent.2 in
     (of.0, (of.1, is.0), omega arith, omega arith)
 
-LiesInCode-to_extents : (file : List ℕ) (extents : List Extent) (a e : ℕ) → AreExtents (IsCodeExtent file) (e_phnum file) extents →
-    a < e → LiesInCode file a e → IsInOneExtent extents a e
+LiesInCode-to_extents : (file : List ℕ) (extents : List Extent) (a e : ℕ) →
+    AreExtents (IsCodeExtent file) (e_phnum file) extents → a < e → LiesInCode file a e → IsInOneExtent extents a e
 LiesInCode-to_extents file extents a e are some (j, (below, code), low, high) =
     let p = segment file j in
     let s : Extent = record { start = p.vaddr; end = end_of p; place = segment_place file j } in
     (s, are.all j s below (code, ((and_parts (is_load p) (has_flag PF_X p) code).0, refl, refl, omega arith, refl)), low, high)
 
 -- what the grown ranges cover lies in an executable segment
-pub IsCovered-in_code : (file : List ℕ) (extents sorted reaches : List Extent) → AreExtents (IsCodeExtent file) (e_phnum file) extents →
-    IsPermutation extents sorted → ((a e : ℕ) → a < e → IsInOneExtent reaches a e ↔ IsInOneExtent sorted a e) → (a e : ℕ) → a < e →
+pub IsCovered-in_code : (file : List ℕ) (extents sorted reaches : List Extent) →
+    AreExtents (IsCodeExtent file) (e_phnum file) extents →
+    IsPermutation extents sorted →
+    ((a e : ℕ) → a < e → IsInOneExtent reaches a e ↔ IsInOneExtent sorted a e) → (a e : ℕ) → a < e →
     IsInOneExtent reaches a e ↔ LiesInCode file a e
 IsCovered-in_code file extents sorted reaches are order same a e some = (
   (λ covered. LiesInCode-from_extents file extents a e are
       (IsCovered-permutation sorted extents a e (IsPermutation-sym extents sorted order) ((same a e some).0 covered))),
-  (λ lies. (same a e some).1 (IsCovered-permutation extents sorted a e order (LiesInCode-to_extents file extents a e are some lies))),
+  (λ lies. (same a e some).1
+      (IsCovered-permutation extents sorted a e order (LiesInCode-to_extents file extents a e are some lies))),
 )
 
 -- a section that lies in no range
 pub IsStray-same : (file : List ℕ) (reaches : List Extent) (s : SectionHeader) (stray : Bool) →
     ((a e : ℕ) → a < e → IsInOneExtent reaches a e ↔ LiesInCode file a e) →
-    IsTrue stray ↔ (IsTrue (is_code_section s) × (s.size ≢ 0) × (IsInOneExtent reaches s.addr (s.addr + s.size) → ⊥)) →
-    IsTrue stray ↔ (IsTrue (is_code_section s) × (s.size ≢ 0) × (LiesInCode file s.addr (s.addr + s.size) → ⊥))
+    IsTrue stray ↔ (IsTrue (holds_code s.flags) × (s.size ≢ 0) × (IsInOneExtent reaches s.addr (s.addr + s.size) → ⊥)) →
+    IsTrue stray ↔ (IsTrue (holds_code s.flags) × (s.size ≢ 0) × (LiesInCode file s.addr (s.addr + s.size) → ⊥))
 IsStray-same file reaches s stray same test = (
-  (λ is. let (code, some, outside) = test.0 is in (code, some, λ lies. outside ((same s.addr (s.addr + s.size) (omega arith)).1 lies))),
+  (λ is.
+      let (code, some, outside) = test.0 is in
+      (code, some, λ lies. outside ((same s.addr (s.addr + s.size) (omega arith)).1 lies))),
   (λ (code, some, outside). test.1 (code, some, λ covered. outside ((same s.addr (s.addr + s.size) (omega arith)).0 covered))),
 )

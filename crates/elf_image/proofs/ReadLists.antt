@@ -54,8 +54,8 @@ AreSections-more file n xs x are is = record {
 pub AreSymbols-none : (file : List ℕ) (table : SectionHeader) → AreSymbols file table 0 []
 AreSymbols-none file table = record { count_is = refl; each = λ i s e. absurd (cc) }
 
-pub AreSymbols-more : (file : List ℕ) (table : SectionHeader) (n : ℕ) (xs : List Symbol) (x : Symbol) → AreSymbols file table n xs →
-    IsSymbolAt file table (symbol_place table n) x → AreSymbols file table (n + 1) (xs ++ x ∷ [])
+pub AreSymbols-more : (file : List ℕ) (table : SectionHeader) (n : ℕ) (xs : List Symbol) (x : Symbol) →
+    AreSymbols file table n xs → IsSymbolAt file table (symbol_place table n) x → AreSymbols file table (n + 1) (xs ++ x ∷ [])
 AreSymbols-more file table n xs x are is = record {
   count_is = length-append xs (x ∷ []) ∙ ap (λ (k : ℕ). k + 1) are.count_is;
   each =
@@ -94,7 +94,8 @@ get_or-segments file k d within =
     (below, get_or-segments_from file (e_phoff file) (e_phnum file) k d below)
 
 -- segments that share no address load each once
-pub LoadOnce-apart : (file : List ℕ) → ((place : ℕ) → SomeBelow (e_phnum file) (SharesAddress file) place → ⊥) → LoadOnce (segments_of file)
+pub LoadOnce-apart : (file : List ℕ) → ((place : ℕ) → SomeBelow (e_phnum file) (SharesAddress file) place → ⊥) →
+    LoadOnce (segments_of file)
 LoadOnce-apart file none a p q (i, within_i, at_i) (j, within_j, at_j) loads_p loads_q =
     let first = get_or-segments file i p within_i in
     let second = get_or-segments file j q within_j in
@@ -106,6 +107,9 @@ LoadOnce-apart file none a p q (i, within_i, at_i) (j, within_j, at_j) loads_p l
       | inr differ ↦
           absurd
           (none
-          (segment_place file i)
-          (i, first.0, ((j, second.0, (λ e. differ.1 (sym e)), (a, subst Loads (sym p_is) loads_p, subst Loads (sym q_is) loads_q)), refl)))
+          (segment_place file i) (
+            i,
+            first.0,
+            ((j, second.0, (λ e. differ.1 (sym e)), (a, subst Loads (sym p_is) loads_p, subst Loads (sym q_is) loads_q)), refl),
+          ))
     ]

@@ -62,7 +62,8 @@ module _ (file : List ℕ) (none : (place : ℕ) → IsTruncated file place → 
   sections : HasSections file
   sections = IsWhole-stable file _ _ (λ truncated. beyond (e_shoff file) (inl (inr (inr (truncated, refl)))))
 
-  ranges : (i : ℕ) → i < e_phnum file → (segment file i).kind ≡ PT_LOAD → IsWhole file (segment file i).offset (segment file i).filesz
+  ranges : (i : ℕ) → i < e_phnum file → (segment file i).kind ≡ PT_LOAD →
+      IsWhole file (segment file i).offset (segment file i).filesz
   ranges i below load =
       IsWhole-stable file (segment file i).offset (segment file i).filesz
       (λ truncated. beyond (segment file i).offset (inr (inl (segments, (i, below, ((load, truncated), refl))))))

@@ -49,7 +49,8 @@ none_more IsExtent n extents none are = record {
   ascending = are.ascending;
 }
 
-some_more : (file : List ℕ) (IsExtent : ℕ → Extent → Type 0) (unique : (i : ℕ) (s t : Extent) → IsExtent i s → IsExtent i t → s ≡ t)
+some_more : (file : List ℕ) (IsExtent : ℕ → Extent → Type 0)
+    (unique : (i : ℕ) (s t : Extent) → IsExtent i s → IsExtent i t → s ≡ t)
     (at : (i : ℕ) (s : Extent) → IsExtent i s → s.place ≡ segment_place file i) (n : ℕ) (extents : List Extent) (t : Extent) →
     IsExtent n t → AreExtents IsExtent n extents → AreExtents IsExtent (n + 1) (extents ++ t ∷ [])
 some_more file IsExtent unique at n extents t new are = record {
@@ -72,9 +73,10 @@ some_more file IsExtent unique at n extents t new are = record {
 
 pub AreExtents-more : (file : List ℕ) (IsExtent : ℕ → Extent → Type 0)
     (unique : (i : ℕ) (s t : Extent) → IsExtent i s → IsExtent i t → s ≡ t)
-    (at : (i : ℕ) (s : Extent) → IsExtent i s → s.place ≡ segment_place file i) (n : ℕ) (o : Option Extent) (old new : List Extent) →
-    IfSome o (IsExtent n) → IfNone o ((s : Extent) → IsExtent n s → ⊥) → new ≡ old ++ option_to_list o → AreExtents IsExtent n old →
-    AreExtents IsExtent (n + 1) new
+    (at : (i : ℕ) (s : Extent) → IsExtent i s → s.place ≡ segment_place file i) (n : ℕ) (o : Option Extent)
+    (old new : List Extent) →
+    IfSome o (IsExtent n) → IfNone o ((s : Extent) → IsExtent n s → ⊥) → new ≡ old ++ option_to_list o →
+    AreExtents IsExtent n old → AreExtents IsExtent (n + 1) new
 AreExtents-more file IsExtent unique at n None old new some none is are =
     subst (AreExtents IsExtent (n + 1)) (sym (append-nil old) ∙ sym is) (none_more IsExtent n old none are)
 AreExtents-more file IsExtent unique at n (Some t) old new some none is are =
@@ -154,9 +156,14 @@ IsAddressExtent-some file i a loads =
     let high = parts.2 in
     (record { start = p.vaddr; end = end_of p; place = segment_place file i }, (parts.0, refl, refl, omega arith, refl))
 
-pub IsAddressExtent-holds : (file : List ℕ) (i a : ℕ) (s : Extent) → IsAddressExtent file i s → IsAddressOf file i a ↔ IsInExtent a s
+pub IsAddressExtent-holds : (file : List ℕ) (i a : ℕ) (s : Extent) → IsAddressExtent file i s →
+    IsAddressOf file i a ↔ IsInExtent a s
 IsAddressExtent-holds file i a s (load, start, end, some, place) = (
-  (λ loads. let parts = loads-parts a (segment file i) loads in let low = parts.1 in let high = parts.2 in (omega arith, omega arith)),
+  (λ loads.
+      let parts = loads-parts a (segment file i) loads in
+      let low = parts.1 in
+      let high = parts.2 in
+      (omega arith, omega arith)),
   (λ (low, high). loads-from_parts a (segment file i) load (omega arith) (omega arith)),
 )
 

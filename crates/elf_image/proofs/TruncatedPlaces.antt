@@ -29,7 +29,8 @@ symbol_table_from file i n = find (λ section. section.kind == SHT_SYMTAB) (map 
 -- one section of those that are left
 pub symbol_table_from-next : (file : List ℕ) (i n : ℕ) → i < n →
     symbol_table_from file i (n - i)
-    ≡ (if (section_header file i).kind == SHT_SYMTAB then Some (section_header file i) else symbol_table_from file (i + 1) (n - (i + 1)))
+    ≡ (if (section_header file i).kind == SHT_SYMTAB then Some (section_header file i)
+    else symbol_table_from file (i + 1) (n - (i + 1)))
 symbol_table_from-next file i n below =
     let left : n - i ≡ suc (n - (i + 1)) = omega arith in
     ap (λ (k : ℕ). symbol_table_from file i k) left
@@ -78,6 +79,7 @@ IsLowest-no_table file o same =
     subst (λ (t : Option SectionHeader). IsLowest (IsUnnamedSymbolOf file t) None) same (IsLowest-none (λ p unnamed. unnamed))
 
 -- the places beyond a header that is whole
-pub IsLowest-beyond : (file : List ℕ) (r : Option ℕ) → HasHeader file → IsLowest (IsTruncatedBeyond file) r → IsLowest (IsTruncated file) r
+pub IsLowest-beyond : (file : List ℕ) (r : Option ℕ) → HasHeader file → IsLowest (IsTruncatedBeyond file) r →
+    IsLowest (IsTruncated file) r
 IsLowest-beyond file r has is =
     IsLowest-same r (λ p beyond. inr (has, beyond)) (λ p. ⊎_elim (λ truncated. absurd (truncated.0 has)) (λ beyond. beyond.1)) is

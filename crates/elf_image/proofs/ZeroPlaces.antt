@@ -80,8 +80,8 @@ places-listed table = places_from-listed (is_byte 0) table 0 (length table - 0) 
 -- the least zero byte at or after an index is the first that is listed so
 module _ (table zs : List ℕ) (listed : AreListed (is_byte 0) table 0 (length table) zs) (index next : ℕ)
     (before : (k : ℕ) → k < next → k < length zs → get_or zs k 0 < index) where
-  no_zero : (end : ℕ) → (next < length zs → end ≤ get_or zs next 0) → (place : ℕ) → index ≤ place → place < length table → place < end →
-      get_or table place 0 ≢ 0
+  no_zero : (end : ℕ) → (next < length zs → end ≤ get_or zs next 0) → (place : ℕ) → index ≤ place →
+      place < length table → place < end → get_or table place 0 ≢ 0
   no_zero end up place from within to is =
       let found = listed.all place 0 (omega arith) within (eq-eqb _ _ is) in
       let lt : found.0 < length zs = found.1 in

@@ -35,7 +35,7 @@ pub struct Section<'a> {
 }
 
 impl<'a> Section<'a> {
-    ghost use Rattle.elf_image.specs.code.Cuts.{holds_code};
+    ghost use Rattle.elf_image.specs.file.Sections.{holds_code};
     ghost use Rattle.elf_image.specs.faults.FileFaults.{is_compressed};
     ghost use Rattle.elf_image.specs.file.SectionNames.{is_loaded};
 
@@ -48,7 +48,7 @@ impl<'a> Section<'a> {
 
     /// Whether the section holds instructions.
     pub fn holds_code(&self) -> bool
-        ensures { result ≡ holds_code self.now }
+        ensures { result ≡ holds_code self.now.flags }
     {
         is_set(self.flags, SHF_EXECINSTR)
     }

@@ -1,7 +1,8 @@
 // The file's header. gABI, "ELF Header".
 ghost use Rattle.std.specs.Prelude.{◌≡◌, ◌≤◌, ◌↔◌, IsTrue, length};
 ghost use Rattle.elf_image.specs.faults.FileFaults.{IsElf};
-ghost use Rattle.elf_image.specs.file.Header.{e_type, e_machine, e_entry, e_phoff, e_shoff, e_flags, e_phentsize, e_phnum, e_shentsize, e_shnum, e_shstrndx};
+ghost use Rattle.elf_image.specs.file.Header.{e_type, e_machine, e_entry, e_phoff, e_shoff, e_flags, e_phentsize, e_phnum};
+ghost use Rattle.elf_image.specs.file.Header.{e_shentsize, e_shnum, e_shstrndx};
 
 use crate::number::{u16_at, u32_at, u64_at};
 

@@ -54,8 +54,7 @@ pub struct SectionHeader {
 }
 
 impl SectionHeader {
-    ghost use Rattle.elf_image.specs.file.Sections.{section_header_at};
-    ghost use Rattle.elf_image.specs.faults.SegmentLayout.{is_code_section};
+    ghost use Rattle.elf_image.specs.file.Sections.{section_header_at, holds_code};
 
     /// The section header that stands at an offset of a file.
     pub fn at(file: &[u8], offset: usize) -> SectionHeader
@@ -77,8 +76,8 @@ impl SectionHeader {
     }
 
     /// Whether the section holds instructions.
-    pub fn is_code(&self) -> bool
-        ensures { result ≡ is_code_section self.now }
+    pub fn holds_code(&self) -> bool
+        ensures { result ≡ holds_code self.now.flags }
     {
         is_set(self.flags, SHF_EXECINSTR)
     }

@@ -50,6 +50,7 @@ pub struct Segment {
 impl Segment {
     ghost use Rattle.elf_image.specs.file.Header.{segment_at};
     ghost use Rattle.elf_image.specs.memory.Image.{has_flag, has_memory, loads_address};
+    ghost use Rattle.elf_image.specs.memory.LoadedBytes.{loads_range};
     ghost use Rattle.elf_image.specs.faults.SegmentLayout.{is_code_segment};
 
     /// The program header that stands at an offset of a file.
@@ -82,6 +83,16 @@ impl Segment {
         ensures { result ≡ loads_address address self.now }
     {
         self.kind == PT_LOAD && self.vaddr <= address && address - self.vaddr < self.memsz
+    }
+
+    /// Whether the segment loads all of the file's `size` bytes from `start` on.
+    pub fn loads_range(&self, start: u64, size: u64) -> bool
+        ensures { result ≡ loads_range (record { start = start; size = size }) self.now }
+    {
+        self.kind == PT_LOAD
+            && self.offset <= start
+            && start as u128 + size as u128
+                <= self.offset as u128 + self.filesz.min(self.memsz) as u128
     }
 
     /// Whether the segment is loaded and has a byte of memory.

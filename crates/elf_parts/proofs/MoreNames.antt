@@ -18,7 +18,8 @@ front-same (x ∷ xs) ys zero below is =
     ∙ sym (take_while-cons goes_on x xs ∙ ap (λ (b : Bool). cond b (x ∷ take_while goes_on xs) []) stops)
 front-same (x ∷ xs) ys (suc z) below is =
     let rest : take_while goes_on (xs ++ ys) ≡ take_while goes_on xs = front-same xs ys z (omega arith) is in
-    take_while-cons goes_on x (xs ++ ys) ∙ ap (λ (t : List ℕ). cond (goes_on x) (x ∷ t) []) rest ∙ sym (take_while-cons goes_on x xs)
+    take_while-cons goes_on x (xs ++ ys) ∙ ap (λ (t : List ℕ). cond (goes_on x) (x ∷ t) []) rest
+    ∙ sym (take_while-cons goes_on x xs)
 
 pub text_of-front : (xs ys : List ℕ) (i z : ℕ) → i ≤ z → z < length xs → get_or xs z 0 ≡ 0 → text_of (xs ++ ys) i ≡ text_of xs i
 text_of-front xs ys zero z from below is = front-same xs ys z below is
@@ -37,4 +38,5 @@ whole-name (b ∷ name) rest there =
     ∙ ap (λ (t : List ℕ). b ∷ t) (whole-name name rest (λ k d below. there (suc k) d (omega arith)))
 
 pub text_of-added : (xs name rest : List ℕ) → All (λ b. 0 < b) name → text_of (xs ++ (name ++ 0 ∷ rest)) (length xs) ≡ name
-text_of-added xs name rest there = ap (λ (ys : List ℕ). take_while goes_on ys) (drop-append_seam xs (name ++ 0 ∷ rest)) ∙ whole-name name rest there
+text_of-added xs name rest there =
+    ap (λ (ys : List ℕ). take_while goes_on ys) (drop-append_seam xs (name ++ 0 ∷ rest)) ∙ whole-name name rest there

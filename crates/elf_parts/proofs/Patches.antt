@@ -11,7 +11,8 @@ pub length-put : (a : ℕ) (bytes xs : List ℕ) → a + length bytes ≤ length
 length-put a bytes xs within = grind (arith, common_steps)
 
 -- beside the new bytes
-pub get_or-put_beside : (a : ℕ) (bytes xs : List ℕ) (k : ℕ) → a + length bytes ≤ length xs → (k < a) ⊎ (a + length bytes ≤ k) → get_or (put a bytes xs) k 0 ≡ get_or xs k 0
+pub get_or-put_beside : (a : ℕ) (bytes xs : List ℕ) (k : ℕ) → a + length bytes ≤ length xs → (k < a) ⊎ (a + length bytes ≤ k) →
+    get_or (put a bytes xs) k 0 ≡ get_or xs k 0
 get_or-put_beside a bytes xs k within (inl low) =
     let front : length (take a xs) ≡ a = grind (arith, common_steps) in
     get_or_append_left (take a xs) _ 0 k (omega arith) ∙ get_or-take a xs k 0 low
@@ -24,7 +25,8 @@ get_or-put_beside a bytes xs k within (inr high) =
     ∙ ap (λ (j : ℕ). get_or xs j 0) place
 
 -- among them
-pub get_or-put_there : (a : ℕ) (bytes xs : List ℕ) (j : ℕ) → a + length bytes ≤ length xs → j < length bytes → get_or (put a bytes xs) (a + j) 0 ≡ get_or bytes j 0
+pub get_or-put_there : (a : ℕ) (bytes xs : List ℕ) (j : ℕ) → a + length bytes ≤ length xs → j < length bytes →
+    get_or (put a bytes xs) (a + j) 0 ≡ get_or bytes j 0
 get_or-put_there a bytes xs j within below =
     let front : length (take a xs) ≡ a = grind (arith, common_steps) in
     let place : (a + j) - a ≡ j = omega arith in
@@ -39,7 +41,8 @@ stands-put a bytes xs within = record {
 }
 
 -- other bytes still stand
-pub stands-put_beside : (a : ℕ) (bytes xs : List ℕ) (o : ℕ) (ys : List ℕ) → a + length bytes ≤ length xs → (a + length bytes ≤ o) ⊎ (o + length ys ≤ a) → Stands xs o ys → Stands (put a bytes xs) o ys
+pub stands-put_beside : (a : ℕ) (bytes xs : List ℕ) (o : ℕ) (ys : List ℕ) → a + length bytes ≤ length xs →
+    (a + length bytes ≤ o) ⊎ (o + length ys ≤ a) → Stands xs o ys → Stands (put a bytes xs) o ys
 stands-put_beside a bytes xs o ys within apart stands = record {
   within = subst (λ (n : ℕ). o + length ys ≤ n) (sym (length-put a bytes xs within)) stands.within;
   same = λ j below. get_or-put_beside a bytes xs (o + j) within (beside j below apart) ∙ stands.same j below;
@@ -60,7 +63,8 @@ length-put_all (p ∷ ps) xs within =
     λ k d below. subst (λ (n : ℕ). IsWithin n (get_or ps k d)) (sym same) (within (suc k) d (omega arith)) in
     length-put_all ps (put p.offset p.bytes xs) rest ∙ same
 
-pub get_or-put_all : (ps : List Patch) (xs : List ℕ) (k : ℕ) → All (IsWithin (length xs)) ps → All (IsBeside k) ps → get_or (put_all xs ps) k 0 ≡ get_or xs k 0
+pub get_or-put_all : (ps : List Patch) (xs : List ℕ) (k : ℕ) → All (IsWithin (length xs)) ps → All (IsBeside k) ps →
+    get_or (put_all xs ps) k 0 ≡ get_or xs k 0
 get_or-put_all [] xs k within beside = refl
 get_or-put_all (p ∷ ps) xs k within beside =
     let here : p.offset + length p.bytes ≤ length xs = within 0 p (omega arith) in
@@ -71,7 +75,8 @@ get_or-put_all (p ∷ ps) xs k within beside =
     ∙ get_or-put_beside p.offset p.bytes xs k here (beside 0 p (omega arith))
 
 -- bytes from which all patches are apart still stand
-pub stands-put_all : (ps : List Patch) (xs : List ℕ) (o : ℕ) (ys : List ℕ) → All (IsWithin (length xs)) ps → All (λ p. (p.offset + length p.bytes ≤ o) ⊎ (o + length ys ≤ p.offset)) ps → Stands xs o ys → Stands (put_all xs ps) o ys
+pub stands-put_all : (ps : List Patch) (xs : List ℕ) (o : ℕ) (ys : List ℕ) → All (IsWithin (length xs)) ps →
+    All (λ p. (p.offset + length p.bytes ≤ o) ⊎ (o + length ys ≤ p.offset)) ps → Stands xs o ys → Stands (put_all xs ps) o ys
 stands-put_all [] xs o ys within apart stands = stands
 stands-put_all (p ∷ ps) xs o ys within apart stands =
     let here : p.offset + length p.bytes ≤ length xs = within 0 p (omega arith) in
@@ -82,16 +87,19 @@ stands-put_all (p ∷ ps) xs o ys within apart stands =
     (stands-put_beside p.offset p.bytes xs o ys here (apart 0 p (omega arith)) stands)
 
 -- each patch stands, where none shares a byte with another
-pub stands-each : (ps : List Patch) (xs : List ℕ) → All (IsWithin (length xs)) ps → AllPairs AreApart ps → All (λ p. Stands (put_all xs ps) p.offset p.bytes) ps
+pub stands-each : (ps : List Patch) (xs : List ℕ) → All (IsWithin (length xs)) ps → AllPairs AreApart ps →
+    All (λ p. Stands (put_all xs ps) p.offset p.bytes) ps
 stands-each [] xs within apart k d below = absurd (omega arith)
 stands-each (p ∷ ps) xs within apart zero d below =
     let here : p.offset + length p.bytes ≤ length xs = within 0 p (omega arith) in
     let same : length (put p.offset p.bytes xs) ≡ length xs = length-put p.offset p.bytes xs here in
     let rest : All (IsWithin (length (put p.offset p.bytes xs))) ps =
     λ j e low. subst (λ (n : ℕ). IsWithin n (get_or ps j e)) (sym same) (within (suc j) e (omega arith)) in
-    stands-put_all ps (put p.offset p.bytes xs) p.offset p.bytes rest (λ j e low. other j e (apart 0 (suc j) e (omega arith) (omega arith))) (stands-put p.offset p.bytes xs here)
+    stands-put_all ps (put p.offset p.bytes xs) p.offset p.bytes rest
+    (λ j e low. other j e (apart 0 (suc j) e (omega arith) (omega arith))) (stands-put p.offset p.bytes xs here)
   where
-    other : (j : ℕ) (e : Patch) → AreApart p (get_or ps j e) → ((get_or ps j e).offset + length (get_or ps j e).bytes ≤ p.offset) ⊎ (p.offset + length p.bytes ≤ (get_or ps j e).offset)
+    other : (j : ℕ) (e : Patch) → AreApart p (get_or ps j e) →
+        ((get_or ps j e).offset + length (get_or ps j e).bytes ≤ p.offset) ⊎ (p.offset + length p.bytes ≤ (get_or ps j e).offset)
     other j e (inl low) = inr low
     other j e (inr high) = inl high
 stands-each (p ∷ ps) xs within apart (suc k) d below =
@@ -99,7 +107,8 @@ stands-each (p ∷ ps) xs within apart (suc k) d below =
     let same : length (put p.offset p.bytes xs) ≡ length xs = length-put p.offset p.bytes xs here in
     let rest : All (IsWithin (length (put p.offset p.bytes xs))) ps =
     λ j e low. subst (λ (n : ℕ). IsWithin n (get_or ps j e)) (sym same) (within (suc j) e (omega arith)) in
-    stands-each ps (put p.offset p.bytes xs) rest (λ i j e first second. apart (suc i) (suc j) e (omega arith) (omega arith)) k d (omega arith)
+    stands-each ps (put p.offset p.bytes xs) rest
+    (λ i j e first second. apart (suc i) (suc j) e (omega arith) (omega arith)) k d (omega arith)
 
 -- Added behind.
 
@@ -108,7 +117,8 @@ stands-front xs ys o bytes stands =
     let size : length (xs ++ ys) ≡ length xs + length ys = grind (arith, common_steps) in
     record {
       within = let old : o + length bytes ≤ length xs = stands.within in omega arith;
-      same = λ j below. let old : o + length bytes ≤ length xs = stands.within in get_or_append_left xs ys 0 (o + j) (omega arith) ∙ stands.same j below;
+      same = λ j below. let old : o + length bytes ≤ length xs = stands.within in
+          get_or_append_left xs ys 0 (o + j) (omega arith) ∙ stands.same j below;
     }
 
 pub stands-behind : (xs bytes : List ℕ) → Stands (xs ++ bytes) (length xs) bytes
@@ -116,7 +126,8 @@ stands-behind xs bytes =
     let size : length (xs ++ bytes) ≡ length xs + length bytes = grind (arith, common_steps) in
     record {
       within = omega arith;
-      same = λ j below. get_or-append_right xs bytes (length xs) (length xs + j) 0 refl (omega arith) ∙ ap (λ (i : ℕ). get_or bytes i 0) (place j);
+      same = λ j below. get_or-append_right xs bytes (length xs) (length xs + j) 0 refl (omega arith)
+          ∙ ap (λ (i : ℕ). get_or bytes i 0) (place j);
     }
   where
     place : (j : ℕ) → (length xs + j) - length xs ≡ j
@@ -125,17 +136,21 @@ stands-behind xs bytes =
 -- Read back.
 
 -- a number is made of its bytes alone
-little_from-stands : (i n : ℕ) (xs ys : List ℕ) → ((k : ℕ) → i ≤ k → k < i + n → get_or xs k 0 ≡ get_or ys k 0) → little_from i n xs ≡ little_from i n ys
+little_from-stands : (i n : ℕ) (xs ys : List ℕ) → ((k : ℕ) → i ≤ k → k < i + n → get_or xs k 0 ≡ get_or ys k 0) →
+    little_from i n xs ≡ little_from i n ys
 little_from-stands i zero xs ys same = refl
 little_from-stands i (suc n) xs ys same =
     let first : get_or xs i 0 ≡ get_or ys i 0 = same i (omega arith) (omega arith) in
-    let rest : little_from (suc i) n xs ≡ little_from (suc i) n ys = little_from-stands (suc i) n xs ys (λ k low high. same k (omega arith) (omega arith)) in
+    let rest : little_from (suc i) n xs ≡ little_from (suc i) n ys =
+    little_from-stands (suc i) n xs ys (λ k low high. same k (omega arith) (omega arith)) in
     cc
 
-pub number_at-stands : (file : List ℕ) (o : ℕ) (bytes : List ℕ) (i n : ℕ) → Stands file o bytes → i + n ≤ length bytes → number_at file (o + i) n ≡ number_at bytes i n
+pub number_at-stands : (file : List ℕ) (o : ℕ) (bytes : List ℕ) (i n : ℕ) → Stands file o bytes → i + n ≤ length bytes →
+    number_at file (o + i) n ≡ number_at bytes i n
 number_at-stands file o bytes i n stands inside =
     little_from-stands 0 n (drop (o + i) file) (drop i bytes)
-    (λ k low high. get_or-drop (o + i) file k 0 ∙ ap (λ (j : ℕ). get_or file j 0) (place k) ∙ stands.same (i + k) (omega arith) ∙ sym (get_or-drop i bytes k 0))
+    (λ k low high. get_or-drop (o + i) file k 0 ∙ ap (λ (j : ℕ). get_or file j 0) (place k) ∙ stands.same (i + k) (omega arith)
+    ∙ sym (get_or-drop i bytes k 0))
   where
     place : (k : ℕ) → (o + i) + k ≡ o + (i + k)
     place k = omega arith

@@ -15,9 +15,11 @@ use Rattle.elf_image.proofs.Patches.{number_at-same}
 use Rattle.elf_parts.proofs.Spelled.{segments_from-stands}
 
 -- a number that a patch puts
-pub number_at-put_all : (ps : List Patch) (xs : List ℕ) (o n v : ℕ) → All (IsWithin (length xs)) ps → AllPairs AreApart ps → PutsNumber ps o n v → v < 256 ^ n → number_at (put_all xs ps) o n ≡ v
+pub number_at-put_all : (ps : List Patch) (xs : List ℕ) (o n v : ℕ) → All (IsWithin (length xs)) ps → AllPairs AreApart ps →
+    PutsNumber ps o n v → v < 256 ^ n → number_at (put_all xs ps) o n ≡ v
 number_at-put_all ps xs o n v within apart puts fits =
-    let stands : Stands (put_all xs ps) o (little_bytes n v) = All-contains (λ p. Stands (put_all xs ps) p.offset p.bytes) ps _ (stands-each ps xs within apart) puts in
+    let stands : Stands (put_all xs ps) o (little_bytes n v) =
+    All-contains (λ p. Stands (put_all xs ps) p.offset p.bytes) ps _ (stands-each ps xs within apart) puts in
     let size : length (little_bytes n v) ≡ n = length-bytes_low_first 0 n v in
     let place : o ≡ o + 0 = omega arith in
     ap (λ (k : ℕ). number_at (put_all xs ps) k n) place
@@ -26,19 +28,24 @@ number_at-put_all ps xs o n v within apart puts fits =
     ∙ little_number-reads_back n v [] fits
 
 -- the table of program headers, where the patches put it, its place and its length
-pub segments_of-put_all : (ps : List Patch) (xs : List ℕ) (o : ℕ) (qs : List Segment) → All (IsWithin (length xs)) ps → AllPairs AreApart ps → PutsTable ps o qs → segments_of (put_all xs ps) ≡ qs
+pub segments_of-put_all : (ps : List Patch) (xs : List ℕ) (o : ℕ) (qs : List Segment) → All (IsWithin (length xs)) ps →
+    AllPairs AreApart ps → PutsTable ps o qs → segments_of (put_all xs ps) ≡ qs
 segments_of-put_all ps xs o qs within apart puts =
     let at : e_phoff (put_all xs ps) ≡ o = number_at-put_all ps xs 0x20 8 o within apart puts.place puts.place_fits in
-    let count : e_phnum (put_all xs ps) ≡ length qs = number_at-put_all ps xs 0x38 2 (length qs) within apart puts.count puts.count_fits in
-    let there : Stands (put_all xs ps) o (segment_table qs) = All-contains (λ p. Stands (put_all xs ps) p.offset p.bytes) ps _ (stands-each ps xs within apart) puts.table in
+    let count : e_phnum (put_all xs ps) ≡ length qs =
+    number_at-put_all ps xs 0x38 2 (length qs) within apart puts.count puts.count_fits in
+    let there : Stands (put_all xs ps) o (segment_table qs) =
+    All-contains (λ p. Stands (put_all xs ps) p.offset p.bytes) ps _ (stands-each ps xs within apart) puts.table in
     ap (λ (k : ℕ). segments_from (put_all xs ps) k (e_phnum (put_all xs ps))) at
     ∙ ap (λ (n : ℕ). segments_from (put_all xs ps) o n) count
     ∙ segments_from-stands qs (put_all xs ps) o puts.fits there
 
 -- a number of which no patch puts a byte
-pub number_at-beside_all : (ps : List Patch) (xs : List ℕ) (o n : ℕ) → All (IsWithin (length xs)) ps → All (λ p. (p.offset + length p.bytes ≤ o) ⊎ (o + n ≤ p.offset)) ps → number_at (put_all xs ps) o n ≡ number_at xs o n
+pub number_at-beside_all : (ps : List Patch) (xs : List ℕ) (o n : ℕ) → All (IsWithin (length xs)) ps →
+    All (λ p. (p.offset + length p.bytes ≤ o) ⊎ (o + n ≤ p.offset)) ps → number_at (put_all xs ps) o n ≡ number_at xs o n
 number_at-beside_all ps xs o n within apart =
-    number_at-same (put_all xs ps) xs o n (λ k from below. get_or-put_all ps xs k within (λ j d low. beside k _ from below (apart j d low)))
+    number_at-same (put_all xs ps) xs o n
+    (λ k from below. get_or-put_all ps xs k within (λ j d low. beside k _ from below (apart j d low)))
   where
     beside : (k : ℕ) (p : Patch) → o ≤ k → k < o + n → (p.offset + length p.bytes ≤ o) ⊎ (o + n ≤ p.offset) → IsBeside k p
     beside k p from below (inl high) = inr (omega arith)

@@ -10,7 +10,8 @@ use Rattle.byteorder.specs.Endian.{little_from, little_number, little_bytes}
 use Rattle.elf_parts.specs.Patches.{put, Patch, put_all, IsBeside, IsWithin, Leaves}
 use Rattle.elf_parts.proofs.Patches.{length-put, get_or-put_beside, get_or-put_there}
 
-get_or-put_leaves : (a : ℕ) (bytes xs : List ℕ) (k : ℕ) → a + length bytes ≤ length xs → Leaves k (get_or xs k 0) (record { offset = a; bytes = bytes }) → get_or (put a bytes xs) k 0 ≡ get_or xs k 0
+get_or-put_leaves : (a : ℕ) (bytes xs : List ℕ) (k : ℕ) → a + length bytes ≤ length xs →
+    Leaves k (get_or xs k 0) (record { offset = a; bytes = bytes }) → get_or (put a bytes xs) k 0 ≡ get_or xs k 0
 get_or-put_leaves a bytes xs k within (inl beside) = get_or-put_beside a bytes xs k within beside
 get_or-put_leaves a bytes xs k within (inr (from, same)) = cases (cases_lt k (a + length bytes))
   where
@@ -20,15 +21,18 @@ get_or-put_leaves a bytes xs k within (inr (from, same)) = cases (cases_lt k (a 
         ap (λ (j : ℕ). get_or (put a bytes xs) j 0) place ∙ get_or-put_there a bytes xs (k - a) within (omega arith) ∙ same
     cases (inr beyond) = get_or-put_beside a bytes xs k within (inr beyond)
 
-pub get_or-put_all_leaves : (ps : List Patch) (xs : List ℕ) (k : ℕ) → All (IsWithin (length xs)) ps → All (Leaves k (get_or xs k 0)) ps → get_or (put_all xs ps) k 0 ≡ get_or xs k 0
+pub get_or-put_all_leaves : (ps : List Patch) (xs : List ℕ) (k : ℕ) → All (IsWithin (length xs)) ps →
+    All (Leaves k (get_or xs k 0)) ps → get_or (put_all xs ps) k 0 ≡ get_or xs k 0
 get_or-put_all_leaves [] xs k within leaves = refl
 get_or-put_all_leaves (p ∷ ps) xs k within leaves =
     let here : p.offset + length p.bytes ≤ length xs = within 0 p (omega arith) in
     let size : length (put p.offset p.bytes xs) ≡ length xs = length-put p.offset p.bytes xs here in
-    let first : get_or (put p.offset p.bytes xs) k 0 ≡ get_or xs k 0 = get_or-put_leaves p.offset p.bytes xs k here (leaves 0 p (omega arith)) in
+    let first : get_or (put p.offset p.bytes xs) k 0 ≡ get_or xs k 0 =
+    get_or-put_leaves p.offset p.bytes xs k here (leaves 0 p (omega arith)) in
     let rest : All (IsWithin (length (put p.offset p.bytes xs))) ps =
     λ j d below. subst (λ (n : ℕ). IsWithin n (get_or ps j d)) (sym size) (within (suc j) d (omega arith)) in
-    get_or-put_all_leaves ps (put p.offset p.bytes xs) k rest (λ j d below. subst (λ (b : ℕ). Leaves k b (get_or ps j d)) (sym first) (leaves (suc j) d (omega arith))) ∙ first
+    get_or-put_all_leaves ps (put p.offset p.bytes xs) k rest
+    (λ j d below. subst (λ (b : ℕ). Leaves k b (get_or ps j d)) (sym first) (leaves (suc j) d (omega arith))) ∙ first
 
 -- the bytes of a number that was read are those it was read from
 low_byte : (x l : ℕ) → x < 256 → (x + 256 * l) / 1 % 256 ≡ x
@@ -37,7 +41,8 @@ low_byte x l small = omega arith
 high_bytes : (x l : ℕ) → x < 256 → (x + 256 * l) / 256 ≡ l
 high_bytes x l small = omega arith
 
-little_byte : (i n k : ℕ) (xs : List ℕ) → ((j : ℕ) → slice_index xs j < 256) → k < n → little_from i n xs / 256 ^ k % 256 ≡ get_or xs (i + k) 0
+little_byte : (i n k : ℕ) (xs : List ℕ) → ((j : ℕ) → slice_index xs j < 256) → k < n →
+    little_from i n xs / 256 ^ k % 256 ≡ get_or xs (i + k) 0
 little_byte i zero k xs bytes below = absurd (omega arith)
 little_byte i (suc n) zero xs bytes below =
     let here : i ≡ i + 0 = omega arith in
@@ -58,13 +63,16 @@ byte_at-power (suc i) v = refl
 
 get_or-low_first : (i n v k : ℕ) → k < n → get_or (bytes_low_first i n v) k 0 ≡ v / 256 ^ (i + k) % 256
 get_or-low_first i zero v k below = absurd (omega arith)
-get_or-low_first i (suc n) v zero below = let here : i ≡ i + 0 = omega arith in byte_at-power i v ∙ ap (λ (j : ℕ). v / 256 ^ j % 256) here
+get_or-low_first i (suc n) v zero below =
+    let here : i ≡ i + 0 = omega arith in
+    byte_at-power i v ∙ ap (λ (j : ℕ). v / 256 ^ j % 256) here
 get_or-low_first i (suc n) v (suc k) below =
     let there : suc i + k ≡ i + suc k = omega arith in
     get_or-low_first (suc i) n v k (omega arith) ∙ ap (λ (j : ℕ). v / 256 ^ j % 256) there
 
 -- A number that is read and spelled again has the same bytes.
-pub little_bytes-same : (file : List ℕ) (o n k : ℕ) → ((j : ℕ) → slice_index file j < 256) → k < n → get_or (little_bytes n (number_at file o n)) k 0 ≡ get_or file (o + k) 0
+pub little_bytes-same : (file : List ℕ) (o n k : ℕ) → ((j : ℕ) → slice_index file j < 256) → k < n →
+    get_or (little_bytes n (number_at file o n)) k 0 ≡ get_or file (o + k) 0
 little_bytes-same file o n k bytes below =
     get_or-low_first 0 n (number_at file o n) k below
     ∙ ap (λ (j : ℕ). number_at file o n / 256 ^ j % 256) zero_more

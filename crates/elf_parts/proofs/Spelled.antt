@@ -53,12 +53,14 @@ number_at-here : (n v : ℕ) (ns : List Number) → v < 256 ^ n → number_at (s
 unfolding spelled
 number_at-here n v ns fits = little_number-reads_back n v (spelled ns) fits
 
-number_at-next : (n v : ℕ) (ns : List Number) (o m : ℕ) → number_at (spelled (number n v ∷ ns)) (n + o) m ≡ number_at (spelled ns) o m
+number_at-next : (n v : ℕ) (ns : List Number) (o m : ℕ) →
+    number_at (spelled (number n v ∷ ns)) (n + o) m ≡ number_at (spelled ns) o m
 unfolding spelled
 number_at-next n v ns o m =
     let size : length (little_bytes n v) ≡ n = length-bytes_low_first 0 n v in
     let rest : drop (n + o) (little_bytes n v ++ spelled ns) ≡ drop o (spelled ns) =
-    ap (λ (k : ℕ). drop (k + o) (little_bytes n v ++ spelled ns)) (sym size) ∙ drop-append-add (little_bytes n v) (spelled ns) o in
+    ap (λ (k : ℕ). drop (k + o) (little_bytes n v ++ spelled ns)) (sym size)
+    ∙ drop-append-add (little_bytes n v) (spelled ns) o in
     ap (λ (xs : List ℕ). little_number m xs) rest
 
 length-spelled_more : (n v : ℕ) (ns : List Number) → length (spelled (number n v ∷ ns)) ≡ n + length (spelled ns)
@@ -78,42 +80,59 @@ pub length-section_bytes : (s : SectionHeader) → length (section_bytes s) ≡ 
 length-section_bytes s = simp (length-spelled_more, length-spelled_none)
 
 -- a number that stands in a file, by its place among the spelled ones
-field : (file : List ℕ) (o : ℕ) (bytes : List ℕ) (size q i n v : ℕ) → Stands file o bytes → length bytes ≡ size → i + n ≤ size → q ≡ o + i → number_at bytes i n ≡ v → number_at file q n ≡ v
+field : (file : List ℕ) (o : ℕ) (bytes : List ℕ) (size q i n v : ℕ) → Stands file o bytes → length bytes ≡ size → i + n ≤ size →
+    q ≡ o + i → number_at bytes i n ≡ v → number_at file q n ≡ v
 field file o bytes size q i n v stands long inside place is =
     ap (λ (k : ℕ). number_at file k n) place ∙ number_at-stands file o bytes i n stands (omega arith) ∙ is
 
-pub segment_at-stands : (file : List ℕ) (o : ℕ) (p : Segment) → SegmentFits p → Stands file o (segment_bytes p) → segment_at file o ≡ p
+pub segment_at-stands : (file : List ℕ) (o : ℕ) (p : Segment) → SegmentFits p →
+    Stands file o (segment_bytes p) → segment_at file o ≡ p
 segment_at-stands file o p fits stands = λ i. record {
   kind = at o 0 4 p.kind (omega arith) (omega arith) (number_at-here 4 p.kind _ fits.kind) i;
   flags = at (o + 4) 4 4 p.flags (omega arith) refl (number_at-next 4 p.kind _ 0 4 ∙ number_at-here 4 p.flags _ fits.flags) i;
-  offset = at (o + 8) 8 8 p.offset (omega arith) refl (number_at-next 4 p.kind _ 4 8 ∙ number_at-next 4 p.flags _ 0 8 ∙ number_at-here 8 p.offset _ fits.offset) i;
-  vaddr = at (o + 16) 16 8 p.vaddr (omega arith) refl (number_at-next 4 p.kind _ 12 8 ∙ number_at-next 4 p.flags _ 8 8 ∙ number_at-next 8 p.offset _ 0 8 ∙ number_at-here 8 p.vaddr _ fits.vaddr) i;
-  paddr = at (o + 24) 24 8 p.paddr (omega arith) refl (number_at-next 4 p.kind _ 20 8 ∙ number_at-next 4 p.flags _ 16 8 ∙ number_at-next 8 p.offset _ 8 8 ∙ number_at-next 8 p.vaddr _ 0 8 ∙ number_at-here 8 p.paddr _ fits.paddr) i;
-  filesz = at (o + 32) 32 8 p.filesz (omega arith) refl (number_at-next 4 p.kind _ 28 8 ∙ number_at-next 4 p.flags _ 24 8 ∙ number_at-next 8 p.offset _ 16 8 ∙ number_at-next 8 p.vaddr _ 8 8 ∙ number_at-next 8 p.paddr _ 0 8 ∙ number_at-here 8 p.filesz _ fits.filesz) i;
-  memsz = at (o + 40) 40 8 p.memsz (omega arith) refl (number_at-next 4 p.kind _ 36 8 ∙ number_at-next 4 p.flags _ 32 8 ∙ number_at-next 8 p.offset _ 24 8 ∙ number_at-next 8 p.vaddr _ 16 8 ∙ number_at-next 8 p.paddr _ 8 8 ∙ number_at-next 8 p.filesz _ 0 8 ∙ number_at-here 8 p.memsz _ fits.memsz) i;
-  align = at (o + 48) 48 8 p.align (omega arith) refl (number_at-next 4 p.kind _ 44 8 ∙ number_at-next 4 p.flags _ 40 8 ∙ number_at-next 8 p.offset _ 32 8 ∙ number_at-next 8 p.vaddr _ 24 8 ∙ number_at-next 8 p.paddr _ 16 8 ∙ number_at-next 8 p.filesz _ 8 8 ∙ number_at-next 8 p.memsz _ 0 8 ∙ number_at-here 8 p.align _ fits.align) i;
+  offset = at (o + 8) 8 8 p.offset (omega arith) refl
+      (number_at-next 4 p.kind _ 4 8 ∙ number_at-next 4 p.flags _ 0 8 ∙ number_at-here 8 p.offset _ fits.offset) i;
+  vaddr = at (o + 16) 16 8 p.vaddr (omega arith) refl (number_at-next 4 p.kind _ 12 8 ∙ number_at-next 4 p.flags _ 8 8
+      ∙ number_at-next 8 p.offset _ 0 8 ∙ number_at-here 8 p.vaddr _ fits.vaddr) i;
+  paddr = at (o + 24) 24 8 p.paddr (omega arith) refl (number_at-next 4 p.kind _ 20 8 ∙ number_at-next 4 p.flags _ 16 8
+      ∙ number_at-next 8 p.offset _ 8 8 ∙ number_at-next 8 p.vaddr _ 0 8 ∙ number_at-here 8 p.paddr _ fits.paddr) i;
+  filesz = at (o + 32) 32 8 p.filesz (omega arith) refl
+      (number_at-next 4 p.kind _ 28 8 ∙ number_at-next 4 p.flags _ 24 8 ∙ number_at-next 8 p.offset _ 16 8
+      ∙ number_at-next 8 p.vaddr _ 8 8 ∙ number_at-next 8 p.paddr _ 0 8 ∙ number_at-here 8 p.filesz _ fits.filesz) i;
+  memsz = at (o + 40) 40 8 p.memsz (omega arith) refl (number_at-next 4 p.kind _ 36 8 ∙ number_at-next 4 p.flags _ 32 8
+      ∙ number_at-next 8 p.offset _ 24 8 ∙ number_at-next 8 p.vaddr _ 16 8 ∙ number_at-next 8 p.paddr _ 8 8
+      ∙ number_at-next 8 p.filesz _ 0 8 ∙ number_at-here 8 p.memsz _ fits.memsz) i;
+  align = at (o + 48) 48 8 p.align (omega arith) refl (number_at-next 4 p.kind _ 44 8 ∙ number_at-next 4 p.flags _ 40 8
+      ∙ number_at-next 8 p.offset _ 32 8 ∙ number_at-next 8 p.vaddr _ 24 8 ∙ number_at-next 8 p.paddr _ 16 8
+      ∙ number_at-next 8 p.filesz _ 8 8 ∙ number_at-next 8 p.memsz _ 0 8 ∙ number_at-here 8 p.align _ fits.align) i;
 }
   where
     at : (q i n v : ℕ) → i + n ≤ 56 → q ≡ o + i → number_at (segment_bytes p) i n ≡ v → number_at file q n ≡ v
     at q i n v inside place is = field file o (segment_bytes p) 56 q i n v stands (length-segment_bytes p) inside place is
 
 -- a table of program headers that stands in a file
-pub segments_from-stands : (ps : List Segment) (file : List ℕ) (o : ℕ) → All SegmentFits ps → Stands file o (segment_table ps) → segments_from file o (length ps) ≡ ps
+pub segments_from-stands : (ps : List Segment) (file : List ℕ) (o : ℕ) → All SegmentFits ps → Stands file o (segment_table ps) →
+    segments_from file o (length ps) ≡ ps
 unfolding segment_table segments_from
 segments_from-stands [] file o fits stands = refl
 segments_from-stands (p ∷ ps) file o fits stands =
-    let here : segment_at file o ≡ p = segment_at-stands file o p (fits 0 p (omega arith)) (stands-first file o (segment_bytes p) (segment_table ps) stands) in
-    let next : Stands file (o + PHDR_SIZE) (segment_table ps) = subst (λ (n : ℕ). Stands file (o + n) (segment_table ps)) (length-segment_bytes p) (stands-rest file o (segment_bytes p) (segment_table ps) stands) in
-    let rest : segments_from file (o + PHDR_SIZE) (length ps) ≡ ps = segments_from-stands ps file (o + PHDR_SIZE) (λ k d below. fits (suc k) d (omega arith)) next in
+    let here : segment_at file o ≡ p =
+    segment_at-stands file o p (fits 0 p (omega arith)) (stands-first file o (segment_bytes p) (segment_table ps) stands) in
+    let next : Stands file (o + PHDR_SIZE) (segment_table ps) = subst (λ (n : ℕ). Stands file (o + n) (segment_table ps))
+    (length-segment_bytes p) (stands-rest file o (segment_bytes p) (segment_table ps) stands) in
+    let rest : segments_from file (o + PHDR_SIZE) (length ps) ≡ ps =
+    segments_from-stands ps file (o + PHDR_SIZE) (λ k d below. fits (suc k) d (omega arith)) next in
     ap (λ (x : Segment). x ∷ segments_from file (o + PHDR_SIZE) (length ps)) here ∙ ap (λ (xs : List Segment). p ∷ xs) rest
 
 -- one more header
-pub segment_table-take : (ps : List Segment) (i : ℕ) (d : Segment) → i < length ps → segment_table (take (i + 1) ps) ≡ segment_table (take i ps) ++ segment_bytes (get_or ps i d)
+pub segment_table-take : (ps : List Segment) (i : ℕ) (d : Segment) → i < length ps →
+    segment_table (take (i + 1) ps) ≡ segment_table (take i ps) ++ segment_bytes (get_or ps i d)
 unfolding segment_table
 segment_table-take [] i d below = absurd (omega arith)
 segment_table-take (p ∷ ps) zero d below = append-nil (segment_bytes p)
 segment_table-take (p ∷ ps) (suc i) d below =
-    let rest : segment_table (take (i + 1) ps) ≡ segment_table (take i ps) ++ segment_bytes (get_or ps i d) = segment_table-take ps i d (omega arith) in
+    let rest : segment_table (take (i + 1) ps) ≡ segment_table (take i ps) ++ segment_bytes (get_or ps i d) =
+    segment_table-take ps i d (omega arith) in
     let count : suc i + 1 ≡ suc (i + 1) = omega arith in
     ap (λ (n : ℕ). segment_table (take n (p ∷ ps))) count
     ∙ ap (λ (xs : List ℕ). segment_bytes p ++ xs) rest
@@ -124,7 +143,10 @@ unfolding segment_table
 segment_table-none = refl
 
 -- the numbers of a header, appended one after the other
-pub segment_bytes-appended : (xs : List ℕ) (p : Segment) → (((((((xs ++ little_bytes 4 p.kind) ++ little_bytes 4 p.flags) ++ little_bytes 8 p.offset) ++ little_bytes 8 p.vaddr) ++ little_bytes 8 p.paddr) ++ little_bytes 8 p.filesz) ++ little_bytes 8 p.memsz) ++ little_bytes 8 p.align ≡ xs ++ segment_bytes p
+pub segment_bytes-appended : (xs : List ℕ) (p : Segment) →
+    (((((((xs ++ little_bytes 4 p.kind) ++ little_bytes 4 p.flags) ++ little_bytes 8 p.offset) ++ little_bytes 8 p.vaddr)
+    ++ little_bytes 8 p.paddr) ++ little_bytes 8 p.filesz) ++ little_bytes 8 p.memsz)
+    ++ little_bytes 8 p.align ≡ xs ++ segment_bytes p
 unfolding spelled
 segment_bytes-appended xs p = simp (append_assoc, append-nil)
 
@@ -132,52 +154,69 @@ pub ruleset tables = (segment_table-take, segment_table-none, append_assoc, appe
 
 -- Section headers.
 
-pub section_header_at-stands : (file : List ℕ) (o : ℕ) (s : SectionHeader) → SectionFits s → Stands file o (section_bytes s) → section_header_at file o ≡ s
+pub section_header_at-stands : (file : List ℕ) (o : ℕ) (s : SectionHeader) → SectionFits s → Stands file o (section_bytes s) →
+    section_header_at file o ≡ s
 section_header_at-stands file o s fits stands = λ i. record {
   name = at o 0 4 s.name (omega arith) (omega arith) (number_at-here 4 s.name _ fits.name) i;
   kind = at (o + 4) 4 4 s.kind (omega arith) refl (number_at-next 4 s.name _ 0 4 ∙ number_at-here 4 s.kind _ fits.kind) i;
-  flags = at (o + 8) 8 8 s.flags (omega arith) refl (number_at-next 4 s.name _ 4 8 ∙ number_at-next 4 s.kind _ 0 8 ∙ number_at-here 8 s.flags _ fits.flags) i;
+  flags = at (o + 8) 8 8 s.flags (omega arith) refl
+      (number_at-next 4 s.name _ 4 8 ∙ number_at-next 4 s.kind _ 0 8 ∙ number_at-here 8 s.flags _ fits.flags) i;
   addr = at (o + 16) 16 8 s.addr (omega arith) refl (past_flags 0 8 ∙ number_at-here 8 s.addr _ fits.addr) i;
-  offset = at (o + 24) 24 8 s.offset (omega arith) refl (past_flags 8 8 ∙ number_at-next 8 s.addr _ 0 8 ∙ number_at-here 8 s.offset _ fits.offset) i;
-  size = at (o + 32) 32 8 s.size (omega arith) refl (past_flags 16 8 ∙ number_at-next 8 s.addr _ 8 8 ∙ number_at-next 8 s.offset _ 0 8 ∙ number_at-here 8 s.size _ fits.size) i;
+  offset = at (o + 24) 24 8 s.offset (omega arith) refl
+      (past_flags 8 8 ∙ number_at-next 8 s.addr _ 0 8 ∙ number_at-here 8 s.offset _ fits.offset) i;
+  size = at (o + 32) 32 8 s.size (omega arith) refl
+      (past_flags 16 8 ∙ number_at-next 8 s.addr _ 8 8 ∙ number_at-next 8 s.offset _ 0 8 ∙ number_at-here 8 s.size _ fits.size) i;
   link = at (o + 40) 40 4 s.link (omega arith) refl (past_size 0 4 ∙ number_at-here 4 s.link _ fits.link) i;
-  info = at (o + 44) 44 4 s.info (omega arith) refl (past_size 4 4 ∙ number_at-next 4 s.link _ 0 4 ∙ number_at-here 4 s.info _ fits.info) i;
-  align = at (o + 48) 48 8 s.align (omega arith) refl (past_size 8 8 ∙ number_at-next 4 s.link _ 4 8 ∙ number_at-next 4 s.info _ 0 8 ∙ number_at-here 8 s.align _ fits.align) i;
-  entsize = at (o + 56) 56 8 s.entsize (omega arith) refl (past_size 16 8 ∙ number_at-next 4 s.link _ 12 8 ∙ number_at-next 4 s.info _ 8 8 ∙ number_at-next 8 s.align _ 0 8 ∙ number_at-here 8 s.entsize _ fits.entsize) i;
+  info = at (o + 44) 44 4 s.info (omega arith) refl
+      (past_size 4 4 ∙ number_at-next 4 s.link _ 0 4 ∙ number_at-here 4 s.info _ fits.info) i;
+  align = at (o + 48) 48 8 s.align (omega arith) refl
+      (past_size 8 8 ∙ number_at-next 4 s.link _ 4 8 ∙ number_at-next 4 s.info _ 0 8 ∙ number_at-here 8 s.align _ fits.align) i;
+  entsize = at (o + 56) 56 8 s.entsize (omega arith) refl (past_size 16 8 ∙ number_at-next 4 s.link _ 12 8
+      ∙ number_at-next 4 s.info _ 8 8 ∙ number_at-next 8 s.align _ 0 8 ∙ number_at-here 8 s.entsize _ fits.entsize) i;
 }
   where
     behind_flags : List Number
-    behind_flags = number 8 s.addr ∷ number 8 s.offset ∷ number 8 s.size ∷ number 4 s.link ∷ number 4 s.info ∷ number 8 s.align ∷ number 8 s.entsize ∷ []
+    behind_flags = number 8 s.addr ∷ number 8 s.offset ∷ number 8 s.size ∷ number 4 s.link ∷ number 4 s.info ∷ number 8 s.align
+        ∷ number 8 s.entsize ∷ []
 
     behind_size : List Number
     behind_size = number 4 s.link ∷ number 4 s.info ∷ number 8 s.align ∷ number 8 s.entsize ∷ []
 
     past_flags : (i n : ℕ) → number_at (section_bytes s) (4 + (4 + (8 + i))) n ≡ number_at (spelled behind_flags) i n
-    past_flags i n = number_at-next 4 s.name _ (4 + (8 + i)) n ∙ number_at-next 4 s.kind _ (8 + i) n ∙ number_at-next 8 s.flags behind_flags i n
+    past_flags i n = number_at-next 4 s.name _ (4 + (8 + i)) n ∙ number_at-next 4 s.kind _ (8 + i) n
+        ∙ number_at-next 8 s.flags behind_flags i n
 
-    past_size : (i n : ℕ) → number_at (section_bytes s) (4 + (4 + (8 + (8 + (8 + (8 + i)))))) n ≡ number_at (spelled behind_size) i n
-    past_size i n = past_flags (8 + (8 + (8 + i))) n ∙ number_at-next 8 s.addr _ (8 + (8 + i)) n ∙ number_at-next 8 s.offset _ (8 + i) n ∙ number_at-next 8 s.size behind_size i n
+    past_size : (i n : ℕ) →
+        number_at (section_bytes s) (4 + (4 + (8 + (8 + (8 + (8 + i)))))) n ≡ number_at (spelled behind_size) i n
+    past_size i n = past_flags (8 + (8 + (8 + i))) n ∙ number_at-next 8 s.addr _ (8 + (8 + i)) n
+        ∙ number_at-next 8 s.offset _ (8 + i) n ∙ number_at-next 8 s.size behind_size i n
 
     at : (q i n v : ℕ) → i + n ≤ 64 → q ≡ o + i → number_at (section_bytes s) i n ≡ v → number_at file q n ≡ v
     at q i n v inside place is = field file o (section_bytes s) 64 q i n v stands (length-section_bytes s) inside place is
 
-pub section-in-table : (ss : List SectionHeader) (file : List ℕ) (o k : ℕ) (d : SectionHeader) → All SectionFits ss → Stands file o (section_table ss) → k < length ss → section_header_at file (o + SHDR_SIZE * k) ≡ get_or ss k d
+pub section-in-table : (ss : List SectionHeader) (file : List ℕ) (o k : ℕ) (d : SectionHeader) → All SectionFits ss →
+    Stands file o (section_table ss) → k < length ss → section_header_at file (o + SHDR_SIZE * k) ≡ get_or ss k d
 unfolding section_table
 section-in-table [] file o k d fits stands below = absurd (omega arith)
 section-in-table (s ∷ ss) file o zero d fits stands below =
     let here : o + SHDR_SIZE * 0 ≡ o = omega arith in
-    ap (λ (q : ℕ). section_header_at file q) here ∙ section_header_at-stands file o s (fits 0 s (omega arith)) (stands-first file o (section_bytes s) (section_table ss) stands)
+    ap (λ (q : ℕ). section_header_at file q) here
+    ∙ section_header_at-stands file o s (fits 0 s (omega arith)) (stands-first file o (section_bytes s) (section_table ss) stands)
 section-in-table (s ∷ ss) file o (suc k) d fits stands below =
-    let next : Stands file (o + SHDR_SIZE) (section_table ss) = subst (λ (n : ℕ). Stands file (o + n) (section_table ss)) (length-section_bytes s) (stands-rest file o (section_bytes s) (section_table ss) stands) in
+    let next : Stands file (o + SHDR_SIZE) (section_table ss) = subst (λ (n : ℕ). Stands file (o + n) (section_table ss))
+    (length-section_bytes s) (stands-rest file o (section_bytes s) (section_table ss) stands) in
     let there : o + SHDR_SIZE * suc k ≡ o + SHDR_SIZE + SHDR_SIZE * k = omega arith in
-    ap (λ (q : ℕ). section_header_at file q) there ∙ section-in-table ss file (o + SHDR_SIZE) k d (λ j e low. fits (suc j) e (omega arith)) next (omega arith)
+    ap (λ (q : ℕ). section_header_at file q) there
+    ∙ section-in-table ss file (o + SHDR_SIZE) k d (λ j e low. fits (suc j) e (omega arith)) next (omega arith)
 
-pub section_table-take : (ss : List SectionHeader) (i : ℕ) (d : SectionHeader) → i < length ss → section_table (take (i + 1) ss) ≡ section_table (take i ss) ++ section_bytes (get_or ss i d)
+pub section_table-take : (ss : List SectionHeader) (i : ℕ) (d : SectionHeader) → i < length ss →
+    section_table (take (i + 1) ss) ≡ section_table (take i ss) ++ section_bytes (get_or ss i d)
 unfolding section_table
 section_table-take [] i d below = absurd (omega arith)
 section_table-take (s ∷ ss) zero d below = append-nil (section_bytes s)
 section_table-take (s ∷ ss) (suc i) d below =
-    let rest : section_table (take (i + 1) ss) ≡ section_table (take i ss) ++ section_bytes (get_or ss i d) = section_table-take ss i d (omega arith) in
+    let rest : section_table (take (i + 1) ss) ≡ section_table (take i ss) ++ section_bytes (get_or ss i d) =
+    section_table-take ss i d (omega arith) in
     let count : suc i + 1 ≡ suc (i + 1) = omega arith in
     ap (λ (n : ℕ). section_table (take n (s ∷ ss))) count
     ∙ ap (λ (xs : List ℕ). section_bytes s ++ xs) rest
@@ -187,7 +226,10 @@ pub section_table-none : section_table [] ≡ []
 unfolding section_table
 section_table-none = refl
 
-pub section_bytes-appended : (xs : List ℕ) (s : SectionHeader) → (((((((((xs ++ little_bytes 4 s.name) ++ little_bytes 4 s.kind) ++ little_bytes 8 s.flags) ++ little_bytes 8 s.addr) ++ little_bytes 8 s.offset) ++ little_bytes 8 s.size) ++ little_bytes 4 s.link) ++ little_bytes 4 s.info) ++ little_bytes 8 s.align) ++ little_bytes 8 s.entsize ≡ xs ++ section_bytes s
+pub section_bytes-appended : (xs : List ℕ) (s : SectionHeader) →
+    (((((((((xs ++ little_bytes 4 s.name) ++ little_bytes 4 s.kind) ++ little_bytes 8 s.flags) ++ little_bytes 8 s.addr)
+    ++ little_bytes 8 s.offset) ++ little_bytes 8 s.size) ++ little_bytes 4 s.link) ++ little_bytes 4 s.info)
+    ++ little_bytes 8 s.align) ++ little_bytes 8 s.entsize ≡ xs ++ section_bytes s
 unfolding spelled
 section_bytes-appended xs s = simp (append_assoc, append-nil)
 
@@ -199,13 +241,16 @@ length-segment_table [] = refl
 length-segment_table (p ∷ ps) =
     let rest : length (segment_table ps) ≡ PHDR_SIZE * length ps = length-segment_table ps in
     let more : 56 + PHDR_SIZE * length ps ≡ PHDR_SIZE * suc (length ps) = omega arith in
-    length-append (segment_bytes p) (segment_table ps) ∙ ap (λ (n : ℕ). n + length (segment_table ps)) (length-segment_bytes p) ∙ ap (λ (n : ℕ). 56 + n) rest ∙ more
+    length-append (segment_bytes p) (segment_table ps) ∙ ap (λ (n : ℕ). n + length (segment_table ps)) (length-segment_bytes p)
+    ∙ ap (λ (n : ℕ). 56 + n) rest ∙ more
 
 -- Symbols.
 
 pub length-symbol_bytes : (s : SymbolEntry) → length (symbol_bytes s) ≡ 24
 length-symbol_bytes s = simp (length-spelled_more, length-spelled_none)
 
-pub symbol_bytes-appended : (xs : List ℕ) (s : SymbolEntry) → (((((xs ++ little_bytes 4 s.name) ++ little_bytes 1 s.info) ++ little_bytes 1 s.other) ++ little_bytes 2 s.section) ++ little_bytes 8 s.value) ++ little_bytes 8 s.size ≡ xs ++ symbol_bytes s
+pub symbol_bytes-appended : (xs : List ℕ) (s : SymbolEntry) →
+    (((((xs ++ little_bytes 4 s.name) ++ little_bytes 1 s.info) ++ little_bytes 1 s.other) ++ little_bytes 2 s.section)
+    ++ little_bytes 8 s.value) ++ little_bytes 8 s.size ≡ xs ++ symbol_bytes s
 unfolding spelled
 symbol_bytes-appended xs s = simp (append_assoc, append-nil)

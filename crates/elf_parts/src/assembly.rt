@@ -22,7 +22,8 @@ fn put_patches(
     requires cells { All (CanPut (length file.old)) cells.now }
     requires table { table_at + length table.now ≤ length file.old }
     requires fields { All (CanPut (length file.old)) fields.now }
-    ensures { file.new ≡ put_all (put_all file.old (map patch_of cells.now)) (record { offset = table_at; bytes = table.now } ∷ map patch_of fields.now) }
+    ensures { file.new ≡ put_all (put_all file.old (map patch_of cells.now))
+        (record { offset = table_at; bytes = table.now } ∷ map patch_of fields.now) }
 {
     put_numbers(file, cells);
     put_bytes(file, table_at, table);
@@ -46,7 +47,8 @@ pub fn assemble(
     requires cells { All (CanPut (size_of parts.now + length tail.now)) cells.now }
     requires table { table_at + length table.now ≤ size_of parts.now + length tail.now }
     requires fields { All (CanPut (size_of parts.now + length tail.now)) fields.now }
-    ensures { IfOk result (λ w. IsAssembled parts.now input.now area.now tail.now cells.now table_at table.now fields.now w.items) }
+    ensures { IfOk result
+        (λ w. IsAssembled parts.now input.now area.now tail.now cells.now table_at table.now fields.now w.items) }
 {
     let mut out = join_parts(alloc, parts, input, area)?;
     out.extend_from_slice(tail)?;

@@ -38,7 +38,8 @@ back e e' a = record {
 
 -- Lists that are alike.
 
-pub contains_alike : {X Y : Type 0} (f : X → Y) (xs ys : List X) → map f xs ≡ map f ys → (x : X) → Contains xs x → (y : X) × Contains ys y × (f x ≡ f y)
+pub contains_alike : {X Y : Type 0} (f : X → Y) (xs ys : List X) → map f xs ≡ map f ys → (x : X) → Contains xs x →
+    (y : X) × Contains ys y × (f x ≡ f y)
 contains_alike f xs ys e x (k, within, is) =
     let size : length xs ≡ length ys = sym (length-map xs f) ∙ ap length e ∙ length-map ys f in
     let inside : k < length ys = omega (arith, within, size) in (
@@ -47,7 +48,8 @@ contains_alike f xs ys e x (k, within, is) =
       ap f (sym is) ∙ sym (get_or-map f xs k x (f x) within) ∙ ap (λ zs. get_or zs k (f x)) e ∙ get_or-map f ys k x (f x) inside,
     )
 
-pub any_alike : {X Y : Type 0} (f : X → Y) (P : X → Type 0) → ((x y : X) → f x ≡ f y → P x → P y) → (xs ys : List X) → map f xs ≡ map f ys → Any P xs → Any P ys
+pub any_alike : {X Y : Type 0} (f : X → Y) (P : X → Type 0) → ((x y : X) → f x ≡ f y → P x → P y) → (xs ys : List X) →
+    map f xs ≡ map f ys → Any P xs → Any P ys
 any_alike f P carry xs ys e (k, x, within, is, p) =
     let (y, (j, inside, at), same) = contains_alike f xs ys e x (k, within, is) in
     (j, y, inside, at, carry x y same p)

@@ -33,16 +33,20 @@ is_selector r = r.kind ≡ R_RISCV_IRELATIVE
 
 ifunc_of : (e e' : Elf) → Alike e e' → (place : ℕ) → IsIfuncOrPlt e place → IsIfuncOrPlt e' place
 ifunc_of e e' a place (IsIfuncOrPlt.symbol is) =
-    IsIfuncOrPlt.symbol (any_alike bare_symbol (selects place) (λ x y same p. subst (selects place) same p) e.symbols.items e'.symbols.items a.symbols is)
+    IsIfuncOrPlt.symbol (any_alike bare_symbol (selects place)
+    (λ x y same p. subst (selects place) same p) e.symbols.items e'.symbols.items a.symbols is)
 ifunc_of e e' a place (IsIfuncOrPlt.section is) =
-    IsIfuncOrPlt.section (any_alike bare (has_stubs place) (λ x y same p. subst (has_stubs place) same p) e.sections.items e'.sections.items a.sections is)
-ifunc_of e e' a place (IsIfuncOrPlt.relocation h) = IsIfuncOrPlt.relocation (has_relocation_of e e' a is_selector is_selector (λ r s t is. is) place h)
+    IsIfuncOrPlt.section (any_alike bare (has_stubs place)
+    (λ x y same p. subst (has_stubs place) same p) e.sections.items e'.sections.items a.sections is)
+ifunc_of e e' a place (IsIfuncOrPlt.relocation h) =
+    IsIfuncOrPlt.relocation (has_relocation_of e e' a is_selector is_selector (λ r s t is. is) place h)
 
 abbrev is_old : Section → Type 0
 is_old s = IsTrue (starts_with nat_eq s.name.now (codes ".old."))
 
 moved_of : (e e' : Elf) → Alike e e' → (index : ℕ) → IsAlreadyMoved e index → IsAlreadyMoved e' index
-moved_of e e' a index is = from e' (subst (λ (sections : List Section). IsSomeAnd (slice_get sections index) is_old) a.sections (to e is))
+moved_of e e' a index is =
+    from e' (subst (λ (sections : List Section). IsSomeAnd (slice_get sections index) is_old) a.sections (to e is))
   where
     some : (o : Option Section) → IsSomeAnd o is_old → IsSomeAnd (option_map bare o) is_old
     some None is = is
@@ -53,15 +57,22 @@ moved_of e e' a index is = from e' (subst (λ (sections : List Section). IsSomeA
     some_back (Some s) is = is
 
     to : (x : Elf) → IsAlreadyMoved x index → IsSomeAnd (slice_get (map bare x.sections.items) index) is_old
-    to x is = subst (λ (o : Option Section). IsSomeAnd o is_old) (sym (slice_get-map bare x.sections.items index)) (some (slice_get x.sections.items index) is)
+    to x is = subst (λ (o : Option Section). IsSomeAnd o is_old) (sym (slice_get-map bare x.sections.items index))
+        (some (slice_get x.sections.items index) is)
 
     from : (x : Elf) → IsSomeAnd (slice_get (map bare x.sections.items) index) is_old → IsAlreadyMoved x index
-    from x is = some_back (slice_get x.sections.items index) (subst (λ (o : Option Section). IsSomeAnd o is_old) (slice_get-map bare x.sections.items index) is)
+    from x is = some_back (slice_get x.sections.items index)
+        (subst (λ (o : Option Section). IsSomeAnd o is_old) (slice_get-map bare x.sections.items index) is)
 
-bad_entry_of : (e e' : Elf) → Alike e e' → (tabled : List (ℕ × ℕ)) (place : ℕ) → IsBadEntry e tabled place → IsBadEntry e' tabled place
-bad_entry_of e e' a tabled place b = record { is_entry = b.is_entry ∙ a.entry; no_code = λ is. b.no_code (code_address_of e' e (back e e' a) tabled place is) }
+bad_entry_of : (e e' : Elf) → Alike e e' → (tabled : List (ℕ × ℕ)) (place : ℕ) → IsBadEntry e tabled place →
+    IsBadEntry e' tabled place
+bad_entry_of e e' a tabled place b = record {
+  is_entry = b.is_entry ∙ a.entry;
+  no_code = λ is. b.no_code (code_address_of e' e (back e e' a) tabled place is);
+}
 
-bad_instruction_of : (e e' : Elf) → Alike e e' → (tabled : List (ℕ × ℕ)) (place : ℕ) → IsBadInstruction e tabled place → IsBadInstruction e' tabled place
+bad_instruction_of : (e e' : Elf) → Alike e e' → (tabled : List (ℕ × ℕ)) (place : ℕ) → IsBadInstruction e tabled place →
+    IsBadInstruction e' tabled place
 bad_instruction_of e e' a tabled place b = record {
   start = b.start;
   end = b.end;
@@ -70,7 +81,8 @@ bad_instruction_of e e' a tabled place b = record {
   invalid = λ inst bytes v. b.invalid inst bytes (valid_of e' e (back e e' a) b.start b.end place inst bytes v);
 }
 
-bare_auipc_of : (e e' : Elf) → Alike e e' → (tabled : List (ℕ × ℕ)) (place : ℕ) → IsBareAuipc e tabled place → IsBareAuipc e' tabled place
+bare_auipc_of : (e e' : Elf) → Alike e e' → (tabled : List (ℕ × ℕ)) (place : ℕ) → IsBareAuipc e tabled place →
+    IsBareAuipc e' tabled place
 bare_auipc_of e e' a tabled place b = record {
   start = b.start;
   end = b.end;
@@ -81,7 +93,8 @@ bare_auipc_of e e' a tabled place b = record {
   no_role = no_role_of e e' a place b.no_role;
 }
 
-inside_of : (e e' : Elf) → Alike e e' → (tabled : List (ℕ × ℕ)) (at : ℕ) → IsInsideInstruction e tabled at → IsInsideInstruction e' tabled at
+inside_of : (e e' : Elf) → Alike e e' → (tabled : List (ℕ × ℕ)) (at : ℕ) → IsInsideInstruction e tabled at →
+    IsInsideInstruction e' tabled at
 inside_of e e' a tabled at i = record {
   start = i.start;
   end = i.end;
@@ -91,13 +104,17 @@ inside_of e e' a tabled at i = record {
   no_code = λ is. i.no_code (code_address_of e' e (back e e' a) tabled at is);
 }
 
-bad_target_of : (e e' : Elf) → Alike e e' → (tabled : List (ℕ × ℕ)) (place : ℕ) → IsBadTarget e tabled place → IsBadTarget e' tabled place
+bad_target_of : (e e' : Elf) → Alike e e' → (tabled : List (ℕ × ℕ)) (place : ℕ) → IsBadTarget e tabled place →
+    IsBadTarget e' tabled place
 bad_target_of e e' a tabled place (IsBadTarget.direct from inst bytes is to goes out) =
-    IsBadTarget.direct (code_address_of e e' a tabled place from) inst bytes (inst_of e e' a place inst bytes is) to goes (λ code. out (code_address_of e' e (back e e' a) tabled to code))
+    IsBadTarget.direct (code_address_of e e' a tabled place from) inst bytes (inst_of e e' a place inst bytes is) to goes
+    (λ code. out (code_address_of e' e (back e e' a) tabled to code))
 bad_target_of e e' a tabled place (IsBadTarget.pair from to has inside) =
-    IsBadTarget.pair (code_address_of e e' a tabled place from) to (role_of e e' a place (CallHi to) has) (inside_of e e' a tabled to inside)
+    IsBadTarget.pair (code_address_of e e' a tabled place from) to (role_of e e' a place (CallHi to) has)
+    (inside_of e e' a tabled to inside)
 
-reference_fault_of : (e e' : Elf) → Alike e e' → (tabled : List (ℕ × ℕ)) (k : FaultKind) (place : ℕ) → HasReferenceFault e tabled k place → HasReferenceFault e' tabled k place
+reference_fault_of : (e e' : Elf) → Alike e e' → (tabled : List (ℕ × ℕ)) (k : FaultKind) (place : ℕ) →
+    HasReferenceFault e tabled k place → HasReferenceFault e' tabled k place
 reference_fault_of e e' a tabled kind.RelocType place f = type_of e e' a place f
 reference_fault_of e e' a tabled kind.RelocMismatch place f = mismatch_of e e' a tabled place f
 reference_fault_of e e' a tabled kind.LoMismatch place f = lo_mismatch_of e e' a place f
@@ -106,13 +123,15 @@ reference_fault_of e e' a tabled kind.IfuncOrPlt place f = ifunc_of e e' a place
 reference_fault_of e e' a tabled kind.AlreadyMoved place f = moved_of e e' a place f
 reference_fault_of e e' a tabled _ place f = absurd f
 
-function_fault_of : (e e' : Elf) → Alike e e' → (tabled : List (ℕ × ℕ)) (k : FaultKind) (place : ℕ) → HasFunctionFault e tabled k place → HasFunctionFault e' tabled k place
+function_fault_of : (e e' : Elf) → Alike e e' → (tabled : List (ℕ × ℕ)) (k : FaultKind) (place : ℕ) →
+    HasFunctionFault e tabled k place → HasFunctionFault e' tabled k place
 function_fault_of e e' a tabled kind.BadEntry place f = bad_entry_of e e' a tabled place f
 function_fault_of e e' a tabled kind.BadInstruction place f = bad_instruction_of e e' a tabled place f
 function_fault_of e e' a tabled kind.BareAuipc place f = bare_auipc_of e e' a tabled place f
 function_fault_of e e' a tabled kind.BadTarget place f = bad_target_of e e' a tabled place f
 function_fault_of e e' a tabled _ place f = absurd f
 
-pub code_fault_of : (e e' : Elf) → Alike e e' → (tabled : List (ℕ × ℕ)) (k : FaultKind) (place : ℕ) → HasCodeFault e tabled k place → HasCodeFault e' tabled k place
+pub code_fault_of : (e e' : Elf) → Alike e e' → (tabled : List (ℕ × ℕ)) (k : FaultKind) (place : ℕ) →
+    HasCodeFault e tabled k place → HasCodeFault e' tabled k place
 code_fault_of e e' a tabled k place (inl f) = inl (reference_fault_of e e' a tabled k place f)
 code_fault_of e e' a tabled k place (inr f) = inr (function_fault_of e e' a tabled k place f)

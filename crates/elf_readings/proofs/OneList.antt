@@ -3,7 +3,8 @@ use Rattle.std.proofs.Common.{◌≡◌, ◌∙◌, sym, ap, subst, refl, ℕ, z
 use Rattle.std.specs.Prelude.{Contains, AllPairs}
 use Rattle.elf_image.proofs.LoadLemmas.{Contains-cons_cases, Contains-there}
 
-module _ {X Z : Type 0} (key : X → ℕ) (image : X → Z) (Same : X → X → Type 0) (same_key : (x y : X) → Same x y → key x ≡ key y) (same_image : (x y : X) → Same x y → image x ≡ image y) where
+module _ {X Z : Type 0} (key : X → ℕ) (image : X → Z) (Same : X → X → Type 0) (same_key : (x y : X) → Same x y → key x ≡ key y)
+    (same_image : (x y : X) → Same x y → image x ≡ image y) where
   abbrev Ascends : List X → Type 0
   Ascends xs = AllPairs (λ x y. key x < key y) xs
 
@@ -13,7 +14,8 @@ module _ {X Z : Type 0} (key : X → ℕ) (image : X → Z) (Same : X → X → 
   head_below : (x : X) (xs : List X) → Ascends (x ∷ xs) → (y : X) → Contains xs y → key x < key y
   head_below x xs up y (k, within, is) = subst (λ z. key x < key z) is (up zero (suc k) y (omega arith) (omega (arith, within)))
 
-  heads_same : (x y : X) (xs ys : List X) → Ascends (x ∷ xs) → Ascends (y ∷ ys) → (y' : X) → Contains (y ∷ ys) y' → Same x y' → (x' : X) → Contains (x ∷ xs) x' → Same x' y → Same x y
+  heads_same : (x y : X) (xs ys : List X) → Ascends (x ∷ xs) → Ascends (y ∷ ys) → (y' : X) → Contains (y ∷ ys) y' → Same x y' →
+      (x' : X) → Contains (x ∷ xs) x' → Same x' y → Same x y
   heads_same x y xs ys up up' y' y_in to x' x_in from = by (Contains-cons_cases y ys y' y_in) (Contains-cons_cases x xs x' x_in)
     where
       by : (y ≡ y') ⊎ Contains ys y' → (x ≡ x') ⊎ Contains xs x' → Same x y
@@ -26,11 +28,15 @@ module _ {X Z : Type 0} (key : X → ℕ) (image : X → Z) (Same : X → X → 
           let other = same_key x' y from in
           absurd (omega arith)
 
-  pub one_list : (xs ys : List X) → Ascends xs → Ascends ys → ((x : X) → Contains xs x → (y : X) × Contains ys y × Same x y) → ((y : X) → Contains ys y → (x : X) × Contains xs x × Same x y) →
-      map image xs ≡ map image ys
+  pub one_list : (xs ys : List X) → Ascends xs → Ascends ys → ((x : X) → Contains xs x → (y : X) × Contains ys y × Same x y) →
+      ((y : X) → Contains ys y → (x : X) × Contains xs x × Same x y) → map image xs ≡ map image ys
   one_list [] [] up up' to from = refl
-  one_list [] (y ∷ ys) up up' to from = let (x, (k, within, is), same) = from y (zero, omega arith, refl) in absurd (omega (arith, within))
-  one_list (x ∷ xs) [] up up' to from = let (y, (k, within, is), same) = to x (zero, omega arith, refl) in absurd (omega (arith, within))
+  one_list [] (y ∷ ys) up up' to from =
+      let (x, (k, within, is), same) = from y (zero, omega arith, refl) in
+      absurd (omega (arith, within))
+  one_list (x ∷ xs) [] up up' to from =
+      let (y, (k, within, is), same) = to x (zero, omega arith, refl) in
+      absurd (omega (arith, within))
   one_list (x ∷ xs) (y ∷ ys) up up' to from =
       let (y', y_in, first) = to x (zero, omega arith, refl) in
       let (x', x_in, second) = from y (zero, omega arith, refl) in

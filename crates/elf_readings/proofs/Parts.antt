@@ -4,7 +4,8 @@ use Rattle.rv_code.specs.declared.inst.Inst.{Inst}
 use Rattle.elf_image.specs.declared.elf.Elf.{Elf}
 use Rattle.elf_image.specs.declared.elf.Section.{Section}
 use Rattle.elf_image.specs.declared.elf.Symbol.{Symbol}
-use Rattle.elf_image.specs.code.Cuts.{names_function, holds_code, IsBound}
+use Rattle.elf_image.specs.code.Cuts.{names_function, IsBound}
+use Rattle.elf_image.specs.file.Sections.{holds_code}
 use Rattle.elf_image.specs.code.Parts.{IsCut, IsInCode, IsPart, IsCovered, IsZeroPart, IsCodePart, length_at, length_in, halfword_at, halfword_in, IsInstAt, IsInstIn, StartsIn, at_start, after, IsStartIn, IsStart, HasInst, HasValidInst, IsWholePart}
 use Rattle.elf_image.specs.memory.LoadedBytes.{byte_at}
 use Rattle.elf_readings.proofs.Alike.{bare, bare_symbol, Alike, back, any_alike, memory}
@@ -13,17 +14,20 @@ abbrev bound_of_symbol : ℕ → Symbol → Type 0
 bound_of_symbol a s = IsTrue (names_function s) × IsBound s.value s.size a
 
 abbrev bound_of_section : ℕ → Section → Type 0
-bound_of_section a s = IsTrue (holds_code s) × IsBound s.addr s.size a
+bound_of_section a s = IsTrue (holds_code s.flags) × IsBound s.addr s.size a
 
 pub cut_of : (e e' : Elf) → Alike e e' → (a : ℕ) → IsCut e a → IsCut e' a
-cut_of e e' alike a (inl is) = inl (any_alike bare_symbol (bound_of_symbol a) (λ x y same p. subst (bound_of_symbol a) same p) e.symbols.items e'.symbols.items alike.symbols is)
-cut_of e e' alike a (inr is) = inr (any_alike bare (bound_of_section a) (λ x y same p. subst (bound_of_section a) same p) e.sections.items e'.sections.items alike.sections is)
+cut_of e e' alike a (inl is) = inl (any_alike bare_symbol (bound_of_symbol a)
+    (λ x y same p. subst (bound_of_symbol a) same p) e.symbols.items e'.symbols.items alike.symbols is)
+cut_of e e' alike a (inr is) = inr (any_alike bare (bound_of_section a)
+    (λ x y same p. subst (bound_of_section a) same p) e.sections.items e'.sections.items alike.sections is)
 
 abbrev has_code : ℕ → Section → Type 0
-has_code a s = IsTrue (holds_code s) × (s.addr ≤ a) × (a < s.addr + s.size)
+has_code a s = IsTrue (holds_code s.flags) × (s.addr ≤ a) × (a < s.addr + s.size)
 
 pub in_code_of : (e e' : Elf) → Alike e e' → (a : ℕ) → IsInCode e a → IsInCode e' a
-in_code_of e e' alike a is = any_alike bare (has_code a) (λ x y same p. subst (has_code a) same p) e.sections.items e'.sections.items alike.sections is
+in_code_of e e' alike a is =
+    any_alike bare (has_code a) (λ x y same p. subst (has_code a) same p) e.sections.items e'.sections.items alike.sections is
 
 pub part_of : (e e' : Elf) → Alike e e' → (start end : ℕ) → IsPart e start end → IsPart e' start end
 part_of e e' alike start end p = record {
@@ -39,7 +43,8 @@ covers start end s = IsTrue (names_function s) × (s.value ≤ start) × (end �
 
 pub covered_of : (e e' : Elf) → Alike e e' → (start end : ℕ) → IsCovered e start end → IsCovered e' start end
 covered_of e e' alike start end is =
-    any_alike bare_symbol (covers start end) (λ x y same p. subst (covers start end) same p) e.symbols.items e'.symbols.items alike.symbols is
+    any_alike bare_symbol (covers start end)
+    (λ x y same p. subst (covers start end) same p) e.symbols.items e'.symbols.items alike.symbols is
 
 pub byte_of : (e e' : Elf) → Alike e e' → (a : ℕ) → byte_at e a ≡ byte_at e' a
 byte_of e e' alike a = ap (λ (m : ℕ → _). m a) (memory e e' alike)
@@ -82,21 +87,24 @@ start_in_of e e' alike start end a s = record {
 pub start_of : (e e' : Elf) → Alike e e' → (a : ℕ) → IsStart e a → IsStart e' a
 start_of e e' alike a s = record { start = s.start; end = s.end; is_start = start_in_of e e' alike s.start s.end a s.is_start }
 
-pub has_inst_of : (e e' : Elf) → Alike e e' → (start end a : ℕ) (i : Inst) (n : ℕ) → HasInst e start end a i n → HasInst e' start end a i n
+pub has_inst_of : (e e' : Elf) → Alike e e' → (start end a : ℕ) (i : Inst) (n : ℕ) → HasInst e start end a i n →
+    HasInst e' start end a i n
 has_inst_of e e' alike start end a i n h = record {
   starts = start_in_of e e' alike start end a h.starts;
   is_inst = inst_of e e' alike a i n h.is_inst;
   inside = h.inside;
 }
 
-pub valid_of : (e e' : Elf) → Alike e e' → (start end a : ℕ) (i : Inst) (n : ℕ) → HasValidInst e start end a i n → HasValidInst e' start end a i n
+pub valid_of : (e e' : Elf) → Alike e e' → (start end a : ℕ) (i : Inst) (n : ℕ) → HasValidInst e start end a i n →
+    HasValidInst e' start end a i n
 valid_of e e' alike start end a i n v = record {
   has = has_inst_of e e' alike start end a i n v.has;
   even = v.even;
   allowed = λ half none. v.allowed half (alike.flags ∙ none);
 }
 
-pub whole_of : (e e' : Elf) → Alike e e' → (tabled : List (ℕ × ℕ)) (start end : ℕ) → IsWholePart e tabled start end → IsWholePart e' tabled start end
+pub whole_of : (e e' : Elf) → Alike e e' → (tabled : List (ℕ × ℕ)) (start end : ℕ) → IsWholePart e tabled start end →
+    IsWholePart e' tabled start end
 whole_of e e' alike tabled start end w = record {
   place = w.place;
   starts = start_in_of e e' alike start end w.place w.starts;

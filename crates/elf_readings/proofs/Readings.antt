@@ -26,7 +26,8 @@ use Rattle.elf_readings.proofs.OneList.{one_list}
 use Rattle.elf_readings.proofs.Faults.{code_fault_of}
 
 -- lists of one length whose elements agree
-map_alike : {X Y : Type 0} (f : X → Y) (xs ys : List X) → length xs ≡ length ys → ((i : ℕ) (x y : X) → slice_get xs i ≡ Some x → slice_get ys i ≡ Some y → f x ≡ f y) → map f xs ≡ map f ys
+map_alike : {X Y : Type 0} (f : X → Y) (xs ys : List X) → length xs ≡ length ys →
+    ((i : ℕ) (x y : X) → slice_get xs i ≡ Some x → slice_get ys i ≡ Some y → f x ≡ f y) → map f xs ≡ map f ys
 map_alike f [] [] size same = refl
 map_alike f [] (y ∷ ys) size same = absurd (omega (arith, size))
 map_alike f (x ∷ xs) [] size same = absurd (omega (arith, size))
@@ -48,7 +49,8 @@ same_section file i s t a b = λ j. record {
   entsize = (a.entsize ∙ sym b.entsize) j;
 }
 
-same_symbol : (file : List ℕ) (table : SectionHeader) (place : ℕ) (s t : Symbol) → IsSymbolAt file table place s → IsSymbolAt file table place t → bare_symbol s ≡ bare_symbol t
+same_symbol : (file : List ℕ) (table : SectionHeader) (place : ℕ) (s t : Symbol) → IsSymbolAt file table place s →
+    IsSymbolAt file table place t → bare_symbol s ≡ bare_symbol t
 same_symbol file table place s t a b = λ j. record {
   name = record { now = (a.name ∙ sym b.name) j; ref_ptr = (0, 0) };
   value = (a.value ∙ sym b.value) j;
@@ -58,10 +60,12 @@ same_symbol file table place s t a b = λ j. record {
   section = (a.shndx ∙ sym b.shndx) j;
 }
 
-same_symbols : (file : List ℕ) (table : Option SectionHeader) (xs ys : List Symbol) → AreSymbolsOf file table xs → AreSymbolsOf file table ys → map bare_symbol xs ≡ map bare_symbol ys
+same_symbols : (file : List ℕ) (table : Option SectionHeader) (xs ys : List Symbol) → AreSymbolsOf file table xs →
+    AreSymbolsOf file table ys → map bare_symbol xs ≡ map bare_symbol ys
 same_symbols file None xs ys a b = ap (map bare_symbol) (a ∙ sym b)
 same_symbols file (Some table) xs ys a b =
-    map_alike bare_symbol xs ys (a.count_is ∙ sym b.count_is) (λ i s t at at'. same_symbol file table _ s t (a.each i s at) (b.each i t at'))
+    map_alike bare_symbol xs ys (a.count_is ∙ sym b.count_is)
+    (λ i s t at at'. same_symbol file table _ s t (a.each i s at) (b.each i t at'))
 
 pub readings_alike : (file : List ℕ) (e e' : Elf) → IsElfOf file e → IsElfOf file e' → Alike e e'
 readings_alike file e e' a b = record {
@@ -102,7 +106,8 @@ module _ (e e' : Elf) (alike : Alike e e') where
   free_by : (tabled : List (ℕ × ℕ)) → IsFree (HasCodeFault e tabled) → IsFree (HasCodeFault e' tabled)
   free_by tabled free = λ kind place has. free kind place (code_fault_of e' e (back e e' alike) tabled kind place has)
 
-  answered_by : (tabled : List (ℕ × ℕ)) (fault : Fault) → IsAnswered (HasCodeFault e tabled) fault → IsAnswered (HasCodeFault e' tabled) fault
+  answered_by : (tabled : List (ℕ × ℕ)) (fault : Fault) → IsAnswered (HasCodeFault e tabled) fault →
+      IsAnswered (HasCodeFault e' tabled) fault
   answered_by tabled fault is = record {
     present = code_fault_of e e' alike tabled fault.kind fault.place is.present;
     first = λ kind below place has. is.first kind below place (code_fault_of e' e (back e e' alike) tabled kind place has);
@@ -110,7 +115,8 @@ module _ (e e' : Elf) (alike : Alike e e') where
     alone = is.alone;
   }
 
-pub same_code : (file : List ℕ) (e e' : Elf) → IsElfOf file e → IsElfOf file e' → (tabled : List (ℕ × ℕ)) → HaveSameCode e e' tabled
+pub same_code : (file : List ℕ) (e e' : Elf) → IsElfOf file e → IsElfOf file e' → (tabled : List (ℕ × ℕ)) →
+    HaveSameCode e e' tabled
 same_code file e e' reads reads' tabled =
     let to : Alike e e' = readings_alike file e e' reads reads' in
     let from : Alike e' e = back e e' to in
@@ -142,7 +148,8 @@ module _ (e e' : Elf) (alike : Alike e e') where
   one_roles : (xs ys : List (ℕ × Role)) → AreRoles e xs → AreRoles e' ys → xs ≡ ys
   one_roles xs ys are are' =
       sym (map-id xs)
-      ∙ one_list (λ r. r.0) (λ r. r) (λ r s. r ≡ s) (λ r s same. ap (λ (t : ℕ × Role). t.0) same) (λ r s same. same) xs ys are.ordered are'.ordered
+      ∙ one_list (λ r. r.0) (λ r. r) (λ r s. r ≡ s) (λ r s same. ap (λ (t : ℕ × Role). t.0) same)
+      (λ r s same. same) xs ys are.ordered are'.ordered
       (λ r is_in. (r, are'.each r (role_of e e' alike r.0 r.1 (are.only r is_in)), refl))
       (λ r is_in. (r, are.each r (role_of e' e backward r.0 r.1 (are'.only r is_in)), refl))
       ∙ map-id ys
@@ -150,23 +157,30 @@ module _ (e e' : Elf) (alike : Alike e e') where
   one_cells : (tabled : List (ℕ × ℕ)) (xs ys : List CodeCell) → AreCells e tabled xs → AreCells e' tabled ys → xs ≡ ys
   one_cells tabled xs ys are are' =
       sym (map-id xs)
-      ∙ one_list (λ c. c.addr) (λ c. c) (λ c d. c ≡ d) (λ c d same. ap (λ (t : CodeCell). t.addr) same) (λ c d same. same) xs ys are.ordered are'.ordered
+      ∙ one_list (λ c. c.addr) (λ c. c) (λ c d. c ≡ d) (λ c d same. ap (λ (t : CodeCell). t.addr) same)
+      (λ c d same. same) xs ys are.ordered are'.ordered
       (λ c is_in. (c, are'.each c (cell_of e e' alike tabled c (are.only c is_in)), refl))
       (λ c is_in. (c, are.each c (cell_of e' e backward tabled c (are'.only c is_in)), refl))
       ∙ map-id ys
 
-  one_functions : (tabled : List (ℕ × ℕ)) (xs ys : List Func) → AreFunctions e tabled xs → AreFunctions e' tabled ys → map bounds xs ≡ map bounds ys
+  one_functions : (tabled : List (ℕ × ℕ)) (xs ys : List Func) → AreFunctions e tabled xs → AreFunctions e' tabled ys →
+      map bounds xs ≡ map bounds ys
   one_functions tabled xs ys are are' =
-      one_list (λ f. f.start) bounds (λ f g. bounds f ≡ bounds g) (λ f g same. ap (λ (t : ℕ × ℕ). t.0) same) (λ f g same. same) xs ys are.ordered are'.ordered
+      one_list (λ f. f.start) bounds (λ f g. bounds f ≡ bounds g) (λ f g same. ap (λ (t : ℕ × ℕ). t.0) same)
+      (λ f g same. same) xs ys are.ordered are'.ordered
       (λ f is_in.
-      let (g, g_in, start, end) = are'.each f.start f.end (function_part_of e e' alike tabled f.start f.end (are.only f is_in).part) in
+      let (g, g_in, start, end) =
+      are'.each f.start f.end (function_part_of e e' alike tabled f.start f.end (are.only f is_in).part) in
       (g, g_in, λ i. (sym start i, sym end i)))
       (λ g is_in.
-      let (f, f_in, start, end) = are.each g.start g.end (function_part_of e' e backward tabled g.start g.end (are'.only g is_in).part) in
+      let (f, f_in, start, end) =
+      are.each g.start g.end (function_part_of e' e backward tabled g.start g.end (are'.only g is_in).part) in
       (f, f_in, λ i. (start i, end i)))
 
-  one_count : (tabled : List (ℕ × ℕ)) (xs ys : List Func) → AreFunctions e tabled xs → AreFunctions e' tabled ys → length xs ≡ length ys
-  one_count tabled xs ys are are' = sym (length-map xs bounds) ∙ ap length (one_functions tabled xs ys are are') ∙ length-map ys bounds
+  one_count : (tabled : List (ℕ × ℕ)) (xs ys : List Func) → AreFunctions e tabled xs →
+      AreFunctions e' tabled ys → length xs ≡ length ys
+  one_count tabled xs ys are are' =
+      sym (length-map xs bounds) ∙ ap length (one_functions tabled xs ys are are') ∙ length-map ys bounds
 
 pub reading_law : ReadingLaw
 reading_law file e e' reads reads' tabled =

@@ -19,10 +19,12 @@ with_section r s = record r { section = s }
 abbrev pub bare_relocation : Relocation → Relocation
 bare_relocation r = with_section r (bare r.section)
 
-bare_entries : (file : List ℕ) (s : Section) (offset n : ℕ) → map bare_relocation (entries_from file s offset n) ≡ entries_from file (bare s) offset n
+bare_entries : (file : List ℕ) (s : Section) (offset n : ℕ) →
+    map bare_relocation (entries_from file s offset n) ≡ entries_from file (bare s) offset n
 unfolding entries_from
 bare_entries file s offset zero = refl
-bare_entries file s offset (suc n) = ap (λ rest. relocation_at file (bare s) offset ∷ rest) (bare_entries file s (offset + RELA_SIZE) n)
+bare_entries file s offset (suc n) =
+    ap (λ rest. relocation_at file (bare s) offset ∷ rest) (bare_entries file s (offset + RELA_SIZE) n)
 
 -- the entries for a section, by the bytes of the file
 abbrev for_section : List ℕ → Section → Section → List Relocation
@@ -32,26 +34,33 @@ for_section file table s =
 bare_for : (file : List ℕ) (table s : Section) → map bare_relocation (for_section file table s) ≡ for_section file table (bare s)
 bare_for file table s = by (is_loaded s && not (is_named s (codes ".eh_frame")))
   where
-    by : (t : Bool) → map bare_relocation (if t then entries_from file s table.offset (table.size / RELA_SIZE) else []) ≡ (if t then entries_from file (bare s) table.offset (table.size / RELA_SIZE) else [])
+    by : (t : Bool) → map bare_relocation (if t then entries_from file s table.offset (table.size / RELA_SIZE) else [])
+        ≡ (if t then entries_from file (bare s) table.offset (table.size / RELA_SIZE) else [])
     by true = bare_entries file s table.offset (table.size / RELA_SIZE)
     by false = refl
 
 -- the entries of a table, by what it says
 abbrev of_table : List ℕ → List Section → Section → List Relocation
-of_table file sections table = if table.kind == SHT_RELA then option_map_or (for_section file table) (slice_get sections table.info) [] else []
+of_table file sections table =
+    if table.kind == SHT_RELA then option_map_or (for_section file table) (slice_get sections table.info) [] else []
 
-bare_table : (file : List ℕ) (sections : List Section) (table : Section) → map bare_relocation (of_table file sections table) ≡ of_table file (map bare sections) table
+bare_table : (file : List ℕ) (sections : List Section) (table : Section) →
+    map bare_relocation (of_table file sections table) ≡ of_table file (map bare sections) table
 bare_table file sections table = by (table.kind == SHT_RELA)
   where
-    some : (o : Option Section) → map bare_relocation (option_map_or (for_section file table) o []) ≡ option_map_or (for_section file table) (option_map bare o) []
+    some : (o : Option Section) → map bare_relocation (option_map_or (for_section file table) o [])
+        ≡ option_map_or (for_section file table) (option_map bare o) []
     some None = refl
     some (Some s) = bare_for file table s
 
-    by : (t : Bool) → map bare_relocation (if t then option_map_or (for_section file table) (slice_get sections table.info) [] else []) ≡ (if t then option_map_or (for_section file table) (slice_get (map bare sections) table.info) [] else [])
-    by true = some (slice_get sections table.info) ∙ ap (λ o. option_map_or (for_section file table) o []) (sym (slice_get-map bare sections table.info))
+    by : (t : Bool) → map bare_relocation (if t then option_map_or (for_section file table) (slice_get sections table.info) []
+        else []) ≡ (if t then option_map_or (for_section file table) (slice_get (map bare sections) table.info) [] else [])
+    by true = some (slice_get sections table.info)
+        ∙ ap (λ o. option_map_or (for_section file table) o []) (sym (slice_get-map bare sections table.info))
     by false = refl
 
-bare_flat : (file : List ℕ) (sections tables : List Section) → map bare_relocation (flat_map (of_table file sections) tables) ≡ flat_map (of_table file (map bare sections)) (map bare tables)
+bare_flat : (file : List ℕ) (sections tables : List Section) → map bare_relocation (flat_map (of_table file sections) tables)
+    ≡ flat_map (of_table file (map bare sections)) (map bare tables)
 bare_flat file sections [] = refl
 bare_flat file sections (t ∷ ts) =
     map-append bare_relocation (of_table file sections t) (flat_map (of_table file sections) ts)
@@ -78,7 +87,8 @@ flip e e' r s t = record { same = sym t.same; here = t.there; there = t.here }
 
 pub twin : (e e' : Elf) → Alike e e' → (r : Relocation) → Contains (relocations e) r → (s : Section) × Twin e e' r s
 twin e e' a r counts =
-    let (q, q_counts, same) = contains_alike bare_relocation (relocations e) (relocations e') (relocations_alike e e' a) r counts in
+    let (q, q_counts, same) =
+    contains_alike bare_relocation (relocations e) (relocations e') (relocations_alike e e' a) r counts in
     let is : with_section r q.section ≡ q = ap (λ (x : Relocation). with_section x q.section) same in (
       q.section,
       record {
@@ -92,15 +102,18 @@ twin e e' a r counts =
 abbrev counted : {X : Type 0} → (X → Bool) → ℕ → X → ℕ
 counted test n x = n + cond (test x) 1 0
 
-fold_map : {X : Type 0} (test : X → Bool) (f : X → X) → ((x : X) → test (f x) ≡ test x) → (n : ℕ) (xs : List X) → fold (counted test) n (map f xs) ≡ fold (counted test) n xs
+fold_map : {X : Type 0} (test : X → Bool) (f : X → X) → ((x : X) → test (f x) ≡ test x) → (n : ℕ) (xs : List X) →
+    fold (counted test) n (map f xs) ≡ fold (counted test) n xs
 fold_map test f same n [] = refl
 fold_map test f same n (x ∷ xs) =
     ap (λ (b : Bool). fold (counted test) (n + cond b 1 0) (map f xs)) (same x) ∙ fold_map test f same (n + cond (test x) 1 0) xs
 
-count_map : {X : Type 0} (test : X → Bool) (f : X → X) → ((x : X) → test (f x) ≡ test x) → (xs : List X) → count_by test (map f xs) ≡ count_by test xs
+count_map : {X : Type 0} (test : X → Bool) (f : X → X) → ((x : X) → test (f x) ≡ test x) → (xs : List X) →
+    count_by test (map f xs) ≡ count_by test xs
 count_map test f same xs = fold_map test f same 0 xs
 
-pub count_alike : (e e' : Elf) → Alike e e' → (test : Relocation → Bool) → ((r : Relocation) → test (bare_relocation r) ≡ test r) → count_by test (relocations e) ≡ count_by test (relocations e')
+pub count_alike : (e e' : Elf) → Alike e e' → (test : Relocation → Bool) →
+    ((r : Relocation) → test (bare_relocation r) ≡ test r) → count_by test (relocations e) ≡ count_by test (relocations e')
 count_alike e e' a test same =
     sym (count_map test bare_relocation same (relocations e))
     ∙ ap (count_by test) (relocations_alike e e' a)
@@ -108,11 +121,15 @@ count_alike e e' a test same =
 
 -- the symbol's value
 pub symbol_alike : (e e' : Elf) → Alike e e' → (r : Relocation) → symbol_value e r ≡ symbol_value e' r
-symbol_alike e e' a r = ap (λ (n : ℕ). if r.symbol == 0 then 0 else n) (value e.symbols.items ∙ ap (λ o. option_map_or (λ (s : Symbol). s.value) (slice_get o r.symbol) 0) a.symbols ∙ sym (value e'.symbols.items))
+symbol_alike e e' a r = ap (λ (n : ℕ). if r.symbol == 0 then 0 else n) (value e.symbols.items
+    ∙ ap (λ o. option_map_or (λ (s : Symbol). s.value) (slice_get o r.symbol) 0) a.symbols ∙ sym (value e'.symbols.items))
   where
-    bare_value : (o : Option Symbol) → option_map_or (λ s. s.value) o 0 ≡ option_map_or (λ s. s.value) (option_map bare_symbol o) 0
+    bare_value : (o : Option Symbol) →
+        option_map_or (λ s. s.value) o 0 ≡ option_map_or (λ s. s.value) (option_map bare_symbol o) 0
     bare_value None = refl
     bare_value (Some s) = refl
 
-    value : (symbols : List Symbol) → option_map_or (λ s. s.value) (slice_get symbols r.symbol) 0 ≡ option_map_or (λ s. s.value) (slice_get (map bare_symbol symbols) r.symbol) 0
-    value symbols = bare_value (slice_get symbols r.symbol) ∙ ap (λ o. option_map_or (λ (s : Symbol). s.value) o 0) (sym (slice_get-map bare_symbol symbols r.symbol))
+    value : (symbols : List Symbol) → option_map_or (λ s. s.value) (slice_get symbols r.symbol) 0
+        ≡ option_map_or (λ s. s.value) (slice_get (map bare_symbol symbols) r.symbol) 0
+    value symbols = bare_value (slice_get symbols r.symbol)
+        ∙ ap (λ o. option_map_or (λ (s : Symbol). s.value) o 0) (sym (slice_get-map bare_symbol symbols r.symbol))

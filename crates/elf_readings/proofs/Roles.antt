@@ -26,43 +26,55 @@ leb_alike : (e e' : Elf) → Alike e e' → (at n : ℕ) → leb_at e at n ≡ l
 unfolding leb_at
 leb_alike e e' a at zero = refl
 leb_alike e e' a at (suc n) =
-    ap (λ (b : Option ℕ). leb_from b (leb_at e (at + 1) n)) (byte_of e e' a at) ∙ ap (λ (rest : Option (List ℕ)). leb_from (byte_at e' at) rest) (leb_alike e e' a (at + 1) n)
+    ap (λ (b : Option ℕ). leb_from b (leb_at e (at + 1) n)) (byte_of e e' a at)
+    ∙ ap (λ (rest : Option (List ℕ)). leb_from (byte_at e' at) rest) (leb_alike e e' a (at + 1) n)
 
-leb_field_alike : (e e' : Elf) → Alike e e' → (r : Relocation) (s : Section) → Twin e e' r s → leb_field e r ≡ leb_field e' (with_section r s)
+leb_field_alike : (e e' : Elf) → Alike e e' → (r : Relocation) (s : Section) → Twin e e' r s →
+    leb_field e r ≡ leb_field e' (with_section r s)
 leb_field_alike e e' a r s t =
-    leb_alike e e' a r.place (r.section.addr + r.section.size - r.place) ∙ ap (λ (q : Section). leb_at e' r.place (q.addr + q.size - r.place)) t.same
+    leb_alike e e' a r.place (r.section.addr + r.section.size - r.place)
+    ∙ ap (λ (q : Section). leb_at e' r.place (q.addr + q.size - r.place)) t.same
 
-width_alike : (e e' : Elf) → Alike e e' → (r : Relocation) (s : Section) → Twin e e' r s → (w : Width) → width_size e r w ≡ width_size e' (with_section r s) w
+width_alike : (e e' : Elf) → Alike e e' → (r : Relocation) (s : Section) → Twin e e' r s → (w : Width) →
+    width_size e r w ≡ width_size e' (with_section r s) w
 width_alike e e' a r s t (Bits n) = refl
 width_alike e e' a r s t Uleb128 = ap (option_map length) (leb_field_alike e e' a r s t)
 
-by_alike : (e e' : Elf) → Alike e e' → (r : Relocation) (s : Section) → Twin e e' r s → (plus minus : Option Width) → size_by e r plus minus ≡ size_by e' (with_section r s) plus minus
+by_alike : (e e' : Elf) → Alike e e' → (r : Relocation) (s : Section) → Twin e e' r s → (plus minus : Option Width) →
+    size_by e r plus minus ≡ size_by e' (with_section r s) plus minus
 by_alike e e' a r s t (Some w) minus = width_alike e e' a r s t w
 by_alike e e' a r s t None (Some w) = width_alike e e' a r s t w
 by_alike e e' a r s t None None = refl
 
-size_alike : (e e' : Elf) → Alike e e' → (r : Relocation) (s : Section) → Twin e e' r s → field_size e r ≡ field_size e' (with_section r s)
+size_alike : (e e' : Elf) → Alike e e' → (r : Relocation) (s : Section) → Twin e e' r s →
+    field_size e r ≡ field_size e' (with_section r s)
 size_alike e e' a r s t = by_alike e e' a r s t (plus_width r.kind) (minus_width r.kind)
 
 abbrev lies_in : Relocation → Option ℕ → Section → Type 0
 lies_in r o q = IsSomeAnd o (λ size. (q.addr ≤ r.place) × (r.place + size ≤ q.addr + q.size))
 
-pub field_of : (e e' : Elf) → Alike e e' → (r : Relocation) (s : Section) → Twin e e' r s → HasField e r → HasField e' (with_section r s)
+pub field_of : (e e' : Elf) → Alike e e' → (r : Relocation) (s : Section) → Twin e e' r s → HasField e r →
+    HasField e' (with_section r s)
 field_of e e' a r s t (inl ignored) = inl ignored
 field_of e e' a r s t (inr lies) =
-    inr (subst (λ (q : Section). lies_in r (field_size e' (with_section r s)) q) t.same (subst (λ (o : Option ℕ). lies_in r o r.section) (size_alike e e' a r s t) lies))
+    inr (subst (λ (q : Section). lies_in r (field_size e' (with_section r s)) q) t.same
+    (subst (λ (o : Option ℕ). lies_in r o r.section) (size_alike e e' a r s t) lies))
 
-pub holds_of : (e e' : Elf) → Alike e e' → (r : Relocation) (s : Section) → Twin e e' r s → (w : Width) (to from : ℤ) → HoldsDifference e r w to from → HoldsDifference e' (with_section r s) w to from
+pub holds_of : (e e' : Elf) → Alike e e' → (r : Relocation) (s : Section) → Twin e e' r s → (w : Width) (to from : ℤ) →
+    HoldsDifference e r w to from → HoldsDifference e' (with_section r s) w to from
 holds_of e e' a r s t (Bits n) to from is =
-    subst (λ (o : Option ℕ). IsSomeAnd o (λ x. int_rem_euclid (to -ℤ from) (pos (2 ^ n)) ≡ pos (x % 2 ^ n))) (number_alike e e' a r.place (bytes_of_bits n)) is
-holds_of e e' a r s t Uleb128 to from is = subst (λ (o : Option (List ℕ)). IsSomeAnd o (λ bs. HoldBits bs (to -ℤ from))) (leb_field_alike e e' a r s t) is
+    subst (λ (o : Option ℕ). IsSomeAnd o (λ x. int_rem_euclid (to -ℤ from) (pos (2 ^ n)) ≡ pos (x % 2 ^ n)))
+    (number_alike e e' a r.place (bytes_of_bits n)) is
+holds_of e e' a r s t Uleb128 to from is =
+    subst (λ (o : Option (List ℕ)). IsSomeAnd o (λ bs. HoldBits bs (to -ℤ from))) (leb_field_alike e e' a r s t) is
 
 -- Roles.
 
 pub full_of : (e e' : Elf) → Alike e e' → (at : ℕ) (i : Inst) → IsFullAt e at i → IsFullAt e' at i
 full_of e e' a at i f = record { start = f.start; end = f.end; has = has_inst_of e e' a f.start f.end at i 4 f.has }
 
-abbrev pub pair_of : (e e' : Elf) → Alike e e' → (r : Relocation) (s : Section) → Twin e e' r s → CallPair e r → CallPair e' (with_section r s)
+abbrev pub pair_of : (e e' : Elf) → Alike e e' → (r : Relocation) (s : Section) → Twin e e' r s → CallPair e r →
+    CallPair e' (with_section r s)
 pair_of e e' a r s t p = record {
   counts = t.there;
   is_call = p.is_call;
@@ -77,7 +89,8 @@ pair_of e e' a r s t p = record {
   jalr = has_inst_of e e' a p.start p.end (r.place + 4) _ 4 p.jalr;
 }
 
-pub call_of : (e e' : Elf) → Alike e e' → (r : Relocation) (s : Section) → Twin e e' r s → (target : ℤ) → CallTo e r target → CallTo e' (with_section r s) target
+pub call_of : (e e' : Elf) → Alike e e' → (r : Relocation) (s : Section) → Twin e e' r s → (target : ℤ) → CallTo e r target →
+    CallTo e' (with_section r s) target
 call_of e e' a r s t target c = record {
   pair = pair_of e e' a r s t c.pair;
   through = c.through;
@@ -85,7 +98,8 @@ call_of e e' a r s t target c = record {
   target_is = c.target_is;
 }
 
-pub low_of : (e e' : Elf) → Alike e e' → (r : Relocation) (s : Section) → Twin e e' r s → (at : ℕ) (imm : ℤ) → PcrelLo e r at imm → PcrelLo e' (with_section r s) at imm
+pub low_of : (e e' : Elf) → Alike e e' → (r : Relocation) (s : Section) → Twin e e' r s → (at : ℕ) (imm : ℤ) →
+    PcrelLo e r at imm → PcrelLo e' (with_section r s) at imm
 low_of e e' a r s t at imm l = record {
   counts = t.there;
   is_low = l.is_low;
@@ -95,7 +109,8 @@ low_of e e' a r s t at imm l = record {
   immediate = l.immediate;
 }
 
-pub hi_of : (e e' : Elf) → Alike e e' → (r : Relocation) (s : Section) → Twin e e' r s → (target : ℤ) → PcrelHiTo e r target → PcrelHiTo e' (with_section r s) target
+pub hi_of : (e e' : Elf) → Alike e e' → (r : Relocation) (s : Section) → Twin e e' r s → (target : ℤ) → PcrelHiTo e r target →
+    PcrelHiTo e' (with_section r s) target
 hi_of e e' a r s t target h =
     let (q, u) = twin e e' a h.low h.part.counts in
     record {
@@ -110,7 +125,8 @@ hi_of e e' a r s t target h =
       target_is = h.target_is;
     }
 
-pub low_to_of : (e e' : Elf) → Alike e e' → (r : Relocation) (s : Section) → Twin e e' r s → (at : ℕ) (target : ℤ) → PcrelLoTo e r at target → PcrelLoTo e' (with_section r s) at target
+pub low_to_of : (e e' : Elf) → Alike e e' → (r : Relocation) (s : Section) → Twin e e' r s → (at : ℕ) (target : ℤ) →
+    PcrelLoTo e r at target → PcrelLoTo e' (with_section r s) at target
 low_to_of e e' a r s t at target l = record {
   lower = l.lower;
   part = low_of e e' a r s t at l.lower l.part;
@@ -120,14 +136,16 @@ low_to_of e e' a r s t at target l = record {
   target_is = l.target_is;
 }
 
-pub absolute_of : (e e' : Elf) → Alike e e' → (r : Relocation) (s : Section) → Twin e e' r s → (target : ℕ) → AbsoluteTo e r target → AbsoluteTo e' (with_section r s) target
+pub absolute_of : (e e' : Elf) → Alike e e' → (r : Relocation) (s : Section) → Twin e e' r s → (target : ℕ) →
+    AbsoluteTo e r target → AbsoluteTo e' (with_section r s) target
 absolute_of e e' a r s t target h = record {
   counts = t.there;
   target_is = sym (label_alike e e' a r) ∙ h.target_is;
   is_code = start_of e e' a target h.is_code;
 }
 
-pub claims_of : (e e' : Elf) → Alike e e' → (r : Relocation) (s : Section) → Twin e e' r s → (at key : ℕ) (role : Role) → Claims e r at key role → Claims e' (with_section r s) at key role
+pub claims_of : (e e' : Elf) → Alike e e' → (r : Relocation) (s : Section) → Twin e e' r s → (at key : ℕ) (role : Role) →
+    Claims e r at key role → Claims e' (with_section r s) at key role
 claims_of e e' a r s t at key role (call_hi target c place k is) = call_hi target (call_of e e' a r s t _ c) place k is
 claims_of e e' a r s t at key role (call_lo target c place k is) = call_lo target (call_of e e' a r s t _ c) place k is
 claims_of e e' a r s t at key role (weak_call pair none place k is) = weak_call (pair_of e e' a r s t pair) none place k is
@@ -152,7 +170,8 @@ record Claimed (e : Elf) (r : Relocation) (at key : ℕ) (role : Role) : Type 0 
   section : Section
   claims : Claims e (with_section r section) at key role
 
-claimed : (e e' : Elf) → Alike e e' → (r : Relocation) (at key : ℕ) (role : Role) → Claims e' r at key role → Claimed e r at key role
+claimed : (e e' : Elf) → Alike e e' → (r : Relocation) (at key : ℕ) (role : Role) →
+    Claims e' r at key role → Claimed e r at key role
 claimed e e' a r at key role c =
     let (q, u) = twin e' e (back e e' a) r (claims_counts e' r at key role c) in
     record { section = q; claims = claims_of e' e (back e e' a) r q u at key role c }
@@ -164,11 +183,13 @@ role_of e e' a at role h =
       relocation = with_section h.relocation s;
       key = h.key;
       claims = claims_of e e' a h.relocation s t at h.key role h.claims;
-      first = λ r key' role' c. let other = claimed e e' a r at key' role' c in h.first (with_section r other.section) key' role' other.claims;
+      first = λ r key' role' c. let other = claimed e e' a r at key' role' c in
+          h.first (with_section r other.section) key' role' other.claims;
     }
 
 pub no_role_of : (e e' : Elf) → Alike e e' → (at : ℕ) → HasNoRole e at → HasNoRole e' at
-no_role_of e e' a at none = λ r key role c. let other = claimed e e' a r at key role c in none (with_section r other.section) key role other.claims
+no_role_of e e' a at none = λ r key role c. let other = claimed e e' a r at key role c in
+    none (with_section r other.section) key role other.claims
 
 pub role_is_of : (e e' : Elf) → Alike e e' → (at : ℕ) (role : Role) → RoleIs e at role → RoleIs e' at role
 role_is_of e e' a at role (inl has) = inl (role_of e e' a at role has)

@@ -17,7 +17,8 @@ use Rattle.elf_image.proofs.LoadLemmas.{find-found, find-only, loads-parts, load
 use Rattle.rv_memory.specs.Pages.{is_within}
 use Rattle.rv_memory.specs.Blank.{misses}
 
-pub all_may-run : (may : ℕ → Bool) (a n : ℕ) → a + n ≤ 2 ^ 64 → ((q : ℕ) → a ≤ q → q < a + n → may q ≡ true) → all_may may a n ≡ true
+pub all_may-run : (may : ℕ → Bool) (a n : ℕ) → a + n ≤ 2 ^ 64 →
+    ((q : ℕ) → a ≤ q → q < a + n → may q ≡ true) → all_may may a n ≡ true
 unfolding all_may
 all_may-run may a zero room each = refl
 all_may-run may a (suc zero) room each = rw (each a (omega arith) (omega arith)) refl
@@ -60,7 +61,8 @@ put_in memory a q (b ∷ c ∷ bytes) room from to =
     cases (q == a) refl
     (λ after. ap (λ p. put memory p (c ∷ bytes) q) next ∙ put_in memory (a + 1) q (c ∷ bytes) (omega arith) after (omega arith))
   where
-    cases : (t : Bool) → (q == a) ≡ t → (a + 1 ≤ q → put memory (plus a 1) (c ∷ bytes) q ≡ slice_index (c ∷ bytes) (q - (a + 1))) →
+    cases : (t : Bool) → (q == a) ≡ t →
+        (a + 1 ≤ q → put memory (plus a 1) (c ∷ bytes) q ≡ slice_index (c ∷ bytes) (q - (a + 1))) →
         (if t then b else put memory (plus a 1) (c ∷ bytes) q) ≡ slice_index (b ∷ c ∷ bytes) (q - a)
     cases true test rest =
         let same : q ≡ a = eqb-true q a test in
@@ -84,7 +86,8 @@ put_out memory a q (b ∷ c ∷ bytes) room out =
     let next : plus a 1 ≡ a + 1 = omega arith in
     let other : (q == a) ≡ false =
     false_from_ne_true (q == a) (λ e. let same = eqb-true q a e in elim out [ inl low ↦ omega arith | inr high ↦ omega arith ]) in
-    let past : (q < a + 1) ⊎ (a + 1 + length (c ∷ bytes) ≤ q) = elim out [ inl low ↦ inl (omega arith) | inr high ↦ inr (omega arith) ] in
+    let past : (q < a + 1) ⊎ (a + 1 + length (c ∷ bytes) ≤ q) =
+    elim out [ inl low ↦ inl (omega arith) | inr high ↦ inr (omega arith) ] in
     rw (other, next) (put_out memory (a + 1) q (c ∷ bytes) (omega arith) past)
 
 -- a memory of pages after bytes were put into one of them
@@ -104,7 +107,8 @@ put_pages old new unwritten a bytes room is q = by_start (nat_le a q) refl
         ap (λ r. unwrap_or r (unwritten q)) (is q ∙ ap (λ t. if t then Some (slice_index bytes (q - a)) else old q) within)
         ∙ sym (put_out (λ p. unwrap_or (old p) (unwritten p)) a q bytes room (inr (ltb-false q (a + length bytes) test)))
 
-    by_start : (t : Bool) → nat_le a q ≡ t → unwrap_or (new q) (unwritten q) ≡ put (λ p. unwrap_or (old p) (unwritten p)) a bytes q
+    by_start : (t : Bool) → nat_le a q ≡ t →
+        unwrap_or (new q) (unwritten q) ≡ put (λ p. unwrap_or (old p) (unwritten p)) a bytes q
     by_start true test = by_end (leb-true a q test) test (nat_lt q (a + length bytes)) refl
     by_start false test =
         let within : is_within a (length bytes) q ≡ false = rw test refl in
@@ -119,8 +123,10 @@ same_segment elf a q p found here =
     sym (elf.same q)
     ∙ find-only (loads_address q) elf.loads.items p there.1 here (λ r r_in r_loads. elf.once q r p r_in there.1 r_loads here)
 
-pub loaded_run : (elf : Elf) (flag a n : ℕ) (p : Segment) → segment_of elf.segments.items a ≡ Some p → IsTrue (loads_address a p) →
-    has_flag flag p ≡ true → p.vaddr ≤ a → a + n ≤ end_of p → a + n ≤ 2 ^ 64 → all_may (is_loaded_with flag elf.segments.items) a n ≡ true
+pub loaded_run : (elf : Elf) (flag a n : ℕ) (p : Segment) → segment_of elf.segments.items a ≡ Some p →
+    IsTrue (loads_address a p) →
+    has_flag flag p ≡ true → p.vaddr ≤ a → a + n ≤ end_of p → a + n ≤ 2 ^ 64 →
+    all_may (is_loaded_with flag elf.segments.items) a n ≡ true
 loaded_run elf flag a n p found loads flagged from to room =
     all_may-run (is_loaded_with flag elf.segments.items) a n room
     (λ q low high.
@@ -132,7 +138,8 @@ either : (a b : Bool) → (a || b) ≡ true → (a ≡ true) ⊎ (b ≡ true)
 either true b is = inl refl
 either false b is = inr is
 
-missed : (from q : ℕ) (p : Segment) → misses from p ≡ true → IsTrue (loads_address q p) → q < from + 4096 → p.vaddr + p.filesz ≤ from
+missed : (from q : ℕ) (p : Segment) → misses from p ≡ true → IsTrue (loads_address q p) → q < from + 4096 →
+    p.vaddr + p.filesz ≤ from
 missed from q p clear loads high =
     let parts = loads-parts q p loads in
     let load : is_load p ≡ true = parts.0 in
@@ -147,7 +154,8 @@ pub blank_byte : (file : List ℕ) (segments : List Segment) (from q : ℕ) → 
     q < from + 4096 → unwrap_or (image_byte file segments q) 0 ≡ 0
 blank_byte file [] from q all low high = refl
 blank_byte file (p ∷ ps) from q all low high =
-    cases (blank_byte file ps from q (and_parts (misses from p) (list_all (misses from) ps) all).1 low high) (loads_address q p) refl
+    cases (blank_byte file ps from q (and_parts (misses from p) (list_all (misses from) ps) all).1 low high)
+    (loads_address q p) refl
   where
     cases : unwrap_or (image_byte file ps q) 0 ≡ 0 → (t : Bool) → loads_address q p ≡ t →
         unwrap_or (option_map (byte_of file q) (if t then Some p else find (loads_address q) ps)) 0 ≡ 0
@@ -168,24 +176,27 @@ page_taken (Ok x) old new unwritten n page added kept bytes absent q = cases (q 
   where
     cases : (t : Bool) → (q / 4096 == n) ≡ t → unwrap_or (new q) (unwritten q) ≡ unwrap_or (old q) (unwritten q)
     cases false test =
-        ap (λ b. unwrap_or b (unwritten q)) (added refl q ∙ ap (λ t. if t then Some (slice_index page (q % 4096)) else old q) test)
+        ap (λ b. unwrap_or b (unwritten q))
+        (added refl q ∙ ap (λ t. if t then Some (slice_index page (q % 4096)) else old q) test)
     cases true test =
         let same : q / 4096 ≡ n = eqb-true (q / 4096) n test in
         let whole : n * 4096 + q % 4096 ≡ q = omega arith in
-        ap (λ b. unwrap_or b (unwritten q)) (added refl q ∙ ap (λ t. if t then Some (slice_index page (q % 4096)) else old q) test)
+        ap (λ b. unwrap_or b (unwritten q))
+        (added refl q ∙ ap (λ t. if t then Some (slice_index page (q % 4096)) else old q) test)
         ∙ bytes (q % 4096) (omega arith)
         ∙ ap unwritten whole
         ∙ sym (ap (λ b. unwrap_or b (unwritten q)) (absent q same))
 
 -- one more byte of a list that has what a function says at each place
-pub pushed_more : (f : ℕ → ℕ) (xs : List ℕ) (b k : ℕ) → length xs ≡ k → b ≡ f k → ((j : ℕ) → j < k → slice_index xs j ≡ f j) → (j : ℕ) →
-    j < k + 1 → slice_index (xs ++ b ∷ []) j ≡ f j
+pub pushed_more : (f : ℕ → ℕ) (xs : List ℕ) (b k : ℕ) → length xs ≡ k → b ≡ f k →
+    ((j : ℕ) → j < k → slice_index xs j ≡ f j) → (j : ℕ) → j < k + 1 → slice_index (xs ++ b ∷ []) j ≡ f j
 pushed_more f xs b k size is each j within = elim (cases_lt j k) [
   | inl less ↦ get_or_append_left xs (b ∷ []) 0 j (omega arith) ∙ each j less
   | inr more ↦
       let same : j ≡ k = omega arith in
       let first : j - k ≡ 0 = omega arith in
-      get_or-append_right xs (b ∷ []) k j 0 size (omega arith) ∙ ap (λ (i : ℕ). slice_index (b ∷ []) i) first ∙ is ∙ ap f (sym same)
+      get_or-append_right xs (b ∷ []) k j 0 size (omega arith)
+      ∙ ap (λ (i : ℕ). slice_index (b ∷ []) i) first ∙ is ∙ ap f (sym same)
 ]
 
 -- a memory of pages after the break was raised or lowered
@@ -221,11 +232,13 @@ break_moved p stack image start now top to q low high = cases (nat_le now q && n
     ]
 
     cases : (t : Bool) → (nat_le now q && nat_lt q to) ≡ t →
-        unwrap_or (if t then option_map (λ b. 0) p else p) (if stack || (nat_le start q && nat_lt q (max top to)) then 0 else image)
+        unwrap_or (if t then option_map (λ b. 0) p else p)
+        (if stack || (nat_le start q && nat_lt q (max top to)) then 0 else image)
         ≡ (if t then 0 else unwrap_or p (if stack || (nat_le start q && nat_lt q top) then 0 else image))
     cases true test =
         let parts = and_parts (nat_le now q) (nat_lt q to) test in
         let from = leb-true now q parts.0 in
         let under = ltb-true q to parts.1 in
-        given p (nat_le start q && nat_lt q (max top to)) (rw (le-leb start q (omega arith), lt-ltb q (max top to) (omega arith)) refl)
+        given p (nat_le start q && nat_lt q (max top to))
+        (rw (le-leb start q (omega arith), lt-ltb q (max top to) (omega arith)) refl)
     cases false test = ap (λ t. unwrap_or p (if stack || t then 0 else image)) (same test)

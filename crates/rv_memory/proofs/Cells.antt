@@ -30,15 +30,16 @@ cells_next memory a i n h =
     rw (e, next) refl
 
 -- what was copied of the cells, with one more
-pub cells_more : (memory : ℕ → ℕ) (a i n : ℕ) (front whole : List ℕ) → i < n → front ++ memory_bytes memory (plus a i) (n - i) ≡ whole →
+pub cells_more : (memory : ℕ → ℕ) (a i n : ℕ) (front whole : List ℕ) → i < n →
+    front ++ memory_bytes memory (plus a i) (n - i) ≡ whole →
     (front ++ memory (plus a i) ∷ []) ++ memory_bytes memory (plus a (i + 1)) (n - (i + 1)) ≡ whole
 cells_more memory a i n front whole h e =
     append_assoc front (memory (plus a i) ∷ []) (memory_bytes memory (plus a (i + 1)) (n - (i + 1)))
     ∙ ap (λ rest. front ++ rest) (sym (cells_next memory a i n h)) ∙ e
 
 -- and with none left
-pub cells_all : (memory : ℕ → ℕ) (a i n : ℕ) (front whole : List ℕ) → n ≤ i → front ++ memory_bytes memory (plus a i) (n - i) ≡ whole →
-    front ≡ whole
+pub cells_all : (memory : ℕ → ℕ) (a i n : ℕ) (front whole : List ℕ) → n ≤ i →
+    front ++ memory_bytes memory (plus a i) (n - i) ≡ whole → front ≡ whole
 cells_all memory a i n front whole h e =
     let none : n - i ≡ 0 = omega arith in
     let empty : memory_bytes memory (plus a i) (n - i) ≡ [] = cells_none memory (plus a i) (n - i) none in
@@ -48,7 +49,8 @@ cells_all memory a i n front whole h e =
 pub byte_power : (n : ℕ) → n ≤ 7 → 256 ^ n ≤ 2 ^ 56
 byte_power n h = pow-le-pow_right {n = 256} (omega arith) {i = n} {j = 7} h
 
-pub put_none : (memory : ℕ → ℕ) (a q : ℕ) (bytes : List ℕ) → memory q ≡ put memory (plus a (length bytes)) (drop (length bytes) bytes) q
+pub put_none : (memory : ℕ → ℕ) (a q : ℕ) (bytes : List ℕ) →
+    memory q ≡ put memory (plus a (length bytes)) (drop (length bytes) bytes) q
 unfolding put
 put_none memory a q bytes = let none : drop (length bytes) bytes ≡ [] = drop_of_length-le bytes (omega arith) in rw none refl
 
@@ -88,7 +90,8 @@ unfolding low_bytes
 bytes_low_first-low_bytes i zero k v h = refl
 bytes_low_first-low_bytes i (suc n) zero v h = absurd (omega arith)
 bytes_low_first-low_bytes i (suc n) (suc k) v h =
-    let next : v / 256 ^ i / 256 ≡ v / 256 ^ suc i = div-div-eq-div-mul v (256 ^ i) 256 ∙ ap (λ (d : ℕ). v / d) (sym (pow-suc 256 i)) in
+    let next : v / 256 ^ i / 256 ≡ v / 256 ^ suc i =
+    div-div-eq-div-mul v (256 ^ i) 256 ∙ ap (λ (d : ℕ). v / d) (sym (pow-suc 256 i)) in
     rw (byte_at-is i v, next, bytes_low_first-low_bytes (suc i) n k v (omega arith)) refl
 
 -- the low bytes of a word, of the eight that it has

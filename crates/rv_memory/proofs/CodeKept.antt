@@ -46,7 +46,8 @@ all_may_each may a (suc n) zero low all within =
     let here : plus a 0 ≡ a = omega arith in ap may here ∙ (and_parts (may a) (all_may may (plus a 1) n) all).0
 all_may_each may a (suc n) (suc k) low all within =
     let there : plus a (suc k) ≡ plus (plus a 1) k = omega arith in
-    ap may there ∙ all_may_each may (plus a 1) n k (omega arith) (and_parts (may a) (all_may may (plus a 1) n) all).1 (omega arith)
+    ap may there
+    ∙ all_may_each may (plus a 1) n k (omega arith) (and_parts (may a) (all_may may (plus a 1) n) all).1 (omega arith)
 
 -- the first addresses of a run
 pub all_may_front : (may : ℕ → Bool) (a m n : ℕ) → m ≤ n → all_may may a n ≡ true → all_may may a m ≡ true
@@ -57,17 +58,20 @@ all_may_front may a (suc m) (suc n) few all =
     let parts = and_parts (may a) (all_may may (plus a 1) n) all in
     rw parts.0 (all_may_front may (plus a 1) m n (omega arith) parts.1)
 
-not_gained : (from to bound q : ℕ) → to ≤ bound → (nat_le from q && nat_lt q bound) ≡ false → (nat_le from q && nat_lt q to) ≡ false
+not_gained : (from to bound q : ℕ) → to ≤ bound → (nat_le from q && nat_lt q bound) ≡ false →
+    (nat_le from q && nat_lt q to) ≡ false
 not_gained from to bound q below apart =
     false_from_ne_true (nat_le from q && nat_lt q to) (λ e.
     let parts = and_parts (nat_le from q) (nat_lt q to) e in
     let high = ltb-true q to parts.1 in
-    clash (nat_le from q && nat_lt q bound) (and_from (nat_le from q) (nat_lt q bound) parts.0 (lt-ltb q bound (omega arith))) apart)
+    clash (nat_le from q && nat_lt q bound)
+    (and_from (nat_le from q) (nat_lt q bound) parts.0 (lt-ltb q bound (omega arith))) apart)
 
 fixed_parts : (m : Memory) (q : ℕ) → holds m.code q ≡ true → (is_loaded_with PF_W m.elf.now.segments.items q ≡ false)
     × (in_stack q ≡ false) × ((nat_le m.break_start q && nat_lt q m.break_bound) ≡ false)
 fixed_parts m q here =
-    let outer = neither (is_loaded_with PF_W m.elf.now.segments.items q || in_stack q) (nat_le m.break_start q && nat_lt q m.break_bound)
+    let outer =
+    neither (is_loaded_with PF_W m.elf.now.segments.items q || in_stack q) (nat_le m.break_start q && nat_lt q m.break_bound)
     (m.code_fixed q here) in
     let inner = neither (is_loaded_with PF_W m.elf.now.segments.items q) (in_stack q) outer.0 in
     (inner.0, inner.1, outer.1)
@@ -112,7 +116,8 @@ not_written m a n room all q here =
     (unwritable m q here))
 
 pub code_put : (m : Memory) (new : ℕ → Option ℕ) (a : ℕ) (bytes : List ℕ) → a + length bytes ≤ 2 ^ 64 →
-    all_may (writes m) a (length bytes) ≡ true → ((q : ℕ) → new q ≡ byte_put m.pages a bytes q) → (q byte : ℕ) → holds m.code q ≡ true →
+    all_may (writes m) a (length bytes) ≡ true → ((q : ℕ) → new q ≡ byte_put m.pages a bytes q) →
+    (q byte : ℕ) → holds m.code q ≡ true →
     new q ≡ Some byte → byte ≡ unwrap_or (image_byte m.elf.now.file.now m.elf.now.segments.items q) 0
 code_put m new a bytes room all is q byte here found =
     m.code_stays q byte here
@@ -120,8 +125,8 @@ code_put m new a bytes room all is q byte here found =
     (not_written m a (length bytes) room all q here)) ∙ found)
 
 pub code_put_byte : (m : Memory) (new : ℕ → Option ℕ) (a b : ℕ) → writes m a ≡ true →
-    ((q : ℕ) → new q ≡ (if q == a then Some b else page_byte m.pages q)) → (q byte : ℕ) → holds m.code q ≡ true → new q ≡ Some byte →
-    byte ≡ unwrap_or (image_byte m.elf.now.file.now m.elf.now.segments.items q) 0
+    ((q : ℕ) → new q ≡ (if q == a then Some b else page_byte m.pages q)) → (q byte : ℕ) →
+    holds m.code q ≡ true → new q ≡ Some byte → byte ≡ unwrap_or (image_byte m.elf.now.file.now m.elf.now.segments.items q) 0
 code_put_byte m new a b may is q byte here found =
     let other : (q == a) ≡ false =
     false_from_ne_true (q == a) (λ e. clash (writes m q) (ap (writes m) (eqb-true q a e) ∙ may) (unwritable m q here)) in
@@ -133,7 +138,8 @@ pub code_cleared : (m : Memory) (new : ℕ → Option ℕ) (to : ℕ) → to ≤
 code_cleared m new to below is q byte here found =
     let parts = fixed_parts m q here in
     let from = m.break_from in
-    let apart : (nat_le m.program_break q && nat_lt q to) ≡ false = false_from_ne_true (nat_le m.program_break q && nat_lt q to) (λ e.
+    let apart : (nat_le m.program_break q && nat_lt q to) ≡ false =
+    false_from_ne_true (nat_le m.program_break q && nat_lt q to) (λ e.
     let both = and_parts (nat_le m.program_break q) (nat_lt q to) e in
     let low = leb-true m.program_break q both.0 in
     let high = ltb-true q to both.1 in
@@ -145,8 +151,10 @@ code_cleared m new to below is q byte here found =
 
 pub code_taken : {T E : Type 0} (m : Memory) (r : Result T E) (new : ℕ → Option ℕ) (n : ℕ) (page : List ℕ) →
     (IsOk r → (q : ℕ) → new q ≡ (if q / 4096 == n then Some (slice_index page (q % 4096)) else page_byte m.pages q)) →
-    OnErr r ((q : ℕ) → new q ≡ page_byte m.pages q) → ((k : ℕ) → k < 4096 → slice_index page k ≡ unwritten_byte m (n * 4096 + k)) →
-    (q byte : ℕ) → holds m.code q ≡ true → new q ≡ Some byte → byte ≡ unwrap_or (image_byte m.elf.now.file.now m.elf.now.segments.items q) 0
+    OnErr r ((q : ℕ) → new q ≡ page_byte m.pages q) →
+    ((k : ℕ) → k < 4096 → slice_index page k ≡ unwritten_byte m (n * 4096 + k)) →
+    (q byte : ℕ) → holds m.code q ≡ true → new q ≡ Some byte →
+    byte ≡ unwrap_or (image_byte m.elf.now.file.now m.elf.now.segments.items q) 0
 code_taken m (Err e) new n page added kept bytes q byte here found = m.code_stays q byte here (sym (kept q) ∙ found)
 code_taken m (Ok x) new n page added kept bytes q byte here found = cases (q / 4096 == n) refl
   where
@@ -186,13 +194,15 @@ code_half_is m a low high room =
     and_from (nat_le m.code.from (a + k)) (nat_lt (a + k) m.code.to) (le-leb m.code.from (a + k) (omega arith))
     (lt-ltb (a + k) m.code.to (omega arith)) in
     let place : m.code.offset + (a + k - m.code.from) ≡ at + (0 + k) = omega arith in
-    code_is m (a + k) here ∙ m.code_bytes (a + k) here ∙ ap (λ (j : ℕ). get_or file j 0) place ∙ sym (get_or-drop at file (0 + k) 0))
+    code_is m (a + k) here ∙ m.code_bytes (a + k) here ∙ ap (λ (j : ℕ). get_or file j 0) place
+    ∙ sym (get_or-drop at file (0 + k) 0))
 
 pub code_runs_at : (m : Memory) (a n : ℕ) → m.code.from ≤ a → a + n ≤ m.code.to → a + n ≤ 2 ^ 64 → all_may (executes m) a n ≡ true
 code_runs_at m a n low high room =
     all_may-run (executes m) a n (omega arith)
     (λ q from to. m.code_runs q
-    (and_from (nat_le m.code.from q) (nat_lt q m.code.to) (le-leb m.code.from q (omega arith)) (lt-ltb q m.code.to (omega arith))))
+    (and_from (nat_le m.code.from q) (nat_lt q m.code.to) (le-leb m.code.from q (omega arith))
+    (lt-ltb q m.code.to (omega arith))))
 
 pub code_half_next : (m : Memory) (a : ℕ) → m.code.from ≤ a → a + 4 ≤ m.code.to → a + 4 ≤ 2 ^ 64 →
     number_at m.elf.now.file.now (m.code.offset + (a - m.code.from) + 2) 2 ≡ little (memory_bytes (memory_of m) (plus a 2) 2)
@@ -202,7 +212,8 @@ code_half_next m a low high room =
     ap (λ (at : ℕ). number_at m.elf.now.file.now at 2) place ∙ code_half_is m (a + 2) (omega arith) (omega arith) (omega arith)
     ∙ ap (λ (b : ℕ). little (memory_bytes (memory_of m) b 2)) (sym next)
 
-pub code_runs_next : (m : Memory) (a : ℕ) → m.code.from ≤ a → a + 4 ≤ m.code.to → a + 4 ≤ 2 ^ 64 → all_may (executes m) (plus a 2) 2 ≡ true
+pub code_runs_next : (m : Memory) (a : ℕ) → m.code.from ≤ a → a + 4 ≤ m.code.to → a + 4 ≤ 2 ^ 64 →
+    all_may (executes m) (plus a 2) 2 ≡ true
 code_runs_next m a low high room =
     let next : plus a 2 ≡ a + 2 = omega arith in
     ap (λ (b : ℕ). all_may (executes m) b 2) next ∙ code_runs_at m (a + 2) 2 (omega arith) (omega arith) (omega arith)
@@ -214,10 +225,13 @@ pub code_put_if : (m : Memory) (done : Bool) (new : ℕ → Option ℕ) (a n : �
     byte ≡ unwrap_or (image_byte m.elf.now.file.now m.elf.now.segments.items q) 0
 code_put_if m true new a n bytes size room all put kept =
     code_put m new a bytes (omega arith) (ap (all_may (writes m) a) size ∙ all) (put refl)
-code_put_if m false new a n bytes size room all put kept = λ q byte here found. m.code_stays q byte here (sym (kept refl q) ∙ found)
+code_put_if m false new a n bytes size room all put kept =
+    λ q byte here found. m.code_stays q byte here (sym (kept refl q) ∙ found)
 
-pub writable-keeps : (old new : Memory) → Keeps old new → (a n : ℕ) → all_may (writes old) a n ≡ true → all_may (writes new) a n ≡ true
-writable-keeps old new keeps a n all = all_may-weaker (writes old) (writes new) a n (λ q is. writes-keeps old new keeps q ∙ is) all
+pub writable-keeps : (old new : Memory) → Keeps old new → (a n : ℕ) → all_may (writes old) a n ≡ true →
+    all_may (writes new) a n ≡ true
+writable-keeps old new keeps a n all =
+    all_may-weaker (writes old) (writes new) a n (λ q is. writes-keeps old new keeps q ∙ is) all
 
 pub stack_writable : (m : Memory) (a n : ℕ) → stack_end - stack_size ≤ a → a + n ≤ stack_end → all_may (writes m) a n ≡ true
 stack_writable m a n low high =

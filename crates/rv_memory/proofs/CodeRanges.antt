@@ -22,10 +22,12 @@ module _ (elf : Elf) (entry : ℕ) (p : Segment) (found : segment_of elf.segment
   pub flag_there : (flag : ℕ) (b : Bool) → has_flag flag p ≡ b → is_loaded_with flag elf.segments.items q ≡ b
   flag_there flag b is = ap (λ r. option_map_or (has_flag flag) r false) there ∙ is
 
-  pub byte_there : unwrap_or (image_byte elf.file.now elf.segments.items q) 0 ≡ slice_index elf.file.now (p.offset + (q - p.vaddr))
+  pub byte_there : unwrap_or (image_byte elf.file.now elf.segments.items q) 0
+      ≡ slice_index elf.file.now (p.offset + (q - p.vaddr))
   byte_there =
       ap (λ r. unwrap_or (option_map (byte_of elf.file.now q) r) 0) there
-      ∙ ap (λ t. if t then slice_index elf.file.now (p.offset + (q - p.vaddr)) else 0) (lt-ltb (q - p.vaddr) p.filesz (omega arith))
+      ∙ ap (λ t. if t then slice_index elf.file.now (p.offset + (q - p.vaddr)) else 0)
+      (lt-ltb (q - p.vaddr) p.filesz (omega arith))
 
   pub never_written : (from to : ℕ) → has_flag PF_W p ≡ false → q < stack_end - stack_size → (to ≤ q) ⊎ (q < from) →
       is_ever_writable elf.segments.items from to q ≡ false

@@ -42,7 +42,8 @@ in_pages p a i n found in_page =
     omega arith
 
 -- bytes written in one page
-pub page_written : (old : Pages) (bytes ys : List ℕ) (a i : ℕ) → place_of old.index (a / 4096) ≡ Some i → a % 4096 + length ys ≤ 4096 →
+pub page_written : (old : Pages) (bytes ys : List ℕ) (a i : ℕ) → place_of old.index (a / 4096) ≡ Some i →
+    a % 4096 + length ys ≤ 4096 →
     bytes ≡ patched (i * 4096 + a % 4096) ys old.bytes.items → (q : ℕ) → byte_in old.index bytes q ≡ byte_put old a ys q
 unfolding byte_in
 page_written old bytes ys a i found in_page is q =
@@ -50,14 +51,15 @@ page_written old bytes ys a i found in_page is q =
     (in_pages old a i (length ys) found in_page) q)
 
 -- the same where the bytes come as what a vector holds after its slice was written
-pub vector_written : (old : Pages) (now ys : List ℕ) (a i : ℕ) → place_of old.index (a / 4096) ≡ Some i → a % 4096 + length ys ≤ 4096 →
-    now ≡ patched (i * 4096 + a % 4096) ys old.bytes.items → (q : ℕ) →
+pub vector_written : (old : Pages) (now ys : List ℕ) (a i : ℕ) → place_of old.index (a / 4096) ≡ Some i →
+    a % 4096 + length ys ≤ 4096 → now ≡ patched (i * 4096 + a % 4096) ys old.bytes.items → (q : ℕ) →
     byte_in old.index (take old.bytes.len (now ++ drop (length now) old.bytes.items)) q ≡ byte_put old a ys q
 vector_written old now ys a i found in_page is q =
     let size : length now ≡ length old.bytes.items = ap length is
     ∙ length-patched (i * 4096 + a % 4096) ys old.bytes.items (in_pages old a i (length ys) found in_page) in
     let len : old.bytes.len ≡ length old.bytes.items = old.bytes.ok.0 in
-    page_written old _ ys a i found in_page (take_at now (drop (length now) old.bytes.items) old.bytes.len (size ∙ sym len) ∙ is) q
+    page_written old _ ys a i found in_page
+    (take_at now (drop (length now) old.bytes.items) old.bytes.len (size ∙ sym len) ∙ is) q
 
 pub zeros : (n k : ℕ) → get_or {A = ℕ} (replicate n 0) k 0 ≡ 0
 zeros zero k = refl
@@ -67,7 +69,8 @@ zeros (suc n) (suc k) = zeros n k
 pub byte_put-zeros : (p : Pages) (a n i : ℕ) → place_of p.index (a / 4096) ≡ Some i → a % 4096 + n ≤ 4096 → (q : ℕ) →
     byte_put p a (replicate n 0) q ≡ byte_cleared p a n q
 byte_put-zeros p a n i found in_page q =
-    ap (λ (m : ℕ). if is_within a m q then Some (get_or (replicate n 0) (q - a) 0) else page_byte p q) (length-replicate {A = ℕ} n 0)
+    ap (λ (m : ℕ). if is_within a m q then Some (get_or (replicate n 0) (q - a) 0) else page_byte p q)
+    (length-replicate {A = ℕ} n 0)
     ∙ cases (is_within a n q) refl
   where
     cases : (t : Bool) → is_within a n q ≡ t →
@@ -85,7 +88,8 @@ pub byte_cleared-none : (p : Pages) (a n : ℕ) → place_of p.index (a / 4096) 
     page_byte p q ≡ byte_cleared p a n q
 byte_cleared-none p a n none in_page q = cases (is_within a n q) refl
   where
-    cases : (t : Bool) → is_within a n q ≡ t → page_byte p q ≡ (if t then option_map (λ byte. 0) (page_byte p q) else page_byte p q)
+    cases : (t : Bool) → is_within a n q ≡ t →
+        page_byte p q ≡ (if t then option_map (λ byte. 0) (page_byte p q) else page_byte p q)
     cases false test = refl
     cases true test =
         let parts = and_parts (nat_le a q) (nat_lt q (a + n)) test in
@@ -132,7 +136,8 @@ little_from-is memory xs (suc (suc n)) i a room same =
     let head : get_or xs i 0 ≡ memory a = ap (λ (j : ℕ). get_or xs j 0) (sym there) ∙ sym first ∙ ap memory here in
     rw (next, head, rest) refl
 
-pub number-like : (p : Pages) (a n i : ℕ) → a < 2 ^ 64 → place_of p.index (a / 4096) ≡ Some i → a % 4096 + n ≤ 4096 → (memory : ℕ → ℕ) →
+pub number-like : (p : Pages) (a n i : ℕ) → a < 2 ^ 64 → place_of p.index (a / 4096) ≡ Some i →
+    a % 4096 + n ≤ 4096 → (memory : ℕ → ℕ) →
     IsLike p memory → number_at p.bytes.items (i * 4096 + a % 4096) n ≡ little (memory_bytes memory a n)
 number-like p a n i low found in_page memory like =
     little_from-is memory (drop (i * 4096 + a % 4096) p.bytes.items) n 0 a (omega arith)
@@ -192,7 +197,8 @@ module _ (place next : ℕ → Option ℕ) (numbers bytes page : List ℕ) (n : 
           let here : length numbers ≡ i = cc in ap (λ k. get_or (numbers ++ n ∷ []) k 0) (sym here) ∙ last ∙ sym (eqb-true q n e)
       cases false e = let there : place q ≡ Some i = sym (next-old q e) ∙ found in before i (held q i there) ∙ numbered q i there
 
-  pub sized_more : length bytes ≡ length numbers * 4096 → length page ≡ 4096 → length (bytes ++ page) ≡ length (numbers ++ n ∷ []) * 4096
+  pub sized_more : length bytes ≡ length numbers * 4096 → length page ≡ 4096 →
+      length (bytes ++ page) ≡ length (numbers ++ n ∷ []) * 4096
   sized_more size whole = omega (arith, length-append numbers (n ∷ []), length-append bytes page)
 
   pub page_added : length bytes ≡ length numbers * 4096 → length page ≡ 4096 → (q : ℕ) →
@@ -202,22 +208,28 @@ module _ (place next : ℕ → Option ℕ) (numbers bytes page : List ℕ) (n : 
   page_added size whole q = cases (q / 4096 == n) refl
     where
       old : (r : Option ℕ) → place (q / 4096) ≡ r →
-          option_map (λ i. get_or (bytes ++ page) (i * 4096 + q % 4096) 0) r ≡ option_map (λ i. get_or bytes (i * 4096 + q % 4096) 0) r
+          option_map (λ i. get_or (bytes ++ page) (i * 4096 + q % 4096) 0) r
+          ≡ option_map (λ i. get_or bytes (i * 4096 + q % 4096) 0) r
       old None e = refl
-      old (Some i) e = let here = held (q / 4096) i e in ap Some (get_or_append_left bytes page 0 (i * 4096 + q % 4096) (omega arith))
+      old (Some i) e =
+          let here = held (q / 4096) i e in
+          ap Some (get_or_append_left bytes page 0 (i * 4096 + q % 4096) (omega arith))
 
       cases : (t : Bool) → (q / 4096 == n) ≡ t →
           option_map (λ i. get_or (bytes ++ page) (i * 4096 + q % 4096) 0) (next (q / 4096))
-          ≡ (if t then Some (get_or page (q % 4096) 0) else option_map (λ i. get_or bytes (i * 4096 + q % 4096) 0) (place (q / 4096)))
+          ≡ (if t then Some (get_or page (q % 4096) 0)
+          else option_map (λ i. get_or bytes (i * 4096 + q % 4096) 0) (place (q / 4096)))
       cases true e =
           ap (option_map (λ i. get_or (bytes ++ page) (i * 4096 + q % 4096) 0)) (next-new (q / 4096) (eqb-true (q / 4096) n e))
-          ∙ ap Some (get_or-append_right bytes page (length numbers * 4096) (length numbers * 4096 + q % 4096) 0 size (omega arith)
+          ∙ ap Some (get_or-append_right bytes page (length numbers * 4096)
+          (length numbers * 4096 + q % 4096) 0 size (omega arith)
           ∙ ap (λ (k : ℕ). get_or page k 0) {y = q % 4096} (omega arith))
       cases false e = ap (option_map (λ i. get_or (bytes ++ page) (i * 4096 + q % 4096) 0)) (next-old (q / 4096) e)
           ∙ old (place (q / 4096)) refl
 
 pub byte_in-added : (old : Pages) (index : PageIndex) (bytes : List ℕ) (n : ℕ) (page : List ℕ) → place_of old.index n ≡ None →
-    ((q : ℕ) → place_of index q ≡ (if q == n then Some (length old.numbers.items) else place_of old.index q)) → bytes ≡ old.bytes.items
+    ((q : ℕ) → place_of index q ≡ (if q == n then Some (length old.numbers.items) else place_of old.index q)) →
+    bytes ≡ old.bytes.items
     ++ page → length page ≡ 4096 → (q : ℕ) →
     byte_in index bytes q ≡ (if q / 4096 == n then Some (get_or page (q % 4096) 0) else page_byte old q)
 unfolding byte_in

@@ -102,7 +102,8 @@ module _ (place : ℕ → Option ℕ) (numbers xs : List ℕ) (numbered : (q i :
         by_start false test = elsewhere q (inl (leb-false a q test)) (place (q / 4096)) refl
 
 -- what a write to a part of a slice leaves
-pub mid_patched : (at k : ℕ) (xs ys zs : List ℕ) → zs ≡ ys → k ≡ length ys → at + k ≤ length xs → put_mid at k xs zs ≡ patched at ys xs
+pub mid_patched : (at k : ℕ) (xs ys zs : List ℕ) → zs ≡ ys → k ≡ length ys → at + k ≤ length xs →
+    put_mid at k xs zs ≡ patched at ys xs
 unfolding patched
 mid_patched at k xs ys zs is size within = rw (is, size) (grind (arith, common_steps))
 
@@ -137,4 +138,5 @@ set_patched at v xs within = set_one at (v % 256) xs within
 pub whole_patched : (at n v : ℕ) (xs zs : List ℕ) → at + n ≤ length xs → v % 256 ^ n ≡ v → zs ≡ little_bytes n v
     ++ drop n (take (length xs - at) (drop at xs)) → put_mid at (length xs - at) xs zs ≡ patched at (low_bytes n v) xs
 whole_patched at n v xs zs within fits is =
-    number_patched at n v xs zs within (is ∙ ap (λ (w : ℕ). little_bytes n w ++ drop n (take (length xs - at) (drop at xs))) (sym fits))
+    number_patched at n v xs zs within
+    (is ∙ ap (λ (w : ℕ). little_bytes n w ++ drop n (take (length xs - at) (drop at xs))) (sym fits))

@@ -64,8 +64,8 @@ pub rank_above : (xs : List ℕ) → Ascends xs → (n k : ℕ) → rank xs n �
 rank_above [] up n k high within = absurd (omega arith)
 rank_above (x ∷ xs) up n k high within = cases (rank_above xs (ascends_rest x xs up) n) (nat_le x n) refl k high within
   where
-    cases : ((j : ℕ) → rank xs n ≤ j → j < length xs → n < get_or xs j 0) → (t : Bool) → nat_le x n ≡ t → (k : ℕ) → rank (x ∷ xs) n ≤ k →
-        k < suc (length xs) → n < get_or (x ∷ xs) k 0
+    cases : ((j : ℕ) → rank xs n ≤ j → j < length xs → n < get_or xs j 0) → (t : Bool) → nat_le x n ≡ t →
+        (k : ℕ) → rank (x ∷ xs) n ≤ k → k < suc (length xs) → n < get_or (x ∷ xs) k 0
     cases rest true e zero high within = let step = rank-low x n xs e in absurd (omega arith)
     cases rest true e (suc j) high within = let step = rank-low x n xs e in rest j (omega arith) (omega arith)
     cases rest false e zero high within = leb-false x n e
@@ -74,8 +74,8 @@ rank_above (x ∷ xs) up n k high within = cases (rank_above xs (ascends_rest x 
         let more = above_first x xs up j (omega arith) in omega arith
 
 -- where the number isn't the last of those at most it, it is none
-pub rank_absent : (xs : List ℕ) → Ascends xs → (n : ℕ) → (0 < rank xs n → get_or xs (rank xs n - 1) 0 ≢ n) → (k : ℕ) → k < length xs →
-    get_or xs k 0 ≢ n
+pub rank_absent : (xs : List ℕ) → Ascends xs → (n : ℕ) → (0 < rank xs n → get_or xs (rank xs n - 1) 0 ≢ n) →
+    (k : ℕ) → k < length xs → get_or xs k 0 ≢ n
 rank_absent xs up n other k within is = elim (cases_lt k (rank xs n)) [
   | inl low ↦ elim (eq-or-lt_of_le {n = k} {m = rank xs n - 1} (omega arith)) [
     | inl same ↦ other (omega arith) (ap (λ j. get_or xs j 0) (sym same) ∙ is)
@@ -104,12 +104,13 @@ beside_none (x ∷ xs) (p ∷ ps) n absent =
     let other : (n == x) ≡ false = false_from_ne_true (n == x) (λ e. absent 0 (omega arith) (sym (eqb-true n x e))) in
     rw other (beside_none xs ps n (λ j within. absent (suc j) (omega arith)))
 
-pub beside_absent : (xs places : List ℕ) → length places ≡ length xs → (n : ℕ) → beside xs places n ≡ None → (j : ℕ) → j < length xs →
-    get_or xs j 0 ≢ n
+pub beside_absent : (xs places : List ℕ) → length places ≡ length xs → (n : ℕ) → beside xs places n ≡ None →
+    (j : ℕ) → j < length xs → get_or xs j 0 ≢ n
 unfolding beside
 beside_absent [] places paired n none j within is = absurd (omega arith)
 beside_absent (x ∷ xs) [] paired n none j within is = absurd (omega arith)
-beside_absent (x ∷ xs) (p ∷ ps) paired n none j within is = cases (beside_absent xs ps (omega arith) n) (n == x) refl none j within is
+beside_absent (x ∷ xs) (p ∷ ps) paired n none j within is =
+    cases (beside_absent xs ps (omega arith) n) (n == x) refl none j within is
   where
     cases : (beside xs ps n ≡ None → (j : ℕ) → j < length xs → get_or xs j 0 ≢ n) → (t : Bool) → (n == x) ≡ t →
         (if t then Some p else beside xs ps n) ≡ None → (j : ℕ) → j < suc (length xs) → get_or (x ∷ xs) j 0 ≢ n
@@ -128,9 +129,11 @@ beside-insert (x ∷ xs) (a ∷ ps) (suc i) n p q paired within none =
     let rest : beside xs ps n ≡ None = rw other at none in
     cases other (beside-insert xs ps i n p q (omega arith) (omega arith) rest) (q == x) (q == n) refl refl
   where
-    cases : (n == x) ≡ false → beside (insert xs i n) (insert ps i p) q ≡ (if q == n then Some p else beside xs ps q) → (t u : Bool) →
+    cases : (n == x) ≡ false →
+        beside (insert xs i n) (insert ps i p) q ≡ (if q == n then Some p else beside xs ps q) → (t u : Bool) →
         (q == x) ≡ t → (q == n) ≡ u →
-        (if t then Some a else beside (insert xs i n) (insert ps i p) q) ≡ (if u then Some p else if t then Some a else beside xs ps q)
+        (if t then Some a else beside (insert xs i n) (insert ps i p) q)
+        ≡ (if u then Some p else if t then Some a else beside xs ps q)
     cases other same true true e f = absurd (eqb-false n x other (sym (eqb-true q n f) ∙ eqb-true q x e))
     cases other same true false e f = refl
     cases other same false true e f = same ∙ ap (λ u. if u then Some p else beside xs ps q) f
@@ -143,15 +146,18 @@ ascends-insert xs n up absent i j less within =
     let most : rank xs n ≤ length xs = rank_most xs n in
     let longer : length (insert xs (rank xs n) n) ≡ length xs + 1 = length-insert xs (rank xs n) n most in
     elim (cases_lt j (rank xs n)) [
-      | inl low ↦ rw (get_or-insert_below xs (rank xs n) n 0 i (omega arith) most, get_or-insert_below xs (rank xs n) n 0 j low most)
+      | inl low ↦
+          rw (get_or-insert_below xs (rank xs n) n 0 i (omega arith) most, get_or-insert_below xs (rank xs n) n 0 j low most)
           (up.at i j less (omega arith))
       | inr high ↦ elim (eq-or-lt_of_le high) [
-        | inl same ↦ let here : get_or (insert xs (rank xs n) n) j 0 ≡ n = ap (λ k. get_or (insert xs (rank xs n) n) k 0) (sym same)
+        | inl same ↦ let here : get_or (insert xs (rank xs n) n) j 0 ≡ n =
+            ap (λ k. get_or (insert xs (rank xs n) n) k 0) (sym same)
             ∙ get_or-insert_at xs (rank xs n) n 0 most in
             rw here (below i (omega arith))
         | inr more ↦ let last : get_or (insert xs (rank xs n) n) j 0 ≡ get_or xs (j - 1) 0 = after j (omega arith) in
             rw last (elim (cases_lt i (rank xs n)) [
-              | inl low ↦ let first = below i low in let top = rank_above xs up n (j - 1) (omega arith) (omega arith) in omega arith
+              | inl low ↦ let first = below i low in
+                  let top = rank_above xs up n (j - 1) (omega arith) (omega arith) in omega arith
               | inr far ↦ elim (eq-or-lt_of_le far) [
                 | inl same ↦ let here : get_or (insert xs (rank xs n) n) i 0 ≡ n =
                     ap (λ k. get_or (insert xs (rank xs n) n) k 0) (sym same) ∙ get_or-insert_at xs (rank xs n) n 0 most in
@@ -181,7 +187,8 @@ pub beside_found : (xs places : List ℕ) → Ascends xs → length places ≡ l
     get_or xs (r - 1) 0 ≡ n → beside xs places n ≡ Some (get_or places (r - 1) 0)
 beside_found xs places up paired n r is some here =
     let most = rank_most xs n in
-    beside_at xs places paired n (r - 1) (omega arith) here (λ j less same. let before = up.at j (r - 1) less (omega arith) in omega arith)
+    beside_at xs places paired n (r - 1) (omega arith) here
+    (λ j less same. let before = up.at j (r - 1) less (omega arith) in omega arith)
 
 pub beside_missing : (xs places : List ℕ) → Ascends xs → (n r : ℕ) → r ≡ rank xs n → (0 < r → get_or xs (r - 1) 0 ≢ n) →
     beside xs places n ≡ None

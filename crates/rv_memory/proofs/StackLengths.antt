@@ -11,7 +11,7 @@ use Rattle.rv_code.specs.machine.Machine.{low_bytes}
 use Rattle.elf_image.specs.declared.segment.TheConstants.{PHDR_SIZE}
 use Rattle.elf_image.specs.file.Header.{e_entry, e_phnum}
 use Rattle.elf_image.specs.memory.Start.{page_size, random_address, random_bytes, rounded_down, stack_end, stack_size, stack_pointer, stack_bytes, program_arguments, texts, texts_address, text_addresses, table_address, auxiliary_vector, start_bytes}
-use Rattle.rv_memory.specs.Table.{vector}
+use Rattle.rv_memory.specs.Vector.{vector}
 use Rattle.rv_memory.specs.Limits.{IsWithinLimits}
 
 pub low_bytes-mod : (k x : ℕ) → low_bytes k (x % 256 ^ k) ≡ low_bytes k x
@@ -22,7 +22,8 @@ low_bytes-mod (suc k) x =
     let low : x % 256 < 256 = omega arith in
     let split : x % 256 ^ suc k ≡ (x / 256 % 256 ^ k) * 256 + x % 256 = ap (λ (m : ℕ). x % m) (pow-suc 256 k)
     ∙ mod-mul x {m = 256 ^ k} {c = 256} power (omega arith) in
-    let first : x % 256 ^ suc k % 256 ≡ x % 256 = ap (λ (n : ℕ). n % 256) split ∙ mod-mul-add (x / 256 % 256 ^ k) 256 (x % 256) low in
+    let first : x % 256 ^ suc k % 256 ≡ x % 256 =
+    ap (λ (n : ℕ). n % 256) split ∙ mod-mul-add (x / 256 % 256 ^ k) 256 (x % 256) low in
     let rest : x % 256 ^ suc k / 256 ≡ x / 256 % 256 ^ k = ap (λ (n : ℕ). n / 256) split
     ∙ div-mul-add (x / 256 % 256 ^ k) 256 (x % 256) low in
     rw (first, rest, low_bytes-mod k (x / 256)) refl
@@ -33,7 +34,8 @@ low_bytes-word x = low_bytes-mod 8 x
 -- the words at the stack pointer, part by part
 pub start_bytes-is : (file : List ℕ) (words : List (List ℕ)) →
     ((low_bytes 8 (length (program_arguments words))
-    ++ flat_map (low_bytes 8) (text_addresses (texts_address words) (program_arguments words))) ++ flat_map (low_bytes 8) (0 ∷ 0 ∷ []))
+    ++ flat_map (low_bytes 8) (text_addresses (texts_address words) (program_arguments words)))
+    ++ flat_map (low_bytes 8) (0 ∷ 0 ∷ []))
     ++ flat_map (low_bytes 8) (vector (table_address file % 2 ^ 64) (e_phnum file) (e_entry file))
     ≡ start_bytes file words
 start_bytes-is file words =
@@ -75,7 +77,8 @@ length-ended : (words : List (List ℕ)) →
     length (flat_map (λ text. text ++ 0 ∷ []) words) ≡ sum_by (λ word. length word) words + length words
 length-ended [] = refl
 length-ended (w ∷ words) =
-    let rest : length (flat_map (λ text. text ++ 0 ∷ []) words) ≡ sum_by (λ word. length word) words + length words = length-ended words in
+    let rest : length (flat_map (λ text. text ++ 0 ∷ []) words) ≡ sum_by (λ word. length word) words + length words =
+    length-ended words in
     let both : length ((w ++ 0 ∷ []) ++ flat_map (λ text. text ++ 0 ∷ []) words)
     ≡ length (w ++ 0 ∷ []) + length (flat_map (λ text. text ++ 0 ∷ []) words) =
     length-append (w ++ 0 ∷ []) (flat_map (λ text. text ++ 0 ∷ []) words) in
@@ -89,8 +92,10 @@ length-ended (w ∷ words) =
 
 pub length-texts : (words : List (List ℕ)) → IsWithinLimits words → length (texts words) ≤ 65608
 length-texts words limits =
-    let rest : length (flat_map (λ text. text ++ 0 ∷ []) words) ≡ sum_by (λ word. length word) words + length words = length-ended words in
-    let both : length (texts words) ≡ 8 + length (flat_map (λ text. text ++ 0 ∷ []) words) = length-append (codes "program" ++ 0 ∷ []) (flat_map (λ text. text ++ 0 ∷ []) words) in
+    let rest : length (flat_map (λ text. text ++ 0 ∷ []) words) ≡ sum_by (λ word. length word) words + length words =
+    length-ended words in
+    let both : length (texts words) ≡ 8 + length (flat_map (λ text. text ++ 0 ∷ []) words) =
+    length-append (codes "program" ++ 0 ∷ []) (flat_map (λ text. text ++ 0 ∷ []) words) in
     omega (arith, rest, both, limits.few, limits.short)
 
 pub length-start_bytes : (file : List ℕ) (words : List (List ℕ)) →
@@ -101,7 +106,8 @@ length-start_bytes file words =
     ≡ 8 * length ((length (program_arguments words) ∷ addresses) ++ (0 ∷ 0 ∷ auxiliary_vector file)) =
     length-words ((length (program_arguments words) ∷ addresses) ++ (0 ∷ 0 ∷ auxiliary_vector file)) in
     let parts : length ((length (program_arguments words) ∷ addresses) ++ (0 ∷ 0 ∷ auxiliary_vector file))
-    ≡ suc (length addresses) + 16 = length-append (length (program_arguments words) ∷ addresses) (0 ∷ 0 ∷ auxiliary_vector file) in
+    ≡ suc (length addresses) + 16 =
+    length-append (length (program_arguments words) ∷ addresses) (0 ∷ 0 ∷ auxiliary_vector file) in
     let count : length addresses ≡ length (program_arguments words) =
     length-text_addresses (texts_address words) (program_arguments words) in
     omega (arith, bytes, parts, count)
@@ -118,7 +124,8 @@ stack_bytes-end file words limits =
     let one : length (stack_bytes file words) ≡ length ((start_bytes file words ++ zeros) ++ texts words) + length random_bytes =
     length-append ((start_bytes file words ++ zeros) ++ texts words) random_bytes in
     let two : length ((start_bytes file words ++ zeros) ++ texts words)
-    ≡ length (start_bytes file words ++ zeros) + length (texts words) = length-append (start_bytes file words ++ zeros) (texts words) in
+    ≡ length (start_bytes file words ++ zeros) + length (texts words) =
+    length-append (start_bytes file words ++ zeros) (texts words) in
     let three : length (start_bytes file words ++ zeros) ≡ length (start_bytes file words) + length (zeros) =
     length-append (start_bytes file words) (zeros) in
     let four : length (zeros) ≡ pad = length-replicate pad 0 in
@@ -144,7 +151,8 @@ start_bytes-room file words limits =
     room t n s short few started = omega (arith, short, few, started)
 
 -- bytes that are filled up with zeros to a length
-pub padded : (out start : List ℕ) (n len m : ℕ) → out ≡ start → len ≡ length out → length start ≤ n → m ≡ n - length start → take n out
+pub padded : (out start : List ℕ) (n len m : ℕ) → out ≡ start → len ≡ length out → length start ≤ n →
+    m ≡ n - length start → take n out
     ++ replicate (n - len) 0 ≡ start ++ replicate m 0
 padded out start n len m same is fits size =
     let all : take n start ≡ start = take_all n start fits in

@@ -95,7 +95,8 @@ module _ (bytes : List ℕ) (pointer : ℕ) (image memory : ℕ → ℕ) (is : (
       (λ over. put_past memory pointer q bytes low (omega (arith, ends, over)))
 
   pub put_stack : (q : ℕ) →
-      put memory pointer bytes q ≡ (if in_stack q then if nat_le pointer q then slice_index bytes (q - pointer) else 0 else image q)
+      put memory pointer bytes q
+      ≡ (if in_stack q then if nat_le pointer q then slice_index bytes (q - pointer) else 0 else image q)
   put_stack q = by_stack (in_stack q) refl
     where
       by_stack : (t : Bool) → in_stack q ≡ t →

@@ -5,13 +5,13 @@ use Rattle.std.specs.Option.{option_map_or}
 use Rattle.elf_image.specs.declared.segment.Segment.{Segment}
 use Rattle.elf_image.specs.declared.segment.TheConstants.{PHDR_SIZE}
 use Rattle.elf_image.specs.file.Header.{e_phoff, e_phnum, segments_of}
+use Rattle.elf_image.specs.memory.LoadedBytes.{loads_range}
 use Rattle.elf_image.specs.memory.Start.{table_address}
 use Rattle.elf_image.proofs.ReadLists.{length-segments_of}
-use Rattle.rv_memory.specs.Table.{loads_range}
 
 pub table_address-is : (file : List ℕ) (phoff : ℕ) (segments : List Segment) (found : Option Segment) → phoff ≡ e_phoff file →
     segments ≡ segments_of file →
-    found ≡ find (loads_range phoff (phoff + PHDR_SIZE * length segments)) segments →
+    found ≡ find (loads_range (record { start = phoff; size = PHDR_SIZE * length segments })) segments →
     table_address file ≡ option_map_or (λ p. p.vaddr + (phoff - p.offset)) found 0
 table_address-is file phoff segments found at are is =
     let count : length segments ≡ e_phnum file = ap length are ∙ length-segments_of file in

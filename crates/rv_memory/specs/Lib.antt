@@ -5,4 +5,4 @@ pub mod Pages
 pub mod Patched
 pub mod Memory
 pub mod Limits
-pub mod Table
+pub mod Vector

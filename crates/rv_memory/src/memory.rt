@@ -3,7 +3,9 @@ ghost use Rattle.elf_image.specs.declared.segment.TheConstants.{PF_X};
 ghost use Rattle.elf_image.specs.memory.Image.{image_byte, is_loaded_with};
 ghost use Rattle.rv_memory.specs.CodeRange.{holds, is_ever_writable};
 ghost use Rattle.rv_memory.specs.Pages.{page_byte};
-ghost use Rattle.std.specs.Prelude.{◌≡◌, ◌↔◌, ◌<◌, ◌≤◌, ◌^◌, ◌+◌, ◌-◌, ◌*◌, ◌%◌, ◌&&◌, ◌==◌, ℕ, Bool, false, None, Some, IfOk, IsOk, IsTrue, OnErr, IfSome, IsSome, length, nat_le, nat_lt, true, slice_index, unwrap_or, if◌then◌else◌};
+ghost use Rattle.std.specs.Prelude.{◌≡◌, ◌↔◌, ◌<◌, ◌≤◌, ◌^◌, ◌+◌, ◌-◌, ◌*◌, ◌%◌, ◌&&◌, ◌==◌, ℕ, Bool, false, None, Some, IfOk};
+ghost use Rattle.std.specs.Prelude.{IsOk, IsTrue, OnErr, IfSome, IsSome, length, nat_le, nat_lt, true, slice_index, unwrap_or};
+ghost use Rattle.std.specs.Prelude.{if◌then◌else◌};
 
 use crate::code_range::{CodeRange, code_range};
 use crate::image::is_blank;
@@ -49,7 +51,8 @@ pub struct Memory<'a> {
 }
 
 impl<'a> Memory<'a> {
-    ghost use Rattle.rv_memory.specs.Memory.{memory_of, unwritten_byte, HasRoom, Keeps, space_in, break_after, byte_after, gained_by_break, reads, writes, executes, may};
+    ghost use Rattle.rv_memory.specs.Memory.{memory_of, unwritten_byte, HasRoom, Keeps, space_in, break_after, byte_after};
+    ghost use Rattle.rv_memory.specs.Memory.{gained_by_break, reads, writes, executes, may};
     ghost use Rattle.elf_image.specs.memory.Start.{in_stack, space_of, writable_end, break_start};
     ghost use Rattle.rv_code.specs.machine.Machine.{plus, memory_bytes, put, little, low_bytes, all_may};
 

@@ -1,5 +1,6 @@
 // The pages that a program wrote.
-ghost use Rattle.std.specs.Prelude.{◌≡◌, ◌<◌, ◌≤◌, ◌+◌, ◌*◌, ◌-◌, ◌/◌, ◌%◌, ◌^◌, ◌==◌, ◌&&◌, ℕ, false, None, Some, IfSome, IfOk, IsOk, IsSome, IsTrue, is_some, OnErr, length, slice_index, nat_le, nat_lt, if◌then◌else◌};
+ghost use Rattle.std.specs.Prelude.{◌≡◌, ◌<◌, ◌≤◌, ◌+◌, ◌*◌, ◌-◌, ◌/◌, ◌%◌, ◌^◌, ◌==◌, ◌&&◌, ℕ, false, None, Some, IfSome, IfOk};
+ghost use Rattle.std.specs.Prelude.{IsOk, IsSome, IsTrue, is_some, OnErr, length, slice_index, nat_le, nat_lt, if◌then◌else◌};
 ghost use Rattle.rv_memory.specs.PageIndex.{place_of};
 ghost use Rattle.rv_memory.specs.Patched.{is_width};
 

@@ -1,12 +1,15 @@
 // The stack of a program that starts: the words at the stack pointer, and its arguments.
-ghost use Rattle.std.specs.Prelude.{◌≡◌, ◌+◌, ◌*◌, ◌-◌, ◌<◌, ◌≤◌, ◌++◌, ◌∷◌, [], ◌%◌, ◌^◌, IfOk, IfSome, OnOk, find, option_copied, length, flat_map, map, string_bytes, String};
+ghost use Rattle.std.specs.Prelude.{◌≡◌, ◌+◌, ◌*◌, ◌-◌, ◌<◌, ◌≤◌, ◌++◌, ◌∷◌, [], ◌%◌, ◌^◌, IfOk, IfSome, OnOk, find};
+ghost use Rattle.std.specs.Prelude.{option_copied, length, flat_map, map, string_bytes, String};
 ghost use Rattle.rv_code.specs.machine.Machine.{low_bytes};
-ghost use Rattle.rv_memory.specs.Table.{loads_range, vector};
+ghost use Rattle.rv_memory.specs.Vector.{vector};
 ghost use Rattle.rv_memory.specs.Limits.{IsWithinLimits};
-ghost use Rattle.elf_image.specs.file.Header.{e_phoff, e_phnum, e_entry, segments_of};
-ghost use Rattle.elf_image.specs.memory.Start.{program_arguments, texts, texts_address, text_addresses, table_address, random_address, auxiliary_vector, start_bytes, rounded_down, stack_pointer, stack_bytes};
+ghost use Rattle.elf_image.specs.file.Header.{e_phoff, e_entry, segments_of};
+ghost use Rattle.elf_image.specs.memory.LoadedBytes.{loads_range};
+ghost use Rattle.elf_image.specs.memory.Start.{program_arguments, texts, texts_address, text_addresses, table_address};
+ghost use Rattle.elf_image.specs.memory.Start.{random_address, start_bytes, rounded_down, stack_pointer, stack_bytes};
 
-use elf_image::segment::{PHDR_SIZE, PT_LOAD};
+use elf_image::segment::PHDR_SIZE;
 use elf_image::{Elf, Segment};
 use rb_bytes::fault::NoMemory;
 use std::alloc::Global;
@@ -75,20 +78,12 @@ fn put_addresses(out: &mut Vec<u8>, address: u64, words: &[String]) -> Result<()
     Ok(())
 }
 
-// Whether a segment loads the file's bytes from one offset up to another.
-fn loads_range(segment: &Segment, from: u64, to: u128) -> bool
-    ensures { result ≡ loads_range from to segment.now }
+// The first segment that loads a range of the file.
+fn range_segment(segments: &[Segment], start: u64, size: u64) -> Option<&Segment>
+    ensures first { option_copied result ≡ find (loads_range (record { start = start; size = size })) segments.now }
+    ensures within { IfSome result (λ p. p.now.offset ≤ start) }
 {
-    segment.kind == PT_LOAD
-        && segment.offset <= from
-        && to <= segment.offset as u128 + segment.filesz.min(segment.memsz) as u128
-}
-
-fn range_segment(segments: &[Segment], from: u64, to: u128) -> Option<&Segment>
-    ensures first { option_copied result ≡ find (loads_range from to) segments.now }
-    ensures within { IfSome result (λ p. p.now.offset ≤ from) }
-{
-    segments.iter().find(|p| loads_range(p, from, to))
+    segments.iter().find(|p| p.loads_range(start, size))
 }
 
 // Where the table of program headers is loaded, 0 where no segment loads it from the file.
@@ -98,8 +93,8 @@ fn table_address(elf: &Elf) -> u64
     ensures { result ≡ table_address elf.now.file.now % 2 ^ 64 }
 {
     let segments: &[Segment] = &elf.segments;
-    let end = elf.phoff as u128 + PHDR_SIZE as u128 * segments.len() as u128;
-    match range_segment(segments, elf.phoff, end) {
+    let size = (PHDR_SIZE * segments.len()) as u64;
+    match range_segment(segments, elf.phoff, size) {
         Some(segment) => segment.vaddr.wrapping_add(elf.phoff - segment.offset),
         None => 0,
     }

@@ -1,6 +1,7 @@
 -- Code cells: the data fields that hold a code address, or a difference of labels of which one is a code address.
 -- psABI, "Relocations".
-use Rattle.std.specs.Prelude.{◌≡◌, ◌⊎◌, ℕ, ◌+◌, ◌/◌, ◌<◌, ◌==◌, ◌&&◌, ◌||◌, ℤ, pos, ◌≤ℤ◌, ◌<ℤ◌, if◌then◌else◌, Bool, true, false, IsTrue, IsSome, IfSome, List, Option, Some, Contains}
+use Rattle.std.specs.Prelude.{◌≡◌, ◌⊎◌, ℕ, ◌+◌, ◌/◌, ◌<◌, ◌==◌, ◌&&◌, ◌||◌, ℤ, pos, ◌≤ℤ◌, ◌<ℤ◌, if◌then◌else◌, Bool, true, false}
+use Rattle.std.specs.Prelude.{IsTrue, IsSome, IfSome, List, Option, Some, Contains}
 use Rattle.std.specs.List.{count_by}
 use Rattle.rv_code.specs.declared.cell.CodeCell.{CodeCell}
 use Rattle.rv_code.specs.declared.cell.CellKind.{CellKind}
@@ -9,7 +10,8 @@ use Rattle.elf_image.specs.declared.elf.Elf.{Elf}
 use Rattle.elf_image.specs.declared.relocation.TheConstants.{R_RISCV_32, R_RISCV_GOT_HI20}
 use Rattle.elf_image.specs.memory.LoadedBytes.{loaded_number, file_offset, IsInHeaders}
 use Rattle.elf_image.specs.code.Parts.{IsStart, IsWholePart}
-use Rattle.elf_image.specs.code.Relocations.{Relocation, relocations, label, is_address, is_pc_difference, is_add, Width, Bits, Uleb128, plus_width, minus_width}
+use Rattle.elf_image.specs.code.Relocations.{Relocation, relocations, label, is_address, is_pc_difference, is_add, Width, Bits}
+use Rattle.elf_image.specs.code.Relocations.{Uleb128, plus_width, minus_width}
 use Rattle.elf_image.specs.code.Roles.{PcrelHiTo}
 
 -- Differences.

@@ -1,18 +1,13 @@
--- The cuts of a file: where functions may begin and end. gABI, "Symbol Table" and "Section Attribute Flags".
+-- The cuts of a file: where functions may begin and end. gABI, "Symbol Table".
 use Rattle.std.specs.Prelude.{◌≡◌, ◌<◌, ◌+◌, ◌%◌, ◌^◌, ◌==◌, ◌⊎◌, ℕ, Bool, IsTrue, List, Any}
 use Rattle.elf_image.specs.declared.elf.Section.{Section}
 use Rattle.elf_image.specs.declared.elf.Symbol.{Symbol}
-use Rattle.elf_image.specs.declared.section.TheConstants.{SHF_EXECINSTR}
 use Rattle.elf_image.specs.declared.symbol.TheConstants.{STT_FUNC}
-use Rattle.elf_image.specs.file.Header.{is_set}
+use Rattle.elf_image.specs.file.Sections.{holds_code}
 
 -- a symbol that names a function
 abbrev pub names_function : Symbol → Bool
 names_function symbol = symbol.info % 16 == STT_FUNC
-
--- a section that holds instructions
-abbrev pub holds_code : Section → Bool
-holds_code section = is_set SHF_EXECINSTR section.flags
 
 -- the start of a range, or its end where that is an address
 abbrev pub IsBound : ℕ → ℕ → ℕ → Type 0
@@ -22,4 +17,4 @@ IsBound start size a = (a ≡ start) ⊎ ((a ≡ start + size) × (a < 2 ^ 64))
 abbrev pub IsCutAddress : List Symbol → List Section → ℕ → Type 0
 IsCutAddress symbols sections a =
     Any (λ symbol. IsTrue (names_function symbol) × IsBound symbol.value symbol.size a) symbols
-    ⊎ Any (λ section. IsTrue (holds_code section) × IsBound section.addr section.size a) sections
+    ⊎ Any (λ section. IsTrue (holds_code section.flags) × IsBound section.addr section.size a) sections

@@ -10,7 +10,8 @@ use Rattle.rv_code.specs.isa.Action.{action_of}
 use Rattle.rv_code.specs.layout.Flow.{target, falls}
 use Rattle.rv_code.specs.layout.ProgramCode.{RoleNames, CellNames}
 use Rattle.elf_image.specs.declared.elf.Elf.{Elf}
-use Rattle.elf_image.specs.code.Parts.{IsPart, IsCovered, IsCodePart, IsWholePart, StartsIn, HasValidInst, IsInstAt, halfword_at, length_at}
+use Rattle.elf_image.specs.code.Parts.{IsPart, IsCovered, IsCodePart, IsWholePart, StartsIn, HasValidInst, IsInstAt, halfword_at}
+use Rattle.elf_image.specs.code.Parts.{length_at}
 use Rattle.elf_image.specs.code.Roles.{HasRole, RoleIs}
 use Rattle.elf_image.specs.code.Cells.{IsCell}
 

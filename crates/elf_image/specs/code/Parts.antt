@@ -1,10 +1,12 @@
 -- The parts of executable sections that can be functions, and the instructions in them. A part goes from one
 -- cut to the next.
-use Rattle.std.specs.Prelude.{◌≡◌, ◌≢◌, ℕ, ◌+◌, ◌*◌, ◌%◌, ◌<◌, ◌≤◌, ◌==◌, if◌then◌else◌, List, Option, Some, IsTrue, Any, unwrap_or}
+use Rattle.std.specs.Prelude.{◌≡◌, ◌≢◌, ℕ, ◌+◌, ◌*◌, ◌%◌, ◌<◌, ◌≤◌, ◌==◌, if◌then◌else◌, List, Option, Some, IsTrue, Any}
+use Rattle.std.specs.Prelude.{unwrap_or}
 use Rattle.rv_code.specs.declared.inst.Inst.{Inst}
 use Rattle.rv_code.specs.isa.Decoding.{Decodes}
 use Rattle.elf_image.specs.declared.elf.Elf.{Elf}
-use Rattle.elf_image.specs.code.Cuts.{IsCutAddress, names_function, holds_code}
+use Rattle.elf_image.specs.code.Cuts.{IsCutAddress, names_function}
+use Rattle.elf_image.specs.file.Sections.{holds_code}
 use Rattle.elf_image.specs.memory.LoadedBytes.{byte_at}
 
 abbrev pub IsCut : Elf → ℕ → Type 0
@@ -14,7 +16,7 @@ IsCut elf a = IsCutAddress elf.symbols.items elf.sections.items a
 
 -- an address in an executable section
 abbrev pub IsInCode : Elf → ℕ → Type 0
-IsInCode elf a = Any (λ s. IsTrue (holds_code s) × (s.addr ≤ a) × (a < s.addr + s.size)) elf.sections.items
+IsInCode elf a = Any (λ s. IsTrue (holds_code s.flags) × (s.addr ≤ a) × (a < s.addr + s.size)) elf.sections.items
 
 -- the stretch of an executable section between two neighbouring cuts
 pub record IsPart (elf : Elf) (start end : ℕ) : Type 0 where

@@ -1,9 +1,11 @@
 -- At which places the references of a file have a fault: relocations, the code that they speak of, and what says that
 -- a file selects its routines itself or was rewritten before.
-use Rattle.std.specs.Prelude.{◌≡◌, ◌≢◌, ◌⊎◌, ℕ, ◌%◌, ◌≤◌, ℤ, pos, ◌≤ℤ◌, IsTrue, IsFalse, IsSome, IsSomeAnd, true, nat_eq, codes, List, Some, Any, length, slice_get}
+use Rattle.std.specs.Prelude.{◌≡◌, ◌≢◌, ◌⊎◌, ℕ, ◌%◌, ◌≤◌, ℤ, pos, ◌≤ℤ◌, IsTrue, IsFalse, IsSome, IsSomeAnd, true, nat_eq, codes}
+use Rattle.std.specs.Prelude.{List, Some, Any, length, slice_get}
 use Rattle.std.specs.List.{starts_with}
 use Rattle.rb_bytes.specs.declared.fault.FaultKind.{FaultKind}
-use Rattle.rb_bytes.specs.declared.fault.FaultKind.TheVariants.{RelocType, RelocMismatch, LoMismatch, NarrowDiff, IfuncOrPlt, AlreadyMoved}
+use Rattle.rb_bytes.specs.declared.fault.FaultKind.TheVariants.{RelocType, RelocMismatch, LoMismatch, NarrowDiff, IfuncOrPlt}
+use Rattle.rb_bytes.specs.declared.fault.FaultKind.TheVariants.{AlreadyMoved}
 use Rattle.rv_code.specs.isa.HiLo.{hi20, lo12}
 use Rattle.rv_code.specs.declared.inst.Inst.{Inst}
 use Rattle.rv_code.specs.declared.inst.Inst.TheVariants.{Auipc, Lui}
@@ -13,9 +15,11 @@ use Rattle.elf_image.specs.declared.relocation.TheConstants.{R_RISCV_GOT_HI20, R
 use Rattle.elf_image.specs.declared.symbol.TheConstants.{STT_GNU_IFUNC}
 use Rattle.elf_image.specs.memory.LoadedBytes.{loaded_number}
 use Rattle.elf_image.specs.faults.SegmentLayout.{address_end}
-use Rattle.elf_image.specs.code.Relocations.{Relocation, relocations, symbol_value, label, is_named, is_supported, is_call_pair, is_pcrel_hi, is_pcrel_lo, Width, plus_width, minus_width, HasRelocation}
+use Rattle.elf_image.specs.code.Relocations.{Relocation, relocations, symbol_value, label, is_named, is_supported, is_call_pair}
+use Rattle.elf_image.specs.code.Relocations.{is_pcrel_hi, is_pcrel_lo, Width, plus_width, minus_width, HasRelocation}
 use Rattle.elf_image.specs.code.Roles.{IsFullAt, lower_immediate, CallPair, CallTo, PcrelLo, PcrelHiTo, AbsoluteTo, IsAbsoluteLow}
-use Rattle.elf_image.specs.code.Cells.{IsOnly, is_plus, is_minus, IsDifference, can_be_cell, IsCodeLabel, HasCodeLabel, IsInOneWhole, Counts, Difference}
+use Rattle.elf_image.specs.code.Cells.{IsOnly, is_plus, is_minus, IsDifference, can_be_cell, IsCodeLabel, HasCodeLabel}
+use Rattle.elf_image.specs.code.Cells.{IsInOneWhole, Counts, Difference}
 use Rattle.elf_image.specs.code.Fields.{HasField, HoldsDifference}
 
 -- A relocation of a type that isn't supported.

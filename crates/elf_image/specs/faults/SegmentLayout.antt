@@ -2,14 +2,12 @@
 -- from all others, in the file as in memory. gABI, "Program Header" and "Program Loading".
 use Rattle.std.specs.Prelude.{◌≡◌, ◌≢◌, ◌≤◌, ◌<◌, ◌⊎◌, ◌+◌, ◌*◌, ℕ, List, IsTrue, nat_eq, codes, Bool, ◌&&◌}
 use Rattle.std.specs.List.{starts_with}
-use Rattle.elf_image.specs.declared.section.SectionHeader.{SectionHeader}
-use Rattle.elf_image.specs.declared.section.TheConstants.{SHF_EXECINSTR}
 use Rattle.elf_image.specs.declared.segment.Segment.{Segment}
 use Rattle.elf_image.specs.declared.segment.TheConstants.{PF_X, PF_W, PHDR_SIZE}
-use Rattle.elf_image.specs.file.Header.{e_phoff, e_phnum, e_shnum, is_set, segment, segment_place}
+use Rattle.elf_image.specs.file.Header.{e_phoff, e_phnum, e_shnum, segment, segment_place}
 use Rattle.elf_image.specs.memory.Image.{is_load, end_of, has_flag, loads_address}
 use Rattle.elf_image.specs.faults.LowestPlace.{SomeBelow}
-use Rattle.elf_image.specs.file.Sections.{section_header, section_place, section_name}
+use Rattle.elf_image.specs.file.Sections.{holds_code, section_header, section_place, section_name}
 
 -- an executable segment
 abbrev pub is_code_segment : Segment → Bool
@@ -88,17 +86,15 @@ IsCrossing file i place = CrossesEnd file (segment file i).offset (segment file 
 abbrev pub IsCrossingTable : List ℕ → ℕ → Type 0
 IsCrossingTable file place = CrossesEnd file (e_phoff file) (PHDR_SIZE * e_phnum file) × (place ≡ e_phoff file)
 
--- an executable section lies in no executable segment; no byte of an empty one lies outside
-abbrev pub is_code_section : SectionHeader → Bool
-is_code_section s = is_set SHF_EXECINSTR s.flags
-
+-- one executable segment loads all addresses of a range
 abbrev pub LiesInCode : List ℕ → ℕ → ℕ → Type 0
 LiesInCode file start end = (j : ℕ) × IsCode file j × ((segment file j).vaddr ≤ start) × (end ≤ end_of (segment file j))
 
+-- an executable section lies in no executable segment; no byte of an empty one lies outside
 abbrev pub IsStraySection : List ℕ → ℕ → ℕ → Type 0
 IsStraySection file i place =
     let s = section_header file i in
-    (IsTrue (is_code_section s) × (s.size ≢ 0) × (LiesInCode file s.addr (s.addr + s.size) → ⊥)) × (place ≡ section_place file i)
+    (IsTrue (holds_code s.flags) × (s.size ≢ 0) × (LiesInCode file s.addr (s.addr + s.size) → ⊥)) × (place ≡ section_place file i)
 
 -- the places where the segments don't lie so
 abbrev pub IsBadCode : List ℕ → ℕ → Type 0

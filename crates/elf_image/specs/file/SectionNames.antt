@@ -5,7 +5,7 @@ use Rattle.std.specs.List.{starts_with}
 use Rattle.std.specs.Str.{bytes_eq}
 use Rattle.elf_image.specs.declared.elf.Section.{Section}
 use Rattle.elf_image.specs.declared.section.TheConstants.{SHF_ALLOC}
-use Rattle.elf_image.specs.code.Cuts.{holds_code}
+use Rattle.elf_image.specs.file.Sections.{holds_code}
 use Rattle.elf_image.specs.file.Header.{is_set}
 
 abbrev pub is_loaded : Section → Bool
@@ -21,8 +21,8 @@ names_debug name = starts_with nat_eq name (codes ".debug_")
 -- Unwind tables are loaded and debug tables aren't, and neither are code. Other names mean any section.
 abbrev pub is_meant_by : List ℕ → Section → Bool
 is_meant_by name section =
-    if names_frames name then is_loaded section && not (holds_code section)
-    else if names_debug name then not (is_loaded section) && not (holds_code section)
+    if names_frames name then is_loaded section && not (holds_code section.flags)
+    else if names_debug name then not (is_loaded section) && not (holds_code section.flags)
     else true
 
 abbrev pub is_called : List ℕ → Section → Bool

@@ -1,9 +1,9 @@
--- Section headers as they stand in a file's bytes. gABI, "Section Header".
-use Rattle.std.specs.Prelude.{ℕ, ◌+◌, ◌*◌, ◌==◌, if◌then◌else◌, List, [], map, take, drop, take_while, not}
+-- Section headers as they stand in a file's bytes. gABI, "Section Header" and "Section Attribute Flags".
+use Rattle.std.specs.Prelude.{ℕ, ◌+◌, ◌*◌, ◌==◌, if◌then◌else◌, Bool, List, [], map, take, drop, take_while, not}
 use Rattle.std.specs.List.{range_with_len}
 use Rattle.elf_image.specs.declared.section.SectionHeader.{SectionHeader}
-use Rattle.elf_image.specs.declared.section.TheConstants.{SHT_NOBITS, SHDR_SIZE}
-use Rattle.elf_image.specs.file.Header.{number_at, e_shoff, e_shnum, e_shstrndx}
+use Rattle.elf_image.specs.declared.section.TheConstants.{SHT_NOBITS, SHF_EXECINSTR, SHDR_SIZE}
+use Rattle.elf_image.specs.file.Header.{number_at, is_set, e_shoff, e_shnum, e_shstrndx}
 
 -- the section header at an offset
 abbrev pub section_header_at : List ℕ → ℕ → SectionHeader
@@ -30,6 +30,10 @@ section_header file index = section_header_at file (section_place file index)
 -- the section headers, in the order of their table
 abbrev pub section_headers : List ℕ → List SectionHeader
 section_headers file = map (section_header file) (range_with_len 0 (e_shnum file))
+
+-- a section with these flags holds instructions
+abbrev pub holds_code : ℕ → Bool
+holds_code flags = is_set SHF_EXECINSTR flags
 
 -- the bytes of a section
 abbrev pub contents : List ℕ → SectionHeader → List ℕ

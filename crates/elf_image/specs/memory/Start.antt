@@ -1,7 +1,8 @@
 -- How a program starts, and its runs. gABI, "Program Loading"; the stack and its auxiliary vector as the
 -- System V ABI has them for other processors ("Process Initialization"), with Linux's AT_RANDOM. The bytes
 -- of a file, of words and of input are below 256, and words hold no zero byte.
-use Rattle.std.specs.Prelude.{ℕ, ◌+◌, ◌-◌, ◌*◌, ◌/◌, ◌^◌, ◌&&◌, ◌||◌, ◌==◌, nat_lt, nat_le, if◌then◌else◌, Bool, List, [], ◌∷◌, ◌++◌, length, min, max, map, filter, fold, flat_map, find, replicate, slice_index, unwrap_or, codes}
+use Rattle.std.specs.Prelude.{ℕ, ◌+◌, ◌-◌, ◌*◌, ◌/◌, ◌^◌, ◌&&◌, ◌||◌, ◌==◌, nat_lt, nat_le, if◌then◌else◌, Bool, List, [], ◌∷◌}
+use Rattle.std.specs.Prelude.{◌++◌, length, min, max, map, filter, fold, flat_map, find, replicate, slice_index, unwrap_or, codes}
 use Rattle.std.specs.Option.{option_map_or}
 use Rattle.rv_code.specs.machine.Machine.{Space, low_bytes, Event, Run, SoFar, HaltsAfter}
 use Rattle.rv_code.specs.declared.cause.Cause.{Cause}
@@ -91,7 +92,8 @@ table_address file = option_map_or (address_in (table_range file)) (find (loads_
 -- AT_PHDR, AT_PHENT, AT_PHNUM, AT_PAGESZ, AT_ENTRY, AT_RANDOM and AT_NULL, each with its value
 abbrev pub auxiliary_vector : List ℕ → List ℕ
 auxiliary_vector file =
-    3 ∷ table_address file ∷ 4 ∷ PHDR_SIZE ∷ 5 ∷ e_phnum file ∷ 6 ∷ page_size ∷ 9 ∷ e_entry file ∷ 25 ∷ random_address ∷ 0 ∷ 0 ∷ []
+    3 ∷ table_address file ∷ 4 ∷ PHDR_SIZE ∷ 5 ∷ e_phnum file ∷ 6 ∷ page_size ∷ 9 ∷ e_entry file
+    ∷ 25 ∷ random_address ∷ 0 ∷ 0 ∷ []
 
 -- the words at the stack pointer: the count of arguments, their addresses, the ends of the lists of arguments
 -- and of environment variables, and the auxiliary vector

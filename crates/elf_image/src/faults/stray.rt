@@ -3,7 +3,8 @@ ghost use Rattle.std.specs.Prelude.{◌≢◌, ◌<◌, ◌+◌, ◌↔◌, ℕ,
 ghost use Rattle.std.specs.List.Sorted.{IsNonDecreasingBy};
 ghost use Rattle.elf_image.specs.faults.Truncation.{IsReadable};
 ghost use Rattle.elf_image.specs.file.Header.{e_phnum, e_shnum};
-ghost use Rattle.elf_image.specs.faults.SegmentLayout.{is_code_section, IsStraySection, LiesInCode};
+ghost use Rattle.elf_image.specs.faults.SegmentLayout.{IsStraySection, LiesInCode};
+ghost use Rattle.elf_image.specs.file.Sections.{holds_code};
 ghost use Rattle.elf_image.specs.faults.LowestPlace.{IsLowest, SomeBelow};
 ghost use Rattle.elf_image.specs.internal.SegmentExtents.{AreExtents, IsCodeExtent};
 ghost use Rattle.elf_image.specs.internal.Extents.{IsInOneExtent};
@@ -58,14 +59,14 @@ fn is_stray(reaches: &[Extent], section: &SectionHeader) -> bool
     requires rising { IsNonDecreasingBy (λ s. s.start) reaches.now }
     requires growing { IsNonDecreasingBy (λ s. s.end) reaches.now }
     ensures { IsTrue result
-        ↔ (IsTrue (is_code_section section.now) × (section.now.size ≢ 0)
+        ↔ (IsTrue (holds_code section.now.flags) × (section.now.size ≢ 0)
         × (IsInOneExtent reaches.now section.now.addr (section.now.addr + section.now.size) → ⊥)) }
 {
     if section.size == 0 {
         return false;
     }
     let end = section.addr as u128 + section.size as u128;
-    section.is_code() && !is_covered(reaches, section.addr, end)
+    section.holds_code() && !is_covered(reaches, section.addr, end)
 }
 
 fn stray_section(headers: SectionTable, reaches: &[Extent], index: u16) -> Option<u64>

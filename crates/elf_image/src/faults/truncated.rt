@@ -1,6 +1,9 @@
 // Where a file is truncated: the lowest place of each kind of structure.
 ghost use Rattle.std.specs.Prelude.{◌≡◌, ◌<◌, IfNone};
-ghost use Rattle.elf_image.specs.faults.Truncation.{HasHeader, HasContents, IsBadHeaderField, IsTruncatedTable, IsTruncatedSegment, IsTruncatedSection, IsUnnamedSection, AreUnnamedSections, IsUnnamedSymbol, IsUnnamedSymbolOf, IsTruncatedBySegments, IsTruncatedBySections, IsTruncated, IsReadable};
+ghost use Rattle.elf_image.specs.faults.Truncation.{HasHeader, HasContents, IsBadHeaderField, IsTruncatedTable};
+ghost use Rattle.elf_image.specs.faults.Truncation.{IsTruncatedSegment, IsTruncatedSection, IsUnnamedSection, AreUnnamedSections};
+ghost use Rattle.elf_image.specs.faults.Truncation.{IsUnnamedSymbol, IsUnnamedSymbolOf, IsTruncatedBySegments};
+ghost use Rattle.elf_image.specs.faults.Truncation.{IsTruncatedBySections, IsTruncated, IsReadable};
 ghost use Rattle.elf_image.specs.internal.TextEnds.{IsLastEnd};
 ghost use Rattle.elf_image.specs.file.Header.{e_phnum, e_shnum, segment};
 ghost use Rattle.elf_image.specs.faults.LowestPlace.{IsLowest, SomeBelow};

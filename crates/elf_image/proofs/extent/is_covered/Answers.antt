@@ -10,5 +10,6 @@ returns-then-below-gt0 c =
       (λ high. IsCovered-from_last c.args.extents.now c.args.start c.args.end (c.count_from-below.result - 1) _ (omega arith)
           (c.count_from-below.ensures.below (c.count_from-below.result - 1) _ (omega arith)) (leb-true _ _ high)),
       (λ covered. le-leb _ _
-          ((IsCovered-by_last c.args.extents.now c.args.start c.args.end c.count_from-below.result _ c.requires.growing c.count_from-below.ensures.above covered).1 bound)),
+          ((IsCovered-by_last c.args.extents.now c.args.start c.args.end c.count_from-below.result _ c.requires.growing
+          c.count_from-below.ensures.above covered).1 bound)),
     )

@@ -9,7 +9,8 @@ use Rattle.elf_image.proofs.extent.lowest_shared.Goals as goal
 pub lowest_shared_sorted-requires-clause-places : goal.lowest_shared_sorted-requires-clause-places
 lowest_shared_sorted-requires-clause-places c =
     let sorted =
-    HavePlaces-permutation c.args.extents.items c.sort_by_start.new.extents.items c.in_ok-sort_by_start.ensures.permutation c.requires.places in
+    HavePlaces-permutation c.args.extents.items c.sort_by_start.new.extents.items
+    c.in_ok-sort_by_start.ensures.permutation c.requires.places in
     subst HavePlaces (sym c.deref.ensures.value) sorted
 
 pub lowest_shared_sorted-requires-clause-not_empty :
@@ -18,7 +19,8 @@ lowest_shared_sorted-requires-clause-not_empty c =
     let NotEmpty : List Extent → Type 0 = λ extents. All (λ s. s.start < s.end) extents in
     let sorted : NotEmpty c.sort_by_start.new.extents.items =
     All-permutation
-    (λ s. s.start < s.end) c.args.extents.items c.sort_by_start.new.extents.items c.in_ok-sort_by_start.ensures.permutation c.requires.not_empty in
+    (λ s. s.start < s.end) c.args.extents.items c.sort_by_start.new.extents.items
+    c.in_ok-sort_by_start.ensures.permutation c.requires.not_empty in
     subst NotEmpty (sym c.deref.ensures.value) sorted
 
 pub returns : goal.returns

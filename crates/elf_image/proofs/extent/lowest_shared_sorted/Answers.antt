@@ -14,7 +14,8 @@ loop-index-preserved c =
     record {
       lowest = IsLowest-next (MeetingPlace extents) index _ _ _ c.lower-lowest.ensures c.loop-index.invariant.lowest
           (IsLowest-place (MeetsAnother extents index) _ _ _ _ c.place_if.ensures place c.meets_another.ensures);
-      reach = IsReach-more extents index c.loop-index.reach _ _ c.loop-index-test.true c.max-reach.ensures c.loop-index.invariant.reach;
+      reach = IsReach-more extents index c.loop-index.reach _ _ c.loop-index-test.true c.max-reach.ensures
+          c.loop-index.invariant.reach;
     }
 
 pub returns : goal.returns

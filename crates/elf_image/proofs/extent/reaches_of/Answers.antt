@@ -11,7 +11,8 @@ loop-extent-preserved c =
     (search rules) c.loop-extent.invariant.reach in
     record {
       reach = reach;
-      reaches = AreReaches-more c.args.extents.now _ _ c.loop-extent.extent-index _ _ c.loop-extent-test.true refl reach c.in_ok-push.ensures.items c.loop-extent.invariant.reaches;
+      reaches = AreReaches-more c.args.extents.now _ _ c.loop-extent.extent-index _ _ c.loop-extent-test.true refl reach
+          c.in_ok-push.ensures.items c.loop-extent.invariant.reaches;
     }
 
 pub returns-clause-growing : goal.returns-clause-growing

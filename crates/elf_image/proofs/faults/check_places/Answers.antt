@@ -9,7 +9,8 @@ pub returns-in_err-refuse_at-clause-fault : goal.returns-in_err-refuse_at-clause
 returns-in_err-refuse_at-clause-fault c =
     let Has = HasFault c.args.file.now in
     let before_5 = c.requires.lacks in
-    let fault = stopped _ Has ExecSegments _ _ _ c.refuse_at.ensures c.in_err-refuse_at.was (omega arith) before_5 c.requires.loading in
+    let fault =
+    stopped _ Has ExecSegments _ _ _ c.refuse_at.ensures c.in_err-refuse_at.was (omega arith) before_5 c.requires.loading in
     let p = err_from_is_err_and c.from_residual.result c.from_residual.ensures.1 in
     rw (p.1, p.2) fault
 
@@ -17,7 +18,8 @@ pub returns-in_err-refuse_at-2-clause-fault : goal.returns-in_err-refuse_at-2-cl
 returns-in_err-refuse_at-2-clause-fault c =
     let Has = HasFault c.args.file.now in
     let before_5 = c.requires.lacks in
-    let before_6 = went_on _ Has ExecSegments _ _ c.refuse_at.ensures c.in_ok-refuse_at.was (omega arith) before_5 c.requires.loading in
+    let before_6 =
+    went_on _ Has ExecSegments _ _ c.refuse_at.ensures c.in_ok-refuse_at.was (omega arith) before_5 c.requires.loading in
     let fault = stopped _ Has WritableCode _ _ _ c.refuse_at-2.ensures c.in_err-refuse_at-2.was
     (omega arith) before_6 c.lowest_writable_code.ensures in
     let p = err_from_is_err_and c.from_residual-in_err-refuse_at-2.result c.from_residual-in_err-refuse_at-2.ensures.1 in
@@ -27,7 +29,8 @@ pub returns-in_err-refuse_at-3-clause-fault : goal.returns-in_err-refuse_at-3-cl
 returns-in_err-refuse_at-3-clause-fault c =
     let Has = HasFault c.args.file.now in
     let before_5 = c.requires.lacks in
-    let before_6 = went_on _ Has ExecSegments _ _ c.refuse_at.ensures c.in_ok-refuse_at.was (omega arith) before_5 c.requires.loading in
+    let before_6 =
+    went_on _ Has ExecSegments _ _ c.refuse_at.ensures c.in_ok-refuse_at.was (omega arith) before_5 c.requires.loading in
     let before_7 =
     went_on _ Has WritableCode _ _ c.refuse_at-2.ensures c.in_ok-refuse_at-2.was
     (omega arith) before_6 c.lowest_writable_code.ensures in
@@ -40,12 +43,14 @@ pub returns-clause-lacks : goal.returns-clause-lacks
 returns-clause-lacks c =
     let Has = HasFault c.args.file.now in
     let before_5 = c.requires.lacks in
-    let before_6 = went_on _ Has ExecSegments _ _ c.refuse_at.ensures c.in_ok-refuse_at.was (omega arith) before_5 c.requires.loading in
+    let before_6 =
+    went_on _ Has ExecSegments _ _ c.refuse_at.ensures c.in_ok-refuse_at.was (omega arith) before_5 c.requires.loading in
     let before_7 =
     went_on _ Has WritableCode _ _ c.refuse_at-2.ensures c.in_ok-refuse_at-2.was
     (omega arith) before_6 c.lowest_writable_code.ensures in
     let before_8 =
-    went_on _ Has HighAddress _ _ c.refuse_at-3.ensures c.in_ok-refuse_at-3.was (omega arith) before_7 c.lowest_high_address.ensures in
+    went_on _ Has HighAddress _ _ c.refuse_at-3.ensures c.in_ok-refuse_at-3.was
+    (omega arith) before_7 c.lowest_high_address.ensures in
     let last = refused _ Has CompressedSection _ _ c.refuse_at-4.ensures (omega arith) before_8
     (c.lowest_compressed.ensures c.args.file.now c.requires.sections) in
     refused-lacks Has 9 c.refuse_at-4.result last
@@ -54,12 +59,14 @@ pub returns-clause-fault : goal.returns-clause-fault
 returns-clause-fault c =
     let Has = HasFault c.args.file.now in
     let before_5 = c.requires.lacks in
-    let before_6 = went_on _ Has ExecSegments _ _ c.refuse_at.ensures c.in_ok-refuse_at.was (omega arith) before_5 c.requires.loading in
+    let before_6 =
+    went_on _ Has ExecSegments _ _ c.refuse_at.ensures c.in_ok-refuse_at.was (omega arith) before_5 c.requires.loading in
     let before_7 =
     went_on _ Has WritableCode _ _ c.refuse_at-2.ensures c.in_ok-refuse_at-2.was
     (omega arith) before_6 c.lowest_writable_code.ensures in
     let before_8 =
-    went_on _ Has HighAddress _ _ c.refuse_at-3.ensures c.in_ok-refuse_at-3.was (omega arith) before_7 c.lowest_high_address.ensures in
+    went_on _ Has HighAddress _ _ c.refuse_at-3.ensures c.in_ok-refuse_at-3.was
+    (omega arith) before_7 c.lowest_high_address.ensures in
     let last = refused _ Has CompressedSection _ _ c.refuse_at-4.ensures (omega arith) before_8
     (c.lowest_compressed.ensures c.args.file.now c.requires.sections) in
     refused-fault Has 9 c.refuse_at-4.result last

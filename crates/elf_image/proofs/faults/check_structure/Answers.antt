@@ -9,7 +9,8 @@ pub returns-in_err-refuse_at-2-clause-fault : goal.returns-in_err-refuse_at-2-cl
 returns-in_err-refuse_at-2-clause-fault c =
     let Has = HasFault c.args.file.now in
     let before_1 = LacksBelow-none Has in
-    let before_2 = went_on _ Has NotElf _ _ c.refuse_at.ensures c.in_ok-refuse_at.was (omega arith) before_1 c.lowest_not_elf.ensures in
+    let before_2 =
+    went_on _ Has NotElf _ _ c.refuse_at.ensures c.in_ok-refuse_at.was (omega arith) before_1 c.lowest_not_elf.ensures in
     let fault = stopped _ Has Truncated _ _ _ c.refuse_at-2.ensures c.in_err-refuse_at-2.was
     (omega arith) before_2 c.lowest_truncated.ensures.lowest in
     let p = err_from_is_err_and c.from_residual-in_err-refuse_at-2.result c.from_residual-in_err-refuse_at-2.ensures.1 in
@@ -19,7 +20,8 @@ pub returns-in_err-refuse_at-3-clause-fault : goal.returns-in_err-refuse_at-3-cl
 returns-in_err-refuse_at-3-clause-fault c =
     let Has = HasFault c.args.file.now in
     let before_1 = LacksBelow-none Has in
-    let before_2 = went_on _ Has NotElf _ _ c.refuse_at.ensures c.in_ok-refuse_at.was (omega arith) before_1 c.lowest_not_elf.ensures in
+    let before_2 =
+    went_on _ Has NotElf _ _ c.refuse_at.ensures c.in_ok-refuse_at.was (omega arith) before_1 c.lowest_not_elf.ensures in
     let before_3 =
     went_on _ Has Truncated _ _ c.refuse_at-2.ensures c.in_ok-refuse_at-2.was
     (omega arith) before_2 c.lowest_truncated.ensures.lowest in
@@ -32,7 +34,8 @@ pub returns-clause-lacks : goal.returns-clause-lacks
 returns-clause-lacks c =
     let Has = HasFault c.args.file.now in
     let before_1 = LacksBelow-none Has in
-    let before_2 = went_on _ Has NotElf _ _ c.refuse_at.ensures c.in_ok-refuse_at.was (omega arith) before_1 c.lowest_not_elf.ensures in
+    let before_2 =
+    went_on _ Has NotElf _ _ c.refuse_at.ensures c.in_ok-refuse_at.was (omega arith) before_1 c.lowest_not_elf.ensures in
     let before_3 =
     went_on _ Has Truncated _ _ c.refuse_at-2.ensures c.in_ok-refuse_at-2.was
     (omega arith) before_2 c.lowest_truncated.ensures.lowest in
@@ -45,7 +48,8 @@ pub returns-clause-fault : goal.returns-clause-fault
 returns-clause-fault c =
     let Has = HasFault c.args.file.now in
     let before_1 = LacksBelow-none Has in
-    let before_2 = went_on _ Has NotElf _ _ c.refuse_at.ensures c.in_ok-refuse_at.was (omega arith) before_1 c.lowest_not_elf.ensures in
+    let before_2 =
+    went_on _ Has NotElf _ _ c.refuse_at.ensures c.in_ok-refuse_at.was (omega arith) before_1 c.lowest_not_elf.ensures in
     let before_3 =
     went_on _ Has Truncated _ _ c.refuse_at-2.ensures c.in_ok-refuse_at-2.was
     (omega arith) before_2 c.lowest_truncated.ensures.lowest in

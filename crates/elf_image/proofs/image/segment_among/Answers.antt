@@ -4,7 +4,8 @@ use Rattle.elf_image.proofs.image.segment_among.Goals as goal
 
 pub returns-then-above-eq0-clause-first : goal.returns-then-above-eq0-clause-first
 returns-then-above-eq0-clause-first c =
-    sym (segment_of-none_below c.args.loads.now c.args.address (λ k d within. c.count_up_to-above.ensures.above k d (omega arith) within))
+    sym (segment_of-none_below c.args.loads.now c.args.address
+    (λ k d within. c.count_up_to-above.ensures.above k d (omega arith) within))
 
 pub returns-then-loads-clause-first : goal.returns-then-loads-clause-first
 returns-then-loads-clause-first c =

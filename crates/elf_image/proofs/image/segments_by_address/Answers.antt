@@ -7,8 +7,10 @@ returns-clause-loaded c =
 
 pub returns-clause-once : goal.returns-clause-once
 returns-clause-once c =
-    LoadOnce-order c.args.segments.now c.in_ok-loads.loads.items _ c.requires c.in_ok-loads.ensures c.in_ok-sort_by_address.ensures.permutation
+    LoadOnce-order c.args.segments.now c.in_ok-loads.loads.items _ c.requires c.in_ok-loads.ensures
+    c.in_ok-sort_by_address.ensures.permutation
 
 pub returns-clause-same : goal.returns-clause-same
 returns-clause-same c =
-    segment_of-order c.args.segments.now c.in_ok-loads.loads.items _ c.requires c.in_ok-loads.ensures c.in_ok-sort_by_address.ensures.permutation
+    segment_of-order c.args.segments.now c.in_ok-loads.loads.items _ c.requires c.in_ok-loads.ensures
+    c.in_ok-sort_by_address.ensures.permutation

@@ -18,4 +18,5 @@ pub invariant_of-result-clause-tables : goal.invariant_of-result-clause-tables
 invariant_of-result-clause-tables c = tables-whole c.args.file.now c.args.sections.items c.requires.readable c.requires.sections
 
 pub invariant_of-result-clause-same : goal.invariant_of-result-clause-same
-invariant_of-result-clause-same c = λ a. c.in_ok-loads.ensures.same a ∙ ap (λ (ps : List Segment). segment_of ps a) c.deref.ensures.value
+invariant_of-result-clause-same c =
+    λ a. c.in_ok-loads.ensures.same a ∙ ap (λ (ps : List Segment). segment_of ps a) c.deref.ensures.value

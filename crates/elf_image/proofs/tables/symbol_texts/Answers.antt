@@ -7,4 +7,5 @@ pub returns-in-None : goal.returns-in-None
 returns-in-None c =
     absurd
     (c.in-None.ensures.none
-    (subst (λ (t : Option SectionHeader). IfSome t (HasSymbolNames c.args.file.now)) c.requires.is_table c.requires.whole.symbol_names))
+    (subst
+    (λ (t : Option SectionHeader). IfSome t (HasSymbolNames c.args.file.now)) c.requires.is_table c.requires.whole.symbol_names))

@@ -3,5 +3,16 @@ use Rattle.elf_parts.proofs.spell.put_section.Goals as goal
 
 pub returns : goal.returns
 returns c =
-    rw (c.in_ok-put_u64-6.ensures, c.in_ok-put_u64-5.ensures, c.in_ok-put_u32-4.ensures, c.in_ok-put_u32-3.ensures, c.in_ok-put_u64-4.ensures, c.in_ok-put_u64-3.ensures, c.in_ok-put_u64-2.ensures, c.in_ok-put_u64.ensures, c.in_ok-put_u32-2.ensures, c.in_ok-put_u32.ensures)
+    rw (
+      c.in_ok-put_u64-6.ensures,
+      c.in_ok-put_u64-5.ensures,
+      c.in_ok-put_u32-4.ensures,
+      c.in_ok-put_u32-3.ensures,
+      c.in_ok-put_u64-4.ensures,
+      c.in_ok-put_u64-3.ensures,
+      c.in_ok-put_u64-2.ensures,
+      c.in_ok-put_u64.ensures,
+      c.in_ok-put_u32-2.ensures,
+      c.in_ok-put_u32.ensures,
+    )
     (section_bytes-appended c.args.out.now.items c.args.s.now)

@@ -3,5 +3,14 @@ use Rattle.elf_parts.proofs.spell.put_segment.Goals as goal
 
 pub returns-clause-bytes : goal.returns-clause-bytes
 returns-clause-bytes c =
-    rw (c.in_ok-put_u64-6.ensures, c.in_ok-put_u64-5.ensures, c.in_ok-put_u64-4.ensures, c.in_ok-put_u64-3.ensures, c.in_ok-put_u64-2.ensures, c.in_ok-put_u64.ensures, c.in_ok-put_u32-2.ensures, c.in_ok-put_u32.ensures)
+    rw (
+      c.in_ok-put_u64-6.ensures,
+      c.in_ok-put_u64-5.ensures,
+      c.in_ok-put_u64-4.ensures,
+      c.in_ok-put_u64-3.ensures,
+      c.in_ok-put_u64-2.ensures,
+      c.in_ok-put_u64.ensures,
+      c.in_ok-put_u32-2.ensures,
+      c.in_ok-put_u32.ensures,
+    )
     (segment_bytes-appended c.args.out.now.items c.args.p.now)

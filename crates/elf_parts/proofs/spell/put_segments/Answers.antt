@@ -18,5 +18,6 @@ loop-p-preserved c = (grind (arith, common_steps, tables), fits)
         cases (inr high) =
             let inside : c.loop-p.p-index < length c.args.segments.now = search rules in
             let at : c.loop-p.p-index ≡ k = omega arith in
-            let here : SegmentFits (get_or c.args.segments.now c.loop-p.p-index d) = subst (λ (p : Segment). SegmentFits p) (get_or_default c.args.segments.now c.loop-p.p-index _ d inside) c.in_ok-put_segment.ensures.fits in
+            let here : SegmentFits (get_or c.args.segments.now c.loop-p.p-index d) = subst (λ (p : Segment). SegmentFits p)
+            (get_or_default c.args.segments.now c.loop-p.p-index _ d inside) c.in_ok-put_segment.ensures.fits in
             subst (λ (j : ℕ). SegmentFits (get_or c.args.segments.now j d)) at here

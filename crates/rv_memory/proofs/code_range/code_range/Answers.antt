@@ -33,4 +33,5 @@ returns-clause-bytes c = λ q here.
     let parts = and_parts (nat_le p.vaddr q) (nat_lt q (p.vaddr + c.min-size.result)) here in
     let low : p.vaddr ≤ q = leb-true p.vaddr q parts.0 in
     let high : q < p.vaddr + c.min-size.result = ltb-true q (p.vaddr + c.min-size.result) parts.1 in
-    byte_there c.args.elf.now c.args.elf.now.entry p (sym c.in-Some.ensures.first) c.in-Some.ensures.loads q low (omega arith) (omega arith)
+    byte_there c.args.elf.now c.args.elf.now.entry p (sym c.in-Some.ensures.first) c.in-Some.ensures.loads q low
+    (omega arith) (omega arith)

@@ -7,4 +7,5 @@ use Rattle.rv_memory.proofs.program_break.writable_end.Given as goal
 
 abbrev pub invariant-loop-segment : goal.invariant-loop-segment
 invariant-loop-segment l =
-    fold max l.end (map end_of (filter (λ p. has_memory p && has_flag PF_W p) (drop l.segment-index l.segments))) ≡ writable_end l.segments
+    fold max l.end (map end_of (filter (λ p. has_memory p && has_flag PF_W p) (drop l.segment-index l.segments)))
+    ≡ writable_end l.segments

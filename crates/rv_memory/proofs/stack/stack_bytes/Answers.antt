@@ -8,13 +8,15 @@ use Rattle.rv_memory.proofs.stack.stack_bytes.Goals as goal
 pub overflow_sub-address : goal.overflow_sub-address
 overflow_sub-address c =
     let words : List (List ℕ) = map string_bytes c.args.words.now in
-    let ends : length c.deref-ends.result.now ≡ length (texts words) = ap length (c.deref-ends.ensures.value ∙ c.in_ok-ends.ensures) in
+    let ends : length c.deref-ends.result.now ≡ length (texts words) =
+    ap length (c.deref-ends.ensures.value ∙ c.in_ok-ends.ensures) in
     omega (arith, ends, length-texts words c.requires.limits)
 
 pub stack_pointer-pointer-requires-clause-room : goal.stack_pointer-pointer-requires-clause-room
 stack_pointer-pointer-requires-clause-room c =
     let words : List (List ℕ) = map string_bytes c.args.words.now in
-    let ends : length c.deref-ends.result.now ≡ length (texts words) = ap length (c.deref-ends.ensures.value ∙ c.in_ok-ends.ensures) in
+    let ends : length c.deref-ends.result.now ≡ length (texts words) =
+    ap length (c.deref-ends.ensures.value ∙ c.in_ok-ends.ensures) in
     omega (arith, ends, length-texts words c.requires.limits)
 
 pub returns : goal.returns
@@ -24,7 +26,8 @@ returns c =
     let ends : c.deref-ends.result.now ≡ texts words = c.deref-ends.ensures.value ∙ c.in_ok-ends.ensures in
     let address : random_address - length c.deref-ends.result.now ≡ texts_address words =
     ap (λ (bytes : List ℕ). random_address - length bytes) ends in
-    let count : length c.args.words.now + 1 ≡ length (program_arguments words) = omega (arith, length-map c.args.words.now string_bytes) in
+    let count : length c.args.words.now + 1 ≡ length (program_arguments words) =
+    omega (arith, length-map c.args.words.now string_bytes) in
     let pointer : c.stack_pointer-pointer.result ≡ stack_pointer words =
     c.stack_pointer-pointer.ensures
     ∙ ap (λ (a : ℕ). rounded_down 16 (a - 8 * (length c.args.words.now + 1 + 17))) address
@@ -37,7 +40,8 @@ returns c =
     c.in_ok-resize.ensures.items
     ∙ ap (λ k. take k c.in_ok-out.out.items ++ replicate (k - c.in_ok-out.out.len) 0) size
     ∙ padded c.in_ok-out.out.items (start_bytes file words) n c.in_ok-out.out.len
-    (n - length (start_bytes file words)) c.in_ok-out.ensures (search rules) (start_bytes-room file words c.requires.limits) refl in
+    (n - length (start_bytes file words)) c.in_ok-out.ensures (search rules)
+    (start_bytes-room file words c.requires.limits) refl in
     c.in_ok-extend_from_slice-2.ensures.items
     ∙ ap (λ bytes. bytes ++ random_bytes)
     (c.in_ok-extend_from_slice.ensures.items ∙ ap (λ bytes. bytes ++ c.deref-ends.result.now) resized

@@ -4,7 +4,7 @@ use Rattle.std.specs.Prelude.{map, flat_map, string_bytes}
 use Rattle.rv_code.specs.machine.Machine.{low_bytes}
 use Rattle.elf_image.specs.file.Header.{e_phnum}
 use Rattle.elf_image.specs.memory.Start.{program_arguments, texts, texts_address, text_addresses, table_address}
-use Rattle.rv_memory.specs.Table.{vector}
+use Rattle.rv_memory.specs.Vector.{vector}
 use Rattle.rv_memory.proofs.StackLengths.{length-texts, start_bytes-is}
 use Rattle.elf_image.proofs.ReadLists.{length-segments_of}
 use Rattle.rv_memory.proofs.stack.start_bytes.Goals as goal
@@ -22,8 +22,10 @@ returns c =
     let all : ℕ → ℕ → ℕ → ℕ → ℕ → List ℕ = λ count address table headers entry.
     ((low_bytes 8 count ++ flat_map (low_bytes 8) (text_addresses address (program_arguments words)))
     ++ flat_map (low_bytes 8) (0 ∷ 0 ∷ [])) ++ flat_map (low_bytes 8) (vector table headers entry) in
-    let count : length c.args.words.now + 1 ≡ length (program_arguments words) = omega (arith, length-map c.args.words.now string_bytes) in
-    let headers : length c.deref-segments.result.now ≡ e_phnum file = ap length (c.deref-segments.ensures.value ∙ c.requires.segments)
+    let count : length c.args.words.now + 1 ≡ length (program_arguments words) =
+    omega (arith, length-map c.args.words.now string_bytes) in
+    let headers : length c.deref-segments.result.now ≡ e_phnum file =
+    ap length (c.deref-segments.ensures.value ∙ c.requires.segments)
     ∙ length-segments_of file in
     let first : c.put_word.new.out.items ≡ low_bytes 8 (length c.args.words.now + 1) = c.in_ok-put_word.ensures
     ∙ ap (λ bytes. bytes ++ low_bytes 8 (length c.args.words.now + 1)) c.new-out.ensures.items in
@@ -42,6 +44,8 @@ returns c =
     (length c.deref-segments.result.now) c.args.elf.now.entry) c.requires.address
     ∙ ap (λ t. all (length (program_arguments words)) (texts_address words) t
     (length c.deref-segments.result.now) c.args.elf.now.entry) c.table_address.ensures
-    ∙ ap (λ n. all (length (program_arguments words)) (texts_address words) (table_address file % 2 ^ 64) n c.args.elf.now.entry) headers
-    ∙ ap (all (length (program_arguments words)) (texts_address words) (table_address file % 2 ^ 64) (e_phnum file)) c.requires.entry
+    ∙ ap (λ n. all (length (program_arguments words)) (texts_address words)
+    (table_address file % 2 ^ 64) n c.args.elf.now.entry) headers
+    ∙ ap
+    (all (length (program_arguments words)) (texts_address words) (table_address file % 2 ^ 64) (e_phnum file)) c.requires.entry
     ∙ start_bytes-is file words

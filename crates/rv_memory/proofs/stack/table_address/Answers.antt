@@ -6,9 +6,11 @@ pub returns-in-Some : goal.returns-in-Some
 returns-in-Some c =
     ap (λ (a : ℕ). a % 2 ^ 64)
     (sym (table_address-is c.args.elf.now.file.now c.args.elf.now.phoff c.args.elf.now.segments.items
-    (Some c.in-Some.segment.now) c.requires.phoff c.requires.segments (rw (c.deref-segments.ensures.value) at c.in-Some.ensures.first)))
+    (Some c.in-Some.segment.now) c.requires.phoff c.requires.segments
+    (rw (c.deref-segments.ensures.value) at c.in-Some.ensures.first)))
 
 pub returns-in-None : goal.returns-in-None
 returns-in-None c =
     ap (λ (a : ℕ). a % 2 ^ 64)
-    (sym (table_address-is c.args.elf.now.file.now c.args.elf.now.phoff c.args.elf.now.segments.items None c.requires.phoff c.requires.segments (rw (c.deref-segments.ensures.value) at c.in-None.ensures.first)))
+    (sym (table_address-is c.args.elf.now.file.now c.args.elf.now.phoff c.args.elf.now.segments.items None c.requires.phoff
+    c.requires.segments (rw (c.deref-segments.ensures.value) at c.in-None.ensures.first)))

@@ -5,4 +5,5 @@ use Rattle.rv_memory.proofs.stack.texts.Given as goal
 
 abbrev pub invariant-loop-word : goal.invariant-loop-word
 invariant-loop-word l =
-    l.out.items ++ flat_map (λ text. text ++ 0 ∷ []) (map string_bytes (drop l.word-index l.words)) ≡ texts (map string_bytes l.words)
+    l.out.items ++ flat_map (λ text. text ++ 0 ∷ []) (map string_bytes (drop l.word-index l.words))
+    ≡ texts (map string_bytes l.words)

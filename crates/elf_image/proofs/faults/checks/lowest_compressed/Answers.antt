@@ -11,7 +11,8 @@ returns-then-is_compressed c = λ file are.
     let within = c.loop-index-test.true in
     let same = is_compressed-same file c.loop-index.index _ at in
     let holds : HasCompressed file c.loop-index.index = sym same ∙ sym c.is_compressed.ensures ∙ c.if-is_compressed.true in
-    IsLowest-first (HasCompressed file) (λ i. i) _ c.loop-index.index (λ k more. more) (omega arith) holds (c.loop-index.invariant file are)
+    IsLowest-first (HasCompressed file) (λ i. i) _ c.loop-index.index (λ k more. more) (omega arith) holds
+    (c.loop-index.invariant file are)
 
 pub loop-index-preserved : goal.loop-index-preserved
 loop-index-preserved c = λ file are.

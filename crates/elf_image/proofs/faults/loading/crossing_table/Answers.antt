@@ -10,6 +10,7 @@ returns c =
     let AtOffset : ℕ → Type 0 =
     λ offset. IsTrue c.crosses_end.result ↔ CrossesEnd c.args.segments.file.now offset (PHDR_SIZE * c.e_phnum.result) in
     let OfSize : ℕ → Type 0 =
-    λ count. IsTrue c.crosses_end.result ↔ CrossesEnd c.args.segments.file.now (e_phoff c.args.segments.file.now) (PHDR_SIZE * count) in
+    λ count. IsTrue c.crosses_end.result
+    ↔ CrossesEnd c.args.segments.file.now (e_phoff c.args.segments.file.now) (PHDR_SIZE * count) in
     IsLowest-place _ _ _ _ _ c.place_if.ensures c.e_phoff-offset.ensures
     (subst OfSize c.e_phnum.ensures (subst AtOffset c.e_phoff-offset.ensures c.crosses_end.ensures))

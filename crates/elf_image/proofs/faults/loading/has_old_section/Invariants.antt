@@ -4,4 +4,5 @@ use Rattle.elf_image.specs.declared.elf.Section.{Section}
 use Rattle.elf_image.proofs.faults.loading.has_old_section.Given as goal
 
 abbrev pub invariant-loop-section : goal.invariant-loop-section
-invariant-loop-section l = (k : ℕ) (d : Section) → k < l.section-index → IsTrue (starts_with nat_eq (slice_index_or l.sections k d).name.now (codes ".old.")) → ⊥
+invariant-loop-section l = (k : ℕ) (d : Section) → k < l.section-index →
+    IsTrue (starts_with nat_eq (slice_index_or l.sections k d).name.now (codes ".old.")) → ⊥

@@ -5,7 +5,8 @@ use Rattle.elf_image.proofs.faults.overlap.lowest_shared_byte.Goals as goal
 
 pub lowest_shared-requires-clause-not_empty : goal.lowest_shared-requires-clause-not_empty
 lowest_shared-requires-clause-not_empty c =
-    not_empty (IsFileExtent c.args.segments.file.now) _ _ (IsFileExtent-not_empty c.args.segments.file.now) c.in_ok-file_extents.ensures
+    not_empty (IsFileExtent c.args.segments.file.now) _ _
+    (IsFileExtent-not_empty c.args.segments.file.now) c.in_ok-file_extents.ensures
 
 pub returns : goal.returns
 returns c =

@@ -13,7 +13,8 @@ lowest_stray-requires-clause-covered c =
     let Sorted : List Extent → Type 0 = λ sorted. (a e : ℕ) → a < e →
     IsInOneExtent c.in_ok-reaches.reaches.items a e ↔ IsInOneExtent sorted a e in
     subst InCode (sym c.deref-2.ensures.value)
-    (IsCovered-in_code file c.in_ok-codes.codes.items c.sort_by_start.new.extents.items c.in_ok-reaches.reaches.items c.in_ok-codes.ensures c.in_ok-sort_by_start.ensures.permutation
+    (IsCovered-in_code file c.in_ok-codes.codes.items c.sort_by_start.new.extents.items c.in_ok-reaches.reaches.items
+    c.in_ok-codes.ensures c.in_ok-sort_by_start.ensures.permutation
     (subst Sorted c.deref.ensures.value c.in_ok-reaches.ensures.covered))
 
 pub reaches_of-requires : goal.reaches_of-requires

@@ -1,7 +1,6 @@
 use Rattle.std.proofs.Common.{◌≢◌, ◌+◌, ◌↔◌, subst, IsTrue}
 use Rattle.elf_image.specs.declared.section.SectionHeader.{SectionHeader}
-use Rattle.elf_image.specs.faults.SegmentLayout.{is_code_section}
-use Rattle.elf_image.specs.file.Sections.{section_header}
+use Rattle.elf_image.specs.file.Sections.{section_header, holds_code}
 use Rattle.elf_image.specs.internal.Extents.{IsInOneExtent}
 use Rattle.elf_image.proofs.LowestPlaces.{IsLowest-place}
 use Rattle.elf_image.proofs.ReachLemmas.{IsStray-same}
@@ -12,7 +11,7 @@ returns c =
     let file = c.args.headers.file.now in
     let Says : SectionHeader → Type 0 =
     λ s. IsTrue c.is_stray-is_wrong.result
-    ↔ (IsTrue (is_code_section s) × (s.size ≢ 0) × (IsInOneExtent c.args.reaches.now s.addr (s.addr + s.size) → ⊥)) in
+    ↔ (IsTrue (holds_code s.flags) × (s.size ≢ 0) × (IsInOneExtent c.args.reaches.now s.addr (s.addr + s.size) → ⊥)) in
     IsLowest-place _ _ _ _ _ c.place_if.ensures c.section_place.ensures
     (IsStray-same file c.args.reaches.now (section_header file c.args.index) _ c.requires.covered
     (subst Says c.section_of.ensures c.is_stray-is_wrong.ensures))

@@ -10,7 +10,8 @@ loop-index-init c = IsLowest-begin (IsUnnamedSection c.args.headers.file.now)
 
 pub loop-index-preserved : goal.loop-index-preserved
 loop-index-preserved c =
-    IsLowest-next (IsUnnamedSection c.args.headers.file.now) _ _ _ _ c.lower-lowest.ensures c.loop-index.invariant c.unnamed_section.ensures
+    IsLowest-next
+    (IsUnnamedSection c.args.headers.file.now) _ _ _ _ c.lower-lowest.ensures c.loop-index.invariant c.unnamed_section.ensures
 
 pub returns : goal.returns
 returns c =
@@ -18,4 +19,5 @@ returns c =
     IsLowest-all (IsUnnamedSection c.args.headers.file.now) _ _ _ all c.loop-index.invariant
 
 pub unnamed_section-requires-clause-end : goal.unnamed_section-requires-clause-end
-unnamed_section-requires-clause-end c = subst (λ (t : List ℕ). IsLastEnd t c.last_end-end.result) c.requires.names c.last_end-end.ensures
+unnamed_section-requires-clause-end c =
+    subst (λ (t : List ℕ). IsLastEnd t c.last_end-end.result) c.requires.names c.last_end-end.ensures

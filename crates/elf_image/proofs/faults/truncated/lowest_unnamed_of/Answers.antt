@@ -11,7 +11,8 @@ loop-index-init c = IsLowest-begin (IsUnnamedSymbol c.args.file.now c.args.table
 pub loop-index-preserved : goal.loop-index-preserved
 loop-index-preserved c =
     IsLowest-next
-    (IsUnnamedSymbol c.args.file.now c.args.table.now) _ _ _ _ c.lower-lowest.ensures c.loop-index.invariant c.unnamed_symbol.ensures
+    (IsUnnamedSymbol c.args.file.now c.args.table.now) _ _ _ _ c.lower-lowest.ensures c.loop-index.invariant
+    c.unnamed_symbol.ensures
 
 pub returns : goal.returns
 returns c =
@@ -19,4 +20,5 @@ returns c =
     IsLowest-all (IsUnnamedSymbol c.args.file.now c.args.table.now) _ _ _ all c.loop-index.invariant
 
 pub unnamed_symbol-requires-clause-end : goal.unnamed_symbol-requires-clause-end
-unnamed_symbol-requires-clause-end c = subst (λ (t : List ℕ). IsLastEnd t c.last_end-end.result) c.requires.names c.last_end-end.ensures
+unnamed_symbol-requires-clause-end c =
+    subst (λ (t : List ℕ). IsLastEnd t c.last_end-end.result) c.requires.names c.last_end-end.ensures

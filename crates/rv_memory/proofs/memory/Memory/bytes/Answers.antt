@@ -5,8 +5,10 @@ use Rattle.rv_memory.proofs.memory.Memory.bytes.Goals as goal
 pub loop-i-preserved : goal.loop-i-preserved
 loop-i-preserved c =
     rw (c.in_ok-push.ensures.items, c.byte.ensures)
-    (cells_more (memory_of c.args.self.now) c.args.address c.loop-i.i c.args.count c.loop-i.bytes.items _ c.loop-i-test.true c.loop-i.invariant)
+    (cells_more (memory_of c.args.self.now) c.args.address c.loop-i.i c.args.count c.loop-i.bytes.items _
+    c.loop-i-test.true c.loop-i.invariant)
 
 pub returns : goal.returns
 returns c = cells_all
-    (memory_of c.args.self.now) c.args.address c.loop-i.i c.args.count c.loop-i.bytes.items _ c.loop-i-test.false c.loop-i.invariant
+    (memory_of c.args.self.now) c.args.address c.loop-i.i c.args.count c.loop-i.bytes.items _
+    c.loop-i-test.false c.loop-i.invariant

@@ -37,5 +37,6 @@ returns-else-lies_in c = λ yes.
           (λ q from to. or_third (is_loaded_with PF_R m.elf.now.segments.items q) (in_stack q) (gained_by_break m q)
           (here q from to)),
       all_may-run (writes m) a n (omega arith)
-          (λ q from to. or_third (is_loaded_with PF_W m.elf.now.segments.items q) (in_stack q) (gained_by_break m q) (here q from to)),
+          (λ q from to. or_third (is_loaded_with PF_W m.elf.now.segments.items q) (in_stack q)
+          (gained_by_break m q) (here q from to)),
     )

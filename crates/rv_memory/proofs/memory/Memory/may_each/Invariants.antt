@@ -4,4 +4,5 @@ use Rattle.rv_memory.specs.Memory.{may}
 use Rattle.rv_memory.proofs.memory.Memory.may_each.Given as goal
 
 abbrev pub invariant-loop-i : goal.invariant-loop-i
-invariant-loop-i l = all_may (may l.self l.access) l.address l.count ≡ all_may (may l.self l.access) (plus l.address l.i) (l.count - l.i)
+invariant-loop-i l =
+    all_may (may l.self l.access) l.address l.count ≡ all_may (may l.self l.access) (plus l.address l.i) (l.count - l.i)

@@ -27,7 +27,8 @@ loop-left-preserved c = record {
   written = λ q.
       let inside : c.loop-left.left - 1 < length c.args.bytes.now = omega (arith, c.loop-left.invariant.within) in
       let next : c.loop-left.left - 1 + 1 ≡ c.loop-left.left = omega arith in
-      let step = rw next at (put_next (memory_of c.args.self.now) c.args.address (c.loop-left.left - 1) q c.args.bytes.now inside) in
+      let step =
+      rw next at (put_next (memory_of c.args.self.now) c.args.address (c.loop-left.left - 1) q c.args.bytes.now inside) in
       grind (arith, common_steps, step, c.loop-left.invariant.written q, c.overwrite_byte.ensures.written q);
   space_kept = search (rules, c.loop-left.invariant.space_kept, c.overwrite_byte.ensures.space_kept);
 }

@@ -4,4 +4,5 @@ use Rattle.rv_memory.proofs.memory.Memory.overwrite_byte.Goals as goal
 
 pub invariant_of-self-clause-code_stays : goal.invariant_of-self-clause-code_stays
 invariant_of-self-clause-code_stays c =
-    code_put_byte c.args.self.now (page_byte c.put_byte.new.self) c.args.address c.args.byte c.requires.writable c.put_byte.ensures
+    code_put_byte c.args.self.now
+    (page_byte c.put_byte.new.self) c.args.address c.args.byte c.requires.writable c.put_byte.ensures

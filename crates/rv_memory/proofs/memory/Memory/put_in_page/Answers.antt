@@ -18,5 +18,6 @@ pub invariant_of-self-clause-code_stays : goal.invariant_of-self-clause-code_sta
 invariant_of-self-clause-code_stays c =
     let m = c.args.self.now in
     let low = low_bytes c.args.count c.args.number in
-    code_put_if m c.put.result (page_byte c.put.new.self) c.args.address c.args.count low (length-low_bytes c.args.count c.args.number)
+    code_put_if m c.put.result (page_byte c.put.new.self) c.args.address c.args.count low
+    (length-low_bytes c.args.count c.args.number)
     (omega arith) c.requires.writable c.put.ensures.put c.put.ensures.kept

@@ -11,7 +11,8 @@ loop-i-preserved c = record {
   room = λ k within. elim (cases_lt k c.loop-i.i) [
     | inl less ↦ c.reserve_byte.ensures.others (plus c.args.address k) (c.loop-i.invariant.room k less)
     | inr more ↦ let same : c.loop-i.i ≡ k = omega arith in
-        subst (λ j. IsSome (page_byte c.reserve_byte.new.self.pages (plus c.args.address j))) same (c.in_ok-reserve_byte.ensures.room refl)
+        subst (λ j. IsSome (page_byte c.reserve_byte.new.self.pages (plus c.args.address j))) same
+        (c.in_ok-reserve_byte.ensures.room refl)
   ];
   space_kept = search (rules, c.loop-i.invariant.space_kept, c.reserve_byte.ensures.space_kept);
 }

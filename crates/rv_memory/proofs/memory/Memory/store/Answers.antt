@@ -21,4 +21,5 @@ pub write-requires : goal.write-requires
 write-requires c =
     let size : c.args.count ≡ length c.split_at.result.0.now = sym c.split_at.ensures.front_len in
     subst (λ n. all_may (writes c.put_in_page.new.self) c.args.address n ≡ true) size
-    (writable-keeps c.args.self.now c.put_in_page.new.self c.put_in_page.ensures.space_kept c.args.address c.args.count c.requires.writable)
+    (writable-keeps c.args.self.now c.put_in_page.new.self c.put_in_page.ensures.space_kept c.args.address
+    c.args.count c.requires.writable)

@@ -30,5 +30,6 @@ loop-k-preserved c = record {
       ap (λ xs. get_or xs j 0) c.in_ok-push.ensures.items
       ∙ pushed_more
       (λ k. unwritten_byte c.args.self.now
-      (c.args.number * 4096 + k)) c.loop-k.page.items c.unwritten_byte.result c.loop-k.k c.loop-k.invariant.size c.unwritten_byte.ensures c.loop-k.invariant.bytes j within;
+      (c.args.number * 4096 + k)) c.loop-k.page.items c.unwritten_byte.result c.loop-k.k c.loop-k.invariant.size
+      c.unwritten_byte.ensures c.loop-k.invariant.bytes j within;
 }

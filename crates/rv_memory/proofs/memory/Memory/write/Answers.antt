@@ -7,7 +7,8 @@ use Rattle.rv_memory.proofs.memory.Memory.write.Goals as goal
 
 pub overwrite-requires-clause-writable : goal.overwrite-requires-clause-writable
 overwrite-requires-clause-writable c =
-    writable-keeps c.args.self.now c.reserve.new.self c.reserve.ensures.space_kept c.args.address (length c.args.bytes.now) c.requires
+    writable-keeps c.args.self.now c.reserve.new.self c.reserve.ensures.space_kept c.args.address
+    (length c.args.bytes.now) c.requires
 
 pub returns-clause-written : goal.returns-clause-written
 returns-clause-written c = λ ok q. c.overwrite.ensures.written q

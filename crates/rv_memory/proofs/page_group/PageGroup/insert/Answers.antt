@@ -39,7 +39,8 @@ returns-clause-added c = λ ok q.
     ∙ ap (λ ys. rank ys n) (c.deref.ensures.value ∙ c.reserve.ensures.items) in
     let numbers : c.insert.new.self.items ≡ insert xs (rank xs n) n = (rw c.unwrap.ensures at c.insert.ensures.items)
     ∙ ap (λ ys. insert ys c.rank-above.result n) c.reserve.ensures.items ∙ ap (λ i. insert xs i n) is in
-    let places : c.insert-2.new.self.items ≡ insert ps (rank xs n) c.args.place = (rw c.unwrap-2.ensures at c.insert-2.ensures.items)
+    let places : c.insert-2.new.self.items ≡ insert ps (rank xs n) c.args.place =
+    (rw c.unwrap-2.ensures at c.insert-2.ensures.items)
     ∙ ap (λ ys. insert ys c.rank-above.result c.args.place) c.reserve-2.ensures.items ∙ ap (λ i. insert ps i c.args.place) is in
     ap (λ ys. beside ys c.insert-2.new.self.items q) numbers
     ∙ ap (λ ys. beside (insert xs (rank xs n) n) ys q) places

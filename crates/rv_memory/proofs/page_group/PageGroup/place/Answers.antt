@@ -9,7 +9,8 @@ returns-then-above-eq0 c =
     let group = c.args.self.now in
     let is : c.rank-above.result ≡ rank group.numbers.items c.args.number = c.rank-above.ensures
     ∙ ap (λ xs. rank xs c.args.number) c.deref-numbers.ensures.value in
-    sym (beside_missing group.numbers.items group.places.items (record { at = group.ascending }) c.args.number c.rank-above.result is
+    sym (beside_missing group.numbers.items group.places.items
+    (record { at = group.ascending }) c.args.number c.rank-above.result is
     (λ some. absurd (omega arith)))
 
 pub returns-then-numbers-above : goal.returns-then-numbers-above
@@ -17,8 +18,10 @@ returns-then-numbers-above c =
     let group = c.args.self.now in
     let is : c.rank-above.result ≡ rank group.numbers.items c.args.number = c.rank-above.ensures
     ∙ ap (λ xs. rank xs c.args.number) c.deref-numbers.ensures.value in
-    sym (beside_missing group.numbers.items group.places.items (record { at = group.ascending }) c.args.number c.rank-above.result is
-    (λ some same. c.if-numbers-above.true (ap (λ xs. get_or xs (c.rank-above.result - 1) 0) c.deref-numbers.ensures.value ∙ same)))
+    sym (beside_missing group.numbers.items group.places.items
+    (record { at = group.ascending }) c.args.number c.rank-above.result is
+    (λ some same. c.if-numbers-above.true
+    (ap (λ xs. get_or xs (c.rank-above.result - 1) 0) c.deref-numbers.ensures.value ∙ same)))
 
 pub returns : goal.returns
 returns c =

@@ -14,7 +14,8 @@ returns-in_err-reserve-2-clause-kept c =
 
 pub returns-in_err-insert-clause-kept : goal.returns-in_err-insert-clause-kept
 returns-in_err-insert-clause-kept c =
-    on_err _ (byte_in-same c.insert.new.self c.reserve.new.self.items c.args.self.now c.reserve.ensures.items c.in_err-insert.ensures.kept)
+    on_err _
+    (byte_in-same c.insert.new.self c.reserve.new.self.items c.args.self.now c.reserve.ensures.items c.in_err-insert.ensures.kept)
 
 pub invariant_of-self-2 : goal.invariant_of-self-2
 invariant_of-self-2 c =

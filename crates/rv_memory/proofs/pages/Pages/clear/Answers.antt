@@ -14,7 +14,8 @@ returns-in-Some c = λ q.
     let in_page : a % 4096 + length (replicate c.args.count 0) ≤ 4096 =
     omega (arith, c.requires, length-replicate {A = ℕ} c.args.count 0) in
     vector_written p c.clear_bytes.new.bytes (replicate c.args.count 0) a c.in-Some.place found in_page
-    (c.clear_bytes.ensures ∙ ap (patched (c.in-Some.place * 4096 + a % 4096) (replicate c.args.count 0)) c.deref_mut.ensures.value) q
+    (c.clear_bytes.ensures
+    ∙ ap (patched (c.in-Some.place * 4096 + a % 4096) (replicate c.args.count 0)) c.deref_mut.ensures.value) q
     ∙ byte_put-zeros p a c.args.count c.in-Some.place found c.requires q
 
 pub returns-in_default : goal.returns-in_default

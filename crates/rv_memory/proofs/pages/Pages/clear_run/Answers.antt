@@ -12,7 +12,8 @@ returns c = λ q.
       | inl back ↦
           let none_at : (nat_le c.args.from q && nat_lt q c.loop-at.at) ≡ false =
           false_from_ne_true (nat_le c.args.from q && nat_lt q c.loop-at.at)
-          (λ e. let parts = and_parts (nat_le c.args.from q) (nat_lt q c.loop-at.at) e in let low = leb-true c.args.from q parts.0 in
+          (λ e. let parts = and_parts (nat_le c.args.from q) (nat_lt q c.loop-at.at) e in
+          let low = leb-true c.args.from q parts.0 in
           let high = ltb-true q c.loop-at.at parts.1 in omega (arith, c.loop-at.invariant.within)) in
           let none_to : (nat_le c.args.from q && nat_lt q c.args.to) ≡ false =
           false_from_ne_true (nat_le c.args.from q && nat_lt q c.args.to)
