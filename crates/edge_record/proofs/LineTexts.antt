@@ -43,9 +43,12 @@ line_split : (a b c d e rest : List ℕ) → line_with a b c d e rest ≡ line_w
 line_split a b c d e rest =
     let in_e = after e rest [] rest refl in
     let in_d = after d (32 ∷ 48 ∷ 32 ∷ (e ++ rest)) (32 ∷ 48 ∷ 32 ∷ (e ++ [])) rest (ap (λ l. 32 ∷ 48 ∷ 32 ∷ l) in_e) in
-    let in_c = after c (32 ∷ (d ++ 32 ∷ 48 ∷ 32 ∷ (e ++ rest))) (32 ∷ (d ++ 32 ∷ 48 ∷ 32 ∷ (e ++ []))) rest (ap (λ l. 32 ∷ l) in_d) in
-    let in_b = after b (32 ∷ 49 ∷ 32 ∷ 64 ∷ (c ++ 32 ∷ (d ++ 32 ∷ 48 ∷ 32 ∷ (e ++ rest)))) (32 ∷ 49 ∷ 32 ∷ 64 ∷ (c ++ 32 ∷ (d ++ 32 ∷ 48 ∷ 32 ∷ (e ++ [])))) rest (ap (λ l. 32 ∷ 49 ∷ 32 ∷ 64 ∷ l) in_c) in
-    let in_a = after a (32 ∷ (b ++ 32 ∷ 49 ∷ 32 ∷ 64 ∷ (c ++ 32 ∷ (d ++ 32 ∷ 48 ∷ 32 ∷ (e ++ rest))))) (32 ∷ (b ++ 32 ∷ 49 ∷ 32 ∷ 64 ∷ (c ++ 32 ∷ (d ++ 32 ∷ 48 ∷ 32 ∷ (e ++ []))))) rest (ap (λ l. 32 ∷ l) in_b) in
+    let in_c =
+    after c (32 ∷ (d ++ 32 ∷ 48 ∷ 32 ∷ (e ++ rest))) (32 ∷ (d ++ 32 ∷ 48 ∷ 32 ∷ (e ++ []))) rest (ap (λ l. 32 ∷ l) in_d) in
+    let in_b = after b (32 ∷ 49 ∷ 32 ∷ 64 ∷ (c ++ 32 ∷ (d ++ 32 ∷ 48 ∷ 32 ∷ (e ++ rest))))
+    (32 ∷ 49 ∷ 32 ∷ 64 ∷ (c ++ 32 ∷ (d ++ 32 ∷ 48 ∷ 32 ∷ (e ++ [])))) rest (ap (λ l. 32 ∷ 49 ∷ 32 ∷ 64 ∷ l) in_c) in
+    let in_a = after a (32 ∷ (b ++ 32 ∷ 49 ∷ 32 ∷ 64 ∷ (c ++ 32 ∷ (d ++ 32 ∷ 48 ∷ 32 ∷ (e ++ rest)))))
+    (32 ∷ (b ++ 32 ∷ 49 ∷ 32 ∷ 64 ∷ (c ++ 32 ∷ (d ++ 32 ∷ 48 ∷ 32 ∷ (e ++ []))))) rest (ap (λ l. 32 ∷ l) in_b) in
     ap (λ l. 49 ∷ 32 ∷ 64 ∷ l) in_a
 
 -- a line as it is written, before another text
@@ -61,7 +64,8 @@ line_written a b c d e rest =
 
 -- The texts of numbers are digits.
 module _ (a b c d e : List ℕ) (all_a : list_all is_lower_hex_digit a ≡ true) (all_b : list_all is_lower_hex_digit b ≡ true)
-    (all_c : list_all is_lower_hex_digit c ≡ true) (all_d : list_all is_lower_hex_digit d ≡ true) (all_e : list_all is_lower_hex_digit e ≡ true) where
+    (all_c : list_all is_lower_hex_digit c ≡ true) (all_d : list_all is_lower_hex_digit d ≡ true)
+    (all_e : list_all is_lower_hex_digit e ≡ true) where
   line_lacks : Lacks 10 (line_with a b c d e [])
   line_lacks =
       let lack = λ (ds : List ℕ) (all : list_all is_lower_hex_digit ds ≡ true). digits_lack 10 ds refl all in (
@@ -82,7 +86,8 @@ module _ (a b c d e : List ℕ) (all_a : list_all is_lower_hex_digit a ≡ true)
                       refl,
                       lacks-append 10 c (32 ∷ (d ++ 32 ∷ 48 ∷ 32 ∷ (e ++ []))) (lack c all_c) (
                         refl,
-                        lacks-append 10 d (32 ∷ 48 ∷ 32 ∷ (e ++ [])) (lack d all_d) (refl, (refl, (refl, lacks-append 10 e [] (lack e all_e) tt))),
+                        lacks-append 10 d (32 ∷ 48 ∷ 32 ∷ (e ++ [])) (lack d all_d)
+                            (refl, (refl, (refl, lacks-append 10 e [] (lack e all_e) tt))),
                       ),
                     ),
                   ),
@@ -105,11 +110,15 @@ module _ (a b c d e : List ℕ) (all_a : list_all is_lower_hex_digit a ≡ true)
 
   pub line_fields : fields (line_with a b c d e []) ≡ (49 ∷ []) ∷ (64 ∷ a) ∷ b ∷ (49 ∷ []) ∷ (64 ∷ c) ∷ d ∷ (48 ∷ []) ∷ e ∷ []
   line_fields =
-      let last : fields (e ++ []) ≡ e ∷ [] = ap fields (append-nil e) ∙ slice_split_none (λ x. x == 32) e (lacks_all 32 e (number e all_e)) in
+      let last : fields (e ++ []) ≡ e ∷ [] =
+      ap fields (append-nil e) ∙ slice_split_none (λ x. x == 32) e (lacks_all 32 e (number e all_e)) in
       let misses = field (48 ∷ []) (e ++ []) (refl, tt) ∙ ap (λ fs. (48 ∷ []) ∷ fs) last in
       let offset = field d (48 ∷ 32 ∷ (e ++ [])) (number d all_d) ∙ ap (λ fs. d ∷ fs) misses in
       let to = field (64 ∷ c) (d ++ 32 ∷ 48 ∷ 32 ∷ (e ++ [])) (refl, number c all_c) ∙ ap (λ fs. (64 ∷ c) ∷ fs) offset in
       let other = field (49 ∷ []) (64 ∷ (c ++ 32 ∷ (d ++ 32 ∷ 48 ∷ 32 ∷ (e ++ [])))) (refl, tt) ∙ ap (λ fs. (49 ∷ []) ∷ fs) to in
-      let from_offset = field b (49 ∷ 32 ∷ 64 ∷ (c ++ 32 ∷ (d ++ 32 ∷ 48 ∷ 32 ∷ (e ++ [])))) (number b all_b) ∙ ap (λ fs. b ∷ fs) other in
-      let from = field (64 ∷ a) (b ++ 32 ∷ 49 ∷ 32 ∷ 64 ∷ (c ++ 32 ∷ (d ++ 32 ∷ 48 ∷ 32 ∷ (e ++ [])))) (refl, number a all_a) ∙ ap (λ fs. (64 ∷ a) ∷ fs) from_offset in
-      field (49 ∷ []) (64 ∷ (a ++ 32 ∷ (b ++ 32 ∷ 49 ∷ 32 ∷ 64 ∷ (c ++ 32 ∷ (d ++ 32 ∷ 48 ∷ 32 ∷ (e ++ [])))))) (refl, tt) ∙ ap (λ fs. (49 ∷ []) ∷ fs) from
+      let from_offset =
+      field b (49 ∷ 32 ∷ 64 ∷ (c ++ 32 ∷ (d ++ 32 ∷ 48 ∷ 32 ∷ (e ++ [])))) (number b all_b) ∙ ap (λ fs. b ∷ fs) other in
+      let from = field (64 ∷ a) (b ++ 32 ∷ 49 ∷ 32 ∷ 64 ∷ (c ++ 32 ∷ (d ++ 32 ∷ 48 ∷ 32 ∷ (e ++ [])))) (refl, number a all_a)
+      ∙ ap (λ fs. (64 ∷ a) ∷ fs) from_offset in
+      field (49 ∷ []) (64 ∷ (a ++ 32 ∷ (b ++ 32 ∷ 49 ∷ 32 ∷ 64 ∷ (c ++ 32 ∷ (d ++ 32 ∷ 48 ∷ 32 ∷ (e ++ [])))))) (refl, tt)
+      ∙ ap (λ fs. (49 ∷ []) ∷ fs) from

@@ -32,8 +32,10 @@ glyph_high d more = ap (λ b. cond b (48 + d) (87 + d)) (le-ltb d 10 more)
 
 glyph_lower : (d : ℕ) → d < 16 → is_lower_hex_digit (digit_glyph false d) ≡ true
 glyph_lower d less = ⊎_elim
-    (λ (low : d < 10). ap is_lower_hex_digit (glyph_low d low) ∙ ap (λ b. b || is_in_range 97 102 (48 + d)) (in_range 48 57 (48 + d) (omega arith) (omega arith)))
-    (λ (high : 10 ≤ d). ap is_lower_hex_digit (glyph_high d high) ∙ ap (λ b. is_ascii_digit (87 + d) || b) (in_range 97 102 (87 + d) (omega arith) (omega arith)) ∙ or_true (is_ascii_digit (87 + d)))
+    (λ (low : d < 10). ap is_lower_hex_digit (glyph_low d low)
+    ∙ ap (λ b. b || is_in_range 97 102 (48 + d)) (in_range 48 57 (48 + d) (omega arith) (omega arith)))
+    (λ (high : 10 ≤ d). ap is_lower_hex_digit (glyph_high d high) ∙ ap (λ b. is_ascii_digit (87 + d) || b)
+    (in_range 97 102 (87 + d) (omega arith) (omega arith)) ∙ or_true (is_ascii_digit (87 + d)))
     (cases_lt d 10)
 
 -- no digit but that of 0 is `0`
@@ -43,21 +45,25 @@ glyph_some d some = ⊎_elim
     (λ (high : 10 ≤ d). λ (e : digit_glyph false d ≡ 48). let is = glyph_high d high in omega (arith, e, is))
     (cases_lt d 10)
 
-lower_onto : (k n : ℕ) (text : List ℕ) → list_all is_lower_hex_digit text ≡ true → list_all is_lower_hex_digit (digits_onto k 16 false n text) ≡ true
+lower_onto : (k n : ℕ) (text : List ℕ) → list_all is_lower_hex_digit text ≡ true →
+    list_all is_lower_hex_digit (digits_onto k 16 false n text) ≡ true
 lower_onto zero n text all = all
 lower_onto (suc k) n text all =
-    let digit : list_all is_lower_hex_digit (digit_glyph false (n % 16) ∷ text) ≡ true = rw (glyph_lower (n % 16) (omega arith)) all in
+    let digit : list_all is_lower_hex_digit (digit_glyph false (n % 16) ∷ text) ≡ true =
+    rw (glyph_lower (n % 16) (omega arith)) all in
     at (n / 16 == 0) digit (lower_onto k (n / 16) (digit_glyph false (n % 16) ∷ text) digit)
   where
     at : (b : Bool) → list_all is_lower_hex_digit (digit_glyph false (n % 16) ∷ text) ≡ true
         → list_all is_lower_hex_digit (digits_onto k 16 false (n / 16) (digit_glyph false (n % 16) ∷ text)) ≡ true
-        → list_all is_lower_hex_digit (cond b (digit_glyph false (n % 16) ∷ text) (digits_onto k 16 false (n / 16) (digit_glyph false (n % 16) ∷ text))) ≡ true
+        → list_all is_lower_hex_digit
+        (cond b (digit_glyph false (n % 16) ∷ text) (digits_onto k 16 false (n / 16) (digit_glyph false (n % 16) ∷ text))) ≡ true
     at true last more = last
     at false last more = more
 
 length_onto : (k j n : ℕ) (text : List ℕ) → n < 16 ^ j → 0 < j → length (digits_onto k 16 false n text) ≤ length text + j
 length_onto zero j n text less some = omega arith
-length_onto (suc k) j n text less some = at (n / 16 == 0) refl (λ left. length_onto k (j - 1) (n / 16) (digit_glyph false (n % 16) ∷ text) (quotient-lt n j some less) left)
+length_onto (suc k) j n text less some = at (n / 16 == 0) refl
+    (λ left. length_onto k (j - 1) (n / 16) (digit_glyph false (n % 16) ∷ text) (quotient-lt n j some less) left)
   where
     left_over : (m i : ℕ) → m < 16 ^ i → 0 < m → 0 < i
     left_over m zero few some = absurd (omega (arith, pow-zero 16))
@@ -65,10 +71,12 @@ length_onto (suc k) j n text less some = at (n / 16 == 0) refl (λ left. length_
 
     at : (b : Bool) → (n / 16 == 0) ≡ b
         → (0 < j - 1 → length (digits_onto k 16 false (n / 16) (digit_glyph false (n % 16) ∷ text)) ≤ suc (length text) + (j - 1))
-        → length (cond b (digit_glyph false (n % 16) ∷ text) (digits_onto k 16 false (n / 16) (digit_glyph false (n % 16) ∷ text))) ≤ length text + j
+        → length (cond b (digit_glyph false (n % 16) ∷ text)
+        (digits_onto k 16 false (n / 16) (digit_glyph false (n % 16) ∷ text))) ≤ length text + j
     at true is rest = omega arith
     at false is rest =
-        let quotient : 0 < n / 16 = ⊎_elim (λ (m : 0 < n / 16). m) (λ (z : n / 16 ≤ 0). let e : (n / 16 == 0) ≡ true = rw (zero_is (n / 16) z) refl in absurd (cc)) (cases_lt 0 (n / 16)) in
+        let quotient : 0 < n / 16 = ⊎_elim (λ (m : 0 < n / 16). m)
+        (λ (z : n / 16 ≤ 0). let e : (n / 16 == 0) ≡ true = rw (zero_is (n / 16) z) refl in absurd (cc)) (cases_lt 0 (n / 16)) in
         let left = left_over (n / 16) (j - 1) (quotient-lt n j some less) quotient in
         let bound = rest left in
         omega (arith, bound, left)
@@ -81,26 +89,32 @@ longer zero n text has = has
 longer (suc k) n text has = at (n / 16 == 0) (longer k (n / 16) (digit_glyph false (n % 16) ∷ text) (omega arith))
   where
     at : (b : Bool) → 0 < length (digits_onto k 16 false (n / 16) (digit_glyph false (n % 16) ∷ text))
-        → 0 < length (cond b (digit_glyph false (n % 16) ∷ text) (digits_onto k 16 false (n / 16) (digit_glyph false (n % 16) ∷ text)))
+        → 0 < length
+        (cond b (digit_glyph false (n % 16) ∷ text) (digits_onto k 16 false (n / 16) (digit_glyph false (n % 16) ∷ text)))
     at true more = omega arith
     at false more = more
 
 some_onto : (k n : ℕ) (text : List ℕ) → 0 < length (digits_onto (suc k) 16 false n text)
 some_onto k n text = at (n / 16 == 0)
   where
-    at : (b : Bool) → 0 < length (cond b (digit_glyph false (n % 16) ∷ text) (digits_onto k 16 false (n / 16) (digit_glyph false (n % 16) ∷ text)))
+    at : (b : Bool) → 0 < length
+        (cond b (digit_glyph false (n % 16) ∷ text) (digits_onto k 16 false (n / 16) (digit_glyph false (n % 16) ∷ text)))
     at true = omega arith
     at false = longer k (n / 16) (digit_glyph false (n % 16) ∷ text) (omega arith)
 
 first_onto : (k n : ℕ) (text : List ℕ) → n < 16 ^ k → 0 < n → slice_index (digits_onto k 16 false n text) 0 ≢ 48
 first_onto zero n text less some = absurd (omega (arith, pow-zero 16))
-first_onto (suc k) n text less some = at (n / 16 == 0) refl (λ quotient. first_onto k (n / 16) (digit_glyph false (n % 16) ∷ text) (let same : suc k - 1 ≡ k = omega arith in subst (λ j. n / 16 < 16 ^ j) same (quotient-lt n (suc k) (omega arith) less)) quotient)
+first_onto (suc k) n text less some = at (n / 16 == 0) refl
+    (λ quotient. first_onto k (n / 16) (digit_glyph false (n % 16) ∷ text) (let same : suc k - 1 ≡ k = omega arith in
+    subst (λ j. n / 16 < 16 ^ j) same (quotient-lt n (suc k) (omega arith) less)) quotient)
   where
     at : (b : Bool) → (n / 16 == 0) ≡ b
         → (0 < n / 16 → slice_index (digits_onto k 16 false (n / 16) (digit_glyph false (n % 16) ∷ text)) 0 ≢ 48)
-        → slice_index (cond b (digit_glyph false (n % 16) ∷ text) (digits_onto k 16 false (n / 16) (digit_glyph false (n % 16) ∷ text))) 0 ≢ 48
+        → slice_index
+        (cond b (digit_glyph false (n % 16) ∷ text) (digits_onto k 16 false (n / 16) (digit_glyph false (n % 16) ∷ text))) 0 ≢ 48
     at true is rest = let e : n / 16 ≡ 0 = eqb-true (n / 16) 0 is in glyph_some (n % 16) (λ z. omega (arith, e, z))
-    at false is rest = rest (⊎_elim (λ (m : 0 < n / 16). m) (λ (z : n / 16 ≤ 0). let e : (n / 16 == 0) ≡ true = rw (zero_is (n / 16) z) refl in absurd (cc)) (cases_lt 0 (n / 16)))
+    at false is rest = rest (⊎_elim (λ (m : 0 < n / 16). m)
+        (λ (z : n / 16 ≤ 0). let e : (n / 16 == 0) ≡ true = rw (zero_is (n / 16) z) refl in absurd (cc)) (cases_lt 0 (n / 16)))
       where
         zero_is : (m : ℕ) → m ≤ 0 → m ≡ 0
         zero_is m z = omega arith
@@ -111,10 +125,11 @@ decimal_digits [] all = refl
 decimal_digits (c ∷ ds) all = let here = digit_from_value c all.0 in rw (in_range 48 57 c here.0 here.1) (decimal_digits ds all.1)
 
 -- digits that write a number are read as it
-number_read : (n radix most : ℕ) (is_digit : ℕ → Bool) (ds : List ℕ) → n < 2 ^ 64 → 0 < length ds → length ds ≤ most → list_all is_digit ds ≡ true
-    → digits_value radix ds ≡ n → number_of_digits radix most is_digit ds ≡ Some n
+number_read : (n radix most : ℕ) (is_digit : ℕ → Bool) (ds : List ℕ) → n < 2 ^ 64 → 0 < length ds → length ds ≤ most
+    → list_all is_digit ds ≡ true → digits_value radix ds ≡ n → number_of_digits radix most is_digit ds ≡ Some n
 number_read n radix most is_digit ds fits some short all value =
-    let small : nat_lt (digits_value radix ds) (2 ^ 64) ≡ true = lt-ltb (digits_value radix ds) (2 ^ 64) (omega (arith, value, fits)) in
+    let small : nat_lt (digits_value radix ds) (2 ^ 64) ≡ true =
+    lt-ltb (digits_value radix ds) (2 ^ 64) (omega (arith, value, fits)) in
     rw (lt-ltb 0 (length ds) some, le-leb (length ds) most short, all, small) (ap Some value)
 
 module _ (n : ℕ) (fits : n < 2 ^ 64) where
@@ -146,7 +161,8 @@ module _ (n : ℕ) (fits : n < 2 ^ 64) where
   pub decimal_read : decimal_number (decimal n) ≡ Some n
   decimal_read =
       let numeral = decimal_is_IsNumeral n fits in
-      number_read n 10 20 is_ascii_digit (decimal n) fits numeral.0.0 (length-decimal-le 20 n (omega arith) (omega (arith, fits)) fits) (decimal_digits (decimal n) numeral.0.1) numeral.1
+      number_read n 10 20 is_ascii_digit (decimal n) fits numeral.0.0
+      (length-decimal-le 20 n (omega arith) (omega (arith, fits)) fits) (decimal_digits (decimal n) numeral.0.1) numeral.1
 
 zero_text : hexadecimal 0 ≡ 48 ∷ []
 unfolding digits
@@ -160,7 +176,8 @@ pub short_hex_read : (n : ℕ) → n < 2 ^ 64 → short_hex_number (hexadecimal 
 short_hex_read n fits = ⊎_elim
     (λ (none : n ≡ 0). ap (λ m. short_hex_number (hexadecimal m)) none ∙ ap short_hex_number zero_text ∙ ap Some (sym none))
     (λ (some : n ≢ 0).
-    let first : (slice_index (hexadecimal n) 0 == 48) ≡ false = ne_eqb (slice_index (hexadecimal n) 0) 48 (hex_first n fits (positive some)) in
+    let first : (slice_index (hexadecimal n) 0 == 48) ≡ false =
+    ne_eqb (slice_index (hexadecimal n) 0) 48 (hex_first n fits (positive some)) in
     ap (λ b. cond (nat_lt 1 (length (hexadecimal n)) && b) None (hex_number (hexadecimal n))) first
     ∙ ap (λ b. cond b None (hex_number (hexadecimal n))) (and_false (nat_lt 1 (length (hexadecimal n))))
     ∙ hex_read n fits)

@@ -39,16 +39,19 @@ line_spelled a b c d e =
     ∙ append_assoc (codes "1 @" ++ p ++ codes " 1 @") q (codes " 0 " ++ (e ++ codes "\n"))
     ∙ append_assoc (codes "1 @" ++ p) (codes " 1 @") (q ++ (codes " 0 " ++ (e ++ codes "\n")))
     ∙ append_assoc (codes "1 @") p (codes " 1 @" ++ (q ++ (codes " 0 " ++ (e ++ codes "\n"))))
-    ∙ (λ i. codes "1 @" ++ (append_assoc a (codes " ") b i ++ (codes " 1 @" ++ (append_assoc c (codes " ") d i ++ (codes " 0 " ++ (e ++ codes "\n"))))))
+    ∙ (λ i. codes "1 @" ++ (append_assoc a (codes " ") b i
+    ++ (codes " 1 @" ++ (append_assoc c (codes " ") d i ++ (codes " 0 " ++ (e ++ codes "\n"))))))
 
 -- what fields say
 abbrev said : List Symbol → List Func → List (List ℕ) → Option Counted
-said symbols funcs fs = option_and_then (λ l. both_ends (address_at symbols funcs l.from) (address_at symbols funcs l.to) l.count) (branch_line fs)
+said symbols funcs fs =
+    option_and_then (λ l. both_ends (address_at symbols funcs l.from) (address_at symbols funcs l.to) l.count) (branch_line fs)
 
 said_is : (symbols : List Symbol) (funcs : List Func) (name offset name' offset' count : List ℕ) (o o' n : ℕ)
     → hex_number offset ≡ Some o → hex_number offset' ≡ Some o' → decimal_number count ≡ Some n
     → said symbols funcs ((49 ∷ []) ∷ name ∷ offset ∷ (49 ∷ []) ∷ name' ∷ offset' ∷ (48 ∷ []) ∷ count ∷ [])
-    ≡ both_ends (address_at symbols funcs (record { name = name; offset = o })) (address_at symbols funcs (record { name = name'; offset = o' })) n
+    ≡ both_ends (address_at symbols funcs (record { name = name; offset = o }))
+    (address_at symbols funcs (record { name = name'; offset = o' })) n
 said_is symbols funcs name offset name' offset' count o o' n first second third =
     (λ i. option_and_then (λ l. both_ends (address_at symbols funcs l.from) (address_at symbols funcs l.to) l.count)
     (all_three (named_place name (first i)) (named_place name' (second i)) (third i)))
@@ -67,7 +70,8 @@ module _ (symbols : List Symbol) (funcs : List Func) (laid : AreLaidOut funcs) w
       let s = start_at funcs a in
       let o = a - start_at funcs a in
       let named : function_start funcs (hexadecimal s) ≡ Some s
-      = ap (λ (n : Option ℕ). option_and_then (λ b. cond (list_any (λ f. f.start == b) funcs) (Some b) None) n) (short_hex_read s (omega (arith, is.from, is.low)))
+      = ap (λ (n : Option ℕ). option_and_then (λ b. cond (list_any (λ f. f.start == b) funcs) (Some b) None) n)
+      (short_hex_read s (omega (arith, is.from, is.low)))
       ∙ ap (λ b. cond b (Some s) None) is.starts in
       let whole : s + o ≡ a = omega (arith, is.from) in
       ap (λ (n : Option ℕ). option_and_then (λ start. cond (is_code_address funcs (start + o)) (Some (start + o)) None) n) named
@@ -89,7 +93,8 @@ module _ (symbols : List Symbol) (funcs : List Func) (laid : AreLaidOut funcs) w
         let o' = p.1 - start_at funcs p.1 in
         ap (said symbols funcs)
         (line_fields (hexadecimal s) (hexadecimal o) (hexadecimal s') (hexadecimal o') (decimal p.2)
-        (hex_lower s (fits_start p.0 is.from)) (hex_lower o (fits_offset p.0 is.from)) (hex_lower s' (fits_start p.1 is.to)) (hex_lower o' (fits_offset p.1 is.to))
+        (hex_lower s (fits_start p.0 is.from)) (hex_lower o (fits_offset p.0 is.from)) (hex_lower s' (fits_start p.1 is.to))
+        (hex_lower o' (fits_offset p.1 is.to))
         (decimal_lower p.2 is.fits))
         ∙ said_is symbols funcs (64 ∷ hexadecimal s) (hexadecimal o) (64 ∷ hexadecimal s') (hexadecimal o') (decimal p.2) o o' p.2
         (hex_read o (fits_offset p.0 is.from)) (hex_read o' (fits_offset p.1 is.to)) (decimal_read p.2 is.fits)
@@ -104,20 +109,26 @@ module _ (symbols : List Symbol) (funcs : List Func) (laid : AreLaidOut funcs) w
         ap (λ l. lines (l ++ rest)) (line_spelled (hexadecimal s) (hexadecimal o) (hexadecimal s') (hexadecimal o') (decimal p.2))
         ∙ ap lines (line_written (hexadecimal s) (hexadecimal o) (hexadecimal s') (hexadecimal o') (decimal p.2) rest)
         ∙ first_line (hexadecimal s) (hexadecimal o) (hexadecimal s') (hexadecimal o') (decimal p.2)
-        (hex_lower s (fits_start p.0 is.from)) (hex_lower o (fits_offset p.0 is.from)) (hex_lower s' (fits_start p.1 is.to)) (hex_lower o' (fits_offset p.1 is.to))
+        (hex_lower s (fits_start p.0 is.from)) (hex_lower o (fits_offset p.0 is.from)) (hex_lower s' (fits_start p.1 is.to))
+        (hex_lower o' (fits_offset p.1 is.to))
         (decimal_lower p.2 is.fits) rest
 
-  pub read_back : (pairs : List Counted) → ArePairsOfCode funcs pairs → filter_map (counted_by symbols funcs) (lines (flat_map (edge_line funcs) pairs)) ≡ pairs
+  pub read_back : (pairs : List Counted) → ArePairsOfCode funcs pairs →
+      filter_map (counted_by symbols funcs) (lines (flat_map (edge_line funcs) pairs)) ≡ pairs
   read_back [] all = refl
   read_back (p ∷ pairs) all =
       ap (filter_map (counted_by symbols funcs)) (line_first p all.0 (flat_map (edge_line funcs) pairs))
-      ∙ ap (λ (o : Option Counted). cons_option o (filter_map (counted_by symbols funcs) (lines (flat_map (edge_line funcs) pairs)))) (line_read p all.0)
+      ∙ ap (λ (o : Option Counted). cons_option o
+      (filter_map (counted_by symbols funcs) (lines (flat_map (edge_line funcs) pairs)))) (line_read p all.0)
       ∙ ap (λ rest. p ∷ rest) (read_back pairs all.1)
 
-  pub none_ignored : (pairs : List Counted) → ArePairsOfCode funcs pairs → count_by (λ line. is_none (counted_by symbols funcs line)) (lines (flat_map (edge_line funcs) pairs)) ≡ 0
+  pub none_ignored : (pairs : List Counted) → ArePairsOfCode funcs pairs →
+      count_by (λ line. is_none (counted_by symbols funcs line)) (lines (flat_map (edge_line funcs) pairs)) ≡ 0
   none_ignored [] all = refl
   none_ignored (p ∷ pairs) all =
       ap (count_by (λ line. is_none (counted_by symbols funcs line))) (line_first p all.0 (flat_map (edge_line funcs) pairs))
-      ∙ sum_by-cons (λ line. cond (is_none (counted_by symbols funcs line)) 1 0) (body_of p) (lines (flat_map (edge_line funcs) pairs))
-      ∙ ap (λ (o : Option Counted). cond (is_none o) 1 0 + count_by (λ line. is_none (counted_by symbols funcs line)) (lines (flat_map (edge_line funcs) pairs))) (line_read p all.0)
+      ∙ sum_by-cons (λ line. cond (is_none (counted_by symbols funcs line)) 1 0) (body_of p)
+      (lines (flat_map (edge_line funcs) pairs))
+      ∙ ap (λ (o : Option Counted). cond (is_none o) 1 0 + count_by (λ line. is_none (counted_by symbols funcs line))
+      (lines (flat_map (edge_line funcs) pairs))) (line_read p all.0)
       ∙ let rest = none_ignored pairs all.1 in omega (arith, rest)

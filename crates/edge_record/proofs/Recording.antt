@@ -41,7 +41,8 @@ use Rattle.edge_record.proofs.Watching.{once, taken-le}
 -- Memory.
 
 -- nothing was done
-pub nothing_done : (start : List ℕ → ByteState) (limit : ℕ) (outside : Outside) → ((input : List ℕ) → (start input).input ≡ input) → StopsAnywhere start limit outside outside
+pub nothing_done : (start : List ℕ → ByteState) (limit : ℕ) (outside : Outside) →
+    ((input : List ℕ) → (start input).input ≡ input) → StopsAnywhere start limit outside outside
 nothing_done start limit outside reads = record {
   input = told outside.input.left;
   input_is = told_is outside.input.left;
@@ -56,11 +57,13 @@ nothing_done start limit outside reads = record {
 
 -- Sources are instructions.
 
-any_weaker : {X : Type 0} (p q : X → Bool) (xs : List X) → ((x : X) → p x ≡ true → q x ≡ true) → list_any p xs ≡ true → list_any q xs ≡ true
+any_weaker : {X : Type 0} (p q : X → Bool) (xs : List X) → ((x : X) → p x ≡ true → q x ≡ true) →
+    list_any p xs ≡ true → list_any q xs ≡ true
 any_weaker p q [] weaker any = any
 any_weaker p q (x ∷ xs) weaker any = at (p x) refl any (any_weaker p q xs weaker)
   where
-    at : (b : Bool) → p x ≡ b → (b || list_any p xs) ≡ true → (list_any p xs ≡ true → list_any q xs ≡ true) → (q x || list_any q xs) ≡ true
+    at : (b : Bool) → p x ≡ b → (b || list_any p xs) ≡ true → (list_any p xs ≡ true → list_any q xs ≡ true) →
+        (q x || list_any q xs) ≡ true
     at true here has later = rw (weaker x here) refl
     at false here has later = or_true (q x) (later has)
       where
@@ -68,8 +71,10 @@ any_weaker p q (x ∷ xs) weaker any = at (p x) refl any (any_weaker p q xs weak
         or_true true is = refl
         or_true false is = is
 
-any_from_get : {X : Type 0} (p : X → Bool) (xs : List X) (k : ℕ) (x : X) → slice_get xs k ≡ Some x → p x ≡ true → list_any p xs ≡ true
-any_from_get p xs k x is passes = list_any_at p xs k x (slice_get_within xs k x is) (ap p (get_or_from_slice_get xs k x x is) ∙ passes)
+any_from_get : {X : Type 0} (p : X → Bool) (xs : List X) (k : ℕ) (x : X) → slice_get xs k ≡ Some x →
+    p x ≡ true → list_any p xs ≡ true
+any_from_get p xs k x is passes =
+    list_any_at p xs k x (slice_get_within xs k x is) (ap p (get_or_from_slice_get xs k x x is) ∙ passes)
 
 module _ (funcs : List Func) (a : ℕ) where
   last_is_code : (b : Block) → ends_at funcs a b ≡ true → list_any (λ f. starts_at f.insts.items a) funcs ≡ true
@@ -79,18 +84,21 @@ module _ (funcs : List Func) (a : ℕ) where
           → option_map_or (λ p. p.addr == a) o false ≡ true → list_any (λ g. starts_at g.insts.items a) funcs ≡ true
       by_inst f is None none has = absurd (cc)
       by_inst f is (Some p) some has =
-          any_from_get (λ g. starts_at g.insts.items a) funcs b.func f is (any_from_get (λ q. q.addr == a) f.insts.items b.last p some has)
+          any_from_get (λ g. starts_at g.insts.items a) funcs b.func f is
+          (any_from_get (λ q. q.addr == a) f.insts.items b.last p some has)
 
       by_func : (o : Option Func) → slice_get funcs b.func ≡ o → list_any (λ f. starts_at f.insts.items a) funcs ≡ true
       by_func None is =
-          let none : ends_at funcs a b ≡ false = ap (λ (o : Option Func). option_map_or (λ p. p.addr == a) (option_and_then (λ f. inst_at f b.last) o) false) is in
+          let none : ends_at funcs a b ≡ false =
+          ap (λ (o : Option Func). option_map_or (λ p. p.addr == a) (option_and_then (λ f. inst_at f b.last) o) false) is in
           absurd (cc)
       by_func (Some f) is =
           let here : ends_at funcs a b ≡ option_map_or (λ p. p.addr == a) (slice_get f.insts.items b.last) false
           = ap (λ (o : Option Func). option_map_or (λ p. p.addr == a) (option_and_then (λ g. inst_at g b.last) o) false) is in
           by_inst f is (slice_get f.insts.items b.last) refl (sym here ∙ ends)
 
-  ends_are_code : (blocks : List Block) → list_any (λ b. ends_at funcs a b) blocks ≡ true → list_any (λ f. starts_at f.insts.items a) funcs ≡ true
+  ends_are_code : (blocks : List Block) → list_any (λ b. ends_at funcs a b) blocks ≡ true →
+      list_any (λ f. starts_at f.insts.items a) funcs ≡ true
   ends_are_code [] any = absurd (cc)
   ends_are_code (b ∷ blocks) any = at (ends_at funcs a b) refl any (ends_are_code blocks)
     where
@@ -108,8 +116,8 @@ module _ (funcs : List Func) (a : ℕ) where
   source_is_code : (blocks : List Block) → is_source funcs blocks a ≡ true → is_code_address funcs a ≡ true
   source_is_code blocks source = code_address-list_any funcs a ∙ at (list_any (λ b. ends_at funcs a b) blocks) refl source
     where
-      at : (t : Bool) → list_any (λ b. ends_at funcs a b) blocks ≡ t → (t || list_any (λ f. saves_at f.insts.items a) funcs) ≡ true
-          → list_any (λ f. starts_at f.insts.items a) funcs ≡ true
+      at : (t : Bool) → list_any (λ b. ends_at funcs a b) blocks ≡ t
+          → (t || list_any (λ f. saves_at f.insts.items a) funcs) ≡ true → list_any (λ f. starts_at f.insts.items a) funcs ≡ true
       at true ends has = ends_are_code blocks ends
       at false ends has = any_weaker (λ f. saves_at f.insts.items a) (λ f. starts_at f.insts.items a) funcs saved has
 
@@ -121,7 +129,8 @@ all_hold true true false some = absurd (omega arith)
 all_hold true false d some = absurd (omega arith)
 all_hold false c d some = absurd (omega arith)
 
-module _ (funcs : List Func) (blocks : List Block) (moves : List Move) (limit : ℕ) (few : length moves ≤ limit) (fits : limit < 2 ^ 64) where
+module _ (funcs : List Func) (blocks : List Block) (moves : List Move) (limit : ℕ) (few : length moves ≤ limit)
+    (fits : limit < 2 ^ 64) where
   pair_of_code : (p : Counted) → 0 < p.2 → taken funcs blocks moves p.0 p.1 ≡ p.2 → IsPairOfCode funcs p
   pair_of_code p some is =
       let term = positive_term (once (is_counted funcs blocks) p.0 p.1) moves (omega (arith, some, is)) in
@@ -149,9 +158,11 @@ module _ (funcs : List Func) (blocks : List Block) (moves : List Move) (limit : 
   edge_text_is elf laid said text counts is =
       let pairs = is.0 in
       let merged = is.1 in
-      let same : (from to : ℕ) → count_among from to pairs ≡ taken funcs blocks moves from to = λ from to. merged.counts from to ∙ counts from to in
+      let same : (from to : ℕ) → count_among from to pairs ≡ taken funcs blocks moves from to =
+      λ from to. merged.counts from to ∙ counts from to in
       let all : ArePairs (taken funcs blocks moves) pairs
-      = subst (λ (f : ℕ → ℕ → ℕ). ArePairs f pairs) (λ i from to. same from to i) (are_pairs pairs (ascending_pairs pairs merged.ordered) merged.positive) in
+      = subst (λ (f : ℕ → ℕ → ℕ). ArePairs f pairs) (λ i from to. same from to i)
+      (are_pairs pairs (ascending_pairs pairs merged.ordered) merged.positive) in
       let code = each_of_code pairs (λ p contained. let count = all.only p contained in pair_of_code p count.0 count.1) in
       let counted : counted_in text elf funcs ≡ pairs
       = ap (λ t. counted_in t elf funcs) is.2 ∙ read_back elf.symbols.items funcs laid pairs code in
@@ -165,14 +176,15 @@ module _ (funcs : List Func) (blocks : List Block) (moves : List Move) (limit : 
 
 -- The whole.
 
-module _ (start : List ℕ → ByteState) (limit : ℕ) (fits : limit < 2 ^ 64) (before after : Outside) (elf : Elf) (funcs : List Func) (laid : AreLaidOut funcs)
+module _ (start : List ℕ → ByteState) (limit : ℕ) (fits : limit < 2 ^ 64) (before after : Outside) (elf : Elf) (funcs : List Func)
+    (laid : AreLaidOut funcs)
     (blocks : List Block) (m now : Machine) (from : (input : List ℕ) → state_of m input ≡ start input) (counts : Move → Bool)
     (same : (x : Move) → counts x ≡ is_counted funcs blocks x) (said : List Counted) where
   stops_from : StopsAnywhere (state_of m) limit before after → StopsAnywhere start limit before after
   stops_from stops = subst (λ (s : List ℕ → ByteState). StopsAnywhere s limit before after) (λ i input. from input i) stops
 
-  recorded : (came : Answer Cause) (n : ℕ) (text : List ℕ) → IsWatched counts m now limit n before after said came → IsTextOf funcs said text
-      → IsRecorded start limit before after elf funcs blocks n text came
+  recorded : (came : Answer Cause) (n : ℕ) (text : List ℕ) → IsWatched counts m now limit n before after said came
+      → IsTextOf funcs said text → IsRecorded start limit before after elf funcs blocks n text came
   recorded came n text w is = record {
     run = record { machine = m; ends_as = now; starts = from; runs = w.runs };
     moves = w.moves;
@@ -182,8 +194,8 @@ module _ (start : List ℕ → ByteState) (limit : ℕ) (fits : limit < 2 ^ 64) 
         (λ x y. w.counts_are x y ∙ ap (λ (c : Move → Bool). taken_by c w.moves x y) (λ i move. same move i)) is;
   }
 
-  by_text : (came : Answer Cause) (n : ℕ) (text : List ℕ) → WatchesRun counts m now limit n before after said came → ComesOut came → IsTextOf funcs said text
-      → Records start limit before after elf funcs blocks n text came
+  by_text : (came : Answer Cause) (n : ℕ) (text : List ℕ) → WatchesRun counts m now limit n before after said came → ComesOut came
+      → IsTextOf funcs said text → Records start limit before after elf funcs blocks n text came
   by_text answer.Going n text w comes is = recorded answer.Going n text w is
   by_text (answer.Ended status) n text w comes is = recorded (answer.Ended status) n text w is
   by_text (answer.Halted pc cause) n text w comes is = recorded (answer.Halted pc cause) n text w is
@@ -191,8 +203,8 @@ module _ (start : List ℕ → ByteState) (limit : ℕ) (fits : limit < 2 ^ 64) 
   by_text answer.WriteFault n text w comes is = absurd comes
   by_text answer.Memory n text w comes is = absurd comes
 
-  by_fault : (came : Answer Cause) (n : ℕ) (text : List ℕ) → WatchesRun counts m now limit n before after said came → (ComesOut came → ⊥) → text ≡ []
-      → Records start limit before after elf funcs blocks n text came
+  by_fault : (came : Answer Cause) (n : ℕ) (text : List ℕ) → WatchesRun counts m now limit n before after said came
+      → (ComesOut came → ⊥) → text ≡ [] → Records start limit before after elf funcs blocks n text came
   by_fault answer.Going n text w comes empty = absurd (comes tt)
   by_fault (answer.Ended status) n text w comes empty = absurd (comes tt)
   by_fault (answer.Halted pc cause) n text w comes empty = absurd (comes tt)
@@ -200,7 +212,8 @@ module _ (start : List ℕ → ByteState) (limit : ℕ) (fits : limit < 2 ^ 64) 
   by_fault answer.WriteFault n text w comes empty = (record { machine = m; ends_as = now; starts = from; runs = w }, empty)
   by_fault answer.Memory n text w comes empty = (stops_from w, empty)
 
-  stops : (came : Answer Cause) (n : ℕ) → WatchesRun counts m now limit n before after said came → ComesOut came → StopsAnywhere (state_of m) limit before after
+  stops : (came : Answer Cause) (n : ℕ) → WatchesRun counts m now limit n before after said came → ComesOut came →
+      StopsAnywhere (state_of m) limit before after
   stops answer.Going n w comes =
       let ran = w.runs.answers.1 in
       record {
@@ -244,20 +257,26 @@ module _ (start : List ℕ → ByteState) (limit : ℕ) (fits : limit < 2 ^ 64) 
   stops answer.WriteFault n w comes = absurd comes
   stops answer.Memory n w comes = absurd comes
 
-  pub finished : (came : Answer Cause) (n : ℕ) (given : Answer Cause) (k : ℕ) (text : List ℕ) → WatchesRun counts m now limit n before after said came
+  pub finished : (came : Answer Cause) (n : ℕ) (given : Answer Cause) (k : ℕ) (text : List ℕ)
+      → WatchesRun counts m now limit n before after said came
       → IsFinished funcs said came n given k text → Records start limit before after elf funcs blocks k text given
   finished came n given k text w (text_told comes is steps text_is) =
       subst (λ (a : Answer Cause). Records start limit before after elf funcs blocks k text a) is
-      (subst (λ (j : ℕ). Records start limit before after elf funcs blocks j text came) steps (by_text came n text w comes text_is))
+      (subst (λ (j : ℕ). Records start limit before after elf funcs blocks j text came) steps
+      (by_text came n text w comes text_is))
   finished came n given k text w (untold comes is steps empty) =
       subst (λ (a : Answer Cause). Records start limit before after elf funcs blocks k text a) is
-      (subst (λ (j : ℕ). Records start limit before after elf funcs blocks j text came) steps (by_fault came n text w comes empty))
+      (subst (λ (j : ℕ). Records start limit before after elf funcs blocks j text came) steps
+      (by_fault came n text w comes empty))
   finished came n given k text w (ran_out comes is empty) =
-      subst (λ (a : Answer Cause). Records start limit before after elf funcs blocks k text a) (sym is) (stops_from (stops came n w comes), empty)
+      subst (λ (a : Answer Cause). Records start limit before after elf funcs blocks k text a) (sym is)
+      (stops_from (stops came n w comes), empty)
 
 -- memory ran out before anything was done
-pub unrecorded : (start : List ℕ → ByteState) (limit : ℕ) (outside : Outside) (elf : Elf) (funcs : List Func) (blocks : List Block) (n : ℕ) (text : List ℕ)
+pub unrecorded : (start : List ℕ → ByteState) (limit : ℕ) (outside : Outside) (elf : Elf) (funcs : List Func)
+    (blocks : List Block) (n : ℕ) (text : List ℕ)
     (given : Answer Cause) → ((input : List ℕ) → (start input).input ≡ input) → given ≡ answer.Memory → text ≡ []
     → Records start limit outside outside elf funcs blocks n text given
 unrecorded start limit outside elf funcs blocks n text given reads is empty =
-    subst (λ (a : Answer Cause). Records start limit outside outside elf funcs blocks n text a) (sym is) (nothing_done start limit outside reads, empty)
+    subst (λ (a : Answer Cause). Records start limit outside outside elf funcs blocks n text a) (sym is)
+    (nothing_done start limit outside reads, empty)

@@ -12,7 +12,8 @@ use Rattle.rv_code.specs.layout.FunctionLists.{AreLaidOut, IsLaidOut, code_limit
 use Rattle.rv_code.specs.layout.ProgramCode.{is_code_address}
 use Rattle.edge_profile.specs.Places.{IsPlaceOf}
 use Rattle.edge_profile.specs.Weights.{starts_at}
-use Rattle.edge_profile.proofs.LaidOut.{any_element, code_address-list_any, funcs_rise, inst_bounds, no_code_from, starts_above, starts_below}
+use Rattle.rv_code.proofs.lists.Follows.{inst_bounds}
+use Rattle.edge_profile.proofs.LaidOut.{any_element, code_address-list_any, funcs_rise, no_code_from, starts_above, starts_below}
 use Rattle.edge_record.specs.EdgeText.{start_at}
 
 -- the first element that passes a test, and its place
@@ -28,8 +29,16 @@ found : {X : Type 0} (test : X → Bool) (xs : List X) → list_any test xs ≡ 
 found test [] any = absurd (cc)
 found {X} test (x ∷ xs) any = at (test x) refl any (found test xs)
   where
-    at : (b : Bool) → test x ≡ b → (b || list_any test xs) ≡ true → (list_any test xs ≡ true → Found test xs) → Found test (x ∷ xs)
-    at true passes has later = record { place = 0; item = x; within = omega arith; stands = refl; passes = passes; is = ap (λ c. cond c (Some x) (find test xs)) passes }
+    at : (b : Bool) → test x ≡ b → (b || list_any test xs) ≡ true →
+        (list_any test xs ≡ true → Found test xs) → Found test (x ∷ xs)
+    at true passes has later = record {
+      place = 0;
+      item = x;
+      within = omega arith;
+      stands = refl;
+      passes = passes;
+      is = ap (λ c. cond c (Some x) (find test xs)) passes;
+    }
     at false fails has later =
         let rest = later has in
         record {
@@ -45,15 +54,19 @@ none_found : {X : Type 0} (test : X → Bool) (xs : List X) → list_any test xs
 none_found test [] none = refl
 none_found {X} test (x ∷ xs) none = at (test x) none (none_found test xs)
   where
-    at : (b : Bool) → (b || list_any test xs) ≡ false → (list_any test xs ≡ false → find test xs ≡ None) → cond b (Some x) (find test xs) ≡ None
+    at : (b : Bool) → (b || list_any test xs) ≡ false → (list_any test xs ≡ false → find test xs ≡ None) →
+        cond b (Some x) (find test xs) ≡ None
     at true has later = absurd (cc)
     at false has later = later has
 
 -- an address where a function has an instruction lies in it
 within_function : (f : Func) → IsLaidOut f → (a : ℕ) → starts_at f.insts.items a ≡ true → (f.start ≤ a) × (a < f.end)
 within_function f laid a here = (
-  ⊎_elim (λ (less : a < f.start). let none = starts_below f laid a less in absurd (cc)) (λ (more : f.start ≤ a). more) (cases_lt a f.start),
-  ⊎_elim (λ (less : a < f.end). less) (λ (more : f.end ≤ a). let none = starts_above f laid a more in absurd (cc)) (cases_lt a f.end),
+  ⊎_elim (λ (less : a < f.start). let none = starts_below f laid a less in absurd (cc))
+      (λ (more : f.start ≤ a). more) (cases_lt a f.start),
+  ⊎_elim (λ (less : a < f.end). less) (λ (more : f.end ≤ a).
+      let none = starts_above f laid a more in
+      absurd (cc)) (cases_lt a f.end),
 )
 
 module _ (funcs : List Func) (laid : AreLaidOut funcs) where
@@ -76,7 +89,8 @@ module _ (funcs : List Func) (laid : AreLaidOut funcs) where
       (cases_lt k j))
       (cases_lt j k)
 
-  start_here : (a k : ℕ) (d : Func) → k < length funcs → starts_at (get_or funcs k d).insts.items a ≡ true → start_at funcs a ≡ (get_or funcs k d).start
+  start_here : (a k : ℕ) (d : Func) → k < length funcs → starts_at (get_or funcs k d).insts.items a ≡ true →
+      start_at funcs a ≡ (get_or funcs k d).start
   start_here a k d within here =
       let f = found (λ g. starts_at g.insts.items a) funcs (list_any_at (λ g. starts_at g.insts.items a) funcs k d within here) in
       let there = subst (λ (g : Func). starts_at g.insts.items a ≡ true) (sym f.stands) f.passes in
@@ -92,7 +106,8 @@ module _ (funcs : List Func) (laid : AreLaidOut funcs) where
   start_at_place a f i is d =
       let insts = (get_or funcs f d).insts.items in
       let p = any_element insts i (is.inst_within d) in
-      start_here a f d is.func_within (list_any_at (λ q. q.addr == a) insts i p (is.inst_within d) (eq-eqb (get_or insts i p).addr a (is.starts d p)))
+      start_here a f d is.func_within
+      (list_any_at (λ q. q.addr == a) insts i p (is.inst_within d) (eq-eqb (get_or insts i p).addr a (is.starts d p)))
 
   pub start_nowhere : (a : ℕ) → is_code_address funcs a ≡ false → start_at funcs a ≡ 0
   start_nowhere a none =
@@ -113,8 +128,11 @@ module _ (funcs : List Func) (laid : AreLaidOut funcs) where
       let bounds = within_function (get_or funcs f.place f.item) (laid.each f.place f.item f.within) a there in
       record {
         from = omega (arith, start, bounds.0);
-        low = ⊎_elim (λ (less : a < code_limit). less) (λ (more : code_limit ≤ a). let none = no_code_from funcs laid a more in absurd (cc)) (cases_lt a code_limit);
-        starts = list_any_at (λ g. g.start == start_at funcs a) funcs f.place f.item f.within (eq-eqb (get_or funcs f.place f.item).start (start_at funcs a) (sym start));
+        low = ⊎_elim (λ (less : a < code_limit). less) (λ (more : code_limit ≤ a).
+            let none = no_code_from funcs laid a more in
+            absurd (cc)) (cases_lt a code_limit);
+        starts = list_any_at (λ g. g.start == start_at funcs a) funcs f.place f.item f.within
+            (eq-eqb (get_or funcs f.place f.item).start (start_at funcs a) (sym start));
       }
 
   -- The code of all functions, from the first start to the last end.
@@ -137,9 +155,10 @@ module _ (funcs : List Func) (laid : AreLaidOut funcs) where
       subst (λ (j : ℕ). (get_or funcs k e).end ≤ (get_or funcs j e).end) same (omega arith))
       (cases_lt k (length funcs - 1))
 
-  pub in_range : (d e : Func) (k : ℕ) (f : Func) (i : ℕ) (p : Placed) → k < length funcs → i < length (get_or funcs k f).insts.items
-      → ((get_or funcs 0 d).start ≤ (get_or (get_or funcs k f).insts.items i p).addr)
-      × ((get_or (get_or funcs k f).insts.items i p).addr < (get_or funcs 0 d).start + ((get_or funcs (length funcs - 1) e).end - (get_or funcs 0 d).start))
+  pub in_range : (d e : Func) (k : ℕ) (f : Func) (i : ℕ) (p : Placed) → k < length funcs
+      → i < length (get_or funcs k f).insts.items → ((get_or funcs 0 d).start ≤ (get_or (get_or funcs k f).insts.items i p).addr)
+      × ((get_or (get_or funcs k f).insts.items i p).addr
+      < (get_or funcs 0 d).start + ((get_or funcs (length funcs - 1) e).end - (get_or funcs 0 d).start))
   in_range d e k f i p within inside =
       let bounds = inst_bounds (get_or funcs k f) (laid.each k f within) i p inside in
       let first = funcs_rise funcs laid 0 k f (omega arith) within in

@@ -2,11 +2,13 @@
 use Rattle.std.proofs.Common.{◌≡◌, ◌∙◌, ◌+◌, ◌<◌, ◌≤◌, ◌^◌, ◌-◌, ℕ, suc, Bool, true, false, List, [], ◌∷◌, ◌++◌, length, refl, sym, ap, subst, arith, append_assoc, length-append}
 use Rattle.std.specs.Prelude.{◌==◌, ◌&&◌, if◌then◌else◌}
 use Rattle.std.proofs.lemmas.List.Sums.{sum_by-cons, sum_by-append}
+use Rattle.run_core.specs.Answers.{Answer}
 use Rattle.run_core.specs.Answers as answer
 use Rattle.run_core.specs.Inputs.{Outside, MayCome}
-use Rattle.run_core.specs.StepAnswers.{StepGoes, StepStops}
+use Rattle.run_core.specs.Runs.{steps_done}
+use Rattle.run_core.specs.StepAnswers.{StepAnswers, StepGoes, StepStops}
 use Rattle.run_core.proofs.Told.{as_told-prepend, told, told_before, told_is, told_may_come}
-use Rattle.run_core.proofs.Walking.{Walk, ends_run, halts_run, may_before, no_step, step_more, steps_up}
+use Rattle.run_core.proofs.Walking.{Walk, ends_run, fails_at_read, fails_at_write, halts_run, may_before, no_step, step_more, steps_up}
 use Rattle.rv_code.specs.declared.cause.Cause.{Cause}
 use Rattle.rv_code.specs.machine.Determined.{HasOneOutcome}
 use Rattle.rv_code.specs.machine.Machine.{Ended, Halts}
@@ -17,7 +19,7 @@ use Rattle.edge_profile.specs.Counts.{Counted, count_among, is_of}
 use Rattle.edge_record.specs.Moves.{Move, starts, more}
 use Rattle.edge_record.specs.Recording.{ByteMoves, StopsAnywhere}
 use Rattle.edge_record.specs.Taken.{taken_by}
-use Rattle.edge_record.specs.Watching.{IsWatched}
+use Rattle.edge_record.specs.Watching.{IsWatched, WatchesRun}
 
 -- How often a move was made.
 
@@ -62,7 +64,8 @@ module _ (counts : Move → Bool) (old : Machine) (before : Outside) where
   }
 
   -- after a walk memory may run out
-  pub stops : (limit : ℕ) (now : Machine) (ended : Bool) (n : ℕ) (after final : Outside) → Walk state_of Steps old before now ended n after
+  pub stops : (limit : ℕ) (now : Machine) (ended : Bool) (n : ℕ) (after final : Outside)
+      → Walk state_of Steps old before now ended n after
       → n ≤ limit → final.input.left ≡ after.input.left → final.output.taken ≡ after.output.taken
       → StopsAnywhere (state_of old) limit before final
   stops limit now ended n after final walk within left taken =
@@ -76,11 +79,13 @@ module _ (counts : Move → Bool) (old : Machine) (before : Outside) where
         trace = c.trace;
         state = state_of now rest;
         so_far = c.so_far;
-        left_is = left ∙ told_is after.input.left ∙ as_told-prepend before.input.left after.input.left walk.read rest walk.read_is;
+        left_is =
+            left ∙ told_is after.input.left ∙ as_told-prepend before.input.left after.input.left walk.read rest walk.read_is;
         taken_is = taken ∙ c.taken_is;
       }
 
-  module _ (mid : Machine) (ended : Bool) (n : ℕ) (between : Outside) (said : List Counted) (watch : Watch mid ended n between said)
+  module _ (mid : Machine) (ended : Bool) (n : ℕ) (between : Outside) (said : List Counted)
+      (watch : Watch mid ended n between said)
       (one : (bytes : List ℕ) → HasOneOutcome Steps (state_of mid bytes)) where
     -- a count is below the number of steps
     pub few : (from to limit : ℕ) → n < limit → limit < 2 ^ 64 → count_among from to said < 2 ^ 64 - 1
@@ -89,26 +94,32 @@ module _ (counts : Move → Bool) (old : Machine) (before : Outside) where
         let most = taken-le counts watch.moves from to in
         omega (arith, is, most, watch.long)
 
-    module _ (new : Machine) (ends : Bool) (after : Outside) (goes : StepGoes state_of Steps mid new ended ends between after) where
+    module _ (new : Machine) (ends : Bool) (after : Outside)
+        (goes : StepGoes state_of Steps mid new ended ends between after) where
       abbrev pub walk_more : Walk state_of Steps old before new ends (n + 1) after
       walk_more = step_more state_of Steps old before mid ended n between watch.walk one new ends after goes
 
       -- one step more, whose move was noted
       pub move_more : (from to : ℕ) (noted : List Counted) → from ≡ mid.pc → to ≡ new.pc
-          → ((x y : ℕ) → count_among x y noted ≡ count_among x y said + (if counts (from, to) && is_of x y (from, to, 1) then 1 else 0))
+          → ((x y : ℕ)
+          → count_among x y noted ≡ count_among x y said + (if counts (from, to) && is_of x y (from, to, 1) then 1 else 0))
           → Watch new ends (n + 1) after noted
       move_more from to noted from_is to_is counted = record {
         walk = walk_more;
         moves = watch.moves ++ (mid.pc, new.pc) ∷ [];
         long = let split = length-append watch.moves ((mid.pc, new.pc) ∷ []) in omega (arith, split, watch.long);
         gone = λ rest may.
-            let earlier = watch.gone (goes.read ++ rest) (may_before state_of Steps old before mid ended n between watch.walk one new ends after goes rest may) in
+            let earlier = watch.gone (goes.read ++ rest)
+            (may_before state_of Steps old before mid ended n between watch.walk one new ends after goes rest may) in
             let g = goes.goes_on rest may in
-            let far : ByteMoves (state_of old (watch.walk.read ++ (goes.read ++ rest))) (suc n) (watch.moves ++ (mid.pc, new.pc) ∷ []) (state_of new rest)
+            let far : ByteMoves (state_of old (watch.walk.read ++ (goes.read ++ rest))) (suc n)
+            (watch.moves ++ (mid.pc, new.pc) ∷ []) (state_of new rest)
             = more g.event earlier g.comes_to in
             let next : suc n ≡ n + 1 = omega arith in
-            subst (λ k. ByteMoves (state_of old ((watch.walk.read ++ goes.read) ++ rest)) k (watch.moves ++ (mid.pc, new.pc) ∷ []) (state_of new rest)) next
-            (subst (λ xs. ByteMoves (state_of old xs) (suc n) (watch.moves ++ (mid.pc, new.pc) ∷ []) (state_of new rest)) (sym (append_assoc watch.walk.read goes.read rest)) far);
+            subst (λ k. ByteMoves (state_of old ((watch.walk.read ++ goes.read) ++ rest)) k (watch.moves ++ (mid.pc, new.pc) ∷ [])
+            (state_of new rest)) next
+            (subst (λ xs. ByteMoves (state_of old xs) (suc n) (watch.moves ++ (mid.pc, new.pc) ∷ []) (state_of new rest))
+            (sym (append_assoc watch.walk.read goes.read rest)) far);
         counts_are = λ x y.
             let last : (if counts (from, to) && is_of x y (from, to, 1) then 1 else 0) ≡ once counts x y (mid.pc, new.pc)
             = (λ i. once counts x y (from_is i, to_is i)) in
@@ -145,9 +156,23 @@ module _ (counts : Move → Bool) (old : Machine) (before : Outside) where
         counts_are = watch.counts_are;
       }
 
+      -- the next step is the last
+      pub last_watch : (ends : Bool) (end : Answer Cause) → (end ≡ answer.Going → ⊥) → before.input.faults ≤ between.input.faults
+          → before.output.faults ≤ between.output.faults → StepAnswers state_of Steps end mid new ended ends between after
+          → WatchesRun counts old new limit (steps_done end n) before after said end
+      last_watch ends answer.Going last reads writes answers = absurd (last refl)
+      last_watch ends (answer.Ended status) last reads writes answers = ends_watch status answers
+      last_watch ends (answer.Halted pc cause) last reads writes answers = halts_watch pc cause answers
+      last_watch ends answer.ReadFault last reads writes answers =
+          fails_at_read state_of Steps old before mid ended n between watch.walk one new after limit below reads answers
+      last_watch ends answer.WriteFault last reads writes answers =
+          fails_at_write state_of Steps old before mid ended n between watch.walk one new after limit below writes answers
+      last_watch ends answer.Memory last reads writes answers =
+          stops limit mid ended n between after watch.walk (omega (arith, below)) answers.left_is answers.taken_is
+
   -- the steps are up
-  pub watch_up : (now : Machine) (ended : Bool) (n limit : ℕ) (after : Outside) (said : List Counted) → Watch now ended n after said → n ≡ limit
-      → IsWatched counts old now limit n before after said answer.Going
+  pub watch_up : (now : Machine) (ended : Bool) (n limit : ℕ) (after : Outside) (said : List Counted)
+      → Watch now ended n after said → n ≡ limit → IsWatched counts old now limit n before after said answer.Going
   watch_up now ended n limit after said watch up = record {
     runs = steps_up state_of Steps old before now ended n limit after watch.walk up;
     moves = watch.moves;

@@ -38,39 +38,14 @@ pub fn watch_run<I: Source, O: Sink>(
     while steps < limit {
         let from = machine.pc();
         match machine.step_known(&mut known, &mut input_end, input, out) {
-            Stepped::Going => {
-                steps += 1;
-                if note(counts, watched, from, machine.pc()).is_err() {
-                    return Ran {
-                        end: Stepped::Memory,
-                        steps,
-                    };
-                }
-            }
-            Stepped::Ended(status) => {
-                return Ran {
-                    end: Stepped::Ended(status),
-                    steps: steps + 1,
-                };
-            }
-            Stepped::Trap(pc, cause) => {
-                return Ran {
-                    end: Stepped::Trap(pc, cause),
-                    steps,
-                };
-            }
-            Stepped::ReadFault => return Ran {
-                end: Stepped::ReadFault,
-                steps,
-            },
-            Stepped::WriteFault => return Ran {
-                end: Stepped::WriteFault,
-                steps,
-            },
-            Stepped::Memory => return Ran {
+            Stepped::Going => steps += 1,
+            end => return Ran::ended(end, steps),
+        }
+        if note(counts, watched, from, machine.pc()).is_err() {
+            return Ran {
                 end: Stepped::Memory,
                 steps,
-            },
+            };
         }
     }
     Ran {

@@ -5,7 +5,8 @@ use Rattle.std.specs.Io.KnownBytes.{prepend_known}
 use Rattle.run_core.proofs.Told.{prepend_known-append}
 
 -- what was read fills the front of a buffer, and n more bytes stand at the front of the rest
-pub prepend_known-more : (a b c : Option (List ℕ)) (front filled rest : List ℕ) (d n : ℕ) → length front ≡ d → front ≡ filled → a ≡ prepend_known filled b → b ≡ prepend_known (take n rest) c → a ≡ prepend_known (take (d + n) (front ++ rest)) c
+pub prepend_known-more : (a b c : Option (List ℕ)) (front filled rest : List ℕ) (d n : ℕ) → length front ≡ d → front ≡ filled →
+    a ≡ prepend_known filled b → b ≡ prepend_known (take n rest) c → a ≡ prepend_known (take (d + n) (front ++ rest)) c
 prepend_known-more a b c front filled rest d n size same first next =
     first ∙ ap (λ xs. prepend_known xs b) (sym same) ∙ ap (prepend_known front) next ∙ prepend_known-append front (take n rest) c
     ∙ ap (λ xs. prepend_known xs c) (sym (take-append-add front rest n) ∙ ap (λ k. take (k + n) (front ++ rest)) size)

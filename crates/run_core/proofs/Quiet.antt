@@ -27,23 +27,35 @@ module _ {M V X C : Type 0} (state_of : M → List ℕ → State V X) where
       quiet : MovesNothing event
       comes_to : step s (Going (state_of new input) event)
 
-    goes : (s : State V X) (o : Outcome (State V X) C) (input : List ℕ) → step s o → Becomes state_of o answer.Going old new input → GoesQuietly s input
-    goes s (Going t e) input steps becomes = record { event = e; quiet = becomes.0; comes_to = subst (λ x. step s (Going x e)) (same_state t (state_of new input) becomes.1) steps }
+    goes : (s : State V X) (o : Outcome (State V X) C) (input : List ℕ) → step s o →
+        Becomes state_of o answer.Going old new input → GoesQuietly s input
+    goes s (Going t e) input steps becomes = record {
+      event = e;
+      quiet = becomes.0;
+      comes_to = subst (λ x. step s (Going x e)) (same_state t (state_of new input) becomes.1) steps;
+    }
     goes s (Ended n) input steps becomes = absurd becomes
     goes s (Halts pc cause) input steps becomes = absurd becomes
 
-    ends : (s : State V X) (o : Outcome (State V X) C) (status : ℕ) (input : List ℕ) → step s o → Becomes state_of o (answer.Ended status) old new input → step s (Ended status) × (state_of new input ≡ state_of old input)
+    ends : (s : State V X) (o : Outcome (State V X) C) (status : ℕ) (input : List ℕ) → step s o →
+        Becomes state_of o (answer.Ended status) old new input → step s (Ended status) × (state_of new input ≡ state_of old input)
     ends s (Going t e) status input steps becomes = absurd becomes
-    ends s (Ended n) status input steps becomes = (subst (λ x. step s (Ended x)) becomes.0 steps, sym (same_state (state_of old input) (state_of new input) becomes.1))
+    ends s (Ended n) status input steps becomes =
+        (subst (λ x. step s (Ended x)) becomes.0 steps, sym (same_state (state_of old input) (state_of new input) becomes.1))
     ends s (Halts pc cause) status input steps becomes = absurd becomes
 
-    halts : (s : State V X) (o : Outcome (State V X) C) (pc : ℕ) (cause : C) (input : List ℕ) → step s o → Becomes state_of o (answer.Halted pc cause) old new input → step s (Halts pc cause) × (state_of new input ≡ state_of old input)
+    halts : (s : State V X) (o : Outcome (State V X) C) (pc : ℕ) (cause : C) (input : List ℕ) → step s o →
+        Becomes state_of o (answer.Halted pc cause) old new input →
+        step s (Halts pc cause) × (state_of new input ≡ state_of old input)
     halts s (Going t e) pc cause input steps becomes = absurd becomes
     halts s (Ended n) pc cause input steps becomes = absurd becomes
-    halts s (Halts at why) pc cause input steps becomes =
-        (subst (λ x. step s (Halts x cause)) becomes.0 (subst (λ x. step s (Halts at x)) becomes.1 steps), sym (same_state (state_of old input) (state_of new input) becomes.2))
+    halts s (Halts at why) pc cause input steps becomes = (
+      subst (λ x. step s (Halts x cause)) becomes.0 (subst (λ x. step s (Halts at x)) becomes.1 steps),
+      sym (same_state (state_of old input) (state_of new input) becomes.2),
+    )
 
-    ran_out : (o : Outcome (State V X) C) (input : List ℕ) → Becomes state_of o answer.Memory old new input → state_of new input ≡ state_of old input
+    ran_out : (o : Outcome (State V X) C) (input : List ℕ) → Becomes state_of o answer.Memory old new input →
+        state_of new input ≡ state_of old input
     ran_out (Going t e) input becomes = sym (same_state (state_of old input) (state_of new input) becomes)
     ran_out (Ended n) input becomes = sym (same_state (state_of old input) (state_of new input) becomes)
     ran_out (Halts pc cause) input becomes = sym (same_state (state_of old input) (state_of new input) becomes)
@@ -60,12 +72,18 @@ module _ {M V X C : Type 0} (state_of : M → List ℕ → State V X) where
 
     -- a step whose effect is quiet, beside an outside that stays
     pub quiet_answers : (effect : State V X → Outcome (State V X) C) (a : Answer C) (ended : Bool) (outside : Outside)
-        → ((input : List ℕ) → step (state_of old input) (effect (state_of old input))) → ((input : List ℕ) → Becomes state_of (effect (state_of old input)) a old new input) → StepAnswers state_of step a old new ended ended outside outside
+        → ((input : List ℕ) → step (state_of old input) (effect (state_of old input)))
+        → ((input : List ℕ) → Becomes state_of (effect (state_of old input)) a old new input)
+        → StepAnswers state_of step a old new ended ended outside outside
     quiet_answers effect answer.Going ended outside steps becomes = record {
       read = [];
       goes_on = λ rest may.
           let went = goes (state_of old rest) (effect (state_of old rest)) rest (steps rest) (becomes rest) in
-          record { event = went.event; comes_to = went.comes_to; taken_is = quiet_output went.event went.quiet outside.output.taken };
+          record {
+            event = went.event;
+            comes_to = went.comes_to;
+            taken_is = quiet_output went.event went.quiet outside.output.taken;
+          };
       read_is = prepend_known-nil outside.input.left;
       end_kept = λ e. (e, refl);
       end_is = λ rightly. rightly;
@@ -77,13 +95,17 @@ module _ {M V X C : Type 0} (state_of : M → List ℕ → State V X) where
       taken_is = refl;
     }
     quiet_answers effect (answer.Halted pc cause) ended outside steps becomes = record {
-      comes_to = λ input. (halts (state_of old input) (effect (state_of old input)) pc cause input (steps input) (becomes input)).0;
-      state_is = λ input. (halts (state_of old input) (effect (state_of old input)) pc cause input (steps input) (becomes input)).1;
+      comes_to =
+          λ input. (halts (state_of old input) (effect (state_of old input)) pc cause input (steps input) (becomes input)).0;
+      state_is =
+          λ input. (halts (state_of old input) (effect (state_of old input)) pc cause input (steps input) (becomes input)).1;
       left_is = refl;
       taken_is = refl;
     }
-    quiet_answers effect answer.ReadFault ended outside steps becomes = absurd (no_read (effect (state_of old [])) [] (becomes []))
-    quiet_answers effect answer.WriteFault ended outside steps becomes = absurd (no_write (effect (state_of old [])) [] (becomes []))
+    quiet_answers effect answer.ReadFault ended outside steps becomes =
+        absurd (no_read (effect (state_of old [])) [] (becomes []))
+    quiet_answers effect answer.WriteFault ended outside steps becomes =
+        absurd (no_write (effect (state_of old [])) [] (becomes []))
     quiet_answers effect answer.Memory ended outside steps becomes = record {
       state_is = λ input. ran_out (effect (state_of old input)) input (becomes input);
       left_is = refl;
@@ -91,8 +113,11 @@ module _ {M V X C : Type 0} (state_of : M → List ℕ → State V X) where
     }
 
   -- answers by one relation are answers by another that it implies
-  module _ (step other : State V X → Outcome (State V X) C → Type 0) (old new : M) (implies : (input : List ℕ) (o : Outcome (State V X) C) → step (state_of old input) o → other (state_of old input) o) (ended ends : Bool) (before after : Outside) where
-    pub answers_by : (a : Answer C) → StepAnswers state_of step a old new ended ends before after → StepAnswers state_of other a old new ended ends before after
+  module _ (step other : State V X → Outcome (State V X) C → Type 0) (old new : M)
+      (implies : (input : List ℕ) (o : Outcome (State V X) C) → step (state_of old input) o → other (state_of old input) o)
+      (ended ends : Bool) (before after : Outside) where
+    pub answers_by : (a : Answer C) → StepAnswers state_of step a old new ended ends before after →
+        StepAnswers state_of other a old new ended ends before after
     answers_by answer.Going a = record {
       read = a.read;
       goes_on = λ rest may.
@@ -102,8 +127,18 @@ module _ {M V X C : Type 0} (state_of : M → List ℕ → State V X) where
       end_kept = a.end_kept;
       end_is = a.end_is;
     }
-    answers_by (answer.Ended status) a = record { comes_to = λ input. implies input _ (a.comes_to input); state_is = a.state_is; left_is = a.left_is; taken_is = a.taken_is }
-    answers_by (answer.Halted pc cause) a = record { comes_to = λ input. implies input _ (a.comes_to input); state_is = a.state_is; left_is = a.left_is; taken_is = a.taken_is }
+    answers_by (answer.Ended status) a = record {
+      comes_to = λ input. implies input _ (a.comes_to input);
+      state_is = a.state_is;
+      left_is = a.left_is;
+      taken_is = a.taken_is;
+    }
+    answers_by (answer.Halted pc cause) a = record {
+      comes_to = λ input. implies input _ (a.comes_to input);
+      state_is = a.state_is;
+      left_is = a.left_is;
+      taken_is = a.taken_is;
+    }
     answers_by answer.ReadFault a = record {
       cause = a.cause;
       asks = λ input.
@@ -124,7 +159,13 @@ module _ {M V X C : Type 0} (state_of : M → List ℕ → State V X) where
       cause = a.cause;
       gives = λ input.
           let gives = a.gives input in
-          record { next = gives.next; event = gives.event; comes_to = implies input _ gives.comes_to; number_is = gives.number_is; front = gives.front };
+          record {
+            next = gives.next;
+            event = gives.event;
+            comes_to = implies input _ gives.comes_to;
+            number_is = gives.number_is;
+            front = gives.front;
+          };
       left_is = a.left_is;
     }
     answers_by answer.Memory a = a

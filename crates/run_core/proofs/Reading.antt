@@ -5,12 +5,17 @@ use Rattle.std.proofs.lemmas.Bool.{ltb-true, ltb-false}
 use Rattle.run_core.specs.Inputs.{MayCome}
 
 -- fewer than it asks for are all there are
-pub takes_all : (count : ℕ) (moved rest : List ℕ) (ends : Bool) → length moved ≤ count → (length moved < count → ends ≡ true) → MayCome ends rest → take count (moved ++ rest) ≡ moved
+pub takes_all : (count : ℕ) (moved rest : List ℕ) (ends : Bool) → length moved ≤ count → (length moved < count → ends ≡ true) →
+    MayCome ends rest → take count (moved ++ rest) ≡ moved
 takes_all count moved rest ends few end may = by_test (nat_lt (length moved) count) refl
   where
     by_test : (b : Bool) → nat_lt (length moved) count ≡ b → take count (moved ++ rest) ≡ moved
-    by_test true test = let none : rest ≡ [] = may (end (ltb-true _ _ test)) in rw (none, append-nil moved) (take_all count moved few)
-    by_test false test = let full : count ≡ length moved = omega (arith, few, ltb-false _ _ test) in rw full (take-append_seam moved rest)
+    by_test true test =
+        let none : rest ≡ [] = may (end (ltb-true _ _ test)) in
+        rw (none, append-nil moved) (take_all count moved few)
+    by_test false test =
+        let full : count ≡ length moved = omega (arith, few, ltb-false _ _ test) in
+        rw full (take-append_seam moved rest)
 
 pub drops_moved : (moved rest : List ℕ) → drop (length moved) (moved ++ rest) ≡ rest
 drops_moved moved rest = drop-append_seam moved rest

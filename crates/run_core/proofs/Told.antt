@@ -28,16 +28,20 @@ pub append_known-nil : (known : Option (List ℕ)) → known ≡ append_known kn
 append_known-nil None = refl
 append_known-nil (Some bytes) = ap Some (sym (append-nil bytes))
 
-pub prepend_known-append : (xs ys : List ℕ) (known : Option (List ℕ)) → prepend_known xs (prepend_known ys known) ≡ prepend_known (xs ++ ys) known
+pub prepend_known-append : (xs ys : List ℕ) (known : Option (List ℕ)) →
+    prepend_known xs (prepend_known ys known) ≡ prepend_known (xs ++ ys) known
 prepend_known-append xs ys None = refl
 prepend_known-append xs ys (Some zs) = ap Some (sym (append_assoc xs ys zs))
 
 -- before it lost some bytes
-pub told_before : (before after : Option (List ℕ)) (read rest : List ℕ) → before ≡ prepend_known read after → after ≡ as_told after rest → before ≡ as_told before (read ++ rest)
+pub told_before : (before after : Option (List ℕ)) (read rest : List ℕ) → before ≡ prepend_known read after →
+    after ≡ as_told after rest → before ≡ as_told before (read ++ rest)
 told_before before None read rest is same = is ∙ ap (λ known. as_told known (read ++ rest)) (sym is)
-told_before before (Some bytes) read rest is same = is ∙ ap (prepend_known read) same ∙ ap (λ known. as_told known (read ++ rest)) (sym is)
+told_before before (Some bytes) read rest is same =
+    is ∙ ap (prepend_known read) same ∙ ap (λ known. as_told known (read ++ rest)) (sym is)
 
 -- it tells its bytes then if it does now
-pub as_told-prepend : (before after : Option (List ℕ)) (read bytes : List ℕ) → before ≡ prepend_known read after → as_told after bytes ≡ as_told before bytes
+pub as_told-prepend : (before after : Option (List ℕ)) (read bytes : List ℕ) → before ≡ prepend_known read after →
+    as_told after bytes ≡ as_told before bytes
 as_told-prepend before None read bytes is = ap (λ known. as_told known bytes) (sym is)
 as_told-prepend before (Some left) read bytes is = ap (λ known. as_told known bytes) (sym is)

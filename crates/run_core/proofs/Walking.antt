@@ -6,16 +6,18 @@ use Rattle.rb_io.proofs.Printing.{append_known-append}
 use Rattle.rv_code.specs.machine.Determined.{HasOneOutcome, IsDetermined, IsStop}
 use Rattle.rv_code.specs.machine.Machine.{Event, events, output, Outcome, Ended, Halts, SoFar, starts, more}
 use Rattle.rv_code.proofs.machine.OnlyRuns.{fewer, more_determined, stop_determines}
+use Rattle.run_core.specs.Answers.{Answer}
 use Rattle.run_core.specs.Answers as answer
 use Rattle.run_core.specs.Inputs.{Outside, as_told, MayCome, IsRightly}
-use Rattle.run_core.specs.Runs.{RunsSomeInput}
-use Rattle.run_core.specs.StepAnswers.{StepGoes, StepStops, FailsToRead, FailsToWrite, RanOut}
+use Rattle.run_core.specs.Runs.{RunsSomeInput, steps_done}
+use Rattle.run_core.specs.StepAnswers.{StepAnswers, StepGoes, StepStops, FailsToRead, FailsToWrite, RanOut}
 use Rattle.run_core.proofs.Told.{told, told_is, told_may_come, told_before, as_told-prepend, prepend_known-nil, prepend_known-append, append_known-nil}
 
 pub output-append : (es fs : List Event) → output (es ++ fs) ≡ output es ++ output fs
 unfolding output
 output-append [] fs = refl
-output-append (e ∷ es) fs = ap (λ rest. (if e.number == 64 then e.moved else []) ++ rest) (output-append es fs) ∙ sym (append_assoc (if e.number == 64 then e.moved else []) (output es) (output fs))
+output-append (e ∷ es) fs = ap (λ rest. (if e.number == 64 then e.moved else []) ++ rest) (output-append es fs)
+    ∙ sym (append_assoc (if e.number == 64 then e.moved else []) (output es) (output fs))
 
 pub output-nil : output [] ≡ []
 unfolding output
@@ -53,36 +55,46 @@ module _ {M S C : Type 0} (state_of : M → List ℕ → S) (step : S → Outcom
     end_is = not_ended ended none before.input.left;
   }
 
-  module _ (mid : M) (ended : Bool) (n : ℕ) (between : Outside) (walk : Walk mid ended n between) (one : (bytes : List ℕ) → HasOneOutcome step (state_of mid bytes)) where
+  module _ (mid : M) (ended : Bool) (n : ℕ) (between : Outside) (walk : Walk mid ended n between)
+      (one : (bytes : List ℕ) → HasOneOutcome step (state_of mid bytes)) where
     pub determined_further : (rest : List ℕ) → MayCome ended rest → IsDetermined step (state_of old (walk.read ++ rest)) (n + 1)
-    determined_further rest may = let c = walk.came rest may in more_determined step (state_of old (walk.read ++ rest)) c.determined c.so_far (one rest)
+    determined_further rest may =
+        let c = walk.came rest may in
+        more_determined step (state_of old (walk.read ++ rest)) c.determined c.so_far (one rest)
 
     pub next_is : suc n ≡ n + 1
     next_is = omega arith
 
-    pub may_before : (new : M) (ends : Bool) (after : Outside) (goes : StepGoes state_of step mid new ended ends between after) (rest : List ℕ) → MayCome ends rest → MayCome ended (goes.read ++ rest)
+    pub may_before : (new : M) (ends : Bool) (after : Outside) (goes : StepGoes state_of step mid new ended ends between after)
+        (rest : List ℕ) → MayCome ends rest → MayCome ended (goes.read ++ rest)
     may_before new ends after goes rest may = λ e. let kept = goes.end_kept e in rw (kept.1) (may kept.0)
 
     -- one step more
-    abbrev pub step_more : (new : M) (ends : Bool) (after : Outside) → StepGoes state_of step mid new ended ends between after → Walk new ends (n + 1) after
+    abbrev pub step_more : (new : M) (ends : Bool) (after : Outside) → StepGoes state_of step mid new ended ends between after →
+        Walk new ends (n + 1) after
     step_more new ends after goes = record {
       read = walk.read ++ goes.read;
       came = λ rest may.
           let c = walk.came (goes.read ++ rest) (may_before new ends after goes rest may) in
           let g = goes.goes_on rest may in
-          let far : SoFar step (state_of old (walk.read ++ (goes.read ++ rest))) (n + 1) (c.trace ++ events g.event) (state_of new rest) =
-          subst (λ k. SoFar step (state_of old (walk.read ++ (goes.read ++ rest))) k (c.trace ++ events g.event) (state_of new rest)) next_is (more g.event c.so_far g.comes_to) in
+          let far : SoFar step (state_of old (walk.read ++ (goes.read ++ rest))) (n + 1)
+          (c.trace ++ events g.event) (state_of new rest) =
+          subst (λ k. SoFar step (state_of old (walk.read ++ (goes.read ++ rest))) k (c.trace ++ events g.event)
+          (state_of new rest)) next_is (more g.event c.so_far g.comes_to) in
           record {
             trace = c.trace ++ events g.event;
-            so_far = subst (λ xs. SoFar step (state_of old xs) (n + 1) (c.trace ++ events g.event) (state_of new rest)) (sym (append_assoc walk.read goes.read rest)) far;
-            determined = subst (λ xs. IsDetermined step (state_of old xs) (n + 1)) (sym (append_assoc walk.read goes.read rest)) (determined_further (goes.read ++ rest) (may_before new ends after goes rest may));
+            so_far = subst (λ xs. SoFar step (state_of old xs) (n + 1) (c.trace ++ events g.event) (state_of new rest))
+                (sym (append_assoc walk.read goes.read rest)) far;
+            determined = subst (λ xs. IsDetermined step (state_of old xs) (n + 1)) (sym (append_assoc walk.read goes.read rest))
+                (determined_further (goes.read ++ rest) (may_before new ends after goes rest may));
             taken_is =
                 g.taken_is
                 ∙ ap (λ known. append_known known (output (events g.event))) c.taken_is
                 ∙ append_known-append before.output.taken (output c.trace) (output (events g.event))
                 ∙ ap (append_known before.output.taken) (sym (output-append c.trace (events g.event)));
           };
-      read_is = walk.read_is ∙ ap (prepend_known walk.read) goes.read_is ∙ prepend_known-append walk.read goes.read after.input.left;
+      read_is =
+          walk.read_is ∙ ap (prepend_known walk.read) goes.read_is ∙ prepend_known-append walk.read goes.read after.input.left;
       end_is = goes.end_is walk.end_is;
     }
 
@@ -101,19 +113,22 @@ module _ {M S C : Type 0} (state_of : M → List ℕ → S) (step : S → Outcom
     input_now_is = told_before before.input.left between.input.left walk.read rest_now walk.read_is (told_is between.input.left)
 
     pub rest_now_is : between.input.left ≡ as_told before.input.left rest_now
-    rest_now_is = told_is between.input.left ∙ as_told-prepend before.input.left between.input.left walk.read rest_now walk.read_is
+    rest_now_is =
+        told_is between.input.left ∙ as_told-prepend before.input.left between.input.left walk.read rest_now walk.read_is
 
     determined_now : IsDetermined step (state_of old input_now) (n + 1)
     determined_now = determined_further rest_now (told_may_come ended between.input.left walk.end_is)
 
     module _ (new : M) (after : Outside) (limit : ℕ) (below : n < limit) where
       -- where it stops, all steps are determined, since there are no others
-      pub determined_by_stop : (o : Outcome S C) → IsStop o → StepStops state_of step o mid new between after → IsDetermined step (state_of old input_now) limit
+      pub determined_by_stop : (o : Outcome S C) → IsStop o → StepStops state_of step o mid new between after →
+          IsDetermined step (state_of old input_now) limit
       determined_by_stop o is_stop stops =
           stop_determines step (state_of old input_now) (fewer step (state_of old input_now) (omega arith) determined_now)
           (record { so_far = came_now.so_far; comes_to = stops.comes_to rest_now; is_stop = is_stop }) limit
 
-      abbrev pub ends_run : (status : ℕ) → StepStops state_of step (Ended status) mid new between after → RunsSomeInput state_of step (answer.Ended status) limit (n + 1) old new before after
+      abbrev pub ends_run : (status : ℕ) → StepStops state_of step (Ended status) mid new between after →
+          RunsSomeInput state_of step (answer.Ended status) limit (n + 1) old new before after
       ends_run status stops = record {
         input = input_now;
         input_is = input_now_is;
@@ -122,7 +137,13 @@ module _ {M S C : Type 0} (state_of : M → List ℕ → S) (step : S → Outcom
           record {
             rest = rest_now;
             trace = came_now.trace;
-            run = record { before = n; last = omega arith; state = state_of mid rest_now; so_far = came_now.so_far; ends = stops.comes_to rest_now };
+            run = record {
+              before = n;
+              last = omega arith;
+              state = state_of mid rest_now;
+              so_far = came_now.so_far;
+              ends = stops.comes_to rest_now;
+            };
             state_is = sym (stops.state_is rest_now);
             left_is = stops.left_is ∙ rest_now_is;
             taken_is = stops.taken_is ∙ came_now.taken_is;
@@ -131,7 +152,8 @@ module _ {M S C : Type 0} (state_of : M → List ℕ → S) (step : S → Outcom
         determined = determined_by_stop (Ended status) tt stops;
       }
 
-      abbrev pub halts_run : (pc : ℕ) (cause : C) → StepStops state_of step (Halts pc cause) mid new between after → RunsSomeInput state_of step (answer.Halted pc cause) limit n old new before after
+      abbrev pub halts_run : (pc : ℕ) (cause : C) → StepStops state_of step (Halts pc cause) mid new between after →
+          RunsSomeInput state_of step (answer.Halted pc cause) limit n old new before after
       halts_run pc cause stops = record {
         input = input_now;
         input_is = input_now_is;
@@ -149,14 +171,16 @@ module _ {M S C : Type 0} (state_of : M → List ℕ → S) (step : S → Outcom
         determined = determined_by_stop (Halts pc cause) tt stops;
       }
 
-      pub fails_at_read : before.input.faults ≤ between.input.faults → FailsToRead state_of step mid between after → RunsSomeInput state_of step answer.ReadFault limit n old new before after
+      pub fails_at_read : before.input.faults ≤ between.input.faults → FailsToRead state_of step mid between after →
+          RunsSomeInput state_of step answer.ReadFault limit n old new before after
       fails_at_read rise fails = record {
         input = input_now;
         input_is = input_now_is;
         answers = (
           below,
           record {
-            cause = λ under. let rose : between.input.faults < after.input.faults = fails.cause under in omega (arith, rise, rose);
+            cause = λ under. let rose : between.input.faults < after.input.faults = fails.cause under in
+                omega (arith, rise, rose);
             trace = came_now.trace;
             state = state_of mid rest_now;
             so_far = came_now.so_far;
@@ -167,14 +191,16 @@ module _ {M S C : Type 0} (state_of : M → List ℕ → S) (step : S → Outcom
         determined = determined_now;
       }
 
-      pub fails_at_write : before.output.faults ≤ between.output.faults → FailsToWrite state_of step mid between after → RunsSomeInput state_of step answer.WriteFault limit n old new before after
+      pub fails_at_write : before.output.faults ≤ between.output.faults → FailsToWrite state_of step mid between after →
+          RunsSomeInput state_of step answer.WriteFault limit n old new before after
       fails_at_write rise fails = record {
         input = input_now;
         input_is = input_now_is;
         answers = (
           below,
           record {
-            cause = λ under. let rose : between.output.faults < after.output.faults = fails.cause under in omega (arith, rise, rose);
+            cause = λ under. let rose : between.output.faults < after.output.faults = fails.cause under in
+                omega (arith, rise, rose);
             trace = came_now.trace;
             state = state_of mid rest_now;
             so_far = came_now.so_far;
@@ -185,14 +211,19 @@ module _ {M S C : Type 0} (state_of : M → List ℕ → S) (step : S → Outcom
                   event = gives.event;
                   comes_to = gives.comes_to;
                   number_is = gives.number_is;
-                  front = (gives.front.0, gives.front.1, gives.front.2 ∙ ap (λ known. append_known known (take gives.front.0 gives.event.moved)) came_now.taken_is);
+                  front = (
+                    gives.front.0,
+                    gives.front.1,
+                    gives.front.2 ∙ ap (λ known. append_known known (take gives.front.0 gives.event.moved)) came_now.taken_is,
+                  );
                 };
           },
         );
         determined = determined_now;
       }
 
-      pub runs_out : RanOut state_of mid new between after → RunsSomeInput state_of step answer.Memory limit n old new before after
+      pub runs_out : RanOut state_of mid new between after →
+          RunsSomeInput state_of step answer.Memory limit n old new before after
       runs_out out = record {
         input = input_now;
         input_is = input_now_is;
@@ -201,7 +232,8 @@ module _ {M S C : Type 0} (state_of : M → List ℕ → S) (step : S → Outcom
           record {
             rest = rest_now;
             trace = came_now.trace;
-            so_far = subst (λ s. SoFar step (state_of old input_now) n came_now.trace s) (sym (out.state_is rest_now)) came_now.so_far;
+            so_far =
+                subst (λ s. SoFar step (state_of old input_now) n came_now.trace s) (sym (out.state_is rest_now)) came_now.so_far;
             left_is = out.left_is ∙ rest_now_is;
             taken_is = out.taken_is ∙ came_now.taken_is;
           },
@@ -209,8 +241,21 @@ module _ {M S C : Type 0} (state_of : M → List ℕ → S) (step : S → Outcom
         determined = determined_now;
       }
 
+      -- the next step is the last
+      pub last_step : (ends : Bool) (a : Answer C) → (a ≡ answer.Going → ⊥) → before.input.faults ≤ between.input.faults
+          → before.output.faults ≤ between.output.faults
+          → StepAnswers state_of step a mid new ended ends between after
+          → RunsSomeInput state_of step a limit (steps_done a n) old new before after
+      last_step ends answer.Going last reads writes answers = absurd (last refl)
+      last_step ends (answer.Ended status) last reads writes answers = ends_run status answers
+      last_step ends (answer.Halted pc cause) last reads writes answers = halts_run pc cause answers
+      last_step ends answer.ReadFault last reads writes answers = fails_at_read reads answers
+      last_step ends answer.WriteFault last reads writes answers = fails_at_write writes answers
+      last_step ends answer.Memory last reads writes answers = runs_out answers
+
   -- the steps are up
-  abbrev pub steps_up : (now : M) (ended : Bool) (n limit : ℕ) (after : Outside) → Walk now ended n after → n ≡ limit → RunsSomeInput state_of step answer.Going limit n old now before after
+  abbrev pub steps_up : (now : M) (ended : Bool) (n limit : ℕ) (after : Outside) → Walk now ended n after → n ≡ limit →
+      RunsSomeInput state_of step answer.Going limit n old now before after
   steps_up now ended n limit after walk up =
       let rest = told after.input.left in
       let c = walk.came rest (told_may_come ended after.input.left walk.end_is) in

@@ -9,6 +9,16 @@ use Rattle.run_core.specs.Answers as answer
 use Rattle.run_core.specs.Inputs.{Outside, as_told}
 use Rattle.run_core.specs.StepAnswers.{AsksInput, GivesOutput}
 
+-- The steps that are done, where the step after the first n comes to the answer. One that ends is counted, and one that
+-- halts or fails isn't.
+abbrev pub steps_done : {C : Type 0} → Answer C → ℕ → ℕ
+steps_done answer.Going n = n
+steps_done (answer.Ended status) n = n + 1
+steps_done (answer.Halted pc cause) n = n
+steps_done answer.ReadFault n = n
+steps_done answer.WriteFault n = n
+steps_done answer.Memory n = n
+
 -- How many of the first steps can go only one way. After an exit or a halt there are none.
 abbrev pub determined_steps : {C : Type 0} → Answer C → ℕ → ℕ → ℕ
 determined_steps answer.Going limit n = limit

@@ -24,11 +24,15 @@ module _ (s : ByteState) where
     pub only_illegal : ((i : Inst) (w : ℕ) → Decodes half next i w → ⊥) → (o : ByteOutcome) → Steps s o → o ≡ trap s cause.Illegal
     only_illegal never o (no_fetch none same) = absurd (cc)
     only_illegal never o (illegal h k other never' same) = same
-    only_illegal never o (does h k i w other decodes same) = absurd (never i w (subst {A = ℕ × Option ℕ} (λ p. Decodes p.0 p.1 i w) (sym (fetched_same h k other)) decodes))
+    only_illegal never o (does h k i w other decodes same) =
+        absurd (never i w (subst {A = ℕ × Option ℕ} (λ p. Decodes p.0 p.1 i w) (sym (fetched_same h k other)) decodes))
 
-    pub only_does : (inst : Inst) (bytes : ℕ) → Decodes half next inst bytes → ((i : Inst) (w : ℕ) → Decodes half next i w → (i ≡ inst) × (w ≡ bytes)) → (o : ByteOutcome) → Steps s o → o ≡ effect (action_of inst) (plus s.pc bytes) s
+    pub only_does : (inst : Inst) (bytes : ℕ) → Decodes half next inst bytes →
+        ((i : Inst) (w : ℕ) → Decodes half next i w → (i ≡ inst) × (w ≡ bytes)) → (o : ByteOutcome) → Steps s o →
+        o ≡ effect (action_of inst) (plus s.pc bytes) s
     only_does inst bytes decodes only o (no_fetch none same) = absurd (cc)
-    only_does inst bytes decodes only o (illegal h k other never same) = absurd (never inst bytes (subst {A = ℕ × Option ℕ} (λ p. Decodes p.0 p.1 inst bytes) (fetched_same h k other) decodes))
+    only_does inst bytes decodes only o (illegal h k other never same) =
+        absurd (never inst bytes (subst {A = ℕ × Option ℕ} (λ p. Decodes p.0 p.1 inst bytes) (fetched_same h k other) decodes))
     only_does inst bytes decodes only o (does h k i w other found same) =
         let one = only i w (subst {A = ℕ × Option ℕ} (λ p. Decodes p.0 p.1 i w) (sym (fetched_same h k other)) found) in
         same ∙ ap (λ j. effect (action_of j) (plus s.pc w) s) one.0 ∙ ap (λ n. effect (action_of inst) (plus s.pc n) s) one.1

@@ -11,10 +11,12 @@ module _ (s : ByteState) (even : s.pc % 2 ≡ 0) (may : all_may (may_execute s) 
 
   pub fetched_half : halfword s s.pc % 4 ≢ 3 → fetched s ≡ Some (halfword s s.pc, None)
   fetched_half low =
-      let short : (halfword s s.pc % 4 == 3) ≡ false = false_from_ne_true (halfword s s.pc % 4 == 3) (λ test. low (eqb-true (halfword s s.pc % 4) 3 test)) in
+      let short : (halfword s s.pc % 4 == 3) ≡ false =
+      false_from_ne_true (halfword s s.pc % 4 == 3) (λ test. low (eqb-true (halfword s s.pc % 4) 3 test)) in
       rw (even_test, may, short) refl
 
-  pub fetched_full : halfword s s.pc % 4 ≡ 3 → all_may (may_execute s) (plus s.pc 2) 2 ≡ true → fetched s ≡ Some (halfword s s.pc, Some (halfword s (plus s.pc 2)))
+  pub fetched_full : halfword s s.pc % 4 ≡ 3 → all_may (may_execute s) (plus s.pc 2) 2 ≡ true →
+      fetched s ≡ Some (halfword s s.pc, Some (halfword s (plus s.pc 2)))
   fetched_full low more =
       let long : (halfword s s.pc % 4 == 3) ≡ true = eq-eqb (halfword s s.pc % 4) 3 low in
       rw (even_test, may, long, more) refl

@@ -6,3 +6,4 @@ pub mod Fetches
 pub mod CallSteps
 pub mod Registers
 pub mod Determined
+pub mod LastSteps

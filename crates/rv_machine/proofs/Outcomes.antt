@@ -5,5 +5,6 @@ use Rattle.rv_machine.specs.declared.machine.Machine.{Machine}
 use Rattle.rv_machine.specs.declared.stepped.Stepped.{Stepped}
 use Rattle.rv_machine.specs.Stepped.{Becomes}
 
-pub same_outcome : (o p : ByteOutcome) (answer : Stepped) (old new : Machine) (input : List ℕ) → o ≡ p → Becomes o answer old new input → Becomes p answer old new input
+pub same_outcome : (o p : ByteOutcome) (answer : Stepped) (old new : Machine) (input : List ℕ) → o ≡ p →
+    Becomes o answer old new input → Becomes p answer old new input
 same_outcome o p answer old new input same becomes = subst (λ x. Becomes x answer old new input) same becomes

@@ -2,7 +2,8 @@
 use Rattle.std.specs.Prelude.{ℕ, ◌<◌, ◌≤◌, List, slice_index}
 use Rattle.rv_code.specs.machine.Step.{ByteState}
 use Rattle.rv_code.specs.declared.action.Action.{Action}
-use Rattle.rv_code.specs.declared.action.Action.TheVariants.{Compute, Branch, Jump, JumpTo, Upper, UpperPc, Load, Store, Fence, SystemCall, Breakpoint}
+use Rattle.rv_code.specs.declared.action.Action.TheVariants.{Compute, Branch, Jump, JumpTo, Upper, UpperPc}
+use Rattle.rv_code.specs.declared.action.Action.TheVariants.{Load, Store, Fence, SystemCall, Breakpoint}
 use Rattle.rv_memory.specs.Memory.{memory_of, space_in}
 use Rattle.rv_machine.specs.declared.machine.Machine.{Machine}
 

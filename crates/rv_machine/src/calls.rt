@@ -14,7 +14,8 @@ use rv_memory::rights::Access;
 
 impl<'a> Machine<'a> {
     ghost use Rattle.rv_code.specs.machine.Machine.{set_register, call_of, Read, Write, Unknown, Exit, Brk};
-    ghost use Rattle.rv_code.specs.machine.Step.{a0, a7, calls, refuses_file, sets_break, buffer_size, read_call, write_call, effect};
+    ghost use Rattle.rv_code.specs.machine.Step.{a0, a7, calls, refuses_file, sets_break};
+    ghost use Rattle.rv_code.specs.machine.Step.{buffer_size, read_call, write_call, effect};
     ghost use Rattle.run_core.specs.Inputs.{Outside};
     ghost use Rattle.run_core.specs.States.{Same};
     ghost use Rattle.rv_machine.specs.State.{state_of, registers_of};

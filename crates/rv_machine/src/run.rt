@@ -16,6 +16,27 @@ pub struct Ran {
     pub steps: u64,
 }
 
+impl Ran {
+    ghost use Rattle.std.specs.Prelude.{◌-◌, ◌<◌, ◌^◌};
+    ghost use Rattle.run_core.specs.Runs.{steps_done};
+    ghost use Rattle.rv_machine.specs.Stepped.{answered};
+
+    /// A run that came to its end in the step after so many.
+    pub fn ended(end: Stepped, steps: u64) -> Ran
+        requires { steps < 2 ^ 64 - 1 }
+        ensures end { result.end ≡ end }
+        ensures steps { result.steps ≡ steps_done (answered end) steps }
+    {
+        match end {
+            Stepped::Ended(_) => Ran {
+                end,
+                steps: steps + 1,
+            },
+            _ => Ran { end, steps },
+        }
+    }
+}
+
 impl<'a> Machine<'a> {
     ghost use Rattle.rv_code.specs.machine.Step.{Steps};
     ghost use Rattle.run_core.specs.Inputs.{Outside};
@@ -37,30 +58,7 @@ impl<'a> Machine<'a> {
         while steps < limit {
             match self.step_known(&mut known, &mut input_end, input, out) {
                 Stepped::Going => steps += 1,
-                Stepped::Ended(status) => {
-                    return Ran {
-                        end: Stepped::Ended(status),
-                        steps: steps + 1,
-                    };
-                }
-                Stepped::Trap(pc, cause) => {
-                    return Ran {
-                        end: Stepped::Trap(pc, cause),
-                        steps,
-                    };
-                }
-                Stepped::ReadFault => return Ran {
-                    end: Stepped::ReadFault,
-                    steps,
-                },
-                Stepped::WriteFault => return Ran {
-                    end: Stepped::WriteFault,
-                    steps,
-                },
-                Stepped::Memory => return Ran {
-                    end: Stepped::Memory,
-                    steps,
-                },
+                end => return Ran::ended(end, steps),
             }
         }
         Ran {

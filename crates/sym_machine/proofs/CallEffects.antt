@@ -22,19 +22,24 @@ abbrev with_buffer : (ℕ → ℕ → ℕ → SymOutcome) → Buffer → SymOutc
 with_buffer rest b = rest b.file b.address b.size
 
 three_are : (s : SymState) (rest : ℕ → ℕ → ℕ → SymOutcome) (x y z : Option ℕ) →
-    needs s reason.CallArg x (λ f. needs s reason.CallArg y (λ a. needs s reason.CallArg z (rest f a))) ≡ needs s reason.CallArg (buffer_of x y z) (with_buffer rest)
+    needs s reason.CallArg x (λ f. needs s reason.CallArg y (λ a. needs s reason.CallArg z (rest f a)))
+    ≡ needs s reason.CallArg (buffer_of x y z) (with_buffer rest)
 three_are s rest None y z = refl
 three_are s rest (Some x) None z = refl
 three_are s rest (Some x) (Some y) None = refl
 three_are s rest (Some x) (Some y) (Some z) = refl
 
-pub arguments_found : (s : SymState) (rest : ℕ → ℕ → ℕ → SymOutcome) (b : Buffer) → buffer_in s.registers ≡ Some b → three_arguments s rest ≡ rest b.file b.address b.size
+pub arguments_found : (s : SymState) (rest : ℕ → ℕ → ℕ → SymOutcome) (b : Buffer) → buffer_in s.registers ≡ Some b →
+    three_arguments s rest ≡ rest b.file b.address b.size
 arguments_found s rest b is =
-    three_are s rest (number (s.registers a0)) (number (s.registers a1)) (number (s.registers a2)) ∙ ap (λ o. needs s reason.CallArg o (with_buffer rest)) is
+    three_are s rest (number (s.registers a0)) (number (s.registers a1)) (number (s.registers a2))
+    ∙ ap (λ o. needs s reason.CallArg o (with_buffer rest)) is
 
-pub arguments_missing : (s : SymState) (rest : ℕ → ℕ → ℕ → SymOutcome) → buffer_in s.registers ≡ None → three_arguments s rest ≡ Halts s.pc reason.CallArg
+pub arguments_missing : (s : SymState) (rest : ℕ → ℕ → ℕ → SymOutcome) → buffer_in s.registers ≡ None →
+    three_arguments s rest ≡ Halts s.pc reason.CallArg
 arguments_missing s rest is =
-    three_are s rest (number (s.registers a0)) (number (s.registers a1)) (number (s.registers a2)) ∙ ap (λ o. needs s reason.CallArg o (with_buffer rest)) is
+    three_are s rest (number (s.registers a0)) (number (s.registers a1)) (number (s.registers a2))
+    ∙ ap (λ o. needs s reason.CallArg o (with_buffer rest)) is
 
 pub called : (s : SymState) (next n : ℕ) (call : Call) → number (s.registers a7) ≡ Some n → call_of n ≡ call →
     argument s a7 (λ m. calls s next m (call_of m)) ≡ calls s next n call
@@ -44,13 +49,21 @@ called s next n call is call_is = rw (is, call_is) refl
 
 abbrev pub after_read : SymState → ℕ → ℕ → List ℕ → SymState
 after_read s next at bytes =
-    record s { pc = next; registers = set_register a0 (Num (length bytes)) s.registers; memory = put s.memory at (map Byte bytes); input = drop (length bytes) s.input }
+    record s {
+      pc = next;
+      registers = set_register a0 (Num (length bytes)) s.registers;
+      memory = put s.memory at (map Byte bytes);
+      input = drop (length bytes) s.input;
+    }
 
-pub reads : (s : SymState) (next at size : ℕ) (bytes : List ℕ) → all_may (may_write s) at (min size most_moved) ≡ true → take (min size most_moved) s.input ≡ bytes →
-    reads_input s next at size (take (min size most_moved) s.input) ≡ Going (after_read s next at bytes) (Some (moved 63 0 at size bytes))
+pub reads : (s : SymState) (next at size : ℕ) (bytes : List ℕ) → all_may (may_write s) at (min size most_moved) ≡ true →
+    take (min size most_moved) s.input ≡ bytes →
+    reads_input s next at size (take (min size most_moved) s.input)
+    ≡ Going (after_read s next at bytes) (Some (moved 63 0 at size bytes))
 reads s next at size bytes may is = rw (may, is) refl
 
-pub read_writes_nothing : (at size : ℕ) (bytes : List ℕ) (known : Option (List ℕ)) → known ≡ append_known known (output (events (Some (moved 63 0 at size bytes))))
+pub read_writes_nothing : (at size : ℕ) (bytes : List ℕ) (known : Option (List ℕ)) →
+    known ≡ append_known known (output (events (Some (moved 63 0 at size bytes))))
 unfolding output
 read_writes_nothing at size bytes known = append_known-nil known
 
@@ -59,11 +72,14 @@ read_writes_nothing at size bytes known = append_known-nil known
 abbrev pub after_write : SymState → ℕ → List ℕ → SymState
 after_write s next bytes = record s { pc = next; registers = set_register a0 (Num (length bytes)) s.registers }
 
-pub writes : (s : SymState) (next file at size : ℕ) (cells : List MemoryByte) (bytes : List ℕ) → all_may (may_read s) at (min size most_moved) ≡ true →
-    list_any is_hidden cells ≡ false → numbers cells ≡ Some bytes → writes_output s next file at size cells ≡ Going (after_write s next bytes) (Some (moved 64 file at size bytes))
+pub writes : (s : SymState) (next file at size : ℕ) (cells : List MemoryByte) (bytes : List ℕ) →
+    all_may (may_read s) at (min size most_moved) ≡ true →
+    list_any is_hidden cells ≡ false → numbers cells ≡ Some bytes →
+    writes_output s next file at size cells ≡ Going (after_write s next bytes) (Some (moved 64 file at size bytes))
 writes s next file at size cells bytes may open_cells is = rw (may, open_cells, is) refl
 
-pub writes_symbols : (s : SymState) (next file at size : ℕ) (cells : List MemoryByte) → all_may (may_read s) at (min size most_moved) ≡ true →
+pub writes_symbols : (s : SymState) (next file at size : ℕ) (cells : List MemoryByte) →
+    all_may (may_read s) at (min size most_moved) ≡ true →
     list_any is_hidden cells ≡ false → numbers cells ≡ None → writes_output s next file at size cells ≡ Halts s.pc reason.CallArg
 writes_symbols s next file at size cells may open_cells is = rw (may, open_cells, is) refl
 
@@ -74,16 +90,26 @@ write_writes file at size bytes = append-nil bytes
 -- The break.
 
 pub break_same : (s t : SymState) (next to : ℕ) →
-    t.pc ≡ next → ((r : ℕ) → set_register a0 (Num t.program_break) s.registers r ≡ t.registers r) → s.space ≡ t.space → s.input ≡ t.input →
+    t.pc ≡ next → ((r : ℕ) → set_register a0 (Num t.program_break) s.registers r ≡ t.registers r) →
+    s.space ≡ t.space → s.input ≡ t.input →
     t.program_break ≡ (if nat_le s.space.break_start to && nat_le to s.space.break_bound then to else s.program_break) →
-    ((q : ℕ) → t.memory q ≡ (if nat_le s.space.break_start to && nat_le to s.space.break_bound then (if nat_le s.program_break q && nat_lt q to then Byte 0 else s.memory q) else s.memory q)) →
-    Same (record (with_break (Byte 0) to s) { pc = next; registers = set_register a0 (Num (with_break (Byte 0) to s).program_break) (with_break (Byte 0) to s).registers }) t
-break_same s t next to pc registers space input break memory = cases (nat_le s.space.break_start to && nat_le to s.space.break_bound) break memory
+    ((q : ℕ) → t.memory q ≡ (if nat_le s.space.break_start to && nat_le to s.space.break_bound
+    then (if nat_le s.program_break q && nat_lt q to then Byte 0 else s.memory q) else s.memory q)) →
+    Same (record (with_break (Byte 0) to s) {
+      pc = next;
+      registers = set_register a0 (Num (with_break (Byte 0) to s).program_break) (with_break (Byte 0) to s).registers;
+    }) t
+break_same s t next to pc registers space input break memory =
+    cases (nat_le s.space.break_start to && nat_le to s.space.break_bound) break memory
   where
     after : Bool → SymState
-    after b = if b then record s { program_break = to; memory = λ a. if nat_le s.program_break a && nat_lt a to then Byte 0 else s.memory a } else s
+    after b = if b then record s {
+      program_break = to;
+      memory = λ a. if nat_le s.program_break a && nat_lt a to then Byte 0 else s.memory a;
+    } else s
 
-    cases : (b : Bool) → t.program_break ≡ (if b then to else s.program_break) → ((q : ℕ) → t.memory q ≡ (if b then (if nat_le s.program_break q && nat_lt q to then Byte 0 else s.memory q) else s.memory q)) →
+    cases : (b : Bool) → t.program_break ≡ (if b then to else s.program_break) → ((q : ℕ) →
+        t.memory q ≡ (if b then (if nat_le s.program_break q && nat_lt q to then Byte 0 else s.memory q) else s.memory q)) →
         Same (record (after b) { pc = next; registers = set_register a0 (Num (after b).program_break) (after b).registers }) t
     cases true break memory = record {
       pc_is = sym pc;

@@ -78,12 +78,14 @@ difference_from_elsewhere = refl
 
 -- Memory.
 
-whole_of_four : loaded Signed32 (SymbolByte (Hi 5) 4 0 ∷ SymbolByte (Hi 5) 4 1 ∷ SymbolByte (Hi 5) 4 2 ∷ SymbolByte (Hi 5) 4 3 ∷ [])
+whole_of_four : loaded Signed32
+    (SymbolByte (Hi 5) 4 0 ∷ SymbolByte (Hi 5) 4 1 ∷ SymbolByte (Hi 5) 4 2 ∷ SymbolByte (Hi 5) 4 3 ∷ [])
     ≡ Some (Sym (Hi 5))
 whole_of_four = refl
 
 -- an upper part of a distance can be negative, so its bytes extended by zeros are a piece
-unsigned_of_four : loaded Zero32 (SymbolByte (Hi 5) 4 0 ∷ SymbolByte (Hi 5) 4 1 ∷ SymbolByte (Hi 5) 4 2 ∷ SymbolByte (Hi 5) 4 3 ∷ [])
+unsigned_of_four : loaded Zero32
+    (SymbolByte (Hi 5) 4 0 ∷ SymbolByte (Hi 5) 4 1 ∷ SymbolByte (Hi 5) 4 2 ∷ SymbolByte (Hi 5) 4 3 ∷ [])
     ≡ Some (Piece (Hi 5) 4 0 4 Unsigned)
 unsigned_of_four = refl
 
@@ -152,7 +154,8 @@ breakpoint = refl
 call_by_a_pointer : stuck_at role.Plain SystemCall (code 0x10080) ≡ Halts 0x10078 reason.CallArg
 call_by_a_pointer = refl
 
-pointer_times_pointer : stuck_at role.Plain (Compute op.Mul 5 (Register 1) (Register 2)) (code 0x10080) ≡ Halts 0x10078 reason.Operate
+pointer_times_pointer : stuck_at role.Plain (Compute op.Mul 5 (Register 1) (Register 2)) (code 0x10080)
+    ≡ Halts 0x10078 reason.Operate
 pointer_times_pointer = refl
 
 -- also where register 0 would get the result

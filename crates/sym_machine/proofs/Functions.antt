@@ -1,5 +1,5 @@
 -- Instructions of functions by their addresses: each is found, and nothing else is.
-use Rattle.std.proofs.Common.{◌≡◌, ◌∙◌, sym, subst, ap, refl, ℕ, zero, suc, ◌+◌, ◌-◌, ◌<◌, ◌≤◌, ◌⊎◌, inl, inr, ⊎_elim, true, false, List, [], ◌∷◌, ◌++◌, Option, Some, None, IfSome, IfNone, All, length, slice_index_or, arith}
+use Rattle.std.proofs.Common.{◌≡◌, ◌∙◌, sym, subst, ap, refl, ℕ, zero, suc, ◌+◌, ◌-◌, ◌<◌, ◌≤◌, ◌⊎◌, inl, inr, ⊎_elim, true, false, List, [], ◌∷◌, ◌++◌, Option, Some, None, IfSome, IfNone, length, slice_index_or, arith}
 use Rattle.std.specs.Prelude.{Contains, ◌==◌, is_some}
 use Rattle.std.specs.Option.{option_or}
 use Rattle.std.proofs.lemmas.Bool.{cases_lt, cases_order, eq-eqb, eqb-true, false_from_ne_true}
@@ -8,56 +8,20 @@ use Rattle.std.proofs.lemmas.List.Elements.{Contains-append_left, Contains-appen
 use Rattle.rv_code.specs.declared.placed.Placed.{Placed}
 use Rattle.rv_code.specs.declared.placed.Func.{Func}
 use Rattle.rv_code.specs.layout.Flow.{insts_of, placed_at}
-use Rattle.rv_code.specs.layout.FunctionLists.{Follow, HasLength, AreLaidOut}
+use Rattle.rv_code.specs.layout.FunctionLists.{AreLaidOut}
+use Rattle.rv_code.proofs.lists.Follows.{inst_bounds, insts_rise}
 use Rattle.elf_image.proofs.LoadLemmas.{Contains-cons_cases, Contains-there, find-only, find-none, find-finds}
 use Rattle.sym_machine.specs.declared.inst_index.InstPlace.{InstPlace}
 use Rattle.sym_machine.specs.Rules.{next_in, next_of}
 use Rattle.sym_machine.specs.internal.FunctionOrder.{IsSearchable, IsInstAt, addr_at}
 
--- Instructions that follow one another ascend.
-
-two_at_least : (p : Placed) → HasLength p → 2 ≤ p.len
-two_at_least p = ⊎_elim (λ (two : p.len ≡ 2). omega arith) (λ (four : p.len ≡ 4). omega arith)
-
-tail_lengths : (p : Placed) (ps : List Placed) → All HasLength (p ∷ ps) → All HasLength ps
-tail_lengths p ps lengths = λ k d within. lengths (suc k) d (omega arith)
-
-follow_upto : (a end : ℕ) (ps : List Placed) → Follow a ps end → a ≤ end
-follow_upto a end [] f = omega (arith, f)
-follow_upto a end (p ∷ ps) f = let rest = follow_upto (a + p.len) end ps f.1 in omega arith
-
-follow_within : (a end : ℕ) (ps : List Placed) → Follow a ps end → All HasLength ps → (i : ℕ) (e : Placed) → i < length ps →
-    (a ≤ (slice_index_or ps i e).addr) × ((slice_index_or ps i e).addr < end)
-follow_within a end [] f lengths i e within = absurd (omega (arith, within))
-follow_within a end (p ∷ ps) f lengths zero e within =
-    let at : p.addr ≡ a = f.0 in
-    let rest = follow_upto (a + p.len) end ps f.1 in
-    let some : 2 ≤ p.len = two_at_least p (lengths zero p (omega arith)) in
-    (omega arith, omega arith)
-follow_within a end (p ∷ ps) f lengths (suc i) e within =
-    let rest = follow_within (a + p.len) end ps f.1 (tail_lengths p ps lengths) i e (omega (arith, within)) in
-    let low = rest.0 in
-    (omega arith, rest.1)
-
-follow_rising : (a end : ℕ) (ps : List Placed) → Follow a ps end → All HasLength ps → (i j : ℕ) (e : Placed) → i < j → j < length ps →
-    (slice_index_or ps i e).addr < (slice_index_or ps j e).addr
-follow_rising a end [] f lengths i j e less within = absurd (omega (arith, within))
-follow_rising a end (p ∷ ps) f lengths i zero e less within = absurd (omega (arith, less))
-follow_rising a end (p ∷ ps) f lengths zero (suc j) e less within =
-    let at : p.addr ≡ a = f.0 in
-    let some : 2 ≤ p.len = two_at_least p (lengths zero p (omega arith)) in
-    let low = (follow_within (a + p.len) end ps f.1 (tail_lengths p ps lengths) j e (omega (arith, within))).0 in
-    omega arith
-follow_rising a end (p ∷ ps) f lengths (suc i) (suc j) e less within =
-    follow_rising (a + p.len) end ps f.1 (tail_lengths p ps lengths) i j e (omega (arith, less)) (omega (arith, within))
-
 pub searchable : (funcs : List Func) → AreLaidOut funcs → IsSearchable funcs
 searchable funcs are = record {
   ordered = λ f d within. (are.each f d within).has_bytes;
   apart = λ f g d less within. are.apart f g d less within;
-  from = λ f i d e within inside. let is = are.each f d within in (follow_within _ _ _ is.follow is.lengths i e inside).0;
-  to = λ f i d e within inside. let is = are.each f d within in (follow_within _ _ _ is.follow is.lengths i e inside).1;
-  rising = λ f i j d e within less inside. let is = are.each f d within in follow_rising _ _ _ is.follow is.lengths i j e less inside;
+  from = λ f i d e within inside. (inst_bounds (slice_index_or funcs f d) (are.each f d within) i e inside).0;
+  to = λ f i d e within inside. (inst_bounds (slice_index_or funcs f d) (are.each f d within) i e inside).1;
+  rising = λ f i j d e within less inside. insts_rise (slice_index_or funcs f d) (are.each f d within) i j e less inside;
 }
 
 -- functions start one after another
@@ -66,29 +30,39 @@ pub starts_rise : (funcs : List Func) → IsSearchable funcs → (i j : ℕ) (d 
 starts_rise funcs s i j d upto within =
     ⊎_elim
     (λ (less : i < j). let first = s.ordered i d (omega arith) in let next = s.apart i j d less within in omega arith)
-    (λ (more : j ≤ i). let e : i ≡ j = omega arith in let same = ap (λ (k : ℕ). (slice_index_or funcs k d).start) e in omega arith)
+    (λ (more : j ≤ i).
+    let e : i ≡ j = omega arith in
+    let same = ap (λ (k : ℕ). (slice_index_or funcs k d).start) e in
+    omega arith)
     (cases_lt i j)
 
 -- so do the instructions of a function
-pub addrs_rise : (insts : List Placed) → ((i j : ℕ) (e : Placed) → i < j → j < length insts → (slice_index_or insts i e).addr < (slice_index_or insts j e).addr) →
+pub addrs_rise : (insts : List Placed) →
+    ((i j : ℕ) (e : Placed) → i < j → j < length insts → (slice_index_or insts i e).addr < (slice_index_or insts j e).addr) →
     (i j : ℕ) (e : Placed) → i ≤ j → j < length insts → (slice_index_or insts i e).addr ≤ (slice_index_or insts j e).addr
 addrs_rise insts rising i j e upto within =
     ⊎_elim
     (λ (less : i < j). let up = rising i j e less within in omega arith)
-    (λ (more : j ≤ i). let same : i ≡ j = omega arith in let is = ap (λ (k : ℕ). (slice_index_or insts k e).addr) same in omega arith)
+    (λ (more : j ≤ i).
+    let same : i ≡ j = omega arith in
+    let is = ap (λ (k : ℕ). (slice_index_or insts k e).addr) same in
+    omega arith)
     (cases_lt i j)
 
 -- Lists of lists.
 
-in_flat : (funcs : List Func) (func : Func) (p : Placed) → Contains funcs func → Contains func.insts.items p → Contains (insts_of funcs) p
+in_flat : (funcs : List Func) (func : Func) (p : Placed) → Contains funcs func → Contains func.insts.items p →
+    Contains (insts_of funcs) p
 in_flat [] func p func_in p_in = let l = func_in.1 in absurd (omega (arith, l))
 in_flat (g ∷ gs) func p func_in p_in = by (Contains-cons_cases g gs func func_in) (λ k. in_flat gs func p k p_in)
   where
     by : (g ≡ func) ⊎ Contains gs func → (Contains gs func → Contains (insts_of gs) p) → Contains (g.insts.items ++ insts_of gs) p
-    by (inl same) rest = Contains-append_left g.insts.items (insts_of gs) p (subst (λ (t : Func). Contains t.insts.items p) (sym same) p_in)
+    by (inl same) rest =
+        Contains-append_left g.insts.items (insts_of gs) p (subst (λ (t : Func). Contains t.insts.items p) (sym same) p_in)
     by (inr k) rest = Contains-append_right g.insts.items (insts_of gs) p (rest k)
 
-from_flat : (funcs : List Func) (p : Placed) → Contains (insts_of funcs) p → (func : Func) × Contains funcs func × Contains func.insts.items p
+from_flat : (funcs : List Func) (p : Placed) → Contains (insts_of funcs) p →
+    (func : Func) × Contains funcs func × Contains func.insts.items p
 from_flat [] p is_in = let l = is_in.1 in absurd (omega (arith, l))
 from_flat (g ∷ gs) p is_in = by (Contains-append_cases g.insts.items (insts_of gs) p is_in) (λ k. from_flat gs p k)
   where
@@ -125,7 +99,8 @@ occurs funcs p is_in =
 -- One instruction starts at an address.
 
 module _ (funcs : List Func) (s : IsSearchable funcs) where
-  one_func : (f i g j a : ℕ) (d : Func) (e : Placed) → f < length funcs → i < length (insts_at funcs f d) → g < length funcs → j < length (insts_at funcs g d) →
+  one_func : (f i g j a : ℕ) (d : Func) (e : Placed) → f < length funcs → i < length (insts_at funcs f d) → g < length funcs →
+      j < length (insts_at funcs g d) →
       (slice_index_or (insts_at funcs f d) i e).addr ≡ a → (slice_index_or (insts_at funcs g d) j e).addr ≡ a → f < g → ⊥
   one_func f i g j a d e within inside within' inside' at at' less =
       let high = s.to f i d e within inside in
@@ -139,7 +114,8 @@ module _ (funcs : List Func) (s : IsSearchable funcs) where
       let up = s.rising f i j d e within less inside in
       omega arith
 
-  same_func : (f i g j a : ℕ) (d : Func) (e : Placed) → f < length funcs → i < length (insts_at funcs f d) → g < length funcs → j < length (insts_at funcs g d) →
+  same_func : (f i g j a : ℕ) (d : Func) (e : Placed) → f < length funcs → i < length (insts_at funcs f d) → g < length funcs →
+      j < length (insts_at funcs g d) →
       (slice_index_or (insts_at funcs f d) i e).addr ≡ a → (slice_index_or (insts_at funcs g d) j e).addr ≡ a → f ≡ g
   same_func f i g j a d e within inside within' inside' at at' = elim (cases_order f g) [
     | inl same ↦ same
@@ -149,7 +125,8 @@ module _ (funcs : List Func) (s : IsSearchable funcs) where
     ]
   ]
 
-  same_inst : (f i j a : ℕ) (d : Func) (e : Placed) → f < length funcs → i < length (insts_at funcs f d) → j < length (insts_at funcs f d) →
+  same_inst : (f i j a : ℕ) (d : Func) (e : Placed) → f < length funcs → i < length (insts_at funcs f d) →
+      j < length (insts_at funcs f d) →
       (slice_index_or (insts_at funcs f d) i e).addr ≡ a → (slice_index_or (insts_at funcs f d) j e).addr ≡ a → i ≡ j
   same_inst f i j a d e within inside inside' at at' = elim (cases_order i j) [
     | inl same ↦ same
@@ -160,7 +137,8 @@ module _ (funcs : List Func) (s : IsSearchable funcs) where
   ]
 
   -- what stands at a place is the instruction at its address
-  pub placed_at-found : (f i a : ℕ) → IsInstAt funcs f i a → (d : Func) (e : Placed) → placed_at funcs a ≡ Some (slice_index_or (insts_at funcs f d) i e)
+  pub placed_at-found : (f i a : ℕ) → IsInstAt funcs f i a → (d : Func) (e : Placed) →
+      placed_at funcs a ≡ Some (slice_index_or (insts_at funcs f d) i e)
   placed_at-found f i a at d e =
       find-only (λ p. p.addr == a) (insts_of funcs) (slice_index_or (insts_at funcs f d) i e)
       (in_flat funcs (slice_index_or funcs f d) (slice_index_or (insts_at funcs f d) i e)
@@ -174,7 +152,8 @@ module _ (funcs : List Func) (s : IsSearchable funcs) where
           let here : (slice_index_or (insts_at funcs o.f x) o.i y).addr ≡ a = ap (λ (t : Placed). t.addr) o.is ∙ there in
           let f_is : f ≡ o.f = same_func f i o.f o.i a x y at.func (at.index x) o.within o.inside (at.addr_is x y) here in
           let inside : o.i < length (insts_at funcs f x) = subst (λ k. o.i < length (insts_at funcs k x)) (sym f_is) o.inside in
-          let here' : (slice_index_or (insts_at funcs f x) o.i y).addr ≡ a = subst (λ k. (slice_index_or (insts_at funcs k x) o.i y).addr ≡ a) (sym f_is) here in
+          let here' : (slice_index_or (insts_at funcs f x) o.i y).addr ≡ a =
+          subst (λ k. (slice_index_or (insts_at funcs k x) o.i y).addr ≡ a) (sym f_is) here in
           let i_is : i ≡ o.i = same_inst f i o.i a x y at.func (at.index x) inside (at.addr_is x y) here' in
           sym o.is
           ∙ ap (λ k. slice_index_or (insts_at funcs k x) o.i y) (sym f_is)
@@ -183,7 +162,8 @@ module _ (funcs : List Func) (s : IsSearchable funcs) where
           ∙ get_or_default (insts_at funcs f d) i y e (at.index d)
 
   -- An address at which no instruction of any function starts.
-  pub placed_at-none : (a : ℕ) → ((g j : ℕ) (d : Func) (e : Placed) → g < length funcs → j < length (insts_at funcs g d) → (slice_index_or (insts_at funcs g d) j e).addr ≡ a → ⊥) → placed_at funcs a ≡ None
+  pub placed_at-none : (a : ℕ) → ((g j : ℕ) (d : Func) (e : Placed) → g < length funcs → j < length (insts_at funcs g d) →
+      (slice_index_or (insts_at funcs g d) j e).addr ≡ a → ⊥) → placed_at funcs a ≡ None
   placed_at-none a nowhere =
       find-none (λ p. p.addr == a) (insts_of funcs)
       (λ p p_in. false_from_ne_true (p.addr == a) (λ passes.
@@ -191,11 +171,12 @@ module _ (funcs : List Func) (s : IsSearchable funcs) where
       nowhere o.f o.i o.func p o.within o.inside (ap (λ (t : Placed). t.addr) o.is ∙ eqb-true p.addr a passes)))
 
   -- no instruction starts where none is placed
-  pub nowhere : (a : ℕ) → placed_at funcs a ≡ None → (g j : ℕ) (d : Func) (e : Placed) → g < length funcs → j < length (insts_at funcs g d) →
-      (slice_index_or (insts_at funcs g d) j e).addr ≡ a → ⊥
+  pub nowhere : (a : ℕ) → placed_at funcs a ≡ None → (g j : ℕ) (d : Func) (e : Placed) → g < length funcs →
+      j < length (insts_at funcs g d) → (slice_index_or (insts_at funcs g d) j e).addr ≡ a → ⊥
   nowhere a none g j d e within inside at =
       let p = slice_index_or (insts_at funcs g d) j e in
-      let p_in = in_flat funcs (slice_index_or funcs g d) p (Contains-get_or funcs g d within) (Contains-get_or (insts_at funcs g d) j e inside) in
+      let p_in = in_flat funcs (slice_index_or funcs g d) p (Contains-get_or funcs g d within)
+      (Contains-get_or (insts_at funcs g d) j e inside) in
       let (y, found) = find-finds (λ q. q.addr == a) (insts_of funcs) p p_in (eq-eqb p.addr a at) in
       absurd (let both : Some y ≡ None = sym found ∙ none in cc)
 
@@ -203,8 +184,8 @@ module _ (funcs : List Func) (s : IsSearchable funcs) where
   pub placed_at-searched : (a above : ℕ) → above ≤ length funcs →
       ((k : ℕ) (d : Func) → k < above → (slice_index_or funcs k d).start ≤ a) →
       ((k : ℕ) (d : Func) → above ≤ k → k < length funcs → a < (slice_index_or funcs k d).start) →
-      ((j : ℕ) (d : Func) (e : Placed) → 0 < above → j < length (insts_at funcs (above - 1) d) → (slice_index_or (insts_at funcs (above - 1) d) j e).addr ≡ a → ⊥) →
-      placed_at funcs a ≡ None
+      ((j : ℕ) (d : Func) (e : Placed) → 0 < above → j < length (insts_at funcs (above - 1) d) →
+      (slice_index_or (insts_at funcs (above - 1) d) j e).addr ≡ a → ⊥) → placed_at funcs a ≡ None
   placed_at-searched a above bound below past here =
       placed_at-none a (λ g j d e within inside at.
       ⊎_elim
@@ -227,7 +208,8 @@ module _ (funcs : List Func) (s : IsSearchable funcs) where
       (cases_lt g (above - 1)))
 
 -- the same of the instructions of one function
-pub none_in : (insts : List Placed) (a below : ℕ) → ((i j : ℕ) (e : Placed) → i < j → j < length insts → (slice_index_or insts i e).addr < (slice_index_or insts j e).addr) →
+pub none_in : (insts : List Placed) (a below : ℕ) →
+    ((i j : ℕ) (e : Placed) → i < j → j < length insts → (slice_index_or insts i e).addr < (slice_index_or insts j e).addr) →
     below ≤ length insts →
     ((k : ℕ) (e : Placed) → k < below → (slice_index_or insts k e).addr ≤ a) →
     ((k : ℕ) (e : Placed) → below ≤ k → k < length insts → a < (slice_index_or insts k e).addr) →
@@ -253,7 +235,8 @@ pub first_of_some : {A : Type 0} (xs : List A) (i : ℕ) → i < length xs → A
 first_of_some [] i within = absurd (omega (arith, within))
 first_of_some (x ∷ xs) i within = x
 
-pub code_address_is : (funcs : List Func) → IsSearchable funcs → (a : ℕ) (o : Option InstPlace) → IfSome o (λ at. IsInstAt funcs at.func at.index a) →
+pub code_address_is : (funcs : List Func) → IsSearchable funcs → (a : ℕ) (o : Option InstPlace) →
+    IfSome o (λ at. IsInstAt funcs at.func at.index a) →
     IfNone o (placed_at funcs a ≡ None) → is_some o ≡ is_some (placed_at funcs a)
 code_address_is funcs s a None found none = sym (ap is_some none)
 code_address_is funcs s a (Some at) found none =
@@ -263,14 +246,17 @@ code_address_is funcs s a (Some at) found none =
 
 -- The next instruction of a function.
 
-next_in-none : (insts : List Placed) (a : ℕ) → ((j : ℕ) (e : Placed) → j < length insts → (slice_index_or insts j e).addr ≡ a → ⊥) → next_in insts a ≡ None
+next_in-none : (insts : List Placed) (a : ℕ) →
+    ((j : ℕ) (e : Placed) → j < length insts → (slice_index_or insts j e).addr ≡ a → ⊥) → next_in insts a ≡ None
 next_in-none [] a nowhere = refl
 next_in-none (p ∷ []) a nowhere = refl
 next_in-none (p ∷ q ∷ ps) a nowhere =
-    let other : (p.addr == a) ≡ false = false_from_ne_true (p.addr == a) (λ passes. nowhere zero p (omega arith) (eqb-true p.addr a passes)) in
+    let other : (p.addr == a) ≡ false =
+    false_from_ne_true (p.addr == a) (λ passes. nowhere zero p (omega arith) (eqb-true p.addr a passes)) in
     rw other (next_in-none (q ∷ ps) a (λ j e within. nowhere (suc j) e (omega arith)))
 
-next_in-found : (insts : List Placed) (i a : ℕ) → ((i j : ℕ) (e : Placed) → i < j → j < length insts → (slice_index_or insts i e).addr < (slice_index_or insts j e).addr) →
+next_in-found : (insts : List Placed) (i a : ℕ) →
+    ((i j : ℕ) (e : Placed) → i < j → j < length insts → (slice_index_or insts i e).addr < (slice_index_or insts j e).addr) →
     i < length insts → ((e : Placed) → (slice_index_or insts i e).addr ≡ a) → next_in insts a ≡ addr_at insts (suc i)
 next_in-found [] i a rising within at = absurd (omega (arith, within))
 next_in-found (p ∷ []) zero a rising within at = refl
@@ -281,11 +267,13 @@ next_in-found (p ∷ q ∷ ps) zero a rising within at =
 next_in-found (p ∷ q ∷ ps) (suc i) a rising within at =
     let up = rising zero (suc i) p (omega arith) (omega (arith, within)) in
     let there = at p in
-    let other : (p.addr == a) ≡ false = false_from_ne_true (p.addr == a) (λ passes. let same = eqb-true p.addr a passes in omega arith) in
-    rw other (next_in-found (q ∷ ps) i a (λ i j e less inside. rising (suc i) (suc j) e (omega arith) (omega (arith, inside))) (omega (arith, within)) at)
+    let other : (p.addr == a) ≡ false =
+    false_from_ne_true (p.addr == a) (λ passes. let same = eqb-true p.addr a passes in omega arith) in
+    rw other (next_in-found (q ∷ ps) i a (λ i j e less inside. rising (suc i) (suc j) e (omega arith) (omega (arith, inside)))
+    (omega (arith, within)) at)
 
-pub next_of-none : (funcs : List Func) (a : ℕ) → ((g j : ℕ) (d : Func) (e : Placed) → g < length funcs → j < length (insts_at funcs g d) → (slice_index_or (insts_at funcs g d) j e).addr ≡ a → ⊥) →
-    next_of funcs a ≡ None
+pub next_of-none : (funcs : List Func) (a : ℕ) → ((g j : ℕ) (d : Func) (e : Placed) → g < length funcs →
+    j < length (insts_at funcs g d) → (slice_index_or (insts_at funcs g d) j e).addr ≡ a → ⊥) → next_of funcs a ≡ None
 next_of-none [] a nowhere = refl
 next_of-none (f ∷ fs) a nowhere =
     rw (next_in-none f.insts.items a (λ j e inside. nowhere zero j f e (omega arith) inside))
@@ -304,13 +292,18 @@ or_none : {A : Type 0} (o p : Option A) → p ≡ None → option_or o p ≡ o
 or_none None p none = none
 or_none (Some x) p none = refl
 
-pub next_of-found : (funcs : List Func) → IsSearchable funcs → (f i a : ℕ) → IsInstAt funcs f i a → (d : Func) → next_of funcs a ≡ addr_at (insts_at funcs f d) (suc i)
+pub next_of-found : (funcs : List Func) → IsSearchable funcs → (f i a : ℕ) → IsInstAt funcs f i a → (d : Func) →
+    next_of funcs a ≡ addr_at (insts_at funcs f d) (suc i)
 next_of-found [] s f i a at d = absurd (let l = at.func in omega (arith, l))
 next_of-found (g ∷ gs) s zero i a at d =
     or_none (next_in g.insts.items a) (next_of gs a)
-    (next_of-none gs a (λ k j d e within inside there. one_func (g ∷ gs) s zero i (suc k) j a d e (omega arith) (at.index d) (omega arith) inside (at.addr_is d e) there (omega arith)))
-    ∙ next_in-found g.insts.items i a (λ i j e less inside. s.rising zero i j g e (omega arith) less inside) (at.index g) (λ e. at.addr_is g e)
+    (next_of-none gs a (λ k j d e within inside there. one_func (g ∷ gs) s zero i (suc k) j a d e (omega arith) (at.index d)
+    (omega arith) inside (at.addr_is d e) there (omega arith)))
+    ∙ next_in-found g.insts.items i a (λ i j e less inside. s.rising zero i j g e (omega arith) less inside)
+    (at.index g) (λ e. at.addr_is g e)
 next_of-found (g ∷ gs) s (suc f) i a at d =
     let l = at.func in
-    rw (next_in-none g.insts.items a (λ j e inside there. one_func (g ∷ gs) s zero j (suc f) i a g e (omega arith) inside (omega (arith, l)) (at.index g) there (at.addr_is g e) (omega arith)))
-    (next_of-found gs (tail_searchable g gs s) f i a (record { func = omega (arith, l); index = λ d. at.index d; addr_is = λ d e. at.addr_is d e }) d)
+    rw (next_in-none g.insts.items a (λ j e inside there. one_func (g ∷ gs) s zero j (suc f) i a g e (omega arith) inside
+    (omega (arith, l)) (at.index g) there (at.addr_is g e) (omega arith)))
+    (next_of-found gs (tail_searchable g gs s) f i a
+    (record { func = omega (arith, l); index = λ d. at.index d; addr_is = λ d e. at.addr_is d e }) d)

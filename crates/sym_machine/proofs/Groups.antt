@@ -24,7 +24,8 @@ pub other_byte-some : (others : OtherBytes) (a i : ℕ) → place_of others.inde
 unfolding byte_in
 other_byte-some others a i found = rw found refl
 
-pub in_groups : (others : OtherBytes) (a i : ℕ) → place_of others.index (a / 8) ≡ Some i → i * 8 + a % 8 < length others.cells.items
+pub in_groups : (others : OtherBytes) (a i : ℕ) → place_of others.index (a / 8) ≡ Some i →
+    i * 8 + a % 8 < length others.cells.items
 in_groups others a i found =
     let here : i < length others.numbers.items = others.held (a / 8) i found in
     let size : length others.cells.items ≡ length others.numbers.items * 8 = others.sized in
@@ -39,8 +40,10 @@ pub no_group : (others : OtherBytes) (a q : ℕ) → has_group others a ≡ fals
 no_group others a q none same = other_byte-none others q (ap (place_of others.index) same ∙ none_of_false _ none)
 
 -- one byte is written
-pub byte_set : (old : OtherBytes) (cells : List (Option OtherByte)) (a i : ℕ) (c : Option OtherByte) → place_of old.index (a / 8) ≡ Some i →
-    cells ≡ slice_set old.cells.items (i * 8 + a % 8) c → (q : ℕ) → byte_in old.index cells q ≡ (if q == a then c else other_byte old q)
+pub byte_set : (old : OtherBytes) (cells : List (Option OtherByte)) (a i : ℕ) (c : Option OtherByte) →
+    place_of old.index (a / 8) ≡ Some i →
+    cells ≡ slice_set old.cells.items (i * 8 + a % 8) c → (q : ℕ) →
+    byte_in old.index cells q ≡ (if q == a then c else other_byte old q)
 unfolding byte_in
 byte_set old cells a i c found is q = rw is (cases (q == a) refl)
   where
@@ -48,7 +51,8 @@ byte_set old cells a i c found is q = rw is (cases (q == a) refl)
     xs = old.cells.items
 
     other : (r : Option ℕ) → place_of old.index (q / 8) ≡ r → (q ≡ a → ⊥) →
-        option_and_then (λ place. get_or (slice_set xs (i * 8 + a % 8) c) (place * 8 + q % 8) None) r ≡ option_and_then (λ place. get_or xs (place * 8 + q % 8) None) r
+        option_and_then (λ place. get_or (slice_set xs (i * 8 + a % 8) c) (place * 8 + q % 8) None) r
+        ≡ option_and_then (λ place. get_or xs (place * 8 + q % 8) None) r
     other None e apart = refl
     other (Some j) e apart =
         get_or-set_other xs (i * 8 + a % 8) (j * 8 + q % 8) c None
@@ -61,16 +65,19 @@ byte_set old cells a i c found is q = rw is (cases (q == a) refl)
         absurd (apart (omega arith)))
 
     cases : (t : Bool) → (q == a) ≡ t →
-        option_and_then (λ place. get_or (slice_set xs (i * 8 + a % 8) c) (place * 8 + q % 8) None) (place_of old.index (q / 8)) ≡ (if t then c else option_and_then (λ place. get_or xs (place * 8 + q % 8) None) (place_of old.index (q / 8)))
+        option_and_then (λ place. get_or (slice_set xs (i * 8 + a % 8) c) (place * 8 + q % 8) None) (place_of old.index (q / 8))
+        ≡ (if t then c else option_and_then (λ place. get_or xs (place * 8 + q % 8) None) (place_of old.index (q / 8)))
     cases true test =
         let same : q ≡ a = eqb-true q a test in
-        ap (λ k. option_and_then (λ place. get_or (slice_set xs (i * 8 + a % 8) c) (place * 8 + k % 8) None) (place_of old.index (k / 8))) same
+        ap (λ k. option_and_then (λ place. get_or (slice_set xs (i * 8 + a % 8) c) (place * 8 + k % 8) None)
+        (place_of old.index (k / 8))) same
         ∙ ap (option_and_then (λ place. get_or (slice_set xs (i * 8 + a % 8) c) (place * 8 + a % 8) None)) found
         ∙ get_or-set_same xs (i * 8 + a % 8) c None (in_groups old a i found)
     cases false test = other (place_of old.index (q / 8)) refl (eqb-false q a test)
 
 -- nothing is written where there is no byte
-pub byte_unset : (old : OtherBytes) (a : ℕ) → place_of old.index (a / 8) ≡ None → (q : ℕ) → other_byte old q ≡ (if q == a then None else other_byte old q)
+pub byte_unset : (old : OtherBytes) (a : ℕ) → place_of old.index (a / 8) ≡ None → (q : ℕ) →
+    other_byte old q ≡ (if q == a then None else other_byte old q)
 byte_unset old a none q = cases (q == a) refl
   where
     cases : (t : Bool) → (q == a) ≡ t → other_byte old q ≡ (if t then None else other_byte old q)
@@ -78,7 +85,10 @@ byte_unset old a none q = cases (q == a) refl
     cases false test = refl
 
 -- One more group.
-module _ (place next : ℕ → Option ℕ) (numbers : List ℕ) (cells more : List (Option OtherByte)) (n : ℕ) (indexed : (i : ℕ) → i < length numbers → place (get_or numbers i 0) ≡ Some i) (held : (q i : ℕ) → place q ≡ Some i → i < length numbers) (numbered : (q i : ℕ) → place q ≡ Some i → get_or numbers i 0 ≡ q) (absent : place n ≡ None) (is : (q : ℕ) → next q ≡ (if q == n then Some (length numbers) else place q)) where
+module _ (place next : ℕ → Option ℕ) (numbers : List ℕ) (cells more : List (Option OtherByte)) (n : ℕ)
+    (indexed : (i : ℕ) → i < length numbers → place (get_or numbers i 0) ≡ Some i)
+    (held : (q i : ℕ) → place q ≡ Some i → i < length numbers) (numbered : (q i : ℕ) → place q ≡ Some i → get_or numbers i 0 ≡ q)
+    (absent : place n ≡ None) (is : (q : ℕ) → next q ≡ (if q == n then Some (length numbers) else place q)) where
   next-new : (q : ℕ) → q ≡ n → next q ≡ Some (length numbers)
   next-new q same = is q ∙ ap (λ t. if t then Some (length numbers) else place q) (eq-eqb q n same)
 
@@ -86,7 +96,8 @@ module _ (place next : ℕ → Option ℕ) (numbers : List ℕ) (cells more : Li
   next-old q other = is q ∙ ap (λ t. if t then Some (length numbers) else place q) other
 
   last : get_or (numbers ++ n ∷ []) (length numbers) 0 ≡ n
-  last = get_or-append_right numbers (n ∷ []) (length numbers) (length numbers) 0 refl (omega arith) ∙ ap (λ (k : ℕ). get_or (n ∷ []) k 0) {y = 0} (omega arith)
+  last = get_or-append_right numbers (n ∷ []) (length numbers) (length numbers) 0 refl (omega arith)
+      ∙ ap (λ (k : ℕ). get_or (n ∷ []) k 0) {y = 0} (omega arith)
 
   before : (i : ℕ) → i < length numbers → get_or (numbers ++ n ∷ []) i 0 ≡ get_or numbers i 0
   before i less = get_or_append_left numbers (n ∷ []) 0 i less
@@ -95,7 +106,10 @@ module _ (place next : ℕ → Option ℕ) (numbers : List ℕ) (cells more : Li
   indexed_more i within = elim (cases_lt i (length numbers)) [
     | inl less ↦
         let found : place (get_or numbers i 0) ≡ Some i = indexed i less in
-        let other : (get_or numbers i 0 == n) ≡ false = false_from_ne_true (get_or numbers i 0 == n) (λ e. absurd (let none : place (get_or numbers i 0) ≡ None = ap place (eqb-true (get_or numbers i 0) n e) ∙ absent in let both : Some i ≡ None = sym found ∙ none in cc)) in
+        let other : (get_or numbers i 0 == n) ≡ false = false_from_ne_true (get_or numbers i 0 == n)
+        (λ e. absurd (let none : place (get_or numbers i 0) ≡ None = ap place (eqb-true (get_or numbers i 0) n e) ∙ absent in
+        let both : Some i ≡ None = sym found ∙ none in
+        cc)) in
         ap next (before i less) ∙ next-old (get_or numbers i 0) other ∙ found
     | inr more ↦
         let same : i ≡ length numbers = omega (arith, within, length-append numbers (n ∷ [])) in
@@ -106,67 +120,86 @@ module _ (place next : ℕ → Option ℕ) (numbers : List ℕ) (cells more : Li
   held_more q i found = cases (q == n) refl
     where
       cases : (t : Bool) → (q == n) ≡ t → i < length (numbers ++ n ∷ [])
-      cases true e = let same : Some (length numbers) ≡ Some i = sym (next-new q (eqb-true q n e)) ∙ found in let here : length numbers ≡ i = cc in omega (arith, length-append numbers (n ∷ []))
+      cases true e =
+          let same : Some (length numbers) ≡ Some i = sym (next-new q (eqb-true q n e)) ∙ found in
+          let here : length numbers ≡ i = cc in
+          omega (arith, length-append numbers (n ∷ []))
       cases false e = let there = held q i (sym (next-old q e) ∙ found) in omega (arith, length-append numbers (n ∷ []))
 
   pub numbered_more : (q i : ℕ) → next q ≡ Some i → get_or (numbers ++ n ∷ []) i 0 ≡ q
   numbered_more q i found = cases (q == n) refl
     where
       cases : (t : Bool) → (q == n) ≡ t → get_or (numbers ++ n ∷ []) i 0 ≡ q
-      cases true e = let same : Some (length numbers) ≡ Some i = sym (next-new q (eqb-true q n e)) ∙ found in let here : length numbers ≡ i = cc in ap (λ k. get_or (numbers ++ n ∷ []) k 0) (sym here) ∙ last ∙ sym (eqb-true q n e)
+      cases true e =
+          let same : Some (length numbers) ≡ Some i = sym (next-new q (eqb-true q n e)) ∙ found in
+          let here : length numbers ≡ i = cc in
+          ap (λ k. get_or (numbers ++ n ∷ []) k 0) (sym here) ∙ last ∙ sym (eqb-true q n e)
       cases false e = let there : place q ≡ Some i = sym (next-old q e) ∙ found in before i (held q i there) ∙ numbered q i there
 
   pub sized_more : length cells ≡ length numbers * 8 → length more ≡ 8 → length (cells ++ more) ≡ length (numbers ++ n ∷ []) * 8
   sized_more size whole = omega (arith, length-append numbers (n ∷ []), length-append cells more)
 
-  pub marked_more : (recent : List ℕ) (k : ℕ) → length recent ≡ 8192 → ((i : ℕ) → i < length numbers → 0 < get_or recent (get_or numbers i 0 % 8192) 0) → k ≡ n % 8192 →
-      (i : ℕ) → i < length (numbers ++ n ∷ []) → 0 < get_or (slice_set recent k (length numbers + 1)) (get_or (numbers ++ n ∷ []) i 0 % 8192) 0
+  pub marked_more : (recent : List ℕ) (k : ℕ) → length recent ≡ 8192 →
+      ((i : ℕ) → i < length numbers → 0 < get_or recent (get_or numbers i 0 % 8192) 0) → k ≡ n % 8192 →
+      (i : ℕ) → i < length (numbers ++ n ∷ []) →
+      0 < get_or (slice_set recent k (length numbers + 1)) (get_or (numbers ++ n ∷ []) i 0 % 8192) 0
   marked_more recent k size marked at i within = cases (get_or (numbers ++ n ∷ []) i 0 % 8192 == k) refl
     where
       old : (get_or (numbers ++ n ∷ []) i 0 % 8192 ≡ k → ⊥) → 0 < get_or recent (get_or (numbers ++ n ∷ []) i 0 % 8192) 0
       old apart = elim (cases_lt i (length numbers)) [
-        | inl less ↦ let here = marked i less in let same = ap (λ (x : ℕ). get_or recent (x % 8192) 0) (before i less) in omega arith
+        | inl less ↦ let here = marked i less in
+            let same = ap (λ (x : ℕ). get_or recent (x % 8192) 0) (before i less) in omega arith
         | inr more ↦
             let same : i ≡ length numbers = omega (arith, within, length-append numbers (n ∷ [])) in
             absurd (apart (ap (λ (x : ℕ). get_or (numbers ++ n ∷ []) x 0 % 8192) same ∙ ap (λ (x : ℕ). x % 8192) last ∙ sym at))
       ]
 
-      cases : (t : Bool) → (get_or (numbers ++ n ∷ []) i 0 % 8192 == k) ≡ t → 0 < get_or (slice_set recent k (length numbers + 1)) (get_or (numbers ++ n ∷ []) i 0 % 8192) 0
+      cases : (t : Bool) → (get_or (numbers ++ n ∷ []) i 0 % 8192 == k) ≡ t →
+          0 < get_or (slice_set recent k (length numbers + 1)) (get_or (numbers ++ n ∷ []) i 0 % 8192) 0
       cases true test =
           let same = eqb-true _ k test in
-          let is : get_or (slice_set recent k (length numbers + 1)) (get_or (numbers ++ n ∷ []) i 0 % 8192) 0 ≡ length numbers + 1 =
-          ap (λ (x : ℕ). get_or (slice_set recent k (length numbers + 1)) x 0) same ∙ get_or-set_same recent k (length numbers + 1) 0 (omega arith) in
+          let is : get_or (slice_set recent k (length numbers + 1))
+          (get_or (numbers ++ n ∷ []) i 0 % 8192) 0 ≡ length numbers + 1 =
+          ap (λ (x : ℕ). get_or (slice_set recent k (length numbers + 1)) x 0) same
+          ∙ get_or-set_same recent k (length numbers + 1) 0 (omega arith) in
           omega arith
       cases false test =
           let apart = eqb-false _ k test in
-          let is : get_or (slice_set recent k (length numbers + 1)) (get_or (numbers ++ n ∷ []) i 0 % 8192) 0 ≡ get_or recent (get_or (numbers ++ n ∷ []) i 0 % 8192) 0 =
+          let is : get_or (slice_set recent k (length numbers + 1)) (get_or (numbers ++ n ∷ []) i 0 % 8192) 0
+          ≡ get_or recent (get_or (numbers ++ n ∷ []) i 0 % 8192) 0 =
           get_or-set_other recent k _ (length numbers + 1) 0 apart in
           let here = old apart in
           omega arith
 
   pub group_added : length cells ≡ length numbers * 8 → ((k : ℕ) → get_or more k None ≡ None) → (q : ℕ) →
-      option_and_then (λ i. get_or (cells ++ more) (i * 8 + q % 8) None) (next (q / 8)) ≡ option_and_then (λ i. get_or cells (i * 8 + q % 8) None) (place (q / 8))
+      option_and_then (λ i. get_or (cells ++ more) (i * 8 + q % 8) None) (next (q / 8))
+      ≡ option_and_then (λ i. get_or cells (i * 8 + q % 8) None) (place (q / 8))
   group_added size empty q = cases (q / 8 == n) refl
     where
-      old : (r : Option ℕ) → place (q / 8) ≡ r → option_and_then (λ i. get_or (cells ++ more) (i * 8 + q % 8) None) r ≡ option_and_then (λ i. get_or cells (i * 8 + q % 8) None) r
+      old : (r : Option ℕ) → place (q / 8) ≡ r → option_and_then (λ i. get_or (cells ++ more) (i * 8 + q % 8) None) r
+          ≡ option_and_then (λ i. get_or cells (i * 8 + q % 8) None) r
       old None e = refl
       old (Some i) e = let here = held (q / 8) i e in get_or_append_left cells more None (i * 8 + q % 8) (omega arith)
 
       cases : (t : Bool) → (q / 8 == n) ≡ t →
-          option_and_then (λ i. get_or (cells ++ more) (i * 8 + q % 8) None) (next (q / 8)) ≡ option_and_then (λ i. get_or cells (i * 8 + q % 8) None) (place (q / 8))
+          option_and_then (λ i. get_or (cells ++ more) (i * 8 + q % 8) None) (next (q / 8))
+          ≡ option_and_then (λ i. get_or cells (i * 8 + q % 8) None) (place (q / 8))
       cases true e =
           ap (option_and_then (λ i. get_or (cells ++ more) (i * 8 + q % 8) None)) (next-new (q / 8) (eqb-true (q / 8) n e))
           ∙ get_or-append_right cells more (length numbers * 8) (length numbers * 8 + q % 8) None size (omega arith)
           ∙ empty _
           ∙ sym (ap (option_and_then (λ i. get_or cells (i * 8 + q % 8) None)) (ap place (eqb-true (q / 8) n e) ∙ absent))
-      cases false e = ap (option_and_then (λ i. get_or (cells ++ more) (i * 8 + q % 8) None)) (next-old (q / 8) e) ∙ old (place (q / 8)) refl
+      cases false e =
+          ap (option_and_then (λ i. get_or (cells ++ more) (i * 8 + q % 8) None)) (next-old (q / 8) e) ∙ old (place (q / 8)) refl
 
-pub byte_in-added : (old : OtherBytes) (index : PageIndex) (cells : List (Option OtherByte)) (n : ℕ) (more : List (Option OtherByte)) → place_of old.index n ≡ None →
-    ((q : ℕ) → place_of index q ≡ (if q == n then Some (length old.numbers.items) else place_of old.index q)) → cells ≡ old.cells.items ++ more →
-    ((k : ℕ) → get_or more k None ≡ None) → (q : ℕ) → byte_in index cells q ≡ other_byte old q
+pub byte_in-added : (old : OtherBytes) (index : PageIndex) (cells : List (Option OtherByte)) (n : ℕ)
+    (more : List (Option OtherByte)) → place_of old.index n ≡ None →
+    ((q : ℕ) → place_of index q ≡ (if q == n then Some (length old.numbers.items) else place_of old.index q)) →
+    cells ≡ old.cells.items ++ more → ((k : ℕ) → get_or more k None ≡ None) → (q : ℕ) → byte_in index cells q ≡ other_byte old q
 unfolding byte_in
 byte_in-added old index cells n more absent is added empty q =
-    rw added (group_added (place_of old.index) (place_of index) old.numbers.items old.cells.items more n old.indexed old.held old.numbered absent is old.sized empty q)
+    rw added (group_added (place_of old.index)
+    (place_of index) old.numbers.items old.cells.items more n old.indexed old.held old.numbered absent is old.sized empty q)
 
 -- Runs that are cleared.
 
@@ -177,10 +210,12 @@ pub in_run-true : (from to q : ℕ) → from ≤ q → q < to → in_run from to
 in_run-true from to q low high = rw (le-leb from q low, lt-ltb q to high) refl
 
 pub in_run-below : (from to q : ℕ) → q < from → in_run from to q ≡ false
-in_run-below from to q low = false_from_ne_true (in_run from to q) (λ e. let from_is = leb-true from q (and_parts (nat_le from q) (nat_lt q to) e).0 in omega arith)
+in_run-below from to q low = false_from_ne_true (in_run from to q)
+    (λ e. let from_is = leb-true from q (and_parts (nat_le from q) (nat_lt q to) e).0 in omega arith)
 
 pub in_run-past : (from to q : ℕ) → to ≤ q → in_run from to q ≡ false
-in_run-past from to q high = false_from_ne_true (in_run from to q) (λ e. let to_is = ltb-true q to (and_parts (nat_le from q) (nat_lt q to) e).1 in omega arith)
+in_run-past from to q high = false_from_ne_true (in_run from to q)
+    (λ e. let to_is = ltb-true q to (and_parts (nat_le from q) (nat_lt q to) e).1 in omega arith)
 
 pub cleared_none : (x : Option OtherByte) (from to q : ℕ) → to ≤ from → x ≡ (if nat_le from q && nat_lt q to then None else x)
 cleared_none x from to q back = elim (cases_lt q from) [
@@ -189,11 +224,13 @@ cleared_none x from to q back = elim (cases_lt q from) [
 ]
 
 pub cleared_join : (x : Option OtherByte) (from at to q : ℕ) → from ≤ at → at ≤ to →
-    (if nat_le at q && nat_lt q to then None else (if nat_le from q && nat_lt q at then None else x)) ≡ (if nat_le from q && nat_lt q to then None else x)
+    (if nat_le at q && nat_lt q to then None else (if nat_le from q && nat_lt q at then None else x))
+    ≡ (if nat_le from q && nat_lt q to then None else x)
 cleared_join x from at to q first second = elim (cases_lt q from) [
   | inl low ↦ rw (in_run-below at to q (omega arith), in_run-below from at q low, in_run-below from to q low) refl
   | inr high ↦ elim (cases_lt q at) [
-    | inl before ↦ rw (in_run-below at to q before, in_run-true from at q high before, in_run-true from to q high (omega arith)) refl
+    | inl before ↦
+        rw (in_run-below at to q before, in_run-true from at q high before, in_run-true from to q high (omega arith)) refl
     | inr after ↦ elim (cases_lt q to) [
       | inl within ↦ rw (in_run-true at to q after within, in_run-true from to q high within) refl
       | inr past ↦ rw (in_run-past at to q past, in_run-past from at q after, in_run-past from to q past) refl
@@ -202,10 +239,12 @@ cleared_join x from at to q first second = elim (cases_lt q from) [
 ]
 
 pub cleared_one : (x : Option OtherByte) (from at q : ℕ) → from ≤ at →
-    (if q == at then None else (if nat_le from q && nat_lt q at then None else x)) ≡ (if nat_le from q && nat_lt q (at + 1) then None else x)
+    (if q == at then None else (if nat_le from q && nat_lt q at then None else x))
+    ≡ (if nat_le from q && nat_lt q (at + 1) then None else x)
 cleared_one x from at q first = cases (q == at) refl
   where
-    cases : (t : Bool) → (q == at) ≡ t → (if t then None else (if nat_le from q && nat_lt q at then None else x)) ≡ (if nat_le from q && nat_lt q (at + 1) then None else x)
+    cases : (t : Bool) → (q == at) ≡ t → (if t then None else (if nat_le from q && nat_lt q at then None else x))
+        ≡ (if nat_le from q && nat_lt q (at + 1) then None else x)
     cases true test = let same = eqb-true q at test in rw (in_run-true from (at + 1) q (omega arith) (omega arith)) refl
     cases false test =
         let apart = eqb-false q at test in

@@ -16,15 +16,16 @@ use Rattle.sym_machine.specs.SymStep.{SymState, SymOutcome, needs, effect, instr
 use Rattle.sym_machine.specs.internal.KnownInsts.{decoded_inst, IsKnown}
 
 -- a table whose entries are all one that is known
-pub known_entries : (funcs : List Func) (entries : List KnownInst) (n : ℕ) (e : KnownInst) → entries ≡ replicate n e → IsKnown funcs e →
-    (k : ℕ) (d : KnownInst) → k < length entries → IsKnown funcs (get_or entries k d)
+pub known_entries : (funcs : List Func) (entries : List KnownInst) (n : ℕ) (e : KnownInst) →
+    entries ≡ replicate n e → IsKnown funcs e → (k : ℕ) (d : KnownInst) → k < length entries → IsKnown funcs (get_or entries k d)
 known_entries funcs entries n e is known k d within =
     let size : length entries ≡ n = ap length is ∙ length-replicate n e in
     let here : get_or entries k d ≡ e = ap (λ xs. get_or xs k d) is ∙ get_or-replicate n k e d (omega arith) in
     subst (IsKnown funcs) (sym here) known
 
 -- what it does is what some instruction does
-pub decoded_action : (o : Option Placed) (d : Decoded) → option_map decoded_inst o ≡ Some d → (i : Inst) × (d.action ≡ action_of i)
+pub decoded_action : (o : Option Placed) (d : Decoded) → option_map decoded_inst o ≡ Some d →
+    (i : Inst) × (d.action ≡ action_of i)
 decoded_action None d is = absurd (none-some d is)
 decoded_action (Some p) d is = (p.inst, ap (λ (t : Decoded). t.action) (sym (same_Some (decoded_inst p) d is)))
 
@@ -34,10 +35,12 @@ abbrev does : List Func → SymState → Decoded → SymOutcome
 does funcs s d = effect funcs d.role d.action (plus s.pc d.length) s
 
 by_decoded : (funcs : List Func) (s : SymState) (o : Option Placed) →
-    needs s reason.FellOff o (λ p. effect funcs p.role (action_at p) (plus s.pc p.len) s) ≡ needs s reason.FellOff (option_map decoded_inst o) (does funcs s)
+    needs s reason.FellOff o (λ p. effect funcs p.role (action_at p) (plus s.pc p.len) s)
+    ≡ needs s reason.FellOff (option_map decoded_inst o) (does funcs s)
 by_decoded funcs s None = refl
 by_decoded funcs s (Some p) = refl
 
-pub step_by : (funcs : List Func) (s : SymState) (found : Option Decoded) → found ≡ option_map decoded_inst (instruction funcs s.pc) →
-    sym_step funcs s ≡ needs s reason.FellOff found (does funcs s)
-step_by funcs s found is = by_decoded funcs s (instruction funcs s.pc) ∙ ap (λ o. needs s reason.FellOff o (does funcs s)) (sym is)
+pub step_by : (funcs : List Func) (s : SymState) (found : Option Decoded) →
+    found ≡ option_map decoded_inst (instruction funcs s.pc) → sym_step funcs s ≡ needs s reason.FellOff found (does funcs s)
+step_by funcs s found is =
+    by_decoded funcs s (instruction funcs s.pc) ∙ ap (λ o. needs s reason.FellOff o (does funcs s)) (sym is)

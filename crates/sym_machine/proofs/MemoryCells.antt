@@ -15,7 +15,8 @@ use Rattle.sym_machine.specs.Values.{numbers, and_byte, is_hidden, symbol_bytes,
 
 -- Reading.
 
-pub cells_step : (cells : ℕ → MemoryByte) (a n : ℕ) → 0 < n → memory_bytes cells a n ≡ cells a ∷ memory_bytes cells (plus a 1) (n - 1)
+pub cells_step : (cells : ℕ → MemoryByte) (a n : ℕ) → 0 < n →
+    memory_bytes cells a n ≡ cells a ∷ memory_bytes cells (plus a 1) (n - 1)
 unfolding memory_bytes
 cells_step cells a zero h = absurd (omega arith)
 cells_step cells a (suc n) h = let e : suc n - 1 ≡ n = omega arith in rw e refl
@@ -31,13 +32,15 @@ low_bytes_length (suc n) x = ap suc (low_bytes_length n (x / 256))
 
 -- Bytes of one symbol.
 
-bytes_cons : (y : Symbol) (w i : ℕ) (c : MemoryByte) (cs : List MemoryByte) → are_symbol_bytes y w i (c ∷ cs) ≡ is_byte_of c y w i && are_symbol_bytes y w (suc i) cs
+bytes_cons : (y : Symbol) (w i : ℕ) (c : MemoryByte) (cs : List MemoryByte) →
+    are_symbol_bytes y w i (c ∷ cs) ≡ is_byte_of c y w i && are_symbol_bytes y w (suc i) cs
 bytes_cons y w i (Byte b) cs = refl
 bytes_cons y w i (SymbolByte z v j) cs = refl
 bytes_cons y w i Hidden cs = refl
 
 pub bytes_step : (cells : ℕ → MemoryByte) (y : Symbol) (w i a n : ℕ) → 0 < n →
-    are_symbol_bytes y w i (memory_bytes cells a n) ≡ is_byte_of (cells a) y w i && are_symbol_bytes y w (i + 1) (memory_bytes cells (plus a 1) (n - 1))
+    are_symbol_bytes y w i (memory_bytes cells a n) ≡ is_byte_of (cells a) y w i
+    && are_symbol_bytes y w (i + 1) (memory_bytes cells (plus a 1) (n - 1))
 bytes_step cells y w i a n some =
     let next : i + 1 ≡ suc i = omega arith in
     ap (are_symbol_bytes y w i) (cells_step cells a n some) ∙ bytes_cons y w i (cells a) (memory_bytes cells (plus a 1) (n - 1))
@@ -53,37 +56,49 @@ symbol_cons (Byte b) cs = refl
 symbol_cons (SymbolByte z v j) cs = refl
 symbol_cons Hidden cs = refl
 
-pub symbol_none : (cells : ℕ → MemoryByte) (a n : ℕ) → 0 < n → symbol_byte (cells a) ≡ None → symbol_in (memory_bytes cells a n) ≡ None
+pub symbol_none : (cells : ℕ → MemoryByte) (a n : ℕ) → 0 < n → symbol_byte (cells a) ≡ None →
+    symbol_in (memory_bytes cells a n) ≡ None
 symbol_none cells a n some none =
-    ap symbol_in (cells_step cells a n some) ∙ symbol_cons (cells a) (memory_bytes cells (plus a 1) (n - 1)) ∙ ap (λ o. followed o (memory_bytes cells (plus a 1) (n - 1))) none
+    ap symbol_in (cells_step cells a n some) ∙ symbol_cons (cells a) (memory_bytes cells (plus a 1) (n - 1))
+    ∙ ap (λ o. followed o (memory_bytes cells (plus a 1) (n - 1))) none
 
 pub symbol_some : (cells : ℕ → MemoryByte) (a n : ℕ) (b : SymbolBytes) (follow : Bool) → 0 < n → symbol_byte (cells a) ≡ Some b →
-    are_symbol_bytes b.symbol b.width (b.first + 1) (memory_bytes cells (plus a 1) (n - 1)) ≡ follow → symbol_in (memory_bytes cells a n) ≡ (if follow then Some b else None)
+    are_symbol_bytes b.symbol b.width (b.first + 1) (memory_bytes cells (plus a 1) (n - 1)) ≡ follow →
+    symbol_in (memory_bytes cells a n) ≡ (if follow then Some b else None)
 symbol_some cells a n b follow some is follow_is =
     let next : suc b.first ≡ b.first + 1 = omega arith in
-    ap symbol_in (cells_step cells a n some) ∙ symbol_cons (cells a) (memory_bytes cells (plus a 1) (n - 1)) ∙ ap (λ o. followed o (memory_bytes cells (plus a 1) (n - 1))) is
-    ∙ ap (λ (t : Bool). if t then Some b else None) (ap (λ (k : ℕ). are_symbol_bytes b.symbol b.width k (memory_bytes cells (plus a 1) (n - 1))) next ∙ follow_is)
+    ap symbol_in (cells_step cells a n some) ∙ symbol_cons (cells a) (memory_bytes cells (plus a 1) (n - 1))
+    ∙ ap (λ o. followed o (memory_bytes cells (plus a 1) (n - 1))) is
+    ∙ ap (λ (t : Bool). if t then Some b else None)
+    (ap (λ (k : ℕ). are_symbol_bytes b.symbol b.width k (memory_bytes cells (plus a 1) (n - 1))) next ∙ follow_is)
 
 module _ (others : ℕ → Option OtherByte) (memory : ℕ → ℕ) where
   abbrev pub over : ℕ → MemoryByte
   over a = cell_over (others a) (memory a)
 
-  pub numbers_all : (a n : ℕ) → all_may (λ q. is_none (others q)) a n ≡ true → numbers (memory_bytes over a n) ≡ Some (memory_bytes memory a n)
+  pub numbers_all : (a n : ℕ) → all_may (λ q. is_none (others q)) a n ≡ true →
+      numbers (memory_bytes over a n) ≡ Some (memory_bytes memory a n)
   unfolding all_may memory_bytes
   numbers_all a zero all = refl
-  numbers_all a (suc n) all = numbers_first (others a) refl (numbers_all (plus a 1) n (and_parts (is_none (others a)) (all_may (λ q. is_none (others q)) (plus a 1) n) all).1)
+  numbers_all a (suc n) all = numbers_first (others a) refl
+      (numbers_all (plus a 1) n (and_parts (is_none (others a)) (all_may (λ q. is_none (others q)) (plus a 1) n) all).1)
     where
-      numbers_first : (o : Option OtherByte) → others a ≡ o → numbers (memory_bytes over (plus a 1) n) ≡ Some (memory_bytes memory (plus a 1) n) →
+      numbers_first : (o : Option OtherByte) → others a ≡ o →
+          numbers (memory_bytes over (plus a 1) n) ≡ Some (memory_bytes memory (plus a 1) n) →
           and_byte (over a) (numbers (memory_bytes over (plus a 1) n)) ≡ Some (memory a ∷ memory_bytes memory (plus a 1) n)
       numbers_first None e rest = rw (e, rest) refl
-      numbers_first (Some c) e rest = absurd (let first = (and_parts (is_none (others a)) (all_may (λ q. is_none (others q)) (plus a 1) n) all).0 in let other : is_none (others a) ≡ false = ap is_none e in cc)
+      numbers_first (Some c) e rest =
+          absurd (let first = (and_parts (is_none (others a)) (all_may (λ q. is_none (others q)) (plus a 1) n) all).0 in
+          let other : is_none (others a) ≡ false = ap is_none e in
+          cc)
 
   pub numbers_none : (a n : ℕ) → all_may (λ q. is_none (others q)) a n ≡ false → numbers (memory_bytes over a n) ≡ None
   unfolding all_may memory_bytes
   numbers_none a zero none = absurd (cc)
   numbers_none a (suc n) none = by (others a) refl (numbers_none (plus a 1) n)
     where
-      by : (o : Option OtherByte) → others a ≡ o → (all_may (λ q. is_none (others q)) (plus a 1) n ≡ false → numbers (memory_bytes over (plus a 1) n) ≡ None) →
+      by : (o : Option OtherByte) → others a ≡ o →
+          (all_may (λ q. is_none (others q)) (plus a 1) n ≡ false → numbers (memory_bytes over (plus a 1) n) ≡ None) →
           and_byte (over a) (numbers (memory_bytes over (plus a 1) n)) ≡ None
       by None e rest =
           let later : all_may (λ q. is_none (others q)) (plus a 1) n ≡ false = rw (ap is_none e) at none in
@@ -96,32 +111,39 @@ module _ (others : ℕ → Option OtherByte) (memory : ℕ → ℕ) where
   hidden_any a zero = refl
   hidden_any a (suc n) = step (is_hidden (over a)) (hidden_any (plus a 1) n)
     where
-      step : (b : Bool) → list_any is_hidden (memory_bytes over (plus a 1) n) ≡ not (all_may (λ q. not (is_hidden (over q))) (plus a 1) n) →
-          (b || list_any is_hidden (memory_bytes over (plus a 1) n)) ≡ not (not b && all_may (λ q. not (is_hidden (over q))) (plus a 1) n)
+      step : (b : Bool) →
+          list_any is_hidden (memory_bytes over (plus a 1) n) ≡ not (all_may (λ q. not (is_hidden (over q))) (plus a 1) n) →
+          (b || list_any is_hidden (memory_bytes over (plus a 1) n))
+          ≡ not (not b && all_may (λ q. not (is_hidden (over q))) (plus a 1) n)
       step true rest = refl
       step false rest = rest
 
   -- Writing.
 
   -- numbers over a run that the others leave
-  pub put_numbers : (a q : ℕ) (bytes : List ℕ) → cell_over (put others a (replicate (length bytes) None) q) (put memory a bytes q) ≡ put over a (map Byte bytes) q
+  pub put_numbers : (a q : ℕ) (bytes : List ℕ) →
+      cell_over (put others a (replicate (length bytes) None) q) (put memory a bytes q) ≡ put over a (map Byte bytes) q
   unfolding put
   put_numbers a q [] = refl
   put_numbers a q (b ∷ bytes) = by (q == a) (put_numbers (plus a 1) q bytes)
     where
-      by : (t : Bool) → cell_over (put others (plus a 1) (replicate (length bytes) None) q) (put memory (plus a 1) bytes q) ≡ put over (plus a 1) (map Byte bytes) q →
-          cell_over (if t then None else put others (plus a 1) (replicate (length bytes) None) q) (if t then b else put memory (plus a 1) bytes q)
+      by : (t : Bool) → cell_over (put others (plus a 1) (replicate (length bytes) None) q) (put memory (plus a 1) bytes q)
+          ≡ put over (plus a 1) (map Byte bytes) q →
+          cell_over (if t then None else put others (plus a 1) (replicate (length bytes) None) q)
+          (if t then b else put memory (plus a 1) bytes q)
           ≡ (if t then Byte b else put over (plus a 1) (map Byte bytes) q)
       by true rest = refl
       by false rest = rest
 
   -- bytes of a symbol
-  pub put_symbols : (a q : ℕ) (y : Symbol) (w i n : ℕ) → cell_over (put others a (other_bytes y w i n) q) (memory q) ≡ put over a (symbol_bytes y w i n) q
+  pub put_symbols : (a q : ℕ) (y : Symbol) (w i n : ℕ) →
+      cell_over (put others a (other_bytes y w i n) q) (memory q) ≡ put over a (symbol_bytes y w i n) q
   unfolding put other_bytes symbol_bytes
   put_symbols a q y w i zero = refl
   put_symbols a q y w i (suc n) = by (q == a) (put_symbols (plus a 1) q y w (suc i) n)
     where
-      by : (t : Bool) → cell_over (put others (plus a 1) (other_bytes y w (suc i) n) q) (memory q) ≡ put over (plus a 1) (symbol_bytes y w (suc i) n) q →
+      by : (t : Bool) → cell_over (put others (plus a 1) (other_bytes y w (suc i) n) q) (memory q)
+          ≡ put over (plus a 1) (symbol_bytes y w (suc i) n) q →
           cell_over (if t then Some (other.Symbol y w i) else put others (plus a 1) (other_bytes y w (suc i) n) q) (memory q)
           ≡ (if t then SymbolByte y w i else put over (plus a 1) (symbol_bytes y w (suc i) n) q)
       by true rest = refl
@@ -134,7 +156,8 @@ unfolding put
 put_nothing others a n q e = rw e refl
 
 pub put_none_next : (others : ℕ → Option OtherByte) (a i n q : ℕ) → i < n →
-    put others (plus a i) (replicate (n - i) None) q ≡ (if q == plus a i then None else put others (plus a (i + 1)) (replicate (n - (i + 1)) None) q)
+    put others (plus a i) (replicate (n - i) None) q
+    ≡ (if q == plus a i then None else put others (plus a (i + 1)) (replicate (n - (i + 1)) None) q)
 unfolding put
 put_none_next others a i n q h =
     let e : n - i ≡ suc (n - (i + 1)) = omega arith in
@@ -145,7 +168,8 @@ none_only : (o : Option OtherByte) → is_none o ≡ true → o ≡ None
 none_only None e = refl
 none_only (Some x) e = absurd (cc)
 
-pub put_none_same : (others : ℕ → Option OtherByte) (a n q : ℕ) → all_may (λ q. is_none (others q)) a n ≡ true → others q ≡ put others a (replicate n None) q
+pub put_none_same : (others : ℕ → Option OtherByte) (a n q : ℕ) → all_may (λ q. is_none (others q)) a n ≡ true →
+    others q ≡ put others a (replicate n None) q
 unfolding put all_may
 put_none_same others a zero q all = refl
 put_none_same others a (suc n) q all = by (q == a) refl (put_none_same others (plus a 1) n q parts.1)
@@ -153,17 +177,20 @@ put_none_same others a (suc n) q all = by (q == a) refl (put_none_same others (p
     parts : (is_none (others a) ≡ true) × (all_may (λ q. is_none (others q)) (plus a 1) n ≡ true)
     parts = and_parts (is_none (others a)) (all_may (λ q. is_none (others q)) (plus a 1) n) all
 
-    by : (t : Bool) → (q == a) ≡ t → others q ≡ put others (plus a 1) (replicate n None) q → others q ≡ (if t then None else put others (plus a 1) (replicate n None) q)
+    by : (t : Bool) → (q == a) ≡ t → others q ≡ put others (plus a 1) (replicate n None) q →
+        others q ≡ (if t then None else put others (plus a 1) (replicate n None) q)
     by true e rest = ap others (eqb-true q a e) ∙ none_only (others a) parts.0
     by false e rest = rest
 
-pub put_symbol_nothing : (others : ℕ → Option OtherByte) (a n q : ℕ) (y : Symbol) (w i : ℕ) → n ≡ 0 → others q ≡ put others a (other_bytes y w i n) q
+pub put_symbol_nothing : (others : ℕ → Option OtherByte) (a n q : ℕ) (y : Symbol) (w i : ℕ) → n ≡ 0 →
+    others q ≡ put others a (other_bytes y w i n) q
 unfolding put other_bytes
 put_symbol_nothing others a n q y w i e = rw e refl
 
 pub put_symbol_next : (others : ℕ → Option OtherByte) (a i n q : ℕ) (y : Symbol) (w first : ℕ) → i < n →
     put others (plus a i) (other_bytes y w (first + i) (n - i)) q
-    ≡ (if q == plus a i then Some (other.Symbol y w (first + i)) else put others (plus a (i + 1)) (other_bytes y w (first + (i + 1)) (n - (i + 1))) q)
+    ≡ (if q == plus a i then Some (other.Symbol y w (first + i))
+    else put others (plus a (i + 1)) (other_bytes y w (first + (i + 1)) (n - (i + 1))) q)
 unfolding put other_bytes
 put_symbol_next others a i n q y w first h =
     let e : n - i ≡ suc (n - (i + 1)) = omega arith in
@@ -177,15 +204,19 @@ never_within : (from q : ℕ) → nat_le from q ≡ true → nat_lt q from ≡ t
 never_within from q low high = let l = leb-true from q low in let h = ltb-true q from high in omega arith
 
 pub break_cells : (others : ℕ → Option OtherByte) (memory : ℕ → ℕ) (from to q : ℕ) (stands : Bool) →
-    cell_over (if nat_le from q && nat_lt q (if stands then to else from) then None else others q) (if stands then (if nat_le from q && nat_lt q to then 0 else memory q) else memory q)
-    ≡ (if stands then (if nat_le from q && nat_lt q to then Byte 0 else cell_over (others q) (memory q)) else cell_over (others q) (memory q))
+    cell_over (if nat_le from q && nat_lt q (if stands then to else from) then None else others q)
+    (if stands then (if nat_le from q && nat_lt q to then 0 else memory q) else memory q)
+    ≡ (if stands then (if nat_le from q && nat_lt q to then Byte 0 else cell_over (others q) (memory q))
+    else cell_over (others q) (memory q))
 break_cells others memory from to q true = by (nat_le from q && nat_lt q to)
   where
-    by : (t : Bool) → cell_over (if t then None else others q) (if t then 0 else memory q) ≡ (if t then Byte 0 else cell_over (others q) (memory q))
+    by : (t : Bool) → cell_over (if t then None else others q) (if t then 0 else memory q)
+        ≡ (if t then Byte 0 else cell_over (others q) (memory q))
     by true = refl
     by false = refl
 break_cells others memory from to q false = by (nat_le from q && nat_lt q from) refl
   where
-    by : (t : Bool) → (nat_le from q && nat_lt q from) ≡ t → cell_over (if t then None else others q) (memory q) ≡ cell_over (others q) (memory q)
+    by : (t : Bool) → (nat_le from q && nat_lt q from) ≡ t →
+        cell_over (if t then None else others q) (memory q) ≡ cell_over (others q) (memory q)
     by true e = let parts = and_parts (nat_le from q) (nat_lt q from) e in absurd (never_within from q parts.0 parts.1)
     by false e = refl

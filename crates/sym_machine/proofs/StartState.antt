@@ -22,7 +22,8 @@ loads_last p has =
     let some : 0 < p.memsz = ltb-true 0 p.memsz parts.1 in
     let from : nat_le p.vaddr (end_of p - 1) ≡ true = le-leb p.vaddr (end_of p - 1) (omega arith) in
     let to : nat_lt (end_of p - 1) (end_of p) ≡ true = lt-ltb (end_of p - 1) (end_of p) (omega arith) in
-    and_from (is_load p && nat_le p.vaddr (end_of p - 1)) (nat_lt (end_of p - 1) (end_of p)) (and_from (is_load p) (nat_le p.vaddr (end_of p - 1)) parts.0 from) to
+    and_from (is_load p && nat_le p.vaddr (end_of p - 1)) (nat_lt (end_of p - 1) (end_of p))
+    (and_from (is_load p) (nat_le p.vaddr (end_of p - 1)) parts.0 from) to
 
 pub low_segments : (file : List ℕ) → IsSound file → AreLow (segments_of file)
 low_segments file sound = record { each = ends }
@@ -34,7 +35,8 @@ low_segments file sound = record { each = ends }
         ⊎_elim
         (λ (low : end_of p < address_end + 1). omega arith)
         (λ (high : address_end + 1 ≤ end_of p).
-        absurd (sound HighAddress (end_of p - 1) (i, found.0, (subst (λ q. IsTrue (loads_address (end_of p - 1) q)) (sym p_is) (loads_last p has), omega arith))))
+        absurd (sound HighAddress (end_of p - 1)
+        (i, found.0, (subst (λ q. IsTrue (loads_address (end_of p - 1) q)) (sym p_is) (loads_last p has), omega arith))))
         (cases_lt (end_of p) (address_end + 1))
 
 nums : (k n : ℕ) → slice_index_or (replicate k (Num 0)) n (Num 0) ≡ Num 0
@@ -42,12 +44,14 @@ nums zero n = refl
 nums (suc k) zero = refl
 nums (suc k) (suc n) = nums k n
 
-pub start_register : (p r : ℕ) → slice_index_or (Num 0 ∷ Num 0 ∷ Num p ∷ replicate 253 (Num 0)) r (Num 0) ≡ Num (if r == 2 then p else 0)
+pub start_register : (p r : ℕ) →
+    slice_index_or (Num 0 ∷ Num 0 ∷ Num p ∷ replicate 253 (Num 0)) r (Num 0) ≡ Num (if r == 2 then p else 0)
 start_register p zero = refl
 start_register p (suc zero) = refl
 start_register p (suc (suc zero)) = refl
 start_register p (suc (suc (suc n))) =
-    let other : (suc (suc (suc n)) == 2) ≡ false = false_from_ne_true (suc (suc (suc n)) == 2) (λ test. let same : suc (suc (suc n)) ≡ 2 = eqb-true (suc (suc (suc n))) 2 test in omega (arith, same)) in
+    let other : (suc (suc (suc n)) == 2) ≡ false = false_from_ne_true (suc (suc (suc n)) == 2)
+    (λ test. let same : suc (suc (suc n)) ≡ 2 = eqb-true (suc (suc (suc n))) 2 test in omega (arith, same)) in
     rw other (nums 253 n)
 
 pub cell_over-special : (o : Option OtherByte) (b : ℕ) → cell_over o b ≡ unwrap_or (option_map as_byte o) (Byte b)

@@ -48,7 +48,8 @@ abbrev pub Becomes : SymOutcome → SymStepped → SymMachine → SymMachine →
 Becomes outcome result old new input = core.Becomes state_of outcome (answered result) old new input
 
 -- what holds of a step by its answer, with whether the source was found at its end, before and after it
-abbrev pub StepAnswers : (SymState → SymOutcome → Type 0) → SymStepped → SymMachine → SymMachine → Bool → Bool → Outside → Outside → Type 0
+abbrev pub StepAnswers : (SymState → SymOutcome → Type 0) → SymStepped → SymMachine → SymMachine → Bool → Bool → Outside
+    → Outside → Type 0
 StepAnswers step result old new ended ends before after =
     core_step.StepAnswers state_of step (answered result) old new ended ends before after
 

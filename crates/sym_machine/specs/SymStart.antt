@@ -1,6 +1,7 @@
 -- How a program starts on the symbol machine, and its runs: as on the byte machine, but that code cells and the entry
 -- point are symbols, and fields that the rewriting of a file changes are hidden.
-use Rattle.std.specs.Prelude.{ℕ, ◌-◌, ◌||◌, if◌then◌else◌, Bool, List, [], ◌∷◌, ◌++◌, Option, Some, None, find, unwrap_or, option_map}
+use Rattle.std.specs.Prelude.{ℕ, ◌-◌, ◌||◌, if◌then◌else◌, Bool, List, [], ◌∷◌, ◌++◌, Option, Some}
+use Rattle.std.specs.Prelude.{None, find, unwrap_or, option_map}
 use Rattle.std.specs.Option.{option_map_or, option_or}
 use Rattle.rv_code.specs.declared.cell.CodeCell.{CodeCell}
 use Rattle.rv_code.specs.declared.cell.CellKind.{CellKind}

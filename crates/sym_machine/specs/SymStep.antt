@@ -1,18 +1,22 @@
 -- One step of the symbol machine. A step is a list of conditions, each with the reason for which the machine is stuck
 -- where it is the first that fails. For all instructions they stand in one order: FellOff, Break, CallArg for a
 -- register, Operate, Compare, NotCode, EndOfFunction, Access, Hidden, CallArg for a byte that is written out, Mixed.
-use Rattle.std.specs.Prelude.{◌≡◌, ℕ, ◌*◌, ◌%◌, ◌^◌, ◌||◌, ◌==◌, if◌then◌else◌, Bool, true, false, not, List, [], ◌∷◌, Option, Some, None, length, take, drop, min, map}
+use Rattle.std.specs.Prelude.{◌≡◌, ℕ, ◌*◌, ◌%◌, ◌^◌, ◌||◌, ◌==◌, if◌then◌else◌, Bool, true, false, not, List, [], ◌∷◌, Option}
+use Rattle.std.specs.Prelude.{Some, None, length, take, drop, min, map}
 use Rattle.std.specs.List.{list_any}
 use Rattle.rv_code.specs.declared.action.Extension.{Extension}
 use Rattle.rv_code.specs.declared.action.Action.{Action}
-use Rattle.rv_code.specs.declared.action.Action.TheVariants.{Compute, Branch, Jump, JumpTo, Upper, UpperPc, Load, Store, Fence, SystemCall, Breakpoint}
+use Rattle.rv_code.specs.declared.action.Action.TheVariants.{Compute, Branch, Jump, JumpTo, Upper, UpperPc}
+use Rattle.rv_code.specs.declared.action.Action.TheVariants.{Load, Store, Fence, SystemCall, Breakpoint}
 use Rattle.rv_code.specs.declared.placed.Placed.{Placed}
 use Rattle.rv_code.specs.declared.placed.Func.{Func}
 use Rattle.rv_code.specs.declared.placed.Role.{Role}
 use Rattle.rv_code.specs.isa.TwosComplement.{unsigned64}
 use Rattle.rv_code.specs.isa.Extension.{bytes_of}
 use Rattle.rv_code.specs.layout.Flow.{placed_at, action_at}
-use Rattle.rv_code.specs.machine.Machine.{plus, set_register, all_may, memory_bytes, put, State, may_read, may_write, with_break, Event, Call, Read, Write, Exit, Brk, Unknown, call_of, most_moved, bad_file, no_such_call, Outcome, Going, Ended, Halts}
+use Rattle.rv_code.specs.machine.Machine.{plus, set_register, all_may, memory_bytes, put, State, may_read, may_write, with_break}
+use Rattle.rv_code.specs.machine.Machine.{Event, Call, Read, Write, Exit, Brk, Unknown, call_of, most_moved, bad_file}
+use Rattle.rv_code.specs.machine.Machine.{no_such_call, Outcome, Going, Ended, Halts}
 use Rattle.rv_code.specs.machine.Step.{a0, a1, a2, a7}
 use Rattle.sym_machine.specs.declared.outcome.Reason.{Reason}
 use Rattle.sym_machine.specs.declared.outcome.Reason.TheVariants as reason
@@ -23,7 +27,8 @@ use Rattle.sym_machine.specs.declared.value.Value.TheVariants.{Num, Sym}
 use Rattle.sym_machine.specs.declared.value.MemoryByte.{MemoryByte}
 use Rattle.sym_machine.specs.declared.value.MemoryByte.TheVariants.{Byte}
 use Rattle.sym_machine.specs.Values.{number, numbers, stored, is_hidden}
-use Rattle.sym_machine.specs.Rules.{upper_of_distance, upper_of_address, computed, tested, goal, pointer, destination, place, loaded}
+use Rattle.sym_machine.specs.Rules.{upper_of_distance, upper_of_address, computed, tested, goal}
+use Rattle.sym_machine.specs.Rules.{pointer, destination, place, loaded}
 
 abbrev pub SymState : Type 0
 SymState = State Value MemoryByte

@@ -34,7 +34,8 @@ impl Buffer {
 }
 
 impl<'a> SymMachine<'a> {
-    ghost use Rattle.rv_code.specs.machine.Machine.{set_register, call_of, Read, Write, Unknown, Exit, Brk, memory_bytes, most_moved};
+    ghost use Rattle.rv_code.specs.machine.Machine.{set_register, call_of, Read, Write, Unknown};
+    ghost use Rattle.rv_code.specs.machine.Machine.{Exit, Brk, memory_bytes, most_moved};
     ghost use Rattle.rv_code.specs.machine.Step.{a0, a7};
     ghost use Rattle.run_core.specs.Inputs.{Outside};
     ghost use Rattle.run_core.specs.States.{Same};
@@ -73,7 +74,9 @@ impl<'a> SymMachine<'a> {
     // Comes back from a call with this result.
     fn return_value(&mut self, value: u64, next: u64) -> SymStepped
         ensures going { result ≡ SymStepped.Going }
-        ensures state { (input : List ℕ) → Same (record (state_of self.old input) { pc = next; registers = set_register a0 (Num value) (registers_of self.old) }) (state_of self.new input) }
+        ensures state { (input : List ℕ) → Same
+            (record (state_of self.old input) { pc = next; registers = set_register a0 (Num value) (registers_of self.old) })
+            (state_of self.new input) }
         ensures code { self.new.code ≡ self.old.code }
     {
         self.registers[A0 as usize] = Value::Num(value);
@@ -82,7 +85,8 @@ impl<'a> SymMachine<'a> {
     }
 
     fn brk(&mut self, next: u64) -> SymStepped
-        ensures answer { (input : List ℕ) → Becomes (calls (state_of self.old input) next 214 Brk) result self.old self.new input }
+        ensures answer { (input : List ℕ) →
+            Becomes (calls (state_of self.old input) next 214 Brk) result self.old self.new input }
         ensures code { self.new.code ≡ self.old.code }
     {
         let Some(to) = self.argument(A0) else {
@@ -93,7 +97,8 @@ impl<'a> SymMachine<'a> {
     }
 
     fn exit(&self) -> SymStepped
-        ensures { (input : List ℕ) (next : ℕ) → Becomes (calls (state_of self.now input) next 93 Exit) result self.now self.now input }
+        ensures { (input : List ℕ) (next : ℕ) →
+            Becomes (calls (state_of self.now input) next 93 Exit) result self.now self.now input }
     {
         match self.argument(A0) {
             Some(status) => SymStepped::Ended((status % 256) as u8),
@@ -102,14 +107,16 @@ impl<'a> SymMachine<'a> {
     }
 
     fn refuse_call(&mut self, next: u64) -> SymStepped
-        ensures answer { (input : List ℕ) (n : ℕ) → Becomes (calls (state_of self.old input) next n Unknown) result self.old self.new input }
+        ensures answer { (input : List ℕ) (n : ℕ) →
+            Becomes (calls (state_of self.old input) next n Unknown) result self.old self.new input }
         ensures code { self.new.code ≡ self.old.code }
     {
         self.return_value(NO_SUCH_CALL, next)
     }
 
     fn refuse_file(&mut self, next: u64) -> SymStepped
-        ensures answer { (input : List ℕ) (number file at size : ℕ) → Becomes (refuses_file (state_of self.old input) next number file at size) result self.old self.new input }
+        ensures answer { (input : List ℕ) (number file at size : ℕ) →
+            Becomes (refuses_file (state_of self.old input) next number file at size) result self.old self.new input }
         ensures code { self.new.code ≡ self.old.code }
     {
         self.return_value(BAD_FILE, next)
@@ -123,7 +130,9 @@ impl<'a> SymMachine<'a> {
         input_end: &mut InputEnd,
         input: &mut I,
     ) -> SymStepped
-        ensures answer { (output : SinkSeen) → StepAnswers (λ s o. o ≡ reads_input s next buffer.address buffer.size (take (min buffer.size most_moved) s.input)) result self.old self.new
+        ensures answer { (output : SinkSeen) → StepAnswers
+            (λ s o. o ≡ reads_input s next buffer.address buffer.size (take (min buffer.size most_moved) s.input))
+            result self.old self.new
             input_end.old.reached input_end.new.reached
             (record { input = I.seen input.old; output = output })
             (record { input = I.seen input.new; output = output }) }
@@ -150,7 +159,10 @@ impl<'a> SymMachine<'a> {
 
     // Writes the buffer out.
     fn write_output<O: Sink>(&mut self, buffer: Buffer, next: u64, out: &mut O) -> SymStepped
-        ensures answer { (input : SourceSeen) (ended : Bool) → StepAnswers (λ s o. o ≡ writes_output s next buffer.file buffer.address buffer.size (memory_bytes s.memory buffer.address (min buffer.size most_moved))) result self.old self.new
+        ensures answer { (input : SourceSeen) (ended : Bool) → StepAnswers
+            (λ s o. o ≡ writes_output s next buffer.file buffer.address buffer.size
+            (memory_bytes s.memory buffer.address (min buffer.size most_moved)))
+            result self.old self.new
             ended ended
             (record { input = input; output = O.seen out.old })
             (record { input = input; output = O.seen out.new }) }
@@ -196,7 +208,8 @@ impl<'a> SymMachine<'a> {
     }
 
     fn write<O: Sink>(&mut self, next: u64, out: &mut O) -> SymStepped
-        ensures answer { (input : SourceSeen) (ended : Bool) → StepAnswers (λ s o. o ≡ calls s next 64 Write) result self.old self.new
+        ensures answer { (input : SourceSeen) (ended : Bool) →
+            StepAnswers (λ s o. o ≡ calls s next 64 Write) result self.old self.new
             ended ended
             (record { input = input; output = O.seen out.old })
             (record { input = input; output = O.seen out.new }) }

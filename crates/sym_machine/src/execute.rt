@@ -39,7 +39,8 @@ impl<'a> SymMachine<'a> {
     // What an instruction with a role changes after which the next one stands at `next`.
     pub(crate) fn change(&self, part: Role, action: Action, next: u64) -> Result<Change, Reason>
         requires { IsQuiet action }
-        ensures { (input : List ℕ) → changes (state_of self.now input) result ≡ effect (funcs_of self.now) part action next (state_of self.now input) }
+        ensures { (input : List ℕ) →
+            changes (state_of self.now input) result ≡ effect (funcs_of self.now) part action next (state_of self.now input) }
     {
         match action {
             Action::Compute {
@@ -108,7 +109,8 @@ impl<'a> SymMachine<'a> {
     }
 
     fn on_registers(&self, op: Op, first: u8, second: u8) -> Option<Value>
-        ensures { result ≡ combined (funcs_of self.now) (registers_of self.now) op (Operand.Register first) (Operand.Register second) }
+        ensures { result
+            ≡ combined (funcs_of self.now) (registers_of self.now) op (Operand.Register first) (Operand.Register second) }
     {
         let left = self.register(first);
         let right = self.register(second);
@@ -139,7 +141,9 @@ impl<'a> SymMachine<'a> {
         next: u64,
     ) -> Result<Change, Reason>
         ensures { (input : List ℕ) → let s = state_of self.now input in
-            changes s result ≡ needs s Reason.Operate (computed (funcs_of self.now) part (registers_of self.now) op left right) (writes_register s next rd) }
+            changes s result
+            ≡ needs s Reason.Operate (computed (funcs_of self.now) part (registers_of self.now) op left right)
+            (writes_register s next rd) }
     {
         match self.computed(part, op, left, right) {
             Some(value) => Ok(Change { rd, value, next }),
@@ -157,7 +161,8 @@ impl<'a> SymMachine<'a> {
         next: u64,
     ) -> Result<Change, Reason>
         ensures { (input : List ℕ) → let s = state_of self.now input in
-            changes s result ≡ branches s next (plus s.pc offset) wanted (tested test (registers_of self.now rs1) (registers_of self.now rs2)) }
+            changes s result
+            ≡ branches s next (plus s.pc offset) wanted (tested test (registers_of self.now rs1) (registers_of self.now rs2)) }
     {
         match tested(test, self.register(rs1), self.register(rs2)) {
             Some(holds) => Ok(go_to(self.way(wanted, holds, offset, next))),
@@ -167,7 +172,8 @@ impl<'a> SymMachine<'a> {
 
     // Which way a branch goes.
     fn way(&self, wanted: bool, holds: bool, offset: u64, next: u64) -> u64
-        ensures { (input : List ℕ) → let s = state_of self.now input in branches s next (plus s.pc offset) wanted (Some holds) ≡ goes_to s result }
+        ensures { (input : List ℕ) → let s = state_of self.now input in
+            branches s next (plus s.pc offset) wanted (Some holds) ≡ goes_to s result }
     {
         let target = self.pc.wrapping_add(offset);
         if wanted {
@@ -195,7 +201,9 @@ impl<'a> SymMachine<'a> {
     }
 
     fn jump_to(&self, part: Role, rd: u8, base: Value, offset: u64) -> Result<Change, Reason>
-        ensures { (input : List ℕ) → changes (state_of self.now input) result ≡ jumps_to (funcs_of self.now) (state_of self.now input) part rd base offset }
+        ensures { (input : List ℕ) →
+            changes (state_of self.now input) result
+            ≡ jumps_to (funcs_of self.now) (state_of self.now input) part rd base offset }
     {
         let Some(value) = self.code.goal(part, base) else {
             return Err(Reason::Operate);

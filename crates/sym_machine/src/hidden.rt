@@ -1,22 +1,25 @@
 // Hidden fields of a file's headers.
-ghost use Rattle.std.specs.Prelude.{◌≡◌, ◌≤◌, ◌<◌, ◌+◌, ◌-◌, ◌*◌, ◌^◌, ◌++◌, ◌&&◌, ◌||◌, ℕ, IfOk, IfSome, OnOk, map, length, Bool, nat_le, option_map, option_copied, find, is_none, List};
+ghost use Rattle.std.specs.Prelude.{◌≡◌, ◌≤◌, ◌<◌, ◌+◌, ◌-◌, ◌*◌, ◌^◌, ◌++◌, ◌&&◌, ◌||◌, ℕ, IfOk, IfSome, OnOk, map, length};
+ghost use Rattle.std.specs.Prelude.{Bool, nat_le, option_map, option_copied, find, is_none, List};
 ghost use Rattle.std.specs.List.{list_any, flat_map, enumerate_from};
 ghost use Rattle.elf_image.specs.declared.elf.Elf.{Elf};
 ghost use Rattle.elf_image.specs.declared.segment.Segment.{Segment};
 ghost use Rattle.elf_image.specs.memory.CodeSegment.{executable_segment, executable_end};
 ghost use Rattle.elf_image.specs.memory.LoadedBytes.{is_in_range, loads_range, address_of, file_offset, offset_in};
-ghost use Rattle.sym_machine.specs.HiddenFields.{only, e_entry_field, hidden_in_segment, hidden_fields, is_hidden_field, is_executable_segment};
+ghost use Rattle.sym_machine.specs.HiddenFields.{only, e_entry_field, hidden_in_segment, hidden_fields, is_hidden_field};
+ghost use Rattle.sym_machine.specs.HiddenFields.{is_executable_segment};
 ghost use Rattle.sym_machine.specs.internal.Fields.{range_of_field, AreLow};
 
 use crate::code_segment::executable_segment;
 use crate::fields::{Field, Fields};
-use elf_image::segment::{PHDR_SIZE, PT_GNU_EH_FRAME, PT_LOAD};
+use elf_image::segment::{PHDR_SIZE, PT_GNU_EH_FRAME};
 use elf_image::{Elf, Segment};
 use rb_bytes::fault::NoMemory;
 use std::alloc::Global;
 
 fn push_if(out: &mut Vec<Field>, test: bool, start: u128, size: u64) -> Result<(), NoMemory>
-    ensures { OnOk result (map range_of_field out.new.items ≡ map range_of_field out.old.items ++ only test (record { start = start; size = size })) }
+    ensures { OnOk result (map range_of_field out.new.items ≡ map range_of_field out.old.items
+        ++ only test (record { start = start; size = size })) }
 {
     if test {
         out.push(Field { start, size })?;
@@ -43,19 +46,11 @@ fn is_executable_segment(executable: Option<(usize, Segment)>, index: usize) -> 
     }
 }
 
-// The address of the loaded field `e_entry`, if one segment loads it whole.
+// The first segment that loads the field `e_entry` whole.
 fn entry_segment(segments: &[Segment]) -> Option<&Segment>
     ensures { option_copied result ≡ find (loads_range e_entry_field) segments.now }
 {
-    segments.iter().find(|p| loads_entry(p))
-}
-
-fn loads_entry(p: &Segment) -> bool
-    ensures { result ≡ loads_range e_entry_field p.now }
-{
-    p.kind == PT_LOAD
-        && p.offset <= 0x18
-        && 0x20 <= p.offset as u128 + p.filesz.min(p.memsz) as u128
+    segments.iter().find(|p| p.loads_range(0x18, 8))
 }
 
 /// The address of the loaded field `e_entry`, if one segment loads it whole.
@@ -79,7 +74,8 @@ fn push_fields(
     p: &Segment,
 ) -> Result<(), NoMemory>
     requires { executable ≡ executable_segment elf.now.segments.items }
-    ensures { OnOk result (map range_of_field out.new.items ≡ map range_of_field out.old.items ++ hidden_in_segment elf.now (index, p.now)) }
+    ensures { OnOk result (map range_of_field out.new.items ≡ map range_of_field out.old.items
+        ++ hidden_in_segment elf.now (index, p.now)) }
 {
     let at = elf.phoff as u128 + PHDR_SIZE as u128 * index as u128;
     let end = executable_end(executable);
@@ -115,7 +111,8 @@ fn push_all(
     segments: &[Segment],
 ) -> Result<(), NoMemory>
     requires { executable ≡ executable_segment elf.now.segments.items }
-    ensures { OnOk result (map range_of_field out.new.items ≡ map range_of_field out.old.items ++ flat_map (hidden_in_segment elf.now) (enumerate_from 0 segments.now)) }
+    ensures { OnOk result (map range_of_field out.new.items ≡ map range_of_field out.old.items
+        ++ flat_map (hidden_in_segment elf.now) (enumerate_from 0 segments.now)) }
 {
     for index in 0..segments.len() {
         push_fields(out, elf, executable, index, &segments[index])?;
@@ -147,7 +144,8 @@ fn offset_in(address: u64, p: &Segment) -> Option<u128>
 
 /// Whether the byte at an address is one of a hidden field of the headers.
 pub fn is_hidden_field(elf: &Elf, fields: &Fields, address: u64) -> bool
-    ensures { (tight : Bool) → map range_of_field fields.now.list.items ≡ hidden_fields elf.now tight → result ≡ is_hidden_field elf.now tight address }
+    ensures { (tight : Bool) → map range_of_field fields.now.list.items ≡ hidden_fields elf.now tight →
+        result ≡ is_hidden_field elf.now tight address }
 {
     match file_offset(elf, address) {
         Some(offset) => fields.has(offset),

@@ -53,7 +53,8 @@ impl<'a> SymMachine<'a> {
     // Goes to a pc with a register written. Register 0 stays as it is.
     pub(crate) fn write_register(&mut self, rd: u8, value: Value, next: u64) -> SymStepped
         ensures code { self.new.code ≡ self.old.code }
-        ensures answer { (input : List ℕ) → Becomes (writes_register (state_of self.old input) next rd value) result self.old self.new input }
+        ensures answer { (input : List ℕ) →
+            Becomes (writes_register (state_of self.old input) next rd value) result self.old self.new input }
     {
         if rd != 0 {
             self.registers[rd as usize] = value;

@@ -1,5 +1,6 @@
 // A program's memory, with symbols and hidden bytes.
-ghost use Rattle.std.specs.Prelude.{◌≡◌, ◌<◌, ◌≤◌, ◌^◌, ◌+◌, ◌==◌, ◌&&◌, ℕ, List, true, false, None, Some, IfOk, IsOk, IsTrue, OnErr, IfSome, nat_le, nat_lt, if◌then◌else◌, option_map, length, map, replicate, not};
+ghost use Rattle.std.specs.Prelude.{◌≡◌, ◌<◌, ◌≤◌, ◌^◌, ◌+◌, ◌==◌, ◌&&◌, ℕ, List, true, false, None, Some, IfOk, IsOk, IsTrue};
+ghost use Rattle.std.specs.Prelude.{OnErr, IfSome, nat_le, nat_lt, if◌then◌else◌, option_map, length, map, replicate, not};
 ghost use Rattle.std.specs.List.{list_any};
 
 use crate::accesses::Stored;
@@ -29,7 +30,8 @@ impl<'a> SymMemory<'a> {
     ghost use Rattle.rv_memory.specs.Memory.{memory_of, writes, space_in, break_after, may_stand, HasRoom, Keeps};
     ghost use Rattle.sym_machine.specs.declared.value.MemoryByte.TheVariants.{Byte};
     ghost use Rattle.sym_machine.specs.internal.OtherBytes.{other_byte, has_group};
-    ghost use Rattle.sym_machine.specs.internal.Memory.{cell_at, is_number_at, is_open_at, symbol_in, cell_after, other_bytes, HasGroups};
+    ghost use Rattle.sym_machine.specs.internal.Memory.{cell_at, is_number_at, is_open_at, symbol_in, cell_after, other_bytes};
+    ghost use Rattle.sym_machine.specs.internal.Memory.{HasGroups};
     ghost use Rattle.sym_machine.specs.internal.Accesses.{stored_cells};
     ghost use Rattle.sym_machine.specs.Values.{numbers, is_hidden, are_symbol_bytes, symbol_bytes};
 
@@ -182,7 +184,8 @@ impl<'a> SymMemory<'a> {
 
     // Leaves numbers at `count` addresses: those that the pages have.
     fn clear(&mut self, address: u64, count: usize)
-        ensures cleared { (q : ℕ) → other_byte self.new.others q ≡ put (other_byte self.old.others) address (replicate count None) q }
+        ensures cleared { (q : ℕ) → other_byte self.new.others q
+            ≡ put (other_byte self.old.others) address (replicate count None) q }
         ensures bytes { self.new.bytes ≡ self.old.bytes }
     {
         if self.are_numbers(address, count) {
@@ -192,7 +195,8 @@ impl<'a> SymMemory<'a> {
     }
 
     fn clear_each(&mut self, address: u64, count: usize)
-        ensures cleared { (q : ℕ) → other_byte self.new.others q ≡ put (other_byte self.old.others) address (replicate count None) q }
+        ensures cleared { (q : ℕ) → other_byte self.new.others q
+            ≡ put (other_byte self.old.others) address (replicate count None) q }
         ensures bytes { self.new.bytes ≡ self.old.bytes }
     {
         let mut left = count;
@@ -206,7 +210,8 @@ impl<'a> SymMemory<'a> {
     pub fn store_number(&mut self, address: u64, count: u8, number: u64) -> Result<(), NoMemory>
         requires few { count ≤ 8 }
         requires writable { all_may (writes self.old.bytes) address count ≡ true }
-        ensures written { IsOk result → (q : ℕ) → cell_at self.new q ≡ put (cell_at self.old) address (map Byte (low_bytes count number)) q }
+        ensures written { IsOk result → (q : ℕ) → cell_at self.new q
+            ≡ put (cell_at self.old) address (map Byte (low_bytes count number)) q }
         ensures unwritten { OnErr result ((q : ℕ) → cell_at self.new q ≡ cell_at self.old q) }
         ensures space_kept { Keeps self.old.bytes self.new.bytes }
     {
@@ -219,7 +224,8 @@ impl<'a> SymMemory<'a> {
     pub fn store(&mut self, address: u64, count: u8, stored: Stored) -> Result<(), NoMemory>
         requires few { count ≤ 8 }
         requires writable { all_may (writes self.old.bytes) address count ≡ true }
-        ensures written { IsOk result → (q : ℕ) → cell_at self.new q ≡ put (cell_at self.old) address (stored_cells count stored) q }
+        ensures written { IsOk result → (q : ℕ) → cell_at self.new q
+            ≡ put (cell_at self.old) address (stored_cells count stored) q }
         ensures unwritten { OnErr result ((q : ℕ) → cell_at self.new q ≡ cell_at self.old q) }
         ensures space_kept { Keeps self.old.bytes self.new.bytes }
     {
@@ -231,7 +237,8 @@ impl<'a> SymMemory<'a> {
 
     // Bytes past the 256th, which no symbol has, find no place.
     fn store_bytes(&mut self, address: u64, count: u8, bytes: SymbolBytes) -> Result<(), NoMemory>
-        ensures written { IsOk result → (q : ℕ) → cell_at self.new q ≡ put (cell_at self.old) address (symbol_bytes bytes.symbol bytes.width bytes.first count) q }
+        ensures written { IsOk result → (q : ℕ) → cell_at self.new q
+            ≡ put (cell_at self.old) address (symbol_bytes bytes.symbol bytes.width bytes.first count) q }
         ensures unwritten { OnErr result ((q : ℕ) → cell_at self.new q ≡ cell_at self.old q) }
         ensures space_kept { Keeps self.old.bytes self.new.bytes }
     {
@@ -255,7 +262,8 @@ impl<'a> SymMemory<'a> {
     pub fn overwrite(&mut self, address: u64, bytes: &[u8])
         requires room { HasRoom self.old.bytes address (length bytes.now) }
         requires writable { all_may (writes self.old.bytes) address (length bytes.now) ≡ true }
-        ensures written { (q : ℕ) → cell_at self.new q ≡ put (cell_at self.old) address (map Byte bytes.now) q }
+        ensures written { (q : ℕ) → cell_at self.new q
+            ≡ put (cell_at self.old) address (map Byte bytes.now) q }
         ensures space_kept { Keeps self.old.bytes self.new.bytes }
     {
         self.bytes.overwrite(address, bytes);
@@ -270,7 +278,8 @@ impl<'a> SymMemory<'a> {
         bytes: SymbolBytes,
     ) -> Result<(), NoMemory>
         requires { bytes.first + count ≤ 256 }
-        ensures written { IsOk result → (q : ℕ) → cell_at self.new q ≡ put (cell_at self.old) address (symbol_bytes bytes.symbol bytes.width bytes.first count) q }
+        ensures written { IsOk result → (q : ℕ) → cell_at self.new q
+            ≡ put (cell_at self.old) address (symbol_bytes bytes.symbol bytes.width bytes.first count) q }
         ensures unwritten { OnErr result ((q : ℕ) → cell_at self.new q ≡ cell_at self.old q) }
         ensures space_kept { self.new.bytes ≡ self.old.bytes }
     {
@@ -294,7 +303,8 @@ impl<'a> SymMemory<'a> {
     fn put_symbol(&mut self, address: u64, count: u8, bytes: SymbolBytes)
         requires few { bytes.first + count ≤ 256 }
         requires room { HasGroups self.old.others address count }
-        ensures written { (q : ℕ) → other_byte self.new.others q ≡ put (other_byte self.old.others) address (other_bytes bytes.symbol bytes.width bytes.first count) q }
+        ensures written { (q : ℕ) → other_byte self.new.others q
+            ≡ put (other_byte self.old.others) address (other_bytes bytes.symbol bytes.width bytes.first count) q }
         ensures space_kept { self.new.bytes ≡ self.old.bytes }
     {
         let mut left = count;

@@ -1,5 +1,6 @@
 // The bytes of memory that are no numbers.
-ghost use Rattle.std.specs.Prelude.{◌≡◌, ◌<◌, ◌≤◌, ◌+◌, ◌*◌, ◌-◌, ◌/◌, ◌%◌, ◌^◌, ◌==◌, ◌&&◌, ℕ, None, Some, IfOk, IsOk, IsSome, OnErr, length, slice_index, slice_index_or, nat_le, nat_lt, if◌then◌else◌, true};
+ghost use Rattle.std.specs.Prelude.{◌≡◌, ◌<◌, ◌≤◌, ◌+◌, ◌*◌, ◌-◌, ◌/◌, ◌%◌, ◌^◌, ◌==◌, ◌&&◌, ℕ, None, Some, IfOk, IsOk, IsSome};
+ghost use Rattle.std.specs.Prelude.{OnErr, length, slice_index, slice_index_or, nat_le, nat_lt, if◌then◌else◌, true};
 ghost use Rattle.rv_memory.specs.PageIndex.{place_of};
 
 use crate::value::Symbol;

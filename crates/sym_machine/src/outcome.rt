@@ -53,3 +53,24 @@ pub struct SymRan {
     /// The steps that were done. The one that ends the program is counted; one that sticks isn't.
     pub steps: u64,
 }
+
+impl SymRan {
+    ghost use Rattle.std.specs.Prelude.{◌≡◌, ◌-◌, ◌<◌, ◌^◌};
+    ghost use Rattle.run_core.specs.Runs.{steps_done};
+    ghost use Rattle.sym_machine.specs.State.{answered};
+
+    /// A run that came to its end in the step after so many.
+    pub fn ended(end: SymStepped, steps: u64) -> SymRan
+        requires { steps < 2 ^ 64 - 1 }
+        ensures end { result.end ≡ end }
+        ensures steps { result.steps ≡ steps_done (answered end) steps }
+    {
+        match end {
+            SymStepped::Ended(_) => SymRan {
+                end,
+                steps: steps + 1,
+            },
+            _ => SymRan { end, steps },
+        }
+    }
+}

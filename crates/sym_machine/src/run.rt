@@ -15,8 +15,8 @@ impl<'a> SymMachine<'a> {
 
     /// Does at most `limit` steps. Once a read found the input at its end, it is at its end for the whole run.
     pub fn run<I: Source, O: Sink>(&mut self, limit: u64, input: &mut I, out: &mut O) -> SymRan
-        ensures answer { RunsSomeInput state_of (SymSteps (funcs_of self.old)) (answered result.end) limit result.steps self.old self.new
-            (record { input = I.seen input.old; output = O.seen out.old })
+        ensures answer { RunsSomeInput state_of (SymSteps (funcs_of self.old)) (answered result.end) limit result.steps
+            self.old self.new (record { input = I.seen input.old; output = O.seen out.old })
             (record { input = I.seen input.new; output = O.seen out.new }) }
         ensures reads { (I.seen input.old).faults ≤ (I.seen input.new).faults }
         ensures writes { (O.seen out.old).faults ≤ (O.seen out.new).faults }
@@ -28,30 +28,7 @@ impl<'a> SymMachine<'a> {
         while steps < limit {
             match self.step_on(&mut known, &mut input_end, input, out) {
                 SymStepped::Going => steps += 1,
-                SymStepped::Ended(status) => {
-                    return SymRan {
-                        end: SymStepped::Ended(status),
-                        steps: steps + 1,
-                    };
-                }
-                SymStepped::Stuck(pc, why) => {
-                    return SymRan {
-                        end: SymStepped::Stuck(pc, why),
-                        steps,
-                    };
-                }
-                SymStepped::ReadFault => return SymRan {
-                    end: SymStepped::ReadFault,
-                    steps,
-                },
-                SymStepped::WriteFault => return SymRan {
-                    end: SymStepped::WriteFault,
-                    steps,
-                },
-                SymStepped::Memory => return SymRan {
-                    end: SymStepped::Memory,
-                    steps,
-                },
+                end => return SymRan::ended(end, steps),
             }
         }
         SymRan {

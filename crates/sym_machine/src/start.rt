@@ -38,7 +38,8 @@ impl<'a> SymMachine<'a> {
         requires limits { IsWithinLimits (map string_bytes words.now) }
         requires laid_out { AreLaidOut funcs.now }
         requires cells { All (λ cell. cell.addr + cell.width ≤ 2 ^ 64) cells.now }
-        ensures start { IfOk result (λ m. (input : List ℕ) → state_of m input ≡ sym_start elf.now cells.now tight (map string_bytes words.now) input) }
+        ensures start { IfOk result (λ m. (input : List ℕ) →
+            state_of m input ≡ sym_start elf.now cells.now tight (map string_bytes words.now) input) }
         ensures funcs { IfOk result (λ m. funcs_of m ≡ funcs.now) }
     {
         let bytes = stack_bytes(alloc, elf, words)?;

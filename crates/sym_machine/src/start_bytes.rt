@@ -1,10 +1,12 @@
 // The bytes at the start that are no numbers: of code cells, of hidden fields and of the entry point.
-ghost use Rattle.std.specs.Prelude.{◌≡◌, ◌≤◌, ◌<◌, ◌+◌, ◌-◌, ◌*◌, ◌^◌, ◌==◌, ◌&&◌, ◌||◌, ℕ, List, Bool, All, Some, None, IfOk, OnOk, map, length, if◌then◌else◌, nat_le, nat_lt, min, Contains, true};
+ghost use Rattle.std.specs.Prelude.{◌≡◌, ◌≤◌, ◌<◌, ◌+◌, ◌-◌, ◌*◌, ◌^◌, ◌==◌, ◌&&◌, ◌||◌, ℕ, List, Bool, All, Some, None, IfOk};
+ghost use Rattle.std.specs.Prelude.{OnOk, map, length, if◌then◌else◌, nat_le, nat_lt, min, Contains, true};
 ghost use Rattle.std.specs.List.{list_any};
 ghost use Rattle.std.specs.Option.{option_or};
 ghost use Rattle.elf_image.specs.memory.LoadedBytes.{is_in_range};
 ghost use Rattle.elf_image.specs.memory.Start.{stack_pointer};
-ghost use Rattle.sym_machine.specs.HiddenFields.{hidden_fields, is_hidden_field, is_hidden_entry, at_phdr, at_phnum, at_entry, auxiliary_value};
+ghost use Rattle.sym_machine.specs.HiddenFields.{hidden_fields, is_hidden_field, is_hidden_entry, at_phdr, at_phnum, at_entry};
+ghost use Rattle.sym_machine.specs.HiddenFields.{auxiliary_value};
 ghost use Rattle.sym_machine.specs.SymStart.{symbol_of, code_cell_byte, entry_byte, hidden_byte};
 ghost use Rattle.sym_machine.specs.internal.Fields.{range_of_field, AreLow};
 
@@ -44,7 +46,8 @@ impl OtherBytes {
     // Puts all bytes of a symbol, which is kept in `width` bytes, from an address on.
     fn add_symbol(&mut self, start: u64, width: u8, symbol: Symbol) -> Result<(), NoMemory>
         requires { start + width ≤ 2 ^ 64 }
-        ensures { OnOk result ((q : ℕ) → special self.new q ≡ symbol_over symbol width (record { start = start; size = width }) self.old q) }
+        ensures { OnOk result ((q : ℕ) → special self.new q
+            ≡ symbol_over symbol width (record { start = start; size = width }) self.old q) }
     {
         for index in 0..width {
             let byte = OtherByte::Symbol {
@@ -88,7 +91,8 @@ impl OtherBytes {
         requires low { AreLow elf.now.segments.items }
         requires one { Contains elf.now.segments.items p.now }
         ensures { OnOk result ((tight : Bool) → map range_of_field fields.now.list.items ≡ hidden_fields elf.now tight →
-            (q : ℕ) → special self.new q ≡ (if covers q p.now && is_hidden_field elf.now tight q then Some Hidden else special self.old q)) }
+            (q : ℕ) → special self.new q
+            ≡ (if covers q p.now && is_hidden_field elf.now tight q then Some Hidden else special self.old q)) }
     {
         if p.kind != PT_LOAD {
             return Ok(());
@@ -102,7 +106,8 @@ impl OtherBytes {
     // Hides the byte at an address, if it is one of a hidden field.
     fn hide_at(&mut self, elf: &Elf, fields: &Fields, address: u64) -> Result<(), NoMemory>
         ensures { OnOk result ((tight : Bool) → map range_of_field fields.now.list.items ≡ hidden_fields elf.now tight →
-            (q : ℕ) → special self.new q ≡ (if q == address && is_hidden_field elf.now tight q then Some Hidden else special self.old q)) }
+            (q : ℕ) → special self.new q
+            ≡ (if q == address && is_hidden_field elf.now tight q then Some Hidden else special self.old q)) }
     {
         if is_hidden_field(elf, fields, address) {
             self.add_byte(address, OtherByte::Hidden)?;
@@ -112,7 +117,8 @@ impl OtherBytes {
 
     fn hide_fields(&mut self, alloc: Global, elf: &Elf, tight: bool) -> Result<(), NoMemory>
         requires low { AreLow elf.now.segments.items }
-        ensures { OnOk result ((q : ℕ) → special self.new q ≡ (if is_hidden_field elf.now tight q then Some Hidden else special self.old q)) }
+        ensures { OnOk result ((q : ℕ) → special self.new q
+            ≡ (if is_hidden_field elf.now tight q then Some Hidden else special self.old q)) }
     {
         let list = hidden_fields(alloc, elf, tight)?;
         let fields = Fields::new(alloc, list, elf.file.len())?;
@@ -128,7 +134,8 @@ impl OtherBytes {
         requires low { AreLow elf.now.segments.items }
         requires all { segments.now ≡ elf.now.segments.items }
         ensures { OnOk result ((tight : Bool) → map range_of_field fields.now.list.items ≡ hidden_fields elf.now tight →
-            (q : ℕ) → special self.new q ≡ (if list_any (covers q) segments.now && is_hidden_field elf.now tight q then Some Hidden else special self.old q)) }
+            (q : ℕ) → special self.new q
+            ≡ (if list_any (covers q) segments.now && is_hidden_field elf.now tight q then Some Hidden else special self.old q)) }
     {
         for index in 0..segments.len() {
             self.hide_in_segment(elf, fields, &segments[index])?;
@@ -177,7 +184,9 @@ impl OtherBytes {
         requires cells { All (λ cell. cell.addr + cell.width ≤ 2 ^ 64) cells.now }
         requires stack { pointer + 8 * (count + 20) ≤ 2 ^ 64 }
         ensures { IfOk result (λ others. (words : List (List ℕ)) → pointer ≡ stack_pointer words → count ≡ length words →
-            (q : ℕ) → special others q ≡ option_or (entry_byte elf.now words q) (option_or (hidden_byte elf.now tight words q) (code_cell_byte cells.now q))) }
+            (q : ℕ) → special others q
+            ≡ option_or (entry_byte elf.now words q)
+            (option_or (hidden_byte elf.now tight words q) (code_cell_byte cells.now q))) }
     {
         let mut others = OtherBytes::new(alloc)?;
         others.add_cells(cells)?;
@@ -192,7 +201,8 @@ impl OtherBytes {
 fn auxiliary_value(pointer: u64, count: usize, n: u64) -> u64
     requires low { pointer + 8 * (count + 20) ≤ 2 ^ 64 }
     requires few { n ≤ 4 }
-    ensures is { (words : List (List ℕ)) → pointer ≡ stack_pointer words → count ≡ length words → (auxiliary_value words n) ≡ record { start = result; size = 8 } }
+    ensures is { (words : List (List ℕ)) → pointer ≡ stack_pointer words → count ≡ length words →
+        (auxiliary_value words n) ≡ record { start = result; size = 8 } }
     ensures low { result + 8 ≤ 2 ^ 64 }
 {
     pointer + 8 * (count as u64 + 5 + 2 * n)

@@ -43,7 +43,8 @@ impl<'a> SymMachine<'a> {
     ) -> SymStepped
         requires { AreKnown (funcs_of self.old) known.old }
         ensures known { AreKnown (funcs_of self.new) known.new }
-        ensures answer { StepAnswers (SymSteps (funcs_of self.old)) result self.old self.new input_end.old.reached input_end.new.reached
+        ensures answer { StepAnswers (SymSteps (funcs_of self.old)) result self.old self.new
+            input_end.old.reached input_end.new.reached
             (record { input = I.seen input.old; output = O.seen out.old })
             (record { input = I.seen input.new; output = O.seen out.new }) }
         ensures reads { (I.seen input.old).faults ≤ (I.seen input.new).faults }
@@ -65,7 +66,8 @@ impl<'a> SymMachine<'a> {
     fn execute(&mut self, part: Role, action: Action, next: u64) -> SymStepped
         requires no_call { action ≢ Action.SystemCall }
         requires action { (i : Inst) × (action ≡ action_of i) }
-        ensures answer { (input : List ℕ) → Becomes (effect (funcs_of self.old) part action next (state_of self.old input)) result self.old self.new input }
+        ensures answer { (input : List ℕ) →
+            Becomes (effect (funcs_of self.old) part action next (state_of self.old input)) result self.old self.new input }
         ensures code { self.new.code ≡ self.old.code }
     {
         match action {

@@ -16,7 +16,8 @@ is_above lowest a = option_map_or (λ other. nat_lt other a) lowest false
 
 -- of each of the first bytes of a file, whether one of these fields has it
 abbrev pub AreMarked : List Bool → List Field → Type 0
-AreMarked marks fields = (o : ℕ) → o < length marks → slice_index_or marks o false ≡ list_any (λ field. is_in_range o (range_of_field field)) fields
+AreMarked marks fields = (o : ℕ) → o < length marks →
+    slice_index_or marks o false ≡ list_any (λ field. is_in_range o (range_of_field field)) fields
 
 -- each segment with memory ends by 2 ^ 63
 pub record AreLow (segments : List Segment) : Type 0 where

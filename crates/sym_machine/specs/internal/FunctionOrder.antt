@@ -8,9 +8,14 @@ use Rattle.rv_code.specs.declared.placed.Func.{Func}
 pub record IsSearchable (funcs : List Func) : Type 0 where
   pub ordered : (f : ℕ) (d : Func) → f < length funcs → (slice_index_or funcs f d).start < (slice_index_or funcs f d).end
   pub apart : (f g : ℕ) (d : Func) → f < g → g < length funcs → (slice_index_or funcs f d).end ≤ (slice_index_or funcs g d).start
-  pub from : (f i : ℕ) (d : Func) (e : Placed) → f < length funcs → i < length (slice_index_or funcs f d).insts.items → (slice_index_or funcs f d).start ≤ (slice_index_or (slice_index_or funcs f d).insts.items i e).addr
-  pub to : (f i : ℕ) (d : Func) (e : Placed) → f < length funcs → i < length (slice_index_or funcs f d).insts.items → (slice_index_or (slice_index_or funcs f d).insts.items i e).addr < (slice_index_or funcs f d).end
-  pub rising : (f i j : ℕ) (d : Func) (e : Placed) → f < length funcs → i < j → j < length (slice_index_or funcs f d).insts.items → (slice_index_or (slice_index_or funcs f d).insts.items i e).addr < (slice_index_or (slice_index_or funcs f d).insts.items j e).addr
+  pub from : (f i : ℕ) (d : Func) (e : Placed) → f < length funcs → i < length (slice_index_or funcs f d).insts.items
+      → (slice_index_or funcs f d).start ≤ (slice_index_or (slice_index_or funcs f d).insts.items i e).addr
+  pub to : (f i : ℕ) (d : Func) (e : Placed) → f < length funcs → i < length (slice_index_or funcs f d).insts.items
+      → (slice_index_or (slice_index_or funcs f d).insts.items i e).addr < (slice_index_or funcs f d).end
+  pub rising : (f i j : ℕ) (d : Func) (e : Placed) → f < length funcs → i < j
+      → j < length (slice_index_or funcs f d).insts.items
+      → (slice_index_or (slice_index_or funcs f d).insts.items i e).addr
+      < (slice_index_or (slice_index_or funcs f d).insts.items j e).addr
 
 -- the i-th instruction of the f-th function starts at an address
 pub record IsInstAt (funcs : List Func) (f i a : ℕ) : Type 0 where

@@ -1,5 +1,6 @@
 -- What stands in a memory of numbers and other bytes.
-use Rattle.std.specs.Prelude.{◌≡◌, ℕ, ◌<◌, ◌&&◌, ◌==◌, nat_lt, nat_le, not, if◌then◌else◌, Bool, true, false, List, [], ◌∷◌, Option, Some, None, is_none, zero, suc}
+use Rattle.std.specs.Prelude.{◌≡◌, ℕ, ◌<◌, ◌&&◌, ◌==◌, nat_lt, nat_le, not, if◌then◌else◌, Bool, true, false, List, [], ◌∷◌}
+use Rattle.std.specs.Prelude.{Option, Some, None, is_none, zero, suc}
 use Rattle.std.specs.Option.{option_map_or}
 use Rattle.sym_machine.specs.declared.value.Symbol.{Symbol}
 use Rattle.sym_machine.specs.declared.other_bytes.OtherByte.{OtherByte}
@@ -38,7 +39,8 @@ is_open_at m a = not (is_hidden (cell_at m a))
 
 -- the symbol of which cells are successive bytes, all kept in one width
 abbrev pub symbol_in : List MemoryByte → Option SymbolBytes
-symbol_in (SymbolByte y w i ∷ cs) = if are_symbol_bytes y w (suc i) cs then Some (record { symbol = y; width = w; first = i }) else None
+symbol_in (SymbolByte y w i ∷ cs) =
+    if are_symbol_bytes y w (suc i) cs then Some (record { symbol = y; width = w; first = i }) else None
 symbol_in _ = None
 
 abbrev pub symbol_byte : MemoryByte → Option SymbolBytes

@@ -1,5 +1,6 @@
 -- The byte that stands at an address, where it is no number.
-use Rattle.std.specs.Prelude.{ℕ, ◌+◌, ◌*◌, ◌/◌, ◌%◌, ◌&&◌, nat_le, nat_lt, if◌then◌else◌, Bool, List, Option, None, is_some, slice_index_or, option_and_then}
+use Rattle.std.specs.Prelude.{ℕ, ◌+◌, ◌*◌, ◌/◌, ◌%◌, ◌&&◌, nat_le, nat_lt, if◌then◌else◌, Bool, List}
+use Rattle.std.specs.Prelude.{Option, None, is_some, slice_index_or, option_and_then}
 use Rattle.rv_memory.specs.PageIndex.{place_of}
 use Rattle.rv_memory.specs.declared.page_index.PageIndex.{PageIndex}
 use Rattle.sym_machine.specs.declared.other_bytes.OtherByte.{OtherByte}

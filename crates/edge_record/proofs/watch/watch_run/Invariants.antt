@@ -11,8 +11,10 @@ invariant-loop-steps g l = record {
   known : AreKnown l.known;
   reads : (g.I.Source.seen l.initial.input).faults ≤ (g.I.Source.seen l.input).faults;
   writes : (g.O.Sink.seen l.initial.out).faults ≤ (g.O.Sink.seen l.out).faults;
-  watch : Watch (watches l.watched) l.initial.machine (record { input = g.I.Source.seen l.initial.input; output = g.O.Sink.seen l.initial.out })
-      l.machine l.input_end.reached l.steps (record { input = g.I.Source.seen l.input; output = g.O.Sink.seen l.out }) (said_of l.counts);
+  watch : Watch (watches l.watched) l.initial.machine
+      (record { input = g.I.Source.seen l.initial.input; output = g.O.Sink.seen l.initial.out })
+      l.machine l.input_end.reached l.steps
+      (record { input = g.I.Source.seen l.input; output = g.O.Sink.seen l.out }) (said_of l.counts);
 }
 
 abbrev pub decreases-loop-steps : goal.decreases-loop-steps

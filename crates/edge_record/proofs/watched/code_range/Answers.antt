@@ -8,4 +8,5 @@ overflow_sub-result c =
     range_order c.args.funcs.now c.requires c.index-funcs-0.result c.index-funcs-funcs.result some
 
 pub returns : goal.returns
-returns c = λ k f within i p inside. in_range c.args.funcs.now c.requires c.index-funcs-0.result c.index-funcs-funcs.result k f i p within inside
+returns c = λ k f within i p inside.
+    in_range c.args.funcs.now c.requires c.index-funcs-0.result c.index-funcs-funcs.result k f i p within inside

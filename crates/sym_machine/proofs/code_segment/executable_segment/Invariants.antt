@@ -6,4 +6,5 @@ use Rattle.elf_image.specs.faults.SegmentLayout.{is_code_segment}
 use Rattle.sym_machine.proofs.code_segment.executable_segment.Given as goal
 
 abbrev pub invariant-loop-i : goal.invariant-loop-i
-invariant-loop-i l = find (λ e. is_code_segment e.1 && is_lowest l.segments e.1) (enumerate_from l.i (drop l.i l.segments)) ≡ executable_segment l.segments
+invariant-loop-i l = find (λ e. is_code_segment e.1 && is_lowest l.segments e.1) (enumerate_from l.i (drop l.i l.segments))
+    ≡ executable_segment l.segments

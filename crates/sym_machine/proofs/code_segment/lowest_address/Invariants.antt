@@ -7,4 +7,5 @@ use Rattle.sym_machine.proofs.code_segment.lowest_address.Given as goal
 
 abbrev pub invariant-loop-q : goal.invariant-loop-q
 invariant-loop-q l = (a : ℕ) →
-    list_any (λ q. is_code_segment q && nat_lt q.vaddr a) l.segments ≡ (is_above l.lowest a || list_any (λ q. is_code_segment q && nat_lt q.vaddr a) (drop l.q-index l.segments))
+    list_any (λ q. is_code_segment q && nat_lt q.vaddr a) l.segments
+    ≡ (is_above l.lowest a || list_any (λ q. is_code_segment q && nat_lt q.vaddr a) (drop l.q-index l.segments))

@@ -9,5 +9,6 @@ invariant-loop-at l = record {
   size : length l.marks ≡ length l.initial.marks;
   from : l.field.start ≤ l.at;
   marked : (o : ℕ) → o < length l.initial.marks →
-      slice_index_or l.marks o false ≡ (slice_index_or l.initial.marks o false || (is_in_range o (range_of_field l.field) && nat_lt o l.at));
+      slice_index_or l.marks o false
+      ≡ (slice_index_or l.initial.marks o false || (is_in_range o (range_of_field l.field) && nat_lt o l.at));
 }

@@ -7,4 +7,5 @@ use Rattle.sym_machine.proofs.fields.marked.Given as goal
 
 abbrev pub invariant-loop-field : goal.invariant-loop-field
 invariant-loop-field l = (o : ℕ) → o < length l.marks.items →
-    (slice_index_or l.marks.items o false || list_any (λ field. is_in_range o (range_of_field field)) (drop l.field-index l.fields)) ≡ list_any (λ field. is_in_range o (range_of_field field)) l.fields
+    (slice_index_or l.marks.items o false || list_any (λ field. is_in_range o (range_of_field field))
+    (drop l.field-index l.fields)) ≡ list_any (λ field. is_in_range o (range_of_field field)) l.fields

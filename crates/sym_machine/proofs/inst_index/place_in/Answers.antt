@@ -12,9 +12,11 @@ pub insts_up_to-below-requires : goal.insts_up_to-below-requires
 insts_up_to-below-requires c =
     let k = c.starts_up_to-above.result - 1 in
     let within : k < length c.args.funcs.now = omega (arith, c.starts_up_to-above.ensures.bound) in
-    let insts : c.deref-insts.result.now ≡ insts_at c.args.funcs.now k c.index-funcs-above.result = c.deref-insts.ensures.value ∙ ap (λ (f : Func). f.insts.items) c.index-funcs-above.is in
+    let insts : c.deref-insts.result.now ≡ insts_at c.args.funcs.now k c.index-funcs-above.result =
+    c.deref-insts.ensures.value ∙ ap (λ (f : Func). f.insts.items) c.index-funcs-above.is in
     addrs_rise c.deref-insts.result.now
-    (subst (λ insts. (i j : ℕ) (e : Placed) → i < j → j < length insts → (slice_index_or insts i e).addr < (slice_index_or insts j e).addr) (sym insts)
+    (subst (λ insts. (i j : ℕ) (e : Placed) → i < j → j < length insts →
+    (slice_index_or insts i e).addr < (slice_index_or insts j e).addr) (sym insts)
     (λ i j e less inside. c.requires.rising k i j c.index-funcs-above.result e within less inside))
 
 pub returns-then-above-eq0-clause-none : goal.returns-then-above-eq0-clause-none
@@ -32,7 +34,8 @@ returns-then-func-address-clause-none c =
     (λ j d e some inside at.
     let high = c.requires.to k j d e within inside in
     let past = c.if-func-address.true in
-    let here : c.index-funcs-above.result.end ≡ (slice_index_or c.args.funcs.now k d).end = ap (λ (x : Func). x.end) (c.index-funcs-above.is ∙ get_or_default c.args.funcs.now k c.index-funcs-above.result d within) in
+    let here : c.index-funcs-above.result.end ≡ (slice_index_or c.args.funcs.now k d).end =
+    ap (λ (x : Func). x.end) (c.index-funcs-above.is ∙ get_or_default c.args.funcs.now k c.index-funcs-above.result d within) in
     omega arith)
 
 pub returns-then-below-eq0-clause-none : goal.returns-then-below-eq0-clause-none
@@ -43,8 +46,11 @@ returns-then-below-eq0-clause-none c =
     let within : k < length c.args.funcs.now = omega (arith, f.bound) in
     placed_at-searched c.args.funcs.now c.requires c.args.address c.starts_up_to-above.result f.bound f.below f.above
     (λ j d e some inside at.
-    let insts : c.deref-insts.result.now ≡ insts_at c.args.funcs.now k d = c.deref-insts.ensures.value ∙ ap (λ (x : Func). x.insts.items) (c.index-funcs-above.is ∙ get_or_default c.args.funcs.now k c.index-funcs-above.result d within) in
-    none_in (insts_at c.args.funcs.now k d) c.args.address c.insts_up_to-below.result (λ i j e less inside. c.requires.rising k i j d e within less inside)
+    let insts : c.deref-insts.result.now ≡ insts_at c.args.funcs.now k d =
+    c.deref-insts.ensures.value ∙ ap (λ (x : Func). x.insts.items)
+    (c.index-funcs-above.is ∙ get_or_default c.args.funcs.now k c.index-funcs-above.result d within) in
+    none_in (insts_at c.args.funcs.now k d) c.args.address c.insts_up_to-below.result
+    (λ i j e less inside. c.requires.rising k i j d e within less inside)
     (rw insts at g.bound) (rw insts at g.below) (rw insts at g.above)
     (λ e some at. absurd (let none = c.if-below-eq0.true in omega arith)) j e inside at)
 
@@ -56,7 +62,11 @@ returns-then-address_at-address-clause-none c =
     let within : k < length c.args.funcs.now = omega (arith, f.bound) in
     placed_at-searched c.args.funcs.now c.requires c.args.address c.starts_up_to-above.result f.bound f.below f.above
     (λ j d e some inside at.
-    let insts : c.deref-insts.result.now ≡ insts_at c.args.funcs.now k d = c.deref-insts.ensures.value ∙ ap (λ (x : Func). x.insts.items) (c.index-funcs-above.is ∙ get_or_default c.args.funcs.now k c.index-funcs-above.result d within) in
-    none_in (insts_at c.args.funcs.now k d) c.args.address c.insts_up_to-below.result (λ i j e less inside. c.requires.rising k i j d e within less inside)
+    let insts : c.deref-insts.result.now ≡ insts_at c.args.funcs.now k d =
+    c.deref-insts.ensures.value ∙ ap (λ (x : Func). x.insts.items)
+    (c.index-funcs-above.is ∙ get_or_default c.args.funcs.now k c.index-funcs-above.result d within) in
+    none_in (insts_at c.args.funcs.now k d) c.args.address c.insts_up_to-below.result
+    (λ i j e less inside. c.requires.rising k i j d e within less inside)
     (rw insts at g.bound) (rw insts at g.below) (rw insts at g.above)
-    (λ e some at. c.if-address_at-address.true (c.address_at.ensures e ∙ ap (λ (xs : List Placed). (slice_index_or xs (c.insts_up_to-below.result - 1) e).addr) insts ∙ at)) j e inside at)
+    (λ e some at. c.if-address_at-address.true (c.address_at.ensures e
+    ∙ ap (λ (xs : List Placed). (slice_index_or xs (c.insts_up_to-below.result - 1) e).addr) insts ∙ at)) j e inside at)

@@ -8,7 +8,8 @@ use Rattle.edge_record.proofs.edge_counts.EdgeCounts.add.Goals as goal
 
 pub overflow_add-count : goal.overflow_add-count
 overflow_add-count c =
-    let there : Some c.in-Some.count.now ≡ lookup (λ k. c.args.from == k.0 && c.args.to == k.1) c.args.self.now.counts.entries = search rules in
+    let there : Some c.in-Some.count.now ≡ lookup (λ k. c.args.from == k.0 && c.args.to == k.1) c.args.self.now.counts.entries =
+    search rules in
     let is = ap (λ (o : Option ℕ). unwrap_or o 0) there in
     let most = known-le c.args.from c.args.to c.args.self.now.counts.entries in
     omega (arith, most, is, c.requires)
@@ -17,7 +18,8 @@ pub returns-in-Some : goal.returns-in-Some
 returns-in-Some c = λ x y.
     let n = c.in-Some.count.now in
     let there : Some n ≡ lookup (λ k. c.args.from == k.0 && c.args.to == k.1) c.args.self.now.counts.entries = search rules in
-    let set : (c.get_mut.follows.lender (n + 1)).entries ≡ set_value (λ k. c.args.from == k.0 && c.args.to == k.1) c.args.self.now.counts.entries (n + 1) = search rules in
+    let set : (c.get_mut.follows.lender (n + 1)).entries
+    ≡ set_value (λ k. c.args.from == k.0 && c.args.to == k.1) c.args.self.now.counts.entries (n + 1) = search rules in
     ap (λ es. count_among x y (flat es)) (set ∙ set_raised c.args.from c.args.to n (n + 1) c.args.self.now.counts.entries there)
     ∙ count_inserted c.args.from c.args.to n c.args.self.now.counts.entries (ap (λ (o : Option ℕ). unwrap_or o 0) there) x y
 

@@ -18,4 +18,5 @@ returns-in-Some c = λ input.
     let half : c.in-Some.half ≡ halfword s s.pc = c.in-Some.ensures.first in
     let next : c.in-Some.next ≡ halfword s (plus s.pc 2) = c.in-Some.ensures.second in
     let low : halfword s s.pc % 4 ≡ 3 = ap (λ (h : ℕ). h % 4) (sym half) ∙ c.if-half-ne3.false in
-    ap (λ h. Some (h, Some c.in-Some.next)) half ∙ ap (λ k. Some (halfword s s.pc, Some k)) next ∙ sym (fetched_full s c.if-self-eq0.true c.in-Some.ensures.first_runs low c.in-Some.ensures.second_runs)
+    ap (λ h. Some (h, Some c.in-Some.next)) half ∙ ap (λ k. Some (halfword s s.pc, Some k)) next
+    ∙ sym (fetched_full s c.if-self-eq0.true c.in-Some.ensures.first_runs low c.in-Some.ensures.second_runs)

@@ -29,4 +29,5 @@ returns c = λ input.
     let next : c.halfword.result ≡ halfword s (plus s.pc 2) = c.halfword.ensures input in
     let low : halfword s s.pc % 4 ≡ 3 = ap (λ (h : ℕ). h % 4) (sym half) ∙ c.if-half-ne3.false in
     let more : all_may (may_execute s) (plus s.pc 2) 2 ≡ true = sym c.may_all-2.ensures ∙ c.if-not-may_all-2.false in
-    ap (λ h. Some (h, Some c.halfword.result)) half ∙ ap (λ k. Some (halfword s s.pc, Some k)) next ∙ sym (fetched_full s c.if-self-ne0.false may low more)
+    ap (λ h. Some (h, Some c.halfword.result)) half ∙ ap (λ k. Some (halfword s s.pc, Some k)) next
+    ∙ sym (fetched_full s c.if-self-ne0.false may low more)

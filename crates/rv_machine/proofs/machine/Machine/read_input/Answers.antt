@@ -20,7 +20,8 @@ returns-then-not-may_all-clause-answer g c = λ output.
       comes_to = λ input.
           let s = state_of c.args.self.now input in
           let size : c.buffer_size-count.result ≡ buffer_size s = c.buffer_size-count.ensures.is input in
-          let may : all_may (may_write s) (s.registers a1) (buffer_size s) ≡ false = rw (c.register-address.ensures, size) at (sym c.may_all.ensures ∙ c.if-not-may_all.true) in
+          let may : all_may (may_write s) (s.registers a1) (buffer_size s) ≡ false =
+          rw (c.register-address.ensures, size) at (sym c.may_all.ensures ∙ c.if-not-may_all.true) in
           sym (read_call-traps s c.args.next may);
       state_is = λ input. refl;
       left_is = refl;
@@ -35,23 +36,28 @@ returns-in-Bytes-clause-answer g c = λ output.
     let address : c.register-address.result ≡ (state_of old []).registers a1 = c.register-address.ensures in
     let size : c.buffer_size-count.result ≡ buffer_size (state_of old []) = c.buffer_size-count.ensures.is [] in
     let got : length moved ≡ c.in-Bytes.got = c.split_at.ensures.front_len in
-    let filled : length c.deref_mut.result.now ≡ c.buffer_size-count.result = ap length c.deref_mut.ensures.value ∙ c.in-Ok.ensures.size in
-    let few : length moved ≤ buffer_size (state_of old []) = omega (arith, got, c.in-Bytes.ensures.within, c.fill.auto.buffer, filled, size) in
+    let filled : length c.deref_mut.result.now ≡ c.buffer_size-count.result =
+    ap length c.deref_mut.ensures.value ∙ c.in-Ok.ensures.size in
+    let few : length moved ≤ buffer_size (state_of old []) =
+    omega (arith, got, c.in-Bytes.ensures.within, c.fill.auto.buffer, filled, size) in
     rw c.return_value.ensures.going (record {
       read = moved;
       goes_on = λ rest may.
           let s = state_of old (moved ++ rest) in
           let t = state_of new rest in
           let takes : take (buffer_size s) (moved ++ rest) ≡ moved =
-          takes_all (buffer_size s) moved rest c.fill.new.self.reached few (λ less. c.in-Bytes.ensures.end (omega (arith, less, got, filled, size))) may in
-          let may_write_all : all_may (may_write s) (s.registers a1) (buffer_size s) ≡ true = rw (address, size) at (sym c.may_all.ensures ∙ c.if-not-may_all.false) in
+          takes_all (buffer_size s) moved rest c.fill.new.self.reached few
+          (λ less. c.in-Bytes.ensures.end (omega (arith, less, got, filled, size))) may in
+          let may_write_all : all_may (may_write s) (s.registers a1) (buffer_size s) ≡ true =
+          rw (address, size) at (sym c.may_all.ensures ∙ c.if-not-may_all.false) in
           let state = c.return_value.ensures.state rest in
           let same : Same (after_read s c.args.next moved) t = record {
             pc_is = state.pc_is;
             registers_are = λ r. ap (λ n. set_register a0 n s.registers r) got ∙ state.registers_are r;
             memory_is = λ q.
                 ap (λ a. put s.memory a moved q) (sym address)
-                ∙ put_same s.memory (memory_of c.buffer.new.self) (λ x. sym (c.buffer.ensures.kept x)) c.register-address.result q moved
+                ∙ put_same s.memory (memory_of c.buffer.new.self)
+                (λ x. sym (c.buffer.ensures.kept x)) c.register-address.result q moved
                 ∙ sym (c.overwrite.ensures.written q)
                 ∙ state.memory_is q;
             space_is =
@@ -63,12 +69,15 @@ returns-in-Bytes-clause-answer g c = λ output.
           } in
           record {
             event = Some (read_event s moved);
-            comes_to = ap (λ x. Going x (Some (read_event s moved))) (sym (same_state (after_read s c.args.next moved) t same)) ∙ sym (read_call-reads s c.args.next moved may_write_all takes);
+            comes_to = ap (λ x. Going x (Some (read_event s moved))) (sym (same_state (after_read s c.args.next moved) t same))
+                ∙ sym (read_call-reads s c.args.next moved may_write_all takes);
             taken_is = read_writes_nothing s moved output.taken;
           };
       read_is =
           c.in-Bytes.ensures.moved ∙ ap (λ bytes. prepend_known bytes (g.I.Source.seen c.fill.new.input).left)
-          (sym (c.split_at.ensures.front ∙ ap (take c.in-Bytes.got) (c.deref.ensures.value ∙ written_over c.fill.new.buffer (drop (length c.fill.new.buffer) c.in-Ok.buffer.items) c.in-Ok.buffer.len (sym (c.fill.auto.buffer ∙ c.deref_mut.ensures.len)))));
+          (sym (c.split_at.ensures.front ∙ ap (take c.in-Bytes.got)
+          (c.deref.ensures.value ∙ written_over c.fill.new.buffer (drop (length c.fill.new.buffer) c.in-Ok.buffer.items)
+          c.in-Ok.buffer.len (sym (c.fill.auto.buffer ∙ c.deref_mut.ensures.len)))));
       end_kept = λ e. (c.in-Bytes.ensures.kept e, none_read moved c.in-Bytes.got got (c.in-Bytes.ensures.none_after_end e));
       end_is = c.in-Bytes.ensures.rightly;
     })
@@ -79,8 +88,10 @@ returns-clause-answer g c = λ output. record {
   asks = λ input.
       let s = state_of c.args.self.now input in
       let size : c.buffer_size-count.result ≡ buffer_size s = c.buffer_size-count.ensures.is input in
-      let may : all_may (may_write s) (s.registers a1) (buffer_size s) ≡ true = rw (c.register-address.ensures, size) at (sym c.may_all.ensures ∙ c.if-not-may_all.false) in
-      let filled : length c.deref_mut.result.now ≡ c.buffer_size-count.result = ap length c.deref_mut.ensures.value ∙ c.in-Ok.ensures.size in
+      let may : all_may (may_write s) (s.registers a1) (buffer_size s) ≡ true =
+      rw (c.register-address.ensures, size) at (sym c.may_all.ensures ∙ c.if-not-may_all.false) in
+      let filled : length c.deref_mut.result.now ≡ c.buffer_size-count.result =
+      ap length c.deref_mut.ensures.value ∙ c.in-Ok.ensures.size in
       let some : 0 < buffer_size s = omega (arith, c.in-Failed.ensures.asked refl, filled, size) in
       record {
         next = after_read s c.args.next (take (buffer_size s) input);
@@ -97,10 +108,14 @@ returns-clause-answer g c = λ output. record {
 
 pub overwrite-requires-clause-writable : goal.overwrite-requires-clause-writable
 overwrite-requires-clause-writable g c =
-    let filled : length c.deref_mut.result.now ≡ c.buffer_size-count.result = ap length c.deref_mut.ensures.value ∙ c.in-Ok.ensures.size in
-    let size : length c.split_at.result.0.now ≤ c.buffer_size-count.result = omega (arith, c.split_at.ensures.front_len, c.in-Bytes.ensures.within, c.fill.auto.buffer, filled) in
-    all_may_front (writes c.buffer.new.self) c.register-address.result (length c.split_at.result.0.now) c.buffer_size-count.result size
-    (writable-keeps c.args.self.now.memory c.buffer.new.self c.buffer.ensures.space_kept c.register-address.result c.buffer_size-count.result (sym c.may_all.ensures ∙ c.if-not-may_all.false))
+    let filled : length c.deref_mut.result.now ≡ c.buffer_size-count.result =
+    ap length c.deref_mut.ensures.value ∙ c.in-Ok.ensures.size in
+    let size : length c.split_at.result.0.now ≤ c.buffer_size-count.result =
+    omega (arith, c.split_at.ensures.front_len, c.in-Bytes.ensures.within, c.fill.auto.buffer, filled) in
+    all_may_front (writes c.buffer.new.self) c.register-address.result
+    (length c.split_at.result.0.now) c.buffer_size-count.result size
+    (writable-keeps c.args.self.now.memory c.buffer.new.self c.buffer.ensures.space_kept c.register-address.result
+    c.buffer_size-count.result (sym c.may_all.ensures ∙ c.if-not-may_all.false))
 
 pub returns-in_default-clause-answer : goal.returns-in_default-clause-answer
 returns-in_default-clause-answer g c = λ output. record {

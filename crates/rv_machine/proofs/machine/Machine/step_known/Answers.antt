@@ -20,25 +20,30 @@ returns-in_default-find-clause-answer g c = rw c.trap-in_default-find.ensures (r
 
 pub execute-requires-clause-registers : goal.execute-requires-clause-registers
 execute-requires-clause-registers g c =
-    subst HasRegisters (sym c.in-Some-find.ensures.found.action_is) (has_registers c.in-Some.half c.in-Some.next c.in-Some-find.ensures.found.inst c.in-Some-find.length c.in-Some-find.ensures.found.decodes)
+    subst HasRegisters (sym c.in-Some-find.ensures.found.action_is) (has_registers c.in-Some.half c.in-Some.next
+    c.in-Some-find.ensures.found.inst c.in-Some-find.length c.in-Some-find.ensures.found.decodes)
 
 pub returns-then-eq-clause-answer : goal.returns-then-eq-clause-answer
 returns-then-eq-clause-answer g c =
     let next = plus c.args.self.now.pc c.in-Some-find.length in
-    let is : action_of c.in-Some-find.ensures.found.inst ≡ SystemCall = sym c.in-Some-find.ensures.found.action_is ∙ search rules in
+    let is : action_of c.in-Some-find.ensures.found.inst ≡ SystemCall =
+    sym c.in-Some-find.ensures.found.action_is ∙ search rules in
     answers_by state_of (λ s o. o ≡ calls s next (call_of (s.registers a7))) Steps c.args.self.now c.system_call.new.self
     (λ input o same.
-    does c.in-Some.half c.in-Some.next c.in-Some-find.ensures.found.inst c.in-Some-find.length (sym (c.in-Some.ensures input)) c.in-Some-find.ensures.found.decodes
+    does c.in-Some.half c.in-Some.next c.in-Some-find.ensures.found.inst c.in-Some-find.length
+    (sym (c.in-Some.ensures input)) c.in-Some-find.ensures.found.decodes
     (same ∙ ap (λ a. effect a next (state_of c.args.self.now input)) (sym is)))
     _ _ _ _ (answered c.system_call.result) c.system_call.ensures.answer
 
 pub returns-else-eq-clause-answer : goal.returns-else-eq-clause-answer
 returns-else-eq-clause-answer g c =
     let next = plus c.args.self.now.pc c.in-Some-find.length in
-    quiet_answers state_of Steps c.args.self.now c.execute.new.self (λ s. effect c.in-Some-find.action next s) (answered c.execute.result) c.args.input_end.now.reached
+    quiet_answers state_of Steps c.args.self.now c.execute.new.self (λ s. effect c.in-Some-find.action next s)
+    (answered c.execute.result) c.args.input_end.now.reached
     (record { input = g.I.Source.seen c.args.input.now; output = g.O.Sink.seen c.args.out.now })
     (λ input.
-    does c.in-Some.half c.in-Some.next c.in-Some-find.ensures.found.inst c.in-Some-find.length (sym (c.in-Some.ensures input)) c.in-Some-find.ensures.found.decodes
+    does c.in-Some.half c.in-Some.next c.in-Some-find.ensures.found.inst c.in-Some-find.length
+    (sym (c.in-Some.ensures input)) c.in-Some-find.ensures.found.decodes
     (ap (λ a. effect a next (state_of c.args.self.now input)) c.in-Some-find.ensures.found.action_is))
     c.execute.ensures
 
@@ -50,15 +55,20 @@ returns-in_default-clause-determined g c = λ bytes o p first other.
 
 pub returns-in_default-find-clause-determined : goal.returns-in_default-find-clause-determined
 returns-in_default-find-clause-determined g c = λ bytes o p first other.
-    let only = only_illegal (state_of c.args.self.now bytes) c.in-Some.half c.in-Some.next (sym (c.in-Some.ensures bytes)) c.in_default-find.ensures.none in
+    let only = only_illegal (state_of c.args.self.now bytes) c.in-Some.half c.in-Some.next
+    (sym (c.in-Some.ensures bytes)) c.in_default-find.ensures.none in
     only o first ∙ sym (only p other)
 
 pub returns-then-eq-clause-determined : goal.returns-then-eq-clause-determined
 returns-then-eq-clause-determined g c = λ bytes o p first other.
-    let only = only_does (state_of c.args.self.now bytes) c.in-Some.half c.in-Some.next (sym (c.in-Some.ensures bytes)) c.in-Some-find.ensures.found.inst c.in-Some-find.length c.in-Some-find.ensures.found.decodes c.in-Some-find.ensures.found.only in
+    let only = only_does (state_of c.args.self.now bytes) c.in-Some.half c.in-Some.next
+    (sym (c.in-Some.ensures bytes)) c.in-Some-find.ensures.found.inst c.in-Some-find.length c.in-Some-find.ensures.found.decodes
+    c.in-Some-find.ensures.found.only in
     only o first ∙ sym (only p other)
 
 pub returns-else-eq-clause-determined : goal.returns-else-eq-clause-determined
 returns-else-eq-clause-determined g c = λ bytes o p first other.
-    let only = only_does (state_of c.args.self.now bytes) c.in-Some.half c.in-Some.next (sym (c.in-Some.ensures bytes)) c.in-Some-find.ensures.found.inst c.in-Some-find.length c.in-Some-find.ensures.found.decodes c.in-Some-find.ensures.found.only in
+    let only = only_does (state_of c.args.self.now bytes) c.in-Some.half c.in-Some.next
+    (sym (c.in-Some.ensures bytes)) c.in-Some-find.ensures.found.inst c.in-Some-find.length c.in-Some-find.ensures.found.decodes
+    c.in-Some-find.ensures.found.only in
     only o first ∙ sym (only p other)

@@ -15,7 +15,8 @@ returns-then-not-may_all-clause-answer g c = λ input ended.
       comes_to = λ input.
           let s = state_of c.args.self.now input in
           let size : c.buffer_size-count.result ≡ buffer_size s = c.buffer_size-count.ensures.is input in
-          let may : all_may (may_read s) (s.registers a1) (buffer_size s) ≡ false = rw (c.register-address.ensures, size) at (sym c.may_all.ensures ∙ c.if-not-may_all.true) in
+          let may : all_may (may_read s) (s.registers a1) (buffer_size s) ≡ false =
+          rw (c.register-address.ensures, size) at (sym c.may_all.ensures ∙ c.if-not-may_all.true) in
           sym (write_call-traps s c.args.next may);
       state_is = λ input. refl;
       left_is = refl;
@@ -31,8 +32,10 @@ returns-in-Took-clause-answer g c = λ input ended.
           let s = state_of c.args.self.now rest in
           let t = state_of c.return_value.new.self rest in
           let size : c.buffer_size-count.result ≡ buffer_size s = c.buffer_size-count.ensures.is rest in
-          let may_read_all : all_may (may_read s) (s.registers a1) (buffer_size s) ≡ true = rw (c.register-address.ensures, size) at (sym c.may_all.ensures ∙ c.if-not-may_all.false) in
-          let cells : memory_bytes s.memory (s.registers a1) (buffer_size s) ≡ moved = sym (rw (c.register-address.ensures, size) at (c.deref.ensures.value ∙ c.in-Ok.ensures)) in
+          let may_read_all : all_may (may_read s) (s.registers a1) (buffer_size s) ≡ true =
+          rw (c.register-address.ensures, size) at (sym c.may_all.ensures ∙ c.if-not-may_all.false) in
+          let cells : memory_bytes s.memory (s.registers a1) (buffer_size s) ≡ moved =
+          sym (rw (c.register-address.ensures, size) at (c.deref.ensures.value ∙ c.in-Ok.ensures)) in
           let got : length moved ≡ c.in-Took.count = sym c.in-Took.ensures.whole in
           let state = c.return_value.ensures.state rest in
           let same : Same (after_write s c.args.next moved) t = record {
@@ -45,8 +48,10 @@ returns-in-Took-clause-answer g c = λ input ended.
           } in
           record {
             event = Some (write_event s moved);
-            comes_to = ap (λ x. Going x (Some (write_event s moved))) (sym (same_state (after_write s c.args.next moved) t same)) ∙ sym (write_call-writes s c.args.next moved may_read_all cells);
-            taken_is = c.in-Took.ensures.all ∙ ap (append_known (g.O.Sink.seen c.args.out.now).taken) (sym (write_writes s moved));
+            comes_to = ap (λ x. Going x (Some (write_event s moved))) (sym (same_state (after_write s c.args.next moved) t same))
+                ∙ sym (write_call-writes s c.args.next moved may_read_all cells);
+            taken_is =
+                c.in-Took.ensures.all ∙ ap (append_known (g.O.Sink.seen c.args.out.now).taken) (sym (write_writes s moved));
           };
       read_is = prepend_known-nil input.left;
       end_kept = λ e. (e, refl);
@@ -60,8 +65,10 @@ returns-clause-answer g c = λ input ended. record {
       let moved = c.deref.result.now in
       let s = state_of c.args.self.now input in
       let size : c.buffer_size-count.result ≡ buffer_size s = c.buffer_size-count.ensures.is input in
-      let may : all_may (may_read s) (s.registers a1) (buffer_size s) ≡ true = rw (c.register-address.ensures, size) at (sym c.may_all.ensures ∙ c.if-not-may_all.false) in
-      let cells : memory_bytes s.memory (s.registers a1) (buffer_size s) ≡ moved = sym (rw (c.register-address.ensures, size) at (c.deref.ensures.value ∙ c.in-Ok.ensures)) in
+      let may : all_may (may_read s) (s.registers a1) (buffer_size s) ≡ true =
+      rw (c.register-address.ensures, size) at (sym c.may_all.ensures ∙ c.if-not-may_all.false) in
+      let cells : memory_bytes s.memory (s.registers a1) (buffer_size s) ≡ moved =
+      sym (rw (c.register-address.ensures, size) at (c.deref.ensures.value ∙ c.in-Ok.ensures)) in
       record {
         next = after_write s c.args.next moved;
         event = write_event s moved;

@@ -9,7 +9,9 @@ returns-in-Some c =
     let at = c.in-Some.ensures.found in
     let d = first_of_some funcs c.in-Some.at.func at.func in
     let one : c.in-Some.at.index + 1 ≡ suc c.in-Some.at.index = omega arith in
-    c.next_in.ensures d ∙ ap (addr_at (insts_at funcs c.in-Some.at.func d)) one ∙ sym (next_of-found funcs c.args.self.now.searchable c.in-Some.at.func c.in-Some.at.index c.args.address at d)
+    c.next_in.ensures d ∙ ap (addr_at (insts_at funcs c.in-Some.at.func d)) one
+    ∙ sym (next_of-found funcs c.args.self.now.searchable c.in-Some.at.func c.in-Some.at.index c.args.address at d)
 
 pub returns-in-None : goal.returns-in-None
-returns-in-None c = sym (next_of-none c.args.self.now.funcs.now c.args.address (nowhere c.args.self.now.funcs.now c.args.self.now.searchable c.args.address c.in-None.ensures.none))
+returns-in-None c = sym (next_of-none c.args.self.now.funcs.now c.args.address
+    (nowhere c.args.self.now.funcs.now c.args.self.now.searchable c.args.address c.in-None.ensures.none))

@@ -24,19 +24,23 @@ use Rattle.sym_machine.proofs.machine.SymMachine.load.Goals as goal
 pub overflow_sub-pointer : goal.overflow_sub-pointer
 overflow_sub-pointer c =
     let words : List (List ℕ) = map string_bytes c.args.words.now in
-    let same : length c.deref-bytes.result.now ≡ length (stack_bytes c.args.elf.now.file.now words) = ap length (c.deref-bytes.ensures.value ∙ c.in_ok-bytes.ensures) in
+    let same : length c.deref-bytes.result.now ≡ length (stack_bytes c.args.elf.now.file.now words) =
+    ap length (c.deref-bytes.ensures.value ∙ c.in_ok-bytes.ensures) in
     omega (arith, same, stack_bytes-end c.args.elf.now.file.now words c.requires.limits)
 
 pub new-memory-requires : goal.new-memory-requires
-new-memory-requires c = subst (λ segments. writable_end segments ≤ 2 ^ 63) (sym c.requires.read.segments) (low_end c.args.elf.now.file.now c.requires.sound)
+new-memory-requires c = subst (λ segments. writable_end segments ≤ 2 ^ 63) (sym c.requires.read.segments)
+    (low_end c.args.elf.now.file.now c.requires.sound)
 
 pub write-requires : goal.write-requires
 write-requires c =
     let words : List (List ℕ) = map string_bytes c.args.words.now in
-    let size : length c.deref-bytes.result.now ≡ length (stack_bytes c.args.elf.now.file.now words) = ap length (c.deref-bytes.ensures.value ∙ c.in_ok-bytes.ensures) in
+    let size : length c.deref-bytes.result.now ≡ length (stack_bytes c.args.elf.now.file.now words) =
+    ap length (c.deref-bytes.ensures.value ∙ c.in_ok-bytes.ensures) in
     let ends = stack_bytes-end c.args.elf.now.file.now words c.requires.limits in
     let within = stack_pointer-within words c.requires.limits in
-    stack_writable c.new-memory.result (stack_end - length c.deref-bytes.result.now) (length c.deref-bytes.result.now) (omega arith) (omega arith)
+    stack_writable c.new-memory.result (stack_end - length c.deref-bytes.result.now) (length c.deref-bytes.result.now)
+    (omega arith) (omega arith)
 
 pub start-requires-clause-low : goal.start-requires-clause-low
 start-requires-clause-low c = subst AreLow (sym c.requires.read.segments) (low_segments c.args.elf.now.file.now c.requires.sound)
@@ -52,22 +56,26 @@ returns-clause-start c = λ input.
     let ends : stack_pointer words + length (stack_bytes file words) ≡ stack_end = stack_bytes-end file words c.requires.limits in
     let pointer : stack_end - length c.deref-bytes.result.now ≡ stack_pointer words = omega (arith, size, ends) in
     let fresh : (q : ℕ) → memory_of c.new-memory.result q ≡ (if in_stack q then 0 else image q) = λ q.
-    c.new-memory.ensures.bytes q ∙ ap (λ segments. if in_stack q then 0 else unwrap_or (image_byte file segments q) 0) c.requires.read.segments in
+    c.new-memory.ensures.bytes q
+    ∙ ap (λ segments. if in_stack q then 0 else unwrap_or (image_byte file segments q) 0) c.requires.read.segments in
     let written = c.in_ok-write.ensures.written refl in
     let memory : (q : ℕ) → memory_of c.write.new.self q ≡ start_memory file words q = λ q.
     written q
     ∙ ap (λ a. put (memory_of c.new-memory.result) a c.deref-bytes.result.now q) pointer
     ∙ ap (λ xs. put (memory_of c.new-memory.result) (stack_pointer words) xs q) bytes
-    ∙ put_stack (stack_bytes file words) (stack_pointer words) image (memory_of c.new-memory.result) fresh ends (stack_pointer-within words c.requires.limits) q in
+    ∙ put_stack (stack_bytes file words) (stack_pointer words) image (memory_of c.new-memory.result) fresh ends
+    (stack_pointer-within words c.requires.limits) q in
     same_state _ (sym_start elf c.args.cells.now c.args.tight words input) (record {
       pc_is = refl;
-      registers_are = λ r. start_register (stack_end - length c.deref-bytes.result.now) r ∙ ap (λ p. Num (if r == 2 then p else 0)) pointer;
+      registers_are =
+          λ r. start_register (stack_end - length c.deref-bytes.result.now) r ∙ ap (λ p. Num (if r == 2 then p else 0)) pointer;
       memory_is = λ q.
           cell_over-special (other_byte c.in_ok-others.others q) (memory_of c.write.new.self q)
           ∙ ap (λ b. unwrap_or (special c.in_ok-others.others q) (Byte b)) (memory q)
           ∙ ap (λ o. unwrap_or o (Byte (start_memory file words q)))
           (c.in_ok-others.ensures words pointer (sym (length-map c.args.words.now string_bytes)) q);
-      space_is = sym (space_in-keeps c.new-memory.result c.write.new.self c.write.ensures.space_kept) ∙ c.new-memory.ensures.space;
+      space_is =
+          sym (space_in-keeps c.new-memory.result c.write.new.self c.write.ensures.space_kept) ∙ c.new-memory.ensures.space;
       break_is = c.write.ensures.space_kept.break_is ∙ c.new-memory.ensures.break_is;
       input_is = refl;
     })

@@ -7,4 +7,5 @@ use Rattle.sym_machine.proofs.machine.SymMachine.loaded_symbol.Goals as goal
 pub returns-in-Some : goal.returns-in-Some
 returns-in-Some c =
     c.piece.ensures
-    ∙ loaded_is c.args.extension (memory_bytes (cell_at c.args.self.now.memory) c.args.address c.args.count) c.in-Some.bytes (sym c.symbol.ensures ∙ c.in-Some.is)
+    ∙ loaded_is c.args.extension (memory_bytes (cell_at c.args.self.now.memory) c.args.address c.args.count) c.in-Some.bytes
+    (sym c.symbol.ensures ∙ c.in-Some.is)

@@ -27,7 +27,8 @@ returns-in-Bytes-clause-answer g c = λ output.
     let count = min b.size most_moved in
     let size : c.count-count.result ≡ count = c.count-count.ensures.is in
     let got : length bytes ≡ c.in-Bytes.got = c.split_at.ensures.front_len in
-    let filled : length c.deref_mut.result.now ≡ c.count-count.result = ap length c.deref_mut.ensures.value ∙ c.in-Ok.ensures.size in
+    let filled : length c.deref_mut.result.now ≡ c.count-count.result =
+    ap length c.deref_mut.ensures.value ∙ c.in-Ok.ensures.size in
     let few : length bytes ≤ count = omega (arith, got, c.in-Bytes.ensures.within, c.fill.auto.buffer, filled, size) in
     rw c.return_value.ensures.going (record {
       read = bytes;
@@ -35,8 +36,10 @@ returns-in-Bytes-clause-answer g c = λ output.
           let s = state_of old (bytes ++ rest) in
           let t = state_of new rest in
           let takes : take count (bytes ++ rest) ≡ bytes =
-          takes_all count bytes rest c.fill.new.self.reached few (λ less. c.in-Bytes.ensures.end (omega (arith, less, got, filled, size))) may in
-          let may_write_all : all_may (may_write s) b.address count ≡ true = rw size at (sym c.may_all.ensures ∙ c.if-not-may_all.false) in
+          takes_all count bytes rest c.fill.new.self.reached few
+          (λ less. c.in-Bytes.ensures.end (omega (arith, less, got, filled, size))) may in
+          let may_write_all : all_may (may_write s) b.address count ≡ true =
+          rw size at (sym c.may_all.ensures ∙ c.if-not-may_all.false) in
           let state = c.return_value.ensures.state rest in
           let same : Same (after_read s c.args.next b.address bytes) t = record {
             pc_is = state.pc_is;
@@ -54,13 +57,16 @@ returns-in-Bytes-clause-answer g c = λ output.
           } in
           record {
             event = Some (moved 63 0 b.address b.size bytes);
-            comes_to = ap (λ x. Going x (Some (moved 63 0 b.address b.size bytes))) (sym (same_state (after_read s c.args.next b.address bytes) t same))
+            comes_to = ap (λ x. Going x (Some (moved 63 0 b.address b.size bytes)))
+                (sym (same_state (after_read s c.args.next b.address bytes) t same))
                 ∙ sym (reads s c.args.next b.address b.size bytes may_write_all takes);
             taken_is = read_writes_nothing b.address b.size bytes output.taken;
           };
       read_is =
           c.in-Bytes.ensures.moved ∙ ap (λ bytes. prepend_known bytes (g.I.Source.seen c.fill.new.input).left)
-          (sym (c.split_at.ensures.front ∙ ap (take c.in-Bytes.got) (c.deref.ensures.value ∙ written_over c.fill.new.buffer (drop (length c.fill.new.buffer) c.in-Ok.bytes.items) c.in-Ok.bytes.len (sym (c.fill.auto.buffer ∙ c.deref_mut.ensures.len)))));
+          (sym (c.split_at.ensures.front ∙ ap (take c.in-Bytes.got)
+          (c.deref.ensures.value ∙ written_over c.fill.new.buffer (drop (length c.fill.new.buffer) c.in-Ok.bytes.items)
+          c.in-Ok.bytes.len (sym (c.fill.auto.buffer ∙ c.deref_mut.ensures.len)))));
       end_kept = λ e. (c.in-Bytes.ensures.kept e, none_read bytes c.in-Bytes.got got (c.in-Bytes.ensures.none_after_end e));
       end_is = c.in-Bytes.ensures.rightly;
     })
@@ -74,7 +80,8 @@ returns-clause-answer g c = λ output. record {
       let s = state_of c.args.self.now input in
       let size : c.count-count.result ≡ count = c.count-count.ensures.is in
       let may : all_may (may_write s) b.address count ≡ true = rw size at (sym c.may_all.ensures ∙ c.if-not-may_all.false) in
-      let filled : length c.deref_mut.result.now ≡ c.count-count.result = ap length c.deref_mut.ensures.value ∙ c.in-Ok.ensures.size in
+      let filled : length c.deref_mut.result.now ≡ c.count-count.result =
+      ap length c.deref_mut.ensures.value ∙ c.in-Ok.ensures.size in
       let some : 0 < count = omega (arith, c.in-Failed.ensures.asked refl, filled, size) in
       record {
         next = after_read s c.args.next b.address (take count input);
@@ -91,10 +98,14 @@ returns-clause-answer g c = λ output. record {
 
 pub overwrite-requires-clause-writable : goal.overwrite-requires-clause-writable
 overwrite-requires-clause-writable g c =
-    let filled : length c.deref_mut.result.now ≡ c.count-count.result = ap length c.deref_mut.ensures.value ∙ c.in-Ok.ensures.size in
-    let size : length c.split_at.result.0.now ≤ c.count-count.result = omega (arith, c.split_at.ensures.front_len, c.in-Bytes.ensures.within, c.fill.auto.buffer, filled) in
-    all_may_front (writes c.buffer.new.self.bytes) c.args.buffer.address (length c.split_at.result.0.now) c.count-count.result size
-    (writable-keeps c.args.self.now.memory.bytes c.buffer.new.self.bytes c.buffer.ensures.space_kept c.args.buffer.address c.count-count.result (sym c.may_all.ensures ∙ c.if-not-may_all.false))
+    let filled : length c.deref_mut.result.now ≡ c.count-count.result =
+    ap length c.deref_mut.ensures.value ∙ c.in-Ok.ensures.size in
+    let size : length c.split_at.result.0.now ≤ c.count-count.result =
+    omega (arith, c.split_at.ensures.front_len, c.in-Bytes.ensures.within, c.fill.auto.buffer, filled) in
+    all_may_front (writes c.buffer.new.self.bytes) c.args.buffer.address
+    (length c.split_at.result.0.now) c.count-count.result size
+    (writable-keeps c.args.self.now.memory.bytes c.buffer.new.self.bytes c.buffer.ensures.space_kept c.args.buffer.address
+    c.count-count.result (sym c.may_all.ensures ∙ c.if-not-may_all.false))
 
 pub returns-in_default-clause-answer : goal.returns-in_default-clause-answer
 returns-in_default-clause-answer g c = λ output. record {

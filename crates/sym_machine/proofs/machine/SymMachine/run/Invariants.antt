@@ -12,7 +12,10 @@ invariant-loop-steps g l = record {
   known : AreKnown (funcs_of l.self) l.known;
   reads : (g.I.Source.seen l.initial.input).faults ≤ (g.I.Source.seen l.input).faults;
   writes : (g.O.Sink.seen l.initial.out).faults ≤ (g.O.Sink.seen l.out).faults;
-  walk : Walk state_of (SymSteps (funcs_of l.initial.self)) l.initial.self (record { input = g.I.Source.seen l.initial.input; output = g.O.Sink.seen l.initial.out }) l.self l.input_end.reached l.steps
+  walk : Walk state_of (SymSteps (funcs_of l.initial.self)) l.initial.self (record {
+    input = g.I.Source.seen l.initial.input;
+    output = g.O.Sink.seen l.initial.out;
+  }) l.self l.input_end.reached l.steps
       (record { input = g.I.Source.seen l.input; output = g.O.Sink.seen l.out });
 }
 

@@ -27,8 +27,10 @@ returns-then-eq-clause-answer g c =
     let d = c.in-Some.inst in
     let next = plus m.pc d.length in
     let is : d.action ≡ SystemCall = search rules in
-    answers_by state_of (λ s o. o ≡ argument s a7 (λ n. calls s next n (call_of n))) (SymSteps (funcs_of m)) m c.system_call.new.self
-    (λ input o same. step_by (funcs_of m) (state_of m input) (Some d) (sym c.in-Some.is ∙ c.find.ensures.is) ∙ ap (λ a. effect (funcs_of m) d.role a next (state_of m input)) is ∙ sym same)
+    answers_by state_of (λ s o. o ≡ argument s a7 (λ n. calls s next n (call_of n)))
+    (SymSteps (funcs_of m)) m c.system_call.new.self
+    (λ input o same. step_by (funcs_of m) (state_of m input) (Some d) (sym c.in-Some.is ∙ c.find.ensures.is)
+    ∙ ap (λ a. effect (funcs_of m) d.role a next (state_of m input)) is ∙ sym same)
     _ _ _ _ (answered c.system_call.result) c.system_call.ensures.answer
 
 pub returns-else-eq-clause-answer : goal.returns-else-eq-clause-answer
@@ -36,7 +38,8 @@ returns-else-eq-clause-answer g c =
     let m = c.args.self.now in
     let d = c.in-Some.inst in
     let next = plus m.pc d.length in
-    quiet_answers state_of (SymSteps (funcs_of m)) m c.execute.new.self (λ s. effect (funcs_of m) d.role d.action next s) (answered c.execute.result) c.args.input_end.now.reached
+    quiet_answers state_of (SymSteps (funcs_of m)) m c.execute.new.self (λ s. effect (funcs_of m) d.role d.action next s)
+    (answered c.execute.result) c.args.input_end.now.reached
     (record { input = g.I.Source.seen c.args.input.now; output = g.O.Sink.seen c.args.out.now })
     (λ input. step_by (funcs_of m) (state_of m input) (Some d) (sym c.in-Some.is ∙ c.find.ensures.is))
     c.execute.ensures.answer

@@ -13,7 +13,11 @@ returns-clause-answer c = λ input.
     let s = state_of m input in
     let writable : all_may (may_write s) c.args.address c.args.count ≡ true = sym c.may_all.ensures ∙ c.if-not-may_all.false in
     let ok : IsOk c.store.result = search rules in
-    let same : Same (record s { pc = c.args.next; memory = put s.memory c.args.address (stored_cells c.args.count c.args.stored) }) (state_of (record { pc = c.args.next; registers = m.registers; memory = c.store.new.self; code = m.code }) input) = record {
+    let same : Same (record s {
+      pc = c.args.next;
+      memory = put s.memory c.args.address (stored_cells c.args.count c.args.stored);
+    }) (state_of (record { pc = c.args.next; registers = m.registers; memory = c.store.new.self; code = m.code }) input) =
+    record {
       pc_is = refl;
       registers_are = λ r. refl;
       memory_is = λ q. sym (c.store.ensures.written ok q);
@@ -29,7 +33,8 @@ returns-then-is_err-clause-answer c = λ input.
     let s = state_of m input in
     let writable : all_may (may_write s) c.args.address c.args.count ≡ true = sym c.may_all.ensures ∙ c.if-not-may_all.false in
     let kept = from_err _ c.store.result (sym c.is_err.ensures.value ∙ c.if-is_err.true) c.store.ensures.unwritten in
-    let same : Same s (state_of (record { pc = m.pc; registers = m.registers; memory = c.store.new.self; code = m.code }) input) = record {
+    let same : Same s (state_of (record { pc = m.pc; registers = m.registers; memory = c.store.new.self; code = m.code }) input) =
+    record {
       pc_is = refl;
       registers_are = λ r. refl;
       memory_is = λ q. sym (kept q);

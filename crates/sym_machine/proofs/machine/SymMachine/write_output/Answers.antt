@@ -25,11 +25,15 @@ returns-then-not-are_numbers-clause-answer g c = λ input ended.
           let b = c.args.buffer in
           let s = state_of c.args.self.now input in
           let size : c.count-count.result ≡ min b.size most_moved = c.count-count.ensures.is in
-          let may : all_may (may_read s) b.address (min b.size most_moved) ≡ true = rw size at (sym c.may_all.ensures ∙ c.if-not-may_all.false) in
-          let open_cells : list_any is_hidden (memory_bytes s.memory b.address (min b.size most_moved)) ≡ false = rw size at (sym c.has_hidden.ensures ∙ c.if-has_hidden.false) in
+          let may : all_may (may_read s) b.address (min b.size most_moved) ≡ true =
+          rw size at (sym c.may_all.ensures ∙ c.if-not-may_all.false) in
+          let open_cells : list_any is_hidden (memory_bytes s.memory b.address (min b.size most_moved)) ≡ false =
+          rw size at (sym c.has_hidden.ensures ∙ c.if-has_hidden.false) in
           let none : numbers (memory_bytes s.memory b.address (min b.size most_moved)) ≡ None =
-          rw size at (numbers_none (other_byte m.others) (memory_of m.bytes) b.address c.count-count.result (sym c.are_numbers.ensures ∙ c.if-not-are_numbers.true)) in
-          sym (writes_symbols s c.args.next b.file b.address b.size (memory_bytes s.memory b.address (min b.size most_moved)) may open_cells none);
+          rw size at (numbers_none (other_byte m.others) (memory_of m.bytes) b.address c.count-count.result
+          (sym c.are_numbers.ensures ∙ c.if-not-are_numbers.true)) in
+          sym (writes_symbols s c.args.next b.file b.address b.size
+          (memory_bytes s.memory b.address (min b.size most_moved)) may open_cells none);
       state_is = λ input. refl;
       left_is = refl;
       taken_is = refl;
@@ -45,9 +49,12 @@ returns-in-Took-clause-answer g c = λ input ended.
           let s = state_of c.args.self.now rest in
           let t = state_of c.return_value.new.self rest in
           let size : c.count-count.result ≡ min b.size most_moved = c.count-count.ensures.is in
-          let may_read_all : all_may (may_read s) b.address (min b.size most_moved) ≡ true = rw size at (sym c.may_all.ensures ∙ c.if-not-may_all.false) in
-          let open_cells : list_any is_hidden (memory_bytes s.memory b.address (min b.size most_moved)) ≡ false = rw size at (sym c.has_hidden.ensures ∙ c.if-has_hidden.false) in
-          let all : numbers (memory_bytes s.memory b.address (min b.size most_moved)) ≡ Some bytes = (rw size at c.in-Ok.ensures) ∙ ap Some (sym c.deref.ensures.value) in
+          let may_read_all : all_may (may_read s) b.address (min b.size most_moved) ≡ true =
+          rw size at (sym c.may_all.ensures ∙ c.if-not-may_all.false) in
+          let open_cells : list_any is_hidden (memory_bytes s.memory b.address (min b.size most_moved)) ≡ false =
+          rw size at (sym c.has_hidden.ensures ∙ c.if-has_hidden.false) in
+          let all : numbers (memory_bytes s.memory b.address (min b.size most_moved)) ≡ Some bytes =
+          (rw size at c.in-Ok.ensures) ∙ ap Some (sym c.deref.ensures.value) in
           let got : length bytes ≡ c.in-Took.count = sym c.in-Took.ensures.whole in
           let state = c.return_value.ensures.state rest in
           let same : Same (after_write s c.args.next bytes) t = record {
@@ -60,9 +67,12 @@ returns-in-Took-clause-answer g c = λ input ended.
           } in
           record {
             event = Some (moved 64 b.file b.address b.size bytes);
-            comes_to = ap (λ x. Going x (Some (moved 64 b.file b.address b.size bytes))) (sym (same_state (after_write s c.args.next bytes) t same))
-                ∙ sym (writes s c.args.next b.file b.address b.size (memory_bytes s.memory b.address (min b.size most_moved)) bytes may_read_all open_cells all);
-            taken_is = c.in-Took.ensures.all ∙ ap (append_known (g.O.Sink.seen c.args.out.now).taken) (sym (write_writes b.file b.address b.size bytes));
+            comes_to = ap (λ x. Going x (Some (moved 64 b.file b.address b.size bytes)))
+                (sym (same_state (after_write s c.args.next bytes) t same))
+                ∙ sym (writes s c.args.next b.file b.address b.size
+                (memory_bytes s.memory b.address (min b.size most_moved)) bytes may_read_all open_cells all);
+            taken_is = c.in-Took.ensures.all
+                ∙ ap (append_known (g.O.Sink.seen c.args.out.now).taken) (sym (write_writes b.file b.address b.size bytes));
           };
       read_is = prepend_known-nil input.left;
       end_kept = λ e. (e, refl);
@@ -77,13 +87,17 @@ returns-clause-answer g c = λ input ended. record {
       let b = c.args.buffer in
       let s = state_of c.args.self.now input in
       let size : c.count-count.result ≡ min b.size most_moved = c.count-count.ensures.is in
-      let may : all_may (may_read s) b.address (min b.size most_moved) ≡ true = rw size at (sym c.may_all.ensures ∙ c.if-not-may_all.false) in
-      let open_cells : list_any is_hidden (memory_bytes s.memory b.address (min b.size most_moved)) ≡ false = rw size at (sym c.has_hidden.ensures ∙ c.if-has_hidden.false) in
-      let all : numbers (memory_bytes s.memory b.address (min b.size most_moved)) ≡ Some bytes = (rw size at c.in-Ok.ensures) ∙ ap Some (sym c.deref.ensures.value) in
+      let may : all_may (may_read s) b.address (min b.size most_moved) ≡ true =
+      rw size at (sym c.may_all.ensures ∙ c.if-not-may_all.false) in
+      let open_cells : list_any is_hidden (memory_bytes s.memory b.address (min b.size most_moved)) ≡ false =
+      rw size at (sym c.has_hidden.ensures ∙ c.if-has_hidden.false) in
+      let all : numbers (memory_bytes s.memory b.address (min b.size most_moved)) ≡ Some bytes =
+      (rw size at c.in-Ok.ensures) ∙ ap Some (sym c.deref.ensures.value) in
       record {
         next = after_write s c.args.next bytes;
         event = moved 64 b.file b.address b.size bytes;
-        comes_to = sym (writes s c.args.next b.file b.address b.size (memory_bytes s.memory b.address (min b.size most_moved)) bytes may open_cells all);
+        comes_to = sym (writes s c.args.next b.file b.address b.size
+            (memory_bytes s.memory b.address (min b.size most_moved)) bytes may open_cells all);
         number_is = refl;
         front = c.in-Failed.ensures.front refl;
       };

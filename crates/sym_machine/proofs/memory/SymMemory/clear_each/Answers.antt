@@ -8,7 +8,8 @@ use Rattle.sym_machine.proofs.memory.SymMemory.clear_each.Goals as goal
 pub loop-left-init : goal.loop-left-init
 loop-left-init c = record {
   within = omega arith;
-  cleared = λ q. put_nothing (other_byte c.args.self.now.others) (plus c.args.address c.args.count) (c.args.count - c.args.count) q (omega arith);
+  cleared = λ q. put_nothing (other_byte c.args.self.now.others) (plus c.args.address c.args.count)
+      (c.args.count - c.args.count) q (omega arith);
   bytes = refl;
 }
 

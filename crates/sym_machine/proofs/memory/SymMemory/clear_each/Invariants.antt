@@ -7,7 +7,8 @@ use Rattle.sym_machine.proofs.memory.SymMemory.clear_each.Given as goal
 abbrev pub invariant-loop-left : goal.invariant-loop-left
 invariant-loop-left l = record {
   within : l.left ≤ l.count;
-  cleared : (q : ℕ) → other_byte l.self.others q ≡ put (other_byte l.initial.self.others) (plus l.address l.left) (replicate (l.count - l.left) None) q;
+  cleared : (q : ℕ) → other_byte l.self.others q
+      ≡ put (other_byte l.initial.self.others) (plus l.address l.left) (replicate (l.count - l.left) None) q;
   bytes : l.self.bytes ≡ l.initial.self.bytes;
 }
 

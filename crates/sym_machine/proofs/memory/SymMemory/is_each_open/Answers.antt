@@ -11,7 +11,8 @@ returns-then-not-is_open c =
     sym (
     c.loop-i.invariant
     ∙ all_may_next may c.args.address c.loop-i.i c.args.count c.loop-i-test.true
-    ∙ ap (λ first. first && all_may may (plus c.args.address (c.loop-i.i + 1)) (c.args.count - (c.loop-i.i + 1))) (sym c.is_open.ensures ∙ c.if-not-is_open.true)
+    ∙ ap (λ first. first && all_may may (plus c.args.address (c.loop-i.i + 1)) (c.args.count - (c.loop-i.i + 1)))
+    (sym c.is_open.ensures ∙ c.if-not-is_open.true)
     )
 
 pub loop-i-preserved : goal.loop-i-preserved
@@ -19,9 +20,11 @@ loop-i-preserved c =
     let may = is_open_at c.args.self.now in
     c.loop-i.invariant
     ∙ all_may_next may c.args.address c.loop-i.i c.args.count c.loop-i-test.true
-    ∙ ap (λ first. first && all_may may (plus c.args.address (c.loop-i.i + 1)) (c.args.count - (c.loop-i.i + 1))) (sym c.is_open.ensures ∙ c.if-not-is_open.false)
+    ∙ ap (λ first. first && all_may may (plus c.args.address (c.loop-i.i + 1)) (c.args.count - (c.loop-i.i + 1)))
+    (sym c.is_open.ensures ∙ c.if-not-is_open.false)
 
 pub returns : goal.returns
 returns c = sym
     (c.loop-i.invariant
-    ∙ all_may_none (is_open_at c.args.self.now) (plus c.args.address c.loop-i.i) (c.args.count - c.loop-i.i) (omega (arith, c.loop-i-test.false)))
+    ∙ all_may_none (is_open_at c.args.self.now) (plus c.args.address c.loop-i.i) (c.args.count - c.loop-i.i)
+    (omega (arith, c.loop-i-test.false)))

@@ -10,11 +10,14 @@ use Rattle.sym_machine.proofs.memory.SymMemory.number.Goals as goal
 pub returns-then-not-are_numbers-clause-value : goal.returns-then-not-are_numbers-clause-value
 returns-then-not-are_numbers-clause-value c =
     let m = c.args.self.now in
-    let none : all_may (is_number_at m) c.args.address c.args.count ≡ false = sym c.are_numbers.ensures ∙ c.if-not-are_numbers.true in
+    let none : all_may (is_number_at m) c.args.address c.args.count ≡ false =
+    sym c.are_numbers.ensures ∙ c.if-not-are_numbers.true in
     sym (ap (option_map little) (numbers_none (other_byte m.others) (memory_of m.bytes) c.args.address c.args.count none))
 
 pub returns-clause-value : goal.returns-clause-value
 returns-clause-value c =
     let m = c.args.self.now in
-    let all : all_may (is_number_at m) c.args.address c.args.count ≡ true = sym c.are_numbers.ensures ∙ c.if-not-are_numbers.false in
-    ap Some c.number.ensures.value ∙ sym (ap (option_map little) (numbers_all (other_byte m.others) (memory_of m.bytes) c.args.address c.args.count all))
+    let all : all_may (is_number_at m) c.args.address c.args.count ≡ true =
+    sym c.are_numbers.ensures ∙ c.if-not-are_numbers.false in
+    ap Some c.number.ensures.value
+    ∙ sym (ap (option_map little) (numbers_all (other_byte m.others) (memory_of m.bytes) c.args.address c.args.count all))

@@ -11,7 +11,8 @@ pub loop-left-init : goal.loop-left-init
 loop-left-init c = record {
   within = omega arith;
   room = c.requires.room;
-  written = λ q. put_symbol_nothing (other_byte c.args.self.now.others) (plus c.args.address c.args.count) (c.args.count - c.args.count) q c.args.bytes.symbol c.args.bytes.width (c.args.bytes.first + c.args.count) (omega arith);
+  written = λ q. put_symbol_nothing (other_byte c.args.self.now.others) (plus c.args.address c.args.count)
+      (c.args.count - c.args.count) q c.args.bytes.symbol c.args.bytes.width (c.args.bytes.first + c.args.count) (omega arith);
   space_kept = refl;
 }
 
@@ -29,7 +30,8 @@ loop-left-preserved c = record {
       let inside : i < c.args.count = omega (arith, c.loop-left.invariant.within) in
       let next : i + 1 ≡ c.loop-left.left = omega arith in
       c.put.ensures.written q
-      ∙ ap (λ x. if q == plus c.args.address i then Some (other.Symbol b.symbol b.width (b.first + i)) else x) (c.loop-left.invariant.written q)
+      ∙ ap (λ x. if q == plus c.args.address i then Some (other.Symbol b.symbol b.width (b.first + i)) else x)
+      (c.loop-left.invariant.written q)
       ∙ sym (rw next at (put_symbol_next old c.args.address i c.args.count q b.symbol b.width b.first inside));
   space_kept = c.loop-left.invariant.space_kept;
 }

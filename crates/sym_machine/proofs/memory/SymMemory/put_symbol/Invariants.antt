@@ -8,7 +8,8 @@ abbrev pub invariant-loop-left : goal.invariant-loop-left
 invariant-loop-left l = record {
   within : l.left ≤ l.count;
   room : HasGroups l.self.others l.address l.count;
-  written : (q : ℕ) → other_byte l.self.others q ≡ put (other_byte l.initial.self.others) (plus l.address l.left) (other_bytes l.bytes.symbol l.bytes.width (l.bytes.first + l.left) (l.count - l.left)) q;
+  written : (q : ℕ) → other_byte l.self.others q ≡ put (other_byte l.initial.self.others) (plus l.address l.left)
+      (other_bytes l.bytes.symbol l.bytes.width (l.bytes.first + l.left) (l.count - l.left)) q;
   space_kept : l.self.bytes ≡ l.initial.self.bytes;
 }
 

@@ -10,7 +10,8 @@ pub returns-clause-gained : goal.returns-clause-gained
 returns-clause-gained c = λ q.
     let m = c.args.self.now in
     let from = m.bytes.program_break in
-    let others = c.clear_run.ensures q ∙ ap (λ to. if nat_le from q && nat_lt q to then None else other_byte m.others q) c.set_break.ensures.moved in
+    let others = c.clear_run.ensures q
+    ∙ ap (λ to. if nat_le from q && nat_lt q to then None else other_byte m.others q) c.set_break.ensures.moved in
     ap (λ o. cell_over o (memory_of c.set_break.new.self q)) others
     ∙ ap (cell_over _) (c.set_break.ensures.gained q)
     ∙ break_cells (other_byte m.others) (memory_of m.bytes) from c.args.to q (may_stand m.bytes c.args.to)

@@ -12,7 +12,8 @@ returns-clause-written c = λ ok q.
     let m = c.args.self.now in
     let b = c.args.bytes in
     let n = c.args.count in
-    let others = c.put_symbol.ensures.written q ∙ put_same (other_byte c.reserve.new.self.others) (other_byte m.others) c.reserve.ensures.kept c.args.address q (other_bytes b.symbol b.width b.first n) in
+    let others = c.put_symbol.ensures.written q ∙ put_same (other_byte c.reserve.new.self.others)
+    (other_byte m.others) c.reserve.ensures.kept c.args.address q (other_bytes b.symbol b.width b.first n) in
     let bytes = ap (λ b. memory_of b q) (c.put_symbol.ensures.space_kept ∙ c.reserve.ensures.space_kept) in
     ap (λ o. cell_over o (memory_of c.put_symbol.new.self.bytes q)) others
     ∙ ap (cell_over (put (other_byte m.others) c.args.address (other_bytes b.symbol b.width b.first n) q)) bytes

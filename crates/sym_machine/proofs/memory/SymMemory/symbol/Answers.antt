@@ -4,7 +4,8 @@ use Rattle.sym_machine.proofs.MemoryCells.{cells_none, symbol_none, symbol_some}
 use Rattle.sym_machine.proofs.memory.SymMemory.symbol.Goals as goal
 
 pub returns-then-count-eq0 : goal.returns-then-count-eq0
-returns-then-count-eq0 c = sym (ap symbol_in (cells_none (cell_at c.args.self.now) c.args.address c.args.count c.if-count-eq0.true))
+returns-then-count-eq0 c =
+    sym (ap symbol_in (cells_none (cell_at c.args.self.now) c.args.address c.args.count c.if-count-eq0.true))
 
 pub returns-in_default : goal.returns-in_default
 returns-in_default c =
@@ -15,11 +16,15 @@ returns-in_default c =
 pub returns-then-not-goes_on : goal.returns-then-not-goes_on
 returns-then-not-goes_on c =
     let cells = cell_at c.args.self.now in
-    let is : symbol_byte (cells c.args.address) ≡ Some c.in-Some.bytes = rw c.byte.ensures at (sym c.symbol_byte.ensures ∙ c.in-Some.is) in
-    sym (symbol_some cells c.args.address c.args.count c.in-Some.bytes false (omega arith) is (sym c.goes_on.ensures ∙ c.if-not-goes_on.true))
+    let is : symbol_byte (cells c.args.address) ≡ Some c.in-Some.bytes =
+    rw c.byte.ensures at (sym c.symbol_byte.ensures ∙ c.in-Some.is) in
+    sym (symbol_some cells c.args.address c.args.count c.in-Some.bytes false (omega arith) is
+    (sym c.goes_on.ensures ∙ c.if-not-goes_on.true))
 
 pub returns : goal.returns
 returns c =
     let cells = cell_at c.args.self.now in
-    let is : symbol_byte (cells c.args.address) ≡ Some c.in-Some.bytes = rw c.byte.ensures at (sym c.symbol_byte.ensures ∙ c.in-Some.is) in
-    sym (symbol_some cells c.args.address c.args.count c.in-Some.bytes true (omega arith) is (sym c.goes_on.ensures ∙ c.if-not-goes_on.false))
+    let is : symbol_byte (cells c.args.address) ≡ Some c.in-Some.bytes =
+    rw c.byte.ensures at (sym c.symbol_byte.ensures ∙ c.in-Some.is) in
+    sym (symbol_some cells c.args.address c.args.count c.in-Some.bytes true (omega arith) is
+    (sym c.goes_on.ensures ∙ c.if-not-goes_on.false))

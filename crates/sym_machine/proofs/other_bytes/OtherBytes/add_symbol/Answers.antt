@@ -10,24 +10,31 @@ use Rattle.sym_machine.specs.internal.Special.{special}
 use Rattle.sym_machine.proofs.StartRuns.{run_none, run_more}
 use Rattle.sym_machine.proofs.other_bytes.OtherBytes.add_symbol.Goals as goal
 
-map_if : (t : Bool) (x : OtherByte) (o : Option OtherByte) → option_map as_byte (if t then Some x else o) ≡ (if t then Some (as_byte x) else option_map as_byte o)
+map_if : (t : Bool) (x : OtherByte) (o : Option OtherByte) →
+    option_map as_byte (if t then Some x else o) ≡ (if t then Some (as_byte x) else option_map as_byte o)
 map_if true x o = refl
 map_if false x o = refl
 
 pub loop-index-init : goal.loop-index-init
-loop-index-init c = λ q. run_none (Some (SymbolByte c.args.symbol c.args.width (q - c.args.start))) (special c.args.self.now q) c.args.start q
+loop-index-init c =
+    λ q. run_none (Some (SymbolByte c.args.symbol c.args.width (q - c.args.start))) (special c.args.self.now q) c.args.start q
 
 pub loop-index-preserved : goal.loop-index-preserved
 loop-index-preserved c = λ q.
     let i = c.loop-index.index in
-    let here : q ≡ c.args.start + i → (◌≡◌ {A = Option MemoryByte} (Some (SymbolByte c.args.symbol c.args.width i)) (Some (SymbolByte c.args.symbol c.args.width (q - c.args.start)))) =
-    λ same. let index : i ≡ q - c.args.start = omega arith in ap (λ (k : ℕ). Some (SymbolByte c.args.symbol c.args.width k)) index in
+    let here : q ≡ c.args.start + i → (◌≡◌ {A = Option MemoryByte} (Some (SymbolByte c.args.symbol c.args.width i))
+    (Some (SymbolByte c.args.symbol c.args.width (q - c.args.start)))) =
+    λ same. let index : i ≡ q - c.args.start = omega arith in
+    ap (λ (k : ℕ). Some (SymbolByte c.args.symbol c.args.width k)) index in
     ap (option_map as_byte) (c.in_ok-add_byte.ensures q)
     ∙ map_if (q == c.args.start + i) (other.Symbol c.args.symbol c.args.width i) (other_byte c.loop-index.self q)
-    ∙ ap (λ (o : Option MemoryByte). if q == c.args.start + i then Some (SymbolByte c.args.symbol c.args.width i) else o) (c.loop-index.invariant q)
-    ∙ run_more (Some (SymbolByte c.args.symbol c.args.width i)) (Some (SymbolByte c.args.symbol c.args.width (q - c.args.start))) (special c.args.self.now q) c.args.start i q here
+    ∙ ap (λ (o : Option MemoryByte). if q == c.args.start + i then Some (SymbolByte c.args.symbol c.args.width i) else o)
+    (c.loop-index.invariant q)
+    ∙ run_more (Some (SymbolByte c.args.symbol c.args.width i)) (Some (SymbolByte c.args.symbol c.args.width (q - c.args.start)))
+    (special c.args.self.now q) c.args.start i q here
 
 pub returns : goal.returns
 returns c = λ q.
     let end : c.loop-index.index ≡ c.args.width = omega arith in
-    c.loop-index.invariant q ∙ ap (λ (n : ℕ). if nat_le c.args.start q && nat_lt q (c.args.start + n) then Some (SymbolByte c.args.symbol c.args.width (q - c.args.start)) else special c.args.self.now q) end
+    c.loop-index.invariant q ∙ ap (λ (n : ℕ). if nat_le c.args.start q && nat_lt q (c.args.start + n)
+    then Some (SymbolByte c.args.symbol c.args.width (q - c.args.start)) else special c.args.self.now q) end

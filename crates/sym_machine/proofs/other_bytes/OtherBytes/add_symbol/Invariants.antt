@@ -5,4 +5,5 @@ use Rattle.sym_machine.specs.internal.Special.{special}
 use Rattle.sym_machine.proofs.other_bytes.OtherBytes.add_symbol.Given as goal
 
 abbrev pub invariant-loop-index : goal.invariant-loop-index
-invariant-loop-index l = (q : ℕ) → special l.self q ≡ (if nat_le l.start q && nat_lt q (l.start + l.index) then Some (SymbolByte l.symbol l.width (q - l.start)) else special l.initial.self q)
+invariant-loop-index l = (q : ℕ) → special l.self q ≡ (if nat_le l.start q && nat_lt q (l.start + l.index)
+    then Some (SymbolByte l.symbol l.width (q - l.start)) else special l.initial.self q)

@@ -10,7 +10,8 @@ use Rattle.sym_machine.specs.internal.Special.{special}
 use Rattle.sym_machine.proofs.StartRuns.{run_none, run_more}
 use Rattle.sym_machine.proofs.other_bytes.OtherBytes.hide.Goals as goal
 
-map_if : (t : Bool) (x : OtherByte) (o : Option OtherByte) → option_map as_byte (if t then Some x else o) ≡ (if t then Some (as_byte x) else option_map as_byte o)
+map_if : (t : Bool) (x : OtherByte) (o : Option OtherByte) →
+    option_map as_byte (if t then Some x else o) ≡ (if t then Some (as_byte x) else option_map as_byte o)
 map_if true x o = refl
 map_if false x o = refl
 
@@ -28,4 +29,5 @@ loop-index-preserved c = λ q.
 pub returns : goal.returns
 returns c = λ q.
     let end : c.loop-index.index ≡ c.args.size = omega arith in
-    c.loop-index.invariant q ∙ ap (λ (n : ℕ). if nat_le c.args.start q && nat_lt q (c.args.start + n) then Some Hidden else special c.args.self.now q) end
+    c.loop-index.invariant q
+    ∙ ap (λ (n : ℕ). if nat_le c.args.start q && nat_lt q (c.args.start + n) then Some Hidden else special c.args.self.now q) end

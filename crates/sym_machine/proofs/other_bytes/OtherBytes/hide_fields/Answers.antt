@@ -19,6 +19,7 @@ returns c =
     (λ all q.
     let old = special c.args.self.now q in
     all c.args.tight (ap (map range_of_field) c.in_ok-fields.ensures ∙ c.in_ok-list.ensures) q
-    ∙ ap (λ (segments : List Segment). if list_any (covers q) segments && is_hidden_field c.args.elf.now c.args.tight q then Some Hidden else old) c.deref.ensures.value
+    ∙ ap (λ (segments : List Segment). if list_any (covers q) segments && is_hidden_field c.args.elf.now c.args.tight q
+    then Some Hidden else old) c.deref.ensures.value
     ∙ hidden_everywhere c.args.elf.now c.args.tight q (Some Hidden) old)
     c.hide_in_segments.ensures

@@ -9,4 +9,5 @@ use Rattle.sym_machine.proofs.other_bytes.OtherBytes.hide_in_segments.Given as g
 
 abbrev pub invariant-loop-index : goal.invariant-loop-index
 invariant-loop-index l = (tight : Bool) → map range_of_field l.fields.list.items ≡ hidden_fields l.elf tight → (q : ℕ) →
-    special l.self q ≡ (if list_any (covers q) (take l.index l.segments) && is_hidden_field l.elf tight q then Some Hidden else special l.initial.self q)
+    special l.self q ≡ (if list_any (covers q) (take l.index l.segments) && is_hidden_field l.elf tight q then Some Hidden
+    else special l.initial.self q)

@@ -7,7 +7,8 @@ use Rattle.sym_machine.specs.HiddenFields.{is_hidden_field, is_hidden_entry}
 use Rattle.sym_machine.specs.SymStart.{entry_byte, code_cell_byte}
 use Rattle.sym_machine.proofs.other_bytes.OtherBytes.start.Goals as goal
 
-hidden_join : (e f : Bool) (o : Option MemoryByte) → (if e then Some Hidden else (if f then Some Hidden else o)) ≡ option_or (if f || e then Some Hidden else None) o
+hidden_join : (e f : Bool) (o : Option MemoryByte) →
+    (if e then Some Hidden else (if f then Some Hidden else o)) ≡ option_or (if f || e then Some Hidden else None) o
 hidden_join true true o = refl
 hidden_join true false o = refl
 hidden_join false true o = refl
@@ -21,5 +22,6 @@ returns c = λ words pointer count q.
     c.in_ok-add_entry.ensures words pointer count q
     ∙ ap (option_or (entry_byte elf words q))
     (c.in_ok-hide_entries.ensures words pointer count q
-    ∙ ap (λ (o : Option MemoryByte). if e then Some Hidden else o) (c.in_ok-hide_fields.ensures q ∙ ap (λ (o : Option MemoryByte). if f then Some Hidden else o) (c.in_ok-add_cells.ensures q))
+    ∙ ap (λ (o : Option MemoryByte). if e then Some Hidden else o)
+    (c.in_ok-hide_fields.ensures q ∙ ap (λ (o : Option MemoryByte). if f then Some Hidden else o) (c.in_ok-add_cells.ensures q))
     ∙ hidden_join e f (code_cell_byte c.args.cells.now q))
