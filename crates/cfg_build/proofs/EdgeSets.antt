@@ -12,12 +12,14 @@ use Rattle.rv_code.specs.layout.Blocks.{inst_at, func_of, IsBefore}
 use Rattle.rv_code.specs.layout.Edges.{AreTablePairs, LeadsTo, jumps, falls_into, by_table, BeginsAt, IsEdge, IsEdgeIn, AreEdges}
 use Rattle.rv_code.specs.layout.FunctionLists.{AreLaidOut}
 use Rattle.move_law.proofs.Lists.{pairs_in, pairs_map}
-use Rattle.cfg_build.specs.EdgeLists.{IsStretch, AreStretches, start_of, Leads, LeadsFrom, IsBlockAt}
+use Rattle.rv_code.specs.layout.InFunctions.{IsOfFunction}
+use Rattle.rv_code.proofs.lists.Follows.{funcs_apart}
+use Rattle.cfg_build.specs.EdgeLists.{AreStretches, start_of, Leads}
 use Rattle.cfg_build.specs.EdgeLists as leads
 use Rattle.cfg_build.proofs.EdgeRows.{IsEdgeBy, AreEdgesBefore}
 use Rattle.cfg_build.proofs.Options.{of_some, some_and, the_some}
 use Rattle.cfg_build.proofs.layout.FunctionInsts.{earlier_below, inst_lies_at}
-use Rattle.cfg_build.proofs.layout.InstAddresses.{contains_func, funcs_apart, laid_out}
+use Rattle.cfg_build.proofs.layout.InstAddresses.{contains_func, laid_out}
 
 -- Blocks and where they begin.
 
@@ -34,7 +36,7 @@ slice_get_found [] i within = absurd (omega arith)
 slice_get_found (x ∷ xs) zero within = (x, refl)
 slice_get_found (x ∷ xs) (suc i) within = slice_get_found xs i (omega arith)
 
-pub stretch_of : (funcs : List Func) (b : Block) → IsStretch funcs b → IsStretchOf funcs b
+pub stretch_of : (funcs : List Func) (b : Block) → IsOfFunction funcs b → IsStretchOf funcs b
 stretch_of funcs b is =
     let (func, func_is, (upto, inside)) = the_some (λ func. (b.first ≤ b.last)
     × (b.last < length func.insts.items)) (func_of funcs b) is in
@@ -49,7 +51,8 @@ stretch_of funcs b is =
           ∙ ap (λ (o : Option Placed). option_map_or (λ p. p.addr) o 0) inst_is;
     }
 
-pub BeginsAt-start : (funcs : List Func) (b : Block) → IsStretch funcs b → (a : ℕ) → BeginsAt funcs b a ↔ (start_of funcs b ≡ a)
+pub BeginsAt-start : (funcs : List Func) (b : Block) → IsOfFunction funcs b → (a : ℕ) →
+    BeginsAt funcs b a ↔ (start_of funcs b ≡ a)
 BeginsAt-start funcs b is a =
     let s = stretch_of funcs b is in (
       (λ begins.
@@ -62,8 +65,8 @@ BeginsAt-start funcs b is a =
     )
 
 -- blocks in order begin at addresses that ascend
-before_below : (funcs : List Func) → AreLaidOut funcs → (b c : Block) → IsStretch funcs b → IsStretch funcs c → IsBefore b c →
-    start_of funcs b < start_of funcs c
+before_below : (funcs : List Func) → AreLaidOut funcs → (b c : Block) → IsOfFunction funcs b →
+    IsOfFunction funcs c → IsBefore b c → start_of funcs b < start_of funcs c
 before_below funcs are b c is is' before =
     let s = stretch_of funcs b is in
     let t = stretch_of funcs c is' in
@@ -78,7 +81,7 @@ before_below funcs are b c is is' before =
     let from = lies'.from in
     ⊎_elim
     (λ (lower : b.func < c.func).
-    let apart = funcs_apart funcs are b.func c.func s.func t.func s.func_is t.func_is lower in
+    let apart = funcs_apart funcs b.func c.func s.func t.func are s.func_is t.func_is lower in
     omega arith)
     (λ (same, less).
     let one : t.func ≡ s.func = same_Some t.func s.func (sym t.func_is ∙ ap (slice_get funcs) (sym same) ∙ s.func_is) in
@@ -93,7 +96,7 @@ starts_ascend funcs blocks are is =
     pairs_map (λ a b. a < b) (start_of funcs) blocks
     (pairs_in IsBefore (λ b c. start_of funcs b < start_of funcs c) blocks
     (λ b c b_in c_in before. before_below funcs are b c
-    (All-contains (IsStretch funcs) blocks b is.each b_in) (All-contains (IsStretch funcs) blocks c is.each c_in) before)
+    (All-contains (IsOfFunction funcs) blocks b is.each b_in) (All-contains (IsOfFunction funcs) blocks c is.each c_in) before)
     is.ordered)
 
 -- Edges.
@@ -109,12 +112,12 @@ module _ (funcs : List Func) (cells : List CodeCell) (targets : List (ℕ × ℕ
   leads_as func i p a (falls_into falls next) = leads.falls_into falls next
   leads_as func i p a (by_table table) = leads.by_table (pairs.each (p.addr, a) table)
 
-  module _ (blocks : List Block) (are : All (IsStretch funcs) blocks) where
+  module _ (blocks : List Block) (are : All (IsOfFunction funcs) blocks) where
     begins_there : (a t : ℕ) (b : Block) → slice_get blocks t ≡ Some b →
         (slice_get (map (start_of funcs) blocks) t ≡ Some a) ↔ BeginsAt funcs b a
     begins_there a t b at =
         let mapped = slice_get-map (start_of funcs) blocks t ∙ ap (option_map (start_of funcs)) at in
-        let (to, from) = BeginsAt-start funcs b (All-contains (IsStretch funcs) blocks b are (contains_block t b at)) a in (
+        let (to, from) = BeginsAt-start funcs b (All-contains (IsOfFunction funcs) blocks b are (contains_block t b at)) a in (
           (λ is. from (same_Some (start_of funcs b) a (sym mapped ∙ is))),
           (λ begins. mapped ∙ ap (λ (x : ℕ). Some x) (to begins)),
         )

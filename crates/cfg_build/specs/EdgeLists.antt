@@ -1,19 +1,16 @@
 -- Edges as they are listed: the addresses to which the end of a block leads, and the blocks that begin there.
-use Rattle.std.specs.Prelude.{◌≡◌, ◌+◌, ◌<◌, ◌≤◌, ℕ, List, Some, IsTrue, IsSomeAnd, All, Any, AllPairs, Contains, length, slice_get}
+use Rattle.std.specs.Prelude.{◌≡◌, ◌+◌, ℕ, List, Some, IsTrue, IsSomeAnd, All, Any, AllPairs, Contains, slice_get}
 use Rattle.std.specs.Option.{option_map_or}
 use Rattle.rv_code.specs.declared.placed.Placed.{Placed}
 use Rattle.rv_code.specs.declared.placed.Func.{Func}
 use Rattle.rv_code.specs.declared.placed.Block.{Block}
 use Rattle.rv_code.specs.layout.Blocks.{inst_at, func_of, EndsBlock, IsBefore}
 use Rattle.rv_code.specs.layout.Flow.{target_of, falls_at}
-
--- a block's instructions are some of a function's
-abbrev pub IsStretch : List Func → Block → Type 0
-IsStretch funcs b = IsSomeAnd (func_of funcs b) (λ func. (b.first ≤ b.last) × (b.last < length func.insts.items))
+use Rattle.rv_code.specs.layout.InFunctions.{IsOfFunction}
 
 -- blocks of functions, in order
 pub record AreStretches (funcs : List Func) (blocks : List Block) : Type 0 where
-  pub each : All (IsStretch funcs) blocks
+  pub each : All (IsOfFunction funcs) blocks
   pub ordered : AllPairs IsBefore blocks
 
 -- the address at which a block begins

@@ -5,7 +5,8 @@ ghost use Rattle.rv_code.specs.layout.Edges.{AreEdges, AreTablePairs};
 ghost use Rattle.rv_code.specs.layout.FunctionLists.{AreLaidOut, IsLaidOut, code_limit};
 ghost use Rattle.rv_code.specs.layout.Lists.{IsPairBefore, ListsPairs};
 ghost use Rattle.func_find.specs.Referred.{Gains};
-ghost use Rattle.cfg_build.specs.EdgeLists.{AreStretches, IsNextOf, IsStretch, LeadsFrom, start_of, IsBlockAt};
+ghost use Rattle.rv_code.specs.layout.InFunctions.{IsOfFunction};
+ghost use Rattle.cfg_build.specs.EdgeLists.{AreStretches, IsNextOf, LeadsFrom, start_of, IsBlockAt};
 
 use crate::ends::{fall_target, jump_target};
 use elf_image::function_bounds::make_ascending;
@@ -42,7 +43,7 @@ pub fn edges(
 
 // The addresses at which blocks begin.
 fn block_starts(alloc: Global, funcs: &[Func], blocks: &[Block]) -> Result<Vec<u64>, AllocError>
-    requires { All (IsStretch funcs.now) blocks.now }
+    requires { All (IsOfFunction funcs.now) blocks.now }
     ensures { IfOk result (λ starts. starts.items ≡ map (start_of funcs.now) blocks.now) }
 {
     let mut starts = Vec::new(alloc);
@@ -53,7 +54,7 @@ fn block_starts(alloc: Global, funcs: &[Func], blocks: &[Block]) -> Result<Vec<u
 }
 
 fn start_of(funcs: &[Func], block: &Block) -> u64
-    requires { IsStretch funcs.now block.now }
+    requires { IsOfFunction funcs.now block.now }
     ensures { result ≡ start_of funcs.now block.now }
 {
     funcs[block.func].insts[block.first].addr

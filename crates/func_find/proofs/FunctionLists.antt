@@ -34,7 +34,8 @@ use Rattle.func_find.specs.InstLists.{IsBareBefore, IsGoodBefore, IsFaultBefore,
 use Rattle.func_find.specs.Targets.{IsHeld, IsCodeIn, IsInsideIn, JumpsNowhere, CallsInside, IsMisled, HasMisled, IsBadStart}
 use Rattle.func_find.proofs.Judged.{IsCodePart-function, HasValidInst-from, HasValidInst-before}
 
-pub AreApart-functions : (elf : Elf) (tabled : List (ℕ × ℕ)) (parts : List Part) → AreFunctionParts elf tabled parts → AreApart parts
+pub AreApart-functions : (elf : Elf) (tabled : List (ℕ × ℕ)) (parts : List Part) →
+    AreFunctionParts elf tabled parts → AreApart parts
 AreApart-functions elf tabled parts are = record {
   has_bytes = λ k d within.
       let x = slice_index_or parts k d in
@@ -68,7 +69,11 @@ IsCodeIn-address elf tabled starts parts are functions a = (
       let (low, high) = starts_inside elf is.start is.end a is.starts in
       record {
         start = are.each a
-            (record { start = is.start; end = is.end; is_start = record { part = IsCodePart-function elf tabled is.start is.end is.function; starts = is.starts } });
+            (record {
+              start = is.start;
+              end = is.end;
+              is_start = record { part = IsCodePart-function elf tabled is.start is.end is.function; starts = is.starts };
+            });
         held = (p, record { listed = functions.each p is.function; above = low; below = high });
       }),
 )
@@ -117,9 +122,10 @@ role_of roles ordered a r s (j, within, at) (k, within', at') =
     (cases_lt k j))
     (cases_lt j k)
 
-role_is : (elf : Elf) (roles : List (ℕ × Role)) → AreRoles elf roles → (a : ℕ) (role is : Role) → HasRole elf a role → RoleIs elf a is →
-    is ≡ role
-role_is elf roles are a role is has (inl other) = role_of roles are.ordered a is role (are.each (a, is) other) (are.each (a, role) has)
+role_is : (elf : Elf) (roles : List (ℕ × Role)) → AreRoles elf roles → (a : ℕ) (role is : Role) →
+    HasRole elf a role → RoleIs elf a is → is ≡ role
+role_is elf roles are a role is has (inl other) =
+    role_of roles are.ordered a is role (are.each (a, is) other) (are.each (a, role) has)
 role_is elf roles are a role is has (inr (none, plain)) = absurd (none has.relocation has.key role has.claims)
 
 -- Bad targets.
@@ -139,7 +145,8 @@ misled_from elf tabled starts roles wholes parts funcs are are_roles functions m
 
     misled : (f : Func) (q : Placed) → Contains funcs f → Contains f.insts.items q → q.addr ≡ place → IsMisled starts parts q →
         HasMisled starts parts funcs place
-    misled f q (k, within, is) in_insts at wrong = (k, f, within, is, record { item = q; listed = in_insts; bad = wrong; place_is = at })
+    misled f q (k, within, is) in_insts at wrong =
+        (k, f, within, is, record { item = q; listed = in_insts; bad = wrong; place_is = at })
 
     found : IsBadTarget elf tabled place → HasMisled starts parts funcs place
     found (direct code inst bytes there to goes none) =
@@ -158,9 +165,11 @@ misled_from elf tabled starts roles wholes parts funcs are are_roles functions m
     found (pair code to has inside) =
         let (f, in_funcs, (q, in_insts, at, (end, placed))) = listed place code in
         let is : q.role ≡ CallHi to =
-        role_is elf roles are_roles q.addr (CallHi to) q.role (subst (λ (x : ℕ). HasRole elf x (CallHi to)) (sym at) has) placed.role in
+        role_is elf roles are_roles q.addr (CallHi to) q.role
+        (subst (λ (x : ℕ). HasRole elf x (CallHi to)) (sym at) has) placed.role in
         misled f q in_funcs in_insts at
-        (inr (record { to = to; role_is = is; inside = (IsInsideIn-instruction elf tabled starts parts are functions to).1 inside }))
+        (inr
+        (record { to = to; role_is = is; inside = (IsInsideIn-instruction elf tabled starts parts are functions to).1 inside }))
 
 no_plain_call : (to : ℕ) → Plain ≡ CallHi to → ⊥
 no_plain_call to is = cc
@@ -169,7 +178,8 @@ has_role : (elf : Elf) (a to : ℕ) (role : Role) → role ≡ CallHi to → Rol
 has_role elf a to role is (inl has) = subst (HasRole elf a) is has
 has_role elf a to role is (inr (none, plain)) = absurd (no_plain_call to (sym plain ∙ is))
 
-misled_to : (elf : Elf) (tabled : List (ℕ × ℕ)) (starts : List ℕ) (wholes parts : List Part) (funcs : List Func) → AreStarts elf starts →
+misled_to : (elf : Elf) (tabled : List (ℕ × ℕ)) (starts : List ℕ) (wholes parts : List Part) (funcs : List Func) →
+    AreStarts elf starts →
     AreFunctionParts elf tabled parts → AreMadeOf elf wholes parts funcs → (place : ℕ) → HasMisled starts parts funcs place →
     IsBadTarget elf tabled place
 misled_to elf tabled starts wholes parts funcs are functions made place (k, f, within, is, wrong) =
@@ -263,9 +273,15 @@ not_good elf tabled parts functions all_good place bad =
     (HasValidInst-from elf bad.start bad.end place fine.inst fine.bytes
     (IsCodePart-function elf tabled bad.start bad.end bad.function) bad.starts fine.valid)
 
-bare_before : (elf : Elf) (tabled : List (ℕ × ℕ)) (place : ℕ) → (bad : IsBareAuipc elf tabled place) → IsBareBefore elf bad.end place
+bare_before : (elf : Elf) (tabled : List (ℕ × ℕ)) (place : ℕ) → (bad : IsBareAuipc elf tabled place) →
+    IsBareBefore elf bad.end place
 bare_before elf tabled place bad =
-    record { rd = bad.rd; imm = bad.imm; auipc = HasValidInst-before elf bad.start bad.end place _ 4 bad.auipc; no_role = bad.no_role }
+    record {
+      rd = bad.rd;
+      imm = bad.imm;
+      auipc = HasValidInst-before elf bad.start bad.end place _ 4 bad.auipc;
+      no_role = bad.no_role;
+    }
 
 not_bare : (elf : Elf) (tabled : List (ℕ × ℕ)) (parts : List Part) → AreFunctionParts elf tabled parts →
     ((p : Part) (a : ℕ) → Contains parts p → StartsIn elf p.start p.end a → IsGoodBefore elf p.end a) →
@@ -283,8 +299,10 @@ made_good elf wholes parts funcs made p a listed starts =
     let placed = (is.insts.each q in_insts).1 in
     subst (IsGoodBefore elf p.end) at (record { inst = q.inst; bytes = q.len; valid = placed.valid; not_bare = placed.not_bare })
 
-pub no_bad : (elf : Elf) (tabled : List (ℕ × ℕ)) (wholes parts : List Part) (funcs : List Func) → AreFunctionParts elf tabled parts →
-    AreMadeOf elf wholes parts funcs → Lacks (HasFunctionFault elf tabled) BadInstruction × Lacks (HasFunctionFault elf tabled) BareAuipc
+pub no_bad : (elf : Elf) (tabled : List (ℕ × ℕ)) (wholes parts : List Part) (funcs : List Func) →
+    AreFunctionParts elf tabled parts →
+    AreMadeOf elf wholes parts funcs →
+    Lacks (HasFunctionFault elf tabled) BadInstruction × Lacks (HasFunctionFault elf tabled) BareAuipc
 no_bad elf tabled wholes parts funcs functions made = (
   not_good elf tabled parts functions (made_good elf wholes parts funcs made),
   not_bare elf tabled parts functions
@@ -292,7 +310,8 @@ no_bad elf tabled wholes parts funcs functions made = (
 )
 
 -- the first of them is answered
-pub IsAnswered-first_bad : (elf : Elf) (tabled : List (ℕ × ℕ)) (parts : List Part) (fault : Fault) → AreFunctionParts elf tabled parts →
+pub IsAnswered-first_bad : (elf : Elf) (tabled : List (ℕ × ℕ)) (parts : List Part) (fault : Fault) →
+    AreFunctionParts elf tabled parts →
     Lacks (HasFunctionFault elf tabled) BadEntry → IsFirstIn elf parts fault → IsAnswered (HasFunctionFault elf tabled) fault
 IsAnswered-first_bad elf tabled parts fault functions no_entry first = answered first.is
   where
@@ -333,7 +352,8 @@ IsAnswered-first_bad elf tabled parts fault functions no_entry first = answered 
         end = first.part.end;
         function = function;
         starts = first.starts;
-        invalid = λ inst bytes has. none inst bytes (HasValidInst-before elf first.part.start first.part.end first.place inst bytes has);
+        invalid = λ inst bytes has. none inst bytes
+            (HasValidInst-before elf first.part.start first.part.end first.place inst bytes has);
       };
       first = lacks_below_instruction elf tabled no_entry;
       lowest = least;
@@ -364,7 +384,8 @@ least_target elf tabled place lowest BadTarget other number has = lowest.least o
 least_target elf tabled place lowest _ other number has = absurd has
 
 pub IsAnswered-target : (elf : Elf) (tabled : List (ℕ × ℕ)) (place : ℕ) → LacksBelow (HasFunctionFault elf tabled) 17 →
-    IsLowest (HasFunctionFault elf tabled BadTarget) (Some place) → IsAnswered (HasFunctionFault elf tabled) (fault_at BadTarget place)
+    IsLowest (HasFunctionFault elf tabled BadTarget) (Some place) →
+    IsAnswered (HasFunctionFault elf tabled) (fault_at BadTarget place)
 IsAnswered-target elf tabled place none lowest = record {
   present = lowest.present;
   first = none;
@@ -374,8 +395,8 @@ IsAnswered-target elf tabled place none lowest = record {
 
 -- The functions.
 
-IsFunction-made : (elf : Elf) (tabled : List (ℕ × ℕ)) (wholes : List Part) (p : Part) (f : Func) → AreWholeParts elf tabled wholes →
-    IsFunctionPart elf tabled p.start p.end → IsMadeOf elf wholes p f → IsFunction elf tabled f
+IsFunction-made : (elf : Elf) (tabled : List (ℕ × ℕ)) (wholes : List Part) (p : Part) (f : Func) →
+    AreWholeParts elf tabled wholes → IsFunctionPart elf tabled p.start p.end → IsMadeOf elf wholes p f → IsFunction elf tabled f
 IsFunction-made elf tabled wholes p f are function made = record {
   part = subst (λ (s : ℕ). IsFunctionPart elf tabled s f.end) (sym made.start)
       (subst (IsFunctionPart elf tabled p.start) (sym made.end) function);
@@ -391,9 +412,11 @@ IsFunction-made elf tabled wholes p f are function made = record {
 }
 
 pub AreFunctions-made : (elf : Elf) (tabled : List (ℕ × ℕ)) (wholes parts : List Part) (funcs : List Func) →
-    AreWholeParts elf tabled wholes → AreFunctionParts elf tabled parts → AreMadeOf elf wholes parts funcs → AreFunctions elf tabled funcs
+    AreWholeParts elf tabled wholes → AreFunctionParts elf tabled parts → AreMadeOf elf wholes parts funcs →
+    AreFunctions elf tabled funcs
 AreFunctions-made elf tabled wholes parts funcs are functions made = record {
-  only = λ f listed. let (p, in_parts, is) = made.only f listed in IsFunction-made elf tabled wholes p f are (functions.only p in_parts) is;
+  only = λ f listed. let (p, in_parts, is) = made.only f listed in
+      IsFunction-made elf tabled wholes p f are (functions.only p in_parts) is;
   each = λ start end function.
       let (f, in_funcs, is) =
       made.each (record { start = start; end = end }) (functions.each (record { start = start; end = end }) function) in
@@ -408,7 +431,8 @@ AreFunctions-made elf tabled wholes parts funcs are functions made = record {
       omega arith;
 }
 
-pub IsRefusalBy-first : (elf : Elf) (tabled : List (ℕ × ℕ)) (parts : List Part) (r : Refusal) → AreFunctionParts elf tabled parts →
+pub IsRefusalBy-first : (elf : Elf) (tabled : List (ℕ × ℕ)) (parts : List Part) (r : Refusal) →
+    AreFunctionParts elf tabled parts →
     Lacks (HasFunctionFault elf tabled) BadEntry → IsFirstRefusal elf parts r → IsRefusalBy (HasFunctionFault elf tabled) r
 IsRefusalBy-first elf tabled parts (refusal.Fault fault) functions no_entry first =
     IsAnswered-first_bad elf tabled parts fault functions no_entry first

@@ -23,8 +23,8 @@ use Rattle.func_find.proofs.StartsApart.{starts_apart, length_is}
 
 -- A valid instruction of a code part.
 
-pub HasValidInst-from : (elf : Elf) (start end a : ℕ) (inst : Inst) (bytes : ℕ) → IsCodePart elf start end → StartsIn elf start end a →
-    IsValidBefore elf end a inst bytes → HasValidInst elf start end a inst bytes
+pub HasValidInst-from : (elf : Elf) (start end a : ℕ) (inst : Inst) (bytes : ℕ) → IsCodePart elf start end →
+    StartsIn elf start end a → IsValidBefore elf end a inst bytes → HasValidInst elf start end a inst bytes
 HasValidInst-from elf start end a inst bytes part starts valid = record {
   has = record { starts = record { part = part; starts = starts }; is_inst = valid.before.is_inst; inside = valid.before.inside };
   even = valid.even;
@@ -50,7 +50,8 @@ nop_not_zero elf start end nop zeros =
     let bytes = nop.part.has_bytes in
     let (is, inside) = nop.nops start (at_start bytes) in
     let long : 2 ≤ length_at elf start = length_two (halfword_at elf start % 4 == 3) in
-    let low : unwrap_or (byte_at elf start) 0 ≡ 0 = ap (λ (o : Option ℕ). unwrap_or o 0) (zeros.zeros start (omega arith) bytes) in
+    let low : unwrap_or (byte_at elf start) 0 ≡ 0 =
+    ap (λ (o : Option ℕ). unwrap_or o 0) (zeros.zeros start (omega arith) bytes) in
     let high : unwrap_or (byte_at elf (start + 1)) 0 ≡ 0 =
     ap (λ (o : Option ℕ). unwrap_or o 0) (zeros.zeros (start + 1) (omega arith) (omega arith)) in
     let half : halfword_at elf start ≡ 0 = rw (low, high) refl in
@@ -87,7 +88,9 @@ pub HasReferred-any : (elf : Elf) (tabled : List (ℕ × ℕ)) (start end : ℕ)
     Any (Contains addresses) inside ↔ HasReferred elf tabled start end
 HasReferred-any elf tabled start end addresses inside names are = (
   (λ (k, a, within, is, listed). record { place = a; starts = (are a).0 (k, within, is); referred_there = (names a).0 listed }),
-  (λ has. let (k, within, is) = (are has.place).1 has.starts in (k, has.place, within, is, (names has.place).1 has.referred_there)),
+  (λ has.
+      let (k, within, is) = (are has.place).1 has.starts in
+      (k, has.place, within, is, (names has.place).1 has.referred_there)),
 )
 
 pub IsFunctionPart-referred : (elf : Elf) (tabled : List (ℕ × ℕ)) (start end : ℕ) → IsNopPart elf start end →
@@ -116,7 +119,13 @@ IsFunctionPart-entered elf tabled start end nops none = (enters, entered)
         last = a;
         starts = has.has.starts.starts;
         falls_there =
-            record { inst = inst; bytes = bytes; valid = HasValidInst-before elf before start a inst bytes has; ends = ends; falls_out = goes };
+            record {
+              inst = inst;
+              bytes = bytes;
+              valid = HasValidInst-before elf before start a inst bytes has;
+              ends = ends;
+              falls_out = goes;
+            };
       };
     }
 
@@ -135,7 +144,8 @@ FallsOut-last elf start end count inside d ordered are all some = (
       let less : slice_index_or inside k d < x = ordered k (count - 1) d early (omega arith) in
       let far = starts_apart elf start end out.last x out.starts starts (omega arith) in
       let falls = out.falls_there in
-      let bytes : falls.bytes ≡ length_at elf out.last = length_is elf out.last falls.inst falls.bytes falls.valid.before.is_inst in
+      let bytes : falls.bytes ≡ length_at elf out.last =
+      length_is elf out.last falls.inst falls.bytes falls.valid.before.is_inst in
       let ends = falls.ends in
       let high = (starts_inside elf start end x starts).1 in
       absurd (omega arith))
@@ -155,8 +165,10 @@ FallsOut-last elf start end count inside d ordered are all some = (
 -- The function that ends where a part starts is the last one before it.
 
 pub IsEntered-from : (elf : Elf) (tabled : List (ℕ × ℕ)) (start count : ℕ) (before : List Part) (d : Part) →
-    AreFunctionsBefore elf tabled start before → count ≡ length before → 0 < count → (slice_index_or before (count - 1) d).end ≡ start →
-    FallsOut elf (slice_index_or before (count - 1) d).start (slice_index_or before (count - 1) d).end → IsEntered elf tabled start
+    AreFunctionsBefore elf tabled start before → count ≡ length before → 0 < count →
+    (slice_index_or before (count - 1) d).end ≡ start →
+    FallsOut elf (slice_index_or before (count - 1) d).start (slice_index_or before (count - 1) d).end →
+    IsEntered elf tabled start
 IsEntered-from elf tabled start count before d are all some ends falls =
     let x = slice_index_or before (count - 1) d in
     let function = are.only x (count - 1, omega arith, get_or_default before (count - 1) x d (omega arith)) in
@@ -195,7 +207,8 @@ pub AreFunctionsBefore-chosen : (elf : Elf) (tabled : List (ℕ × ℕ)) (parts 
     AreFunctionsBefore elf tabled (slice_index_or parts i d).start kept
 AreFunctionsBefore-chosen elf tabled parts kept i d are within chosen = record {
   only = λ p listed. (chosen.only p listed).1;
-  each = λ p function below. chosen.each p (early p (are.each p (IsCodePart-function elf tabled p.start p.end function)) below, function);
+  each = λ p function below. chosen.each p
+      (early p (are.each p (IsCodePart-function elf tabled p.start p.end function)) below, function);
   ordered = chosen.ordered;
   below = λ p listed. before p (chosen.only p listed).0;
 }
@@ -203,7 +216,8 @@ AreFunctionsBefore-chosen elf tabled parts kept i d are within chosen = record {
     before : (p : Part) → Contains (take i parts) p → p.end ≤ (slice_index_or parts i d).start
     before p (k, low, there) =
         let short : k < i = let len = length-take i parts in omega arith in
-        let at : slice_index_or parts k d ≡ p = get_or_default parts k d p (omega arith) ∙ sym (get_or-take i parts k p short) ∙ there in
+        let at : slice_index_or parts k d ≡ p =
+        get_or_default parts k d p (omega arith) ∙ sym (get_or-take i parts k p short) ∙ there in
         let order : (slice_index_or parts k d).end ≤ (slice_index_or parts i d).start = are.ordered k i d short within in
         let same : (slice_index_or parts k d).end ≡ p.end = ap (λ (q : Part). q.end) at in
         omega arith
@@ -233,7 +247,8 @@ AreFunctionsBefore-chosen elf tabled parts kept i d are within chosen = record {
 
 -- The starts of the file inside a part.
 pub inside_starts : (elf : Elf) (starts inside : List ℕ) (start end : ℕ) → AreStarts elf starts → IsCodePart elf start end →
-    ((a : ℕ) → Contains inside a ↔ (Contains starts a × (start ≤ a) × (a < end))) → (a : ℕ) → Contains inside a ↔ StartsIn elf start end a
+    ((a : ℕ) → Contains inside a ↔ (Contains starts a × (start ≤ a) × (a < end))) → (a : ℕ) →
+    Contains inside a ↔ StartsIn elf start end a
 inside_starts elf starts inside start end are part members a =
     let (to, from) = StartsIn-inside elf starts start end are part a in
     let (out, back) = members a in

@@ -62,7 +62,9 @@ placed_next elf start end address next was now p inside placed pushed is are =
           (subst (StartsIn elf start end) (sym addr) starts, subst (λ (x : ℕ). IsPlacedAt elf end x p) (sym addr) placed))
           (Contains-push_cases was p q listed);
       all = λ a there less. ⊎_elim
-          (λ (early : a < address). let (q, listed, at) = are.all a there early in (q, Contains-append_left was (p ∷ []) q listed, at))
+          (λ (early : a < address).
+          let (q, listed, at) = are.all a there early in
+          (q, Contains-append_left was (p ∷ []) q listed, at))
           (λ (late : address ≤ a). ⊎_elim
           (λ (above : address < a). let far = starts_apart elf start end address a starts there above in absurd (omega arith))
           (λ (not_above : a ≤ address). let e : address ≡ a = omega arith in (p, Contains-push was p, addr ∙ e))
@@ -73,8 +75,8 @@ placed_next elf start end address next was now p inside placed pushed is are =
       bound = within;
     }))
 
-pub placed_all : (elf : Elf) (start end address : ℕ) (insts : List Placed) → end ≤ address → ArePlacedTo elf start end address insts →
-    ArePlaced elf start end insts
+pub placed_all : (elf : Elf) (start end address : ℕ) (insts : List Placed) → end ≤ address →
+    ArePlacedTo elf start end address insts → ArePlaced elf start end insts
 placed_all elf start end address insts past are =
     let bound = are.bound in
     let e : address ≡ end = omega arith in
@@ -115,8 +117,8 @@ made_none elf wholes parts = record {
   ordered = λ i j d less within. absurd (omega arith);
 }
 
-pub made_next : (elf : Elf) (wholes parts : List Part) (i : ℕ) (d : Part) (was now : List Func) (func : Func) → AllPairs Follows parts →
-    i < length parts → IsMadeOf elf wholes (slice_index_or parts i d) func → now ≡ was ++ func ∷ [] →
+pub made_next : (elf : Elf) (wholes parts : List Part) (i : ℕ) (d : Part) (was now : List Func) (func : Func) →
+    AllPairs Follows parts → i < length parts → IsMadeOf elf wholes (slice_index_or parts i d) func → now ≡ was ++ func ∷ [] →
     AreMadeOf elf wholes (take i parts) was → AreMadeOf elf wholes (take (i + 1) parts) now
 made_next elf wholes parts i d was now func ordered within made pushed are =
     subst (λ (fs : List Func). AreMadeOf elf wholes (take (i + 1) parts) fs) (sym pushed)
@@ -144,7 +146,8 @@ made_next elf wholes parts i d was now func ordered within made pushed are =
     before : (p : Part) → Contains (take i parts) p → p.end ≤ (slice_index_or parts i d).start
     before p (k, low, there) =
         let short : k < i = let len = length-take i parts in omega arith in
-        let at : slice_index_or parts k d ≡ p = get_or_default parts k d p (omega arith) ∙ sym (get_or-take i parts k p short) ∙ there in
+        let at : slice_index_or parts k d ≡ p =
+        get_or_default parts k d p (omega arith) ∙ sym (get_or-take i parts k p short) ∙ there in
         let order : (slice_index_or parts k d).end ≤ (slice_index_or parts i d).start = ordered k i d short within in
         let same : (slice_index_or parts k d).end ≡ p.end = ap (λ (q : Part). q.end) at in
         omega arith
@@ -170,7 +173,8 @@ first_of_all elf wholes parts i d funcs fault ordered within are first = record 
       let at : slice_index_or parts k d ≡ p = get_or_default parts k d p inside ∙ there in
       ⊎_elim
       (λ (early : k < i).
-      let listed : Contains (take i parts) p = (k, (let len = length-take i parts in omega arith), get_or-take i parts k p early ∙ there) in
+      let listed : Contains (take i parts) p =
+      (k, (let len = length-take i parts in omega arith), get_or-take i parts k p early ∙ there) in
       let (f, in_funcs, made) = are.each p listed in
       let (q, in_insts, addr) = made.insts.all a starts in
       good elf p.end q a (made.insts.each q in_insts).1 addr)

@@ -11,7 +11,8 @@ use Rattle.rv_reloc.specs.Refs.{AreRefs}
 use Rattle.func_find.specs.Referred.{Gains, GoesTo, PartGoesTo, AreReferred}
 use Rattle.func_find.proofs.Judged.{HasValidInst-from, HasValidInst-before}
 
-pub part_goes : (elf : Elf) (p : Part) (inside : List ℕ) → ((a : ℕ) → Contains inside a ↔ StartsIn elf p.start p.end a) → (a : ℕ) →
+pub part_goes : (elf : Elf) (p : Part) (inside : List ℕ) →
+    ((a : ℕ) → Contains inside a ↔ StartsIn elf p.start p.end a) → (a : ℕ) →
     Any (λ from. GoesTo elf p.end from a) inside ↔ PartGoesTo elf p a
 part_goes elf p inside are a = (
   (λ (k, from, within, is, goes). record { from = from; starts = (are from).0 (k, within, is); goes = goes }),
@@ -19,7 +20,8 @@ part_goes elf p inside are a = (
 )
 
 pub AreReferred-lists : (elf : Elf) (tabled : List (ℕ × ℕ)) (parts : List Part) (refs : Refs) (one two three four last : List ℕ) →
-    AreCodeParts elf parts → AreRefs elf tabled refs → one ≡ elf.entry ∷ [] → Gains one two (λ a. Any (λ p. PartGoesTo elf p a) parts) →
+    AreCodeParts elf parts → AreRefs elf tabled refs → one ≡ elf.entry ∷ [] →
+    Gains one two (λ a. Any (λ p. PartGoesTo elf p a) parts) →
     Gains two three (λ a. Any (λ r. RoleNames r.1 a) refs.roles.items) →
     Gains three four (λ a. Any (λ c. CellNames c a) refs.cells.items) → ((a : ℕ) → Contains last a ↔ Contains four a) →
     AreReferred elf tabled last
@@ -60,7 +62,12 @@ AreReferred-lists elf tabled parts refs one two three four last are refers first
         let part : PartGoesTo elf p a = record {
           from = from;
           starts = has.has.starts.starts;
-          goes = record { inst = inst; bytes = bytes; valid = HasValidInst-before elf start end from inst bytes has; target_is = goes };
+          goes = record {
+            inst = inst;
+            bytes = bytes;
+            valid = HasValidInst-before elf start end from inst bytes has;
+            target_is = goes;
+          };
         } in
         put_two ((jumps a).1 (inr (k, p, within, is, part)))
     listed (role at r has names) =

@@ -8,8 +8,8 @@ use Rattle.elf_image.specs.code.Parts.{StartsIn, IsInstAt, length_at, halfword_a
 use Rattle.rv_reloc.proofs.StartLists.{length_positive, starts_cases, starts_inside}
 
 -- no start lies in the instruction of another
-starts_apart_by : (elf : Elf) (n start end a b : ℕ) → end ≤ start + n → StartsIn elf start end a → StartsIn elf start end b → a < b →
-    a + length_at elf a ≤ b
+starts_apart_by : (elf : Elf) (n start end a b : ℕ) → end ≤ start + n → StartsIn elf start end a →
+    StartsIn elf start end b → a < b → a + length_at elf a ≤ b
 starts_apart_by elf zero start end a b enough first second less =
     let (low, high) = starts_inside elf start end a first in absurd (omega arith)
 starts_apart_by elf (suc n) start end a b enough first second less =
@@ -28,7 +28,8 @@ starts_apart_by elf (suc n) start end a b enough first second less =
     (starts_cases elf start end b second))
     (starts_cases elf start end a first)
 
-pub starts_apart : (elf : Elf) (start end a b : ℕ) → StartsIn elf start end a → StartsIn elf start end b → a < b → a + length_at elf a ≤ b
+pub starts_apart : (elf : Elf) (start end a b : ℕ) → StartsIn elf start end a → StartsIn elf start end b →
+    a < b → a + length_at elf a ≤ b
 starts_apart elf start end a b = starts_apart_by elf end start end a b (omega arith)
 
 -- how many bytes an instruction takes

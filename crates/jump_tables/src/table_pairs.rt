@@ -7,7 +7,7 @@ ghost use Rattle.jump_tables.specs.TablePairs.{IsPairOf};
 
 use crate::labels::{labels, named_addresses};
 use rb_bytes::fault::NoMemory;
-use rv_code::{Action, CodeCell, Func, Placed, RETURN_ADDRESS, Role, ZERO};
+use rv_code::{CodeCell, Func, Inst, Placed, RETURN_ADDRESS, Role, ZERO};
 use std::alloc::Global;
 
 /// The pairs of an indirect jump through a table and an address of its function that a cell names, by jump and by address.
@@ -74,18 +74,9 @@ pub fn is_table_jump(inst: &Placed) -> bool
     if inst.role != Role::Plain {
         return false;
     }
-    match inst.inst.action() {
-        Action::JumpTo { rd, rs1, .. } => rd == ZERO && rs1 != RETURN_ADDRESS,
-        Action::Branch { .. }
-        | Action::Jump { .. }
-        | Action::Compute { .. }
-        | Action::Upper { .. }
-        | Action::UpperPc { .. }
-        | Action::Load { .. }
-        | Action::Store { .. }
-        | Action::Fence
-        | Action::SystemCall
-        | Action::Breakpoint => false,
+    match inst.inst {
+        Inst::Jalr { rd, rs1, .. } => rd == ZERO && rs1 != RETURN_ADDRESS,
+        _ => false,
     }
 }
 

@@ -21,10 +21,11 @@ role_hi : (kind target : ℕ) → kind ≡ R_RISCV_HI20 → AbsHi target ≡ abs
 role_hi kind target is = sym (ap (λ (b : Bool). cond b (AbsHi target) (AbsLo target)) (eq-eqb kind R_RISCV_HI20 is))
 
 role_lo : (kind target : ℕ) → IsAbsoluteLow kind → AbsLo target ≡ absolute_role kind target
-role_lo kind target is = sym (ap (λ (b : Bool). cond b (AbsHi target) (AbsLo target)) (ne_eqb kind R_RISCV_HI20 (low_differs kind is)))
+role_lo kind target is =
+    sym (ap (λ (b : Bool). cond b (AbsHi target) (AbsLo target)) (ne_eqb kind R_RISCV_HI20 (low_differs kind is)))
 
-pub absolute_view : (elf : Elf) (q : Relocation) (a key : ℕ) (role : Role) → IsTrue (is_absolute q.kind) → Claims elf q a key role →
-    AbsoluteTo elf q key × (role ≡ absolute_role q.kind key)
+pub absolute_view : (elf : Elf) (q : Relocation) (a key : ℕ) (role : Role) → IsTrue (is_absolute q.kind) →
+    Claims elf q a key role → AbsoluteTo elf q key × (role ≡ absolute_role q.kind key)
 absolute_view elf q a key role is (Claims.call_hi target to here key_is role_is) =
     let x = between q.kind (absolute_kind q.kind is) in let y = call_kind q.kind to.pair.is_call in absurd (omega arith)
 absolute_view elf q a key role is (Claims.call_lo target to here key_is role_is) =
@@ -42,12 +43,15 @@ absolute_view elf q a key role is (Claims.abs_lo target to kind inst full some h
 
 absolute_claims : (elf : Elf) (r : Relocation) (t : ℕ) → AbsoluteTo elf r t → HasAbsolute elf r t →
     Claims elf r r.place t (absolute_role r.kind t)
-absolute_claims elf r t to (HasAbsolute.upper kind rd full) = Claims.abs_hi t to kind rd _ full refl refl (sym (role_hi r.kind t kind))
+absolute_claims elf r t to (HasAbsolute.upper kind rd full) =
+    Claims.abs_hi t to kind rd _ full refl refl (sym (role_hi r.kind t kind))
 absolute_claims elf r t to (HasAbsolute.lower kind inst full imm) =
     Claims.abs_lo t to kind inst full (immediate_some _ _ imm) refl refl (sym (role_lo r.kind t kind))
 
-pub absolute-claim : (elf : Elf) (r : Relocation) (t : ℕ) (role : Role) → role ≡ absolute_role r.kind t → IsTrue (is_absolute r.kind) →
-    AbsoluteTo elf r t → HasAbsolute elf r t → IsClaimOf elf r r.place (record { at = r.place; kind = r.kind; key = t; role = role })
+pub absolute-claim : (elf : Elf) (r : Relocation) (t : ℕ) (role : Role) → role ≡ absolute_role r.kind t →
+    IsTrue (is_absolute r.kind) →
+    AbsoluteTo elf r t → HasAbsolute elf r t →
+    IsClaimOf elf r r.place (record { at = r.place; kind = r.kind; key = t; role = role })
 absolute-claim elf r t role role_is is to has = record {
   at_is = refl;
   kind_is = refl;

@@ -39,8 +39,8 @@ as_upper : (inst : Inst) (target : ℕ) → HasUpper (lui_of inst) target → (r
 as_upper (Lui rd imm) target is = (rd, ap (Lui rd) is)
 as_upper inst target is = absurd (is)
 
-pub has-absolute : (elf : Elf) (r : Relocation) (target : ℕ) (inst : Inst) → IsTrue (is_absolute r.kind) → IsFullAt elf r.place inst →
-    HasPart r.kind inst target → HasAbsolute elf r target
+pub has-absolute : (elf : Elf) (r : Relocation) (target : ℕ) (inst : Inst) → IsTrue (is_absolute r.kind) →
+    IsFullAt elf r.place inst → HasPart r.kind inst target → HasAbsolute elf r target
 has-absolute elf r target inst is full (inl (hi, upper)) =
     let (rd, same) = as_upper inst target upper in
     HasAbsolute.upper hi rd (subst (IsFullAt elf r.place) same full)
@@ -52,21 +52,29 @@ pub absolute-part : (elf : Elf) (r : Relocation) (target : ℕ) (inst : Inst) �
 absolute-part elf r target inst only (HasAbsolute.upper hi rd full) =
     inl (hi, subst (λ (i : Inst). HasUpper (lui_of i) target) (sym (only _ full)) refl)
 absolute-part elf r target inst only (HasAbsolute.lower low i full lower) =
-    inr (low_differs r.kind low, subst (λ (j : Inst). lower_immediate r.kind j ≡ Some (lo12 (pos target))) (sym (only i full)) lower)
+    inr
+    (low_differs r.kind low, subst (λ (j : Inst). lower_immediate r.kind j ≡ Some (lo12 (pos target))) (sym (only i full)) lower)
 
-pub absolute-full : (elf : Elf) (r : Relocation) (target : ℕ) → HasAbsolute elf r target → (inst : Inst) × IsFullAt elf r.place inst
+pub absolute-full : (elf : Elf) (r : Relocation) (target : ℕ) → HasAbsolute elf r target →
+    (inst : Inst) × IsFullAt elf r.place inst
 absolute-full elf r target (HasAbsolute.upper hi rd full) = (_, full)
 absolute-full elf r target (HasAbsolute.lower low i full lower) = (i, full)
 
 -- a part that doesn't fit
-pub bad-absolute : (elf : Elf) (r : Relocation) (target : ℕ) (has : Bool) → IsTrue (is_absolute r.kind) → AbsoluteTo elf r target →
+pub bad-absolute : (elf : Elf) (r : Relocation) (target : ℕ) (has : Bool) → IsTrue (is_absolute r.kind) →
+    AbsoluteTo elf r target →
     ((t : ℕ) → AbsoluteTo elf r t → target ≡ t) → IsTrue has ↔ HasAbsolute elf r target → IsTrue (not has) ↔ IsBadAbsolute elf r
 bad-absolute elf r target true is part only tells = (
   λ no. let e : false ≡ true = no in absurd (cc),
   λ bad. absurd (bad.unfit (subst (HasAbsolute elf r) (only bad.target bad.part) (tells.0 refl))),
 )
 bad-absolute elf r target false is part only tells = (
-  λ _. record { target = target; part = part; absolute = absolute_kind r.kind is; unfit = λ has. let e : false ≡ true = tells.1 has in cc },
+  λ _. record {
+    target = target;
+    part = part;
+    absolute = absolute_kind r.kind is;
+    unfit = λ has. let e : false ≡ true = tells.1 has in cc;
+  },
   λ _. refl,
 )
 

@@ -35,8 +35,8 @@ misses-number elf labels hi entry number are there = (
   },
 )
 
-pub misses-none : (elf : Elf) (labels : List SlotLabel) (hi entry : ℕ) → AreSlotLabels elf labels → loaded_number elf entry 8 ≡ None →
-    HasLabelAt labels hi ↔ MissesLabel elf hi entry
+pub misses-none : (elf : Elf) (labels : List SlotLabel) (hi entry : ℕ) → AreSlotLabels elf labels →
+    loaded_number elf entry 8 ≡ None → HasLabelAt labels hi ↔ MissesLabel elf hi entry
 misses-none elf labels hi entry are none = (
   λ any. record {
     wanted = any.found;
@@ -50,7 +50,8 @@ misses-none elf labels hi entry are none = (
 -- What a lower part makes.
 
 pub entry-names : (elf : Elf) (l : Low) (target : ℤ) (entry : ℕ) → IsTargetOf elf l target →
-    ((z : ℤ) → IsTargetOf elf l z → target ≡ z) → pos entry ≡ target → IsAddress target → MissesLabel elf l.hi entry ↔ NamesBadEntry elf l
+    ((z : ℤ) → IsTargetOf elf l z → target ≡ z) → pos entry ≡ target → IsAddress target →
+    MissesLabel elf l.hi entry ↔ NamesBadEntry elf l
 entry-names elf l target entry makes only is address = (
   λ misses. record {
     entry = entry;
@@ -88,7 +89,8 @@ of_lows elf lows are p is =
       is = record {
         is_slot = said.is_slot;
         entry = is.bad.entry;
-        makes = target_upper elf source l (pos is.bad.entry) misses.is.counts (slot_is_hi source.kind said.is_slot) low is.bad.makes here;
+        makes = target_upper elf source l (pos is.bad.entry) misses.is.counts
+            (slot_is_hi source.kind said.is_slot) low is.bad.makes here;
         address = is.bad.address;
         unfit = λ holds. misses.unfit
             (subst (λ (z : ℤ). IsSomeAnd (loaded_number elf is.bad.entry 8) (λ v. z ≡ pos v)) said.label_is holds);
@@ -110,7 +112,8 @@ of_uppers elf lows are p has =
         address = bad.address;
         misses = record {
           wanted = record { place = r.place; label = label elf r };
-          is = record { source = r; counts = has.counts; is = record { is_slot = bad.is_slot; place_is = refl; label_is = refl } };
+          is =
+              record { source = r; counts = has.counts; is = record { is_slot = bad.is_slot; place_is = refl; label_is = refl } };
           place_is = refl;
           unfit = bad.unfit;
         };

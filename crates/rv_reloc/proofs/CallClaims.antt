@@ -17,14 +17,14 @@ same_number : (n m : ℕ) (z : ℤ) → pos n ≡ z → pos m ≡ z → n ≡ m
 same_number n m z is is' = let e : pos n ≡ pos m = is ∙ sym is' in cc
 
 -- the call of a relocation at an address
-pub same_call : (elf : Elf) (q : Relocation) (a : ℕ) (c : Call) → ((d : Call) → IsCallAt elf a d → c ≡ d) → (pair : CallPair elf q) →
-    a ≡ q.place → c ≡ call_of pair
+pub same_call : (elf : Elf) (q : Relocation) (a : ℕ) (c : Call) → ((d : Call) → IsCallAt elf a d → c ≡ d) →
+    (pair : CallPair elf q) → a ≡ q.place → c ≡ call_of pair
 same_call elf q a c only pair here =
     only (call_of pair) (subst (λ (n : ℕ). IsCallAt elf n (call_of pair)) (sym here) (pair_call elf q pair))
 
 -- its target is the one that the call goes to
-goes_same : (elf : Elf) (q : Relocation) (a : ℕ) (c : Call) (t target : ℕ) → ((d : Call) → IsCallAt elf a d → c ≡ d) → GoesTo a c t →
-    CallTo elf q (pos target) → a ≡ q.place → target ≡ t
+goes_same : (elf : Elf) (q : Relocation) (a : ℕ) (c : Call) (t target : ℕ) →
+    ((d : Call) → IsCallAt elf a d → c ≡ d) → GoesTo a c t → CallTo elf q (pos target) → a ≡ q.place → target ≡ t
 goes_same elf q a c t target only goes to here =
     let e = same_call elf q a c only to.pair here in
     let there : pos target ≡ pair_target a c.auipc.imm c.jalr.imm =
@@ -70,8 +70,10 @@ hi_claims : (elf : Elf) (r : Relocation) (c : Call) (t : ℕ) → Contains (relo
     IsCallAt elf r.place c → Names r.place c t → Claims elf r r.place r.place (CallHi t)
 hi_claims elf r c t counts is call (inl goes) =
     Claims.call_hi t
-    (record { pair = call_pair elf r c counts is call; through = goes.0.0; not_zero = goes.0.1; target_is = goes.1 }) refl refl refl
-hi_claims elf r c t counts is call (inr (zero, own)) = Claims.weak_call (call_pair elf r c counts is call) zero refl refl (ap CallHi own)
+    (record { pair = call_pair elf r c counts is call; through = goes.0.0; not_zero = goes.0.1; target_is = goes.1 })
+    refl refl refl
+hi_claims elf r c t counts is call (inr (zero, own)) =
+    Claims.weak_call (call_pair elf r c counts is call) zero refl refl (ap CallHi own)
 
 pub hi-claim : (elf : Elf) (r : Relocation) (c : Call) (t : ℕ) → Contains (relocations elf) r → IsTrue (is_call_pair r.kind) →
     IsCallAt elf r.place c → ((d : Call) → IsCallAt elf r.place d → c ≡ d) → Names r.place c t →
@@ -118,7 +120,8 @@ lo-claim elf r c t counts is call only goes = record {
   at_is = refl;
   kind_is = refl;
   claims = Claims.call_lo t
-      (record { pair = call_pair elf r c counts is call; through = goes.0.0; not_zero = goes.0.1; target_is = goes.1 }) refl refl refl;
+      (record { pair = call_pair elf r c counts is call; through = goes.0.0; not_zero = goes.0.1; target_is = goes.1 })
+      refl refl refl;
   sure = λ q role kind claims. lo_role elf q r.place r.place c t role
       (subst (λ (n : ℕ). IsTrue (is_call_pair n)) (sym kind) is) only goes refl claims;
 }

@@ -42,7 +42,8 @@ call_pair elf r c counts is_call is = record {
 
 -- a call that doesn't fit
 
-pub bad-none : (elf : Elf) (r : Relocation) → IsTrue (is_call_pair r.kind) → ((c : Call) → IsCallAt elf r.place c → ⊥) → IsBadCall elf r
+pub bad-none : (elf : Elf) (r : Relocation) → IsTrue (is_call_pair r.kind) →
+    ((c : Call) → IsCallAt elf r.place c → ⊥) → IsBadCall elf r
 bad-none elf r is_call none = IsBadCall.pair is_call (λ (pair, which). none (call_of pair) (pair_call elf r pair))
 
 pub unfit-bad : (elf : Elf) (r : Relocation) (c : Call) → Contains (relocations elf) r → IsTrue (is_call_pair r.kind) →
@@ -76,7 +77,8 @@ bad-unfit elf r c counts is_call is only (IsBadCall.address target to refuted) f
     let fits' = subst (FitsCall r.place) e fits in
     ⊎_elim (λ (through, address). refuted (subst IsAddress (sym to.target_is) address)) (λ weak. to.not_zero weak.0) fits'
 
-pub bad-some : (elf : Elf) (r : Relocation) (c : Call) (fits : Bool) → Contains (relocations elf) r → IsTrue (is_call_pair r.kind) →
+pub bad-some : (elf : Elf) (r : Relocation) (c : Call) (fits : Bool) → Contains (relocations elf) r →
+    IsTrue (is_call_pair r.kind) →
     IsCallAt elf r.place c → ((d : Call) → IsCallAt elf r.place d → c ≡ d) → IsTrue fits ↔ FitsCall r.place c →
     IsTrue (not fits) ↔ IsBadCall elf r
 bad-some elf r c true counts is_call is only tells = (
@@ -95,7 +97,8 @@ bad-is_call elf r (IsBadCall.address target to refuted) = to.pair.is_call
 -- The JALR after an instruction, in the same part.
 
 -- an address lies in one part
-pub held_once : (parts : List Part) (a : ℕ) (p q : Part) → AreApart parts → HoldsAddress parts a p → HoldsAddress parts a q → p ≡ q
+pub held_once : (parts : List Part) (a : ℕ) (p q : Part) → AreApart parts → HoldsAddress parts a p →
+    HoldsAddress parts a q → p ≡ q
 held_once parts a p q apart p_holds q_holds =
     let (k, k_within, k_is) = p_holds.listed in
     let (j, j_within, j_is) = q_holds.listed in
@@ -109,10 +112,12 @@ held_once parts a p q apart p_holds q_holds =
     let q_start = ap (λ (x : Part). x.start) q_is in
     let q_end = ap (λ (x : Part). x.end) q_is in
     ⊎_elim
-    (λ (less : k < j). let o : (slice_index_or parts k p).end ≤ (slice_index_or parts j p).start = apart.ordered k j p less j_within in
+    (λ (less : k < j). let o : (slice_index_or parts k p).end ≤ (slice_index_or parts j p).start =
+    apart.ordered k j p less j_within in
     absurd (omega arith))
     (λ (more : j ≤ k). ⊎_elim
-    (λ (above : j < k). let o : (slice_index_or parts j p).end ≤ (slice_index_or parts k p).start = apart.ordered j k p above k_within in
+    (λ (above : j < k). let o : (slice_index_or parts j p).end ≤ (slice_index_or parts k p).start =
+    apart.ordered j k p above k_within in
     absurd (omega arith))
     (λ (upto : k ≤ j). let e : k ≡ j = omega arith in sym k_is ∙ ap (λ (i : ℕ). slice_index_or parts i p) e ∙ q_is)
     (cases_lt j k))
@@ -159,7 +164,8 @@ jump_held elf parts start end a are here = start_held elf parts a are (record { 
 -- Both instructions.
 
 pub call_there : (elf : Elf) (a : ℕ) (u : Upper) (j : Jump) → IsFullAt elf a (Auipc u.rd u.imm) →
-    ((start end : ℕ) → IsStartIn elf start end a → IsJumpAfter elf start end a j) → IsCallAt elf a (record { auipc = u; jalr = j })
+    ((start end : ℕ) → IsStartIn elf start end a → IsJumpAfter elf start end a j) →
+    IsCallAt elf a (record { auipc = u; jalr = j })
 call_there elf a u j full after =
     let next = after full.start full.end full.has.starts in
     record { start = full.start; end = full.end; auipc = full.has; link = next.link; jalr = next.jalr }

@@ -60,7 +60,8 @@ same_field : (f g : Field) → f.place ≡ g.place → f.width ≡ g.width → f
 same_field f g p w c = λ i. record { place = p i; width = w i; content = c i }
 
 contents_up : (elf : Elf) (tabled : List (ℕ × ℕ)) (f g : Field) (c d : Content) → f.content ≡ c → g.content ≡ d →
-    CanBeCell elf tabled f → CanBeCell elf tabled g → f.place ≡ g.place → f.width ≡ g.width → IsContentUpTo c d → IsContentBefore c d
+    CanBeCell elf tabled f → CanBeCell elf tabled g → f.place ≡ g.place → f.width ≡ g.width →
+    IsContentUpTo c d → IsContentBefore c d
     ⊎ (c ≡ d)
 contents_up elf tabled f g (Address a) (Address b) c_is d_is can can' place width up =
     let one = address-loaded elf tabled f a can.is_field c_is in
@@ -103,7 +104,8 @@ can-be elf tabled records r f are listed (found.pointer is code) = record {
   no_header = let free = moved elf f r.place _ code.place_is code.width_is code.free in free.no_header;
 }
   where
-    moved : (e : Elf) (g : Field) (place width : ℕ) → g.place ≡ place → g.width ≡ width → AreFree e place width → AreFree e g.place g.width
+    moved : (e : Elf) (g : Field) (place width : ℕ) → g.place ≡ place → g.width ≡ width → AreFree e place width →
+        AreFree e g.place g.width
     moved e g place width p w free = subst (λ (x : ℕ). AreFree e x g.width) (sym p) (subst (AreFree e place) (sym w) free)
 can-be elf tabled records r f are listed (found.difference d) = record {
   is_field = difference (seen r) d.bits d.to d.from d.is d.can_be d.has_code d.across d.place_is d.width_is d.content_is;
@@ -111,7 +113,8 @@ can-be elf tabled records r f are listed (found.difference d) = record {
   no_header = let free = moved elf f r.place _ d.place_is d.width_is d.free in free.no_header;
 }
   where
-    moved : (e : Elf) (g : Field) (place width : ℕ) → g.place ≡ place → g.width ≡ width → AreFree e place width → AreFree e g.place g.width
+    moved : (e : Elf) (g : Field) (place width : ℕ) → g.place ≡ place → g.width ≡ width → AreFree e place width →
+        AreFree e g.place g.width
     moved e g place width p w free = subst (λ (x : ℕ). AreFree e x g.width) (sym p) (subst (AreFree e place) (sym w) free)
 
 free_of : (elf : Elf) (tabled : List (ℕ × ℕ)) (f : Field) (place width : ℕ) → CanBeCell elf tabled f → f.place ≡ place →
@@ -124,8 +127,8 @@ hi_kind : (kind : ℕ) → kind ≡ R_RISCV_GOT_HI20 → is_pcrel_hi kind ≡ tr
 hi_kind kind is = ap is_pcrel_hi is
 
 -- a slot can be a cell
-pub slot-can_be : (elf : Elf) (tabled : List (ℕ × ℕ)) (lows : List Low) (l : Low) (f : Field) → AreLows elf lows → Contains lows l →
-    IsSlotOf elf l f → CanBeCell elf tabled f
+pub slot-can_be : (elf : Elf) (tabled : List (ℕ × ℕ)) (lows : List Low) (l : Low) (f : Field) →
+    AreLows elf lows → Contains lows l → IsSlotOf elf l f → CanBeCell elf tabled f
 slot-can_be elf tabled lows l f are listed is =
     let low = (are.all l).0 listed in
     let n = is.entry.named in
@@ -143,7 +146,8 @@ slot-can_be elf tabled lows l f are listed is =
       no_header = free.no_header;
     }
 
-pub candidates-all : (elf : Elf) (tabled : List (ℕ × ℕ)) (records : List Record) (lows : List Low) (ofs slots both fields : List Field) →
+pub candidates-all : (elf : Elf) (tabled : List (ℕ × ℕ)) (records : List Record) (lows : List Low)
+    (ofs slots both fields : List Field) →
     AreRecords elf records → AreLows elf lows → AreFound (λ r f. IsFieldOf elf tabled (seen r) f) records ofs →
     AreFound (IsSlotOf elf) lows slots → both ≡ ofs ++ slots → IsPermutation both fields → AllPairs IsKeyUpTo fields →
     AreCandidates elf tabled fields
@@ -152,7 +156,8 @@ candidates-all elf tabled records lows ofs slots both fields are are_lows of_rec
   each = λ f is. Contains-permutation both fields f moved
       (subst (λ (fs : List Field). Contains fs f) (sym joined) (in_either f is is.is_field));
   ordered = λ i j d less within.
-      let at_i = can (slice_index_or fields i d) (i, omega arith, get_or_default fields i (slice_index_or fields i d) d (omega arith)) in
+      let at_i =
+      can (slice_index_or fields i d) (i, omega arith, get_or_default fields i (slice_index_or fields i d) d (omega arith)) in
       let at_j = can (slice_index_or fields j d) (j, within, get_or_default fields j (slice_index_or fields j d) d within) in
       field_up elf tabled (slice_index_or fields i d) (slice_index_or fields j d) at_i at_j (sorted i j d less within);
   has_bytes = λ f listed. let c = can f listed in has-bytes elf tabled f c.is_field;
@@ -187,11 +192,22 @@ candidates-all elf tabled records lows ofs slots both fields are are_lows of_rec
         let l : Low = record { hi = r.place; imm = pair.lower } in
         let has_l = (are_lows.all l).1 (record { source = pair.low; part = pair.part }) in
         let code : IsCodeField elf f.place 8 f =
-        record { place_is = refl; width_is = width; to = to; loaded = loaded; is_start = start; content_is = content; free = free_of elf tabled f f.place 8 is refl width } in
+        record {
+          place_is = refl;
+          width_is = width;
+          to = to;
+          loaded = loaded;
+          is_start = start;
+          content_is = content;
+          free = free_of elf tabled f f.place 8 is refl width;
+        } in
         let slot_is : IsSlotOf elf l f = record {
           slot = f.place;
           names = upper_target elf r (pos f.place) pair;
-          entry = record { field = code; named = record { relocation = r; counts = pair.counts; kind_is = kind; place_is = refl; label_is = label } };
+          entry = record {
+            field = code;
+            named = record { relocation = r; counts = pair.counts; kind_is = kind; place_is = refl; label_is = label };
+          };
         } in
         Contains-append_right ofs slots f (of_lows.each l f has_l slot_is)
     in_either f is (difference r bits to from made can_be code across place width content) =

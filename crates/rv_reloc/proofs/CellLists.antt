@@ -29,7 +29,8 @@ whole : (z : ℤ) → IsAddress z → z ≡ pos (unsigned_abs z)
 whole (pos n) is = refl
 whole (negsuc n) is = let low = is.0 in absurd (omega (arith, ints))
 
-bad_field : (f : Candidate) (width : ℕ) (to from : ℤ) → f.content ≡ Difference to from → (IsAddress to × IsAddress from → ⊥) → IsBadField f
+bad_field : (f : Candidate) (width : ℕ) (to from : ℤ) → f.content ≡ Difference to from →
+    (IsAddress to × IsAddress from → ⊥) → IsBadField f
 bad_field f width to from is unfit = record { bad = subst IsBadContent (sym is) unfit }
 
 difference_of : (c : Content) (to from : ℤ) → content c ≡ spec.Difference to from → c ≡ Difference to from
@@ -44,12 +45,13 @@ bad_counted elf tabled f (Difference to from) is bad counted = record {
   width = f.width;
   to = to;
   from = from;
-  counted = subst (λ (c : Content). Counts elf tabled (record { place = f.place; width = f.width; content = content c }) true) is counted;
+  counted = subst
+      (λ (c : Content). Counts elf tabled (record { place = f.place; width = f.width; content = content c }) true) is counted;
   unfit = bad;
 }
 
-pub of_bad_field : (elf : Elf) (tabled : List (ℕ × ℕ)) (counted : List Candidate) → AreCounted elf tabled (map field counted) → (p : ℕ) →
-    IsPlaceOf (λ f. f.place) IsBadField counted p → HasBadLabel elf tabled p
+pub of_bad_field : (elf : Elf) (tabled : List (ℕ × ℕ)) (counted : List Candidate) →
+    AreCounted elf tabled (map field counted) → (p : ℕ) → IsPlaceOf (λ f. f.place) IsBadField counted p → HasBadLabel elf tabled p
 of_bad_field elf tabled counted are p is =
     subst (HasBadLabel elf tabled) is.place_is
     (bad_counted elf tabled is.item is.item.content refl is.bad.bad
@@ -63,14 +65,16 @@ to_place elf tabled counted are p is =
     record {
       item = f;
       listed = listed;
-      bad = bad_field f is.width is.to is.from (difference_of f.content is.to is.from (ap (λ (g : Field). g.content) same)) is.unfit;
+      bad = bad_field f is.width is.to is.from
+          (difference_of f.content is.to is.from (ap (λ (g : Field). g.content) same)) is.unfit;
       place_is = ap (λ (g : Field). g.place) same;
     }
 
 pub bad-label : (elf : Elf) (tabled : List (ℕ × ℕ)) (counted : List Candidate) (lowest : Option ℕ) →
     AreCounted elf tabled (map field counted) → IsLowest (IsPlaceOf (λ f. f.place) IsBadField counted) lowest →
     IsLowest (HasBadLabel elf tabled) lowest
-bad-label elf tabled counted lowest are is = IsLowest-same lowest (of_bad_field elf tabled counted are) (to_place elf tabled counted are) is
+bad-label elf tabled counted lowest are is =
+    IsLowest-same lowest (of_bad_field elf tabled counted are) (to_place elf tabled counted are) is
 
 address_or_not : (z : ℤ) → IsAddress z ⊎ (IsAddress z → ⊥)
 address_or_not z = by_lt_z z (pos 0)
@@ -91,7 +95,12 @@ none-bad counted is k d within =
     record {
       labels = good_content f.content
           (λ bad. is.least f.place
-          (record { item = f; listed = (k, within, get_or_default counted k f d within); bad = record { bad = bad }; place_is = refl }));
+          (record {
+            item = f;
+            listed = (k, within, get_or_default counted k f d within);
+            bad = record { bad = bad };
+            place_is = refl;
+          }));
     }
 
 -- Cells.
@@ -107,8 +116,8 @@ same_kind (Difference to from) (Abs to') is = absurd is
 same_kind (Difference to from) (Diff to' from') is =
     ap (λ (x : ℕ). Diff x (unsigned_abs from)) (ap unsigned_abs is.0) ∙ ap (λ (x : ℕ). Diff to' x) (ap unsigned_abs is.1)
 
-pub cells-all : (elf : Elf) (tabled : List (ℕ × ℕ)) (counted : List Candidate) (cells : List CodeCell) → All HasAddresses counted →
-    AreCounted elf tabled (map field counted) → cells ≡ map cell_of counted → AreCells elf tabled cells
+pub cells-all : (elf : Elf) (tabled : List (ℕ × ℕ)) (counted : List Candidate) (cells : List CodeCell) →
+    All HasAddresses counted → AreCounted elf tabled (map field counted) → cells ≡ map cell_of counted → AreCells elf tabled cells
 cells-all elf tabled counted cells good are made = subst (AreCells elf tabled) (sym made) (record {
   only = λ cell listed.
       let (f, has_f, same) = Contains-from_map cell_of counted cell listed in

@@ -25,11 +25,13 @@ before R xs n y x d ordered within is (k, low, there) =
     let at : slice_index_or xs k d ≡ y = get_or_default xs k d y (omega arith) ∙ sym (get_or-take n xs k y short) ∙ there in
     subst (R y) (sym is) (subst (λ (z : _). R z (slice_index_or xs n d)) at (ordered k n d short within))
 
-taken : {A : Type 0} (xs : List A) (n : ℕ) (x d : A) → n < length xs → x ≡ slice_index_or xs n d → take (n + 1) xs ≡ take n xs ++ x ∷ []
+taken : {A : Type 0} (xs : List A) (n : ℕ) (x d : A) → n < length xs → x ≡ slice_index_or xs n d →
+    take (n + 1) xs ≡ take n xs ++ x ∷ []
 taken xs n x d within is = take_more xs n d within ∙ ap (λ (z : _). take n xs ++ z ∷ []) (sym is)
 
 pub chosen_keep : {A : Type 0} (P : A → Type 0) (R : A → A → Type 0) (xs chosen now : List A) (n : ℕ) (x d : A) → AllPairs R xs →
-    n < length xs → x ≡ slice_index_or xs n d → P x → now ≡ chosen ++ x ∷ [] → ChosenOf P R xs n chosen → ChosenOf P R xs (n + 1) now
+    n < length xs → x ≡ slice_index_or xs n d → P x → now ≡ chosen ++ x ∷ [] → ChosenOf P R xs n chosen →
+    ChosenOf P R xs (n + 1) now
 chosen_keep {A} P R xs chosen now n x d ordered within is kept pushed lists =
     subst (λ (ys : List A). ListsAll (λ y. Contains ys y × P y) R now) (sym (taken xs n x d within is))
     (subst (ListsAll (λ y. Contains (take n xs ++ x ∷ []) y × P y) R) (sym pushed) (record {
@@ -63,6 +65,7 @@ pub chosen_all : {A : Type 0} (P : A → Type 0) (R : A → A → Type 0) (xs ch
     ((x : A) → P x → Contains xs x) → ChosenOf P R xs n chosen → ListsAll P R chosen
 chosen_all {A} P R xs chosen n all listed lists = record {
   only = λ x is_in. (lists.only x is_in).1;
-  each = λ x holds. lists.each x (subst (λ (ys : List A). Contains ys x) (sym (take_all n xs (omega arith))) (listed x holds), holds);
+  each = λ x holds. lists.each x
+      (subst (λ (ys : List A). Contains ys x) (sym (take_all n xs (omega arith))) (listed x holds), holds);
   ordered = lists.ordered;
 }

@@ -18,7 +18,8 @@ use Rattle.rv_reloc.proofs.Absolutes.{kind_absolute}
 use Rattle.rv_reloc.proofs.Kept.{kept}
 
 -- where a relocation's claims are
-claims_where : (elf : Elf) (r : Relocation) (a key : ℕ) (role : Role) → Claims elf r a key role → (a ≡ r.place) ⊎ (a ≡ r.place + 4)
+claims_where : (elf : Elf) (r : Relocation) (a key : ℕ) (role : Role) → Claims elf r a key role →
+    (a ≡ r.place) ⊎ (a ≡ r.place + 4)
 claims_where elf r a key role (Claims.call_hi target to here key_is role_is) = inl here
 claims_where elf r a key role (Claims.call_lo target to here key_is role_is) = inr here
 claims_where elf r a key role (Claims.weak_call pair zero here key_is role_is) = inl here
@@ -29,7 +30,8 @@ claims_where elf r a key role (Claims.abs_lo target to kind inst full some here 
 
 -- a relocation without the types that make claims
 pub claims_kind : (elf : Elf) (r : Relocation) (a key : ℕ) (role : Role) → (IsTrue (is_call_pair r.kind) → ⊥) →
-    (IsTrue (is_pcrel_hi r.kind) → ⊥) → (IsTrue (is_pcrel_lo r.kind) → ⊥) → (IsTrue (is_absolute r.kind) → ⊥) → Claims elf r a key role → ⊥
+    (IsTrue (is_pcrel_hi r.kind) → ⊥) → (IsTrue (is_pcrel_lo r.kind) → ⊥) → (IsTrue (is_absolute r.kind) → ⊥) →
+    Claims elf r a key role → ⊥
 claims_kind elf r a key role call hi lo absolute (Claims.call_hi target to here key_is role_is) = call to.pair.is_call
 claims_kind elf r a key role call hi lo absolute (Claims.call_lo target to here key_is role_is) = call to.pair.is_call
 claims_kind elf r a key role call hi lo absolute (Claims.weak_call pair zero here key_is role_is) = call pair.is_call
@@ -40,7 +42,8 @@ claims_kind elf r a key role call hi lo absolute (Claims.abs_hi target to kind r
 claims_kind elf r a key role call hi lo absolute (Claims.abs_lo target to kind inst full some here key_is role_is) =
     absolute (kind_absolute r.kind (inr kind))
 
-pub claims_begin : (elf : Elf) (records : List Record) (claims : List Claim) → claims ≡ [] → AreClaimsOf elf (take 0 records) claims
+pub claims_begin : (elf : Elf) (records : List Record) (claims : List Claim) → claims ≡ [] →
+    AreClaimsOf elf (take 0 records) claims
 claims_begin elf records claims none = record {
   sound = λ c listed. let (k, within, is) = subst (λ (cs : List Claim). Contains cs c) none listed in absurd (omega arith);
   cover = λ r listed a key role claimed. let (k, within, is) = listed in absurd (omega arith);
@@ -54,12 +57,13 @@ listed_is Is None x is (k, within, there) = absurd (omega arith)
 listed_is {A} Is (Some y) x is (k, within, there) =
     let first : k ≡ 0 = omega arith in subst Is (subst (λ (n : ℕ). slice_index_or (y ∷ []) n x ≡ x) first there) is
 
-found : (elf : Elf) (r : Relocation) (a key : ℕ) (o : Option Claim) → IfSome o (IsClaimOf elf r a) → IsSomeAnd o (λ c. c.key ≡ key) →
-    (c : Claim) × Contains (option_to_list o) c × (c.at ≡ a) × (c.kind ≡ r.kind) × (c.key ≡ key)
+found : (elf : Elf) (r : Relocation) (a key : ℕ) (o : Option Claim) → IfSome o (IsClaimOf elf r a) →
+    IsSomeAnd o (λ c. c.key ≡ key) → (c : Claim) × Contains (option_to_list o) c × (c.at ≡ a) × (c.kind ≡ r.kind) × (c.key ≡ key)
 found elf r a key None is some = absurd some
 found elf r a key (Some c) is some = (c, (0, omega arith, refl), is.at_is, is.kind_is, some)
 
-pub claims_next : (elf : Elf) (records : List Record) (i : ℕ) (x : Record) (claims next now : List Claim) (one two : Option Claim) →
+pub claims_next : (elf : Elf) (records : List Record) (i : ℕ) (x : Record) (claims next now : List Claim)
+    (one two : Option Claim) →
     i < length records → x ≡ slice_index_or records i x → next ≡ claims ++ option_to_list one → now ≡ next ++ option_to_list two →
     IfSome one (IsClaimOf elf (seen x) x.place) →
     ((key : ℕ) (role : Role) → Claims elf (seen x) x.place key role → IsSomeAnd one (λ c. c.key ≡ key)) →
@@ -87,9 +91,11 @@ claims_next elf records i x claims next now one two within at pushed pushed' is 
     enter c is_in = subst (λ (cs : List Claim). Contains cs c) (sym pushed) is_in
 
     keep : (c : Claim) → Contains next c → Contains now c
-    keep c is_in = subst (λ (cs : List Claim). Contains cs c) (sym pushed') (Contains-append_left next (option_to_list two) c is_in)
+    keep c is_in =
+        subst (λ (cs : List Claim). Contains cs c) (sym pushed') (Contains-append_left next (option_to_list two) c is_in)
 
-    here_at : (a key : ℕ) (role : Role) → Claims elf (seen x) a key role → (c : Claim) × Contains now c × (c.at ≡ a) × (c.kind ≡ x.kind)
+    here_at : (a key : ℕ) (role : Role) → Claims elf (seen x) a key role →
+        (c : Claim) × Contains now c × (c.at ≡ a) × (c.kind ≡ x.kind)
         × (c.key ≡ key)
     here_at a key role claimed = ⊎_elim
         (λ (there : a ≡ x.place).

@@ -16,7 +16,8 @@ from_cmp c d =
 
 trans : (c d e : Claim) → IsClaimUpTo c d → IsClaimUpTo d e → IsClaimUpTo c e
 trans c d e =
-    less_trans c.at d.at e.at (IsUpTo c.kind c.key d.kind d.key) (IsUpTo d.kind d.key e.kind e.key) (IsUpTo c.kind c.key e.kind e.key)
+    less_trans c.at d.at e.at (IsUpTo c.kind c.key d.kind d.key) (IsUpTo d.kind d.key e.kind e.key)
+    (IsUpTo c.kind c.key e.kind e.key)
     (less_trans c.kind d.kind e.kind (c.key ≤ d.key) (d.key ≤ e.key) (c.key ≤ e.key) (λ p q. omega arith))
 
 pub claims-sorted : (xs : List Claim) →

@@ -9,9 +9,11 @@ use Rattle.rv_reloc.specs.Index.{class, class_by, class_beside, plus_class, minu
 
 pub class-plus : (kind : ℕ) (width : Width) → Some width ≡ plus_width kind → plus_class width ≡ class kind
 unfolding class
-class-plus kind width is = ap (λ (plus : Option Width). class_by plus (minus_width kind) (is_call_pair kind) (is_pcrel_hi kind)) is
+class-plus kind width is =
+    ap (λ (plus : Option Width). class_by plus (minus_width kind) (is_call_pair kind) (is_pcrel_hi kind)) is
 
-pub class-minus : (kind : ℕ) (width : Width) → None ≡ plus_width kind → Some width ≡ minus_width kind → minus_class width ≡ class kind
+pub class-minus : (kind : ℕ) (width : Width) → None ≡ plus_width kind → Some width ≡ minus_width kind →
+    minus_class width ≡ class kind
 unfolding class
 class-minus kind width none is =
     ap (λ (minus : Option Width). class_by None minus (is_call_pair kind) (is_pcrel_hi kind)) is
@@ -81,7 +83,8 @@ none : (w : Width) → same_width w None ≡ false
 none (Bits n) = refl
 none Uleb128 = refl
 
-by_plus : (plus minus : Option Width) (call upper : Bool) (w : Width) → same_width w plus ≡ class_by plus minus call upper == plus_class w
+by_plus : (plus minus : Option Width) (call upper : Bool) (w : Width) →
+    same_width w plus ≡ class_by plus minus call upper == plus_class w
 by_plus (Some v) minus call upper w =
     same_code v w ∙ eqb_same (width_code v) (width_code w) (plus_class v) (plus_class w) (λ e. omega arith) (λ e. omega arith)
 by_plus None (Some v) call upper w = none w ∙ sym (ne_eqb (minus_class v) (plus_class w) (λ e. omega arith))
@@ -115,7 +118,18 @@ one_width kind =
     ⊎_elim (λ (e : kind ≡ 56). at_kind kind 56 e refl) (λ (n56 : kind ≢ 56).
     ⊎_elim (λ (e : kind ≡ 36). at_kind kind 36 e refl) (λ (n36 : kind ≢ 36).
     ⊎_elim (λ (e : kind ≡ 60). at_kind kind 60 e refl) (λ (n60 : kind ≢ 60).
-    inl (rw (ne_eqb kind 53 n53, ne_eqb kind 33 n33, ne_eqb kind 54 n54, ne_eqb kind 34 n34, ne_eqb kind 55 n55, ne_eqb kind 35 n35, ne_eqb kind 56 n56, ne_eqb kind 36 n36, ne_eqb kind 60 n60) refl)) (cases_eq kind 60)) (cases_eq kind 36)) (cases_eq kind 56)) (cases_eq kind 35)) (cases_eq kind 55)) (cases_eq kind 34)) (cases_eq kind 54)) (cases_eq kind 33)) (cases_eq kind 53)
+    inl (rw (
+      ne_eqb kind 53 n53,
+      ne_eqb kind 33 n33,
+      ne_eqb kind 54 n54,
+      ne_eqb kind 34 n34,
+      ne_eqb kind 55 n55,
+      ne_eqb kind 35 n35,
+      ne_eqb kind 56 n56,
+      ne_eqb kind 36 n36,
+      ne_eqb kind 60 n60,
+    ) refl)) (cases_eq kind 60)) (cases_eq kind 36)) (cases_eq kind 56)) (cases_eq kind 35)) (cases_eq kind 55))
+    (cases_eq kind 34)) (cases_eq kind 54)) (cases_eq kind 33)) (cases_eq kind 53)
 
 pub plus-class : (kind : ℕ) (width : Width) → same_width width (plus_width kind) ≡ class kind == plus_class width
 unfolding class
@@ -123,4 +137,5 @@ plus-class kind width = by_plus (plus_width kind) (minus_width kind) (is_call_pa
 
 pub minus-class : (kind : ℕ) (width : Width) → same_width width (minus_width kind) ≡ class kind == minus_class width
 unfolding class
-minus-class kind width = by_minus (plus_width kind) (minus_width kind) (is_call_pair kind) (is_pcrel_hi kind) width (one_width kind)
+minus-class kind width =
+    by_minus (plus_width kind) (minus_width kind) (is_call_pair kind) (is_pcrel_hi kind) width (one_width kind)

@@ -20,10 +20,12 @@ pub record AreCuts (elf : Elf) (cuts : List ℕ) : Type 0 where
 
 -- Numbers that ascend.
 
-pub rises : (cuts : List ℕ) (i j : ℕ) → IsStrictlyIncreasing cuts → i < j → j < length cuts → slice_index cuts i < slice_index cuts j
+pub rises : (cuts : List ℕ) (i j : ℕ) → IsStrictlyIncreasing cuts → i < j → j < length cuts →
+    slice_index cuts i < slice_index cuts j
 rises cuts i j up less within = AllPairs-from_increasing cuts up i j 0 less within
 
-pub index_below : (cuts : List ℕ) (i j : ℕ) → IsStrictlyIncreasing cuts → i < length cuts → slice_index cuts i < slice_index cuts j → i < j
+pub index_below : (cuts : List ℕ) (i j : ℕ) → IsStrictlyIncreasing cuts → i < length cuts →
+    slice_index cuts i < slice_index cuts j → i < j
 index_below cuts i j up within less =
     ⊎_elim
     (λ (is : i < j). is)
@@ -34,7 +36,8 @@ index_below cuts i j up within less =
     (cases_lt i j)
 
 -- where a cut stands in the list
-pub cut_at : (elf : Elf) (cuts : List ℕ) (a : ℕ) → AreCuts elf cuts → IsCut elf a → (k : ℕ) × (k < length cuts) × (slice_index cuts k ≡ a)
+pub cut_at : (elf : Elf) (cuts : List ℕ) (a : ℕ) → AreCuts elf cuts → IsCut elf a →
+    (k : ℕ) × (k < length cuts) × (slice_index cuts k ≡ a)
 cut_at elf cuts a are is =
     let (k, within, there) = (are.exact a).1 is in
     (k, within, get_or_default cuts k 0 a within ∙ there)
@@ -58,7 +61,8 @@ part_at elf cuts k are within in_code = record {
 }
 
 -- a part's bounds are neighbours
-pub part_from : (elf : Elf) (cuts : List ℕ) (start end : ℕ) → AreCuts elf cuts → IsPart elf start end → (k : ℕ) × (k + 1 < length cuts)
+pub part_from : (elf : Elf) (cuts : List ℕ) (start end : ℕ) → AreCuts elf cuts → IsPart elf start end →
+    (k : ℕ) × (k + 1 < length cuts)
     × (slice_index cuts k ≡ start) × (slice_index cuts (k + 1) ≡ end)
 part_from elf cuts start end are part =
     let (j, at_j, starts) = cut_at elf cuts start are part.starts in
@@ -127,7 +131,8 @@ up_to elf low high p above is = let below = is.1 in (is.0, omega arith)
 pub parts_keeps : (elf : Elf) (cuts : List ℕ) (parts now : List Part) (k : ℕ) → AreCuts elf cuts → k + 1 < length cuts →
     HoldsCode elf (slice_index cuts k) (slice_index cuts (k + 1)) → now ≡ parts
     ++ record { start = slice_index cuts k; end = slice_index cuts (k + 1) } ∷ [] →
-    ListsAll (IsPartUpTo elf (slice_index cuts k)) Follows parts → ListsAll (IsPartUpTo elf (slice_index cuts (k + 1))) Follows now
+    ListsAll (IsPartUpTo elf (slice_index cuts k)) Follows parts →
+    ListsAll (IsPartUpTo elf (slice_index cuts (k + 1))) Follows now
 parts_keeps elf cuts parts now k are within kept pushed listed =
     subst (ListsAll (IsPartUpTo elf (slice_index cuts (k + 1))) Follows) (sym pushed) (record {
       only = λ p is_in. ⊎_elim
@@ -155,7 +160,8 @@ parts_keeps elf cuts parts now k are within kept pushed listed =
 
 -- a stretch without
 pub parts_drops : (elf : Elf) (cuts : List ℕ) (parts : List Part) (k : ℕ) → AreCuts elf cuts → k + 1 < length cuts →
-    (HoldsCode elf (slice_index cuts k) (slice_index cuts (k + 1)) → ⊥) → ListsAll (IsPartUpTo elf (slice_index cuts k)) Follows parts →
+    (HoldsCode elf (slice_index cuts k) (slice_index cuts (k + 1)) → ⊥) →
+    ListsAll (IsPartUpTo elf (slice_index cuts k)) Follows parts →
     ListsAll (IsPartUpTo elf (slice_index cuts (k + 1))) Follows parts
 parts_drops elf cuts parts k are within dropped listed = record {
   only = λ p is_in. up_to elf _ _ p low (listed.only p is_in);
@@ -180,7 +186,10 @@ parts_all elf cuts parts k are all listed within = record {
       let (j, inside, starts, ends) = part_from elf cuts p.start p.end are is.part in
       ⊎_elim
       (λ (less : j + 1 < k). let r = rises cuts (j + 1) k are.ascending less within in listed.each p (is, omega arith))
-      (λ (more : k ≤ j + 1). let e : j + 1 ≡ k = omega arith in let s = ap (slice_index cuts) e in listed.each p (is, omega arith))
+      (λ (more : k ≤ j + 1).
+      let e : j + 1 ≡ k = omega arith in
+      let s = ap (slice_index cuts) e in
+      listed.each p (is, omega arith))
       (cases_lt (j + 1) k);
   ordered = listed.ordered;
 }
@@ -225,12 +234,14 @@ parts_push elf cuts parts now k start end are within starts ends kept pushed lis
 
 pub parts_skip : (elf : Elf) (cuts : List ℕ) (parts : List Part) (k start end : ℕ) → AreCuts elf cuts → k < length cuts - 1 →
     start ≡ slice_index_or cuts k start → end ≡ slice_index_or cuts (k + 1) end → (HoldsCode elf start end → ⊥) →
-    ListsAll (IsPartUpTo elf (slice_index cuts k)) Follows parts → ListsAll (IsPartUpTo elf (slice_index cuts (k + 1))) Follows parts
+    ListsAll (IsPartUpTo elf (slice_index cuts k)) Follows parts →
+    ListsAll (IsPartUpTo elf (slice_index cuts (k + 1))) Follows parts
 parts_skip elf cuts parts k start end are within starts ends dropped listed =
     let s = read_at cuts k start (omega arith) starts in
     let e = read_at cuts (k + 1) end (omega arith) ends in
     parts_drops elf cuts parts k are (omega arith)
-    (λ kept. dropped (subst (λ (a : ℕ). HoldsCode elf a end) (sym s) (subst (HoldsCode elf (slice_index cuts k)) (sym e) kept))) listed
+    (λ kept. dropped
+    (subst (λ (a : ℕ). HoldsCode elf a end) (sym s) (subst (HoldsCode elf (slice_index cuts k)) (sym e) kept))) listed
 
 pub parts_end : (elf : Elf) (cuts : List ℕ) (parts : List Part) (k : ℕ) → AreCuts elf cuts → k ≡ length cuts - 1 →
     ListsAll (IsPartUpTo elf (slice_index cuts k)) Follows parts → AreCodeParts elf parts

@@ -9,7 +9,8 @@ use Rattle.elf_image.specs.code.Parts.{IsInstAt}
 pub Decodes-two : (half : ℕ) (next next' : Option ℕ) (inst : Inst) (bytes : ℕ) → bytes ≢ 4 → Decodes half next inst bytes →
     Decodes half next' inst bytes
 Decodes-two half next next' inst bytes short =
-    ⊎_elim (λ (two : DecodesHalf half inst bytes). inl two) (λ (full : DecodesFull half next inst bytes). absurd (short full.four_bytes))
+    ⊎_elim (λ (two : DecodesHalf half inst bytes). inl two)
+    (λ (full : DecodesFull half next inst bytes). absurd (short full.four_bytes))
 
 pub Decodes-none_four : (half : ℕ) (inst : Inst) (bytes : ℕ) → Decodes half None inst bytes → bytes ≡ 2
 Decodes-none_four half inst bytes =

@@ -42,10 +42,12 @@ second_of false b both = absurd (cc)
 
 pub passes-plus : (r : Relocation) (w : Width) → plus_width r.kind ≡ Some w → is_plus r.place w r ≡ true
 passes-plus r w is =
-    is_both (r.place == r.place) (same_width w (plus_width r.kind)) (eq-eqb r.place r.place refl) (ap (same_width w) is ∙ is-same-width w)
+    is_both (r.place == r.place) (same_width w (plus_width r.kind)) (eq-eqb r.place r.place refl)
+    (ap (same_width w) is ∙ is-same-width w)
 
 pub plus-passed : (place : ℕ) (r : Relocation) (w : Width) → is_plus place w r ≡ true → plus_width r.kind ≡ Some w
-plus-passed place r w is = same-width-is w (plus_width r.kind) (second_of (r.place == place) (same_width w (plus_width r.kind)) is)
+plus-passed place r w is =
+    same-width-is w (plus_width r.kind) (second_of (r.place == place) (same_width w (plus_width r.kind)) is)
 
 pc_no_plus : (kind : ℕ) → is_pc_difference kind ≡ true → plus_width kind ≡ None
 pc_no_plus kind is = ⊎_elim
@@ -66,8 +68,8 @@ count_listed : {A : Type 0} (test : A → Bool) (xs : List A) (y : A) → Contai
 count_listed {A} test xs y (k, within, is) passes =
     count-some test xs k within (λ (d : A). ap test (get_or_default xs k d y within ∙ is) ∙ passes)
 
-both-only : {A : Type 0} (test : A → Bool) (xs : List A) (x y : A) → Contains xs x → test x ≡ true → Contains xs y → test y ≡ true →
-    count_by test xs ≡ 1 → x ≡ y
+both-only : {A : Type 0} (test : A → Bool) (xs : List A) (x y : A) → Contains xs x → test x ≡ true →
+    Contains xs y → test y ≡ true → count_by test xs ≡ 1 → x ≡ y
 both-only test [] x y (k, within, is) tx has ty one = absurd (omega arith)
 both-only {A} test (z ∷ zs) x y has_x tx has_y ty one =
     let total = count-cons test z zs in
@@ -95,7 +97,8 @@ only-this test xs x y only listed passes = both-only test xs x y only.listed onl
 
 -- Differences.
 
-pub difference-made : (elf : Elf) (r plus minus : Relocation) (w : Width) → Contains (relocations elf) r → plus_width r.kind ≡ Some w →
+pub difference-made : (elf : Elf) (r plus minus : Relocation) (w : Width) → Contains (relocations elf) r →
+    plus_width r.kind ≡ Some w →
     IsOnly (is_plus r.place w) (relocations elf) plus → IsOnly (is_minus r.place w) (relocations elf) minus →
     IsDifference elf r w (label elf r) (label elf minus)
 difference-made elf r plus minus w listed width only_plus only_minus =
@@ -134,17 +137,19 @@ pub record IsByPlace (elf : Elf) (r : Relocation) (w : Width) (to from : ℤ) : 
   pub to_is : to ≡ label elf r
   pub from_is : from ≡ pos r.place
 
-pub by-place : (elf : Elf) (r : Relocation) (w : Width) (to from : ℤ) → is_pc_difference r.kind ≡ true → IsDifference elf r w to from →
-    IsByPlace elf r w to from
+pub by-place : (elf : Elf) (r : Relocation) (w : Width) (to from : ℤ) → is_pc_difference r.kind ≡ true →
+    IsDifference elf r w to from → IsByPlace elf r w to from
 by-place elf r w to from pc (of_labels only minus only_minus to_is from_is) =
     absurd (pc_and_plus r.kind w pc (plus-passed r.place r w only.passes))
-by-place elf r w to from pc (of_place listed pc' width_is to_is from_is) = record { width_is = width_is; to_is = to_is; from_is = from_is }
+by-place elf r w to from pc (of_place listed pc' width_is to_is from_is) =
+    record { width_is = width_is; to_is = to_is; from_is = from_is }
 
-pub no-difference : (elf : Elf) (r : Relocation) (w : Width) (to from : ℤ) → is_pc_difference r.kind ≡ false → plus_width r.kind ≡ None →
-    IsDifference elf r w to from → ⊥
+pub no-difference : (elf : Elf) (r : Relocation) (w : Width) (to from : ℤ) → is_pc_difference r.kind ≡ false →
+    plus_width r.kind ≡ None → IsDifference elf r w to from → ⊥
 no-difference elf r w to from pc none (of_labels only minus only_minus to_is from_is) =
     let e : None ≡ Some w = sym none ∙ plus-passed r.place r w only.passes in absurd (cc)
-no-difference elf r w to from pc none (of_place listed pc' width_is to_is from_is) = let e : false ≡ true = sym pc ∙ pc' in absurd (cc)
+no-difference elf r w to from pc none (of_place listed pc' width_is to_is from_is) =
+    let e : false ≡ true = sym pc ∙ pc' in absurd (cc)
 
 -- What isn't found.
 
@@ -176,8 +181,8 @@ pub bad-cases : (elf : Elf) (r : Relocation) → IsBadDifference elf r → Holds
 bad-cases elf r (number w to from is other) = inl (record { width = w; to = to; from = from; is = is; other = other })
 bad-cases elf r (unpaired w width code alone) = inr (record { width = w; width_is = width; is_code = code; alone = alone })
 
-the_width : (w : Width) (to from : ℤ) (d : Difference) → IsTheDifference w to from d → (P : Width → ℤ → ℤ → Type 0) → P w to from →
-    P (width_of d.width) d.to d.from
+the_width : (w : Width) (to from : ℤ) (d : Difference) → IsTheDifference w to from d →
+    (P : Width → ℤ → ℤ → Type 0) → P w to from → P (width_of d.width) d.to d.from
 the_width w to from d the P is =
     subst (λ (v : Width). P v d.to d.from) (sym the.width_is)
     (subst (λ (y : ℤ). P w y d.from) (sym the.to_is) (subst (λ (z : ℤ). P w to z) (sym the.from_is) is))
@@ -208,7 +213,8 @@ pub none-other : (elf : Elf) (r : Relocation) → ((w : Width) (to from : ℤ) �
 none-other elf r none =
     (λ wrong. let e : false ≡ true = wrong in absurd (cc), λ other. absurd (none other.width other.to other.from other.is))
 
-pub unpaired-found : (elf : Elf) (r : Relocation) (w : Width) (b : Bool) → (plus_width r.kind ≡ Some w) ⊎ (minus_width r.kind ≡ Some w) →
+pub unpaired-found : (elf : Elf) (r : Relocation) (w : Width) (b : Bool) →
+    (plus_width r.kind ≡ Some w) ⊎ (minus_width r.kind ≡ Some w) →
     ((v : Width) → (plus_width r.kind ≡ Some v) ⊎ (minus_width r.kind ≡ Some v) → w ≡ v) → IsCodeLabel elf (label elf r) →
     IsTrue b ↔ IsPaired elf r.place w → IsTrue (not b) ↔ IsUnpaired elf r
 unpaired-found elf r w true width once code test = (
@@ -216,7 +222,12 @@ unpaired-found elf r w true width once code test = (
   λ alone. absurd (alone.alone (subst (IsPaired elf r.place) (once alone.width alone.width_is) (test.0 refl))),
 )
 unpaired-found elf r w false width once code test = (
-  λ _. record { width = w; width_is = width; is_code = code; alone = λ paired. let e : false ≡ true = test.1 paired in absurd (cc) },
+  λ _. record {
+    width = w;
+    width_is = width;
+    is_code = code;
+    alone = λ paired. let e : false ≡ true = test.1 paired in absurd (cc);
+  },
   λ _. refl,
 )
 
@@ -227,7 +238,15 @@ pub narrow-found : (elf : Elf) (tabled : List (ℕ × ℕ)) (r : Relocation) (d 
     IsTrue b ↔ IsNarrow elf tabled r
 narrow-found elf tabled r d b is only test = (
   λ yes_is. let n = test.0 yes_is in
-      record { width = width_of d.width; to = d.to; from = d.from; difference = is.is; no_cell = n.0; has_code = n.1; across = n.2 },
+      record {
+        width = width_of d.width;
+        to = d.to;
+        from = d.from;
+        difference = is.is;
+        no_cell = n.0;
+        has_code = n.1;
+        across = n.2;
+      },
   λ narrow. test.1 (
     narrow.no_cell,
     the_width narrow.width narrow.to narrow.from d (only narrow.width narrow.to narrow.from narrow.difference)
@@ -237,10 +256,12 @@ narrow-found elf tabled r d b is only test = (
   ),
 )
 
-pub none-narrow : (elf : Elf) (tabled : List (ℕ × ℕ)) (r : Relocation) → ((w : Width) (to from : ℤ) → IsDifference elf r w to from → ⊥) →
-    IsTrue false ↔ IsNarrow elf tabled r
-none-narrow elf tabled r none =
-    (λ wrong. let e : false ≡ true = wrong in absurd (cc), λ narrow. absurd (none narrow.width narrow.to narrow.from narrow.difference))
+pub none-narrow : (elf : Elf) (tabled : List (ℕ × ℕ)) (r : Relocation) →
+    ((w : Width) (to from : ℤ) → IsDifference elf r w to from → ⊥) → IsTrue false ↔ IsNarrow elf tabled r
+none-narrow elf tabled r none = (
+  λ wrong. let e : false ≡ true = wrong in absurd (cc),
+  λ narrow. absurd (none narrow.width narrow.to narrow.from narrow.difference),
+)
 
 -- The widths of cells.
 
@@ -261,14 +282,15 @@ added kind bits is width = ⊎_elim
     (cases_eq kind R_RISCV_ADD64))
     (cases_eq kind R_RISCV_ADD32)
 
-pub cell-bits : (elf : Elf) (r : Relocation) (bits : ℕ) (to from : ℤ) → IsDifference elf r (Bits bits) to from → can_be_cell r ≡ true →
-    (bits ≡ 32) ⊎ (bits ≡ 64)
+pub cell-bits : (elf : Elf) (r : Relocation) (bits : ℕ) (to from : ℤ) →
+    IsDifference elf r (Bits bits) to from → can_be_cell r ≡ true → (bits ≡ 32) ⊎ (bits ≡ 64)
 cell-bits elf r bits to from (of_labels only minus only_minus to_is from_is) can =
     let width = plus-passed r.place r (Bits bits) only.passes in
     ⊎_elim (λ add. added r.kind bits add width) (λ pc. absurd (pc_and_plus r.kind (Bits bits) pc width))
     (either_of (is_add r.kind) (is_pc_difference r.kind) can)
 cell-bits elf r bits to from (of_place listed pc width_is to_is from_is) can = let e : bits ≡ 32 = cc in inl e
 
-pub difference-listed : (elf : Elf) (r : Relocation) (w : Width) (to from : ℤ) → IsDifference elf r w to from → Contains (relocations elf) r
+pub difference-listed : (elf : Elf) (r : Relocation) (w : Width) (to from : ℤ) → IsDifference elf r w to from →
+    Contains (relocations elf) r
 difference-listed elf r w to from (of_labels only minus only_minus to_is from_is) = only.listed
 difference-listed elf r w to from (of_place listed pc width_is to_is from_is) = listed

@@ -24,7 +24,8 @@ pub same_or_not : (a b : ℤ) → (a ≡ b) ⊎ (a ≢ b)
 same_or_not (pos n) (pos m) =
     ⊎_elim (λ (same : n ≡ m). inl (ap pos same)) (λ (differ : n ≢ m). inr (λ (e : pos n ≡ pos m). differ (cc))) (cases_eq n m)
 same_or_not (negsuc n) (negsuc m) =
-    ⊎_elim (λ (same : n ≡ m). inl (ap negsuc same)) (λ (differ : n ≢ m). inr (λ (e : negsuc n ≡ negsuc m). differ (cc))) (cases_eq n m)
+    ⊎_elim (λ (same : n ≡ m). inl (ap negsuc same))
+    (λ (differ : n ≢ m). inr (λ (e : negsuc n ≡ negsuc m). differ (cc))) (cases_eq n m)
 same_or_not (pos n) (negsuc m) = inr (λ (e : pos n ≡ negsuc m). cc)
 same_or_not (negsuc n) (pos m) = inr (λ (e : negsuc n ≡ pos m). cc)
 
@@ -50,7 +51,8 @@ differs_here lows j hi within first next apart = (
 
 -- where two differ, two neighbours between them do
 neighbours : (lows : List Low) (n j k hi : ℕ) → k ≡ j + suc n → IsNonDecreasingBy (λ l. l.hi) lows → k < length lows →
-    (at lows j).hi ≡ hi → (at lows k).hi ≡ hi → (at lows j).imm ≢ (at lows k).imm → SomeBelow (length lows) (DifferingPlace lows) hi
+    (at lows j).hi ≡ hi → (at lows k).hi ≡ hi → (at lows j).imm ≢ (at lows k).imm →
+    SomeBelow (length lows) (DifferingPlace lows) hi
 neighbours lows zero j k hi gap rising within first last differ =
     let e : k ≡ j + 1 = omega arith in
     differs_here lows j hi (omega arith) first (sym (ap (λ (i : ℕ). (at lows i).hi) e) ∙ last)
@@ -68,7 +70,8 @@ neighbours lows (suc n) j k hi gap rising within first last differ =
 -- two at any indices
 two_at : (lows : List Low) (j k hi : ℕ) → IsNonDecreasingBy (λ l. l.hi) lows → j < k → k < length lows → (at lows j).hi ≡ hi →
     (at lows k).hi ≡ hi → (at lows j).imm ≢ (at lows k).imm → SomeBelow (length lows) (DifferingPlace lows) hi
-two_at lows j k hi rising less within first last differ = neighbours lows (k - j - 1) j k hi (omega arith) rising within first last differ
+two_at lows j k hi rising less within first last differ =
+    neighbours lows (k - j - 1) j k hi (omega arith) rising within first last differ
 
 two_below : (lows : List Low) (hi : ℕ) → IsNonDecreasingBy (λ l. l.hi) lows → TwoDiffer lows hi →
     SomeBelow (length lows) (DifferingPlace lows) hi
@@ -138,4 +141,5 @@ mismatch_two elf lows hi are is = record {
 
 pub IsLowest-mismatch : (elf : Elf) (lows : List Low) (o : Option ℕ) → AreLows elf lows → IsLowest (TwoDiffer lows) o →
     IsLowest (IsLoMismatch elf) o
-IsLowest-mismatch elf lows o are is = IsLowest-same o (λ hi. mismatch_from elf lows hi are) (λ hi. mismatch_two elf lows hi are) is
+IsLowest-mismatch elf lows o are is =
+    IsLowest-same o (λ hi. mismatch_from elf lows hi are) (λ hi. mismatch_two elf lows hi are) is

@@ -9,7 +9,8 @@ use Rattle.rv_reloc.specs.declared.records.Record.{Record}
 use Rattle.rv_reloc.specs.Records.{seen, counts}
 
 entries_from-suc : (file : List ℕ) (section : Section) (offset n : ℕ) →
-    entries_from file section offset (suc n) ≡ relocation_at file section offset ∷ entries_from file section (offset + RELA_SIZE) n
+    entries_from file section offset (suc n)
+    ≡ relocation_at file section offset ∷ entries_from file section (offset + RELA_SIZE) n
 unfolding entries_from
 entries_from-suc file section offset n = refl
 
@@ -31,8 +32,8 @@ entries_from-next file section start index count within =
     ∙ entries_from-suc file section (start + RELA_SIZE * index) (count - (index + 1))
     ∙ ap (λ (o : ℕ). relocation_at file section (start + RELA_SIZE * index) ∷ entries_from file section o (count - (index + 1))) o
 
-pub read_one : (was now : List Record) (r : Record) (left : List Relocation) (one : Relocation) → now ≡ was ++ r ∷ [] → seen r ≡ one →
-    map seen now ++ left ≡ map seen was ++ one ∷ left
+pub read_one : (was now : List Record) (r : Record) (left : List Relocation) (one : Relocation) →
+    now ≡ was ++ r ∷ [] → seen r ≡ one → map seen now ++ left ≡ map seen was ++ one ∷ left
 read_one was now r left one pushed is =
     ap (λ (rs : List Record). map seen rs ++ left) pushed
     ∙ ap (λ (rs : List Relocation). rs ++ left) (map-append seen was (r ∷ []))

@@ -29,7 +29,8 @@ of_relocation elf records Is place are is =
       place_is = ap (λ (q : Relocation). q.place) same ∙ is.place_is;
     }
 
-pub lowest-relocation : (elf : Elf) (records : List Record) (Is : Relocation → Type 0) (lowest : Option ℕ) → AreRecords elf records →
+pub lowest-relocation : (elf : Elf) (records : List Record) (Is : Relocation → Type 0) (lowest : Option ℕ) →
+    AreRecords elf records →
     IsLowest (IsPlaceOf (λ r. r.place) (λ r. Is (seen r)) records) lowest → IsLowest (HasRelocation elf Is) lowest
 lowest-relocation elf records Is lowest are is =
     IsLowest-same lowest (λ p. of_record elf records Is p are) (λ p. of_relocation elf records Is p are) is

@@ -27,7 +27,8 @@ crosses-found false P Q p test = (λ _. (p, λ q. let e : false ≡ true = test.
 
 -- The bytes of cells.
 
-bytes_of : (w : Width) (bits : ℕ) → width_of w ≡ relocations.Bits bits → (bits ≡ 32) ⊎ (bits ≡ 64) → cell_bytes w ≡ Some (bits / 8)
+bytes_of : (w : Width) (bits : ℕ) → width_of w ≡ relocations.Bits bits → (bits ≡ 32) ⊎ (bits ≡ 64) →
+    cell_bytes w ≡ Some (bits / 8)
 bytes_of Bits6 bits is cell =
     let e : 6 ≡ bits = cc in ⊎_elim (λ (f : bits ≡ 32). absurd (omega arith)) (λ (f : bits ≡ 64). absurd (omega arith)) cell
 bytes_of Bits8 bits is cell =
@@ -38,11 +39,12 @@ bytes_of Bits32 bits is cell = let e : 32 ≡ bits = cc in ap (λ (n : ℕ). Som
 bytes_of Bits64 bits is cell = let e : 64 ≡ bits = cc in ap (λ (n : ℕ). Some (n / 8)) e
 bytes_of Uleb128 bits is cell = absurd (cc)
 
-pub cell-to_difference : (elf : Elf) (tabled : List (ℕ × ℕ)) (r : Relocation) (d : Difference) (f : Field) → IsDifferenceOf elf r d →
-    can_be_cell r ≡ true → IsCellField elf tabled r.place d f → IsDifferenceField elf tabled r f
+pub cell-to_difference : (elf : Elf) (tabled : List (ℕ × ℕ)) (r : Relocation) (d : Difference) (f : Field) →
+    IsDifferenceOf elf r d → can_be_cell r ≡ true → IsCellField elf tabled r.place d f → IsDifferenceField elf tabled r f
 cell-to_difference elf tabled r d f of can is = by d.width refl
   where
-    made : (w : Width) (bits : ℕ) → d.width ≡ w → width_of w ≡ relocations.Bits bits → f.width ≡ bits / 8 → IsDifferenceField elf tabled r f
+    made : (w : Width) (bits : ℕ) → d.width ≡ w → width_of w ≡ relocations.Bits bits → f.width ≡ bits / 8 →
+        IsDifferenceField elf tabled r f
     made w bits e width bytes = record {
       bits = bits;
       to = d.to;
@@ -64,8 +66,14 @@ cell-to_difference elf tabled r d f of can is = by d.width refl
     by Bits6 e = let no_bytes : None ≡ Some f.width = bytes_are Bits6 e in absurd (cc)
     by Bits8 e = let no_bytes : None ≡ Some f.width = bytes_are Bits8 e in absurd (cc)
     by Bits16 e = let no_bytes : None ≡ Some f.width = bytes_are Bits16 e in absurd (cc)
-    by Bits32 e = let four : Some 4 ≡ Some f.width = bytes_are Bits32 e in let w : 4 ≡ f.width = cc in made Bits32 32 e refl (sym w)
-    by Bits64 e = let eight : Some 8 ≡ Some f.width = bytes_are Bits64 e in let w : 8 ≡ f.width = cc in made Bits64 64 e refl (sym w)
+    by Bits32 e =
+        let four : Some 4 ≡ Some f.width = bytes_are Bits32 e in
+        let w : 4 ≡ f.width = cc in
+        made Bits32 32 e refl (sym w)
+    by Bits64 e =
+        let eight : Some 8 ≡ Some f.width = bytes_are Bits64 e in
+        let w : 8 ≡ f.width = cc in
+        made Bits64 64 e refl (sym w)
     by Uleb128 e = let no_bytes : None ≡ Some f.width = bytes_are Uleb128 e in absurd (cc)
 
 pub difference-to_cell : (elf : Elf) (tabled : List (ℕ × ℕ)) (r : Relocation) (d : Difference) (f : Field) →
@@ -91,18 +99,21 @@ difference-to_cell elf tabled r d f only is =
 no_cell_kind : (kind : ℕ) → is_address kind ≡ true → (relocations.is_add kind || relocations.is_pc_difference kind) ≡ true → ⊥
 no_cell_kind kind is cell = ⊎_elim
     (λ (e : kind ≡ R_RISCV_32). let f : (relocations.is_add R_RISCV_32 || relocations.is_pc_difference R_RISCV_32)
-    ≡ true = subst (λ (k : ℕ). (relocations.is_add k || relocations.is_pc_difference k) ≡ true) e cell in let g : false ≡ true = f in
+    ≡ true = subst (λ (k : ℕ). (relocations.is_add k || relocations.is_pc_difference k) ≡ true) e cell in
+    let g : false ≡ true = f in
     cc)
     (λ (other : kind ≢ R_RISCV_32). ⊎_elim
     (λ (e : kind ≡ R_RISCV_64). let f : (relocations.is_add R_RISCV_64 || relocations.is_pc_difference R_RISCV_64)
-    ≡ true = subst (λ (k : ℕ). (relocations.is_add k || relocations.is_pc_difference k) ≡ true) e cell in let g : false ≡ true = f in
+    ≡ true = subst (λ (k : ℕ). (relocations.is_add k || relocations.is_pc_difference k) ≡ true) e cell in
+    let g : false ≡ true = f in
     cc)
-    (λ (other' : kind ≢ R_RISCV_64). let f : false ≡ true = rw (ne_eqb kind R_RISCV_32 other, ne_eqb kind R_RISCV_64 other') at is in cc)
+    (λ (other' : kind ≢ R_RISCV_64).
+    let f : false ≡ true = rw (ne_eqb kind R_RISCV_32 other, ne_eqb kind R_RISCV_64 other') at is in cc)
     (cases_eq kind R_RISCV_64))
     (cases_eq kind R_RISCV_32)
 
-pub code-of : (elf : Elf) (tabled : List (ℕ × ℕ)) (r : Relocation) (f : Field) → is_address r.kind ≡ true → IsFieldOf elf tabled r f →
-    IsCodeField elf r.place (cell.address_width r.kind) f
+pub code-of : (elf : Elf) (tabled : List (ℕ × ℕ)) (r : Relocation) (f : Field) → is_address r.kind ≡ true →
+    IsFieldOf elf tabled r f → IsCodeField elf r.place (cell.address_width r.kind) f
 code-of elf tabled r f is (pointer address code) = code
 code-of elf tabled r f is (difference d) = absurd (no_cell_kind r.kind is d.can_be)
 

@@ -49,7 +49,8 @@ first_above claims k ordered within rises j d less =
 
 abbrev pub IsFirstBelow : List Claim → ℕ → ℕ × Role → Type 0
 IsFirstBelow claims i r =
-    (k : ℕ) × (k < i) × IsFirst claims k × ((d : Claim) → ((slice_index_or claims k d).at ≡ r.0) × ((slice_index_or claims k d).role ≡ r.1))
+    (k : ℕ) × (k < i) × IsFirst claims k
+    × ((d : Claim) → ((slice_index_or claims k d).at ≡ r.0) × ((slice_index_or claims k d).role ≡ r.1))
 
 abbrev pub IsBefore : ℕ × Role → ℕ × Role → Type 0
 IsBefore r s = r.0 < s.0
@@ -116,14 +117,16 @@ at_index : (elf : Elf) (claims : List Claim) (k : ℕ) (d : Claim) → k < lengt
 at_index elf claims k d within = (k, within, get_or_default claims k (slice_index_or claims k d) d within)
 
 -- where a list has a claim at an address, it has a first one
-first_down : (claims : List Claim) (n k : ℕ) (d : Claim) → k ≤ n → AllPairs IsClaimUpTo claims → k < length claims → (j : ℕ) × (j ≤ k)
+first_down : (claims : List Claim) (n k : ℕ) (d : Claim) → k ≤ n → AllPairs IsClaimUpTo claims →
+    k < length claims → (j : ℕ) × (j ≤ k)
     × IsFirst claims j × ((slice_index_or claims j d).at ≡ (slice_index_or claims k d).at)
 first_down claims zero k d bound ordered within = (k, omega arith, first_zero claims k (omega arith), refl)
 first_down claims (suc n) k d bound ordered within =
     ⊎_elim
     (λ (none : k ≡ 0). (k, omega arith, first_zero claims k none, refl))
     (λ (some : k ≢ 0).
-    let low = not_above (slice_index_or claims (k - 1) d) (slice_index_or claims k d) (ordered (k - 1) k d (omega arith) within) in
+    let low =
+    not_above (slice_index_or claims (k - 1) d) (slice_index_or claims k d) (ordered (k - 1) k d (omega arith) within) in
     ⊎_elim
     (λ (less : (slice_index_or claims (k - 1) d).at < (slice_index_or claims k d).at). (
       k,
@@ -134,22 +137,30 @@ first_down claims (suc n) k d bound ordered within =
       refl,
     ))
     (λ (more : (slice_index_or claims k d).at ≤ (slice_index_or claims (k - 1) d).at).
-    let (j, below, first, same) = first_down claims n (k - 1) d (omega arith) ordered (omega arith) in
-    (j, omega arith, first, same ∙ (let e : (slice_index_or claims (k - 1) d).at ≡ (slice_index_or claims k d).at = omega arith in e)))
+    let (j, below, first, same) = first_down claims n (k - 1) d (omega arith) ordered (omega arith) in (
+      j,
+      omega arith,
+      first,
+      same ∙ (let e : (slice_index_or claims (k - 1) d).at ≡ (slice_index_or claims k d).at = omega arith in e),
+    ))
     (cases_lt (slice_index_or claims (k - 1) d).at (slice_index_or claims k d).at))
     (cases_eq k 0)
 
 -- the first at an address is up to any there
 first_least : (claims : List Claim) (k j : ℕ) (d : Claim) → AllPairs IsClaimUpTo claims → IsFirst claims k → k < length claims →
     j < length claims → (slice_index_or claims j d).at ≡ (slice_index_or claims k d).at →
-    IsUpTo (slice_index_or claims k d).kind (slice_index_or claims k d).key (slice_index_or claims j d).kind (slice_index_or claims j d).key
+    IsUpTo (slice_index_or claims k d).kind (slice_index_or claims k d).key (slice_index_or claims j d).kind
+    (slice_index_or claims j d).key
 first_least claims k j d ordered first within inside same =
     ⊎_elim
     (λ (less : j < k). let low = first j d less in absurd (omega arith))
     (λ (more : k ≤ j). ⊎_elim
     (λ (above : k < j). ⊎_elim (λ less. absurd (omega arith)) (λ (_, rest). rest) (ordered k j d above inside))
     (λ (here : j ≤ k). let e : k ≡ j = omega arith in
-    inr (ap (λ (i : ℕ). (slice_index_or claims i d).kind) e, let y = ap (λ (i : ℕ). (slice_index_or claims i d).key) e in omega arith))
+    inr (
+      ap (λ (i : ℕ). (slice_index_or claims i d).kind) e,
+      let y = ap (λ (i : ℕ). (slice_index_or claims i d).key) e in omega arith,
+    ))
     (cases_lt k j))
     (cases_lt j k)
 
@@ -164,7 +175,8 @@ role_from elf claims r are (k, within, first, same) = record {
       let (other, listed, there, before) = are.cover q r.0 key' role' claimed in
       let (j, inside, is) = listed in
       let e : slice_index_or claims j d ≡ other = get_or_default claims j d other inside ∙ is in
-      let place : (slice_index_or claims j d).at ≡ (slice_index_or claims k d).at = ap (λ (x : Claim). x.at) e ∙ there ∙ sym (same d).0 in
+      let place : (slice_index_or claims j d).at ≡ (slice_index_or claims k d).at =
+      ap (λ (x : Claim). x.at) e ∙ there ∙ sym (same d).0 in
       let least = first_least claims k j d are.ordered first within inside place in
       let up = up_to_trans c.kind c.key (slice_index_or claims j d).kind (slice_index_or claims j d).key q.kind key' least
       (subst (λ (x : Claim). IsUpTo x.kind x.key q.kind key') (sym e) before) in
@@ -196,8 +208,10 @@ role_listed elf claims r are has =
     let down' = has.first claim.source (slice_index_or claims k d).key (slice_index_or claims k d).role
     (subst (λ (a : ℕ). Claims elf claim.source a (slice_index_or claims k d).key
     (slice_index_or claims k d).role) place claim.is_claim.claims) in
-    let down = subst (λ (n : ℕ). IsUpTo has.relocation.kind has.key n (slice_index_or claims k d).key) (sym claim.is_claim.kind_is) down' in
-    let (kinds, keys) = up_to_same has.relocation.kind has.key (slice_index_or claims k d).kind (slice_index_or claims k d).key down up in
+    let down =
+    subst (λ (n : ℕ). IsUpTo has.relocation.kind has.key n (slice_index_or claims k d).key) (sym claim.is_claim.kind_is) down' in
+    let (kinds, keys) =
+    up_to_same has.relocation.kind has.key (slice_index_or claims k d).kind (slice_index_or claims k d).key down up in
     let same_claim : Claims elf has.relocation (slice_index_or claims k d).at (slice_index_or claims k d).key r.1 =
     subst (λ (a : ℕ). Claims elf has.relocation a (slice_index_or claims k d).key r.1) (sym place)
     (subst (λ (n : ℕ). Claims elf has.relocation r.0 n r.1) keys has.claims) in

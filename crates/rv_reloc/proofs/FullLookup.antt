@@ -23,5 +23,6 @@ full_there elf a end inst is same full =
     let within = full.inside in
     record { start = is.start; end = is.end; has = record { starts = is.is_start; is_inst = full.is_inst; inside = omega arith } }
 
-pub full_before : (elf : Elf) (a end : ℕ) (inst : Inst) → (full : IsFullAt elf a inst) → full.end ≡ end → IsInstBefore elf end a inst 4
+pub full_before : (elf : Elf) (a end : ℕ) (inst : Inst) → (full : IsFullAt elf a inst) → full.end ≡ end →
+    IsInstBefore elf end a inst 4
 full_before elf a end inst full same = let within = full.has.inside in record { is_inst = full.has.is_inst; inside = omega arith }

@@ -12,7 +12,8 @@ rising xs up i j d upto within =
     (λ (more : j ≤ i). let e : i ≡ j = omega arith in let s = ap (λ (k : ℕ). slice_index_or xs k d) e in omega arith)
     (cases_lt i j)
 
-pub Contains-between : (xs below inside : List ℕ) (n m low high : ℕ) → below ≡ take n xs → inside ≡ drop m below → length below ≡ n →
+pub Contains-between : (xs below inside : List ℕ) (n m low high : ℕ) → below ≡ take n xs →
+    inside ≡ drop m below → length below ≡ n →
     length inside + m ≡ length below → n ≤ length xs → ((k d : ℕ) → k < n → slice_index_or xs k d < high) →
     ((k d : ℕ) → n ≤ k → k < length xs → high ≤ slice_index_or xs k d) → ((k d : ℕ) → k < m → slice_index_or below k d < low) →
     ((k d : ℕ) → m ≤ k → k < length below → low ≤ slice_index_or below k d) → (a : ℕ) →

@@ -18,7 +18,8 @@ pub counts : (elf : Elf) (records : List Record) (r : Record) → AreRecords elf
 counts elf records r are listed =
     Contains-permutation (map seen records) (relocations elf) (seen r) are.all (Contains-map seen records r listed)
 
-pub kept : (elf : Elf) (records : List Record) (r : Relocation) → AreRecords elf records → Contains (relocations elf) r → (q : Record)
+pub kept : (elf : Elf) (records : List Record) (r : Relocation) → AreRecords elf records →
+    Contains (relocations elf) r → (q : Record)
     × Contains records q × (seen q ≡ r)
 kept elf records r are listed =
     Contains-from_map seen records r

@@ -48,7 +48,8 @@ reassociate Less p q = refl
 reassociate Equal p q = refl
 reassociate Greater p q = refl
 
-key_up : (cmp : Content → Content → Ordering) → ComparesContents cmp → (x y : Candidate) → IsNotLess cmp x y → IsKeyUpTo (field x) (field y)
+key_up : (cmp : Content → Content → Ordering) → ComparesContents cmp → (x y : Candidate) → IsNotLess cmp x y →
+    IsKeyUpTo (field x) (field y)
 key_up cmp is x y up =
     let widths = nat_cmp x.width y.width in
     then_up x.place y.place (ordering_then widths (cmp y.content x.content)) _
@@ -77,7 +78,8 @@ content_trans (cells.Difference to from) (cells.Difference to' from') (cells.Dif
 content_trans (cells.Difference to from) (cells.Difference to' from') (cells.Difference to2 from2) (inr (e, p)) (inr (f, q)) =
     inr (e ∙ f, omega (arith, ints))
 
-widths_trans : (f g h : Field) → (g.width < f.width) ⊎ ((f.width ≡ g.width) × IsContentUpTo f.content g.content) → (h.width < g.width)
+widths_trans : (f g h : Field) →
+    (g.width < f.width) ⊎ ((f.width ≡ g.width) × IsContentUpTo f.content g.content) → (h.width < g.width)
     ⊎ ((g.width ≡ h.width) × IsContentUpTo g.content h.content) → (h.width < f.width)
     ⊎ ((f.width ≡ h.width) × IsContentUpTo f.content h.content)
 widths_trans f g h (inl a) (inl b) = inl (omega arith)

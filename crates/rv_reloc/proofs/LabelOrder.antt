@@ -50,7 +50,8 @@ labels-sorted xs sorted =
     (λ k d inside.
     let x = slice_index_or xs k d in
     let y = slice_index_or xs (k + 1) d in
-    then_up x.place y.place (int_cmp y.label x.label) (x.label ≤ℤ y.label) (integer_up x.label y.label) (sorted k d (omega arith) inside))
+    then_up x.place y.place (int_cmp y.label x.label) (x.label ≤ℤ y.label) (integer_up x.label y.label)
+    (sorted k d (omega arith) inside))
 
 -- The test that a search asks.
 
@@ -59,13 +60,15 @@ is_below place label x = nat_lt x.place place || (x.place == place && int_lt x.l
 
 below_test : (place : ℕ) (label : ℤ) (x : SlotLabel) → IsLabelBelow place label x → is_below place label x ≡ true
 below_test place label x (inl less) = rw (lt-ltb x.place place less) refl
-below_test place label x (inr (p, c)) = rw (le-ltb x.place place (omega arith), eq-eqb x.place place p, lt_test x.label label c) refl
+below_test place label x (inr (p, c)) =
+    rw (le-ltb x.place place (omega arith), eq-eqb x.place place p, lt_test x.label label c) refl
 
 from_test : (place : ℕ) (label : ℤ) (x : SlotLabel) → IsLabelFrom place label x → is_below place label x ≡ false
 from_test place label x (inl more) =
     let differ : x.place ≢ place = λ e. omega arith in
     rw (le-ltb x.place place (omega arith), ne_eqb x.place place differ) refl
-from_test place label x (inr (p, c)) = rw (le-ltb x.place place (omega arith), eq-eqb x.place place (sym p), ge_test x.label label c) refl
+from_test place label x (inr (p, c)) =
+    rw (le-ltb x.place place (omega arith), eq-eqb x.place place (sym p), ge_test x.label label c) refl
 
 pub test_below : (place : ℕ) (label : ℤ) (x : SlotLabel) → is_below place label x ≡ true → IsLabelBelow place label x
 test_below place label x is =
@@ -91,7 +94,9 @@ parted place label items ordered i j d upto within is =
     (λ (less : i < j). below_test place label (slice_index_or items i d)
     (below_back place label (slice_index_or items i d) (slice_index_or items j d) (ordered i j d less within)
     (test_below place label (slice_index_or items j d) is)))
-    (λ (more : j ≤ i). let e : j ≡ i = omega arith in subst (λ (k : ℕ). is_below place label (slice_index_or items k d) ≡ true) e is)
+    (λ (more : j ≤ i).
+    let e : j ≡ i = omega arith in
+    subst (λ (k : ℕ). is_below place label (slice_index_or items k d) ≡ true) e is)
     (cases_lt i j)
 
 -- Looking a label up.
@@ -99,7 +104,8 @@ parted place label items ordered i j d upto within is =
 both_upto : (a b : ℤ) → a ≤ℤ b → b ≤ℤ a → (b <ℤ a → ⊥)
 both_upto a b one other less = not_both a b one less
 
-pub listed-first : (items : List SlotLabel) (place : ℕ) (label : ℤ) (n : ℕ) → AllPairs (λ s t. IsLabelFrom s.place s.label t) items →
+pub listed-first : (items : List SlotLabel) (place : ℕ) (label : ℤ) (n : ℕ) →
+    AllPairs (λ s t. IsLabelFrom s.place s.label t) items →
     n ≤ length items → ((k : ℕ) (d : SlotLabel) → k < n → IsLabelBelow place label (slice_index_or items k d)) →
     ((k : ℕ) (d : SlotLabel) → n ≤ k → k < length items → IsLabelFrom place label (slice_index_or items k d)) →
     Contains items (record { place = place; label = label }) → (n < length items)
@@ -118,7 +124,8 @@ listed-first items place label n ordered bound below above (k, within, there) =
     (λ (more : n ≤ k).
     let inside : n < length items = omega arith in
     let from : IsLabelFrom place label (slice_index_or items n item) = above n item (omega arith) inside in
-    let upto : IsLabelFrom (slice_index_or items n item).place (slice_index_or items n item).label (slice_index_or items k item) = ⊎_elim
+    let upto : IsLabelFrom (slice_index_or items n item).place (slice_index_or items n item).label (slice_index_or items k item) =
+    ⊎_elim
     (λ (earlier : n < k). ordered n k item earlier within)
     (λ (here : k ≤ n). let e : n ≡ k = omega arith in
     inr (
@@ -129,7 +136,8 @@ listed-first items place label n ordered bound below above (k, within, there) =
     ))
     (cases_lt n k) in
     ⊎_elim
-    (λ (past : place < (slice_index_or items n item).place). absurd (⊎_elim (λ less. omega arith) (λ (same, _). omega arith) upto))
+    (λ (past : place < (slice_index_or items n item).place). absurd
+    (⊎_elim (λ less. omega arith) (λ (same, _). omega arith) upto))
     (λ (same, high). ⊎_elim
     (λ (less : (slice_index_or items n item).place < (slice_index_or items k item).place). absurd (omega arith))
     (λ (_, low). (inside, sym same, subst (λ (z : ℤ). (slice_index_or items n item).label ≤ℤ z) at_label low, high))

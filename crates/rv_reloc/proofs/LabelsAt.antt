@@ -58,7 +58,8 @@ module _ (items : List SlotLabel) (place : ℕ) (label z : ℤ) (n : ℕ) (same 
     found = at items n;
     listed = (n, within, get_or_default items n (at items n) no_label within);
     place_is = here;
-    above = subst (λ (y : ℤ). y ≤ℤ (at items n).label) same (from_at place z (at items n) here (above n no_label (omega arith) within));
+    above = subst (λ (y : ℤ). y ≤ℤ (at items n).label) same
+        (from_at place z (at items n) here (above n no_label (omega arith) within));
   }
 
   pub below-only : AllPairs (λ s t. IsLabelFrom s.place s.label t) items → HasLabelBelow items place label → (0 < n)

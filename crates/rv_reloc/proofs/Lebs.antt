@@ -54,8 +54,8 @@ pub never-unloaded : (elf : Elf) (a : ℕ) → byte_at elf a ≡ None → (n : �
 never-unloaded elf a none zero = at_zero elf a
 never-unloaded elf a none (suc n) = at_suc elf a n ∙ from_none (byte_at elf a) (leb_at elf (a + 1) n) none
 
-never-more : (elf : Elf) (a b : ℕ) → byte_at elf a ≡ Some b → is_last b ≡ false → ((n : ℕ) → leb_at elf (a + 1) n ≡ None) → (n : ℕ) →
-    leb_at elf a n ≡ None
+never-more : (elf : Elf) (a b : ℕ) → byte_at elf a ≡ Some b → is_last b ≡ false →
+    ((n : ℕ) → leb_at elf (a + 1) n ≡ None) → (n : ℕ) → leb_at elf a n ≡ None
 never-more elf a b byte more never zero = at_zero elf a
 never-more elf a b byte more never (suc n) =
     at_suc elf a n ∙ from_more (byte_at elf a) b (leb_at elf (a + 1) n) byte more ∙ none_more b (leb_at elf (a + 1) n) (never n)
@@ -74,15 +74,15 @@ bytes-last elf a b byte last = record {
   beyond = λ n few. last_beyond elf a n (omega arith);
 }
 
-more_within : (elf : Elf) (a b : ℕ) (bs : List ℕ) → byte_at elf a ≡ Some b → is_last b ≡ false → AreLebBytes elf (a + 1) bs → (n : ℕ) →
-    length (b ∷ bs) ≤ n → leb_at elf a n ≡ Some (b ∷ bs)
+more_within : (elf : Elf) (a b : ℕ) (bs : List ℕ) → byte_at elf a ≡ Some b → is_last b ≡ false →
+    AreLebBytes elf (a + 1) bs → (n : ℕ) → length (b ∷ bs) ≤ n → leb_at elf a n ≡ Some (b ∷ bs)
 more_within elf a b bs byte more are zero upto = absurd (omega arith)
 more_within elf a b bs byte more are (suc n) upto =
     at_suc elf a n ∙ from_more (byte_at elf a) b (leb_at elf (a + 1) n) byte more
     ∙ some_more b (leb_at elf (a + 1) n) bs (are.within n (omega arith))
 
-more_beyond : (elf : Elf) (a b : ℕ) (bs : List ℕ) → byte_at elf a ≡ Some b → is_last b ≡ false → AreLebBytes elf (a + 1) bs → (n : ℕ) →
-    n < length (b ∷ bs) → leb_at elf a n ≡ None
+more_beyond : (elf : Elf) (a b : ℕ) (bs : List ℕ) → byte_at elf a ≡ Some b → is_last b ≡ false →
+    AreLebBytes elf (a + 1) bs → (n : ℕ) → n < length (b ∷ bs) → leb_at elf a n ≡ None
 more_beyond elf a b bs byte more are zero few = at_zero elf a
 more_beyond elf a b bs byte more are (suc n) few =
     at_suc elf a n ∙ from_more (byte_at elf a) b (leb_at elf (a + 1) n) byte more
@@ -115,7 +115,8 @@ bytes-from elf (suc n) a bs is = by (bytes-from elf n (a + 1)) (byte_at elf a) r
     last_by : ((cs : List ℕ) → leb_at elf (a + 1) n ≡ Some cs → AreLebBytes elf (a + 1) cs) → (b : ℕ) → byte_at elf a ≡ Some b →
         (t : Bool) → is_last b ≡ t → AreLebBytes elf a bs
     last_by later b byte true last =
-        let e : Some (b ∷ []) ≡ Some bs = sym (from_last (byte_at elf a) b (leb_at elf (a + 1) n) byte last) ∙ sym (at_suc elf a n) ∙ is in
+        let e : Some (b ∷ []) ≡ Some bs =
+        sym (from_last (byte_at elf a) b (leb_at elf (a + 1) n) byte last) ∙ sym (at_suc elf a n) ∙ is in
         let same : b ∷ [] ≡ bs = cc in
         subst (AreLebBytes elf a) same (bytes-last elf a b byte last)
     last_by later b byte false more = rest_by later b byte more (leb_at elf (a + 1) n) refl
@@ -136,7 +137,8 @@ bytes-some elf a [] are = let e : None ≡ Some [] = sym (at_zero elf a) ∙ are
 bytes-some elf a (b ∷ bs) are = omega arith
 
 never-bytes : (elf : Elf) (a : ℕ) (bs : List ℕ) → AreLebBytes elf a bs → ((n : ℕ) → leb_at elf a n ≡ None) → ⊥
-never-bytes elf a bs are never = let e : None ≡ Some bs = sym (never (length bs)) ∙ are.within (length bs) (omega arith) in absurd (cc)
+never-bytes elf a bs are never =
+    let e : None ≡ Some bs = sym (never (length bs)) ∙ are.within (length bs) (omega arith) in absurd (cc)
 
 -- the first of them, which may be the last
 pub data Front (elf : Elf) (a b : ℕ) (bs : List ℕ) : Type 0 where
@@ -184,7 +186,8 @@ tail_of t (is_tail _ is) = is
 no_tail_of : {elf : Elf} {a : ℕ} → TailAt elf a None → (n : ℕ) → leb_at elf a n ≡ None
 no_tail_of (no_tail never) = never
 
-pub tail-more : (elf : Elf) (a b : ℕ) (t u : Tail) → byte_at elf a ≡ Some b → 128 ≤ b → TailAt elf (a + 1) (Some t) → u.end ≡ t.end →
+pub tail-more : (elf : Elf) (a b : ℕ) (t u : Tail) → byte_at elf a ≡ Some b → 128 ≤ b →
+    TailAt elf (a + 1) (Some t) → u.end ≡ t.end →
     IsTrue u.is_zeros ↔ ((b % 128 ≡ 0) × IsTrue t.is_zeros) → IsTrue u.is_ones ↔ ((b % 128 ≡ 127) × IsTrue t.is_ones) →
     TailAt elf a (Some u)
 tail-more elf a b t u byte high next end zeros ones =
@@ -201,7 +204,8 @@ pub tail-never : (elf : Elf) (a b : ℕ) → byte_at elf a ≡ Some b → 128 �
 tail-never elf a b byte high next = no_tail (never-more elf a b byte (le-ltb b 128 high) (no_tail_of next))
 
 -- the place of a tail that ends in so many bytes
-pub tail-bytes : (elf : Elf) (a : ℕ) (t : Tail) → TailAt elf a (Some t) → (bs : List ℕ) × AreLebBytes elf a bs × (t.end ≡ a + length bs)
+pub tail-bytes : (elf : Elf) (a : ℕ) (t : Tail) → TailAt elf a (Some t) →
+    (bs : List ℕ) × AreLebBytes elf a bs × (t.end ≡ a + length bs)
 tail-bytes elf a t at = let is = tail_of t at in (is.bytes, is.are, is.end)
 
 pub no_tail-never : (elf : Elf) (a n : ℕ) → TailAt elf a None → leb_at elf a n ≡ None
@@ -221,8 +225,8 @@ minus_one : (z : ℤ) → magnitude z ≡ 0 → z ≢ pos 0 → z ≡ negsuc 0
 minus_one (pos n) small other = absurd (other (ap pos small))
 minus_one (negsuc n) small other = ap negsuc small
 
-pub ones-hold : (elf : Elf) (a : ℕ) (t : Tail) (bs : List ℕ) (z : ℤ) → TailAt elf a (Some t) → AreLebBytes elf a bs → magnitude z ≡ 0 →
-    z ≢ pos 0 → IsTrue t.is_ones ↔ HoldBits bs z
+pub ones-hold : (elf : Elf) (a : ℕ) (t : Tail) (bs : List ℕ) (z : ℤ) → TailAt elf a (Some t) →
+    AreLebBytes elf a bs → magnitude z ≡ 0 → z ≢ pos 0 → IsTrue t.is_ones ↔ HoldBits bs z
 ones-hold elf a t bs z at are small other =
     let tail = tail_of t at in
     let same = bytes-once elf a tail.bytes bs tail.are are in
@@ -249,7 +253,8 @@ last-bits elf a b bs z are byte low same = by (front elf a b bs are byte)
     by (more last cs is after) = let e : true ≡ false = sym (lt-ltb b 128 low) ∙ last in absurd (cc)
 
 pub more-bits : (elf : Elf) (a b : ℕ) (bs : List ℕ) (z : ℤ) (r : Bool) → AreLebBytes elf a bs → byte_at elf a ≡ Some b → 128 ≤ b →
-    b % 128 ≡ low_bits z → ((cs : List ℕ) → AreLebBytes elf (a + 1) cs → IsTrue r ↔ HoldBits cs (high_bits z)) → IsTrue r ↔ HoldBits bs z
+    b % 128 ≡ low_bits z → ((cs : List ℕ) → AreLebBytes elf (a + 1) cs → IsTrue r ↔ HoldBits cs (high_bits z)) →
+    IsTrue r ↔ HoldBits bs z
 more-bits elf a b bs z r are byte high same rest = by (front elf a b bs are byte)
   where
     by : Front elf a b bs → IsTrue r ↔ HoldBits bs z
@@ -292,10 +297,12 @@ size-beyond elf a n t at short =
     sym (ap (option_map length) (is.are.beyond n few))
 
 pub field-holds : (elf : Elf) (a n m : ℕ) (z : ℤ) (r : Bool) → option_map length (leb_at elf a n) ≡ Some m →
-    ((bs : List ℕ) → AreLebBytes elf a bs → IsTrue r ↔ HoldBits bs z) → IsTrue r ↔ IsSomeAnd (leb_at elf a n) (λ bs. HoldBits bs z)
+    ((bs : List ℕ) → AreLebBytes elf a bs → IsTrue r ↔ HoldBits bs z) →
+    IsTrue r ↔ IsSomeAnd (leb_at elf a n) (λ bs. HoldBits bs z)
 field-holds elf a n m z r size test = by (leb_at elf a n) refl
   where
     by : (o : Option (List ℕ)) → leb_at elf a n ≡ o → IsTrue r ↔ IsSomeAnd (leb_at elf a n) (λ bs. HoldBits bs z)
     by None is = let e : None ≡ Some m = sym (ap (option_map length) is) ∙ size in absurd (cc)
     by (Some bs) is =
-        subst (λ (o : Option (List ℕ)). IsTrue r ↔ IsSomeAnd o (λ cs. HoldBits cs z)) (sym is) (test bs (bytes-from elf n a bs is))
+        subst (λ (o : Option (List ℕ)). IsTrue r ↔ IsSomeAnd o (λ cs. HoldBits cs z)) (sym is)
+        (test bs (bytes-from elf n a bs is))

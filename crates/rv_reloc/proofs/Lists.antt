@@ -3,7 +3,8 @@ use Rattle.std.proofs.Common.{◌≡◌, ◌∙◌, ap, refl, zero, suc, List, [
 use Rattle.std.specs.List.{Contains}
 use Rattle.std.proofs.lemmas.List.{get_or-map, length-map}
 
-pub Contains-from_map : {A B : Type 0} (f : A → B) (xs : List A) (y : B) → Contains (map f xs) y → (x : A) × Contains xs x × (f x ≡ y)
+pub Contains-from_map : {A B : Type 0} (f : A → B) (xs : List A) (y : B) → Contains (map f xs) y →
+    (x : A) × Contains xs x × (f x ≡ y)
 Contains-from_map f [] y (k, within, is) = absurd (omega arith)
 Contains-from_map f (x ∷ xs) y (zero, within, is) = (x, (0, omega arith, refl), is)
 Contains-from_map f (x ∷ xs) y (suc k, within, is) =

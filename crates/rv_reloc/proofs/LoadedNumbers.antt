@@ -30,7 +30,8 @@ more (Some c) (Some bs) b x e f =
     let sum : b + 256 * x ≡ c + 256 * little bs = omega arith in
     ap Some sum
 
-no_rest : (first : Option ℕ) (rest : Option (List ℕ)) → option_map little rest ≡ None → None ≡ option_map little (and_more first rest)
+no_rest : (first : Option ℕ) (rest : Option (List ℕ)) → option_map little rest ≡ None →
+    None ≡ option_map little (and_more first rest)
 no_rest None rest e = refl
 no_rest (Some c) None e = refl
 no_rest (Some c) (Some bs) e = absurd (cc)
@@ -41,7 +42,8 @@ whole elf a n m is = ap (option_map little) (sym (goes_on elf a m)) ∙ ap (λ (
 
 pub number-more : (elf : Elf) (a n m b x : ℕ) → n ≡ suc m → byte_at elf a ≡ Some b → loaded_number elf (a + 1) m ≡ Some x →
     Some (b + 256 * x) ≡ loaded_number elf a n
-number-more elf a n m b x is first rest = more (byte_at elf a) (bytes_in (byte_at elf) (a + 1) m) b x first rest ∙ whole elf a n m is
+number-more elf a n m b x is first rest =
+    more (byte_at elf a) (bytes_in (byte_at elf) (a + 1) m) b x first rest ∙ whole elf a n m is
 
 pub number-no_rest : (elf : Elf) (a n m : ℕ) → n ≡ suc m → loaded_number elf (a + 1) m ≡ None → None ≡ loaded_number elf a n
 number-no_rest elf a n m is rest = no_rest (byte_at elf a) (bytes_in (byte_at elf) (a + 1) m) rest ∙ whole elf a n m is

@@ -42,12 +42,14 @@ low_of elf records l are is =
     )
 
 pub AreLows-sorted : (elf : Elf) (records : List Record) (were lows : List Low) → AreRecords elf records →
-    AreFound (λ r l. IsLowOf elf (seen r) l) records were → IsPermutation were lows → IsNonDecreasingBy (λ l. l.hi) lows → AreLows elf lows
+    AreFound (λ r l. IsLowOf elf (seen r) l) records were → IsPermutation were lows →
+    IsNonDecreasingBy (λ l. l.hi) lows → AreLows elf lows
 AreLows-sorted elf records were lows are found moved rising = record {
   all = λ l. (
     λ listed. let (r, has_r, is) = found.only l (Contains-permutation lows were l (IsPermutation-sym were lows moved) listed) in
         low_part elf records l r are has_r is,
-    λ is. let (r, listed, low) = low_of elf records l are is in Contains-permutation were lows l moved (found.each r l listed low),
+    λ is. let (r, listed, low) = low_of elf records l are is in
+        Contains-permutation were lows l moved (found.each r l listed low),
   );
   rising = rising;
 }

@@ -19,7 +19,8 @@ use Rattle.rv_reloc.proofs.Faulty.{lowest-relocation}
 pub bad_symbol : (elf : Elf) (r : Relocation) → HasBadSymbol elf r → IsBadField elf r
 bad_symbol elf r (named, past) = IsBadField.symbol named past
 
-pub field_cases : {P : Type 0} (elf : Elf) (r : Relocation) → (HasBadSymbol elf r → P) → ((HasField elf r → ⊥) → P) → IsBadField elf r → P
+pub field_cases : {P : Type 0} (elf : Elf) (r : Relocation) → (HasBadSymbol elf r → P) →
+    ((HasField elf r → ⊥) → P) → IsBadField elf r → P
 field_cases elf r symbol field (IsBadField.symbol named past) = symbol (named, past)
 field_cases elf r symbol field (IsBadField.field none) = field none
 

@@ -7,7 +7,8 @@ use Rattle.elf_image.specs.code.Cells.{IsOnly}
 use Rattle.rv_reloc.proofs.Lists.{Contains-map, Contains-from_map}
 use Rattle.rv_reloc.proofs.Ordered.{count-cons, one_if}
 
-pub only-permutation : {A : Type 0} (test : A → Bool) (xs ys : List A) (x : A) → IsPermutation xs ys → IsOnly test xs x → IsOnly test ys x
+pub only-permutation : {A : Type 0} (test : A → Bool) (xs ys : List A) (x : A) → IsPermutation xs ys →
+    IsOnly test xs x → IsOnly test ys x
 only-permutation test xs ys x moved is = record {
   listed = Contains-permutation xs ys x moved is.listed;
   passes = is.passes;
@@ -18,14 +19,16 @@ count-map : {A B : Type 0} (f : A → B) (test : B → Bool) (xs : List A) → c
 count-map f test [] = refl
 count-map f test (x ∷ xs) =
     let rest = count-map f test xs in
-    let left : count_by test (map f (x ∷ xs)) ≡ one_if (test (f x)) + count_by test (map f xs) = count-cons test (f x) (map f xs) in
+    let left : count_by test (map f (x ∷ xs)) ≡ one_if (test (f x)) + count_by test (map f xs) =
+    count-cons test (f x) (map f xs) in
     let right : count_by (λ y. test (f y)) (x ∷ xs) ≡ one_if (test (f x)) + count_by (λ y. test (f y)) xs =
     count-cons (λ y. test (f y)) x xs in
     omega arith
 
 pub only-map : {A B : Type 0} (f : A → B) (test : B → Bool) (xs : List A) (x : A) → IsOnly (λ y. test (f y)) xs x →
     IsOnly test (map f xs) (f x)
-only-map f test xs x is = record { listed = Contains-map f xs x is.listed; passes = is.passes; alone = count-map f test xs ∙ is.alone }
+only-map f test xs x is =
+    record { listed = Contains-map f xs x is.listed; passes = is.passes; alone = count-map f test xs ∙ is.alone }
 
 pub only-from_map : {A B : Type 0} (f : A → B) (test : B → Bool) (xs : List A) (y : B) → IsOnly test (map f xs) y → (x : A)
     × IsOnly (λ z. test (f z)) xs x × (f x ≡ y)

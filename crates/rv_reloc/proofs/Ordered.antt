@@ -16,14 +16,16 @@ below_or_from p q c d =
     ⊎_elim
     (λ (less : p < q). inl (inl less))
     (λ (more : q ≤ p). ⊎_elim
-    (λ (same : p ≡ q). ⊎_elim (λ (low : c < d). inl (inr (same, low))) (λ (high : d ≤ c). inr (inr (sym same, high))) (cases_lt c d))
+    (λ (same : p ≡ q). ⊎_elim (λ (low : c < d). inl (inr (same, low)))
+    (λ (high : d ≤ c). inr (inr (sym same, high))) (cases_lt c d))
     (λ (differ : p ≢ q). inr (inl (omega arith)))
     (cases_eq p q))
     (cases_lt p q)
 
 from_trans : (x y z : Record) → IsFrom x.place (class_of x) y → IsFrom y.place (class_of y) z → IsFrom x.place (class_of x) z
 from_trans x y z =
-    less_trans x.place y.place z.place (class_of x ≤ class_of y) (class_of y ≤ class_of z) (class_of x ≤ class_of z) (λ p q. omega arith)
+    less_trans x.place y.place z.place (class_of x ≤ class_of y) (class_of y ≤ class_of z)
+    (class_of x ≤ class_of z) (λ p q. omega arith)
 
 pub AreInOrder-sorted : (xs : List Record) →
     ((k : ℕ) (d : Record) → 0 ≤ k → k + 1 < length xs →
@@ -44,7 +46,8 @@ pub has_key-true : (place class : ℕ) (x : Record) → IsTrue (has_key place cl
 has_key-true place class x is =
     ⊎_elim
     (λ (p : x.place ≡ place). ⊎_elim (λ (c : (class_of x) ≡ class). (p, c))
-    (λ (c : (class_of x) ≢ class). let e : false ≡ true = rw (eq-eqb x.place place p, ne_eqb (class_of x) class c) at is in absurd (cc))
+    (λ (c : (class_of x) ≢ class).
+    let e : false ≡ true = rw (eq-eqb x.place place p, ne_eqb (class_of x) class c) at is in absurd (cc))
     (cases_eq (class_of x) class))
     (λ (p : x.place ≢ place). let e : false ≡ true = rw (ne_eqb x.place place p) at is in absurd (cc))
     (cases_eq x.place place)
@@ -52,7 +55,8 @@ has_key-true place class x is =
 pub has_key-same : (place class : ℕ) (x : Record) → x.place ≡ place → (class_of x) ≡ class → has_key place class x ≡ true
 has_key-same place class x p c = rw (eq-eqb x.place place p, eq-eqb (class_of x) class c) refl
 
-pub has_key-other : (place class : ℕ) (x : Record) → ((x.place ≡ place) × ((class_of x) ≡ class) → ⊥) → has_key place class x ≡ false
+pub has_key-other : (place class : ℕ) (x : Record) → ((x.place ≡ place) × ((class_of x) ≡ class) → ⊥) →
+    has_key place class x ≡ false
 has_key-other place class x differ = by (has_key place class x) refl
   where
     by : (b : Bool) → has_key place class x ≡ b → has_key place class x ≡ false
@@ -62,7 +66,8 @@ has_key-other place class x differ = by (has_key place class x) refl
 abbrev pub one_if : Bool → ℕ
 one_if b = cond b 1 0
 
-pub count-cons : {A : Type 0} (test : A → Bool) (x : A) (xs : List A) → count_by test (x ∷ xs) ≡ one_if (test x) + count_by test xs
+pub count-cons : {A : Type 0} (test : A → Bool) (x : A) (xs : List A) →
+    count_by test (x ∷ xs) ≡ one_if (test x) + count_by test xs
 count-cons test x xs = sum_by-cons (λ y. cond (test y) 1 0) x xs
 
 -- the items of a stretch pass a test, and the others don't
@@ -95,8 +100,8 @@ count-run test (x ∷ xs) zero zero upto within before run after =
     omega arith
 
 -- one that passes counts
-pub count-some : {A : Type 0} (test : A → Bool) (xs : List A) (i : ℕ) → i < length xs → ((d : A) → test (slice_index_or xs i d) ≡ true) →
-    1 ≤ count_by test xs
+pub count-some : {A : Type 0} (test : A → Bool) (xs : List A) (i : ℕ) → i < length xs →
+    ((d : A) → test (slice_index_or xs i d) ≡ true) → 1 ≤ count_by test xs
 count-some test [] i within passes = absurd (omega arith)
 count-some test (x ∷ xs) zero within passes =
     let here : one_if (test x) ≡ 1 = ap one_if (passes x) in
@@ -108,8 +113,8 @@ count-some test (x ∷ xs) (suc i) within passes =
     omega arith
 
 -- two neighbours that pass count as two
-count-two : {A : Type 0} (test : A → Bool) (xs : List A) (i : ℕ) → suc i < length xs → ((d : A) → test (slice_index_or xs i d) ≡ true) →
-    ((d : A) → test (slice_index_or xs (suc i) d) ≡ true) → 2 ≤ count_by test xs
+count-two : {A : Type 0} (test : A → Bool) (xs : List A) (i : ℕ) → suc i < length xs →
+    ((d : A) → test (slice_index_or xs i d) ≡ true) → ((d : A) → test (slice_index_or xs (suc i) d) ≡ true) → 2 ≤ count_by test xs
 count-two test [] i within one two = absurd (omega arith)
 count-two test (x ∷ xs) zero within one two =
     let rest = count-some test xs 0 (omega arith) two in
@@ -140,7 +145,8 @@ after_other place class x y (inr (e, a)) (inl b) other (p, c) = omega arith
 after_other place class x y (inr (e, a)) (inr (f, b)) other (p, c) = other (sym e, omega arith)
 
 -- from an index on that has another key, none has the key
-other_after : (place class : ℕ) (items : List Record) (from i k : ℕ) (d : Record) → AreInOrder items → IsSplit place class items from →
+other_after : (place class : ℕ) (items : List Record) (from i k : ℕ) (d : Record) → AreInOrder items →
+    IsSplit place class items from →
     from ≤ i → (HasKeyAt place class items i → ⊥) → i ≤ k → k < length items → (slice_index_or items k d).place ≡ place →
     (class_of (slice_index_or items k d)) ≡ class → ⊥
 other_after place class items from i k d ordered split upto other above within p c =
@@ -151,7 +157,8 @@ other_after place class items from i k d ordered split upto other above within p
           (ap (λ (x : Record). x.place) same ∙ q, ap (λ (x : Record). (class_of x)) same ∙ b),
     ) in
     ⊎_elim
-    (λ (more : i < k). after_other place class (slice_index_or items i d) (slice_index_or items k d) (split.above i d upto (omega arith))
+    (λ (more : i < k). after_other place class (slice_index_or items i d) (slice_index_or items k d)
+    (split.above i d upto (omega arith))
     (ordered i k d more within) here (p, c))
     (λ (not_more : k ≤ i). let e : k ≡ i = omega arith in
     here (
@@ -162,8 +169,8 @@ other_after place class items from i k d ordered split upto other above within p
     (cases_lt i k)
 
 -- none
-pub only-none : (place class : ℕ) (items : List Record) (from : ℕ) (x : Record) → AreInOrder items → IsSplit place class items from →
-    (HasKeyAt place class items from → ⊥) → IsOnly (has_key place class) items x → ⊥
+pub only-none : (place class : ℕ) (items : List Record) (from : ℕ) (x : Record) → AreInOrder items →
+    IsSplit place class items from → (HasKeyAt place class items from → ⊥) → IsOnly (has_key place class) items x → ⊥
 only-none place class items from x ordered split other is =
     let (k, within, there) = is.listed in
     let (p, c) = has_key-true place class x is.passes in
@@ -190,7 +197,8 @@ only-two place class items from x one two is =
     omega arith
 
 -- one
-pub only-one : (place class : ℕ) (items : List Record) (from : ℕ) (x : Record) → AreInOrder items → IsSplit place class items from →
+pub only-one : (place class : ℕ) (items : List Record) (from : ℕ) (x : Record) → AreInOrder items →
+    IsSplit place class items from →
     HasKeyAt place class items from → (HasKeyAt place class items (from + 1) → ⊥) → x ≡ slice_index_or items from x →
     IsOnly (has_key place class) items x
 only-one place class items from x ordered split one other is = record {
@@ -206,7 +214,8 @@ only-one place class items from x ordered split one other is = record {
       in omega arith;
 }
 
-pub only-same : (place class : ℕ) (items : List Record) (from : ℕ) (x y : Record) → AreInOrder items → IsSplit place class items from →
+pub only-same : (place class : ℕ) (items : List Record) (from : ℕ) (x y : Record) → AreInOrder items →
+    IsSplit place class items from →
     (HasKeyAt place class items (from + 1) → ⊥) → x ≡ slice_index_or items from x → IsOnly (has_key place class) items y → x ≡ y
 only-same place class items from x y ordered split other is only =
     let (k, within, there) = only.listed in
@@ -230,7 +239,8 @@ is_below place class x = nat_lt x.place place || (x.place == place && nat_lt (cl
 
 below_test : (place class : ℕ) (x : Record) → IsBelow place class x → is_below place class x ≡ true
 below_test place class x (inl less) = rw (lt-ltb x.place place less) refl
-below_test place class x (inr (p, c)) = rw (le-ltb x.place place (omega arith), eq-eqb x.place place p, lt-ltb (class_of x) class c) refl
+below_test place class x (inr (p, c)) =
+    rw (le-ltb x.place place (omega arith), eq-eqb x.place place p, lt-ltb (class_of x) class c) refl
 
 from_test : (place class : ℕ) (x : Record) → IsFrom place class x → is_below place class x ≡ false
 from_test place class x (inl more) =
@@ -261,7 +271,9 @@ parted place class items ordered i j d upto within is =
     (λ (less : i < j). below_test place class (slice_index_or items i d)
     (below_back place class (slice_index_or items i d) (slice_index_or items j d) (ordered i j d less within)
     (test_below place class (slice_index_or items j d) is)))
-    (λ (more : j ≤ i). let e : j ≡ i = omega arith in subst (λ (k : ℕ). is_below place class (slice_index_or items k d) ≡ true) e is)
+    (λ (more : j ≤ i).
+    let e : j ≡ i = omega arith in
+    subst (λ (k : ℕ). is_below place class (slice_index_or items k d) ≡ true) e is)
     (cases_lt i j)
 
 -- Whether there is one of a key.
@@ -271,7 +283,8 @@ item_at [] k within = absurd (omega arith)
 item_at (x ∷ xs) zero within = (x, refl)
 item_at (x ∷ xs) (suc k) within = item_at xs k (omega arith)
 
-any-at : (place class : ℕ) (items : List Record) (k : ℕ) → HasKeyAt place class items k → Any (λ r. IsTrue (has_key place class r)) items
+any-at : (place class : ℕ) (items : List Record) (k : ℕ) → HasKeyAt place class items k →
+    Any (λ r. IsTrue (has_key place class r)) items
 any-at place class items k (within, same) =
     let (x, there) = item_at items k within in
     let (p, c) = same x in (
@@ -294,7 +307,8 @@ any-none place class items from ordered split other (k, x, within, there, passes
     (λ (more : from ≤ k). other_after place class items from from k x ordered split (omega arith) other more within p_k c_k)
     (cases_lt k from)
 
-pub any-where : (place class : ℕ) (items : List Record) (from : ℕ) (here : Bool) → AreInOrder items → IsSplit place class items from →
+pub any-where : (place class : ℕ) (items : List Record) (from : ℕ) (here : Bool) → AreInOrder items →
+    IsSplit place class items from →
     IsTrue here ↔ HasKeyAt place class items from → IsTrue here ↔ Any (λ r. IsTrue (has_key place class r)) items
 any-where place class items from true ordered split tells = (λ is. any-at place class items from (tells.0 is), λ some. refl)
 any-where place class items from false ordered split tells = (

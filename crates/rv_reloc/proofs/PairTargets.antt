@@ -25,7 +25,17 @@ target_at elf r source hi imm z counts is part target here =
     let part' : PcrelLo elf source r.place imm = subst (λ (n : ℕ). PcrelLo elf source n imm) (sym here) part in
     let target' : IsTargetOf elf (record { hi = r.place; imm = imm }) z =
     subst (λ (n : ℕ). IsTargetOf elf (record { hi = n; imm = imm }) z) (sym here) target in
-    record { counts = counts; is_hi = is; rd = target'.rd; upper = target'.upper; auipc = target'.auipc; low = source; lower = imm; part = part'; target_is = target'.target_is }
+    record {
+      counts = counts;
+      is_hi = is;
+      rd = target'.rd;
+      upper = target'.upper;
+      auipc = target'.auipc;
+      low = source;
+      lower = imm;
+      part = part';
+      target_is = target'.target_is;
+    }
 
 pub target_upper : (elf : Elf) (r : Relocation) (l : Low) (z : ℤ) → Contains (relocations elf) r → IsTrue (is_pcrel_hi r.kind) →
     IsLowPart elf l → IsTargetOf elf l z → r.place ≡ l.hi → PcrelHiTo elf r z
@@ -35,6 +45,14 @@ pub lower_target : (elf : Elf) (r : Relocation) (hi : ℕ) (z : ℤ) (to : Pcrel
     IsTargetOf elf (record { hi = hi; imm = to.lower }) z
 lower_target elf r hi z to = record { rd = to.rd; upper = to.upper; auipc = to.auipc; target_is = to.target_is }
 
-pub target_lower : (elf : Elf) (r : Relocation) (l : Low) (z : ℤ) → PcrelLo elf r l.hi l.imm → IsTargetOf elf l z → PcrelLoTo elf r l.hi z
+pub target_lower : (elf : Elf) (r : Relocation) (l : Low) (z : ℤ) → PcrelLo elf r l.hi l.imm →
+    IsTargetOf elf l z → PcrelLoTo elf r l.hi z
 target_lower elf r l z part target =
-    record { lower = l.imm; part = part; rd = target.rd; upper = target.upper; auipc = target.auipc; target_is = target.target_is }
+    record {
+      lower = l.imm;
+      part = part;
+      rd = target.rd;
+      upper = target.upper;
+      auipc = target.auipc;
+      target_is = target.target_is;
+    }

@@ -10,7 +10,8 @@ use Rattle.rv_reloc.specs.Parts.{AreApart, HoldsAddress, AreCodeParts}
 pub AreApart-parts : (elf : Elf) (parts : List Part) → AreCodeParts elf parts → AreApart parts
 AreApart-parts elf parts are = record {
   has_bytes = λ k d within.
-      (are.only (slice_index_or parts k d) (k, within, get_or_default parts k (slice_index_or parts k d) d within)).part.has_bytes;
+      (are.only (slice_index_or parts k d)
+      (k, within, get_or_default parts k (slice_index_or parts k d) d within)).part.has_bytes;
   ordered = are.ordered;
 }
 
@@ -18,7 +19,10 @@ pub rising : (parts : List Part) → AreApart parts → IsNonDecreasingBy (λ p.
 rising parts are i j d upto within =
     ⊎_elim
     (λ (less : i < j). let b = are.has_bytes i d (omega arith) in let o = are.ordered i j d less within in omega arith)
-    (λ (not_less : j ≤ i). let e : i ≡ j = omega arith in let s = ap (λ (k : ℕ). (slice_index_or parts k d).start) e in omega arith)
+    (λ (not_less : j ≤ i).
+    let e : i ≡ j = omega arith in
+    let s = ap (λ (k : ℕ). (slice_index_or parts k d).start) e in
+    omega arith)
     (cases_lt i j)
 
 -- the last part that begins at an address or below it is the one that holds it, if one does
@@ -32,13 +36,19 @@ last_holds parts a count x p are some bound is low above holds =
     let low_p = holds.above in
     ⊎_elim
     (λ (less : k < count - 1).
-    let o : (slice_index_or parts k x).end ≤ (slice_index_or parts (count - 1) x).start = are.ordered k (count - 1) x less (omega arith) in
+    let o : (slice_index_or parts k x).end ≤ (slice_index_or parts (count - 1) x).start =
+    are.ordered k (count - 1) x less (omega arith) in
     let same : (slice_index_or parts k x).end ≡ p.end = ap (λ (q : Part). q.end) (sym at ∙ there) in
     let last : x.start ≡ (slice_index_or parts (count - 1) x).start = ap (λ (q : Part). q.start) is in
     absurd (omega arith))
     (λ (more : count - 1 ≤ k). ⊎_elim
-    (λ (far : count ≤ k). let high_k = above k p far within in let same = ap (λ (q : Part). q.start) there in absurd (omega arith))
-    (λ (near : k < count). let e : count - 1 ≡ k = omega arith in is ∙ ap (λ (j : ℕ). slice_index_or parts j x) e ∙ sym at ∙ there)
+    (λ (far : count ≤ k).
+    let high_k = above k p far within in
+    let same = ap (λ (q : Part). q.start) there in
+    absurd (omega arith))
+    (λ (near : k < count).
+    let e : count - 1 ≡ k = omega arith in
+    is ∙ ap (λ (j : ℕ). slice_index_or parts j x) e ∙ sym at ∙ there)
     (upto count k))
     (cases_lt k (count - 1))
   where

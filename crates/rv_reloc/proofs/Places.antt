@@ -15,8 +15,8 @@ more place_of IsBad xs x p (inl is) =
     record { item = is.item; listed = Contains-append_left xs (x ∷ []) is.item is.listed; bad = is.bad; place_is = is.place_is }
 more place_of IsBad xs x p (inr is) = record { item = x; listed = Contains-push xs x; bad = is.0; place_is = sym is.1 }
 
-fewer : {A : Type 0} (place_of : A → ℕ) (IsBad : A → Type 0) (xs : List A) (x : A) (p : ℕ) → IsPlaceOf place_of IsBad (xs ++ x ∷ []) p →
-    IsPlaceOf place_of IsBad xs p ⊎ (IsBad x × (p ≡ place_of x))
+fewer : {A : Type 0} (place_of : A → ℕ) (IsBad : A → Type 0) (xs : List A) (x : A) (p : ℕ) →
+    IsPlaceOf place_of IsBad (xs ++ x ∷ []) p → IsPlaceOf place_of IsBad xs p ⊎ (IsBad x × (p ≡ place_of x))
 fewer {A} place_of IsBad xs x p is =
     ⊎_elim
     (λ before. inl (record { item = is.item; listed = before; bad = is.bad; place_is = is.place_is }))
@@ -24,7 +24,8 @@ fewer {A} place_of IsBad xs x p is =
     (Contains-push_cases xs x is.item is.listed)
 
 -- one more item
-pub IsPlaceOf-next : {A : Type 0} (place_of : A → ℕ) (IsBad : A → Type 0) (xs : List A) (i : ℕ) (x : A) (a b r : Option ℕ) (holds : Bool)
+pub IsPlaceOf-next : {A : Type 0} (place_of : A → ℕ) (IsBad : A → Type 0) (xs : List A) (i : ℕ) (x : A)
+    (a b r : Option ℕ) (holds : Bool)
     (at : ℕ) → i < length xs → x ≡ slice_index_or xs i x → r ≡ lower a b → IsLowest (IsPlaceOf place_of IsBad (take i xs)) a →
     b ≡ (if holds then Some at else None) → at ≡ place_of x → IsTrue holds ↔ IsBad x →
     IsLowest (IsPlaceOf place_of IsBad (take (i + 1) xs)) r

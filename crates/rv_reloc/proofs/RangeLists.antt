@@ -6,7 +6,8 @@ use Rattle.std.proofs.lemmas.List.Elements.{All-contains, filter_passes}
 use Rattle.std.proofs.lemmas.List.Sorted.{IsPermutation-sym}
 use Rattle.elf_image.specs.declared.elf.Elf.{Elf}
 use Rattle.elf_image.specs.declared.extent.Extent.{Extent}
-use Rattle.elf_image.specs.code.Cuts.{names_function, holds_code}
+use Rattle.elf_image.specs.code.Cuts.{names_function}
+use Rattle.elf_image.specs.file.Sections.{holds_code}
 use Rattle.elf_image.specs.code.Parts.{IsCovered, IsInCode, IsInTabled}
 use Rattle.elf_image.specs.internal.Extents.{IsInOneExtent}
 use Rattle.elf_image.proofs.LoadLemmas.{Contains-filter, Contains-from_filter}
@@ -36,19 +37,23 @@ IsInOneExtent-to_chosen p f xs start end (k, x, within, is, (chosen, low, high))
 
 -- the same of ranges that are asked
 chosen : {X : Type 0} (p : X → Bool) (f : X → Extent) (xs : List X) (reaches extents : List Extent) →
-    ((a e : ℕ) → a < e → IsInOneExtent reaches a e ↔ IsInOneExtent extents a e) → extents ≡ map f (filter p xs) → (a e : ℕ) → a < e →
-    IsInOneExtent reaches a e ↔ HasRange p f xs a e
+    ((a e : ℕ) → a < e → IsInOneExtent reaches a e ↔ IsInOneExtent extents a e) →
+    extents ≡ map f (filter p xs) → (a e : ℕ) → a < e → IsInOneExtent reaches a e ↔ HasRange p f xs a e
 chosen p f xs reaches extents same are a e some = (
-  (λ covered. IsInOneExtent-from_chosen p f xs a e (subst (λ (ss : List Extent). IsInOneExtent ss a e) are ((same a e some).0 covered))),
-  (λ has. (same a e some).1 (subst (λ (ss : List Extent). IsInOneExtent ss a e) (sym are) (IsInOneExtent-to_chosen p f xs a e has))),
+  (λ covered. IsInOneExtent-from_chosen p f xs a e
+      (subst (λ (ss : List Extent). IsInOneExtent ss a e) are ((same a e some).0 covered))),
+  (λ has. (same a e some).1
+      (subst (λ (ss : List Extent). IsInOneExtent ss a e) (sym are) (IsInOneExtent-to_chosen p f xs a e has))),
 )
 
 pub IsInOneExtent-code : (elf : Elf) (reaches extents : List Extent) →
     ((a e : ℕ) → a < e → IsInOneExtent reaches a e ↔ IsInOneExtent extents a e) →
-    extents ≡ map section_extent (filter holds_code elf.sections.items) → (a : ℕ) → IsInOneExtent reaches a (a + 1) ↔ IsInCode elf a
+    extents ≡ map section_extent (filter (λ s. holds_code s.flags) elf.sections.items) → (a : ℕ) →
+    IsInOneExtent reaches a (a + 1) ↔ IsInCode elf a
 unfolding HasRange
 IsInOneExtent-code elf reaches extents same are a =
-    let (from, to) = chosen holds_code section_extent elf.sections.items reaches extents same are a (a + 1) (omega arith) in (
+    let (from, to) =
+    chosen (λ s. holds_code s.flags) section_extent elf.sections.items reaches extents same are a (a + 1) (omega arith) in (
       (λ covered. let (k, s, within, is, (code, low, high)) = from covered in (k, s, within, is, (code, low, omega arith))),
       (λ (k, s, within, is, (code, low, high)). to (k, s, within, is, (code, low, omega arith))),
     )

@@ -26,7 +26,8 @@ lacks_others elf tabled AlreadyMoved low = absurd (omega arith)
 lacks_others elf tabled _ low = λ place has. has
 
 -- and so are those of higher ones
-pub lacks_all : (elf : Elf) (tabled : List (ℕ × ℕ)) → LacksBelow (HasReferenceFault elf tabled) 15 → IsFree (HasReferenceFault elf tabled)
+pub lacks_all : (elf : Elf) (tabled : List (ℕ × ℕ)) → LacksBelow (HasReferenceFault elf tabled) 15 →
+    IsFree (HasReferenceFault elf tabled)
 lacks_all elf tabled lacks RelocType = lacks RelocType (omega arith)
 lacks_all elf tabled lacks RelocMismatch = lacks RelocMismatch (omega arith)
 lacks_all elf tabled lacks LoMismatch = lacks LoMismatch (omega arith)
@@ -47,17 +48,19 @@ no_mismatch elf tabled lacks place is = lacks LoMismatch (omega arith) place is
 pub all_addresses : (elf : Elf) (tabled : List (ℕ × ℕ)) (counted : List Candidate) → AreCounted elf tabled (map field counted) →
     LacksBelow (HasReferenceFault elf tabled) 15 → All HasAddresses counted
 all_addresses elf tabled counted are lacks =
-    none-bad counted (IsLowest-none (λ p is. lacks RelocMismatch (omega arith) p (inr (of_bad_field elf tabled counted are p is))))
+    none-bad counted
+    (IsLowest-none (λ p is. lacks RelocMismatch (omega arith) p (inr (of_bad_field elf tabled counted are p is))))
 
 -- The lists as the code passes them on.
 
-pub asked : (elf : Elf) (tabled : List (ℕ × ℕ)) (wholes passed again : List Part) (counted seen : List Candidate) → passed ≡ wholes →
-    again ≡ wholes → seen ≡ counted → AreWholeParts elf tabled wholes →
+pub asked : (elf : Elf) (tabled : List (ℕ × ℕ)) (wholes passed again : List Part) (counted seen : List Candidate) →
+    passed ≡ wholes → again ≡ wholes → seen ≡ counted → AreWholeParts elf tabled wholes →
     (AreWholeParts elf tabled passed → AreCounted elf tabled (map field counted)) → AreAsked elf tabled again seen
 asked elf tabled wholes passed again counted seen e f g are counts = record {
   wholes_are = subst (AreWholeParts elf tabled) (sym f) are;
   counted_are =
-      subst (λ (cs : List Candidate). AreCounted elf tabled (map field cs)) (sym g) (counts (subst (AreWholeParts elf tabled) (sym e) are));
+      subst (λ (cs : List Candidate). AreCounted elf tabled (map field cs)) (sym g)
+      (counts (subst (AreWholeParts elf tabled) (sym e) are));
 }
 
 -- all items of a list that is passed on, or that was

@@ -21,7 +21,9 @@ abbrev pub Relatives : Elf → ℕ → Type 0
 Relatives elf = HasRelocation elf (λ r. r.kind ≡ R_RISCV_IRELATIVE)
 
 to : (elf : Elf) (p : ℕ) → (Symbols elf p ⊎ Stubs elf p) ⊎ Relatives elf p → IsIfuncOrPlt elf p
-to elf p (inl (inl is)) = let (k, within, there) = is.listed in IsIfuncOrPlt.symbol (k, is.item, within, there, (is.bad, is.place_is))
+to elf p (inl (inl is)) =
+    let (k, within, there) = is.listed in
+    IsIfuncOrPlt.symbol (k, is.item, within, there, (is.bad, is.place_is))
 to elf p (inl (inr is)) =
     let (k, within, there) = is.listed in IsIfuncOrPlt.section (k, is.item, within, there, (is.bad.0, is.bad.1, is.place_is))
 to elf p (inr is) = IsIfuncOrPlt.relocation is
@@ -33,7 +35,7 @@ from elf p (IsIfuncOrPlt.section (k, s, within, there, (stubs, some, place))) =
     inl (inr (record { item = s; listed = (k, within, there); bad = (stubs, some); place_is = place }))
 from elf p (IsIfuncOrPlt.relocation is) = inr is
 
-pub IsLowest-selecting : (elf : Elf) (a b c both all : Option ℕ) → both ≡ lower a b → all ≡ lower both c → IsLowest (Symbols elf) a →
-    IsLowest (Stubs elf) b → IsLowest (Relatives elf) c → IsLowest (IsIfuncOrPlt elf) all
+pub IsLowest-selecting : (elf : Elf) (a b c both all : Option ℕ) → both ≡ lower a b → all ≡ lower both c →
+    IsLowest (Symbols elf) a → IsLowest (Stubs elf) b → IsLowest (Relatives elf) c → IsLowest (IsIfuncOrPlt elf) all
 IsLowest-selecting elf a b c both all is is' symbols stubs relatives =
     IsLowest-same all (to elf) (from elf) (IsLowest-lower both c all is' (IsLowest-lower a b both is symbols stubs) relatives)

@@ -13,7 +13,8 @@ use Rattle.rv_reloc.proofs.LoadedNumbers.{number-low}
 
 pub slot-made : (elf : Elf) (l : Low) (z : ℤ) (slot : ℕ) (f : Field) → IsTargetOf elf l z → pos slot ≡ z →
     IsNamedField elf l.hi slot f → IsSlotOf elf l f
-slot-made elf l z slot f makes same entry = record { slot = slot; names = subst (IsTargetOf elf l) (sym same) makes; entry = entry }
+slot-made elf l z slot f makes same entry =
+    record { slot = slot; names = subst (IsTargetOf elf l) (sym same) makes; entry = entry }
 
 pub slot-named : (elf : Elf) (l : Low) (z : ℤ) (slot : ℕ) (f : Field) → ((y : ℤ) → IsTargetOf elf l y → z ≡ y) → pos slot ≡ z →
     IsSlotOf elf l f → IsNamedField elf l.hi slot f
@@ -30,12 +31,19 @@ slot-missing elf l z f low only none is =
     omega arith
 
 -- the label of an entry, as it is looked up
-pub names-by_label : (elf : Elf) (labels : List SlotLabel) (hi to : ℕ) (y : ℤ) (r : Bool) → AreSlotLabels elf labels → y ≡ pos to →
+pub names-by_label : (elf : Elf) (labels : List SlotLabel) (hi to : ℕ) (y : ℤ) (r : Bool) →
+    AreSlotLabels elf labels → y ≡ pos to →
     IsTrue r ↔ Contains labels (record { place = hi; label = y }) → IsTrue r ↔ NamesEntry elf hi to
 names-by_label elf labels hi to y r are same test =
     let s : SlotLabel = record { place = hi; label = y } in (
       λ yes_is. let is = (are.all s).0 (test.0 yes_is) in
-          record { relocation = is.source; counts = is.counts; kind_is = is.is.is_slot; place_is = is.is.place_is; label_is = is.is.label_is ∙ same },
+          record {
+            relocation = is.source;
+            counts = is.counts;
+            kind_is = is.is.is_slot;
+            place_is = is.is.place_is;
+            label_is = is.is.label_is ∙ same;
+          },
       λ n. test.1 ((are.all s).1 (record {
         source = n.relocation;
         counts = n.counts;

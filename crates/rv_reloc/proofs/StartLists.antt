@@ -34,13 +34,15 @@ unfolding starts_within
 within_past elf end a zero past = refl
 within_past elf end a (suc n) past = above a end _ _ past
 
-within_suc : (elf : Elf) (end a n : ℕ) → a < end → starts_within elf end a (suc n) ≡ a ∷ starts_within elf end (a + length_at elf a) n
+within_suc : (elf : Elf) (end a n : ℕ) → a < end →
+    starts_within elf end a (suc n) ≡ a ∷ starts_within elf end (a + length_at elf a) n
 unfolding starts_within
 within_suc elf end a n less = below a end _ _ less
 
 -- enough steps are enough
 within_enough : (elf : Elf) (end a n m : ℕ) → end ≤ a + n → end ≤ a + m → starts_within elf end a n ≡ starts_within elf end a m
-within_enough elf end a zero m n_enough m_enough = within_past elf end a zero (omega arith) ∙ sym (within_past elf end a m (omega arith))
+within_enough elf end a zero m n_enough m_enough =
+    within_past elf end a zero (omega arith) ∙ sym (within_past elf end a m (omega arith))
 within_enough elf end a (suc n) zero n_enough m_enough =
     within_past elf end a (suc n) (omega arith) ∙ sym (within_past elf end a zero (omega arith))
 within_enough elf end a (suc n) (suc m) n_enough m_enough =
@@ -66,11 +68,13 @@ starts_from-past elf end a past = within_past elf end a (end - a) past
 
 -- They are all.
 
-pub starts_later : (elf : Elf) (start end a : ℕ) → start < end → StartsIn elf (start + length_at elf start) end a → StartsIn elf start end a
+pub starts_later : (elf : Elf) (start end a : ℕ) → start < end → StartsIn elf (start + length_at elf start) end a →
+    StartsIn elf start end a
 starts_later elf start end _ less (at_start inside) = after start (at_start less) inside
 starts_later elf start end _ less (after a before inside) = after a (starts_later elf start end a less before) inside
 
-pub starts_cases : (elf : Elf) (start end a : ℕ) → StartsIn elf start end a → (a ≡ start) ⊎ StartsIn elf (start + length_at elf start) end a
+pub starts_cases : (elf : Elf) (start end a : ℕ) → StartsIn elf start end a →
+    (a ≡ start) ⊎ StartsIn elf (start + length_at elf start) end a
 starts_cases elf start end _ (at_start inside) = inl refl
 starts_cases elf start end _ (after a before inside) =
     ⊎_elim
@@ -82,7 +86,8 @@ starts_cases elf start end _ (after a before inside) =
 
 pub starts_inside : (elf : Elf) (start end a : ℕ) → StartsIn elf start end a → (start ≤ a) × (a < end)
 starts_inside elf start end _ (at_start inside) = (omega arith, inside)
-starts_inside elf start end _ (after a before inside) = let low = (starts_inside elf start end a before).0 in (omega arith, inside)
+starts_inside elf start end _ (after a before inside) =
+    let low = (starts_inside elf start end a before).0 in (omega arith, inside)
 
 -- Lists of all numbers of a set.
 
@@ -99,13 +104,16 @@ lists_cons : (P : ℕ → Type 0) (x : ℕ) (xs : List ℕ) → ListsNumbers P x
     ListsNumbers (λ a. (a ≡ x) ⊎ P a) (x ∷ xs)
 lists_cons P x xs lists less = record {
   only = λ a is_in. ⊎_elim (λ same. inl (sym same)) (λ later. inr (lists.only a later)) (Contains-cons_cases x xs a is_in);
-  each = λ a. ⊎_elim (λ same. (0, omega arith, sym same)) (λ is. let (k, within, there) = lists.each a is in (suc k, omega arith, there));
+  each = λ a. ⊎_elim (λ same. (0, omega arith, sym same)) (λ is.
+      let (k, within, there) = lists.each a is in
+      (suc k, omega arith, there));
   ordered = AllPairs-cons (λ a b. a < b) x xs
       (λ k d within. less (slice_index_or xs k d)
       (lists.only _ (k, within, get_or_default xs k (slice_index_or xs k d) d within))) lists.ordered;
 }
 
-lists_same : {P Q : ℕ → Type 0} (xs : List ℕ) → ((a : ℕ) → P a → Q a) → ((a : ℕ) → Q a → P a) → ListsNumbers P xs → ListsNumbers Q xs
+lists_same : {P Q : ℕ → Type 0} (xs : List ℕ) → ((a : ℕ) → P a → Q a) → ((a : ℕ) → Q a → P a) →
+    ListsNumbers P xs → ListsNumbers Q xs
 lists_same xs to from lists =
     record { only = λ a is_in. to a (lists.only a is_in); each = λ a is. lists.each a (from a is); ordered = lists.ordered }
 
@@ -126,7 +134,8 @@ pub lists_append : (P Q : ℕ → Type 0) (xs ys : List ℕ) → ListsNumbers P 
 lists_append P Q xs ys left right less = record {
   only = λ a is_in. ⊎_elim (λ l. inl (left.only a l)) (λ r. inr (right.only a r)) (Contains-append_cases xs ys a is_in);
   each = λ a. ⊎_elim (λ l. Contains-append_left xs ys a (left.each a l)) (λ r. Contains-append_right xs ys a (right.each a r));
-  ordered = AllPairs-append (λ a b. a < b) xs ys left.ordered right.ordered (λ a b l r. less a b (left.only a l) (right.only b r));
+  ordered =
+      AllPairs-append (λ a b. a < b) xs ys left.ordered right.ordered (λ a b l r. less a b (left.only a l) (right.only b r));
 }
 
 -- those of one part
@@ -140,7 +149,8 @@ starts_within-lists elf end a (suc n) enough =
     (λ (less : a < end).
     subst (ListsNumbers (StartsIn elf a end)) (sym (within_suc elf end a n less))
     (lists_same (a ∷ starts_within elf end (a + length_at elf a) n)
-    (λ x. ⊎_elim (λ (same : x ≡ a). subst (StartsIn elf a end) (sym same) (at_start less)) (λ later. starts_later elf a end x less later))
+    (λ x. ⊎_elim (λ (same : x ≡ a). subst (StartsIn elf a end) (sym same) (at_start less))
+    (λ later. starts_later elf a end x less later))
     (λ x is. starts_cases elf a end x is)
     (lists_cons (StartsIn elf (a + length_at elf a) end) a (starts_within elf end (a + length_at elf a) n)
     (starts_within-lists elf end (a + length_at elf a) n (omega arith))
@@ -159,7 +169,8 @@ unfolding InSome
 starts_of-lists elf [] ordered = lists_none (InSome elf []) (λ a (p, (k, within, is), starts). omega arith)
 starts_of-lists elf (p ∷ ps) ordered =
     lists_same (starts_from elf p.end p.start ++ starts_of elf ps)
-    (λ a. ⊎_elim (λ here. (p, (0, omega arith, refl), here)) (λ (q, (k, within, is), there). (q, (suc k, omega arith, is), there)))
+    (λ a. ⊎_elim (λ here. (p, (0, omega arith, refl), here))
+    (λ (q, (k, within, is), there). (q, (suc k, omega arith, is), there)))
     (λ a (q, listed, there). ⊎_elim
     (λ (same : p ≡ q). inl (subst (λ (r : Part). StartsIn elf r.start r.end a) (sym same) there))
     (λ later. inr (q, later, there))
@@ -177,7 +188,8 @@ pub starts-list : (elf : Elf) (ps : List Part) → AreCodeParts elf ps → Lists
 unfolding InSome
 starts-list elf ps are =
     lists_same (starts_of elf ps)
-    (λ a (p, listed, starts). record { start = p.start; end = p.end; is_start = record { part = are.only p listed; starts = starts } })
+    (λ a (p, listed, starts).
+    record { start = p.start; end = p.end; is_start = record { part = are.only p listed; starts = starts } })
     (λ a is. (
       record { start = is.start; end = is.end },
       are.each

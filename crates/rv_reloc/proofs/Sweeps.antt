@@ -50,8 +50,10 @@ can_be : {elf : Elf} {tabled : List (ℕ × ℕ)} (g : Field) → Counts elf tab
 can_be g (counts _ can others) = can
 
 once : {elf : Elf} {tabled : List (ℕ × ℕ)} (f : Field) (b : Bool) → Counts elf tabled f b → Counts elf tabled f (not b) → ⊥
-once f true (counts _ can others) (gives_way _ g can' before share wins) = once g false (others g (can_be g wins) before share) wins
-once f false (gives_way _ g can' before share wins) (counts _ can others) = once g true wins (others g (can_be g wins) before share)
+once f true (counts _ can others) (gives_way _ g can' before share wins) =
+    once g false (others g (can_be g wins) before share) wins
+once f false (gives_way _ g can' before share wins) (counts _ can others) =
+    once g true wins (others g (can_be g wins) before share)
 
 pub counts_once : {elf : Elf} {tabled : List (ℕ × ℕ)} (f : Field) → Counts elf tabled f true → Counts elf tabled f false → ⊥
 counts_once f wins gives = once f true wins gives
@@ -62,7 +64,8 @@ abbrev pub Earlier : List Field → ℕ → Field → Type 0
 Earlier fields i f = (k : ℕ) × (k < i) × (slice_index_or fields k f ≡ f)
 
 -- the first fields are judged: those that count are kept, and end below a bound
-pub record IsSweptTo (elf : Elf) (tabled : List (ℕ × ℕ)) (fields : List Field) (i : ℕ) (kept : List Field) (reach : ℕ) : Type 0 where
+pub record IsSweptTo (elf : Elf) (tabled : List (ℕ × ℕ)) (fields : List Field) (i : ℕ) (kept : List Field)
+    (reach : ℕ) : Type 0 where
   pub judged : (f : Field) → Earlier fields i f → Contains kept f ⊎ Counts elf tabled f false
   pub counted : (f : Field) → Contains kept f → Counts elf tabled f true
   pub earlier : (f : Field) → Contains kept f → Earlier fields i f
@@ -84,7 +87,8 @@ IsSweptTo-begin elf tabled fields = record {
 }
 
 -- a field that is before the one of an index has a lower index
-earlier_if_before : (elf : Elf) (tabled : List (ℕ × ℕ)) (fields : List Field) (i : ℕ) (x g : Field) → AreCandidates elf tabled fields →
+earlier_if_before : (elf : Elf) (tabled : List (ℕ × ℕ)) (fields : List Field) (i : ℕ) (x g : Field) →
+    AreCandidates elf tabled fields →
     i < length fields → x ≡ slice_index_or fields i x → CanBeCell elf tabled g → IsFieldBefore g x → Earlier fields i g
 earlier_if_before elf tabled fields i x g are within is can before =
     let (k, inside, there) = are.each g can in
@@ -98,12 +102,13 @@ earlier_if_before elf tabled fields i x g are within is can before =
     (subst (λ (h : Field). IsFieldUpTo h (slice_index_or fields k x)) (sym is) (are.ordered i k x above inside)))))
     (λ (not_above : k ≤ i). let e : k ≡ i = omega arith in
     let g_is : g ≡ x = sym same ∙ ap (λ (j : ℕ). slice_index_or fields j x) e ∙ sym is in
-    absurd (one_way x x (subst (λ (h : Field). IsFieldBefore h x) g_is before) (subst (λ (h : Field). IsFieldBefore h x) g_is before)))
+    absurd
+    (one_way x x (subst (λ (h : Field). IsFieldBefore h x) g_is before) (subst (λ (h : Field). IsFieldBefore h x) g_is before)))
     (cases_lt i k))
     (cases_lt k i)
 
-up_to_if_earlier : (elf : Elf) (tabled : List (ℕ × ℕ)) (fields : List Field) (i : ℕ) (x g : Field) → AreCandidates elf tabled fields →
-    i < length fields → x ≡ slice_index_or fields i x → Earlier fields i g → IsFieldUpTo g x
+up_to_if_earlier : (elf : Elf) (tabled : List (ℕ × ℕ)) (fields : List Field) (i : ℕ) (x g : Field) →
+    AreCandidates elf tabled fields → i < length fields → x ≡ slice_index_or fields i x → Earlier fields i g → IsFieldUpTo g x
 up_to_if_earlier elf tabled fields i x g are within is (k, less, there) =
     let same : slice_index_or fields k x ≡ g = get_or_default fields k x g (omega arith) ∙ there in
     subst (λ (h : Field). IsFieldUpTo h x) same
@@ -139,7 +144,8 @@ IsSweptTo-drops elf tabled fields kept i reach x are within is low to = record {
     listed : Contains fields x
     listed = (i, within, sym is)
 
-    gives : (g : Field) → Contains kept g → g.place + g.width ≡ reach → IsFieldUpTo g x → Contains kept x ⊎ Counts elf tabled x false
+    gives : (g : Field) → Contains kept g → g.place + g.width ≡ reach → IsFieldUpTo g x →
+        Contains kept x ⊎ Counts elf tabled x false
     gives g is_in ends (inl before) =
         let place : g.place ≤ x.place = not_above g x before in
         let bytes : 0 < x.width = are.has_bytes x listed in
@@ -169,7 +175,8 @@ IsSweptTo-keeps elf tabled fields kept i reach x are within is high to = record 
       (λ (same : x ≡ f). let p = ap (λ (h : Field). h.place + h.width) same in omega arith) (Contains-push_cases kept x f is_in);
   reached = inr (x, Contains-push kept x, refl);
   ordered = all_pairs_push (λ (f g : Field). f.place + f.width ≤ g.place) kept x to.ordered
-      (λ k d inside. let b = to.below (slice_index_or kept k d) (k, inside, get_or_default kept k (slice_index_or kept k d) d inside) in
+      (λ k d inside. let b =
+      to.below (slice_index_or kept k d) (k, inside, get_or_default kept k (slice_index_or kept k d) d inside) in
       omega arith);
 }
   where
@@ -181,8 +188,8 @@ IsSweptTo-keeps elf tabled fields kept i reach x are within is high to = record 
         ⊎_elim (λ is_in. let b = to.below g is_in in let s = share.0 in let t = share.1 in absurd (omega arith)) (λ gives. gives)
         (to.judged g (earlier_if_before elf tabled fields i x g are within is can before)))
 
-pub IsSweptTo-all : (elf : Elf) (tabled : List (ℕ × ℕ)) (fields kept : List Field) (i reach : ℕ) → AreCandidates elf tabled fields →
-    i ≡ length fields → IsSweptTo elf tabled fields i kept reach → AreCounted elf tabled kept
+pub IsSweptTo-all : (elf : Elf) (tabled : List (ℕ × ℕ)) (fields kept : List Field) (i reach : ℕ) →
+    AreCandidates elf tabled fields → i ≡ length fields → IsSweptTo elf tabled fields i kept reach → AreCounted elf tabled kept
 IsSweptTo-all elf tabled fields kept i reach are all to = record {
   only = to.counted;
   each = λ f wins.

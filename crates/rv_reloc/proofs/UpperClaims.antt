@@ -35,7 +35,8 @@ upper_view elf q a key role is (Claims.abs_lo target to kind inst full some here
     let x = hi_kind q.kind is in let y = low_kind q.kind kind in absurd (omega arith)
 
 -- all lower parts of one AUIPC are the same
-same_low : (elf : Elf) (l m : Low) → ((place : ℕ) → IsLoMismatch elf place → ⊥) → IsLowPart elf l → IsLowPart elf m → l.hi ≡ m.hi → l ≡ m
+same_low : (elf : Elf) (l m : Low) → ((place : ℕ) → IsLoMismatch elf place → ⊥) → IsLowPart elf l →
+    IsLowPart elf m → l.hi ≡ m.hi → l ≡ m
 same_low elf l m alike one other here =
     ⊎_elim
     (λ (same : l.imm ≡ m.imm). λ i. record { hi = here i; imm = same i })
@@ -51,8 +52,8 @@ same_low elf l m alike one other here =
     (same_or_not l.imm m.imm)
 
 -- the target of an upper part is that of a lower part
-upper_same : (elf : Elf) (q : Relocation) (a : ℕ) (l : Low) (z : ℤ) → ((place : ℕ) → IsLoMismatch elf place → ⊥) → IsLowPart elf l →
-    l.hi ≡ a → a ≡ q.place → PcrelHiTo elf q z → IsTargetOf elf l z
+upper_same : (elf : Elf) (q : Relocation) (a : ℕ) (l : Low) (z : ℤ) →
+    ((place : ℕ) → IsLoMismatch elf place → ⊥) → IsLowPart elf l → l.hi ≡ a → a ≡ q.place → PcrelHiTo elf q z → IsTargetOf elf l z
 upper_same elf q a l z alike low here there to =
     let same = same_low elf (low_of_upper to) l alike (upper_low elf q z to) low (sym there ∙ sym here) in
     subst (λ (m : Low). IsTargetOf elf m z) same (upper_target elf q z to)
@@ -71,11 +72,13 @@ upper-claim elf r l t alike counts is low here target once = record {
   sure = λ q role kind claims.
       let (target', to, there, key_is, role_is) =
       upper_view elf q r.place r.place role (subst (λ (n : ℕ). IsTrue (is_pcrel_hi n)) (sym kind) is) claims in
-      role_is ∙ ap Hi (pos_same target' t (once (pos target') (upper_same elf q r.place l (pos target') alike low here there to)));
+      role_is
+      ∙ ap Hi (pos_same target' t (once (pos target') (upper_same elf q r.place l (pos target') alike low here there to)));
 }
 
 -- it makes an address
-pub upper-address : (elf : Elf) (r : Relocation) (l : Low) (z : ℤ) → ((place : ℕ) → IsLoMismatch elf place → ⊥) → (IsMisfit elf r → ⊥) →
+pub upper-address : (elf : Elf) (r : Relocation) (l : Low) (z : ℤ) →
+    ((place : ℕ) → IsLoMismatch elf place → ⊥) → (IsMisfit elf r → ⊥) →
     IsLowPart elf l → l.hi ≡ r.place → PcrelHiTo elf r z → (IsTargetOf elf l z → IsAddress z → ⊥) → ⊥
 upper-address elf r l z alike fits low here to none =
     fits (IsMisfit.pair (IsBadPair.address z to (none (upper_same elf r r.place l z alike low here refl to))))
@@ -109,16 +112,25 @@ lower_of elf r q hi lower kind here names part = record {
   immediate = subst (λ (n : ℕ). lower_immediate n part.inst ≡ Some lower) kind part.immediate;
 }
 
-pub part_low : (elf : Elf) (r : Relocation) (hi : ℕ) (lower : ℤ) → PcrelLo elf r hi lower → IsLowOf elf r (record { hi = hi; imm = lower })
+pub part_low : (elf : Elf) (r : Relocation) (hi : ℕ) (lower : ℤ) → PcrelLo elf r hi lower →
+    IsLowOf elf r (record { hi = hi; imm = lower })
 part_low elf r hi lower part =
     record { is_low = part.is_low; names = part.names; inst = part.inst; there = part.there; immediate = part.immediate }
 
 low_part : (elf : Elf) (r : Relocation) (l : Low) → Contains (relocations elf) r → IsLowOf elf r l → PcrelLo elf r l.hi l.imm
 low_part elf r l counts low =
-    record { counts = counts; is_low = low.is_low; names = low.names; inst = low.inst; there = low.there; immediate = low.immediate }
+    record {
+      counts = counts;
+      is_low = low.is_low;
+      names = low.names;
+      inst = low.inst;
+      there = low.there;
+      immediate = low.immediate;
+    }
 
 pub lower-claim : (elf : Elf) (r : Relocation) (l : Low) (t : ℕ) → Contains (relocations elf) r → IsTrue (is_pcrel_lo r.kind) →
-    IsLowOf elf r l → ((m : Low) → IsLowOf elf r m → l ≡ m) → IsTargetOf elf l (pos t) → ((z : ℤ) → IsTargetOf elf l z → z ≡ pos t) →
+    IsLowOf elf r l → ((m : Low) → IsLowOf elf r m → l ≡ m) → IsTargetOf elf l (pos t) →
+    ((z : ℤ) → IsTargetOf elf l z → z ≡ pos t) →
     IsClaimOf elf r r.place (record { at = r.place; kind = r.kind; key = l.hi; role = Lo l.hi t })
 lower-claim elf r l t counts is low only target once = record {
   at_is = refl;
@@ -127,17 +139,19 @@ lower-claim elf r l t counts is low only target once = record {
   sure = λ q role kind claims.
       let (hi, target', to, here, key_is, role_is) =
       lower_view elf q r.place l.hi role (subst (λ (n : ℕ). IsTrue (is_pcrel_lo n)) (sym kind) is) claims in
-      let same = only (record { hi = hi; imm = to.lower }) (lower_of elf r q hi to.lower kind here (low.names ∙ key_is) to.part) in
+      let same =
+      only (record { hi = hi; imm = to.lower }) (lower_of elf r q hi to.lower kind here (low.names ∙ key_is) to.part) in
       let there : target' ≡ t =
       pos_same target' t
-      (once (pos target') (subst (λ (m : Low). IsTargetOf elf m (pos target')) (sym same) (lower_target elf q hi (pos target') to))) in
+      (once (pos target')
+      (subst (λ (m : Low). IsTargetOf elf m (pos target')) (sym same) (lower_target elf q hi (pos target') to))) in
       role_is ∙ (λ i. Lo (sym key_is i) (there i));
 }
 
 -- it makes an address
 pub lower-address : (elf : Elf) (r : Relocation) (l : Low) (z : ℤ) →
-    ((q : Relocation) → Contains (relocations elf) q → IsMisfit elf q → ⊥) → Contains (relocations elf) r → IsTrue (is_pcrel_lo r.kind) →
-    IsLowOf elf r l → IsTargetOf elf l z → (IsAddress z → ⊥) → ⊥
+    ((q : Relocation) → Contains (relocations elf) q → IsMisfit elf q → ⊥) → Contains (relocations elf) r →
+    IsTrue (is_pcrel_lo r.kind) → IsLowOf elf r l → IsTargetOf elf l z → (IsAddress z → ⊥) → ⊥
 lower-address elf r l z fits counts is low target none =
     fits r counts (IsMisfit.lower (IsBadLower.no_upper is (λ upper.
     let q = upper.upper.relocation in

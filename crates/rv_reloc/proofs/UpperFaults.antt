@@ -70,7 +70,8 @@ pub bad-low : (elf : Elf) (r : Relocation) (l : Low) (upper : Bool) → IsTrue (
 bad-low elf r l true is low tells = (λ refuted. let e : false ≡ true = refuted in absurd (cc), λ bad. absurd (by bad))
   where
     by : IsBadLower elf r → ⊥
-    by (IsBadLower.no_lower _ refuted) = refuted (low.inst, low.there, immediate_some (lower_immediate r.kind low.inst) l.imm low.immediate)
+    by (IsBadLower.no_lower _ refuted) =
+        refuted (low.inst, low.there, immediate_some (lower_immediate r.kind low.inst) l.imm low.immediate)
     by (IsBadLower.no_upper _ refuted) = refuted (subst (IsUpper elf) (sym low.names) (tells.0 refl))
 bad-low elf r l false is low tells = (
   λ _. IsBadLower.no_upper is (λ upper. let e : false ≡ true = tells.1 (subst (IsUpper elf) low.names upper) in cc),

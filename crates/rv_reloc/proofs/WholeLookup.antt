@@ -19,7 +19,8 @@ use Rattle.rv_reloc.proofs.StartLists.{starts_inside}
 
 same_order : (elf : Elf) (start end start' end' a : ℕ) → IsPart elf start end → IsPart elf start' end' → start ≤ a → a < end →
     start' ≤ a → a < end' → start < start' → ⊥
-same_order elf start end start' end' a part other low high low' high' less = part.neighbours start' less (omega arith) other.starts
+same_order elf start end start' end' a part other low high low' high' less =
+    part.neighbours start' less (omega arith) other.starts
 
 pub same_start : (elf : Elf) (start end start' end' a : ℕ) → IsPart elf start end → IsPart elf start' end' → start ≤ a → a < end →
     start' ≤ a → a < end' → start ≡ start'
@@ -116,7 +117,8 @@ lower_address p low to from lower holds =
     ⊎_elim (λ (same : low ≡ to). omega (arith, ints)) (λ (same : low ≡ from). omega (arith, ints)) lower
 
 -- the last part that begins at the lower label or below it holds both, if one does
-pub last_holds_both : (wholes : List Part) (count : ℕ) (x p d : Part) (low to from : ℤ) → AreApart wholes → low ≤ℤ to → low ≤ℤ from →
+pub last_holds_both : (wholes : List Part) (count : ℕ) (x p d : Part) (low to from : ℤ) → AreApart wholes →
+    low ≤ℤ to → low ≤ℤ from →
     IsLower low to from → 0 < count → count ≤ length wholes → x ≡ slice_index_or wholes (count - 1) d → pos x.start ≤ℤ low →
     ((k : ℕ) (d : Part) → count ≤ k → k < length wholes → low <ℤ pos (slice_index_or wholes k d).start) → Contains wholes p →
     HoldsBoth to from p → HoldsBoth to from x
@@ -157,7 +159,8 @@ last_holds_both wholes count x p d low to from are low_to low_from lower some bo
 
 -- none does where none begins so low
 pub none_holds_both : (wholes : List Part) (p : Part) (low to from : ℤ) → IsLower low to from →
-    ((k : ℕ) (d : Part) → k < length wholes → low <ℤ pos (slice_index_or wholes k d).start) → Contains wholes p → HoldsBoth to from p → ⊥
+    ((k : ℕ) (d : Part) → k < length wholes → low <ℤ pos (slice_index_or wholes k d).start) →
+    Contains wholes p → HoldsBoth to from p → ⊥
 none_holds_both wholes p low to from lower above (k, within, there) holds =
     let first = lower_address p low to from lower holds in
     let beyond = above k p within in

@@ -1,7 +1,8 @@
 // Ranges of addresses, of which it is asked whether one holds a stretch.
 ghost use Rattle.std.specs.Prelude.{◌≡◌, ◌↔◌, ◌<◌, ◌≤◌, ◌+◌, ℕ, IfOk, IsTrue, map, filter};
 ghost use Rattle.std.specs.List.Sorted.{IsNonDecreasingBy};
-ghost use Rattle.elf_image.specs.code.Cuts.{names_function, holds_code};
+ghost use Rattle.elf_image.specs.code.Cuts.{names_function};
+ghost use Rattle.elf_image.specs.file.Sections.{holds_code};
 ghost use Rattle.elf_image.specs.code.Parts.{IsCovered, IsInCode};
 ghost use Rattle.elf_image.specs.internal.Extents.{IsInOneExtent};
 ghost use Rattle.rv_reloc.specs.Ranges.{section_extent, symbol_extent};
@@ -50,7 +51,7 @@ fn section_extent(section: &Section) -> Extent
 }
 
 fn section_extents(alloc: Global, sections: &[Section]) -> Result<Vec<Extent>, AllocError>
-    ensures { IfOk result (λ extents. extents.items ≡ map section_extent (filter holds_code sections.now)) }
+    ensures { IfOk result (λ extents. extents.items ≡ map section_extent (filter (λ s. holds_code s.flags) sections.now)) }
 {
     sections
         .iter()

@@ -11,18 +11,16 @@ use Rattle.rv_code.specs.declared.placed.Func.{Func}
 use Rattle.rv_code.specs.layout.FunctionLists.{Follow, HasLength, IsLaidOut, AreLaidOut, code_limit}
 use Rattle.elf_image.specs.declared.elf.Elf.{Elf}
 use Rattle.elf_image.specs.declared.elf.Section.{Section}
-use Rattle.elf_image.specs.declared.section.TheConstants.{SHF_EXECINSTR}
 use Rattle.elf_image.specs.declared.segment.TheConstants.{PF_X}
-use Rattle.elf_image.specs.code.Cuts.{holds_code}
 use Rattle.elf_image.specs.code.Functions.{AreInsts, AreFunctions}
 use Rattle.elf_image.specs.code.Parts.{IsPart, IsInstAt, at_start}
 use Rattle.elf_image.specs.faults.FileFaults.{IsSound}
 use Rattle.elf_image.specs.faults.FirstFault.{IsFree}
 use Rattle.elf_image.specs.faults.FunctionFaults.{HasFunctionFault}
-use Rattle.elf_image.specs.faults.SegmentLayout.{LiesInCode, address_end, is_code_section}
-use Rattle.elf_image.specs.file.Header.{is_set, segment}
+use Rattle.elf_image.specs.faults.SegmentLayout.{LiesInCode, address_end}
+use Rattle.elf_image.specs.file.Header.{segment}
 use Rattle.elf_image.specs.file.ParsedFile.{IsElfOf, IsSectionAt}
-use Rattle.elf_image.specs.file.Sections.{section_header, section_place}
+use Rattle.elf_image.specs.file.Sections.{section_header, section_place, holds_code}
 use Rattle.elf_image.specs.memory.Image.{has_flag, is_load}
 use Rattle.elf_image.proofs.LoadLemmas.{loads-from_parts}
 use Rattle.func_find.proofs.Judged.{IsCodePart-function}
@@ -52,14 +50,14 @@ lengths_of elf a end (p ∷ ps) are =
 module _ (elf : Elf) (file : List ℕ) (read : IsElfOf file elf) (sound : IsSound file) where
   -- a section with code lies in an executable segment
   section_lies : (k : ℕ) (s : Section) → slice_get elf.sections.items k ≡ Some s → k < length elf.sections.items →
-      holds_code s ≡ true → 0 < s.size → (LiesInCode file s.addr (s.addr + s.size) → ⊥) → ⊥
+      holds_code s.flags ≡ true → 0 < s.size → (LiesInCode file s.addr (s.addr + s.size) → ⊥) → ⊥
   section_lies k s is within holds some stray = by (read.sections.each k s is)
     where
       by : IsSectionAt file k s → ⊥
       by h =
           let count = read.sections.count_is in
           let size_is = h.size in
-          let code_is : is_code_section (section_header file k) ≡ true = sym (ap (is_set SHF_EXECINSTR) h.flags) ∙ holds in
+          let code_is : holds_code (section_header file k).flags ≡ true = sym (ap holds_code h.flags) ∙ holds in
           sound ExecSegments (section_place file k)
           (inr (inr (inr (
             k,
@@ -88,7 +86,8 @@ module _ (elf : Elf) (file : List ℕ) (read : IsElfOf file elf) (sound : IsSoun
   part_low : (start end : ℕ) → IsPart elf start end → end ≤ code_limit
   part_low start end part = by part.in_code
     where
-      by : Any (λ s. IsTrue (holds_code s) × (s.addr ≤ start) × (start < s.addr + s.size)) elf.sections.items → end ≤ code_limit
+      by : Any (λ s. IsTrue (holds_code s.flags) × (s.addr ≤ start) × (start < s.addr + s.size)) elf.sections.items →
+          end ≤ code_limit
       by (k, s, within, at, (holds, low, high)) = stable_upto end code_limit (λ not_low.
           section_lies k s (slice_get_read elf.sections.items (length elf.sections.items) k s refl within
           (sym at)) within holds (omega arith)

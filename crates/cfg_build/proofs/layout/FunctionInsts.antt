@@ -1,16 +1,15 @@
 -- The instructions of one function, by their places in its list: they lie in it one after another, without a gap.
-use Rattle.std.proofs.Common.{◌≡◌, ◌∙◌, sym, subst, ap, ℕ, zero, suc, ◌+◌, ◌%◌, ◌<◌, ◌≤◌, ◌⊎◌, inl, inr, ⊎_elim, List, [], ◌∷◌, Some, All, length, slice_index_or, arith}
+use Rattle.std.proofs.Common.{◌≡◌, ◌∙◌, sym, subst, ap, ℕ, suc, ◌+◌, ◌%◌, ◌<◌, ◌≤◌, ◌⊎◌, inl, inr, ⊎_elim, List, [], ◌∷◌, Some, All, length, arith}
 use Rattle.std.specs.Prelude.{AllPairs, Contains, slice_get}
 use Rattle.std.proofs.lemmas.Bool.{cases_order}
 use Rattle.std.proofs.lemmas.List.Elements.{All-head, All-tail}
-use Rattle.std.proofs.lemmas.List.Kept.{AllPairs-cons}
 use Rattle.std.proofs.lemmas.Option.{get_or_from_slice_get, slice_get_within}
 use Rattle.rv_code.specs.declared.placed.Placed.{Placed}
 use Rattle.rv_code.specs.declared.placed.Func.{Func}
 use Rattle.rv_code.specs.layout.Blocks.{inst_at}
 use Rattle.rv_code.specs.layout.FunctionLists.{Follow, HasLength, IsLaidOut}
+use Rattle.rv_code.proofs.lists.Follows.{follow_last, follow_next, follow_order, follow_up, follow_upto, some_length}
 use Rattle.elf_image.proofs.LoadLemmas.{Contains-cons_cases}
-use Rattle.move_law.proofs.Lists.{all_of}
 
 -- an instruction lies between two addresses, at an even one
 pub record LiesIn (start end : ℕ) (p : Placed) : Type 0 where
@@ -21,16 +20,9 @@ pub record LiesIn (start end : ℕ) (p : Placed) : Type 0 where
 
 -- Instructions that follow one another.
 
-two_at_least : (p : Placed) → HasLength p → 2 ≤ p.len
-two_at_least p = ⊎_elim (λ (two : p.len ≡ 2). omega arith) (λ (four : p.len ≡ 4). omega arith)
-
 next_even : (a : ℕ) (p : Placed) → HasLength p → a % 2 ≡ 0 → (a + p.len) % 2 ≡ 0
 next_even a p = ⊎_elim (λ (two : p.len ≡ 2). λ (even : a % 2 ≡ 0). omega arith) (λ (four : p.len ≡ 4). λ
     (even : a % 2 ≡ 0). omega arith)
-
-follow_upto : (a end : ℕ) (ps : List Placed) → Follow a ps end → a ≤ end
-follow_upto a end [] f = omega (arith, f)
-follow_upto a end (p ∷ ps) f = let rest = follow_upto (a + p.len) end ps f.1 in omega arith
 
 follow_within : (a end : ℕ) (ps : List Placed) (p : Placed) → Follow a ps end → All HasLength ps → a % 2 ≡ 0 → Contains ps p →
     LiesIn a end p
@@ -43,11 +35,11 @@ follow_within a end (q ∷ ps) p f lengths even is_in =
     here : LiesIn a end q
     here =
         let at = f.0 in
-        let rest = follow_upto (a + q.len) end ps f.1 in
+        let rest = follow_upto (a + q.len) ps end f.1 in
         record {
           from = omega arith;
           to = omega arith;
-          some = two_at_least q (All-head HasLength q ps lengths);
+          some = (some_length q (All-head HasLength q ps lengths)).0;
           even = ap (λ (n : ℕ). n % 2) at ∙ even;
         }
 
@@ -58,45 +50,9 @@ follow_within a end (q ∷ ps) p f lengths even is_in =
         let from = r.from in
         record { from = omega arith; to = r.to; some = r.some; even = r.even }
 
-follow_ordered : (a end : ℕ) (ps : List Placed) → Follow a ps end → All HasLength ps → a % 2 ≡ 0 →
-    AllPairs (λ p q. p.addr + p.len ≤ q.addr) ps
-follow_ordered a end [] f lengths even = λ i j d less within. absurd (omega arith)
-follow_ordered a end (p ∷ ps) f lengths even =
-    AllPairs-cons (λ p q. p.addr + p.len ≤ q.addr) p ps
-    (all_of (λ q. p.addr + p.len ≤ q.addr) ps (λ q q_in.
-    let at = f.0 in
-    let from = (follow_within (a + p.len) end ps q f.1 tail even' q_in).from in
-    omega arith))
-    (follow_ordered (a + p.len) end ps f.1 tail even')
-  where
-    tail : All HasLength ps
-    tail = All-tail HasLength p ps lengths
-
-    even' : (a + p.len) % 2 ≡ 0
-    even' = next_even a p (All-head HasLength p ps lengths) even
-
 follow_first : (a end : ℕ) (ps : List Placed) (p : Placed) → Follow a ps end → slice_get ps 0 ≡ Some p → p.addr ≡ a
 follow_first a end [] p f at = absurd (cc)
 follow_first a end (q ∷ ps) p f at = let same : q ≡ p = cc in ap (λ (x : Placed). x.addr) (sym same) ∙ f.0
-
-follow_next : (a end : ℕ) (ps : List Placed) (i : ℕ) (p q : Placed) → Follow a ps end → slice_get ps i ≡ Some p →
-    slice_get ps (suc i) ≡ Some q → q.addr ≡ p.addr + p.len
-follow_next a end [] i p q f at next = absurd (cc)
-follow_next a end (x ∷ ps) zero p q f at next =
-    let same : x ≡ p = cc in
-    follow_first (a + x.len) end ps q f.1 next
-    ∙ ap (λ (n : ℕ). n + x.len) (sym f.0)
-    ∙ ap (λ (x : Placed). x.addr + x.len) same
-follow_next a end (x ∷ ps) (suc i) p q f at next = follow_next (a + x.len) end ps i p q f.1 at next
-
-follow_last : (a end : ℕ) (ps : List Placed) (i : ℕ) (p : Placed) → Follow a ps end → slice_get ps i ≡ Some p →
-    i + 1 ≡ length ps → p.addr + p.len ≡ end
-follow_last a end [] i p f at last = absurd (cc)
-follow_last a end (x ∷ []) zero p f at last =
-    let same : x ≡ p = cc in
-    ap (λ (x : Placed). x.addr + x.len) (sym same) ∙ ap (λ (n : ℕ). n + x.len) f.0 ∙ f.1
-follow_last a end (x ∷ y ∷ ps) zero p f at last = absurd (omega arith)
-follow_last a end (x ∷ ps) (suc i) p f at last = follow_last (a + x.len) end ps i p f.1 at (omega arith)
 
 -- Those of a function.
 
@@ -119,7 +75,7 @@ module _ (func : Func) (is : IsLaidOut func) where
   inst_lies_at i p at = inst_lies p (contains_at func i p at)
 
   pub insts_ascend : AllPairs (λ p q. p.addr + p.len ≤ q.addr) func.insts.items
-  insts_ascend = follow_ordered func.start func.end func.insts.items is.follow is.lengths is.even
+  insts_ascend = follow_order func.start func.insts.items func.end is.follow
 
   pub first_at_start : (p : Placed) → inst_at func 0 ≡ Some p → p.addr ≡ func.start
   first_at_start p at = follow_first func.start func.end func.insts.items p is.follow at
@@ -127,21 +83,16 @@ module _ (func : Func) (is : IsLaidOut func) where
   -- the next instruction starts where one ends
   pub next_at_end : (i : ℕ) (p q : Placed) → inst_at func i ≡ Some p → inst_at func (i + 1) ≡ Some q → q.addr ≡ p.addr + p.len
   next_at_end i p q at next =
-      follow_next func.start func.end func.insts.items i p q is.follow at
+      follow_next func.start func.insts.items func.end i p q is.follow at
       (subst (λ (n : ℕ). inst_at func n ≡ Some q) (let e : i + 1 ≡ suc i = omega arith in e) next)
 
   -- the last one ends with the function
   pub last_at_end : (i : ℕ) (p : Placed) → inst_at func i ≡ Some p → i + 1 ≡ length func.insts.items → p.addr + p.len ≡ func.end
-  last_at_end i p at last = follow_last func.start func.end func.insts.items i p is.follow at last
+  last_at_end i p at last = follow_last func.start func.insts.items func.end i p is.follow at (omega (arith, last))
 
   pub earlier_below : (i j : ℕ) (p q : Placed) → inst_at func i ≡ Some p → inst_at func j ≡ Some q → i < j →
       p.addr + p.len ≤ q.addr
-  earlier_below i j p q at at' less =
-      let h = insts_ascend i j p less (slice_get_within func.insts.items j q at') in
-      let e : slice_index_or func.insts.items i p ≡ p = get_or_from_slice_get func.insts.items i p p at in
-      let e' : slice_index_or func.insts.items j p ≡ q = get_or_from_slice_get func.insts.items j q p at' in
-      subst (λ (x : Placed). p.addr + p.len ≤ x.addr) e' (subst (λ (x : Placed). x.addr + x.len ≤
-      (slice_index_or func.insts.items j p).addr) e h)
+  earlier_below i j p q at at' less = follow_up func.start func.insts.items func.end i j p q is.follow at at' less
 
   -- two instructions of one address are one
   pub same_place : (i j : ℕ) (p q : Placed) → inst_at func i ≡ Some p → inst_at func j ≡ Some q → p.addr ≡ q.addr → i ≡ j

@@ -1,5 +1,5 @@
 -- The instructions of all functions, by their addresses, which ascend.
-use Rattle.std.proofs.Common.{◌≡◌, subst, refl, ℕ, ◌+◌, ◌<◌, ◌≤◌, inl, inr, List, Some, slice_index_or, arith}
+use Rattle.std.proofs.Common.{◌≡◌, refl, ℕ, ◌+◌, ◌<◌, ◌≤◌, inl, inr, List, Some, slice_index_or, arith}
 use Rattle.std.specs.Prelude.{AllPairs, Contains, slice_get, ◌==◌}
 use Rattle.std.proofs.lemmas.Bool.{cases_order, eq-eqb, eqb-true}
 use Rattle.std.proofs.lemmas.List.Elements.{All-contains, Contains-get_or}
@@ -9,6 +9,7 @@ use Rattle.rv_code.specs.declared.placed.Func.{Func}
 use Rattle.rv_code.specs.layout.Blocks.{inst_at}
 use Rattle.rv_code.specs.layout.Flow.{insts_of, placed_at}
 use Rattle.rv_code.specs.layout.FunctionLists.{IsLaidOut, AreLaidOut, code_limit}
+use Rattle.rv_code.proofs.lists.Follows.{funcs_apart}
 use Rattle.elf_image.proofs.LoadLemmas.{find-found, find-only}
 use Rattle.move_law.proofs.Lists.{from_flat, in_flat, one_of, pairs_flat}
 use Rattle.cfg_build.proofs.layout.FunctionInsts.{LiesIn, contains_at, inst_lies, insts_ascend}
@@ -72,22 +73,13 @@ module _ (funcs : List Func) (are : AreLaidOut funcs) where
 
   -- Functions.
 
-  -- a function that stands before another ends before it begins
-  pub funcs_apart : (f g : ℕ) (func func' : Func) → slice_get funcs f ≡ Some func → slice_get funcs g ≡ Some func' → f < g →
-      func.end ≤ func'.start
-  funcs_apart f g func func' at at' less =
-      let h = are.apart f g func less (slice_get_within funcs g func' at') in
-      let e : slice_index_or funcs f func ≡ func = get_or_from_slice_get funcs f func func at in
-      let e' : slice_index_or funcs g func ≡ func' = get_or_from_slice_get funcs g func' func at' in
-      subst (λ (x : Func). func.end ≤ x.start) e' (subst (λ (x : Func). x.end ≤ (slice_index_or funcs g func).start) e h)
-
   -- functions that have an address in common are one
   pub same_function : (f g : ℕ) (func func' : Func) (a : ℕ) → slice_get funcs f ≡ Some func → slice_get funcs g ≡ Some func' →
       func.start ≤ a → a < func.end → func'.start ≤ a → a < func'.end → f ≡ g
   same_function f g func func' a at at' from to from' to' = elim (cases_order f g) [
     | inl equal ↦ equal
     | inr apart ↦ elim apart [
-      | inl less ↦ absurd (let h = funcs_apart f g func func' at at' less in omega arith)
-      | inr more ↦ absurd (let h = funcs_apart g f func' func at' at more in omega arith)
+      | inl less ↦ absurd (let h = funcs_apart funcs f g func func' are at at' less in omega arith)
+      | inr more ↦ absurd (let h = funcs_apart funcs g f func' func are at' at more in omega arith)
     ]
   ]

@@ -16,14 +16,12 @@ use Rattle.elf_image.specs.declared.elf.Elf.{Elf}
 use Rattle.elf_image.specs.declared.elf.Section.{Section}
 use Rattle.elf_image.specs.declared.segment.Segment.{Segment}
 use Rattle.elf_image.specs.declared.segment.TheConstants.{PF_W, PF_X}
-use Rattle.elf_image.specs.declared.section.TheConstants.{SHF_EXECINSTR}
-use Rattle.elf_image.specs.code.Cuts.{holds_code}
 use Rattle.elf_image.specs.code.Functions.{AreInsts, IsFunctionPart, code, referred, fallen_into}
 use Rattle.elf_image.specs.code.Parts.{IsPart, IsInstAt, StartsIn, at_start, after, length_at}
-use Rattle.elf_image.specs.faults.SegmentLayout.{IsCode, LiesInCode, is_code_section, address_end}
-use Rattle.elf_image.specs.file.Header.{e_phnum, is_set, segment, segment_place, segments_of}
+use Rattle.elf_image.specs.faults.SegmentLayout.{IsCode, LiesInCode, address_end}
+use Rattle.elf_image.specs.file.Header.{e_phnum, segment, segment_place, segments_of}
 use Rattle.elf_image.specs.file.ParsedFile.{IsSectionAt}
-use Rattle.elf_image.specs.file.Sections.{section_header, section_place}
+use Rattle.elf_image.specs.file.Sections.{section_header, section_place, holds_code}
 use Rattle.elf_image.specs.memory.Image.{end_of, has_flag, is_load, loads_address, segment_of}
 use Rattle.elf_image.proofs.LoadLemmas.{Contains-cons_cases, find-only, loads-from_parts}
 use Rattle.elf_image.proofs.ReadLists.{get_or-segments, length-segments_of}
@@ -187,7 +185,7 @@ module _ (elf : Elf) (code' : ProgramCode) (accepted : IsAccepted elf code') whe
       ]
 
   -- a section with code lies in an executable segment
-  section_lies : (s : Section) → Contains elf.sections.items s → holds_code s ≡ true → 0 < s.size →
+  section_lies : (s : Section) → Contains elf.sections.items s → holds_code s.flags ≡ true → 0 < s.size →
       (LiesInCode elf.file.now s.addr (s.addr + s.size) → ⊥) → ⊥
   section_lies s (k, within, at) holds some stray = by (accepted.read.sections.each k s is)
     where
@@ -198,7 +196,7 @@ module _ (elf : Elf) (code' : ProgramCode) (accepted : IsAccepted elf code') whe
       by h =
           let count = accepted.read.sections.count_is in
           let size_is = h.size in
-          let code_is : is_code_section (section_header elf.file.now k) ≡ true = sym (ap (is_set SHF_EXECINSTR) h.flags)
+          let code_is : holds_code (section_header elf.file.now k).flags ≡ true = sym (ap holds_code h.flags)
           ∙ holds in
           accepted.sound ExecSegments (section_place elf.file.now k)
           (inr (inr (inr (
@@ -214,7 +212,7 @@ module _ (elf : Elf) (code' : ProgramCode) (accepted : IsAccepted elf code') whe
             ),
           ))))
 
-  section_code : (s : Section) → Contains elf.sections.items s → holds_code s ≡ true → (a : ℕ) → s.addr ≤ a →
+  section_code : (s : Section) → Contains elf.sections.items s → holds_code s.flags ≡ true → (a : ℕ) → s.addr ≤ a →
       a < s.addr + s.size →
       CodeAt elf a
   section_code s s_in holds a from to = record {
@@ -234,7 +232,7 @@ module _ (elf : Elf) (code' : ProgramCode) (accepted : IsAccepted elf code') whe
   part_code : (start end : ℕ) → IsPart elf start end → (a : ℕ) → start ≤ a → a < end → CodeAt elf a
   part_code start end part a from to = by part.in_code
     where
-      by : Any (λ s. IsTrue (holds_code s) × (s.addr ≤ start) × (start < s.addr + s.size)) elf.sections.items → CodeAt elf a
+      by : Any (λ s. IsTrue (holds_code s.flags) × (s.addr ≤ start) × (start < s.addr + s.size)) elf.sections.items → CodeAt elf a
       by (k, s, within, at, (holds, low, high)) = elim (cases_lt a (s.addr + s.size)) [
         | inl inside ↦ section_code s (k, within, at) holds a (omega (arith, low, from)) inside
         | inr past ↦ absurd (

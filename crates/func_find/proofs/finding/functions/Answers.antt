@@ -50,7 +50,8 @@ functions_of-requires-clause-ordered c =
 
 pub functions_of-requires-clause-wholes : goal.functions_of-requires-clause-wholes
 functions_of-requires-clause-wholes c =
-    subst AreApart (sym c.as_slice-wholes.ensures.value) (AreApart-wholes c.args.elf.now c.args.whole.now _ c.in_ok-whole_parts.ensures)
+    subst AreApart (sym c.as_slice-wholes.ensures.value)
+    (AreApart-wholes c.args.elf.now c.args.whole.now _ c.in_ok-whole_parts.ensures)
 
 pub returns-in-Err-clause-fault : goal.returns-in-Err-clause-fault
 returns-in-Err-clause-fault c =
@@ -103,7 +104,8 @@ returns-clause-functions c =
     subst (AreFunctionParts elf whole) (sym c.as_slice-kept.ensures.value)
     (c.in_ok-function_parts.ensures whole (c.in_ok-referred.ensures whole c.requires.refs)) in
     let wholes = subst (AreWholeParts elf whole) (sym c.as_slice-wholes.ensures.value) c.in_ok-whole_parts.ensures in
-    AreFunctions-made elf whole c.as_slice-wholes.result.now c.as_slice-kept.result.now c.in-Ok.funcs.items wholes functions c.in-Ok.ensures.made
+    AreFunctions-made elf whole c.as_slice-wholes.result.now c.as_slice-kept.result.now c.in-Ok.funcs.items wholes
+    functions c.in-Ok.ensures.made
 
 pub returns-clause-free : goal.returns-clause-free
 returns-clause-free c =
@@ -121,8 +123,10 @@ returns-clause-free c =
     (IsLowest-entry elf whole starts kept None c.requires.starts functions c.in-None.ensures) in
     let (no_bad_inst, no_bare) = no_bad elf whole wholes kept funcs functions c.in-Ok.ensures.made in
     let misled =
-    subst (λ (fs : List Func). IsLowest (HasMisled starts kept fs) None) c.deref-5.ensures.value c.in-None-lowest_misled.ensures in
+    subst
+    (λ (fs : List Func). IsLowest (HasMisled starts kept fs) None) c.deref-5.ensures.value c.in-None-lowest_misled.ensures in
     let no_target =
     lacks (HasFunctionFault elf whole BadTarget) None refl
-    (IsLowest-target elf whole starts c.args.refs.now.roles.items wholes kept funcs None c.requires.starts c.requires.refs.roles functions c.in-Ok.ensures.made misled) in
+    (IsLowest-target elf whole starts c.args.refs.now.roles.items wholes kept funcs None c.requires.starts c.requires.refs.roles
+    functions c.in-Ok.ensures.made misled) in
     lacks_all elf whole no_entry no_bad_inst no_bare no_target

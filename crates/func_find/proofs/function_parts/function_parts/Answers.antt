@@ -30,7 +30,8 @@ loop-part-preserved-then-not-is_function c = record {
       let before =
       subst (AreFunctionsBefore elf tabled x.start) (sym c.deref.ensures.value)
       (AreFunctionsBefore-chosen elf tabled parts kept c.loop-part.part-index d c.requires.parts c.loop-part-test.true chosen) in
-      chosen_skip (λ p. IsFunctionPart elf tabled p.start p.end) Follows parts kept c.loop-part.part-index x d c.loop-part-test.true refl
+      chosen_skip
+      (λ p. IsFunctionPart elf tabled p.start p.end) Follows parts kept c.loop-part.part-index x d c.loop-part-test.true refl
       (λ function. clash _ ((c.is_function.ensures tabled names before).1 function) c.if-not-is_function.true) chosen;
 }
 
@@ -49,13 +50,16 @@ loop-part-preserved c =
           let chosen = c.loop-part.invariant.chosen tabled names in
           let before =
           subst (AreFunctionsBefore elf tabled x.start) (sym c.deref.ensures.value)
-          (AreFunctionsBefore-chosen elf tabled parts kept c.loop-part.part-index d c.requires.parts c.loop-part-test.true chosen) in
-          chosen_keep (λ p. IsFunctionPart elf tabled p.start p.end) Follows parts kept _ c.loop-part.part-index x d c.requires.parts.ordered c.loop-part-test.true refl
+          (AreFunctionsBefore-chosen elf tabled parts kept c.loop-part.part-index d c.requires.parts
+          c.loop-part-test.true chosen) in
+          chosen_keep (λ p. IsFunctionPart elf tabled p.start p.end) Follows parts kept _ c.loop-part.part-index x d
+          c.requires.parts.ordered c.loop-part-test.true refl
           ((c.is_function.ensures tabled names before).0 c.if-not-is_function.false) c.in_ok-push.ensures.items chosen;
     }
 
 pub returns : goal.returns
 returns c = λ tabled names.
-    chosen_all (λ p. IsFunctionPart c.args.elf.now tabled p.start p.end) Follows c.args.parts.now _ c.loop-part.part-index (omega arith)
+    chosen_all
+    (λ p. IsFunctionPart c.args.elf.now tabled p.start p.end) Follows c.args.parts.now _ c.loop-part.part-index (omega arith)
     (λ p function. c.requires.parts.each p (IsCodePart-function c.args.elf.now tabled p.start p.end function))
     (c.loop-part.invariant.chosen tabled names)

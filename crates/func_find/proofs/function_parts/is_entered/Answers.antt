@@ -9,7 +9,8 @@ returns-then-count-eq0 c = λ tabled are. (
   (λ wrong. let no : false ≡ true = wrong in absurd (cc)),
   (λ entered.
       let d : Part = record { start = 0; end = 0 } in
-      let some = (IsEntered-last c.args.elf.now tabled c.args.start (length c.args.before.now) c.args.before.now d are refl entered).0 in
+      let some =
+      (IsEntered-last c.args.elf.now tabled c.args.start (length c.args.before.now) c.args.before.now d are refl entered).0 in
       let none = c.if-count-eq0.true in
       absurd (omega arith)),
 )
@@ -30,5 +31,6 @@ returns-else-last-start c = λ tabled are.
     let isnt = c.if-last-start.false in (
       (λ is. absurd (isnt (eqb-true _ _ is))),
       (λ entered. absurd
-          (isnt (IsEntered-last c.args.elf.now tabled c.args.start (length c.args.before.now) c.args.before.now d are refl entered).1)),
+          (isnt
+          (IsEntered-last c.args.elf.now tabled c.args.start (length c.args.before.now) c.args.before.now d are refl entered).1)),
     )

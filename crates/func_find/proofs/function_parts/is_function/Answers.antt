@@ -8,7 +8,8 @@ clash b is isnt = let no : true ≡ false = sym is ∙ isnt in cc
 
 pub is_nop_part-requires-clause-inside : goal.is_nop_part-requires-clause-inside
 is_nop_part-requires-clause-inside c =
-    inside_starts c.args.elf.now c.args.starts.now c.starts_in-inside.result.now _ _ c.requires.starts c.requires.part c.starts_in-inside.ensures.members
+    inside_starts c.args.elf.now c.args.starts.now c.starts_in-inside.result.now _ _ c.requires.starts c.requires.part
+    c.starts_in-inside.ensures.members
 
 pub returns-then-not-is_nop_part : goal.returns-then-not-is_nop_part
 returns-then-not-is_nop_part c = λ tabled names are. (
@@ -19,16 +20,19 @@ returns-then-not-is_nop_part c = λ tabled names are. (
 pub returns-then-has_any : goal.returns-then-has_any
 returns-then-has_any c = λ tabled names are.
     let inside =
-    inside_starts c.args.elf.now c.args.starts.now c.starts_in-inside.result.now _ _ c.requires.starts c.requires.part c.starts_in-inside.ensures.members in (
+    inside_starts c.args.elf.now c.args.starts.now c.starts_in-inside.result.now _ _ c.requires.starts c.requires.part
+    c.starts_in-inside.ensures.members in (
       (λ _. IsFunctionPart-referred c.args.elf.now tabled _ _ (c.is_nop_part.ensures.0 c.if-not-is_nop_part.false)
-          ((HasReferred-any c.args.elf.now tabled c.args.part.now.start c.args.part.now.end _ c.starts_in-inside.result.now names inside).0 (c.has_any.ensures.0 c.if-has_any.true))),
+          ((HasReferred-any c.args.elf.now tabled c.args.part.now.start c.args.part.now.end _ c.starts_in-inside.result.now names
+          inside).0 (c.has_any.ensures.0 c.if-has_any.true))),
       λ _. refl,
     )
 
 pub returns : goal.returns
 returns c = λ tabled names are.
     let inside =
-    inside_starts c.args.elf.now c.args.starts.now c.starts_in-inside.result.now _ _ c.requires.starts c.requires.part c.starts_in-inside.ensures.members in
+    inside_starts c.args.elf.now c.args.starts.now c.starts_in-inside.result.now _ _ c.requires.starts c.requires.part
+    c.starts_in-inside.ensures.members in
     let (to, from) =
     IsFunctionPart-entered c.args.elf.now tabled c.args.part.now.start c.args.part.now.end
     (c.is_nop_part.ensures.0 c.if-not-is_nop_part.false)

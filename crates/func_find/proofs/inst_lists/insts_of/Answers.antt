@@ -5,16 +5,19 @@ use Rattle.func_find.proofs.inst_lists.insts_of.Goals as goal
 
 pub loop-address-init : goal.loop-address-init
 loop-address-init c =
-    subst (ArePlacedTo c.args.elf.now c.args.part.now.start c.args.part.now.end c.args.part.now.start) (sym c.new-insts.ensures.items)
+    subst (ArePlacedTo c.args.elf.now c.args.part.now.start c.args.part.now.end c.args.part.now.start)
+    (sym c.new-insts.ensures.items)
     (placed_none c.args.elf.now c.args.part.now.start c.args.part.now.end c.requires.part)
 
 pub returns-in-Err-clause-fault : goal.returns-in-Err-clause-fault
 returns-in-Err-clause-fault c =
-    first_bad c.args.elf.now c.args.part.now c.loop-address.address _ _ c.loop-address-test.true c.in-Err.ensures.fault c.loop-address.invariant
+    first_bad c.args.elf.now c.args.part.now c.loop-address.address _ _ c.loop-address-test.true c.in-Err.ensures.fault
+    c.loop-address.invariant
 
 pub loop-address-preserved : goal.loop-address-preserved
 loop-address-preserved c =
-    placed_next c.args.elf.now _ _ c.loop-address.address _ _ _ c.in-Ok.placed c.loop-address-test.true c.in-Ok.ensures.placed c.in_ok-push.ensures.items refl c.loop-address.invariant
+    placed_next c.args.elf.now _ _ c.loop-address.address _ _ _ c.in-Ok.placed c.loop-address-test.true c.in-Ok.ensures.placed
+    c.in_ok-push.ensures.items refl c.loop-address.invariant
 
 pub returns-clause-placed : goal.returns-clause-placed
 returns-clause-placed c =

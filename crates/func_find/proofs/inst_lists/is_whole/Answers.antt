@@ -17,7 +17,8 @@ returns-in-Some c =
       (λ listed.
           let bytes : part.start < part.end =
           All-contains (λ (p : Part). p.start < p.end) c.args.wholes.now part c.requires.has_bytes listed in
-          let holds : HoldsAddress c.args.wholes.now part.start part = record { listed = listed; above = omega arith; below = bytes } in
+          let holds : HoldsAddress c.args.wholes.now part.start part =
+          record { listed = listed; above = omega arith; below = bytes } in
           let same = part_is whole part (c.in-Some.ensures.only part holds) in
           c.is_same.ensures.1 (ap (λ (p : Part). p.start) same, ap (λ (p : Part). p.end) same)),
     )

@@ -5,4 +5,5 @@ use Rattle.func_find.proofs.Gains.{Given}
 use Rattle.func_find.proofs.referred.push_cells.Given as goal
 
 abbrev pub invariant-loop-cell : goal.invariant-loop-cell
-invariant-loop-cell l = Gains l.initial.addresses.items l.addresses.items (Given (λ c a. CellNames c a) (take l.cell-index l.cells))
+invariant-loop-cell l =
+    Gains l.initial.addresses.items l.addresses.items (Given (λ c a. CellNames c a) (take l.cell-index l.cells))

@@ -5,4 +5,5 @@ use Rattle.func_find.proofs.Gains.{Given}
 use Rattle.func_find.proofs.referred.push_roles.Given as goal
 
 abbrev pub invariant-loop-role : goal.invariant-loop-role
-invariant-loop-role l = Gains l.initial.addresses.items l.addresses.items (Given (λ r a. RoleNames r.1 a) (take l.role-index l.roles))
+invariant-loop-role l =
+    Gains l.initial.addresses.items l.addresses.items (Given (λ r a. RoleNames r.1 a) (take l.role-index l.roles))

@@ -21,8 +21,10 @@ loop-part-preserved c =
     gains_next (λ p a. PartGoesTo elf p a) parts c.loop-part.part-index x d _ _ _ c.loop-part-test.true refl
     (gains_same _ _ _ _
     (part_goes elf x c.starts_in.result.now
-    (inside_starts elf c.args.starts.now c.starts_in.result.now x.start x.end c.requires.starts part c.starts_in.ensures.members)) c.in_ok-push_targets_of.ensures)
+    (inside_starts elf c.args.starts.now c.starts_in.result.now x.start x.end c.requires.starts part c.starts_in.ensures.members))
+    c.in_ok-push_targets_of.ensures)
     c.loop-part.invariant
 
 pub returns : goal.returns
-returns c = gains_all (λ p a. PartGoesTo c.args.elf.now p a) c.args.parts.now c.loop-part.part-index _ _ (omega arith) c.loop-part.invariant
+returns c = gains_all (λ p a. PartGoesTo c.args.elf.now p a) c.args.parts.now c.loop-part.part-index _ _
+    (omega arith) c.loop-part.invariant

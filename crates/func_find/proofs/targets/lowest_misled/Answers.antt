@@ -12,7 +12,9 @@ loop-func-preserved c =
     let here = subst
     (λ (ps : List Placed). IsLowest
     (IsPlaceOf (λ (p : Placed). p.addr)
-    (IsMisled c.args.starts.now c.args.parts.now) ps) c.lowest_misled_of.result) c.deref.ensures.value c.lowest_misled_of.ensures in
+    (IsMisled c.args.starts.now c.args.parts.now) ps) c.lowest_misled_of.result) c.deref.ensures.value
+    c.lowest_misled_of.ensures in
     lowest_next (λ (f : Func) place. IsPlaceOf (λ (p : Placed). p.addr)
-    (IsMisled c.args.starts.now c.args.parts.now) f.insts.items place) c.args.funcs.now c.loop-func.func-index c.func-item.result c.func-item.result
+    (IsMisled c.args.starts.now c.args.parts.now) f.insts.items place) c.args.funcs.now c.loop-func.func-index
+    c.func-item.result c.func-item.result
     _ _ _ c.loop-func-test.true c.func-item.is c.lower-lowest.ensures c.loop-func.invariant here

@@ -8,4 +8,5 @@ pub loop-inst-preserved : goal.loop-inst-preserved
 loop-inst-preserved c =
     IsPlaceOf-next (λ p. p.addr)
     (IsMisled c.args.starts.now c.args.parts.now) c.args.insts.now c.loop-inst.inst-index _ _ _ _ _ _ c.loop-inst-test.true
-    (get_or_default c.args.insts.now c.loop-inst.inst-index _ _ c.loop-inst-test.true) c.lower-lowest.ensures c.loop-inst.invariant c.place_if.ensures refl c.is_misled.ensures
+    (get_or_default c.args.insts.now c.loop-inst.inst-index _ _ c.loop-inst-test.true) c.lower-lowest.ensures
+    c.loop-inst.invariant c.place_if.ensures refl c.is_misled.ensures

@@ -6,7 +6,8 @@ use Rattle.rv_reloc.proofs.absolute.has_absolute.Goals as goal
 
 pub returns-in-Some : goal.returns-in-Some
 returns-in-Some c = (
-  λ is. has-absolute c.args.elf.now (seen c.args.relocation.now) c.args.target c.in-Some.inst c.requires.kind c.in-Some.ensures.there
+  λ is. has-absolute c.args.elf.now
+      (seen c.args.relocation.now) c.args.target c.in-Some.inst c.requires.kind c.in-Some.ensures.there
       (c.has_part.ensures.0 is),
   λ has. c.has_part.ensures.1
       (absolute-part c.args.elf.now (seen c.args.relocation.now) c.args.target c.in-Some.inst

@@ -10,7 +10,8 @@ loop-low-init c = IsPlaceOf-begin _ _
 pub loop-low-preserved : goal.loop-low-preserved
 loop-low-preserved c =
     IsPlaceOf-next _ _ c.args.lows.now c.loop-low.low-index _ _ _ _ _ _ c.loop-low-test.true
-    (get_or_default _ _ _ _ c.loop-low-test.true) c.lower-lowest.ensures c.loop-low.invariant c.place_if.ensures refl c.names_bad_entry.ensures
+    (get_or_default _ _ _ _ c.loop-low-test.true) c.lower-lowest.ensures c.loop-low.invariant c.place_if.ensures refl
+    c.names_bad_entry.ensures
 
 pub returns : goal.returns
 returns c =

@@ -23,7 +23,8 @@ returns-in-None-address_of c = (
       let fits : FitsSigned w128 c.in-Some.target = search rules in
       absurd (entry-far c.args.elf.now c.args.low.now c.in-Some.target
       (λ z is. same_some _ _ _ c.in-Some.is (c.low_target.ensures.only z is))
-      (λ address. let e : false ≡ true = c.in-None-address_of.ensures.exact.1 (subst IsAddress (sym (to_z-of_z w128 _ fits)) address) in cc)
+      (λ address.
+      let e : false ≡ true = c.in-None-address_of.ensures.exact.1 (subst IsAddress (sym (to_z-of_z w128 _ fits)) address) in cc)
       names),
 )
 

@@ -5,7 +5,8 @@ use Rattle.rv_reloc.proofs.calls.call_at.Goals as goal
 
 pub returns-in-Some-jump_after-clause-there : goal.returns-in-Some-jump_after-clause-there
 returns-in-Some-jump_after-clause-there c =
-    call_there c.args.elf.now c.args.address c.in-Some.auipc c.in-Some-jump_after.jalr c.in-Some.ensures.there c.in-Some-jump_after.ensures.there
+    call_there c.args.elf.now c.args.address c.in-Some.auipc c.in-Some-jump_after.jalr c.in-Some.ensures.there
+    c.in-Some-jump_after.ensures.there
 
 pub returns-in-Some-jump_after-clause-only : goal.returns-in-Some-jump_after-clause-only
 returns-in-Some-jump_after-clause-only c = λ d is.

@@ -18,4 +18,5 @@ returns-in-Some-clause-only c = λ link base imm full.
     c.jalr_of.ensures ∙ ap jalr_of (same_some _ _ _ c.in-Some.is (c.full_at.ensures.only (Jalr link base imm) full))
 
 pub returns-in-None-clause-only : goal.returns-in-None-clause-only
-returns-in-None-clause-only c = λ link base imm full. absurd (not_found _ _ c.in-None.is (c.full_at.ensures.only (Jalr link base imm) full))
+returns-in-None-clause-only c =
+    λ link base imm full. absurd (not_found _ _ c.in-None.is (c.full_at.ensures.only (Jalr link base imm) full))

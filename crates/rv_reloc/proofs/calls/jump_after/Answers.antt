@@ -9,16 +9,19 @@ part_at-requires c = AreApart-parts c.args.elf.now c.args.parts.now c.requires.p
 
 pub returns-else-part-address-le4-clause-there : goal.returns-else-part-address-le4-clause-there
 returns-else-part-address-le4-clause-there c =
-    jump_there c.args.elf.now c.args.parts.now c.args.address c.in-Some.part c.jalr_at.result c.requires.parts c.in-Some.ensures.holds
+    jump_there c.args.elf.now c.args.parts.now c.args.address c.in-Some.part c.jalr_at.result
+    c.requires.parts c.in-Some.ensures.holds
     (omega arith) c.jalr_at.ensures.there
 
 pub returns-else-part-address-le4-clause-only : goal.returns-else-part-address-le4-clause-only
 returns-else-part-address-le4-clause-only c =
-    λ start end j here after. c.jalr_at.ensures.only after.link j.base j.imm (jump_full c.args.elf.now start end c.args.address j after)
+    λ start end j here after. c.jalr_at.ensures.only after.link j.base j.imm
+    (jump_full c.args.elf.now start end c.args.address j after)
 
 pub returns-then-part-address-le4-clause-only : goal.returns-then-part-address-le4-clause-only
 returns-then-part-address-le4-clause-only c = λ start end j here after.
-    absurd (jump_past c.args.elf.now c.args.parts.now start end c.args.address j c.in-Some.part c.requires.parts c.in-Some.ensures.holds
+    absurd
+    (jump_past c.args.elf.now c.args.parts.now start end c.args.address j c.in-Some.part c.requires.parts c.in-Some.ensures.holds
     (omega arith) here after)
 
 pub returns-in-None-clause-only : goal.returns-in-None-clause-only

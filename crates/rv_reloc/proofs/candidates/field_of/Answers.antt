@@ -14,7 +14,8 @@ returns-then-is_address-clause-only c = λ tabled f are is.
 
 pub returns-then-not-can_be_cell-clause-only : goal.returns-then-not-can_be_cell-clause-only
 returns-then-not-can_be_cell-clause-only c = λ tabled f are is.
-    let can = (difference-of c.args.elf.now tabled (seen c.args.relocation.now) f (sym c.is_address.ensures ∙ c.if-is_address.false) is).can_be in
+    let can = (difference-of c.args.elf.now tabled (seen c.args.relocation.now) f
+    (sym c.is_address.ensures ∙ c.if-is_address.false) is).can_be in
     let e = c.can_be_cell.ensures in
     let g = c.if-not-can_be_cell.true in
     absurd (cc)
@@ -29,9 +30,11 @@ pub returns-in-Some-clause-only : goal.returns-in-Some-clause-only
 returns-in-Some-clause-only c = λ tabled f are is.
     let r = seen c.args.relocation.now in
     let made = difference-of c.args.elf.now tabled r f (sym c.is_address.ensures ∙ c.if-is_address.false) is in
-    c.cell_field.ensures.only tabled f are (difference-to_cell c.args.elf.now tabled r c.in-Some.difference f c.in-Some.ensures.only made)
+    c.cell_field.ensures.only tabled f are
+    (difference-to_cell c.args.elf.now tabled r c.in-Some.difference f c.in-Some.ensures.only made)
 
 pub returns-in-None-clause-only : goal.returns-in-None-clause-only
 returns-in-None-clause-only c = λ tabled f are is.
-    let made = difference-of c.args.elf.now tabled (seen c.args.relocation.now) f (sym c.is_address.ensures ∙ c.if-is_address.false) is in
+    let made =
+    difference-of c.args.elf.now tabled (seen c.args.relocation.now) f (sym c.is_address.ensures ∙ c.if-is_address.false) is in
     absurd (c.in-None.ensures.only (Bits made.bits) made.to made.from made.is)

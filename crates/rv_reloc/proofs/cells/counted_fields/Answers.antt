@@ -12,7 +12,8 @@ returns c = λ tabled are.
     let of_records = c.in_ok-fields.fields.items in
     let of_lows = c.in_ok-slots.slots.items in
     let joined =
-    ap (map field) (c.in_ok-extend_from_slice.ensures.items ∙ ap (λ (xs : List Candidate). of_records ++ xs) c.deref.ensures.value)
+    ap (map field)
+    (c.in_ok-extend_from_slice.ensures.items ∙ ap (λ (xs : List Candidate). of_records ++ xs) c.deref.ensures.value)
     ∙ map-append field of_records of_lows in
     let all = candidates-all elf tabled c.args.records.now c.args.lows.now (map field of_records) (map field of_lows)
     (map field c.extend_from_slice.new.self.items) (map field c.sort_fields.new.fields.items) c.requires.records c.requires.lows

@@ -9,7 +9,8 @@ loop-field-init c = IsPlaceOf-begin _ _
 pub loop-field-preserved : goal.loop-field-preserved
 loop-field-preserved c =
     IsPlaceOf-next _ _ c.args.counted.now c.loop-field.field-index _ _ _ _ _ _ c.loop-field-test.true
-    (get_or_default _ _ _ _ c.loop-field-test.true) c.lower-lowest.ensures c.loop-field.invariant c.place_if.ensures refl c.is_bad.ensures
+    (get_or_default _ _ _ _ c.loop-field-test.true) c.lower-lowest.ensures c.loop-field.invariant
+    c.place_if.ensures refl c.is_bad.ensures
 
 pub returns : goal.returns
 returns c =

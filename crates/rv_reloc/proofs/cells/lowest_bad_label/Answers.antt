@@ -8,7 +8,8 @@ use Rattle.rv_reloc.proofs.CellLists.{bad-label, none-bad}
 use Rattle.rv_reloc.proofs.cells.lowest_bad_label.Goals as goal
 
 pub returns-clause-lowest : goal.returns-clause-lowest
-returns-clause-lowest c = λ elf tabled are. bad-label elf tabled c.args.counted.now c.lowest_bad_field.result are c.lowest_bad_field.ensures
+returns-clause-lowest c =
+    λ elf tabled are. bad-label elf tabled c.args.counted.now c.lowest_bad_field.result are c.lowest_bad_field.ensures
 
 by : (counted : List Candidate) (lowest : Option ℕ) → IsLowest (IsPlaceOf (λ f. f.place) IsBadField counted) lowest →
     IfNone lowest (All HasAddresses counted)

@@ -8,4 +8,5 @@ pub returns : goal.returns
 returns c =
     c.first_roles.ensures c.args.elf.now
     (subst (λ (claims : List Claim). AreClaims c.args.elf.now claims) (sym c.deref.ensures.value)
-    (AreClaims-sorted c.args.elf.now c.args.records.now _ _ c.requires.records c.in_ok-claims.ensures c.in_ok-sort_claims.ensures.permutation c.in_ok-sort_claims.ensures.ordered))
+    (AreClaims-sorted c.args.elf.now c.args.records.now _ _ c.requires.records c.in_ok-claims.ensures
+    c.in_ok-sort_claims.ensures.permutation c.in_ok-sort_claims.ensures.ordered))

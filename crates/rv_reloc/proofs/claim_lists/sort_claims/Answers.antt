@@ -7,4 +7,5 @@ use Rattle.rv_reloc.proofs.claim_lists.sort_claims.Goals as goal
 pub returns-clause-ordered : goal.returns-clause-ordered
 returns-clause-ordered c =
     claims-sorted _
-    (c.in_ok-sort_by_key.ensures.sorted (λ (x : Claim). (x.at, (x.kind, x.key))) (answers_always _ _ _ (λ f a r f' k. search rules)))
+    (c.in_ok-sort_by_key.ensures.sorted (λ (x : Claim). (x.at, (x.kind, x.key)))
+    (answers_always _ _ _ (λ f a r f' k. search rules)))

@@ -15,7 +15,8 @@ returns-else-not-has_absolute-clause-is c =
 pub returns-else-not-has_absolute-clause-each : goal.returns-else-not-has_absolute-clause-each
 returns-else-not-has_absolute-clause-each c = λ key role claims.
     same_some _ _ _ c.in-Some.is
-    (c.absolute_target.ensures.only key (absolute_view c.args.elf.now (seen c.args.relocation.now) _ key role c.requires.kind claims).0)
+    (c.absolute_target.ensures.only key
+    (absolute_view c.args.elf.now (seen c.args.relocation.now) _ key role c.requires.kind claims).0)
 
 pub returns-then-not-has_absolute-clause-each : goal.returns-then-not-has_absolute-clause-each
 returns-then-not-has_absolute-clause-each c = λ key role claims.

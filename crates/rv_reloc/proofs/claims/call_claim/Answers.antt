@@ -20,7 +20,8 @@ pub returns-in-None-named-clause-each : goal.returns-in-None-named-clause-each
 returns-in-None-named-clause-each c = λ key role claims.
     absurd (c.requires.fits
     (IsMisfit.call
-    (unfit-bad c.args.elf.now (seen c.args.relocation.now) c.in-Some.call c.requires.counts c.requires.kind c.in-Some.ensures.there
+    (unfit-bad c.args.elf.now
+    (seen c.args.relocation.now) c.in-Some.call c.requires.counts c.requires.kind c.in-Some.ensures.there
     (λ d is. same_some _ _ _ c.in-Some.is (c.call_at.ensures.only d is))
     (λ fits. none_some _ c.in-None-named.is (c.named.ensures.each fits)))))
 

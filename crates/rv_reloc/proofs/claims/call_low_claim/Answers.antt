@@ -13,12 +13,14 @@ returns-in-Some-target-clause-is c =
     (λ d is. same_some _ _ _ c.in-Some.is (c.call_at.ensures.only d is)) c.in-Some-target.ensures.is
 
 pub returns-in-Some-target-clause-each : goal.returns-in-Some-target-clause-each
-returns-in-Some-target-clause-each c = λ key role claims. sym (lo_view c.args.elf.now (seen c.args.relocation.now) key role claims).0
+returns-in-Some-target-clause-each c =
+    λ key role claims. sym (lo_view c.args.elf.now (seen c.args.relocation.now) key role claims).0
 
 pub returns-in-None-target-clause-each : goal.returns-in-None-target-clause-each
 returns-in-None-target-clause-each c = λ key role claims.
     let (target, to) = (lo_view c.args.elf.now (seen c.args.relocation.now) key role claims).1 in
-    absurd (no_target c.args.elf.now (seen c.args.relocation.now) c.in-Some.call target (λ bad. c.requires.fits (IsMisfit.call bad))
+    absurd (no_target c.args.elf.now (seen c.args.relocation.now) c.in-Some.call target
+    (λ bad. c.requires.fits (IsMisfit.call bad))
     (λ d is. same_some _ _ _ c.in-Some.is (c.call_at.ensures.only d is))
     (λ through address. none_some _ c.in-None-target.is (c.target.ensures.each through address)) to)
 

@@ -9,7 +9,8 @@ use Rattle.rv_reloc.proofs.claims.lower_claim.Goals as goal
 
 pub returns-in-Some-low_address-clause-is : goal.returns-in-Some-low_address-clause-is
 returns-in-Some-low_address-clause-is c =
-    lower-claim c.args.elf.now (seen c.args.relocation.now) c.in-Some.low c.in-Some-low_address.target c.requires.counts c.requires.kind
+    lower-claim c.args.elf.now
+    (seen c.args.relocation.now) c.in-Some.low c.in-Some-low_address.target c.requires.counts c.requires.kind
     c.in-Some.ensures.is
     (λ m is. same_some _ _ _ c.in-Some.is
     (c.low_of.ensures.only m is)) c.in-Some-low_address.ensures.is c.in-Some-low_address.ensures.once
@@ -38,4 +39,5 @@ pub returns-in-None-clause-each : goal.returns-in-None-clause-each
 returns-in-None-clause-each c = λ key role claims.
     let (hi, target, to, here, key_is, role_is) =
     lower_view c.args.elf.now (seen c.args.relocation.now) _ key role c.requires.kind claims in
-    absurd (not_found _ _ c.in-None.is (c.low_of.ensures.only _ (part_low c.args.elf.now (seen c.args.relocation.now) hi to.lower to.part)))
+    absurd (not_found _ _ c.in-None.is
+    (c.low_of.ensures.only _ (part_low c.args.elf.now (seen c.args.relocation.now) hi to.lower to.part)))

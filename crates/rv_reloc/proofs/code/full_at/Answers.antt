@@ -23,7 +23,8 @@ returns-in-Some-clause-there c =
     let a = c.args.address in
     let is = c.requires.starts.only a (c.is_start.ensures.0 c.if-not-is_start.false) in
     let same = same_part _ _ _ c.in-Some.is (c.part_at.ensures.only _ (start_held elf c.args.parts.now a c.requires.parts is)) in
-    some_map _ _ c.full_before.result (λ inst full. full_there elf a c.in-Some.part.end inst is same full) c.full_before.ensures.there
+    some_map _ _ c.full_before.result
+    (λ inst full. full_there elf a c.in-Some.part.end inst is same full) c.full_before.ensures.there
 
 pub returns-in-Some-clause-only : goal.returns-in-Some-clause-only
 returns-in-Some-clause-only c = λ inst full.
@@ -37,7 +38,8 @@ pub returns-in-None-clause-only : goal.returns-in-None-clause-only
 returns-in-None-clause-only c = λ inst full.
     absurd (no_part _ _ c.in-None.is
     (c.part_at.ensures.only _
-    (start_held c.args.elf.now c.args.parts.now c.args.address c.requires.parts (full_start c.args.elf.now c.args.address inst full))))
+    (start_held c.args.elf.now c.args.parts.now c.args.address c.requires.parts
+    (full_start c.args.elf.now c.args.address inst full))))
 
 pub returns-then-not-is_start-clause-only : goal.returns-then-not-is_start-clause-only
 returns-then-not-is_start-clause-only c = λ inst full.

@@ -6,7 +6,8 @@ use Rattle.std.proofs.lemmas.List.{get_or_default}
 use Rattle.std.proofs.lemmas.List.Sorted.{searched}
 use Rattle.rv_reloc.proofs.code.is_start.Goals as goal
 
-rising : (xs : List ℕ) → AllPairs (λ a b. a < b) xs → (i j : ℕ) → i ≤ j → j < length xs → slice_index_or xs i 0 ≤ slice_index_or xs j 0
+rising : (xs : List ℕ) → AllPairs (λ a b. a < b) xs → (i j : ℕ) → i ≤ j → j < length xs →
+    slice_index_or xs i 0 ≤ slice_index_or xs j 0
 rising xs up i j upto within =
     ⊎_elim
     (λ (less : i < j). let r = up i j 0 less within in omega arith)

@@ -18,4 +18,5 @@ returns c = λ tabled are.
     let one = subst (λ (z : ℤ). IsTrue c.in_one_whole.result ↔ IsInOneWhole elf tabled z (to_z w128 (of_z w128 d.from))) to
     (c.in_one_whole.ensures elf tabled are) in
     crosses-found c.in_one_whole.result (HasCodeLabel elf d.to d.from) (IsInOneWhole elf tabled d.to d.from)
-    (subst (HasCodeLabel elf d.to) from code) (subst (λ (z : ℤ). IsTrue c.in_one_whole.result ↔ IsInOneWhole elf tabled d.to z) from one)
+    (subst (HasCodeLabel elf d.to) from code)
+    (subst (λ (z : ℤ). IsTrue c.in_one_whole.result ↔ IsInOneWhole elf tabled d.to z) from one)

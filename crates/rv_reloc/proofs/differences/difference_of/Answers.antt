@@ -14,7 +14,8 @@ returns-then-is_pc_difference-clause-is c =
     let fits : FitsSigned w128 c.label.result = search rules in
     let to = to_z-of_z w128 c.label.result fits in
     record {
-      is = of_place c.requires.listed (sym c.is_pc_difference.ensures ∙ c.if-is_pc_difference.true) refl (to ∙ c.label.ensures.label)
+      is = of_place c.requires.listed (sym c.is_pc_difference.ensures ∙ c.if-is_pc_difference.true) refl
+          (to ∙ c.label.ensures.label)
           (omega (arith, ints));
       to_size = subst IsLabelSize (sym to) c.label.ensures.size;
       from_size = record { least = omega (arith, ints); below = omega (arith, ints) };
@@ -34,5 +35,6 @@ returns-then-is_pc_difference-clause-only c = λ w to from is.
 
 pub returns-in-None-clause-only : goal.returns-in-None-clause-only
 returns-in-None-clause-only c = λ w to from is.
-    no-difference c.args.elf.now (seen c.args.relocation.now) w to from (sym c.is_pc_difference.ensures ∙ c.if-is_pc_difference.false)
+    no-difference c.args.elf.now (seen c.args.relocation.now) w to from
+    (sym c.is_pc_difference.ensures ∙ c.if-is_pc_difference.false)
     (sym c.in-None.ensures) is

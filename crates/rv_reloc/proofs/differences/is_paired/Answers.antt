@@ -18,5 +18,6 @@ returns-then-is_some c =
 pub returns-else-is_some : goal.returns-else-is_some
 returns-else-is_some c = (
   λ yes_is. let e : false ≡ true = sym c.if-is_some.false ∙ yes_is in absurd (cc),
-  λ is. c.is_some.ensures ∙ found-some c.only_plus.result seen is.0 (c.only_plus.ensures.only c.args.elf.now is.0 c.requires is.2),
+  λ is. c.is_some.ensures
+      ∙ found-some c.only_plus.result seen is.0 (c.only_plus.ensures.only c.args.elf.now is.0 c.requires is.2),
 )

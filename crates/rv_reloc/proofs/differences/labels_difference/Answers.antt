@@ -44,7 +44,8 @@ returns-in-Some-only_minus-clause-only c = λ w to from is.
     record {
       width_is = sym made.width_is;
       to_is = to_z-of_z w128 c.label.result fits ∙ c.label.ensures.label ∙ sym made.to_is;
-      from_is = to_z-of_z w128 c.label-in-Some-only_minus.result fits' ∙ c.label-in-Some-only_minus.ensures.label ∙ ap (label elf) found
+      from_is =
+          to_z-of_z w128 c.label-in-Some-only_minus.result fits' ∙ c.label-in-Some-only_minus.ensures.label ∙ ap (label elf) found
           ∙ sym made.from_is;
     }
 

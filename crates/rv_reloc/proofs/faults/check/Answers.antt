@@ -22,12 +22,14 @@ returns-in_err-refuse_at-2-clause-fault c = λ tabled asked.
     let elf = c.args.elf.now in
     let Has = HasReferenceFault elf tabled in
     let mismatch =
-    IsLowest-lower _ _ _ c.lower-mismatch.ensures c.requires.misfit (c.lowest_bad_label.ensures.lowest elf tabled asked.counted_are) in
+    IsLowest-lower _ _ _ c.lower-mismatch.ensures c.requires.misfit
+    (c.lowest_bad_label.ensures.lowest elf tabled asked.counted_are) in
     let before_9 = lacks_others elf tabled in
     let before_10 =
     went_on _ Has RelocType _ _ c.refuse_at.ensures c.in_ok-refuse_at.was (omega arith) before_9
     (c.lowest_reloc_type.ensures elf c.requires.records) in
-    let fault = stopped _ Has RelocMismatch _ _ _ c.refuse_at-2.ensures c.in_err-refuse_at-2.was (omega arith) before_10 mismatch in
+    let fault =
+    stopped _ Has RelocMismatch _ _ _ c.refuse_at-2.ensures c.in_err-refuse_at-2.was (omega arith) before_10 mismatch in
     let p = err_from_is_err_and c.from_residual-in_err-refuse_at-2.result c.from_residual-in_err-refuse_at-2.ensures.1 in
     rw (p.1, p.2) fault
 
@@ -36,12 +38,14 @@ returns-in_err-refuse_at-3-clause-fault c = λ tabled asked.
     let elf = c.args.elf.now in
     let Has = HasReferenceFault elf tabled in
     let mismatch =
-    IsLowest-lower _ _ _ c.lower-mismatch.ensures c.requires.misfit (c.lowest_bad_label.ensures.lowest elf tabled asked.counted_are) in
+    IsLowest-lower _ _ _ c.lower-mismatch.ensures c.requires.misfit
+    (c.lowest_bad_label.ensures.lowest elf tabled asked.counted_are) in
     let before_9 = lacks_others elf tabled in
     let before_10 =
     went_on _ Has RelocType _ _ c.refuse_at.ensures c.in_ok-refuse_at.was (omega arith) before_9
     (c.lowest_reloc_type.ensures elf c.requires.records) in
-    let before_11 = went_on _ Has RelocMismatch _ _ c.refuse_at-2.ensures c.in_ok-refuse_at-2.was (omega arith) before_10 mismatch in
+    let before_11 =
+    went_on _ Has RelocMismatch _ _ c.refuse_at-2.ensures c.in_ok-refuse_at-2.was (omega arith) before_10 mismatch in
     let fault = stopped _ Has LoMismatch _ _ _ c.refuse_at-3.ensures c.in_err-refuse_at-3.was (omega arith) before_11
     (c.lowest_low_mismatch.ensures elf c.requires.lows) in
     let p = err_from_is_err_and c.from_residual-in_err-refuse_at-3.result c.from_residual-in_err-refuse_at-3.ensures.1 in
@@ -52,12 +56,14 @@ returns-in_err-refuse_at-4-clause-fault c = λ tabled asked.
     let elf = c.args.elf.now in
     let Has = HasReferenceFault elf tabled in
     let mismatch =
-    IsLowest-lower _ _ _ c.lower-mismatch.ensures c.requires.misfit (c.lowest_bad_label.ensures.lowest elf tabled asked.counted_are) in
+    IsLowest-lower _ _ _ c.lower-mismatch.ensures c.requires.misfit
+    (c.lowest_bad_label.ensures.lowest elf tabled asked.counted_are) in
     let before_9 = lacks_others elf tabled in
     let before_10 =
     went_on _ Has RelocType _ _ c.refuse_at.ensures c.in_ok-refuse_at.was (omega arith) before_9
     (c.lowest_reloc_type.ensures elf c.requires.records) in
-    let before_11 = went_on _ Has RelocMismatch _ _ c.refuse_at-2.ensures c.in_ok-refuse_at-2.was (omega arith) before_10 mismatch in
+    let before_11 =
+    went_on _ Has RelocMismatch _ _ c.refuse_at-2.ensures c.in_ok-refuse_at-2.was (omega arith) before_10 mismatch in
     let before_12 =
     went_on _ Has LoMismatch _ _ c.refuse_at-3.ensures c.in_ok-refuse_at-3.was (omega arith) before_11
     (c.lowest_low_mismatch.ensures elf c.requires.lows) in
@@ -71,12 +77,14 @@ returns-in_err-refuse_at-5-clause-fault c = λ tabled asked.
     let elf = c.args.elf.now in
     let Has = HasReferenceFault elf tabled in
     let mismatch =
-    IsLowest-lower _ _ _ c.lower-mismatch.ensures c.requires.misfit (c.lowest_bad_label.ensures.lowest elf tabled asked.counted_are) in
+    IsLowest-lower _ _ _ c.lower-mismatch.ensures c.requires.misfit
+    (c.lowest_bad_label.ensures.lowest elf tabled asked.counted_are) in
     let before_9 = lacks_others elf tabled in
     let before_10 =
     went_on _ Has RelocType _ _ c.refuse_at.ensures c.in_ok-refuse_at.was (omega arith) before_9
     (c.lowest_reloc_type.ensures elf c.requires.records) in
-    let before_11 = went_on _ Has RelocMismatch _ _ c.refuse_at-2.ensures c.in_ok-refuse_at-2.was (omega arith) before_10 mismatch in
+    let before_11 =
+    went_on _ Has RelocMismatch _ _ c.refuse_at-2.ensures c.in_ok-refuse_at-2.was (omega arith) before_10 mismatch in
     let before_12 =
     went_on _ Has LoMismatch _ _ c.refuse_at-3.ensures c.in_ok-refuse_at-3.was (omega arith) before_11
     (c.lowest_low_mismatch.ensures elf c.requires.lows) in
@@ -93,12 +101,14 @@ returns-clause-lacks c = λ tabled asked.
     let elf = c.args.elf.now in
     let Has = HasReferenceFault elf tabled in
     let mismatch =
-    IsLowest-lower _ _ _ c.lower-mismatch.ensures c.requires.misfit (c.lowest_bad_label.ensures.lowest elf tabled asked.counted_are) in
+    IsLowest-lower _ _ _ c.lower-mismatch.ensures c.requires.misfit
+    (c.lowest_bad_label.ensures.lowest elf tabled asked.counted_are) in
     let before_9 = lacks_others elf tabled in
     let before_10 =
     went_on _ Has RelocType _ _ c.refuse_at.ensures c.in_ok-refuse_at.was (omega arith) before_9
     (c.lowest_reloc_type.ensures elf c.requires.records) in
-    let before_11 = went_on _ Has RelocMismatch _ _ c.refuse_at-2.ensures c.in_ok-refuse_at-2.was (omega arith) before_10 mismatch in
+    let before_11 =
+    went_on _ Has RelocMismatch _ _ c.refuse_at-2.ensures c.in_ok-refuse_at-2.was (omega arith) before_10 mismatch in
     let before_12 =
     went_on _ Has LoMismatch _ _ c.refuse_at-3.ensures c.in_ok-refuse_at-3.was (omega arith) before_11
     (c.lowest_low_mismatch.ensures elf c.requires.lows) in
@@ -106,7 +116,8 @@ returns-clause-lacks c = λ tabled asked.
     went_on _ Has NarrowDiff _ _ c.refuse_at-4.ensures c.in_ok-refuse_at-4.was (omega arith) before_12
     (c.lowest_narrow.ensures tabled asked.wholes_are) in
     let before_14 =
-    went_on _ Has IfuncOrPlt _ _ c.refuse_at-5.ensures c.in_ok-refuse_at-5.was (omega arith) before_13 c.lowest_ifunc_or_plt.ensures in
+    went_on _ Has IfuncOrPlt _ _ c.refuse_at-5.ensures c.in_ok-refuse_at-5.was
+    (omega arith) before_13 c.lowest_ifunc_or_plt.ensures in
     let last = refused _ Has AlreadyMoved _ _ c.refuse_at-6.ensures (omega arith) before_14
     (c.lowest_already_moved.ensures elf (sym c.deref.ensures.value)) in
     refused-lacks Has 15 c.refuse_at-6.result last
@@ -116,12 +127,14 @@ returns-clause-fault c = λ tabled asked.
     let elf = c.args.elf.now in
     let Has = HasReferenceFault elf tabled in
     let mismatch =
-    IsLowest-lower _ _ _ c.lower-mismatch.ensures c.requires.misfit (c.lowest_bad_label.ensures.lowest elf tabled asked.counted_are) in
+    IsLowest-lower _ _ _ c.lower-mismatch.ensures c.requires.misfit
+    (c.lowest_bad_label.ensures.lowest elf tabled asked.counted_are) in
     let before_9 = lacks_others elf tabled in
     let before_10 =
     went_on _ Has RelocType _ _ c.refuse_at.ensures c.in_ok-refuse_at.was (omega arith) before_9
     (c.lowest_reloc_type.ensures elf c.requires.records) in
-    let before_11 = went_on _ Has RelocMismatch _ _ c.refuse_at-2.ensures c.in_ok-refuse_at-2.was (omega arith) before_10 mismatch in
+    let before_11 =
+    went_on _ Has RelocMismatch _ _ c.refuse_at-2.ensures c.in_ok-refuse_at-2.was (omega arith) before_10 mismatch in
     let before_12 =
     went_on _ Has LoMismatch _ _ c.refuse_at-3.ensures c.in_ok-refuse_at-3.was (omega arith) before_11
     (c.lowest_low_mismatch.ensures elf c.requires.lows) in
@@ -129,7 +142,8 @@ returns-clause-fault c = λ tabled asked.
     went_on _ Has NarrowDiff _ _ c.refuse_at-4.ensures c.in_ok-refuse_at-4.was (omega arith) before_12
     (c.lowest_narrow.ensures tabled asked.wholes_are) in
     let before_14 =
-    went_on _ Has IfuncOrPlt _ _ c.refuse_at-5.ensures c.in_ok-refuse_at-5.was (omega arith) before_13 c.lowest_ifunc_or_plt.ensures in
+    went_on _ Has IfuncOrPlt _ _ c.refuse_at-5.ensures c.in_ok-refuse_at-5.was
+    (omega arith) before_13 c.lowest_ifunc_or_plt.ensures in
     let last = refused _ Has AlreadyMoved _ _ c.refuse_at-6.ensures (omega arith) before_14
     (c.lowest_already_moved.ensures elf (sym c.deref.ensures.value)) in
     refused-fault Has 15 c.refuse_at-6.result last

@@ -9,7 +9,8 @@ loop-low-init c = AreFound-begin _ c.args.lows.now _ (ap (map field) c.new-slots
 
 pub loop-low-preserved : goal.loop-low-preserved
 loop-low-preserved c =
-    AreFound-next _ c.args.lows.now c.loop-low.low-index _ _ _ _ c.loop-low-test.true (get_or_default _ _ _ _ c.loop-low-test.true)
+    AreFound-next _ c.args.lows.now c.loop-low.low-index _ _ _ _ c.loop-low-test.true
+    (get_or_default _ _ _ _ c.loop-low-test.true)
     (map-pushed field _ _ _ c.in_ok-push_found.ensures) c.slot_of.ensures.is c.slot_of.ensures.only c.loop-low.invariant
 
 pub returns : goal.returns

@@ -15,7 +15,8 @@ returns-in-Some-natural-clause-is c =
     let number = c.in-Some.number in
     let fits : FitsSigned w128 number = search rules in
     let slot = c.in-Some-natural.ensures.there ∙ to_z-of_z w128 number fits in
-    all-some _ (λ f entry. slot-made c.args.elf.now c.args.low.now number c.in-Some-natural.slot f c.in-Some.ensures.is slot entry)
+    all-some _
+    (λ f entry. slot-made c.args.elf.now c.args.low.now number c.in-Some-natural.slot f c.in-Some.ensures.is slot entry)
     c.named_field.ensures.is
 
 pub returns-in-Some-natural-clause-only : goal.returns-in-Some-natural-clause-only

@@ -5,4 +5,5 @@ use Rattle.rv_reloc.specs.Places.{IsPlaceOf}
 use Rattle.rv_reloc.proofs.ifunc.lowest_ifunc.Given as goal
 
 abbrev pub invariant-loop-symbol : goal.invariant-loop-symbol
-invariant-loop-symbol l = IsLowest (IsPlaceOf (λ x. x.value) (λ x. x.info % 16 ≡ STT_GNU_IFUNC) (take l.symbol-index l.symbols)) l.lowest
+invariant-loop-symbol l =
+    IsLowest (IsPlaceOf (λ x. x.value) (λ x. x.info % 16 ≡ STT_GNU_IFUNC) (take l.symbol-index l.symbols)) l.lowest

@@ -10,7 +10,8 @@ loop-relocation-init c = IsPlaceOf-begin _ _
 pub loop-relocation-preserved : goal.loop-relocation-preserved
 loop-relocation-preserved c =
     IsPlaceOf-next _ _ c.args.records.now c.loop-relocation.relocation-index _ _ _ _ _ _ c.loop-relocation-test.true
-    (get_or_default _ _ _ _ c.loop-relocation-test.true) c.lower-lowest.ensures c.loop-relocation.invariant c.place_if.ensures refl
+    (get_or_default _ _ _ _ c.loop-relocation-test.true) c.lower-lowest.ensures
+    c.loop-relocation.invariant c.place_if.ensures refl
     (eqb-true _ _, eq-eqb _ _)
 
 pub returns : goal.returns

@@ -9,7 +9,8 @@ loop-section-init c = IsPlaceOf-begin _ _
 pub loop-section-preserved : goal.loop-section-preserved
 loop-section-preserved c =
     IsPlaceOf-next _ _ c.args.sections.now c.loop-section.section-index _ _ _ _ _ _ c.loop-section-test.true
-    (get_or_default _ _ _ _ c.loop-section-test.true) c.lower-lowest.ensures c.loop-section.invariant c.place_if.ensures refl c.has_stubs.ensures
+    (get_or_default _ _ _ _ c.loop-section-test.true) c.lower-lowest.ensures c.loop-section.invariant c.place_if.ensures
+    refl c.has_stubs.ensures
 
 pub returns : goal.returns
 returns c =

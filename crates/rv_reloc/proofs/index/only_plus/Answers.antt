@@ -20,7 +20,8 @@ returns-clause-is c = λ elf are.
 pub returns-clause-only : goal.returns-clause-only
 returns-clause-only c = λ elf r are one.
     let (q, only, same) =
-    only-kept elf c.args.records.now c.args.place (plus_class (width_of c.args.width)) (is_plus c.args.place (width_of c.args.width))
+    only-kept elf c.args.records.now c.args.place (plus_class (width_of c.args.width))
+    (is_plus c.args.place (width_of c.args.width))
     (λ r. ap (λ (b : Bool). r.place == c.args.place && b) (plus-class r.kind (width_of c.args.width))) are r one in
     only-some seen r c.only.result q
     (c.only.ensures.only q

@@ -29,7 +29,8 @@ taken elf a half b low marked =
     by_mark b ∙ ap (λ (m : Bool). if m then 4 else 2) (marked ∙ ap (λ (r : ℕ). r == 3) same)
 
 done : (elf : Elf) (xs ys : List ℕ) (end a : ℕ) → end ≤ a → xs ++ starts_from elf end a ≡ ys → xs ≡ ys
-done elf xs ys end a past is = sym (append-nil xs) ∙ ap (λ (rest : List ℕ). xs ++ rest) (sym (starts_from-past elf end a past)) ∙ is
+done elf xs ys end a past is =
+    sym (append-nil xs) ∙ ap (λ (rest : List ℕ). xs ++ rest) (sym (starts_from-past elf end a past)) ∙ is
 
 pub loop-index-preserved : goal.loop-index-preserved
 loop-index-preserved c = λ elf are.
@@ -40,11 +41,13 @@ loop-index-preserved c = λ elf are.
     let long : 2 * c.halves_taken-index.result ≡ length_at elf (part.start + 2 * index) =
     ap (λ (n : ℕ). 2 * n) c.halves_taken-index.ensures
     ∙ taken elf (part.start + 2 * index) (slice_index c.args.halves.now index) _ (are.each index less) (c.requires.marks index) in
-    step elf _ _ part.end (part.start + 2 * index) (part.start + 2 * (index + c.halves_taken-index.result)) c.in_ok-push.ensures.items
+    step elf _ _ part.end (part.start + 2 * index)
+    (part.start + 2 * (index + c.halves_taken-index.result)) c.in_ok-push.ensures.items
     (omega arith) (omega arith)
     ∙ c.loop-index.invariant elf are
 
 pub returns : goal.returns
 returns c = λ elf are.
     let count = c.requires.count in
-    done elf _ _ c.args.part.now.end (c.args.part.now.start + 2 * c.loop-index.index) (omega arith) (c.loop-index.invariant elf are)
+    done elf _ _ c.args.part.now.end (c.args.part.now.start + 2 * c.loop-index.index) (omega arith)
+    (c.loop-index.invariant elf are)

@@ -9,7 +9,8 @@ use Rattle.rv_reloc.proofs.instructions.auipc_at.Goals as goal
 
 pub returns-in-Some-clause-there : goal.returns-in-Some-clause-there
 returns-in-Some-clause-there c =
-    subst (λ (o : Option Upper). IfSome o (λ u. IsFullAt c.args.elf.now c.args.address (Auipc u.rd u.imm))) (sym c.auipc_of.ensures)
+    subst (λ (o : Option Upper). IfSome o (λ u. IsFullAt c.args.elf.now c.args.address (Auipc u.rd u.imm)))
+    (sym c.auipc_of.ensures)
     (as_auipc (IsFullAt c.args.elf.now c.args.address) c.in-Some.inst c.in-Some.ensures.there)
 
 pub returns-in-Some-clause-only : goal.returns-in-Some-clause-only

@@ -27,7 +27,8 @@ returns-in-Some-loaded_number-clause-below t c =
 
 pub returns-in-None-loaded_number-clause-value : goal.returns-in-None-loaded_number-clause-value
 returns-in-None-loaded_number-clause-value t c =
-    number-no_rest c.args.elf.now c.args.address c.args.size (c.args.size - 1) (omega arith) (sym c.in-None-loaded_number.ensures.value)
+    number-no_rest c.args.elf.now c.args.address c.args.size (c.args.size - 1) (omega arith)
+    (sym c.in-None-loaded_number.ensures.value)
 
 pub returns-in-None-clause-value : goal.returns-in-None-clause-value
 returns-in-None-clause-value t c =

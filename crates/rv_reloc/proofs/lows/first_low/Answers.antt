@@ -11,6 +11,7 @@ returns-else-low-hi-clause-each c = λ l listed same.
     let bound = c.count_below-index.ensures.bound in
     let other = c.if-index-lows.false in
     let inside : index < length lows = omega arith in
-    absurd (first_other lows c.args.hi index l (slice_index_or lows index no_low) c.requires c.count_below-index.ensures.below inside
+    absurd (first_other lows c.args.hi index l
+    (slice_index_or lows index no_low) c.requires c.count_below-index.ensures.below inside
     (get_or_default lows index no_low (slice_index_or lows index no_low) inside)
     (c.count_below-index.ensures.above index no_low (omega arith) inside) c.if-low-hi.false listed same)

@@ -22,7 +22,8 @@ pub returns-in-None-lower_immediate-clause-only : goal.returns-in-None-lower_imm
 returns-in-None-lower_immediate-clause-only c = λ l is.
     let kind = c.args.relocation.now.kind in
     let inst = same_inst _ _ _ c.in-Some.is (c.full_at.ensures.only is.inst is.there) in
-    let e : None ≡ Some l.imm = sym c.in-None-lower_immediate.is ∙ c.lower_immediate.ensures ∙ ap (lower_immediate kind) (sym inst)
+    let e : None ≡ Some l.imm =
+    sym c.in-None-lower_immediate.is ∙ c.lower_immediate.ensures ∙ ap (lower_immediate kind) (sym inst)
     ∙ is.immediate in
     absurd (cc)
 

@@ -3,4 +3,5 @@ use Rattle.std.proofs.lemmas.List.Sorted.{IsNonDecreasingBy-from_sort_by_key}
 use Rattle.rv_reloc.proofs.lows.sort_lows.Goals as goal
 
 pub returns-clause-rising : goal.returns-clause-rising
-returns-clause-rising c = IsNonDecreasingBy-from_sort_by_key (λ l. l.hi) _ c.in_ok-sort_by_key.ensures.sorted (λ a r q k. search rules)
+returns-clause-rising c =
+    IsNonDecreasingBy-from_sort_by_key (λ l. l.hi) _ c.in_ok-sort_by_key.ensures.sorted (λ a r q k. search rules)

@@ -15,7 +15,8 @@ is_unfit-unfit-requires-clause-counts c =
 pub loop-relocation-preserved : goal.loop-relocation-preserved
 loop-relocation-preserved c =
     IsPlaceOf-next _ _ c.args.records.now c.loop-relocation.relocation-index _ _ _ _ _ _ c.loop-relocation-test.true
-    (get_or_default _ _ _ _ c.loop-relocation-test.true) c.lower-lowest.ensures c.loop-relocation.invariant c.place_if.ensures refl c.is_unfit-unfit.ensures
+    (get_or_default _ _ _ _ c.loop-relocation-test.true) c.lower-lowest.ensures c.loop-relocation.invariant c.place_if.ensures
+    refl c.is_unfit-unfit.ensures
 
 pub returns : goal.returns
 returns c =

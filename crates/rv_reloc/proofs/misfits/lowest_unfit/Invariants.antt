@@ -6,4 +6,5 @@ use Rattle.rv_reloc.specs.Records.{seen}
 use Rattle.rv_reloc.proofs.misfits.lowest_unfit.Given as goal
 
 abbrev pub invariant-loop-relocation : goal.invariant-loop-relocation
-invariant-loop-relocation l = IsLowest (IsPlaceOf (λ r. r.place) (λ r. IsUnfit l.elf (seen r)) (take l.relocation-index l.records)) l.lowest
+invariant-loop-relocation l =
+    IsLowest (IsPlaceOf (λ r. r.place) (λ r. IsUnfit l.elf (seen r)) (take l.relocation-index l.records)) l.lowest

@@ -6,13 +6,16 @@ use Rattle.rv_reloc.proofs.Finds.{AreFound-begin, AreFound-next, AreFound-all}
 use Rattle.rv_reloc.proofs.named.read_named.Goals as goal
 
 pub loop-relocation-init : goal.loop-relocation-init
-loop-relocation-init c = AreFound-begin (λ r a. NamesUpper c.args.elf.now (seen r) a) c.args.records.now _ c.new-named.ensures.items
+loop-relocation-init c =
+    AreFound-begin (λ r a. NamesUpper c.args.elf.now (seen r) a) c.args.records.now _ c.new-named.ensures.items
 
 pub loop-relocation-preserved : goal.loop-relocation-preserved
 loop-relocation-preserved c =
     AreFound-next
     (λ r a. NamesUpper c.args.elf.now
-    (seen r) a) c.args.records.now c.loop-relocation.relocation-index _ c.loop-relocation.named.items _ c.named_by.result c.loop-relocation-test.true (get_or_default _ _ _ _ c.loop-relocation-test.true) c.in_ok-push_found.ensures c.named_by.ensures.is c.named_by.ensures.only c.loop-relocation.invariant
+    (seen r) a) c.args.records.now c.loop-relocation.relocation-index _ c.loop-relocation.named.items _ c.named_by.result
+    c.loop-relocation-test.true (get_or_default _ _ _ _ c.loop-relocation-test.true) c.in_ok-push_found.ensures
+    c.named_by.ensures.is c.named_by.ensures.only c.loop-relocation.invariant
 
 pub returns : goal.returns
 returns c = AreFound-all (λ r a. NamesUpper c.args.elf.now (seen r) a) c.args.records.now c.loop-relocation.relocation-index _

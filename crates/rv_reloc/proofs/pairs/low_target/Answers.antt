@@ -18,7 +18,8 @@ returns-in-Some-clause-is c =
       rd = c.in-Some.auipc.rd;
       upper = c.in-Some.auipc.imm;
       auipc = c.in-Some.ensures.there;
-      target_is = kept _ _ _ _ _ _ _ (to_z-of_z w128 _ number) c.pair_target.ensures (to_z-of_z w64 _ upper) (to_z-of_z w64 _ lower);
+      target_is =
+          kept _ _ _ _ _ _ _ (to_z-of_z w128 _ number) c.pair_target.ensures (to_z-of_z w64 _ upper) (to_z-of_z w64 _ lower);
     }
 
 pub returns-in-Some-clause-only : goal.returns-in-Some-clause-only
@@ -27,7 +28,8 @@ returns-in-Some-clause-only c = λ z is.
     let upper : FitsSigned w64 c.in-Some.auipc.imm = search rules in
     let lower : FitsSigned w64 c.args.low.now.imm = search rules in
     let same = ap (λ (u : Upper). u.imm) (same_some _ _ _ c.in-Some.is (c.auipc_at.ensures.only is.rd is.upper is.auipc)) in
-    ap Some (kept _ _ _ _ _ _ _ (to_z-of_z w128 _ number) c.pair_target.ensures (to_z-of_z w64 _ upper ∙ same) (to_z-of_z w64 _ lower)
+    ap Some (kept _ _ _ _ _ _ _ (to_z-of_z w128 _ number) c.pair_target.ensures
+    (to_z-of_z w64 _ upper ∙ same) (to_z-of_z w64 _ lower)
     ∙ sym is.target_is)
 
 pub returns-in-None-clause-only : goal.returns-in-None-clause-only

@@ -26,6 +26,8 @@ pub returns-else-hold : goal.returns-else-hold
 returns-else-hold c =
     let in_code = (c.requires.code c.args.start).0 (c.hold.ensures.0 c.if-not-hold.false) in
     let (from, to) = c.requires.functions c.args.start c.args.end c.requires.stretch in
-    kept_if c.args.elf.now c.args.start c.args.end false c.are_zeros.result in_code
-    ((λ wrong. let no : false ≡ true = wrong in absurd (cc)), λ covered. clash _ (c.hold-2.ensures.1 (to covered)) c.if-hold.false)
+    kept_if c.args.elf.now c.args.start c.args.end false c.are_zeros.result in_code (
+      (λ wrong. let no : false ≡ true = wrong in absurd (cc)),
+      λ covered. clash _ (c.hold-2.ensures.1 (to covered)) c.if-hold.false,
+    )
     c.are_zeros.ensures

@@ -3,7 +3,7 @@ use Rattle.std.specs.List.{filter}
 use Rattle.elf_image.specs.declared.elf.Section.{Section}
 use Rattle.elf_image.specs.declared.elf.Elf.{Elf}
 use Rattle.elf_image.specs.declared.extent.Extent.{Extent}
-use Rattle.elf_image.specs.code.Cuts.{holds_code}
+use Rattle.elf_image.specs.file.Sections.{holds_code}
 use Rattle.elf_image.specs.code.Parts.{IsInCode}
 use Rattle.elf_image.specs.internal.Extents.{IsInOneExtent}
 use Rattle.rv_reloc.specs.declared.ranges.Ranges.{Ranges}
@@ -12,7 +12,7 @@ use Rattle.rv_reloc.proofs.RangeLists.{IsInOneExtent-code}
 use Rattle.rv_reloc.proofs.ranges.code_ranges.Goals as goal
 
 asked : {E : Type 0} (elf : Elf) (extents : List Extent) (r : Result Ranges E) →
-    extents ≡ map section_extent (filter holds_code elf.sections.items) →
+    extents ≡ map section_extent (filter (λ s. holds_code s.flags) elf.sections.items) →
     IfOk r (λ x. (a e : ℕ) → a < e → IsInOneExtent x.reaches.items a e ↔ IsInOneExtent extents a e) →
     IfOk r (λ x. (a : ℕ) → IsInOneExtent x.reaches.items a (a + 1) ↔ IsInCode elf a)
 asked elf extents (Ok x) are same = IsInOneExtent-code elf x.reaches.items extents same are
@@ -21,5 +21,5 @@ asked elf extents (Err e) are same = same
 pub returns : goal.returns
 returns c =
     let are = c.in_ok-section_extents.ensures
-    ∙ ap (λ (ss : List Section). map section_extent (filter holds_code ss)) c.deref.ensures.value in
+    ∙ ap (λ (ss : List Section). map section_extent (filter (λ s. holds_code s.flags) ss)) c.deref.ensures.value in
     asked c.args.elf.now _ c.new.result are c.new.ensures

@@ -16,4 +16,5 @@ pub returns : goal.returns
 returns c =
     let none = entries_from-none c.args.file.now c.args.section.now (c.args.start + RELA_SIZE * c.loop-index.index)
     (c.args.count - c.loop-index.index) (omega arith) in
-    sym (append-nil _) ∙ ap (λ (left : List Relocation). map seen c.loop-index.records.items ++ left) (sym none) ∙ c.loop-index.invariant
+    sym (append-nil _) ∙ ap (λ (left : List Relocation). map seen c.loop-index.records.items ++ left) (sym none)
+    ∙ c.loop-index.invariant

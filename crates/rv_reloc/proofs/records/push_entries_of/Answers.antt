@@ -8,5 +8,6 @@ pub returns-in-None : goal.returns-in-None
 returns-in-None c =
     let above = c.in-None.ensures.lookup.3 in
     let none = entries_of-missing c.args.elf.now c.args.table.now c.if-table-ne-SHT_RELA.false
-    (slice_get-none c.args.elf.now.sections.items c.args.table.now.info (let len = ap length c.deref.ensures.value in omega arith)) in
+    (slice_get-none c.args.elf.now.sections.items c.args.table.now.info
+    (let len = ap length c.deref.ensures.value in omega arith)) in
     sym (append-nil _) ∙ ap (λ (left : List Relocation). map seen c.args.records.now.items ++ left) (sym none)

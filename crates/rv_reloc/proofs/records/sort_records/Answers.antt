@@ -8,4 +8,5 @@ use Rattle.rv_reloc.proofs.records.sort_records.Goals as goal
 pub returns-clause-ordered : goal.returns-clause-ordered
 returns-clause-ordered c =
     AreInOrder-sorted _
-    (c.in_ok-sort_by_key.ensures.sorted (λ (x : Record). (x.place, class x.kind)) (answers_always _ _ _ (λ f a r f' k. search rules)))
+    (c.in_ok-sort_by_key.ensures.sorted (λ (x : Record). (x.place, class x.kind))
+    (answers_always _ _ _ (λ f a r f' k. search rules)))

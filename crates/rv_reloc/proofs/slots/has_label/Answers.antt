@@ -14,16 +14,19 @@ abbrev no_label : SlotLabel
 no_label = record { place = 0; label = pos 0 }
 
 -- where a label that is listed is, by what a search with a number that is the label said
-found : (items : List SlotLabel) (place : ℕ) (label z : ℤ) (n : ℕ) → z ≡ label → AllPairs (λ s t. IsLabelFrom s.place s.label t) items →
+found : (items : List SlotLabel) (place : ℕ) (label z : ℤ) (n : ℕ) → z ≡ label →
+    AllPairs (λ s t. IsLabelFrom s.place s.label t) items →
     n ≤ length items → ((k : ℕ) (d : SlotLabel) → k < n → IsLabelBelow place z (slice_index_or items k d)) →
     ((k : ℕ) (d : SlotLabel) → n ≤ k → k < length items → IsLabelFrom place z (slice_index_or items k d)) →
-    Contains items (record { place = place; label = label }) → (n < length items) × ((slice_index_or items n no_label).place ≡ place)
+    Contains items (record { place = place; label = label }) →
+    (n < length items) × ((slice_index_or items n no_label).place ≡ place)
     × ((slice_index_or items n no_label).label ≡ label)
 found items place label z n same ordered bound below above listed =
     let target : SlotLabel = record { place = place; label = label } in
     let (inside, at, low, high) = listed-first items place label n ordered bound
     (subst (λ (y : ℤ). (k : ℕ) (d : SlotLabel) → k < n → IsLabelBelow place y (slice_index_or items k d)) same below)
-    (subst (λ (y : ℤ). (k : ℕ) (d : SlotLabel) → n ≤ k → k < length items → IsLabelFrom place y (slice_index_or items k d)) same above)
+    (subst
+    (λ (y : ℤ). (k : ℕ) (d : SlotLabel) → n ≤ k → k < length items → IsLabelFrom place y (slice_index_or items k d)) same above)
     listed in
     let default = get_or_default items n no_label target inside in
     (inside, ap (λ (s : SlotLabel). s.place) default ∙ at, ap (λ (s : SlotLabel). s.label) default ∙ same_labels _ _ low high)
@@ -59,6 +62,7 @@ returns-then-found-place c = (
       let wanted : FitsSigned w128 c.args.label = search rules in
       let (inside, place, same) =
       found items c.args.place c.args.label _ n
-      (to_z-of_z w128 _ wanted) c.requires c.count_below-index.ensures.bound c.count_below-index.ensures.below c.count_below-index.ensures.above listed in
+      (to_z-of_z w128 _ wanted) c.requires c.count_below-index.ensures.bound c.count_below-index.ensures.below
+      c.count_below-index.ensures.above listed in
       absurd (c.if-found-place.true place),
 )

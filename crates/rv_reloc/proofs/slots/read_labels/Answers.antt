@@ -6,13 +6,16 @@ use Rattle.rv_reloc.proofs.Finds.{AreFound-begin, AreFound-next, AreFound-all}
 use Rattle.rv_reloc.proofs.slots.read_labels.Goals as goal
 
 pub loop-relocation-init : goal.loop-relocation-init
-loop-relocation-init c = AreFound-begin (λ r s. IsSlotLabelOf c.args.elf.now (seen r) s) c.args.records.now _ c.new-labels.ensures.items
+loop-relocation-init c =
+    AreFound-begin (λ r s. IsSlotLabelOf c.args.elf.now (seen r) s) c.args.records.now _ c.new-labels.ensures.items
 
 pub loop-relocation-preserved : goal.loop-relocation-preserved
 loop-relocation-preserved c =
     AreFound-next
     (λ r s. IsSlotLabelOf c.args.elf.now
-    (seen r) s) c.args.records.now c.loop-relocation.relocation-index _ c.loop-relocation.labels.items _ c.slot_label.result c.loop-relocation-test.true (get_or_default _ _ _ _ c.loop-relocation-test.true) c.in_ok-push_found.ensures c.slot_label.ensures.is c.slot_label.ensures.only c.loop-relocation.invariant
+    (seen r) s) c.args.records.now c.loop-relocation.relocation-index _ c.loop-relocation.labels.items _ c.slot_label.result
+    c.loop-relocation-test.true (get_or_default _ _ _ _ c.loop-relocation-test.true) c.in_ok-push_found.ensures
+    c.slot_label.ensures.is c.slot_label.ensures.only c.loop-relocation.invariant
 
 pub returns : goal.returns
 returns c = AreFound-all (λ r s. IsSlotLabelOf c.args.elf.now (seen r) s) c.args.records.now c.loop-relocation.relocation-index _

@@ -16,7 +16,8 @@ pub returns-in-Some-next : goal.returns-in-Some-next
 returns-in-Some-next c =
     let next = subst (λ (o : Option Tail). TailAt c.args.elf.now (c.args.address + 1) o) c.in-Some-next.is c.requires.next in
     tail-more _ _ _ c.in-Some-next.tail _
-    (sym c.in-Some.ensures.value) c.if-byte-lt128.false next c.longer_tail.ensures.end c.longer_tail.ensures.zeros c.longer_tail.ensures.ones
+    (sym c.in-Some.ensures.value) c.if-byte-lt128.false next c.longer_tail.ensures.end c.longer_tail.ensures.zeros
+    c.longer_tail.ensures.ones
 
 pub returns-in-None-next : goal.returns-in-None-next
 returns-in-None-next c =

@@ -13,7 +13,8 @@ has_call-call-requires c = c.requires.records.ordered
 pub returns-then-upper : goal.returns-then-upper
 returns-then-upper c =
     upper-auipc c.args.elf.now c.args.address true c.has_call-call.result (_, _, c.in-Some.ensures.there)
-    (subst (λ (b : Bool). IsTrue b ↔ HasRelocation c.args.elf.now (λ r. IsTrue (is_pcrel_hi r.kind)) c.args.address) c.if-upper.true
+    (subst
+    (λ (b : Bool). IsTrue b ↔ HasRelocation c.args.elf.now (λ r. IsTrue (is_pcrel_hi r.kind)) c.args.address) c.if-upper.true
     (c.has_upper-upper.ensures c.args.elf.now c.requires.records))
     (c.has_call-call.ensures c.args.elf.now c.requires.records)
 

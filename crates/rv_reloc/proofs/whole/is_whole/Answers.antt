@@ -13,5 +13,6 @@ returns c = λ tabled same.
     let (out, back) = c.starts_in.ensures.members a in
     ((λ listed. to (out listed)), λ starts. back (from starts)) in
     let (to, from) =
-    IsWholePart-starts elf tabled part.start part.end c.args.ranges.now.reaches.items c.starts_in.result.now c.requires.part inside same in
+    IsWholePart-starts elf tabled part.start part.end c.args.ranges.now.reaches.items c.starts_in.result.now
+    c.requires.part inside same in
     ((λ is. to (c.any_held.ensures.0 is)), λ whole. c.any_held.ensures.1 (from whole))

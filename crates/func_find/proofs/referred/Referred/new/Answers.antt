@@ -19,7 +19,10 @@ returns c = λ tabled refers.
     let four = c.push_cells.new.addresses.items in
     let first = c.in_ok-push.ensures.items ∙ ap (λ (xs : List ℕ). xs ++ elf.entry ∷ []) c.new-addresses.ensures.items in
     let roles = subst
-    (λ (rs : List (ℕ × Role)). Gains two three (λ a. Any (λ r. RoleNames r.1 a) rs)) c.deref.ensures.value c.in_ok-push_roles.ensures in
+    (λ (rs : List (ℕ × Role)). Gains two three (λ a. Any (λ r. RoleNames r.1 a) rs)) c.deref.ensures.value
+    c.in_ok-push_roles.ensures in
     let cells = subst
-    (λ (cs : List CodeCell). Gains three four (λ a. Any (λ x. CellNames x a) cs)) c.deref-2.ensures.value c.in_ok-push_cells.ensures in
-    AreReferred-lists elf tabled c.args.parts.now c.args.refs.now _ two three four _ c.requires.parts refers first c.in_ok-push_targets.ensures roles cells c.make_ascending.ensures.same
+    (λ (cs : List CodeCell). Gains three four (λ a. Any (λ x. CellNames x a) cs)) c.deref-2.ensures.value
+    c.in_ok-push_cells.ensures in
+    AreReferred-lists elf tabled c.args.parts.now c.args.refs.now _ two three four _ c.requires.parts refers first
+    c.in_ok-push_targets.ensures roles cells c.make_ascending.ensures.same
