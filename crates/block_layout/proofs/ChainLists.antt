@@ -45,7 +45,8 @@ same_chain {p} {h} {xs} {ys} one other =
     (cases_lt (length ys) (length xs)))
     (cases_lt (length xs) (length ys)) in
     same_lists xs ys long
-    (λ k d within. get_or_default xs k d 0 within ∙ same_at one other k within (omega arith) ∙ get_or_default ys k 0 d (omega arith))
+    (λ k d within. get_or_default xs k d 0 within ∙ same_at one other k within (omega arith)
+    ∙ get_or_default ys k 0 d (omega arith))
 
 pub chain_inside : (n : ℕ) (p : Links) (h : ℕ) (xs : List ℕ) → AreBetween n p → h < n → IsChain p h xs → All (λ k. k < n) xs
 chain_inside n p h xs between below chain k d within =
@@ -63,7 +64,8 @@ pub record AreHotTo (p : Links) (weight : ℕ → ℕ) (start end : ℕ) (chains
 none_in : {X : Type 0} (x : X) → Contains [] x → ⊥
 none_in x (k, within, is) = omega arith
 
-pub hot_none : (p : Links) (weight : ℕ → ℕ) (start : ℕ) (chains : List HotChain) → chains ≡ [] → AreHotTo p weight start (start + 1) chains
+pub hot_none : (p : Links) (weight : ℕ → ℕ) (start : ℕ) (chains : List HotChain) → chains ≡ [] →
+    AreHotTo p weight start (start + 1) chains
 hot_none p weight start chains none = subst (λ (cs : List HotChain). AreHotTo p weight start (start + 1) cs) (sym none) (record {
   only = λ c is. absurd (none_in c is);
   each = λ h xs after before is hot. absurd (omega arith);
@@ -72,7 +74,13 @@ hot_none p weight start chains none = subst (λ (cs : List HotChain). AreHotTo p
 
 module _ {p : Links} {weight : ℕ → ℕ} {start h : ℕ} {chains : List HotChain} (was : AreHotTo p weight start h chains) where
   still : (c : HotChain) → IsHotBetween p weight start h c → IsHotBetween p weight start (h + 1) c
-  still c is = record { after = is.after; before = let b = is.before in omega arith; chain = is.chain; weight_is = is.weight_is; hot = is.hot }
+  still c is = record {
+    after = is.after;
+    before = let b = is.before in omega arith;
+    chain = is.chain;
+    weight_is = is.weight_is;
+    hot = is.hot;
+  }
 
   -- no hot chain begins here
   pub hot_skip : ((xs : List ℕ) → IsChain p h xs → 0 < greatest weight xs → ⊥) → AreHotTo p weight start (h + 1) chains
@@ -86,17 +94,19 @@ module _ {p : Links} {weight : ℕ → ℕ} {start h : ℕ} {chains : List HotCh
   }
 
   -- a hot chain begins here
-  pub hot_more : (c : HotChain) → start < h → c.head ≡ h → IsChain p h c.blocks.items → c.weight ≡ greatest weight c.blocks.items → 0 < c.weight
-      → AreHotTo p weight start (h + 1) (chains ++ c ∷ [])
+  pub hot_more : (c : HotChain) → start < h → c.head ≡ h → IsChain p h c.blocks.items
+      → c.weight ≡ greatest weight c.blocks.items → 0 < c.weight → AreHotTo p weight start (h + 1) (chains ++ c ∷ [])
   hot_more c after at is heavy hot = record {
     only = λ d listed. ⊎_elim
         (λ old. still d (was.only d old))
         (λ (same : c ≡ d). subst (λ (e : HotChain). IsHotBetween p weight start (h + 1) e) same own)
         (Contains-push_cases chains c d listed);
     each = λ g xs after' before is' hot'.
-        let more : heads (chains ++ c ∷ []) ≡ heads chains ++ c.head ∷ [] = map-append (λ (d : HotChain). d.head) chains (c ∷ []) in
+        let more : heads (chains ++ c ∷ []) ≡ heads chains ++ c.head ∷ [] =
+        map-append (λ (d : HotChain). d.head) chains (c ∷ []) in
         subst (λ (hs : List ℕ). Contains hs g) (sym more) (⊎_elim
-        (λ (same : g ≡ h). subst (λ (k : ℕ). Contains (heads chains ++ c.head ∷ []) k) (at ∙ sym same) (Contains-push (heads chains) c.head))
+        (λ (same : g ≡ h). subst (λ (k : ℕ). Contains (heads chains ++ c.head ∷ []) k) (at ∙ sym same)
+        (Contains-push (heads chains) c.head))
         (λ (other : g ≢ h). Contains-append_left (heads chains) (c.head ∷ []) g (was.each g xs after' (omega arith) is' hot'))
         (cases_eq g h));
     rise = all_pairs_push (λ x y. x.head < y.head) chains c was.rise
@@ -104,14 +114,21 @@ module _ {p : Links} {weight : ℕ → ℕ} {start h : ℕ} {chains : List HotCh
   }
     where
       own : IsHotBetween p weight start (h + 1) c
-      own = record { after = omega arith; before = omega arith; chain = subst (λ (k : ℕ). IsChain p k c.blocks.items) (sym at) is; weight_is = heavy; hot = hot }
+      own = record {
+        after = omega arith;
+        before = omega arith;
+        chain = subst (λ (k : ℕ). IsChain p k c.blocks.items) (sym at) is;
+        weight_is = heavy;
+        hot = hot;
+      }
 
-pub hot_all : {p : Links} {weight : ℕ → ℕ} {start end : ℕ} {old new : List HotChain} → AreHotTo p weight start end old → IsPermutation old new
-    → AreHotBetween p weight start end new
+pub hot_all : {p : Links} {weight : ℕ → ℕ} {start end : ℕ} {old new : List HotChain}
+    → AreHotTo p weight start end old → IsPermutation old new → AreHotBetween p weight start end new
 hot_all {old = old} {new = new} are moved = record {
   only = λ c listed. are.only c (Contains-permutation new old c (IsPermutation-sym old new moved) listed);
   each = λ h xs after before is hot.
-      Contains-permutation (heads old) (heads new) h (IsPermutation-map (λ (c : HotChain). c.head) old new moved) (are.each h xs after before is hot);
+      Contains-permutation (heads old) (heads new) h (IsPermutation-map (λ (c : HotChain). c.head) old new moved)
+      (are.each h xs after before is hot);
   apart = AllPairs-permutation (λ c d. (c.head ≡ d.head) → ⊥) (λ c d other same. other (sym same)) old new moved
       (λ i j d less within same. let up = are.rise i j d less within in omega arith);
 }
@@ -126,7 +143,8 @@ from_cmp c d is = ⊎_elim
     (λ (not' : c.weight ≤ d.weight).
     let same : c.weight ≡ d.weight = omega arith in
     ⊎_elim
-    (λ (low : d.head < c.head). let t : true ≡ false = rw (le-ltb c.weight d.weight more, eq-eqb c.weight d.weight same, lt-ltb d.head c.head low) at is in absurd (cc))
+    (λ (low : d.head < c.head). let t : true ≡ false = rw
+    (le-ltb c.weight d.weight more, eq-eqb c.weight d.weight same, lt-ltb d.head c.head low) at is in absurd (cc))
     (λ (high : c.head ≤ d.head). inr (same, high))
     (cases_lt d.head c.head))
     (cases_lt d.weight c.weight))
@@ -144,17 +162,20 @@ chain_up xs next zero i j d gap within =
     let e : i + 1 ≡ j = omega arith in
     subst (λ (k : ℕ). IsUpTo (get_or xs i d) (get_or xs k d)) e (next i d (omega arith))
 chain_up xs next (suc n) i j d gap within =
-    up_trans (get_or xs i d) (get_or xs (i + 1) d) (get_or xs j d) (next i d (omega arith)) (chain_up xs next n (i + 1) j d (omega arith) within)
+    up_trans (get_or xs i d) (get_or xs (i + 1) d) (get_or xs j d) (next i d (omega arith))
+    (chain_up xs next n (i + 1) j d (omega arith) within)
 
 pub chains-sorted : (xs : List HotChain)
     → ((k : ℕ) (d : HotChain) → 0 ≤ k → k + 1 < length xs
-    → is_lt (ordering_then (nat_cmp (get_or xs k d).weight (get_or xs (k + 1) d).weight) (nat_cmp (get_or xs (k + 1) d).head (get_or xs k d).head)) ≡ false)
-    → AllPairs IsUpTo xs
+    → is_lt (ordering_then (nat_cmp (get_or xs k d).weight (get_or xs (k + 1) d).weight)
+    (nat_cmp (get_or xs (k + 1) d).head (get_or xs k d).head)) ≡ false) → AllPairs IsUpTo xs
 chains-sorted xs sorted i j d less within =
-    chain_up xs (λ k e inside. from_cmp (get_or xs k e) (get_or xs (k + 1) e) (sorted k e (omega arith) inside)) (j - i - 1) i j d (omega arith) within
+    chain_up xs (λ k e inside. from_cmp (get_or xs k e) (get_or xs (k + 1) e) (sorted k e (omega arith) inside))
+    (j - i - 1) i j d (omega arith) within
 
 -- one list more among joined ones
 pub flat_more : (f : HotChain → List ℕ) (xs : List HotChain) (i : ℕ) (d : HotChain) → i < length xs
     → flat_map f (take (i + 1) xs) ≡ flat_map f (take i xs) ++ f (get_or xs i d)
 flat_more f xs i d within =
-    ap (flat_map f) (take_more xs i d within) ∙ flat_map-append f (take i xs) (get_or xs i d ∷ []) ∙ ap (λ ys. flat_map f (take i xs) ++ ys) (append-nil (f (get_or xs i d)))
+    ap (flat_map f) (take_more xs i d within) ∙ flat_map-append f (take i xs) (get_or xs i d ∷ [])
+    ∙ ap (λ ys. flat_map f (take i xs) ++ ys) (append-nil (f (get_or xs i d)))

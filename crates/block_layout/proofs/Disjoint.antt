@@ -19,8 +19,8 @@ use Rattle.block_layout.proofs.Paths.{IsPath, IsWithin, as_path, meet, once}
 use Rattle.block_layout.proofs.Starting.{nothing, IsOf-within}
 use Rattle.block_layout.proofs.Firsts.{IsOf-get_or, get_or-IsOf}
 
-meet_first : {n : ℕ} {p : Links} {g h : ℕ} {xs ys : List ℕ} → IsWithin n p → p.prev g ≡ None → IsPath p g xs → IsPath p h ys → (i m : ℕ) → i ≤ m → i < length xs → m < length ys
-    → get_or xs i 0 ≡ get_or ys m 0 → g ≡ h
+meet_first : {n : ℕ} {p : Links} {g h : ℕ} {xs ys : List ℕ} → IsWithin n p → p.prev g ≡ None → IsPath p g xs → IsPath p h ys
+    → (i m : ℕ) → i ≤ m → i < length xs → m < length ys → get_or xs i 0 ≡ get_or ys m 0 → g ≡ h
 meet_first {n} {p} {g} {h} {xs} {ys} w none a b i m le ix my e =
     let at : get_or ys (m - i) 0 ≡ g = meet w none a b i m le ix my e in
     ⊎_elim
@@ -45,7 +45,10 @@ in_one : (cs : List HotChain) (z : ℕ) → Contains (flat_map (λ c. c.blocks.i
 in_one [] z listed = absurd (none_in z listed)
 in_one (c ∷ cs) z listed = ⊎_elim
     (λ first. record { chain = c; place = 0; inside = omega arith; is = refl; has = first })
-    (λ later. let rest = in_one cs z later in let inside' = rest.inside in record { chain = rest.chain; place = suc rest.place; inside = omega arith; is = rest.is; has = rest.has })
+    (λ later.
+    let rest = in_one cs z later in
+    let inside' = rest.inside in
+    record { chain = rest.chain; place = suc rest.place; inside = omega arith; is = rest.is; has = rest.has })
     (Contains-append_cases c.blocks.items (flat_map (λ d. d.blocks.items) cs) z listed)
 
 module _ (n : ℕ) (p : Links) (links : AreBetween n p) where
@@ -66,26 +69,30 @@ module _ (n : ℕ) (p : Links) (links : AreBetween n p) where
       (λ (le : i ≤ m). meet_first within a.first (as_path a) (as_path b) i m le ix my e)
       (cases_lt m i)
 
-  distinct_joined : (cs : List HotChain) → All (λ c. IsChain p c.head c.blocks.items) cs → AllPairs (λ c d. (c.head ≡ d.head) → ⊥) cs → Distinct (flat_map (λ c. c.blocks.items) cs)
+  distinct_joined : (cs : List HotChain) → All (λ c. IsChain p c.head c.blocks.items) cs →
+      AllPairs (λ c d. (c.head ≡ d.head) → ⊥) cs → Distinct (flat_map (λ c. c.blocks.items) cs)
   distinct_joined [] all apart = λ i j d less inside. absurd (omega arith)
   distinct_joined (c ∷ cs) all apart =
       let own = All-head (λ (d : HotChain). IsChain p d.head d.blocks.items) c cs all in
       distinct_append c.blocks.items (flat_map (λ d. d.blocks.items) cs) (distinct_chain c.head c.blocks.items own)
-      (distinct_joined cs (All-tail (λ (d : HotChain). IsChain p d.head d.blocks.items) c cs all) (λ i j d less inside. apart (suc i) (suc j) d (omega arith) (omega arith)))
+      (distinct_joined cs (All-tail (λ (d : HotChain). IsChain p d.head d.blocks.items) c cs all)
+      (λ i j d less inside. apart (suc i) (suc j) d (omega arith) (omega arith)))
       (λ z first later.
       let other = in_one cs z later in
       let inside' = other.inside in
       let chain : IsChain p other.chain.head other.chain.blocks.items =
       subst (λ (d : HotChain). IsChain p d.head d.blocks.items) other.is (all (suc other.place) other.chain (omega arith)) in
       let differ : (c.head ≡ other.chain.head) → ⊥ =
-      subst (λ (d : HotChain). (c.head ≡ d.head) → ⊥) other.is (apart 0 (suc other.place) other.chain (omega arith) (omega arith)) in
+      subst (λ (d : HotChain). (c.head ≡ d.head) → ⊥) other.is
+      (apart 0 (suc other.place) other.chain (omega arith) (omega arith)) in
       differ (one_chain c.head other.chain.head c.blocks.items other.chain.blocks.items own chain z first other.has))
 
   pub distinct_hot : (weight : ℕ → ℕ) (start end : ℕ) (part : List ℕ) → IsHotList p weight start end part → Distinct part
   distinct_hot weight start end part is =
       subst Distinct (sym is.part_is)
       (distinct_append is.first (flat_map (λ c. c.blocks.items) is.others) (distinct_chain start is.first is.first_is)
-      (distinct_joined is.others (λ k d inside. (is.chains.only (get_or is.others k d) (Contains-get_or is.others k d inside)).chain) is.chains.apart)
+      (distinct_joined is.others
+      (λ k d inside. (is.chains.only (get_or is.others k d) (Contains-get_or is.others k d inside)).chain) is.chains.apart)
       (λ z first later.
       let other = in_one is.others z later in
       let c = is.chains.only other.chain (other.place, other.inside, other.is) in
@@ -94,22 +101,29 @@ module _ (n : ℕ) (p : Links) (links : AreBetween n p) where
       omega arith))
 
 -- the test that a block is of a function
-of_test : (blocks : List Block) (f k : ℕ) → IsOf blocks f k → (option_map_or (λ (b : Block). b.func) (slice_get blocks k) 0 == f) ≡ true
+of_test : (blocks : List Block) (f k : ℕ) → IsOf blocks f k →
+    (option_map_or (λ (b : Block). b.func) (slice_get blocks k) 0 == f) ≡ true
 of_test blocks f k is =
     let inside = IsOf-within blocks f k is in
     let own = get_or-IsOf blocks f k nothing inside is in
-    eq-eqb (option_map_or (λ (b : Block). b.func) (slice_get blocks k) 0) f (ap (λ (o : Option Block). option_map_or (λ (b : Block). b.func) o 0) (slice_get-get_or blocks k nothing inside) ∙ own)
+    eq-eqb (option_map_or (λ (b : Block). b.func) (slice_get blocks k) 0) f
+    (ap (λ (o : Option Block). option_map_or (λ (b : Block). b.func) o 0) (slice_get-get_or blocks k nothing inside) ∙ own)
 
-of_from_test : (blocks : List Block) (f k : ℕ) → k < length blocks → (option_map_or (λ (b : Block). b.func) (slice_get blocks k) 0 == f) ≡ true → IsOf blocks f k
+of_from_test : (blocks : List Block) (f k : ℕ) → k < length blocks →
+    (option_map_or (λ (b : Block). b.func) (slice_get blocks k) 0 == f) ≡ true → IsOf blocks f k
 of_from_test blocks f k inside test =
     let own = eqb-true (option_map_or (λ (b : Block). b.func) (slice_get blocks k) 0) f test in
-    IsOf-get_or blocks f k nothing inside (sym (ap (λ (o : Option Block). option_map_or (λ (b : Block). b.func) o 0) (slice_get-get_or blocks k nothing inside)) ∙ own)
+    IsOf-get_or blocks f k nothing inside
+    (sym (ap (λ (o : Option Block). option_map_or (λ (b : Block). b.func) o 0) (slice_get-get_or blocks k nothing inside)) ∙ own)
 
-pub all_blocks : (n : ℕ) (p : Links) → AreBetween n p → (blocks : List Block) (weight : ℕ → ℕ) (f start end : ℕ) → AreFrom blocks f start end → (hot cold : List ℕ)
+pub all_blocks : (n : ℕ) (p : Links) → AreBetween n p → (blocks : List Block) (weight : ℕ → ℕ) (f start end : ℕ)
+    → AreFrom blocks f start end → (hot cold : List ℕ)
     → IsHotOrEmpty p weight start end hot → All (λ k. (start ≤ k) × (k < end)) hot
-    → ListsNumbers (λ k. ((start ≤ k) × (k < end)) × (Contains hot k → ⊥)) cold → IsPermutation (blocks_of_function blocks f) (hot ++ cold)
+    → ListsNumbers (λ k. ((start ≤ k) × (k < end)) × (Contains hot k → ⊥)) cold
+    → IsPermutation (blocks_of_function blocks f) (hot ++ cold)
 all_blocks n p links blocks weight f start end from hot cold is between left =
-    same_members (blocks_of_function blocks f) (hot ++ cold) (distinct_filter (λ k. option_map_or (λ b. b.func) (slice_get blocks k) 0 == f) (length blocks))
+    same_members (blocks_of_function blocks f) (hot ++ cold)
+    (distinct_filter (λ k. option_map_or (λ b. b.func) (slice_get blocks k) 0 == f) (length blocks))
     (distinct_append hot cold hot_once cold_once (λ z in_hot in_cold. (left.only z in_cold).1 in_hot)) to back
   where
     hot_once : Distinct hot
@@ -123,7 +137,8 @@ all_blocks n p links blocks weight f start end from hot cold is between left =
 
     to : (z : ℕ) → Contains (blocks_of_function blocks f) z → Contains (hot ++ cold) z
     to z listed =
-        let passes = from_filter (λ k. option_map_or (λ b. b.func) (slice_get blocks k) 0 == f) (range_with_len 0 (length blocks)) z listed in
+        let passes =
+        from_filter (λ k. option_map_or (λ b. b.func) (slice_get blocks k) 0 == f) (range_with_len 0 (length blocks)) z listed in
         let own = of_from_test blocks f z (from_range (length blocks) z passes.0) passes.1 in
         ⊎_elim
         (λ in_hot. Contains-append_left hot cold z in_hot)

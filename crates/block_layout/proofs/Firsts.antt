@@ -10,16 +10,21 @@ use Rattle.block_layout.specs.Parts.{IsOf, IsFirstBlock}
 
 -- the block at a place of a list
 pub IsOf-get_or : (blocks : List Block) (f k : ℕ) (d : Block) → k < length blocks → (get_or blocks k d).func ≡ f → IsOf blocks f k
-IsOf-get_or blocks f k d within is = subst (λ (o : Option Block). IsSomeAnd o (λ b. b.func ≡ f)) (sym (slice_get-get_or blocks k d within)) is
+IsOf-get_or blocks f k d within is =
+    subst (λ (o : Option Block). IsSomeAnd o (λ b. b.func ≡ f)) (sym (slice_get-get_or blocks k d within)) is
 
 pub get_or-IsOf : (blocks : List Block) (f k : ℕ) (d : Block) → k < length blocks → IsOf blocks f k → (get_or blocks k d).func ≡ f
-get_or-IsOf blocks f k d within is = subst (λ (o : Option Block). IsSomeAnd o (λ b. b.func ≡ f)) (slice_get-get_or blocks k d within) is
+get_or-IsOf blocks f k d within is =
+    subst (λ (o : Option Block). IsSomeAnd o (λ b. b.func ≡ f)) (slice_get-get_or blocks k d within) is
 
 -- functions rise along the blocks
-pub funcs_rise : (blocks : List Block) → AreApart blocks → (i j : ℕ) (d : Block) → i ≤ j → j < length blocks → (get_or blocks i d).func ≤ (get_or blocks j d).func
+pub funcs_rise : (blocks : List Block) → AreApart blocks → (i j : ℕ) (d : Block) → i ≤ j → j < length blocks →
+    (get_or blocks i d).func ≤ (get_or blocks j d).func
 funcs_rise blocks apart i j d le within = ⊎_elim
     (λ (less : i < j). up (get_or blocks i d) (get_or blocks j d) (apart.ordered i j d less within))
-    (λ (more : j ≤ i). let same : i ≡ j = omega arith in subst (λ (k : ℕ). (get_or blocks i d).func ≤ (get_or blocks k d).func) same (omega arith))
+    (λ (more : j ≤ i).
+    let same : i ≡ j = omega arith in
+    subst (λ (k : ℕ). (get_or blocks i d).func ≤ (get_or blocks k d).func) same (omega arith))
     (cases_lt i j)
   where
     up : (b c : Block) → IsApart b c → b.func ≤ c.func
@@ -28,10 +33,12 @@ funcs_rise blocks apart i j d le within = ⊎_elim
 
 module _ (blocks : List Block) (apart : AreApart blocks) (k : ℕ) (d e : Block) (within : k < length blocks) where
   first_is : ((j : ℕ) → j < k → IsOf blocks (get_or blocks k d).func j → ⊥) → IsFirstBlock blocks k
-  first_is none = subst (λ (o : Option Block). IsSomeAnd o (λ b. (j : ℕ) → j < k → IsOf blocks b.func j → ⊥)) (sym (slice_get-get_or blocks k d within)) none
+  first_is none = subst (λ (o : Option Block). IsSomeAnd o (λ b. (j : ℕ) → j < k → IsOf blocks b.func j → ⊥))
+      (sym (slice_get-get_or blocks k d within)) none
 
   first_of : IsFirstBlock blocks k → (j : ℕ) → j < k → IsOf blocks (get_or blocks k d).func j → ⊥
-  first_of is = subst (λ (o : Option Block). IsSomeAnd o (λ b. (j : ℕ) → j < k → IsOf blocks b.func j → ⊥)) (slice_get-get_or blocks k d within) is
+  first_of is = subst (λ (o : Option Block). IsSomeAnd o (λ b. (j : ℕ) → j < k → IsOf blocks b.func j → ⊥))
+      (slice_get-get_or blocks k d within) is
 
   pub first_block_at_start : k ≡ 0 → IsFirstBlock blocks k
   first_block_at_start start = first_is (λ j less is. absurd (omega arith))
@@ -41,15 +48,20 @@ module _ (blocks : List Block) (apart : AreApart blocks) (k : ℕ) (d e : Block)
       let own = get_or-IsOf blocks (get_or blocks k d).func j e (omega arith) is in
       let up = funcs_rise blocks apart j (k - 1) e (omega arith) (omega arith) in
       let up' = funcs_rise blocks apart (k - 1) k e (omega arith) within in
-      let same : (get_or blocks k e).func ≡ (get_or blocks k d).func = ap (λ (b : Block). b.func) (get_or_default blocks k e d within) in
+      let same : (get_or blocks k e).func ≡ (get_or blocks k d).func =
+      ap (λ (b : Block). b.func) (get_or_default blocks k e d within) in
       other (omega (arith, own, up, up', same)))
 
   pub not_first_after : 0 < k → (get_or blocks (k - 1) e).func ≡ (get_or blocks k d).func → IsFirstBlock blocks k → ⊥
-  not_first_after some same is = first_of is (k - 1) (omega arith) (IsOf-get_or blocks (get_or blocks k d).func (k - 1) e (omega arith) same)
+  not_first_after some same is =
+      first_of is (k - 1) (omega arith) (IsOf-get_or blocks (get_or blocks k d).func (k - 1) e (omega arith) same)
 
-  pub first_block_test : 0 < k → (IsTrue (not ((get_or blocks (k - 1) e).func == (get_or blocks k d).func))) ↔ IsFirstBlock blocks k
+  pub first_block_test : 0 < k →
+      (IsTrue (not ((get_or blocks (k - 1) e).func == (get_or blocks k d).func))) ↔ IsFirstBlock blocks k
   first_block_test some = (
-    (λ other. first_block_after some (λ same. let t = eq-eqb (get_or blocks (k - 1) e).func (get_or blocks k d).func same in absurd (both (get_or blocks (k - 1) e).func (get_or blocks k d).func t other))),
+    (λ other. first_block_after some (λ same.
+        let t = eq-eqb (get_or blocks (k - 1) e).func (get_or blocks k d).func same in
+        absurd (both (get_or blocks (k - 1) e).func (get_or blocks k d).func t other))),
     (λ is. ap not (ne_eqb (get_or blocks (k - 1) e).func (get_or blocks k d).func (λ same. not_first_after some same is))),
   )
     where

@@ -14,17 +14,23 @@ pub record AreMarked (hot : List ℕ) (i start n : ℕ) (marks : List Bool) : Ty
 none_in : (x : ℕ) → Contains [] x → ⊥
 none_in x (k, within, is) = omega arith
 
-pub marked_none : (hot : List ℕ) (start n : ℕ) (marks : List Bool) → length marks ≡ n → ((k : ℕ) → k < n → get_or marks k false ≡ false) → AreMarked hot 0 start n marks
+pub marked_none : (hot : List ℕ) (start n : ℕ) (marks : List Bool) → length marks ≡ n →
+    ((k : ℕ) → k < n → get_or marks k false ≡ false) → AreMarked hot 0 start n marks
 marked_none hot start n marks long none = record {
   long = long;
   marked = λ k within. ((λ is. let f = none k within in absurd (cc)), (λ listed. absurd (none_in (start + k) listed)));
 }
 
-pub marked_more : (hot : List ℕ) (i d start n : ℕ) (marks : List Bool) → i < length hot → start ≤ get_or hot i d → get_or hot i d - start < n
+pub marked_more : (hot : List ℕ) (i d start n : ℕ) (marks : List Bool) → i < length hot → start ≤ get_or hot i d
+    → get_or hot i d - start < n
     → AreMarked hot i start n marks → AreMarked hot (i + 1) start n (set marks (get_or hot i d - start) true)
 marked_more hot i d start n marks within from to was = record {
   long = let same : length (set marks (get_or hot i d - start) true) ≡ length marks = simp length-set in same ∙ was.long;
-  marked = λ k inside. ((λ is. ⊎_elim (λ (same : k ≡ x - start). at_x k same) (λ (other : k ≢ x - start). old k inside other is) (cases_eq k (x - start))), back k inside);
+  marked = λ k inside. (
+    (λ is. ⊎_elim (λ (same : k ≡ x - start). at_x k same) (λ (other : k ≢ x - start). old k inside other is)
+        (cases_eq k (x - start))),
+    back k inside,
+  );
 }
   where
     x : ℕ
@@ -39,9 +45,11 @@ marked_more hot i d start n marks within from to was = record {
     at_x : (k : ℕ) → k ≡ x - start → Contains (take (i + 1) hot) (start + k)
     at_x k same =
         let is : x ≡ start + k = omega arith in
-        subst (λ (hs : List ℕ). Contains hs (start + k)) (sym more) (subst (λ (y : ℕ). Contains (take i hot ++ x ∷ []) y) is (Contains-push (take i hot) x))
+        subst (λ (hs : List ℕ). Contains hs (start + k)) (sym more)
+        (subst (λ (y : ℕ). Contains (take i hot ++ x ∷ []) y) is (Contains-push (take i hot) x))
 
-    old : (k : ℕ) → k < n → k ≢ x - start → IsTrue (get_or (set marks (x - start) true) k false) → Contains (take (i + 1) hot) (start + k)
+    old : (k : ℕ) → k < n → k ≢ x - start → IsTrue (get_or (set marks (x - start) true) k false) →
+        Contains (take (i + 1) hot) (start + k)
     old k inside other is =
         let same = get_or-set_other marks (x - start) k true false other in
         subst (λ (hs : List ℕ). Contains hs (start + k)) (sym more)
@@ -49,7 +57,8 @@ marked_more hot i d start n marks within from to was = record {
 
     back : (k : ℕ) → k < n → Contains (take (i + 1) hot) (start + k) → IsTrue (get_or (set marks (x - start) true) k false)
     back k inside listed = ⊎_elim
-        (λ (same : k ≡ x - start). subst (λ (j : ℕ). IsTrue (get_or (set marks (x - start) true) j false)) (sym same) (get_or-set_same marks (x - start) true false there))
+        (λ (same : k ≡ x - start). subst (λ (j : ℕ). IsTrue (get_or (set marks (x - start) true) j false)) (sym same)
+        (get_or-set_same marks (x - start) true false there))
         (λ (other : k ≢ x - start).
         let kept = get_or-set_other marks (x - start) k true false other in
         subst IsTrue (sym kept) ((was.marked k inside).1 (⊎_elim
@@ -88,7 +97,9 @@ module _ (hot : List ℕ) (start n : ℕ) (part : List ℕ) (was : ListsNumbers 
         (Contains-push_cases part n k listed);
     each = λ k left. ⊎_elim
         (λ (same : k ≡ n). subst (Contains (part ++ n ∷ [])) (sym same) (Contains-push part n))
-        (λ (other : k ≢ n). Contains-append_left part (n ∷ []) k (was.each k ((left.0.0, let h = left.0.1 in omega arith), left.1)))
+        (λ (other : k ≢ n). Contains-append_left part (n ∷ []) k
+        (was.each k ((left.0.0, let h = left.0.1 in omega arith), left.1)))
         (cases_eq k n);
-    ordered = all_pairs_push (λ a b. a < b) part n was.ordered (λ k d within. (was.only (get_or part k d) (Contains-get_or part k d within)).0.1);
+    ordered = all_pairs_push (λ a b. a < b) part n was.ordered
+        (λ k d within. (was.only (get_or part k d) (Contains-get_or part k d within)).0.1);
   }

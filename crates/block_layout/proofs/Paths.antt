@@ -24,7 +24,8 @@ pub record IsPath (p : Links) (h : ℕ) (xs : List ℕ) : Type 0 where
   pub follows : (k : ℕ) → k + 1 < length xs → p.next (get_or xs k 0) ≡ Some (get_or xs (k + 1) 0)
 
 -- two lists that meet, met at an earlier block, or one begins there
-pub meet : {n : ℕ} {p : Links} {g h : ℕ} {xs ys : List ℕ} → IsWithin n p → p.prev g ≡ None → IsPath p g xs → IsPath p h ys → (i j : ℕ) → i ≤ j → i < length xs → j < length ys → get_or xs i 0 ≡ get_or ys j 0 → get_or ys (j - i) 0 ≡ g
+pub meet : {n : ℕ} {p : Links} {g h : ℕ} {xs ys : List ℕ} → IsWithin n p → p.prev g ≡ None → IsPath p g xs → IsPath p h ys →
+    (i j : ℕ) → i ≤ j → i < length xs → j < length ys → get_or xs i 0 ≡ get_or ys j 0 → get_or ys (j - i) 0 ≡ g
 meet {n} {p} {g} {h} {xs} {ys} w none a b zero j le ix jy e = let z : j - 0 ≡ j = omega arith in rw z (sym e ∙ a.begins)
 meet {n} {p} {g} {h} {xs} {ys} w none a b (suc i) zero le ix jy e = absurd (omega arith)
 meet {n} {p} {g} {h} {xs} {ys} w none a b (suc i) (suc j) le ix jy e =
@@ -39,7 +40,8 @@ meet {n} {p} {g} {h} {xs} {ys} w none a b (suc i) (suc j) le ix jy e =
     rw same m
 
 -- a block stands at one place of a path from a first block
-pub once : {n : ℕ} {p : Links} {h : ℕ} {xs : List ℕ} → IsWithin n p → p.prev h ≡ None → IsPath p h xs → (i j : ℕ) → i < j → j < length xs → get_or xs i 0 ≢ get_or xs j 0
+pub once : {n : ℕ} {p : Links} {h : ℕ} {xs : List ℕ} → IsWithin n p → p.prev h ≡ None → IsPath p h xs → (i j : ℕ) → i < j →
+    j < length xs → get_or xs i 0 ≢ get_or xs j 0
 once {n} {p} {h} {xs} w none a i j lt jx e =
     let m : get_or xs (j - i) 0 ≡ h = meet w none a a i j (omega arith) (omega arith) jx e in
     let r : (j - i - 1) + 1 ≡ j - i = omega arith in
@@ -51,23 +53,32 @@ once {n} {p} {h} {xs} w none a i j lt jx e =
 eqb_apart : (a b : ℕ) → a ≢ b → eqb a b ≡ false
 eqb_apart a b ne = grind (arith, common_steps)
 
-pub inside_path : {n : ℕ} {p : Links} {h : ℕ} {xs : List ℕ} → IsWithin n p → h < n → IsPath p h xs → (k : ℕ) → k < length xs → get_or xs k 0 < n
+pub inside_path : {n : ℕ} {p : Links} {h : ℕ} {xs : List ℕ} → IsWithin n p → h < n → IsPath p h xs → (k : ℕ) →
+    k < length xs → get_or xs k 0 < n
 inside_path {n} {p} {h} {xs} w below a zero lt = rw a.begins below
-inside_path {n} {p} {h} {xs} w below a (suc k) lt = w.inside (get_or xs k 0) (get_or xs (suc k) 0) (rw (← add-one) (a.follows k (omega arith)))
+inside_path {n} {p} {h} {xs} w below a (suc k) lt =
+    w.inside (get_or xs k 0) (get_or xs (suc k) 0) (rw (← add-one) (a.follows k (omega arith)))
 
 eqb_same : (x y : ℕ) → eqb x y ≡ true → x ≡ y
 eqb_same x y e = grind (arith, common_steps)
 
 -- a path from a first block has at most n blocks
-pub path_short : {n : ℕ} {p : Links} {h : ℕ} {xs : List ℕ} → IsWithin n p → p.prev h ≡ None → h < n → IsPath p h xs → length xs ≤ n
+pub path_short : {n : ℕ} {p : Links} {h : ℕ} {xs : List ℕ} → IsWithin n p → p.prev h ≡ None → h < n →
+    IsPath p h xs → length xs ≤ n
 path_short {n} {p} {h} {xs} w none below a = length-le_from_distinct_below xs n
     (IsDistinct-from_apart eqb xs (λ i j d lt jx.
     let ix : i < length xs = omega arith in
     rw (get_or_default_zero xs i d ix, get_or_default_zero xs j d jx) (eqb_apart _ _ (once w none a i j lt jx))))
-    (λ q m. let at : Contains xs q = Contains-from_any eqb_same q xs m in let e : get_or xs at.0 q ≡ get_or xs at.0 0 = get_or_default_zero xs at.0 q at.1 in let f : get_or xs at.0 q ≡ q = at.2 in let g : get_or xs at.0 0 < n = inside_path w below a at.0 at.1 in omega arith)
+    (λ q m.
+    let at : Contains xs q = Contains-from_any eqb_same q xs m in
+    let e : get_or xs at.0 q ≡ get_or xs at.0 0 = get_or_default_zero xs at.0 q at.1 in
+    let f : get_or xs at.0 q ≡ q = at.2 in
+    let g : get_or xs at.0 0 < n = inside_path w below a at.0 at.1 in
+    omega arith)
 
 -- one block more
-pub path_more : {p : Links} {h t : ℕ} {xs : List ℕ} → IsPath p h xs → p.next (get_or xs (length xs - 1) 0) ≡ Some t → IsPath p h (xs ++ t ∷ [])
+pub path_more : {p : Links} {h t : ℕ} {xs : List ℕ} → IsPath p h xs → p.next (get_or xs (length xs - 1) 0) ≡ Some t →
+    IsPath p h (xs ++ t ∷ [])
 path_more {p} {h} {t} {xs} a e =
     let len : length (xs ++ t ∷ []) ≡ length xs + 1 = grind (arith, common_steps) in
     let some : 0 < length xs = a.some in
@@ -77,7 +88,9 @@ path_more {p} {h} {t} {xs} a e =
       follows = λ k lt. ⊎_elim
           (λ (in_xs : k + 1 < length xs). let in_k : k < length xs = omega arith in
           rw (get_or_append_left xs (t ∷ []) 0 k in_k, get_or_append_left xs (t ∷ []) 0 (k + 1) in_xs) (a.follows k in_xs))
-          (λ (at_end : length xs ≤ k + 1). let in_k : k < length xs = omega arith in let is : k + 1 ≡ length xs = omega arith in let was : length xs - 1 ≡ k = omega arith in
+          (λ (at_end : length xs ≤ k + 1). let in_k : k < length xs = omega arith in
+          let is : k + 1 ≡ length xs = omega arith in
+          let was : length xs - 1 ≡ k = omega arith in
           rw (get_or_append_left xs (t ∷ []) 0 k in_k, is, get_or-append_seam xs t [] 0) (rw was at e))
           (cases_lt (k + 1) (length xs));
     }
@@ -93,7 +106,8 @@ last_more xs t =
     rw (at, get_or-append_seam xs t [] 0) refl
 
 -- a path to where nothing follows is a chain
-pub as_chain : {p : Links} {h last : ℕ} {xs : List ℕ} → IsPath p h xs → p.prev h ≡ None → last ≡ get_or xs (length xs - 1) 0 → p.next last ≡ None → IsChain p h xs
+pub as_chain : {p : Links} {h last : ℕ} {xs : List ℕ} → IsPath p h xs → p.prev h ≡ None → last ≡ get_or xs (length xs - 1) 0 →
+    p.next last ≡ None → IsChain p h xs
 as_chain {p} {h} {last} {xs} a first e none =
     record { some = a.some; begins = a.begins; first = first; follows = a.follows; ends = rw (← e) none }
 

@@ -1,38 +1,28 @@
 -- What the blocks and the edges of a program are like: the premises of chains.
-use Rattle.std.proofs.Common.{◌≡◌, ◌<◌, ◌≤◌, ℕ, List, Option, Some, None, length, get_or, All, AllPairs}
+use Rattle.std.proofs.Common.{◌≡◌, ℕ, List, Option, Some, None, get_or, All, AllPairs}
 use Rattle.std.specs.Prelude.{IsSomeAnd, slice_get}
 use Rattle.std.proofs.lemmas.List.Elements.{Contains-get_or}
 use Rattle.rv_code.specs.declared.placed.Func.{Func}
 use Rattle.rv_code.specs.declared.placed.Block.{Block}
 use Rattle.rv_code.specs.declared.cell.CodeCell.{CodeCell}
-use Rattle.rv_code.specs.layout.Blocks.{AreBlocks, IsBlockOf, func_of}
 use Rattle.rv_code.specs.layout.Edges.{AreEdges, IsEdge}
 use Rattle.rv_code.specs.layout.Lists.{IsPairBefore}
-use Rattle.rv_code.specs.layout.ProgramCode.{ProgramCode}
-use Rattle.block_layout.specs.EdgeLists.{IsStretch, IsInner}
+use Rattle.block_layout.specs.EdgeLists.{IsInner}
 
-pub IsStretch-blocks : (code : ProgramCode) (blocks : List Block) → AreBlocks code blocks → All (IsStretch code.funcs) blocks
-IsStretch-blocks code blocks are k d within = at (func_of code.funcs b) (are.only b (Contains-get_or blocks k d within))
-  where
-    b : Block
-    b = get_or blocks k d
-
-    at : (found : Option Func) → IsSomeAnd found (λ func. IsBlockOf code func b.first b.last) → IsSomeAnd found (λ func. (b.first ≤ b.last) × (b.last < length func.insts.items))
-    at None is = is
-    at (Some func) is = (is.some, is.inside)
-
-pub IsInner-edges : (funcs : List Func) (cells : List CodeCell) (blocks : List Block) (edges : List (ℕ × ℕ)) → AreEdges funcs cells blocks edges
-    → All (IsInner blocks) edges
-IsInner-edges funcs cells blocks edges are k d within = at (slice_get blocks e.0) (slice_get blocks e.1) (are.only e (Contains-get_or edges k d within))
+pub IsInner-edges : (funcs : List Func) (cells : List CodeCell) (blocks : List Block) (edges : List (ℕ × ℕ))
+    → AreEdges funcs cells blocks edges → All (IsInner blocks) edges
+IsInner-edges funcs cells blocks edges are k d within =
+    at (slice_get blocks e.0) (slice_get blocks e.1) (are.only e (Contains-get_or edges k d within))
   where
     e : ℕ × ℕ
     e = get_or edges k d
 
-    at : (s t : Option Block) → IsSomeAnd s (λ b. IsSomeAnd t (λ c. IsEdge funcs cells b c)) → IsSomeAnd s (λ b. IsSomeAnd t (λ c. b.func ≡ c.func))
+    at : (s t : Option Block) → IsSomeAnd s (λ b. IsSomeAnd t (λ c. IsEdge funcs cells b c)) →
+        IsSomeAnd s (λ b. IsSomeAnd t (λ c. b.func ≡ c.func))
     at None t is = is
     at (Some b) None is = is
     at (Some b) (Some c) is = is.one_function
 
-pub ordered-edges : (funcs : List Func) (cells : List CodeCell) (blocks : List Block) (edges : List (ℕ × ℕ)) → AreEdges funcs cells blocks edges
-    → AllPairs IsPairBefore edges
+pub ordered-edges : (funcs : List Func) (cells : List CodeCell) (blocks : List Block) (edges : List (ℕ × ℕ))
+    → AreEdges funcs cells blocks edges → AllPairs IsPairBefore edges
 ordered-edges funcs cells blocks edges are = are.ordered

@@ -5,7 +5,9 @@ use Rattle.std.proofs.lemmas.Bool.{cases_lt, eq-eqb, lt-ltb, le-ltb}
 use Rattle.block_layout.specs.EdgeLists.{IsKeyBefore}
 use Rattle.block_layout.specs.declared.edge_counts.Edge.{Edge}
 
-from_cmp : (e f : Edge) → is_lt (ordering_then (ordering_then (nat_cmp e.count f.count) (nat_cmp f.from e.from)) (nat_cmp f.to e.to)) ≡ false → IsKeyBefore e f
+from_cmp : (e f : Edge) →
+    is_lt (ordering_then (ordering_then (nat_cmp e.count f.count) (nat_cmp f.from e.from)) (nat_cmp f.to e.to)) ≡ false →
+    IsKeyBefore e f
 from_cmp e f is = ⊎_elim
     (λ (less : e.count < f.count). let t : true ≡ false = rw (lt-ltb e.count f.count less) at is in absurd (cc))
     (λ (more : f.count ≤ e.count). ⊎_elim
@@ -13,14 +15,21 @@ from_cmp e f is = ⊎_elim
     (λ (not' : e.count ≤ f.count).
     let same : e.count ≡ f.count = omega arith in
     ⊎_elim
-    (λ (low : f.from < e.from). let t : true ≡ false = rw (le-ltb e.count f.count more, eq-eqb e.count f.count same, lt-ltb f.from e.from low) at is in absurd (cc))
+    (λ (low : f.from < e.from). let t : true ≡ false = rw
+    (le-ltb e.count f.count more, eq-eqb e.count f.count same, lt-ltb f.from e.from low) at is in absurd (cc))
     (λ (high : e.from ≤ f.from). ⊎_elim
     (λ (up : e.from < f.from). inr (same, inl up))
     (λ (not'' : f.from ≤ e.from).
     let equal : f.from ≡ e.from = omega arith in
     ⊎_elim
     (λ (low : f.to < e.to).
-    let t : true ≡ false = rw (le-ltb e.count f.count more, eq-eqb e.count f.count same, le-ltb f.from e.from high, eq-eqb f.from e.from equal, lt-ltb f.to e.to low) at is in
+    let t : true ≡ false = rw (
+      le-ltb e.count f.count more,
+      eq-eqb e.count f.count same,
+      le-ltb f.from e.from high,
+      eq-eqb f.from e.from equal,
+      lt-ltb f.to e.to low,
+    ) at is in
     absurd (cc))
     (λ (last : e.to ≤ f.to). inr (same, inr (sym equal, last)))
     (cases_lt f.to e.to))
@@ -44,11 +53,14 @@ chain xs next zero i j d gap within =
     let e : i + 1 ≡ j = omega arith in
     subst (λ (k : ℕ). IsKeyBefore (get_or xs i d) (get_or xs k d)) e (next i d (omega arith))
 chain xs next (suc n) i j d gap within =
-    key_trans (get_or xs i d) (get_or xs (i + 1) d) (get_or xs j d) (next i d (omega arith)) (chain xs next n (i + 1) j d (omega arith) within)
+    key_trans (get_or xs i d) (get_or xs (i + 1) d) (get_or xs j d) (next i d (omega arith))
+    (chain xs next n (i + 1) j d (omega arith) within)
 
 pub edges-sorted : (xs : List Edge)
     → ((k : ℕ) (d : Edge) → 0 ≤ k → k + 1 < length xs
-    → is_lt (ordering_then (ordering_then (nat_cmp (get_or xs k d).count (get_or xs (k + 1) d).count) (nat_cmp (get_or xs (k + 1) d).from (get_or xs k d).from)) (nat_cmp (get_or xs (k + 1) d).to (get_or xs k d).to)) ≡ false)
+    → is_lt (ordering_then (ordering_then (nat_cmp (get_or xs k d).count (get_or xs (k + 1) d).count)
+    (nat_cmp (get_or xs (k + 1) d).from (get_or xs k d).from)) (nat_cmp (get_or xs (k + 1) d).to (get_or xs k d).to)) ≡ false)
     → AllPairs IsKeyBefore xs
 edges-sorted xs sorted i j d less within =
-    chain xs (λ k e inside. from_cmp (get_or xs k e) (get_or xs (k + 1) e) (sorted k e (omega arith) inside)) (j - i - 1) i j d (omega arith) within
+    chain xs (λ k e inside. from_cmp (get_or xs k e) (get_or xs (k + 1) e) (sorted k e (omega arith) inside))
+    (j - i - 1) i j d (omega arith) within

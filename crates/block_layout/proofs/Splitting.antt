@@ -19,9 +19,11 @@ chain_of_func : (blocks : List Block) (p : Links) → AreInner blocks p → (f h
     → (k : ℕ) → k < length xs → IsOf blocks f (get_or xs k 0)
 chain_of_func blocks p inner f h xs chain is zero within = subst (IsOf blocks f) (sym chain.begins) is
 chain_of_func blocks p inner f h xs chain is (suc k) within =
-    inner (get_or xs k 0) (get_or xs (suc k) 0) f (rw (← add-one) (chain.follows k (omega arith))) (chain_of_func blocks p inner f h xs chain is k (omega arith))
+    inner (get_or xs k 0) (get_or xs (suc k) 0) f (rw (← add-one) (chain.follows k (omega arith)))
+    (chain_of_func blocks p inner f h xs chain is k (omega arith))
 
-module _ (blocks : List Block) (p : Links) (weight : ℕ → ℕ) (f start end : ℕ) (from : AreFrom blocks f start end) (inner : AreInner blocks p) where
+module _ (blocks : List Block) (p : Links) (weight : ℕ → ℕ) (f start end : ℕ) (from : AreFrom blocks f start end)
+    (inner : AreInner blocks p) where
   between : (h : ℕ) (xs : List ℕ) → IsChain p h xs → start ≤ h → h < end → All (λ k. (start ≤ k) × (k < end)) xs
   between h xs chain low high k d within =
       let is = chain_of_func blocks p inner f h xs chain (from.inside h low high) k within in
@@ -33,7 +35,8 @@ module _ (blocks : List Block) (p : Links) (weight : ℕ → ℕ) (f start end :
   joined (c ∷ cs) all =
       let first = All-head (λ (e : HotChain). (start ≤ e.head) × (e.head < end) × IsChain p e.head e.blocks.items) c cs all in
       All-append (λ k. (start ≤ k) × (k < end)) c.blocks.items (flat_map (λ e. e.blocks.items) cs)
-      (between c.head c.blocks.items first.2 first.0 first.1) (joined cs (All-tail (λ (e : HotChain). (start ≤ e.head) × (e.head < end) × IsChain p e.head e.blocks.items) c cs all))
+      (between c.head c.blocks.items first.2 first.0 first.1)
+      (joined cs (All-tail (λ (e : HotChain). (start ≤ e.head) × (e.head < end) × IsChain p e.head e.blocks.items) c cs all))
 
   -- the blocks of a hot part are some of those between
   list_between : (part : List ℕ) → start < end → IsHotList p weight start end part → All (λ k. (start ≤ k) × (k < end)) part
@@ -46,11 +49,14 @@ module _ (blocks : List Block) (p : Links) (weight : ℕ → ℕ) (f start end :
       let after = c.after in
       (omega arith, c.before, c.chain))))
 
-  pub hot_between : (part : List ℕ) → IsHotOrEmpty p weight start end part → (start < end) ⊎ (part ≡ []) → All (λ k. (start ≤ k) × (k < end)) part
-  hot_between part is (inr none) = subst (λ (ks : List ℕ). All (λ k. (start ≤ k) × (k < end)) ks) (sym none) (All-nil (λ k. (start ≤ k) × (k < end)))
+  pub hot_between : (part : List ℕ) → IsHotOrEmpty p weight start end part → (start < end) ⊎ (part ≡ []) →
+      All (λ k. (start ≤ k) × (k < end)) part
+  hot_between part is (inr none) =
+      subst (λ (ks : List ℕ). All (λ k. (start ≤ k) × (k < end)) ks) (sym none) (All-nil (λ k. (start ≤ k) × (k < end)))
   hot_between part is (inl some) = ⊎_elim
       (λ list. list_between part some list)
-      (λ (none : part ≡ []). subst (λ (ks : List ℕ). All (λ k. (start ≤ k) × (k < end)) ks) (sym none) (All-nil (λ k. (start ≤ k) × (k < end))))
+      (λ (none : part ≡ []). subst (λ (ks : List ℕ). All (λ k. (start ≤ k) × (k < end)) ks) (sym none)
+      (All-nil (λ k. (start ≤ k) × (k < end))))
       is.either
 
   -- the first block of the function
@@ -66,11 +72,14 @@ module _ (blocks : List Block) (p : Links) (weight : ℕ → ℕ) (f start end :
   not_first : (h : ℕ) → start < h → h < end → IsFirstBlock blocks h → ⊥
   not_first h after before is = at (slice_get blocks h) refl (from.inside h (omega arith) before) is
     where
-      at : (o : Option Block) → slice_get blocks h ≡ o → IsSomeAnd o (λ b. b.func ≡ f) → IsSomeAnd o (λ c. (j : ℕ) → j < h → IsOf blocks c.func j → ⊥) → ⊥
+      at : (o : Option Block) → slice_get blocks h ≡ o → IsSomeAnd o (λ b. b.func ≡ f) →
+          IsSomeAnd o (λ c. (j : ℕ) → j < h → IsOf blocks c.func j → ⊥) → ⊥
       at None e none none' = absurd none
-      at (Some b) e same first' = first' start after (subst (λ (g : ℕ). IsOf blocks g start) (sym same) (from.inside start (omega arith) (omega arith)))
+      at (Some b) e same first' =
+          first' start after (subst (λ (g : ℕ). IsOf blocks g start) (sym same) (from.inside start (omega arith) (omega arith)))
 
-  module _ (others : List HotChain) (are : AreHotBetween p weight start end others) (sorted : AllPairs IsUpTo others) (some : start < end) where
+  module _ (others : List HotChain) (are : AreHotBetween p weight start end others) (sorted : AllPairs IsUpTo others)
+      (some : start < end) where
     hot_chain : (c : HotChain) → Contains others c → IsHotChain blocks weight p f (chain_of c)
     hot_chain c listed =
         let is = are.only c listed in
@@ -84,7 +93,8 @@ module _ (blocks : List Block) (p : Links) (weight : ℕ → ℕ) (f start end :
 
     only : (x : Chain) → Contains (map chain_of others) x → IsHotChain blocks weight p f x
     only x (k, within, at) =
-        let inside : k < length others = let same : length (map chain_of others) ≡ length others = simp length-map in omega arith in
+        let inside : k < length others = let same : length (map chain_of others) ≡ length others = simp length-map in
+        omega arith in
         let c = get_or others k (any others k inside) in
         let item : get_or (map chain_of others) k x ≡ chain_of c = get_or-map chain_of others k (any others k inside) x inside in
         subst (IsHotChain blocks weight p f) (sym item ∙ at) (hot_chain c (Contains-get_or others k (any others k inside) inside))
@@ -107,9 +117,11 @@ module _ (blocks : List Block) (p : Links) (weight : ℕ → ℕ) (f start end :
             let c = get_or others k d in
             let head : c.head ≡ x.0 = sym (get_or-map (λ (e : HotChain). e.head) others k d x.0 inside) ∙ at in
             let own = are.only c (Contains-get_or others k d inside) in
-            let blocks' : c.blocks.items ≡ x.1 = same_chain (subst (λ (h : ℕ). IsChain p h c.blocks.items) head own.chain) is.chain in
+            let blocks' : c.blocks.items ≡ x.1 =
+            same_chain (subst (λ (h : ℕ). IsChain p h c.blocks.items) head own.chain) is.chain in
             let same : chain_of c ≡ x = λ i. (head i, blocks' i) in
-            let long : k < length (map chain_of others) = let e : length (map chain_of others) ≡ length others = simp length-map in omega arith in
+            let long : k < length (map chain_of others) = let e : length (map chain_of others) ≡ length others =
+            simp length-map in omega arith in
             (k, long, get_or-map chain_of others k d x inside ∙ same)
           where
             any : (cs : List HotChain) (k : ℕ) → k < length cs → HotChain
@@ -118,7 +130,8 @@ module _ (blocks : List Block) (p : Links) (weight : ℕ → ℕ) (f start end :
 
     ordered : AllPairs (IsChainBefore weight) (map chain_of others)
     ordered i j x less within =
-        let inside : j < length others = let same : length (map chain_of others) ≡ length others = simp length-map in omega arith in
+        let inside : j < length others = let same : length (map chain_of others) ≡ length others = simp length-map in
+        omega arith in
         let d = any others j inside in
         let c = get_or others i d in
         let e = get_or others j d in
@@ -132,8 +145,8 @@ module _ (blocks : List Block) (p : Links) (weight : ℕ → ℕ) (f start end :
         any [] k within = absurd (omega arith)
         any (c ∷ cs) k within = c
 
-        before : (c e : HotChain) → c.weight ≡ greatest weight c.blocks.items → e.weight ≡ greatest weight e.blocks.items → (c.head ≡ e.head → ⊥) → IsUpTo c e
-            → IsChainBefore weight (chain_of c) (chain_of e)
+        before : (c e : HotChain) → c.weight ≡ greatest weight c.blocks.items → e.weight ≡ greatest weight e.blocks.items
+            → (c.head ≡ e.head → ⊥) → IsUpTo c e → IsChainBefore weight (chain_of c) (chain_of e)
         before c e one other apart (inl more) = inl (omega arith)
         before c e one other apart (inr (same, le)) = inr (sym one ∙ same ∙ other, omega (arith, le, apart))
 
@@ -156,7 +169,9 @@ module _ (blocks : List Block) (p : Links) (weight : ℕ → ℕ) (f start end :
   pub split_of : (n : ℕ) → AreBetween n p → (hot cold : List ℕ) → IsHotOrEmpty p weight start end hot → (start < end) ⊎ (hot ≡ [])
       → ListsNumbers (λ k. ((start ≤ k) × (k < end)) × (Contains hot k → ⊥)) cold → AreSplit blocks weight p f hot cold
   split_of n links hot cold is some left = record {
-    hot_part = λ k own heavy. let range = from.all k own in let low = range.0 in hot_part_of hot (let high = range.1 in omega arith) (is.hot k range.0 range.1 heavy);
+    hot_part = λ k own heavy. let range = from.all k own in
+        let low = range.0 in
+        hot_part_of hot (let high = range.1 in omega arith) (is.hot k range.0 range.1 heavy);
     no_part = λ none. is.none (λ k low high. none k (from.inside k low high));
     cold_part = record {
       only = λ k listed. let old = left.only k listed in (from.inside k old.0.0 old.0.1, old.1);

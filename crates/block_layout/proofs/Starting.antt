@@ -17,22 +17,27 @@ nothing = record { func = 0; first = 0; last = 0 }
 pub IsOf-within : (blocks : List Block) (f k : ℕ) → IsOf blocks f k → k < length blocks
 IsOf-within blocks f k is = ⊎_elim
     (λ (within : k < length blocks). within)
-    (λ (past : length blocks ≤ k). absurd (subst (λ (o : Option Block). IsSomeAnd o (λ b. b.func ≡ f)) (slice_get_past blocks k past) is))
+    (λ (past : length blocks ≤ k). absurd
+    (subst (λ (o : Option Block). IsSomeAnd o (λ b. b.func ≡ f)) (slice_get_past blocks k past) is))
     (cases_lt k (length blocks))
 
 pub start_at_none : (blocks : List Block) → IsStart blocks 0 0
-start_at_none blocks = record { within = omega arith; below = λ k g less is. absurd (omega arith); above = λ k g le is. omega arith }
+start_at_none blocks =
+    record { within = omega arith; below = λ k g less is. absurd (omega arith); above = λ k g le is. omega arith }
 
 -- the blocks from one place to before another are of a function, and no block after them is
-module _ (blocks : List Block) (apart : AreApart blocks) (f start end : ℕ) (is : IsStart blocks f start) (from : start ≤ end) (to : end ≤ length blocks)
-    (own : (k : ℕ) (d : Block) → start ≤ k → k < end → (get_or blocks k d).func ≡ f) (past : (d : Block) → end < length blocks → (get_or blocks end d).func ≢ f) where
+module _ (blocks : List Block) (apart : AreApart blocks) (f start end : ℕ) (is : IsStart blocks f start) (from : start ≤ end)
+    (to : end ≤ length blocks)
+    (own : (k : ℕ) (d : Block) → start ≤ k → k < end → (get_or blocks k d).func ≡ f)
+    (past : (d : Block) → end < length blocks → (get_or blocks end d).func ≢ f) where
   after : (k g : ℕ) → end ≤ k → IsOf blocks g k → f < g
   after k g le listed =
       let within = IsOf-within blocks g k listed in
       let mine = get_or-IsOf blocks g k nothing within listed in
       let up = funcs_rise blocks apart end k nothing le within in
       let here : f ≤ (get_or blocks end nothing).func =
-      is.above end (get_or blocks end nothing).func from (IsOf-get_or blocks (get_or blocks end nothing).func end nothing (omega arith) refl) in
+      is.above end (get_or blocks end nothing).func from
+      (IsOf-get_or blocks (get_or blocks end nothing).func end nothing (omega arith) refl) in
       let other = past nothing (omega arith) in
       omega (arith, mine, up, here, other)
 
@@ -41,8 +46,10 @@ module _ (blocks : List Block) (apart : AreApart blocks) (f start end : ℕ) (is
     up_to = to;
     inside = λ k low high. IsOf-get_or blocks f k nothing (omega arith) (own k nothing low high);
     all = λ k listed. (
-      ⊎_elim (λ (less : k < start). absurd (let below = is.below k f less listed in omega arith)) (λ (le : start ≤ k). le) (cases_lt k start),
-      ⊎_elim (λ (less : k < end). less) (λ (le : end ≤ k). absurd (let above = after k f le listed in omega arith)) (cases_lt k end),
+      ⊎_elim (λ (less : k < start). absurd (let below = is.below k f less listed in omega arith))
+          (λ (le : start ≤ k). le) (cases_lt k start),
+      ⊎_elim (λ (less : k < end). less)
+          (λ (le : end ≤ k). absurd (let above = after k f le listed in omega arith)) (cases_lt k end),
     );
   }
 

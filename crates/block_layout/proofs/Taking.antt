@@ -22,7 +22,8 @@ pub record IsInOrder (count : ℕ × ℕ → ℕ) (es : List Edge) : Type 0 wher
 
 module _ (count : ℕ × ℕ → ℕ) (es : List Edge) (edges : List (ℕ × ℕ)) (counted : AreCounted count edges es) where
   own_count : (i : ℕ) → i < length es → count (ends_at es i) ≡ (get_or es i nothing).count
-  own_count i within = (counted.only (get_or es i nothing) (i, within, get_or_default es i (get_or es i nothing) nothing within)).2
+  own_count i within =
+      (counted.only (get_or es i nothing) (i, within, get_or_default es i (get_or es i nothing) nothing within)).2
 
   pub in_order : AllPairs IsKeyBefore es → AllPairs HaveOtherEnds es → IsInOrder count es
   in_order sorted once = record {
@@ -34,7 +35,8 @@ module _ (count : ℕ × ℕ → ℕ) (es : List Edge) (edges : List (ℕ × ℕ
         earlier e f s t u v one other at at' (once i j nothing less within') (sorted i j nothing less within');
   }
     where
-      earlier : (e f : Edge) (s t u v : ℕ) → count (s, t) ≡ e.count → count (u, v) ≡ f.count → ◌≡◌ {A = ℕ × ℕ} (e.from, e.to) (s, t) → ◌≡◌ {A = ℕ × ℕ} (f.from, f.to) (u, v)
+      earlier : (e f : Edge) (s t u v : ℕ) → count (s, t) ≡ e.count → count (u, v) ≡ f.count
+          → ◌≡◌ {A = ℕ × ℕ} (e.from, e.to) (s, t) → ◌≡◌ {A = ℕ × ℕ} (f.from, f.to) (u, v)
           → HaveOtherEnds e f → IsKeyBefore e f → IsEarlier count (s, t) (u, v)
       earlier e f s t u v one other at at' apart (inl more) = inl (omega arith)
       earlier e f s t u v one other at at' apart (inr (same, inl less)) =
@@ -86,7 +88,8 @@ all_linked count es edges n IsFirst p counted order linked past = record {
   each = λ s t listed positive.
       let found = counted.each s t listed positive in
       let at : ends_at es found.0 ≡ (s, t) =
-      ap (λ (e : Edge). (e.from, e.to)) (get_or_default es found.0 nothing (record { from = s; to = t; count = count (s, t) }) found.1 ∙ found.2) in
+      ap (λ (e : Edge). (e.from, e.to))
+      (get_or_default es found.0 nothing (record { from = s; to = t; count = count (s, t) }) found.1 ∙ found.2) in
       ⊎_elim (λ next. inl next) (λ why. inr (left_out order (found.1, at) why)) (linked.each found.0 s t found.1 (found.1, at));
   back = linked.back;
   forth = linked.forth;

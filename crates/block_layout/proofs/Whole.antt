@@ -13,7 +13,8 @@ use Rattle.rv_code.specs.declared.layout.Chains.{Chains}
 use Rattle.rv_code.specs.layout.Blocks.{func_of}
 use Rattle.edge_profile.specs.Counts.{Counted}
 use Rattle.edge_profile.specs.Weights.{block_weight, is_hot_block, is_hot_function}
-use Rattle.block_layout.specs.EdgeLists.{IsStretch, IsWithin, IsInner, AreCounted}
+use Rattle.rv_code.specs.layout.InFunctions.{IsOfFunction}
+use Rattle.block_layout.specs.EdgeLists.{IsWithin, IsInner, AreCounted}
 use Rattle.block_layout.specs.FunctionParts.{AreSplitTo}
 use Rattle.block_layout.specs.Linking.{IsLinked, ends_at}
 use Rattle.block_layout.specs.Links.{Links}
@@ -28,7 +29,8 @@ use Rattle.block_layout.proofs.Starting.{nothing, IsOf-within}
 within_of : (blocks : List Block) (e : ℕ × ℕ) → IsInner blocks e → IsWithin (length blocks) e
 within_of blocks e is = at (slice_get blocks e.0) (slice_get blocks e.1) refl refl is
   where
-    at : (s t : Option Block) → slice_get blocks e.0 ≡ s → slice_get blocks e.1 ≡ t → IsSomeAnd s (λ b. IsSomeAnd t (λ c. b.func ≡ c.func)) → IsWithin (length blocks) e
+    at : (s t : Option Block) → slice_get blocks e.0 ≡ s → slice_get blocks e.1 ≡ t →
+        IsSomeAnd s (λ b. IsSomeAnd t (λ c. b.func ≡ c.func)) → IsWithin (length blocks) e
     at None t is' is'' none = absurd none
     at (Some b) None is' is'' none = absurd none
     at (Some b) (Some c) is' is'' same = (slice_get_within blocks e.0 b is', slice_get_within blocks e.1 c is'')
@@ -36,12 +38,15 @@ within_of blocks e is = at (slice_get blocks e.0) (slice_get blocks e.1) refl re
 pub all_within : (blocks : List Block) (edges : List (ℕ × ℕ)) → All (IsInner blocks) edges → All (IsWithin (length blocks)) edges
 all_within blocks edges inner k d within = within_of blocks (get_or edges k d) (inner k d within)
 
-module _ (count : ℕ × ℕ → ℕ) (blocks : List Block) (edges : List (ℕ × ℕ)) (taken : List Edge) (inner : All (IsInner blocks) edges) (counted : AreCounted count edges taken) where
+module _ (count : ℕ × ℕ → ℕ) (blocks : List Block) (edges : List (ℕ × ℕ)) (taken : List Edge) (inner : All (IsInner blocks) edges)
+    (counted : AreCounted count edges taken) where
   listed : (i : ℕ) → i < length taken → Contains edges (ends_at taken i)
-  listed i within = (counted.only (get_or taken i (record { from = 0; to = 0; count = 0 })) (Contains-get_or taken i (record { from = 0; to = 0; count = 0 }) within)).0
+  listed i within = (counted.only (get_or taken i (record { from = 0; to = 0; count = 0 }))
+      (Contains-get_or taken i (record { from = 0; to = 0; count = 0 }) within)).0
 
   pub taken_within : (i : ℕ) → i < length taken → ((ends_at taken i).0 < length blocks) × ((ends_at taken i).1 < length blocks)
-  taken_within i within = All-contains (IsWithin (length blocks)) edges (ends_at taken i) (all_within blocks edges inner) (listed i within)
+  taken_within i within =
+      All-contains (IsWithin (length blocks)) edges (ends_at taken i) (all_within blocks edges inner) (listed i within)
 
   module _ (p : Links) (linked : IsLinked taken (length blocks) (IsFirstBlock blocks) (length taken) p) where
     by_edge : (s t : ℕ) → p.next s ≡ Some t → IsInner blocks (s, t)
@@ -55,27 +60,30 @@ module _ (count : ℕ × ℕ → ℕ) (blocks : List Block) (edges : List (ℕ �
     pub links_inner : AreInner blocks p
     links_inner s t f next is = at (slice_get blocks s) (slice_get blocks t) (by_edge s t next) is
       where
-        at : (a b : Option Block) → IsSomeAnd a (λ x. IsSomeAnd b (λ y. x.func ≡ y.func)) → IsSomeAnd a (λ x. x.func ≡ f) → IsSomeAnd b (λ y. y.func ≡ f)
+        at : (a b : Option Block) → IsSomeAnd a (λ x. IsSomeAnd b (λ y. x.func ≡ y.func)) → IsSomeAnd a (λ x. x.func ≡ f) →
+            IsSomeAnd b (λ y. y.func ≡ f)
         at None b none own = absurd none
         at (Some x) None none own = absurd none
         at (Some x) (Some y) same own = sym same ∙ own
 
 -- Blocks are of functions of the list.
-pub of_functions : (funcs : List Func) (blocks : List Block) → All (IsStretch funcs) blocks → (k f : ℕ) → IsOf blocks f k → f < length funcs
+pub of_functions : (funcs : List Func) (blocks : List Block) → All (IsOfFunction funcs) blocks → (k f : ℕ) →
+    IsOf blocks f k → f < length funcs
 of_functions funcs blocks stretches k f is =
     let within = IsOf-within blocks f k is in
     let b = get_or blocks k nothing in
     let own = get_or-IsOf blocks f k nothing within is in
     subst (λ (g : ℕ). g < length funcs) own (at b (func_of funcs b) refl (stretches k nothing within))
   where
-    at : (b : Block) (o : Option Func) → func_of funcs b ≡ o → IsSomeAnd o (λ func. (b.first ≤ b.last) × (b.last < length func.insts.items)) → b.func < length funcs
+    at : (b : Block) (o : Option Func) → func_of funcs b ≡ o →
+        IsSomeAnd o (λ func. (b.first ≤ b.last) × (b.last < length func.insts.items)) → b.func < length funcs
     at b None is' none = absurd none
     at b (Some func) is' range = slice_get_within funcs b.func func is'
 
 -- Weights.
 
-pub weights_are : (pairs : List Counted) (funcs : List Func) (blocks : List Block) (weights : List ℕ) → weights ≡ map (block_weight pairs funcs) blocks
-    → (k : ℕ) → slice_index weights k ≡ weight_at pairs funcs blocks k
+pub weights_are : (pairs : List Counted) (funcs : List Func) (blocks : List Block) (weights : List ℕ)
+    → weights ≡ map (block_weight pairs funcs) blocks → (k : ℕ) → slice_index weights k ≡ weight_at pairs funcs blocks k
 weights_are pairs funcs blocks weights are k = ap (λ (ws : List ℕ). slice_index ws k) are ∙ ⊎_elim
     (λ (within : k < length blocks).
     get_or-map (block_weight pairs funcs) blocks k nothing 0 within
@@ -91,8 +99,10 @@ both_is true b is = (refl, is)
 both_is false b is = absurd (cc)
 
 module _ (pairs : List Counted) (funcs : List Func) (blocks : List Block) where
-  weight_in : (k : ℕ) (d : Block) → k < length blocks → weight_at pairs funcs blocks k ≡ block_weight pairs funcs (get_or blocks k d)
-  weight_in k d within = ap (λ (o : Option Block). option_map_or (block_weight pairs funcs) o 0) (slice_get-get_or blocks k d within)
+  weight_in : (k : ℕ) (d : Block) → k < length blocks →
+      weight_at pairs funcs blocks k ≡ block_weight pairs funcs (get_or blocks k d)
+  weight_in k d within =
+      ap (λ (o : Option Block). option_map_or (block_weight pairs funcs) o 0) (slice_get-get_or blocks k d within)
 
   pub parts_of : (p : Links) (parts : Chains) → AreSplitTo blocks (weight_at pairs funcs blocks) p (length funcs) parts
       → AreParts (is_hot_function pairs funcs blocks) (length funcs) blocks (weight_at pairs funcs blocks) p parts
@@ -104,15 +114,18 @@ module _ (pairs : List Counted) (funcs : List Func) (blocks : List Block) where
     cold = λ f within. (are.each f within).cold_part;
   }
     where
-      hot : (f : ℕ) → f < length funcs → Any (λ b. (b.func == f && is_hot_block pairs funcs b) ≡ true) blocks → IsHotPart blocks (weight_at pairs funcs blocks) p f (list_of parts.hot.items f)
+      hot : (f : ℕ) → f < length funcs → Any (λ b. (b.func == f && is_hot_block pairs funcs b) ≡ true) blocks →
+          IsHotPart blocks (weight_at pairs funcs blocks) p f (list_of parts.hot.items f)
       hot f within (k, b, inside, at, is) =
           let both = both_is (b.func == f) (is_hot_block pairs funcs b) is in
           let own : b.func ≡ f = eqb-true b.func f both.0 in
           let heavy : 0 < block_weight pairs funcs b = ltb-true 0 (block_weight pairs funcs b) both.1 in
-          let weight : weight_at pairs funcs blocks k ≡ block_weight pairs funcs b = weight_in k b inside ∙ ap (block_weight pairs funcs) at in
+          let weight : weight_at pairs funcs blocks k ≡ block_weight pairs funcs b =
+          weight_in k b inside ∙ ap (block_weight pairs funcs) at in
           (are.each f within).hot_part k (IsOf-get_or blocks f k b inside (ap (λ (c : Block). c.func) at ∙ own)) (omega arith)
 
-      none : (f k : ℕ) → IsOf blocks f k → is_hot_function pairs funcs blocks f ≡ false → (w : ℕ) → weight_at pairs funcs blocks k ≡ w → weight_at pairs funcs blocks k ≡ 0
+      none : (f k : ℕ) → IsOf blocks f k → is_hot_function pairs funcs blocks f ≡ false → (w : ℕ) →
+          weight_at pairs funcs blocks k ≡ w → weight_at pairs funcs blocks k ≡ 0
       none f k own is zero same = same
       none f k own is (suc w) same =
           let inside = IsOf-within blocks f k own in

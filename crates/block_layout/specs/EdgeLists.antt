@@ -1,13 +1,7 @@
 -- Lists of edges with their counts.
-use Rattle.std.specs.Prelude.{◌≡◌, ◌⊎◌, ◌<◌, ◌≤◌, ℕ, List, Contains, IsSomeAnd, length, slice_get}
-use Rattle.rv_code.specs.declared.placed.Func.{Func}
+use Rattle.std.specs.Prelude.{◌≡◌, ◌⊎◌, ◌<◌, ◌≤◌, ℕ, List, Contains, IsSomeAnd, slice_get}
 use Rattle.rv_code.specs.declared.placed.Block.{Block}
-use Rattle.rv_code.specs.layout.Blocks.{func_of}
 use Rattle.block_layout.specs.declared.edge_counts.Edge.{Edge}
-
--- a block's instructions are some of a function's
-abbrev pub IsStretch : List Func → Block → Type 0
-IsStretch funcs b = IsSomeAnd (func_of funcs b) (λ func. (b.first ≤ b.last) × (b.last < length func.insts.items))
 
 -- an edge is between two of the first n blocks
 abbrev pub IsWithin : ℕ → ℕ × ℕ → Type 0
@@ -28,4 +22,5 @@ HaveOtherEnds e f = (e.from ≡ f.from) × (e.to ≡ f.to) → ⊥
 -- all edges of positive count, with their counts
 pub record AreCounted (count : ℕ × ℕ → ℕ) (edges : List (ℕ × ℕ)) (taken : List Edge) : Type 0 where
   pub only : (e : Edge) → Contains taken e → Contains edges (e.from, e.to) × (0 < e.count) × (count (e.from, e.to) ≡ e.count)
-  pub each : (s t : ℕ) → Contains edges (s, t) → 0 < count (s, t) → Contains taken (record { from = s; to = t; count = count (s, t) })
+  pub each : (s t : ℕ) → Contains edges (s, t) → 0 < count (s, t) →
+      Contains taken (record { from = s; to = t; count = count (s, t) })

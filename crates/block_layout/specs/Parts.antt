@@ -30,7 +30,8 @@ Chain = ℕ × List ℕ
 
 -- a chain goes before another: by its greatest weight, and then by lower address
 abbrev pub IsChainBefore : (ℕ → ℕ) → Chain → Chain → Type 0
-IsChainBefore weight c d = (greatest weight d.1 < greatest weight c.1) ⊎ ((greatest weight c.1 ≡ greatest weight d.1) × (c.0 < d.0))
+IsChainBefore weight c d =
+    (greatest weight d.1 < greatest weight c.1) ⊎ ((greatest weight c.1 ≡ greatest weight d.1) × (c.0 < d.0))
 
 -- a chain of a function that doesn't begin with its first block, and has a hot block
 pub record IsHotChain (blocks : List Block) (weight : ℕ → ℕ) (links : Links) (f : ℕ) (c : Chain) : Type 0 where
@@ -54,16 +55,19 @@ abbrev pub list_of : List (Vec ℕ Global) → ℕ → List ℕ
 list_of lists f = slice_index_or (map (λ list. list.items) lists) f []
 
 -- The parts of each function. One that isn't hot has no hot part. What isn't in the hot part is the cold one, by address.
-pub record AreParts (hot_functions : ℕ → Bool) (count : ℕ) (blocks : List Block) (weight : ℕ → ℕ) (links : Links) (parts : Chains) : Type 0 where
+pub record AreParts (hot_functions : ℕ → Bool) (count : ℕ) (blocks : List Block) (weight : ℕ → ℕ) (links : Links)
+    (parts : Chains) : Type 0 where
   pub hot_count : length parts.hot.items ≡ count
   pub cold_count : length parts.cold.items ≡ count
   pub hot : (f : ℕ) → f < count → hot_functions f ≡ true → IsHotPart blocks weight links f (list_of parts.hot.items f)
   pub not_hot : (f : ℕ) → f < count → hot_functions f ≡ false → list_of parts.hot.items f ≡ []
-  pub cold : (f : ℕ) → f < count → ListsNumbers (λ k. IsOf blocks f k × (Contains (list_of parts.hot.items f) k → ⊥)) (list_of parts.cold.items f)
+  pub cold : (f : ℕ) → f < count →
+      ListsNumbers (λ k. IsOf blocks f k × (Contains (list_of parts.hot.items f) k → ⊥)) (list_of parts.cold.items f)
 
 -- the blocks of a function, in order
 abbrev pub blocks_of_function : List Block → ℕ → List ℕ
-blocks_of_function blocks f = filter (λ k. option_map_or (λ b. b.func) (slice_get blocks k) 0 == f) (range_with_len 0 (length blocks))
+blocks_of_function blocks f =
+    filter (λ k. option_map_or (λ b. b.func) (slice_get blocks k) 0 == f) (range_with_len 0 (length blocks))
 
 -- The parts of each function have all its blocks, each once.
 abbrev pub HaveAllBlocks : ℕ → List Block → Chains → Type 0
@@ -75,7 +79,8 @@ abbrev pub weight_at : List Counted → List Func → List Block → ℕ → ℕ
 weight_at pairs funcs blocks k = option_map_or (block_weight pairs funcs) (slice_get blocks k) 0
 
 -- The hot and cold parts of the functions, by the counts of a profile's pairs.
-pub record AreChains (counts : ℕ → ℕ → ℕ) (pairs : List Counted) (funcs : List Func) (blocks : List Block) (edges : List (ℕ × ℕ)) (parts : Chains) : Type 0 where
+pub record AreChains (counts : ℕ → ℕ → ℕ) (pairs : List Counted) (funcs : List Func) (blocks : List Block) (edges : List (ℕ × ℕ))
+    (parts : Chains) : Type 0 where
   pub links : Links
   pub links_are : AreLinks edges (edge_count counts funcs blocks) (IsFirstBlock blocks) links
   pub parts_are : AreParts (is_hot_function pairs funcs blocks) (length funcs) blocks (weight_at pairs funcs blocks) links parts

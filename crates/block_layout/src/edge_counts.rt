@@ -6,7 +6,8 @@ ghost use Rattle.rv_code.specs.layout.Blocks.{func_of};
 ghost use Rattle.rv_code.specs.layout.Lists.{IsPairBefore};
 ghost use Rattle.edge_profile.specs.Profile.{counts_of};
 ghost use Rattle.block_layout.specs.EdgeCounts.{address_in, edge_count};
-ghost use Rattle.block_layout.specs.EdgeLists.{IsStretch, IsWithin, AreCounted, HaveOtherEnds, IsKeyBefore};
+ghost use Rattle.rv_code.specs.layout.InFunctions.{IsOfFunction};
+ghost use Rattle.block_layout.specs.EdgeLists.{IsWithin, AreCounted, HaveOtherEnds, IsKeyBefore};
 
 use edge_profile::Profile;
 use rb_bytes::fault::NoMemory;
@@ -30,7 +31,7 @@ pub fn counted_edges(
     edges: &[(usize, usize)],
     profile: &Profile,
 ) -> Result<Vec<Edge>, NoMemory>
-    requires blocks { All (IsStretch funcs.now) blocks.now }
+    requires blocks { All (IsOfFunction funcs.now) blocks.now }
     requires edges { All (IsWithin (length blocks.now)) edges.now }
     requires ordered { AllPairs IsPairBefore edges.now }
     ensures counted { IfOk result (λ taken. AreCounted (edge_count (counts_of profile.now) funcs.now blocks.now) edges.now taken.items) }
@@ -55,8 +56,8 @@ pub fn counted_edges(
 
 // How often control went from the end of a block to the start of another.
 fn count_along(funcs: &[Func], source: &Block, target: &Block, profile: &Profile) -> u128
-    requires source { IsStretch funcs.now source.now }
-    requires target { IsStretch funcs.now target.now }
+    requires source { IsOfFunction funcs.now source.now }
+    requires target { IsOfFunction funcs.now target.now }
     ensures { result ≡ counts_of profile.now (address_in funcs.now source.now source.now.last) (address_in funcs.now target.now target.now.first) }
 {
     let last = address_in(funcs, source, source.last);

@@ -4,7 +4,8 @@ ghost use Rattle.rv_code.specs.layout.FunctionLists.{AreLaidOut};
 ghost use Rattle.rv_code.specs.layout.Lists.{IsPairBefore};
 ghost use Rattle.edge_profile.specs.BlockPlaces.{AreApart};
 ghost use Rattle.edge_profile.specs.Profile.{counts_of, pairs_of};
-ghost use Rattle.block_layout.specs.EdgeLists.{IsInner, IsStretch};
+ghost use Rattle.rv_code.specs.layout.InFunctions.{IsOfFunction};
+ghost use Rattle.block_layout.specs.EdgeLists.{IsInner};
 ghost use Rattle.block_layout.specs.Parts.{AreChains, HaveAllBlocks};
 
 use crate::edge_counts::counted_edges;
@@ -26,7 +27,7 @@ pub fn chains(
 ) -> Result<Chains, NoMemory>
     requires funcs { AreLaidOut funcs.now }
     requires blocks { AreApart blocks.now }
-    requires stretches { All (IsStretch funcs.now) blocks.now }
+    requires stretches { All (IsOfFunction funcs.now) blocks.now }
     requires edges { All (IsInner blocks.now) edges.now }
     requires ordered { AllPairs IsPairBefore edges.now }
     ensures chains { IfOk result (AreChains (counts_of profile.now) (pairs_of profile.now) funcs.now blocks.now edges.now) }

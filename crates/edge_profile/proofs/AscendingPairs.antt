@@ -10,7 +10,8 @@ use Rattle.edge_profile.specs.Pairs.{IsAscending, IsCountBelow, is_before}
 
 -- Sums of which at most one term counts.
 
-pub sum_none : {X : Type 0} (f : X → ℕ) (xs : List X) → ((j : ℕ) (d : X) → j < length xs → f (get_or xs j d) ≡ 0) → sum_by f xs ≡ 0
+pub sum_none : {X : Type 0} (f : X → ℕ) (xs : List X) →
+    ((j : ℕ) (d : X) → j < length xs → f (get_or xs j d) ≡ 0) → sum_by f xs ≡ 0
 sum_none f [] none = refl
 sum_none f (x ∷ xs) none =
     let first : f x ≡ 0 = none 0 x (omega arith) in
@@ -43,7 +44,13 @@ positive_term f (x ∷ xs) positive = ⊎_elim
     (λ (none : f x ≤ 0).
     let more : 0 < sum_by f xs = omega (arith, sum_by-cons f x xs) in
     let rest = positive_term f xs more in
-    record { place = suc rest.place; item = rest.item; within = let inside = rest.within in omega arith; is = rest.is; positive = rest.positive })
+    record {
+      place = suc rest.place;
+      item = rest.item;
+      within = let inside = rest.within in omega arith;
+      is = rest.is;
+      positive = rest.positive;
+    })
     (cases_lt 0 (f x))
 
 -- The order, as a test and as a fact.
@@ -67,7 +74,8 @@ pub ascending_pairs : (pairs : List Counted) → AllPairs IsCountedBefore pairs 
 ascending_pairs pairs ordered i j d less within = before_test (get_or pairs i d) (get_or pairs j d) (ordered i j d less within)
 
 ordered_pairs : (pairs : List Counted) → IsAscending pairs → AllPairs IsCountedBefore pairs
-ordered_pairs pairs ascending i j d less within = before_from_test (get_or pairs i d) (get_or pairs j d) (ascending i j d less within)
+ordered_pairs pairs ascending i j d less within =
+    before_from_test (get_or pairs i d) (get_or pairs j d) (ascending i j d less within)
 
 before_trans : (x y z : Counted) → IsCountedBefore x y → IsCountedBefore y z → IsCountedBefore x z
 before_trans x y z (inl a) (inl b) = inl (omega arith)
@@ -92,18 +100,21 @@ pub partitioned : (pairs : List Counted) → IsAscending pairs → (q : Counted)
 partitioned pairs ascending q i j d le within last = ⊎_elim
     (λ (less : i < j).
     before_test (get_or pairs i d) q
-    (before_trans (get_or pairs i d) (get_or pairs j d) q (ordered_pairs pairs ascending i j d less within) (before_from_test (get_or pairs j d) q last)))
+    (before_trans (get_or pairs i d) (get_or pairs j d) q (ordered_pairs pairs ascending i j d less within)
+    (before_from_test (get_or pairs j d) q last)))
     (λ (more : j ≤ i). let same : j ≡ i = omega arith in subst (λ (k : ℕ). is_before (get_or pairs k d) q ≡ true) same last)
     (cases_lt i j)
 
 -- Looking a pair up.
 
-pub count_none : (pairs : List Counted) (from to k : ℕ) → IsCountBelow pairs from to k → k ≡ length pairs → count_among from to pairs ≡ 0
+pub count_none : (pairs : List Counted) (from to k : ℕ) → IsCountBelow pairs from to k → k ≡ length pairs →
+    count_among from to pairs ≡ 0
 count_none pairs from to k is all =
     sum_none (λ p. if is_of from to p then p.2 else 0) pairs
     (λ j d within.
     zero_of (is_of from to (get_or pairs j d)) (get_or pairs j d).2
-    (other_before (get_or pairs j d) (from, to, 0) (before_from_test (get_or pairs j d) (from, to, 0) (is.below j d (omega arith)))))
+    (other_before (get_or pairs j d) (from, to, 0)
+    (before_from_test (get_or pairs j d) (from, to, 0) (is.below j d (omega arith)))))
 
 -- a pair that isn't before another comes before what comes after it
 after_not_before : (x q : Counted) → is_before x q ≡ false → (y : Counted) → IsCountedBefore x y → is_of q.0 q.1 y ≡ false
@@ -123,7 +134,8 @@ after_not_before x q not' y up = ⊎_elim
     either true false e f = inr refl
     either false b e f = inr refl
 
-pub count_at : (pairs : List Counted) → IsAscending pairs → (from to k : ℕ) → IsCountBelow pairs from to k → (d : Counted) → k < length pairs
+pub count_at : (pairs : List Counted) → IsAscending pairs → (from to k : ℕ) → IsCountBelow pairs from to k
+    → (d : Counted) → k < length pairs
     → count_among from to pairs ≡ (if is_of from to (get_or pairs k d) then (get_or pairs k d).2 else 0)
 count_at pairs ascending from to k is d within =
     sum_only (λ p. if is_of from to p then p.2 else 0) pairs k d within
@@ -131,7 +143,8 @@ count_at pairs ascending from to k is d within =
   where
     other : (j : ℕ) (e : Counted) → j < length pairs → j ≢ k → is_of from to (get_or pairs j e) ≡ false
     other j e inside ne = ⊎_elim
-        (λ (less : j < k). other_before (get_or pairs j e) (from, to, 0) (before_from_test (get_or pairs j e) (from, to, 0) (is.below j e less)))
+        (λ (less : j < k). other_before (get_or pairs j e) (from, to, 0)
+        (before_from_test (get_or pairs j e) (from, to, 0) (is.below j e less)))
         (λ (more : k ≤ j).
         after_not_before (get_or pairs k e) (from, to, 0) (is.above k e (omega arith) within) (get_or pairs j e)
         (ordered_pairs pairs ascending k j e (omega arith) inside))
@@ -158,16 +171,19 @@ count_of_item pairs ascending k d within =
         subst (λ (y : Counted). is_of y.0 y.1 (get_or pairs j e) ≡ false) same
         (⊎_elim
         (λ (less : j < k). other_before (get_or pairs j e) (get_or pairs k e) (ordered_pairs pairs ascending j k e less within))
-        (λ (more : k ≤ j). other_after (get_or pairs j e) (get_or pairs k e) (ordered_pairs pairs ascending k j e (omega arith) inside))
+        (λ (more : k ≤ j). other_after (get_or pairs j e) (get_or pairs k e)
+        (ordered_pairs pairs ascending k j e (omega arith) inside))
         (cases_lt j k))
 
-pub are_pairs : (pairs : List Counted) → IsAscending pairs → All (λ p. 0 < p.2) pairs → ArePairs (λ from to. count_among from to pairs) pairs
+pub are_pairs : (pairs : List Counted) → IsAscending pairs → All (λ p. 0 < p.2) pairs →
+    ArePairs (λ from to. count_among from to pairs) pairs
 are_pairs pairs ascending positive = record {
   only = λ p contained.
       let is = contained.2 in
       subst (λ (q : Counted). IsCountOf (λ from to. count_among from to pairs) q) is
       (positive contained.0 p contained.1, count_of_item pairs ascending contained.0 p contained.1);
-  each = λ p is. found p is (positive_term (λ q. if is_of p.0 p.1 q then q.2 else 0) pairs (let some = is.0 in let sum = is.1 in omega arith));
+  each = λ p is. found p is
+      (positive_term (λ q. if is_of p.0 p.1 q then q.2 else 0) pairs (let some = is.0 in let sum = is.1 in omega arith));
   ordered = ordered_pairs pairs ascending;
 }
   where
@@ -176,14 +192,16 @@ are_pairs pairs ascending positive = record {
     ends true false n some = absurd (omega arith)
     ends false c n some = absurd (omega arith)
 
-    found : (p : Counted) → IsCountOf (λ from to. count_among from to pairs) p → HasPositive (λ q. if is_of p.0 p.1 q then q.2 else 0) pairs → Contains pairs p
+    found : (p : Counted) → IsCountOf (λ from to. count_among from to pairs) p →
+        HasPositive (λ q. if is_of p.0 p.1 q then q.2 else 0) pairs → Contains pairs p
     found p is term =
         let x = term.item in
         let both = ends (x.0 == p.0) (x.1 == p.1) x.2 term.positive in
         let from : x.0 ≡ p.0 = eqb-true x.0 p.0 both.0 in
         let to : x.1 ≡ p.1 = eqb-true x.1 p.1 both.1 in
         let own : count_among x.0 x.1 pairs ≡ x.2 =
-        subst (λ (y : Counted). count_among y.0 y.1 pairs ≡ y.2) term.is (count_of_item pairs ascending term.place x term.within) in
+        subst (λ (y : Counted). count_among y.0 y.1 pairs ≡ y.2) term.is
+        (count_of_item pairs ascending term.place x term.within) in
         let count : x.2 ≡ p.2 = sym own ∙ (λ i. count_among (from i) (to i) pairs) ∙ is.1 in
         let same : x ≡ p = λ i. (from i, to i, count i) in
         subst (λ (q : Counted). Contains pairs q) same (term.place, term.within, term.is)

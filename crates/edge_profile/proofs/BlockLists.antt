@@ -9,13 +9,15 @@ use Rattle.rv_code.specs.layout.Blocks.{AreBlocks, IsBlock, IsBlockOf, IsBefore,
 use Rattle.rv_code.specs.layout.ProgramCode.{ProgramCode}
 use Rattle.edge_profile.specs.BlockPlaces.{AreApart, IsApart}
 
-first_last : (code : ProgramCode) (b : Block) (found : Option Func) → IsSomeAnd found (λ func. IsBlockOf code func b.first b.last) → b.first ≤ b.last
+first_last : (code : ProgramCode) (b : Block) (found : Option Func) →
+    IsSomeAnd found (λ func. IsBlockOf code func b.first b.last) → b.first ≤ b.last
 first_last code b None is = absurd is
 first_last code b (Some func) is = is.some
 
 -- a later block of a function doesn't begin within an earlier one
 no_overlap : (code : ProgramCode) (b c : Block) (found : Option Func) → b.first < c.first
-    → IsSomeAnd found (λ func. IsBlockOf code func b.first b.last) → IsSomeAnd found (λ func. IsBlockOf code func c.first c.last) → b.last < c.first
+    → IsSomeAnd found (λ func. IsBlockOf code func b.first b.last)
+    → IsSomeAnd found (λ func. IsBlockOf code func c.first c.last) → b.last < c.first
 no_overlap code b c None less is other = absurd is
 no_overlap code b c (Some func) less is other = ⊎_elim
     (λ (apart : b.last < c.first). apart)
@@ -24,7 +26,8 @@ no_overlap code b c (Some func) less is other = ⊎_elim
 
 pub AreApart-blocks : (code : ProgramCode) (blocks : List Block) → AreBlocks code blocks → AreApart blocks
 AreApart-blocks code blocks are = record {
-  some = λ k d within. first_last code (get_or blocks k d) (func_of code.funcs (get_or blocks k d)) (are.only (get_or blocks k d) (Contains-get_or blocks k d within));
+  some = λ k d within. first_last code (get_or blocks k d) (func_of code.funcs (get_or blocks k d))
+      (are.only (get_or blocks k d) (Contains-get_or blocks k d within));
   ordered = λ i j d less within.
       apart (get_or blocks i d) (get_or blocks j d) (are.only (get_or blocks i d) (Contains-get_or blocks i d (omega arith)))
       (are.only (get_or blocks j d) (Contains-get_or blocks j d within)) (are.ordered i j d less within);
@@ -36,5 +39,6 @@ AreApart-blocks code blocks are = record {
         inr (
           same,
           no_overlap code b c (func_of code.funcs b) less is
-              (subst (λ (f : ℕ). IsSomeAnd (slice_get code.funcs f) (λ func. IsBlockOf code func c.first c.last)) (sym same) other),
+              (subst
+              (λ (f : ℕ). IsSomeAnd (slice_get code.funcs f) (λ func. IsBlockOf code func c.first c.last)) (sym same) other),
         )

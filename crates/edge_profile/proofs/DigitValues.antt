@@ -24,7 +24,8 @@ digits_value-more radix ds i within = rw add-one (after-more radix 0 ds i within
 -- a decimal digit is a hexadecimal one
 pub hex_from_decimal : (ds : List ℕ) → list_all is_ascii_digit ds ≡ true → list_all is_lower_hex_digit ds ≡ true
 hex_from_decimal [] all = refl
-hex_from_decimal (c ∷ ds) all = both (is_ascii_digit c) (is_in_range 97 102 c) (list_all is_ascii_digit ds) (list_all is_lower_hex_digit ds) (hex_from_decimal ds) all
+hex_from_decimal (c ∷ ds) all = both (is_ascii_digit c) (is_in_range 97 102 c) (list_all is_ascii_digit ds)
+    (list_all is_lower_hex_digit ds) (hex_from_decimal ds) all
   where
     both : (a b r s : Bool) → (r ≡ true → s ≡ true) → (a && r) ≡ true → ((a || b) && s) ≡ true
     both true b r s rest all = rest all
@@ -36,7 +37,8 @@ pub too_large : (radix v d : ℕ) (ds : List ℕ) (i : ℕ) → 0 < radix → i 
 too_large radix v d ds i some within is digit large =
     let more = digits_value-more radix ds i within in
     let part = digits_value-take-le radix ds (i + 1) (omega arith) in
-    let same : digits_value radix (take (i + 1) ds) ≡ v * radix + d = more ∙ sym (ap (λ n. n * radix + d) is ∙ ap (λ e. digits_value radix (take i ds) * radix + e) digit) in
+    let same : digits_value radix (take (i + 1) ds) ≡ v * radix + d =
+    more ∙ sym (ap (λ n. n * radix + d) is ∙ ap (λ e. digits_value radix (take i ds) * radix + e) digit) in
     omega (arith, same, part, large)
 
 some_less : (n m : ℕ) → Some m ≡ (if nat_lt n (2 ^ 64) then Some n else None) → n < 2 ^ 64
@@ -78,7 +80,8 @@ pub appended_some : (radix v d more : ℕ) (ds : List ℕ) (i : ℕ) → i < len
 appended_some radix v d more ds i within is digit some =
     let less = some_less (v * radix + d) more some in
     let same = some_small (v * radix + d) more some in (
-      same ∙ ap (λ n. n * radix + d) is ∙ ap (λ e. digits_value radix (take i ds) * radix + e) digit ∙ sym (digits_value-more radix ds i within),
+      same ∙ ap (λ n. n * radix + d) is ∙ ap (λ e. digits_value radix (take i ds) * radix + e) digit
+          ∙ sym (digits_value-more radix ds i within),
       omega (arith, less, same),
     )
 

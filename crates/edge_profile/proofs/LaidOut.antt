@@ -1,73 +1,42 @@
 -- Instructions of functions that are laid out.
-use Rattle.std.proofs.Common.{◌≡◌, ◌≢◌, ◌<◌, ◌≤◌, ◌+◌, ◌-◌, ◌∙◌, ℕ, suc, zero, Bool, true, false, List, [], ◌∷◌, length, get_or, arith, refl, ap, sym, subst, inl, inr, ⊎_elim, All, AllPairs, find, is_some, cond, Some}
+use Rattle.std.proofs.Common.{◌≡◌, ◌≢◌, ◌<◌, ◌≤◌, ◌-◌, ◌∙◌, ℕ, Bool, true, false, List, [], ◌∷◌, length, get_or, arith, refl, ap, sym, subst, ⊎_elim, AllPairs, find, is_some, cond, Some}
 use Rattle.std.specs.Prelude.{◌==◌, ◌||◌}
 use Rattle.std.specs.List.{list_any}
 use Rattle.std.specs.List.Sorted.{IsNonDecreasingBy}
 use Rattle.std.proofs.lemmas.Bool.{eq-eqb, ne_eqb, cases_lt}
 use Rattle.std.proofs.lemmas.List.{get_or_default}
-use Rattle.std.proofs.lemmas.List.Elements.{All-head, All-tail}
 use Rattle.std.proofs.lemmas.List.Folds.{list_any_none, list_any_at, list_any-append}
-use Rattle.std.proofs.lemmas.List.Kept.{AllPairs-cons}
 use Rattle.rv_code.specs.declared.placed.Placed.{Placed}
 use Rattle.rv_code.specs.declared.placed.Func.{Func}
-use Rattle.rv_code.specs.layout.FunctionLists.{Follow, HasLength, IsLaidOut, AreLaidOut, code_limit}
+use Rattle.rv_code.specs.layout.FunctionLists.{IsLaidOut, AreLaidOut, code_limit}
+use Rattle.rv_code.proofs.lists.Follows.{inst_bounds}
 use Rattle.rv_code.specs.layout.Flow.{insts_of}
 use Rattle.rv_code.specs.layout.ProgramCode.{is_code_address}
 use Rattle.edge_profile.specs.Places.{IsPlaceOf}
 use Rattle.edge_profile.specs.Weights.{starts_at}
 
-some_length : (p : Placed) → HasLength p → 2 ≤ p.len
-some_length p (inl two) = omega arith
-some_length p (inr four) = omega arith
-
-follow_end : (a : ℕ) (ps : List Placed) (end : ℕ) → Follow a ps end → a ≤ end
-follow_end a [] end f = omega arith
-follow_end a (p ∷ ps) end f = let rest = follow_end (a + p.len) ps end f.1 in omega arith
-
--- instructions that follow one another from `a` on to `end` lie between these
-pub follow_bounds : (a : ℕ) (ps : List Placed) (end : ℕ) → Follow a ps end → All HasLength ps → (k : ℕ) (d : Placed) → k < length ps
-    → (a ≤ (get_or ps k d).addr) × ((get_or ps k d).addr < end)
-follow_bounds a [] end f h k d within = absurd (omega arith)
-follow_bounds a (p ∷ ps) end f h zero d within =
-    let some = some_length p (All-head HasLength p ps h) in
-    let rest = follow_end (a + p.len) ps end f.1 in
-    (omega (arith, f.0), omega (arith, f.0))
-follow_bounds a (p ∷ ps) end f h (suc k) d within =
-    let rest = follow_bounds (a + p.len) ps end f.1 (All-tail HasLength p ps h) k d (omega arith) in
-    (omega arith, rest.1)
-
-pub follow_rises : (a : ℕ) (ps : List Placed) (end : ℕ) → Follow a ps end → All HasLength ps → AllPairs (λ p q. p.addr < q.addr) ps
-follow_rises a [] end f h = λ i j d less within. absurd (omega arith)
-follow_rises a (p ∷ ps) end f h =
-    let some = some_length p (All-head HasLength p ps h) in
-    let lengths = All-tail HasLength p ps h in
-    AllPairs-cons (λ p q. p.addr < q.addr) p ps
-    (λ k d within. let bounds = follow_bounds (a + p.len) ps end f.1 lengths k d within in omega (arith, f.0, bounds.0))
-    (follow_rises (a + p.len) ps end f.1 lengths)
-
 pub non_decreasing : (insts : List Placed) → AllPairs (λ p q. p.addr < q.addr) insts → IsNonDecreasingBy (λ p. p.addr) insts
 non_decreasing insts rising i j d le within = ⊎_elim
     (λ (less : i < j). let up : (get_or insts i d).addr < (get_or insts j d).addr = rising i j d less within in omega arith)
-    (λ (more : j ≤ i). let same : i ≡ j = omega arith in subst (λ (k : ℕ). (get_or insts i d).addr ≤ (get_or insts k d).addr) same (omega arith))
+    (λ (more : j ≤ i).
+    let same : i ≡ j = omega arith in
+    subst (λ (k : ℕ). (get_or insts i d).addr ≤ (get_or insts k d).addr) same (omega arith))
     (cases_lt i j)
-
-pub insts_rise : (func : Func) → IsLaidOut func → AllPairs (λ p q. p.addr < q.addr) func.insts.items
-insts_rise func laid = follow_rises func.start func.insts.items func.end laid.follow laid.lengths
-
-pub inst_bounds : (func : Func) → IsLaidOut func → (k : ℕ) (d : Placed) → k < length func.insts.items
-    → (func.start ≤ (get_or func.insts.items k d).addr) × ((get_or func.insts.items k d).addr < func.end)
-inst_bounds func laid = follow_bounds func.start func.insts.items func.end laid.follow laid.lengths
 
 -- An address outside a function starts none of its instructions.
 pub starts_below : (func : Func) → IsLaidOut func → (a : ℕ) → a < func.start → starts_at func.insts.items a ≡ false
 starts_below func laid a below =
     list_any_none (λ p. p.addr == a) func.insts.items
-    (λ k d within. let bounds = inst_bounds func laid k d within in ne_eqb (get_or func.insts.items k d).addr a (λ e. omega (arith, bounds.0, e)))
+    (λ k d within.
+    let bounds = inst_bounds func laid k d within in
+    ne_eqb (get_or func.insts.items k d).addr a (λ e. omega (arith, bounds.0, e)))
 
 pub starts_above : (func : Func) → IsLaidOut func → (a : ℕ) → func.end ≤ a → starts_at func.insts.items a ≡ false
 starts_above func laid a above =
     list_any_none (λ p. p.addr == a) func.insts.items
-    (λ k d within. let bounds = inst_bounds func laid k d within in ne_eqb (get_or func.insts.items k d).addr a (λ e. omega (arith, bounds.1, e)))
+    (λ k d within.
+    let bounds = inst_bounds func laid k d within in
+    ne_eqb (get_or func.insts.items k d).addr a (λ e. omega (arith, bounds.1, e)))
 
 module _ (funcs : List Func) (laid : AreLaidOut funcs) where
   func_before : (i j : ℕ) (d : Func) → i < j → j < length funcs → (get_or funcs i d).end ≤ (get_or funcs j d).start
@@ -82,7 +51,9 @@ module _ (funcs : List Func) (laid : AreLaidOut funcs) where
       let before = laid.apart i j d less within in
       let some = (laid.each i d (omega arith)).has_bytes in
       omega (arith, before, some))
-      (λ (more : j ≤ i). let same : i ≡ j = omega arith in subst (λ (k : ℕ). (get_or funcs i d).start ≤ (get_or funcs k d).start) same (omega arith))
+      (λ (more : j ≤ i).
+      let same : i ≡ j = omega arith in
+      subst (λ (k : ℕ). (get_or funcs i d).start ≤ (get_or funcs k d).start) same (omega arith))
       (cases_lt i j)
 
 is_some-find : {X : Type 0} (p : X → Bool) (xs : List X) → is_some (find p xs) ≡ list_any p xs
@@ -93,12 +64,15 @@ is_some-find p (x ∷ xs) = at (p x) (is_some-find p xs)
     at true rest = refl
     at false rest = rest
 
-code-list_any : (funcs : List Func) (a : ℕ) → list_any (λ p. p.addr == a) (insts_of funcs) ≡ list_any (λ f. starts_at f.insts.items a) funcs
+code-list_any : (funcs : List Func) (a : ℕ) →
+    list_any (λ p. p.addr == a) (insts_of funcs) ≡ list_any (λ f. starts_at f.insts.items a) funcs
 code-list_any [] a = refl
 code-list_any (f ∷ funcs) a =
-    list_any-append (λ p. p.addr == a) f.insts.items (insts_of funcs) ∙ ap (λ b. starts_at f.insts.items a || b) (code-list_any funcs a)
+    list_any-append (λ p. p.addr == a) f.insts.items (insts_of funcs)
+    ∙ ap (λ b. starts_at f.insts.items a || b) (code-list_any funcs a)
 
-pub code_address-list_any : (funcs : List Func) (a : ℕ) → is_code_address funcs a ≡ list_any (λ f. starts_at f.insts.items a) funcs
+pub code_address-list_any : (funcs : List Func) (a : ℕ) →
+    is_code_address funcs a ≡ list_any (λ f. starts_at f.insts.items a) funcs
 code_address-list_any funcs a = is_some-find (λ p. p.addr == a) (insts_of funcs) ∙ code-list_any funcs a
 
 -- an element of a list that has one
@@ -117,7 +91,8 @@ code_address_at funcs a f i is =
     (list_any_at (λ q. q.addr == a) insts i p (is.inst_within g) (eq-eqb (get_or insts i p).addr a (is.starts g p)))
 
 -- no instruction starts at an address that lies in no function
-no_code_address : (funcs : List Func) (a : ℕ) → ((k : ℕ) (d : Func) → k < length funcs → starts_at (get_or funcs k d).insts.items a ≡ false)
+no_code_address : (funcs : List Func) (a : ℕ)
+    → ((k : ℕ) (d : Func) → k < length funcs → starts_at (get_or funcs k d).insts.items a ≡ false)
     → is_code_address funcs a ≡ false
 no_code_address funcs a none = code_address-list_any funcs a ∙ list_any_none (λ f. starts_at f.insts.items a) funcs none
 
@@ -140,7 +115,8 @@ no_code_at funcs laid a below bound up above here = no_code_address funcs a each
     each k d within = ⊎_elim
         (λ (less : k < below). ⊎_elim
         (λ (before : k < below - 1).
-        let apart : (get_or funcs k d).end ≤ (get_or funcs (below - 1) d).start = laid.apart k (below - 1) d before (omega arith) in
+        let apart : (get_or funcs k d).end ≤ (get_or funcs (below - 1) d).start =
+        laid.apart k (below - 1) d before (omega arith) in
         let start : (get_or funcs (below - 1) d).start ≤ a = up (below - 1) d (omega arith) in
         starts_above (get_or funcs k d) (laid.each k d within) a (omega arith))
         (λ (not : below - 1 ≤ k).
@@ -164,10 +140,12 @@ function_starts funcs laid a below bound some up above d = at ((get_or funcs (be
         apart : (k : ℕ) (e : Func) → k < length funcs → (get_or funcs k e).start ≢ a
         apart k e within starts = ⊎_elim
             (λ (less : k < below).
-            let le : (get_or funcs k e).start ≤ (get_or funcs (below - 1) e).start = funcs_rise funcs laid k (below - 1) e (omega arith) (omega arith) in
+            let le : (get_or funcs k e).start ≤ (get_or funcs (below - 1) e).start =
+            funcs_rise funcs laid k (below - 1) e (omega arith) (omega arith) in
             let top : (get_or funcs (below - 1) e).start ≤ a = up (below - 1) e (omega arith) in
             let here : (get_or funcs (below - 1) e).start ≡ a = omega arith in
-            let same : get_or funcs (below - 1) d ≡ get_or funcs (below - 1) e = get_or_default funcs (below - 1) d e (omega arith) in
+            let same : get_or funcs (below - 1) d ≡ get_or funcs (below - 1) e =
+            get_or_default funcs (below - 1) d e (omega arith) in
             let yes = eq-eqb (get_or funcs (below - 1) d).start a (ap (λ (f : Func). f.start) same ∙ here) in
             absurd (cc))
             (λ (more : below ≤ k). let over = above k e more within in absurd (omega arith))
@@ -176,7 +154,9 @@ function_starts funcs laid a below bound some up above d = at ((get_or funcs (be
 pub no_function_starts : (funcs : List Func) (a : ℕ) → ((k : ℕ) (d : Func) → k < length funcs → a < (get_or funcs k d).start)
     → list_any (λ f. f.start == a) funcs ≡ false
 no_function_starts funcs a above =
-    list_any_none (λ f. f.start == a) funcs (λ k d within. let over = above k d within in ne_eqb (get_or funcs k d).start a (λ e. omega arith))
+    list_any_none (λ f. f.start == a) funcs (λ k d within.
+    let over = above k d within in
+    ne_eqb (get_or funcs k d).start a (λ e. omega arith))
 
 -- no instruction of ascending ones starts at an address between two neighbours
 pub no_inst_at : (insts : List Placed) (a below : ℕ) → ((k : ℕ) (d : Placed) → k < below → (get_or insts k d).addr < a)
@@ -201,6 +181,9 @@ no_inst_from insts rising a below e low high other = no_inst_at insts a below lo
         let apart : (get_or insts below d).addr ≢ a = λ is. other (omega arith) (sym (ap (λ (p : Placed). p.addr) same) ∙ is) in
         let least : a ≤ (get_or insts below d).addr = high below d (omega arith) (omega arith) in
         ⊎_elim
-        (λ (less : below < k). let up : (get_or insts below d).addr < (get_or insts k d).addr = rising below k d less within in omega arith)
-        (λ (not : k ≤ below). let here : below ≡ k = omega arith in subst (λ (j : ℕ). a < (get_or insts j d).addr) here (omega arith))
+        (λ (less : below < k).
+        let up : (get_or insts below d).addr < (get_or insts k d).addr = rising below k d less within in omega arith)
+        (λ (not : k ≤ below).
+        let here : below ≡ k = omega arith in
+        subst (λ (j : ℕ). a < (get_or insts j d).addr) here (omega arith))
         (cases_lt below k)

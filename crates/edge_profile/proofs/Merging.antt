@@ -35,14 +35,16 @@ module _ (old : List Counted) (k : ℕ) (p d : Counted) (within : k < length old
   same_from : (i : ℕ) (e : Counted) → i < length old → (get_or new i e).0 ≡ (get_or old i e).0
   same_from i e inside = ⊎_elim
       (λ (same : i ≡ k).
-      rw same (ap (λ (x : Counted). x.0) (get_or-set_same old k (item.0, item.1, item.2 + p.2) e within) ∙ ap (λ (x : Counted). x.0) (get_or_default old k d e within)))
+      rw same (ap (λ (x : Counted). x.0) (get_or-set_same old k (item.0, item.1, item.2 + p.2) e within)
+      ∙ ap (λ (x : Counted). x.0) (get_or_default old k d e within)))
       (λ (other : i ≢ k). ap (λ (x : Counted). x.0) (get_or-set_other old k i (item.0, item.1, item.2 + p.2) e other))
       (cases_eq i k)
 
   same_to : (i : ℕ) (e : Counted) → i < length old → (get_or new i e).1 ≡ (get_or old i e).1
   same_to i e inside = ⊎_elim
       (λ (same : i ≡ k).
-      rw same (ap (λ (x : Counted). x.1) (get_or-set_same old k (item.0, item.1, item.2 + p.2) e within) ∙ ap (λ (x : Counted). x.1) (get_or_default old k d e within)))
+      rw same (ap (λ (x : Counted). x.1) (get_or-set_same old k (item.0, item.1, item.2 + p.2) e within)
+      ∙ ap (λ (x : Counted). x.1) (get_or_default old k d e within)))
       (λ (other : i ≢ k). ap (λ (x : Counted). x.1) (get_or-set_other old k i (item.0, item.1, item.2 + p.2) e other))
       (cases_eq i k)
 
@@ -52,7 +54,8 @@ module _ (old : List Counted) (k : ℕ) (p d : Counted) (within : k < length old
     counts = λ from to.
         let sum = sum_by-set (λ q. if is_of from to q then q.2 else 0) old k (item.0, item.1, item.2 + p.2) d within in
         let both = added-sum from to item p.2 in
-        let own : (if is_of from to item then p.2 else 0) ≡ (if is_of from to p then p.2 else 0) = ap (λ b. if b then p.2 else 0) (is_of-same from to item p e f) in
+        let own : (if is_of from to item then p.2 else 0) ≡ (if is_of from to p then p.2 else 0) =
+        ap (λ b. if b then p.2 else 0) (is_of-same from to item p e f) in
         omega (arith, sum, both, own);
     total = let sum = sum_by-set (λ (q : Counted). q.2) old k (item.0, item.1, item.2 + p.2) d within in omega (arith, sum);
     positive = λ all. All-set (λ q. 0 < q.2) old k (item.0, item.1, item.2 + p.2) (omega arith) all;
@@ -68,7 +71,8 @@ module _ (old : List Counted) (k : ℕ) (p d : Counted) (within : k < length old
         not_after_same (get_or old i e) (get_or new i e) q (same_from i e i_in) (same_to i e i_in) (all i e i_in);
   }
     where
-      before_both : (x y x' y' : Counted) → x'.0 ≡ x.0 → x'.1 ≡ x.1 → y'.0 ≡ y.0 → y'.1 ≡ y.1 → IsCountedBefore x y → IsCountedBefore x' y'
+      before_both : (x y x' y' : Counted) → x'.0 ≡ x.0 → x'.1 ≡ x.1 → y'.0 ≡ y.0 → y'.1 ≡ y.1 →
+          IsCountedBefore x y → IsCountedBefore x' y'
       before_both x y x' y' a b c d' (inl less) = inl (omega arith)
       before_both x y x' y' a b c d' (inr (same, less)) = inr (a ∙ same ∙ sym c, omega arith)
 
@@ -86,7 +90,8 @@ both_is true b is = (refl, is)
 both_is false b is = absurd (cc)
 
 -- a count added to the last pair
-pub raised_last : (old : List Counted) (k : ℕ) (x p : Counted) → is_last p.0 p.1 old ≡ true → k ≡ length old - 1 → x ≡ get_or old k x
+pub raised_last : (old : List Counted) (k : ℕ) (x p : Counted) → is_last p.0 p.1 old ≡ true
+    → k ≡ length old - 1 → x ≡ get_or old k x
     → AllPairs IsCountedBefore old → 0 < p.2 → IsAdded old (set old k (x.0, x.1, x.2 + p.2)) p
 raised_last old k x p last at read ordered some =
     let parts = last_is (length old == 0) (is_of p.0 p.1 (get_or old (length old - 1) (0, 0, 0))) last in
@@ -94,10 +99,12 @@ raised_last old k x p last at read ordered some =
     let within : k < length old = omega arith in
     let same : get_or old (length old - 1) (0, 0, 0) ≡ get_or old k x =
     ap (λ (j : ℕ). get_or old j (0, 0, 0)) (sym at) ∙ get_or_default old k (0, 0, 0) x within in
-    let ends = both_is ((get_or old (length old - 1) (0, 0, 0)).0 == p.0) ((get_or old (length old - 1) (0, 0, 0)).1 == p.1) parts.1 in
+    let ends =
+    both_is ((get_or old (length old - 1) (0, 0, 0)).0 == p.0) ((get_or old (length old - 1) (0, 0, 0)).1 == p.1) parts.1 in
     let from = sym (ap (λ (q : Counted). q.0) same) ∙ eqb-true _ _ ends.0 in
     let to = sym (ap (λ (q : Counted). q.1) same) ∙ eqb-true _ _ ends.1 in
-    subst (λ (y : Counted). IsAdded old (set old k (y.0, y.1, y.2 + p.2)) p) (sym read) (added_raised old k p x within from to ordered some)
+    subst (λ (y : Counted). IsAdded old (set old k (y.0, y.1, y.2 + p.2)) p) (sym read)
+    (added_raised old k p x within from to ordered some)
 
 -- a pair that isn't after another, and isn't the same, comes before it
 strictly : (x p : Counted) → IsNotAfter x p → is_of p.0 p.1 x ≡ false → IsCountedBefore x p
@@ -136,7 +143,8 @@ added_pushed old p some all ordered other = record {
     before : (k : ℕ) (d : Counted) → k < length old → IsCountedBefore (get_or old k d) p
     before k d within = ⊎_elim
         (λ (less : k < length old - 1).
-        then_before (get_or old k d) (get_or old (length old - 1) d) p (ordered k (length old - 1) d less (omega arith)) (all (length old - 1) d (omega arith)))
+        then_before (get_or old k d) (get_or old (length old - 1) d) p (ordered k (length old - 1) d less (omega arith))
+        (all (length old - 1) d (omega arith)))
         (λ (more : length old - 1 ≤ k).
         let same : length old - 1 ≡ k = omega arith in
         let differs = last_other (omega arith) d in
@@ -161,7 +169,8 @@ merged_none said = record {
 }
 
 -- one count more
-pub merged_more : (said : List Counted) (i : ℕ) (pairs new : List Counted) (d : Counted) → AllPairs IsNotAfter said → i < length said
+pub merged_more : (said : List Counted) (i : ℕ) (pairs new : List Counted) (d : Counted)
+    → AllPairs IsNotAfter said → i < length said
     → (get_or said i d).2 < 2 ^ 64 → IsAdded pairs new (get_or said i d) → IsMergedTo said i pairs → IsMergedTo said (i + 1) new
 merged_more said i pairs new d ordered within small is was =
     let p = get_or said i d in
@@ -176,7 +185,8 @@ merged_more said i pairs new d ordered within small is was =
       ordered = is.ordered;
       not_after = λ j e from inside.
           let same : get_or said i d ≡ get_or said i e = get_or_default said i d e within in
-          is.not_after (get_or said j e) (subst (λ (q : Counted). IsNotAfter q (get_or said j e)) (sym same) (ordered i j e (omega arith) inside))
+          is.not_after (get_or said j e)
+          (subst (λ (q : Counted). IsNotAfter q (get_or said j e)) (sym same) (ordered i j e (omega arith) inside))
           (was.not_after j e (omega arith) inside);
     }
 
@@ -187,7 +197,8 @@ merged_zero said i pairs d within zero' was = record {
   counts = λ from to.
       let before = was.counts from to in
       let more = sum_by_more (λ q. if is_of from to q then q.2 else 0) said i d within in
-      let nothing : (if is_of from to (get_or said i d) then (get_or said i d).2 else 0) ≡ 0 = none (is_of from to (get_or said i d)) in
+      let nothing : (if is_of from to (get_or said i d) then (get_or said i d).2 else 0) ≡ 0 =
+      none (is_of from to (get_or said i d)) in
       omega (arith, before, more, nothing);
   bound = omega (arith, was.bound);
   positive = was.positive;
@@ -199,7 +210,8 @@ merged_zero said i pairs d within zero' was = record {
     none true = zero'
     none false = refl
 
-pub merged_all : (said : List Counted) (i : ℕ) (pairs : List Counted) → length said ≤ i → i ≤ length said → IsMergedTo said i pairs → AreMerged said pairs
+pub merged_all : (said : List Counted) (i : ℕ) (pairs : List Counted) → length said ≤ i → i ≤ length said →
+    IsMergedTo said i pairs → AreMerged said pairs
 merged_all said i pairs all within is =
     let whole = take_all i said all in
     record {
@@ -246,12 +258,14 @@ chain xs next zero i j d gap within =
     let e : i + 1 ≡ j = omega arith in
     subst (λ (k : ℕ). IsNotAfter (get_or xs i d) (get_or xs k d)) e (next i d (omega arith))
 chain xs next (suc n) i j d gap within =
-    not_after_trans (get_or xs i d) (get_or xs (i + 1) d) (get_or xs j d) (next i d (omega arith)) (chain xs next n (i + 1) j d (omega arith) within)
+    not_after_trans (get_or xs i d) (get_or xs (i + 1) d) (get_or xs j d) (next i d (omega arith))
+    (chain xs next n (i + 1) j d (omega arith) within)
 
 pub pairs-sorted : (xs : List Counted)
     → ((k : ℕ) (d : Counted) → 0 ≤ k → k + 1 < length xs
-    → is_lt (ordering_then (nat_cmp (get_or xs (k + 1) d).0 (get_or xs k d).0) (nat_cmp (get_or xs (k + 1) d).1 (get_or xs k d).1)) ≡ false)
-    → AllPairs IsNotAfter xs
+    → is_lt (ordering_then (nat_cmp (get_or xs (k + 1) d).0 (get_or xs k d).0)
+    (nat_cmp (get_or xs (k + 1) d).1 (get_or xs k d).1)) ≡ false) → AllPairs IsNotAfter xs
 pairs-sorted xs sorted i j d less within =
-    chain xs (λ k e inside. from_cmp (get_or xs k e).0 (get_or xs k e).1 (get_or xs (k + 1) e).0 (get_or xs (k + 1) e).1 (sorted k e (omega arith) inside))
+    chain xs (λ k e inside. from_cmp (get_or xs k e).0 (get_or xs k e).1 (get_or xs (k + 1) e).0 (get_or xs (k + 1) e).1
+    (sorted k e (omega arith) inside))
     (j - i - 1) i j d (omega arith) within

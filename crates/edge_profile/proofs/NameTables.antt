@@ -24,7 +24,8 @@ list_all-push p (w ∷ vs) v = ap (λ b. p w && b) (list_all-push p vs v) ∙ &&
 
 pub known_by-push : (vs : List ℕ) (v : ℕ) → known_by (vs ++ v ∷ []) ≡ Some (next_known (known_by vs) v)
 known_by-push [] v = refl
-known_by-push (w ∷ vs) v = ap (λ b. Some (cond b (Some w) None)) (list_all-push (λ x. x == w) vs v) ∙ joined (list_all (λ x. x == w) vs) (v == w) refl
+known_by-push (w ∷ vs) v =
+    ap (λ b. Some (cond b (Some w) None)) (list_all-push (λ x. x == w) vs v) ∙ joined (list_all (λ x. x == w) vs) (v == w) refl
   where
     joined : (a b : Bool) → (v == w) ≡ b → Some (cond (a && b) (Some w) None) ≡ Some (next_known (Some (cond a (Some w) None)) v)
     joined true b e = ap (λ t. Some (cond t (Some w) None)) (sym e)
@@ -35,33 +36,41 @@ module _ (symbols : List Symbol) (i : ℕ) (d : Symbol) (within : i < length sym
   more : symbol_values (take (i + 1) symbols) name
       ≡ symbol_values (take i symbols) name
       ++ symbol_values (get_or symbols i d ∷ []) name
-  more = ap (λ ss. symbol_values ss name) (take_more symbols i d within) ∙ values-append (take i symbols) (get_or symbols i d ∷ [])
+  more =
+      ap (λ ss. symbol_values ss name) (take_more symbols i d within) ∙ values-append (take i symbols) (get_or symbols i d ∷ [])
     where
       values-append : (ss ts : List Symbol) → symbol_values (ss ++ ts) name ≡ symbol_values ss name ++ symbol_values ts name
       values-append ss ts =
           ap (map (λ s. s.value)) (filter-append (λ s. names_function s && bytes_eq s.name.now name) ss ts)
-          ∙ map-append (λ s. s.value) (filter (λ s. names_function s && bytes_eq s.name.now name) ss) (filter (λ s. names_function s && bytes_eq s.name.now name) ts)
+          ∙ map-append (λ s. s.value) (filter (λ s. names_function s && bytes_eq s.name.now name) ss)
+          (filter (λ s. names_function s && bytes_eq s.name.now name) ts)
 
   -- a symbol that names no function adds none
-  pub values-other : names_function (get_or symbols i d) ≡ false → symbol_values (take (i + 1) symbols) name ≡ symbol_values (take i symbols) name
-  values-other other = more ∙ ap (λ b. symbol_values (take i symbols) name ++ map (λ s. s.value) (cond (b && bytes_eq (get_or symbols i d).name.now name) (get_or symbols i d ∷ []) [])) other ∙ append-nil _
+  pub values-other : names_function (get_or symbols i d) ≡ false →
+      symbol_values (take (i + 1) symbols) name ≡ symbol_values (take i symbols) name
+  values-other other = more ∙ ap (λ b. symbol_values (take i symbols) name ++ map (λ s. s.value)
+      (cond (b && bytes_eq (get_or symbols i d).name.now name) (get_or symbols i d ∷ []) [])) other ∙ append-nil _
 
   -- a function's symbol adds its value to those of its name
   known_values : names_function (get_or symbols i d) ≡ true
       → known_by (symbol_values (take (i + 1) symbols) name)
-      ≡ (if bytes_eq (get_or symbols i d).name.now name then Some (next_known (known_by (symbol_values (take i symbols) name)) (get_or symbols i d).value)
+      ≡ (if bytes_eq (get_or symbols i d).name.now name
+      then Some (next_known (known_by (symbol_values (take i symbols) name)) (get_or symbols i d).value)
       else known_by (symbol_values (take i symbols) name))
   known_values function =
-      ap known_by (more ∙ ap (λ b. symbol_values (take i symbols) name ++ map (λ s. s.value) (cond (b && bytes_eq (get_or symbols i d).name.now name) (get_or symbols i d ∷ []) [])) function)
+      ap known_by (more ∙ ap (λ b. symbol_values (take i symbols) name
+      ++ map (λ s. s.value) (cond (b && bytes_eq (get_or symbols i d).name.now name) (get_or symbols i d ∷ []) [])) function)
       ∙ at (bytes_eq (get_or symbols i d).name.now name)
     where
       at : (b : Bool) → known_by (symbol_values (take i symbols) name ++ map (λ s. s.value) (cond b (get_or symbols i d ∷ []) []))
-          ≡ cond b (Some (next_known (known_by (symbol_values (take i symbols) name)) (get_or symbols i d).value)) (known_by (symbol_values (take i symbols) name))
+          ≡ cond b (Some (next_known (known_by (symbol_values (take i symbols) name)) (get_or symbols i d).value))
+          (known_by (symbol_values (take i symbols) name))
       at true = known_by-push (symbol_values (take i symbols) name) (get_or symbols i d).value
       at false = ap known_by (append-nil (symbol_values (take i symbols) name))
 
 -- a table of what is known of names, with one function's symbol more
-pub known-more : (symbols : List Symbol) (i : ℕ) (d : Symbol) → i < length symbols → names_function (get_or symbols i d) ≡ true → (old new : Values)
+pub known-more : (symbols : List Symbol) (i : ℕ) (d : Symbol) → i < length symbols
+    → names_function (get_or symbols i d) ≡ true → (old new : Values)
     → ((name : List ℕ) → known_of old name ≡ known_by (symbol_values (take i symbols) name))
     → ((name : List ℕ) → known_of new name ≡ (if bytes_eq (get_or symbols i d).name.now name
     then Some (next_known (known_of old (get_or symbols i d).name.now) (get_or symbols i d).value) else known_of old name))
@@ -74,7 +83,8 @@ known-more symbols i d within function old new was is name =
 
     at : (b : Bool) → bytes_eq own name ≡ b
         → cond b (Some (next_known (known_of old own) (get_or symbols i d).value)) (known_of old name)
-        ≡ cond b (Some (next_known (known_by (symbol_values (take i symbols) name)) (get_or symbols i d).value)) (known_by (symbol_values (take i symbols) name))
+        ≡ cond b (Some (next_known (known_by (symbol_values (take i symbols) name)) (get_or symbols i d).value))
+        (known_by (symbol_values (take i symbols) name))
     at true same =
         let names : own ≡ name = (bytes_decides own name).0 same in
         ap (λ known. Some (next_known known (get_or symbols i d).value)) (ap (known_of old) names ∙ was name)

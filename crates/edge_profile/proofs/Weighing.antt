@@ -18,7 +18,8 @@ use Rattle.edge_profile.specs.Counts.{Counted, total_count}
 use Rattle.edge_profile.specs.Places.{IsPlaceOf}
 use Rattle.edge_profile.specs.Weights.{block_weight, insts_of_block, touches, starts_at}
 use Rattle.edge_profile.specs.BlockPlaces.{IsApart, AreApart, begins_by, ends_from, has_inst}
-use Rattle.edge_profile.proofs.LaidOut.{insts_rise, inst_bounds, starts_below, starts_above, code_address-list_any, any_element}
+use Rattle.rv_code.proofs.lists.Follows.{insts_rise, inst_bounds}
+use Rattle.edge_profile.proofs.LaidOut.{starts_below, starts_above, code_address-list_any, any_element}
 
 -- Which blocks have the instruction at an address.
 
@@ -26,13 +27,15 @@ use Rattle.edge_profile.proofs.LaidOut.{insts_rise, inst_bounds, starts_below, s
 part : List Placed → ℕ → ℕ → List Placed
 part insts first last = take (last + 1 - first) (drop first insts)
 
-at_part : (insts : List Placed) (first last k : ℕ) (d : Placed) → k < length (part insts first last) → get_or (part insts first last) k d ≡ get_or insts (first + k) d
+at_part : (insts : List Placed) (first last k : ℕ) (d : Placed) → k < length (part insts first last) →
+    get_or (part insts first last) k d ≡ get_or insts (first + k) d
 unfolding part
 at_part insts first last k d within =
     let short : k < last + 1 - first = omega (arith, within, length-take (last + 1 - first) (drop first insts)) in
     get_or-take (last + 1 - first) (drop first insts) k d short ∙ get_or-drop first insts k d
 
-length-part : (insts : List Placed) (first last k : ℕ) → first ≤ k → k ≤ last → k < length insts → k - first < length (part insts first last)
+length-part : (insts : List Placed) (first last k : ℕ) → first ≤ k → k ≤ last → k < length insts →
+    k - first < length (part insts first last)
 unfolding part
 length-part insts first last k from to within =
     omega (arith, length-take (last + 1 - first) (drop first insts), length-drop first insts)
@@ -47,7 +50,8 @@ part_within insts first last k within =
     omega (arith, length-take (last + 1 - first) (drop first insts), length-drop first insts, within)
 
 -- an instruction of ascending ones is in a part by its place
-part_has : (insts : List Placed) → AllPairs (λ p q. p.addr < q.addr) insts → (a i : ℕ) (d : Placed) → i < length insts → (get_or insts i d).addr ≡ a
+part_has : (insts : List Placed) → AllPairs (λ p q. p.addr < q.addr) insts → (a i : ℕ) (d : Placed) → i < length insts
+    → (get_or insts i d).addr ≡ a
     → (first last : ℕ) → list_any (λ p. p.addr == a) (part insts first last) ≡ (nat_le first i && nat_le i last)
 part_has insts rising a i d within is first last = ⊎_elim
     (λ (before : i < first).
@@ -67,28 +71,35 @@ part_has insts rising a i d within is first last = ⊎_elim
     (cases_lt last i))
     (cases_lt i first)
   where
-    outside : ((k : ℕ) → k < length (part insts first last) → first + k ≡ i → ⊥) → list_any (λ p. p.addr == a) (part insts first last) ≡ false
+    outside : ((k : ℕ) → k < length (part insts first last) → first + k ≡ i → ⊥) →
+        list_any (λ p. p.addr == a) (part insts first last) ≡ false
     outside other = list_any_none (λ p. p.addr == a) (part insts first last)
         (λ k e inside. ne_eqb (get_or (part insts first last) k e).addr a
         (λ same.
-        let addr : (get_or insts (first + k) e).addr ≡ a = sym (ap (λ (p : Placed). p.addr) (at_part insts first last k e inside)) ∙ same in
+        let addr : (get_or insts (first + k) e).addr ≡ a =
+        sym (ap (λ (p : Placed). p.addr) (at_part insts first last k e inside)) ∙ same in
         let far = part_within insts first last k inside in
         let own : (get_or insts i e).addr ≡ a = ap (λ (p : Placed). p.addr) (get_or_default insts i e d within) ∙ is in
         ⊎_elim
-        (λ (less : first + k < i). let up : (get_or insts (first + k) e).addr < (get_or insts i e).addr = rising (first + k) i e less within in omega arith)
+        (λ (less : first + k < i).
+        let up : (get_or insts (first + k) e).addr < (get_or insts i e).addr = rising (first + k) i e less within in omega arith)
         (λ (more : i ≤ first + k). ⊎_elim
-        (λ (above : i < first + k). let up : (get_or insts i e).addr < (get_or insts (first + k) e).addr = rising i (first + k) e above far in omega arith)
+        (λ (above : i < first + k).
+        let up : (get_or insts i e).addr < (get_or insts (first + k) e).addr = rising i (first + k) e above far in omega arith)
         (λ (not' : first + k ≤ i). other k inside (omega arith))
         (cases_lt i (first + k)))
         (cases_lt (first + k) i)))
 
 -- where none starts at an address, none in a part does
-part_none : (insts : List Placed) (a first last : ℕ) → starts_at insts a ≡ false → list_any (λ p. p.addr == a) (part insts first last) ≡ false
+part_none : (insts : List Placed) (a first last : ℕ) → starts_at insts a ≡ false →
+    list_any (λ p. p.addr == a) (part insts first last) ≡ false
 part_none insts a first last none = list_any_none (λ p. p.addr == a) (part insts first last)
     (λ k d inside. ne_eqb (get_or (part insts first last) k d).addr a
     (λ same.
-    let addr : (get_or insts (first + k) d).addr ≡ a = sym (ap (λ (p : Placed). p.addr) (at_part insts first last k d inside)) ∙ same in
-    let some = list_any_at (λ p. p.addr == a) insts (first + k) d (part_within insts first last k inside) (eq-eqb (get_or insts (first + k) d).addr a addr) in
+    let addr : (get_or insts (first + k) d).addr ≡ a =
+    sym (ap (λ (p : Placed). p.addr) (at_part insts first last k d inside)) ∙ same in
+    let some = list_any_at (λ p. p.addr == a) insts (first + k) d (part_within insts first last k inside)
+    (eq-eqb (get_or insts (first + k) d).addr a addr) in
     absurd (cc)))
 
 module _ (funcs : List Func) where
@@ -100,7 +111,8 @@ module _ (funcs : List Func) where
   block_past b a past = ap (λ found. starts_at (insts_of b found) a) (slice_get_past funcs b.func past)
 
   block_in : (b : Block) (a : ℕ) (d : Func) → b.func < length funcs
-      → starts_at (insts_of_block funcs b) a ≡ list_any (λ p. p.addr == a) (part (get_or funcs b.func d).insts.items b.first b.last)
+      → starts_at (insts_of_block funcs b) a
+      ≡ list_any (λ p. p.addr == a) (part (get_or funcs b.func d).insts.items b.first b.last)
   unfolding insts_of part
   block_in b a d within = ap (λ found. starts_at (insts_of b found) a) (slice_get-get_or funcs b.func d within)
 
@@ -108,18 +120,21 @@ module _ (funcs : List Func) where
   holder_none a none b = ⊎_elim
       (λ (within : b.func < length funcs).
       let d = any_element funcs b.func within in
-      block_in b a d within ∙ part_none (get_or funcs b.func d).insts.items a b.first b.last (no_start b.func d within (starts_at (get_or funcs b.func d).insts.items a) refl))
+      block_in b a d within ∙ part_none (get_or funcs b.func d).insts.items a b.first b.last
+      (no_start b.func d within (starts_at (get_or funcs b.func d).insts.items a) refl))
       (λ (past : length funcs ≤ b.func). block_past b a past)
       (cases_lt b.func (length funcs))
     where
-      no_start : (k : ℕ) (d : Func) → k < length funcs → (t : Bool) → starts_at (get_or funcs k d).insts.items a ≡ t → starts_at (get_or funcs k d).insts.items a ≡ false
+      no_start : (k : ℕ) (d : Func) → k < length funcs → (t : Bool) → starts_at (get_or funcs k d).insts.items a ≡ t →
+          starts_at (get_or funcs k d).insts.items a ≡ false
       no_start k d within false is = is
       no_start k d within true is =
           let some = list_any_at (λ f. starts_at f.insts.items a) funcs k d within is in
           let same = code_address-list_any funcs a in
           absurd (cc)
 
-  pub holder_of_place : AreLaidOut funcs → (a f i : ℕ) → IsPlaceOf funcs a f i → (b : Block) → starts_at (insts_of_block funcs b) a ≡ has_inst f i b
+  pub holder_of_place : AreLaidOut funcs → (a f i : ℕ) → IsPlaceOf funcs a f i → (b : Block) →
+      starts_at (insts_of_block funcs b) a ≡ has_inst f i b
   holder_of_place laid a f i is b = ⊎_elim
       (λ (same : b.func ≡ f).
       let within : b.func < length funcs = let h = is.func_within in omega arith in
@@ -128,7 +143,8 @@ module _ (funcs : List Func) where
       let at_f : get_or funcs f d ≡ g = ap (λ (k : ℕ). get_or funcs k d) (sym same) in
       let there : i < length g.insts.items = subst (λ (h : Func). i < length h.insts.items) at_f (is.inst_within d) in
       let e = any_element g.insts.items i there in
-      let addr : (get_or g.insts.items i e).addr ≡ a = subst (λ (h : Func). (get_or h.insts.items i e).addr ≡ a) at_f (is.starts d e) in
+      let addr : (get_or g.insts.items i e).addr ≡ a =
+      subst (λ (h : Func). (get_or h.insts.items i e).addr ≡ a) at_f (is.starts d e) in
       block_in b a d within ∙ part_has g.insts.items (insts_rise g (laid.each b.func d within)) a i e there addr b.first b.last
       ∙ sym (ap (λ t. t && nat_le b.first i && nat_le i b.last) (eq-eqb b.func f same)))
       (λ (other : b.func ≢ f). ⊎_elim
@@ -178,7 +194,8 @@ begins f i b is = ⊎_elim
     (λ (less : b.func < f). inl less)
     (λ (more : f ≤ b.func). ⊎_elim
     (λ (same : b.func ≡ f). inr (same, leb-true b.first i (sym (rw (le-ltb b.func f more, eq-eqb b.func f same) refl) ∙ is)))
-    (λ (other : b.func ≢ f). let none : begins_by f i b ≡ false = rw (le-ltb b.func f more, ne_eqb b.func f other) refl in absurd (cc))
+    (λ (other : b.func ≢ f).
+    let none : begins_by f i b ≡ false = rw (le-ltb b.func f more, ne_eqb b.func f other) refl in absurd (cc))
     (cases_eq b.func f))
     (cases_lt b.func f)
 
@@ -200,11 +217,13 @@ module _ (blocks : List Block) (apart : AreApart blocks) (f i : ℕ) where
   partitioned_blocks j k d le within is = ⊎_elim
       (λ (less : j < k).
       begins_test f i (get_or blocks j d)
-      (earlier (get_or blocks j d) (get_or blocks k d) (apart.some j d (omega arith)) (apart.some k d within) (apart.ordered j k d less within) (begins f i (get_or blocks k d) is)))
+      (earlier (get_or blocks j d) (get_or blocks k d) (apart.some j d (omega arith)) (apart.some k d within)
+      (apart.ordered j k d less within) (begins f i (get_or blocks k d) is)))
       (λ (more : k ≤ j). let same : k ≡ j = omega arith in subst (λ (m : ℕ). begins_by f i (get_or blocks m d) ≡ true) same is)
       (cases_lt j k)
     where
-      earlier : (b c : Block) → b.first ≤ b.last → c.first ≤ c.last → IsApart b c → (c.func < f) ⊎ ((c.func ≡ f) × (c.first ≤ i)) → (b.func < f) ⊎ ((b.func ≡ f) × (b.first ≤ i))
+      earlier : (b c : Block) → b.first ≤ b.last → c.first ≤ c.last → IsApart b c →
+          (c.func < f) ⊎ ((c.func ≡ f) × (c.first ≤ i)) → (b.func < f) ⊎ ((b.func ≡ f) × (b.first ≤ i))
       earlier b c some more (inl less) (inl low) = inl (omega arith)
       earlier b c some more (inl less) (inr (same, from)) = inl (omega arith)
       earlier b c some more (inr (own, less)) (inl low) = inl (omega arith)
@@ -241,14 +260,18 @@ module _ (blocks : List Block) (apart : AreApart blocks) (f i : ℕ) where
         none_else : (k : ℕ) (d : Block) → k < length blocks → k ≢ below - 1 → has_inst f i (get_or blocks k d) ≡ false
         none_else k d within other = ⊎_elim
             (λ (less : k < below).
-            let before : IsApart (get_or blocks k d) (get_or blocks (below - 1) d) = apart.ordered k (below - 1) d (omega arith) (omega arith) in
+            let before : IsApart (get_or blocks k d) (get_or blocks (below - 1) d) =
+            apart.ordered k (below - 1) d (omega arith) (omega arith) in
             let last = ends f i (get_or blocks (below - 1) x) is in
-            let item : get_or blocks (below - 1) x ≡ get_or blocks (below - 1) d = get_or_default blocks (below - 1) x d (omega arith) in
+            let item : get_or blocks (below - 1) x ≡ get_or blocks (below - 1) d =
+            get_or_default blocks (below - 1) x d (omega arith) in
             let last_d = ends f i (get_or blocks (below - 1) d) (subst (λ (b : Block). ends_from f i b ≡ true) item is) in
-            let first_d = begins_here (get_or blocks (below - 1) d) last_d.0 (begins f i (get_or blocks (below - 1) d) (low (below - 1) d (omega arith))) in
+            let first_d = begins_here (get_or blocks (below - 1) d) last_d.0
+            (begins f i (get_or blocks (below - 1) d) (low (below - 1) d (omega arith))) in
             no_inst f i (get_or blocks k d) (λ same first to. ⊎_elim
             (λ (apart' : (get_or blocks k d).func < (get_or blocks (below - 1) d).func). omega (arith, last_d.0, apart', same))
-            (λ (apart' : ((get_or blocks k d).func ≡ (get_or blocks (below - 1) d).func) × ((get_or blocks k d).last < (get_or blocks (below - 1) d).first)). omega (arith, apart'.1, first_d, to))
+            (λ (apart' : ((get_or blocks k d).func ≡ (get_or blocks (below - 1) d).func) ×
+            ((get_or blocks k d).last < (get_or blocks (below - 1) d).first)). omega (arith, apart'.1, first_d, to))
             before))
             (λ (more : below ≤ k). above_none k d more within)
             (cases_lt k below)
@@ -259,22 +282,27 @@ module _ (blocks : List Block) (apart : AreApart blocks) (f i : ℕ) where
         (λ (less : k < below).
         no_inst f i (get_or blocks k d) (λ same first to.
         let past = not' (omega arith) in
-        let item : get_or blocks (below - 1) x ≡ get_or blocks (below - 1) d = get_or_default blocks (below - 1) x d (omega arith) in
-        let past_d : ends_from f i (get_or blocks (below - 1) d) ≡ false = subst (λ (b : Block). ends_from f i b ≡ false) item past in
+        let item : get_or blocks (below - 1) x ≡ get_or blocks (below - 1) d =
+        get_or_default blocks (below - 1) x d (omega arith) in
+        let past_d : ends_from f i (get_or blocks (below - 1) d) ≡ false =
+        subst (λ (b : Block). ends_from f i b ≡ false) item past in
         ⊎_elim
         (λ (before : k < below - 1).
-        too_late (get_or blocks k d) (get_or blocks (below - 1) d) same first to past_d (apart.some (below - 1) d (omega arith)) (apart.ordered k (below - 1) d before (omega arith))
+        too_late (get_or blocks k d) (get_or blocks (below - 1) d) same first to past_d (apart.some (below - 1) d (omega arith))
+        (apart.ordered k (below - 1) d before (omega arith))
         (begins f i (get_or blocks (below - 1) d) (low (below - 1) d (omega arith))))
         (λ (more : below - 1 ≤ k).
         let here : below - 1 ≡ k = omega arith in
-        let own : ends_from f i (get_or blocks k d) ≡ false = subst (λ (j : ℕ). ends_from f i (get_or blocks j d) ≡ false) here past_d in
+        let own : ends_from f i (get_or blocks k d) ≡ false =
+        subst (λ (j : ℕ). ends_from f i (get_or blocks j d) ≡ false) here past_d in
         let yes' = ends_test f i (get_or blocks k d) same to in
         absurd (cc))
         (cases_lt k (below - 1))))
         (λ (more : below ≤ k). above_none k d more within)
         (cases_lt k below)
       where
-        too_late : (b c : Block) → b.func ≡ f → b.first ≤ i → i ≤ b.last → ends_from f i c ≡ false → c.first ≤ c.last → IsApart b c → (c.func < f) ⊎ ((c.func ≡ f) × (c.first ≤ i)) → ⊥
+        too_late : (b c : Block) → b.func ≡ f → b.first ≤ i → i ≤ b.last → ends_from f i c ≡ false → c.first ≤ c.last →
+            IsApart b c → (c.func < f) ⊎ ((c.func ≡ f) × (c.first ≤ i)) → ⊥
         too_late b c same first to past some (inl less) (inl low') = omega arith
         too_late b c same first to past some (inl less) (inr (own, from)) = omega arith
         too_late b c same first to past some (inr (own, less)) (inl low') = omega arith
@@ -287,21 +315,24 @@ pub record AreWeights (funcs : List Func) (blocks : List Block) (pairs : List Co
   pub each : (k : ℕ) (d : Block) → k < length blocks → slice_index weights k ≡ block_weight pairs funcs (get_or blocks k d)
   pub total : sum weights ≤ 2 * total_count pairs
 
-pub weights_more : (funcs : List Func) (blocks : List Block) (pairs : List Counted) (i : ℕ) (x : Counted) (old new : List ℕ) → i < length pairs
-    → length new ≡ length old
-    → ((k : ℕ) (d : Block) → k < length blocks → slice_index new k ≡ slice_index old k + (if touches (insts_of_block funcs (get_or blocks k d)) (get_or pairs i x) then (get_or pairs i x).2 else 0))
+pub weights_more : (funcs : List Func) (blocks : List Block) (pairs : List Counted) (i : ℕ) (x : Counted) (old new : List ℕ)
+    → i < length pairs → length new ≡ length old
+    → ((k : ℕ) (d : Block) → k < length blocks → slice_index new k ≡ slice_index old k
+    + (if touches (insts_of_block funcs (get_or blocks k d)) (get_or pairs i x) then (get_or pairs i x).2 else 0))
     → sum new ≤ sum old + 2 * (get_or pairs i x).2
     → AreWeights funcs blocks (take i pairs) old → AreWeights funcs blocks (take (i + 1) pairs) new
 weights_more funcs blocks pairs i x old new within long each total was = record {
   lengths = long ∙ was.lengths;
   each = λ k d inside.
-      each k d inside ∙ ap (λ n. n + (if touches (insts_of_block funcs (get_or blocks k d)) (get_or pairs i x) then (get_or pairs i x).2 else 0)) (was.each k d inside)
+      each k d inside
+      ∙ ap (λ n. n + (if touches (insts_of_block funcs (get_or blocks k d)) (get_or pairs i x) then (get_or pairs i x).2 else 0))
+      (was.each k d inside)
       ∙ sym (sum_by_more (λ p. if touches (insts_of_block funcs (get_or blocks k d)) p then p.2 else 0) pairs i x within);
   total = let more = sum_by_more (λ (p : Counted). p.2) pairs i x within in omega (arith, total, was.total, more);
 }
 
-pub weights_all : (funcs : List Func) (blocks : List Block) (pairs : List Counted) (weights : List ℕ) → AreWeights funcs blocks pairs weights
-    → weights ≡ map (block_weight pairs funcs) blocks
+pub weights_all : (funcs : List Func) (blocks : List Block) (pairs : List Counted) (weights : List ℕ)
+    → AreWeights funcs blocks pairs weights → weights ≡ map (block_weight pairs funcs) blocks
 weights_all funcs blocks pairs weights are =
     let mapped : length (map (block_weight pairs funcs) blocks) ≡ length blocks = simp length-map in
     same_lists weights (map (block_weight pairs funcs) blocks) (are.lengths ∙ sym mapped) each
@@ -310,4 +341,5 @@ weights_all funcs blocks pairs weights are =
     each k d within =
         let inside : k < length blocks = omega (arith, are.lengths) in
         let b = any_element blocks k inside in
-        get_or_default weights k d 0 within ∙ are.each k b inside ∙ sym (get_or-map (block_weight pairs funcs) blocks k b d inside)
+        get_or_default weights k d 0 within ∙ are.each k b inside
+        ∙ sym (get_or-map (block_weight pairs funcs) blocks k b d inside)

@@ -32,7 +32,8 @@ is_at k (Some j) = k == j
 
 -- the block at a place, if at any, has the instruction at an address, and no other block has
 pub record IsHolder (funcs : List Func) (blocks : List Block) (a : ℕ) (place : Option ℕ) : Type 0 where
-  pub has : (k : ℕ) (d : Block) → k < length blocks → starts_at (insts_of_block funcs (slice_index_or blocks k d)) a ≡ is_at k place
+  pub has : (k : ℕ) (d : Block) → k < length blocks →
+      starts_at (insts_of_block funcs (slice_index_or blocks k d)) a ≡ is_at k place
 
 -- numbers, of which the one at a place is raised
 abbrev pub raised_at : List ℕ → Option ℕ → ℕ → List ℕ

@@ -21,7 +21,8 @@ is_lower_hex_digit c = is_ascii_digit c || is_in_range 97 102 c
 -- the number below 2^64 that digits write, if they are some, and at most so many
 abbrev pub number_of_digits : (radix most : ℕ) → (ℕ → Bool) → List ℕ → Option ℕ
 number_of_digits radix most is_digit digits =
-    if nat_lt 0 (length digits) && nat_le (length digits) most && list_all is_digit digits && nat_lt (digits_value radix digits) (2 ^ 64)
+    if nat_lt 0 (length digits) && nat_le (length digits) most && list_all is_digit digits
+    && nat_lt (digits_value radix digits) (2 ^ 64)
     then Some (digits_value radix digits)
     else None
 

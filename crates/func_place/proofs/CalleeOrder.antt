@@ -22,7 +22,8 @@ chain a b c x y z (inr p) (inr q) = inr (p.0 ∙ q.0, let e = p.1 in let f = q.1
 callee_order : IsStrictWeakOrder by_callee
 callee_order = record {
   one_way = λ a b h. less_once a.to b.to a.from b.from h;
-  chain = λ a b c h k. less_not a.to c.to a.from c.from (chain a.to b.to c.to a.from b.from c.from (less_no a.to b.to a.from b.from h) (less_no b.to c.to b.from c.from k));
+  chain = λ a b c h k. less_not a.to c.to a.from c.from
+      (chain a.to b.to c.to a.from b.from c.from (less_no a.to b.to a.from b.from h) (less_no b.to c.to b.from c.from k));
 }
 
 up_to : (a b : Call) → (a.to < b.to) ⊎ ((b.to ≡ a.to) × (a.from ≤ b.from)) → IsUpTo a b
@@ -38,7 +39,11 @@ AreByCallee-sorted calls sorted = λ i j d le lt.
 -- The heaviest caller doesn't depend on the order of calls.
 
 same_between : (calls others : List Call) → IsPermutation calls others → calls_between others ≡ calls_between calls
-same_between calls others p = λ i v u. sum_by-IsPermutation (λ (c : Call). if (c.from == v) && (c.to == u) then c.count else 0) calls others p i
+same_between calls others p =
+    λ i v u. sum_by-IsPermutation (λ (c : Call). if (c.from == v) && (c.to == u) then c.count else 0) calls others p i
 
-pub heaviest_caller-IsPermutation : (heats : List ℕ) (calls others : List Call) (u : ℕ) → IsPermutation calls others → heaviest_caller heats others u ≡ heaviest_caller heats calls u
-heaviest_caller-IsPermutation heats calls others u p = ap (λ (between : ℕ → ℕ → ℕ). reduce (λ (v w : ℕ). if nat_lt (between v u) (between w u) then w else v) (filter (λ (v : ℕ). not (v == u) && nat_lt 0 (between v u)) (hot_units heats))) (same_between calls others p)
+pub heaviest_caller-IsPermutation : (heats : List ℕ) (calls others : List Call) (u : ℕ) → IsPermutation calls others →
+    heaviest_caller heats others u ≡ heaviest_caller heats calls u
+heaviest_caller-IsPermutation heats calls others u p =
+    ap (λ (between : ℕ → ℕ → ℕ). reduce (λ (v w : ℕ). if nat_lt (between v u) (between w u) then w else v)
+    (filter (λ (v : ℕ). not (v == u) && nat_lt 0 (between v u)) (hot_units heats))) (same_between calls others p)

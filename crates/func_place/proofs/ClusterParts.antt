@@ -38,7 +38,8 @@ no_test xs u h = ⊎_elim
     both b i j = cc
 
 -- nothing stands in two clusters
-apart : {warm : ℕ → Bool} {cluster : ℕ → List ℕ} → IsClustered warm cluster → (v u x : ℕ) → has (cluster v) u ≡ false → 0 < times x (cluster v) → 0 < times x (cluster u) → ⊥
+apart : {warm : ℕ → Bool} {cluster : ℕ → List ℕ} → IsClustered warm cluster → (v u x : ℕ) → has (cluster v) u ≡ false →
+    0 < times x (cluster v) → 0 < times x (cluster u) → ⊥
 apart {warm} {cluster} c v u x out in_v in_u =
     let e : cluster v ≡ cluster u = sym (c.same v x in_v) ∙ c.same u x in_u in
     let none = no_test (cluster v) u out in
@@ -46,7 +47,8 @@ apart {warm} {cluster} c v u x out in_v in_u =
     let t : times u (cluster v) ≡ times u (cluster u) = ap (times u) e in
     omega arith
 
-joined_clustered : {warm : ℕ → Bool} {cluster : ℕ → List ℕ} (v u : ℕ) → IsClustered warm cluster → has (cluster v) u ≡ false → warm v ≡ warm u → IsClustered warm (joined (cluster v) (cluster u) cluster)
+joined_clustered : {warm : ℕ → Bool} {cluster : ℕ → List ℕ} (v u : ℕ) → IsClustered warm cluster → has (cluster v) u ≡ false →
+    warm v ≡ warm u → IsClustered warm (joined (cluster v) (cluster u) cluster)
 joined_clustered {warm} {cluster} v u c out warm_is =
     let a = cluster v in
     let b = cluster u in
@@ -74,8 +76,14 @@ joined_clustered {warm} {cluster} v u c out warm_is =
     let self = c.itself w in
     let as_w : cluster x ≡ cluster w = c.same w x x_in in
     absurd (⊎_elim
-    (λ (z : times x a ≡ 0). let e : cluster w ≡ b = sym as_w ∙ c.same u x (omega arith) in let r : times w (cluster w) ≡ times w b = ap (times w) e in omega arith)
-    (λ (nz : times x a ≢ 0). let e : cluster w ≡ a = sym as_w ∙ c.same v x (omega arith) in let r : times w (cluster w) ≡ times w a = ap (times w) e in omega arith)
+    (λ (z : times x a ≡ 0).
+    let e : cluster w ≡ b = sym as_w ∙ c.same u x (omega arith) in
+    let r : times w (cluster w) ≡ times w b = ap (times w) e in
+    omega arith)
+    (λ (nz : times x a ≢ 0).
+    let e : cluster w ≡ a = sym as_w ∙ c.same v x (omega arith) in
+    let r : times w (cluster w) ≡ times w a = ap (times w) e in
+    omega arith)
     (cases_eq (times x a) 0)))
     (λ (outside : has both x ≡ false). outside)
     (cases_Bool (has both x)) in
@@ -98,7 +106,8 @@ joined_clustered {warm} {cluster} v u c out warm_is =
           (cases_Bool (has both w));
     }
 
-appended_clustered : {warm : ℕ → Bool} {cluster : ℕ → List ℕ} (sizes : List ℕ) (v u : ℕ) → IsClustered warm cluster → warm v ≡ warm u → IsClustered warm (appended sizes (cluster v) (cluster u) u cluster)
+appended_clustered : {warm : ℕ → Bool} {cluster : ℕ → List ℕ} (sizes : List ℕ) (v u : ℕ) → IsClustered warm cluster →
+    warm v ≡ warm u → IsClustered warm (appended sizes (cluster v) (cluster u) u cluster)
 appended_clustered {warm} {cluster} sizes v u c warm_is =
     let fits = nat_le (total sizes (cluster v) + total sizes (cluster u)) limit in
     ⊎_elim
@@ -110,10 +119,14 @@ appended_clustered {warm} {cluster} sizes v u c warm_is =
     (cases_Bool (has (cluster v) u))
 
 -- the units that are taken and their callers are warm
-pub folded_clustered : (warm : ℕ → Bool) (sizes : List ℕ) (caller : ℕ → Option ℕ) → ((u v : ℕ) → caller u ≡ Some v → warm v ≡ true) → (taken : List ℕ) (cluster : ℕ → List ℕ) → ((u : ℕ) → 0 < times u taken → warm u ≡ true) → IsClustered warm cluster → IsClustered warm (fold (take_unit sizes caller) cluster taken)
+pub folded_clustered : (warm : ℕ → Bool) (sizes : List ℕ) (caller : ℕ → Option ℕ) →
+    ((u v : ℕ) → caller u ≡ Some v → warm v ≡ true) → (taken : List ℕ) (cluster : ℕ → List ℕ) →
+    ((u : ℕ) → 0 < times u taken → warm u ≡ true) → IsClustered warm cluster →
+    IsClustered warm (fold (take_unit sizes caller) cluster taken)
 folded_clustered warm sizes caller callers [] cluster all c = c
 folded_clustered warm sizes caller callers (u ∷ us) cluster all c =
-    folded_clustered warm sizes caller callers us (take_unit sizes caller cluster u) (λ w some. all w (let t = times-cons w u us in omega arith)) (go (caller u) refl)
+    folded_clustered warm sizes caller callers us (take_unit sizes caller cluster u)
+    (λ w some. all w (let t = times-cons w u us in omega arith)) (go (caller u) refl)
   where
     here : warm u ≡ true
     here = all u (let t = times-same u us in omega arith)
@@ -138,10 +151,14 @@ starts_only h x xs e = grind (arith, common_steps)
 
 first_of_list : (xs : List ℕ) (u : ℕ) → 0 < times u xs → (h : ℕ) × IsFirst xs h
 first_of_list [] u some = absurd (let z = times-nil u in omega arith)
-first_of_list (h ∷ xs) u some = (h, record { starts = starts_itself h xs; inside = let t = times-same h xs in omega arith; only = λ x e. starts_only h x xs e })
+first_of_list (h ∷ xs) u some = (
+  h,
+  record { starts = starts_itself h xs; inside = let t = times-same h xs in omega arith; only = λ x e. starts_only h x xs e },
+)
 
 -- a warm unit stands in the clusters of the heads as often as the head of its cluster was taken
-heads_warm : {warm : ℕ → Bool} {cluster : ℕ → List ℕ} → IsClustered warm cluster → (taken : List ℕ) (w : ℕ) → ((u : ℕ) → warm u ≡ true → times u taken ≡ 1) → warm w ≡ true → sum_by (λ x. times w (cluster x)) (heads cluster taken) ≡ 1
+heads_warm : {warm : ℕ → Bool} {cluster : ℕ → List ℕ} → IsClustered warm cluster → (taken : List ℕ) (w : ℕ) →
+    ((u : ℕ) → warm u ≡ true → times u taken ≡ 1) → warm w ≡ true → sum_by (λ x. times w (cluster x)) (heads cluster taken) ≡ 1
 heads_warm {warm} {cluster} c taken w once_taken is_warm =
     let itself = c.itself w in
     let first = first_of_list (cluster w) w (omega arith) in
@@ -171,13 +188,16 @@ heads_warm {warm} {cluster} c taken w once_taken is_warm =
     no_one : (x h : ℕ) → x ≢ h → one_if (x == h) ≡ 0
     no_one x h ne = grind (arith, common_steps)
 
-    head_starts : (cluster : ℕ → List ℕ) (taken : List ℕ) (x : ℕ) → 0 < times x (heads cluster taken) → begins (cluster x) x ≡ true
+    head_starts : (cluster : ℕ → List ℕ) (taken : List ℕ) (x : ℕ) → 0 < times x (heads cluster taken) →
+        begins (cluster x) x ≡ true
     head_starts cluster taken x some = ⊎_elim
         (λ (h : begins (cluster x) x ≡ true). h)
-        (λ (h : begins (cluster x) x ≡ false). let z = times-filter_out (λ u. begins (cluster u) u) x taken h in absurd (omega arith))
+        (λ (h : begins (cluster x) x ≡ false).
+        let z = times-filter_out (λ u. begins (cluster u) u) x taken h in absurd (omega arith))
         (cases_Bool (begins (cluster x) x))
 
-heads_cold : {warm : ℕ → Bool} {cluster : ℕ → List ℕ} → IsClustered warm cluster → (taken : List ℕ) (w : ℕ) → ((u : ℕ) → 0 < times u taken → warm u ≡ true) → warm w ≡ false → sum_by (λ x. times w (cluster x)) (heads cluster taken) ≡ 0
+heads_cold : {warm : ℕ → Bool} {cluster : ℕ → List ℕ} → IsClustered warm cluster → (taken : List ℕ) (w : ℕ) →
+    ((u : ℕ) → 0 < times u taken → warm u ≡ true) → warm w ≡ false → sum_by (λ x. times w (cluster x)) (heads cluster taken) ≡ 0
 heads_cold {warm} {cluster} c taken w all is_cold = sum-zero (λ x. times w (cluster x)) (heads cluster taken) (λ x some. ⊎_elim
     (λ (z : times w (cluster x) ≡ 0). z)
     (λ (nz : times w (cluster x) ≢ 0).
@@ -194,8 +214,14 @@ heads_cold {warm} {cluster} c taken w all is_cold = sum-zero (λ x. times w (clu
         (λ (h : p x ≡ false). let z = times-filter_out p x xs h in absurd (omega arith))
         (cases_Bool (p x))
 
-pub ranked_warm : {warm : ℕ → Bool} {cluster : ℕ → List ℕ} → IsClustered warm cluster → (taken ranked : List ℕ) (w : ℕ) → IsPermutation (heads cluster taken) ranked → ((u : ℕ) → warm u ≡ true → times u taken ≡ 1) → warm w ≡ true → times w (flat_map cluster ranked) ≡ 1
-ranked_warm {warm} {cluster} c taken ranked w p once_taken is_warm = times-flat_map w cluster ranked ∙ sum_by-IsPermutation (λ x. times w (cluster x)) (heads cluster taken) ranked p ∙ heads_warm c taken w once_taken is_warm
+pub ranked_warm : {warm : ℕ → Bool} {cluster : ℕ → List ℕ} → IsClustered warm cluster → (taken ranked : List ℕ) (w : ℕ) →
+    IsPermutation (heads cluster taken) ranked → ((u : ℕ) → warm u ≡ true → times u taken ≡ 1) → warm w ≡ true →
+    times w (flat_map cluster ranked) ≡ 1
+ranked_warm {warm} {cluster} c taken ranked w p once_taken is_warm = times-flat_map w cluster ranked
+    ∙ sum_by-IsPermutation (λ x. times w (cluster x)) (heads cluster taken) ranked p ∙ heads_warm c taken w once_taken is_warm
 
-pub ranked_cold : {warm : ℕ → Bool} {cluster : ℕ → List ℕ} → IsClustered warm cluster → (taken ranked : List ℕ) (w : ℕ) → IsPermutation (heads cluster taken) ranked → ((u : ℕ) → 0 < times u taken → warm u ≡ true) → warm w ≡ false → times w (flat_map cluster ranked) ≡ 0
-ranked_cold {warm} {cluster} c taken ranked w p all is_cold = times-flat_map w cluster ranked ∙ sum_by-IsPermutation (λ x. times w (cluster x)) (heads cluster taken) ranked p ∙ heads_cold c taken w all is_cold
+pub ranked_cold : {warm : ℕ → Bool} {cluster : ℕ → List ℕ} → IsClustered warm cluster → (taken ranked : List ℕ) (w : ℕ) →
+    IsPermutation (heads cluster taken) ranked → ((u : ℕ) → 0 < times u taken → warm u ≡ true) → warm w ≡ false →
+    times w (flat_map cluster ranked) ≡ 0
+ranked_cold {warm} {cluster} c taken ranked w p all is_cold = times-flat_map w cluster ranked
+    ∙ sum_by-IsPermutation (λ x. times w (cluster x)) (heads cluster taken) ranked p ∙ heads_cold c taken w all is_cold

@@ -38,7 +38,8 @@ same_pair : (a b x y : ℕ) → ((a == x) && (b == y)) ≡ true → (a ≡ x) ×
 same_pair a b x y h = (grind (arith, common_steps), grind (arith, common_steps))
 
 -- what is counted stands in the list
-pub occurs : (calls : List Call) (w u : ℕ) → 0 < calls_between calls w u → (k : ℕ) × (k < length calls) × ((call_at calls k).from ≡ w) × ((call_at calls k).to ≡ u)
+pub occurs : (calls : List Call) (w u : ℕ) → 0 < calls_between calls w u →
+    (k : ℕ) × (k < length calls) × ((call_at calls k).from ≡ w) × ((call_at calls k).to ≡ u)
 occurs [] w u some = absurd (omega arith)
 occurs (c ∷ cs) w u some =
     let sum = sum_by-cons (λ (c : Call). if (c.from == w) && (c.to == u) then c.count else 0) c cs in

@@ -3,10 +3,10 @@ pub mod CallLists
 pub mod CalleeOrder
 pub mod ClusterMoves
 pub mod ClusterParts
-pub mod FunctionAt
 pub mod Gained
 pub mod GroupMoves
 pub mod Heaviest
+pub mod InstOrder
 pub mod LowestMembers
 pub mod Moving
 pub mod Only

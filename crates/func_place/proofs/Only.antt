@@ -17,14 +17,16 @@ times u xs = sum_by (λ v. if v == u then 1 else 0) xs
 
 times-same : (x : ℕ) (xs : List ℕ) → times x (x ∷ xs) ≡ 1 + times x xs
 unfolding times
-times-same x xs = sum_by-cons (λ v. if v == x then 1 else 0) x xs ∙ ap (λ (n : ℕ). n + sum_by (λ v. if v == x then 1 else 0) xs) (grind (arith, common_steps))
+times-same x xs = sum_by-cons (λ v. if v == x then 1 else 0) x xs
+    ∙ ap (λ (n : ℕ). n + sum_by (λ v. if v == x then 1 else 0) xs) (grind (arith, common_steps))
 
 none_of : (x u n : ℕ) → x ≢ u → (if x == u then 1 else 0) + n ≡ n
 none_of x u n ne = grind (arith, common_steps)
 
 times-other : (u x : ℕ) (xs : List ℕ) → x ≢ u → times u (x ∷ xs) ≡ times u xs
 unfolding times
-times-other u x xs ne = sum_by-cons (λ v. if v == u then 1 else 0) x xs ∙ none_of x u (sum_by (λ v. if v == u then 1 else 0) xs) ne
+times-other u x xs ne =
+    sum_by-cons (λ v. if v == u then 1 else 0) x xs ∙ none_of x u (sum_by (λ v. if v == u then 1 else 0) xs) ne
 
 times-none : (u : ℕ) → times u [] ≡ 0
 unfolding times
@@ -34,7 +36,9 @@ times-none u = refl
 at : (u : ℕ) (xs : List ℕ) → 0 < times u xs → (k : ℕ) × (k < length xs) × ((d : ℕ) → get_or xs k d ≡ u)
 at u [] some = absurd (let z = times-none u in omega arith)
 at u (x ∷ xs) some = ⊎_elim (λ (e : x ≡ u). (0, omega arith, λ d. e))
-    (λ (ne : x ≢ u). let k = at u xs (let t = times-other u x xs ne in omega arith) in (suc k.0, omega (arith, k.1), λ d. k.2 d)) (cases_eq x u)
+    (λ (ne : x ≢ u).
+    let k = at u xs (let t = times-other u x xs ne in omega arith) in
+    (suc k.0, omega (arith, k.1), λ d. k.2 d)) (cases_eq x u)
 
 -- no later member comes before an earlier one
 unfoldable Far : (ℕ → ℕ → Bool) → List ℕ → Type 0
@@ -46,35 +50,57 @@ far_tail before x xs f = λ i j d le lt. f (suc i) (suc j) d (omega arith) (omeg
 
 far_head : (before : ℕ → ℕ → Bool) (x y : ℕ) (xs : List ℕ) → Far before (x ∷ xs) → 0 < times y xs → before y x ≡ false
 unfolding Far
-far_head before x y xs f some = let k = at y xs some in let h : before (get_or xs k.0 0) x ≡ false = f 0 (suc k.0) 0 (omega arith) (omega (arith, k.1)) in subst (λ (z : ℕ). before z x ≡ false) (k.2 0) h
+far_head before x y xs f some =
+    let k = at y xs some in
+    let h : before (get_or xs k.0 0) x ≡ false = f 0 (suc k.0) 0 (omega arith) (omega (arith, k.1)) in
+    subst (λ (z : ℕ). before z x ≡ false) (k.2 0) h
 
-only_list : (before : ℕ → ℕ → Bool) → ((x y : ℕ) → before x y ≡ false → before y x ≡ false → x ≡ y) → (xs ys : List ℕ) → Far before xs → Far before ys → ((u : ℕ) → times u xs ≡ times u ys) → xs ≡ ys
+only_list : (before : ℕ → ℕ → Bool) → ((x y : ℕ) → before x y ≡ false → before y x ≡ false → x ≡ y) → (xs ys : List ℕ) →
+    Far before xs → Far before ys → ((u : ℕ) → times u xs ≡ times u ys) → xs ≡ ys
 only_list before one [] [] f g same = refl
-only_list before one [] (y ∷ ys) f g same = absurd (let a = same y in let b = times-same y ys in let c = times-none y in omega arith)
-only_list before one (x ∷ xs) [] f g same = absurd (let a = same x in let b = times-same x xs in let c = times-none x in omega arith)
+only_list before one [] (y ∷ ys) f g same =
+    absurd (let a = same y in let b = times-same y ys in let c = times-none y in omega arith)
+only_list before one (x ∷ xs) [] f g same =
+    absurd (let a = same x in let b = times-same x xs in let c = times-none x in omega arith)
 only_list before one (x ∷ xs) (y ∷ ys) f g same =
     let first : x ≡ y = ⊎_elim (λ (e : x ≡ y). e)
     (λ (ne : x ≢ y).
-    let x_later : 0 < times x ys = let a = same x in let b = times-same x xs in let c = times-other x y ys (λ e. ne (sym e)) in omega arith in
+    let x_later : 0 < times x ys = let a = same x in
+    let b = times-same x xs in
+    let c = times-other x y ys (λ e. ne (sym e)) in omega arith in
     let y_later : 0 < times y xs = let a = same y in let b = times-same y ys in let c = times-other y x xs ne in omega arith in
     one x y (far_head before y x ys g x_later) (far_head before x y xs f y_later))
     (cases_eq x y) in
     let rest : xs ≡ ys = only_list before one xs ys (far_tail before x xs f) (far_tail before y ys g)
     (λ u. ⊎_elim
-    (λ (e : x ≡ u). let a = rw e at (same x) in let b = times-same u xs in let c = times-same u ys in let d : y ≡ u = sym first ∙ e in let h : times u (u ∷ xs) ≡ times u (y ∷ ys) = rw e at (same u) in let i : times u (u ∷ xs) ≡ times u (u ∷ ys) = rw d at h in omega arith)
-    (λ (ne : x ≢ u). let a = same u in let b = times-other u x xs ne in let c = times-other u y ys (λ e. ne (first ∙ e)) in omega arith)
+    (λ (e : x ≡ u).
+    let a = rw e at (same x) in
+    let b = times-same u xs in
+    let c = times-same u ys in
+    let d : y ≡ u = sym first ∙ e in
+    let h : times u (u ∷ xs) ≡ times u (y ∷ ys) = rw e at (same u) in
+    let i : times u (u ∷ xs) ≡ times u (u ∷ ys) = rw d at h in
+    omega arith)
+    (λ (ne : x ≢ u).
+    let a = same u in
+    let b = times-other u x xs ne in
+    let c = times-other u y ys (λ e. ne (first ∙ e)) in
+    omega arith)
     (cases_eq x u)) in
     rw (first, rest) refl
 
-same_times : (members xs ys : List ℕ) (before : ℕ → ℕ → Bool) → IsInOrder before members xs → IsInOrder before members ys → (u : ℕ) → times u xs ≡ times u ys
+same_times : (members xs ys : List ℕ) (before : ℕ → ℕ → Bool) → IsInOrder before members xs → IsInOrder before members ys →
+    (u : ℕ) → times u xs ≡ times u ys
 unfolding times
-same_times members xs ys before a b u = sum_by-IsPermutation (λ v. if v == u then 1 else 0) members xs a.each ∙ sym (sum_by-IsPermutation (λ v. if v == u then 1 else 0) members ys b.each)
+same_times members xs ys before a b u = sum_by-IsPermutation (λ v. if v == u then 1 else 0) members xs a.each
+    ∙ sym (sum_by-IsPermutation (λ v. if v == u then 1 else 0) members ys b.each)
 
 far_sorted : (before : ℕ → ℕ → Bool) → IsStrictWeakOrder before → (xs : List ℕ) → IsSortedBy before xs → Far before xs
 unfolding Far
 far_sorted before o xs s = sorted_far before o xs s
 
-hotter_chain : (a b c x y z : ℕ) → (nat_lt b a || ((b == a) && nat_lt x y)) ≡ false → (nat_lt c b || ((c == b) && nat_lt y z)) ≡ false → (nat_lt c a || ((c == a) && nat_lt x z)) ≡ false
+hotter_chain : (a b c x y z : ℕ) → (nat_lt b a || ((b == a) && nat_lt x y)) ≡ false →
+    (nat_lt c b || ((c == b) && nat_lt y z)) ≡ false → (nat_lt c a || ((c == a) && nat_lt x z)) ≡ false
 hotter_chain a b c x y z h k = go (less_no b a x y h) (less_no c b y z k)
   where
     go : (a < b) ⊎ ((b ≡ a) × (y ≤ x)) → (b < c) ⊎ ((c ≡ b) × (z ≤ y)) → (nat_lt c a || ((c == a) && nat_lt x z)) ≡ false
@@ -90,15 +116,19 @@ hotter_order heats = record {
 }
 
 one_hotter : (heats : List ℕ) (x y : ℕ) → hotter heats x y ≡ false → hotter heats y x ≡ false → x ≡ y
-one_hotter heats x y h k = go (less_no (slice_index heats y) (slice_index heats x) x y h) (less_no (slice_index heats x) (slice_index heats y) y x k)
+one_hotter heats x y h k =
+    go (less_no (slice_index heats y) (slice_index heats x) x y h) (less_no (slice_index heats x) (slice_index heats y) y x k)
   where
-    go : (slice_index heats x < slice_index heats y) ⊎ ((slice_index heats y ≡ slice_index heats x) × (y ≤ x)) → (slice_index heats y < slice_index heats x) ⊎ ((slice_index heats x ≡ slice_index heats y) × (x ≤ y)) → x ≡ y
+    go : (slice_index heats x < slice_index heats y) ⊎ ((slice_index heats y ≡ slice_index heats x) × (y ≤ x)) →
+        (slice_index heats y < slice_index heats x) ⊎ ((slice_index heats x ≡ slice_index heats y) × (x ≤ y)) → x ≡ y
     go (inl p) (inl q) = absurd (omega arith)
     go (inl p) (inr q) = absurd (let e = q.0 in omega arith)
     go (inr p) (inl q) = absurd (let e = p.0 in omega arith)
     go (inr p) (inr q) = let e = p.1 in let f = q.1 in omega arith
 
 -- the order in which hot units are taken is the only one
-pub only_taken : (heats xs ys : List ℕ) → IsInOrder (hotter heats) (hot_units heats) xs → IsInOrder (hotter heats) (hot_units heats) ys → xs ≡ ys
+pub only_taken : (heats xs ys : List ℕ) → IsInOrder (hotter heats) (hot_units heats) xs →
+    IsInOrder (hotter heats) (hot_units heats) ys → xs ≡ ys
 only_taken heats xs ys a b = only_list (hotter heats) (one_hotter heats) xs ys
-    (far_sorted (hotter heats) (hotter_order heats) xs a.ordered) (far_sorted (hotter heats) (hotter_order heats) ys b.ordered) (same_times (hot_units heats) xs ys (hotter heats) a b)
+    (far_sorted (hotter heats) (hotter_order heats) xs a.ordered) (far_sorted (hotter heats) (hotter_order heats) ys b.ordered)
+    (same_times (hot_units heats) xs ys (hotter heats) a b)

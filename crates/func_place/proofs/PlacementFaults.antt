@@ -17,7 +17,7 @@ use Rattle.func_place.specs.Clusters.{limit}
 use Rattle.func_place.specs.Faults.{IsLongUnit, IsKeptBranch, leaves, HasPlacementFault}
 use Rattle.func_place.specs.Units.{AreUnits, unit_size, by_unit}
 use Rattle.func_place.specs.internal.FirstFaults.{IsFirstLong, IsFirstKept, StaysIn}
-use Rattle.func_place.proofs.FunctionAt.{inst_order, inst_order-within}
+use Rattle.func_place.proofs.InstOrder.{inst_order, inst_order-within}
 
 -- there is one list of units
 pub one_list : (funcs : List Func) (xs ys : List ℕ) → AreUnits funcs xs → AreUnits funcs ys → xs ≡ ys
@@ -27,20 +27,26 @@ one_list funcs xs ys a b = ext_get_or 0 xs ys (a.len ∙ sym b.len) (λ f lt.
     let two = b.lowest f (slice_index xs f) f_in (a.tied f f_in) in
     omega arith)
 
-size_of : (funcs : List Func) (blocks : List Block) (units sizes : List ℕ) (u : ℕ) → AreUnits funcs units → sizes ≡ by_unit (unit_size funcs units blocks) units → u < length funcs → slice_index sizes u ≡ unit_size funcs units blocks u
-size_of funcs blocks units sizes u are is u_in = ap (λ (xs : List ℕ). slice_index xs u) is ∙ get_or-map-range_with_len (unit_size funcs units blocks) 0 (length units) u u 0 (omega (arith, are.len)) (omega arith)
+size_of : (funcs : List Func) (blocks : List Block) (units sizes : List ℕ) (u : ℕ) → AreUnits funcs units →
+    sizes ≡ by_unit (unit_size funcs units blocks) units → u < length funcs → slice_index sizes u ≡ unit_size funcs units blocks u
+size_of funcs blocks units sizes u are is u_in = ap (λ (xs : List ℕ). slice_index xs u) is
+    ∙ get_or-map-range_with_len (unit_size funcs units blocks) 0 (length units) u u 0 (omega (arith, are.len)) (omega arith)
 
 -- a unit that is too long is one by any list of units
-long_size : (funcs : List Func) (blocks : List Block) (units sizes : List ℕ) (place : ℕ) → AreUnits funcs units → sizes ≡ by_unit (unit_size funcs units blocks) units → (long : IsLongUnit funcs blocks place) → limit < slice_index sizes long.unit
+long_size : (funcs : List Func) (blocks : List Block) (units sizes : List ℕ) (place : ℕ) → AreUnits funcs units → sizes
+    ≡ by_unit (unit_size funcs units blocks) units → (long : IsLongUnit funcs blocks place) → limit < slice_index sizes long.unit
 long_size funcs blocks units sizes place are is long =
     let inside = slice_get_within funcs long.unit long.func long.first in
     let same_units = one_list funcs long.units units long.are_units are in
     let size = size_of funcs blocks units sizes long.unit are is inside in
-    let other : unit_size funcs long.units blocks long.unit ≡ unit_size funcs units blocks long.unit = ap (λ (us : List ℕ). unit_size funcs us blocks long.unit) same_units in
+    let other : unit_size funcs long.units blocks long.unit ≡ unit_size funcs units blocks long.unit =
+    ap (λ (us : List ℕ). unit_size funcs us blocks long.unit) same_units in
     let large = long.long in
     omega arith
 
-pub no_long : (funcs : List Func) (blocks : List Block) (units sizes : List ℕ) → AreUnits funcs units → sizes ≡ by_unit (unit_size funcs units blocks) units → All (λ size. size ≤ 1000000) sizes → (place : ℕ) → IsLongUnit funcs blocks place → ⊥
+pub no_long : (funcs : List Func) (blocks : List Block) (units sizes : List ℕ) → AreUnits funcs units →
+    sizes ≡ by_unit (unit_size funcs units blocks) units → All (λ size. size ≤ 1000000) sizes → (place : ℕ) →
+    IsLongUnit funcs blocks place → ⊥
 no_long funcs blocks units sizes are is low place long =
     let large = long_size funcs blocks units sizes place are is long in
     ⊎_elim
@@ -53,25 +59,35 @@ below_long funcs blocks UnitTooLong low place has = absurd (omega arith)
 below_long funcs blocks KeptBranch low place has = absurd (omega arith)
 below_long funcs blocks _ low place has = has
 
-least_long : (funcs : List Func) (blocks : List Block) (place : ℕ) → ((other : ℕ) → IsLongUnit funcs blocks other → place ≤ other) → (kind : FaultKind) (other : ℕ) → number_of kind ≡ 18 → HasPlacementFault funcs blocks kind other → place ≤ other
+least_long : (funcs : List Func) (blocks : List Block) (place : ℕ) →
+    ((other : ℕ) → IsLongUnit funcs blocks other → place ≤ other) → (kind : FaultKind) (other : ℕ) → number_of kind ≡ 18 →
+    HasPlacementFault funcs blocks kind other → place ≤ other
 least_long funcs blocks place least UnitTooLong other e has = least other has
 least_long funcs blocks place least KeptBranch other e has = absurd (omega arith)
 least_long funcs blocks place least _ other e has = absurd has
 
-start_order : (funcs : List Func) (f g : ℕ) (func other : Func) → AreLaidOut funcs → slice_get funcs f ≡ Some func → slice_get funcs g ≡ Some other → f ≤ g → func.start ≤ other.start
+start_order : (funcs : List Func) (f g : ℕ) (func other : Func) → AreLaidOut funcs → slice_get funcs f ≡ Some func →
+    slice_get funcs g ≡ Some other → f ≤ g → func.start ≤ other.start
 start_order funcs f g func other are is_func is_other le = ⊎_elim
-    (λ (e : f ≡ g). let same_func : func ≡ other = same_Some func other (sym is_func ∙ ap (slice_get funcs) e ∙ is_other) in let s = ap (λ (x : Func). x.start) same_func in omega arith)
+    (λ (e : f ≡ g).
+    let same_func : func ≡ other = same_Some func other (sym is_func ∙ ap (slice_get funcs) e ∙ is_other) in
+    let s = ap (λ (x : Func). x.start) same_func in
+    omega arith)
     (λ (ne : f ≢ g).
     let g_in = slice_get_within funcs g other is_other in
     let f_in = slice_get_within funcs f func is_func in
     let apart = are.apart f g func (omega arith) g_in in
     let bytes = (are.each f func f_in).has_bytes in
-    let start_is : (get_or funcs f func).start ≡ func.start = ap (λ (x : Func). x.start) (get_or_from_slice_get funcs f func func is_func) in
-    let other_is : (get_or funcs g func).start ≡ other.start = ap (λ (x : Func). x.start) (get_or_from_slice_get funcs g other func is_other) in
+    let start_is : (get_or funcs f func).start ≡ func.start =
+    ap (λ (x : Func). x.start) (get_or_from_slice_get funcs f func func is_func) in
+    let other_is : (get_or funcs g func).start ≡ other.start =
+    ap (λ (x : Func). x.start) (get_or_from_slice_get funcs g other func is_other) in
     omega arith)
     (cases_eq f g)
 
-pub answered_long : (funcs : List Func) (blocks : List Block) (units sizes : List ℕ) (place : ℕ) → AreLaidOut funcs → AreUnits funcs units → sizes ≡ by_unit (unit_size funcs units blocks) units → IsFirstLong funcs sizes place → IsAnswered (HasPlacementFault funcs blocks) (fault_at UnitTooLong place)
+pub answered_long : (funcs : List Func) (blocks : List Block) (units sizes : List ℕ) (place : ℕ) → AreLaidOut funcs →
+    AreUnits funcs units → sizes ≡ by_unit (unit_size funcs units blocks) units → IsFirstLong funcs sizes place →
+    IsAnswered (HasPlacementFault funcs blocks) (fault_at UnitTooLong place)
 answered_long funcs blocks units sizes place laid are is first =
     let inside = slice_get_within funcs first.unit first.func first.is_func in
     let size = size_of funcs blocks units sizes first.unit are is inside in
@@ -88,20 +104,26 @@ answered_long funcs blocks units sizes place laid are is first =
       };
       first = below_long funcs blocks;
       lowest = least_long funcs blocks place (λ other long. ⊎_elim
-          (λ (before : long.unit < first.unit). let small = first.earlier long.unit before in let large = long_size funcs blocks units sizes other are is long in absurd (omega arith))
-          (λ (after : first.unit ≤ long.unit). let order = start_order funcs first.unit long.unit first.func long.func laid first.is_func long.first after in let a = first.start in let b = long.start in omega arith)
+          (λ (before : long.unit < first.unit).
+          let small = first.earlier long.unit before in
+          let large = long_size funcs blocks units sizes other are is long in
+          absurd (omega arith))
+          (λ (after : first.unit ≤ long.unit). let order = start_order funcs first.unit long.unit first.func long.func laid
+          first.is_func long.first after in let a = first.start in let b = long.start in omega arith)
           (cases_lt long.unit first.unit));
       alone = refl;
     }
 
 -- A branch that leaves its function.
 
-below_kept : (funcs : List Func) (blocks : List Block) → ((place : ℕ) → IsLongUnit funcs blocks place → ⊥) → LacksBelow (HasPlacementFault funcs blocks) 19
+below_kept : (funcs : List Func) (blocks : List Block) → ((place : ℕ) → IsLongUnit funcs blocks place → ⊥) →
+    LacksBelow (HasPlacementFault funcs blocks) 19
 below_kept funcs blocks none UnitTooLong low place has = none place has
 below_kept funcs blocks none KeptBranch low place has = absurd (omega arith)
 below_kept funcs blocks none _ low place has = has
 
-least_kept : (funcs : List Func) (blocks : List Block) (place : ℕ) → ((other : ℕ) → IsKeptBranch funcs other → place ≤ other) → (kind : FaultKind) (other : ℕ) → number_of kind ≡ 19 → HasPlacementFault funcs blocks kind other → place ≤ other
+least_kept : (funcs : List Func) (blocks : List Block) (place : ℕ) → ((other : ℕ) → IsKeptBranch funcs other → place ≤ other) →
+    (kind : FaultKind) (other : ℕ) → number_of kind ≡ 19 → HasPlacementFault funcs blocks kind other → place ≤ other
 least_kept funcs blocks place least UnitTooLong other e has = absurd (omega arith)
 least_kept funcs blocks place least KeptBranch other e has = least other has
 least_kept funcs blocks place least _ other e has = absurd has
@@ -129,7 +151,8 @@ kept_at funcs place (f, func, f_in, func_is, (i, inst, i_in, inst_is, (at, leave
   leaves_it = leaves_it;
 }
 
-stays_at : (func : Func) (i : ℕ) (inst : Placed) → StaysIn func → slice_get func.insts.items i ≡ Some inst → leaves func inst ≡ true → ⊥
+stays_at : (func : Func) (i : ℕ) (inst : Placed) → StaysIn func → slice_get func.insts.items i ≡ Some inst →
+    leaves func inst ≡ true → ⊥
 stays_at func i inst stays is leaves_it =
     let no_leave = stays i inst (slice_get_within func.insts.items i inst is) in
     let same_inst = get_or_from_slice_get func.insts.items i inst inst is in
@@ -142,44 +165,60 @@ pub no_kept : (funcs : List Func) → All StaysIn funcs → (place : ℕ) → Is
 no_kept funcs all place kept =
     let k = kept_at funcs place kept in
     let f_in = slice_get_within funcs k.f k.func k.is_func in
-    stays_at k.func k.i k.inst (subst StaysIn (get_or_from_slice_get funcs k.f k.func k.func k.is_func) (all k.f k.func f_in)) k.is_inst k.leaves_it
+    stays_at k.func k.i k.inst
+    (subst StaysIn (get_or_from_slice_get funcs k.f k.func k.func k.is_func) (all k.f k.func f_in)) k.is_inst k.leaves_it
 
-least_place : (funcs : List Func) (place other : ℕ) → AreLaidOut funcs → IsFirstKept funcs place → IsKeptAt funcs other → place ≤ other
+least_place : (funcs : List Func) (place other : ℕ) → AreLaidOut funcs → IsFirstKept funcs place →
+    IsKeptAt funcs other → place ≤ other
 least_place funcs place other laid first k =
     let l = first.leaving in
     let start = l.start in
     let at = k.at in
     ⊎_elim
-    (λ (before : k.f < first.at). absurd (stays_at k.func k.i k.inst (first.earlier k.f k.func before k.is_func) k.is_inst k.leaves_it))
+    (λ (before : k.f < first.at). absurd
+    (stays_at k.func k.i k.inst (first.earlier k.f k.func before k.is_func) k.is_inst k.leaves_it))
     (λ (after : first.at ≤ k.f). ⊎_elim
     (λ (e : first.at ≡ k.f).
-    let same_func : k.func ≡ first.func = same_Some k.func first.func (sym k.is_func ∙ ap (slice_get funcs) (sym e) ∙ first.is_func) in
-    let is_inst : slice_get first.func.insts.items k.i ≡ Some k.inst = subst (λ (x : Func). slice_get x.insts.items k.i ≡ Some k.inst) same_func k.is_inst in
+    let same_func : k.func ≡ first.func =
+    same_Some k.func first.func (sym k.is_func ∙ ap (slice_get funcs) (sym e) ∙ first.is_func) in
+    let is_inst : slice_get first.func.insts.items k.i ≡ Some k.inst =
+    subst (λ (x : Func). slice_get x.insts.items k.i ≡ Some k.inst) same_func k.is_inst in
     let leaves_it : leaves first.func k.inst ≡ true = subst (λ (x : Func). leaves x k.inst ≡ true) same_func k.leaves_it in
     ⊎_elim
     (λ (early : k.i < l.at). absurd (both (leaves first.func k.inst) leaves_it (l.earlier k.i k.inst early is_inst)))
-    (λ (late : l.at ≤ k.i). let order = inst_order-within funcs first.at l.at k.i first.func l.inst k.inst laid first.is_func l.is_inst is_inst late in omega arith)
+    (λ (late : l.at ≤ k.i). let order = inst_order-within funcs first.at l.at k.i first.func l.inst k.inst laid first.is_func
+    l.is_inst is_inst late in omega arith)
     (cases_lt k.i l.at))
-    (λ (ne : first.at ≢ k.f). let order = inst_order funcs first.at k.f l.at k.i first.func k.func l.inst k.inst laid first.is_func k.is_func l.is_inst k.is_inst (omega arith) in omega arith)
+    (λ (ne : first.at ≢ k.f). let order = inst_order funcs first.at k.f l.at k.i first.func k.func l.inst k.inst laid
+    first.is_func k.is_func l.is_inst k.is_inst (omega arith) in omega arith)
     (cases_eq first.at k.f))
     (cases_lt k.f first.at)
   where
     both : (b : Bool) → b ≡ true → b ≡ false → ⊥
     both b h k = cc
 
-pub answered_kept : (funcs : List Func) (blocks : List Block) (place : ℕ) → AreLaidOut funcs → ((place : ℕ) → IsLongUnit funcs blocks place → ⊥) → IsFirstKept funcs place → IsAnswered (HasPlacementFault funcs blocks) (fault_at KeptBranch place)
+pub answered_kept : (funcs : List Func) (blocks : List Block) (place : ℕ) → AreLaidOut funcs →
+    ((place : ℕ) → IsLongUnit funcs blocks place → ⊥) → IsFirstKept funcs place →
+    IsAnswered (HasPlacementFault funcs blocks) (fault_at KeptBranch place)
 answered_kept funcs blocks place laid none first =
     let l = first.leaving in
     let f_in = slice_get_within funcs first.at first.func first.is_func in
     let i_in = slice_get_within first.func.insts.items l.at l.inst l.is_inst in
     record {
-      present = (first.at, first.func, f_in, get_or_from_slice_get funcs first.at first.func first.func first.is_func, (l.at, l.inst, i_in, get_or_from_slice_get first.func.insts.items l.at l.inst l.inst l.is_inst, (l.start, l.leaves_it)));
+      present = (
+        first.at,
+        first.func,
+        f_in,
+        get_or_from_slice_get funcs first.at first.func first.func first.is_func,
+        (l.at, l.inst, i_in, get_or_from_slice_get first.func.insts.items l.at l.inst l.inst l.is_inst, (l.start, l.leaves_it)),
+      );
       first = below_kept funcs blocks none;
       lowest = least_kept funcs blocks place (λ other kept. least_place funcs place other laid first (kept_at funcs other kept));
       alone = refl;
     }
 
-pub no_fault : (funcs : List Func) (blocks : List Block) → ((place : ℕ) → IsLongUnit funcs blocks place → ⊥) → ((place : ℕ) → IsKeptBranch funcs place → ⊥) → IsFree (HasPlacementFault funcs blocks)
+pub no_fault : (funcs : List Func) (blocks : List Block) → ((place : ℕ) → IsLongUnit funcs blocks place → ⊥) →
+    ((place : ℕ) → IsKeptBranch funcs place → ⊥) → IsFree (HasPlacementFault funcs blocks)
 no_fault funcs blocks long kept UnitTooLong place has = long place has
 no_fault funcs blocks long kept KeptBranch place has = kept place has
 no_fault funcs blocks long kept _ place has = has

@@ -29,15 +29,16 @@ no_rank = record { heat = 0; size = 1; unit = 0; fits = omega arith; some = omeg
 pub none_ranked : (sizes heats : List ℕ) (cluster : ℕ → List ℕ) (taken : List ℕ) → AreRanks sizes heats cluster (take 0 taken) []
 none_ranked sizes heats cluster taken = record { units = refl; each = λ k d lt. absurd (omega arith) }
 
-pub ranks_more : (sizes heats : List ℕ) (cluster : ℕ → List ℕ) (taken : List ℕ) (ranks : List Rank) (state : State) (i : ℕ) (r : Rank)
-    → Keeps sizes heats cluster state → i < length taken → get_or taken i 0 < count_of state
+pub ranks_more : (sizes heats : List ℕ) (cluster : ℕ → List ℕ) (taken : List ℕ) (ranks : List Rank)
+    (state : State) (i : ℕ) (r : Rank) → Keeps sizes heats cluster state → i < length taken → get_or taken i 0 < count_of state
     → begins (group_of state.grouping (get_or taken i 0)) (get_or taken i 0) ≡ true
     → r.unit ≡ get_or taken i 0 → r.heat ≡ heat_at state (get_or taken i 0) → r.size ≡ size_at state (get_or taken i 0)
     → AreRanks sizes heats cluster (take i taken) ranks → AreRanks sizes heats cluster (take (i + 1) taken) (ranks ++ r ∷ [])
 ranks_more sizes heats cluster taken ranks state i r k lt u_in first unit heat size a =
     let u = get_or taken i 0 in
     let yes_it : begins (cluster u) u ≡ true = rw (← k.list u u_in) first in
-    let more : heads cluster (take (i + 1) taken) ≡ heads cluster (take i taken) ++ u ∷ [] = filter_more (λ u. begins (cluster u) u) taken i 0 lt ∙ rw yes_it refl in
+    let more : heads cluster (take (i + 1) taken) ≡ heads cluster (take i taken) ++ u ∷ [] =
+    filter_more (λ u. begins (cluster u) u) taken i 0 lt ∙ rw yes_it refl in
     record {
       units = map-append (λ (r : Rank). r.unit) ranks (r ∷ []) ∙ rw (a.units, unit, more) refl;
       each = All-push (IsRank sizes heats cluster) ranks r a.each (record {
@@ -53,11 +54,13 @@ pub ranks_skip : (sizes heats : List ℕ) (cluster : ℕ → List ℕ) (taken : 
 ranks_skip sizes heats cluster taken ranks state i k lt u_in first a =
     let u = get_or taken i 0 in
     let not_it : begins (cluster u) u ≡ false = rw (← k.list u u_in) first in
-    let more : heads cluster (take (i + 1) taken) ≡ heads cluster (take i taken) = filter_more (λ u. begins (cluster u) u) taken i 0 lt ∙ rw not_it (append-nil _) in
+    let more : heads cluster (take (i + 1) taken) ≡ heads cluster (take i taken) =
+    filter_more (λ u. begins (cluster u) u) taken i 0 lt ∙ rw not_it (append-nil _) in
     record { units = rw more a.units; each = a.each }
 
 pub ranks_sorted : (sizes heats : List ℕ) (cluster : ℕ → List ℕ) (taken : List ℕ) (ranks sorted : List Rank)
-    → AreRanks sizes heats cluster taken ranks → IsInOrder (λ a b. denser_by a.heat a.size a.unit b.heat b.size b.unit) ranks sorted
+    → AreRanks sizes heats cluster taken ranks
+    → IsInOrder (λ a b. denser_by a.heat a.size a.unit b.heat b.size b.unit) ranks sorted
     → IsInOrder (denser sizes heats cluster) (heads cluster taken) (map (λ r. r.unit) sorted)
 ranks_sorted sizes heats cluster taken ranks sorted a o =
     let all : All (IsRank sizes heats cluster) sorted = All-permutation (IsRank sizes heats cluster) ranks sorted o.each a.each in
@@ -69,6 +72,9 @@ ranks_sorted sizes heats cluster taken ranks sorted a o =
           let next = get_or sorted (k + 1) no_rank in
           let e = all k no_rank (omega arith) in
           let f = all (k + 1) no_rank (omega arith) in
-          rw (get_or-map (λ (r : Rank). r.unit) sorted k no_rank d (omega arith), get_or-map (λ (r : Rank). r.unit) sorted (k + 1) no_rank d (omega arith))
+          rw (
+            get_or-map (λ (r : Rank). r.unit) sorted k no_rank d (omega arith),
+            get_or-map (λ (r : Rank). r.unit) sorted (k + 1) no_rank d (omega arith),
+          )
           (rw (← e.heat, ← e.size, ← f.heat, ← f.size) (o.ordered k no_rank le (omega arith)));
     }

@@ -13,7 +13,8 @@ use Rattle.func_place.specs.declared.ranks.Rank.{Rank}
 use Rattle.func_place.specs.Ranks.{denser_by}
 
 -- one more unit passes a test or doesn't
-pub filter_more : (p : ℕ → Bool) (n : ℕ) → filter p (range_with_len 0 (n + 1)) ≡ filter p (range_with_len 0 n) ++ cond (p n) (n ∷ []) []
+pub filter_more : (p : ℕ → Bool) (n : ℕ) →
+    filter p (range_with_len 0 (n + 1)) ≡ filter p (range_with_len 0 n) ++ cond (p n) (n ∷ []) []
 filter_more p n =
     let h = filter_of_map_range_with_len_more p (λ x. x) 0 n n (omega arith) in
     rw (map-id (range_with_len 0 (n + 1)), map-id (range_with_len 0 n)) at h
@@ -23,7 +24,8 @@ is_lt-pair a b u v = grind (arith, common_steps)
 
 pub less_no : (a b u v : ℕ) → (nat_lt a b || ((a == b) && nat_lt u v)) ≡ false → (b < a) ⊎ ((a ≡ b) × (v ≤ u))
 less_no a b u v h = ⊎_elim (λ (lt : b < a). inl lt)
-    (λ (le : a ≤ b). ⊎_elim (λ (e : a ≡ b). inr (e, grind (arith, common_steps))) (λ (ne : a ≢ b). absurd (grind (arith, common_steps))) (cases_eq a b)) (cases_lt b a)
+    (λ (le : a ≤ b). ⊎_elim (λ (e : a ≡ b). inr (e, grind (arith, common_steps)))
+    (λ (ne : a ≢ b). absurd (grind (arith, common_steps))) (cases_eq a b)) (cases_lt b a)
 
 pub less_not : (a b u v : ℕ) → (b < a) ⊎ ((a ≡ b) × (v ≤ u)) → (nat_lt a b || ((a == b) && nat_lt u v)) ≡ false
 less_not a b u v (inl h) = grind (arith, common_steps)
@@ -71,13 +73,16 @@ denser_order = record {
   one_way = λ a b h. less_once (b.heat * a.size) (a.heat * b.size) a.unit b.unit h;
   chain = λ a b c h k. less_not (c.heat * a.size) (a.heat * c.size) a.unit c.unit
       (chain a.heat a.size a.unit b.heat b.size b.unit c.heat c.size c.unit a.some b.some c.some
-      (less_no (b.heat * a.size) (a.heat * b.size) a.unit b.unit h) (less_no (c.heat * b.size) (b.heat * c.size) b.unit c.unit k));
+      (less_no (b.heat * a.size) (a.heat * b.size) a.unit b.unit h)
+      (less_no (c.heat * b.size) (b.heat * c.size) b.unit c.unit k));
 }
 
-pub passes_more : (p : ℕ → Bool) (n : ℕ) (xs ys : List ℕ) → p n ≡ true → xs ≡ filter p (range_with_len 0 n) → ys ≡ xs ++ n ∷ [] → ys ≡ filter p (range_with_len 0 (n + 1))
+pub passes_more : (p : ℕ → Bool) (n : ℕ) (xs ys : List ℕ) → p n ≡ true → xs ≡ filter p (range_with_len 0 n) → ys ≡ xs ++ n ∷ [] →
+    ys ≡ filter p (range_with_len 0 (n + 1))
 passes_more p n xs ys h is more = more ∙ sym (filter_more p n ∙ rw (h, is) refl)
 
-pub fails_more : (p : ℕ → Bool) (n : ℕ) (xs : List ℕ) → p n ≡ false → xs ≡ filter p (range_with_len 0 n) → xs ≡ filter p (range_with_len 0 (n + 1))
+pub fails_more : (p : ℕ → Bool) (n : ℕ) (xs : List ℕ) → p n ≡ false → xs ≡ filter p (range_with_len 0 n) →
+    xs ≡ filter p (range_with_len 0 (n + 1))
 fails_more p n xs h is = is ∙ sym (filter_more p n ∙ rw h (append-nil (filter p (range_with_len 0 n))))
 
 pub above_zero : (n : ℕ) → 0 < n → nat_lt 0 n ≡ true
@@ -87,11 +92,14 @@ pub no_more : (n : ℕ) → n ≤ 0 → nat_lt 0 n ≡ false
 no_more n h = grind (arith, common_steps)
 
 -- the same after other units
-pub passes_after : (p : ℕ → Bool) (n : ℕ) (before line : List ℕ) → p n ≡ true → line ≡ before ++ filter p (range_with_len 0 n) → line ++ n ∷ [] ≡ before ++ filter p (range_with_len 0 (n + 1))
+pub passes_after : (p : ℕ → Bool) (n : ℕ) (before line : List ℕ) → p n ≡ true → line ≡ before ++ filter p (range_with_len 0 n) →
+    line ++ n ∷ [] ≡ before ++ filter p (range_with_len 0 (n + 1))
 passes_after p n before line h is = rw (is, filter_more p n, h) (append_assoc before (filter p (range_with_len 0 n)) (n ∷ []))
 
-pub fails_after : (p : ℕ → Bool) (n : ℕ) (before line : List ℕ) → p n ≡ false → line ≡ before ++ filter p (range_with_len 0 n) → line ≡ before ++ filter p (range_with_len 0 (n + 1))
-fails_after p n before line h is = rw (is, filter_more p n, h) (ap (λ (xs : List ℕ). before ++ xs) (sym (append-nil (filter p (range_with_len 0 n)))))
+pub fails_after : (p : ℕ → Bool) (n : ℕ) (before line : List ℕ) → p n ≡ false → line ≡ before ++ filter p (range_with_len 0 n) →
+    line ≡ before ++ filter p (range_with_len 0 (n + 1))
+fails_after p n before line h is =
+    rw (is, filter_more p n, h) (ap (λ (xs : List ℕ). before ++ xs) (sym (append-nil (filter p (range_with_len 0 n)))))
 
 pub is_zero : (n : ℕ) → n ≡ 0 → (n == 0) ≡ true
 is_zero n h = grind (arith, common_steps)
@@ -100,7 +108,8 @@ pub is_some : (n : ℕ) → n ≢ 0 → (n == 0) ≡ false
 is_some n h = grind (arith, common_steps)
 
 -- one more unit isn't what is looked for
-pub find_next : (p : ℕ → Bool) (u n : ℕ) → u < n → p u ≡ false → find p (range_with_len (u + 1) (n - (u + 1))) ≡ find p (range_with_len u (n - u))
+pub find_next : (p : ℕ → Bool) (u n : ℕ) → u < n → p u ≡ false →
+    find p (range_with_len (u + 1) (n - (u + 1))) ≡ find p (range_with_len u (n - u))
 find_next p u n lt h = let s : n - u ≡ suc (n - (u + 1)) = omega arith in rw (s, h) refl
 
 pub not_above : (m n : ℕ) → n ≤ m → nat_lt m n ≡ false

@@ -15,7 +15,8 @@ use Rattle.func_place.proofs.Heaviest.{call_at, IsHeaviest, occurs}
 abbrev added : Call → ℕ → ℕ → ℕ
 added call w u = if (call.from == w) && (call.to == u) then call.count else 0
 
-sum_more : (calls : List Call) (i w u : ℕ) → i < length calls → calls_between (take (i + 1) calls) w u ≡ calls_between (take i calls) w u + added (call_at calls i) w u
+sum_more : (calls : List Call) (i w u : ℕ) → i < length calls →
+    calls_between (take (i + 1) calls) w u ≡ calls_between (take i calls) w u + added (call_at calls i) w u
 sum_more calls i w u lt = sum_by_more (λ (c : Call). added c w u) calls i (record { from = 0; to = 0; count = 0 }) lt
 
 none_added : (a b x y c : ℕ) → (a ≢ x) ⊎ (b ≢ y) → (if (a == x) && (b == y) then c else 0) ≡ 0
@@ -30,16 +31,20 @@ at_most true c = omega arith
 at_most false c = omega arith
 
 -- with one more call a sum is still within that of all
-pub within_all : (calls : List Call) (i w u : ℕ) → i < length calls → calls_between (take i calls) w u + (call_at calls i).count ≤ sum_by (λ c. c.count) calls
-within_all calls i w u lt = sum_by_more_le_part (λ (c : Call). added c w u) (λ (c : Call). c.count) calls i (record { from = 0; to = 0; count = 0 }) lt (λ c. at_most ((c.from == w) && (c.to == u)) c.count)
+pub within_all : (calls : List Call) (i w u : ℕ) → i < length calls →
+    calls_between (take i calls) w u + (call_at calls i).count ≤ sum_by (λ c. c.count) calls
+within_all calls i w u lt = sum_by_more_le_part (λ (c : Call). added c w u) (λ (c : Call). c.count) calls i
+    (record { from = 0; to = 0; count = 0 }) lt (λ c. at_most ((c.from == w) && (c.to == u)) c.count)
 
 -- what is counted by the first calls stands among them
-pub occurs_before : (calls : List Call) (i w u : ℕ) → i ≤ length calls → 0 < calls_between (take i calls) w u → (k : ℕ) × (k < i) × ((call_at calls k).from ≡ w) × ((call_at calls k).to ≡ u)
+pub occurs_before : (calls : List Call) (i w u : ℕ) → i ≤ length calls → 0 < calls_between (take i calls) w u →
+    (k : ℕ) × (k < i) × ((call_at calls k).from ≡ w) × ((call_at calls k).to ≡ u)
 occurs_before calls i w u le some =
     let k = occurs (take i calls) w u some in
     let short = length-take-le i calls le in
     let lt : k.0 < i = omega (arith, k.1) in
-    let same : call_at (take i calls) k.0 ≡ call_at calls k.0 = get_or-take i calls k.0 (record { from = 0; to = 0; count = 0 }) lt in
+    let same : call_at (take i calls) k.0 ≡ call_at calls k.0 =
+    get_or-take i calls k.0 (record { from = 0; to = 0; count = 0 }) lt in
     (k.0, lt, ap (λ (c : Call). c.from) (sym same) ∙ k.2, ap (λ (c : Call). c.to) (sym same) ∙ k.3)
 
 -- The pair that was counted last, with its sum so far.
@@ -63,7 +68,9 @@ other_ends : (a b x y : ℕ) → ((a == x) && (b == y)) ≡ false → a ≡ x �
 other_ends a b x y h p q = grind (arith, common_steps)
 
 -- the next pair wasn't counted yet
-nothing_yet : (calls : List Call) (i : ℕ) (run : Call) → i < length calls → IsRun calls i run → ((run.from == (call_at calls i).from) && (run.to == (call_at calls i).to)) ≡ false → calls_between (take i calls) (call_at calls i).from (call_at calls i).to ≡ 0
+nothing_yet : (calls : List Call) (i : ℕ) (run : Call) → i < length calls → IsRun calls i run →
+    ((run.from == (call_at calls i).from) && (run.to == (call_at calls i).to)) ≡ false →
+    calls_between (take i calls) (call_at calls i).from (call_at calls i).to ≡ 0
 nothing_yet calls i run lt r other =
     let call = call_at calls i in
     ⊎_elim
@@ -83,7 +90,8 @@ nothing_yet calls i run lt r other =
     absurd (other_ends run.from run.to call.from call.to other one_from one_to))
     (cases_eq (calls_between (take i calls) call.from call.to) 0)
 
-pub run_step : (calls : List Call) (i : ℕ) (run : Call) → AreByCallee calls → i < length calls → IsRun calls i run → IsRun calls (i + 1) (more_of run (call_at calls i))
+pub run_step : (calls : List Call) (i : ℕ) (run : Call) → AreByCallee calls → i < length calls → IsRun calls i run →
+    IsRun calls (i + 1) (more_of run (call_at calls i))
 run_step calls i run ordered lt r =
     let call = call_at calls i in
     let none : Call = record { from = 0; to = 0; count = 0 } in
@@ -91,8 +99,11 @@ run_step calls i run ordered lt r =
       count = ⊎_elim
           (λ (h : ((run.from == call.from) && (run.to == call.to)) ≡ true).
           let same = same_ends run.from run.to call.from call.to h in
-          let is : run.count ≡ calls_between (take i calls) call.from call.to = r.count ∙ ap (λ (v : ℕ). calls_between (take i calls) v run.to) same.0 ∙ ap (λ (u : ℕ). calls_between (take i calls) call.from u) same.1 in
-          rw (h, sum_more calls i call.from call.to lt, one_added call.from call.to call.count) (ap (λ (n : ℕ). n + call.count) is))
+          let is : run.count ≡ calls_between (take i calls) call.from call.to =
+          r.count ∙ ap (λ (v : ℕ). calls_between (take i calls) v run.to) same.0
+          ∙ ap (λ (u : ℕ). calls_between (take i calls) call.from u) same.1 in
+          rw (h, sum_more calls i call.from call.to lt, one_added call.from call.to call.count)
+          (ap (λ (n : ℕ). n + call.count) is))
           (λ (h : ((run.from == call.from) && (run.to == call.to)) ≡ false).
           let zero = nothing_yet calls i run lt r h in
           rw (h, sum_more calls i call.from call.to lt, one_added call.from call.to call.count) (omega arith))
@@ -117,9 +128,13 @@ some_is v w e = cc
 some_none : (v : ℕ) → Some v ≡ None → ⊥
 some_none v e = cc
 
-take_top : (Other : ℕ → Type 0) (f g : ℕ → ℕ) (from most : ℕ) (best : Option ℕ) → IsTopOf Other f best most → ((w : ℕ) → w ≢ from → g w ≡ f w) → Other from → most < g from → IsTopOf Other g (Some from) (g from)
+take_top : (Other : ℕ → Type 0) (f g : ℕ → ℕ) (from most : ℕ) (best : Option ℕ) → IsTopOf Other f best most →
+    ((w : ℕ) → w ≢ from → g w ≡ f w) → Other from → most < g from → IsTopOf Other g (Some from) (g from)
 take_top Other f g from most best t same may more = record {
-  bound = λ w o. ⊎_elim (λ (e : w ≡ from). rw e (omega arith)) (λ (ne : w ≢ from). let le = t.bound w o in let is = same w ne in omega arith) (cases_eq w from);
+  bound = λ w o. ⊎_elim (λ (e : w ≡ from). rw e (omega arith)) (λ (ne : w ≢ from).
+      let le = t.bound w o in
+      let is = same w ne in
+      omega arith) (cases_eq w from);
   none = λ e. absurd (some_none from e);
   other = λ v e. subst Other (some_is from v e) may;
   some = λ v e. omega arith;
@@ -130,7 +145,9 @@ take_top Other f g from most best t same may more = record {
       (cases_eq w from);
 }
 
-keep_top : (Other : ℕ → Type 0) (f g : ℕ → ℕ) (from most : ℕ) (best : Option ℕ) → IsTopOf Other f best most → ((w : ℕ) → w ≢ from → g w ≡ f w) → f from ≤ g from → (Other from → ⊥) ⊎ (g from ≤ most) → ((v : ℕ) → 0 < f v → v ≤ from) → IsTopOf Other g best most
+keep_top : (Other : ℕ → Type 0) (f g : ℕ → ℕ) (from most : ℕ) (best : Option ℕ) → IsTopOf Other f best most →
+    ((w : ℕ) → w ≢ from → g w ≡ f w) → f from ≤ g from → (Other from → ⊥) ⊎ (g from ≤ most) → ((v : ℕ) → 0 < f v → v ≤ from) →
+    IsTopOf Other g best most
 keep_top Other f g from most best t same grows (inl never) earlier = record {
   bound = λ w o. let is = same w (λ e. never (subst Other e o)) in let le = t.bound w o in omega arith;
   none = t.none;
@@ -140,7 +157,10 @@ keep_top Other f g from most best t same grows (inl never) earlier = record {
   first = λ v w e o h. t.first v w e o (sym (same w (λ e. never (subst Other e o))) ∙ h);
 }
 keep_top Other f g from most best t same grows (inr low) earlier = record {
-  bound = λ w o. ⊎_elim (λ (e : w ≡ from). rw e low) (λ (ne : w ≢ from). let le = t.bound w o in let is = same w ne in omega arith) (cases_eq w from);
+  bound = λ w o. ⊎_elim (λ (e : w ≡ from). rw e low) (λ (ne : w ≢ from).
+      let le = t.bound w o in
+      let is = same w ne in
+      omega arith) (cases_eq w from);
   none = t.none;
   other = t.other;
   some = t.some;
@@ -154,7 +174,8 @@ keep_top Other f g from most best t same grows (inr low) earlier = record {
       (cases_eq w from);
 }
 
-same_top : (Other : ℕ → Type 0) (f g : ℕ → ℕ) (most : ℕ) (best : Option ℕ) → ((w : ℕ) → g w ≡ f w) → IsTopOf Other f best most → IsTopOf Other g best most
+same_top : (Other : ℕ → Type 0) (f g : ℕ → ℕ) (most : ℕ) (best : Option ℕ) → ((w : ℕ) → g w ≡ f w) → IsTopOf Other f best most →
+    IsTopOf Other g best most
 same_top Other f g most best same t = subst (λ (h : ℕ → ℕ). IsTopOf Other h best most) (λ i w. sym (same w) i) t
 
 -- The same for all units, by the first calls.
@@ -165,9 +186,13 @@ MayCall heats u w = (w ≢ u) × (0 < slice_index heats w)
 pub record AreTops (heats : List ℕ) (calls : List Call) (best : List (Option ℕ)) (most : List ℕ) : Type 0 where
   pub best_len : length best ≡ length heats
   pub most_len : length most ≡ length heats
-  pub top : (u : ℕ) → u < length heats → IsTopOf (MayCall heats u) (λ w. calls_between calls w u) (get_or best u None) (slice_index most u)
+  pub top : (u : ℕ) → u < length heats →
+      IsTopOf (MayCall heats u) (λ w. calls_between calls w u) (get_or best u None) (slice_index most u)
 
-pub tops_take : (heats : List ℕ) (calls : List Call) (i : ℕ) (best : List (Option ℕ)) (most : List ℕ) (r : Call) → i < length calls → r.from ≡ (call_at calls i).from → r.to ≡ (call_at calls i).to → IsRun calls (i + 1) r → AreTops heats (take i calls) best most → r.to < length heats → r.from ≢ r.to → 0 < slice_index heats r.from → slice_index most r.to < r.count → AreTops heats (take (i + 1) calls) (set best r.to (Some r.from)) (set most r.to r.count)
+pub tops_take : (heats : List ℕ) (calls : List Call) (i : ℕ) (best : List (Option ℕ)) (most : List ℕ) (r : Call) →
+    i < length calls → r.from ≡ (call_at calls i).from → r.to ≡ (call_at calls i).to → IsRun calls (i + 1) r →
+    AreTops heats (take i calls) best most → r.to < length heats → r.from ≢ r.to → 0 < slice_index heats r.from →
+    slice_index most r.to < r.count → AreTops heats (take (i + 1) calls) (set best r.to (Some r.from)) (set most r.to r.count)
 tops_take heats calls i best most r lt from_is to_is run t to_in ne hot more =
     let call = call_at calls i in
     record {
@@ -178,22 +203,30 @@ tops_take heats calls i best most r lt from_is to_is run t to_in ne hot more =
           ⊎_elim
           (λ (e : u ≡ r.to).
           let sums : (w : ℕ) → w ≢ r.from → calls_between (take (i + 1) calls) w u ≡ calls_between (take i calls) w u =
-          λ w o. let none = none_added call.from call.to w u call.count (inl (λ h. o (sym h ∙ sym from_is))) in let more = sum_more calls i w u lt in omega arith in
-          let now : r.count ≡ calls_between (take (i + 1) calls) r.from u = run.count ∙ ap (λ (v : ℕ). calls_between (take (i + 1) calls) r.from v) (sym e) in
+          λ w o. let none = none_added call.from call.to w u call.count (inl (λ h. o (sym h ∙ sym from_is))) in
+          let more = sum_more calls i w u lt in omega arith in
+          let now : r.count ≡ calls_between (take (i + 1) calls) r.from u =
+          run.count ∙ ap (λ (v : ℕ). calls_between (take (i + 1) calls) r.from v) (sym e) in
           let was : slice_index most u < calls_between (take (i + 1) calls) r.from u = rw (e, ← run.count) more in
           let best_in : u < length best = omega (arith, t.best_len) in
           let most_in : u < length most = omega (arith, t.most_len) in
           rw (← e, get_or-set_same best u (Some r.from) None best_in, get_or-set_same most u r.count 0 most_in, now)
-          (take_top (MayCall heats u) (λ w. calls_between (take i calls) w u) (λ w. calls_between (take (i + 1) calls) w u) r.from (slice_index most u) (get_or best u None) old sums ((λ h. ne (h ∙ e)), hot) was))
+          (take_top (MayCall heats u) (λ w. calls_between (take i calls) w u) (λ w. calls_between (take (i + 1) calls) w u) r.from
+          (slice_index most u) (get_or best u None) old sums ((λ h. ne (h ∙ e)), hot) was))
           (λ (o : u ≢ r.to).
           let sums : (w : ℕ) → calls_between (take (i + 1) calls) w u ≡ calls_between (take i calls) w u =
-          λ w. let none = none_added call.from call.to w u call.count (inr (λ h. o (sym h ∙ sym to_is))) in let more = sum_more calls i w u lt in omega arith in
+          λ w. let none = none_added call.from call.to w u call.count (inr (λ h. o (sym h ∙ sym to_is))) in
+          let more = sum_more calls i w u lt in omega arith in
           rw (get_or-set_other best r.to u (Some r.from) None o, get_or-set_other most r.to u r.count 0 o)
-          (same_top (MayCall heats u) (λ w. calls_between (take i calls) w u) (λ w. calls_between (take (i + 1) calls) w u) (slice_index most u) (get_or best u None) sums old))
+          (same_top (MayCall heats u) (λ w. calls_between (take i calls) w u) (λ w. calls_between (take (i + 1) calls) w u)
+          (slice_index most u) (get_or best u None) sums old))
           (cases_eq u r.to);
     }
 
-pub tops_keep : (heats : List ℕ) (calls : List Call) (i : ℕ) (best : List (Option ℕ)) (most : List ℕ) (r : Call) → AreByCallee calls → i < length calls → r.from ≡ (call_at calls i).from → r.to ≡ (call_at calls i).to → IsRun calls (i + 1) r → AreTops heats (take i calls) best most → (MayCall heats r.to r.from → ⊥) ⊎ (r.count ≤ slice_index most r.to) → AreTops heats (take (i + 1) calls) best most
+pub tops_keep : (heats : List ℕ) (calls : List Call) (i : ℕ) (best : List (Option ℕ)) (most : List ℕ) (r : Call) →
+    AreByCallee calls → i < length calls → r.from ≡ (call_at calls i).from → r.to ≡ (call_at calls i).to → IsRun calls (i + 1) r →
+    AreTops heats (take i calls) best most → (MayCall heats r.to r.from → ⊥) ⊎ (r.count ≤ slice_index most r.to) →
+    AreTops heats (take (i + 1) calls) best most
 tops_keep heats calls i best most r ordered lt from_is to_is run t stays =
     let call = call_at calls i in
     record {
@@ -204,10 +237,15 @@ tops_keep heats calls i best most r ordered lt from_is to_is run t stays =
           ⊎_elim
           (λ (e : u ≡ r.to).
           let sums : (w : ℕ) → w ≢ r.from → calls_between (take (i + 1) calls) w u ≡ calls_between (take i calls) w u =
-          λ w o. let none = none_added call.from call.to w u call.count (inl (λ h. o (sym h ∙ sym from_is))) in let more = sum_more calls i w u lt in omega arith in
-          let grows : calls_between (take i calls) r.from u ≤ calls_between (take (i + 1) calls) r.from u = let more = sum_more calls i r.from u lt in omega arith in
-          let now : r.count ≡ calls_between (take (i + 1) calls) r.from u = run.count ∙ ap (λ (v : ℕ). calls_between (take (i + 1) calls) r.from v) (sym e) in
-          let low : (MayCall heats u r.from → ⊥) ⊎ (calls_between (take (i + 1) calls) r.from u ≤ slice_index most u) = ⊎_elim (λ (h : MayCall heats r.to r.from → ⊥). inl (λ may. h ((λ s. may.0 (s ∙ sym e)), may.1))) (λ (h : r.count ≤ slice_index most r.to). inr (rw (← now, e) h)) stays in
+          λ w o. let none = none_added call.from call.to w u call.count (inl (λ h. o (sym h ∙ sym from_is))) in
+          let more = sum_more calls i w u lt in omega arith in
+          let grows : calls_between (take i calls) r.from u ≤ calls_between (take (i + 1) calls) r.from u = let more =
+          sum_more calls i r.from u lt in omega arith in
+          let now : r.count ≡ calls_between (take (i + 1) calls) r.from u =
+          run.count ∙ ap (λ (v : ℕ). calls_between (take (i + 1) calls) r.from v) (sym e) in
+          let low : (MayCall heats u r.from → ⊥) ⊎ (calls_between (take (i + 1) calls) r.from u ≤ slice_index most u) =
+          ⊎_elim (λ (h : MayCall heats r.to r.from → ⊥). inl (λ may. h ((λ s. may.0 (s ∙ sym e)), may.1)))
+          (λ (h : r.count ≤ slice_index most r.to). inr (rw (← now, e) h)) stays in
           let earlier : (v : ℕ) → 0 < calls_between (take i calls) v u → v ≤ r.from =
           λ v some.
           let k = occurs_before calls i v u (omega arith) some in
@@ -215,15 +253,20 @@ tops_keep heats calls i best most r ordered lt from_is to_is run t stays =
           let low = o.from (k.3 ∙ e ∙ to_is) in
           let is = k.2 in
           omega arith in
-          keep_top (MayCall heats u) (λ w. calls_between (take i calls) w u) (λ w. calls_between (take (i + 1) calls) w u) r.from (slice_index most u) (get_or best u None) old sums grows low earlier)
+          keep_top (MayCall heats u) (λ w. calls_between (take i calls) w u) (λ w. calls_between (take (i + 1) calls) w u) r.from
+          (slice_index most u) (get_or best u None) old sums grows low earlier)
           (λ (o : u ≢ r.to).
           let sums : (w : ℕ) → calls_between (take (i + 1) calls) w u ≡ calls_between (take i calls) w u =
-          λ w. let none = none_added call.from call.to w u call.count (inr (λ h. o (sym h ∙ sym to_is))) in let more = sum_more calls i w u lt in omega arith in
-          same_top (MayCall heats u) (λ w. calls_between (take i calls) w u) (λ w. calls_between (take (i + 1) calls) w u) (slice_index most u) (get_or best u None) sums old)
+          λ w. let none = none_added call.from call.to w u call.count (inr (λ h. o (sym h ∙ sym to_is))) in
+          let more = sum_more calls i w u lt in omega arith in
+          same_top (MayCall heats u) (λ w. calls_between (take i calls) w u) (λ w. calls_between (take (i + 1) calls) w u)
+          (slice_index most u) (get_or best u None) sums old)
           (cases_eq u r.to);
     }
 
-pub no_tops : (heats : List ℕ) (best : List (Option ℕ)) (most : List ℕ) → length best ≡ length heats → length most ≡ length heats → ((u : ℕ) → u < length heats → get_or best u None ≡ None) → ((u : ℕ) → u < length heats → slice_index most u ≡ 0) → AreTops heats [] best most
+pub no_tops : (heats : List ℕ) (best : List (Option ℕ)) (most : List ℕ) → length best ≡ length heats →
+    length most ≡ length heats → ((u : ℕ) → u < length heats → get_or best u None ≡ None) →
+    ((u : ℕ) → u < length heats → slice_index most u ≡ 0) → AreTops heats [] best most
 no_tops heats best most best_len most_len none zero = record {
   best_len = best_len;
   most_len = most_len;
@@ -239,8 +282,11 @@ no_tops heats best most best_len most_len none zero = record {
       };
 }
 
-top_heaviest : (heats : List ℕ) (calls : List Call) (u most : ℕ) (best : Option ℕ) → IsTopOf (MayCall heats u) (λ w. calls_between calls w u) best most → IsHeaviest heats calls u best
-top_heaviest heats calls u most None t = λ w c. let le = t.bound w (c.other, c.hot) in let zero = t.none refl in let some = c.some in omega arith
+top_heaviest : (heats : List ℕ) (calls : List Call) (u most : ℕ) (best : Option ℕ) →
+    IsTopOf (MayCall heats u) (λ w. calls_between calls w u) best most → IsHeaviest heats calls u best
+top_heaviest heats calls u most None t = λ w c. let le = t.bound w (c.other, c.hot) in
+    let zero = t.none refl in
+    let some = c.some in omega arith
 top_heaviest heats calls u most (Some v) t =
     let is = t.is v refl in
     let some = t.some v refl in
@@ -248,9 +294,12 @@ top_heaviest heats calls u most (Some v) t =
       record { other = other.0; hot = other.1; some = omega arith },
       λ w c. let le = t.bound w (c.other, c.hot) in ⊎_elim
           (λ (lt : calls_between calls w u < calls_between calls v u). inl lt)
-          (λ (ge : calls_between calls v u ≤ calls_between calls w u). inr (omega arith, t.first v w refl (c.other, c.hot) (omega arith)))
+          (λ (ge : calls_between calls v u ≤ calls_between calls w u). inr
+          (omega arith, t.first v w refl (c.other, c.hot) (omega arith)))
           (cases_lt (calls_between calls w u) (calls_between calls v u)),
     )
 
-pub heaviest_by_tops : (heats : List ℕ) (calls : List Call) (best : List (Option ℕ)) (most : List ℕ) → AreTops heats calls best most → (u : ℕ) → u < length heats → IsHeaviest heats calls u (get_or best u None)
-heaviest_by_tops heats calls best most t u u_in = top_heaviest heats calls u (slice_index most u) (get_or best u None) (t.top u u_in)
+pub heaviest_by_tops : (heats : List ℕ) (calls : List Call) (best : List (Option ℕ)) (most : List ℕ) →
+    AreTops heats calls best most → (u : ℕ) → u < length heats → IsHeaviest heats calls u (get_or best u None)
+heaviest_by_tops heats calls best most t u u_in =
+    top_heaviest heats calls u (slice_index most u) (get_or best u None) (t.top u u_in)

@@ -7,7 +7,8 @@ use Rattle.rv_code.specs.declared.placed.Placed.{Placed}
 use Rattle.rv_code.specs.declared.placed.Func.{Func}
 use Rattle.rv_code.specs.layout.Blocks.{inst_at}
 use Rattle.rv_code.specs.layout.Flow.{target_of, falls_at}
-use Rattle.func_place.specs.Units.{function_at, Leads, jumps, falls_into}
+use Rattle.rv_code.specs.layout.InFunctions.{function_at}
+use Rattle.func_place.specs.Units.{Leads, jumps, falls_into}
 use Rattle.func_place.specs.internal.TieList.{TiesAt, TiesFrom, TiesOf, Ties}
 
 -- One instruction: its target and where it falls.
@@ -23,26 +24,34 @@ fall_back : (b : Bool) (n a : ℕ) → (if b then Some n else None) ≡ Some a �
 fall_back true n a e = (refl, same_Some n a e)
 fall_back false n a e = absurd (cc)
 
-pub from_both : (funcs : List Func) (f i : ℕ) (func : Func) (p : Placed) → slice_get funcs f ≡ Some func → inst_at func i ≡ Some p → (t : ℕ × ℕ) → (TiesTo funcs f (target_of p) t ⊎ TiesTo funcs f (fall_at func i p) t) ↔ TiesFrom funcs f i t
+pub from_both : (funcs : List Func) (f i : ℕ) (func : Func) (p : Placed) → slice_get funcs f ≡ Some func → inst_at func i
+    ≡ Some p → (t : ℕ × ℕ) → (TiesTo funcs f (target_of p) t ⊎ TiesTo funcs f (fall_at func i p) t) ↔ TiesFrom funcs f i t
 from_both funcs f i func p is_func is_inst t = (
   ⊎_elim
-      (λ (a, is, ties). record { func = func; is_func = is_func; inst = p; is_inst = is_inst; to = a; leads = jumps is; ties = ties })
-      (λ (a, is, ties). let b = fall_back (falls_at func i p) (p.addr + p.len) a is in record { func = func; is_func = is_func; inst = p; is_inst = is_inst; to = a; leads = falls_into b.0 b.1; ties = ties }),
+      (λ (a, is, ties).
+      record { func = func; is_func = is_func; inst = p; is_inst = is_inst; to = a; leads = jumps is; ties = ties })
+      (λ (a, is, ties).
+      let b = fall_back (falls_at func i p) (p.addr + p.len) a is in
+      record { func = func; is_func = is_func; inst = p; is_inst = is_inst; to = a; leads = falls_into b.0 b.1; ties = ties }),
   (λ from.
       let same_func : from.func ≡ func = same_Some from.func func (sym from.is_func ∙ is_func) in
-      let same_inst : from.inst ≡ p = same_Some from.inst p (sym from.is_inst ∙ ap (λ (g : Func). inst_at g i) same_func ∙ is_inst) in
-      let leads : Leads func i p from.to = subst (λ (q : Placed). Leads func i q from.to) same_inst (subst (λ (g : Func). Leads g i from.inst from.to) same_func from.leads) in
+      let same_inst : from.inst ≡ p =
+      same_Some from.inst p (sym from.is_inst ∙ ap (λ (g : Func). inst_at g i) same_func ∙ is_inst) in
+      let leads : Leads func i p from.to = subst (λ (q : Placed). Leads func i q from.to) same_inst
+      (subst (λ (g : Func). Leads g i from.inst from.to) same_func from.leads) in
       split from.to from.ties leads),
 )
   where
     falls_true : (b : Bool) (n : ℕ) → IsTrue b → (if b then Some n else None) ≡ Some n
     falls_true b n h = rw h refl
 
-    split : (to : ℕ) → TiesAt funcs f to t → Leads func i p to → TiesTo funcs f (target_of p) t ⊎ TiesTo funcs f (fall_at func i p) t
+    split : (to : ℕ) → TiesAt funcs f to t → Leads func i p to →
+        TiesTo funcs f (target_of p) t ⊎ TiesTo funcs f (fall_at func i p) t
     split to ties (jumps is) = inl (to, is, ties)
     split to ties (falls_into falls is) = inr (to, falls_true (falls_at func i p) (p.addr + p.len) falls ∙ ap Some is, ties)
 
-pub from_none : (funcs : List Func) (f i : ℕ) (func : Func) → slice_get funcs f ≡ Some func → length func.insts.items ≤ i → (t : ℕ × ℕ) → TiesFrom funcs f i t → ⊥
+pub from_none : (funcs : List Func) (f i : ℕ) (func : Func) → slice_get funcs f ≡ Some func → length func.insts.items ≤ i →
+    (t : ℕ × ℕ) → TiesFrom funcs f i t → ⊥
 from_none funcs f i func is_func past t from =
     let same_func : from.func ≡ func = same_Some from.func func (sym from.is_func ∙ is_func) in
     let lt = slice_get_within func.insts.items i from.inst (ap (λ (g : Func). inst_at g i) (sym same_func) ∙ from.is_inst) in
@@ -58,7 +67,8 @@ pub record TiesOfBelow (funcs : List Func) (f n : ℕ) (t : ℕ × ℕ) : Type 0
 pub below_none : (funcs : List Func) (f : ℕ) (t : ℕ × ℕ) → TiesOfBelow funcs f 0 t → ⊥
 below_none funcs f t b = let w = b.within in omega arith
 
-pub below_next : (funcs : List Func) (f n : ℕ) (t : ℕ × ℕ) → (TiesOfBelow funcs f n t ⊎ TiesFrom funcs f n t) ↔ TiesOfBelow funcs f (n + 1) t
+pub below_next : (funcs : List Func) (f n : ℕ) (t : ℕ × ℕ) →
+    (TiesOfBelow funcs f n t ⊎ TiesFrom funcs f n t) ↔ TiesOfBelow funcs f (n + 1) t
 below_next funcs f n t = (
   ⊎_elim
       (λ (b : TiesOfBelow funcs f n t). record { at = b.at; within = omega (arith, b.within); ties = b.ties })
@@ -69,13 +79,15 @@ below_next funcs f n t = (
       (cases_eq b.at n)),
 )
 
-pub below_all : (funcs : List Func) (f n : ℕ) (func : Func) → slice_get funcs f ≡ Some func → length func.insts.items ≤ n → (t : ℕ × ℕ) → TiesOfBelow funcs f n t ↔ TiesOf funcs f t
+pub below_all : (funcs : List Func) (f n : ℕ) (func : Func) → slice_get funcs f ≡ Some func → length func.insts.items ≤ n →
+    (t : ℕ × ℕ) → TiesOfBelow funcs f n t ↔ TiesOf funcs f t
 below_all funcs f n func is_func all t = (
   (λ b. record { at = b.at; ties = b.ties }),
   (λ o.
       let from = o.ties in
       let same_func : from.func ≡ func = same_Some from.func func (sym from.is_func ∙ is_func) in
-      let lt = slice_get_within func.insts.items o.at from.inst (ap (λ (g : Func). inst_at g o.at) (sym same_func) ∙ from.is_inst) in
+      let lt =
+      slice_get_within func.insts.items o.at from.inst (ap (λ (g : Func). inst_at g o.at) (sym same_func) ∙ from.is_inst) in
       record { at = o.at; within = omega arith; ties = o.ties }),
 )
 
@@ -109,8 +121,16 @@ funcs_all funcs n all t = (
 
 -- One address.
 
-pub at_found : (funcs : List Func) (f a g : ℕ) → function_at funcs a ≡ Some g → g ≢ f → (t : ℕ × ℕ) → ((f, g) ≡ t) ↔ TiesAt funcs f a t
+pub at_found : (funcs : List Func) (f a g : ℕ) → function_at funcs a ≡ Some g → g ≢ f → (t : ℕ × ℕ) →
+    ((f, g) ≡ t) ↔ TiesAt funcs f a t
 at_found funcs f a g is ne t = (
-  (λ e. record { from = ap (λ (s : ℕ × ℕ). s.0) (sym e); into = is ∙ ap (λ (s : ℕ × ℕ). Some s.1) e; other = λ h. ne (ap (λ (s : ℕ × ℕ). s.1) e ∙ h) }),
-  (λ ties. let second : g ≡ t.1 = same_Some g t.1 (sym is ∙ ties.into) in let first : f ≡ t.0 = sym ties.from in λ i. (first i, second i)),
+  (λ e. record {
+    from = ap (λ (s : ℕ × ℕ). s.0) (sym e);
+    into = is ∙ ap (λ (s : ℕ × ℕ). Some s.1) e;
+    other = λ h. ne (ap (λ (s : ℕ × ℕ). s.1) e ∙ h);
+  }),
+  (λ ties.
+      let second : g ≡ t.1 = same_Some g t.1 (sym is ∙ ties.into) in
+      let first : f ≡ t.0 = sym ties.from in
+      λ i. (first i, second i)),
 )

@@ -7,12 +7,15 @@ use Rattle.rv_code.specs.declared.placed.Placed.{Placed}
 use Rattle.rv_code.specs.declared.placed.Func.{Func}
 use Rattle.rv_code.specs.layout.Blocks.{inst_at}
 use Rattle.rv_code.specs.layout.FunctionLists.{IsLaidOut, AreLaidOut, HasLength}
-use Rattle.func_place.specs.Units.{Leads, function_at, AreTied, itself, onward}
-use Rattle.func_place.proofs.FunctionAt.{IsAbove, ends_rise, function_at-found, follow_above, follow_below}
+use Rattle.rv_code.specs.layout.InFunctions.{function_at}
+use Rattle.func_place.specs.Units.{Leads, AreTied, itself, onward}
+use Rattle.rv_code.proofs.lists.FunctionAt.{IsAbove, ends_rise, function_at-found}
+use Rattle.rv_code.proofs.lists.Follows.{follow_bounds}
 use Rattle.func_place.proofs.WorstPositive.{has_bytes}
 
 -- the function of an instruction is found by its address
-pub function_at-inst : (funcs : List Func) (g y : ℕ) (other : Func) (q : Placed) → AreLaidOut funcs → slice_get funcs g ≡ Some other → inst_at other y ≡ Some q → function_at funcs q.addr ≡ Some g
+pub function_at-inst : (funcs : List Func) (g y : ℕ) (other : Func) (q : Placed) → AreLaidOut funcs →
+    slice_get funcs g ≡ Some other → inst_at other y ≡ Some q → function_at funcs q.addr ≡ Some g
 function_at-inst funcs g y other q are is_other is_q =
     let insts = other.insts.items in
     let g_in = slice_get_within funcs g other is_other in
@@ -21,19 +24,27 @@ function_at-inst funcs g y other q are is_other is_q =
     let laid : IsLaidOut other = subst IsLaidOut at (are.each g other g_in) in
     let q_is : get_or insts y q ≡ q = get_or_from_slice_get insts y q q is_q in
     let bytes : 0 < q.len = has_bytes q (subst HasLength q_is (laid.lengths y q y_in)) in
-    let low : other.start ≤ q.addr = subst (λ (p : Placed). other.start ≤ p.addr) q_is (follow_above other.start insts other.end y q laid.follow y_in) in
-    let high : q.addr + q.len ≤ other.end = subst (λ (p : Placed). p.addr + p.len ≤ other.end) q_is (follow_below other.start insts other.end y q laid.follow y_in) in
+    let low : other.start ≤ q.addr =
+    subst (λ (p : Placed). other.start ≤ p.addr) q_is (follow_bounds other.start insts other.end laid.follow y q y_in).0 in
+    let high : q.addr + q.len ≤ other.end =
+    subst (λ (p : Placed). p.addr + p.len ≤ other.end) q_is (follow_bounds other.start insts other.end laid.follow y q y_in).1 in
     let start : (get_or funcs g other).start ≡ other.start = ap (λ (x : Func). x.start) at in
     let end : (get_or funcs g other).end ≡ other.end = ap (λ (x : Func). x.end) at in
     let above : IsAbove funcs q.addr g = record {
       within = omega arith;
-      low = λ j d lt. let apart = are.apart j g d lt g_in in let s : (get_or funcs g d).start ≡ other.start = ap (λ (x : Func). x.start) (get_or_from_slice_get funcs g other d is_other) in omega arith;
-      high = λ j d le lt. let up = ends_rise funcs are g j d le lt in let e : (get_or funcs g d).end ≡ other.end = ap (λ (x : Func). x.end) (get_or_from_slice_get funcs g other d is_other) in omega arith;
+      low = λ j d lt. let apart = are.apart j g d lt g_in in
+          let s : (get_or funcs g d).start ≡ other.start =
+          ap (λ (x : Func). x.start) (get_or_from_slice_get funcs g other d is_other) in omega arith;
+      high = λ j d le lt. let up = ends_rise funcs are g j d le lt in
+          let e : (get_or funcs g d).end ≡ other.end =
+          ap (λ (x : Func). x.end) (get_or_from_slice_get funcs g other d is_other) in omega arith;
     } in
     function_at-found funcs q.addr g other above g_in (omega arith)
 
 -- an instruction leads to another one: their functions are tied
-pub tied_by_insts : (funcs : List Func) (f g x y : ℕ) (func other : Func) (p q : Placed) → AreLaidOut funcs → slice_get funcs f ≡ Some func → slice_get funcs g ≡ Some other → inst_at func x ≡ Some p → inst_at other y ≡ Some q → Leads func x p q.addr → AreTied funcs f g
+pub tied_by_insts : (funcs : List Func) (f g x y : ℕ) (func other : Func) (p q : Placed) → AreLaidOut funcs →
+    slice_get funcs f ≡ Some func → slice_get funcs g ≡ Some other → inst_at func x ≡ Some p → inst_at other y ≡ Some q →
+    Leads func x p q.addr → AreTied funcs f g
 tied_by_insts funcs f g x y func other p q are is_func is_other is_p is_q leads = onward itself (record {
   func = func;
   is_func = is_func;

@@ -48,16 +48,21 @@ pub times-other : (u x : ℕ) (xs : List ℕ) → x ≢ u → times u (x ∷ xs)
 times-other u x xs ne = let c = times-cons u x xs in let none = other_none x u ne in omega arith
 
 pub times-one : (u x : ℕ) → 0 < times u (x ∷ []) → x ≡ u
-times-one u x some = ⊎_elim (λ (e : x ≡ u). e) (λ (ne : x ≢ u). let o = times-other u x [] ne in let n = times-nil u in absurd (omega arith)) (cases_eq x u)
+times-one u x some = ⊎_elim (λ (e : x ≡ u). e) (λ (ne : x ≢ u).
+    let o = times-other u x [] ne in
+    let n = times-nil u in
+    absurd (omega arith)) (cases_eq x u)
 
 pub times-flat_map : (u : ℕ) (f : ℕ → List ℕ) (xs : List ℕ) → times u (flat_map f xs) ≡ sum_by (λ x. times u (f x)) xs
 times-flat_map u f [] = times-nil u
-times-flat_map u f (x ∷ xs) = times-append u (f x) (flat_map f xs) ∙ ap (λ (n : ℕ). times u (f x) + n) (times-flat_map u f xs) ∙ sym (sum_by-cons (λ (y : ℕ). times u (f y)) x xs)
+times-flat_map u f (x ∷ xs) = times-append u (f x) (flat_map f xs) ∙ ap (λ (n : ℕ). times u (f x) + n) (times-flat_map u f xs)
+    ∙ sym (sum_by-cons (λ (y : ℕ). times u (f y)) x xs)
 
 pub times-filter_in : (p : ℕ → Bool) (u : ℕ) (xs : List ℕ) → p u ≡ true → times u (filter p xs) ≡ times u xs
 times-filter_in p u [] h = refl
 times-filter_in p u (x ∷ xs) h = ⊎_elim
-    (λ (k : p x ≡ true). rw k (times-cons u x (filter p xs) ∙ ap (λ (n : ℕ). (one_if (x == u)) + n) (times-filter_in p u xs h) ∙ sym (times-cons u x xs)))
+    (λ (k : p x ≡ true). rw k
+    (times-cons u x (filter p xs) ∙ ap (λ (n : ℕ). (one_if (x == u)) + n) (times-filter_in p u xs h) ∙ sym (times-cons u x xs)))
     (λ (k : p x ≡ false). rw k (
     let ne : x ≢ u = λ e. not_both (p u) h (ap p (sym e) ∙ k) in
     times-filter_in p u xs h ∙ sym (times-other u x xs ne)))
@@ -80,11 +85,13 @@ times-filter_out p u (x ∷ xs) h = ⊎_elim
 
 range_out : (u a n : ℕ) → u < a → times u (range_with_len a n) ≡ 0
 range_out u a zero lt = times-nil u
-range_out u a (suc n) lt = times-other u a (range_with_len (a + 1) n) (λ e. absurd (omega arith)) ∙ range_out u (a + 1) n (omega arith)
+range_out u a (suc n) lt =
+    times-other u a (range_with_len (a + 1) n) (λ e. absurd (omega arith)) ∙ range_out u (a + 1) n (omega arith)
 
 range_past : (u a n : ℕ) → a + n ≤ u → times u (range_with_len a n) ≡ 0
 range_past u a zero ge = times-nil u
-range_past u a (suc n) ge = times-other u a (range_with_len (a + 1) n) (λ e. absurd (omega arith)) ∙ range_past u (a + 1) n (omega arith)
+range_past u a (suc n) ge =
+    times-other u a (range_with_len (a + 1) n) (λ e. absurd (omega arith)) ∙ range_past u (a + 1) n (omega arith)
 
 range_from : (u a n : ℕ) → a ≤ u → u < a + n → times u (range_with_len a n) ≡ 1
 range_from u a zero le lt = absurd (omega arith)
@@ -103,12 +110,16 @@ times-range_out u n ge = range_past u 0 n (omega arith)
 pub stands_at : (u : ℕ) (xs : List ℕ) → 0 < times u xs → (k : ℕ) × (k < length xs) × ((d : ℕ) → get_or xs k d ≡ u)
 stands_at u [] some = absurd (let z = times-nil u in omega arith)
 stands_at u (x ∷ xs) some = ⊎_elim (λ (e : x ≡ u). (0, omega arith, λ d. e))
-    (λ (ne : x ≢ u). let k = stands_at u xs (let t = times-other u x xs ne in omega arith) in (suc k.0, omega (arith, k.1), λ d. k.2 d)) (cases_eq x u)
+    (λ (ne : x ≢ u).
+    let k = stands_at u xs (let t = times-other u x xs ne in omega arith) in
+    (suc k.0, omega (arith, k.1), λ d. k.2 d)) (cases_eq x u)
 
 pub times-get_or : (xs : List ℕ) (k d : ℕ) → k < length xs → 0 < times (get_or xs k d) xs
 times-get_or [] k d lt = absurd (omega arith)
 times-get_or (x ∷ xs) zero d lt = let t = times-same x xs in omega arith
-times-get_or (x ∷ xs) (suc k) d lt = let t = times-cons (get_or xs k d) x xs in let rest = times-get_or xs k d (omega arith) in omega arith
+times-get_or (x ∷ xs) (suc k) d lt =
+    let t = times-cons (get_or xs k d) x xs in
+    let rest = times-get_or xs k d (omega arith) in omega arith
 
 -- lists with the same members, each as often
 pub permutation_from_times : (xs ys : List ℕ) → ((u : ℕ) → times u xs ≡ times u ys) → IsPermutation xs ys
@@ -123,7 +134,8 @@ permutation_from_times (x ∷ xs) ys same =
     let d = times-cons u x xs in
     let e = same u in
     omega arith) in
-    IsPermutation-trans (x ∷ xs) (x ∷ remove ys k.0) ys (IsPermutation-cons x xs (remove ys k.0) rest) (IsPermutation-sym ys (x ∷ remove ys k.0) moved)
+    IsPermutation-trans (x ∷ xs) (x ∷ remove ys k.0) ys (IsPermutation-cons x xs (remove ys k.0) rest)
+    (IsPermutation-sym ys (x ∷ remove ys k.0) moved)
 
 -- membership as a test
 none_has : (u : ℕ) → has [] u ≡ true → ⊥
@@ -188,6 +200,9 @@ sum-at c v (x ∷ xs) =
     let rest = sum-at c v xs in
     let a = sum_by-cons (λ (y : ℕ). if c == y then v else 0) x xs in
     ⊎_elim
-    (λ (e : x ≡ c). let here = one_value x c v e in let t : times c (x ∷ xs) ≡ 1 + times c xs = rw e (times-same c xs) in rw t (omega arith))
+    (λ (e : x ≡ c).
+    let here = one_value x c v e in
+    let t : times c (x ∷ xs) ≡ 1 + times c xs = rw e (times-same c xs) in
+    rw t (omega arith))
     (λ (ne : x ≢ c). let here = no_value x c v ne in let t = times-other c x xs ne in rw t (omega arith))
     (cases_eq x c)

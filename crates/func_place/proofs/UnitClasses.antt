@@ -9,7 +9,7 @@ use Rattle.rv_code.specs.declared.placed.Func.{Func}
 use Rattle.func_place.specs.Units.{LeadsInto, AreTied, itself, onward, backward, AreUnits}
 use Rattle.func_place.specs.internal.Gains.{Gains}
 use Rattle.func_place.specs.internal.TieList.{tie_at, IsTie, Touch, AreTogether, same, more, Ties}
-use Rattle.func_place.proofs.FunctionAt.{function_at-within}
+use Rattle.rv_code.proofs.lists.FunctionAt.{function_at-within}
 
 pub leads_from : (funcs : List Func) (t : ℕ × ℕ) → Ties funcs t → LeadsInto funcs t.0 t.1
 leads_from funcs t is =
@@ -56,21 +56,27 @@ none_in x (k, lt, is) = omega arith
 
 pub are_ties : (funcs : List Func) (ties : List (ℕ × ℕ)) → Gains [] ties (Ties funcs) → AreTies funcs ties
 are_ties funcs ties gains = record {
-  only = λ k lt. leads_from funcs (tie_at ties k) (⊎_elim (λ none. absurd (none_in (tie_at ties k) none)) (λ is. is) ((gains (tie_at ties k)).0 (Contains-get_or ties k (0, 0) lt)));
+  only = λ k lt. leads_from funcs (tie_at ties k) (⊎_elim (λ none. absurd (none_in (tie_at ties k) none)) (λ is. is)
+      ((gains (tie_at ties k)).0 (Contains-get_or ties k (0, 0) lt)));
   each = λ f g l other. (gains (f, g)).1 (inr (ties_from funcs f g l other));
 }
 
-pub ties_inside : (funcs : List Func) (ties : List (ℕ × ℕ)) → AreTies funcs ties → All (λ t. (t.0 < length funcs) × (t.1 < length funcs)) ties
+pub ties_inside : (funcs : List Func) (ties : List (ℕ × ℕ)) → AreTies funcs ties →
+    All (λ t. (t.0 < length funcs) × (t.1 < length funcs)) ties
 ties_inside funcs ties are k d lt =
     let inside = leads_inside funcs (tie_at ties k).0 (tie_at ties k).1 (are.only k lt) in
     let same_tie : tie_at ties k ≡ get_or ties k d = get_or_default ties k (0, 0) d lt in
     subst (λ (t : ℕ × ℕ). (t.0 < length funcs) × (t.1 < length funcs)) same_tie inside
 
-tied_touch : (funcs : List Func) (ties : List (ℕ × ℕ)) → AreTies funcs ties → (f g h : ℕ) → AreTied funcs f g → Touch ties (length ties) g h → AreTied funcs f h
-tied_touch funcs ties are f g h tied (inl t) = onward tied (subst (λ (x : ℕ). LeadsInto funcs g x) t.ends.1 (subst (λ (x : ℕ). LeadsInto funcs x (tie_at ties t.by).1) t.ends.0 (are.only t.by t.within)))
-tied_touch funcs ties are f g h tied (inr t) = backward tied (subst (λ (x : ℕ). LeadsInto funcs h x) t.ends.1 (subst (λ (x : ℕ). LeadsInto funcs x (tie_at ties t.by).1) t.ends.0 (are.only t.by t.within)))
+tied_touch : (funcs : List Func) (ties : List (ℕ × ℕ)) → AreTies funcs ties → (f g h : ℕ) → AreTied funcs f g →
+    Touch ties (length ties) g h → AreTied funcs f h
+tied_touch funcs ties are f g h tied (inl t) = onward tied (subst (λ (x : ℕ). LeadsInto funcs g x) t.ends.1
+    (subst (λ (x : ℕ). LeadsInto funcs x (tie_at ties t.by).1) t.ends.0 (are.only t.by t.within)))
+tied_touch funcs ties are f g h tied (inr t) = backward tied (subst (λ (x : ℕ). LeadsInto funcs h x) t.ends.1
+    (subst (λ (x : ℕ). LeadsInto funcs x (tie_at ties t.by).1) t.ends.0 (are.only t.by t.within)))
 
-tied_together : (funcs : List Func) (ties : List (ℕ × ℕ)) → AreTies funcs ties → (f h : ℕ) → AreTogether ties (length ties) f h → AreTied funcs f h
+tied_together : (funcs : List Func) (ties : List (ℕ × ℕ)) → AreTies funcs ties → (f h : ℕ) →
+    AreTogether ties (length ties) f h → AreTied funcs f h
 tied_together funcs ties are f h same = itself
 tied_together funcs ties are f h (more {g = g} r t) = tied_touch funcs ties are f g h (tied_together funcs ties are f g r) t
 
@@ -80,21 +86,28 @@ tie_of ties f g (k, lt, is) =
     record { by = k; within = lt; ends = (ap (λ (t : ℕ × ℕ). t.0) at, ap (λ (t : ℕ × ℕ). t.1) at) }
 
 -- one more step, which may stay at one function
-step : (ties : List (ℕ × ℕ)) (f g h : ℕ) → AreTogether ties (length ties) f g → (h ≢ g → Touch ties (length ties) g h) → AreTogether ties (length ties) f h
-step ties f g h r touch = ⊎_elim (λ (e : h ≡ g). subst (AreTogether ties (length ties) f) (sym e) r) (λ (ne : h ≢ g). more r (touch ne)) (cases_eq h g)
+step : (ties : List (ℕ × ℕ)) (f g h : ℕ) → AreTogether ties (length ties) f g → (h ≢ g → Touch ties (length ties) g h) →
+    AreTogether ties (length ties) f h
+step ties f g h r touch =
+    ⊎_elim (λ (e : h ≡ g). subst (AreTogether ties (length ties) f) (sym e) r) (λ (ne : h ≢ g). more r (touch ne)) (cases_eq h g)
 
-together_tied : (funcs : List Func) (ties : List (ℕ × ℕ)) → AreTies funcs ties → (f h : ℕ) → AreTied funcs f h → AreTogether ties (length ties) f h
+together_tied : (funcs : List Func) (ties : List (ℕ × ℕ)) → AreTies funcs ties → (f h : ℕ) → AreTied funcs f h →
+    AreTogether ties (length ties) f h
 together_tied funcs ties are f h itself = same
-together_tied funcs ties are f h (onward {g = g} r l) = step ties f g h (together_tied funcs ties are f g r) (λ ne. inl (tie_of ties g h (are.each g h l ne)))
-together_tied funcs ties are f h (backward {g = g} r l) = step ties f g h (together_tied funcs ties are f g r) (λ ne. inr (tie_of ties h g (are.each h g l (λ e. ne (sym e)))))
+together_tied funcs ties are f h (onward {g = g} r l) =
+    step ties f g h (together_tied funcs ties are f g r) (λ ne. inl (tie_of ties g h (are.each g h l ne)))
+together_tied funcs ties are f h (backward {g = g} r l) =
+    step ties f g h (together_tied funcs ties are f g r) (λ ne. inr (tie_of ties h g (are.each h g l (λ e. ne (sym e)))))
 
 pub tied_inside : (funcs : List Func) (f h : ℕ) → f < length funcs → AreTied funcs f h → h < length funcs
 tied_inside funcs f h f_in itself = f_in
 tied_inside funcs f h f_in (onward {g = g} r l) = (leads_inside funcs g h l).1
 tied_inside funcs f h f_in (backward {g = g} r l) = (leads_inside funcs h g l).0
 
-pub are_units : (funcs : List Func) (ties : List (ℕ × ℕ)) (numbers units : List ℕ) → AreTies funcs ties → length units ≡ length funcs
-    → ((f h : ℕ) → f < length funcs → h < length funcs → (slice_index numbers f ≡ slice_index numbers h) ↔ AreTogether ties (length ties) f h)
+pub are_units : (funcs : List Func) (ties : List (ℕ × ℕ)) (numbers units : List ℕ) → AreTies funcs ties
+    → length units ≡ length funcs
+    → ((f h : ℕ) → f < length funcs → h < length funcs
+    → (slice_index numbers f ≡ slice_index numbers h) ↔ AreTogether ties (length ties) f h)
     → ((u : ℕ) → u < length funcs → slice_index numbers (slice_index units u) ≡ slice_index numbers u)
     → ((u w : ℕ) → u < length funcs → w < length funcs → slice_index numbers w ≡ slice_index numbers u → slice_index units u ≤ w)
     → AreUnits funcs units
@@ -102,7 +115,8 @@ are_units funcs ties numbers units are len classes same_group lowest = record {
   len = len;
   tied = λ f f_in.
       let low = lowest f f f_in f_in refl in
-      tied_together funcs ties are f (slice_index units f) ((classes f (slice_index units f) f_in (omega arith)).0 (sym (same_group f f_in)));
+      tied_together funcs ties are f (slice_index units f)
+      ((classes f (slice_index units f) f_in (omega arith)).0 (sym (same_group f f_in)));
   lowest = λ f g f_in tied.
       let g_in = tied_inside funcs f g f_in tied in
       lowest f g f_in g_in (sym ((classes f g f_in g_in).1 (together_tied funcs ties are f g tied)));

@@ -26,7 +26,8 @@ warm_some heats u h = grind (arith, common_steps)
 
 warm_inside : (heats : List ℕ) (u : ℕ) → warm_of heats u ≡ true → u < length heats
 warm_inside heats u h = ⊎_elim (λ (lt : u < length heats). lt)
-    (λ (ge : length heats ≤ u). let past = get_or_past heats u 0 ge in absurd (cold_there (slice_index heats u) past h)) (cases_lt u (length heats))
+    (λ (ge : length heats ≤ u). let past = get_or_past heats u 0 ge in absurd (cold_there (slice_index heats u) past h))
+    (cases_lt u (length heats))
   where
     cold_there : (n : ℕ) → n ≡ 0 → nat_lt 0 n ≡ true → ⊥
     cold_there n e h = grind (arith, common_steps)
@@ -37,21 +38,29 @@ not_cold n h = grind (arith, common_steps)
 is_cold : (n : ℕ) → nat_lt 0 n ≡ false → (n == 0) ≡ true
 is_cold n h = grind (arith, common_steps)
 
-abbrev pub line_of : {sizes heats : List ℕ} {calls : List Call} {hot cold : ℕ → List ℕ} {order : List ℕ} → IsUnitOrder sizes heats calls hot cold order → List ℕ
+abbrev pub line_of : {sizes heats : List ℕ} {calls : List Call} {hot cold : ℕ → List ℕ} {order : List ℕ} →
+    IsUnitOrder sizes heats calls hot cold order → List ℕ
 line_of {sizes} {heats} {calls} o = flat_map (unit_clusters sizes heats calls o.taken) o.ranked ++ cold_units heats
 
-pub line_times : {sizes heats : List ℕ} {calls : List Call} {hot cold : ℕ → List ℕ} {order : List ℕ} (o : IsUnitOrder sizes heats calls hot cold order) (w : ℕ) → times w (line_of o) ≡ times w (range_with_len 0 (length heats))
+pub line_times : {sizes heats : List ℕ} {calls : List Call} {hot cold : ℕ → List ℕ} {order : List ℕ}
+    (o : IsUnitOrder sizes heats calls hot cold order) (w : ℕ) → times w (line_of o) ≡ times w (range_with_len 0 (length heats))
 line_times {sizes} {heats} {calls} o w =
     let n = length heats in
     let taken = o.taken in
     let cluster = unit_clusters sizes heats calls taken in
-    let count : (u : ℕ) → times u taken ≡ times u (hot_units heats) = λ u. times-IsPermutation u (hot_units heats) taken o.taken_is.each in
+    let count : (u : ℕ) → times u taken ≡ times u (hot_units heats) =
+    λ u. times-IsPermutation u (hot_units heats) taken o.taken_is.each in
     let all : (u : ℕ) → 0 < times u taken → warm_of heats u ≡ true = λ u some. ⊎_elim
     (λ (h : warm_of heats u ≡ true). h)
-    (λ (h : warm_of heats u ≡ false). let z = times-filter_out (warm_of heats) u (range_with_len 0 n) h in let c = count u in absurd (omega arith))
+    (λ (h : warm_of heats u ≡ false).
+    let z = times-filter_out (warm_of heats) u (range_with_len 0 n) h in
+    let c = count u in
+    absurd (omega arith))
     (cases_Bool (warm_of heats u)) in
-    let once : (u : ℕ) → warm_of heats u ≡ true → times u taken ≡ 1 = λ u h. count u ∙ times-filter_in (warm_of heats) u (range_with_len 0 n) h ∙ times-range_in u n (warm_inside heats u h) in
-    let c : IsClustered (warm_of heats) cluster = folded_clustered (warm_of heats) sizes (heaviest_caller heats calls) (λ u v e. warm_some heats v (caller_in heats calls u v e).hot) taken alone all (alone_clustered (warm_of heats)) in
+    let once : (u : ℕ) → warm_of heats u ≡ true → times u taken ≡ 1 =
+    λ u h. count u ∙ times-filter_in (warm_of heats) u (range_with_len 0 n) h ∙ times-range_in u n (warm_inside heats u h) in
+    let c : IsClustered (warm_of heats) cluster = folded_clustered (warm_of heats) sizes (heaviest_caller heats calls)
+    (λ u v e. warm_some heats v (caller_in heats calls u v e).hot) taken alone all (alone_clustered (warm_of heats)) in
     times-append w (flat_map cluster o.ranked) (cold_units heats) ∙ ⊎_elim
     (λ (h : warm_of heats w ≡ true).
     let one = ranked_warm c taken o.ranked w o.ranked_is.each once h in
@@ -77,7 +86,8 @@ record AreBands (sizes us : List ℕ) (bands : Bands) : Type 0 where
 over : (n : ℕ) → nat_lt limit n ≡ false → n ≤ limit
 over n h = grind (arith, common_steps)
 
-bands_step : (sizes us : List ℕ) (u : ℕ) (bands : Bands) → slice_index sizes u ≤ limit → AreBands sizes us bands → AreBands sizes (us ++ u ∷ []) (put_unit sizes bands u)
+bands_step : (sizes us : List ℕ) (u : ℕ) (bands : Bands) → slice_index sizes u ≤ limit → AreBands sizes us bands →
+    AreBands sizes (us ++ u ∷ []) (put_unit sizes bands u)
 bands_step sizes us u bands small a = ⊎_elim
     (λ (h : nat_lt limit (total sizes bands.1 + slice_index sizes u) ≡ true). rw h (record {
       line = ap (λ (xs : List ℕ). xs ++ u ∷ []) (sym (flat_map_more (λ (b : List ℕ). b) [] bands.0 bands.1) ∙ a.line);
@@ -87,13 +97,17 @@ bands_step sizes us u bands small a = ⊎_elim
     (λ (h : nat_lt limit (total sizes bands.1 + slice_index sizes u) ≡ false). rw h (record {
       line = sym (append_assoc (flat bands.0) bands.1 (u ∷ [])) ∙ ap (λ (xs : List ℕ). xs ++ u ∷ []) a.line;
       low = a.low;
-      last = let one = sum_by_push (λ (x : ℕ). slice_index sizes x) bands.1 u in let le = over (total sizes bands.1 + slice_index sizes u) h in omega arith;
+      last =
+          let one = sum_by_push (λ (x : ℕ). slice_index sizes x) bands.1 u in
+          let le = over (total sizes bands.1 + slice_index sizes u) h in omega arith;
     }))
     (cases_Bool (nat_lt limit (total sizes bands.1 + slice_index sizes u)))
 
-bands_all : (sizes us done : List ℕ) (bands : Bands) → ((u : ℕ) → slice_index sizes u ≤ limit) → AreBands sizes done bands → AreBands sizes (done ++ us) (fold (put_unit sizes) bands us)
+bands_all : (sizes us done : List ℕ) (bands : Bands) → ((u : ℕ) → slice_index sizes u ≤ limit) → AreBands sizes done bands →
+    AreBands sizes (done ++ us) (fold (put_unit sizes) bands us)
 bands_all sizes [] done bands small a = subst (λ (xs : List ℕ). AreBands sizes xs bands) (sym (append-nil done)) a
-bands_all sizes (u ∷ us) done bands small a = subst (λ (xs : List ℕ). AreBands sizes xs (fold (put_unit sizes) (put_unit sizes bands u) us)) (append_assoc done (u ∷ []) us)
+bands_all sizes (u ∷ us) done bands small a =
+    subst (λ (xs : List ℕ). AreBands sizes xs (fold (put_unit sizes) (put_unit sizes bands u) us)) (append_assoc done (u ∷ []) us)
     (bands_all sizes us (done ++ u ∷ []) (put_unit sizes bands u) small (bands_step sizes done u bands (small u) a))
 
 -- a line cut into bands
@@ -103,10 +117,12 @@ pub record AreCut (sizes : List ℕ) (hot cold : ℕ → List ℕ) (line order :
   pub low : All (λ b. total sizes b ≤ limit) bands
   pub order_is : order ≡ flat_map (blocks_of hot cold) bands
 
-pub cut_of : (sizes : List ℕ) (hot cold : ℕ → List ℕ) (line : List ℕ) → ((u : ℕ) → slice_index sizes u ≤ limit) → AreCut sizes hot cold line (order_of sizes hot cold line)
+pub cut_of : (sizes : List ℕ) (hot cold : ℕ → List ℕ) (line : List ℕ) → ((u : ℕ) → slice_index sizes u ≤ limit) →
+    AreCut sizes hot cold line (order_of sizes hot cold line)
 cut_of sizes hot cold line small =
     let bands = bands_of sizes line in
-    let a = bands_all sizes line [] ([], []) small (record { line = refl; low = All-nil (λ (b : List ℕ). total sizes b ≤ limit); last = omega arith }) in
+    let a = bands_all sizes line [] ([], []) small
+    (record { line = refl; low = All-nil (λ (b : List ℕ). total sizes b ≤ limit); last = omega arith }) in
     record {
       bands = bands.0 ++ bands.1 ∷ [];
       line_is = sym (flat_map_more (λ (b : List ℕ). b) [] bands.0 bands.1) ∙ a.line;
@@ -116,20 +132,24 @@ cut_of sizes hot cold line small =
 
 -- How often a block stands in bands.
 
-pub blocks_times : (hot cold : ℕ → List ℕ) (k : ℕ) (band : List ℕ) → times k (blocks_of hot cold band) ≡ sum_by (λ u. times k (hot u) + times k (cold u)) band
+pub blocks_times : (hot cold : ℕ → List ℕ) (k : ℕ) (band : List ℕ) →
+    times k (blocks_of hot cold band) ≡ sum_by (λ u. times k (hot u) + times k (cold u)) band
 blocks_times hot cold k band =
     times-append k (flat_map hot band) (flat_map cold band)
-    ∙ (let a = times-flat_map k hot band in let b = times-flat_map k cold band in let e : times k (flat_map hot band) + times k (flat_map cold band) ≡ sum_by (λ u. times k (hot u)) band + sum_by (λ u. times k (cold u)) band = omega arith in e)
+    ∙ (let a = times-flat_map k hot band in let b = times-flat_map k cold band in let e : times k (flat_map hot band) + times k
+    (flat_map cold band) ≡ sum_by (λ u. times k (hot u)) band + sum_by (λ u. times k (cold u)) band = omega arith in e)
     ∙ sym (sum-plus (λ u. times k (hot u)) (λ u. times k (cold u)) band)
 
-pub order_times : (hot cold : ℕ → List ℕ) (k : ℕ) (bands : List (List ℕ)) → times k (flat_map (blocks_of hot cold) bands) ≡ sum_by (λ u. times k (hot u) + times k (cold u)) (flat bands)
+pub order_times : (hot cold : ℕ → List ℕ) (k : ℕ) (bands : List (List ℕ)) →
+    times k (flat_map (blocks_of hot cold) bands) ≡ sum_by (λ u. times k (hot u) + times k (cold u)) (flat bands)
 order_times hot cold k [] = times-nil k
 order_times hot cold k (b ∷ bs) =
     let t : ℕ → ℕ = λ u. times k (hot u) + times k (cold u) in
     let here = blocks_times hot cold k b in
     let rest = order_times hot cold k bs in
     times-append k (blocks_of hot cold b) (flat_map (blocks_of hot cold) bs)
-    ∙ (let e : times k (blocks_of hot cold b) + times k (flat_map (blocks_of hot cold) bs) ≡ sum_by t b + sum_by t (flat bs) = omega arith in e)
+    ∙ (let e : times k (blocks_of hot cold b) + times k (flat_map (blocks_of hot cold) bs)
+    ≡ sum_by t b + sum_by t (flat bs) = omega arith in e)
     ∙ sym (sum_by-append t b (flat bs))
 
 -- Blocks of one unit are near each other.
@@ -143,11 +163,15 @@ pub record AreOwned (owner weight : ℕ → ℕ) (sizes : List ℕ) (hot cold : 
 pub sum_some : (f : ℕ → ℕ) (xs : List ℕ) → 0 < sum_by f xs → (x : ℕ) × (0 < times x xs) × (0 < f x)
 sum_some f [] some = absurd (omega arith)
 sum_some f (x ∷ xs) some = ⊎_elim
-    (λ (z : f x ≡ 0). let c = sum_by-cons f x xs in let r = sum_some f xs (omega arith) in (r.0, (let t = times-cons r.0 x xs in let s = r.1 in omega arith), r.2))
+    (λ (z : f x ≡ 0).
+    let c = sum_by-cons f x xs in
+    let r = sum_some f xs (omega arith) in
+    (r.0, (let t = times-cons r.0 x xs in let s = r.1 in omega arith), r.2))
     (λ (nz : f x ≢ 0). (x, (let t = times-same x xs in omega arith), omega arith))
     (cases_eq (f x) 0)
 
-in_band : {owner weight : ℕ → ℕ} {sizes : List ℕ} {hot cold : ℕ → List ℕ} → AreOwned owner weight sizes hot cold → (k : ℕ) (band : List ℕ) → 0 < times k (blocks_of hot cold band) → 0 < times (owner k) band
+in_band : {owner weight : ℕ → ℕ} {sizes : List ℕ} {hot cold : ℕ → List ℕ} → AreOwned owner weight sizes hot cold →
+    (k : ℕ) (band : List ℕ) → 0 < times k (blocks_of hot cold band) → 0 < times (owner k) band
 in_band {owner} {weight} {sizes} {hot} {cold} a k band some =
     let e = blocks_times hot cold k band in
     let s = sum_some (λ u. times k (hot u) + times k (cold u)) band (omega arith) in
@@ -160,7 +184,8 @@ in_band {owner} {weight} {sizes} {hot} {cold} a k band some =
     (cases_eq (times k (hot u)) 0) in
     subst (λ (w : ℕ). 0 < times w band) (sym is) there
 
-in_bands : {owner weight : ℕ → ℕ} {sizes : List ℕ} {hot cold : ℕ → List ℕ} → AreOwned owner weight sizes hot cold → (k : ℕ) (bands : List (List ℕ)) → 0 < times k (flat_map (blocks_of hot cold) bands) → 0 < times (owner k) (flat bands)
+in_bands : {owner weight : ℕ → ℕ} {sizes : List ℕ} {hot cold : ℕ → List ℕ} → AreOwned owner weight sizes hot cold →
+    (k : ℕ) (bands : List (List ℕ)) → 0 < times k (flat_map (blocks_of hot cold) bands) → 0 < times (owner k) (flat bands)
 in_bands a k [] some = absurd (let z = times-nil k in omega arith)
 in_bands {owner} {weight} {sizes} {hot} {cold} a k (b ∷ bs) some =
     let e = times-append k (blocks_of hot cold b) (flat_map (blocks_of hot cold) bs) in
@@ -170,7 +195,8 @@ in_bands {owner} {weight} {sizes} {hot} {cold} a k (b ∷ bs) some =
     (λ (nz : times k (blocks_of hot cold b) ≢ 0). let r = in_band a k b (omega arith) in omega arith)
     (cases_eq (times k (blocks_of hot cold b)) 0)
 
-band_parts : {owner weight : ℕ → ℕ} {sizes : List ℕ} {hot cold : ℕ → List ℕ} → AreOwned owner weight sizes hot cold → (band : List ℕ) → sum_by weight (flat_map hot band) + sum_by weight (flat_map cold band) ≤ total sizes band
+band_parts : {owner weight : ℕ → ℕ} {sizes : List ℕ} {hot cold : ℕ → List ℕ} → AreOwned owner weight sizes hot cold →
+    (band : List ℕ) → sum_by weight (flat_map hot band) + sum_by weight (flat_map cold band) ≤ total sizes band
 band_parts a [] = omega arith
 band_parts {owner} {weight} {sizes} {hot} {cold} a (u ∷ us) =
     let rest = band_parts a us in
@@ -194,10 +220,15 @@ segment_front xs ys i n le =
 
 segment_back : (xs ys : List ℕ) (i n : ℕ) → length xs ≤ i → take n (drop i (xs ++ ys)) ≡ take n (drop (i - length xs) ys)
 segment_back xs ys i n le =
-    let split : drop i (xs ++ ys) ≡ drop (i - length xs) (drop (length xs) (xs ++ ys)) = sym (drop-drop (i - length xs) (length xs) (xs ++ ys) ∙ ap (λ (m : ℕ). drop m (xs ++ ys)) (omega arith)) in
+    let split : drop i (xs ++ ys) ≡ drop (i - length xs) (drop (length xs) (xs ++ ys)) =
+    sym (drop-drop (i - length xs) (length xs) (xs ++ ys) ∙ ap (λ (m : ℕ). drop m (xs ++ ys)) (omega arith)) in
     ap (take n) (split ∙ ap (drop (i - length xs)) (drop_at xs ys (length xs) refl))
 
-pub units_near : {owner weight : ℕ → ℕ} {sizes : List ℕ} {hot cold : ℕ → List ℕ} → AreOwned owner weight sizes hot cold → (bands : List (List ℕ)) → All (λ b. total sizes b ≤ limit) bands → ((u : ℕ) → times u (flat bands) ≤ 1) → (i j : ℕ) → i ≤ j → j < length (flat_map (blocks_of hot cold) bands) → owner (slice_index (flat_map (blocks_of hot cold) bands) i) ≡ owner (slice_index (flat_map (blocks_of hot cold) bands) j) → sum_by weight (take (j + 1 - i) (drop i (flat_map (blocks_of hot cold) bands))) ≤ limit
+pub units_near : {owner weight : ℕ → ℕ} {sizes : List ℕ} {hot cold : ℕ → List ℕ} → AreOwned owner weight sizes hot cold →
+    (bands : List (List ℕ)) → All (λ b. total sizes b ≤ limit) bands → ((u : ℕ) → times u (flat bands) ≤ 1) → (i j : ℕ) → i ≤ j →
+    j < length (flat_map (blocks_of hot cold) bands) →
+    owner (slice_index (flat_map (blocks_of hot cold) bands) i) ≡ owner (slice_index (flat_map (blocks_of hot cold) bands) j) →
+    sum_by weight (take (j + 1 - i) (drop i (flat_map (blocks_of hot cold) bands))) ≤ limit
 units_near a [] low once i j le lt same = absurd (omega arith)
 units_near {owner} {weight} {sizes} {hot} {cold} a (b ∷ bs) low once i j le lt same =
     let xs = blocks_of hot cold b in
@@ -225,8 +256,11 @@ units_near {owner} {weight} {sizes} {hot} {cold} a (b ∷ bs) low once i j le lt
     (λ (back : length xs ≤ i).
     let i_is : slice_index (xs ++ ys) i ≡ slice_index ys (i - length xs) = get_or-append_right xs ys (length xs) i 0 refl back in
     let j_is : slice_index (xs ++ ys) j ≡ slice_index ys (j - length xs) = get_or-append_right xs ys (length xs) j 0 refl late in
-    let rest = units_near a bs (All-tail (λ (band : List ℕ). total sizes band ≤ limit) b bs low) (λ u. let t = times-append u b (flat bs) in let o = once u in omega arith) (i - length xs) (j - length xs) (omega arith) (omega arith) (ap owner (sym i_is) ∙ same ∙ ap owner j_is) in
+    let rest = units_near a bs (All-tail (λ (band : List ℕ). total sizes band ≤ limit) b bs low)
+    (λ u. let t = times-append u b (flat bs) in let o = once u in omega arith) (i - length xs) (j - length xs) (omega arith)
+    (omega arith) (ap owner (sym i_is) ∙ same ∙ ap owner j_is) in
     let n_is : j - length xs + 1 - (i - length xs) ≡ j + 1 - i = omega arith in
-    rw (segment_back xs ys i (j + 1 - i) back) (subst (λ (n : ℕ). sum_by weight (take n (drop (i - length xs) ys)) ≤ limit) n_is rest))
+    rw (segment_back xs ys i (j + 1 - i) back)
+    (subst (λ (n : ℕ). sum_by weight (take n (drop (i - length xs) ys)) ≤ limit) n_is rest))
     (cases_lt i (length xs)))
     (cases_lt j (length xs))

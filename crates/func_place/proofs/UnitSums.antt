@@ -20,7 +20,8 @@ pub record AreSums (units : List ℕ) (blocks : List Block) (numbers : List ℕ)
   pub len : length sums ≡ length units
   pub bound : (u : ℕ) → slice_index sums u ≤ sum (take i numbers)
   pub total : sum sums ≡ sum (take i numbers)
-  pub is : (number : Block → ℕ) → numbers ≡ map number blocks → (u : ℕ) → u < length units → slice_index sums u ≡ unit_sum units number (take i blocks) u
+  pub is : (number : Block → ℕ) → numbers ≡ map number blocks → (u : ℕ) → u < length units →
+      slice_index sums u ≡ unit_sum units number (take i blocks) u
 
 yes_if : (m u n : ℕ) → m ≡ u → (if m == u then n else 0) ≡ n
 yes_if m u n e = grind (arith, common_steps)
@@ -28,8 +29,10 @@ yes_if m u n e = grind (arith, common_steps)
 no_if : (m u n : ℕ) → m ≢ u → (if m == u then n else 0) ≡ 0
 no_if m u n ne = grind (arith, common_steps)
 
-pub sums_next : (units : List ℕ) (blocks : List Block) (numbers : List ℕ) (i : ℕ) (sums : List ℕ) (d : Block) (unit n : ℕ) → i < length blocks → length numbers ≡ length blocks → unit ≡ slice_index units (get_or blocks i d).func → unit < length sums
-    → n ≡ slice_index sums unit + slice_index numbers i → AreSums units blocks numbers i sums → AreSums units blocks numbers (i + 1) (set sums unit n)
+pub sums_next : (units : List ℕ) (blocks : List Block) (numbers : List ℕ) (i : ℕ) (sums : List ℕ) (d : Block) (unit n : ℕ)
+    → i < length blocks → length numbers ≡ length blocks → unit ≡ slice_index units (get_or blocks i d).func → unit < length sums
+    → n ≡ slice_index sums unit + slice_index numbers i → AreSums units blocks numbers i sums
+    → AreSums units blocks numbers (i + 1) (set sums unit n)
 sums_next units blocks numbers i sums d unit n lt same_len unit_is unit_in n_is a =
     let grown = sum_by_more (λ (x : ℕ). x) numbers i 0 (omega arith) in
     record {
@@ -41,34 +44,42 @@ sums_next units blocks numbers i sums d unit n lt same_len unit_is unit_in n_is 
       total = let t = sum_by-set (λ (x : ℕ). x) sums unit n 0 unit_in in let was = a.total in omega arith;
       is = λ number is u u_in.
           let more = sum_by_more (λ (b : Block). if slice_index units b.func == u then number b else 0) blocks i d lt in
-          let here : slice_index numbers i ≡ number (get_or blocks i d) = ap (λ (ns : List ℕ). slice_index ns i) is ∙ get_or-map number blocks i d 0 lt in
+          let here : slice_index numbers i ≡ number (get_or blocks i d) =
+          ap (λ (ns : List ℕ). slice_index ns i) is ∙ get_or-map number blocks i d 0 lt in
           ⊎_elim
           (λ (e : u ≡ unit).
           let add = yes_if (slice_index units (get_or blocks i d).func) u (number (get_or blocks i d)) (sym unit_is ∙ sym e) in
           let was = a.is number is u u_in in
           let old : slice_index sums u ≡ slice_index sums unit = ap (slice_index sums) e in
-          let now : slice_index (set sums unit n) u ≡ n = ap (slice_index (set sums unit n)) e ∙ get_or-set_same sums unit n 0 unit_in in
+          let now : slice_index (set sums unit n) u ≡ n =
+          ap (slice_index (set sums unit n)) e ∙ get_or-set_same sums unit n 0 unit_in in
           omega arith)
           (λ (ne : u ≢ unit).
-          let add = no_if (slice_index units (get_or blocks i d).func) u (number (get_or blocks i d)) (λ h. ne (sym h ∙ sym unit_is)) in
+          let add =
+          no_if (slice_index units (get_or blocks i d).func) u (number (get_or blocks i d)) (λ h. ne (sym h ∙ sym unit_is)) in
           let was = a.is number is u u_in in
           let now : slice_index (set sums unit n) u ≡ slice_index sums u = get_or-set_other sums unit u n 0 ne in
           omega arith)
           (cases_eq u unit);
     }
 
-pub sum_fits : (units : List ℕ) (blocks : List Block) (numbers : List ℕ) (i : ℕ) (sums : List ℕ) (u : ℕ) → i < length numbers → AreSums units blocks numbers i sums → slice_index sums u + slice_index numbers i ≤ sum numbers
+pub sum_fits : (units : List ℕ) (blocks : List Block) (numbers : List ℕ) (i : ℕ) (sums : List ℕ) (u : ℕ) → i < length numbers →
+    AreSums units blocks numbers i sums → slice_index sums u + slice_index numbers i ≤ sum numbers
 sum_fits units blocks numbers i sums u lt a =
     let le = a.bound u in
     let all = sum_by_more_le (λ (x : ℕ). x) numbers i 0 lt in
     omega arith
 
-pub sums_are : (units : List ℕ) (blocks : List Block) (numbers : List ℕ) (i : ℕ) (sums : List ℕ) → i ≡ length blocks → AreSums units blocks numbers i sums → (number : Block → ℕ) → numbers ≡ map number blocks → sums ≡ by_unit (unit_sum units number blocks) units
+pub sums_are : (units : List ℕ) (blocks : List Block) (numbers : List ℕ) (i : ℕ) (sums : List ℕ) → i ≡ length blocks →
+    AreSums units blocks numbers i sums → (number : Block → ℕ) → numbers ≡ map number blocks →
+    sums ≡ by_unit (unit_sum units number blocks) units
 sums_are units blocks numbers i sums end a number is =
     let all : take i blocks ≡ blocks = take_all i blocks (omega arith) in
-    fill_by_all (unit_sum units number blocks) sums (length units) 0 a.len (λ k k_in. a.is number is k k_in ∙ ap (λ (bs : List Block). unit_sum units number bs k) all)
+    fill_by_all (unit_sum units number blocks) sums (length units) 0 a.len
+    (λ k k_in. a.is number is k k_in ∙ ap (λ (bs : List Block). unit_sum units number bs k) all)
 
-pub no_sums : (units : List ℕ) (blocks : List Block) (numbers : List ℕ) → AreSums units blocks numbers 0 (replicate (length units) 0)
+pub no_sums : (units : List ℕ) (blocks : List Block) (numbers : List ℕ) →
+    AreSums units blocks numbers 0 (replicate (length units) 0)
 no_sums units blocks numbers = record {
   len = length-replicate (length units) 0;
   bound = λ u. let z = zeros (length units) u in omega arith;
@@ -81,10 +92,14 @@ no_sums units blocks numbers = record {
     none (suc n) = let one = sum_by-cons (λ (x : ℕ). x) 0 (replicate n 0) in let rest = none n in omega arith
 
     zeros : (n u : ℕ) → slice_index (replicate n 0) u ≡ 0
-    zeros n u = ⊎_elim (λ (lt : u < n). get_or-replicate n u 0 0 lt) (λ (ge : n ≤ u). get_or_past (replicate n 0) u 0 (let l : length (replicate {A = ℕ} n 0) ≡ n = length-replicate {A = ℕ} n 0 in rw l ge)) (cases_lt u n)
+    zeros n u = ⊎_elim (λ (lt : u < n). get_or-replicate n u 0 0 lt) (λ (ge : n ≤ u). get_or_past (replicate n 0) u 0
+        (let l : length (replicate {A = ℕ} n 0) ≡ n = length-replicate {A = ℕ} n 0 in rw l ge)) (cases_lt u n)
 
-pub sums_within : (units : List ℕ) (blocks : List Block) (numbers : List ℕ) (i : ℕ) (sums : List ℕ) → i ≡ length blocks → length numbers ≡ length blocks → AreSums units blocks numbers i sums → sum sums ≤ sum numbers
-sums_within units blocks numbers i sums end len a = let t = a.total in let all : sum (take i numbers) ≡ sum numbers = ap sum (take_all i numbers (omega arith)) in omega arith
+pub sums_within : (units : List ℕ) (blocks : List Block) (numbers : List ℕ) (i : ℕ) (sums : List ℕ) → i ≡ length blocks →
+    length numbers ≡ length blocks → AreSums units blocks numbers i sums → sum sums ≤ sum numbers
+sums_within units blocks numbers i sums end len a =
+    let t = a.total in
+    let all : sum (take i numbers) ≡ sum numbers = ap sum (take_all i numbers (omega arith)) in omega arith
 
 -- The blocks of the first functions, for each unit.
 
@@ -98,19 +113,25 @@ passes m u e = grind (arith, common_steps)
 fails : (m u : ℕ) → m ≢ u → (m == u) ≡ false
 fails m u ne = grind (arith, common_steps)
 
-pub parts_next : (units : List ℕ) (part : ℕ → List ℕ) (i unit : ℕ) (own : List (List ℕ)) (more : List ℕ) → unit ≡ slice_index units i → unit < length own → more ≡ list_at own unit ++ part i → AreParts units part i own → AreParts units part (i + 1) (set own unit more)
+pub parts_next : (units : List ℕ) (part : ℕ → List ℕ) (i unit : ℕ) (own : List (List ℕ)) (more : List ℕ) →
+    unit ≡ slice_index units i → unit < length own → more ≡ list_at own unit ++ part i → AreParts units part i own →
+    AreParts units part (i + 1) (set own unit more)
 parts_next units part i unit own more unit_is unit_in more_is a = record {
   len = length-set own unit more ∙ a.len;
   is = λ u.
       let p : ℕ → Bool = λ f. slice_index units f == u in
       ⊎_elim
       (λ (e : u ≡ unit).
-      let here : list_at (set own unit more) u ≡ more = ap (list_at (set own unit more)) e ∙ get_or-set_same own unit more [] unit_in in
+      let here : list_at (set own unit more) u ≡ more =
+      ap (list_at (set own unit more)) e ∙ get_or-set_same own unit more [] unit_in in
       let was : list_at own unit ≡ flat_map part (filter p (range_with_len 0 i)) = ap (list_at own) (sym e) ∙ a.is u in
-      let grown : filter p (range_with_len 0 (i + 1)) ≡ filter p (range_with_len 0 i) ++ i ∷ [] = filter_more p i ∙ rw (passes (slice_index units i) u (sym unit_is ∙ sym e)) refl in
-      here ∙ more_is ∙ ap (λ (xs : List ℕ). xs ++ part i) was ∙ flat_map_more part [] (filter p (range_with_len 0 i)) i ∙ ap (flat_map part) (sym grown))
+      let grown : filter p (range_with_len 0 (i + 1)) ≡ filter p (range_with_len 0 i) ++ i ∷ [] =
+      filter_more p i ∙ rw (passes (slice_index units i) u (sym unit_is ∙ sym e)) refl in
+      here ∙ more_is ∙ ap (λ (xs : List ℕ). xs ++ part i) was ∙ flat_map_more part [] (filter p (range_with_len 0 i)) i
+      ∙ ap (flat_map part) (sym grown))
       (λ (ne : u ≢ unit).
-      let grown : filter p (range_with_len 0 (i + 1)) ≡ filter p (range_with_len 0 i) = filter_more p i ∙ rw (fails (slice_index units i) u (λ h. ne (sym h ∙ sym unit_is))) (append-nil (filter p (range_with_len 0 i))) in
+      let grown : filter p (range_with_len 0 (i + 1)) ≡ filter p (range_with_len 0 i) = filter_more p i
+      ∙ rw (fails (slice_index units i) u (λ h. ne (sym h ∙ sym unit_is))) (append-nil (filter p (range_with_len 0 i))) in
       get_or-set_other own unit u more [] ne ∙ a.is u ∙ ap (flat_map part) (sym grown))
       (cases_eq u unit);
 }
@@ -136,9 +157,11 @@ empty_more n own a =
 pub no_empty : AreEmpty 0 []
 no_empty = record { len = refl; empty = λ u. refl }
 
-pub no_parts : (units : List ℕ) (part : ℕ → List ℕ) (own : List (List ℕ)) → AreEmpty (length units) own → AreParts units part 0 own
+pub no_parts : (units : List ℕ) (part : ℕ → List ℕ) (own : List (List ℕ)) → AreEmpty (length units) own →
+    AreParts units part 0 own
 no_parts units part own a = record { len = a.len; is = a.empty }
 
 -- lists of what is kept in a list of owners
-pub list_of : {X : Type 0} (f : X → List ℕ) (xs : List X) (q : ℕ) (d : X) → q < length xs → d ≡ get_or xs q d → f d ≡ list_at (map f xs) q
+pub list_of : {X : Type 0} (f : X → List ℕ) (xs : List X) (q : ℕ) (d : X) → q < length xs → d ≡ get_or xs q d →
+    f d ≡ list_at (map f xs) q
 list_of f xs q d lt is = ap f is ∙ sym (get_or-map f xs q d [] lt)

@@ -8,7 +8,8 @@ use Rattle.rv_code.specs.declared.placed.Func.{Func}
 use Rattle.rv_code.specs.declared.placed.Block.{Block}
 use Rattle.rv_code.specs.layout.Flow.{action_at, target_of, is_branch}
 use Rattle.func_place.specs.Clusters.{limit}
-use Rattle.func_place.specs.Units.{holds, AreUnits, unit_size}
+use Rattle.rv_code.specs.layout.InFunctions.{holds}
+use Rattle.func_place.specs.Units.{AreUnits, unit_size}
 
 -- A unit is longer than a branch may reach. Its place is its lowest address.
 pub record IsLongUnit (funcs : List Func) (blocks : List Block) (place : ℕ) : Type 0 where

@@ -5,7 +5,6 @@ pub mod Faults
 pub mod Nearness
 pub mod Placement
 pub mod Ranks
-pub mod Stretches
 pub mod UnitOrder
 pub mod Units
 pub mod internal

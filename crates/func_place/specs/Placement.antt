@@ -1,12 +1,13 @@
 -- The order of all blocks in the new code.
-use Rattle.std.specs.Prelude.{ℕ, List, Option, [], map, slice_index, slice_index_or, option_and_then}
+use Rattle.std.specs.Prelude.{ℕ, List, [], Option, map, slice_index, slice_index_or, option_and_then}
 use Rattle.std.specs.List.{filter_map}
 use Rattle.std.specs.Option.{option_map}
 use Rattle.rv_code.specs.declared.placed.Func.{Func}
 use Rattle.rv_code.specs.declared.placed.Block.{Block}
 use Rattle.rv_code.specs.declared.layout.Chains.{Chains}
 use Rattle.func_place.specs.declared.calls.Call.{Call}
-use Rattle.func_place.specs.Units.{function_at, AreUnits, unit_sum, unit_size, unit_part, by_unit}
+use Rattle.rv_code.specs.layout.InFunctions.{function_at}
+use Rattle.func_place.specs.Units.{AreUnits, unit_sum, unit_size, unit_part, by_unit}
 use Rattle.func_place.specs.UnitOrder.{IsUnitOrder}
 
 -- What a pair of addresses counts from unit to unit, where both lie in functions. A pair has its addresses and its count.

@@ -1,20 +1,13 @@
 -- Units: functions that have to stay near each other, as a branch, a JAL or a fall leads from one into the other.
-use Rattle.std.specs.Prelude.{◌≡◌, ℕ, ◌+◌, ◌<◌, ◌≤◌, ◌==◌, ◌&&◌, nat_lt, nat_le, Bool, IsTrue, List, Option, Some, if◌then◌else◌, length, map, filter, position, slice_index, slice_get, sum_by}
+use Rattle.std.specs.Prelude.{◌≡◌, ℕ, ◌+◌, ◌<◌, ◌≤◌, ◌==◌, IsTrue, List, Some, if◌then◌else◌, length, map, filter, slice_index, slice_get, sum_by}
 use Rattle.std.specs.List.{range_with_len, flat_map}
 use Rattle.rv_code.specs.declared.placed.Placed.{Placed}
 use Rattle.rv_code.specs.declared.placed.Func.{Func}
 use Rattle.rv_code.specs.declared.placed.Block.{Block}
 use Rattle.rv_code.specs.layout.Blocks.{inst_at}
 use Rattle.rv_code.specs.layout.Flow.{target_of, falls_at}
+use Rattle.rv_code.specs.layout.InFunctions.{function_at}
 use Rattle.rv_code.specs.layout.WorstSizes.{worst_size_of_block}
-
--- an address lies in a function
-abbrev pub holds : ℕ → Func → Bool
-holds a func = nat_le func.start a && nat_lt a func.end
-
--- the place of the function in which an address lies
-abbrev pub function_at : List Func → ℕ → Option ℕ
-function_at funcs a = position (holds a) funcs
 
 -- The i-th instruction of a function leads to an address: a branch or a JAL goes there, or it falls there. A pair of
 -- instructions that calls and an indirect jump reach everywhere, and so lead nowhere here.

@@ -4,8 +4,8 @@ ghost use Rattle.func_place.specs.Faults.{leaves};
 ghost use Rattle.func_place.specs.internal.FirstFaults.{IsFirstLong, IsFirstLeaving, IsFirstKept, StaysIn};
 
 use crate::clusters::LIMIT;
-use crate::ties::holds;
 use rv_code::flow::{is_branch, target};
+use rv_code::functions::holds;
 use rv_code::{Func, Placed};
 
 /// The address of the first unit that is too long, for the worst size of each unit.

@@ -1,6 +1,7 @@
 // The place of each block in the new code.
 ghost use Rattle.std.specs.Prelude.{◌≡◌, ℕ, ◌<◌, ◌≤◌, ◌^◌, All, IfOk, IfErr, OnOk, MatchOption, length, map, sum, sum_by};
 ghost use Rattle.rb_bytes.specs.declared.fault.Refusal.{Refusal};
+ghost use Rattle.rv_code.specs.layout.InFunctions.{IsOfFunction};
 ghost use Rattle.rv_code.specs.declared.placed.Block.{Block};
 ghost use Rattle.rv_code.specs.layout.FunctionLists.{AreLaidOut};
 ghost use Rattle.elf_image.specs.faults.FirstFault.{IsFree, IsRefusalBy};
@@ -10,7 +11,6 @@ ghost use Rattle.edge_profile.specs.Weights.{block_weight};
 ghost use Rattle.func_place.specs.Faults.{HasPlacementFault};
 ghost use Rattle.func_place.specs.Nearness.{HaveAllBlocks, HasAllBlocks, AreTiedNear};
 ghost use Rattle.func_place.specs.Placement.{IsPlacement};
-ghost use Rattle.func_place.specs.Stretches.{AreStretches};
 ghost use Rattle.func_place.specs.Units.{AreUnits, unit_size, by_unit};
 
 use crate::faults::{first_kept, first_long};
@@ -35,7 +35,7 @@ pub fn place(
     profile: &Profile,
 ) -> Result<Plan, Refusal>
     requires funcs { AreLaidOut funcs.now }
-    requires blocks { AreStretches funcs.now blocks.now }
+    requires blocks { All (IsOfFunction funcs.now) blocks.now }
     requires apart { AreApart blocks.now }
     requires hot { length chains.now.hot.items ≡ length funcs.now }
     requires cold { length chains.now.cold.items ≡ length funcs.now }
@@ -68,7 +68,7 @@ pub fn sized_units(
     blocks: &[Block],
 ) -> Result<(Vec<usize>, Vec<u128>), Refusal>
     requires funcs { AreLaidOut funcs.now }
-    requires blocks { AreStretches funcs.now blocks.now }
+    requires blocks { All (IsOfFunction funcs.now) blocks.now }
     ensures units { IfOk result (λ r. AreUnits funcs.now r.0.items) }
     ensures sizes { IfOk result (λ r. r.1.items ≡ by_unit (unit_size funcs.now r.0.items blocks.now) r.0.items) }
     ensures small { IfOk result (λ r. All (λ size. size ≤ 1000000) r.1.items) }
@@ -101,7 +101,7 @@ pub fn order_blocks(
     sizes: &[u128],
 ) -> Result<Vec<usize>, AllocError>
     requires funcs { AreLaidOut funcs.now }
-    requires blocks { AreStretches funcs.now blocks.now }
+    requires blocks { All (IsOfFunction funcs.now) blocks.now }
     requires hot { length chains.now.hot.items ≡ length funcs.now }
     requires cold { length chains.now.cold.items ≡ length funcs.now }
     requires counts { sum_by (λ p. p.2) pairs.now < 2 ^ 100 }

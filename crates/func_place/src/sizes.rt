@@ -1,7 +1,7 @@
 // Worst sizes of blocks.
 ghost use Rattle.std.specs.Prelude.{◌≡◌, ℕ, ◌*◌, ◌<◌, ◌≤◌, ◌^◌, if◌then◌else◌, All, IfOk, length, map, sum_by};
 ghost use Rattle.rv_code.specs.layout.WorstSizes as worst;
-ghost use Rattle.func_place.specs.Stretches.{IsStretch, AreStretches};
+ghost use Rattle.rv_code.specs.layout.InFunctions.{IsOfFunction};
 
 use rv_code::flow::falls;
 use rv_code::{Action, Block, Func, Placed};
@@ -9,7 +9,7 @@ use std::alloc::{AllocError, Global};
 
 /// The worst size of each block.
 pub fn block_sizes(alloc: Global, funcs: &[Func], blocks: &[Block]) -> Result<Vec<u128>, AllocError>
-    requires { AreStretches funcs.now blocks.now }
+    requires { All (IsOfFunction funcs.now) blocks.now }
     ensures sizes { IfOk result (λ v. v.items ≡ map (worst.worst_size_of_block funcs.now) blocks.now) }
     ensures small { IfOk result (λ v. All (λ size. size ≤ 2 ^ 67) v.items) }
 {
@@ -21,7 +21,7 @@ pub fn block_sizes(alloc: Global, funcs: &[Func], blocks: &[Block]) -> Result<Ve
 }
 
 fn size_of_block(funcs: &[Func], block: &Block) -> u128
-    requires { IsStretch funcs.now block.now }
+    requires { IsOfFunction funcs.now block.now }
     ensures is { result ≡ worst.worst_size_of_block funcs.now block.now }
     ensures small { result ≤ 2 ^ 67 }
 {

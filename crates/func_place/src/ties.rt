@@ -2,11 +2,12 @@
 ghost use Rattle.std.specs.Prelude.{◌≡◌, ◌≢◌, ◌↔◌, ℕ, ◌+◌, ◌<◌, ◌^◌, [], if◌then◌else◌, IfOk, OnOk, length, slice_get};
 ghost use Rattle.rv_code.specs.layout.FunctionLists.{AreLaidOut};
 ghost use Rattle.rv_code.specs.layout.Flow.{falls_at};
-ghost use Rattle.func_place.specs.Units.{holds, function_at};
+ghost use Rattle.rv_code.specs.layout.InFunctions.{holds, function_at};
 ghost use Rattle.func_place.specs.internal.Gains.{Gains};
 ghost use Rattle.func_place.specs.internal.TieList.{Ties, TiesOf, TiesFrom, TiesAt};
 
 use rv_code::flow::{falls, target};
+use rv_code::functions::{function_at, holds};
 use rv_code::{Func, Placed};
 use std::alloc::{AllocError, Global};
 
@@ -116,24 +117,4 @@ fn other_function_at(funcs: &[Func], place: usize, address: u64) -> Option<usize
         return None;
     }
     function_at(funcs, address)
-}
-
-/// Whether an address lies in a function.
-pub fn holds(func: &Func, address: u64) -> bool
-    ensures { result ≡ holds address func.now }
-{
-    func.start <= address && address < func.end
-}
-
-/// The place of the function in which an address lies.
-pub fn function_at(funcs: &[Func], address: u64) -> Option<usize>
-    requires { AreLaidOut funcs.now }
-    ensures { result ≡ function_at funcs.now address }
-{
-    let above = funcs.partition_point(|func| func.end <= address);
-    if above < funcs.len() && funcs[above].start <= address {
-        Some(above)
-    } else {
-        None
-    }
 }

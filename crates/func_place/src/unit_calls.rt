@@ -4,8 +4,8 @@ ghost use Rattle.rv_code.specs.layout.FunctionLists.{AreLaidOut};
 ghost use Rattle.func_place.specs.Placement.{unit_call, unit_calls};
 
 use crate::calls::Call;
-use crate::ties::function_at;
 use rv_code::Func;
+use rv_code::functions::function_at;
 use std::alloc::{AllocError, Global};
 
 /// The counts of pairs of addresses, as counts between the units in which these lie.

@@ -3,7 +3,8 @@ use Rattle.std.specs.Prelude.{◌≡◌, ◌≢◌, ◌⊎◌, ℕ, ◌<◌, ◌
 use Rattle.rv_code.specs.declared.placed.Placed.{Placed}
 use Rattle.rv_code.specs.declared.placed.Func.{Func}
 use Rattle.rv_code.specs.layout.Blocks.{inst_at}
-use Rattle.func_place.specs.Units.{function_at, Leads}
+use Rattle.rv_code.specs.layout.InFunctions.{function_at}
+use Rattle.func_place.specs.Units.{Leads}
 use Rattle.func_place.specs.internal.Grouping.{Grouping}
 
 -- an address lies in another function than the f-th: the pair of both

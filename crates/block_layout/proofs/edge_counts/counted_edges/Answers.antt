@@ -13,10 +13,13 @@ loop-edge-preserved c =
     let x = get_or c.args.edges.now c.loop-edge.edge-index (0, 0) in
     let within = c.requires.edges c.loop-edge.edge-index (0, 0) c.loop-edge-test.true in
     let own : count x ≡ c.count_along-count.result =
-    edge_count-blocks (counts_of c.args.profile.now) c.args.funcs.now c.args.blocks.now x none none within.0 within.1 ∙ sym c.count_along-count.ensures in
+    edge_count-blocks (counts_of c.args.profile.now) c.args.funcs.now c.args.blocks.now x none none within.0 within.1
+    ∙ sym c.count_along-count.ensures in
     let e : Edge = record { from = x.0; to = x.1; count = c.count_along-count.result } in
-    subst (λ (taken : List Edge). IsCountedTo count c.args.edges.now (c.loop-edge.edge-index + 1) taken) (sym c.in_ok-push.ensures.items)
-    (counted_more count c.args.edges.now c.loop-edge.edge-index (0, 0) c.loop-edge-test.true c.loop-edge.taken.items c.loop-edge.invariant c.requires.ordered e refl own (omega (arith, c.if-count-eq0.false)))
+    subst (λ (taken : List Edge). IsCountedTo count c.args.edges.now (c.loop-edge.edge-index + 1) taken)
+    (sym c.in_ok-push.ensures.items)
+    (counted_more count c.args.edges.now c.loop-edge.edge-index (0, 0) c.loop-edge-test.true c.loop-edge.taken.items
+    c.loop-edge.invariant c.requires.ordered e refl own (omega (arith, c.if-count-eq0.false)))
 
 pub loop-edge-preserved-then-count-eq0 : goal.loop-edge-preserved-then-count-eq0
 loop-edge-preserved-then-count-eq0 c =
@@ -25,15 +28,19 @@ loop-edge-preserved-then-count-eq0 c =
     let x = get_or c.args.edges.now c.loop-edge.edge-index (0, 0) in
     let within = c.requires.edges c.loop-edge.edge-index (0, 0) c.loop-edge-test.true in
     let own : count x ≡ c.count_along-count.result =
-    edge_count-blocks (counts_of c.args.profile.now) c.args.funcs.now c.args.blocks.now x none none within.0 within.1 ∙ sym c.count_along-count.ensures in
-    counted_zero count c.args.edges.now c.loop-edge.edge-index (0, 0) c.loop-edge-test.true c.loop-edge.taken.items c.loop-edge.invariant (own ∙ c.if-count-eq0.true)
+    edge_count-blocks (counts_of c.args.profile.now) c.args.funcs.now c.args.blocks.now x none none within.0 within.1
+    ∙ sym c.count_along-count.ensures in
+    counted_zero count c.args.edges.now c.loop-edge.edge-index
+    (0, 0) c.loop-edge-test.true c.loop-edge.taken.items c.loop-edge.invariant (own ∙ c.if-count-eq0.true)
 
 pub returns-clause-counted : goal.returns-clause-counted
 returns-clause-counted c =
     let count = edge_count (counts_of c.args.profile.now) c.args.funcs.now c.args.blocks.now in
-    counted_all count c.args.edges.now c.loop-edge.edge-index c.loop-edge.taken.items _ c.loop-edge-test.false c.loop-edge.invariant c.sort_edges.ensures.permutation
+    counted_all count c.args.edges.now c.loop-edge.edge-index c.loop-edge.taken.items _ c.loop-edge-test.false
+    c.loop-edge.invariant c.sort_edges.ensures.permutation
 
 pub returns-clause-once : goal.returns-clause-once
 returns-clause-once c =
     let count = edge_count (counts_of c.args.profile.now) c.args.funcs.now c.args.blocks.now in
-    counted_once count c.args.edges.now c.loop-edge.edge-index c.loop-edge.taken.items _ c.loop-edge.invariant c.sort_edges.ensures.permutation
+    counted_once count c.args.edges.now c.loop-edge.edge-index c.loop-edge.taken.items _ c.loop-edge.invariant
+    c.sort_edges.ensures.permutation

@@ -14,7 +14,8 @@ cold_part-requires-clause-hot c =
     (λ (le : end ≤ c.args.start). inr (c.in_ok-hot.ensures.none (λ k low high. absurd (omega arith))))
     (cases_lt c.args.start end) in
     subst (λ (ks : List ℕ). All (λ k. (c.args.start ≤ k) × (k < end)) ks) (sym c.deref.ensures.value)
-    (hot_between c.args.blocks.now (links_of c.args.links.now) (λ k. slice_index c.args.weights.now k) c.args.func c.args.start end c.end_of-end.ensures.blocks c.requires.inner
+    (hot_between c.args.blocks.now (links_of c.args.links.now)
+    (λ k. slice_index c.args.weights.now k) c.args.func c.args.start end c.end_of-end.ensures.blocks c.requires.inner
     hot c.in_ok-hot.ensures some)
 
 pub returns-clause-parts : goal.returns-clause-parts
@@ -25,6 +26,10 @@ returns-clause-parts c =
     (λ (less : c.args.start < end). inl less)
     (λ (le : end ≤ c.args.start). inr (c.in_ok-hot.ensures.none (λ k low high. absurd (omega arith))))
     (cases_lt c.args.start end) in
-    let left = subst (λ (ks : List ℕ). ListsNumbers (λ k. ((c.args.start ≤ k) × (k < end)) × (Contains ks k → ⊥)) c.in_ok-cold.cold.items) c.deref.ensures.value c.in_ok-cold.ensures in
-    split_of c.args.blocks.now (links_of c.args.links.now) (λ k. slice_index c.args.weights.now k) c.args.func c.args.start end c.end_of-end.ensures.blocks c.requires.inner
-    (length c.args.links.now.next.items) c.requires.links.between c.in_ok-hot.hot.items c.in_ok-cold.cold.items c.in_ok-hot.ensures some left
+    let left =
+    subst (λ (ks : List ℕ). ListsNumbers (λ k. ((c.args.start ≤ k) × (k < end)) × (Contains ks k → ⊥)) c.in_ok-cold.cold.items)
+    c.deref.ensures.value c.in_ok-cold.ensures in
+    split_of c.args.blocks.now (links_of c.args.links.now)
+    (λ k. slice_index c.args.weights.now k) c.args.func c.args.start end c.end_of-end.ensures.blocks c.requires.inner
+    (length c.args.links.now.next.items) c.requires.links.between c.in_ok-hot.hot.items c.in_ok-cold.cold.items
+    c.in_ok-hot.ensures some left

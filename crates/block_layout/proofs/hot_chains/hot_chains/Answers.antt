@@ -8,14 +8,16 @@ use Rattle.block_layout.proofs.hot_chains.hot_chains.Goals as goal
 pub greatest-weight-requires : goal.greatest-weight-requires
 greatest-weight-requires c =
     let below : c.loop-head.head < length c.args.links.now.next.items = omega (arith, c.requires.weights, c.requires.inside) in
-    let inside = chain_inside (length c.args.links.now.next.items) (links_of c.args.links.now) c.loop-head.head c.in_ok-blocks.blocks.items c.requires.links.between below c.in_ok-blocks.ensures in
+    let inside = chain_inside (length c.args.links.now.next.items) (links_of c.args.links.now) c.loop-head.head
+    c.in_ok-blocks.blocks.items c.requires.links.between below c.in_ok-blocks.ensures in
     subst (λ (blocks : List ℕ). All (λ k. k < length c.args.weights.now) blocks) (sym c.deref.ensures.value)
     (subst (λ (n : ℕ). All (λ k. k < n) c.in_ok-blocks.blocks.items) (sym c.requires.weights) inside)
 
 pub loop-head-preserved-then-weight-eq0 : goal.loop-head-preserved-then-weight-eq0
 loop-head-preserved-then-weight-eq0 c =
     let zero' : greatest (λ k. slice_index c.args.weights.now k) c.in_ok-blocks.blocks.items ≡ 0 =
-    ap (greatest (λ k. slice_index c.args.weights.now k)) (sym c.deref.ensures.value) ∙ sym c.greatest-weight.ensures ∙ c.if-weight-eq0.true in
+    ap (greatest (λ k. slice_index c.args.weights.now k)) (sym c.deref.ensures.value) ∙ sym c.greatest-weight.ensures
+    ∙ c.if-weight-eq0.true in
     hot_skip c.loop-head.invariant (λ xs is hot.
     let same = ap (greatest (λ k. slice_index c.args.weights.now k)) (same_chain is c.in_ok-blocks.ensures) in
     omega (arith, same, zero', hot))
@@ -32,5 +34,6 @@ loop-head-preserved c =
 pub returns-clause-chains : goal.returns-clause-chains
 returns-clause-chains c =
     let end : c.loop-head.head ≡ c.args.end = omega (arith, c.requires.some) in
-    hot_all (subst (λ (n : ℕ). AreHotTo (links_of c.args.links.now) (λ k. slice_index c.args.weights.now k) c.args.start n c.loop-head.chains.items) end c.loop-head.invariant)
+    hot_all (subst (λ (n : ℕ). AreHotTo (links_of c.args.links.now)
+    (λ k. slice_index c.args.weights.now k) c.args.start n c.loop-head.chains.items) end c.loop-head.invariant)
     c.sort_chains.ensures.permutation

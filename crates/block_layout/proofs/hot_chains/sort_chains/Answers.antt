@@ -6,4 +6,5 @@ use Rattle.block_layout.proofs.hot_chains.sort_chains.Goals as goal
 
 pub returns-clause-sorted : goal.returns-clause-sorted
 returns-clause-sorted c =
-    chains-sorted _ (c.sort_unstable_by_key.ensures.sorted (λ (x : HotChain). (record { 0 = x.weight }, x.head)) (answers_always _ _ _ (λ f a r f' k. search rules)))
+    chains-sorted _ (c.sort_unstable_by_key.ensures.sorted (λ (x : HotChain). (record { 0 = x.weight }, x.head))
+    (answers_always _ _ _ (λ f a r f' k. search rules)))

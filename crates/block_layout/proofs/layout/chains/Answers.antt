@@ -17,7 +17,8 @@ counted_edges-requires-clause-edges c = all_within c.args.blocks.now c.args.edge
 pub link_edges-requires-clause-inside : goal.link_edges-requires-clause-inside
 link_edges-requires-clause-inside c =
     let count = edge_count (counts_of c.args.profile.now) c.args.funcs.now c.args.blocks.now in
-    let counted = subst (λ (es : List Edge). AreCounted count c.args.edges.now es) (sym c.deref.ensures.value) c.in_ok-taken.ensures.counted in
+    let counted =
+    subst (λ (es : List Edge). AreCounted count c.args.edges.now es) (sym c.deref.ensures.value) c.in_ok-taken.ensures.counted in
     taken_within count c.args.blocks.now c.args.edges.now c.deref.result.now c.requires.edges counted
 
 pub function_parts-requires-clause-of_functions : goal.function_parts-requires-clause-of_functions
@@ -26,19 +27,23 @@ function_parts-requires-clause-of_functions c = of_functions c.args.funcs.now c.
 pub function_parts-requires-clause-links : goal.function_parts-requires-clause-links
 function_parts-requires-clause-links c =
     let count = edge_count (counts_of c.args.profile.now) c.args.funcs.now c.args.blocks.now in
-    let counted = subst (λ (es : List Edge). AreCounted count c.args.edges.now es) (sym c.deref.ensures.value) c.in_ok-taken.ensures.counted in
+    let counted =
+    subst (λ (es : List Edge). AreCounted count c.args.edges.now es) (sym c.deref.ensures.value) c.in_ok-taken.ensures.counted in
     let sized = c.in_ok-links.ensures.sized in
     record {
       lengths = sized.1 ∙ sym sized.0;
       between = subst (λ (n : ℕ). AreBetween n (links_of c.in_ok-links.links)) (sym sized.0)
-          (links_between count c.args.blocks.now c.args.edges.now c.deref.result.now c.requires.edges counted (links_of c.in_ok-links.links) c.in_ok-links.ensures.linked);
+          (links_between count c.args.blocks.now c.args.edges.now c.deref.result.now c.requires.edges counted
+          (links_of c.in_ok-links.links) c.in_ok-links.ensures.linked);
     }
 
 pub function_parts-requires-clause-inner : goal.function_parts-requires-clause-inner
 function_parts-requires-clause-inner c =
     let count = edge_count (counts_of c.args.profile.now) c.args.funcs.now c.args.blocks.now in
-    let counted = subst (λ (es : List Edge). AreCounted count c.args.edges.now es) (sym c.deref.ensures.value) c.in_ok-taken.ensures.counted in
-    links_inner count c.args.blocks.now c.args.edges.now c.deref.result.now c.requires.edges counted (links_of c.in_ok-links.links) c.in_ok-links.ensures.linked
+    let counted =
+    subst (λ (es : List Edge). AreCounted count c.args.edges.now es) (sym c.deref.ensures.value) c.in_ok-taken.ensures.counted in
+    links_inner count c.args.blocks.now c.args.edges.now c.deref.result.now c.requires.edges counted
+    (links_of c.in_ok-links.links) c.in_ok-links.ensures.linked
 
 pub returns-clause-all : goal.returns-clause-all
 returns-clause-all c = λ f within. (c.in_ok-parts.ensures.each f within).all
@@ -49,16 +54,20 @@ returns-clause-chains c =
     let blocks = c.args.blocks.now in
     let taken = c.deref.result.now in
     let count = edge_count (counts_of c.args.profile.now) funcs blocks in
-    let counted = subst (λ (es : List Edge). AreCounted count c.args.edges.now es) (sym c.deref.ensures.value) c.in_ok-taken.ensures.counted in
+    let counted =
+    subst (λ (es : List Edge). AreCounted count c.args.edges.now es) (sym c.deref.ensures.value) c.in_ok-taken.ensures.counted in
     let sorted = subst (λ (es : List Edge). AllPairs IsKeyBefore es) (sym c.deref.ensures.value) c.in_ok-taken.ensures.sorted in
     let once = subst (λ (es : List Edge). AllPairs HaveOtherEnds es) (sym c.deref.ensures.value) c.in_ok-taken.ensures.once in
     let order = in_order count taken c.args.edges.now counted sorted once in
     let past : (x : ℕ) → length blocks ≤ x → get_or c.in_ok-links.links.prev.items x None ≡ None =
     λ x out. get_or_past c.in_ok-links.links.prev.items x None (let size = c.in_ok-links.ensures.sized.1 in omega arith) in
-    let same = weights_are (pairs_of c.args.profile.now) funcs blocks c.deref-2.result.now (c.deref-2.ensures.value ∙ c.in_ok-weights.ensures.weights) in
+    let same = weights_are (pairs_of c.args.profile.now) funcs blocks c.deref-2.result.now
+    (c.deref-2.ensures.value ∙ c.in_ok-weights.ensures.weights) in
     record {
       links = links_of c.in_ok-links.links;
-      links_are = all_linked count taken c.args.edges.now (length blocks) (IsFirstBlock blocks) (links_of c.in_ok-links.links) counted order c.in_ok-links.ensures.linked past;
+      links_are = all_linked count taken c.args.edges.now (length blocks) (IsFirstBlock blocks)
+          (links_of c.in_ok-links.links) counted order c.in_ok-links.ensures.linked past;
       parts_are = parts_of (pairs_of c.args.profile.now) funcs blocks (links_of c.in_ok-links.links) c.in_ok-parts.parts
-          (subst (λ (weight : ℕ → ℕ). AreSplitTo blocks weight (links_of c.in_ok-links.links) (length funcs) c.in_ok-parts.parts) (λ i k. same k i) c.in_ok-parts.ensures);
+          (subst (λ (weight : ℕ → ℕ). AreSplitTo blocks weight (links_of c.in_ok-links.links) (length funcs) c.in_ok-parts.parts)
+          (λ i k. same k i) c.in_ok-parts.ensures);
     }

@@ -16,7 +16,8 @@ loop-edge-init c = let e = c.in_ok-links.ensures in record {
 
 pub loop-edge-preserved : goal.loop-edge-preserved
 loop-edge-preserved c =
-    let at : IsEdge c.args.edges.now c.loop-edge.edge-index (ends_at c.args.edges.now c.loop-edge.edge-index).0 (ends_at c.args.edges.now c.loop-edge.edge-index).1 = (c.loop-edge-test.true, refl) in
+    let at : IsEdge c.args.edges.now c.loop-edge.edge-index (ends_at c.args.edges.now c.loop-edge.edge-index).0
+    (ends_at c.args.edges.now c.loop-edge.edge-index).1 = (c.loop-edge-test.true, refl) in
     let inside = c.requires.inside c.loop-edge.edge-index c.loop-edge-test.true in
     elim c.if-may_link.branch [
       | then-may_link w ↦
@@ -34,8 +35,11 @@ loop-edge-preserved c =
           }))
       | else-may_link w ↦
           rw w.links-is
-          (skip_step at inside.0 inside.1 c.loop-edge.invariant (first_why c.is_first_block-is_first.ensures.0 w.if-may_link.ensures))
+          (skip_step at inside.0 inside.1 c.loop-edge.invariant
+          (first_why c.is_first_block-is_first.ensures.0 w.if-may_link.ensures))
     ]
 
 pub returns-clause-linked : goal.returns-clause-linked
-returns-clause-linked c = let e : c.loop-edge.edge-index ≡ length c.args.edges.now = omega arith in rw (← e) c.loop-edge.invariant.linked
+returns-clause-linked c =
+    let e : c.loop-edge.edge-index ≡ length c.args.edges.now = omega arith in
+    rw (← e) c.loop-edge.invariant.linked

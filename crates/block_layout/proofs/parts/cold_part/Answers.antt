@@ -12,9 +12,11 @@ loop-block-preserved-then-index c =
     let from : c.args.start ≤ c.loop-block.block = omega arith in
     let at : c.args.start + (c.loop-block.block - c.args.start) ≡ c.loop-block.block = omega arith in
     let marked = c.in_ok-marks.ensures.marked (c.loop-block.block - c.args.start) (omega arith) in
-    let inside : c.loop-block.block - c.args.start < length c.in_ok-marks.marks.items = omega (arith, c.in_ok-marks.ensures.length) in
+    let inside : c.loop-block.block - c.args.start < length c.in_ok-marks.marks.items =
+    omega (arith, c.in_ok-marks.ensures.length) in
     let read : c.index.result.now ≡ get_or c.in_ok-marks.marks.items (c.loop-block.block - c.args.start) false =
-    c.index.ensures ∙ get_or_default c.in_ok-marks.marks.items (c.loop-block.block - c.args.start) c.index.result.now false inside in
+    c.index.ensures
+    ∙ get_or_default c.in_ok-marks.marks.items (c.loop-block.block - c.args.start) c.index.result.now false inside in
     left_skip c.args.hot.now c.args.start c.loop-block.block c.loop-block.part.items c.loop-block.invariant
     (subst (Contains c.args.hot.now) at (marked.0 (sym read ∙ c.if-index.true)))
 
@@ -23,10 +25,13 @@ loop-block-preserved c =
     let from : c.args.start ≤ c.loop-block.block = omega arith in
     let at : c.args.start + (c.loop-block.block - c.args.start) ≡ c.loop-block.block = omega arith in
     let marked = c.in_ok-marks.ensures.marked (c.loop-block.block - c.args.start) (omega arith) in
-    let inside : c.loop-block.block - c.args.start < length c.in_ok-marks.marks.items = omega (arith, c.in_ok-marks.ensures.length) in
+    let inside : c.loop-block.block - c.args.start < length c.in_ok-marks.marks.items =
+    omega (arith, c.in_ok-marks.ensures.length) in
     let read : c.index.result.now ≡ get_or c.in_ok-marks.marks.items (c.loop-block.block - c.args.start) false =
-    c.index.ensures ∙ get_or_default c.in_ok-marks.marks.items (c.loop-block.block - c.args.start) c.index.result.now false inside in
-    subst (λ (part : List ℕ). ListsNumbers (IsLeft c.args.hot.now c.args.start (c.loop-block.block + 1)) part) (sym c.in_ok-push.ensures.items)
+    c.index.ensures
+    ∙ get_or_default c.in_ok-marks.marks.items (c.loop-block.block - c.args.start) c.index.result.now false inside in
+    subst (λ (part : List ℕ). ListsNumbers (IsLeft c.args.hot.now c.args.start (c.loop-block.block + 1)) part)
+    (sym c.in_ok-push.ensures.items)
     (left_more c.args.hot.now c.args.start c.loop-block.block c.loop-block.part.items c.loop-block.invariant from
     (λ listed. false_true (sym c.if-index.false ∙ read ∙ marked.1 (subst (Contains c.args.hot.now) (sym at) listed))))
 

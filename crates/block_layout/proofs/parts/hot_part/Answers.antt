@@ -14,8 +14,10 @@ loop-other-preserved c =
     c.in_ok-extend_from_slice.ensures.items
     ∙ ap (λ (part : List ℕ). part ++ c.deref.result.now) c.loop-other.invariant
     ∙ append_assoc c.in_ok-part.part.items done c.deref.result.now
-    ∙ ap (λ (rest : List ℕ). c.in_ok-part.part.items ++ (done ++ rest)) (c.deref.ensures.value ∙ ap (λ (o : HotChain). o.blocks.items) c.other-item.is)
-    ∙ ap (λ (rest : List ℕ). c.in_ok-part.part.items ++ rest) (sym (flat_more (λ (o : HotChain). o.blocks.items) others c.loop-other.other-index c.other-item.result c.loop-other-test.true))
+    ∙ ap (λ (rest : List ℕ). c.in_ok-part.part.items ++ (done ++ rest))
+    (c.deref.ensures.value ∙ ap (λ (o : HotChain). o.blocks.items) c.other-item.is)
+    ∙ ap (λ (rest : List ℕ). c.in_ok-part.part.items ++ rest) (sym
+    (flat_more (λ (o : HotChain). o.blocks.items) others c.loop-other.other-index c.other-item.result c.loop-other-test.true))
 
 pub returns : goal.returns
 returns c =
@@ -24,7 +26,8 @@ returns c =
     record {
       first = c.in_ok-part.part.items;
       others = c.in_ok-others.others.items;
-      part_is = c.loop-other.invariant ∙ ap (λ (cs : List HotChain). c.in_ok-part.part.items ++ flat_map (λ (o : HotChain). o.blocks.items) cs) all;
+      part_is = c.loop-other.invariant
+          ∙ ap (λ (cs : List HotChain). c.in_ok-part.part.items ++ flat_map (λ (o : HotChain). o.blocks.items) cs) all;
       first_is = c.in_ok-part.ensures;
       chains = c.in_ok-others.ensures.chains;
       sorted = c.in_ok-others.ensures.sorted;

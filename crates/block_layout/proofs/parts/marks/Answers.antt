@@ -6,7 +6,8 @@ use Rattle.block_layout.proofs.parts.marks.Goals as goal
 pub loop-block-preserved : goal.loop-block-preserved
 loop-block-preserved c =
     let x = c.requires.hot c.loop-block.block-index 0 c.loop-block-test.true in
-    marked_more c.args.hot.now c.loop-block.block-index 0 c.args.start (c.args.end - c.args.start) c.loop-block.marks.items c.loop-block-test.true x.0
+    marked_more c.args.hot.now c.loop-block.block-index 0 c.args.start
+    (c.args.end - c.args.start) c.loop-block.marks.items c.loop-block-test.true x.0
     (omega (arith, x.0, x.1)) c.loop-block.invariant
 
 pub returns-clause-marked : goal.returns-clause-marked

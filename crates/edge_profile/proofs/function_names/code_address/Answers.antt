@@ -7,5 +7,6 @@ use Rattle.edge_profile.proofs.function_names.code_address.Goals as goal
 pub returns-in-None : goal.returns-in-None
 returns-in-None c =
     let a = c.args.start + c.args.offset in
-    let far : code_limit ≤ a = ⊎_elim (λ (less : a < 2 ^ 64). absurd (c.in-None.ensures less)) (λ (large : 2 ^ 64 ≤ a). omega arith) (cases_lt a (2 ^ 64)) in
+    let far : code_limit ≤ a =
+    ⊎_elim (λ (less : a < 2 ^ 64). absurd (c.in-None.ensures less)) (λ (large : 2 ^ 64 ≤ a). omega arith) (cases_lt a (2 ^ 64)) in
     ap (λ b. cond b (Some a) None) (sym (no_code_from c.args.funcs.now c.requires a far))

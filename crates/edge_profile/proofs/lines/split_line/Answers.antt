@@ -8,4 +8,5 @@ returns-in-Some c = ap lines c.in-Some.ensures.parts ∙ lines_at _ _ c.in-Some.
 
 pub returns-in-None : goal.returns-in-None
 returns-in-None c =
-    lines_none c.args.text.now c.requires c.in-None.ensures.none ∙ ap (λ rest. c.args.text.now ∷ lines rest) (sym c.as_slice.ensures)
+    lines_none c.args.text.now c.requires c.in-None.ensures.none
+    ∙ ap (λ rest. c.args.text.now ∷ lines rest) (sym c.as_slice.ensures)

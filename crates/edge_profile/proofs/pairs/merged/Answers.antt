@@ -15,5 +15,6 @@ merged_sorted-requires-clause-ordered c =
 
 pub returns : goal.returns
 returns c =
-    merged-permutation c.args.said.items c.sort_by_pair.new.said.items c.in_ok-pairs.pairs.items c.sort_by_pair.ensures.permutation
+    merged-permutation c.args.said.items c.sort_by_pair.new.said.items c.in_ok-pairs.pairs.items
+    c.sort_by_pair.ensures.permutation
     (subst (λ (said : List Counted). AreMerged said c.in_ok-pairs.pairs.items) c.deref.ensures.value c.in_ok-pairs.ensures)

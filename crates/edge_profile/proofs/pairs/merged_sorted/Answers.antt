@@ -4,8 +4,10 @@ use Rattle.edge_profile.proofs.pairs.merged_sorted.Goals as goal
 
 pub loop-p-preserved : goal.loop-p-preserved
 loop-p-preserved c =
-    merged_more c.args.said.now c.loop-p.p-index c.loop-p.pairs.items c.add.new.pairs.items _ c.requires.ordered c.loop-p-test.true (search rules) c.in_ok-add.ensures c.loop-p.invariant
+    merged_more c.args.said.now c.loop-p.p-index c.loop-p.pairs.items c.add.new.pairs.items _ c.requires.ordered
+    c.loop-p-test.true (search rules) c.in_ok-add.ensures c.loop-p.invariant
 
 pub returns : goal.returns
 returns c =
-    merged_all c.args.said.now c.loop-p.p-index c.loop-p.pairs.items c.loop-p-test.false c.loop-p.auto.p-index-end c.loop-p.invariant
+    merged_all c.args.said.now c.loop-p.p-index c.loop-p.pairs.items c.loop-p-test.false
+    c.loop-p.auto.p-index-end c.loop-p.invariant

@@ -6,4 +6,5 @@ use Rattle.edge_profile.proofs.pairs.sort_by_pair.Goals as goal
 
 pub returns-clause-ordered : goal.returns-clause-ordered
 returns-clause-ordered c =
-    pairs-sorted _ (c.sort_unstable_by_key.ensures.sorted (λ (x : Counted). (x.0, x.1)) (answers_always _ _ _ (λ f a r f' k. search rules)))
+    pairs-sorted _
+    (c.sort_unstable_by_key.ensures.sorted (λ (x : Counted). (x.0, x.1)) (answers_always _ _ _ (λ f a r f' k. search rules)))

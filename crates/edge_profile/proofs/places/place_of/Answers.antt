@@ -3,13 +3,15 @@ use Rattle.std.proofs.lemmas.List.{get_or_default}
 use Rattle.rv_code.specs.declared.placed.Func.{Func}
 use Rattle.rv_code.specs.declared.placed.Placed.{Placed}
 use Rattle.edge_profile.specs.Weights.{starts_at}
-use Rattle.edge_profile.proofs.LaidOut.{no_code_at, insts_rise}
+use Rattle.rv_code.proofs.lists.Follows.{insts_rise}
+use Rattle.edge_profile.proofs.LaidOut.{no_code_at}
 use Rattle.edge_profile.proofs.places.place_of.Goals as goal
 
 pub returns-then-below-eq0-clause-none : goal.returns-then-below-eq0-clause-none
 returns-then-below-eq0-clause-none c =
     let found = c.count_up_to-below.ensures in
-    no_code_at c.args.funcs.now c.requires c.args.address c.count_up_to-below.result found.bound found.below found.above (λ d some. absurd (omega arith))
+    no_code_at c.args.funcs.now c.requires c.args.address c.count_up_to-below.result found.bound found.below found.above
+    (λ d some. absurd (omega arith))
 
 pub inst_at-requires : goal.inst_at-requires
 inst_at-requires c =
@@ -24,6 +26,7 @@ returns-in-None-clause-none c =
     let within : c.count_up_to-below.result - 1 < length c.args.funcs.now = omega (arith, found.bound, c.if-below-eq0.false) in
     no_code_at c.args.funcs.now c.requires c.args.address c.count_up_to-below.result found.bound found.below found.above
     (λ d some.
-    let here = subst (λ (insts : List Placed). starts_at insts c.args.address ≡ false) c.deref.ensures.value c.in-None.ensures.none in
+    let here =
+    subst (λ (insts : List Placed). starts_at insts c.args.address ≡ false) c.deref.ensures.value c.in-None.ensures.none in
     subst (λ (f : Func). starts_at f.insts.items c.args.address ≡ false)
     (get_or_default c.args.funcs.now (c.count_up_to-below.result - 1) c.index-funcs-func.result d within) here)

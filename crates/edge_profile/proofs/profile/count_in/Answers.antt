@@ -4,10 +4,12 @@ use Rattle.edge_profile.proofs.profile.count_in.Goals as goal
 
 pub returns-then-below-pairs : goal.returns-then-below-pairs
 returns-then-below-pairs c =
-    sym (count_none c.args.pairs.now c.args.from c.args.to c.count_below-below.result c.count_below-below.ensures c.if-below-pairs.true)
+    sym (count_none c.args.pairs.now c.args.from c.args.to c.count_below-below.result
+    c.count_below-below.ensures c.if-below-pairs.true)
 
 pub returns : goal.returns
 returns c =
     let within = c.count_below-below.ensures.within in
     c.count_if_of.ensures
-    ∙ sym (count_at c.args.pairs.now c.requires c.args.from c.args.to c.count_below-below.result c.count_below-below.ensures _ (omega (arith, c.if-below-pairs.false)))
+    ∙ sym (count_at c.args.pairs.now c.requires c.args.from c.args.to c.count_below-below.result c.count_below-below.ensures _
+    (omega (arith, c.if-below-pairs.false)))

@@ -17,10 +17,13 @@ invariant_of-result c = record {
 
 pub returns-clause-ignored : goal.returns-clause-ignored
 returns-clause-ignored c =
-    let names = subst (λ (symbols : List Symbol). AreNamesOf symbols c.in_ok-names.names) c.deref.ensures.value c.in_ok-names.ensures in
+    let names =
+    subst (λ (symbols : List Symbol). AreNamesOf symbols c.in_ok-names.names) c.deref.ensures.value c.in_ok-names.ensures in
     (c.in_ok-said.ensures.all c.args.elf.now.symbols.items names).ignored
 
 pub returns-clause-counts : goal.returns-clause-counts
 returns-clause-counts c = λ from to.
-    let names = subst (λ (symbols : List Symbol). AreNamesOf symbols c.in_ok-names.names) c.deref.ensures.value c.in_ok-names.ensures in
-    c.in_ok-pairs.ensures.counts from to ∙ ap (count_among from to) (c.in_ok-said.ensures.all c.args.elf.now.symbols.items names).counted
+    let names =
+    subst (λ (symbols : List Symbol). AreNamesOf symbols c.in_ok-names.names) c.deref.ensures.value c.in_ok-names.ensures in
+    c.in_ok-pairs.ensures.counts from to
+    ∙ ap (count_among from to) (c.in_ok-said.ensures.all c.args.elf.now.symbols.items names).counted

@@ -9,14 +9,18 @@ loop-pair-preserved c =
     let funcs = c.args.funcs.now in
     let blocks = c.args.blocks.now in
     let pairs = c.pairs-pair-items.result.now in
-    let was = subst (λ (weights : List ℕ). AreWeights funcs blocks (take c.loop-pair.pair-index pairs) weights) (sym c.deref_mut.ensures.value) c.loop-pair.invariant in
-    let new = weights_more funcs blocks pairs c.loop-pair.pair-index _ c.deref_mut.result.now c.add.new.weights c.loop-pair-test.true c.add.auto.weights
+    let was = subst (λ (weights : List ℕ). AreWeights funcs blocks (take c.loop-pair.pair-index pairs) weights)
+    (sym c.deref_mut.ensures.value) c.loop-pair.invariant in
+    let new = weights_more funcs blocks pairs c.loop-pair.pair-index _ c.deref_mut.result.now c.add.new.weights
+    c.loop-pair-test.true c.add.auto.weights
     c.add.ensures.weights c.add.ensures.total was in
     subst (λ (weights : List ℕ). AreWeights funcs blocks (take (c.loop-pair.pair-index + 1) pairs) weights)
     (sym (take_at c.add.new.weights _ c.loop-pair.weights.len (c.add.auto.weights ∙ c.deref_mut.ensures.len))) new
 
 pub returns-clause-weights : goal.returns-clause-weights
 returns-clause-weights c =
-    let all = take_all c.loop-pair.pair-index c.pairs-pair-items.result.now c.loop-pair-test.false ∙ c.pairs-pair-items.ensures.value in
+    let all =
+    take_all c.loop-pair.pair-index c.pairs-pair-items.result.now c.loop-pair-test.false ∙ c.pairs-pair-items.ensures.value in
     weights_all c.args.funcs.now c.args.blocks.now _ c.loop-pair.weights.items
-    (subst (λ (pairs : List Counted). AreWeights c.args.funcs.now c.args.blocks.now pairs c.loop-pair.weights.items) all c.loop-pair.invariant)
+    (subst (λ (pairs : List Counted). AreWeights c.args.funcs.now c.args.blocks.now pairs c.loop-pair.weights.items)
+    all c.loop-pair.invariant)

@@ -9,12 +9,14 @@ pub returns-clause-below : goal.returns-clause-below
 returns-clause-below c =
     let place = c.args.place.now in
     let parted = partitioned_blocks c.args.blocks.now c.requires place.func place.inst in
-    let point = IsPartitionPoint-from_clause (λ (b : Block). begins_by place.func place.inst b) _ _ c.partition_point.ensures.partitioned parted (λ a r q k. search rules) in
+    let point = IsPartitionPoint-from_clause (λ (b : Block). begins_by place.func place.inst b) _ _
+    c.partition_point.ensures.partitioned parted (λ a r q k. search rules) in
     λ k d less. point.0 k d (omega arith) less
 
 pub returns-clause-above : goal.returns-clause-above
 returns-clause-above c =
     let place = c.args.place.now in
     let parted = partitioned_blocks c.args.blocks.now c.requires place.func place.inst in
-    let point = IsPartitionPoint-from_clause (λ (b : Block). begins_by place.func place.inst b) _ _ c.partition_point.ensures.partitioned parted (λ a r q k. search rules) in
+    let point = IsPartitionPoint-from_clause (λ (b : Block). begins_by place.func place.inst b) _ _
+    c.partition_point.ensures.partitioned parted (λ a r q k. search rules) in
     λ k d from within. point.1 k d from within

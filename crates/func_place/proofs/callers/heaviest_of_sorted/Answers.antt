@@ -23,7 +23,8 @@ loop-call-preserved c =
     let i = c.loop-call.call-index in
     let lt = c.loop-call-test.true in
     let r = c.more_of-run.result in
-    let run : IsRun calls (i + 1) r = subst (IsRun calls (i + 1)) (sym c.more_of-run.ensures) (run_step calls i c.loop-call.run c.requires.ordered lt c.loop-call.invariant.0) in
+    let run : IsRun calls (i + 1) r = subst (IsRun calls (i + 1)) (sym c.more_of-run.ensures)
+    (run_step calls i c.loop-call.run c.requires.ordered lt c.loop-call.invariant.0) in
     let from_is : r.from ≡ (call_at calls i).from = ap (λ (c : Call). c.from) c.more_of-run.ensures in
     let to_is : r.to ≡ (call_at calls i).to = ap (λ (c : Call). c.to) c.more_of-run.ensures in
     let to_in : r.to < length heats = rw to_is ((c.requires.inside i (record { from = 0; to = 0; count = 0 }) lt).1) in
@@ -34,16 +35,32 @@ loop-call-preserved c =
     elim c.if-run.branch [
       | then-run+then-heats-run-gt0+then-index-run w ↦
           let most_is : w.index.result.now ≡ slice_index most r.to = get_or_read most r.to _ most_in w.index.ensures 0 in
-          rw (w.heaviest-is, w.most-is) (run, tops_take heats calls i best most r lt from_is to_is run tops to_in w.if-run.true w.if-heats-run-gt0.true (rw (← most_is) w.if-index-run.true))
+          rw (w.heaviest-is, w.most-is) (
+            run,
+            tops_take heats calls i best most r lt from_is to_is run tops to_in w.if-run.true w.if-heats-run-gt0.true
+                (rw (← most_is) w.if-index-run.true),
+          )
       | else-run w ↦ elim w.else-run.branch [
         | else-run-via-then-run+then-heats-run-gt0+else-index-run v ↦
             let most_is : v.index.result.now ≡ slice_index most r.to = get_or_read most r.to _ most_in v.index.ensures 0 in
-            rw (w.heaviest-is, w.most-is) (run, tops_keep heats calls i best most r c.requires.ordered lt from_is to_is run tops (inr (rw (← most_is) v.if-index-run.false)))
+            rw (w.heaviest-is, w.most-is) (
+              run,
+              tops_keep heats calls i best most r c.requires.ordered lt from_is to_is run tops
+                  (inr (rw (← most_is) v.if-index-run.false)),
+            )
         | else-run-via-then-run+else-heats-run-gt0 v ↦
             let cold = v.if-heats-run-gt0.false in
-            rw (w.heaviest-is, w.most-is) (run, tops_keep heats calls i best most r c.requires.ordered lt from_is to_is run tops (inl (λ may. let hot = may.1 in omega arith)))
+            rw (w.heaviest-is, w.most-is) (
+              run,
+              tops_keep heats calls i best most r c.requires.ordered lt from_is to_is run tops
+                  (inl (λ may. let hot = may.1 in omega arith)),
+            )
         | else-run-via-else-run v ↦
-            rw (w.heaviest-is, w.most-is) (run, tops_keep heats calls i best most r c.requires.ordered lt from_is to_is run tops (inl (λ may. may.0 v.if-run.false)))
+            rw (w.heaviest-is, w.most-is) (
+              run,
+              tops_keep heats calls i best most r c.requires.ordered lt from_is to_is run tops
+                  (inl (λ may. may.0 v.if-run.false)),
+            )
       ]
     ]
 
@@ -53,5 +70,7 @@ returns-clause-heaviest c = λ u.
     let calls = c.args.calls.now in
     let end : c.loop-call.call-index ≡ length calls = omega arith in
     let tops : AreTops heats calls c.loop-call.heaviest.items c.loop-call.most.items =
-    subst (λ (cs : List Call). AreTops heats cs c.loop-call.heaviest.items c.loop-call.most.items) (ap (λ (n : ℕ). take n calls) end ∙ take_all (length calls) calls (omega arith)) c.loop-call.invariant.1 in
-    callers_found heats calls c.loop-call.heaviest.items u c.requires.inside tops.best_len (λ w lt. heaviest_by_tops heats calls c.loop-call.heaviest.items c.loop-call.most.items tops w lt)
+    subst (λ (cs : List Call). AreTops heats cs c.loop-call.heaviest.items c.loop-call.most.items)
+    (ap (λ (n : ℕ). take n calls) end ∙ take_all (length calls) calls (omega arith)) c.loop-call.invariant.1 in
+    callers_found heats calls c.loop-call.heaviest.items u c.requires.inside tops.best_len
+    (λ w lt. heaviest_by_tops heats calls c.loop-call.heaviest.items c.loop-call.most.items tops w lt)

@@ -11,7 +11,8 @@ returns-then-size-gt-LIMIT c =
     record {
       unit = c.loop-unit.unit;
       func = c.index-funcs-unit.result;
-      is_func = slice_get_read c.args.funcs.now _ c.loop-unit.unit c.index-funcs-unit.result refl (omega arith) c.index-funcs-unit.is;
+      is_func =
+          slice_get_read c.args.funcs.now _ c.loop-unit.unit c.index-funcs-unit.result refl (omega arith) c.index-funcs-unit.is;
       start = ap (λ (f : Func). f.start) c.index-funcs-unit.is;
       long = c.if-size-gt-LIMIT.true;
       earlier = c.loop-unit.invariant;

@@ -7,7 +7,8 @@ use Rattle.func_place.proofs.groups.put_in_front.Given as goal
 abbrev pub invariant-loop-u : goal.invariant-loop-u
 invariant-loop-u l = (l.few.items ++ l.many.items ≡ l.fn.few.items ++ l.initial.many.items)
     × (All (λ u. u < length l.numbers) l.few.items)
-    × ((u : ℕ) → u < length l.numbers → numbered l.few.items l.number l.numbers u ≡ numbered l.fn.few.items l.number l.initial.numbers u)
+    × ((u : ℕ) → u < length l.numbers →
+    numbered l.few.items l.number l.numbers u ≡ numbered l.fn.few.items l.number l.initial.numbers u)
 
 abbrev pub decreases-loop-u : goal.decreases-loop-u
 decreases-loop-u l = deque_len l.few

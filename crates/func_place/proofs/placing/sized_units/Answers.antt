@@ -17,32 +17,44 @@ sums_of-requires-clause-room c =
     omega arith
 
 pub first_long-requires : goal.first_long-requires
-first_long-requires c = ap length c.deref-3.ensures.value ∙ c.in_ok-sizes.ensures.len ∙ ap length c.deref.ensures.value ∙ c.in_ok-units.ensures.units.len
+first_long-requires c = ap length c.deref-3.ensures.value ∙ c.in_ok-sizes.ensures.len ∙ ap length c.deref.ensures.value
+    ∙ c.in_ok-units.ensures.units.len
 
 pub returns-clause-sizes : goal.returns-clause-sizes
-returns-clause-sizes c = subst (λ (us : List ℕ). c.in_ok-sizes.sizes.items ≡ by_unit (unit_size c.args.funcs.now us c.args.blocks.now) us) c.deref.ensures.value
-    (c.in_ok-sizes.ensures.sums (worst_size_of_block c.args.funcs.now) (c.deref-2.ensures.value ∙ c.in_ok-own_sizes.ensures.sizes))
+returns-clause-sizes c = subst (λ (us : List ℕ). c.in_ok-sizes.sizes.items
+    ≡ by_unit (unit_size c.args.funcs.now us c.args.blocks.now) us) c.deref.ensures.value
+    (c.in_ok-sizes.ensures.sums (worst_size_of_block c.args.funcs.now)
+    (c.deref-2.ensures.value ∙ c.in_ok-own_sizes.ensures.sizes))
 
 pub returns-in-Some-clause-fault : goal.returns-in-Some-clause-fault
 returns-in-Some-clause-fault c =
-    let sizes_is = subst (λ (us : List ℕ). c.in_ok-sizes.sizes.items ≡ by_unit (unit_size c.args.funcs.now us c.args.blocks.now) us) c.deref.ensures.value
-    (c.in_ok-sizes.ensures.sums (worst_size_of_block c.args.funcs.now) (c.deref-2.ensures.value ∙ c.in_ok-own_sizes.ensures.sizes)) in
+    let sizes_is = subst (λ (us : List ℕ). c.in_ok-sizes.sizes.items
+    ≡ by_unit (unit_size c.args.funcs.now us c.args.blocks.now) us) c.deref.ensures.value
+    (c.in_ok-sizes.ensures.sums (worst_size_of_block c.args.funcs.now)
+    (c.deref-2.ensures.value ∙ c.in_ok-own_sizes.ensures.sizes)) in
     subst (IsAnswered (HasPlacementFault c.args.funcs.now c.args.blocks.now)) (sym c.at.ensures)
-    (answered_long c.args.funcs.now c.args.blocks.now c.in_ok-units.units.items c.deref-3.result.now c.in-Some.place c.requires.funcs c.in_ok-units.ensures.units (c.deref-3.ensures.value ∙ sizes_is) c.in-Some.ensures)
+    (answered_long c.args.funcs.now c.args.blocks.now c.in_ok-units.units.items c.deref-3.result.now c.in-Some.place
+    c.requires.funcs c.in_ok-units.ensures.units (c.deref-3.ensures.value ∙ sizes_is) c.in-Some.ensures)
 
 pub returns-in-Some-first_kept-clause-fault : goal.returns-in-Some-first_kept-clause-fault
 returns-in-Some-first_kept-clause-fault c =
-    let sizes_is = subst (λ (us : List ℕ). c.in_ok-sizes.sizes.items ≡ by_unit (unit_size c.args.funcs.now us c.args.blocks.now) us) c.deref.ensures.value
-    (c.in_ok-sizes.ensures.sums (worst_size_of_block c.args.funcs.now) (c.deref-2.ensures.value ∙ c.in_ok-own_sizes.ensures.sizes)) in
+    let sizes_is = subst (λ (us : List ℕ). c.in_ok-sizes.sizes.items
+    ≡ by_unit (unit_size c.args.funcs.now us c.args.blocks.now) us) c.deref.ensures.value
+    (c.in_ok-sizes.ensures.sums (worst_size_of_block c.args.funcs.now)
+    (c.deref-2.ensures.value ∙ c.in_ok-own_sizes.ensures.sizes)) in
     subst (IsAnswered (HasPlacementFault c.args.funcs.now c.args.blocks.now)) (sym c.at-in-Some-first_kept.ensures)
     (answered_kept c.args.funcs.now c.args.blocks.now c.in-Some-first_kept.place c.requires.funcs
-    (no_long c.args.funcs.now c.args.blocks.now c.in_ok-units.units.items c.deref-3.result.now c.in_ok-units.ensures.units (c.deref-3.ensures.value ∙ sizes_is) c.in-None.ensures)
+    (no_long c.args.funcs.now c.args.blocks.now c.in_ok-units.units.items c.deref-3.result.now c.in_ok-units.ensures.units
+    (c.deref-3.ensures.value ∙ sizes_is) c.in-None.ensures)
     c.in-Some-first_kept.ensures)
 
 pub returns-clause-free : goal.returns-clause-free
 returns-clause-free c =
-    let sizes_is = subst (λ (us : List ℕ). c.in_ok-sizes.sizes.items ≡ by_unit (unit_size c.args.funcs.now us c.args.blocks.now) us) c.deref.ensures.value
-    (c.in_ok-sizes.ensures.sums (worst_size_of_block c.args.funcs.now) (c.deref-2.ensures.value ∙ c.in_ok-own_sizes.ensures.sizes)) in
+    let sizes_is = subst (λ (us : List ℕ). c.in_ok-sizes.sizes.items
+    ≡ by_unit (unit_size c.args.funcs.now us c.args.blocks.now) us) c.deref.ensures.value
+    (c.in_ok-sizes.ensures.sums (worst_size_of_block c.args.funcs.now)
+    (c.deref-2.ensures.value ∙ c.in_ok-own_sizes.ensures.sizes)) in
     no_fault c.args.funcs.now c.args.blocks.now
-    (no_long c.args.funcs.now c.args.blocks.now c.in_ok-units.units.items c.deref-3.result.now c.in_ok-units.ensures.units (c.deref-3.ensures.value ∙ sizes_is) c.in-None.ensures)
+    (no_long c.args.funcs.now c.args.blocks.now c.in_ok-units.units.items c.deref-3.result.now c.in_ok-units.ensures.units
+    (c.deref-3.ensures.value ∙ sizes_is) c.in-None.ensures)
     (no_kept c.args.funcs.now c.in-None-first_kept.ensures)

@@ -14,19 +14,25 @@ loop-unit-preserved c = λ sizes heats cluster k.
     let u_in : get_or taken at 0 < count_of state = c.requires.taken_in at 0 c.loop-unit-test.true in
     elim c.if-begins.branch [
       | then-begins+in_ok-push w ↦ rw (w.ranks-is, w.in_ok-push.ensures.items)
-          (ranks_more sizes heats cluster taken c.loop-unit.ranks.items state at w.rank.result k c.loop-unit-test.true u_in (sym w.if-begins.ensures) w.rank.ensures.unit w.rank.ensures.heat w.rank.ensures.size (c.loop-unit.invariant sizes heats cluster k))
+          (ranks_more sizes heats cluster taken c.loop-unit.ranks.items state at w.rank.result k c.loop-unit-test.true u_in
+          (sym w.if-begins.ensures) w.rank.ensures.unit w.rank.ensures.heat w.rank.ensures.size
+          (c.loop-unit.invariant sizes heats cluster k))
       | else-begins w ↦ rw w.ranks-is
-          (ranks_skip sizes heats cluster taken c.loop-unit.ranks.items state at k c.loop-unit-test.true u_in (sym w.if-begins.ensures) (c.loop-unit.invariant sizes heats cluster k))
+          (ranks_skip sizes heats cluster taken c.loop-unit.ranks.items state at k c.loop-unit-test.true u_in
+          (sym w.if-begins.ensures) (c.loop-unit.invariant sizes heats cluster k))
     ]
 
 pub returns : goal.returns
 returns c = λ sizes heats cluster k.
     let taken = c.args.taken.now in
     let end : c.loop-unit.unit-index ≡ length taken = omega arith in
-    let ranks : AreRanks sizes heats cluster taken c.loop-unit.ranks.items = rw (end, take_all (length taken) taken (omega arith)) at (c.loop-unit.invariant sizes heats cluster k) in
+    let ranks : AreRanks sizes heats cluster taken c.loop-unit.ranks.items =
+    rw (end, take_all (length taken) taken (omega arith)) at (c.loop-unit.invariant sizes heats cluster k) in
     let items = c.deref-rank-items.result.now in
     let all : c.loop-rank.rank-index ≡ length items = omega arith in
     let units : c.loop-rank.units.items ≡ map (λ (r : Rank). r.unit) c.sort_ranks.new.ranks.items =
     c.loop-rank.invariant ∙ ap (λ (n : ℕ). map (λ (r : Rank). r.unit) (take n items)) all
-    ∙ ap (λ (rs : List Rank). map (λ (r : Rank). r.unit) rs) (take_all (length items) items (omega arith) ∙ c.deref-rank-items.ensures.value) in
-    rw units (ranks_sorted sizes heats cluster taken c.loop-unit.ranks.items c.sort_ranks.new.ranks.items ranks c.in_ok-sort_ranks.ensures)
+    ∙ ap (λ (rs : List Rank). map (λ (r : Rank). r.unit) rs)
+    (take_all (length items) items (omega arith) ∙ c.deref-rank-items.ensures.value) in
+    rw units
+    (ranks_sorted sizes heats cluster taken c.loop-unit.ranks.items c.sort_ranks.new.ranks.items ranks c.in_ok-sort_ranks.ensures)

@@ -24,5 +24,7 @@ loop-function-preserved c =
     let was = list_of items own unit c.index_mut.result.now (omega arith) c.index_mut.ensures.value in
     let more = list_of items parts i c.index-parts-function.result (omega arith) c.index-parts-function.is in
     let is : c.extend_from_slice.new.self.items ≡ list_at lists unit ++ list_at (map items parts) i =
-    c.in_ok-extend_from_slice.ensures.items ∙ ap (λ (xs : List ℕ). xs ++ c.deref.result.now) was ∙ ap (λ (xs : List ℕ). list_at lists unit ++ xs) (c.deref.ensures.value ∙ more) in
-    rw (map-set items own unit c.extend_from_slice.new.self) (parts_next units (list_at (map items parts)) i unit lists c.extend_from_slice.new.self.items refl unit_in is a)
+    c.in_ok-extend_from_slice.ensures.items ∙ ap (λ (xs : List ℕ). xs ++ c.deref.result.now) was
+    ∙ ap (λ (xs : List ℕ). list_at lists unit ++ xs) (c.deref.ensures.value ∙ more) in
+    rw (map-set items own unit c.extend_from_slice.new.self)
+    (parts_next units (list_at (map items parts)) i unit lists c.extend_from_slice.new.self.items refl unit_in is a)

@@ -6,7 +6,8 @@ use Rattle.func_place.proofs.ties.put_tie_at.Goals as goal
 pub returns-in_ok-push : goal.returns-in_ok-push
 returns-in_ok-push c =
     let (is, other) = (c.other_function_at.ensures c.in-Some.other).0 c.in-Some.is in
-    gains_same c.args.ties.now.items c.push.new.self.items _ _ (at_found c.args.funcs.now c.args.place c.args.address c.in-Some.other is other)
+    gains_same c.args.ties.now.items c.push.new.self.items _ _
+    (at_found c.args.funcs.now c.args.place c.args.address c.in-Some.other is other)
     (gains_one c.args.ties.now.items c.push.new.self.items (c.args.place, c.in-Some.other) c.in_ok-push.ensures.items)
 
 pub returns-in_default : goal.returns-in_default

@@ -5,8 +5,11 @@ use Rattle.func_place.proofs.TieSets.{TiesBelow, funcs_next, funcs_all}
 use Rattle.func_place.proofs.ties.ties.Goals as goal
 
 pub loop-place-preserved : goal.loop-place-preserved
-loop-place-preserved c = gains_both [] c.loop-place.ties.items c.put_ties_of.new.ties.items (TiesBelow c.args.funcs.now c.loop-place.place) (TiesOf c.args.funcs.now c.loop-place.place) (TiesBelow c.args.funcs.now (c.loop-place.place + 1))
+loop-place-preserved c =
+    gains_both [] c.loop-place.ties.items c.put_ties_of.new.ties.items (TiesBelow c.args.funcs.now c.loop-place.place)
+    (TiesOf c.args.funcs.now c.loop-place.place) (TiesBelow c.args.funcs.now (c.loop-place.place + 1))
     (funcs_next c.args.funcs.now c.loop-place.place) c.loop-place.invariant c.in_ok-put_ties_of.ensures
 
 pub returns : goal.returns
-returns c = gains_same [] c.loop-place.ties.items (TiesBelow c.args.funcs.now c.loop-place.place) (Ties c.args.funcs.now) (funcs_all c.args.funcs.now c.loop-place.place (omega arith)) c.loop-place.invariant
+returns c = gains_same [] c.loop-place.ties.items (TiesBelow c.args.funcs.now c.loop-place.place) (Ties c.args.funcs.now)
+    (funcs_all c.args.funcs.now c.loop-place.place (omega arith)) c.loop-place.invariant

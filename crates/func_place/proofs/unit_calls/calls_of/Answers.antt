@@ -6,6 +6,9 @@ use Rattle.func_place.proofs.unit_calls.calls_of.Goals.{in-Some+in_ok-push-in-So
 
 pub loop-pair-preserved : goal.loop-pair-preserved
 loop-pair-preserved c = elim c.match-call_of.branch [
-  | in-Some+in_ok-push-in-Some w ↦ rw w.calls-is (given_some (unit_call c.args.funcs.now c.args.units.now) c.args.pairs.now c.loop-pair.pair-index (0, 0, 0) w.in-Some.call c.loop-pair.calls.items w.push.new.self.items c.loop-pair-test.true (sym c.call_of.ensures ∙ w.in-Some.is) c.loop-pair.invariant w.in_ok-push-in-Some.ensures.items)
-  | in-None w ↦ rw w.calls-is (given_none (unit_call c.args.funcs.now c.args.units.now) c.args.pairs.now c.loop-pair.pair-index (0, 0, 0) c.loop-pair.calls.items c.loop-pair-test.true (sym c.call_of.ensures ∙ w.in-None.is) c.loop-pair.invariant)
+  | in-Some+in_ok-push-in-Some w ↦ rw w.calls-is (given_some (unit_call c.args.funcs.now c.args.units.now) c.args.pairs.now
+      c.loop-pair.pair-index (0, 0, 0) w.in-Some.call c.loop-pair.calls.items w.push.new.self.items c.loop-pair-test.true
+      (sym c.call_of.ensures ∙ w.in-Some.is) c.loop-pair.invariant w.in_ok-push-in-Some.ensures.items)
+  | in-None w ↦ rw w.calls-is (given_none (unit_call c.args.funcs.now c.args.units.now) c.args.pairs.now c.loop-pair.pair-index
+      (0, 0, 0) c.loop-pair.calls.items c.loop-pair-test.true (sym c.call_of.ensures ∙ w.in-None.is) c.loop-pair.invariant)
 ]

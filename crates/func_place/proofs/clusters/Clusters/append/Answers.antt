@@ -8,7 +8,8 @@ use Rattle.func_place.proofs.clusters.Clusters.append.Goals as goal
 use Rattle.func_place.proofs.clusters.Clusters.append.Goals.{else-first-second-via-then-first-second+else-index-le-LIMIT, else-first-second-via-else-first-second}
 
 -- what was read of a cluster is the size of its unit's
-read : (d : Clusters) (number u n : ℕ) → IsSound (state_of d) → number ≡ slice_index (state_of d).grouping.numbers u → number < count_of (state_of d) → n ≡ slice_index_or d.totals.items number n → n ≡ size_at (state_of d) u
+read : (d : Clusters) (number u n : ℕ) → IsSound (state_of d) → number ≡ slice_index (state_of d).grouping.numbers u →
+    number < count_of (state_of d) → n ≡ slice_index_or d.totals.items number n → n ≡ size_at (state_of d) u
 read d number u n sound is number_in read_is =
     let inside : number < length d.totals.items = rw sound.totals_len number_in in
     get_or_read d.totals.items number n inside read_is 0 ∙ rw is refl
@@ -17,7 +18,8 @@ read d number u n sound is number_in read_is =
 record Known (c : goal.In_ok-join) : Type 0 where
   can : CanJoin (state_of c.args.self.now) c.args.caller c.args.unit
   kept : ℕ
-  merges : Merges (state_of c.args.self.now) (state_of c.join.new.self) (slice_index (state_of c.args.self.now).grouping.numbers c.args.caller) (slice_index (state_of c.args.self.now).grouping.numbers c.args.unit) kept
+  merges : Merges (state_of c.args.self.now) (state_of c.join.new.self) (slice_index (state_of c.args.self.now).grouping.numbers
+      c.args.caller) (slice_index (state_of c.args.self.now).grouping.numbers c.args.unit) kept
 
 known : (c : goal.In_ok-join) → Known c
 known c =
@@ -26,7 +28,8 @@ known c =
     let first = c.number_of-first.ensures in
     let second = c.number_of-second.ensures in
     let one = read d c.number_of-first.result c.args.caller c.index.result.now sound first.is first.within c.index.ensures in
-    let two = read d c.number_of-second.result c.args.unit c.index-then-first-second.result.now sound second.is second.within c.index-then-first-second.ensures in
+    let two = read d c.number_of-second.result c.args.unit c.index-then-first-second.result.now sound second.is second.within
+    c.index-then-first-second.ensures in
     record {
       can = record {
         v_in = c.requires.caller_in;
@@ -55,9 +58,13 @@ returns-else-first-second-clause-keeps c =
     let second = c.number_of-second.ensures in
     elim c.else-first-second.branch [
       | else-first-second-via-then-first-second+else-index-le-LIMIT w ↦
-          let one = read d c.number_of-first.result c.args.caller w.index.result.now sound first.is first.within w.index.ensures in
-          let two = read d c.number_of-second.result c.args.unit w.index-then-first-second.result.now sound second.is second.within w.index-then-first-second.ensures in
-          stays_large sound c.args.caller c.args.unit c.requires.caller_in c.requires.unit_in (rw (← one, ← two) w.if-index-le-LIMIT.false)
+          let one =
+          read d c.number_of-first.result c.args.caller w.index.result.now sound first.is first.within w.index.ensures in
+          let two = read d c.number_of-second.result c.args.unit w.index-then-first-second.result.now sound second.is
+          second.within w.index-then-first-second.ensures in
+          stays_large sound c.args.caller c.args.unit c.requires.caller_in c.requires.unit_in
+          (rw (← one, ← two) w.if-index-le-LIMIT.false)
       | else-first-second-via-else-first-second w ↦
-          stays_same sound c.args.caller c.args.unit c.requires.caller_in c.requires.unit_in (sym first.is ∙ w.if-first-second.false ∙ second.is)
+          stays_same sound c.args.caller c.args.unit c.requires.caller_in c.requires.unit_in
+          (sym first.is ∙ w.if-first-second.false ∙ second.is)
     ]

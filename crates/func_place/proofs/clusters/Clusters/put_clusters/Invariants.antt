@@ -6,5 +6,6 @@ use Rattle.func_place.proofs.clusters.Clusters.put_clusters.Given as goal
 
 abbrev pub invariant-loop-unit : goal.invariant-loop-unit
 invariant-loop-unit l =
-    ((sizes heats : List ℕ) (cluster : ℕ → List ℕ) → Keeps sizes heats cluster (state_of l.self) → l.line.items ≡ l.initial.line.items ++ flat_map cluster (take l.unit-index l.units))
+    ((sizes heats : List ℕ) (cluster : ℕ → List ℕ) → Keeps sizes heats cluster (state_of l.self) →
+    l.line.items ≡ l.initial.line.items ++ flat_map cluster (take l.unit-index l.units))
     × (All (λ u. u < count_of (state_of l.self)) l.initial.line.items → All (λ u. u < count_of (state_of l.self)) l.line.items)
