@@ -16,7 +16,7 @@ use Rattle.branch_fixup.specs.Endings.{End, Branches, Goes, end_of_form}
 use Rattle.branch_fixup.specs.Forms.{shorter, FallsShort, IsLeast}
 use Rattle.branch_fixup.specs.Growth.{tail_at, form_at, place, from_at, to_at, half_of, is_enough, IsNeeded}
 use Rattle.branch_fixup.specs.Strips.{Strip, first_in, pieces_of, pieces_of_strip, spans_of}
-use Rattle.branch_fixup.proofs.Follows.{before_of}
+use Rattle.rv_code.proofs.lists.Follows.{before_of}
 use Rattle.branch_fixup.proofs.Laid.{AreOnce, PlacedFrom, placed_from}
 use Rattle.branch_fixup.proofs.Grown.{not_true, no, reach_if}
 

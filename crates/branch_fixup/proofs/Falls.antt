@@ -12,7 +12,7 @@ use Rattle.rv_code.specs.layout.FunctionLists.{Follow, AreLaidOut, code_limit}
 use Rattle.rv_code.specs.layout.Flow.{insts_of, falls_at}
 use Rattle.branch_fixup.specs.BlockInsts.{starts_at}
 use Rattle.branch_fixup.specs.Endings.{fall_of}
-use Rattle.branch_fixup.proofs.Follows.{follow_at, follow_next, follow_last, laid_func, inst_length, some_length, funcs_apart}
+use Rattle.rv_code.proofs.lists.Follows.{follow_at, follow_next, follow_last, laid_func, inst_length, some_length, funcs_apart}
 use Rattle.branch_fixup.proofs.Lists.{at_contains, contains_at, there, at_flat, flat_at, find_found, found_find}
 
 some_func : (f g : Func) → Some f ≡ Some g → f ≡ g

@@ -40,7 +40,7 @@ short_more half f t g u (back a b c) h =
 pub record IsBelow (ts : List Tail) (xs ys : List Form) : Type 0 where
   pub each : (k : ℕ) → length_at ts xs k ≤ length_at ts ys k
 
-gap : (ts : List Tail) (xs ys : List Form) → IsBelow ts xs ys → (a n : ℕ) →
+pub gap : (ts : List Tail) (xs ys : List Form) → IsBelow ts xs ys → (a n : ℕ) →
     place ts xs (n + a) + place ts ys a ≤ place ts ys (n + a) + place ts xs a
 gap ts xs ys b a zero = let z : 0 + a ≡ a = omega arith in rw z (omega arith)
 gap ts xs ys b a (suc n) =
@@ -49,7 +49,7 @@ gap ts xs ys b a (suc n) =
     let rest = gap ts xs ys b a n in
     rw z (omega (arith, more, rest))
 
-rises : (ts : List Tail) (xs : List Form) (a n : ℕ) → place ts xs a ≤ place ts xs (n + a)
+pub rises : (ts : List Tail) (xs : List Form) (a n : ℕ) → place ts xs a ≤ place ts xs (n + a)
 rises ts xs a zero = let z : 0 + a ≡ a = omega arith in rw z (omega arith)
 rises ts xs a (suc n) =
     let z : suc n + a ≡ suc (n + a) = omega arith in

@@ -1,5 +1,5 @@
 -- Which block of a plan holds an address.
-use Rattle.std.proofs.Common.{◌≡◌, ℕ, ◌+◌, ◌<◌, ◌≤◌, List, [], ◌∷◌, ◌++◌, length, map, Some, None, true, refl, sym, ap, ◌∙◌, subst, arith, inl, inr, All, get_or}
+use Rattle.std.proofs.Common.{◌≡◌, ℕ, ◌+◌, ◌<◌, ◌≤◌, List, [], ◌∷◌, ◌++◌, length, map, Some, None, true, refl, sym, ap, ◌∙◌, subst, arith, inl, inr, get_or}
 use Rattle.std.specs.Prelude.{slice_get, slice_index, Contains, AllPairs, option_map}
 use Rattle.std.proofs.lemmas.List.{length-map}
 use Rattle.std.proofs.lemmas.List.Elements.{Contains-push}
@@ -10,14 +10,14 @@ use Rattle.rv_code.specs.declared.placed.Block.{Block}
 use Rattle.rv_code.specs.layout.ProgramCode.{ProgramCode, is_code_address}
 use Rattle.rv_code.specs.layout.Blocks.{AreBlocks}
 use Rattle.rv_code.specs.layout.FunctionLists.{AreLaidOut}
-use Rattle.branch_fixup.specs.BlockInsts.{IsBlockIn, start_of}
+use Rattle.branch_fixup.specs.BlockInsts.{start_of}
 use Rattle.branch_fixup.specs.Ends.{begins_of}
 use Rattle.branch_fixup.specs.Inputs.{IsOrder, AreBlocksOf, code_of}
 use Rattle.branch_fixup.specs.Lookup.{IsHolder}
 use Rattle.branch_fixup.specs.Strips.{Strip, strip_of, strips_of, insts_in, first_in}
 use Rattle.branch_fixup.proofs.Covered.{block_of, covers, blocks_apart}
 use Rattle.branch_fixup.proofs.Falls.{code_at}
-use Rattle.branch_fixup.proofs.Follows.{follow_at, follow_up, laid_func, some_length, funcs_apart}
+use Rattle.rv_code.proofs.lists.Follows.{follow_at, follow_up, laid_func, some_length, funcs_apart}
 use Rattle.branch_fixup.proofs.Lists.{there}
 use Rattle.branch_fixup.proofs.Orders.{order_within, order_has}
 use Rattle.branch_fixup.proofs.Planned.{StripOf, strip_for, in_block, block_in_insts, Planned, planned_length, planned_at, strip_length}
@@ -66,12 +66,6 @@ blocks_up code blocks m n b c s t laid are x y at_m at_n less p q has_p has_q =
           follow_up x.func.start x.func.insts.items x.func.end i.i j.i p q lx.follow i.at
           (subst (λ (z : Func). slice_get z.insts.items j.i ≡ Some q) same j.at) (omega (arith, apart, high, low))
     ]
-
-pub are_block_in : (code : ProgramCode) (blocks : List Block) → AreBlocks code blocks → All (IsBlockIn code.funcs) blocks
-are_block_in code blocks are = λ k d within.
-    let b : Block = get_or blocks k d in
-    let x = block_of code blocks k b are (slice_get-get_or blocks k d within) in
-    rw x.at (x.is.some, x.is.inside)
 
 module _ (code : ProgramCode) (blocks : List Block) (laid : AreLaidOut code.funcs) (are : AreBlocks code blocks) where
   abbrev starts : List ℕ

@@ -32,7 +32,7 @@ use Rattle.branch_fixup.specs.Strips.{Strip, first_in, insts_in, is_alone, piece
 use Rattle.branch_fixup.proofs.Appended.{end_append}
 use Rattle.branch_fixup.proofs.Bridge.{AreTailsOf, block_placed, end_of_inner, leads_to}
 use Rattle.branch_fixup.proofs.Covered.{blocks_apart}
-use Rattle.branch_fixup.proofs.Follows.{follow_at, funcs_apart, laid_func, some_length}
+use Rattle.rv_code.proofs.lists.Follows.{follow_at, funcs_apart, laid_func, some_length}
 use Rattle.branch_fixup.proofs.Holders.{last_there}
 use Rattle.branch_fixup.proofs.Laid.{PlacedFrom, placed_from}
 use Rattle.branch_fixup.proofs.Lists.{at_contains, there, Contains-there}

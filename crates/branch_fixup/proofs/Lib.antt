@@ -1,7 +1,7 @@
 pub mod Grown
 pub mod Rounds
+pub mod Ways
 pub mod Lists
-pub mod Follows
 pub mod Appended
 pub mod Holders
 pub mod TailsFound

@@ -22,7 +22,7 @@ use Rattle.branch_fixup.specs.Forms.{AreForms, FitsLength, end_of, shorter}
 use Rattle.branch_fixup.specs.Growth.{AreEnough, AreGrown, AreTails, IsNeeded, form_at, most_of, place, tail_at}
 use Rattle.branch_fixup.specs.Inputs.{AreBlocksOf, AreDirect, AreNear, IsOrder, code_of, worst_total}
 use Rattle.branch_fixup.specs.Strips.{Strip, spans_of, strips_of}
-use Rattle.branch_fixup.proofs.Follows.{before_of, some_length}
+use Rattle.rv_code.proofs.lists.Follows.{before_of, some_length}
 use Rattle.branch_fixup.proofs.Holders.{last_there}
 use Rattle.branch_fixup.proofs.Lands.{all_end, all_land}
 use Rattle.branch_fixup.proofs.Lists.{there}

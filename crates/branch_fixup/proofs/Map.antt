@@ -22,7 +22,7 @@ use Rattle.branch_fixup.specs.Inputs.{IsOrder}
 use Rattle.branch_fixup.specs.Pieces.{Piece, as_it_is, end_from, laid_from, length_in, length_of}
 use Rattle.branch_fixup.specs.Strips.{Strip, first_in, insts_in, is_alone, pieces_of, pieces_of_strip, spans_of, strips_of}
 use Rattle.branch_fixup.proofs.Falls.{bool_same}
-use Rattle.branch_fixup.proofs.Follows.{follow_up, laid_func, some_length}
+use Rattle.rv_code.proofs.lists.Follows.{follow_up, laid_func, some_length}
 use Rattle.branch_fixup.proofs.Holders.{Held, held, first_there, last_there}
 use Rattle.branch_fixup.proofs.Laid.{AreEven, inside, laid_above, stretch}
 use Rattle.branch_fixup.proofs.Lists.{Contains-cons_cases, Contains-nil, Contains-there, at_contains, find_found, found_find}

@@ -22,7 +22,7 @@ use Rattle.branch_fixup.specs.Pieces.{length_in}
 use Rattle.branch_fixup.specs.Reach.{reaches}
 use Rattle.branch_fixup.specs.Strips.{Strip, first_in, insts_in, spans_of, strips_of}
 use Rattle.branch_fixup.proofs.Bridge.{AreTailsOf}
-use Rattle.branch_fixup.proofs.Follows.{before_of}
+use Rattle.rv_code.proofs.lists.Follows.{before_of}
 use Rattle.branch_fixup.proofs.Grown.{reach_if}
 use Rattle.branch_fixup.proofs.Holders.{Held, held}
 use Rattle.branch_fixup.proofs.Lists.{at_drop, take_one_more, there}

@@ -19,7 +19,7 @@ use Rattle.branch_fixup.specs.Inputs.{IsOrder}
 use Rattle.branch_fixup.specs.Pieces.{Piece, as_it_is, laid_from, length_of}
 use Rattle.branch_fixup.specs.Strips.{Strip, strips_of, insts_in, first_in, pieces_of, pieces_of_strip, spans_of}
 use Rattle.branch_fixup.proofs.Bridge.{AreTailsOf, block_placed}
-use Rattle.branch_fixup.proofs.Follows.{before_of, some_length}
+use Rattle.rv_code.proofs.lists.Follows.{before_of, some_length}
 use Rattle.branch_fixup.proofs.Holders.{blocks_up}
 use Rattle.branch_fixup.proofs.Laid.{IsFresh, AreOnce, PlacedFrom, placed_from}
 use Rattle.branch_fixup.proofs.Lists.{Contains-cons_cases, Contains-nil, Contains-there}

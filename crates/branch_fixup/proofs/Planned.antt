@@ -14,7 +14,7 @@ use Rattle.branch_fixup.specs.Endings.{fall_of}
 use Rattle.branch_fixup.specs.Inputs.{IsOrder}
 use Rattle.branch_fixup.specs.Strips.{Strip, strip_of, strips_of, insts_in, first_in}
 use Rattle.branch_fixup.proofs.Covered.{BlockOf, block_of}
-use Rattle.branch_fixup.proofs.Follows.{before_of, follow_drop, follow_take, laid_func, inst_length}
+use Rattle.rv_code.proofs.lists.Follows.{before_of, follow_drop, follow_take, laid_func, inst_length}
 use Rattle.branch_fixup.proofs.Lists.{at_contains, contains_at, there, at_drop, at_take, take_in, take_one_more}
 use Rattle.branch_fixup.proofs.Orders.{order_within}
 

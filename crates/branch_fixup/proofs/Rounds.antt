@@ -90,7 +90,7 @@ grows ts fs k len form.Plain fits h = absurd (cc)
 grows ts fs k len form.Jump fits h = absurd (cc)
 grows ts fs k len form.Dropped fits h = absurd (cc)
 
-longer_length : (len : ℕ) (f : Form) → length_in len f ≤ length_in len (longer f)
+pub longer_length : (len : ℕ) (f : Form) → length_in len f ≤ length_in len (longer f)
 longer_length len (form.Branch inverted Half jump) = omega arith
 longer_length len (form.Branch inverted Full jump) = omega arith
 longer_length len (form.Branch inverted Long jump) = omega arith
@@ -100,10 +100,10 @@ longer_length len form.Plain = omega arith
 longer_length len form.Jump = omega arith
 longer_length len form.Dropped = omega arith
 
-at_same : (fs : List Form) (i : ℕ) (x : Form) → i < length fs → form_at (slice_set fs i x) i ≡ x
+pub at_same : (fs : List Form) (i : ℕ) (x : Form) → i < length fs → form_at (slice_set fs i x) i ≡ x
 at_same fs i x h = get_or-set_same fs i x form.Plain h
 
-at_other : (fs : List Form) (i k : ℕ) (x : Form) → k ≢ i → form_at (slice_set fs i x) k ≡ form_at fs k
+pub at_other : (fs : List Form) (i k : ℕ) (x : Form) → k ≢ i → form_at (slice_set fs i x) k ≡ form_at fs k
 at_other fs i k x ne = get_or-set_other fs i k x form.Plain ne
 
 below_trans : (ts : List Tail) (xs ys zs : List Form) → IsBelow ts xs ys → IsBelow ts ys zs → IsBelow ts xs zs
@@ -123,7 +123,8 @@ set_itself : (fs : List Form) (i : ℕ) → slice_set fs i (form_at fs i) ≡ fs
 set_itself fs i = set-get_or fs i form.Plain
 
 -- a form that grows makes no block shorter
-below_grow : (ts : List Tail) (fs : List Form) (i : ℕ) → i < length fs → IsBelow ts fs (slice_set fs i (longer (form_at fs i)))
+pub below_grow : (ts : List Tail) (fs : List Form) (i : ℕ) → i < length fs →
+    IsBelow ts fs (slice_set fs i (longer (form_at fs i)))
 below_grow ts fs i h = record {
   each = λ j. ⊎_elim
       (λ (same : j ≡ i). let l = longer_length (tail_at ts i).len (form_at fs i) in

@@ -26,7 +26,7 @@ use Rattle.branch_fixup.specs.Growth.{most_of, tail_at}
 use Rattle.branch_fixup.specs.Inputs.{IsOrder, worst_between, worst_total}
 use Rattle.branch_fixup.specs.Pieces.{length_in}
 use Rattle.branch_fixup.specs.Strips.{Strip, first_in, insts_in, is_alone}
-use Rattle.branch_fixup.proofs.Follows.{before_of, follow_at, laid_func, some_length}
+use Rattle.rv_code.proofs.lists.Follows.{before_of, follow_at, laid_func, some_length}
 use Rattle.branch_fixup.proofs.Holders.{last_there}
 use Rattle.branch_fixup.proofs.Lists.{Contains-there}
 use Rattle.branch_fixup.proofs.Placed.{IsStrip, before_is}

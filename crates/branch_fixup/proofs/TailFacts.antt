@@ -17,7 +17,7 @@ use Rattle.branch_fixup.specs.Forms.{EndByTable, FitsLength, IsLeast}
 use Rattle.branch_fixup.specs.Growth.{AreGrown, AreTails, form_at, half_of, most_of, tail_at, to_at}
 use Rattle.branch_fixup.specs.Strips.{Strip, first_in, first_of, is_alone, spans_of}
 use Rattle.branch_fixup.proofs.Bridge.{AreTailsOf, LeadAsTails, are_least, leads_to}
-use Rattle.branch_fixup.proofs.Follows.{some_length}
+use Rattle.rv_code.proofs.lists.Follows.{some_length}
 use Rattle.branch_fixup.proofs.Holders.{last_there}
 use Rattle.branch_fixup.proofs.Placed.{AreStrips, address_at, at_place, before_is, strips_once, upto_last}
 

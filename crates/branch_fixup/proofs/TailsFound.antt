@@ -23,7 +23,7 @@ use Rattle.branch_fixup.specs.Inputs.{IsOrder, AreDirect, LeadsToCode}
 use Rattle.branch_fixup.specs.Lookup.{ArePlaces, Finds, IsHolder}
 use Rattle.branch_fixup.specs.Strips.{Strip, strips_of, insts_in, first_in}
 use Rattle.branch_fixup.proofs.Falls.{code_there}
-use Rattle.branch_fixup.proofs.Follows.{follow_at}
+use Rattle.rv_code.proofs.lists.Follows.{follow_at}
 use Rattle.branch_fixup.proofs.Holders.{first_there, last_there, held, Held, holds, start_is}
 use Rattle.branch_fixup.proofs.Lists.{at_contains, contains_at, flat_at}
 use Rattle.branch_fixup.proofs.Planned.{StripOf, in_block, planned, strip_follows}

@@ -1,18 +1,13 @@
 -- The instructions of a block, as the code has them.
-use Rattle.std.specs.Prelude.{ℕ, ◌<◌, ◌≤◌, ◌==◌, Bool, false, IsSomeAnd, List, length, slice_get}
+use Rattle.std.specs.Prelude.{ℕ, ◌==◌, Bool, false, List, slice_get}
 use Rattle.std.specs.Option.{option_map_or}
 use Rattle.rv_code.specs.declared.placed.Func.{Func}
 use Rattle.rv_code.specs.declared.placed.Block.{Block}
-use Rattle.rv_code.specs.layout.Blocks.{func_of}
 use Rattle.branch_fixup.specs.declared.block_insts.BlockInsts.{BlockInsts}
 use Rattle.branch_fixup.specs.Strips.{Strip, strip_of, first_in}
 
 abbrev pub seen : BlockInsts → Strip
 seen b = record { inner = b.inner.now; last = b.last; whole = b.whole; fall = b.fall }
-
--- a block of some of a function's instructions
-abbrev pub IsBlockIn : List Func → Block → Type 0
-IsBlockIn funcs b = IsSomeAnd (func_of funcs b) (λ func. (b.first ≤ b.last) × (b.last < length func.insts.items))
 
 -- the function at an index starts at an address
 abbrev pub starts_at : List Func → ℕ → ℕ → Bool

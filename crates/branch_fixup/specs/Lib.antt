@@ -8,3 +8,4 @@ pub mod Growth
 pub mod BlockInsts
 pub mod Lookup
 pub mod Ends
+pub mod Ways

@@ -5,7 +5,8 @@ ghost use Rattle.branch_fixup.specs.Endings.{fall_of};
 ghost use Rattle.branch_fixup.specs.Ends.{begins_of};
 ghost use Rattle.branch_fixup.specs.Inputs.{AreBlocksOf, IsOrder};
 ghost use Rattle.branch_fixup.specs.Strips.{strip_of, strips_of, first_in};
-ghost use Rattle.branch_fixup.specs.BlockInsts.{IsBlockIn, seen, starts_at};
+ghost use Rattle.rv_code.specs.layout.InFunctions.{IsOfFunction};
+ghost use Rattle.branch_fixup.specs.BlockInsts.{seen, starts_at};
 
 use rv_code::flow::falls;
 use rv_code::{Block, Func, Placed};
@@ -25,7 +26,7 @@ pub struct BlockInsts<'a> {
 /// The instructions of a block.
 pub fn insts_of<'a>(funcs: &'a [Func], block: &Block) -> BlockInsts<'a>
     requires laid { AreLaidOut funcs.now }
-    requires is { IsBlockIn funcs.now block.now }
+    requires is { IsOfFunction funcs.now block.now }
     ensures { strip_of funcs.now block.now ≡ Some (seen result) }
 {
     let func = &funcs[block.func];

@@ -1,7 +1,7 @@
 // How the blocks of a plan end, in their shortest forms.
 ghost use Rattle.std.specs.Prelude.{◌≡◌, ◌<◌, IfOk, All, length};
 ghost use Rattle.rv_code.specs.layout.FunctionLists.{AreLaidOut};
-ghost use Rattle.branch_fixup.specs.BlockInsts.{IsBlockIn};
+ghost use Rattle.rv_code.specs.layout.InFunctions.{IsOfFunction};
 ghost use Rattle.branch_fixup.specs.Ends.{AreEnds};
 ghost use Rattle.branch_fixup.specs.Inputs.{AreDirect, AreBlocksOf, IsOrder};
 ghost use Rattle.branch_fixup.specs.Strips.{strips_of};

@@ -4,8 +4,12 @@ ghost use Rattle.branch_fixup.specs.Endings.{end_of_form};
 ghost use Rattle.branch_fixup.specs.Growth.{place, is_enough_at, tail_at, left_of, AreTails, AreGrown, AreEnough};
 
 use crate::lengths::{half_of, length_in, longer, reaches};
+use crate::settling::settle;
 use rv_code::Form;
 use std::alloc::{AllocError, Global};
+
+/// How many passes over all blocks may make forms grow before they grow one at a time.
+const PASSES: u8 = 8;
 
 /// How a block ends.
 #[derive(Clone, Copy, PartialEq, Eq, Debug)]
@@ -21,7 +25,7 @@ pub struct Tail {
 }
 
 // Where each block begins, and where the last one ends.
-fn places(alloc: Global, tails: &[Tail], forms: &[Form]) -> Result<Vec<u64>, AllocError>
+pub(crate) fn places(alloc: Global, tails: &[Tail], forms: &[Form]) -> Result<Vec<u64>, AllocError>
     requires one_each { length forms.now ≡ length tails.now }
     requires tails { AreTails tails.now }
     ensures len { IfOk result (λ v. length v.items ≡ length tails.now + 1) }
@@ -88,10 +92,16 @@ pub fn grow(alloc: Global, tails: &[Tail], forms: &mut [Form]) -> Result<(), All
     ensures same { OnOk result (map end_of_form forms.new ≡ map end_of_form forms.old) }
     ensures enough { OnOk result (AreEnough tails.now forms.new) }
 {
+    let mut passes = 0;
     loop {
         let places = places(alloc, tails, forms)?;
         if !grow_once(tails, &places, forms) {
             return Ok(());
+        }
+        if passes < PASSES {
+            passes += 1;
+        } else {
+            settle(alloc, tails, forms)?;
         }
     }
 }

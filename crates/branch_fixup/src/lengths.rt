@@ -1,5 +1,5 @@
 // How long forms are, and how far they reach.
-ghost use Rattle.std.specs.Prelude.{◌≡◌, ◌+◌, ◌<◌, ◌^◌, IfSome};
+ghost use Rattle.std.specs.Prelude.{◌≡◌, ◌+◌, ◌<◌, ◌≤◌, ◌^◌, IfSome};
 ghost use Rattle.branch_fixup.specs.Pieces.{bytes_of_size, length_in};
 ghost use Rattle.branch_fixup.specs.Reach.{reaches};
 ghost use Rattle.branch_fixup.specs.Growth.{half_of, longer};
@@ -33,8 +33,8 @@ pub fn length_in(len: u8, form: Form) -> u8
 
 /// Whether a branch or jump reaches from one address to another. The sign bit of its distance is worth `half`.
 pub fn reaches(half: u64, from: u64, to: u64) -> bool
-    requires from_low { from < 2 ^ 63 }
-    requires to_low { to < 2 ^ 63 }
+    requires from_low { from + 2 ^ 32 ≤ 2 ^ 64 }
+    requires to_low { to + 2 ^ 32 ≤ 2 ^ 64 }
     requires half_low { half < 2 ^ 32 }
     ensures { result ≡ reaches half from to }
 {

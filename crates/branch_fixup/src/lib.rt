@@ -8,6 +8,7 @@ pub mod fixup;
 pub mod growth;
 pub mod lengths;
 pub mod lookup;
+pub mod settling;
 pub mod spans;
 
 pub use fixup::forms;

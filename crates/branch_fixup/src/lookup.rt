@@ -1,7 +1,8 @@
 // Where an address of the input is in a plan.
 ghost use Rattle.std.specs.Prelude.{◌≡◌, ◌≢◌, ◌<◌, ◌≤◌, ℕ, IfOk, All, AllPairs, length, map, slice_index, slice_index_or};
 ghost use Rattle.rv_code.specs.layout.FunctionLists.{AreLaidOut};
-ghost use Rattle.branch_fixup.specs.BlockInsts.{IsBlockIn, start_of};
+ghost use Rattle.rv_code.specs.layout.InFunctions.{IsOfFunction};
+ghost use Rattle.branch_fixup.specs.BlockInsts.{start_of};
 ghost use Rattle.branch_fixup.specs.Lookup.{ArePlaces, Finds};
 
 use crate::block_insts::{insts_of, start_of};
@@ -11,7 +12,7 @@ use std::alloc::{AllocError, Global};
 /// Where each block begins, in the order of the list.
 pub fn block_starts(alloc: Global, funcs: &[Func], blocks: &[Block]) -> Result<Vec<u64>, AllocError>
     requires laid { AreLaidOut funcs.now }
-    requires each { All (IsBlockIn funcs.now) blocks.now }
+    requires each { All (IsOfFunction funcs.now) blocks.now }
     ensures { IfOk result (λ starts. starts.items ≡ map (start_of funcs.now) blocks.now) }
 {
     let mut starts = Vec::new(alloc);

@@ -24,7 +24,7 @@ use Rattle.branch_fixup.specs.Pieces.{Piece, end_from, laid_from, length_in, len
 use Rattle.branch_fixup.specs.Reach.{AllLand, added_leap, goal, lands, main_leap}
 use Rattle.branch_fixup.specs.Strips.{Strip, pieces_of, spans_of, strips_of}
 use Rattle.branch_fixup.proofs.Falls.{below_limit, code_at}
-use Rattle.branch_fixup.proofs.Follows.{laid_func}
+use Rattle.rv_code.proofs.lists.Follows.{laid_func}
 use Rattle.branch_fixup.proofs.Laid.{AreOnce, PlacedFrom, inside, once_each, placed_from}
 use Rattle.branch_fixup.proofs.Lists.{Contains-cons_cases, Contains-there, at_contains, at_flat, contains_at, flat_at}
 use Rattle.branch_fixup.proofs.Placed.{are_strips, strips_once}

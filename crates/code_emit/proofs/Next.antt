@@ -14,7 +14,7 @@ use Rattle.sym_machine.specs.Rules.{next_in, next_of}
 use Rattle.move_law.proofs.code.InstLists.{found_at}
 use Rattle.branch_fixup.specs.Endings.{fall_of}
 use Rattle.branch_fixup.proofs.Falls.{below_limit, code_next, falls_in, falls_nowhere}
-use Rattle.branch_fixup.proofs.Follows.{follow_next, inst_once, laid_func}
+use Rattle.rv_code.proofs.lists.Follows.{follow_next, inst_once, laid_func}
 use Rattle.branch_fixup.proofs.Lists.{there}
 
 -- `next` of a rewrite with these functions

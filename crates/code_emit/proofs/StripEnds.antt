@@ -101,5 +101,15 @@ strips_end r (s ∷ ss) (f ∷ fs) h flow =
     let i = flow.0 in
     inner_end r s.whole s.inner s.last f (pieces_of ss fs) i.inner
     (rw (first_strip ss fs h.2)
-    (record { whole = s.whole; alone = is_alone s.inner; fall = s.fall; fall_is = i.fall_is; falls = i.falls; end = i.end; small_goal = i.small_goal; small_fall = i.small_fall; table = h.0 }))
+    (record {
+      whole = s.whole;
+      alone = is_alone s.inner;
+      fall = s.fall;
+      fall_is = i.fall_is;
+      falls = i.falls;
+      end = i.end;
+      small_goal = i.small_goal;
+      small_fall = i.small_fall;
+      table = h.0;
+    }))
     (strips_end r ss fs h.2 flow.1)

@@ -15,8 +15,8 @@ use Rattle.branch_fixup.proofs.Made.{IsGiven, IsMade, is_made, seam, start_given
 use Rattle.branch_fixup.proofs.Map.{is_stretch}
 use Rattle.branch_fixup.proofs.fixup.forms.Goals as goal
 
-pub grow-requires-clause-tails : goal.grow-requires-clause-tails
-grow-requires-clause-tails c =
+pub grow-requires : goal.grow-requires
+grow-requires c =
     let q = c.requires in
     let funcs = c.args.funcs.now in
     let blocks = c.args.blocks.now in
@@ -32,29 +32,13 @@ grow-requires-clause-tails c =
       some = q.some;
       room = q.room;
     } in
-    tails_given funcs blocks order base g c.as_slice-order.result.now c.in_ok-tails.tails.items c.deref.result.now
-    c.in_ok-tails.forms.items c.as_slice-order.ensures.value c.deref.ensures.value c.in_ok-tails.ensures
-
-pub grow-requires-clause-sound : goal.grow-requires-clause-sound
-grow-requires-clause-sound c =
-    let q = c.requires in
-    let funcs = c.args.funcs.now in
-    let blocks = c.args.blocks.now in
-    let order = c.args.plan.now.order.items in
-    let base = c.args.base in
-    let g : IsGiven funcs blocks order base = record {
-      laid = q.laid;
-      direct = q.direct;
-      blocks_of = q.blocks;
-      perm = q.order;
-      near = q.near;
-      even = q.even;
-      some = q.some;
-      room = q.room;
-    } in
-    start_given funcs blocks order base g c.as_slice-order.result.now c.in_ok-tails.tails.items c.deref.result.now
-    c.in_ok-tails.forms.items c.deref_mut.result.now c.as_slice-order.ensures.value c.deref.ensures.value
-    c.deref_mut.ensures.value c.in_ok-tails.ensures
+    record {
+      tails = tails_given funcs blocks order base g c.as_slice-order.result.now c.in_ok-tails.tails.items c.deref.result.now
+          c.in_ok-tails.forms.items c.as_slice-order.ensures.value c.deref.ensures.value c.in_ok-tails.ensures;
+      sound = start_given funcs blocks order base g c.as_slice-order.result.now c.in_ok-tails.tails.items c.deref.result.now
+          c.in_ok-tails.forms.items c.deref_mut.result.now c.as_slice-order.ensures.value c.deref.ensures.value
+          c.deref_mut.ensures.value c.in_ok-tails.ensures;
+    }
 
 pub spans-requires-clause-low : goal.spans-requires-clause-low
 spans-requires-clause-low c =
@@ -94,38 +78,8 @@ spans-requires-clause-low c =
     let low = q.room in
     omega (arith, end, within, low)
 
-pub returns-clause-forms : goal.returns-clause-forms
-returns-clause-forms c =
-    let q = c.requires in
-    let funcs = c.args.funcs.now in
-    let blocks = c.args.blocks.now in
-    let order = c.args.plan.now.order.items in
-    let base = c.args.base in
-    let fs = c.grow.new.forms in
-    let g : IsGiven funcs blocks order base = record {
-      laid = q.laid;
-      direct = q.direct;
-      blocks_of = q.blocks;
-      perm = q.order;
-      near = q.near;
-      even = q.even;
-      some = q.some;
-      room = q.room;
-    } in
-    let m : IsMade funcs blocks order base fs = is_made funcs blocks order base g c.as_slice-order.result.now
-    c.in_ok-tails.tails.items c.deref.result.now c.in_ok-tails.forms.items c.deref_mut.result.now fs
-    c.as_slice-order.ensures.value c.deref.ensures.value c.deref_mut.ensures.value c.in_ok-tails.ensures
-    c.in_ok-grow.ensures.sound c.in_ok-grow.ensures.same c.in_ok-grow.ensures.enough in
-    let count = m.count in
-    let old = c.in_ok-tails.ensures.forms in
-    let slice = ap length c.as_slice-order.ensures.value in
-    let n : length fs ≡ c.in_ok-tails.forms.len = omega (arith, count, old, slice) in
-    let e : take c.in_ok-tails.forms.len (fs ++ drop (length fs) c.in_ok-tails.forms.items) ≡ fs =
-    seam c.in_ok-tails.forms.len fs (drop (length fs) c.in_ok-tails.forms.items) n in
-    subst (λ (l : List Form). AreForms (strips_of funcs blocks order) base l) (sym e) m.forms
-
-pub returns-clause-map : goal.returns-clause-map
-returns-clause-map c =
+pub returns : goal.returns
+returns c =
     let q = c.requires in
     let funcs = c.args.funcs.now in
     let blocks = c.args.blocks.now in
@@ -156,108 +110,18 @@ returns-clause-map c =
     let s : c.in_ok-spans.spans.items ≡ spans_of (strips_of funcs blocks order) base fs =
     c.in_ok-spans.ensures ∙ ap (λ (o : List ℕ). spans_of (strips_of funcs blocks o) base c.deref-2.result.now)
     c.as_slice-order.ensures.value ∙ ap (λ (l : List Form). spans_of (strips_of funcs blocks order) base l) d in
-    subst (λ (l : List Span). (roles : List (ℕ × Role)) (cells : List CodeCell) (entry : ℕ) →
-    AreBlocks (code_of funcs roles cells entry) blocks → IsMap (λ a. IsTrue (is_code_address funcs a))
-    (IsNamed (code_of funcs roles cells entry)) l) (sym s) m.map
-
-pub returns-clause-stretch : goal.returns-clause-stretch
-returns-clause-stretch c =
-    let q = c.requires in
-    let funcs = c.args.funcs.now in
-    let blocks = c.args.blocks.now in
-    let order = c.args.plan.now.order.items in
-    let base = c.args.base in
-    let fs = c.grow.new.forms in
-    let g : IsGiven funcs blocks order base = record {
-      laid = q.laid;
-      direct = q.direct;
-      blocks_of = q.blocks;
-      perm = q.order;
-      near = q.near;
-      even = q.even;
-      some = q.some;
-      room = q.room;
-    } in
-    let m : IsMade funcs blocks order base fs = is_made funcs blocks order base g c.as_slice-order.result.now
-    c.in_ok-tails.tails.items c.deref.result.now c.in_ok-tails.forms.items c.deref_mut.result.now fs
-    c.as_slice-order.ensures.value c.deref.ensures.value c.deref_mut.ensures.value c.in_ok-tails.ensures
-    c.in_ok-grow.ensures.sound c.in_ok-grow.ensures.same c.in_ok-grow.ensures.enough in
-    let count = m.count in
-    let old = c.in_ok-tails.ensures.forms in
-    let slice = ap length c.as_slice-order.ensures.value in
-    let n : length fs ≡ c.in_ok-tails.forms.len = omega (arith, count, old, slice) in
-    let e : take c.in_ok-tails.forms.len (fs ++ drop (length fs) c.in_ok-tails.forms.items) ≡ fs =
-    seam c.in_ok-tails.forms.len fs (drop (length fs) c.in_ok-tails.forms.items) n in
-    let d : c.deref-2.result.now ≡ fs = c.deref-2.ensures.value ∙ e in
-    let s : c.in_ok-spans.spans.items ≡ spans_of (strips_of funcs blocks order) base fs =
-    c.in_ok-spans.ensures ∙ ap (λ (o : List ℕ). spans_of (strips_of funcs blocks o) base c.deref-2.result.now)
-    c.as_slice-order.ensures.value ∙ ap (λ (l : List Form). spans_of (strips_of funcs blocks order) base l) d in
-    subst (λ (l : List Form). IsStretch c.in_ok-spans.spans.items base (end_of (strips_of funcs blocks order) base l)) (sym e)
-    (subst (λ (l : List Span). IsStretch l base (end_of (strips_of funcs blocks order) base fs)) (sym s)
-    (is_stretch base (pieces_of (strips_of funcs blocks order) fs)))
-
-pub returns-clause-room : goal.returns-clause-room
-returns-clause-room c =
-    let q = c.requires in
-    let funcs = c.args.funcs.now in
-    let blocks = c.args.blocks.now in
-    let order = c.args.plan.now.order.items in
-    let base = c.args.base in
-    let fs = c.grow.new.forms in
-    let g : IsGiven funcs blocks order base = record {
-      laid = q.laid;
-      direct = q.direct;
-      blocks_of = q.blocks;
-      perm = q.order;
-      near = q.near;
-      even = q.even;
-      some = q.some;
-      room = q.room;
-    } in
-    let m : IsMade funcs blocks order base fs = is_made funcs blocks order base g c.as_slice-order.result.now
-    c.in_ok-tails.tails.items c.deref.result.now c.in_ok-tails.forms.items c.deref_mut.result.now fs
-    c.as_slice-order.ensures.value c.deref.ensures.value c.deref_mut.ensures.value c.in_ok-tails.ensures
-    c.in_ok-grow.ensures.sound c.in_ok-grow.ensures.same c.in_ok-grow.ensures.enough in
-    let count = m.count in
-    let old = c.in_ok-tails.ensures.forms in
-    let slice = ap length c.as_slice-order.ensures.value in
-    let n : length fs ≡ c.in_ok-tails.forms.len = omega (arith, count, old, slice) in
-    let e : take c.in_ok-tails.forms.len (fs ++ drop (length fs) c.in_ok-tails.forms.items) ≡ fs =
-    seam c.in_ok-tails.forms.len fs (drop (length fs) c.in_ok-tails.forms.items) n in
     let end = ap (end_of (strips_of funcs blocks order) base) e in
     let within = m.room in
-    omega (arith, end, within)
-
-pub returns-clause-short : goal.returns-clause-short
-returns-clause-short c =
-    let q = c.requires in
-    let funcs = c.args.funcs.now in
-    let blocks = c.args.blocks.now in
-    let order = c.args.plan.now.order.items in
-    let base = c.args.base in
-    let fs = c.grow.new.forms in
-    let g : IsGiven funcs blocks order base = record {
-      laid = q.laid;
-      direct = q.direct;
-      blocks_of = q.blocks;
-      perm = q.order;
-      near = q.near;
-      even = q.even;
-      some = q.some;
-      room = q.room;
-    } in
-    let m : IsMade funcs blocks order base fs = is_made funcs blocks order base g c.as_slice-order.result.now
-    c.in_ok-tails.tails.items c.deref.result.now c.in_ok-tails.forms.items c.deref_mut.result.now fs
-    c.as_slice-order.ensures.value c.deref.ensures.value c.deref_mut.ensures.value c.in_ok-tails.ensures
-    c.in_ok-grow.ensures.sound c.in_ok-grow.ensures.same c.in_ok-grow.ensures.enough in
-    let count = m.count in
-    let old = c.in_ok-tails.ensures.forms in
-    let slice = ap length c.as_slice-order.ensures.value in
-    let n : length fs ≡ c.in_ok-tails.forms.len = omega (arith, count, old, slice) in
-    let e : take c.in_ok-tails.forms.len (fs ++ drop (length fs) c.in_ok-tails.forms.items) ≡ fs =
-    seam c.in_ok-tails.forms.len fs (drop (length fs) c.in_ok-tails.forms.items) n in
-    let d : c.deref-2.result.now ≡ fs = c.deref-2.ensures.value ∙ e in
-    let s : c.in_ok-spans.spans.items ≡ spans_of (strips_of funcs blocks order) base fs =
-    c.in_ok-spans.ensures ∙ ap (λ (o : List ℕ). spans_of (strips_of funcs blocks o) base c.deref-2.result.now)
-    c.as_slice-order.ensures.value ∙ ap (λ (l : List Form). spans_of (strips_of funcs blocks order) base l) d in
-    subst (λ (l : List Span). All (λ s. s.len ≤ 12) l) (sym s) m.short
+    record {
+      forms = subst (λ (l : List Form). AreForms (strips_of funcs blocks order) base l) (sym e) m.forms;
+      spans = s ∙ ap (spans_of (strips_of funcs blocks order) base) (sym e);
+      map = subst (λ (l : List Span). (roles : List (ℕ × Role)) (cells : List CodeCell) (entry : ℕ) →
+          AreBlocks (code_of funcs roles cells entry) blocks → IsMap (λ a. IsTrue (is_code_address funcs a))
+          (IsNamed (code_of funcs roles cells entry)) l) (sym s) m.map;
+      stretch = subst (λ (l : List Form).
+          IsStretch c.in_ok-spans.spans.items base (end_of (strips_of funcs blocks order) base l)) (sym e)
+          (subst (λ (l : List Span). IsStretch l base (end_of (strips_of funcs blocks order) base fs)) (sym s)
+          (is_stretch base (pieces_of (strips_of funcs blocks order) fs)));
+      room = omega (arith, end, within);
+      short = subst (λ (l : List Span). All (λ s. s.len ≤ 12) l) (sym s) m.short;
+    }

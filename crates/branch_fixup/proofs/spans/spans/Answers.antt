@@ -7,7 +7,7 @@ use Rattle.branch_fixup.specs.Inputs.{code_of}
 use Rattle.branch_fixup.specs.Pieces.{laid_from, end_from}
 use Rattle.branch_fixup.specs.Strips.{strips_of, pieces_of, pieces_of_strip}
 use Rattle.branch_fixup.proofs.Appended.{end_append, laid_append, pieces_more, pieces_part, pieces_all}
-use Rattle.branch_fixup.proofs.Follows.{some_length}
+use Rattle.rv_code.proofs.lists.Follows.{some_length}
 use Rattle.branch_fixup.proofs.Holders.{last_there}
 use Rattle.branch_fixup.proofs.Planned.{planned, planned_length, strip_length}
 use Rattle.branch_fixup.proofs.spans.spans.Goals as goal

@@ -48,5 +48,9 @@ pub returns : goal.returns
 returns c = record {
   adds = on_ok c.put_piece.result
       (λ more. one_more
-      (new c.args.moved.now) c.args.at c.in_ok-last_at.last_at c.args.code.now.items c.put_inner.new.code.items c.put_piece.new.code.items (map as_it_is c.args.block.now.inner.now) (record { placed = c.args.block.now.last; form = c.args.form }) c.in_ok-last_at.ensures.end c.in_ok-last_at.ensures.adds more) c.put_piece.ensures.ok;
+      (new c.args.moved.now) c.args.at c.in_ok-last_at.last_at c.args.code.now.items c.put_inner.new.code.items
+      c.put_piece.new.code.items (map as_it_is c.args.block.now.inner.now) (record {
+        placed = c.args.block.now.last;
+        form = c.args.form;
+      }) c.in_ok-last_at.ensures.end c.in_ok-last_at.ensures.adds more) c.put_piece.ensures.ok;
 }

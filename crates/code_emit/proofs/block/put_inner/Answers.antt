@@ -32,6 +32,8 @@ overflow_add-at c =
 
 pub loop-inst-preserved : goal.loop-inst-preserved
 loop-inst-preserved c = (
-  inner_more (new c.args.moved.now) c.args.at c.loop-inst.at c.args.code.now.items c.loop-inst.code.items c.put_piece.new.code.items c.args.insts.now c.loop-inst.inst-index no_inst (omega arith) c.loop-inst.invariant.1 c.loop-inst.invariant.0 c.in_ok-put_piece.ensures.ok,
+  inner_more (new c.args.moved.now) c.args.at c.loop-inst.at c.args.code.now.items c.loop-inst.code.items
+      c.put_piece.new.code.items c.args.insts.now c.loop-inst.inst-index no_inst
+      (omega arith) c.loop-inst.invariant.1 c.loop-inst.invariant.0 c.in_ok-put_piece.ensures.ok,
   end_more c.args.at c.loop-inst.at c.args.insts.now c.loop-inst.inst-index no_inst (omega arith) c.loop-inst.invariant.1,
 )

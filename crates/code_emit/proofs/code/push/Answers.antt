@@ -9,7 +9,8 @@ returns-in-Some-Half c =
     record {
       ok = on_ok c.push_half.result
           (λ is. subst
-          (λ (x : List ℕ). Adds c.args.code.now.items x (record { inst = c.args.inst.now; bytes = bytes c.args.want } ∷ [])) (sym is)
+          (λ (x : List ℕ). Adds c.args.code.now.items x
+          (record { inst = c.args.inst.now; bytes = bytes c.args.want } ∷ [])) (sym is)
           (half_wanted c.args.code.now.items c.in-Some-Half.half c.args.inst.now c.args.want
           (rw c.in-Some-Half.field-0-is at c.in-Some-Half.ensures.found)
           (rw c.in-Some-Half.field-0-is at c.in-Some-Half.ensures.width))) c.push_half.ensures.ok;

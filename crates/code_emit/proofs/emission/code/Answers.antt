@@ -11,7 +11,8 @@ put_block-requires-clause-can c =
     let q = c.requires in
     let g : IsGiven c.args.funcs.now c.args.blocks.now c.args.order.now c.args.forms.now c.args.moved.now =
     record { laid = q.laid; direct = q.direct; blocks_of = q.blocks; perm = q.order; insts = q.insts; mapped = q.mapped } in
-    block_stands c.args.funcs.now c.args.blocks.now c.args.order.now c.args.forms.now c.args.moved.now g q.mapped.base q.mapped.mapped c.loop-k.k (seen c.planned-block.result) c.planned-block.ensures (omega arith)
+    block_stands c.args.funcs.now c.args.blocks.now c.args.order.now c.args.forms.now c.args.moved.now g q.mapped.base
+    q.mapped.mapped c.loop-k.k (seen c.planned-block.result) c.planned-block.ensures (omega arith)
     c.new_of-at.result (c.new_of-at.ensures ∙ ap (new c.args.moved.now) c.start_of.ensures)
 
 pub put_block-requires-clause-lows : goal.put_block-requires-clause-lows
@@ -26,7 +27,8 @@ put_block-requires-clause-low c =
     let q = c.requires in
     let g : IsGiven c.args.funcs.now c.args.blocks.now c.args.order.now c.args.forms.now c.args.moved.now =
     record { laid = q.laid; direct = q.direct; blocks_of = q.blocks; perm = q.order; insts = q.insts; mapped = q.mapped } in
-    block_low c.args.funcs.now c.args.blocks.now c.args.order.now c.args.forms.now c.args.moved.now g q.mapped.base q.mapped.mapped c.loop-k.k (seen c.planned-block.result) c.planned-block.ensures (omega arith)
+    block_low c.args.funcs.now c.args.blocks.now c.args.order.now c.args.forms.now c.args.moved.now g q.mapped.base
+    q.mapped.mapped c.loop-k.k (seen c.planned-block.result) c.planned-block.ensures (omega arith)
     c.new_of-at.result (c.new_of-at.ensures ∙ ap (new c.args.moved.now) c.start_of.ensures)
 
 pub put_block-requires-clause-targets : goal.put_block-requires-clause-targets
@@ -45,7 +47,8 @@ loop-k-preserved c =
     let q = c.requires in
     let g : IsGiven c.args.funcs.now c.args.blocks.now c.args.order.now c.args.forms.now c.args.moved.now =
     record { laid = q.laid; direct = q.direct; blocks_of = q.blocks; perm = q.order; insts = q.insts; mapped = q.mapped } in
-    λ base m. one_more c.args.funcs.now c.args.blocks.now c.args.order.now c.args.forms.now c.args.moved.now g base m c.loop-k.k (seen c.planned-block.result) c.planned-block.ensures (omega arith)
+    λ base m. one_more c.args.funcs.now c.args.blocks.now c.args.order.now c.args.forms.now c.args.moved.now g base m c.loop-k.k
+    (seen c.planned-block.result) c.planned-block.ensures (omega arith)
     c.loop-k.code.items c.put_block.new.code.items c.new_of-at.result
     (c.new_of-at.ensures ∙ ap (new c.args.moved.now) c.start_of.ensures)
     (c.loop-k.invariant base m) c.in_ok-put_block.ensures.adds
@@ -55,4 +58,5 @@ returns c =
     let q = c.requires in
     let g : IsGiven c.args.funcs.now c.args.blocks.now c.args.order.now c.args.forms.now c.args.moved.now =
     record { laid = q.laid; direct = q.direct; blocks_of = q.blocks; perm = q.order; insts = q.insts; mapped = q.mapped } in
-    λ base m. whole c.args.funcs.now c.args.blocks.now c.args.order.now c.args.forms.now c.args.moved.now g base m c.loop-k.k c.loop-k.code.items (omega arith) (c.loop-k.invariant base m)
+    λ base m. whole c.args.funcs.now c.args.blocks.now c.args.order.now c.args.forms.now c.args.moved.now g base m c.loop-k.k
+    c.loop-k.code.items (omega arith) (c.loop-k.invariant base m)
