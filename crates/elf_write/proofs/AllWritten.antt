@@ -16,7 +16,9 @@ use Rattle.elf_write.proofs.FromMade.{written}
 use Rattle.elf_write.proofs.SoundFiles.{load_once, code-there, code-load}
 use Rattle.elf_write.proofs.Tightness.{is-tight, starts-above}
 
-module _ (s : Source) (above : Bool) (w : List ℕ) (read : IsElfOf s.elf.file.now s.elf) (sound : IsSound s.elf.file.now) (bytes : All (λ b. b < 256) s.elf.file.now) (can : All (CanHold s.elf) s.cells) (apart : AllPairs AreApart s.cells) (made : IsMade s above w) (sound_w : IsSound w) where
+module _ (s : Source) (above : Bool) (w : List ℕ) (read : IsElfOf s.elf.file.now s.elf) (sound : IsSound s.elf.file.now)
+    (bytes : All (λ b. b < 256) s.elf.file.now) (can : All (CanHold s.elf) s.cells) (apart : AllPairs AreApart s.cells)
+    (made : IsMade s above w) (sound_w : IsSound w) where
   ps : List Segment
   ps = s.elf.segments.items
 
@@ -26,15 +28,19 @@ module _ (s : Source) (above : Bool) (w : List ℕ) (read : IsElfOf s.elf.file.n
   higher : area_start s.elf.segments.items < area_above s.elf.segments.items
   higher =
       starts-above s.elf.segments.items made.layout.code made.laid_out.executable made.laid_out.found
-      (subst (λ (xs : List Segment). Contains xs made.laid_out.executable) (sym read.segments) (code-there s.elf.file.now sound made.layout.code made.laid_out.executable found-file))
+      (subst (λ (xs : List Segment). Contains xs made.laid_out.executable) (sym read.segments)
+      (code-there s.elf.file.now sound made.layout.code made.laid_out.executable found-file))
       (code-load s.elf.file.now sound made.layout.code made.laid_out.executable found-file)
 
-  pub all-written : above ≡ is_none (owner s.spans (area_start s.elf.segments.items)) → (tight : Bool) → IsPlaced s tight → IsWritten s tight w
+  pub all-written : above ≡ is_none (owner s.spans (area_start s.elf.segments.items)) → (tight : Bool) →
+      IsPlaced s tight → IsWritten s tight w
   all-written is tight placed =
       let same : above ≡ tight = is ∙ is-tight s higher tight placed in
       let made_so : IsMade s tight w = subst (λ (t : Bool). IsMade s t w) same made in
-      written s tight w read sound can apart made_so placed sound_w (image-is s tight w read sound bytes made_so (load_once w sound_w))
+      written s tight w read sound can apart made_so placed sound_w
+      (image-is s tight w read sound bytes made_so (load_once w sound_w))
 
   -- the area stands where the map says
-  pub placed-there : above ≡ is_none (owner s.spans (area_start s.elf.segments.items)) → (tight : Bool) → IsPlaced s tight → above ≡ tight
+  pub placed-there : above ≡ is_none (owner s.spans (area_start s.elf.segments.items)) → (tight : Bool) →
+      IsPlaced s tight → above ≡ tight
   placed-there is tight placed = is ∙ is-tight s higher tight placed

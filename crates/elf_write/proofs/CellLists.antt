@@ -8,7 +8,9 @@ use Rattle.elf_parts.specs.declared.number_at.NumberAt.{NumberAt}
 use Rattle.elf_write.specs.declared.area.Shift.{Shift}
 use Rattle.elf_write.specs.CellNumbers.{AreCellNumbers, IsCellNumber}
 
-pub AreCellNumbers-more : (elf : Elf) (shift : Shift) (cs : List (ℕ × ℕ × ℕ)) (ns : List NumberAt) (m : ℕ) (n : NumberAt) → m < length cs → AreCellNumbers elf shift (take m cs) ns → ((c : ℕ × ℕ × ℕ) → IsCellNumber elf shift (get_or cs m c) n) → AreCellNumbers elf shift (take (m + 1) cs) (ns ++ n ∷ [])
+pub AreCellNumbers-more : (elf : Elf) (shift : Shift) (cs : List (ℕ × ℕ × ℕ)) (ns : List NumberAt) (m : ℕ) (n : NumberAt) →
+    m < length cs → AreCellNumbers elf shift (take m cs) ns → ((c : ℕ × ℕ × ℕ) → IsCellNumber elf shift (get_or cs m c) n) →
+    AreCellNumbers elf shift (take (m + 1) cs) (ns ++ n ∷ [])
 AreCellNumbers-more elf shift cs ns m n below are here = record {
   count = omega (arith, length-append ns (n ∷ []), long, more);
   each = λ i c e low. cases i c e (omega (arith, more)) (cases_lt i m);
@@ -23,15 +25,21 @@ AreCellNumbers-more elf shift cs ns m n below are here = record {
     more : length (take (m + 1) cs) ≡ m + 1
     more = grind (arith, common_steps)
 
-    cases : (i : ℕ) (c : ℕ × ℕ × ℕ) (e : NumberAt) → i < m + 1 → (i < m) ⊎ (m ≤ i) → IsCellNumber elf shift (get_or (take (m + 1) cs) i c) (get_or (ns ++ n ∷ []) i e)
+    cases : (i : ℕ) (c : ℕ × ℕ × ℕ) (e : NumberAt) → i < m + 1 → (i < m) ⊎ (m ≤ i) →
+        IsCellNumber elf shift (get_or (take (m + 1) cs) i c) (get_or (ns ++ n ∷ []) i e)
     cases i c e under (inl low) =
         let old : IsCellNumber elf shift (get_or (take m cs) i c) (get_or ns i e) = are.each i c e (omega (arith, short)) in
-        let c_is : get_or (take m cs) i c ≡ get_or (take (m + 1) cs) i c = get_or-take m cs i c low ∙ sym (get_or-take (m + 1) cs i c (omega arith)) in
+        let c_is : get_or (take m cs) i c ≡ get_or (take (m + 1) cs) i c =
+        get_or-take m cs i c low ∙ sym (get_or-take (m + 1) cs i c (omega arith)) in
         let n_is : get_or ns i e ≡ get_or (ns ++ n ∷ []) i e = sym (get_or_append_left ns (n ∷ []) e i (omega (arith, long))) in
-        subst (λ (x : NumberAt). IsCellNumber elf shift (get_or (take (m + 1) cs) i c) x) n_is (subst (λ (x : ℕ × ℕ × ℕ). IsCellNumber elf shift x (get_or ns i e)) c_is old)
+        subst (λ (x : NumberAt). IsCellNumber elf shift (get_or (take (m + 1) cs) i c) x) n_is
+        (subst (λ (x : ℕ × ℕ × ℕ). IsCellNumber elf shift x (get_or ns i e)) c_is old)
     cases i c e under (inr high) =
         let at : i ≡ m = omega arith in
         let zero_more : i - m ≡ 0 = omega arith in
-        let c_is : get_or cs m c ≡ get_or (take (m + 1) cs) i c = ap (λ (k : ℕ). get_or cs k c) (sym at) ∙ sym (get_or-take (m + 1) cs i c under) in
-        let n_is : n ≡ get_or (ns ++ n ∷ []) i e = sym (get_or-append_right ns (n ∷ []) m i e long high ∙ ap (λ (k : ℕ). get_or (n ∷ []) k e) zero_more) in
-        subst (λ (x : NumberAt). IsCellNumber elf shift (get_or (take (m + 1) cs) i c) x) n_is (subst (λ (x : ℕ × ℕ × ℕ). IsCellNumber elf shift x n) c_is (here c))
+        let c_is : get_or cs m c ≡ get_or (take (m + 1) cs) i c =
+        ap (λ (k : ℕ). get_or cs k c) (sym at) ∙ sym (get_or-take (m + 1) cs i c under) in
+        let n_is : n ≡ get_or (ns ++ n ∷ []) i e =
+        sym (get_or-append_right ns (n ∷ []) m i e long high ∙ ap (λ (k : ℕ). get_or (n ∷ []) k e) zero_more) in
+        subst (λ (x : NumberAt). IsCellNumber elf shift (get_or (take (m + 1) cs) i c) x) n_is
+        (subst (λ (x : ℕ × ℕ × ℕ). IsCellNumber elf shift x n) c_is (here c))

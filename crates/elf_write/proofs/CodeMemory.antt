@@ -31,7 +31,9 @@ area-some s tight placed =
     let index = table_end-above 4 (table_end 8 (source_area s tight).code_end s.frames) s.index (omega arith) in
     omega arith
 
-pub code-memory : (s : Source) (code : ℕ) (p : Segment) → executable_segment s.elf.segments.items ≡ Some (code, p) → code < length s.elf.segments.items → ((d : Segment) → get_or s.elf.segments.items code d ≡ p) → IsTrue (is_load p) → IsPlaced s false → 0 < p.memsz
+pub code-memory : (s : Source) (code : ℕ) (p : Segment) → executable_segment s.elf.segments.items ≡ Some (code, p) →
+    code < length s.elf.segments.items → ((d : Segment) → get_or s.elf.segments.items code d ≡ p) → IsTrue (is_load p) →
+    IsPlaced s false → 0 < p.memsz
 code-memory s code p found inside is load placed = cases (cases_lt 0 p.memsz)
   where
     ps : List Segment
@@ -45,7 +47,10 @@ code-memory s code p found inside is load placed = cases (cases_lt 0 p.memsz)
 
     -- without memory it stands at the limit of its own room
     limit : p.memsz ≤ 0 → area_limit ps ≤ area_start ps
-    limit none = let below = limit-below (code_end ps) ps address_end code p inside (subst (λ (q : Segment). IsTrue (is_load q)) (sym (is p)) load) (subst (λ (q : Segment). code_end ps ≤ q.vaddr) (sym (is p)) (omega (arith, end-is, none))) in
+    limit none =
+        let below =
+        limit-below (code_end ps) ps address_end code p inside (subst (λ (q : Segment). IsTrue (is_load q)) (sym (is p)) load)
+        (subst (λ (q : Segment). code_end ps ≤ q.vaddr) (sym (is p)) (omega (arith, end-is, none))) in
         let low : area_limit ps ≤ p.vaddr = subst (λ (q : Segment). area_limit ps ≤ q.vaddr) (is p) below in
         omega (arith, low, end-is, from)
 

@@ -1,10 +1,11 @@
--- The new code of a written file is in memory, where it may be executed and not written.
-use Rattle.std.proofs.Common.{◌≡◌, ◌∙◌, sym, ap, subst, refl, ℕ, zero, suc, ◌+◌, ◌*◌, ◌≤◌, ◌<◌, ◌⊎◌, inl, inr, List, Option, Bool, true, false, IsTrue, length, map, get_or, arith}
-use Rattle.std.specs.Prelude.{All, Contains, ◌||◌}
+-- The new area stands in a written file, and its code in memory, where it may be executed and not written.
+use Rattle.std.proofs.Common.{◌≡◌, ◌∙◌, sym, ap, subst, refl, ℕ, zero, suc, ◌+◌, ◌-◌, ◌*◌, ◌≤◌, ◌<◌, ◌⊎◌, inl, inr, List, Option, Some, None, String, Vec, Bool, true, false, IsTrue, length, map, get_or, arith}
+use Rattle.std.specs.Prelude.{All, Any, Contains, IfSome, codes, ◌||◌}
 use Rattle.std.specs.List.{list_any}
 use Rattle.std.specs.Option.{option_map_or}
 use Rattle.std.proofs.lemmas.Bool.{cases_lt, le-ltb}
 use Rattle.std.proofs.lemmas.List.{get_or-map, length-map}
+use Rattle.std.proofs.lemmas.List.Folds.{Any-from_list_any}
 use Rattle.byteorder.specs.Endian.{little_bytes}
 use Rattle.byteorder.specs.Numbers.{length-bytes_low_first}
 use Rattle.elf_image.specs.declared.segment.Segment.{Segment}
@@ -22,29 +23,46 @@ use Rattle.elf_parts.specs.Spelled.{segment_table}
 use Rattle.elf_parts.proofs.Patches.{stands-front, stands-put_all}
 use Rattle.elf_parts.proofs.Spelled.{length-segment_table}
 use Rattle.elf_write.specs.declared.area.Area.{Area}
-use Rattle.elf_write.specs.Area.{moved_by, offset_in}
+use Rattle.elf_write.specs.Area.{moved_by, offset_in, table_end, table_start}
+use Rattle.elf_write.specs.AreaTables.{AreaStands, HasTables}
 use Rattle.elf_write.specs.Carried.{HoldsBytes}
 use Rattle.elf_write.specs.CellNumbers.{IsCellNumber}
 use Rattle.elf_write.specs.Made.{IsMade, is_kept_table, table_of}
+use Rattle.elf_write.specs.NewSections.{bytes_called}
 use Rattle.elf_write.specs.Source.{Source, IsPlaced, source_area}
+use Rattle.elf_write.proofs.CodeMemory.{table_end-above}
 use Rattle.elf_write.proofs.CellPlaces.{CellPlace, stands_at, cell-place}
 use Rattle.elf_write.proofs.FileEnds.{ends-below}
 use Rattle.elf_write.proofs.Images.{segment_of-once, holds-stands}
 use Rattle.elf_write.proofs.LaidOut.{stretch-beside}
-use Rattle.elf_write.proofs.Loads.{moved-before, moved-behind}
+use Rattle.elf_write.proofs.Loads.{moved-before}
 use Rattle.elf_write.proofs.MadeHeaders.{joined, with_cells, headers, written-is, cells-within, headers-within, fields-in_header, segments-written}
-use Rattle.elf_write.proofs.MadeInput.{moved-none, tight-is, by-tight, parts-behind, keep-behind}
+use Rattle.elf_write.proofs.MadeInput.{code-inside, moved-none, tight-is, by-tight, parts-behind, keep-behind}
 use Rattle.elf_write.proofs.MadeSegments.{HoldsArea, holds-area, count-more, area-holds_code, starts-above, starts-behind}
-use Rattle.elf_write.proofs.PlacesWritten.{table-end, table-behind, count-same}
+use Rattle.elf_write.proofs.PlacesWritten.{table-end, count-same}
+use Rattle.elf_write.proofs.SameBreak.{rounded_up-above}
+use Rattle.elf_write.proofs.TableKept.{LoadsRange, loads-range}
 
 -- a part of bytes that stand
-stands-part : (file : List ℕ) (o : ℕ) (bytes part : List ℕ) → Stands file o bytes → Stands bytes 0 part → Stands file o part
-stands-part file o bytes part outer inner = record {
+stands-part : (file : List ℕ) (o i : ℕ) (bytes part : List ℕ) → Stands file o bytes → Stands bytes i part →
+    Stands file (o + i) part
+stands-part file o i bytes part outer inner = record {
   within = let a = outer.within in let b = inner.within in omega arith;
-  same = λ j below. let b = inner.within in let here : j ≡ 0 + j = omega arith in outer.same j (omega arith) ∙ ap (λ (k : ℕ). get_or bytes k 0) here ∙ inner.same j below;
+  same = λ j below.
+      let b = inner.within in
+      let here : o + i + j ≡ o + (i + j) = omega arith in
+      ap (λ (k : ℕ). get_or file k 0) here ∙ outer.same (i + j) (omega arith) ∙ inner.same j below;
 }
 
-module _ (s : Source) (tight : Bool) (w : List ℕ) (read : IsElfOf s.elf.file.now s.elf) (sound : IsSound s.elf.file.now) (made : IsMade s tight w) (placed : IsPlaced s tight) (cells-some : (i : ℕ) (c : ℕ × ℕ × ℕ) → i < length s.cells → 0 < (get_or s.cells i c).1) where
+-- a table that starts behind an end starts behind all before that
+starts-at : (align start end : ℕ) (size : Option ℕ) → 0 < align → start ≤ end →
+    IfSome (table_start align end size) (λ a. start ≤ a)
+starts-at align start end None some low = tt
+starts-at align start end (Some size) some low = let up = rounded_up-above align end some in omega (arith, low, up)
+
+module _ (s : Source) (tight : Bool) (w : List ℕ) (read : IsElfOf s.elf.file.now s.elf) (sound : IsSound s.elf.file.now)
+    (made : IsMade s tight w) (placed : IsPlaced s tight)
+    (cells-some : (i : ℕ) (c : ℕ × ℕ × ℕ) → i < length s.cells → 0 < (get_or s.cells i c).1) where
   abbrev ps : List Segment
   ps = s.elf.segments.items
 
@@ -56,9 +74,6 @@ module _ (s : Source) (tight : Bool) (w : List ℕ) (read : IsElfOf s.elf.file.n
 
   abbrev size : ℕ
   size = length made.layout.bytes.items
-
-  code-size : length s.code ≤ size
-  code-size = let within = made.laid_out.starts_with.within in omega arith
 
   -- where it stands in the file
   area-place : area_at ≡ offset_in area area.start
@@ -75,17 +90,14 @@ module _ (s : Source) (tight : Bool) (w : List ℕ) (read : IsElfOf s.elf.file.n
   behind = made.laid_out.can.behind
 
   -- what lies beside it
-  abbrev IsBesideCode : ℕ → ℕ → Type 0
-  IsBesideCode o n = (o + n ≤ area_at) ⊎ (area_at + length s.code ≤ o)
+  abbrev IsBesideArea : ℕ → ℕ → Type 0
+  IsBesideArea o n = (o + n ≤ area_at) ⊎ (area_at + size ≤ o)
 
-  cell-beside : (p : Segment) (o n : ℕ) → Contains ps p → IsTrue (is_load p) → 0 < n → p.offset ≤ o → o + n ≤ p.offset + p.filesz → IsBesideCode (moved_by made.layout.shift.from made.layout.shift.by o) n
+  cell-beside : (p : Segment) (o n : ℕ) → Contains ps p → IsTrue (is_load p) → 0 < n → p.offset ≤ o →
+      o + n ≤ p.offset + p.filesz → IsBesideArea (moved_by made.layout.shift.from made.layout.shift.by o) n
   cell-beside p o n there load some from within = cases tight refl
     where
-      whole : (moved_by made.layout.shift.from made.layout.shift.by o + n ≤ area_at) ⊎ (area_at + size ≤ moved_by made.layout.shift.from made.layout.shift.by o) → IsBesideCode (moved_by made.layout.shift.from made.layout.shift.by o) n
-      whole (inl before) = inl before
-      whole (inr past) = let fits = code-size in inr (omega (arith, fits, past))
-
-      cases : (b : Bool) → tight ≡ b → IsBesideCode (moved_by made.layout.shift.from made.layout.shift.by o) n
+      cases : (b : Bool) → tight ≡ b → IsBesideArea (moved_by made.layout.shift.from made.layout.shift.by o) n
       cases true e =
           let stays = moved-none made.layout.shift.from made.layout.shift.by o (by-tight s tight w read sound made e) in
           let ends = ends-below ps p there load (omega arith) in
@@ -94,19 +106,21 @@ module _ (s : Source) (tight : Bool) (w : List ℕ) (read : IsElfOf s.elf.file.n
           inl (omega (arith, stays, ends, keeps, high))
       cases false e =
           let keep = keep-behind s tight w read sound made e in
-          whole
-          (subst (λ (k : ℕ). (moved_by k made.layout.shift.by o + n ≤ area_at) ⊎ (area_at + size ≤ moved_by k made.layout.shift.by o)) keep
-          (stretch-beside made.layout.parts ps made.layout.shift.by (length s.elf.file.now) size (parts-behind s tight w read sound made e) made.laid_out.can p o n there load some from within))
+          subst (λ (k : ℕ). (moved_by k made.layout.shift.by o + n ≤ area_at)
+          ⊎ (area_at + size ≤ moved_by k made.layout.shift.by o)) keep
+          (stretch-beside made.layout.parts ps made.layout.shift.by (length s.elf.file.now) size
+          (parts-behind s tight w read sound made e) made.laid_out.can p o n there load some from within)
 
   abbrev IsApart : Patch → Type 0
-  IsApart p = (p.offset + length p.bytes ≤ area_at) ⊎ (area_at + length s.code ≤ p.offset)
+  IsApart p = (p.offset + length p.bytes ≤ area_at) ⊎ (area_at + size ≤ p.offset)
 
   cells-beside : All IsApart (map patch_of made.cells)
   cells-beside i e below =
       subst IsApart (sym (get_or-map patch_of made.cells i none e inside))
-      (subst (λ (n : ℕ). (number.offset + n ≤ area_at) ⊎ (area_at + length s.code ≤ number.offset)) (sym wide)
-      (subst (λ (o : ℕ). IsBesideCode o (cell).1) (sym place.offset)
-      (cell-beside place.segment (stands_at place) (cell).1 place.there place.load (cells-some i none_cell in_cells) (omega arith) (let within = place.in_file in omega arith))))
+      (subst (λ (n : ℕ). (number.offset + n ≤ area_at) ⊎ (area_at + size ≤ number.offset)) (sym wide)
+      (subst (λ (o : ℕ). IsBesideArea o (cell).1) (sym place.offset)
+      (cell-beside place.segment (stands_at place) (cell).1 place.there place.load (cells-some i none_cell in_cells) (omega arith)
+      (let within = place.in_file in omega arith))))
     where
       none : NumberAt
       none = record { offset = 0; width = 0; value = 0 }
@@ -145,7 +159,7 @@ module _ (s : Source) (tight : Bool) (w : List ℕ) (read : IsElfOf s.elf.file.n
   table-size : length (segment_table made.segments) ≡ PHDR_SIZE * length made.segments
   table-size = length-segment_table made.segments
 
-  table-above : tight ≡ true → IsBesideCode made.table_at (length (segment_table made.segments))
+  table-above : tight ≡ true → IsBesideArea made.table_at (length (segment_table made.segments))
   table-above e =
       let at = made.table_place.above (tight-is s tight w read sound made ∙ e) in
       let count = count-more s tight w made e in
@@ -154,21 +168,21 @@ module _ (s : Source) (tight : Bool) (w : List ℕ) (read : IsElfOf s.elf.file.n
       let place = area-place in
       inl (omega (arith, at, count, long, starts, place))
 
-  code-in_area : tight ≡ false → area_at + length s.code ≤ offset_in area area.end
-  code-in_area e =
-      let place = area-place in
-      let starts = starts-behind s tight w made read sound e in
-      let holds = area-holds_code s tight w made read sound in
-      omega (arith, place, starts, holds)
+  -- bytes that a segment loads whole
+  loaded-beside : (p : Segment) (start n : ℕ) → Contains ps p → 0 < n → LoadsRange start n p →
+      IsBesideArea (moved_by made.layout.shift.from made.layout.shift.by start) n
+  loaded-beside p start n there some loads = cell-beside p start n there loads.load some loads.from loads.in_file
 
-  table-kept : (e : tight ≡ false) → (b : Bool) → is_kept_table s.elf made.layout.shift ≡ b → (s.elf.phoff < made.layout.shift.from) ⊎ (made.layout.shift.from ≤ s.elf.phoff) → IsBesideCode made.table_at (length (segment_table made.segments))
+  table-kept : (e : tight ≡ false) → (b : Bool) → is_kept_table s.elf made.layout.shift ≡ b →
+      (s.elf.phoff < made.layout.shift.from) ⊎ (made.layout.shift.from ≤ s.elf.phoff) →
+      IsBesideArea made.table_at (length (segment_table made.segments))
   table-kept e false kept order =
       let added = made.table_place.added (tight-is s tight w read sound made ∙ e) kept in
       let past = behind in
-      let fits = code-size in
-      inr (omega (arith, added, past, fits))
+      inr (omega (arith, added, past))
   table-kept e true kept (inl low) =
-      let at = made.table_place.kept (tight-is s tight w read sound made ∙ e) kept ∙ moved-before made.layout.shift.from made.layout.shift.by s.elf.phoff low in
+      let at = made.table_place.kept (tight-is s tight w read sound made ∙ e) kept
+      ∙ moved-before made.layout.shift.from made.layout.shift.by s.elf.phoff low in
       let ends = table-end s tight w read sound made placed e low in
       let long = table-size in
       let count = count-same s tight w read sound made placed e in
@@ -176,16 +190,23 @@ module _ (s : Source) (tight : Bool) (w : List ℕ) (read : IsElfOf s.elf.file.n
       let high = front in
       inl (omega (arith, at, ends, long, count, keep, high))
   table-kept e true kept (inr beyond) =
-      let at = made.table_place.kept (tight-is s tight w read sound made ∙ e) kept ∙ moved-behind made.layout.shift.from made.layout.shift.by s.elf.phoff beyond in
-      let found : list_any (loads_range (table_of s.elf)) ps ≡ true = ap (λ (b : Bool). b || list_any (loads_range (table_of s.elf)) ps) (sym (le-ltb s.elf.phoff made.layout.shift.from beyond)) ∙ kept in
-      let past = table-behind s tight w read sound made placed e beyond found in
-      let within = code-in_area e in
-      inr (omega (arith, at, past, within))
+      let found : list_any (loads_range (table_of s.elf)) ps ≡ true = ap (λ (b : Bool). b
+      || list_any (loads_range (table_of s.elf)) ps) (sym (le-ltb s.elf.phoff made.layout.shift.from beyond)) ∙ kept in
+      let any : Any (λ p. loads_range (table_of s.elf) p ≡ true) ps = Any-from_list_any (loads_range (table_of s.elf)) ps found in
+      let at : made.table_at ≡ moved_by made.layout.shift.from made.layout.shift.by s.elf.phoff =
+      made.table_place.kept (tight-is s tight w read sound made ∙ e) kept in
+      let long : length (segment_table made.segments) ≡ PHDR_SIZE * length ps =
+      table-size ∙ ap (λ (n : ℕ). PHDR_SIZE * n) (sym (count-same s tight w read sound made placed e)) in
+      let code = code-inside s tight w read sound made in
+      subst (λ (o : ℕ). IsBesideArea o (length (segment_table made.segments))) (sym at)
+      (subst (IsBesideArea (moved_by made.layout.shift.from made.layout.shift.by s.elf.phoff)) (sym long)
+      (loaded-beside any.1 s.elf.phoff (PHDR_SIZE * length ps) (any.0, any.2, any.3) (omega (arith, code))
+      (loads-range s.elf.phoff (PHDR_SIZE * length ps) any.1 any.4)))
 
-  table-beside : IsBesideCode made.table_at (length (segment_table made.segments))
+  table-beside : IsBesideArea made.table_at (length (segment_table made.segments))
   table-beside = cases tight refl
     where
-      cases : (b : Bool) → tight ≡ b → IsBesideCode made.table_at (length (segment_table made.segments))
+      cases : (b : Bool) → tight ≡ b → IsBesideArea made.table_at (length (segment_table made.segments))
       cases true e = table-above e
       cases false e = table-kept e (is_kept_table s.elf made.layout.shift) refl (cases_lt s.elf.phoff made.layout.shift.from)
 
@@ -197,20 +218,14 @@ module _ (s : Source) (tight : Bool) (w : List ℕ) (read : IsElfOf s.elf.file.n
       let high = front in
       inl (omega (arith, in_header, low, high))
 
-  code-stands : Stands w area_at s.code
-  code-stands =
-      subst (λ (xs : List ℕ). Stands xs area_at s.code) (sym (written-is s tight w made))
-      (stands-put_all (headers s tight w made) (with_cells s tight w made) area_at s.code (headers-within s tight w made) headers-beside
-      (stands-put_all (map patch_of made.cells) (joined s tight w made) area_at s.code (cells-within s tight w made) cells-beside
-      (stands-front made.put.assembled.base made.tail area_at s.code
-      (stands-part made.put.assembled.base area_at made.layout.bytes.items s.code made.put.assembled.joined.middle made.laid_out.starts_with))))
-
-  -- The segment that holds it.
-  holds : HoldsArea area made.segments
-  holds = holds-area s tight w made read sound
-
-  there : Contains (segments_of w) holds.segment
-  there = subst (λ (xs : List Segment). Contains xs holds.segment) (sym (segments-written s tight w made)) holds.there
+  area-stands : Stands w area_at made.layout.bytes.items
+  area-stands =
+      subst (λ (xs : List ℕ). Stands xs area_at made.layout.bytes.items) (sym (written-is s tight w made))
+      (stands-put_all (headers s tight w made) (with_cells s tight w made) area_at made.layout.bytes.items
+      (headers-within s tight w made) headers-beside
+      (stands-put_all (map patch_of made.cells) (joined s tight w made) area_at made.layout.bytes.items
+      (cells-within s tight w made) cells-beside
+      (stands-front made.put.assembled.base made.tail area_at made.layout.bytes.items made.put.assembled.joined.middle)))
 
   starts : area.address ≤ area.start
   starts = cases tight refl
@@ -218,6 +233,64 @@ module _ (s : Source) (tight : Bool) (w : List ℕ) (read : IsElfOf s.elf.file.n
       cases : (b : Bool) → tight ≡ b → area.address ≤ area.start
       cases true e = let above = starts-above s tight w made read sound e in omega (arith, above)
       cases false e = starts-behind s tight w made read sound e
+
+  -- what stands among its bytes
+  part-stands : (a : ℕ) (part : List ℕ) → area.start ≤ a → Stands made.layout.bytes.items (a - area.start) part →
+      Stands w (offset_in area a) part
+  part-stands a part from inner =
+      let place = area-place in
+      let low = starts in
+      let here : area_at + (a - area.start) ≡ offset_in area a = omega (arith, place, low, from) in
+      subst (λ (o : ℕ). Stands w o part) here
+      (stands-part w area_at (a - area.start) made.layout.bytes.items part area-stands inner)
+
+  code-stands : Stands w area_at s.code
+  code-stands =
+      let here : area_at + 0 ≡ area_at = omega arith in
+      subst (λ (o : ℕ). Stands w o s.code) here
+      (stands-part w area_at 0 made.layout.bytes.items s.code area-stands made.laid_out.starts_with)
+
+  -- the tables behind the code
+  code-ends : (source_area s tight).start ≤ (source_area s tight).code_end
+  code-ends = let end : (source_area s tight).start + length s.code ≡ (source_area s tight).code_end = refl in omega (arith, end)
+
+  frames-behind : IfSome area.frames (λ a. area.start ≤ a)
+  frames-behind =
+      subst (λ (x : Area). IfSome x.frames (λ a. x.start ≤ a)) (sym made.laid_out.area)
+      (starts-at 8 (source_area s tight).start (source_area s tight).code_end s.frames (omega arith) code-ends)
+
+  index-behind : IfSome area.index (λ a. area.start ≤ a)
+  index-behind =
+      let low = code-ends in
+      let frames = table_end-above 8 (source_area s tight).code_end s.frames (omega arith) in
+      subst (λ (x : Area). IfSome x.index (λ a. x.start ≤ a)) (sym made.laid_out.area)
+      (starts-at 4 (source_area s tight).start (table_end 8 (source_area s tight).code_end s.frames) s.index (omega arith)
+      (omega (arith, low, frames)))
+
+  table-stands : (place : Option ℕ) (table : List ℕ) → IfSome place (λ a. area.start ≤ a) →
+      IfSome place (λ a. Stands made.layout.bytes.items (a - area.start) table) →
+      IfSome place (λ a. Stands w (offset_in area a) table)
+  table-stands None table low stands = tt
+  table-stands (Some a) table low stands = part-stands a table low stands
+
+  -- all of it
+  pub area-written : {Y Z : Type 0} (tables : List (String Y × Vec ℕ Z)) → HasTables tables made.layout →
+      AreaStands (source_area s tight) tables s.code w
+  area-written tables has =
+      let place = area-place in
+      subst (λ (x : Area). AreaStands x tables s.code w) made.laid_out.area
+      (record {
+        text = subst (λ (o : ℕ). Stands w o s.code) place code-stands;
+        frames = table-stands area.frames (bytes_called tables (codes ".eh_frame")) frames-behind has.frames;
+        index = table-stands area.index (bytes_called tables (codes ".eh_frame_hdr")) index-behind has.index;
+      })
+
+  -- The segment that holds it.
+  holds : HoldsArea area made.segments
+  holds = holds-area s tight w made read sound
+
+  there : Contains (segments_of w) holds.segment
+  there = subst (λ (xs : List Segment). Contains xs holds.segment) (sym (segments-written s tight w made)) holds.there
 
   start-is : area.start ≡ (source_area s tight).start
   start-is = ap (λ (a : Area). a.start) made.laid_out.area
@@ -232,10 +305,13 @@ module _ (s : Source) (tight : Bool) (w : List ℕ) (read : IsElfOf s.elf.file.n
       let place = area-place in
       let fits = area-holds_code s tight w made read sound in
       subst (λ (a : ℕ). HoldsBytes w (segments_of w) a s.code) start-is
-      (holds-stands w (segments_of w) holds.segment area.start area_at s.code once there holds.load (omega (arith, address, from)) (omega (arith, address, offset, place))
+      (holds-stands w (segments_of w) holds.segment area.start area_at s.code once there holds.load (omega (arith, address, from))
+      (omega (arith, address, offset, place))
       (omega (arith, address, end, fits, from)) (omega (arith, whole)) code-stands)
 
-  pub executable-written : LoadOnce (segments_of w) → (i : ℕ) → i < length s.code → (is_loaded_with PF_X (segments_of w) ((source_area s tight).start + i) ≡ true) × (is_loaded_with PF_W (segments_of w) ((source_area s tight).start + i) ≡ false)
+  pub executable-written : LoadOnce (segments_of w) → (i : ℕ) → i < length s.code →
+      (is_loaded_with PF_X (segments_of w) ((source_area s tight).start + i) ≡ true)
+      × (is_loaded_with PF_W (segments_of w) ((source_area s tight).start + i) ≡ false)
   executable-written once i below = (right PF_X ∙ holds.executes, right PF_W ∙ holds.unwritten)
     where
       a : ℕ
@@ -249,7 +325,9 @@ module _ (s : Source) (tight : Bool) (w : List ℕ) (read : IsElfOf s.elf.file.n
           let from = starts in
           let fits = area-holds_code s tight w made read sound in
           let at = start-is in
-          loads-from_parts a holds.segment holds.load (omega (arith, address, from, at)) (omega (arith, address, end, whole, fits, from, at, below))
+          loads-from_parts a holds.segment holds.load (omega (arith, address, from, at))
+          (omega (arith, address, end, whole, fits, from, at, below))
 
       right : (flag : ℕ) → is_loaded_with flag (segments_of w) a ≡ has_flag flag holds.segment
-      right flag = ap (λ (o : Option Segment). option_map_or (has_flag flag) o false) (segment_of-once (segments_of w) a holds.segment once there loads)
+      right flag = ap (λ (o : Option Segment). option_map_or (has_flag flag) o false)
+          (segment_of-once (segments_of w) a holds.segment once there loads)

@@ -32,9 +32,12 @@ module _ (s : Source) (tight : Bool) (w : List ℕ) (made : IsMade s tight w) wh
   entry-stands : Stands w 0x18 (little_bytes 8 made.fields.entry)
   entry-stands =
       subst (λ (xs : List ℕ). Stands xs 0x18 (little_bytes 8 made.fields.entry)) (sym (written-is s tight w made))
-      (stands-each (headers s tight w made) (with_cells s tight w made) (headers-within s tight w made) (headers-apart s tight w made) 1 (record { offset = 0; bytes = little_bytes 0 0 }) (omega arith))
+      (stands-each (headers s tight w made) (with_cells s tight w made) (headers-within s tight w made)
+      (headers-apart s tight w made) 1 (record { offset = 0; bytes = little_bytes 0 0 }) (omega arith))
 
-  module _ (read : IsElfOf s.elf.file.now s.elf) (sound : IsSound s.elf.file.now) (new : AreNewLoads made.layout.shift.from made.layout.shift.by s.elf.segments.items made.segments) (once : LoadOnce (segments_of w)) where
+  module _ (read : IsElfOf s.elf.file.now s.elf) (sound : IsSound s.elf.file.now)
+      (new : AreNewLoads made.layout.shift.from made.layout.shift.by s.elf.segments.items made.segments)
+      (once : LoadOnce (segments_of w)) where
     -- the file's header stays where it is
     header-stays : (b : Bool) → tight ≡ b → moved_by made.layout.shift.from made.layout.shift.by 0x18 ≡ 0x18
     header-stays true e = moved-none made.layout.shift.from made.layout.shift.by 0x18 (by-tight s tight w read sound made e)
@@ -43,24 +46,31 @@ module _ (s : Source) (tight : Bool) (w : List ℕ) (made : IsMade s tight w) wh
         let high : 64 ≤ made.layout.parts.keep = made.laid_out.header in
         moved-before made.layout.shift.from made.layout.shift.by 0x18 (omega (arith, keep, high))
 
-    held : (p : Segment) → Contains s.elf.segments.items p → LoadsRange 0x18 8 p → number_in (memory_of w) (address_in e_entry_field p) 8 ≡ Some made.fields.entry
+    held : (p : Segment) → Contains s.elf.segments.items p → LoadsRange 0x18 8 p →
+        number_in (memory_of w) (address_in e_entry_field p) 8 ≡ Some made.fields.entry
     held p there loads =
         let to = new p there loads.load in
         let from : p.offset ≤ 0x18 = loads.from in
         let in_file : 0x18 + 8 ≤ p.offset + p.filesz = loads.in_file in
         let in_memory : 0x18 + 8 ≤ p.offset + p.memsz = loads.in_memory in
         let place : 0x18 ≡ p.offset + ((p.vaddr + (0x18 - p.offset)) - p.vaddr) = omega (arith, from) in
-        let stands : Stands w (moved_by made.layout.shift.from made.layout.shift.by (p.offset + ((p.vaddr + (0x18 - p.offset)) - p.vaddr))) (little_bytes 8 made.fields.entry) =
-        subst (λ (k : ℕ). Stands w (moved_by made.layout.shift.from made.layout.shift.by k) (little_bytes 8 made.fields.entry)) place
+        let stands : Stands w (moved_by made.layout.shift.from made.layout.shift.by
+        (p.offset + ((p.vaddr + (0x18 - p.offset)) - p.vaddr))) (little_bytes 8 made.fields.entry) =
+        subst
+        (λ (k : ℕ). Stands w (moved_by made.layout.shift.from made.layout.shift.by k) (little_bytes 8 made.fields.entry)) place
         (subst (λ (k : ℕ). Stands w k (little_bytes 8 made.fields.entry)) (sym (header-stays tight refl)) entry-stands) in
-        number-held w (segments_of w) made.layout.shift.from made.layout.shift.by p to.0 (p.vaddr + (0x18 - p.offset)) 8 made.fields.entry once
-        (subst (λ (xs : List Segment). Contains xs to.0) (sym (segments-written s tight w made)) to.1) to.2 loads.load (crosses s tight w read sound made p there)
-        (omega arith) (omega (arith, from, in_file)) (omega (arith, from, in_memory)) (omega arith) (entry-fits s tight w made) stands
+        number-held w (segments_of w) made.layout.shift.from made.layout.shift.by p to.0
+        (p.vaddr + (0x18 - p.offset)) 8 made.fields.entry once
+        (subst (λ (xs : List Segment). Contains xs to.0) (sym (segments-written s tight w made)) to.1) to.2 loads.load
+        (crosses s tight w read sound made p there)
+        (omega arith) (omega (arith, from, in_file)) (omega (arith, from, in_memory)) (omega arith)
+        (entry-fits s tight w made) stands
 
     pub entry_field-written : IfSome (address_of s.elf e_entry_field) (λ a. number_in (memory_of w) a 8 ≡ Some (e_entry w))
     entry_field-written = cases (find (loads_range e_entry_field) s.elf.segments.items) refl
       where
-        cases : (o : Option Segment) → find (loads_range e_entry_field) s.elf.segments.items ≡ o → IfSome (option_map (address_in e_entry_field) o) (λ a. number_in (memory_of w) a 8 ≡ Some (e_entry w))
+        cases : (o : Option Segment) → find (loads_range e_entry_field) s.elf.segments.items ≡ o →
+            IfSome (option_map (address_in e_entry_field) o) (λ a. number_in (memory_of w) a 8 ≡ Some (e_entry w))
         cases None e = tt
         cases (Some p) e =
             let found = find-found (loads_range e_entry_field) s.elf.segments.items p e in

@@ -17,7 +17,9 @@ use Rattle.elf_write.proofs.MadeHeaders.{headers-written}
 use Rattle.elf_write.proofs.PlacesWritten.{places-written}
 use Rattle.elf_write.proofs.SoundFiles.{load_once}
 
-pub written : (s : Source) (tight : Bool) (w : List ℕ) → IsElfOf s.elf.file.now s.elf → IsSound s.elf.file.now → All (CanHold s.elf) s.cells → AllPairs AreApart s.cells → IsMade s tight w → IsPlaced s tight → IsSound w → CarriesImage s.elf.file.now w (is_changed s tight) s.elf.segments.items (segments_of w) → IsWritten s tight w
+pub written : (s : Source) (tight : Bool) (w : List ℕ) → IsElfOf s.elf.file.now s.elf → IsSound s.elf.file.now →
+    All (CanHold s.elf) s.cells → AllPairs AreApart s.cells → IsMade s tight w → IsPlaced s tight → IsSound w →
+    CarriesImage s.elf.file.now w (is_changed s tight) s.elf.segments.items (segments_of w) → IsWritten s tight w
 written s tight w read sound can apart made placed sound_w image = record {
   image = image;
   code = code-written s tight w read sound made placed some once;

@@ -19,7 +19,8 @@ use Rattle.elf_write.proofs.CodeMemory.{table_end-above}
 use Rattle.elf_write.proofs.SameBreak.{rounded_up-above}
 use Rattle.elf_write.proofs.SoundFiles.{code-at, code-whole}
 
-module _ (elf : Elf) (tight : Bool) (code : List ℕ) (frames index : Option ℕ) (layout : Layout) (read : IsElfOf elf.file.now elf) (sound : IsSound elf.file.now) (laid : IsLaidOut elf tight code frames index layout) where
+module _ (elf : Elf) (tight : Bool) (code : List ℕ) (frames index : Option ℕ) (layout : Layout) (read : IsElfOf elf.file.now elf)
+    (sound : IsSound elf.file.now) (laid : IsLaidOut elf tight code frames index layout) where
   abbrev ps : List Segment
   ps = elf.segments.items
 
@@ -30,7 +31,8 @@ module _ (elf : Elf) (tight : Bool) (code : List ℕ) (frames index : Option ℕ
   found-file = ap executable_segment (sym read.segments) ∙ laid.found
 
   code-is : (d : Segment) → get_or ps layout.code d ≡ p
-  code-is d = subst (λ (xs : List Segment). get_or xs layout.code d ≡ p) (sym read.segments) (code-at elf.file.now sound layout.code p found-file d)
+  code-is d = subst (λ (xs : List Segment). get_or xs layout.code d ≡ p) (sym read.segments)
+      (code-at elf.file.now sound layout.code p found-file d)
 
   code_segment-is : code_segment ps ≡ p
   code_segment-is = ap (λ (o : Option (ℕ × Segment)). option_map_or (λ e. e.1) o no_segment) laid.found
@@ -41,7 +43,8 @@ module _ (elf : Elf) (tight : Bool) (code : List ℕ) (frames index : Option ℕ
   -- the area ends behind its code
   ends : start_of ps tight ≤ layout.area.end
   ends =
-      let e : layout.area.end ≡ table_end 4 (table_end 8 (start_of ps tight + length code) frames) index = ap (λ (a : Area). a.end) laid.area in
+      let e : layout.area.end ≡ table_end 4 (table_end 8 (start_of ps tight + length code) frames) index =
+      ap (λ (a : Area). a.end) laid.area in
       let first = table_end-above 8 (start_of ps tight + length code) frames (omega arith) in
       let second = table_end-above 4 (table_end 8 (start_of ps tight + length code) frames) index (omega arith) in
       omega (arith, e, first, second)
@@ -60,7 +63,8 @@ module _ (elf : Elf) (tight : Bool) (code : List ℕ) (frames index : Option ℕ
   can-grow not_tight d below =
       let e : tight ≡ false = sym tight-is ∙ not_tight in
       let end = subst (λ (t : Bool). start_of ps t ≤ layout.area.end) e ends in
-      let from : layout.shift.from ≡ p.offset + p.filesz = ap (λ x. x.from) laid.shift ∙ ap (λ (q : Segment). q.offset + q.filesz) code_segment-is in
+      let from : layout.shift.from ≡ p.offset + p.filesz =
+      ap (λ x. x.from) laid.shift ∙ ap (λ (q : Segment). q.offset + q.filesz) code_segment-is in
       let same : p.filesz ≡ p.memsz = whole in
       let high = begins in
       subst (CanGrow layout.shift.from layout.area.end) (sym (code-is d))

@@ -43,18 +43,22 @@ any-left p xs ys e = list_any-append p xs ys ∙ or-left (list_any p xs) (list_a
 any-right : {X : Type 0} (p : X → Bool) (xs ys : List X) → list_any p ys ≡ true → list_any p (xs ++ ys) ≡ true
 any-right p xs ys e = list_any-append p xs ys ∙ or-right (list_any p xs) (list_any p ys) e
 
-any-flat_map : {X Y : Type 0} (p : Y → Bool) (f : X → List Y) (xs : List X) (x : X) → Contains xs x → list_any p (f x) ≡ true → list_any p (flat_map f xs) ≡ true
+any-flat_map : {X Y : Type 0} (p : Y → Bool) (f : X → List Y) (xs : List X) (x : X) → Contains xs x → list_any p (f x) ≡ true →
+    list_any p (flat_map f xs) ≡ true
 any-flat_map p f [] x (i, below, is) e = absurd (omega arith)
 any-flat_map {X} p f (y ∷ ys) x there e = cases (Contains-cons_cases y ys x there) (λ later. any-flat_map p f ys x later e)
   where
-    cases : (y ≡ x) ⊎ Contains ys x → (Contains ys x → list_any p (flat_map f ys) ≡ true) → list_any p (flat_map f (y ∷ ys)) ≡ true
+    cases : (y ≡ x) ⊎ Contains ys x → (Contains ys x → list_any p (flat_map f ys) ≡ true) →
+        list_any p (flat_map f (y ∷ ys)) ≡ true
     cases (inl here) rest = any-left p (f y) (flat_map f ys) (ap (λ (z : X). list_any p (f z)) here ∙ e)
     cases (inr later) rest = any-right p (f y) (flat_map f ys) (rest later)
 
 in-range : (k start size : ℕ) → start ≤ k → k < start + size → is_in_range k (record { start = start; size = size }) ≡ true
-in-range k start size from below = and_from (nat_le start k) (nat_lt k (start + size)) (le-leb start k from) (lt-ltb k (start + size) below)
+in-range k start size from below =
+    and_from (nat_le start k) (nat_lt k (start + size)) (le-leb start k from) (lt-ltb k (start + size) below)
 
-any-only : (k : ℕ) (test : Bool) (r : Range) → test ≡ true → is_in_range k r ≡ true → list_any (is_in_range k) (only test r) ≡ true
+any-only : (k : ℕ) (test : Bool) (r : Range) → test ≡ true → is_in_range k r ≡ true →
+    list_any (is_in_range k) (only test r) ≡ true
 any-only k test r e inside = rw e (or-left (is_in_range k r) false inside)
 
 -- Fields of the file's header.
@@ -72,21 +76,26 @@ module _ (elf : Elf) (tight : Bool) where
   abbrev segment_fields : List Range
   segment_fields = flat_map (hidden_in_segment elf) (enumerate_from 0 elf.segments.items)
 
-  in-sections : (k : ℕ) → list_any (is_in_range k) section_fields ≡ true → list_any (is_in_range k) (hidden_fields elf tight) ≡ true
+  in-sections : (k : ℕ) → list_any (is_in_range k) section_fields ≡ true →
+      list_any (is_in_range k) (hidden_fields elf tight) ≡ true
   in-sections k e =
       any-left (is_in_range k) (section_fields ++ phoff_fields ++ phnum_fields ++ entry_fields) segment_fields
       (any-left (is_in_range k) (section_fields ++ phoff_fields ++ phnum_fields) entry_fields
-      (any-left (is_in_range k) (section_fields ++ phoff_fields) phnum_fields (any-left (is_in_range k) section_fields phoff_fields e)))
+      (any-left (is_in_range k) (section_fields ++ phoff_fields) phnum_fields
+      (any-left (is_in_range k) section_fields phoff_fields e)))
 
   pub hides-e_shoff : (k : ℕ) → 0x28 ≤ k → k < 0x30 → list_any (is_in_range k) (hidden_fields elf tight) ≡ true
-  hides-e_shoff k from below = in-sections k (or-left (is_in_range k (record { start = 0x28; size = 8 })) _ (in-range k 0x28 8 from below))
+  hides-e_shoff k from below =
+      in-sections k (or-left (is_in_range k (record { start = 0x28; size = 8 })) _ (in-range k 0x28 8 from below))
 
   pub hides-e_shnum : (k : ℕ) → 0x3c ≤ k → k < 0x3e → list_any (is_in_range k) (hidden_fields elf tight) ≡ true
   hides-e_shnum k from below =
       in-sections k
-      (or-right (is_in_range k (record { start = 0x28; size = 8 })) _ (or-left (is_in_range k (record { start = 0x3c; size = 2 })) _ (in-range k 0x3c 2 from below)))
+      (or-right (is_in_range k (record { start = 0x28; size = 8 })) _
+      (or-left (is_in_range k (record { start = 0x3c; size = 2 })) _ (in-range k 0x3c 2 from below)))
 
-  pub hides-e_phoff : (k : ℕ) → 0x20 ≤ k → k < 0x28 → (tight || nat_le (executable_end elf.segments.items) elf.phoff) ≡ true → list_any (is_in_range k) (hidden_fields elf tight) ≡ true
+  pub hides-e_phoff : (k : ℕ) → 0x20 ≤ k → k < 0x28 → (tight || nat_le (executable_end elf.segments.items) elf.phoff) ≡ true →
+      list_any (is_in_range k) (hidden_fields elf tight) ≡ true
   hides-e_phoff k from below moves =
       any-left (is_in_range k) (section_fields ++ phoff_fields ++ phnum_fields ++ entry_fields) segment_fields
       (any-left (is_in_range k) (section_fields ++ phoff_fields ++ phnum_fields) entry_fields
@@ -97,19 +106,24 @@ module _ (elf : Elf) (tight : Bool) where
   hides-e_phnum k from below moves =
       any-left (is_in_range k) (section_fields ++ phoff_fields ++ phnum_fields ++ entry_fields) segment_fields
       (any-left (is_in_range k) (section_fields ++ phoff_fields ++ phnum_fields) entry_fields
-      (any-right (is_in_range k) (section_fields ++ phoff_fields) phnum_fields (any-only k _ e_phnum_field moves (in-range k 0x38 2 from below))))
+      (any-right (is_in_range k) (section_fields ++ phoff_fields) phnum_fields
+      (any-only k _ e_phnum_field moves (in-range k 0x38 2 from below))))
 
-  pub hides-e_entry : (k : ℕ) → 0x18 ≤ k → k < 0x20 → address_of elf e_entry_field ≡ None → list_any (is_in_range k) (hidden_fields elf tight) ≡ true
+  pub hides-e_entry : (k : ℕ) → 0x18 ≤ k → k < 0x20 → address_of elf e_entry_field ≡ None →
+      list_any (is_in_range k) (hidden_fields elf tight) ≡ true
   hides-e_entry k from below none =
       any-left (is_in_range k) (section_fields ++ phoff_fields ++ phnum_fields ++ entry_fields) segment_fields
       (any-right (is_in_range k) (section_fields ++ phoff_fields ++ phnum_fields) entry_fields
       (any-only k _ e_entry_field (ap (λ (o : Option ℕ). is_none o) none) (in-range k 0x18 8 from below)))
 
   -- those of a program header
-  hides-segment : (k i : ℕ) → i < length elf.segments.items → ((d : Segment) → list_any (is_in_range k) (hidden_in_segment elf (i, get_or elf.segments.items i d)) ≡ true) → list_any (is_in_range k) (hidden_fields elf tight) ≡ true
+  hides-segment : (k i : ℕ) → i < length elf.segments.items →
+      ((d : Segment) → list_any (is_in_range k) (hidden_in_segment elf (i, get_or elf.segments.items i d)) ≡ true) →
+      list_any (is_in_range k) (hidden_fields elf tight) ≡ true
   hides-segment k i below inside =
       any-right (is_in_range k) (section_fields ++ phoff_fields ++ phnum_fields ++ entry_fields) segment_fields
-      (any-flat_map (is_in_range k) (hidden_in_segment elf) (enumerate_from 0 elf.segments.items) x there (subst (λ (y : ℕ × Segment). list_any (is_in_range k) (hidden_in_segment elf y) ≡ true) item (inside none)))
+      (any-flat_map (is_in_range k) (hidden_in_segment elf) (enumerate_from 0 elf.segments.items) x there
+      (subst (λ (y : ℕ × Segment). list_any (is_in_range k) (hidden_in_segment elf y) ≡ true) item (inside none)))
     where
       none : Segment
       none = record { kind = 0; flags = 0; offset = 0; vaddr = 0; paddr = 0; filesz = 0; memsz = 0; align = 0 }
@@ -121,10 +135,13 @@ module _ (elf : Elf) (tight : Bool) where
       zero_more = omega arith
 
       item : (i, get_or elf.segments.items i none) ≡ x
-      item = sym (get_or-enumerate_from 0 elf.segments.items i (0, none) below ∙ ap (λ (n : ℕ). (n, get_or elf.segments.items i none)) zero_more)
+      item = sym (get_or-enumerate_from 0 elf.segments.items i (0, none) below
+          ∙ ap (λ (n : ℕ). (n, get_or elf.segments.items i none)) zero_more)
 
       there : Contains (enumerate_from 0 elf.segments.items) x
-      there = let long = length-enumerate_from 0 elf.segments.items in (i, omega arith, get_or_default (enumerate_from 0 elf.segments.items) i x (0, none) (omega arith))
+      there =
+          let long = length-enumerate_from 0 elf.segments.items in
+          (i, omega arith, get_or_default (enumerate_from 0 elf.segments.items) i x (0, none) (omega arith))
 
   module _ (i k : ℕ) (below : i < length elf.segments.items) where
     abbrev at : ℕ
@@ -136,26 +153,37 @@ module _ (elf : Elf) (tight : Bool) where
     abbrev offset_hidden : Segment → List Range
     offset_hidden p = only (nat_le (executable_end elf.segments.items) p.offset) (p_offset_field at)
 
-    pub hides-sizes : at + 32 ≤ k → k < at + 48 → is_executable_segment elf i ≡ true → list_any (is_in_range k) (hidden_fields elf tight) ≡ true
+    pub hides-sizes : at + 32 ≤ k → k < at + 48 → is_executable_segment elf i ≡ true →
+        list_any (is_in_range k) (hidden_fields elf tight) ≡ true
     hides-sizes from under is =
         hides-segment k i below
-        (λ d. any-left (is_in_range k) (sizes_hidden (get_or elf.segments.items i d) ++ offset_hidden (get_or elf.segments.items i d)) _
-        (any-left (is_in_range k) (sizes_hidden (get_or elf.segments.items i d)) _ (any-only k _ (size_fields at) is (in-range k (at + 32) 16 from (omega arith)))))
+        (λ d. any-left (is_in_range k)
+        (sizes_hidden (get_or elf.segments.items i d) ++ offset_hidden (get_or elf.segments.items i d)) _
+        (any-left (is_in_range k) (sizes_hidden (get_or elf.segments.items i d)) _
+        (any-only k _ (size_fields at) is (in-range k (at + 32) 16 from (omega arith)))))
 
-    pub hides-offset : at + 8 ≤ k → k < at + 16 → ((d : Segment) → executable_end elf.segments.items ≤ (get_or elf.segments.items i d).offset) → list_any (is_in_range k) (hidden_fields elf tight) ≡ true
+    pub hides-offset : at + 8 ≤ k → k < at + 16 →
+        ((d : Segment) → executable_end elf.segments.items ≤ (get_or elf.segments.items i d).offset) →
+        list_any (is_in_range k) (hidden_fields elf tight) ≡ true
     hides-offset from under is =
         hides-segment k i below
-        (λ d. any-left (is_in_range k) (sizes_hidden (get_or elf.segments.items i d) ++ offset_hidden (get_or elf.segments.items i d)) _
-        (any-right (is_in_range k) (sizes_hidden (get_or elf.segments.items i d)) (offset_hidden (get_or elf.segments.items i d)) (any-only k _ (p_offset_field at) (le-leb _ _ (is d)) (in-range k (at + 8) 8 from (omega arith)))))
+        (λ d. any-left (is_in_range k)
+        (sizes_hidden (get_or elf.segments.items i d) ++ offset_hidden (get_or elf.segments.items i d)) _
+        (any-right (is_in_range k) (sizes_hidden (get_or elf.segments.items i d)) (offset_hidden (get_or elf.segments.items i d))
+        (any-only k _ (p_offset_field at) (le-leb _ _ (is d)) (in-range k (at + 8) 8 from (omega arith)))))
 
-    pub hides-place : at + 8 ≤ k → k < at + 48 → ((d : Segment) → (get_or elf.segments.items i d).kind ≡ PT_GNU_EH_FRAME) → list_any (is_in_range k) (hidden_fields elf tight) ≡ true
+    pub hides-place : at + 8 ≤ k → k < at + 48 → ((d : Segment) → (get_or elf.segments.items i d).kind ≡ PT_GNU_EH_FRAME) →
+        list_any (is_in_range k) (hidden_fields elf tight) ≡ true
     hides-place from under is =
         hides-segment k i below
-        (λ d. any-right (is_in_range k) (sizes_hidden (get_or elf.segments.items i d) ++ offset_hidden (get_or elf.segments.items i d)) _
+        (λ d. any-right (is_in_range k)
+        (sizes_hidden (get_or elf.segments.items i d) ++ offset_hidden (get_or elf.segments.items i d)) _
         (any-only k _ (place_fields at) (eq-eqb _ _ (is d)) (in-range k (at + 8) 40 from (omega arith))))
 
 -- What is hidden in the file is hidden in memory, and may change.
-pub is_hidden-at : (elf : Elf) (tight : Bool) (p : Segment) (k : ℕ) → LoadOnce elf.segments.items → Contains elf.segments.items p → IsFileByte k p → k - p.offset < p.memsz → list_any (is_in_range k) (hidden_fields elf tight) ≡ true → is_hidden_field elf tight (p.vaddr + (k - p.offset)) ≡ true
+pub is_hidden-at : (elf : Elf) (tight : Bool) (p : Segment) (k : ℕ) → LoadOnce elf.segments.items →
+    Contains elf.segments.items p → IsFileByte k p → k - p.offset < p.memsz →
+    list_any (is_in_range k) (hidden_fields elf tight) ≡ true → is_hidden_field elf tight (p.vaddr + (k - p.offset)) ≡ true
 is_hidden-at elf tight p k once there in_file in_memory hides =
     let a : ℕ = p.vaddr + (k - p.offset) in
     let loads : IsTrue (loads_address a p) = loads-from_parts a p in_file.0 (omega arith) (omega arith) in
@@ -163,34 +191,48 @@ is_hidden-at elf tight p k once there in_file in_memory hides =
     let inside : a - p.vaddr < p.filesz = let high = in_file.2 in let low = in_file.1 in omega arith in
     let back : p.offset + (a - p.vaddr) ≡ k = let low = in_file.1 in omega arith in
     let placed : file_offset elf.segments.items a ≡ Some k =
-    ap (λ (o : Option Segment). option_and_then (offset_in a) o) found ∙ rw (lt-ltb (a - p.vaddr) p.filesz inside) (ap (λ (n : ℕ). Some n) back) in
-    ap (λ (o : Option ℕ). option_map_or (λ offset. list_any (is_in_range offset) (hidden_fields elf tight)) o false) placed ∙ hides
+    ap (λ (o : Option Segment). option_and_then (offset_in a) o) found
+    ∙ rw (lt-ltb (a - p.vaddr) p.filesz inside) (ap (λ (n : ℕ). Some n) back) in
+    ap
+    (λ (o : Option ℕ). option_map_or (λ offset. list_any (is_in_range offset) (hidden_fields elf tight)) o false) placed ∙ hides
 
 pub changed-hidden : (s : Source) (tight : Bool) (a : ℕ) → is_hidden_field s.elf tight a ≡ true → is_changed s tight a ≡ true
-changed-hidden s tight a e = or-right (list_any (λ cell. is_in_range a (cell_range cell)) s.cells || is_in_entry_field s.elf a) (is_hidden_field s.elf tight a) e
+changed-hidden s tight a e = or-right (list_any (λ cell. is_in_range a (cell_range cell)) s.cells || is_in_entry_field s.elf a)
+    (is_hidden_field s.elf tight a) e
 
 pub changed-entry : (s : Source) (tight : Bool) (a : ℕ) → is_in_entry_field s.elf a ≡ true → is_changed s tight a ≡ true
 changed-entry s tight a e =
-    or-left (list_any (λ cell. is_in_range a (cell_range cell)) s.cells || is_in_entry_field s.elf a) (is_hidden_field s.elf tight a)
+    or-left (list_any (λ cell. is_in_range a (cell_range cell)) s.cells || is_in_entry_field s.elf a)
+    (is_hidden_field s.elf tight a)
     (or-right (list_any (λ cell. is_in_range a (cell_range cell)) s.cells) (is_in_entry_field s.elf a) e)
 
-pub changed-cell : (s : Source) (tight : Bool) (a : ℕ) (cell : ℕ × ℕ × ℕ) → Contains s.cells cell → cell.0 ≤ a → a < cell.0 + cell.1 → is_changed s tight a ≡ true
+pub changed-cell : (s : Source) (tight : Bool) (a : ℕ) (cell : ℕ × ℕ × ℕ) → Contains s.cells cell → cell.0 ≤ a →
+    a < cell.0 + cell.1 → is_changed s tight a ≡ true
 changed-cell s tight a cell (i, below, is) from under =
     or-left (list_any (λ c. is_in_range a (cell_range c)) s.cells || is_in_entry_field s.elf a) (is_hidden_field s.elf tight a)
     (or-left (list_any (λ c. is_in_range a (cell_range c)) s.cells) (is_in_entry_field s.elf a)
-    (list_any_at (λ c. is_in_range a (cell_range c)) s.cells i cell below (ap (λ (c : ℕ × ℕ × ℕ). is_in_range a (cell_range c)) is ∙ in-range a cell.0 cell.1 from under)))
+    (list_any_at (λ c. is_in_range a (cell_range c)) s.cells i cell below
+    (ap (λ (c : ℕ × ℕ × ℕ). is_in_range a (cell_range c)) is ∙ in-range a cell.0 cell.1 from under)))
 
 -- a byte of the entry point's field, of which some is loaded
-pub changed-e_entry : (s : Source) (tight : Bool) (p : Segment) (k : ℕ) → LoadOnce s.elf.segments.items → ((q : Segment) → Contains s.elf.segments.items q → IsFileByte k q → p ≡ q) → Contains s.elf.segments.items p → IsFileByte k p → k - p.offset < p.memsz → 0x18 ≤ k → k < 0x20 → is_changed s tight (p.vaddr + (k - p.offset)) ≡ true
-changed-e_entry s tight p k once alone there in_file in_memory from below = cases (find (loads_range e_entry_field) s.elf.segments.items) refl
+pub changed-e_entry : (s : Source) (tight : Bool) (p : Segment) (k : ℕ) → LoadOnce s.elf.segments.items →
+    ((q : Segment) → Contains s.elf.segments.items q → IsFileByte k q → p ≡ q) → Contains s.elf.segments.items p →
+    IsFileByte k p → k - p.offset < p.memsz → 0x18 ≤ k → k < 0x20 → is_changed s tight (p.vaddr + (k - p.offset)) ≡ true
+changed-e_entry s tight p k once alone there in_file in_memory from below =
+    cases (find (loads_range e_entry_field) s.elf.segments.items) refl
   where
     a : ℕ
     a = p.vaddr + (k - p.offset)
 
-    whole : (q : Segment) → loads_range e_entry_field q ≡ true → (IsTrue (is_load q) × (q.offset ≤ 0x18)) × (0x20 ≤ q.offset + min q.filesz q.memsz)
+    whole : (q : Segment) → loads_range e_entry_field q ≡ true →
+        (IsTrue (is_load q) × (q.offset ≤ 0x18)) × (0x20 ≤ q.offset + min q.filesz q.memsz)
     whole q e = (
-      (and-left (is_load q) _ (and-left (is_load q && nat_le q.offset 0x18) _ e), leb-true q.offset 0x18 (and-right (is_load q) (nat_le q.offset 0x18) (and-left (is_load q && nat_le q.offset 0x18) _ e))),
-      leb-true 0x20 (q.offset + min q.filesz q.memsz) (and-right (is_load q && nat_le q.offset 0x18) (nat_le 0x20 (q.offset + min q.filesz q.memsz)) e),
+      (
+        and-left (is_load q) _ (and-left (is_load q && nat_le q.offset 0x18) _ e),
+        leb-true q.offset 0x18 (and-right (is_load q) (nat_le q.offset 0x18) (and-left (is_load q && nat_le q.offset 0x18) _ e)),
+      ),
+      leb-true 0x20 (q.offset + min q.filesz q.memsz)
+          (and-right (is_load q && nat_le q.offset 0x18) (nat_le 0x20 (q.offset + min q.filesz q.memsz)) e),
     )
 
     cases : (o : Option Segment) → find (loads_range e_entry_field) s.elf.segments.items ≡ o → is_changed s tight a ≡ true
@@ -204,7 +246,9 @@ changed-e_entry s tight p k once alone there in_file in_memory from below = case
         let low : q.offset ≤ 0x18 = bounds.0.1 in
         let high : 0x20 ≤ q.offset + min q.filesz q.memsz = bounds.1 in
         let same : p ≡ q = alone q found.1 (bounds.0.0, omega arith, omega arith) in
-        let address : address_of s.elf e_entry_field ≡ Some (p.vaddr + (0x18 - p.offset)) = ap (λ (o : Option Segment). option_map (address_in e_entry_field) o) e ∙ ap (λ (x : Segment). Some (x.vaddr + (0x18 - x.offset))) (sym same) in
+        let address : address_of s.elf e_entry_field ≡ Some (p.vaddr + (0x18 - p.offset)) =
+        ap (λ (o : Option Segment). option_map (address_in e_entry_field) o) e
+        ∙ ap (λ (x : Segment). Some (x.vaddr + (0x18 - x.offset))) (sym same) in
         let under : p.offset ≤ 0x18 = subst (λ (x : Segment). x.offset ≤ 0x18) (sym same) low in
         changed-entry s tight a
         (ap (λ (o : Option ℕ). option_map_or (λ start. is_in_range a (record { start = start; size = 8 })) o false) address

@@ -12,18 +12,22 @@ use Rattle.elf_write.specs.Carried.{CarriesSegment, CarriesSegments, CarriesByte
 use Rattle.elf_parts.specs.Patches.{Stands}
 
 -- a segment that loads an address is the one that does
-pub segment_of-once : (qs : List Segment) (a : ℕ) (q : Segment) → LoadOnce qs → Contains qs q → IsTrue (loads_address a q) → segment_of qs a ≡ Some q
-segment_of-once qs a q once there loads = find-only (loads_address a) qs q there loads (λ y in_list also. once a y q in_list there also loads)
+pub segment_of-once : (qs : List Segment) (a : ℕ) (q : Segment) → LoadOnce qs → Contains qs q → IsTrue (loads_address a q) →
+    segment_of qs a ≡ Some q
+segment_of-once qs a q once there loads =
+    find-only (loads_address a) qs q there loads (λ y in_list also. once a y q in_list there also loads)
 
 -- the bytes of a segment, by their places in it
-pub byte_of-from_file : (file : List ℕ) (a : ℕ) (p : Segment) → a - p.vaddr < p.filesz → byte_of file a p ≡ get_or file (p.offset + (a - p.vaddr)) 0
+pub byte_of-from_file : (file : List ℕ) (a : ℕ) (p : Segment) → a - p.vaddr < p.filesz →
+    byte_of file a p ≡ get_or file (p.offset + (a - p.vaddr)) 0
 byte_of-from_file file a p inside = rw (lt-ltb (a - p.vaddr) p.filesz inside) refl
 
 byte_of-zero : (file : List ℕ) (a : ℕ) (p : Segment) → p.filesz ≤ a - p.vaddr → byte_of file a p ≡ 0
 byte_of-zero file a p outside = rw (le-ltb (a - p.vaddr) p.filesz outside) refl
 
 -- The byte of a segment that is carried.
-byte_of-carried : (input output : List ℕ) (changed : ℕ → Bool) (p q : Segment) (a : ℕ) → p.vaddr ≤ a → a < end_of p → CarriesSegment input output changed p q → IsFalse (changed a) → byte_of output a q ≡ byte_of input a p
+byte_of-carried : (input output : List ℕ) (changed : ℕ → Bool) (p q : Segment) (a : ℕ) → p.vaddr ≤ a → a < end_of p →
+    CarriesSegment input output changed p q → IsFalse (changed a) → byte_of output a q ≡ byte_of input a p
 byte_of-carried input output changed p q a low high carries kept = cases (nat_lt (a - p.vaddr) p.filesz) refl
   where
     same_place : a - q.vaddr ≡ a - p.vaddr
@@ -32,11 +36,13 @@ byte_of-carried input output changed p q a low high carries kept = cases (nat_lt
     back : p.vaddr + (a - p.vaddr) ≡ a
     back = omega arith
 
-    from_file : (a - p.vaddr < p.filesz) → (q.filesz ≡ p.filesz) ⊎ ((p.memsz ≡ p.filesz) × (p.filesz ≤ q.filesz)) → a - q.vaddr < q.filesz
+    from_file : (a - p.vaddr < p.filesz) →
+        (q.filesz ≡ p.filesz) ⊎ ((p.memsz ≡ p.filesz) × (p.filesz ≤ q.filesz)) → a - q.vaddr < q.filesz
     from_file inside (inl same) = omega (arith, same_place)
     from_file inside (inr grown) = let more : p.filesz ≤ q.filesz = grown.1 in omega (arith, same_place)
 
-    from_zeros : (p.filesz ≤ a - p.vaddr) → (q.filesz ≡ p.filesz) ⊎ ((p.memsz ≡ p.filesz) × (p.filesz ≤ q.filesz)) → q.filesz ≤ a - q.vaddr
+    from_zeros : (p.filesz ≤ a - p.vaddr) →
+        (q.filesz ≡ p.filesz) ⊎ ((p.memsz ≡ p.filesz) × (p.filesz ≤ q.filesz)) → q.filesz ≤ a - q.vaddr
     from_zeros outside (inl same) = omega (arith, same_place)
     from_zeros outside (inr grown) = let whole : p.memsz ≡ p.filesz = grown.0 in absurd (omega arith)
 
@@ -52,14 +58,16 @@ byte_of-carried input output changed p q a low high carries kept = cases (nat_lt
         byte_of-zero output a q (from_zeros outside carries.from_file) ∙ sym (byte_of-zero input a p outside)
 
 -- a segment that is carried is loaded at the same addresses
-carried-loads : (input output : List ℕ) (changed : ℕ → Bool) (p q : Segment) (a : ℕ) → p.vaddr ≤ a → a < end_of p → CarriesSegment input output changed p q → IsTrue (loads_address a q)
+carried-loads : (input output : List ℕ) (changed : ℕ → Bool) (p q : Segment) (a : ℕ) → p.vaddr ≤ a → a < end_of p →
+    CarriesSegment input output changed p q → IsTrue (loads_address a q)
 carried-loads input output changed p q a low high carries =
     let from : q.vaddr ≡ p.vaddr = carries.vaddr in
     let more : p.memsz ≤ q.memsz = carries.memory in
     loads-from_parts a q carries.loaded (omega arith) (omega arith)
 
 -- the memory is carried where each loaded segment is
-pub image-carried : (input output : List ℕ) (changed : ℕ → Bool) (ps qs : List Segment) → LoadOnce qs → CarriesSegments input output changed ps qs → CarriesImage input output changed ps qs
+pub image-carried : (input output : List ℕ) (changed : ℕ → Bool) (ps qs : List Segment) → LoadOnce qs →
+    CarriesSegments input output changed ps qs → CarriesImage input output changed ps qs
 image-carried input output changed ps qs once carries a byte loaded = cases (segment_of ps a) refl
   where
     found : (p : Segment) → segment_of ps a ≡ Some p → CarriesByte output (changed a) ps qs a byte
@@ -69,9 +77,12 @@ image-carried input output changed ps qs once carries a byte loaded = cases (seg
         let to = carries p at.1 parts.0 in
         let q : Segment = to.0 in
         let how : CarriesSegment input output changed p q = to.2 in
-        let there : segment_of qs a ≡ Some q = segment_of-once qs a q once to.1 (carried-loads input output changed p q a parts.1 parts.2 how) in
-        let old : Some (byte_of input a p) ≡ Some byte = ap (λ (o : Option Segment). option_map (byte_of input a) o) (sym e) ∙ loaded in
-        let new : image_byte output qs a ≡ Some (byte_of output a q) = ap (λ (o : Option Segment). option_map (byte_of output a) o) there in
+        let there : segment_of qs a ≡ Some q =
+        segment_of-once qs a q once to.1 (carried-loads input output changed p q a parts.1 parts.2 how) in
+        let old : Some (byte_of input a p) ≡ Some byte =
+        ap (λ (o : Option Segment). option_map (byte_of input a) o) (sym e) ∙ loaded in
+        let new : image_byte output qs a ≡ Some (byte_of output a q) =
+        ap (λ (o : Option Segment). option_map (byte_of output a) o) there in
         record {
           is_loaded = subst (λ (o : Option ℕ). IsSome o) (sym new) (search);
           rights = λ flag.
@@ -82,13 +93,17 @@ image-carried input output changed ps qs once carries a byte loaded = cases (seg
         }
 
     cases : (o : Option Segment) → segment_of ps a ≡ o → CarriesByte output (changed a) ps qs a byte
-    cases None e = let none : None ≡ Some byte = ap (λ (o : Option Segment). option_map (byte_of input a) o) (sym e) ∙ loaded in absurd (cc)
+    cases None e =
+        let none : None ≡ Some byte = ap (λ (o : Option Segment). option_map (byte_of input a) o) (sym e) ∙ loaded in absurd (cc)
     cases (Some p) e = found p e
 
 -- bytes that stand in the part of the file that a segment loads
-pub holds-stands : (file : List ℕ) (qs : List Segment) (q : Segment) (a o : ℕ) (bytes : List ℕ) → LoadOnce qs → Contains qs q → IsTrue (is_load q) → q.vaddr ≤ a → o ≡ q.offset + (a - q.vaddr) → (a - q.vaddr) + length bytes ≤ q.filesz → q.filesz ≤ q.memsz → Stands file o bytes → HoldsBytes file qs a bytes
+pub holds-stands : (file : List ℕ) (qs : List Segment) (q : Segment) (a o : ℕ) (bytes : List ℕ) → LoadOnce qs → Contains qs q →
+    IsTrue (is_load q) → q.vaddr ≤ a → o ≡ q.offset + (a - q.vaddr) → (a - q.vaddr) + length bytes ≤ q.filesz →
+    q.filesz ≤ q.memsz → Stands file o bytes → HoldsBytes file qs a bytes
 holds-stands file qs q a o bytes once there load from at inside whole stands j below =
     let loads : IsTrue (loads_address (a + j) q) = loads-from_parts (a + j) q load (omega arith) (omega arith) in
     let place : q.offset + ((a + j) - q.vaddr) ≡ o + j = omega arith in
     ap (λ (p : Option Segment). option_map (byte_of file (a + j)) p) (segment_of-once qs (a + j) q once there loads)
-    ∙ ap (λ (b : ℕ). Some b) (byte_of-from_file file (a + j) q (omega arith) ∙ ap (λ (k : ℕ). get_or file k 0) place ∙ stands.same j below)
+    ∙ ap (λ (b : ℕ). Some b)
+    (byte_of-from_file file (a + j) q (omega arith) ∙ ap (λ (k : ℕ). get_or file k 0) place ∙ stands.same j below)

@@ -11,12 +11,12 @@ pub mod FileEnds
 pub mod FirstNames
 pub mod FreeRange
 pub mod FromMade
-pub mod FuncAround
 pub mod Growing
 pub mod HeldNumbers
 pub mod HiddenBytes
 pub mod ImageWritten
 pub mod Images
+pub mod InArea
 pub mod KeptRanges
 pub mod KnownContents
 pub mod LaidOut
@@ -29,6 +29,7 @@ pub mod MadeSegments
 pub mod NewSegments
 pub mod Pairs
 pub mod PlacesWritten
+pub mod Positions
 pub mod RunLists
 pub mod SameBreak
 pub mod SoundFiles

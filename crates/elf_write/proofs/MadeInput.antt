@@ -38,7 +38,8 @@ moved-none file_end step o none = cases (cases_lt o file_end)
     cases (inl low) = moved-before file_end step o low
     cases (inr high) = let e = moved-behind file_end step o high in omega arith
 
-module _ (s : Source) (tight : Bool) (w : List ℕ) (read : IsElfOf s.elf.file.now s.elf) (sound : IsSound s.elf.file.now) (made : IsMade s tight w) where
+module _ (s : Source) (tight : Bool) (w : List ℕ) (read : IsElfOf s.elf.file.now s.elf) (sound : IsSound s.elf.file.now)
+    (made : IsMade s tight w) where
   abbrev pub ps : List Segment
   ps = s.elf.segments.items
 
@@ -56,10 +57,12 @@ module _ (s : Source) (tight : Bool) (w : List ℕ) (read : IsElfOf s.elf.file.n
 
   -- the executable segment
   pub code-is : (d : Segment) → get_or ps made.layout.code d ≡ made.laid_out.executable
-  code-is d = subst (λ (xs : List Segment). get_or xs made.layout.code d ≡ made.laid_out.executable) ps-is (code-at s.elf.file.now sound made.layout.code made.laid_out.executable found-file d)
+  code-is d = subst (λ (xs : List Segment). get_or xs made.layout.code d ≡ made.laid_out.executable) ps-is
+      (code-at s.elf.file.now sound made.layout.code made.laid_out.executable found-file d)
 
   pub code-inside : made.layout.code < length ps
-  code-inside = subst (λ (xs : List Segment). made.layout.code < length xs) ps-is (code-below s.elf.file.now sound made.layout.code made.laid_out.executable found-file)
+  code-inside = subst (λ (xs : List Segment). made.layout.code < length xs) ps-is
+      (code-below s.elf.file.now sound made.layout.code made.laid_out.executable found-file)
 
   pub code_segment-is : code_segment ps ≡ made.laid_out.executable
   code_segment-is = ap (λ (o : Option (ℕ × Segment)). option_map_or (λ e. e.1) o no_segment) made.laid_out.found
@@ -91,11 +94,13 @@ module _ (s : Source) (tight : Bool) (w : List ℕ) (read : IsElfOf s.elf.file.n
   crosses p there before =
       let there_in : Contains (segments_of s.elf.file.now) p = subst (λ (xs : List Segment). Contains xs p) (sym ps-is) there in
       subst (λ (e : ℕ). p.offset + p.filesz ≤ e) (sym from-is)
-      (crosses_not s.elf.file.now sound made.layout.code made.laid_out.executable found-file p there_in (subst (λ (e : ℕ). p.offset < e) from-is before))
+      (crosses_not s.elf.file.now sound made.layout.code made.laid_out.executable found-file p there_in
+      (subst (λ (e : ℕ). p.offset < e) from-is before))
 
   -- Behind the executable segment, in the file, the parts follow its end.
   pub parts-behind : tight ≡ false → PartsFit made.layout.parts ps made.layout.parts.keep made.layout.shift.by
-  parts-behind e = fit-behind ps made.layout.area made.layout.shift made.layout.parts crosses (made.laid_out.behind (tight-is ∙ e))
+  parts-behind e =
+      fit-behind ps made.layout.area made.layout.shift made.layout.parts crosses (made.laid_out.behind (tight-is ∙ e))
 
   pub keep-behind : tight ≡ false → made.layout.parts.keep ≡ made.layout.shift.from
   keep-behind e = (made.laid_out.behind (tight-is ∙ e)).keeps

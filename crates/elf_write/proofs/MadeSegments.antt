@@ -59,14 +59,18 @@ module _ (s : Source) (tight : Bool) (w : List ℕ) (made : IsMade s tight w) wh
   pub new-loads : AreNewLoads made.layout.shift.from made.layout.shift.by ps made.segments
   new-loads p there load = cases area.tight refl
     where
-      cases : (b : Bool) → area.tight ≡ b → (q : Segment) × Contains made.segments q × IsNewLoad made.layout.shift.from made.layout.shift.by p q
+      cases : (b : Bool) → area.tight ≡ b →
+          (q : Segment) × Contains made.segments q × IsNewLoad made.layout.shift.from made.layout.shift.by p q
       cases false e =
-          let to = renewed-load made.layout.shift.from made.layout.shift.by area.end area.tight (grows_at area.tight made.layout.code) ps made.are_headers.renewed made.are_headers.are p there load in
+          let to = renewed-load made.layout.shift.from made.layout.shift.by area.end area.tight
+          (grows_at area.tight made.layout.code) ps made.are_headers.renewed made.are_headers.are p there load in
           (to.0, subst (λ (xs : List Segment). Contains xs to.0) (sym (made.are_headers.kept e)) to.1, to.2)
       cases true e =
-          let to = renewed-load made.layout.shift.from made.layout.shift.by area.end area.tight (grows_at area.tight made.layout.code) ps made.are_headers.renewed made.are_headers.are p there load in (
+          let to = renewed-load made.layout.shift.from made.layout.shift.by area.end area.tight
+          (grows_at area.tight made.layout.code) ps made.are_headers.renewed made.are_headers.are p there load in (
             to.0,
-            subst (λ (xs : List Segment). Contains xs to.0) (sym (made.are_headers.more e)) (inserted-contains made.are_headers.at own made.are_headers.renewed to.0 within to.1),
+            subst (λ (xs : List Segment). Contains xs to.0) (sym (made.are_headers.more e))
+                (inserted-contains made.are_headers.at own made.are_headers.renewed to.0 within to.1),
             to.2,
           )
 
@@ -74,7 +78,8 @@ module _ (s : Source) (tight : Bool) (w : List ℕ) (made : IsMade s tight w) wh
     -- The area's places.
 
     code-ends : area.start + length s.code ≡ area.code_end
-    code-ends = ap (λ (a : Area). a.start + length s.code) made.laid_out.area ∙ sym (ap (λ (a : Area). a.code_end) made.laid_out.area)
+    code-ends =
+        ap (λ (a : Area). a.start + length s.code) made.laid_out.area ∙ sym (ap (λ (a : Area). a.code_end) made.laid_out.area)
 
     area-ends : area.code_end ≤ area.end
     area-ends =
@@ -99,10 +104,12 @@ module _ (s : Source) (tight : Bool) (w : List ℕ) (made : IsMade s tight w) wh
         omega (arith, start, address, up)
 
     behind-address : tight ≡ false → area.address ≡ made.laid_out.executable.vaddr
-    behind-address e = ap (λ (a : Area). a.address) made.laid_out.area ∙ rw e (ap (λ (p : Segment). p.vaddr) (code_segment-is s tight w read sound made))
+    behind-address e = ap (λ (a : Area). a.address) made.laid_out.area
+        ∙ rw e (ap (λ (p : Segment). p.vaddr) (code_segment-is s tight w read sound made))
 
     behind-offset : tight ≡ false → area.offset ≡ made.laid_out.executable.offset
-    behind-offset e = ap (λ (a : Area). a.offset) made.laid_out.area ∙ rw e (ap (λ (p : Segment). p.offset) (code_segment-is s tight w read sound made))
+    behind-offset e = ap (λ (a : Area). a.offset) made.laid_out.area
+        ∙ rw e (ap (λ (p : Segment). p.offset) (code_segment-is s tight w read sound made))
 
     pub starts-behind : tight ≡ false → area.address ≤ area.start
     starts-behind e =
@@ -117,7 +124,8 @@ module _ (s : Source) (tight : Bool) (w : List ℕ) (made : IsMade s tight w) wh
     own-holds : tight ≡ true → HoldsArea area made.segments
     own-holds e = record {
       segment = own;
-      there = subst (λ (xs : List Segment). Contains xs own) (sym (made.are_headers.more (is-tight ∙ e))) (inserted-new made.are_headers.at own made.are_headers.renewed within);
+      there = subst (λ (xs : List Segment). Contains xs own) (sym (made.are_headers.more (is-tight ∙ e)))
+          (inserted-new made.are_headers.at own made.are_headers.renewed within);
       load = refl;
       address = refl;
       offset = refl;
@@ -130,14 +138,19 @@ module _ (s : Source) (tight : Bool) (w : List ℕ) (made : IsMade s tight w) wh
     grown-holds : tight ≡ false → HoldsArea area made.segments
     grown-holds e = record {
       segment = q;
-      there = subst (λ (xs : List Segment). Contains xs q) (sym (made.are_headers.kept not_tight)) (Contains-get_or made.are_headers.renewed made.layout.code p (omega (arith, inside, count)));
+      there = subst (λ (xs : List Segment). Contains xs q) (sym (made.are_headers.kept not_tight))
+          (Contains-get_or made.are_headers.renewed made.layout.code p (omega (arith, inside, count)));
       load = subst (λ (k : ℕ). IsTrue (k == PT_LOAD)) (sym renewed.kind) load;
       address = vaddr;
       offset = renewed.place grows ∙ sym (behind-offset e);
-      end = let same = sized (renewed.load load).sizes in let ends : end_of q ≡ area.end = renewed.grown grows in omega (arith, same, ends);
+      end =
+          let same = sized (renewed.load load).sizes in
+          let ends : end_of q ≡ area.end = renewed.grown grows in
+          omega (arith, same, ends);
       whole = sized (renewed.load load).sizes;
       executes = flag PF_X (code-executes s.elf.file.now sound made.layout.code p (found-file s tight w read sound made));
-      unwritten = ap (λ (f : ℕ). is_set PF_W f) renewed.flags ∙ code-unwritable s.elf.file.now sound made.layout.code p (found-file s tight w read sound made);
+      unwritten = ap (λ (f : ℕ). is_set PF_W f) renewed.flags
+          ∙ code-unwritable s.elf.file.now sound made.layout.code p (found-file s tight w read sound made);
     }
       where
         not_tight : area.tight ≡ false
@@ -156,11 +169,14 @@ module _ (s : Source) (tight : Bool) (w : List ℕ) (made : IsMade s tight w) wh
         count = made.are_headers.are.count
 
         grows : grows_at area.tight made.layout.code made.layout.code ≡ true
-        grows = ap (λ (b : Bool). not b && (made.layout.code == made.layout.code)) not_tight ∙ eq-eqb made.layout.code made.layout.code refl
+        grows = ap (λ (b : Bool). not b && (made.layout.code == made.layout.code)) not_tight
+            ∙ eq-eqb made.layout.code made.layout.code refl
 
-        renewed : IsRenewed made.layout.shift.from made.layout.shift.by area.end area.tight (grows_at area.tight made.layout.code made.layout.code) p q
+        renewed : IsRenewed made.layout.shift.from made.layout.shift.by area.end area.tight
+            (grows_at area.tight made.layout.code made.layout.code) p q
         renewed =
-            subst (λ (x : Segment). IsRenewed made.layout.shift.from made.layout.shift.by area.end area.tight (grows_at area.tight made.layout.code made.layout.code) x q) (code-is s tight w read sound made p)
+            subst (λ (x : Segment). IsRenewed made.layout.shift.from made.layout.shift.by area.end area.tight
+            (grows_at area.tight made.layout.code made.layout.code) x q) (code-is s tight w read sound made p)
             (made.are_headers.are.each made.layout.code p p inside)
 
         load : IsTrue (is_load p)
@@ -175,7 +191,8 @@ module _ (s : Source) (tight : Bool) (w : List ℕ) (made : IsMade s tight w) wh
         flag : (f : ℕ) → has_flag f p ≡ true → has_flag f q ≡ true
         flag f set = ap (λ (x : ℕ). is_set f x) renewed.flags ∙ set
 
-        sized : ((q.filesz ≡ p.filesz) × (q.memsz ≡ p.memsz)) ⊎ ((p.memsz ≡ p.filesz) × (p.filesz ≤ q.filesz) × (q.memsz ≡ q.filesz)) → q.memsz ≡ q.filesz
+        sized : ((q.filesz ≡ p.filesz) × (q.memsz ≡ p.memsz))
+            ⊎ ((p.memsz ≡ p.filesz) × (p.filesz ≤ q.filesz) × (q.memsz ≡ q.filesz)) → q.memsz ≡ q.filesz
         sized (inl same) = same.1 ∙ sym whole ∙ sym same.0
         sized (inr more) = more.2
 

@@ -34,7 +34,8 @@ use Rattle.elf_write.proofs.SameBreak.{GrowsUnwritten, KeepsBreak, break-kept, r
 use Rattle.elf_write.proofs.SoundFiles.{code-load, code-whole, code-unwritable, table_crosses_not}
 use Rattle.elf_write.proofs.TableKept.{GrowsTo, LoadsRange, StandsAlike, stays, moves, unloaded, loads-range, range-loads, range_address, address-kept, had_bytes}
 
-module _ (s : Source) (tight : Bool) (w : List ℕ) (read : IsElfOf s.elf.file.now s.elf) (sound : IsSound s.elf.file.now) (made : IsMade s tight w) (placed : IsPlaced s tight) where
+module _ (s : Source) (tight : Bool) (w : List ℕ) (read : IsElfOf s.elf.file.now s.elf) (sound : IsSound s.elf.file.now)
+    (made : IsMade s tight w) (placed : IsPlaced s tight) where
   abbrev ps : List Segment
   ps = s.elf.segments.items
 
@@ -52,7 +53,8 @@ module _ (s : Source) (tight : Bool) (w : List ℕ) (read : IsElfOf s.elf.file.n
 
   memory : tight ≡ false → 0 < code.memsz
   memory e =
-      code-memory s made.layout.code code made.laid_out.found (code-inside s tight w read sound made) (code-is s tight w read sound made) load
+      code-memory s made.layout.code code made.laid_out.found (code-inside s tight w read sound made)
+      (code-is s tight w read sound made) load
       (subst (IsPlaced s) e placed)
 
   -- The break.
@@ -87,10 +89,12 @@ module _ (s : Source) (tight : Bool) (w : List ℕ) (read : IsElfOf s.elf.file.n
     by = made.layout.shift.by
 
     area-address : area.address ≡ code.vaddr
-    area-address = ap (λ (a : Area). a.address) (area-is s tight w read sound made) ∙ rw e (ap (λ (p : Segment). p.vaddr) (code_segment-is s tight w read sound made))
+    area-address = ap (λ (a : Area). a.address) (area-is s tight w read sound made)
+        ∙ rw e (ap (λ (p : Segment). p.vaddr) (code_segment-is s tight w read sound made))
 
     area-offset : area.offset ≡ code.offset
-    area-offset = ap (λ (a : Area). a.offset) (area-is s tight w read sound made) ∙ rw e (ap (λ (p : Segment). p.offset) (code_segment-is s tight w read sound made))
+    area-offset = ap (λ (a : Area). a.offset) (area-is s tight w read sound made)
+        ∙ rw e (ap (λ (p : Segment). p.offset) (code_segment-is s tight w read sound made))
 
     end-is : code_file_end ps ≡ from
     end-is = ap file_end_of (code_segment-is s tight w read sound made) ∙ sym (from-is s tight w read sound made)
@@ -98,10 +102,13 @@ module _ (s : Source) (tight : Bool) (w : List ℕ) (read : IsElfOf s.elf.file.n
     -- bytes that move go behind it
     step-enough : (low : ℕ) → lowest_behind from ps ≡ Some low → area_end ≤ low + by
     step-enough low found =
-        let step : by ≡ option_map_or (λ l. rounded_up (greatest_align ps) (area_end - l)) (lowest_behind (code_file_end ps) ps) 0 =
-        by-is s tight w read sound made ∙ ap (λ (b : Bool). if b then 0 else option_map_or (λ l. rounded_up (greatest_align ps) (area_end - l)) (lowest_behind (code_file_end ps) ps) 0) not_tight in
+        let step : by
+        ≡ option_map_or (λ l. rounded_up (greatest_align ps) (area_end - l)) (lowest_behind (code_file_end ps) ps) 0 =
+        by-is s tight w read sound made ∙ ap (λ (b : Bool). if b then 0 else option_map_or
+        (λ l. rounded_up (greatest_align ps) (area_end - l)) (lowest_behind (code_file_end ps) ps) 0) not_tight in
         let here : by ≡ rounded_up (greatest_align ps) (area_end - low) =
-        step ∙ ap (λ (o : Option ℕ). option_map_or (λ l. rounded_up (greatest_align ps) (area_end - l)) o 0) (ap (λ (k : ℕ). lowest_behind k ps) end-is ∙ found) in
+        step ∙ ap (λ (o : Option ℕ). option_map_or (λ l. rounded_up (greatest_align ps) (area_end - l)) o 0)
+        (ap (λ (k : ℕ). lowest_behind k ps) end-is ∙ found) in
         let unit = align-above ps in
         let above = rounded_up-above (greatest_align ps) (area_end - low) (omega (arith, unit)) in
         omega (arith, here, above)
@@ -109,7 +116,8 @@ module _ (s : Source) (tight : Bool) (w : List ℕ) (read : IsElfOf s.elf.file.n
     area-before : area_end ≤ size_of made.layout.parts
     area-before = cases (lowest_behind from ps) refl (made.laid_out.behind not_tight).moves
       where
-        cases : (o : Option ℕ) → lowest_behind from ps ≡ o → MovesFrom o ps area made.layout.shift made.layout.parts → area_end ≤ size_of made.layout.parts
+        cases : (o : Option ℕ) → lowest_behind from ps ≡ o → MovesFrom o ps area made.layout.shift made.layout.parts →
+            area_end ≤ size_of made.layout.parts
         cases None found placing = let at = placing.2 in omega (arith, at)
         cases (Some low) found placing = let at = placing.2 in let enough = step-enough low found in omega (arith, at, enough)
 
@@ -141,7 +149,8 @@ module _ (s : Source) (tight : Bool) (w : List ℕ) (read : IsElfOf s.elf.file.n
       }
         where
           p-is : p ≡ code
-          p-is = ap (λ (j : ℕ). get_or ps j d) (eqb-true k made.layout.code (and_parts (not area.tight) (k == made.layout.code) is).1) ∙ code-is s tight w read sound made d
+          p-is = ap (λ (j : ℕ). get_or ps j d) (eqb-true k made.layout.code
+              (and_parts (not area.tight) (k == made.layout.code) is).1) ∙ code-is s tight w read sound made d
 
           loaded : IsTrue (is_load p)
           loaded = subst (λ (x : Segment). IsTrue (is_load x)) (sym p-is) load
@@ -152,7 +161,9 @@ module _ (s : Source) (tight : Bool) (w : List ℕ) (read : IsElfOf s.elf.file.n
           offset : q.offset ≡ code.offset
           offset =
               (renewed.load loaded).offset has ∙ ap (λ (x : Segment). moved_by from by x.offset) p-is
-              ∙ moved-before from by code.offset (let f = from-is s tight w read sound made in let some = memory e in omega (arith, f, some, whole))
+              ∙ moved-before from by code.offset (let f = from-is s tight w read sound made in
+              let some = memory e in
+              omega (arith, f, some, whole))
 
           vaddr : q.vaddr ≡ code.vaddr
           vaddr = (renewed.load loaded).vaddr ∙ ap (λ (x : Segment). x.vaddr) p-is
@@ -163,12 +174,17 @@ module _ (s : Source) (tight : Bool) (w : List ℕ) (read : IsElfOf s.elf.file.n
           p-whole : p.filesz ≡ p.memsz
           p-whole = subst (λ (x : Segment). x.filesz ≡ x.memsz) (sym p-is) whole
 
-          size : ((q.filesz ≡ p.filesz) × (q.memsz ≡ p.memsz)) ⊎ ((p.memsz ≡ p.filesz) × (p.filesz ≤ q.filesz) × (q.memsz ≡ q.filesz)) → q.filesz ≡ q.memsz
+          size : ((q.filesz ≡ p.filesz) × (q.memsz ≡ p.memsz))
+              ⊎ ((p.memsz ≡ p.filesz) × (p.filesz ≤ q.filesz) × (q.memsz ≡ q.filesz)) → q.filesz ≡ q.memsz
           size (inl same) = same.0 ∙ p-whole ∙ sym same.1
           size (inr more) = sym more.2
 
           within : q.offset + q.filesz ≤ area_end
-          within = let sized = size (renewed.load loaded).sizes in let a = area-address in let o = area-offset in omega (arith, sized, a, o, ends, vaddr, offset)
+          within =
+              let sized = size (renewed.load loaded).sizes in
+              let a = area-address in
+              let o = area-offset in
+              omega (arith, sized, a, o, ends, vaddr, offset)
 
       -- the bytes of the file that the new one loads end before the tail
       ends-before : (start n : ℕ) → 0 < n → LoadsRange start n q → q.offset + q.filesz ≤ size_of made.layout.parts
@@ -181,20 +197,24 @@ module _ (s : Source) (tight : Bool) (w : List ℕ) (read : IsElfOf s.elf.file.n
           has_bytes =
               let low = loads.from in
               let high = loads.in_file in
-              had_bytes from by area.end area_end start n area.tight grown p q some renewed (λ x. apart) grows loaded (omega (arith, low, high, some))
+              had_bytes from by area.end area_end start n area.tight grown p q some renewed (λ x. apart) grows loaded
+              (omega (arith, low, high, some))
 
           cases : (b : Bool) → grown ≡ b → q.offset + q.filesz ≤ size_of made.layout.parts
           cases true is = let within = (grows is).within in let before = area-before in omega (arith, within, before)
           cases false is =
               let at : q.offset ≡ moved_by from by p.offset = (renewed.load loaded).offset has_bytes in
               let size : q.filesz ≡ p.filesz = same-size (renewed.load loaded).sizes in
-              let keep : moved_by made.layout.parts.keep by p.offset ≡ moved_by from by p.offset = ap (λ (f : ℕ). moved_by f by p.offset) (keep-behind s tight w read sound made e) in
+              let keep : moved_by made.layout.parts.keep by p.offset ≡ moved_by from by p.offset =
+              ap (λ (f : ℕ). moved_by f by p.offset) (keep-behind s tight w read sound made e) in
               let within =
-              stretch-within made.layout.parts ps by (length s.elf.file.now) (length made.layout.bytes.items) (parts-behind s tight w read sound made e) made.laid_out.can
+              stretch-within made.layout.parts ps by (length s.elf.file.now) (length made.layout.bytes.items)
+              (parts-behind s tight w read sound made e) made.laid_out.can
               p p.offset p.filesz there loaded has_bytes (omega arith) (omega arith) in
               omega (arith, at, size, keep, within)
             where
-              same-size : ((q.filesz ≡ p.filesz) × (q.memsz ≡ p.memsz)) ⊎ ((p.memsz ≡ p.filesz) × (p.filesz ≤ q.filesz) × (q.memsz ≡ q.filesz)) → q.filesz ≡ p.filesz
+              same-size : ((q.filesz ≡ p.filesz) × (q.memsz ≡ p.memsz))
+                  ⊎ ((p.memsz ≡ p.filesz) × (p.filesz ≤ q.filesz) × (q.memsz ≡ q.filesz)) → q.filesz ≡ p.filesz
               same-size (inl same) = same.0
               same-size (inr more) = let m : q.memsz ≡ p.memsz = renewed.same loaded is in sym more.2 ∙ m ∙ more.0
 
@@ -212,12 +232,13 @@ module _ (s : Source) (tight : Bool) (w : List ℕ) (read : IsElfOf s.elf.file.n
     table-end low =
         let at = read.phoff in
         let end = from-is s tight w read sound made in
-        let within = table_crosses_not s.elf.file.now sound made.layout.code code (found-file s tight w read sound made) (omega (arith, at, end, low)) in
+        let within = table_crosses_not s.elf.file.now sound made.layout.code code (found-file s tight w read sound made)
+        (omega (arith, at, end, low)) in
         let count = count-is in
         omega (arith, at, end, within, count)
 
     -- behind the executable segment it moves with the segment that loads it, behind the area
-    pub table-behind : from ≤ s.elf.phoff → list_any (loads_range (table_of s.elf)) ps ≡ true → area_end ≤ s.elf.phoff + by
+    table-behind : from ≤ s.elf.phoff → list_any (loads_range (table_of s.elf)) ps ≡ true → area_end ≤ s.elf.phoff + by
     table-behind behind found = cases (cases_lt x.offset from)
       where
         any : Any (λ p. loads_range (table_of s.elf) p ≡ true) ps
@@ -257,20 +278,26 @@ module _ (s : Source) (tight : Bool) (w : List ℕ) (read : IsElfOf s.elf.file.n
 
         never : list_any (loads_range (table_of s.elf)) ps ≡ true → is_kept_table s.elf made.layout.shift ≡ false → ⊥
         never found kept =
-            let both : true ≡ false = sym (or-true (nat_lt s.elf.phoff from) (list_any (loads_range (table_of s.elf)) ps) found) ∙ kept in
+            let both : true ≡ false =
+            sym (or-true (nat_lt s.elf.phoff from) (list_any (loads_range (table_of s.elf)) ps) found) ∙ kept in
             absurd (cc)
 
-        cases : (b : Bool) → is_kept_table s.elf made.layout.shift ≡ b → (s.elf.phoff < from) ⊎ (from ≤ s.elf.phoff) → StandsAlike from by area_end s.elf.phoff table_size ps made.are_headers.renewed made.table_at
+        cases : (b : Bool) → is_kept_table s.elf made.layout.shift ≡ b → (s.elf.phoff < from) ⊎ (from ≤ s.elf.phoff) →
+            StandsAlike from by area_end s.elf.phoff table_size ps made.are_headers.renewed made.table_at
         cases true kept (inl low) =
-            subst (StandsAlike from by area_end s.elf.phoff table_size ps made.are_headers.renewed) (sym (made.table_place.kept not_tight kept ∙ moved-before from by s.elf.phoff low))
+            subst (StandsAlike from by area_end s.elf.phoff table_size ps made.are_headers.renewed)
+            (sym (made.table_place.kept not_tight kept ∙ moved-before from by s.elf.phoff low))
             (stays low (table-end low))
         cases true kept (inr behind) =
-            let found : list_any (loads_range (table_of s.elf)) ps ≡ true = ap (λ (b : Bool). b || list_any (loads_range (table_of s.elf)) ps) (sym (le-ltb s.elf.phoff from behind)) ∙ kept in
-            subst (StandsAlike from by area_end s.elf.phoff table_size ps made.are_headers.renewed) (sym (made.table_place.kept not_tight kept ∙ moved-behind from by s.elf.phoff behind))
+            let found : list_any (loads_range (table_of s.elf)) ps ≡ true =
+            ap (λ (b : Bool). b || list_any (loads_range (table_of s.elf)) ps) (sym (le-ltb s.elf.phoff from behind)) ∙ kept in
+            subst (StandsAlike from by area_end s.elf.phoff table_size ps made.are_headers.renewed)
+            (sym (made.table_place.kept not_tight kept ∙ moved-behind from by s.elf.phoff behind))
             (moves behind (table-behind behind found))
         cases false kept order =
             unloaded made.table_at
-            (λ k d below loads. never (list_any_at (loads_range (table_of s.elf)) ps k d below (range-loads s.elf.phoff table_size (get_or ps k d) loads)) kept)
+            (λ k d below loads. never (list_any_at (loads_range (table_of s.elf)) ps k d below
+            (range-loads s.elf.phoff table_size (get_or ps k d) loads)) kept)
             (λ k d below loads.
             let high : size_of made.layout.parts ≤ made.table_at = made.table_place.added not_tight kept in
             let ends = ends-before k d below made.table_at table_size some_headers loads in
@@ -279,7 +306,9 @@ module _ (s : Source) (tight : Bool) (w : List ℕ) (read : IsElfOf s.elf.file.n
             absurd (omega (arith, high, ends, past, some)))
 
     pub table-written : table_address s.elf.file.now ≡ table_address w
-    table-written = before ∙ sym (address-kept from by area.end area_end s.elf.phoff table_size area.tight (grows_at area.tight made.layout.code) ps made.are_headers.renewed made.table_at some_headers made.are_headers.are (λ k d below load. apart k d below) (λ k d below is. grows k d below is) stands) ∙ sym after
+    table-written = before ∙ sym (address-kept from by area.end area_end s.elf.phoff table_size area.tight
+        (grows_at area.tight made.layout.code) ps made.are_headers.renewed made.table_at some_headers made.are_headers.are
+        (λ k d below load. apart k d below) (λ k d below is. grows k d below is) stands) ∙ sym after
       where
         before : table_address s.elf.file.now ≡ range_address s.elf.phoff table_size ps
         before =
@@ -290,8 +319,10 @@ module _ (s : Source) (tight : Bool) (w : List ℕ) (read : IsElfOf s.elf.file.n
         after : table_address w ≡ range_address made.table_at table_size made.are_headers.renewed
         after =
             ap (λ (o : ℕ). range_address o (PHDR_SIZE * e_phnum w) (segments_of w)) (e_phoff-written s tight w made)
-            ∙ ap (λ (n : ℕ). range_address made.table_at (PHDR_SIZE * n) (segments_of w)) (e_phnum-written s tight w made ∙ sym count-same)
-            ∙ ap (λ (xs : List Segment). range_address made.table_at table_size xs) (segments-written s tight w made ∙ headers-are)
+            ∙ ap (λ (n : ℕ). range_address made.table_at (PHDR_SIZE * n) (segments_of w))
+            (e_phnum-written s tight w made ∙ sym count-same)
+            ∙ ap (λ (xs : List Segment). range_address made.table_at table_size xs)
+            (segments-written s tight w made ∙ headers-are)
 
   pub places-written : KeepsPlaces s.elf tight w
   places-written = record {

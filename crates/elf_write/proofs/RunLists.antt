@@ -11,7 +11,8 @@ use Rattle.addr_map.specs.declared.span.Span.{Span}
 use Rattle.rv_code.specs.declared.placed.Func.{Func}
 use Rattle.elf_write.specs.declared.runs.Run.{Run}
 use Rattle.elf_write.specs.AllRuns.{Apart, AreRuns, AreSorted, Grows, HasSpan}
-use Rattle.elf_write.specs.Runs.{IsRun, function_at}
+use Rattle.rv_code.specs.layout.InFunctions.{function_at}
+use Rattle.elf_write.specs.Runs.{IsRun}
 
 -- a list without its last element
 

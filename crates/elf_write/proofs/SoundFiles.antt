@@ -33,7 +33,8 @@ record IsFirst {X : Type 0} (p : ℕ × X → Bool) (xs : List X) (n i : ℕ) (x
   passes : p (i, x) ≡ true
   first : (j : ℕ) (d : X) → n + j < i → p (n + j, get_or xs j d) ≡ false
 
-find-first : {X : Type 0} (p : ℕ × X → Bool) (xs : List X) (n i : ℕ) (x : X) → find p (enumerate_from n xs) ≡ Some (i, x) → IsFirst p xs n i x
+find-first : {X : Type 0} (p : ℕ × X → Bool) (xs : List X) (n i : ℕ) (x : X) →
+    find p (enumerate_from n xs) ≡ Some (i, x) → IsFirst p xs n i x
 find-first p [] n i x e = absurd (cc)
 find-first {X} p (y ∷ ys) n i x e = cases (λ rest. find-first p ys (n + 1) i x rest) (p (n, y)) refl
   where
@@ -46,7 +47,8 @@ find-first {X} p (y ∷ ys) n i x e = cases (λ rest. find-first p ys (n + 1) i 
         let at : n + suc j ≡ n + 1 + j = omega arith in
         ap (λ (k : ℕ). p (k, get_or ys j d)) at ∙ later.first j d (omega arith)
 
-    cases : (find p (enumerate_from (n + 1) ys) ≡ Some (i, x) → IsFirst p ys (n + 1) i x) → (b : Bool) → p (n, y) ≡ b → IsFirst p (y ∷ ys) n i x
+    cases : (find p (enumerate_from (n + 1) ys) ≡ Some (i, x) → IsFirst p ys (n + 1) i x) → (b : Bool) → p (n, y) ≡ b →
+        IsFirst p (y ∷ ys) n i x
     cases rest true passes =
         let same : ◌≡◌ {A = ℕ × X} (n, y) (i, x) = same_Some (n, y) (i, x) (made true passes) in
         let here : n ≡ i = ap (λ (z : ℕ × X). z.0) same in
@@ -101,7 +103,14 @@ module _ (file : List ℕ) (sound : IsSound file) where
       cases false e =
           absurd
           (sound ExecSegments (segment_place file i)
-          (inr (inl (inr (i, p_is.0, ((j, q_is.0, eqb-false j i e, (k, subst (IsFileByte k) (sym p_is.1) in_p, subst (IsFileByte k) (sym q_is.1) in_q)), refl))))))
+          (inr (inl (inr (
+            i,
+            p_is.0,
+            (
+              (j, q_is.0, eqb-false j i e, (k, subst (IsFileByte k) (sym p_is.1) in_p, subst (IsFileByte k) (sym q_is.1) in_q)),
+              refl,
+            ),
+          )))))
 
   -- The executable segment.
   module _ (code : ℕ) (p : Segment) (found : executable_segment ps ≡ Some (code, p)) where
@@ -139,18 +148,22 @@ module _ (file : List ℕ) (sound : IsSound file) where
     code-whole =
         subst (λ (q : Segment). q.filesz ≡ q.memsz) code-is.1
         (stable_equal (segment file code).filesz (segment file code).memsz
-        (λ differ. sound ExecSegments (segment_place file code) (inl (inr (inr (code, code-is.0, ((is_code-file, inr differ), refl)))))))
+        (λ differ. sound ExecSegments (segment_place file code)
+        (inl (inr (inr (code, code-is.0, ((is_code-file, inr differ), refl)))))))
 
     pub code-unwritable : has_flag PF_W p ≡ false
     code-unwritable = cases (has_flag PF_W p) refl
       where
         cases : (b : Bool) → has_flag PF_W p ≡ b → has_flag PF_W p ≡ false
         cases false e = e
-        cases true e = absurd (sound WritableCode (segment_place file code) (code, code-is.0, ((is_code-file, ap (has_flag PF_W) code-is.1 ∙ e), refl)))
+        cases true e = absurd (sound WritableCode (segment_place file code)
+            (code, code-is.0, ((is_code-file, ap (has_flag PF_W) code-is.1 ∙ e), refl)))
 
     -- none of another index is lower, or as low and before it
-    lowest : (j : ℕ) → IsCode file j → j < e_phnum file → ((segment file code).vaddr < (segment file j).vaddr) ⊎ (((segment file code).vaddr ≡ (segment file j).vaddr) × (code ≤ j))
-    lowest j (below, is) also = cases (cases_lt (segment file j).vaddr p.vaddr) (cases_lt p.vaddr (segment file j).vaddr) (cases_lt j code)
+    lowest : (j : ℕ) → IsCode file j → j < e_phnum file →
+        ((segment file code).vaddr < (segment file j).vaddr) ⊎ (((segment file code).vaddr ≡ (segment file j).vaddr) × (code ≤ j))
+    lowest j (below, is) also =
+        cases (cases_lt (segment file j).vaddr p.vaddr) (cases_lt p.vaddr (segment file j).vaddr) (cases_lt j code)
       where
         inside : j < length ps
         inside = let n = length-segments_of file in omega arith
@@ -169,22 +182,30 @@ module _ (file : List ℕ) (sound : IsSound file) where
 
         none_lower : (segment file j).vaddr < p.vaddr → ⊥
         none_lower low =
-            let lower : (is_code_segment (segment file j) && nat_lt (segment file j).vaddr p.vaddr) ≡ true = and_from (is_code_segment (segment file j)) (nat_lt (segment file j).vaddr p.vaddr) is (lt-ltb (segment file j).vaddr p.vaddr low) in
+            let lower : (is_code_segment (segment file j) && nat_lt (segment file j).vaddr p.vaddr) ≡ true =
+            and_from (is_code_segment (segment file j)) (nat_lt (segment file j).vaddr p.vaddr) is
+            (lt-ltb (segment file j).vaddr p.vaddr low) in
             let some : list_any (λ q. is_code_segment q && nat_lt q.vaddr p.vaddr) ps ≡ true =
-            list_any_at (λ q. is_code_segment q && nat_lt q.vaddr p.vaddr) ps j p inside (ap (λ (q : Segment). is_code_segment q && nat_lt q.vaddr p.vaddr) here ∙ lower) in
+            list_any_at (λ q. is_code_segment q && nat_lt q.vaddr p.vaddr) ps j p inside
+            (ap (λ (q : Segment). is_code_segment q && nat_lt q.vaddr p.vaddr) here ∙ lower) in
             let differ : false ≡ true = ap not (sym some) ∙ passes in
             absurd (cc)
 
         not_before : (segment file j).vaddr ≡ p.vaddr → j < code → ⊥
         not_before same before =
             let at : 0 + j ≡ j = omega arith in
-            let fails : (is_code_segment (get_or ps j p) && is_lowest ps (get_or ps j p)) ≡ false = first.first j p (omega arith) in
+            let fails : (is_code_segment (get_or ps j p) && is_lowest ps (get_or ps j p)) ≡ false =
+            first.first j p (omega arith) in
             let also_lowest : lowest_of (segment file j).vaddr ≡ true = ap lowest_of same ∙ passes in
-            let holds : (is_code_segment (segment file j) && is_lowest ps (segment file j)) ≡ true = and_from (is_code_segment (segment file j)) (is_lowest ps (segment file j)) is also_lowest in
-            let differ : true ≡ false = sym holds ∙ ap (λ (q : Segment). is_code_segment q && is_lowest ps q) (sym here) ∙ fails in
+            let holds : (is_code_segment (segment file j) && is_lowest ps (segment file j)) ≡ true =
+            and_from (is_code_segment (segment file j)) (is_lowest ps (segment file j)) is also_lowest in
+            let differ : true ≡ false =
+            sym holds ∙ ap (λ (q : Segment). is_code_segment q && is_lowest ps q) (sym here) ∙ fails in
             absurd (cc)
 
-        cases : ((segment file j).vaddr < p.vaddr) ⊎ (p.vaddr ≤ (segment file j).vaddr) → (p.vaddr < (segment file j).vaddr) ⊎ ((segment file j).vaddr ≤ p.vaddr) → (j < code) ⊎ (code ≤ j) → ((segment file code).vaddr < (segment file j).vaddr) ⊎ (((segment file code).vaddr ≡ (segment file j).vaddr) × (code ≤ j))
+        cases : ((segment file j).vaddr < p.vaddr) ⊎ (p.vaddr ≤ (segment file j).vaddr) → (p.vaddr < (segment file j).vaddr)
+            ⊎ ((segment file j).vaddr ≤ p.vaddr) → (j < code) ⊎ (code ≤ j) → ((segment file code).vaddr < (segment file j).vaddr)
+            ⊎ (((segment file code).vaddr ≡ (segment file j).vaddr) × (code ≤ j))
         cases (inl low) other order = absurd (none_lower low)
         cases (inr from) (inl above) order = inl (omega (arith, code_place))
         cases (inr from) (inr under) (inl before) = absurd (not_before (omega arith) before)
@@ -200,7 +221,8 @@ module _ (file : List ℕ) (sound : IsSound file) where
         q_is : (i < e_phnum file) × (segment file i ≡ q)
         q_is = header-is i q below is
 
-        cases : (p.offset + p.filesz < q.offset + q.filesz) ⊎ (q.offset + q.filesz ≤ p.offset + p.filesz) → q.offset + q.filesz ≤ p.offset + p.filesz
+        cases : (p.offset + p.filesz < q.offset + q.filesz) ⊎ (q.offset + q.filesz ≤ p.offset + p.filesz) →
+            q.offset + q.filesz ≤ p.offset + p.filesz
         cases (inr within) = within
         cases (inl past) =
             absurd
@@ -212,8 +234,10 @@ module _ (file : List ℕ) (sound : IsSound file) where
                 (
                   code,
                   is_lowest-code,
-                  subst (λ (x : Segment). (segment file i).offset < x.offset + x.filesz) (sym code-is.1) (subst (λ (x : Segment). x.offset < p.offset + p.filesz) (sym q_is.1) before),
-                  subst (λ (x : Segment). x.offset + x.filesz < (segment file i).offset + (segment file i).filesz) (sym code-is.1) (subst (λ (x : Segment). p.offset + p.filesz < x.offset + x.filesz) (sym q_is.1) past),
+                  subst (λ (x : Segment). (segment file i).offset < x.offset + x.filesz) (sym code-is.1)
+                      (subst (λ (x : Segment). x.offset < p.offset + p.filesz) (sym q_is.1) before),
+                  subst (λ (x : Segment). x.offset + x.filesz < (segment file i).offset + (segment file i).filesz) (sym code-is.1)
+                      (subst (λ (x : Segment). p.offset + p.filesz < x.offset + x.filesz) (sym q_is.1) past),
                 ),
                 refl,
               ),
@@ -222,7 +246,9 @@ module _ (file : List ℕ) (sound : IsSound file) where
     pub table_crosses_not : e_phoff file < p.offset + p.filesz → e_phoff file + PHDR_SIZE * e_phnum file ≤ p.offset + p.filesz
     table_crosses_not before = cases (cases_lt (p.offset + p.filesz) (e_phoff file + PHDR_SIZE * e_phnum file))
       where
-        cases : (p.offset + p.filesz < e_phoff file + PHDR_SIZE * e_phnum file) ⊎ (e_phoff file + PHDR_SIZE * e_phnum file ≤ p.offset + p.filesz) → e_phoff file + PHDR_SIZE * e_phnum file ≤ p.offset + p.filesz
+        cases : (p.offset + p.filesz < e_phoff file + PHDR_SIZE * e_phnum file)
+            ⊎ (e_phoff file + PHDR_SIZE * e_phnum file ≤ p.offset + p.filesz) →
+            e_phoff file + PHDR_SIZE * e_phnum file ≤ p.offset + p.filesz
         cases (inr within) = within
         cases (inl past) =
             absurd

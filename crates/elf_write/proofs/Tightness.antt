@@ -26,14 +26,16 @@ module _ (s : Source) (below : area_start s.elf.segments.items < area_above s.el
       let some : 0 < length s.code = placed.some in
       let start : ℕ = area_start s.elf.segments.items in
       none-or-some (owner s.spans start) true
-      (placed.stretch start ∙ and_from (nat_le start start) (nat_lt start (start + length s.code)) (le-leb start start (omega arith)) (lt-ltb start (start + length s.code) (omega arith)))
+      (placed.stretch start ∙ and_from (nat_le start start) (nat_lt start (start + length s.code))
+      (le-leb start start (omega arith)) (lt-ltb start (start + length s.code) (omega arith)))
   is-tight true placed =
       let start : ℕ = area_start s.elf.segments.items in
       none-or-some (owner s.spans start) false
       (placed.stretch start ∙ rw (lt-leb (area_above s.elf.segments.items) start below) refl)
 
 -- the new segment starts above the executable one
-pub starts-above : (ps : List Segment) (code : ℕ) (p : Segment) → executable_segment ps ≡ Some (code, p) → Contains ps p → is_load p ≡ true → area_start ps < area_above ps
+pub starts-above : (ps : List Segment) (code : ℕ) (p : Segment) → executable_segment ps ≡ Some (code, p) → Contains ps p →
+    is_load p ≡ true → area_start ps < area_above ps
 starts-above ps code p found there load =
     let end : code_end ps ≡ end_of p = ap (λ (o : Option (ℕ × Segment)). option_map_or (λ e. end_of e.1) o 0) found in
     let high : end_of p ≤ highest_end ps = max-above is_load end_of ps 0 p there load in

@@ -22,7 +22,8 @@ pub record PartsFit (parts : Parts) (ps : List Segment) (file_end delta : ℕ) :
   pub enough : file_end ≤ parts.keep
   pub moved : parts.low < parts.high → parts.low + delta ≡ parts.behind_at
   pub apart : (p : Segment) → Contains ps p → IsTrue (is_load p) → CrossesNot file_end p
-  pub all : (p : Segment) → Contains ps p → IsTrue (is_load p) → file_end ≤ p.offset → 0 < p.filesz → (parts.low ≤ p.offset) × (p.offset + p.filesz ≤ parts.high)
+  pub all : (p : Segment) → Contains ps p → IsTrue (is_load p) → file_end ≤ p.offset → 0 < p.filesz →
+      (parts.low ≤ p.offset) × (p.offset + p.filesz ≤ parts.high)
 
 -- each loaded segment is in the written file
 abbrev pub AreNewLoads : ℕ → ℕ → List Segment → List Segment → Type 0
@@ -32,10 +33,14 @@ AreNewLoads file_end delta ps qs =
 -- the patches leave the loaded bytes alone that don't change
 abbrev pub LeavesUnchanged : List ℕ → List Segment → ℕ → ℕ → (ℕ → Bool) → List Patch → Type 0
 LeavesUnchanged input ps file_end delta changed patches =
-    (p : Segment) → Contains ps p → (k : ℕ) → IsFileByte k p → k - p.offset < p.memsz → IsFalse (changed (p.vaddr + (k - p.offset))) →
-    All (Leaves (moved_by file_end delta k) (get_or input k 0)) patches
+    (p : Segment) → Contains ps p → (k : ℕ) → IsFileByte k p → k - p.offset < p.memsz →
+    IsFalse (changed (p.vaddr + (k - p.offset))) → All (Leaves (moved_by file_end delta k) (get_or input k 0)) patches
 
-pub image-written : (input area tail base : List ℕ) (patches : List Patch) (parts : Parts) (ps qs : List Segment) (file_end delta : ℕ) (changed : ℕ → Bool) → CanStand parts (length input) (length area) → HasParts parts input area base → PartsFit parts ps file_end delta → AreNewLoads file_end delta ps qs → LoadOnce qs → All (IsWithin (length (base ++ tail))) patches → LeavesUnchanged input ps file_end delta changed patches → CarriesImage input (put_all (base ++ tail) patches) changed ps qs
+pub image-written : (input area tail base : List ℕ) (patches : List Patch) (parts : Parts) (ps qs : List Segment)
+    (file_end delta : ℕ) (changed : ℕ → Bool) → CanStand parts (length input) (length area) → HasParts parts input area base →
+    PartsFit parts ps file_end delta → AreNewLoads file_end delta ps qs → LoadOnce qs →
+    All (IsWithin (length (base ++ tail))) patches → LeavesUnchanged input ps file_end delta changed patches →
+    CarriesImage input (put_all (base ++ tail) patches) changed ps qs
 image-written input area tail base patches parts ps qs file_end delta changed can has fit new once within leaves =
     image-carried input written changed ps qs once
     (λ p there load.
@@ -63,18 +68,21 @@ image-written input area tail base patches parts ps qs file_end delta changed ca
     front_size : parts.keep ≤ parts.behind_at
     front_size = let a = can.apart in let b = can.behind in omega arith
 
-    in_base : (p : Segment) → Contains ps p → (k : ℕ) → IsFileByte k p → get_or (base ++ tail) (moved_by file_end delta k) 0 ≡ get_or input k 0
+    in_base : (p : Segment) → Contains ps p → (k : ℕ) → IsFileByte k p →
+        get_or (base ++ tail) (moved_by file_end delta k) 0 ≡ get_or input k 0
     in_base =
         keeps-stretches input (base ++ tail) ps file_end delta parts.low parts.high parts.keep fit.enough
         (λ k below. in_front k (omega (arith, base_size, front_size)) ∙ front-byte parts input area base k has can.front below)
         (λ k from below.
         let moved : parts.low + delta ≡ parts.behind_at = fit.moved (omega arith) in
-        in_front (k + delta) (omega (arith, base_size, moved, ordered)) ∙ behind-byte parts input area base delta k has can.from_input moved from below)
+        in_front (k + delta) (omega (arith, base_size, moved, ordered))
+        ∙ behind-byte parts input area base delta k has can.from_input moved from below)
         fit.apart fit.all
 
     keeps : KeepsLoaded input written ps file_end delta changed
     keeps p there k in_file in_memory kept =
         let same : get_or (base ++ tail) (moved_by file_end delta k) 0 ≡ get_or input k 0 = in_base p there k in_file in
         get_or-put_all_leaves patches (base ++ tail) (moved_by file_end delta k) within
-        (λ j d below. subst (λ (b : ℕ). Leaves (moved_by file_end delta k) b (get_or patches j d)) (sym same) (leaves p there k in_file in_memory kept j d below))
+        (λ j d below. subst (λ (b : ℕ). Leaves (moved_by file_end delta k) b (get_or patches j d)) (sym same)
+        (leaves p there k in_file in_memory kept j d below))
         ∙ same

@@ -3,7 +3,7 @@ use Rattle.std.specs.Prelude.{◌≡◌, ℕ, ◌+◌, ◌<◌, ◌≤◌, List,
 use Rattle.addr_map.specs.declared.span.Span.{Span}
 use Rattle.rv_code.specs.declared.placed.Func.{Func}
 use Rattle.elf_write.specs.declared.runs.Run.{Run}
-use Rattle.elf_write.specs.Runs.{function_at}
+use Rattle.rv_code.specs.layout.InFunctions.{function_at}
 
 -- one lies before another, and doesn't meet it if both are of one function
 pub record Apart (r s : Run) : Type 0 where

@@ -1,5 +1,6 @@
 -- The new area: the new code, and behind it the tables that are loaded.
-use Rattle.std.specs.Prelude.{ℕ, ◌+◌, ◌-◌, ◌&&◌, nat_le, nat_lt, max, min, if◌then◌else◌, Bool, List, Option, Some, None, fold, filter, map}
+use Rattle.std.specs.Prelude.{ℕ, ◌+◌, ◌-◌, ◌&&◌, nat_le, nat_lt, max, min, if◌then◌else◌, Bool, List, Option, Some, None, fold}
+use Rattle.std.specs.Prelude.{filter, map}
 use Rattle.std.specs.Option.{option_map_or}
 use Rattle.elf_image.specs.declared.segment.Segment.{Segment}
 use Rattle.elf_image.specs.memory.CodeSegment.{executable_segment}
@@ -94,7 +95,8 @@ abbrev pub step_of : List Segment → Area → ℕ
 step_of segments area =
     if area.tight
     then 0
-    else option_map_or (λ low. rounded_up (greatest_align segments) (offset_in area area.end - low)) (lowest_behind (code_file_end segments) segments) 0
+    else option_map_or (λ low. rounded_up (greatest_align segments) (offset_in area area.end - low))
+    (lowest_behind (code_file_end segments) segments) 0
 
 abbrev pub shift_of : List Segment → Area → Shift
 shift_of segments area = record { from = code_file_end segments; by = step_of segments area }

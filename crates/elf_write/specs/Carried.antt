@@ -1,5 +1,6 @@
 -- What a written file has of its input's memory, and what else it has there.
-use Rattle.std.specs.Prelude.{◌≡◌, ◌⊎◌, ℕ, ◌+◌, ◌<◌, ◌≤◌, Bool, List, Contains, Some, IsTrue, IsFalse, IsSome, slice_index, length}
+use Rattle.std.specs.Prelude.{◌≡◌, ◌⊎◌, ℕ, ◌+◌, ◌<◌, ◌≤◌, Bool, List, Contains, Some, IsTrue, IsFalse, IsSome, slice_index}
+use Rattle.std.specs.Prelude.{length}
 use Rattle.elf_image.specs.declared.segment.Segment.{Segment}
 use Rattle.elf_image.specs.memory.Image.{image_byte, is_load, is_loaded_with}
 
@@ -12,7 +13,8 @@ pub record CarriesSegment (input output : List ℕ) (changed : ℕ → Bool) (p 
   pub vaddr : q.vaddr ≡ p.vaddr
   pub memory : p.memsz ≤ q.memsz
   pub from_file : (q.filesz ≡ p.filesz) ⊎ ((p.memsz ≡ p.filesz) × (p.filesz ≤ q.filesz))
-  pub bytes : (k : ℕ) → k < p.filesz → k < p.memsz → IsFalse (changed (p.vaddr + k)) → slice_index output (q.offset + k) ≡ slice_index input (p.offset + k)
+  pub bytes : (k : ℕ) → k < p.filesz → k < p.memsz → IsFalse (changed (p.vaddr + k)) →
+      slice_index output (q.offset + k) ≡ slice_index input (p.offset + k)
 
 abbrev pub CarriesSegments : List ℕ → List ℕ → (ℕ → Bool) → List Segment → List Segment → Type 0
 CarriesSegments input output changed ps qs =
@@ -26,7 +28,8 @@ pub record CarriesByte (output : List ℕ) (changed : Bool) (ps qs : List Segmen
 
 -- the memory of the input is there
 abbrev pub CarriesImage : List ℕ → List ℕ → (ℕ → Bool) → List Segment → List Segment → Type 0
-CarriesImage input output changed ps qs = (a byte : ℕ) → image_byte input ps a ≡ Some byte → CarriesByte output (changed a) ps qs a byte
+CarriesImage input output changed ps qs =
+    (a byte : ℕ) → image_byte input ps a ≡ Some byte → CarriesByte output (changed a) ps qs a byte
 
 -- bytes in memory, from an address on
 abbrev pub HoldsBytes : List ℕ → List Segment → ℕ → List ℕ → Type 0

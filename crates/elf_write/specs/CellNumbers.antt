@@ -19,4 +19,5 @@ pub record IsCellNumber (elf : Elf) (shift : Shift) (cell : ℕ × ℕ × ℕ) (
 
 pub record AreCellNumbers (elf : Elf) (shift : Shift) (cells : List (ℕ × ℕ × ℕ)) (numbers : List NumberAt) : Type 0 where
   pub count : length numbers ≡ length cells
-  pub each : (i : ℕ) (c : ℕ × ℕ × ℕ) (n : NumberAt) → i < length cells → IsCellNumber elf shift (slice_index_or cells i c) (slice_index_or numbers i n)
+  pub each : (i : ℕ) (c : ℕ × ℕ × ℕ) (n : NumberAt) → i < length cells →
+      IsCellNumber elf shift (slice_index_or cells i c) (slice_index_or numbers i n)

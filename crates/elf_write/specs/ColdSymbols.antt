@@ -3,7 +3,7 @@ use Rattle.std.specs.Prelude.{ℕ, ◌&&◌, ◌==◌, ◌++◌, List, Option, f
 use Rattle.rv_code.specs.declared.placed.Func.{Func}
 use Rattle.elf_image.specs.declared.elf.Symbol.{Symbol}
 use Rattle.elf_image.specs.code.Cuts.{names_function}
-use Rattle.elf_write.specs.Runs.{holds}
+use Rattle.rv_code.specs.layout.InFunctions.{holds}
 
 -- where the function starts that has an address
 abbrev pub start_around : List Func → ℕ → Option ℕ

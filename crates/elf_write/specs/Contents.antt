@@ -1,5 +1,6 @@
 -- Where the contents of the input's sections are in a written file. gABI, "Section Header".
-use Rattle.std.specs.Prelude.{ℕ, ◌+◌, ◌==◌, ◌&&◌, ◌||◌, not, nat_le, if◌then◌else◌, Bool, false, List, [], Option, None, String, Vec, string_bytes, codes, position, take, drop}
+use Rattle.std.specs.Prelude.{ℕ, ◌+◌, ◌==◌, ◌&&◌, ◌||◌, not, nat_le, if◌then◌else◌, Bool, false, List, [], Option, None, String}
+use Rattle.std.specs.Prelude.{Vec, string_bytes, codes, position, take, drop}
 use Rattle.std.specs.List.{list_any}
 use Rattle.std.specs.Option.{option_map_or}
 use Rattle.std.specs.Str.{bytes_eq}
@@ -14,7 +15,8 @@ use Rattle.elf_image.specs.memory.Image.{is_load}
 use Rattle.elf_write.specs.declared.area.Area.{Area}
 use Rattle.elf_write.specs.declared.area.Shift.{Shift}
 use Rattle.elf_write.specs.declared.sections.Contents.{Contents}
-use Rattle.elf_write.specs.declared.sections.Contents.TheVariants.{Dropped, Kept, Copied, SectionNames, Symbols, SymbolNames, Given}
+use Rattle.elf_write.specs.declared.sections.Contents.TheVariants.{Dropped, Kept, Copied, SectionNames, Symbols, SymbolNames}
+use Rattle.elf_write.specs.declared.sections.Contents.TheVariants.{Given}
 use Rattle.elf_write.specs.Area.{loads_end}
 use Rattle.elf_write.specs.NameTables.{place_of_symbols, place_of_names}
 

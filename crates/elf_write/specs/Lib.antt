@@ -1,5 +1,6 @@
 pub mod AllRuns
 pub mod Area
+pub mod AreaTables
 pub mod Carried
 pub mod CellNumbers
 pub mod ColdSymbols

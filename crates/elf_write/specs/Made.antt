@@ -57,12 +57,13 @@ number offset width value = record { offset = offset; width = width; value = val
 
 abbrev pub header_numbers : HeaderFields → List NumberAt
 header_numbers fields =
-    number 0x18 8 fields.entry ∷ number 0x20 8 fields.segments_at ∷ number 0x28 8 fields.sections_at ∷ number 0x38 2 fields.segments
-    ∷ number 0x3c 2 fields.sections ∷ number 0x3e 2 fields.names ∷ []
+    number 0x18 8 fields.entry ∷ number 0x20 8 fields.segments_at ∷ number 0x28 8 fields.sections_at
+    ∷ number 0x38 2 fields.segments ∷ number 0x3c 2 fields.sections ∷ number 0x3e 2 fields.names ∷ []
 
 -- The parts and a tail, with code cells, the table of program headers and fields of the file's header put over their bytes.
 -- All lie within the file.
-pub record IsPut (layout : Layout) (input tail : List ℕ) (cells : List NumberAt) (segments : List Segment) (fields : List NumberAt) (table_at : ℕ) (w : List ℕ) : Type 0 where
+pub record IsPut (layout : Layout) (input tail : List ℕ) (cells : List NumberAt) (segments : List Segment)
+    (fields : List NumberAt) (table_at : ℕ) (w : List ℕ) : Type 0 where
   pub fit : All SegmentFits segments
   pub cells_fit : All (CanPut (size_of layout.parts + length tail)) cells
   pub fields_fit : All (CanPut (size_of layout.parts + length tail)) fields

@@ -1,5 +1,6 @@
 -- The tables of names of a file, which are written anew. gABI, "String Table".
-use Rattle.std.specs.Prelude.{ℕ, ◌==◌, nat_lt, if◌then◌else◌, List, Option, Some, None, length, find, position, slice_get, option_and_then}
+use Rattle.std.specs.Prelude.{ℕ, ◌==◌, nat_lt, if◌then◌else◌, List, Option, Some, None, length, find, position, slice_get}
+use Rattle.std.specs.Prelude.{option_and_then}
 use Rattle.std.specs.Option.{option_map_or}
 use Rattle.elf_image.specs.declared.elf.Elf.{Elf}
 use Rattle.elf_image.specs.declared.elf.Section.{Section}
@@ -20,7 +21,9 @@ place_of_symbols elf = position (λ s. s.kind == SHT_SYMTAB) elf.sections.items
 -- the one with the names of symbols, where there are symbols
 abbrev pub names_of_symbols : Elf → Option Section
 names_of_symbols elf =
-    if length elf.symbols.items == 0 then None else option_map_or (λ s. slice_get elf.sections.items s.link) (symbols_section elf) None
+    if length elf.symbols.items == 0
+    then None
+    else option_map_or (λ s. slice_get elf.sections.items s.link) (symbols_section elf) None
 
 -- its index, if there is a section of that
 abbrev pub among : List Section → ℕ → Option ℕ

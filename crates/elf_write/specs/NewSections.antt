@@ -1,5 +1,6 @@
 -- The sections of a written file, beside those of its input. gABI, "Section Header".
-use Rattle.std.specs.Prelude.{◌≡◌, ℕ, ◌+◌, ◌-◌, ◌%◌, ◌==◌, ◌&&◌, is_none, is_some, min, max, if◌then◌else◌, Bool, List, [], Some, IfSome, IsTrue, String, Vec, string_bytes, codes, find, length, slice_get}
+use Rattle.std.specs.Prelude.{◌≡◌, ℕ, ◌+◌, ◌-◌, ◌%◌, ◌==◌, ◌&&◌, is_none, is_some, min, max, if◌then◌else◌, Bool, List, []}
+use Rattle.std.specs.Prelude.{Some, IfSome, IsTrue, String, Vec, string_bytes, codes, find, length, slice_get}
 use Rattle.std.specs.Option.{option_map_or}
 use Rattle.std.specs.Str.{bytes_eq}
 use Rattle.elf_image.specs.declared.elf.Elf.{Elf}
@@ -12,7 +13,8 @@ use Rattle.elf_write.specs.declared.area.Area.{Area}
 use Rattle.elf_write.specs.declared.area.Shift.{Shift}
 use Rattle.elf_write.specs.declared.headers.TheConstants.{SHT_NULL}
 use Rattle.elf_write.specs.declared.sections.Contents.{Contents}
-use Rattle.elf_write.specs.declared.sections.Contents.TheVariants.{Dropped, Kept, Copied, SectionNames, Symbols, SymbolNames, Given}
+use Rattle.elf_write.specs.declared.sections.Contents.TheVariants.{Dropped, Kept, Copied, SectionNames, Symbols, SymbolNames}
+use Rattle.elf_write.specs.declared.sections.Contents.TheVariants.{Given}
 use Rattle.elf_write.specs.Area.{moved_by, offset_in}
 use Rattle.elf_write.specs.Contents.{contents_of, section_bytes}
 use Rattle.elf_write.specs.OldNames.{new_name}

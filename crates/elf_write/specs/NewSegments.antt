@@ -1,5 +1,6 @@
 -- How the program headers of a written file follow those of the input.
-use Rattle.std.specs.Prelude.{◌≡◌, ◌⊎◌, ℕ, ◌+◌, ◌-◌, ◌<◌, ◌≤◌, ◌&&◌, ◌==◌, not, Bool, true, false, List, ◌∷◌, ◌++◌, take, drop, length, IsTrue, slice_index_or}
+use Rattle.std.specs.Prelude.{◌≡◌, ◌⊎◌, ℕ, ◌+◌, ◌-◌, ◌<◌, ◌≤◌, ◌&&◌, ◌==◌, not, Bool, true, false, List, ◌∷◌, ◌++◌, take, drop}
+use Rattle.std.specs.Prelude.{length, IsTrue, slice_index_or}
 use Rattle.elf_image.specs.declared.segment.Segment.{Segment}
 use Rattle.elf_image.specs.declared.segment.TheConstants.{PT_LOAD, PF_R, PF_X, PT_GNU_EH_FRAME}
 use Rattle.elf_image.specs.file.Header.{e_phnum}
@@ -19,7 +20,8 @@ pub record IsNewLoad (file_end step : ℕ) (p q : Segment) : Type 0 where
   pub flags : q.flags ≡ p.flags
   pub vaddr : q.vaddr ≡ p.vaddr
   pub offset : 0 < p.filesz → q.offset ≡ moved_by file_end step p.offset
-  pub sizes : ((q.filesz ≡ p.filesz) × (q.memsz ≡ p.memsz)) ⊎ ((p.memsz ≡ p.filesz) × (p.filesz ≤ q.filesz) × (q.memsz ≡ q.filesz))
+  pub sizes : ((q.filesz ≡ p.filesz) × (q.memsz ≡ p.memsz))
+      ⊎ ((p.memsz ≡ p.filesz) × (p.filesz ≤ q.filesz) × (q.memsz ≡ q.filesz))
 
 -- A header of the input and that of the written file. Only the executable segment may grow, to an end; and only a file
 -- that isn't tight keeps the place and size of its table of program headers.
@@ -40,7 +42,8 @@ pub record IsRenewed (file_end step end : ℕ) (tight grows : Bool) (p q : Segme
 -- each header of a list, by its index
 pub record AreRenewed (file_end step end : ℕ) (tight : Bool) (grows : ℕ → Bool) (ps qs : List Segment) : Type 0 where
   pub count : length qs ≡ length ps
-  pub each : (i : ℕ) (d e : Segment) → i < length ps → IsRenewed file_end step end tight (grows i) (slice_index_or ps i d) (slice_index_or qs i e)
+  pub each : (i : ℕ) (d e : Segment) → i < length ps →
+      IsRenewed file_end step end tight (grows i) (slice_index_or ps i d) (slice_index_or qs i e)
 
 -- A segment whose bytes all come from the file, with the area behind it.
 pub record CanGrow (file_end end : ℕ) (p : Segment) : Type 0 where
@@ -52,7 +55,8 @@ abbrev pub grown : ℕ → Segment → Segment
 grown end p = record p { filesz = end - p.vaddr; memsz = end - p.vaddr }
 
 abbrev pub CanGrowAt : ℕ → ℕ → Bool → ℕ → List Segment → Type 0
-CanGrowAt file_end end tight code ps = tight ≡ false → (d : Segment) → code < length ps → CanGrow file_end end (slice_index_or ps code d)
+CanGrowAt file_end end tight code ps =
+    tight ≡ false → (d : Segment) → code < length ps → CanGrow file_end end (slice_index_or ps code d)
 
 -- The executable segment, of an index, grows where the area stands behind it.
 abbrev pub grows_at : Bool → ℕ → ℕ → Bool

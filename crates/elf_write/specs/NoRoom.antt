@@ -14,7 +14,8 @@ abbrev pub no_room_place : List Segment → ℕ
 no_room_place segments = min (area_above segments) (2 ^ 64 - 1)
 
 abbrev pub no_room_fault : List Segment → ℕ → Fault
-no_room_fault segments need = record { kind = fault.NoRoom; place = no_room_place segments; need = need; room = room_above segments }
+no_room_fault segments need =
+    record { kind = fault.NoRoom; place = no_room_place segments; need = need; room = room_above segments }
 
 abbrev pub no_room : List Segment → ℕ → Option Fault
 no_room segments need = if has_no_room segments need then Some (no_room_fault segments need) else None

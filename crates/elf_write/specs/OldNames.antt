@@ -2,12 +2,12 @@
 use Rattle.std.specs.Prelude.{ℕ, ◌||◌, if◌then◌else◌, Bool, nat_eq, List, ◌++◌, codes}
 use Rattle.std.specs.List.{starts_with}
 use Rattle.elf_image.specs.declared.elf.Section.{Section}
-use Rattle.elf_image.specs.code.Cuts.{holds_code}
+use Rattle.elf_image.specs.file.Sections.{holds_code}
 use Rattle.elf_image.specs.file.SectionNames.{names_frames}
 
 -- each one with instructions, and all that are called as the unwind tables are, loaded or not
 abbrev pub is_renamed : Section → Bool
-is_renamed s = holds_code s || names_frames s.name.now
+is_renamed s = holds_code s.flags || names_frames s.name.now
 
 abbrev pub old_name : List ℕ → List ℕ
 old_name name = if starts_with nat_eq name (codes ".") then codes ".old" ++ name else codes ".old." ++ name

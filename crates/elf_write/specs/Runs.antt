@@ -1,15 +1,8 @@
--- The function that has an address, and runs: stretches of new code whose bytes belong to one function.
-use Rattle.std.specs.Prelude.{◌≡◌, ℕ, ◌+◌, ◌<◌, ◌≤◌, ◌&&◌, nat_le, nat_lt, Bool, List, Option, Some, IfSome, All, position}
+-- Runs: stretches of new code whose bytes belong to one function.
+use Rattle.std.specs.Prelude.{◌≡◌, ℕ, ◌+◌, ◌<◌, ◌≤◌, List, Some, IfSome, All}
 use Rattle.addr_map.specs.declared.span.Span.{Span}
 use Rattle.rv_code.specs.declared.placed.Func.{Func}
-
--- an address lies in a function
-abbrev pub holds : ℕ → Func → Bool
-holds a func = nat_le func.start a && nat_lt a func.end
-
--- the place of the function in which an address lies
-abbrev pub function_at : List Func → ℕ → Option ℕ
-function_at funcs a = position (holds a) funcs
+use Rattle.rv_code.specs.layout.InFunctions.{function_at}
 
 -- The new code from an address on, for so many bytes, is that of one function, and no more of it follows there.
 pub record IsRun (funcs : List Func) (spans : List Span) (f to size : ℕ) : Type 0 where

@@ -42,7 +42,8 @@ source_area s tight = area_of s.elf.segments.items tight (length s.code) s.frame
 pub record IsPlaced (s : Source) (tight : Bool) : Type 0 where
   pub some : 0 < length s.code
   pub stretch : IsStretch s.spans (start_of s.elf.segments.items tight) (start_of s.elf.segments.items tight + length s.code)
-  pub fits : (source_area s tight).end - (source_area s tight).start ≤ (if tight then room_above s.elf.segments.items else room s.elf.segments.items)
+  pub fits : (source_area s tight).end - (source_area s tight).start ≤
+      (if tight then room_above s.elf.segments.items else room s.elf.segments.items)
 
 -- The bytes in memory that may differ: those of code cells, of the field of the entry point, and of hidden fields.
 abbrev pub cell_range : ℕ × ℕ × ℕ → Range

@@ -20,7 +20,8 @@ pub record CanHold (elf : Elf) (cell : ℕ × ℕ × ℕ) : Type 0 where
   pub width : (cell.1 ≡ 4) ⊎ (cell.1 ≡ 8)
   pub fits : cell.2 < 256 ^ cell.1
   pub from_file : (i : ℕ) → i < cell.1 → IsSome (file_offset elf.segments.items (cell.0 + i))
-  pub no_header : (i : ℕ) → i < cell.1 → IfSome (file_offset elf.segments.items (cell.0 + i)) (λ offset. IsInHeaders elf offset → ⊥)
+  pub no_header : (i : ℕ) → i < cell.1 →
+      IfSome (file_offset elf.segments.items (cell.0 + i)) (λ offset. IsInHeaders elf offset → ⊥)
 
 -- two cells without a byte in common
 abbrev pub AreApart : ℕ × ℕ × ℕ → ℕ × ℕ × ℕ → Type 0

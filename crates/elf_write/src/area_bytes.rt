@@ -1,8 +1,9 @@
 // The bytes of the new area: the new code, and the tables that are loaded behind it.
-ghost use Rattle.std.specs.Prelude.{◌≡◌, ℕ, List, IfOk, OnOk, find, string_bytes};
+ghost use Rattle.std.specs.Prelude.{◌≡◌, ◌-◌, ℕ, List, IfOk, IfSome, OnOk, codes, find, string_bytes};
 ghost use Rattle.std.specs.Option.{option_copied};
 ghost use Rattle.std.specs.Str.{bytes_eq};
 ghost use Rattle.elf_parts.specs.Patches.{Stands};
+ghost use Rattle.elf_write.specs.NewSections.{bytes_called};
 ghost use Rattle.elf_write.specs.TableSizes as spec;
 
 use crate::area::Area;
@@ -29,23 +30,35 @@ pub fn table_size(tables: &[Table], name: &[u8]) -> Option<usize>
     }
 }
 
-// Adds the table with a name at its address, behind bytes from a start on.
+/// Its bytes; none without one.
+pub fn bytes_called<'a>(tables: &'a [Table], name: &[u8]) -> &'a [u8]
+    ensures { result.now ≡ bytes_called tables.now name.now }
+{
+    match table_called(tables, name) {
+        Some(table) => &table.1,
+        None => &[],
+    }
+}
+
+// Adds a table at its address, if it has one, behind bytes from a start on.
 fn add_table(
     bytes: &mut Vec<u8>,
     start: u64,
     address: Option<u64>,
-    table: Option<&Table>,
+    table: &[u8],
 ) -> Result<(), NoMemory>
-    ensures { OnOk result ((xs : List ℕ) → Stands bytes.old.items 0 xs → Stands bytes.new.items 0 xs) }
+    ensures keeps { OnOk result ((o : ℕ) (xs : List ℕ) → Stands bytes.old.items o xs → Stands bytes.new.items o xs) }
+    ensures adds { OnOk result (IfSome address (λ a. Stands bytes.new.items (a - start) table.now)) }
 {
-    if let (Some(address), Some(table)) = (address, table) {
-        let place = address.saturating_sub(start) as usize;
-        if place < bytes.len() {
-            return Err(NoMemory);
-        }
-        fill_to(bytes, place)?;
-        bytes.extend_from_slice(&table.1)?;
+    let Some(address) = address else {
+        return Ok(());
+    };
+    let place = address.saturating_sub(start) as usize;
+    if place < bytes.len() {
+        return Err(NoMemory);
     }
+    fill_to(bytes, place)?;
+    bytes.extend_from_slice(table)?;
     Ok(())
 }
 
@@ -56,12 +69,16 @@ pub fn area_bytes(
     code: &[u8],
     tables: &[Table],
 ) -> Result<Vec<u8>, NoMemory>
-    ensures { IfOk result (λ bytes. Stands bytes.items 0 code.now) }
+    ensures code { IfOk result (λ bytes. Stands bytes.items 0 code.now) }
+    ensures frames { IfOk result (λ bytes. IfSome area.now.frames
+        (λ a. Stands bytes.items (a - area.now.start) (bytes_called tables.now (codes ".eh_frame")))) }
+    ensures index { IfOk result (λ bytes. IfSome area.now.index
+        (λ a. Stands bytes.items (a - area.now.start) (bytes_called tables.now (codes ".eh_frame_hdr")))) }
 {
     let mut bytes = Vec::from_slice(alloc, code)?;
-    let frames = table_called(tables, EH_FRAME);
+    let frames = bytes_called(tables, EH_FRAME);
     add_table(&mut bytes, area.start, area.frames, frames)?;
-    let index = table_called(tables, EH_FRAME_HDR);
+    let index = bytes_called(tables, EH_FRAME_HDR);
     add_table(&mut bytes, area.start, area.index, index)?;
     Ok(bytes)
 }

@@ -6,10 +6,10 @@ ghost use Rattle.elf_write.specs.Room as spec;
 ghost use Rattle.elf_write.specs.NoRoom as fault;
 ghost use Rattle.elf_image.specs.memory.Start.{writable_end};
 
-use crate::code_segment::executable_segment;
 use elf_image::segment::{PF_W, PHDR_SIZE, PT_LOAD};
 use elf_image::{Elf, Segment};
 use rb_bytes::fault::{Fault, FaultKind};
+use sym_machine::code_segment::executable_segment;
 
 /// All that is loaded lies below this address.
 pub const ADDRESS_END: u64 = 0x7fff_0000;

@@ -8,7 +8,6 @@ ghost use Rattle.elf_write.specs.Made.{IsLaidOut};
 
 use crate::area::{Area, Shift, area_of, start_of};
 use crate::area_bytes::{area_bytes, table_size};
-use crate::code_segment::executable_segment;
 use crate::placing::parts_of;
 use crate::round::sum;
 use crate::sections::Table;
@@ -19,6 +18,7 @@ use elf_image::named::{EH_FRAME, EH_FRAME_HDR};
 use elf_parts::Parts;
 use rb_bytes::fault::NoMemory;
 use std::alloc::Global;
+use sym_machine::code_segment::executable_segment;
 
 /// The loaded part of a written file.
 #[derive(Drop)]
@@ -35,6 +35,7 @@ pub struct Layout {
 impl Layout {
     ghost use Rattle.std.specs.Prelude.{◌≡◌, ◌≤◌, IfOk, codes};
     ghost use Rattle.elf_parts.specs.Parts.{size_of};
+    ghost use Rattle.elf_write.specs.AreaTables.{HasTables};
     ghost use Rattle.elf_write.specs.TableSizes as spec;
     ghost use Rattle.elf_write.specs.Made.{IsLaidOut};
 
@@ -46,7 +47,9 @@ impl Layout {
         code: &[u8],
         tables: &[Table],
     ) -> Result<Layout, NoMemory>
-        ensures { IfOk result (IsLaidOut elf.now tight code.now (spec.table_size tables.now (codes ".eh_frame")) (spec.table_size tables.now (codes ".eh_frame_hdr"))) }
+        ensures laid_out { IfOk result (IsLaidOut elf.now tight code.now (spec.table_size tables.now (codes ".eh_frame"))
+            (spec.table_size tables.now (codes ".eh_frame_hdr"))) }
+        ensures tables { IfOk result (HasTables tables.now) }
     {
         let segments = elf.segments.as_slice();
         let (index, executable) = executable_segment(segments).ok_or(NoMemory)?;

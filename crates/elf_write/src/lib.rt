@@ -5,7 +5,6 @@ pub mod area;
 pub mod area_bytes;
 pub mod capacity;
 pub mod cell_numbers;
-pub mod code_segment;
 pub mod first_names;
 pub mod header_fields;
 pub mod headers;

@@ -12,7 +12,7 @@ use crate::layout::Layout;
 use crate::name_tables::OwnSections;
 use crate::names::NameTable;
 use crate::round::sum;
-use crate::runs::runs;
+use crate::runs::Run;
 use crate::section_tables::DEBUG_RNGLISTS;
 use crate::sections::{Contents, Sections, Table, index_called, replaced_by};
 use crate::symbols::{NewCode, cold_symbols, local_count, symbol_table};
@@ -33,6 +33,8 @@ pub struct SectionSource<'a> {
     /// The addresses of cold parts in the input.
     pub cold: &'a [u64],
     pub map: &'a AddrMap,
+    /// The runs of functions in the new code.
+    pub runs: &'a [Run],
     pub tables: &'a [Table],
 }
 
@@ -152,11 +154,10 @@ impl<'a> SectionSource<'a> {
             return Ok(Vec::new(alloc));
         };
         let section = self.elf.sections.get(index).ok_or(NoMemory)?;
-        let runs = runs(alloc, self.funcs, self.map)?;
         let code = NewCode {
             funcs: self.funcs,
             map: self.map,
-            runs: &runs,
+            runs: self.runs,
             section: text,
         };
         let added = self.added_symbols(alloc, own, &code, names)?;

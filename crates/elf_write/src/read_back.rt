@@ -3,20 +3,20 @@ ghost use Rattle.std.specs.Prelude.{◌≡◌, IfOk, IsTrue};
 ghost use Rattle.rv_code.specs.layout.FunctionLists.{AreLaidOut};
 ghost use Rattle.elf_image.specs.faults.FileFaults.{IsSound};
 ghost use Rattle.elf_image.specs.faults.Truncation.{HasHeader};
+ghost use Rattle.elf_image.specs.file.Header.{e_shstrndx};
 ghost use Rattle.elf_image.specs.file.ParsedFile.{IsElfOf};
 ghost use Rattle.elf_write.specs.AllRuns.{AreRuns};
 ghost use Rattle.elf_write.specs.Area.{shift_of};
+ghost use Rattle.elf_write.specs.AreaTables.{AreaStands};
 ghost use Rattle.elf_write.specs.NewSections.{AreNewSections};
 ghost use Rattle.elf_write.specs.NewSymbols.{HaveNewSymbols};
 ghost use Rattle.elf_write.specs.NewTables.{HasNewTables, area_for};
 
 use crate::area::{Area, Shift, area_of};
 use crate::area_bytes::table_size;
-use crate::code_segment::executable_segment;
 use crate::kept_bytes::KeptBytes;
 use crate::name_tables::{OwnSections, place_of_symbols, symbols_section};
 use crate::new_sections::SectionSource;
-use crate::runs::{Run, runs};
 use crate::section_tables::SectionTables;
 use crate::sections::{Sections, Table, replaced_by};
 use crate::symbol_check::CodeSymbols;
@@ -25,6 +25,7 @@ use elf_image::named::{EH_FRAME, EH_FRAME_HDR};
 use elf_image::{Elf, read};
 use rb_bytes::fault::NoMemory;
 use std::alloc::Global;
+use sym_machine::code_segment::executable_segment;
 
 // The new area for some code and tables, and how bytes move to make room for it.
 fn area_for(
@@ -48,8 +49,9 @@ fn area_for(
 // Whether the sections are those that the file must have.
 fn has_sections(alloc: Global, tables: &SectionTables) -> Result<bool, NoMemory>
     requires old_header { HasHeader tables.now.elf.now.file.now }
-    requires new_header { HasHeader tables.now.new.now.file.now }
+    requires names { e_shstrndx tables.now.new.now.file.now ≡ e_shstrndx tables.now.elf.now.file.now }
     ensures { IfOk result (λ holds. IsTrue holds →
+        AreaStands tables.now.area tables.now.tables.now tables.now.code.now tables.now.new.now.file.now →
         AreNewSections tables.now.elf.now tables.now.new.now tables.now.tables.now tables.now.area tables.now.shift
         tables.now.code.now) }
 {
@@ -66,15 +68,10 @@ fn has_sections(alloc: Global, tables: &SectionTables) -> Result<bool, NoMemory>
     Ok(tables.are_new(&known))
 }
 
-// Whether the symbols are, by the runs of functions in the new code.
-fn symbols_are_new(
-    alloc: Global,
-    source: &SectionSource,
-    runs: &[Run],
-    new: &Elf,
-) -> Result<bool, NoMemory>
+// Whether the symbols are those that the file must have.
+fn has_symbols(alloc: Global, source: &SectionSource, new: &Elf) -> Result<bool, NoMemory>
     requires laid_out { AreLaidOut source.now.funcs.now }
-    requires runs { AreRuns source.now.funcs.now source.now.map.now runs.now }
+    requires runs { AreRuns source.now.funcs.now source.now.map.now source.now.runs.now }
     ensures { IfOk result (λ holds. IsTrue holds →
         HaveNewSymbols source.now.elf.now new.now source.now.funcs.now source.now.map.now source.now.cold.now) }
 {
@@ -88,7 +85,7 @@ fn symbols_are_new(
     let code = CodeSymbols {
         funcs: source.funcs,
         map: source.map,
-        runs,
+        runs: source.runs,
         text: u16::try_from(elf.sections.len()).map_err(|_| NoMemory)?,
     };
     let tables = SymbolTables {
@@ -100,16 +97,6 @@ fn symbols_are_new(
     tables.are_new(alloc, table, new_table)
 }
 
-// Whether the symbols are those that the file must have.
-fn has_symbols(alloc: Global, source: &SectionSource, new: &Elf) -> Result<bool, NoMemory>
-    requires { AreLaidOut source.now.funcs.now }
-    ensures { IfOk result (λ holds. IsTrue holds →
-        HaveNewSymbols source.now.elf.now new.now source.now.funcs.now source.now.map.now source.now.cold.now) }
-{
-    let runs = runs(alloc, source.funcs, source.map)?;
-    symbols_are_new(alloc, source, &runs, new)
-}
-
 // Whether both are.
 fn has_new_tables(
     alloc: Global,
@@ -119,9 +106,12 @@ fn has_new_tables(
     new: &Elf,
 ) -> Result<bool, NoMemory>
     requires old_header { HasHeader source.now.elf.now.file.now }
-    requires new_header { HasHeader new.now.file.now }
+    requires names { e_shstrndx new.now.file.now ≡ e_shstrndx source.now.elf.now.file.now }
     requires laid_out { AreLaidOut source.now.funcs.now }
+    requires runs { AreRuns source.now.funcs.now source.now.map.now source.now.runs.now }
     ensures sections { IfOk result (λ holds. IsTrue holds →
+        AreaStands (area_for source.now.elf.now source.now.tables.now code.now tight) source.now.tables.now code.now
+        new.now.file.now →
         AreNewSections source.now.elf.now new.now source.now.tables.now
         (area_for source.now.elf.now source.now.tables.now code.now tight)
         (shift_of source.now.elf.now.segments.items
@@ -153,9 +143,12 @@ fn finds_new_tables(
     new: &Elf,
 ) -> bool
     requires old_header { HasHeader source.now.elf.now.file.now }
-    requires new_header { HasHeader new.now.file.now }
+    requires names { e_shstrndx new.now.file.now ≡ e_shstrndx source.now.elf.now.file.now }
     requires laid_out { AreLaidOut source.now.funcs.now }
+    requires runs { AreRuns source.now.funcs.now source.now.map.now source.now.runs.now }
     ensures sections { IsTrue result →
+        AreaStands (area_for source.now.elf.now source.now.tables.now code.now tight) source.now.tables.now code.now
+        new.now.file.now →
         AreNewSections source.now.elf.now new.now source.now.tables.now
         (area_for source.now.elf.now source.now.tables.now code.now tight)
         (shift_of source.now.elf.now.segments.items (area_for source.now.elf.now source.now.tables.now code.now tight))
@@ -169,7 +162,8 @@ fn finds_new_tables(
     }
 }
 
-/// Whether the reader takes a file, and finds the sections and symbols in it that the file must have.
+/// Whether the reader takes a file, and finds the sections and symbols in it that the file must have. The bytes of its new
+/// area aren't looked at.
 pub fn is_accepted(
     alloc: Global,
     source: &SectionSource,
@@ -178,9 +172,12 @@ pub fn is_accepted(
     file: &[u8],
 ) -> bool
     requires header { HasHeader source.now.elf.now.file.now }
+    requires names { e_shstrndx file.now ≡ e_shstrndx source.now.elf.now.file.now }
     requires laid_out { AreLaidOut source.now.funcs.now }
+    requires runs { AreRuns source.now.funcs.now source.now.map.now source.now.runs.now }
     ensures sound { IsTrue result → IsSound file.now }
     ensures tables { IsTrue result →
+        AreaStands (area_for source.now.elf.now source.now.tables.now code.now tight) source.now.tables.now code.now file.now →
         HasNewTables source.now.elf.now source.now.tables.now code.now source.now.funcs.now source.now.cold.now
         source.now.map.now tight file.now }
 {

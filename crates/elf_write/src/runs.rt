@@ -1,16 +1,19 @@
 // Runs: stretches of new code whose bytes belong to one function.
-ghost use Rattle.std.specs.Prelude.{◌≡◌, ◌≤◌, ◌<◌, ◌++◌, ◌∷◌, [], ℕ, IfOk, List, OnOk, length, option_map, slice_get, slice_index_or};
+ghost use Rattle.std.specs.Prelude.{◌≡◌, ◌≤◌, ◌<◌, ◌++◌, ◌∷◌, [], ℕ, IfOk, List, OnOk, length, option_map, slice_get};
+ghost use Rattle.std.specs.Prelude.{slice_index_or};
 ghost use Rattle.addr_map.specs.declared.span.Span.{Span};
 ghost use Rattle.rv_code.specs.declared.placed.Func.{Func};
 ghost use Rattle.rv_code.specs.layout.FunctionLists.{AreLaidOut};
 ghost use Rattle.elf_write.specs.ColdSymbols.{start_around};
 ghost use Rattle.elf_write.specs.AllRuns.{AreRuns, AreSorted, Grows};
-ghost use Rattle.elf_write.specs.Runs.{IsRun, function_at};
+ghost use Rattle.rv_code.specs.layout.InFunctions.{function_at};
+ghost use Rattle.elf_write.specs.Runs.{IsRun};
 
 use crate::round::sum;
 use addr_map::{AddrMap, Span};
 use rb_bytes::fault::NoMemory;
 use rv_code::Func;
+use rv_code::functions::function_at;
 use std::alloc::Global;
 
 /// A stretch of new code that belongs to one function, whose place in the list of functions is given.
@@ -21,25 +24,12 @@ pub struct Run {
     pub func: usize,
 }
 
-/// The place in the list of the function that has an address.
-pub fn func_around(funcs: &[Func], address: u64) -> Option<usize>
-    requires { AreLaidOut funcs.now }
-    ensures { result ≡ function_at funcs.now address }
-{
-    let above = funcs.partition_point(|func| func.end <= address);
-    if above < funcs.len() && funcs[above].start <= address {
-        Some(above)
-    } else {
-        None
-    }
-}
-
 /// Where the function starts that has an address.
 pub fn start_around(funcs: &[Func], address: u64) -> Option<u64>
     requires { AreLaidOut funcs.now }
     ensures { result ≡ start_around funcs.now address }
 {
-    match func_around(funcs, address) {
+    match function_at(funcs, address) {
         Some(func) => start_of(funcs, func),
         None => None,
     }
@@ -75,7 +65,7 @@ fn add_span(runs: &mut Vec<Run>, funcs: &[Func], span: &Span) -> Result<(), NoMe
     if span.len == 0 {
         return Ok(());
     }
-    let func = func_around(funcs, span.input).ok_or(NoMemory)?;
+    let func = function_at(funcs, span.input).ok_or(NoMemory)?;
     let end = sum(span.out, span.len as u64)?;
     let start = span.out;
     add_run(runs, Run { start, end, func })?;

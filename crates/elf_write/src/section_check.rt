@@ -158,7 +158,9 @@ pub struct Added<'a> {
 }
 
 impl<'a> Added<'a> {
-    ghost use Rattle.std.specs.Prelude.{IsTrue};
+    ghost use Rattle.std.specs.Prelude.{◌≡◌, ℕ, IsTrue, List, length};
+    ghost use Rattle.elf_parts.specs.Patches.{Stands};
+    ghost use Rattle.elf_write.specs.Area.{offset_in};
     ghost use Rattle.elf_write.specs.NewSections.{IsAdded, IsHeader, IsInArea};
 
     // Whether a section says of itself what it must.
@@ -183,14 +185,25 @@ impl<'a> Added<'a> {
         self.has_header(n) && bytes_of(w, n) == self.bytes && n.size == self.bytes.len() as u64
     }
 
-    /// Whether it is this one, in an area.
-    pub fn is_in(&self, w: &[u8], area: &Area, n: &Section) -> bool
-        ensures { IsTrue result →
-            IsInArea w.now area.now self.now.name.now self.now.bytes.now self.now.flags self.now.addr self.now.align n.now }
+    // Whether a section has its place in an area.
+    fn has_place(&self, area: &Area, n: &Section) -> bool
+        ensures offset { IsTrue result → n.now.offset ≡ offset_in area.now self.now.addr }
+        ensures size { IsTrue result → n.now.size ≡ length self.now.bytes.now }
     {
         match area.offset_of(self.addr) {
-            Ok(offset) => self.is(w, n) && n.offset == offset,
+            Ok(offset) => n.offset == offset && n.size == self.bytes.len() as u64,
             Err(_) => false,
         }
+    }
+
+    /// Whether it is this one in a file that has its bytes in an area.
+    pub fn is_in(&self, area: &Area, n: &Section) -> bool
+        ensures { IsTrue result → (w : List ℕ) → Stands w (offset_in area.now self.now.addr) self.now.bytes.now →
+            IsInArea w area.now self.now.name.now self.now.bytes.now self.now.flags self.now.addr self.now.align n.now }
+    {
+        if !self.has_header(n) {
+            return false;
+        }
+        self.has_place(area, n)
     }
 }

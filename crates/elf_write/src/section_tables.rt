@@ -3,26 +3,15 @@ ghost use Rattle.std.specs.Prelude.{◌≡◌};
 ghost use Rattle.elf_write.specs.NewSections as spec;
 
 use crate::area::{Area, Shift};
-use crate::area_bytes::table_called;
+use crate::area_bytes::{bytes_called, table_called};
 use crate::section_check::{Added, Files, keeps_header};
 use crate::sections::{Contents, Sections, Table};
-use elf_image::header::e_shstrndx;
 use elf_image::named::{EH_FRAME, EH_FRAME_HDR};
 use elf_image::section::{SHF_ALLOC, SHF_EXECINSTR};
 use elf_image::{Elf, Section};
 
 /// The name of the table of ranges, which is added where the input has none.
 pub const DEBUG_RNGLISTS: &[u8] = b".debug_rnglists";
-
-// The bytes of the table with a name; none without one.
-fn bytes_called<'a>(tables: &'a [Table], name: &[u8]) -> &'a [u8]
-    ensures { result.now ≡ spec.bytes_called tables.now name.now }
-{
-    match table_called(tables, name) {
-        Some(table) => &table.1,
-        None => &[],
-    }
-}
 
 fn one_if(test: bool) -> usize
     ensures { result ≡ spec.one_if test }
@@ -45,10 +34,14 @@ pub struct SectionTables<'a> {
 impl<'a> SectionTables<'a> {
     ghost use Rattle.std.specs.Prelude.{◌≡◌, ℕ, ◌+◌, ◌-◌, ◌<◌, IfSome, IsTrue, Some, codes, is_some, length, slice_get};
     ghost use Rattle.elf_image.specs.declared.elf.Section.{Section};
-    ghost use Rattle.elf_image.specs.faults.Truncation.{HasHeader};
+    ghost use Rattle.elf_image.specs.file.Header.{e_shstrndx};
+    ghost use Rattle.elf_parts.specs.Patches.{Stands};
+    ghost use Rattle.elf_write.specs.Area.{offset_in};
+    ghost use Rattle.elf_write.specs.AreaTables.{AreaStands};
     ghost use Rattle.elf_write.specs.Contents.{contents_of};
     ghost use Rattle.elf_write.specs.KnownSections.{Knows};
-    ghost use Rattle.elf_write.specs.NewSections.{AreNewSections, At, Follows, IsAdded, IsInArea, KeepsHeader, adds_ranges, bytes_called, one_if};
+    ghost use Rattle.elf_write.specs.NewSections.{AreNewSections, At, Follows, IsAdded, IsInArea, KeepsHeader, adds_ranges};
+    ghost use Rattle.elf_write.specs.NewSections.{bytes_called, one_if};
 
     // Where the contents of a section of the input are, which has an index.
     fn contents_of(&self, known: &Sections, index: usize, s: &Section) -> Contents
@@ -108,15 +101,16 @@ impl<'a> SectionTables<'a> {
         true
     }
 
-    // Whether the section of an index is one that is added in the new area.
+    // Whether the section of an index is one that is added in the new area, which has its bytes.
     fn is_in_area(&self, index: usize, added: &Added) -> bool
         ensures { IsTrue result →
+            Stands self.now.new.now.file.now (offset_in self.now.area added.now.addr) added.now.bytes.now →
             At self.now.new.now.sections.items index
             (IsInArea self.now.new.now.file.now self.now.area added.now.name.now added.now.bytes.now added.now.flags
             added.now.addr added.now.align) }
     {
         match self.new.sections.get(index) {
-            Some(n) => added.is_in(self.new.file, &self.area, n),
+            Some(n) => added.is_in(&self.area, n),
             None => false,
         }
     }
@@ -135,6 +129,7 @@ impl<'a> SectionTables<'a> {
 
     fn has_text(&self, index: usize) -> bool
         ensures { IsTrue result →
+            Stands self.now.new.now.file.now (offset_in self.now.area self.now.area.start) self.now.code.now →
             At self.now.new.now.sections.items index (IsInArea self.now.new.now.file.now self.now.area
             (codes ".text") self.now.code.now (SHF_ALLOC + SHF_EXECINSTR) self.now.area.start 16) }
     {
@@ -151,8 +146,10 @@ impl<'a> SectionTables<'a> {
     }
 
     fn has_frames(&self, index: usize) -> bool
-        ensures { IsTrue result → IfSome self.now.area.frames (λ a. At self.now.new.now.sections.items index
-            (IsInArea self.now.new.now.file.now self.now.area (codes ".eh_frame") (bytes_called self.now.tables.now
+        ensures { IsTrue result → IfSome self.now.area.frames (λ a.
+            Stands self.now.new.now.file.now (offset_in self.now.area a)
+            (bytes_called self.now.tables.now (codes ".eh_frame")) →
+            At self.now.new.now.sections.items index (IsInArea self.now.new.now.file.now self.now.area (codes ".eh_frame") (bytes_called self.now.tables.now
             (codes ".eh_frame")) SHF_ALLOC a 8)) }
     {
         match self.area.frames {
@@ -171,8 +168,10 @@ impl<'a> SectionTables<'a> {
     }
 
     fn has_index(&self, index: usize) -> bool
-        ensures { IsTrue result → IfSome self.now.area.index (λ a. At self.now.new.now.sections.items index
-            (IsInArea self.now.new.now.file.now self.now.area (codes ".eh_frame_hdr") (bytes_called self.now.tables.now
+        ensures { IsTrue result → IfSome self.now.area.index (λ a.
+            Stands self.now.new.now.file.now (offset_in self.now.area a)
+            (bytes_called self.now.tables.now (codes ".eh_frame_hdr")) →
+            At self.now.new.now.sections.items index (IsInArea self.now.new.now.file.now self.now.area (codes ".eh_frame_hdr") (bytes_called self.now.tables.now
             (codes ".eh_frame_hdr")) SHF_ALLOC a 4)) }
     {
         match self.area.index {
@@ -234,16 +233,13 @@ impl<'a> SectionTables<'a> {
     /// Whether the sections are those that the file must have.
     pub fn are_new(&self, known: &Sections) -> bool
         requires known { Knows self.now.elf.now self.now.tables.now self.now.area self.now.shift known.now }
-        requires old_header { HasHeader self.now.elf.now.file.now }
-        requires new_header { HasHeader self.now.new.now.file.now }
+        requires names { e_shstrndx self.now.new.now.file.now ≡ e_shstrndx self.now.elf.now.file.now }
         ensures { IsTrue result →
+            AreaStands self.now.area self.now.tables.now self.now.code.now self.now.new.now.file.now →
             AreNewSections self.now.elf.now self.now.new.now self.now.tables.now self.now.area self.now.shift
             self.now.code.now }
     {
         let count = self.elf.sections.len();
-        if e_shstrndx(self.new.file) != e_shstrndx(self.elf.file) {
-            return false;
-        }
         if !self.has_count() {
             return false;
         }

@@ -62,7 +62,8 @@ fn grown(p: &Segment, end: u64) -> Segment
 }
 
 impl<'a> Places<'a> {
-    ghost use Rattle.elf_write.specs.NewSegments.{AreNewHeaders, AreRenewed, CanGrow, CanGrowAt, IsRenewed, area_segment, grows_at};
+    ghost use Rattle.elf_write.specs.NewSegments.{AreNewHeaders, AreRenewed, CanGrow, CanGrowAt, IsRenewed, area_segment};
+    ghost use Rattle.elf_write.specs.NewSegments.{grows_at};
     ghost use Rattle.elf_write.specs.Room.{greatest_align};
     ghost use Rattle.std.specs.Prelude.{◌≡◌, ◌≤◌, ◌<◌, ◌&&◌, not, IfOk, true, false};
     ghost use Rattle.elf_image.specs.declared.segment.TheConstants.{PT_LOAD};
@@ -101,7 +102,8 @@ impl<'a> Places<'a> {
     // Where the bytes of a header go that stand behind the executable segment.
     fn place_behind(&self, p: &Segment, home: Option<usize>, align: u64) -> Result<u64, NoMemory>
         requires { 0 < align }
-        ensures { IfOk result (λ o. p.now.kind ≡ PT_LOAD → 0 < p.now.filesz → o ≡ moved_by self.now.shift.from self.now.shift.by p.now.offset) }
+        ensures { IfOk result (λ o. p.now.kind ≡ PT_LOAD → 0 < p.now.filesz →
+            o ≡ moved_by self.now.shift.from self.now.shift.by p.now.offset) }
     {
         if p.kind == PT_LOAD {
             if p.filesz > 0 {
@@ -130,7 +132,8 @@ impl<'a> Places<'a> {
     ) -> Result<Segment, NoMemory>
         requires align { 0 < align }
         requires grows { is_code ≡ true → self.now.area.tight ≡ false → CanGrow self.now.shift.from self.now.area.end p.now }
-        ensures { IfOk result (IsRenewed self.now.shift.from self.now.shift.by self.now.area.end self.now.area.tight (not self.now.area.tight && is_code) p.now) }
+        ensures { IfOk result (IsRenewed self.now.shift.from self.now.shift.by self.now.area.end self.now.area.tight
+            (not self.now.area.tight && is_code) p.now) }
     {
         if is_code && !self.area.tight {
             return Ok(grown(p, self.area.end));
@@ -156,7 +159,8 @@ impl<'a> Places<'a> {
     // The headers of the input's segments, of which the executable one has an index.
     fn all_renewed(&self, alloc: Global, code: usize) -> Result<Vec<Segment>, NoMemory>
         requires { CanGrowAt self.now.shift.from self.now.area.end self.now.area.tight code self.now.elf.now.segments.items }
-        ensures { IfOk result (λ qs. AreRenewed self.now.shift.from self.now.shift.by self.now.area.end self.now.area.tight (grows_at self.now.area.tight code) self.now.elf.now.segments.items qs.items) }
+        ensures { IfOk result (λ qs. AreRenewed self.now.shift.from self.now.shift.by self.now.area.end self.now.area.tight
+            (grows_at self.now.area.tight code) self.now.elf.now.segments.items qs.items) }
     {
         let align = greatest_align(&self.elf.segments);
         let homes = homes_of(alloc, &self.elf.segments, &self.elf.sections, self.contents)?;
@@ -174,9 +178,11 @@ impl<'a> Places<'a> {
 
     /// All program headers. A new one stands behind the last that is loaded.
     pub fn segments(&self, alloc: Global, code: usize) -> Result<Vec<Segment>, NoMemory>
-        requires grows { CanGrowAt self.now.shift.from self.now.area.end self.now.area.tight code self.now.elf.now.segments.items }
+        requires grows { CanGrowAt self.now.shift.from self.now.area.end self.now.area.tight code
+            self.now.elf.now.segments.items }
         requires ordered { self.now.area.address ≤ self.now.area.end }
-        ensures { IfOk result (λ qs. AreNewHeaders self.now.shift.from self.now.shift.by self.now.area code self.now.elf.now.segments.items qs.items) }
+        ensures { IfOk result (λ qs. AreNewHeaders self.now.shift.from self.now.shift.by self.now.area code
+            self.now.elf.now.segments.items qs.items) }
     {
         let mut segments = self.all_renewed(alloc, code)?;
         if self.area.tight {

@@ -4,13 +4,14 @@ ghost use Rattle.elf_write.specs.ColdSymbols.{cold_name};
 ghost use Rattle.elf_write.specs.NewSymbols as spec;
 
 use crate::name_parts::is_joined;
-use crate::runs::{Run, bytes_left, func_around};
+use crate::runs::{Run, bytes_left};
 use crate::symbols::named_around;
 use addr_map::AddrMap;
 use elf_image::Symbol;
 use elf_image::symbol::STT_FUNC;
 use rb_bytes::fault::NoMemory;
 use rv_code::Func;
+use rv_code::functions::function_at;
 use std::alloc::Global;
 use std::collections::BTreeMap;
 
@@ -49,7 +50,7 @@ impl<'a> CodeSymbols<'a> {
         requires runs { AreRuns self.now.funcs.now self.now.map.now self.now.runs.now }
         ensures { IsTrue result → IsRunAt self.now.funcs.now self.now.map.now address to size }
     {
-        match func_around(self.funcs, address) {
+        match function_at(self.funcs, address) {
             Some(func) => bytes_left(self.runs, func, to) == size,
             None => true,
         }

@@ -8,7 +8,7 @@ ghost use Rattle.elf_write.specs.FirstNames.{AreFirstNames};
 use crate::first_names::first_names;
 use crate::headers::bytes_of;
 use crate::names::NameTable;
-use crate::runs::{Run, bytes_left, func_around, start_around};
+use crate::runs::{Run, bytes_left, start_around};
 use addr_map::AddrMap;
 use elf_image::number::u32_at;
 use elf_image::symbol::{STT_FUNC, SYM_SIZE};
@@ -16,6 +16,7 @@ use elf_image::{Elf, Section, Symbol};
 use elf_parts::spell::{SymbolEntry, put_symbol};
 use rb_bytes::fault::NoMemory;
 use rv_code::Func;
+use rv_code::functions::function_at;
 use std::alloc::Global;
 use std::collections::BTreeMap;
 
@@ -35,7 +36,7 @@ impl<'a> NewCode<'a> {
     fn size_from(&self, old: u64, new: u64) -> u64
         requires { AreLaidOut self.now.funcs.now }
     {
-        match func_around(self.funcs, old) {
+        match function_at(self.funcs, old) {
             Some(func) => bytes_left(self.runs, func, new),
             None => 0,
         }

@@ -8,7 +8,8 @@ ghost use Rattle.addr_map.specs.Spans.{moved};
 ghost use Rattle.elf_parts.specs.Parts.{CanStand, size_of};
 ghost use Rattle.rv_code.specs.layout.FunctionLists.{AreLaidOut};
 ghost use Rattle.elf_write.specs.NewTables.{HasNewTables};
-ghost use Rattle.elf_write.specs.Made.{IsMade, IsPut, header_numbers};
+ghost use Rattle.elf_write.specs.AreaTables.{IsMadeWith};
+ghost use Rattle.elf_write.specs.Made.{IsPut, header_numbers};
 ghost use Rattle.elf_write.specs.Source.{IsPlaced, source_of};
 ghost use Rattle.elf_write.specs.Written.{AreApart, CanHold, IsWritten};
 
@@ -19,6 +20,7 @@ use crate::layout::{Layout, is_above};
 use crate::new_sections::{NewSections, SectionSource};
 use crate::placing::{can_put_all, table_place};
 use crate::read_back::is_accepted;
+use crate::runs::runs;
 use crate::sections::Table;
 use crate::segments::Places;
 use crate::tail::Tail;
@@ -105,8 +107,9 @@ fn made(
     requires read { IsElfOf source.now.elf.now.file.now source.now.elf.now }
     requires sound { IsSound source.now.elf.now.file.now }
     requires laid_out { AreLaidOut source.now.funcs.now }
-    ensures { IfOk result (λ w. IsMade
-        (source_of source.now.elf.now emitted.now source.now.map.now source.now.tables.now) tight w.items) }
+    ensures { IfOk result (λ w. IsMadeWith
+        (source_of source.now.elf.now emitted.now source.now.map.now source.now.tables.now) source.now.tables.now tight
+        w.items) }
 {
     let elf = source.elf;
     let layout = Layout::new(alloc, elf, tight, &emitted.code, source.tables)?;
@@ -135,7 +138,7 @@ fn made(
 /// code cells, the map, and the tables that are written anew.
 ///
 /// What is written is read back, so no file is ever answered that the reader refuses, or whose sections or symbols aren't
-/// what they must be.
+/// what they must be; but for the bytes of the new area, which need no look.
 pub fn write(
     alloc: Global,
     elf: &Elf,
@@ -156,11 +159,13 @@ pub fn write(
     ensures tables { IfOk result (λ w. (tight : Bool) → IsPlaced (source_of elf.now emitted.now map.now tables.now) tight →
         HasNewTables elf.now tables.now emitted.now.code.items funcs.now cold.now map.now tight w.items) }
 {
+    let runs = runs(alloc, funcs, map)?;
     let source = SectionSource {
         elf,
         funcs,
         cold,
         map,
+        runs: &runs,
         tables,
     };
     let tight = is_above(elf, map)?;

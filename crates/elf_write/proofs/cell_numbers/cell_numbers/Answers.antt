@@ -12,5 +12,7 @@ loop-cell-preserved c =
     let below : i < length c.args.cells.now = search rules in
     let items : c.push.new.self.items ≡ c.loop-cell.numbers.items ++ n ∷ [] = search rules in
     subst (λ (ns : List NumberAt). AreCellNumbers c.args.elf.now c.args.shift.now (take (i + 1) c.args.cells.now) ns) (sym items)
-    (AreCellNumbers-more c.args.elf.now c.args.shift.now c.args.cells.now c.loop-cell.numbers.items i n below c.loop-cell.invariant
-    (λ d. subst (λ (x : ℕ × ℕ × ℕ). IsCellNumber c.args.elf.now c.args.shift.now x n) (get_or_default c.args.cells.now i _ d below) c.in_ok-number.ensures))
+    (AreCellNumbers-more c.args.elf.now c.args.shift.now c.args.cells.now c.loop-cell.numbers.items i n
+    below c.loop-cell.invariant
+    (λ d. subst (λ (x : ℕ × ℕ × ℕ). IsCellNumber c.args.elf.now c.args.shift.now x n)
+    (get_or_default c.args.cells.now i _ d below) c.in_ok-number.ensures))

@@ -1,5 +1,5 @@
 use Rattle.std.proofs.Common.{◌≡◌, refl, rules, Some}
-use Rattle.elf_write.specs.Runs.{function_at}
+use Rattle.rv_code.specs.layout.InFunctions.{function_at}
 use Rattle.elf_write.proofs.RunLists.{runs-more}
 use Rattle.elf_write.proofs.runs.add_span.Goals as goal
 

@@ -1,17 +1,17 @@
 use Rattle.std.proofs.Common.{sym, ap, ◌∙◌}
 use Rattle.std.specs.Prelude.{option_map}
 use Rattle.rv_code.specs.declared.placed.Func.{Func}
-use Rattle.elf_write.specs.Runs.{holds}
-use Rattle.elf_write.proofs.FuncAround.{find-from_position, find-no_position}
+use Rattle.rv_code.specs.layout.InFunctions.{holds}
+use Rattle.elf_write.proofs.Positions.{find-from_position, find-no_position}
 use Rattle.elf_write.proofs.runs.start_around.Goals as goal
 
 pub returns-in-Some : goal.returns-in-Some
 returns-in-Some c =
     c.start_of.ensures
     ∙ ap (option_map (λ (f : Func). f.start)) (sym (find-from_position
-    (holds c.args.address) c.args.funcs.now c.in-Some.func (sym c.func_around.ensures ∙ c.in-Some.is)))
+    (holds c.args.address) c.args.funcs.now c.in-Some.func (sym c.function_at.ensures ∙ c.in-Some.is)))
 
 pub returns-in-None : goal.returns-in-None
 returns-in-None c =
     ap (option_map (λ (f : Func). f.start)) (sym (find-no_position (holds c.args.address) c.args.funcs.now
-    (sym c.func_around.ensures ∙ c.in-None.is)))
+    (sym c.function_at.ensures ∙ c.in-None.is)))

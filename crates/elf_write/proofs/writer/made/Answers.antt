@@ -11,10 +11,10 @@ use Rattle.elf_write.proofs.Growing.{can-grow, in-order}
 use Rattle.elf_write.proofs.writer.made.Goals as goal
 
 pub segments-requires-clause-grows : goal.segments-requires-clause-grows
-segments-requires-clause-grows c = can-grow _ _ _ _ _ _ c.requires.read c.requires.sound c.in_ok-layout.ensures
+segments-requires-clause-grows c = can-grow _ _ _ _ _ _ c.requires.read c.requires.sound c.in_ok-layout.ensures.laid_out
 
 pub segments-requires-clause-ordered : goal.segments-requires-clause-ordered
-segments-requires-clause-ordered c = in-order _ _ _ _ _ _ c.requires.read c.requires.sound c.in_ok-layout.ensures
+segments-requires-clause-ordered c = in-order _ _ _ _ _ _ c.requires.read c.requires.sound c.in_ok-layout.ensures.laid_out
 
 pub returns : goal.returns
 returns c =
@@ -27,22 +27,31 @@ returns c =
     IfOk-weaker c.put_together.result _ _
     (λ w put.
     record {
-      layout = layout;
-      laid_out = subst (λ (xs : List ℕ). IsLaidOut elf c.args.tight xs s.frames s.index layout) c.deref.ensures.value c.in_ok-layout.ensures;
-      cells = cells;
-      are_cells = subst (λ (xs : List (ℕ × ℕ × ℕ)). AreCellNumbers elf layout.shift xs cells) c.deref-4.ensures.value c.in_ok-cells.ensures;
-      segments = segments;
-      are_headers = c.in_ok-segments.ensures;
-      table_at = c.in_ok-table_at.table_at;
-      table_place = subst (λ (base : ℕ). IsTablePlace elf layout.area layout.shift base c.in_ok-table_at.table_at) (c.new-tail.ensures ∙ c.in_ok-end.ensures) c.in_ok-table_at.ensures.place;
-      fields = c.in_ok-fields_of.field-0;
-      entry = c.in_ok-fields_of.ensures.entry;
-      segments_at = c.in_ok-fields_of.ensures.segments_at;
-      count = c.in_ok-fields_of.ensures.segments ∙ ap length c.deref-5.ensures.value;
-      names = c.in_ok-fields_of.ensures.names ∙ c.in_ok-sections.ensures.names;
-      tail = tail;
-      put = subst (λ (xs : List NumberAt). IsPut layout elf.file.now tail cells segments xs c.in_ok-table_at.table_at w.items) (c.deref-8.ensures.value ∙ c.in_ok-fields.ensures)
-          (subst (λ (xs : List Segment). IsPut layout elf.file.now tail cells xs c.deref-8.result.now c.in_ok-table_at.table_at w.items) c.deref-7.ensures.value
-          (subst (λ (xs : List NumberAt). IsPut layout elf.file.now tail xs c.deref-7.result.now c.deref-8.result.now c.in_ok-table_at.table_at w.items) c.deref-6.ensures.value put));
+      made = record {
+        layout = layout;
+        laid_out = subst (λ (xs : List ℕ). IsLaidOut elf c.args.tight xs s.frames s.index layout) c.deref.ensures.value
+            c.in_ok-layout.ensures.laid_out;
+        cells = cells;
+        are_cells = subst
+            (λ (xs : List (ℕ × ℕ × ℕ)). AreCellNumbers elf layout.shift xs cells) c.deref-4.ensures.value c.in_ok-cells.ensures;
+        segments = segments;
+        are_headers = c.in_ok-segments.ensures;
+        table_at = c.in_ok-table_at.table_at;
+        table_place = subst (λ (base : ℕ). IsTablePlace elf layout.area layout.shift base c.in_ok-table_at.table_at)
+            (c.new-tail.ensures ∙ c.in_ok-end.ensures) c.in_ok-table_at.ensures.place;
+        fields = c.in_ok-fields_of.field-0;
+        entry = c.in_ok-fields_of.ensures.entry;
+        segments_at = c.in_ok-fields_of.ensures.segments_at;
+        count = c.in_ok-fields_of.ensures.segments ∙ ap length c.deref-5.ensures.value;
+        names = c.in_ok-fields_of.ensures.names ∙ c.in_ok-sections.ensures.names;
+        tail = tail;
+        put = subst (λ (xs : List NumberAt). IsPut layout elf.file.now tail cells segments xs c.in_ok-table_at.table_at w.items)
+            (c.deref-8.ensures.value ∙ c.in_ok-fields.ensures)
+            (subst (λ (xs : List Segment). IsPut layout elf.file.now tail cells xs c.deref-8.result.now c.in_ok-table_at.table_at
+            w.items) c.deref-7.ensures.value
+            (subst (λ (xs : List NumberAt). IsPut layout elf.file.now tail xs c.deref-7.result.now c.deref-8.result.now
+            c.in_ok-table_at.table_at w.items) c.deref-6.ensures.value put));
+      };
+      has_tables = c.in_ok-layout.ensures.tables;
     })
     c.put_together.ensures

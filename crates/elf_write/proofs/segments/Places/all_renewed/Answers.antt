@@ -14,6 +14,9 @@ loop-i-preserved c =
     let below : i < length ps = search rules in
     let at : (d : Segment) → c.index.result.now ≡ get_or ps i d = λ d. c.index.ensures ∙ get_or_default ps i _ d below in
     let items : c.push.new.self.items ≡ c.loop-i.segments.items ++ q ∷ [] = search rules in
-    subst (λ (qs : List Segment). AreRenewed c.args.self.now.shift.from c.args.self.now.shift.by c.args.self.now.area.end c.args.self.now.area.tight (grows_at c.args.self.now.area.tight c.args.code) (take (i + 1) ps) qs) (sym items)
-    (AreRenewed-more _ _ _ _ (grows_at c.args.self.now.area.tight c.args.code) ps c.loop-i.segments.items i q below c.loop-i.invariant
-    (λ d. subst (λ (p : Segment). IsRenewed c.args.self.now.shift.from c.args.self.now.shift.by c.args.self.now.area.end c.args.self.now.area.tight (grows_at c.args.self.now.area.tight c.args.code i) p q) (at d) c.in_ok-renewed.ensures))
+    subst (λ (qs : List Segment). AreRenewed c.args.self.now.shift.from c.args.self.now.shift.by c.args.self.now.area.end
+    c.args.self.now.area.tight (grows_at c.args.self.now.area.tight c.args.code) (take (i + 1) ps) qs) (sym items)
+    (AreRenewed-more _ _ _ _
+    (grows_at c.args.self.now.area.tight c.args.code) ps c.loop-i.segments.items i q below c.loop-i.invariant
+    (λ d. subst (λ (p : Segment). IsRenewed c.args.self.now.shift.from c.args.self.now.shift.by c.args.self.now.area.end
+    c.args.self.now.area.tight (grows_at c.args.self.now.area.tight c.args.code i) p q) (at d) c.in_ok-renewed.ensures))

@@ -3,4 +3,5 @@ use Rattle.elf_write.specs.NewSegments.{AreRenewed, grows_at}
 use Rattle.elf_write.proofs.segments.Places.all_renewed.Given as goal
 
 abbrev pub invariant-loop-i : goal.invariant-loop-i
-invariant-loop-i l = AreRenewed l.self.shift.from l.self.shift.by l.self.area.end l.self.area.tight (grows_at l.self.area.tight l.code) (take l.i l.self.elf.now.segments.items) l.segments.items
+invariant-loop-i l = AreRenewed l.self.shift.from l.self.shift.by l.self.area.end l.self.area.tight
+    (grows_at l.self.area.tight l.code) (take l.i l.self.elf.now.segments.items) l.segments.items

@@ -1,13 +1,14 @@
 use Rattle.std.proofs.Common.{◌≡◌, ◌∙◌, sym, subst, rules, ℕ, Option, Some}
 use Rattle.std.specs.Prelude.{IfSome}
-use Rattle.elf_write.specs.Runs.{IsRun, function_at}
+use Rattle.rv_code.specs.layout.InFunctions.{function_at}
+use Rattle.elf_write.specs.Runs.{IsRun}
 use Rattle.elf_write.proofs.symbol_check.CodeSymbols.has_run.Goals as goal
 
 pub returns-in-Some : goal.returns-in-Some
 returns-in-Some c = λ same.
     let funcs = c.args.self.now.funcs.now in
     let spans = c.args.self.now.map.now in
-    let is : function_at funcs c.args.address ≡ Some c.in-Some.func = sym c.func_around.ensures ∙ c.in-Some.is in
+    let is : function_at funcs c.args.address ≡ Some c.in-Some.func = sym c.function_at.ensures ∙ c.in-Some.is in
     let size : c.bytes_left.result ≡ c.args.size = search rules in
     subst (λ (o : Option ℕ). IfSome o (λ f. IsRun funcs spans f c.args.to c.args.size)) (sym is)
     (subst (IsRun funcs spans c.in-Some.func c.args.to) size (c.bytes_left.ensures funcs spans c.requires.runs))
