@@ -5,18 +5,16 @@ use Rattle.std.proofs.lemmas.List.Sums.{sum_by-cons, sum_by_more, sum_by_more_le
 use Rattle.std.specs.List.{slice_get, range_with_len, sum_by}
 use Rattle.elf_image.specs.declared.elf.Elf.{Elf}
 use Rattle.elf_image.specs.declared.elf.Section.{Section}
-use Rattle.elf_image.specs.file.Header.{is_set}
-use Rattle.elf_image.specs.declared.section.TheConstants.{SHF_EXECINSTR}
 use Rattle.elf_image.specs.file.ParsedFile.{IsSectionAt, IsElfOf}
-use Rattle.elf_image.specs.file.Sections.{section_header, section_headers}
+use Rattle.elf_image.specs.file.Sections.{section_header, section_headers, holds_code}
 use Rattle.bolt_core.specs.CodeLimit.{code_limit, code_bytes, HasTooMuchCode}
 use Rattle.bolt_core.specs.internal.ReadCode.{section_code}
 
 -- a section that was read has the bytes of code of its header
 same_code : (file : List ℕ) (index : ℕ) (s : Section) → IsSectionAt file index s → section_code s ≡ code_bytes
     (section_header file index)
-same_code file index s is = ap (λ (f : ℕ). cond (is_set SHF_EXECINSTR f) s.size 0) is.flags ∙ ap
-    (λ (n : ℕ). cond (is_set SHF_EXECINSTR (section_header file index).flags) n 0) is.size
+same_code file index s is = ap (λ (f : ℕ). cond (holds_code f) s.size 0) is.flags ∙ ap
+    (λ (n : ℕ). cond (holds_code (section_header file index).flags) n 0) is.size
 
 sums_from : (file : List ℕ) (k : ℕ) (xs : List Section) → ((i : ℕ) (s : Section) → slice_get xs i ≡ Some s → IsSectionAt file
     (k + i) s)

@@ -1,5 +1,5 @@
 -- What holds of a program that is laid out, and why it isn't.
-use Rattle.std.proofs.Common.{◌≡◌, refl, sym, subst, ℕ, inl, inr, List, Option, Some, None, arith, length}
+use Rattle.std.proofs.Common.{◌≡◌, refl, sym, subst, ℕ, inl, inr, All, List, Option, Some, None, arith, length}
 use Rattle.rb_bytes.specs.Fault.{fault_at}
 use Rattle.rb_bytes.specs.declared.fault.Fault.{Fault}
 use Rattle.rb_bytes.specs.declared.fault.FaultKind.TheVariants.{TooLarge, Truncated}
@@ -13,13 +13,13 @@ use Rattle.elf_image.specs.faults.LowestPlace.{IsLowest}
 use Rattle.elf_image.specs.faults.Truncation.{HasHeader}
 use Rattle.elf_image.specs.file.Header.{header_size}
 use Rattle.std.proofs.lemmas.Bool.{cases_lt}
+use Rattle.rv_code.specs.layout.InFunctions.{IsOfFunction}
 use Rattle.edge_profile.specs.BlockPlaces.{AreApart}
 use Rattle.edge_profile.specs.Counts.{Counted}
 use Rattle.edge_profile.proofs.BlockLists.{AreApart-blocks}
-use Rattle.block_layout.proofs.Premises.{IsStretch-blocks}
+use Rattle.rv_code.proofs.lists.Blocks.{blocks_of_functions}
 use Rattle.cfg_build.proofs.layout.AcceptedCode.{AreLaidOut-functions}
 use Rattle.func_place.specs.Faults.{HasPlacementFault}
-use Rattle.func_place.specs.Stretches.{AreStretches}
 use Rattle.bolt_core.specs.Limits.{IsTooLarge}
 use Rattle.bolt_core.specs.Program.{IsProgramOf, Program, tabled}
 use Rattle.bolt_core.specs.ProfileOrder.{ArePartsBy, ArePartsOf, cold_starts, counts_of}
@@ -35,8 +35,8 @@ module _ (file profile : List ℕ) (x : Program) (is : IsProgramOf file profile 
   pub apart_blocks : AreApart x.blocks
   apart_blocks = AreApart-blocks x.code x.blocks is.blocks_are
 
-  pub stretches : AreStretches x.code.funcs x.blocks
-  stretches = IsStretch-blocks x.code x.blocks is.blocks_are
+  pub stretches : All (IsOfFunction x.code.funcs) x.blocks
+  stretches = blocks_of_functions x.code x.blocks is.blocks_are
 
   pub has_header : HasHeader file
   has_header = elim (cases_lt (length file) header_size) [

@@ -12,7 +12,8 @@ use Rattle.branch_fixup.specs.Strips.{Strip, insts_in}
 use Rattle.branch_fixup.proofs.Covered.{block_of}
 use Rattle.branch_fixup.proofs.Planned.{StripOf, in_block, strip_for}
 use Rattle.func_place.specs.Nearness.{AreTiedNear, owner}
-use Rattle.func_place.specs.Units.{LeadsInto, backward, falls_into, function_at, itself, jumps, onward}
+use Rattle.rv_code.specs.layout.InFunctions.{function_at}
+use Rattle.func_place.specs.Units.{LeadsInto, backward, falls_into, itself, jumps, onward}
 use Rattle.func_place.proofs.TiedBlocks.{function_at-inst}
 
 fall_parts : (u v : Bool) (e a : ℕ) → cond (u && v) (Some e) None ≡ Some a → (u ≡ true) × (e ≡ a)

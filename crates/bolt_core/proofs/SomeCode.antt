@@ -13,7 +13,7 @@ use Rattle.move_law.specs.Laws.{IsAccepted}
 use Rattle.move_law.proofs.code.InstLists.{function_code}
 use Rattle.branch_fixup.proofs.Covered.{covers}
 use Rattle.branch_fixup.proofs.Falls.{code_at}
-use Rattle.block_layout.proofs.Premises.{IsStretch-blocks}
+use Rattle.rv_code.proofs.lists.Blocks.{blocks_of_functions}
 use Rattle.func_place.proofs.WorstPositive.{worst_some}
 use Rattle.elf_write.specs.Need.{code_need}
 
@@ -40,6 +40,6 @@ module _ (elf : Elf) (code : ProgramCode) (accepted : IsAccepted elf code) where
       let within = slice_get_within blocks v.m v.b v.at in
       let is : get_or blocks v.m v.b ≡ v.b = get_or_from_slice_get blocks v.m v.b v.b v.at in
       let some : 0 < worst_size_of_block code.funcs (get_or blocks v.m v.b) =
-      worst_some code.funcs (get_or blocks v.m v.b) laid (IsStretch-blocks code blocks are v.m v.b within) in
+      worst_some code.funcs (get_or blocks v.m v.b) laid (blocks_of_functions code blocks are v.m v.b within) in
       let most = get_or-le-sum_by (worst_size_of_block code.funcs) blocks v.m v.b within in
       omega (arith, some, most)

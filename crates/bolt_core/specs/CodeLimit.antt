@@ -2,8 +2,7 @@
 use Rattle.std.specs.Prelude.{ℕ, ◌*◌, ◌^◌, ◌<◌, List, if◌then◌else◌}
 use Rattle.std.specs.List.{sum_by}
 use Rattle.elf_image.specs.declared.section.SectionHeader.{SectionHeader}
-use Rattle.elf_image.specs.faults.SegmentLayout.{is_code_section}
-use Rattle.elf_image.specs.file.Sections.{section_headers}
+use Rattle.elf_image.specs.file.Sections.{section_headers, holds_code}
 
 -- 16 MiB
 abbrev pub code_limit : ℕ
@@ -11,7 +10,7 @@ code_limit = 16 * 2 ^ 20
 
 -- how many bytes of code a section has
 abbrev pub code_bytes : SectionHeader → ℕ
-code_bytes section = if is_code_section section then section.size else 0
+code_bytes section = if holds_code section.flags then section.size else 0
 
 -- the sections of code have more bytes than that together
 abbrev pub HasTooMuchCode : List ℕ → Type 0

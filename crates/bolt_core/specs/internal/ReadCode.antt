@@ -3,7 +3,7 @@ use Rattle.std.specs.Prelude.{◌<◌, ℕ, List, All, if◌then◌else◌}
 use Rattle.rv_code.specs.declared.placed.Block.{Block}
 use Rattle.rv_code.specs.declared.placed.Func.{Func}
 use Rattle.rv_code.specs.layout.ProgramCode.{ProgramCode}
-use Rattle.elf_image.specs.code.Cuts.{holds_code}
+use Rattle.elf_image.specs.file.Sections.{holds_code}
 use Rattle.elf_image.specs.code.FileCode.{IsCodeOf}
 use Rattle.elf_image.specs.code.Functions.{AreFunctions}
 use Rattle.elf_image.specs.declared.elf.Elf.{Elf}
@@ -20,7 +20,7 @@ use Rattle.bolt_core.specs.declared.file_code.FileCode.{FileCode}
 
 -- how many bytes of code a section has that was read
 abbrev pub section_code : Section → ℕ
-section_code section = if holds_code section then section.size else 0
+section_code section = if holds_code section.flags then section.size else 0
 
 -- the code of a file, in which no fault is present
 pub record IsReadCode (elf : Elf) (code : FileCode) : Type 0 where
