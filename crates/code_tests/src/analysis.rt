@@ -7,7 +7,7 @@ use rv_code::{Func, Role};
 use rv_reloc::{Refs, references, starts};
 use std::alloc::Global;
 use std::test::Fail;
-use test_files::{Relocation, Section, exit7_code, program};
+use test_files::{Section, exit7_code, of_section, program};
 
 /// The code of a file.
 #[derive(Drop)]
@@ -50,28 +50,6 @@ pub fn refused_with(alloc: Global, file: &[u8], whole: &[(u64, u64)]) -> Option<
 /// The kind and place of what refuses a file without exception tables.
 pub fn refused(alloc: Global, file: &[u8]) -> Option<(FaultKind, u64)> {
     refused_with(alloc, file, &[])
-}
-
-/// A relocation of the code.
-pub fn of_code<'a>(offset: u64, kind: u32, symbol: &'a [u8], addend: i64) -> Relocation<'a> {
-    of_section(b".text", offset, kind, symbol, addend)
-}
-
-/// A relocation of a section.
-pub fn of_section<'a>(
-    section: &'a [u8],
-    offset: u64,
-    kind: u32,
-    symbol: &'a [u8],
-    addend: i64,
-) -> Relocation<'a> {
-    Relocation {
-        section,
-        offset,
-        kind,
-        symbol,
-        addend,
-    }
 }
 
 /// The smallest example with a field at 10088, behind the code, to which these relocations apply, by their types and addends.

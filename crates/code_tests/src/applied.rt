@@ -1,14 +1,12 @@
 // What relocations of each type give the instructions and fields that they fit, and which they don't fit. psABI, "Relocations".
 // Types are given by their numbers in its table. The code of each file begins at 10078.
-use crate::analysis::{
-    accepted, call_roles, data_file, difference_cell, of_code, pair_roles, refused,
-};
+use crate::analysis::{accepted, call_roles, data_file, difference_cell, pair_roles, refused};
 use rb_bytes::fault::FaultKind;
 use rv_code::{Inst, Role};
 use std::alloc::Global;
 use std::test::Fail;
 use test_files::inst::{A0, A4, A5, EXIT, RA, X0, add, addi, auipc, jalr, ld, lui, sd};
-use test_files::{Section, Symbol, assemble, program, two_segments};
+use test_files::{Section, Symbol, assemble, of_code, program, two_segments};
 
 // An AUIPC with an upper part of this type, and an instruction with a lower part of that type, for eight zeros at 20000.
 fn distance_file(alloc: Global, upper: u32, inst: Inst, lower: u32) -> Result<Vec<u8>, Fail> {

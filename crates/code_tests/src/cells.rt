@@ -1,7 +1,5 @@
 // Which fields are code cells. The code of each file begins at 10078.
-use crate::analysis::{
-    accepted, address_cell, data_file, difference_cell, of_section, refused_with,
-};
+use crate::analysis::{accepted, address_cell, data_file, difference_cell, refused_with};
 use elf_image::relocation::*;
 use elf_image::section::SHT_NOBITS;
 use rb_bytes::fault::FaultKind;
@@ -9,7 +7,7 @@ use std::alloc::Global;
 use std::test::Fail;
 use test_files::inst::{X0, jal};
 use test_files::shapes::DATA;
-use test_files::{Section, Symbol, assemble, exit7_code, program, two_segments};
+use test_files::{Section, Symbol, assemble, exit7_code, of_section, program, two_segments};
 
 // A section of these bytes at an address, to which relocations apply, by their addresses, types and addends.
 fn section_file(

@@ -1,7 +1,6 @@
 // What is found in files as compilers and linkers lay them out. The code of each begins at 10078.
 use crate::analysis::{
-    accepted, address_cell, call_roles, data_file, difference_cell, of_code, of_section,
-    pair_roles, refused,
+    accepted, address_cell, call_roles, data_file, difference_cell, pair_roles, refused,
 };
 use elf_image::relocation::*;
 use rb_bytes::fault::FaultKind;
@@ -9,7 +8,7 @@ use rv_code::{Inst, Role};
 use std::alloc::Global;
 use std::test::Fail;
 use test_files::inst::{A0, A4, A5, EXIT, NOP, RA, X0, add, addi, auipc, jal, jalr, ld, lui, lw};
-use test_files::{Section, Symbol, assemble, exit7, program, two_segments};
+use test_files::{Section, Symbol, assemble, exit7, of_code, of_section, program, two_segments};
 
 // An entry of the global offset table, with the function that it is to hold, by the relocation's addend, and the lower part
 // that names it.

@@ -1,5 +1,5 @@
 // Where functions begin and end, and what their instructions may be. The code of each file begins at 10078.
-use crate::analysis::{accepted, of_code, refused};
+use crate::analysis::{accepted, refused};
 use elf_image::relocation::*;
 use rb_bytes::fault::FaultKind;
 use rv_code::{Role, Width};
@@ -7,7 +7,7 @@ use std::alloc::Global;
 use std::test::Fail;
 use test_files::code::push_code;
 use test_files::inst::{A4, A5, EXIT, RA, auipc, jalr, ld};
-use test_files::{Symbol, assemble, exit7_code, program};
+use test_files::{Symbol, assemble, exit7_code, of_code, program};
 
 // The smallest example with a function's symbol in its middle.
 fn cut_file(alloc: Global, section: Option<u16>, size: u64) -> Result<Vec<u8>, Fail> {

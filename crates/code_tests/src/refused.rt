@@ -1,12 +1,12 @@
 // Files that are refused: which fault, and where. The code of each begins at 10078.
-use crate::analysis::{data_file, of_code, refused};
+use crate::analysis::{data_file, refused};
 use elf_image::relocation::*;
 use rb_bytes::fault::FaultKind;
 use std::test::Fail;
 use test_files::bytes::patch;
 use test_files::inst::{A0, A1, A2, EXIT, addi, auipc};
 use test_files::shapes::BASE;
-use test_files::{Section, Symbol, assemble, exit7_code, program, program_at};
+use test_files::{Section, Symbol, assemble, exit7_code, of_code, program, program_at};
 
 // A number that is no type of relocation. psABI, "Relocations".
 const UNKNOWN: u32 = 62;

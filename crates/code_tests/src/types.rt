@@ -1,10 +1,10 @@
 // All types of relocations, by their numbers. psABI, "Relocations", the table of types. The code of each file begins at 10078.
-use crate::analysis::{accepted, of_code, refused};
+use crate::analysis::{accepted, refused};
 use rb_bytes::fault::FaultKind;
 use std::alloc::Global;
 use std::test::Fail;
 use test_files::bytes::patch;
-use test_files::{Symbol, exit7_code, program};
+use test_files::{Symbol, exit7_code, of_code, program};
 
 /// The type of a symbol of an indirect function. gABI, "Symbol Types", STT_GNU_IFUNC.
 const STT_GNU_IFUNC: u8 = 10;

@@ -1,30 +1,13 @@
 // Blocks and edges. The code of each file begins at 10078, with the entry point.
 use crate::layout::{accepted, block};
-use std::alloc::Global;
 use std::test::Fail;
 use test_files::inst::{A0, EXIT, RA, X0, addi, beq, jal, jalr};
+use test_files::programs::countdown;
 use test_files::{Symbol, assemble, program};
-
-// Three times round a loop: 1007c goes to 10088, and 10084 back to 1007c.
-fn loop_file(alloc: Global) -> Result<Vec<u8>, Fail> {
-    let [set_exit, call] = EXIT;
-    let code = assemble(
-        alloc,
-        &[
-            addi(A0, X0, 3),
-            beq(A0, X0, 12),
-            addi(A0, A0, -1),
-            jal(X0, -8),
-            set_exit,
-            call,
-        ],
-    )?;
-    Ok(program(alloc, &code, &[])?.build(alloc)?)
-}
 
 #[test]
 fn a_loop(rt: HostRuntime) -> Result<(), Fail> {
-    let file = loop_file(rt.alloc())?;
+    let file = countdown(rt.alloc())?;
     let found = accepted(rt.alloc(), &file, &[])?;
     let blocks = [
         block(0, 0, 0),
@@ -44,7 +27,7 @@ fn a_loop(rt: HostRuntime) -> Result<(), Fail> {
 // The same code, one of whose instructions has an exception table.
 #[test]
 fn a_whole_function(rt: HostRuntime) -> Result<(), Fail> {
-    let file = loop_file(rt.alloc())?;
+    let file = countdown(rt.alloc())?;
     let found = accepted(rt.alloc(), &file, &[(0x10084, 0x10088)])?;
     assert_eq!(rt; found.blocks.as_slice(), [block(0, 0, 5)].as_slice());
     assert_eq!(rt; found.edges.len(), 0);

@@ -4,6 +4,7 @@ use elf_image::segment::{PF_R, PF_X, PT_INTERP, PT_LOAD};
 use elf_image::{Segment, cuts, read};
 use rb_bytes::fault::FaultKind;
 use std::alloc::Global;
+use std::process::Abort;
 use std::test::Fail;
 use test_files::bytes::patch;
 use test_files::shapes::EXIT7_LAST_NAME;
@@ -40,138 +41,110 @@ fn with_second(alloc: Global, end: u64, second: &Segment) -> Result<Vec<u8>, Fai
     Ok(file.build(alloc)?)
 }
 
+// How the example with each of these segments behind its own is refused, if it is.
+fn check_seconds(
+    rt: &impl Abort,
+    alloc: Global,
+    cases: &[(Segment, Option<(FaultKind, u64)>)],
+) -> Result<(), Fail> {
+    for (second, wanted) in cases {
+        let file = with_second(alloc, CODE_END, second)?;
+        assert_eq!(rt; refused(alloc, &file), *wanted);
+    }
+    Ok(())
+}
+
+// A segment of no byte of the file, at an address.
+fn nothing_at(vaddr: u64) -> Segment {
+    Segment { vaddr, ..NOTHING }
+}
+
+// A segment of so many bytes of the file, from an offset on.
+fn bytes_at(offset: u64, filesz: u64) -> Segment {
+    Segment {
+        offset,
+        filesz,
+        ..NOTHING
+    }
+}
+
+// A note of so many bytes of the file, from an offset on.
+fn note_at(offset: u64, filesz: u64) -> Segment {
+    Segment {
+        kind: PT_NOTE,
+        ..bytes_at(offset, filesz)
+    }
+}
+
 #[test]
-fn segments_must_lie_apart(rt: HostRuntime) -> Result<(), Fail> {
-    let exec = FaultKind::ExecSegments;
+fn segments_must_share_no_address(rt: HostRuntime) -> Result<(), Fail> {
     let cases = [
         (NOTHING, None),
         // begins where the first ends, and one address below
-        (
-            Segment {
-                vaddr: 0x10088,
-                ..NOTHING
-            },
-            None,
-        ),
-        (
-            Segment {
-                vaddr: 0x10087,
-                ..NOTHING
-            },
-            Some((exec, 0x160)),
-        ),
+        (nothing_at(0x10088), None),
+        (nothing_at(0x10087), Some((FaultKind::ExecSegments, 0x160))),
+    ];
+    check_seconds(&rt, rt.alloc(), &cases)
+}
+
+#[test]
+fn segments_must_share_no_byte(rt: HostRuntime) -> Result<(), Fail> {
+    let cases = [
         // takes no byte of the file from inside the first, and one
-        (
-            Segment {
-                offset: 0x87,
-                ..NOTHING
-            },
-            None,
-        ),
-        (
-            Segment {
-                offset: 0x87,
-                filesz: 1,
-                ..NOTHING
-            },
-            Some((exec, 0x160)),
-        ),
-        // a note that crosses the first's end in the file, and one that begins there
-        (
-            Segment {
-                kind: PT_NOTE,
-                offset: 0x80,
-                filesz: 9,
-                ..NOTHING
-            },
-            Some((exec, 0x198)),
-        ),
-        (
-            Segment {
-                kind: PT_NOTE,
-                offset: 0x80,
-                filesz: 8,
-                ..NOTHING
-            },
-            None,
-        ),
-        (
-            Segment {
-                kind: PT_NOTE,
-                offset: 0x88,
-                filesz: 8,
-                ..NOTHING
-            },
-            None,
-        ),
-        // asks for a dynamic linker
-        (
-            Segment {
-                kind: PT_INTERP,
-                ..NOTHING
-            },
-            Some((FaultKind::NotStatic, 0x198)),
-        ),
+        (bytes_at(0x87, 0), None),
+        (bytes_at(0x87, 1), Some((FaultKind::ExecSegments, 0x160))),
         // takes no byte from past the file's end, and one
-        (
-            Segment {
-                offset: 0x1d0,
-                ..NOTHING
-            },
-            None,
-        ),
-        (
-            Segment {
-                offset: 0x1d0,
-                filesz: 1,
-                ..NOTHING
-            },
-            Some((FaultKind::Truncated, 0x1d0)),
-        ),
+        (bytes_at(0x1d0, 0), None),
+        (bytes_at(0x1d0, 1), Some((FaultKind::Truncated, 0x1d0))),
+    ];
+    check_seconds(&rt, rt.alloc(), &cases)
+}
+
+#[test]
+fn notes_must_not_cross_the_end_of_the_code(rt: HostRuntime) -> Result<(), Fail> {
+    let cases = [
+        (note_at(0x80, 9), Some((FaultKind::ExecSegments, 0x198))),
+        (note_at(0x80, 8), None),
+        (note_at(0x88, 8), None),
+    ];
+    check_seconds(&rt, rt.alloc(), &cases)
+}
+
+#[test]
+fn segments_of_other_kinds(rt: HostRuntime) -> Result<(), Fail> {
+    let interpreter = Segment {
+        kind: PT_INTERP,
+        ..NOTHING
+    };
+    let code = Segment {
+        flags: PF_R | PF_X,
+        filesz: 16,
+        ..NOTHING
+    };
+    let code_of_two_sizes = Segment { filesz: 0, ..code };
+    let cases = [
+        // asks for a dynamic linker
+        (interpreter, Some((FaultKind::NotStatic, 0x198))),
         // executable too, and besides of two sizes
-        (
-            Segment {
-                flags: PF_R | PF_X,
-                filesz: 16,
-                ..NOTHING
-            },
-            Some((exec, 0x198)),
-        ),
-        (
-            Segment {
-                flags: PF_R | PF_X,
-                ..NOTHING
-            },
-            Some((exec, 0x198)),
-        ),
+        (code, Some((FaultKind::ExecSegments, 0x198))),
+        (code_of_two_sizes, Some((FaultKind::ExecSegments, 0x198))),
+    ];
+    check_seconds(&rt, rt.alloc(), &cases)
+}
+
+#[test]
+fn segments_must_not_be_too_high(rt: HostRuntime) -> Result<(), Fail> {
+    let high = FaultKind::HighAddress;
+    let cases = [
         // up to the highest address, past it, and past all addresses
+        (nothing_at(0x7ffe_fff0), None),
+        (nothing_at(0x7ffe_fff8), Some((high, 0x7fff_0000))),
         (
-            Segment {
-                vaddr: 0x7ffe_fff0,
-                ..NOTHING
-            },
-            None,
-        ),
-        (
-            Segment {
-                vaddr: 0x7ffe_fff8,
-                ..NOTHING
-            },
-            Some((FaultKind::HighAddress, 0x7fff_0000)),
-        ),
-        (
-            Segment {
-                vaddr: 0xffff_ffff_ffff_fff8,
-                ..NOTHING
-            },
-            Some((FaultKind::HighAddress, 0xffff_ffff_ffff_fff8)),
+            nothing_at(0xffff_ffff_ffff_fff8),
+            Some((high, 0xffff_ffff_ffff_fff8)),
         ),
     ];
-    for (second, wanted) in cases {
-        let file = with_second(rt.alloc(), CODE_END, &second)?;
-        assert_eq!(rt; refused(rt.alloc(), &file), wanted);
-    }
-    Ok(())
+    check_seconds(&rt, rt.alloc(), &cases)
 }
 
 #[test]

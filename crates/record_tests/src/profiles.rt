@@ -4,7 +4,8 @@ use rv_code::Inst;
 use rv_machine::Stepped;
 use std::alloc::Global;
 use std::test::Fail;
-use test_files::inst::{A0, A1, A2, A7, ECALL, EXIT, RA, SP, X0, addi, beq, jal, jalr};
+use test_files::inst::{A0, A1, A2, A7, ECALL, EXIT, RA, SP, X0, addi, jal, jalr};
+use test_files::programs::countdown;
 use test_files::{assemble, program};
 
 /// Enough steps for all programs of these tests.
@@ -15,25 +16,9 @@ fn file_of(alloc: Global, insts: &[Inst]) -> Result<Vec<u8>, Fail> {
     Ok(program(alloc, &code, &[])?.build(alloc)?)
 }
 
-// Three times round a loop: 1007c goes to 10088, and 10084 back to 1007c.
-fn loop_file(alloc: Global) -> Result<Vec<u8>, Fail> {
-    let [set_exit, call] = EXIT;
-    file_of(
-        alloc,
-        &[
-            addi(A0, X0, 3),
-            beq(A0, X0, 12),
-            addi(A0, A0, -1),
-            jal(X0, -8),
-            set_exit,
-            call,
-        ],
-    )
-}
-
 #[test]
 fn a_loop(rt: HostRuntime) -> Result<(), Fail> {
-    let file = loop_file(rt.alloc())?;
+    let file = countdown(rt.alloc())?;
     let recorded = recorded(rt.alloc(), &file, LIMIT, &[])?;
     assert_eq!(rt; recorded.ran.end, Stepped::Ended(0));
     assert_eq!(rt; recorded.ran.steps, 13);
@@ -53,7 +38,7 @@ fn a_loop(rt: HostRuntime) -> Result<(), Fail> {
 // Four steps of it: the last one goes back to 1007c.
 #[test]
 fn some_steps(rt: HostRuntime) -> Result<(), Fail> {
-    let file = loop_file(rt.alloc())?;
+    let file = countdown(rt.alloc())?;
     let recorded = recorded(rt.alloc(), &file, 4, &[])?;
     assert_eq!(rt; recorded.ran.end, Stepped::Going);
     assert_eq!(rt; recorded.ran.steps, 4);

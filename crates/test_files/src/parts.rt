@@ -150,3 +150,25 @@ pub struct Relocation<'a> {
     pub symbol: &'a [u8],
     pub addend: i64,
 }
+
+/// A relocation of a section.
+pub fn of_section<'a>(
+    section: &'a [u8],
+    offset: u64,
+    kind: u32,
+    symbol: &'a [u8],
+    addend: i64,
+) -> Relocation<'a> {
+    Relocation {
+        section,
+        offset,
+        kind,
+        symbol,
+        addend,
+    }
+}
+
+/// A relocation of the code.
+pub fn of_code<'a>(offset: u64, kind: u32, symbol: &'a [u8], addend: i64) -> Relocation<'a> {
+    of_section(b".text", offset, kind, symbol, addend)
+}
