@@ -23,13 +23,14 @@ use Rattle.bolt_cli.specs.World.{World}
 
 -- how a refusal ends, where its fault is present and the files are as they were
 pub refuses : (answer : Status) (fault : Fault) (names : InputNames) (old new : World)
-    → LinePrinted answer (status.Refused fault) (refused_line fault) old.output new.output → Unchanged old.files.content new.files.content
-    → IsPresent names old fault → IsStopped names old new answer
+    → LinePrinted answer (status.Refused fault) (refused_line fault) old.output new.output
+    → Unchanged old.files.content new.files.content → IsPresent names old fault → IsStopped names old new answer
 refuses answer fault names old new (all_printed is taken) same present =
     refused fault is present (record { line_taken = taken; unwritten = same })
 refuses answer fault names old new (prefix_printed is rose taken) same present =
     at_refusal fault is present (record { print = record { cause = rose; front = taken }; unwritten = same })
-refuses answer fault names old new (none_printed is kept) same present = no_memory is (record { unprinted = kept; unwritten = same })
+refuses answer fault names old new (none_printed is kept) same present =
+    no_memory is (record { unprinted = kept; unwritten = same })
 
 -- a count that rose after another call that it didn't fall in
 pub rose_after : (before between after : ℕ) → before ≤ between → Rose between after → Rose before after
@@ -40,25 +41,37 @@ pub rose_before : (before between after : ℕ) → between ≤ after → Rose be
 rose_before before between after le rose = λ below. let earlier : before < between = rose (omega arith) in omega arith
 
 -- a fact of what was read is one of what there is
-pub of_inputs : (w : World) (names : InputNames) (file profile : List ℕ) (P : List ℕ → List ℕ → Type 0) → AreRead w.files.content names file profile → P file profile → OfInputs w names P
+pub of_inputs : (w : World) (names : InputNames) (file profile : List ℕ) (P : List ℕ → List ℕ → Type 0) →
+    AreRead w.files.content names file profile → P file profile → OfInputs w names P
 of_inputs w names file profile P read p =
-    let inner : IsSomeAnd (w.files.content names.profile) (λ q. P file q) = subst (λ (o : Option (List ℕ)). IsSomeAnd o (λ q. P file q)) (sym read.profile_is) p in
-    subst (λ (o : Option (List ℕ)). IsSomeAnd o (λ f. IsSomeAnd (w.files.content names.profile) (λ q. P f q))) (sym read.file_is) inner
+    let inner : IsSomeAnd (w.files.content names.profile) (λ q. P file q) =
+    subst (λ (o : Option (List ℕ)). IsSomeAnd o (λ q. P file q)) (sym read.profile_is) p in
+    subst (λ (o : Option (List ℕ)). IsSomeAnd o (λ f. IsSomeAnd (w.files.content names.profile) (λ q. P f q)))
+    (sym read.file_is) inner
 
 -- a fact of both inputs that follows from another
-map_inputs : (a b : Option (List ℕ)) (P Q : List ℕ → List ℕ → Type 0) → ((f p : List ℕ) → P f p → Q f p) → IsSomeAnd a (λ f. IsSomeAnd b (λ p. P f p)) → IsSomeAnd a (λ f. IsSomeAnd b (λ p. Q f p))
+map_inputs : (a b : Option (List ℕ)) (P Q : List ℕ → List ℕ → Type 0) → ((f p : List ℕ) → P f p → Q f p) →
+    IsSomeAnd a (λ f. IsSomeAnd b (λ p. P f p)) → IsSomeAnd a (λ f. IsSomeAnd b (λ p. Q f p))
 map_inputs None b P Q h x = absurd x
 map_inputs (Some f) None P Q h x = absurd x
 map_inputs (Some f) (Some p) P Q h x = h f p x
 
-pub of_long_file : (w : World) (names : InputNames) (fault : Fault) → fault ≡ fault_at TooLarge 0 → OfInputs w names (λ file profile. file_limit < length file) → OfInputs w names (λ file profile. IsRefused file profile fault)
-of_long_file w names fault e long = map_inputs (w.files.content names.file) (w.files.content names.profile) (λ file profile. file_limit < length file) (λ file profile. IsRefused file profile fault) (λ file profile t. long_file t e) long
+pub of_long_file : (w : World) (names : InputNames) (fault : Fault) → fault ≡ fault_at TooLarge 0 →
+    OfInputs w names (λ file profile. file_limit < length file) → OfInputs w names (λ file profile. IsRefused file profile fault)
+of_long_file w names fault e long =
+    map_inputs (w.files.content names.file) (w.files.content names.profile) (λ file profile. file_limit < length file)
+    (λ file profile. IsRefused file profile fault) (λ file profile t. long_file t e) long
 
-pub of_long_profile : (w : World) (names : InputNames) (fault : Fault) → fault ≡ fault_at TooLarge 1 → OfInputs w names (λ file profile. (length file ≤ file_limit) × (file_limit < length profile)) → OfInputs w names (λ file profile. IsRefused file profile fault)
-of_long_profile w names fault e long = map_inputs (w.files.content names.file) (w.files.content names.profile) (λ file profile. (length file ≤ file_limit) × (file_limit < length profile)) (λ file profile. IsRefused file profile fault) (λ file profile t. long_profile t.0 t.1 e) long
+pub of_long_profile : (w : World) (names : InputNames) (fault : Fault) → fault ≡ fault_at TooLarge 1 →
+    OfInputs w names (λ file profile. (length file ≤ file_limit) × (file_limit < length profile)) →
+    OfInputs w names (λ file profile. IsRefused file profile fault)
+of_long_profile w names fault e long = map_inputs (w.files.content names.file) (w.files.content names.profile)
+    (λ file profile. (length file ≤ file_limit) × (file_limit < length profile)) (λ file profile. IsRefused file profile fault)
+    (λ file profile t. long_profile t.0 t.1 e) long
 
 -- files that were read, at the slices that they were passed as
-pub are_read : (content : List ℕ → Option (List ℕ)) (names : InputNames) (file profile file_now profile_now : List ℕ) → file_now ≡ file → profile_now ≡ profile → AreRead content names file profile → AreRead content names file_now profile_now
+pub are_read : (content : List ℕ → Option (List ℕ)) (names : InputNames) (file profile file_now profile_now : List ℕ) →
+    file_now ≡ file → profile_now ≡ profile → AreRead content names file profile → AreRead content names file_now profile_now
 are_read content names file profile file_now profile_now e f read = record {
   file_is = read.file_is ∙ ap (λ (xs : List ℕ). Some xs) (sym e);
   profile_is = read.profile_is ∙ ap (λ (xs : List ℕ). Some xs) (sym f);
@@ -66,7 +79,9 @@ are_read content names file profile file_now profile_now e f read = record {
 
 -- counts that fall in neither of two calls
 never_falls_after : (a b c : List ℕ → ℕ) → NeverFalls a b → NeverFalls b c → NeverFalls a c
-never_falls_after a b c f g = record { each = λ name. let one : a name ≤ b name = f.each name in let two : b name ≤ c name = g.each name in omega arith }
+never_falls_after a b c f g = record {
+  each = λ name. let one : a name ≤ b name = f.each name in let two : b name ≤ c name = g.each name in omega arith;
+}
 
 pub go_on_after : (a b c : FilesSeen) → FilesGoOn a b → FilesGoOn b c → FilesGoOn a c
 go_on_after a b c first next = record {
@@ -92,7 +107,8 @@ module _ (names : RewriteNames) (written map summary : List ℕ) (old mid new : 
   out_holds holds = λ told. holds (still_told told)
 
   both_hold : HoldBoth names written map mid new → HoldBoth names written map old new
-  both_hold both = record { out = out_holds both.out; map_is = λ told. both.map_is (still_told told); others = others_kept both.others }
+  both_hold both =
+      record { out = out_holds both.out; map_is = λ told. both.map_is (still_told told); others = others_kept both.others }
 
   unprinted : new.output.taken ≡ mid.output.taken → new.output.taken ≡ old.output.taken
   unprinted quiet = quiet ∙ ap (λ (s : SinkSeen). s.taken) between.output_is
@@ -120,8 +136,10 @@ texts_are answer names made texts mid new is written =
     subst (λ (map : List ℕ). OutputsWritten answer names made.written map (summary_line made.counts) mid new) is.map_is
     (subst (λ (summary : List ℕ). OutputsWritten answer names made.written texts.map.items summary mid new) is.summary_is written)
 
-module _ (names : RewriteNames) (made : Made) (old mid new : World) (between : IsBetween old mid) (of : IsMadeOf names.inputs old.files made) where
-  ends : (answer : Status) → OutputsWritten answer names made.written (map_text made.spans) (summary_line made.counts) mid new → RewriteAnswers names old new answer
+module _ (names : RewriteNames) (made : Made) (old mid new : World) (between : IsBetween old mid)
+    (of : IsMadeOf names.inputs old.files made) where
+  ends : (answer : Status) → OutputsWritten answer names made.written (map_text made.spans) (summary_line made.counts) mid new →
+      RewriteAnswers names old new answer
   ends status.Ok all =
       done refl made of
       (both_hold names made.written (map_text made.spans) (summary_line made.counts) old mid new between all.both)
@@ -135,13 +153,18 @@ module _ (names : RewriteNames) (made : Made) (old mid new : World) (between : I
   writes texts is answer written = ends answer (texts_are answer names made texts mid new is written)
 
 -- the map of what was made was printed, whole or in part
-module _ (names : InputNames) (made : Made) (old mid new : World) (between : IsBetween old mid) (of : IsMadeOf names old.files made)
+module _ (names : InputNames) (made : Made) (old mid new : World) (between : IsBetween old mid)
+    (of : IsMadeOf names old.files made)
     (same : Unchanged old.files.content new.files.content) where
   pub prints : TakesAll mid.output.taken new.output.taken (map_text made.spans) → MapAnswers names old new status.Ok
   prints taken =
-      printed refl made of (record { line_taken = subst (λ (s : SinkSeen). TakesAll s.taken new.output.taken (map_text made.spans)) between.output_is taken; unwritten = same })
+      printed refl made of (record {
+        line_taken = subst (λ (s : SinkSeen). TakesAll s.taken new.output.taken (map_text made.spans)) between.output_is taken;
+        unwritten = same;
+      })
 
-  pub fails : Rose mid.output.faults new.output.faults → TakesPrefix mid.output.taken new.output.taken (map_text made.spans) → MapAnswers names old new status.WriteFault
+  pub fails : Rose mid.output.faults new.output.faults → TakesPrefix mid.output.taken new.output.taken (map_text made.spans) →
+      MapAnswers names old new status.WriteFault
   fails rose taken =
       at_text refl made of (record {
         print = record {

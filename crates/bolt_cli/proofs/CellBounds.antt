@@ -22,7 +22,8 @@ use Rattle.elf_image.proofs.ReadLists.{get_or-segments}
 -- Widths.
 
 -- which relocations say how wide a difference is that can be a cell
-wide : (kind bits : ℕ) → same_width (Bits bits) (plus_width kind) ≡ true → (is_add kind || is_pc_difference kind) ≡ true → 32 ≤ bits
+wide : (kind bits : ℕ) → same_width (Bits bits) (plus_width kind) ≡ true →
+    (is_add kind || is_pc_difference kind) ≡ true → 32 ≤ bits
 wide kind bits same can = add32 (kind == 35) refl
   where
     width_is : (k : ℕ) → kind ≡ k → same_width (Bits bits) (plus_width k) ≡ true
@@ -49,10 +50,12 @@ bits_of (Bits n) = n
 bits_of _ = 0
 
 module _ (elf : Elf) (tabled : List (ℕ × ℕ)) where
-  wide_difference : (r : Relocation) (w : Width) (bits : ℕ) {to from : _} → w ≡ Bits bits → IsDifference elf r w to from → IsTrue (can_be_cell r) → 32 ≤ bits
+  wide_difference : (r : Relocation) (w : Width) (bits : ℕ) {to from : _} → w ≡ Bits bits → IsDifference elf r w to from →
+      IsTrue (can_be_cell r) → 32 ≤ bits
   unfolding bits_of
   wide_difference r w bits is (of_labels only minus other to_is from_is) can =
-      wide r.kind bits (subst (λ (v : Width). same_width v (plus_width r.kind) ≡ true) is (and_parts (r.place == r.place) (same_width w (plus_width r.kind)) only.passes).1) can
+      wide r.kind bits (subst (λ (v : Width). same_width v (plus_width r.kind) ≡ true) is
+      (and_parts (r.place == r.place) (same_width w (plus_width r.kind)) only.passes).1) can
   wide_difference r w bits is (of_place listed kind width_is to_is from_is) can =
       let same : bits ≡ 32 = ap bits_of (sym is ∙ width_is) in omega arith
 
@@ -68,7 +71,8 @@ module _ (elf : Elf) (tabled : List (ℕ × ℕ)) where
 
 -- Places.
 
-found_in : (a : ℕ) (segments : List Segment) (o : ℕ) → file_offset segments a ≡ Some o → (p : Segment) × Contains segments p × (loads_address a p ≡ true)
+found_in : (a : ℕ) (segments : List Segment) (o : ℕ) → file_offset segments a ≡ Some o →
+    (p : Segment) × Contains segments p × (loads_address a p ≡ true)
 found_in a [] o is = absurd (cc)
 found_in a (p ∷ ps) o is = by_test (loads_address a p) refl (λ later. found_in a ps o later)
   where
@@ -99,11 +103,14 @@ can_be : (elf : Elf) (tabled : List (ℕ × ℕ)) (f : Field) (b : Bool) → Cou
 can_be elf tabled f b (counts g is before) = is
 can_be elf tabled f b (gives_way g other is before share won) = is
 
-pub cells_end : (file : List ℕ) (elf : Elf) → IsElfOf file elf → IsSound file → (tabled : List (ℕ × ℕ)) (cells : List CodeCell) → AreCells elf tabled cells → All (λ c. c.addr + c.width ≤ 2 ^ 64) cells
+pub cells_end : (file : List ℕ) (elf : Elf) → IsElfOf file elf → IsSound file → (tabled : List (ℕ × ℕ)) (cells : List CodeCell) →
+    AreCells elf tabled cells → All (λ c. c.addr + c.width ≤ 2 ^ 64) cells
 cells_end file elf is sound tabled cells are = λ k d within.
     let c : CodeCell = get_or cells k d in
     let cell : IsCell elf tabled c = are.only c (k, within, get_or_default cells k c d within) in
     let can = can_be elf tabled _ true cell.counted in
     let some : 0 < c.width = has_bytes elf tabled _ can.is_field in
-    let last : c.addr + (c.width - 1) < address_end = low_offset file sound (c.addr + (c.width - 1)) (subst (λ (segments : List Segment). IsSome (file_offset segments (c.addr + (c.width - 1)))) is.segments (can.from_file (c.width - 1) (omega arith))) in
+    let last : c.addr + (c.width - 1) < address_end = low_offset file sound (c.addr + (c.width - 1))
+    (subst (λ (segments : List Segment). IsSome (file_offset segments (c.addr + (c.width - 1)))) is.segments
+    (can.from_file (c.width - 1) (omega arith))) in
     omega (arith, some, last)

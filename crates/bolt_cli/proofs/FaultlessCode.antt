@@ -8,6 +8,8 @@ use Rattle.bolt_core.specs.Program.{tabled}
 use Rattle.bolt_cli.specs.run.SymbolRuns.{IsFaultless}
 
 -- they lie apart
-pub laid_out : (file : List ℕ) (elf : Elf) (funcs given : List Func) → given ≡ funcs → IsFaultless file elf funcs → AreLaidOut given
+pub laid_out : (file : List ℕ) (elf : Elf) (funcs given : List Func) → given ≡ funcs →
+    IsFaultless file elf funcs → AreLaidOut given
 laid_out file elf funcs given same is =
-    subst AreLaidOut (sym same) (AreLaidOut-functions elf file is.read is.plain.sound tabled funcs is.funcs_are (λ kind place has. is.code_sound kind place (inr has)))
+    subst AreLaidOut (sym same) (AreLaidOut-functions elf file is.read is.plain.sound tabled funcs is.funcs_are
+    (λ kind place has. is.code_sound kind place (inr has)))

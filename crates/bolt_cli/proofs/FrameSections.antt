@@ -18,7 +18,8 @@ module _ (file : List ℕ) (elf : Elf) (is : IsElfOf file elf) where
   pub found : list_any is_frame_section elf.sections.items ≡ true → HasFrames file
   found some =
       let one = Any-from_list_any is_frame_section elf.sections.items some in
-      let at : slice_get elf.sections.items one.0 ≡ Some one.1 = slice_get_read elf.sections.items (length elf.sections.items) one.0 one.1 refl one.2 (sym one.3) in
+      let at : slice_get elf.sections.items one.0 ≡ Some one.1 =
+      slice_get_read elf.sections.items (length elf.sections.items) one.0 one.1 refl one.2 (sym one.3) in
       let header : IsSectionAt file one.0 one.1 = is.sections.each one.0 one.1 at in
       let parts = and_parts (bytes_eq one.1.name.now (codes ".eh_frame")) (nat_lt 0 one.1.size) one.4 in (
         one.0,
@@ -36,10 +37,13 @@ module _ (file : List ℕ) (elf : Elf) (is : IsElfOf file elf) where
       elim ((slice_get_cases elf.sections.items i).1) [
         | inl h ↦
             let header : IsSectionAt file i h.0 = is.sections.each i h.0 h.2 in
-            let named : bytes_eq h.0.name.now (codes ".eh_frame") ≡ true = subst (λ (name : List ℕ). bytes_eq name (codes ".eh_frame") ≡ true) (sym header.name) frames.1.named in
-            let filled : nat_lt 0 h.0.size ≡ true = lt-ltb 0 h.0.size (subst (λ (size : ℕ). 0 < size) (sym header.size) frames.1.filled) in
+            let named : bytes_eq h.0.name.now (codes ".eh_frame") ≡ true =
+            subst (λ (name : List ℕ). bytes_eq name (codes ".eh_frame") ≡ true) (sym header.name) frames.1.named in
+            let filled : nat_lt 0 h.0.size ≡ true =
+            lt-ltb 0 h.0.size (subst (λ (size : ℕ). 0 < size) (sym header.size) frames.1.filled) in
             let passes : is_frame_section h.0 ≡ true = rw (named, filled) refl in
-            let some : list_any is_frame_section elf.sections.items ≡ true = list_any_at is_frame_section elf.sections.items i h.0 there (subst (λ (s : Section). is_frame_section s ≡ true) (sym h.3) passes) in
+            let some : list_any is_frame_section elf.sections.items ≡ true = list_any_at is_frame_section elf.sections.items i h.0
+            there (subst (λ (s : Section). is_frame_section s ≡ true) (sym h.3) passes) in
             absurd (cc)
         | inr h ↦ absurd (omega (arith, there, h.0))
       ]

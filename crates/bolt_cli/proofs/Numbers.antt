@@ -18,11 +18,12 @@ pub number_of-other : (digits : List ℕ) → list_all is_ascii_digit digits ≡
 number_of-other digits other = grind (arith, nat_tests)
 
 number_of-read : {E : Type 0} (digits : List ℕ) (r : Result ℕ E) → length digits ≤ 20 → list_all is_ascii_digit digits ≡ true
-    → OkIff r ((0 < length digits) × (digits_value 10 digits < 2 ^ 64)) (digits_value 10 digits) → result_ok r ≡ decimal_number digits
+    → OkIff r ((0 < length digits) × (digits_value 10 digits < 2 ^ 64)) (digits_value 10 digits)
+    → result_ok r ≡ decimal_number digits
 number_of-read digits (Ok x) short decimal h = grind (arith, nat_tests, h.0.0, h.0.1, h.1)
 number_of-read digits (Err e) short decimal h = grind (arith, nat_tests, h)
 
-pub number_of-parsed : {E : Type 0} (digits : List ℕ) (r : Result ℕ E) → ParsesUnsigned 64 10 digits r → length digits ≤ 20 → list_all is_ascii_digit digits ≡ true
-    → result_ok r ≡ decimal_number digits
+pub number_of-parsed : {E : Type 0} (digits : List ℕ) (r : Result ℕ E) → ParsesUnsigned 64 10 digits r → length digits ≤ 20
+    → list_all is_ascii_digit digits ≡ true → result_ok r ≡ decimal_number digits
 number_of-parsed digits r parsed short decimal =
     number_of-read digits r short decimal (parse_digits decimal_model 64 digits r parsed decimal)

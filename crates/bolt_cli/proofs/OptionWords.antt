@@ -13,8 +13,8 @@ list_any-within : {X : Type 0} (p : X → Bool) (xs : List X) → position_or_le
 list_any-within p [] h = absurd (omega arith)
 list_any-within p (x ∷ xs) h = grind (arith, common_steps, list_any-within p xs)
 
-pub option_of-split : (word name value : List ℕ) → name ≡ before_first is_equals word → value ≡ after_first is_equals word → position_or_len is_equals word < length word
-    → OptionWord name (Some value) ≡ option_of word
+pub option_of-split : (word name value : List ℕ) → name ≡ before_first is_equals word → value ≡ after_first is_equals word
+    → position_or_len is_equals word < length word → OptionWord name (Some value) ≡ option_of word
 option_of-split word name value n v h = rw (list_any-within is_equals word h, n, v) refl
 
 pub option_of-alone : (word : List ℕ) → position_or_len is_equals word ≡ length word → OptionWord word None ≡ option_of word

@@ -31,9 +31,10 @@ use Rattle.bolt_cli.proofs.Answering.{rose_after}
 use Rattle.bolt_cli.proofs.RunEnds.{came_on, came_ended, came_halted, comes_out, unclosed, stops, only, step_answer, Came}
 
 -- a recorded run of the words, functions and blocks by other names of them
-pub by_names : (elf : Elf) (words words' : List (List ℕ)) (limit : ℕ) (before after : Outside) (funcs funcs' : List Func) (blocks blocks' : List Block) (n : ℕ) (text : List ℕ) (a : Answer Cause)
-    → words ≡ words' → funcs ≡ funcs' → blocks ≡ blocks'
-    → Records (start elf.file.now words) limit before after elf funcs blocks n text a → Records (start elf.file.now words') limit before after elf funcs' blocks' n text a
+pub by_names : (elf : Elf) (words words' : List (List ℕ)) (limit : ℕ) (before after : Outside) (funcs funcs' : List Func)
+    (blocks blocks' : List Block) (n : ℕ) (text : List ℕ) (a : Answer Cause) → words ≡ words' → funcs ≡ funcs' → blocks ≡ blocks'
+    → Records (start elf.file.now words) limit before after elf funcs blocks n text a
+    → Records (start elf.file.now words') limit before after elf funcs' blocks' n text a
 by_names elf words words' limit before after funcs funcs' blocks blocks' n text a same_words same_funcs same_blocks r =
     subst (λ (ws : List (List ℕ)). Records (start elf.file.now ws) limit before after elf funcs' blocks' n text a) same_words
     (subst (λ (fs : List Func). Records (start elf.file.now words) limit before after elf fs blocks' n text a) same_funcs
@@ -50,7 +51,8 @@ module _ (program : Program) (words : RecordWords) (steps : ℕ) (text : List �
   between = record { files = old.files; input = new.input; output = output }
 
   abbrev Recorded : Answer Cause → Type 0
-  Recorded a = Records machine.start words.run.limit (outside old) (outside between) program.elf program.code.funcs program.blocks steps text a
+  Recorded a = Records machine.start words.run.limit (outside old)
+      (outside between) program.elf program.code.funcs program.blocks steps text a
 
   abbrev FinishedSo : Status → Answer Cause → Type 0
   FinishedSo result a = Finished result words.out text steps between new a
@@ -67,30 +69,40 @@ module _ (program : Program) (words : RecordWords) (steps : ℕ) (text : List �
   ComesSo Takes ending = ComesOut machine words.run.limit (outside old) (outside new) Takes ending
 
   abbrev out_of : (a : Answer Cause) (r : Runs a) (Takes : Taking) (ending : Ending Cause)
-      → Takes output.taken new.output.taken (closing_line (answer_of machine ending) steps) → CameSo a r ending → ComesSo Takes ending
+      → Takes output.taken new.output.taken (closing_line (answer_of machine ending) steps)
+      → CameSo a r ending → ComesSo Takes ending
   out_of a r Takes ending line came =
       comes_out state_of machine words.run.limit r.machine r.ends_as steps (outside old) (outside between) (outside new)
-      r.starts (λ input. refl) (λ pc cause result steps b c printed. printed) refl refl writes_rise writes_last Takes ending line came
+      r.starts (λ input. refl)
+      (λ pc cause result steps b c printed. printed) refl refl writes_rise writes_last Takes ending line came
 
   -- a run that came out, and its profile
-  came_out : (a : Answer Cause) (r : Runs a) (ending : Ending Cause) (came : CameSo a r ending) (moves : List Move) (state : ByteState)
-      → ByteMoves (machine.start came.input) (steps_gone ending steps) moves state
+  came_out : (a : Answer Cause) (r : Runs a) (ending : Ending Cause) (came : CameSo a r ending)
+      (moves : List Move) (state : ByteState) → ByteMoves (machine.start came.input) (steps_gone ending steps) moves state
       → IsEdgeText program.elf program.code.funcs (taken program.code.funcs program.blocks moves) text → (result : Status)
-      → ProfileWritten result (answer_of machine ending) words.out text (closing_line (answer_of machine ending) steps) between new
-      → RecordsRun program words old new result
+      → ProfileWritten result (answer_of machine ending) words.out text
+      (closing_line (answer_of machine ending) steps) between new → RecordsRun program words old new result
   came_out a r ending came moves state gone text_is result (written is holds line) =
-      recorded ending text is (record { comes_out = out_of a r TakesAll ending line came; moves = moves; state = state; gone = gone; text_is = text_is })
+      recorded ending text is
+      (record { comes_out = out_of a r TakesAll ending line came; moves = moves; state = state; gone = gone; text_is = text_is })
       (record { text_is = holds.text_is; others = holds.others })
   came_out a r ending came moves state gone text_is result (phase.at_profile is rose others same) =
       at_profile ending is rose (out_of a r TakesNone ending same came) others
   came_out a r ending came moves state gone text_is result (at_line is rose holds line) =
       at_closing ending text is (rose_after _ _ _ writes_rise rose)
-      (record { comes_out = out_of a r TakesPrefix ending line came; moves = moves; state = state; gone = gone; text_is = text_is })
+      (record {
+        comes_out = out_of a r TakesPrefix ending line came;
+        moves = moves;
+        state = state;
+        gone = gone;
+        text_is = text_is;
+      })
       (record { text_is = holds.text_is; others = holds.others })
   came_out a r ending came moves state gone text_is result (unwritten is same kept) =
       stopped (out_of_memory is
       (unclosed state_of machine words.run.limit r.machine r.ends_as steps (outside old) (outside between) (outside new)
-      r.starts (λ input. refl) (λ pc cause result steps b c printed. printed) refl refl writes_rise writes_last kept ending came)) same
+      r.starts (λ input. refl)
+      (λ pc cause result steps b c printed. printed) refl refl writes_rise writes_last kept ending came)) same
 
   pub answers : (a : Answer Cause) (result : Status) → Recorded a → FinishedSo result a → RecordsRun program words old new result
   answers end.Going result r finished =
@@ -101,12 +113,15 @@ module _ (program : Program) (words : RecordWords) (steps : ℕ) (text : List �
   answers (end.Ended value) result r finished =
       came_out (end.Ended value) r.run (Ends value)
       (came_ended state_of machine words.run.limit r.run.machine r.run.ends_as steps (outside old) (outside between) (outside new)
-      r.run.starts (λ input. refl) (λ pc cause result steps b c printed. printed) refl refl writes_rise writes_last value r.run.runs)
+      r.run.starts (λ input. refl)
+      (λ pc cause result steps b c printed. printed) refl refl writes_rise writes_last value r.run.runs)
       r.moves r.state r.gone r.text_is result finished
   answers (end.Halted pc cause) result r finished =
       came_out (end.Halted pc cause) r.run (Stops pc cause)
-      (came_halted state_of machine words.run.limit r.run.machine r.run.ends_as steps (outside old) (outside between) (outside new)
-      r.run.starts (λ input. refl) (λ pc cause result steps b c printed. printed) refl refl writes_rise writes_last pc cause r.run.runs)
+      (came_halted state_of machine words.run.limit r.run.machine r.run.ends_as steps (outside old)
+      (outside between) (outside new)
+      r.run.starts (λ input. refl)
+      (λ pc cause result steps b c printed. printed) refl refl writes_rise writes_last pc cause r.run.runs)
       r.moves r.state r.gone r.text_is result finished
   answers end.ReadFault result r finished =
       stopped
@@ -153,7 +168,8 @@ module _ (program : Program) (words : RecordWords) (steps : ℕ) (text : List �
       a result r.runs (λ fault. absurd (came fault))
       (λ ending same. finished_says result ending (subst (λ b. FinishedSo result b) same finished))
 
-  pub exact : (a : Answer Cause) (result : Status) → Recorded a → FinishedSo result a → IsExact machine words.run.limit old.input.left result
+  pub exact : (a : Answer Cause) (result : Status) → Recorded a → FinishedSo result a →
+      IsExact machine words.run.limit old.input.left result
   exact end.Going result r finished = only_so end.Going r.run result (λ fault. fault) finished
   exact (end.Ended value) result r finished = only_so (end.Ended value) r.run result (λ fault. fault) finished
   exact (end.Halted pc cause) result r finished = only_so (end.Halted pc cause) r.run result (λ fault. fault) finished

@@ -14,11 +14,13 @@ limit_after (Some limit) (value ∷ values) = None
 pub limit_of_none : (values : List (Option (List ℕ))) → limit_of (None ∷ values) ≡ None
 limit_of_none values = refl
 
-pub limit_of_bad : (digits : List ℕ) (values : List (Option (List ℕ))) → decimal_number digits ≡ None → limit_of (Some digits ∷ values) ≡ None
+pub limit_of_bad : (digits : List ℕ) (values : List (Option (List ℕ))) → decimal_number digits ≡ None →
+    limit_of (Some digits ∷ values) ≡ None
 limit_of_bad digits [] bad = bad
 limit_of_bad digits (value ∷ values) bad = refl
 
-pub limit_of_number : (digits : List ℕ) (values : List (Option (List ℕ))) (limit : ℕ) → decimal_number digits ≡ Some limit → limit_of (Some digits ∷ values) ≡ limit_after (Some limit) values
+pub limit_of_number : (digits : List ℕ) (values : List (Option (List ℕ))) (limit : ℕ) → decimal_number digits ≡ Some limit →
+    limit_of (Some digits ∷ values) ≡ limit_after (Some limit) values
 limit_of_number digits [] limit good = good
 limit_of_number digits (value ∷ values) limit good = refl
 
@@ -28,14 +30,16 @@ symbols_after false values = symbols_of values
 symbols_after true [] = Some true
 symbols_after true (value ∷ values) = None
 
-pub symbols_of_more : (value : Option (List ℕ)) (values : List (Option (List ℕ))) → symbols_of (value ∷ values) ≡ symbols_after true values
+pub symbols_of_more : (value : Option (List ℕ)) (values : List (Option (List ℕ))) →
+    symbols_of (value ∷ values) ≡ symbols_after true values
 symbols_of_more value [] = refl
 symbols_of_more value (next ∷ values) = refl
 
 -- at most so many words, of at most so many bytes together, and no byte of them zero
 abbrev pub fits : ℕ → ℕ → List (List ℕ) → Bool
 fits most_words most_bytes words =
-    nat_le (length words) most_words && nat_le (sum_by (λ word. length word) words) most_bytes && list_all (λ word. not (holds_zero word)) words
+    nat_le (length words) most_words && nat_le (sum_by (λ word. length word) words) most_bytes
+    && list_all (λ word. not (holds_zero word)) words
 
 pub within_limits : (words : List (List ℕ)) → are_program_words words ≡ true → IsWithinLimits words
 within_limits words h = record { few = grind (arith, nat_tests); short = grind (arith, nat_tests) }

@@ -21,7 +21,8 @@ use Rattle.bolt_cli.specs.declared.status.Status.{Status}
 use Rattle.bolt_cli.proofs.Answering.{rose_after, rose_before}
 
 -- nothing was done
-pub no_step : {V X C : Type 0} (machine : Loaded V X C) (limit : ℕ) (now : Outside) → ((input : List ℕ) → (machine.start input).input ≡ input) → StopsAnywhere machine limit now now
+pub no_step : {V X C : Type 0} (machine : Loaded V X C) (limit : ℕ) (now : Outside) →
+    ((input : List ℕ) → (machine.start input).input ≡ input) → StopsAnywhere machine limit now now
 unfolding output
 no_step machine limit now keeps =
     let input = told now.input.left in
@@ -32,12 +33,17 @@ no_step machine limit now keeps =
       trace = [];
       state = machine.start input;
       so_far = starts;
-      fits = (omega arith, append_known-nil now.output.taken, told_is now.input.left ∙ ap (as_told now.input.left) (sym (keeps input)));
+      fits = (
+        omega arith,
+        append_known-nil now.output.taken,
+        told_is now.input.left ∙ ap (as_told now.input.left) (sym (keeps input)),
+      );
     }
 
 -- The machine says that it halts by an answer that has a line.
 abbrev pub SaysHalts : {C : Type 0} → (ℕ → C → Status) → Type 0
-SaysHalts {C} halted = (pc : ℕ) (cause : C) (result : Status) (steps : ℕ) (before after : SinkSeen) → Closed result steps before after (halted pc cause) → SaysEnding result steps before after (halted pc cause)
+SaysHalts {C} halted = (pc : ℕ) (cause : C) (result : Status) (steps : ℕ) (before after : SinkSeen) →
+    Closed result steps before after (halted pc cause) → SaysEnding result steps before after (halted pc cause)
 
 -- the machine's answer for how a run comes out
 abbrev pub step_answer : {C : Type 0} → Ending C → Answer C
@@ -46,9 +52,12 @@ step_answer (Stops pc cause) = end.Halted pc cause
 step_answer RunsOn = end.Going
 
 -- A machine M keeps the state that `state_of` says. Its run and the closing line: `mid` is between them.
-module _ {M V X C : Type 0} (state_of : M → List ℕ → State V X) (machine : Loaded V X C) (limit : ℕ) (old new : M) (steps : ℕ) (before mid after : Outside)
-    (loaded : (input : List ℕ) → state_of old input ≡ machine.start input) (keeps : (input : List ℕ) → (state_of new input).input ≡ input) (halts : SaysHalts machine.halted)
-    (left_same : after.input.left ≡ mid.input.left) (reads_same : after.input.faults ≡ mid.input.faults) (writes_rise : before.output.faults ≤ mid.output.faults) (writes_last : mid.output.faults ≤ after.output.faults) where
+module _ {M V X C : Type 0} (state_of : M → List ℕ → State V X) (machine : Loaded V X C) (limit : ℕ) (old new : M) (steps : ℕ)
+    (before mid after : Outside)
+    (loaded : (input : List ℕ) → state_of old input ≡ machine.start input)
+    (keeps : (input : List ℕ) → (state_of new input).input ≡ input) (halts : SaysHalts machine.halted)
+    (left_same : after.input.left ≡ mid.input.left) (reads_same : after.input.faults ≡ mid.input.faults)
+    (writes_rise : before.output.faults ≤ mid.output.faults) (writes_last : mid.output.faults ≤ after.output.faults) where
   -- the run came out so
   pub record Came (ending : Ending C) : Type 0 where
     pub input : List ℕ
@@ -59,7 +68,8 @@ module _ {M V X C : Type 0} (state_of : M → List ℕ → State V X) (machine :
     pub left_is : mid.input.left ≡ as_told before.input.left rest
     pub taken_is : mid.output.taken ≡ append_known before.output.taken (output trace)
 
-  pub from_start : (input : List ℕ) (trace : List Event) (state : State V X) → SoFar machine.step (state_of old input) steps trace state → SoFar machine.step (machine.start input) steps trace state
+  pub from_start : (input : List ℕ) (trace : List Event) (state : State V X) →
+      SoFar machine.step (state_of old input) steps trace state → SoFar machine.step (machine.start input) steps trace state
   from_start input trace state so_far = subst (λ s. SoFar machine.step s steps trace state) (loaded input) so_far
 
   abbrev pub came_on : RunsSomeInput state_of machine.step end.Going limit steps old new before mid → Came RunsOn
@@ -70,12 +80,14 @@ module _ {M V X C : Type 0} (state_of : M → List ℕ → State V X) (machine :
         input_is = ran.input_is;
         trace = r.trace;
         rest = r.rest;
-        runs = (ran.answers.0, (state_of new r.rest, (from_start ran.input r.trace (state_of new r.rest) r.so_far, keeps r.rest)));
+        runs =
+            (ran.answers.0, (state_of new r.rest, (from_start ran.input r.trace (state_of new r.rest) r.so_far, keeps r.rest)));
         left_is = r.left_is;
         taken_is = r.taken_is;
       }
 
-  abbrev pub came_ended : (value : ℕ) → RunsSomeInput state_of machine.step (end.Ended value) limit steps old new before mid → Came (Ends value)
+  abbrev pub came_ended : (value : ℕ) →
+      RunsSomeInput state_of machine.step (end.Ended value) limit steps old new before mid → Came (Ends value)
   came_ended value ran =
       let r = ran.answers.1 in
       record {
@@ -85,13 +97,15 @@ module _ {M V X C : Type 0} (state_of : M → List ℕ → State V X) (machine :
         rest = r.rest;
         runs = (
           ran.answers.0,
-          subst (λ s. (run : Run machine.step s steps r.trace value) × (run.state.input ≡ r.rest)) (loaded ran.input) (r.run, ap (λ s. s.input) r.state_is ∙ keeps r.rest),
+          subst (λ s. (run : Run machine.step s steps r.trace value) × (run.state.input ≡ r.rest)) (loaded ran.input)
+              (r.run, ap (λ s. s.input) r.state_is ∙ keeps r.rest),
         );
         left_is = r.left_is;
         taken_is = r.taken_is;
       }
 
-  abbrev pub came_halted : (pc : ℕ) (cause : C) → RunsSomeInput state_of machine.step (end.Halted pc cause) limit steps old new before mid → Came (Stops pc cause)
+  abbrev pub came_halted : (pc : ℕ) (cause : C) →
+      RunsSomeInput state_of machine.step (end.Halted pc cause) limit steps old new before mid → Came (Stops pc cause)
   came_halted pc cause ran =
       let r = ran.answers.1 in
       record {
@@ -101,13 +115,16 @@ module _ {M V X C : Type 0} (state_of : M → List ℕ → State V X) (machine :
         rest = r.rest;
         runs = (
           ran.answers.0,
-          subst (λ s. (run : HaltsAfter machine.step s steps r.trace pc cause) × (run.state.input ≡ r.rest)) (loaded ran.input) (r.halts, ap (λ s. s.input) r.state_is ∙ keeps r.rest),
+          subst (λ s. (run : HaltsAfter machine.step s steps r.trace pc cause) × (run.state.input ≡ r.rest)) (loaded ran.input)
+              (r.halts, ap (λ s. s.input) r.state_is ∙ keeps r.rest),
         );
         left_is = r.left_is;
         taken_is = r.taken_is;
       }
 
-  abbrev pub comes_out : (Takes : Taking) (ending : Ending C) → Takes mid.output.taken after.output.taken (closing_line (answer_of machine ending) steps) → Came ending → ComesOut machine limit before after Takes ending
+  abbrev pub comes_out : (Takes : Taking) (ending : Ending C) →
+      Takes mid.output.taken after.output.taken (closing_line (answer_of machine ending) steps) → Came ending →
+      ComesOut machine limit before after Takes ending
   comes_out Takes ending line came = record {
     input = came.input;
     input_is = came.input_is;
@@ -120,7 +137,8 @@ module _ {M V X C : Type 0} (state_of : M → List ℕ → State V X) (machine :
   }
 
   -- the closing line wasn't printed
-  pub unclosed : after.output.taken ≡ mid.output.taken → (ending : Ending C) → Came ending → StopsAnywhere machine limit before after
+  pub unclosed : after.output.taken ≡ mid.output.taken → (ending : Ending C) → Came ending →
+      StopsAnywhere machine limit before after
   unclosed same (Ends value) came = record {
     input = came.input;
     input_is = came.input_is;
@@ -128,7 +146,11 @@ module _ {M V X C : Type 0} (state_of : M → List ℕ → State V X) (machine :
     trace = came.trace;
     state = came.runs.1.0.state;
     so_far = came.runs.1.0.so_far;
-    fits = (omega (arith, came.runs.0, came.runs.1.0.last), same ∙ came.taken_is, left_same ∙ came.left_is ∙ ap (as_told before.input.left) (sym came.runs.1.1));
+    fits = (
+      omega (arith, came.runs.0, came.runs.1.0.last),
+      same ∙ came.taken_is,
+      left_same ∙ came.left_is ∙ ap (as_told before.input.left) (sym came.runs.1.1),
+    );
   }
   unclosed same (Stops pc cause) came = record {
     input = came.input;
@@ -137,7 +159,11 @@ module _ {M V X C : Type 0} (state_of : M → List ℕ → State V X) (machine :
     trace = came.trace;
     state = came.runs.1.0.state;
     so_far = came.runs.1.0.so_far;
-    fits = (omega (arith, came.runs.0), same ∙ came.taken_is, left_same ∙ came.left_is ∙ ap (as_told before.input.left) (sym came.runs.1.1));
+    fits = (
+      omega (arith, came.runs.0),
+      same ∙ came.taken_is,
+      left_same ∙ came.left_is ∙ ap (as_told before.input.left) (sym came.runs.1.1),
+    );
   }
   unclosed same RunsOn came = record {
     input = came.input;
@@ -146,17 +172,24 @@ module _ {M V X C : Type 0} (state_of : M → List ℕ → State V X) (machine :
     trace = came.trace;
     state = came.runs.1.0;
     so_far = came.runs.1.1.0;
-    fits = (omega (arith, came.runs.0), same ∙ came.taken_is, left_same ∙ came.left_is ∙ ap (as_told before.input.left) (sym came.runs.1.1.1));
+    fits = (
+      omega (arith, came.runs.0),
+      same ∙ came.taken_is,
+      left_same ∙ came.left_is ∙ ap (as_told before.input.left) (sym came.runs.1.1.1),
+    );
   }
 
-  closed : (answer : Status) (ending : Ending C) → Came ending → SaysEnding answer steps mid.output after.output (answer_of machine ending) → AnswersRun machine limit before after answer
+  closed : (answer : Status) (ending : Ending C) → Came ending →
+      SaysEnding answer steps mid.output after.output (answer_of machine ending) → AnswersRun machine limit before after answer
   closed answer ending came (all_printed is taken) = came_out ending is (comes_out TakesAll ending taken came)
-  closed answer ending came (prefix_printed is rose taken) = at_closing is (rose_after _ _ _ writes_rise rose) ending (comes_out TakesPrefix ending taken came)
+  closed answer ending came (prefix_printed is rose taken) =
+      at_closing is (rose_after _ _ _ writes_rise rose) ending (comes_out TakesPrefix ending taken came)
   closed answer ending came (none_printed is same) = stopped (out_of_memory is (unclosed same ending came))
 
   -- a fault of the source or the sink, or want of memory, after which nothing was printed
-  pub stops : (a : Answer C) (answer : Status) → IsInterrupted a → RunsSomeInput state_of machine.step a limit steps old new before mid → answer ≡ status_of machine.halted a → after.output.taken ≡ mid.output.taken
-      → StopsRun machine limit before after answer
+  pub stops : (a : Answer C) (answer : Status) → IsInterrupted a
+      → RunsSomeInput state_of machine.step a limit steps old new before mid → answer ≡ status_of machine.halted a
+      → after.output.taken ≡ mid.output.taken → StopsRun machine limit before after answer
   stops end.ReadFault answer fault ran is same =
       let r = ran.answers.1 in
       at_input is (subst (λ n. Rose before.input.faults n) (sym reads_same) r.cause) (record {
@@ -177,7 +210,10 @@ module _ {M V X C : Type 0} (state_of : M → List ℕ → State V X) (machine :
         trace = r.trace;
         state = r.state;
         so_far = from_start ran.input r.trace r.state r.so_far;
-        fits = (ran.answers.0, subst (λ o. GivesOutput machine.step (append_known before.output.taken (output r.trace)) o r.state) (sym same) r.gives);
+        fits = (
+          ran.answers.0,
+          subst (λ o. GivesOutput machine.step (append_known before.output.taken (output r.trace)) o r.state) (sym same) r.gives,
+        );
       })
   stops end.Memory answer fault ran is same =
       let r = ran.answers.1 in
@@ -189,59 +225,80 @@ module _ {M V X C : Type 0} (state_of : M → List ℕ → State V X) (machine :
         trace = r.trace;
         state = state_of new r.rest;
         so_far = from_start ran.input r.trace (state_of new r.rest) r.so_far;
-        fits = (omega (arith, below), same ∙ r.taken_is, left_same ∙ r.left_is ∙ ap (as_told before.input.left) (sym (keeps r.rest)));
+        fits = (
+          omega (arith, below),
+          same ∙ r.taken_is,
+          left_same ∙ r.left_is ∙ ap (as_told before.input.left) (sym (keeps r.rest)),
+        );
       })
   stops _ answer fault ran is same = absurd fault
 
-  pub answers : (a : Answer C) (answer : Status) → RunsSomeInput state_of machine.step a limit steps old new before mid → Closed answer steps mid.output after.output (status_of machine.halted a) → AnswersRun machine limit before after answer
+  pub answers : (a : Answer C) (answer : Status) → RunsSomeInput state_of machine.step a limit steps old new before mid →
+      Closed answer steps mid.output after.output (status_of machine.halted a) → AnswersRun machine limit before after answer
   answers end.Going answer ran printed = closed answer RunsOn (came_on ran) printed
   answers (end.Ended value) answer ran printed = closed answer (Ends value) (came_ended value ran) printed
-  answers (end.Halted pc cause) answer ran printed = closed answer (Stops pc cause) (came_halted pc cause ran) (halts pc cause answer steps mid.output after.output printed)
+  answers (end.Halted pc cause) answer ran printed =
+      closed answer (Stops pc cause) (came_halted pc cause ran) (halts pc cause answer steps mid.output after.output printed)
   answers end.ReadFault answer ran printed = stopped (stops end.ReadFault answer tt ran printed.0 printed.1)
   answers end.WriteFault answer ran printed = stopped (stops end.WriteFault answer tt ran printed.0 printed.1)
   answers end.Memory answer ran printed = stopped (stops end.Memory answer tt ran printed.0 printed.1)
 
-  as_steps : (input : List ℕ) (ending : Ending C) (n : ℕ) (trace : List Event) (rest : List ℕ) → RunsTo machine input limit ending n trace rest →
+  as_steps : (input : List ℕ) (ending : Ending C) (n : ℕ) (trace : List Event) (rest : List ℕ) →
+      RunsTo machine input limit ending n trace rest →
       StateRunsTo machine.step (step_answer ending) limit n (state_of old input) trace
-  as_steps input (Ends value) n trace rest run = (run.0, subst (λ s. Run machine.step s n trace value) (sym (loaded input)) run.1.0)
-  as_steps input (Stops pc cause) n trace rest run = (run.0, subst (λ s. HaltsAfter machine.step s n trace pc cause) (sym (loaded input)) run.1.0)
-  as_steps input RunsOn n trace rest run = (run.0, run.1.0, subst (λ s. SoFar machine.step s n trace run.1.0) (sym (loaded input)) run.1.1.0)
+  as_steps input (Ends value) n trace rest run =
+      (run.0, subst (λ s. Run machine.step s n trace value) (sym (loaded input)) run.1.0)
+  as_steps input (Stops pc cause) n trace rest run =
+      (run.0, subst (λ s. HaltsAfter machine.step s n trace pc cause) (sym (loaded input)) run.1.0)
+  as_steps input RunsOn n trace rest run =
+      (run.0, run.1.0, subst (λ s. SoFar machine.step s n trace run.1.0) (sym (loaded input)) run.1.1.0)
 
   abbrev pub SaysSo : Status → Ending C → Type 0
   SaysSo answer ending = (answer ≡ answer_of machine ending) ⊎ IsCutShort answer
 
-  line_says : (answer : Status) (ending : Ending C) → SaysEnding answer steps mid.output after.output (answer_of machine ending) → SaysSo answer ending
+  line_says : (answer : Status) (ending : Ending C) →
+      SaysEnding answer steps mid.output after.output (answer_of machine ending) → SaysSo answer ending
   line_says answer ending (all_printed is taken) = inl is
   line_says answer ending (prefix_printed is rose taken) = inr (write_fault is)
   line_says answer ending (none_printed is same) = inr (no_memory is)
 
-  closed_says : (answer : Status) (ending : Ending C) → Closed answer steps mid.output after.output (status_of machine.halted (step_answer ending)) → SaysSo answer ending
+  closed_says : (answer : Status) (ending : Ending C) →
+      Closed answer steps mid.output after.output (status_of machine.halted (step_answer ending)) → SaysSo answer ending
   closed_says answer (Ends value) printed = line_says answer (Ends value) printed
-  closed_says answer (Stops pc cause) printed = line_says answer (Stops pc cause) (halts pc cause answer steps mid.output after.output printed)
+  closed_says answer (Stops pc cause) printed =
+      line_says answer (Stops pc cause) (halts pc cause answer steps mid.output after.output printed)
   closed_says answer RunsOn printed = line_says answer RunsOn printed
 
-  cut_short : (a : Answer C) (answer : Status) → IsInterrupted a → Closed answer steps mid.output after.output (status_of machine.halted a) → IsCutShort answer
+  cut_short : (a : Answer C) (answer : Status) → IsInterrupted a →
+      Closed answer steps mid.output after.output (status_of machine.halted a) → IsCutShort answer
   cut_short end.ReadFault answer fault printed = read_fault printed.0
   cut_short end.WriteFault answer fault printed = write_fault printed.0
   cut_short end.Memory answer fault printed = no_memory printed.0
   cut_short _ answer fault printed = absurd fault
 
-  same_input : (given input : List ℕ) → before.input.left ≡ as_told before.input.left given → before.input.left ≡ Some input → given ≡ input
+  same_input : (given input : List ℕ) → before.input.left ≡ as_told before.input.left given →
+      before.input.left ≡ Some input → given ≡ input
   same_input given input is told_so = ap (λ o. unwrap_or o given) (sym (ap (λ o. as_told o given) told_so) ∙ sym is ∙ told_so)
 
   -- the answer is the only one, where it says how the run came out
-  pub only : (a : Answer C) (answer : Status) → RunsSomeInput state_of machine.step a limit steps old new before mid → (IsInterrupted a → IsCutShort answer)
+  pub only : (a : Answer C) (answer : Status) → RunsSomeInput state_of machine.step a limit steps old new before mid
+      → (IsInterrupted a → IsCutShort answer)
       → ((ending : Ending C) → a ≡ step_answer ending → SaysSo answer ending) → IsExact machine limit before.input.left answer
   only a answer ran cut says input is ending n trace rest run =
       let same : ran.input ≡ input = same_input ran.input input ran.input_is is in
       let steps_to : StateRunsTo machine.step (step_answer ending) limit n (state_of old ran.input) trace =
-      subst (λ xs. StateRunsTo machine.step (step_answer ending) limit n (state_of old xs) trace) (sym same) (as_steps input ending n trace rest run) in
+      subst (λ xs. StateRunsTo machine.step (step_answer ending) limit n (state_of old xs) trace) (sym same)
+      (as_steps input ending n trace rest run) in
       ⊎_elim
       (λ (fault : IsInterrupted a). inr (cut fault))
-      (λ (so : IsAnswered state_of machine.step old new ran.input limit steps before mid a (step_answer ending) n trace). says ending so.end_is)
-      (only_answer state_of machine.step old new ran.input limit steps before mid a ran.answers ran.determined (step_answer ending) n trace steps_to)
+      (λ (so : IsAnswered state_of machine.step old new ran.input limit steps before mid a (step_answer ending) n trace).
+      says ending so.end_is)
+      (only_answer state_of machine.step old new ran.input limit steps before mid a ran.answers ran.determined
+      (step_answer ending) n trace steps_to)
 
-  pub exact : (a : Answer C) (answer : Status) → RunsSomeInput state_of machine.step a limit steps old new before mid → Closed answer steps mid.output after.output (status_of machine.halted a) → IsExact machine limit before.input.left answer
+  pub exact : (a : Answer C) (answer : Status) → RunsSomeInput state_of machine.step a limit steps old new before mid →
+      Closed answer steps mid.output after.output (status_of machine.halted a) → IsExact machine limit before.input.left answer
   exact a answer ran printed =
       only a answer ran (λ fault. cut_short a answer fault printed)
-      (λ ending same. closed_says answer ending (subst (λ e. Closed answer steps mid.output after.output (status_of machine.halted e)) same printed))
+      (λ ending same. closed_says answer ending
+      (subst (λ e. Closed answer steps mid.output after.output (status_of machine.halted e)) same printed))

@@ -110,7 +110,8 @@ map_of _ = None
 -- the number that 1 to 20 decimal digits write, below 2^64
 abbrev pub decimal_number : List ℕ → Option ℕ
 decimal_number digits =
-    if nat_lt 0 (length digits) && nat_le (length digits) 20 && list_all is_ascii_digit digits && nat_lt (digits_value 10 digits) (2 ^ 64)
+    if nat_lt 0 (length digits) && nat_le (length digits) 20 && list_all is_ascii_digit digits
+    && nat_lt (digits_value 10 digits) (2 ^ 64)
     then Some (digits_value 10 digits)
     else None
 
@@ -138,7 +139,8 @@ holds_zero word = list_any (λ character. character == 0) word
 -- at most 64 words, of at most 65536 bytes together, and no byte of them zero
 abbrev pub are_program_words : List (List ℕ) → Bool
 are_program_words words =
-    nat_le (length words) 64 && nat_le (sum_by (λ word. length word) words) 65536 && list_all (λ word. not (holds_zero word)) words
+    nat_le (length words) 64 && nat_le (sum_by (λ word. length word) words) 65536
+    && list_all (λ word. not (holds_zero word)) words
 
 -- `FILE [WORDS]`
 abbrev pub run_words_of : List (List ℕ) → ℕ → Option RunWords

@@ -3,6 +3,7 @@
 
 mod code_refused;
 mod example;
+mod limits;
 mod maps;
 mod programs;
 mod reach;
@@ -12,6 +13,7 @@ mod rewriting;
 mod rewritten;
 mod room;
 mod run;
+mod samples;
 mod symbols;
 
 use self::example::exit7_moved;
@@ -210,7 +212,7 @@ fn words_after_two_hyphens_are_names(rt: HostRuntime) -> Result<(), Fail> {
 
 // Which call of the files fails, how much room standard output has, and then the status, what standard
 // output took, and whether the output and the map are written.
-#[derive(Drop)]
+#[derive(Clone, Copy)]
 struct Case {
     fail: u64,
     room: usize,
@@ -220,66 +222,63 @@ struct Case {
     map: bool,
 }
 
+fn check_failing(rt: &impl Abort, alloc: Global, case: &Case) -> Result<(), Fail> {
+    let mut files = files(alloc, exit7(alloc)?, &[case.fail])?;
+    let (status, out) = answer(alloc, &REWRITE, &mut files, case.room)?;
+    assert_eq!(rt; status, case.status);
+    assert_eq!(rt; out.taken().len(), case.printed);
+    assert_eq!(rt; files.content("out").is_some(), case.out);
+    assert_eq!(rt; files.content("map").is_some(), case.map);
+    Ok(())
+}
+
+// The first call reads the input, the second the profile.
 #[test]
-fn files_and_streams_that_fail(rt: HostRuntime) -> Result<(), Fail> {
-    let alloc = rt.alloc();
-    let cases = [
-        Case {
-            fail: 1,
+fn files_that_cannot_be_read(rt: HostRuntime) -> Result<(), Fail> {
+    for fail in [1, 2] {
+        let case = Case {
+            fail,
             room: 200,
             status: Status::ReadFault,
             printed: 0,
             out: false,
             map: false,
-        },
-        Case {
-            fail: 2,
-            room: 200,
-            status: Status::ReadFault,
-            printed: 0,
-            out: false,
-            map: false,
-        },
-        Case {
-            fail: 3,
-            room: 200,
-            status: Status::WriteFault,
-            printed: 0,
-            out: false,
-            map: false,
-        },
-        Case {
-            fail: 4,
+        };
+        check_failing(&rt, rt.alloc(), &case)?;
+    }
+    Ok(())
+}
+
+// The third call writes the output, the fourth the map.
+#[test]
+fn files_that_cannot_be_written(rt: HostRuntime) -> Result<(), Fail> {
+    for (fail, out) in [(3, false), (4, true)] {
+        let case = Case {
+            fail,
             room: 200,
             status: Status::WriteFault,
             printed: 0,
-            out: true,
+            out,
             map: false,
-        },
-        Case {
+        };
+        check_failing(&rt, rt.alloc(), &case)?;
+    }
+    Ok(())
+}
+
+// The files are written whole, and the summary isn't.
+#[test]
+fn output_that_is_full(rt: HostRuntime) -> Result<(), Fail> {
+    for room in [0, 10] {
+        let case = Case {
             fail: 5,
-            room: 0,
+            room,
             status: Status::WriteFault,
-            printed: 0,
+            printed: room,
             out: true,
             map: true,
-        },
-        Case {
-            fail: 5,
-            room: 10,
-            status: Status::WriteFault,
-            printed: 10,
-            out: true,
-            map: true,
-        },
-    ];
-    for case in &cases {
-        let mut files = files(alloc, exit7(alloc)?, &[case.fail])?;
-        let (status, out) = answer(alloc, &REWRITE, &mut files, case.room)?;
-        assert_eq!(rt; status, case.status);
-        assert_eq!(rt; out.taken().len(), case.printed);
-        assert_eq!(rt; files.content("out").is_some(), case.out);
-        assert_eq!(rt; files.content("map").is_some(), case.map);
+        };
+        check_failing(&rt, rt.alloc(), &case)?;
     }
     Ok(())
 }

@@ -1,7 +1,6 @@
 // Files that are neither rewritten nor run on the symbol machine, for what is wrong in their code, and the order of faults.
 
 use super::example::exit7_moved;
-use super::programs::greeting_code;
 use super::refused::check_command;
 use super::{REWRITE, files};
 use elf_image::relocation::{
@@ -13,18 +12,8 @@ use std::process::Abort;
 use std::test::Fail;
 use test_files::bytes::patch;
 use test_files::inst::{A0, EXIT, addi, auipc};
-use test_files::{BuildError, Relocation, Section, Symbol, assemble, exit7_code, program};
-
-// A relocation of the code.
-fn of_code<'a>(offset: u64, kind: u32, symbol: &'a [u8], addend: i64) -> Relocation<'a> {
-    Relocation {
-        section: b".text",
-        offset,
-        kind,
-        symbol,
-        addend,
-    }
-}
+use test_files::programs::greeting_code;
+use test_files::{BuildError, Section, Symbol, assemble, exit7_code, of_code, of_section, program};
 
 // Both commands refuse the file.
 fn refuses(
@@ -106,17 +95,12 @@ fn lower_parts_that_differ(rt: HostRuntime) -> Result<(), Fail> {
 
 // A program that writes the two bytes behind its code, with these in a section of a name.
 fn with_data(alloc: Global, name: &[u8], data: &[u8], moves: bool) -> Result<Vec<u8>, BuildError> {
-    let code = greeting_code(alloc)?;
+    let code = assemble(alloc, &greeting_code())?;
     let mut file = program(alloc, &code, &[Section::loaded(name, 0x1009c, data)])?;
     if moves {
         for (kind, addend) in [(R_RISCV_ADD16, 0x1007c), (R_RISCV_SUB16, 0x10078)] {
-            file.relocations.push(Relocation {
-                section: name,
-                offset: 0x1009c,
-                kind,
-                symbol: b"",
-                addend,
-            })?;
+            file.relocations
+                .push(of_section(name, 0x1009c, kind, b"", addend))?;
         }
     }
     file.build(alloc)

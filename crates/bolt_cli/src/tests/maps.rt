@@ -1,12 +1,12 @@
 // The command `map`.
 
-use super::programs::countdown;
 use super::rewritten::{COUNTDOWN_MAP, COUNTDOWN_PROFILE};
 use super::{MAP, answer, files, files_with};
 use crate::status::Status;
 use rb_bytes::fault::{Fault, FaultKind};
 use std::test::Fail;
 use test_files::exit7;
+use test_files::programs::countdown;
 
 const PRINT_MAP: [&str; 3] = ["map", "in", "profile"];
 

@@ -1,7 +1,7 @@
 // Branches whose targets move away: the shortest form that reaches is taken, and functions of the greatest size.
 
 use super::programs::{branch_over, nops};
-use super::rewriting::{MapText, Rewriting, check, check_in};
+use super::rewriting::{MapText, Rewriting, check, check_in, ends_as_before};
 use super::{REWRITE, answer, files_with};
 use crate::status::Status;
 use rb_bytes::fault::{Fault, FaultKind};
@@ -34,9 +34,8 @@ fn a_branch_of_two_bytes_reaches(rt: HostRuntime) -> Result<(), Fail> {
             summary: b"moved 1 functions, 126 instructions, 260 bytes; 2 hot blocks; 0 profile lines ignored\n",
             // C.BEQZ a0,254; C.NOP and JAL x0,-254
             bytes: &[(0x180, b"\x7d\xcd"), (0x27e, b"\x01\x00\x6f\xf0\x3f\xf0")],
-            status: Status::Ended(0),
-            before: b"[ended 0 after 126 steps]\n",
             after: b"[ended 0 after 127 steps]\n",
+            ..ends_as_before(0, b"[ended 0 after 126 steps]\n")
         },
     };
     check_branch(&rt, rt.alloc(), &branch)
@@ -56,9 +55,8 @@ fn a_branch_of_four_bytes_is_wanted(rt: HostRuntime) -> Result<(), Fail> {
                 (0x180, b"\x63\x01\x05\x10"),
                 (0x282, b"\x01\x00\x6f\xf0\x1f\xf0"),
             ],
-            status: Status::Ended(0),
-            before: b"[ended 0 after 127 steps]\n",
             after: b"[ended 0 after 128 steps]\n",
+            ..ends_as_before(0, b"[ended 0 after 127 steps]\n")
         },
     };
     check_branch(&rt, rt.alloc(), &branch)
@@ -76,9 +74,8 @@ fn a_branch_of_four_bytes_reaches(rt: HostRuntime) -> Result<(), Fail> {
             summary: b"moved 1 functions, 2045 instructions, 4100 bytes; 2 hot blocks; 0 profile lines ignored\n",
             // BEQ a0,x0,4094
             bytes: &[(0x1080, b"\xe3\x0f\x05\x7e")],
-            status: Status::Ended(0),
-            before: b"[ended 0 after 2045 steps]\n",
             after: b"[ended 0 after 2046 steps]\n",
+            ..ends_as_before(0, b"[ended 0 after 2045 steps]\n")
         },
     };
     check_branch(&rt, rt.alloc(), &branch)
@@ -95,9 +92,8 @@ fn a_branch_around_a_jump_is_wanted(rt: HostRuntime) -> Result<(), Fail> {
             summary: b"moved 1 functions, 2046 instructions, 4106 bytes; 2 hot blocks; 0 profile lines ignored\n",
             // BNE a0,x0,8; JAL x0,4096
             bytes: &[(0x1080, b"\x63\x14\x05\x00\x6f\x10\0\0")],
-            status: Status::Ended(0),
-            before: b"[ended 0 after 2046 steps]\n",
             after: b"[ended 0 after 2048 steps]\n",
+            ..ends_as_before(0, b"[ended 0 after 2046 steps]\n")
         },
     };
     check_branch(&rt, rt.alloc(), &branch)
@@ -113,13 +109,9 @@ fn the_longest_function(rt: HostRuntime) -> Result<(), Fail> {
         alloc,
         &mut files,
         &Rewriting {
-            profile: b"",
             map: MapText::Ends(b"1042c0 4 10078\n", b"\n1f84f8 4 1042b0\n"),
             summary: b"moved 1 functions, 249999 instructions, 999996 bytes; 0 hot blocks; 0 profile lines ignored\n",
-            bytes: &[],
-            status: Status::Ended(0),
-            before: b"[ended 0 after 249999 steps]\n",
-            after: b"[ended 0 after 249999 steps]\n",
+            ..ends_as_before(0, b"[ended 0 after 249999 steps]\n")
         },
     )
 }

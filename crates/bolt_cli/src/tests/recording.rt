@@ -1,11 +1,13 @@
 // The command `record`.
 
-use super::programs::countdown;
 use super::{USAGE, answer, files};
 use crate::status::Status;
 use rb_bytes::fault::{Fault, FaultKind};
+use std::alloc::Global;
+use std::process::Abort;
 use std::test::Fail;
 use test_files::exit7;
+use test_files::programs::countdown;
 
 const RECORD: [&str; 3] = ["record", "in", "out"];
 
@@ -23,16 +25,28 @@ const FOUR_STEPS: &[u8] = b"\
 1 @10078 c 1 @10078 4 0 1
 ";
 
-#[test]
-fn a_loop_is_recorded(rt: HostRuntime) -> Result<(), Fail> {
-    let alloc = rt.alloc();
-    let mut files = files(alloc, countdown(alloc)?, &[])?;
+/// A run of a file ends with a value and a line, and is recorded so.
+pub fn records(
+    rt: &impl Abort,
+    alloc: Global,
+    input: Vec<u8>,
+    end: (u8, &[u8]),
+    profile: &[u8],
+) -> Result<(), Fail> {
+    let mut files = files(alloc, input, &[])?;
     let (status, out) = answer(alloc, &RECORD, &mut files, 200)?;
-    assert_eq!(rt; status, Status::Ended(0));
-    assert_eq!(rt; out.taken(), b"[ended 0 after 13 steps]\n".as_slice());
-    assert_eq!(rt; files.content("out").ok_or("no profile")?, COUNTDOWN);
+    assert_eq!(rt; status, Status::Ended(end.0));
+    assert_eq!(rt; out.taken(), end.1);
+    assert_eq!(rt; files.content("out").ok_or("no profile")?, profile);
     assert!(rt; files.content("map").is_none());
     Ok(())
+}
+
+#[test]
+fn a_loop_is_recorded(rt: HostRuntime) -> Result<(), Fail> {
+    let input = countdown(rt.alloc())?;
+    let end: (u8, &[u8]) = (0, b"[ended 0 after 13 steps]\n");
+    records(&rt, rt.alloc(), input, end, COUNTDOWN)
 }
 
 #[test]

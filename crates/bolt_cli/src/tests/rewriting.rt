@@ -39,6 +39,20 @@ pub struct Rewriting<'a> {
     pub after: &'a [u8],
 }
 
+/// A program that is rewritten without a profile, and ends with this value and this line before and after; what is left to
+/// say is the map, the summary and the bytes.
+pub fn ends_as_before(value: u8, line: &[u8]) -> Rewriting<'_> {
+    Rewriting {
+        profile: b"",
+        map: MapText::Whole(b""),
+        summary: b"",
+        bytes: &[],
+        status: Status::Ended(value),
+        before: line,
+        after: line,
+    }
+}
+
 /// How much room there is for the output, and for the map.
 pub const ROOM: usize = 65536;
 

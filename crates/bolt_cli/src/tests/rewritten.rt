@@ -2,13 +2,14 @@
 
 use super::programs::{
     address_added_to, address_in_halves, addresses_compared, addresses_in_data, call,
-    call_of_nothing, calls_in_a_row, countdown, falling, greeting, switch_by_addresses,
-    switch_by_distances,
+    call_of_nothing, falling,
 };
-use super::rewriting::{MapText, Rewriting, check};
+use super::rewriting::{MapText, Rewriting, check, ends_as_before};
 use crate::status::Status;
 use rv_code::Cause;
 use std::test::Fail;
+use test_files::inst::A4;
+use test_files::programs::{countdown, greeting, switch_by_addresses, switch_by_distances};
 
 /// The profile of a loop that counts from three down.
 pub const COUNTDOWN_PROFILE: &[u8] = b"1 @10078 c 1 @10078 4 0 3\n1 @10078 4 1 @10078 10 0 1\n";
@@ -19,30 +20,25 @@ pub const COUNTDOWN_MAP: &[u8] =
 
 #[test]
 fn code_that_reads_data(rt: HostRuntime) -> Result<(), Fail> {
-    let alloc = rt.alloc();
     check(
         &rt,
-        alloc,
-        greeting(alloc)?,
+        rt.alloc(),
+        greeting(rt.alloc())?,
         &Rewriting {
-            profile: b"",
             map: MapText::Ends(b"100a0 4 10078\n", b"\n100c0 4 10098\n"),
             summary: b"moved 1 functions, 9 instructions, 36 bytes; 0 hot blocks; 0 profile lines ignored\n",
             bytes: &[(0x9c, b"hi")],
-            status: Status::Ended(0),
-            before: b"hi[ended 0 after 9 steps]\n",
-            after: b"hi[ended 0 after 9 steps]\n",
+            ..ends_as_before(0, b"hi[ended 0 after 9 steps]\n")
         },
     )
 }
 
 #[test]
 fn a_loop(rt: HostRuntime) -> Result<(), Fail> {
-    let alloc = rt.alloc();
     check(
         &rt,
-        alloc,
-        countdown(alloc)?,
+        rt.alloc(),
+        countdown(rt.alloc())?,
         &Rewriting {
             profile: COUNTDOWN_PROFILE,
             map: MapText::Whole(COUNTDOWN_MAP),
@@ -52,9 +48,8 @@ fn a_loop(rt: HostRuntime) -> Result<(), Fail> {
                 0x90,
                 b"\x13\x05\x30\x00\x6f\x00\x80\x00\x13\x05\xf5\xff\xe3\x1e\x05\xfe\x93\x08\xd0\x05\x73\0\0\0",
             )],
-            status: Status::Ended(0),
-            before: b"[ended 0 after 13 steps]\n",
             after: b"[ended 0 after 11 steps]\n",
+            ..ends_as_before(0, b"[ended 0 after 13 steps]\n")
         },
     )
 }
@@ -70,19 +65,16 @@ hello
 // Lines that say nothing are counted, and counts are added up above 2^64.
 #[test]
 fn a_loop_with_great_counts(rt: HostRuntime) -> Result<(), Fail> {
-    let alloc = rt.alloc();
     check(
         &rt,
-        alloc,
-        countdown(alloc)?,
+        rt.alloc(),
+        countdown(rt.alloc())?,
         &Rewriting {
             profile: GREAT_COUNTS,
             map: MapText::Whole(COUNTDOWN_MAP),
             summary: b"moved 1 functions, 6 instructions, 24 bytes; 2 hot blocks; 2 profile lines ignored\n",
-            bytes: &[],
-            status: Status::Ended(0),
-            before: b"[ended 0 after 13 steps]\n",
             after: b"[ended 0 after 11 steps]\n",
+            ..ends_as_before(0, b"[ended 0 after 13 steps]\n")
         },
     )
 }
@@ -90,34 +82,28 @@ fn a_loop_with_great_counts(rt: HostRuntime) -> Result<(), Fail> {
 // Of two edges with one count, that to the lower target wins.
 #[test]
 fn edges_that_tie(rt: HostRuntime) -> Result<(), Fail> {
-    let alloc = rt.alloc();
     check(
         &rt,
-        alloc,
-        countdown(alloc)?,
+        rt.alloc(),
+        countdown(rt.alloc())?,
         &Rewriting {
             profile: b"1 @10078 4 1 @10078 8 0 2\n1 @10078 4 1 @10078 10 0 2\n",
             map: MapText::Whole(
                 b"10090 4 10078\n10094 4 1007c\n10098 4 10080\n1009c 4 10084\n100a0 4 10088\n100a4 4 1008c\n",
             ),
             summary: b"moved 1 functions, 6 instructions, 24 bytes; 3 hot blocks; 0 profile lines ignored\n",
-            bytes: &[],
-            status: Status::Ended(0),
-            before: b"[ended 0 after 13 steps]\n",
-            after: b"[ended 0 after 13 steps]\n",
+            ..ends_as_before(0, b"[ended 0 after 13 steps]\n")
         },
     )
 }
 
 #[test]
 fn a_switch_by_distances(rt: HostRuntime) -> Result<(), Fail> {
-    let alloc = rt.alloc();
     check(
         &rt,
-        alloc,
-        switch_by_distances(alloc)?,
+        rt.alloc(),
+        switch_by_distances(rt.alloc())?,
         &Rewriting {
-            profile: b"",
             map: MapText::Ends(b"100a0 4 10078\n", b"\n100bc 4 10094\n"),
             summary: b"moved 1 functions, 8 instructions, 32 bytes; 0 hot blocks; 0 profile lines ignored\n",
             // the table, and AUIPC a5,0; ADDI a5,a5,-8
@@ -125,22 +111,18 @@ fn a_switch_by_distances(rt: HostRuntime) -> Result<(), Fail> {
                 (0x98, b"\x1c\0\0\0\x20\0\0\0"),
                 (0xa0, b"\x97\x07\0\0\x93\x87\x87\xff"),
             ],
-            status: Status::Ended(0),
-            before: b"[ended 0 after 7 steps]\n",
-            after: b"[ended 0 after 7 steps]\n",
+            ..ends_as_before(0, b"[ended 0 after 7 steps]\n")
         },
     )
 }
 
 #[test]
 fn a_switch_by_addresses(rt: HostRuntime) -> Result<(), Fail> {
-    let alloc = rt.alloc();
     check(
         &rt,
-        alloc,
-        switch_by_addresses(alloc)?,
+        rt.alloc(),
+        switch_by_addresses(rt.alloc(), A4)?,
         &Rewriting {
-            profile: b"",
             map: MapText::Ends(b"100a0 4 10078\n", b"\n100b4 4 1008c\n"),
             summary: b"moved 1 functions, 6 instructions, 24 bytes; 0 hot blocks; 0 profile lines ignored\n",
             // the table, and LUI a5,10; LW a4,148(a5)
@@ -148,9 +130,7 @@ fn a_switch_by_addresses(rt: HostRuntime) -> Result<(), Fail> {
                 (0x90, b"\xac\x00\x01\0\xb0\x00\x01\0"),
                 (0xa0, b"\xb7\x07\x01\x00\x03\xa7\x47\x09"),
             ],
-            status: Status::Ended(0),
-            before: b"[ended 0 after 5 steps]\n",
-            after: b"[ended 0 after 5 steps]\n",
+            ..ends_as_before(0, b"[ended 0 after 5 steps]\n")
         },
     )
 }
@@ -162,31 +142,27 @@ const SWAPPED: MapText<'static> = MapText::Whole(
 
 #[test]
 fn a_call(rt: HostRuntime) -> Result<(), Fail> {
-    let alloc = rt.alloc();
     check(
         &rt,
-        alloc,
-        call(alloc)?,
+        rt.alloc(),
+        call(rt.alloc())?,
         &Rewriting {
             profile: b"1 g 0 1 g 4 0 9\n",
             map: SWAPPED,
             summary: b"moved 2 functions, 4 instructions, 16 bytes; 1 hot blocks; 0 profile lines ignored\n",
             // AUIPC ra,0; JALR ra,-8(ra)
             bytes: &[(0x98, b"\x97\x00\0\0\xe7\x80\x80\xff")],
-            status: Status::Ended(0),
-            before: b"[ended 0 after 4 steps]\n",
-            after: b"[ended 0 after 4 steps]\n",
+            ..ends_as_before(0, b"[ended 0 after 4 steps]\n")
         },
     )
 }
 
 #[test]
 fn a_call_of_an_undefined_symbol(rt: HostRuntime) -> Result<(), Fail> {
-    let alloc = rt.alloc();
     check(
         &rt,
-        alloc,
-        call_of_nothing(alloc)?,
+        rt.alloc(),
+        call_of_nothing(rt.alloc())?,
         &Rewriting {
             profile: b"1 g 0 1 g 4 0 9\n",
             map: SWAPPED,
@@ -202,20 +178,18 @@ fn a_call_of_an_undefined_symbol(rt: HostRuntime) -> Result<(), Fail> {
 
 #[test]
 fn a_function_that_falls_into_the_next(rt: HostRuntime) -> Result<(), Fail> {
-    let alloc = rt.alloc();
     check(
         &rt,
-        alloc,
-        falling(alloc)?,
+        rt.alloc(),
+        falling(rt.alloc())?,
         &Rewriting {
             profile: b"1 g 0 1 g 4 0 1\n",
             map: MapText::Whole(b"10090 4 1007c\n10094 4 10080\n10098 8 10078\n"),
             summary: b"moved 2 functions, 3 instructions, 16 bytes; 1 hot blocks; 0 profile lines ignored\n",
             // JAL x0,-12
             bytes: &[(0x9c, b"\x6f\xf0\x5f\xff")],
-            status: Status::Ended(4),
-            before: b"[ended 4 after 3 steps]\n",
             after: b"[ended 4 after 4 steps]\n",
+            ..ends_as_before(4, b"[ended 4 after 3 steps]\n")
         },
     )
 }
@@ -229,14 +203,11 @@ fn addresses_of_functions_in_data(rt: HostRuntime) -> Result<(), Fail> {
         alloc,
         addresses_in_data(alloc)?,
         &Rewriting {
-            profile: b"",
             map: MapText::Ends(b"100a0 4 10078\n", b"\n100b4 4 1008c\n100b8 4 10090\n"),
             summary: b"moved 2 functions, 7 instructions, 28 bytes; 0 hot blocks; 0 profile lines ignored\n",
             // AUIPC a5,10; LD a5,-152(a5)
             bytes: &[(0xa0, b"\x97\x07\x01\x00\x83\xb7\x87\xf6"), (0x1000, moved)],
-            status: Status::Ended(0),
-            before: b"[ended 0 after 7 steps]\n",
-            after: b"[ended 0 after 7 steps]\n",
+            ..ends_as_before(0, b"[ended 0 after 7 steps]\n")
         },
     )
 }
@@ -244,19 +215,14 @@ fn addresses_of_functions_in_data(rt: HostRuntime) -> Result<(), Fail> {
 // The symbol machine gets stuck where an address is added to. The file is rewritten, and nothing is said of its runs.
 #[test]
 fn an_address_that_is_added_to(rt: HostRuntime) -> Result<(), Fail> {
-    let alloc = rt.alloc();
     check(
         &rt,
-        alloc,
-        address_added_to(alloc)?,
+        rt.alloc(),
+        address_added_to(rt.alloc())?,
         &Rewriting {
-            profile: b"",
             map: MapText::Ends(b"100a0 4 10078\n", b"\n100b8 4 10090\n"),
             summary: b"moved 1 functions, 7 instructions, 28 bytes; 0 hot blocks; 0 profile lines ignored\n",
-            bytes: &[],
-            status: Status::Ended(0),
-            before: b"[ended 0 after 6 steps]\n",
-            after: b"[ended 0 after 6 steps]\n",
+            ..ends_as_before(0, b"[ended 0 after 6 steps]\n")
         },
     )
 }
@@ -264,19 +230,15 @@ fn an_address_that_is_added_to(rt: HostRuntime) -> Result<(), Fail> {
 // A function's address that is copied in two halves.
 #[test]
 fn an_address_in_halves(rt: HostRuntime) -> Result<(), Fail> {
-    let alloc = rt.alloc();
     check(
         &rt,
-        alloc,
-        address_in_halves(alloc)?,
+        rt.alloc(),
+        address_in_halves(rt.alloc())?,
         &Rewriting {
-            profile: b"",
             map: MapText::Ends(b"100a0 4 10078\n", b"\n100c0 4 10098\n"),
             summary: b"moved 1 functions, 9 instructions, 36 bytes; 0 hot blocks; 0 profile lines ignored\n",
             bytes: &[(0x1000, b"\xbc\x00\x01\0\0\0\0\0")],
-            status: Status::Ended(0),
-            before: b"[ended 0 after 9 steps]\n",
-            after: b"[ended 0 after 9 steps]\n",
+            ..ends_as_before(0, b"[ended 0 after 9 steps]\n")
         },
     )
 }
@@ -294,51 +256,12 @@ fn addresses_that_are_compared(rt: HostRuntime) -> Result<(), Fail> {
             alloc,
             addresses_compared(alloc, second)?,
             &Rewriting {
-                profile: b"",
                 map: MapText::Ends(b"100a0 4 10078\n", b"\n100bc 4 10094\n"),
                 summary: b"moved 1 functions, 8 instructions, 32 bytes; 0 hot blocks; 0 profile lines ignored\n",
                 bytes: &[(0x1000, b"\xb8\x00\x01\0\0\0\0\0")],
-                status: Status::Ended(value),
-                before: line,
-                after: line,
+                ..ends_as_before(value, line)
             },
         )?;
     }
     Ok(())
-}
-
-// Of each function the way that its run takes.
-const CALLS_PROFILE: &[u8] = b"\
-1 f0 c 1 f0 18 0 1
-1 f0 18 1 f0 1c 0 1
-1 f0 20 1 f1 0 0 1
-1 f1 c 1 f1 10 0 1
-1 f1 14 1 f1 1c 0 1
-1 f1 20 1 f2 0 0 1
-1 f2 c 1 f2 18 0 1
-1 f2 18 1 f2 1c 0 1
-1 _start 8 1 f0 0 0 1
-";
-
-// Callers stand before what they call, and cold parts of functions behind all that is hot.
-#[test]
-fn functions_that_are_split(rt: HostRuntime) -> Result<(), Fail> {
-    let alloc = rt.alloc();
-    check(
-        &rt,
-        alloc,
-        calls_in_a_row(alloc)?,
-        &Rewriting {
-            profile: CALLS_PROFILE,
-            map: MapText::Ends(
-                b"10120 4 10108\n10124 4 1010c\n10128 4 10110\n1012c 4 10114\n10130 4 10118\n10134 4 10078\n",
-                b"\n101ac 4 10088\n101b0 4 1008c\n101b4 8 100c0\n101bc 4 100e8\n101c0 4 100ec\n",
-            ),
-            summary: b"moved 4 functions, 41 instructions, 164 bytes; 10 hot blocks; 0 profile lines ignored\n",
-            bytes: &[],
-            status: Status::Ended(13),
-            before: b"[ended 13 after 36 steps]\n",
-            after: b"[ended 13 after 35 steps]\n",
-        },
-    )
 }

@@ -2,28 +2,38 @@
 // own.
 
 use super::programs::{beside_segment, headers_from_stack};
-use super::rewriting::{MapText, ROOM, Rewriting, check};
+use super::rewriting::{MapText, ROOM, Rewriting, check, ends_as_before};
 use super::{REWRITE, answer, files_with};
 use crate::status::Status;
-use elf_image::segment::{PF_R, PF_W};
+use elf_image::Segment;
+use elf_image::header::{E_PHNUM, E_PHOFF};
+use elf_image::segment::{PF_R, PF_W, PF_X, PT_LOAD};
 use rb_bytes::fault::{Fault, FaultKind};
 use rb_io::MemFiles;
 use std::alloc::Global;
 use std::process::Abort;
 use std::test::Fail;
+use test_files::headers::push_segment;
 
 // The smallest example's code, which is moved so.
 fn moved_to<'a>(lines: &'a [u8]) -> Rewriting<'a> {
     Rewriting {
-        profile: b"",
         map: MapText::Whole(lines),
         summary: b"moved 1 functions, 4 instructions, 16 bytes; 0 hot blocks; 0 profile lines ignored\n",
-        bytes: &[],
-        status: Status::Ended(7),
-        before: b"[ended 7 after 4 steps]\n",
-        after: b"[ended 7 after 4 steps]\n",
+        ..ends_as_before(7, b"[ended 7 after 4 steps]\n")
     }
 }
+
+const ABOVE: Segment = Segment {
+    kind: PT_LOAD,
+    flags: PF_R | PF_X,
+    offset: 0x2000,
+    vaddr: 0x12000,
+    paddr: 0x12000,
+    filesz: 0xc0,
+    memsz: 0xc0,
+    align: 0x1000,
+};
 
 #[test]
 fn new_code_behind_the_old(rt: HostRuntime) -> Result<(), Fail> {
@@ -33,12 +43,23 @@ fn new_code_behind_the_old(rt: HostRuntime) -> Result<(), Fail> {
     check(&rt, alloc, input, &moved_to(lines))
 }
 
+// A third segment, which begins with the table of program headers, then of three entries, and has the new code behind it.
 #[test]
 fn new_code_above_all(rt: HostRuntime) -> Result<(), Fail> {
     let alloc = rt.alloc();
     let input = beside_segment(alloc, 0x10fe0, PF_R, None)?;
     let lines = b"120b0 4 10fe0\n120b4 4 10fe4\n120b8 4 10fe8\n120bc 4 10fec\n";
-    check(&rt, alloc, input, &moved_to(lines))
+    let mut header = Vec::new(alloc);
+    push_segment(&mut header, &ABOVE)?;
+    let rewriting = Rewriting {
+        bytes: &[
+            (E_PHOFF, b"\0\x20\0\0\0\0\0\0"),
+            (E_PHNUM, b"\x03\0"),
+            (0x2070, &header),
+        ],
+        ..moved_to(lines)
+    };
+    check(&rt, alloc, input, &rewriting)
 }
 
 // What a program may ask the system for comes behind its segments.

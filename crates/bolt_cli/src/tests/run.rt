@@ -9,9 +9,8 @@ use rv_code::{Cause, Inst};
 use std::alloc::Global;
 use std::process::Abort;
 use std::test::Fail;
-use test_files::inst::{
-    A0, A1, A2, A7, ECALL, EXIT, NOP, SP, X0, addi, beq, jal, jalr, ld, lui, sd,
-};
+use test_files::inst::{A0, A1, A2, A7, ECALL, EXIT, NOP, SP, X0, addi, beq, jal, jalr, ld, sd};
+use test_files::programs::{countdown_code, greeting_code};
 use test_files::shapes::CODE;
 use test_files::{Section, assemble, exit7, program};
 
@@ -22,35 +21,6 @@ const SYS_WRITE: i64 = 64;
 
 // Where standard output is.
 const STDOUT: i64 = 1;
-
-// Writes the two bytes behind its code.
-fn greeting() -> [Inst; 9] {
-    let [set_exit, call] = EXIT;
-    [
-        addi(A0, X0, STDOUT),
-        lui(A1, 0x10),
-        addi(A1, A1, 0x9c),
-        addi(A2, X0, 2),
-        addi(A7, X0, SYS_WRITE),
-        ECALL,
-        addi(A0, X0, 0),
-        set_exit,
-        call,
-    ]
-}
-
-// Counts from three down.
-fn countdown() -> [Inst; 6] {
-    let [set_exit, call] = EXIT;
-    [
-        addi(A0, X0, 3),
-        beq(A0, X0, 12),
-        addi(A0, A0, -1),
-        jal(X0, -8),
-        set_exit,
-        call,
-    ]
-}
 
 // Writes five bytes of its second argument, and ends with the count of arguments.
 fn arguments() -> [Inst; 8] {
@@ -150,21 +120,21 @@ fn check(rt: &impl Abort, alloc: Global, case: &Case<'_>) -> Result<(), Fail> {
 fn programs_end(rt: HostRuntime) -> Result<(), Fail> {
     let cases = [
         Case {
-            code: &greeting(),
+            code: &greeting_code(),
             data: b"hi",
             words: &["run", "in"],
             status: Status::Ended(0),
             printed: b"hi[ended 0 after 9 steps]\n",
         },
         Case {
-            code: &countdown(),
+            code: &countdown_code(),
             data: &[],
             words: &["run", "in"],
             status: Status::Ended(0),
             printed: b"[ended 0 after 13 steps]\n",
         },
         Case {
-            code: &countdown(),
+            code: &countdown_code(),
             data: &[],
             words: &["run", "--steps", "13", "in"],
             status: Status::Ended(0),
@@ -200,7 +170,7 @@ fn runs_are_out_of_steps(rt: HostRuntime) -> Result<(), Fail> {
     assert_eq!(rt; Status::OutOfSteps.number(), 226);
     for (words, printed) in cases {
         let case = Case {
-            code: &countdown(),
+            code: &countdown_code(),
             data: &[],
             words,
             status: Status::OutOfSteps,
@@ -209,6 +179,26 @@ fn runs_are_out_of_steps(rt: HostRuntime) -> Result<(), Fail> {
         check(&rt, rt.alloc(), &case)?;
     }
     Ok(())
+}
+
+// A run of this code is trapped at an address for a cause.
+fn check_trap(
+    rt: &impl Abort,
+    alloc: Global,
+    code: &[Inst],
+    trap: (u64, Cause),
+    printed: &[u8],
+) -> Result<(), Fail> {
+    let status = Status::Trapped(trap.0, trap.1);
+    assert_eq!(rt; status.number(), 225);
+    let case = Case {
+        code,
+        data: &[],
+        words: &["run", "in"],
+        status,
+        printed,
+    };
+    check(rt, alloc, &case)
 }
 
 #[test]
@@ -240,16 +230,7 @@ fn runs_are_trapped(rt: HostRuntime) -> Result<(), Fail> {
         ),
     ];
     for (code, pc, cause, printed) in cases {
-        let status = Status::Trapped(pc, cause);
-        assert_eq!(rt; status.number(), 225);
-        let case = Case {
-            code,
-            data: &[],
-            words: &["run", "in"],
-            status,
-            printed,
-        };
-        check(&rt, rt.alloc(), &case)?;
+        check_trap(&rt, rt.alloc(), code, (pc, cause), printed)?;
     }
     Ok(())
 }
@@ -419,7 +400,7 @@ fn sinks_that_are_full(rt: HostRuntime) -> Result<(), Fail> {
     let alloc = rt.alloc();
     let whole = b"hi[ended 0 after 9 steps]\n";
     for room in [0, 1, 2, 3, 25] {
-        let file = executable(alloc, &assemble(alloc, &greeting())?, b"hi")?;
+        let file = executable(alloc, &assemble(alloc, &greeting_code())?, b"hi")?;
         let streams = Streams { room, ..QUIET };
         let (status, out) = run(alloc, file, &words(alloc, &["run", "in"])?, streams)?;
         assert_eq!(rt; status, Status::WriteFault);

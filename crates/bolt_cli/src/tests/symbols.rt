@@ -1,17 +1,22 @@
 // Programs that run on the symbol machine: how their runs end there and on the byte machine, and where it gets stuck.
 
 use super::programs::{
-    address_added_to, address_in_halves, addresses_compared, addresses_in_data, call,
-    calls_in_a_row, greeting, headers_from_stack, switch_by_addresses, switch_by_distances,
+    address_added_to, address_in_halves, addresses_compared, addresses_in_data, beside_segment,
+    call, falling, headers_from_stack,
 };
+use super::samples::{ONE_FUNCTION, THREE_FUNCTIONS, sample_file};
 use super::{text, words};
 use crate::status::Status;
 use crate::tool::tool;
+use elf_image::segment::{PF_R, PF_W};
 use rb_io::{MemFiles, MemSink, MemSource};
 use std::alloc::Global;
 use std::process::Abort;
 use std::test::Fail;
 use sym_machine::Reason;
+use test_files::exit7;
+use test_files::inst::A4;
+use test_files::programs::{countdown, greeting, switch_by_addresses, switch_by_distances};
 
 // Runs the file `in` by these words.
 fn run(alloc: Global, file: &[u8], line: &[&str]) -> Result<(Status, MemSink), Fail> {
@@ -57,14 +62,42 @@ fn comes_out_alike(
     comes_out(rt, alloc, file, &ON_SYMBOLS, wanted)
 }
 
+// Files, and how their runs end on both machines.
+fn end_alike(rt: &impl Abort, alloc: Global, runs: &[(Vec<u8>, u8, &[u8])]) -> Result<(), Fail> {
+    for (file, value, printed) in runs {
+        comes_out_alike(rt, alloc, file, (Status::Ended(*value), printed))?;
+    }
+    Ok(())
+}
+
 #[test]
 fn programs_end_alike(rt: HostRuntime) -> Result<(), Fail> {
     let alloc = rt.alloc();
-    let runs: [(Vec<u8>, u8, &[u8]); 9] = [
+    let runs: [(Vec<u8>, u8, &[u8]); 8] = [
+        (exit7(alloc)?, 7, b"[ended 7 after 4 steps]\n"),
         (greeting(alloc)?, 0, b"hi[ended 0 after 9 steps]\n"),
+        (countdown(alloc)?, 0, b"[ended 0 after 13 steps]\n"),
         (switch_by_distances(alloc)?, 0, b"[ended 0 after 7 steps]\n"),
-        (switch_by_addresses(alloc)?, 0, b"[ended 0 after 5 steps]\n"),
+        (
+            switch_by_addresses(alloc, A4)?,
+            0,
+            b"[ended 0 after 5 steps]\n",
+        ),
         (call(alloc)?, 0, b"[ended 0 after 4 steps]\n"),
+        (falling(alloc)?, 4, b"[ended 4 after 3 steps]\n"),
+        (
+            sample_file(alloc, &ONE_FUNCTION)?,
+            5,
+            b"[ended 5 after 15 steps]\n",
+        ),
+    ];
+    end_alike(&rt, alloc, &runs)
+}
+
+#[test]
+fn addresses_in_data_end_alike(rt: HostRuntime) -> Result<(), Fail> {
+    let alloc = rt.alloc();
+    let runs: [(Vec<u8>, u8, &[u8]); 5] = [
         (addresses_in_data(alloc)?, 0, b"[ended 0 after 7 steps]\n"),
         (address_in_halves(alloc)?, 0, b"[ended 0 after 9 steps]\n"),
         (
@@ -77,10 +110,23 @@ fn programs_end_alike(rt: HostRuntime) -> Result<(), Fail> {
             1,
             b"[ended 1 after 8 steps]\n",
         ),
-        (calls_in_a_row(alloc)?, 13, b"[ended 13 after 36 steps]\n"),
+        (
+            sample_file(alloc, &THREE_FUNCTIONS)?,
+            13,
+            b"[ended 13 after 36 steps]\n",
+        ),
     ];
-    for (file, value, printed) in &runs {
-        comes_out_alike(&rt, alloc, file, (Status::Ended(*value), printed))?;
+    end_alike(&rt, alloc, &runs)
+}
+
+// With another segment behind the code.
+#[test]
+fn files_without_room_end_alike(rt: HostRuntime) -> Result<(), Fail> {
+    let alloc = rt.alloc();
+    let ended: (Status, &[u8]) = (Status::Ended(7), b"[ended 7 after 4 steps]\n");
+    for flags in [PF_R, PF_R | PF_W] {
+        let file = beside_segment(alloc, 0x10fe0, flags, None)?;
+        comes_out_alike(&rt, alloc, &file, ended)?;
     }
     Ok(())
 }

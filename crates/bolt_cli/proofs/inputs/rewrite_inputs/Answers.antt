@@ -15,16 +15,21 @@ pub returns-in-LongProfile-clause-stopped : goal.returns-in-LongProfile-clause-s
 returns-in-LongProfile-clause-stopped g c = λ input.
     let old : World = world (g.F.Files.seen c.args.files.now) input (g.O.Sink.seen c.args.out.now) in
     let new : World = world (g.F.Files.seen c.read_inputs.new.files) input (g.O.Sink.seen c.refuse-in-LongProfile.new.out) in
-    refuses c.refuse-in-LongProfile.result c.at-in-LongProfile.result (inputs_read c.args.words.now) old new c.refuse-in-LongProfile.ensures.line c.in-LongProfile.ensures.kept
-    (λ told. of_long_profile old (inputs_read c.args.words.now) c.at-in-LongProfile.result c.at-in-LongProfile.ensures (c.in-LongProfile.ensures.read told))
+    refuses c.refuse-in-LongProfile.result c.at-in-LongProfile.result
+    (inputs_read c.args.words.now) old new c.refuse-in-LongProfile.ensures.line c.in-LongProfile.ensures.kept
+    (λ told. of_long_profile old (inputs_read c.args.words.now) c.at-in-LongProfile.result c.at-in-LongProfile.ensures
+    (c.in-LongProfile.ensures.read told))
 
 pub returns-in-Err-Fault-clause-stopped : goal.returns-in-Err-Fault-clause-stopped
 returns-in-Err-Fault-clause-stopped g c = λ input.
     let old : World = world (g.F.Files.seen c.args.files.now) input (g.O.Sink.seen c.args.out.now) in
     let new : World = world (g.F.Files.seen c.read_inputs.new.files) input (g.O.Sink.seen c.refuse-in-Err-Fault.new.out) in
-    refuses c.refuse-in-Err-Fault.result c.in-Err-Fault.fault (inputs_read c.args.words.now) old new c.refuse-in-Err-Fault.ensures.line c.in-Whole.ensures.kept
-    (λ told. of_inputs old (inputs_read c.args.words.now) c.deref.result.now c.deref-2.result.now (λ file profile. IsRefused file profile c.in-Err-Fault.fault)
-    (are_read _ _ _ _ _ _ c.deref.ensures.value c.deref-2.ensures.value (c.in-Whole.ensures.read told)) (rw c.in-Err-Fault.field-0-is at c.in-Err-Fault.ensures.refused))
+    refuses c.refuse-in-Err-Fault.result c.in-Err-Fault.fault
+    (inputs_read c.args.words.now) old new c.refuse-in-Err-Fault.ensures.line c.in-Whole.ensures.kept
+    (λ told. of_inputs old (inputs_read c.args.words.now) c.deref.result.now c.deref-2.result.now
+    (λ file profile. IsRefused file profile c.in-Err-Fault.fault)
+    (are_read _ _ _ _ _ _ c.deref.ensures.value c.deref-2.ensures.value (c.in-Whole.ensures.read told))
+    (rw c.in-Err-Fault.field-0-is at c.in-Err-Fault.ensures.refused))
 
 pub returns-in-Ok-clause-made : goal.returns-in-Ok-clause-made
 returns-in-Ok-clause-made g c = record {

@@ -20,11 +20,13 @@ returns-in-Took g c = λ input.
     let old : World = world (g.F.Files.seen c.args.files.now) input (g.O.Sink.seen c.args.out.now) in
     let mid : World = world (g.F.Files.seen c.rewrite_inputs.new.files) input (g.O.Sink.seen c.rewrite_inputs.new.out) in
     let new : World = world (g.F.Files.seen c.rewrite_inputs.new.files) input (g.O.Sink.seen c.print.new.out) in
-    let between : IsBetween old mid = record { contents = c.in-Ok.ensures.kept; go_on = c.in-Ok.ensures.files_go_on; output_is = c.in-Ok.ensures.unprinted } in
+    let between : IsBetween old mid =
+    record { contents = c.in-Ok.ensures.kept; go_on = c.in-Ok.ensures.files_go_on; output_is = c.in-Ok.ensures.unprinted } in
     let first : old.output.faults ≤ mid.output.faults = c.in-Ok.ensures.faults in
     let next : mid.output.faults ≤ new.output.faults = c.print.ensures.never_falls in
     serves_map (inputs_read c.args.words.now) status.Ok old new
-    (prints (inputs_read c.args.words.now) (made_by c.in-Ok.rewritten) old mid new between c.in-Ok.ensures.made c.in-Ok.ensures.kept c.in-Took.ensures.all)
+    (prints (inputs_read c.args.words.now)
+    (made_by c.in-Ok.rewritten) old mid new between c.in-Ok.ensures.made c.in-Ok.ensures.kept c.in-Took.ensures.all)
     c.in-Ok.ensures.files_go_on (omega arith) (omega arith)
 
 pub returns : goal.returns
@@ -32,9 +34,11 @@ returns g c = λ input.
     let old : World = world (g.F.Files.seen c.args.files.now) input (g.O.Sink.seen c.args.out.now) in
     let mid : World = world (g.F.Files.seen c.rewrite_inputs.new.files) input (g.O.Sink.seen c.rewrite_inputs.new.out) in
     let new : World = world (g.F.Files.seen c.rewrite_inputs.new.files) input (g.O.Sink.seen c.print.new.out) in
-    let between : IsBetween old mid = record { contents = c.in-Ok.ensures.kept; go_on = c.in-Ok.ensures.files_go_on; output_is = c.in-Ok.ensures.unprinted } in
+    let between : IsBetween old mid =
+    record { contents = c.in-Ok.ensures.kept; go_on = c.in-Ok.ensures.files_go_on; output_is = c.in-Ok.ensures.unprinted } in
     let first : old.output.faults ≤ mid.output.faults = c.in-Ok.ensures.faults in
     let next : mid.output.faults ≤ new.output.faults = c.print.ensures.never_falls in
     serves_map (inputs_read c.args.words.now) status.WriteFault old new
-    (fails (inputs_read c.args.words.now) (made_by c.in-Ok.rewritten) old mid new between c.in-Ok.ensures.made c.in-Ok.ensures.kept (c.in-Failed.ensures.failed refl) (c.in-Failed.ensures.front refl))
+    (fails (inputs_read c.args.words.now) (made_by c.in-Ok.rewritten) old mid new between c.in-Ok.ensures.made
+    c.in-Ok.ensures.kept (c.in-Failed.ensures.failed refl) (c.in-Failed.ensures.front refl))
     c.in-Ok.ensures.files_go_on (omega arith) (omega arith)

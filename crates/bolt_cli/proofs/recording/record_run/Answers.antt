@@ -16,18 +16,22 @@ pub returns-in-TooLong-clause-serves : goal.returns-in-TooLong-clause-serves
 returns-in-TooLong-clause-serves g c =
     let words : RecordWords = record_read c.args.words.now in
     let old : World = world (g.F.Files.seen c.args.files.now) (g.I.Source.seen c.args.input.now) (g.O.Sink.seen c.args.out.now) in
-    let new : World = world (g.F.Files.seen c.read_all.new.self) (g.I.Source.seen c.args.input.now) (g.O.Sink.seen c.refuse.new.out) in
+    let new : World =
+    world (g.F.Files.seen c.read_all.new.self) (g.I.Source.seen c.args.input.now) (g.O.Sink.seen c.refuse.new.out) in
     refusal_serves words old new c.refuse.result c.at.result c.refuse.ensures.line c.in-TooLong.ensures.contents_kept
-    (λ told. present_long (old.files.content words.run.file) (λ file. file_limit < length file) (λ file. CannotRunSymbols file c.at.result) (λ file long. too_long long c.at.ensures) (c.in-TooLong.ensures.too_long refl told)) refl
+    (λ told. present_long (old.files.content words.run.file) (λ file. file_limit < length file) (λ file.
+    CannotRunSymbols file c.at.result) (λ file long. too_long long c.at.ensures) (c.in-TooLong.ensures.too_long refl told)) refl
     c.in-TooLong.ensures.goes_on c.refuse.ensures.never_falls
 
 pub returns-in-Failed-clause-serves : goal.returns-in-Failed-clause-serves
 returns-in-Failed-clause-serves g c =
     let words : RecordWords = record_read c.args.words.now in
     let old : World = world (g.F.Files.seen c.args.files.now) (g.I.Source.seen c.args.input.now) (g.O.Sink.seen c.args.out.now) in
-    let new : World = world (g.F.Files.seen c.read_all.new.self) (g.I.Source.seen c.args.input.now) (g.O.Sink.seen c.args.out.now) in
+    let new : World =
+    world (g.F.Files.seen c.read_all.new.self) (g.I.Source.seen c.args.input.now) (g.O.Sink.seen c.args.out.now) in
     serves words old new status.ReadFault
-    (at_file refl (c.in-Failed.ensures.failed refl) (record { unprinted = refl; unwritten = c.in-Failed.ensures.contents_kept }) refl)
+    (at_file refl (c.in-Failed.ensures.failed refl)
+    (record { unprinted = refl; unwritten = c.in-Failed.ensures.contents_kept }) refl)
     (λ told file is. inl (read_fault refl))
     c.in-Failed.ensures.goes_on (omega arith) (omega arith)
 
@@ -35,7 +39,8 @@ pub returns-in-Memory-clause-serves : goal.returns-in-Memory-clause-serves
 returns-in-Memory-clause-serves g c =
     let words : RecordWords = record_read c.args.words.now in
     let old : World = world (g.F.Files.seen c.args.files.now) (g.I.Source.seen c.args.input.now) (g.O.Sink.seen c.args.out.now) in
-    let new : World = world (g.F.Files.seen c.read_all.new.self) (g.I.Source.seen c.args.input.now) (g.O.Sink.seen c.args.out.now) in
+    let new : World =
+    world (g.F.Files.seen c.read_all.new.self) (g.I.Source.seen c.args.input.now) (g.O.Sink.seen c.args.out.now) in
     serves words old new status.NoMemory
     (before_run refl (record { unprinted = refl; unwritten = c.in-Memory.ensures.contents_kept }) refl)
     (λ told file is. inl (no_memory refl))
@@ -45,22 +50,31 @@ pub returns-in-Err-Fault-clause-serves : goal.returns-in-Err-Fault-clause-serves
 returns-in-Err-Fault-clause-serves g c =
     let words : RecordWords = record_read c.args.words.now in
     let old : World = world (g.F.Files.seen c.args.files.now) (g.I.Source.seen c.args.input.now) (g.O.Sink.seen c.args.out.now) in
-    let new : World = world (g.F.Files.seen c.read_all.new.self) (g.I.Source.seen c.args.input.now) (g.O.Sink.seen c.refuse-in-Err-Fault.new.out) in
-    refusal_serves words old new c.refuse-in-Err-Fault.result c.in-Err-Fault.fault c.refuse-in-Err-Fault.ensures.line c.in-Done.ensures.contents_kept
-    (λ told. present_fault (old.files.content words.run.file) c.deref.result.now (λ file. CannotRunSymbols file c.in-Err-Fault.fault)
-    (passed_is (old.files.content words.run.file) c.read_all.new.into.items c.deref.result.now c.deref.result.now c.deref.ensures.value (c.in-Done.ensures.done refl told))
-    (unsound (subst (λ (f : List ℕ). length f ≤ file_limit) (sym c.deref.ensures.value) (c.in-Done.ensures.within_limit refl)) (rw c.in-Err-Fault.field-0-is at c.in-Err-Fault.ensures.refusal))) refl
+    let new : World =
+    world (g.F.Files.seen c.read_all.new.self) (g.I.Source.seen c.args.input.now) (g.O.Sink.seen c.refuse-in-Err-Fault.new.out) in
+    refusal_serves words old new c.refuse-in-Err-Fault.result c.in-Err-Fault.fault c.refuse-in-Err-Fault.ensures.line
+    c.in-Done.ensures.contents_kept
+    (λ told. present_fault (old.files.content words.run.file) c.deref.result.now
+    (λ file. CannotRunSymbols file c.in-Err-Fault.fault)
+    (passed_is (old.files.content words.run.file) c.read_all.new.into.items c.deref.result.now c.deref.result.now
+    c.deref.ensures.value (c.in-Done.ensures.done refl told))
+    (unsound (subst (λ (f : List ℕ). length f ≤ file_limit) (sym c.deref.ensures.value) (c.in-Done.ensures.within_limit refl))
+    (rw c.in-Err-Fault.field-0-is at c.in-Err-Fault.ensures.refusal))) refl
     c.in-Done.ensures.goes_on c.refuse-in-Err-Fault.ensures.never_falls
 
 pub returns-in-Err-Fault-record_code-clause-serves : goal.returns-in-Err-Fault-record_code-clause-serves
 returns-in-Err-Fault-record_code-clause-serves g c =
     let words : RecordWords = record_read c.args.words.now in
     let old : World = world (g.F.Files.seen c.args.files.now) (g.I.Source.seen c.args.input.now) (g.O.Sink.seen c.args.out.now) in
-    let new : World = world (g.F.Files.seen c.read_all.new.self) (g.I.Source.seen c.args.input.now) (g.O.Sink.seen c.refuse-in-Err-Fault-record_code.new.out) in
+    let new : World = world (g.F.Files.seen c.read_all.new.self) (g.I.Source.seen c.args.input.now)
+    (g.O.Sink.seen c.refuse-in-Err-Fault-record_code.new.out) in
     let kept : List ℕ = c.in-Ok.elf.file.now in
-    refusal_serves words old new c.refuse-in-Err-Fault-record_code.result c.in-Err-Fault-record_code.fault c.refuse-in-Err-Fault-record_code.ensures.line c.in-Done.ensures.contents_kept
-    (λ told. present_fault (old.files.content words.run.file) kept (λ file. CannotRunSymbols file c.in-Err-Fault-record_code.fault)
-    (kept_is (old.files.content words.run.file) c.read_all.new.into.items c.deref.result.now kept c.deref.ensures.value c.in-Ok.ensures.fields.file_is (c.in-Done.ensures.done refl told))
+    refusal_serves words old new c.refuse-in-Err-Fault-record_code.result c.in-Err-Fault-record_code.fault
+    c.refuse-in-Err-Fault-record_code.ensures.line c.in-Done.ensures.contents_kept
+    (λ told. present_fault (old.files.content words.run.file) kept
+    (λ file. CannotRunSymbols file c.in-Err-Fault-record_code.fault)
+    (kept_is (old.files.content words.run.file) c.read_all.new.into.items c.deref.result.now kept c.deref.ensures.value
+    c.in-Ok.ensures.fields.file_is (c.in-Done.ensures.done refl told))
     (rw c.in-Err-Fault-record_code.field-0-is at c.in-Err-Fault-record_code.ensures.fault)) refl
     c.in-Done.ensures.goes_on c.refuse-in-Err-Fault-record_code.ensures.never_falls
 
@@ -68,7 +82,8 @@ pub returns-in-Err-Memory-record_code-clause-serves : goal.returns-in-Err-Memory
 returns-in-Err-Memory-record_code-clause-serves g c =
     let words : RecordWords = record_read c.args.words.now in
     let old : World = world (g.F.Files.seen c.args.files.now) (g.I.Source.seen c.args.input.now) (g.O.Sink.seen c.args.out.now) in
-    let new : World = world (g.F.Files.seen c.read_all.new.self) (g.I.Source.seen c.args.input.now) (g.O.Sink.seen c.args.out.now) in
+    let new : World =
+    world (g.F.Files.seen c.read_all.new.self) (g.I.Source.seen c.args.input.now) (g.O.Sink.seen c.args.out.now) in
     serves words old new status.NoMemory
     (before_run refl (record { unprinted = refl; unwritten = c.in-Done.ensures.contents_kept }) refl)
     (λ told file is. inl (no_memory refl))
@@ -78,16 +93,23 @@ pub returns-clause-serves : goal.returns-clause-serves
 returns-clause-serves g c =
     let words : RecordWords = record_read c.args.words.now in
     let old : World = world (g.F.Files.seen c.args.files.now) (g.I.Source.seen c.args.input.now) (g.O.Sink.seen c.args.out.now) in
-    let new : World = world (g.F.Files.seen c.record_elf.new.files) (g.I.Source.seen c.record_elf.new.input) (g.O.Sink.seen c.record_elf.new.out) in
+    let new : World =
+    world (g.F.Files.seen c.record_elf.new.files) (g.I.Source.seen c.record_elf.new.input) (g.O.Sink.seen c.record_elf.new.out) in
     let kept : List ℕ = c.in-Ok.elf.file.now in
-    let is = kept_is (old.files.content words.run.file) c.read_all.new.into.items c.deref.result.now kept c.deref.ensures.value c.in-Ok.ensures.fields.file_is in
+    let is = kept_is (old.files.content words.run.file) c.read_all.new.into.items c.deref.result.now kept c.deref.ensures.value
+    c.in-Ok.ensures.fields.file_is in
     let program : Program = recorded_program c.in-Ok.elf c.in-Ok-record_code.code in
     serves words old new c.record_elf.result
-    (goes_under_way words old new c.record_elf.result kept program (λ told. is (c.in-Done.ensures.done refl told)) c.in-Ok-record_code.ensures.program
-    (after_reading words old new program (g.F.Files.seen c.read_all.new.self) c.record_elf.result c.in-Done.ensures.contents_kept c.in-Done.ensures.goes_on c.record_elf.ensures.answer))
-    (λ told file file_is. other_exact words old new c.record_elf.result kept file program (is (c.in-Done.ensures.done refl told)) file_is c.in-Ok-record_code.ensures.program c.record_elf.ensures.exact)
-    (go_on_after _ _ _ c.in-Done.ensures.goes_on c.record_elf.ensures.files_go_on) c.record_elf.ensures.reads c.record_elf.ensures.writes
+    (goes_under_way words old new c.record_elf.result kept program
+    (λ told. is (c.in-Done.ensures.done refl told)) c.in-Ok-record_code.ensures.program
+    (after_reading words old new program (g.F.Files.seen c.read_all.new.self) c.record_elf.result c.in-Done.ensures.contents_kept
+    c.in-Done.ensures.goes_on c.record_elf.ensures.answer))
+    (λ told file file_is. other_exact words old new c.record_elf.result kept file program
+    (is (c.in-Done.ensures.done refl told)) file_is c.in-Ok-record_code.ensures.program c.record_elf.ensures.exact)
+    (go_on_after _ _ _ c.in-Done.ensures.goes_on c.record_elf.ensures.files_go_on) c.record_elf.ensures.reads
+    c.record_elf.ensures.writes
 
 pub returns-clause-input_kept : goal.returns-clause-input_kept
 returns-clause-input_kept g c =
-    keeps_input (recorded_program c.in-Ok.elf c.in-Ok-record_code.code) (record_read c.args.words.now) _ _ c.record_elf.result c.args.input.now c.record_elf.new.input c.record_elf.ensures.answer
+    keeps_input (recorded_program c.in-Ok.elf c.in-Ok-record_code.code)
+    (record_read c.args.words.now) _ _ c.record_elf.result c.args.input.now c.record_elf.new.input c.record_elf.ensures.answer

@@ -19,7 +19,8 @@ returns g c = λ input.
     let old : World = world (g.F.Files.seen c.args.files.now) input (g.O.Sink.seen c.args.out.now) in
     let mid : World = world (g.F.Files.seen c.rewrite_inputs.new.files) input (g.O.Sink.seen c.rewrite_inputs.new.out) in
     let new : World = world (g.F.Files.seen c.write_outputs.new.files) input (g.O.Sink.seen c.write_outputs.new.out) in
-    let between : IsBetween old mid = record { contents = c.in-Ok.ensures.kept; go_on = c.in-Ok.ensures.files_go_on; output_is = c.in-Ok.ensures.unprinted } in
+    let between : IsBetween old mid =
+    record { contents = c.in-Ok.ensures.kept; go_on = c.in-Ok.ensures.files_go_on; output_is = c.in-Ok.ensures.unprinted } in
     let first : old.output.faults ≤ mid.output.faults = c.in-Ok.ensures.faults in
     let next : mid.output.faults ≤ new.output.faults = c.write_outputs.ensures.faults in
     serves (names_read c.args.words.now) c.write_outputs.result old new

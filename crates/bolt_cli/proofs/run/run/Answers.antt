@@ -15,18 +15,22 @@ pub returns-in-TooLong-clause-serves : goal.returns-in-TooLong-clause-serves
 returns-in-TooLong-clause-serves g c =
     let words : RunWords = run_read c.args.words.now in
     let old : World = world (g.F.Files.seen c.args.files.now) (g.I.Source.seen c.args.input.now) (g.O.Sink.seen c.args.out.now) in
-    let new : World = world (g.F.Files.seen c.read_all.new.self) (g.I.Source.seen c.args.input.now) (g.O.Sink.seen c.refuse.new.out) in
+    let new : World =
+    world (g.F.Files.seen c.read_all.new.self) (g.I.Source.seen c.args.input.now) (g.O.Sink.seen c.refuse.new.out) in
     refusal_serves words old new c.refuse.result c.at.result c.refuse.ensures.line c.in-TooLong.ensures.contents_kept
-    (λ told. present_long (old.files.content words.file) (λ file. file_limit < length file) (λ file. CannotRun file c.at.result) (λ file long. too_long long c.at.ensures) (c.in-TooLong.ensures.too_long refl told)) refl
+    (λ told. present_long (old.files.content words.file) (λ file. file_limit < length file) (λ file. CannotRun file c.at.result)
+    (λ file long. too_long long c.at.ensures) (c.in-TooLong.ensures.too_long refl told)) refl
     c.in-TooLong.ensures.goes_on c.refuse.ensures.never_falls
 
 pub returns-in-Failed-clause-serves : goal.returns-in-Failed-clause-serves
 returns-in-Failed-clause-serves g c =
     let words : RunWords = run_read c.args.words.now in
     let old : World = world (g.F.Files.seen c.args.files.now) (g.I.Source.seen c.args.input.now) (g.O.Sink.seen c.args.out.now) in
-    let new : World = world (g.F.Files.seen c.read_all.new.self) (g.I.Source.seen c.args.input.now) (g.O.Sink.seen c.args.out.now) in
+    let new : World =
+    world (g.F.Files.seen c.read_all.new.self) (g.I.Source.seen c.args.input.now) (g.O.Sink.seen c.args.out.now) in
     serves words old new status.ReadFault
-    (at_file refl (c.in-Failed.ensures.failed refl) (record { unprinted = refl; unwritten = c.in-Failed.ensures.contents_kept }) refl)
+    (at_file refl (c.in-Failed.ensures.failed refl)
+    (record { unprinted = refl; unwritten = c.in-Failed.ensures.contents_kept }) refl)
     (λ told file is input left ending steps trace rest runs. inr (read_fault refl))
     c.in-Failed.ensures.goes_on (omega arith) (omega arith)
 
@@ -34,7 +38,8 @@ pub returns-in-Memory-clause-serves : goal.returns-in-Memory-clause-serves
 returns-in-Memory-clause-serves g c =
     let words : RunWords = run_read c.args.words.now in
     let old : World = world (g.F.Files.seen c.args.files.now) (g.I.Source.seen c.args.input.now) (g.O.Sink.seen c.args.out.now) in
-    let new : World = world (g.F.Files.seen c.read_all.new.self) (g.I.Source.seen c.args.input.now) (g.O.Sink.seen c.args.out.now) in
+    let new : World =
+    world (g.F.Files.seen c.read_all.new.self) (g.I.Source.seen c.args.input.now) (g.O.Sink.seen c.args.out.now) in
     serves words old new status.NoMemory
     (before_run refl (record { unprinted = refl; unwritten = c.in-Memory.ensures.contents_kept }) refl)
     (λ told file is input left ending steps trace rest runs. inr (no_memory refl))
@@ -44,25 +49,34 @@ pub returns-in-Err-Fault-clause-serves : goal.returns-in-Err-Fault-clause-serves
 returns-in-Err-Fault-clause-serves g c =
     let words : RunWords = run_read c.args.words.now in
     let old : World = world (g.F.Files.seen c.args.files.now) (g.I.Source.seen c.args.input.now) (g.O.Sink.seen c.args.out.now) in
-    let new : World = world (g.F.Files.seen c.read_all.new.self) (g.I.Source.seen c.args.input.now) (g.O.Sink.seen c.refuse-in-Err-Fault.new.out) in
-    refusal_serves words old new c.refuse-in-Err-Fault.result c.in-Err-Fault.fault c.refuse-in-Err-Fault.ensures.line c.in-Done.ensures.contents_kept
+    let new : World =
+    world (g.F.Files.seen c.read_all.new.self) (g.I.Source.seen c.args.input.now) (g.O.Sink.seen c.refuse-in-Err-Fault.new.out) in
+    refusal_serves words old new c.refuse-in-Err-Fault.result c.in-Err-Fault.fault c.refuse-in-Err-Fault.ensures.line
+    c.in-Done.ensures.contents_kept
     (λ told. present_fault (old.files.content words.file) c.deref.result.now (λ file. CannotRun file c.in-Err-Fault.fault)
-    (passed_is (old.files.content words.file) c.read_all.new.into.items c.deref.result.now c.deref.result.now c.deref.ensures.value (c.in-Done.ensures.done refl told))
-    (unsound (subst (λ (f : List ℕ). length f ≤ file_limit) (sym c.deref.ensures.value) (c.in-Done.ensures.within_limit refl)) (rw c.in-Err-Fault.field-0-is at c.in-Err-Fault.ensures.refusal))) refl
+    (passed_is (old.files.content words.file) c.read_all.new.into.items c.deref.result.now c.deref.result.now
+    c.deref.ensures.value (c.in-Done.ensures.done refl told))
+    (unsound (subst (λ (f : List ℕ). length f ≤ file_limit) (sym c.deref.ensures.value) (c.in-Done.ensures.within_limit refl))
+    (rw c.in-Err-Fault.field-0-is at c.in-Err-Fault.ensures.refusal))) refl
     c.in-Done.ensures.goes_on c.refuse-in-Err-Fault.ensures.never_falls
 
 pub returns-then-has_too_much_code-clause-serves : goal.returns-then-has_too_much_code-clause-serves
 returns-then-has_too_much_code-clause-serves g c =
     let words : RunWords = run_read c.args.words.now in
     let old : World = world (g.F.Files.seen c.args.files.now) (g.I.Source.seen c.args.input.now) (g.O.Sink.seen c.args.out.now) in
-    let new : World = world (g.F.Files.seen c.read_all.new.self) (g.I.Source.seen c.args.input.now) (g.O.Sink.seen c.refuse-then-has_too_much_code.new.out) in
+    let new : World = world (g.F.Files.seen c.read_all.new.self) (g.I.Source.seen c.args.input.now)
+    (g.O.Sink.seen c.refuse-then-has_too_much_code.new.out) in
     let kept : List ℕ = c.in-Ok.elf.file.now in
-    refusal_serves words old new c.refuse-then-has_too_much_code.result c.at-then-has_too_much_code.result c.refuse-then-has_too_much_code.ensures.line c.in-Done.ensures.contents_kept
+    refusal_serves words old new c.refuse-then-has_too_much_code.result c.at-then-has_too_much_code.result
+    c.refuse-then-has_too_much_code.ensures.line c.in-Done.ensures.contents_kept
     (λ told. present_fault (old.files.content words.file) kept (λ file. CannotRun file c.at-then-has_too_much_code.result)
-    (kept_is (old.files.content words.file) c.read_all.new.into.items c.deref.result.now kept c.deref.ensures.value c.in-Ok.ensures.fields.file_is (c.in-Done.ensures.done refl told))
+    (kept_is (old.files.content words.file) c.read_all.new.into.items c.deref.result.now kept c.deref.ensures.value
+    c.in-Ok.ensures.fields.file_is (c.in-Done.ensures.done refl told))
     (much_code
-    (kept_fits (old.files.content words.file) c.read_all.new.into.items c.deref.result.now kept c.deref.ensures.value c.in-Ok.ensures.fields.file_is (c.in-Done.ensures.within_limit refl))
-    (kept_sound (old.files.content words.file) c.read_all.new.into.items c.deref.result.now kept c.deref.ensures.value c.in-Ok.ensures.fields.file_is c.in-Ok.ensures.sound)
+    (kept_fits (old.files.content words.file) c.read_all.new.into.items c.deref.result.now kept c.deref.ensures.value
+    c.in-Ok.ensures.fields.file_is (c.in-Done.ensures.within_limit refl))
+    (kept_sound (old.files.content words.file) c.read_all.new.into.items c.deref.result.now kept c.deref.ensures.value
+    c.in-Ok.ensures.fields.file_is c.in-Ok.ensures.sound)
     (c.has_too_much_code.ensures.0 c.if-has_too_much_code.true) c.at-then-has_too_much_code.ensures)) refl
     c.in-Done.ensures.goes_on c.refuse-then-has_too_much_code.ensures.never_falls
 
@@ -70,16 +84,22 @@ pub returns-clause-serves : goal.returns-clause-serves
 returns-clause-serves g c =
     let words : RunWords = run_read c.args.words.now in
     let old : World = world (g.F.Files.seen c.args.files.now) (g.I.Source.seen c.args.input.now) (g.O.Sink.seen c.args.out.now) in
-    let new : World = world (g.F.Files.seen c.read_all.new.self) (g.I.Source.seen c.run_elf.new.input) (g.O.Sink.seen c.run_elf.new.out) in
+    let new : World =
+    world (g.F.Files.seen c.read_all.new.self) (g.I.Source.seen c.run_elf.new.input) (g.O.Sink.seen c.run_elf.new.out) in
     let kept : List ℕ = c.in-Ok.elf.file.now in
-    let is = kept_is (old.files.content words.file) c.read_all.new.into.items c.deref.result.now kept c.deref.ensures.value c.in-Ok.ensures.fields.file_is in
+    let is = kept_is (old.files.content words.file) c.read_all.new.into.items c.deref.result.now kept c.deref.ensures.value
+    c.in-Ok.ensures.fields.file_is in
     serves words old new c.run_elf.result
     (goes_under_way words old new c.run_elf.result kept (λ told. is (c.in-Done.ensures.done refl told))
     (record {
-      fits = kept_fits (old.files.content words.file) c.read_all.new.into.items c.deref.result.now kept c.deref.ensures.value c.in-Ok.ensures.fields.file_is (c.in-Done.ensures.within_limit refl);
-      sound = kept_sound (old.files.content words.file) c.read_all.new.into.items c.deref.result.now kept c.deref.ensures.value c.in-Ok.ensures.fields.file_is c.in-Ok.ensures.sound;
-      code_fits = denied (HasTooMuchCode kept) c.has_too_much_code.result c.has_too_much_code.ensures.1 c.if-has_too_much_code.false;
+      fits = kept_fits (old.files.content words.file) c.read_all.new.into.items c.deref.result.now kept c.deref.ensures.value
+          c.in-Ok.ensures.fields.file_is (c.in-Done.ensures.within_limit refl);
+      sound = kept_sound (old.files.content words.file) c.read_all.new.into.items c.deref.result.now kept c.deref.ensures.value
+          c.in-Ok.ensures.fields.file_is c.in-Ok.ensures.sound;
+      code_fits =
+          denied (HasTooMuchCode kept) c.has_too_much_code.result c.has_too_much_code.ensures.1 c.if-has_too_much_code.false;
     })
     c.in-Done.ensures.contents_kept c.run_elf.ensures.answer)
-    (λ told file file_is. other_exact words old new c.run_elf.result kept file (is (c.in-Done.ensures.done refl told)) file_is c.run_elf.ensures.exact)
+    (λ told file file_is. other_exact words old new c.run_elf.result kept file
+    (is (c.in-Done.ensures.done refl told)) file_is c.run_elf.ensures.exact)
     c.in-Done.ensures.goes_on c.run_elf.ensures.reads c.run_elf.ensures.writes

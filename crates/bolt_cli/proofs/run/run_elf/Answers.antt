@@ -15,16 +15,20 @@ use Rattle.bolt_cli.proofs.RunEnds.{no_step, answers, exact}
 use Rattle.bolt_cli.proofs.run.run_elf.Goals as goal
 
 -- the machine starts with the words that were read
-started : (m : Machine) (file : List ℕ) (given items : List (String Global)) (words : List (List ℕ)) → given ≡ items → map string_bytes items ≡ words →
-    ((input : List ℕ) → state_of m input ≡ start file (map string_bytes given) input) → (input : List ℕ) → state_of m input ≡ start file words input
+started : (m : Machine) (file : List ℕ) (given items : List (String Global)) (words : List (List ℕ)) → given ≡ items →
+    map string_bytes items ≡ words →
+    ((input : List ℕ) → state_of m input ≡ start file (map string_bytes given) input) → (input : List ℕ) →
+    state_of m input ≡ start file words input
 started m file given items words same read loaded input =
     loaded input ∙ ap (λ list. start file (map string_bytes list) input) same ∙ ap (λ list. start file list input) read
 
 pub returns-in_default-clause-answer : goal.returns-in_default-clause-answer
-returns-in_default-clause-answer g c = stopped (out_of_memory refl (no_step (byte_machine c.args.elf.now.file.now (run_read c.args.words.now).words) c.args.words.now.limit _ (λ input. refl)))
+returns-in_default-clause-answer g c = stopped (out_of_memory refl
+    (no_step (byte_machine c.args.elf.now.file.now (run_read c.args.words.now).words) c.args.words.now.limit _ (λ input. refl)))
 
 pub returns-in_default-load-clause-answer : goal.returns-in_default-load-clause-answer
-returns-in_default-load-clause-answer g c = stopped (out_of_memory refl (no_step (byte_machine c.args.elf.now.file.now (run_read c.args.words.now).words) c.args.words.now.limit _ (λ input. refl)))
+returns-in_default-load-clause-answer g c = stopped (out_of_memory refl
+    (no_step (byte_machine c.args.elf.now.file.now (run_read c.args.words.now).words) c.args.words.now.limit _ (λ input. refl)))
 
 pub returns-in_default-clause-exact : goal.returns-in_default-clause-exact
 returns-in_default-clause-exact g c = λ input is ending n trace rest run. inr (no_memory refl)
@@ -37,19 +41,25 @@ returns-clause-answer g c =
     let before : Outside = record { input = g.I.Source.seen c.args.input.now; output = g.O.Sink.seen c.args.out.now } in
     let mid : Outside = record { input = g.I.Source.seen c.run-ran.new.input; output = g.O.Sink.seen c.run-ran.new.out } in
     let after : Outside = record { input = g.I.Source.seen c.run-ran.new.input; output = g.O.Sink.seen c.close.new.out } in
-    answers state_of (byte_machine c.args.elf.now.file.now (run_read c.args.words.now).words) c.args.words.now.limit c.in-Ok-load.machine c.run-ran.new.self c.run-ran.result.steps before mid after
-    (λ input. started c.in-Ok-load.machine c.args.elf.now.file.now _ _ _ c.deref.ensures.value c.in-Ok.ensures c.in-Ok-load.ensures input) (λ input. refl) (λ pc cause result steps b a printed. printed)
+    answers state_of (byte_machine c.args.elf.now.file.now (run_read c.args.words.now).words) c.args.words.now.limit
+    c.in-Ok-load.machine c.run-ran.new.self c.run-ran.result.steps before mid after
+    (λ input. started c.in-Ok-load.machine c.args.elf.now.file.now _ _ _ c.deref.ensures.value c.in-Ok.ensures
+    c.in-Ok-load.ensures input) (λ input. refl) (λ pc cause result steps b a printed. printed)
     refl refl c.run-ran.ensures.writes c.close.ensures.never_falls
     (answered c.run-ran.result.end) c.close.result c.run-ran.ensures.answer
-    (subst (λ (came : Status). Closed c.close.result c.run-ran.result.steps mid.output after.output came) c.status_of.ensures c.close.ensures.closed)
+    (subst (λ (came : Status). Closed c.close.result c.run-ran.result.steps mid.output after.output came)
+    c.status_of.ensures c.close.ensures.closed)
 
 pub returns-clause-exact : goal.returns-clause-exact
 returns-clause-exact g c =
     let before : Outside = record { input = g.I.Source.seen c.args.input.now; output = g.O.Sink.seen c.args.out.now } in
     let mid : Outside = record { input = g.I.Source.seen c.run-ran.new.input; output = g.O.Sink.seen c.run-ran.new.out } in
     let after : Outside = record { input = g.I.Source.seen c.run-ran.new.input; output = g.O.Sink.seen c.close.new.out } in
-    exact state_of (byte_machine c.args.elf.now.file.now (run_read c.args.words.now).words) c.args.words.now.limit c.in-Ok-load.machine c.run-ran.new.self c.run-ran.result.steps before mid after
-    (λ input. started c.in-Ok-load.machine c.args.elf.now.file.now _ _ _ c.deref.ensures.value c.in-Ok.ensures c.in-Ok-load.ensures input) (λ input. refl) (λ pc cause result steps b a printed. printed)
+    exact state_of (byte_machine c.args.elf.now.file.now (run_read c.args.words.now).words) c.args.words.now.limit
+    c.in-Ok-load.machine c.run-ran.new.self c.run-ran.result.steps before mid after
+    (λ input. started c.in-Ok-load.machine c.args.elf.now.file.now _ _ _ c.deref.ensures.value c.in-Ok.ensures
+    c.in-Ok-load.ensures input) (λ input. refl) (λ pc cause result steps b a printed. printed)
     refl refl c.run-ran.ensures.writes c.close.ensures.never_falls
     (answered c.run-ran.result.end) c.close.result c.run-ran.ensures.answer
-    (subst (λ (came : Status). Closed c.close.result c.run-ran.result.steps mid.output after.output came) c.status_of.ensures c.close.ensures.closed)
+    (subst (λ (came : Status). Closed c.close.result c.run-ran.result.steps mid.output after.output came)
+    c.status_of.ensures c.close.ensures.closed)

@@ -11,7 +11,8 @@ use Rattle.bolt_cli.specs.run.ParsedCode.{IsSymbolRefusal}
 use Rattle.bolt_cli.specs.run.SymbolRuns.{IsPlain, HasFrames, bad_code, much_code, many_functions}
 use Rattle.bolt_cli.proofs.symbol_code.faultless_code.Goals as goal
 
-refused : (file : List ℕ) (elf : Elf) → IsPlain file → IsElfOf file elf → (r : Refusal) → IsRefusalBy (HasCodeFault elf tabled) r → IsSymbolRefusal file r
+refused : (file : List ℕ) (elf : Elf) → IsPlain file → IsElfOf file elf → (r : Refusal) →
+    IsRefusalBy (HasCodeFault elf tabled) r → IsSymbolRefusal file r
 refused file elf plain is (refusal.Fault fault) has = bad_code plain elf is has
 refused file elf plain is refusal.Memory has = tt
 
@@ -20,21 +21,26 @@ is_plain file fits sound frameless = record { fits = fits; sound = sound; framel
 
 pub returns-in-Err-clause-fault : goal.returns-in-Err-clause-fault
 returns-in-Err-clause-fault c =
-    refused c.args.elf.now.file.now c.args.elf.now (is_plain c.args.elf.now.file.now c.requires.fits c.requires.sound (λ frames. let some = c.has_frames.ensures.frames.1 frames in absurd (cc))) c.requires.fields c.in-Err.refusal c.in-Err.ensures.fault
+    refused c.args.elf.now.file.now c.args.elf.now (is_plain c.args.elf.now.file.now c.requires.fits c.requires.sound (λ frames.
+    let some = c.has_frames.ensures.frames.1 frames in absurd (cc))) c.requires.fields c.in-Err.refusal c.in-Err.ensures.fault
 
 pub returns-then-has_too_much_code-clause-fault : goal.returns-then-has_too_much_code-clause-fault
 returns-then-has_too_much_code-clause-fault c =
-    much_code (is_plain c.args.elf.now.file.now c.requires.fits c.requires.sound (λ frames. let some = c.has_frames.ensures.frames.1 frames in absurd (cc))) c.args.elf.now c.requires.fields c.in-Ok.ensures.code.no_fault
+    much_code (is_plain c.args.elf.now.file.now c.requires.fits c.requires.sound (λ frames. let some =
+    c.has_frames.ensures.frames.1 frames in absurd (cc))) c.args.elf.now c.requires.fields c.in-Ok.ensures.code.no_fault
     (c.has_too_much_code.ensures.0 c.if-has_too_much_code.true) c.at-then-has_too_much_code.ensures
 
 pub returns-then-len-gt-FUNCTION_LIMIT-clause-fault : goal.returns-then-len-gt-FUNCTION_LIMIT-clause-fault
 returns-then-len-gt-FUNCTION_LIMIT-clause-fault c =
-    many_functions (is_plain c.args.elf.now.file.now c.requires.fits c.requires.sound (λ frames. let some = c.has_frames.ensures.frames.1 frames in absurd (cc))) c.args.elf.now c.requires.fields c.in-Ok.ensures.code.no_fault
-    (λ much. let some = c.has_too_much_code.ensures.1 much in absurd (cc)) c.in-Ok.code.funcs.items c.in-Ok.ensures.code.funcs (search rules) c.at-then-len-gt-FUNCTION_LIMIT.ensures
+    many_functions (is_plain c.args.elf.now.file.now c.requires.fits c.requires.sound (λ frames. let some =
+    c.has_frames.ensures.frames.1 frames in absurd (cc))) c.args.elf.now c.requires.fields c.in-Ok.ensures.code.no_fault
+    (λ much. let some = c.has_too_much_code.ensures.1 much in absurd (cc)) c.in-Ok.code.funcs.items c.in-Ok.ensures.code.funcs
+    (search rules) c.at-then-len-gt-FUNCTION_LIMIT.ensures
 
 pub returns-clause-faultless : goal.returns-clause-faultless
 returns-clause-faultless c = record {
-  plain = is_plain c.args.elf.now.file.now c.requires.fits c.requires.sound (λ frames. let some = c.has_frames.ensures.frames.1 frames in absurd (cc));
+  plain = is_plain c.args.elf.now.file.now c.requires.fits c.requires.sound
+      (λ frames. let some = c.has_frames.ensures.frames.1 frames in absurd (cc));
   read = c.requires.fields;
   code_sound = c.in-Ok.ensures.code.no_fault;
   code_fits = λ much. let some = c.has_too_much_code.ensures.1 much in absurd (cc);

@@ -15,18 +15,22 @@ pub returns-in-TooLong-clause-serves : goal.returns-in-TooLong-clause-serves
 returns-in-TooLong-clause-serves g c =
     let words : RunWords = run_read c.args.words.now in
     let old : World = world (g.F.Files.seen c.args.files.now) (g.I.Source.seen c.args.input.now) (g.O.Sink.seen c.args.out.now) in
-    let new : World = world (g.F.Files.seen c.read_all.new.self) (g.I.Source.seen c.args.input.now) (g.O.Sink.seen c.refuse.new.out) in
+    let new : World =
+    world (g.F.Files.seen c.read_all.new.self) (g.I.Source.seen c.args.input.now) (g.O.Sink.seen c.refuse.new.out) in
     refusal_serves words old new c.refuse.result c.at.result c.refuse.ensures.line c.in-TooLong.ensures.contents_kept
-    (λ told. present_long (old.files.content words.file) (λ file. file_limit < length file) (λ file. CannotRunSymbols file c.at.result) (λ file long. too_long long c.at.ensures) (c.in-TooLong.ensures.too_long refl told)) refl
+    (λ told. present_long (old.files.content words.file) (λ file. file_limit < length file) (λ file.
+    CannotRunSymbols file c.at.result) (λ file long. too_long long c.at.ensures) (c.in-TooLong.ensures.too_long refl told)) refl
     c.in-TooLong.ensures.goes_on c.refuse.ensures.never_falls
 
 pub returns-in-Failed-clause-serves : goal.returns-in-Failed-clause-serves
 returns-in-Failed-clause-serves g c =
     let words : RunWords = run_read c.args.words.now in
     let old : World = world (g.F.Files.seen c.args.files.now) (g.I.Source.seen c.args.input.now) (g.O.Sink.seen c.args.out.now) in
-    let new : World = world (g.F.Files.seen c.read_all.new.self) (g.I.Source.seen c.args.input.now) (g.O.Sink.seen c.args.out.now) in
+    let new : World =
+    world (g.F.Files.seen c.read_all.new.self) (g.I.Source.seen c.args.input.now) (g.O.Sink.seen c.args.out.now) in
     serves words old new status.ReadFault
-    (at_file refl (c.in-Failed.ensures.failed refl) (record { unprinted = refl; unwritten = c.in-Failed.ensures.contents_kept }) refl)
+    (at_file refl (c.in-Failed.ensures.failed refl)
+    (record { unprinted = refl; unwritten = c.in-Failed.ensures.contents_kept }) refl)
     (λ told file is. inl (read_fault refl))
     c.in-Failed.ensures.goes_on (omega arith) (omega arith)
 
@@ -34,7 +38,8 @@ pub returns-in-Memory-clause-serves : goal.returns-in-Memory-clause-serves
 returns-in-Memory-clause-serves g c =
     let words : RunWords = run_read c.args.words.now in
     let old : World = world (g.F.Files.seen c.args.files.now) (g.I.Source.seen c.args.input.now) (g.O.Sink.seen c.args.out.now) in
-    let new : World = world (g.F.Files.seen c.read_all.new.self) (g.I.Source.seen c.args.input.now) (g.O.Sink.seen c.args.out.now) in
+    let new : World =
+    world (g.F.Files.seen c.read_all.new.self) (g.I.Source.seen c.args.input.now) (g.O.Sink.seen c.args.out.now) in
     serves words old new status.NoMemory
     (before_run refl (record { unprinted = refl; unwritten = c.in-Memory.ensures.contents_kept }) refl)
     (λ told file is. inl (no_memory refl))
@@ -44,22 +49,29 @@ pub returns-in-Err-Fault-clause-serves : goal.returns-in-Err-Fault-clause-serves
 returns-in-Err-Fault-clause-serves g c =
     let words : RunWords = run_read c.args.words.now in
     let old : World = world (g.F.Files.seen c.args.files.now) (g.I.Source.seen c.args.input.now) (g.O.Sink.seen c.args.out.now) in
-    let new : World = world (g.F.Files.seen c.read_all.new.self) (g.I.Source.seen c.args.input.now) (g.O.Sink.seen c.refuse-in-Err-Fault.new.out) in
-    refusal_serves words old new c.refuse-in-Err-Fault.result c.in-Err-Fault.fault c.refuse-in-Err-Fault.ensures.line c.in-Done.ensures.contents_kept
+    let new : World =
+    world (g.F.Files.seen c.read_all.new.self) (g.I.Source.seen c.args.input.now) (g.O.Sink.seen c.refuse-in-Err-Fault.new.out) in
+    refusal_serves words old new c.refuse-in-Err-Fault.result c.in-Err-Fault.fault c.refuse-in-Err-Fault.ensures.line
+    c.in-Done.ensures.contents_kept
     (λ told. present_fault (old.files.content words.file) c.deref.result.now (λ file. CannotRunSymbols file c.in-Err-Fault.fault)
-    (passed_is (old.files.content words.file) c.read_all.new.into.items c.deref.result.now c.deref.result.now c.deref.ensures.value (c.in-Done.ensures.done refl told))
-    (unsound (subst (λ (f : List ℕ). length f ≤ file_limit) (sym c.deref.ensures.value) (c.in-Done.ensures.within_limit refl)) (rw c.in-Err-Fault.field-0-is at c.in-Err-Fault.ensures.refusal))) refl
+    (passed_is (old.files.content words.file) c.read_all.new.into.items c.deref.result.now c.deref.result.now
+    c.deref.ensures.value (c.in-Done.ensures.done refl told))
+    (unsound (subst (λ (f : List ℕ). length f ≤ file_limit) (sym c.deref.ensures.value) (c.in-Done.ensures.within_limit refl))
+    (rw c.in-Err-Fault.field-0-is at c.in-Err-Fault.ensures.refusal))) refl
     c.in-Done.ensures.goes_on c.refuse-in-Err-Fault.ensures.never_falls
 
 pub returns-in-Err-Fault-symbol_code-clause-serves : goal.returns-in-Err-Fault-symbol_code-clause-serves
 returns-in-Err-Fault-symbol_code-clause-serves g c =
     let words : RunWords = run_read c.args.words.now in
     let old : World = world (g.F.Files.seen c.args.files.now) (g.I.Source.seen c.args.input.now) (g.O.Sink.seen c.args.out.now) in
-    let new : World = world (g.F.Files.seen c.read_all.new.self) (g.I.Source.seen c.args.input.now) (g.O.Sink.seen c.refuse-in-Err-Fault-symbol_code.new.out) in
+    let new : World = world (g.F.Files.seen c.read_all.new.self) (g.I.Source.seen c.args.input.now)
+    (g.O.Sink.seen c.refuse-in-Err-Fault-symbol_code.new.out) in
     let kept : List ℕ = c.in-Ok.elf.file.now in
-    refusal_serves words old new c.refuse-in-Err-Fault-symbol_code.result c.in-Err-Fault-symbol_code.fault c.refuse-in-Err-Fault-symbol_code.ensures.line c.in-Done.ensures.contents_kept
+    refusal_serves words old new c.refuse-in-Err-Fault-symbol_code.result c.in-Err-Fault-symbol_code.fault
+    c.refuse-in-Err-Fault-symbol_code.ensures.line c.in-Done.ensures.contents_kept
     (λ told. present_fault (old.files.content words.file) kept (λ file. CannotRunSymbols file c.in-Err-Fault-symbol_code.fault)
-    (kept_is (old.files.content words.file) c.read_all.new.into.items c.deref.result.now kept c.deref.ensures.value c.in-Ok.ensures.fields.file_is (c.in-Done.ensures.done refl told))
+    (kept_is (old.files.content words.file) c.read_all.new.into.items c.deref.result.now kept c.deref.ensures.value
+    c.in-Ok.ensures.fields.file_is (c.in-Done.ensures.done refl told))
     (rw c.in-Err-Fault-symbol_code.field-0-is at c.in-Err-Fault-symbol_code.ensures.fault)) refl
     c.in-Done.ensures.goes_on c.refuse-in-Err-Fault-symbol_code.ensures.never_falls
 
@@ -67,7 +79,8 @@ pub returns-in-Err-Memory-symbol_code-clause-serves : goal.returns-in-Err-Memory
 returns-in-Err-Memory-symbol_code-clause-serves g c =
     let words : RunWords = run_read c.args.words.now in
     let old : World = world (g.F.Files.seen c.args.files.now) (g.I.Source.seen c.args.input.now) (g.O.Sink.seen c.args.out.now) in
-    let new : World = world (g.F.Files.seen c.read_all.new.self) (g.I.Source.seen c.args.input.now) (g.O.Sink.seen c.args.out.now) in
+    let new : World =
+    world (g.F.Files.seen c.read_all.new.self) (g.I.Source.seen c.args.input.now) (g.O.Sink.seen c.args.out.now) in
     serves words old new status.NoMemory
     (before_run refl (record { unprinted = refl; unwritten = c.in-Done.ensures.contents_kept }) refl)
     (λ told file is. inl (no_memory refl))
@@ -77,15 +90,20 @@ pub returns-clause-serves : goal.returns-clause-serves
 returns-clause-serves g c =
     let words : RunWords = run_read c.args.words.now in
     let old : World = world (g.F.Files.seen c.args.files.now) (g.I.Source.seen c.args.input.now) (g.O.Sink.seen c.args.out.now) in
-    let new : World = world (g.F.Files.seen c.read_all.new.self) (g.I.Source.seen c.run_program.new.input) (g.O.Sink.seen c.run_program.new.out) in
+    let new : World =
+    world (g.F.Files.seen c.read_all.new.self) (g.I.Source.seen c.run_program.new.input) (g.O.Sink.seen c.run_program.new.out) in
     let kept : List ℕ = c.in-Ok.elf.file.now in
-    let is = kept_is (old.files.content words.file) c.read_all.new.into.items c.deref.result.now kept c.deref.ensures.value c.in-Ok.ensures.fields.file_is in
+    let is = kept_is (old.files.content words.file) c.read_all.new.into.items c.deref.result.now kept c.deref.ensures.value
+    c.in-Ok.ensures.fields.file_is in
     let program = program_of c.in-Ok.elf c.in-Ok-symbol_code.code in
     serves words old new c.run_program.result
-    (goes_under_way words old new c.run_program.result kept program (λ told. is (c.in-Done.ensures.done refl told)) c.in-Ok-symbol_code.ensures.program c.in-Done.ensures.contents_kept c.run_program.ensures.answer)
-    (λ told file file_is. other_exact words old new c.run_program.result kept file program (is (c.in-Done.ensures.done refl told)) file_is c.in-Ok-symbol_code.ensures.program c.run_program.ensures.exact)
+    (goes_under_way words old new c.run_program.result kept program (λ told. is (c.in-Done.ensures.done refl told))
+    c.in-Ok-symbol_code.ensures.program c.in-Done.ensures.contents_kept c.run_program.ensures.answer)
+    (λ told file file_is. other_exact words old new c.run_program.result kept file program
+    (is (c.in-Done.ensures.done refl told)) file_is c.in-Ok-symbol_code.ensures.program c.run_program.ensures.exact)
     c.in-Done.ensures.goes_on c.run_program.ensures.reads c.run_program.ensures.writes
 
 pub returns-clause-input_kept : goal.returns-clause-input_kept
 returns-clause-input_kept g c =
-    keeps_input (program_of c.in-Ok.elf c.in-Ok-symbol_code.code) (run_read c.args.words.now) _ _ c.run_program.result c.args.input.now c.run_program.new.input c.run_program.ensures.answer
+    keeps_input (program_of c.in-Ok.elf c.in-Ok-symbol_code.code)
+    (run_read c.args.words.now) _ _ c.run_program.result c.args.input.now c.run_program.new.input c.run_program.ensures.answer

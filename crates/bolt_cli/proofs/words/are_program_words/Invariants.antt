@@ -8,4 +8,5 @@ abbrev pub invariant-loop-argument : goal.invariant-loop-argument
 invariant-loop-argument l =
     (goal.iterator-loop-argument).can_next l.argument-iterator ×
     (goal.iterator-loop-argument).is_finite l.argument-iterator ×
-    (are_program_words (positionals (arguments_of l.fn.arguments)) ≡ fits l.words_left l.bytes_left (positionals (arguments_of l.argument-iterator)))
+    (are_program_words (positionals (arguments_of l.fn.arguments))
+    ≡ fits l.words_left l.bytes_left (positionals (arguments_of l.argument-iterator)))

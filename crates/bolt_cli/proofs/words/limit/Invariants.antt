@@ -8,4 +8,5 @@ abbrev pub invariant-loop-argument : goal.invariant-loop-argument
 invariant-loop-argument l =
     (goal.iterator-loop-argument).can_next l.argument-iterator ×
     (goal.iterator-loop-argument).is_finite l.argument-iterator ×
-    (limit_of (values_of steps_name (arguments_of l.fn.arguments)) ≡ limit_after l.limit (values_of (codes "--steps") (arguments_of l.argument-iterator)))
+    (limit_of (values_of steps_name (arguments_of l.fn.arguments))
+    ≡ limit_after l.limit (values_of (codes "--steps") (arguments_of l.argument-iterator)))

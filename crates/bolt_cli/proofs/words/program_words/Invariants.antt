@@ -7,4 +7,5 @@ abbrev pub invariant-loop-argument : goal.invariant-loop-argument
 invariant-loop-argument l =
     (goal.iterator-loop-argument).can_next l.argument-iterator ×
     (goal.iterator-loop-argument).is_finite l.argument-iterator ×
-    (map string_bytes l.list.items ++ positionals (arguments_of l.argument-iterator) ≡ positionals (arguments_of l.fn.words.arguments))
+    (map string_bytes l.list.items ++ positionals (arguments_of l.argument-iterator)
+    ≡ positionals (arguments_of l.fn.words.arguments))
