@@ -98,7 +98,14 @@ with_encoding a x =
 
 abbrev pub with_table : Augmentation → Option Encoding → Augmentation
 with_table a x =
-    record { has_data = a.has_data; encoding = a.encoding; table = x; handler = a.handler; indirect = a.indirect; signal = a.signal }
+    record {
+      has_data = a.has_data;
+      encoding = a.encoding;
+      table = x;
+      handler = a.handler;
+      indirect = a.indirect;
+      signal = a.signal;
+    }
 
 abbrev pub with_handler : Augmentation → Bool → ℕ → Augmentation
 with_handler a b x =
@@ -106,7 +113,14 @@ with_handler a b x =
 
 abbrev pub with_signal : Augmentation → Augmentation
 with_signal a =
-    record { has_data = a.has_data; encoding = a.encoding; table = a.table; handler = a.handler; indirect = a.indirect; signal = true }
+    record {
+      has_data = a.has_data;
+      encoding = a.encoding;
+      table = a.table;
+      handler = a.handler;
+      indirect = a.indirect;
+      signal = true;
+    }
 
 abbrev pub encoding_of : ℕ → Option Encoding
 encoding_of b =

@@ -30,33 +30,41 @@ abbrev paths_at : ℕ → List (List ℕ)
 paths_at a = map (λ (r : RowSaid). r.path) (rows_at a)
 
 no_fault : line_fault sections ≡ None
-unfolding section op_at ops_within operations whole_within is_whole rows_from sequences_from sound_from in_force table_at header_in unit_of units_from
+unfolding section op_at ops_within operations whole_within is_whole rows_from sequences_from sound_from in_force table_at
+    header_in unit_of units_from
 no_fault = refl
 
 no_other_version : line_version sections ≡ None
-unfolding section op_at ops_within operations whole_within is_whole rows_from sequences_from sound_from in_force table_at header_in unit_of units_from
+unfolding section op_at ops_within operations whole_within is_whole rows_from sequences_from sound_from in_force table_at
+    header_in unit_of units_from
 no_other_version = refl
 
 before : lines_at 0x10077 ≡ []
-unfolding section op_at ops_within operations whole_within is_whole rows_from sequences_from sound_from in_force table_at header_in unit_of units_from
+unfolding section op_at ops_within operations whole_within is_whole rows_from sequences_from sound_from in_force table_at
+    header_in unit_of units_from
 before = refl
 
 first : lines_at 0x10078 ≡ 1 ∷ []
-unfolding section op_at ops_within operations whole_within is_whole rows_from sequences_from sound_from in_force table_at header_in unit_of units_from
+unfolding section op_at ops_within operations whole_within is_whole rows_from sequences_from sound_from in_force table_at
+    header_in unit_of units_from
 first = refl
 
 second : lines_at 0x10083 ≡ 2 ∷ []
-unfolding section op_at ops_within operations whole_within is_whole rows_from sequences_from sound_from in_force table_at header_in unit_of units_from
+unfolding section op_at ops_within operations whole_within is_whole rows_from sequences_from sound_from in_force table_at
+    header_in unit_of units_from
 second = refl
 
 third : lines_at 0x1008f ≡ 3 ∷ []
-unfolding section op_at ops_within operations whole_within is_whole rows_from sequences_from sound_from in_force table_at header_in unit_of units_from
+unfolding section op_at ops_within operations whole_within is_whole rows_from sequences_from sound_from in_force table_at
+    header_in unit_of units_from
 third = refl
 
 past : lines_at 0x10098 ≡ []
-unfolding section op_at ops_within operations whole_within is_whole rows_from sequences_from sound_from in_force table_at header_in unit_of units_from
+unfolding section op_at ops_within operations whole_within is_whole rows_from sequences_from sound_from in_force table_at
+    header_in unit_of units_from
 past = refl
 
 path : paths_at 0x10078 ≡ codes "/s/a.c" ∷ []
-unfolding section op_at ops_within operations whole_within is_whole rows_from sequences_from sound_from in_force table_at header_in unit_of units_from
+unfolding section op_at ops_within operations whole_within is_whole rows_from sequences_from sound_from in_force table_at
+    header_in unit_of units_from
 path = refl

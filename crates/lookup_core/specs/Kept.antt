@@ -18,7 +18,8 @@ use Rattle.line_rewrite.specs.Tables.{line_sections}
 -- the debug sections that are written anew, and those that aren't carried
 abbrev pub written_names : List (List ℕ)
 written_names =
-    codes ".debug_info" ∷ codes ".debug_abbrev" ∷ codes ".debug_addr" ∷ codes ".debug_line" ∷ codes ".debug_rnglists" ∷ codes ".debug_loclists"
+    codes ".debug_info" ∷ codes ".debug_abbrev" ∷ codes ".debug_addr" ∷ codes ".debug_line" ∷ codes ".debug_rnglists"
+    ∷ codes ".debug_loclists"
     ∷ codes ".debug_aranges" ∷ codes ".debug_frame" ∷ []
 
 abbrev pub dropped_names : List (List ℕ)

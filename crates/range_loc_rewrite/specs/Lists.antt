@@ -52,7 +52,12 @@ pub record Kind : Type 0 where
 
 abbrev pub ranges_kind : Kind
 ranges_kind =
-    record { item = range_item; base_name = DW_AT_rnglists_base; index_form = DW_FORM_rnglistx; names_list = λ name. name == DW_AT_ranges }
+    record {
+      item = range_item;
+      base_name = DW_AT_rnglists_base;
+      index_form = DW_FORM_rnglistx;
+      names_list = λ name. name == DW_AT_ranges;
+    }
 
 abbrev pub locations_kind : Kind
 locations_kind =
