@@ -1,13 +1,14 @@
 #!/usr/bin/env python3
 """Seconds and peak memory of reading large ELF files, beside those of `readelf -hSls`.
 
-    python3 bench/elf_reader.py [RUNS]
+    python3 bench/elf_reader.py [--tool COMMAND] [RUNS]
 
 The files are made in a temporary folder: one with a million symbols whose names end at the one zero byte at
-the table's end, and one with 65,000 section headers. Neither can be rewritten yet, so the program reads them
-and refuses them as NotBuilt. Each line has the file, the tool, the median of the seconds and the peak memory
-in MiB.
+the table's end, and one with 65,000 section headers. COMMAND (`./sudrepka` where it isn't given) reads them by
+`run --steps 0`. Each line has the file, the tool, the median of the seconds and the peak memory in MiB. It wants
+`readelf`.
 """
+import argparse
 import multiprocessing
 import os
 import statistics
@@ -74,9 +75,12 @@ def measure(words, runs):
 
 
 def main():
-    runs = int(sys.argv[1]) if len(sys.argv) > 1 else 5
-    program = os.path.join(ROOT, "sudrepka")
-    subprocess.run([program], stdout=subprocess.DEVNULL)  # proves and builds it, where it isn't built
+    words = argparse.ArgumentParser(description="seconds and peak memory of reading large ELF files")
+    words.add_argument("--tool", default=os.path.join(ROOT, "sudrepka"), help="the command that takes `run ..`")
+    words.add_argument("runs", nargs="?", type=int, default=5)
+    given = words.parse_args()
+    command = given.tool.split()
+    subprocess.run(command, stdout=subprocess.DEVNULL, check=False)  # proves and builds it, where it isn't built
     with tempfile.TemporaryDirectory() as folder:
         for name, symbols, sections in [("million-symbols", 1_000_000, 5), ("many-sections", 10, 65_000)]:
             path = os.path.join(folder, name)
@@ -84,12 +88,11 @@ def main():
             maker = multiprocessing.Process(target=write, args=(path, symbols, sections))
             maker.start()
             maker.join()
-            out = [os.path.join(folder, "out"), os.path.join(folder, "map")]
-            for tool, words in [
-                ("sudrepka", [program, "rewrite", path, "/dev/null", *out]),
+            for tool, line in [
+                ("sudrepka", [*command, "run", "--steps", "0", path]),
                 ("readelf", ["readelf", "-hSls", path]),
             ]:
-                seconds, peak = measure(words, runs)
+                seconds, peak = measure(line, given.runs)
                 print(f"{name:16} {tool:9} {seconds:8.3f} s {peak:8.1f} MiB")
 
 

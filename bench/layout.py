@@ -5,8 +5,8 @@
 
 The programs are those of `bench/programs`, and a program of many functions of which a few run often, each with much in it
 that seldom runs; it is made for so many functions (400 and 3,000 where none are given). Each is built by GCC with
-picolibc, as `real_programs.py` builds it; COMMAND (`./sudrepka` where it isn't given) rewrites it by a profile of the
-same run. Then `qemu-riscv64` runs both files and says each instruction's address, from which this counts
+picolibc, as `real_programs.py` builds it; COMMAND (`./sudrepka` where it isn't given) records a run of it, and rewrites it
+by that profile. Then `qemu-riscv64` runs both files and says each instruction's address, from which this counts
 
 - instructions, and those that went elsewhere than on (taken branches, jumps, calls and returns);
 - pages of 4096 bytes of code that were touched;
@@ -14,7 +14,8 @@ same run. Then `qemu-riscv64` runs both files and says each instruction's addres
   the longest time goes;
 - misses of 8 entries for pages of 4096 bytes, of which the same goes.
 
-Beside it stands `llvm-bolt-19` with the same profile, where it is there and its output runs.
+Beside it stands `llvm-bolt-19` with the same profile, where it is there and its output runs. It wants Debian's
+`gcc-riscv64-unknown-elf`, `picolibc-riscv64-unknown-elf` and `qemu-user`.
 """
 import argparse
 import os
@@ -125,11 +126,11 @@ def bolt_profile(path, old, new):
 
 def compare(tool, name, path, words, folder):
     profile, moved = os.path.join(folder, "profile"), os.path.join(folder, "moved")
-    record(tool, path, words, profile)
+    recorded = record(tool, path, words, profile)
     command = [*tool, "rewrite", path, profile, moved, os.path.join(folder, "map")]
     done = subprocess.run(command, capture_output=True, text=True, check=False)
     if done.returncode != 0:
-        print(f"{name:18} {done.stdout.strip() or 'no profile'}", flush=True)
+        print(f"{name:18} {recorded}; {done.stdout.strip() or done.returncode}", flush=True)
         return
     found = [("before", way_of(path, words))]
     os.chmod(moved, 0o755)
@@ -153,7 +154,7 @@ def main():
     words.add_argument("--tool", default=os.path.join(ROOT, "sudrepka"), help="the command that takes `rewrite ..`")
     words.add_argument("functions", nargs="*", type=int, default=[400, 3000])
     given = words.parse_args()
-    gcc = compilers()["gcc"]
+    gcc = compilers().get("gcc") or sys.exit(f"there is no {CROSS}gcc")
     with tempfile.TemporaryDirectory() as folder:
         path = os.path.join(folder, "program")
         for program in sorted(LONGER):

@@ -1,14 +1,19 @@
 #!/usr/bin/env python3
-"""Steps a second and memory of both machines, beside qemu-riscv64 on the same file.
+"""Steps a second and memory of both machines and of `record`, beside qemu-riscv64 on the same file.
 
-    python3 bench/machine.py [RUNS] [FILE..]
+    python3 bench/machine.py [--tool COMMAND] [--runs RUNS] [FILE..]
 
 Three executables are made in a temporary folder: a loop of ten million steps of arithmetic alone, one of which one step
-in four stores or loads eight bytes, all over 256 KiB, and one that stores 64 MiB once, eight bytes at a time. Any other
-static executables for RV64IMC may be named; one that the symbol machine refuses, or is stuck in, has no line for it.
-Each line has the program, the tool, the median of the user's and the system's seconds, millions of steps a second, and
-the greatest peak of memory.
+in four stores or loads eight bytes, all over 256 KiB, and one that stores 64 MiB once, eight bytes at a time. Where
+`riscv64-unknown-elf-gcc` and picolibc are there, a fourth is the C program `sorting` of `bench/programs`, of some 100
+million steps. Any other static executables for RV64IMC may be named; one that the symbol machine refuses, or is stuck
+in, has no line for it. COMMAND stands for `./sudrepka`.
+
+Each line has the program, the tool, the median of the user's and the system's seconds, millions of steps a second,
+their share of those on bytes, and the greatest peak of memory. `record` has to do at least half of the steps a second
+that are done on bytes.
 """
+import argparse
 import os
 import shutil
 import statistics
@@ -17,9 +22,11 @@ import subprocess
 import sys
 import tempfile
 
-ROOT = os.path.dirname(os.path.dirname(os.path.abspath(__file__)))
+sys.path.insert(0, os.path.dirname(os.path.abspath(__file__)))
+from real_programs import PROGRAMS, ROOT, build, compilers  # noqa: E402
+
 CODE_ADDRESS, DATA_ADDRESS, DATA_SIZE = 0x100B0, 0x50000, 0x400_0000
-PROGRAM = os.path.join(ROOT, "sudrepka")
+STEPS = ["--steps", "100000000000"]
 NAMES = b"\0.text\0.shstrtab\0"
 
 # li a7, 93; li a0, 7; ecall
@@ -100,32 +107,50 @@ def steps_in(printed):
     return int(last.split(" after ")[1].split()[0])
 
 
-def compare(name, path, runs):
-    """Runs a file on both machines and with the other tool."""
+def compare(command, name, path, words, runs):
+    """Runs a file on both machines, records it, and runs it with the other tool."""
     rows, steps = [], None
-    for machine, option in [("bytes", []), ("symbols", ["--symbols"])]:
-        seconds, peak, printed = measure([PROGRAM, "run", *option, "--steps", "100000000000", path], runs)
-        steps = steps_in(printed) or steps
-        if steps_in(printed):
-            rows.append((machine, seconds, peak))
+    with tempfile.NamedTemporaryFile() as profile:
+        lines = [
+            ("bytes", [*command, "run", *STEPS, path, *words]),
+            ("record", [*command, "record", *STEPS, path, profile.name, *words]),
+            ("symbols", [*command, "run", "--symbols", *STEPS, path, *words]),
+        ]
+        for machine, line in lines:
+            seconds, peak, printed = measure(line, runs)
+            steps = steps_in(printed) or steps
+            if steps_in(printed):
+                rows.append((machine, seconds, peak))
     if shutil.which("qemu-riscv64"):
-        rows.append(("qemu", *measure(["qemu-riscv64", path], runs)[:2]))
+        rows.append(("qemu", *measure(["qemu-riscv64", path, *words], runs)[:2]))
     for tool, seconds, peak in rows:
-        print(f"{name:12} {tool:9} {seconds:8.3f} s {steps / seconds / 1e6:9.1f} M/s {peak:8.1f} MiB")
+        speed, share = steps / seconds / 1e6, rows[0][1] / seconds
+        print(f"{name:12} {tool:9} {seconds:8.3f} s {speed:9.1f} M/s {share:6.2f} of bytes {peak:8.1f} MiB", flush=True)
 
 
 def main():
-    runs = int(sys.argv[1]) if len(sys.argv) > 1 else 5
-    subprocess.run([PROGRAM], stdout=subprocess.DEVNULL)  # proves and builds it, where it isn't built
+    words = argparse.ArgumentParser(description="steps a second and memory of both machines and of `record`")
+    words.add_argument("--tool", default=os.path.join(ROOT, "sudrepka"), help="the command that takes `run ..`")
+    words.add_argument("--runs", type=int, default=5)
+    words.add_argument("files", nargs="*")
+    given = words.parse_args()
+    command = given.tool.split()
+    subprocess.run(command, stdout=subprocess.DEVNULL, check=False)  # proves and builds it, where it isn't built
     with tempfile.TemporaryDirectory() as folder:
-        for name, words in [("arithmetic", ARITHMETIC), ("memory", MEMORY), ("stores", STORES)]:
+        for name, code in [("arithmetic", ARITHMETIC), ("memory", MEMORY), ("stores", STORES)]:
             path = os.path.join(folder, name)
             with open(path, "wb") as file:
-                file.write(executable(words))
+                file.write(executable(code))
             os.chmod(path, 0o755)
-            compare(name, path, runs)
-    for path in sys.argv[2:]:
-        compare(os.path.basename(path), path, runs)
+            compare(command, name, path, [], given.runs)
+        gcc = compilers().get("gcc")
+        if gcc:
+            path = os.path.join(folder, "sorting")
+            build(path, os.path.join(PROGRAMS, "sorting"), "gcc", gcc, "roomy", "-O2")
+            compare(command, "sorting", path, ["6000"], given.runs)
+    for path in given.files:
+        compare(command, os.path.basename(path), path, [], given.runs)
 
 
-main()
+if __name__ == "__main__":
+    main()

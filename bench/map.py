@@ -4,7 +4,7 @@
     python3 bench/map.py [RUNS]
 
 No command of the program makes so large a map, so the script puts a small program into a temporary folder, beside
-copies of the crates that it stands on, proves it, which takes some minutes, and runs it. The spans are once in the
+copies of the crates that it stands on, proves it by `rt`, which takes some minutes, and runs it. The spans are once in the
 order of their inputs, and once in blocks of eight that were dealt out. Look-ups go up through the map, and all over
 it. Each line has the median of the runs and millions of spans, look-ups or bytes of text a second.
 """

@@ -5,8 +5,7 @@
 
 Each program of `bench/programs` is compiled by GCC with GNU ld and by Clang with lld, with picolibc for RV64IMC, and
 linked with a script that leaves room behind the code and with the linker's own script with and without room. COMMAND
-(`./sudrepka` where it isn't given) rewrites each executable by a profile of a short run, which its `record` writes, or
-this script where there is no such command. Then
+(`./sudrepka` where it isn't given) records a short run of each executable and rewrites it by that profile. Then
 
 - `run` and `qemu-riscv64` have to say the same of both files, for a short and for a longer run, and `run --symbols` has to
   follow the input to its end;
@@ -15,7 +14,8 @@ this script where there is no such command. Then
 - `gdb` has to find the functions at their new addresses, and to read the same instructions there.
 
 A line for each file has the counts of steps before and after; a line for each problem follows it. The status is 0 where
-there is none.
+there is none. It wants Debian's `gcc-riscv64-unknown-elf` and `picolibc-riscv64-unknown-elf`, and leaves out what of
+`clang`, `lld`, `qemu-user`, `elfutils` and `gdb-multiarch` isn't there. FOLDER keeps all files.
 """
 import argparse
 import glob
@@ -205,11 +205,11 @@ class Checks:
 def check(tool, name, old, folder):
     """Rewrites an executable and prints what was found. Gives the number of problems."""
     path = lambda end: os.path.join(folder, f"{name}.{end}")
-    record(tool, old, [], path("profile"))
+    recorded = record(tool, old, [], path("profile"))
     command = [*tool, "rewrite", old, path("profile"), path("moved"), path("map")]
     done = subprocess.run(command, capture_output=True, text=True, check=False)
     if done.returncode != 0:
-        print(f"{name:30} {done.stdout.strip() or done.returncode}", flush=True)
+        print(f"{name:30} {recorded}; {done.stdout.strip() or done.returncode}", flush=True)
         return 1
     os.chmod(path("moved"), 0o755)
     checks = Checks(tool, old, path("moved"), path("map"))
@@ -232,6 +232,8 @@ def main():
     words.add_argument("programs", nargs="*", default=every)
     given = words.parse_args()
     tool = given.tool.split()
+    if not compilers():
+        sys.exit(f"there is no {CROSS}gcc")
     problems = 0
     with tempfile.TemporaryDirectory() as room:
         folder = given.keep or room

@@ -3,9 +3,9 @@
 
     python3 bench/references.py [RUNS]
 
-No command of the program reads the references of a file yet, so the script puts a small program into a temporary
-folder, beside copies of the crates that it stands on, proves it, which takes some minutes where they are new, and runs
-it. The files have 1, 2, 4 and 8 million instructions, 40 a function, and half as many relocations: for calls, branches,
+No command of the program says how long each of its steps takes, so the script puts a small program into a temporary
+folder, beside copies of the crates that it stands on, proves it by `rt`, which takes some minutes where they are new,
+and runs it. The files have 1, 2, 4 and 8 million instructions, 40 a function, and half as many relocations: for calls, branches,
 jumps, upper and lower parts of addresses, addresses of code in data, and differences of labels as switch tables have
 them. Each line has the medians of the runs, in seconds: to read the headers and symbols, and to find the starts of
 instructions, the references and the functions; then the seconds of all four, and the MiB of the whole process, for each
