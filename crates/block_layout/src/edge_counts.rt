@@ -34,7 +34,8 @@ pub fn counted_edges(
     requires blocks { All (IsOfFunction funcs.now) blocks.now }
     requires edges { All (IsWithin (length blocks.now)) edges.now }
     requires ordered { AllPairs IsPairBefore edges.now }
-    ensures counted { IfOk result (λ taken. AreCounted (edge_count (counts_of profile.now) funcs.now blocks.now) edges.now taken.items) }
+    ensures counted { IfOk result (λ taken.
+        AreCounted (edge_count (counts_of profile.now) funcs.now blocks.now) edges.now taken.items) }
     ensures sorted { IfOk result (λ taken. AllPairs IsKeyBefore taken.items) }
     ensures once { IfOk result (λ taken. AllPairs HaveOtherEnds taken.items) }
 {
@@ -58,7 +59,8 @@ pub fn counted_edges(
 fn count_along(funcs: &[Func], source: &Block, target: &Block, profile: &Profile) -> u128
     requires source { IsOfFunction funcs.now source.now }
     requires target { IsOfFunction funcs.now target.now }
-    ensures { result ≡ counts_of profile.now (address_in funcs.now source.now source.now.last) (address_in funcs.now target.now target.now.first) }
+    ensures { result ≡ counts_of profile.now (address_in funcs.now source.now source.now.last)
+        (address_in funcs.now target.now target.now.first) }
 {
     let last = address_in(funcs, source, source.last);
     let first = address_in(funcs, target, target.first);

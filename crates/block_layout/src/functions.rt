@@ -71,7 +71,8 @@ fn parts_from(
     requires weights { length weights.now ≡ length blocks.now }
     requires inner { AreInner blocks.now (links_of links.now) }
     requires firsts { (k : ℕ) → IsFirstBlock blocks.now k → slice_index_or links.now.prev.items k None ≡ None }
-    ensures parts { IfOk result (λ s. AreSplit blocks.now (λ k. slice_index weights.now k) (links_of links.now) func s.hot.items s.cold.items) }
+    ensures parts { IfOk result (λ s. AreSplit blocks.now (λ k. slice_index weights.now k) (links_of links.now) func
+        s.hot.items s.cold.items) }
     ensures next { IfOk result (λ s. IsStart blocks.now (func + 1) s.end) }
 {
     let end = end_of(blocks, start, func);

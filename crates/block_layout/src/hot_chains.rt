@@ -28,7 +28,8 @@ pub fn hot_chains(
     requires weights { length weights.now ≡ length links.now.next.items }
     requires inside { end ≤ length weights.now }
     requires some { start < end }
-    ensures chains { IfOk result (λ chains. AreHotBetween (links_of links.now) (λ k. slice_index weights.now k) start end chains.items) }
+    ensures chains { IfOk result (λ chains.
+        AreHotBetween (links_of links.now) (λ k. slice_index weights.now k) start end chains.items) }
     ensures sorted { IfOk result (λ chains. AllPairs IsUpTo chains.items) }
 {
     let mut chains = Vec::new(alloc);

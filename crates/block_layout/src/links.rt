@@ -26,7 +26,8 @@ pub struct ChainLinks {
 impl ChainLinks {
     // Each block is a chain of its own.
     fn new(alloc: Global, count: usize) -> Result<ChainLinks, NoMemory>
-        ensures sized { IfOk result (λ l. (length l.next.items ≡ count) × (length l.prev.items ≡ count) × (length l.head.items ≡ count) × (length l.tail.items ≡ count)) }
+        ensures sized { IfOk result (λ l. (length l.next.items ≡ count) × (length l.prev.items ≡ count) ×
+            (length l.head.items ≡ count) × (length l.tail.items ≡ count)) }
         ensures next { IfOk result (λ l. (x : ℕ) → slice_index_or l.next.items x None ≡ None) }
         ensures prev { IfOk result (λ l. (x : ℕ) → slice_index_or l.prev.items x None ≡ None) }
         ensures head { IfOk result (λ l. (x : ℕ) → x < count → slice_index l.head.items x ≡ x) }
@@ -49,7 +50,11 @@ impl ChainLinks {
         requires from_next { from < length self.now.next.items }
         requires to_prev { to < length self.now.prev.items }
         requires from_head { from < length self.now.head.items }
-        ensures { MatchBool result ((slice_index_or self.now.next.items from None ≡ None) × (slice_index_or self.now.prev.items to None ≡ None) × (is_first ≡ false) × (slice_index self.now.head.items from ≢ to)) ((slice_index_or self.now.next.items from None ≢ None) ⊎ ((slice_index_or self.now.prev.items to None ≢ None) ⊎ ((is_first ≡ true) ⊎ (slice_index self.now.head.items from ≡ to)))) }
+        ensures { MatchBool result
+            ((slice_index_or self.now.next.items from None ≡ None) × (slice_index_or self.now.prev.items to None ≡ None) ×
+            (is_first ≡ false) × (slice_index self.now.head.items from ≢ to))
+            ((slice_index_or self.now.next.items from None ≢ None) ⊎ ((slice_index_or self.now.prev.items to None ≢ None) ⊎
+            ((is_first ≡ true) ⊎ (slice_index self.now.head.items from ≡ to)))) }
     {
         self.next[from].is_none() && self.prev[to].is_none() && !is_first && self.head[from] != to
     }
@@ -64,8 +69,10 @@ impl ChainLinks {
         requires start { slice_index self.old.head.items from < length self.old.tail.items }
         ensures next { self.new.next.items ≡ slice_set self.old.next.items from (Some to) }
         ensures prev { self.new.prev.items ≡ slice_set self.old.prev.items to (Some from) }
-        ensures head { self.new.head.items ≡ slice_set self.old.head.items (slice_index self.old.tail.items to) (slice_index self.old.head.items from) }
-        ensures tail { self.new.tail.items ≡ slice_set self.old.tail.items (slice_index self.old.head.items from) (slice_index self.old.tail.items to) }
+        ensures head { self.new.head.items ≡
+            slice_set self.old.head.items (slice_index self.old.tail.items to) (slice_index self.old.head.items from) }
+        ensures tail { self.new.tail.items ≡
+            slice_set self.old.tail.items (slice_index self.old.head.items from) (slice_index self.old.tail.items to) }
     {
         let start = self.head[from];
         let end = self.tail[to];
@@ -79,8 +86,10 @@ impl ChainLinks {
 /// The chains that edges make of blocks, taken in their order.
 pub fn link_edges(alloc: Global, blocks: &[Block], edges: &[Edge]) -> Result<ChainLinks, NoMemory>
     requires blocks { AreApart blocks.now }
-    requires inside { (i : ℕ) → i < length edges.now → ((ends_at edges.now i).0 < length blocks.now) × ((ends_at edges.now i).1 < length blocks.now) }
-    ensures linked { IfOk result (λ l. IsLinked edges.now (length blocks.now) (IsFirstBlock blocks.now) (length edges.now) (told l.next.items l.prev.items)) }
+    requires inside { (i : ℕ) → i < length edges.now →
+        ((ends_at edges.now i).0 < length blocks.now) × ((ends_at edges.now i).1 < length blocks.now) }
+    ensures linked { IfOk result (λ l. IsLinked edges.now (length blocks.now) (IsFirstBlock blocks.now) (length edges.now)
+        (told l.next.items l.prev.items)) }
     ensures sized { IfOk result (λ l. (length l.next.items ≡ length blocks.now) × (length l.prev.items ≡ length blocks.now)) }
 {
     let mut links = ChainLinks::new(alloc, blocks.len())?;

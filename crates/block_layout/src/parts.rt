@@ -59,7 +59,8 @@ pub fn cold_part(
 fn marks(alloc: Global, hot: &[usize], start: usize, end: usize) -> Result<Vec<bool>, NoMemory>
     requires hot { All (λ k. (start ≤ k) × (k < end)) hot.now }
     ensures length { IfOk result (λ marks. length marks.items ≡ end - start) }
-    ensures marked { IfOk result (λ marks. (k : ℕ) → k < end - start → IsTrue (slice_index_or marks.items k false) ↔ Contains hot.now (start + k)) }
+    ensures marked { IfOk result (λ marks. (k : ℕ) → k < end - start →
+        IsTrue (slice_index_or marks.items k false) ↔ Contains hot.now (start + k)) }
 {
     let mut marks = vec![in alloc; false; end.saturating_sub(start)]?;
     for block in hot {
@@ -71,7 +72,8 @@ fn marks(alloc: Global, hot: &[usize], start: usize, end: usize) -> Result<Vec<b
 /// Whether a block from `start` to before `end` has some weight.
 pub fn is_hot(weights: &[u128], start: usize, end: usize) -> bool
     requires { end ≤ length weights.now }
-    ensures { MatchBool result ((k : ℕ) × (start ≤ k) × (k < end) × (0 < slice_index weights.now k)) ((k : ℕ) → start ≤ k → k < end → slice_index weights.now k ≡ 0) }
+    ensures { MatchBool result ((k : ℕ) × (start ≤ k) × (k < end) × (0 < slice_index weights.now k))
+        ((k : ℕ) → start ≤ k → k < end → slice_index weights.now k ≡ 0) }
 {
     for block in start..end {
         if weights[block] > 0 {

@@ -108,7 +108,8 @@ impl<'a> Arguments<'a> {
     // The next word, whatever it is.
     fn next_word(&mut self) -> Option<&'a str>
         ensures options { self.new.options ≡ self.old.options }
-        ensures some { IfSome result (λ word. map string_bytes self.old.words.now ≡ word.now ∷ map string_bytes self.new.words.now) }
+        ensures some { IfSome result (λ word.
+            map string_bytes self.old.words.now ≡ word.now ∷ map string_bytes self.new.words.now) }
         ensures none { IfNone result (self.old.words.now ≡ []) }
         ensures none_left { IfNone result (self.new.words.now ≡ []) }
     {
@@ -278,7 +279,8 @@ fn symbols(arguments: Arguments<'_>) -> Option<bool>
 
 // Takes the first positional word.
 fn first_positional<'a>(arguments: &mut Arguments<'a>) -> Option<&'a str>
-    ensures some { IfSome result (λ word. positionals (arguments_of arguments.old) ≡ word.now ∷ positionals (arguments_of arguments.new)) }
+    ensures some { IfSome result (λ word.
+        positionals (arguments_of arguments.old) ≡ word.now ∷ positionals (arguments_of arguments.new)) }
     ensures none { IfNone result (positionals (arguments_of arguments.old) ≡ []) }
 {
     while let Some(argument) = arguments.next() {

@@ -77,7 +77,8 @@ fn function_start(funcs: &[Func], digits: &[u8]) -> Option<u64>
 /// The address of a named place, if an instruction starts there.
 pub fn address_at(names: &FunctionNames, funcs: &[Func], place: &Place) -> Option<u64>
     requires { AreLaidOut funcs.now }
-    ensures { (symbols : List Symbol) → AreNamesOf symbols names.now → result ≡ address_at symbols funcs.now (place_read place.now) }
+    ensures { (symbols : List Symbol) → AreNamesOf symbols names.now →
+        result ≡ address_at symbols funcs.now (place_read place.now) }
 {
     match value_of_name(names, funcs, place.name) {
         Some(start) => code_address(funcs, start, place.offset),
@@ -108,7 +109,9 @@ fn add_value<'a>(
     name: &'a [u8],
     value: u64,
 ) -> Result<(), NoMemory>
-    ensures { OnOk result ((other : List ℕ) → known_of values.new other ≡ (if bytes_eq name.now other then Some (next_known (known_of values.old name.now) value) else known_of values.old other)) }
+    ensures { OnOk result ((other : List ℕ) → known_of values.new other ≡
+        (if bytes_eq name.now other then Some (next_known (known_of values.old name.now) value)
+        else known_of values.old other)) }
 {
     let next = next_value(values, name, value);
     values.insert(name, next)?;

@@ -28,7 +28,8 @@ pub struct Said {
 pub fn read(alloc: Global, text: &[u8], elf: &Elf, funcs: &[Func]) -> Result<Profile, NoMemory>
     requires text { length text.now ≤ 67108864 }
     requires funcs { AreLaidOut funcs.now }
-    ensures counts { IfOk result (λ profile. (from to : ℕ) → counts_of profile from to ≡ count_in text.now elf.now funcs.now from to) }
+    ensures counts { IfOk result (λ profile. (from to : ℕ) →
+        counts_of profile from to ≡ count_in text.now elf.now funcs.now from to) }
     ensures ignored { IfOk result (λ profile. ignored_of profile ≡ ignored_in text.now elf.now funcs.now) }
 {
     let names = FunctionNames::new(alloc, &elf.symbols)?;
@@ -47,7 +48,8 @@ fn said_in(
 ) -> Result<Said, NoMemory>
     requires text { length text.now ≤ 67108864 }
     requires funcs { AreLaidOut funcs.now }
-    ensures all { IfOk result (λ said. (symbols : List Symbol) → AreNamesOf symbols names.now → SaysAll symbols funcs.now text.now said) }
+    ensures all { IfOk result (λ said. (symbols : List Symbol) → AreNamesOf symbols names.now →
+        SaysAll symbols funcs.now text.now said) }
     ensures few { IfOk result (λ said. length said.counted.items ≤ length text.now) }
 {
     let mut counted = Vec::new(alloc);

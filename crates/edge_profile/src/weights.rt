@@ -37,7 +37,8 @@ fn add(weights: &mut [u128], funcs: &[Func], blocks: &[Block], pair: &(u64, u64,
     requires blocks { AreApart blocks.now }
     requires lengths { length weights.old ≡ length blocks.now }
     requires fits { (k : ℕ) → slice_index weights.old k + 2 * pair.now.2 < 2 ^ 128 }
-    ensures weights { (k : ℕ) (d : Block) → k < length blocks.now → slice_index weights.new k ≡ slice_index weights.old k + (if touches (insts_of_block funcs.now (slice_index_or blocks.now k d)) pair.now then pair.now.2 else 0) }
+    ensures weights { (k : ℕ) (d : Block) → k < length blocks.now → slice_index weights.new k ≡ slice_index weights.old k +
+        (if touches (insts_of_block funcs.now (slice_index_or blocks.now k d)) pair.now then pair.now.2 else 0) }
     ensures total { sum weights.new ≤ sum weights.old + 2 * pair.now.2 }
 {
     let from = block_at(funcs, blocks, pair.0);
@@ -95,7 +96,8 @@ fn block_at(funcs: &[Func], blocks: &[Block], address: u64) -> Option<usize>
 // The place of the block that has an instruction.
 fn block_with(blocks: &[Block], place: &InstPlace) -> Option<usize>
     requires { AreApart blocks.now }
-    ensures has { (k : ℕ) (d : Block) → k < length blocks.now → has_inst place.now.func place.now.inst (slice_index_or blocks.now k d) ≡ is_at k result }
+    ensures has { (k : ℕ) (d : Block) → k < length blocks.now →
+        has_inst place.now.func place.now.inst (slice_index_or blocks.now k d) ≡ is_at k result }
     ensures within { IfSome result (λ k. k < length blocks.now) }
 {
     let below = count_up_to(blocks, place);
@@ -113,8 +115,10 @@ fn block_with(blocks: &[Block], place: &InstPlace) -> Option<usize>
 fn count_up_to(blocks: &[Block], place: &InstPlace) -> usize
     requires { AreApart blocks.now }
     ensures bound { result ≤ length blocks.now }
-    ensures below { (k : ℕ) (d : Block) → k < result → begins_by place.now.func place.now.inst (slice_index_or blocks.now k d) ≡ true }
-    ensures above { (k : ℕ) (d : Block) → result ≤ k → k < length blocks.now → begins_by place.now.func place.now.inst (slice_index_or blocks.now k d) ≡ false }
+    ensures below { (k : ℕ) (d : Block) → k < result →
+        begins_by place.now.func place.now.inst (slice_index_or blocks.now k d) ≡ true }
+    ensures above { (k : ℕ) (d : Block) → result ≤ k → k < length blocks.now →
+        begins_by place.now.func place.now.inst (slice_index_or blocks.now k d) ≡ false }
 {
     blocks.partition_point(|b| begins_by(b, place))
 }

@@ -28,5 +28,14 @@ impl Model for FrameAt {
 
     ghost Value = { FrameAnswer };
 
-    ghost view = { λ x. record { row = x.row; ra = x.ra; handler = x.handler; indirect = x.indirect; table = x.table; signal = x.signal; start = x.start; marked = x.marked } };
+    ghost view = { λ x. record {
+      row = x.row;
+      ra = x.ra;
+      handler = x.handler;
+      indirect = x.indirect;
+      table = x.table;
+      signal = x.signal;
+      start = x.start;
+      marked = x.marked;
+    } };
 }

@@ -26,7 +26,17 @@ impl Model for LineRow {
 
     ghost Value = { RowSaid };
 
-    ghost view = { λ r. record { path = r.path.items; line = r.line; column = r.column; stmt = r.stmt; block = r.block; prologue = r.prologue; epilogue = r.epilogue; isa = r.isa; disc = r.disc } };
+    ghost view = { λ r. record {
+      path = r.path.items;
+      line = r.line;
+      column = r.column;
+      stmt = r.stmt;
+      block = r.block;
+      prologue = r.prologue;
+      epilogue = r.epilogue;
+      isa = r.isa;
+      disc = r.disc;
+    } };
 }
 
 /// What the first sequence that holds an address says there.

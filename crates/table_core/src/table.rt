@@ -53,8 +53,8 @@ pub trait AddrTable: Drop {
     /// A weight of the table that would be written for a map.
     ghost weighs: { Self → List Span → ℕ → Type 0 };
 
-    /// What has to hold for the table to be written with numbers of 32 bits: its sections are no larger than a file may be, and its
-    /// weight, or for a loaded table the end of what is written, is within its limit.
+    /// What has to hold for the table to be written with numbers of 32 bits: its sections are no larger than a file
+    /// may be, and its weight, or for a loaded table the end of what is written, is within its limit.
     ghost fits: { Self → List Span → List (Run Self.Answer) → Type 0 };
 
     /// A bound on the bytes of the written table.
@@ -82,8 +82,8 @@ pub trait AddrTable: Drop {
     fn at(&self, alloc: Global, a: u64) -> Result<Option<Self::Answer>, NoMemory>
         ensures { IfOk result (λ o. option_map said o ≡ holds self.now a) };
 
-    /// A weight of the table that would be written for a map, which bounds its size in bytes; or the greatest number, where the weight is
-    /// none of 64 bits.
+    /// A weight of the table that would be written for a map, which bounds its size in bytes; or the greatest number,
+    /// where the weight is none of 64 bits.
     fn weight(&self, alloc: Global, map: &AddrMap) -> Result<u64, NoMemory>
         ensures { IfOk result (λ n. (weight : ℕ) × weighs self.now map.now weight × (n ≡ min weight (2 ^ 64 - 1))) };
 
