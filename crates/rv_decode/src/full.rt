@@ -1,8 +1,8 @@
 // The four-byte instructions, by their opcode. ISA manual, sections 2.5, 2.7 and 2.8.
-ghost use Rattle.std.specs.Prelude.{◌≡◌, ℕ, IfSome, IfNone};
+ghost use Rattle.std.specs.Prelude.{◌≡◌};
 ghost use Rattle.rv_code.specs.isa.Bits.{field};
 ghost use Rattle.rv_code.specs.isa.FullRows.{IsFull};
-ghost use Rattle.rv_code.specs.declared.inst.Inst.{Inst};
+ghost use Rattle.rv_decode.specs.internal.Finding.{FindsOnly};
 
 use crate::field::{funct3, imm_b, imm_i, imm_j, rd, rs1, rs2};
 use crate::integer::{auipc, lui, op, op_32, op_imm, op_imm_32};
@@ -15,9 +15,7 @@ use rv_code::opcode::{
 
 /// The instruction of a word, or None where no row has it.
 pub fn decode_full(word: u32) -> Option<Inst>
-    ensures found { IfSome result (λ i. IsFull word i) }
-    ensures only { IfSome result (λ i. (j : Inst) → IsFull word j → j ≡ i) }
-    ensures none { IfNone result ((i : Inst) → IsFull word i → ⊥) }
+    ensures { FindsOnly (IsFull word) result }
 {
     match bits(word, 0, 7) {
         LUI => lui(word),
@@ -40,9 +38,7 @@ pub fn decode_full(word: u32) -> Option<Inst>
 /// JAL.
 fn jal(word: u32) -> Option<Inst>
     requires { field word 0 7 ≡ JAL }
-    ensures found { IfSome result (λ i. IsFull word i) }
-    ensures only { IfSome result (λ i. (j : Inst) → IsFull word j → j ≡ i) }
-    ensures none { IfNone result ((i : Inst) → IsFull word i → ⊥) }
+    ensures { FindsOnly (IsFull word) result }
 {
     Some(Inst::Jal {
         rd: rd(word),
@@ -53,9 +49,7 @@ fn jal(word: u32) -> Option<Inst>
 /// JALR.
 fn jalr(word: u32) -> Option<Inst>
     requires { field word 0 7 ≡ JALR }
-    ensures found { IfSome result (λ i. IsFull word i) }
-    ensures only { IfSome result (λ i. (j : Inst) → IsFull word j → j ≡ i) }
-    ensures none { IfNone result ((i : Inst) → IsFull word i → ⊥) }
+    ensures { FindsOnly (IsFull word) result }
 {
     if funct3(word) != 0 {
         return None;
@@ -71,9 +65,7 @@ fn jalr(word: u32) -> Option<Inst>
 /// A conditional branch.
 fn branch(word: u32) -> Option<Inst>
     requires { field word 0 7 ≡ BRANCH }
-    ensures found { IfSome result (λ i. IsFull word i) }
-    ensures only { IfSome result (λ i. (j : Inst) → IsFull word j → j ≡ i) }
-    ensures none { IfNone result ((i : Inst) → IsFull word i → ⊥) }
+    ensures { FindsOnly (IsFull word) result }
 {
     let rs1 = rs1(word);
     let rs2 = rs2(word);
@@ -92,9 +84,7 @@ fn branch(word: u32) -> Option<Inst>
 /// FENCE, whatever it orders.
 fn fence(word: u32) -> Option<Inst>
     requires { field word 0 7 ≡ MISC_MEM }
-    ensures found { IfSome result (λ i. IsFull word i) }
-    ensures only { IfSome result (λ i. (j : Inst) → IsFull word j → j ≡ i) }
-    ensures none { IfNone result ((i : Inst) → IsFull word i → ⊥) }
+    ensures { FindsOnly (IsFull word) result }
 {
     if funct3(word) != 0 {
         return None;
@@ -109,9 +99,7 @@ fn fence(word: u32) -> Option<Inst>
 /// ECALL or EBREAK.
 fn system(word: u32) -> Option<Inst>
     requires { field word 0 7 ≡ SYSTEM }
-    ensures found { IfSome result (λ i. IsFull word i) }
-    ensures only { IfSome result (λ i. (j : Inst) → IsFull word j → j ≡ i) }
-    ensures none { IfNone result ((i : Inst) → IsFull word i → ⊥) }
+    ensures { FindsOnly (IsFull word) result }
 {
     match word {
         0x0000_0073 => Some(Inst::Ecall),

@@ -1,8 +1,8 @@
 // The two-byte instructions, by their quadrant. ISA manual, section 26.8.
-ghost use Rattle.std.specs.Prelude.{◌≡◌, ℕ, IfSome, IfNone};
+ghost use Rattle.std.specs.Prelude.{◌≡◌};
 ghost use Rattle.rv_code.specs.isa.Bits.{field};
 ghost use Rattle.rv_code.specs.isa.HalfRows.{IsHalf};
-ghost use Rattle.rv_code.specs.declared.inst.Inst.{Inst};
+ghost use Rattle.rv_decode.specs.internal.Finding.{FindsOnly};
 
 use crate::compressed::{addi4spn_imm, double_offset, lower_register, upper_register, word_offset};
 use crate::quadrant1::quadrant1;
@@ -12,9 +12,7 @@ use rv_code::{Inst, STACK_POINTER};
 
 /// The instruction of a halfword, or None where no row has it.
 pub fn decode_half(half: u32) -> Option<Inst>
-    ensures found { IfSome result (λ i. IsHalf half i) }
-    ensures only { IfSome result (λ i. (j : Inst) → IsHalf half j → j ≡ i) }
-    ensures none { IfNone result ((i : Inst) → IsHalf half i → ⊥) }
+    ensures { FindsOnly (IsHalf half) result }
 {
     match bits(half, 0, 2) {
         0 => quadrant0(half),
@@ -27,9 +25,7 @@ pub fn decode_half(half: u32) -> Option<Inst>
 /// Loads and stores at registers 8 to 15, and C.ADDI4SPN.
 fn quadrant0(half: u32) -> Option<Inst>
     requires { field half 0 2 ≡ 0 }
-    ensures found { IfSome result (λ i. IsHalf half i) }
-    ensures only { IfSome result (λ i. (j : Inst) → IsHalf half j → j ≡ i) }
-    ensures none { IfNone result ((i : Inst) → IsHalf half i → ⊥) }
+    ensures { FindsOnly (IsHalf half) result }
 {
     let upper = upper_register(half);
     let lower = lower_register(half);
@@ -63,9 +59,7 @@ fn quadrant0(half: u32) -> Option<Inst>
 fn addi4spn(half: u32) -> Option<Inst>
     requires quadrant { field half 0 2 ≡ 0 }
     requires funct3 { field half 13 3 ≡ 0 }
-    ensures found { IfSome result (λ i. IsHalf half i) }
-    ensures only { IfSome result (λ i. (j : Inst) → IsHalf half j → j ≡ i) }
-    ensures none { IfNone result ((i : Inst) → IsHalf half i → ⊥) }
+    ensures { FindsOnly (IsHalf half) result }
 {
     let imm = addi4spn_imm(half);
     let reserved = imm == 0;

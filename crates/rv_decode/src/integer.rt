@@ -1,8 +1,8 @@
 // Integer computations. ISA manual, sections 2.4, 4.2, 13.1 and 13.2.
-ghost use Rattle.std.specs.Prelude.{◌≡◌, ◌⊎◌, ℕ, IfSome, IfNone};
+ghost use Rattle.std.specs.Prelude.{◌≡◌, ◌⊎◌};
 ghost use Rattle.rv_code.specs.isa.Bits.{field};
 ghost use Rattle.rv_code.specs.isa.FullRows.{IsFull};
-ghost use Rattle.rv_code.specs.declared.inst.Inst.{Inst};
+ghost use Rattle.rv_decode.specs.internal.Finding.{FindsOnly};
 
 use crate::field::{funct3, funct6, funct7, imm_i, imm_u, rd, rs1, rs2};
 use rv_code::Inst;
@@ -12,9 +12,7 @@ use rv_code::opcode::{AUIPC, LUI, OP, OP_32, OP_IMM, OP_IMM_32};
 /// LUI.
 pub fn lui(word: u32) -> Option<Inst>
     requires { field word 0 7 ≡ LUI }
-    ensures found { IfSome result (λ i. IsFull word i) }
-    ensures only { IfSome result (λ i. (j : Inst) → IsFull word j → j ≡ i) }
-    ensures none { IfNone result ((i : Inst) → IsFull word i → ⊥) }
+    ensures { FindsOnly (IsFull word) result }
 {
     Some(Inst::Lui {
         rd: rd(word),
@@ -25,9 +23,7 @@ pub fn lui(word: u32) -> Option<Inst>
 /// AUIPC.
 pub fn auipc(word: u32) -> Option<Inst>
     requires { field word 0 7 ≡ AUIPC }
-    ensures found { IfSome result (λ i. IsFull word i) }
-    ensures only { IfSome result (λ i. (j : Inst) → IsFull word j → j ≡ i) }
-    ensures none { IfNone result ((i : Inst) → IsFull word i → ⊥) }
+    ensures { FindsOnly (IsFull word) result }
 {
     Some(Inst::Auipc {
         rd: rd(word),
@@ -38,9 +34,7 @@ pub fn auipc(word: u32) -> Option<Inst>
 /// An operation with an immediate.
 pub fn op_imm(word: u32) -> Option<Inst>
     requires { field word 0 7 ≡ OP_IMM }
-    ensures found { IfSome result (λ i. IsFull word i) }
-    ensures only { IfSome result (λ i. (j : Inst) → IsFull word j → j ≡ i) }
-    ensures none { IfNone result ((i : Inst) → IsFull word i → ⊥) }
+    ensures { FindsOnly (IsFull word) result }
 {
     let rd = rd(word);
     let rs1 = rs1(word);
@@ -60,9 +54,7 @@ pub fn op_imm(word: u32) -> Option<Inst>
 fn shift_imm(word: u32) -> Option<Inst>
     requires opcode { field word 0 7 ≡ OP_IMM }
     requires funct3 { (field word 12 3 ≡ 1) ⊎ (field word 12 3 ≡ 5) }
-    ensures found { IfSome result (λ i. IsFull word i) }
-    ensures only { IfSome result (λ i. (j : Inst) → IsFull word j → j ≡ i) }
-    ensures none { IfNone result ((i : Inst) → IsFull word i → ⊥) }
+    ensures { FindsOnly (IsFull word) result }
 {
     let rd = rd(word);
     let rs1 = rs1(word);
@@ -78,9 +70,7 @@ fn shift_imm(word: u32) -> Option<Inst>
 /// An operation on two registers.
 pub fn op(word: u32) -> Option<Inst>
     requires { field word 0 7 ≡ OP }
-    ensures found { IfSome result (λ i. IsFull word i) }
-    ensures only { IfSome result (λ i. (j : Inst) → IsFull word j → j ≡ i) }
-    ensures none { IfNone result ((i : Inst) → IsFull word i → ⊥) }
+    ensures { FindsOnly (IsFull word) result }
 {
     let rd = rd(word);
     let rs1 = rs1(word);
@@ -105,9 +95,7 @@ pub fn op(word: u32) -> Option<Inst>
 fn multiply(word: u32) -> Option<Inst>
     requires opcode { field word 0 7 ≡ OP }
     requires funct7 { field word 25 7 ≡ 1 }
-    ensures found { IfSome result (λ i. IsFull word i) }
-    ensures only { IfSome result (λ i. (j : Inst) → IsFull word j → j ≡ i) }
-    ensures none { IfNone result ((i : Inst) → IsFull word i → ⊥) }
+    ensures { FindsOnly (IsFull word) result }
 {
     let rd = rd(word);
     let rs1 = rs1(word);
@@ -128,9 +116,7 @@ fn multiply(word: u32) -> Option<Inst>
 /// An operation with an immediate, on 32 bits.
 pub fn op_imm_32(word: u32) -> Option<Inst>
     requires { field word 0 7 ≡ OP_IMM_32 }
-    ensures found { IfSome result (λ i. IsFull word i) }
-    ensures only { IfSome result (λ i. (j : Inst) → IsFull word j → j ≡ i) }
-    ensures none { IfNone result ((i : Inst) → IsFull word i → ⊥) }
+    ensures { FindsOnly (IsFull word) result }
 {
     let rd = rd(word);
     let rs1 = rs1(word);
@@ -153,9 +139,7 @@ pub fn op_imm_32(word: u32) -> Option<Inst>
 /// An operation on two registers, on 32 bits.
 pub fn op_32(word: u32) -> Option<Inst>
     requires { field word 0 7 ≡ OP_32 }
-    ensures found { IfSome result (λ i. IsFull word i) }
-    ensures only { IfSome result (λ i. (j : Inst) → IsFull word j → j ≡ i) }
-    ensures none { IfNone result ((i : Inst) → IsFull word i → ⊥) }
+    ensures { FindsOnly (IsFull word) result }
 {
     let rd = rd(word);
     let rs1 = rs1(word);

@@ -1,8 +1,8 @@
 // Loads and stores. ISA manual, sections 2.6 and 4.3.
-ghost use Rattle.std.specs.Prelude.{◌≡◌, ℕ, IfSome, IfNone};
+ghost use Rattle.std.specs.Prelude.{◌≡◌};
 ghost use Rattle.rv_code.specs.isa.Bits.{field};
 ghost use Rattle.rv_code.specs.isa.FullRows.{IsFull};
-ghost use Rattle.rv_code.specs.declared.inst.Inst.{Inst};
+ghost use Rattle.rv_decode.specs.internal.Finding.{FindsOnly};
 
 use crate::field::{funct3, imm_i, imm_s, rd, rs1, rs2};
 use rv_code::Inst;
@@ -11,9 +11,7 @@ use rv_code::opcode::{LOAD, STORE};
 /// A load.
 pub fn load(word: u32) -> Option<Inst>
     requires { field word 0 7 ≡ LOAD }
-    ensures found { IfSome result (λ i. IsFull word i) }
-    ensures only { IfSome result (λ i. (j : Inst) → IsFull word j → j ≡ i) }
-    ensures none { IfNone result ((i : Inst) → IsFull word i → ⊥) }
+    ensures { FindsOnly (IsFull word) result }
 {
     let rd = rd(word);
     let rs1 = rs1(word);
@@ -33,9 +31,7 @@ pub fn load(word: u32) -> Option<Inst>
 /// A store.
 pub fn store(word: u32) -> Option<Inst>
     requires { field word 0 7 ≡ STORE }
-    ensures found { IfSome result (λ i. IsFull word i) }
-    ensures only { IfSome result (λ i. (j : Inst) → IsFull word j → j ≡ i) }
-    ensures none { IfNone result ((i : Inst) → IsFull word i → ⊥) }
+    ensures { FindsOnly (IsFull word) result }
 {
     let rs1 = rs1(word);
     let rs2 = rs2(word);

@@ -1,9 +1,9 @@
 // Quadrant 1 of the two-byte instructions: constants, arithmetic, jumps and branches. ISA manual, table
 // "RVC opcode map".
-ghost use Rattle.std.specs.Prelude.{◌≡◌, ℕ, IfSome, IfNone};
+ghost use Rattle.std.specs.Prelude.{◌≡◌};
 ghost use Rattle.rv_code.specs.isa.Bits.{field};
 ghost use Rattle.rv_code.specs.isa.HalfRows.{IsHalf};
-ghost use Rattle.rv_code.specs.declared.inst.Inst.{Inst};
+ghost use Rattle.rv_decode.specs.internal.Finding.{FindsOnly};
 
 use crate::compressed::{
     addi16sp_imm, branch_offset, jump_offset, lower_register, signed_six, six_bits, upper_register,
@@ -15,9 +15,7 @@ use rv_code::{Inst, STACK_POINTER, ZERO};
 /// The rows of quadrant 1.
 pub fn quadrant1(half: u32) -> Option<Inst>
     requires { field half 0 2 ≡ 1 }
-    ensures found { IfSome result (λ i. IsHalf half i) }
-    ensures only { IfSome result (λ i. (j : Inst) → IsHalf half j → j ≡ i) }
-    ensures none { IfNone result ((i : Inst) → IsHalf half i → ⊥) }
+    ensures { FindsOnly (IsHalf half) result }
 {
     let rd = rd(half);
     let imm = signed_six(half);
@@ -49,9 +47,7 @@ pub fn quadrant1(half: u32) -> Option<Inst>
 fn addiw(half: u32) -> Option<Inst>
     requires quadrant { field half 0 2 ≡ 1 }
     requires funct3 { field half 13 3 ≡ 1 }
-    ensures found { IfSome result (λ i. IsHalf half i) }
-    ensures only { IfSome result (λ i. (j : Inst) → IsHalf half j → j ≡ i) }
-    ensures none { IfNone result ((i : Inst) → IsHalf half i → ⊥) }
+    ensures { FindsOnly (IsHalf half) result }
 {
     let rd = rd(half);
     if rd == ZERO {
@@ -68,9 +64,7 @@ fn addiw(half: u32) -> Option<Inst>
 fn upper_immediate(half: u32) -> Option<Inst>
     requires quadrant { field half 0 2 ≡ 1 }
     requires funct3 { field half 13 3 ≡ 3 }
-    ensures found { IfSome result (λ i. IsHalf half i) }
-    ensures only { IfSome result (λ i. (j : Inst) → IsHalf half j → j ≡ i) }
-    ensures none { IfNone result ((i : Inst) → IsHalf half i → ⊥) }
+    ensures { FindsOnly (IsHalf half) result }
 {
     let rd = rd(half);
     if rd == STACK_POINTER {
@@ -91,9 +85,7 @@ fn addi16sp(half: u32) -> Option<Inst>
     requires quadrant { field half 0 2 ≡ 1 }
     requires funct3 { field half 13 3 ≡ 3 }
     requires rd { field half 7 5 ≡ 2 }
-    ensures found { IfSome result (λ i. IsHalf half i) }
-    ensures only { IfSome result (λ i. (j : Inst) → IsHalf half j → j ≡ i) }
-    ensures none { IfNone result ((i : Inst) → IsHalf half i → ⊥) }
+    ensures { FindsOnly (IsHalf half) result }
 {
     let imm = addi16sp_imm(half);
     if imm == 0 {
@@ -110,9 +102,7 @@ fn addi16sp(half: u32) -> Option<Inst>
 fn arithmetic(half: u32) -> Option<Inst>
     requires quadrant { field half 0 2 ≡ 1 }
     requires funct3 { field half 13 3 ≡ 4 }
-    ensures found { IfSome result (λ i. IsHalf half i) }
-    ensures only { IfSome result (λ i. (j : Inst) → IsHalf half j → j ≡ i) }
-    ensures none { IfNone result ((i : Inst) → IsHalf half i → ⊥) }
+    ensures { FindsOnly (IsHalf half) result }
 {
     let rd = upper_register(half);
     match bits(half, 10, 2) {
@@ -140,9 +130,7 @@ fn arithmetic_pair(half: u32) -> Option<Inst>
     requires quadrant { field half 0 2 ≡ 1 }
     requires funct3 { field half 13 3 ≡ 4 }
     requires kind { field half 10 2 ≡ 3 }
-    ensures found { IfSome result (λ i. IsHalf half i) }
-    ensures only { IfSome result (λ i. (j : Inst) → IsHalf half j → j ≡ i) }
-    ensures none { IfNone result ((i : Inst) → IsHalf half i → ⊥) }
+    ensures { FindsOnly (IsHalf half) result }
 {
     let rd = upper_register(half);
     let rs2 = lower_register(half);

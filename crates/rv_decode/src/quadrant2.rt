@@ -1,9 +1,9 @@
 // Quadrant 2 of the two-byte instructions: shifts, the stack, jumps to registers and moves. ISA manual,
 // table "RVC opcode map".
-ghost use Rattle.std.specs.Prelude.{◌≡◌, ◌⊎◌, ℕ, IfSome, IfNone};
+ghost use Rattle.std.specs.Prelude.{◌≡◌, ◌⊎◌};
 ghost use Rattle.rv_code.specs.isa.Bits.{field};
 ghost use Rattle.rv_code.specs.isa.HalfRows.{IsHalf};
-ghost use Rattle.rv_code.specs.declared.inst.Inst.{Inst};
+ghost use Rattle.rv_decode.specs.internal.Finding.{FindsOnly};
 
 use crate::compressed::{
     load_double_sp, load_word_sp, rs2, six_bits, store_double_sp, store_word_sp,
@@ -15,9 +15,7 @@ use rv_code::{Inst, RETURN_ADDRESS, STACK_POINTER, ZERO};
 /// The rows of quadrant 2.
 pub fn quadrant2(half: u32) -> Option<Inst>
     requires { field half 0 2 ≡ 2 }
-    ensures found { IfSome result (λ i. IsHalf half i) }
-    ensures only { IfSome result (λ i. (j : Inst) → IsHalf half j → j ≡ i) }
-    ensures none { IfNone result ((i : Inst) → IsHalf half i → ⊥) }
+    ensures { FindsOnly (IsHalf half) result }
 {
     let rd = rd(half);
     let rs2 = rs2(half);
@@ -47,9 +45,7 @@ pub fn quadrant2(half: u32) -> Option<Inst>
 fn load_from_stack(half: u32) -> Option<Inst>
     requires quadrant { field half 0 2 ≡ 2 }
     requires funct3 { (field half 13 3 ≡ 2) ⊎ (field half 13 3 ≡ 3) }
-    ensures found { IfSome result (λ i. IsHalf half i) }
-    ensures only { IfSome result (λ i. (j : Inst) → IsHalf half j → j ≡ i) }
-    ensures none { IfNone result ((i : Inst) → IsHalf half i → ⊥) }
+    ensures { FindsOnly (IsHalf half) result }
 {
     let rd = rd(half);
     if rd == ZERO {
@@ -74,9 +70,7 @@ fn load_from_stack(half: u32) -> Option<Inst>
 fn register_pair(half: u32) -> Option<Inst>
     requires quadrant { field half 0 2 ≡ 2 }
     requires funct3 { field half 13 3 ≡ 4 }
-    ensures found { IfSome result (λ i. IsHalf half i) }
-    ensures only { IfSome result (λ i. (j : Inst) → IsHalf half j → j ≡ i) }
-    ensures none { IfNone result ((i : Inst) → IsHalf half i → ⊥) }
+    ensures { FindsOnly (IsHalf half) result }
 {
     let rd = rd(half);
     let rs2 = rs2(half);
@@ -95,9 +89,7 @@ fn jump_to_register(half: u32) -> Option<Inst>
     requires quadrant { field half 0 2 ≡ 2 }
     requires funct3 { field half 13 3 ≡ 4 }
     requires rs2 { field half 2 5 ≡ 0 }
-    ensures found { IfSome result (λ i. IsHalf half i) }
-    ensures only { IfSome result (λ i. (j : Inst) → IsHalf half j → j ≡ i) }
-    ensures none { IfNone result ((i : Inst) → IsHalf half i → ⊥) }
+    ensures { FindsOnly (IsHalf half) result }
 {
     let rs1 = rd(half);
     match (bits(half, 12, 1), rs1) {

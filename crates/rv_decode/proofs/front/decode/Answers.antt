@@ -8,4 +8,4 @@ returns-in-Some-decode_half-clause-only c =
 
 pub returns-in-None-decode_half-clause-none : goal.returns-in-None-decode_half-clause-none
 returns-in-None-decode_half-clause-none c =
-    λ i bytes d. elim d [ inl p ↦ c.in-None-decode_half.ensures.none i p.row | inr p ↦ absurd (omega (arith, p.is_full)) ]
+    λ i bytes d. elim d [ inl p ↦ c.in-None-decode_half.ensures i p.row | inr p ↦ absurd (omega (arith, p.is_full)) ]

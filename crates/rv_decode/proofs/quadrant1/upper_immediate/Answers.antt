@@ -3,5 +3,5 @@ use Rattle.std.proofs.Common.{rules}
 use Rattle.rv_code.specs.isa.HalfRows.{C_LUI}
 use Rattle.rv_decode.proofs.quadrant1.upper_immediate.Goals as goal
 
-pub returns-clause-found : goal.returns-clause-found
-returns-clause-found c = (C_LUI, search rules, search rules)
+pub returns : goal.returns
+returns c = record { found = (C_LUI, search rules, search rules); only = search rules }
