@@ -5,7 +5,7 @@ ghost use Rattle.rv_code.specs.isa.FullRows.{IsFull};
 ghost use Rattle.rv_decode.specs.internal.Finding.{FindsOnly};
 
 use crate::field::{funct3, imm_b, imm_i, imm_j, rd, rs1, rs2};
-use crate::integer::{auipc, lui, op, op_32, op_imm, op_imm_32};
+use crate::integer::{op, op_32, op_imm, op_imm_32, upper_immediate};
 use crate::memory::{load, store};
 use rv_code::Inst;
 use rv_code::field::bits;
@@ -18,8 +18,7 @@ pub fn decode_full(word: u32) -> Option<Inst>
     ensures { FindsOnly (IsFull word) result }
 {
     match bits(word, 0, 7) {
-        LUI => lui(word),
-        AUIPC => auipc(word),
+        LUI | AUIPC => upper_immediate(word),
         JAL => jal(word),
         JALR => jalr(word),
         BRANCH => branch(word),

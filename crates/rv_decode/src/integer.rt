@@ -9,26 +9,18 @@ use rv_code::Inst;
 use rv_code::field::bits;
 use rv_code::opcode::{AUIPC, LUI, OP, OP_32, OP_IMM, OP_IMM_32};
 
-/// LUI.
-pub fn lui(word: u32) -> Option<Inst>
-    requires { field word 0 7 ≡ LUI }
+/// LUI or AUIPC.
+pub fn upper_immediate(word: u32) -> Option<Inst>
+    requires { (field word 0 7 ≡ LUI) ⊎ (field word 0 7 ≡ AUIPC) }
     ensures { FindsOnly (IsFull word) result }
 {
-    Some(Inst::Lui {
-        rd: rd(word),
-        imm: imm_u(word),
-    })
-}
-
-/// AUIPC.
-pub fn auipc(word: u32) -> Option<Inst>
-    requires { field word 0 7 ≡ AUIPC }
-    ensures { FindsOnly (IsFull word) result }
-{
-    Some(Inst::Auipc {
-        rd: rd(word),
-        imm: imm_u(word),
-    })
+    let rd = rd(word);
+    let imm = imm_u(word);
+    if bits(word, 0, 7) == LUI {
+        Some(Inst::Lui { rd, imm })
+    } else {
+        Some(Inst::Auipc { rd, imm })
+    }
 }
 
 /// An operation with an immediate.
@@ -86,29 +78,14 @@ pub fn op(word: u32) -> Option<Inst>
         (0x00, 7) => Some(Inst::And { rd, rs1, rs2 }),
         (0x20, 0) => Some(Inst::Sub { rd, rs1, rs2 }),
         (0x20, 5) => Some(Inst::Sra { rd, rs1, rs2 }),
-        (0x01, _) => multiply(word),
-        _ => None,
-    }
-}
-
-/// A multiplication or division.
-fn multiply(word: u32) -> Option<Inst>
-    requires opcode { field word 0 7 ≡ OP }
-    requires funct7 { field word 25 7 ≡ 1 }
-    ensures { FindsOnly (IsFull word) result }
-{
-    let rd = rd(word);
-    let rs1 = rs1(word);
-    let rs2 = rs2(word);
-    match funct3(word) {
-        0 => Some(Inst::Mul { rd, rs1, rs2 }),
-        1 => Some(Inst::Mulh { rd, rs1, rs2 }),
-        2 => Some(Inst::Mulhsu { rd, rs1, rs2 }),
-        3 => Some(Inst::Mulhu { rd, rs1, rs2 }),
-        4 => Some(Inst::Div { rd, rs1, rs2 }),
-        5 => Some(Inst::Divu { rd, rs1, rs2 }),
-        6 => Some(Inst::Rem { rd, rs1, rs2 }),
-        7 => Some(Inst::Remu { rd, rs1, rs2 }),
+        (0x01, 0) => Some(Inst::Mul { rd, rs1, rs2 }),
+        (0x01, 1) => Some(Inst::Mulh { rd, rs1, rs2 }),
+        (0x01, 2) => Some(Inst::Mulhsu { rd, rs1, rs2 }),
+        (0x01, 3) => Some(Inst::Mulhu { rd, rs1, rs2 }),
+        (0x01, 4) => Some(Inst::Div { rd, rs1, rs2 }),
+        (0x01, 5) => Some(Inst::Divu { rd, rs1, rs2 }),
+        (0x01, 6) => Some(Inst::Rem { rd, rs1, rs2 }),
+        (0x01, 7) => Some(Inst::Remu { rd, rs1, rs2 }),
         _ => None,
     }
 }
