@@ -11,13 +11,8 @@ pub fn upper_of_distance(part: Role, address: u64) -> Option<Value>
     ensures { result ≡ upper_of_distance part address }
 {
     match part {
-        Role::Hi { .. } => Some(Value::Sym(Symbol::Hi(address))),
-        Role::CallHi { .. } => Some(Value::Sym(Symbol::Hi(address))),
-        Role::Plain => None,
-        Role::CallLo { .. } => None,
-        Role::Lo { .. } => None,
-        Role::AbsHi { .. } => None,
-        Role::AbsLo { .. } => None,
+        Role::Hi { .. } | Role::CallHi { .. } => Some(Value::Sym(Symbol::Hi(address))),
+        _ => None,
     }
 }
 
@@ -27,12 +22,7 @@ pub fn upper_of_address(part: Role, number: u64) -> Value
 {
     match part {
         Role::AbsHi { target } => Value::Sym(Symbol::Abs(target)),
-        Role::Plain => Value::Num(number),
-        Role::CallHi { .. } => Value::Num(number),
-        Role::CallLo { .. } => Value::Num(number),
-        Role::Hi { .. } => Value::Num(number),
-        Role::Lo { .. } => Value::Num(number),
-        Role::AbsLo { .. } => Value::Num(number),
+        _ => Value::Num(number),
     }
 }
 
@@ -40,15 +30,10 @@ pub fn upper_of_address(part: Role, number: u64) -> Value
 pub fn is_lower(part: Role) -> bool
     ensures { result ≡ is_lower part }
 {
-    match part {
-        Role::Lo { .. } => true,
-        Role::CallLo { .. } => true,
-        Role::AbsLo { .. } => true,
-        Role::Plain => false,
-        Role::CallHi { .. } => false,
-        Role::Hi { .. } => false,
-        Role::AbsHi { .. } => false,
-    }
+    matches!(
+        part,
+        Role::Lo { .. } | Role::CallLo { .. } | Role::AbsLo { .. }
+    )
 }
 
 // Whether a value is what the AUIPC at an address gave.
@@ -56,21 +41,8 @@ fn is_hi(address: u64, value: Value) -> bool
     ensures { result ≡ is_hi address value }
 {
     match value {
-        Value::Num(_) => false,
-        Value::Sym(symbol) => is_symbol_hi(address, symbol),
-        Value::Piece { .. } => false,
-    }
-}
-
-fn is_symbol_hi(address: u64, symbol: Symbol) -> bool
-    ensures { result ≡ is_hi address (Value.Sym symbol) }
-{
-    match symbol {
-        Symbol::Hi(from) => address == from,
-        Symbol::Points(_) => false,
-        Symbol::Abs(_) => false,
-        Symbol::Diff { .. } => false,
-        Symbol::Apart { .. } => false,
+        Value::Sym(Symbol::Hi(from)) => address == from,
+        _ => false,
     }
 }
 
@@ -79,21 +51,8 @@ fn is_abs(target: u64, value: Value) -> bool
     ensures { result ≡ is_abs target value }
 {
     match value {
-        Value::Num(_) => false,
-        Value::Sym(symbol) => is_symbol_abs(target, symbol),
-        Value::Piece { .. } => false,
-    }
-}
-
-fn is_symbol_abs(target: u64, symbol: Symbol) -> bool
-    ensures { result ≡ is_abs target (Value.Sym symbol) }
-{
-    match symbol {
-        Symbol::Abs(to) => target == to,
-        Symbol::Points(_) => false,
-        Symbol::Hi(_) => false,
-        Symbol::Diff { .. } => false,
-        Symbol::Apart { .. } => false,
+        Value::Sym(Symbol::Abs(to)) => target == to,
+        _ => false,
     }
 }
 
