@@ -1,5 +1,6 @@
 // The lines that commands print.
 ghost use Rattle.std.specs.Prelude.{◌≡◌, ◌*◌, ◌++◌, OnOk, OnErr, IfOk, codes};
+ghost use Rattle.rb_bytes.specs.Text.{hexadecimal};
 ghost use Rattle.bolt_core.specs.Seen.{counts_seen};
 ghost use Rattle.bolt_cli.specs.Lines.{usage_line, refused_line, refused_end, summary_line, after_steps, ended_line, cause_name, trapped_line, reason_name, stuck_line, out_of_steps_line};
 
@@ -71,6 +72,18 @@ fn put_after_steps(line: &mut Vec<u8>, steps: u64) -> Result<(), NoMemory>
     Ok(())
 }
 
+// Why a run stopped, where, and after how many steps.
+fn put_stop(line: &mut Vec<u8>, why: &[u8], pc: u64, steps: u64) -> Result<(), NoMemory>
+    ensures { OnOk result
+        (line.new.items ≡ line.old.items ++ why.now ++ codes " at " ++ hexadecimal pc ++ after_steps steps) }
+{
+    line.extend_from_slice(why)?;
+    line.extend_from_slice(b" at ")?;
+    put_hex(line, pc)?;
+    put_after_steps(line, steps)?;
+    Ok(())
+}
+
 /// The line for a run that ended with a status.
 pub fn ended(alloc: Global, status: u8, steps: u64) -> Result<Vec<u8>, NoMemory>
     ensures { IfOk result (λ line. line.items ≡ ended_line status steps) }
@@ -98,10 +111,7 @@ pub fn trapped(alloc: Global, pc: u64, cause: Cause, steps: u64) -> Result<Vec<u
     ensures { IfOk result (λ line. line.items ≡ trapped_line pc cause steps) }
 {
     let mut line = Vec::from_slice(alloc, b"[trapped ")?;
-    line.extend_from_slice(cause_name(cause))?;
-    line.extend_from_slice(b" at ")?;
-    put_hex(&mut line, pc)?;
-    put_after_steps(&mut line, steps)?;
+    put_stop(&mut line, cause_name(cause), pc, steps)?;
     Ok(line)
 }
 
@@ -127,10 +137,7 @@ pub fn stuck(alloc: Global, pc: u64, reason: Reason, steps: u64) -> Result<Vec<u
     ensures { IfOk result (λ line. line.items ≡ stuck_line pc reason steps) }
 {
     let mut line = Vec::from_slice(alloc, b"[stuck ")?;
-    line.extend_from_slice(reason_name(reason))?;
-    line.extend_from_slice(b" at ")?;
-    put_hex(&mut line, pc)?;
-    put_after_steps(&mut line, steps)?;
+    put_stop(&mut line, reason_name(reason), pc, steps)?;
     Ok(line)
 }
 
