@@ -5,7 +5,6 @@ ghost use Rattle.rv_code.specs.isa.TwosComplement.{unsigned64};
 ghost use Rattle.rv_code.specs.layout.Flow as flow;
 ghost use Rattle.rv_code.specs.machine.Machine.{plus};
 
-use crate::action::Action;
 use crate::inst::Inst;
 use crate::register::ZERO;
 
@@ -13,18 +12,15 @@ use crate::register::ZERO;
 pub fn target(address: u64, inst: &Inst) -> Option<u64>
     ensures { result ≡ flow.target address (action_of inst.now) }
 {
-    match inst.action() {
-        Action::Branch { imm, .. } => Some(moved_by(address, imm)),
-        Action::Jump { imm, .. } => Some(moved_by(address, imm)),
-        Action::JumpTo { .. }
-        | Action::Compute { .. }
-        | Action::Upper { .. }
-        | Action::UpperPc { .. }
-        | Action::Load { .. }
-        | Action::Store { .. }
-        | Action::Fence
-        | Action::SystemCall
-        | Action::Breakpoint => None,
+    match *inst {
+        Inst::Jal { imm, .. } => Some(moved_by(address, imm)),
+        Inst::Beq { imm, .. } => Some(moved_by(address, imm)),
+        Inst::Bne { imm, .. } => Some(moved_by(address, imm)),
+        Inst::Blt { imm, .. } => Some(moved_by(address, imm)),
+        Inst::Bge { imm, .. } => Some(moved_by(address, imm)),
+        Inst::Bltu { imm, .. } => Some(moved_by(address, imm)),
+        Inst::Bgeu { imm, .. } => Some(moved_by(address, imm)),
+        _ => None,
     }
 }
 
@@ -38,18 +34,9 @@ fn moved_by(address: u64, distance: i64) -> u64
 pub fn is_call(inst: &Inst) -> bool
     ensures { result ≡ flow.is_call (action_of inst.now) }
 {
-    match inst.action() {
-        Action::Jump { rd, .. } => rd != ZERO,
-        Action::JumpTo { rd, .. } => rd != ZERO,
-        Action::Branch { .. }
-        | Action::Compute { .. }
-        | Action::Upper { .. }
-        | Action::UpperPc { .. }
-        | Action::Load { .. }
-        | Action::Store { .. }
-        | Action::Fence
-        | Action::SystemCall
-        | Action::Breakpoint => false,
+    match *inst {
+        Inst::Jal { rd, .. } | Inst::Jalr { rd, .. } => rd != ZERO,
+        _ => false,
     }
 }
 
@@ -57,18 +44,9 @@ pub fn is_call(inst: &Inst) -> bool
 pub fn is_plain_jump(inst: &Inst) -> bool
     ensures { result ≡ flow.is_plain_jump (action_of inst.now) }
 {
-    match inst.action() {
-        Action::Jump { rd, .. } => rd == ZERO,
-        Action::JumpTo { rd, .. } => rd == ZERO,
-        Action::Branch { .. }
-        | Action::Compute { .. }
-        | Action::Upper { .. }
-        | Action::UpperPc { .. }
-        | Action::Load { .. }
-        | Action::Store { .. }
-        | Action::Fence
-        | Action::SystemCall
-        | Action::Breakpoint => false,
+    match *inst {
+        Inst::Jal { rd, .. } | Inst::Jalr { rd, .. } => rd == ZERO,
+        _ => false,
     }
 }
 
@@ -76,18 +54,14 @@ pub fn is_plain_jump(inst: &Inst) -> bool
 pub fn is_branch(inst: &Inst) -> bool
     ensures { result ≡ flow.is_branch (action_of inst.now) }
 {
-    match inst.action() {
-        Action::Branch { .. } => true,
-        Action::Jump { .. }
-        | Action::JumpTo { .. }
-        | Action::Compute { .. }
-        | Action::Upper { .. }
-        | Action::UpperPc { .. }
-        | Action::Load { .. }
-        | Action::Store { .. }
-        | Action::Fence
-        | Action::SystemCall
-        | Action::Breakpoint => false,
+    match *inst {
+        Inst::Beq { .. }
+        | Inst::Bne { .. }
+        | Inst::Blt { .. }
+        | Inst::Bge { .. }
+        | Inst::Bltu { .. }
+        | Inst::Bgeu { .. } => true,
+        _ => false,
     }
 }
 
