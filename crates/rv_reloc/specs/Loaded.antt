@@ -1,5 +1,5 @@
--- Where the memory that a file describes ends.
-use Rattle.std.specs.Prelude.{ℕ, ◌<◌, IsSome}
+-- Bytes in the memory that a file describes, and where it ends.
+use Rattle.std.specs.Prelude.{◌≡◌, ℕ, ◌+◌, ◌<◌, List, Some, IsSome, length, slice_index}
 use Rattle.elf_image.specs.declared.elf.Elf.{Elf}
 use Rattle.elf_image.specs.memory.LoadedBytes.{byte_at}
 use Rattle.elf_image.specs.faults.SegmentLayout.{address_end}
@@ -7,3 +7,7 @@ use Rattle.elf_image.specs.faults.SegmentLayout.{address_end}
 -- all loaded bytes lie below the end of what can be loaded
 pub record IsLow (elf : Elf) : Type 0 where
   pub below : (a : ℕ) → IsSome (byte_at elf a) → a < address_end
+
+-- bytes stand in memory from an address on
+abbrev pub AreBytesFrom : Elf → ℕ → List ℕ → Type 0
+AreBytesFrom elf a bytes = (i : ℕ) → i < length bytes → byte_at elf (a + i) ≡ Some (slice_index bytes i)

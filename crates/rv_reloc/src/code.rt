@@ -1,11 +1,12 @@
 // Instructions at their addresses.
-ghost use Rattle.std.specs.Prelude.{◌≡◌, ◌↔◌, ◌<◌, ◌≤◌, ◌+◌, ℕ, IsTrue, IfSome, Some, Contains, AllPairs};
+ghost use Rattle.std.specs.Prelude.{◌≡◌, ◌↔◌, ◌<◌, ◌≤◌, ◌+◌, ◌*◌, ℕ, IsTrue, IfSome, Some, Contains, AllPairs};
 ghost use Rattle.rv_code.specs.declared.inst.Inst.{Inst};
 ghost use Rattle.elf_image.specs.code.FileCode.{AreStarts};
 ghost use Rattle.elf_image.specs.code.Parts.{halfword_at};
 ghost use Rattle.elf_image.specs.code.Roles.{IsFullAt};
 ghost use Rattle.rv_reloc.specs.Parts.{AreCodeParts, IsInstBefore};
 
+use crate::loaded::bytes_from;
 use crate::parts::{Part, part_at};
 use elf_image::Elf;
 use rv_code::Inst;
@@ -24,9 +25,32 @@ pub fn halfword_at(elf: &Elf, address: u64) -> u16
     requires { address + 1 < 18446744073709551616 }
     ensures { result ≡ halfword_at elf.now address }
 {
-    let low = elf.image_byte(address).unwrap_or(0);
-    let high = elf.image_byte(address + 1).unwrap_or(0);
+    let bytes = bytes_from(elf, address);
+    if bytes.len() < 2 {
+        let low = elf.image_byte(address).unwrap_or(0);
+        let high = elf.image_byte(address + 1).unwrap_or(0);
+        return halfword(low, high);
+    }
+    halfword(bytes[0], bytes[1])
+}
+
+fn halfword(low: u8, high: u8) -> u16
+    ensures { result ≡ low + 256 * high }
+{
     low as u16 + 256 * high as u16
+}
+
+// The halfwords at an address and after it. It takes one look-up where one segment loads both.
+fn halfwords_at(elf: &Elf, address: u64) -> (u16, u16)
+    requires { address + 3 < 18446744073709551616 }
+    ensures first { result.0 ≡ halfword_at elf.now address }
+    ensures second { result.1 ≡ halfword_at elf.now (address + 2) }
+{
+    let bytes = bytes_from(elf, address);
+    if bytes.len() < 4 {
+        return (halfword_at(elf, address), halfword_at(elf, address + 2));
+    }
+    (halfword(bytes[0], bytes[1]), halfword(bytes[2], bytes[3]))
 }
 
 /// The instruction at an address, and how many bytes it takes, if it ends by `end`.
@@ -38,11 +62,11 @@ pub fn inst_before(elf: &Elf, end: u64, address: u64) -> Option<(Inst, u8)>
     if end - address < 2 {
         return None;
     }
-    let half = halfword_at(elf, address);
     if end - address < 4 {
-        return decode(half, None);
+        return decode(halfword_at(elf, address), None);
     }
-    decode(half, Some(halfword_at(elf, address + 2)))
+    let (half, next) = halfwords_at(elf, address);
+    decode(half, Some(next))
 }
 
 // The four-byte instruction at an address, if it ends by `end`.

@@ -4,6 +4,7 @@ ghost use Rattle.elf_image.specs.declared.elf.Elf.{Elf};
 ghost use Rattle.rb_lanes.specs.Marks.{is_marked};
 ghost use Rattle.rv_reloc.specs.Halves.{AreBytesOf, AreHalvesOf, AreMarksOf};
 
+use crate::loaded::bytes_from;
 use crate::parts::Part;
 use elf_image::Elf;
 use rb_bytes::fault::NoMemory;
@@ -13,21 +14,12 @@ use rb_lanes::length_marks;
 fn bytes_of<'a>(elf: &Elf<'a>, part: &Part) -> Option<&'a [u8]>
     ensures { IfSome result (λ bytes. AreBytesOf elf.now part.now bytes.now) }
 {
-    let Some(segment) = elf.segment_at(part.start) else {
-        return None;
-    };
-    let place = part.start - segment.vaddr;
+    let bytes = bytes_from(elf, part.start);
     let size = part.end.saturating_sub(part.start);
-    let loaded = segment.filesz.min(segment.memsz);
-    if place > loaded || size > loaded - place {
+    if size > bytes.len() as u64 {
         return None;
     }
-    let length = elf.file.len() as u64;
-    if segment.offset > length || place + size > length - segment.offset {
-        return None;
-    }
-    let start = (segment.offset + place) as usize;
-    Some(&elf.file[start..start + size as usize])
+    Some(&bytes[..size as usize])
 }
 
 // Appends the halfwords of bytes. The last byte of an odd number is one by itself.

@@ -1,10 +1,28 @@
-// Numbers in the memory that a file describes.
+// Bytes and numbers in the memory that a file describes.
 ghost use Rattle.std.specs.Prelude.{◌≡◌, ◌<◌, ◌≤◌, ◌^◌, OnSome, IfSome};
 ghost use Rattle.elf_image.specs.memory.LoadedBytes.{byte_at, loaded_number};
 ghost use Rattle.elf_image.specs.faults.SegmentLayout.{address_end};
-ghost use Rattle.rv_reloc.specs.Loaded.{IsLow};
+ghost use Rattle.rv_reloc.specs.Loaded.{IsLow, AreBytesFrom};
 
 use elf_image::Elf;
+
+/// The bytes of the file that one segment loads from an address on, as many as it loads.
+pub fn bytes_from<'a>(elf: &Elf<'a>, address: u64) -> &'a [u8]
+    ensures { AreBytesFrom elf.now address result.now }
+{
+    let Some(segment) = elf.segment_at(address) else {
+        return &elf.file[..0];
+    };
+    let place = address - segment.vaddr;
+    let loaded = segment.filesz.min(segment.memsz);
+    let length = elf.file.len() as u64;
+    if place > loaded || segment.offset > length || loaded > length - segment.offset {
+        return &elf.file[..0];
+    }
+    let start = segment.offset + place;
+    let end = segment.offset + loaded;
+    &elf.file[start as usize..end as usize]
+}
 
 /// The byte at an address, if it is loaded. Then the next address is one too.
 pub fn byte_at(elf: &Elf, address: u64) -> Option<u8>

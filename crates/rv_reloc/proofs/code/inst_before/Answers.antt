@@ -11,9 +11,9 @@ returns-then-end-address-lt4-clause-only c = λ inst bytes before.
     let next = Some (halfword_at c.args.elf.now (c.args.address + 2)) in
     decoded _ _ _ c.decode.ensures.only c.decode.ensures.none inst bytes
     (Decodes-two _ next None inst bytes short
-    (subst (λ (h : ℕ). Decodes h next inst bytes) (sym c.halfword_at-half.ensures) before.is_inst))
+    (subst (λ (h : ℕ). Decodes h next inst bytes) (sym c.halfword_at.ensures) before.is_inst))
 
 pub returns-clause-only : goal.returns-clause-only
 returns-clause-only c = λ inst bytes before.
     decoded _ _ _ c.decode-2.ensures.only c.decode-2.ensures.none inst bytes
-    (Decodes-same _ _ _ _ inst bytes c.halfword_at-half.ensures c.halfword_at.ensures before.is_inst)
+    (Decodes-same _ _ _ _ inst bytes c.halfwords_at-half.ensures.first c.halfwords_at-half.ensures.second before.is_inst)
