@@ -35,6 +35,11 @@ misses-number elf labels hi entry number are there = (
   },
 )
 
+pub misses-listed : (elf : Elf) (labels : List SlotLabel) (hi entry : ℕ) → AreSlotLabels elf labels →
+    MissesLabel elf hi entry → HasLabelAt labels hi
+misses-listed elf labels hi entry are misses =
+    record { found = misses.wanted; listed = (are.all misses.wanted).1 misses.is; place_is = misses.place_is }
+
 pub misses-none : (elf : Elf) (labels : List SlotLabel) (hi entry : ℕ) → AreSlotLabels elf labels →
     loaded_number elf entry 8 ≡ None → HasLabelAt labels hi ↔ MissesLabel elf hi entry
 misses-none elf labels hi entry are none = (
@@ -44,7 +49,7 @@ misses-none elf labels hi entry are none = (
     place_is = any.place_is;
     unfit = λ holds. absurd (subst (λ (o : Option ℕ). IsSomeAnd o (λ v. any.found.label ≡ pos v)) none holds);
   },
-  λ misses. record { found = misses.wanted; listed = (are.all misses.wanted).1 misses.is; place_is = misses.place_is },
+  λ misses. misses-listed elf labels hi entry are misses,
 )
 
 -- What a lower part makes.

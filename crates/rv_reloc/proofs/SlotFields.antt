@@ -1,5 +1,5 @@
 -- Entries of the global offset table that lower parts name.
-use Rattle.std.proofs.Common.{◌≡◌, ◌∙◌, sym, ap, subst, ℕ, ◌≤◌, ◌^◌, ℤ, pos, ◌↔◌, Bool, IsTrue, List, Option, Some, arith}
+use Rattle.std.proofs.Common.{◌≡◌, ◌∙◌, sym, ap, subst, refl, ℕ, ◌≤◌, ◌^◌, ℤ, pos, ◌↔◌, Bool, IsTrue, List, Option, Some, arith}
 use Rattle.std.specs.List.{Contains}
 use Rattle.elf_image.specs.declared.elf.Elf.{Elf}
 use Rattle.elf_image.specs.code.Cells.{Field}
@@ -8,7 +8,7 @@ use Rattle.rv_reloc.specs.declared.lows.Low.{Low}
 use Rattle.rv_reloc.specs.Loaded.{IsLow}
 use Rattle.rv_reloc.specs.GotFields.{NamesEntry, IsNamedField, IsSlotOf}
 use Rattle.rv_reloc.specs.declared.slots.SlotLabel.{SlotLabel}
-use Rattle.rv_reloc.specs.Slots.{AreSlotLabels}
+use Rattle.rv_reloc.specs.Slots.{AreSlotLabels, HasLabelAt}
 use Rattle.rv_reloc.proofs.LoadedNumbers.{number-low}
 
 pub slot-made : (elf : Elf) (l : Low) (z : ℤ) (slot : ℕ) (f : Field) → IsTargetOf elf l z → pos slot ≡ z →
@@ -29,6 +29,21 @@ slot-missing elf l z f low only none is =
     let high = none is.slot (sym (only (pos is.slot) is.names)) in
     let below = number-low elf is.slot 7 is.entry.field.to low is.entry.field.loaded in
     omega arith
+
+-- what names an entry is among the labels
+pub label-listed : (elf : Elf) (labels : List SlotLabel) (hi to : ℕ) → AreSlotLabels elf labels → NamesEntry elf hi to →
+    HasLabelAt labels hi
+label-listed elf labels hi to are n =
+    let s : SlotLabel = record { place = hi; label = pos to } in
+    record {
+      found = s;
+      listed = (are.all s).1 (record {
+        source = n.relocation;
+        counts = n.counts;
+        is = record { is_slot = n.kind_is; place_is = n.place_is; label_is = n.label_is };
+      });
+      place_is = refl;
+    }
 
 -- the label of an entry, as it is looked up
 pub names-by_label : (elf : Elf) (labels : List SlotLabel) (hi to : ℕ) (y : ℤ) (r : Bool) →

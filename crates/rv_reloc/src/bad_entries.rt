@@ -44,6 +44,9 @@ fn names_bad_entry(
     requires labels { AreSlotLabels elf.now labels.now }
     ensures { IsTrue result ↔ NamesBadEntry elf.now low.now }
 {
+    if !has_label_at(labels, low.hi) {
+        return false;
+    }
     match low_target(elf, starts, parts, low) {
         Some(target) => match address_of(target) {
             Some(entry) => misses_label(elf, labels, low.hi, entry),
@@ -54,7 +57,7 @@ fn names_bad_entry(
 }
 
 /// The lowest place of a relocation for an entry of the global offset table that doesn't hold its label. Entries are asked
-/// once for each lower part, whatever the relocations of its AUIPC.
+/// once for each lower part of an AUIPC that has such relocations, however many these are.
 pub fn lowest_bad_entry(
     elf: &Elf,
     starts: &[u64],

@@ -15,7 +15,7 @@ use crate::loaded::loaded_number;
 use crate::lows::Low;
 use crate::pairs::low_target;
 use crate::parts::Part;
-use crate::slots::{SlotLabel, has_label};
+use crate::slots::{SlotLabel, has_label, has_label_at};
 use crate::sweep::Candidate;
 use crate::targets::natural;
 use elf_image::Elf;
@@ -71,6 +71,9 @@ fn slot_of(
     ensures is { IfSome (option_map field result) (IsSlotOf elf.now low.now) }
     ensures only { (f : Field) → IsSlotOf elf.now low.now f → option_map field result ≡ Some f }
 {
+    if !has_label_at(labels, low.hi) {
+        return None;
+    }
     match low_target(elf, starts, parts, low) {
         Some(number) => match natural(number) {
             Some(slot) => named_field(elf, starts, labels, low.hi, slot),

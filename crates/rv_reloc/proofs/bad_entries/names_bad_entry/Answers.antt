@@ -2,9 +2,21 @@ use Rattle.std.proofs.Common.{◌≡◌, ◌∙◌, sym, subst, refl, false, tru
 use Rattle.std.specs.Int.{w128}
 use Rattle.std.proofs.lemmas.Int.{to_z-of_z}
 use Rattle.elf_image.specs.faults.ReferenceFaults.{IsAddress}
-use Rattle.rv_reloc.proofs.BadEntryPlaces.{entry-names, entry-far}
+use Rattle.rv_reloc.proofs.BadEntryPlaces.{misses-listed, entry-names, entry-far}
 use Rattle.rv_reloc.proofs.Options.{same_some, not_found}
 use Rattle.rv_reloc.proofs.bad_entries.names_bad_entry.Goals as goal
+
+pub has_label_at-requires : goal.has_label_at-requires
+has_label_at-requires c = c.requires.labels.ordered
+
+pub returns-then-not-has_label_at : goal.returns-then-not-has_label_at
+returns-then-not-has_label_at c = (
+  λ is. let e : false ≡ true = is in absurd (cc),
+  λ names.
+      let has =
+      misses-listed c.args.elf.now c.args.labels.now c.args.low.now.hi names.entry c.requires.labels names.misses in
+      let e : false ≡ true = sym c.if-not-has_label_at.true ∙ c.has_label_at.ensures.1 has in absurd (cc),
+)
 
 pub returns-in-Some-address_of : goal.returns-in-Some-address_of
 returns-in-Some-address_of c =

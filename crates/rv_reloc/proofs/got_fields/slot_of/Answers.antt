@@ -1,14 +1,24 @@
-use Rattle.std.proofs.Common.{◌≡◌, ◌∙◌, sym, ℕ, ◌<◌, ◌≤◌, ◌^◌, ⊎_elim, rules, FitsSigned}
+use Rattle.std.proofs.Common.{◌≡◌, ◌∙◌, sym, ℕ, ◌<◌, ◌≤◌, ◌^◌, ⊎_elim, true, false, rules, FitsSigned}
 use Rattle.std.specs.Int.{w128}
 use Rattle.std.proofs.lemmas.Bool.{cases_lt}
 use Rattle.std.proofs.lemmas.Int.{to_z-of_z}
 use Rattle.rv_reloc.proofs.FieldsFound.{all-some}
 use Rattle.rv_reloc.proofs.Options.{same_some, not_found}
-use Rattle.rv_reloc.proofs.SlotFields.{slot-made, slot-named, slot-missing}
+use Rattle.rv_reloc.proofs.SlotFields.{slot-made, slot-named, slot-missing, label-listed}
 use Rattle.rv_reloc.proofs.got_fields.slot_of.Goals as goal
 
 not_small : (a : ℕ) → (a < 2 ^ 64 → ⊥) → 2 ^ 64 ≤ a
 not_small a other = ⊎_elim (λ (less : a < 2 ^ 64). absurd (other less)) (λ (more : 2 ^ 64 ≤ a). more) (cases_lt a (2 ^ 64))
+
+pub has_label_at-requires : goal.has_label_at-requires
+has_label_at-requires c = c.requires.labels.ordered
+
+pub returns-then-not-has_label_at-clause-only : goal.returns-then-not-has_label_at-clause-only
+returns-then-not-has_label_at-clause-only c = λ f is.
+    let entry = is.entry in
+    let has = label-listed c.args.elf.now c.args.labels.now c.args.low.now.hi entry.field.to c.requires.labels entry.named in
+    let e : false ≡ true = sym c.if-not-has_label_at.true ∙ c.has_label_at.ensures.1 has in
+    absurd (cc)
 
 pub returns-in-Some-natural-clause-is : goal.returns-in-Some-natural-clause-is
 returns-in-Some-natural-clause-is c =
