@@ -213,23 +213,19 @@ pub none-other : (elf : Elf) (r : Relocation) → ((w : Width) (to from : ℤ) �
 none-other elf r none =
     (λ wrong. let e : false ≡ true = wrong in absurd (cc), λ other. absurd (none other.width other.to other.from other.is))
 
-pub unpaired-found : (elf : Elf) (r : Relocation) (w : Width) (b : Bool) →
-    (plus_width r.kind ≡ Some w) ⊎ (minus_width r.kind ≡ Some w) →
-    ((v : Width) → (plus_width r.kind ≡ Some v) ⊎ (minus_width r.kind ≡ Some v) → w ≡ v) → IsCodeLabel elf (label elf r) →
-    IsTrue b ↔ IsPaired elf r.place w → IsTrue (not b) ↔ IsUnpaired elf r
-unpaired-found elf r w true width once code test = (
+pub paired-none : (elf : Elf) (r : Relocation) (w : Width) →
+    ((v : Width) → (plus_width r.kind ≡ Some v) ⊎ (minus_width r.kind ≡ Some v) → w ≡ v) → IsPaired elf r.place w →
+    IsTrue false ↔ IsUnpaired elf r
+paired-none elf r w once paired = (
   λ wrong. let e : false ≡ true = wrong in absurd (cc),
-  λ alone. absurd (alone.alone (subst (IsPaired elf r.place) (once alone.width alone.width_is) (test.0 refl))),
+  λ alone. absurd (alone.alone (subst (IsPaired elf r.place) (once alone.width alone.width_is) paired)),
 )
-unpaired-found elf r w false width once code test = (
-  λ _. record {
-    width = w;
-    width_is = width;
-    is_code = code;
-    alone = λ paired. let e : false ≡ true = test.1 paired in absurd (cc);
-  },
-  λ _. refl,
-)
+
+pub unpaired-found : (elf : Elf) (r : Relocation) (w : Width) (b : Bool) →
+    (plus_width r.kind ≡ Some w) ⊎ (minus_width r.kind ≡ Some w) → (IsPaired elf r.place w → ⊥) →
+    IsTrue b ↔ IsCodeLabel elf (label elf r) → IsTrue b ↔ IsUnpaired elf r
+unpaired-found elf r w b width alone code =
+    (λ is. record { width = w; width_is = width; is_code = code.0 is; alone = alone }, λ unpaired. code.1 unpaired.is_code)
 
 -- A difference of labels in one whole part is none that is narrow, and one that can be a cell isn't either.
 pub narrow-found : (elf : Elf) (tabled : List (ℕ × ℕ)) (r : Relocation) (d : Difference) (b : Bool) → IsDifferenceOf elf r d →

@@ -1,5 +1,5 @@
 -- Items by place and class, and the only one of a key.
-use Rattle.std.proofs.Common.{◌≡◌, ◌≢◌, ◌∙◌, sym, subst, ap, refl, ℕ, zero, suc, ◌+◌, ◌-◌, ◌<◌, ◌≤◌, ◌⊎◌, inl, inr, ⊎_elim, Bool, true, false, ◌&&◌, ◌||◌, ◌==◌, nat_lt, IsTrue, ◌↔◌, cond, List, [], ◌∷◌, length, slice_index_or, arith}
+use Rattle.std.proofs.Common.{◌≡◌, ◌≢◌, ◌∙◌, sym, subst, ap, refl, ℕ, zero, suc, ◌+◌, ◌-◌, ◌<◌, ◌≤◌, ◌⊎◌, inl, inr, ⊎_elim, Bool, true, false, not, ◌&&◌, ◌||◌, ◌==◌, nat_lt, IsTrue, ◌↔◌, cond, List, [], ◌∷◌, length, slice_index_or, arith}
 use Rattle.std.specs.List.{Any, count_by}
 use Rattle.std.specs.List.Sorted.{IsPartitionedBy}
 use Rattle.std.specs.Ordering.{nat_cmp, is_lt, ordering_then}
@@ -8,7 +8,7 @@ use Rattle.std.proofs.lemmas.List.{get_or_default}
 use Rattle.std.proofs.lemmas.List.Sums.{sum_by-cons}
 use Rattle.rv_reloc.specs.declared.records.Record.{Record}
 use Rattle.elf_image.specs.code.Cells.{IsOnly}
-use Rattle.rv_reloc.specs.Records.{class_of, IsBelow, IsFrom, AreInOrder, has_key, HasKeyAt}
+use Rattle.rv_reloc.specs.Records.{class_of, IsBelow, IsFrom, AreInOrder, has_key, IsSplit, HasKeyAt}
 use Rattle.rv_reloc.proofs.Lexicographic.{number_up, then_up, less_trans, AllPairs-from_next}
 
 below_or_from : (p q c d : ℕ) → ((p < q) ⊎ ((p ≡ q) × (c < d))) ⊎ ((q < p) ⊎ ((q ≡ p) × (d ≤ c)))
@@ -126,11 +126,7 @@ count-two test (x ∷ xs) (suc i) within one two =
     let more : count_by test (x ∷ xs) ≡ one_if (test x) + count_by test xs = count-cons test x xs in
     omega arith
 
--- Looking for one of a key in a list in order: those before an index are below the key, the others aren't.
-pub record IsSplit (place class : ℕ) (items : List Record) (from : ℕ) : Type 0 where
-  pub bound : from ≤ length items
-  pub below : (k : ℕ) (d : Record) → k < from → IsBelow place class (slice_index_or items k d)
-  pub above : (k : ℕ) (d : Record) → from ≤ k → k < length items → IsFrom place class (slice_index_or items k d)
+-- Looking for one of a key in a list in order, where it would stand.
 
 below_other : (place class : ℕ) (x : Record) → IsBelow place class x → (x.place ≡ place) × ((class_of x) ≡ class) → ⊥
 below_other place class x (inl less) (p, c) = omega arith
@@ -275,6 +271,40 @@ parted place class items ordered i j d upto within is =
     let e : j ≡ i = omega arith in
     subst (λ (k : ℕ). is_below place class (slice_index_or items k d) ≡ true) e is)
     (cases_lt i j)
+
+-- It is where the record before an index is below, and the one there isn't.
+pub split-here : (place class : ℕ) (items : List Record) (from : ℕ) → AreInOrder items → from ≤ length items →
+    (0 < from → (d : Record) → IsBelow place class (slice_index_or items (from - 1) d)) →
+    (from < length items → (d : Record) → IsFrom place class (slice_index_or items from d)) → IsSplit place class items from
+split-here place class items from ordered bound last first = record {
+  bound = bound;
+  below = λ k d under. ⊎_elim
+      (λ (less : k < from - 1). below_back place class (slice_index_or items k d) (slice_index_or items (from - 1) d)
+      (ordered k (from - 1) d less (omega arith)) (last (omega arith) d))
+      (λ (more : from - 1 ≤ k). let e : from - 1 ≡ k = omega arith in
+      subst (λ (i : ℕ). IsBelow place class (slice_index_or items i d)) e (last (omega arith) d))
+      (cases_lt k (from - 1));
+  above = λ k d onward within. ⊎_elim
+      (λ (more : from < k). less_trans place (slice_index_or items from d).place (slice_index_or items k d).place
+      (class ≤ class_of (slice_index_or items from d))
+      (class_of (slice_index_or items from d) ≤ class_of (slice_index_or items k d))
+      (class ≤ class_of (slice_index_or items k d)) (λ p q. omega arith)
+      (first (omega arith) d) (ordered from k d more within))
+      (λ (upto : k ≤ from). let e : from ≡ k = omega arith in
+      subst (λ (i : ℕ). IsFrom place class (slice_index_or items i d)) e (first (omega arith) d))
+      (cases_lt from k);
+}
+
+from-not_below : (place class : ℕ) (x : Record) → (IsBelow place class x → ⊥) → IsFrom place class x
+from-not_below place class x other =
+    ⊎_elim (λ below. absurd (other below)) (λ from. from) (below_or_from x.place place (class_of x) class)
+
+pub from-tested : (place class i : ℕ) (items : List Record) (e d : Record) (b : Bool) → i < length items →
+    (IsBelow place class (slice_index_or items i e) → b ≡ true) → not b ≡ true → IsFrom place class (slice_index_or items i d)
+from-tested place class i items e d true within below is = absurd (cc)
+from-tested place class i items e d false within below is =
+    subst (IsFrom place class) (get_or_default items i e d within)
+    (from-not_below place class (slice_index_or items i e) (λ under. let yes : false ≡ true = below under in absurd (cc)))
 
 -- Whether there is one of a key.
 

@@ -44,6 +44,12 @@ pub record AreRecords (elf : Elf) (records : List Record) : Type 0 where
 abbrev pub has_key : ℕ → ℕ → Record → Bool
 has_key place at r = r.place == place && class_of r == at
 
+-- those before an index are before a place and a class, and the others aren't
+pub record IsSplit (place at : ℕ) (records : List Record) (index : ℕ) : Type 0 where
+  pub bound : index ≤ length records
+  pub below : (k : ℕ) (d : Record) → k < index → IsBelow place at (slice_index_or records k d)
+  pub above : (k : ℕ) (d : Record) → index ≤ k → k < length records → IsFrom place at (slice_index_or records k d)
+
 -- the record of an index has a key
 abbrev pub HasKeyAt : ℕ → ℕ → List Record → ℕ → Type 0
 HasKeyAt place at records k =

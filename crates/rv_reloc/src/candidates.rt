@@ -174,12 +174,13 @@ fn cell_field(
     }
 }
 
-// A relocation's field, if it can be a cell.
+// A relocation's field, if it can be a cell. `near` is about where the relocation stands.
 fn field_of(
     elf: &Elf,
     starts: &[u64],
     wholes: &[Part],
     records: &[Record],
+    near: usize,
     relocation: &Record,
 ) -> Option<Candidate>
     requires low { IsLow elf.now }
@@ -203,7 +204,7 @@ fn field_of(
     if !can_be_cell(relocation) {
         return None;
     }
-    match difference_of(elf, records, relocation) {
+    match difference_of(elf, records, near, relocation) {
         Some(difference) => cell_field(elf, starts, wholes, relocation.place, &difference),
         None => None,
     }
@@ -225,10 +226,10 @@ pub fn fields_of(
         IfOk result (λ fields. AreFound (λ r f. IsFieldOf elf.now tabled (seen r) f) records.now (map field fields.items)) }
 {
     let mut fields = Vec::new(alloc);
-    for relocation in records {
+    for (index, relocation) in records.iter().enumerate() {
         push_found(
             &mut fields,
-            field_of(elf, starts, wholes, records, relocation),
+            field_of(elf, starts, wholes, records, index, relocation),
         )?;
     }
     Ok(fields)

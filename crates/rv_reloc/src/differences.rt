@@ -36,10 +36,12 @@ pub struct Difference {
     pub from: i128,
 }
 
-// The difference of the labels that are added or set, and subtracted.
+// The difference of the labels that are added or set, and subtracted. Here and below, `near` is about where the relocation
+// stands.
 fn labels_difference(
     elf: &Elf,
     records: &[Record],
+    near: usize,
     relocation: &Record,
     width: Width,
 ) -> Option<Difference>
@@ -50,8 +52,8 @@ fn labels_difference(
     ensures only { (w : spec.Width) (to from : ℤ) → IsDifference elf.now (seen relocation.now) w to from →
         IsSomeAnd result (IsTheDifference w to from) }
 {
-    match only_plus(records, relocation.place, width) {
-        Some(_) => match only_minus(records, relocation.place, width) {
+    match only_plus(records, near, relocation.place, width) {
+        Some(_) => match only_minus(records, near, relocation.place, width) {
             Some(minus) => Some(Difference {
                 width,
                 to: label(elf, relocation),
@@ -64,7 +66,12 @@ fn labels_difference(
 }
 
 /// The difference in the field of a relocation.
-pub fn difference_of(elf: &Elf, records: &[Record], relocation: &Record) -> Option<Difference>
+pub fn difference_of(
+    elf: &Elf,
+    records: &[Record],
+    near: usize,
+    relocation: &Record,
+) -> Option<Difference>
     requires records { AreRecords elf.now records.now }
     requires listed { Contains (relocations elf.now) (seen relocation.now) }
     ensures is { IfSome result (IsDifferenceOf elf.now (seen relocation.now)) }
@@ -79,7 +86,7 @@ pub fn difference_of(elf: &Elf, records: &[Record], relocation: &Record) -> Opti
         });
     }
     match plus_width(relocation.kind) {
-        Some(width) => labels_difference(elf, records, relocation, width),
+        Some(width) => labels_difference(elf, records, near, relocation, width),
         None => None,
     }
 }
@@ -95,39 +102,52 @@ fn label_width(kind: u32) -> Option<Width>
     }
 }
 
-fn is_paired(elf: &Elf, records: &[Record], place: u64, width: Width) -> bool
+fn is_paired(elf: &Elf, records: &[Record], near: usize, place: u64, width: Width) -> bool
     requires { AreRecords elf.now records.now }
     ensures { IsTrue result ↔ IsPaired elf.now place (width_of width) }
 {
-    only_plus(records, place, width).is_some() && only_minus(records, place, width).is_some()
+    only_plus(records, near, place, width).is_some()
+        && only_minus(records, near, place, width).is_some()
 }
 
 // Whether a relocation speaks of a code address, and isn't one of two that make a difference.
-fn is_unpaired(elf: &Elf, starts: &[u64], records: &[Record], relocation: &Record) -> bool
+fn is_unpaired(
+    elf: &Elf,
+    starts: &[u64],
+    records: &[Record],
+    near: usize,
+    relocation: &Record,
+) -> bool
     requires records { AreRecords elf.now records.now }
     requires starts { AreStarts elf.now starts.now }
     ensures { IsTrue result ↔ IsUnpaired elf.now (seen relocation.now) }
 {
     match label_width(relocation.kind) {
         Some(width) => {
-            if !is_code_label(elf, starts, label(elf, relocation)) {
+            if is_paired(elf, records, near, relocation.place, width) {
                 return false;
             }
-            !is_paired(elf, records, relocation.place, width)
+            is_code_label(elf, starts, label(elf, relocation))
         }
         None => false,
     }
 }
 
 // Whether the field of a difference holds another number.
-fn is_other_number(elf: &Elf, known: &[Known], records: &[Record], relocation: &Record) -> bool
+fn is_other_number(
+    elf: &Elf,
+    known: &[Known],
+    records: &[Record],
+    near: usize,
+    relocation: &Record,
+) -> bool
     requires low { IsLow elf.now }
     requires known { All (IsKnown elf.now) known.now }
     requires records { AreRecords elf.now records.now }
     requires listed { Contains (relocations elf.now) (seen relocation.now) }
     ensures { IsTrue result ↔ HoldsOther elf.now (seen relocation.now) }
 {
-    match difference_of(elf, records, relocation) {
+    match difference_of(elf, records, near, relocation) {
         Some(difference) => {
             let Difference { width, to, from } = difference;
             !holds_difference(elf, known, relocation, width, to, from)
@@ -142,6 +162,7 @@ pub fn is_bad_difference(
     starts: &[u64],
     known: &[Known],
     records: &[Record],
+    near: usize,
     relocation: &Record,
 ) -> bool
     requires low { IsLow elf.now }
@@ -151,8 +172,8 @@ pub fn is_bad_difference(
     requires listed { Contains (relocations elf.now) (seen relocation.now) }
     ensures { IsTrue result ↔ IsBadDifference elf.now (seen relocation.now) }
 {
-    is_other_number(elf, known, records, relocation)
-        || is_unpaired(elf, starts, records, relocation)
+    is_other_number(elf, known, records, near, relocation)
+        || is_unpaired(elf, starts, records, near, relocation)
 }
 
 /// Whether a relocation makes a difference with a code address that no cell can hold, and not of two labels of one whole
@@ -162,6 +183,7 @@ pub fn is_narrow(
     starts: &[u64],
     wholes: &[Part],
     records: &[Record],
+    near: usize,
     relocation: &Record,
 ) -> bool
     requires starts { AreStarts elf.now starts.now }
@@ -174,7 +196,7 @@ pub fn is_narrow(
     if can_be_cell(relocation) {
         return false;
     }
-    match difference_of(elf, records, relocation) {
+    match difference_of(elf, records, near, relocation) {
         Some(difference) => crosses(elf, starts, wholes, &difference),
         None => false,
     }
@@ -203,8 +225,8 @@ pub fn lowest_narrow(elf: &Elf, starts: &[u64], wholes: &[Part], records: &[Reco
     ensures { (tabled : List (ℕ × ℕ)) → AreWholeParts elf.now tabled wholes.now → IsLowest (IsNarrowDiff elf.now tabled) result }
 {
     let mut lowest = None;
-    for relocation in records {
-        let narrow = is_narrow(elf, starts, wholes, records, relocation);
+    for (index, relocation) in records.iter().enumerate() {
+        let narrow = is_narrow(elf, starts, wholes, records, index, relocation);
         lowest = lower(lowest, place_if(narrow, relocation.place));
     }
     lowest

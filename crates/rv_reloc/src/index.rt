@@ -1,12 +1,12 @@
 // Looking up relocations by place and class.
-ghost use Rattle.std.specs.Prelude.{◌≡◌, ◌↔◌, ◌<◌, ◌≤◌, ℕ, IsTrue, IfSome, IsSomeAnd, Some, length, slice_index_or, Any};
+ghost use Rattle.std.specs.Prelude.{◌≡◌, ◌↔◌, ◌<◌, ◌≤◌, ◌-◌, ℕ, IsTrue, IfSome, IsSomeAnd, Some, length, slice_index_or, Any};
 ghost use Rattle.elf_image.specs.declared.elf.Elf.{Elf};
 ghost use Rattle.elf_image.specs.code.Cells.{IsOnly, is_plus, is_minus};
 ghost use Rattle.elf_image.specs.code.Relocations.{Relocation, relocations, HasRelocation, is_call_pair, is_pcrel_hi};
 ghost use Rattle.rv_reloc.specs.declared.records.Record.{Record};
 ghost use Rattle.rv_reloc.specs.Index.{class, class_beside, width_code, plus_class, minus_class};
 ghost use Rattle.rv_reloc.specs.Labels.{width_of};
-ghost use Rattle.rv_reloc.specs.Records.{seen, has_key, IsBelow, IsFrom, AreInOrder, AreRecords, HasKeyAt};
+ghost use Rattle.rv_reloc.specs.Records.{seen, has_key, IsBelow, IsFrom, AreInOrder, AreRecords, IsSplit, HasKeyAt};
 
 use crate::labels::{Width, minus_width, plus_width};
 use crate::records::Record;
@@ -71,12 +71,63 @@ fn class_beside(kind: u32) -> u64
 // How many are before a place and a class.
 fn count_below(records: &[Record], place: u64, at: u64) -> usize
     requires { AreInOrder records.now }
-    ensures bound { result ≤ length records.now }
-    ensures below { (k : ℕ) (d : Record) → k < result → IsBelow place at (slice_index_or records.now k d) }
-    ensures above { (k : ℕ) (d : Record) → result ≤ k → k < length records.now →
-        IsFrom place at (slice_index_or records.now k d) }
+    ensures { IsSplit place at records.now result }
 {
     records.partition_point(|r| r.place < place || (r.place == place && class(r.kind) < at))
+}
+
+// The same, looked for at an index and beside it first.
+fn count_near(records: &[Record], near: usize, place: u64, at: u64) -> usize
+    requires { AreInOrder records.now }
+    ensures { IsSplit place at records.now result }
+{
+    for index in near.saturating_sub(1)..near.saturating_add(2) {
+        if splits_at(records, index, place, at) {
+            return index;
+        }
+    }
+    count_below(records, place, at)
+}
+
+// Whether just those below an index are before a place and a class.
+fn splits_at(records: &[Record], index: usize, place: u64, at: u64) -> bool
+    requires { AreInOrder records.now }
+    ensures { IsTrue result → IsSplit place at records.now index }
+{
+    if records.len() < index {
+        return false;
+    }
+    if !ends_before(records, index, place, at) {
+        return false;
+    }
+    begins_from(records, index, place, at)
+}
+
+// Whether the last of those below an index is before a place and a class, if there is one.
+fn ends_before(records: &[Record], index: usize, place: u64, at: u64) -> bool
+    requires { index ≤ length records.now }
+    ensures { IsTrue result → 0 < index → (d : Record) → IsBelow place at (slice_index_or records.now (index - 1) d) }
+{
+    if index == 0 {
+        return true;
+    }
+    is_before(&records[index - 1], place, at)
+}
+
+// Whether the one of an index isn't, if there is one.
+fn begins_from(records: &[Record], index: usize, place: u64, at: u64) -> bool
+    ensures { IsTrue result → index < length records.now → (d : Record) → IsFrom place at (slice_index_or records.now index d) }
+{
+    if records.len() <= index {
+        return true;
+    }
+    !is_before(&records[index], place, at)
+}
+
+fn is_before(record: &Record, place: u64, at: u64) -> bool
+    ensures { IsTrue result ↔ IsBelow place at record.now }
+{
+    record.place < place || (record.place == place && class(record.kind) < at)
 }
 
 // Whether the one of an index has a place and a class.
@@ -94,13 +145,13 @@ pub fn has(records: &[Record], place: u64, at: u64) -> bool
     has_key_at(records, count_below(records, place, at), place, at)
 }
 
-/// The only one of a class at a place, if there is exactly one.
-pub fn only<'a>(records: &[Record<'a>], place: u64, at: u64) -> Option<Record<'a>>
+/// The only one of a class at a place, if there is exactly one. `near` is an index about which those of the place may stand.
+pub fn only<'a>(records: &[Record<'a>], near: usize, place: u64, at: u64) -> Option<Record<'a>>
     requires { AreInOrder records.now }
     ensures is { IfSome result (IsOnly (has_key place at) records.now) }
     ensures only { (r : Record) → IsOnly (has_key place at) records.now r → result ≡ Some r }
 {
-    let from = count_below(records, place, at);
+    let from = count_near(records, near, place, at);
     if !has_key_at(records, from, place, at) {
         return None;
     }
@@ -129,23 +180,33 @@ pub fn has_upper(records: &[Record], place: u64) -> bool
 }
 
 /// The only relocation that adds or sets a label of a width at a place.
-pub fn only_plus<'a>(records: &[Record<'a>], place: u64, width: Width) -> Option<Record<'a>>
+pub fn only_plus<'a>(
+    records: &[Record<'a>],
+    near: usize,
+    place: u64,
+    width: Width,
+) -> Option<Record<'a>>
     requires { AreInOrder records.now }
     ensures is { (elf : Elf) → AreRecords elf records.now →
         IfSome result (λ r. IsOnly (is_plus place (width_of width)) (relocations elf) (seen r)) }
     ensures only { (elf : Elf) (r : Relocation) → AreRecords elf records.now →
         IsOnly (is_plus place (width_of width)) (relocations elf) r → IsSomeAnd result (λ q. seen q ≡ r) }
 {
-    only(records, place, plus_class(width))
+    only(records, near, place, plus_class(width))
 }
 
 /// The only relocation that subtracts a label of a width at a place.
-pub fn only_minus<'a>(records: &[Record<'a>], place: u64, width: Width) -> Option<Record<'a>>
+pub fn only_minus<'a>(
+    records: &[Record<'a>],
+    near: usize,
+    place: u64,
+    width: Width,
+) -> Option<Record<'a>>
     requires { AreInOrder records.now }
     ensures is { (elf : Elf) → AreRecords elf records.now →
         IfSome result (λ r. IsOnly (is_minus place (width_of width)) (relocations elf) (seen r)) }
     ensures only { (elf : Elf) (r : Relocation) → AreRecords elf records.now →
         IsOnly (is_minus place (width_of width)) (relocations elf) r → IsSomeAnd result (λ q. seen q ≡ r) }
 {
-    only(records, place, minus_class(width))
+    only(records, near, place, minus_class(width))
 }

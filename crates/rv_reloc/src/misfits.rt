@@ -78,7 +78,7 @@ fn has_bad_field(elf: &Elf, known: &[Known], relocation: &Record) -> bool
     has_bad_symbol(elf, relocation) || !has_field(elf, known, relocation)
 }
 
-// Whether a relocation doesn't fit, whatever the entries of the global offset table hold.
+// Whether a relocation doesn't fit, whatever the entries of the global offset table hold. `near` is about where it stands.
 fn is_unfit(
     elf: &Elf,
     starts: &[u64],
@@ -87,6 +87,7 @@ fn is_unfit(
     far: &[u64],
     known: &[Known],
     records: &[Record],
+    near: usize,
     relocation: &Record,
 ) -> bool
     requires low { IsLow elf.now }
@@ -102,7 +103,7 @@ fn is_unfit(
     let field = has_bad_field(elf, known, relocation);
     let misplaced = is_misplaced(elf, starts, parts, named, records, relocation);
     let far_target = is_far(elf, far, relocation);
-    let difference = is_bad_difference(elf, starts, known, records, relocation);
+    let difference = is_bad_difference(elf, starts, known, records, near, relocation);
     is_either(
         is_either(field, misplaced),
         is_either(far_target, difference),
@@ -129,8 +130,10 @@ fn lowest_unfit(
     ensures { IsLowest (IsPlaceOf (λ r. r.place) (λ r. IsUnfit elf.now (seen r)) records.now) result }
 {
     let mut lowest = None;
-    for relocation in records {
-        let unfit = is_unfit(elf, starts, parts, named, far, known, records, relocation);
+    for (index, relocation) in records.iter().enumerate() {
+        let unfit = is_unfit(
+            elf, starts, parts, named, far, known, records, index, relocation,
+        );
         lowest = lower(lowest, place_if(unfit, relocation.place));
     }
     lowest

@@ -6,6 +6,6 @@ use Rattle.rv_reloc.specs.Sweep.{field}
 use Rattle.rv_reloc.specs.Whole.{AreWholeParts}
 use Rattle.rv_reloc.proofs.candidates.fields_of.Given as goal
 
-abbrev pub invariant-loop-relocation : goal.invariant-loop-relocation
-invariant-loop-relocation l = (tabled : List (ℕ × ℕ)) → AreWholeParts l.elf tabled l.wholes →
-    AreFound (λ r f. IsFieldOf l.elf tabled (seen r) f) (take l.relocation-index l.records) (map field l.fields.items)
+abbrev pub invariant-loop-index : goal.invariant-loop-index
+invariant-loop-index l = (tabled : List (ℕ × ℕ)) → AreWholeParts l.elf tabled l.wholes →
+    AreFound (λ r f. IsFieldOf l.elf tabled (seen r) f) (take l.index l.records) (map field l.fields.items)

@@ -4,30 +4,24 @@ use Rattle.std.proofs.lemmas.Int.{to_z-of_z}
 use Rattle.elf_image.specs.code.Cells.{IsCodeLabel}
 use Rattle.rv_reloc.specs.Labels.{width_of}
 use Rattle.rv_reloc.specs.Records.{seen}
-use Rattle.rv_reloc.proofs.DifferenceCases.{unpaired-found}
+use Rattle.rv_reloc.proofs.DifferenceCases.{paired-none, unpaired-found}
 use Rattle.rv_reloc.proofs.differences.is_unpaired.Goals as goal
 
-pub returns-then-not-is_code_label : goal.returns-then-not-is_code_label
-returns-then-not-is_code_label c =
-    let elf = c.args.elf.now in
-    let r = seen c.args.relocation.now in
-    let fits : FitsSigned w128 c.label.result = search rules in
-    let code = subst (λ (z : ℤ). IsTrue c.is_code_label.result ↔ IsCodeLabel elf z)
-    (to_z-of_z w128 c.label.result fits ∙ c.label.ensures.label) c.is_code_label.ensures in (
-      λ wrong. let e : false ≡ true = wrong in absurd (cc),
-      λ alone. let e : false ≡ true = sym c.if-not-is_code_label.true ∙ code.1 alone.is_code in absurd (cc),
-    )
+pub returns-then-is_paired : goal.returns-then-is_paired
+returns-then-is_paired c =
+    let w = width_of c.in-Some.width in
+    paired-none c.args.elf.now (seen c.args.relocation.now) w
+    (λ v is. let e : Some w ≡ Some v = (c.in-Some.ensures v).1 is in cc) (c.is_paired.ensures.0 c.if-is_paired.true)
 
-pub returns-else-not-is_code_label : goal.returns-else-not-is_code_label
-returns-else-not-is_code_label c =
+pub returns-else-is_paired : goal.returns-else-is_paired
+returns-else-is_paired c =
     let elf = c.args.elf.now in
-    let r = seen c.args.relocation.now in
     let w = width_of c.in-Some.width in
     let fits : FitsSigned w128 c.label.result = search rules in
     let code = subst (λ (z : ℤ). IsTrue c.is_code_label.result ↔ IsCodeLabel elf z)
     (to_z-of_z w128 c.label.result fits ∙ c.label.ensures.label) c.is_code_label.ensures in
-    unpaired-found elf r w c.is_paired.result ((c.in-Some.ensures w).0 refl)
-    (λ v is. let e : Some w ≡ Some v = (c.in-Some.ensures v).1 is in cc) (code.0 c.if-not-is_code_label.false) c.is_paired.ensures
+    unpaired-found elf (seen c.args.relocation.now) w c.is_code_label.result ((c.in-Some.ensures w).0 refl)
+    (λ paired. let e : false ≡ true = sym c.if-is_paired.false ∙ c.is_paired.ensures.1 paired in absurd (cc)) code
 
 pub returns-in-None : goal.returns-in-None
 returns-in-None c = (

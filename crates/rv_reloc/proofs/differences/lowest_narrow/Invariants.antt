@@ -6,7 +6,7 @@ use Rattle.rv_reloc.specs.Records.{seen}
 use Rattle.rv_reloc.specs.Whole.{AreWholeParts}
 use Rattle.rv_reloc.proofs.differences.lowest_narrow.Given as goal
 
-abbrev pub invariant-loop-relocation : goal.invariant-loop-relocation
-invariant-loop-relocation l =
+abbrev pub invariant-loop-index : goal.invariant-loop-index
+invariant-loop-index l =
     (tabled : List (ℕ × ℕ)) → AreWholeParts l.elf tabled l.wholes →
-    IsLowest (IsPlaceOf (λ r. r.place) (λ r. IsNarrow l.elf tabled (seen r)) (take l.relocation-index l.records)) l.lowest
+    IsLowest (IsPlaceOf (λ r. r.place) (λ r. IsNarrow l.elf tabled (seen r)) (take l.index l.records)) l.lowest

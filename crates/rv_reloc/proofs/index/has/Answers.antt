@@ -4,5 +4,4 @@ use Rattle.rv_reloc.proofs.index.has.Goals as goal
 pub returns : goal.returns
 returns c =
     any-where c.args.place c.args.at c.args.records.now c.count_below.result c.has_key_at.result c.requires
-    (record { bound = c.count_below.ensures.bound; below = c.count_below.ensures.below; above = c.count_below.ensures.above })
-    c.has_key_at.ensures
+    c.count_below.ensures c.has_key_at.ensures
