@@ -11,7 +11,7 @@ use Rattle.rv_code.specs.layout.Lists.{ListsAll}
 use Rattle.elf_image.specs.declared.elf.Elf.{Elf}
 use Rattle.elf_image.specs.code.Parts.{IsCut, IsInCode, IsCovered, IsPart, IsCodePart}
 use Rattle.rv_reloc.specs.declared.parts.Part.{Part}
-use Rattle.rv_reloc.specs.Parts.{AreZeros, HoldsCode, Follows, AreCodeParts}
+use Rattle.rv_reloc.specs.Parts.{AreZeros, IsCodeStretch, Follows, AreCodeParts}
 
 -- all cuts, by address
 pub record AreCuts (elf : Elf) (cuts : List ℕ) : Type 0 where
@@ -94,10 +94,10 @@ parts_begin elf cuts are = record {
   ordered = λ i j d less within. absurd (omega arith);
 }
 
-kept_part : (elf : Elf) (start end : ℕ) → IsPart elf start end → HoldsCode elf start end → IsCodePart elf start end
+kept_part : (elf : Elf) (start end : ℕ) → IsPart elf start end → IsCodeStretch elf start end → IsCodePart elf start end
 kept_part elf start end part kept = record { part = part; no_padding = λ zeros. kept.no_padding (zeros.uncovered, zeros.zeros) }
 
-part_kept : (elf : Elf) (start end : ℕ) → IsCodePart elf start end → HoldsCode elf start end
+part_kept : (elf : Elf) (start end : ℕ) → IsCodePart elf start end → IsCodeStretch elf start end
 part_kept elf start end code = record {
   in_code = code.part.in_code;
   no_padding = λ padding. code.no_padding (record { part = code.part; uncovered = padding.0; zeros = padding.1 });
@@ -129,7 +129,7 @@ up_to elf low high p above is = let below = is.1 in (is.0, omega arith)
 
 -- a stretch with code
 pub parts_keeps : (elf : Elf) (cuts : List ℕ) (parts now : List Part) (k : ℕ) → AreCuts elf cuts → k + 1 < length cuts →
-    HoldsCode elf (slice_index cuts k) (slice_index cuts (k + 1)) → now ≡ parts
+    IsCodeStretch elf (slice_index cuts k) (slice_index cuts (k + 1)) → now ≡ parts
     ++ record { start = slice_index cuts k; end = slice_index cuts (k + 1) } ∷ [] →
     ListsAll (IsPartUpTo elf (slice_index cuts k)) Follows parts →
     ListsAll (IsPartUpTo elf (slice_index cuts (k + 1))) Follows now
@@ -160,7 +160,7 @@ parts_keeps elf cuts parts now k are within kept pushed listed =
 
 -- a stretch without
 pub parts_drops : (elf : Elf) (cuts : List ℕ) (parts : List Part) (k : ℕ) → AreCuts elf cuts → k + 1 < length cuts →
-    (HoldsCode elf (slice_index cuts k) (slice_index cuts (k + 1)) → ⊥) →
+    (IsCodeStretch elf (slice_index cuts k) (slice_index cuts (k + 1)) → ⊥) →
     ListsAll (IsPartUpTo elf (slice_index cuts k)) Follows parts →
     ListsAll (IsPartUpTo elf (slice_index cuts (k + 1))) Follows parts
 parts_drops elf cuts parts k are within dropped listed = record {
@@ -168,8 +168,8 @@ parts_drops elf cuts parts k are within dropped listed = record {
   each = λ p is. ⊎_elim
       (λ before. listed.each p before)
       (λ (starts, ends). absurd
-      (dropped (subst (λ (s : ℕ). HoldsCode elf s (slice_index cuts (k + 1))) starts
-      (subst (HoldsCode elf p.start) ends (part_kept elf p.start p.end is.0)))))
+      (dropped (subst (λ (s : ℕ). IsCodeStretch elf s (slice_index cuts (k + 1))) starts
+      (subst (IsCodeStretch elf p.start) ends (part_kept elf p.start p.end is.0)))))
       (part_cases elf cuts k p are within is);
   ordered = listed.ordered;
 }
@@ -205,7 +205,7 @@ parts_none elf cuts parts bound are none listed = record {
 
 -- what is kept
 pub kept_if : (elf : Elf) (start end : ℕ) (covered zeros : Bool) → IsInCode elf start → IsTrue covered ↔ IsCovered elf start end →
-    IsTrue zeros ↔ AreZeros elf start end → IsTrue (covered || not zeros) ↔ HoldsCode elf start end
+    IsTrue zeros ↔ AreZeros elf start end → IsTrue (covered || not zeros) ↔ IsCodeStretch elf start end
 kept_if elf start end true zeros in_code cover blank =
     (λ _. record { in_code = in_code; no_padding = λ padding. padding.0 (cover.0 refl) }, λ _. refl)
 kept_if elf start end false true in_code cover blank = (
@@ -222,18 +222,18 @@ read_at : (cuts : List ℕ) (k a : ℕ) → k < length cuts → a ≡ slice_inde
 read_at cuts k a within is = is ∙ get_or_default cuts k a 0 within
 
 pub parts_push : (elf : Elf) (cuts : List ℕ) (parts now : List Part) (k start end : ℕ) → AreCuts elf cuts → k < length cuts - 1 →
-    start ≡ slice_index_or cuts k start → end ≡ slice_index_or cuts (k + 1) end → HoldsCode elf start end → now ≡ parts
+    start ≡ slice_index_or cuts k start → end ≡ slice_index_or cuts (k + 1) end → IsCodeStretch elf start end → now ≡ parts
     ++ record { start = start; end = end } ∷ [] → ListsAll (IsPartUpTo elf (slice_index cuts k)) Follows parts →
     ListsAll (IsPartUpTo elf (slice_index cuts (k + 1))) Follows now
 parts_push elf cuts parts now k start end are within starts ends kept pushed listed =
     let s = read_at cuts k start (omega arith) starts in
     let e = read_at cuts (k + 1) end (omega arith) ends in
     parts_keeps elf cuts parts now k are (omega arith)
-    (subst (λ (a : ℕ). HoldsCode elf a (slice_index cuts (k + 1))) s (subst (HoldsCode elf start) e kept))
+    (subst (λ (a : ℕ). IsCodeStretch elf a (slice_index cuts (k + 1))) s (subst (IsCodeStretch elf start) e kept))
     (pushed ∙ (λ i. parts ++ record { start = s i; end = e i } ∷ [])) listed
 
 pub parts_skip : (elf : Elf) (cuts : List ℕ) (parts : List Part) (k start end : ℕ) → AreCuts elf cuts → k < length cuts - 1 →
-    start ≡ slice_index_or cuts k start → end ≡ slice_index_or cuts (k + 1) end → (HoldsCode elf start end → ⊥) →
+    start ≡ slice_index_or cuts k start → end ≡ slice_index_or cuts (k + 1) end → (IsCodeStretch elf start end → ⊥) →
     ListsAll (IsPartUpTo elf (slice_index cuts k)) Follows parts →
     ListsAll (IsPartUpTo elf (slice_index cuts (k + 1))) Follows parts
 parts_skip elf cuts parts k start end are within starts ends dropped listed =
@@ -241,7 +241,7 @@ parts_skip elf cuts parts k start end are within starts ends dropped listed =
     let e = read_at cuts (k + 1) end (omega arith) ends in
     parts_drops elf cuts parts k are (omega arith)
     (λ kept. dropped
-    (subst (λ (a : ℕ). HoldsCode elf a end) (sym s) (subst (HoldsCode elf (slice_index cuts k)) (sym e) kept))) listed
+    (subst (λ (a : ℕ). IsCodeStretch elf a end) (sym s) (subst (IsCodeStretch elf (slice_index cuts k)) (sym e) kept))) listed
 
 pub parts_end : (elf : Elf) (cuts : List ℕ) (parts : List Part) (k : ℕ) → AreCuts elf cuts → k ≡ length cuts - 1 →
     ListsAll (IsPartUpTo elf (slice_index cuts k)) Follows parts → AreCodeParts elf parts

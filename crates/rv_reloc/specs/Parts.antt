@@ -12,7 +12,7 @@ abbrev pub AreZeros : Elf → ℕ → ℕ → Type 0
 AreZeros elf start end = (a : ℕ) → start ≤ a → a < end → byte_at elf a ≡ Some 0
 
 -- a stretch between neighbouring cuts holds code
-pub record HoldsCode (elf : Elf) (start end : ℕ) : Type 0 where
+pub record IsCodeStretch (elf : Elf) (start end : ℕ) : Type 0 where
   pub in_code : IsInCode elf start
   pub no_padding : (IsCovered elf start end → ⊥) × AreZeros elf start end → ⊥
 

@@ -2,7 +2,7 @@
 ghost use Rattle.std.specs.Prelude.{◌≡◌, ◌↔◌, ◌<◌, ◌≤◌, ◌+◌, ℕ, IfOk, IfSome, IsTrue, Some, length, slice_index_or};
 ghost use Rattle.elf_image.specs.code.Parts.{IsCovered, IsInCode};
 ghost use Rattle.elf_image.specs.internal.Extents.{IsInOneExtent};
-ghost use Rattle.rv_reloc.specs.Parts.{AreZeros, HoldsCode, AreCodeParts, AreApart, HoldsAddress};
+ghost use Rattle.rv_reloc.specs.Parts.{AreZeros, IsCodeStretch, AreCodeParts, AreApart, HoldsAddress};
 
 use crate::ranges::{Ranges, code_ranges, function_ranges};
 use elf_image::{Elf, cuts};
@@ -27,7 +27,7 @@ pub fn code_parts(alloc: Global, elf: &Elf) -> Result<Vec<Part>, NoMemory>
     for index in 0..cuts.len().saturating_sub(1) {
         let start = cuts[index];
         let end = cuts[index + 1];
-        if !holds_code(elf, &code, &functions, start, end) {
+        if !is_code_stretch(elf, &code, &functions, start, end) {
             continue;
         }
         parts.push(Part { start, end })?;
@@ -36,11 +36,11 @@ pub fn code_parts(alloc: Global, elf: &Elf) -> Result<Vec<Part>, NoMemory>
 }
 
 // Whether the stretch between two neighbouring cuts holds code.
-fn holds_code(elf: &Elf, code: &Ranges, functions: &Ranges, start: u64, end: u64) -> bool
+fn is_code_stretch(elf: &Elf, code: &Ranges, functions: &Ranges, start: u64, end: u64) -> bool
     requires stretch { start < end }
     requires code { (a : ℕ) → IsInOneExtent code.now.reaches.items a (a + 1) ↔ IsInCode elf.now a }
     requires functions { (s e : ℕ) → s < e → IsInOneExtent functions.now.reaches.items s e ↔ IsCovered elf.now s e }
-    ensures { IsTrue result ↔ HoldsCode elf.now start end }
+    ensures { IsTrue result ↔ IsCodeStretch elf.now start end }
 {
     if !code.hold(start, start as u128 + 1) {
         return false;

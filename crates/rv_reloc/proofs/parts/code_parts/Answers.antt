@@ -4,8 +4,8 @@ use Rattle.rv_reloc.specs.Parts.{Follows}
 use Rattle.rv_reloc.proofs.Cuts.{AreCuts, parts_begin, parts_push, parts_skip, parts_end, read_rises}
 use Rattle.rv_reloc.proofs.parts.code_parts.Goals as goal
 
-pub holds_code-requires-clause-stretch : goal.holds_code-requires-clause-stretch
-holds_code-requires-clause-stretch c =
+pub is_code_stretch-requires-clause-stretch : goal.is_code_stretch-requires-clause-stretch
+is_code_stretch-requires-clause-stretch c =
     let are : AreCuts c.args.elf.now c.in_ok-cuts.cuts.items =
     record { ascending = c.in_ok-cuts.ensures.ascending; exact = c.in_ok-cuts.ensures.exact } in
     read_rises _ _ c.loop-index.index _ _ are (omega arith) c.index-start.ensures c.index-end.ensures
@@ -16,19 +16,20 @@ loop-index-init c =
     record { ascending = c.in_ok-cuts.ensures.ascending; exact = c.in_ok-cuts.ensures.exact } in
     subst (ListsAll _ Follows) (sym c.new-parts.ensures.items) (parts_begin c.args.elf.now c.in_ok-cuts.cuts.items are)
 
-pub loop-index-preserved-then-not-holds_code : goal.loop-index-preserved-then-not-holds_code
-loop-index-preserved-then-not-holds_code c =
+pub loop-index-preserved-then-not-is_code_stretch : goal.loop-index-preserved-then-not-is_code_stretch
+loop-index-preserved-then-not-is_code_stretch c =
     let are : AreCuts c.args.elf.now c.in_ok-cuts.cuts.items =
     record { ascending = c.in_ok-cuts.ensures.ascending; exact = c.in_ok-cuts.ensures.exact } in
     parts_skip _ _ _ c.loop-index.index _ _ are (omega arith) c.index-start.ensures c.index-end.ensures
-    (λ kept. let is = c.holds_code.ensures.1 kept in let isnt = c.if-not-holds_code.true in absurd (cc)) c.loop-index.invariant
+    (λ kept. let is = c.is_code_stretch.ensures.1 kept in let isnt = c.if-not-is_code_stretch.true in absurd (cc))
+    c.loop-index.invariant
 
 pub loop-index-preserved : goal.loop-index-preserved
 loop-index-preserved c =
     let are : AreCuts c.args.elf.now c.in_ok-cuts.cuts.items =
     record { ascending = c.in_ok-cuts.ensures.ascending; exact = c.in_ok-cuts.ensures.exact } in
     parts_push _ _ _ _ c.loop-index.index _ _ are (omega arith) c.index-start.ensures c.index-end.ensures
-    (c.holds_code.ensures.0 c.if-not-holds_code.false) c.in_ok-push.ensures.items c.loop-index.invariant
+    (c.is_code_stretch.ensures.0 c.if-not-is_code_stretch.false) c.in_ok-push.ensures.items c.loop-index.invariant
 
 pub returns : goal.returns
 returns c =

@@ -1,6 +1,6 @@
 use Rattle.std.proofs.Common.{◌≡◌, ◌∙◌, sym, Bool, true, false}
 use Rattle.rv_reloc.proofs.Cuts.{kept_if}
-use Rattle.rv_reloc.proofs.parts.holds_code.Goals as goal
+use Rattle.rv_reloc.proofs.parts.is_code_stretch.Goals as goal
 
 clash : {A : Type 0} (b : Bool) → b ≡ true → b ≡ false → A
 clash b is isnt = let no : true ≡ false = sym is ∙ isnt in absurd (cc)
