@@ -7,3 +7,4 @@ pub mod PlacedAt
 pub mod Placing
 pub mod ReferredLists
 pub mod StartsApart
+pub mod Walked

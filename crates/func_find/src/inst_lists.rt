@@ -75,9 +75,10 @@ fn insts_of(
     ensures fault { IfErr result (IsFirstRefusal elf.now (part.now ∷ [])) }
 {
     let mut insts = Vec::new(alloc);
+    let mut near = 0;
     let mut address = part.start;
     while address < part.end {
-        let placed = match placed_at(elf, part.end, address, roles) {
+        let placed = match placed_at(elf, part.end, address, roles, &mut near) {
             Ok(placed) => placed,
             Err(fault) => return Err(Refusal::Fault(fault)),
         };
@@ -88,15 +89,21 @@ fn insts_of(
     Ok(insts)
 }
 
-// The instruction at an address with its role, if it can be there.
-fn placed_at(elf: &Elf, end: u64, address: u64, roles: &[(u64, Role)]) -> Result<Placed, Fault>
+// The instruction at an address with its role, if it can be there. `near` is as `role_at` says.
+fn placed_at(
+    elf: &Elf,
+    end: u64,
+    address: u64,
+    roles: &[(u64, Role)],
+    near: &mut usize,
+) -> Result<Placed, Fault>
     requires inside { address < end }
     requires roles { AreRoles elf.now roles.now }
     ensures placed { IfOk result (IsPlacedAt elf.now end address) }
     ensures fault { IfErr result (IsFaultBefore elf.now end address) }
 {
     match valid_before(elf, end, address) {
-        Some(found) => match role_at(roles, address) {
+        Some(found) => match role_at(roles, near, address) {
             Some(role) => Ok(Placed {
                 addr: address,
                 len: found.1,
@@ -131,13 +138,15 @@ fn is_auipc(inst: &Inst) -> bool
     matches!(*inst, Inst::Auipc { .. })
 }
 
-// The role of the instruction at an address.
-fn role_at(roles: &[(u64, Role)], address: u64) -> Option<Role>
+// The role of the instruction at an address. `near` is how many roles are of instructions below the address asked for last:
+// addresses that go up walk along the roles.
+fn role_at(roles: &[(u64, Role)], near: &mut usize, address: u64) -> Option<Role>
     requires { AllPairs (λ r s. r.0 < s.0) roles.now }
     ensures some { IfSome result (λ role. Contains roles.now (address, role)) }
     ensures none { IfNone result ((role : Role) → Contains roles.now (address, role) → ⊥) }
 {
-    let below = count_below(roles, address);
+    let below = count_below(roles, *near, address);
+    *near = below;
     if below == roles.len() {
         return None;
     }
@@ -148,12 +157,41 @@ fn role_at(roles: &[(u64, Role)], address: u64) -> Option<Role>
     Some(role.1)
 }
 
-// How many roles are of instructions below an address.
-fn count_below(roles: &[(u64, Role)], address: u64) -> usize
+// How many roles are of instructions below an address, counted on from `near` where so many are.
+fn count_below(roles: &[(u64, Role)], near: usize, address: u64) -> usize
     requires { AllPairs (λ r s. r.0 < s.0) roles.now }
     ensures bound { result ≤ length roles.now }
     ensures below { (k : ℕ) (d : ℕ × Role) → k < result → (slice_index_or roles.now k d).0 < address }
     ensures above { (k : ℕ) (d : ℕ × Role) → result ≤ k → k < length roles.now → address ≤ (slice_index_or roles.now k d).0 }
 {
+    for index in known_below(roles, near, address)..roles.len() {
+        if roles[index].0 >= address {
+            return index;
+        }
+    }
+    roles.len()
+}
+
+// A number of roles that are of instructions below an address: `near`, if so many are, else all that are.
+fn known_below(roles: &[(u64, Role)], near: usize, address: u64) -> usize
+    requires { AllPairs (λ r s. r.0 < s.0) roles.now }
+    ensures bound { result ≤ length roles.now }
+    ensures below { (k : ℕ) (d : ℕ × Role) → k < result → (slice_index_or roles.now k d).0 < address }
+{
+    if are_below(roles, near, address) {
+        return near;
+    }
     roles.partition_point(|r| r.0 < address)
+}
+
+// Whether so many roles, and at least one, are of instructions below an address.
+fn are_below(roles: &[(u64, Role)], count: usize, address: u64) -> bool
+    requires { AllPairs (λ r s. r.0 < s.0) roles.now }
+    ensures bound { IsTrue result → count ≤ length roles.now }
+    ensures below { IsTrue result → (k : ℕ) (d : ℕ × Role) → k < count → (slice_index_or roles.now k d).0 < address }
+{
+    if count == 0 || count > roles.len() {
+        return false;
+    }
+    roles[count - 1].0 < address
 }

@@ -1,20 +1,14 @@
-use Rattle.std.proofs.Common.{rules, nat_lt, ℕ}
-use Rattle.std.proofs.lemmas.Bool.{ltb-true, ltb-false}
-use Rattle.std.proofs.lemmas.List.Sorted.{IsPartitionPoint-from_clause, IsPartitionedBy-ltb}
+use Rattle.std.proofs.Common.{ℕ, arith}
 use Rattle.rv_code.specs.declared.placed.Role.{Role}
-use Rattle.func_find.proofs.PlacedAt.{rising}
+use Rattle.rv_code.specs.declared.placed.Role.TheVariants.{Plain}
+use Rattle.func_find.proofs.Walked.{rest_above, next_below}
 use Rattle.func_find.proofs.inst_lists.count_below.Goals as goal
 
-pub returns-clause-below : goal.returns-clause-below
-returns-clause-below c =
-    let parted = IsPartitionedBy-ltb (λ (r : ℕ × Role). r.0) c.args.roles.now c.args.address (rising _ c.requires) in
-    let point = IsPartitionPoint-from_clause
-    (λ (r : ℕ × Role). nat_lt r.0 c.args.address) _ _ c.partition_point.ensures.partitioned parted (λ a r q k. search rules) in
-    λ k d within. ltb-true _ _ (point.0 k d (search rules) within)
+pub returns-then-roles-index-clause-above : goal.returns-then-roles-index-clause-above
+returns-then-roles-index-clause-above c =
+    rest_above (λ (r : ℕ × Role). r.0) c.args.roles.now c.requires c.loop-index.index c.args.address (0, Plain) (omega arith) c.if-roles-index.true
 
-pub returns-clause-above : goal.returns-clause-above
-returns-clause-above c =
-    let parted = IsPartitionedBy-ltb (λ (r : ℕ × Role). r.0) c.args.roles.now c.args.address (rising _ c.requires) in
-    let point = IsPartitionPoint-from_clause
-    (λ (r : ℕ × Role). nat_lt r.0 c.args.address) _ _ c.partition_point.ensures.partitioned parted (λ a r q k. search rules) in
-    λ k d from within. ltb-false _ _ (point.1 k d from within)
+pub loop-index-preserved : goal.loop-index-preserved
+loop-index-preserved c =
+    next_below (λ (r : ℕ × Role). r.0) c.args.roles.now c.requires c.loop-index.index c.args.address (0, Plain) (omega arith) c.if-roles-index.false
+    c.loop-index.invariant
