@@ -10,14 +10,14 @@ use Rattle.rv_code.specs.declared.layout.Size.TheVariants.{Half, Full, Long}
 use Rattle.rv_code.specs.declared.placed.Placed.{Placed}
 use Rattle.addr_map.specs.Spans.{new}
 use Rattle.branch_fixup.specs.declared.growth.Tail.{Tail}
-use Rattle.branch_fixup.specs.Pieces.{Piece, as_it_is, length_of, length_in, end_from}
+use Rattle.branch_fixup.specs.Pieces.{Piece, PlacedFrom, as_it_is, length_of, length_in, end_from}
 use Rattle.branch_fixup.specs.Reach.{goal, reaches, lands, main_leap}
 use Rattle.branch_fixup.specs.Endings.{End, Branches, Goes, end_of_form}
 use Rattle.branch_fixup.specs.Forms.{shorter, FallsShort, IsLeast}
 use Rattle.branch_fixup.specs.Growth.{tail_at, form_at, place, from_at, to_at, half_of, is_enough, IsNeeded}
 use Rattle.branch_fixup.specs.Strips.{Strip, first_in, pieces_of, pieces_of_strip, spans_of}
 use Rattle.rv_code.proofs.lists.Follows.{before_of}
-use Rattle.branch_fixup.proofs.Laid.{AreOnce, PlacedFrom, placed_from}
+use Rattle.branch_fixup.proofs.Laid.{AreOnce, placed_from}
 use Rattle.branch_fixup.proofs.Grown.{not_true, no, reach_if}
 
 pub split_placed : (f : ℕ → ℕ) (a : ℕ) (xs ys : List Piece) → PlacedFrom f a (xs ++ ys) →

@@ -7,7 +7,7 @@ use Rattle.std.proofs.lemmas.List.Kept.{AllPairs-cons}
 use Rattle.branch_fixup.proofs.Lists.{Contains-cons_cases}
 use Rattle.addr_map.specs.declared.span.Span.{Span}
 use Rattle.addr_map.specs.Spans.{has_byte, new, IsPlaced, ShareNoByte}
-use Rattle.branch_fixup.specs.Pieces.{Piece, length_of, laid_from, end_from}
+use Rattle.branch_fixup.specs.Pieces.{Piece, PlacedFrom, length_of, laid_from, end_from}
 
 -- pieces of which each has an instruction of its own
 abbrev pub IsFresh : ℕ → List Piece → Type 0
@@ -21,11 +21,6 @@ AreOnce (p ∷ ps) = IsFresh p.placed.addr ps × AreOnce ps
 abbrev pub AreEven : List Piece → Type 0
 AreEven [] = Unit {0}
 AreEven (p ∷ ps) = (length_of p % 2 ≡ 0) × AreEven ps
-
--- each is where those before it end
-abbrev pub PlacedFrom : (ℕ → ℕ) → ℕ → List Piece → Type 0
-PlacedFrom new a [] = Unit {0}
-PlacedFrom new a (p ∷ ps) = (new p.placed.addr ≡ a) × PlacedFrom new (a + length_of p) ps
 
 placed_more : (s : Span) (rest : List Span) (a : ℕ) (qs : List Piece) → IsFresh s.input qs →
     PlacedFrom (new rest) a qs → PlacedFrom (new (s ∷ rest)) a qs

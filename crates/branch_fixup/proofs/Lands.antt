@@ -26,7 +26,7 @@ use Rattle.branch_fixup.specs.Endings.{Kept, LeftOut, Goes, begins_at, end_of_fo
 use Rattle.branch_fixup.specs.Ends.{AreEnds, begins_of, lead_of}
 use Rattle.branch_fixup.specs.Growth.{AreEnough, form_at, half_of, place, tail_at, from_at, to_at}
 use Rattle.branch_fixup.specs.Inputs.{AreDirect, AreNear, IsOrder, KeepsShort, LeadsToCode, StaysIn, is_short}
-use Rattle.branch_fixup.specs.Pieces.{Piece, as_it_is, length_in, length_of, end_from, bytes_of_size}
+use Rattle.branch_fixup.specs.Pieces.{Piece, PlacedFrom, as_it_is, length_in, length_of, end_from, bytes_of_size}
 use Rattle.branch_fixup.specs.Reach.{AllLand, Leap, added_leap, goal, jal, lands, main_leap, reach_of, reaches}
 use Rattle.branch_fixup.specs.Strips.{Strip, first_in, insts_in, is_alone, pieces_of, pieces_of_strip, spans_of, strips_of}
 use Rattle.branch_fixup.proofs.Appended.{end_append}
@@ -34,7 +34,7 @@ use Rattle.branch_fixup.proofs.Bridge.{AreTailsOf, block_placed, end_of_inner, l
 use Rattle.branch_fixup.proofs.Covered.{blocks_apart}
 use Rattle.rv_code.proofs.lists.Follows.{follow_at, funcs_apart, laid_func, some_length}
 use Rattle.branch_fixup.proofs.Holders.{last_there}
-use Rattle.branch_fixup.proofs.Laid.{PlacedFrom, placed_from}
+use Rattle.branch_fixup.proofs.Laid.{placed_from}
 use Rattle.branch_fixup.proofs.Lists.{at_contains, there, Contains-there}
 use Rattle.branch_fixup.proofs.Near.{Found, In, found, near_reach, shift_reach}
 use Rattle.branch_fixup.proofs.Orders.{order_once}

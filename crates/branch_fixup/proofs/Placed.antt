@@ -16,12 +16,12 @@ use Rattle.branch_fixup.specs.declared.growth.Tail.{Tail}
 use Rattle.branch_fixup.specs.Ends.{IsAt}
 use Rattle.branch_fixup.specs.Growth.{form_at, place}
 use Rattle.branch_fixup.specs.Inputs.{IsOrder}
-use Rattle.branch_fixup.specs.Pieces.{Piece, as_it_is, laid_from, length_of}
+use Rattle.branch_fixup.specs.Pieces.{Piece, PlacedFrom, as_it_is, laid_from, length_of}
 use Rattle.branch_fixup.specs.Strips.{Strip, strips_of, insts_in, first_in, pieces_of, pieces_of_strip, spans_of}
 use Rattle.branch_fixup.proofs.Bridge.{AreTailsOf, block_placed}
 use Rattle.rv_code.proofs.lists.Follows.{before_of, some_length}
 use Rattle.branch_fixup.proofs.Holders.{blocks_up}
-use Rattle.branch_fixup.proofs.Laid.{IsFresh, AreOnce, PlacedFrom, placed_from}
+use Rattle.branch_fixup.proofs.Laid.{IsFresh, AreOnce, placed_from}
 use Rattle.branch_fixup.proofs.Lists.{Contains-cons_cases, Contains-nil, Contains-there}
 use Rattle.branch_fixup.proofs.Orders.{order_once}
 use Rattle.branch_fixup.proofs.Rounds.{form_length}

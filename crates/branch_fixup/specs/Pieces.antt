@@ -1,5 +1,5 @@
 -- The new code, instruction by instruction: in which form each one is, how long that makes it, and so where it is.
-use Rattle.std.specs.Prelude.{ℕ, ◌+◌, if◌then◌else◌, Bool, List, [], ◌∷◌}
+use Rattle.std.specs.Prelude.{◌≡◌, ℕ, ◌+◌, if◌then◌else◌, Bool, List, [], ◌∷◌}
 use Rattle.rv_code.specs.declared.layout.Form.{Form}
 use Rattle.rv_code.specs.declared.layout.Form.TheVariants.{Plain, Jump, Branch, Goto, Dropped}
 use Rattle.rv_code.specs.declared.layout.Size.{Size}
@@ -42,6 +42,11 @@ length_of p = length_in p.placed.len p.form
 abbrev pub laid_from : ℕ → List Piece → List Span
 laid_from a [] = []
 laid_from a (p ∷ ps) = record { out = a; len = length_of p; input = p.placed.addr } ∷ laid_from (a + length_of p) ps
+
+-- A map gives each piece's instruction the address at which the pieces before it end.
+abbrev pub PlacedFrom : (ℕ → ℕ) → ℕ → List Piece → Type 0
+PlacedFrom new a [] = Unit {0}
+PlacedFrom new a (p ∷ ps) = (new p.placed.addr ≡ a) × PlacedFrom new (a + length_of p) ps
 
 -- where they end
 abbrev pub end_from : ℕ → List Piece → ℕ

@@ -1,18 +1,20 @@
 -- The blocks of a plan, one after another.
-use Rattle.std.proofs.Common.{◌≡◌, ℕ, ◌+◌, ◌^◌, ◌<◌, ◌≤◌, List, [], length, Some, sym, ap, ◌∙◌, subst, arith, get_or, take}
+use Rattle.std.proofs.Common.{◌≡◌, ℕ, ◌+◌, ◌^◌, ◌<◌, ◌≤◌, List, [], length, Some, refl, sym, ap, ◌∙◌, subst, arith, get_or, take}
 use Rattle.std.specs.Prelude.{All, slice_get}
+use Rattle.std.specs.Option.{option_map_or}
 use Rattle.rv_code.specs.declared.layout.Form.{Form}
 use Rattle.rv_code.specs.declared.layout.Form.TheVariants as form
 use Rattle.rv_code.specs.declared.placed.Block.{Block}
 use Rattle.rv_code.specs.declared.placed.Func.{Func}
 use Rattle.rv_code.specs.layout.Flow.{insts_of}
-use Rattle.rv_code.specs.layout.FunctionLists.{AreLaidOut}
+use Rattle.rv_code.specs.layout.FunctionLists.{AreLaidOut, code_limit}
 use Rattle.rv_code.specs.layout.ProgramCode.{ProgramCode}
 use Rattle.addr_map.specs.declared.span.Span.{Span}
 use Rattle.addr_map.specs.Spans.{new}
+use Rattle.branch_fixup.specs.Ends.{begins_of}
 use Rattle.branch_fixup.specs.Inputs.{AreBlocksOf, AreDirect, IsOrder, code_of}
-use Rattle.branch_fixup.specs.Pieces.{Piece, end_from}
-use Rattle.branch_fixup.specs.Strips.{Strip, first_in, insts_in, pieces_of, pieces_of_strip, spans_of, strips_of}
+use Rattle.branch_fixup.specs.Pieces.{Piece, PlacedFrom, end_from}
+use Rattle.branch_fixup.specs.Strips.{Strip, insts_in, pieces_of, pieces_of_strip, spans_of, strips_of}
 use Rattle.branch_fixup.proofs.Appended.{end_append, pieces_all, pieces_more, pieces_part}
 use Rattle.branch_fixup.proofs.Lists.{at_contains, contains_at, flat_at}
 use Rattle.branch_fixup.proofs.Planned.{planned, planned_length}
@@ -27,7 +29,7 @@ use Rattle.code_emit.proofs.EmitKeeps.{each_goes_on, each_keeps}
 use Rattle.code_emit.proofs.Facts.{all_placed, all_stand, are_low, low_targets, same_new}
 use Rattle.code_emit.proofs.Flows.{strip_get}
 use Rattle.code_emit.proofs.Parts.{code_length, more_pieces}
-use Rattle.code_emit.proofs.Pieces.{block_at, block_can, one_each}
+use Rattle.code_emit.proofs.Pieces.{block_can, block_placed, one_each, start_at}
 
 -- what all is given
 pub record IsGiven (funcs : List Func) (blocks : List Block) (order : List ℕ) (fs : List Form) (lines : List Span) : Type 0 where
@@ -37,6 +39,13 @@ pub record IsGiven (funcs : List Func) (blocks : List Block) (order : List ℕ) 
   pub perm : IsOrder blocks order
   pub insts : All CanMove (insts_of funcs)
   pub mapped : HaveMap (strips_of funcs blocks order) fs lines
+
+-- a block whose last instruction is in a form, put where others end
+pub record IsPut (lines : List Span) (s : Strip) (f : Form) (end here : ℕ) : Type 0 where
+  pub here_is : here ≡ end
+  pub placed : PlacedFrom (new lines) here (pieces_of_strip s f)
+  pub can : AllCanStand (made_from (new lines) here (pieces_of_strip s f))
+  pub low : end_from here (pieces_of_strip s f) < 2 ^ 61
 
 -- a function of addresses may be another one that gives the same
 made_same : (f g : ℕ → ℕ) (P : (ℕ → ℕ) → Type 0) → ((t : ℕ) → f t ≡ g t) → P f → P g
@@ -72,40 +81,60 @@ module _ (funcs : List Func) (blocks : List Block) (order : List ℕ) (fs : List
         (same_new code blocks order g.laid g.direct g.blocks_of.are g.perm g.insts fs base lines m)
         (all_stand code blocks order g.laid g.direct g.blocks_of.are g.perm g.insts fs base lines m)
 
+    are_placed : PlacedFrom (new lines) base (pieces_of ss fs)
+    are_placed = made_same (new (spans_of ss base fs)) (new lines)
+        (λ (f : ℕ → ℕ). PlacedFrom f base (pieces_of ss fs))
+        (same_new code blocks order g.laid g.direct g.blocks_of.are g.perm g.insts fs base lines m)
+        (all_placed code blocks order g.laid g.direct g.blocks_of.are g.perm g.insts fs base lines m)
+
+    -- where the new code begins, if there are blocks
+    pub starts : 0 < length order → option_map_or (new lines) (begins_of ss 0) 0 ≡ base
+    starts some =
+        let n = count in
+        let l = planned_length code blocks g.blocks_of.are order g.perm in
+        start_at (new lines) base ss fs (omega (arith, l, some)) (omega (arith, n, some)) are_placed
+
     module _ (k : ℕ) (s : Strip) (at : slice_get ss k ≡ Some s) (less : k < length fs) where
-      -- where the k-th block begins
-      pub begins : new lines (first_in s.inner s.last) ≡ end_from base (pieces_of (take k ss) (take k fs))
-      begins = sym
-          (same_new code blocks order g.laid g.direct g.blocks_of.are g.perm g.insts fs base lines m (first_in s.inner s.last))
-          ∙ block_at (new (spans_of ss base fs)) base ss fs k s at less
-          (all_placed code blocks order g.laid g.direct g.blocks_of.are g.perm g.insts fs base lines m)
+      -- what stands before the k-th block, and what stands for it
+      abbrev before : List Piece
+      before = pieces_of (take k ss) (take k fs)
 
-      pub block_stands : (here : ℕ) → here ≡ new lines (first_in s.inner s.last) →
-          AllCanStand (made_from (new lines) here (pieces_of_strip s (get_or fs k form.Plain)))
-      block_stands here is =
-          subst (λ (a : ℕ). AllCanStand (made_from (new lines) a (pieces_of_strip s (get_or fs k form.Plain))))
-          (sym (is ∙ begins)) (block_can (new lines) base ss fs k s at less can_stand)
+      abbrev own : List Piece
+      own = pieces_of_strip s (get_or fs k form.Plain)
 
-      pub block_low : (here : ℕ) → here ≡ new lines (first_in s.inner s.last) →
-          end_from here (pieces_of_strip s (get_or fs k form.Plain)) < 2 ^ 61
-      block_low here is =
-          let more : end_from base (pieces_of (take (k + 1) ss) (take (k + 1) fs))
-          ≡ end_from here (pieces_of_strip s (get_or fs k form.Plain)) =
-          ap (end_from base) (pieces_more ss fs k s at less)
-          ∙ end_append base (pieces_of (take k ss) (take k fs)) (pieces_of_strip s (get_or fs k form.Plain))
-          ∙ ap (λ (a : ℕ). end_from a (pieces_of_strip s (get_or fs k form.Plain))) (sym (is ∙ begins)) in
-          let part = pieces_part base ss fs (k + 1) in
-          let low = m.low in
-          omega (arith, more, part, low)
+      -- it is put behind the code of those before it
+      pub put_after : (start n : ℕ) (x : List ℕ) → start ≡ option_map_or (new lines) (begins_of ss 0) 0 → n ≡ length x →
+          Adds [] x (made_from (new lines) base before) →
+          IsPut lines s (get_or fs k form.Plain) (end_from base before) (start + n)
+      put_after start n x is size adds =
+          subst (λ (a : ℕ). IsPut lines s (get_or fs k form.Plain) (end_from base before) a) (sym here) (record {
+            here_is = refl;
+            placed = block_placed (new lines) base ss fs k s at less are_placed;
+            can = block_can (new lines) base ss fs k s at less can_stand;
+            low = let x = more in let y = part in let z = end in omega (arith, x, y, z);
+          })
+        where
+          here : start + n ≡ end_from base before
+          here =
+              let some = count in
+              ap (λ (a : ℕ). a + n) (is ∙ starts (omega (arith, some, less))) ∙ ap (λ (l : ℕ). base + l) size
+              ∙ code_length (new lines) base x before adds
 
-      pub one_more : (x y : List ℕ) (here : ℕ) → here ≡ new lines (first_in s.inner s.last) →
-          Adds [] x (made_from (new lines) base (pieces_of (take k ss) (take k fs))) →
-          Adds x y (made_from (new lines) here (pieces_of_strip s (get_or fs k form.Plain))) →
+          more : end_from base (pieces_of (take (k + 1) ss) (take (k + 1) fs)) ≡ end_from (end_from base before) own
+          more = ap (end_from base) (pieces_more ss fs k s at less) ∙ end_append base before own
+
+          part : end_from base (pieces_of (take (k + 1) ss) (take (k + 1) fs)) ≤ end_from base (pieces_of ss fs)
+          part = pieces_part base ss fs (k + 1)
+
+          end : end_from base (pieces_of ss fs) ≤ code_limit
+          end = m.low
+
+      pub one_more : (x y : List ℕ) (here : ℕ) → here ≡ end_from base before →
+          Adds [] x (made_from (new lines) base before) → Adds x y (made_from (new lines) here own) →
           Adds [] y (made_from (new lines) base (pieces_of (take (k + 1) ss) (take (k + 1) fs)))
-      one_more x y here is before added =
+      one_more x y here is adds more =
           subst (λ (ps : List Piece). Adds [] y (made_from (new lines) base ps)) (sym (pieces_more ss fs k s at less))
-          (more_pieces (new lines) base here [] x y (pieces_of (take k ss) (take k fs))
-          (pieces_of_strip s (get_or fs k form.Plain)) (is ∙ begins) before added)
+          (more_pieces (new lines) base here [] x y before own is adds more)
 
     pub whole : (k : ℕ) (x : List ℕ) → length order ≤ k →
         Adds [] x (made_from (new lines) base (pieces_of (take k ss) (take k fs))) →

@@ -15,9 +15,9 @@ use Rattle.move_law.specs.Rewrite.{Rewrite, Goes, out}
 use Rattle.move_law.specs.Faithful.{GoesOn, KeepsInst}
 use Rattle.move_law.proofs.Lists.{all_of}
 use Rattle.branch_fixup.specs.Inputs.{AreDirect, IsOrder}
-use Rattle.branch_fixup.specs.Pieces.{Piece, length_of}
+use Rattle.branch_fixup.specs.Pieces.{Piece, PlacedFrom, length_of}
 use Rattle.branch_fixup.specs.Strips.{pieces_of, spans_of, strips_of}
-use Rattle.branch_fixup.proofs.Laid.{PlacedFrom, laid_has}
+use Rattle.branch_fixup.proofs.Laid.{laid_has}
 use Rattle.code_emit.specs.Bytes.{Adds, AllStandIn}
 use Rattle.code_emit.specs.Inputs.{AreMapped, CanMove}
 use Rattle.code_emit.specs.Made.{made_from}

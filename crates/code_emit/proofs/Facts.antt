@@ -20,12 +20,12 @@ use Rattle.addr_map.specs.declared.span.Span.{Span}
 use Rattle.addr_map.specs.Spans.{is_of, new}
 use Rattle.addr_map.proofs.Orders.{lines_apart, moved_permutation}
 use Rattle.branch_fixup.specs.Inputs.{AreDirect, IsOrder, LeadsToCode}
-use Rattle.branch_fixup.specs.Pieces.{Piece, end_from, laid_from, length_in, length_of}
+use Rattle.branch_fixup.specs.Pieces.{Piece, PlacedFrom, end_from, laid_from, length_in, length_of}
 use Rattle.branch_fixup.specs.Reach.{AllLand, added_leap, goal, lands, main_leap}
 use Rattle.branch_fixup.specs.Strips.{Strip, pieces_of, spans_of, strips_of}
 use Rattle.branch_fixup.proofs.Falls.{below_limit, code_at}
 use Rattle.rv_code.proofs.lists.Follows.{laid_func}
-use Rattle.branch_fixup.proofs.Laid.{AreOnce, PlacedFrom, inside, once_each, placed_from}
+use Rattle.branch_fixup.proofs.Laid.{AreOnce, inside, once_each, placed_from}
 use Rattle.branch_fixup.proofs.Lists.{Contains-cons_cases, Contains-there, at_contains, at_flat, contains_at, flat_at}
 use Rattle.branch_fixup.proofs.Placed.{are_strips, strips_once}
 use Rattle.code_emit.specs.Bytes.{AllCanStand}

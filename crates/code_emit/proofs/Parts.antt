@@ -9,7 +9,7 @@ use Rattle.rv_code.specs.declared.placed.Placed.{Placed}
 use Rattle.rv_code.specs.declared.layout.Form.{Form}
 use Rattle.rv_code.specs.declared.layout.Form.TheVariants as form
 use Rattle.rv_code.specs.declared.layout.Size.TheVariants.{Half, Full, Long}
-use Rattle.branch_fixup.specs.Pieces.{Piece, length_of, length_in, as_it_is, end_from}
+use Rattle.branch_fixup.specs.Pieces.{Piece, PlacedFrom, length_of, length_in, as_it_is, end_from}
 use Rattle.branch_fixup.specs.Strips.{Strip, insts_in, pieces_of_strip}
 use Rattle.branch_fixup.proofs.Appended.{map_more}
 use Rattle.code_emit.specs.Made.{Made, made, made_from}
@@ -65,6 +65,12 @@ can_parts f a ps qs can =
     )
 
 -- Instructions that keep their widths.
+
+pub inner_at : (f : ℕ → ℕ) (a : ℕ) (ps : List Placed) (i : ℕ) (d : Placed) → i < length ps →
+    PlacedFrom f a (map as_it_is ps) → f (get_or ps i d).addr ≡ end_from a (map as_it_is (take i ps))
+inner_at f a [] i d h placed = absurd (omega (arith, h))
+inner_at f a (p ∷ ps) zero d h placed = placed.0
+inner_at f a (p ∷ ps) (suc i) d h placed = inner_at f (a + p.len) ps i d (omega (arith, h)) placed.1
 
 pub inner_can : (f : ℕ → ℕ) (a : ℕ) (ps : List Placed) (i : ℕ) (d : Placed) → i < length ps →
     AllCanStand (made_from f a (map as_it_is ps)) →

@@ -1,6 +1,7 @@
 -- The pieces of a plan: each is one of an instruction, and each instruction has one. Each ends by the table.
 use Rattle.std.proofs.Common.{◌≡◌, ℕ, zero, suc, ◌+◌, ◌<◌, ◌≤◌, List, [], ◌∷◌, ◌++◌, length, Option, Some, Bool, true, refl, sym, ap, ◌∙◌, subst, arith, inl, inr, get_or, take}
 use Rattle.std.specs.Prelude.{Contains, map, slice_get}
+use Rattle.std.specs.Option.{option_map_or}
 use Rattle.std.proofs.lemmas.List.Elements.{Contains-append_cases, Contains-append_left, Contains-append_right}
 use Rattle.std.proofs.lemmas.Option.{slice_get_within}
 use Rattle.rv_code.specs.declared.layout.Form.{Form}
@@ -14,13 +15,14 @@ use Rattle.rv_code.specs.layout.Blocks.{AreBlocks}
 use Rattle.rv_code.specs.layout.Flow.{insts_of, action_at, is_branch, target_of}
 use Rattle.rv_code.specs.layout.ProgramCode.{ProgramCode}
 use Rattle.branch_fixup.specs.Endings.{end_of_form, ending}
+use Rattle.branch_fixup.specs.Ends.{begins_of}
 use Rattle.branch_fixup.specs.Forms.{EndByTable, FitsLength}
 use Rattle.branch_fixup.specs.Inputs.{IsOrder}
-use Rattle.branch_fixup.specs.Pieces.{Piece, as_it_is, end_from, length_of}
+use Rattle.branch_fixup.specs.Pieces.{Piece, PlacedFrom, as_it_is, end_from}
 use Rattle.branch_fixup.specs.Strips.{Strip, first_in, first_of, insts_in, is_alone, pieces_of, pieces_of_strip, strips_of}
 use Rattle.branch_fixup.proofs.Appended.{end_append}
+use Rattle.branch_fixup.proofs.Bridge.{split_placed}
 use Rattle.branch_fixup.proofs.Covered.{Covers, covers}
-use Rattle.branch_fixup.proofs.Laid.{PlacedFrom}
 use Rattle.branch_fixup.proofs.Lists.{Contains-cons_cases, Contains-nil, Contains-there, at_contains, at_flat, contains_at, flat_at}
 use Rattle.branch_fixup.proofs.Orders.{order_has}
 use Rattle.branch_fixup.proofs.Placed.{piece_inst}
@@ -156,32 +158,37 @@ tabled (s ∷ ss) (f ∷ fs) table q c = elim (Contains-append_cases (pieces_of_
   | inr later ↦ tabled ss fs table.2 q later
 ]
 
--- The k-th block.
+-- Single blocks.
 
-first_placed : (f : ℕ → ℕ) (a : ℕ) (inner : List Placed) (last : Placed) (x : Form) (rest : List Piece) →
-    PlacedFrom f a ((map as_it_is inner ++ record { placed = last; form = x } ∷ []) ++ rest) → f (first_in inner last) ≡ a
-first_placed f a [] last x rest h = h.0
-first_placed f a (p ∷ ps) last x rest h = h.0
+first_placed : (f : ℕ → ℕ) (a : ℕ) (inner : List Placed) (last : Placed) (x : Form) →
+    PlacedFrom f a (map as_it_is inner ++ record { placed = last; form = x } ∷ []) → f (first_in inner last) ≡ a
+first_placed f a [] last x h = h.0
+first_placed f a (p ∷ ps) last x h = h.0
 
-placed_back : (f : ℕ → ℕ) (a : ℕ) (xs ys : List Piece) → PlacedFrom f a (xs ++ ys) → PlacedFrom f (end_from a xs) ys
-placed_back f a [] ys h = h
-placed_back f a (x ∷ xs) ys h = placed_back f (a + length_of x) xs ys h.1
+-- where the first one begins
+pub start_at : (f : ℕ → ℕ) (a : ℕ) (ss : List Strip) (fs : List Form) → 0 < length ss → 0 < length fs →
+    PlacedFrom f a (pieces_of ss fs) → option_map_or f (begins_of ss 0) 0 ≡ a
+start_at f a [] fs some forms h = absurd (omega (arith, some))
+start_at f a (t ∷ ss) [] some forms h = absurd (omega (arith, forms))
+start_at f a (t ∷ ss) (x ∷ fs) some forms h =
+    first_placed f a t.inner t.last x (split_placed f a (pieces_of_strip t x) (pieces_of ss fs) h).0
 
--- where it begins
-pub block_at : (f : ℕ → ℕ) (a : ℕ) (ss : List Strip) (fs : List Form) (k : ℕ) (s : Strip) → slice_get ss k ≡ Some s →
+-- where the pieces of the k-th one are
+pub block_placed : (f : ℕ → ℕ) (a : ℕ) (ss : List Strip) (fs : List Form) (k : ℕ) (s : Strip) → slice_get ss k ≡ Some s →
     k < length fs → PlacedFrom f a (pieces_of ss fs) →
-    f (first_in s.inner s.last) ≡ end_from a (pieces_of (take k ss) (take k fs))
-block_at f a [] fs k s at less h = absurd (cc)
-block_at f a (t ∷ ss) [] k s at less h = absurd (omega (arith, less))
-block_at f a (t ∷ ss) (x ∷ fs) zero s at less h =
+    PlacedFrom f (end_from a (pieces_of (take k ss) (take k fs))) (pieces_of_strip s (get_or fs k form.Plain))
+block_placed f a [] fs k s at less h = absurd (cc)
+block_placed f a (t ∷ ss) [] k s at less h = absurd (omega (arith, less))
+block_placed f a (t ∷ ss) (x ∷ fs) zero s at less h =
     let same : t ≡ s = (let e : Some t ≡ Some s = at in cc) in
-    ap (λ (z : Strip). f (first_in z.inner z.last)) (sym same) ∙ first_placed f a t.inner t.last x (pieces_of ss fs) h
-block_at f a (t ∷ ss) (x ∷ fs) (suc k) s at less h =
-    block_at f (end_from a (pieces_of_strip t x)) ss fs k s at (omega (arith, less))
-    (placed_back f a (pieces_of_strip t x) (pieces_of ss fs) h)
-    ∙ sym (end_append a (pieces_of_strip t x) (pieces_of (take k ss) (take k fs)))
+    subst (λ (z : Strip). PlacedFrom f a (pieces_of_strip z x)) same (split_placed f a (pieces_of_strip t x) (pieces_of ss fs) h).0
+block_placed f a (t ∷ ss) (x ∷ fs) (suc k) s at less h =
+    subst (λ (e : ℕ). PlacedFrom f e (pieces_of_strip s (get_or fs k form.Plain)))
+    (sym (end_append a (pieces_of_strip t x) (pieces_of (take k ss) (take k fs))))
+    (block_placed f (end_from a (pieces_of_strip t x)) ss fs k s at (omega (arith, less))
+    (split_placed f a (pieces_of_strip t x) (pieces_of ss fs) h).1)
 
--- it can stand there
+-- they can stand there
 pub block_can : (f : ℕ → ℕ) (a : ℕ) (ss : List Strip) (fs : List Form) (k : ℕ) (s : Strip) → slice_get ss k ≡ Some s →
     k < length fs → AllCanStand (made_from f a (pieces_of ss fs)) →
     AllCanStand (made_from f (end_from a (pieces_of (take k ss) (take k fs))) (pieces_of_strip s (get_or fs k form.Plain)))

@@ -9,12 +9,12 @@ use Rattle.rv_code.specs.declared.placed.Placed.{Placed}
 use Rattle.rv_code.specs.declared.layout.Form.{Form}
 use Rattle.rv_code.specs.declared.layout.Form.TheVariants as form
 use Rattle.rv_code.specs.declared.layout.Size.TheVariants.{Half, Full, Long}
-use Rattle.branch_fixup.specs.Pieces.{Piece, length_of, length_in, end_from}
+use Rattle.branch_fixup.specs.Pieces.{Piece, PlacedFrom, length_of, length_in, end_from}
 use Rattle.branch_fixup.specs.Endings.{end_of_form, ending}
 use Rattle.code_emit.specs.Made.{Made, made, made_from}
 use Rattle.code_emit.proofs.Standing.{HasAll}
 use Rattle.code_emit.proofs.Keeps.{Stands, keeps, keeps_on}
-use Rattle.branch_fixup.proofs.Laid.{PlacedFrom, end_above}
+use Rattle.branch_fixup.proofs.Laid.{end_above}
 
 -- the address of the first instruction of pieces
 abbrev pub first_of : List Piece → Option ℕ

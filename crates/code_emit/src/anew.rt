@@ -3,7 +3,7 @@ ghost use Rattle.std.specs.Prelude.{◌≡◌, ◌<◌, ◌^◌, pos, ◌≤ℤ�
 ghost use Rattle.rv_code.specs.isa.HiLo.{hi20, lo12};
 ghost use Rattle.move_law.specs.RelocatedValues.{distance};
 ghost use Rattle.move_law.specs.Faithful.{with_immediate, made_anew};
-ghost use Rattle.code_emit.specs.Made.{with_distance, opposite_of, turned, kept};
+ghost use Rattle.code_emit.specs.Made.{with_distance, turned, kept};
 ghost use Rattle.branch_fixup.specs.Reach.{goal};
 ghost use Rattle.code_emit.specs.Inputs.{AreLow, HasLowTargets};
 ghost use Rattle.addr_map.specs.Spans.{new};
@@ -110,8 +110,10 @@ pub fn turned(opposite: bool, inst: &Inst) -> Inst
     }
 }
 
-// An instruction that is no branch and no JAL: by its role with the parts of new addresses.
-fn anew(moved: &AddrMap, p: &Placed) -> Inst
+// An instruction that is no branch and no JAL, for its new address `a`: by its role with the parts of new addresses.
+fn anew(moved: &AddrMap, a: u64, p: &Placed) -> Inst
+    requires here { a ≡ new moved.now p.now.addr }
+    requires low { a < 2 ^ 62 }
     requires lows { AreLow moved.now }
     requires targets { HasLowTargets p.now }
     ensures { result ≡ made_anew (new moved.now) p.now.addr p.now.role p.now.inst }
@@ -119,10 +121,7 @@ fn anew(moved: &AddrMap, p: &Placed) -> Inst
     match p.role {
         Role::Plain => p.inst,
         Role::CallHi { target } | Role::Hi { target } => {
-            with_immediate(
-                &p.inst,
-                upper(distance(new_of(moved, target), new_of(moved, p.addr))),
-            )
+            with_immediate(&p.inst, upper(distance(new_of(moved, target), a)))
         }
         Role::CallLo { hi, target } | Role::Lo { hi, target } => {
             with_immediate(
@@ -135,8 +134,9 @@ fn anew(moved: &AddrMap, p: &Placed) -> Inst
     }
 }
 
-/// An instruction that keeps its width, for the new address `a`.
-pub fn kept(moved: &AddrMap, a: u64, p: &Placed) -> Inst
+/// An instruction that keeps its width, for its new address `a`.
+pub(crate) fn kept(moved: &AddrMap, a: u64, p: &Placed) -> Inst
+    requires here { a ≡ new moved.now p.now.addr }
     requires low { a < 2 ^ 62 }
     requires lows { AreLow moved.now }
     requires targets { HasLowTargets p.now }
@@ -144,7 +144,7 @@ pub fn kept(moved: &AddrMap, a: u64, p: &Placed) -> Inst
 {
     match target(p.addr, &p.inst) {
         Some(t) => with_distance(&p.inst, distance(new_of(moved, t), a)),
-        None => anew(moved, p),
+        None => anew(moved, a, p),
     }
 }
 

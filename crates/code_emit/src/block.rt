@@ -2,7 +2,7 @@
 ghost use Rattle.std.specs.Prelude.{◌≡◌, ◌<◌, ◌^◌, All, IfOk, OnOk, map};
 ghost use Rattle.addr_map.specs.Spans.{new};
 ghost use Rattle.branch_fixup.specs.BlockInsts.{seen};
-ghost use Rattle.branch_fixup.specs.Pieces.{as_it_is, end_from};
+ghost use Rattle.branch_fixup.specs.Pieces.{PlacedFrom, as_it_is, end_from};
 ghost use Rattle.branch_fixup.specs.Strips.{insts_in, pieces_of_strip};
 ghost use Rattle.code_emit.specs.Made.{made_from};
 ghost use Rattle.code_emit.specs.Bytes.{Adds, AllCanStand};
@@ -14,13 +14,14 @@ use branch_fixup::block_insts::BlockInsts;
 use rv_code::{Form, Placed};
 use std::alloc::AllocError;
 
-// Instructions that keep their widths, from an address on. Gives the address at which they end.
+// Instructions that keep their widths, from their new address on. Gives the address at which they end.
 fn put_inner(
     code: &mut Vec<u8>,
     moved: &AddrMap,
     mut at: u64,
     insts: &[Placed],
 ) -> Result<u64, AllocError>
+    requires placed { PlacedFrom (new moved.now) at (map as_it_is insts.now) }
     requires can { AllCanStand (made_from (new moved.now) at (map as_it_is insts.now)) }
     requires lows { AreLow moved.now }
     requires low { end_from at (map as_it_is insts.now) < 2 ^ 61 }
@@ -36,14 +37,15 @@ fn put_inner(
     Ok(at)
 }
 
-/// A block whose last instruction is in a form, from an address on.
-pub fn put_block(
+/// A block whose last instruction is in a form, from its new address on.
+pub(crate) fn put_block(
     code: &mut Vec<u8>,
     moved: &AddrMap,
     at: u64,
     block: &BlockInsts,
     form: Form,
 ) -> Result<(), AllocError>
+    requires placed { PlacedFrom (new moved.now) at (pieces_of_strip (seen block.now) form) }
     requires can { AllCanStand (made_from (new moved.now) at (pieces_of_strip (seen block.now) form)) }
     requires lows { AreLow moved.now }
     requires low { end_from at (pieces_of_strip (seen block.now) form) < 2 ^ 61 }

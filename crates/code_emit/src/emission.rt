@@ -1,15 +1,17 @@
 // The new code of all blocks, and the new content of all cells.
 ghost use Rattle.std.specs.Prelude.{◌≡◌, ◌+◌, ℕ, All, IfOk, [], length, map};
+ghost use Rattle.std.specs.Option.{option_map_or};
 ghost use Rattle.rv_code.specs.layout.Flow.{insts_of};
 ghost use Rattle.rv_code.specs.layout.FunctionLists.{AreLaidOut};
 ghost use Rattle.addr_map.specs.Spans.{new};
 ghost use Rattle.move_law.specs.Faithful.{KeepsInst, GoesOn};
 ghost use Rattle.move_law.specs.Rewrite.{Rewrite, Goes};
+ghost use Rattle.branch_fixup.specs.Ends.{begins_of};
 ghost use Rattle.branch_fixup.specs.Forms.{end_of};
 ghost use Rattle.branch_fixup.specs.Inputs.{AreBlocksOf, AreDirect, IsOrder};
 ghost use Rattle.branch_fixup.specs.Strips.{pieces_of, strips_of};
 ghost use Rattle.code_emit.specs.Bytes.{Adds};
-ghost use Rattle.code_emit.specs.Inputs.{AreLow, AreMapped, CanMove, HaveMap, IsLowCell};
+ghost use Rattle.code_emit.specs.Inputs.{AreMapped, CanMove, HaveMap, IsLowCell};
 ghost use Rattle.code_emit.specs.Made.{made_from};
 ghost use Rattle.code_emit.specs.Output.{Puts, new_cell};
 
@@ -17,10 +19,23 @@ use crate::anew::new_of;
 use crate::block::put_block;
 use crate::cells::contents;
 use addr_map::AddrMap;
-use branch_fixup::block_insts::{planned, start_of};
+use branch_fixup::block_insts::{begins_of, planned};
 use rb_bytes::fault::NoMemory;
 use rv_code::{Block, CodeCell, Emitted, Form, Func, Plan};
 use std::alloc::{AllocError, Global};
+
+// Where the new code begins: the new address of the first block.
+fn code_start(funcs: &[Func], blocks: &[Block], order: &[usize], moved: &AddrMap) -> u64
+    requires laid { AreLaidOut funcs.now }
+    requires blocks { AreBlocksOf funcs.now blocks.now }
+    requires order { IsOrder blocks.now order.now }
+    ensures { result ≡ option_map_or (new moved.now) (begins_of (strips_of funcs.now blocks.now order.now) 0) 0 }
+{
+    match begins_of(funcs, blocks, order, 0) {
+        Some(first) => new_of(moved, first),
+        None => 0,
+    }
+}
 
 // The blocks in an order, one after another.
 fn code(
@@ -42,10 +57,11 @@ fn code(
         (λ code. (base : ℕ) → AreMapped (strips_of funcs.now blocks.now order.now) forms.now base moved.now →
         Adds [] code.items (made_from (new moved.now) base (pieces_of (strips_of funcs.now blocks.now order.now) forms.now))) }
 {
+    let start = code_start(funcs, blocks, order, moved);
     let mut code = Vec::new(alloc);
     for k in 0..order.len() {
         let block = planned(funcs, blocks, order, k);
-        let at = new_of(moved, start_of(&block));
+        let at = start + code.len() as u64;
         put_block(&mut code, moved, at, &block, forms[k])?;
     }
     Ok(code)

@@ -139,15 +139,16 @@ fn put_whole_branch(
     put_added(code, moved, p, jump, a + bytes_of_size(size) as u64)
 }
 
-/// An instruction in its form, at `a`.
+/// An instruction in its form, for its new address `a`.
 #[tactic(auto, using(crate::proofs::Coded::adds_both, crate::proofs::Coded::adds_none))]
-pub fn put_piece(
+pub(crate) fn put_piece(
     code: &mut Vec<u8>,
     moved: &AddrMap,
     p: &Placed,
     form: Form,
     a: u64,
 ) -> Result<(), AllocError>
+    requires here { a ≡ new moved.now p.now.addr }
     requires can { AllCanStand (made (new moved.now) a p.now form) }
     requires lows { AreLow moved.now }
     requires low { a < 2 ^ 61 }

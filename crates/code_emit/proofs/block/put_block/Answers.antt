@@ -1,10 +1,11 @@
-use Rattle.std.proofs.Common.{ℕ, arith, sym, subst}
+use Rattle.std.proofs.Common.{◌∙◌, ℕ, [], ◌∷◌, arith, sym, subst}
 use Rattle.std.specs.Prelude.{map}
 use Rattle.std.proofs.lemmas.List.Elements.{All-contains}
 use Rattle.addr_map.specs.Spans.{new}
 use Rattle.branch_fixup.specs.BlockInsts.{seen}
 use Rattle.branch_fixup.specs.Pieces.{as_it_is}
 use Rattle.branch_fixup.proofs.Appended.{inner_ends}
+use Rattle.branch_fixup.proofs.Bridge.{split_placed}
 use Rattle.branch_fixup.proofs.Holders.{last_there}
 use Rattle.branch_fixup.specs.Strips.{insts_in}
 use Rattle.code_emit.specs.Bytes.{AllCanStand}
@@ -13,6 +14,11 @@ use Rattle.code_emit.specs.Made.{made}
 use Rattle.code_emit.proofs.Parts.{front_can, last_can, one_more, inner_targets}
 use Rattle.code_emit.proofs.Coded.{on_ok}
 use Rattle.code_emit.proofs.block.put_block.Goals as goal
+
+pub put_inner-requires-clause-placed : goal.put_inner-requires-clause-placed
+put_inner-requires-clause-placed c =
+    (split_placed (new c.args.moved.now) c.args.at (map as_it_is c.args.block.now.inner.now)
+    (record { placed = c.args.block.now.last; form = c.args.form } ∷ []) c.requires.placed).0
 
 pub put_inner-requires-clause-can : goal.put_inner-requires-clause-can
 put_inner-requires-clause-can c = front_can (new c.args.moved.now) c.args.at (seen c.args.block.now) c.args.form c.requires.can
@@ -25,6 +31,12 @@ put_inner-requires-clause-low c =
 
 pub put_inner-requires-clause-targets : goal.put_inner-requires-clause-targets
 put_inner-requires-clause-targets c = inner_targets (seen c.args.block.now) c.requires.targets
+
+pub put_piece-requires-clause-here : goal.put_piece-requires-clause-here
+put_piece-requires-clause-here c =
+    c.in_ok-last_at.ensures.end
+    ∙ sym (split_placed (new c.args.moved.now) c.args.at (map as_it_is c.args.block.now.inner.now)
+    (record { placed = c.args.block.now.last; form = c.args.form } ∷ []) c.requires.placed).1.0
 
 pub put_piece-requires-clause-can : goal.put_piece-requires-clause-can
 put_piece-requires-clause-can c =

@@ -1,11 +1,17 @@
-use Rattle.std.proofs.Common.{◌+◌, ℕ, get_or, arith, sym, subst}
+use Rattle.std.proofs.Common.{◌+◌, ◌∙◌, ℕ, get_or, arith, sym, subst}
 use Rattle.rv_code.specs.declared.layout.Form.TheVariants as form
 use Rattle.addr_map.specs.Spans.{new}
 use Rattle.branch_fixup.proofs.Appended.{no_inst, end_more, end_part}
 use Rattle.code_emit.specs.Made.{made}
 use Rattle.code_emit.specs.Bytes.{AllCanStand}
-use Rattle.code_emit.proofs.Parts.{inner_can, inner_more}
+use Rattle.code_emit.proofs.Parts.{inner_at, inner_can, inner_more}
 use Rattle.code_emit.proofs.block.put_inner.Goals as goal
+
+pub put_piece-requires-clause-here : goal.put_piece-requires-clause-here
+put_piece-requires-clause-here c =
+    c.loop-inst.invariant.1
+    ∙ sym (inner_at (new c.args.moved.now) c.args.at c.args.insts.now c.loop-inst.inst-index no_inst (omega arith)
+    c.requires.placed)
 
 pub put_piece-requires-clause-can : goal.put_piece-requires-clause-can
 put_piece-requires-clause-can c =

@@ -1,19 +1,51 @@
-use Rattle.std.proofs.Common.{◌∙◌, ℕ, List, [], arith, ap, sym, subst}
-use Rattle.addr_map.specs.Spans.{new}
+use Rattle.std.proofs.Common.{◌≡◌, ◌+◌, ℕ, List, [], arith, get_or, length, rules, sym, subst}
+use Rattle.rv_code.specs.declared.layout.Form.TheVariants as form
 use Rattle.branch_fixup.specs.BlockInsts.{seen}
+use Rattle.branch_fixup.specs.Strips.{pieces_of_strip}
+use Rattle.branch_fixup.proofs.Laid.{end_above}
 use Rattle.code_emit.specs.Bytes.{Adds}
 use Rattle.code_emit.proofs.Coded.{adds_none}
-use Rattle.code_emit.proofs.AllBlocks.{IsGiven, block_low, block_stands, lows, one_more, targets, whole}
+use Rattle.code_emit.proofs.AllBlocks.{IsGiven, lows, one_more, put_after, targets, whole}
 use Rattle.code_emit.proofs.emission.code.Goals as goal
+
+pub overflow_add-at : goal.overflow_add-at
+overflow_add-at c =
+    let q = c.requires in
+    let g : IsGiven c.args.funcs.now c.args.blocks.now c.args.order.now c.args.forms.now c.args.moved.now =
+    record { laid = q.laid; direct = q.direct; blocks_of = q.blocks; perm = q.order; insts = q.insts; mapped = q.mapped } in
+    let size : c.len.result ≡ length c.loop-k.code.items = search rules in
+    let put = put_after c.args.funcs.now c.args.blocks.now c.args.order.now c.args.forms.now c.args.moved.now g
+    q.mapped.base q.mapped.mapped c.loop-k.k (seen c.planned-block.result) c.planned-block.ensures (omega arith)
+    c.code_start-start.result c.len.result c.loop-k.code.items c.code_start-start.ensures size
+    (c.loop-k.invariant q.mapped.base q.mapped.mapped) in
+    let above = end_above (c.code_start-start.result + c.len.result)
+    (pieces_of_strip (seen c.planned-block.result) (get_or c.args.forms.now c.loop-k.k form.Plain)) in
+    let low = put.low in
+    omega (arith, above, low)
+
+pub put_block-requires-clause-placed : goal.put_block-requires-clause-placed
+put_block-requires-clause-placed c =
+    let q = c.requires in
+    let g : IsGiven c.args.funcs.now c.args.blocks.now c.args.order.now c.args.forms.now c.args.moved.now =
+    record { laid = q.laid; direct = q.direct; blocks_of = q.blocks; perm = q.order; insts = q.insts; mapped = q.mapped } in
+    let size : c.len.result ≡ length c.loop-k.code.items = search rules in
+    let put = put_after c.args.funcs.now c.args.blocks.now c.args.order.now c.args.forms.now c.args.moved.now g
+    q.mapped.base q.mapped.mapped c.loop-k.k (seen c.planned-block.result) c.planned-block.ensures (omega arith)
+    c.code_start-start.result c.len.result c.loop-k.code.items c.code_start-start.ensures size
+    (c.loop-k.invariant q.mapped.base q.mapped.mapped) in
+    put.placed
 
 pub put_block-requires-clause-can : goal.put_block-requires-clause-can
 put_block-requires-clause-can c =
     let q = c.requires in
     let g : IsGiven c.args.funcs.now c.args.blocks.now c.args.order.now c.args.forms.now c.args.moved.now =
     record { laid = q.laid; direct = q.direct; blocks_of = q.blocks; perm = q.order; insts = q.insts; mapped = q.mapped } in
-    block_stands c.args.funcs.now c.args.blocks.now c.args.order.now c.args.forms.now c.args.moved.now g q.mapped.base
-    q.mapped.mapped c.loop-k.k (seen c.planned-block.result) c.planned-block.ensures (omega arith)
-    c.new_of-at.result (c.new_of-at.ensures ∙ ap (new c.args.moved.now) c.start_of.ensures)
+    let size : c.len.result ≡ length c.loop-k.code.items = search rules in
+    let put = put_after c.args.funcs.now c.args.blocks.now c.args.order.now c.args.forms.now c.args.moved.now g
+    q.mapped.base q.mapped.mapped c.loop-k.k (seen c.planned-block.result) c.planned-block.ensures (omega arith)
+    c.code_start-start.result c.len.result c.loop-k.code.items c.code_start-start.ensures size
+    (c.loop-k.invariant q.mapped.base q.mapped.mapped) in
+    put.can
 
 pub put_block-requires-clause-lows : goal.put_block-requires-clause-lows
 put_block-requires-clause-lows c =
@@ -27,9 +59,12 @@ put_block-requires-clause-low c =
     let q = c.requires in
     let g : IsGiven c.args.funcs.now c.args.blocks.now c.args.order.now c.args.forms.now c.args.moved.now =
     record { laid = q.laid; direct = q.direct; blocks_of = q.blocks; perm = q.order; insts = q.insts; mapped = q.mapped } in
-    block_low c.args.funcs.now c.args.blocks.now c.args.order.now c.args.forms.now c.args.moved.now g q.mapped.base
-    q.mapped.mapped c.loop-k.k (seen c.planned-block.result) c.planned-block.ensures (omega arith)
-    c.new_of-at.result (c.new_of-at.ensures ∙ ap (new c.args.moved.now) c.start_of.ensures)
+    let size : c.len.result ≡ length c.loop-k.code.items = search rules in
+    let put = put_after c.args.funcs.now c.args.blocks.now c.args.order.now c.args.forms.now c.args.moved.now g
+    q.mapped.base q.mapped.mapped c.loop-k.k (seen c.planned-block.result) c.planned-block.ensures (omega arith)
+    c.code_start-start.result c.len.result c.loop-k.code.items c.code_start-start.ensures size
+    (c.loop-k.invariant q.mapped.base q.mapped.mapped) in
+    put.low
 
 pub put_block-requires-clause-targets : goal.put_block-requires-clause-targets
 put_block-requires-clause-targets c =
@@ -47,10 +82,15 @@ loop-k-preserved c =
     let q = c.requires in
     let g : IsGiven c.args.funcs.now c.args.blocks.now c.args.order.now c.args.forms.now c.args.moved.now =
     record { laid = q.laid; direct = q.direct; blocks_of = q.blocks; perm = q.order; insts = q.insts; mapped = q.mapped } in
-    λ base m. one_more c.args.funcs.now c.args.blocks.now c.args.order.now c.args.forms.now c.args.moved.now g base m c.loop-k.k
-    (seen c.planned-block.result) c.planned-block.ensures (omega arith)
-    c.loop-k.code.items c.put_block.new.code.items c.new_of-at.result
-    (c.new_of-at.ensures ∙ ap (new c.args.moved.now) c.start_of.ensures)
+    λ base m.
+    let size : c.len.result ≡ length c.loop-k.code.items = search rules in
+    let put = put_after c.args.funcs.now c.args.blocks.now c.args.order.now c.args.forms.now c.args.moved.now g
+    base m c.loop-k.k (seen c.planned-block.result) c.planned-block.ensures (omega arith)
+    c.code_start-start.result c.len.result c.loop-k.code.items c.code_start-start.ensures size
+    (c.loop-k.invariant base m) in
+    one_more c.args.funcs.now c.args.blocks.now c.args.order.now c.args.forms.now c.args.moved.now g base m
+    c.loop-k.k (seen c.planned-block.result) c.planned-block.ensures (omega arith)
+    c.loop-k.code.items c.put_block.new.code.items (c.code_start-start.result + c.len.result) put.here_is
     (c.loop-k.invariant base m) c.in_ok-put_block.ensures.adds
 
 pub returns : goal.returns
