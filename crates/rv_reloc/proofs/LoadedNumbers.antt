@@ -1,12 +1,13 @@
 -- Numbers in the memory that a file describes, from their first byte on.
-use Rattle.std.proofs.Common.{◌≡◌, ◌∙◌, sym, ap, subst, refl, ℕ, zero, suc, ◌+◌, ◌*◌, ◌^◌, ◌<◌, ◌≤◌, List, Option, Some, None, IsSome, arith}
+use Rattle.std.proofs.Common.{◌≡◌, ◌∙◌, sym, ap, subst, refl, ℕ, zero, suc, ◌+◌, ◌*◌, ◌^◌, ◌<◌, ◌≤◌, List, Option, Some, None, IsSome, length, slice_index, arith}
 use Rattle.std.specs.Option.{option_map}
 use Rattle.std.proofs.Math.Nat.{pow-suc, pow-le-pow_right}
+use Rattle.byteorder.specs.Endian.{little_from}
 use Rattle.rv_code.specs.machine.Machine.{little}
 use Rattle.elf_image.specs.declared.elf.Elf.{Elf}
 use Rattle.elf_image.specs.memory.LoadedBytes.{byte_at, bytes_in, and_more, loaded_number}
 use Rattle.elf_image.specs.faults.SegmentLayout.{address_end}
-use Rattle.rv_reloc.specs.Loaded.{IsLow}
+use Rattle.rv_reloc.specs.Loaded.{IsLow, AreBytesFrom}
 
 begins : (elf : Elf) (a : ℕ) → Some 0 ≡ loaded_number elf a zero
 unfolding bytes_in little
@@ -44,6 +45,15 @@ pub number-more : (elf : Elf) (a n m b x : ℕ) → n ≡ suc m → byte_at elf 
     Some (b + 256 * x) ≡ loaded_number elf a n
 number-more elf a n m b x is first rest =
     more (byte_at elf a) (bytes_in (byte_at elf) (a + 1) m) b x first rest ∙ whole elf a n m is
+
+-- a number whose bytes stand among those of a stretch
+pub number-there : (elf : Elf) (a i n b : ℕ) (bytes : List ℕ) → AreBytesFrom elf a bytes → b ≡ a + i → i + n ≤ length bytes →
+    Some (little_from i n bytes) ≡ loaded_number elf b n
+number-there elf a i zero b bytes are at within = begins elf b
+number-there elf a i (suc n) b bytes are at within =
+    number-more elf b (suc n) n (slice_index bytes i) (little_from (suc i) n bytes) refl
+    (ap (λ (k : ℕ). byte_at elf k) at ∙ are i (omega arith))
+    (sym (number-there elf a (suc i) n (b + 1) bytes are (omega arith) (omega arith)))
 
 pub number-no_rest : (elf : Elf) (a n m : ℕ) → n ≡ suc m → loaded_number elf (a + 1) m ≡ None → None ≡ loaded_number elf a n
 number-no_rest elf a n m is rest = no_rest (byte_at elf a) (bytes_in (byte_at elf) (a + 1) m) rest ∙ whole elf a n m is

@@ -1,9 +1,11 @@
 // Bytes and numbers in the memory that a file describes.
-ghost use Rattle.std.specs.Prelude.{◌≡◌, ◌<◌, ◌≤◌, ◌^◌, OnSome, IfSome};
+ghost use Rattle.std.specs.Prelude.{◌≡◌, ◌<◌, ◌≤◌, ◌^◌, OnSome, IfSome, length};
+ghost use Rattle.byteorder.specs.Endian.{little_number};
 ghost use Rattle.elf_image.specs.memory.LoadedBytes.{byte_at, loaded_number};
 ghost use Rattle.elf_image.specs.faults.SegmentLayout.{address_end};
 ghost use Rattle.rv_reloc.specs.Loaded.{IsLow, AreBytesFrom};
 
+use byteorder::{ByteOrder, LittleEndian};
 use elf_image::Elf;
 
 /// The bytes of the file that one segment loads from an address on, as many as it loads.
@@ -40,11 +42,36 @@ pub fn loaded_number(elf: &Elf, address: u64, size: u8) -> Option<u64>
     ensures value { result ≡ loaded_number elf.now address size }
     ensures below { IfSome result (λ x. x < 256 ^ size) }
 {
+    let bytes = bytes_from(elf, address);
+    if size == 0 || bytes.len() < size as usize {
+        return number_by_bytes(elf, address, size);
+    }
+    Some(first_number(bytes, size as usize))
+}
+
+// The number that the first bytes of these are.
+fn first_number(bytes: &[u8], size: usize) -> u64
+    requires some { 1 ≤ size }
+    requires high { size ≤ 8 }
+    requires room { size ≤ length bytes.now }
+    ensures value { result ≡ little_number size bytes.now }
+    ensures below { result < 256 ^ size }
+{
+    LittleEndian::read_uint(bytes, size)
+}
+
+// The number at an address, of which each byte is looked up for itself.
+fn number_by_bytes(elf: &Elf, address: u64, size: u8) -> Option<u64>
+    requires low { IsLow elf.now }
+    requires size { size ≤ 8 }
+    ensures value { result ≡ loaded_number elf.now address size }
+    ensures below { IfSome result (λ x. x < 256 ^ size) }
+{
     if size == 0 {
         return Some(0);
     }
     match byte_at(elf, address) {
-        Some(first) => match loaded_number(elf, address + 1, size - 1) {
+        Some(first) => match number_by_bytes(elf, address + 1, size - 1) {
             Some(rest) => Some(first as u64 + 256 * rest),
             None => None,
         },
