@@ -17,7 +17,7 @@ use Rattle.rv_reloc.proofs.StartLists.{starts_inside}
 use Rattle.rv_reloc.proofs.WholeLookup.{StartsIn-inside}
 use Rattle.elf_image.specs.code.FileCode.{AreStarts}
 use Rattle.func_find.specs.Valid.{IsValidBefore, IsNopBefore}
-use Rattle.func_find.specs.FunctionParts.{AreFunctionsBefore, FallsAt, FallsOut, IsEntered, HasReferred}
+use Rattle.func_find.specs.FunctionParts.{AreFunctionParts, AreFunctionsBefore, FallsAt, FallsOut, IsEntered, HasReferred}
 use Rattle.func_find.specs.Referred.{AreReferred}
 use Rattle.func_find.proofs.StartsApart.{starts_apart, length_is}
 
@@ -64,6 +64,15 @@ IsCodePart-function elf tabled _ _ (referred start end a nops starts refers) =
     record { part = nops.part; no_padding = nop_not_zero elf start end nops }
 IsCodePart-function elf tabled _ _ (fallen_into start end before a inst bytes nops function has ends goes) =
     record { part = nops.part; no_padding = nop_not_zero elf start end nops }
+
+-- where none is of nops, all are functions
+pub AreFunctionParts-code : (elf : Elf) (tabled : List (ℕ × ℕ)) (parts : List Part) → AreCodeParts elf parts →
+    (Any (λ p. IsNopPart elf p.start p.end) parts → ⊥) → AreFunctionParts elf tabled parts
+AreFunctionParts-code elf tabled parts are none = record {
+  only = λ p listed. code p.start p.end (are.only p listed) (λ nops. none (listed.0, p, listed.1, listed.2, nops));
+  each = λ p function. are.each p (IsCodePart-function elf tabled p.start p.end function);
+  ordered = are.ordered;
+}
 
 -- The three tests, in their order.
 

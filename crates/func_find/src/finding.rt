@@ -9,9 +9,8 @@ ghost use Rattle.rv_reloc.specs.Parts.{AreApart};
 ghost use Rattle.rv_reloc.specs.Refs.{AreRefs};
 ghost use Rattle.func_find.specs.Targets.{IsBadStart};
 
-use crate::function_parts::function_parts;
+use crate::function_parts::kept_parts;
 use crate::inst_lists::functions_of;
-use crate::referred::Referred;
 use crate::targets::{is_code, lowest_misled};
 use elf_image::Elf;
 use elf_image::lowest::place_if;
@@ -39,8 +38,7 @@ pub fn functions(
     ensures fault { IfErr result (IsRefusalBy (HasFunctionFault elf.now whole.now)) }
 {
     let parts = code_parts(alloc, elf)?;
-    let referred = Referred::new(alloc, elf, starts, &parts, refs)?;
-    let function_parts = function_parts(alloc, elf, starts, &parts, &referred)?;
+    let function_parts = kept_parts(alloc, elf, starts, &parts, refs)?;
     let whole_parts = whole_parts(alloc, elf, starts, &parts, whole)?;
     let kept = function_parts.as_slice();
     match lowest_bad_start(starts, kept, elf.entry) {

@@ -5,6 +5,7 @@ ghost use Rattle.elf_image.specs.code.Functions.{IsFunctionPart, IsNopPart};
 ghost use Rattle.elf_image.specs.code.Parts.{IsCodePart, IsCovered, StartsIn};
 ghost use Rattle.elf_image.specs.internal.Extents.{IsInOneExtent};
 ghost use Rattle.rv_reloc.specs.Parts.{AreCodeParts};
+ghost use Rattle.rv_reloc.specs.Refs.{AreRefs};
 ghost use Rattle.func_find.specs.FunctionParts.{AreFunctionParts, AreFunctionsBefore, FallsAt, FallsOut, IsEntered};
 ghost use Rattle.func_find.specs.Referred.{AreReferred};
 ghost use Rattle.func_find.specs.Valid.{IsNopBefore};
@@ -14,10 +15,47 @@ use crate::valid::{is_nop_before, valid_before};
 use elf_image::Elf;
 use rb_bytes::fault::NoMemory;
 use rv_code::flow::falls;
+use rv_reloc::Refs;
 use rv_reloc::instruction_starts::starts_in;
 use rv_reloc::parts::Part;
 use rv_reloc::ranges::{Ranges, function_ranges};
 use std::alloc::Global;
+
+/// The parts that are functions, by address. `starts`, `parts` and `refs` are those of the file. What they refer to is
+/// gathered only where a part is of nops alone, since all others are functions.
+pub fn kept_parts(
+    alloc: Global,
+    elf: &Elf,
+    starts: &[u64],
+    parts: &[Part],
+    refs: &Refs,
+) -> Result<Vec<Part>, NoMemory>
+    requires starts { AreStarts elf.now starts.now }
+    requires parts { AreCodeParts elf.now parts.now }
+    ensures { IfOk result
+        (λ kept. (tabled : List (ℕ × ℕ)) → AreRefs elf.now tabled refs.now → AreFunctionParts elf.now tabled kept.items) }
+{
+    if !have_nops(alloc, elf, starts, parts)? {
+        return Ok(Vec::from_slice(alloc, parts)?);
+    }
+    let referred = Referred::new(alloc, elf, starts, parts, refs)?;
+    function_parts(alloc, elf, starts, parts, &referred)
+}
+
+// Whether one of the parts is of nops alone, and no function's symbol covers it.
+fn have_nops(alloc: Global, elf: &Elf, starts: &[u64], parts: &[Part]) -> Result<bool, NoMemory>
+    requires starts { AreStarts elf.now starts.now }
+    requires parts { AreCodeParts elf.now parts.now }
+    ensures { IfOk result (λ have. IsTrue have ↔ Any (λ p. IsNopPart elf.now p.start p.end) parts.now) }
+{
+    let covers = function_ranges(alloc, elf)?;
+    for part in parts {
+        if is_nop_part(elf, &covers, part, starts_in(starts, part)) {
+            return Ok(true);
+        }
+    }
+    Ok(false)
+}
 
 /// The parts that are functions, by address. `starts` and `parts` are those of the file, and `referred` the addresses that
 /// are referred to.

@@ -15,7 +15,7 @@ use Rattle.func_find.proofs.finding.functions.Goals as goal
 
 pub lowest_bad_start-requires-clause-parts : goal.lowest_bad_start-requires-clause-parts
 lowest_bad_start-requires-clause-parts c =
-    let functions = c.in_ok-function_parts.ensures c.args.whole.now (c.in_ok-referred.ensures c.args.whole.now c.requires.refs) in
+    let functions = c.in_ok-function_parts.ensures c.args.whole.now c.requires.refs in
     subst AreApart (sym c.as_slice-kept.ensures.value) (AreApart-functions c.args.elf.now c.args.whole.now _ functions)
 
 pub returns-in-Some-clause-fault : goal.returns-in-Some-clause-fault
@@ -24,7 +24,7 @@ returns-in-Some-clause-fault c =
     let whole = c.args.whole.now in
     let functions =
     subst (AreFunctionParts elf whole) (sym c.as_slice-kept.ensures.value)
-    (c.in_ok-function_parts.ensures whole (c.in_ok-referred.ensures whole c.requires.refs)) in
+    (c.in_ok-function_parts.ensures whole c.requires.refs) in
     let lowest =
     IsLowest-entry elf whole c.args.starts.now c.as_slice-kept.result.now
     (Some c.in-Some.place) c.requires.starts functions c.in-Some.ensures in
@@ -37,7 +37,7 @@ functions_of-requires-clause-parts c =
     let whole = c.args.whole.now in
     code_parts_of elf whole c.as_slice-kept.result.now
     (subst (AreFunctionParts elf whole) (sym c.as_slice-kept.ensures.value)
-    (c.in_ok-function_parts.ensures whole (c.in_ok-referred.ensures whole c.requires.refs)))
+    (c.in_ok-function_parts.ensures whole c.requires.refs))
 
 pub functions_of-requires-clause-ordered : goal.functions_of-requires-clause-ordered
 functions_of-requires-clause-ordered c =
@@ -45,7 +45,7 @@ functions_of-requires-clause-ordered c =
     let whole = c.args.whole.now in
     let functions =
     subst (AreFunctionParts elf whole) (sym c.as_slice-kept.ensures.value)
-    (c.in_ok-function_parts.ensures whole (c.in_ok-referred.ensures whole c.requires.refs)) in
+    (c.in_ok-function_parts.ensures whole c.requires.refs) in
     functions.ordered
 
 pub functions_of-requires-clause-wholes : goal.functions_of-requires-clause-wholes
@@ -60,7 +60,7 @@ returns-in-Err-clause-fault c =
     let kept = c.as_slice-kept.result.now in
     let functions =
     subst (AreFunctionParts elf whole) (sym c.as_slice-kept.ensures.value)
-    (c.in_ok-function_parts.ensures whole (c.in_ok-referred.ensures whole c.requires.refs)) in
+    (c.in_ok-function_parts.ensures whole c.requires.refs) in
     let no_entry =
     lacks (HasFunctionFault elf whole BadEntry) None refl
     (IsLowest-entry elf whole c.args.starts.now kept None c.requires.starts functions c.in-None.ensures) in
@@ -68,7 +68,7 @@ returns-in-Err-clause-fault c =
 
 pub lowest_misled-requires-clause-parts : goal.lowest_misled-requires-clause-parts
 lowest_misled-requires-clause-parts c =
-    let functions = c.in_ok-function_parts.ensures c.args.whole.now (c.in_ok-referred.ensures c.args.whole.now c.requires.refs) in
+    let functions = c.in_ok-function_parts.ensures c.args.whole.now c.requires.refs in
     subst AreApart (sym c.as_slice-kept.ensures.value) (AreApart-functions c.args.elf.now c.args.whole.now _ functions)
 
 pub returns-in-Some-lowest_misled-clause-fault : goal.returns-in-Some-lowest_misled-clause-fault
@@ -82,14 +82,14 @@ returns-in-Some-lowest_misled-clause-fault c =
     let place = c.in-Some-lowest_misled.place in
     let functions =
     subst (AreFunctionParts elf whole) (sym c.as_slice-kept.ensures.value)
-    (c.in_ok-function_parts.ensures whole (c.in_ok-referred.ensures whole c.requires.refs)) in
+    (c.in_ok-function_parts.ensures whole c.requires.refs) in
     let no_entry =
     lacks (HasFunctionFault elf whole BadEntry) None refl
     (IsLowest-entry elf whole starts kept None c.requires.starts functions c.in-None.ensures) in
     let (no_bad_inst, no_bare) = no_bad elf whole wholes kept funcs functions c.in-Ok.ensures.made in
     let misled =
     subst (λ (fs : List Func). IsLowest (HasMisled starts kept fs)
-    (Some place)) c.deref-5.ensures.value c.in-Some-lowest_misled.ensures in
+    (Some place)) c.deref-4.ensures.value c.in-Some-lowest_misled.ensures in
     let lowest =
     IsLowest-target elf whole starts c.args.refs.now.roles.items wholes kept funcs
     (Some place) c.requires.starts c.requires.refs.roles functions c.in-Ok.ensures.made misled in
@@ -102,7 +102,7 @@ returns-clause-functions c =
     let whole = c.args.whole.now in
     let functions =
     subst (AreFunctionParts elf whole) (sym c.as_slice-kept.ensures.value)
-    (c.in_ok-function_parts.ensures whole (c.in_ok-referred.ensures whole c.requires.refs)) in
+    (c.in_ok-function_parts.ensures whole c.requires.refs) in
     let wholes = subst (AreWholeParts elf whole) (sym c.as_slice-wholes.ensures.value) c.in_ok-whole_parts.ensures in
     AreFunctions-made elf whole c.as_slice-wholes.result.now c.as_slice-kept.result.now c.in-Ok.funcs.items wholes
     functions c.in-Ok.ensures.made
@@ -117,14 +117,14 @@ returns-clause-free c =
     let funcs = c.in-Ok.funcs.items in
     let functions =
     subst (AreFunctionParts elf whole) (sym c.as_slice-kept.ensures.value)
-    (c.in_ok-function_parts.ensures whole (c.in_ok-referred.ensures whole c.requires.refs)) in
+    (c.in_ok-function_parts.ensures whole c.requires.refs) in
     let no_entry =
     lacks (HasFunctionFault elf whole BadEntry) None refl
     (IsLowest-entry elf whole starts kept None c.requires.starts functions c.in-None.ensures) in
     let (no_bad_inst, no_bare) = no_bad elf whole wholes kept funcs functions c.in-Ok.ensures.made in
     let misled =
     subst
-    (λ (fs : List Func). IsLowest (HasMisled starts kept fs) None) c.deref-5.ensures.value c.in-None-lowest_misled.ensures in
+    (λ (fs : List Func). IsLowest (HasMisled starts kept fs) None) c.deref-4.ensures.value c.in-None-lowest_misled.ensures in
     let no_target =
     lacks (HasFunctionFault elf whole BadTarget) None refl
     (IsLowest-target elf whole starts c.args.refs.now.roles.items wholes kept funcs None c.requires.starts c.requires.refs.roles
