@@ -7,54 +7,54 @@ use Rattle.elf_image.specs.declared.elf.Elf.{Elf}
 use Rattle.elf_image.specs.declared.elf.Section.{Section}
 use Rattle.elf_image.specs.file.ParsedFile.{IsSectionAt, IsElfOf}
 use Rattle.elf_image.specs.file.Sections.{section_header, section_headers, holds_code}
-use Rattle.bolt_core.specs.CodeLimit.{code_limit, code_bytes, HasTooMuchCode}
-use Rattle.bolt_core.specs.internal.ReadCode.{section_code}
+use Rattle.bolt_core.specs.CodeLimit.{code_limit, header_code_bytes, HasTooMuchCode}
+use Rattle.bolt_core.specs.internal.ReadCode.{section_code_bytes}
 
 -- a section that was read has the bytes of code of its header
-same_code : (file : List ℕ) (index : ℕ) (s : Section) → IsSectionAt file index s → section_code s ≡ code_bytes
+same_code : (file : List ℕ) (index : ℕ) (s : Section) → IsSectionAt file index s → section_code_bytes s ≡ header_code_bytes
     (section_header file index)
 same_code file index s is = ap (λ (f : ℕ). cond (holds_code f) s.size 0) is.flags ∙ ap
     (λ (n : ℕ). cond (holds_code (section_header file index).flags) n 0) is.size
 
 sums_from : (file : List ℕ) (k : ℕ) (xs : List Section) → ((i : ℕ) (s : Section) → slice_get xs i ≡ Some s → IsSectionAt file
     (k + i) s)
-    → sum_by section_code xs ≡ sum_by code_bytes (map (section_header file) (range_with_len k (length xs)))
+    → sum_by section_code_bytes xs ≡ sum_by header_code_bytes (map (section_header file) (range_with_len k (length xs)))
 sums_from file k [] each = refl
 sums_from file k (s ∷ ss) each =
     let first : IsSectionAt file k s = subst (λ (i : ℕ). IsSectionAt file i s) (omega arith) (each 0 s refl) in
     let rest = sums_from file (k + 1) ss (λ i t is. subst (λ (j : ℕ). IsSectionAt file j t) (omega arith) (each (suc i) t is)) in
-    sum_by-cons section_code s ss
-    ∙ ap (λ (n : ℕ). n + sum_by section_code ss) (same_code file k s first)
-    ∙ ap (λ (n : ℕ). code_bytes (section_header file k) + n) rest
-    ∙ sym (sum_by-cons code_bytes (section_header file k) (map (section_header file) (range_with_len (k + 1) (length ss))))
+    sum_by-cons section_code_bytes s ss
+    ∙ ap (λ (n : ℕ). n + sum_by section_code_bytes ss) (same_code file k s first)
+    ∙ ap (λ (n : ℕ). header_code_bytes (section_header file k) + n) rest
+    ∙ sym (sum_by-cons header_code_bytes (section_header file k) (map (section_header file) (range_with_len (k + 1) (length ss))))
 
-pub code_size : (file : List ℕ) (elf : Elf) → IsElfOf file elf → sum_by section_code elf.sections.items ≡ sum_by code_bytes
+pub code_size : (file : List ℕ) (elf : Elf) → IsElfOf file elf → sum_by section_code_bytes elf.sections.items ≡ sum_by header_code_bytes
     (section_headers file)
 code_size file elf is =
     sums_from file 0 elf.sections.items (λ i s at. subst (λ (j : ℕ). IsSectionAt file j s) (omega arith)
     (is.sections.each i s at))
-    ∙ ap (λ (n : ℕ). sum_by code_bytes (map (section_header file) (range_with_len 0 n))) is.sections.count_is
+    ∙ ap (λ (n : ℕ). sum_by header_code_bytes (map (section_header file) (range_with_len 0 n))) is.sections.count_is
 
 -- What is left of the limit, after the sections before an index: one more section; one that doesn't fit; and all of them.
 module _ (items seen : List Section) (same : seen ≡ items) (i room : ℕ)
-    (left : room + sum_by section_code (take i items) ≡ code_limit) where
-  module _ (size : ℕ) (d : Section) (within : i < length seen) (is : size ≡ section_code (get_or seen i d)) where
+    (left : room + sum_by section_code_bytes (take i items) ≡ code_limit) where
+  module _ (size : ℕ) (d : Section) (within : i < length seen) (is : size ≡ section_code_bytes (get_or seen i d)) where
     inside : i < length items
     inside = subst (λ (xs : List Section). i < length xs) same within
 
-    size_is : size ≡ section_code (get_or items i d)
-    size_is = subst (λ (xs : List Section). size ≡ section_code (get_or xs i d)) same is
+    size_is : size ≡ section_code_bytes (get_or items i d)
+    size_is = subst (λ (xs : List Section). size ≡ section_code_bytes (get_or xs i d)) same is
 
-    pub left_after : size ≤ room → room - size + sum_by section_code (take (i + 1) items) ≡ code_limit
-    left_after fits = let more = sum_by_more section_code items i d inside in let e = size_is in omega arith
+    pub left_after : size ≤ room → room - size + sum_by section_code_bytes (take (i + 1) items) ≡ code_limit
+    left_after fits = let more = sum_by_more section_code_bytes items i d inside in let e = size_is in omega arith
 
-    pub passes : room < size → code_limit < sum_by section_code items
-    passes over = let some = sum_by_more_le section_code items i d inside in let e = size_is in omega arith
+    pub passes : room < size → code_limit < sum_by section_code_bytes items
+    passes over = let some = sum_by_more_le section_code_bytes items i d inside in let e = size_is in omega arith
 
-  pub all_fit : length seen ≤ i → sum_by section_code items ≤ code_limit
+  pub all_fit : length seen ≤ i → sum_by section_code_bytes items ≤ code_limit
   all_fit past =
       let beyond : length items ≤ i = subst (λ (xs : List Section). length xs ≤ i) same past in
-      let whole : sum_by section_code (take i items) ≡ sum_by section_code items = ap (sum_by section_code)
+      let whole : sum_by section_code_bytes (take i items) ≡ sum_by section_code_bytes items = ap (sum_by section_code_bytes)
       (take_all i items beyond) in
       omega arith
 

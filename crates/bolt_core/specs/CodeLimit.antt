@@ -8,10 +8,10 @@ use Rattle.elf_image.specs.file.Sections.{section_headers, holds_code}
 abbrev pub code_limit : ℕ
 code_limit = 16 * 2 ^ 20
 
--- how many bytes of code a section has
-abbrev pub code_bytes : SectionHeader → ℕ
-code_bytes section = if holds_code section.flags then section.size else 0
+-- how many bytes of code a section has, by its header
+abbrev pub header_code_bytes : SectionHeader → ℕ
+header_code_bytes section = if holds_code section.flags then section.size else 0
 
 -- the sections of code have more bytes than that together
 abbrev pub HasTooMuchCode : List ℕ → Type 0
-HasTooMuchCode file = code_limit < sum_by code_bytes (section_headers file)
+HasTooMuchCode file = code_limit < sum_by header_code_bytes (section_headers file)

@@ -2,7 +2,7 @@
 ghost use Rattle.std.specs.Prelude.{◌≡◌, ◌↔◌, IsTrue};
 ghost use Rattle.elf_image.specs.file.ParsedFile.{IsElfOf};
 ghost use Rattle.bolt_core.specs.CodeLimit.{HasTooMuchCode};
-ghost use Rattle.bolt_core.specs.internal.ReadCode.{section_code};
+ghost use Rattle.bolt_core.specs.internal.ReadCode.{section_code_bytes};
 
 use elf_image::{Elf, Section};
 
@@ -11,7 +11,7 @@ const CODE_LIMIT: u64 = 16 * 1024 * 1024;
 
 // How many bytes of code a section has.
 fn code_bytes(section: &Section<'_>) -> u64
-    ensures { result ≡ section_code section.now }
+    ensures { result ≡ section_code_bytes section.now }
 {
     if section.holds_code() {
         section.size

@@ -18,9 +18,9 @@ use Rattle.cfg_build.specs.NamedAddresses.{code_of}
 use Rattle.bolt_core.specs.Program.{Program, tabled}
 use Rattle.bolt_core.specs.declared.file_code.FileCode.{FileCode}
 
--- how many bytes of code a section has that was read
-abbrev pub section_code : Section → ℕ
-section_code section = if holds_code section.flags then section.size else 0
+-- how many bytes of code a section has that was read, as `header_code_bytes` says of its header
+abbrev pub section_code_bytes : Section → ℕ
+section_code_bytes section = if holds_code section.flags then section.size else 0
 
 -- the code of a file, in which no fault is present
 pub record IsReadCode (elf : Elf) (code : FileCode) : Type 0 where
