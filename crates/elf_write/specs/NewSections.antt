@@ -7,8 +7,9 @@ use Rattle.elf_image.specs.declared.elf.Elf.{Elf}
 use Rattle.elf_image.specs.declared.elf.Section.{Section}
 use Rattle.elf_image.specs.declared.relocation.TheConstants.{SHT_RELA}
 use Rattle.elf_image.specs.declared.section.TheConstants.{SHT_NOBITS, SHT_PROGBITS, SHT_STRTAB, SHF_ALLOC, SHF_EXECINSTR}
-use Rattle.elf_image.specs.file.Header.{e_shstrndx, is_set}
+use Rattle.elf_image.specs.file.Header.{e_shstrndx}
 use Rattle.elf_image.specs.file.SectionNames.{section_called}
+use Rattle.elf_image.specs.file.Sections.{holds_code}
 use Rattle.elf_write.specs.declared.area.Area.{Area}
 use Rattle.elf_write.specs.declared.area.Shift.{Shift}
 use Rattle.elf_write.specs.declared.headers.TheConstants.{SHT_NULL}
@@ -64,7 +65,7 @@ pub record IsRewritten (w bytes : List ℕ) (kind : ℕ) (s n : Section) : Type 
 
 -- Tables of symbols and names hold no instructions, and have contents.
 abbrev pub without_code : ℕ → ℕ
-without_code flags = if is_set SHF_EXECINSTR flags then flags - SHF_EXECINSTR else flags
+without_code flags = if holds_code flags then flags - SHF_EXECINSTR else flags
 
 abbrev pub kind_of_own : ℕ → ℕ
 kind_of_own kind = if kind == SHT_RELA then SHT_NULL else if kind == SHT_NOBITS then SHT_STRTAB else kind
