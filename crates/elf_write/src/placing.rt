@@ -1,5 +1,5 @@
 // How a written file is put together: where its parts lie, and where its table of program headers stands.
-ghost use Rattle.std.specs.Prelude.{◌≡◌, ◌≤◌, ◌<◌, ◌^◌, IfOk, All, IsTrue, ◌↔◌, true, false};
+ghost use Rattle.std.specs.Prelude.{◌≡◌, ◌≤◌, IfOk, All, IsTrue, ◌↔◌, true, false};
 ghost use Rattle.elf_parts.specs.Parts.{CanStand};
 ghost use Rattle.elf_parts.specs.Numbers.{CanPut};
 ghost use Rattle.elf_write.specs.Made as made;
@@ -11,7 +11,7 @@ use crate::area::{Area, Shift, loads_end, lowest_behind};
 use crate::round::sum;
 use crate::tail::Tail;
 use elf_image::header::EHDR_SIZE;
-use elf_image::segment::{PHDR_SIZE, PT_LOAD};
+use elf_image::segment::PHDR_SIZE;
 use elf_image::{Elf, Segment};
 use elf_parts::{NumberAt, Parts};
 use rb_bytes::fault::NoMemory;
@@ -95,11 +95,9 @@ pub fn parts_of(
 fn is_loaded_table(elf: &Elf) -> bool
     ensures { result ≡ list_any (loads_range (made.table_of elf.now)) elf.now.segments.items }
 {
-    let table = Range {
-        start: elf.phoff,
-        size: PHDR_SIZE as u128 * elf.segments.len() as u128,
-    };
-    elf.segments.iter().any(|p| table.is_loaded_by(p))
+    let segments: &[Segment] = &elf.segments;
+    let size = (PHDR_SIZE * segments.len()) as u64;
+    segments.iter().any(|p| p.loads_range(elf.phoff, size))
 }
 
 // Whether the table stands before the end of the executable segment, or whole in a loaded one.
@@ -107,28 +105,6 @@ fn is_kept_table(elf: &Elf, shift: &Shift) -> bool
     ensures { result ≡ made.is_kept_table elf.now shift.now }
 {
     elf.phoff < shift.from || is_loaded_table(elf)
-}
-
-// Bytes of the file.
-#[derive(Clone, Copy)]
-struct Range {
-    start: u64,
-    size: u128,
-    ghost low: { size < 2 ^ 72 },
-}
-
-impl Range {
-    ghost use Rattle.std.specs.Prelude.{◌≡◌};
-    ghost use Rattle.elf_image.specs.memory.LoadedBytes.{loads_range};
-
-    // Whether a segment loads all of them.
-    fn is_loaded_by(&self, p: &Segment) -> bool
-        ensures { result ≡ loads_range (record { start = self.now.start; size = self.now.size }) p.now }
-    {
-        p.kind == PT_LOAD
-            && p.offset <= self.start
-            && self.start as u128 + self.size <= p.offset as u128 + p.filesz.min(p.memsz) as u128
-    }
 }
 
 /// Where the table of program headers stands: with the new code, where it stood, or behind the loaded bytes, where
