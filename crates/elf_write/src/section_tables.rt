@@ -130,8 +130,9 @@ impl<'a> SectionTables<'a> {
     fn has_text(&self, index: usize) -> bool
         ensures { IsTrue result →
             Stands self.now.new.now.file.now (offset_in self.now.area self.now.area.start) self.now.code.now →
-            At self.now.new.now.sections.items index (IsInArea self.now.new.now.file.now self.now.area
-            (codes ".text") self.now.code.now (SHF_ALLOC + SHF_EXECINSTR) self.now.area.start 16) }
+            At self.now.new.now.sections.items index
+            (IsInArea self.now.new.now.file.now self.now.area (codes ".text") self.now.code.now
+            (SHF_ALLOC + SHF_EXECINSTR) self.now.area.start 16) }
     {
         self.is_in_area(
             index,
@@ -145,44 +146,23 @@ impl<'a> SectionTables<'a> {
         )
     }
 
-    fn has_frames(&self, index: usize) -> bool
-        ensures { IsTrue result → IfSome self.now.area.frames (λ a.
-            Stands self.now.new.now.file.now (offset_in self.now.area a)
-            (bytes_called self.now.tables.now (codes ".eh_frame")) →
-            At self.now.new.now.sections.items index (IsInArea self.now.new.now.file.now self.now.area (codes ".eh_frame") (bytes_called self.now.tables.now
-            (codes ".eh_frame")) SHF_ALLOC a 8)) }
+    // Whether the section of an index is that of the table with a name, where the area has a place for it.
+    fn has_table(&self, index: usize, name: &[u8], place: Option<u64>, align: u64) -> bool
+        ensures { IsTrue result → IfSome place (λ a.
+            Stands self.now.new.now.file.now (offset_in self.now.area a) (bytes_called self.now.tables.now name.now) →
+            At self.now.new.now.sections.items index
+            (IsInArea self.now.new.now.file.now self.now.area name.now (bytes_called self.now.tables.now name.now)
+            SHF_ALLOC a align)) }
     {
-        match self.area.frames {
+        match place {
             Some(addr) => self.is_in_area(
                 index,
                 &Added {
-                    name: EH_FRAME,
-                    bytes: bytes_called(self.tables, EH_FRAME),
+                    name,
+                    bytes: bytes_called(self.tables, name),
                     flags: SHF_ALLOC,
                     addr,
-                    align: 8,
-                },
-            ),
-            None => true,
-        }
-    }
-
-    fn has_index(&self, index: usize) -> bool
-        ensures { IsTrue result → IfSome self.now.area.index (λ a.
-            Stands self.now.new.now.file.now (offset_in self.now.area a)
-            (bytes_called self.now.tables.now (codes ".eh_frame_hdr")) →
-            At self.now.new.now.sections.items index (IsInArea self.now.new.now.file.now self.now.area (codes ".eh_frame_hdr") (bytes_called self.now.tables.now
-            (codes ".eh_frame_hdr")) SHF_ALLOC a 4)) }
-    {
-        match self.area.index {
-            Some(addr) => self.is_in_area(
-                index,
-                &Added {
-                    name: EH_FRAME_HDR,
-                    bytes: bytes_called(self.tables, EH_FRAME_HDR),
-                    flags: SHF_ALLOC,
-                    addr,
-                    align: 4,
+                    align,
                 },
             ),
             None => true,
@@ -200,8 +180,8 @@ impl<'a> SectionTables<'a> {
     fn has_ranges(&self, index: usize) -> bool
         ensures { IsTrue result → IsTrue (adds_ranges self.now.elf.now.sections.items self.now.tables.now) →
             At self.now.new.now.sections.items index
-            (IsAdded self.now.new.now.file.now (codes ".debug_rnglists") (bytes_called self.now.tables.now
-            (codes ".debug_rnglists")) 0 0 1) }
+            (IsAdded self.now.new.now.file.now (codes ".debug_rnglists")
+            (bytes_called self.now.tables.now (codes ".debug_rnglists")) 0 0 1) }
     {
         if !self.adds_ranges() {
             return true;
@@ -221,9 +201,9 @@ impl<'a> SectionTables<'a> {
     // How many sections there must be.
     fn has_count(&self) -> bool
         ensures { IsTrue result →
-            length self.now.new.now.sections.items ≡ (length self.now.elf.now.sections.items + 1) + (one_if
-            (is_some self.now.area.frames) + (one_if (is_some self.now.area.index) + one_if
-            (adds_ranges self.now.elf.now.sections.items self.now.tables.now))) }
+            length self.now.new.now.sections.items ≡ (length self.now.elf.now.sections.items + 1)
+            + (one_if (is_some self.now.area.frames) + (one_if (is_some self.now.area.index)
+            + one_if (adds_ranges self.now.elf.now.sections.items self.now.tables.now))) }
     {
         let area = one_if(self.area.frames.is_some()) + one_if(self.area.index.is_some());
         let added = area + one_if(self.adds_ranges());
@@ -249,10 +229,11 @@ impl<'a> SectionTables<'a> {
         if !self.has_text(count) {
             return false;
         }
-        if !self.has_frames(count + 1) {
+        if !self.has_table(count + 1, EH_FRAME, self.area.frames, 8) {
             return false;
         }
-        if !self.has_index(count + 1 + one_if(self.area.frames.is_some())) {
+        let frames = one_if(self.area.frames.is_some());
+        if !self.has_table(count + 1 + frames, EH_FRAME_HDR, self.area.index, 4) {
             return false;
         }
         self.has_ranges(self.new.sections.len() - 1)

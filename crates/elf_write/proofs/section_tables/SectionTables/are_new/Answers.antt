@@ -17,25 +17,26 @@ returns c = λ holds stands.
     let bytes = bytes_called self.tables.now in
     let count : c.len-count.result ≡ length olds = search rules in
     let whole : c.len.result ≡ length news = search rules in
-    let frames : c.one_if.result ≡ one_if (is_some self.area.frames) = c.one_if.ensures ∙ ap one_if c.is_some.ensures in
+    let frames : c.one_if-frames.result ≡ one_if (is_some self.area.frames) =
+    c.one_if-frames.ensures ∙ ap one_if c.is_some.ensures in
     record {
       names_at = c.requires.names;
       count = c.has_count.ensures c.if-not-has_count.false;
       keeps = c.all_follow.ensures.keeps c.if-not-all_follow.false;
       follows = c.all_follow.ensures.follows c.if-not-all_follow.false;
       text = subst
-          (λ (k : ℕ). At news k (IsInArea w self.area (codes ".text") self.code.now
-          (SHF_ALLOC + SHF_EXECINSTR) self.area.start 16))
+          (λ (k : ℕ). At news k
+          (IsInArea w self.area (codes ".text") self.code.now (SHF_ALLOC + SHF_EXECINSTR) self.area.start 16))
           count (c.has_text.ensures c.if-not-has_text.false stands.text);
       frames = subst
-          (λ (k : ℕ). IfSome self.area.frames (λ a. At news (k + 1) (IsInArea w self.area (codes ".eh_frame") (bytes
-          (codes ".eh_frame")) SHF_ALLOC a 8)))
-          count (both _ _ self.area.frames (c.has_frames.ensures c.if-not-has_frames.false) stands.frames);
+          (λ (k : ℕ). IfSome self.area.frames (λ a.
+          At news (k + 1) (IsInArea w self.area (codes ".eh_frame") (bytes (codes ".eh_frame")) SHF_ALLOC a 8)))
+          count (both _ _ self.area.frames (c.has_table.ensures c.if-not-has_table.false) stands.frames);
       index = subst
-          (λ (k : ℕ). IfSome self.area.index (λ a. At news k (IsInArea w self.area (codes ".eh_frame_hdr") (bytes
-          (codes ".eh_frame_hdr")) SHF_ALLOC a 4)))
-          (ap (λ (k : ℕ). (k + 1) + c.one_if.result) count ∙ ap (λ (k : ℕ). (length olds + 1) + k) frames)
-          (both _ _ self.area.index (c.has_index.ensures c.if-not-has_index.false) stands.index);
+          (λ (k : ℕ). IfSome self.area.index (λ a.
+          At news k (IsInArea w self.area (codes ".eh_frame_hdr") (bytes (codes ".eh_frame_hdr")) SHF_ALLOC a 4)))
+          (ap (λ (k : ℕ). (k + 1) + c.one_if-frames.result) count ∙ ap (λ (k : ℕ). (length olds + 1) + k) frames)
+          (both _ _ self.area.index (c.has_table-2.ensures c.if-not-has_table-2.false) stands.index);
       ranges = subst
           (λ (k : ℕ). IsTrue (adds_ranges olds self.tables.now) →
           At news (k - 1) (IsAdded w (codes ".debug_rnglists") (bytes (codes ".debug_rnglists")) 0 0 1))
