@@ -17,8 +17,8 @@ header_limit = 65000
 abbrev pub name_limit : ℕ
 name_limit = 4000000000
 
--- The places at which a file with these functions passes a limit: its code, its functions, its headers, or the names that are
--- written. Of functions whose cold part stands apart, `cold` has the addresses of that.
+-- The places at which a file with these functions passes a limit: its code, its functions, its headers,
+-- or the names that are written. Of functions whose cold part stands apart, `cold` has the addresses of that.
 pub data IsTooLarge (elf : Elf) (funcs : List Func) (cold : List ℕ) (place : ℕ) : Type 0 where
   much_code : place ≡ 2 → HasTooMuchCode elf.file.now → IsTooLarge elf funcs cold place
   many_functions : place ≡ 3 → function_limit < length funcs → IsTooLarge elf funcs cold place

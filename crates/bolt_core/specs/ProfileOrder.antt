@@ -17,8 +17,8 @@ use Rattle.bolt_core.specs.Program.{Program}
 abbrev pub counts_of : Program → List ℕ → ℕ → ℕ → ℕ
 counts_of x profile = count_in profile x.elf x.code.funcs
 
--- The hot and the cold part of each function: blocks are linked along the edges between them, by counts of pairs of
--- instructions.
+-- The hot and the cold part of each function: blocks are linked along the edges between them,
+-- by counts of pairs of instructions.
 pub record ArePartsOf (counts : ℕ → ℕ → ℕ) (pairs : List Counted) (funcs : List Func) (cells : List CodeCell)
     (blocks : List Block) (parts : Chains) : Type 0 where
   pub pairs_are : ArePairs counts pairs

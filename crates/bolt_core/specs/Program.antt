@@ -26,7 +26,8 @@ pub record IsPlain (file profile : List ℕ) : Type 0 where
   pub sound : IsSound file
   pub no_tables : HasTables file → ⊥
 
--- The ranges of code that have exception tables. None is known yet, since files with unwind tables are refused.
+-- The ranges of code that have exception tables.
+-- None is known yet, since files with unwind tables are refused.
 abbrev pub tabled : List (ℕ × ℕ)
 tabled = []
 

@@ -1,4 +1,5 @@
--- Which files and profiles are refused, for which fault. A fault is looked for only where those before it are absent.
+-- Which files and profiles are refused, for which fault.
+-- A fault is looked for only where those before it are absent.
 use Rattle.std.specs.Prelude.{◌≡◌, ◌≤◌, ◌<◌, ℕ, List, Some, None, length}
 use Rattle.rb_bytes.specs.Fault.{fault_at}
 use Rattle.rb_bytes.specs.declared.fault.Fault.{Fault}
@@ -30,8 +31,9 @@ pub record CanStand (x : Program) : Type 0 where
   pub no_fault : IsFree (HasPlacementFault x.code.funcs x.blocks)
   pub room : no_room x.elf.segments.items (needed_bytes x) ≡ None
 
--- Length comes first, of the file and then of the profile; then what is wrong in the file; tables, which aren't carried yet;
--- what is wrong in its code; what keeps it from being placed; want of room; and then the other limits.
+-- Length comes first, of the file and then of the profile; then what is wrong in the file;
+-- tables, which aren't carried yet; what is wrong in its code; what keeps it from being placed;
+-- want of room; and then the other limits.
 pub data IsRefused (file profile : List ℕ) (fault : Fault) : Type 0 where
   long_file : file_limit < length file → fault ≡ fault_at TooLarge 0 → IsRefused file profile fault
   long_profile : length file ≤ file_limit → file_limit < length profile → fault ≡ fault_at TooLarge 1 →
@@ -45,8 +47,8 @@ pub data IsRefused (file profile : List ℕ) (fault : Fault) : Type 0 where
   no_place : (x : Program) → IsProgramOf file profile x → IsFree (HasPlacementFault x.code.funcs x.blocks) →
       no_room x.elf.segments.items (needed_bytes x) ≡ Some fault → IsRefused file profile fault
   too_large : (x : Program) → IsProgramOf file profile x → CanStand x → (pairs : List Counted) (parts : Chains) →
-      ArePartsBy x profile pairs parts → (place : ℕ) → IsLowest (IsTooLarge x.elf x.code.funcs
-      (cold_starts x.code.funcs x.blocks parts)) (Some place) →
+      ArePartsBy x profile pairs parts → (place : ℕ) →
+      IsLowest (IsTooLarge x.elf x.code.funcs (cold_starts x.code.funcs x.blocks parts)) (Some place) →
       fault ≡ fault_at TooLarge place → IsRefused file profile fault
 
 -- a refusal names such a fault; memory may be wanting at any time

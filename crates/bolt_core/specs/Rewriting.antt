@@ -46,8 +46,8 @@ rewrite_of x written spans = record {
   spans = spans;
 }
 
--- Each run of the input that ends on the symbol machine is matched by one of the written file on the byte machine, with the
--- same arguments and input, the same system calls and the same status.
+-- Each run of the input that ends on the symbol machine is matched by one of the written file on the byte
+-- machine, with the same arguments and input, the same system calls and the same status.
 abbrev pub KeepsRuns : Program → List ℕ → List Span → Type 0
 KeepsRuns x written spans = (words : List (List ℕ)) (input : List ℕ) → FitStack words →
     (n : ℕ) (trace : List Event) (status : ℕ) → SymRuns (program (rewrite_of x written spans)) words input n trace status →
@@ -59,20 +59,22 @@ KeepsRunsSoFar x written spans = (words : List (List ℕ)) (input : List ℕ) �
     (n : ℕ) (trace : List Event) → SymRunsSoFar (program (rewrite_of x written spans)) words input n trace →
     (m : ℕ) × (m ≤ 3 * n) × RunsSoFar written words input m trace
 
--- The new code has the blocks in an order, each in a form, from the start of the new area on: the spans are theirs.
+-- The new code has the blocks in an order, each in a form, from the start of the new area on:
+-- the spans are theirs.
 pub record IsLaidOutBy (x : Program) (order : List ℕ) (spans : List Span) : Type 0 where
   pub forms : List Form
   pub are_forms : AreForms (strips_of x.code.funcs x.blocks order) (new_start x) forms
   pub spans_are : AreInLineOrder (spans_of (strips_of x.code.funcs x.blocks order) (new_start x) forms) spans
 
--- The sections and symbols of the written file: those that follow from the input and the map, with no table but these.
+-- The sections and symbols of the written file:
+-- those that follow from the input and the map, with no table but these.
 abbrev pub FollowsTables : Program → Chains → List ℕ → List Span → List ℕ → Type 0
 FollowsTables x parts code spans written =
     HasNewTables {Y = Global} {Z = Global} x.elf [] code x.code.funcs (cold_starts x.code.funcs x.blocks parts) spans
     (is_tight_program x) written
 
--- The program headers of the written file are those of the input, of which the executable segment's may grow; and one more
--- where the new code has a segment of its own.
+-- The program headers of the written file are those of the input, of which the executable segment's may grow;
+-- and one more where the new code has a segment of its own.
 abbrev pub FollowsSegments : Program → List ℕ → List ℕ → Type 0
 FollowsSegments x code written =
     let segments = x.elf.segments.items in
@@ -105,9 +107,10 @@ pub record IsRewritten (file profile written : List ℕ) (spans : List Span) (co
   pub pairs : List Counted
   pub parts : Chains
   pub order : List ℕ
-  pub fits : (place : ℕ) → IsTooLarge program.elf program.code.funcs (cold_starts program.code.funcs program.blocks parts)
-      place → ⊥
-  -- the written file is one that its reader accepts, and a faithful rewrite, so it keeps the runs of the input
+  pub fits : (place : ℕ) →
+      IsTooLarge program.elf program.code.funcs (cold_starts program.code.funcs program.blocks parts) place → ⊥
+  -- the written file is one that its reader accepts, and a faithful rewrite,
+  -- so it keeps the runs of the input
   pub sound : IsSound written
   pub faithful : IsFaithful (rewrite_of program written spans)
   pub runs : KeepsRuns program written spans

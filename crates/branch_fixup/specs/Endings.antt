@@ -10,7 +10,8 @@ use Rattle.rv_code.specs.declared.placed.Func.{Func}
 use Rattle.rv_code.specs.layout.ProgramCode.{is_code_address}
 use Rattle.rv_code.specs.layout.Flow.{falls_at}
 
--- The address into which the i-th instruction of a function falls, if it does and some function has an instruction there.
+-- The address into which the i-th instruction of a function falls,
+-- if it does and some function has an instruction there.
 abbrev pub fall_of : List Func → Func → ℕ → Placed → Option ℕ
 fall_of funcs func i p =
     if falls_at func i p && is_code_address funcs (p.addr + p.len) then Some (p.addr + p.len) else None
@@ -35,9 +36,10 @@ end_of_form form.Dropped = LeftOut
 abbrev pub begins_at : Option ℕ → Option ℕ → Bool
 begins_at next a = option_map_or (λ n. option_map_or (λ t. n == t) a false) next false
 
--- The end of a block whose last instruction does `last`: by the addresses into which that falls and to which it goes, and the
--- one at which the next block begins. `whole` says that its function moves as one piece, `alone` that the block has no other
--- instruction. What falls nowhere counts as followed by what it falls into.
+-- The end of a block whose last instruction does `last`: by the addresses into which that falls
+-- and to which it goes, and the one at which the next block begins.
+-- `whole` says that its function moves as one piece, `alone` that the block has no other instruction.
+-- What falls nowhere counts as followed by what it falls into.
 abbrev pub ending : Bool → Bool → Action → Option ℕ → Option ℕ → Option ℕ → End
 ending whole alone last fall target next = if whole then Kept apart else by last
   where

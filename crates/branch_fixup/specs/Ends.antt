@@ -1,5 +1,6 @@
 -- How the blocks of a plan end, before forms grow.
-use Rattle.std.specs.Prelude.{◌≡◌, ℕ, ◌+◌, ◌<◌, if◌then◌else◌, List, Option, Some, None, Any, IsSomeAnd, length, slice_get, option_map}
+use Rattle.std.specs.Prelude.{◌≡◌, ℕ, ◌+◌, ◌<◌, if◌then◌else◌, List, Option, Some, None, Any, IsSomeAnd, length}
+use Rattle.std.specs.Prelude.{slice_get, option_map}
 use Rattle.rv_code.specs.declared.layout.Form.{Form}
 use Rattle.rv_code.specs.declared.layout.Form.TheVariants as form
 use Rattle.rv_code.specs.layout.Flow.{action_at, target_of}

@@ -1,5 +1,7 @@
--- Which forms blocks in an order have: those of the table of endings, that reach, and that are locally the least.
-use Rattle.std.specs.Prelude.{◌≡◌, ℕ, ◌==◌, if◌then◌else◌, true, false, IsTrue, IfSome, List, [], ◌∷◌, Option, Some, None, slice_get, slice_set}
+-- Which forms blocks in an order have: those of the table of endings, that reach,
+-- and that are locally the least.
+use Rattle.std.specs.Prelude.{◌≡◌, ℕ, ◌==◌, if◌then◌else◌, true, false, IsTrue, IfSome, List, [], ◌∷◌, Option, Some}
+use Rattle.std.specs.Prelude.{None, slice_get, slice_set}
 use Rattle.std.specs.List.{list_all}
 use Rattle.rv_code.specs.declared.layout.Form.{Form}
 use Rattle.rv_code.specs.declared.layout.Form.TheVariants as form
@@ -46,8 +48,8 @@ shorter len _ = None
 abbrev pub FallsShort : List Span → Placed → Form → Type 0
 FallsShort spans p f = list_all lands (main_leap (new spans) (new spans p.addr) p f) ≡ false
 
--- The k-th block, which is in form f, can't have the next shorter one with all others as they are: at the addresses that
--- then follow it doesn't reach.
+-- The k-th block, which is in form f, can't have the next shorter one with all others as they are:
+-- at the addresses that then follow it doesn't reach.
 abbrev pub IsLeast : List Strip → ℕ → List Form → ℕ → Strip → Form → Type 0
 IsLeast ss base fs k s f = IfSome (shorter s.last.len f) (λ g. FallsShort (spans_of ss base (slice_set fs k g)) s.last g)
 
@@ -61,7 +63,8 @@ pub record AreForms (ss : List Strip) (base : ℕ) (fs : List Form) : Type 0 whe
 abbrev pub end_of : List Strip → ℕ → List Form → ℕ
 end_of ss base fs = end_from base (pieces_of ss fs)
 
--- The spans are a valid map of functions, for whatever roles, code cells and entry point these are the blocks.
+-- The spans are a valid map of functions,
+-- for whatever roles, code cells and entry point these are the blocks.
 abbrev pub AreMap : List Func → List Block → List Span → Type 0
 AreMap funcs blocks spans =
     (roles : List (ℕ × Role)) (cells : List CodeCell) (entry : ℕ) → AreBlocks (code_of funcs roles cells entry) blocks →

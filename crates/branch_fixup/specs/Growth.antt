@@ -1,5 +1,6 @@
 -- Forms that grow: blocks in their new order, each seen as how it ends.
-use Rattle.std.specs.Prelude.{◌≡◌, ℕ, zero, suc, ◌+◌, ◌^◌, ◌<◌, ◌≤◌, Bool, true, false, IfSome, List, Option, Some, None, length, sum_by, slice_index, slice_index_or, slice_set}
+use Rattle.std.specs.Prelude.{◌≡◌, ℕ, zero, suc, ◌+◌, ◌^◌, ◌<◌, ◌≤◌, Bool, true, false, IfSome, List, Option, Some}
+use Rattle.std.specs.Prelude.{None, length, sum_by, slice_index, slice_index_or, slice_set}
 use Rattle.std.specs.Option.{option_map_or}
 use Rattle.rv_code.specs.declared.layout.Form.{Form}
 use Rattle.rv_code.specs.declared.layout.Form.TheVariants as form
@@ -44,8 +45,9 @@ is_enough ts fs k f = option_map_or (λ half. reaches half (from_at ts fs k) (to
 -- the same where the blocks begin at these places
 abbrev pub is_enough_at : List Tail → List ℕ → ℕ → Form → Bool
 is_enough_at ts places k f =
-    option_map_or (λ half. reaches half (slice_index places k + (tail_at ts k).before)
-    (slice_index places (tail_at ts k).to + (tail_at ts k).offset)) (half_of f) true
+    option_map_or (λ half.
+    reaches half (slice_index places k + (tail_at ts k).before) (slice_index places (tail_at ts k).to + (tail_at ts k).offset))
+    (half_of f) true
 
 -- the next longer form
 abbrev pub longer : Form → Form

@@ -1,5 +1,6 @@
 -- What code and a plan are like, for which there are forms that reach.
-use Rattle.std.specs.Prelude.{◌≡◌, ◌⊎◌, ℕ, ◌+◌, ◌-◌, ◌≤◌, ◌<◌, ◌==◌, ◌||◌, Bool, false, IsTrue, IsSomeAnd, List, Option, Some, All, Any, length, sum_by, take, drop, slice_get, option_and_then}
+use Rattle.std.specs.Prelude.{◌≡◌, ◌⊎◌, ℕ, ◌+◌, ◌-◌, ◌≤◌, ◌<◌, ◌==◌, ◌||◌, Bool, false, IsTrue, IsSomeAnd, List, Option}
+use Rattle.std.specs.Prelude.{Some, All, Any, length, sum_by, take, drop, slice_get, option_and_then}
 use Rattle.std.specs.List.{range_with_len}
 use Rattle.std.specs.List.Sorted.{IsPermutation}
 use Rattle.std.specs.Option.{option_map_or}
@@ -17,7 +18,8 @@ use Rattle.branch_fixup.specs.Strips.{strip_of, insts_in}
 
 -- The code.
 
--- A branch or JAL leads to a code address. One of two bytes saves no return address: there is no such instruction in RV64.
+-- A branch or JAL leads to a code address. One of two bytes saves no return address:
+-- there is no such instruction in RV64.
 pub record LeadsToCode (funcs : List Func) (p : Placed) : Type 0 where
   pub to_code : (t : ℕ) → target_of p ≡ Some t → IsTrue (is_code_address funcs t)
   pub short_call : (t : ℕ) → target_of p ≡ Some t → p.len ≡ 2 → is_call (action_at p) ≡ false
@@ -26,7 +28,8 @@ pub record LeadsToCode (funcs : List Func) (p : Placed) : Type 0 where
 abbrev pub is_short : Placed → Bool
 is_short p = is_branch (action_at p) || p.len == 2
 
--- In a function that moves as one piece these keep their width. So they have to stay in it, and to reach where they go.
+-- In a function that moves as one piece these keep their width.
+-- So they have to stay in it, and to reach where they go.
 pub record StaysIn (func : Func) (p : Placed) : Type 0 where
   pub above : (t : ℕ) → target_of p ≡ Some t → func.start ≤ t
   pub below : (t : ℕ) → target_of p ≡ Some t → t < func.end

@@ -37,8 +37,8 @@ jal from to = record { half = 2 ^ 20; from = from; to = to }
 abbrev pub goal : (ℕ → ℕ) → Placed → ℕ
 goal new p = option_map_or new (target_of p) 0
 
--- The branch or jump that stands at an address for an instruction: none where that is no branch or jump, or is left out. The
--- long form's JAL stands after its branch, which skips it.
+-- The branch or jump that stands at an address for an instruction: none where that is no branch or jump,
+-- or is left out. The long form's JAL stands after its branch, which skips it.
 abbrev pub main_leap : (ℕ → ℕ) → ℕ → Placed → Form → List Leap
 main_leap new a p (form.Branch inverted size jump) = by size
   where

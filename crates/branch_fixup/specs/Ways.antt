@@ -1,5 +1,6 @@
 -- Ways that branches and jumps go, as forms grow one at a time.
-use Rattle.std.specs.Prelude.{◌≡◌, ℕ, ◌+◌, ◌^◌, ◌<◌, ◌≤◌, ◌&&◌, ◌||◌, nat_lt, nat_le, if◌then◌else◌, Bool, true, List, length, slice_index}
+use Rattle.std.specs.Prelude.{◌≡◌, ℕ, ◌+◌, ◌^◌, ◌<◌, ◌≤◌, ◌&&◌, ◌||◌, nat_lt, nat_le, if◌then◌else◌, Bool, true, List}
+use Rattle.std.specs.Prelude.{length, slice_index}
 use Rattle.std.specs.Option.{option_map_or}
 use Rattle.rv_code.specs.declared.layout.Form.{Form}
 use Rattle.branch_fixup.specs.declared.growth.Tail.{Tail}
@@ -18,12 +19,14 @@ crosses ts k p = (nat_le k p && nat_lt p (tail_at ts k).to) || (nat_le (tail_at 
 
 -- a form of block k would reach where its way is by so many bytes longer than these places say
 abbrev pub is_enough_by : List Tail → List ℕ → ℕ → ℕ → Form → Bool
-is_enough_by ts places more k f = option_map_or (λ half.
+is_enough_by ts places more k f =
+    option_map_or (λ half.
     if nat_lt k (tail_at ts k).to
     then reaches half (slice_index places k + (tail_at ts k).before)
     (slice_index places (tail_at ts k).to + (tail_at ts k).offset + more)
     else reaches half (slice_index places k + (tail_at ts k).before + more)
-    (slice_index places (tail_at ts k).to + (tail_at ts k).offset)) (half_of f) true
+    (slice_index places (tail_at ts k).to + (tail_at ts k).offset))
+    (half_of f) true
 
 -- With these forms the way of block k is by at least so many bytes longer than these places say.
 pub record IsLonger (ts : List Tail) (places : List ℕ) (fs : List Form) (k more : ℕ) : Type 0 where

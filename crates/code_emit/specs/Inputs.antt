@@ -45,8 +45,8 @@ IsLower (Sw rs1 rs2 imm) = Unit {0}
 IsLower (Sd rs1 rs2 imm) = Unit {0}
 IsLower _ = ⊥
 
--- A role fits an instruction of so many bytes: it is of the kind that the role wants, and not compressed. The addresses of
--- roles lie at most at the limit of code.
+-- A role fits an instruction of so many bytes: it is of the kind that the role wants, and not compressed.
+-- The addresses of roles lie at most at the limit of code.
 abbrev pub FitsRole : Role → Inst → ℕ → Type 0
 FitsRole role.Plain inst bytes = Unit {0}
 FitsRole (role.CallHi target) inst bytes = IsAuipc inst × (bytes ≡ 4) × (target ≤ code_limit)
@@ -72,7 +72,8 @@ pub record IsLowCell (c : CodeCell) : Type 0 where
   pub width : (c.width ≡ 4) ⊎ (c.width ≡ 8)
   pub kind : IsLowKind c.kind
 
--- Forms and spans of blocks in an order, from an even address on: below the limit of code. The map has these spans.
+-- Forms and spans of blocks in an order, from an even address on: below the limit of code.
+-- The map has these spans.
 pub record AreMapped (ss : List Strip) (fs : List Form) (base : ℕ) (map : List Span) : Type 0 where
   pub forms : AreForms ss base fs
   pub map_is : AreInLineOrder (spans_of ss base fs) map

@@ -46,7 +46,8 @@ pub record Made : Type 0 where
   pub inst : Inst
   pub bytes : ℕ
 
--- an instruction that keeps its width, at a: a branch or jump goes to its target, and an address is split anew
+-- an instruction that keeps its width, at a: a branch or jump goes to its target,
+-- and an address is split anew
 abbrev pub kept : (ℕ → ℕ) → ℕ → Placed → Inst
 kept new a p = option_map_or (λ t. with_distance p.inst (distance (new t) a)) (target_of p) (made_anew new p.addr p.role p.inst)
 

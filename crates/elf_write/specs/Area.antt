@@ -89,8 +89,8 @@ offset_in area a = area.offset + (a - area.address)
 
 -- Where loaded bytes of the input are.
 
--- The bytes at and behind the executable segment's end move by the least multiple of the greatest alignment that makes room
--- for the area. In a file with a segment of its own none moves.
+-- The bytes at and behind the executable segment's end move by the least multiple of the greatest alignment
+-- that makes room for the area. In a file with a segment of its own none moves.
 abbrev pub step_of : List Segment → Area → ℕ
 step_of segments area =
     if area.tight

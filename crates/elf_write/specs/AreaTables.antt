@@ -10,10 +10,10 @@ use Rattle.elf_write.specs.Source.{Source}
 
 -- The tables stand among the bytes of an area.
 pub record HasTables {Y Z : Type 0} (tables : List (String Y × Vec ℕ Z)) (layout : Layout) : Type 0 where
-  pub frames : IfSome layout.area.frames (λ a. Stands layout.bytes.items (a - layout.area.start)
-      (bytes_called tables (codes ".eh_frame")))
-  pub index : IfSome layout.area.index (λ a. Stands layout.bytes.items (a - layout.area.start)
-      (bytes_called tables (codes ".eh_frame_hdr")))
+  pub frames : IfSome layout.area.frames
+      (λ a. Stands layout.bytes.items (a - layout.area.start) (bytes_called tables (codes ".eh_frame")))
+  pub index : IfSome layout.area.index
+      (λ a. Stands layout.bytes.items (a - layout.area.start) (bytes_called tables (codes ".eh_frame_hdr")))
 
 -- A file that was made, with these tables in its area.
 pub record IsMadeWith {Y Z : Type 0} (s : Source) (tables : List (String Y × Vec ℕ Z)) (tight : Bool) (w : List ℕ) : Type 0 where

@@ -31,17 +31,19 @@ has_code_addresses name = bytes_eq name (codes ".debug_macro") || bytes_eq name 
 abbrev pub is_left_out : Section → Bool
 is_left_out s = (s.kind == SHT_RELA) || (not (is_loaded s) && has_code_addresses s.name.now)
 
--- Bytes of the file are among those that keep their offsets, or that move with a segment behind the executable one.
+-- Bytes of the file are among those that keep their offsets,
+-- or that move with a segment behind the executable one.
 abbrev pub moves_with : ℕ → ℕ → ℕ → Segment → Bool
-moves_with file_end start end p = is_load p && (nat_le file_end p.offset && (nat_le p.offset start && nat_le end
-    (p.offset + p.filesz)))
+moves_with file_end start end p =
+    is_load p && (nat_le file_end p.offset && (nat_le p.offset start && nat_le end (p.offset + p.filesz)))
 
 abbrev pub stays : List Segment → Area → Shift → ℕ → ℕ → Bool
 stays segments area shift start end =
     if area.tight then nat_le end (loads_end segments)
     else nat_le end shift.from || list_any (moves_with shift.from start end) segments
 
--- The table of a name takes the place of the section of an index: not those of the unwind tables, which stand in the new area.
+-- The table of a name takes the place of the section of an index: not those of the unwind tables,
+-- which stand in the new area.
 abbrev pub is_at : ℕ → Option ℕ → Bool
 is_at index place = option_map_or (λ i. i == index) place false
 
@@ -58,8 +60,8 @@ own_contents segments area shift s =
     else if is_loaded s && ((s.size == 0) || stays segments area shift s.offset (s.offset + s.size)) then Kept
     else Copied
 
--- Where those of the section of an index are, by the indices of the tables of names and symbols, and by the table that
--- takes its place.
+-- Where those of the section of an index are, by the indices of the tables of names and symbols,
+-- and by the table that takes its place.
 abbrev pub contents_by : ℕ → Option ℕ → Option ℕ → Option ℕ → Contents → ℕ → Section → Contents
 contents_by names symbols symbol_names table own index s =
     if names == index then SectionNames

@@ -36,8 +36,8 @@ pub record IsLaidOut (elf : Elf) (tight : Bool) (code : List ℕ) (frames index 
   pub above : layout.area.tight ≡ true → IsAbove elf.segments.items layout.area layout.parts
   pub behind : layout.area.tight ≡ false → IsBehind elf.segments.items layout.area layout.shift layout.parts
 
--- The table of program headers in the input, and whether it stands among bytes that are kept or move: before the end of the
--- executable segment, or whole in a loaded one.
+-- The table of program headers in the input, and whether it stands among bytes that are kept or move:
+-- before the end of the executable segment, or whole in a loaded one.
 abbrev pub table_of : Elf → Range
 table_of elf = record { start = elf.phoff; size = PHDR_SIZE * length elf.segments.items }
 
@@ -60,8 +60,8 @@ header_numbers fields =
     number 0x18 8 fields.entry ∷ number 0x20 8 fields.segments_at ∷ number 0x28 8 fields.sections_at
     ∷ number 0x38 2 fields.segments ∷ number 0x3c 2 fields.sections ∷ number 0x3e 2 fields.names ∷ []
 
--- The parts and a tail, with code cells, the table of program headers and fields of the file's header put over their bytes.
--- All lie within the file.
+-- The parts and a tail, with code cells, the table of program headers and fields of the file's header put
+-- over their bytes. All lie within the file.
 pub record IsPut (layout : Layout) (input tail : List ℕ) (cells : List NumberAt) (segments : List Segment)
     (fields : List NumberAt) (table_at : ℕ) (w : List ℕ) : Type 0 where
   pub fit : All SegmentFits segments

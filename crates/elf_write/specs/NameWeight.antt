@@ -20,7 +20,8 @@ section_weight s = if is_renamed s then weight_of s.name.now else 0
 abbrev pub cold_weight : List Symbol → List Func → ℕ → ℕ
 cold_weight symbols funcs a = option_map_or (λ s. weight_of s.name.now) (named_around symbols funcs a) 0
 
--- The old tables, the new names, and 64 for those of new sections. `cold` has the addresses of the cold parts.
+-- The old tables, the new names, and 64 for those of new sections.
+-- `cold` has the addresses of the cold parts.
 abbrev pub name_weight : Elf → List Func → List ℕ → ℕ
 name_weight elf funcs cold =
     capped

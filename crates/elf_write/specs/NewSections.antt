@@ -131,18 +131,19 @@ adds_ranges sections tables =
 abbrev pub At : List Section → ℕ → (Section → Type 0) → Type 0
 At sections index P = IfSome (slice_get sections index) P
 
--- All sections: those of the input, then the new code, the unwind table and its index, and the table of ranges.
-pub record AreNewSections {Y Z : Type 0} (elf new : Elf) (tables : List (String Y
-    × Vec ℕ Z)) (area : Area) (shift : Shift) (code : List ℕ) : Type 0 where
+-- All sections: those of the input, then the new code, the unwind table and its index,
+-- and the table of ranges.
+pub record AreNewSections {Y Z : Type 0} (elf new : Elf) (tables : List (String Y × Vec ℕ Z)) (area : Area)
+    (shift : Shift) (code : List ℕ) : Type 0 where
   pub names_at : e_shstrndx new.file.now ≡ e_shstrndx elf.file.now
-  pub count : length new.sections.items ≡ (length elf.sections.items + 1) + (one_if (is_some area.frames) + (one_if
-      (is_some area.index) + one_if (adds_ranges elf.sections.items tables)))
+  pub count : length new.sections.items ≡ (length elf.sections.items + 1)
+      + (one_if (is_some area.frames) + (one_if (is_some area.index) + one_if (adds_ranges elf.sections.items tables)))
   pub keeps : (i : ℕ) (s n : Section) → slice_get elf.sections.items i ≡ Some s → slice_get new.sections.items i ≡ Some n →
       KeepsHeader s n
   pub follows : (i : ℕ) (s n : Section) → slice_get elf.sections.items i ≡ Some s → slice_get new.sections.items i ≡ Some n →
       Follows tables shift elf.file.now new.file.now (contents_of elf tables area shift i s) s n
-  pub text : At new.sections.items (length elf.sections.items) (IsInArea new.file.now area (codes ".text") code
-      (SHF_ALLOC + SHF_EXECINSTR) area.start 16)
+  pub text : At new.sections.items (length elf.sections.items)
+      (IsInArea new.file.now area (codes ".text") code (SHF_ALLOC + SHF_EXECINSTR) area.start 16)
   pub frames : IfSome area.frames (λ a. At new.sections.items (length elf.sections.items + 1)
       (IsInArea new.file.now area (codes ".eh_frame") (bytes_called tables (codes ".eh_frame")) SHF_ALLOC a 8))
   pub index : IfSome area.index (λ a. At new.sections.items ((length elf.sections.items + 1) + one_if (is_some area.frames))

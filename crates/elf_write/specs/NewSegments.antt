@@ -14,7 +14,8 @@ use Rattle.elf_write.specs.Extended.{Loads}
 abbrev pub CrossesNot : ℕ → Segment → Type 0
 CrossesNot file_end p = (p.offset < file_end) → p.offset + p.filesz ≤ file_end
 
--- A loaded segment of the input, and what it is in the written file: its bytes have moved, and it may have grown.
+-- A loaded segment of the input, and what it is in the written file:
+-- its bytes have moved, and it may have grown.
 pub record IsNewLoad (file_end step : ℕ) (p q : Segment) : Type 0 where
   pub kind : q.kind ≡ p.kind
   pub flags : q.flags ≡ p.flags
@@ -23,8 +24,8 @@ pub record IsNewLoad (file_end step : ℕ) (p q : Segment) : Type 0 where
   pub sizes : ((q.filesz ≡ p.filesz) × (q.memsz ≡ p.memsz))
       ⊎ ((p.memsz ≡ p.filesz) × (p.filesz ≤ q.filesz) × (q.memsz ≡ q.filesz))
 
--- A header of the input and that of the written file. Only the executable segment may grow, to an end; and only a file
--- that isn't tight keeps the place and size of its table of program headers.
+-- A header of the input and that of the written file. Only the executable segment may grow, to an end;
+-- and only a file that isn't tight keeps the place and size of its table of program headers.
 pub record IsRenewed (file_end step end : ℕ) (tight grows : Bool) (p q : Segment) : Type 0 where
   pub kind : q.kind ≡ p.kind
   pub load : IsTrue (is_load p) → IsNewLoad file_end step p q

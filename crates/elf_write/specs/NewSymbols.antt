@@ -20,8 +20,8 @@ pub record IsUnmoved (s n : Symbol) : Type 0 where
   pub shndx : n.section ≡ s.section
   pub size : n.size ≡ s.size
 
--- Any other names the instruction's new address, in the section of the new code. The size of a function is that of its new
--- code from there on.
+-- Any other names the instruction's new address, in the section of the new code.
+-- The size of a function is that of its new code from there on.
 pub record IsMoved (funcs : List Func) (spans : List Span) (text to : ℕ) (s n : Symbol) : Type 0 where
   pub value : n.value ≡ to
   pub shndx : n.section ≡ text
@@ -48,7 +48,8 @@ pub record IsColdSymbol (symbols : List Symbol) (funcs : List Func) (spans : Lis
 abbrev pub named_parts : List Symbol → List Func → List ℕ → List ℕ
 named_parts symbols funcs cold = filter (λ a. is_some (named_around symbols funcs a)) cold
 
--- How many symbols are local by the table's header, and what a written one says: the number up to the last that is added.
+-- How many symbols are local by the table's header, and what a written one says:
+-- the number up to the last that is added.
 abbrev pub local_count : List Symbol → Section → ℕ
 local_count symbols table = min (length symbols) table.info
 
@@ -60,10 +61,10 @@ pub record AreNewSymbols (old new : List Symbol) (funcs : List Func) (spans : Li
     (table new_table : Section) : Type 0 where
   pub info : new_table.info ≡ new_info old (length (named_parts old funcs cold)) table
   pub front : GoTogether (IsNewSymbol funcs spans text) (take (local_count old table) old) (take (local_count old table) new)
-  pub added : GoTogether (IsColdSymbol old funcs spans text) (named_parts old funcs cold) (take (length
-      (named_parts old funcs cold)) (drop (local_count old table) new))
-  pub behind : GoTogether (IsNewSymbol funcs spans text) (drop (local_count old table) old) (drop (length
-      (named_parts old funcs cold)) (drop (local_count old table) new))
+  pub added : GoTogether (IsColdSymbol old funcs spans text) (named_parts old funcs cold)
+      (take (length (named_parts old funcs cold)) (drop (local_count old table) new))
+  pub behind : GoTogether (IsNewSymbol funcs spans text) (drop (local_count old table) old)
+      (drop (length (named_parts old funcs cold)) (drop (local_count old table) new))
 
 -- The tables of two files: both have one, at the same index, or neither has symbols.
 pub record HaveNewSymbols (elf new : Elf) (funcs : List Func) (spans : List Span) (cold : List ℕ) : Type 0 where

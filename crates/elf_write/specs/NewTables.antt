@@ -13,16 +13,15 @@ use Rattle.elf_write.specs.TableSizes.{table_size}
 -- the new area for some code and tables
 abbrev pub area_for : {Y Z : Type 0} → Elf → List (String Y × Vec ℕ Z) → List ℕ → Bool → Area
 area_for elf tables code tight =
-    area_of elf.segments.items tight (length code) (table_size tables (codes ".eh_frame")) (table_size tables
-    (codes ".eh_frame_hdr"))
+    area_of elf.segments.items tight (length code) (table_size tables (codes ".eh_frame"))
+    (table_size tables (codes ".eh_frame_hdr"))
 
--- What is read of the file w has the sections and symbols that follow from the input, the tables that are given, the new
--- code, the functions, their cold parts and the map.
-pub record HasNewTables {Y Z : Type 0} (elf : Elf) (tables : List (String Y
-    × Vec ℕ Z)) (code : List ℕ) (funcs : List Func) (cold : List ℕ) (spans : List Span) (tight : Bool)
-    (w : List ℕ) : Type 0 where
+-- What is read of the file w has the sections and symbols that follow from the input,
+-- the tables that are given, the new code, the functions, their cold parts and the map.
+pub record HasNewTables {Y Z : Type 0} (elf : Elf) (tables : List (String Y × Vec ℕ Z)) (code : List ℕ)
+    (funcs : List Func) (cold : List ℕ) (spans : List Span) (tight : Bool) (w : List ℕ) : Type 0 where
   pub new : Elf
   pub read : IsElfOf w new
-  pub sections : AreNewSections elf new tables (area_for elf tables code tight) (shift_of elf.segments.items
-      (area_for elf tables code tight)) code
+  pub sections : AreNewSections elf new tables (area_for elf tables code tight)
+      (shift_of elf.segments.items (area_for elf tables code tight)) code
   pub symbols : HaveNewSymbols elf new funcs spans cold

@@ -9,7 +9,8 @@ use Rattle.elf_write.specs.Room.{is_tight, area_above, room_above}
 abbrev pub has_no_room : List Segment → ℕ → Bool
 has_no_room segments need = is_tight segments need && nat_lt (room_above segments) need
 
--- The fault speaks of the segment of its own. An address that doesn't fit 64 bits is given as the highest that does.
+-- The fault speaks of the segment of its own.
+-- An address that doesn't fit 64 bits is given as the highest that does.
 abbrev pub no_room_place : List Segment → ℕ
 no_room_place segments = min (area_above segments) (2 ^ 64 - 1)
 

@@ -1,5 +1,5 @@
--- Where the new area begins and how much room it has: behind the executable segment, or in a segment of its own above all
--- others. gABI, "Program Header".
+-- Where the new area begins and how much room it has: behind the executable segment, or in a segment of its
+-- own above all others. gABI, "Program Header".
 use Rattle.std.specs.Prelude.{ℕ, ◌+◌, ◌-◌, ◌*◌, ◌==◌, ◌&&◌, nat_le, nat_lt, if◌then◌else◌, Bool, List, length, map, filter}
 use Rattle.std.specs.Prelude.{fold, max, min}
 use Rattle.std.specs.Option.{option_map_or}
@@ -34,8 +34,8 @@ limit_above end segments = fold min address_end (pages_from end segments)
 abbrev pub area_limit : List Segment → ℕ
 area_limit segments = limit_above (code_end segments) segments
 
--- How many bytes there are for the area. Behind a segment that ends within the file's header there are none, since the
--- area would stand over the header.
+-- How many bytes there are for the area. Behind a segment that ends within the file's header there are none,
+-- since the area would stand over the header.
 abbrev pub room : List Segment → ℕ
 room segments =
     if nat_lt (executable_end segments) header_size then 0 else area_limit segments - area_start segments

@@ -4,7 +4,8 @@ use Rattle.addr_map.specs.declared.span.Span.{Span}
 use Rattle.rv_code.specs.declared.placed.Func.{Func}
 use Rattle.rv_code.specs.layout.InFunctions.{function_at}
 
--- The new code from an address on, for so many bytes, is that of one function, and no more of it follows there.
+-- The new code from an address on, for so many bytes, is that of one function,
+-- and no more of it follows there.
 pub record IsRun (funcs : List Func) (spans : List Span) (f to size : ℕ) : Type 0 where
   pub own : All (λ s. 0 < s.len → to ≤ s.out → s.out < to + size →
       (function_at funcs s.input ≡ Some f) × (s.out + s.len ≤ to + size)) spans

@@ -37,15 +37,16 @@ source_of elf emitted spans tables = record {
 abbrev pub source_area : Source → Bool → Area
 source_area s tight = area_of s.elf.segments.items tight (length s.code) s.frames s.index
 
--- The map puts the new code behind the executable segment, or in a segment of its own if tight, and all of the new area has
--- room there.
+-- The map puts the new code behind the executable segment, or in a segment of its own if tight,
+-- and all of the new area has room there.
 pub record IsPlaced (s : Source) (tight : Bool) : Type 0 where
   pub some : 0 < length s.code
   pub stretch : IsStretch s.spans (start_of s.elf.segments.items tight) (start_of s.elf.segments.items tight + length s.code)
   pub fits : (source_area s tight).end - (source_area s tight).start ≤
       (if tight then room_above s.elf.segments.items else room s.elf.segments.items)
 
--- The bytes in memory that may differ: those of code cells, of the field of the entry point, and of hidden fields.
+-- The bytes in memory that may differ: those of code cells, of the field of the entry point,
+-- and of hidden fields.
 abbrev pub cell_range : ℕ × ℕ × ℕ → Range
 cell_range cell = record { start = cell.0; size = cell.1 }
 

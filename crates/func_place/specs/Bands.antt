@@ -1,5 +1,5 @@
--- Bands: stretches of the new code that are small enough for each branch in them to reach. Each has the hot parts of its
--- units before the cold ones.
+-- Bands: stretches of the new code that are small enough for each branch in them to reach.
+-- Each has the hot parts of its units before the cold ones.
 use Rattle.std.specs.Prelude.{ℕ, ◌+◌, if◌then◌else◌, nat_lt, List, [], ◌∷◌, ◌++◌, slice_index}
 use Rattle.std.specs.List.{fold, flat_map}
 use Rattle.func_place.specs.Clusters.{limit, total}

@@ -1,6 +1,7 @@
--- Clusters of units, by call-chain clustering: each hot unit's cluster goes behind that of the unit which calls it most,
--- if both together are small enough.
-use Rattle.std.specs.Prelude.{ℕ, ◌+◌, ◌==◌, ◌&&◌, if◌then◌else◌, Bool, not, nat_le, List, [], ◌∷◌, ◌++◌, Option, sum_by, slice_index}
+-- Clusters of units, by call-chain clustering: each hot unit's cluster goes behind that of the unit which
+-- calls it most, if both together are small enough.
+use Rattle.std.specs.Prelude.{ℕ, ◌+◌, ◌==◌, ◌&&◌, if◌then◌else◌, Bool, not, nat_le, List, [], ◌∷◌, ◌++◌, Option, sum_by}
+use Rattle.std.specs.Prelude.{slice_index}
 use Rattle.std.specs.List.{fold, list_any}
 use Rattle.std.specs.Option.{option_map_or}
 
@@ -15,7 +16,8 @@ has units u = list_any (λ v. v == u) units
 abbrev pub total : List ℕ → List ℕ → ℕ
 total sizes units = sum_by (λ u. slice_index sizes u) units
 
--- `cluster u` is the cluster in which the unit u stands, a list of units. At first each one is a cluster of its own.
+-- `cluster u` is the cluster in which the unit u stands, a list of units.
+-- At first each one is a cluster of its own.
 abbrev pub alone : ℕ → List ℕ
 alone u = u ∷ []
 

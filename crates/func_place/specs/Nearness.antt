@@ -32,8 +32,8 @@ HaveAllBlocks funcs blocks chains =
 abbrev pub HasAllBlocks : List Block → List ℕ → Type 0
 HasAllBlocks blocks order = IsPermutation (range_with_len 0 (length blocks)) order
 
--- From one block to another of a function that is tied to its function, both included, there are so few bytes by worst
--- size that a JAL reaches.
+-- From one block to another of a function that is tied to its function, both included,
+-- there are so few bytes by worst size that a JAL reaches.
 abbrev pub AreTiedNear : List Func → List Block → List ℕ → Type 0
 AreTiedNear funcs blocks order = (i j : ℕ) → i ≤ j → j < length order →
     AreTied funcs (owner blocks (slice_index order i)) (owner blocks (slice_index order j)) →

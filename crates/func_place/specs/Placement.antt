@@ -10,7 +10,8 @@ use Rattle.rv_code.specs.layout.InFunctions.{function_at}
 use Rattle.func_place.specs.Units.{AreUnits, unit_sum, unit_size, unit_part, by_unit}
 use Rattle.func_place.specs.UnitOrder.{IsUnitOrder}
 
--- What a pair of addresses counts from unit to unit, where both lie in functions. A pair has its addresses and its count.
+-- What a pair of addresses counts from unit to unit, where both lie in functions.
+-- A pair has its addresses and its count.
 abbrev pub unit_call : List Func → List ℕ → ℕ × ℕ × ℕ → Option Call
 unit_call funcs units p =
     option_and_then (λ f. option_map (λ g. record {
@@ -29,8 +30,8 @@ hot_of chains f = slice_index_or (map (λ v. v.items) chains.hot.items) f []
 abbrev pub cold_of : Chains → ℕ → List ℕ
 cold_of chains f = slice_index_or (map (λ v. v.items) chains.cold.items) f []
 
--- The units of functions stand in their order, by worst size, by the weights of their blocks, which say how often these
--- run, and by what is counted between them. In each unit the functions go by address.
+-- The units of functions stand in their order, by worst size, by the weights of their blocks, which say how
+-- often these run, and by what is counted between them. In each unit the functions go by address.
 pub record IsPlacement (funcs : List Func) (blocks : List Block) (chains : Chains) (pairs : List (ℕ × ℕ × ℕ))
     (weight : Block → ℕ) (order : List ℕ) : Type 0 where
   pub units : List ℕ

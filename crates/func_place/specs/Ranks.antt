@@ -21,7 +21,8 @@ begins units u = option_map_or (λ v. v == u) (slice_get units 0) false
 abbrev pub heads : (ℕ → List ℕ) → List ℕ → List ℕ
 heads cluster taken = filter (λ u. begins (cluster u) u) taken
 
--- by density, which is heat divided by size, the greater first, then the lower unit first; compared by cross products
+-- by density, which is heat divided by size, the greater first, then the lower unit first;
+-- compared by cross products
 abbrev pub denser_by : ℕ → ℕ → ℕ → ℕ → ℕ → ℕ → Bool
 denser_by heat size u heat' size' v =
     nat_lt (heat' * size) (heat * size') || ((heat' * size == heat * size') && nat_lt u v)

@@ -1,5 +1,5 @@
--- The blocks of units in their new order. Units are numbers, with their worst sizes and heats as lists, what is counted
--- between them, and the blocks of their hot and cold parts.
+-- The blocks of units in their new order. Units are numbers, with their worst sizes and heats as lists,
+-- what is counted between them, and the blocks of their hot and cold parts.
 use Rattle.std.specs.Prelude.{ℕ, ◌≡◌, ◌==◌, List, ◌++◌, length, filter, slice_index}
 use Rattle.std.specs.List.{flat_map, range_with_len}
 use Rattle.func_place.specs.declared.calls.Call.{Call}
@@ -15,10 +15,9 @@ cold_units heats = filter (λ u. slice_index heats u == 0) (range_with_len 0 (le
 abbrev pub unit_clusters : List ℕ → List ℕ → List Call → List ℕ → ℕ → List ℕ
 unit_clusters sizes heats calls taken = clusters_of sizes (heaviest_caller heats calls) taken
 
--- The hot units are taken by heat and form clusters. The clusters stand by density, and after them the cold units, by
--- number. All go into bands in this order.
-pub record IsUnitOrder (sizes heats : List ℕ) (calls : List Call) (hot cold : ℕ → List ℕ) (order : List ℕ) :
-    Type 0 where
+-- The hot units are taken by heat and form clusters. The clusters stand by density, and after them the cold
+-- units, by number. All go into bands in this order.
+pub record IsUnitOrder (sizes heats : List ℕ) (calls : List Call) (hot cold : ℕ → List ℕ) (order : List ℕ) : Type 0 where
   pub taken : List ℕ
   pub taken_is : IsInOrder (hotter heats) (hot_units heats) taken
   pub ranked : List ℕ

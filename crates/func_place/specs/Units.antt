@@ -1,5 +1,7 @@
--- Units: functions that have to stay near each other, as a branch, a JAL or a fall leads from one into the other.
-use Rattle.std.specs.Prelude.{◌≡◌, ℕ, ◌+◌, ◌<◌, ◌≤◌, ◌==◌, IsTrue, List, Some, if◌then◌else◌, length, map, filter, slice_index, slice_get, sum_by}
+-- Units: functions that have to stay near each other,
+-- as a branch, a JAL or a fall leads from one into the other.
+use Rattle.std.specs.Prelude.{◌≡◌, ℕ, ◌+◌, ◌<◌, ◌≤◌, ◌==◌, IsTrue, List, Some, if◌then◌else◌, length, map, filter}
+use Rattle.std.specs.Prelude.{slice_index, slice_get, sum_by}
 use Rattle.std.specs.List.{range_with_len, flat_map}
 use Rattle.rv_code.specs.declared.placed.Placed.{Placed}
 use Rattle.rv_code.specs.declared.placed.Func.{Func}
@@ -9,8 +11,8 @@ use Rattle.rv_code.specs.layout.Flow.{target_of, falls_at}
 use Rattle.rv_code.specs.layout.InFunctions.{function_at}
 use Rattle.rv_code.specs.layout.WorstSizes.{worst_size_of_block}
 
--- The i-th instruction of a function leads to an address: a branch or a JAL goes there, or it falls there. A pair of
--- instructions that calls and an indirect jump reach everywhere, and so lead nowhere here.
+-- The i-th instruction of a function leads to an address: a branch or a JAL goes there, or it falls there.
+-- A pair of instructions that calls and an indirect jump reach everywhere, and so lead nowhere here.
 pub data Leads (func : Func) (i : ℕ) (p : Placed) (a : ℕ) : Type 0 where
   jumps : target_of p ≡ Some a → Leads func i p a
   falls_into : IsTrue (falls_at func i p) → p.addr + p.len ≡ a → Leads func i p a
@@ -32,7 +34,8 @@ pub data AreTied (funcs : List Func) (f : ℕ) : ℕ → Type 0 where
   onward : {g h : ℕ} → AreTied funcs f g → LeadsInto funcs g h → AreTied funcs f h
   backward : {g h : ℕ} → AreTied funcs f g → LeadsInto funcs h g → AreTied funcs f h
 
--- For each function its unit, the class of those with which it is tied. A unit is named by its lowest function.
+-- For each function its unit, the class of those with which it is tied.
+-- A unit is named by its lowest function.
 pub record AreUnits (funcs : List Func) (units : List ℕ) : Type 0 where
   pub len : length units ≡ length funcs
   pub tied : (f : ℕ) → f < length funcs → AreTied funcs f (slice_index units f)

@@ -15,7 +15,8 @@ use Rattle.code_emit.specs.Inputs.{AreMapped}
 use Rattle.code_emit.specs.Output.{Puts, new_cell}
 use Rattle.bolt_core.specs.declared.moving.MovedCode.{MovedCode}
 
--- in each rewrite that has this code where the map says, the instructions are kept, and go on to what followed them
+-- in each rewrite that has this code where the map says, the instructions are kept,
+-- and go on to what followed them
 abbrev pub KeepsAll : List Func → MovedCode → ℕ → Type 0
 KeepsAll funcs m base =
     (r : Rewrite) → Puts r funcs m.map base m.emitted.code.items →

@@ -1,5 +1,6 @@
 -- Numbers in groups, as the code keeps them.
-use Rattle.std.specs.Prelude.{ℕ, ◌≡◌, ◌⊎◌, ◌<◌, ◌==◌, if◌then◌else◌, All, List, [], ◌++◌, map, length, slice_index, slice_index_or, slice_set}
+use Rattle.std.specs.Prelude.{ℕ, ◌≡◌, ◌⊎◌, ◌<◌, ◌==◌, if◌then◌else◌, All, List, [], ◌++◌, map, length, slice_index}
+use Rattle.std.specs.Prelude.{slice_index_or, slice_set}
 use Rattle.func_place.specs.declared.groups.Groups.{Groups}
 use Rattle.func_place.specs.Clusters.{has}
 
