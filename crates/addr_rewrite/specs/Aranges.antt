@@ -1,5 +1,6 @@
 -- The tables of `.debug_aranges`: which unit an address belongs to. DWARF 5, sections 6.1.2 and 7.21.
-use Rattle.std.specs.Prelude.{◌+◌, ◌==◌, ◌&&◌, ℕ, zero, suc, not, List, [], map, length, if◌then◌else◌, Option, option_map, Result, Ok, Err}
+use Rattle.std.specs.Prelude.{◌+◌, ◌==◌, ◌&&◌, ℕ, zero, suc, not, List, [], map, length, if◌then◌else◌, Option, option_map}
+use Rattle.std.specs.Prelude.{Result, Ok, Err}
 use Rattle.std.specs.List.{find, list_any}
 use Rattle.rb_bytes.specs.Reading.{bytes_at, number_at, and_then}
 use Rattle.table_core.specs.Steps.{and_so, with_head, oks, is_ok}

@@ -1,5 +1,6 @@
 -- Edges counted one after another.
-use Rattle.std.proofs.Common.{◌≡◌, ◌<◌, ◌≤◌, ◌+◌, ◌∙◌, ◌⊎◌, ℕ, List, [], ◌∷◌, ◌++◌, length, get_or, take, arith, ap, sym, subst, inl, inr, ⊎_elim, AllPairs, Contains}
+use Rattle.std.proofs.Common.{◌≡◌, ◌<◌, ◌≤◌, ◌+◌, ◌∙◌, ◌⊎◌, ℕ, List, [], ◌∷◌, ◌++◌, length, get_or, take, arith, ap, sym, subst}
+use Rattle.std.proofs.Common.{inl, inr, ⊎_elim, AllPairs, Contains}
 use Rattle.std.specs.Prelude.{IsPermutation}
 use Rattle.std.proofs.lemmas.List.{get_or_default, get_or-take, length-take, take_more, take_all}
 use Rattle.std.proofs.lemmas.Bool.{cases_lt}

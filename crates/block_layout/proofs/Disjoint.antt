@@ -1,11 +1,13 @@
 -- Chains share no block, and the parts of a function have each of its blocks once.
-use Rattle.std.proofs.Common.{◌≡◌, ◌≢◌, ◌<◌, ◌≤◌, ◌+◌, ◌-◌, ◌∙◌, ℕ, suc, true, List, [], ◌∷◌, ◌++◌, Option, Some, None, length, get_or, flat_map, arith, refl, ap, sym, subst, ⊎_elim, All, AllPairs, Contains}
+use Rattle.std.proofs.Common.{◌≡◌, ◌≢◌, ◌<◌, ◌≤◌, ◌+◌, ◌-◌, ◌∙◌, ℕ, suc, true, List, [], ◌∷◌, ◌++◌, Option, Some, None, length}
+use Rattle.std.proofs.Common.{get_or, flat_map, arith, refl, ap, sym, subst, ⊎_elim, All, AllPairs, Contains}
 use Rattle.std.specs.Prelude.{◌==◌, IsPermutation, slice_get}
 use Rattle.std.specs.List.{range_with_len}
 use Rattle.std.specs.Option.{option_map_or}
 use Rattle.std.proofs.lemmas.Bool.{cases_eq, cases_lt, eq-eqb, eqb-true}
 use Rattle.std.proofs.lemmas.List.{get_or_default}
-use Rattle.std.proofs.lemmas.List.Elements.{All-head, All-tail, All-contains, Contains-append_left, Contains-append_right, Contains-append_cases, Contains-get_or}
+use Rattle.std.proofs.lemmas.List.Elements.{All-head, All-tail, All-contains, Contains-append_left, Contains-append_right}
+use Rattle.std.proofs.lemmas.List.Elements.{Contains-append_cases, Contains-get_or}
 use Rattle.std.proofs.lemmas.Option.{slice_get-get_or}
 use Rattle.rv_code.specs.declared.placed.Block.{Block}
 use Rattle.rv_code.specs.layout.Lists.{ListsNumbers}
@@ -14,7 +16,8 @@ use Rattle.block_layout.specs.Links.{Links, IsChain}
 use Rattle.block_layout.specs.Parts.{IsOf, blocks_of_function}
 use Rattle.block_layout.specs.Walks.{AreBetween, AreFrom, IsHotList}
 use Rattle.block_layout.specs.declared.hot_chains.HotChain.{HotChain}
-use Rattle.block_layout.proofs.Members.{Distinct, none_in, same_members, is_in, distinct_append, in_filter, from_filter, in_range, from_range, distinct_filter}
+use Rattle.block_layout.proofs.Members.{Distinct, none_in, same_members, is_in, distinct_append, in_filter, from_filter, in_range}
+use Rattle.block_layout.proofs.Members.{from_range, distinct_filter}
 use Rattle.block_layout.proofs.Paths.{IsPath, IsWithin, as_path, meet, once}
 use Rattle.block_layout.proofs.Starting.{nothing, IsOf-within}
 use Rattle.block_layout.proofs.Firsts.{IsOf-get_or, get_or-IsOf}

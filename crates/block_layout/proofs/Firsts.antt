@@ -1,5 +1,6 @@
 -- First blocks of functions.
-use Rattle.std.proofs.Common.{◌≡◌, ◌≢◌, ◌<◌, ◌≤◌, ◌-◌, ◌∙◌, ◌↔◌, ℕ, true, false, List, Option, length, get_or, arith, ap, sym, subst, inl, inr, ⊎_elim}
+use Rattle.std.proofs.Common.{◌≡◌, ◌≢◌, ◌<◌, ◌≤◌, ◌-◌, ◌∙◌, ◌↔◌, ℕ, true, false, List, Option, length, get_or, arith, ap, sym}
+use Rattle.std.proofs.Common.{subst, inl, inr, ⊎_elim}
 use Rattle.std.specs.Prelude.{◌==◌, not, IsTrue, IsSomeAnd}
 use Rattle.std.proofs.lemmas.Bool.{cases_lt, eq-eqb, ne_eqb}
 use Rattle.std.proofs.lemmas.List.{get_or_default}

@@ -1,5 +1,6 @@
 -- Paths along links, which end.
-use Rattle.std.proofs.Common.{ℕ, zero, suc, ◌≡◌, ◌≢◌, ◌<◌, ◌≤◌, ◌+◌, ◌-◌, List, [], ◌∷◌, ◌++◌, Some, None, length, get_or, arith, refl, sym, ◌∙◌, ap, ⊎_elim, eqb, true, false, add-one}
+use Rattle.std.proofs.Common.{ℕ, zero, suc, ◌≡◌, ◌≢◌, ◌<◌, ◌≤◌, ◌+◌, ◌-◌, List, [], ◌∷◌, ◌++◌, Some, None, length, get_or, arith}
+use Rattle.std.proofs.Common.{refl, sym, ◌∙◌, ap, ⊎_elim, eqb, true, false, add-one}
 use Rattle.std.proofs.lemmas.Bool.{cases_lt}
 use Rattle.std.proofs.lemmas.Grind.{common_steps}
 use Rattle.std.proofs.lemmas.Map.Steps.{length-le_from_distinct_below}

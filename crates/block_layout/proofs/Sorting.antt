@@ -1,5 +1,6 @@
 -- What a sort by counts and ends gives.
-use Rattle.std.proofs.Common.{◌≡◌, ◌<◌, ◌≤◌, ◌+◌, ◌-◌, ◌∙◌, ℕ, zero, suc, true, false, List, length, get_or, arith, sym, subst, inl, inr, ⊎_elim, AllPairs}
+use Rattle.std.proofs.Common.{◌≡◌, ◌<◌, ◌≤◌, ◌+◌, ◌-◌, ◌∙◌, ℕ, zero, suc, true, false, List, length, get_or, arith, sym, subst}
+use Rattle.std.proofs.Common.{inl, inr, ⊎_elim, AllPairs}
 use Rattle.std.specs.Ordering.{nat_cmp, is_lt, ordering_then}
 use Rattle.std.proofs.lemmas.Bool.{cases_lt, eq-eqb, lt-ltb, le-ltb}
 use Rattle.block_layout.specs.EdgeLists.{IsKeyBefore}

@@ -1,5 +1,6 @@
 -- The parts of functions, from the chains between two places.
-use Rattle.std.proofs.Common.{◌≡◌, ◌≢◌, ◌<◌, ◌≤◌, ◌++◌, ◌∙◌, ◌⊎◌, ℕ, zero, suc, List, [], ◌∷◌, Option, Some, None, length, get_or, map, flat_map, arith, refl, ap, sym, subst, inl, inr, ⊎_elim, All, AllPairs, Contains, add-one}
+use Rattle.std.proofs.Common.{◌≡◌, ◌≢◌, ◌<◌, ◌≤◌, ◌++◌, ◌∙◌, ◌⊎◌, ℕ, zero, suc, List, [], ◌∷◌, Option, Some, None, length, get_or}
+use Rattle.std.proofs.Common.{map, flat_map, arith, refl, ap, sym, subst, inl, inr, ⊎_elim, All, AllPairs, Contains, add-one}
 use Rattle.std.specs.Prelude.{IsSomeAnd, slice_get}
 use Rattle.std.proofs.lemmas.List.{get_or_default, get_or-map, length-map}
 use Rattle.std.proofs.lemmas.List.Elements.{All-append, All-nil, All-head, All-tail, Contains-get_or}

@@ -1,5 +1,6 @@
 -- One edge after another is taken: it links two blocks, or is left out.
-use Rattle.std.proofs.Common.{ℕ, ◌≡◌, ◌≢◌, ◌<◌, ◌≤◌, ◌+◌, ◌⊎◌, inl, inr, List, Option, Some, None, length, arith, refl, sym, ◌∙◌, ap, ⊎_elim, subst, Bool, true}
+use Rattle.std.proofs.Common.{ℕ, ◌≡◌, ◌≢◌, ◌<◌, ◌≤◌, ◌+◌, ◌⊎◌, inl, inr, List, Option, Some, None, length, arith, refl, sym, ◌∙◌}
+use Rattle.std.proofs.Common.{ap, ⊎_elim, subst, Bool, true}
 use Rattle.std.proofs.lemmas.Bool.{cases_eq}
 use Rattle.std.proofs.Common.{get_or, set, length-set, get_or-set_same, get_or-set_other}
 use Rattle.block_layout.specs.Linking.{IsEdge, Taken, Runs, Refused, IsLinked, KnowsEnds, ends_at, told}

@@ -1,12 +1,14 @@
 -- From the order in which edges are listed to the order of their counts.
-use Rattle.std.proofs.Common.{◌≡◌, ◌<◌, ◌≤◌, ◌∙◌, ℕ, List, None, length, get_or, arith, ap, sym, subst, inl, inr, ⊎_elim, AllPairs, Contains}
+use Rattle.std.proofs.Common.{◌≡◌, ◌<◌, ◌≤◌, ◌∙◌, ℕ, List, None, length, get_or, arith, ap, sym, subst, inl, inr, ⊎_elim}
+use Rattle.std.proofs.Common.{AllPairs, Contains}
 use Rattle.std.proofs.lemmas.Bool.{cases_lt}
 use Rattle.std.proofs.lemmas.List.{get_or_default}
 use Rattle.block_layout.specs.EdgeCounts.{IsEarlier}
 use Rattle.block_layout.specs.EdgeLists.{AreCounted, HaveOtherEnds, IsKeyBefore}
 use Rattle.block_layout.specs.Linking.{IsEdge, Taken, Runs, Refused, IsLinked, ends_at}
 use Rattle.block_layout.specs.Linking.Runs.{stays as run_stays, goes as run_goes}
-use Rattle.block_layout.specs.Linking.Refused.{source_taken as by_source, target_taken as by_target, first_block as by_first, closes as by_chain}
+use Rattle.block_layout.specs.Linking.Refused.{source_taken as by_source, target_taken as by_target, first_block as by_first}
+use Rattle.block_layout.specs.Linking.Refused.{closes as by_chain}
 use Rattle.block_layout.specs.Links.{Links, IsLinkedBefore, LeadBefore, IsLeftOut, Lead, AreLinks}
 use Rattle.block_layout.specs.Links.LeadBefore.{at_once, on}
 use Rattle.block_layout.specs.Links.IsLeftOut.{source_taken, target_taken, first_block, closes}

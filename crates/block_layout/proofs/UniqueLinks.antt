@@ -4,7 +4,8 @@ use Rattle.std.proofs.Common.{ℕ, zero, suc, ◌≡◌, ◌<◌, ◌≤◌, ◌
 use Rattle.std.specs.Prelude.{Contains, sum_by}
 use Rattle.std.proofs.lemmas.List.Sums.{get_or-le-sum_by}
 use Rattle.block_layout.specs.EdgeCounts.{IsEarlier}
-use Rattle.block_layout.specs.Links.{Links, LeadBefore, IsLeftOut, Lead, AreLinks, at_once, on, source_taken, target_taken, first_block, closes, stays, goes}
+use Rattle.block_layout.specs.Links.{Links, LeadBefore, IsLeftOut, Lead, AreLinks, at_once, on, source_taken, target_taken}
+use Rattle.block_layout.specs.Links.{first_block, closes, stays, goes}
 use Rattle.block_layout.specs.Parts.{IsFirstBlock}
 use Rattle.block_layout.specs.Laws.{LinksLaw}
 

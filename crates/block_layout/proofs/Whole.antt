@@ -1,5 +1,6 @@
 -- From edges and weights to the parts of all functions.
-use Rattle.std.proofs.Common.{◌≡◌, ◌<◌, ◌≤◌, ◌∙◌, ℕ, zero, suc, Bool, true, false, List, Option, Some, None, length, get_or, map, arith, refl, ap, sym, subst, ⊎_elim, All, Contains}
+use Rattle.std.proofs.Common.{◌≡◌, ◌<◌, ◌≤◌, ◌∙◌, ℕ, zero, suc, Bool, true, false, List, Option, Some, None, length, get_or, map}
+use Rattle.std.proofs.Common.{arith, refl, ap, sym, subst, ⊎_elim, All, Contains}
 use Rattle.std.specs.Prelude.{◌==◌, ◌&&◌, IsSomeAnd, slice_get, slice_index, Any}
 use Rattle.std.specs.Option.{option_map_or}
 use Rattle.std.proofs.lemmas.Bool.{cases_lt, eq-eqb, eqb-true, lt-ltb, ltb-true}

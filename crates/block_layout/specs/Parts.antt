@@ -1,5 +1,6 @@
 -- The hot and the cold part of each function, from chains of blocks and their weights.
-use Rattle.std.specs.Prelude.{◌≡◌, ◌⊎◌, ◌<◌, ◌==◌, ℕ, Bool, true, false, List, [], ◌++◌, Contains, IsPermutation, IsSomeAnd, filter, flat_map, fold, length, map, max, slice_get, slice_index_or, Vec}
+use Rattle.std.specs.Prelude.{◌≡◌, ◌⊎◌, ◌<◌, ◌==◌, ℕ, Bool, true, false, List, [], ◌++◌, Contains, IsPermutation, IsSomeAnd}
+use Rattle.std.specs.Prelude.{filter, flat_map, fold, length, map, max, slice_get, slice_index_or, Vec}
 use Rattle.std.specs.List.{range_with_len}
 use Rattle.std.specs.Option.{option_map_or}
 use Rattle.std.specs.declared.alloc.Global.{Global}

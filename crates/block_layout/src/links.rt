@@ -1,5 +1,6 @@
 // Chains of blocks, linked one edge after another.
-ghost use Rattle.std.specs.Prelude.{◌≡◌, ◌≢◌, ◌⊎◌, ◌↔◌, ◌<◌, ◌≤◌, ℕ, IfOk, IsTrue, MatchBool, None, Some, true, false, length, slice_index, slice_index_or, slice_set};
+ghost use Rattle.std.specs.Prelude.{◌≡◌, ◌≢◌, ◌⊎◌, ◌↔◌, ◌<◌, ◌≤◌, ℕ, IfOk, IsTrue, MatchBool, None, Some, true, false, length};
+ghost use Rattle.std.specs.Prelude.{slice_index, slice_index_or, slice_set};
 ghost use Rattle.rv_code.specs.declared.placed.Block.{Block};
 ghost use Rattle.edge_profile.specs.BlockPlaces.{AreApart};
 ghost use Rattle.block_layout.specs.Linking.{IsLinked, ends_at, told};

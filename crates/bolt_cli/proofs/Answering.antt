@@ -1,5 +1,6 @@
 -- From what the steps of `rewrite` and `map` come to, to the answers of the whole.
-use Rattle.std.proofs.Common.{length, ◌≡◌, ◌∙◌, refl, sym, ap, subst, ℕ, ◌<◌, ◌≤◌, List, Option, Some, None, arith, IsTrue, IsSomeAnd}
+use Rattle.std.proofs.Common.{length, ◌≡◌, ◌∙◌, refl, sym, ap, subst, ℕ, ◌<◌, ◌≤◌, List, Option, Some, None, arith, IsTrue}
+use Rattle.std.proofs.Common.{IsSomeAnd}
 use Rattle.rb_io.specs.FaultCounts.{Rose}
 use Rattle.rb_io.specs.Names.{Unchanged, NeverFalls}
 use Rattle.rb_io.specs.TakenText.{TakesAll, TakesPrefix}
@@ -14,10 +15,12 @@ use Rattle.bolt_cli.specs.declared.rewrite.Texts.{Texts}
 use Rattle.bolt_cli.specs.declared.status.Status.{Status}
 use Rattle.bolt_cli.specs.declared.status.Status.TheVariants as status
 use Rattle.bolt_cli.specs.Lines.{refused_line, summary_line}
-use Rattle.bolt_cli.specs.rewrite.InputAnswers.{AreRead, IsMadeOf, IsPresent, IsStopped, Made, OfInputs, refused, at_refusal, no_memory}
+use Rattle.bolt_cli.specs.rewrite.InputAnswers.{AreRead, IsMadeOf, IsPresent, IsStopped, Made, OfInputs, refused, at_refusal}
+use Rattle.bolt_cli.specs.rewrite.InputAnswers.{no_memory}
 use Rattle.bolt_cli.specs.rewrite.MapAnswers.{MapAnswers, at_text, printed}
 use Rattle.bolt_cli.specs.rewrite.Phases.{AreTextsOf, LinePrinted, all_printed, prefix_printed, none_printed, OutputsWritten}
-use Rattle.bolt_cli.specs.rewrite.RewriteAnswers.{HoldBoth, HoldsOut, OthersKept, RewriteAnswers, StopsWriting, at_map, at_out, at_summary, at_write, done}
+use Rattle.bolt_cli.specs.rewrite.RewriteAnswers.{HoldBoth, HoldsOut, OthersKept, RewriteAnswers, StopsWriting, at_map, at_out}
+use Rattle.bolt_cli.specs.rewrite.RewriteAnswers.{at_summary, at_write, done}
 use Rattle.bolt_cli.specs.Words.{InputNames, RewriteNames}
 use Rattle.bolt_cli.specs.World.{World}
 

@@ -1,10 +1,12 @@
 -- The code cells of a file that was read end below 2^64, since their bytes are loaded from it.
-use Rattle.std.proofs.Common.{◌≡◌, ◌∙◌, ◌+◌, ◌-◌, ◌^◌, ◌<◌, ◌≤◌, zero, ℕ, List, [], ◌∷◌, Option, Some, None, Bool, true, false, get_or, refl, sym, ap, subst, arith, IsTrue, IsSome, ⊎_elim}
+use Rattle.std.proofs.Common.{◌≡◌, ◌∙◌, ◌+◌, ◌-◌, ◌^◌, ◌<◌, ◌≤◌, zero, ℕ, List, [], ◌∷◌, Option, Some, None, Bool, true, false}
+use Rattle.std.proofs.Common.{get_or, refl, sym, ap, subst, arith, IsTrue, IsSome, ⊎_elim}
 use Rattle.std.specs.Prelude.{◌==◌, ◌||◌, All, Contains, if◌then◌else◌}
 use Rattle.std.proofs.lemmas.Bool.{and_parts, eqb-true, cases_lt}
 use Rattle.rb_bytes.specs.declared.fault.FaultKind.TheVariants.{HighAddress}
 use Rattle.rv_code.specs.declared.cell.CodeCell.{CodeCell}
-use Rattle.elf_image.specs.code.Cells.{IsDifference, of_labels, of_place, same_width, can_be_cell, Field, IsField, pointer, slot, difference, CanBeCell, Counts, counts, gives_way, IsCell}
+use Rattle.elf_image.specs.code.Cells.{IsDifference, of_labels, of_place, same_width, can_be_cell, Field, IsField, pointer, slot}
+use Rattle.elf_image.specs.code.Cells.{difference, CanBeCell, Counts, counts, gives_way, IsCell}
 use Rattle.elf_image.specs.code.FileCode.{AreCells}
 use Rattle.elf_image.specs.code.Relocations.{Relocation, Width, Bits, plus_width, is_add, is_pc_difference}
 use Rattle.elf_image.specs.declared.elf.Elf.{Elf}

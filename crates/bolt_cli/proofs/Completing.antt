@@ -5,10 +5,12 @@ use Rattle.rb_io.specs.Views.{FilesGoOn}
 use Rattle.bolt_core.specs.Refusals.{IsRefused}
 use Rattle.bolt_cli.specs.declared.status.Status.{Status}
 use Rattle.bolt_cli.specs.CommandAnswers.{Serves}
-use Rattle.bolt_cli.specs.rewrite.InputAnswers.{IsAccepted, IsOkOrNoMemory, IsPresent, IsStopped, NoneRose, OfInputs, refused, at_refusal, at_file, no_memory}
+use Rattle.bolt_cli.specs.rewrite.InputAnswers.{IsAccepted, IsOkOrNoMemory, IsPresent, IsStopped, NoneRose, OfInputs, refused}
+use Rattle.bolt_cli.specs.rewrite.InputAnswers.{at_refusal, at_file, no_memory}
 use Rattle.bolt_cli.specs.rewrite.MapAnswers.{MapAnswers, at_text, printed}
 use Rattle.bolt_cli.specs.rewrite.MapAnswers as map
-use Rattle.bolt_cli.specs.rewrite.RewriteAnswers.{NoneRoseWriting, RewriteAnswers, StopsWriting, at_map, at_out, at_summary, at_write, done}
+use Rattle.bolt_cli.specs.rewrite.RewriteAnswers.{NoneRoseWriting, RewriteAnswers, StopsWriting, at_map, at_out, at_summary}
+use Rattle.bolt_cli.specs.rewrite.RewriteAnswers.{at_write, done}
 use Rattle.bolt_cli.specs.rewrite.RewriteAnswers as rewrite
 use Rattle.bolt_cli.specs.Words.{InputNames, Map, Rewrite, RewriteNames}
 use Rattle.bolt_cli.specs.World.{World}

@@ -7,11 +7,13 @@ use Rattle.rv_code.specs.declared.cause.Cause.{Cause}
 use Rattle.bolt_core.specs.Program.{Program}
 use Rattle.bolt_cli.specs.CommandAnswers.{Serves, KeepsInput}
 use Rattle.bolt_cli.specs.Lines.{refused_line}
-use Rattle.bolt_cli.specs.recording.RecordAnswers.{HoldsProfile, IsRecording, RecordAnswers, RecordsRun, NoneRoseRecording, recorded, at_profile, at_closing, stopped}
+use Rattle.bolt_cli.specs.recording.RecordAnswers.{HoldsProfile, IsRecording, RecordAnswers, RecordsRun, NoneRoseRecording}
+use Rattle.bolt_cli.specs.recording.RecordAnswers.{recorded, at_profile, at_closing, stopped}
 use Rattle.bolt_cli.specs.recording.RecordRuns.{IsRecordProgram, record_machine, record_mode}
 use Rattle.bolt_cli.specs.rewrite.Phases.{LinePrinted}
 use Rattle.bolt_cli.specs.run.Endings.{Ends, Stops, RunsOn}
-use Rattle.bolt_cli.specs.run.RunAnswers.{at_input, at_output, out_of_memory, IsPresent, under_way, IsRunAnswer, IsCutShort, IsExact}
+use Rattle.bolt_cli.specs.run.RunAnswers.{at_input, at_output, out_of_memory, IsPresent, under_way, IsRunAnswer, IsCutShort}
+use Rattle.bolt_cli.specs.run.RunAnswers.{IsExact}
 use Rattle.bolt_cli.specs.Words.{RecordWords, Record}
 use Rattle.bolt_cli.specs.World.{World}
 use Rattle.bolt_cli.specs.declared.status.Status.{Status}

@@ -23,7 +23,8 @@ use Rattle.bolt_cli.specs.recording.Phases as phase
 use Rattle.bolt_cli.specs.recording.RecordAnswers.{RecordsRun, TakesNone, recorded, at_profile, at_closing, stopped}
 use Rattle.bolt_cli.specs.recording.RecordRuns.{record_machine, steps_gone}
 use Rattle.bolt_cli.specs.run.Endings.{Ending, Ends, Stops, RunsOn, Loaded, answer_of, closing_line}
-use Rattle.bolt_cli.specs.run.RunAnswers.{Taking, ComesOut, out_of_memory, IsCutShort, IsExact, read_fault, write_fault, no_memory, outside}
+use Rattle.bolt_cli.specs.run.RunAnswers.{Taking, ComesOut, out_of_memory, IsCutShort, IsExact, read_fault, write_fault}
+use Rattle.bolt_cli.specs.run.RunAnswers.{no_memory, outside}
 use Rattle.bolt_cli.specs.Words.{RecordWords}
 use Rattle.bolt_cli.specs.World.{World}
 use Rattle.bolt_cli.specs.declared.status.Status.{Status}

@@ -1,5 +1,6 @@
 -- From what the steps of `run` come to, to the answers of the whole, in either mode.
-use Rattle.std.proofs.Common.{◌≡◌, ◌∙◌, ◌≤◌, ◌⊎◌, sym, ap, subst, Bool, false, ℕ, List, length, Option, Some, None, IsTrue, IsSomeAnd}
+use Rattle.std.proofs.Common.{◌≡◌, ◌∙◌, ◌≤◌, ◌⊎◌, sym, ap, subst, Bool, false, ℕ, List, length, Option, Some, None, IsTrue}
+use Rattle.std.proofs.Common.{IsSomeAnd}
 use Rattle.std.specs.Prelude.{unwrap_or}
 use Rattle.rb_io.specs.Names.{Unchanged}
 use Rattle.rb_bytes.specs.declared.fault.Fault.{Fault}
@@ -9,7 +10,9 @@ use Rattle.bolt_core.specs.Program.{file_limit}
 use Rattle.bolt_cli.specs.rewrite.Phases.{LinePrinted, all_printed, prefix_printed, none_printed}
 use Rattle.bolt_cli.specs.run.Endings.{Ending, Ends, Stops, RunsOn, answer_of}
 use Rattle.bolt_cli.specs.run.Modes.{Mode}
-use Rattle.bolt_cli.specs.run.RunAnswers.{AnswersRun, StopsRun, came_out, at_input, at_output, at_closing, out_of_memory, stopped, IsPresent, IsUnderWay, FileAnswers, RunAnswers, under_way, refused, at_refusal, at_file, before_run, IsRunAnswer, IsCutShort, NoneRose, IsExact, RunCompletes, outside}
+use Rattle.bolt_cli.specs.run.RunAnswers.{AnswersRun, StopsRun, came_out, at_input, at_output, at_closing, out_of_memory, stopped}
+use Rattle.bolt_cli.specs.run.RunAnswers.{IsPresent, IsUnderWay, FileAnswers, RunAnswers, under_way, refused, at_refusal, at_file}
+use Rattle.bolt_cli.specs.run.RunAnswers.{before_run, IsRunAnswer, IsCutShort, NoneRose, IsExact, RunCompletes, outside}
 use Rattle.bolt_cli.specs.Words.{RunWords}
 use Rattle.bolt_cli.specs.World.{World}
 use Rattle.bolt_cli.specs.declared.status.Status.{Status}

@@ -14,7 +14,9 @@ use Rattle.run_core.specs.StepAnswers.{GivesOutput}
 use Rattle.run_core.proofs.OnlyAnswers.{IsAnswered, only_answer}
 use Rattle.run_core.proofs.Told.{told, told_is, append_known-nil}
 use Rattle.bolt_cli.specs.rewrite.Phases.{all_printed, prefix_printed, none_printed}
-use Rattle.bolt_cli.specs.run.RunAnswers.{Taking, ComesOut, StopsAnywhere, AnswersRun, StopsRun, came_out, at_input, at_output, at_closing, out_of_memory, stopped, IsCutShort, read_fault, write_fault, no_memory, IsExact}
+use Rattle.bolt_cli.specs.run.RunAnswers.{Taking, ComesOut, StopsAnywhere, AnswersRun, StopsRun, came_out, at_input, at_output}
+use Rattle.bolt_cli.specs.run.RunAnswers.{at_closing, out_of_memory, stopped, IsCutShort, read_fault, write_fault, no_memory}
+use Rattle.bolt_cli.specs.run.RunAnswers.{IsExact}
 use Rattle.bolt_cli.specs.run.Phases.{SaysEnding, Closed, status_of}
 use Rattle.bolt_cli.specs.run.Endings.{Ending, Ends, Stops, RunsOn, Loaded, answer_of, closing_line, RunsTo}
 use Rattle.bolt_cli.specs.declared.status.Status.{Status}

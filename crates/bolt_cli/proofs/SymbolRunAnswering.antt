@@ -10,10 +10,12 @@ use Rattle.bolt_core.specs.Program.{tabled}
 use Rattle.bolt_cli.specs.CommandAnswers.{Serves, KeepsInput}
 use Rattle.bolt_cli.specs.Lines.{refused_line}
 use Rattle.bolt_cli.specs.rewrite.Phases.{LinePrinted}
-use Rattle.bolt_cli.specs.run.SymbolRuns.{symbol_machine, symbol_mode, IsSymbolProgram, CanRunSymbols, CannotRunSymbols, too_long, unsound, not_built, bad_code, much_code, many_functions}
+use Rattle.bolt_cli.specs.run.SymbolRuns.{symbol_machine, symbol_mode, IsSymbolProgram, CanRunSymbols, CannotRunSymbols, too_long}
+use Rattle.bolt_cli.specs.run.SymbolRuns.{unsound, not_built, bad_code, much_code, many_functions}
 use Rattle.run_core.specs.Inputs.{Outside}
 use Rattle.bolt_cli.specs.run.Endings.{Ends, Stops, RunsOn}
-use Rattle.bolt_cli.specs.run.RunAnswers.{AnswersRun, came_out, at_input, at_output, at_closing, out_of_memory, stopped, IsPresent, IsUnderWay, RunAnswers, under_way, IsRunAnswer, IsCutShort, IsExact, outside}
+use Rattle.bolt_cli.specs.run.RunAnswers.{AnswersRun, came_out, at_input, at_output, at_closing, out_of_memory, stopped}
+use Rattle.bolt_cli.specs.run.RunAnswers.{IsPresent, IsUnderWay, RunAnswers, under_way, IsRunAnswer, IsCutShort, IsExact, outside}
 use Rattle.bolt_cli.specs.Words.{RunWords, RunSymbols}
 use Rattle.bolt_cli.specs.World.{World}
 use Rattle.bolt_cli.specs.declared.status.Status.{Status}

@@ -2,7 +2,8 @@
 use Rattle.std.specs.Prelude.{◌≢◌, Bool, true, false, List, [], ◌∷◌, map, string_bytes}
 use Rattle.std.specs.Option.{option_map}
 use Rattle.rv_memory.specs.Limits.{IsWithinLimits}
-use Rattle.bolt_cli.specs.Words.{Argument, Positional, OptionWord, Expected, AnyArgument, OnlyPositional, arguments, positionals, InputNames, RewriteNames, RunWords, RecordWords, Command, Rewrite, Map, Run, RunSymbols, Record}
+use Rattle.bolt_cli.specs.Words.{Argument, Positional, OptionWord, Expected, AnyArgument, OnlyPositional, arguments, positionals}
+use Rattle.bolt_cli.specs.Words.{InputNames, RewriteNames, RunWords, RecordWords, Command, Rewrite, Map, Run, RunSymbols, Record}
 use Rattle.bolt_cli.specs.declared.words.Argument.{Argument as ArgumentRead}
 use Rattle.bolt_cli.specs.declared.words.Argument.TheVariants as argument
 use Rattle.bolt_cli.specs.declared.words.Arguments.{Arguments}

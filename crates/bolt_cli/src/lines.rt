@@ -2,7 +2,8 @@
 ghost use Rattle.std.specs.Prelude.{◌≡◌, ◌*◌, ◌++◌, OnOk, OnErr, IfOk, codes};
 ghost use Rattle.rb_bytes.specs.Text.{hexadecimal};
 ghost use Rattle.bolt_core.specs.Seen.{counts_seen};
-ghost use Rattle.bolt_cli.specs.Lines.{usage_line, refused_line, refused_end, summary_line, after_steps, ended_line, cause_name, trapped_line, reason_name, stuck_line, out_of_steps_line};
+ghost use Rattle.bolt_cli.specs.Lines.{usage_line, refused_line, refused_end, summary_line, after_steps, ended_line, cause_name};
+ghost use Rattle.bolt_cli.specs.Lines.{trapped_line, reason_name, stuck_line, out_of_steps_line};
 
 use bolt_core::Rewritten;
 use rb_bytes::fault::{Fault, FaultKind, NoMemory};

@@ -4,8 +4,11 @@ ghost use Rattle.std.specs.Option.{option_map};
 ghost use Rattle.std.specs.List.{list_all};
 ghost use Rattle.std.specs.Char.{is_ascii_digit};
 ghost use Rattle.rv_memory.specs.Limits.{IsWithinLimits};
-ghost use Rattle.bolt_cli.specs.Words.{Positional, steps_name, symbols_name, is_option, option_of, decimal_number, limit_of, symbols_of, values_of, is_run_argument, is_record_argument, positionals, holds_zero, are_program_words, rewrite_of, map_of, run_of, record_of, command_of};
-ghost use Rattle.bolt_cli.specs.ParsedWords.{IsNoPositional, argument_read, arguments_of, command_read, run_read, record_read, inputs_read, names_read, NamesDiffer, WordsFit};
+ghost use Rattle.bolt_cli.specs.Words.{Positional, steps_name, symbols_name, is_option, option_of, decimal_number, limit_of};
+ghost use Rattle.bolt_cli.specs.Words.{symbols_of, values_of, is_run_argument, is_record_argument, positionals, holds_zero};
+ghost use Rattle.bolt_cli.specs.Words.{are_program_words, rewrite_of, map_of, run_of, record_of, command_of};
+ghost use Rattle.bolt_cli.specs.ParsedWords.{IsNoPositional, argument_read, arguments_of, command_read, run_read, record_read};
+ghost use Rattle.bolt_cli.specs.ParsedWords.{inputs_read, names_read, NamesDiffer, WordsFit};
 
 use rb_bytes::fault::NoMemory;
 use std::alloc::Global;

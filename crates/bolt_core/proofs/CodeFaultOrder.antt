@@ -3,7 +3,8 @@ use Rattle.std.proofs.Common.{◌≤◌, ℕ, List, inl, inr, arith}
 use Rattle.rb_bytes.specs.Fault.{number_of}
 use Rattle.rb_bytes.specs.declared.fault.Fault.{Fault}
 use Rattle.rb_bytes.specs.declared.fault.FaultKind.{FaultKind}
-use Rattle.rb_bytes.specs.declared.fault.FaultKind.TheVariants.{RelocType, RelocMismatch, LoMismatch, NarrowDiff, IfuncOrPlt, AlreadyMoved, BadEntry, BadInstruction, BareAuipc, BadTarget}
+use Rattle.rb_bytes.specs.declared.fault.FaultKind.TheVariants.{RelocType, RelocMismatch, LoMismatch, NarrowDiff, IfuncOrPlt}
+use Rattle.rb_bytes.specs.declared.fault.FaultKind.TheVariants.{AlreadyMoved, BadEntry, BadInstruction, BareAuipc, BadTarget}
 use Rattle.rb_bytes.specs.declared.fault.Refusal.{Refusal}
 use Rattle.rb_bytes.specs.declared.fault.Refusal.TheVariants as refusal
 use Rattle.elf_image.specs.declared.elf.Elf.{Elf}

@@ -1,5 +1,6 @@
 -- The bytes of code of a file that was read.
-use Rattle.std.proofs.Common.{◌≡◌, ◌∙◌, sym, ap, subst, refl, ℕ, suc, ◌+◌, ◌-◌, ◌≤◌, ◌<◌, List, [], ◌∷◌, Some, length, map, take, get_or, arith, cond, Bool, true, false, IsTrue}
+use Rattle.std.proofs.Common.{◌≡◌, ◌∙◌, sym, ap, subst, refl, ℕ, suc, ◌+◌, ◌-◌, ◌≤◌, ◌<◌, List, [], ◌∷◌, Some, length, map, take}
+use Rattle.std.proofs.Common.{get_or, arith, cond, Bool, true, false, IsTrue}
 use Rattle.std.proofs.lemmas.List.{take_all}
 use Rattle.std.proofs.lemmas.List.Sums.{sum_by-cons, sum_by_more, sum_by_more_le}
 use Rattle.std.specs.List.{slice_get, range_with_len, sum_by}
@@ -28,8 +29,8 @@ sums_from file k (s ∷ ss) each =
     ∙ ap (λ (n : ℕ). header_code_bytes (section_header file k) + n) rest
     ∙ sym (sum_by-cons header_code_bytes (section_header file k) (map (section_header file) (range_with_len (k + 1) (length ss))))
 
-pub code_size : (file : List ℕ) (elf : Elf) → IsElfOf file elf → sum_by section_code_bytes elf.sections.items ≡ sum_by header_code_bytes
-    (section_headers file)
+pub code_size : (file : List ℕ) (elf : Elf) → IsElfOf file elf →
+    sum_by section_code_bytes elf.sections.items ≡ sum_by header_code_bytes (section_headers file)
 code_size file elf is =
     sums_from file 0 elf.sections.items (λ i s at. subst (λ (j : ℕ). IsSectionAt file j s) (omega arith)
     (is.sections.each i s at))

@@ -1,5 +1,6 @@
 -- In accepted code without exception tables branches and jumps lead to code.
-use Rattle.std.proofs.Common.{◌≡◌, ◌∙◌, refl, sym, subst, ℕ, ◌+◌, ◌<◌, ◌≤◌, ◌⊎◌, inl, inr, Some, Bool, true, false, List, [], ◌∷◌, length, arith}
+use Rattle.std.proofs.Common.{◌≡◌, ◌∙◌, refl, sym, subst, ℕ, ◌+◌, ◌<◌, ◌≤◌, ◌⊎◌, inl, inr, Some, Bool, true, false, List, [], ◌∷◌}
+use Rattle.std.proofs.Common.{length, arith}
 use Rattle.std.specs.Prelude.{Contains, IsTrue}
 use Rattle.rb_bytes.specs.declared.fault.FaultKind.TheVariants.{BadTarget}
 use Rattle.rv_code.specs.declared.inst.Inst.{Inst}

@@ -1,5 +1,6 @@
 -- Where new code goes that has room.
-use Rattle.std.proofs.Common.{◌≡◌, refl, ℕ, ◌+◌, ◌-◌, ◌*◌, ◌/◌, ◌%◌, ◌<◌, ◌≤◌, Some, None, Bool, true, false, List, [], ◌∷◌, cond, min, arith}
+use Rattle.std.proofs.Common.{◌≡◌, refl, ℕ, ◌+◌, ◌-◌, ◌*◌, ◌/◌, ◌%◌, ◌<◌, ◌≤◌, Some, None, Bool, true, false, List, [], ◌∷◌, cond}
+use Rattle.std.proofs.Common.{min, arith}
 use Rattle.std.specs.Prelude.{◌&&◌, fold, nat_lt}
 use Rattle.std.proofs.lemmas.Bool.{ltb-false}
 use Rattle.rb_bytes.specs.declared.fault.Fault.{Fault}

@@ -9,7 +9,8 @@ use Rattle.elf_image.specs.file.ParsedFile.{IsElfOf}
 use Rattle.elf_image.proofs.ReadLists.{length-segments_of}
 use Rattle.elf_write.specs.NameWeight.{name_weight}
 use Rattle.bolt_core.specs.CodeLimit.{HasTooMuchCode}
-use Rattle.bolt_core.specs.Limits.{IsTooLarge, function_limit, header_limit, long_names, many_functions, many_sections, many_segments, much_code, name_limit}
+use Rattle.bolt_core.specs.Limits.{IsTooLarge, function_limit, header_limit, long_names, many_functions, many_sections}
+use Rattle.bolt_core.specs.Limits.{many_segments, much_code, name_limit}
 
 pub segment_count : (elf : Elf) → IsElfOf elf.file.now elf → length elf.segments.items ≡ e_phnum elf.file.now
 segment_count elf is = ap (λ (ps : List Segment). length ps) is.segments ∙ length-segments_of elf.file.now

@@ -1,5 +1,6 @@
 -- Which block of a plan holds an address.
-use Rattle.std.proofs.Common.{◌≡◌, ℕ, ◌+◌, ◌<◌, ◌≤◌, List, [], ◌∷◌, ◌++◌, length, map, Some, None, true, refl, sym, ap, ◌∙◌, subst, arith, inl, inr, get_or}
+use Rattle.std.proofs.Common.{◌≡◌, ℕ, ◌+◌, ◌<◌, ◌≤◌, List, [], ◌∷◌, ◌++◌, length, map, Some, None, true, refl, sym, ap, ◌∙◌}
+use Rattle.std.proofs.Common.{subst, arith, inl, inr, get_or}
 use Rattle.std.specs.Prelude.{slice_get, slice_index, Contains, AllPairs, option_map}
 use Rattle.std.proofs.lemmas.List.{length-map}
 use Rattle.std.proofs.lemmas.List.Elements.{Contains-push}
@@ -20,7 +21,8 @@ use Rattle.branch_fixup.proofs.Falls.{code_at}
 use Rattle.rv_code.proofs.lists.Follows.{follow_at, follow_up, laid_func, some_length, funcs_apart}
 use Rattle.branch_fixup.proofs.Lists.{there}
 use Rattle.branch_fixup.proofs.Orders.{order_within, order_has}
-use Rattle.branch_fixup.proofs.Planned.{StripOf, strip_for, in_block, block_in_insts, Planned, planned_length, planned_at, strip_length}
+use Rattle.branch_fixup.proofs.Planned.{StripOf, strip_for, in_block, block_in_insts, Planned, planned_length, planned_at}
+use Rattle.branch_fixup.proofs.Planned.{strip_length}
 
 some_func : (f g : Func) → Some f ≡ Some g → f ≡ g
 some_func f g h = cc

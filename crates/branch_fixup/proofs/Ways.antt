@@ -1,5 +1,6 @@
 -- Ways that get longer while forms grow one at a time.
-use Rattle.std.proofs.Common.{◌≡◌, ℕ, zero, suc, ◌+◌, ◌-◌, ◌^◌, ◌<◌, ◌≤◌, List, length, Option, Some, None, Bool, true, false, refl, sym, ap, subst, arith, inl, inr, replicate}
+use Rattle.std.proofs.Common.{◌≡◌, ℕ, zero, suc, ◌+◌, ◌-◌, ◌^◌, ◌<◌, ◌≤◌, List, length, Option, Some, None, Bool, true, false}
+use Rattle.std.proofs.Common.{refl, sym, ap, subst, arith, inl, inr, replicate}
 use Rattle.std.specs.Prelude.{slice_index, slice_set, nat_lt, nat_le, ◌&&◌, ◌||◌, if◌then◌else◌, MatchBool, sum_by}
 use Rattle.std.specs.Option.{option_map_or}
 use Rattle.std.proofs.lemmas.Bool.{and_parts, leb-true, ltb-true, ltb-false, cases_eq, cases_order}
@@ -8,7 +9,8 @@ use Rattle.rv_code.specs.declared.layout.Form.{Form}
 use Rattle.branch_fixup.specs.declared.growth.Tail.{Tail}
 use Rattle.branch_fixup.specs.Forms.{FitsLength}
 use Rattle.branch_fixup.specs.Pieces.{length_in}
-use Rattle.branch_fixup.specs.Growth.{tail_at, form_at, length_at, place, longer, is_enough, from_at, to_at, half_of, left_of, AreTails, AreGrown}
+use Rattle.branch_fixup.specs.Growth.{tail_at, form_at, length_at, place, longer, is_enough, from_at, to_at, half_of, left_of}
+use Rattle.branch_fixup.specs.Growth.{AreTails, AreGrown}
 use Rattle.branch_fixup.specs.Reach.{reaches}
 use Rattle.branch_fixup.specs.Ways.{crosses, is_enough_by, AreStarts, IsLonger, AreLonger, AreLongerOver}
 use Rattle.branch_fixup.proofs.Grown.{IsBelow, ahead, back, gap, rises, short_more}

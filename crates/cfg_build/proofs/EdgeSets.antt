@@ -1,5 +1,6 @@
 -- The edges that a list of blocks has.
-use Rattle.std.proofs.Common.{◌≡◌, ◌∙◌, sym, subst, ap, refl, ℕ, zero, suc, ◌<◌, ◌≤◌, ⊎_elim, List, [], ◌∷◌, Option, Some, All, map, length, arith}
+use Rattle.std.proofs.Common.{◌≡◌, ◌∙◌, sym, subst, ap, refl, ℕ, zero, suc, ◌<◌, ◌≤◌, ⊎_elim, List, [], ◌∷◌, Option, Some, All}
+use Rattle.std.proofs.Common.{map, length, arith}
 use Rattle.std.specs.Prelude.{◌↔◌, AllPairs, Contains, IsSomeAnd, slice_get}
 use Rattle.std.specs.Option.{option_map, option_map_or}
 use Rattle.std.proofs.lemmas.List.Elements.{All-contains}

@@ -1,5 +1,6 @@
 -- The addresses to which the end of a block leads, as they are collected.
-use Rattle.std.proofs.Common.{[], arith, ◌≡◌, sym, subst, ℕ, ◌+◌, ◌⊎◌, inl, inr, ⊎_elim, Bool, List, Option, Some, IsTrue, length, ◌==◌}
+use Rattle.std.proofs.Common.{[], arith, ◌≡◌, sym, subst, ℕ, ◌+◌, ◌⊎◌, inl, inr, ⊎_elim, Bool, List, Option, Some, IsTrue, length}
+use Rattle.std.proofs.Common.{◌==◌}
 use Rattle.std.specs.Prelude.{◌↔◌, Contains}
 use Rattle.rv_code.specs.declared.placed.Placed.{Placed}
 use Rattle.rv_code.specs.declared.placed.Func.{Func}

@@ -1,5 +1,6 @@
 -- Looking up numbers in lists that go up, blocks by the addresses at which they begin, and the pairs of a jump.
-use Rattle.std.proofs.Common.{◌≡◌, ◌∙◌, sym, ap, refl, ℕ, ◌+◌, ◌-◌, ◌<◌, ◌≤◌, ⊎_elim, inl, inr, true, false, nat_le, nat_lt, List, Option, Some, None, Result, Ok, Err, MatchResult, take, drop, length, slice_index_or, arith}
+use Rattle.std.proofs.Common.{◌≡◌, ◌∙◌, sym, ap, refl, ℕ, ◌+◌, ◌-◌, ◌<◌, ◌≤◌, ⊎_elim, inl, inr, true, false, nat_le, nat_lt, List}
+use Rattle.std.proofs.Common.{Option, Some, None, Result, Ok, Err, MatchResult, take, drop, length, slice_index_or, arith}
 use Rattle.std.specs.Prelude.{◌↔◌, AllPairs, Contains, slice_get}
 use Rattle.std.specs.List.Sorted.{IsNonDecreasingBy, IsPartitionPoint}
 use Rattle.std.specs.Result.{result_ok}

@@ -1,5 +1,6 @@
 -- The blocks of a function, listed one after another.
-use Rattle.std.proofs.Common.{◌≡◌, ◌∙◌, sym, subst, ap, refl, ℕ, ◌+◌, ◌<◌, ◌≤◌, ◌⊎◌, inl, inr, ⊎_elim, true, false, Bool, List, [], ◌∷◌, ◌++◌, Option, Some, None, length, slice_index_or, arith}
+use Rattle.std.proofs.Common.{◌≡◌, ◌∙◌, sym, subst, ap, refl, ℕ, ◌+◌, ◌<◌, ◌≤◌, ◌⊎◌, inl, inr, ⊎_elim, true, false, Bool, List}
+use Rattle.std.proofs.Common.{[], ◌∷◌, ◌++◌, Option, Some, None, length, slice_index_or, arith}
 use Rattle.std.specs.Prelude.{◌↔◌, Contains, AllPairs, IsTrue, IsSomeAnd, slice_get}
 use Rattle.std.proofs.lemmas.Bool.{cases_lt}
 use Rattle.std.proofs.lemmas.List.Elements.{Contains-append_left, Contains-push, Contains-push_cases, Contains-get_or}
@@ -8,7 +9,8 @@ use Rattle.std.proofs.lemmas.Option.{slice_get_within}
 use Rattle.rv_code.specs.declared.placed.Placed.{Placed}
 use Rattle.rv_code.specs.declared.placed.Func.{Func}
 use Rattle.rv_code.specs.declared.placed.Block.{Block}
-use Rattle.rv_code.specs.layout.Blocks.{inst_at, func_of, EndsBlock, Begins, at_start, named, after_end, IsBlockOf, IsBlock, IsBefore, AreBlocks}
+use Rattle.rv_code.specs.layout.Blocks.{inst_at, func_of, EndsBlock, Begins, at_start, named, after_end, IsBlockOf, IsBlock}
+use Rattle.rv_code.specs.layout.Blocks.{IsBefore, AreBlocks}
 use Rattle.rv_code.specs.layout.ProgramCode.{ProgramCode, IsTarget, IsHeld}
 use Rattle.cfg_build.specs.NamedAddresses.{AreEntered}
 use Rattle.cfg_build.specs.BlockLists.{EndsAt, EndsBefore, AreBlocksBefore}

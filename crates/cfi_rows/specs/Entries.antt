@@ -1,6 +1,7 @@
 -- The entries of a frame table as they stand in the bytes of its section. LSB, "The .eh_frame section";
 -- DWARF 5, section 6.4.1.
-use Rattle.std.specs.Prelude.{ℕ, zero, suc, ℤ, ◌+◌, ◌-◌, ◌^◌, ◌==◌, ◌&&◌, ◌||◌, Bool, true, false, not, nat_lt, nat_le, cond, if◌then◌else◌, List, [], ◌∷◌, length, take, drop, Option, Some, None, Result, Ok, Err, option_map}
+use Rattle.std.specs.Prelude.{ℕ, zero, suc, ℤ, ◌+◌, ◌-◌, ◌^◌, ◌==◌, ◌&&◌, ◌||◌, Bool, true, false, not, nat_lt, nat_le, cond}
+use Rattle.std.specs.Prelude.{if◌then◌else◌, List, [], ◌∷◌, length, take, drop, Option, Some, None, Result, Ok, Err, option_map}
 use Rattle.std.specs.List.{find}
 use Rattle.byteorder.specs.Endian.{little_number}
 use Rattle.rb_bytes.specs.Reading.{number_at, bytes_at, text_at, and_then}
@@ -8,11 +9,14 @@ use Rattle.cfi_rows.specs.declared.instruction.Malformed.{Malformed}
 use Rattle.cfi_rows.specs.declared.instruction.Malformed.TheVariants.{Entry}
 use Rattle.cfi_rows.specs.declared.encoding.Encoding.{Encoding}
 use Rattle.cfi_rows.specs.declared.encoding.Encoding.TheVariants.{Absptr, Udata4, Sdata4, PcrelSdata4}
-use Rattle.cfi_rows.specs.declared.encoding.TheConstants.{DW_EH_PE_absptr, DW_EH_PE_udata4, DW_EH_PE_sdata4, DW_EH_PE_pcrel_sdata4, DW_EH_PE_indirect_absptr, DW_EH_PE_indirect_pcrel_sdata4, DW_EH_PE_omit}
+use Rattle.cfi_rows.specs.declared.encoding.TheConstants.{DW_EH_PE_absptr, DW_EH_PE_udata4, DW_EH_PE_sdata4}
+use Rattle.cfi_rows.specs.declared.encoding.TheConstants.{DW_EH_PE_pcrel_sdata4, DW_EH_PE_indirect_absptr}
+use Rattle.cfi_rows.specs.declared.encoding.TheConstants.{DW_EH_PE_indirect_pcrel_sdata4, DW_EH_PE_omit}
 use Rattle.cfi_rows.specs.declared.instruction.Instruction.{Instruction}
 use Rattle.table_core.specs.Steps.{and_so, some_or}
 use Rattle.cfi_rows.specs.Rows.{Known, nothing_known, PlacedRow, known_after, rows, begins}
-use Rattle.cfi_rows.specs.Instructions.{whole, Read, Context, uleb_then, sleb_then, stored_at, pointed, pointer_at, instructions_at}
+use Rattle.cfi_rows.specs.Instructions.{whole, Read, Context, uleb_then, sleb_then, stored_at, pointed, pointer_at}
+use Rattle.cfi_rows.specs.Instructions.{instructions_at}
 
 abbrev pub sound_if : {X : Type 0} → Option X → Result X Malformed
 sound_if = some_or Entry

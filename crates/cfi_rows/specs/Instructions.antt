@@ -1,5 +1,6 @@
 -- How the bytes of a frame entry spell pointers and instructions. DWARF 5, section 7.24; LSB, "DWARF Extensions".
-use Rattle.std.specs.Prelude.{ℕ, zero, suc, ℤ, ◌*ℤ◌, ◌+◌, ◌-◌, ◌*◌, ◌/◌, ◌%◌, ◌^◌, ◌==◌, nat_lt, if◌then◌else◌, List, [], ◌∷◌, length, Result, Ok, Err}
+use Rattle.std.specs.Prelude.{ℕ, zero, suc, ℤ, ◌*ℤ◌, ◌+◌, ◌-◌, ◌*◌, ◌/◌, ◌%◌, ◌^◌, ◌==◌, nat_lt, if◌then◌else◌, List, [], ◌∷◌}
+use Rattle.std.specs.Prelude.{length, Result, Ok, Err}
 use Rattle.std.specs.Int.{w64, cast_signed, int_wrap}
 use Rattle.rb_bytes.specs.declared.gap.Gap.{Gap}
 use Rattle.rb_bytes.specs.Reading.{number_at, bytes_at, and_then}
@@ -10,10 +11,20 @@ use Rattle.cfi_rows.specs.declared.row.Cfa.TheVariants.{Reg, Expr}
 use Rattle.cfi_rows.specs.declared.row.Rule.{Rule}
 use Rattle.cfi_rows.specs.declared.row.Rule.TheVariants as rule
 use Rattle.cfi_rows.specs.declared.instruction.Instruction.{Instruction}
-use Rattle.cfi_rows.specs.declared.instruction.Instruction.TheVariants.{Advance, SetLoc, DefCfa, DefCfaRegister, DefCfaOffset, SetRule, Restore, RememberState, RestoreState, Nop}
+use Rattle.cfi_rows.specs.declared.instruction.Instruction.TheVariants.{Advance, SetLoc, DefCfa, DefCfaRegister, DefCfaOffset}
+use Rattle.cfi_rows.specs.declared.instruction.Instruction.TheVariants.{SetRule, Restore, RememberState, RestoreState, Nop}
 use Rattle.cfi_rows.specs.declared.instruction.Malformed.{Malformed}
 use Rattle.cfi_rows.specs.declared.instruction.Malformed.TheVariants.{Entry}
-use Rattle.cfi_rows.specs.declared.instruction.TheConstants.{DW_CFA_advance_loc, DW_CFA_offset, DW_CFA_restore, DW_CFA_nop, DW_CFA_set_loc, DW_CFA_advance_loc1, DW_CFA_advance_loc2, DW_CFA_advance_loc4, DW_CFA_offset_extended, DW_CFA_restore_extended, DW_CFA_undefined, DW_CFA_same_value, DW_CFA_register, DW_CFA_remember_state, DW_CFA_restore_state, DW_CFA_def_cfa, DW_CFA_def_cfa_register, DW_CFA_def_cfa_offset, DW_CFA_def_cfa_expression, DW_CFA_expression, DW_CFA_offset_extended_sf, DW_CFA_def_cfa_sf, DW_CFA_def_cfa_offset_sf, DW_CFA_val_offset, DW_CFA_val_offset_sf, DW_CFA_val_expression, DW_CFA_GNU_args_size}
+use Rattle.cfi_rows.specs.declared.instruction.TheConstants.{DW_CFA_advance_loc, DW_CFA_offset, DW_CFA_restore, DW_CFA_nop}
+use Rattle.cfi_rows.specs.declared.instruction.TheConstants.{DW_CFA_set_loc, DW_CFA_advance_loc1, DW_CFA_advance_loc2}
+use Rattle.cfi_rows.specs.declared.instruction.TheConstants.{DW_CFA_advance_loc4, DW_CFA_offset_extended, DW_CFA_restore_extended}
+use Rattle.cfi_rows.specs.declared.instruction.TheConstants.{DW_CFA_undefined, DW_CFA_same_value, DW_CFA_register}
+use Rattle.cfi_rows.specs.declared.instruction.TheConstants.{DW_CFA_remember_state, DW_CFA_restore_state, DW_CFA_def_cfa}
+use Rattle.cfi_rows.specs.declared.instruction.TheConstants.{DW_CFA_def_cfa_register, DW_CFA_def_cfa_offset}
+use Rattle.cfi_rows.specs.declared.instruction.TheConstants.{DW_CFA_def_cfa_expression, DW_CFA_expression}
+use Rattle.cfi_rows.specs.declared.instruction.TheConstants.{DW_CFA_offset_extended_sf, DW_CFA_def_cfa_sf}
+use Rattle.cfi_rows.specs.declared.instruction.TheConstants.{DW_CFA_def_cfa_offset_sf, DW_CFA_val_offset, DW_CFA_val_offset_sf}
+use Rattle.cfi_rows.specs.declared.instruction.TheConstants.{DW_CFA_val_expression, DW_CFA_GNU_args_size}
 use Rattle.cfi_rows.specs.declared.encoding.Encoding.{Encoding}
 use Rattle.cfi_rows.specs.declared.encoding.Encoding.TheVariants.{Absptr, Udata4, Sdata4, PcrelSdata4}
 

@@ -1,5 +1,6 @@
 -- Bytes that are added to code are the instruction that they encode, and instructions that stand in code stand in a file.
-use Rattle.std.proofs.Common.{◌≡◌, ℕ, ◌+◌, ◌-◌, ◌*◌, ◌/◌, ◌%◌, ◌^◌, ◌<◌, ◌≤◌, List, [], ◌∷◌, ◌++◌, length, Some, refl, sym, ap, ◌∙◌, subst, arith, get_or}
+use Rattle.std.proofs.Common.{◌≡◌, ℕ, ◌+◌, ◌-◌, ◌*◌, ◌/◌, ◌%◌, ◌^◌, ◌<◌, ◌≤◌, List, [], ◌∷◌, ◌++◌, length, Some, refl, sym, ap}
+use Rattle.std.proofs.Common.{◌∙◌, subst, arith, get_or}
 use Rattle.std.specs.Prelude.{slice_index, Result, Ok, Err, OnOk}
 use Rattle.std.proofs.lemmas.List.{get_or_append_left, get_or-append_right, length-append}
 use Rattle.rv_code.specs.declared.inst.Inst.{Inst}
@@ -10,7 +11,8 @@ use Rattle.rv_encode.specs.Encoding.{Encodes, bytes}
 use Rattle.elf_image.specs.code.Parts.{halfword_in}
 use Rattle.move_law.specs.Rewrite.{Executable, IsCodeByte, memory_of}
 use Rattle.code_emit.specs.Made.{Made}
-use Rattle.code_emit.specs.Bytes.{half_bytes, full_bytes, half_in, StandsIn, AllStandIn, after_made, Adds, CanStand, AllCanStand, width_of_bytes}
+use Rattle.code_emit.specs.Bytes.{half_bytes, full_bytes, half_in, StandsIn, AllStandIn, after_made, Adds, CanStand, AllCanStand}
+use Rattle.code_emit.specs.Bytes.{width_of_bytes}
 use Rattle.code_emit.specs.Output.{HasCode}
 use Rattle.code_emit.proofs.Standing.{HasMade, HasAll}
 

@@ -1,5 +1,6 @@
 -- What stands in the new code for an instruction keeps it.
-use Rattle.std.proofs.Common.{◌≡◌, ℕ, zero, suc, ◌+◌, ◌^◌, ◌<◌, ◌≤◌, List, [], ◌∷◌, ◌++◌, Option, Some, None, Bool, true, false, refl, sym, ap, ◌∙◌, subst, arith, ℤ, pos}
+use Rattle.std.proofs.Common.{◌≡◌, ℕ, zero, suc, ◌+◌, ◌^◌, ◌<◌, ◌≤◌, List, [], ◌∷◌, ◌++◌, Option, Some, None, Bool, true, false}
+use Rattle.std.proofs.Common.{refl, sym, ap, ◌∙◌, subst, arith, ℤ, pos}
 use Rattle.std.specs.Prelude.{if◌then◌else◌, ◌==◌, ◌&&◌, not, IsTrue, IfSome, Any}
 use Rattle.std.specs.Option.{option_map_or}
 use Rattle.std.proofs.lemmas.Int.{ints}
@@ -7,7 +8,8 @@ use Rattle.std.proofs.lemmas.Bool.{eqb-true, ne_eqb, and_parts}
 use Rattle.rv_code.specs.declared.inst.Inst.{Inst}
 use Rattle.rv_code.specs.declared.inst.Inst.TheVariants.{Jal, Beq, Bne, Blt, Bge, Bltu, Bgeu}
 use Rattle.rv_code.specs.declared.action.Action.{Action}
-use Rattle.rv_code.specs.declared.action.Action.TheVariants.{Compute, Branch, Jump, JumpTo, Upper, UpperPc, Load, Store, SystemCall, Breakpoint}
+use Rattle.rv_code.specs.declared.action.Action.TheVariants.{Compute, Branch, Jump, JumpTo, Upper, UpperPc, Load, Store}
+use Rattle.rv_code.specs.declared.action.Action.TheVariants.{SystemCall, Breakpoint}
 use Rattle.rv_code.specs.declared.action.Action.TheVariants as action
 use Rattle.rv_code.specs.declared.action.Test.{Test}
 use Rattle.rv_code.specs.declared.layout.Form.{Form}
@@ -21,7 +23,8 @@ use Rattle.rv_code.specs.machine.Machine.{plus}
 use Rattle.rv_code.specs.isa.TwosComplement.{unsigned64}
 use Rattle.move_law.specs.Rewrite.{Rewrite, Goes, out, end_of, stays, jumps}
 use Rattle.move_law.specs.RelocatedValues.{distance}
-use Rattle.move_law.specs.Faithful.{next, GetsToNext, GoesOn, made_anew, HasInSpan, goes_on, KeepsBranch, same, opposite, KeepsAction, KeepsInst}
+use Rattle.move_law.specs.Faithful.{next, GetsToNext, GoesOn, made_anew, HasInSpan, goes_on, KeepsBranch, same, opposite}
+use Rattle.move_law.specs.Faithful.{KeepsAction, KeepsInst}
 use Rattle.branch_fixup.specs.Pieces.{length_in, bytes_of_size, bytes_of_jump}
 use Rattle.branch_fixup.specs.Endings.{Kept, Branches, LeftOut, end_of_form, begins_at, ending}
 use Rattle.branch_fixup.specs.Endings.{Goes as EndGoes}

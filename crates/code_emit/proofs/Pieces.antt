@@ -1,5 +1,6 @@
 -- The pieces of a plan: each is one of an instruction, and each instruction has one. Each ends by the table.
-use Rattle.std.proofs.Common.{◌≡◌, ℕ, zero, suc, ◌+◌, ◌<◌, ◌≤◌, List, [], ◌∷◌, ◌++◌, length, Option, Some, Bool, true, refl, sym, ap, ◌∙◌, subst, arith, inl, inr, get_or, take}
+use Rattle.std.proofs.Common.{◌≡◌, ℕ, zero, suc, ◌+◌, ◌<◌, ◌≤◌, List, [], ◌∷◌, ◌++◌, length, Option, Some, Bool, true, refl, sym}
+use Rattle.std.proofs.Common.{ap, ◌∙◌, subst, arith, inl, inr, get_or, take}
 use Rattle.std.specs.Prelude.{Contains, map, slice_get}
 use Rattle.std.specs.Option.{option_map_or}
 use Rattle.std.proofs.lemmas.List.Elements.{Contains-append_cases, Contains-append_left, Contains-append_right}
@@ -23,7 +24,8 @@ use Rattle.branch_fixup.specs.Strips.{Strip, first_in, first_of, insts_in, is_al
 use Rattle.branch_fixup.proofs.Appended.{end_append}
 use Rattle.branch_fixup.proofs.Bridge.{split_placed}
 use Rattle.branch_fixup.proofs.Covered.{Covers, covers}
-use Rattle.branch_fixup.proofs.Lists.{Contains-cons_cases, Contains-nil, Contains-there, at_contains, at_flat, contains_at, flat_at}
+use Rattle.branch_fixup.proofs.Lists.{Contains-cons_cases, Contains-nil, Contains-there, at_contains, at_flat, contains_at}
+use Rattle.branch_fixup.proofs.Lists.{flat_at}
 use Rattle.branch_fixup.proofs.Orders.{order_has}
 use Rattle.branch_fixup.proofs.Placed.{piece_inst}
 use Rattle.branch_fixup.proofs.Planned.{Planned, StripOf, block_in_insts, in_block, planned, planned_at}
@@ -181,7 +183,8 @@ block_placed f a [] fs k s at less h = absurd (cc)
 block_placed f a (t ∷ ss) [] k s at less h = absurd (omega (arith, less))
 block_placed f a (t ∷ ss) (x ∷ fs) zero s at less h =
     let same : t ≡ s = (let e : Some t ≡ Some s = at in cc) in
-    subst (λ (z : Strip). PlacedFrom f a (pieces_of_strip z x)) same (split_placed f a (pieces_of_strip t x) (pieces_of ss fs) h).0
+    subst (λ (z : Strip). PlacedFrom f a (pieces_of_strip z x)) same
+    (split_placed f a (pieces_of_strip t x) (pieces_of ss fs) h).0
 block_placed f a (t ∷ ss) (x ∷ fs) (suc k) s at less h =
     subst (λ (e : ℕ). PlacedFrom f e (pieces_of_strip s (get_or fs k form.Plain)))
     (sym (end_append a (pieces_of_strip t x) (pieces_of (take k ss) (take k fs))))

@@ -1,5 +1,6 @@
 -- Pieces whose instructions stand one after another are all kept.
-use Rattle.std.proofs.Common.{◌≡◌, ℕ, ◌+◌, ◌^◌, ◌<◌, ◌≤◌, List, [], ◌∷◌, ◌++◌, Option, Some, None, Bool, true, false, refl, sym, ap, ◌∙◌, subst, arith, inl, inr}
+use Rattle.std.proofs.Common.{◌≡◌, ℕ, ◌+◌, ◌^◌, ◌<◌, ◌≤◌, List, [], ◌∷◌, ◌++◌, Option, Some, None, Bool, true, false, refl, sym}
+use Rattle.std.proofs.Common.{ap, ◌∙◌, subst, arith, inl, inr}
 use Rattle.std.specs.Prelude.{Any, Contains}
 use Rattle.rv_code.specs.layout.Flow.{action_at, is_plain_jump, target_of}
 use Rattle.branch_fixup.proofs.Lists.{Contains-cons_cases, Contains-there}

@@ -1,6 +1,8 @@
 -- What changes in place in `.debug_info`, `.debug_abbrev` and `.debug_addr` when code moves. No entry changes its place
 -- or its size.
-use Rattle.std.specs.Prelude.{◌≡◌, ◌+◌, ◌-◌, ◌/◌, ◌==◌, ◌&&◌, ◌||◌, ◌^◌, ℕ, zero, suc, Bool, true, false, not, List, [], ◌∷◌, ◌++◌, nat_lt, if◌then◌else◌, length, drop, take, map, filter, Option, Some, None, is_some, unwrap_or, flat_map}
+use Rattle.std.specs.Prelude.{◌≡◌, ◌+◌, ◌-◌, ◌/◌, ◌==◌, ◌&&◌, ◌||◌, ◌^◌, ℕ, zero, suc, Bool, true, false, not, List, [], ◌∷◌}
+use Rattle.std.specs.Prelude.{◌++◌, nat_lt, if◌then◌else◌, length, drop, take, map, filter, Option, Some, None, is_some}
+use Rattle.std.specs.Prelude.{unwrap_or, flat_map}
 use Rattle.std.specs.List.{list_any, range_with_len}
 use Rattle.std.specs.Option.{option_or, option_map_or}
 use Rattle.std.specs.Int.{w64, cast_signed}
@@ -8,7 +10,10 @@ use Rattle.byteorder.specs.Endian.{little_number, little_bytes}
 use Rattle.rb_bytes.specs.Leb.{uleb, sleb}
 use Rattle.table_core.specs.declared.form.TheConstants.{DW_FORM_addr, DW_FORM_data4, DW_FORM_sec_offset, DW_FORM_implicit_const}
 use Rattle.table_core.specs.Units.{Walked, walked}
-use Rattle.dw_unit.specs.declared.attribute.TheConstants.{DW_AT_stmt_list, DW_AT_low_pc, DW_AT_high_pc, DW_AT_entry_pc, DW_AT_ranges, DW_AT_rnglists_base, DW_AT_macros, DW_AT_call_return_pc, DW_AT_loclists_base, DW_AT_GNU_locviews, DW_AT_unused_high, DW_AT_unused_low, DW_AT_unused_table}
+use Rattle.dw_unit.specs.declared.attribute.TheConstants.{DW_AT_stmt_list, DW_AT_low_pc, DW_AT_high_pc, DW_AT_entry_pc}
+use Rattle.dw_unit.specs.declared.attribute.TheConstants.{DW_AT_ranges, DW_AT_rnglists_base, DW_AT_macros, DW_AT_call_return_pc}
+use Rattle.dw_unit.specs.declared.attribute.TheConstants.{DW_AT_loclists_base, DW_AT_GNU_locviews, DW_AT_unused_high}
+use Rattle.dw_unit.specs.declared.attribute.TheConstants.{DW_AT_unused_low, DW_AT_unused_table}
 use Rattle.dw_unit.specs.declared.entry.Attr.{Attr}
 use Rattle.dw_unit.specs.Declarations.{Spec, Declaration, table_at, has_spec}
 use Rattle.dw_unit.specs.Units.{Entry, Unit, Sections, units, own_entry}

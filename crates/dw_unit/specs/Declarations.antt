@@ -1,5 +1,6 @@
 -- Abbreviation declarations. DWARF 5, section 7.5.3.
-use Rattle.std.specs.Prelude.{◌-◌, ◌==◌, ◌&&◌, ◌||◌, ℕ, zero, suc, Bool, not, List, [], ◌∷◌, nat_lt, if◌then◌else◌, length, drop, Option, Some, None, Ok, Err}
+use Rattle.std.specs.Prelude.{◌-◌, ◌==◌, ◌&&◌, ◌||◌, ℕ, zero, suc, Bool, not, List, [], ◌∷◌, nat_lt, if◌then◌else◌, length, drop}
+use Rattle.std.specs.Prelude.{Option, Some, None, Ok, Err}
 use Rattle.std.specs.List.{find, list_any}
 use Rattle.rb_bytes.specs.Reading.{number_at, and_then}
 use Rattle.rb_bytes.specs.Leb.{uleb_at}

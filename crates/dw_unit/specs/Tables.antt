@@ -1,5 +1,6 @@
 -- The debug sections of a file that units are read from, and how those of the written file follow from the input's.
-use Rattle.std.specs.Prelude.{◌≡◌, ◌↔◌, ◌+◌, ◌-◌, ◌*◌, ℕ, IsTrue, List, sum_by, unwrap_or, codes, Contains, length, slice_get, Option, Some, None}
+use Rattle.std.specs.Prelude.{◌≡◌, ◌↔◌, ◌+◌, ◌-◌, ◌*◌, ℕ, IsTrue, List, sum_by, unwrap_or, codes, Contains, length, slice_get}
+use Rattle.std.specs.Prelude.{Option, Some, None}
 use Rattle.rv_code.specs.declared.inst.Inst.{Inst}
 use Rattle.rv_code.specs.isa.Action.{action_of}
 use Rattle.rv_code.specs.layout.Flow.{is_call}

@@ -1,5 +1,7 @@
 -- Units, their entries and attributes. DWARF 5, sections 7.5.1 to 7.5.3.
-use Rattle.std.specs.Prelude.{◌+◌, ◌-◌, ◌*◌, ◌==◌, ◌&&◌, ◌||◌, ℕ, zero, suc, Bool, true, not, List, [], ◌∷◌, map, nat_le, if◌then◌else◌, length, drop, Option, Some, None, option_map, option_and_then, Result, Ok, Err, flat_map}
+use Rattle.std.specs.Prelude.{◌+◌, ◌-◌, ◌*◌, ◌==◌, ◌&&◌, ◌||◌, ℕ, zero, suc, Bool, true, not, List, [], ◌∷◌, map, nat_le}
+use Rattle.std.specs.Prelude.{if◌then◌else◌, length, drop, Option, Some, None, option_map, option_and_then, Result, Ok, Err}
+use Rattle.std.specs.Prelude.{flat_map}
 use Rattle.std.specs.List.{find, list_any}
 use Rattle.std.specs.Option.{option_map_or}
 use Rattle.byteorder.specs.Endian.{little_number}

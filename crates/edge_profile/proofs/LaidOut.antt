@@ -1,5 +1,6 @@
 -- Instructions of functions that are laid out.
-use Rattle.std.proofs.Common.{◌≡◌, ◌≢◌, ◌<◌, ◌≤◌, ◌-◌, ◌∙◌, ℕ, Bool, true, false, List, [], ◌∷◌, length, get_or, arith, refl, ap, sym, subst, ⊎_elim, AllPairs, find, is_some, cond, Some}
+use Rattle.std.proofs.Common.{◌≡◌, ◌≢◌, ◌<◌, ◌≤◌, ◌-◌, ◌∙◌, ℕ, Bool, true, false, List, [], ◌∷◌, length, get_or, arith, refl, ap}
+use Rattle.std.proofs.Common.{sym, subst, ⊎_elim, AllPairs, find, is_some, cond, Some}
 use Rattle.std.specs.Prelude.{◌==◌, ◌||◌}
 use Rattle.std.specs.List.{list_any}
 use Rattle.std.specs.List.Sorted.{IsNonDecreasingBy}

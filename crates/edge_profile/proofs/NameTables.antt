@@ -1,5 +1,6 @@
 -- Values of names, one symbol more at a time.
-use Rattle.std.proofs.Common.{◌≡◌, ◌<◌, ◌+◌, ◌∙◌, ℕ, Bool, true, false, cond, List, [], ◌∷◌, ◌++◌, Some, None, ap, refl, sym, map, filter, length, get_or, take}
+use Rattle.std.proofs.Common.{◌≡◌, ◌<◌, ◌+◌, ◌∙◌, ℕ, Bool, true, false, cond, List, [], ◌∷◌, ◌++◌, Some, None, ap, refl, sym, map}
+use Rattle.std.proofs.Common.{filter, length, get_or, take}
 use Rattle.std.proofs.lemmas.List.{take_more, append-nil, map-append}
 use Rattle.std.proofs.lemmas.List.Elements.{filter-append}
 use Rattle.std.specs.Cmp.Lexicographic.{bytes_decides}

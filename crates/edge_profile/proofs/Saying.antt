@@ -1,5 +1,6 @@
 -- What the lines of a text say, one line more at a time.
-use Rattle.std.proofs.Common.{◌≡◌, ◌≤◌, ◌+◌, ◌∙◌, ℕ, cond, List, [], ◌∷◌, ◌++◌, Some, None, length, arith, ap, sym, filter_map, append_assoc, length-append}
+use Rattle.std.proofs.Common.{◌≡◌, ◌≤◌, ◌+◌, ◌∙◌, ℕ, cond, List, [], ◌∷◌, ◌++◌, Some, None, length, arith, ap, sym, filter_map}
+use Rattle.std.proofs.Common.{append_assoc, length-append}
 use Rattle.std.proofs.lemmas.List.{append-nil}
 use Rattle.edge_profile.specs.declared.reading.Said.{Said}
 use Rattle.edge_profile.specs.Reading.{SaysAll}

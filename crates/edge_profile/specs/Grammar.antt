@@ -1,6 +1,7 @@
 -- The text of a profile: lines, their fields, and the numbers in these. A line has eight fields with one blank between:
 --     1 FROM OFFSET 1 TO OFFSET MISPREDICTIONS COUNT
-use Rattle.std.specs.Prelude.{ℕ, ◌^◌, ◌==◌, ◌&&◌, ◌||◌, Bool, List, [], ◌∷◌, Option, Some, None, is_some, nat_lt, nat_le, if◌then◌else◌, length, slice_index, option_map, bytes_eq}
+use Rattle.std.specs.Prelude.{ℕ, ◌^◌, ◌==◌, ◌&&◌, ◌||◌, Bool, List, [], ◌∷◌, Option, Some, None, is_some, nat_lt, nat_le}
+use Rattle.std.specs.Prelude.{if◌then◌else◌, length, slice_index, option_map, bytes_eq}
 use Rattle.std.specs.Char.{is_ascii_digit}
 use Rattle.std.specs.Int.{is_in_range}
 use Rattle.std.specs.List.{list_all, onto_first, slice_split}

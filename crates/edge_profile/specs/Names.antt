@@ -1,5 +1,6 @@
 -- What the names of functions in a profile stand for, and the addresses at offsets from them.
-use Rattle.std.specs.Prelude.{ℕ, ◌+◌, ◌==◌, ◌&&◌, List, [], ◌∷◌, Option, Some, None, if◌then◌else◌, drop, filter, map, slice_index, option_and_then, bytes_eq}
+use Rattle.std.specs.Prelude.{ℕ, ◌+◌, ◌==◌, ◌&&◌, List, [], ◌∷◌, Option, Some, None, if◌then◌else◌, drop, filter, map}
+use Rattle.std.specs.Prelude.{slice_index, option_and_then, bytes_eq}
 use Rattle.std.specs.List.{list_all, list_any}
 use Rattle.rv_code.specs.declared.placed.Func.{Func}
 use Rattle.rv_code.specs.layout.ProgramCode.{is_code_address}

@@ -1,5 +1,6 @@
 -- Moves of a run, one step more at a time, and what the run comes to.
-use Rattle.std.proofs.Common.{◌≡◌, ◌∙◌, ◌+◌, ◌<◌, ◌≤◌, ◌^◌, ◌-◌, ℕ, suc, Bool, true, false, List, [], ◌∷◌, ◌++◌, length, refl, sym, ap, subst, arith, append_assoc, length-append}
+use Rattle.std.proofs.Common.{◌≡◌, ◌∙◌, ◌+◌, ◌<◌, ◌≤◌, ◌^◌, ◌-◌, ℕ, suc, Bool, true, false, List, [], ◌∷◌, ◌++◌, length, refl}
+use Rattle.std.proofs.Common.{sym, ap, subst, arith, append_assoc, length-append}
 use Rattle.std.specs.Prelude.{◌==◌, ◌&&◌, if◌then◌else◌}
 use Rattle.std.proofs.lemmas.List.Sums.{sum_by-cons, sum_by-append}
 use Rattle.run_core.specs.Answers.{Answer}
@@ -8,7 +9,8 @@ use Rattle.run_core.specs.Inputs.{Outside, MayCome}
 use Rattle.run_core.specs.Runs.{steps_done}
 use Rattle.run_core.specs.StepAnswers.{StepAnswers, StepGoes, StepStops}
 use Rattle.run_core.proofs.Told.{as_told-prepend, told, told_before, told_is, told_may_come}
-use Rattle.run_core.proofs.Walking.{Walk, ends_run, fails_at_read, fails_at_write, halts_run, may_before, no_step, step_more, steps_up}
+use Rattle.run_core.proofs.Walking.{Walk, ends_run, fails_at_read, fails_at_write, halts_run, may_before, no_step, step_more}
+use Rattle.run_core.proofs.Walking.{steps_up}
 use Rattle.rv_code.specs.declared.cause.Cause.{Cause}
 use Rattle.rv_code.specs.machine.Determined.{HasOneOutcome}
 use Rattle.rv_code.specs.machine.Machine.{Ended, Halts}

@@ -1,12 +1,14 @@
 -- The executable segments in the order of their table.
-use Rattle.std.proofs.Common.{◌≡◌, ◌∙◌, sym, ap, subst, refl, ℕ, ◌+◌, ◌≤◌, ◌<◌, inl, inr, ⊎_elim, ◌↔◌, IsTrue, List, Option, Some, None, IfSome, IfNone, Any, nat_eq, codes, is_some, Bool, true, false, not, arith}
+use Rattle.std.proofs.Common.{◌≡◌, ◌∙◌, sym, ap, subst, refl, ℕ, ◌+◌, ◌≤◌, ◌<◌, inl, inr, ⊎_elim, ◌↔◌, IsTrue, List, Option, Some}
+use Rattle.std.proofs.Common.{None, IfSome, IfNone, Any, nat_eq, codes, is_some, Bool, true, false, not, arith}
 use Rattle.std.specs.List.{starts_with}
 use Rattle.std.proofs.lemmas.Bool.{cases_lt, cases_order}
 use Rattle.std.proofs.lemmas.Option.{slice_get_cases}
 use Rattle.elf_image.specs.declared.elf.Section.{Section}
 use Rattle.elf_image.specs.declared.segment.Segment.{Segment}
 use Rattle.elf_image.specs.file.Header.{segment, segment_place, e_phnum, e_shnum}
-use Rattle.elf_image.specs.faults.SegmentLayout.{IsCode, IsSecondCode, IsTooMany, IsOneTooMany, IsLowestCode, IsLowestCodeBelow, HasOldSection, IsCrossed, CrossesEnd}
+use Rattle.elf_image.specs.faults.SegmentLayout.{IsCode, IsSecondCode, IsTooMany, IsOneTooMany, IsLowestCode, IsLowestCodeBelow}
+use Rattle.elf_image.specs.faults.SegmentLayout.{HasOldSection, IsCrossed, CrossesEnd}
 use Rattle.elf_image.specs.faults.LowestPlace.{IsLowest, SomeBelow}
 use Rattle.elf_image.specs.file.ParsedFile.{AreSections}
 use Rattle.elf_image.specs.file.Sections.{section_name}

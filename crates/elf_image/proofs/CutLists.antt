@@ -1,5 +1,6 @@
 -- The cuts of a file as a list, symbol for symbol and section for section.
-use Rattle.std.proofs.Common.{◌≡◌, sym, subst, refl, ℕ, suc, zero, ◌+◌, ◌^◌, Bool, true, false, if◌then◌else◌, nat_lt, IsTrue, List, [], ◌∷◌, ◌++◌, arith, ◌⊎◌, inl, inr, ⊎_elim}
+use Rattle.std.proofs.Common.{◌≡◌, sym, subst, refl, ℕ, suc, zero, ◌+◌, ◌^◌, Bool, true, false, if◌then◌else◌, nat_lt, IsTrue}
+use Rattle.std.proofs.Common.{List, [], ◌∷◌, ◌++◌, arith, ◌⊎◌, inl, inr, ⊎_elim}
 use Rattle.std.specs.List.{Contains, Any, flat_map}
 use Rattle.std.proofs.lemmas.Bool.{ltb-true, ltb-false}
 use Rattle.std.proofs.lemmas.List.Elements.{Contains-append_left, Contains-append_right, Contains-append_cases}

@@ -1,12 +1,15 @@
 -- The order of faults: each is looked for where those of lower numbers are absent.
-use Rattle.std.proofs.Common.{◌≡◌, ◌∙◌, sym, ap, subst, refl, ℕ, if◌then◌else◌, ◌+◌, ◌≤◌, ◌<◌, ⊎_elim, List, Option, Some, None, Result, Ok, Err, MatchOption, MatchResult, OnOk, IfErr, arith, rules}
+use Rattle.std.proofs.Common.{◌≡◌, ◌∙◌, sym, ap, subst, refl, ℕ, if◌then◌else◌, ◌+◌, ◌≤◌, ◌<◌, ⊎_elim, List, Option, Some, None}
+use Rattle.std.proofs.Common.{Result, Ok, Err, MatchOption, MatchResult, OnOk, IfErr, arith, rules}
 use Rattle.std.proofs.lemmas.Bool.{cases_lt}
 use Rattle.std.proofs.lemmas.Result.{MatchResult-at_ok, MatchResult-at_err}
 use Rattle.std.specs.Prelude.{◌==◌}
 use Rattle.rb_bytes.specs.Fault.{number_of, fault_at}
 use Rattle.rb_bytes.specs.declared.fault.Fault.{Fault}
 use Rattle.rb_bytes.specs.declared.fault.FaultKind.{FaultKind}
-use Rattle.rb_bytes.specs.declared.fault.FaultKind.TheVariants.{NotElf, Truncated, Flags, NotStatic, ExecSegments, WritableCode, HighAddress, CompressedSection, RelocType, RelocMismatch, LoMismatch, NarrowDiff, IfuncOrPlt, AlreadyMoved, BadEntry}
+use Rattle.rb_bytes.specs.declared.fault.FaultKind.TheVariants.{NotElf, Truncated, Flags, NotStatic, ExecSegments, WritableCode}
+use Rattle.rb_bytes.specs.declared.fault.FaultKind.TheVariants.{HighAddress, CompressedSection, RelocType, RelocMismatch}
+use Rattle.rb_bytes.specs.declared.fault.FaultKind.TheVariants.{LoMismatch, NarrowDiff, IfuncOrPlt, AlreadyMoved, BadEntry}
 use Rattle.elf_image.specs.faults.FirstFault.{LacksBelow, IsAnswered}
 use Rattle.elf_image.specs.faults.LowestPlace.{IsLowest}
 use Rattle.elf_image.specs.faults.FileFaults.{HasFault, IsSound}

@@ -1,5 +1,6 @@
 -- In a sound file all that is loaded lies low, so the break has room above it.
-use Rattle.std.proofs.Common.{◌≡◌, ◌∙◌, sym, subst, refl, ℕ, ◌+◌, ◌-◌, ◌^◌, ◌<◌, ◌≤◌, zero, true, false, cond, IsTrue, List, [], ◌∷◌, arith, ⊎_elim, ◌&&◌, nat_le, nat_lt, max, map}
+use Rattle.std.proofs.Common.{◌≡◌, ◌∙◌, sym, subst, refl, ℕ, ◌+◌, ◌-◌, ◌^◌, ◌<◌, ◌≤◌, zero, true, false, cond, IsTrue, List, []}
+use Rattle.std.proofs.Common.{◌∷◌, arith, ⊎_elim, ◌&&◌, nat_le, nat_lt, max, map}
 use Rattle.std.specs.List.{Contains, filter, fold}
 use Rattle.std.proofs.lemmas.Bool.{and_parts, and_from, ltb-true, le-leb, lt-ltb, cases_lt}
 use Rattle.rb_bytes.specs.declared.fault.FaultKind.TheVariants.{HighAddress}

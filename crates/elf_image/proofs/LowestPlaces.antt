@@ -1,5 +1,6 @@
 -- The lowest place of a set that is made of other sets.
-use Rattle.std.proofs.Common.{◌≡◌, subst, ℕ, ◌+◌, ◌≤◌, ◌<◌, ◌⊎◌, inl, inr, Bool, true, false, Option, Some, None, min, IfSome, IsSomeAnd, ⊎_elim, if◌then◌else◌, IsTrue, ◌↔◌, sym, not, arith, rules, refl}
+use Rattle.std.proofs.Common.{◌≡◌, subst, ℕ, ◌+◌, ◌≤◌, ◌<◌, ◌⊎◌, inl, inr, Bool, true, false, Option, Some, None, min, IfSome}
+use Rattle.std.proofs.Common.{IsSomeAnd, ⊎_elim, if◌then◌else◌, IsTrue, ◌↔◌, sym, not, arith, rules, refl}
 use Rattle.std.proofs.lemmas.Bool.{cases_lt}
 use Rattle.elf_image.specs.faults.LowestPlace.{IsLowest, lower, SomeBelow}
 

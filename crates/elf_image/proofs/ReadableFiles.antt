@@ -1,12 +1,14 @@
 -- A file that is truncated nowhere has all its structures whole.
-use Rattle.std.proofs.Common.{◌≡◌, ◌≤◌, ◌<◌, ◌+◌, inl, inr, ⊎_elim, ℕ, zero, suc, List, Bool, true, false, Option, Some, None, if◌then◌else◌, length, IfSome, IfNone, sym, refl, subst, arith, rules}
+use Rattle.std.proofs.Common.{◌≡◌, ◌≤◌, ◌<◌, ◌+◌, inl, inr, ⊎_elim, ℕ, zero, suc, List, Bool, true, false, Option, Some, None}
+use Rattle.std.proofs.Common.{if◌then◌else◌, length, IfSome, IfNone, sym, refl, subst, arith, rules}
 use Rattle.std.proofs.lemmas.Bool.{cases_lt, cases_Bool}
 use Rattle.std.proofs.lemmas.Bool.Decides.{eqb_tells}
 use Rattle.std.specs.Prelude.{◌==◌}
 use Rattle.elf_image.specs.declared.section.SectionHeader.{SectionHeader}
 use Rattle.elf_image.specs.declared.section.TheConstants.{SHT_NOBITS, SHT_SYMTAB}
 use Rattle.elf_image.specs.declared.segment.TheConstants.{PT_LOAD}
-use Rattle.elf_image.specs.faults.Truncation.{IsWhole, HasHeader, HasSegments, HasSections, HasContents, HasSymbolNames, IsTruncated, IsTruncatedBeyond, IsReadable}
+use Rattle.elf_image.specs.faults.Truncation.{IsWhole, HasHeader, HasSegments, HasSections, HasContents, HasSymbolNames}
+use Rattle.elf_image.specs.faults.Truncation.{IsTruncated, IsTruncatedBeyond, IsReadable}
 use Rattle.elf_image.specs.file.Header.{e_phnum, e_shnum, e_shstrndx, e_phoff, e_shoff, segment}
 use Rattle.elf_image.specs.file.Sections.{section_header}
 use Rattle.elf_image.proofs.TruncatedPlaces.{symbol_table_from}

@@ -1,5 +1,6 @@
 -- The ranges of segments, and the segments that share a number.
-use Rattle.std.proofs.Common.{◌≡◌, ◌≢◌, ◌∙◌, sym, ap, subst, refl, ℕ, ◌+◌, ◌<◌, inl, inr, ◌↔◌, IsTrue, List, [], ◌∷◌, ◌++◌, get_or, Option, Some, None, IfSome, IfNone, All, arith}
+use Rattle.std.proofs.Common.{◌≡◌, ◌≢◌, ◌∙◌, sym, ap, subst, refl, ℕ, ◌+◌, ◌<◌, inl, inr, ◌↔◌, IsTrue, List, [], ◌∷◌, ◌++◌}
+use Rattle.std.proofs.Common.{get_or, Option, Some, None, IfSome, IfNone, All, arith}
 use Rattle.std.specs.List.{Contains}
 use Rattle.std.specs.Option.{option_to_list}
 use Rattle.std.proofs.lemmas.Bool.{cases_lt}

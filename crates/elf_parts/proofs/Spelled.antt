@@ -1,5 +1,6 @@
 -- Headers that stand in a file as bytes are read back.
-use Rattle.std.proofs.Common.{◌≡◌, ◌∙◌, sym, ap, subst, refl, ℕ, zero, suc, ◌+◌, ◌*◌, ◌-◌, ◌≤◌, ◌<◌, ◌^◌, List, [], ◌∷◌, ◌++◌, length, take, drop, get_or, arith, length-append}
+use Rattle.std.proofs.Common.{◌≡◌, ◌∙◌, sym, ap, subst, refl, ℕ, zero, suc, ◌+◌, ◌*◌, ◌-◌, ◌≤◌, ◌<◌, ◌^◌, List, [], ◌∷◌, ◌++◌}
+use Rattle.std.proofs.Common.{length, take, drop, get_or, arith, length-append}
 use Rattle.std.specs.Prelude.{All}
 use Rattle.std.proofs.Math.Seq.{drop-append-add}
 use Rattle.std.proofs.lemmas.List.{append-nil, append_assoc}
@@ -14,7 +15,8 @@ use Rattle.elf_image.specs.file.Header.{number_at, segment_at, segments_from}
 use Rattle.elf_image.specs.file.Sections.{section_header_at}
 use Rattle.elf_parts.specs.declared.spell.SymbolEntry.{SymbolEntry}
 use Rattle.elf_parts.specs.Patches.{Stands}
-use Rattle.elf_parts.specs.Spelled.{Number, number, spelled, segment_numbers, segment_bytes, section_numbers, section_bytes, symbol_numbers, symbol_bytes, SegmentFits, SectionFits, segment_table, section_table}
+use Rattle.elf_parts.specs.Spelled.{Number, number, spelled, segment_numbers, segment_bytes, section_numbers, section_bytes}
+use Rattle.elf_parts.specs.Spelled.{symbol_numbers, symbol_bytes, SegmentFits, SectionFits, segment_table, section_table}
 use Rattle.elf_parts.proofs.Patches.{number_at-stands}
 
 -- Bytes that stand, in parts.

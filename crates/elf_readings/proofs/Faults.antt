@@ -14,7 +14,8 @@ use Rattle.elf_image.specs.declared.relocation.TheConstants.{R_RISCV_IRELATIVE}
 use Rattle.elf_image.specs.declared.symbol.TheConstants.{STT_GNU_IFUNC}
 use Rattle.elf_image.specs.code.Relocations.{Relocation}
 use Rattle.elf_image.specs.faults.ReferenceFaults.{IsStubs, IsIfuncOrPlt, IsAlreadyMoved, HasReferenceFault}
-use Rattle.elf_image.specs.faults.FunctionFaults.{IsBadEntry, IsBadInstruction, IsBareAuipc, IsInsideInstruction, IsBadTarget, HasFunctionFault}
+use Rattle.elf_image.specs.faults.FunctionFaults.{IsBadEntry, IsBadInstruction, IsBareAuipc, IsInsideInstruction, IsBadTarget}
+use Rattle.elf_image.specs.faults.FunctionFaults.{HasFunctionFault}
 use Rattle.elf_image.specs.faults.CodeFaults.{HasCodeFault}
 use Rattle.elf_readings.proofs.Alike.{bare, bare_symbol, Alike, back, any_alike}
 use Rattle.elf_readings.proofs.Parts.{inst_of, starts_of, valid_of}

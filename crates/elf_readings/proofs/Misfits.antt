@@ -5,12 +5,17 @@ use Rattle.std.proofs.lemmas.List.{length-map}
 use Rattle.elf_image.specs.declared.elf.Elf.{Elf}
 use Rattle.elf_image.specs.declared.elf.Section.{Section}
 use Rattle.elf_image.specs.memory.LoadedBytes.{loaded_number}
-use Rattle.elf_image.specs.code.Relocations.{Relocation, relocations, symbol_value, label, is_pcrel_lo, is_pcrel_hi, is_call_pair, is_supported, HasRelocation, Width}
+use Rattle.elf_image.specs.code.Relocations.{Relocation, relocations, symbol_value, label, is_pcrel_lo, is_pcrel_hi, is_call_pair}
+use Rattle.elf_image.specs.code.Relocations.{is_supported, HasRelocation, Width}
 use Rattle.elf_image.specs.code.Cells.{is_plus, is_minus, IsCodeLabel}
-use Rattle.elf_image.specs.faults.ReferenceFaults.{IsRelocType, IsCall, IsAuipc, IsNamedByLow, IsUpper, HasLower, HasAbsolute, IsPaired, IsBadField, IsBadCall, IsBadUpper, IsBadPair, IsBadLower, IsBadAbsolute, IsBadDifference, HasBadLabel, IsMisfit, IsRelocMismatch, IsLoMismatch, IsNarrow, IsNarrowDiff}
+use Rattle.elf_image.specs.faults.ReferenceFaults.{IsRelocType, IsCall, IsAuipc, IsNamedByLow, IsUpper, HasLower, HasAbsolute}
+use Rattle.elf_image.specs.faults.ReferenceFaults.{IsPaired, IsBadField, IsBadCall, IsBadUpper, IsBadPair, IsBadLower}
+use Rattle.elf_image.specs.faults.ReferenceFaults.{IsBadAbsolute, IsBadDifference, HasBadLabel, IsMisfit, IsRelocMismatch}
+use Rattle.elf_image.specs.faults.ReferenceFaults.{IsLoMismatch, IsNarrow, IsNarrowDiff}
 use Rattle.elf_readings.proofs.Alike.{bare_symbol, Alike, back, any_alike}
 use Rattle.elf_readings.proofs.Relocations.{with_section, bare_relocation, relocations_alike, Twin, flip, twin, symbol_alike}
-use Rattle.elf_readings.proofs.Roles.{label_alike, number_alike, field_of, holds_of, full_of, pair_of, call_of, low_of, hi_of, absolute_of}
+use Rattle.elf_readings.proofs.Roles.{label_alike, number_alike, field_of, holds_of, full_of, pair_of, call_of, low_of, hi_of}
+use Rattle.elf_readings.proofs.Roles.{absolute_of}
 use Rattle.elf_readings.proofs.Cells.{only_of, difference_of, code_label_of, has_code_label_of, one_whole_of, counts_of}
 
 pub has_relocation_of : (e e' : Elf) → Alike e e' → (Is Is' : Relocation → Type 0) →

@@ -6,7 +6,9 @@ use Rattle.elf_image.specs.declared.elf.Section.{Section}
 use Rattle.elf_image.specs.declared.elf.Symbol.{Symbol}
 use Rattle.elf_image.specs.code.Cuts.{names_function, IsBound}
 use Rattle.elf_image.specs.file.Sections.{holds_code}
-use Rattle.elf_image.specs.code.Parts.{IsCut, IsInCode, IsPart, IsCovered, IsZeroPart, IsCodePart, length_at, length_in, halfword_at, halfword_in, IsInstAt, IsInstIn, StartsIn, at_start, after, IsStartIn, IsStart, HasInst, HasValidInst, IsWholePart}
+use Rattle.elf_image.specs.code.Parts.{IsCut, IsInCode, IsPart, IsCovered, IsZeroPart, IsCodePart, length_at, length_in}
+use Rattle.elf_image.specs.code.Parts.{halfword_at, halfword_in, IsInstAt, IsInstIn, StartsIn, at_start, after, IsStartIn}
+use Rattle.elf_image.specs.code.Parts.{IsStart, HasInst, HasValidInst, IsWholePart}
 use Rattle.elf_image.specs.memory.LoadedBytes.{byte_at}
 use Rattle.elf_readings.proofs.Alike.{bare, bare_symbol, Alike, back, any_alike, memory}
 

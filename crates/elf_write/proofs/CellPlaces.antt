@@ -1,5 +1,6 @@
 -- Where code cells stand in the written file: apart from one another, and beside headers.
-use Rattle.std.proofs.Common.{◌≡◌, ◌∙◌, sym, ap, subst, refl, ℕ, ◌+◌, ◌-◌, ◌*◌, ◌≤◌, ◌<◌, ◌⊎◌, inl, inr, List, Option, Some, None, IsTrue, length, min, arith}
+use Rattle.std.proofs.Common.{◌≡◌, ◌∙◌, sym, ap, subst, refl, ℕ, ◌+◌, ◌-◌, ◌*◌, ◌≤◌, ◌<◌, ◌⊎◌, inl, inr, List, Option, Some, None}
+use Rattle.std.proofs.Common.{IsTrue, length, min, arith}
 use Rattle.std.specs.Prelude.{Contains, IsSomeAnd, IfSome, option_and_then}
 use Rattle.std.proofs.lemmas.Bool.{cases_lt, lt-ltb}
 use Rattle.byteorder.specs.Endian.{little_bytes}

@@ -1,5 +1,6 @@
 -- The code cells of a written file hold their contents.
-use Rattle.std.proofs.Common.{◌≡◌, ◌∙◌, sym, ap, subst, refl, ℕ, zero, suc, ◌+◌, ◌*◌, ◌≤◌, ◌<◌, ◌⊎◌, inl, inr, List, Some, Bool, true, false, length, map, get_or, arith}
+use Rattle.std.proofs.Common.{◌≡◌, ◌∙◌, sym, ap, subst, refl, ℕ, zero, suc, ◌+◌, ◌*◌, ◌≤◌, ◌<◌, ◌⊎◌, inl, inr, List, Some, Bool}
+use Rattle.std.proofs.Common.{true, false, length, map, get_or, arith}
 use Rattle.std.specs.Prelude.{All, AllPairs, Contains}
 use Rattle.std.proofs.lemmas.List.{get_or-map, get_or_default, length-map}
 use Rattle.byteorder.specs.Endian.{little_bytes}
@@ -28,8 +29,10 @@ use Rattle.elf_write.proofs.CellPlaces.{CellPlace, IsBesideHeaders, stands_at, c
 use Rattle.elf_write.proofs.FileEnds.{ends-below}
 use Rattle.elf_write.proofs.HeldNumbers.{number-stands, cell-held}
 use Rattle.elf_write.proofs.LaidOut.{stretch-within}
-use Rattle.elf_write.proofs.MadeHeaders.{joined, headers, written-is, cells-within, with_cells-size, headers-within, fields-in_header, segments-written}
-use Rattle.elf_write.proofs.MadeInput.{moved-above, moved-none, input-once, file-once, offset-tight, tight-is, by-tight, crosses, parts-behind, keep-behind}
+use Rattle.elf_write.proofs.MadeHeaders.{joined, headers, written-is, cells-within, with_cells-size, headers-within}
+use Rattle.elf_write.proofs.MadeHeaders.{fields-in_header, segments-written}
+use Rattle.elf_write.proofs.MadeInput.{moved-above, moved-none, input-once, file-once, offset-tight, tight-is, by-tight, crosses}
+use Rattle.elf_write.proofs.MadeInput.{parts-behind, keep-behind}
 use Rattle.elf_write.proofs.SameBreak.{rounded_up-above, align-above}
 use Rattle.elf_write.proofs.WrittenImages.{AreNewLoads}
 

@@ -1,5 +1,6 @@
 -- The new area stands in a written file, and its code in memory, where it may be executed and not written.
-use Rattle.std.proofs.Common.{◌≡◌, ◌∙◌, sym, ap, subst, refl, ℕ, zero, suc, ◌+◌, ◌-◌, ◌*◌, ◌≤◌, ◌<◌, ◌⊎◌, inl, inr, List, Option, Some, None, String, Vec, Bool, true, false, IsTrue, length, map, get_or, arith}
+use Rattle.std.proofs.Common.{◌≡◌, ◌∙◌, sym, ap, subst, refl, ℕ, zero, suc, ◌+◌, ◌-◌, ◌*◌, ◌≤◌, ◌<◌, ◌⊎◌, inl, inr, List, Option}
+use Rattle.std.proofs.Common.{Some, None, String, Vec, Bool, true, false, IsTrue, length, map, get_or, arith}
 use Rattle.std.specs.Prelude.{All, Any, Contains, IfSome, codes, ◌||◌}
 use Rattle.std.specs.List.{list_any}
 use Rattle.std.specs.Option.{option_map_or}
@@ -36,7 +37,8 @@ use Rattle.elf_write.proofs.FileEnds.{ends-below}
 use Rattle.elf_write.proofs.Images.{segment_of-once, holds-stands}
 use Rattle.elf_write.proofs.LaidOut.{stretch-beside}
 use Rattle.elf_write.proofs.Loads.{moved-before}
-use Rattle.elf_write.proofs.MadeHeaders.{joined, with_cells, headers, written-is, cells-within, headers-within, fields-in_header, segments-written}
+use Rattle.elf_write.proofs.MadeHeaders.{joined, with_cells, headers, written-is, cells-within, headers-within, fields-in_header}
+use Rattle.elf_write.proofs.MadeHeaders.{segments-written}
 use Rattle.elf_write.proofs.MadeInput.{code-inside, moved-none, tight-is, by-tight, parts-behind, keep-behind}
 use Rattle.elf_write.proofs.MadeSegments.{HoldsArea, holds-area, count-more, area-holds_code, starts-above, starts-behind}
 use Rattle.elf_write.proofs.PlacesWritten.{table-end, count-same}

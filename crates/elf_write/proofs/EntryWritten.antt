@@ -1,5 +1,6 @@
 -- The entry point of a written file, and the field that says it, where it is loaded.
-use Rattle.std.proofs.Common.{◌≡◌, ◌∙◌, sym, ap, subst, refl, ℕ, ◌+◌, ◌-◌, ◌≤◌, List, Option, Some, None, Bool, true, false, arith}
+use Rattle.std.proofs.Common.{◌≡◌, ◌∙◌, sym, ap, subst, refl, ℕ, ◌+◌, ◌-◌, ◌≤◌, List, Option, Some, None, Bool, true, false}
+use Rattle.std.proofs.Common.{arith}
 use Rattle.std.specs.Prelude.{Contains, IfSome, find, option_map}
 use Rattle.byteorder.specs.Endian.{little_bytes}
 use Rattle.elf_image.specs.declared.segment.Segment.{Segment}
@@ -19,7 +20,8 @@ use Rattle.elf_write.specs.Source.{Source}
 use Rattle.elf_write.specs.Written.{memory_of}
 use Rattle.elf_write.proofs.HeldNumbers.{number-held}
 use Rattle.elf_write.proofs.Loads.{moved-before}
-use Rattle.elf_write.proofs.MadeHeaders.{with_cells, headers, written-is, headers-within, headers-apart, segments-written, e_entry-written, entry-fits}
+use Rattle.elf_write.proofs.MadeHeaders.{with_cells, headers, written-is, headers-within, headers-apart, segments-written}
+use Rattle.elf_write.proofs.MadeHeaders.{e_entry-written, entry-fits}
 use Rattle.elf_write.proofs.MadeInput.{moved-none, by-tight, crosses, keep-behind}
 use Rattle.elf_write.proofs.TableKept.{LoadsRange, loads-range}
 use Rattle.elf_write.proofs.WrittenImages.{AreNewLoads}

@@ -1,5 +1,6 @@
 -- The first symbols of functions, one symbol further.
-use Rattle.std.proofs.Common.{◌≡◌, ◌≢◌, sym, ap, subst, refl, cond, nat_cmp, ℕ, ◌+◌, ◌<◌, ◌&&◌, ⊎_elim, Bool, true, false, Option, Some, None, List, [], ◌∷◌, length, get_or, take, arith, ◌∙◌, eqb}
+use Rattle.std.proofs.Common.{◌≡◌, ◌≢◌, sym, ap, subst, refl, cond, nat_cmp, ℕ, ◌+◌, ◌<◌, ◌&&◌, ⊎_elim, Bool, true, false, Option}
+use Rattle.std.proofs.Common.{Some, None, List, [], ◌∷◌, length, get_or, take, arith, ◌∙◌, eqb}
 use Rattle.std.specs.Prelude.{is_some}
 use Rattle.std.specs.BTreeMap.{is_at}
 use Rattle.std.specs.Option.{option_or}

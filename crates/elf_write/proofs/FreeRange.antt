@@ -1,5 +1,6 @@
 -- The area behind the executable segment meets no other segment, where it ends at or below the limit.
-use Rattle.std.proofs.Common.{◌≡◌, sym, subst, refl, ℕ, zero, suc, ◌-◌, ◌≤◌, ◌<◌, ◌⊎◌, inl, inr, List, [], ◌∷◌, Bool, true, false, IsTrue, length, get_or, min, arith}
+use Rattle.std.proofs.Common.{◌≡◌, sym, subst, refl, ℕ, zero, suc, ◌-◌, ◌≤◌, ◌<◌, ◌⊎◌, inl, inr, List, [], ◌∷◌, Bool, true, false}
+use Rattle.std.proofs.Common.{IsTrue, length, get_or, min, arith}
 use Rattle.std.specs.Prelude.{fold, ◌&&◌, nat_le}
 use Rattle.std.proofs.lemmas.Bool.{and_from, le-leb, cases_lt}
 use Rattle.elf_image.specs.declared.segment.Segment.{Segment}

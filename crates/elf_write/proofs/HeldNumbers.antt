@@ -1,5 +1,6 @@
 -- Numbers that were put over bytes of a file, in memory.
-use Rattle.std.proofs.Common.{◌≡◌, ◌∙◌, sym, ap, subst, ℕ, ◌+◌, ◌-◌, ◌^◌, ◌≤◌, ◌<◌, ◌⊎◌, inl, inr, List, Option, Some, IsTrue, length, map, get_or, arith, eqb}
+use Rattle.std.proofs.Common.{◌≡◌, ◌∙◌, sym, ap, subst, ℕ, ◌+◌, ◌-◌, ◌^◌, ◌≤◌, ◌<◌, ◌⊎◌, inl, inr, List, Option, Some, IsTrue}
+use Rattle.std.proofs.Common.{length, map, get_or, arith, eqb}
 use Rattle.std.specs.Prelude.{All, AllPairs, Contains, option_map}
 use Rattle.std.proofs.lemmas.List.{get_or-map, length-map}
 use Rattle.std.proofs.Math.Nat.{mod-eq_of_lt}

@@ -1,5 +1,6 @@
 -- Bytes of a file's headers that its rewriting may change.
-use Rattle.std.proofs.Common.{◌≡◌, ◌∙◌, sym, ap, subst, refl, ℕ, ◌+◌, ◌-◌, ◌*◌, ◌≤◌, ◌<◌, ◌⊎◌, inl, inr, List, [], ◌∷◌, ◌++◌, Option, Some, None, Bool, true, false, IsTrue, length, get_or, arith, min}
+use Rattle.std.proofs.Common.{◌≡◌, ◌∙◌, sym, ap, subst, refl, ℕ, ◌+◌, ◌-◌, ◌*◌, ◌≤◌, ◌<◌, ◌⊎◌, inl, inr, List, [], ◌∷◌, ◌++◌}
+use Rattle.std.proofs.Common.{Option, Some, None, Bool, true, false, IsTrue, length, get_or, arith, min}
 use Rattle.std.specs.Prelude.{Contains, find, flat_map, is_none, ◌||◌, ◌&&◌, nat_le, nat_lt, option_map, option_and_then}
 use Rattle.std.specs.List.{list_any, enumerate_from}
 use Rattle.std.specs.Option.{option_map_or}
@@ -15,7 +16,9 @@ use Rattle.elf_image.specs.memory.CodeSegment.{executable_end}
 use Rattle.elf_image.specs.memory.Image.{is_load, loads_address, segment_of, LoadOnce}
 use Rattle.elf_image.specs.memory.LoadedBytes.{Range, is_in_range, address_of, address_in, loads_range, file_offset, offset_in}
 use Rattle.elf_image.proofs.LoadLemmas.{find-found, loads-from_parts, Contains-cons_cases}
-use Rattle.sym_machine.specs.HiddenFields.{e_entry_field, e_phoff_field, e_phnum_field, section_fields, p_offset_field, size_fields, place_fields, only, is_executable_segment, hidden_in_segment, hidden_fields, is_hidden_field}
+use Rattle.sym_machine.specs.HiddenFields.{e_entry_field, e_phoff_field, e_phnum_field, section_fields, p_offset_field}
+use Rattle.sym_machine.specs.HiddenFields.{size_fields, place_fields, only, is_executable_segment, hidden_in_segment}
+use Rattle.sym_machine.specs.HiddenFields.{hidden_fields, is_hidden_field}
 use Rattle.move_law.specs.Faithful.{is_in_entry_field}
 use Rattle.elf_write.specs.Source.{Source, is_changed, cell_range}
 use Rattle.elf_write.proofs.Images.{segment_of-once}

@@ -1,5 +1,6 @@
 -- A file that was made has the memory of its input.
-use Rattle.std.proofs.Common.{◌≡◌, ◌∙◌, sym, ap, subst, refl, ℕ, zero, suc, ◌+◌, ◌-◌, ◌*◌, ◌≤◌, ◌<◌, ◌⊎◌, inl, inr, List, [], ◌∷◌, ◌++◌, Option, Bool, true, false, length, map, get_or, arith}
+use Rattle.std.proofs.Common.{◌≡◌, ◌∙◌, sym, ap, subst, refl, ℕ, zero, suc, ◌+◌, ◌-◌, ◌*◌, ◌≤◌, ◌<◌, ◌⊎◌, inl, inr, List, [], ◌∷◌}
+use Rattle.std.proofs.Common.{◌++◌, Option, Bool, true, false, length, map, get_or, arith}
 use Rattle.std.specs.Prelude.{All, Contains, IsFalse, ◌||◌, nat_le}
 use Rattle.std.specs.Option.{option_map_or}
 use Rattle.std.specs.List.{list_any}
@@ -35,11 +36,14 @@ use Rattle.elf_write.specs.Source.{Source, is_changed}
 use Rattle.elf_write.proofs.CellPatches.{cell-leaves}
 use Rattle.elf_write.proofs.CellPlaces.{CellPlace, cell-place}
 use Rattle.elf_write.proofs.FileEnds.{ends-below}
-use Rattle.elf_write.proofs.HiddenBytes.{hides-e_shoff, hides-e_shnum, hides-e_phoff, hides-e_phnum, is_hidden-at, changed-hidden, changed-cell, changed-e_entry}
+use Rattle.elf_write.proofs.HiddenBytes.{hides-e_shoff, hides-e_shnum, hides-e_phoff, hides-e_phnum, is_hidden-at, changed-hidden}
+use Rattle.elf_write.proofs.HiddenBytes.{changed-cell, changed-e_entry}
 use Rattle.elf_write.proofs.LaidOut.{fit-above, stretch-within}
 use Rattle.elf_write.proofs.LeftBytes.{leaves-number, number-left, leaves-elsewhere, leaves-table}
-use Rattle.elf_write.proofs.MadeHeaders.{joined, headers, written-is, cells-within, with_cells-size, headers-within, segments-written}
-use Rattle.elf_write.proofs.MadeInput.{moved-none, input-once, file-once, offset-tight, tight-is, by-tight, from-is, found-file, parts-behind, keep-behind}
+use Rattle.elf_write.proofs.MadeHeaders.{joined, headers, written-is, cells-within, with_cells-size, headers-within}
+use Rattle.elf_write.proofs.MadeHeaders.{segments-written}
+use Rattle.elf_write.proofs.MadeInput.{moved-none, input-once, file-once, offset-tight, tight-is, by-tight, from-is, found-file}
+use Rattle.elf_write.proofs.MadeInput.{parts-behind, keep-behind}
 use Rattle.elf_write.proofs.Loads.{moved-before}
 use Rattle.elf_write.proofs.MadeSegments.{new-loads}
 use Rattle.elf_write.proofs.SameBreak.{rounded_up-above, align-above}

@@ -1,6 +1,7 @@
 -- The memory of a written file: what the input's segments loaded is loaded from where their bytes went, and what stands in
 -- a segment's bytes stands in memory.
-use Rattle.std.proofs.Common.{◌≡◌, ◌∙◌, sym, ap, subst, refl, ℕ, ◌+◌, ◌-◌, ◌≤◌, ◌<◌, ◌⊎◌, inl, inr, List, Option, Some, None, Bool, true, false, IsTrue, length, get_or, arith}
+use Rattle.std.proofs.Common.{◌≡◌, ◌∙◌, sym, ap, subst, refl, ℕ, ◌+◌, ◌-◌, ◌≤◌, ◌<◌, ◌⊎◌, inl, inr, List, Option, Some, None}
+use Rattle.std.proofs.Common.{Bool, true, false, IsTrue, length, get_or, arith}
 use Rattle.std.specs.Prelude.{Contains, nat_lt, IsSome, IsFalse, option_map}
 use Rattle.std.specs.Option.{option_map_or}
 use Rattle.std.proofs.lemmas.Bool.{lt-ltb, le-ltb, ltb-true, ltb-false}

@@ -1,5 +1,6 @@
 -- Where the contents of a section are, by what is known of a file's sections.
-use Rattle.std.proofs.Common.{◌≡◌, refl, ap, ◌∙◌, cond, ℕ, ◌+◌, suc, Bool, not, Option, Some, None, List, [], ◌∷◌, length, String, Vec}
+use Rattle.std.proofs.Common.{◌≡◌, refl, ap, ◌∙◌, cond, ℕ, ◌+◌, suc, Bool, not, Option, Some, None, List, [], ◌∷◌, length, String}
+use Rattle.std.proofs.Common.{Vec}
 use Rattle.std.specs.Prelude.{nat_lt, map, position, string_bytes}
 use Rattle.std.specs.List.{position_or_len}
 use Rattle.elf_image.specs.declared.elf.Elf.{Elf}

@@ -1,5 +1,6 @@
 -- The segments of the input are carried by those of the written file.
-use Rattle.std.proofs.Common.{◌≡◌, ◌∙◌, sym, ap, subst, refl, ℕ, ◌+◌, ◌-◌, ◌≤◌, ◌<◌, ◌⊎◌, inl, inr, List, Bool, true, false, IsTrue, get_or, arith, eqb}
+use Rattle.std.proofs.Common.{◌≡◌, ◌∙◌, sym, ap, subst, refl, ℕ, ◌+◌, ◌-◌, ◌≤◌, ◌<◌, ◌⊎◌, inl, inr, List, Bool, true, false}
+use Rattle.std.proofs.Common.{IsTrue, get_or, arith, eqb}
 use Rattle.std.specs.Prelude.{Contains, nat_le, IsFalse}
 use Rattle.std.proofs.lemmas.Bool.{le-leb, lt-leb, leb-true, leb-false}
 use Rattle.elf_image.specs.declared.segment.Segment.{Segment}

@@ -1,5 +1,6 @@
 -- The segments of a file that was made: those of the input, and the one in which the new area stands.
-use Rattle.std.proofs.Common.{◌≡◌, ◌∙◌, sym, ap, subst, refl, ℕ, ◌+◌, ◌*◌, ◌≤◌, ◌<◌, ◌⊎◌, inl, inr, List, Bool, true, false, IsTrue, length, get_or, arith}
+use Rattle.std.proofs.Common.{◌≡◌, ◌∙◌, sym, ap, subst, refl, ℕ, ◌+◌, ◌*◌, ◌≤◌, ◌<◌, ◌⊎◌, inl, inr, List, Bool, true, false}
+use Rattle.std.proofs.Common.{IsTrue, length, get_or, arith}
 use Rattle.std.specs.Prelude.{Contains, not, ◌&&◌, ◌==◌}
 use Rattle.std.proofs.lemmas.Bool.{eq-eqb}
 use Rattle.std.proofs.lemmas.List.Elements.{Contains-get_or}

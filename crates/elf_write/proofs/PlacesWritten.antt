@@ -1,5 +1,6 @@
 -- What a program finds of the layout of its file is the same in the written file.
-use Rattle.std.proofs.Common.{◌≡◌, ◌∙◌, sym, ap, subst, refl, ℕ, ◌+◌, ◌-◌, ◌*◌, ◌≤◌, ◌<◌, ◌⊎◌, inl, inr, List, Option, Some, None, Bool, true, false, IsTrue, length, get_or, arith}
+use Rattle.std.proofs.Common.{◌≡◌, ◌∙◌, sym, ap, subst, refl, ℕ, ◌+◌, ◌-◌, ◌*◌, ◌≤◌, ◌<◌, ◌⊎◌, inl, inr, List, Option, Some, None}
+use Rattle.std.proofs.Common.{Bool, true, false, IsTrue, length, get_or, arith}
 use Rattle.std.specs.Prelude.{Any, Contains, not, ◌||◌, ◌==◌, nat_lt, if◌then◌else◌}
 use Rattle.std.specs.List.{list_any}
 use Rattle.std.specs.Option.{option_map_or}
@@ -29,10 +30,12 @@ use Rattle.elf_write.proofs.FileEnds.{begins-behind}
 use Rattle.elf_write.proofs.LaidOut.{stretch-within}
 use Rattle.elf_write.proofs.Loads.{moved-before, moved-behind}
 use Rattle.elf_write.proofs.MadeHeaders.{segments-written, e_phoff-written, e_phnum-written}
-use Rattle.elf_write.proofs.MadeInput.{ps-is, found-file, code-is, code-inside, code_segment-is, area-is, tight-is, from-is, by-is, address-tight, crosses, parts-behind, keep-behind}
+use Rattle.elf_write.proofs.MadeInput.{ps-is, found-file, code-is, code-inside, code_segment-is, area-is, tight-is, from-is}
+use Rattle.elf_write.proofs.MadeInput.{by-is, address-tight, crosses, parts-behind, keep-behind}
 use Rattle.elf_write.proofs.SameBreak.{GrowsUnwritten, KeepsBreak, break-kept, rounded_up-above, align-above}
 use Rattle.elf_write.proofs.SoundFiles.{code-load, code-whole, code-unwritable, table_crosses_not}
-use Rattle.elf_write.proofs.TableKept.{GrowsTo, LoadsRange, StandsAlike, stays, moves, unloaded, loads-range, range-loads, range_address, address-kept, had_bytes}
+use Rattle.elf_write.proofs.TableKept.{GrowsTo, LoadsRange, StandsAlike, stays, moves, unloaded, loads-range, range-loads}
+use Rattle.elf_write.proofs.TableKept.{range_address, address-kept, had_bytes}
 
 module _ (s : Source) (tight : Bool) (w : List ℕ) (read : IsElfOf s.elf.file.now s.elf) (sound : IsSound s.elf.file.now)
     (made : IsMade s tight w) (placed : IsPlaced s tight) where

@@ -1,6 +1,7 @@
 -- The break of a written file is the input's: its writable segments are those of the input, no other one starts elsewhere, and
 -- a segment of the area's own lies above all that the break reaches.
-use Rattle.std.proofs.Common.{◌≡◌, ◌∙◌, sym, ap, subst, refl, ℕ, zero, suc, ◌+◌, ◌-◌, ◌/◌, ◌%◌, ◌≤◌, ◌<◌, ◌⊎◌, inl, inr, List, [], ◌∷◌, Bool, true, false, IsTrue, length, get_or, arith, min, max}
+use Rattle.std.proofs.Common.{◌≡◌, ◌∙◌, sym, ap, subst, refl, ℕ, zero, suc, ◌+◌, ◌-◌, ◌/◌, ◌%◌, ◌≤◌, ◌<◌, ◌⊎◌, inl, inr, List, []}
+use Rattle.std.proofs.Common.{◌∷◌, Bool, true, false, IsTrue, length, get_or, arith, min, max}
 use Rattle.std.specs.Prelude.{map, filter, fold, ◌&&◌, ◌==◌, not, nat_le, nat_lt, if◌then◌else◌}
 use Rattle.std.proofs.lemmas.Bool.{and_parts, eqb-true, lt-ltb, ltb-true}
 use Rattle.std.proofs.lemmas.Nat.{div-add-mod', mod_below}

@@ -1,5 +1,6 @@
 -- Where the map puts the new code says whether the file is tight: the area never starts at both places.
-use Rattle.std.proofs.Common.{◌≡◌, ◌∙◌, ap, refl, ℕ, ◌+◌, ◌*◌, ◌≤◌, ◌<◌, List, Option, Some, None, Bool, true, false, length, arith, nat_le, nat_lt}
+use Rattle.std.proofs.Common.{◌≡◌, ◌∙◌, ap, refl, ℕ, ◌+◌, ◌*◌, ◌≤◌, ◌<◌, List, Option, Some, None, Bool, true, false, length}
+use Rattle.std.proofs.Common.{arith, nat_le, nat_lt}
 use Rattle.std.specs.Prelude.{Contains, is_none, is_some, max, not}
 use Rattle.std.specs.Option.{option_map_or}
 use Rattle.std.proofs.lemmas.Bool.{and_from, le-leb, lt-ltb, lt-leb}

@@ -1,5 +1,6 @@
 -- The index of a frame table, `.eh_frame_hdr`. LSB, "The .eh_frame_hdr section".
-use Rattle.std.specs.Prelude.{◌≡◌, ◌+◌, ◌-◌, ◌≤◌, ◌^◌, ◌%◌, ◌++◌, ℕ, List, [], ◌∷◌, length, codes, flat_map, AllPairs, IsPermutation}
+use Rattle.std.specs.Prelude.{◌≡◌, ◌+◌, ◌-◌, ◌≤◌, ◌^◌, ◌%◌, ◌++◌, ℕ, List, [], ◌∷◌, length, codes, flat_map, AllPairs}
+use Rattle.std.specs.Prelude.{IsPermutation}
 use Rattle.byteorder.specs.Endian.{little_bytes}
 use Rattle.elf_image.specs.declared.elf.Elf.{Elf}
 use Rattle.table_core.specs.Sections.{held, bytes_of}

@@ -1,5 +1,6 @@
 -- The functions of a file and their faults, from lists.
-use Rattle.std.proofs.Common.{◌≡◌, ◌∙◌, sym, subst, ap, refl, ℕ, ◌<◌, ◌≤◌, inl, inr, ⊎_elim, ◌↔◌, List, Option, Some, None, Contains, AllPairs, All, slice_index_or, arith}
+use Rattle.std.proofs.Common.{◌≡◌, ◌∙◌, sym, subst, ap, refl, ℕ, ◌<◌, ◌≤◌, inl, inr, ⊎_elim, ◌↔◌, List, Option, Some, None}
+use Rattle.std.proofs.Common.{Contains, AllPairs, All, slice_index_or, arith}
 use Rattle.std.proofs.lemmas.Bool.{cases_lt}
 use Rattle.std.proofs.lemmas.List.{get_or_default}
 use Rattle.rb_bytes.specs.Fault.{fault_at, number_of}
@@ -30,7 +31,8 @@ use Rattle.rv_reloc.specs.Whole.{AreWholeParts}
 use Rattle.rv_reloc.proofs.StartLists.{starts_inside}
 use Rattle.rv_reloc.proofs.WholeLookup.{StartsIn-inside}
 use Rattle.func_find.specs.FunctionParts.{AreFunctionParts}
-use Rattle.func_find.specs.InstLists.{IsBareBefore, IsGoodBefore, IsFaultBefore, invalid, bare, IsFirstIn, IsFirstRefusal, IsPlacedAt, IsMadeOf, AreMadeOf}
+use Rattle.func_find.specs.InstLists.{IsBareBefore, IsGoodBefore, IsFaultBefore, invalid, bare, IsFirstIn, IsFirstRefusal}
+use Rattle.func_find.specs.InstLists.{IsPlacedAt, IsMadeOf, AreMadeOf}
 use Rattle.func_find.specs.Targets.{IsHeld, IsCodeIn, IsInsideIn, JumpsNowhere, CallsInside, IsMisled, HasMisled, IsBadStart}
 use Rattle.func_find.proofs.Judged.{IsCodePart-function, HasValidInst-from, HasValidInst-before}
 

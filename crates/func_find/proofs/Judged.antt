@@ -1,5 +1,6 @@
 -- Which parts are functions.
-use Rattle.std.proofs.Common.{◌≡◌, ◌∙◌, sym, subst, ap, refl, ℕ, ◌+◌, ◌-◌, ◌<◌, ◌≤◌, ⊎_elim, ◌↔◌, true, List, Option, length, slice_index_or, take, arith, ◌==◌, ◌%◌, Bool, false, if◌then◌else◌}
+use Rattle.std.proofs.Common.{◌≡◌, ◌∙◌, sym, subst, ap, refl, ℕ, ◌+◌, ◌-◌, ◌<◌, ◌≤◌, ⊎_elim, ◌↔◌, true, List, Option, length}
+use Rattle.std.proofs.Common.{slice_index_or, take, arith, ◌==◌, ◌%◌, Bool, false, if◌then◌else◌}
 use Rattle.std.specs.Prelude.{unwrap_or}
 use Rattle.std.specs.List.{Contains, Any, All, AllPairs}
 use Rattle.std.proofs.lemmas.Bool.{cases_lt}
@@ -8,7 +9,8 @@ use Rattle.std.proofs.lemmas.List.Elements.{All-contains}
 use Rattle.rv_code.specs.declared.inst.Inst.{Inst}
 use Rattle.elf_image.specs.declared.elf.Elf.{Elf}
 use Rattle.elf_image.specs.memory.LoadedBytes.{byte_at}
-use Rattle.elf_image.specs.code.Parts.{IsCovered, IsCodePart, IsZeroPart, StartsIn, at_start, HasValidInst, halfword_at, length_at}
+use Rattle.elf_image.specs.code.Parts.{IsCovered, IsCodePart, IsZeroPart, StartsIn, at_start, HasValidInst, halfword_at}
+use Rattle.elf_image.specs.code.Parts.{length_at}
 use Rattle.elf_image.specs.code.Functions.{IsNopPart, IsFunctionPart, code, referred, fallen_into}
 use Rattle.rv_reloc.specs.declared.parts.Part.{Part}
 use Rattle.rv_reloc.specs.Parts.{AreCodeParts, Follows}

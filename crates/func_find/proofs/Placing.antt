@@ -1,5 +1,6 @@
 -- The instructions of a part, one after another.
-use Rattle.std.proofs.Common.{◌≡◌, ◌∙◌, sym, subst, ap, refl, ℕ, ◌+◌, ◌<◌, ◌≤◌, ◌⊎◌, inl, inr, ⊎_elim, List, [], ◌∷◌, ◌++◌, Contains, AllPairs, take, length, slice_index_or, arith}
+use Rattle.std.proofs.Common.{◌≡◌, ◌∙◌, sym, subst, ap, refl, ℕ, ◌+◌, ◌<◌, ◌≤◌, ◌⊎◌, inl, inr, ⊎_elim, List, [], ◌∷◌, ◌++◌}
+use Rattle.std.proofs.Common.{Contains, AllPairs, take, length, slice_index_or, arith}
 use Rattle.std.proofs.lemmas.Bool.{cases_lt}
 use Rattle.std.proofs.lemmas.List.{take_more, take_all, get_or_default, get_or-take, length-take}
 use Rattle.std.proofs.lemmas.List.Elements.{Contains-append_left, Contains-push, Contains-push_cases}
@@ -17,7 +18,8 @@ use Rattle.elf_image.proofs.LoadLemmas.{Contains-cons_cases}
 use Rattle.rv_reloc.specs.declared.parts.Part.{Part}
 use Rattle.rv_reloc.specs.Parts.{Follows}
 use Rattle.rv_reloc.proofs.StartLists.{starts_inside}
-use Rattle.func_find.specs.InstLists.{IsPlacedAt, IsGoodBefore, IsFaultBefore, IsFirstIn, IsFirstRefusal, ArePlaced, IsMadeOf, AreMadeOf}
+use Rattle.func_find.specs.InstLists.{IsPlacedAt, IsGoodBefore, IsFaultBefore, IsFirstIn, IsFirstRefusal, ArePlaced, IsMadeOf}
+use Rattle.func_find.specs.InstLists.{AreMadeOf}
 use Rattle.func_find.proofs.StartsApart.{starts_apart, length_is}
 
 AreInsts-push : (elf : Elf) (a mid : ℕ) (ps : List Placed) (p : Placed) → AreInsts elf a ps mid → p.addr ≡ mid →

@@ -1,5 +1,7 @@
 -- Clusters after two of them became one.
-use Rattle.std.proofs.Common.{take, Option, Some, None, inl, inr, subst, ℕ, ◌≡◌, ◌≢◌, ◌⊎◌, ◌<◌, ◌≤◌, ◌+◌, ◌&&◌, not, Bool, true, false, List, [], ◌∷◌, ◌++◌, length, get_or, set, sym, ◌∙◌, ap, refl, arith, ⊎_elim, length-set, get_or-set_same, get_or-set_other}
+use Rattle.std.proofs.Common.{take, Option, Some, None, inl, inr, subst, ℕ, ◌≡◌, ◌≢◌, ◌⊎◌, ◌<◌, ◌≤◌, ◌+◌, ◌&&◌, not, Bool, true}
+use Rattle.std.proofs.Common.{false, List, [], ◌∷◌, ◌++◌, length, get_or, set, sym, ◌∙◌, ap, refl, arith, ⊎_elim, length-set}
+use Rattle.std.proofs.Common.{get_or-set_same, get_or-set_other}
 use Rattle.std.specs.Prelude.{sum, ◌^◌, All, ◌==◌, slice_index, if◌then◌else◌, nat_le}
 use Rattle.std.proofs.lemmas.Bool.{cases_eq, cases_Bool}
 use Rattle.std.proofs.lemmas.List.Sums.{sum_by-append, sum_by-cons, sum_by-set, fold_more}
@@ -7,7 +9,8 @@ use Rattle.std.proofs.lemmas.Grind.{common_steps}
 use Rattle.func_place.specs.Clusters.{has, total, alone, joined, appended, take_unit, clusters_of, limit}
 use Rattle.func_place.specs.internal.Grouping.{Grouping, list_at, group_of, IsGrouped}
 use Rattle.func_place.specs.internal.ClusterState.{State, count_of, size_at, heat_at, IsSound, Merges, Keeps}
-use Rattle.func_place.proofs.GroupMoves.{IsJoined, count_new, joined_from, grouped_joined, number_among, number_elsewhere, group_among, group_elsewhere}
+use Rattle.func_place.proofs.GroupMoves.{IsJoined, count_new, joined_from, grouped_joined, number_among, number_elsewhere}
+use Rattle.func_place.proofs.GroupMoves.{group_among, group_elsewhere}
 
 -- The heats after a merge: 0 for both, and then the sum for the one that was kept.
 

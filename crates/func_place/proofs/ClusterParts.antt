@@ -1,5 +1,6 @@
 -- Clusters share out the hot units: each stands in one of them, once.
-use Rattle.std.proofs.Common.{ℕ, ◌≡◌, ◌≢◌, ◌<◌, ◌≤◌, ◌+◌, ⊎_elim, Bool, true, false, List, [], ◌∷◌, ◌++◌, Option, Some, None, arith, refl, sym, ◌∙◌, ap}
+use Rattle.std.proofs.Common.{ℕ, ◌≡◌, ◌≢◌, ◌<◌, ◌≤◌, ◌+◌, ⊎_elim, Bool, true, false, List, [], ◌∷◌, ◌++◌, Option, Some, None}
+use Rattle.std.proofs.Common.{arith, refl, sym, ◌∙◌, ap}
 use Rattle.std.specs.Prelude.{◌==◌, nat_le, sum_by, filter}
 use Rattle.std.specs.List.{fold, flat_map}
 use Rattle.std.specs.List.Sorted.{IsPermutation}
@@ -8,7 +9,8 @@ use Rattle.std.proofs.lemmas.Bool.{cases_eq, cases_Bool}
 use Rattle.std.proofs.lemmas.List.Sorted.{sum_by-IsPermutation}
 use Rattle.func_place.specs.Clusters.{has, alone, joined, appended, take_unit, limit, total}
 use Rattle.func_place.specs.Ranks.{begins, heads}
-use Rattle.func_place.proofs.Times.{one_if, times, times-nil, times-same, times-cons, times-one, times-append, times-flat_map, times-filter_in, times-filter_out, has-times, times-has, sum-agree, sum-zero, sum-times}
+use Rattle.func_place.proofs.Times.{one_if, times, times-nil, times-same, times-cons, times-one, times-append, times-flat_map}
+use Rattle.func_place.proofs.Times.{times-filter_in, times-filter_out, has-times, times-has, sum-agree, sum-zero, sum-times}
 
 pub record IsClustered (warm : ℕ → Bool) (cluster : ℕ → List ℕ) : Type 0 where
   pub itself : (u : ℕ) → times u (cluster u) ≡ 1

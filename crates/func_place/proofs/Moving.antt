@@ -1,5 +1,6 @@
 -- Members that move from one group to another.
-use Rattle.std.proofs.Common.{ℕ, suc, arith, length-set, ◌≡◌, ◌≢◌, ◌<◌, List, [], ◌∷◌, ◌++◌, length, map, get_or, set, sym, ◌∙◌, ap, append_assoc}
+use Rattle.std.proofs.Common.{ℕ, suc, arith, length-set, ◌≡◌, ◌≢◌, ◌<◌, List, [], ◌∷◌, ◌++◌, length, map, get_or, set, sym, ◌∙◌}
+use Rattle.std.proofs.Common.{ap, append_assoc}
 use Rattle.std.proofs.lemmas.List.{get_or-map, map-set, get_or-set_other}
 use Rattle.std.proofs.lemmas.Grind.{common_steps}
 use Rattle.std.specs.Prelude.{All}

@@ -1,5 +1,6 @@
 -- The definition of the heaviest caller gives what sets it apart, and only one unit is so set apart.
-use Rattle.std.proofs.Common.{get_or, subst, ℕ, zero, suc, ◌≡◌, ◌≢◌, ◌⊎◌, ◌<◌, ◌≤◌, ◌+◌, ◌&&◌, not, inl, inr, ⊎_elim, Bool, true, false, List, [], ◌∷◌, length, Option, None, Some, arith, refl, sym, ap}
+use Rattle.std.proofs.Common.{get_or, subst, ℕ, zero, suc, ◌≡◌, ◌≢◌, ◌⊎◌, ◌<◌, ◌≤◌, ◌+◌, ◌&&◌, not, inl, inr, ⊎_elim, Bool, true}
+use Rattle.std.proofs.Common.{false, List, [], ◌∷◌, length, Option, None, Some, arith, refl, sym, ap}
 use Rattle.std.specs.Prelude.{◌==◌, nat_lt, filter, All, slice_index}
 use Rattle.std.specs.List.{fold, reduce, range_with_len}
 use Rattle.std.proofs.lemmas.List.{get_or_past}

@@ -1,5 +1,6 @@
 -- What the order of blocks is like: it has all blocks, and those of tied functions are near each other.
-use Rattle.std.proofs.Common.{subst, ℕ, zero, suc, ◌≡◌, ◌≢◌, ◌<◌, ◌≤◌, ◌+◌, ◌*◌, ◌-◌, ⊎_elim, Bool, true, false, cond, Option, Some, List, [], ◌∷◌, ◌++◌, length, get_or, take, drop, arith, refl, sym, ◌∙◌, ap, add-one}
+use Rattle.std.proofs.Common.{subst, ℕ, zero, suc, ◌≡◌, ◌≢◌, ◌<◌, ◌≤◌, ◌+◌, ◌*◌, ◌-◌, ⊎_elim, Bool, true, false, cond, Option}
+use Rattle.std.proofs.Common.{Some, List, [], ◌∷◌, ◌++◌, length, get_or, take, drop, arith, refl, sym, ◌∙◌, ap, add-one}
 use Rattle.std.specs.Prelude.{◌==◌, All, if◌then◌else◌, sum_by, filter, slice_index, slice_get}
 use Rattle.std.specs.List.{range_with_len, flat_map}
 use Rattle.std.specs.List.Sorted.{IsPermutation}
@@ -21,7 +22,9 @@ use Rattle.func_place.specs.Clusters.{limit}
 use Rattle.func_place.specs.Nearness.{owner, worst_at, blocks_of_function, HaveAllBlocks, HasAllBlocks, AreTiedNear}
 use Rattle.func_place.specs.Placement.{hot_of, cold_of, IsPlacement}
 use Rattle.func_place.specs.Units.{AreTied, itself, onward, backward, AreUnits, unit_size, members, unit_part, by_unit}
-use Rattle.func_place.proofs.Times.{times, times-append, times-flat_map, times-filter_in, times-filter_out, times-range_in, times-range_out, times-IsPermutation, times-get_or, permutation_from_times, sum-agree, sum-zero, sum-plus, sum-at}
+use Rattle.func_place.proofs.Times.{times, times-append, times-flat_map, times-filter_in, times-filter_out, times-range_in}
+use Rattle.func_place.proofs.Times.{times-range_out, times-IsPermutation, times-get_or, permutation_from_times, sum-agree}
+use Rattle.func_place.proofs.Times.{sum-zero, sum-plus, sum-at}
 use Rattle.func_place.proofs.UnitClasses.{units_inside}
 use Rattle.func_place.proofs.UnitLine.{line_of, line_times, flat, cut_of, order_times, AreOwned, sum_some, units_near}
 use Rattle.func_place.proofs.UnitSums.{no_block}

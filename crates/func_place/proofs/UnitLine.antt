@@ -1,10 +1,12 @@
 -- All units stand in the line of units, each once; and bands cut this line.
-use Rattle.std.proofs.Common.{subst, ℕ, ◌≡◌, ◌≢◌, ◌<◌, ◌≤◌, ◌+◌, ◌-◌, ⊎_elim, Bool, true, false, List, [], ◌∷◌, ◌++◌, length, take, drop, arith, refl, sym, ◌∙◌, ap, append_assoc}
+use Rattle.std.proofs.Common.{subst, ℕ, ◌≡◌, ◌≢◌, ◌<◌, ◌≤◌, ◌+◌, ◌-◌, ⊎_elim, Bool, true, false, List, [], ◌∷◌, ◌++◌, length}
+use Rattle.std.proofs.Common.{take, drop, arith, refl, sym, ◌∙◌, ap, append_assoc}
 use Rattle.std.specs.Prelude.{◌==◌, nat_lt, All, sum_by, slice_index}
 use Rattle.std.specs.List.{fold, range_with_len, flat_map}
 use Rattle.std.proofs.lemmas.Grind.{common_steps}
 use Rattle.std.proofs.lemmas.Bool.{cases_eq, cases_lt, cases_Bool}
-use Rattle.std.proofs.lemmas.List.{append-nil, flat_map_more, take-append-le, drop-append-le, drop_at, get_or_append_left, get_or-append_right, get_or_past, length-append, length-drop, drop-drop}
+use Rattle.std.proofs.lemmas.List.{append-nil, flat_map_more, take-append-le, drop-append-le, drop_at, get_or_append_left}
+use Rattle.std.proofs.lemmas.List.{get_or-append_right, get_or_past, length-append, length-drop, drop-drop}
 use Rattle.std.proofs.lemmas.List.Elements.{All-nil, All-push, All-head, All-tail}
 use Rattle.std.proofs.lemmas.List.Sums.{sum_by-cons, sum_by-append, sum_by_push, sum_by-take-le, sum_by-take-drop}
 use Rattle.func_place.specs.declared.calls.Call.{Call}
@@ -14,7 +16,8 @@ use Rattle.func_place.specs.Bands.{Bands, put_unit, bands_of, blocks_of, order_o
 use Rattle.func_place.specs.UnitOrder.{IsUnitOrder, cold_units, unit_clusters}
 use Rattle.func_place.proofs.ClusterParts.{IsClustered, alone_clustered, folded_clustered, ranked_warm, ranked_cold}
 use Rattle.func_place.proofs.OnlyHeaviest.{caller_in}
-use Rattle.func_place.proofs.Times.{times, times-nil, times-cons, times-same, times-append, times-flat_map, times-filter_in, times-filter_out, times-range_in, times-get_or, times-IsPermutation, sum-plus}
+use Rattle.func_place.proofs.Times.{times, times-nil, times-cons, times-same, times-append, times-flat_map, times-filter_in}
+use Rattle.func_place.proofs.Times.{times-filter_out, times-range_in, times-get_or, times-IsPermutation, sum-plus}
 
 -- The line of units.
 

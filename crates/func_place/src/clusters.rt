@@ -1,5 +1,6 @@
 // Clusters of hot units.
-ghost use Rattle.std.specs.Prelude.{◌≡◌, ◌≢◌, ℕ, ◌+◌, ◌<◌, ◌≤◌, ◌^◌, ◌++◌, None, Some, List, All, length, sum, sum_by, OnOk, IfOk, slice_index, slice_index_or};
+ghost use Rattle.std.specs.Prelude.{◌≡◌, ◌≢◌, ℕ, ◌+◌, ◌<◌, ◌≤◌, ◌^◌, ◌++◌, None, Some, List, All, length, sum, sum_by, OnOk};
+ghost use Rattle.std.specs.Prelude.{IfOk, slice_index, slice_index_or};
 ghost use Rattle.std.specs.List.{flat_map};
 ghost use Rattle.func_place.specs.Clusters.{alone, appended, clusters_of};
 ghost use Rattle.func_place.specs.Ranks.{begins};

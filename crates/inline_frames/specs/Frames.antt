@@ -1,5 +1,6 @@
 -- The frames of an address: the name of each function of its chain, and where control is in it. DWARF 5, section 3.3.8.2.
-use Rattle.std.specs.Prelude.{◌==◌, ◌||◌, ℕ, List, [], ◌∷◌, ◌++◌, flat_map, codes, decimal, if◌then◌else◌, slice_get, unwrap_or, Option, Some, None, option_map, option_and_then}
+use Rattle.std.specs.Prelude.{◌==◌, ◌||◌, ℕ, List, [], ◌∷◌, ◌++◌, flat_map, codes, decimal, if◌then◌else◌, slice_get, unwrap_or}
+use Rattle.std.specs.Prelude.{Option, Some, None, option_map, option_and_then}
 use Rattle.std.specs.List.{find}
 use Rattle.elf_image.specs.declared.elf.Elf.{Elf}
 use Rattle.table_core.specs.declared.form.TheConstants.{DW_FORM_addr, DW_FORM_sec_offset}

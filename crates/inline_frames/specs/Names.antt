@@ -1,13 +1,16 @@
 -- The names of entries. DWARF 5, sections 2.15, 3.3.8, 7.5.5 and 7.26.
-use Rattle.std.specs.Prelude.{◌+◌, ◌*◌, ◌==◌, ◌&&◌, ℕ, zero, suc, List, codes, nat_le, if◌then◌else◌, Option, Some, None, option_and_then}
+use Rattle.std.specs.Prelude.{◌+◌, ◌*◌, ◌==◌, ◌&&◌, ℕ, zero, suc, List, codes, nat_le, if◌then◌else◌, Option, Some, None}
+use Rattle.std.specs.Prelude.{option_and_then}
 use Rattle.std.specs.List.{find}
 use Rattle.std.specs.Option.{option_or}
 use Rattle.elf_image.specs.declared.elf.Elf.{Elf}
-use Rattle.table_core.specs.declared.form.TheConstants.{DW_FORM_string, DW_FORM_strp, DW_FORM_line_strp, DW_FORM_ref_addr, DW_FORM_ref_udata}
+use Rattle.table_core.specs.declared.form.TheConstants.{DW_FORM_string, DW_FORM_strp, DW_FORM_line_strp, DW_FORM_ref_addr}
+use Rattle.table_core.specs.declared.form.TheConstants.{DW_FORM_ref_udata}
 use Rattle.table_core.specs.Forms.{is_text_index}
 use Rattle.table_core.specs.Texts.{text_in}
 use Rattle.table_core.specs.Sections.{bytes_of}
-use Rattle.dw_unit.specs.declared.attribute.TheConstants.{DW_AT_name, DW_AT_abstract_origin, DW_AT_specification, DW_AT_str_offsets_base}
+use Rattle.dw_unit.specs.declared.attribute.TheConstants.{DW_AT_name, DW_AT_abstract_origin, DW_AT_specification}
+use Rattle.dw_unit.specs.declared.attribute.TheConstants.{DW_AT_str_offsets_base}
 use Rattle.dw_unit.specs.declared.entry.Attr.{Attr}
 use Rattle.dw_unit.specs.Units.{Entry, Unit, Sections, units, entries, attr, base, number_in}
 use Rattle.dw_unit.specs.Tables.{sections_of}

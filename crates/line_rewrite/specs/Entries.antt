@@ -1,11 +1,13 @@
 -- The directories and files of a line unit. DWARF 5, sections 6.2.4.1 and 7.22.
-use Rattle.std.specs.Prelude.{◌==◌, ◌&&◌, ◌||◌, ℕ, zero, suc, Bool, List, [], ◌∷◌, ◌++◌, nat_le, if◌then◌else◌, slice_get, is_some, Option, Some, None, option_and_then, Result, Ok, Err}
+use Rattle.std.specs.Prelude.{◌==◌, ◌&&◌, ◌||◌, ℕ, zero, suc, Bool, List, [], ◌∷◌, ◌++◌, nat_le, if◌then◌else◌, slice_get}
+use Rattle.std.specs.Prelude.{is_some, Option, Some, None, option_and_then, Result, Ok, Err}
 use Rattle.std.specs.List.{list_all}
 use Rattle.std.specs.Option.{option_or}
 use Rattle.rb_bytes.specs.declared.gap.Gap.{Gap}
 use Rattle.rb_bytes.specs.Reading.{number_at, text_at}
 use Rattle.rb_bytes.specs.Leb.{uleb_at}
-use Rattle.table_core.specs.declared.form.TheConstants.{DW_FORM_data1, DW_FORM_data2, DW_FORM_data4, DW_FORM_data8, DW_FORM_udata, DW_FORM_string, DW_FORM_strp, DW_FORM_line_strp, DW_FORM_indirect}
+use Rattle.table_core.specs.declared.form.TheConstants.{DW_FORM_data1, DW_FORM_data2, DW_FORM_data4, DW_FORM_data8, DW_FORM_udata}
+use Rattle.table_core.specs.declared.form.TheConstants.{DW_FORM_string, DW_FORM_strp, DW_FORM_line_strp, DW_FORM_indirect}
 use Rattle.table_core.specs.Texts.{text_in}
 use Rattle.table_core.specs.Forms.{Shape, shape_of, value_at}
 use Rattle.line_rewrite.specs.declared.content.TheConstants.{DW_LNCT_path, DW_LNCT_directory_index, DW_LNCT_MD5}

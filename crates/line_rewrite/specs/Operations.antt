@@ -1,11 +1,20 @@
 -- The operations of a line program as its bytes spell them. DWARF 5, sections 6.2.5 and 7.22.
-use Rattle.std.specs.Prelude.{◌-◌, ◌==◌, ℕ, zero, suc, Bool, true, false, List, [], ◌∷◌, nat_le, if◌then◌else◌, length, slice_index, Result, Ok, Err}
+use Rattle.std.specs.Prelude.{◌-◌, ◌==◌, ℕ, zero, suc, Bool, true, false, List, [], ◌∷◌, nat_le, if◌then◌else◌, length}
+use Rattle.std.specs.Prelude.{slice_index, Result, Ok, Err}
 use Rattle.rb_bytes.specs.declared.gap.Gap.{Gap}
 use Rattle.rb_bytes.specs.Reading.{bytes_at, number_at, and_then}
 use Rattle.rb_bytes.specs.Leb.{uleb_at, sleb_at}
-use Rattle.line_rewrite.specs.declared.operation.TheConstants.{DW_LNS_copy, DW_LNS_advance_pc, DW_LNS_advance_line, DW_LNS_set_file, DW_LNS_set_column, DW_LNS_negate_stmt, DW_LNS_set_basic_block, DW_LNS_const_add_pc, DW_LNS_fixed_advance_pc, DW_LNS_set_prologue_end, DW_LNS_set_epilogue_begin, DW_LNS_set_isa, DW_LNE_end_sequence, DW_LNE_set_address, DW_LNE_set_discriminator}
+use Rattle.line_rewrite.specs.declared.operation.TheConstants.{DW_LNS_copy, DW_LNS_advance_pc, DW_LNS_advance_line}
+use Rattle.line_rewrite.specs.declared.operation.TheConstants.{DW_LNS_set_file, DW_LNS_set_column, DW_LNS_negate_stmt}
+use Rattle.line_rewrite.specs.declared.operation.TheConstants.{DW_LNS_set_basic_block, DW_LNS_const_add_pc}
+use Rattle.line_rewrite.specs.declared.operation.TheConstants.{DW_LNS_fixed_advance_pc, DW_LNS_set_prologue_end}
+use Rattle.line_rewrite.specs.declared.operation.TheConstants.{DW_LNS_set_epilogue_begin, DW_LNS_set_isa, DW_LNE_end_sequence}
+use Rattle.line_rewrite.specs.declared.operation.TheConstants.{DW_LNE_set_address, DW_LNE_set_discriminator}
 use Rattle.line_rewrite.specs.declared.operation.LineOp.{LineOp}
-use Rattle.line_rewrite.specs.declared.operation.LineOp.TheVariants.{Special, Copy, AdvancePc, AdvanceLine, SetFile, SetColumn, NegateStmt, SetBasicBlock, ConstAddPc, FixedAdvancePc, SetPrologueEnd, SetEpilogueBegin, SetIsa, EndSequence, SetAddress, SetDiscriminator, Unknown}
+use Rattle.line_rewrite.specs.declared.operation.LineOp.TheVariants.{Special, Copy, AdvancePc, AdvanceLine, SetFile, SetColumn}
+use Rattle.line_rewrite.specs.declared.operation.LineOp.TheVariants.{NegateStmt, SetBasicBlock, ConstAddPc, FixedAdvancePc}
+use Rattle.line_rewrite.specs.declared.operation.LineOp.TheVariants.{SetPrologueEnd, SetEpilogueBegin, SetIsa, EndSequence}
+use Rattle.line_rewrite.specs.declared.operation.LineOp.TheVariants.{SetAddress, SetDiscriminator, Unknown}
 
 -- an operation, and the bytes after it
 abbrev pub Found : Type 0

@@ -4,7 +4,13 @@ use Rattle.rb_bytes.specs.Reading.{bytes_at, number_at, and_then}
 use Rattle.rb_bytes.specs.Leb.{uleb_at}
 use Rattle.table_core.specs.Steps.{with_head}
 use Rattle.dw_unit.specs.Trouble.{Trouble, Unsound, Read, whole}
-use Rattle.range_loc_rewrite.specs.declared.list_entry.TheConstants.{DW_RLE_end_of_list, DW_RLE_base_addressx, DW_RLE_startx_endx, DW_RLE_startx_length, DW_RLE_offset_pair, DW_RLE_base_address, DW_RLE_start_end, DW_RLE_start_length, DW_LLE_base_addressx, DW_LLE_startx_endx, DW_LLE_startx_length, DW_LLE_offset_pair, DW_LLE_default_location, DW_LLE_base_address, DW_LLE_start_end, DW_LLE_start_length}
+use Rattle.range_loc_rewrite.specs.declared.list_entry.TheConstants.{DW_RLE_end_of_list, DW_RLE_base_addressx, DW_RLE_startx_endx}
+use Rattle.range_loc_rewrite.specs.declared.list_entry.TheConstants.{DW_RLE_startx_length, DW_RLE_offset_pair}
+use Rattle.range_loc_rewrite.specs.declared.list_entry.TheConstants.{DW_RLE_base_address, DW_RLE_start_end, DW_RLE_start_length}
+use Rattle.range_loc_rewrite.specs.declared.list_entry.TheConstants.{DW_LLE_base_addressx, DW_LLE_startx_endx}
+use Rattle.range_loc_rewrite.specs.declared.list_entry.TheConstants.{DW_LLE_startx_length, DW_LLE_offset_pair}
+use Rattle.range_loc_rewrite.specs.declared.list_entry.TheConstants.{DW_LLE_default_location, DW_LLE_base_address}
+use Rattle.range_loc_rewrite.specs.declared.list_entry.TheConstants.{DW_LLE_start_end, DW_LLE_start_length}
 
 -- an address, or the index of one in `.debug_addr`
 pub data Address : Type 0 where

@@ -1,5 +1,6 @@
 -- Which expressions are in force at an address. DWARF 5, section 2.6.
-use Rattle.std.specs.Prelude.{◌==◌, ◌&&◌, ℕ, Bool, not, List, [], ◌∷◌, ◌++◌, if◌then◌else◌, drop, take, map, filter, is_some, Ok, Err, flat_map}
+use Rattle.std.specs.Prelude.{◌==◌, ◌&&◌, ℕ, Bool, not, List, [], ◌∷◌, ◌++◌, if◌then◌else◌, drop, take, map, filter, is_some, Ok}
+use Rattle.std.specs.Prelude.{Err, flat_map}
 use Rattle.std.specs.List.{find}
 use Rattle.std.specs.Option.{option_map_or}
 use Rattle.rb_bytes.specs.Reading.{number_at}

@@ -1,5 +1,7 @@
 -- Signed LEB128 numbers: their values, and that the spelling is read back and is the shortest.
-use Rattle.std.proofs.Common.{◌≡◌, ◌≢◌, ◌<◌, ◌≤◌, ◌+◌, ◌-◌, ◌*◌, ◌/◌, ◌%◌, ◌^◌, ℕ, zero, suc, ℤ, pos, negsuc, ◌+ℤ◌, ◌*ℤ◌, ◌-ℤ◌, List, [], ◌∷◌, ◌++◌, Bool, true, false, nat_lt, arith, refl, sym, ◌∙◌, ap, take, drop, length, Ok, inl, inr, length-append, length-take, length-drop, append_assoc}
+use Rattle.std.proofs.Common.{◌≡◌, ◌≢◌, ◌<◌, ◌≤◌, ◌+◌, ◌-◌, ◌*◌, ◌/◌, ◌%◌, ◌^◌, ℕ, zero, suc, ℤ, pos, negsuc, ◌+ℤ◌, ◌*ℤ◌, ◌-ℤ◌}
+use Rattle.std.proofs.Common.{List, [], ◌∷◌, ◌++◌, Bool, true, false, nat_lt, arith, refl, sym, ◌∙◌, ap, take, drop, length, Ok}
+use Rattle.std.proofs.Common.{inl, inr, length-append, length-take, length-drop, append_assoc}
 use lib.Signed.{mag}
 use Rattle.std.proofs.lemmas.Bool.{cases_lt}
 use Rattle.std.proofs.lemmas.Int.{ints, to_z-of_z}
@@ -10,7 +12,8 @@ use Rattle.std.specs.Prelude.{FitsSigned}
 use Rattle.std.specs.Int.{w64}
 use Rattle.rb_bytes.specs.declared.gap.Gap.TheVariants.{Short, Wide}
 use Rattle.rb_bytes.proofs.ReaderAnswers.{ok_from_tests}
-use Rattle.rb_bytes.specs.Leb.{leb_length, signed_bits, sleb_from, sleb_value, sleb_at, low_bits, high_bits, fits_seven_bits, fits_i64, sleb_within, sleb, IsShortestSleb}
+use Rattle.rb_bytes.specs.Leb.{leb_length, signed_bits, sleb_from, sleb_value, sleb_at, low_bits, high_bits, fits_seven_bits}
+use Rattle.rb_bytes.specs.Leb.{fits_i64, sleb_within, sleb, IsShortestSleb}
 
 -- seven bits below a number
 below_neg : (low n : ℕ) → low < 128 → pos low +ℤ pos 128 *ℤ negsuc n ≡ negsuc (128 * n + (127 - low))

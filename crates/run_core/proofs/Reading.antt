@@ -1,5 +1,6 @@
 -- A read that moved some bytes into a buffer, with whatever comes after them.
-use Rattle.std.proofs.Common.{◌≡◌, ◌<◌, ◌≤◌, refl, ℕ, List, [], ◌∷◌, ◌++◌, length, take, drop, Bool, true, false, arith, nat_lt, append-nil, take_all}
+use Rattle.std.proofs.Common.{◌≡◌, ◌<◌, ◌≤◌, refl, ℕ, List, [], ◌∷◌, ◌++◌, length, take, drop, Bool, true, false, arith, nat_lt}
+use Rattle.std.proofs.Common.{append-nil, take_all}
 use Rattle.std.proofs.Math.Seq.{take-append_seam, drop-append_seam}
 use Rattle.std.proofs.lemmas.Bool.{ltb-true, ltb-false}
 use Rattle.run_core.specs.Inputs.{MayCome}

@@ -1,5 +1,6 @@
 -- Steps after steps: what a loop over a machine's steps keeps, and what it comes to.
-use Rattle.std.proofs.Common.{◌≡◌, ◌∙◌, ◌+◌, ◌<◌, ◌≤◌, ℕ, suc, List, [], ◌∷◌, ◌++◌, Bool, false, Option, refl, sym, ap, subst, arith, append_assoc, take}
+use Rattle.std.proofs.Common.{◌≡◌, ◌∙◌, ◌+◌, ◌<◌, ◌≤◌, ℕ, suc, List, [], ◌∷◌, ◌++◌, Bool, false, Option, refl, sym, ap, subst}
+use Rattle.std.proofs.Common.{arith, append_assoc, take}
 use Rattle.std.specs.Prelude.{if◌then◌else◌, ◌==◌}
 use Rattle.std.specs.Io.KnownBytes.{append_known, prepend_known}
 use Rattle.rb_io.proofs.Printing.{append_known-append}
@@ -11,7 +12,8 @@ use Rattle.run_core.specs.Answers as answer
 use Rattle.run_core.specs.Inputs.{Outside, as_told, MayCome, IsRightly}
 use Rattle.run_core.specs.Runs.{RunsSomeInput, steps_done}
 use Rattle.run_core.specs.StepAnswers.{StepAnswers, StepGoes, StepStops, FailsToRead, FailsToWrite, RanOut}
-use Rattle.run_core.proofs.Told.{told, told_is, told_may_come, told_before, as_told-prepend, prepend_known-nil, prepend_known-append, append_known-nil}
+use Rattle.run_core.proofs.Told.{told, told_is, told_may_come, told_before, as_told-prepend, prepend_known-nil}
+use Rattle.run_core.proofs.Told.{prepend_known-append, append_known-nil}
 
 pub output-append : (es fs : List Event) → output (es ++ fs) ≡ output es ++ output fs
 unfolding output

@@ -1,7 +1,9 @@
 // Fields of the two-byte instructions. ISA manual, section 26.2.
 ghost use Rattle.std.specs.Prelude.{◌≡◌, ◌<◌, pos};
 ghost use Rattle.rv_code.specs.isa.Bits.{field, signed};
-ghost use Rattle.rv_code.specs.isa.HalfRows.{rs2, upper_register, lower_register, six_bits, addi4spn_imm, addi16sp_imm, word_offset, double_offset, jump_offset, branch_offset, load_word_sp, load_double_sp, store_word_sp, store_double_sp};
+ghost use Rattle.rv_code.specs.isa.HalfRows.{rs2, upper_register, lower_register, six_bits, addi4spn_imm, addi16sp_imm};
+ghost use Rattle.rv_code.specs.isa.HalfRows.{word_offset, double_offset, jump_offset, branch_offset, load_word_sp};
+ghost use Rattle.rv_code.specs.isa.HalfRows.{load_double_sp, store_word_sp, store_double_sp};
 
 use rv_code::field::{bits, sign};
 

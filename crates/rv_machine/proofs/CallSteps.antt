@@ -1,7 +1,8 @@
 -- System calls that read and write, by the tests that the machine makes.
 use Rattle.std.proofs.Common.{◌≡◌, ℕ, List, [], ◌∷◌, Option, Some, true, false, refl, length, take, drop, append-nil}
 use Rattle.std.specs.Io.KnownBytes.{append_known}
-use Rattle.rv_code.specs.machine.Machine.{Event, events, output, Going, Halts, all_may, memory_bytes, put, set_register, may_read, may_write}
+use Rattle.rv_code.specs.machine.Machine.{Event, events, output, Going, Halts, all_may, memory_bytes, put, set_register, may_read}
+use Rattle.rv_code.specs.machine.Machine.{may_write}
 use Rattle.rv_code.specs.declared.cause.Cause.TheVariants as cause
 use Rattle.rv_code.specs.machine.Step.{ByteState, a0, a1, a2, buffer_size, read_call, write_call}
 use Rattle.run_core.proofs.Told.{append_known-nil}

@@ -2,11 +2,18 @@
 use Rattle.std.proofs.Common.{◌≡◌, ℕ, ◌+◌, ◌*◌, ◌^◌, ◌<◌, Option, Some, None, sym, subst, arith, inl, inr}
 use Rattle.rv_code.specs.isa.Bits.{field}
 use Rattle.rv_code.specs.isa.FullRows.{IsFull}
-use Rattle.rv_code.specs.isa.HalfRows.{Row, expansion, C_ADDI4SPN, C_LW, C_LD, C_SW, C_SD, C_ADDI, C_ADDIW, C_LI, C_ADDI16SP, C_LUI, C_SRLI, C_SRAI, C_ANDI, C_SUB, C_XOR, C_OR, C_AND, C_SUBW, C_ADDW, C_J, C_BEQZ, C_BNEZ, C_SLLI, C_LWSP, C_LDSP, C_JR, C_MV, C_EBREAK, C_JALR, C_ADD, C_SWSP, C_SDSP}
+use Rattle.rv_code.specs.isa.HalfRows.{Row, expansion, C_ADDI4SPN, C_LW, C_LD, C_SW, C_SD, C_ADDI, C_ADDIW, C_LI, C_ADDI16SP}
+use Rattle.rv_code.specs.isa.HalfRows.{C_LUI, C_SRLI, C_SRAI, C_ANDI, C_SUB, C_XOR, C_OR, C_AND, C_SUBW, C_ADDW, C_J, C_BEQZ}
+use Rattle.rv_code.specs.isa.HalfRows.{C_BNEZ, C_SLLI, C_LWSP, C_LDSP, C_JR, C_MV, C_EBREAK, C_JALR, C_ADD, C_SWSP, C_SDSP}
 use Rattle.rv_code.specs.isa.Decoding.{Decodes}
 use Rattle.rv_code.specs.isa.Action.{action_of}
 use Rattle.rv_code.specs.declared.inst.Inst.{Inst}
-use Rattle.rv_code.specs.declared.inst.Inst.TheVariants.{Lui, Auipc, Jal, Jalr, Lb, Lh, Lw, Ld, Lbu, Lhu, Lwu, Addi, Slti, Sltiu, Xori, Ori, Andi, Slli, Srli, Srai, Add, Sub, Sll, Slt, Sltu, Xor, Srl, Sra, Or, And, Addiw, Slliw, Srliw, Sraiw, Addw, Subw, Sllw, Srlw, Sraw, Mul, Mulh, Mulhsu, Mulhu, Div, Divu, Rem, Remu, Mulw, Divw, Divuw, Remw, Remuw, Sb, Sh, Sw, Sd, Beq, Bne, Blt, Bge, Bltu, Bgeu, Fence, Ecall, Ebreak}
+use Rattle.rv_code.specs.declared.inst.Inst.TheVariants.{Lui, Auipc, Jal, Jalr, Lb, Lh, Lw, Ld, Lbu, Lhu, Lwu, Addi, Slti, Sltiu}
+use Rattle.rv_code.specs.declared.inst.Inst.TheVariants.{Xori, Ori, Andi, Slli, Srli, Srai, Add, Sub, Sll, Slt, Sltu, Xor, Srl}
+use Rattle.rv_code.specs.declared.inst.Inst.TheVariants.{Sra, Or, And, Addiw, Slliw, Srliw, Sraiw, Addw, Subw, Sllw, Srlw, Sraw}
+use Rattle.rv_code.specs.declared.inst.Inst.TheVariants.{Mul, Mulh, Mulhsu, Mulhu, Div, Divu, Rem, Remu, Mulw, Divw, Divuw, Remw}
+use Rattle.rv_code.specs.declared.inst.Inst.TheVariants.{Remuw, Sb, Sh, Sw, Sd, Beq, Bne, Blt, Bge, Bltu, Bgeu, Fence, Ecall}
+use Rattle.rv_code.specs.declared.inst.Inst.TheVariants.{Ebreak}
 use Rattle.rv_machine.specs.State.{HasRegisters}
 
 register : (word rd : ℕ) → field word 7 5 ≡ rd → rd < 32

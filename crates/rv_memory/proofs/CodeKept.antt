@@ -1,13 +1,16 @@
 -- Code that no program may write keeps its bytes.
-use Rattle.std.proofs.Common.{◌≡◌, ◌∙◌, sym, ap, refl, ℕ, zero, suc, ◌+◌, ◌-◌, ◌*◌, ◌/◌, ◌%◌, ◌^◌, ◌<◌, ◌≤◌, Bool, true, false, List, length, Option, Some, None, arith}
-use Rattle.std.specs.Prelude.{◌&&◌, ◌||◌, ◌==◌, nat_le, nat_lt, if◌then◌else◌, unwrap_or, slice_index, max, fold, min, Result, Ok, Err, IsOk, OnErr}
+use Rattle.std.proofs.Common.{◌≡◌, ◌∙◌, sym, ap, refl, ℕ, zero, suc, ◌+◌, ◌-◌, ◌*◌, ◌/◌, ◌%◌, ◌^◌, ◌<◌, ◌≤◌, Bool, true, false}
+use Rattle.std.proofs.Common.{List, length, Option, Some, None, arith}
+use Rattle.std.specs.Prelude.{◌&&◌, ◌||◌, ◌==◌, nat_le, nat_lt, if◌then◌else◌, unwrap_or, slice_index, max, fold, min, Result, Ok}
+use Rattle.std.specs.Prelude.{Err, IsOk, OnErr}
 use Rattle.std.specs.Option.{option_map}
 use Rattle.std.proofs.lemmas.Bool.{and_parts, and_from, leb-true, ltb-true, le-leb, lt-ltb, false_from_ne_true, eqb-true}
 use Rattle.rv_code.specs.machine.Machine.{plus, all_may}
 use Rattle.elf_image.specs.declared.segment.Segment.{Segment}
 use Rattle.elf_image.specs.declared.segment.TheConstants.{PF_W}
 use Rattle.elf_image.specs.memory.Image.{image_byte, is_loaded_with}
-use Rattle.elf_image.specs.memory.Start.{in_stack, stack_end, stack_size, writable_end, break_start, break_bound, break_room, pages_above}
+use Rattle.elf_image.specs.memory.Start.{in_stack, stack_end, stack_size, writable_end, break_start, break_bound, break_room}
+use Rattle.elf_image.specs.memory.Start.{pages_above}
 use Rattle.rv_memory.specs.declared.memory.Memory.{Memory}
 use Rattle.rv_memory.specs.CodeRange.{holds}
 use Rattle.rv_memory.specs.Memory.{memory_of, is_zero_filled, unwritten_byte, writes, executes, Keeps}

@@ -1,5 +1,6 @@
 -- How long the parts of a start stack are, and the low bytes of its words.
-use Rattle.std.proofs.Common.{◌≡◌, ◌∙◌, ◌+◌, ◌-◌, ◌*◌, ◌/◌, ◌%◌, ◌^◌, ◌<◌, ◌≤◌, ℕ, zero, suc, List, [], ◌∷◌, ◌++◌, refl, sym, ap, arith, length, take, take_all, length-append, append_assoc}
+use Rattle.std.proofs.Common.{◌≡◌, ◌∙◌, ◌+◌, ◌-◌, ◌*◌, ◌/◌, ◌%◌, ◌^◌, ◌<◌, ◌≤◌, ℕ, zero, suc, List, [], ◌∷◌, ◌++◌, refl, sym, ap}
+use Rattle.std.proofs.Common.{arith, length, take, take_all, length-append, append_assoc}
 use Rattle.std.proofs.lemmas.List.{length-replicate}
 use Rattle.std.proofs.lemmas.List.Sums.{sum_by-cons}
 use Rattle.std.proofs.Math.Nat.{one-le-pow, pow-suc}
@@ -10,7 +11,9 @@ use Rattle.std.specs.Prelude.{flat_map, sum_by, codes, replicate}
 use Rattle.rv_code.specs.machine.Machine.{low_bytes}
 use Rattle.elf_image.specs.declared.segment.TheConstants.{PHDR_SIZE}
 use Rattle.elf_image.specs.file.Header.{e_entry, e_phnum}
-use Rattle.elf_image.specs.memory.Start.{page_size, random_address, random_bytes, rounded_down, stack_end, stack_size, stack_pointer, stack_bytes, program_arguments, texts, texts_address, text_addresses, table_address, auxiliary_vector, start_bytes}
+use Rattle.elf_image.specs.memory.Start.{page_size, random_address, random_bytes, rounded_down, stack_end, stack_size}
+use Rattle.elf_image.specs.memory.Start.{stack_pointer, stack_bytes, program_arguments, texts, texts_address, text_addresses}
+use Rattle.elf_image.specs.memory.Start.{table_address, auxiliary_vector, start_bytes}
 use Rattle.rv_memory.specs.Vector.{vector}
 use Rattle.rv_memory.specs.Limits.{IsWithinLimits}
 

@@ -1,5 +1,6 @@
 -- Relocations for the parts of absolute addresses.
-use Rattle.std.proofs.Common.{is_some, IsSome, ◌≡◌, ◌≢◌, sym, subst, ap, refl, ℕ, ℤ, pos, inl, inr, ⊎_elim, ◌↔◌, Bool, true, false, not, ◌||◌, ◌==◌, IsTrue, arith, Option, Some}
+use Rattle.std.proofs.Common.{is_some, IsSome, ◌≡◌, ◌≢◌, sym, subst, ap, refl, ℕ, ℤ, pos, inl, inr, ⊎_elim, ◌↔◌, Bool, true}
+use Rattle.std.proofs.Common.{false, not, ◌||◌, ◌==◌, IsTrue, arith, Option, Some}
 use Rattle.std.proofs.lemmas.Bool.{or_cases, eqb-true}
 use Rattle.rv_code.specs.isa.HiLo.{hi20, lo12}
 use Rattle.rv_code.specs.declared.inst.Inst.{Inst}

@@ -1,5 +1,6 @@
 -- Calls, by their two instructions and by a relocation.
-use Rattle.std.proofs.Common.{◌≡◌, ◌≢◌, ◌∙◌, sym, subst, ap, refl, ℕ, ◌+◌, ◌-◌, ◌<◌, ◌≤◌, inl, inr, ⊎_elim, ◌↔◌, Bool, true, false, not, IsTrue, List, slice_index_or, Option, Some, None, IfSome, arith}
+use Rattle.std.proofs.Common.{◌≡◌, ◌≢◌, ◌∙◌, sym, subst, ap, refl, ℕ, ◌+◌, ◌-◌, ◌<◌, ◌≤◌, inl, inr, ⊎_elim, ◌↔◌, Bool, true}
+use Rattle.std.proofs.Common.{false, not, IsTrue, List, slice_index_or, Option, Some, None, IfSome, arith}
 use Rattle.std.specs.List.{Contains}
 use Rattle.std.proofs.lemmas.Bool.{cases_eq, cases_lt}
 use Rattle.std.proofs.lemmas.List.{get_or_default}

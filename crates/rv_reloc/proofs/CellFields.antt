@@ -1,5 +1,6 @@
 -- The fields that can be cells, as they are found and sorted.
-use Rattle.std.proofs.Common.{◌≡◌, ◌≢◌, ◌∙◌, sym, ap, subst, refl, ℕ, ◌/◌, ◌<◌, ℤ, pos, ◌<ℤ◌, ◌≤ℤ◌, ◌⊎◌, inl, inr, ⊎_elim, true, List, ◌++◌, Some, slice_index_or, arith}
+use Rattle.std.proofs.Common.{◌≡◌, ◌≢◌, ◌∙◌, sym, ap, subst, refl, ℕ, ◌/◌, ◌<◌, ℤ, pos, ◌<ℤ◌, ◌≤ℤ◌, ◌⊎◌, inl, inr, ⊎_elim, true}
+use Rattle.std.proofs.Common.{List, ◌++◌, Some, slice_index_or, arith}
 use Rattle.std.specs.List.{Contains, AllPairs}
 use Rattle.std.specs.List.Sorted.{IsPermutation}
 use Rattle.std.proofs.lemmas.Bool.{cases_eq, eq-eqb, ne_eqb}
@@ -9,7 +10,8 @@ use Rattle.std.proofs.lemmas.List.Elements.{Contains-append_left, Contains-appen
 use Rattle.std.proofs.lemmas.List.Sorted.{Contains-permutation, IsPermutation-sym}
 use Rattle.elf_image.specs.declared.elf.Elf.{Elf}
 use Rattle.elf_image.specs.declared.relocation.TheConstants.{R_RISCV_32, R_RISCV_GOT_HI20}
-use Rattle.elf_image.specs.code.Cells.{Field, Content, Address, Difference, CanBeCell, IsField, pointer, slot, difference, IsContentBefore, address_width}
+use Rattle.elf_image.specs.code.Cells.{Field, Content, Address, Difference, CanBeCell, IsField, pointer, slot, difference}
+use Rattle.elf_image.specs.code.Cells.{IsContentBefore, address_width}
 use Rattle.elf_image.specs.memory.LoadedBytes.{loaded_number}
 use Rattle.elf_image.specs.code.Relocations.{Relocation, Bits, is_pcrel_hi}
 use Rattle.elf_image.specs.code.Roles.{IsFullAt, pair_target, PcrelHiTo, PcrelLo}

@@ -1,5 +1,6 @@
 -- Cells of the fields that count, and labels that are no addresses.
-use Rattle.std.proofs.Common.{◌≡◌, ◌∙◌, sym, ap, subst, refl, ℕ, ◌+◌, ◌<◌, ℤ, pos, negsuc, ◌⊎◌, inl, inr, ⊎_elim, true, List, map, Option, None, length, slice_index_or, arith}
+use Rattle.std.proofs.Common.{◌≡◌, ◌∙◌, sym, ap, subst, refl, ℕ, ◌+◌, ◌<◌, ℤ, pos, negsuc, ◌⊎◌, inl, inr, ⊎_elim, true, List, map}
+use Rattle.std.proofs.Common.{Option, None, length, slice_index_or, arith}
 use Rattle.std.specs.Int.RustNames.{unsigned_abs}
 use Rattle.std.specs.List.{Contains, All}
 use Rattle.std.proofs.lemmas.Int.{ints, by_lt_z}

@@ -1,5 +1,6 @@
 -- What the class of a type says of it.
-use Rattle.std.proofs.Common.{◌≡◌, ◌≢◌, ◌∙◌, sym, ap, refl, ℕ, ◌+◌, ◌⊎◌, inl, inr, ⊎_elim, ◌↔◌, Bool, true, false, ◌==◌, ◌||◌, IsTrue, Option, Some, None, arith, eq-eqb}
+use Rattle.std.proofs.Common.{◌≡◌, ◌≢◌, ◌∙◌, sym, ap, refl, ℕ, ◌+◌, ◌⊎◌, inl, inr, ⊎_elim, ◌↔◌, Bool, true, false, ◌==◌, ◌||◌}
+use Rattle.std.proofs.Common.{IsTrue, Option, Some, None, arith, eq-eqb}
 use Rattle.std.proofs.lemmas.Bool.{cases_eq, or_cases, eqb-true, ne_eqb}
 use Rattle.elf_image.specs.code.Cells.{same_width}
 use Rattle.elf_image.specs.code.Relocations.{Width, Bits, Uleb128, plus_width, minus_width, is_call_pair, is_pcrel_hi}

@@ -1,5 +1,6 @@
 -- Labels that are code addresses.
-use Rattle.std.proofs.Common.{◌≡◌, ◌∙◌, sym, ap, subst, refl, ℕ, ℤ, pos, negsuc, ◌≤ℤ◌, ◌⊎◌, inl, inr, ◌↔◌, Bool, true, false, IsTrue, List, slice_index_or, Fits, w64, arith}
+use Rattle.std.proofs.Common.{◌≡◌, ◌∙◌, sym, ap, subst, refl, ℕ, ℤ, pos, negsuc, ◌≤ℤ◌, ◌⊎◌, inl, inr, ◌↔◌, Bool, true, false}
+use Rattle.std.proofs.Common.{IsTrue, List, slice_index_or, Fits, w64, arith}
 use Rattle.std.specs.Int.{FitsUnsigned}
 use Rattle.std.specs.Int.RustNames.{unsigned_abs}
 use Rattle.std.specs.List.{Contains}

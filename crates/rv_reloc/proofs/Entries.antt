@@ -1,5 +1,6 @@
 -- The relocations of a table, one after another.
-use Rattle.std.proofs.Common.{◌≡◌, ◌∙◌, ap, refl, ℕ, zero, suc, ◌+◌, ◌-◌, ◌*◌, ◌<◌, List, [], ◌∷◌, ◌++◌, map, append_assoc, arith, None, length, ◌≤◌, slice_get, eq-eqb, Bool, true, false, if◌then◌else◌, ◌/◌}
+use Rattle.std.proofs.Common.{◌≡◌, ◌∙◌, ap, refl, ℕ, zero, suc, ◌+◌, ◌-◌, ◌*◌, ◌<◌, List, [], ◌∷◌, ◌++◌, map, append_assoc, arith}
+use Rattle.std.proofs.Common.{None, length, ◌≤◌, slice_get, eq-eqb, Bool, true, false, if◌then◌else◌, ◌/◌}
 use Rattle.std.proofs.lemmas.List.{map-append}
 use Rattle.elf_image.specs.declared.elf.Section.{Section}
 use Rattle.elf_image.specs.declared.relocation.TheConstants.{RELA_SIZE, SHT_RELA}

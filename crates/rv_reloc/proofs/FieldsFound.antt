@@ -1,5 +1,6 @@
 -- Fields that can be cells, as the calls that look for them find them.
-use Rattle.std.proofs.Common.{◌≡◌, ◌≢◌, ◌∙◌, sym, ap, subst, refl, ℕ, ◌/◌, ℤ, ◌⊎◌, ⊎_elim, ◌↔◌, Bool, true, false, not, ◌||◌, IsTrue, IfSome, List, Option, Some, None, arith}
+use Rattle.std.proofs.Common.{◌≡◌, ◌≢◌, ◌∙◌, sym, ap, subst, refl, ℕ, ◌/◌, ℤ, ◌⊎◌, ⊎_elim, ◌↔◌, Bool, true, false, not, ◌||◌}
+use Rattle.std.proofs.Common.{IsTrue, IfSome, List, Option, Some, None, arith}
 use Rattle.std.proofs.lemmas.Bool.{cases_eq, ne_eqb}
 use Rattle.elf_image.specs.declared.elf.Elf.{Elf}
 use Rattle.elf_image.specs.declared.relocation.TheConstants.{R_RISCV_32, R_RISCV_64}
@@ -11,7 +12,8 @@ use Rattle.elf_image.specs.memory.LoadedBytes.{loaded_number}
 use Rattle.rv_reloc.specs.declared.differences.Difference.{Difference}
 use Rattle.rv_reloc.specs.declared.labels.Width.{Width}
 use Rattle.rv_reloc.specs.declared.labels.Width.TheVariants.{Bits6, Bits8, Bits16, Bits32, Bits64, Uleb128}
-use Rattle.rv_reloc.specs.Candidates.{AreFree, cell_bytes, IsCellField, IsCodeField, IsDifferenceField, IsFieldOf, pointer, difference}
+use Rattle.rv_reloc.specs.Candidates.{AreFree, cell_bytes, IsCellField, IsCodeField, IsDifferenceField, IsFieldOf, pointer}
+use Rattle.rv_reloc.specs.Candidates.{difference}
 use Rattle.rv_reloc.specs.Differences.{IsDifferenceOf, IsTheDifference}
 use Rattle.rv_reloc.specs.Labels.{width_of}
 use Rattle.rv_reloc.specs.GotFields.{IsNamedField, NamesEntry}

@@ -1,5 +1,7 @@
 -- Numbers in LEB128 in memory, from one of their bytes on.
-use Rattle.std.proofs.Common.{◌≡◌, ◌≢◌, ◌∙◌, sym, ap, subst, refl, ℕ, zero, suc, ◌+◌, ◌*◌, ◌/◌, ◌%◌, ◌^◌, ◌<◌, ◌≤◌, ℤ, pos, negsuc, ◌⊎◌, ⊎_elim, ◌↔◌, Bool, true, false, IsTrue, IsSome, IsSomeAnd, List, [], ◌∷◌, length, Option, Some, None, if◌then◌else◌, arith}
+use Rattle.std.proofs.Common.{◌≡◌, ◌≢◌, ◌∙◌, sym, ap, subst, refl, ℕ, zero, suc, ◌+◌, ◌*◌, ◌/◌, ◌%◌, ◌^◌, ◌<◌, ◌≤◌, ℤ, pos}
+use Rattle.std.proofs.Common.{negsuc, ◌⊎◌, ⊎_elim, ◌↔◌, Bool, true, false, IsTrue, IsSome, IsSomeAnd, List, [], ◌∷◌, length}
+use Rattle.std.proofs.Common.{Option, Some, None, if◌then◌else◌, arith}
 use Rattle.std.specs.Option.{option_map}
 use Rattle.std.proofs.lemmas.Bool.{lt-ltb, le-ltb}
 use Rattle.std.proofs.Math.Nat.{pow-suc}

@@ -1,5 +1,6 @@
 -- That a list has exactly one item that passes a test, in another order and of what items stand for.
-use Rattle.std.proofs.Common.{◌≡◌, ◌∙◌, sym, subst, refl, ◌+◌, Bool, true, cond, Option, Some, None, IfSome, IsSomeAnd, List, [], ◌∷◌, map, arith}
+use Rattle.std.proofs.Common.{◌≡◌, ◌∙◌, sym, subst, refl, ◌+◌, Bool, true, cond, Option, Some, None, IfSome, IsSomeAnd, List, []}
+use Rattle.std.proofs.Common.{◌∷◌, map, arith}
 use Rattle.std.specs.List.{count_by}
 use Rattle.std.specs.List.Sorted.{IsPermutation}
 use Rattle.std.proofs.lemmas.List.Sorted.{Contains-permutation, sum_by-IsPermutation}

@@ -1,5 +1,6 @@
 -- The lowest place of what is bad in a list, one item after another.
-use Rattle.std.proofs.Common.{◌≡◌, ◌∙◌, sym, subst, refl, ℕ, ◌+◌, ◌<◌, ◌⊎◌, inl, inr, ⊎_elim, Bool, Option, Some, None, List, [], ◌∷◌, ◌++◌, take, length, slice_index_or, IsTrue, if◌then◌else◌, ◌↔◌, arith}
+use Rattle.std.proofs.Common.{◌≡◌, ◌∙◌, sym, subst, refl, ℕ, ◌+◌, ◌<◌, ◌⊎◌, inl, inr, ⊎_elim, Bool, Option, Some, None, List, []}
+use Rattle.std.proofs.Common.{◌∷◌, ◌++◌, take, length, slice_index_or, IsTrue, if◌then◌else◌, ◌↔◌, arith}
 use Rattle.std.proofs.lemmas.List.{take_more, take_all}
 use Rattle.std.proofs.lemmas.List.Elements.{Contains-append_left, Contains-push, Contains-push_cases}
 use Rattle.elf_image.specs.faults.LowestPlace.{IsLowest, lower}

@@ -1,7 +1,8 @@
 -- The order of the faults of references, and what their absence says.
 use Rattle.std.proofs.Common.{◌≡◌, sym, subst, refl, ℕ, inl, inr, List, map, arith}
 use Rattle.std.specs.List.{Contains, All}
-use Rattle.rb_bytes.specs.declared.fault.FaultKind.TheVariants.{RelocType, RelocMismatch, LoMismatch, NarrowDiff, IfuncOrPlt, AlreadyMoved}
+use Rattle.rb_bytes.specs.declared.fault.FaultKind.TheVariants.{RelocType, RelocMismatch, LoMismatch, NarrowDiff, IfuncOrPlt}
+use Rattle.rb_bytes.specs.declared.fault.FaultKind.TheVariants.{AlreadyMoved}
 use Rattle.elf_image.specs.declared.elf.Elf.{Elf}
 use Rattle.elf_image.specs.code.Relocations.{Relocation, relocations}
 use Rattle.elf_image.specs.faults.FirstFault.{LacksBelow, IsFree}

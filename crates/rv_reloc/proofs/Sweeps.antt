@@ -1,5 +1,6 @@
 -- The sweep over the fields that can be cells.
-use Rattle.std.proofs.Common.{◌≡◌, ◌∙◌, sym, subst, ap, refl, ℕ, ◌+◌, ◌<◌, ◌≤◌, ◌⊎◌, inl, inr, ⊎_elim, Bool, true, false, not, List, [], ◌∷◌, ◌++◌, length, slice_index_or, arith}
+use Rattle.std.proofs.Common.{◌≡◌, ◌∙◌, sym, subst, ap, refl, ℕ, ◌+◌, ◌<◌, ◌≤◌, ◌⊎◌, inl, inr, ⊎_elim, Bool, true, false, not}
+use Rattle.std.proofs.Common.{List, [], ◌∷◌, ◌++◌, length, slice_index_or, arith}
 use Rattle.std.proofs.lemmas.Int.{ints}
 use Rattle.std.proofs.lemmas.List.{get_or_default}
 use Rattle.std.specs.List.{Contains, AllPairs}
@@ -7,7 +8,8 @@ use Rattle.std.proofs.lemmas.Bool.{cases_lt}
 use Rattle.std.proofs.lemmas.List.Elements.{Contains-append_left, Contains-push, Contains-push_cases}
 use Rattle.std.proofs.lemmas.List.Quantifiers.{all_pairs_push}
 use Rattle.elf_image.specs.declared.elf.Elf.{Elf}
-use Rattle.elf_image.specs.code.Cells.{Field, Content, Address, Difference, CanBeCell, Counts, counts, gives_way, IsContentBefore, IsFieldBefore}
+use Rattle.elf_image.specs.code.Cells.{Field, Content, Address, Difference, CanBeCell, Counts, counts, gives_way, IsContentBefore}
+use Rattle.elf_image.specs.code.Cells.{IsFieldBefore}
 use Rattle.rv_reloc.specs.Sweep.{IsFieldUpTo, AreCandidates, AreCounted}
 
 -- The order is strict.

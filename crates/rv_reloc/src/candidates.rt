@@ -1,5 +1,6 @@
 // The fields that can be cells.
-ghost use Rattle.std.specs.Prelude.{◌≡◌, ◌↔◌, ℕ, ℤ, ◌+◌, ◌<◌, ◌≤◌, ◌++◌, ◌^◌, IsTrue, IsSomeAnd, IfSome, IfOk, OnOk, OnSome, All, List, Contains, Some, map, option_map};
+ghost use Rattle.std.specs.Prelude.{◌≡◌, ◌↔◌, ℕ, ℤ, ◌+◌, ◌<◌, ◌≤◌, ◌++◌, ◌^◌, IsTrue, IsSomeAnd, IfSome, IfOk, OnOk, OnSome, All};
+ghost use Rattle.std.specs.Prelude.{List, Contains, Some, map, option_map};
 ghost use Rattle.elf_image.specs.code.Cells.{Field, address_width};
 ghost use Rattle.elf_image.specs.code.FileCode.{AreStarts};
 ghost use Rattle.elf_image.specs.memory.LoadedBytes.{file_offset, offset_in, IsInHeaders};

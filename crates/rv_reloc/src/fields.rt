@@ -1,7 +1,9 @@
 // The fields to which relocations apply: whether they lie in their sections, and whether they hold differences.
-ghost use Rattle.std.specs.Prelude.{◌≡◌, ◌↔◌, ◌≤◌, ◌<◌, ◌+◌, ◌%◌, ◌^◌, ℤ, pos, ◌-ℤ◌, IsTrue, IfOk, All, List, ℕ, Some, length, option_map};
+ghost use Rattle.std.specs.Prelude.{◌≡◌, ◌↔◌, ◌≤◌, ◌<◌, ◌+◌, ◌%◌, ◌^◌, ℤ, pos, ◌-ℤ◌, IsTrue, IfOk, All, List, ℕ, Some, length};
+ghost use Rattle.std.specs.Prelude.{option_map};
 ghost use Rattle.std.specs.Int.{int_rem_euclid};
-ghost use Rattle.elf_image.specs.code.Fields.{leb_field, width_size, fixed_size, field_size, HasField, bytes_of_bits, HoldsDifference};
+ghost use Rattle.elf_image.specs.code.Fields.{leb_field, width_size, fixed_size, field_size, HasField, bytes_of_bits};
+ghost use Rattle.elf_image.specs.code.Fields.{HoldsDifference};
 ghost use Rattle.elf_image.specs.memory.LoadedBytes.{loaded_number};
 ghost use Rattle.elf_image.specs.code.Relocations.{Uleb128};
 ghost use Rattle.rv_reloc.specs.Labels.{width_of, IsLabelSize};

@@ -124,10 +124,10 @@ fn begins_from(records: &[Record], index: usize, place: u64, at: u64) -> bool
     !is_before(&records[index], place, at)
 }
 
-fn is_before(record: &Record, place: u64, at: u64) -> bool
-    ensures { IsTrue result ↔ IsBelow place at record.now }
+fn is_before(found: &Record, place: u64, at: u64) -> bool
+    ensures { IsTrue result ↔ IsBelow place at found.now }
 {
-    record.place < place || (record.place == place && class(record.kind) < at)
+    found.place < place || (found.place == place && class(found.kind) < at)
 }
 
 // Whether the one of an index has a place and a class.

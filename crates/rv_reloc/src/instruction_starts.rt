@@ -1,5 +1,6 @@
 // The starts of instructions.
-ghost use Rattle.std.specs.Prelude.{◌≡◌, ◌<◌, ◌≤◌, ◌+◌, ◌-◌, ◌/◌, ◌++◌, ◌↔◌, ℕ, IfOk, OnOk, length, slice_index_or, Contains, AllPairs};
+ghost use Rattle.std.specs.Prelude.{◌≡◌, ◌<◌, ◌≤◌, ◌+◌, ◌-◌, ◌/◌, ◌++◌, ◌↔◌, ℕ, IfOk, OnOk, length, slice_index_or, Contains};
+ghost use Rattle.std.specs.Prelude.{AllPairs};
 ghost use Rattle.elf_image.specs.declared.elf.Elf.{Elf};
 ghost use Rattle.elf_image.specs.code.FileCode.{AreStarts};
 ghost use Rattle.rv_reloc.specs.Halves.{AreHalvesOf, AreMarksOf};

@@ -1,9 +1,11 @@
 -- System calls that read and write, by what the machine found.
-use Rattle.std.proofs.Common.{◌≡◌, ◌∙◌, ap, sym, refl, ℕ, List, Option, Some, None, Bool, true, false, length, take, drop, append-nil}
+use Rattle.std.proofs.Common.{◌≡◌, ◌∙◌, ap, sym, refl, ℕ, List, Option, Some, None, Bool, true, false, length, take, drop}
+use Rattle.std.proofs.Common.{append-nil}
 use Rattle.std.specs.Prelude.{◌&&◌, nat_le, nat_lt, if◌then◌else◌, map, min}
 use Rattle.std.specs.List.{list_any}
 use Rattle.std.specs.Io.KnownBytes.{append_known}
-use Rattle.rv_code.specs.machine.Machine.{Call, events, output, Going, Halts, all_may, put, set_register, may_read, may_write, with_break, most_moved, call_of}
+use Rattle.rv_code.specs.machine.Machine.{Call, events, output, Going, Halts, all_may, put, set_register, may_read, may_write}
+use Rattle.rv_code.specs.machine.Machine.{with_break, most_moved, call_of}
 use Rattle.rv_code.specs.machine.Step.{a0, a1, a2, a7}
 use Rattle.run_core.specs.States.{Same}
 use Rattle.run_core.proofs.Told.{append_known-nil}
@@ -13,7 +15,8 @@ use Rattle.sym_machine.specs.declared.value.Value.TheVariants.{Num}
 use Rattle.sym_machine.specs.declared.value.MemoryByte.{MemoryByte}
 use Rattle.sym_machine.specs.declared.value.MemoryByte.TheVariants.{Byte}
 use Rattle.sym_machine.specs.Values.{number, numbers, is_hidden}
-use Rattle.sym_machine.specs.SymStep.{SymState, SymOutcome, moved, reads_input, writes_output, argument, three_arguments, calls, needs}
+use Rattle.sym_machine.specs.SymStep.{SymState, SymOutcome, moved, reads_input, writes_output, argument, three_arguments, calls}
+use Rattle.sym_machine.specs.SymStep.{needs}
 use Rattle.sym_machine.specs.internal.Calls.{buffer_of, buffer_in}
 
 -- The arguments.

@@ -1,9 +1,11 @@
 -- The bytes of groups, before and after a write.
-use Rattle.std.proofs.Common.{◌≡◌, ◌∙◌, sym, ap, refl, ℕ, ◌+◌, ◌*◌, ◌/◌, ◌%◌, ◌≤◌, ◌<◌, Bool, true, false, List, [], ◌∷◌, ◌++◌, length, get_or, Option, Some, None, arith, inl, inr, length-append}
+use Rattle.std.proofs.Common.{◌≡◌, ◌∙◌, sym, ap, refl, ℕ, ◌+◌, ◌*◌, ◌/◌, ◌%◌, ◌≤◌, ◌<◌, Bool, true, false, List, [], ◌∷◌, ◌++◌}
+use Rattle.std.proofs.Common.{length, get_or, Option, Some, None, arith, inl, inr, length-append}
 use Rattle.std.specs.Prelude.{◌&&◌, ◌==◌, nat_le, nat_lt, if◌then◌else◌, slice_set}
 use Rattle.std.specs.Option.{option_and_then, is_some}
 use Rattle.std.proofs.lemmas.List.{get_or_append_left, get_or-append_right, get_or-set_same, get_or-set_other}
-use Rattle.std.proofs.lemmas.Bool.{eqb-true, eqb-false, eq-eqb, le-leb, lt-ltb, leb-true, ltb-true, false_from_ne_true, and_parts, cases_lt}
+use Rattle.std.proofs.lemmas.Bool.{eqb-true, eqb-false, eq-eqb, le-leb, lt-ltb, leb-true, ltb-true, false_from_ne_true, and_parts}
+use Rattle.std.proofs.lemmas.Bool.{cases_lt}
 use Rattle.rv_memory.specs.PageIndex.{place_of}
 use Rattle.rv_memory.specs.declared.page_index.PageIndex.{PageIndex}
 use Rattle.sym_machine.specs.declared.other_bytes.OtherByte.{OtherByte}

@@ -1,5 +1,6 @@
 -- The state at the start: low segments, registers, and cells over bytes.
-use Rattle.std.proofs.Common.{◌≡◌, ◌∙◌, sym, subst, refl, ℕ, zero, suc, ◌+◌, ◌-◌, ◌^◌, ◌<◌, ◌≤◌, ◌&&◌, nat_le, nat_lt, true, false, IsTrue, List, ◌∷◌, Option, Some, None, arith, ⊎_elim}
+use Rattle.std.proofs.Common.{◌≡◌, ◌∙◌, sym, subst, refl, ℕ, zero, suc, ◌+◌, ◌-◌, ◌^◌, ◌<◌, ◌≤◌, ◌&&◌, nat_le, nat_lt, true}
+use Rattle.std.proofs.Common.{false, IsTrue, List, ◌∷◌, Option, Some, None, arith, ⊎_elim}
 use Rattle.std.specs.Prelude.{Contains, replicate, if◌then◌else◌, ◌==◌, unwrap_or, option_map, slice_index_or}
 use Rattle.std.proofs.lemmas.Bool.{and_parts, and_from, ltb-true, le-leb, lt-ltb, cases_lt, eqb-true, false_from_ne_true}
 use Rattle.rb_bytes.specs.declared.fault.FaultKind.TheVariants.{HighAddress}

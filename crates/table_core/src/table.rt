@@ -1,5 +1,6 @@
 // Tables of answers by address.
-ghost use Rattle.std.specs.Prelude.{◌≡◌, ◌≤◌, ◌-◌, ◌^◌, ℕ, List, Option, Some, IfOk, IsTrue, ◌↔◌, MatchResult, option_map, min, length};
+ghost use Rattle.std.specs.Prelude.{◌≡◌, ◌≤◌, ◌-◌, ◌^◌, ℕ, List, Option, Some, IfOk, IsTrue, ◌↔◌, MatchResult, option_map, min};
+ghost use Rattle.std.specs.Prelude.{length};
 ghost use Rattle.rb_bytes.specs.declared.fault.FaultKind.{FaultKind};
 ghost use Rattle.elf_image.specs.declared.elf.Elf.{Elf};
 ghost use Rattle.elf_image.specs.faults.FirstFault.{IsFree, IsRefusalBy};

@@ -1,6 +1,7 @@
 -- The roles of accepted code: each fits its instruction, a pair's two instructions have one target, and targets that
 -- aren't code lie low. References without a fault say so.
-use Rattle.std.proofs.Common.{◌≡◌, ◌≢◌, ℕ, ◌+◌, ◌*◌, ◌^◌, ◌<◌, ◌≤◌, List, Option, Some, None, Bool, true, false, refl, sym, ap, ◌∙◌, subst, arith, inl, inr, ◌⊎◌, ℤ, pos}
+use Rattle.std.proofs.Common.{◌≡◌, ◌≢◌, ℕ, ◌+◌, ◌*◌, ◌^◌, ◌<◌, ◌≤◌, List, Option, Some, None, Bool, true, false, refl, sym, ap}
+use Rattle.std.proofs.Common.{◌∙◌, subst, arith, inl, inr, ◌⊎◌, ℤ, pos}
 use Rattle.std.specs.Prelude.{◌==◌, ◌||◌, IsTrue, IsSome}
 use Rattle.std.specs.List.{Contains, Any}
 use Rattle.std.proofs.lemmas.Int.{ints}
@@ -14,7 +15,8 @@ use Rattle.rv_code.specs.declared.cell.CellKind.TheVariants as kind
 use Rattle.rv_code.specs.declared.placed.Placed.{Placed}
 use Rattle.rv_code.specs.declared.placed.Role.{Role}
 use Rattle.rv_code.specs.declared.placed.Role.TheVariants as role
-use Rattle.rv_code.specs.layout.ProgramCode.{ProgramCode, is_code_address, IsNamed, by_role, by_cell, RoleNames, CellNames, KindNames}
+use Rattle.rv_code.specs.layout.ProgramCode.{ProgramCode, is_code_address, IsNamed, by_role, by_cell, RoleNames, CellNames}
+use Rattle.rv_code.specs.layout.ProgramCode.{KindNames}
 use Rattle.rv_code.specs.layout.Flow.{insts_of, placed_at}
 use Rattle.rb_bytes.specs.declared.fault.FaultKind.TheVariants.{RelocMismatch, LoMismatch}
 use Rattle.elf_image.specs.declared.elf.Elf.{Elf}
@@ -28,7 +30,8 @@ use Rattle.elf_image.specs.code.Parts.{halfword_at, IsInstAt, IsStart}
 use Rattle.elf_image.specs.code.Relocations.{Relocation, relocations, is_call_pair, is_pcrel_hi}
 use Rattle.elf_image.specs.faults.ReferenceFaults.{IsAddress, IsUpper, IsMisfit}
 use Rattle.elf_image.specs.faults.ReferenceFaults as faults
-use Rattle.elf_image.specs.code.Roles.{Claims, HasRole, RoleIs, CallPair, CallTo, PcrelLo, PcrelHiTo, PcrelLoTo, pair_target, lower_immediate}
+use Rattle.elf_image.specs.code.Roles.{Claims, HasRole, RoleIs, CallPair, CallTo, PcrelLo, PcrelHiTo, PcrelLoTo, pair_target}
+use Rattle.elf_image.specs.code.Roles.{lower_immediate}
 use Rattle.elf_image.specs.code.Roles as claims
 use Rattle.elf_image.specs.code.Cells.{IsCell, Content, Difference, Address, Counts, SameContent}
 use Rattle.move_law.specs.RelocatedValues.{target_of_role}

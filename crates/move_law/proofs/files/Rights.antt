@@ -1,13 +1,16 @@
 -- What the input's program may use the output's may use too, and what the output loads and may not be written lies outside.
-use Rattle.std.proofs.Common.{◌≡◌, ℕ, zero, ◌+◌, ◌-◌, ◌<◌, ◌≤◌, List, [], ◌∷◌, Option, Some, None, Bool, true, false, cond, refl, sym, ap, ◌∙◌, arith, inl, inr, ◌⊎◌, max, min, map}
+use Rattle.std.proofs.Common.{◌≡◌, ℕ, zero, ◌+◌, ◌-◌, ◌<◌, ◌≤◌, List, [], ◌∷◌, Option, Some, None, Bool, true, false, cond, refl}
+use Rattle.std.proofs.Common.{sym, ap, ◌∙◌, arith, inl, inr, ◌⊎◌, max, min, map}
 use Rattle.std.specs.Prelude.{if◌then◌else◌, ◌==◌, ◌&&◌, ◌||◌, nat_le, nat_lt, IsTrue, option_map}
 use Rattle.std.specs.List.{Contains, filter, fold}
 use Rattle.std.specs.Option.{option_map_or}
 use Rattle.std.proofs.lemmas.Bool.{and_parts, and_from, eq-eqb, leb-true, ltb-true, le-leb, lt-ltb, cases_lt}
 use Rattle.elf_image.specs.declared.segment.Segment.{Segment}
 use Rattle.elf_image.specs.declared.segment.TheConstants.{PF_R, PF_W}
-use Rattle.elf_image.specs.memory.Image.{is_load, has_memory, has_flag, end_of, loads_address, LoadOnce, segment_of, is_loaded_with, byte_of}
-use Rattle.elf_image.specs.memory.Start.{page_size, rounded_down, rounded_up, writable_end, break_start, break_bound, break_room, pages_above, in_stack}
+use Rattle.elf_image.specs.memory.Image.{is_load, has_memory, has_flag, end_of, loads_address, LoadOnce, segment_of}
+use Rattle.elf_image.specs.memory.Image.{is_loaded_with, byte_of}
+use Rattle.elf_image.specs.memory.Start.{page_size, rounded_down, rounded_up, writable_end, break_start, break_bound, break_room}
+use Rattle.elf_image.specs.memory.Start.{pages_above, in_stack}
 use Rattle.elf_image.proofs.LoadLemmas.{find-found, Contains-there, Contains-cons_cases}
 use Rattle.move_law.specs.Rewrite.{Rewrite, executable_read, memory_of}
 use Rattle.move_law.specs.Laws.{KeepsCode}

@@ -1,12 +1,15 @@
 -- The bytes of the stack before the first step: words, the auxiliary vector, texts.
-use Rattle.std.proofs.Common.{◌≡◌, ℕ, zero, suc, ◌+◌, ◌-◌, ◌*◌, ◌/◌, ◌%◌, ◌^◌, ◌<◌, ◌≤◌, List, [], ◌∷◌, ◌++◌, length, refl, sym, ap, ◌∙◌, arith, inl, inr, get_or, append_assoc}
+use Rattle.std.proofs.Common.{◌≡◌, ℕ, zero, suc, ◌+◌, ◌-◌, ◌*◌, ◌/◌, ◌%◌, ◌^◌, ◌<◌, ◌≤◌, List, [], ◌∷◌, ◌++◌, length, refl, sym}
+use Rattle.std.proofs.Common.{ap, ◌∙◌, arith, inl, inr, get_or, append_assoc}
 use Rattle.std.specs.Prelude.{replicate, flat_map}
 use Rattle.std.proofs.lemmas.Bool.{cases_lt}
 use Rattle.std.proofs.lemmas.List.{get_or_append_left, get_or-append_right, length-append}
 use Rattle.rv_code.specs.machine.Machine.{low_bytes}
 use Rattle.elf_image.specs.declared.segment.TheConstants.{PHDR_SIZE}
 use Rattle.elf_image.specs.file.Header.{e_entry, e_phnum}
-use Rattle.elf_image.specs.memory.Start.{stack_entries, start_bytes, stack_bytes, stack_pointer, stack_end, stack_size, random_address, random_bytes, program_arguments, texts, texts_address, text_addresses, table_address, page_size}
+use Rattle.elf_image.specs.memory.Start.{stack_entries, start_bytes, stack_bytes, stack_pointer, stack_end, stack_size}
+use Rattle.elf_image.specs.memory.Start.{random_address, random_bytes, program_arguments, texts, texts_address, text_addresses}
+use Rattle.elf_image.specs.memory.Start.{table_address, page_size}
 use Rattle.rv_code.proofs.machine.LowBytes.{length_words, words_at}
 
 length_texts : (a : ℕ) (texts : List (List ℕ)) → length (text_addresses a texts) ≡ length texts

@@ -1,5 +1,6 @@
 -- In a file that stands for itself, each code cell holds what it holds.
-use Rattle.std.proofs.Common.{◌≡◌, ℕ, suc, ◌+◌, ◌-◌, ◌*◌, ◌/◌, ◌%◌, ◌^◌, ◌<◌, ◌≤◌, List, [], ◌∷◌, length, Option, Some, None, true, refl, sym, ap, ◌∙◌, subst, arith, inl, inr, ◌⊎◌, ℤ, pos, ◌+ℤ◌, ◌-ℤ◌, get_or, All}
+use Rattle.std.proofs.Common.{◌≡◌, ℕ, suc, ◌+◌, ◌-◌, ◌*◌, ◌/◌, ◌%◌, ◌^◌, ◌<◌, ◌≤◌, List, [], ◌∷◌, length, Option, Some, None}
+use Rattle.std.proofs.Common.{true, refl, sym, ap, ◌∙◌, subst, arith, inl, inr, ◌⊎◌, ℤ, pos, ◌+ℤ◌, ◌-ℤ◌, get_or, All}
 use Rattle.std.specs.Prelude.{IsSomeAnd, option_map, Contains}
 use Rattle.std.specs.Int.{int_rem_euclid}
 use Rattle.std.proofs.lemmas.Int.{int_rem_euclid_is, ints}
@@ -13,7 +14,8 @@ use Rattle.rv_code.specs.machine.Machine.{little}
 use Rattle.rv_code.specs.isa.TwosComplement.{unsigned64}
 use Rattle.rb_bytes.specs.declared.fault.FaultKind.TheVariants.{RelocMismatch}
 use Rattle.elf_image.specs.declared.elf.Elf.{Elf}
-use Rattle.elf_image.specs.code.Cells.{IsField, pointer, slot, difference, IsCell, Counts, Content, Address, Difference, SameContent, IsDifference, of_labels, of_place}
+use Rattle.elf_image.specs.code.Cells.{IsField, pointer, slot, difference, IsCell, Counts, Content, Address, Difference}
+use Rattle.elf_image.specs.code.Cells.{SameContent, IsDifference, of_labels, of_place}
 use Rattle.elf_image.specs.code.Fields.{HoldsDifference, bytes_of_bits}
 use Rattle.elf_image.specs.memory.LoadedBytes.{bytes_in, number_in, loaded_number}
 use Rattle.elf_image.specs.faults.SegmentLayout.{address_end}

@@ -1,10 +1,13 @@
 -- A file is a faithful rewrite of itself, and its runs on the symbol machine are its own.
-use Rattle.std.proofs.Common.{◌≡◌, ◌≢◌, ℕ, zero, suc, ◌+◌, ◌-◌, ◌<◌, ◌≤◌, Option, Some, None, Bool, true, false, refl, sym, ap, ◌∙◌, subst, arith, inr, ℤ}
-use Rattle.std.specs.Prelude.{AllPairs, Contains, IfSome, IsTrue, find, if◌then◌else◌, is_some, nat_le, nat_lt, option_map, unwrap_or}
+use Rattle.std.proofs.Common.{◌≡◌, ◌≢◌, ℕ, zero, suc, ◌+◌, ◌-◌, ◌<◌, ◌≤◌, Option, Some, None, Bool, true, false, refl, sym, ap}
+use Rattle.std.proofs.Common.{◌∙◌, subst, arith, inr, ℤ}
+use Rattle.std.specs.Prelude.{AllPairs, Contains, IfSome, IsTrue, find, if◌then◌else◌, is_some, nat_le, nat_lt, option_map}
+use Rattle.std.specs.Prelude.{unwrap_or}
 use Rattle.std.proofs.lemmas.Bool.{and_parts, eqb-true, leb-true, ltb-true}
 use Rattle.std.proofs.lemmas.List.Elements.{All-map}
 use Rattle.rv_code.specs.declared.action.Action.{Action}
-use Rattle.rv_code.specs.declared.action.Action.TheVariants.{Branch, Compute, Jump, JumpTo, Load, Store, SystemCall, Breakpoint, Upper, UpperPc}
+use Rattle.rv_code.specs.declared.action.Action.TheVariants.{Branch, Compute, Jump, JumpTo, Load, Store, SystemCall, Breakpoint}
+use Rattle.rv_code.specs.declared.action.Action.TheVariants.{Upper, UpperPc}
 use Rattle.rv_code.specs.declared.action.Action.TheVariants as action
 use Rattle.rv_code.specs.declared.inst.Inst.{Inst}
 use Rattle.rv_code.specs.declared.inst.Inst.TheVariants.{Jal}
@@ -23,9 +26,11 @@ use Rattle.addr_map.specs.declared.span.Span.{Span}
 use Rattle.sym_machine.specs.Rules.{next_of}
 use Rattle.sym_machine.specs.SymStart.{program_start}
 use Rattle.sym_machine.specs.declared.value.Pointer.TheVariants as pointer
-use Rattle.move_law.specs.Faithful.{GetsToNext, GoesOn, HasInSpan, IsFaithful, IsMapOf, KeepsAction, KeepsCell, KeepsInst, made_anew, next, same}
+use Rattle.move_law.specs.Faithful.{GetsToNext, GoesOn, HasInSpan, IsFaithful, IsMapOf, KeepsAction, KeepsCell, KeepsInst}
+use Rattle.move_law.specs.Faithful.{made_anew, next, same}
 use Rattle.move_law.specs.Laws.{IdentityIsFaithful, IdentityLaw, IsAccepted, KeepsCode, RunsAreReal, identity, own_spans}
-use Rattle.move_law.specs.Rewrite.{AreCodeBytes, Goes, HasAt, Rewrite, end_of, executable_read, jumps, out, program, stays, width_at}
+use Rattle.move_law.specs.Rewrite.{AreCodeBytes, Goes, HasAt, Rewrite, end_of, executable_read, jumps, out, program, stays}
+use Rattle.move_law.specs.Rewrite.{width_at}
 use Rattle.move_law.specs.SimulationRelation.{SimulationRelation}
 use Rattle.move_law.proofs.code.NextInst.{next_of_is}
 use Rattle.move_law.proofs.identity.MadeAnew.{anew}

@@ -23,7 +23,8 @@ use Rattle.rv_code.specs.layout.ProgramCode.{ProgramCode}
 use Rattle.move_law.specs.Faithful.{made_anew, with_immediate}
 use Rattle.move_law.specs.RelocatedValues.{distance}
 use Rattle.move_law.proofs.code.InstLists.{inst_at}
-use Rattle.move_law.proofs.code.Immediates.{full_at, also_full, auipc_of, lui_of, low_of, low_immediate, immediate, with_same, auipc_imm, lui_imm, low_imm, low_field_lower, imm_of}
+use Rattle.move_law.proofs.code.Immediates.{full_at, also_full, auipc_of, lui_of, low_of, low_immediate, immediate, with_same}
+use Rattle.move_law.proofs.code.Immediates.{auipc_imm, lui_imm, low_imm, low_field_lower, imm_of}
 use Rattle.move_law.proofs.values.HiLoParts.{IsLower, upper_is, lower_is}
 use Rattle.move_law.proofs.code.FittingRoles.{fits, same_int, same_call}
 use Rattle.move_law.proofs.code.Immediates.{IsLow}

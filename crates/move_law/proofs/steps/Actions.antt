@@ -1,5 +1,6 @@
 -- The action of an instruction, and that of what stands for it.
-use Rattle.std.proofs.Common.{◌≡◌, ℕ, zero, suc, ◌*◌, ◌/◌, ◌%◌, ◌^◌, ◌<◌, Option, Some, None, true, false, refl, sym, ap, ◌∙◌, subst, arith, inl, inr, ℤ, pos}
+use Rattle.std.proofs.Common.{◌≡◌, ℕ, zero, suc, ◌*◌, ◌/◌, ◌%◌, ◌^◌, ◌<◌, Option, Some, None, true, false, refl, sym, ap, ◌∙◌}
+use Rattle.std.proofs.Common.{subst, arith, inl, inr, ℤ, pos}
 use Rattle.std.specs.Prelude.{◌==◌, ◌||◌, not, IfSome}
 use Rattle.std.proofs.lemmas.Bool.{eqb-true, ne_eqb}
 use Rattle.rv_code.specs.declared.inst.Inst.{Inst}
@@ -7,7 +8,8 @@ use Rattle.rv_code.specs.declared.inst.Inst.TheVariants.{Lui, Auipc, Jalr, Lb, L
 use Rattle.rv_code.specs.declared.action.Extension.{Extension}
 use Rattle.rv_code.specs.declared.action.Extension.TheVariants.{Signed8, Signed16, Signed32, Whole64, Zero8, Zero16, Zero32}
 use Rattle.rv_code.specs.declared.action.Action.{Action}
-use Rattle.rv_code.specs.declared.action.Action.TheVariants.{Compute, Branch, Jump, JumpTo, Upper, UpperPc, Load, Store, SystemCall, Breakpoint}
+use Rattle.rv_code.specs.declared.action.Action.TheVariants.{Compute, Branch, Jump, JumpTo, Upper, UpperPc, Load, Store}
+use Rattle.rv_code.specs.declared.action.Action.TheVariants.{SystemCall, Breakpoint}
 use Rattle.rv_code.specs.declared.action.Action.TheVariants as action
 use Rattle.rv_code.specs.declared.placed.Role.{Role}
 use Rattle.rv_code.specs.declared.placed.Role.TheVariants as role
@@ -32,7 +34,8 @@ use Rattle.move_law.specs.Rewrite.{Rewrite, out}
 use Rattle.move_law.specs.RelocatedValues.{distance, hi20_value, target_at, target_of_role, number_of_pointer}
 use Rattle.move_law.specs.SimulationRelation.{IsGivenPointer, IsGiven, HasTarget, StandsFor, RelatedData, RelatedPc}
 use Rattle.move_law.specs.Faithful.{made_anew, with_immediate}
-use Rattle.move_law.proofs.values.Arithmetic.{Symbols, Label, number_stands, label_stands, only_stands, at_number, combined_stands}
+use Rattle.move_law.proofs.values.Arithmetic.{Symbols, Label, number_stands, label_stands, only_stands, at_number}
+use Rattle.move_law.proofs.values.Arithmetic.{combined_stands}
 use Rattle.move_law.proofs.values.StoredValues.{IsSize}
 use Rattle.move_law.proofs.steps.Outcomes.{SameSpaces, Follows, goes_follows, gives_follows}
 use Rattle.move_law.proofs.steps.Effects.{computes, loads, stores, system_call, number_is}

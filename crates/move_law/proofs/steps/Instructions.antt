@@ -1,11 +1,13 @@
 -- What stands in the output for an instruction keeps what the instruction comes to.
-use Rattle.std.proofs.Common.{◌≡◌, ℕ, zero, suc, ◌+◌, ◌%◌, ◌<◌, Option, Some, None, Bool, true, false, refl, ap, ◌∙◌, subst, arith, inl, inr, ℤ}
+use Rattle.std.proofs.Common.{◌≡◌, ℕ, zero, suc, ◌+◌, ◌%◌, ◌<◌, Option, Some, None, Bool, true, false, refl, ap, ◌∙◌, subst}
+use Rattle.std.proofs.Common.{arith, inl, inr, ℤ}
 use Rattle.std.specs.Prelude.{if◌then◌else◌, not, IsTrue, IsSomeAnd, IfSome, Contains, is_some, option_map}
 use Rattle.rv_code.specs.declared.inst.Inst.{Inst}
 use Rattle.rv_code.specs.declared.inst.Inst.TheVariants.{Jal, Sb, Sh, Sw, Sd, Beq, Bne, Blt, Bge, Bltu, Bgeu}
 use Rattle.rv_code.specs.declared.action.Test.{Test}
 use Rattle.rv_code.specs.declared.action.Action.{Action}
-use Rattle.rv_code.specs.declared.action.Action.TheVariants.{Compute, Branch, Jump, JumpTo, Upper, UpperPc, Load, Store, SystemCall, Breakpoint}
+use Rattle.rv_code.specs.declared.action.Action.TheVariants.{Compute, Branch, Jump, JumpTo, Upper, UpperPc, Load, Store}
+use Rattle.rv_code.specs.declared.action.Action.TheVariants.{SystemCall, Breakpoint}
 use Rattle.rv_code.specs.declared.action.Action.TheVariants as action
 use Rattle.rv_code.specs.declared.placed.Placed.{Placed}
 use Rattle.rv_code.specs.isa.Action.{action_of}
@@ -26,7 +28,8 @@ use Rattle.sym_machine.specs.SymStep as symbol
 use Rattle.move_law.specs.Rewrite.{Rewrite, Executable, memory_of, width_at, out, end_of, HasAt}
 use Rattle.move_law.specs.RelocatedValues.{target_at, target_of_role, number_of_pointer}
 use Rattle.move_law.specs.SimulationRelation.{IsGivenPointer, IsGiven, HasTarget, RelatedData, RelatedPc}
-use Rattle.move_law.specs.Faithful.{next, GetsToNext, made_anew, goes_on, HasInSpan, KeepsCall, KeepsBranch, same, opposite, KeepsAction}
+use Rattle.move_law.specs.Faithful.{next, GetsToNext, made_anew, goes_on, HasInSpan, KeepsCall, KeepsBranch, same, opposite}
+use Rattle.move_law.specs.Faithful.{KeepsAction}
 use Rattle.rv_code.proofs.isa.EvenOffsets.{EvenOffset, even_offset}
 use Rattle.move_law.proofs.steps.Fetching.{even_plus}
 use Rattle.move_law.proofs.values.Arithmetic.{tested_stands}

@@ -1,8 +1,10 @@
 -- States that are related but for their pcs, what steps come to, and how it is shown that one outcome follows another.
-use Rattle.std.proofs.Common.{◌≡◌, ℕ, zero, suc, ◌<◌, ◌≤◌, List, length, Option, Some, None, Bool, true, false, refl, sym, ap, ◌∙◌, arith}
+use Rattle.std.proofs.Common.{◌≡◌, ℕ, zero, suc, ◌<◌, ◌≤◌, List, length, Option, Some, None, Bool, true, false, refl, sym, ap}
+use Rattle.std.proofs.Common.{◌∙◌, arith}
 use Rattle.std.specs.Prelude.{◌||◌, nat_le, nat_lt, IfSome}
 use Rattle.std.proofs.lemmas.Bool.{and_parts, leb-true, ltb-true, ne_eqb}
-use Rattle.rv_code.specs.machine.Machine.{set_register, all_may, memory_bytes, put, Space, may_read, may_write, in_break, Event, Going, Ended, Halts}
+use Rattle.rv_code.specs.machine.Machine.{set_register, all_may, memory_bytes, put, Space, may_read, may_write, in_break, Event}
+use Rattle.rv_code.specs.machine.Machine.{Going, Ended, Halts}
 use Rattle.rv_code.specs.machine.Step.{ByteState, ByteOutcome}
 use Rattle.elf_image.specs.declared.segment.TheConstants.{PF_W}
 use Rattle.elf_image.specs.memory.Image.{is_loaded_with}

@@ -1,6 +1,8 @@
 -- The states before the first step are related.
-use Rattle.std.proofs.Common.{◌≡◌, ℕ, zero, suc, ◌+◌, ◌-◌, ◌*◌, ◌/◌, ◌%◌, ◌^◌, ◌<◌, ◌≤◌, List, [], ◌∷◌, ◌++◌, length, Option, Some, None, Bool, true, false, refl, sym, ap, ◌∙◌, subst, arith, inl, inr, ◌⊎◌, get_or}
-use Rattle.std.specs.Prelude.{if◌then◌else◌, ◌==◌, ◌&&◌, ◌||◌, nat_le, nat_lt, IsTrue, option_map, unwrap_or, slice_index, find, max, min}
+use Rattle.std.proofs.Common.{◌≡◌, ℕ, zero, suc, ◌+◌, ◌-◌, ◌*◌, ◌/◌, ◌%◌, ◌^◌, ◌<◌, ◌≤◌, List, [], ◌∷◌, ◌++◌, length, Option}
+use Rattle.std.proofs.Common.{Some, None, Bool, true, false, refl, sym, ap, ◌∙◌, subst, arith, inl, inr, ◌⊎◌, get_or}
+use Rattle.std.specs.Prelude.{if◌then◌else◌, ◌==◌, ◌&&◌, ◌||◌, nat_le, nat_lt, IsTrue, option_map, unwrap_or, slice_index, find}
+use Rattle.std.specs.Prelude.{max, min}
 use Rattle.std.specs.List.{Contains, list_any, fold}
 use Rattle.std.specs.Option.{option_map_or, option_or}
 use Rattle.std.proofs.lemmas.Bool.{and_parts, and_from, eqb-true, leb-true, ltb-true, le-leb, lt-ltb, false_from_ne_true}
@@ -18,13 +20,16 @@ use Rattle.elf_image.specs.code.Cells.{IsField, pointer, slot, difference, IsCel
 use Rattle.elf_image.specs.code.Functions as functions
 use Rattle.elf_image.specs.code.Parts.{IsStart}
 use Rattle.rb_bytes.specs.declared.fault.FaultKind.TheVariants.{BadEntry}
-use Rattle.elf_image.specs.memory.Start.{start, start_memory, start_registers, stack_bytes, stack_pointer, stack_end, stack_size, in_stack, table_address, space_of, break_start, break_bound, writable_end, break_room, pages_above}
+use Rattle.elf_image.specs.memory.Start.{start, start_memory, start_registers, stack_bytes, stack_pointer, stack_end, stack_size}
+use Rattle.elf_image.specs.memory.Start.{in_stack, table_address, space_of, break_start, break_bound, writable_end, break_room}
+use Rattle.elf_image.specs.memory.Start.{pages_above}
 use Rattle.elf_image.proofs.LoadLemmas.{find-found}
 use Rattle.sym_machine.specs.declared.value.Pointer.TheVariants.{Code}
 use Rattle.sym_machine.specs.declared.value.Symbol.TheVariants.{Points}
 use Rattle.sym_machine.specs.declared.value.MemoryByte.TheVariants.{Byte, SymbolByte, Hidden}
 use Rattle.sym_machine.specs.HiddenFields.{e_entry_field, at_phdr, at_phnum, at_entry, is_hidden_field, is_hidden_entry}
-use Rattle.sym_machine.specs.SymStart.{sym_memory, entry_fields, hidden_byte, code_cell_byte, byte_of_entry, byte_of_cell, symbol_of, range_of, program_start}
+use Rattle.sym_machine.specs.SymStart.{sym_memory, entry_fields, hidden_byte, code_cell_byte, byte_of_entry, byte_of_cell}
+use Rattle.sym_machine.specs.SymStart.{symbol_of, range_of, program_start}
 use Rattle.move_law.specs.Rewrite.{Executable, Rewrite, executable_read, memory_of, out, program, stays}
 use Rattle.move_law.specs.RelocatedValues.{number_of_symbol}
 use Rattle.move_law.specs.SimulationRelation.{StandsForByte, IsGiven, has_right}

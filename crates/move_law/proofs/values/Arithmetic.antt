@@ -1,5 +1,6 @@
 -- What operations give for values stands for what they give for their numbers.
-use Rattle.std.proofs.Common.{◌≡◌, ◌≢◌, ℕ, zero, suc, ◌-◌, ◌%◌, ◌^◌, ◌<◌, ◌≤◌, Option, Some, None, Bool, true, false, refl, sym, ap, ◌∙◌, subst, arith}
+use Rattle.std.proofs.Common.{◌≡◌, ◌≢◌, ℕ, zero, suc, ◌-◌, ◌%◌, ◌^◌, ◌<◌, ◌≤◌, Option, Some, None, Bool, true, false, refl, sym}
+use Rattle.std.proofs.Common.{ap, ◌∙◌, subst, arith}
 use Rattle.std.specs.Prelude.{if◌then◌else◌, ◌==◌, ◌&&◌, not, nat_lt, IfSome, bit_and}
 use Rattle.std.specs.Option.{option_or}
 use Rattle.std.proofs.lemmas.Bool.{ne_eqb, eqb-true, eqb-false, and_parts, lt-ltb, le-ltb}
@@ -28,7 +29,9 @@ use Rattle.sym_machine.specs.declared.value.Symbol.TheVariants.{Points, Hi, Abs,
 use Rattle.sym_machine.specs.declared.value.Value.{Value}
 use Rattle.sym_machine.specs.declared.value.Value.TheVariants.{Num, Sym, Piece}
 use Rattle.sym_machine.specs.Values.{value_of, is_value_of, IsSymbol, AreApart, op_of}
-use Rattle.sym_machine.specs.Rules.{only_if, is_nonzero, copied, from_difference, sum, compared, compared_by, masked, on_registers, on_zero, on_constant, combined, equal_pointers, equal_number, tested, is_unsigned}
+use Rattle.sym_machine.specs.Rules.{only_if, is_nonzero, copied, from_difference, sum, compared, compared_by, masked}
+use Rattle.sym_machine.specs.Rules.{on_registers, on_zero, on_constant, combined, equal_pointers, equal_number, tested}
+use Rattle.sym_machine.specs.Rules.{is_unsigned}
 use Rattle.move_law.specs.Rewrite.{Rewrite, out}
 use Rattle.move_law.specs.RelocatedValues.{distance, number_of_pointer, number_of_symbol}
 use Rattle.move_law.specs.SimulationRelation.{IsGivenPointer, IsGiven, StandsFor}

@@ -1,6 +1,7 @@
 -- Values in memory: what is stored of a value stands for the bytes of its number, and what is loaded of cells for the number
 -- of their bytes.
-use Rattle.std.proofs.Common.{◌≡◌, ℕ, zero, suc, ◌+◌, ◌-◌, ◌*◌, ◌/◌, ◌%◌, ◌^◌, ◌<◌, ◌≤◌, List, [], ◌∷◌, length, Option, Some, None, Bool, true, false, refl, sym, ap, ◌∙◌, arith, pos, negsuc, inl, inr, ◌⊎◌, div-one}
+use Rattle.std.proofs.Common.{◌≡◌, ℕ, zero, suc, ◌+◌, ◌-◌, ◌*◌, ◌/◌, ◌%◌, ◌^◌, ◌<◌, ◌≤◌, List, [], ◌∷◌, length, Option, Some}
+use Rattle.std.proofs.Common.{None, Bool, true, false, refl, sym, ap, ◌∙◌, arith, pos, negsuc, inl, inr, ◌⊎◌, div-one}
 use Rattle.std.specs.Prelude.{if◌then◌else◌, ◌==◌, ◌&&◌, nat_le, nat_lt, IfSome, map, option_map}
 use Rattle.std.specs.Option.{option_or}
 use Rattle.std.proofs.Math.Nat.{div-div-eq-div-mul, one-le-pow}
@@ -23,7 +24,8 @@ use Rattle.sym_machine.specs.declared.value.Value.{Value}
 use Rattle.sym_machine.specs.declared.value.Value.TheVariants.{Num, Sym, Piece}
 use Rattle.sym_machine.specs.declared.value.MemoryByte.{MemoryByte}
 use Rattle.sym_machine.specs.declared.value.MemoryByte.TheVariants.{Byte, SymbolByte, Hidden}
-use Rattle.sym_machine.specs.Values.{same_pointer, same_comparing, same_symbol, numbers, and_byte, symbol_bytes, are_symbol_bytes, stored, IsSymbol, IsWidth}
+use Rattle.sym_machine.specs.Values.{same_pointer, same_comparing, same_symbol, numbers, and_byte, symbol_bytes, are_symbol_bytes}
+use Rattle.sym_machine.specs.Values.{stored, IsSymbol, IsWidth}
 use Rattle.sym_machine.specs.Rules.{is_unsigned, piece, loaded_symbol, loaded}
 use Rattle.move_law.specs.Rewrite.{Rewrite}
 use Rattle.move_law.specs.RelocatedValues.{number_of_symbol, extension_of, bytes_from}

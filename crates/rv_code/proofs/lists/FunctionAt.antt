@@ -1,5 +1,6 @@
 -- The function in which an address lies.
-use Rattle.std.proofs.Common.{◌≡◌, ◌≢◌, sym, ap, refl, cond, ℕ, ◌<◌, ◌≤◌, ◌&&◌, ⊎_elim, Bool, true, false, Some, None, List, [], ◌∷◌, length, get_or, arith, ◌∙◌}
+use Rattle.std.proofs.Common.{◌≡◌, ◌≢◌, sym, ap, refl, cond, ℕ, ◌<◌, ◌≤◌, ◌&&◌, ⊎_elim, Bool, true, false, Some, None, List, []}
+use Rattle.std.proofs.Common.{◌∷◌, length, get_or, arith, ◌∙◌}
 use Rattle.std.specs.Prelude.{nat_lt, nat_le, slice_get}
 use Rattle.std.specs.List.{position_or_len}
 use Rattle.std.specs.List.Sorted.{IsNonDecreasingBy, IsPartitionPoint}

@@ -1,5 +1,6 @@
 -- One step of the byte machine, for every instruction.
-use Rattle.std.specs.Prelude.{◌≡◌, ℕ, ◌*◌, ◌/◌, ◌%◌, ◌^◌, ◌&&◌, ◌||◌, ◌==◌, Bool, true, false, not, List, [], ◌∷◌, Option, Some, None, length, take, drop, min}
+use Rattle.std.specs.Prelude.{◌≡◌, ℕ, ◌*◌, ◌/◌, ◌%◌, ◌^◌, ◌&&◌, ◌||◌, ◌==◌, Bool, true, false, not, List, [], ◌∷◌, Option, Some}
+use Rattle.std.specs.Prelude.{None, length, take, drop, min}
 use Rattle.rv_code.specs.declared.inst.Inst.{Inst}
 use Rattle.rv_code.specs.declared.cause.Cause.{Cause}
 use Rattle.rv_code.specs.declared.cause.Cause.TheVariants as cause
@@ -7,13 +8,16 @@ use Rattle.rv_code.specs.declared.action.Operand.{Operand}
 use Rattle.rv_code.specs.declared.action.Operand.TheVariants.{Register, Immediate}
 use Rattle.rv_code.specs.declared.action.Extension.{Extension}
 use Rattle.rv_code.specs.declared.action.Action.{Action}
-use Rattle.rv_code.specs.declared.action.Action.TheVariants.{Compute, Branch, Jump, JumpTo, Upper, UpperPc, Load, Store, Fence, SystemCall, Breakpoint}
+use Rattle.rv_code.specs.declared.action.Action.TheVariants.{Compute, Branch, Jump, JumpTo, Upper, UpperPc, Load, Store, Fence}
+use Rattle.rv_code.specs.declared.action.Action.TheVariants.{SystemCall, Breakpoint}
 use Rattle.rv_code.specs.isa.Action.{action_of}
 use Rattle.rv_code.specs.isa.Decoding.{Decodes}
 use Rattle.rv_code.specs.isa.Op.{apply, holds}
 use Rattle.rv_code.specs.isa.Extension.{bytes_of, extended}
 use Rattle.rv_code.specs.isa.TwosComplement.{unsigned64}
-use Rattle.rv_code.specs.machine.Machine.{plus, set_register, all_may, memory_bytes, put, little, low_bytes, State, may_read, may_write, may_execute, with_break, Event, Call, Read, Write, Exit, Brk, Unknown, call_of, most_moved, bad_file, no_such_call, Outcome, Going, Ended, Halts}
+use Rattle.rv_code.specs.machine.Machine.{plus, set_register, all_may, memory_bytes, put, little, low_bytes, State, may_read}
+use Rattle.rv_code.specs.machine.Machine.{may_write, may_execute, with_break, Event, Call, Read, Write, Exit, Brk, Unknown}
+use Rattle.rv_code.specs.machine.Machine.{call_of, most_moved, bad_file, no_such_call, Outcome, Going, Ended, Halts}
 
 -- registers hold words of 64 bits, and memory holds bytes
 abbrev pub ByteState : Type 0

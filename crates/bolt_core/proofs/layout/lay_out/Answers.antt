@@ -2,7 +2,8 @@ use Rattle.std.proofs.Common.{◌∙◌, ap, Bool}
 use Rattle.edge_profile.specs.Profile.{counts_of, pairs_of}
 use Rattle.elf_write.specs.Area.{start_of}
 use Rattle.bolt_core.specs.internal.ReadCode.{program_of}
-use Rattle.bolt_core.proofs.Layouts.{apart_blocks, has_header, laid_program, misplaced_refusal, no_limit_passed, no_place_refusal, parts_by, stretches, too_large_refusal}
+use Rattle.bolt_core.proofs.Layouts.{apart_blocks, has_header, laid_program, misplaced_refusal, no_limit_passed, no_place_refusal}
+use Rattle.bolt_core.proofs.Layouts.{parts_by, stretches, too_large_refusal}
 use Rattle.bolt_core.proofs.layout.lay_out.Goals as goal
 
 pub read-requires-clause-funcs : goal.read-requires-clause-funcs

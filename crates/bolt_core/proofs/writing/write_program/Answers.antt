@@ -14,7 +14,8 @@ use Rattle.bolt_core.specs.Rewriting.{is_tight_program, new_start}
 use Rattle.bolt_core.proofs.CellFields.{all_apart, all_hold}
 use Rattle.bolt_core.proofs.Near.{near_blocks}
 use Rattle.bolt_core.proofs.SoundCode.{accepted, cells, direct, insts, laid}
-use Rattle.bolt_core.proofs.WrittenOutput.{bytes_are, code_there, follows_segments, is_faithful, is_laid_out, is_sound, place, placed}
+use Rattle.bolt_core.proofs.WrittenOutput.{bytes_are, code_there, follows_segments, is_faithful, is_laid_out, is_sound, place}
+use Rattle.bolt_core.proofs.WrittenOutput.{placed}
 use Rattle.bolt_core.proofs.writing.write_program.Goals as goal
 
 pub move_code-requires-clause-laid : goal.move_code-requires-clause-laid

@@ -4,7 +4,8 @@ use Rattle.std.proofs.lemmas.Option.{slice_get_within}
 use Rattle.rv_code.specs.layout.Flow.{falls_at, falls, action_at}
 use Rattle.branch_fixup.proofs.Falls.{code_next, code_end, falls_out, falls_in, below_limit}
 use Rattle.branch_fixup.proofs.block_insts.fall_of.Goals as goal
-use Rattle.branch_fixup.proofs.block_insts.fall_of.Goals.{else-is_last-via-then-is_last+else-not-starts_at, else-is_last-via-else-is_last}
+use Rattle.branch_fixup.proofs.block_insts.fall_of.Goals.{else-is_last-via-then-is_last+else-not-starts_at}
+use Rattle.branch_fixup.proofs.block_insts.fall_of.Goals.{else-is_last-via-else-is_last}
 
 pub overflow_add-next : goal.overflow_add-next
 overflow_add-next c =

@@ -5,7 +5,8 @@ use Rattle.std.proofs.lemmas.List.Elements.{All-push, All-same}
 use Rattle.branch_fixup.specs.Ways.{crosses}
 use Rattle.branch_fixup.proofs.Ways.{add_longer, longer_low, rest_over, later_over}
 use Rattle.branch_fixup.proofs.settling.lengthen.Goals as goal
-use Rattle.branch_fixup.proofs.settling.lengthen.Goals.{then-crosses+else-reached, then-crosses+then-reached+then-not-is_enough_by+in_ok-push, else-crosses}
+use Rattle.branch_fixup.proofs.settling.lengthen.Goals.{then-crosses+else-reached}
+use Rattle.branch_fixup.proofs.settling.lengthen.Goals.{then-crosses+then-reached+then-not-is_enough_by+in_ok-push, else-crosses}
 
 pub is_enough_by-reached-requires-clause-low : goal.is_enough_by-reached-requires-clause-low
 is_enough_by-reached-requires-clause-low c =

@@ -4,7 +4,10 @@ use Rattle.std.specs.BTreeMap.{get}
 use Rattle.elf_image.specs.declared.elf.Symbol.{Symbol}
 use Rattle.elf_write.proofs.FirstNames.{first-new, first-named, first-no_function}
 use Rattle.elf_write.proofs.first_names.first_names.Goals as goal
-use Rattle.elf_write.proofs.first_names.first_names.Goals.{then-names_function+then-not-contains_key+in_ok-insert, else-names_function, else-names_function-via-then-names_function+else-not-contains_key, else-names_function-via-else-names_function}
+use Rattle.elf_write.proofs.first_names.first_names.Goals.{then-names_function+then-not-contains_key+in_ok-insert}
+use Rattle.elf_write.proofs.first_names.first_names.Goals.{else-names_function}
+use Rattle.elf_write.proofs.first_names.first_names.Goals.{else-names_function-via-then-names_function+else-not-contains_key}
+use Rattle.elf_write.proofs.first_names.first_names.Goals.{else-names_function-via-else-names_function}
 
 pub loop-symbol-preserved : goal.loop-symbol-preserved
 loop-symbol-preserved c =

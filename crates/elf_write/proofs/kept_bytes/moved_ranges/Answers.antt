@@ -5,7 +5,9 @@ use Rattle.elf_image.specs.declared.segment.Segment.{Segment}
 use Rattle.elf_write.specs.Area.{no_segment}
 use Rattle.elf_write.proofs.KeptRanges.{AreRanges, moves-true, moves-other, moves-low, ranges-added, ranges-skipped}
 use Rattle.elf_write.proofs.kept_bytes.moved_ranges.Goals as goal
-use Rattle.elf_write.proofs.kept_bytes.moved_ranges.Goals.{then-p-eq-PT_LOAD+then-from-p+in_ok-push, else-p-eq-PT_LOAD, else-p-eq-PT_LOAD-via-then-p-eq-PT_LOAD+else-from-p, else-p-eq-PT_LOAD-via-else-p-eq-PT_LOAD}
+use Rattle.elf_write.proofs.kept_bytes.moved_ranges.Goals.{then-p-eq-PT_LOAD+then-from-p+in_ok-push, else-p-eq-PT_LOAD}
+use Rattle.elf_write.proofs.kept_bytes.moved_ranges.Goals.{else-p-eq-PT_LOAD-via-then-p-eq-PT_LOAD+else-from-p}
+use Rattle.elf_write.proofs.kept_bytes.moved_ranges.Goals.{else-p-eq-PT_LOAD-via-else-p-eq-PT_LOAD}
 
 pub loop-p-preserved : goal.loop-p-preserved
 loop-p-preserved c =

@@ -3,7 +3,8 @@ use Rattle.std.proofs.lemmas.List.Elements.{Contains-get_or}
 use Rattle.elf_write.specs.declared.runs.Run.{Run}
 use Rattle.elf_write.proofs.RunLists.{only-run, run-left, run-none}
 use Rattle.elf_write.proofs.runs.bytes_left.Goals as goal
-use Rattle.elf_write.proofs.runs.bytes_left.Goals.{else-run-func-via-then-run-func+else-address-run, else-run-func-via-else-run-func}
+use Rattle.elf_write.proofs.runs.bytes_left.Goals.{else-run-func-via-then-run-func+else-address-run}
+use Rattle.elf_write.proofs.runs.bytes_left.Goals.{else-run-func-via-else-run-func}
 
 abbrev no_run : Run
 no_run = record { start = 0; end = 0; func = 0 }

@@ -6,7 +6,9 @@ use Rattle.func_place.proofs.Heaviest.{call_at}
 use Rattle.func_place.proofs.OnlyHeaviest.{callers_found}
 use Rattle.func_place.proofs.Sweep.{IsRun, AreTops, within_all, run_step, tops_take, tops_keep, heaviest_by_tops}
 use Rattle.func_place.proofs.callers.heaviest_of_sorted.Goals as goal
-use Rattle.func_place.proofs.callers.heaviest_of_sorted.Goals.{then-run+then-heats-run-gt0+then-index-run, else-run, else-run-via-then-run+then-heats-run-gt0+else-index-run, else-run-via-then-run+else-heats-run-gt0, else-run-via-else-run}
+use Rattle.func_place.proofs.callers.heaviest_of_sorted.Goals.{then-run+then-heats-run-gt0+then-index-run, else-run}
+use Rattle.func_place.proofs.callers.heaviest_of_sorted.Goals.{else-run-via-then-run+then-heats-run-gt0+else-index-run}
+use Rattle.func_place.proofs.callers.heaviest_of_sorted.Goals.{else-run-via-then-run+else-heats-run-gt0, else-run-via-else-run}
 
 pub more_of-run-requires : goal.more_of-run-requires
 more_of-run-requires c =

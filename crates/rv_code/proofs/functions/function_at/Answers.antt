@@ -5,7 +5,8 @@ use Rattle.std.proofs.lemmas.List.Sorted.{IsPartitionPoint-from_clause, IsPartit
 use Rattle.rv_code.specs.declared.placed.Func.{Func}
 use Rattle.rv_code.proofs.lists.FunctionAt.{IsAbove, ends_rise, above_from, function_at-found, function_at-absent}
 use Rattle.rv_code.proofs.functions.function_at.Goals as goal
-use Rattle.rv_code.proofs.functions.function_at.Goals.{else-above-funcs-via-then-above-funcs+else-funcs-above, else-above-funcs-via-else-above-funcs}
+use Rattle.rv_code.proofs.functions.function_at.Goals.{else-above-funcs-via-then-above-funcs+else-funcs-above}
+use Rattle.rv_code.proofs.functions.function_at.Goals.{else-above-funcs-via-else-above-funcs}
 
 pub returns-then-funcs-above : goal.returns-then-funcs-above
 returns-then-funcs-above c =

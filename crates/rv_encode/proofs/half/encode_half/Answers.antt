@@ -1,7 +1,8 @@
 use Rattle.std.proofs.Common.{rules, ◌≡◌, ℕ, ℤ, refl, to_z, of_z}
 use Rattle.std.specs.Int.{w64}
 use Rattle.rv_code.specs.declared.inst.Inst.{Inst}
-use Rattle.rv_code.specs.declared.inst.Inst.TheVariants.{Lui, Jal, Jalr, Beq, Bne, Lw, Ld, Sw, Sd, Addi, Andi, Slli, Srli, Srai, Add, Sub, Xor, Or, And, Addiw, Addw, Subw, Ebreak}
+use Rattle.rv_code.specs.declared.inst.Inst.TheVariants.{Lui, Jal, Jalr, Beq, Bne, Lw, Ld, Sw, Sd, Addi, Andi, Slli, Srli, Srai}
+use Rattle.rv_code.specs.declared.inst.Inst.TheVariants.{Add, Sub, Xor, Or, And, Addiw, Addw, Subw, Ebreak}
 use Rattle.rv_encode.specs.internal.HalfForms.{HasForm}
 use Rattle.rv_encode.proofs.Forms.{either, same}
 use Rattle.rv_encode.proofs.half.encode_half.Goals as goal

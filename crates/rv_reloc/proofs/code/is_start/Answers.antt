@@ -1,4 +1,5 @@
-use Rattle.std.proofs.Common.{◌≡◌, ◌∙◌, sym, ap, ℕ, ◌<◌, ◌≤◌, ⊎_elim, ◌↔◌, Bool, true, false, IsTrue, List, Result, Ok, Err, length, slice_index_or, arith, MatchResult}
+use Rattle.std.proofs.Common.{◌≡◌, ◌∙◌, sym, ap, ℕ, ◌<◌, ◌≤◌, ⊎_elim, ◌↔◌, Bool, true, false, IsTrue, List, Result, Ok, Err}
+use Rattle.std.proofs.Common.{length, slice_index_or, arith, MatchResult}
 use Rattle.std.specs.Result.{is_ok}
 use Rattle.std.specs.List.{Contains, AllPairs}
 use Rattle.std.proofs.lemmas.Bool.{cases_lt}

@@ -7,12 +7,14 @@ returns-then-size-eq0-clause-value t c = number-begin c.args.elf.now c.args.addr
 
 pub overflow_mul-result : goal.overflow_mul-result
 overflow_mul-result t c =
-    let below = power-seven c.in-Some-number_by_bytes.rest (c.args.size - 1) (omega arith) c.in-Some-number_by_bytes.ensures.below in
+    let below = power-seven c.in-Some-number_by_bytes.rest (c.args.size - 1) (omega arith)
+    c.in-Some-number_by_bytes.ensures.below in
     omega arith
 
 pub overflow_add-result : goal.overflow_add-result
 overflow_add-result t c =
-    let below = power-seven c.in-Some-number_by_bytes.rest (c.args.size - 1) (omega arith) c.in-Some-number_by_bytes.ensures.below in
+    let below = power-seven c.in-Some-number_by_bytes.rest (c.args.size - 1) (omega arith)
+    c.in-Some-number_by_bytes.ensures.below in
     omega arith
 
 pub returns-in-Some-number_by_bytes-clause-value : goal.returns-in-Some-number_by_bytes-clause-value

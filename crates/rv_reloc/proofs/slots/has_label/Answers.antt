@@ -1,4 +1,5 @@
-use Rattle.std.proofs.Common.{◌≡◌, ◌∙◌, sym, ap, ℕ, ◌<◌, ◌≤◌, ℤ, pos, subst, List, false, true, FitsSigned, to_z, of_z, rules, arith, length, slice_index_or, eq-eqb}
+use Rattle.std.proofs.Common.{◌≡◌, ◌∙◌, sym, ap, ℕ, ◌<◌, ◌≤◌, ℤ, pos, subst, List, false, true, FitsSigned, to_z, of_z, rules}
+use Rattle.std.proofs.Common.{arith, length, slice_index_or, eq-eqb}
 use Rattle.std.specs.Int.{w128}
 use Rattle.std.specs.List.{Contains, AllPairs}
 use Rattle.std.proofs.lemmas.Bool.{eqb-true}

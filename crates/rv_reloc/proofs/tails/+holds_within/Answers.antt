@@ -1,4 +1,5 @@
-use Rattle.std.proofs.Common.{◌≡◌, sym, ◌-◌, ◌%◌, ap, true, false, arith, ◌∙◌, IsTrue, subst, ℕ, ℤ, ◌<◌, ◌^◌, ◌↔◌, ◌+◌, List, FitsSigned, rules}
+use Rattle.std.proofs.Common.{◌≡◌, sym, ◌-◌, ◌%◌, ap, true, false, arith, ◌∙◌, IsTrue, subst, ℕ, ℤ, ◌<◌, ◌^◌, ◌↔◌, ◌+◌, List}
+use Rattle.std.proofs.Common.{FitsSigned, rules}
 use Rattle.std.proofs.lemmas.Bool.{lt-ltb}
 use Rattle.std.proofs.lemmas.Int.{to_z-of_z}
 use Rattle.std.specs.Int.{w128}

@@ -1,6 +1,7 @@
 use Rattle.std.proofs.lemmas.Result.{IfOk-weaker}
 use Rattle.elf_image.specs.internal.SegmentExtents.{IsAddressExtent}
-use Rattle.elf_image.proofs.SegmentExtentLemmas.{not_empty, IsLowest-extents, IsAddressOf, IsAddressExtent-place, IsAddressExtent-some, IsAddressExtent-holds, IsAddressExtent-not_empty}
+use Rattle.elf_image.proofs.SegmentExtentLemmas.{not_empty, IsLowest-extents, IsAddressOf, IsAddressExtent-place}
+use Rattle.elf_image.proofs.SegmentExtentLemmas.{IsAddressExtent-some, IsAddressExtent-holds, IsAddressExtent-not_empty}
 use Rattle.elf_image.proofs.faults.overlap.lowest_shared_address.Goals as goal
 
 pub lowest_shared-requires-clause-not_empty : goal.lowest_shared-requires-clause-not_empty

@@ -1,6 +1,7 @@
 use Rattle.std.proofs.lemmas.Result.{IfOk-weaker}
 use Rattle.elf_image.specs.internal.SegmentExtents.{IsFileExtent}
-use Rattle.elf_image.proofs.SegmentExtentLemmas.{not_empty, IsLowest-extents, IsByteOf, IsFileExtent-place, IsFileExtent-some, IsFileExtent-holds, IsFileExtent-not_empty}
+use Rattle.elf_image.proofs.SegmentExtentLemmas.{not_empty, IsLowest-extents, IsByteOf, IsFileExtent-place, IsFileExtent-some}
+use Rattle.elf_image.proofs.SegmentExtentLemmas.{IsFileExtent-holds, IsFileExtent-not_empty}
 use Rattle.elf_image.proofs.faults.overlap.lowest_shared_byte.Goals as goal
 
 pub lowest_shared-requires-clause-not_empty : goal.lowest_shared-requires-clause-not_empty

@@ -5,7 +5,8 @@ use Rattle.func_place.specs.declared.clusters.Clusters.{Clusters}
 use Rattle.func_place.specs.internal.ClusterState.{state_of, count_of, size_at, IsSound, Merges}
 use Rattle.func_place.proofs.ClusterMoves.{CanJoin, sound_join, count_join, append_step, stays_large, stays_same}
 use Rattle.func_place.proofs.clusters.Clusters.append.Goals as goal
-use Rattle.func_place.proofs.clusters.Clusters.append.Goals.{else-first-second-via-then-first-second+else-index-le-LIMIT, else-first-second-via-else-first-second}
+use Rattle.func_place.proofs.clusters.Clusters.append.Goals.{else-first-second-via-then-first-second+else-index-le-LIMIT}
+use Rattle.func_place.proofs.clusters.Clusters.append.Goals.{else-first-second-via-else-first-second}
 
 -- what was read of a cluster is the size of its unit's
 read : (d : Clusters) (number u n : ℕ) → IsSound (state_of d) → number ≡ slice_index (state_of d).grouping.numbers u →

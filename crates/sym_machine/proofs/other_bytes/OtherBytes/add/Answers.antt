@@ -1,9 +1,11 @@
-use Rattle.std.proofs.Common.{◌≡◌, ◌∙◌, ◌++◌, ◌∷◌, [], List, ℕ, zero, suc, ◌*◌, ◌+◌, ◌%◌, Option, Some, None, sym, ap, refl, rules, length, get_or}
+use Rattle.std.proofs.Common.{◌≡◌, ◌∙◌, ◌++◌, ◌∷◌, [], List, ℕ, zero, suc, ◌*◌, ◌+◌, ◌%◌, Option, Some, None, sym, ap, refl}
+use Rattle.std.proofs.Common.{rules, length, get_or}
 use Rattle.std.specs.Prelude.{IsOk, ◌==◌, if◌then◌else◌}
 use Rattle.std.proofs.lemmas.List.{length-set}
 use Rattle.rv_memory.specs.PageIndex.{place_of}
 use Rattle.sym_machine.specs.declared.other_bytes.OtherByte.{OtherByte}
-use Rattle.sym_machine.proofs.Groups.{byte_in-same, byte_in-added, indexed_more, held_more, numbered_more, sized_more, marked_more}
+use Rattle.sym_machine.proofs.Groups.{byte_in-same, byte_in-added, indexed_more, held_more, numbered_more, sized_more}
+use Rattle.sym_machine.proofs.Groups.{marked_more}
 use Rattle.sym_machine.proofs.other_bytes.OtherBytes.add.Goals as goal
 
 pub returns-in_err-insert-clause-kept : goal.returns-in_err-insert-clause-kept
