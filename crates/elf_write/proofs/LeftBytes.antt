@@ -19,7 +19,7 @@ use Rattle.elf_parts.specs.Spelled.{Number, number, segment_numbers, segment_tab
 use Rattle.elf_parts.proofs.SameBytes.{little_bytes-same}
 use Rattle.elf_parts.proofs.Spelled.{length-segment_table}
 use Rattle.elf_write.specs.Area.{moved_by}
-use Rattle.elf_write.specs.NewSegments.{IsRenewed, AreRenewed, grows_at}
+use Rattle.elf_write.specs.NewSegments.{IsRenewed, AreRenewed, NamesNew, grows_at}
 use Rattle.elf_write.proofs.CellPatches.{moved-less, moved-more}
 use Rattle.elf_write.proofs.HiddenBytes.{hides-sizes, hides-offset, hides-place}
 use Rattle.elf_write.proofs.Loads.{moved-before, moved-behind}
@@ -124,8 +124,9 @@ module _ (elf : Elf) (code : ℕ) (p_code : Segment) (found : executable_segment
           moved (inl e) from to = inl e
           moved (inr hides) from to = inr (λ j above under. hides j (omega arith) (omega arith))
 
-      unlike : (p.kind == PT_GNU_EH_FRAME) ≡ false → p.kind ≡ PT_GNU_EH_FRAME → ⊥
-      unlike e = eqb-false p.kind PT_GNU_EH_FRAME e
+      other : (p.kind == PT_GNU_EH_FRAME) ≡ false → NamesNew false p.kind → ⊥
+      other e (inl is) = eqb-false p.kind PT_GNU_EH_FRAME e is
+      other e (inr tight) = absurd (let t = tight.0 in cc)
 
       made : (b : Bool) → (p.kind == PT_GNU_EH_FRAME) ≡ b → AreSameBut Hides at (segment_numbers q) (segment_numbers p)
       made true e =
@@ -139,18 +140,18 @@ module _ (elf : Elf) (code : ℕ) (p_code : Segment) (found : executable_segment
         where
           offset_so : (p.offset < file_end) ⊎ (file_end ≤ p.offset) →
               (q.offset ≡ p.offset) ⊎ ((j : ℕ) → at + 8 ≤ j → j < at + 16 → Hides j)
-          offset_so (inl low) = inl (here.offset refl (unlike e) low)
+          offset_so (inl low) = inl (here.offset (other e) low)
           offset_so (inr high) = inr (offsets high)
 
           by : (p.offset < file_end) ⊎ (file_end ≤ p.offset) → (b : Bool) → (i == code) ≡ b →
               AreSameBut Hides at (segment_numbers q) (segment_numbers p)
           by place true grows =
-              spelled_so (offset_so place) (inl (here.vaddr refl (unlike e))) (inl (here.paddr refl (unlike e)))
+              spelled_so (offset_so place) (inl (here.vaddr (other e))) (inl (here.paddr (other e)))
               (inr (λ j from under. sizes grows j (omega arith) (omega arith)))
               (inr (λ j from under. sizes grows j (omega arith) (omega arith)))
           by place false grows =
-              spelled_so (offset_so place) (inl (here.vaddr refl (unlike e))) (inl (here.paddr refl (unlike e)))
-              (inl (here.sizes refl (unlike e) grows).0) (inl (here.sizes refl (unlike e) grows).1)
+              spelled_so (offset_so place) (inl (here.vaddr (other e))) (inl (here.paddr (other e)))
+              (inl (here.sizes (other e) grows).0) (inl (here.sizes (other e) grows).1)
 
   -- the whole table
   pub leaves-table : (file_end step end k b : ℕ) (qs : List Segment) → ((j : ℕ) → slice_index elf.file.now j < 256) →

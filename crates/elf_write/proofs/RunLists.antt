@@ -11,9 +11,9 @@ use Rattle.std.proofs.lemmas.Option.{get_or_from_slice_get, slice_get_within}
 use Rattle.addr_map.specs.declared.span.Span.{Span}
 use Rattle.rv_code.specs.declared.placed.Func.{Func}
 use Rattle.elf_write.specs.declared.runs.Run.{Run}
-use Rattle.elf_write.specs.AllRuns.{Apart, AreRuns, AreSorted, Grows, HasSpan}
+use Rattle.elf_write.specs.AllRuns.{Apart, AreRuns, AreSorted, Grows, HasBytes, HasSpan}
 use Rattle.rv_code.specs.layout.InFunctions.{function_at}
-use Rattle.elf_write.specs.Runs.{IsRun}
+use Rattle.elf_write.specs.Runs.{HasByte, IsRun}
 
 -- a list without its last element
 
@@ -46,6 +46,18 @@ last-there P xs y all =
 
 -- One run more.
 
+-- a byte of a run that stays, and one of the run that was added
+old_byte : (old : List Run) (run q r : Run) (b : ℕ) → Contains old q → q.func ≡ r.func → q.start ≤ b → b < q.end →
+    HasBytes old r.func b (b + 1) ⊎ ((run.func ≡ r.func) × (run.start ≤ b) × (b < run.end))
+old_byte old run q r b there func low high =
+    inl (record { run = q; there = there; func = func; low = low; high = omega arith })
+
+new_byte : (old : List Run) (run q r : Run) (b : ℕ) → run.func ≡ q.func → q ≡ r → run.start ≤ b → run.end ≡ q.end →
+    b < r.end → HasBytes old r.func b (b + 1) ⊎ ((run.func ≡ r.func) × (run.start ≤ b) × (b < run.end))
+new_byte old run q r b func is low end high =
+    let same : q.end ≡ r.end = ap (λ (x : Run). x.end) is in
+    inr (func ∙ ap (λ (x : Run). x.func) is, low, omega arith)
+
 pub grows-first : (run : Run) → run.start < run.end → Grows [] run (run ∷ [])
 grows-first run some = record {
   sorted = λ old. record {
@@ -60,6 +72,12 @@ grows-first run some = record {
     high = has.high;
   };
   has = λ _. record { run = run; there = Contains-push [] run; func = refl; low = omega arith; high = omega arith };
+  only = λ r there b low high. ⊎_elim
+      (λ (in_none : Contains [] r). let less = in_none.1 in absurd (omega arith))
+      (λ (is : run ≡ r).
+      let start : run.start ≡ r.start = ap (λ (x : Run). x.start) is in
+      new_byte [] run run r b refl is (omega arith) refl high)
+      (Contains-push_cases [] run r there);
 }
 
 pub grows-added : (front : List Run) (last run : Run) → run.start < run.end → last.end ≤ run.start → (last.func ≡ run.func →
@@ -86,6 +104,12 @@ grows-added front last run some order gap = record {
     low = omega arith;
     high = omega arith;
   };
+  only = λ r there b low high. ⊎_elim
+      (λ (old : Contains (front ++ last ∷ []) r). old_byte (front ++ last ∷ []) run r r b old refl low high)
+      (λ (is : run ≡ r).
+      let start : run.start ≡ r.start = ap (λ (x : Run). x.start) is in
+      new_byte (front ++ last ∷ []) run run r b refl is (omega arith) refl high)
+      (Contains-push_cases (front ++ last ∷ []) run r there);
 }
   where
     behind : AreSorted (front ++ last ∷ []) → (last.func ≡ run.func → last.end < run.start) → (k : ℕ) (d : Run) →
@@ -149,6 +173,17 @@ grows-joined front last run some one meets = record {
   has = λ old.
       let whole : last.start < last.end = last-there (λ (r : Run). r.start < r.end) front last old.some in
       record { run = longer; there = Contains-push front longer; func = one; low = omega arith; high = omega arith };
+  only = λ r there b low high. ⊎_elim
+      (λ (old : Contains front r).
+      old_byte (front ++ last ∷ []) run r r b (Contains-append_left front (last ∷ []) r old) refl low high)
+      (λ (is : longer ≡ r).
+      let start : last.start ≡ r.start = ap (λ (x : Run). x.start) is in
+      ⊎_elim
+      (λ (less : b < last.end).
+      old_byte (front ++ last ∷ []) run last r b (Contains-push front last) (ap (λ (x : Run). x.func) is) (omega arith) less)
+      (λ (more : last.end ≤ b). new_byte (front ++ last ∷ []) run longer r b (sym one) is (omega arith) refl high)
+      (cases_lt b last.end))
+      (Contains-push_cases front longer r there);
 }
   where
     longer : Run
@@ -193,6 +228,8 @@ run-left funcs spans runs r f to are there is low high = record {
       (λ (a : Apart q r). let b : q.end ≤ r.start = a.before in absurd (omega arith))
       other)
       (apart-runs runs are.sorted r q there has.bytes.there);
+  filled = λ b from below.
+      subst (λ (g : ℕ). HasByte funcs spans g b) is (are.filled r there b (omega arith) (omega arith));
   ends = λ k d within some at of.
       let s = get_or spans k d in
       let has = are.held k d within some in
@@ -217,6 +254,7 @@ pub run-none : (funcs : List Func) (spans : List Span) (runs : List Run) (f to :
     ((r : Run) → Contains runs r → r.func ≡ f → r.start ≤ to → to < r.end → ⊥) → IsRun funcs spans f to 0
 run-none funcs spans runs f to are none = record {
   own = λ k d within some from below. absurd (omega arith);
+  filled = λ b from below. absurd (omega arith);
   ends = λ k d within some at of.
       let s = get_or spans k d in
       let has = are.held k d within some in
@@ -252,6 +290,18 @@ pub runs-none : (funcs : List Func) → AreRuns funcs [] []
 runs-none funcs = record {
   sorted = record { some = λ k d within. absurd (omega arith); apart = λ i j d less within. absurd (omega arith) };
   held = λ k d within. absurd (omega arith);
+  filled = λ r there. let less = there.1 in absurd (omega arith);
+}
+
+-- a byte stays one of a function
+one_more : (funcs : List Func) (spans : List Span) (s : Span) (f b : ℕ) → HasByte funcs spans f b →
+    HasByte funcs (spans ++ s ∷ []) f b
+one_more funcs spans s f b has = record {
+  span = has.span;
+  there = Contains-append_left spans (s ∷ []) has.span has.there;
+  func = has.func;
+  low = has.low;
+  high = has.high;
 }
 
 pub runs-skipped : (funcs : List Func) (spans : List Span) (s : Span) (runs : List Run) → s.len ≡ 0 →
@@ -259,6 +309,7 @@ pub runs-skipped : (funcs : List Func) (spans : List Span) (s : Span) (runs : Li
 runs-skipped funcs spans s runs none are = record {
   sorted = are.sorted;
   held = All-push (λ (x : Span). 0 < x.len → HasSpan funcs runs x) spans s are.held (λ some. absurd (omega arith));
+  filled = λ r there b low high. one_more funcs spans s r.func b (are.filled r there b low high);
 }
 
 pub runs-more : (funcs : List Func) (spans : List Span) (s : Span) (old new : List Run) (run : Run) →
@@ -287,6 +338,23 @@ runs-more funcs spans s old new run is start end grows are = record {
           high = omega arith;
         };
       });
+  filled = λ r there b low high. ⊎_elim
+      (λ (has : HasBytes old r.func b (b + 1)).
+      let from = has.low in
+      let to = has.high in
+      one_more funcs spans s r.func b (subst (λ (g : ℕ). HasByte funcs spans g b) has.func
+      (are.filled has.run has.there b (omega arith) (omega arith))))
+      (λ (it : (run.func ≡ r.func) × (run.start ≤ b) × (b < run.end)).
+      let from = it.1 in
+      let to = it.2 in
+      record {
+        span = s;
+        there = Contains-push spans s;
+        func = is ∙ ap Some it.0;
+        low = omega arith;
+        high = omega arith;
+      })
+      (grows.only r there b low high);
 }
 
 pub starts_rise : (runs : List Run) → AreSorted runs → IsNonDecreasingBy (λ r. r.start) runs

@@ -6,6 +6,7 @@ use Rattle.elf_image.specs.declared.segment.TheConstants.{PT_LOAD, PF_R, PF_X, P
 use Rattle.elf_image.specs.file.Header.{e_phnum}
 use Rattle.elf_image.specs.memory.Image.{is_load, end_of}
 use Rattle.elf_write.specs.declared.area.Area.{Area}
+use Rattle.elf_write.specs.declared.segments.TheConstants.{PT_PHDR}
 use Rattle.elf_write.specs.Area.{moved_by}
 use Rattle.elf_write.specs.Room.{greatest_align}
 use Rattle.elf_write.specs.Extended.{Loads}
@@ -24,21 +25,24 @@ pub record IsNewLoad (file_end step : ℕ) (p q : Segment) : Type 0 where
   pub sizes : ((q.filesz ≡ p.filesz) × (q.memsz ≡ p.memsz))
       ⊎ ((p.memsz ≡ p.filesz) × (p.filesz ≤ q.filesz) × (q.memsz ≡ q.filesz))
 
--- A header of the input and that of the written file. Only the executable segment may grow, to an end;
--- and only a file that isn't tight keeps the place and size of its table of program headers.
+-- headers that name what is new: the unwind table's index, and in a tight file the table of program headers
+abbrev pub NamesNew : Bool → ℕ → Type 0
+NamesNew tight kind = (kind ≡ PT_GNU_EH_FRAME) ⊎ ((tight ≡ true) × (kind ≡ PT_PHDR))
+
+-- A header of the input and that of the written file. Only the executable segment may grow, to an end.
 pub record IsRenewed (file_end step end : ℕ) (tight grows : Bool) (p q : Segment) : Type 0 where
   pub kind : q.kind ≡ p.kind
   pub load : IsTrue (is_load p) → IsNewLoad file_end step p q
   pub same : IsTrue (is_load p) → grows ≡ false → q.memsz ≡ p.memsz
   pub grown : grows ≡ true → end_of q ≡ end
   pub place : grows ≡ true → q.offset ≡ p.offset
-  -- what it says else, but for the header of the unwind table's index
+  -- what it says else
   pub flags : q.flags ≡ p.flags
   pub align : q.align ≡ p.align
-  pub offset : tight ≡ false → (p.kind ≡ PT_GNU_EH_FRAME → ⊥) → p.offset < file_end → q.offset ≡ p.offset
-  pub vaddr : tight ≡ false → (p.kind ≡ PT_GNU_EH_FRAME → ⊥) → q.vaddr ≡ p.vaddr
-  pub paddr : tight ≡ false → (p.kind ≡ PT_GNU_EH_FRAME → ⊥) → q.paddr ≡ p.paddr
-  pub sizes : tight ≡ false → (p.kind ≡ PT_GNU_EH_FRAME → ⊥) → grows ≡ false → (q.filesz ≡ p.filesz) × (q.memsz ≡ p.memsz)
+  pub offset : (NamesNew tight p.kind → ⊥) → p.offset < file_end → q.offset ≡ p.offset
+  pub vaddr : (NamesNew tight p.kind → ⊥) → q.vaddr ≡ p.vaddr
+  pub paddr : (NamesNew tight p.kind → ⊥) → q.paddr ≡ p.paddr
+  pub sizes : (NamesNew tight p.kind → ⊥) → grows ≡ false → (q.filesz ≡ p.filesz) × (q.memsz ≡ p.memsz)
 
 -- each header of a list, by its index
 pub record AreRenewed (file_end step end : ℕ) (tight : Bool) (grows : ℕ → Bool) (ps qs : List Segment) : Type 0 where
@@ -79,13 +83,15 @@ area_segment area align = record {
 abbrev pub inserted : ℕ → Segment → List Segment → List Segment
 inserted at new segments = take at segments ++ (new ∷ drop at segments)
 
--- All headers: those of the input, and where the area has a segment of its own, one more.
+-- All headers: those of the input, and where the area has a segment of its own, one more behind the last that is loaded.
 pub record AreNewHeaders (file_end step : ℕ) (area : Area) (code : ℕ) (ps qs : List Segment) : Type 0 where
   pub renewed : List Segment
   pub are : AreRenewed file_end step area.end area.tight (grows_at area.tight code) ps renewed
   pub kept : area.tight ≡ false → qs ≡ renewed
   pub at : ℕ
   pub within : at ≤ length ps
+  pub behind : area.tight ≡ true → (k : ℕ) (d : Segment) → at ≤ k → k < length ps → is_load (slice_index_or ps k d) ≡ false
+  pub last : area.tight ≡ true → 0 < at → (d : Segment) → is_load (slice_index_or ps (at - 1) d) ≡ true
   pub more : area.tight ≡ true → qs ≡ inserted at (area_segment area (greatest_align ps)) renewed
 
 -- no segment of a file loads an address of a range

@@ -1,5 +1,7 @@
 // The program headers of a written file. gABI, "Program Header".
-ghost use Rattle.std.specs.Prelude.{◌≡◌, ◌≤◌, IfOk, length};
+ghost use Rattle.std.specs.Prelude.{◌≡◌, ◌≤◌, ◌<◌, ◌-◌, ℕ, IfOk, length, slice_index_or, true, false};
+ghost use Rattle.elf_image.specs.declared.segment.Segment.{Segment};
+ghost use Rattle.elf_image.specs.memory.Image.{is_load};
 ghost use Rattle.elf_write.specs.NewSegments as spec;
 
 use crate::area::{Area, Shift};
@@ -213,7 +215,10 @@ impl<'a> Places<'a> {
 
 // How many headers there are up to the last that is loaded.
 fn loads_count(segments: &[Segment]) -> usize
-    ensures { result ≤ length segments.now }
+    ensures within { result ≤ length segments.now }
+    ensures behind { (k : ℕ) (d : Segment) → result ≤ k → k < length segments.now →
+        is_load (slice_index_or segments.now k d) ≡ false }
+    ensures last { 0 < result → (d : Segment) → is_load (slice_index_or segments.now (result - 1) d) ≡ true }
 {
     let mut count = 0;
     for i in 0..segments.len() {
