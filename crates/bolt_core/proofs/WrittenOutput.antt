@@ -88,8 +88,13 @@ module _ (elf : Elf) (funcs : List Func) (refs : Refs) (blocks : List Block) (is
           (rewrite_of (program_of elf funcs refs blocks) w m.map) there)
           (moved.keeps (rewrite_of (program_of elf funcs refs blocks) w m.map) there)
 
-    pub is_laid_out : IsLaidOutBy (program_of elf funcs refs blocks) order m.map
-    is_laid_out = record { forms = moved.forms; are_forms = (moved.mapped).forms; spans_are = (moved.mapped).map_is }
+    pub is_laid_out : IsLaidOutBy (program_of elf funcs refs blocks) order m.map m.emitted.code.items
+    is_laid_out = record {
+      forms = moved.forms;
+      are_forms = (moved.mapped).forms;
+      spans_are = (moved.mapped).map_is;
+      made = moved.made;
+    }
 
     pub bytes_are : length m.emitted.code.items ≡ sum_by (λ s. s.len) m.map
     bytes_are =

@@ -11,14 +11,16 @@ use Rattle.elf_image.specs.memory.CodeSegment.{executable_segment}
 use Rattle.elf_image.specs.memory.Start.{Runs, RunsSoFar}
 use Rattle.addr_map.specs.declared.span.Span.{Span}
 use Rattle.addr_map.specs.MapText.{AreInLineOrder}
-use Rattle.addr_map.specs.Spans.{IsStretch}
+use Rattle.addr_map.specs.Spans.{IsStretch, new}
 use Rattle.sym_machine.specs.SymStart.{SymRuns, SymRunsSoFar}
 use Rattle.edge_profile.specs.Counts.{Counted, ignored_in}
 use Rattle.move_law.specs.Faithful.{IsFaithful}
 use Rattle.move_law.specs.Laws.{FitStack}
 use Rattle.move_law.specs.Rewrite.{Rewrite, executable_of, program}
 use Rattle.branch_fixup.specs.Forms.{AreForms}
-use Rattle.branch_fixup.specs.Strips.{spans_of, strips_of}
+use Rattle.branch_fixup.specs.Strips.{pieces_of, spans_of, strips_of}
+use Rattle.code_emit.specs.Bytes.{Adds}
+use Rattle.code_emit.specs.Made.{made_from}
 use Rattle.elf_write.specs.Area.{area_of, shift_of, start_of}
 use Rattle.elf_write.specs.Carried.{HoldsBytes}
 use Rattle.elf_write.specs.NewSegments.{AreNewHeaders}
@@ -60,11 +62,12 @@ KeepsRunsSoFar x written spans = (words : List (List ℕ)) (input : List ℕ) �
     (m : ℕ) × (m ≤ 3 * n) × RunsSoFar written words input m trace
 
 -- The new code has the blocks in an order, each in a form, from the start of the new area on:
--- the spans are theirs.
-pub record IsLaidOutBy (x : Program) (order : List ℕ) (spans : List Span) : Type 0 where
+-- the spans are theirs, and its bytes are those of their instructions in these forms, and no others.
+pub record IsLaidOutBy (x : Program) (order : List ℕ) (spans : List Span) (code : List ℕ) : Type 0 where
   pub forms : List Form
   pub are_forms : AreForms (strips_of x.code.funcs x.blocks order) (new_start x) forms
   pub spans_are : AreInLineOrder (spans_of (strips_of x.code.funcs x.blocks order) (new_start x) forms) spans
+  pub made : Adds [] code (made_from (new spans) (new_start x) (pieces_of (strips_of x.code.funcs x.blocks order) forms))
 
 -- The sections and symbols of the written file:
 -- those that follow from the input and the map, with no table but these.
@@ -117,9 +120,9 @@ pub record IsRewritten (file profile written : List ℕ) (spans : List Span) (co
   pub so_far : KeepsRunsSoFar program written spans
   -- the new code stands in the profile's order, and is one stretch from the new area's start on
   pub ordered : IsProfileOrder program profile pairs parts order
-  pub laid_out : IsLaidOutBy program order spans
-  -- these are its bytes, and headers, sections and symbols follow the input's and name it
   pub code : List ℕ
+  pub laid_out : IsLaidOutBy program order spans code
+  -- these are its bytes, and headers, sections and symbols follow the input's and name it
   pub stretch : IsStretch spans (new_start program) (new_start program + length code)
   pub code_stands : HoldsBytes written (segments_of written) (new_start program) code
   pub tables : FollowsTables program parts code spans written

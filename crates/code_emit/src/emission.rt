@@ -94,6 +94,12 @@ pub fn emit(
         (λ e. (base : ℕ) → AreMapped (strips_of funcs.now blocks.now plan.now.order.items) forms.now base moved.now →
         base + length e.code.items ≡ end_of (strips_of funcs.now blocks.now plan.now.order.items) base forms.now) }
 
+    // its instructions are those of the blocks in their forms, and no others
+    ensures made { IfOk result
+        (λ e. (base : ℕ) → AreMapped (strips_of funcs.now blocks.now plan.now.order.items) forms.now base moved.now →
+        Adds [] e.code.items
+        (made_from (new moved.now) base (pieces_of (strips_of funcs.now blocks.now plan.now.order.items) forms.now))) }
+
     // in every rewrite with this map that has the code there, each instruction is kept, and goes on to what followed it
     ensures insts { IfOk result
         (λ e. (base : ℕ) → AreMapped (strips_of funcs.now blocks.now plan.now.order.items) forms.now base moved.now →

@@ -1,5 +1,5 @@
 -- The new code of blocks in an order, and the map to it.
-use Rattle.std.specs.Prelude.{◌≡◌, ◌+◌, ◌≤◌, ℕ, List, All, length, map, sum_by}
+use Rattle.std.specs.Prelude.{◌≡◌, ◌+◌, ◌≤◌, ℕ, List, [], All, length, map, sum_by}
 use Rattle.rv_code.specs.declared.cell.CodeCell.{CodeCell}
 use Rattle.rv_code.specs.declared.layout.Form.{Form}
 use Rattle.rv_code.specs.declared.placed.Block.{Block}
@@ -10,8 +10,10 @@ use Rattle.addr_map.specs.Spans.{IsStretch, new}
 use Rattle.move_law.specs.Faithful.{GoesOn, KeepsInst}
 use Rattle.move_law.specs.Rewrite.{Goes, Rewrite}
 use Rattle.branch_fixup.specs.Forms.{AreMap, end_of}
-use Rattle.branch_fixup.specs.Strips.{strips_of}
+use Rattle.branch_fixup.specs.Strips.{pieces_of, strips_of}
+use Rattle.code_emit.specs.Bytes.{Adds}
 use Rattle.code_emit.specs.Inputs.{AreMapped}
+use Rattle.code_emit.specs.Made.{made_from}
 use Rattle.code_emit.specs.Output.{Puts, new_cell}
 use Rattle.bolt_core.specs.declared.moving.MovedCode.{MovedCode}
 
@@ -30,5 +32,6 @@ pub record IsMoved (funcs : List Func) (cells : List CodeCell) (blocks : List Bl
   pub length_is : base + length m.emitted.code.items ≡ end_of (strips_of funcs blocks order) base forms
   pub stretch : IsStretch m.map base (base + length m.emitted.code.items)
   pub fits : length m.emitted.code.items ≤ sum_by (worst_size_of_block funcs) blocks
+  pub made : Adds [] m.emitted.code.items (made_from (new m.map) base (pieces_of (strips_of funcs blocks order) forms))
   pub keeps : KeepsAll funcs m base
   pub cells_are : m.emitted.cells.items ≡ map (new_cell (new m.map)) cells

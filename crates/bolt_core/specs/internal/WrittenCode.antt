@@ -30,8 +30,8 @@ source_of elf emitted spans = record {
 pub record IsOutput (x : Program) (order cold : List ℕ) (o : Output) : Type 0 where
   pub sound : IsSound o.file.items
   pub faithful : IsFaithful (rewrite_of x o.file.items o.map)
-  pub laid_out : IsLaidOutBy x order o.map
   pub code : List ℕ
+  pub laid_out : IsLaidOutBy x order o.map code
   pub stretch : IsStretch o.map (new_start x) (new_start x + length code)
   pub bytes_is : o.bytes ≡ sum_by (λ s. s.len) o.map
   pub code_stands : HoldsBytes o.file.items (segments_of o.file.items) (new_start x) code

@@ -1,4 +1,4 @@
-use Rattle.std.proofs.Common.{◌≡◌, ◌∙◌, ap, subst, sym, ℕ, ◌+◌, ◌≤◌, List, arith, length}
+use Rattle.std.proofs.Common.{◌≡◌, ◌∙◌, ap, subst, sym, ℕ, ◌+◌, ◌≤◌, List, [], arith, length}
 use Rattle.std.specs.Prelude.{IsTrue, sum_by}
 use Rattle.rv_code.specs.declared.layout.Form.{Form}
 use Rattle.rv_code.specs.layout.FunctionLists.{code_limit}
@@ -6,11 +6,13 @@ use Rattle.rv_code.specs.layout.ProgramCode.{IsNamed, is_code_address}
 use Rattle.rv_code.specs.layout.WorstSizes.{worst_size_of_block}
 use Rattle.addr_map.specs.declared.span.Span.{Span}
 use Rattle.addr_map.specs.MapText.{AreInLineOrder}
-use Rattle.addr_map.specs.Spans.{IsStretch}
+use Rattle.addr_map.specs.Spans.{IsStretch, new}
 use Rattle.branch_fixup.specs.Forms.{end_of}
 use Rattle.branch_fixup.specs.Inputs.{code_of}
-use Rattle.branch_fixup.specs.Strips.{Strip, strips_of}
+use Rattle.branch_fixup.specs.Strips.{Strip, pieces_of, strips_of}
+use Rattle.code_emit.specs.Bytes.{Adds}
 use Rattle.code_emit.specs.Inputs.{AreMapped}
+use Rattle.code_emit.specs.Made.{made_from}
 use Rattle.bolt_core.proofs.Maps.{map_in_order, stretch_in_order}
 use Rattle.bolt_core.proofs.moving.move_code.Goals as goal
 
@@ -58,6 +60,10 @@ returns c =
           stretch_in_order c.in_ok-forms.spans.items c.in_ok-map.map start (start + n) c.in_ok-map.ensures
           (subst (λ (end : ℕ). IsStretch c.in_ok-forms.spans.items start end) (sym length_is) c.in_ok-forms.ensures.stretch);
       fits = fits_sum n (end_of ss start fs) start sum length_is c.in_ok-forms.ensures.room;
+      made =
+          subst (λ (gs : List Form). Adds [] c.in_ok-emitted.emitted.code.items
+          (made_from (new c.in_ok-map.map) start (pieces_of ss gs))) c.deref.ensures.value
+          (c.in_ok-emitted.ensures.made start seen);
       keeps = λ r puts. (c.in_ok-emitted.ensures.insts start seen r puts, c.in_ok-emitted.ensures.goes_on start seen r puts);
       cells_are = c.in_ok-emitted.ensures.cells;
     }

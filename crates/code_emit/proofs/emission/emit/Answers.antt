@@ -48,6 +48,12 @@ returns-clause-length c =
     (adds_along c.args.funcs.now c.args.blocks.now c.as_slice-order.result.now order c.args.forms.now c.args.moved.now
     c.in_ok-bytes.bytes.items c.as_slice-order.ensures.value c.in_ok-bytes.ensures base m)
 
+pub returns-clause-made : goal.returns-clause-made
+returns-clause-made c =
+    λ base m.
+    adds_along c.args.funcs.now c.args.blocks.now c.as_slice-order.result.now c.args.plan.now.order.items c.args.forms.now
+    c.args.moved.now c.in_ok-bytes.bytes.items c.as_slice-order.ensures.value c.in_ok-bytes.ensures base m
+
 pub returns-clause-insts : goal.returns-clause-insts
 returns-clause-insts c =
     let q = c.requires in
