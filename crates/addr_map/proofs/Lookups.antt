@@ -1,15 +1,13 @@
 -- Where an instruction went, by columns in the order of the old addresses.
-use Rattle.std.proofs.Common.{◌≡◌, ◌≢◌, ◌+◌, ◌<◌, ◌≤◌, ℕ, zero, suc, Bool, true, false, List, [], ◌∷◌, Option, Some, None}
-use Rattle.std.proofs.Common.{cond, map, length, get_or, arith, refl, ⊎_elim}
+use Rattle.std.proofs.Common.{◌≡◌, ◌≢◌, ◌<◌, ◌≤◌, ℕ, zero, suc, Bool, true, false, List, [], ◌∷◌, Option, Some, None}
+use Rattle.std.proofs.Common.{cond, map, length, get_or, slice_index_or, arith, refl, ⊎_elim}
 use Rattle.std.specs.Prelude.{◌==◌, find, option_map}
 use Rattle.std.proofs.lemmas.Bool.{cases_lt}
 use Rattle.std.proofs.lemmas.Grind.{common_steps}
-use Rattle.rb_lanes.specs.Ranking.{rank}
 use Rattle.addr_map.specs.internal.Columns.{IsAscending}
 use Rattle.addr_map.specs.internal.Orders.{IsRising, moved_in}
 use Rattle.addr_map.specs.Spans.{moved, is_of}
 use Rattle.addr_map.specs.declared.span.Span.{Span}
-use Rattle.addr_map.proofs.Columns.{IsRank, rank_at}
 
 pub rising_ascends : (xs : List ℕ) → IsRising xs → IsAscending xs
 rising_ascends xs up i j le lt = ⊎_elim
@@ -48,37 +46,23 @@ moved_parts (s ∷ spans) a = step (s.input == a) s _ (find (is_of a) spans) (mo
     step true s o f e = refl
     step false s o f e = e
 
--- what is found at the last place up to an address
-pub moved_low : (inputs outs : List ℕ) (a : ℕ) → IsRising inputs → rank inputs a ≡ 0 → moved_in inputs outs a ≡ None
-moved_low inputs outs a up none =
-    let r : IsRank inputs a (rank inputs a) = rank_at inputs a (rising_ascends inputs up) in
-    moved_none inputs outs a (λ i lt e. let above : a < get_or inputs i 0 = r.high i (omega arith) lt in omega arith)
+-- what is found at a place below which all old addresses are lower, and from which on none is
+module _ (inputs outs : List ℕ) (a i : ℕ) (up : IsRising inputs) (same : length outs ≡ length inputs) where
+  pub moved_here : i < length inputs → get_or inputs i 0 ≡ a → moved_in inputs outs a ≡ Some (get_or outs i 0)
+  moved_here inside here =
+      moved_at inputs outs a i same inside here
+      (λ j lt e. let below : get_or inputs j 0 < get_or inputs i 0 = up j i lt inside in omega arith)
 
-pub moved_inside : (inputs outs : List ℕ) (a i : ℕ) → IsRising inputs → length outs ≡ length inputs → rank inputs a ≡ i + 1
-    → i < length outs
-moved_inside inputs outs a i up same count =
-    let r : IsRank inputs a (rank inputs a) = rank_at inputs a (rising_ascends inputs up) in
-    omega (arith, r.within)
-
-pub moved_here : (inputs outs : List ℕ) (a i : ℕ) → IsRising inputs → length outs ≡ length inputs → rank inputs a ≡ i + 1
-    → get_or inputs i 0 ≡ a
-    → moved_in inputs outs a ≡ Some (get_or outs i 0)
-moved_here inputs outs a i up same count here =
-    let r : IsRank inputs a (rank inputs a) = rank_at inputs a (rising_ascends inputs up) in
-    let inside : i < length inputs = omega (arith, r.within) in
-    moved_at inputs outs a i same inside here
-    (λ j lt e. let below : get_or inputs j 0 < get_or inputs i 0 = up j i lt inside in omega arith)
-
-pub moved_other : (inputs outs : List ℕ) (a i : ℕ) → IsRising inputs → rank inputs a ≡ i + 1 → get_or inputs i 0 ≢ a
-    → moved_in inputs outs a ≡ None
-moved_other inputs outs a i up count other =
-    let r : IsRank inputs a (rank inputs a) = rank_at inputs a (rising_ascends inputs up) in
-    let inside : i < length inputs = omega (arith, r.within) in
-    let low : get_or inputs i 0 ≤ a = r.low i (omega arith) in
-    moved_none inputs outs a (λ j lt e. ⊎_elim
-    (λ (before : j < i). let below : get_or inputs j 0 < get_or inputs i 0 = up j i before inside in omega arith)
-    (λ (after : i ≤ j). ⊎_elim
-    (λ (later : i < j). let above : a < get_or inputs j 0 = r.high j (omega arith) lt in omega arith)
-    (λ (sooner : j ≤ i). let at : j ≡ i = omega arith in other (rw at at e))
-    (cases_lt i j))
-    (cases_lt j i))
+  pub moved_nowhere : ((k d : ℕ) → k < i → slice_index_or inputs k d < a) →
+      ((k d : ℕ) → i ≤ k → k < length inputs → a ≤ slice_index_or inputs k d) →
+      (i < length inputs → get_or inputs i 0 ≢ a) → moved_in inputs outs a ≡ None
+  moved_nowhere below above other = moved_none inputs outs a (λ j lt e. ⊎_elim
+      (λ (before : j < i). let low : get_or inputs j 0 < a = below j 0 before in omega arith)
+      (λ (after : i ≤ j). ⊎_elim
+      (λ (later : i < j).
+      let less : get_or inputs i 0 < get_or inputs j 0 = up i j later lt in
+      let high : a ≤ get_or inputs i 0 = above i 0 (omega arith) (omega arith) in
+      omega arith)
+      (λ (sooner : j ≤ i). let at : j ≡ i = omega arith in other (omega arith) (rw at at e))
+      (cases_lt i j))
+      (cases_lt j i))

@@ -33,7 +33,7 @@ impl Model for AddrMap {
 
     ghost view = { λ m. m.by_new };
 
-    ghost invariant = { λ m. (a : ℕ) → moved_in m.by_old.inputs m.by_old.outs.items a ≡ moved m.by_new a };
+    ghost invariant = { λ m. (a : ℕ) → moved_in m.by_old.inputs.items m.by_old.outs.items a ≡ moved m.by_new a };
 }
 
 impl AddrMap {

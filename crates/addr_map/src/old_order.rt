@@ -2,43 +2,48 @@
 ghost use Rattle.std.specs.Prelude.{◌≡◌, IfOk, length, map};
 ghost use Rattle.addr_map.specs.internal.Orders.{IsRising, moved_in};
 
-use crate::column::SortedColumn;
 use crate::parts::{inputs_of, outs_of};
 use crate::span::Span;
 use rb_bytes::fault::NoMemory;
+use rb_lanes::{Hints, count_below};
 use std::alloc::Global;
 
 /// The old addresses in ascending order, and beside each the new one.
 #[derive(Drop)]
 pub(crate) struct OldOrder {
-    inputs: SortedColumn,
+    inputs: Vec<u64>,
+    hints: Hints,
     outs: Vec<u64>,
-    ghost rises: { IsRising inputs },
-    ghost same_count: { length outs.items ≡ length inputs },
+    ghost rises: { IsRising inputs.items },
+    ghost same_count: { length outs.items ≡ length inputs.items },
 }
 
 impl OldOrder {
     /// Takes the spans in the order of their old addresses.
     pub(crate) fn new(alloc: Global, spans: &[Span]) -> Result<OldOrder, NoMemory>
         requires { IsRising (map (λ s. s.input) spans.now) }
-        ensures inputs { IfOk result (λ order. order.inputs ≡ map (λ s. s.input) spans.now) }
+        ensures inputs { IfOk result (λ order. order.inputs.items ≡ map (λ s. s.input) spans.now) }
         ensures outs { IfOk result (λ order. order.outs.items ≡ map (λ s. s.out) spans.now) }
     {
-        let inputs = SortedColumn::new(alloc, inputs_of(alloc, spans)?)?;
+        let inputs = inputs_of(alloc, spans)?;
+        let hints = Hints::new(alloc, &inputs)?;
         let outs = outs_of(alloc, spans)?;
-        Ok(OldOrder { inputs, outs })
+        Ok(OldOrder {
+            inputs,
+            hints,
+            outs,
+        })
     }
 
     /// Where the instruction at `a` went.
     pub(crate) fn moved(&self, a: u64) -> Option<u64>
-        ensures { result ≡ moved_in self.now.inputs self.now.outs.items a }
+        ensures { result ≡ moved_in self.now.inputs.items self.now.outs.items a }
     {
-        let count = self.inputs.rank(a);
-        if count == 0 {
+        let i = count_below(&self.inputs, self.hints.near(a), a);
+        if i == self.inputs.len() {
             return None;
         }
-        let i = count - 1;
-        if self.inputs.members()[i] == a {
+        if self.inputs[i] == a {
             Some(self.outs[i])
         } else {
             None

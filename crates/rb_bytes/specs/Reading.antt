@@ -11,8 +11,8 @@ pub record Reading : Type 0 where
   pub left : List ℕ
 
 -- nothing is read yet
-abbrev pub start_of : List ℕ → Reading
-start_of bytes = record { place = 0; left = bytes }
+abbrev pub whole_reading : List ℕ → Reading
+whole_reading bytes = record { place = 0; left = bytes }
 
 -- between `old` and `new`, n bytes were read
 pub record Passes (n : ℕ) (old new : Reading) : Type 0 where

@@ -1,7 +1,8 @@
 // A cursor over bytes.
-ghost use Rattle.std.specs.Prelude.{◌≡◌, ◌+◌, ◌<◌, length, IfOk, IfErr, OnOk, OnErr};
-ghost use Rattle.rb_bytes.specs.Reading.{Reading, Passes, start_of, number_at, bytes_at, text_at};
+ghost use Rattle.std.specs.Prelude.{◌≡◌, ◌+◌, ◌<◌, ◌≤◌, length, take, drop, IfOk, IfErr, OnOk, OnErr};
+ghost use Rattle.rb_bytes.specs.Reading.{Reading, Passes, whole_reading, number_at, bytes_at, text_at};
 ghost use Rattle.rb_bytes.specs.Leb.{leb_length, uleb_at, sleb_at};
+ghost use Rattle.rb_bytes.specs.declared.gap.Gap.TheVariants.{Short};
 
 use crate::gap::Gap;
 use crate::leb;
@@ -29,7 +30,7 @@ impl<'a> Model for Cursor<'a> {
 
 impl<'a> Cursor<'a> {
     pub fn new(bytes: &'a [u8]) -> Cursor<'a>
-        ensures { result ≡ start_of bytes.now }
+        ensures { result ≡ whole_reading bytes.now }
     {
         Cursor {
             rest: bytes,
@@ -140,15 +141,9 @@ impl<'a> Cursor<'a> {
         ensures forward { OnOk result (self.old.place < self.new.place) }
         ensures unchanged { OnErr result (self.new ≡ self.old) }
     {
-        let Some(end) = leb::end_at(self.rest) else {
-            return Err(Gap::Short);
-        };
-        let (spelling, rest) = self.rest.split_at(end + 1);
-        let Some(number) = leb::unsigned_value(spelling) else {
-            return Err(Gap::Wide);
-        };
-        self.rest = rest;
-        self.place += end + 1;
+        let spelling = self.leb_spelling()?;
+        let number = leb::unsigned_value(spelling).ok_or(Gap::Wide)?;
+        self.pass(spelling.len());
         Ok(number)
     }
 
@@ -161,15 +156,34 @@ impl<'a> Cursor<'a> {
         ensures forward { OnOk result (self.old.place < self.new.place) }
         ensures unchanged { OnErr result (self.new ≡ self.old) }
     {
-        let Some(end) = leb::end_at(self.rest) else {
-            return Err(Gap::Short);
-        };
-        let (spelling, rest) = self.rest.split_at(end + 1);
-        let Some(number) = leb::signed_value(spelling) else {
-            return Err(Gap::Wide);
-        };
-        self.rest = rest;
-        self.place += end + 1;
+        let spelling = self.leb_spelling()?;
+        let number = leb::signed_value(spelling).ok_or(Gap::Wide)?;
+        self.pass(spelling.len());
         Ok(number)
+    }
+
+    // The bytes of the LEB128 number at the front, none of which is passed. `Gap::Short` exactly where the bytes end
+    // before it does.
+    fn leb_spelling(&self) -> Result<&'a [u8], Gap>
+        ensures read { IfOk result (λ s. s.now ≡ take (leb_length self.now.left) self.now.left) }
+        ensures whole { IfOk result (λ s. length s.now ≡ leb_length self.now.left) }
+        ensures within { OnOk result (leb_length self.now.left ≤ length self.now.left) }
+        ensures gap { IfErr result (λ gap. gap ≡ Short) }
+        ensures short { OnErr result (length self.now.left < leb_length self.now.left) }
+    {
+        let end = leb::end_at(self.rest).ok_or(Gap::Short)?;
+        let (spelling, _) = self.rest.split_at(end + 1);
+        Ok(spelling)
+    }
+
+    // Goes past n bytes.
+    fn pass(&mut self, n: usize)
+        requires { n ≤ length self.old.left }
+        ensures passes { Passes n self.old self.new }
+        ensures left { self.new.left ≡ drop n self.old.left }
+    {
+        let (_, rest) = self.rest.split_at(n);
+        self.rest = rest;
+        self.place += n;
     }
 }

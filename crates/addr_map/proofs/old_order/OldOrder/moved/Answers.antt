@@ -1,29 +1,35 @@
-use Rattle.std.proofs.Common.{◌≡◌, ◌≢◌, ◌+◌, ◌-◌, ◌∙◌, Some, get_or, arith, sym, ap}
+use Rattle.std.proofs.Common.{◌≡◌, ◌∙◌, ◌<◌, ◌≤◌, Some, arith, sym, ap, length, get_or}
 use Rattle.std.proofs.lemmas.Grind.{get_or_default_zero}
-use Rattle.rb_lanes.specs.Ranking.{rank}
-use Rattle.addr_map.proofs.Lookups.{moved_low, moved_inside, moved_here, moved_other}
+use Rattle.addr_map.proofs.Lookups.{moved_here, moved_nowhere}
 use Rattle.addr_map.proofs.old_order.OldOrder.moved.Goals as goal
 
-pub returns-then-count-eq0 : goal.returns-then-count-eq0
-returns-then-count-eq0 c =
+pub returns-then-i-len : goal.returns-then-i-len
+returns-then-i-len c =
     let order = c.args.self.now in
-    sym (moved_low order.inputs order.outs.items c.args.a order.rises (sym c.rank-count.ensures ∙ c.if-count-eq0.true))
+    let all : c.count_below-i.result ≡ length order.inputs.items = omega (arith, c.if-i-len.true, c.len.ensures) in
+    sym (moved_nowhere order.inputs.items order.outs.items c.args.a c.count_below-i.result order.rises order.same_count
+    (rw c.deref.ensures.value at c.count_below-i.ensures.below) (rw c.deref.ensures.value at c.count_below-i.ensures.above)
+    (λ inside e. omega arith))
 
-pub returns-then-members-i : goal.returns-then-members-i
-returns-then-members-i c =
+pub returns-then-index-a : goal.returns-then-index-a
+returns-then-index-a c =
     let order = c.args.self.now in
-    let i = c.rank-count.result - 1 in
-    let count : rank order.inputs c.args.a ≡ i + 1 = omega (arith, c.rank-count.ensures, c.if-count-eq0.false) in
-    let here : get_or order.inputs i 0 ≡ c.args.a = rw c.members.ensures at c.if-members-i.true in
-    let inside = moved_inside order.inputs order.outs.items c.args.a i order.rises order.same_count count in
-    let out : c.index.result.now ≡ get_or order.outs.items i 0
-    = c.index.ensures ∙ get_or_default_zero order.outs.items i c.index.result.now inside in
-    ap Some out ∙ sym (moved_here order.inputs order.outs.items c.args.a i order.rises order.same_count count here)
+    let i = c.count_below-i.result in
+    let bound : i ≤ length order.inputs.items = rw c.deref.ensures.value at c.count_below-i.ensures.bound in
+    let inside : i < length order.inputs.items = omega (arith, c.if-i-len.false, c.len.ensures) in
+    let here : get_or order.inputs.items i 0 ≡ c.args.a
+    = sym (c.index.ensures ∙ get_or_default_zero order.inputs.items i c.index.result.now inside) ∙ c.if-index-a.true in
+    let out : c.index-then-index-a.result.now ≡ get_or order.outs.items i 0
+    = c.index-then-index-a.ensures
+    ∙ get_or_default_zero order.outs.items i c.index-then-index-a.result.now (omega (arith, order.same_count)) in
+    ap Some out
+    ∙ sym (moved_here order.inputs.items order.outs.items c.args.a i order.rises order.same_count inside here)
 
-pub returns-else-members-i : goal.returns-else-members-i
-returns-else-members-i c =
+pub returns-else-index-a : goal.returns-else-index-a
+returns-else-index-a c =
     let order = c.args.self.now in
-    let i = c.rank-count.result - 1 in
-    let count : rank order.inputs c.args.a ≡ i + 1 = omega (arith, c.rank-count.ensures, c.if-count-eq0.false) in
-    let other : get_or order.inputs i 0 ≢ c.args.a = rw c.members.ensures at c.if-members-i.false in
-    sym (moved_other order.inputs order.outs.items c.args.a i order.rises count other)
+    let i = c.count_below-i.result in
+    sym (moved_nowhere order.inputs.items order.outs.items c.args.a i order.rises order.same_count
+    (rw c.deref.ensures.value at c.count_below-i.ensures.below) (rw c.deref.ensures.value at c.count_below-i.ensures.above)
+    (λ inside e. c.if-index-a.false
+    (c.index.ensures ∙ get_or_default_zero order.inputs.items i c.index.result.now inside ∙ e)))
