@@ -8,7 +8,7 @@ pub mod Folds
 pub mod LoadLemmas
 pub mod LowSegments
 pub mod LowestPlaces
-pub mod Patches
+pub mod NumberBytes
 pub mod ReachLemmas
 pub mod ReadLists
 pub mod ReadableFiles

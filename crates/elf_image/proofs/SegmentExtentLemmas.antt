@@ -8,11 +8,13 @@ use Rattle.std.proofs.lemmas.List.{append-nil}
 use Rattle.std.proofs.lemmas.List.Elements.{Contains-push, Contains-push_cases, Contains-append_left, Contains-get_or}
 use Rattle.std.proofs.lemmas.List.Quantifiers.{all_pairs_push}
 use Rattle.elf_image.specs.declared.extent.Extent.{Extent}
+use Rattle.elf_image.specs.declared.faults.segment_extents.ExtentKind.{ExtentKind}
+use Rattle.elf_image.specs.declared.faults.segment_extents.ExtentKind.TheVariants.{Addresses, CodeAddresses, FileBytes}
 use Rattle.elf_image.specs.file.Header.{segment, segment_place}
 use Rattle.elf_image.specs.memory.Image.{is_load, end_of, loads_address}
 use Rattle.elf_image.specs.faults.SegmentLayout.{IsFileByte}
 use Rattle.elf_image.specs.faults.LowestPlace.{IsLowest, SomeBelow}
-use Rattle.elf_image.specs.internal.SegmentExtents.{IsCodeExtent, IsAddressExtent, IsFileExtent, AreExtents}
+use Rattle.elf_image.specs.internal.SegmentExtents.{IsCodeExtent, IsAddressExtent, IsFileExtent, IsExtentOf, AreExtents}
 use Rattle.elf_image.specs.internal.Extents.{IsInExtent, SharesAnother}
 use Rattle.elf_image.proofs.LoadLemmas.{loads-parts, loads-from_parts}
 use Rattle.elf_image.proofs.LowestPlaces.{IsLowest-same}
@@ -139,7 +141,7 @@ IsLowest-extents file IsExtent IsOf at some holds n extents o are is =
 abbrev pub IsAddressOf : List ℕ → ℕ → ℕ → Type 0
 IsAddressOf file i a = IsTrue (loads_address a (segment file i))
 
-pub IsAddressExtent-unique : (file : List ℕ) (i : ℕ) (s t : Extent) → IsAddressExtent file i s → IsAddressExtent file i t → s ≡ t
+IsAddressExtent-unique : (file : List ℕ) (i : ℕ) (s t : Extent) → IsAddressExtent file i s → IsAddressExtent file i t → s ≡ t
 IsAddressExtent-unique file i s t (load, start, end, some, place) (load', start', end', some', place') =
     Extent-same s t (start ∙ sym start') (end ∙ sym end') (place ∙ sym place')
 
@@ -173,7 +175,7 @@ IsAddressExtent-holds file i a s (load, start, end, some, place) = (
 abbrev pub IsByteOf : List ℕ → ℕ → ℕ → Type 0
 IsByteOf file i k = IsFileByte k (segment file i)
 
-pub IsFileExtent-unique : (file : List ℕ) (i : ℕ) (s t : Extent) → IsFileExtent file i s → IsFileExtent file i t → s ≡ t
+IsFileExtent-unique : (file : List ℕ) (i : ℕ) (s t : Extent) → IsFileExtent file i s → IsFileExtent file i t → s ≡ t
 IsFileExtent-unique file i s t (load, start, end, some, place) (load', start', end', some', place') =
     Extent-same s t (start ∙ sym start') (end ∙ sym end') (place ∙ sym place')
 
@@ -196,12 +198,6 @@ IsFileExtent-holds file i k s (load, start, end, some, place) = (
 
 -- Addresses of executable segments.
 
-pub IsCodeExtent-unique : (file : List ℕ) (i : ℕ) (s t : Extent) → IsCodeExtent file i s → IsCodeExtent file i t → s ≡ t
-IsCodeExtent-unique file i s t is is' = IsAddressExtent-unique file i s t is.1 is'.1
-
-pub IsCodeExtent-place : (file : List ℕ) (i : ℕ) (s : Extent) → IsCodeExtent file i s → s.place ≡ segment_place file i
-IsCodeExtent-place file i s is = IsAddressExtent-place file i s is.1
-
 -- a segment without addresses has none that are executable
 IfNone-weaker : {X : Type 0} (o : Option X) {P Q : Type 0} → (P → Q) → IfNone o P → IfNone o Q
 IfNone-weaker None to is = to is
@@ -210,3 +206,17 @@ IfNone-weaker (Some x) to is = is
 pub IsCodeExtent-none : (file : List ℕ) (i : ℕ) (o : Option Extent) → IfNone o ((s : Extent) → IsAddressExtent file i s → ⊥) →
     IfNone o ((s : Extent) → IsCodeExtent file i s → ⊥)
 IsCodeExtent-none file i o none = IfNone-weaker o (λ never s is. never s is.1) none
+
+-- Ranges of any kind.
+
+pub IsExtentOf-unique : (kind : ExtentKind) (file : List ℕ) (i : ℕ) (s t : Extent) → IsExtentOf kind file i s →
+    IsExtentOf kind file i t → s ≡ t
+IsExtentOf-unique Addresses file = IsAddressExtent-unique file
+IsExtentOf-unique CodeAddresses file = λ i s t is is'. IsAddressExtent-unique file i s t is.1 is'.1
+IsExtentOf-unique FileBytes file = IsFileExtent-unique file
+
+pub IsExtentOf-place : (kind : ExtentKind) (file : List ℕ) (i : ℕ) (s : Extent) → IsExtentOf kind file i s →
+    s.place ≡ segment_place file i
+IsExtentOf-place Addresses file = IsAddressExtent-place file
+IsExtentOf-place CodeAddresses file = λ i s is. IsAddressExtent-place file i s is.1
+IsExtentOf-place FileBytes file = IsFileExtent-place file

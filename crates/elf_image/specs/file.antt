@@ -1,6 +1,5 @@
 pub mod Header
 pub mod ParsedFile
-pub mod Patches
 pub mod SectionNames
 pub mod Sections
 pub mod StringTables

@@ -52,10 +52,7 @@ impl<'a> SegmentTable<'a> {
         requires { index < e_phnum self.file.now }
         ensures { result ≡ segment self.entry.file.now index }
     {
-        Segment::at(
-            self.file,
-            e_phoff(self.file) as usize + PHDR_SIZE * index as usize,
-        )
+        Segment::at(self.file, self.segment_place(index) as usize)
     }
 }
 
@@ -83,10 +80,7 @@ impl<'a> SectionTable<'a> {
         requires { index < e_shnum self.file.now }
         ensures { result ≡ section_header self.entry.file.now index }
     {
-        SectionHeader::at(
-            self.file,
-            e_shoff(self.file) as usize + SHDR_SIZE * index as usize,
-        )
+        SectionHeader::at(self.file, self.section_place(index) as usize)
     }
 }
 

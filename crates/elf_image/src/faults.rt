@@ -12,6 +12,7 @@ ghost use Rattle.elf_image.specs.file.ParsedFile.{AreSections};
 pub mod checks;
 pub mod loading;
 pub mod overlap;
+pub mod segment_extents;
 pub mod stray;
 pub mod truncated;
 

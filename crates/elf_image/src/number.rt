@@ -1,8 +1,7 @@
-// Numbers in a file's bytes, read and written over, and flags in them. ELF files of this machine are little-endian.
+// Numbers in a file's bytes, and flags in them. ELF files of this machine are little-endian.
 // psABI, "File Header".
 ghost use Rattle.std.specs.Prelude.{◌≡◌, ◌≤◌, ◌<◌, ◌+◌, length};
 ghost use Rattle.elf_image.specs.file.Header.{number_at, is_set};
-ghost use Rattle.elf_image.specs.file.Patches.{patched_number};
 
 use byteorder::{ByteOrder, LittleEndian};
 
@@ -36,20 +35,4 @@ pub fn is_set(flags: u64, flag: u64) -> bool
     ensures { result ≡ is_set flag flags }
 {
     flags / flag % 2 == 1
-}
-
-/// Writes a number of two bytes over those at an offset.
-pub fn patch_u16(file: &mut [u8], offset: usize, number: u16)
-    requires { offset + 2 ≤ length file.old }
-    ensures { file.new ≡ patched_number offset 2 number file.old }
-{
-    LittleEndian::write_u16(&mut file[offset..], number);
-}
-
-/// Writes a number of eight bytes over those at an offset.
-pub fn patch_u64(file: &mut [u8], offset: usize, number: u64)
-    requires { offset + 8 ≤ length file.old }
-    ensures { file.new ≡ patched_number offset 8 number file.old }
-{
-    LittleEndian::write_u64(&mut file[offset..], number);
 }

@@ -5,7 +5,7 @@ use Rattle.std.proofs.lemmas.Grind.{common_steps}
 use Rattle.std.proofs.lemmas.List.{get_or-drop, get_or-take}
 use Rattle.elf_parts.specs.Patches.{Stands}
 use Rattle.elf_parts.specs.declared.parts.Parts.{Parts}
-use Rattle.elf_parts.specs.Parts.{CanStand, HasParts}
+use Rattle.elf_parts.specs.Parts.{PartsFit, HasParts}
 use Rattle.elf_parts.proofs.Patches.{stands-front, stands-behind}
 
 stands-at : (file : List ℕ) (o p : ℕ) (bytes : List ℕ) → o ≡ p → Stands file o bytes → Stands file p bytes
@@ -17,7 +17,7 @@ stands-whole bytes = record { within = omega arith; same = λ j below. ap (λ (k
     zero : (j : ℕ) → 0 + j ≡ j
     zero j = omega arith
 
-pub has_parts : (parts : Parts) (input area zeros more : List ℕ) → CanStand parts (length input) (length area) →
+pub has_parts : (parts : Parts) (input area zeros more : List ℕ) → PartsFit parts (length input) (length area) →
     parts.keep + length zeros ≡ parts.area_at → parts.area_at + length area + length more ≡ parts.behind_at → HasParts parts input
     area ((((take parts.keep input ++ zeros) ++ area) ++ more) ++ take (parts.high - parts.low) (drop parts.low input))
 has_parts parts input area zeros more can first second =
@@ -79,7 +79,7 @@ filled-length xs size below =
     add_back : (a b : ℕ) → a ≤ b → a + (b - a) ≡ b
     add_back a b below = omega arith
 
-pub parts-joined : (parts : Parts) (input area : List ℕ) → CanStand parts (length input) (length area) →
+pub parts-joined : (parts : Parts) (input area : List ℕ) → PartsFit parts (length input) (length area) →
     HasParts parts input area (filled (filled (take parts.keep input) parts.area_at ++ area) parts.behind_at
     ++ take (parts.high - parts.low) (drop parts.low input))
 parts-joined parts input area can =

@@ -12,7 +12,7 @@ use Rattle.elf_parts.specs.Patches.{Patch, put_all, IsWithin, IsBeside, AreApart
 use Rattle.elf_parts.specs.Spelled.{SegmentFits, segment_table}
 use Rattle.elf_parts.specs.Assembled.{PutsNumber, PutsTable}
 use Rattle.elf_parts.proofs.Patches.{stands-each, number_at-stands, get_or-put_all}
-use Rattle.elf_image.proofs.Patches.{number_at-same}
+use Rattle.elf_image.proofs.NumberBytes.{number_at-same}
 use Rattle.elf_parts.proofs.Spelled.{segments_from-stands}
 
 -- a number that a patch puts

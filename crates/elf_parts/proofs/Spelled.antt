@@ -15,8 +15,9 @@ use Rattle.elf_image.specs.file.Header.{number_at, segment_at, segments_from}
 use Rattle.elf_image.specs.file.Sections.{section_header_at}
 use Rattle.elf_parts.specs.declared.spell.SymbolEntry.{SymbolEntry}
 use Rattle.elf_parts.specs.Patches.{Stands}
-use Rattle.elf_parts.specs.Spelled.{Number, number, spelled, segment_numbers, segment_bytes, section_numbers, section_bytes}
-use Rattle.elf_parts.specs.Spelled.{symbol_numbers, symbol_bytes, SegmentFits, SectionFits, segment_table, section_table}
+use Rattle.elf_parts.specs.Spelled.{Number, number, spelled, segment_numbers, segment_bytes, section_numbers}
+use Rattle.elf_parts.specs.Spelled.{section_header_bytes}
+use Rattle.elf_parts.specs.Spelled.{symbol_numbers, symbol_entry_bytes, SegmentFits, SectionFits, segment_table, section_table}
 use Rattle.elf_parts.proofs.Patches.{number_at-stands}
 
 -- Bytes that stand, in parts.
@@ -78,7 +79,7 @@ length-spelled_none = refl
 pub length-segment_bytes : (p : Segment) → length (segment_bytes p) ≡ 56
 length-segment_bytes p = simp (length-spelled_more, length-spelled_none)
 
-pub length-section_bytes : (s : SectionHeader) → length (section_bytes s) ≡ 64
+pub length-section_bytes : (s : SectionHeader) → length (section_header_bytes s) ≡ 64
 length-section_bytes s = simp (length-spelled_more, length-spelled_none)
 
 -- a number that stands in a file, by its place among the spelled ones
@@ -156,7 +157,8 @@ pub ruleset tables = (segment_table-take, segment_table-none, append_assoc, appe
 
 -- Section headers.
 
-pub section_header_at-stands : (file : List ℕ) (o : ℕ) (s : SectionHeader) → SectionFits s → Stands file o (section_bytes s) →
+pub section_header_at-stands : (file : List ℕ) (o : ℕ) (s : SectionHeader) → SectionFits s →
+    Stands file o (section_header_bytes s) →
     section_header_at file o ≡ s
 section_header_at-stands file o s fits stands = λ i. record {
   name = at o 0 4 s.name (omega arith) (omega arith) (number_at-here 4 s.name _ fits.name) i;
@@ -184,17 +186,17 @@ section_header_at-stands file o s fits stands = λ i. record {
     behind_size : List Number
     behind_size = number 4 s.link ∷ number 4 s.info ∷ number 8 s.align ∷ number 8 s.entsize ∷ []
 
-    past_flags : (i n : ℕ) → number_at (section_bytes s) (4 + (4 + (8 + i))) n ≡ number_at (spelled behind_flags) i n
+    past_flags : (i n : ℕ) → number_at (section_header_bytes s) (4 + (4 + (8 + i))) n ≡ number_at (spelled behind_flags) i n
     past_flags i n = number_at-next 4 s.name _ (4 + (8 + i)) n ∙ number_at-next 4 s.kind _ (8 + i) n
         ∙ number_at-next 8 s.flags behind_flags i n
 
     past_size : (i n : ℕ) →
-        number_at (section_bytes s) (4 + (4 + (8 + (8 + (8 + (8 + i)))))) n ≡ number_at (spelled behind_size) i n
+        number_at (section_header_bytes s) (4 + (4 + (8 + (8 + (8 + (8 + i)))))) n ≡ number_at (spelled behind_size) i n
     past_size i n = past_flags (8 + (8 + (8 + i))) n ∙ number_at-next 8 s.addr _ (8 + (8 + i)) n
         ∙ number_at-next 8 s.offset _ (8 + i) n ∙ number_at-next 8 s.size behind_size i n
 
-    at : (q i n v : ℕ) → i + n ≤ 64 → q ≡ o + i → number_at (section_bytes s) i n ≡ v → number_at file q n ≡ v
-    at q i n v inside place is = field file o (section_bytes s) 64 q i n v stands (length-section_bytes s) inside place is
+    at : (q i n v : ℕ) → i + n ≤ 64 → q ≡ o + i → number_at (section_header_bytes s) i n ≡ v → number_at file q n ≡ v
+    at q i n v inside place is = field file o (section_header_bytes s) 64 q i n v stands (length-section_bytes s) inside place is
 
 pub section-in-table : (ss : List SectionHeader) (file : List ℕ) (o k : ℕ) (d : SectionHeader) → All SectionFits ss →
     Stands file o (section_table ss) → k < length ss → section_header_at file (o + SHDR_SIZE * k) ≡ get_or ss k d
@@ -203,26 +205,27 @@ section-in-table [] file o k d fits stands below = absurd (omega arith)
 section-in-table (s ∷ ss) file o zero d fits stands below =
     let here : o + SHDR_SIZE * 0 ≡ o = omega arith in
     ap (λ (q : ℕ). section_header_at file q) here
-    ∙ section_header_at-stands file o s (fits 0 s (omega arith)) (stands-first file o (section_bytes s) (section_table ss) stands)
+    ∙ section_header_at-stands file o s (fits 0 s (omega arith))
+    (stands-first file o (section_header_bytes s) (section_table ss) stands)
 section-in-table (s ∷ ss) file o (suc k) d fits stands below =
     let next : Stands file (o + SHDR_SIZE) (section_table ss) = subst (λ (n : ℕ). Stands file (o + n) (section_table ss))
-    (length-section_bytes s) (stands-rest file o (section_bytes s) (section_table ss) stands) in
+    (length-section_bytes s) (stands-rest file o (section_header_bytes s) (section_table ss) stands) in
     let there : o + SHDR_SIZE * suc k ≡ o + SHDR_SIZE + SHDR_SIZE * k = omega arith in
     ap (λ (q : ℕ). section_header_at file q) there
     ∙ section-in-table ss file (o + SHDR_SIZE) k d (λ j e low. fits (suc j) e (omega arith)) next (omega arith)
 
 pub section_table-take : (ss : List SectionHeader) (i : ℕ) (d : SectionHeader) → i < length ss →
-    section_table (take (i + 1) ss) ≡ section_table (take i ss) ++ section_bytes (get_or ss i d)
+    section_table (take (i + 1) ss) ≡ section_table (take i ss) ++ section_header_bytes (get_or ss i d)
 unfolding section_table
 section_table-take [] i d below = absurd (omega arith)
-section_table-take (s ∷ ss) zero d below = append-nil (section_bytes s)
+section_table-take (s ∷ ss) zero d below = append-nil (section_header_bytes s)
 section_table-take (s ∷ ss) (suc i) d below =
-    let rest : section_table (take (i + 1) ss) ≡ section_table (take i ss) ++ section_bytes (get_or ss i d) =
+    let rest : section_table (take (i + 1) ss) ≡ section_table (take i ss) ++ section_header_bytes (get_or ss i d) =
     section_table-take ss i d (omega arith) in
     let count : suc i + 1 ≡ suc (i + 1) = omega arith in
     ap (λ (n : ℕ). section_table (take n (s ∷ ss))) count
-    ∙ ap (λ (xs : List ℕ). section_bytes s ++ xs) rest
-    ∙ sym (append_assoc (section_bytes s) (section_table (take i ss)) (section_bytes (get_or ss i d)))
+    ∙ ap (λ (xs : List ℕ). section_header_bytes s ++ xs) rest
+    ∙ sym (append_assoc (section_header_bytes s) (section_table (take i ss)) (section_header_bytes (get_or ss i d)))
 
 pub section_table-none : section_table [] ≡ []
 unfolding section_table
@@ -231,7 +234,7 @@ section_table-none = refl
 pub section_bytes-appended : (xs : List ℕ) (s : SectionHeader) →
     (((((((((xs ++ little_bytes 4 s.name) ++ little_bytes 4 s.kind) ++ little_bytes 8 s.flags) ++ little_bytes 8 s.addr)
     ++ little_bytes 8 s.offset) ++ little_bytes 8 s.size) ++ little_bytes 4 s.link) ++ little_bytes 4 s.info)
-    ++ little_bytes 8 s.align) ++ little_bytes 8 s.entsize ≡ xs ++ section_bytes s
+    ++ little_bytes 8 s.align) ++ little_bytes 8 s.entsize ≡ xs ++ section_header_bytes s
 unfolding spelled
 section_bytes-appended xs s = simp (append_assoc, append-nil)
 
@@ -248,11 +251,11 @@ length-segment_table (p ∷ ps) =
 
 -- Symbols.
 
-pub length-symbol_bytes : (s : SymbolEntry) → length (symbol_bytes s) ≡ 24
+pub length-symbol_bytes : (s : SymbolEntry) → length (symbol_entry_bytes s) ≡ 24
 length-symbol_bytes s = simp (length-spelled_more, length-spelled_none)
 
 pub symbol_bytes-appended : (xs : List ℕ) (s : SymbolEntry) →
     (((((xs ++ little_bytes 4 s.name) ++ little_bytes 1 s.info) ++ little_bytes 1 s.other) ++ little_bytes 2 s.section)
-    ++ little_bytes 8 s.value) ++ little_bytes 8 s.size ≡ xs ++ symbol_bytes s
+    ++ little_bytes 8 s.value) ++ little_bytes 8 s.size ≡ xs ++ symbol_entry_bytes s
 unfolding spelled
 symbol_bytes-appended xs s = simp (append_assoc, append-nil)

@@ -5,7 +5,7 @@ use Rattle.elf_parts.specs.declared.parts.Parts.{Parts}
 use Rattle.elf_parts.specs.Patches.{Stands}
 
 -- they lie apart, and come from the input
-pub record CanStand (parts : Parts) (input_size area_size : ℕ) : Type 0 where
+pub record PartsFit (parts : Parts) (input_size area_size : ℕ) : Type 0 where
   pub front : parts.keep ≤ input_size
   pub apart : parts.keep ≤ parts.area_at
   pub behind : parts.area_at + area_size ≤ parts.behind_at

@@ -31,15 +31,15 @@ section_numbers s =
     number 4 s.name ∷ number 4 s.kind ∷ number 8 s.flags ∷ number 8 s.addr ∷ number 8 s.offset ∷ number 8 s.size
     ∷ number 4 s.link ∷ number 4 s.info ∷ number 8 s.align ∷ number 8 s.entsize ∷ []
 
-abbrev pub section_bytes : SectionHeader → List ℕ
-section_bytes s = spelled (section_numbers s)
+abbrev pub section_header_bytes : SectionHeader → List ℕ
+section_header_bytes s = spelled (section_numbers s)
 
 abbrev pub symbol_numbers : SymbolEntry → List Number
 symbol_numbers s =
     number 4 s.name ∷ number 1 s.info ∷ number 1 s.other ∷ number 2 s.section ∷ number 8 s.value ∷ number 8 s.size ∷ []
 
-abbrev pub symbol_bytes : SymbolEntry → List ℕ
-symbol_bytes s = spelled (symbol_numbers s)
+abbrev pub symbol_entry_bytes : SymbolEntry → List ℕ
+symbol_entry_bytes s = spelled (symbol_numbers s)
 
 -- each number fits its field
 pub record SegmentFits (p : Segment) : Type 0 where
@@ -71,4 +71,4 @@ segment_table (p ∷ ps) = segment_bytes p ++ segment_table ps
 
 unfoldable pub section_table : List SectionHeader → List ℕ
 section_table [] = []
-section_table (s ∷ ss) = section_bytes s ++ section_table ss
+section_table (s ∷ ss) = section_header_bytes s ++ section_table ss

@@ -2,7 +2,7 @@
 ghost use Rattle.std.specs.Prelude.{◌≡◌, ◌≤◌, ◌+◌, ◌∷◌, IfOk, All, length, map};
 ghost use Rattle.elf_parts.specs.Assembled.{IsAssembled};
 ghost use Rattle.elf_parts.specs.Numbers.{CanPut, patch_of};
-ghost use Rattle.elf_parts.specs.Parts.{CanStand, size_of};
+ghost use Rattle.elf_parts.specs.Parts.{PartsFit, size_of};
 ghost use Rattle.elf_parts.specs.Patches.{put_all};
 
 use crate::number_at::{NumberAt, put_numbers};
@@ -43,7 +43,7 @@ pub fn assemble(
     table: &[u8],
     fields: &[NumberAt],
 ) -> Result<Vec<u8>, NoMemory>
-    requires can { CanStand parts.now (length input.now) (length area.now) }
+    requires can { PartsFit parts.now (length input.now) (length area.now) }
     requires cells { All (CanPut (size_of parts.now + length tail.now)) cells.now }
     requires table { table_at + length table.now ≤ size_of parts.now + length tail.now }
     requires fields { All (CanPut (size_of parts.now + length tail.now)) fields.now }

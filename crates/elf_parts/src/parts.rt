@@ -1,6 +1,6 @@
 // The parts of a written file before its tail: the front of the input, the new area, and loaded bytes behind it.
 ghost use Rattle.std.specs.Prelude.{IfOk, length};
-ghost use Rattle.elf_parts.specs.Parts.{CanStand, HasParts};
+ghost use Rattle.elf_parts.specs.Parts.{PartsFit, HasParts};
 
 use crate::patch::fill_to;
 use rb_bytes::fault::NoMemory;
@@ -26,7 +26,7 @@ pub fn join_parts(
     input: &[u8],
     area: &[u8],
 ) -> Result<Vec<u8>, NoMemory>
-    requires { CanStand parts.now (length input.now) (length area.now) }
+    requires { PartsFit parts.now (length input.now) (length area.now) }
     ensures { IfOk result (λ base. HasParts parts.now input.now area.now base.items) }
 {
     let mut base = Vec::from_slice(alloc, &input[..parts.keep])?;

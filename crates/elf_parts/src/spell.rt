@@ -81,7 +81,7 @@ pub fn put_segments(out: &mut Vec<u8>, segments: &[Segment]) -> Result<(), NoMem
 
 /// Appends a section header.
 pub fn put_section(out: &mut Vec<u8>, s: &SectionHeader) -> Result<(), NoMemory>
-    ensures { OnOk result (out.new.items ≡ out.old.items ++ spec.section_bytes s.now) }
+    ensures { OnOk result (out.new.items ≡ out.old.items ++ spec.section_header_bytes s.now) }
 {
     put_u32(out, s.name)?;
     put_u32(out, s.kind)?;
@@ -109,7 +109,7 @@ pub fn put_sections(out: &mut Vec<u8>, sections: &[SectionHeader]) -> Result<(),
 
 /// Appends an entry of the symbol table.
 pub fn put_symbol(out: &mut Vec<u8>, s: &SymbolEntry) -> Result<(), NoMemory>
-    ensures { OnOk result (out.new.items ≡ out.old.items ++ spec.symbol_bytes s.now) }
+    ensures { OnOk result (out.new.items ≡ out.old.items ++ spec.symbol_entry_bytes s.now) }
 {
     put_u32(out, s.name)?;
     put_u8(out, s.info)?;

@@ -1,3 +1,3 @@
 pub mod Machine
-pub mod Determined
+pub mod DeterminedRuns
 pub mod Step

@@ -14,6 +14,7 @@ pub mod opcode;
 pub mod placed;
 pub mod register;
 pub mod value;
+pub mod worst_sizes;
 
 pub use action::{Action, Extension, Operand, Test};
 pub use cause::Cause;
@@ -24,3 +25,4 @@ pub use op::Op;
 pub use placed::{Block, Func, Placed, Role, Width};
 pub use register::{RETURN_ADDRESS, STACK_POINTER, ZERO};
 pub use value::{op_value, taken};
+pub use worst_sizes::worst_size_of_block;

@@ -1,5 +1,5 @@
 // The two-byte loads and stores. ISA manual, section 26.3.
-ghost use Rattle.std.specs.Prelude.{◌<◌};
+ghost use Rattle.std.specs.Prelude.{◌≡◌, ◌≢◌, ◌⊎◌, ◌<◌, ◌≤◌, IfSome, IfNone};
 ghost use Rattle.rv_code.specs.isa.HalfRows.{C_LWSP, C_LDSP, C_SWSP, C_SDSP};
 ghost use Rattle.rv_code.specs.declared.inst.Inst.TheVariants.{Lw, Ld, Sw, Sd};
 ghost use Rattle.rv_encode.specs.internal.Finding.{Finds, FindsRow};
@@ -42,14 +42,24 @@ pub fn access_double(funct3: u32, register: u8, base: u8, imm: i64) -> Option<u1
     Some(half as u16)
 }
 
-/// C.LWSP.
-pub fn c_lwsp(rd: u8, rs1: u8, imm: i64) -> Option<u16>
-    ensures { FindsRow C_LWSP (Lw rd rs1 imm) result }
+// The register of a load whose base is the stack pointer, in a field of five bits. None for x0, which such a load
+// doesn't take.
+fn loaded_from_stack(rd: u8, rs1: u8) -> Option<u32>
+    ensures found { IfSome result (λ n. (n < 32) × (n ≡ rd)) }
+    ensures base { IfSome result (λ n. (rs1 ≡ 2) × (rd ≢ 0)) }
+    ensures none { IfNone result ((rs1 ≢ 2) ⊎ ((rd ≡ 0) ⊎ (32 ≤ rd))) }
 {
     if rs1 != STACK_POINTER || rd == ZERO {
         return None;
     }
-    let rd = five_bits(rd)?;
+    five_bits(rd)
+}
+
+/// C.LWSP.
+pub fn c_lwsp(rd: u8, rs1: u8, imm: i64) -> Option<u16>
+    ensures { FindsRow C_LWSP (Lw rd rs1 imm) result }
+{
+    let rd = loaded_from_stack(rd, rs1)?;
     let number = multiple(imm, 4, 256)?;
     let half = 2
         + (bits(number, 6, 2) << 2)
@@ -64,10 +74,7 @@ pub fn c_lwsp(rd: u8, rs1: u8, imm: i64) -> Option<u16>
 pub fn c_ldsp(rd: u8, rs1: u8, imm: i64) -> Option<u16>
     ensures { FindsRow C_LDSP (Ld rd rs1 imm) result }
 {
-    if rs1 != STACK_POINTER || rd == ZERO {
-        return None;
-    }
-    let rd = five_bits(rd)?;
+    let rd = loaded_from_stack(rd, rs1)?;
     let number = multiple(imm, 8, 512)?;
     let half = 2
         + (bits(number, 6, 3) << 2)

@@ -12,7 +12,7 @@ use Rattle.elf_image.specs.memory.Image.{image_byte, is_loaded_with}
 use Rattle.elf_image.specs.memory.Start.{in_stack, stack_end, stack_size, writable_end, break_start, break_bound, break_room}
 use Rattle.elf_image.specs.memory.Start.{pages_above}
 use Rattle.rv_memory.specs.declared.memory.Memory.{Memory}
-use Rattle.rv_memory.specs.CodeRange.{holds}
+use Rattle.rv_memory.specs.CodeRange.{is_in_code}
 use Rattle.rv_memory.specs.Memory.{memory_of, is_zero_filled, unwritten_byte, writes, executes, Keeps}
 use Rattle.std.proofs.Common.{drop, get_or}
 use Rattle.std.proofs.lemmas.List.{get_or-drop}
@@ -70,7 +70,7 @@ not_gained from to bound q below apart =
     clash (nat_le from q && nat_lt q bound)
     (and_from (nat_le from q) (nat_lt q bound) parts.0 (lt-ltb q bound (omega arith))) apart)
 
-fixed_parts : (m : Memory) (q : ℕ) → holds m.code q ≡ true → (is_loaded_with PF_W m.elf.now.segments.items q ≡ false)
+fixed_parts : (m : Memory) (q : ℕ) → is_in_code m.code q ≡ true → (is_loaded_with PF_W m.elf.now.segments.items q ≡ false)
     × (in_stack q ≡ false) × ((nat_le m.break_start q && nat_lt q m.break_bound) ≡ false)
 fixed_parts m q here =
     let outer =
@@ -79,25 +79,25 @@ fixed_parts m q here =
     let inner = neither (is_loaded_with PF_W m.elf.now.segments.items q) (in_stack q) outer.0 in
     (inner.0, inner.1, outer.1)
 
-pub unwritable : (m : Memory) (q : ℕ) → holds m.code q ≡ true → writes m q ≡ false
+pub unwritable : (m : Memory) (q : ℕ) → is_in_code m.code q ≡ true → writes m q ≡ false
 unwritable m q here =
     let parts = fixed_parts m q here in
     let below = m.break_to in
     let within = m.break_within in
     rw (parts.0, parts.1, not_gained m.break_start m.program_break m.break_bound q (omega arith) parts.2) refl
 
-pub not_zero_filled : (m : Memory) (q : ℕ) → holds m.code q ≡ true → is_zero_filled m q ≡ false
+pub not_zero_filled : (m : Memory) (q : ℕ) → is_in_code m.code q ≡ true → is_zero_filled m q ≡ false
 not_zero_filled m q here =
     let parts = fixed_parts m q here in
     rw (parts.1, not_gained m.break_start m.break_top m.break_bound q m.break_within parts.2) refl
 
-pub unwritten_code : (m : Memory) (q : ℕ) → holds m.code q ≡ true →
+pub unwritten_code : (m : Memory) (q : ℕ) → is_in_code m.code q ≡ true →
     unwritten_byte m q ≡ unwrap_or (image_byte m.elf.now.file.now m.elf.now.segments.items q) 0
 unwritten_code m q here =
     ap (λ t. if t then 0 else unwrap_or (image_byte m.elf.now.file.now m.elf.now.segments.items q) 0) (not_zero_filled m q here)
 
 -- code reads as it was loaded
-pub code_is : (m : Memory) (q : ℕ) → holds m.code q ≡ true →
+pub code_is : (m : Memory) (q : ℕ) → is_in_code m.code q ≡ true →
     memory_of m q ≡ unwrap_or (image_byte m.elf.now.file.now m.elf.now.segments.items q) 0
 code_is m q here = cases (page_byte m.pages q) refl
   where
@@ -107,7 +107,7 @@ code_is m q here = cases (page_byte m.pages q) refl
     cases (Some byte) is = m.code_stays q byte here is
 
 -- no written address is in the code
-not_written : (m : Memory) (a n : ℕ) → a + n ≤ 2 ^ 64 → all_may (writes m) a n ≡ true → (q : ℕ) → holds m.code q ≡ true →
+not_written : (m : Memory) (a n : ℕ) → a + n ≤ 2 ^ 64 → all_may (writes m) a n ≡ true → (q : ℕ) → is_in_code m.code q ≡ true →
     is_within a n q ≡ false
 not_written m a n room all q here =
     false_from_ne_true (is_within a n q) (λ e.
@@ -120,7 +120,7 @@ not_written m a n room all q here =
 
 pub code_put : (m : Memory) (new : ℕ → Option ℕ) (a : ℕ) (bytes : List ℕ) → a + length bytes ≤ 2 ^ 64 →
     all_may (writes m) a (length bytes) ≡ true → ((q : ℕ) → new q ≡ byte_put m.pages a bytes q) →
-    (q byte : ℕ) → holds m.code q ≡ true →
+    (q byte : ℕ) → is_in_code m.code q ≡ true →
     new q ≡ Some byte → byte ≡ unwrap_or (image_byte m.elf.now.file.now m.elf.now.segments.items q) 0
 code_put m new a bytes room all is q byte here found =
     m.code_stays q byte here
@@ -129,14 +129,15 @@ code_put m new a bytes room all is q byte here found =
 
 pub code_put_byte : (m : Memory) (new : ℕ → Option ℕ) (a b : ℕ) → writes m a ≡ true →
     ((q : ℕ) → new q ≡ (if q == a then Some b else page_byte m.pages q)) → (q byte : ℕ) →
-    holds m.code q ≡ true → new q ≡ Some byte → byte ≡ unwrap_or (image_byte m.elf.now.file.now m.elf.now.segments.items q) 0
+    is_in_code m.code q ≡ true → new q ≡ Some byte → byte ≡ unwrap_or (image_byte m.elf.now.file.now m.elf.now.segments.items q) 0
 code_put_byte m new a b may is q byte here found =
     let other : (q == a) ≡ false =
     false_from_ne_true (q == a) (λ e. clash (writes m q) (ap (writes m) (eqb-true q a e) ∙ may) (unwritable m q here)) in
     m.code_stays q byte here (sym (is q ∙ ap (λ t. if t then Some b else page_byte m.pages q) other) ∙ found)
 
 pub code_cleared : (m : Memory) (new : ℕ → Option ℕ) (to : ℕ) → to ≤ m.break_bound →
-    ((q : ℕ) → new q ≡ cleared_between m.pages m.program_break to q) → (q byte : ℕ) → holds m.code q ≡ true → new q ≡ Some byte →
+    ((q : ℕ) → new q ≡ cleared_between m.pages m.program_break to q) → (q byte : ℕ) →
+    is_in_code m.code q ≡ true → new q ≡ Some byte →
     byte ≡ unwrap_or (image_byte m.elf.now.file.now m.elf.now.segments.items q) 0
 code_cleared m new to below is q byte here found =
     let parts = fixed_parts m q here in
@@ -156,7 +157,7 @@ pub code_taken : {T E : Type 0} (m : Memory) (r : Result T E) (new : ℕ → Opt
     (IsOk r → (q : ℕ) → new q ≡ (if q / 4096 == n then Some (slice_index page (q % 4096)) else page_byte m.pages q)) →
     OnErr r ((q : ℕ) → new q ≡ page_byte m.pages q) →
     ((k : ℕ) → k < 4096 → slice_index page k ≡ unwritten_byte m (n * 4096 + k)) →
-    (q byte : ℕ) → holds m.code q ≡ true → new q ≡ Some byte →
+    (q byte : ℕ) → is_in_code m.code q ≡ true → new q ≡ Some byte →
     byte ≡ unwrap_or (image_byte m.elf.now.file.now m.elf.now.segments.items q) 0
 code_taken m (Err e) new n page added kept bytes q byte here found = m.code_stays q byte here (sym (kept q) ∙ found)
 code_taken m (Ok x) new n page added kept bytes q byte here found = cases (q / 4096 == n) refl
@@ -193,7 +194,7 @@ code_half_is m a low high room =
     let at = m.code.offset + (a - m.code.from) in
     little_from-is (memory_of m) (drop at file) 2 0 a (omega arith)
     (λ k less.
-    let here : holds m.code (a + k) ≡ true =
+    let here : is_in_code m.code (a + k) ≡ true =
     and_from (nat_le m.code.from (a + k)) (nat_lt (a + k) m.code.to) (le-leb m.code.from (a + k) (omega arith))
     (lt-ltb (a + k) m.code.to (omega arith)) in
     let place : m.code.offset + (a + k - m.code.from) ≡ at + (0 + k) = omega arith in
@@ -224,7 +225,7 @@ code_runs_next m a low high room =
 -- the same for a write that is made or not
 pub code_put_if : (m : Memory) (done : Bool) (new : ℕ → Option ℕ) (a n : ℕ) (bytes : List ℕ) → length bytes ≡ n → a + n ≤ 2 ^ 64 →
     all_may (writes m) a n ≡ true → (done ≡ true → (q : ℕ) → new q ≡ byte_put m.pages a bytes q) →
-    (done ≡ false → (q : ℕ) → new q ≡ page_byte m.pages q) → (q byte : ℕ) → holds m.code q ≡ true → new q ≡ Some byte →
+    (done ≡ false → (q : ℕ) → new q ≡ page_byte m.pages q) → (q byte : ℕ) → is_in_code m.code q ≡ true → new q ≡ Some byte →
     byte ≡ unwrap_or (image_byte m.elf.now.file.now m.elf.now.segments.items q) 0
 code_put_if m true new a n bytes size room all put kept =
     code_put m new a bytes (omega arith) (ap (all_may (writes m) a) size ∙ all) (put refl)

@@ -14,11 +14,16 @@ use Rattle.byteorder.specs.Endian.{little_bytes}
 use Rattle.byteorder.specs.Numbers.{length-bytes_low_first}
 use borrow.Rule.Slice.PartMut.{put_mid}
 use Rattle.rv_code.specs.machine.Machine.{low_bytes}
-use Rattle.elf_image.proofs.Patches.{patched_at}
 use Rattle.rv_memory.specs.Patched.{patched}
 use Rattle.rv_memory.specs.Pages.{is_within}
 use Rattle.rv_memory.proofs.Cells.{bytes_low_first-low_bytes}
 use Rattle.rv_memory.proofs.StackLengths.{low_bytes-mod}
+
+-- a write at the front of what follows a place
+patched_at : (a n : ℕ) (xs bytes : List ℕ) → take a xs
+    ++ ((bytes ++ drop n (take (length xs - a) (drop a xs))) ++ drop (length xs - a) (drop a xs)) ≡ take a xs
+    ++ (bytes ++ drop (a + n) xs)
+patched_at a n xs bytes = grind (arith, common_steps)
 
 pub length-patched : (at : ℕ) (ys xs : List ℕ) → at + length ys ≤ length xs → length (patched at ys xs) ≡ length xs
 unfolding patched

@@ -6,8 +6,8 @@ use Rattle.elf_image.specs.memory.Image.{has_flag, is_loaded_with}
 use Rattle.elf_image.specs.memory.Start.{in_stack, stack_end, stack_size}
 use Rattle.rv_memory.specs.declared.code_range.CodeRange.{CodeRange}
 
-abbrev pub holds : CodeRange → ℕ → Bool
-holds range q = nat_le range.from q && nat_lt q range.to
+abbrev pub is_in_code : CodeRange → ℕ → Bool
+is_in_code range q = nat_le range.from q && nat_lt q range.to
 
 -- it is loaded to be written, in the stack, or in what a break can gain that starts and ends there
 abbrev pub is_ever_writable : List Segment → ℕ → ℕ → ℕ → Bool

@@ -4,7 +4,7 @@ ghost use Rattle.std.specs.Prelude.{unwrap_or};
 ghost use Rattle.elf_image.specs.declared.segment.TheConstants.{PF_X};
 ghost use Rattle.elf_image.specs.declared.segment.Segment.{Segment};
 ghost use Rattle.elf_image.specs.memory.Image.{image_byte, is_loaded_with, segment_of};
-ghost use Rattle.rv_memory.specs.CodeRange.{holds, is_ever_writable, IsFixedCode, range_of};
+ghost use Rattle.rv_memory.specs.CodeRange.{is_in_code, is_ever_writable, IsFixedCode, range_of};
 
 use crate::rights::{STACK_END, STACK_SIZE};
 use elf_image::Elf;
@@ -36,9 +36,10 @@ fn lie_apart(from: u64, to: u64, start: u64, end: u64) -> bool
 
 /// What the file has of the segment of the entry point, where that may be executed and never be written. Empty elsewhere.
 pub fn code_range(elf: &Elf, break_start: u64, break_bound: u64) -> CodeRange
-    ensures fixed { (q : ℕ) → holds result q ≡ true → is_ever_writable elf.now.segments.items break_start break_bound q ≡ false }
-    ensures runs { (q : ℕ) → holds result q ≡ true → is_loaded_with PF_X elf.now.segments.items q ≡ true }
-    ensures bytes { (q : ℕ) → holds result q ≡ true →
+    ensures fixed { (q : ℕ) → is_in_code result q ≡ true →
+        is_ever_writable elf.now.segments.items break_start break_bound q ≡ false }
+    ensures runs { (q : ℕ) → is_in_code result q ≡ true → is_loaded_with PF_X elf.now.segments.items q ≡ true }
+    ensures bytes { (q : ℕ) → is_in_code result q ≡ true →
         unwrap_or (image_byte elf.now.file.now elf.now.segments.items q) 0
         ≡ slice_index elf.now.file.now (result.offset + (q - result.from)) }
     ensures whole { (p : Segment) → segment_of elf.now.segments.items elf.now.entry ≡ Some p →

@@ -1,7 +1,7 @@
 // The memory of a machine: what was written, over what the file loads.
 ghost use Rattle.elf_image.specs.declared.segment.TheConstants.{PF_X};
 ghost use Rattle.elf_image.specs.memory.Image.{image_byte, is_loaded_with};
-ghost use Rattle.rv_memory.specs.CodeRange.{holds, is_ever_writable};
+ghost use Rattle.rv_memory.specs.CodeRange.{is_in_code, is_ever_writable};
 ghost use Rattle.rv_memory.specs.Pages.{page_byte};
 ghost use Rattle.std.specs.Prelude.{◌≡◌, ◌↔◌, ◌<◌, ◌≤◌, ◌^◌, ◌+◌, ◌-◌, ◌*◌, ◌%◌, ◌&&◌, ◌==◌, ℕ, Bool, false, None, Some, IfOk};
 ghost use Rattle.std.specs.Prelude.{IsOk, IsTrue, OnErr, IfSome, IsSome, length, nat_le, nat_lt, true, slice_index, unwrap_or};
@@ -38,15 +38,15 @@ pub struct Memory<'a> {
     pub ghost break_from: { break_start ≤ program_break },
     pub ghost break_to: { program_break ≤ break_top },
     pub ghost break_within: { break_top ≤ break_bound },
-    pub ghost code_fixed: { (q : ℕ) → holds code q ≡ true →
+    pub ghost code_fixed: { (q : ℕ) → is_in_code code q ≡ true →
         is_ever_writable elf.now.segments.items break_start break_bound q ≡ false },
-    pub ghost code_runs: { (q : ℕ) → holds code q ≡ true → is_loaded_with PF_X elf.now.segments.items q ≡ true },
-    pub ghost code_bytes: { (q : ℕ) → holds code q ≡ true →
+    pub ghost code_runs: { (q : ℕ) → is_in_code code q ≡ true → is_loaded_with PF_X elf.now.segments.items q ≡ true },
+    pub ghost code_bytes: { (q : ℕ) → is_in_code code q ≡ true →
         unwrap_or (image_byte elf.now.file.now elf.now.segments.items q) 0
         ≡ slice_index elf.now.file.now (code.offset + (q - code.from)) },
     pub ghost code_within: { code.offset + (code.to - code.from) ≤ length elf.now.file.now },
-    // It is as it was loaded, also where a page holds it.
-    pub ghost code_stays: { (q byte : ℕ) → holds code q ≡ true → page_byte pages q ≡ Some byte →
+    // It is as it was loaded, also where a page is_in_code it.
+    pub ghost code_stays: { (q byte : ℕ) → is_in_code code q ≡ true → page_byte pages q ≡ Some byte →
         byte ≡ unwrap_or (image_byte elf.now.file.now elf.now.segments.items q) 0 },
 }
 

@@ -1,6 +1,8 @@
 -- The addresses of loaded segments, and their bytes of the file, as ranges.
 use Rattle.std.specs.Prelude.{◌≡◌, ◌<◌, ◌+◌, ℕ, List, Contains, AllPairs, IsTrue}
 use Rattle.elf_image.specs.declared.extent.Extent.{Extent}
+use Rattle.elf_image.specs.declared.faults.segment_extents.ExtentKind.{ExtentKind}
+use Rattle.elf_image.specs.declared.faults.segment_extents.ExtentKind.TheVariants.{Addresses, CodeAddresses, FileBytes}
 use Rattle.elf_image.specs.file.Header.{segment, segment_place}
 use Rattle.elf_image.specs.memory.Image.{is_load, end_of}
 use Rattle.elf_image.specs.faults.SegmentLayout.{is_code_segment}
@@ -19,6 +21,11 @@ IsFileExtent file i s =
 
 abbrev pub IsCodeExtent : List ℕ → ℕ → Extent → Type 0
 IsCodeExtent file i s = IsTrue (is_code_segment (segment file i)) × IsAddressExtent file i s
+
+abbrev pub IsExtentOf : ExtentKind → List ℕ → ℕ → Extent → Type 0
+IsExtentOf Addresses file = IsAddressExtent file
+IsExtentOf CodeAddresses file = IsCodeExtent file
+IsExtentOf FileBytes file = IsFileExtent file
 
 -- the ranges of the segments below an index, in the order of the table
 pub record AreExtents (IsExtent : ℕ → Extent → Type 0) (n : ℕ) (extents : List Extent) : Type 0 where

@@ -1,18 +1,17 @@
 // Sections with code that lie in no executable segment.
-ghost use Rattle.std.specs.Prelude.{◌≢◌, ◌<◌, ◌+◌, ◌↔◌, ℕ, IsTrue, IfSome, IfNone, IfOk};
+ghost use Rattle.std.specs.Prelude.{◌≢◌, ◌<◌, ◌+◌, ◌↔◌, ℕ, IsTrue, IfOk};
 ghost use Rattle.std.specs.List.Sorted.{IsNonDecreasingBy};
 ghost use Rattle.elf_image.specs.faults.Truncation.{IsReadable};
-ghost use Rattle.elf_image.specs.file.Header.{e_phnum, e_shnum};
+ghost use Rattle.elf_image.specs.file.Header.{e_shnum};
 ghost use Rattle.elf_image.specs.faults.SegmentLayout.{IsStraySection, LiesInCode};
 ghost use Rattle.elf_image.specs.file.Sections.{holds_code};
 ghost use Rattle.elf_image.specs.faults.LowestPlace.{IsLowest, SomeBelow};
-ghost use Rattle.elf_image.specs.internal.SegmentExtents.{AreExtents, IsCodeExtent};
 ghost use Rattle.elf_image.specs.internal.Extents.{IsInOneExtent};
 
 use crate::entries::{SectionTable, SegmentTable};
-use crate::extent::{Extent, is_covered, push_some, reaches_of, sort_by_start};
-use crate::faults::overlap::address_extent;
-use crate::header::{e_phnum, e_shnum};
+use crate::extent::{Extent, is_covered, reaches_of, sort_by_start};
+use crate::faults::segment_extents::{ExtentKind, segment_extents};
+use crate::header::e_shnum;
 use crate::lowest::{lowest_below, place_if};
 use crate::section::SectionHeader;
 use rb_bytes::fault::NoMemory;
@@ -23,35 +22,11 @@ pub fn lowest_stray_section(alloc: Global, file: &[u8]) -> Result<Option<u64>, N
     requires { IsReadable file.now }
     ensures { IfOk result (λ lowest. IsLowest (SomeBelow (e_shnum file.now) (IsStraySection file.now)) lowest) }
 {
-    let mut codes = code_extents(alloc, SegmentTable { file })?;
+    let segments = SegmentTable { file };
+    let mut codes = segment_extents(alloc, segments, ExtentKind::CodeAddresses)?;
     sort_by_start(&mut codes)?;
     let reaches = reaches_of(alloc, &codes)?;
     Ok(lowest_stray(SectionTable { file }, &reaches))
-}
-
-// The addresses of each executable segment.
-fn code_extents(alloc: Global, segments: SegmentTable) -> Result<Vec<Extent>, NoMemory>
-    ensures { IfOk result
-        (λ extents. AreExtents (IsCodeExtent segments.entry.file.now) (e_phnum segments.entry.file.now) extents.items) }
-{
-    let mut extents = Vec::new(alloc);
-    for index in 0..e_phnum(segments.file) {
-        push_some(&mut extents, code_extent(segments, index))?;
-    }
-    Ok(extents)
-}
-
-// The addresses of a segment, if it is executable and has any.
-fn code_extent(segments: SegmentTable, index: u16) -> Option<Extent>
-    requires index { index < e_phnum segments.file.now }
-    ensures some { IfSome result (λ s. IsCodeExtent segments.entry.file.now index s) }
-    ensures none { IfNone result ((s : Extent) → IsCodeExtent segments.entry.file.now index s → ⊥) }
-{
-    if segments.segment_of(index).is_code() {
-        address_extent(segments, index)
-    } else {
-        None
-    }
 }
 
 // Whether a section holds code that no range covers. No byte of an empty one lies outside.

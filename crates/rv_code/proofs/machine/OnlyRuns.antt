@@ -3,7 +3,7 @@ use Rattle.std.proofs.Common.{◌≡◌, ◌∙◌, ◌+◌, ◌<◌, ◌≤◌,
 use Rattle.rv_code.specs.machine.Machine.{Event, events, Outcome, Going, SoFar, starts, more}
 use Rattle.std.proofs.Common.{⊎_elim}
 use Rattle.std.proofs.lemmas.Bool.{cases_lt}
-use Rattle.rv_code.specs.machine.Determined.{HasOneOutcome, IsDetermined, IsStop}
+use Rattle.rv_code.specs.machine.DeterminedRuns.{HasOneOutcome, IsDetermined, IsStop}
 
 module _ {S C : Type 0} (step : S → Outcome S C → Type 0) (s : S) where
   -- the last of some steps, and those before it

@@ -5,8 +5,8 @@ use Rattle.rv_code.specs.declared.placed.Placed.{Placed}
 use Rattle.rv_code.specs.declared.placed.Func.{Func}
 
 -- Code of an accepted file lies below this address, so that every pair of an upper and a lower part reaches.
-abbrev pub code_limit : ℕ
-code_limit = 0x7fff0000
+abbrev pub address_end : ℕ
+address_end = 0x7fff0000
 
 -- instructions follow one another from an address on to another
 abbrev pub Follow : ℕ → List Placed → ℕ → Type 0
@@ -27,4 +27,4 @@ pub record IsLaidOut (func : Func) : Type 0 where
 pub record AreLaidOut (funcs : List Func) : Type 0 where
   pub each : All IsLaidOut funcs
   pub apart : AllPairs (λ f g. f.end ≤ g.start) funcs
-  pub low : All (λ f. f.end ≤ code_limit) funcs
+  pub low : All (λ f. f.end ≤ address_end) funcs

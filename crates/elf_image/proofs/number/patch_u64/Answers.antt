@@ -1,6 +1,0 @@
-use Rattle.byteorder.specs.Endian.{little_bytes}
-use Rattle.elf_image.proofs.Patches.{patched_at}
-use Rattle.elf_image.proofs.number.patch_u64.Goals as goal
-
-pub returns : goal.returns
-returns c = rw c.write_u64.ensures (patched_at c.args.offset 8 c.args.file.now (little_bytes 8 c.args.number))

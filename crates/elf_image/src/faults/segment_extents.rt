@@ -1,0 +1,107 @@
+// The ranges that loaded segments take, of addresses or of the file.
+ghost use Rattle.std.specs.Prelude.{◌≡◌, ◌<◌, ◌+◌, ◌==◌, if◌then◌else◌, IfOk, IfSome, IfNone, Some, None};
+ghost use Rattle.elf_image.specs.file.Header.{e_phnum};
+ghost use Rattle.elf_image.specs.internal.SegmentExtents.{AreExtents, IsExtentOf, IsAddressExtent, IsFileExtent, IsCodeExtent};
+
+use crate::entries::SegmentTable;
+use crate::extent::{Extent, push_some};
+use crate::header::e_phnum;
+use crate::segment::PT_LOAD;
+use rb_bytes::fault::NoMemory;
+use std::alloc::Global;
+
+/// What the ranges of segments are of.
+#[derive(Clone, Copy)]
+pub enum ExtentKind {
+    /// The addresses of loaded segments.
+    Addresses,
+    /// Those of executable ones.
+    CodeAddresses,
+    /// The bytes of the file that loaded segments take.
+    FileBytes,
+}
+
+/// The ranges of a kind, one of each segment that has any.
+pub fn segment_extents(
+    alloc: Global,
+    segments: SegmentTable,
+    kind: ExtentKind,
+) -> Result<Vec<Extent>, NoMemory>
+    ensures { IfOk result
+        (λ extents. AreExtents (IsExtentOf kind segments.entry.file.now) (e_phnum segments.entry.file.now) extents.items) }
+{
+    let mut extents = Vec::new(alloc);
+    for index in 0..e_phnum(segments.file) {
+        push_some(&mut extents, extent_of(segments, index, kind))?;
+    }
+    Ok(extents)
+}
+
+// The range of a kind that a segment takes, if it has any.
+fn extent_of(segments: SegmentTable, index: u16, kind: ExtentKind) -> Option<Extent>
+    requires index { index < e_phnum segments.file.now }
+    ensures some { IfSome result (λ s. IsExtentOf kind segments.entry.file.now index s) }
+    ensures none { IfNone result ((s : Extent) → IsExtentOf kind segments.entry.file.now index s → ⊥) }
+{
+    match kind {
+        ExtentKind::Addresses => address_extent(segments, index),
+        ExtentKind::CodeAddresses => code_extent(segments, index),
+        ExtentKind::FileBytes => file_extent(segments, index),
+    }
+}
+
+// The addresses of a segment, if it is loaded and has any.
+fn address_extent(segments: SegmentTable, index: u16) -> Option<Extent>
+    requires index { index < e_phnum segments.file.now }
+    ensures some { IfSome result (λ s. IsAddressExtent segments.entry.file.now index s) }
+    ensures none { IfNone result ((s : Extent) → IsAddressExtent segments.entry.file.now index s → ⊥) }
+{
+    let segment = segments.segment_of(index);
+    if segment.kind != PT_LOAD || segment.memsz == 0 {
+        return None;
+    }
+    Some(extent_from(segment.vaddr, segment.memsz, segments.segment_place(index)))
+}
+
+// The addresses of a segment, if it is executable and has any.
+fn code_extent(segments: SegmentTable, index: u16) -> Option<Extent>
+    requires index { index < e_phnum segments.file.now }
+    ensures some { IfSome result (λ s. IsCodeExtent segments.entry.file.now index s) }
+    ensures none { IfNone result ((s : Extent) → IsCodeExtent segments.entry.file.now index s → ⊥) }
+{
+    if segments.segment_of(index).is_code() {
+        address_extent(segments, index)
+    } else {
+        None
+    }
+}
+
+// The bytes of the file that a segment takes, if it is loaded and takes any.
+fn file_extent(segments: SegmentTable, index: u16) -> Option<Extent>
+    requires index { index < e_phnum segments.file.now }
+    ensures some { IfSome result (λ s. IsFileExtent segments.entry.file.now index s) }
+    ensures none { IfNone result ((s : Extent) → IsFileExtent segments.entry.file.now index s → ⊥) }
+{
+    let segment = segments.segment_of(index);
+    if segment.kind != PT_LOAD || segment.filesz == 0 {
+        return None;
+    }
+    Some(extent_from(
+        segment.offset,
+        segment.filesz,
+        segments.segment_place(index),
+    ))
+}
+
+// So many numbers from one on.
+fn extent_from(start: u64, size: u64, place: u64) -> Extent
+    ensures start { result.start ≡ start }
+    ensures end { result.end ≡ start + size }
+    ensures place { result.place ≡ place }
+{
+    Extent {
+        start,
+        end: start as u128 + size as u128,
+        place,
+    }
+}
