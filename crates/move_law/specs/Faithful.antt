@@ -29,7 +29,7 @@ use Rattle.addr_map.specs.Spans.{IsMap}
 use Rattle.sym_machine.specs.Rules.{next_of}
 use Rattle.sym_machine.specs.HiddenFields.{e_entry_field, is_hidden_field}
 use Rattle.sym_machine.specs.SymStart.{range_of, symbol_of}
-use Rattle.move_law.specs.Rewrite.{Rewrite, memory_of, width_at, out, end_of, AreCodeBytes, HasAt, Goes}
+use Rattle.move_law.specs.Rewrite.{Rewrite, memory_of, width_at, out, inst_end, AreCodeBytes, HasAt, Goes}
 use Rattle.move_law.specs.RelocatedValues.{distance, number_of_symbol}
 
 -- The map.
@@ -97,10 +97,10 @@ pub record KeepsCall (r : Rewrite) (p : Placed) (rd : ℕ) (target : ℕ) : Type
 pub data KeepsBranch (r : Rewrite) (L : ℕ → ℕ → Type 0) (p : Placed) (test : Test) (wanted : Bool)
     (rs1 rs2 target : ℕ) : Type 0 where
   same : (inst : Inst) (imm : ℤ) → HasInSpan r p inst → action_of inst ≡ Branch test wanted rs1 rs2 imm →
-      L (plus (out r p.addr) (unsigned64 imm)) (out r target) → GetsToNext r L p (end_of r p.addr) →
+      L (plus (out r p.addr) (unsigned64 imm)) (out r target) → GetsToNext r L p (inst_end r p.addr) →
       KeepsBranch r L p test wanted rs1 rs2 target
   opposite : (inst : Inst) (imm : ℤ) → HasInSpan r p inst → action_of inst ≡ Branch test (not wanted) rs1 rs2 imm →
-      L (end_of r p.addr) (out r target) → GetsToNext r L p (plus (out r p.addr) (unsigned64 imm)) →
+      L (inst_end r p.addr) (out r target) → GetsToNext r L p (plus (out r p.addr) (unsigned64 imm)) →
       KeepsBranch r L p test wanted rs1 rs2 target
 
 -- By what an instruction does: a JAL that saves nothing may be left out, if control gets from where it went to what stands
@@ -123,7 +123,7 @@ goes_on (Branch test wanted rs1 rs2 imm) = false
 goes_on action = true
 
 abbrev pub GoesOn : Rewrite → (ℕ → ℕ → Type 0) → Placed → Type 0
-GoesOn r L p = IsTrue (goes_on (action_at p)) → GetsToNext r L p (end_of r p.addr)
+GoesOn r L p = IsTrue (goes_on (action_at p)) → GetsToNext r L p (inst_end r p.addr)
 
 -- Memory.
 

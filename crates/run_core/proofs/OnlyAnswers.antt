@@ -1,7 +1,7 @@
 -- The first steps from a state come to one answer, and it is the one that a run gives.
 use Rattle.std.proofs.Common.{◌≡◌, ◌∙◌, ◌<◌, ◌≤◌, ◌⊎◌, ℕ, suc, List, refl, sym, ap, subst, inl, inr, ⊎_elim, arith}
 use Rattle.std.specs.Io.KnownBytes.{append_known}
-use Rattle.rv_code.specs.machine.Determined.{IsDetermined}
+use Rattle.rv_code.specs.machine.DeterminedRuns.{IsDetermined}
 use Rattle.rv_code.specs.machine.Machine.{Event, output, Outcome, Ended, Halts, SoFar, Run, HaltsAfter}
 use Rattle.rv_code.proofs.machine.OnlyRuns.{Stop, fewer, same_so_far, stop_is_last, same_stop}
 use Rattle.run_core.specs.Answers.{Answer}

@@ -4,7 +4,7 @@ use Rattle.std.proofs.Common.{arith, append_assoc, take}
 use Rattle.std.specs.Prelude.{if◌then◌else◌, ◌==◌}
 use Rattle.std.specs.Io.KnownBytes.{append_known, prepend_known}
 use Rattle.rb_io.proofs.Printing.{append_known-append}
-use Rattle.rv_code.specs.machine.Determined.{HasOneOutcome, IsDetermined, IsStop}
+use Rattle.rv_code.specs.machine.DeterminedRuns.{HasOneOutcome, IsDetermined, IsStop}
 use Rattle.rv_code.specs.machine.Machine.{Event, events, output, Outcome, Ended, Halts, SoFar, starts, more}
 use Rattle.rv_code.proofs.machine.OnlyRuns.{fewer, more_determined, stop_determines}
 use Rattle.run_core.specs.Answers.{Answer}

@@ -2,7 +2,7 @@
 use Rattle.std.specs.Prelude.{◌≡◌, ℕ, ◌+◌, ◌<◌, ◌≤◌, List}
 use Rattle.std.specs.Io.KnownBytes.{append_known}
 use Rattle.rb_io.specs.FaultCounts.{Rose}
-use Rattle.rv_code.specs.machine.Determined.{IsDetermined}
+use Rattle.rv_code.specs.machine.DeterminedRuns.{IsDetermined}
 use Rattle.rv_code.specs.machine.Machine.{Event, output, Outcome, SoFar, Run, HaltsAfter}
 use Rattle.run_core.specs.Answers.{Answer}
 use Rattle.run_core.specs.Answers as answer

@@ -10,7 +10,7 @@ use rv_code::{Action, Cause};
 
 impl<'a> Machine<'a> {
     ghost use Rattle.rv_code.specs.machine.Step.{Steps};
-    ghost use Rattle.rv_code.specs.machine.Determined.{HasOneOutcome};
+    ghost use Rattle.rv_code.specs.machine.DeterminedRuns.{HasOneOutcome};
     ghost use Rattle.run_core.specs.Inputs.{Outside};
     ghost use Rattle.rv_machine.specs.Known.{AreKnown};
     ghost use Rattle.rv_machine.specs.State.{state_of};

@@ -15,7 +15,8 @@ use Rattle.sym_machine.specs.declared.value.Value.TheVariants.{Num}
 use Rattle.sym_machine.specs.declared.value.MemoryByte.{MemoryByte}
 use Rattle.sym_machine.specs.declared.value.MemoryByte.TheVariants.{Byte}
 use Rattle.sym_machine.specs.Values.{number, numbers, is_hidden}
-use Rattle.sym_machine.specs.SymStep.{SymState, SymOutcome, moved, reads_input, writes_output, argument, three_arguments, calls}
+use Rattle.sym_machine.specs.SymStep.{SymState, SymOutcome, moving_event, reads_input, writes_output, argument, three_arguments}
+use Rattle.sym_machine.specs.SymStep.{calls}
 use Rattle.sym_machine.specs.SymStep.{needs}
 use Rattle.sym_machine.specs.internal.Calls.{buffer_of, buffer_in}
 
@@ -62,11 +63,11 @@ after_read s next at bytes =
 pub reads : (s : SymState) (next at size : ℕ) (bytes : List ℕ) → all_may (may_write s) at (min size most_moved) ≡ true →
     take (min size most_moved) s.input ≡ bytes →
     reads_input s next at size (take (min size most_moved) s.input)
-    ≡ Going (after_read s next at bytes) (Some (moved 63 0 at size bytes))
+    ≡ Going (after_read s next at bytes) (Some (moving_event 63 0 at size bytes))
 reads s next at size bytes may is = rw (may, is) refl
 
 pub read_writes_nothing : (at size : ℕ) (bytes : List ℕ) (known : Option (List ℕ)) →
-    known ≡ append_known known (output (events (Some (moved 63 0 at size bytes))))
+    known ≡ append_known known (output (events (Some (moving_event 63 0 at size bytes))))
 unfolding output
 read_writes_nothing at size bytes known = append_known-nil known
 
@@ -78,7 +79,7 @@ after_write s next bytes = record s { pc = next; registers = set_register a0 (Nu
 pub writes : (s : SymState) (next file at size : ℕ) (cells : List MemoryByte) (bytes : List ℕ) →
     all_may (may_read s) at (min size most_moved) ≡ true →
     list_any is_hidden cells ≡ false → numbers cells ≡ Some bytes →
-    writes_output s next file at size cells ≡ Going (after_write s next bytes) (Some (moved 64 file at size bytes))
+    writes_output s next file at size cells ≡ Going (after_write s next bytes) (Some (moving_event 64 file at size bytes))
 writes s next file at size cells bytes may open_cells is = rw (may, open_cells, is) refl
 
 pub writes_symbols : (s : SymState) (next file at size : ℕ) (cells : List MemoryByte) →
@@ -86,7 +87,7 @@ pub writes_symbols : (s : SymState) (next file at size : ℕ) (cells : List Memo
     list_any is_hidden cells ≡ false → numbers cells ≡ None → writes_output s next file at size cells ≡ Halts s.pc reason.CallArg
 writes_symbols s next file at size cells may open_cells is = rw (may, open_cells, is) refl
 
-pub write_writes : (file at size : ℕ) (bytes : List ℕ) → output (events (Some (moved 64 file at size bytes))) ≡ bytes
+pub write_writes : (file at size : ℕ) (bytes : List ℕ) → output (events (Some (moving_event 64 file at size bytes))) ≡ bytes
 unfolding output
 write_writes file at size bytes = append-nil bytes
 

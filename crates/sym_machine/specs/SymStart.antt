@@ -77,24 +77,24 @@ sym_start elf cells tight words input = record {
 -- Runs.
 
 -- what the machine is given of a file: its functions, its code cells, and whether it is tight
-pub record Program : Type 0 where
+pub record SymProgram : Type 0 where
   pub elf : Elf
   pub funcs : List Func
   pub cells : List CodeCell
   pub tight : Bool
 
-abbrev pub program_start : Program → List (List ℕ) → List ℕ → SymState
+abbrev pub program_start : SymProgram → List (List ℕ) → List ℕ → SymState
 program_start p words input = sym_start p.elf p.cells p.tight words input
 
 -- The n-th step of the program, run with these words and this input, ends with this status, after these calls.
-abbrev pub SymRuns : Program → List (List ℕ) → List ℕ → ℕ → List Event → ℕ → Type 0
+abbrev pub SymRuns : SymProgram → List (List ℕ) → List ℕ → ℕ → List Event → ℕ → Type 0
 SymRuns p words input n trace status = Run (SymSteps p.funcs) (program_start p words input) n trace status
 
 -- After n steps that neither end nor stick, with these calls, the machine is stuck, at this pc for this reason.
-abbrev pub SticksAfter : Program → List (List ℕ) → List ℕ → ℕ → List Event → ℕ → Reason → Type 0
+abbrev pub SticksAfter : SymProgram → List (List ℕ) → List ℕ → ℕ → List Event → ℕ → Reason → Type 0
 SticksAfter p words input n trace pc why = HaltsAfter (SymSteps p.funcs) (program_start p words input) n trace pc why
 
 -- Its first n steps neither end nor stick, and make these calls.
-pub record SymRunsSoFar (p : Program) (words : List (List ℕ)) (input : List ℕ) (n : ℕ) (trace : List Event) : Type 0 where
+pub record SymRunsSoFar (p : SymProgram) (words : List (List ℕ)) (input : List ℕ) (n : ℕ) (trace : List Event) : Type 0 where
   pub state : SymState
   pub so_far : SoFar (SymSteps p.funcs) (program_start p words input) n trace state

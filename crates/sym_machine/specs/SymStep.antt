@@ -108,8 +108,9 @@ abbrev pub three_arguments : SymState → (ℕ → ℕ → ℕ → SymOutcome) �
 three_arguments s rest = argument s a0 (λ x. argument s a1 (λ y. argument s a2 (rest x y)))
 
 -- a call that moves bytes between a file and a buffer came back with their number
-abbrev pub moved : ℕ → ℕ → ℕ → ℕ → List ℕ → Event
-moved number file at size bytes = record { number = number; used = file ∷ at ∷ size ∷ []; moved = bytes; result = length bytes }
+abbrev pub moving_event : ℕ → ℕ → ℕ → ℕ → List ℕ → Event
+moving_event number file at size bytes =
+    record { number = number; used = file ∷ at ∷ size ∷ []; moved = bytes; result = length bytes }
 
 -- a file that isn't open: the buffer isn't looked at
 abbrev pub refuses_file : SymState → ℕ → ℕ → ℕ → ℕ → ℕ → SymOutcome
@@ -121,14 +122,14 @@ abbrev pub reads_input : SymState → ℕ → ℕ → ℕ → List ℕ → SymOu
 reads_input s next at size bytes =
     checks s reason.Access (all_may (may_write s) at (min size most_moved))
     (returns (record s { memory = put s.memory at (map Byte bytes); input = drop (length bytes) s.input }) next
-    (moved 63 0 at size bytes))
+    (moving_event 63 0 at size bytes))
 
 -- bytes of a buffer go out, all of which may be read
 abbrev pub writes_output : SymState → ℕ → ℕ → ℕ → ℕ → List MemoryByte → SymOutcome
 writes_output s next file at size cells =
     checks s reason.Access (all_may (may_read s) at (min size most_moved))
     (checks s reason.Hidden (not (list_any is_hidden cells))
-    (needs s reason.CallArg (numbers cells) (λ bytes. returns s next (moved 64 file at size bytes))))
+    (needs s reason.CallArg (numbers cells) (λ bytes. returns s next (moving_event 64 file at size bytes))))
 
 -- standard input is file 0, standard output and standard error are files 1 and 2
 abbrev pub read_call : SymState → ℕ → ℕ → ℕ → ℕ → SymOutcome

@@ -39,7 +39,7 @@ use Rattle.move_law.specs.SimulationRelation.{HasTarget}
 use Rattle.move_law.specs.Laws.{IsAccepted}
 use Rattle.move_law.proofs.code.Immediates.{full_at, also_full, auipc_of, lui_of, low_of, low_immediate}
 use Rattle.move_law.proofs.code.InstLists.{start_code, code_at, inst_at, role_at}
-use Rattle.move_law.proofs.code.Immediates.{IsAuipc, IsLow, IsLui}
+use Rattle.move_law.specs.AddressParts.{IsAuipc, IsLui, TakesLower}
 
 -- What the input's file gives, whatever is written.
 
@@ -50,7 +50,7 @@ pub record Target (code : ProgramCode) (t : ℕ) : Type 0 where
 
 abbrev pub LowerRole : ProgramCode → ℕ → ℕ → Inst → Type 0
 LowerRole code hi target inst =
-    IsLow inst × Target code target × ((q : Placed) → placed_at code.funcs hi ≡ Some q → HasTarget q.role →
+    TakesLower inst × Target code target × ((q : Placed) → placed_at code.funcs hi ≡ Some q → HasTarget q.role →
     target_of_role q.role ≡ target)
 
 abbrev pub RoleFits : ProgramCode → Role → Inst → Type 0
@@ -61,7 +61,7 @@ RoleFits code (role.Lo hi target) inst = LowerRole code hi target inst
 RoleFits code (role.CallLo hi target) inst = LowerRole code hi target inst
 RoleFits code (role.AbsHi target) inst =
     IsLui inst × IsNamed code target × Any (λ entry. entry.1 ≡ role.AbsHi target) code.roles
-RoleFits code (role.AbsLo target) inst = IsLow inst × IsNamed code target
+RoleFits code (role.AbsLo target) inst = TakesLower inst × IsNamed code target
 
 pub record CodeFacts (code : ProgramCode) : Type 0 where
   pub roles : (p : Placed) → Contains (insts_of code.funcs) p → RoleFits code p.role p.inst
@@ -278,17 +278,17 @@ module _ (elf : Elf) (tabled : List (ℕ × ℕ)) (code : ProgramCode) (is : IsC
       let g = also_full elf a (Auipc rd upper) inst n f i in
       auipc_of (halfword_at elf (a + 2) * 2 ^ 16 + halfword_at elf a) rd upper inst f.row g.row
 
-  low_at : (a : ℕ) (inst : Inst) (n : ℕ) → IsInstAt elf a inst n → (other : Inst) → IsLow other → IsInstAt elf a other 4 →
-      IsLow inst
+  low_at : (a : ℕ) (inst : Inst) (n : ℕ) → IsInstAt elf a inst n → (other : Inst) → TakesLower other → IsInstAt elf a other 4 →
+      TakesLower inst
   low_at a inst n i other low is_inst =
       let f = full_at elf a other is_inst in
       let g = also_full elf a other inst n f i in
       low_of (halfword_at elf (a + 2) * 2 ^ 16 + halfword_at elf a) other inst low f.row g.row
 
-  immediate_low : (kind : ℕ) (inst : Inst) → IsSome (lower_immediate kind inst) → IsLow inst
+  immediate_low : (kind : ℕ) (inst : Inst) → IsSome (lower_immediate kind inst) → TakesLower inst
   immediate_low kind inst h = by (lower_immediate kind inst) refl h
     where
-      by : (o : Option ℤ) → lower_immediate kind inst ≡ o → IsSome o → IsLow inst
+      by : (o : Option ℤ) → lower_immediate kind inst ≡ o → IsSome o → TakesLower inst
       by None e h = absurd (cc)
       by (Some imm) e h = low_immediate kind inst imm e
 

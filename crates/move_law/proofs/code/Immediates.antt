@@ -15,34 +15,9 @@ use Rattle.elf_image.specs.declared.elf.Elf.{Elf}
 use Rattle.elf_image.specs.code.Parts.{halfword_at, IsInstAt}
 use Rattle.elf_image.specs.declared.relocation.TheConstants.{R_RISCV_PCREL_LO12_I, R_RISCV_LO12_I}
 use Rattle.elf_image.specs.code.Roles.{immediate_i, immediate_s, lower_immediate}
+use Rattle.move_law.specs.AddressParts.{IsAuipc, IsLui, TakesLower}
 use Rattle.move_law.specs.Faithful.{with_immediate}
 use Rattle.move_law.proofs.values.HiLoParts.{IsLower, imm_i_lower, imm_s_lower}
-
--- Which instructions can have which roles.
-
-abbrev pub IsAuipc : Inst → Type 0
-IsAuipc (Auipc rd imm) = Unit {0}
-IsAuipc _ = ⊥
-
-abbrev pub IsLui : Inst → Type 0
-IsLui (Lui rd imm) = Unit {0}
-IsLui _ = ⊥
-
-abbrev pub IsLow : Inst → Type 0
-IsLow (Addi rd rs1 imm) = Unit {0}
-IsLow (Jalr rd rs1 imm) = Unit {0}
-IsLow (Lb rd rs1 imm) = Unit {0}
-IsLow (Lh rd rs1 imm) = Unit {0}
-IsLow (Lw rd rs1 imm) = Unit {0}
-IsLow (Ld rd rs1 imm) = Unit {0}
-IsLow (Lbu rd rs1 imm) = Unit {0}
-IsLow (Lhu rd rs1 imm) = Unit {0}
-IsLow (Lwu rd rs1 imm) = Unit {0}
-IsLow (Sb rs1 rs2 imm) = Unit {0}
-IsLow (Sh rs1 rs2 imm) = Unit {0}
-IsLow (Sw rs1 rs2 imm) = Unit {0}
-IsLow (Sd rs1 rs2 imm) = Unit {0}
-IsLow _ = ⊥
 
 -- Opcodes.
 
@@ -134,11 +109,11 @@ jalr_only : (i : Inst) → opcode i ≡ 0x67 → IsJalr i
 jalr_only (Jalr rd rs1 imm) e = tt
 jalr_only _ e = absurd (omega (arith, e))
 
-jalr_low : (i : Inst) → opcode i ≡ 0x67 → IsLow i
+jalr_low : (i : Inst) → opcode i ≡ 0x67 → TakesLower i
 jalr_low (Jalr rd rs1 imm) e = tt
 jalr_low _ e = absurd (omega (arith, e))
 
-load_only : (i : Inst) → opcode i ≡ 0x03 → IsLow i
+load_only : (i : Inst) → opcode i ≡ 0x03 → TakesLower i
 load_only (Lb rd rs1 imm) e = tt
 load_only (Lh rd rs1 imm) e = tt
 load_only (Lw rd rs1 imm) e = tt
@@ -148,14 +123,14 @@ load_only (Lhu rd rs1 imm) e = tt
 load_only (Lwu rd rs1 imm) e = tt
 load_only _ e = absurd (omega (arith, e))
 
-store_only : (i : Inst) → opcode i ≡ 0x23 → IsLow i
+store_only : (i : Inst) → opcode i ≡ 0x23 → TakesLower i
 store_only (Sb rs1 rs2 imm) e = tt
 store_only (Sh rs1 rs2 imm) e = tt
 store_only (Sw rs1 rs2 imm) e = tt
 store_only (Sd rs1 rs2 imm) e = tt
 store_only _ e = absurd (omega (arith, e))
 
-addi_only : (w : ℕ) (i : Inst) → IsFull w i → opcode i ≡ 0x13 → field w 12 3 ≡ 0 → IsLow i
+addi_only : (w : ℕ) (i : Inst) → IsFull w i → opcode i ≡ 0x13 → field w 12 3 ≡ 0 → TakesLower i
 addi_only w (Addi rd rs1 imm) row e f = tt
 addi_only w (Slti rd rs1 imm) row e f = absurd (let g = row.funct3_is in omega (arith, f, g))
 addi_only w (Sltiu rd rs1 imm) row e f = absurd (let g = row.funct3_is in omega (arith, f, g))
@@ -175,7 +150,7 @@ auipc_of w rd imm i a b = auipc_only i (sym (opcode_is w i b) ∙ a.opcode_is)
 pub lui_of : (w rd : ℕ) (imm : ℤ) (i : Inst) → IsFull w (Lui rd imm) → IsFull w i → IsLui i
 lui_of w rd imm i a b = lui_only i (sym (opcode_is w i b) ∙ a.opcode_is)
 
-pub low_of : (w : ℕ) (i j : Inst) → IsLow i → IsFull w i → IsFull w j → IsLow j
+pub low_of : (w : ℕ) (i j : Inst) → TakesLower i → IsFull w i → IsFull w j → TakesLower j
 low_of w (Addi rd rs1 imm) j h a b = addi_only w j b (sym (opcode_is w j b) ∙ a.opcode_is) a.funct3_is
 low_of w (Jalr rd rs1 imm) j h a b = jalr_low j (sym (opcode_is w j b) ∙ a.opcode_is)
 low_of w (Lb rd rs1 imm) j h a b = load_only j (sym (opcode_is w j b) ∙ a.opcode_is)
@@ -210,7 +185,7 @@ also_full elf a i j n f (inr d) = record { is_full = d.is_full; row = d.row }
 
 -- lower parts
 
-low_i : (i : Inst) (imm : ℤ) → immediate_i (action_of i) ≡ Some imm → IsLow i
+low_i : (i : Inst) (imm : ℤ) → immediate_i (action_of i) ≡ Some imm → TakesLower i
 low_i (Addi rd rs1 imm) z e = tt
 low_i (Jalr rd rs1 imm) z e = tt
 low_i (Lb rd rs1 imm) z e = tt
@@ -222,17 +197,17 @@ low_i (Lhu rd rs1 imm) z e = tt
 low_i (Lwu rd rs1 imm) z e = tt
 low_i _ z e = absurd (cc)
 
-low_s : (i : Inst) (imm : ℤ) → immediate_s (action_of i) ≡ Some imm → IsLow i
+low_s : (i : Inst) (imm : ℤ) → immediate_s (action_of i) ≡ Some imm → TakesLower i
 low_s (Sb rs1 rs2 imm) z e = tt
 low_s (Sh rs1 rs2 imm) z e = tt
 low_s (Sw rs1 rs2 imm) z e = tt
 low_s (Sd rs1 rs2 imm) z e = tt
 low_s _ z e = absurd (cc)
 
-pub low_immediate : (kind : ℕ) (i : Inst) (imm : ℤ) → lower_immediate kind i ≡ Some imm → IsLow i
+pub low_immediate : (kind : ℕ) (i : Inst) (imm : ℤ) → lower_immediate kind i ≡ Some imm → TakesLower i
 low_immediate kind i imm e = by (kind == R_RISCV_PCREL_LO12_I || kind == R_RISCV_LO12_I) e
   where
-    by : (b : Bool) → (if b then immediate_i (action_of i) else immediate_s (action_of i)) ≡ Some imm → IsLow i
+    by : (b : Bool) → (if b then immediate_i (action_of i) else immediate_s (action_of i)) ≡ Some imm → TakesLower i
     by true e = low_i i imm e
     by false e = low_s i imm e
 
@@ -271,7 +246,7 @@ lui_imm w _ h row = absurd h
 abbrev pub low_field : ℕ → ℤ
 low_field w = if field w 0 7 == 0x23 then imm_s w else imm_i w
 
-pub low_imm : (w : ℕ) (i : Inst) → IsLow i → IsFull w i → immediate i ≡ low_field w
+pub low_imm : (w : ℕ) (i : Inst) → TakesLower i → IsFull w i → immediate i ≡ low_field w
 low_imm w (Addi rd rs1 imm) h row = rw row.opcode_is (sym row.imm_is)
 low_imm w (Jalr rd rs1 imm) h row = rw row.opcode_is (sym row.imm_is)
 low_imm w (Lb rd rs1 imm) h row = rw row.opcode_is (sym row.imm_is)

@@ -29,7 +29,7 @@ use Rattle.sym_machine.specs.declared.value.Pointer.TheVariants as pointer
 use Rattle.move_law.specs.Faithful.{GetsToNext, GoesOn, HasInSpan, IsFaithful, IsMapOf, KeepsAction, KeepsCell, KeepsInst}
 use Rattle.move_law.specs.Faithful.{made_anew, next, same}
 use Rattle.move_law.specs.Laws.{IdentityIsFaithful, IdentityLaw, IsAccepted, KeepsCode, RunsAreReal, identity, own_spans}
-use Rattle.move_law.specs.Rewrite.{AreCodeBytes, Goes, HasAt, Rewrite, end_of, executable_read, jumps, out, program, stays}
+use Rattle.move_law.specs.Rewrite.{AreCodeBytes, Goes, HasAt, Rewrite, inst_end, executable_read, jumps, out, program, stays}
 use Rattle.move_law.specs.Rewrite.{width_at}
 use Rattle.move_law.specs.SimulationRelation.{SimulationRelation}
 use Rattle.move_law.proofs.code.NextInst.{next_of_is}
@@ -149,7 +149,7 @@ module _ (elf : Elf) (code : ProgramCode) (tight : Bool) (accepted : IsAccepted 
         (k, own p, within, is, (refl, omega (arith, width)));
   }
 
-  end_is : (p : Placed) → Contains (insts_of code.funcs) p → end_of (identity elf code tight) p.addr ≡ p.addr + p.len
+  end_is : (p : Placed) → Contains (insts_of code.funcs) p → inst_end (identity elf code tight) p.addr ≡ p.addr + p.len
   end_is p is_in =
       let some = some_width p is_in in
       let last = (inst_code elf code accepted p is_in (p.len - 1) (omega (arith, some))).low in
@@ -157,10 +157,10 @@ module _ (elf : Elf) (code : ProgramCode) (tight : Bool) (accepted : IsAccepted 
       ∙ ap (plus p.addr) (width_is p is_in) ∙ omega (arith, some, last)
 
   gets_to_next : (p : Placed) → Contains (insts_of code.funcs) p →
-      GetsToNext (identity elf code tight) Same p (end_of (identity elf code tight) p.addr)
+      GetsToNext (identity elf code tight) Same p (inst_end (identity elf code tight) p.addr)
   gets_to_next p is_in = by (is_call (action_at p))
     where
-      there : (a : ℕ) → a ≡ p.addr + p.len → end_of (identity elf code tight) p.addr ≡ out (identity elf code tight) a
+      there : (a : ℕ) → a ≡ p.addr + p.len → inst_end (identity elf code tight) p.addr ≡ out (identity elf code tight) a
       there a e = end_is p is_in ∙ sym e ∙ sym (out_same a)
 
       low : plus p.addr p.len ≡ p.addr + p.len
@@ -170,7 +170,7 @@ module _ (elf : Elf) (code : ProgramCode) (tight : Bool) (accepted : IsAccepted 
           omega (arith, some, last)
 
       after_call : (o : Option ℕ) → next_of code.funcs p.addr ≡ o →
-          IfSome o (λ a. end_of (identity elf code tight) p.addr ≡ out (identity elf code tight) a)
+          IfSome o (λ a. inst_end (identity elf code tight) p.addr ≡ out (identity elf code tight) a)
       after_call None e = tt
       after_call (Some a) e =
           there a
@@ -178,13 +178,13 @@ module _ (elf : Elf) (code : ProgramCode) (tight : Bool) (accepted : IsAccepted 
           ∙ ap (λ (n : ℕ). p.addr + n) (width_is p is_in))
 
       at_end : (o : Option Placed) → placed_at code.funcs (plus p.addr p.len) ≡ o →
-          IfSome (option_map (λ q. q.addr) o) (λ a. end_of (identity elf code tight) p.addr ≡ out (identity elf code tight) a)
+          IfSome (option_map (λ q. q.addr) o) (λ a. inst_end (identity elf code tight) p.addr ≡ out (identity elf code tight) a)
       at_end None e = tt
       at_end (Some q) e = there q.addr ((found_at code.funcs (plus p.addr p.len) q e).at ∙ low)
 
       by : (b : Bool) →
           IfSome (if b then next_of code.funcs p.addr else option_map (λ q. q.addr) (placed_at code.funcs (plus p.addr p.len)))
-          (λ a. end_of (identity elf code tight) p.addr ≡ out (identity elf code tight) a)
+          (λ a. inst_end (identity elf code tight) p.addr ≡ out (identity elf code tight) a)
       by true = after_call (next_of code.funcs p.addr) refl
       by false = at_end (placed_at code.funcs (plus p.addr p.len)) refl
 
@@ -241,7 +241,7 @@ module _ (elf : Elf) (code : ProgramCode) (tight : Bool) (accepted : IsAccepted 
   weaker p is_in (Jump zero imm) e = let j = jump_stays p is_in imm e in jumps imm j.has j.goes_to
   weaker p is_in (Branch test wanted rs1 rs2 imm) e =
       same p.inst imm (has_in_span p is_in p.inst refl) e (stays (target_same p.addr imm))
-      (weaker_next p (end_of (identity elf code tight) p.addr) (gets_to_next p is_in))
+      (weaker_next p (inst_end (identity elf code tight) p.addr) (gets_to_next p is_in))
   weaker p is_in (Jump (suc rd) imm) e = kept p is_in (Jump (suc rd) imm) e refl
   weaker p is_in (Compute o rd left right) e = plain p is_in
   weaker p is_in (JumpTo rd rs1 imm) e = plain p is_in
@@ -264,7 +264,7 @@ module _ (elf : Elf) (code : ProgramCode) (tight : Bool) (accepted : IsAccepted 
         (λ p is_in. weaker p is_in (action_at p) refl);
     goes_on =
         all_of (GoesOn (identity elf code tight) (Goes (executable_read elf))) (insts_of code.funcs)
-        (λ p is_in _. weaker_next p (end_of (identity elf code tight) p.addr) (gets_to_next p is_in));
+        (λ p is_in _. weaker_next p (inst_end (identity elf code tight) p.addr) (gets_to_next p is_in));
     entry = sym (out_same elf.entry);
     bytes = λ a byte e. record {
       is_loaded = ap is_some e;

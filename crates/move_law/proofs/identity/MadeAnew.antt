@@ -27,7 +27,7 @@ use Rattle.move_law.proofs.code.Immediates.{full_at, also_full, auipc_of, lui_of
 use Rattle.move_law.proofs.code.Immediates.{auipc_imm, lui_imm, low_imm, low_field_lower, imm_of}
 use Rattle.move_law.proofs.values.HiLoParts.{IsLower, upper_is, lower_is}
 use Rattle.move_law.proofs.code.FittingRoles.{fits, same_int, same_call}
-use Rattle.move_law.proofs.code.Immediates.{IsLow}
+use Rattle.move_law.specs.AddressParts.{TakesLower}
 
 kinds_differ : (kind : ℕ) → kind ≡ R_RISCV_HI20 → IsAbsoluteLow kind → ⊥
 kinds_differ kind h (inl l) = omega (arith, h, l)
@@ -59,7 +59,7 @@ module _ (elf : Elf) where
       let w : ℕ = halfword_at elf (a + 2) * 2 ^ 16 + halfword_at elf a in
       lui_imm w (Lui rd u) tt f.row ∙ sym (lui_imm w i (lui_of w rd u i f.row g.row) g.row)
 
-  low_is : (a : ℕ) (i : Inst) (n : ℕ) → IsInstAt elf a i n → (j : Inst) → IsLow j → IsInstAt elf a j 4 →
+  low_is : (a : ℕ) (i : Inst) (n : ℕ) → IsInstAt elf a i n → (j : Inst) → TakesLower j → IsInstAt elf a j 4 →
       immediate j ≡ immediate i
   low_is a i n at j low full =
       let f = full_at elf a j full in
@@ -67,7 +67,7 @@ module _ (elf : Elf) where
       let w : ℕ = halfword_at elf (a + 2) * 2 ^ 16 + halfword_at elf a in
       low_imm w j low f.row ∙ sym (low_imm w i (low_of w j i low f.row g.row) g.row)
 
-  low_small : (a : ℕ) (j : Inst) → IsLow j → IsInstAt elf a j 4 → IsLower (immediate j)
+  low_small : (a : ℕ) (j : Inst) → TakesLower j → IsInstAt elf a j 4 → IsLower (immediate j)
   low_small a j low full =
       let f = full_at elf a j full in
       let w : ℕ = halfword_at elf (a + 2) * 2 ^ 16 + halfword_at elf a in

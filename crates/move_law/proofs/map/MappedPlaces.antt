@@ -21,7 +21,7 @@ use Rattle.addr_map.specs.declared.span.Span.{Span}
 use Rattle.addr_map.specs.Spans.{is_of, has_byte, IsPlaced, ShareNoByte}
 use Rattle.sym_machine.specs.declared.value.Pointer.{Pointer}
 use Rattle.sym_machine.specs.declared.value.Pointer.TheVariants.{Code, Ret}
-use Rattle.move_law.specs.Rewrite.{Rewrite, width_at, out, end_of, AreCodeBytes, HasAt, Goes}
+use Rattle.move_law.specs.Rewrite.{Rewrite, width_at, out, inst_end, AreCodeBytes, HasAt, Goes}
 use Rattle.move_law.specs.RelocatedValues.{number_of_pointer}
 use Rattle.move_law.specs.SimulationRelation.{IsGivenPointer}
 use Rattle.move_law.specs.Faithful.{made_anew, HasInSpan, KeepsAction, KeepsInst}
@@ -164,7 +164,7 @@ module _ (r : Rewrite) (keeps : KeepsCode r) where
     span : HasSpan a width
     place : IsPlace (out r a)
     low : out r a + width ≤ address_end
-    end : end_of r a ≡ out r a + width
+    end : inst_end r a ≡ out r a + width
 
   end_is : (a : ℕ) → IsThere a → EndIs a
   end_is a t =
@@ -184,13 +184,13 @@ module _ (r : Rewrite) (keeps : KeepsCode r) where
       no_wrap : (a n : ℕ) → a + n ≤ address_end → plus a n ≡ a + n
       no_wrap a n low = omega (arith, low)
 
-  ret_place : (a : ℕ) → IsGivenPointer r (Ret a) → IsPlace (end_of r a)
+  ret_place : (a : ℕ) → IsGivenPointer r (Ret a) → IsPlace (inst_end r a)
   ret_place a given = of (end_is a (ret_there a given))
     where
       both_even : (x y : ℕ) → x % 2 ≡ 0 → y % 2 ≡ 0 → (x + y) % 2 ≡ 0
       both_even x y h k = omega (arith, h, k)
 
-      of : EndIs a → IsPlace (end_of r a)
+      of : EndIs a → IsPlace (inst_end r a)
       of t =
           let end = t.end in
           let some = t.some in
@@ -201,7 +201,7 @@ module _ (r : Rewrite) (keeps : KeepsCode r) where
             low = omega (arith, end, low);
           }
 
-  pub ret_once : (a b : ℕ) → IsGivenPointer r (Ret a) → IsGivenPointer r (Ret b) → end_of r a ≡ end_of r b → a ≡ b
+  pub ret_once : (a b : ℕ) → IsGivenPointer r (Ret a) → IsGivenPointer r (Ret b) → inst_end r a ≡ inst_end r b → a ≡ b
   ret_once a b ha hb e = of (end_is a (ret_there a ha)) (end_is b (ret_there b hb))
     where
       of : EndIs a → EndIs b → a ≡ b
@@ -214,7 +214,7 @@ module _ (r : Rewrite) (keeps : KeepsCode r) where
           let it = out_is b d.width d.span in
           let fc = c.span.fits in
           let fd = d.span.fits in
-          let same = one_span c.span.span d.span.span (end_of r a - 1) c.span.contains d.span.contains
+          let same = one_span c.span.span d.span.span (inst_end r a - 1) c.span.contains d.span.contains
           (omega (arith, is, ec, some_c)) (omega (arith, is, ec, some_c, fc))
           (omega (arith, it, ed, e, some_d)) (omega (arith, it, ed, e, some_d, fd)) in
           sym c.span.input ∙ ap (λ (s : Span). s.input) same ∙ d.span.input

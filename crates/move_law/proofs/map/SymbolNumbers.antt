@@ -55,7 +55,7 @@ use Rattle.move_law.proofs.files.Rights.{spaces_same}
 use Rattle.move_law.proofs.map.MappedPlaces.{place, code_once, ret_once, stays_put, code_place, named_span, in_span}
 use Rattle.move_law.proofs.code.FittingRoles.{CodeFacts, RoleFits, Target, has_code_facts}
 use Rattle.move_law.proofs.code.InstLists.{found_at}
-use Rattle.move_law.proofs.code.Immediates.{IsAuipc}
+use Rattle.move_law.specs.AddressParts.{IsAuipc}
 
 -- Numbers that 32 bits hold, with their sign.
 

@@ -42,7 +42,7 @@ use Rattle.move_law.proofs.steps.Effects.{computes, loads, stores, system_call, 
 use Rattle.move_law.proofs.steps.Jumps.{jumps_to}
 use Rattle.move_law.proofs.values.HiLoSums.{upper_of_distance_is, upper_of_number_is, distance_sum, number_sum}
 use Rattle.move_law.proofs.steps.Premises.{UpperFits, LowerFits, Fits}
-use Rattle.move_law.proofs.code.Immediates.{IsLow}
+use Rattle.move_law.specs.AddressParts.{TakesLower}
 use Rattle.std.proofs.lemmas.Option.{same_Some}
 use Rattle.move_law.proofs.Lists.{if_found}
 
@@ -234,7 +234,7 @@ module _ (r : Rewrite) (L : ℕ → ℕ → Type 0) (symbols : Symbols r) (space
       (s.registers rs2) (place r.code.funcs part (s.registers rs1) (unsigned64 imm)) size (rel.registers rs2)
       (place_low r part (s.registers rs1) (u.registers rs1) (unsigned64 imm) fits (rel.registers rs1))
 
-  low_arm : (part : Role) (inst : Inst) → IsLow inst → LowRole r part →
+  low_arm : (part : Role) (inst : Inst) → TakesLower inst → LowRole r part →
       (IsNoJump (action_of inst) → RelatedPc r L next from) → (is_call (action_of inst) ≡ true → IsGivenPointer r (Ret s.pc)) →
       Follows r L (symbol.effect r.code.funcs part (action_of inst) next s)
       (byte.effect (action_of (with_immediate inst (new_lower r part))) from u)

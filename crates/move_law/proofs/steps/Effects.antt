@@ -257,8 +257,8 @@ module _ (r : Rewrite) (L : ℕ → ℕ → Type 0) (symbols : Symbols r) (space
         input = drop (length (take (min size most_moved) s.input)) s.input;
       })
       next from
-      (symbol.moved 63 0 at size (take (min size most_moved) s.input))
-      (symbol.moved 63 0 at size (take (min size most_moved) s.input))
+      (symbol.moving_event 63 0 at size (take (min size most_moved) s.input))
+      (symbol.moving_event 63 0 at size (take (min size most_moved) s.input))
       (read_data r spaces s u rel at (min size most_moved) (take (min size most_moved) s.input)
       (drop (length (take (min size most_moved) s.input)) s.input) can (length_taken (min size most_moved) s.input))
       leads refl))
@@ -289,8 +289,8 @@ module _ (r : Rewrite) (L : ℕ → ℕ → Type 0) (symbols : Symbols r) (space
       (numbers (memory_bytes s.memory at (min size most_moved))) bytes found
       (numbers_alike r (memory_bytes s.memory at (min size most_moved)) (memory_bytes u.memory at (min size most_moved))
       (reads_alike r spaces s u rel at (min size most_moved) can)) in
-      rw (e0, e1, e2, could, same, e1, e2) (returns_follows r L s u next from (symbol.moved 64 file at size bytes)
-      (symbol.moved 64 file at size bytes) rel leads refl))))
+      rw (e0, e1, e2, could, same, e1, e2) (returns_follows r L s u next from (symbol.moving_event 64 file at size bytes)
+      (symbol.moving_event 64 file at size bytes) rel leads refl))))
 
   write_call : (file at size : ℕ) → u.registers a0 ≡ file → u.registers a1 ≡ at → u.registers a2 ≡ size →
       Follows r L (symbol.write_call s next file at size) (byte.write_call u from (u.registers a0 == 1 || u.registers a0 == 2))

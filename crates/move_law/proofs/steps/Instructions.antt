@@ -25,7 +25,7 @@ use Rattle.sym_machine.specs.declared.value.Symbol.TheVariants.{Hi}
 use Rattle.sym_machine.specs.Rules.{tested, next_of, destination}
 use Rattle.sym_machine.specs.SymStep.{SymState, SymOutcome}
 use Rattle.sym_machine.specs.SymStep as symbol
-use Rattle.move_law.specs.Rewrite.{Rewrite, Executable, memory_of, width_at, out, end_of, HasAt}
+use Rattle.move_law.specs.Rewrite.{Rewrite, Executable, memory_of, width_at, out, inst_end, HasAt}
 use Rattle.move_law.specs.RelocatedValues.{target_at, target_of_role, number_of_pointer}
 use Rattle.move_law.specs.SimulationRelation.{IsGivenPointer, IsGiven, HasTarget, RelatedData, RelatedPc}
 use Rattle.move_law.specs.Faithful.{next, GetsToNext, made_anew, goes_on, HasInSpan, KeepsCall, KeepsBranch, same, opposite}
@@ -138,9 +138,9 @@ module _ (r : Rewrite) (L : ℕ → ℕ → Type 0) (facts : Facts r L) where
 
   -- a call goes on at its end
   call_leads : (p : Placed) → Contains (insts_of r.code.funcs) p → is_call (action_at p) ≡ true →
-      IfSome (next_of r.code.funcs p.addr) (λ a. L (end_of r p.addr) (out r a))
+      IfSome (next_of r.code.funcs p.addr) (λ a. L (inst_end r p.addr) (out r a))
   call_leads p contains call =
-      let go : GetsToNext r L p (end_of r p.addr) = facts.goes_on p contains (rw (call_goes_on (action_at p) call) refl) in
+      let go : GetsToNext r L p (inst_end r p.addr) = facts.goes_on p contains (rw (call_goes_on (action_at p) call) refl) in
       rw call at go
 
   -- where a pointer leads
@@ -152,16 +152,16 @@ module _ (r : Rewrite) (L : ℕ → ℕ → Type 0) (facts : Facts r L) where
   reaches (Ret a) to given e = by (placed_at r.code.funcs a) refl given
     where
       by : (o : Option Placed) → placed_at r.code.funcs a ≡ o → IsSomeAnd o (λ p. IsTrue (is_call (action_at p))) →
-          RelatedPc r L to (end_of r a)
+          RelatedPc r L to (inst_end r a)
       by None k h = absurd h
       by (Some p) k h =
           let at = found_at r.code.funcs a p k in
-          let go : IfSome (next_of r.code.funcs a) (λ b. L (end_of r a) (out r b)) =
-          subst (λ (n : ℕ). IfSome (next_of r.code.funcs n) (λ b. L (end_of r n) (out r b))) at.at
+          let go : IfSome (next_of r.code.funcs a) (λ b. L (inst_end r a) (out r b)) =
+          subst (λ (n : ℕ). IfSome (next_of r.code.funcs n) (λ b. L (inst_end r n) (out r b))) at.at
           (call_leads p at.contains h) in
           λ there. (
             (facts.symbols.place (Ret a) given).even,
-            if_found (λ b. L (end_of r a) (out r b)) (next_of r.code.funcs a) to e go,
+            if_found (λ b. L (inst_end r a) (out r b)) (next_of r.code.funcs a) to e go,
           )
 
 -- Instructions.

@@ -17,7 +17,7 @@ use Rattle.move_law.specs.SimulationRelation.{IsGiven}
 use Rattle.move_law.specs.Faithful.{KeepsInst, GoesOn}
 use Rattle.move_law.proofs.steps.Outcomes.{SameSpaces}
 use Rattle.move_law.proofs.values.Arithmetic.{Symbols, Label}
-use Rattle.move_law.proofs.code.Immediates.{IsAuipc, IsLow, IsLui}
+use Rattle.move_law.specs.AddressParts.{IsAuipc, IsLui, TakesLower}
 
 -- an AUIPC and its target
 pub record UpperFits (r : Rewrite) (a target : ℕ) : Type 0 where
@@ -33,10 +33,10 @@ abbrev pub Fits : Rewrite → ℕ → Role → Inst → Type 0
 Fits r a role.Plain inst = Unit {0}
 Fits r a (role.Hi target) inst = IsAuipc inst × UpperFits r a target
 Fits r a (role.CallHi target) inst = IsAuipc inst × UpperFits r a target
-Fits r a (role.Lo hi target) inst = IsLow inst × LowerFits r hi target
-Fits r a (role.CallLo hi target) inst = IsLow inst × LowerFits r hi target
+Fits r a (role.Lo hi target) inst = TakesLower inst × LowerFits r hi target
+Fits r a (role.CallLo hi target) inst = TakesLower inst × LowerFits r hi target
 Fits r a (role.AbsHi target) inst = IsLui inst × IsGiven r (Abs target) × Label r target
-Fits r a (role.AbsLo target) inst = IsLow inst × IsNamed r.code target × Label r target
+Fits r a (role.AbsLo target) inst = TakesLower inst × IsNamed r.code target × Label r target
 
 -- a JAL that saves nothing may be left out
 abbrev pub may_be_left_out : Action → Bool

@@ -11,7 +11,7 @@ use Rattle.run_core.proofs.Reading.{takes_all, drops_moved, written_over, none_r
 use Rattle.run_core.proofs.SameStates.{same_state}
 use Rattle.sym_machine.specs.declared.value.Value.TheVariants.{Num}
 use Rattle.sym_machine.specs.declared.value.MemoryByte.TheVariants.{Byte}
-use Rattle.sym_machine.specs.SymStep.{moved}
+use Rattle.sym_machine.specs.SymStep.{moving_event}
 use Rattle.sym_machine.specs.State.{state_of}
 use Rattle.sym_machine.specs.internal.Memory.{cell_at}
 use Rattle.sym_machine.proofs.SamePuts.{put_same}
@@ -56,8 +56,8 @@ returns-in-Bytes-clause-answer g c = λ output.
             input_is = drops_moved bytes rest ∙ state.input_is;
           } in
           record {
-            event = Some (moved 63 0 b.address b.size bytes);
-            comes_to = ap (λ x. Going x (Some (moved 63 0 b.address b.size bytes)))
+            event = Some (moving_event 63 0 b.address b.size bytes);
+            comes_to = ap (λ x. Going x (Some (moving_event 63 0 b.address b.size bytes)))
                 (sym (same_state (after_read s c.args.next b.address bytes) t same))
                 ∙ sym (reads s c.args.next b.address b.size bytes may_write_all takes);
             taken_is = read_writes_nothing b.address b.size bytes output.taken;
@@ -85,7 +85,7 @@ returns-clause-answer g c = λ output. record {
       let some : 0 < count = omega (arith, c.in-Failed.ensures.asked refl, filled, size) in
       record {
         next = after_read s c.args.next b.address (take count input);
-        event = moved 63 0 b.address b.size (take count input);
+        event = moving_event 63 0 b.address b.size (take count input);
         address = b.address;
         count = b.size;
         comes_to = sym (reads s c.args.next b.address b.size (take count input) may refl);

@@ -1,7 +1,7 @@
 use Rattle.std.proofs.Common.{◌≡◌, ◌∙◌, sym, subst, arith, Bool, ℕ}
 use Rattle.std.specs.Prelude.{List}
 use Rattle.rv_code.specs.declared.placed.Func.{Func}
-use Rattle.rv_code.specs.machine.Determined.{HasOneOutcome}
+use Rattle.rv_code.specs.machine.DeterminedRuns.{HasOneOutcome}
 use Rattle.run_core.specs.Inputs.{Outside}
 use Rattle.run_core.specs.Runs.{RunsSomeInput}
 use Rattle.run_core.proofs.Walking.{no_step, step_more, last_step, steps_up}

@@ -9,7 +9,7 @@ use Rattle.run_core.specs.States.{Same}
 use Rattle.run_core.proofs.SameStates.{same_state}
 use Rattle.run_core.proofs.Told.{prepend_known-nil}
 use Rattle.sym_machine.specs.declared.value.Value.TheVariants.{Num}
-use Rattle.sym_machine.specs.SymStep.{moved}
+use Rattle.sym_machine.specs.SymStep.{moving_event}
 use Rattle.sym_machine.specs.Values.{numbers, is_hidden}
 use Rattle.sym_machine.specs.State.{state_of}
 use Rattle.sym_machine.specs.internal.OtherBytes.{other_byte}
@@ -66,8 +66,8 @@ returns-in-Took-clause-answer g c = λ input ended.
             input_is = state.input_is;
           } in
           record {
-            event = Some (moved 64 b.file b.address b.size bytes);
-            comes_to = ap (λ x. Going x (Some (moved 64 b.file b.address b.size bytes)))
+            event = Some (moving_event 64 b.file b.address b.size bytes);
+            comes_to = ap (λ x. Going x (Some (moving_event 64 b.file b.address b.size bytes)))
                 (sym (same_state (after_write s c.args.next bytes) t same))
                 ∙ sym (writes s c.args.next b.file b.address b.size
                 (memory_bytes s.memory b.address (min b.size most_moved)) bytes may_read_all open_cells all);
@@ -95,7 +95,7 @@ returns-clause-answer g c = λ input ended. record {
       (rw size at c.in-Ok.ensures) ∙ ap Some (sym c.deref.ensures.value) in
       record {
         next = after_write s c.args.next bytes;
-        event = moved 64 b.file b.address b.size bytes;
+        event = moving_event 64 b.file b.address b.size bytes;
         comes_to = sym (writes s c.args.next b.file b.address b.size
             (memory_bytes s.memory b.address (min b.size most_moved)) bytes may open_cells all);
         number_is = refl;
