@@ -8,9 +8,9 @@ ghost use Rattle.cfg_build.specs.BlockLists.{AreBlocksBefore, EndsAt};
 use crate::ends::ends_block;
 use crate::named::entered_addresses;
 use rb_bytes::fault::NoMemory;
+use rb_lanes::is_member_from;
 use rv_code::{Block, Func};
 use rv_reloc::Refs;
-use rv_reloc::code::is_start;
 use std::alloc::Global;
 
 /// The blocks of functions, by function and by address. `refs` are the references of the file, and `entry` is its entry
@@ -25,16 +25,19 @@ pub fn blocks(
 {
     let entered = entered_addresses(alloc, funcs, refs, entry)?;
     let mut blocks = Vec::new(alloc);
+    let mut near = 0;
     for (place, func) in funcs.iter().enumerate() {
-        push_blocks(&mut blocks, &entered, place, func)?;
+        push_blocks(&mut blocks, &entered, &mut near, place, func)?;
     }
     Ok(blocks)
 }
 
-// Appends the blocks of a function, which has this place in the list of functions.
+// Appends the blocks of a function, which has this place in the list of functions. `near` is as `is_member_from` says: the
+// instructions of functions go up.
 fn push_blocks(
     blocks: &mut Vec<Block>,
     entered: &[u64],
+    near: &mut usize,
     place: usize,
     func: &Func,
 ) -> Result<(), NoMemory>
@@ -44,7 +47,7 @@ fn push_blocks(
 {
     let mut first = 0;
     for last in 0..func.insts.len() {
-        if !ends_at(entered, func, last) {
+        if !ends_at(entered, near, func, last) {
             continue;
         }
         blocks.push(Block {
@@ -57,8 +60,8 @@ fn push_blocks(
     Ok(())
 }
 
-// Whether a block ends with the i-th instruction of a function.
-fn ends_at(entered: &[u64], func: &Func, i: usize) -> bool
+// Whether a block ends with the i-th instruction of a function. `near` is as `is_member_from` says.
+fn ends_at(entered: &[u64], near: &mut usize, func: &Func, i: usize) -> bool
     requires inside { i < length func.now.insts.items }
     requires entered { AllPairs (λ a b. a < b) entered.now }
     ensures { (code : ProgramCode) → AreEntered code entered.now → IsTrue result ↔ EndsAt code func.now i }
@@ -72,5 +75,5 @@ fn ends_at(entered: &[u64], func: &Func, i: usize) -> bool
     if ends_block(&func.insts[i]) {
         return true;
     }
-    is_start(entered, func.insts[i + 1].addr)
+    is_member_from(entered, near, func.insts[i + 1].addr)
 }

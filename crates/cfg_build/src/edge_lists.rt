@@ -3,7 +3,7 @@ ghost use Rattle.std.specs.Prelude.{◌≡◌, ◌+◌, ◌<◌, ◌≤◌, ◌�
 ghost use Rattle.std.specs.Prelude.{Some, map, length, slice_get};
 ghost use Rattle.rv_code.specs.declared.cell.CodeCell.{CodeCell};
 ghost use Rattle.rv_code.specs.layout.Edges.{AreEdges, AreTablePairs};
-ghost use Rattle.rv_code.specs.layout.FunctionLists.{AreLaidOut, IsLaidOut, code_limit};
+ghost use Rattle.rv_code.specs.layout.FunctionLists.{AreLaidOut, IsLaidOut, address_end};
 ghost use Rattle.rv_code.specs.layout.Lists.{IsPairBefore, ListsPairs};
 ghost use Rattle.func_find.specs.Referred.{Gains};
 ghost use Rattle.rv_code.specs.layout.InFunctions.{IsOfFunction};
@@ -70,7 +70,7 @@ fn push_leads(
 ) -> Result<(), NoMemory>
     requires inside { i < length func.now.insts.items }
     requires laid_out { IsLaidOut func.now }
-    requires low { func.now.end ≤ code_limit }
+    requires low { func.now.end ≤ address_end }
     requires targets { AllPairs IsPairBefore targets.now }
     ensures { OnOk result (Gains leads.old.items leads.new.items (LeadsFrom targets.now func.now i)) }
 {

@@ -7,4 +7,3 @@ pub mod PlacedAt
 pub mod Placing
 pub mod ReferredLists
 pub mod StartsApart
-pub mod Walked

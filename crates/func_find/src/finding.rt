@@ -18,6 +18,7 @@ use rb_bytes::fault::{Fault, FaultKind, Refusal};
 use rv_code::Func;
 use rv_reloc::Refs;
 use rv_reloc::parts::{Part, code_parts};
+use rv_reloc::start_index::Starts;
 use rv_reloc::whole::whole_parts;
 use std::alloc::Global;
 
@@ -37,9 +38,27 @@ pub fn functions(
     ensures free { OnOk result (IsFree (HasFunctionFault elf.now whole.now)) }
     ensures fault { IfErr result (IsRefusalBy (HasFunctionFault elf.now whole.now)) }
 {
+    let index = Starts::new(alloc, starts)?;
+    functions_by(alloc, elf, &index, refs, whole)
+}
+
+// The same, by the starts with hints for look-ups.
+fn functions_by(
+    alloc: Global,
+    elf: &Elf,
+    starts: &Starts,
+    refs: &Refs,
+    whole: &[(u64, u64)],
+) -> Result<Vec<Func>, Refusal>
+    requires starts { AreStarts elf.now starts.now }
+    requires refs { AreRefs elf.now whole.now refs.now }
+    ensures functions { IfOk result (λ funcs. AreFunctions elf.now whole.now funcs.items) }
+    ensures free { OnOk result (IsFree (HasFunctionFault elf.now whole.now)) }
+    ensures fault { IfErr result (IsRefusalBy (HasFunctionFault elf.now whole.now)) }
+{
     let parts = code_parts(alloc, elf)?;
-    let function_parts = kept_parts(alloc, elf, starts, &parts, refs)?;
-    let whole_parts = whole_parts(alloc, elf, starts, &parts, whole)?;
+    let function_parts = kept_parts(alloc, elf, starts.list(), &parts, refs)?;
+    let whole_parts = whole_parts(alloc, elf, starts.list(), &parts, whole)?;
     let kept = function_parts.as_slice();
     match lowest_bad_start(starts, kept, elf.entry) {
         Some(place) => return Err(Refusal::Fault(Fault::at(FaultKind::BadEntry, place))),
@@ -57,7 +76,7 @@ pub fn functions(
 }
 
 // The address, if it starts no instruction of a function.
-fn lowest_bad_start(starts: &[u64], parts: &[Part], address: u64) -> Option<u64>
+fn lowest_bad_start(starts: &Starts, parts: &[Part], address: u64) -> Option<u64>
     requires starts { AllPairs (λ a b. a < b) starts.now }
     requires parts { AreApart parts.now }
     ensures { IsLowest (IsBadStart starts.now parts.now address) result }

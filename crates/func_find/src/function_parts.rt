@@ -57,9 +57,9 @@ fn have_nops(alloc: Global, elf: &Elf, starts: &[u64], parts: &[Part]) -> Result
     Ok(false)
 }
 
-/// The parts that are functions, by address. `starts` and `parts` are those of the file, and `referred` the addresses that
-/// are referred to.
-pub fn function_parts(
+// The parts that are functions, by address. `starts` and `parts` are those of the file, and `referred` the addresses that are
+// referred to.
+fn function_parts(
     alloc: Global,
     elf: &Elf,
     starts: &[u64],

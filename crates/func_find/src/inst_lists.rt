@@ -63,6 +63,9 @@ fn is_same(a: &Part, b: &Part) -> bool
     a.start == b.start && a.end == b.end
 }
 
+/// A part of more instructions may take memory in steps.
+const LARGE: u64 = 256;
+
 // The instructions of a part, or the fault of the first that can't be there.
 fn insts_of(
     alloc: Global,
@@ -75,7 +78,8 @@ fn insts_of(
     ensures placed { IfOk result (λ insts. ArePlaced elf.now part.now.start part.now.end insts.items) }
     ensures fault { IfErr result (IsFirstRefusal elf.now (part.now ∷ [])) }
 {
-    let mut insts = Vec::new(alloc);
+    let most = ((part.end - part.start) / 2).min(LARGE) as usize;
+    let mut insts = Vec::with_capacity(alloc, most)?;
     let mut near = 0;
     let mut address = part.start;
     while address < part.end {

@@ -8,16 +8,16 @@ ghost use Rattle.func_find.specs.Targets.{CallsInside, HasMisled, IsCodeIn, IsHe
 use elf_image::lowest::{lower, place_if};
 use rv_code::flow::target;
 use rv_code::{Func, Placed, Role};
-use rv_reloc::code::is_start;
 use rv_reloc::parts::{Part, part_at};
+use rv_reloc::start_index::Starts;
 
 /// Whether an address is the start of an instruction of one of these parts.
-pub fn is_code(starts: &[u64], parts: &[Part], address: u64) -> bool
+pub fn is_code(starts: &Starts, parts: &[Part], address: u64) -> bool
     requires starts { AllPairs (λ a b. a < b) starts.now }
     requires parts { AreApart parts.now }
     ensures { IsTrue result ↔ IsCodeIn starts.now parts.now address }
 {
-    is_start(starts, address) && is_held(parts, address)
+    starts.has(address) && is_held(parts, address)
 }
 
 // Whether one of the parts holds an address.
@@ -29,16 +29,16 @@ fn is_held(parts: &[Part], address: u64) -> bool
 }
 
 // Whether one of the parts holds an address at which no instruction starts.
-fn is_inside(starts: &[u64], parts: &[Part], address: u64) -> bool
+fn is_inside(starts: &Starts, parts: &[Part], address: u64) -> bool
     requires starts { AllPairs (λ a b. a < b) starts.now }
     requires parts { AreApart parts.now }
     ensures { IsTrue result ↔ IsInsideIn starts.now parts.now address }
 {
-    is_held(parts, address) && !is_start(starts, address)
+    is_held(parts, address) && !starts.has(address)
 }
 
 /// The lowest address of an instruction that goes to no instruction. `parts` are the functions.
-pub fn lowest_misled(starts: &[u64], parts: &[Part], funcs: &[Func]) -> Option<u64>
+pub fn lowest_misled(starts: &Starts, parts: &[Part], funcs: &[Func]) -> Option<u64>
     requires starts { AllPairs (λ a b. a < b) starts.now }
     requires parts { AreApart parts.now }
     ensures { IsLowest (HasMisled starts.now parts.now funcs.now) result }
@@ -50,7 +50,7 @@ pub fn lowest_misled(starts: &[u64], parts: &[Part], funcs: &[Func]) -> Option<u
     lowest
 }
 
-fn lowest_misled_of(starts: &[u64], parts: &[Part], insts: &[Placed]) -> Option<u64>
+fn lowest_misled_of(starts: &Starts, parts: &[Part], insts: &[Placed]) -> Option<u64>
     requires starts { AllPairs (λ a b. a < b) starts.now }
     requires parts { AreApart parts.now }
     ensures { IsLowest (IsPlaceOf (λ p. p.addr) (IsMisled starts.now parts.now) insts.now) result }
@@ -63,7 +63,7 @@ fn lowest_misled_of(starts: &[u64], parts: &[Part], insts: &[Placed]) -> Option<
 }
 
 // Whether an instruction goes to no instruction.
-fn is_misled(starts: &[u64], parts: &[Part], inst: &Placed) -> bool
+fn is_misled(starts: &Starts, parts: &[Part], inst: &Placed) -> bool
     requires starts { AllPairs (λ a b. a < b) starts.now }
     requires parts { AreApart parts.now }
     ensures { IsTrue result ↔ IsMisled starts.now parts.now inst.now }
@@ -72,7 +72,7 @@ fn is_misled(starts: &[u64], parts: &[Part], inst: &Placed) -> bool
 }
 
 // Whether a branch, or a JAL, goes to no start of an instruction.
-fn jumps_nowhere(starts: &[u64], parts: &[Part], inst: &Placed) -> bool
+fn jumps_nowhere(starts: &Starts, parts: &[Part], inst: &Placed) -> bool
     requires starts { AllPairs (λ a b. a < b) starts.now }
     requires parts { AreApart parts.now }
     ensures { IsTrue result ↔ JumpsNowhere starts.now parts.now inst.now }
@@ -84,7 +84,7 @@ fn jumps_nowhere(starts: &[u64], parts: &[Part], inst: &Placed) -> bool
 }
 
 // Whether a call pair goes into the middle of an instruction.
-fn calls_inside(starts: &[u64], parts: &[Part], inst: &Placed) -> bool
+fn calls_inside(starts: &Starts, parts: &[Part], inst: &Placed) -> bool
     requires starts { AllPairs (λ a b. a < b) starts.now }
     requires parts { AreApart parts.now }
     ensures { IsTrue result ↔ CallsInside starts.now parts.now inst.now }

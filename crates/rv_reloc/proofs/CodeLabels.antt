@@ -1,6 +1,6 @@
 -- Labels that are code addresses.
 use Rattle.std.proofs.Common.{◌≡◌, ◌∙◌, sym, ap, subst, refl, ℕ, ℤ, pos, negsuc, ◌≤ℤ◌, ◌⊎◌, inl, inr, ◌↔◌, Bool, true, false}
-use Rattle.std.proofs.Common.{IsTrue, List, slice_index_or, Fits, w64, arith}
+use Rattle.std.proofs.Common.{◌<◌, ◌^◌, IsTrue, List, slice_index_or, w64, arith}
 use Rattle.std.specs.Int.{FitsUnsigned}
 use Rattle.std.specs.Int.RustNames.{unsigned_abs}
 use Rattle.std.specs.List.{Contains}
@@ -27,18 +27,18 @@ code-found elf starts z y a r are same not_below is test =
 
 -- a number that isn't one of 64 bits is no code address
 pub code-missing : (elf : Elf) (starts : List ℕ) (z y : ℤ) → AreStarts elf starts → y ≡ z →
-    ((i : ℕ) → Fits w64 (slice_index_or starts i 0)) → (FitsUnsigned w64 y → ⊥) → IsTrue false ↔ IsCodeLabel elf z
-code-missing elf starts z y are same fits none = (
+    ((i : ℕ) → slice_index_or starts i 0 < 2 ^ 64) → (FitsUnsigned w64 y → ⊥) → IsTrue false ↔ IsCodeLabel elf z
+code-missing elf starts z y are same low none = (
   λ wrong. let e : false ≡ true = wrong in absurd (cc),
   λ (a, there, is_start).
       let (k, within, is) = are.each a is_start in
-      let fits_a : Fits w64 a = subst (Fits w64) (get_or_default starts k 0 a within ∙ is) (fits k) in
+      let low_a : a < 2 ^ 64 = subst (λ n. n < 2 ^ 64) (get_or_default starts k 0 a within ∙ is) (low k) in
       let e : y ≡ pos a = same ∙ there in
-      absurd (none (unsigned y a e fits_a)),
+      absurd (none (unsigned y a e low_a)),
 )
   where
-    unsigned : (x : ℤ) (a : ℕ) → x ≡ pos a → Fits w64 a → FitsUnsigned w64 x
-    unsigned x a is fit = (omega (arith, ints), omega (arith, ints, fit))
+    unsigned : (x : ℤ) (a : ℕ) → x ≡ pos a → a < 2 ^ 64 → FitsUnsigned w64 x
+    unsigned x a is low = (omega (arith, ints), omega (arith, ints, low))
 
 pub either-first : (r : Bool) (P Q : Type 0) → r ≡ true → IsTrue r ↔ P → IsTrue r ↔ (P ⊎ Q)
 either-first r P Q is test = (λ _. inl (test.0 is), λ _. is)

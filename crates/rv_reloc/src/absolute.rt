@@ -9,12 +9,13 @@ ghost use Rattle.rv_reloc.specs.Instructions.{HasPart};
 ghost use Rattle.rv_reloc.specs.Parts.{AreCodeParts};
 ghost use Rattle.rv_reloc.specs.Records.{seen};
 
-use crate::code::{full_at, is_start};
+use crate::code::full_at;
 use crate::instructions::lui_of;
 use crate::labels::label;
 use crate::lows::lower_immediate;
 use crate::parts::Part;
 use crate::records::Record;
+use crate::start_index::Starts;
 use crate::targets::natural;
 use crate::types::is_absolute;
 use elf_image::Elf;
@@ -36,15 +37,16 @@ fn lo12(address: u64) -> i64
 }
 
 /// The code address of which a relocation for a part of an address speaks.
-pub fn absolute_target(elf: &Elf, starts: &[u64], relocation: &Record) -> Option<u64>
+pub fn absolute_target(elf: &Elf, starts: &Starts, relocation: &Record) -> Option<u64>
     requires starts { AreStarts elf.now starts.now }
     requires counts { Contains (relocations elf.now) (seen relocation.now) }
     ensures there { IfSome result (AbsoluteTo elf.now (seen relocation.now)) }
     ensures only { (target : ℕ) → AbsoluteTo elf.now (seen relocation.now) target → result ≡ Some target }
 {
+    let _list = starts.list();
     match natural(label(elf, relocation)) {
         Some(target) => {
-            if is_start(starts, target) {
+            if starts.has(target) {
                 Some(target)
             } else {
                 None
@@ -74,7 +76,7 @@ fn has_part(kind: u32, inst: &Inst, target: u64) -> bool
 /// Whether a relocation is on an instruction with its part of an address.
 pub fn has_absolute(
     elf: &Elf,
-    starts: &[u64],
+    starts: &Starts,
     parts: &[Part],
     relocation: &Record,
     target: u64,
@@ -91,7 +93,7 @@ pub fn has_absolute(
 }
 
 /// Whether a relocation for a part of a code address is not on its instruction, or the part there is another one.
-pub fn is_bad_absolute(elf: &Elf, starts: &[u64], parts: &[Part], relocation: &Record) -> bool
+pub fn is_bad_absolute(elf: &Elf, starts: &Starts, parts: &[Part], relocation: &Record) -> bool
     requires starts { AreStarts elf.now starts.now }
     requires parts { AreCodeParts elf.now parts.now }
     requires counts { Contains (relocations elf.now) (seen relocation.now) }

@@ -14,6 +14,7 @@ use crate::lows::Low;
 use crate::pairs::low_target;
 use crate::parts::Part;
 use crate::slots::{SlotLabel, has_label_at, has_other_label};
+use crate::start_index::Starts;
 use crate::targets::address_of;
 use elf_image::Elf;
 use elf_image::lowest::{lower, place_if};
@@ -33,7 +34,7 @@ fn misses_label(elf: &Elf, labels: &[SlotLabel], hi: u64, entry: u64) -> bool
 // Whether a lower part and its AUIPC name such an entry.
 fn names_bad_entry(
     elf: &Elf,
-    starts: &[u64],
+    starts: &Starts,
     parts: &[Part],
     labels: &[SlotLabel],
     low: &Low,
@@ -60,7 +61,7 @@ fn names_bad_entry(
 /// once for each lower part of an AUIPC that has such relocations, however many these are.
 pub fn lowest_bad_entry(
     elf: &Elf,
-    starts: &[u64],
+    starts: &Starts,
     parts: &[Part],
     labels: &[SlotLabel],
     lows: &[Low],

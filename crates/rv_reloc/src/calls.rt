@@ -16,6 +16,7 @@ use crate::code::full_at;
 use crate::instructions::{Jump, Upper, auipc_at, jalr_of};
 use crate::parts::{Part, part_at};
 use crate::records::Record;
+use crate::start_index::Starts;
 use crate::targets::{address_of, pair_target};
 use crate::types::is_call_pair;
 use elf_image::Elf;
@@ -77,7 +78,7 @@ impl Call {
     }
 }
 
-fn jalr_at(elf: &Elf, starts: &[u64], parts: &[Part], address: u64) -> Option<Jump>
+fn jalr_at(elf: &Elf, starts: &Starts, parts: &[Part], address: u64) -> Option<Jump>
     requires starts { AreStarts elf.now starts.now }
     requires parts { AreCodeParts elf.now parts.now }
     ensures there { IfSome result (λ j. (link : ℕ) × IsFullAt elf.now address (Jalr link j.base j.imm)) }
@@ -91,7 +92,7 @@ fn jalr_at(elf: &Elf, starts: &[u64], parts: &[Part], address: u64) -> Option<Ju
 }
 
 // The JALR after the instruction at an address, in the same part.
-fn jump_after(elf: &Elf, starts: &[u64], parts: &[Part], address: u64) -> Option<Jump>
+fn jump_after(elf: &Elf, starts: &Starts, parts: &[Part], address: u64) -> Option<Jump>
     requires starts { AreStarts elf.now starts.now }
     requires parts { AreCodeParts elf.now parts.now }
     ensures there { IfSome result
@@ -113,7 +114,7 @@ fn jump_after(elf: &Elf, starts: &[u64], parts: &[Part], address: u64) -> Option
 }
 
 /// The call at an address.
-pub fn call_at(elf: &Elf, starts: &[u64], parts: &[Part], address: u64) -> Option<Call>
+pub fn call_at(elf: &Elf, starts: &Starts, parts: &[Part], address: u64) -> Option<Call>
     requires starts { AreStarts elf.now starts.now }
     requires parts { AreCodeParts elf.now parts.now }
     ensures there { IfSome result (IsCallAt elf.now address) }
@@ -130,7 +131,7 @@ pub fn call_at(elf: &Elf, starts: &[u64], parts: &[Part], address: u64) -> Optio
 }
 
 /// Whether a relocation for a call is not on one, or on one that goes to no address.
-pub fn is_bad_call(elf: &Elf, starts: &[u64], parts: &[Part], relocation: &Record) -> bool
+pub fn is_bad_call(elf: &Elf, starts: &Starts, parts: &[Part], relocation: &Record) -> bool
     requires starts { AreStarts elf.now starts.now }
     requires parts { AreCodeParts elf.now parts.now }
     requires counts { Contains (relocations elf.now) (seen relocation.now) }

@@ -13,13 +13,13 @@ ghost use Rattle.elf_image.specs.code.Relocations.{relocations};
 ghost use Rattle.rv_reloc.specs.Loaded.{IsLow};
 ghost use Rattle.rv_reloc.specs.Sweep.{field};
 
-use crate::code::is_start;
 use crate::differences::{Difference, crosses, difference_of};
 use crate::found::push_found;
 use crate::labels::{Width, can_be_cell};
 use crate::loaded::loaded_number;
 use crate::parts::Part;
 use crate::records::Record;
+use crate::start_index::Starts;
 use crate::sweep::{Candidate, Content};
 use crate::types::is_address;
 use elf_image::relocation::R_RISCV_32;
@@ -94,7 +94,7 @@ pub fn are_free(elf: &Elf, place: u64, width: u8) -> bool
 }
 
 /// The field of so many bytes at a place, if it holds a code address and can be a cell.
-pub fn code_field(elf: &Elf, starts: &[u64], place: u64, width: u8) -> Option<Candidate>
+pub fn code_field(elf: &Elf, starts: &Starts, place: u64, width: u8) -> Option<Candidate>
     requires low { IsLow elf.now }
     requires starts { AreStarts elf.now starts.now }
     requires width { 0 < width }
@@ -104,7 +104,7 @@ pub fn code_field(elf: &Elf, starts: &[u64], place: u64, width: u8) -> Option<Ca
 {
     match loaded_number(elf, place, width) {
         Some(to) => {
-            if is_start(starts, to) && are_free(elf, place, width) {
+            if starts.has(to) && are_free(elf, place, width) {
                 Some(Candidate {
                     place,
                     width,
@@ -141,7 +141,7 @@ fn cell_bytes(width: Width) -> Option<u8>
 // The field of a difference, if it can be a cell.
 fn cell_field(
     elf: &Elf,
-    starts: &[u64],
+    starts: &Starts,
     wholes: &[Part],
     place: u64,
     difference: &Difference,
@@ -178,7 +178,7 @@ fn cell_field(
 // A relocation's field, if it can be a cell. `near` is about where the relocation stands.
 fn field_of(
     elf: &Elf,
-    starts: &[u64],
+    starts: &Starts,
     wholes: &[Part],
     records: &[Record],
     near: usize,
@@ -215,7 +215,7 @@ fn field_of(
 pub fn fields_of(
     alloc: Global,
     elf: &Elf,
-    starts: &[u64],
+    starts: &Starts,
     wholes: &[Part],
     records: &[Record],
 ) -> Result<Vec<Candidate>, NoMemory>

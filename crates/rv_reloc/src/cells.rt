@@ -20,6 +20,7 @@ use crate::lows::Low;
 use crate::parts::Part;
 use crate::records::Record;
 use crate::slots::SlotLabel;
+use crate::start_index::Starts;
 use crate::sweep::{Candidate, Content, sort_fields, sweep};
 use elf_image::Elf;
 use elf_image::lowest::{lower, place_if};
@@ -114,7 +115,7 @@ pub fn cells(alloc: Global, counted: &[Candidate]) -> Result<Vec<CodeCell>, NoMe
 pub fn counted_fields(
     alloc: Global,
     elf: &Elf,
-    starts: &[u64],
+    starts: &Starts,
     parts: &[Part],
     wholes: &[Part],
     records: &[Record],

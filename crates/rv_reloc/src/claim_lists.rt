@@ -17,6 +17,7 @@ use crate::lows::Low;
 use crate::parts::Part;
 use crate::records::Record;
 use crate::roles::{Claim, first_roles};
+use crate::start_index::Starts;
 use crate::types::{is_absolute, is_call_pair, is_pcrel_hi, is_pcrel_lo};
 use elf_image::Elf;
 use rb_bytes::fault::NoMemory;
@@ -26,7 +27,7 @@ use std::alloc::Global;
 // The claim of a relocation to the instruction at its place.
 fn claim_at(
     elf: &Elf,
-    starts: &[u64],
+    starts: &Starts,
     parts: &[Part],
     lows: &[Low],
     relocation: &Record,
@@ -57,7 +58,7 @@ fn claim_at(
 }
 
 // The claim of a relocation to the instruction after that at its place.
-fn claim_after(elf: &Elf, starts: &[u64], parts: &[Part], relocation: &Record) -> Option<Claim>
+fn claim_after(elf: &Elf, starts: &Starts, parts: &[Part], relocation: &Record) -> Option<Claim>
     requires starts { AreStarts elf.now starts.now }
     requires parts { AreCodeParts elf.now parts.now }
     requires counts { Contains (relocations elf.now) (seen relocation.now) }
@@ -76,7 +77,7 @@ fn claim_after(elf: &Elf, starts: &[u64], parts: &[Part], relocation: &Record) -
 fn read_claims(
     alloc: Global,
     elf: &Elf,
-    starts: &[u64],
+    starts: &Starts,
     parts: &[Part],
     lows: &[Low],
     records: &[Record],
@@ -110,7 +111,7 @@ fn sort_claims(claims: &mut Vec<Claim>) -> Result<(), NoMemory>
 pub fn roles(
     alloc: Global,
     elf: &Elf,
-    starts: &[u64],
+    starts: &Starts,
     parts: &[Part],
     lows: &[Low],
     records: &[Record],

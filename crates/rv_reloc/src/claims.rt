@@ -17,12 +17,13 @@ use crate::pairs::low_address;
 use crate::parts::Part;
 use crate::records::Record;
 use crate::roles::Claim;
+use crate::start_index::Starts;
 use elf_image::Elf;
 use elf_image::relocation::R_RISCV_HI20;
 use rv_code::Role;
 
 /// The claim of a call to its AUIPC.
-pub fn call_claim(elf: &Elf, starts: &[u64], parts: &[Part], relocation: &Record) -> Option<Claim>
+pub fn call_claim(elf: &Elf, starts: &Starts, parts: &[Part], relocation: &Record) -> Option<Claim>
     requires starts { AreStarts elf.now starts.now }
     requires parts { AreCodeParts elf.now parts.now }
     requires counts { Contains (relocations elf.now) (seen relocation.now) }
@@ -49,7 +50,7 @@ pub fn call_claim(elf: &Elf, starts: &[u64], parts: &[Part], relocation: &Record
 /// The claim of a call to its JALR.
 pub fn call_low_claim(
     elf: &Elf,
-    starts: &[u64],
+    starts: &Starts,
     parts: &[Part],
     relocation: &Record,
 ) -> Option<Claim>
@@ -82,7 +83,7 @@ pub fn call_low_claim(
 /// The claim of an upper part that is not a call's to its AUIPC. All lower parts for it are the same.
 pub fn upper_claim(
     elf: &Elf,
-    starts: &[u64],
+    starts: &Starts,
     parts: &[Part],
     lows: &[Low],
     relocation: &Record,
@@ -113,7 +114,7 @@ pub fn upper_claim(
 }
 
 /// The claim of a lower part to its instruction.
-pub fn lower_claim(elf: &Elf, starts: &[u64], parts: &[Part], relocation: &Record) -> Option<Claim>
+pub fn lower_claim(elf: &Elf, starts: &Starts, parts: &[Part], relocation: &Record) -> Option<Claim>
     requires starts { AreStarts elf.now starts.now }
     requires parts { AreCodeParts elf.now parts.now }
     requires counts { Contains (relocations elf.now) (seen relocation.now) }
@@ -150,7 +151,7 @@ fn absolute_role(kind: u32, target: u64) -> Role
 /// The claim of a part of an absolute code address to its instruction.
 pub fn absolute_claim(
     elf: &Elf,
-    starts: &[u64],
+    starts: &Starts,
     parts: &[Part],
     relocation: &Record,
 ) -> Option<Claim>

@@ -8,16 +8,17 @@ ghost use Rattle.rv_reloc.specs.Parts.{AreCodeParts, IsInstBefore};
 
 use crate::loaded::bytes_from;
 use crate::parts::{Part, part_at};
+use crate::start_index::Starts;
 use elf_image::Elf;
 use rv_code::Inst;
 use rv_decode::decode;
 
-/// Whether an address is among the starts of instructions.
-pub fn is_start(starts: &[u64], address: u64) -> bool
-    requires { AllPairs (λ a b. a < b) starts.now }
-    ensures { IsTrue result ↔ Contains starts.now address }
+/// Whether an address is among others, which ascend.
+pub fn is_start(addresses: &[u64], address: u64) -> bool
+    requires { AllPairs (λ a b. a < b) addresses.now }
+    ensures { IsTrue result ↔ Contains addresses.now address }
 {
-    starts.binary_search(&address).is_ok()
+    addresses.binary_search(&address).is_ok()
 }
 
 /// The halfword at an address. What isn't loaded counts as zero.
@@ -82,13 +83,13 @@ fn full_before(elf: &Elf, end: u64, address: u64) -> Option<Inst>
 }
 
 /// The four-byte instruction that starts at an address. `starts` and `parts` are those of the file.
-pub fn full_at(elf: &Elf, starts: &[u64], parts: &[Part], address: u64) -> Option<Inst>
+pub fn full_at(elf: &Elf, starts: &Starts, parts: &[Part], address: u64) -> Option<Inst>
     requires starts { AreStarts elf.now starts.now }
     requires parts { AreCodeParts elf.now parts.now }
     ensures there { IfSome result (IsFullAt elf.now address) }
     ensures only { (inst : Inst) → IsFullAt elf.now address inst → result ≡ Some inst }
 {
-    if !is_start(starts, address) {
+    if !starts.has(address) {
         return None;
     }
     match part_at(parts, address) {

@@ -22,6 +22,7 @@ use crate::labels::{
 };
 use crate::parts::Part;
 use crate::records::Record;
+use crate::start_index::Starts;
 use crate::tails::Known;
 use crate::types::is_pc_difference;
 use crate::whole::in_one_whole;
@@ -113,7 +114,7 @@ fn is_paired(elf: &Elf, records: &[Record], near: usize, place: u64, width: Widt
 // Whether a relocation speaks of a code address, and isn't one of two that make a difference.
 fn is_unpaired(
     elf: &Elf,
-    starts: &[u64],
+    starts: &Starts,
     records: &[Record],
     near: usize,
     relocation: &Record,
@@ -159,7 +160,7 @@ fn is_other_number(
 /// Whether a relocation for a difference doesn't fit.
 pub fn is_bad_difference(
     elf: &Elf,
-    starts: &[u64],
+    starts: &Starts,
     known: &[Known],
     records: &[Record],
     near: usize,
@@ -180,7 +181,7 @@ pub fn is_bad_difference(
 /// part.
 pub fn is_narrow(
     elf: &Elf,
-    starts: &[u64],
+    starts: &Starts,
     wholes: &[Part],
     records: &[Record],
     near: usize,
@@ -203,7 +204,7 @@ pub fn is_narrow(
 }
 
 /// Whether a difference has a code address, and isn't of two labels of one whole part.
-pub fn crosses(elf: &Elf, starts: &[u64], wholes: &[Part], difference: &Difference) -> bool
+pub fn crosses(elf: &Elf, starts: &Starts, wholes: &[Part], difference: &Difference) -> bool
     requires starts { AreStarts elf.now starts.now }
     requires wholes { AreApart wholes.now }
     ensures { (tabled : List (ℕ × ℕ)) → AreWholeParts elf.now tabled wholes.now →
@@ -218,7 +219,7 @@ pub fn crosses(elf: &Elf, starts: &[u64], wholes: &[Part], difference: &Differen
 }
 
 /// The lowest place of a difference with a code address that no cell can hold, and not of two labels of one whole part.
-pub fn lowest_narrow(elf: &Elf, starts: &[u64], wholes: &[Part], records: &[Record]) -> Option<u64>
+pub fn lowest_narrow(elf: &Elf, starts: &Starts, wholes: &[Part], records: &[Record]) -> Option<u64>
     requires starts { AreStarts elf.now starts.now }
     requires wholes { AreApart wholes.now }
     requires records { AreRecords elf.now records.now }

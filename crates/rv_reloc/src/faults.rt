@@ -18,6 +18,7 @@ use crate::lows::Low;
 use crate::parts::Part;
 use crate::records::Record;
 use crate::reloc_type::lowest_reloc_type;
+use crate::start_index::Starts;
 use crate::sweep::Candidate;
 use elf_image::lowest::lower;
 use elf_image::{Elf, refuse_at};
@@ -27,7 +28,7 @@ use rb_bytes::fault::{Fault, FaultKind};
 /// are those of the file, `counted` the fields that count; `misfit` is the lowest place of a relocation that doesn't fit.
 pub fn check(
     elf: &Elf,
-    starts: &[u64],
+    starts: &Starts,
     wholes: &[Part],
     records: &[Record],
     lows: &[Low],

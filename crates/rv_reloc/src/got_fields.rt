@@ -16,6 +16,7 @@ use crate::lows::Low;
 use crate::pairs::low_target;
 use crate::parts::Part;
 use crate::slots::{SlotLabel, has_label, has_label_at};
+use crate::start_index::Starts;
 use crate::sweep::Candidate;
 use crate::targets::natural;
 use elf_image::Elf;
@@ -34,7 +35,7 @@ fn names_entry(elf: &Elf, labels: &[SlotLabel], hi: u64, to: u64) -> bool
 // The field at a place, if a relocation for the AUIPC at an address says that it holds what it holds.
 fn named_field(
     elf: &Elf,
-    starts: &[u64],
+    starts: &Starts,
     labels: &[SlotLabel],
     hi: u64,
     slot: u64,
@@ -59,7 +60,7 @@ fn named_field(
 // The entry that a lower part and its AUIPC name, if it can be a cell.
 fn slot_of(
     elf: &Elf,
-    starts: &[u64],
+    starts: &Starts,
     parts: &[Part],
     labels: &[SlotLabel],
     low: &Low,
@@ -87,7 +88,7 @@ fn slot_of(
 pub fn got_fields(
     alloc: Global,
     elf: &Elf,
-    starts: &[u64],
+    starts: &Starts,
     parts: &[Part],
     labels: &[SlotLabel],
     lows: &[Low],

@@ -9,6 +9,7 @@ ghost use Rattle.rv_reloc.specs.Parts.{AreCodeParts};
 
 use crate::code::full_at;
 use crate::parts::Part;
+use crate::start_index::Starts;
 use elf_image::Elf;
 use rv_code::Inst;
 
@@ -56,7 +57,7 @@ pub fn jalr_of(inst: &Inst) -> Option<Jump>
 }
 
 /// The AUIPC at an address.
-pub fn auipc_at(elf: &Elf, starts: &[u64], parts: &[Part], address: u64) -> Option<Upper>
+pub fn auipc_at(elf: &Elf, starts: &Starts, parts: &[Part], address: u64) -> Option<Upper>
     requires starts { AreStarts elf.now starts.now }
     requires parts { AreCodeParts elf.now parts.now }
     ensures there { IfSome result (λ u. IsFullAt elf.now address (Auipc u.rd u.imm)) }

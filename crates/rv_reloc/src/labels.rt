@@ -6,8 +6,8 @@ ghost use Rattle.elf_image.specs.code.Cells.{can_be_cell, IsCodeLabel, HasCodeLa
 ghost use Rattle.rv_reloc.specs.Labels.{width_of, IsLabelSize};
 ghost use Rattle.rv_reloc.specs.Records.{seen};
 
-use crate::code::is_start;
 use crate::records::Record;
+use crate::start_index::Starts;
 use crate::types::is_pc_difference;
 use elf_image::Elf;
 use elf_image::relocation::*;
@@ -104,19 +104,20 @@ pub fn label(elf: &Elf, relocation: &Record) -> i128
 }
 
 /// Whether a label is a code address.
-pub fn is_code_label(elf: &Elf, starts: &[u64], label: i128) -> bool
+pub fn is_code_label(elf: &Elf, starts: &Starts, label: i128) -> bool
     requires { AreStarts elf.now starts.now }
     ensures { IsTrue result ↔ IsCodeLabel elf.now label }
 {
     let _elf = elf;
+    let _list = starts.list();
     match u64::try_from(label) {
-        Ok(address) => is_start(starts, address),
+        Ok(address) => starts.has(address),
         Err(_) => false,
     }
 }
 
 /// Whether one of two labels is a code address.
-pub fn has_code_label(elf: &Elf, starts: &[u64], to: i128, from: i128) -> bool
+pub fn has_code_label(elf: &Elf, starts: &Starts, to: i128, from: i128) -> bool
     requires { AreStarts elf.now starts.now }
     ensures { IsTrue result ↔ HasCodeLabel elf.now to from }
 {

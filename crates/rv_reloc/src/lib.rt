@@ -33,6 +33,7 @@ pub mod refs;
 pub mod reloc_type;
 pub mod roles;
 pub mod slots;
+pub mod start_index;
 pub mod sweep;
 pub mod tails;
 pub mod targets;

@@ -14,6 +14,7 @@ use crate::found::push_found;
 use crate::labels::symbol_value;
 use crate::parts::Part;
 use crate::records::Record;
+use crate::start_index::Starts;
 use crate::types::is_pcrel_lo;
 use elf_image::Elf;
 use elf_image::relocation::{R_RISCV_LO12_I, R_RISCV_PCREL_LO12_I};
@@ -67,7 +68,7 @@ pub fn lower_immediate(kind: u32, inst: &Inst) -> Option<i64>
 }
 
 /// The lower part that a relocation gives.
-pub fn low_of(elf: &Elf, starts: &[u64], parts: &[Part], relocation: &Record) -> Option<Low>
+pub fn low_of(elf: &Elf, starts: &Starts, parts: &[Part], relocation: &Record) -> Option<Low>
     requires starts { AreStarts elf.now starts.now }
     requires parts { AreCodeParts elf.now parts.now }
     ensures is { IfSome result (IsLowOf elf.now (seen relocation.now)) }
@@ -90,7 +91,7 @@ pub fn low_of(elf: &Elf, starts: &[u64], parts: &[Part], relocation: &Record) ->
 fn read_lows(
     alloc: Global,
     elf: &Elf,
-    starts: &[u64],
+    starts: &Starts,
     parts: &[Part],
     records: &[Record],
 ) -> Result<Vec<Low>, NoMemory>
@@ -118,7 +119,7 @@ fn sort_lows(lows: &mut Vec<Low>) -> Result<(), NoMemory>
 pub fn lows(
     alloc: Global,
     elf: &Elf,
-    starts: &[u64],
+    starts: &Starts,
     parts: &[Part],
     records: &[Record],
 ) -> Result<Vec<Low>, NoMemory>

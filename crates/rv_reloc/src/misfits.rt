@@ -26,6 +26,7 @@ use crate::pairs::{far_uppers, is_far};
 use crate::parts::Part;
 use crate::records::Record;
 use crate::slots::SlotLabel;
+use crate::start_index::Starts;
 use crate::tails::Known;
 use crate::uppers::{is_bad_lower, is_bad_upper};
 use elf_image::Elf;
@@ -49,7 +50,7 @@ fn is_either(one: bool, other: bool) -> bool
 /// Whether a relocation is not on the instructions that it is for, or these say something else.
 pub fn is_misplaced(
     elf: &Elf,
-    starts: &[u64],
+    starts: &Starts,
     parts: &[Part],
     named: &[u64],
     records: &[Record],
@@ -81,7 +82,7 @@ fn has_bad_field(elf: &Elf, known: &[Known], relocation: &Record) -> bool
 // Whether a relocation doesn't fit, whatever the entries of the global offset table hold. `near` is about where it stands.
 fn is_unfit(
     elf: &Elf,
-    starts: &[u64],
+    starts: &Starts,
     parts: &[Part],
     named: &[u64],
     far: &[u64],
@@ -113,7 +114,7 @@ fn is_unfit(
 // The lowest place of a relocation that doesn't fit, whatever the entries of the global offset table hold.
 fn lowest_unfit(
     elf: &Elf,
-    starts: &[u64],
+    starts: &Starts,
     parts: &[Part],
     named: &[u64],
     far: &[u64],
@@ -144,7 +145,7 @@ fn lowest_unfit(
 pub fn lowest_misfit(
     alloc: Global,
     elf: &Elf,
-    starts: &[u64],
+    starts: &Starts,
     parts: &[Part],
     lows: &[Low],
     labels: &[SlotLabel],

@@ -15,6 +15,7 @@ use crate::lows::Low;
 use crate::named::is_named;
 use crate::parts::Part;
 use crate::records::Record;
+use crate::start_index::Starts;
 use crate::targets::{address_of, pair_target};
 use crate::types::is_pcrel_hi;
 use elf_image::Elf;
@@ -23,7 +24,7 @@ use rb_bytes::fault::NoMemory;
 use std::alloc::Global;
 
 /// The number that a lower part makes with the AUIPC that it names.
-pub fn low_target(elf: &Elf, starts: &[u64], parts: &[Part], low: &Low) -> Option<i128>
+pub fn low_target(elf: &Elf, starts: &Starts, parts: &[Part], low: &Low) -> Option<i128>
     requires starts { AreStarts elf.now starts.now }
     requires parts { AreCodeParts elf.now parts.now }
     ensures is { IfSome result (IsTargetOf elf.now low.now) }
@@ -36,7 +37,7 @@ pub fn low_target(elf: &Elf, starts: &[u64], parts: &[Part], low: &Low) -> Optio
 }
 
 /// The address that it makes.
-pub fn low_address(elf: &Elf, starts: &[u64], parts: &[Part], low: &Low) -> Option<u64>
+pub fn low_address(elf: &Elf, starts: &Starts, parts: &[Part], low: &Low) -> Option<u64>
     requires starts { AreStarts elf.now starts.now }
     requires parts { AreCodeParts elf.now parts.now }
     ensures is { IfSome result (λ t. IsTargetOf elf.now low.now (pos t)) }
@@ -50,7 +51,7 @@ pub fn low_address(elf: &Elf, starts: &[u64], parts: &[Part], low: &Low) -> Opti
 }
 
 // The AUIPC of a lower part, if both make no address.
-fn far_of(elf: &Elf, starts: &[u64], parts: &[Part], low: &Low) -> Option<u64>
+fn far_of(elf: &Elf, starts: &Starts, parts: &[Part], low: &Low) -> Option<u64>
     requires starts { AreStarts elf.now starts.now }
     requires parts { AreCodeParts elf.now parts.now }
     ensures is { IfSome result (IsFar elf.now low.now) }
@@ -71,7 +72,7 @@ fn far_of(elf: &Elf, starts: &[u64], parts: &[Part], low: &Low) -> Option<u64>
 fn read_far(
     alloc: Global,
     elf: &Elf,
-    starts: &[u64],
+    starts: &Starts,
     parts: &[Part],
     lows: &[Low],
 ) -> Result<Vec<u64>, NoMemory>
@@ -90,7 +91,7 @@ fn read_far(
 pub fn far_uppers(
     alloc: Global,
     elf: &Elf,
-    starts: &[u64],
+    starts: &Starts,
     parts: &[Part],
     lows: &[Low],
 ) -> Result<Vec<u64>, NoMemory>

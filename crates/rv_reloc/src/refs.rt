@@ -17,6 +17,7 @@ use crate::misfits::lowest_misfit;
 use crate::parts::{Part, code_parts};
 use crate::records::{Record, records};
 use crate::slots::slot_labels;
+use crate::start_index::Starts;
 use crate::whole::whole_parts;
 use elf_image::Elf;
 use rb_bytes::fault::Refusal;
@@ -49,15 +50,16 @@ pub fn references(
 {
     let parts = code_parts(alloc, elf)?;
     let records = records(alloc, elf)?;
-    let lows = lows(alloc, elf, starts, &parts, &records)?;
-    references_by(alloc, elf, starts, whole, &parts, &records, &lows)
+    let index = Starts::new(alloc, starts)?;
+    let lows = lows(alloc, elf, &index, &parts, &records)?;
+    references_by(alloc, elf, &index, whole, &parts, &records, &lows)
 }
 
 // The same, by the file's code parts, its relocations and their lower parts.
 fn references_by(
     alloc: Global,
     elf: &Elf,
-    starts: &[u64],
+    starts: &Starts,
     whole: &[(u64, u64)],
     parts: &[Part],
     records: &[Record],
@@ -73,7 +75,7 @@ fn references_by(
     ensures fault { IfErr result (IsRefusalBy (HasReferenceFault elf.now whole.now)) }
 {
     let labels = slot_labels(alloc, elf, records)?;
-    let wholes = whole_parts(alloc, elf, starts, parts, whole)?;
+    let wholes = whole_parts(alloc, elf, starts.list(), parts, whole)?;
     let counted = counted_fields(alloc, elf, starts, parts, &wholes, records, &labels, lows)?;
     let misfit = lowest_misfit(alloc, elf, starts, parts, lows, &labels, records)?;
     check(elf, starts, &wholes, records, lows, &counted, misfit)?;

@@ -13,13 +13,14 @@ use crate::lows::low_of;
 use crate::named::is_named;
 use crate::parts::Part;
 use crate::records::Record;
+use crate::start_index::Starts;
 use crate::types::{is_pcrel_hi, is_pcrel_lo};
 use elf_image::Elf;
 
 /// Whether a relocation for an upper part is on no AUIPC, or on one that no lower part names.
 pub fn is_bad_upper(
     elf: &Elf,
-    starts: &[u64],
+    starts: &Starts,
     parts: &[Part],
     named: &[u64],
     relocation: &Record,
@@ -39,7 +40,7 @@ pub fn is_bad_upper(
 }
 
 // Whether an address is that of an AUIPC with an upper part that is not a call's.
-fn is_upper(elf: &Elf, starts: &[u64], parts: &[Part], records: &[Record], address: u64) -> bool
+fn is_upper(elf: &Elf, starts: &Starts, parts: &[Part], records: &[Record], address: u64) -> bool
     requires starts { AreStarts elf.now starts.now }
     requires parts { AreCodeParts elf.now parts.now }
     requires records { AreRecords elf.now records.now }
@@ -58,7 +59,7 @@ fn is_upper(elf: &Elf, starts: &[u64], parts: &[Part], records: &[Record], addre
 /// Whether a relocation for a lower part is on no instruction that can have one, or names no upper part.
 pub fn is_bad_lower(
     elf: &Elf,
-    starts: &[u64],
+    starts: &Starts,
     parts: &[Part],
     records: &[Record],
     relocation: &Record,

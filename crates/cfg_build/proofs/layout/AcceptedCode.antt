@@ -9,7 +9,7 @@ use Rattle.std.proofs.lemmas.Option.{slice_get_read}
 use Rattle.rb_bytes.specs.declared.fault.FaultKind.TheVariants.{BadInstruction, ExecSegments, HighAddress}
 use Rattle.rv_code.specs.declared.placed.Placed.{Placed}
 use Rattle.rv_code.specs.declared.placed.Func.{Func}
-use Rattle.rv_code.specs.layout.FunctionLists.{Follow, HasLength, IsLaidOut, AreLaidOut, code_limit}
+use Rattle.rv_code.specs.layout.FunctionLists.{Follow, HasLength, IsLaidOut, AreLaidOut, address_end}
 use Rattle.elf_image.specs.declared.elf.Elf.{Elf}
 use Rattle.elf_image.specs.declared.elf.Section.{Section}
 use Rattle.elf_image.specs.declared.segment.TheConstants.{PF_X}
@@ -18,7 +18,7 @@ use Rattle.elf_image.specs.code.Parts.{IsPart, IsInstAt, at_start}
 use Rattle.elf_image.specs.faults.FileFaults.{IsSound}
 use Rattle.elf_image.specs.faults.FirstFault.{IsFree}
 use Rattle.elf_image.specs.faults.FunctionFaults.{HasFunctionFault}
-use Rattle.elf_image.specs.faults.SegmentLayout.{LiesInCode, address_end}
+use Rattle.elf_image.specs.faults.SegmentLayout.{LiesInCode}
 use Rattle.elf_image.specs.file.Header.{segment}
 use Rattle.elf_image.specs.file.ParsedFile.{IsElfOf, IsSectionAt}
 use Rattle.elf_image.specs.file.Sections.{section_header, section_place, holds_code}
@@ -84,12 +84,12 @@ module _ (elf : Elf) (file : List ℕ) (read : IsElfOf file elf) (sound : IsSoun
       (j, is.0, (loads-from_parts (end - 1) (segment file j) kind.0 (omega arith) (omega arith), above))))
       (cases_lt (end - 1) address_end)
 
-  part_low : (start end : ℕ) → IsPart elf start end → end ≤ code_limit
+  part_low : (start end : ℕ) → IsPart elf start end → end ≤ address_end
   part_low start end part = by part.in_code
     where
       by : Any (λ s. IsTrue (holds_code s.flags) × (s.addr ≤ start) × (start < s.addr + s.size)) elf.sections.items →
-          end ≤ code_limit
-      by (k, s, within, at, (holds, low, high)) = stable_upto end code_limit (λ not_low.
+          end ≤ address_end
+      by (k, s, within, at, (holds, low, high)) = stable_upto end address_end (λ not_low.
           section_lies k s (slice_get_read elf.sections.items (length elf.sections.items) k s refl within
           (sym at)) within holds (omega arith)
           (λ lies.
@@ -137,5 +137,5 @@ module _ (elf : Elf) (file : List ℕ) (read : IsElfOf file elf) (sound : IsSoun
           (λ (within : g.start < f.end). absurd (part.neighbours g.start before within part'.starts))
           (λ (past : f.end ≤ g.start). past)
           (cases_lt g.start f.end);
-      low = all_of (λ f. f.end ≤ code_limit) funcs (λ f f_in. part_low f.start f.end (part_of_func f f_in));
+      low = all_of (λ f. f.end ≤ address_end) funcs (λ f f_in. part_low f.start f.end (part_of_func f f_in));
     }

@@ -8,7 +8,7 @@ use Rattle.rv_code.specs.declared.placed.Placed.{Placed}
 use Rattle.rv_code.specs.declared.placed.Func.{Func}
 use Rattle.rv_code.specs.layout.Blocks.{inst_at}
 use Rattle.rv_code.specs.layout.Flow.{insts_of, placed_at}
-use Rattle.rv_code.specs.layout.FunctionLists.{IsLaidOut, AreLaidOut, code_limit}
+use Rattle.rv_code.specs.layout.FunctionLists.{IsLaidOut, AreLaidOut, address_end}
 use Rattle.rv_code.proofs.lists.Follows.{funcs_apart}
 use Rattle.elf_image.proofs.LoadLemmas.{find-found, find-only}
 use Rattle.move_law.proofs.Lists.{from_flat, in_flat, one_of, pairs_flat}
@@ -27,10 +27,10 @@ module _ (funcs : List Func) (are : AreLaidOut funcs) where
   pub laid_out : (func : Func) → Contains funcs func → IsLaidOut func
   laid_out func is_in = All-contains IsLaidOut funcs func are.each is_in
 
-  pub func_low : (func : Func) → Contains funcs func → func.end ≤ code_limit
-  func_low func is_in = All-contains (λ f. f.end ≤ code_limit) funcs func are.low is_in
+  pub func_low : (func : Func) → Contains funcs func → func.end ≤ address_end
+  func_low func is_in = All-contains (λ f. f.end ≤ address_end) funcs func are.low is_in
 
-  pub lies_in_code : (p : Placed) → Contains (insts_of funcs) p → LiesIn 0 code_limit p
+  pub lies_in_code : (p : Placed) → Contains (insts_of funcs) p → LiesIn 0 address_end p
   lies_in_code p is_in =
       let (func, func_in, p_in) = from_flat (λ f. f.insts.items) funcs p is_in in
       let lies = inst_lies func (laid_out func func_in) p p_in in

@@ -2,7 +2,7 @@ use Rattle.std.proofs.Common.{ℕ, arith}
 use Rattle.std.proofs.lemmas.Bool.{ltb-true}
 use Rattle.rv_code.specs.declared.placed.Role.{Role}
 use Rattle.rv_code.specs.declared.placed.Role.TheVariants.{Plain}
-use Rattle.func_find.proofs.Walked.{first_below}
+use Rattle.rb_lanes.proofs.Walked.{first_below}
 use Rattle.func_find.proofs.inst_lists.are_below.Goals as goal
 
 pub returns-clause-below : goal.returns-clause-below

@@ -1,7 +1,7 @@
 use Rattle.std.proofs.Common.{ℕ, arith}
 use Rattle.rv_code.specs.declared.placed.Role.{Role}
 use Rattle.rv_code.specs.declared.placed.Role.TheVariants.{Plain}
-use Rattle.func_find.proofs.Walked.{rest_above, next_below}
+use Rattle.rb_lanes.proofs.Walked.{rest_above, next_below}
 use Rattle.func_find.proofs.inst_lists.count_below.Goals as goal
 
 pub returns-then-roles-index-clause-above : goal.returns-then-roles-index-clause-above

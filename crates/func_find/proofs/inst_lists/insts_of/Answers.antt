@@ -6,7 +6,7 @@ use Rattle.func_find.proofs.inst_lists.insts_of.Goals as goal
 pub loop-address-init : goal.loop-address-init
 loop-address-init c =
     subst (ArePlacedTo c.args.elf.now c.args.part.now.start c.args.part.now.end c.args.part.now.start)
-    (sym c.new-insts.ensures.items)
+    (sym c.in_ok-insts.ensures.items)
     (placed_none c.args.elf.now c.args.part.now.start c.args.part.now.end c.requires.part)
 
 pub returns-in-Err-clause-fault : goal.returns-in-Err-clause-fault

@@ -6,41 +6,41 @@ use Rattle.std.proofs.lemmas.List.{get_or_default}
 use Rattle.rv_reloc.proofs.Options.{same_some, not_found}
 use Rattle.rv_reloc.proofs.absolute.absolute_target.Goals as goal
 
-pub returns-then-is_start-clause-there : goal.returns-then-is_start-clause-there
-returns-then-is_start-clause-there c =
+pub returns-then-has-clause-there : goal.returns-then-has-clause-there
+returns-then-has-clause-there c =
     let fits : FitsSigned w128 c.label.result = search rules in
     record {
       counts = c.requires.counts;
       target_is = sym (c.in-Some.ensures.there ∙ to_z-of_z w128 _ fits ∙ c.label.ensures.label);
-      is_code = c.requires.starts.only c.in-Some.target (c.is_start.ensures.0 c.if-is_start.true);
+      is_code = c.requires.starts.only c.in-Some.target (c.has.ensures.0 c.if-has.true);
     }
 
-pub returns-then-is_start-clause-only : goal.returns-then-is_start-clause-only
-returns-then-is_start-clause-only c = λ target to.
+pub returns-then-has-clause-only : goal.returns-then-has-clause-only
+returns-then-has-clause-only c = λ target to.
     let fits : FitsSigned w128 c.label.result = search rules in
     let (k, within, there) = c.requires.starts.each target to.is_code in
-    let low = c.type_inv.starts k in
+    let low = c.list-list.ensures.low k in
     let at : slice_index_or c.args.starts.now k 0 ≡ target = get_or_default c.args.starts.now k 0 target within ∙ there in
     ap Some (same_some _ _ _ c.in-Some.is
     (c.natural.ensures.each target (omega arith) (sym (to_z-of_z w128 _ fits ∙ c.label.ensures.label ∙ to.target_is))))
 
-pub returns-else-is_start-clause-only : goal.returns-else-is_start-clause-only
-returns-else-is_start-clause-only c = λ target to.
+pub returns-else-has-clause-only : goal.returns-else-has-clause-only
+returns-else-has-clause-only c = λ target to.
     let fits : FitsSigned w128 c.label.result = search rules in
     let (k, within, there) = c.requires.starts.each target to.is_code in
-    let low = c.type_inv.starts k in
+    let low = c.list-list.ensures.low k in
     let at : slice_index_or c.args.starts.now k 0 ≡ target = get_or_default c.args.starts.now k 0 target within ∙ there in
     let same = same_some _ _ _ c.in-Some.is
     (c.natural.ensures.each target (omega arith) (sym (to_z-of_z w128 _ fits ∙ c.label.ensures.label ∙ to.target_is))) in
-    let e : false ≡ true = sym c.if-is_start.false
-    ∙ c.is_start.ensures.1 (subst (Contains c.args.starts.now) (sym same) (k, within, there)) in
+    let e : false ≡ true = sym c.if-has.false
+    ∙ c.has.ensures.1 (subst (Contains c.args.starts.now) (sym same) (k, within, there)) in
     absurd (cc)
 
 pub returns-in-None-clause-only : goal.returns-in-None-clause-only
 returns-in-None-clause-only c = λ target to.
     let fits : FitsSigned w128 c.label.result = search rules in
     let (k, within, there) = c.requires.starts.each target to.is_code in
-    let low = c.type_inv.starts k in
+    let low = c.list-list.ensures.low k in
     let at : slice_index_or c.args.starts.now k 0 ≡ target = get_or_default c.args.starts.now k 0 target within ∙ there in
     absurd (not_found _ _ c.in-None.is
     (c.natural.ensures.each target (omega arith) (sym (to_z-of_z w128 _ fits ∙ c.label.ensures.label ∙ to.target_is))))

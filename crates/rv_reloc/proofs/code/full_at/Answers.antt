@@ -21,7 +21,7 @@ pub returns-in-Some-clause-there : goal.returns-in-Some-clause-there
 returns-in-Some-clause-there c =
     let elf = c.args.elf.now in
     let a = c.args.address in
-    let is = c.requires.starts.only a (c.is_start.ensures.0 c.if-not-is_start.false) in
+    let is = c.requires.starts.only a (c.has.ensures.0 c.if-not-has.false) in
     let same = same_part _ _ _ c.in-Some.is (c.part_at.ensures.only _ (start_held elf c.args.parts.now a c.requires.parts is)) in
     some_map _ _ c.full_before.result
     (λ inst full. full_there elf a c.in-Some.part.end inst is same full) c.full_before.ensures.there
@@ -41,9 +41,9 @@ returns-in-None-clause-only c = λ inst full.
     (start_held c.args.elf.now c.args.parts.now c.args.address c.requires.parts
     (full_start c.args.elf.now c.args.address inst full))))
 
-pub returns-then-not-is_start-clause-only : goal.returns-then-not-is_start-clause-only
-returns-then-not-is_start-clause-only c = λ inst full.
+pub returns-then-not-has-clause-only : goal.returns-then-not-has-clause-only
+returns-then-not-has-clause-only c = λ inst full.
     let listed = c.requires.starts.each c.args.address (full_start c.args.elf.now c.args.address inst full) in
-    let is = c.is_start.ensures.1 listed in
-    let isnt = c.if-not-is_start.true in
+    let is = c.has.ensures.1 listed in
+    let isnt = c.if-not-has.true in
     absurd (cc)

@@ -28,5 +28,5 @@ found xs a (Err i) b is (bound, below, above) = (
 )
 
 pub returns : goal.returns
-returns c = found c.args.starts.now c.args.address _ _ c.is_ok.ensures.value
-    (searched _ _ _ c.binary_search.ensures.position (rising c.args.starts.now c.requires))
+returns c = found c.args.addresses.now c.args.address _ _ c.is_ok.ensures.value
+    (searched _ _ _ c.binary_search.ensures.position (rising c.args.addresses.now c.requires))

@@ -7,11 +7,11 @@ use Rattle.rv_reloc.proofs.labels.is_code_label.Goals as goal
 pub returns-in-Ok : goal.returns-in-Ok
 returns-in-Ok c =
     let fits : FitsSigned w128 c.args.label = search rules in
-    code-found c.args.elf.now c.args.starts.now c.args.label _ c.in-Ok.address c.is_start.result c.requires
-    (to_z-of_z w128 c.args.label fits) c.in-Ok.ensures.0.0 c.in-Ok.ensures.1 c.is_start.ensures
+    code-found c.args.elf.now c.args.starts.now c.args.label _ c.in-Ok.address c.has.result c.requires
+    (to_z-of_z w128 c.args.label fits) c.in-Ok.ensures.0.0 c.in-Ok.ensures.1 c.has.ensures
 
 pub returns-in-Err : goal.returns-in-Err
 returns-in-Err c =
     let fits : FitsSigned w128 c.args.label = search rules in
     code-missing c.args.elf.now c.args.starts.now c.args.label _ c.requires
-    (to_z-of_z w128 c.args.label fits) c.type_inv.starts c.in-Err.ensures
+    (to_z-of_z w128 c.args.label fits) c.list-list.ensures.low c.in-Err.ensures

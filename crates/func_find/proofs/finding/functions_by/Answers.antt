@@ -13,7 +13,7 @@ use Rattle.func_find.specs.Targets.{HasMisled}
 use Rattle.func_find.proofs.FunctionLists.{AreApart-functions, code_parts_of, IsLowest-entry, IsLowest-target, IsAnswered-target}
 use Rattle.func_find.proofs.FunctionLists.{IsRefusalBy-first, AreFunctions-made, no_bad, lacks, lacks_all, lacks_below_entry}
 use Rattle.func_find.proofs.FunctionLists.{lacks_below_target}
-use Rattle.func_find.proofs.finding.functions.Goals as goal
+use Rattle.func_find.proofs.finding.functions_by.Goals as goal
 
 pub lowest_bad_start-requires-clause-parts : goal.lowest_bad_start-requires-clause-parts
 lowest_bad_start-requires-clause-parts c =
