@@ -12,7 +12,7 @@ use Rattle.std.specs.Option.{option_map_or}
 use Rattle.std.proofs.lemmas.Option.{slice_get-get_or}
 use Rattle.rv_code.specs.declared.placed.Func.{Func}
 use Rattle.rv_code.specs.declared.placed.Block.{Block}
-use Rattle.block_layout.specs.EdgeCounts.{address_in, edge_count}
+use Rattle.block_layout.specs.EdgeCounts.{inst_address, edge_count}
 use Rattle.block_layout.specs.EdgeLists.{AreCounted, HaveOtherEnds}
 use Rattle.block_layout.specs.declared.edge_counts.Edge.{Edge}
 use Rattle.addr_map.proofs.Orders.{AllPairs-permutation}
@@ -126,10 +126,10 @@ counted_once count edges i taken new is moved =
 -- the count of an edge between two blocks of the list
 pub edge_count-blocks : (counts : ℕ → ℕ → ℕ) (funcs : List Func) (blocks : List Block) (e : ℕ × ℕ) (d d' : Block)
     → e.0 < length blocks → e.1 < length blocks → edge_count counts funcs blocks e
-    ≡ counts (address_in funcs (get_or blocks e.0 d) (get_or blocks e.0 d).last)
-    (address_in funcs (get_or blocks e.1 d') (get_or blocks e.1 d').first)
+    ≡ counts (inst_address funcs (get_or blocks e.0 d) (get_or blocks e.0 d).last)
+    (inst_address funcs (get_or blocks e.1 d') (get_or blocks e.1 d').first)
 edge_count-blocks counts funcs blocks e d d' from to =
     let source = slice_get-get_or blocks e.0 d from in
     let target = slice_get-get_or blocks e.1 d' to in
-    λ i. counts (option_map_or (λ b. address_in funcs b b.last) (source i) 0)
-    (option_map_or (λ b. address_in funcs b b.first) (target i) 0)
+    λ i. counts (option_map_or (λ b. inst_address funcs b b.last) (source i) 0)
+    (option_map_or (λ b. inst_address funcs b b.first) (target i) 0)

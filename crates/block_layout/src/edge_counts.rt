@@ -6,7 +6,7 @@ ghost use Rattle.rv_code.specs.declared.placed.Func.{Func};
 ghost use Rattle.rv_code.specs.layout.Blocks.{func_of};
 ghost use Rattle.rv_code.specs.layout.Lists.{IsPairBefore};
 ghost use Rattle.edge_profile.specs.Profile.{counts_of};
-ghost use Rattle.block_layout.specs.EdgeCounts.{address_in, edge_count};
+ghost use Rattle.block_layout.specs.EdgeCounts.{inst_address, edge_count};
 ghost use Rattle.rv_code.specs.layout.InFunctions.{IsOfFunction};
 ghost use Rattle.block_layout.specs.EdgeLists.{IsWithin, AreCounted, HaveOtherEnds, IsKeyBefore};
 
@@ -60,18 +60,18 @@ pub fn counted_edges(
 fn count_along(funcs: &[Func], source: &Block, target: &Block, profile: &Profile) -> u128
     requires source { IsOfFunction funcs.now source.now }
     requires target { IsOfFunction funcs.now target.now }
-    ensures { result ≡ counts_of profile.now (address_in funcs.now source.now source.now.last)
-        (address_in funcs.now target.now target.now.first) }
+    ensures { result ≡ counts_of profile.now (inst_address funcs.now source.now source.now.last)
+        (inst_address funcs.now target.now target.now.first) }
 {
-    let last = address_in(funcs, source, source.last);
-    let first = address_in(funcs, target, target.first);
+    let last = inst_address(funcs, source, source.last);
+    let first = inst_address(funcs, target, target.first);
     profile.count(last, first)
 }
 
 // The address of an instruction of a block's function.
-fn address_in(funcs: &[Func], block: &Block, inst: usize) -> u64
+fn inst_address(funcs: &[Func], block: &Block, inst: usize) -> u64
     requires { IsSomeAnd (func_of funcs.now block.now) (λ func. inst < length func.insts.items) }
-    ensures { result ≡ address_in funcs.now block.now inst }
+    ensures { result ≡ inst_address funcs.now block.now inst }
 {
     match funcs.get(block.func) {
         Some(func) => func.insts[inst].addr,

@@ -6,7 +6,7 @@ use Rattle.std.specs.List.Sorted.{IsPartitionedBy}
 use Rattle.std.proofs.lemmas.Bool.{eq-eqb, ne_eqb, eqb-true, lt-ltb, le-ltb, ltb-true, cases_lt, cases_eq}
 use Rattle.std.proofs.lemmas.List.{get_or_default}
 use Rattle.std.proofs.lemmas.List.Sums.{sum_by-cons}
-use Rattle.edge_profile.specs.Counts.{Counted, count_among, is_of, IsCountedBefore, IsCountOf, ArePairs}
+use Rattle.edge_profile.specs.Counts.{Counted, count_among, is_pair, IsCountedBefore, IsCountOf, ArePairs}
 use Rattle.edge_profile.specs.Pairs.{IsAscending, IsCountBelow, is_before}
 
 -- Sums of which at most one term counts.
@@ -85,11 +85,11 @@ before_trans x y z (inr (e, a)) (inl b) = inl (omega arith)
 before_trans x y z (inr (e, a)) (inr (f, b)) = inr (e ∙ f, omega arith)
 
 -- what comes before another is no count of its pair, and neither is what comes after it
-other_before : (x y : Counted) → IsCountedBefore x y → is_of y.0 y.1 x ≡ false
+other_before : (x y : Counted) → IsCountedBefore x y → is_pair y.0 y.1 x ≡ false
 other_before x y (inl less) = rw (ne_eqb x.0 y.0 (λ e. omega arith)) refl
 other_before x y (inr (same, less)) = rw (eq-eqb x.0 y.0 same, ne_eqb x.1 y.1 (λ e. omega arith)) refl
 
-other_after : (x y : Counted) → IsCountedBefore y x → is_of y.0 y.1 x ≡ false
+other_after : (x y : Counted) → IsCountedBefore y x → is_pair y.0 y.1 x ≡ false
 other_after x y (inl less) = rw (ne_eqb x.0 y.0 (λ e. omega arith)) refl
 other_after x y (inr (same, less)) = rw (eq-eqb x.0 y.0 (sym same), ne_eqb x.1 y.1 (λ e. omega arith)) refl
 
@@ -111,14 +111,14 @@ partitioned pairs ascending q i j d le within last = ⊎_elim
 pub count_none : (pairs : List Counted) (from to k : ℕ) → IsCountBelow pairs from to k → k ≡ length pairs →
     count_among from to pairs ≡ 0
 count_none pairs from to k is all =
-    sum_none (λ p. if is_of from to p then p.2 else 0) pairs
+    sum_none (λ p. if is_pair from to p then p.2 else 0) pairs
     (λ j d within.
-    zero_of (is_of from to (get_or pairs j d)) (get_or pairs j d).2
+    zero_of (is_pair from to (get_or pairs j d)) (get_or pairs j d).2
     (other_before (get_or pairs j d) (from, to, 0)
     (before_from_test (get_or pairs j d) (from, to, 0) (is.below j d (omega arith)))))
 
 -- a pair that isn't before another comes before what comes after it
-after_not_before : (x q : Counted) → is_before x q ≡ false → (y : Counted) → IsCountedBefore x y → is_of q.0 q.1 y ≡ false
+after_not_before : (x q : Counted) → is_before x q ≡ false → (y : Counted) → IsCountedBefore x y → is_pair q.0 q.1 y ≡ false
 after_not_before x q not' y up = ⊎_elim
     (λ (here : (y.0 ≡ q.0) × (y.1 ≡ q.1)).
     let before : is_before x q ≡ true = before_test x q (before_same x y q here.0 here.1 up) in
@@ -137,12 +137,12 @@ after_not_before x q not' y up = ⊎_elim
 
 pub count_at : (pairs : List Counted) → IsAscending pairs → (from to k : ℕ) → IsCountBelow pairs from to k
     → (d : Counted) → k < length pairs
-    → count_among from to pairs ≡ (if is_of from to (get_or pairs k d) then (get_or pairs k d).2 else 0)
+    → count_among from to pairs ≡ (if is_pair from to (get_or pairs k d) then (get_or pairs k d).2 else 0)
 count_at pairs ascending from to k is d within =
-    sum_only (λ p. if is_of from to p then p.2 else 0) pairs k d within
-    (λ j e inside ne. zero_of (is_of from to (get_or pairs j e)) (get_or pairs j e).2 (other j e inside ne))
+    sum_only (λ p. if is_pair from to p then p.2 else 0) pairs k d within
+    (λ j e inside ne. zero_of (is_pair from to (get_or pairs j e)) (get_or pairs j e).2 (other j e inside ne))
   where
-    other : (j : ℕ) (e : Counted) → j < length pairs → j ≢ k → is_of from to (get_or pairs j e) ≡ false
+    other : (j : ℕ) (e : Counted) → j < length pairs → j ≢ k → is_pair from to (get_or pairs j e) ≡ false
     other j e inside ne = ⊎_elim
         (λ (less : j < k). other_before (get_or pairs j e) (from, to, 0)
         (before_from_test (get_or pairs j e) (from, to, 0) (is.below j e less)))
@@ -156,20 +156,20 @@ count_at pairs ascending from to k is d within =
 count_of_item : (pairs : List Counted) → IsAscending pairs → (k : ℕ) (d : Counted) → k < length pairs
     → count_among (get_or pairs k d).0 (get_or pairs k d).1 pairs ≡ (get_or pairs k d).2
 count_of_item pairs ascending k d within =
-    sum_only (λ p. if is_of x.0 x.1 p then p.2 else 0) pairs k d within
-    (λ j e inside ne. zero_of (is_of x.0 x.1 (get_or pairs j e)) (get_or pairs j e).2 (other j e inside ne))
+    sum_only (λ p. if is_pair x.0 x.1 p then p.2 else 0) pairs k d within
+    (λ j e inside ne. zero_of (is_pair x.0 x.1 (get_or pairs j e)) (get_or pairs j e).2 (other j e inside ne))
     ∙ ap (λ b. if b then x.2 else 0) own
   where
     x : Counted
     x = get_or pairs k d
 
-    own : is_of x.0 x.1 x ≡ true
+    own : is_pair x.0 x.1 x ≡ true
     own = rw (eq-eqb x.0 x.0 refl, eq-eqb x.1 x.1 refl) refl
 
-    other : (j : ℕ) (e : Counted) → j < length pairs → j ≢ k → is_of x.0 x.1 (get_or pairs j e) ≡ false
+    other : (j : ℕ) (e : Counted) → j < length pairs → j ≢ k → is_pair x.0 x.1 (get_or pairs j e) ≡ false
     other j e inside ne =
         let same : get_or pairs k e ≡ x = get_or_default pairs k e d within in
-        subst (λ (y : Counted). is_of y.0 y.1 (get_or pairs j e) ≡ false) same
+        subst (λ (y : Counted). is_pair y.0 y.1 (get_or pairs j e) ≡ false) same
         (⊎_elim
         (λ (less : j < k). other_before (get_or pairs j e) (get_or pairs k e) (ordered_pairs pairs ascending j k e less within))
         (λ (more : k ≤ j). other_after (get_or pairs j e) (get_or pairs k e)
@@ -184,7 +184,7 @@ are_pairs pairs ascending positive = record {
       subst (λ (q : Counted). IsCountOf (λ from to. count_among from to pairs) q) is
       (positive contained.0 p contained.1, count_of_item pairs ascending contained.0 p contained.1);
   each = λ p is. found p is
-      (positive_term (λ q. if is_of p.0 p.1 q then q.2 else 0) pairs (let some = is.0 in let sum = is.1 in omega arith));
+      (positive_term (λ q. if is_pair p.0 p.1 q then q.2 else 0) pairs (let some = is.0 in let sum = is.1 in omega arith));
   ordered = ordered_pairs pairs ascending;
 }
   where
@@ -194,7 +194,7 @@ are_pairs pairs ascending positive = record {
     ends false c n some = absurd (omega arith)
 
     found : (p : Counted) → IsCountOf (λ from to. count_among from to pairs) p →
-        HasPositive (λ q. if is_of p.0 p.1 q then q.2 else 0) pairs → Contains pairs p
+        HasPositive (λ q. if is_pair p.0 p.1 q then q.2 else 0) pairs → Contains pairs p
     found p is term =
         let x = term.item in
         let both = ends (x.0 == p.0) (x.1 == p.1) x.2 term.positive in

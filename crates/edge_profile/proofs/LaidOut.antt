@@ -1,6 +1,6 @@
 -- Instructions of functions that are laid out.
-use Rattle.std.proofs.Common.{◌≡◌, ◌≢◌, ◌<◌, ◌≤◌, ◌-◌, ◌∙◌, ℕ, Bool, true, false, List, [], ◌∷◌, length, get_or, arith, refl, ap}
-use Rattle.std.proofs.Common.{sym, subst, ⊎_elim, AllPairs, find, is_some, cond, Some}
+use Rattle.std.proofs.Common.{◌≡◌, ◌≢◌, ◌<◌, ◌≤◌, ◌+◌, ◌-◌, ◌∙◌, ℕ, Bool, true, false, List, [], ◌∷◌, length, get_or, arith, refl}
+use Rattle.std.proofs.Common.{ap, sym, subst, ⊎_elim, AllPairs, find, is_some, cond, Some}
 use Rattle.std.specs.Prelude.{◌==◌, ◌||◌}
 use Rattle.std.specs.List.{list_any}
 use Rattle.std.specs.List.Sorted.{IsNonDecreasingBy}
@@ -9,7 +9,7 @@ use Rattle.std.proofs.lemmas.List.{get_or_default}
 use Rattle.std.proofs.lemmas.List.Folds.{list_any_none, list_any_at, list_any-append}
 use Rattle.rv_code.specs.declared.placed.Placed.{Placed}
 use Rattle.rv_code.specs.declared.placed.Func.{Func}
-use Rattle.rv_code.specs.layout.FunctionLists.{IsLaidOut, AreLaidOut, code_limit}
+use Rattle.rv_code.specs.layout.FunctionLists.{IsLaidOut, AreLaidOut, address_end}
 use Rattle.rv_code.proofs.lists.Follows.{inst_bounds}
 use Rattle.rv_code.specs.layout.Flow.{insts_of}
 use Rattle.rv_code.specs.layout.ProgramCode.{is_code_address}
@@ -57,6 +57,20 @@ module _ (funcs : List Func) (laid : AreLaidOut funcs) where
       subst (λ (k : ℕ). (get_or funcs i d).start ≤ (get_or funcs k d).start) same (omega arith))
       (cases_lt i j)
 
+-- Where a function starts at an address or below it, so do all before it; and where it starts behind it, so do all behind.
+module _ (funcs : List Func) (laid : AreLaidOut funcs) (a n : ℕ) (e : Func) (within : n < length funcs) where
+  pub start_up_to : (get_or funcs n e).start ≤ a → (k : ℕ) (d : Func) → k < n + 1 → (get_or funcs k d).start ≤ a
+  start_up_to low k d less =
+      let rises = funcs_rise funcs laid k n e (omega arith) within in
+      let same = ap (λ (f : Func). f.start) (get_or_default funcs k d e (omega arith)) in
+      omega arith
+
+  pub start_behind : a < (get_or funcs n e).start → (k : ℕ) (d : Func) → n ≤ k → k < length funcs → a < (get_or funcs k d).start
+  start_behind high k d from inside =
+      let rises = funcs_rise funcs laid n k e from inside in
+      let same = ap (λ (f : Func). f.start) (get_or_default funcs k d e inside) in
+      omega arith
+
 is_some-find : {X : Type 0} (p : X → Bool) (xs : List X) → is_some (find p xs) ≡ list_any p xs
 is_some-find p [] = refl
 is_some-find p (x ∷ xs) = at (p x) (is_some-find p xs)
@@ -98,10 +112,10 @@ no_code_address : (funcs : List Func) (a : ℕ)
 no_code_address funcs a none = code_address-list_any funcs a ∙ list_any_none (λ f. starts_at f.insts.items a) funcs none
 
 -- Code ends below a limit.
-pub no_code_from : (funcs : List Func) → AreLaidOut funcs → (a : ℕ) → code_limit ≤ a → is_code_address funcs a ≡ false
+pub no_code_from : (funcs : List Func) → AreLaidOut funcs → (a : ℕ) → address_end ≤ a → is_code_address funcs a ≡ false
 no_code_from funcs laid a far =
     no_code_address funcs a (λ k d within.
-    let end : (get_or funcs k d).end ≤ code_limit = laid.low k d within in
+    let end : (get_or funcs k d).end ≤ address_end = laid.low k d within in
     starts_above (get_or funcs k d) (laid.each k d within) a (omega arith))
 
 -- The functions up to one start at an address or below it, and those after it above: so only that one can have an

@@ -11,19 +11,19 @@ use Rattle.std.proofs.lemmas.List.Elements.{All-push, All-set}
 use Rattle.std.proofs.lemmas.List.Quantifiers.{all_pairs_push}
 use Rattle.std.proofs.lemmas.List.Sorted.{sum_by-IsPermutation, length_permutation}
 use Rattle.std.proofs.lemmas.List.Sums.{sum_by_push, sum_by_more, sum_by-set}
-use Rattle.edge_profile.specs.Counts.{Counted, count_among, is_of, total_count, IsCountedBefore}
+use Rattle.edge_profile.specs.Counts.{Counted, count_among, is_pair, total_count, IsCountedBefore}
 use Rattle.edge_profile.specs.Pairs.{IsNotAfter, AreMerged, IsAdded, is_last}
 
 -- Two counts of one pair are counted as their sum.
 added-sum : (from to : ℕ) (x : Counted) (n : ℕ)
-    → (if is_of from to x then x.2 + n else 0) ≡ (if is_of from to x then x.2 else 0) + (if is_of from to x then n else 0)
-added-sum from to x n = at (is_of from to x)
+    → (if is_pair from to x then x.2 + n else 0) ≡ (if is_pair from to x then x.2 else 0) + (if is_pair from to x then n else 0)
+added-sum from to x n = at (is_pair from to x)
   where
     at : (b : Bool) → (if b then x.2 + n else 0) ≡ (if b then x.2 else 0) + (if b then n else 0)
     at true = refl
     at false = refl
 
-is_of-same : (from to : ℕ) (x p : Counted) → x.0 ≡ p.0 → x.1 ≡ p.1 → is_of from to x ≡ is_of from to p
+is_of-same : (from to : ℕ) (x p : Counted) → x.0 ≡ p.0 → x.1 ≡ p.1 → is_pair from to x ≡ is_pair from to p
 is_of-same from to x p e f = λ i. (e i == from) && (f i == to)
 
 module _ (old : List Counted) (k : ℕ) (p d : Counted) (within : k < length old) where
@@ -54,9 +54,9 @@ module _ (old : List Counted) (k : ℕ) (p d : Counted) (within : k < length old
   pub added_raised : item.0 ≡ p.0 → item.1 ≡ p.1 → AllPairs IsCountedBefore old → 0 < p.2 → IsAdded old new p
   added_raised e f ordered some = record {
     counts = λ from to.
-        let sum = sum_by-set (λ q. if is_of from to q then q.2 else 0) old k (item.0, item.1, item.2 + p.2) d within in
+        let sum = sum_by-set (λ q. if is_pair from to q then q.2 else 0) old k (item.0, item.1, item.2 + p.2) d within in
         let both = added-sum from to item p.2 in
-        let own : (if is_of from to item then p.2 else 0) ≡ (if is_of from to p then p.2 else 0) =
+        let own : (if is_pair from to item then p.2 else 0) ≡ (if is_pair from to p then p.2 else 0) =
         ap (λ b. if b then p.2 else 0) (is_of-same from to item p e f) in
         omega (arith, sum, both, own);
     total = let sum = sum_by-set (λ (q : Counted). q.2) old k (item.0, item.1, item.2 + p.2) d within in omega (arith, sum);
@@ -96,7 +96,7 @@ pub raised_last : (old : List Counted) (k : ℕ) (x p : Counted) → is_last p.0
     → k ≡ length old - 1 → x ≡ get_or old k x
     → AllPairs IsCountedBefore old → 0 < p.2 → IsAdded old (set old k (x.0, x.1, x.2 + p.2)) p
 raised_last old k x p last at read ordered some =
-    let parts = last_is (length old == 0) (is_of p.0 p.1 (get_or old (length old - 1) (0, 0, 0))) last in
+    let parts = last_is (length old == 0) (is_pair p.0 p.1 (get_or old (length old - 1) (0, 0, 0))) last in
     let many : length old ≢ 0 = λ e. let t = eq-eqb (length old) 0 e in let f = parts.0 in absurd (cc) in
     let within : k < length old = omega arith in
     let same : get_or old (length old - 1) (0, 0, 0) ≡ get_or old k x =
@@ -109,13 +109,13 @@ raised_last old k x p last at read ordered some =
     (added_raised old k p x within from to ordered some)
 
 -- a pair that isn't after another, and isn't the same, comes before it
-strictly : (x p : Counted) → IsNotAfter x p → is_of p.0 p.1 x ≡ false → IsCountedBefore x p
+strictly : (x p : Counted) → IsNotAfter x p → is_pair p.0 p.1 x ≡ false → IsCountedBefore x p
 strictly x p (inl less) other = inl less
 strictly x p (inr (same, le)) other = ⊎_elim
     (λ (less : x.1 < p.1). inr (same, less))
     (λ (more : p.1 ≤ x.1).
     let equal : x.1 ≡ p.1 = omega arith in
-    let yes' : is_of p.0 p.1 x ≡ true = rw (eq-eqb x.0 p.0 same, eq-eqb x.1 p.1 equal) refl in
+    let yes' : is_pair p.0 p.1 x ≡ true = rw (eq-eqb x.0 p.0 same, eq-eqb x.1 p.1 equal) refl in
     absurd (cc))
     (cases_lt x.1 p.1)
 
@@ -129,18 +129,18 @@ then_before x y p (inr (e, a)) (inr (f, b)) = inr (e ∙ f, omega arith)
 pub added_pushed : (old : List Counted) (p : Counted) → 0 < p.2 → All (λ q. IsNotAfter q p) old → AllPairs IsCountedBefore old
     → is_last p.0 p.1 old ≡ false → IsAdded old (old ++ p ∷ []) p
 added_pushed old p some all ordered other = record {
-  counts = λ from to. sum_by_push (λ q. if is_of from to q then q.2 else 0) old p;
+  counts = λ from to. sum_by_push (λ q. if is_pair from to q then q.2 else 0) old p;
   total = sum_by_push (λ (q : Counted). q.2) old p;
   positive = λ positive. All-push (λ q. 0 < q.2) old p positive some;
   ordered = all_pairs_push IsCountedBefore old p ordered before;
   not_after = λ q after behind. All-push (λ r. IsNotAfter r q) old p behind after;
 }
   where
-    last_other : 0 < length old → (d : Counted) → is_of p.0 p.1 (get_or old (length old - 1) d) ≡ false
+    last_other : 0 < length old → (d : Counted) → is_pair p.0 p.1 (get_or old (length old - 1) d) ≡ false
     last_other some d =
         let many : (length old == 0) ≡ false = ne_eqb (length old) 0 (λ e. omega arith) in
-        ap (is_of p.0 p.1) (get_or_default old (length old - 1) d (0, 0, 0) (omega arith))
-        ∙ sym (ap (λ b. not b && is_of p.0 p.1 (get_or old (length old - 1) (0, 0, 0))) many) ∙ other
+        ap (is_pair p.0 p.1) (get_or_default old (length old - 1) d (0, 0, 0) (omega arith))
+        ∙ sym (ap (λ b. not b && is_pair p.0 p.1 (get_or old (length old - 1) (0, 0, 0))) many) ∙ other
 
     before : (k : ℕ) (d : Counted) → k < length old → IsCountedBefore (get_or old k d) p
     before k d within = ⊎_elim
@@ -150,7 +150,7 @@ added_pushed old p some all ordered other = record {
         (λ (more : length old - 1 ≤ k).
         let same : length old - 1 ≡ k = omega arith in
         let differs = last_other (omega arith) d in
-        strictly (get_or old k d) p (all k d within) (subst (λ (j : ℕ). is_of p.0 p.1 (get_or old j d) ≡ false) same differs))
+        strictly (get_or old k d) p (all k d within) (subst (λ (j : ℕ). is_pair p.0 p.1 (get_or old j d) ≡ false) same differs))
         (cases_lt k (length old - 1))
 
 -- The first so many counts are merged, and none that follows is of a pair before these.
@@ -180,7 +180,7 @@ merged_more said i pairs new d ordered within small is was =
       counts = λ from to.
           let one = is.counts from to in
           let before = was.counts from to in
-          let more = sum_by_more (λ q. if is_of from to q then q.2 else 0) said i d within in
+          let more = sum_by_more (λ q. if is_pair from to q then q.2 else 0) said i d within in
           omega (arith, one, before, more);
       bound = omega (arith, is.total, was.bound, small);
       positive = is.positive was.positive;
@@ -198,9 +198,9 @@ pub merged_zero : (said : List Counted) (i : ℕ) (pairs : List Counted) (d : Co
 merged_zero said i pairs d within zero' was = record {
   counts = λ from to.
       let before = was.counts from to in
-      let more = sum_by_more (λ q. if is_of from to q then q.2 else 0) said i d within in
-      let nothing : (if is_of from to (get_or said i d) then (get_or said i d).2 else 0) ≡ 0 =
-      none (is_of from to (get_or said i d)) in
+      let more = sum_by_more (λ q. if is_pair from to q then q.2 else 0) said i d within in
+      let nothing : (if is_pair from to (get_or said i d) then (get_or said i d).2 else 0) ≡ 0 =
+      none (is_pair from to (get_or said i d)) in
       omega (arith, before, more, nothing);
   bound = omega (arith, was.bound);
   positive = was.positive;
@@ -226,7 +226,7 @@ merged_all said i pairs all within is =
 -- in whatever order the counts are
 pub merged-permutation : (xs ys pairs : List Counted) → IsPermutation xs ys → AreMerged ys pairs → AreMerged xs pairs
 merged-permutation xs ys pairs moved is = record {
-  counts = λ from to. is.counts from to ∙ sum_by-IsPermutation (λ q. if is_of from to q then q.2 else 0) xs ys moved;
+  counts = λ from to. is.counts from to ∙ sum_by-IsPermutation (λ q. if is_pair from to q then q.2 else 0) xs ys moved;
   bound = let same = length_permutation xs ys moved in omega (arith, is.bound, same);
   positive = is.positive;
   ordered = is.ordered;

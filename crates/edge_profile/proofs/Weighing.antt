@@ -231,6 +231,24 @@ module _ (blocks : List Block) (apart : AreApart blocks) (f i : ℕ) where
       earlier b c some more (inr (own, less)) (inl low) = inl (omega arith)
       earlier b c some more (inr (own, less)) (inr (same, from)) = inr (own ∙ same, omega arith)
 
+  -- Where a block begins by then, all before it do; and where one doesn't, none behind it does.
+  pub first_begin : (n : ℕ) (e : Block) → n < length blocks → begins_by f i (get_or blocks n e) ≡ true →
+      (k : ℕ) (d : Block) → k < n + 1 → begins_by f i (get_or blocks k d) ≡ true
+  first_begin n e within is k d less =
+      partitioned_blocks k n d (omega arith) within
+      (subst (λ (b : Block). begins_by f i b ≡ true) (get_or_default blocks n e d within) is)
+
+  pub rest_begin_not : (n : ℕ) (e : Block) → begins_by f i (get_or blocks n e) ≡ false →
+      (k : ℕ) (d : Block) → n ≤ k → k < length blocks → begins_by f i (get_or blocks k d) ≡ false
+  rest_begin_not n e first k d from within = by (begins_by f i (get_or blocks k d)) refl
+    where
+      here : begins_by f i (get_or blocks n d) ≡ false
+      here = subst (λ (b : Block). begins_by f i b ≡ false) (get_or_default blocks n e d (omega arith)) first
+
+      by : (b : Bool) → begins_by f i (get_or blocks k d) ≡ b → begins_by f i (get_or blocks k d) ≡ false
+      by false is = is
+      by true is = let yes' = partitioned_blocks n k d from within is in let no' = here in absurd (cc)
+
   module _ (below : ℕ) (bound : below ≤ length blocks)
       (low : (k : ℕ) (d : Block) → k < below → begins_by f i (get_or blocks k d) ≡ true)
       (high : (k : ℕ) (d : Block) → below ≤ k → k < length blocks → begins_by f i (get_or blocks k d) ≡ false) where

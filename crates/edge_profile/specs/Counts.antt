@@ -32,12 +32,12 @@ ignored_in text elf funcs = count_by (λ line. is_none (counted_by elf.symbols.i
 
 -- Counts of pairs.
 
-abbrev pub is_of : ℕ → ℕ → Counted → Bool
-is_of from to p = p.0 == from && p.1 == to
+abbrev pub is_pair : ℕ → ℕ → Counted → Bool
+is_pair from to p = p.0 == from && p.1 == to
 
 -- the count of a pair, the sum over all that is said of it
 abbrev pub count_among : ℕ → ℕ → List Counted → ℕ
-count_among from to said = sum_by (λ p. if is_of from to p then p.2 else 0) said
+count_among from to said = sum_by (λ p. if is_pair from to p then p.2 else 0) said
 
 abbrev pub count_in : List ℕ → Elf → List Func → ℕ → ℕ → ℕ
 count_in text elf funcs from to = count_among from to (counted_in text elf funcs)

@@ -1,5 +1,6 @@
 // Where instructions stand among functions.
-ghost use Rattle.std.specs.Prelude.{◌≡◌, ◌==◌, ◌<◌, ◌≤◌, ◌-◌, ℕ, false, IfSome, IfNone, AllPairs, length, slice_index_or};
+ghost use Rattle.std.specs.Prelude.{◌≡◌, ◌==◌, ◌<◌, ◌≤◌, ◌+◌, ◌-◌, ℕ, false, IsTrue, IfSome, IfNone, AllPairs, length};
+ghost use Rattle.std.specs.Prelude.{slice_index_or};
 ghost use Rattle.std.specs.List.{list_any};
 ghost use Rattle.rv_code.specs.layout.FunctionLists.{AreLaidOut};
 ghost use Rattle.rv_code.specs.layout.ProgramCode.{is_code_address};
@@ -23,7 +24,16 @@ pub fn place_of(funcs: &[Func], address: u64) -> Option<InstPlace>
     ensures some { IfSome result (λ p. IsPlaceOf funcs.now address p.func p.inst) }
     ensures none { IfNone result (is_code_address funcs.now address ≡ false) }
 {
-    let below = count_up_to(funcs, address);
+    place_near(funcs, address, 0)
+}
+
+/// The same, where the function of an index is looked at first.
+pub fn place_near(funcs: &[Func], address: u64, near: usize) -> Option<InstPlace>
+    requires { AreLaidOut funcs.now }
+    ensures some { IfSome result (λ p. IsPlaceOf funcs.now address p.func p.inst) }
+    ensures none { IfNone result (is_code_address funcs.now address ≡ false) }
+{
+    let below = count_up_to(funcs, address, near);
     if below == 0 {
         return None;
     }
@@ -50,15 +60,45 @@ pub fn starts_function(funcs: &[Func], address: u64) -> bool
     requires { AreLaidOut funcs.now }
     ensures { result ≡ list_any (λ f. f.start == address) funcs.now }
 {
-    let below = count_up_to(funcs, address);
+    let below = count_up_to(funcs, address, 0);
     if below == 0 {
         return false;
     }
     funcs[below - 1].start == address
 }
 
-// How many functions start at an address or below it.
-fn count_up_to(funcs: &[Func], address: u64) -> usize
+// How many functions start at an address or below it: the function of an index is looked at first.
+fn count_up_to(funcs: &[Func], address: u64, near: usize) -> usize
+    requires { AreLaidOut funcs.now }
+    ensures bound { result ≤ length funcs.now }
+    ensures below { (k : ℕ) (d : Func) → k < result → (slice_index_or funcs.now k d).start ≤ address }
+    ensures above { (k : ℕ) (d : Func) → result ≤ k → k < length funcs.now → address < (slice_index_or funcs.now k d).start }
+{
+    if is_last_up_to(funcs, address, near) {
+        return near + 1;
+    }
+    count_of_all(funcs, address)
+}
+
+// Whether the function of an index is the last that starts at an address or below it.
+fn is_last_up_to(funcs: &[Func], address: u64, index: usize) -> bool
+    requires { AreLaidOut funcs.now }
+    ensures within { IsTrue result → index < length funcs.now }
+    ensures below { IsTrue result → (k : ℕ) (d : Func) → k < index + 1 → (slice_index_or funcs.now k d).start ≤ address }
+    ensures above { IsTrue result → (k : ℕ) (d : Func) → index + 1 ≤ k → k < length funcs.now →
+        address < (slice_index_or funcs.now k d).start }
+{
+    if funcs.len() <= index || address < funcs[index].start {
+        return false;
+    }
+    if index + 1 == funcs.len() {
+        return true;
+    }
+    address < funcs[index + 1].start
+}
+
+// How many do, of all.
+fn count_of_all(funcs: &[Func], address: u64) -> usize
     requires { AreLaidOut funcs.now }
     ensures bound { result ≤ length funcs.now }
     ensures below { (k : ℕ) (d : Func) → k < result → (slice_index_or funcs.now k d).start ≤ address }

@@ -1,6 +1,6 @@
 // A profile that was read: counts of pairs of instructions.
 ghost use Rattle.std.specs.Prelude.{◌≡◌, ◌<◌, ◌^◌, All, if◌then◌else◌};
-ghost use Rattle.edge_profile.specs.Counts.{count_among, is_of, total_count};
+ghost use Rattle.edge_profile.specs.Counts.{count_among, is_pair, total_count};
 ghost use Rattle.edge_profile.specs.Pairs.{IsAscending, IsCountBelow, is_before};
 
 /// How often control went from one instruction to another, for each pair of addresses.
@@ -56,7 +56,7 @@ fn count_in(pairs: &[(u64, u64, u128)], from: u64, to: u64) -> u128
 
 // The count of a pair, if it is that of these addresses.
 fn count_if_of(pair: &(u64, u64, u128), from: u64, to: u64) -> u128
-    ensures { result ≡ (if is_of from to pair.now then pair.now.2 else 0) }
+    ensures { result ≡ (if is_pair from to pair.now then pair.now.2 else 0) }
 {
     if pair.0 == from && pair.1 == to {
         pair.2

@@ -1,17 +1,20 @@
 // How often blocks run.
 ghost use Rattle.std.specs.Prelude.{◌≡◌, ◌+◌, ◌*◌, ◌<◌, ◌≤◌, ◌^◌, ◌&&◌, ◌||◌, ℕ, IfOk, IfSome, Some, true, false, if◌then◌else◌};
-ghost use Rattle.std.specs.Prelude.{length, map, not, slice_index, slice_index_or, sum};
+ghost use Rattle.std.specs.Prelude.{IsTrue, length, map, not, slice_index, slice_index_or, sum};
 ghost use Rattle.rv_code.specs.declared.placed.Block.{Block};
 ghost use Rattle.rv_code.specs.layout.FunctionLists.{AreLaidOut};
 ghost use Rattle.edge_profile.specs.BlockPlaces.{AreApart, IsHolder, begins_by, ends_from, has_inst, is_at, raised_at};
 ghost use Rattle.edge_profile.specs.Profile.{pairs_of};
 ghost use Rattle.edge_profile.specs.Weights.{block_weight, insts_of_block, touches};
 
-use crate::places::{InstPlace, place_of};
+use crate::places::{InstPlace, place_near};
 use crate::profile::Profile;
 use rb_bytes::fault::NoMemory;
 use rv_code::{Block, Func};
 use std::alloc::Global;
+
+// How many blocks on either side of a place are looked at before all are searched.
+const NEARBY: usize = 8;
 
 /// The weight of each block: the sum of the counts of all pairs of which an end is one of its instructions.
 pub fn block_weights(
@@ -26,14 +29,22 @@ pub fn block_weights(
     ensures few { IfOk result (λ weights. sum weights.items < 2 ^ 101) }
 {
     let mut weights = vec![in alloc; 0u128; blocks.len()]?;
+    let mut near = 0;
     for pair in profile.pairs() {
-        add(&mut weights, funcs, blocks, pair);
+        near = add(&mut weights, funcs, blocks, pair, near);
     }
     Ok(weights)
 }
 
-// Adds the count of a pair to the weights of the blocks that it touches.
-fn add(weights: &mut [u128], funcs: &[Func], blocks: &[Block], pair: &(u64, u64, u128))
+// Adds the count of a pair to the weights of the blocks that it touches, which may be near a block. Says where the first of
+// them is: pairs ascend, so those of the next are mostly near it.
+fn add(
+    weights: &mut [u128],
+    funcs: &[Func],
+    blocks: &[Block],
+    pair: &(u64, u64, u128),
+    near: usize,
+) -> usize
     requires funcs { AreLaidOut funcs.now }
     requires blocks { AreApart blocks.now }
     requires lengths { length weights.old ≡ length blocks.now }
@@ -42,10 +53,12 @@ fn add(weights: &mut [u128], funcs: &[Func], blocks: &[Block], pair: &(u64, u64,
         (if touches (insts_of_block funcs.now (slice_index_or blocks.now k d)) pair.now then pair.now.2 else 0) }
     ensures total { sum weights.new ≤ sum weights.old + 2 * pair.now.2 }
 {
-    let from = block_at(funcs, blocks, pair.0);
-    let to = block_at(funcs, blocks, pair.1);
+    let from = block_at(funcs, blocks, pair.0, near);
+    let first = from.unwrap_or(near);
+    let to = block_at(funcs, blocks, pair.1, first);
     raise(weights, from, pair.2);
     raise(weights, unless_same(to, from), pair.2);
+    first
 }
 
 // Raises the number at a place.
@@ -81,27 +94,35 @@ fn unless_at(place: usize, other: Option<usize>) -> Option<usize>
     }
 }
 
-// The place of the block that has the instruction at an address.
-fn block_at(funcs: &[Func], blocks: &[Block], address: u64) -> Option<usize>
+// The place of the block that has the instruction at an address, which may be near a block.
+fn block_at(funcs: &[Func], blocks: &[Block], address: u64, near: usize) -> Option<usize>
     requires funcs { AreLaidOut funcs.now }
     requires blocks { AreApart blocks.now }
     ensures holder { IsHolder funcs.now blocks.now address result }
     ensures within { IfSome result (λ k. k < length blocks.now) }
 {
-    match place_of(funcs, address) {
-        Some(place) => block_with(blocks, &place),
+    match place_near(funcs, address, func_near(blocks, near)) {
+        Some(place) => block_with(blocks, &place, near),
         None => None,
     }
 }
 
+// The function of a block, or the first where there is no such block.
+fn func_near(blocks: &[Block], near: usize) -> usize {
+    match blocks.get(near) {
+        Some(block) => block.func,
+        None => 0,
+    }
+}
+
 // The place of the block that has an instruction.
-fn block_with(blocks: &[Block], place: &InstPlace) -> Option<usize>
+fn block_with(blocks: &[Block], place: &InstPlace, near: usize) -> Option<usize>
     requires { AreApart blocks.now }
     ensures has { (k : ℕ) (d : Block) → k < length blocks.now →
         has_inst place.now.func place.now.inst (slice_index_or blocks.now k d) ≡ is_at k result }
     ensures within { IfSome result (λ k. k < length blocks.now) }
 {
-    let below = count_up_to(blocks, place);
+    let below = count_up_to(blocks, place, near);
     if below == 0 {
         return None;
     }
@@ -112,8 +133,60 @@ fn block_with(blocks: &[Block], place: &InstPlace) -> Option<usize>
     }
 }
 
-// How many blocks begin with an instruction or before it.
-fn count_up_to(blocks: &[Block], place: &InstPlace) -> usize
+// How many blocks begin with an instruction or before it: looked for beside a block first.
+fn count_up_to(blocks: &[Block], place: &InstPlace, near: usize) -> usize
+    requires { AreApart blocks.now }
+    ensures bound { result ≤ length blocks.now }
+    ensures below { (k : ℕ) (d : Block) → k < result →
+        begins_by place.now.func place.now.inst (slice_index_or blocks.now k d) ≡ true }
+    ensures above { (k : ℕ) (d : Block) → result ≤ k → k < length blocks.now →
+        begins_by place.now.func place.now.inst (slice_index_or blocks.now k d) ≡ false }
+{
+    match count_beside(blocks, place, near) {
+        Some(count) => count,
+        None => count_of_all(blocks, place),
+    }
+}
+
+// The same, where it is at most a few blocks away.
+fn count_beside(blocks: &[Block], place: &InstPlace, near: usize) -> Option<usize>
+    requires { AreApart blocks.now }
+    ensures bound { IfSome result (λ n. n ≤ length blocks.now) }
+    ensures below { IfSome result (λ n. (k : ℕ) (d : Block) → k < n →
+        begins_by place.now.func place.now.inst (slice_index_or blocks.now k d) ≡ true) }
+    ensures above { IfSome result (λ n. (k : ℕ) (d : Block) → n ≤ k → k < length blocks.now →
+        begins_by place.now.func place.now.inst (slice_index_or blocks.now k d) ≡ false) }
+{
+    let start = near.saturating_sub(NEARBY);
+    let end = near.saturating_add(NEARBY).min(blocks.len());
+    if !all_begin(blocks, place, start) {
+        return None;
+    }
+    for k in start..end {
+        if !begins_by(&blocks[k], place) {
+            return Some(k);
+        }
+    }
+    None
+}
+
+// Whether there are so many blocks, and all of the first ones begin with an instruction or before it.
+fn all_begin(blocks: &[Block], place: &InstPlace, count: usize) -> bool
+    requires { AreApart blocks.now }
+    ensures { IsTrue result → (k : ℕ) (d : Block) → k < count →
+        begins_by place.now.func place.now.inst (slice_index_or blocks.now k d) ≡ true }
+{
+    if count == 0 {
+        return true;
+    }
+    if blocks.len() < count {
+        return false;
+    }
+    begins_by(&blocks[count - 1], place)
+}
+
+// How many do, of all.
+fn count_of_all(blocks: &[Block], place: &InstPlace) -> usize
     requires { AreApart blocks.now }
     ensures bound { result ≤ length blocks.now }
     ensures below { (k : ℕ) (d : Block) → k < result →

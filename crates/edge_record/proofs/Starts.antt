@@ -9,7 +9,7 @@ use Rattle.std.proofs.lemmas.List.{get_or_default}
 use Rattle.std.proofs.lemmas.List.Folds.{list_any_at}
 use Rattle.rv_code.specs.declared.placed.Func.{Func}
 use Rattle.rv_code.specs.declared.placed.Placed.{Placed}
-use Rattle.rv_code.specs.layout.FunctionLists.{AreLaidOut, IsLaidOut, code_limit}
+use Rattle.rv_code.specs.layout.FunctionLists.{AreLaidOut, IsLaidOut, address_end}
 use Rattle.rv_code.specs.layout.ProgramCode.{is_code_address}
 use Rattle.edge_profile.specs.Places.{IsPlaceOf}
 use Rattle.edge_profile.specs.Weights.{starts_at}
@@ -118,7 +118,7 @@ module _ (funcs : List Func) (laid : AreLaidOut funcs) where
   -- what there is to know of an instruction's address
   pub record IsInCode (a : ℕ) : Type 0 where
     pub from : start_at funcs a ≤ a
-    pub low : a < code_limit
+    pub low : a < address_end
     pub starts : list_any (λ f. f.start == start_at funcs a) funcs ≡ true
 
   pub in_code : (a : ℕ) → is_code_address funcs a ≡ true → IsInCode a
@@ -129,9 +129,9 @@ module _ (funcs : List Func) (laid : AreLaidOut funcs) where
       let bounds = within_function (get_or funcs f.place f.item) (laid.each f.place f.item f.within) a there in
       record {
         from = omega (arith, start, bounds.0);
-        low = ⊎_elim (λ (less : a < code_limit). less) (λ (more : code_limit ≤ a).
+        low = ⊎_elim (λ (less : a < address_end). less) (λ (more : address_end ≤ a).
             let none = no_code_from funcs laid a more in
-            absurd (cc)) (cases_lt a code_limit);
+            absurd (cc)) (cases_lt a address_end);
         starts = list_any_at (λ g. g.start == start_at funcs a) funcs f.place f.item f.within
             (eq-eqb (get_or funcs f.place f.item).start (start_at funcs a) (sym start));
       }

@@ -12,12 +12,12 @@ use Rattle.run_core.proofs.Told.{as_told-prepend, told, told_before, told_is, to
 use Rattle.run_core.proofs.Walking.{Walk, ends_run, fails_at_read, fails_at_write, halts_run, may_before, no_step, step_more}
 use Rattle.run_core.proofs.Walking.{steps_up}
 use Rattle.rv_code.specs.declared.cause.Cause.{Cause}
-use Rattle.rv_code.specs.machine.Determined.{HasOneOutcome}
+use Rattle.rv_code.specs.machine.DeterminedRuns.{HasOneOutcome}
 use Rattle.rv_code.specs.machine.Machine.{Ended, Halts}
 use Rattle.rv_code.specs.machine.Step.{Steps}
 use Rattle.rv_machine.specs.State.{state_of}
 use Rattle.rv_machine.specs.declared.machine.Machine.{Machine}
-use Rattle.edge_profile.specs.Counts.{Counted, count_among, is_of}
+use Rattle.edge_profile.specs.Counts.{Counted, count_among, is_pair}
 use Rattle.edge_record.specs.Moves.{Move, starts, more}
 use Rattle.edge_record.specs.Recording.{ByteMoves, StopsAnywhere}
 use Rattle.edge_record.specs.Taken.{taken_by}
@@ -104,7 +104,7 @@ module _ (counts : Move → Bool) (old : Machine) (before : Outside) where
       -- one step more, whose move was noted
       pub move_more : (from to : ℕ) (noted : List Counted) → from ≡ mid.pc → to ≡ new.pc
           → ((x y : ℕ)
-          → count_among x y noted ≡ count_among x y said + (if counts (from, to) && is_of x y (from, to, 1) then 1 else 0))
+          → count_among x y noted ≡ count_among x y said + (if counts (from, to) && is_pair x y (from, to, 1) then 1 else 0))
           → Watch new ends (n + 1) after noted
       move_more from to noted from_is to_is counted = record {
         walk = walk_more;
@@ -123,7 +123,7 @@ module _ (counts : Move → Bool) (old : Machine) (before : Outside) where
             (subst (λ xs. ByteMoves (state_of old xs) (suc n) (watch.moves ++ (mid.pc, new.pc) ∷ []) (state_of new rest))
             (sym (append_assoc watch.walk.read goes.read rest)) far);
         counts_are = λ x y.
-            let last : (if counts (from, to) && is_of x y (from, to, 1) then 1 else 0) ≡ once counts x y (mid.pc, new.pc)
+            let last : (if counts (from, to) && is_pair x y (from, to, 1) then 1 else 0) ≡ once counts x y (mid.pc, new.pc)
             = (λ i. once counts x y (from_is i, to_is i)) in
             let all = taken-more counts watch.moves (mid.pc, new.pc) x y in
             omega (arith, counted x y, watch.counts_are x y, last, all);

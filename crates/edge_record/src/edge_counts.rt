@@ -13,7 +13,7 @@ pub struct EdgeCounts {
 
 impl EdgeCounts {
     ghost use Rattle.std.specs.Prelude.{◌≡◌, ◌+◌, ◌<◌, ◌^◌, ◌-◌, ℕ, [], OnOk, IfOk, if◌then◌else◌};
-    ghost use Rattle.edge_profile.specs.Counts.{count_among, is_of};
+    ghost use Rattle.edge_profile.specs.Counts.{count_among, is_pair};
     ghost use Rattle.edge_record.specs.EdgeCounts.{said_of};
 
     /// No move was made.
@@ -29,7 +29,7 @@ impl EdgeCounts {
     pub fn add(&mut self, from: u64, to: u64) -> Result<(), NoMemory>
         requires { count_among from to (said_of self.old) < 2 ^ 64 - 1 }
         ensures { OnOk result ((x y : ℕ) → count_among x y (said_of self.new)
-            ≡ count_among x y (said_of self.old) + (if is_of x y (from, to, 1) then 1 else 0)) }
+            ≡ count_among x y (said_of self.old) + (if is_pair x y (from, to, 1) then 1 else 0)) }
     {
         match self.counts.get_mut(&(from, to)) {
             Some(count) => *count += 1,

@@ -34,9 +34,8 @@ impl Watched {
     {
         let (low, size) = code_range(funcs);
         let mut code = AddressSet::new(alloc, low, size)?;
-        insert_code(&mut code, funcs);
         let mut sources = AddressSet::new(alloc, low, size)?;
-        insert_calls(&mut sources, funcs);
+        insert_insts(&mut code, &mut sources, funcs);
         insert_ends(&mut sources, funcs, blocks);
         Ok(Watched { code, sources })
     }
@@ -62,46 +61,32 @@ fn code_range(funcs: &[Func]) -> (u64, usize)
     (low, (high - low) as usize)
 }
 
-// Adds the addresses of all instructions.
-fn insert_code(set: &mut AddressSet, funcs: &[Func])
-    requires { All (λ f. All (λ p. HasRoomFor set.old p.addr) f.insts.items) funcs.now }
-    ensures added { (a : ℕ) → has set.new a ≡ (list_any (λ f. starts_at f.insts.items a) funcs.now || has set.old a) }
-    ensures room { HaveSameRoom set.old set.new }
+// Adds the addresses of all instructions to `code`, and to `sources` those of instructions that save a return address.
+fn insert_insts(code: &mut AddressSet, sources: &mut AddressSet, funcs: &[Func])
+    requires code_room { All (λ f. All (λ p. HasRoomFor code.old p.addr) f.insts.items) funcs.now }
+    requires source_room { All (λ f. All (λ p. HasRoomFor sources.old p.addr) f.insts.items) funcs.now }
+    ensures code { (a : ℕ) → has code.new a ≡ (list_any (λ f. starts_at f.insts.items a) funcs.now || has code.old a) }
+    ensures sources { (a : ℕ) → has sources.new a ≡ (list_any (λ f. saves_at f.insts.items a) funcs.now || has sources.old a) }
+    ensures code_room { HaveSameRoom code.old code.new }
+    ensures source_room { HaveSameRoom sources.old sources.new }
 {
     for func in funcs {
-        insert_insts(set, &func.insts);
+        insert_insts_of(code, sources, &func.insts);
     }
 }
 
-fn insert_insts(set: &mut AddressSet, insts: &[Placed])
-    requires { All (λ p. HasRoomFor set.old p.addr) insts.now }
-    ensures added { (a : ℕ) → has set.new a ≡ (starts_at insts.now a || has set.old a) }
-    ensures room { HaveSameRoom set.old set.new }
+fn insert_insts_of(code: &mut AddressSet, sources: &mut AddressSet, insts: &[Placed])
+    requires code_room { All (λ p. HasRoomFor code.old p.addr) insts.now }
+    requires source_room { All (λ p. HasRoomFor sources.old p.addr) insts.now }
+    ensures code { (a : ℕ) → has code.new a ≡ (starts_at insts.now a || has code.old a) }
+    ensures sources { (a : ℕ) → has sources.new a ≡ (saves_at insts.now a || has sources.old a) }
+    ensures code_room { HaveSameRoom code.old code.new }
+    ensures source_room { HaveSameRoom sources.old sources.new }
 {
     for inst in insts {
-        set.insert(inst.addr);
-    }
-}
-
-// Adds the addresses of the instructions that save a return address.
-fn insert_calls(set: &mut AddressSet, funcs: &[Func])
-    requires { All (λ f. All (λ p. HasRoomFor set.old p.addr) f.insts.items) funcs.now }
-    ensures added { (a : ℕ) → has set.new a ≡ (list_any (λ f. saves_at f.insts.items a) funcs.now || has set.old a) }
-    ensures room { HaveSameRoom set.old set.new }
-{
-    for func in funcs {
-        insert_calls_of(set, &func.insts);
-    }
-}
-
-fn insert_calls_of(set: &mut AddressSet, insts: &[Placed])
-    requires { All (λ p. HasRoomFor set.old p.addr) insts.now }
-    ensures added { (a : ℕ) → has set.new a ≡ (saves_at insts.now a || has set.old a) }
-    ensures room { HaveSameRoom set.old set.new }
-{
-    for inst in insts {
+        code.insert(inst.addr);
         if is_call(&inst.inst) {
-            set.insert(inst.addr);
+            sources.insert(inst.addr);
         }
     }
 }

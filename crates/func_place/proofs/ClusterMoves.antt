@@ -6,7 +6,7 @@ use Rattle.std.specs.Prelude.{sum, ◌^◌, All, ◌==◌, slice_index, if◌the
 use Rattle.std.proofs.lemmas.Bool.{cases_eq, cases_Bool}
 use Rattle.std.proofs.lemmas.List.Sums.{sum_by-append, sum_by-cons, sum_by-set, fold_more}
 use Rattle.std.proofs.lemmas.Grind.{common_steps}
-use Rattle.func_place.specs.Clusters.{has, total, alone, joined, appended, take_unit, clusters_of, limit}
+use Rattle.func_place.specs.Clusters.{has, total, alone, joined_clusters, appended, take_unit, clusters_of, limit}
 use Rattle.func_place.specs.internal.Grouping.{Grouping, list_at, group_of, IsGrouped}
 use Rattle.func_place.specs.internal.ClusterState.{State, count_of, size_at, heat_at, IsSound, Merges, Keeps}
 use Rattle.func_place.proofs.GroupMoves.{IsJoined, count_new, joined_from, grouped_joined, number_among, number_elsewhere}
@@ -195,7 +195,7 @@ count_join s c m = (merged_from s c m).count
 
 keeps_join : {sizes heats : List ℕ} {cluster : ℕ → List ℕ} {old new : State} {v u kept : ℕ} → IsSound old → CanJoin old v u →
     Merges old new (slice_index old.grouping.numbers v) (slice_index old.grouping.numbers u) kept →
-    Keeps sizes heats cluster old → Keeps sizes heats (joined (cluster v) (cluster u) cluster) new
+    Keeps sizes heats cluster old → Keeps sizes heats (joined_clusters (cluster v) (cluster u) cluster) new
 keeps_join {sizes} {heats} {cluster} {old} {new} {v} {u} {kept} s c m k =
     let a = group_of old.grouping v in
     let b = group_of old.grouping u in

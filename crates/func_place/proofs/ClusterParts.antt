@@ -7,7 +7,7 @@ use Rattle.std.specs.List.Sorted.{IsPermutation}
 use Rattle.std.proofs.lemmas.Grind.{common_steps}
 use Rattle.std.proofs.lemmas.Bool.{cases_eq, cases_Bool}
 use Rattle.std.proofs.lemmas.List.Sorted.{sum_by-IsPermutation}
-use Rattle.func_place.specs.Clusters.{has, alone, joined, appended, take_unit, limit, total}
+use Rattle.func_place.specs.Clusters.{has, alone, joined_clusters, appended, take_unit, limit, total}
 use Rattle.func_place.specs.Ranks.{begins, heads}
 use Rattle.func_place.proofs.Times.{one_if, times, times-nil, times-same, times-cons, times-one, times-append, times-flat_map}
 use Rattle.func_place.proofs.Times.{times-filter_in, times-filter_out, has-times, times-has, sum-agree, sum-zero, sum-times}
@@ -50,7 +50,7 @@ apart {warm} {cluster} c v u x out in_v in_u =
     omega arith
 
 joined_clustered : {warm : ℕ → Bool} {cluster : ℕ → List ℕ} (v u : ℕ) → IsClustered warm cluster → has (cluster v) u ≡ false →
-    warm v ≡ warm u → IsClustered warm (joined (cluster v) (cluster u) cluster)
+    warm v ≡ warm u → IsClustered warm (joined_clusters (cluster v) (cluster u) cluster)
 joined_clustered {warm} {cluster} v u c out warm_is =
     let a = cluster v in
     let b = cluster u in

@@ -5,15 +5,15 @@ use Rattle.std.proofs.lemmas.Bool.{cases_lt}
 use Rattle.std.proofs.lemmas.Option.{get_or_from_slice_get, slice_get_within}
 use Rattle.rv_code.specs.declared.placed.Placed.{Placed}
 use Rattle.rv_code.specs.declared.placed.Func.{Func}
-use Rattle.rv_code.specs.layout.FunctionLists.{AreLaidOut, code_limit}
+use Rattle.rv_code.specs.layout.FunctionLists.{AreLaidOut, address_end}
 use Rattle.rv_code.proofs.lists.Follows.{follow_at, follow_bounds, follow_up, funcs_apart, laid_func}
 
 pub inst_below : (funcs : List Func) (f i : ℕ) (func : Func) (d : Placed) → AreLaidOut funcs → slice_get funcs f ≡ Some func →
     i < length func.insts.items → (get_or func.insts.items i d).addr + (get_or func.insts.items i d).len < 2 ^ 64
 inst_below funcs f i func d are is lt =
     let laid = laid_func funcs f func are is in
-    let low : func.end ≤ code_limit =
-    subst (λ (x : Func). x.end ≤ code_limit) (get_or_from_slice_get funcs f func func is)
+    let low : func.end ≤ address_end =
+    subst (λ (x : Func). x.end ≤ address_end) (get_or_from_slice_get funcs f func func is)
     (are.low f func (slice_get_within funcs f func is)) in
     let le = (follow_bounds func.start func.insts.items func.end laid.follow i d lt).1 in
     omega arith

@@ -22,13 +22,13 @@ abbrev pub alone : ℕ → List ℕ
 alone u = u ∷ []
 
 -- a and b have become one cluster, in which b follows a
-abbrev pub joined : List ℕ → List ℕ → (ℕ → List ℕ) → ℕ → List ℕ
-joined a b cluster u = if has (a ++ b) u then a ++ b else cluster u
+abbrev pub joined_clusters : List ℕ → List ℕ → (ℕ → List ℕ) → ℕ → List ℕ
+joined_clusters a b cluster u = if has (a ++ b) u then a ++ b else cluster u
 
 -- u's cluster b goes behind its caller's cluster a, where that is another one and both have at most the limit
 abbrev pub appended : List ℕ → List ℕ → List ℕ → ℕ → (ℕ → List ℕ) → ℕ → List ℕ
 appended sizes a b u cluster =
-    if not (has a u) && nat_le (total sizes a + total sizes b) limit then joined a b cluster else cluster
+    if not (has a u) && nat_le (total sizes a + total sizes b) limit then joined_clusters a b cluster else cluster
 
 -- one unit is taken
 abbrev pub take_unit : List ℕ → (ℕ → Option ℕ) → (ℕ → List ℕ) → ℕ → ℕ → List ℕ

@@ -11,11 +11,11 @@ loop-pair-preserved c =
     let pairs = c.pairs-pair-items.result.now in
     let was = subst (λ (weights : List ℕ). AreWeights funcs blocks (take c.loop-pair.pair-index pairs) weights)
     (sym c.deref_mut.ensures.value) c.loop-pair.invariant in
-    let new = weights_more funcs blocks pairs c.loop-pair.pair-index _ c.deref_mut.result.now c.add.new.weights
-    c.loop-pair-test.true c.add.auto.weights
-    c.add.ensures.weights c.add.ensures.total was in
+    let new = weights_more funcs blocks pairs c.loop-pair.pair-index _ c.deref_mut.result.now c.add-near.new.weights
+    c.loop-pair-test.true c.add-near.auto.weights
+    c.add-near.ensures.weights c.add-near.ensures.total was in
     subst (λ (weights : List ℕ). AreWeights funcs blocks (take (c.loop-pair.pair-index + 1) pairs) weights)
-    (sym (take_at c.add.new.weights _ c.loop-pair.weights.len (c.add.auto.weights ∙ c.deref_mut.ensures.len))) new
+    (sym (take_at c.add-near.new.weights _ c.loop-pair.weights.len (c.add-near.auto.weights ∙ c.deref_mut.ensures.len))) new
 
 pub returns-clause-weights : goal.returns-clause-weights
 returns-clause-weights c =

@@ -19,8 +19,8 @@ returns c = λ m.
     let starts = list_any (λ f. starts_at f.insts.items m.1) c.args.funcs.now in
     let source : has c.insert_ends.new.set m.0 ≡ is_source c.args.funcs.now c.args.blocks.now m.0
     = c.insert_ends.ensures m.0 ∙ ap (λ b. ends || b)
-    (c.insert_calls.ensures.added m.0 ∙ ap (λ b. saves || b) (c.in_ok-sources.ensures.none m.0) ∙ or_false saves) in
-    let code : has c.insert_code.new.set m.1 ≡ is_code_address c.args.funcs.now m.1
-    = c.insert_code.ensures.added m.1 ∙ ap (λ b. starts || b) (c.in_ok-code.ensures.none m.1) ∙ or_false starts
+    (c.insert_insts.ensures.sources m.0 ∙ ap (λ b. saves || b) (c.in_ok-sources.ensures.none m.0) ∙ or_false saves) in
+    let code : has c.insert_insts.new.code m.1 ≡ is_code_address c.args.funcs.now m.1
+    = c.insert_insts.ensures.code m.1 ∙ ap (λ b. starts || b) (c.in_ok-code.ensures.none m.1) ∙ or_false starts
     ∙ sym (code_address-list_any c.args.funcs.now m.1) in
     (λ i. source i && code i)

@@ -3,7 +3,7 @@ use Rattle.std.proofs.lemmas.List.Sorted.{IsPartitionPoint-from_clause}
 use Rattle.rv_code.specs.declared.placed.Block.{Block}
 use Rattle.edge_profile.specs.BlockPlaces.{begins_by}
 use Rattle.edge_profile.proofs.Weighing.{partitioned_blocks}
-use Rattle.edge_profile.proofs.weights.count_up_to.Goals as goal
+use Rattle.edge_profile.proofs.weights.count_of_all.Goals as goal
 
 pub returns-clause-below : goal.returns-clause-below
 returns-clause-below c =

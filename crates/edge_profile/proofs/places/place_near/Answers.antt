@@ -5,7 +5,7 @@ use Rattle.rv_code.specs.declared.placed.Placed.{Placed}
 use Rattle.edge_profile.specs.Weights.{starts_at}
 use Rattle.rv_code.proofs.lists.Follows.{insts_rise}
 use Rattle.edge_profile.proofs.LaidOut.{no_code_at}
-use Rattle.edge_profile.proofs.places.place_of.Goals as goal
+use Rattle.edge_profile.proofs.places.place_near.Goals as goal
 
 pub returns-then-below-eq0-clause-none : goal.returns-then-below-eq0-clause-none
 returns-then-below-eq0-clause-none c =

@@ -4,7 +4,7 @@ use Rattle.std.proofs.lemmas.Bool.{leb-true, leb-false}
 use Rattle.std.proofs.lemmas.List.Sorted.{IsPartitionPoint-from_clause, IsPartitionedBy-leb}
 use Rattle.rv_code.specs.declared.placed.Func.{Func}
 use Rattle.edge_profile.proofs.LaidOut.{funcs_rise}
-use Rattle.edge_profile.proofs.places.count_up_to.Goals as goal
+use Rattle.edge_profile.proofs.places.count_of_all.Goals as goal
 
 pub returns-clause-below : goal.returns-clause-below
 returns-clause-below c =
