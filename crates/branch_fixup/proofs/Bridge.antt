@@ -12,7 +12,7 @@ use Rattle.rv_code.specs.declared.placed.Placed.{Placed}
 use Rattle.addr_map.specs.Spans.{new}
 use Rattle.branch_fixup.specs.declared.growth.Tail.{Tail}
 use Rattle.branch_fixup.specs.Pieces.{Piece, PlacedFrom, as_it_is, length_of, length_in, end_from}
-use Rattle.branch_fixup.specs.Reach.{goal, reaches, lands, main_leap}
+use Rattle.branch_fixup.specs.Reach.{new_target, reaches, lands, main_leap}
 use Rattle.branch_fixup.specs.Endings.{End, Branches, Goes, end_of_form}
 use Rattle.branch_fixup.specs.Forms.{shorter, FallsShort, IsLeast}
 use Rattle.branch_fixup.specs.Growth.{tail_at, form_at, place, from_at, to_at, half_of, is_enough, IsNeeded}
@@ -112,7 +112,7 @@ shifted_short half b f t h = not_true (reaches half (b + f) (b + t)) (λ k.
 -- where the branch or jump of a form leads
 abbrev pub leads_to : (ℕ → ℕ) → Placed → Form → ℕ
 leads_to f p (form.Branch true size jump) = f (p.addr + p.len)
-leads_to f p _ = goal f p
+leads_to f p _ = new_target f p
 
 leap_short : (f : ℕ → ℕ) (p : Placed) (ts : List Tail) (fs : List Form) (base k : ℕ) (g : Form) →
     f p.addr ≡ base + from_at ts fs k → leads_to f p g ≡ base + to_at ts fs k → is_enough ts fs k g ≡ false →

@@ -9,7 +9,7 @@ use Rattle.std.proofs.lemmas.Option.{slice_get_within}
 use Rattle.rv_code.specs.declared.placed.Placed.{Placed}
 use Rattle.rv_code.specs.declared.placed.Func.{Func}
 use Rattle.rv_code.specs.layout.ProgramCode.{is_code_address}
-use Rattle.rv_code.specs.layout.FunctionLists.{Follow, AreLaidOut, code_limit}
+use Rattle.rv_code.specs.layout.FunctionLists.{Follow, AreLaidOut, address_end}
 use Rattle.rv_code.specs.layout.Flow.{insts_of, falls_at}
 use Rattle.branch_fixup.specs.BlockInsts.{starts_at}
 use Rattle.branch_fixup.specs.Endings.{fall_of}
@@ -148,9 +148,9 @@ pub falls_in : (funcs : List Func) (func : Func) (i : ℕ) (p : Placed) → fall
 falls_in funcs func i p h k = rw (h, k) refl
 
 pub below_limit : (funcs : List Func) (f i : ℕ) (func : Func) (p : Placed) → AreLaidOut funcs →
-    slice_get funcs f ≡ Some func → slice_get func.insts.items i ≡ Some p → p.addr + p.len ≤ code_limit
+    slice_get funcs f ≡ Some func → slice_get func.insts.items i ≡ Some p → p.addr + p.len ≤ address_end
 below_limit funcs f i func p laid at_f at_i =
-    let low : func.end ≤ code_limit = All-contains (λ (g : Func). g.end ≤ code_limit) funcs func laid.low
+    let low : func.end ≤ address_end = All-contains (λ (g : Func). g.end ≤ address_end) funcs func laid.low
     (at_contains funcs f func at_f) in
     let at = (follow_at func.start func.insts.items func.end i p (laid_func funcs f func laid at_f).follow at_i).1 in
     omega (arith, low, at)

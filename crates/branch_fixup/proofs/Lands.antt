@@ -29,7 +29,7 @@ use Rattle.branch_fixup.specs.Ends.{AreEnds, begins_of, lead_of}
 use Rattle.branch_fixup.specs.Growth.{AreEnough, form_at, half_of, place, tail_at, from_at, to_at}
 use Rattle.branch_fixup.specs.Inputs.{AreDirect, AreNear, IsOrder, KeepsShort, LeadsToCode, StaysIn, is_short}
 use Rattle.branch_fixup.specs.Pieces.{Piece, PlacedFrom, as_it_is, length_in, length_of, end_from, bytes_of_size}
-use Rattle.branch_fixup.specs.Reach.{AllLand, Leap, added_leap, goal, jal, lands, main_leap, reach_of, reaches}
+use Rattle.branch_fixup.specs.Reach.{AllLand, Leap, added_leap, new_target, jal, lands, main_leap, reach_of, reaches}
 use Rattle.branch_fixup.specs.Strips.{Strip, first_in, insts_in, is_alone, pieces_of, pieces_of_strip, spans_of, strips_of}
 use Rattle.branch_fixup.proofs.Appended.{end_append}
 use Rattle.branch_fixup.proofs.Bridge.{AreTailsOf, block_placed, end_of_inner, leads_to}
@@ -414,7 +414,7 @@ module _ (code : ProgramCode) (blocks : List Block) (order : List ℕ) (laid : A
           led_to size jump i = led_branch s next (after k s at) inverted size jump (of_table (form.Branch inverted size jump) i)
 
           to_is : (v : Bool) (size : Size) (jump : Bool) (a : ℕ) → leads_to f s.last (form.Branch v size jump) ≡ f a →
-              (if v then f (s.last.addr + s.last.len) else goal f s.last) ≡ f a
+              (if v then f (s.last.addr + s.last.len) else new_target f s.last) ≡ f a
           to_is true size jump a h = h
           to_is false size jump a h = h
 
@@ -440,7 +440,7 @@ module _ (code : ProgramCode) (blocks : List Block) (order : List ℕ) (laid : A
               (form_at fs k) ≡ bytes_of_size size + 4 = ap (length_in s.last.len) i in omega (arith, z))
 
           main_is : (size : Size) (jump : Bool) (i : form_at fs k ≡ form.Branch inverted size jump) →
-              (if inverted then f (s.last.addr + s.last.len) else goal f s.last) ≡ f (led_to size jump i).a
+              (if inverted then f (s.last.addr + s.last.len) else new_target f s.last) ≡ f (led_to size jump i).a
           main_is size jump i = to_is inverted size jump (led_to size jump i).a ((led_to size jump i).to f)
 
           branch_lands : (size : Size) (jump : Bool) → form_at fs k ≡ form.Branch inverted size jump →

@@ -13,7 +13,7 @@ use Rattle.rv_code.specs.declared.placed.Role.{Role}
 use Rattle.rv_code.specs.declared.cell.CodeCell.{CodeCell}
 use Rattle.rv_code.specs.layout.ProgramCode.{ProgramCode, is_code_address, IsNamed}
 use Rattle.rv_code.specs.layout.Blocks.{AreBlocks}
-use Rattle.rv_code.specs.layout.FunctionLists.{AreLaidOut, code_limit}
+use Rattle.rv_code.specs.layout.FunctionLists.{AreLaidOut, address_end}
 use Rattle.rv_code.specs.layout.WorstSizes.{worst_size_of_block}
 use Rattle.addr_map.specs.Spans.{IsMap}
 use Rattle.branch_fixup.specs.declared.growth.Tail.{Tail}
@@ -37,7 +37,7 @@ use Rattle.branch_fixup.proofs.TailsFound.{strip_fall}
 
 module _ (funcs : List Func) (blocks : List Block) (order : List ℕ) (laid : AreLaidOut funcs)
     (blocks_of : AreBlocksOf funcs blocks) (perm : IsOrder blocks order) (base : ℕ)
-    (room : base + sum_by (worst_size_of_block funcs) blocks ≤ code_limit) (ts : List Tail) (zs : List Form)
+    (room : base + sum_by (worst_size_of_block funcs) blocks ≤ address_end) (ts : List Tail) (zs : List Form)
     (made : AreEnds (strips_of funcs blocks order) (length order) ts zs) where
   abbrev ss : List Strip
   ss = strips_of funcs blocks order
@@ -174,7 +174,7 @@ pub record IsGiven (funcs : List Func) (blocks : List Block) (order : List ℕ) 
   pub near : AreNear funcs blocks order
   pub even : base % 2 ≡ 0
   pub some : 0 < base
-  pub room : base + sum_by (worst_size_of_block funcs) blocks ≤ code_limit
+  pub room : base + sum_by (worst_size_of_block funcs) blocks ≤ address_end
 
 pub tails_given : (funcs : List Func) (blocks : List Block) (order : List ℕ) (base : ℕ) →
     IsGiven funcs blocks order base → (slice : List ℕ) (ts now : List Tail) (zs : List Form) → slice ≡ order →

@@ -18,7 +18,7 @@ use Rattle.addr_map.specs.Spans.{new}
 use Rattle.branch_fixup.specs.declared.growth.Tail.{Tail}
 use Rattle.branch_fixup.specs.Ends.{AreEnds, IsAt, begins_of}
 use Rattle.branch_fixup.specs.Growth.{form_at, place, tail_at}
-use Rattle.branch_fixup.specs.Inputs.{AreNear, Holds, IsOrder, Leads, block_in, worst_between, worst_total}
+use Rattle.branch_fixup.specs.Inputs.{AreNear, BlockHolds, IsOrder, Leads, block_in, worst_between, worst_total}
 use Rattle.branch_fixup.specs.Pieces.{length_in}
 use Rattle.branch_fixup.specs.Reach.{reaches}
 use Rattle.branch_fixup.specs.Strips.{Strip, first_in, insts_in, spans_of, strips_of}
@@ -167,7 +167,7 @@ module _ (code : ProgramCode) (blocks : List Block) (order : List ℕ) (laid : A
     leads k s a plan h = rw (plan.place, plan.block, plan.of.strip_is) h
 
     holds : (k : ℕ) (s : Strip) (a : ℕ) → Planned code blocks order k s → Any (λ p. p.addr ≡ a) (insts_in s) →
-        IsSomeAnd (block_in blocks order k) (λ b. Holds code.funcs b a)
+        IsSomeAnd (block_in blocks order k) (λ b. BlockHolds code.funcs b a)
     holds k s a plan h = rw (plan.place, plan.block, plan.of.strip_is) h
 
     -- A JAL in a block reaches what that leads to.

@@ -68,8 +68,8 @@ Leads funcs b a =
     IsSomeAnd (strip_of funcs b) (λ s. (s.fall ≡ Some a) ⊎ Any (λ p. target_of p ≡ Some a) (insts_in s))
 
 -- it has the instruction at an address
-abbrev pub Holds : List Func → Block → ℕ → Type 0
-Holds funcs b a = IsSomeAnd (strip_of funcs b) (λ s. Any (λ p. p.addr ≡ a) (insts_in s))
+abbrev pub BlockHolds : List Func → Block → ℕ → Type 0
+BlockHolds funcs b a = IsSomeAnd (strip_of funcs b) (λ s. Any (λ p. p.addr ≡ a) (insts_in s))
 
 -- the most bytes that blocks can take, wherever they are put: those at places of the list of blocks
 abbrev pub worst_total : List Func → List Block → List ℕ → ℕ
@@ -86,6 +86,6 @@ near_limit = 1000000
 -- Nearness: from each block to one into which it leads, both included, there are at most so many bytes.
 pub record AreNear (funcs : List Func) (blocks : List Block) (order : List ℕ) : Type 0 where
   pub ahead : (i j a : ℕ) → i ≤ j → IsSomeAnd (block_in blocks order i) (λ b. Leads funcs b a) →
-      IsSomeAnd (block_in blocks order j) (λ c. Holds funcs c a) → worst_between funcs blocks order i j ≤ near_limit
+      IsSomeAnd (block_in blocks order j) (λ c. BlockHolds funcs c a) → worst_between funcs blocks order i j ≤ near_limit
   pub back : (i j a : ℕ) → j ≤ i → IsSomeAnd (block_in blocks order i) (λ b. Leads funcs b a) →
-      IsSomeAnd (block_in blocks order j) (λ c. Holds funcs c a) → worst_between funcs blocks order j i ≤ near_limit
+      IsSomeAnd (block_in blocks order j) (λ c. BlockHolds funcs c a) → worst_between funcs blocks order j i ≤ near_limit

@@ -34,8 +34,8 @@ abbrev pub jal : ℕ → ℕ → Leap
 jal from to = record { half = 2 ^ 20; from = from; to = to }
 
 -- where a branch or jump of the input goes; `new` says where an address is in the new code
-abbrev pub goal : (ℕ → ℕ) → Placed → ℕ
-goal new p = option_map_or new (target_of p) 0
+abbrev pub new_target : (ℕ → ℕ) → Placed → ℕ
+new_target new p = option_map_or new (target_of p) 0
 
 -- The branch or jump that stands at an address for an instruction: none where that is no branch or jump,
 -- or is left out. The long form's JAL stands after its branch, which skips it.
@@ -43,13 +43,13 @@ abbrev pub main_leap : (ℕ → ℕ) → ℕ → Placed → Form → List Leap
 main_leap new a p (form.Branch inverted size jump) = by size
   where
     to : ℕ
-    to = if inverted then new (p.addr + p.len) else goal new p
+    to = if inverted then new (p.addr + p.len) else new_target new p
 
     by : Size → List Leap
     by Half = record { half = 2 ^ 8; from = a; to = to } ∷ []
     by Full = record { half = 2 ^ 12; from = a; to = to } ∷ []
     by Long = jal (a + 4) to ∷ []
-main_leap new a p (form.Goto half) = record { half = if half then 2 ^ 11 else 2 ^ 20; from = a; to = goal new p } ∷ []
+main_leap new a p (form.Goto half) = record { half = if half then 2 ^ 11 else 2 ^ 20; from = a; to = new_target new p } ∷ []
 main_leap new a p form.Dropped = []
 main_leap new a p _ = option_map_or (λ t. record { half = reach_of p.len p; from = a; to = new t } ∷ []) (target_of p) []
 

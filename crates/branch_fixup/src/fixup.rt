@@ -1,6 +1,6 @@
 // Forms and spans for a plan.
 ghost use Rattle.std.specs.Prelude.{◌≡◌, ◌+◌, ◌%◌, ◌<◌, ◌≤◌, IfOk, All, sum_by};
-ghost use Rattle.rv_code.specs.layout.FunctionLists.{AreLaidOut, code_limit};
+ghost use Rattle.rv_code.specs.layout.FunctionLists.{AreLaidOut, address_end};
 ghost use Rattle.rv_code.specs.layout.WorstSizes.{worst_size_of_block};
 ghost use Rattle.addr_map.specs.Spans.{IsStretch};
 ghost use Rattle.branch_fixup.specs.Forms.{AreForms, AreMap, end_of};
@@ -35,7 +35,7 @@ pub fn forms(
     requires near { AreNear funcs.now blocks.now plan.now.order.items }
     requires even { base % 2 ≡ 0 }
     requires some { 0 < base }
-    requires room { base + sum_by (worst_size_of_block funcs.now) blocks.now ≤ code_limit }
+    requires room { base + sum_by (worst_size_of_block funcs.now) blocks.now ≤ address_end }
     ensures forms { IfOk result (λ r. AreForms (planned_strips funcs.now blocks.now plan.now) base r.0.items) }
     ensures spans { IfOk result (λ r. r.1.items ≡ spans_of (planned_strips funcs.now blocks.now plan.now) base r.0.items) }
     ensures map { IfOk result (λ r. AreMap funcs.now blocks.now r.1.items) }

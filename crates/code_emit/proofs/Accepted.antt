@@ -5,13 +5,13 @@ use Rattle.rv_code.specs.declared.cell.CellKind.{CellKind}
 use Rattle.rv_code.specs.declared.cell.CellKind.TheVariants as kind
 use Rattle.rv_code.specs.declared.cell.CodeCell.{CodeCell}
 use Rattle.rv_code.specs.declared.inst.Inst.{Inst}
-use Rattle.rv_code.specs.declared.inst.Inst.TheVariants.{Lui, Auipc, Jalr, Lb, Lh, Lw, Ld, Lbu, Lhu, Lwu, Sb, Sh, Sw, Sd, Addi}
+use Rattle.rv_code.specs.declared.inst.Inst.TheVariants.{Lui, Auipc, Jalr}
 use Rattle.rv_code.specs.declared.placed.Placed.{Placed}
 use Rattle.rv_code.specs.declared.placed.Role.{Role}
 use Rattle.rv_code.specs.declared.placed.Role.TheVariants as role
 use Rattle.rv_code.specs.isa.Bits.{field}
 use Rattle.rv_code.specs.layout.Flow.{insts_of}
-use Rattle.rv_code.specs.layout.FunctionLists.{AreLaidOut, code_limit}
+use Rattle.rv_code.specs.layout.FunctionLists.{AreLaidOut, address_end}
 use Rattle.rv_code.specs.layout.ProgramCode.{CellNames, KindNames, ProgramCode, is_code_address}
 use Rattle.elf_image.specs.declared.elf.Elf.{Elf}
 use Rattle.elf_image.specs.code.Cells.{Address, Content, Difference, IsCell, IsField, SameContent, difference, pointer, slot}
@@ -26,34 +26,8 @@ use Rattle.move_law.proofs.code.CellWidths.{can_of, field_width, same_address}
 use Rattle.move_law.proofs.code.FittingRoles.{RoleFits, Target, has_code_facts}
 use Rattle.move_law.proofs.code.Immediates as immediates
 use Rattle.move_law.proofs.code.InstLists.{code_at, function_code, inst_at, length_of, start_code}
-use Rattle.code_emit.specs.Inputs.{CanMove, FitsRole, IsAuipc, IsLowCell, IsLowKind, IsLower, IsLui}
+use Rattle.code_emit.specs.Inputs.{CanMove, FitsRole, IsLowCell, IsLowKind}
 use Rattle.code_emit.proofs.Flows.{code_low}
-
--- Kinds of instructions.
-
-is_auipc : (i : Inst) → immediates.IsAuipc i → IsAuipc i
-is_auipc (Auipc rd imm) h = tt
-is_auipc _ h = absurd h
-
-is_lui : (i : Inst) → immediates.IsLui i → IsLui i
-is_lui (Lui rd imm) h = tt
-is_lui _ h = absurd h
-
-is_lower : (i : Inst) → immediates.IsLow i → IsLower i
-is_lower (Addi rd rs1 imm) h = tt
-is_lower (Jalr rd rs1 imm) h = tt
-is_lower (Lb rd rs1 imm) h = tt
-is_lower (Lh rd rs1 imm) h = tt
-is_lower (Lw rd rs1 imm) h = tt
-is_lower (Ld rd rs1 imm) h = tt
-is_lower (Lbu rd rs1 imm) h = tt
-is_lower (Lhu rd rs1 imm) h = tt
-is_lower (Lwu rd rs1 imm) h = tt
-is_lower (Sb rs1 rs2 imm) h = tt
-is_lower (Sh rs1 rs2 imm) h = tt
-is_lower (Sw rs1 rs2 imm) h = tt
-is_lower (Sd rs1 rs2 imm) h = tt
-is_lower _ h = absurd h
 
 -- An AUIPC is no nop.
 
@@ -72,8 +46,8 @@ no_nop elf a rd upper is nop = by (immediates.full_at elf a (Auipc rd upper) is)
 
 -- the AUIPC of a lower part lies low
 abbrev IsHighLow : Role → Type 0
-IsHighLow (role.CallLo hi t) = hi ≤ code_limit
-IsHighLow (role.Lo hi t) = hi ≤ code_limit
+IsHighLow (role.CallLo hi t) = hi ≤ address_end
+IsHighLow (role.Lo hi t) = hi ≤ address_end
 IsHighLow _ = Unit {0}
 
 -- A role's instruction has four bytes.
@@ -100,10 +74,10 @@ module _ (elf : Elf) (code : ProgramCode) (accepted : IsAccepted elf code) (laid
   four_by p is part has (claims.abs_lo t part' low inst full imm at k e) =
       four elf p.addr (has.relocation).place p.inst inst p.len is at full.has.is_inst
 
-  target_low : (t : ℕ) → Target code t → t ≤ code_limit
+  target_low : (t : ℕ) → Target code t → t ≤ address_end
   target_low t target = by (is_code_address code.funcs t) refl
     where
-      by : (b : Bool) → is_code_address code.funcs t ≡ b → t ≤ code_limit
+      by : (b : Bool) → is_code_address code.funcs t ≡ b → t ≤ address_end
       by true e = code_low code.funcs t laid e
       by false e = target.bounded e
 
@@ -128,12 +102,12 @@ module _ (elf : Elf) (code : ProgramCode) (accepted : IsAccepted elf code) (laid
 
   role_of : (x : Role) (i : Inst) (n : ℕ) → RoleFits code x i → n ≡ 4 → IsHighLow x → FitsRole x i n
   role_of role.Plain i n r e h = tt
-  role_of (role.Hi t) i n r e h = (is_auipc i r.0, e, target_low t r.1)
-  role_of (role.CallHi t) i n r e h = (is_auipc i r.0, e, target_low t r.1)
-  role_of (role.Lo hi t) i n r e h = (is_lower i r.0, e, target_low t r.1, h)
-  role_of (role.CallLo hi t) i n r e h = (is_lower i r.0, e, target_low t r.1, h)
-  role_of (role.AbsHi t) i n r e h = (is_lui i r.0, e, code_low code.funcs t laid r.1.code_address)
-  role_of (role.AbsLo t) i n r e h = (is_lower i r.0, e, code_low code.funcs t laid r.1.code_address)
+  role_of (role.Hi t) i n r e h = (r.0, e, target_low t r.1)
+  role_of (role.CallHi t) i n r e h = (r.0, e, target_low t r.1)
+  role_of (role.Lo hi t) i n r e h = (r.0, e, target_low t r.1, h)
+  role_of (role.CallLo hi t) i n r e h = (r.0, e, target_low t r.1, h)
+  role_of (role.AbsHi t) i n r e h = (r.0, e, code_low code.funcs t laid r.1.code_address)
+  role_of (role.AbsLo t) i n r e h = (r.0, e, code_low code.funcs t laid r.1.code_address)
 
   pub can_move : All CanMove (insts_of code.funcs)
   can_move = all_of CanMove (insts_of code.funcs) (λ p c.
@@ -164,7 +138,7 @@ module _ (elf : Elf) (code : ProgramCode) (accepted : IsAccepted elf code) (laid
       cell_is : IsCell elf accepted.tabled cell
       cell_is = accepted.code_is.cells.only cell is_in
 
-      low : IsStart elf to → to ≤ code_limit
+      low : IsStart elf to → to ≤ address_end
       low start =
           let names : CellNames cell to = subst (λ (x : CellKind). KindNames x to) (sym e) refl in
           code_low code.funcs to laid
@@ -172,7 +146,7 @@ module _ (elf : Elf) (code : ProgramCode) (accepted : IsAccepted elf code) (laid
 
       of_field : (content : Content) → cell_is.content ≡ content →
           IsField elf accepted.tabled (record { place = cell.addr; width = cell.width; content = cell_is.content }) →
-          SameContent content (kind.Abs to) → to ≤ code_limit
+          SameContent content (kind.Abs to) → to ≤ address_end
       of_field (Difference z w) c f same = absurd same
       of_field (Address b) c (pointer q counted address place width to' number start content) same =
           let t : to' ≡ to = same_address to' to (sym content ∙ c ∙ ap Address same) in

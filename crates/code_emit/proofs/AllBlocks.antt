@@ -7,7 +7,7 @@ use Rattle.rv_code.specs.declared.layout.Form.TheVariants as form
 use Rattle.rv_code.specs.declared.placed.Block.{Block}
 use Rattle.rv_code.specs.declared.placed.Func.{Func}
 use Rattle.rv_code.specs.layout.Flow.{insts_of}
-use Rattle.rv_code.specs.layout.FunctionLists.{AreLaidOut, code_limit}
+use Rattle.rv_code.specs.layout.FunctionLists.{AreLaidOut, address_end}
 use Rattle.rv_code.specs.layout.ProgramCode.{ProgramCode}
 use Rattle.addr_map.specs.declared.span.Span.{Span}
 use Rattle.addr_map.specs.Spans.{new}
@@ -21,7 +21,7 @@ use Rattle.branch_fixup.proofs.Planned.{planned, planned_length}
 use Rattle.move_law.proofs.Lists.{all_of}
 use Rattle.move_law.specs.Rewrite.{Goes, Rewrite}
 use Rattle.move_law.specs.Faithful.{GoesOn, KeepsInst}
-use Rattle.code_emit.specs.Bytes.{Adds, AllCanStand}
+use Rattle.code_emit.specs.Bytes.{Adds, AllCanBeEncoded}
 use Rattle.code_emit.specs.Inputs.{AreLow, AreMapped, CanMove, HasLowTargets, HaveMap}
 use Rattle.code_emit.specs.Made.{made_from}
 use Rattle.code_emit.specs.Output.{Puts}
@@ -44,7 +44,7 @@ pub record IsGiven (funcs : List Func) (blocks : List Block) (order : List ℕ) 
 pub record IsPut (lines : List Span) (s : Strip) (f : Form) (end here : ℕ) : Type 0 where
   pub here_is : here ≡ end
   pub placed : PlacedFrom (new lines) here (pieces_of_strip s f)
-  pub can : AllCanStand (made_from (new lines) here (pieces_of_strip s f))
+  pub can : AllCanBeEncoded (made_from (new lines) here (pieces_of_strip s f))
   pub low : end_from here (pieces_of_strip s f) < 2 ^ 61
 
 -- a function of addresses may be another one that gives the same
@@ -75,9 +75,9 @@ module _ (funcs : List Func) (blocks : List Block) (order : List ℕ) (fs : List
       (at_contains plan.of.func.insts.items (plan.b.first + i) p here)))
 
   module _ (base : ℕ) (m : AreMapped ss fs base lines) where
-    pub can_stand : AllCanStand (made_from (new lines) base (pieces_of ss fs))
+    pub can_stand : AllCanBeEncoded (made_from (new lines) base (pieces_of ss fs))
     can_stand = made_same (new (spans_of ss base fs)) (new lines)
-        (λ (f : ℕ → ℕ). AllCanStand (made_from f base (pieces_of ss fs)))
+        (λ (f : ℕ → ℕ). AllCanBeEncoded (made_from f base (pieces_of ss fs)))
         (same_new code blocks order g.laid g.direct g.blocks_of.are g.perm g.insts fs base lines m)
         (all_stand code blocks order g.laid g.direct g.blocks_of.are g.perm g.insts fs base lines m)
 
@@ -126,7 +126,7 @@ module _ (funcs : List Func) (blocks : List Block) (order : List ℕ) (fs : List
           part : end_from base (pieces_of (take (k + 1) ss) (take (k + 1) fs)) ≤ end_from base (pieces_of ss fs)
           part = pieces_part base ss fs (k + 1)
 
-          end : end_from base (pieces_of ss fs) ≤ code_limit
+          end : end_from base (pieces_of ss fs) ≤ address_end
           end = m.low
 
       pub one_more : (x y : List ℕ) (here : ℕ) → here ≡ end_from base before →

@@ -28,32 +28,33 @@ use Rattle.rv_encode.specs.Fits.{FitsFull, FitsHalf, FitsTwo}
 use Rattle.move_law.specs.RelocatedValues.{distance}
 use Rattle.move_law.specs.Faithful.{with_immediate, made_anew}
 use Rattle.code_emit.specs.Made.{Made, with_distance, turned, kept, jump_to, added, made}
-use Rattle.code_emit.specs.Inputs.{IsAuipc, IsLui, IsLower, FitsRole}
-use Rattle.branch_fixup.specs.Reach.{reaches, Leap, lands, reach_of, main_leap, added_leap, goal}
-use Rattle.code_emit.specs.Bytes.{CanStand, AllCanStand}
+use Rattle.move_law.specs.AddressParts.{IsAuipc, IsLui, TakesLower}
+use Rattle.code_emit.specs.Inputs.{FitsRole}
+use Rattle.branch_fixup.specs.Reach.{reaches, Leap, lands, reach_of, main_leap, added_leap, new_target}
+use Rattle.code_emit.specs.Bytes.{CanBeEncoded, AllCanBeEncoded}
 use Rattle.code_emit.proofs.Fit.{reaches_is, lower_within, upper_within, upper_of_number_within}
 
-fits_can : (m : Made) → m.bytes ≡ 4 → FitsFull m.inst → CanStand m
+fits_can : (m : Made) → m.bytes ≡ 4 → FitsFull m.inst → CanBeEncoded m
 fits_can m e fits =
-    subst (λ (n : ℕ). CanStand (record { inst = m.inst; bytes = n })) (sym e)
+    subst (λ (n : ℕ). CanBeEncoded (record { inst = m.inst; bytes = n })) (sym e)
     (record { encodable = λ none _. none fits; length_is = refl })
 
-half_can : (m : Made) → m.bytes ≡ 2 → FitsHalf m.inst → CanStand m
+half_can : (m : Made) → m.bytes ≡ 2 → FitsHalf m.inst → CanBeEncoded m
 half_can m e fits =
-    subst (λ (n : ℕ). CanStand (record { inst = m.inst; bytes = n })) (sym e)
+    subst (λ (n : ℕ). CanBeEncoded (record { inst = m.inst; bytes = n })) (sym e)
     (record { encodable = λ none _. none fits; length_is = refl })
 
 -- an instruction of the input that is as it was
-same_can : (half : ℕ) (next : Option ℕ) (i : Inst) (n : ℕ) → Decodes half next i n → CanStand (record { inst = i; bytes = n })
+same_can : (half : ℕ) (next : Option ℕ) (i : Inst) (n : ℕ) → Decodes half next i n → CanBeEncoded (record { inst = i; bytes = n })
 same_can half next i n (inl d) =
-    subst (λ (k : ℕ). CanStand (record { inst = i; bytes = k })) (sym d.two_bytes)
+    subst (λ (k : ℕ). CanBeEncoded (record { inst = i; bytes = k })) (sym d.two_bytes)
     (record {
       encodable = λ _ none. none half next
           (inl (record { is_half = d.is_half; two_bytes = refl; row = d.row }));
       length_is = refl;
     })
 same_can half next i n (inr d) =
-    subst (λ (k : ℕ). CanStand (record { inst = i; bytes = k })) (sym d.four_bytes)
+    subst (λ (k : ℕ). CanBeEncoded (record { inst = i; bytes = k })) (sym d.four_bytes)
     (record {
       encodable = λ _ none. none half next
           (inr (record { is_full = d.is_full; four_bytes = refl; row = d.row }));
@@ -61,7 +62,7 @@ same_can half next i n (inr d) =
     })
 
 -- JAL x0
-jal_can : (t a : ℕ) → reaches (2 ^ 20) a t ≡ true → a % 2 ≡ 0 → t % 2 ≡ 0 → CanStand (jump_to t a)
+jal_can : (t a : ℕ) → reaches (2 ^ 20) a t ≡ true → a % 2 ≡ 0 → t % 2 ≡ 0 → CanBeEncoded (jump_to t a)
 jal_can t a r h k = fits_can (jump_to t a) refl (omega arith, reaches_is (2 ^ 20) a t r h k)
 
 -- Registers of branches.
@@ -121,7 +122,7 @@ row_fits C_BNEZ h false z k r = record { from_8 = omega arith; to_15 = omega ari
 row_fits _ h b z k r = absurd (cc)
 
 half_branch_can : (half : ℕ) (next : Option ℕ) (i : Inst) (n : ℕ) (b : Bool) (z : ℤ) → Decodes half next i n → n ≡ 2 →
-    is_branch (action_of i) ≡ true → Reaches (2 ^ 8) z → CanStand (record { inst = with_distance (turned b i) z; bytes = 2 })
+    is_branch (action_of i) ≡ true → Reaches (2 ^ 8) z → CanBeEncoded (record { inst = with_distance (turned b i) z; bytes = 2 })
 half_branch_can half next i n b z (inl d) e k r =
     let (x, matches, is) = d.row in
     half_can (record { inst = with_distance (turned b i) z; bytes = 2 }) refl
@@ -130,7 +131,7 @@ half_branch_can half next i n b z (inl d) e k r =
 half_branch_can half next i n b z (inr d) e k r = let f = d.four_bytes in absurd (omega (arith, e, f))
 
 full_branch_can : (half : ℕ) (next : Option ℕ) (i : Inst) (n : ℕ) (b : Bool) (z : ℤ) → Decodes half next i n →
-    is_branch (action_of i) ≡ true → Reaches (2 ^ 12) z → CanStand (record { inst = with_distance (turned b i) z; bytes = 4 })
+    is_branch (action_of i) ≡ true → Reaches (2 ^ 12) z → CanBeEncoded (record { inst = with_distance (turned b i) z; bytes = 4 })
 full_branch_can half next i n b z d k r =
     fits_can (record { inst = with_distance (turned b i) z; bytes = 4 }) refl
     (branch_fits i b z (registers_of half next i n d) k r)
@@ -157,15 +158,15 @@ half_jump _ h a t z e k r = absurd (cc)
 -- a branch, a jump or a call that keeps its width and reaches
 moved_can : (half : ℕ) (next : Option ℕ) (p : Placed) (a t to : ℕ) → Decodes half next p.inst p.len → target_of p ≡ Some t →
     reaches (reach_of p.len p) a to ≡ true → a % 2 ≡ 0 → to % 2 ≡ 0 →
-    CanStand (record { inst = with_distance p.inst (distance to a); bytes = p.len })
+    CanBeEncoded (record { inst = with_distance p.inst (distance to a); bytes = p.len })
 moved_can half next p a t to (inl d) e r h k =
     let z : ℤ = distance to a in
     let r2 : reaches (reach_of 2 p) a to ≡ true = subst (λ (n : ℕ). reaches (reach_of n p) a to ≡ true) d.two_bytes r in
-    subst (λ (n : ℕ). CanStand (record { inst = with_distance p.inst z; bytes = n })) (sym d.two_bytes)
+    subst (λ (n : ℕ). CanBeEncoded (record { inst = with_distance p.inst z; bytes = n })) (sym d.two_bytes)
     (by (is_branch (action_at p)) refl r2)
   where
     by : (b : Bool) → is_branch (action_at p) ≡ b → reaches (if b then 2 ^ 8 else 2 ^ 11) a to ≡ true →
-        CanStand (record { inst = with_distance p.inst (distance to a); bytes = 2 })
+        CanBeEncoded (record { inst = with_distance p.inst (distance to a); bytes = 2 })
     by true is r2 =
         half_branch_can half next p.inst 2 false (distance to a)
         (inl (record { is_half = d.is_half; two_bytes = refl; row = d.row })) refl is (reaches_is (2 ^ 8) a to r2 h k)
@@ -195,7 +196,7 @@ two : (w : ℕ) (rd rs1 rd' rs1' : ℕ) (z : ℤ) (low low' : ℕ) → field w l
 two w rd rs1 rd' rs1' z low low' e f h =
     record { first_is_register = five w low rd e; second_is_register = five w low' rs1 f; is_within = h }
 
-low_fits : (w : ℕ) (i : Inst) (z : ℤ) → IsFull w i → IsLower i → IsWithin (2 ^ 11) z → FitsFull (with_immediate i z)
+low_fits : (w : ℕ) (i : Inst) (z : ℤ) → IsFull w i → TakesLower i → IsWithin (2 ^ 11) z → FitsFull (with_immediate i z)
 low_fits w (Addi rd rs1 imm) z row k h = two w rd rs1 0 0 z 7 15 row.rd_is row.rs1_is h
 low_fits w (Jalr rd rs1 imm) z row k h = two w rd rs1 0 0 z 7 15 row.rd_is row.rs1_is h
 low_fits w (Lb rd rs1 imm) z row k h = two w rd rs1 0 0 z 7 15 row.rd_is row.rs1_is h
@@ -243,23 +244,23 @@ module _ (f : ℕ → ℕ) (half : ℕ) (next : Option ℕ) (a : ℕ) (i : Inst)
   word_of : n ≡ 4 → FullWord i
   word_of e = full_word half next i n d e
 
-  lower_can : (z : ℤ) → IsLower i → n ≡ 4 → CanStand (record { inst = with_immediate i (lo12 z); bytes = n })
+  lower_can : (z : ℤ) → TakesLower i → n ≡ 4 → CanBeEncoded (record { inst = with_immediate i (lo12 z); bytes = n })
   lower_can z is e = let w = word_of e in
       fits_can (record { inst = with_immediate i (lo12 z); bytes = n }) e (low_fits w.word i (lo12 z) w.row is (lower_within z))
 
   upper_can : (t : ℕ) → IsAuipc i → n ≡ 4 → t ≤ 0x7fff_0000 →
-      CanStand (record { inst = with_immediate i (hi20 (distance t (f a))); bytes = n })
+      CanBeEncoded (record { inst = with_immediate i (hi20 (distance t (f a))); bytes = n })
   upper_can t is e h = let w = word_of e in
       fits_can (record { inst = with_immediate i (hi20 (distance t (f a))); bytes = n }) e
       (auipc_fits w.word i (hi20 (distance t (f a))) w.row is (upper_within t (f a) h low))
 
   number_can : (t : ℕ) → IsLui i → n ≡ 4 → t ≤ 0x7fff_0000 →
-      CanStand (record { inst = with_immediate i (hi20 (pos t)); bytes = n })
+      CanBeEncoded (record { inst = with_immediate i (hi20 (pos t)); bytes = n })
   number_can t is e h = let w = word_of e in
       fits_can (record { inst = with_immediate i (hi20 (pos t)); bytes = n }) e
       (lui_fits w.word i (hi20 (pos t)) w.row is (upper_of_number_within t h))
 
-  anew_can : (x : Role) → FitsRole x i n → AreLowRole f x → CanStand (record { inst = made_anew f a x i; bytes = n })
+  anew_can : (x : Role) → FitsRole x i n → AreLowRole f x → CanBeEncoded (record { inst = made_anew f a x i; bytes = n })
   anew_can role.Plain s l = same_can half next i n d
   anew_can (role.Hi t) s l = upper_can (f t) s.0 s.1 l
   anew_can (role.CallHi t) s l = upper_can (f t) s.0 s.1 l
@@ -278,7 +279,7 @@ pub record Fitting (f : ℕ → ℕ) (a : ℕ) (p : Placed) (x : Form) : Type 0 
   pub low : f p.addr ≤ 0x7fff_0000
   pub even : a % 2 ≡ 0
   pub even_len : p.len % 2 ≡ 0
-  pub even_goal : goal f p % 2 ≡ 0
+  pub even_goal : new_target f p % 2 ≡ 0
   pub even_fall : f (p.addr + p.len) % 2 ≡ 0
   pub branch : (inverted : Bool) (size : Size) (jump : Bool) → x ≡ form.Branch inverted size jump → is_branch (action_at p) ≡ true
   pub half_branch : (inverted jump : Bool) → x ≡ form.Branch inverted Half jump → p.len ≡ 2
@@ -286,12 +287,12 @@ pub record Fitting (f : ℕ → ℕ) (a : ℕ) (p : Placed) (x : Form) : Type 0 
 
 kept_can : (f : ℕ → ℕ) (a : ℕ) (p : Placed) (x : Form) → Fitting f a p x → (rest : List Leap) →
     list_all lands (option_map_or (λ t. record { half = reach_of p.len p; from = a; to = f t } ∷ []) (target_of p) [] ++ rest)
-    ≡ true → CanStand (record { inst = kept f a p; bytes = p.len }) × (list_all lands rest ≡ true)
+    ≡ true → CanBeEncoded (record { inst = kept f a p; bytes = p.len }) × (list_all lands rest ≡ true)
 kept_can f a p x s rest h = by (target_of p) refl h
   where
     by : (o : Option ℕ) → target_of p ≡ o →
         list_all lands (option_map_or (λ t. record { half = reach_of p.len p; from = a; to = f t } ∷ []) o [] ++ rest) ≡ true →
-        CanStand (record {
+        CanBeEncoded (record {
           inst = option_map_or (λ t. with_distance p.inst (distance (f t) a)) (target_of p)
               (made_anew f p.addr p.role p.inst);
           bytes = p.len;
@@ -307,7 +308,7 @@ even_sum a b h k = omega (arith, h, k)
 
 added_can : (f : ℕ → ℕ) (p : Placed) (jump : Bool) (a : ℕ) → a % 2 ≡ 0 → f (p.addr + p.len) % 2 ≡ 0 →
     list_all lands (if jump then record { half = 2 ^ 20; from = a; to = f (p.addr + p.len) } ∷ [] else []) ≡ true →
-    AllCanStand (added f p jump a)
+    AllCanBeEncoded (added f p jump a)
 added_can f p true a h k l =
     (jal_can (f (p.addr + p.len)) a (and_parts (reaches (2 ^ 20) a (f (p.addr + p.len))) true l).0 h k, tt)
 added_can f p false a h k l = tt
@@ -315,38 +316,38 @@ added_can f p false a h k l = tt
 eight_reaches : Reaches (2 ^ 12) (pos 8)
 eight_reaches = record { low = omega (arith, ints); high = omega (arith, ints); even = refl }
 
-pub all_can : (f : ℕ → ℕ) (a : ℕ) (p : Placed) (x : Form) → Fitting f a p x → AllCanStand (made f a p x)
+pub all_can : (f : ℕ → ℕ) (a : ℕ) (p : Placed) (x : Form) → Fitting f a p x → AllCanBeEncoded (made f a p x)
 all_can f a p form.Plain s = let k = kept_can f a p form.Plain s [] s.lands in (k.0, tt)
 all_can f a p form.Jump s =
     let k = kept_can f a p form.Jump s (added_leap f a p form.Jump) s.lands in
     (k.0, added_can f p true (a + p.len) (even_sum a p.len s.even s.even_len) s.even_fall k.1)
 all_can f a p (form.Goto true) s =
-    let l = and_parts (reaches (2 ^ 11) a (goal f p)) true s.lands in (
-      half_can (record { inst = Jal 0 (distance (goal f p) a); bytes = 2 }) refl
-          (refl, reaches_is (2 ^ 11) a (goal f p) l.0 s.even s.even_goal),
+    let l = and_parts (reaches (2 ^ 11) a (new_target f p)) true s.lands in (
+      half_can (record { inst = Jal 0 (distance (new_target f p) a); bytes = 2 }) refl
+          (refl, reaches_is (2 ^ 11) a (new_target f p) l.0 s.even s.even_goal),
       tt,
     )
 all_can f a p (form.Goto false) s =
-    let l = and_parts (reaches (2 ^ 20) a (goal f p)) true s.lands in
-    (jal_can (goal f p) a l.0 s.even s.even_goal, tt)
+    let l = and_parts (reaches (2 ^ 20) a (new_target f p)) true s.lands in
+    (jal_can (new_target f p) a l.0 s.even s.even_goal, tt)
 all_can f a p form.Dropped s = tt
 all_can f a p (form.Branch inverted size jump) s =
     by size (s.branch inverted size jump refl)
     (λ e. s.half_branch inverted jump (ap (λ (z : Size). form.Branch inverted z jump) e)) s.lands
   where
     to : ℕ
-    to = if inverted then f (p.addr + p.len) else goal f p
+    to = if inverted then f (p.addr + p.len) else new_target f p
 
     even_to : to % 2 ≡ 0
     even_to = pick inverted
       where
-        pick : (b : Bool) → (if b then f (p.addr + p.len) else goal f p) % 2 ≡ 0
+        pick : (b : Bool) → (if b then f (p.addr + p.len) else new_target f p) % 2 ≡ 0
         pick true = s.even_fall
         pick false = s.even_goal
 
     by : (z : Size) → is_branch (action_at p) ≡ true → (z ≡ Half → p.len ≡ 2) →
         list_all lands (main_leap f a p (form.Branch inverted z jump) ++ added_leap f a p (form.Branch inverted z jump))
-        ≡ true → AllCanStand (made f a p (form.Branch inverted z jump))
+        ≡ true → AllCanBeEncoded (made f a p (form.Branch inverted z jump))
     by Half is_b short l =
         let parts = and_parts (reaches (2 ^ 8) a to) (list_all lands (added_leap f a p (form.Branch inverted Half jump))) l in (
           half_branch_can s.half s.next p.inst p.len inverted (distance to a) s.decodes (short refl) is_b

@@ -11,7 +11,8 @@ use Rattle.rv_encode.specs.Encoding.{Encodes, bytes}
 use Rattle.elf_image.specs.code.Parts.{halfword_in}
 use Rattle.move_law.specs.Rewrite.{Executable, IsCodeByte, memory_of}
 use Rattle.code_emit.specs.Made.{Made}
-use Rattle.code_emit.specs.Bytes.{half_bytes, full_bytes, half_in, StandsIn, AllStandIn, after_made, Adds, CanStand, AllCanStand}
+use Rattle.code_emit.specs.Bytes.{half_bytes, full_bytes, half_in, StandsIn, AllStandIn, after_made, Adds, CanBeEncoded}
+use Rattle.code_emit.specs.Bytes.{AllCanBeEncoded}
 use Rattle.code_emit.specs.Bytes.{width_of_bytes}
 use Rattle.code_emit.specs.Output.{HasCode}
 use Rattle.code_emit.proofs.Standing.{HasMade, HasAll}
@@ -153,11 +154,11 @@ pub on_ok : {A E P Q : Type 0} (r : Result A E) → (P → Q) → OnOk r P → O
 on_ok (Ok x) f h = f h
 on_ok (Err e) f h = tt
 
-pub all_can_front : (xs ys : List Made) → AllCanStand (xs ++ ys) → AllCanStand xs
+pub all_can_front : (xs ys : List Made) → AllCanBeEncoded (xs ++ ys) → AllCanBeEncoded xs
 all_can_front [] ys h = tt
 all_can_front (x ∷ xs) ys h = (h.0, all_can_front xs ys h.1)
 
-pub all_can_back : (xs ys : List Made) → AllCanStand (xs ++ ys) → AllCanStand ys
+pub all_can_back : (xs ys : List Made) → AllCanBeEncoded (xs ++ ys) → AllCanBeEncoded ys
 all_can_back [] ys h = h
 all_can_back (x ∷ xs) ys h = all_can_back xs ys h.1
 
@@ -167,7 +168,7 @@ half_wanted old h inst want e w =
     subst (λ (n : Width). Adds old (old ++ half_bytes h) (record { inst = inst; bytes = bytes n } ∷ [])) w
     (adds_half old h inst e)
 
-pub adds_as_long : (old new : List ℕ) (inst : Inst) (n : ℕ) → CanStand (record { inst = inst; bytes = n }) →
+pub adds_as_long : (old new : List ℕ) (inst : Inst) (n : ℕ) → CanBeEncoded (record { inst = inst; bytes = n }) →
     Adds old new (record { inst = inst; bytes = bytes (width_of_bytes n) } ∷ []) →
     Adds old new (record { inst = inst; bytes = n } ∷ [])
 adds_as_long old new inst n can a = subst (λ (k : ℕ). Adds old new (record { inst = inst; bytes = k } ∷ [])) can.length_is a

@@ -7,7 +7,7 @@ use Rattle.rv_code.specs.declared.placed.Block.{Block}
 use Rattle.rv_code.specs.declared.placed.Placed.{Placed}
 use Rattle.rv_code.specs.layout.Blocks.{AreBlocks}
 use Rattle.rv_code.specs.layout.Flow.{insts_of}
-use Rattle.rv_code.specs.layout.FunctionLists.{AreLaidOut, code_limit}
+use Rattle.rv_code.specs.layout.FunctionLists.{AreLaidOut, address_end}
 use Rattle.rv_code.specs.layout.ProgramCode.{ProgramCode}
 use Rattle.addr_map.specs.declared.span.Span.{Span}
 use Rattle.addr_map.specs.Spans.{new}
@@ -46,7 +46,7 @@ module _ (code : ProgramCode) (blocks : List Block) (order : List ℕ) (laid : A
   out_is t = same_new code blocks order laid direct are perm can fs base lines m t
       ∙ ap (λ (s : List Span). new s t) (sym puts.spans_are)
 
-  small : (t : ℕ) → t ≤ code_limit → out r t < 2 ^ 63
+  small : (t : ℕ) → t ≤ address_end → out r t < 2 ^ 63
   small t h =
       let low = low_new code blocks order laid direct are perm can fs base lines m t h in
       let e = out_is t in

@@ -15,21 +15,21 @@ use Rattle.rv_code.specs.declared.placed.Role.{Role}
 use Rattle.rv_code.specs.declared.placed.Role.TheVariants as role
 use Rattle.rv_code.specs.layout.Blocks.{AreBlocks}
 use Rattle.rv_code.specs.layout.Flow.{insts_of, target_of}
-use Rattle.rv_code.specs.layout.FunctionLists.{AreLaidOut, Follow, HasLength, code_limit}
+use Rattle.rv_code.specs.layout.FunctionLists.{AreLaidOut, Follow, HasLength, address_end}
 use Rattle.rv_code.specs.layout.ProgramCode.{ProgramCode}
 use Rattle.addr_map.specs.declared.span.Span.{Span}
 use Rattle.addr_map.specs.Spans.{is_of, new}
 use Rattle.addr_map.proofs.Orders.{lines_apart, moved_permutation}
 use Rattle.branch_fixup.specs.Inputs.{AreDirect, IsOrder, LeadsToCode}
 use Rattle.branch_fixup.specs.Pieces.{Piece, PlacedFrom, end_from, laid_from, length_in, length_of}
-use Rattle.branch_fixup.specs.Reach.{AllLand, added_leap, goal, lands, main_leap}
+use Rattle.branch_fixup.specs.Reach.{AllLand, added_leap, new_target, lands, main_leap}
 use Rattle.branch_fixup.specs.Strips.{Strip, pieces_of, spans_of, strips_of}
 use Rattle.branch_fixup.proofs.Falls.{below_limit, code_at}
 use Rattle.rv_code.proofs.lists.Follows.{laid_func}
 use Rattle.branch_fixup.proofs.Laid.{AreOnce, inside, once_each, placed_from}
 use Rattle.branch_fixup.proofs.Lists.{Contains-cons_cases, Contains-there, at_contains, at_flat, contains_at, flat_at}
 use Rattle.branch_fixup.proofs.Placed.{are_strips, strips_once}
-use Rattle.code_emit.specs.Bytes.{AllCanStand}
+use Rattle.code_emit.specs.Bytes.{AllCanBeEncoded}
 use Rattle.code_emit.specs.Inputs.{AreLow, AreMapped, CanMove, FitsRole, HasLowTargets, IsLowRole}
 use Rattle.code_emit.specs.Made.{Made, made, made_from}
 use Rattle.code_emit.proofs.CanStand.{AreLowRole, Fitting, all_can}
@@ -83,7 +83,7 @@ even_length p (inr four) = omega (arith, four)
 
 pub record IsIn (funcs : List Func) (p : Placed) : Type 0 where
   pub len : p.len % 2 ≡ 0
-  pub low : p.addr + p.len ≤ code_limit
+  pub low : p.addr + p.len ≤ address_end
   pub even : p.addr % 2 ≡ 0
 
 even_at : (a : ℕ) (ps : List Placed) (end : ℕ) → Follow a ps end → a % 2 ≡ 0 → ((p : Placed) → Contains ps p → p.len % 2 ≡ 0) →
@@ -139,7 +139,7 @@ target_even funcs p t laid direct c e =
     (at_contains x.func.insts.items x.i x.p x.at_inst) in
     subst (λ (n : ℕ). n % 2 ≡ 0) x.addr (is_in funcs x.p laid there).even
 
-can_join : (xs ys : List Made) → AllCanStand xs → AllCanStand ys → AllCanStand (xs ++ ys)
+can_join : (xs ys : List Made) → AllCanBeEncoded xs → AllCanBeEncoded ys → AllCanBeEncoded (xs ++ ys)
 can_join [] ys h k = k
 can_join (x ∷ xs) ys h k = (h.0, can_join xs ys h.1 k)
 
@@ -168,10 +168,10 @@ module _ (code : ProgramCode) (blocks : List Block) (order : List ℕ) (laid : A
   inst : (q : Piece) → Contains ps q → Contains (insts_of code.funcs) q.placed
   inst q c = inst_of code blocks order are perm q (of_strip ss fs q c)
 
-  pub low_new : (t : ℕ) → t ≤ code_limit → new (spans_of ss base fs) t ≤ code_limit
-  low_new t h = new_has (λ (n : ℕ). n ≤ code_limit) (spans_of ss base fs) t low h
+  pub low_new : (t : ℕ) → t ≤ address_end → new (spans_of ss base fs) t ≤ address_end
+  low_new t h = new_has (λ (n : ℕ). n ≤ address_end) (spans_of ss base fs) t low h
     where
-      low : (s : Span) → Contains (spans_of ss base fs) s → s.out ≤ code_limit
+      low : (s : Span) → Contains (spans_of ss base fs) s → s.out ≤ address_end
       low s c =
           let below : s.out + s.len ≤ end_from base ps =
           All-contains (λ (z : Span). z.out + z.len ≤ end_from base ps) (laid_from base ps) s (inside base ps) c in
@@ -193,7 +193,7 @@ module _ (code : ProgramCode) (blocks : List Block) (order : List ℕ) (laid : A
       new_has (λ (n : ℕ). n % 2 ≡ 0) (spans_of ss base fs) t
       (outs_even base ps m.even (λ q c. (is_in code.funcs q.placed laid (inst q c)).len)) h
 
-  even_goal : (p : Placed) → Contains (insts_of code.funcs) p → goal (new (spans_of ss base fs)) p % 2 ≡ 0
+  even_goal : (p : Placed) → Contains (insts_of code.funcs) p → new_target (new (spans_of ss base fs)) p % 2 ≡ 0
   even_goal p c = by (target_of p) refl
     where
       by : (o : Option ℕ) → target_of p ≡ o → option_map_or (new (spans_of ss base fs)) o 0 % 2 ≡ 0
@@ -236,7 +236,7 @@ module _ (code : ProgramCode) (blocks : List Block) (order : List ℕ) (laid : A
       }
 
   can_from : (a : ℕ) (qs : List Piece) → a % 2 ≡ 0 → ((q : Piece) → Contains qs q → Contains ps q) →
-      AllLand (new (spans_of ss base fs)) a qs → AllCanStand (made_from (new (spans_of ss base fs)) a qs)
+      AllLand (new (spans_of ss base fs)) a qs → AllCanBeEncoded (made_from (new (spans_of ss base fs)) a qs)
   can_from a [] even sub land = tt
   can_from a (q ∷ qs) even sub land =
       let here = sub q (0, omega arith, refl) in
@@ -246,7 +246,7 @@ module _ (code : ProgramCode) (blocks : List Block) (order : List ℕ) (laid : A
       (can_from (a + length_of q) qs (even_sum a (length_of q) even (form_even q.placed.len q.form len))
       (λ x h. sub x (Contains-there q qs x h)) land.1)
 
-  pub all_stand : AllCanStand (made_from (new (spans_of ss base fs)) base ps)
+  pub all_stand : AllCanBeEncoded (made_from (new (spans_of ss base fs)) base ps)
   all_stand = can_from base ps m.even (λ q c. c) m.forms.reach
 
   pub all_placed : PlacedFrom (new (spans_of ss base fs)) base ps

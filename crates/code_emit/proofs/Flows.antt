@@ -9,7 +9,7 @@ use Rattle.rv_code.specs.declared.placed.Func.{Func}
 use Rattle.rv_code.specs.declared.placed.Block.{Block}
 use Rattle.rv_code.specs.layout.Blocks.{AreBlocks}
 use Rattle.rv_code.specs.layout.Flow.{insts_of, target_of}
-use Rattle.rv_code.specs.layout.FunctionLists.{AreLaidOut, code_limit}
+use Rattle.rv_code.specs.layout.FunctionLists.{AreLaidOut, address_end}
 use Rattle.rv_code.specs.layout.ProgramCode.{ProgramCode, is_code_address}
 use Rattle.move_law.specs.Rewrite.{Rewrite, out}
 use Rattle.move_law.specs.Faithful.{next}
@@ -24,7 +24,7 @@ use Rattle.code_emit.proofs.StripEnds.{AllFlow, AllInner, FlowsAs, IsInner}
 
 -- Addresses of code.
 
-pub code_low : (funcs : List Func) (a : ℕ) → AreLaidOut funcs → is_code_address funcs a ≡ true → a ≤ code_limit
+pub code_low : (funcs : List Func) (a : ℕ) → AreLaidOut funcs → is_code_address funcs a ≡ true → a ≤ address_end
 code_low funcs a laid is =
     let c = code_at funcs a is in
     let low = below_limit funcs c.f c.i c.func c.p laid c.at_func c.at_inst in
@@ -32,7 +32,7 @@ code_low funcs a laid is =
     omega (arith, low, addr)
 
 pub target_low : (funcs : List Func) (p : Placed) (t : ℕ) → AreLaidOut funcs → AreDirect funcs → Contains (insts_of funcs) p →
-    target_of p ≡ Some t → t ≤ code_limit
+    target_of p ≡ Some t → t ≤ address_end
 target_low funcs p t laid direct is_in e =
     code_low funcs t laid ((All-contains (LeadsToCode funcs) (insts_of funcs) p direct.lead is_in).to_code t e)
 
@@ -56,7 +56,7 @@ strip_get code b s x k p at =
     sym (at_drop b.first x.func.insts.items k (b.first + k) refl) ∙ sym (at_take n (drop b.first x.func.insts.items) k less) ∙ h
 
 module _ (r : Rewrite) (code : ProgramCode) (laid : AreLaidOut code.funcs) (direct : AreDirect code.funcs)
-    (funcs_are : r.code.funcs ≡ code.funcs) (small : (t : ℕ) → t ≤ code_limit → out r t < 2 ^ 63) where
+    (funcs_are : r.code.funcs ≡ code.funcs) (small : (t : ℕ) → t ≤ address_end → out r t < 2 ^ 63) where
   next_is : (p : Placed) → next r p ≡ next_among code.funcs p
   next_is p = ap (λ (funcs : List Func). next_among funcs p) funcs_are
 
@@ -64,7 +64,7 @@ module _ (r : Rewrite) (code : ProgramCode) (laid : AreLaidOut code.funcs) (dire
     inst_in : (i : ℕ) (p : Placed) → slice_get x.func.insts.items i ≡ Some p → Contains (insts_of code.funcs) p
     inst_in i p at = flat_at (λ (g : Func). g.insts.items) code.funcs b.func x.func p x.at (at_contains x.func.insts.items i p at)
 
-    low_end : (i : ℕ) (p : Placed) → slice_get x.func.insts.items i ≡ Some p → p.addr + p.len ≤ code_limit
+    low_end : (i : ℕ) (p : Placed) → slice_get x.func.insts.items i ≡ Some p → p.addr + p.len ≤ address_end
     low_end i p at = below_limit code.funcs b.func i x.func p laid x.at at
 
     is_inner : (k : ℕ) (p q : Placed) → slice_get s.inner k ≡ Some p → slice_get (insts_in s) k ≡ Some p →

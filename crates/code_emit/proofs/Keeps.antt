@@ -21,14 +21,14 @@ use Rattle.rv_code.specs.isa.Action.{action_of}
 use Rattle.rv_code.specs.layout.Flow.{action_at, is_plain_jump, target, target_of}
 use Rattle.rv_code.specs.machine.Machine.{plus}
 use Rattle.rv_code.specs.isa.TwosComplement.{unsigned64}
-use Rattle.move_law.specs.Rewrite.{Rewrite, Goes, out, end_of, stays, jumps}
+use Rattle.move_law.specs.Rewrite.{Rewrite, Goes, out, inst_end, stays, jumps}
 use Rattle.move_law.specs.RelocatedValues.{distance}
 use Rattle.move_law.specs.Faithful.{next, GetsToNext, GoesOn, made_anew, HasInSpan, goes_on, KeepsBranch, same, opposite}
 use Rattle.move_law.specs.Faithful.{KeepsAction, KeepsInst}
 use Rattle.branch_fixup.specs.Pieces.{length_in, bytes_of_size, bytes_of_jump}
 use Rattle.branch_fixup.specs.Endings.{Kept, Branches, LeftOut, end_of_form, begins_at, ending}
 use Rattle.branch_fixup.specs.Endings.{Goes as EndGoes}
-use Rattle.branch_fixup.specs.Reach.{goal}
+use Rattle.branch_fixup.specs.Reach.{new_target}
 use Rattle.code_emit.specs.Made.{Made, with_distance, opposite_of, kept, branch_to, added, made}
 use Rattle.code_emit.proofs.Standing.{HasMade, HasAll, has_at, width_is}
 
@@ -126,17 +126,17 @@ module _ (r : Rewrite) (p : Placed) (f : Form) (fall after : Option ℕ) (a : �
       }
 
   -- from where it ends
-  ends_at : (inst : Inst) (bytes : ℕ) → HasMade r.output a inst bytes → end_of r p.addr ≡ plus (out r p.addr) bytes
+  ends_at : (inst : Inst) (bytes : ℕ) → HasMade r.output a inst bytes → inst_end r p.addr ≡ plus (out r p.addr) bytes
   ends_at inst bytes has =
       ap (plus (out r p.addr))
       (width_is r.output (out r p.addr) inst bytes (subst (λ (q : ℕ). HasMade r.output q inst bytes) (sym s.out_is) has))
 
   on_from : (inst : Inst) (bytes : ℕ) → HasMade r.output a inst bytes →
-      GetsToNext r (Goes r.output) p (plus (out r p.addr) bytes) → GetsToNext r (Goes r.output) p (end_of r p.addr)
+      GetsToNext r (Goes r.output) p (plus (out r p.addr) bytes) → GetsToNext r (Goes r.output) p (inst_end r p.addr)
   on_from inst bytes has h = subst (λ (q : ℕ). GetsToNext r (Goes r.output) p q) (sym (ends_at inst bytes has)) h
 
   goes_from : (inst : Inst) (bytes to : ℕ) → HasMade r.output a inst bytes → Goes r.output (plus (out r p.addr) bytes) to →
-      Goes r.output (end_of r p.addr) to
+      Goes r.output (inst_end r p.addr) to
   goes_from inst bytes to has h = subst (λ (q : ℕ). Goes r.output q to) (sym (ends_at inst bytes has)) h
 
   -- Control goes on from e, where the jump stands or the next block begins.
@@ -451,7 +451,7 @@ branch_keeps : (inverts jump : Bool) (size : Size) (r : Rewrite) (p : Placed) (f
     KeepsBranch r (Goes r.output) p test wanted rs1 rs2 (plus p.addr (unsigned64 imm))
 branch_keeps false jump size r p fall after a s test wanted rs1 rs2 imm e by_table =
     let t : ℕ = plus p.addr (unsigned64 imm) in
-    let goal_is : goal (out r) p ≡ out r t = ap (λ (x : Action). option_map_or (out r) (target p.addr x) 0) e in
+    let goal_is : new_target (out r) p ≡ out r t = ap (λ (x : Action). option_map_or (out r) (target p.addr x) 0) e in
     straight r p (form.Branch false size jump) fall after a s test wanted rs1 rs2 imm e jump size
     (straight_jump (apart_of fall after) (begins_at after (Some t)) jump by_table.inverted_is by_table.jump_is) refl
     (subst (λ (g : ℕ). HasAll r.output a
@@ -477,7 +477,7 @@ keeps r p form.Jump whole alone fall after a s table =
     (omega arith) s.stands.0 s.stands.1
 keeps r p (form.Goto half) whole alone fall after a s table =
     let (imm, e) = goes_by whole alone (action_at p) fall (target_of p) after table in
-    let goal_is : goal (out r) p ≡ out r (plus p.addr (unsigned64 imm)) =
+    let goal_is : new_target (out r) p ≡ out r (plus p.addr (unsigned64 imm)) =
     ap (λ (x : Action). option_map_or (out r) (target p.addr x) 0) e in
     subst (λ (x : Action). KeepsAction r (Goes r.output) p x) (sym e)
     (goes_to r p (form.Goto half) fall after a s (plus p.addr (unsigned64 imm)) (if half then 2 else 4) (ap (target p.addr) e)

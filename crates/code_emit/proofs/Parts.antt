@@ -14,7 +14,7 @@ use Rattle.branch_fixup.specs.Pieces.{Piece, PlacedFrom, length_of, length_in, a
 use Rattle.branch_fixup.specs.Strips.{Strip, insts_in, pieces_of_strip}
 use Rattle.branch_fixup.proofs.Appended.{map_more}
 use Rattle.code_emit.specs.Made.{Made, made, made_from}
-use Rattle.code_emit.specs.Bytes.{after_made, Adds, AllCanStand}
+use Rattle.code_emit.specs.Bytes.{after_made, Adds, AllCanBeEncoded}
 use Rattle.code_emit.proofs.Coded.{adds_both, all_can_front, all_can_back}
 
 made_from-append : (f : ℕ → ℕ) (a : ℕ) (xs ys : List Piece) → made_from f a (xs ++ ys) ≡ made_from f a xs
@@ -55,11 +55,11 @@ pub code_length : (f : ℕ → ℕ) (a : ℕ) (code : List ℕ) (ps : List Piece
 code_length f a code ps adds = ap (λ (n : ℕ). a + n) adds.length_is ∙ after_from f a 0 a ps (omega arith)
 
 -- pieces of which all can stand
-pub can_parts : (f : ℕ → ℕ) (a : ℕ) (ps qs : List Piece) → AllCanStand (made_from f a (ps ++ qs)) →
-    AllCanStand (made_from f a ps) × AllCanStand (made_from f (end_from a ps) qs)
+pub can_parts : (f : ℕ → ℕ) (a : ℕ) (ps qs : List Piece) → AllCanBeEncoded (made_from f a (ps ++ qs)) →
+    AllCanBeEncoded (made_from f a ps) × AllCanBeEncoded (made_from f (end_from a ps) qs)
 can_parts f a ps qs can =
-    let c : AllCanStand (made_from f a ps ++ made_from f (end_from a ps) qs) =
-    subst AllCanStand (made_from-append f a ps qs) can in (
+    let c : AllCanBeEncoded (made_from f a ps ++ made_from f (end_from a ps) qs) =
+    subst AllCanBeEncoded (made_from-append f a ps qs) can in (
       all_can_front (made_from f a ps) (made_from f (end_from a ps) qs) c,
       all_can_back (made_from f a ps)
           (made_from f (end_from a ps) qs) c,
@@ -74,8 +74,8 @@ inner_at f a (p ∷ ps) zero d h placed = placed.0
 inner_at f a (p ∷ ps) (suc i) d h placed = inner_at f (a + p.len) ps i d (omega (arith, h)) placed.1
 
 pub inner_can : (f : ℕ → ℕ) (a : ℕ) (ps : List Placed) (i : ℕ) (d : Placed) → i < length ps →
-    AllCanStand (made_from f a (map as_it_is ps)) →
-    AllCanStand (made f (end_from a (map as_it_is (take i ps))) (get_or ps i d) form.Plain)
+    AllCanBeEncoded (made_from f a (map as_it_is ps)) →
+    AllCanBeEncoded (made f (end_from a (map as_it_is (take i ps))) (get_or ps i d) form.Plain)
 inner_can f a [] i d h can = absurd (omega (arith, h))
 inner_can f a (p ∷ ps) zero d h can = all_can_front (made f a p form.Plain) (made_from f (a + p.len) (map as_it_is ps)) can
 inner_can f a (p ∷ ps) (suc i) d h can =
@@ -103,15 +103,15 @@ inner_more f a at x y z ps i d within here g h =
     (one_more f a at x y z (map as_it_is (take i ps)) (as_it_is (get_or ps i d)) here g h)
 
 -- the last one of a block
-pub last_can : (f : ℕ → ℕ) (a : ℕ) (s : Strip) (x : Form) → AllCanStand (made_from f a (pieces_of_strip s x)) →
-    AllCanStand (made f (end_from a (map as_it_is s.inner)) s.last x)
+pub last_can : (f : ℕ → ℕ) (a : ℕ) (s : Strip) (x : Form) → AllCanBeEncoded (made_from f a (pieces_of_strip s x)) →
+    AllCanBeEncoded (made f (end_from a (map as_it_is s.inner)) s.last x)
 last_can f a s x can =
     let e : ℕ = end_from a (map as_it_is s.inner) in
     let q : Piece = record { placed = s.last; form = x } in
-    subst AllCanStand (none_after (made f e s.last x)) (can_parts f a (map as_it_is s.inner) (q ∷ []) can).1
+    subst AllCanBeEncoded (none_after (made f e s.last x)) (can_parts f a (map as_it_is s.inner) (q ∷ []) can).1
 
-pub front_can : (f : ℕ → ℕ) (a : ℕ) (s : Strip) (x : Form) → AllCanStand (made_from f a (pieces_of_strip s x)) →
-    AllCanStand (made_from f a (map as_it_is s.inner))
+pub front_can : (f : ℕ → ℕ) (a : ℕ) (s : Strip) (x : Form) → AllCanBeEncoded (made_from f a (pieces_of_strip s x)) →
+    AllCanBeEncoded (made_from f a (map as_it_is s.inner))
 front_can f a s x can = (can_parts f a (map as_it_is s.inner) (record { placed = s.last; form = x } ∷ []) can).0
 
 pub more_pieces : (f : ℕ → ℕ) (a at : ℕ) (x y z : List ℕ) (ps qs : List Piece) → at ≡ end_from a ps →

@@ -29,7 +29,7 @@ use Rattle.branch_fixup.proofs.Lists.{flat_at}
 use Rattle.branch_fixup.proofs.Orders.{order_has}
 use Rattle.branch_fixup.proofs.Placed.{piece_inst}
 use Rattle.branch_fixup.proofs.Planned.{Planned, StripOf, block_in_insts, in_block, planned, planned_at}
-use Rattle.code_emit.specs.Bytes.{AllCanStand}
+use Rattle.code_emit.specs.Bytes.{AllCanBeEncoded}
 use Rattle.code_emit.specs.Made.{made_from}
 use Rattle.code_emit.proofs.Keeps.{branch_by}
 use Rattle.code_emit.proofs.Parts.{can_parts}
@@ -193,16 +193,16 @@ block_placed f a (t ∷ ss) (x ∷ fs) (suc k) s at less h =
 
 -- they can stand there
 pub block_can : (f : ℕ → ℕ) (a : ℕ) (ss : List Strip) (fs : List Form) (k : ℕ) (s : Strip) → slice_get ss k ≡ Some s →
-    k < length fs → AllCanStand (made_from f a (pieces_of ss fs)) →
-    AllCanStand (made_from f (end_from a (pieces_of (take k ss) (take k fs))) (pieces_of_strip s (get_or fs k form.Plain)))
+    k < length fs → AllCanBeEncoded (made_from f a (pieces_of ss fs)) →
+    AllCanBeEncoded (made_from f (end_from a (pieces_of (take k ss) (take k fs))) (pieces_of_strip s (get_or fs k form.Plain)))
 block_can f a [] fs k s at less h = absurd (cc)
 block_can f a (t ∷ ss) [] k s at less h = absurd (omega (arith, less))
 block_can f a (t ∷ ss) (x ∷ fs) zero s at less h =
     let same : t ≡ s = (let e : Some t ≡ Some s = at in cc) in
-    subst (λ (z : Strip). AllCanStand (made_from f a (pieces_of_strip z x))) same
+    subst (λ (z : Strip). AllCanBeEncoded (made_from f a (pieces_of_strip z x))) same
     (can_parts f a (pieces_of_strip t x) (pieces_of ss fs) h).0
 block_can f a (t ∷ ss) (x ∷ fs) (suc k) s at less h =
-    subst (λ (e : ℕ). AllCanStand (made_from f e (pieces_of_strip s (get_or fs k form.Plain))))
+    subst (λ (e : ℕ). AllCanBeEncoded (made_from f e (pieces_of_strip s (get_or fs k form.Plain))))
     (sym (end_append a (pieces_of_strip t x) (pieces_of (take k ss) (take k fs))))
     (block_can f (end_from a (pieces_of_strip t x)) ss fs k s at (omega (arith, less))
     (can_parts f a (pieces_of_strip t x) (pieces_of ss fs) h).1)

@@ -50,10 +50,10 @@ IsEncodable want inst =
 abbrev pub width_of_bytes : ℕ → Width
 width_of_bytes n = if n == 2 then width.Half else width.Full
 
-pub record CanStand (m : Made) : Type 0 where
+pub record CanBeEncoded (m : Made) : Type 0 where
   pub encodable : IsEncodable (width_of_bytes m.bytes) m.inst
   pub length_is : bytes (width_of_bytes m.bytes) ≡ m.bytes
 
-abbrev pub AllCanStand : List Made → Type 0
-AllCanStand [] = Unit {0}
-AllCanStand (m ∷ ms) = CanStand m × AllCanStand ms
+abbrev pub AllCanBeEncoded : List Made → Type 0
+AllCanBeEncoded [] = Unit {0}
+AllCanBeEncoded (m ∷ ms) = CanBeEncoded m × AllCanBeEncoded ms

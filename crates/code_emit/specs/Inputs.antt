@@ -4,57 +4,30 @@ use Rattle.rv_code.specs.declared.cell.CellKind.{CellKind}
 use Rattle.rv_code.specs.declared.cell.CellKind.TheVariants.{Abs, Diff}
 use Rattle.rv_code.specs.declared.cell.CodeCell.{CodeCell}
 use Rattle.rv_code.specs.declared.inst.Inst.{Inst}
-use Rattle.rv_code.specs.declared.inst.Inst.TheVariants.{Lui, Auipc, Jalr, Lb, Lh, Lw, Ld, Lbu, Lhu, Lwu, Sb, Sh, Sw, Sd, Addi}
 use Rattle.rv_code.specs.declared.layout.Form.{Form}
 use Rattle.rv_code.specs.declared.placed.Placed.{Placed}
 use Rattle.rv_code.specs.declared.placed.Role.{Role}
 use Rattle.rv_code.specs.declared.placed.Role.TheVariants as role
 use Rattle.rv_code.specs.isa.Decoding.{Decodes}
 use Rattle.rv_code.specs.layout.Flow.{target_of}
-use Rattle.rv_code.specs.layout.FunctionLists.{code_limit}
+use Rattle.rv_code.specs.layout.FunctionLists.{address_end}
 use Rattle.addr_map.specs.declared.span.Span.{Span}
 use Rattle.addr_map.specs.MapText.{AreInLineOrder}
 use Rattle.addr_map.specs.Spans.{new}
 use Rattle.branch_fixup.specs.Forms.{AreForms, end_of}
 use Rattle.branch_fixup.specs.Strips.{Strip, spans_of}
-
--- The instructions that have a part of an address.
-
-abbrev pub IsAuipc : Inst → Type 0
-IsAuipc (Auipc rd imm) = Unit {0}
-IsAuipc _ = ⊥
-
-abbrev pub IsLui : Inst → Type 0
-IsLui (Lui rd imm) = Unit {0}
-IsLui _ = ⊥
-
--- one with an immediate of 12 bits that can be a lower part
-abbrev pub IsLower : Inst → Type 0
-IsLower (Addi rd rs1 imm) = Unit {0}
-IsLower (Jalr rd rs1 imm) = Unit {0}
-IsLower (Lb rd rs1 imm) = Unit {0}
-IsLower (Lh rd rs1 imm) = Unit {0}
-IsLower (Lw rd rs1 imm) = Unit {0}
-IsLower (Ld rd rs1 imm) = Unit {0}
-IsLower (Lbu rd rs1 imm) = Unit {0}
-IsLower (Lhu rd rs1 imm) = Unit {0}
-IsLower (Lwu rd rs1 imm) = Unit {0}
-IsLower (Sb rs1 rs2 imm) = Unit {0}
-IsLower (Sh rs1 rs2 imm) = Unit {0}
-IsLower (Sw rs1 rs2 imm) = Unit {0}
-IsLower (Sd rs1 rs2 imm) = Unit {0}
-IsLower _ = ⊥
+use Rattle.move_law.specs.AddressParts.{IsAuipc, IsLui, TakesLower}
 
 -- A role fits an instruction of so many bytes: it is of the kind that the role wants, and not compressed.
 -- The addresses of roles lie at most at the limit of code.
 abbrev pub FitsRole : Role → Inst → ℕ → Type 0
 FitsRole role.Plain inst bytes = Unit {0}
-FitsRole (role.CallHi target) inst bytes = IsAuipc inst × (bytes ≡ 4) × (target ≤ code_limit)
-FitsRole (role.CallLo hi target) inst bytes = IsLower inst × (bytes ≡ 4) × (target ≤ code_limit) × (hi ≤ code_limit)
-FitsRole (role.Hi target) inst bytes = IsAuipc inst × (bytes ≡ 4) × (target ≤ code_limit)
-FitsRole (role.Lo hi target) inst bytes = IsLower inst × (bytes ≡ 4) × (target ≤ code_limit) × (hi ≤ code_limit)
-FitsRole (role.AbsHi target) inst bytes = IsLui inst × (bytes ≡ 4) × (target ≤ code_limit)
-FitsRole (role.AbsLo target) inst bytes = IsLower inst × (bytes ≡ 4) × (target ≤ code_limit)
+FitsRole (role.CallHi target) inst bytes = IsAuipc inst × (bytes ≡ 4) × (target ≤ address_end)
+FitsRole (role.CallLo hi target) inst bytes = TakesLower inst × (bytes ≡ 4) × (target ≤ address_end) × (hi ≤ address_end)
+FitsRole (role.Hi target) inst bytes = IsAuipc inst × (bytes ≡ 4) × (target ≤ address_end)
+FitsRole (role.Lo hi target) inst bytes = TakesLower inst × (bytes ≡ 4) × (target ≤ address_end) × (hi ≤ address_end)
+FitsRole (role.AbsHi target) inst bytes = IsLui inst × (bytes ≡ 4) × (target ≤ address_end)
+FitsRole (role.AbsLo target) inst bytes = TakesLower inst × (bytes ≡ 4) × (target ≤ address_end)
 
 -- an instruction of RV64IMC, whose role fits it
 pub record CanMove (p : Placed) : Type 0 where
@@ -65,8 +38,8 @@ pub record CanMove (p : Placed) : Type 0 where
 
 -- Cells have four or eight bytes, and name addresses at most at the limit.
 abbrev pub IsLowKind : CellKind → Type 0
-IsLowKind (Abs to) = to ≤ code_limit
-IsLowKind (Diff to from) = (to ≤ code_limit) × (from ≤ code_limit)
+IsLowKind (Abs to) = to ≤ address_end
+IsLowKind (Diff to from) = (to ≤ address_end) × (from ≤ address_end)
 
 pub record IsLowCell (c : CodeCell) : Type 0 where
   pub width : (c.width ≡ 4) ⊎ (c.width ≡ 8)
@@ -78,7 +51,7 @@ pub record AreMapped (ss : List Strip) (fs : List Form) (base : ℕ) (map : List
   pub forms : AreForms ss base fs
   pub map_is : AreInLineOrder (spans_of ss base fs) map
   pub even : base % 2 ≡ 0
-  pub low : end_of ss base fs ≤ code_limit
+  pub low : end_of ss base fs ≤ address_end
 
 pub record HaveMap (ss : List Strip) (fs : List Form) (map : List Span) : Type 0 where
   pub base : ℕ

@@ -15,7 +15,7 @@ use Rattle.rv_code.specs.layout.Flow.{target_of}
 use Rattle.move_law.specs.RelocatedValues.{distance}
 use Rattle.move_law.specs.Faithful.{made_anew}
 use Rattle.branch_fixup.specs.Pieces.{Piece, length_of, bytes_of_size}
-use Rattle.branch_fixup.specs.Reach.{goal}
+use Rattle.branch_fixup.specs.Reach.{new_target}
 
 -- The same with another distance, where it has one.
 abbrev pub with_distance : Inst → ℤ → Inst
@@ -69,9 +69,9 @@ abbrev pub made : (ℕ → ℕ) → ℕ → Placed → Form → List Made
 made new a p form.Plain = record { inst = kept new a p; bytes = p.len } ∷ []
 made new a p form.Jump = record { inst = kept new a p; bytes = p.len } ∷ jump_to (new (p.addr + p.len)) (a + p.len) ∷ []
 made new a p (form.Branch inverted size jump) =
-    branch_to (if inverted then new (p.addr + p.len) else goal new p) p.inst inverted size a
+    branch_to (if inverted then new (p.addr + p.len) else new_target new p) p.inst inverted size a
     ++ added new p jump (a + bytes_of_size size)
-made new a p (form.Goto half) = record { inst = Jal 0 (distance (goal new p) a); bytes = if half then 2 else 4 } ∷ []
+made new a p (form.Goto half) = record { inst = Jal 0 (distance (new_target new p) a); bytes = if half then 2 else 4 } ∷ []
 made new a p form.Dropped = []
 
 -- what stands for pieces from a on

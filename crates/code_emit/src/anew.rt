@@ -4,7 +4,7 @@ ghost use Rattle.rv_code.specs.isa.HiLo.{hi20, lo12};
 ghost use Rattle.move_law.specs.RelocatedValues.{distance};
 ghost use Rattle.move_law.specs.Faithful.{with_immediate, made_anew};
 ghost use Rattle.code_emit.specs.Made.{with_distance, turned, kept};
-ghost use Rattle.branch_fixup.specs.Reach.{goal};
+ghost use Rattle.branch_fixup.specs.Reach.{new_target};
 ghost use Rattle.code_emit.specs.Inputs.{AreLow, HasLowTargets};
 ghost use Rattle.addr_map.specs.Spans.{new};
 
@@ -149,10 +149,10 @@ pub(crate) fn kept(moved: &AddrMap, a: u64, p: &Placed) -> Inst
 }
 
 /// Where its branch or JAL goes.
-pub fn goal(moved: &AddrMap, p: &Placed) -> u64
+pub fn new_target(moved: &AddrMap, p: &Placed) -> u64
     requires lows { AreLow moved.now }
     requires targets { HasLowTargets p.now }
-    ensures value { result ≡ goal (new moved.now) p.now }
+    ensures value { result ≡ new_target (new moved.now) p.now }
     ensures low { result < 2 ^ 62 }
 {
     match target(p.addr, &p.inst) {

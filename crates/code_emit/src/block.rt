@@ -5,7 +5,7 @@ ghost use Rattle.branch_fixup.specs.BlockInsts.{seen};
 ghost use Rattle.branch_fixup.specs.Pieces.{PlacedFrom, as_it_is, end_from};
 ghost use Rattle.branch_fixup.specs.Strips.{insts_in, pieces_of_strip};
 ghost use Rattle.code_emit.specs.Made.{made_from};
-ghost use Rattle.code_emit.specs.Bytes.{Adds, AllCanStand};
+ghost use Rattle.code_emit.specs.Bytes.{Adds, AllCanBeEncoded};
 ghost use Rattle.code_emit.specs.Inputs.{AreLow, HasLowTargets};
 
 use crate::piece::put_piece;
@@ -22,7 +22,7 @@ fn put_inner(
     insts: &[Placed],
 ) -> Result<u64, AllocError>
     requires placed { PlacedFrom (new moved.now) at (map as_it_is insts.now) }
-    requires can { AllCanStand (made_from (new moved.now) at (map as_it_is insts.now)) }
+    requires can { AllCanBeEncoded (made_from (new moved.now) at (map as_it_is insts.now)) }
     requires lows { AreLow moved.now }
     requires low { end_from at (map as_it_is insts.now) < 2 ^ 61 }
     requires targets { All HasLowTargets insts.now }
@@ -46,7 +46,7 @@ pub(crate) fn put_block(
     form: Form,
 ) -> Result<(), AllocError>
     requires placed { PlacedFrom (new moved.now) at (pieces_of_strip (seen block.now) form) }
-    requires can { AllCanStand (made_from (new moved.now) at (pieces_of_strip (seen block.now) form)) }
+    requires can { AllCanBeEncoded (made_from (new moved.now) at (pieces_of_strip (seen block.now) form)) }
     requires lows { AreLow moved.now }
     requires low { end_from at (pieces_of_strip (seen block.now) form) < 2 ^ 61 }
     requires targets { All HasLowTargets (insts_in (seen block.now)) }

@@ -2,12 +2,12 @@
 ghost use Rattle.std.specs.Prelude.{◌≡◌, ◌<◌, ◌+◌, ◌^◌, OnOk, [], ◌∷◌, if◌then◌else◌};
 ghost use Rattle.addr_map.specs.Spans.{new};
 ghost use Rattle.code_emit.specs.Made.{jump_to, branch_to, added, made};
-ghost use Rattle.branch_fixup.specs.Reach.{goal};
+ghost use Rattle.branch_fixup.specs.Reach.{new_target};
 ghost use Rattle.branch_fixup.specs.Pieces.{bytes_of_size};
-ghost use Rattle.code_emit.specs.Bytes.{Adds, AllCanStand, CanStand, width_of_bytes};
+ghost use Rattle.code_emit.specs.Bytes.{Adds, AllCanBeEncoded, CanBeEncoded, width_of_bytes};
 ghost use Rattle.code_emit.specs.Inputs.{AreLow, HasLowTargets};
 
-use crate::anew::{distance, goal, kept, new_of, turned, with_distance};
+use crate::anew::{distance, kept, new_of, new_target, turned, with_distance};
 use crate::code::push;
 use addr_map::AddrMap;
 use branch_fixup::lengths::bytes_of_size;
@@ -23,7 +23,7 @@ fn width_of(bytes: u8) -> Width
 // An instruction of two or four bytes.
 #[tactic(auto, using(crate::proofs::Coded::adds_as_long))]
 fn put(code: &mut Vec<u8>, inst: &Inst, bytes: u8) -> Result<(), AllocError>
-    requires { CanStand (record { inst = inst.now; bytes = bytes }) }
+    requires { CanBeEncoded (record { inst = inst.now; bytes = bytes }) }
     ensures ok { OnOk result (Adds code.old.items code.new.items (record { inst = inst.now; bytes = bytes } ∷ [])) }
 {
     push(code, inst, width_of(bytes))
@@ -31,7 +31,7 @@ fn put(code: &mut Vec<u8>, inst: &Inst, bytes: u8) -> Result<(), AllocError>
 
 // A `JAL x0` at `a`.
 fn put_jump(code: &mut Vec<u8>, to: u64, a: u64) -> Result<(), AllocError>
-    requires can { CanStand (jump_to to a) }
+    requires can { CanBeEncoded (jump_to to a) }
     requires to_low { to < 2 ^ 62 }
     requires low { a < 2 ^ 62 }
     ensures ok { OnOk result (Adds code.old.items code.new.items (jump_to to a ∷ [])) }
@@ -53,7 +53,7 @@ fn put_branch(
     size: Size,
     a: u64,
 ) -> Result<(), AllocError>
-    requires can { AllCanStand (branch_to to inst.now inverted size a) }
+    requires can { AllCanBeEncoded (branch_to to inst.now inverted size a) }
     requires to_low { to < 2 ^ 62 }
     requires low { a < 2 ^ 61 }
     ensures ok { OnOk result (Adds code.old.items code.new.items (branch_to to inst.now inverted size a)) }
@@ -81,12 +81,12 @@ fn branch_goal(moved: &AddrMap, p: &Placed, inverted: bool) -> u64
     requires lows { AreLow moved.now }
     requires targets { HasLowTargets p.now }
     ensures low { result < 2 ^ 62 }
-    ensures value { result ≡ (if inverted then new moved.now (p.now.addr + p.now.len) else goal (new moved.now) p.now) }
+    ensures value { result ≡ (if inverted then new moved.now (p.now.addr + p.now.len) else new_target (new moved.now) p.now) }
 {
     if inverted {
         new_of(moved, p.addr + p.len as u64)
     } else {
-        goal(moved, p)
+        new_target(moved, p)
     }
 }
 
@@ -99,7 +99,7 @@ fn put_added(
     jump: bool,
     a: u64,
 ) -> Result<(), AllocError>
-    requires can { AllCanStand (added (new moved.now) p.now jump a) }
+    requires can { AllCanBeEncoded (added (new moved.now) p.now jump a) }
     requires lows { AreLow moved.now }
     requires low { a < 2 ^ 62 }
     requires targets { HasLowTargets p.now }
@@ -121,7 +121,7 @@ fn put_whole_branch(
     jump: bool,
     a: u64,
 ) -> Result<(), AllocError>
-    requires can { AllCanStand (made (new moved.now) a p.now (Form.Branch inverted size jump)) }
+    requires can { AllCanBeEncoded (made (new moved.now) a p.now (Form.Branch inverted size jump)) }
     requires lows { AreLow moved.now }
     requires low { a < 2 ^ 61 }
     requires targets { HasLowTargets p.now }
@@ -149,7 +149,7 @@ pub(crate) fn put_piece(
     a: u64,
 ) -> Result<(), AllocError>
     requires here { a ≡ new moved.now p.now.addr }
-    requires can { AllCanStand (made (new moved.now) a p.now form) }
+    requires can { AllCanBeEncoded (made (new moved.now) a p.now form) }
     requires lows { AreLow moved.now }
     requires low { a < 2 ^ 61 }
     requires targets { HasLowTargets p.now }
@@ -169,7 +169,7 @@ pub(crate) fn put_piece(
         Form::Goto { half } => {
             let jump = Inst::Jal {
                 rd: 0,
-                imm: distance(goal(moved, p), a),
+                imm: distance(new_target(moved, p), a),
             };
             put(code, &jump, if half { 2 } else { 4 })
         }

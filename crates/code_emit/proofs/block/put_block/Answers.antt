@@ -8,7 +8,7 @@ use Rattle.branch_fixup.proofs.Appended.{inner_ends}
 use Rattle.branch_fixup.proofs.Bridge.{split_placed}
 use Rattle.branch_fixup.proofs.Holders.{last_there}
 use Rattle.branch_fixup.specs.Strips.{insts_in}
-use Rattle.code_emit.specs.Bytes.{AllCanStand}
+use Rattle.code_emit.specs.Bytes.{AllCanBeEncoded}
 use Rattle.code_emit.specs.Inputs.{HasLowTargets}
 use Rattle.code_emit.specs.Made.{made}
 use Rattle.code_emit.proofs.Parts.{front_can, last_can, one_more, inner_targets}
@@ -40,7 +40,7 @@ put_piece-requires-clause-here c =
 
 pub put_piece-requires-clause-can : goal.put_piece-requires-clause-can
 put_piece-requires-clause-can c =
-    subst (λ (n : ℕ). AllCanStand (made (new c.args.moved.now) n c.args.block.now.last c.args.form))
+    subst (λ (n : ℕ). AllCanBeEncoded (made (new c.args.moved.now) n c.args.block.now.last c.args.form))
     (sym c.in_ok-last_at.ensures.end)
     (last_can (new c.args.moved.now) c.args.at (seen c.args.block.now) c.args.form c.requires.can)
 

@@ -3,7 +3,7 @@ use Rattle.rv_code.specs.declared.layout.Form.TheVariants as form
 use Rattle.addr_map.specs.Spans.{new}
 use Rattle.branch_fixup.proofs.Appended.{no_inst, end_more, end_part}
 use Rattle.code_emit.specs.Made.{made}
-use Rattle.code_emit.specs.Bytes.{AllCanStand}
+use Rattle.code_emit.specs.Bytes.{AllCanBeEncoded}
 use Rattle.code_emit.proofs.Parts.{inner_at, inner_can, inner_more}
 use Rattle.code_emit.proofs.block.put_inner.Goals as goal
 
@@ -15,7 +15,7 @@ put_piece-requires-clause-here c =
 
 pub put_piece-requires-clause-can : goal.put_piece-requires-clause-can
 put_piece-requires-clause-can c =
-    subst (λ (n : ℕ). AllCanStand
+    subst (λ (n : ℕ). AllCanBeEncoded
     (made (new c.args.moved.now) n (get_or c.args.insts.now c.loop-inst.inst-index no_inst) form.Plain))
     (sym c.loop-inst.invariant.1)
     (inner_can (new c.args.moved.now) c.args.at c.args.insts.now c.loop-inst.inst-index no_inst (omega arith) c.requires.can)
