@@ -13,6 +13,7 @@ use Rattle.elf_write.specs.Source.{Source, IsPlaced}
 use Rattle.elf_write.specs.Written.{AreApart, CanHold, IsWritten}
 use Rattle.elf_write.proofs.ImageWritten.{image-is}
 use Rattle.elf_write.proofs.FromMade.{written}
+use Rattle.elf_write.proofs.FrontWritten.{front-written}
 use Rattle.elf_write.proofs.SoundFiles.{load_once, code-there, code-load}
 use Rattle.elf_write.proofs.Tightness.{is-tight, starts-above}
 
@@ -38,7 +39,7 @@ module _ (s : Source) (above : Bool) (w : List ℕ) (read : IsElfOf s.elf.file.n
       let same : above ≡ tight = is ∙ is-tight s higher tight placed in
       let made_so : IsMade s tight w = subst (λ (t : Bool). IsMade s t w) same made in
       written s tight w read sound can apart made_so placed sound_w
-      (image-is s tight w read sound bytes made_so (load_once w sound_w))
+      (image-is s tight w read sound bytes made_so (load_once w sound_w)) (front-written s tight w read sound bytes can made_so)
 
   -- the area stands where the map says
   pub placed-there : above ≡ is_none (owner s.spans (area_start s.elf.segments.items)) → (tight : Bool) →

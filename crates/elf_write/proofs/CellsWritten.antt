@@ -20,7 +20,8 @@ use Rattle.elf_parts.specs.Spelled.{segment_table}
 use Rattle.elf_parts.proofs.Spelled.{length-segment_table}
 use Rattle.elf_write.specs.Area.{moved_by, loads_end}
 use Rattle.elf_write.specs.CellNumbers.{IsCellNumber}
-use Rattle.elf_write.specs.Made.{IsMade, is_kept_table}
+use Rattle.elf_write.specs.FileLayout.{is_kept_table}
+use Rattle.elf_write.specs.Made.{IsMade}
 use Rattle.elf_write.specs.Room.{greatest_align}
 use Rattle.elf_write.specs.Source.{Source}
 use Rattle.elf_write.specs.Written.{CanHold, AreApart, memory_of}

@@ -24,11 +24,12 @@ use Rattle.elf_parts.specs.Spelled.{segment_table}
 use Rattle.elf_parts.proofs.Patches.{stands-front, stands-put_all}
 use Rattle.elf_parts.proofs.Spelled.{length-segment_table}
 use Rattle.elf_write.specs.declared.area.Area.{Area}
-use Rattle.elf_write.specs.Area.{moved_by, offset_in, table_end, table_start}
+use Rattle.elf_write.specs.Area.{moved_by, area_offset, table_end, table_start}
 use Rattle.elf_write.specs.AreaTables.{AreaStands, HasTables}
 use Rattle.elf_write.specs.Carried.{HoldsBytes}
 use Rattle.elf_write.specs.CellNumbers.{IsCellNumber}
-use Rattle.elf_write.specs.Made.{IsMade, is_kept_table, table_of}
+use Rattle.elf_write.specs.FileLayout.{is_kept_table, table_of}
+use Rattle.elf_write.specs.Made.{IsMade}
 use Rattle.elf_write.specs.NewSections.{bytes_called}
 use Rattle.elf_write.specs.Source.{Source, IsPlaced, source_area}
 use Rattle.elf_write.proofs.CodeMemory.{table_end-above}
@@ -78,10 +79,10 @@ module _ (s : Source) (tight : Bool) (w : List ℕ) (read : IsElfOf s.elf.file.n
   size = length made.layout.bytes.items
 
   -- where it stands in the file
-  area-place : area_at ≡ offset_in area area.start
+  area-place : area_at ≡ area_offset area area.start
   area-place = cases tight refl
     where
-      cases : (b : Bool) → tight ≡ b → area_at ≡ offset_in area area.start
+      cases : (b : Bool) → tight ≡ b → area_at ≡ area_offset area area.start
       cases true e = (made.laid_out.above (tight-is s tight w read sound made ∙ e)).place
       cases false e = (made.laid_out.behind (tight-is s tight w read sound made ∙ e)).place
 
@@ -238,11 +239,11 @@ module _ (s : Source) (tight : Bool) (w : List ℕ) (read : IsElfOf s.elf.file.n
 
   -- what stands among its bytes
   part-stands : (a : ℕ) (part : List ℕ) → area.start ≤ a → Stands made.layout.bytes.items (a - area.start) part →
-      Stands w (offset_in area a) part
+      Stands w (area_offset area a) part
   part-stands a part from inner =
       let place = area-place in
       let low = starts in
-      let here : area_at + (a - area.start) ≡ offset_in area a = omega (arith, place, low, from) in
+      let here : area_at + (a - area.start) ≡ area_offset area a = omega (arith, place, low, from) in
       subst (λ (o : ℕ). Stands w o part) here
       (stands-part w area_at (a - area.start) made.layout.bytes.items part area-stands inner)
 
@@ -271,7 +272,7 @@ module _ (s : Source) (tight : Bool) (w : List ℕ) (read : IsElfOf s.elf.file.n
 
   table-stands : (place : Option ℕ) (table : List ℕ) → IfSome place (λ a. area.start ≤ a) →
       IfSome place (λ a. Stands made.layout.bytes.items (a - area.start) table) →
-      IfSome place (λ a. Stands w (offset_in area a) table)
+      IfSome place (λ a. Stands w (area_offset area a) table)
   table-stands None table low stands = tt
   table-stands (Some a) table low stands = part-stands a table low stands
 

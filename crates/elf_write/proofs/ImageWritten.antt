@@ -29,7 +29,8 @@ use Rattle.elf_parts.specs.Spelled.{segment_table}
 use Rattle.elf_write.specs.Area.{moved_by, loads_end}
 use Rattle.elf_write.specs.Carried.{CarriesImage}
 use Rattle.elf_write.specs.CellNumbers.{IsCellNumber}
-use Rattle.elf_write.specs.Made.{IsMade, is_kept_table, number, header_numbers}
+use Rattle.elf_write.specs.FileLayout.{is_kept_table}
+use Rattle.elf_write.specs.Made.{IsMade, number, header_numbers}
 use Rattle.elf_write.specs.NewSegments.{IsNewLoad, AreRenewed, grows_at}
 use Rattle.elf_write.specs.Room.{greatest_align}
 use Rattle.elf_write.specs.Source.{Source, is_changed}
@@ -48,10 +49,10 @@ use Rattle.elf_write.proofs.Loads.{moved-before}
 use Rattle.elf_write.proofs.MadeSegments.{new-loads}
 use Rattle.elf_write.proofs.SameBreak.{rounded_up-above, align-above}
 use Rattle.elf_write.proofs.SoundFiles.{table_crosses_not}
-use Rattle.elf_write.proofs.WrittenImages.{PartsFit, AreNewLoads, image-written}
+use Rattle.elf_write.proofs.WrittenImages.{FitSegments, AreNewLoads, image-written}
 
 -- one more of which it holds
-all-more : {X : Type 0} (P : X → Type 0) (x : X) (xs : List X) → P x → All P xs → All P (x ∷ xs)
+pub all-more : {X : Type 0} (P : X → Type 0) (x : X) (xs : List X) → P x → All P xs → All P (x ∷ xs)
 all-more P x xs first rest zero d below = first
 all-more P x xs first rest (suc k) d below = rest k d (omega arith)
 
@@ -83,14 +84,14 @@ module _ (s : Source) (tight : Bool) (w : List ℕ) (read : IsElfOf s.elf.file.n
   abbrev step : ℕ
   step = made.layout.shift.by
 
-  abbrev patches : List Patch
+  abbrev pub patches : List Patch
   patches = map patch_of made.cells ++ headers s tight w made
 
   -- The input's bytes lie in the parts.
-  pub parts-fit : PartsFit parts ps keep step
+  pub parts-fit : FitSegments parts ps keep step
   parts-fit = cases tight refl
     where
-      cases : (b : Bool) → tight ≡ b → PartsFit parts ps keep step
+      cases : (b : Bool) → tight ≡ b → FitSegments parts ps keep step
       cases true e = fit-above ps made.layout.area parts step (made.laid_out.above (tight-is s tight w read sound made ∙ e))
       cases false e = parts-behind s tight w read sound made e
 
@@ -118,11 +119,11 @@ module _ (s : Source) (tight : Bool) (w : List ℕ) (read : IsElfOf s.elf.file.n
         },
       )
 
-  written-all : w ≡ put_all (joined s tight w made) patches
+  pub written-all : w ≡ put_all (joined s tight w made) patches
   written-all = written-is s tight w made
       ∙ sym (fold-append put_patch (joined s tight w made) (map patch_of made.cells) (headers s tight w made))
 
-  within-all : All (IsWithin (length (joined s tight w made))) patches
+  pub within-all : All (IsWithin (length (joined s tight w made))) patches
   within-all =
       All-append (IsWithin (length (joined s tight w made))) (map patch_of made.cells) (headers s tight w made)
       (cells-within s tight w made)

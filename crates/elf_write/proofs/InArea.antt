@@ -6,13 +6,13 @@ use Rattle.elf_image.specs.declared.section.TheConstants.{SHT_NOBITS}
 use Rattle.elf_parts.specs.Patches.{Stands}
 use Rattle.elf_parts.proofs.Patches.{take-stands}
 use Rattle.elf_write.specs.declared.area.Area.{Area}
-use Rattle.elf_write.specs.Area.{offset_in}
+use Rattle.elf_write.specs.Area.{area_offset}
 use Rattle.elf_write.specs.Contents.{section_bytes}
 use Rattle.elf_write.specs.NewSections.{IsHeader, IsInArea}
 
 pub in_area : (w : List ℕ) (area : Area) (name bytes : List ℕ) (flags addr align : ℕ) (n : Section) →
-    IsHeader name flags addr align n → n.offset ≡ offset_in area addr → n.size ≡ length bytes →
-    Stands w (offset_in area addr) bytes → IsInArea w area name bytes flags addr align n
+    IsHeader name flags addr align n → n.offset ≡ area_offset area addr → n.size ≡ length bytes →
+    Stands w (area_offset area addr) bytes → IsInArea w area name bytes flags addr align n
 in_area w area name bytes flags addr align n header offset size stands = record {
   added = record { header = header; holds = holds; size = size };
   offset = offset;
@@ -23,4 +23,4 @@ in_area w area name bytes flags addr align n header offset size stands = record 
         ap (λ (k : ℕ). if k == SHT_NOBITS then [] else take n.size (drop n.offset w)) header.kind
         ∙ ap (λ (m : ℕ). take m (drop n.offset w)) size
         ∙ ap (λ (o : ℕ). take (length bytes) (drop o w)) offset
-        ∙ take-stands w (offset_in area addr) bytes stands
+        ∙ take-stands w (area_offset area addr) bytes stands

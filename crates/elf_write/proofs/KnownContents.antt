@@ -21,7 +21,7 @@ position_or_len-map p f (x ∷ xs) = ap (λ (n : ℕ). step (not (p (f x))) n) (
     step : Bool → ℕ → ℕ
     step b n = cond b (1 + n) 0
 
-length-map_same : {A B : Type 0} (f : A → B) (xs : List A) → length (map f xs) ≡ length xs
+pub length-map_same : {A B : Type 0} (f : A → B) (xs : List A) → length (map f xs) ≡ length xs
 length-map_same f [] = refl
 length-map_same f (x ∷ xs) = ap suc (length-map_same f xs)
 

@@ -6,7 +6,7 @@ use Rattle.std.proofs.lemmas.Option.{same_Some}
 use Rattle.elf_image.specs.declared.segment.Segment.{Segment}
 use Rattle.elf_image.specs.memory.Image.{is_load}
 use Rattle.elf_parts.specs.declared.parts.Parts.{Parts}
-use Rattle.elf_parts.specs.Parts.{CanStand, size_of}
+use Rattle.elf_parts.specs.Parts.{PartsFit, size_of}
 use Rattle.elf_write.specs.declared.area.Area.{Area}
 use Rattle.elf_write.specs.declared.area.Shift.{Shift}
 use Rattle.elf_write.specs.Area.{loads_end, lowest_behind, moved_by}
@@ -14,11 +14,11 @@ use Rattle.elf_write.specs.NewSegments.{CrossesNot}
 use Rattle.elf_write.specs.Placing.{IsAbove, IsBehind, MovesFrom}
 use Rattle.elf_write.proofs.FileEnds.{ends-below, begins-behind}
 use Rattle.elf_write.proofs.Loads.{moved-behind, moved-before}
-use Rattle.elf_write.proofs.WrittenImages.{PartsFit}
+use Rattle.elf_write.proofs.WrittenImages.{FitSegments}
 
 -- In a file with a new segment all stay.
 pub fit-above : (ps : List Segment) (area : Area) (parts : Parts) (delta : ℕ) → IsAbove ps area parts →
-    PartsFit parts ps parts.keep delta
+    FitSegments parts ps parts.keep delta
 fit-above ps area parts delta above = record {
   enough = omega arith;
   moved = λ some. let low : parts.low ≡ 0 = above.low in let high : parts.high ≡ 0 = above.high in absurd (omega arith);
@@ -37,7 +37,7 @@ fit-above ps area parts delta above = record {
 -- In any other those behind the executable segment move.
 pub fit-behind : (ps : List Segment) (area : Area) (shift : Shift) (parts : Parts) →
     ((p : Segment) → Contains ps p → CrossesNot shift.from p) → IsBehind ps area shift parts →
-    PartsFit parts ps parts.keep shift.by
+    FitSegments parts ps parts.keep shift.by
 fit-behind ps area shift parts apart behind = made (lowest_behind shift.from ps) refl behind.moves
   where
     keeps : parts.keep ≡ shift.from
@@ -49,7 +49,7 @@ fit-behind ps area shift parts apart behind = made (lowest_behind shift.from ps)
         let end = within (omega arith) in omega arith
 
     made : (o : Option ℕ) → lowest_behind shift.from ps ≡ o → MovesFrom o ps area shift parts →
-        PartsFit parts ps parts.keep shift.by
+        FitSegments parts ps parts.keep shift.by
     made None e moves = record {
       enough = omega arith;
       moved = λ some. let low : parts.low ≡ 0 = moves.0 in let high : parts.high ≡ 0 = moves.1 in absurd (omega arith);
@@ -76,8 +76,8 @@ fit-behind ps area shift parts apart behind = made (lowest_behind shift.from ps)
             (omega arith, omega arith)
 
 -- A stretch of a segment's bytes stands beside the area, before the tail.
-module _ (parts : Parts) (ps : List Segment) (delta input area : ℕ) (fit : PartsFit parts ps parts.keep delta)
-    (can : CanStand parts input area) where
+module _ (parts : Parts) (ps : List Segment) (delta input area : ℕ) (fit : FitSegments parts ps parts.keep delta)
+    (can : PartsFit parts input area) where
   front : parts.keep ≤ parts.area_at
   front = can.apart
 

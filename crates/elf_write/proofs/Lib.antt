@@ -8,10 +8,14 @@ pub mod CodeWritten
 pub mod EntryWritten
 pub mod Extended
 pub mod FileEnds
+pub mod FirstHomes
 pub mod FirstNames
+pub mod FirstRange
 pub mod FreeRange
 pub mod FromMade
+pub mod FrontWritten
 pub mod Growing
+mod HeaderExamples
 pub mod HeldNumbers
 pub mod HiddenBytes
 pub mod ImageWritten
@@ -22,6 +26,7 @@ pub mod KnownContents
 pub mod LaidOut
 pub mod LeftBytes
 pub mod LoadedNumbers
+pub mod LoadedRanges
 pub mod Loads
 pub mod MadeHeaders
 pub mod MadeInput
@@ -30,9 +35,12 @@ pub mod NewSegments
 pub mod Pairs
 pub mod PlacesWritten
 pub mod Positions
+pub mod ReadHeaders
 pub mod RunLists
 pub mod SameBreak
+pub mod SectionOrder
 pub mod SoundFiles
+pub mod StandingContents
 pub mod TableBytes
 pub mod TableKept
 pub mod Tightness

@@ -21,7 +21,7 @@ use Rattle.elf_write.proofs.CellPlaces.{FileOnce}
 use Rattle.elf_write.proofs.LaidOut.{fit-behind}
 use Rattle.elf_write.proofs.Loads.{moved-behind, moved-before}
 use Rattle.elf_write.proofs.SoundFiles.{load_once, alone, code-at, code-below, crosses_not}
-use Rattle.elf_write.proofs.WrittenImages.{PartsFit}
+use Rattle.elf_write.proofs.WrittenImages.{FitSegments}
 
 -- nothing moves to the front
 pub moved-above : (file_end step o : ℕ) → o ≤ moved_by file_end step o
@@ -99,7 +99,7 @@ module _ (s : Source) (tight : Bool) (w : List ℕ) (read : IsElfOf s.elf.file.n
       (subst (λ (e : ℕ). p.offset < e) from-is before))
 
   -- Behind the executable segment, in the file, the parts follow its end.
-  pub parts-behind : tight ≡ false → PartsFit made.layout.parts ps made.layout.parts.keep made.layout.shift.by
+  pub parts-behind : tight ≡ false → FitSegments made.layout.parts ps made.layout.parts.keep made.layout.shift.by
   parts-behind e =
       fit-behind ps made.layout.area made.layout.shift made.layout.parts crosses (made.laid_out.behind (tight-is ∙ e))
 

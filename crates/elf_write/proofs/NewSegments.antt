@@ -225,6 +225,13 @@ take-more-at ps n i d below = get_or-take n ps i d below
 pub AreRenewed-none : (file_end step end : ℕ) (tight : Bool) (grows : ℕ → Bool) → AreRenewed file_end step end tight grows [] []
 AreRenewed-none file_end step end tight grows = record { count = refl; each = λ i d e below. absurd (omega arith) }
 
+-- as many as of the input
+pub taken-count : (file_end step end : ℕ) (tight : Bool) (grows : ℕ → Bool) (ps qs : List Segment) (n : ℕ) → n < length ps →
+    AreRenewed file_end step end tight grows (take n ps) qs → length qs ≡ n
+taken-count file_end step end tight grows ps qs n below are =
+    let c : length qs ≡ length (take n ps) = are.count in
+    let t : length (take n ps) ≡ n = grind (arith, common_steps) in omega arith
+
 pub AreRenewed-more : (file_end step end : ℕ) (tight : Bool) (grows : ℕ → Bool) (ps qs : List Segment) (n : ℕ) (q : Segment) →
     n < length ps → AreRenewed file_end step end tight grows (take n ps) qs →
     ((d : Segment) → IsRenewed file_end step end tight (grows n) (get_or ps n d) q) →
@@ -235,9 +242,7 @@ AreRenewed-more file_end step end tight grows ps qs n q below are here = record 
 }
   where
     long : length qs ≡ n
-    long =
-        let c : length qs ≡ length (take n ps) = are.count in
-        let t : length (take n ps) ≡ n = grind (arith, common_steps) in omega arith
+    long = taken-count file_end step end tight grows ps qs n below are
 
     more : length (take (n + 1) ps) ≡ n + 1
     more = grind (arith, common_steps)

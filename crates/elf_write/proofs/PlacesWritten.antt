@@ -18,8 +18,9 @@ use Rattle.elf_image.specs.memory.Start.{table_address, break_start, break_bound
 use Rattle.elf_image.proofs.ReadLists.{length-segments_of}
 use Rattle.elf_parts.specs.Parts.{size_of}
 use Rattle.elf_write.specs.declared.area.Area.{Area}
-use Rattle.elf_write.specs.Area.{code_file_end, file_end_of, lowest_behind, moved_by, offset_in}
-use Rattle.elf_write.specs.Made.{IsMade, is_kept_table, table_of}
+use Rattle.elf_write.specs.Area.{code_file_end, file_end_of, lowest_behind, moved_by, area_offset}
+use Rattle.elf_write.specs.FileLayout.{is_kept_table, table_of}
+use Rattle.elf_write.specs.Made.{IsMade}
 use Rattle.elf_write.specs.NewSegments.{IsRenewed, CrossesNot, grows_at}
 use Rattle.elf_write.specs.Placing.{MovesFrom}
 use Rattle.elf_write.specs.Room.{greatest_align}
@@ -83,7 +84,7 @@ module _ (s : Source) (tight : Bool) (w : List ℕ) (read : IsElfOf s.elf.file.n
 
     -- the area in the file
     abbrev area_end : ℕ
-    area_end = offset_in area area.end
+    area_end = area_offset area area.end
 
     abbrev from : ℕ
     from = made.layout.shift.from

@@ -9,7 +9,7 @@ use Rattle.elf_parts.specs.declared.parts.Parts.{Parts}
 use Rattle.elf_write.specs.Carried.{CarriesImage}
 use Rattle.elf_write.specs.Area.{moved_by}
 use Rattle.elf_write.specs.NewSegments.{IsNewLoad, CrossesNot}
-use Rattle.elf_parts.specs.Parts.{CanStand, HasParts}
+use Rattle.elf_parts.specs.Parts.{PartsFit, HasParts}
 use Rattle.elf_parts.specs.Patches.{Patch, put_all, IsWithin, Leaves}
 use Rattle.elf_write.proofs.Images.{image-carried}
 use Rattle.elf_parts.proofs.JoinedParts.{front-byte, behind-byte}
@@ -18,7 +18,7 @@ use Rattle.elf_parts.proofs.SameBytes.{get_or-put_all_leaves}
 
 -- All that the input loads is in the parts: what lies before the executable segment's end in the front, and the rest between
 -- low and high.
-pub record PartsFit (parts : Parts) (ps : List Segment) (file_end delta : ℕ) : Type 0 where
+pub record FitSegments (parts : Parts) (ps : List Segment) (file_end delta : ℕ) : Type 0 where
   pub enough : file_end ≤ parts.keep
   pub moved : parts.low < parts.high → parts.low + delta ≡ parts.behind_at
   pub apart : (p : Segment) → Contains ps p → IsTrue (is_load p) → CrossesNot file_end p
@@ -37,8 +37,8 @@ LeavesUnchanged input ps file_end delta changed patches =
     IsFalse (changed (p.vaddr + (k - p.offset))) → All (Leaves (moved_by file_end delta k) (get_or input k 0)) patches
 
 pub image-written : (input area tail base : List ℕ) (patches : List Patch) (parts : Parts) (ps qs : List Segment)
-    (file_end delta : ℕ) (changed : ℕ → Bool) → CanStand parts (length input) (length area) → HasParts parts input area base →
-    PartsFit parts ps file_end delta → AreNewLoads file_end delta ps qs → LoadOnce qs →
+    (file_end delta : ℕ) (changed : ℕ → Bool) → PartsFit parts (length input) (length area) → HasParts parts input area base →
+    FitSegments parts ps file_end delta → AreNewLoads file_end delta ps qs → LoadOnce qs →
     All (IsWithin (length (base ++ tail))) patches → LeavesUnchanged input ps file_end delta changed patches →
     CarriesImage input (put_all (base ++ tail) patches) changed ps qs
 image-written input area tail base patches parts ps qs file_end delta changed can has fit new once within leaves =

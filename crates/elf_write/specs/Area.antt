@@ -84,8 +84,8 @@ area_of segments tight code frames index =
     }
 
 -- where an address of the area is in the written file
-abbrev pub offset_in : Area → ℕ → ℕ
-offset_in area a = area.offset + (a - area.address)
+abbrev pub area_offset : Area → ℕ → ℕ
+area_offset area a = area.offset + (a - area.address)
 
 -- Where loaded bytes of the input are.
 
@@ -95,7 +95,7 @@ abbrev pub step_of : List Segment → Area → ℕ
 step_of segments area =
     if area.tight
     then 0
-    else option_map_or (λ low. rounded_up (greatest_align segments) (offset_in area area.end - low))
+    else option_map_or (λ low. rounded_up (greatest_align segments) (area_offset area area.end - low))
     (lowest_behind (code_file_end segments) segments) 0
 
 abbrev pub shift_of : List Segment → Area → Shift

@@ -3,7 +3,7 @@ use Rattle.std.specs.Prelude.{ℕ, ◌-◌, List, Bool, IfSome, String, Vec, cod
 use Rattle.elf_parts.specs.Patches.{Stands}
 use Rattle.elf_write.specs.declared.area.Area.{Area}
 use Rattle.elf_write.specs.declared.layout.Layout.{Layout}
-use Rattle.elf_write.specs.Area.{offset_in}
+use Rattle.elf_write.specs.Area.{area_offset}
 use Rattle.elf_write.specs.Made.{IsMade}
 use Rattle.elf_write.specs.NewSections.{bytes_called}
 use Rattle.elf_write.specs.Source.{Source}
@@ -22,6 +22,6 @@ pub record IsMadeWith {Y Z : Type 0} (s : Source) (tables : List (String Y × Ve
 
 -- All of an area stands in a file.
 pub record AreaStands {Y Z : Type 0} (area : Area) (tables : List (String Y × Vec ℕ Z)) (code w : List ℕ) : Type 0 where
-  pub text : Stands w (offset_in area area.start) code
-  pub frames : IfSome area.frames (λ a. Stands w (offset_in area a) (bytes_called tables (codes ".eh_frame")))
-  pub index : IfSome area.index (λ a. Stands w (offset_in area a) (bytes_called tables (codes ".eh_frame_hdr")))
+  pub text : Stands w (area_offset area area.start) code
+  pub frames : IfSome area.frames (λ a. Stands w (area_offset area a) (bytes_called tables (codes ".eh_frame")))
+  pub index : IfSome area.index (λ a. Stands w (area_offset area a) (bytes_called tables (codes ".eh_frame_hdr")))

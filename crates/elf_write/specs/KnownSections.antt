@@ -17,6 +17,7 @@ pub record IsOwnOf (elf : Elf) (own : OwnSections) : Type 0 where
 
 pub record Knows {Y Z : Type 0} (elf : Elf) (tables : List (String Y × Vec ℕ Z)) (area : Area) (shift : Shift)
     (known : Sections) : Type 0 where
+  pub elf_is : known.elf.now ≡ elf
   pub own : IsOwnOf elf known.own
   pub replaced : known.replaced.now ≡ map (λ t. place_replaced elf.sections.items (string_bytes t.0)) tables
   pub kept : Keeps elf.segments.items area shift known.kept.now

@@ -1,17 +1,14 @@
 -- What a written file is made of.
-use Rattle.std.specs.Prelude.{◌≡◌, ℕ, ◌+◌, ◌*◌, ◌≤◌, ◌||◌, nat_lt, Bool, true, false, List, [], ◌∷◌, Option, Some, All, length}
-use Rattle.std.specs.List.{list_any}
+use Rattle.std.specs.Prelude.{◌≡◌, ℕ, ◌+◌, ◌≤◌, Bool, true, false, List, [], ◌∷◌, Option, Some, All, length}
 use Rattle.elf_image.specs.declared.elf.Elf.{Elf}
 use Rattle.elf_image.specs.declared.segment.Segment.{Segment}
-use Rattle.elf_image.specs.declared.segment.TheConstants.{PHDR_SIZE}
 use Rattle.elf_image.specs.file.Header.{e_shstrndx}
 use Rattle.elf_image.specs.memory.CodeSegment.{executable_segment}
-use Rattle.elf_image.specs.memory.LoadedBytes.{Range, loads_range}
 use Rattle.addr_map.specs.Spans.{moved}
 use Rattle.elf_parts.specs.declared.number_at.NumberAt.{NumberAt}
 use Rattle.elf_parts.specs.Assembled.{IsAssembled}
 use Rattle.elf_parts.specs.Numbers.{CanPut}
-use Rattle.elf_parts.specs.Parts.{CanStand, size_of}
+use Rattle.elf_parts.specs.Parts.{PartsFit, size_of}
 use Rattle.elf_parts.specs.Patches.{Stands}
 use Rattle.elf_parts.specs.Spelled.{SegmentFits, segment_table}
 use Rattle.elf_write.specs.declared.area.Area.{Area}
@@ -20,6 +17,7 @@ use Rattle.elf_write.specs.declared.header_fields.HeaderFields.{HeaderFields}
 use Rattle.elf_write.specs.declared.layout.Layout.{Layout}
 use Rattle.elf_write.specs.Area.{area_of, shift_of, moved_by}
 use Rattle.elf_write.specs.CellNumbers.{AreCellNumbers}
+use Rattle.elf_write.specs.FileLayout.{is_kept_table}
 use Rattle.elf_write.specs.NewSegments.{AreNewHeaders}
 use Rattle.elf_write.specs.Placing.{IsAbove, IsBehind}
 use Rattle.elf_write.specs.Source.{Source}
@@ -31,20 +29,12 @@ pub record IsLaidOut (elf : Elf) (tight : Bool) (code : List ℕ) (frames index 
   pub area : layout.area ≡ area_of elf.segments.items tight (length code) frames index
   pub shift : layout.shift ≡ shift_of elf.segments.items layout.area
   pub starts_with : Stands layout.bytes.items 0 code
-  pub can : CanStand layout.parts (length elf.file.now) (length layout.bytes.items)
+  pub can : PartsFit layout.parts (length elf.file.now) (length layout.bytes.items)
   pub header : 64 ≤ layout.parts.keep
   pub above : layout.area.tight ≡ true → IsAbove elf.segments.items layout.area layout.parts
   pub behind : layout.area.tight ≡ false → IsBehind elf.segments.items layout.area layout.shift layout.parts
 
--- The table of program headers in the input, and whether it stands among bytes that are kept or move:
--- before the end of the executable segment, or whole in a loaded one.
-abbrev pub table_of : Elf → Range
-table_of elf = record { start = elf.phoff; size = PHDR_SIZE * length elf.segments.items }
-
-abbrev pub is_kept_table : Elf → Shift → Bool
-is_kept_table elf shift = nat_lt elf.phoff shift.from || list_any (loads_range (table_of elf)) elf.segments.items
-
--- Where it stands in the written file, whose tail begins at a base.
+-- Where the table of program headers stands in the written file, whose tail begins at a base.
 pub record IsTablePlace (elf : Elf) (area : Area) (shift : Shift) (base at : ℕ) : Type 0 where
   pub header : 64 ≤ at
   pub above : area.tight ≡ true → at ≡ area.offset

@@ -1,6 +1,6 @@
 -- The sections of a written file, beside those of its input. gABI, "Section Header".
 use Rattle.std.specs.Prelude.{◌≡◌, ℕ, ◌+◌, ◌-◌, ◌%◌, ◌==◌, ◌&&◌, is_none, is_some, min, max, if◌then◌else◌, Bool, List, []}
-use Rattle.std.specs.Prelude.{Some, IfSome, IsTrue, String, Vec, string_bytes, codes, find, length, slice_get}
+use Rattle.std.specs.Prelude.{Some, IfSome, IsTrue, String, Vec, string_bytes, codes, find, length, slice_get, take}
 use Rattle.std.specs.Option.{option_map_or}
 use Rattle.std.specs.Str.{bytes_eq}
 use Rattle.elf_image.specs.declared.elf.Elf.{Elf}
@@ -16,7 +16,7 @@ use Rattle.elf_write.specs.declared.headers.TheConstants.{SHT_NULL}
 use Rattle.elf_write.specs.declared.sections.Contents.{Contents}
 use Rattle.elf_write.specs.declared.sections.Contents.TheVariants.{Dropped, Kept, Copied, SectionNames, Symbols, SymbolNames}
 use Rattle.elf_write.specs.declared.sections.Contents.TheVariants.{Given}
-use Rattle.elf_write.specs.Area.{moved_by, offset_in}
+use Rattle.elf_write.specs.Area.{moved_by, area_offset}
 use Rattle.elf_write.specs.Contents.{contents_of, section_bytes}
 use Rattle.elf_write.specs.OldNames.{new_name}
 
@@ -58,7 +58,7 @@ pub record IsKept (shift : Shift) (w : List ℕ) (s n : Section) : Type 0 where
   pub size : n.size ≡ s.size
 
 -- They are written with new contents, or with those that they had.
-pub record IsRewritten (w bytes : List ℕ) (kind : ℕ) (s n : Section) : Type 0 where
+pub record HasNewContents (w bytes : List ℕ) (kind : ℕ) (s n : Section) : Type 0 where
   pub kind_is : n.kind ≡ kind
   pub same : SameFlags s n
   pub contents : HoldsContents w bytes n
@@ -75,6 +75,12 @@ pub record IsOwn (s n : Section) : Type 0 where
   pub flags : n.flags ≡ without_code s.flags
   pub aligned : IsAligned n
 
+-- A table of names begins with the names that it had.
+pub record IsNameTable (file w : List ℕ) (s n : Section) : Type 0 where
+  pub own : IsOwn s n
+  pub info : n.info ≡ s.info
+  pub begins : take (length (section_bytes file s)) (section_bytes w n) ≡ section_bytes file s
+
 abbrev pub kind_of_given : ℕ → ℕ
 kind_of_given kind = if kind == SHT_NOBITS then SHT_PROGBITS else kind
 
@@ -86,11 +92,11 @@ given_bytes tables t = option_map_or (λ table. table.1.items) (slice_get tables
 abbrev pub Follows : {Y Z : Type 0} → List (String Y × Vec ℕ Z) → Shift → List ℕ → List ℕ → Contents → Section → Section → Type 0
 Follows tables shift file w Dropped s n = IsDropped s n
 Follows tables shift file w Kept s n = IsKept shift w s n
-Follows tables shift file w Copied s n = IsRewritten w (section_bytes file s) s.kind s n
-Follows tables shift file w SectionNames s n = IsOwn s n × (n.info ≡ s.info)
+Follows tables shift file w Copied s n = HasNewContents w (section_bytes file s) s.kind s n
+Follows tables shift file w SectionNames s n = IsNameTable file w s n
 Follows tables shift file w Symbols s n = IsOwn s n
-Follows tables shift file w SymbolNames s n = IsOwn s n × (n.info ≡ s.info)
-Follows tables shift file w (Given t) s n = IsRewritten w (given_bytes tables t) (kind_of_given s.kind) s n
+Follows tables shift file w SymbolNames s n = IsNameTable file w s n
+Follows tables shift file w (Given t) s n = HasNewContents w (given_bytes tables t) (kind_of_given s.kind) s n
 
 -- Sections that are added.
 
@@ -112,7 +118,7 @@ pub record IsAdded (w name bytes : List ℕ) (flags addr align : ℕ) (n : Secti
 -- one in the new area
 pub record IsInArea (w : List ℕ) (area : Area) (name bytes : List ℕ) (flags addr align : ℕ) (n : Section) : Type 0 where
   pub added : IsAdded w name bytes flags addr align n
-  pub offset : n.offset ≡ offset_in area addr
+  pub offset : n.offset ≡ area_offset area addr
 
 -- the bytes of the table with a name, if there is one
 abbrev pub bytes_called : {Y Z : Type 0} → List (String Y × Vec ℕ Z) → List ℕ → List ℕ

@@ -1,4 +1,4 @@
--- The sections and the symbols of a written file, as they are read of it.
+-- The sections, the program headers, the symbols and the layout of a written file, as they are read of it.
 use Rattle.std.specs.Prelude.{ℕ, List, Bool, String, Vec, codes, length}
 use Rattle.addr_map.specs.declared.span.Span.{Span}
 use Rattle.elf_image.specs.declared.elf.Elf.{Elf}
@@ -6,6 +6,8 @@ use Rattle.elf_image.specs.file.ParsedFile.{IsElfOf}
 use Rattle.rv_code.specs.declared.placed.Func.{Func}
 use Rattle.elf_write.specs.declared.area.Area.{Area}
 use Rattle.elf_write.specs.Area.{area_of, shift_of}
+use Rattle.elf_write.specs.FileLayout.{HasFileLayout}
+use Rattle.elf_write.specs.HeaderPlaces.{HasNewHeaders}
 use Rattle.elf_write.specs.NewSections.{AreNewSections}
 use Rattle.elf_write.specs.NewSymbols.{HaveNewSymbols}
 use Rattle.elf_write.specs.TableSizes.{table_size}
@@ -16,7 +18,7 @@ area_for elf tables code tight =
     area_of elf.segments.items tight (length code) (table_size tables (codes ".eh_frame"))
     (table_size tables (codes ".eh_frame_hdr"))
 
--- What is read of the file w has the sections and symbols that follow from the input,
+-- What is read of the file w has the sections, program headers, symbols and layout that follow from the input,
 -- the tables that are given, the new code, the functions, their cold parts and the map.
 pub record HasNewTables {Y Z : Type 0} (elf : Elf) (tables : List (String Y × Vec ℕ Z)) (code : List ℕ)
     (funcs : List Func) (cold : List ℕ) (spans : List Span) (tight : Bool) (w : List ℕ) : Type 0 where
@@ -24,4 +26,8 @@ pub record HasNewTables {Y Z : Type 0} (elf : Elf) (tables : List (String Y × V
   pub read : IsElfOf w new
   pub sections : AreNewSections elf new tables (area_for elf tables code tight)
       (shift_of elf.segments.items (area_for elf tables code tight)) code
+  pub headers : HasNewHeaders elf new tables (area_for elf tables code tight)
+      (shift_of elf.segments.items (area_for elf tables code tight))
   pub symbols : HaveNewSymbols elf new funcs spans cold
+  pub layout : HasFileLayout elf new tables (area_for elf tables code tight)
+      (shift_of elf.segments.items (area_for elf tables code tight))

@@ -12,6 +12,7 @@ use Rattle.move_law.specs.Rewrite.{AreCodeBytes, executable_of}
 use Rattle.sym_machine.specs.HiddenFields.{e_entry_field}
 use Rattle.elf_write.specs.Area.{shift_of}
 use Rattle.elf_write.specs.Carried.{CarriesImage, HoldsBytes}
+use Rattle.elf_write.specs.FrontBytes.{KeepsFront}
 use Rattle.elf_write.specs.NewSegments.{AreNewHeaders}
 use Rattle.elf_write.specs.Source.{Source, is_changed, source_area}
 
@@ -50,6 +51,8 @@ FollowsHeaders s tight w =
 pub record IsWritten (s : Source) (tight : Bool) (w : List ℕ) : Type 0 where
   -- each byte that the input loads is loaded with the same rights, and is the same unless it may change
   pub image : CarriesImage s.elf.file.now w (is_changed s tight) s.elf.segments.items (segments_of w)
+  -- up to where no byte moves, bytes that no segment loads are as they were, and those of a table that is replaced
+  pub front : KeepsFront s.elf tight w
   -- the new code is there, and may be executed and not written
   pub code : HoldsBytes w (segments_of w) (source_area s tight).start s.code
   pub executable : AreCodeBytes (executable_of w) (source_area s tight).start (length s.code)

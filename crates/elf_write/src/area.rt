@@ -28,11 +28,11 @@ pub struct Area {
 }
 
 impl Area {
-    ghost use Rattle.elf_write.specs.Area.{offset_in};
+    ghost use Rattle.elf_write.specs.Area.{area_offset};
 
     /// Where an address of the area is in the written file.
     pub fn offset_of(&self, address: u64) -> Result<u64, NoMemory>
-        ensures { IfOk result (λ offset. offset ≡ offset_in self.now address) }
+        ensures { IfOk result (λ offset. offset ≡ area_offset self.now address) }
     {
         sum(self.offset, address.saturating_sub(self.address))
     }

@@ -167,24 +167,6 @@ pub fn set_contents(
     Ok(())
 }
 
-// The sections whose contents are written, by their offsets in the input and then by their indices.
-fn order_of(
-    alloc: Global,
-    elf: &Elf,
-    contents: &[Contents],
-) -> Result<Vec<(u64, usize)>, NoMemory> {
-    let mut order = Vec::new(alloc);
-    for i in 0..elf.sections.len() {
-        if let Some(contents) = contents.get(i) {
-            if contents.is_written() {
-                order.push((elf.sections[i].offset, i))?;
-            }
-        }
-    }
-    order.sort_unstable();
-    Ok(order)
-}
-
 // Writes the contents of the section of an index.
 fn place_bytes(
     headers: &mut [SectionHeader],
@@ -202,19 +184,19 @@ fn place_bytes(
     Ok(())
 }
 
-/// Writes the contents of sections behind the loaded bytes, and sets what their headers say of them.
+/// Writes the contents of sections behind the loaded bytes, in an order of their indices, and sets what their headers say
+/// of them.
 pub fn place_contents<'a>(
-    alloc: Global,
     elf: &Elf<'a>,
     contents: &[Contents],
+    order: &[(u64, usize)],
     new: &NewContents<'a>,
     headers: &mut [SectionHeader],
     tail: &mut Tail,
 ) -> Result<(), NoMemory>
     ensures { OnOk result (tail.new.base ≡ tail.old.base) }
 {
-    let order = order_of(alloc, elf, contents)?;
-    for entry in &order {
+    for entry in order {
         let i = entry.1;
         if let (Some(section), Some(contents)) = (elf.sections.get(i), contents.get(i)) {
             if let Some(bytes) = new.written(elf, *contents, section) {

@@ -11,7 +11,7 @@ use crate::area_bytes::{area_bytes, table_size};
 use crate::placing::parts_of;
 use crate::round::sum;
 use crate::sections::Table;
-use crate::tail::FILE_LIMIT;
+use crate::tail::OUTPUT_LIMIT;
 use addr_map::AddrMap;
 use elf_image::Elf;
 use elf_image::named::{EH_FRAME, EH_FRAME_HDR};
@@ -75,7 +75,7 @@ impl Layout {
     {
         let moved = self.parts.high - self.parts.low;
         let end = sum(self.parts.behind_at as u64, moved as u64)?;
-        if end > FILE_LIMIT {
+        if end > OUTPUT_LIMIT {
             return Err(NoMemory);
         }
         Ok(end)

@@ -168,14 +168,14 @@ impl<'a> SectionSource<'a> {
         symbol_table(alloc, self.elf, section, &code, &added)
     }
 
-    // Where the contents of the input's sections are, and what their headers say of that.
+    // Where the contents of the input's sections are, which is set in their headers, and the order of those that are written.
     fn old_contents(
         &self,
         alloc: Global,
         own: OwnSections,
         layout: &Layout,
         headers: &mut [SectionHeader],
-    ) -> Result<Vec<Contents>, NoMemory> {
+    ) -> Result<(Vec<Contents>, Vec<(u64, usize)>), NoMemory> {
         let replaced = replaced_by(alloc, &self.elf.sections, self.tables)?;
         let kept = KeptBytes::new(alloc, &self.elf.segments, &layout.area, &layout.shift)?;
         let sections = Sections {
@@ -188,7 +188,7 @@ impl<'a> SectionSource<'a> {
         for i in 0..contents.len().min(headers.len()) {
             set_contents(&mut headers[i], contents[i], &layout.shift)?;
         }
-        Ok(contents)
+        Ok((contents, sections.order(alloc)?))
     }
 
     /// Writes the contents of all sections into a tail, and their headers behind them.
@@ -210,14 +210,14 @@ impl<'a> SectionSource<'a> {
         area_headers(&mut headers, &layout.area, self.tables, &mut names.sections)?;
         let ranges = added_ranges(self.elf, self.tables, &mut names.sections)?;
         let symbols = self.symbols(alloc, &own, &mut names, &mut headers, text)?;
-        let contents = self.old_contents(alloc, own, layout, &mut headers)?;
+        let (contents, order) = self.old_contents(alloc, own, layout, &mut headers)?;
         let new = NewContents {
             section_names: names.sections.bytes(),
             symbols: &symbols,
             symbol_names: names.of_symbols(),
             tables: self.tables,
         };
-        place_contents(alloc, self.elf, &contents, &new, &mut headers, tail)?;
+        place_contents(self.elf, &contents, &order, &new, &mut headers, tail)?;
         if let (Some(header), Some(table)) = (ranges, table_called(self.tables, DEBUG_RNGLISTS)) {
             headers.push(SectionHeader {
                 offset: tail.add(1, &table.1)?,

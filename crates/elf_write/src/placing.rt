@@ -1,7 +1,8 @@
 // How a written file is put together: where its parts lie, and where its table of program headers stands.
 ghost use Rattle.std.specs.Prelude.{◌≡◌, ◌≤◌, IfOk, All, IsTrue, ◌↔◌, true, false};
-ghost use Rattle.elf_parts.specs.Parts.{CanStand};
+ghost use Rattle.elf_parts.specs.Parts.{PartsFit};
 ghost use Rattle.elf_parts.specs.Numbers.{CanPut};
+ghost use Rattle.elf_write.specs.FileLayout as layout;
 ghost use Rattle.elf_write.specs.Made as made;
 ghost use Rattle.elf_write.specs.Placing as spec;
 ghost use Rattle.elf_image.specs.memory.LoadedBytes.{loads_range};
@@ -56,7 +57,7 @@ fn parts_behind(segments: &[Segment], area: &Area, shift: &Shift) -> Result<Part
 
 // Whether parts lie apart, and come from an input of some size. The area doesn't stand in the file's header.
 fn can_stand(parts: &Parts, input: usize, area: usize) -> bool
-    ensures { IsTrue result ↔ (CanStand parts.now input area × (64 ≤ parts.now.keep)) }
+    ensures { IsTrue result ↔ (PartsFit parts.now input area × (64 ≤ parts.now.keep)) }
 {
     EHDR_SIZE <= parts.keep
         && parts.keep <= input
@@ -75,7 +76,7 @@ pub fn parts_of(
     input: usize,
     bytes: usize,
 ) -> Result<Parts, NoMemory>
-    ensures can { IfOk result (λ parts. CanStand parts input bytes) }
+    ensures can { IfOk result (λ parts. PartsFit parts input bytes) }
     ensures header { IfOk result (λ parts. 64 ≤ parts.keep) }
     ensures above { IfOk result (λ parts. area.now.tight ≡ true → spec.IsAbove segments.now area.now parts) }
     ensures behind { IfOk result (λ parts. area.now.tight ≡ false → spec.IsBehind segments.now area.now shift.now parts) }
@@ -93,16 +94,16 @@ pub fn parts_of(
 
 // Whether one segment loads the whole table of program headers.
 fn is_loaded_table(elf: &Elf) -> bool
-    ensures { result ≡ list_any (loads_range (made.table_of elf.now)) elf.now.segments.items }
+    ensures { result ≡ list_any (loads_range (layout.table_of elf.now)) elf.now.segments.items }
 {
     let segments: &[Segment] = &elf.segments;
     let size = (PHDR_SIZE * segments.len()) as u64;
     segments.iter().any(|p| p.loads_range(elf.phoff, size))
 }
 
-// Whether the table stands before the end of the executable segment, or whole in a loaded one.
-fn is_kept_table(elf: &Elf, shift: &Shift) -> bool
-    ensures { result ≡ made.is_kept_table elf.now shift.now }
+/// Whether the table stands before the end of the executable segment, or whole in a loaded one.
+pub fn is_kept_table(elf: &Elf, shift: &Shift) -> bool
+    ensures { result ≡ layout.is_kept_table elf.now shift.now }
 {
     elf.phoff < shift.from || is_loaded_table(elf)
 }

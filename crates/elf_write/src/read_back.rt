@@ -1,4 +1,5 @@
-// Whether a file that was written has the sections and the symbols that it must have, as they are read back.
+// Whether a file that was written has the sections, program headers, symbols and layout that it must have, as they
+// are read back.
 ghost use Rattle.std.specs.Prelude.{◌≡◌, IfOk, IsTrue};
 ghost use Rattle.rv_code.specs.layout.FunctionLists.{AreLaidOut};
 ghost use Rattle.elf_image.specs.faults.FileFaults.{IsSound};
@@ -8,13 +9,18 @@ ghost use Rattle.elf_image.specs.file.ParsedFile.{IsElfOf};
 ghost use Rattle.elf_write.specs.AllRuns.{AreRuns};
 ghost use Rattle.elf_write.specs.Area.{shift_of};
 ghost use Rattle.elf_write.specs.AreaTables.{AreaStands};
+ghost use Rattle.elf_write.specs.FileLayout.{HasFileLayout};
+ghost use Rattle.elf_write.specs.HeaderPlaces.{HasNewHeaders};
+ghost use Rattle.elf_write.specs.KnownSections.{Knows};
 ghost use Rattle.elf_write.specs.NewSections.{AreNewSections};
 ghost use Rattle.elf_write.specs.NewSymbols.{HaveNewSymbols};
 ghost use Rattle.elf_write.specs.NewTables.{HasNewTables, area_for};
 
 use crate::area::{Area, Shift, area_of};
 use crate::area_bytes::table_size;
+use crate::header_check::has_headers;
 use crate::kept_bytes::KeptBytes;
+use crate::layout_check::is_laid_out;
 use crate::name_tables::{OwnSections, place_of_symbols, symbols_section};
 use crate::new_sections::SectionSource;
 use crate::section_tables::SectionTables;
@@ -46,14 +52,34 @@ fn area_for(
     Ok((area, shift))
 }
 
-// Whether the sections are those that the file must have.
+// Whether the layout and the program headers are those that the file must have.
+fn has_places(alloc: Global, tables: &SectionTables, known: &Sections) -> Result<bool, NoMemory>
+    requires old_header { HasHeader tables.now.elf.now.file.now }
+    requires known { Knows tables.now.elf.now tables.now.tables.now tables.now.area tables.now.shift known.now }
+    requires same { known.now.elf.now ≡ tables.now.elf.now }
+    ensures layout { IfOk result (λ holds. IsTrue holds →
+        HasFileLayout tables.now.elf.now tables.now.new.now tables.now.tables.now tables.now.area tables.now.shift) }
+    ensures headers { IfOk result (λ holds. IsTrue holds →
+        HasNewHeaders tables.now.elf.now tables.now.new.now tables.now.tables.now tables.now.area tables.now.shift) }
+{
+    if !is_laid_out(alloc, tables, known)? {
+        return Ok(false);
+    }
+    has_headers(alloc, tables, known)
+}
+
+// Whether the sections, their layout and the program headers are those that the file must have.
 fn has_sections(alloc: Global, tables: &SectionTables) -> Result<bool, NoMemory>
     requires old_header { HasHeader tables.now.elf.now.file.now }
     requires names { e_shstrndx tables.now.new.now.file.now ≡ e_shstrndx tables.now.elf.now.file.now }
-    ensures { IfOk result (λ holds. IsTrue holds →
+    ensures sections { IfOk result (λ holds. IsTrue holds →
         AreaStands tables.now.area tables.now.tables.now tables.now.code.now tables.now.new.now.file.now →
         AreNewSections tables.now.elf.now tables.now.new.now tables.now.tables.now tables.now.area tables.now.shift
         tables.now.code.now) }
+    ensures layout { IfOk result (λ holds. IsTrue holds →
+        HasFileLayout tables.now.elf.now tables.now.new.now tables.now.tables.now tables.now.area tables.now.shift) }
+    ensures headers { IfOk result (λ holds. IsTrue holds →
+        HasNewHeaders tables.now.elf.now tables.now.new.now tables.now.tables.now tables.now.area tables.now.shift) }
 {
     let elf = tables.elf;
     let own = OwnSections::new(elf)?;
@@ -65,7 +91,10 @@ fn has_sections(alloc: Global, tables: &SectionTables) -> Result<bool, NoMemory>
         replaced: &replaced,
         kept: &kept,
     };
-    Ok(tables.are_new(&known))
+    if !tables.are_new(&known) {
+        return Ok(false);
+    }
+    has_places(alloc, tables, &known)
 }
 
 // Whether the symbols are those that the file must have.
@@ -97,7 +126,7 @@ fn has_symbols(alloc: Global, source: &SectionSource, new: &Elf) -> Result<bool,
     tables.are_new(alloc, table, new_table)
 }
 
-// Whether both are.
+// Whether all of them are.
 fn has_new_tables(
     alloc: Global,
     source: &SectionSource,
@@ -116,8 +145,17 @@ fn has_new_tables(
         (area_for source.now.elf.now source.now.tables.now code.now tight)
         (shift_of source.now.elf.now.segments.items
         (area_for source.now.elf.now source.now.tables.now code.now tight)) code.now) }
+    ensures headers { IfOk result (λ holds. IsTrue holds → HasNewHeaders source.now.elf.now new.now source.now.tables.now
+        (area_for source.now.elf.now source.now.tables.now code.now tight)
+        (shift_of source.now.elf.now.segments.items
+        (area_for source.now.elf.now source.now.tables.now code.now tight))) }
     ensures symbols { IfOk result (λ holds. IsTrue holds →
         HaveNewSymbols source.now.elf.now new.now source.now.funcs.now source.now.map.now source.now.cold.now) }
+    ensures layout { IfOk result (λ holds. IsTrue holds →
+        HasFileLayout source.now.elf.now new.now source.now.tables.now
+        (area_for source.now.elf.now source.now.tables.now code.now tight)
+        (shift_of source.now.elf.now.segments.items
+        (area_for source.now.elf.now source.now.tables.now code.now tight))) }
 {
     let (area, shift) = area_for(source.elf, source.tables, code, tight)?;
     let tables = SectionTables {
@@ -153,8 +191,15 @@ fn finds_new_tables(
         (area_for source.now.elf.now source.now.tables.now code.now tight)
         (shift_of source.now.elf.now.segments.items (area_for source.now.elf.now source.now.tables.now code.now tight))
         code.now }
+    ensures headers { IsTrue result → HasNewHeaders source.now.elf.now new.now source.now.tables.now
+        (area_for source.now.elf.now source.now.tables.now code.now tight)
+        (shift_of source.now.elf.now.segments.items (area_for source.now.elf.now source.now.tables.now code.now tight)) }
     ensures symbols { IsTrue result →
         HaveNewSymbols source.now.elf.now new.now source.now.funcs.now source.now.map.now source.now.cold.now }
+    ensures layout { IsTrue result →
+        HasFileLayout source.now.elf.now new.now source.now.tables.now
+        (area_for source.now.elf.now source.now.tables.now code.now tight)
+        (shift_of source.now.elf.now.segments.items (area_for source.now.elf.now source.now.tables.now code.now tight)) }
 {
     match has_new_tables(alloc, source, code, tight, new) {
         Ok(holds) => holds,
@@ -162,8 +207,8 @@ fn finds_new_tables(
     }
 }
 
-/// Whether the reader takes a file, and finds the sections and symbols in it that the file must have. The bytes of its new
-/// area aren't looked at.
+/// Whether the reader takes a file, and finds the sections, program headers, symbols and layout in it that the file
+/// must have. The bytes of its new area aren't looked at.
 pub fn is_accepted(
     alloc: Global,
     source: &SectionSource,

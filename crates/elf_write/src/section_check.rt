@@ -1,5 +1,5 @@
 // Whether a file that was written has the sections that it must have, as they are read back. gABI, "Section Header".
-ghost use Rattle.std.specs.Prelude.{◌≡◌, IsTrue};
+ghost use Rattle.std.specs.Prelude.{◌≡◌, IsTrue, length, take};
 ghost use Rattle.elf_write.specs.NewSections as spec;
 ghost use Rattle.elf_write.specs.OldNames.{new_name};
 
@@ -74,7 +74,7 @@ fn is_kept(shift: &Shift, w: &[u8], s: &Section, n: &Section) -> bool
 }
 
 fn is_rewritten(w: &[u8], bytes: &[u8], kind: u32, s: &Section, n: &Section) -> bool
-    ensures { IsTrue result → spec.IsRewritten w.now bytes.now kind s.now n.now }
+    ensures { IsTrue result → spec.HasNewContents w.now bytes.now kind s.now n.now }
 {
     n.kind == kind && same_flags(s, n) && holds_contents(w, bytes, n)
 }
@@ -103,6 +103,22 @@ fn is_own(s: &Section, n: &Section) -> bool
     ensures { IsTrue result → spec.IsOwn s.now n.now }
 {
     n.kind == kind_of_own(s.kind) && n.flags == without_code(s.flags) && is_aligned(n)
+}
+
+// Whether bytes begin with others.
+fn begins_with(bytes: &[u8], front: &[u8]) -> bool
+    ensures { IsTrue result → take (length front.now) bytes.now ≡ front.now }
+{
+    if bytes.len() < front.len() {
+        return false;
+    }
+    &bytes[..front.len()] == front
+}
+
+fn is_name_table(file: &[u8], w: &[u8], s: &Section, n: &Section) -> bool
+    ensures { IsTrue result → spec.IsNameTable file.now w.now s.now n.now }
+{
+    is_own(s, n) && n.info == s.info && begins_with(bytes_of(w, n), bytes_of(file, s))
 }
 
 // The bytes of a table by its place.
@@ -137,7 +153,9 @@ impl<'a> Files<'a> {
             Contents::Dropped => is_dropped(s, n),
             Contents::Kept => is_kept(&self.shift, self.new, s, n),
             Contents::Copied => is_rewritten(self.new, bytes_of(self.old, s), s.kind, s, n),
-            Contents::SectionNames | Contents::SymbolNames => is_own(s, n) && n.info == s.info,
+            Contents::SectionNames | Contents::SymbolNames => {
+                is_name_table(self.old, self.new, s, n)
+            }
             Contents::Symbols => is_own(s, n),
             Contents::Given(place) => {
                 let bytes = given_bytes(self.tables, place);
@@ -160,7 +178,7 @@ pub struct Added<'a> {
 impl<'a> Added<'a> {
     ghost use Rattle.std.specs.Prelude.{◌≡◌, ℕ, IsTrue, List, length};
     ghost use Rattle.elf_parts.specs.Patches.{Stands};
-    ghost use Rattle.elf_write.specs.Area.{offset_in};
+    ghost use Rattle.elf_write.specs.Area.{area_offset};
     ghost use Rattle.elf_write.specs.NewSections.{IsAdded, IsHeader, IsInArea};
 
     // Whether a section says of itself what it must.
@@ -187,7 +205,7 @@ impl<'a> Added<'a> {
 
     // Whether a section has its place in an area.
     fn has_place(&self, area: &Area, n: &Section) -> bool
-        ensures offset { IsTrue result → n.now.offset ≡ offset_in area.now self.now.addr }
+        ensures offset { IsTrue result → n.now.offset ≡ area_offset area.now self.now.addr }
         ensures size { IsTrue result → n.now.size ≡ length self.now.bytes.now }
     {
         match area.offset_of(self.addr) {
@@ -198,7 +216,7 @@ impl<'a> Added<'a> {
 
     /// Whether it is this one in a file that has its bytes in an area.
     pub fn is_in(&self, area: &Area, n: &Section) -> bool
-        ensures { IsTrue result → (w : List ℕ) → Stands w (offset_in area.now self.now.addr) self.now.bytes.now →
+        ensures { IsTrue result → (w : List ℕ) → Stands w (area_offset area.now self.now.addr) self.now.bytes.now →
             IsInArea w area.now self.now.name.now self.now.bytes.now self.now.flags self.now.addr self.now.align n.now }
     {
         if !self.has_header(n) {

@@ -36,7 +36,7 @@ impl<'a> SectionTables<'a> {
     ghost use Rattle.elf_image.specs.declared.elf.Section.{Section};
     ghost use Rattle.elf_image.specs.file.Header.{e_shstrndx};
     ghost use Rattle.elf_parts.specs.Patches.{Stands};
-    ghost use Rattle.elf_write.specs.Area.{offset_in};
+    ghost use Rattle.elf_write.specs.Area.{area_offset};
     ghost use Rattle.elf_write.specs.AreaTables.{AreaStands};
     ghost use Rattle.elf_write.specs.Contents.{contents_of};
     ghost use Rattle.elf_write.specs.KnownSections.{Knows};
@@ -104,7 +104,7 @@ impl<'a> SectionTables<'a> {
     // Whether the section of an index is one that is added in the new area, which has its bytes.
     fn is_in_area(&self, index: usize, added: &Added) -> bool
         ensures { IsTrue result →
-            Stands self.now.new.now.file.now (offset_in self.now.area added.now.addr) added.now.bytes.now →
+            Stands self.now.new.now.file.now (area_offset self.now.area added.now.addr) added.now.bytes.now →
             At self.now.new.now.sections.items index
             (IsInArea self.now.new.now.file.now self.now.area added.now.name.now added.now.bytes.now added.now.flags
             added.now.addr added.now.align) }
@@ -129,7 +129,7 @@ impl<'a> SectionTables<'a> {
 
     fn has_text(&self, index: usize) -> bool
         ensures { IsTrue result →
-            Stands self.now.new.now.file.now (offset_in self.now.area self.now.area.start) self.now.code.now →
+            Stands self.now.new.now.file.now (area_offset self.now.area self.now.area.start) self.now.code.now →
             At self.now.new.now.sections.items index
             (IsInArea self.now.new.now.file.now self.now.area (codes ".text") self.now.code.now
             (SHF_ALLOC + SHF_EXECINSTR) self.now.area.start 16) }
@@ -149,7 +149,7 @@ impl<'a> SectionTables<'a> {
     // Whether the section of an index is that of the table with a name, where the area has a place for it.
     fn has_table(&self, index: usize, name: &[u8], place: Option<u64>, align: u64) -> bool
         ensures { IsTrue result → IfSome place (λ a.
-            Stands self.now.new.now.file.now (offset_in self.now.area a) (bytes_called self.now.tables.now name.now) →
+            Stands self.now.new.now.file.now (area_offset self.now.area a) (bytes_called self.now.tables.now name.now) →
             At self.now.new.now.sections.items index
             (IsInArea self.now.new.now.file.now self.now.area name.now (bytes_called self.now.tables.now name.now)
             SHF_ALLOC a align)) }
@@ -169,8 +169,8 @@ impl<'a> SectionTables<'a> {
         }
     }
 
-    // Whether a table of ranges is added.
-    fn adds_ranges(&self) -> bool
+    /// Whether a table of ranges is added.
+    pub fn adds_ranges(&self) -> bool
         ensures { result ≡ adds_ranges self.now.elf.now.sections.items self.now.tables.now }
     {
         table_called(self.tables, DEBUG_RNGLISTS).is_some()

@@ -1,7 +1,8 @@
 // Which contents the sections of a written file have. gABI, "Section Header".
-ghost use Rattle.std.specs.Prelude.{◌≡◌, IfOk, map, position, string_bytes};
+ghost use Rattle.std.specs.Prelude.{◌≡◌, AllPairs, IfOk, IsTrue, map, position, string_bytes};
 ghost use Rattle.elf_image.specs.file.SectionNames.{is_called, is_meant_by};
 ghost use Rattle.elf_write.specs.Contents as spec;
+ghost use Rattle.rv_code.specs.layout.Lists.{IsPairBefore};
 
 use crate::kept_bytes::KeptBytes;
 use crate::name_tables::OwnSections;
@@ -30,8 +31,13 @@ pub enum Contents {
 }
 
 impl Contents {
+    ghost use Rattle.std.specs.Prelude.{◌≡◌};
+    ghost use Rattle.elf_write.specs.FileLayout.{is_written};
+
     /// Whether they stand behind the loaded bytes.
-    pub fn is_written(&self) -> bool {
+    pub fn is_written(&self) -> bool
+        ensures { result ≡ is_written self.now }
+    {
         match self {
             Contents::Dropped | Contents::Kept => false,
             Contents::Copied
@@ -107,6 +113,25 @@ fn is_left_out(section: &Section) -> bool
         || (!section.is_loaded() && (section.name == DEBUG_MACRO || section.name == GDB_INDEX))
 }
 
+// Whether pairs are in order, each once.
+fn are_ascending(pairs: &[(u64, usize)]) -> bool
+    ensures { IsTrue result → AllPairs IsPairBefore pairs.now }
+{
+    for i in 1..pairs.len() {
+        if !is_pair_before(&pairs[i - 1], &pairs[i]) {
+            return false;
+        }
+    }
+    true
+}
+
+// Whether one comes before another, by the first number and then by the second.
+fn is_pair_before(p: &(u64, usize), q: &(u64, usize)) -> bool
+    ensures { IsTrue result → IsPairBefore p.now q.now }
+{
+    p.0 < q.0 || (p.0 == q.0 && p.1 < q.1)
+}
+
 /// What is known of the sections of a file that is written.
 #[derive(Clone, Copy)]
 pub struct Sections<'a> {
@@ -118,13 +143,17 @@ pub struct Sections<'a> {
 }
 
 impl<'a> Sections<'a> {
-    ghost use Rattle.std.specs.Prelude.{◌≡◌, ℕ, List, Option, Some, None, position, unwrap_or, option_map};
+    ghost use Rattle.std.specs.Prelude.{◌≡◌, ℕ, List, Option, Some, None, IfOk, position, slice_get, unwrap_or, option_map};
     ghost use Rattle.std.specs.Option.{option_map_or};
     ghost use Rattle.elf_image.specs.declared.segment.Segment.{Segment};
     ghost use Rattle.elf_write.specs.declared.area.Area.{Area};
     ghost use Rattle.elf_write.specs.declared.area.Shift.{Shift};
     ghost use Rattle.elf_write.specs.Contents as spec;
+    ghost use Rattle.elf_write.specs.FileLayout.{PassesAt};
+    ghost use Rattle.elf_write.specs.Homes.{AreContents};
     ghost use Rattle.elf_write.specs.KeptBytes.{Keeps};
+    ghost use Rattle.elf_write.specs.WrittenSections.{is_written_by, offset_if};
+    ghost use Rattle.rv_code.specs.layout.Lists.{ListsPairs};
 
     // The table that takes the place of the section of an index.
     fn table_for(&self, index: usize) -> Option<usize>
@@ -147,8 +176,56 @@ impl<'a> Sections<'a> {
         Contents::Copied
     }
 
+    // Where the section of an index stands, if its contents are written behind the loaded bytes.
+    fn written_at(&self, index: usize) -> Option<u64>
+        ensures { (segments : List Segment) (area : Area) (shift : Shift) → Keeps segments area shift self.now.kept.now →
+            result ≡ offset_if (is_written_by self.now segments area shift) index
+            (slice_get self.now.elf.now.sections.items index) }
+    {
+        match self.elf.sections.get(index) {
+            Some(section) => self.offset_if_written(index, section),
+            None => None,
+        }
+    }
+
+    fn offset_if_written(&self, index: usize, section: &Section) -> Option<u64>
+        ensures { (segments : List Segment) (area : Area) (shift : Shift) → Keeps segments area shift self.now.kept.now →
+            result ≡ offset_if (is_written_by self.now segments area shift) index (Some section.now) }
+    {
+        if self.contents_of(index, section).is_written() {
+            Some(section.offset)
+        } else {
+            None
+        }
+    }
+
+    /// The sections whose contents are written behind the loaded bytes: their offsets and indices, ascending.
+    pub fn order(&self, alloc: Global) -> Result<Vec<(u64, usize)>, NoMemory>
+        ensures { (segments : List Segment) (area : Area) (shift : Shift) → Keeps segments area shift self.now.kept.now →
+            IfOk result (λ order.
+            ListsPairs (PassesAt self.now.elf.now.sections.items (is_written_by self.now segments area shift)) order.items) }
+    {
+        let mut order = Vec::new(alloc);
+        for i in 0..self.elf.sections.len() {
+            if let Some(offset) = self.written_at(i) {
+                order.push((offset, i))?;
+            }
+        }
+        order.sort_unstable();
+        if !are_ascending(&order) {
+            return Err(NoMemory);
+        }
+        Ok(order)
+    }
+
     /// Where the contents of each section are.
-    pub fn contents(&self, alloc: Global) -> Result<Vec<Contents>, NoMemory> {
+    pub fn contents(&self, alloc: Global) -> Result<Vec<Contents>, NoMemory>
+        ensures { IfOk result (λ found. (segments : List Segment) (area : Area) (shift : Shift) →
+            Keeps segments area shift self.now.kept.now →
+            AreContents (λ i s. spec.contents_by self.now.own.section_names self.now.own.symbols self.now.own.symbol_names
+            (position (spec.is_at i) self.now.replaced.now) (spec.own_contents segments area shift s) i s)
+            self.now.elf.now.sections.items found.items) }
+    {
         let mut contents = Vec::new(alloc);
         for i in 0..self.elf.sections.len() {
             contents.push(self.contents_of(i, &self.elf.sections[i]))?;

@@ -1,7 +1,9 @@
 // The program headers of a written file. gABI, "Program Header".
-ghost use Rattle.std.specs.Prelude.{◌≡◌, ◌≤◌, ◌<◌, ◌-◌, ℕ, IfOk, length, slice_index_or, true, false};
+ghost use Rattle.std.specs.Prelude.{◌≡◌, ◌≤◌, ◌<◌, ◌-◌, ℕ, IfOk, IsTrue, length, slice_index_or, true, false};
 ghost use Rattle.elf_image.specs.declared.segment.Segment.{Segment};
 ghost use Rattle.elf_image.specs.memory.Image.{is_load};
+ghost use Rattle.elf_write.specs.Area.{area_offset};
+ghost use Rattle.elf_write.specs.HeaderPlaces.{index_for, leaves_area, named};
 ghost use Rattle.elf_write.specs.NewSegments as spec;
 
 use crate::area::{Area, Shift};
@@ -10,7 +12,7 @@ use crate::homes::homes_of;
 use crate::round::{rounded_up, sum};
 use crate::sections::Contents;
 use elf_image::segment::{PF_R, PF_X, PHDR_SIZE, PT_GNU_EH_FRAME, PT_LOAD};
-use elf_image::{Elf, SectionHeader, Segment};
+use elf_image::{Elf, Segment};
 use rb_bytes::fault::NoMemory;
 use std::alloc::Global;
 
@@ -25,9 +27,9 @@ pub struct Places<'a> {
     pub shift: Shift,
     /// Where the table of program headers stands in the written file.
     pub table_at: u64,
-    /// The contents and the new headers of the input's sections.
+    /// Where the contents of the input's sections are, and their offsets in the written file.
     pub contents: &'a [Contents],
-    pub headers: &'a [SectionHeader],
+    pub sections_at: &'a [u64],
     /// The size of the index of the unwind table, if there is one.
     pub index_size: u64,
     /// The size of the written file.
@@ -39,6 +41,7 @@ fn at_area(p: &Segment, area: &Area, address: u64, size: u64) -> Result<Segment,
     ensures kind { IfOk result (λ q. q.kind ≡ p.now.kind) }
     ensures flags { IfOk result (λ q. q.flags ≡ p.now.flags) }
     ensures align { IfOk result (λ q. q.align ≡ p.now.align) }
+    ensures is { IfOk result (λ q. q ≡ named area.now address size p.now) }
 {
     Ok(Segment {
         offset: area.offset_of(address)?,
@@ -63,38 +66,90 @@ fn grown(p: &Segment, end: u64) -> Segment
     }
 }
 
+// Whether a segment can grow to an end, where bytes behind an offset move.
+fn can_grow(p: &Segment, from: u64, end: u64) -> bool
+    ensures { IsTrue result → spec.CanGrow from end p.now }
+{
+    p.memsz == p.filesz
+        && p.vaddr as u128 + p.memsz as u128 <= end as u128
+        && (p.filesz == 0 || p.offset < from)
+}
+
+// Whether bytes begin in the area and end behind it.
+fn leaves_area(area: &Area, end: u64, start: u64, size: u64) -> bool
+    requires { end ≡ area_offset area.now area.now.end }
+    ensures { result ≡ leaves_area area.now start size }
+{
+    !area.tight && start < end && (end as u128) < start as u128 + size as u128
+}
+
+// The index of the unwind table, where a header names it.
+fn index_for(area: &Area, p: &Segment) -> Option<u64>
+    ensures { result ≡ index_for area.now p.now }
+{
+    if p.kind == PT_GNU_EH_FRAME {
+        area.index
+    } else {
+        None
+    }
+}
+
 impl<'a> Places<'a> {
+    ghost use Rattle.std.specs.Prelude.{◌+◌, ◌*◌, IsTrue, if◌then◌else◌, length, option_map, slice_get, unwrap_or};
+    ghost use Rattle.std.specs.Option.{option_map_or};
+    ghost use Rattle.elf_write.specs.HeaderPlaces.{beside, moved_header, new_header, place_behind, place_in};
+    ghost use Rattle.elf_write.specs.PlacedHeaders.{AreMade, AreNewEach, outline};
     ghost use Rattle.elf_write.specs.NewSegments.{AreNewHeaders, AreRenewed, CanGrow, CanGrowAt, IsRenewed, area_segment};
-    ghost use Rattle.elf_write.specs.NewSegments.{grows_at};
+    ghost use Rattle.elf_write.specs.NewSegments.{grown, grows_at};
     ghost use Rattle.elf_write.specs.Room.{greatest_align};
     ghost use Rattle.std.specs.Prelude.{◌≡◌, ◌≤◌, ◌<◌, ◌&&◌, not, IfOk, true, false};
     ghost use Rattle.elf_image.specs.declared.segment.TheConstants.{PT_LOAD};
     ghost use Rattle.elf_write.specs.Area.{moved_by};
 
-    // How many program headers there are.
-    fn count(&self) -> u64 {
+    // The size of a table with one more program header.
+    fn table_size(&self) -> Result<u64, NoMemory>
+        ensures { IfOk result (λ size. size ≡ 56 * (length self.now.elf.now.segments.items + 1)) }
+    {
         let count = self.elf.segments.len() as u64;
-        if self.area.tight { count + 1 } else { count }
+        let count = sum(count, 1)?;
+        count.checked_mul(PHDR_SIZE as u64).ok_or(NoMemory)
+    }
+
+    // Where a section of an index stands in the written file, and in the input.
+    fn section_at(&self, index: usize) -> u64
+        ensures { result ≡ unwrap_or (slice_get self.now.sections_at.now index) 0 }
+    {
+        match self.sections_at.get(index) {
+            Some(at) => *at,
+            None => 0,
+        }
+    }
+
+    fn old_section_at(&self, index: usize) -> u64
+        ensures { result ≡ option_map_or (λ s. s.offset) (slice_get self.now.elf.now.sections.items index) 0 }
+    {
+        match self.elf.sections.get(index) {
+            Some(section) => section.offset,
+            None => 0,
+        }
     }
 
     // Where the bytes of a header are, which stand in the contents of the section of an index.
-    fn place_in(&self, p: &Segment, home: usize) -> Result<Option<u64>, NoMemory> {
-        match (self.elf.sections.get(home), self.headers.get(home)) {
-            (Some(section), Some(header)) => Ok(Some(sum(
-                header.offset,
-                p.offset.saturating_sub(section.offset),
-            )?)),
-            _ => Ok(None),
-        }
+    fn place_in(&self, p: &Segment, home: usize) -> Result<u64, NoMemory>
+        ensures { IfOk result (λ o. o ≡ place_in self.now.elf.now.sections.items self.now.sections_at.now p.now home) }
+    {
+        let before = p.offset.saturating_sub(self.old_section_at(home));
+        sum(self.section_at(home), before)
     }
 
     // Where bytes go that stay beside the loaded ones: none begin in the new area and end behind it.
     fn beside(&self, p: &Segment, align: u64) -> Result<u64, NoMemory>
         requires { 0 < align }
+        ensures { IfOk result (λ o. o ≡ beside (outline self.now) align p.now) }
     {
         let at = self.shift.moved(p.offset)?;
         let end = self.area.offset_of(self.area.end)?;
-        if !self.area.tight && at < end && (end as u128) < at as u128 + p.filesz as u128 {
+        if leaves_area(&self.area, end, at, p.filesz) {
             let step = rounded_up(align, end - at)?;
             return Ok(sum(at, step)?.min(self.file_size));
         }
@@ -104,24 +159,43 @@ impl<'a> Places<'a> {
     // Where the bytes of a header go that stand behind the executable segment.
     fn place_behind(&self, p: &Segment, home: Option<usize>, align: u64) -> Result<u64, NoMemory>
         requires { 0 < align }
-        ensures { IfOk result (λ o. p.now.kind ≡ PT_LOAD → 0 < p.now.filesz →
+        ensures load { IfOk result (λ o. p.now.kind ≡ PT_LOAD → 0 < p.now.filesz →
             o ≡ moved_by self.now.shift.from self.now.shift.by p.now.offset) }
+        ensures is { IfOk result (λ o. o ≡ place_behind (outline self.now) align
+            (option_map (place_in self.now.elf.now.sections.items self.now.sections_at.now p.now) home) p.now) }
     {
-        if p.kind == PT_LOAD {
-            if p.filesz > 0 {
-                return self.shift.moved(p.offset);
-            }
-            return self.beside(p, align);
+        if p.kind == PT_LOAD && p.filesz > 0 {
+            return self.shift.moved(p.offset);
         }
         if p.kind == PT_PHDR {
             return Ok(self.table_at);
         }
-        if let Some(home) = home {
-            if let Some(place) = self.place_in(p, home)? {
-                return Ok(place);
-            }
+        match home {
+            Some(home) => self.place_in(p, home),
+            None => self.beside(p, align),
         }
-        self.beside(p, align)
+    }
+
+    // A header that names nothing new.
+    fn moved_header(
+        &self,
+        p: &Segment,
+        home: Option<usize>,
+        align: u64,
+    ) -> Result<Segment, NoMemory>
+        requires { 0 < align }
+        ensures renewed { IfOk result (IsRenewed self.now.shift.from self.now.shift.by self.now.area.end self.now.area.tight false
+            p.now) }
+        ensures is { IfOk result (λ q. q ≡ moved_header (outline self.now) align
+            (option_map (place_in self.now.elf.now.sections.items self.now.sections_at.now p.now) home) p.now) }
+    {
+        if self.shift.from <= p.offset {
+            return Ok(Segment {
+                offset: self.place_behind(p, home, align)?,
+                ..*p
+            });
+        }
+        Ok(*p)
     }
 
     // A program header of the input in the written file.
@@ -134,45 +208,38 @@ impl<'a> Places<'a> {
     ) -> Result<Segment, NoMemory>
         requires align { 0 < align }
         requires grows { is_code ≡ true → self.now.area.tight ≡ false → CanGrow self.now.shift.from self.now.area.end p.now }
-        ensures { IfOk result (IsRenewed self.now.shift.from self.now.shift.by self.now.area.end self.now.area.tight
+        requires greatest { align ≡ greatest_align self.now.elf.now.segments.items }
+        ensures renewed { IfOk result (IsRenewed self.now.shift.from self.now.shift.by self.now.area.end self.now.area.tight
             (not self.now.area.tight && is_code) p.now) }
+        ensures is { IfOk result (λ q. q ≡ (if not self.now.area.tight && is_code
+            then grown self.now.area.end p.now
+            else new_header self.now.elf.now.segments.items (outline self.now)
+            (option_map (place_in self.now.elf.now.sections.items self.now.sections_at.now p.now) home) p.now)) }
     {
         if is_code && !self.area.tight {
             return Ok(grown(p, self.area.end));
         }
         if p.kind == PT_PHDR && self.area.tight {
-            let size = self.count().saturating_mul(PHDR_SIZE as u64);
-            return at_area(p, &self.area, self.area.address, size);
+            return at_area(p, &self.area, self.area.address, self.table_size()?);
         }
-        if p.kind == PT_GNU_EH_FRAME {
-            if let Some(index) = self.area.index {
-                return at_area(p, &self.area, index, self.index_size);
-            }
+        if let Some(index) = index_for(&self.area, p) {
+            return at_area(p, &self.area, index, self.index_size);
         }
-        if self.shift.from <= p.offset {
-            return Ok(Segment {
-                offset: self.place_behind(p, home, align)?,
-                ..*p
-            });
-        }
-        Ok(*p)
+        self.moved_header(p, home, align)
     }
 
     // The headers of the input's segments, of which the executable one has an index.
     fn all_renewed(&self, alloc: Global, code: usize) -> Result<Vec<Segment>, NoMemory>
         requires { CanGrowAt self.now.shift.from self.now.area.end self.now.area.tight code self.now.elf.now.segments.items }
-        ensures { IfOk result (λ qs. AreRenewed self.now.shift.from self.now.shift.by self.now.area.end self.now.area.tight
-            (grows_at self.now.area.tight code) self.now.elf.now.segments.items qs.items) }
+        ensures renewed { IfOk result (λ qs. AreRenewed self.now.shift.from self.now.shift.by self.now.area.end
+            self.now.area.tight (grows_at self.now.area.tight code) self.now.elf.now.segments.items qs.items) }
+        ensures each { IfOk result (λ qs. AreNewEach self.now code qs.items) }
     {
         let align = greatest_align(&self.elf.segments);
         let homes = homes_of(alloc, &self.elf.segments, &self.elf.sections, self.contents)?;
         let mut segments = Vec::new(alloc);
         for i in 0..self.elf.segments.len() {
-            let home = match homes.get(i) {
-                Some(home) => *home,
-                None => None,
-            };
-            let renewed = self.renewed(&self.elf.segments[i], i == code, home, align)?;
+            let renewed = self.renewed(&self.elf.segments[i], i == code, homes[i], align)?;
             segments.push(renewed)?;
         }
         Ok(segments)
@@ -183,15 +250,30 @@ impl<'a> Places<'a> {
         requires grows { CanGrowAt self.now.shift.from self.now.area.end self.now.area.tight code
             self.now.elf.now.segments.items }
         requires ordered { self.now.area.address ≤ self.now.area.end }
-        ensures { IfOk result (λ qs. AreNewHeaders self.now.shift.from self.now.shift.by self.now.area code
-            self.now.elf.now.segments.items qs.items) }
+        ensures { IfOk result (λ qs. AreMade self.now code qs.items) }
     {
         let mut segments = self.all_renewed(alloc, code)?;
-        if self.area.tight {
-            let at = loads_count(&self.elf.segments);
-            segments.insert(at, self.area_segment())?;
+        if !self.area.tight {
+            return Ok(segments);
         }
+        let at = loads_count(&self.elf.segments);
+        segments.insert(at, self.area_segment())?;
         Ok(segments)
+    }
+
+    /// Whether the executable segment, whose header has an index, can grow to the area's end.
+    pub fn can_grow(&self, code: usize) -> bool
+        ensures grows { IsTrue result → CanGrowAt self.now.shift.from self.now.area.end self.now.area.tight code
+            self.now.elf.now.segments.items }
+        ensures ordered { IsTrue result → self.now.area.address ≤ self.now.area.end }
+    {
+        if self.area.end < self.area.address {
+            return false;
+        }
+        match self.elf.segments.get(code) {
+            Some(p) => self.area.tight || can_grow(p, self.shift.from, self.area.end),
+            None => false,
+        }
     }
 
     // The new segment, which may be read and executed.

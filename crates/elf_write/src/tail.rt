@@ -7,7 +7,7 @@ use rb_bytes::fault::NoMemory;
 use std::alloc::Global;
 
 /// No file is written that has more bytes: only a huge alignment can ask for one.
-pub const FILE_LIMIT: u64 = 1 << 30;
+pub const OUTPUT_LIMIT: u64 = 1 << 30;
 
 /// Bytes from an offset of the file on, to which more are added.
 #[derive(Drop)]
@@ -43,7 +43,7 @@ impl Tail {
     {
         let end = self.end()?;
         let place = rounded_up(align.max(1), end)?;
-        if place > FILE_LIMIT {
+        if place > OUTPUT_LIMIT {
             return Err(NoMemory);
         }
         let size = (place - self.base) as usize;

@@ -1,102 +1,19 @@
 // How many bytes the new area takes at most.
-ghost use Rattle.std.specs.Prelude.{◌≡◌, ◌+◌, ◌-◌, IfOk, codes, take, drop, sum_by};
+ghost use Rattle.std.specs.Prelude.{◌≡◌, IfOk};
 ghost use Rattle.std.specs.Option.{option_map_or};
-ghost use Rattle.rv_code.specs.layout.WorstSizes as worst;
 ghost use Rattle.elf_write.specs.Need as spec;
 
 use elf_image::Elf;
 use elf_image::named::EH_FRAME;
 use rb_bytes::fault::NoMemory;
-use rv_code::flow::falls;
-use rv_code::{Action, Block, Func, Placed};
+use rv_code::{Block, Func, worst_size_of_block};
 use std::alloc::Global;
 
-// The most bytes that an instruction takes, if it has so many now.
-fn worst_length(p: &Placed) -> u64
-    ensures { result ≡ worst.worst_length p.now }
+// A number as far as 64 bits can say it.
+fn capped(size: u128) -> u64
+    ensures { result ≡ spec.capped size }
 {
-    match p.inst.action() {
-        Action::Branch { .. } => 8,
-        Action::Jump { .. } => 4,
-        Action::JumpTo { .. }
-        | Action::Compute { .. }
-        | Action::Upper { .. }
-        | Action::UpperPc { .. }
-        | Action::Load { .. }
-        | Action::Store { .. }
-        | Action::Fence
-        | Action::SystemCall
-        | Action::Breakpoint => p.len as u64,
-    }
-}
-
-// The bytes of a jump that may be added after the instruction of an index of a function.
-fn added_jump(func: &Func, index: usize) -> u64
-    ensures { result ≡ worst.added_jump func.now index }
-{
-    match func.insts.get(index) {
-        Some(p) => {
-            if falls(&p.inst, index + 1 == func.insts.len()) {
-                4
-            } else {
-                0
-            }
-        }
-        None => 0,
-    }
-}
-
-// The sum of the worst lengths of instructions.
-fn worst_lengths(insts: &[Placed]) -> u64
-    ensures { result ≡ spec.capped (sum_by worst.worst_length insts.now) }
-{
-    let mut sum: u64 = 0;
-    for p in insts {
-        sum = sum.saturating_add(worst_length(p));
-    }
-    sum
-}
-
-// The instructions of a function from one index to another; none past its end.
-fn insts_between(func: &Func, first: usize, last: usize) -> &[Placed]
-    ensures { result.now ≡ take (last + 1 - first) (drop first func.now.insts.items) }
-{
-    let insts = func.insts.as_slice();
-    let first = first.min(insts.len());
-    let rest = &insts[first..];
-    if last < first {
-        return &rest[..0];
-    }
-    &rest[..(last - first).saturating_add(1).min(rest.len())]
-}
-
-fn worst_block_size(func: &Func, first: usize, last: usize) -> u64
-    ensures { result ≡ spec.capped (worst.worst_block_size func.now first last) }
-{
-    worst_lengths(insts_between(func, first, last)).saturating_add(added_jump(func, last))
-}
-
-fn worst_whole_size(func: &Func) -> u64
-    ensures { result ≡ spec.capped (worst.worst_whole_size func.now) }
-{
-    let length = func.end.saturating_sub(func.start);
-    length.saturating_add(added_jump(func, func.insts.len().saturating_sub(1)))
-}
-
-/// The most bytes that a block takes wherever it is put.
-pub fn worst_size_of_block(funcs: &[Func], block: &Block) -> u64
-    ensures { result ≡ spec.capped (worst.worst_size_of_block funcs.now block.now) }
-{
-    match funcs.get(block.func) {
-        Some(func) => {
-            if func.whole {
-                worst_whole_size(func)
-            } else {
-                worst_block_size(func, block.first, block.last)
-            }
-        }
-        None => 0,
-    }
+    size.min(u64::MAX as u128) as u64
 }
 
 // The worst sizes of all blocks.
@@ -105,7 +22,7 @@ fn code_need(funcs: &[Func], blocks: &[Block]) -> u64
 {
     let mut sum: u64 = 0;
     for block in blocks {
-        sum = sum.saturating_add(worst_size_of_block(funcs, block));
+        sum = sum.saturating_add(capped(worst_size_of_block(funcs, block)));
     }
     sum
 }

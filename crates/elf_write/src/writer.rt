@@ -5,7 +5,7 @@ ghost use Rattle.elf_image.specs.faults.Truncation.{IsReadable};
 ghost use Rattle.elf_image.specs.file.Header.{e_shstrndx};
 ghost use Rattle.elf_image.specs.file.ParsedFile.{IsElfOf};
 ghost use Rattle.addr_map.specs.Spans.{moved};
-ghost use Rattle.elf_parts.specs.Parts.{CanStand, size_of};
+ghost use Rattle.elf_parts.specs.Parts.{PartsFit, size_of};
 ghost use Rattle.rv_code.specs.layout.FunctionLists.{AreLaidOut};
 ghost use Rattle.elf_write.specs.NewTables.{HasNewTables};
 ghost use Rattle.elf_write.specs.AreaTables.{IsMadeWith};
@@ -26,7 +26,7 @@ use crate::segments::Places;
 use crate::tail::Tail;
 use addr_map::AddrMap;
 use elf_image::named::EH_FRAME_HDR;
-use elf_image::{Elf, Segment};
+use elf_image::{Elf, SectionHeader, Segment};
 use elf_parts::spell::put_segments;
 use elf_parts::{NumberAt, assemble};
 use rb_bytes::fault::NoMemory;
@@ -44,7 +44,7 @@ fn put_together(
     fields: &[NumberAt],
     table_at: u64,
 ) -> Result<Vec<u8>, NoMemory>
-    requires can { CanStand layout.now.parts (length elf.now.file.now) (length layout.now.bytes.items) }
+    requires can { PartsFit layout.now.parts (length elf.now.file.now) (length layout.now.bytes.items) }
     requires base { tail.now.base ≡ size_of layout.now.parts }
     ensures { IfOk result
         (λ w. IsPut layout.now elf.now.file.now tail.now.bytes.items cells.now segments.now fields.now table_at w.items) }
@@ -69,6 +69,15 @@ fn put_together(
         &table,
         fields,
     )
+}
+
+// The offsets of sections.
+fn places_of(alloc: Global, headers: &[SectionHeader]) -> Result<Vec<u64>, NoMemory> {
+    let mut places = Vec::new(alloc);
+    for header in headers {
+        places.push(header.offset)?;
+    }
+    Ok(places)
 }
 
 // The fields of the file's header.
@@ -116,13 +125,14 @@ fn made(
     let mut tail = Tail::new(alloc, layout.end()?);
     let table_at = table_place(elf, &layout.area, &layout.shift, &mut tail)?;
     let sections = source.put(alloc, &layout, &mut tail)?;
+    let sections_at = places_of(alloc, &sections.headers)?;
     let places = Places {
         elf,
         area: layout.area,
         shift: layout.shift,
         table_at,
         contents: &sections.contents,
-        headers: &sections.headers,
+        sections_at: &sections_at,
         index_size: table_size(source.tables, EH_FRAME_HDR).unwrap_or(0) as u64,
         file_size: tail.end()?,
     };
@@ -137,8 +147,8 @@ fn made(
 /// The written file, by the functions of the input, the addresses of their cold parts, the new code and the new contents of
 /// code cells, the map, and the tables that are written anew.
 ///
-/// What is written is read back, so no file is ever answered that the reader refuses, or whose sections or symbols aren't
-/// what they must be; but for the bytes of the new area, which need no look.
+/// What is written is read back, so no file is ever answered that the reader refuses, or whose sections, program
+/// headers or symbols aren't what they must be; but for the bytes of the new area, which need no look.
 pub fn write(
     alloc: Global,
     elf: &Elf,

@@ -17,5 +17,7 @@ returns-in-Ok-clause-tables c = λ holds stands.
       sections = c.finds_new_tables.ensures.sections holds
           (subst (λ (f : List ℕ). AreaStands area source.tables.now c.args.code.now f)
           (sym c.in-Ok.ensures.fields.file_is) stands);
+      headers = c.finds_new_tables.ensures.headers holds;
       symbols = c.finds_new_tables.ensures.symbols holds;
+      layout = c.finds_new_tables.ensures.layout holds;
     }

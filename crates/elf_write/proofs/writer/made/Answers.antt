@@ -33,24 +33,24 @@ returns c =
             c.in_ok-layout.ensures.laid_out;
         cells = cells;
         are_cells = subst
-            (λ (xs : List (ℕ × ℕ × ℕ)). AreCellNumbers elf layout.shift xs cells) c.deref-4.ensures.value c.in_ok-cells.ensures;
+            (λ (xs : List (ℕ × ℕ × ℕ)). AreCellNumbers elf layout.shift xs cells) c.deref-5.ensures.value c.in_ok-cells.ensures;
         segments = segments;
-        are_headers = c.in_ok-segments.ensures;
+        are_headers = c.in_ok-segments.ensures.headers;
         table_at = c.in_ok-table_at.table_at;
         table_place = subst (λ (base : ℕ). IsTablePlace elf layout.area layout.shift base c.in_ok-table_at.table_at)
             (c.new-tail.ensures ∙ c.in_ok-end.ensures) c.in_ok-table_at.ensures.place;
         fields = c.in_ok-fields_of.field-0;
         entry = c.in_ok-fields_of.ensures.entry;
         segments_at = c.in_ok-fields_of.ensures.segments_at;
-        count = c.in_ok-fields_of.ensures.segments ∙ ap length c.deref-5.ensures.value;
+        count = c.in_ok-fields_of.ensures.segments ∙ ap length c.deref-6.ensures.value;
         names = c.in_ok-fields_of.ensures.names ∙ c.in_ok-sections.ensures.names;
         tail = tail;
         put = subst (λ (xs : List NumberAt). IsPut layout elf.file.now tail cells segments xs c.in_ok-table_at.table_at w.items)
-            (c.deref-8.ensures.value ∙ c.in_ok-fields.ensures)
-            (subst (λ (xs : List Segment). IsPut layout elf.file.now tail cells xs c.deref-8.result.now c.in_ok-table_at.table_at
-            w.items) c.deref-7.ensures.value
-            (subst (λ (xs : List NumberAt). IsPut layout elf.file.now tail xs c.deref-7.result.now c.deref-8.result.now
-            c.in_ok-table_at.table_at w.items) c.deref-6.ensures.value put));
+            (c.deref-9.ensures.value ∙ c.in_ok-fields.ensures)
+            (subst (λ (xs : List Segment). IsPut layout elf.file.now tail cells xs c.deref-9.result.now c.in_ok-table_at.table_at
+            w.items) c.deref-8.ensures.value
+            (subst (λ (xs : List NumberAt). IsPut layout elf.file.now tail xs c.deref-8.result.now c.deref-9.result.now
+            c.in_ok-table_at.table_at w.items) c.deref-7.ensures.value put));
       };
       has_tables = c.in_ok-layout.ensures.tables;
     })

@@ -1,7 +1,11 @@
 use Rattle.std.proofs.Common.{take}
 use Rattle.elf_write.specs.NewSegments.{AreRenewed, grows_at}
+use Rattle.elf_write.specs.PlacedHeaders.{AreNewEach}
 use Rattle.elf_write.proofs.segments.Places.all_renewed.Given as goal
 
 abbrev pub invariant-loop-i : goal.invariant-loop-i
-invariant-loop-i l = AreRenewed l.self.shift.from l.self.shift.by l.self.area.end l.self.area.tight
-    (grows_at l.self.area.tight l.code) (take l.i l.self.elf.now.segments.items) l.segments.items
+invariant-loop-i l = record {
+  renewed : AreRenewed l.self.shift.from l.self.shift.by l.self.area.end l.self.area.tight
+      (grows_at l.self.area.tight l.code) (take l.i l.self.elf.now.segments.items) l.segments.items;
+  each : AreNewEach l.self l.code l.segments.items;
+}
