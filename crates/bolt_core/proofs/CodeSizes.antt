@@ -8,7 +8,7 @@ use Rattle.elf_image.specs.declared.elf.Elf.{Elf}
 use Rattle.elf_image.specs.declared.elf.Section.{Section}
 use Rattle.elf_image.specs.file.ParsedFile.{IsSectionAt, IsElfOf}
 use Rattle.elf_image.specs.file.Sections.{section_header, section_headers, holds_code}
-use Rattle.bolt_core.specs.CodeLimit.{code_limit, header_code_bytes, HasTooMuchCode}
+use Rattle.bolt_core.specs.CodeLimit.{code_size_limit, header_code_bytes, HasTooMuchCode}
 use Rattle.bolt_core.specs.internal.ReadCode.{section_code_bytes}
 
 -- a section that was read has the bytes of code of its header
@@ -38,7 +38,7 @@ code_size file elf is =
 
 -- What is left of the limit, after the sections before an index: one more section; one that doesn't fit; and all of them.
 module _ (items seen : List Section) (same : seen ≡ items) (i room : ℕ)
-    (left : room + sum_by section_code_bytes (take i items) ≡ code_limit) where
+    (left : room + sum_by section_code_bytes (take i items) ≡ code_size_limit) where
   module _ (size : ℕ) (d : Section) (within : i < length seen) (is : size ≡ section_code_bytes (get_or seen i d)) where
     inside : i < length items
     inside = subst (λ (xs : List Section). i < length xs) same within
@@ -46,13 +46,13 @@ module _ (items seen : List Section) (same : seen ≡ items) (i room : ℕ)
     size_is : size ≡ section_code_bytes (get_or items i d)
     size_is = subst (λ (xs : List Section). size ≡ section_code_bytes (get_or xs i d)) same is
 
-    pub left_after : size ≤ room → room - size + sum_by section_code_bytes (take (i + 1) items) ≡ code_limit
+    pub left_after : size ≤ room → room - size + sum_by section_code_bytes (take (i + 1) items) ≡ code_size_limit
     left_after fits = let more = sum_by_more section_code_bytes items i d inside in let e = size_is in omega arith
 
-    pub passes : room < size → code_limit < sum_by section_code_bytes items
+    pub passes : room < size → code_size_limit < sum_by section_code_bytes items
     passes over = let some = sum_by_more_le section_code_bytes items i d inside in let e = size_is in omega arith
 
-  pub all_fit : length seen ≤ i → sum_by section_code_bytes items ≤ code_limit
+  pub all_fit : length seen ≤ i → sum_by section_code_bytes items ≤ code_size_limit
   all_fit past =
       let beyond : length items ≤ i = subst (λ (xs : List Section). length xs ≤ i) same past in
       let whole : sum_by section_code_bytes (take i items) ≡ sum_by section_code_bytes items = ap (sum_by section_code_bytes)

@@ -87,7 +87,7 @@ module _ (code : ProgramCode) (blocks : List Block) (are : AreBlocks code blocks
             into = into;
           }
 
-  between : (i j a : ℕ) (b : Stands i (λ b. fixup.Leads code.funcs b a)) (c : Stands j (λ c. fixup.Holds code.funcs c a)) →
+  between : (i j a : ℕ) (b : Stands i (λ b. fixup.Leads code.funcs b a)) (c : Stands j (λ c. fixup.BlockHolds code.funcs c a)) →
       LeadsInto code.funcs (owner blocks (slice_index order i)) (owner blocks (slice_index order j))
   between i j a b c =
       let (s, x) = strip_for code b.b (block_of code blocks b.m b.b are b.block) in
@@ -105,10 +105,10 @@ module _ (code : ProgramCode) (blocks : List Block) (are : AreBlocks code blocks
   near_blocks near = record {
     ahead = λ i j a upto x y.
         let b = stands i (λ b. fixup.Leads code.funcs b a) x in
-        let c = stands j (λ c. fixup.Holds code.funcs c a) y in
+        let c = stands j (λ c. fixup.BlockHolds code.funcs c a) y in
         near i j upto (slice_get_within order j c.m c.place) (onward itself (between i j a b c));
     back = λ i j a upto x y.
         let b = stands i (λ b. fixup.Leads code.funcs b a) x in
-        let c = stands j (λ c. fixup.Holds code.funcs c a) y in
+        let c = stands j (λ c. fixup.BlockHolds code.funcs c a) y in
         near j i upto (slice_get_within order i b.m b.place) (backward itself (between i j a b c));
   }

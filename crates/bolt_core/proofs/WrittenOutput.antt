@@ -14,6 +14,7 @@ use Rattle.cfg_build.specs.NamedAddresses.{code_of}
 use Rattle.branch_fixup.specs.Strips.{pieces_of, strips_of}
 use Rattle.code_emit.proofs.SpanBytes.{span_bytes}
 use Rattle.elf_write.specs.Carried.{HoldsBytes}
+use Rattle.elf_write.specs.FrontBytes.{KeepsFront}
 use Rattle.elf_write.specs.Source.{IsPlaced}
 use Rattle.elf_write.specs.Written.{IsWritten}
 use Rattle.bolt_core.specs.Refusals.{CanStand}
@@ -74,6 +75,9 @@ module _ (elf : Elf) (funcs : List Func) (refs : Refs) (blocks : List Block) (is
 
       pub follows_segments : FollowsSegments (program_of elf funcs refs blocks) m.emitted.code.items w
       follows_segments = written.headers
+
+      pub keeps_front : KeepsFront elf tight w
+      keeps_front = written.front
 
       pub is_sound : IsSound w
       is_sound = written.sound

@@ -5,8 +5,8 @@ use Rattle.elf_image.specs.declared.section.SectionHeader.{SectionHeader}
 use Rattle.elf_image.specs.file.Sections.{section_headers, holds_code}
 
 -- 16 MiB
-abbrev pub code_limit : ℕ
-code_limit = 16 * 2 ^ 20
+abbrev pub code_size_limit : ℕ
+code_size_limit = 16 * 2 ^ 20
 
 -- how many bytes of code a section has, by its header
 abbrev pub header_code_bytes : SectionHeader → ℕ
@@ -14,4 +14,4 @@ header_code_bytes section = if holds_code section.flags then section.size else 0
 
 -- the sections of code have more bytes than that together
 abbrev pub HasTooMuchCode : List ℕ → Type 0
-HasTooMuchCode file = code_limit < sum_by header_code_bytes (section_headers file)
+HasTooMuchCode file = code_size_limit < sum_by header_code_bytes (section_headers file)

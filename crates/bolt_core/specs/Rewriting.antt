@@ -23,6 +23,7 @@ use Rattle.code_emit.specs.Bytes.{Adds}
 use Rattle.code_emit.specs.Made.{made_from}
 use Rattle.elf_write.specs.Area.{area_of, shift_of, start_of}
 use Rattle.elf_write.specs.Carried.{HoldsBytes}
+use Rattle.elf_write.specs.FrontBytes.{KeepsFront}
 use Rattle.elf_write.specs.NewSegments.{AreNewHeaders}
 use Rattle.elf_write.specs.NewTables.{HasNewTables}
 use Rattle.elf_write.specs.Room.{is_tight}
@@ -86,14 +87,14 @@ FollowsSegments x code written =
     IfSome (executable_segment segments) (λ e. AreNewHeaders shift.from shift.by area e.0 segments (segments_of written))
 
 -- what was counted of a rewrite
-pub record Counts : Type 0 where
+pub record RewriteCounts : Type 0 where
   pub functions : ℕ
   pub instructions : ℕ
   pub bytes : ℕ
   pub hot : ℕ
   pub ignored : ℕ
 
-abbrev pub counts_of_rewrite : Program → List ℕ → List Counted → List Span → Counts
+abbrev pub counts_of_rewrite : Program → List ℕ → List Counted → List Span → RewriteCounts
 counts_of_rewrite x profile pairs spans = record {
   functions = length x.code.funcs;
   instructions = length (insts_of x.code.funcs);
@@ -102,7 +103,7 @@ counts_of_rewrite x profile pairs spans = record {
   ignored = ignored_in profile x.elf x.code.funcs;
 }
 
-pub record IsRewritten (file profile written : List ℕ) (spans : List Span) (counts : Counts) : Type 0 where
+pub record IsRewritten (file profile written : List ℕ) (spans : List Span) (counts : RewriteCounts) : Type 0 where
   -- no fault is present
   pub program : Program
   pub accepted : IsProgramOf file profile program
@@ -127,4 +128,6 @@ pub record IsRewritten (file profile written : List ℕ) (spans : List Span) (co
   pub code_stands : HoldsBytes written (segments_of written) (new_start program) code
   pub tables : FollowsTables program parts code spans written
   pub headers : FollowsSegments program code written
+  -- up to where no byte moves, bytes that no segment loads are as they were, and those of a table that is replaced
+  pub front : KeepsFront program.elf (is_tight_program program) written
   pub counted : counts ≡ counts_of_rewrite program profile pairs spans

@@ -1,8 +1,8 @@
 -- A rewrite as the code keeps it.
-use Rattle.bolt_core.specs.Rewriting.{Counts}
+use Rattle.bolt_core.specs.Rewriting.{RewriteCounts}
 use Rattle.bolt_core.specs.declared.rewriting.Rewritten.{Rewritten}
 
-abbrev pub counts_seen : Rewritten → Counts
+abbrev pub counts_seen : Rewritten → RewriteCounts
 counts_seen r = record {
   functions = r.functions;
   instructions = r.instructions;

@@ -9,7 +9,7 @@ ghost use Rattle.bolt_core.specs.internal.ReadCode.{IsReadCode};
 
 use elf_image::Elf;
 use func_find::functions;
-use rb_bytes::fault::{NoMemory, Refusal};
+use rb_bytes::fault::Refusal;
 use rv_code::Func;
 use rv_reloc::{Refs, references, starts};
 use std::alloc::Global;
@@ -29,16 +29,8 @@ pub fn read_code(alloc: Global, elf: &Elf<'_>) -> Result<FileCode, Refusal>
     ensures code { IfOk result (IsReadCode elf.now) }
     ensures fault { IfErr result (IsRefusalBy (HasCodeFault elf.now tabled)) }
 {
-    let starts = match starts(alloc, elf) {
-        Ok(starts) => starts,
-        Err(NoMemory) => return Err(Refusal::Memory),
-    };
-    let refs = match references(alloc, elf, &starts, &[]) {
-        Ok(refs) => refs,
-        Err(refusal) => return Err(refusal),
-    };
-    match functions(alloc, elf, &starts, &refs, &[]) {
-        Ok(funcs) => Ok(FileCode { funcs, refs }),
-        Err(refusal) => Err(refusal),
-    }
+    let starts = starts(alloc, elf)?;
+    let refs = references(alloc, elf, &starts, &[])?;
+    let funcs = functions(alloc, elf, &starts, &refs, &[])?;
+    Ok(FileCode { funcs, refs })
 }

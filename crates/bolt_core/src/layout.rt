@@ -4,19 +4,18 @@ ghost use Rattle.elf_write.specs.Need.{HasNoFrames};
 ghost use Rattle.bolt_core.specs.Program.{IsProgramOf};
 ghost use Rattle.bolt_core.specs.Refusals.{IsRefusal};
 ghost use Rattle.bolt_core.specs.internal.Laid.{IsLaidOut};
-ghost use Rattle.bolt_core.specs.internal.ReadCode.{program_of};
+ghost use Rattle.bolt_core.specs.internal.ReadCode.{program_seen};
 
 use crate::cold_parts::cold_starts;
 use crate::hot_blocks::count_hot;
 use crate::limits::passed_limit;
 use crate::parts::parts;
+use crate::program::Program;
 use crate::room::{Site, new_site};
 use edge_profile::read;
-use elf_image::Elf;
 use func_place::place;
 use rb_bytes::fault::{Fault, FaultKind, Refusal};
-use rv_code::{Block, Func, Plan};
-use rv_reloc::Refs;
+use rv_code::Plan;
 use std::alloc::Global;
 
 /// The new order of a program's blocks, and where the new code goes.
@@ -33,29 +32,22 @@ pub struct Layout {
 }
 
 /// Lays out a program by the text of a profile; or says why it can't be.
-pub fn lay_out(
-    alloc: Global,
-    elf: &Elf<'_>,
-    funcs: &[Func],
-    refs: &Refs,
-    blocks: &[Block],
-    profile: &[u8],
-) -> Result<Layout, Refusal>
-    requires program { IsProgramOf elf.now.file.now profile.now (program_of elf.now funcs.now refs.now blocks.now) }
-    requires empty { HasNoFrames elf.now }
-    ensures layout { IfOk result (IsLaidOut (program_of elf.now funcs.now refs.now blocks.now) profile.now) }
-    ensures refused { IfErr result (IsRefusal elf.now.file.now profile.now) }
+pub fn lay_out(alloc: Global, program: &Program<'_, '_>, profile: &[u8]) -> Result<Layout, Refusal>
+    requires program { IsProgramOf program.now.elf.now.file.now profile.now (program_seen program.now) }
+    requires empty { HasNoFrames program.now.elf.now }
+    ensures layout { IfOk result (IsLaidOut (program_seen program.now) profile.now) }
+    ensures refused { IfErr result (IsRefusal program.now.elf.now.file.now profile.now) }
 {
+    let Program {
+        elf,
+        funcs,
+        blocks,
+        ..
+    } = *program;
     let counts = read(alloc, profile, elf, funcs)?;
-    let parts = parts(alloc, funcs, &refs.cells, blocks, &counts)?;
-    let plan = match place(alloc, funcs, blocks, &parts, &counts) {
-        Ok(plan) => plan,
-        Err(refusal) => return Err(refusal),
-    };
-    let site = match new_site(alloc, elf, funcs, blocks) {
-        Ok(site) => site,
-        Err(refusal) => return Err(refusal),
-    };
+    let parts = parts(alloc, funcs, &program.refs.cells, blocks, &counts)?;
+    let plan = place(alloc, funcs, blocks, &parts, &counts)?;
+    let site = new_site(alloc, elf, funcs, blocks)?;
     let cold = cold_starts(alloc, funcs, blocks, &parts)?;
     match passed_limit(alloc, elf, funcs, &cold)? {
         Some(place) => return Err(Refusal::Fault(Fault::at(FaultKind::TooLarge, place))),

@@ -10,10 +10,12 @@ pub mod layout;
 pub mod limits;
 pub mod moving;
 pub mod parts;
+pub mod program;
 pub mod rewriting;
 pub mod room;
 pub mod tables;
 pub mod writing;
 
 pub use file_code::{FileCode, read_code};
+pub use program::Program;
 pub use rewriting::{Rewritten, rewrite};

@@ -1,7 +1,7 @@
 // The new code, and where each instruction went.
 ghost use Rattle.std.specs.Prelude.{◌≡◌, ◌+◌, ◌%◌, ◌<◌, ◌≤◌, All, IfOk, sum_by};
 ghost use Rattle.rv_code.specs.layout.Flow.{insts_of};
-ghost use Rattle.rv_code.specs.layout.FunctionLists.{AreLaidOut, code_limit};
+ghost use Rattle.rv_code.specs.layout.FunctionLists.{AreLaidOut, address_end};
 ghost use Rattle.rv_code.specs.layout.WorstSizes.{worst_size_of_block};
 ghost use Rattle.branch_fixup.specs.Inputs.{AreBlocksOf, AreDirect, AreNear, IsOrder};
 ghost use Rattle.code_emit.specs.Inputs.{CanMove, IsLowCell};
@@ -40,7 +40,7 @@ pub fn move_code(
     requires near { AreNear funcs.now blocks.now plan.now.order.items }
     requires even { start % 2 ≡ 0 }
     requires some { 0 < start }
-    requires room { start + sum_by (worst_size_of_block funcs.now) blocks.now ≤ code_limit }
+    requires room { start + sum_by (worst_size_of_block funcs.now) blocks.now ≤ address_end }
     ensures { IfOk result (IsMoved funcs.now cells.now blocks.now plan.now.order.items start) }
 {
     let (forms, spans) = forms(alloc, funcs, blocks, plan, start)?;

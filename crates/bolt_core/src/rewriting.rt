@@ -5,19 +5,18 @@ ghost use Rattle.bolt_core.specs.Program.{Fit, IsProgramOf};
 ghost use Rattle.bolt_core.specs.Refusals.{IsRefusal, IsRefused};
 ghost use Rattle.bolt_core.specs.Rewriting.{IsRewritten};
 ghost use Rattle.bolt_core.specs.Seen.{counts_seen};
-ghost use Rattle.bolt_core.specs.internal.ReadCode.{program_of};
+ghost use Rattle.bolt_core.specs.internal.ReadCode.{program_seen};
 
 use crate::counting::count_insts;
 use crate::file_code::read_code;
 use crate::layout::lay_out;
+use crate::program::Program;
 use crate::tables::has_tables;
 use crate::writing::{Output, write_program};
 use addr_map::AddrMap;
 use cfg_build::blocks;
-use elf_image::{Elf, read};
+use elf_image::read;
 use rb_bytes::fault::{Fault, FaultKind, Refusal};
-use rv_code::{Block, Func};
-use rv_reloc::Refs;
 use std::alloc::Global;
 
 /// The most bytes of a file, and of a profile: 64 MiB.
@@ -69,58 +68,44 @@ pub fn rewrite(alloc: Global, file: &[u8], profile: &[u8]) -> Result<Rewritten, 
         None => {}
     }
     are_bytes(file);
-    let elf = match read(alloc, file) {
-        Ok(elf) => elf,
-        Err(refusal) => return Err(refusal),
-    };
+    let elf = read(alloc, file)?;
     if has_tables(&elf) {
         return Err(Refusal::Fault(Fault::at(FaultKind::NotBuilt, 0)));
     }
-    let code = match read_code(alloc, &elf) {
-        Ok(code) => code,
-        Err(refusal) => return Err(refusal),
-    };
+    let code = read_code(alloc, &elf)?;
     let blocks = blocks(alloc, &code.funcs, &code.refs, elf.entry)?;
-    rewrite_program(alloc, &elf, &code.funcs, &code.refs, &blocks, profile)
+    let program = Program {
+        elf: &elf,
+        funcs: &code.funcs,
+        refs: &code.refs,
+        blocks: &blocks,
+    };
+    rewrite_program(alloc, &program, profile)
 }
 
 // Lays out a program by a profile, and writes it so.
 fn rewrite_program(
     alloc: Global,
-    elf: &Elf<'_>,
-    funcs: &[Func],
-    refs: &Refs,
-    blocks: &[Block],
+    program: &Program<'_, '_>,
     profile: &[u8],
 ) -> Result<Rewritten, Refusal>
-    requires bytes { All (λ b. b < 256) elf.now.file.now }
-    requires program { IsProgramOf elf.now.file.now profile.now (program_of elf.now funcs.now refs.now blocks.now) }
-    requires empty { HasNoFrames elf.now }
-    ensures rewritten { IfOk result (λ r. IsRewritten elf.now.file.now profile.now r.file.items r.map (counts_seen r)) }
-    ensures refused { IfErr result (IsRefusal elf.now.file.now profile.now) }
+    requires bytes { All (λ b. b < 256) program.now.elf.now.file.now }
+    requires program { IsProgramOf program.now.elf.now.file.now profile.now (program_seen program.now) }
+    requires empty { HasNoFrames program.now.elf.now }
+    ensures rewritten { IfOk result
+        (λ r. IsRewritten program.now.elf.now.file.now profile.now r.file.items r.map (counts_seen r)) }
+    ensures refused { IfErr result (IsRefusal program.now.elf.now.file.now profile.now) }
 {
-    let layout = match lay_out(alloc, elf, funcs, refs, blocks, profile) {
-        Ok(layout) => layout,
-        Err(refusal) => return Err(refusal),
-    };
+    let layout = lay_out(alloc, program, profile)?;
     let start = layout.site.start;
-    let output = write_program(
-        alloc,
-        elf,
-        funcs,
-        refs,
-        blocks,
-        &layout.plan,
-        &layout.cold,
-        start,
-    )?;
+    let output = write_program(alloc, program, &layout.plan, &layout.cold, start)?;
     let Output { file, map, bytes } = output;
     are_bytes(&file);
-    let instructions = count_insts(funcs)?;
+    let instructions = count_insts(program.funcs)?;
     Ok(Rewritten {
         file,
         map,
-        functions: funcs.len() as u64,
+        functions: program.funcs.len() as u64,
         instructions,
         bytes,
         hot: layout.hot,

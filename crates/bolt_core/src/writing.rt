@@ -1,20 +1,18 @@
 // The written file of a program that is laid out.
 ghost use Rattle.std.specs.Prelude.{◌≡◌, ◌<◌, IfOk};
 ghost use Rattle.rv_code.specs.layout.Blocks.{AreBlocks};
-ghost use Rattle.cfg_build.specs.NamedAddresses.{code_of};
 ghost use Rattle.func_place.specs.Nearness.{AreTiedNear, HasAllBlocks};
 ghost use Rattle.bolt_core.specs.Refusals.{CanStand};
 ghost use Rattle.bolt_core.specs.Rewriting.{new_start};
-ghost use Rattle.bolt_core.specs.internal.ReadCode.{IsSoundCode, program_of};
+ghost use Rattle.bolt_core.specs.internal.ReadCode.{IsSoundCode, program_seen};
 ghost use Rattle.bolt_core.specs.internal.WrittenCode.{IsOutput};
 
 use crate::moving::{MovedCode, move_code};
+use crate::program::Program;
 use addr_map::AddrMap;
-use elf_image::Elf;
 use elf_write::write;
 use rb_bytes::fault::NoMemory;
-use rv_code::{Block, Func, Plan};
-use rv_reloc::Refs;
+use rv_code::Plan;
 use std::alloc::Global;
 
 /// A written file, the map to its new code, and how many bytes that has.
@@ -29,23 +27,26 @@ pub struct Output {
 /// cold parts that get a name.
 pub fn write_program(
     alloc: Global,
-    elf: &Elf<'_>,
-    funcs: &[Func],
-    refs: &Refs,
-    blocks: &[Block],
+    program: &Program<'_, '_>,
     plan: &Plan,
     cold: &[u64],
     start: u64,
 ) -> Result<Output, NoMemory>
-    requires code { IsSoundCode elf.now (code_of funcs.now refs.now elf.now.entry) }
-    requires blocks { AreBlocks (code_of funcs.now refs.now elf.now.entry) blocks.now }
-    requires stands { CanStand (program_of elf.now funcs.now refs.now blocks.now) }
-    requires order { HasAllBlocks blocks.now plan.now.order.items }
-    requires near { AreTiedNear funcs.now blocks.now plan.now.order.items }
-    requires start { start ≡ new_start (program_of elf.now funcs.now refs.now blocks.now) }
+    requires code { IsSoundCode program.now.elf.now (program_seen program.now).code }
+    requires blocks { AreBlocks (program_seen program.now).code program.now.blocks.now }
+    requires stands { CanStand (program_seen program.now) }
+    requires order { HasAllBlocks program.now.blocks.now plan.now.order.items }
+    requires near { AreTiedNear program.now.funcs.now program.now.blocks.now plan.now.order.items }
+    requires start { start ≡ new_start (program_seen program.now) }
     requires some { 0 < start }
-    ensures { IfOk result (IsOutput (program_of elf.now funcs.now refs.now blocks.now) plan.now.order.items cold.now) }
+    ensures { IfOk result (IsOutput (program_seen program.now) plan.now.order.items cold.now) }
 {
+    let Program {
+        elf,
+        funcs,
+        refs,
+        blocks,
+    } = *program;
     let moved = move_code(alloc, funcs, &refs.cells, blocks, plan, start)?;
     let MovedCode { map, emitted } = moved;
     let file = write(alloc, elf, funcs, cold, &emitted, &map, &[])?;

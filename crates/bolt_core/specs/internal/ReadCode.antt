@@ -17,6 +17,7 @@ use Rattle.rv_reloc.specs.declared.refs.Refs.{Refs}
 use Rattle.cfg_build.specs.NamedAddresses.{code_of}
 use Rattle.bolt_core.specs.Program.{Program, tabled}
 use Rattle.bolt_core.specs.declared.file_code.FileCode.{FileCode}
+use Rattle.bolt_core.specs.declared.program.Program.{Program as ReadProgram}
 
 -- how many bytes of code a section has that was read, as `header_code_bytes` says of its header
 abbrev pub section_code_bytes : Section → ℕ
@@ -30,6 +31,9 @@ pub record IsReadCode (elf : Elf) (code : FileCode) : Type 0 where
 
 abbrev pub program_of : Elf → List Func → Refs → List Block → Program
 program_of elf funcs refs blocks = record { elf = elf; code = code_of funcs refs elf.entry; blocks = blocks }
+
+abbrev pub program_seen : ReadProgram → Program
+program_seen read = program_of read.elf.now read.funcs.now read.refs.now read.blocks.now
 
 -- a file that was read and its code, without any fault
 pub record IsSoundCode (elf : Elf) (code : ProgramCode) : Type 0 where

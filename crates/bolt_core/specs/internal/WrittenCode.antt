@@ -9,6 +9,7 @@ use Rattle.elf_image.specs.file.Header.{segments_of}
 use Rattle.addr_map.specs.Spans.{IsStretch}
 use Rattle.move_law.specs.Faithful.{IsFaithful}
 use Rattle.elf_write.specs.Carried.{HoldsBytes}
+use Rattle.elf_write.specs.FrontBytes.{KeepsFront}
 use Rattle.elf_write.specs.NewTables.{HasNewTables}
 use Rattle.elf_write.specs.Source.{Source}
 use Rattle.bolt_core.specs.Program.{Program}
@@ -37,3 +38,4 @@ pub record IsOutput (x : Program) (order cold : List ℕ) (o : Output) : Type 0 
   pub code_stands : HoldsBytes o.file.items (segments_of o.file.items) (new_start x) code
   pub tables : HasNewTables {Y = Global} {Z = Global} x.elf [] code x.code.funcs cold o.map (is_tight_program x) o.file.items
   pub headers : FollowsSegments x code o.file.items
+  pub front : KeepsFront x.elf (is_tight_program x) o.file.items

@@ -1,7 +1,7 @@
 use Rattle.std.proofs.Common.{◌≡◌, ◌∙◌, ap, subst, sym, ℕ, ◌+◌, ◌≤◌, List, [], arith, length}
 use Rattle.std.specs.Prelude.{IsTrue, sum_by}
 use Rattle.rv_code.specs.declared.layout.Form.{Form}
-use Rattle.rv_code.specs.layout.FunctionLists.{code_limit}
+use Rattle.rv_code.specs.layout.FunctionLists.{address_end}
 use Rattle.rv_code.specs.layout.ProgramCode.{IsNamed, is_code_address}
 use Rattle.rv_code.specs.layout.WorstSizes.{worst_size_of_block}
 use Rattle.addr_map.specs.declared.span.Span.{Span}
@@ -42,7 +42,7 @@ returns c =
       map_is = subst (λ (spans : List Span). AreInLineOrder spans c.in_ok-map.map) c.in_ok-forms.ensures.spans
           c.in_ok-map.ensures;
       even = c.requires.even;
-      low = low_end (end_of ss start fs) start sum code_limit c.in_ok-forms.ensures.room c.requires.room;
+      low = low_end (end_of ss start fs) start sum address_end c.in_ok-forms.ensures.room c.requires.room;
     } in
     let seen : AreMapped ss c.deref.result.now start c.in_ok-map.map =
     subst (λ (gs : List Form). AreMapped ss gs start c.in_ok-map.map) (sym c.deref.ensures.value) mapped in
