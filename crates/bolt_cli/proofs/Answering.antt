@@ -8,40 +8,25 @@ use Rattle.rb_io.specs.Views.{FilesSeen, FilesGoOn, SinkSeen}
 use Rattle.rb_bytes.specs.Fault.{fault_at}
 use Rattle.rb_bytes.specs.declared.fault.Fault.{Fault}
 use Rattle.rb_bytes.specs.declared.fault.FaultKind.TheVariants.{TooLarge}
+use Rattle.rb_bytes.specs.declared.fault.Refusal.{Refusal}
+use Rattle.rb_bytes.specs.declared.fault.Refusal.TheVariants as refusal
 use Rattle.addr_map.specs.MapText.{map_text}
 use Rattle.bolt_core.specs.Program.{file_limit}
-use Rattle.bolt_core.specs.Refusals.{IsRefused, long_file, long_profile}
+use Rattle.bolt_core.specs.Refusals.{IsRefusal, IsRefused, long_file, long_profile}
 use Rattle.bolt_cli.specs.declared.rewrite.Texts.{Texts}
 use Rattle.bolt_cli.specs.declared.status.Status.{Status}
 use Rattle.bolt_cli.specs.declared.status.Status.TheVariants as status
 use Rattle.bolt_cli.specs.Lines.{refused_line, summary_line}
-use Rattle.bolt_cli.specs.rewrite.InputAnswers.{AreRead, IsMadeOf, IsPresent, IsStopped, Made, OfInputs, refused, at_refusal}
+use Rattle.bolt_cli.specs.rewrite.InputAnswers.{AreRead, IsMadeOf, HasInputFault, IsStopped, MadeRewrite, OfInputs, refused}
+use Rattle.bolt_cli.specs.rewrite.InputAnswers.{at_refusal}
 use Rattle.bolt_cli.specs.rewrite.InputAnswers.{no_memory}
 use Rattle.bolt_cli.specs.rewrite.MapAnswers.{MapAnswers, at_text, printed}
 use Rattle.bolt_cli.specs.rewrite.Phases.{AreTextsOf, LinePrinted, all_printed, prefix_printed, none_printed, OutputsWritten}
+use Rattle.bolt_cli.specs.rewrite.Phases.{Refuses}
 use Rattle.bolt_cli.specs.rewrite.RewriteAnswers.{HoldBoth, HoldsOut, OthersKept, RewriteAnswers, StopsWriting, at_map, at_out}
 use Rattle.bolt_cli.specs.rewrite.RewriteAnswers.{at_summary, at_write, done}
 use Rattle.bolt_cli.specs.Words.{InputNames, RewriteNames}
 use Rattle.bolt_cli.specs.World.{World}
-
--- how a refusal ends, where its fault is present and the files are as they were
-pub refuses : (answer : Status) (fault : Fault) (names : InputNames) (old new : World)
-    → LinePrinted answer (status.Refused fault) (refused_line fault) old.output new.output
-    → Unchanged old.files.content new.files.content → IsPresent names old fault → IsStopped names old new answer
-refuses answer fault names old new (all_printed is taken) same present =
-    refused fault is present (record { line_taken = taken; unwritten = same })
-refuses answer fault names old new (prefix_printed is rose taken) same present =
-    at_refusal fault is present (record { print = record { cause = rose; front = taken }; unwritten = same })
-refuses answer fault names old new (none_printed is kept) same present =
-    no_memory is (record { unprinted = kept; unwritten = same })
-
--- a count that rose after another call that it didn't fall in
-pub rose_after : (before between after : ℕ) → before ≤ between → Rose between after → Rose before after
-rose_after before between after le rose = λ below. let later : between < after = rose below in omega arith
-
--- a count that rose before another call that it didn't fall in
-pub rose_before : (before between after : ℕ) → between ≤ after → Rose before between → Rose before after
-rose_before before between after le rose = λ below. let earlier : before < between = rose (omega arith) in omega arith
 
 -- a fact of what was read is one of what there is
 pub of_inputs : (w : World) (names : InputNames) (file profile : List ℕ) (P : List ℕ → List ℕ → Type 0) →
@@ -51,6 +36,36 @@ of_inputs w names file profile P read p =
     subst (λ (o : Option (List ℕ)). IsSomeAnd o (λ q. P file q)) (sym read.profile_is) p in
     subst (λ (o : Option (List ℕ)). IsSomeAnd o (λ f. IsSomeAnd (w.files.content names.profile) (λ q. P f q)))
     (sym read.file_is) inner
+
+-- how a refusal ends, where its fault is present and the files are as they were
+pub refuses : (answer : Status) (fault : Fault) (names : InputNames) (old new : World)
+    → LinePrinted answer (status.Refused fault) (refused_line fault) old.output new.output
+    → Unchanged old.files.content new.files.content → HasInputFault names old fault → IsStopped names old new answer
+refuses answer fault names old new (all_printed is taken) same present =
+    refused fault is present (record { line_taken = taken; unwritten = same })
+refuses answer fault names old new (prefix_printed is rose taken) same present =
+    at_refusal fault is present (record { print = record { cause = rose; front = taken }; unwritten = same })
+refuses answer fault names old new (none_printed is kept) same present =
+    no_memory is (record { unprinted = kept; unwritten = same })
+
+-- The same of a refusal, or for want of memory; the files are passed on as these slices.
+pub is_stopped : (answer : Status) (r : Refusal) (names : InputNames) (old new : World) (file profile : List ℕ)
+    → Refuses r answer old.output new.output → Unchanged old.files.content new.files.content
+    → (IsTrue old.files.told → AreRead old.files.content names file profile) → IsRefusal file profile r
+    → IsStopped names old new answer
+is_stopped answer (refusal.Fault fault) names old new file profile says same read why =
+    refuses answer fault names old new says same
+    (λ told. of_inputs old names file profile (λ f p. IsRefused f p fault) (read told) why)
+is_stopped answer refusal.Memory names old new file profile kept same read why =
+    no_memory kept.0 (record { unprinted = kept.1; unwritten = same })
+
+-- a count that rose after another call that it didn't fall in
+pub rose_after : (before between after : ℕ) → before ≤ between → Rose between after → Rose before after
+rose_after before between after le rose = λ below. let later : between < after = rose below in omega arith
+
+-- a count that rose before another call that it didn't fall in
+pub rose_before : (before between after : ℕ) → between ≤ after → Rose before between → Rose before after
+rose_before before between after le rose = λ below. let earlier : before < between = rose (omega arith) in omega arith
 
 -- a fact of both inputs that follows from another
 map_inputs : (a b : Option (List ℕ)) (P Q : List ℕ → List ℕ → Type 0) → ((f p : List ℕ) → P f p → Q f p) →
@@ -132,14 +147,15 @@ module _ (names : RewriteNames) (written map summary : List ℕ) (old mid new : 
   line_taken = subst (λ (s : SinkSeen). TakesAll s.taken new.output.taken summary) between.output_is
 
 -- the texts that were written are those of what was made
-texts_are : (answer : Status) (names : RewriteNames) (made : Made) (texts : Texts) (mid new : World) → AreTextsOf made texts
+texts_are : (answer : Status) (names : RewriteNames) (made : MadeRewrite) (texts : Texts) (mid new : World) →
+    AreTextsOf made texts
     → OutputsWritten answer names made.written texts.map.items texts.summary.items mid new
     → OutputsWritten answer names made.written (map_text made.spans) (summary_line made.counts) mid new
 texts_are answer names made texts mid new is written =
     subst (λ (map : List ℕ). OutputsWritten answer names made.written map (summary_line made.counts) mid new) is.map_is
     (subst (λ (summary : List ℕ). OutputsWritten answer names made.written texts.map.items summary mid new) is.summary_is written)
 
-module _ (names : RewriteNames) (made : Made) (old mid new : World) (between : IsBetween old mid)
+module _ (names : RewriteNames) (made : MadeRewrite) (old mid new : World) (between : IsBetween old mid)
     (of : IsMadeOf names.inputs old.files made) where
   ends : (answer : Status) → OutputsWritten answer names made.written (map_text made.spans) (summary_line made.counts) mid new →
       RewriteAnswers names old new answer
@@ -156,7 +172,7 @@ module _ (names : RewriteNames) (made : Made) (old mid new : World) (between : I
   writes texts is answer written = ends answer (texts_are answer names made texts mid new is written)
 
 -- the map of what was made was printed, whole or in part
-module _ (names : InputNames) (made : Made) (old mid new : World) (between : IsBetween old mid)
+module _ (names : InputNames) (made : MadeRewrite) (old mid new : World) (between : IsBetween old mid)
     (of : IsMadeOf names old.files made)
     (same : Unchanged old.files.content new.files.content) where
   pub prints : TakesAll mid.output.taken new.output.taken (map_text made.spans) → MapAnswers names old new status.Ok

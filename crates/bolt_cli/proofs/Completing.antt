@@ -5,7 +5,8 @@ use Rattle.rb_io.specs.Views.{FilesGoOn}
 use Rattle.bolt_core.specs.Refusals.{IsRefused}
 use Rattle.bolt_cli.specs.declared.status.Status.{Status}
 use Rattle.bolt_cli.specs.CommandAnswers.{Serves}
-use Rattle.bolt_cli.specs.rewrite.InputAnswers.{IsAccepted, IsOkOrNoMemory, IsPresent, IsStopped, NoneRose, OfInputs, refused}
+use Rattle.bolt_cli.specs.rewrite.InputAnswers.{IsAccepted, IsOkOrNoMemory, HasInputFault, IsStopped, NoInputErrors, OfInputs}
+use Rattle.bolt_cli.specs.rewrite.InputAnswers.{refused}
 use Rattle.bolt_cli.specs.rewrite.InputAnswers.{at_refusal, at_file, no_memory}
 use Rattle.bolt_cli.specs.rewrite.MapAnswers.{MapAnswers, at_text, printed}
 use Rattle.bolt_cli.specs.rewrite.MapAnswers as map
@@ -22,7 +23,7 @@ exclude None b P Q h x y = absurd x
 exclude (Some f) None P Q h x y = absurd x
 exclude (Some f) (Some p) P Q h x y = h f p x y
 
-not_present : (names : InputNames) (old : World) (fault : Fault) → IsPresent names old fault → IsTrue old.files.told →
+not_present : (names : InputNames) (old : World) (fault : Fault) → HasInputFault names old fault → IsTrue old.files.told →
     OfInputs old names IsAccepted → ⊥
 not_present names old fault present told accepted =
     exclude (old.files.content names.file) (old.files.content names.profile) (λ f p. IsRefused f p fault) IsAccepted
@@ -30,7 +31,7 @@ not_present names old fault present told accepted =
 
 stopped_completes : (names : InputNames) (old new : World) (answer : Status)
     → IsStopped names old new answer → IsTrue old.files.told
-    → OfInputs old names IsAccepted → NoneRose names old new → IsOkOrNoMemory answer
+    → OfInputs old names IsAccepted → NoInputErrors names old new → IsOkOrNoMemory answer
 stopped_completes names old new answer (refused fault is present prints) told accepted quiet =
     absurd (not_present names old fault present told accepted)
 stopped_completes names old new answer (at_refusal fault is present fails) told accepted quiet =
@@ -55,7 +56,7 @@ rewrite_completes names old new answer (rewrite.stopped stops) told accepted qui
     stopped_completes names.inputs old new answer stops told accepted quiet.others
 
 map_completes : (names : InputNames) (old new : World) (answer : Status) → MapAnswers names old new answer → IsTrue old.files.told
-    → OfInputs old names IsAccepted → NoneRose names old new → IsOkOrNoMemory answer
+    → OfInputs old names IsAccepted → NoInputErrors names old new → IsOkOrNoMemory answer
 map_completes names old new answer (printed is made of prints) told accepted quiet = subst IsOkOrNoMemory (sym is) tt
 map_completes names old new answer (at_text is made of fails) told accepted quiet = absurd (quiet.line fails.print.cause)
 map_completes names old new answer (map.stopped stops) told accepted quiet =

@@ -4,12 +4,14 @@ pub mod OptionWords
 pub mod Numbers
 pub mod RunArguments
 pub mod WordExamples
+pub mod Outcomes
 pub mod RunEnds
 pub mod RunAnswering
 pub mod ByteRunAnswering
 pub mod FrameSections
 pub mod CellBounds
 pub mod SymbolRunAnswering
+pub mod RunModes
 pub mod FaultlessCode
 pub mod RecordEnds
 pub mod RecordAnswering

@@ -1,25 +1,22 @@
 -- The command `record` serves.
-use Rattle.std.proofs.Common.{◌≡◌, ◌∙◌, ◌≤◌, ◌⊎◌, subst, sym, ℕ, List, Some, IsTrue, arith, inr}
+use Rattle.std.proofs.Common.{◌≡◌, ◌∙◌, ◌≤◌, refl, subst, sym, ℕ, List, Some, IsTrue}
 use Rattle.rb_io.specs.Names.{Unchanged}
-use Rattle.rb_io.specs.Views.{FilesGoOn, FilesSeen, SourceSeen}
+use Rattle.rb_io.specs.Views.{FilesGoOn, FilesSeen, SinkSeen}
 use Rattle.rb_bytes.specs.declared.fault.Fault.{Fault}
-use Rattle.rv_code.specs.declared.cause.Cause.{Cause}
 use Rattle.bolt_core.specs.Program.{Program}
 use Rattle.bolt_cli.specs.CommandAnswers.{Serves, KeepsInput}
-use Rattle.bolt_cli.specs.Lines.{refused_line}
 use Rattle.bolt_cli.specs.recording.RecordAnswers.{HoldsProfile, IsRecording, RecordAnswers, RecordsRun, NoneRoseRecording}
 use Rattle.bolt_cli.specs.recording.RecordAnswers.{recorded, at_profile, at_closing, stopped}
 use Rattle.bolt_cli.specs.recording.RecordRuns.{IsRecordProgram, record_machine, record_mode}
-use Rattle.bolt_cli.specs.rewrite.Phases.{LinePrinted}
-use Rattle.bolt_cli.specs.run.Endings.{Ends, Stops, RunsOn}
-use Rattle.bolt_cli.specs.run.RunAnswers.{at_input, at_output, out_of_memory, IsPresent, under_way, IsRunAnswer, IsCutShort}
-use Rattle.bolt_cli.specs.run.RunAnswers.{IsExact}
+use Rattle.bolt_cli.specs.run.Endings.{Ends, HaltsAt, RunsOn}
+use Rattle.bolt_cli.specs.run.RunAnswers.{at_input, at_output, out_of_memory, under_way, IsRunAnswer, IsExact}
+use Rattle.bolt_cli.specs.run.SymbolRuns.{too_long}
 use Rattle.bolt_cli.specs.Words.{RecordWords, Record}
 use Rattle.bolt_cli.specs.World.{World}
 use Rattle.bolt_cli.specs.declared.status.Status.{Status}
 use Rattle.bolt_cli.specs.declared.status.Status.TheVariants as status
 use Rattle.bolt_cli.proofs.Answering.{rose_after}
-use Rattle.bolt_cli.proofs.RunAnswering.{refuses, none_present, ending_said, stop_said, some_said, same_content}
+use Rattle.bolt_cli.proofs.RunAnswering.{IsLawful, IsServed, ending_said, stop_said, some_said, other_exact}
 use Rattle.bolt_cli.proofs.SymbolRunAnswering.{not_both}
 
 -- the profile still holds its text, and the others what they had
@@ -35,7 +32,7 @@ still_holds out text old new files same go_on holds = record {
 module _ (program : Program) (words : RecordWords) (old_world new_world : World) (answer : Status) where
   not_refused : (fault : Fault) → RecordsRun program words old_world new_world answer → answer ≡ status.Refused fault → ⊥
   not_refused fault (recorded (Ends value) text so profiled holds) same = absurd (cc)
-  not_refused fault (recorded (Stops pc why) text so profiled holds) same = absurd (cc)
+  not_refused fault (recorded (HaltsAt pc why) text so profiled holds) same = absurd (cc)
   not_refused fault (recorded RunsOn text so profiled holds) same = absurd (cc)
   not_refused fault (at_profile ending so rose out others) same = absurd (cc)
   not_refused fault (at_closing ending text so rose profiled holds) same = absurd (cc)
@@ -50,19 +47,23 @@ module _ (program : Program) (words : RecordWords) (old_world new_world : World)
     untouched = λ leaves. absurd leaves;
   }
 
-module _ (words : RecordWords) (old new : World) where
-  trap_said : (program : Program) (pc : ℕ) (cause : Cause) → IsRunAnswer (status.Trapped pc cause)
-  trap_said program pc cause = tt
+pub lawful : IsLawful record_mode
+lawful = record {
+  long_cannot = λ file long. too_long long refl;
+  not_both = not_both;
+  halts = λ program words pc cause. tt;
+}
 
+module _ (words : RecordWords) (old new : World) where
   -- a run that got under way
-  pub goes_under_way : (answer : Status) (file : List ℕ) (program : Program)
+  goes_under_way : (answer : Status) (file : List ℕ) (program : Program)
       → (IsTrue old.files.told → old.files.content words.run.file ≡ Some file) → IsRecordProgram file program
       → RecordsRun program words old new answer → RecordAnswers words old new answer
   goes_under_way answer file program is program_is run =
       under_way (record { file = file; file_is = is; program = program; program_is = program_is; run = run })
 
-  -- what holds from after the file was read on holds from before it
-  pub after_reading : (program : Program) (files : FilesSeen) (answer : Status) → Unchanged old.files.content files.content
+  -- what holds from after the file was read on, when nothing was printed, holds from before it
+  after_reading : (program : Program) (files : FilesSeen) (answer : Status) → Unchanged old.files.content files.content
       → FilesGoOn old.files files
       → RecordsRun program words (record { files = files; input = old.input; output = old.output }) new answer
       → RecordsRun program words old new answer
@@ -90,64 +91,62 @@ module _ (words : RecordWords) (old new : World) where
   after_reading program files answer same go_on (stopped stops kept) =
       stopped stops (record { each = λ name. kept.each name ∙ same.each name })
 
-  abbrev IsExactly : List ℕ → Status → Type 0
-  IsExactly file answer = IsCutShort answer
-      ⊎ ((program : Program)
-      × (IsRecordProgram file program × IsExact (record_machine program words.run.words) words.run.limit old.input.left answer))
-
   -- Where all is quiet, the answer of a run that got under way says how it came out.
   module _ (file : List ℕ) (told : IsTrue old.files.told) (is : old.files.content words.run.file ≡ Some file)
       (can : record_mode.CanRun file) (quiet : NoneRoseRecording words old new) (answer : Status) where
     recorded_said : (program : Program) → RecordsRun program words old new answer → IsRunAnswer answer
     recorded_said program (recorded ending text so profiled holds) =
-        subst IsRunAnswer (sym so) (ending_said record_mode words.run old new not_both trap_said file told is can program ending)
+        subst IsRunAnswer (sym so) (ending_said record_mode words.run old new lawful file told is can program ending)
     recorded_said program (at_profile ending so rose out others) = absurd (quiet.out rose)
     recorded_said program (at_closing ending text so rose profiled holds) = absurd (quiet.others.out rose)
     recorded_said program (stopped stops kept) =
-        stop_said record_mode words.run old new not_both trap_said file told is can program answer quiet.others stops
+        stop_said record_mode words.run old new lawful file told is can program answer quiet.others stops
 
     said : RecordAnswers words old new answer → IsRunAnswer answer
     said done =
-        some_said record_mode words.run old new not_both trap_said file told is can (IsRecording words old new answer) answer
+        some_said record_mode words.run old new lawful file told is can (IsRecording words old new answer) answer
         (λ way. recorded_said way.program way.run) quiet.others done
 
-  -- The whole of it, by an answer that is exact; and by a refusal, which no file gets that can be run.
-  pub serves : (answer : Status) → RecordAnswers words old new answer
-      → (IsTrue old.files.told → (file : List ℕ) → old.files.content words.run.file ≡ Some file → IsExactly file answer)
-      → FilesGoOn old.files new.files → old.input.faults ≤ new.input.faults → old.output.faults ≤ new.output.faults
-      → Serves (Some (Record words)) answer old new
-  serves answer done exact go_on input output = record {
-    answers = done;
-    completes =
-        λ told file is can. record { some = λ quiet. said file told is can quiet answer done; exactly = exact told file is };
+  pub after_read : (program : Program) (files : FilesSeen) (output : SinkSeen) (answer : Status)
+      → Unchanged old.files.content files.content → FilesGoOn old.files files → output ≡ old.output
+      → RecordsRun program words (record { files = files; input = old.input; output = output }) new answer
+      → RecordsRun program words old new answer
+  after_read program files output answer same go_on unprinted run =
+      after_reading program files answer same go_on
+      (subst (λ (o : SinkSeen). RecordsRun program words (record { files = files; input = old.input; output = o }) new answer)
+      unprinted run)
+
+  abbrev pub IsRecordServed : Status → Type 0
+  IsRecordServed answer =
+      IsServed record_mode words.run (IsRecording words old new answer) (NoneRoseRecording words old new) old new answer
+
+  pub run_recorded : (answer : Status) (file : List ℕ) (program : Program)
+      → (IsTrue old.files.told → old.files.content words.run.file ≡ Some file) → IsRecordProgram file program
+      → RecordsRun program words old new answer
+      → IsExact (record_machine program words.run.words) words.run.limit old.input.left answer → IsRecordServed answer
+  run_recorded answer file program is program_is run exact =
+      let done : RecordAnswers words old new answer = goes_under_way answer file program is program_is run in
+      record {
+        done = done;
+        completes = λ told other other_is can. record {
+          some = λ quiet. said other told other_is can quiet answer done;
+          exactly =
+              other_exact record_mode words.run old new answer file other program (is told) other_is program_is exact;
+        };
+      }
+
+  -- the whole of it, by what is served of the file
+  pub serves : (answer : Status) → IsRecordServed answer → FilesGoOn old.files new.files
+      → old.input.faults ≤ new.input.faults → old.output.faults ≤ new.output.faults → Serves (Some (Record words)) answer old new
+  serves answer served go_on input output = record {
+    answers = served.done;
+    completes = served.completes;
     files_go_on = go_on;
     input_faults = input;
     output_faults = output;
   }
 
-  pub refusal_serves : (answer : Status) (fault : Fault)
-      → LinePrinted answer (status.Refused fault) (refused_line fault) old.output new.output
-      → Unchanged old.files.content new.files.content → IsPresent record_mode words.run old fault → new.input ≡ old.input
-      → FilesGoOn old.files new.files → old.output.faults ≤ new.output.faults → Serves (Some (Record words)) answer old new
-  refusal_serves answer fault printed same present unread go_on output = record {
-    answers = refuses record_mode words.run old new (IsRecording words old new answer) answer fault printed same present unread;
-    completes =
-        λ told file is can. absurd (none_present record_mode words.run old new not_both trap_said file told is can fault present);
-    files_go_on = go_on;
-    input_faults = let P : SourceSeen → Type 0 = λ input. old.input.faults ≤ input.faults in subst P (sym unread) (omega arith);
-    output_faults = output;
-  }
-
-  -- what is exact for a file's content by one of its names is so by the other
-  pub other_exact : (answer : Status) (one other : List ℕ) (program : Program) → old.files.content words.run.file ≡ Some one
-      → old.files.content words.run.file ≡ Some other
-      → IsRecordProgram one program → IsExact (record_machine program words.run.words) words.run.limit old.input.left answer
-      → IsExactly other answer
-  other_exact answer one other program is is' program_is exact =
-      inr (
-        program,
-        (
-          subst (λ f. IsRecordProgram f program) (same_content (old.files.content words.run.file) one other is is') program_is,
-          exact,
-        ),
-      )
+-- what is read of a file keeps the file
+pub own_file : (file : List ℕ) (program : Program) → IsRecordProgram file program →
+    IsRecordProgram program.elf.file.now program
+own_file file program is = subst (λ f. IsRecordProgram f program) (sym is.faultless.read.file_is) is

@@ -21,8 +21,8 @@ use Rattle.bolt_core.specs.Program.{Program}
 use Rattle.bolt_cli.specs.recording.Phases.{ProfileWritten, Finished, written, at_line, unwritten}
 use Rattle.bolt_cli.specs.recording.Phases as phase
 use Rattle.bolt_cli.specs.recording.RecordAnswers.{RecordsRun, TakesNone, recorded, at_profile, at_closing, stopped}
-use Rattle.bolt_cli.specs.recording.RecordRuns.{record_machine, steps_gone}
-use Rattle.bolt_cli.specs.run.Endings.{Ending, Ends, Stops, RunsOn, Loaded, answer_of, closing_line}
+use Rattle.bolt_cli.specs.recording.RecordRuns.{record_machine, moving_steps}
+use Rattle.bolt_cli.specs.run.Endings.{Ending, Ends, HaltsAt, RunsOn, Loaded, answer_of, closing_line}
 use Rattle.bolt_cli.specs.run.RunAnswers.{Taking, ComesOut, out_of_memory, IsCutShort, IsExact, read_fault, write_fault}
 use Rattle.bolt_cli.specs.run.RunAnswers.{no_memory, outside}
 use Rattle.bolt_cli.specs.Words.{RecordWords}
@@ -79,7 +79,7 @@ module _ (program : Program) (words : RecordWords) (steps : ℕ) (text : List �
 
   -- a run that came out, and its profile
   came_out : (a : Answer Cause) (r : Runs a) (ending : Ending Cause) (came : CameSo a r ending)
-      (moves : List Move) (state : ByteState) → ByteMoves (machine.start came.input) (steps_gone ending steps) moves state
+      (moves : List Move) (state : ByteState) → ByteMoves (machine.start came.input) (moving_steps ending steps) moves state
       → IsEdgeText program.elf program.code.funcs (taken program.code.funcs program.blocks moves) text → (result : Status)
       → ProfileWritten result (answer_of machine ending) words.out text
       (closing_line (answer_of machine ending) steps) between new → RecordsRun program words old new result
@@ -118,7 +118,7 @@ module _ (program : Program) (words : RecordWords) (steps : ℕ) (text : List �
       (λ pc cause result steps b c printed. printed) refl refl writes_rise writes_last value r.run.runs)
       r.moves r.state r.gone r.text_is result finished
   answers (end.Halted pc cause) result r finished =
-      came_out (end.Halted pc cause) r.run (Stops pc cause)
+      came_out (end.Halted pc cause) r.run (HaltsAt pc cause)
       (came_halted state_of machine words.run.limit r.run.machine r.run.ends_as steps (outside old)
       (outside between) (outside new)
       r.run.starts (λ input. refl)
@@ -158,7 +158,7 @@ module _ (program : Program) (words : RecordWords) (steps : ℕ) (text : List �
 
   finished_says : (result : Status) (ending : Ending Cause) → FinishedSo result (step_answer ending) → Says result ending
   finished_says result (Ends value) finished = written_says result (Ends value) _ finished
-  finished_says result (Stops pc cause) finished = written_says result (Stops pc cause) _ finished
+  finished_says result (HaltsAt pc cause) finished = written_says result (HaltsAt pc cause) _ finished
   finished_says result RunsOn finished = written_says result RunsOn _ finished
 
   only_so : (a : Answer Cause) (r : Runs a) (result : Status) → (IsInterrupted a → ⊥) → FinishedSo result a

@@ -18,7 +18,7 @@ use Rattle.bolt_cli.specs.run.RunAnswers.{Taking, ComesOut, StopsAnywhere, Answe
 use Rattle.bolt_cli.specs.run.RunAnswers.{at_closing, out_of_memory, stopped, IsCutShort, read_fault, write_fault, no_memory}
 use Rattle.bolt_cli.specs.run.RunAnswers.{IsExact}
 use Rattle.bolt_cli.specs.run.Phases.{SaysEnding, Closed, status_of}
-use Rattle.bolt_cli.specs.run.Endings.{Ending, Ends, Stops, RunsOn, Loaded, answer_of, closing_line, RunsTo}
+use Rattle.bolt_cli.specs.run.Endings.{Ending, Ends, HaltsAt, RunsOn, Loaded, answer_of, closing_line, RunsTo}
 use Rattle.bolt_cli.specs.declared.status.Status.{Status}
 use Rattle.bolt_cli.proofs.Answering.{rose_after, rose_before}
 
@@ -50,7 +50,7 @@ SaysHalts {C} halted = (pc : ℕ) (cause : C) (result : Status) (steps : ℕ) (b
 -- the machine's answer for how a run comes out
 abbrev pub step_answer : {C : Type 0} → Ending C → Answer C
 step_answer (Ends value) = end.Ended value
-step_answer (Stops pc cause) = end.Halted pc cause
+step_answer (HaltsAt pc cause) = end.Halted pc cause
 step_answer RunsOn = end.Going
 
 -- A machine M keeps the state that `state_of` says. Its run and the closing line: `mid` is between them.
@@ -107,7 +107,7 @@ module _ {M V X C : Type 0} (state_of : M → List ℕ → State V X) (machine :
       }
 
   abbrev pub came_halted : (pc : ℕ) (cause : C) →
-      RunsSomeInput state_of machine.step (end.Halted pc cause) limit steps old new before mid → Came (Stops pc cause)
+      RunsSomeInput state_of machine.step (end.Halted pc cause) limit steps old new before mid → Came (HaltsAt pc cause)
   came_halted pc cause ran =
       let r = ran.answers.1 in
       record {
@@ -154,7 +154,7 @@ module _ {M V X C : Type 0} (state_of : M → List ℕ → State V X) (machine :
       left_same ∙ came.left_is ∙ ap (as_told before.input.left) (sym came.runs.1.1),
     );
   }
-  unclosed same (Stops pc cause) came = record {
+  unclosed same (HaltsAt pc cause) came = record {
     input = came.input;
     input_is = came.input_is;
     steps = steps;
@@ -240,7 +240,7 @@ module _ {M V X C : Type 0} (state_of : M → List ℕ → State V X) (machine :
   answers end.Going answer ran printed = closed answer RunsOn (came_on ran) printed
   answers (end.Ended value) answer ran printed = closed answer (Ends value) (came_ended value ran) printed
   answers (end.Halted pc cause) answer ran printed =
-      closed answer (Stops pc cause) (came_halted pc cause ran) (halts pc cause answer steps mid.output after.output printed)
+      closed answer (HaltsAt pc cause) (came_halted pc cause ran) (halts pc cause answer steps mid.output after.output printed)
   answers end.ReadFault answer ran printed = stopped (stops end.ReadFault answer tt ran printed.0 printed.1)
   answers end.WriteFault answer ran printed = stopped (stops end.WriteFault answer tt ran printed.0 printed.1)
   answers end.Memory answer ran printed = stopped (stops end.Memory answer tt ran printed.0 printed.1)
@@ -250,7 +250,7 @@ module _ {M V X C : Type 0} (state_of : M → List ℕ → State V X) (machine :
       StateRunsTo machine.step (step_answer ending) limit n (state_of old input) trace
   as_steps input (Ends value) n trace rest run =
       (run.0, subst (λ s. Run machine.step s n trace value) (sym (loaded input)) run.1.0)
-  as_steps input (Stops pc cause) n trace rest run =
+  as_steps input (HaltsAt pc cause) n trace rest run =
       (run.0, subst (λ s. HaltsAfter machine.step s n trace pc cause) (sym (loaded input)) run.1.0)
   as_steps input RunsOn n trace rest run =
       (run.0, run.1.0, subst (λ s. SoFar machine.step s n trace run.1.0) (sym (loaded input)) run.1.1.0)
@@ -267,8 +267,8 @@ module _ {M V X C : Type 0} (state_of : M → List ℕ → State V X) (machine :
   closed_says : (answer : Status) (ending : Ending C) →
       Closed answer steps mid.output after.output (status_of machine.halted (step_answer ending)) → SaysSo answer ending
   closed_says answer (Ends value) printed = line_says answer (Ends value) printed
-  closed_says answer (Stops pc cause) printed =
-      line_says answer (Stops pc cause) (halts pc cause answer steps mid.output after.output printed)
+  closed_says answer (HaltsAt pc cause) printed =
+      line_says answer (HaltsAt pc cause) (halts pc cause answer steps mid.output after.output printed)
   closed_says answer RunsOn printed = line_says answer RunsOn printed
 
   cut_short : (a : Answer C) (answer : Status) → IsInterrupted a →

@@ -1,15 +1,18 @@
 -- What holds at the end of the program, by its answer.
 use Rattle.std.specs.Prelude.{◌≡◌, ℕ, ◌≤◌, List, Option, Some, None, IsTrue}
+use Rattle.std.specs.Process.{exit_status}
+use Rattle.std.specs.declared.process.ExitCode.{ExitCode}
 use Rattle.rb_bytes.specs.declared.fault.Fault.{Fault}
 use Rattle.rb_io.specs.Views.{FilesGoOn}
 use Rattle.bolt_cli.specs.declared.status.Status.{Status}
 use Rattle.bolt_cli.specs.declared.status.Status.TheVariants as status
+use Rattle.bolt_cli.specs.Status.{exit_number}
 use Rattle.bolt_cli.specs.World.{World}
 use Rattle.bolt_cli.specs.Words.{Command, Rewrite, Map, Run, RunSymbols, Record}
 use Rattle.bolt_cli.specs.Lines.{usage_line}
 use Rattle.bolt_cli.specs.Printing.{PrintsOnly, FailsAtLine}
 use Rattle.bolt_cli.specs.recording.RecordAnswers.{RecordAnswers, RecordCompletes}
-use Rattle.bolt_cli.specs.rewrite.InputAnswers.{IsAccepted, IsOkOrNoMemory, NoneRose, OfInputs}
+use Rattle.bolt_cli.specs.rewrite.InputAnswers.{IsAccepted, IsOkOrNoMemory, NoInputErrors, OfInputs}
 use Rattle.bolt_cli.specs.rewrite.MapAnswers.{MapAnswers}
 use Rattle.bolt_cli.specs.rewrite.RewriteAnswers.{NoneRoseWriting, RewriteAnswers}
 use Rattle.bolt_cli.specs.run.ByteRuns.{byte_mode, IsRunnable}
@@ -36,7 +39,7 @@ abbrev pub Completes : Option Command → Status → World → World → Type 0
 Completes (Some (Rewrite names)) answer old new =
     IsTrue old.files.told → OfInputs old names.inputs IsAccepted → NoneRoseWriting names old new → IsOkOrNoMemory answer
 Completes (Some (Map names)) answer old new =
-    IsTrue old.files.told → OfInputs old names IsAccepted → NoneRose names old new → IsOkOrNoMemory answer
+    IsTrue old.files.told → OfInputs old names IsAccepted → NoInputErrors names old new → IsOkOrNoMemory answer
 Completes (Some (Run words)) answer old new =
     IsTrue old.files.told → (file : List ℕ) → old.files.content words.file ≡ Some file → IsRunnable file →
     RunCompletes byte_mode words file answer old new
@@ -70,3 +73,11 @@ pub record Serves (command : Option Command) (answer : Status) (old new : World)
 pub record KeepsInput {Input : Type 0} (command : Option Command) (answer : Status) (old new : Input) : Type 0 where
   pub refused : (fault : Fault) → answer ≡ status.Refused fault → new ≡ old
   pub untouched : LeavesInput command → new ≡ old
+
+-- A process does a command, and exits with the number of its answer.
+pub record Exits {Input : Type 0} (command : Option Command) (code : ExitCode) (old new : World) (before after : Input) :
+    Type 0 where
+  pub answer : Status
+  pub code_is : exit_status code ≡ exit_number answer
+  pub serves : Serves command answer old new
+  pub input_kept : KeepsInput command answer before after

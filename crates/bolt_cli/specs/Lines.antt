@@ -9,7 +9,7 @@ use Rattle.rv_code.specs.declared.cause.Cause.{Cause}
 use Rattle.rv_code.specs.declared.cause.Cause.TheVariants.{Fetch, Illegal, Load, Store, Break}
 use Rattle.sym_machine.specs.declared.outcome.Reason.{Reason}
 use Rattle.sym_machine.specs.declared.outcome.Reason.TheVariants as reason
-use Rattle.bolt_core.specs.Rewriting.{Counts}
+use Rattle.bolt_core.specs.Rewriting.{RewriteCounts}
 
 abbrev pub usage_line : List ℕ
 usage_line = codes "usage: rewrite IN PROFILE OUT MAP, map IN PROFILE, run [--symbols] [--steps N] FILE [WORDS], lookup FILE ADDR, sample N OUT PROFILE, record [--steps N] FILE OUT [WORDS]\n"
@@ -25,7 +25,7 @@ refused_line fault =
     ++ hexadecimal fault.place ++ refused_end fault.kind fault.need fault.room
 
 -- what was moved
-abbrev pub summary_line : Counts → List ℕ
+abbrev pub summary_line : RewriteCounts → List ℕ
 summary_line counts =
     codes "moved " ++ decimal counts.functions ++ codes " functions, " ++ decimal counts.instructions
     ++ codes " instructions, " ++ decimal counts.bytes ++ codes " bytes; " ++ decimal counts.hot ++ codes " hot blocks; "

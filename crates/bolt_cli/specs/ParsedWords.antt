@@ -4,6 +4,8 @@ use Rattle.std.specs.Option.{option_map}
 use Rattle.rv_memory.specs.Limits.{IsWithinLimits}
 use Rattle.bolt_cli.specs.Words.{Argument, Positional, OptionWord, Expected, AnyArgument, OnlyPositional, arguments, positionals}
 use Rattle.bolt_cli.specs.Words.{InputNames, RewriteNames, RunWords, RecordWords, Command, Rewrite, Map, Run, RunSymbols, Record}
+use Rattle.bolt_cli.specs.declared.run.RunMode.{RunMode}
+use Rattle.bolt_cli.specs.declared.run.RunMode.TheVariants as mode
 use Rattle.bolt_cli.specs.declared.words.Argument.{Argument as ArgumentRead}
 use Rattle.bolt_cli.specs.declared.words.Argument.TheVariants as argument
 use Rattle.bolt_cli.specs.declared.words.Arguments.{Arguments}
@@ -39,6 +41,11 @@ names_read w = record { inputs = inputs_read w.inputs; out = w.out.now; map = w.
 
 abbrev pub run_read : RunWordsRead → RunWords
 run_read w = record { file = w.file.now; words = positionals (arguments_of w.arguments); limit = w.limit }
+
+-- the command that runs a file on a machine
+abbrev pub run_on : RunMode → RunWords → Command
+run_on mode.Bytes words = Run words
+run_on mode.Symbols words = RunSymbols words
 
 abbrev pub record_read : RecordWordsRead → RecordWords
 record_read w = record { run = run_read w.run; out = w.out.now }

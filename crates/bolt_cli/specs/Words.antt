@@ -96,12 +96,12 @@ pub record RecordWords : Type 0 where
   pub out : List ℕ
 
 -- `IN PROFILE OUT MAP`, where OUT and MAP differ
-abbrev pub rewrite_of : List Argument → Option RewriteNames
-rewrite_of (Positional file ∷ Positional profile ∷ Positional out ∷ Positional map ∷ []) =
+abbrev pub rewrite_names_of : List Argument → Option RewriteNames
+rewrite_names_of (Positional file ∷ Positional profile ∷ Positional out ∷ Positional map ∷ []) =
     if bytes_eq out map
     then None
     else Some (record { inputs = record { file = file; profile = profile }; out = out; map = map })
-rewrite_of _ = None
+rewrite_names_of _ = None
 
 -- `IN PROFILE`
 abbrev pub map_of : List Argument → Option InputNames
@@ -199,7 +199,7 @@ abbrev pub command_of : List (List ℕ) → Option Command
 command_of [] = None
 command_of (name ∷ words) =
     if bytes_eq name (codes "rewrite")
-    then option_map Rewrite (rewrite_of (arguments AnyArgument words))
+    then option_map Rewrite (rewrite_names_of (arguments AnyArgument words))
     else if bytes_eq name (codes "map")
     then option_map Map (map_of (arguments AnyArgument words))
     else if bytes_eq name (codes "run")

@@ -1,14 +1,30 @@
-// How runs end, on either machine.
+// How runs end.
 ghost use Rattle.std.specs.Prelude.{◌≡◌, ◌≤◌, IfOk};
+ghost use Rattle.rv_machine.specs.Stepped.{answered};
 ghost use Rattle.bolt_cli.specs.run.Endings.{closing_line};
-ghost use Rattle.bolt_cli.specs.run.Phases.{Closed};
+ghost use Rattle.bolt_cli.specs.run.Phases.{Closed, status_of};
 
 use crate::lines;
 use crate::printing::print_line;
 use crate::status::Status;
 use rb_bytes::fault::NoMemory;
 use rb_io::Sink;
+use rv_machine::Stepped;
 use std::alloc::Global;
+
+/// The answer to what the byte machine came to.
+pub fn status_of(end: Stepped) -> Status
+    ensures { result ≡ status_of Status.Trapped (answered end) }
+{
+    match end {
+        Stepped::Going => Status::OutOfSteps,
+        Stepped::Ended(value) => Status::Ended(value),
+        Stepped::Trap(pc, cause) => Status::Trapped(pc, cause),
+        Stepped::ReadFault => Status::ReadFault,
+        Stepped::WriteFault => Status::WriteFault,
+        Stepped::Memory => Status::NoMemory,
+    }
+}
 
 /// The line that says how a run came out, where `came` says that it did.
 pub fn closing_line(alloc: Global, came: Status, steps: u64) -> Result<Vec<u8>, NoMemory>
@@ -28,15 +44,9 @@ pub fn close<O: Sink>(alloc: Global, came: Status, steps: u64, out: &mut O) -> S
     ensures closed { Closed result steps (O.seen out.old) (O.seen out.new) came }
     ensures never_falls { (O.seen out.old).faults ≤ (O.seen out.new).faults }
 {
-    match came {
-        Status::OutOfSteps => print_line(lines::out_of_steps(alloc, steps), came, out),
-        Status::Ended(value) => print_line(lines::ended(alloc, value, steps), came, out),
-        Status::Trapped(pc, cause) => print_line(
-            lines::trapped(alloc, pc, cause, steps),
-            came,
-            out,
-        ),
-        Status::Stuck(pc, reason) => print_line(lines::stuck(alloc, pc, reason, steps), came, out),
-        _ => came,
+    if came.is_outcome() {
+        print_line(closing_line(alloc, came, steps), came, out)
+    } else {
+        came
     }
 }

@@ -82,14 +82,19 @@ pub fn rewrite_inputs<F: Files, O: Sink>(
     let mut profile = Vec::new(alloc);
     match read_inputs(words, files, &mut file, &mut profile) {
         Inputs::Whole => {}
-        Inputs::LongFile => return Err(refuse(alloc, Fault::at(FaultKind::TooLarge, 0), out)),
-        Inputs::LongProfile => return Err(refuse(alloc, Fault::at(FaultKind::TooLarge, 1), out)),
+        Inputs::LongFile => {
+            let fault = Fault::at(FaultKind::TooLarge, 0);
+            return Err(refuse(alloc, Refusal::Fault(fault), out));
+        }
+        Inputs::LongProfile => {
+            let fault = Fault::at(FaultKind::TooLarge, 1);
+            return Err(refuse(alloc, Refusal::Fault(fault), out));
+        }
         Inputs::Failed => return Err(Status::ReadFault),
         Inputs::Memory => return Err(Status::NoMemory),
     }
     match rewrite(alloc, &file, &profile) {
         Ok(rewritten) => Ok(rewritten),
-        Err(Refusal::Fault(fault)) => Err(refuse(alloc, fault, out)),
-        Err(Refusal::Memory) => Err(Status::NoMemory),
+        Err(refusal) => Err(refuse(alloc, refusal, out)),
     }
 }

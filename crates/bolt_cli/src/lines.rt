@@ -95,6 +95,15 @@ pub fn ended(alloc: Global, status: u8, steps: u64) -> Result<Vec<u8>, NoMemory>
     Ok(line)
 }
 
+/// The line for a run that did all the steps that it may.
+pub fn out_of_steps(alloc: Global, steps: u64) -> Result<Vec<u8>, NoMemory>
+    ensures { IfOk result (λ line. line.items ≡ out_of_steps_line steps) }
+{
+    let mut line = Vec::from_slice(alloc, b"[out of steps")?;
+    put_after_steps(&mut line, steps)?;
+    Ok(line)
+}
+
 fn cause_name(cause: Cause) -> &'static [u8]
     ensures { result.now ≡ cause_name cause }
 {
@@ -105,15 +114,6 @@ fn cause_name(cause: Cause) -> &'static [u8]
         Cause::Store => b"Store",
         Cause::Break => b"Break",
     }
-}
-
-/// The line for a run that a trap stopped at an address.
-pub fn trapped(alloc: Global, pc: u64, cause: Cause, steps: u64) -> Result<Vec<u8>, NoMemory>
-    ensures { IfOk result (λ line. line.items ≡ trapped_line pc cause steps) }
-{
-    let mut line = Vec::from_slice(alloc, b"[trapped ")?;
-    put_stop(&mut line, cause_name(cause), pc, steps)?;
-    Ok(line)
 }
 
 fn reason_name(reason: Reason) -> &'static [u8]
@@ -133,20 +133,20 @@ fn reason_name(reason: Reason) -> &'static [u8]
     }
 }
 
+/// The line for a run that a trap stopped at an address.
+pub fn trapped(alloc: Global, pc: u64, cause: Cause, steps: u64) -> Result<Vec<u8>, NoMemory>
+    ensures { IfOk result (λ line. line.items ≡ trapped_line pc cause steps) }
+{
+    let mut line = Vec::from_slice(alloc, b"[trapped ")?;
+    put_stop(&mut line, cause_name(cause), pc, steps)?;
+    Ok(line)
+}
+
 /// The line for a run in which the symbol machine got stuck at an address.
 pub fn stuck(alloc: Global, pc: u64, reason: Reason, steps: u64) -> Result<Vec<u8>, NoMemory>
     ensures { IfOk result (λ line. line.items ≡ stuck_line pc reason steps) }
 {
     let mut line = Vec::from_slice(alloc, b"[stuck ")?;
     put_stop(&mut line, reason_name(reason), pc, steps)?;
-    Ok(line)
-}
-
-/// The line for a run that did all the steps that it may.
-pub fn out_of_steps(alloc: Global, steps: u64) -> Result<Vec<u8>, NoMemory>
-    ensures { IfOk result (λ line. line.items ≡ out_of_steps_line steps) }
-{
-    let mut line = Vec::from_slice(alloc, b"[out of steps")?;
-    put_after_steps(&mut line, steps)?;
     Ok(line)
 }

@@ -1,6 +1,7 @@
 //! The program: it reads its words, does the command, and ends with the number of the answer.
 #![tactic(auto)]
 
+mod byte_run;
 mod closing;
 mod frames;
 mod inputs;
@@ -13,6 +14,8 @@ mod recording;
 mod refusal;
 mod rewrite;
 mod run;
+mod run_file;
+mod serving;
 mod status;
 mod symbol_code;
 mod symbol_run;
@@ -22,8 +25,8 @@ mod tool;
 mod words;
 
 use crate::permissions::keep_permissions;
+use crate::serving::serve;
 use crate::status::Status;
-use crate::tool::tool;
 use rb_io::{HostFiles, HostSink, HostSource};
 use std::env;
 use std::process::ExitCode;
@@ -49,9 +52,9 @@ fn main(rt: HostRuntime) -> ExitCode {
     let mut files = HostFiles::new(&rt);
     let mut input = HostSource::new(rt.stdin());
     let mut out = HostSink::new(rt.stdout());
-    let status = tool(rt.alloc(), &words, &mut files, &mut input, &mut out);
-    if status == Status::Ok {
+    let code = serve(rt.alloc(), &words, &mut files, &mut input, &mut out);
+    if code == ExitCode::SUCCESS {
         keep_permissions(&rt, &words);
     }
-    ExitCode::from(status.number())
+    code
 }

@@ -1,41 +1,34 @@
 // What is recorded of a file.
 ghost use Rattle.std.specs.Prelude.{◌≤◌, length, IfOk, IfErr};
-ghost use Rattle.elf_image.specs.faults.FileFaults.{IsSound};
-ghost use Rattle.elf_image.specs.file.ParsedFile.{IsElfOf};
 ghost use Rattle.bolt_core.specs.Program.{file_limit};
 ghost use Rattle.bolt_cli.specs.recording.RecordRuns.{IsRecordProgram};
 ghost use Rattle.bolt_cli.specs.recording.RecordedCode.{recorded_program};
-ghost use Rattle.bolt_cli.specs.run.ParsedCode.{IsSymbolRefusal};
+ghost use Rattle.bolt_cli.specs.run.Phases.{IsRefusalFor};
+ghost use Rattle.bolt_cli.specs.run.SymbolRuns.{CannotRunSymbols};
 
-use crate::symbol_code::faultless_code;
+use crate::symbol_code::{FaultlessFile, faultless_file};
 use bolt_core::file_code::FileCode;
 use cfg_build::block_lists::blocks;
 use elf_image::Elf;
-use rb_bytes::fault::{NoMemory, Refusal};
+use rb_bytes::fault::Refusal;
 use rv_code::Block;
 use std::alloc::Global;
 
-/// The code of a file and its blocks.
+/// A file, its code and the blocks of that.
 #[derive(Drop)]
-pub struct RecordCode {
+pub struct RecordProgram<'a> {
+    pub elf: Elf<'a>,
     pub code: FileCode,
     pub blocks: Vec<Block>,
 }
 
-/// The code and the blocks of a file that was read, or the fault for which the symbol machine doesn't run it.
-pub fn record_code(alloc: Global, elf: &Elf<'_>) -> Result<RecordCode, Refusal>
-    requires fits { length elf.now.file.now ≤ file_limit }
-    requires fields { IsElfOf elf.now.file.now elf.now }
-    requires sound { IsSound elf.now.file.now }
-    ensures program { IfOk result (λ code. IsRecordProgram elf.now.file.now (recorded_program elf.now code)) }
-    ensures fault { IfErr result (IsSymbolRefusal elf.now.file.now) }
+/// A file with its code and blocks, or the fault for which the symbol machine doesn't run it.
+pub fn record_program<'a>(alloc: Global, file: &'a [u8]) -> Result<RecordProgram<'a>, Refusal>
+    requires fits { length file.now ≤ file_limit }
+    ensures program { IfOk result (λ program. IsRecordProgram file.now (recorded_program program)) }
+    ensures fault { IfErr result (IsRefusalFor (CannotRunSymbols file.now)) }
 {
-    let code = match faultless_code(alloc, elf) {
-        Ok(code) => code,
-        Err(refusal) => return Err(refusal),
-    };
-    match blocks(alloc, &code.funcs, &code.refs, elf.entry) {
-        Ok(blocks) => Ok(RecordCode { code, blocks }),
-        Err(NoMemory) => Err(Refusal::Memory),
-    }
+    let FaultlessFile { elf, code } = faultless_file(alloc, file)?;
+    let blocks = blocks(alloc, &code.funcs, &code.refs, elf.entry)?;
+    Ok(RecordProgram { elf, code, blocks })
 }

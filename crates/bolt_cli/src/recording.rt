@@ -16,16 +16,14 @@ ghost use Rattle.bolt_cli.specs.run.RunAnswers.{IsExact};
 ghost use Rattle.bolt_cli.specs.Words.{Record};
 ghost use Rattle.bolt_cli.specs.World.{world};
 
-use crate::closing::closing_line;
-use crate::record_code::{RecordCode, record_code};
-use crate::refusal::{FILE_LIMIT, refuse};
+use crate::closing::{closing_line, status_of};
+use crate::record_code::{RecordProgram, record_program};
+use crate::refusal::refuse;
+use crate::run_file::read_file;
 use crate::status::Status;
 use crate::words::{RecordWords, program_words};
 use edge_record::{Recorded, trace_edges};
-use elf_image::{Elf, read};
-use rb_bytes::fault::{Fault, FaultKind, Refusal};
-use rb_io::{Files, Put, ReadAll, Sink, Source, Wrote, print_all};
-use rv_machine::Stepped;
+use rb_io::{Files, Put, Sink, Source, Wrote, print_all};
 use std::alloc::Global;
 
 // Writes the profile of a run that came out, and then says how it did. All memory is taken before.
@@ -69,58 +67,44 @@ fn finish<F: Files, O: Sink>(
     ensures files_go_on { FilesGoOn (F.seen files.old) (F.seen files.new) }
     ensures never_falls { (O.seen out.old).faults ≤ (O.seen out.new).faults }
 {
-    match recorded.ran.end {
-        Stepped::Going => write_profile(alloc, name, recorded, Status::OutOfSteps, files, out),
-        Stepped::Ended(value) => {
-            write_profile(alloc, name, recorded, Status::Ended(value), files, out)
-        }
-        Stepped::Trap(pc, cause) => {
-            write_profile(
-                alloc,
-                name,
-                recorded,
-                Status::Trapped(pc, cause),
-                files,
-                out,
-            )
-        }
-        Stepped::ReadFault => Status::ReadFault,
-        Stepped::WriteFault => Status::WriteFault,
-        Stepped::Memory => Status::NoMemory,
+    let came = status_of(recorded.ran.end);
+    if came.is_outcome() {
+        write_profile(alloc, name, recorded, came, files, out)
+    } else {
+        came
     }
 }
 
-// Runs a file that was read, and writes a profile of the run.
+// Runs what was read of a file, and writes a profile of the run.
 fn record_elf<F: Files, I: Source, O: Sink>(
     alloc: Global,
     words: &RecordWords<'_>,
-    elf: &Elf<'_>,
-    code: &RecordCode,
+    program: &RecordProgram<'_>,
     files: &mut F,
     input: &mut I,
     out: &mut O,
 ) -> Status
     requires limits { IsWithinLimits (run_read words.now.run).words }
-    requires program { IsRecordProgram elf.now.file.now (recorded_program elf.now code.now) }
-    ensures answer { RecordsRun (recorded_program elf.now code.now) (record_read words.now)
+    requires program { IsRecordProgram program.now.elf.file.now (recorded_program program.now) }
+    ensures answer { RecordsRun (recorded_program program.now) (record_read words.now)
         (world (F.seen files.old) (I.seen input.old) (O.seen out.old))
         (world (F.seen files.new) (I.seen input.new) (O.seen out.new)) result }
-    ensures exact { IsExact (byte_machine elf.now.file.now (run_read words.now.run).words) words.now.run.limit
+    ensures exact { IsExact (byte_machine program.now.elf.file.now (run_read words.now.run).words) words.now.run.limit
         (I.seen input.old).left result }
     ensures files_go_on { FilesGoOn (F.seen files.old) (F.seen files.new) }
     ensures reads { (I.seen input.old).faults ≤ (I.seen input.new).faults }
     ensures writes { (O.seen out.old).faults ≤ (O.seen out.new).faults }
 {
-    let Ok(program) = program_words(alloc, &words.run) else {
+    let Ok(given) = program_words(alloc, &words.run) else {
         return Status::NoMemory;
     };
-    let funcs = code.code.funcs.as_slice();
+    let funcs = program.code.funcs.as_slice();
     let recorded = trace_edges(
         alloc,
-        elf,
+        &program.elf,
         funcs,
-        &code.blocks,
-        &program,
+        &program.blocks,
+        &given,
         words.run.limit,
         input,
         out,
@@ -142,22 +126,12 @@ pub fn record_run<F: Files, I: Source, O: Sink>(
         (world (F.seen files.new) (I.seen input.new) (O.seen out.new)) }
     ensures input_kept { KeepsInput (Some (Record (record_read words.now))) result input.old input.new }
 {
-    let mut file = Vec::new(alloc);
-    match files.read_all(words.run.file, FILE_LIMIT, &mut file) {
-        ReadAll::Done => {}
-        ReadAll::TooLong => return refuse(alloc, Fault::at(FaultKind::TooLarge, 0), out),
-        ReadAll::Failed => return Status::ReadFault,
-        ReadAll::Memory => return Status::NoMemory,
+    let file = match read_file(alloc, words.run.file, files, out) {
+        Ok(file) => file,
+        Err(answer) => return answer,
+    };
+    match record_program(alloc, &file) {
+        Ok(program) => record_elf(alloc, words, &program, files, input, out),
+        Err(refusal) => refuse(alloc, refusal, out),
     }
-    let elf = match read(alloc, &file) {
-        Ok(elf) => elf,
-        Err(Refusal::Fault(fault)) => return refuse(alloc, fault, out),
-        Err(Refusal::Memory) => return Status::NoMemory,
-    };
-    let code = match record_code(alloc, &elf) {
-        Ok(code) => code,
-        Err(Refusal::Fault(fault)) => return refuse(alloc, fault, out),
-        Err(Refusal::Memory) => return Status::NoMemory,
-    };
-    record_elf(alloc, words, &elf, &code, files, input, out)
 }

@@ -1,6 +1,7 @@
 // How a command ends.
 ghost use Rattle.std.specs.Prelude.{◌≡◌};
 ghost use Rattle.bolt_cli.specs.Status.{exit_number};
+ghost use Rattle.bolt_cli.specs.run.Phases.{is_outcome};
 
 use rb_bytes::fault::Fault;
 use rv_code::Cause;
@@ -47,6 +48,17 @@ impl Status {
             Status::Trapped(_, _) => 225,
             Status::OutOfSteps => 226,
             Status::Stuck(_, _) => 227,
+        }
+    }
+
+    /// Whether it says how a run came out.
+    pub fn is_outcome(self) -> bool
+        ensures { result ≡ is_outcome self }
+    {
+        match self {
+            Status::Ended(_) | Status::Trapped(_, _) | Status::Stuck(_, _) => true,
+            Status::OutOfSteps => true,
+            _ => false,
         }
     }
 }

@@ -125,6 +125,18 @@ fn check_refused(
     Ok(())
 }
 
+// The example without its last bytes is refused, and nothing is written.
+fn check_cut(rt: &impl Abort, alloc: Global, line: &[&str]) -> Result<(), Fail> {
+    let mut cut = exit7(alloc)?;
+    cut.truncate(63);
+    let mut files = files(alloc, cut, &[])?;
+    let (status, out) = answer(alloc, line, &mut files, 200)?;
+    assert_eq!(rt; status, Status::Refused(Fault::at(FaultKind::Truncated, 0)));
+    assert_eq!(rt; out.taken(), b"refused 2 Truncated at 0\n".as_slice());
+    assert!(rt; files.content("out").is_none());
+    Ok(())
+}
+
 #[test]
 fn other_files_are_refused(rt: HostRuntime) -> Result<(), Fail> {
     let alloc = rt.alloc();

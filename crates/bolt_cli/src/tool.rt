@@ -10,9 +10,8 @@ use crate::lines;
 use crate::print_map::print_map;
 use crate::recording::record_run;
 use crate::rewrite::rewrite;
-use crate::run::run;
+use crate::run::{RunMode, run};
 use crate::status::Status;
-use crate::symbol_run::run_symbols;
 use crate::words::{Command, parse};
 use rb_io::{Files, Put, Sink, Source, print_all};
 use std::alloc::Global;
@@ -46,8 +45,8 @@ fn perform<F: Files, I: Source, O: Sink>(
     match command {
         Command::Rewrite(words) => rewrite(alloc, words, files, out),
         Command::Map(words) => print_map(alloc, words, files, out),
-        Command::Run(words) => run(alloc, words, files, input, out),
-        Command::RunSymbols(words) => run_symbols(alloc, words, files, input, out),
+        Command::Run(words) => run(alloc, words, RunMode::Bytes, files, input, out),
+        Command::RunSymbols(words) => run(alloc, words, RunMode::Symbols, files, input, out),
         Command::Record(words) => record_run(alloc, words, files, input, out),
     }
 }

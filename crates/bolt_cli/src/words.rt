@@ -6,7 +6,7 @@ ghost use Rattle.std.specs.Char.{is_ascii_digit};
 ghost use Rattle.rv_memory.specs.Limits.{IsWithinLimits};
 ghost use Rattle.bolt_cli.specs.Words.{Positional, steps_name, symbols_name, is_option, option_of, decimal_number, limit_of};
 ghost use Rattle.bolt_cli.specs.Words.{symbols_of, values_of, is_run_argument, is_record_argument, positionals, holds_zero};
-ghost use Rattle.bolt_cli.specs.Words.{are_program_words, rewrite_of, map_of, run_of, record_of, command_of};
+ghost use Rattle.bolt_cli.specs.Words.{are_program_words, rewrite_names_of, map_of, run_of, record_of, command_of};
 ghost use Rattle.bolt_cli.specs.ParsedWords.{IsNoPositional, argument_read, arguments_of, command_read, run_read, record_read};
 ghost use Rattle.bolt_cli.specs.ParsedWords.{inputs_read, names_read, NamesDiffer, WordsFit};
 
@@ -166,7 +166,7 @@ fn next_positional<'a>(arguments: &mut Arguments<'a>) -> Option<&'a str>
 
 // The words after `rewrite`.
 fn rewrite_words(mut arguments: Arguments<'_>) -> Option<RewriteWords<'_>>
-    ensures command { option_map names_read result ≡ rewrite_of (arguments_of arguments.entry) }
+    ensures command { option_map names_read result ≡ rewrite_names_of (arguments_of arguments.entry) }
     ensures apart { IfSome result (λ w. w.out.now ≢ w.map.now) }
 {
     let file = next_positional(&mut arguments)?;

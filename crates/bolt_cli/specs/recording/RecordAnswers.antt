@@ -10,9 +10,9 @@ use Rattle.edge_record.specs.Moves.{Move}
 use Rattle.edge_record.specs.Recording.{ByteMoves}
 use Rattle.edge_record.specs.Taken.{taken}
 use Rattle.bolt_core.specs.Program.{Program}
-use Rattle.bolt_cli.specs.recording.RecordRuns.{IsRecordProgram, record_machine, record_mode, steps_gone}
+use Rattle.bolt_cli.specs.recording.RecordRuns.{IsRecordProgram, record_machine, record_mode, moving_steps}
 use Rattle.bolt_cli.specs.run.Endings.{Ending, answer_of}
-use Rattle.bolt_cli.specs.run.RunAnswers.{Taking, ComesOut, StopsRun, FileAnswers, IsComplete, NoneRose, outside}
+use Rattle.bolt_cli.specs.run.RunAnswers.{Taking, ComesOut, StopsRun, FileAnswers, IsComplete, NoRunErrors, outside}
 use Rattle.bolt_cli.specs.Words.{RecordWords}
 use Rattle.bolt_cli.specs.World.{World, WriteRose}
 use Rattle.bolt_cli.specs.declared.status.Status.{Status}
@@ -35,7 +35,7 @@ module _ (program : Program) (words : RecordWords) (old new : World) where
         ComesOut (record_machine program words.run.words) words.run.limit (outside old) (outside new) Takes ending
     pub moves : List Move
     pub state : ByteState
-    pub gone : ByteMoves ((record_machine program words.run.words).start comes_out.input) (steps_gone ending comes_out.steps)
+    pub gone : ByteMoves ((record_machine program words.run.words).start comes_out.input) (moving_steps ending comes_out.steps)
         moves state
     pub text_is : IsEdgeText program.elf program.code.funcs (taken program.code.funcs program.blocks moves) text
 
@@ -65,7 +65,7 @@ RecordAnswers words old new answer = FileAnswers record_mode words.run (IsRecord
 
 -- no count of faults rose, of the file that is written neither
 pub record NoneRoseRecording (words : RecordWords) (old new : World) : Type 0 where
-  pub others : NoneRose words.run old new
+  pub others : NoRunErrors words.run old new
   pub out : WriteRose old new words.out → ⊥
 
 abbrev pub RecordCompletes : RecordWords → List ℕ → Status → World → World → Type 0

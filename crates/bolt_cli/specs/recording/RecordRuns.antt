@@ -29,6 +29,6 @@ record_mode = record {
 }
 
 -- how many of the steps that count make a move: all but one that ends
-abbrev pub steps_gone : Ending Cause → ℕ → ℕ
-steps_gone (Ends value) n = n - 1
-steps_gone _ n = n
+abbrev pub moving_steps : Ending Cause → ℕ → ℕ
+moving_steps (Ends value) n = n - 1
+moving_steps _ n = n

@@ -1,8 +1,7 @@
 -- What was read of a file whose run is recorded.
-use Rattle.elf_image.specs.declared.elf.Elf.{Elf}
 use Rattle.bolt_core.specs.Program.{Program}
 use Rattle.bolt_core.specs.internal.ReadCode.{program_of}
-use Rattle.bolt_cli.specs.declared.record_code.RecordCode.{RecordCode}
+use Rattle.bolt_cli.specs.declared.record_code.RecordProgram.{RecordProgram}
 
-abbrev pub recorded_program : Elf → RecordCode → Program
-recorded_program elf code = program_of elf code.code.funcs.items code.code.refs code.blocks.items
+abbrev pub recorded_program : RecordProgram → Program
+recorded_program read = program_of read.elf read.code.funcs.items read.code.refs read.blocks.items

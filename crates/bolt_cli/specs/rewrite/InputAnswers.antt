@@ -5,7 +5,7 @@ use Rattle.rb_io.specs.Views.{FilesSeen}
 use Rattle.rb_bytes.specs.declared.fault.Fault.{Fault}
 use Rattle.addr_map.specs.declared.span.Span.{Span}
 use Rattle.bolt_core.specs.Refusals.{IsRefused}
-use Rattle.bolt_core.specs.Rewriting.{Counts, IsRewritten}
+use Rattle.bolt_core.specs.Rewriting.{RewriteCounts, IsRewritten}
 use Rattle.bolt_cli.specs.declared.status.Status.{Status}
 use Rattle.bolt_cli.specs.declared.status.Status.TheVariants as status
 use Rattle.bolt_cli.specs.Lines.{refused_line}
@@ -23,8 +23,8 @@ abbrev pub IsAccepted : List ℕ → List ℕ → Type 0
 IsAccepted file profile = (fault : Fault) → IsRefused file profile fault → ⊥
 
 -- a fault is present, where files are told
-abbrev pub IsPresent : InputNames → World → Fault → Type 0
-IsPresent names w fault = IsTrue w.files.told → OfInputs w names (λ file profile. IsRefused file profile fault)
+abbrev pub HasInputFault : InputNames → World → Fault → Type 0
+HasInputFault names w fault = IsTrue w.files.told → OfInputs w names (λ file profile. IsRefused file profile fault)
 
 -- both files were read whole, and are these bytes
 pub record AreRead (content : List ℕ → Option (List ℕ)) (names : InputNames) (file profile : List ℕ) : Type 0 where
@@ -32,13 +32,13 @@ pub record AreRead (content : List ℕ → Option (List ℕ)) (names : InputName
   pub profile_is : content names.profile ≡ Some profile
 
 -- what a rewrite makes: the bytes of the output, the map, and what was counted
-pub record Made : Type 0 where
+pub record MadeRewrite : Type 0 where
   pub written : List ℕ
   pub spans : List Span
-  pub counts : Counts
+  pub counts : RewriteCounts
 
 -- both files were read, and this is a rewrite of them
-pub record IsMadeOf (names : InputNames) (files : FilesSeen) (made : Made) : Type 0 where
+pub record IsMadeOf (names : InputNames) (files : FilesSeen) (made : MadeRewrite) : Type 0 where
   pub file : List ℕ
   pub profile : List ℕ
   pub are_read : IsTrue files.told → AreRead files.content names file profile
@@ -46,16 +46,16 @@ pub record IsMadeOf (names : InputNames) (files : FilesSeen) (made : Made) : Typ
 
 -- Nothing was made, and no file was written.
 pub data IsStopped (names : InputNames) (old new : World) (answer : Status) : Type 0 where
-  refused : (fault : Fault) → answer ≡ status.Refused fault → IsPresent names old fault
+  refused : (fault : Fault) → answer ≡ status.Refused fault → HasInputFault names old fault
       → PrintsOnly (refused_line fault) old new → IsStopped names old new answer
-  at_refusal : (fault : Fault) → answer ≡ status.WriteFault → IsPresent names old fault
+  at_refusal : (fault : Fault) → answer ≡ status.WriteFault → HasInputFault names old fault
       → FailsAtLine (refused_line fault) old new → IsStopped names old new answer
   at_file : answer ≡ status.ReadFault → ReadRose old new names.file ⊎ ReadRose old new names.profile → IsSilent old new
       → IsStopped names old new answer
   no_memory : answer ≡ status.NoMemory → IsSilent old new → IsStopped names old new answer
 
 -- No count of faults rose: of the files that are read, and of standard output.
-pub record NoneRose (names : InputNames) (old new : World) : Type 0 where
+pub record NoInputErrors (names : InputNames) (old new : World) : Type 0 where
   pub file : ReadRose old new names.file → ⊥
   pub profile : ReadRose old new names.profile → ⊥
   pub line : Rose old.output.faults new.output.faults → ⊥

@@ -4,7 +4,7 @@ use Rattle.bolt_core.specs.Program.{file_limit}
 use Rattle.bolt_core.specs.Seen.{counts_seen}
 use Rattle.bolt_core.specs.declared.rewriting.Rewritten.{Rewritten}
 use Rattle.bolt_cli.specs.Words.{InputNames}
-use Rattle.bolt_cli.specs.rewrite.InputAnswers.{AreRead, Made}
+use Rattle.bolt_cli.specs.rewrite.InputAnswers.{AreRead, MadeRewrite}
 use Rattle.bolt_cli.specs.declared.inputs.Inputs.{Inputs}
 use Rattle.bolt_cli.specs.declared.inputs.Inputs.TheVariants as inputs
 
@@ -19,5 +19,5 @@ InputsRead inputs.Failed content names file profile = Unit {0}
 InputsRead inputs.Memory content names file profile = Unit {0}
 
 -- what was made, as the code keeps it
-abbrev pub made_by : Rewritten → Made
+abbrev pub made_by : Rewritten → MadeRewrite
 made_by r = record { written = r.file.items; spans = r.map; counts = counts_seen r }

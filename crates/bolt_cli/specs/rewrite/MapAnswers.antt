@@ -4,13 +4,13 @@ use Rattle.addr_map.specs.MapText.{map_text}
 use Rattle.bolt_cli.specs.declared.status.Status.{Status}
 use Rattle.bolt_cli.specs.declared.status.Status.TheVariants as status
 use Rattle.bolt_cli.specs.Printing.{PrintsOnly, FailsAtLine}
-use Rattle.bolt_cli.specs.rewrite.InputAnswers.{IsMadeOf, IsStopped, Made}
+use Rattle.bolt_cli.specs.rewrite.InputAnswers.{IsMadeOf, IsStopped, MadeRewrite}
 use Rattle.bolt_cli.specs.Words.{InputNames}
 use Rattle.bolt_cli.specs.World.{World}
 
 pub data MapAnswers (names : InputNames) (old new : World) (answer : Status) : Type 0 where
-  printed : answer ≡ status.Ok → (made : Made) → IsMadeOf names old.files made → PrintsOnly (map_text made.spans) old new
+  printed : answer ≡ status.Ok → (made : MadeRewrite) → IsMadeOf names old.files made → PrintsOnly (map_text made.spans) old new
       → MapAnswers names old new answer
-  at_text : answer ≡ status.WriteFault → (made : Made) → IsMadeOf names old.files made
+  at_text : answer ≡ status.WriteFault → (made : MadeRewrite) → IsMadeOf names old.files made
       → FailsAtLine (map_text made.spans) old new → MapAnswers names old new answer
   stopped : IsStopped names old new answer → MapAnswers names old new answer

@@ -3,10 +3,12 @@ use Rattle.std.specs.Prelude.{◌≡◌, ℕ, List}
 use Rattle.rb_io.specs.FaultCounts.{Rose}
 use Rattle.rb_io.specs.TakenText.{TakesAll, TakesPrefix}
 use Rattle.rb_io.specs.Views.{SinkSeen}
+use Rattle.rb_bytes.specs.declared.fault.Refusal.{Refusal}
+use Rattle.rb_bytes.specs.declared.fault.Refusal.TheVariants as refusal
 use Rattle.addr_map.specs.MapText.{map_text}
-use Rattle.bolt_cli.specs.Lines.{summary_line}
+use Rattle.bolt_cli.specs.Lines.{refused_line, summary_line}
 use Rattle.bolt_cli.specs.World.{World}
-use Rattle.bolt_cli.specs.rewrite.InputAnswers.{Made}
+use Rattle.bolt_cli.specs.rewrite.InputAnswers.{MadeRewrite}
 use Rattle.bolt_cli.specs.rewrite.RewriteAnswers.{HoldBoth, StopsWriting}
 use Rattle.bolt_cli.specs.Words.{RewriteNames}
 use Rattle.bolt_cli.specs.declared.status.Status.{Status}
@@ -20,8 +22,14 @@ pub data LinePrinted (answer done : Status) (text : List ℕ) (before after : Si
       → LinePrinted answer done text before after
   none_printed : answer ≡ status.NoMemory → after.taken ≡ before.taken → LinePrinted answer done text before after
 
+-- the line of a refusal was printed so, or memory is wanting and nothing was printed
+abbrev pub Refuses : Refusal → Status → SinkSeen → SinkSeen → Type 0
+Refuses (refusal.Fault fault) answer before after =
+    LinePrinted answer (status.Refused fault) (refused_line fault) before after
+Refuses refusal.Memory answer before after = (answer ≡ status.NoMemory) × (after.taken ≡ before.taken)
+
 -- the texts that say what was made
-pub record AreTextsOf (made : Made) (texts : Texts) : Type 0 where
+pub record AreTextsOf (made : MadeRewrite) (texts : Texts) : Type 0 where
   pub map_is : texts.map.items ≡ map_text made.spans
   pub summary_is : texts.summary.items ≡ summary_line made.counts
 

@@ -7,7 +7,7 @@ use Rattle.bolt_cli.specs.declared.status.Status.{Status}
 use Rattle.bolt_cli.specs.declared.status.Status.TheVariants as status
 use Rattle.bolt_cli.specs.Lines.{summary_line}
 use Rattle.bolt_cli.specs.Printing.{FailsToPrint}
-use Rattle.bolt_cli.specs.rewrite.InputAnswers.{IsMadeOf, IsStopped, Made, NoneRose}
+use Rattle.bolt_cli.specs.rewrite.InputAnswers.{IsMadeOf, IsStopped, MadeRewrite, NoInputErrors}
 use Rattle.bolt_cli.specs.Words.{RewriteNames}
 use Rattle.bolt_cli.specs.World.{World, WriteRose}
 
@@ -37,16 +37,16 @@ pub data StopsWriting (names : RewriteNames) (written map summary : List ℕ) (o
 
 -- the answers of a rewrite
 pub data RewriteAnswers (names : RewriteNames) (old new : World) (answer : Status) : Type 0 where
-  done : answer ≡ status.Ok → (made : Made) → IsMadeOf names.inputs old.files made
+  done : answer ≡ status.Ok → (made : MadeRewrite) → IsMadeOf names.inputs old.files made
       → HoldBoth names made.written (map_text made.spans) old new
       → TakesAll old.output.taken new.output.taken (summary_line made.counts) → RewriteAnswers names old new answer
-  at_write : answer ≡ status.WriteFault → (made : Made) → IsMadeOf names.inputs old.files made
+  at_write : answer ≡ status.WriteFault → (made : MadeRewrite) → IsMadeOf names.inputs old.files made
       → StopsWriting names made.written (map_text made.spans) (summary_line made.counts) old new
       → RewriteAnswers names old new answer
   stopped : IsStopped names.inputs old new answer → RewriteAnswers names old new answer
 
 -- no count of faults rose, of the files that are written neither
 pub record NoneRoseWriting (names : RewriteNames) (old new : World) : Type 0 where
-  pub others : NoneRose names.inputs old new
+  pub others : NoInputErrors names.inputs old new
   pub out : WriteRose old new names.out → ⊥
   pub map : WriteRose old new names.map → ⊥

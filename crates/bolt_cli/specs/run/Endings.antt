@@ -8,7 +8,7 @@ use Rattle.bolt_cli.specs.declared.status.Status.TheVariants as status
 -- It ends with a status, the machine halts at a pc for a cause, or its steps are up.
 pub data Ending (C : Type 0) : Type 0 where
   Ends : ℕ → Ending C
-  Stops : ℕ → C → Ending C
+  HaltsAt : ℕ → C → Ending C
   RunsOn : Ending C
 
 -- A machine with a program in it: what steps from its states come to, its state before the first step, with an input,
@@ -30,7 +30,7 @@ module _ {V X C : Type 0} (machine : Loaded V X C) where
   -- the answer that says so
   abbrev pub answer_of : Ending C → Status
   answer_of (Ends value) = status.Ended value
-  answer_of (Stops pc cause) = machine.halted pc cause
+  answer_of (HaltsAt pc cause) = machine.halted pc cause
   answer_of RunsOn = status.OutOfSteps
 
   -- The run with this input comes out so after n steps, made these calls, and leaves this of its input. The step that ends
@@ -38,7 +38,7 @@ module _ {V X C : Type 0} (machine : Loaded V X C) where
   abbrev pub RunsTo : List ℕ → ℕ → Ending C → ℕ → List Event → List ℕ → Type 0
   RunsTo input limit (Ends value) n trace rest =
       (n ≤ limit) × ((run : Run machine.step (machine.start input) n trace value) × (run.state.input ≡ rest))
-  RunsTo input limit (Stops pc cause) n trace rest =
+  RunsTo input limit (HaltsAt pc cause) n trace rest =
       (n < limit) × ((run : HaltsAfter machine.step (machine.start input) n trace pc cause) × (run.state.input ≡ rest))
   RunsTo input limit RunsOn n trace rest =
       (n ≡ limit)

@@ -1,28 +1,30 @@
 -- What was read of a file for the symbol machine.
 use Rattle.std.specs.Prelude.{◌&&◌, ℕ, nat_lt, Bool, List, codes}
 use Rattle.std.specs.Str.{bytes_eq}
-use Rattle.rb_bytes.specs.declared.fault.Refusal.{Refusal}
-use Rattle.rb_bytes.specs.declared.fault.Refusal.TheVariants as refusal
 use Rattle.elf_image.specs.declared.elf.Elf.{Elf}
 use Rattle.elf_image.specs.declared.elf.Section.{Section}
-use Rattle.sym_machine.specs.SymStart.{Program}
+use Rattle.elf_write.specs.Need.{HasNoFrames}
+use Rattle.sym_machine.specs.SymStart.{SymProgram}
 use Rattle.bolt_core.specs.declared.file_code.FileCode.{FileCode}
-use Rattle.bolt_cli.specs.declared.symbol_code.SymbolCode.{SymbolCode}
-use Rattle.bolt_cli.specs.run.SymbolRuns.{CannotRunSymbols, IsTightness}
+use Rattle.bolt_core.specs.internal.ReadCode.{IsReadCode}
+use Rattle.bolt_cli.specs.declared.symbol_code.FaultlessFile.{FaultlessFile}
+use Rattle.bolt_cli.specs.declared.symbol_code.SymbolProgram.{SymbolProgram}
+use Rattle.bolt_cli.specs.run.SymbolRuns.{IsFaultless, IsTightness}
 
 abbrev pub is_frame_section : Section → Bool
 is_frame_section section = bytes_eq section.name.now (codes ".eh_frame") && nat_lt 0 section.size
 
-abbrev pub program_by : Elf → FileCode → Bool → Program
+-- the file is one in which no fault is found, and its code was read
+pub record IsFaultlessFile (file : List ℕ) (read : FaultlessFile) : Type 0 where
+  pub faultless : IsFaultless file read.elf read.code.funcs.items
+  pub code_is : IsReadCode read.elf read.code
+  pub empty : HasNoFrames read.elf
+
+abbrev pub program_by : Elf → FileCode → Bool → SymProgram
 program_by elf code tight = record { elf = elf; funcs = code.funcs.items; cells = code.refs.cells.items; tight = tight }
 
-abbrev pub program_of : Elf → SymbolCode → Program
-program_of elf code = program_by elf code.code code.tight
+abbrev pub program_of : SymbolProgram → SymProgram
+program_of program = program_by program.elf program.code program.tight
 
 abbrev pub IsTightnessOf : Elf → FileCode → Bool → Type 0
 IsTightnessOf elf code tight = IsTightness (program_by elf code tight)
-
--- a refusal names the fault for which a file isn't run; memory may be wanting at any time
-abbrev pub IsSymbolRefusal : List ℕ → Refusal → Type 0
-IsSymbolRefusal file (refusal.Fault fault) = CannotRunSymbols file fault
-IsSymbolRefusal file refusal.Memory = Unit {0}

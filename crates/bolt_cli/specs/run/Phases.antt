@@ -1,12 +1,35 @@
--- What the steps of the command `run` come to, once its file is read.
-use Rattle.std.specs.Prelude.{◌≡◌, ℕ}
-use Rattle.rb_io.specs.Views.{SinkSeen}
+-- What reading the file of a run comes to, and then the steps of it.
+use Rattle.std.specs.Prelude.{◌≡◌, ◌<◌, ℕ, Bool, true, false, List, length, IsSomeAnd, IsTrue}
+use Rattle.rb_bytes.specs.Fault.{fault_at}
+use Rattle.rb_bytes.specs.declared.fault.Fault.{Fault}
+use Rattle.rb_bytes.specs.declared.fault.FaultKind.TheVariants.{TooLarge}
+use Rattle.rb_bytes.specs.declared.fault.Refusal.{Refusal}
+use Rattle.rb_bytes.specs.declared.fault.Refusal.TheVariants as refusal
+use Rattle.rb_io.specs.FaultCounts.{Rose}
+use Rattle.rb_io.specs.Views.{FilesSeen, SinkSeen}
 use Rattle.run_core.specs.Answers.{Answer}
 use Rattle.run_core.specs.Answers as answer
+use Rattle.bolt_core.specs.Program.{file_limit}
 use Rattle.bolt_cli.specs.rewrite.Phases.{LinePrinted}
+use Rattle.bolt_cli.specs.Lines.{refused_line}
 use Rattle.bolt_cli.specs.run.Endings.{closing_line}
 use Rattle.bolt_cli.specs.declared.status.Status.{Status}
 use Rattle.bolt_cli.specs.declared.status.Status.TheVariants as status
+
+-- Why the file of a name isn't read: it is too long, and is refused; it can't be read; or memory is wanting.
+pub data IsUnread (name : List ℕ) (old new : FilesSeen) (before after : SinkSeen) (answer : Status) : Type 0 where
+  too_long : (fault : Fault) → fault ≡ fault_at TooLarge 0
+      → (IsTrue old.told → IsSomeAnd (old.content name) (λ file. file_limit < length file))
+      → LinePrinted answer (status.Refused fault) (refused_line fault) before after
+      → IsUnread name old new before after answer
+  at_file : answer ≡ status.ReadFault → Rose (old.read_faults name) (new.read_faults name) → after.taken ≡ before.taken
+      → IsUnread name old new before after answer
+  no_memory : answer ≡ status.NoMemory → after.taken ≡ before.taken → IsUnread name old new before after answer
+
+-- a refusal names a fault of which P holds; memory may be wanting at any time
+abbrev pub IsRefusalFor : (Fault → Type 0) → Refusal → Type 0
+IsRefusalFor P (refusal.Fault fault) = P fault
+IsRefusalFor P refusal.Memory = Unit {0}
 
 -- the answer to what a run on a machine came to, and `halted` says that the machine halts
 abbrev pub status_of : {C : Type 0} → (ℕ → C → Status) → Answer C → Status
@@ -16,6 +39,14 @@ status_of halted (answer.Halted pc cause) = halted pc cause
 status_of halted answer.ReadFault = status.ReadFault
 status_of halted answer.WriteFault = status.WriteFault
 status_of halted answer.Memory = status.NoMemory
+
+-- an answer says how a run came out
+abbrev pub is_outcome : Status → Bool
+is_outcome (status.Ended value) = true
+is_outcome (status.Trapped pc cause) = true
+is_outcome (status.Stuck pc reason) = true
+is_outcome status.OutOfSteps = true
+is_outcome _ = false
 
 -- After a run that came out the closing line was printed, or a prefix of it, or none of it. Nothing is printed after a
 -- fault, or for want of memory.

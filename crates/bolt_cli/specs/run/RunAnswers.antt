@@ -83,8 +83,8 @@ outside w = record { input = w.input; output = w.output }
 
 module _ {P V X C : Type 0} (mode : Mode P V X C) (words : RunWords) where
   -- the fault is present, where files are told
-  abbrev pub IsPresent : World → Fault → Type 0
-  IsPresent w fault = IsTrue w.files.told → IsSomeAnd (w.files.content words.file) (λ file. mode.CannotRun file fault)
+  abbrev pub HasRunFault : World → Fault → Type 0
+  HasRunFault w fault = IsTrue w.files.told → IsSomeAnd (w.files.content words.file) (λ file. mode.CannotRun file fault)
 
   -- The file was read, it can be run, no file was written, and the machine with its program answered so.
   pub record IsUnderWay (old new : World) (answer : Status) : Type 0 where
@@ -98,9 +98,9 @@ module _ {P V X C : Type 0} (mode : Mode P V X C) (words : RunWords) where
   -- Where nothing is run, standard input stays as it was. U holds of a run that got under way.
   pub data FileAnswers (U : Type 0) (old new : World) (answer : Status) : Type 0 where
     under_way : U → FileAnswers U old new answer
-    refused : (fault : Fault) → answer ≡ status.Refused fault → IsPresent old fault → PrintsOnly (refused_line fault) old new
+    refused : (fault : Fault) → answer ≡ status.Refused fault → HasRunFault old fault → PrintsOnly (refused_line fault) old new
         → new.input ≡ old.input → FileAnswers U old new answer
-    at_refusal : (fault : Fault) → answer ≡ status.WriteFault → IsPresent old fault → FailsAtLine (refused_line fault) old new
+    at_refusal : (fault : Fault) → answer ≡ status.WriteFault → HasRunFault old fault → FailsAtLine (refused_line fault) old new
         → new.input ≡ old.input → FileAnswers U old new answer
     at_file : answer ≡ status.ReadFault → ReadRose old new words.file → IsSilent old new → new.input ≡ old.input
         → FileAnswers U old new answer
@@ -131,7 +131,7 @@ IsExact {C = C} machine limit left answer = (input : List ℕ) → left ≡ Some
     (answer ≡ answer_of machine ending) ⊎ IsCutShort answer
 
 -- No count of faults rose: of the file, of standard input and of standard output.
-pub record NoneRose (words : RunWords) (old new : World) : Type 0 where
+pub record NoRunErrors (words : RunWords) (old new : World) : Type 0 where
   pub file : ReadRose old new words.file → ⊥
   pub input : Rose old.input.faults new.input.faults → ⊥
   pub out : Rose old.output.faults new.output.faults → ⊥
@@ -146,4 +146,4 @@ pub record IsComplete {P V X C : Type 0} (mode : Mode P V X C) (words : RunWords
 
 -- it is quiet where no count of faults rose
 abbrev pub RunCompletes : {P V X C : Type 0} → Mode P V X C → RunWords → List ℕ → Status → World → World → Type 0
-RunCompletes mode words file answer old new = IsComplete mode words file old.input.left answer (NoneRose words old new)
+RunCompletes mode words file answer old new = IsComplete mode words file old.input.left answer (NoRunErrors words old new)

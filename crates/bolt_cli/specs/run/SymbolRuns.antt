@@ -19,7 +19,7 @@ use Rattle.elf_image.specs.file.ParsedFile.{IsElfOf}
 use Rattle.elf_image.specs.file.Sections.{section_header, section_name}
 use Rattle.elf_write.specs.Need.{need}
 use Rattle.elf_write.specs.Room.{is_tight}
-use Rattle.sym_machine.specs.SymStart.{Program, program_start}
+use Rattle.sym_machine.specs.SymStart.{SymProgram, program_start}
 use Rattle.sym_machine.specs.SymStep.{SymSteps}
 use Rattle.sym_machine.specs.declared.outcome.Reason.{Reason}
 use Rattle.sym_machine.specs.declared.value.MemoryByte.{MemoryByte}
@@ -31,7 +31,7 @@ use Rattle.bolt_cli.specs.run.Endings.{Loaded}
 use Rattle.bolt_cli.specs.run.Modes.{Mode}
 use Rattle.bolt_cli.specs.declared.status.Status.TheVariants as status
 
-abbrev pub symbol_machine : Program → List (List ℕ) → Loaded Value MemoryByte Reason
+abbrev pub symbol_machine : SymProgram → List (List ℕ) → Loaded Value MemoryByte Reason
 symbol_machine program words =
     record { step = SymSteps program.funcs; start = program_start program words; halted = status.Stuck }
 
@@ -47,23 +47,23 @@ abbrev pub HasFrames : List ℕ → Type 0
 HasFrames file = (i : ℕ) × IsFrameSection file i
 
 -- a file that was read, in which the reader finds nothing wrong, and without unwind tables
-pub record IsPlain (file : List ℕ) : Type 0 where
+pub record IsFrameless (file : List ℕ) : Type 0 where
   pub fits : length file ≤ file_limit
   pub sound : IsSound file
   pub frameless : HasFrames file → ⊥
 
 -- a file as its reader keeps it, with what is wrong in its code
-abbrev pub HasFault : Elf → Fault → Type 0
-HasFault elf fault = IsAnswered (HasCodeFault elf tabled) fault
+abbrev pub IsRefusedFor : Elf → Fault → Type 0
+IsRefusedFor elf fault = IsAnswered (HasCodeFault elf tabled) fault
 
-abbrev pub HasNoFault : Elf → Type 0
-HasNoFault elf = IsFree (HasCodeFault elf tabled)
+abbrev pub HasSoundCode : Elf → Type 0
+HasSoundCode elf = IsFree (HasCodeFault elf tabled)
 
 -- the functions of a file, in which no fault is found
 pub record IsFaultless (file : List ℕ) (elf : Elf) (funcs : List Func) : Type 0 where
-  pub plain : IsPlain file
+  pub plain : IsFrameless file
   pub read : IsElfOf file elf
-  pub code_sound : HasNoFault elf
+  pub code_sound : HasSoundCode elf
   pub code_fits : HasTooMuchCode file → ⊥
   pub few : length funcs ≤ function_limit
   pub funcs_are : AreFunctions elf tabled funcs
@@ -80,17 +80,17 @@ pub data CannotRunSymbols (file : List ℕ) (fault : Fault) : Type 0 where
   unsound : length file ≤ file_limit → IsFirstFault file fault → CannotRunSymbols file fault
   not_built : length file ≤ file_limit → IsSound file → HasFrames file → fault ≡ fault_at NotBuilt 0
       → CannotRunSymbols file fault
-  bad_code : IsPlain file → (elf : Elf) → IsElfOf file elf → HasFault elf fault → CannotRunSymbols file fault
-  much_code : IsPlain file → (elf : Elf) → IsElfOf file elf → HasNoFault elf → HasTooMuchCode file
+  bad_code : IsFrameless file → (elf : Elf) → IsElfOf file elf → IsRefusedFor elf fault → CannotRunSymbols file fault
+  much_code : IsFrameless file → (elf : Elf) → IsElfOf file elf → HasSoundCode elf → HasTooMuchCode file
       → fault ≡ fault_at TooLarge 2 → CannotRunSymbols file fault
-  many_functions : IsPlain file → (elf : Elf) → IsElfOf file elf → HasNoFault elf → (HasTooMuchCode file → ⊥)
+  many_functions : IsFrameless file → (elf : Elf) → IsElfOf file elf → HasSoundCode elf → (HasTooMuchCode file → ⊥)
       → (funcs : List Func) → AreFunctions elf tabled funcs → function_limit < length funcs → fault ≡ fault_at TooLarge 3
       → CannotRunSymbols file fault
 
 -- What the machine is given.
 
 -- The file is tight: what its new code may need is more than there is room for behind the old one.
-pub record IsTightness (program : Program) : Type 0 where
+pub record IsTightness (program : SymProgram) : Type 0 where
   pub roles : List (ℕ × Role)
   pub roles_are : AreRoles program.elf roles
   pub blocks : List Block
@@ -98,12 +98,12 @@ pub record IsTightness (program : Program) : Type 0 where
       (record { funcs = program.funcs; roles = roles; cells = program.cells; entry = program.elf.entry }) blocks
   pub tight_is : program.tight ≡ is_tight program.elf.segments.items (need program.elf program.funcs blocks)
 
-pub record IsSymbolProgram (file : List ℕ) (program : Program) : Type 0 where
+pub record IsSymbolProgram (file : List ℕ) (program : SymProgram) : Type 0 where
   pub faultless : IsFaultless file program.elf program.funcs
   pub cells_are : AreCells program.elf tabled program.cells
   pub tightness : IsTightness program
 
-abbrev pub symbol_mode : Mode Program Value MemoryByte Reason
+abbrev pub symbol_mode : Mode SymProgram Value MemoryByte Reason
 symbol_mode = record {
   IsProgram = IsSymbolProgram;
   machine = symbol_machine;

@@ -1,9 +1,8 @@
 // The command `map`.
 
 use super::rewritten::{COUNTDOWN_MAP, COUNTDOWN_PROFILE};
-use super::{MAP, answer, files, files_with};
+use super::{MAP, answer, check_cut, files, files_with};
 use crate::status::Status;
-use rb_bytes::fault::{Fault, FaultKind};
 use std::test::Fail;
 use test_files::exit7;
 use test_files::programs::countdown;
@@ -23,14 +22,7 @@ fn maps_are_printed(rt: HostRuntime) -> Result<(), Fail> {
 
 #[test]
 fn maps_of_files_that_are_refused(rt: HostRuntime) -> Result<(), Fail> {
-    let alloc = rt.alloc();
-    let mut cut = exit7(alloc)?;
-    cut.truncate(63);
-    let mut files = files(alloc, cut, &[])?;
-    let (status, out) = answer(alloc, &PRINT_MAP, &mut files, 200)?;
-    assert_eq!(rt; status, Status::Refused(Fault::at(FaultKind::Truncated, 0)));
-    assert_eq!(rt; out.taken(), b"refused 2 Truncated at 0\n".as_slice());
-    Ok(())
+    check_cut(&rt, rt.alloc(), &PRINT_MAP)
 }
 
 #[test]

@@ -5,98 +5,88 @@ use super::rewriting::{MapText, Rewriting, check, check_in, ends_as_before};
 use super::{REWRITE, answer, files_with};
 use crate::status::Status;
 use rb_bytes::fault::{Fault, FaultKind};
-use std::alloc::Global;
-use std::process::Abort;
 use std::test::Fail;
 
-// A branch over one instruction, the size of the block that comes between, and what becomes of it.
-#[derive(Clone, Copy)]
-struct Branch<'a> {
-    short: bool,
-    size: u64,
-    rewriting: Rewriting<'a>,
+// A branch over one instruction, of two bytes and of four, that was taken once.
+fn over_short(line: &[u8]) -> Rewriting<'_> {
+    Rewriting {
+        profile: b"1 @10078 0 1 @10078 4 0 1\n",
+        ..ends_as_before(0, line)
+    }
 }
 
-fn check_branch(rt: &impl Abort, alloc: Global, branch: &Branch<'_>) -> Result<(), Fail> {
-    let input = branch_over(alloc, branch.short, branch.size)?;
-    check(rt, alloc, input, &branch.rewriting)
+fn over_full(line: &[u8]) -> Rewriting<'_> {
+    Rewriting {
+        profile: b"1 @10078 0 1 @10078 6 0 1\n",
+        ..ends_as_before(0, line)
+    }
 }
 
 // The branch of two bytes reaches 254 bytes far.
+// C.BEQZ a0,254; C.NOP and JAL x0,-254
 #[test]
 fn a_branch_of_two_bytes_reaches(rt: HostRuntime) -> Result<(), Fail> {
-    let branch = Branch {
-        short: true,
-        size: 252,
-        rewriting: Rewriting {
-            profile: b"1 @10078 0 1 @10078 4 0 1\n",
-            map: MapText::Ends(b"10180 2 10078\n", b"\n1027e 6 1007a\n"),
-            summary: b"moved 1 functions, 126 instructions, 260 bytes; 2 hot blocks; 0 profile lines ignored\n",
-            // C.BEQZ a0,254; C.NOP and JAL x0,-254
-            bytes: &[(0x180, b"\x7d\xcd"), (0x27e, b"\x01\x00\x6f\xf0\x3f\xf0")],
-            after: b"[ended 0 after 127 steps]\n",
-            ..ends_as_before(0, b"[ended 0 after 126 steps]\n")
-        },
+    let moved = Rewriting {
+        map: MapText::Ends(b"10180 2 10078\n", b"\n1027e 6 1007a\n"),
+        summary: b"moved 1 functions, 126 instructions, 260 bytes; 2 hot blocks; 0 profile lines ignored\n",
+        bytes: &[(0x180, b"\x7d\xcd"), (0x27e, b"\x01\x00\x6f\xf0\x3f\xf0")],
+        after: b"[ended 0 after 127 steps]\n",
+        ..over_short(b"[ended 0 after 126 steps]\n")
     };
-    check_branch(&rt, rt.alloc(), &branch)
+    check(&rt, rt.alloc(), branch_over(rt.alloc(), true, 252)?, &moved)
 }
 
+// BEQ a0,x0,258; C.NOP and JAL x0,-256
 #[test]
 fn a_branch_of_four_bytes_is_wanted(rt: HostRuntime) -> Result<(), Fail> {
-    let branch = Branch {
-        short: true,
-        size: 254,
-        rewriting: Rewriting {
-            profile: b"1 @10078 0 1 @10078 4 0 1\n",
-            map: MapText::Ends(b"10180 4 10078\n", b"\n10282 6 1007a\n"),
-            summary: b"moved 1 functions, 127 instructions, 264 bytes; 2 hot blocks; 0 profile lines ignored\n",
-            // BEQ a0,x0,258; C.NOP and JAL x0,-256
-            bytes: &[
-                (0x180, b"\x63\x01\x05\x10"),
-                (0x282, b"\x01\x00\x6f\xf0\x1f\xf0"),
-            ],
-            after: b"[ended 0 after 128 steps]\n",
-            ..ends_as_before(0, b"[ended 0 after 127 steps]\n")
-        },
+    let moved = Rewriting {
+        map: MapText::Ends(b"10180 4 10078\n", b"\n10282 6 1007a\n"),
+        summary: b"moved 1 functions, 127 instructions, 264 bytes; 2 hot blocks; 0 profile lines ignored\n",
+        bytes: &[
+            (0x180, b"\x63\x01\x05\x10"),
+            (0x282, b"\x01\x00\x6f\xf0\x1f\xf0"),
+        ],
+        after: b"[ended 0 after 128 steps]\n",
+        ..over_short(b"[ended 0 after 127 steps]\n")
     };
-    check_branch(&rt, rt.alloc(), &branch)
+    check(&rt, rt.alloc(), branch_over(rt.alloc(), true, 254)?, &moved)
 }
 
 // The branch of four bytes reaches 4094 bytes far.
+// BEQ a0,x0,4094
 #[test]
 fn a_branch_of_four_bytes_reaches(rt: HostRuntime) -> Result<(), Fail> {
-    let branch = Branch {
-        short: false,
-        size: 4090,
-        rewriting: Rewriting {
-            profile: b"1 @10078 0 1 @10078 6 0 1\n",
-            map: MapText::Ends(b"11080 4 10078\n", b"\n1207e 6 1007c\n"),
-            summary: b"moved 1 functions, 2045 instructions, 4100 bytes; 2 hot blocks; 0 profile lines ignored\n",
-            // BEQ a0,x0,4094
-            bytes: &[(0x1080, b"\xe3\x0f\x05\x7e")],
-            after: b"[ended 0 after 2046 steps]\n",
-            ..ends_as_before(0, b"[ended 0 after 2045 steps]\n")
-        },
+    let moved = Rewriting {
+        map: MapText::Ends(b"11080 4 10078\n", b"\n1207e 6 1007c\n"),
+        summary: b"moved 1 functions, 2045 instructions, 4100 bytes; 2 hot blocks; 0 profile lines ignored\n",
+        bytes: &[(0x1080, b"\xe3\x0f\x05\x7e")],
+        after: b"[ended 0 after 2046 steps]\n",
+        ..over_full(b"[ended 0 after 2045 steps]\n")
     };
-    check_branch(&rt, rt.alloc(), &branch)
+    check(
+        &rt,
+        rt.alloc(),
+        branch_over(rt.alloc(), false, 4090)?,
+        &moved,
+    )
 }
 
+// BNE a0,x0,8; JAL x0,4096
 #[test]
 fn a_branch_around_a_jump_is_wanted(rt: HostRuntime) -> Result<(), Fail> {
-    let branch = Branch {
-        short: false,
-        size: 4092,
-        rewriting: Rewriting {
-            profile: b"1 @10078 0 1 @10078 6 0 1\n",
-            map: MapText::Ends(b"11080 8 10078\n", b"\n12084 6 1007c\n"),
-            summary: b"moved 1 functions, 2046 instructions, 4106 bytes; 2 hot blocks; 0 profile lines ignored\n",
-            // BNE a0,x0,8; JAL x0,4096
-            bytes: &[(0x1080, b"\x63\x14\x05\x00\x6f\x10\0\0")],
-            after: b"[ended 0 after 2048 steps]\n",
-            ..ends_as_before(0, b"[ended 0 after 2046 steps]\n")
-        },
+    let moved = Rewriting {
+        map: MapText::Ends(b"11080 8 10078\n", b"\n12084 6 1007c\n"),
+        summary: b"moved 1 functions, 2046 instructions, 4106 bytes; 2 hot blocks; 0 profile lines ignored\n",
+        bytes: &[(0x1080, b"\x63\x14\x05\x00\x6f\x10\0\0")],
+        after: b"[ended 0 after 2048 steps]\n",
+        ..over_full(b"[ended 0 after 2046 steps]\n")
     };
-    check_branch(&rt, rt.alloc(), &branch)
+    check(
+        &rt,
+        rt.alloc(),
+        branch_over(rt.alloc(), false, 4092)?,
+        &moved,
+    )
 }
 
 // A function of 999,996 bytes may fall, which takes 4 more.

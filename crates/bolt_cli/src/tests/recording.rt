@@ -1,8 +1,7 @@
 // The command `record`.
 
-use super::{USAGE, answer, files};
+use super::{USAGE, answer, check_cut, files};
 use crate::status::Status;
-use rb_bytes::fault::{Fault, FaultKind};
 use std::alloc::Global;
 use std::process::Abort;
 use std::test::Fail;
@@ -85,15 +84,7 @@ fn words_that_record_nothing(rt: HostRuntime) -> Result<(), Fail> {
 
 #[test]
 fn files_that_are_not_recorded(rt: HostRuntime) -> Result<(), Fail> {
-    let alloc = rt.alloc();
-    let mut cut = exit7(alloc)?;
-    cut.truncate(63);
-    let mut files = files(alloc, cut, &[])?;
-    let (status, out) = answer(alloc, &RECORD, &mut files, 200)?;
-    assert_eq!(rt; status, Status::Refused(Fault::at(FaultKind::Truncated, 0)));
-    assert_eq!(rt; out.taken(), b"refused 2 Truncated at 0\n".as_slice());
-    assert!(rt; files.content("out").is_none());
-    Ok(())
+    check_cut(&rt, rt.alloc(), &RECORD)
 }
 
 #[test]

@@ -245,38 +245,32 @@ const THREE_FUNCTIONS_MAP: &[u8] = b"\
 #[test]
 fn three_functions_are_split(rt: HostRuntime) -> Result<(), Fail> {
     let alloc = rt.alloc();
-    check(
-        &rt,
-        alloc,
-        sample_file(alloc, &THREE_FUNCTIONS)?,
-        &Rewriting {
-            profile: &profile(alloc, &THREE_FUNCTIONS)?,
-            map: MapText::Whole(THREE_FUNCTIONS_MAP),
-            summary: b"moved 4 functions, 41 instructions, 164 bytes; 10 hot blocks; 0 profile lines ignored\n",
-            after: b"[ended 13 after 35 steps]\n",
-            ..ends_as_before(13, b"[ended 13 after 36 steps]\n")
-        },
-    )
+    let profile = profile(alloc, &THREE_FUNCTIONS)?;
+    let moved = Rewriting {
+        profile: &profile,
+        map: MapText::Whole(THREE_FUNCTIONS_MAP),
+        summary: b"moved 4 functions, 41 instructions, 164 bytes; 10 hot blocks; 0 profile lines ignored\n",
+        after: b"[ended 13 after 35 steps]\n",
+        ..ends_as_before(13, b"[ended 13 after 36 steps]\n")
+    };
+    check(&rt, alloc, sample_file(alloc, &THREE_FUNCTIONS)?, &moved)
 }
 
 #[test]
 fn a_hundred_functions_are_split(rt: HostRuntime) -> Result<(), Fail> {
     let alloc = rt.alloc();
-    check(
-        &rt,
-        alloc,
-        sample_file(alloc, &HUNDRED_FUNCTIONS)?,
-        &Rewriting {
-            profile: &profile(alloc, &HUNDRED_FUNCTIONS)?,
-            map: MapText::Ends(
-                b"132a0 4 122c0\n132a4 4 122c4\n132a8 4 122c8\n132ac 4 122cc\n132b0 4 122d0\n132b4 4 11000\n",
-                b"\n1455c 8 12248\n14564 4 12270\n14568 4 12274\n1456c 8 122a8\n",
-            ),
-            summary: b"moved 101 functions, 1205 instructions, 4820 bytes; 301 hot blocks; 0 profile lines ignored\n",
-            after: b"[ended 144 after 1005 steps]\n",
-            ..ends_as_before(144, b"[ended 144 after 1055 steps]\n")
-        },
-    )
+    let profile = profile(alloc, &HUNDRED_FUNCTIONS)?;
+    let moved = Rewriting {
+        profile: &profile,
+        map: MapText::Ends(
+            b"132a0 4 122c0\n132a4 4 122c4\n132a8 4 122c8\n132ac 4 122cc\n132b0 4 122d0\n132b4 4 11000\n",
+            b"\n1455c 8 12248\n14564 4 12270\n14568 4 12274\n1456c 8 122a8\n",
+        ),
+        summary: b"moved 101 functions, 1205 instructions, 4820 bytes; 301 hot blocks; 0 profile lines ignored\n",
+        after: b"[ended 144 after 1005 steps]\n",
+        ..ends_as_before(144, b"[ended 144 after 1055 steps]\n")
+    };
+    check(&rt, alloc, sample_file(alloc, &HUNDRED_FUNCTIONS)?, &moved)
 }
 
 const ONE_FUNCTION_PROFILE: &[u8] = b"\

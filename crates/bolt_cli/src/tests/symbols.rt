@@ -51,15 +51,26 @@ fn comes_out(
     Ok(())
 }
 
-// The same on both machines.
+// On the byte machine, and on the symbol machine.
+fn come_out(
+    rt: &impl Abort,
+    alloc: Global,
+    file: &[u8],
+    on_bytes: (Status, &[u8]),
+    on_symbols: (Status, &[u8]),
+) -> Result<(), Fail> {
+    comes_out(rt, alloc, file, &ON_BYTES, on_bytes)?;
+    comes_out(rt, alloc, file, &ON_SYMBOLS, on_symbols)
+}
+
+// The same on both.
 fn comes_out_alike(
     rt: &impl Abort,
     alloc: Global,
     file: &[u8],
     wanted: (Status, &[u8]),
 ) -> Result<(), Fail> {
-    comes_out(rt, alloc, file, &ON_BYTES, wanted)?;
-    comes_out(rt, alloc, file, &ON_SYMBOLS, wanted)
+    come_out(rt, alloc, file, wanted, wanted)
 }
 
 // Files, and how their runs end on both machines.
@@ -136,23 +147,12 @@ fn a_pointer_is_added_to(rt: HostRuntime) -> Result<(), Fail> {
     let alloc = rt.alloc();
     let file = address_added_to(alloc)?;
     assert_eq!(rt; Status::Stuck(0x10080, Reason::Operate).number(), 227);
-    comes_out(
-        &rt,
-        alloc,
-        &file,
-        &ON_BYTES,
-        (Status::Ended(0), b"[ended 0 after 6 steps]\n"),
-    )?;
-    comes_out(
-        &rt,
-        alloc,
-        &file,
-        &ON_SYMBOLS,
-        (
-            Status::Stuck(0x10080, Reason::Operate),
-            b"[stuck Operate at 10080 after 2 steps]\n",
-        ),
-    )
+    let ended: (Status, &[u8]) = (Status::Ended(0), b"[ended 0 after 6 steps]\n");
+    let stuck: (Status, &[u8]) = (
+        Status::Stuck(0x10080, Reason::Operate),
+        b"[stuck Operate at 10080 after 2 steps]\n",
+    );
+    come_out(&rt, alloc, &file, ended, stuck)
 }
 
 // In a file without room for new code behind the old one, the table of program headers is to move.
@@ -162,17 +162,11 @@ fn what_a_rewriting_changes_is_hidden(rt: HostRuntime) -> Result<(), Fail> {
     let ended: (Status, &[u8]) = (Status::Ended(71), b"[ended 71 after 4 steps]\n");
     comes_out_alike(&rt, alloc, &headers_from_stack(alloc, 0x10fd0)?, ended)?;
     let tight = headers_from_stack(alloc, 0x10fe0)?;
-    comes_out(&rt, alloc, &tight, &ON_BYTES, ended)?;
-    comes_out(
-        &rt,
-        alloc,
-        &tight,
-        &ON_SYMBOLS,
-        (
-            Status::Stuck(0x10fe0, Reason::Hidden),
-            b"[stuck Hidden at 10fe0 after 0 steps]\n",
-        ),
-    )
+    let stuck: (Status, &[u8]) = (
+        Status::Stuck(0x10fe0, Reason::Hidden),
+        b"[stuck Hidden at 10fe0 after 0 steps]\n",
+    );
+    come_out(&rt, alloc, &tight, ended, stuck)
 }
 
 #[test]

@@ -1,30 +1,21 @@
-use Rattle.std.proofs.Common.{sym, subst}
-use Rattle.rv_machine.specs.declared.stepped.Stepped.{Stepped}
+use Rattle.std.proofs.Common.{◌∙◌, ap, refl, sym}
 use Rattle.rv_machine.specs.Stepped.{answered}
-use Rattle.bolt_cli.specs.recording.Phases.{Finished}
-use Rattle.bolt_cli.specs.World.{world}
+use Rattle.bolt_cli.specs.World.{World, world}
+use Rattle.bolt_cli.proofs.Outcomes.{finished, left}
 use Rattle.bolt_cli.proofs.recording.finish.Goals as goal
 
-pub returns-in-Going-clause-finished : goal.returns-in-Going-clause-finished
-returns-in-Going-clause-finished g c = λ input seen.
-    subst (λ (end : Stepped).
-    Finished c.write_profile.result c.args.name.now c.args.recorded.now.text.items c.args.recorded.now.ran.steps
-    (world (g.F.Files.seen c.args.files.now) input (g.O.Sink.seen c.args.out.now))
-    (world (g.F.Files.seen c.write_profile.new.files) seen (g.O.Sink.seen c.write_profile.new.out)) (answered end))
-    (sym c.in-Going.is) (c.write_profile.ensures.written input seen)
+pub returns-then-is_outcome-clause-finished : goal.returns-then-is_outcome-clause-finished
+returns-then-is_outcome-clause-finished g c = λ input seen.
+    let old : World = world (g.F.Files.seen c.args.files.now) input (g.O.Sink.seen c.args.out.now) in
+    let new : World = world (g.F.Files.seen c.write_profile.new.files) seen (g.O.Sink.seen c.write_profile.new.out) in
+    finished c.write_profile.result c.args.name.now c.args.recorded.now.text.items c.args.recorded.now.ran.steps old new
+    (answered c.args.recorded.now.ran.end) c.status_of-came.result c.status_of-came.ensures
+    (sym c.is_outcome.ensures ∙ c.if-is_outcome.true) (c.write_profile.ensures.written input seen)
 
-pub returns-in-Ended-clause-finished : goal.returns-in-Ended-clause-finished
-returns-in-Ended-clause-finished g c = λ input seen.
-    subst (λ (end : Stepped).
-    Finished c.write_profile-in-Ended.result c.args.name.now c.args.recorded.now.text.items c.args.recorded.now.ran.steps
-    (world (g.F.Files.seen c.args.files.now) input (g.O.Sink.seen c.args.out.now)) (world
-    (g.F.Files.seen c.write_profile-in-Ended.new.files) seen (g.O.Sink.seen c.write_profile-in-Ended.new.out)) (answered end))
-    (sym c.in-Ended.is) (c.write_profile-in-Ended.ensures.written input seen)
-
-pub returns-in-Trap-clause-finished : goal.returns-in-Trap-clause-finished
-returns-in-Trap-clause-finished g c = λ input seen.
-    subst (λ (end : Stepped).
-    Finished c.write_profile-in-Trap.result c.args.name.now c.args.recorded.now.text.items c.args.recorded.now.ran.steps
-    (world (g.F.Files.seen c.args.files.now) input (g.O.Sink.seen c.args.out.now)) (world
-    (g.F.Files.seen c.write_profile-in-Trap.new.files) seen (g.O.Sink.seen c.write_profile-in-Trap.new.out)) (answered end))
-    (sym c.in-Trap.is) (c.write_profile-in-Trap.ensures.written input seen)
+pub returns-else-is_outcome-clause-finished : goal.returns-else-is_outcome-clause-finished
+returns-else-is_outcome-clause-finished g c = λ input seen.
+    let old : World = world (g.F.Files.seen c.args.files.now) input (g.O.Sink.seen c.args.out.now) in
+    let new : World = world (g.F.Files.seen c.args.files.now) seen (g.O.Sink.seen c.args.out.now) in
+    left c.status_of-came.result c.args.name.now c.args.recorded.now.text.items c.args.recorded.now.ran.steps old new
+    (answered c.args.recorded.now.ran.end) c.status_of-came.ensures
+    (sym c.is_outcome.ensures ∙ c.if-is_outcome.false) (record { each = λ name. refl }) refl

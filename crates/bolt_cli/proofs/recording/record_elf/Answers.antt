@@ -17,7 +17,7 @@ use Rattle.bolt_cli.proofs.recording.record_elf.Goals as goal
 
 pub returns-in_default-clause-answer : goal.returns-in_default-clause-answer
 returns-in_default-clause-answer g c =
-    stopped (out_of_memory refl (no_step (record_machine (recorded_program c.args.elf.now c.args.code.now)
+    stopped (out_of_memory refl (no_step (record_machine (recorded_program c.args.program.now)
     (record_read c.args.words.now).run.words) c.args.words.now.run.limit _ (λ input. refl)))
     (record { each = λ name. refl })
 
@@ -26,7 +26,8 @@ returns-in_default-clause-exact g c = λ input is ending n trace rest run. inr (
 
 pub trace_edges-recorded-requires-clause-funcs : goal.trace_edges-recorded-requires-clause-funcs
 trace_edges-recorded-requires-clause-funcs g c =
-    laid_out c.args.elf.now.file.now c.args.elf.now c.args.code.now.code.funcs.items c.as_slice-funcs.result.now
+    laid_out c.args.program.now.elf.file.now c.args.program.now.elf c.args.program.now.code.funcs.items
+    c.as_slice-funcs.result.now
     c.as_slice-funcs.ensures.value c.requires.program.faultless
 
 pub returns-clause-answer : goal.returns-clause-answer
@@ -36,11 +37,11 @@ returns-clause-answer g c =
     let new : World = world (g.F.Files.seen c.finish.new.files) (g.I.Source.seen c.trace_edges-recorded.new.input)
     (g.O.Sink.seen c.finish.new.out) in
     let mid : SinkSeen = g.O.Sink.seen c.trace_edges-recorded.new.out in
-    let program : Program = recorded_program c.args.elf.now c.args.code.now in
+    let program : Program = recorded_program c.args.program.now in
     answers program words c.trace_edges-recorded.result.ran.steps c.trace_edges-recorded.result.text.items old new mid
     c.trace_edges-recorded.ensures.writes c.finish.ensures.never_falls
     (answered c.trace_edges-recorded.result.ran.end) c.finish.result
-    (by_names c.args.elf.now _ _ _ _ _ _ _ _ _ _ _ _ (ap (map string_bytes) c.deref-2.ensures.value
+    (by_names c.args.program.now.elf _ _ _ _ _ _ _ _ _ _ _ _ (ap (map string_bytes) c.deref-2.ensures.value
     ∙ c.in-Ok.ensures) c.as_slice-funcs.ensures.value c.deref.ensures.value c.trace_edges-recorded.ensures.answer)
     (c.finish.ensures.finished (g.I.Source.seen c.trace_edges-recorded.new.input)
     (g.I.Source.seen c.trace_edges-recorded.new.input))
@@ -52,11 +53,11 @@ returns-clause-exact g c =
     let new : World = world (g.F.Files.seen c.finish.new.files) (g.I.Source.seen c.trace_edges-recorded.new.input)
     (g.O.Sink.seen c.finish.new.out) in
     let mid : SinkSeen = g.O.Sink.seen c.trace_edges-recorded.new.out in
-    let program : Program = recorded_program c.args.elf.now c.args.code.now in
+    let program : Program = recorded_program c.args.program.now in
     exact program words c.trace_edges-recorded.result.ran.steps c.trace_edges-recorded.result.text.items old new mid
     c.trace_edges-recorded.ensures.writes c.finish.ensures.never_falls
     (answered c.trace_edges-recorded.result.ran.end) c.finish.result
-    (by_names c.args.elf.now _ _ _ _ _ _ _ _ _ _ _ _ (ap (map string_bytes) c.deref-2.ensures.value
+    (by_names c.args.program.now.elf _ _ _ _ _ _ _ _ _ _ _ _ (ap (map string_bytes) c.deref-2.ensures.value
     ∙ c.in-Ok.ensures) c.as_slice-funcs.ensures.value c.deref.ensures.value c.trace_edges-recorded.ensures.answer)
     (c.finish.ensures.finished (g.I.Source.seen c.trace_edges-recorded.new.input)
     (g.I.Source.seen c.trace_edges-recorded.new.input))

@@ -1,115 +1,65 @@
-use Rattle.std.proofs.Common.{◌≤◌, ◌<◌, sym, subst, refl, inl, ℕ, List, length, arith}
+use Rattle.std.proofs.Common.{◌≤◌, refl, ℕ, List, arith}
 use Rattle.bolt_cli.specs.ParsedWords.{record_read}
-use Rattle.bolt_core.specs.Program.{Program, file_limit}
+use Rattle.bolt_cli.specs.recording.RecordRuns.{record_mode}
 use Rattle.bolt_cli.specs.recording.RecordedCode.{recorded_program}
-use Rattle.bolt_cli.specs.run.SymbolRuns.{CannotRunSymbols, too_long, unsound}
-use Rattle.bolt_cli.specs.run.RunAnswers.{at_file, before_run, read_fault, no_memory}
 use Rattle.bolt_cli.specs.Words.{RecordWords}
 use Rattle.bolt_cli.specs.World.{World, world}
-use Rattle.bolt_cli.specs.declared.status.Status.TheVariants as status
-use Rattle.bolt_cli.proofs.RunAnswering.{present_long, present_fault, passed_is, kept_is}
-use Rattle.bolt_cli.proofs.RecordAnswering.{serves, refusal_serves, after_reading, goes_under_way, other_exact, keeps_input}
+use Rattle.bolt_cli.proofs.RunAnswering.{passed_is, file_refused, file_unread}
+use Rattle.bolt_cli.proofs.RecordAnswering.{after_read, keeps_input, lawful, own_file, run_recorded, serves}
 use Rattle.bolt_cli.proofs.Answering.{go_on_after}
 use Rattle.bolt_cli.proofs.recording.record_run.Goals as goal
 
-pub returns-in-TooLong-clause-serves : goal.returns-in-TooLong-clause-serves
-returns-in-TooLong-clause-serves g c =
+pub returns-in-Err-clause-serves : goal.returns-in-Err-clause-serves
+returns-in-Err-clause-serves g c =
     let words : RecordWords = record_read c.args.words.now in
     let old : World = world (g.F.Files.seen c.args.files.now) (g.I.Source.seen c.args.input.now) (g.O.Sink.seen c.args.out.now) in
     let new : World =
-    world (g.F.Files.seen c.read_all.new.self) (g.I.Source.seen c.args.input.now) (g.O.Sink.seen c.refuse.new.out) in
-    refusal_serves words old new c.refuse.result c.at.result c.refuse.ensures.line c.in-TooLong.ensures.contents_kept
-    (λ told. present_long (old.files.content words.run.file) (λ file. file_limit < length file) (λ file.
-    CannotRunSymbols file c.at.result) (λ file long. too_long long c.at.ensures) (c.in-TooLong.ensures.too_long refl told)) refl
-    c.in-TooLong.ensures.goes_on c.refuse.ensures.never_falls
+    world (g.F.Files.seen c.read_file.new.files) (g.I.Source.seen c.args.input.now) (g.O.Sink.seen c.read_file.new.out) in
+    serves words old new c.in-Err.answer (file_unread record_mode words.run old new lawful (λ quiet. quiet.others) c.in-Err.answer
+    c.in-Err.ensures.kept refl c.in-Err.ensures.unread) c.in-Err.ensures.files_go_on (omega arith) c.in-Err.ensures.never_falls
 
-pub returns-in-Failed-clause-serves : goal.returns-in-Failed-clause-serves
-returns-in-Failed-clause-serves g c =
+pub returns-in-Ok-record_program-clause-serves : goal.returns-in-Ok-record_program-clause-serves
+returns-in-Ok-record_program-clause-serves g c =
     let words : RecordWords = record_read c.args.words.now in
     let old : World = world (g.F.Files.seen c.args.files.now) (g.I.Source.seen c.args.input.now) (g.O.Sink.seen c.args.out.now) in
+    let mid : World =
+    world (g.F.Files.seen c.read_file.new.files) (g.I.Source.seen c.args.input.now) (g.O.Sink.seen c.read_file.new.out) in
     let new : World =
-    world (g.F.Files.seen c.read_all.new.self) (g.I.Source.seen c.args.input.now) (g.O.Sink.seen c.args.out.now) in
-    serves words old new status.ReadFault
-    (at_file refl (c.in-Failed.ensures.failed refl)
-    (record { unprinted = refl; unwritten = c.in-Failed.ensures.contents_kept }) refl)
-    (λ told file is. inl (read_fault refl))
-    c.in-Failed.ensures.goes_on (omega arith) (omega arith)
-
-pub returns-in-Memory-clause-serves : goal.returns-in-Memory-clause-serves
-returns-in-Memory-clause-serves g c =
-    let words : RecordWords = record_read c.args.words.now in
-    let old : World = world (g.F.Files.seen c.args.files.now) (g.I.Source.seen c.args.input.now) (g.O.Sink.seen c.args.out.now) in
-    let new : World =
-    world (g.F.Files.seen c.read_all.new.self) (g.I.Source.seen c.args.input.now) (g.O.Sink.seen c.args.out.now) in
-    serves words old new status.NoMemory
-    (before_run refl (record { unprinted = refl; unwritten = c.in-Memory.ensures.contents_kept }) refl)
-    (λ told file is. inl (no_memory refl))
-    c.in-Memory.ensures.goes_on (omega arith) (omega arith)
-
-pub returns-in-Err-Fault-clause-serves : goal.returns-in-Err-Fault-clause-serves
-returns-in-Err-Fault-clause-serves g c =
-    let words : RecordWords = record_read c.args.words.now in
-    let old : World = world (g.F.Files.seen c.args.files.now) (g.I.Source.seen c.args.input.now) (g.O.Sink.seen c.args.out.now) in
-    let new : World =
-    world (g.F.Files.seen c.read_all.new.self) (g.I.Source.seen c.args.input.now) (g.O.Sink.seen c.refuse-in-Err-Fault.new.out) in
-    refusal_serves words old new c.refuse-in-Err-Fault.result c.in-Err-Fault.fault c.refuse-in-Err-Fault.ensures.line
-    c.in-Done.ensures.contents_kept
-    (λ told. present_fault (old.files.content words.run.file) c.deref.result.now
-    (λ file. CannotRunSymbols file c.in-Err-Fault.fault)
-    (passed_is (old.files.content words.run.file) c.read_all.new.into.items c.deref.result.now c.deref.result.now
-    c.deref.ensures.value (c.in-Done.ensures.done refl told))
-    (unsound (subst (λ (f : List ℕ). length f ≤ file_limit) (sym c.deref.ensures.value) (c.in-Done.ensures.within_limit refl))
-    (rw c.in-Err-Fault.field-0-is at c.in-Err-Fault.ensures.refusal))) refl
-    c.in-Done.ensures.goes_on c.refuse-in-Err-Fault.ensures.never_falls
-
-pub returns-in-Err-Fault-record_code-clause-serves : goal.returns-in-Err-Fault-record_code-clause-serves
-returns-in-Err-Fault-record_code-clause-serves g c =
-    let words : RecordWords = record_read c.args.words.now in
-    let old : World = world (g.F.Files.seen c.args.files.now) (g.I.Source.seen c.args.input.now) (g.O.Sink.seen c.args.out.now) in
-    let new : World = world (g.F.Files.seen c.read_all.new.self) (g.I.Source.seen c.args.input.now)
-    (g.O.Sink.seen c.refuse-in-Err-Fault-record_code.new.out) in
-    let kept : List ℕ = c.in-Ok.elf.file.now in
-    refusal_serves words old new c.refuse-in-Err-Fault-record_code.result c.in-Err-Fault-record_code.fault
-    c.refuse-in-Err-Fault-record_code.ensures.line c.in-Done.ensures.contents_kept
-    (λ told. present_fault (old.files.content words.run.file) kept
-    (λ file. CannotRunSymbols file c.in-Err-Fault-record_code.fault)
-    (kept_is (old.files.content words.run.file) c.read_all.new.into.items c.deref.result.now kept c.deref.ensures.value
-    c.in-Ok.ensures.fields.file_is (c.in-Done.ensures.done refl told))
-    (rw c.in-Err-Fault-record_code.field-0-is at c.in-Err-Fault-record_code.ensures.fault)) refl
-    c.in-Done.ensures.goes_on c.refuse-in-Err-Fault-record_code.ensures.never_falls
-
-pub returns-in-Err-Memory-record_code-clause-serves : goal.returns-in-Err-Memory-record_code-clause-serves
-returns-in-Err-Memory-record_code-clause-serves g c =
-    let words : RecordWords = record_read c.args.words.now in
-    let old : World = world (g.F.Files.seen c.args.files.now) (g.I.Source.seen c.args.input.now) (g.O.Sink.seen c.args.out.now) in
-    let new : World =
-    world (g.F.Files.seen c.read_all.new.self) (g.I.Source.seen c.args.input.now) (g.O.Sink.seen c.args.out.now) in
-    serves words old new status.NoMemory
-    (before_run refl (record { unprinted = refl; unwritten = c.in-Done.ensures.contents_kept }) refl)
-    (λ told file is. inl (no_memory refl))
-    c.in-Done.ensures.goes_on (omega arith) (omega arith)
+    world (g.F.Files.seen c.record_elf.new.files) (g.I.Source.seen c.record_elf.new.input) (g.O.Sink.seen c.record_elf.new.out) in
+    let first : old.output.faults ≤ mid.output.faults = c.in-Ok.ensures.never_falls in
+    let next : mid.output.faults ≤ new.output.faults = c.record_elf.ensures.writes in
+    let program = recorded_program c.in-Ok-record_program.program in
+    serves words old new c.record_elf.result
+    (run_recorded words old new c.record_elf.result c.deref.result.now program
+    (λ told. passed_is (old.files.content words.run.file) c.in-Ok.file.items c.deref.result.now c.deref.ensures.value
+    (c.in-Ok.ensures.read told)) c.in-Ok-record_program.ensures.program
+    (after_read words old new program mid.files mid.output c.record_elf.result c.in-Ok.ensures.kept c.in-Ok.ensures.files_go_on
+    c.in-Ok.ensures.unprinted c.record_elf.ensures.answer) c.record_elf.ensures.exact)
+    (go_on_after _ _ _ c.in-Ok.ensures.files_go_on c.record_elf.ensures.files_go_on) c.record_elf.ensures.reads (omega arith)
 
 pub returns-clause-serves : goal.returns-clause-serves
 returns-clause-serves g c =
     let words : RecordWords = record_read c.args.words.now in
     let old : World = world (g.F.Files.seen c.args.files.now) (g.I.Source.seen c.args.input.now) (g.O.Sink.seen c.args.out.now) in
+    let mid : World =
+    world (g.F.Files.seen c.read_file.new.files) (g.I.Source.seen c.args.input.now) (g.O.Sink.seen c.read_file.new.out) in
     let new : World =
-    world (g.F.Files.seen c.record_elf.new.files) (g.I.Source.seen c.record_elf.new.input) (g.O.Sink.seen c.record_elf.new.out) in
-    let kept : List ℕ = c.in-Ok.elf.file.now in
-    let is = kept_is (old.files.content words.run.file) c.read_all.new.into.items c.deref.result.now kept c.deref.ensures.value
-    c.in-Ok.ensures.fields.file_is in
-    let program : Program = recorded_program c.in-Ok.elf c.in-Ok-record_code.code in
-    serves words old new c.record_elf.result
-    (goes_under_way words old new c.record_elf.result kept program
-    (λ told. is (c.in-Done.ensures.done refl told)) c.in-Ok-record_code.ensures.program
-    (after_reading words old new program (g.F.Files.seen c.read_all.new.self) c.record_elf.result c.in-Done.ensures.contents_kept
-    c.in-Done.ensures.goes_on c.record_elf.ensures.answer))
-    (λ told file file_is. other_exact words old new c.record_elf.result kept file program
-    (is (c.in-Done.ensures.done refl told)) file_is c.in-Ok-record_code.ensures.program c.record_elf.ensures.exact)
-    (go_on_after _ _ _ c.in-Done.ensures.goes_on c.record_elf.ensures.files_go_on) c.record_elf.ensures.reads
-    c.record_elf.ensures.writes
+    world (g.F.Files.seen c.read_file.new.files) (g.I.Source.seen c.args.input.now) (g.O.Sink.seen c.refuse.new.out) in
+    let first : old.output.faults ≤ mid.output.faults = c.in-Ok.ensures.never_falls in
+    let next : mid.output.faults ≤ new.output.faults = c.refuse.ensures.never_falls in
+    serves words old new c.refuse.result
+    (file_refused record_mode words.run old new lawful (λ quiet. quiet.others) c.refuse.result c.in-Ok.ensures.kept refl
+    c.deref.result.now
+    c.in-Err-record_program.refusal mid.output c.in-Ok.ensures.unprinted
+    (λ told. passed_is (old.files.content words.run.file) c.in-Ok.file.items c.deref.result.now c.deref.ensures.value
+    (c.in-Ok.ensures.read told)) c.in-Err-record_program.ensures.fault c.refuse.ensures.refused)
+    c.in-Ok.ensures.files_go_on (omega arith) (omega arith)
 
-pub returns-clause-input_kept : goal.returns-clause-input_kept
-returns-clause-input_kept g c =
-    keeps_input (recorded_program c.in-Ok.elf c.in-Ok-record_code.code)
+pub returns-in-Ok-record_program-clause-input_kept : goal.returns-in-Ok-record_program-clause-input_kept
+returns-in-Ok-record_program-clause-input_kept g c =
+    keeps_input (recorded_program c.in-Ok-record_program.program)
     (record_read c.args.words.now) _ _ c.record_elf.result c.args.input.now c.record_elf.new.input c.record_elf.ensures.answer
+
+pub record_elf-requires-clause-program : goal.record_elf-requires-clause-program
+record_elf-requires-clause-program g c =
+    own_file c.deref.result.now (recorded_program c.in-Ok-record_program.program) c.in-Ok-record_program.ensures.program

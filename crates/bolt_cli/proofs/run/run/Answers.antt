@@ -1,105 +1,118 @@
-use Rattle.std.proofs.Common.{◌≤◌, sym, subst, refl, inr, ◌<◌, ℕ, List, length, arith}
-use Rattle.bolt_cli.specs.ParsedWords.{run_read}
-use Rattle.bolt_core.specs.CodeLimit.{HasTooMuchCode}
-use Rattle.bolt_core.specs.Program.{file_limit}
-use Rattle.bolt_cli.specs.run.ByteRuns.{CannotRun, too_long, unsound, much_code}
-use Rattle.bolt_cli.specs.run.RunAnswers.{at_file, before_run, read_fault, no_memory}
+use Rattle.std.proofs.Common.{◌≤◌, Some, refl, subst, sym, arith}
+use Rattle.bolt_cli.specs.CommandAnswers.{Serves}
+use Rattle.bolt_cli.specs.ParsedWords.{run_on, run_read}
+use Rattle.bolt_cli.specs.run.ByteRuns.{byte_mode}
+use Rattle.bolt_cli.specs.run.ParsedCode.{program_of}
+use Rattle.bolt_cli.specs.run.SymbolRuns.{symbol_mode}
 use Rattle.bolt_cli.specs.Words.{RunWords}
 use Rattle.bolt_cli.specs.World.{World, world}
-use Rattle.bolt_cli.specs.declared.status.Status.TheVariants as status
-use Rattle.bolt_cli.proofs.RunAnswering.{denied, present_long, present_fault, passed_is, kept_is, kept_fits, kept_sound}
-use Rattle.bolt_cli.proofs.ByteRunAnswering.{serves, refusal_serves, goes_under_way, other_exact}
+use Rattle.bolt_cli.specs.declared.run.RunMode.{RunMode}
+use Rattle.bolt_cli.proofs.ByteRunAnswering as by_bytes
+use Rattle.bolt_cli.proofs.RunAnswering.{passed_is, file_refused, run_answered, run_not_refused}
+use Rattle.bolt_cli.proofs.RunModes.{run_keeps_input, unread_serves}
+use Rattle.bolt_cli.proofs.SymbolRunAnswering as by_symbols
 use Rattle.bolt_cli.proofs.run.run.Goals as goal
 
-pub returns-in-TooLong-clause-serves : goal.returns-in-TooLong-clause-serves
-returns-in-TooLong-clause-serves g c =
+pub returns-in-Err-clause-serves : goal.returns-in-Err-clause-serves
+returns-in-Err-clause-serves g c =
     let words : RunWords = run_read c.args.words.now in
     let old : World = world (g.F.Files.seen c.args.files.now) (g.I.Source.seen c.args.input.now) (g.O.Sink.seen c.args.out.now) in
     let new : World =
-    world (g.F.Files.seen c.read_all.new.self) (g.I.Source.seen c.args.input.now) (g.O.Sink.seen c.refuse.new.out) in
-    refusal_serves words old new c.refuse.result c.at.result c.refuse.ensures.line c.in-TooLong.ensures.contents_kept
-    (λ told. present_long (old.files.content words.file) (λ file. file_limit < length file) (λ file. CannotRun file c.at.result)
-    (λ file long. too_long long c.at.ensures) (c.in-TooLong.ensures.too_long refl told)) refl
-    c.in-TooLong.ensures.goes_on c.refuse.ensures.never_falls
+    world (g.F.Files.seen c.read_file.new.files) (g.I.Source.seen c.args.input.now) (g.O.Sink.seen c.read_file.new.out) in
+    unread_serves words old new c.in-Err.answer c.in-Err.ensures.kept refl c.in-Err.ensures.unread c.in-Err.ensures.files_go_on
+    c.in-Err.ensures.never_falls c.args.mode
 
-pub returns-in-Failed-clause-serves : goal.returns-in-Failed-clause-serves
-returns-in-Failed-clause-serves g c =
+pub returns-in-Ok-runnable_file-clause-serves : goal.returns-in-Ok-runnable_file-clause-serves
+returns-in-Ok-runnable_file-clause-serves g c =
     let words : RunWords = run_read c.args.words.now in
     let old : World = world (g.F.Files.seen c.args.files.now) (g.I.Source.seen c.args.input.now) (g.O.Sink.seen c.args.out.now) in
+    let mid : World =
+    world (g.F.Files.seen c.read_file.new.files) (g.I.Source.seen c.args.input.now) (g.O.Sink.seen c.read_file.new.out) in
     let new : World =
-    world (g.F.Files.seen c.read_all.new.self) (g.I.Source.seen c.args.input.now) (g.O.Sink.seen c.args.out.now) in
-    serves words old new status.ReadFault
-    (at_file refl (c.in-Failed.ensures.failed refl)
-    (record { unprinted = refl; unwritten = c.in-Failed.ensures.contents_kept }) refl)
-    (λ told file is input left ending steps trace rest runs. inr (read_fault refl))
-    c.in-Failed.ensures.goes_on (omega arith) (omega arith)
+    world (g.F.Files.seen c.read_file.new.files) (g.I.Source.seen c.run_elf.new.input) (g.O.Sink.seen c.run_elf.new.out) in
+    let first : old.output.faults ≤ mid.output.faults = c.in-Ok.ensures.never_falls in
+    let next : mid.output.faults ≤ new.output.faults = c.run_elf.ensures.writes in
+    subst (λ (m : RunMode). Serves (Some (run_on m words)) c.run_elf.result old new) (sym c.in-Bytes.is)
+    (by_bytes.serves words old new c.run_elf.result
+    (run_answered byte_mode words old new by_bytes.lawful c.run_elf.result c.in-Ok.ensures.kept c.deref.result.now
+    c.in-Ok-runnable_file.elf.file.now
+    mid.output c.in-Ok.ensures.unprinted
+    (λ told. passed_is (old.files.content words.file) c.in-Ok.file.items c.deref.result.now c.deref.ensures.value
+    (c.in-Ok.ensures.read told)) (record {
+      program_is = c.in-Ok-runnable_file.ensures.fields.file_is;
+      runnable = c.in-Ok-runnable_file.ensures.runnable;
+    }) c.run_elf.ensures.answer c.run_elf.ensures.exact)
+    c.in-Ok.ensures.files_go_on c.run_elf.ensures.reads (omega arith))
 
-pub returns-in-Memory-clause-serves : goal.returns-in-Memory-clause-serves
-returns-in-Memory-clause-serves g c =
+pub returns-in-Bytes-clause-serves : goal.returns-in-Bytes-clause-serves
+returns-in-Bytes-clause-serves g c =
     let words : RunWords = run_read c.args.words.now in
     let old : World = world (g.F.Files.seen c.args.files.now) (g.I.Source.seen c.args.input.now) (g.O.Sink.seen c.args.out.now) in
+    let mid : World =
+    world (g.F.Files.seen c.read_file.new.files) (g.I.Source.seen c.args.input.now) (g.O.Sink.seen c.read_file.new.out) in
     let new : World =
-    world (g.F.Files.seen c.read_all.new.self) (g.I.Source.seen c.args.input.now) (g.O.Sink.seen c.args.out.now) in
-    serves words old new status.NoMemory
-    (before_run refl (record { unprinted = refl; unwritten = c.in-Memory.ensures.contents_kept }) refl)
-    (λ told file is input left ending steps trace rest runs. inr (no_memory refl))
-    c.in-Memory.ensures.goes_on (omega arith) (omega arith)
+    world (g.F.Files.seen c.read_file.new.files) (g.I.Source.seen c.args.input.now) (g.O.Sink.seen c.refuse.new.out) in
+    let first : old.output.faults ≤ mid.output.faults = c.in-Ok.ensures.never_falls in
+    let next : mid.output.faults ≤ new.output.faults = c.refuse.ensures.never_falls in
+    subst (λ (m : RunMode). Serves (Some (run_on m words)) c.refuse.result old new) (sym c.in-Bytes.is)
+    (by_bytes.serves words old new c.refuse.result
+    (file_refused byte_mode words old new by_bytes.lawful (λ quiet. quiet) c.refuse.result c.in-Ok.ensures.kept refl
+    c.deref.result.now c.in-Err-runnable_file.refusal mid.output c.in-Ok.ensures.unprinted
+    (λ told. passed_is (old.files.content words.file) c.in-Ok.file.items c.deref.result.now c.deref.ensures.value
+    (c.in-Ok.ensures.read told)) c.in-Err-runnable_file.ensures.fault c.refuse.ensures.refused)
+    c.in-Ok.ensures.files_go_on (omega arith) (omega arith))
 
-pub returns-in-Err-Fault-clause-serves : goal.returns-in-Err-Fault-clause-serves
-returns-in-Err-Fault-clause-serves g c =
+pub returns-in-Ok-symbol_program-clause-serves : goal.returns-in-Ok-symbol_program-clause-serves
+returns-in-Ok-symbol_program-clause-serves g c =
     let words : RunWords = run_read c.args.words.now in
     let old : World = world (g.F.Files.seen c.args.files.now) (g.I.Source.seen c.args.input.now) (g.O.Sink.seen c.args.out.now) in
+    let mid : World =
+    world (g.F.Files.seen c.read_file.new.files) (g.I.Source.seen c.args.input.now) (g.O.Sink.seen c.read_file.new.out) in
     let new : World =
-    world (g.F.Files.seen c.read_all.new.self) (g.I.Source.seen c.args.input.now) (g.O.Sink.seen c.refuse-in-Err-Fault.new.out) in
-    refusal_serves words old new c.refuse-in-Err-Fault.result c.in-Err-Fault.fault c.refuse-in-Err-Fault.ensures.line
-    c.in-Done.ensures.contents_kept
-    (λ told. present_fault (old.files.content words.file) c.deref.result.now (λ file. CannotRun file c.in-Err-Fault.fault)
-    (passed_is (old.files.content words.file) c.read_all.new.into.items c.deref.result.now c.deref.result.now
-    c.deref.ensures.value (c.in-Done.ensures.done refl told))
-    (unsound (subst (λ (f : List ℕ). length f ≤ file_limit) (sym c.deref.ensures.value) (c.in-Done.ensures.within_limit refl))
-    (rw c.in-Err-Fault.field-0-is at c.in-Err-Fault.ensures.refusal))) refl
-    c.in-Done.ensures.goes_on c.refuse-in-Err-Fault.ensures.never_falls
-
-pub returns-then-has_too_much_code-clause-serves : goal.returns-then-has_too_much_code-clause-serves
-returns-then-has_too_much_code-clause-serves g c =
-    let words : RunWords = run_read c.args.words.now in
-    let old : World = world (g.F.Files.seen c.args.files.now) (g.I.Source.seen c.args.input.now) (g.O.Sink.seen c.args.out.now) in
-    let new : World = world (g.F.Files.seen c.read_all.new.self) (g.I.Source.seen c.args.input.now)
-    (g.O.Sink.seen c.refuse-then-has_too_much_code.new.out) in
-    let kept : List ℕ = c.in-Ok.elf.file.now in
-    refusal_serves words old new c.refuse-then-has_too_much_code.result c.at-then-has_too_much_code.result
-    c.refuse-then-has_too_much_code.ensures.line c.in-Done.ensures.contents_kept
-    (λ told. present_fault (old.files.content words.file) kept (λ file. CannotRun file c.at-then-has_too_much_code.result)
-    (kept_is (old.files.content words.file) c.read_all.new.into.items c.deref.result.now kept c.deref.ensures.value
-    c.in-Ok.ensures.fields.file_is (c.in-Done.ensures.done refl told))
-    (much_code
-    (kept_fits (old.files.content words.file) c.read_all.new.into.items c.deref.result.now kept c.deref.ensures.value
-    c.in-Ok.ensures.fields.file_is (c.in-Done.ensures.within_limit refl))
-    (kept_sound (old.files.content words.file) c.read_all.new.into.items c.deref.result.now kept c.deref.ensures.value
-    c.in-Ok.ensures.fields.file_is c.in-Ok.ensures.sound)
-    (c.has_too_much_code.ensures.0 c.if-has_too_much_code.true) c.at-then-has_too_much_code.ensures)) refl
-    c.in-Done.ensures.goes_on c.refuse-then-has_too_much_code.ensures.never_falls
+    world (g.F.Files.seen c.read_file.new.files) (g.I.Source.seen c.run_program.new.input)
+    (g.O.Sink.seen c.run_program.new.out) in
+    let first : old.output.faults ≤ mid.output.faults = c.in-Ok.ensures.never_falls in
+    let next : mid.output.faults ≤ new.output.faults = c.run_program.ensures.writes in
+    subst (λ (m : RunMode). Serves (Some (run_on m words)) c.run_program.result old new) (sym c.in-Symbols.is)
+    (by_symbols.serves words old new c.run_program.result
+    (run_answered symbol_mode words old new by_symbols.lawful c.run_program.result c.in-Ok.ensures.kept
+    c.deref-in-Symbols.result.now (program_of c.in-Ok-symbol_program.program)
+    mid.output c.in-Ok.ensures.unprinted
+    (λ told. passed_is (old.files.content words.file) c.in-Ok.file.items c.deref-in-Symbols.result.now
+    c.deref-in-Symbols.ensures.value
+    (c.in-Ok.ensures.read told)) c.in-Ok-symbol_program.ensures.program c.run_program.ensures.answer c.run_program.ensures.exact)
+    c.in-Ok.ensures.files_go_on c.run_program.ensures.reads (omega arith))
 
 pub returns-clause-serves : goal.returns-clause-serves
 returns-clause-serves g c =
     let words : RunWords = run_read c.args.words.now in
     let old : World = world (g.F.Files.seen c.args.files.now) (g.I.Source.seen c.args.input.now) (g.O.Sink.seen c.args.out.now) in
+    let mid : World =
+    world (g.F.Files.seen c.read_file.new.files) (g.I.Source.seen c.args.input.now) (g.O.Sink.seen c.read_file.new.out) in
     let new : World =
-    world (g.F.Files.seen c.read_all.new.self) (g.I.Source.seen c.run_elf.new.input) (g.O.Sink.seen c.run_elf.new.out) in
-    let kept : List ℕ = c.in-Ok.elf.file.now in
-    let is = kept_is (old.files.content words.file) c.read_all.new.into.items c.deref.result.now kept c.deref.ensures.value
-    c.in-Ok.ensures.fields.file_is in
-    serves words old new c.run_elf.result
-    (goes_under_way words old new c.run_elf.result kept (λ told. is (c.in-Done.ensures.done refl told))
-    (record {
-      fits = kept_fits (old.files.content words.file) c.read_all.new.into.items c.deref.result.now kept c.deref.ensures.value
-          c.in-Ok.ensures.fields.file_is (c.in-Done.ensures.within_limit refl);
-      sound = kept_sound (old.files.content words.file) c.read_all.new.into.items c.deref.result.now kept c.deref.ensures.value
-          c.in-Ok.ensures.fields.file_is c.in-Ok.ensures.sound;
-      code_fits =
-          denied (HasTooMuchCode kept) c.has_too_much_code.result c.has_too_much_code.ensures.1 c.if-has_too_much_code.false;
-    })
-    c.in-Done.ensures.contents_kept c.run_elf.ensures.answer)
-    (λ told file file_is. other_exact words old new c.run_elf.result kept file
-    (is (c.in-Done.ensures.done refl told)) file_is c.run_elf.ensures.exact)
-    c.in-Done.ensures.goes_on c.run_elf.ensures.reads c.run_elf.ensures.writes
+    world (g.F.Files.seen c.read_file.new.files) (g.I.Source.seen c.args.input.now)
+    (g.O.Sink.seen c.refuse-in-Err-symbol_program.new.out) in
+    let first : old.output.faults ≤ mid.output.faults = c.in-Ok.ensures.never_falls in
+    let next : mid.output.faults ≤ new.output.faults = c.refuse-in-Err-symbol_program.ensures.never_falls in
+    subst (λ (m : RunMode). Serves (Some (run_on m words)) c.refuse-in-Err-symbol_program.result old new) (sym c.in-Symbols.is)
+    (by_symbols.serves words old new c.refuse-in-Err-symbol_program.result
+    (file_refused symbol_mode words old new by_symbols.lawful (λ quiet. quiet) c.refuse-in-Err-symbol_program.result
+    c.in-Ok.ensures.kept refl
+    c.deref-in-Symbols.result.now c.in-Err-symbol_program.refusal mid.output c.in-Ok.ensures.unprinted
+    (λ told. passed_is (old.files.content words.file) c.in-Ok.file.items c.deref-in-Symbols.result.now
+    c.deref-in-Symbols.ensures.value
+    (c.in-Ok.ensures.read told)) c.in-Err-symbol_program.ensures.fault c.refuse-in-Err-symbol_program.ensures.refused)
+    c.in-Ok.ensures.files_go_on (omega arith) (omega arith))
+
+pub returns-in-Ok-symbol_program-clause-input_kept : goal.returns-in-Ok-symbol_program-clause-input_kept
+returns-in-Ok-symbol_program-clause-input_kept g c =
+    let words : RunWords = run_read c.args.words.now in
+    let old : World = world (g.F.Files.seen c.args.files.now) (g.I.Source.seen c.args.input.now) (g.O.Sink.seen c.args.out.now) in
+    run_keeps_input c.args.mode words c.run_program.result c.args.input.now c.run_program.new.input
+    (λ fault. run_not_refused symbol_mode words old old by_symbols.lawful (program_of c.in-Ok-symbol_program.program) _ _
+    c.run_program.result fault c.run_program.ensures.answer)
+
+pub run_program-requires-clause-program : goal.run_program-requires-clause-program
+run_program-requires-clause-program g c =
+    by_symbols.own_file c.deref-in-Symbols.result.now (program_of c.in-Ok-symbol_program.program)
+    c.in-Ok-symbol_program.ensures.program

@@ -6,7 +6,7 @@ use Rattle.rv_code.specs.declared.cell.CodeCell.{CodeCell}
 use Rattle.elf_image.specs.declared.elf.Elf.{Elf}
 use Rattle.run_core.specs.Inputs.{Outside}
 use Rattle.run_core.specs.Runs.{RunsSomeInput}
-use Rattle.sym_machine.specs.SymStart.{Program, sym_start}
+use Rattle.sym_machine.specs.SymStart.{SymProgram, sym_start}
 use Rattle.sym_machine.specs.SymStep.{SymSteps}
 use Rattle.sym_machine.specs.State.{state_of, answered, funcs_of}
 use Rattle.sym_machine.specs.declared.machine.SymMachine.{SymMachine}
@@ -24,11 +24,11 @@ use Rattle.bolt_cli.proofs.symbol_run.run_program.Goals as goal
 
 pub returns-in_default-clause-answer : goal.returns-in_default-clause-answer
 returns-in_default-clause-answer g c = stopped (out_of_memory refl (no_step (symbol_machine
-    (program_of c.args.elf.now c.args.code.now) (run_read c.args.words.now).words) c.args.words.now.limit _ (λ input. refl)))
+    (program_of c.args.program.now) (run_read c.args.words.now).words) c.args.words.now.limit _ (λ input. refl)))
 
 pub returns-in_default-load-clause-answer : goal.returns-in_default-load-clause-answer
 returns-in_default-load-clause-answer g c = stopped (out_of_memory refl (no_step (symbol_machine
-    (program_of c.args.elf.now c.args.code.now) (run_read c.args.words.now).words) c.args.words.now.limit _ (λ input. refl)))
+    (program_of c.args.program.now) (run_read c.args.words.now).words) c.args.words.now.limit _ (λ input. refl)))
 
 pub returns-in_default-clause-exact : goal.returns-in_default-clause-exact
 returns-in_default-clause-exact g c = λ input is ending n trace rest run. inr (no_memory refl)
@@ -48,22 +48,23 @@ started m elf tight given_cells cells given items words same_cells same read loa
 
 pub load-requires-clause-laid_out : goal.load-requires-clause-laid_out
 load-requires-clause-laid_out g c =
-    laid_out c.args.elf.now.file.now c.args.elf.now c.args.code.now.code.funcs.items c.as_slice-funcs.result.now
+    laid_out c.args.program.now.elf.file.now c.args.program.now.elf c.args.program.now.code.funcs.items
+    c.as_slice-funcs.result.now
     c.as_slice-funcs.ensures.value c.requires.program.faultless
 
 pub load-requires-clause-cells : goal.load-requires-clause-cells
 load-requires-clause-cells g c =
     let is = c.requires.program in
     subst (λ (cells : List CodeCell). All (λ cell. cell.addr + cell.width ≤ 2 ^ 64) cells) (sym c.as_slice-cells.ensures.value)
-    (cells_end c.args.elf.now.file.now c.args.elf.now is.faultless.read is.faultless.plain.sound tabled
-    c.args.code.now.code.refs.cells.items is.cells_are)
+    (cells_end c.args.program.now.elf.file.now c.args.program.now.elf is.faultless.read is.faultless.plain.sound tabled
+    c.args.program.now.code.refs.cells.items is.cells_are)
 
 pub returns-clause-answer : goal.returns-clause-answer
 returns-clause-answer g c =
     let before : Outside = record { input = g.I.Source.seen c.args.input.now; output = g.O.Sink.seen c.args.out.now } in
     let mid : Outside = record { input = g.I.Source.seen c.run-ran.new.input; output = g.O.Sink.seen c.run-ran.new.out } in
     let after : Outside = record { input = g.I.Source.seen c.run-ran.new.input; output = g.O.Sink.seen c.close.new.out } in
-    let program : Program = program_of c.args.elf.now c.args.code.now in
+    let program : SymProgram = program_of c.args.program.now in
     let funcs_are : funcs_of c.in-Ok-load.machine ≡ program.funcs = c.in-Ok-load.ensures.funcs ∙ c.as_slice-funcs.ensures.value in
     let ran : RunsSomeInput state_of (SymSteps program.funcs) (answered c.run-ran.result.end) c.args.words.now.limit
     c.run-ran.result.steps c.in-Ok-load.machine c.run-ran.new.self before mid =
@@ -71,7 +72,7 @@ returns-clause-answer g c =
     c.run-ran.result.steps c.in-Ok-load.machine c.run-ran.new.self before mid) funcs_are c.run-ran.ensures.answer in
     answers state_of (symbol_machine program (run_read c.args.words.now).words) c.args.words.now.limit c.in-Ok-load.machine
     c.run-ran.new.self c.run-ran.result.steps before mid after
-    (started c.in-Ok-load.machine c.args.elf.now c.args.code.now.tight _ _ _ _ _ c.as_slice-cells.ensures.value
+    (started c.in-Ok-load.machine c.args.program.now.elf c.args.program.now.tight _ _ _ _ _ c.as_slice-cells.ensures.value
     c.deref.ensures.value c.in-Ok.ensures c.in-Ok-load.ensures.start) (λ input. refl)
     (λ pc cause result steps b a printed. printed)
     refl refl c.run-ran.ensures.writes c.close.ensures.never_falls
@@ -84,7 +85,7 @@ returns-clause-exact g c =
     let before : Outside = record { input = g.I.Source.seen c.args.input.now; output = g.O.Sink.seen c.args.out.now } in
     let mid : Outside = record { input = g.I.Source.seen c.run-ran.new.input; output = g.O.Sink.seen c.run-ran.new.out } in
     let after : Outside = record { input = g.I.Source.seen c.run-ran.new.input; output = g.O.Sink.seen c.close.new.out } in
-    let program : Program = program_of c.args.elf.now c.args.code.now in
+    let program : SymProgram = program_of c.args.program.now in
     let funcs_are : funcs_of c.in-Ok-load.machine ≡ program.funcs = c.in-Ok-load.ensures.funcs ∙ c.as_slice-funcs.ensures.value in
     let ran : RunsSomeInput state_of (SymSteps program.funcs) (answered c.run-ran.result.end) c.args.words.now.limit
     c.run-ran.result.steps c.in-Ok-load.machine c.run-ran.new.self before mid =
@@ -92,7 +93,7 @@ returns-clause-exact g c =
     c.run-ran.result.steps c.in-Ok-load.machine c.run-ran.new.self before mid) funcs_are c.run-ran.ensures.answer in
     exact state_of (symbol_machine program (run_read c.args.words.now).words) c.args.words.now.limit c.in-Ok-load.machine
     c.run-ran.new.self c.run-ran.result.steps before mid after
-    (started c.in-Ok-load.machine c.args.elf.now c.args.code.now.tight _ _ _ _ _ c.as_slice-cells.ensures.value
+    (started c.in-Ok-load.machine c.args.program.now.elf c.args.program.now.tight _ _ _ _ _ c.as_slice-cells.ensures.value
     c.deref.ensures.value c.in-Ok.ensures c.in-Ok-load.ensures.start) (λ input. refl)
     (λ pc cause result steps b a printed. printed)
     refl refl c.run-ran.ensures.writes c.close.ensures.never_falls

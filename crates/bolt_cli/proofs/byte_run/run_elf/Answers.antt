@@ -12,7 +12,7 @@ use Rattle.bolt_cli.specs.run.Phases.{Closed}
 use Rattle.bolt_cli.specs.run.RunAnswers.{out_of_memory, stopped, no_memory}
 use Rattle.bolt_cli.specs.declared.status.Status.{Status}
 use Rattle.bolt_cli.proofs.RunEnds.{no_step, answers, exact}
-use Rattle.bolt_cli.proofs.run.run_elf.Goals as goal
+use Rattle.bolt_cli.proofs.byte_run.run_elf.Goals as goal
 
 -- the machine starts with the words that were read
 started : (m : Machine) (file : List ℕ) (given items : List (String Global)) (words : List (List ℕ)) → given ≡ items →
