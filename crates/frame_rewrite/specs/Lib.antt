@@ -1,4 +1,4 @@
-pub mod Answers
+pub mod FrameAnswers
 pub mod Carried
 pub mod Faults
 pub mod Tables

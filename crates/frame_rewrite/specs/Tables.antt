@@ -8,7 +8,7 @@ use Rattle.table_core.specs.Runs.{AreLow}
 use Rattle.table_core.specs.Sections.{bytes_of}
 use Rattle.cfi_rows.specs.Entries.{Fde, Frames, is_in_range}
 use Rattle.cfi_rows.specs.Frames.{eh_frames, debug_frames}
-use Rattle.frame_rewrite.specs.Answers.{FrameAnswer, answer_at, is_marked_by, is_never_marked, cuts_of}
+use Rattle.frame_rewrite.specs.FrameAnswers.{FrameAnswer, answer_at, is_marked_by, is_never_marked, cuts_of}
 
 -- what a table says, where no entry is malformed
 abbrev pub answers : (is_marked : Fde → Bool) → Frames → Option (ℕ → Option FrameAnswer)

@@ -24,7 +24,7 @@ pub struct FrameAt {
 }
 
 impl Model for FrameAt {
-    ghost use Rattle.frame_rewrite.specs.Answers.{FrameAnswer};
+    ghost use Rattle.frame_rewrite.specs.FrameAnswers.{FrameAnswer};
 
     ghost Value = { FrameAnswer };
 

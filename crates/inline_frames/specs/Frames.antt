@@ -12,7 +12,7 @@ use Rattle.dw_unit.specs.declared.entry.Attr.{Attr}
 use Rattle.dw_unit.specs.Units.{Entry, attr, own_entry}
 use Rattle.line_rewrite.specs.Entries.{path_of}
 use Rattle.line_rewrite.specs.Units.{LineUnit, unit_of}
-use Rattle.line_rewrite.specs.Answers.{RowSaid, LineSaid}
+use Rattle.line_rewrite.specs.LineAnswers.{RowSaid, LineSaid}
 use Rattle.line_rewrite.specs.Tables.{LineSections, line_sections, line}
 use Rattle.range_loc_rewrite.specs.Tables.{list_sections}
 use Rattle.inline_frames.specs.Names.{NameSections, name_sections, name_of, unit_of_entry}
@@ -40,8 +40,8 @@ row_of elf a = option_and_then (λ (l : LineSaid). last_row l.rows) (line elf a)
 
 -- Where control is in the function around an inlined one: at its call. A number in a form of addresses is none.
 
-abbrev pub number_of : ℕ → Entry → Option ℕ
-number_of name e =
+abbrev pub unsigned_of : ℕ → Entry → Option ℕ
+unsigned_of name e =
     option_and_then (λ (a : Attr). if a.form == DW_FORM_addr || is_address_index a.form then None else Some a.value) (attr name e)
 
 -- the line unit at an offset, which its unit's own entry names
@@ -61,7 +61,7 @@ file_path u index = option_and_then (path_of u.directories) (slice_get u.files i
 
 abbrev pub call_path : Elf → Entry → Option (List ℕ)
 call_path elf e =
-    option_and_then (λ u. option_and_then (file_path u) (number_of DW_AT_call_file e))
+    option_and_then (λ u. option_and_then (file_path u) (unsigned_of DW_AT_call_file e))
     (option_and_then (line_unit_at (line_sections elf)) (line_offset (name_sections elf) e))
 
 abbrev pub frame_at_row : Elf → ℕ → Entry → Frame
@@ -77,8 +77,8 @@ abbrev pub frame_at_call : Elf → Entry → Entry → Frame
 frame_at_call elf inlined e = record {
   name = or_unknown (name_of (name_sections elf) e);
   path = or_unknown (call_path elf inlined);
-  line = unwrap_or (number_of DW_AT_call_line inlined) 0;
-  column = unwrap_or (number_of DW_AT_call_column inlined) 0;
+  line = unwrap_or (unsigned_of DW_AT_call_line inlined) 0;
+  column = unwrap_or (unsigned_of DW_AT_call_column inlined) 0;
 }
 
 abbrev pub callers : Elf → Entry → List Entry → List Frame

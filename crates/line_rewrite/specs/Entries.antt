@@ -32,8 +32,8 @@ pub data Value : Type 0 where
   Other : Value
 
 -- by its form: numbers are those of forms without a sign
-abbrev pub value_of : ℕ → ℕ → List ℕ → Value
-value_of form n left =
+abbrev pub form_value : ℕ → ℕ → List ℕ → Value
+form_value form n left =
     if form == DW_FORM_data1 || form == DW_FORM_data2 || form == DW_FORM_data4 || form == DW_FORM_data8
     || form == DW_FORM_udata then Number n
     else (if form == DW_FORM_strp then AtStr n
@@ -49,7 +49,7 @@ abbrev pub read_value : ℕ → List ℕ → Option (Value × List ℕ)
 read_value form left = do
   shape ← shape_of form
   read ← ok (value_at Gap.Short 0 shape left)
-  when (not_implicit shape) (value_of form read.0 left, read.1)
+  when (not_implicit shape) (form_value form read.0 left, read.1)
   where
     not_implicit : Shape → Bool
     not_implicit Shape.Implicit = Bool.false

@@ -2,6 +2,6 @@ pub mod Operations
 pub mod Machine
 pub mod Entries
 pub mod Units
-pub mod Answers
+pub mod LineAnswers
 pub mod Tables
 pub mod Kept

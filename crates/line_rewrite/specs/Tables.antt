@@ -11,7 +11,7 @@ use Rattle.table_core.specs.Runs.{carried}
 use Rattle.table_core.specs.Weights.{IsWeightOf}
 use Rattle.line_rewrite.specs.Entries.{◌>>=◌, Strings}
 use Rattle.line_rewrite.specs.Units.{unit_of}
-use Rattle.line_rewrite.specs.Answers.{LineSaid, line_units, said_at}
+use Rattle.line_rewrite.specs.LineAnswers.{LineSaid, line_units, said_at}
 
 -- the three sections that line units are read from
 pub record LineSections : Type 0 where

@@ -10,7 +10,7 @@ use Rattle.table_core.specs.declared.written.Written.{Written}
 use Rattle.table_core.specs.Carried.{Agree}
 use Rattle.table_core.specs.Sections.{bytes_of}
 use Rattle.cfi_rows.specs.Frames.{eh_frames}
-use Rattle.frame_rewrite.specs.Answers.{eh, df, is_marked_by, cuts_of}
+use Rattle.frame_rewrite.specs.FrameAnswers.{eh, df, is_marked_by, cuts_of}
 use Rattle.frame_rewrite.specs.Carried.{IsCarriedFrame}
 use Rattle.frame_rewrite.specs.Index.{StandsIndex}
 use Rattle.frame_rewrite.specs.Tables.{AllowsFrames, StandsAs}

@@ -8,8 +8,8 @@ use Rattle.cfi_rows.specs.declared.row.Cfa.{Cfa}
 use Rattle.cfi_rows.specs.declared.row.Cfa.TheVariants as cfa
 use Rattle.cfi_rows.specs.declared.row.Rule.{Rule}
 use Rattle.cfi_rows.specs.declared.row.Rule.TheVariants as rule
-use Rattle.frame_rewrite.specs.Answers.{FrameAnswer, unwind}
-use Rattle.line_rewrite.specs.Answers.{RowSaid, LineSaid}
+use Rattle.frame_rewrite.specs.FrameAnswers.{FrameAnswer, unwind}
+use Rattle.line_rewrite.specs.LineAnswers.{RowSaid, LineSaid}
 use Rattle.line_rewrite.specs.Tables.{line}
 use Rattle.range_loc_rewrite.specs.Ranges.{covering}
 use Rattle.range_loc_rewrite.specs.Locations.{PlaceSaid, places_said}
