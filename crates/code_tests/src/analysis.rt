@@ -7,7 +7,14 @@ use rv_code::{Func, Role};
 use rv_reloc::{Refs, references, starts};
 use std::alloc::Global;
 use std::test::Fail;
+use test_files::shapes::CODE;
 use test_files::{Section, exit7_code, of_section, program};
+
+/// The address of the first instruction, as a relocation's addend.
+pub const CODE_ADDEND: i64 = CODE as i64;
+
+/// Where a field behind the four instructions of the smallest example stands.
+pub const FIELD: u64 = CODE + 16;
 
 /// The code of a file.
 #[derive(Drop)]
@@ -52,13 +59,13 @@ pub fn refused(alloc: Global, file: &[u8]) -> Option<(FaultKind, u64)> {
     refused_with(alloc, file, &[])
 }
 
-/// The smallest example with a field at 10088, behind the code, to which these relocations apply, by their types and addends.
+/// The smallest example with a field behind its code, to which these relocations apply, by their types and addends.
 pub fn data_file(alloc: Global, field: &[u8], relocations: &[(u32, i64)]) -> Result<Vec<u8>, Fail> {
     let code = exit7_code(alloc)?;
-    let mut file = program(alloc, &code, &[Section::loaded(b".rodata", 0x10088, field)])?;
+    let mut file = program(alloc, &code, &[Section::loaded(b".rodata", FIELD, field)])?;
     for (kind, addend) in relocations {
         file.relocations
-            .push(of_section(b".rodata", 0x10088, *kind, b"", *addend))?;
+            .push(of_section(b".rodata", FIELD, *kind, b"", *addend))?;
     }
     Ok(file.build(alloc)?)
 }

@@ -1,43 +1,46 @@
 // What relocations of each type give the instructions and fields that they fit, and which they don't fit. psABI, "Relocations".
-// Types are given by their numbers in its table. The code of each file begins at 10078.
-use crate::analysis::{accepted, call_roles, data_file, difference_cell, pair_roles, refused};
+use crate::analysis::{
+    CODE_ADDEND, FIELD, accepted, call_roles, data_file, difference_cell, pair_roles, refused,
+};
+use elf_image::relocation::*;
 use rb_bytes::fault::FaultKind;
 use rv_code::{Inst, Role};
 use std::alloc::Global;
 use std::test::Fail;
 use test_files::inst::{A0, A4, A5, EXIT, RA, X0, add, addi, auipc, jalr, ld, lui, sd};
+use test_files::shapes::{CODE, DATA};
 use test_files::{Section, Symbol, assemble, of_code, program, two_segments};
 
-// An AUIPC with an upper part of this type, and an instruction with a lower part of that type, for eight zeros at 20000.
+// An AUIPC with an upper part of this type, and an instruction with a lower part of that type, for eight zeros at DATA.
 fn distance_file(alloc: Global, upper: u32, inst: Inst, lower: u32) -> Result<Vec<u8>, Fail> {
     let [set_exit, call] = EXIT;
     let code = assemble(alloc, &[auipc(A5, 0x10), inst, set_exit, call])?;
-    let mut file = two_segments(
-        alloc,
-        &code,
-        &[Section::writable(b".data", 0x20000, &[0; 8])],
-    )?;
-    file.symbols.push(Symbol::label(b"p", 0x10078))?;
-    file.relocations.push(of_code(0x10078, upper, b"", 0))?;
-    file.relocations.push(of_code(0x1007c, lower, b"p", 0))?;
+    let mut file = two_segments(alloc, &code, &[Section::writable(b".data", DATA, &[0; 8])])?;
+    file.symbols.push(Symbol::label(b"p", CODE))?;
+    file.relocations.push(of_code(CODE, upper, b"", 0))?;
+    file.relocations.push(of_code(CODE + 4, lower, b"p", 0))?;
     Ok(file.build(alloc)?)
 }
 
-// GOT_HI20 for a symbol of value 0, TLS_GOT_HI20, TLS_GD_HI20 and PCREL_HI20, with PCREL_LO12_I and PCREL_LO12_S, as the code
-// sequences of the models of thread-local storage have them.
+// The upper parts of distances, GOT_HI20 for a symbol of value 0, with lower parts, as the code sequences of the models of
+// thread-local storage have them.
 #[test]
 fn parts_of_distances(rt: HostRuntime) -> Result<(), Fail> {
     for (upper, inst, lower) in [
-        (20, ld(A4, -120, A5), 24),
-        (21, ld(A4, -120, A5), 24),
-        (22, addi(A0, A5, -120), 24),
-        (23, addi(A0, A5, -120), 24),
-        (23, jalr(RA, -120, A5), 24),
-        (23, sd(A0, -120, A5), 25),
+        (R_RISCV_GOT_HI20, ld(A4, -120, A5), R_RISCV_PCREL_LO12_I),
+        (R_RISCV_TLS_GOT_HI20, ld(A4, -120, A5), R_RISCV_PCREL_LO12_I),
+        (
+            R_RISCV_TLS_GD_HI20,
+            addi(A0, A5, -120),
+            R_RISCV_PCREL_LO12_I,
+        ),
+        (R_RISCV_PCREL_HI20, addi(A0, A5, -120), R_RISCV_PCREL_LO12_I),
+        (R_RISCV_PCREL_HI20, jalr(RA, -120, A5), R_RISCV_PCREL_LO12_I),
+        (R_RISCV_PCREL_HI20, sd(A0, -120, A5), R_RISCV_PCREL_LO12_S),
     ] {
         let file = distance_file(rt.alloc(), upper, inst, lower)?;
         let found = accepted(rt.alloc(), &file, &[])?;
-        let roles = pair_roles(0x10078, 0x1007c, 0x20000);
+        let roles = pair_roles(CODE, CODE + 4, DATA);
         assert_eq!(rt;
             found.refs.roles.as_slice(),
             roles.as_slice(),
@@ -52,12 +55,12 @@ fn parts_of_distances(rt: HostRuntime) -> Result<(), Fail> {
 #[test]
 fn lower_parts_that_do_not_fit(rt: HostRuntime) -> Result<(), Fail> {
     for (inst, lower) in [
-        (sd(A0, -120, A5), 24),
-        (addi(A0, A5, -120), 25),
-        (add(A0, A5, A5), 24),
+        (sd(A0, -120, A5), R_RISCV_PCREL_LO12_I),
+        (addi(A0, A5, -120), R_RISCV_PCREL_LO12_S),
+        (add(A0, A5, A5), R_RISCV_PCREL_LO12_I),
     ] {
-        let file = distance_file(rt.alloc(), 23, inst, lower)?;
-        let wanted = Some((FaultKind::RelocMismatch, 0x1007c));
+        let file = distance_file(rt.alloc(), R_RISCV_PCREL_HI20, inst, lower)?;
+        let wanted = Some((FaultKind::RelocMismatch, CODE + 4));
         assert_eq!(rt; refused(rt.alloc(), &file), wanted, "{lower}");
     }
     Ok(())
@@ -68,9 +71,9 @@ fn upper_file(alloc: Global, upper: u32, imm: i64, lower: u32) -> Result<Vec<u8>
     let [set_exit, call] = EXIT;
     let code = assemble(alloc, &[auipc(A5, imm), ld(A5, -120, A5), set_exit, call])?;
     let mut file = program(alloc, &code, &[])?;
-    file.symbols.push(Symbol::label(b"p", 0x10078))?;
-    file.relocations.push(of_code(0x10078, upper, b"", 0))?;
-    file.relocations.push(of_code(0x1007c, lower, b"p", 0))?;
+    file.symbols.push(Symbol::label(b"p", CODE))?;
+    file.relocations.push(of_code(CODE, upper, b"", 0))?;
+    file.relocations.push(of_code(CODE + 4, lower, b"p", 0))?;
     Ok(file.build(alloc)?)
 }
 
@@ -78,15 +81,15 @@ fn upper_file(alloc: Global, upper: u32, imm: i64, lower: u32) -> Result<Vec<u8>
 #[test]
 fn upper_parts_that_do_not_fit(rt: HostRuntime) -> Result<(), Fail> {
     for (upper, imm, lower) in [
-        (20, 0x10, 0),
-        (21, 0x10, 0),
-        (22, 0x10, 0),
-        (23, 0x10, 0),
-        (23, -0x11, 24),
-        (23, 0x7fff0, 24),
+        (R_RISCV_GOT_HI20, 0x10, R_RISCV_NONE),
+        (R_RISCV_TLS_GOT_HI20, 0x10, R_RISCV_NONE),
+        (R_RISCV_TLS_GD_HI20, 0x10, R_RISCV_NONE),
+        (R_RISCV_PCREL_HI20, 0x10, R_RISCV_NONE),
+        (R_RISCV_PCREL_HI20, -0x11, R_RISCV_PCREL_LO12_I),
+        (R_RISCV_PCREL_HI20, 0x7fff0, R_RISCV_PCREL_LO12_I),
     ] {
         let file = upper_file(rt.alloc(), upper, imm, lower)?;
-        let wanted = Some((FaultKind::RelocMismatch, 0x10078));
+        let wanted = Some((FaultKind::RelocMismatch, CODE));
         assert_eq!(rt; refused(rt.alloc(), &file), wanted, "{upper} {imm}");
     }
     Ok(())
@@ -95,9 +98,14 @@ fn upper_parts_that_do_not_fit(rt: HostRuntime) -> Result<(), Fail> {
 // The highest address that a target may have: 10078 + 7ffe0000 - 78.
 #[test]
 fn the_highest_target(rt: HostRuntime) -> Result<(), Fail> {
-    let file = upper_file(rt.alloc(), 23, 0x7ffe0, 24)?;
+    let file = upper_file(
+        rt.alloc(),
+        R_RISCV_PCREL_HI20,
+        0x7ffe0,
+        R_RISCV_PCREL_LO12_I,
+    )?;
     let found = accepted(rt.alloc(), &file, &[])?;
-    let roles = pair_roles(0x10078, 0x1007c, 0x7fff_0000);
+    let roles = pair_roles(CODE, CODE + 4, 0x7fff_0000);
     assert_eq!(rt; found.refs.roles.as_slice(), roles.as_slice());
     Ok(())
 }
@@ -116,23 +124,28 @@ fn lower_file(
     let code = assemble(alloc, &insts)?;
     let mut file = program(alloc, &code, &[])?;
     file.symbols.push(Symbol::label(b"p", value))?;
-    file.symbols.push(Symbol::label(b"q", 0x10078))?;
-    file.relocations.push(of_code(0x10078, 23, b"", 0))?;
+    file.symbols.push(Symbol::label(b"q", CODE))?;
     file.relocations
-        .push(of_code(0x1007c, lower, b"p", addend))?;
-    file.relocations.push(of_code(0x10080, 24, b"q", 0))?;
+        .push(of_code(CODE, R_RISCV_PCREL_HI20, b"", 0))?;
+    file.relocations
+        .push(of_code(CODE + 4, lower, b"p", addend))?;
+    file.relocations
+        .push(of_code(CODE + 8, R_RISCV_PCREL_LO12_I, b"q", 0))?;
     Ok(file.build(alloc)?)
 }
 
 // A lower part's symbol is at the AUIPC, whatever the addend is.
 #[test]
 fn symbols_of_lower_parts(rt: HostRuntime) -> Result<(), Fail> {
-    for (first, lower) in [(ld(A4, -120, A5), 24), (sd(A4, -120, A5), 25)] {
-        let file = lower_file(rt.alloc(), first, lower, 0x10078, 4)?;
+    for (first, lower) in [
+        (ld(A4, -120, A5), R_RISCV_PCREL_LO12_I),
+        (sd(A4, -120, A5), R_RISCV_PCREL_LO12_S),
+    ] {
+        let file = lower_file(rt.alloc(), first, lower, CODE, 4)?;
         let found = accepted(rt.alloc(), &file, &[])?;
         assert_eq!(rt; found.refs.roles.len(), 3, "{lower}");
-        let file = lower_file(rt.alloc(), first, lower, 0x1007c, -4)?;
-        let wanted = Some((FaultKind::RelocMismatch, 0x1007c));
+        let file = lower_file(rt.alloc(), first, lower, CODE + 4, -4)?;
+        let wanted = Some((FaultKind::RelocMismatch, CODE + 4));
         assert_eq!(rt; refused(rt.alloc(), &file), wanted, "{lower}");
     }
     Ok(())
@@ -151,39 +164,61 @@ fn a_lower_part_of_a_call(rt: HostRuntime) -> Result<(), Fail> {
     ];
     let code = assemble(rt.alloc(), &insts)?;
     let mut file = program(rt.alloc(), &code, &[])?;
-    file.symbols.push(Symbol::label(b"p", 0x10078))?;
-    file.relocations.push(of_code(0x10078, 19, b"", 0x10080))?;
-    file.relocations.push(of_code(0x10080, 24, b"p", 0))?;
+    file.symbols.push(Symbol::label(b"p", CODE))?;
+    file.relocations
+        .push(of_code(CODE, R_RISCV_CALL_PLT, b"", CODE_ADDEND + 8))?;
+    file.relocations
+        .push(of_code(CODE + 8, R_RISCV_PCREL_LO12_I, b"p", 0))?;
     let bytes = file.build(rt.alloc())?;
-    let wanted = Some((FaultKind::RelocMismatch, 0x10080));
+    let wanted = Some((FaultKind::RelocMismatch, CODE + 8));
     assert_eq!(rt; refused(rt.alloc(), &bytes), wanted);
     Ok(())
 }
 
-// A relocation for the address 10084, whose upper part is 10 and whose lower part 84, on the second instruction.
+// A relocation for the fourth instruction, at 10084, whose upper part is 10 and whose lower part 84, on the second one.
 fn absolute_file(alloc: Global, kind: u32, inst: Inst) -> Result<Vec<u8>, Fail> {
     let [set_exit, call] = EXIT;
     let code = assemble(alloc, &[lui(A5, 0x10), inst, set_exit, call])?;
     let mut file = program(alloc, &code, &[])?;
-    file.relocations.push(of_code(0x1007c, kind, b"", 0x10084))?;
+    file.relocations
+        .push(of_code(CODE + 4, kind, b"", CODE_ADDEND + 12))?;
     Ok(file.build(alloc)?)
 }
 
-// HI20, LO12_I and LO12_S.
 #[test]
 fn parts_of_absolute_addresses(rt: HostRuntime) -> Result<(), Fail> {
     for (kind, inst, role) in [
-        (26, lui(A4, 0x10), Role::AbsHi { target: 0x10084 }),
-        (27, addi(A5, A5, 0x84), Role::AbsLo { target: 0x10084 }),
-        (27, ld(A5, 0x84, A5), Role::AbsLo { target: 0x10084 }),
-        (27, jalr(RA, 0x84, A5), Role::AbsLo { target: 0x10084 }),
-        (28, sd(A4, 0x84, A5), Role::AbsLo { target: 0x10084 }),
+        (
+            R_RISCV_HI20,
+            lui(A4, 0x10),
+            Role::AbsHi { target: CODE + 12 },
+        ),
+        (
+            R_RISCV_LO12_I,
+            addi(A5, A5, 0x84),
+            Role::AbsLo { target: CODE + 12 },
+        ),
+        (
+            R_RISCV_LO12_I,
+            ld(A5, 0x84, A5),
+            Role::AbsLo { target: CODE + 12 },
+        ),
+        (
+            R_RISCV_LO12_I,
+            jalr(RA, 0x84, A5),
+            Role::AbsLo { target: CODE + 12 },
+        ),
+        (
+            R_RISCV_LO12_S,
+            sd(A4, 0x84, A5),
+            Role::AbsLo { target: CODE + 12 },
+        ),
     ] {
         let file = absolute_file(rt.alloc(), kind, inst)?;
         let found = accepted(rt.alloc(), &file, &[])?;
         assert_eq!(rt;
             found.refs.roles.as_slice(),
-            [(0x1007c, role)].as_slice(),
+            [(CODE + 4, role)].as_slice(),
             "{kind}"
         );
     }
@@ -194,15 +229,15 @@ fn parts_of_absolute_addresses(rt: HostRuntime) -> Result<(), Fail> {
 #[test]
 fn absolute_parts_that_do_not_fit(rt: HostRuntime) -> Result<(), Fail> {
     for (kind, inst) in [
-        (26, addi(A5, A5, 0x84)),
-        (27, sd(A4, 0x84, A5)),
-        (28, addi(A5, A5, 0x84)),
-        (26, lui(A4, 0x11)),
-        (27, addi(A5, A5, 0x80)),
-        (28, sd(A4, 0x80, A5)),
+        (R_RISCV_HI20, addi(A5, A5, 0x84)),
+        (R_RISCV_LO12_I, sd(A4, 0x84, A5)),
+        (R_RISCV_LO12_S, addi(A5, A5, 0x84)),
+        (R_RISCV_HI20, lui(A4, 0x11)),
+        (R_RISCV_LO12_I, addi(A5, A5, 0x80)),
+        (R_RISCV_LO12_S, sd(A4, 0x80, A5)),
     ] {
         let file = absolute_file(rt.alloc(), kind, inst)?;
-        let wanted = Some((FaultKind::RelocMismatch, 0x1007c));
+        let wanted = Some((FaultKind::RelocMismatch, CODE + 4));
         assert_eq!(rt; refused(rt.alloc(), &file), wanted, "{kind}");
     }
     Ok(())
@@ -213,7 +248,8 @@ fn call_file(alloc: Global, upper: i64, jump: Inst) -> Result<Vec<u8>, Fail> {
     let [set_exit, call] = EXIT;
     let code = assemble(alloc, &[auipc(RA, upper), jump, set_exit, call])?;
     let mut file = program(alloc, &code, &[])?;
-    file.relocations.push(of_code(0x10078, 18, b"", 0x10080))?;
+    file.relocations
+        .push(of_code(CODE, R_RISCV_CALL, b"", CODE_ADDEND + 8))?;
     Ok(file.build(alloc)?)
 }
 
@@ -221,7 +257,7 @@ fn call_file(alloc: Global, upper: i64, jump: Inst) -> Result<Vec<u8>, Fail> {
 fn a_call_of_the_older_type(rt: HostRuntime) -> Result<(), Fail> {
     let file = call_file(rt.alloc(), 0, jalr(RA, 8, RA))?;
     let found = accepted(rt.alloc(), &file, &[])?;
-    let roles = call_roles(0x10078, 0x1007c, 0x10080);
+    let roles = call_roles(CODE, CODE + 4, CODE + 8);
     assert_eq!(rt; found.refs.roles.as_slice(), roles.as_slice());
     Ok(())
 }
@@ -239,41 +275,51 @@ fn calls_that_do_not_fit(rt: HostRuntime) -> Result<(), Fail> {
         (0x7fff0, jalr(RA, 0, RA)),
     ] {
         let file = call_file(rt.alloc(), upper, jump)?;
-        let wanted = Some((FaultKind::RelocMismatch, 0x10078));
+        let wanted = Some((FaultKind::RelocMismatch, CODE));
         assert_eq!(rt; refused(rt.alloc(), &file), wanted, "{upper}");
     }
     Ok(())
 }
 
 // A field of eight bytes, the first of which is given, to which these relocations apply by their types: the first with the
-// address 1007c or another, the second with 10078.
+// address of the second instruction or another, the second with that of the first.
 fn field_file(alloc: Global, first: u8, plus: u32, to: i64, minus: u32) -> Result<Vec<u8>, Fail> {
-    let labels = [(plus, to), (minus, 0x10078)];
+    let labels = [(plus, to), (minus, CODE_ADDEND)];
     data_file(alloc, &[first, 0, 0, 0, 0, 0, 0, 0], &labels)
 }
 
-// ADD32 with SUB32, and ADD64 with SUB64.
 #[test]
 fn wide_differences(rt: HostRuntime) -> Result<(), Fail> {
-    for (plus, minus, width) in [(35, 39, 4), (36, 40, 8)] {
-        let file = field_file(rt.alloc(), 4, plus, 0x1007c, minus)?;
+    for (plus, minus, width) in [
+        (R_RISCV_ADD32, R_RISCV_SUB32, 4),
+        (R_RISCV_ADD64, R_RISCV_SUB64, 8),
+    ] {
+        let file = field_file(rt.alloc(), 4, plus, CODE_ADDEND + 4, minus)?;
         let found = accepted(rt.alloc(), &file, &[])?;
-        let cell = difference_cell(0x10088, width, 0x1007c, 0x10078);
+        let cell = difference_cell(FIELD, width, CODE + 4, CODE);
         assert_eq!(rt; found.refs.cells.as_slice(), [cell].as_slice(), "{plus}");
     }
     Ok(())
 }
 
-// 32_PCREL and PLT32, from the field itself: -12, and another number.
+// From the field itself: -12, and another number.
 #[test]
 fn distances_from_the_field(rt: HostRuntime) -> Result<(), Fail> {
-    for kind in [57, 59] {
-        let file = data_file(rt.alloc(), &[0xf4, 0xff, 0xff, 0xff], &[(kind, 0x1007c)])?;
+    for kind in [R_RISCV_32_PCREL, R_RISCV_PLT32] {
+        let file = data_file(
+            rt.alloc(),
+            &[0xf4, 0xff, 0xff, 0xff],
+            &[(kind, CODE_ADDEND + 4)],
+        )?;
         let found = accepted(rt.alloc(), &file, &[])?;
-        let cell = difference_cell(0x10088, 4, 0x1007c, 0x10088);
+        let cell = difference_cell(FIELD, 4, CODE + 4, FIELD);
         assert_eq!(rt; found.refs.cells.as_slice(), [cell].as_slice(), "{kind}");
-        let file = data_file(rt.alloc(), &[0xf3, 0xff, 0xff, 0xff], &[(kind, 0x1007c)])?;
-        let wanted = Some((FaultKind::RelocMismatch, 0x10088));
+        let file = data_file(
+            rt.alloc(),
+            &[0xf3, 0xff, 0xff, 0xff],
+            &[(kind, CODE_ADDEND + 4)],
+        )?;
+        let wanted = Some((FaultKind::RelocMismatch, FIELD));
         assert_eq!(rt; refused(rt.alloc(), &file), wanted, "{kind}");
     }
     Ok(())
@@ -284,18 +330,18 @@ fn distances_from_the_field(rt: HostRuntime) -> Result<(), Fail> {
 #[test]
 fn differences_that_no_cell_holds(rt: HostRuntime) -> Result<(), Fail> {
     for (plus, minus) in [
-        (33, 37),
-        (34, 38),
-        (53, 52),
-        (54, 37),
-        (55, 38),
-        (56, 39),
-        (60, 61),
+        (R_RISCV_ADD8, R_RISCV_SUB8),
+        (R_RISCV_ADD16, R_RISCV_SUB16),
+        (R_RISCV_SET6, R_RISCV_SUB6),
+        (R_RISCV_SET8, R_RISCV_SUB8),
+        (R_RISCV_SET16, R_RISCV_SUB16),
+        (R_RISCV_SET32, R_RISCV_SUB32),
+        (R_RISCV_SET_ULEB128, R_RISCV_SUB_ULEB128),
     ] {
-        let file = field_file(rt.alloc(), 0x10, plus, 0x10088, minus)?;
-        let wanted = Some((FaultKind::NarrowDiff, 0x10088));
+        let file = field_file(rt.alloc(), 0x10, plus, CODE_ADDEND + 16, minus)?;
+        let wanted = Some((FaultKind::NarrowDiff, FIELD));
         assert_eq!(rt; refused(rt.alloc(), &file), wanted, "{plus}");
-        let found = accepted(rt.alloc(), &file, &[(0x10078, 0x1007c)])?;
+        let found = accepted(rt.alloc(), &file, &[(CODE, CODE + 4)])?;
         assert_eq!(rt; found.refs.cells.len(), 0, "{plus}");
     }
     Ok(())
@@ -305,23 +351,23 @@ fn differences_that_no_cell_holds(rt: HostRuntime) -> Result<(), Fail> {
 #[test]
 fn differences_that_do_not_fit(rt: HostRuntime) -> Result<(), Fail> {
     for (first, plus, minus) in [
-        (5, 33, 37),
-        (5, 34, 38),
-        (5, 35, 39),
-        (5, 36, 40),
-        (5, 53, 52),
-        (5, 54, 37),
-        (5, 55, 38),
-        (5, 56, 39),
-        (5, 60, 61),
-        (4, 35, 40),
-        (4, 53, 37),
-        (4, 56, 61),
-        (4, 35, 35),
-        (4, 39, 39),
+        (5, R_RISCV_ADD8, R_RISCV_SUB8),
+        (5, R_RISCV_ADD16, R_RISCV_SUB16),
+        (5, R_RISCV_ADD32, R_RISCV_SUB32),
+        (5, R_RISCV_ADD64, R_RISCV_SUB64),
+        (5, R_RISCV_SET6, R_RISCV_SUB6),
+        (5, R_RISCV_SET8, R_RISCV_SUB8),
+        (5, R_RISCV_SET16, R_RISCV_SUB16),
+        (5, R_RISCV_SET32, R_RISCV_SUB32),
+        (5, R_RISCV_SET_ULEB128, R_RISCV_SUB_ULEB128),
+        (4, R_RISCV_ADD32, R_RISCV_SUB64),
+        (4, R_RISCV_SET6, R_RISCV_SUB8),
+        (4, R_RISCV_SET32, R_RISCV_SUB_ULEB128),
+        (4, R_RISCV_ADD32, R_RISCV_ADD32),
+        (4, R_RISCV_SUB32, R_RISCV_SUB32),
     ] {
-        let file = field_file(rt.alloc(), first, plus, 0x1007c, minus)?;
-        let wanted = Some((FaultKind::RelocMismatch, 0x10088));
+        let file = field_file(rt.alloc(), first, plus, CODE_ADDEND + 4, minus)?;
+        let wanted = Some((FaultKind::RelocMismatch, FIELD));
         assert_eq!(rt;
             refused(rt.alloc(), &file),
             wanted,
@@ -335,15 +381,33 @@ fn differences_that_do_not_fit(rt: HostRuntime) -> Result<(), Fail> {
 #[test]
 fn labels_and_fields_that_do_not_fit(rt: HostRuntime) -> Result<(), Fail> {
     for (field, relocations) in [
-        ([4, 0, 0, 0], [(35, 0x1007c), (35, 0x1007c), (39, 0x10078)]),
-        ([4, 0, 0, 0], [(39, 0x10078), (0, 0), (0, 0)]),
+        (
+            [4, 0, 0, 0],
+            [
+                (R_RISCV_ADD32, CODE_ADDEND + 4),
+                (R_RISCV_ADD32, CODE_ADDEND + 4),
+                (R_RISCV_SUB32, CODE_ADDEND),
+            ],
+        ),
+        (
+            [4, 0, 0, 0],
+            [
+                (R_RISCV_SUB32, CODE_ADDEND),
+                (R_RISCV_NONE, 0),
+                (R_RISCV_NONE, 0),
+            ],
+        ),
         (
             [0x88, 0x80, 0x80, 0x80],
-            [(60, 0x10080), (61, 0x10078), (0, 0)],
+            [
+                (R_RISCV_SET_ULEB128, CODE_ADDEND + 8),
+                (R_RISCV_SUB_ULEB128, CODE_ADDEND),
+                (R_RISCV_NONE, 0),
+            ],
         ),
     ] {
         let file = data_file(rt.alloc(), &field, &relocations)?;
-        let wanted = Some((FaultKind::RelocMismatch, 0x10088));
+        let wanted = Some((FaultKind::RelocMismatch, FIELD));
         assert_eq!(rt; refused(rt.alloc(), &file), wanted, "{relocations:?}");
     }
     Ok(())
@@ -353,10 +417,10 @@ fn labels_and_fields_that_do_not_fit(rt: HostRuntime) -> Result<(), Fail> {
 #[test]
 fn labels_that_are_no_code(rt: HostRuntime) -> Result<(), Fail> {
     for relocations in [
-        [(35, 0x20000), (0, 0)],
-        [(39, 0x20000), (0, 0)],
-        [(35, -4), (39, -8)],
-        [(35, 0x7fff_0008), (39, 0x7fff_0004)],
+        [(R_RISCV_ADD32, 0x20000), (R_RISCV_NONE, 0)],
+        [(R_RISCV_SUB32, 0x20000), (R_RISCV_NONE, 0)],
+        [(R_RISCV_ADD32, -4), (R_RISCV_SUB32, -8)],
+        [(R_RISCV_ADD32, 0x7fff_0008), (R_RISCV_SUB32, 0x7fff_0004)],
     ] {
         let file = data_file(rt.alloc(), &[4, 0, 0, 0], &relocations)?;
         let found = accepted(rt.alloc(), &file, &[])?;

@@ -1,12 +1,14 @@
-// Which fields are code cells. The code of each file begins at 10078.
-use crate::analysis::{accepted, address_cell, data_file, difference_cell, refused_with};
+// Which fields are code cells.
+use crate::analysis::{
+    CODE_ADDEND, FIELD, accepted, address_cell, data_file, difference_cell, refused_with,
+};
 use elf_image::relocation::*;
 use elf_image::section::SHT_NOBITS;
 use rb_bytes::fault::FaultKind;
 use std::alloc::Global;
 use std::test::Fail;
 use test_files::inst::{X0, jal};
-use test_files::shapes::DATA;
+use test_files::shapes::{CODE, DATA};
 use test_files::{Section, Symbol, assemble, exit7_code, of_section, program, two_segments};
 
 // A section of these bytes at an address, to which relocations apply, by their addresses, types and addends.
@@ -35,10 +37,10 @@ fn address_file(alloc: Global, addr: u64, value: u64) -> Result<Vec<u8>, Fail> {
 #[test]
 fn addresses(rt: HostRuntime) -> Result<(), Fail> {
     for (addr, value, cells) in [
-        (0x10088, 0x1007c, 1),
-        (0x10088, 0x1007e, 0),
-        (0x10088, 0x10088, 0),
-        (0x10018, 0x10078, 0),
+        (FIELD, CODE + 4, 1),
+        (FIELD, CODE + 6, 0),
+        (FIELD, CODE + 16, 0),
+        (0x10018, CODE, 0),
     ] {
         let file = address_file(rt.alloc(), addr, value)?;
         let found = accepted(rt.alloc(), &file, &[])?;
@@ -51,13 +53,13 @@ fn addresses(rt: HostRuntime) -> Result<(), Fail> {
 #[test]
 fn an_address_that_is_a_difference(rt: HostRuntime) -> Result<(), Fail> {
     let labels = [
-        (R_RISCV_ADD32, 0x1007c),
+        (R_RISCV_ADD32, CODE_ADDEND + 4),
         (R_RISCV_SUB32, 0),
         (R_RISCV_32, 0),
     ];
     let bytes = data_file(rt.alloc(), &[0x7c, 0, 1, 0], &labels)?;
     let found = accepted(rt.alloc(), &bytes, &[])?;
-    let cell = address_cell(0x10088, 4, 0x1007c);
+    let cell = address_cell(FIELD, 4, CODE + 4);
     assert_eq!(rt; found.refs.cells.as_slice(), [cell].as_slice());
     Ok(())
 }
@@ -79,7 +81,7 @@ fn a_field_that_is_filled_with_zeros(rt: HostRuntime) -> Result<(), Fail> {
     }
     for kind in [R_RISCV_ADD32, R_RISCV_SUB32] {
         file.relocations
-            .push(of_section(b".bss", DATA, kind, b"", 0x1007c))?;
+            .push(of_section(b".bss", DATA, kind, b"", CODE_ADDEND + 4))?;
     }
     let bytes = file.build(rt.alloc())?;
     let found = accepted(rt.alloc(), &bytes, &[])?;
@@ -93,49 +95,49 @@ fn a_field_that_is_filled_with_zeros(rt: HostRuntime) -> Result<(), Fail> {
 fn fields_that_share_bytes(rt: HostRuntime) -> Result<(), Fail> {
     let file = section_file(
         rt.alloc(),
-        0x10088,
+        FIELD,
         &[0, 0, 0x7c, 0, 1, 0, 0, 0, 0, 0],
         &[
-            (0x1008e, R_RISCV_ADD32, 0x1007c),
-            (0x1008e, R_RISCV_SUB32, 0x1007c),
-            (0x1008a, R_RISCV_64, 0),
-            (0x10088, R_RISCV_ADD32, 0x7d007c),
-            (0x10088, R_RISCV_SUB32, 0x1007c),
+            (FIELD + 6, R_RISCV_ADD32, CODE_ADDEND + 4),
+            (FIELD + 6, R_RISCV_SUB32, CODE_ADDEND + 4),
+            (FIELD + 2, R_RISCV_64, 0),
+            (FIELD, R_RISCV_ADD32, 0x7d007c),
+            (FIELD, R_RISCV_SUB32, CODE_ADDEND + 4),
         ],
     )?;
     let found = accepted(rt.alloc(), &file, &[])?;
     let cells = [
-        difference_cell(0x10088, 4, 0x7d007c, 0x1007c),
-        difference_cell(0x1008e, 4, 0x1007c, 0x1007c),
+        difference_cell(FIELD, 4, 0x7d007c, CODE + 4),
+        difference_cell(FIELD + 6, 4, CODE + 4, CODE + 4),
     ];
     assert_eq!(rt; found.refs.cells.as_slice(), cells.as_slice());
     Ok(())
 }
 
 // A label that is no address doesn't matter where the difference is no cell: behind the first half of an address, and in the
-// file's header, whose entry point is 10078.
+// file's header, whose entry point is the first instruction.
 #[test]
 fn labels_of_fields_that_are_no_cells(rt: HostRuntime) -> Result<(), Fail> {
     let below = -0x1_0000_0000;
     let file = section_file(
         rt.alloc(),
-        0x10088,
+        FIELD,
         &[0x78, 0, 1, 0, 0, 0, 0, 0],
         &[
-            (0x10088, R_RISCV_64, 0),
-            (0x1008c, R_RISCV_ADD32, 0x1007c),
-            (0x1008c, R_RISCV_SUB32, below + 0x1007c),
+            (FIELD, R_RISCV_64, 0),
+            (FIELD + 4, R_RISCV_ADD32, CODE_ADDEND + 4),
+            (FIELD + 4, R_RISCV_SUB32, below + CODE_ADDEND + 4),
         ],
     )?;
     let found = accepted(rt.alloc(), &file, &[])?;
-    let cell = address_cell(0x10088, 8, 0x10078);
+    let cell = address_cell(FIELD, 8, CODE);
     assert_eq!(rt; found.refs.cells.as_slice(), [cell].as_slice());
     let file = section_file(
         rt.alloc(),
         0x10018,
         &[0x78, 0, 1, 0],
         &[
-            (0x10018, R_RISCV_ADD32, 0x10078),
+            (0x10018, R_RISCV_ADD32, CODE_ADDEND),
             (0x10018, R_RISCV_SUB32, below),
         ],
     )?;
@@ -148,11 +150,11 @@ fn labels_of_fields_that_are_no_cells(rt: HostRuntime) -> Result<(), Fail> {
 fn padded_file(alloc: Global, padding: &[u8]) -> Result<Vec<u8>, Fail> {
     let mut code = assemble(alloc, &[jal(X0, 0)])?;
     code.extend_from_slice(padding)?;
-    let field = 0x1007c_u64.to_le_bytes();
-    let mut file = program(alloc, &code, &[Section::loaded(b".data", 0x10080, &field)])?;
-    file.symbols.push(Symbol::function(b"f", 0x10078, 4))?;
+    let field = (CODE + 4).to_le_bytes();
+    let mut file = program(alloc, &code, &[Section::loaded(b".data", CODE + 8, &field)])?;
+    file.symbols.push(Symbol::function(b"f", CODE, 4))?;
     file.relocations
-        .push(of_section(b".data", 0x10080, R_RISCV_64, b"", 0))?;
+        .push(of_section(b".data", CODE + 8, R_RISCV_64, b"", 0))?;
     Ok(file.build(alloc)?)
 }
 
@@ -172,12 +174,15 @@ fn addresses_of_padding(rt: HostRuntime) -> Result<(), Fail> {
 fn two_functions(alloc: Global, to: u8) -> Result<Vec<u8>, Fail> {
     let code = exit7_code(alloc)?;
     let field = [to];
-    let mut file = program(alloc, &code, &[Section::loaded(b".data", 0x10088, &field)])?;
-    file.symbols.push(Symbol::function(b"f", 0x10078, 8))?;
-    file.symbols.push(Symbol::function(b"g", 0x10080, 8))?;
-    for (kind, addend) in [(R_RISCV_ADD8, 0x10078 + to as i64), (R_RISCV_SUB8, 0x10078)] {
+    let mut file = program(alloc, &code, &[Section::loaded(b".data", FIELD, &field)])?;
+    file.symbols.push(Symbol::function(b"f", CODE, 8))?;
+    file.symbols.push(Symbol::function(b"g", CODE + 8, 8))?;
+    for (kind, addend) in [
+        (R_RISCV_ADD8, CODE_ADDEND + to as i64),
+        (R_RISCV_SUB8, CODE_ADDEND),
+    ] {
         file.relocations
-            .push(of_section(b".data", 0x10088, kind, b"", addend))?;
+            .push(of_section(b".data", FIELD, kind, b"", addend))?;
     }
     Ok(file.build(alloc)?)
 }
@@ -185,8 +190,8 @@ fn two_functions(alloc: Global, to: u8) -> Result<Vec<u8>, Fail> {
 // Both labels have to be of one whole function; its end is one of its labels.
 #[test]
 fn differences_of_whole_functions(rt: HostRuntime) -> Result<(), Fail> {
-    let first = (0x10078, 0x1007c);
-    let second = (0x10080, 0x10084);
+    let first = (CODE, CODE + 4);
+    let second = (CODE + 8, CODE + 12);
     for (to, whole, is_refused) in [
         (8, [first, first], false),
         (8, [second, second], true),
@@ -194,7 +199,7 @@ fn differences_of_whole_functions(rt: HostRuntime) -> Result<(), Fail> {
     ] {
         let file = two_functions(rt.alloc(), to)?;
         let wanted = if is_refused {
-            Some((FaultKind::NarrowDiff, 0x10088))
+            Some((FaultKind::NarrowDiff, FIELD))
         } else {
             None
         };

@@ -1,6 +1,7 @@
-// What is found in files as compilers and linkers lay them out. The code of each begins at 10078.
+// What is found in files as compilers and linkers lay them out.
 use crate::analysis::{
-    accepted, address_cell, call_roles, data_file, difference_cell, pair_roles, refused,
+    CODE_ADDEND, FIELD, accepted, address_cell, call_roles, data_file, difference_cell, pair_roles,
+    refused,
 };
 use elf_image::relocation::*;
 use rb_bytes::fault::FaultKind;
@@ -8,6 +9,7 @@ use rv_code::{Inst, Role};
 use std::alloc::Global;
 use std::test::Fail;
 use test_files::inst::{A0, A4, A5, EXIT, NOP, RA, X0, add, addi, auipc, jal, jalr, ld, lui, lw};
+use test_files::shapes::{CODE, DATA};
 use test_files::{Section, Symbol, assemble, exit7, of_code, of_section, program, two_segments};
 
 // An entry of the global offset table, with the function that it is to hold, by the relocation's addend, and the lower part
@@ -25,30 +27,30 @@ fn got_file(alloc: Global, entry: u64, lower: i64, addends: &[i64]) -> Result<Ve
         ],
     )?;
     let bytes = entry.to_le_bytes();
-    let mut file = two_segments(alloc, &code, &[Section::writable(b".got", 0x20000, &bytes)])?;
-    file.symbols.push(Symbol::function(b"f", 0x10078, 12))?;
-    file.symbols.push(Symbol::function(b"g", 0x10084, 8))?;
-    file.symbols.push(Symbol::label(b"p", 0x10078))?;
+    let mut file = two_segments(alloc, &code, &[Section::writable(b".got", DATA, &bytes)])?;
+    file.symbols.push(Symbol::function(b"f", CODE, 12))?;
+    file.symbols.push(Symbol::function(b"g", CODE + 12, 8))?;
+    file.symbols.push(Symbol::label(b"p", CODE))?;
     for addend in addends {
         file.relocations
-            .push(of_code(0x10078, R_RISCV_GOT_HI20, b"g", *addend))?;
+            .push(of_code(CODE, R_RISCV_GOT_HI20, b"g", *addend))?;
     }
     file.relocations
-        .push(of_code(0x1007c, R_RISCV_PCREL_LO12_I, b"p", 0))?;
+        .push(of_code(CODE + 4, R_RISCV_PCREL_LO12_I, b"p", 0))?;
     Ok(file.build(alloc)?)
 }
 
 #[test]
 fn an_entry_of_the_global_offset_table(rt: HostRuntime) -> Result<(), Fail> {
-    let file = got_file(rt.alloc(), 0x10084, -120, &[0])?;
+    let file = got_file(rt.alloc(), CODE + 12, -120, &[0])?;
     let found = accepted(rt.alloc(), &file, &[])?;
     assert_eq!(rt;
         found.starts.as_slice(),
-        [0x10078, 0x1007c, 0x10080, 0x10084, 0x10088].as_slice()
+        [CODE, CODE + 4, CODE + 8, CODE + 12, CODE + 16].as_slice()
     );
-    let roles = pair_roles(0x10078, 0x1007c, 0x20000);
+    let roles = pair_roles(CODE, CODE + 4, DATA);
     assert_eq!(rt; found.refs.roles.as_slice(), roles.as_slice());
-    let cell = address_cell(0x20000, 8, 0x10084);
+    let cell = address_cell(DATA, 8, CODE + 12);
     assert_eq!(rt; found.refs.cells.as_slice(), [cell].as_slice());
     assert_eq!(rt; found.funcs.len(), 2);
     Ok(())
@@ -58,14 +60,14 @@ fn an_entry_of_the_global_offset_table(rt: HostRuntime) -> Result<(), Fail> {
 #[test]
 fn entries_of_the_table_that_do_not_fit(rt: HostRuntime) -> Result<(), Fail> {
     for (entry, lower, addends) in [
-        (0x10088, -120, [0, 0]),
-        (0x10080, -120, [0, 0]),
-        (0x10084, -112, [0, 0]),
-        (0x10084, -120, [0, 4]),
-        (0x10084, -120, [-4, 0]),
+        (CODE + 16, -120, [0, 0]),
+        (CODE + 8, -120, [0, 0]),
+        (CODE + 12, -112, [0, 0]),
+        (CODE + 12, -120, [0, 4]),
+        (CODE + 12, -120, [-4, 0]),
     ] {
         let file = got_file(rt.alloc(), entry, lower, &addends)?;
-        let wanted = Some((FaultKind::RelocMismatch, 0x10078));
+        let wanted = Some((FaultKind::RelocMismatch, CODE));
         assert_eq!(rt;
             refused(rt.alloc(), &file),
             wanted,
@@ -85,11 +87,11 @@ fn table_file(
 ) -> Result<Vec<u8>, Fail> {
     let code = assemble(alloc, insts)?;
     let mut file = program(alloc, &code, &[Section::loaded(b".rodata", 0x10098, table)])?;
-    file.symbols.push(Symbol::label(b"p", 0x10078))?;
+    file.symbols.push(Symbol::label(b"p", CODE))?;
     file.relocations
-        .push(of_code(0x10078, R_RISCV_PCREL_HI20, b"", 0x10098))?;
+        .push(of_code(CODE, R_RISCV_PCREL_HI20, b"", 0x10098))?;
     file.relocations
-        .push(of_code(0x1007c, R_RISCV_PCREL_LO12_I, b"p", 0))?;
+        .push(of_code(CODE + 4, R_RISCV_PCREL_LO12_I, b"p", 0))?;
     for (place, kind, addend) in relocations {
         file.relocations
             .push(of_section(b".rodata", *place, *kind, b"", *addend))?;
@@ -122,7 +124,7 @@ fn a_table_of_distances(rt: HostRuntime) -> Result<(), Fail> {
         ],
     )?;
     let found = accepted(rt.alloc(), &file, &[])?;
-    let roles = pair_roles(0x10078, 0x1007c, 0x10098);
+    let roles = pair_roles(CODE, CODE + 4, 0x10098);
     assert_eq!(rt; found.refs.roles.as_slice(), roles.as_slice());
     let cells = [
         difference_cell(0x10098, 4, 0x1008c, 0x10098),
@@ -146,18 +148,17 @@ fn absolute_addresses(rt: HostRuntime) -> Result<(), Fail> {
             call,
         ],
     )?;
-    for (value, wanted) in [(0x10084, true), (0x20000, false)] {
+    for (value, wanted) in [(CODE + 12, true), (DATA, false)] {
         let mut file = program(rt.alloc(), &code, &[])?;
         file.symbols.push(Symbol::label(b"g", value))?;
+        file.relocations.push(of_code(CODE, R_RISCV_HI20, b"g", 0))?;
         file.relocations
-            .push(of_code(0x10078, R_RISCV_HI20, b"g", 0))?;
-        file.relocations
-            .push(of_code(0x1007c, R_RISCV_LO12_I, b"g", 0))?;
+            .push(of_code(CODE + 4, R_RISCV_LO12_I, b"g", 0))?;
         let bytes = file.build(rt.alloc())?;
         let found = accepted(rt.alloc(), &bytes, &[])?;
         let roles = [
-            (0x10078, Role::AbsHi { target: 0x10084 }),
-            (0x1007c, Role::AbsLo { target: 0x10084 }),
+            (CODE, Role::AbsHi { target: CODE + 12 }),
+            (CODE + 4, Role::AbsLo { target: CODE + 12 }),
         ];
         let wanted = if wanted { roles.as_slice() } else { &[] };
         assert_eq!(rt; found.refs.roles.as_slice(), wanted, "{value}");
@@ -170,10 +171,10 @@ fn call_file(alloc: Global, jump: Inst, symbol: &[u8]) -> Result<Vec<u8>, Fail> 
     let [set_exit, call] = EXIT;
     let code = assemble(alloc, &[auipc(RA, 0), jump, set_exit, call])?;
     let mut file = program(alloc, &code, &[])?;
-    file.symbols.push(Symbol::function(b"f", 0x10078, 8))?;
-    file.symbols.push(Symbol::function(b"g", 0x10080, 8))?;
+    file.symbols.push(Symbol::function(b"f", CODE, 8))?;
+    file.symbols.push(Symbol::function(b"g", CODE + 8, 8))?;
     file.relocations
-        .push(of_code(0x10078, R_RISCV_CALL_PLT, symbol, 0))?;
+        .push(of_code(CODE, R_RISCV_CALL_PLT, symbol, 0))?;
     Ok(file.build(alloc)?)
 }
 
@@ -181,7 +182,7 @@ fn call_file(alloc: Global, jump: Inst, symbol: &[u8]) -> Result<Vec<u8>, Fail> 
 fn a_call(rt: HostRuntime) -> Result<(), Fail> {
     let file = call_file(rt.alloc(), jalr(RA, 8, RA), b"g")?;
     let found = accepted(rt.alloc(), &file, &[])?;
-    let roles = call_roles(0x10078, 0x1007c, 0x10080);
+    let roles = call_roles(CODE, CODE + 4, CODE + 8);
     assert_eq!(rt; found.refs.roles.as_slice(), roles.as_slice());
     assert_eq!(rt; found.funcs.len(), 2);
     Ok(())
@@ -192,7 +193,7 @@ fn a_call(rt: HostRuntime) -> Result<(), Fail> {
 fn a_call_of_an_undefined_weak_symbol(rt: HostRuntime) -> Result<(), Fail> {
     let file = call_file(rt.alloc(), jalr(RA, 0, X0), b"")?;
     let found = accepted(rt.alloc(), &file, &[])?;
-    let roles = [(0x10078, Role::CallHi { target: 0x10078 })];
+    let roles = [(CODE, Role::CallHi { target: CODE })];
     assert_eq!(rt; found.refs.roles.as_slice(), roles.as_slice());
     assert_eq!(rt; found.funcs.len(), 2);
     Ok(())
@@ -205,18 +206,21 @@ fn fields_that_are_cells(rt: HostRuntime) -> Result<(), Fail> {
     for (field, relocations, cell) in [
         (
             [0x7c, 0, 1, 0, 0, 0, 0, 0],
-            [(R_RISCV_32, 0x1007c), (R_RISCV_64, 0x10078)],
-            address_cell(0x10088, 8, 0x1007c),
+            [(R_RISCV_32, CODE_ADDEND + 4), (R_RISCV_64, CODE_ADDEND)],
+            address_cell(FIELD, 8, CODE + 4),
         ),
         (
             [0x7c, 0, 2, 0x80, 0, 0, 0, 0],
-            [(R_RISCV_ADD32, 0x1007c), (R_RISCV_SUB32, 0x7fff_0000)],
-            difference_cell(0x10088, 4, 0x1007c, 0x7fff_0000),
+            [
+                (R_RISCV_ADD32, CODE_ADDEND + 4),
+                (R_RISCV_SUB32, 0x7fff_0000),
+            ],
+            difference_cell(FIELD, 4, CODE + 4, 0x7fff_0000),
         ),
         (
             [0xf4, 0xff, 0xff, 0xff, 0, 0, 0, 0],
-            [(R_RISCV_32_PCREL, 0x1007c), (R_RISCV_NONE, 0)],
-            difference_cell(0x10088, 4, 0x1007c, 0x10088),
+            [(R_RISCV_32_PCREL, CODE_ADDEND + 4), (R_RISCV_NONE, 0)],
+            difference_cell(FIELD, 4, CODE + 4, FIELD),
         ),
     ] {
         let bytes = data_file(rt.alloc(), &field, &relocations)?;
@@ -233,34 +237,40 @@ fn fields_that_do_not_fit(rt: HostRuntime) -> Result<(), Fail> {
     for (field, relocations, wanted) in [
         (
             [0x7b, 0, 2, 0x80],
-            [(R_RISCV_ADD32, 0x1007c), (R_RISCV_SUB32, 0x7fff_0001)],
+            [
+                (R_RISCV_ADD32, CODE_ADDEND + 4),
+                (R_RISCV_SUB32, 0x7fff_0001),
+            ],
             FaultKind::RelocMismatch,
         ),
         (
             [0x80, 0, 1, 0],
-            [(R_RISCV_ADD32, 0x1007c), (R_RISCV_SUB32, -4)],
+            [(R_RISCV_ADD32, CODE_ADDEND + 4), (R_RISCV_SUB32, -4)],
             FaultKind::RelocMismatch,
         ),
         (
             [0x7c, 0, 1, 0],
-            [(R_RISCV_ADD32, 0x1007c), (R_RISCV_NONE, 0)],
+            [(R_RISCV_ADD32, CODE_ADDEND + 4), (R_RISCV_NONE, 0)],
             FaultKind::RelocMismatch,
         ),
         (
             [0x7c, 0, 1, 0],
-            [(R_RISCV_64, 0x1007c), (R_RISCV_NONE, 0)],
+            [(R_RISCV_64, CODE_ADDEND + 4), (R_RISCV_NONE, 0)],
             FaultKind::RelocMismatch,
         ),
         (
             [4, 0, 0, 0],
-            [(R_RISCV_SET32, 0x1007c), (R_RISCV_SUB32, 0x10078)],
+            [
+                (R_RISCV_SET32, CODE_ADDEND + 4),
+                (R_RISCV_SUB32, CODE_ADDEND),
+            ],
             FaultKind::NarrowDiff,
         ),
     ] {
         let bytes = data_file(rt.alloc(), &field, &relocations)?;
         assert_eq!(rt;
             refused(rt.alloc(), &bytes),
-            Some((wanted, 0x10088)),
+            Some((wanted, FIELD)),
             "{field:?}"
         );
     }
@@ -271,15 +281,15 @@ fn fields_that_do_not_fit(rt: HostRuntime) -> Result<(), Fail> {
 #[test]
 fn a_distance_within_a_whole_function(rt: HostRuntime) -> Result<(), Fail> {
     let labels = [
-        (R_RISCV_SET_ULEB128, 0x10080),
-        (R_RISCV_SUB_ULEB128, 0x10078),
+        (R_RISCV_SET_ULEB128, CODE_ADDEND + 8),
+        (R_RISCV_SUB_ULEB128, CODE_ADDEND),
     ];
     let bytes = data_file(rt.alloc(), &[0x88, 0], &labels)?;
     assert_eq!(rt;
         refused(rt.alloc(), &bytes),
-        Some((FaultKind::NarrowDiff, 0x10088))
+        Some((FaultKind::NarrowDiff, FIELD))
     );
-    let found = accepted(rt.alloc(), &bytes, &[(0x1007c, 0x1007d)])?;
+    let found = accepted(rt.alloc(), &bytes, &[(CODE + 4, CODE + 5)])?;
     assert_eq!(rt; found.refs.cells.len(), 0);
     let Some(func) = found.funcs.first() else {
         return Err(Fail::new("no function"));
@@ -297,7 +307,7 @@ fn a_function_has_its_instructions(rt: HostRuntime) -> Result<(), Fail> {
     };
     assert_eq!(rt;
         (func.start, func.end, func.whole),
-        (0x10078, 0x10088, false)
+        (CODE, CODE + 16, false)
     );
     let mut insts: Vec<(u64, Inst)> = Vec::new(rt.alloc());
     for placed in &func.insts {
@@ -305,10 +315,10 @@ fn a_function_has_its_instructions(rt: HostRuntime) -> Result<(), Fail> {
     }
     let [set_exit, call] = EXIT;
     let wanted = [
-        (0x10078, lui(A0, 0)),
-        (0x1007c, addi(A0, A0, 7)),
-        (0x10080, set_exit),
-        (0x10084, call),
+        (CODE, lui(A0, 0)),
+        (CODE + 4, addi(A0, A0, 7)),
+        (CODE + 8, set_exit),
+        (CODE + 12, call),
     ];
     assert_eq!(rt; insts.as_slice(), wanted.as_slice());
     Ok(())
@@ -321,10 +331,10 @@ fn nops_behind_a_function(rt: HostRuntime) -> Result<(), Fail> {
     for (last, wanted) in [(jal(X0, 0), 1), (call, 2)] {
         let code = assemble(rt.alloc(), &[last, NOP])?;
         let mut file = program(rt.alloc(), &code, &[])?;
-        file.symbols.push(Symbol::function(b"f", 0x10078, 4))?;
+        file.symbols.push(Symbol::function(b"f", CODE, 4))?;
         let bytes = file.build(rt.alloc())?;
         let found = accepted(rt.alloc(), &bytes, &[])?;
-        assert_eq!(rt; found.starts.as_slice(), [0x10078, 0x1007c].as_slice());
+        assert_eq!(rt; found.starts.as_slice(), [CODE, CODE + 4].as_slice());
         assert_eq!(rt; found.funcs.len(), wanted);
     }
     Ok(())
@@ -353,10 +363,10 @@ fn a_table_of_addresses(rt: HostRuntime) -> Result<(), Fail> {
         ],
     )?;
     let found = accepted(rt.alloc(), &file, &[])?;
-    let roles = pair_roles(0x10078, 0x1007c, 0x10098);
+    let roles = pair_roles(CODE, CODE + 4, 0x10098);
     assert_eq!(rt; found.refs.roles.as_slice(), roles.as_slice());
     let cells = [
-        address_cell(0x10098, 8, 0x10088),
+        address_cell(0x10098, 8, FIELD),
         address_cell(0x100a0, 8, 0x1008c),
     ];
     assert_eq!(rt; found.refs.cells.as_slice(), cells.as_slice());
@@ -377,9 +387,9 @@ fn a_variable_of_a_thread(rt: HostRuntime) -> Result<(), Fail> {
     )?;
     let mut file = program(rt.alloc(), &code, &[])?;
     for (place, kind) in [
-        (0x10078, R_RISCV_TPREL_HI20),
-        (0x1007c, R_RISCV_TPREL_ADD),
-        (0x10080, R_RISCV_TPREL_LO12_I),
+        (CODE, R_RISCV_TPREL_HI20),
+        (CODE + 4, R_RISCV_TPREL_ADD),
+        (CODE + 8, R_RISCV_TPREL_LO12_I),
     ] {
         file.relocations.push(of_code(place, kind, b"", 16))?;
     }
@@ -395,12 +405,12 @@ fn a_variable_of_a_thread(rt: HostRuntime) -> Result<(), Fail> {
 fn a_nop_behind_a_call(rt: HostRuntime) -> Result<(), Fail> {
     let code = assemble(rt.alloc(), &[auipc(RA, 0), jalr(RA, 0, RA), NOP])?;
     let mut file = program(rt.alloc(), &code, &[])?;
-    file.symbols.push(Symbol::function(b"f", 0x10078, 8))?;
+    file.symbols.push(Symbol::function(b"f", CODE, 8))?;
     file.relocations
-        .push(of_code(0x10078, R_RISCV_CALL_PLT, b"f", 0))?;
+        .push(of_code(CODE, R_RISCV_CALL_PLT, b"f", 0))?;
     let bytes = file.build(rt.alloc())?;
     let found = accepted(rt.alloc(), &bytes, &[])?;
-    let roles = call_roles(0x10078, 0x1007c, 0x10078);
+    let roles = call_roles(CODE, CODE + 4, CODE);
     assert_eq!(rt; found.refs.roles.as_slice(), roles.as_slice());
     assert_eq!(rt; found.funcs.len(), 1);
     Ok(())

@@ -1,4 +1,4 @@
-// Where functions begin and end, and what their instructions may be. The code of each file begins at 10078.
+// Where functions begin and end, and what their instructions may be.
 use crate::analysis::{accepted, refused};
 use elf_image::relocation::*;
 use rb_bytes::fault::FaultKind;
@@ -7,6 +7,7 @@ use std::alloc::Global;
 use std::test::Fail;
 use test_files::code::push_code;
 use test_files::inst::{A4, A5, EXIT, RA, auipc, jalr, ld};
+use test_files::shapes::CODE;
 use test_files::{Symbol, assemble, exit7_code, of_code, program};
 
 // The smallest example with a function's symbol in its middle.
@@ -15,7 +16,7 @@ fn cut_file(alloc: Global, section: Option<u16>, size: u64) -> Result<Vec<u8>, F
     let mut file = program(alloc, &code, &[])?;
     file.symbols.push(Symbol {
         section,
-        ..Symbol::function(b"g", 0x10080, size)
+        ..Symbol::function(b"g", CODE + 8, size)
     })?;
     Ok(file.build(alloc)?)
 }
@@ -36,7 +37,7 @@ fn padded_file(alloc: Global, size: u64) -> Result<Vec<u8>, Fail> {
     let mut code = exit7_code(alloc)?;
     code.extend_from_slice(&[0; 4])?;
     let mut file = program(alloc, &code, &[])?;
-    file.symbols.push(Symbol::function(b"f", 0x10078, size))?;
+    file.symbols.push(Symbol::function(b"f", CODE, size))?;
     Ok(file.build(alloc)?)
 }
 
@@ -48,7 +49,7 @@ fn zeros(rt: HostRuntime) -> Result<(), Fail> {
     assert_eq!(rt; found.starts.len(), 4);
     assert_eq!(rt; found.funcs.len(), 1);
     let file = padded_file(rt.alloc(), 20)?;
-    let wanted = Some((FaultKind::BadInstruction, 0x10088));
+    let wanted = Some((FaultKind::BadInstruction, CODE + 16));
     assert_eq!(rt; refused(rt.alloc(), &file), wanted);
     Ok(())
 }
@@ -59,10 +60,10 @@ fn the_entry_point_counts_first(rt: HostRuntime) -> Result<(), Fail> {
     let mut code = assemble(rt.alloc(), &EXIT)?;
     code.extend_from_slice(&[0; 4])?;
     let mut file = program(rt.alloc(), &code, &[])?;
-    file.symbols.push(Symbol::function(b"f", 0x10078, 12))?;
-    file.entry = 0x1007e;
+    file.symbols.push(Symbol::function(b"f", CODE, 12))?;
+    file.entry = CODE + 6;
     let bytes = file.build(rt.alloc())?;
-    let wanted = Some((FaultKind::BadEntry, 0x1007e));
+    let wanted = Some((FaultKind::BadEntry, CODE + 6));
     assert_eq!(rt; refused(rt.alloc(), &bytes), wanted);
     Ok(())
 }
@@ -72,9 +73,9 @@ fn call_file(alloc: Global, lower: i64, size: u64) -> Result<Vec<u8>, Fail> {
     let [set_exit, call] = EXIT;
     let code = assemble(alloc, &[auipc(RA, 0), jalr(RA, lower, RA), set_exit, call])?;
     let mut file = program(alloc, &code, &[])?;
-    file.symbols.push(Symbol::function(b"f", 0x10078, size))?;
+    file.symbols.push(Symbol::function(b"f", CODE, size))?;
     file.relocations
-        .push(of_code(0x10078, R_RISCV_CALL_PLT, b"f", 0))?;
+        .push(of_code(CODE, R_RISCV_CALL_PLT, b"f", 0))?;
     Ok(file.build(alloc)?)
 }
 
@@ -82,16 +83,16 @@ fn call_file(alloc: Global, lower: i64, size: u64) -> Result<Vec<u8>, Fail> {
 #[test]
 fn calls_and_functions(rt: HostRuntime) -> Result<(), Fail> {
     let file = call_file(rt.alloc(), 6, 16)?;
-    let wanted = Some((FaultKind::BadTarget, 0x10078));
+    let wanted = Some((FaultKind::BadTarget, CODE));
     assert_eq!(rt; refused(rt.alloc(), &file), wanted);
     let file = call_file(rt.alloc(), 0x400, 16)?;
     let found = accepted(rt.alloc(), &file, &[])?;
     assert_eq!(rt;
         found.refs.roles.first(),
-        Some(&(0x10078, Role::CallHi { target: 0x10478 }))
+        Some(&(CODE, Role::CallHi { target: 0x10478 }))
     );
     let file = call_file(rt.alloc(), 8, 4)?;
-    let wanted = Some((FaultKind::RelocMismatch, 0x10078));
+    let wanted = Some((FaultKind::RelocMismatch, CODE));
     assert_eq!(rt; refused(rt.alloc(), &file), wanted);
     Ok(())
 }
@@ -104,12 +105,12 @@ fn short_file(alloc: Global, flags: u32, kind: u32) -> Result<Vec<u8>, Fail> {
     push_code(&mut code, &EXIT, Width::Full)?;
     let mut file = program(alloc, &code, &[])?;
     file.flags = flags;
-    file.symbols.push(Symbol::label(b"p", 0x10078))?;
+    file.symbols.push(Symbol::label(b"p", CODE))?;
     file.relocations
-        .push(of_code(0x10078, R_RISCV_PCREL_HI20, b"", 0x20078))?;
+        .push(of_code(CODE, R_RISCV_PCREL_HI20, b"", 0x20078))?;
     file.relocations
-        .push(of_code(0x1007c, R_RISCV_PCREL_LO12_I, b"p", 0))?;
-    file.relocations.push(of_code(0x10080, kind, b"p", 0))?;
+        .push(of_code(CODE + 4, R_RISCV_PCREL_LO12_I, b"p", 0))?;
+    file.relocations.push(of_code(CODE + 8, kind, b"p", 0))?;
     Ok(file.build(alloc)?)
 }
 
@@ -121,13 +122,13 @@ fn short_instructions(rt: HostRuntime) -> Result<(), Fail> {
     let found = accepted(rt.alloc(), &file, &[])?;
     assert_eq!(rt;
         found.starts.as_slice(),
-        [0x10078, 0x1007c, 0x10080, 0x10082, 0x10086].as_slice()
+        [CODE, CODE + 4, CODE + 8, CODE + 10, CODE + 14].as_slice()
     );
     let file = short_file(rt.alloc(), 1, R_RISCV_PCREL_LO12_I)?;
-    let wanted = Some((FaultKind::RelocMismatch, 0x10080));
+    let wanted = Some((FaultKind::RelocMismatch, CODE + 8));
     assert_eq!(rt; refused(rt.alloc(), &file), wanted);
     let file = short_file(rt.alloc(), 0, R_RISCV_RELAX)?;
-    let wanted = Some((FaultKind::BadInstruction, 0x10080));
+    let wanted = Some((FaultKind::BadInstruction, CODE + 8));
     assert_eq!(rt; refused(rt.alloc(), &file), wanted);
     Ok(())
 }

@@ -1,11 +1,11 @@
-// Files that are refused: which fault, and where. The code of each begins at 10078.
-use crate::analysis::{data_file, refused};
+// Files that are refused: which fault, and where.
+use crate::analysis::{CODE_ADDEND, FIELD, data_file, refused};
 use elf_image::relocation::*;
 use rb_bytes::fault::FaultKind;
 use std::test::Fail;
 use test_files::bytes::patch;
 use test_files::inst::{A0, A1, A2, EXIT, addi, auipc};
-use test_files::shapes::BASE;
+use test_files::shapes::{BASE, CODE};
 use test_files::{Section, Symbol, assemble, exit7_code, of_code, program, program_at};
 
 // A number that is no type of relocation. psABI, "Relocations".
@@ -21,13 +21,9 @@ fn types_and_what_they_apply_to(rt: HostRuntime) -> Result<(), Fail> {
         (R_RISCV_PCREL_LO12_I, FaultKind::RelocMismatch),
     ] {
         let mut file = program(rt.alloc(), &code, &[])?;
-        file.relocations.push(of_code(0x10078, kind, b"", 0))?;
+        file.relocations.push(of_code(CODE, kind, b"", 0))?;
         let bytes = file.build(rt.alloc())?;
-        assert_eq!(rt;
-            refused(rt.alloc(), &bytes),
-            Some((wanted, 0x10078)),
-            "{kind}"
-        );
+        assert_eq!(rt; refused(rt.alloc(), &bytes), Some((wanted, CODE)), "{kind}");
     }
     Ok(())
 }
@@ -47,19 +43,19 @@ fn the_lowest_number_counts(rt: HostRuntime) -> Result<(), Fail> {
         ],
     )?;
     for (kind, wanted) in [
-        (R_RISCV_RELAX, (FaultKind::LoMismatch, 0x10078)),
-        (R_RISCV_PCREL_HI20, (FaultKind::RelocMismatch, 0x10084)),
-        (UNKNOWN, (FaultKind::RelocType, 0x10084)),
+        (R_RISCV_RELAX, (FaultKind::LoMismatch, CODE)),
+        (R_RISCV_PCREL_HI20, (FaultKind::RelocMismatch, CODE + 12)),
+        (UNKNOWN, (FaultKind::RelocType, CODE + 12)),
     ] {
         let mut file = program(rt.alloc(), &code, &[])?;
-        file.symbols.push(Symbol::label(b"p", 0x10078))?;
+        file.symbols.push(Symbol::label(b"p", CODE))?;
         file.relocations
-            .push(of_code(0x10078, R_RISCV_PCREL_HI20, b"", 0x10088))?;
+            .push(of_code(CODE, R_RISCV_PCREL_HI20, b"", CODE_ADDEND + 16))?;
         file.relocations
-            .push(of_code(0x1007c, R_RISCV_PCREL_LO12_I, b"p", 0))?;
+            .push(of_code(CODE + 4, R_RISCV_PCREL_LO12_I, b"p", 0))?;
         file.relocations
-            .push(of_code(0x10080, R_RISCV_PCREL_LO12_I, b"p", 0))?;
-        file.relocations.push(of_code(0x10084, kind, b"", 0))?;
+            .push(of_code(CODE + 8, R_RISCV_PCREL_LO12_I, b"p", 0))?;
+        file.relocations.push(of_code(CODE + 12, kind, b"", 0))?;
         let bytes = file.build(rt.alloc())?;
         assert_eq!(rt; refused(rt.alloc(), &bytes), Some(wanted), "{kind}");
     }
@@ -73,11 +69,14 @@ fn narrow_differences(rt: HostRuntime) -> Result<(), Fail> {
         ([4, 0], FaultKind::NarrowDiff),
         ([5, 0], FaultKind::RelocMismatch),
     ] {
-        let labels = [(R_RISCV_ADD16, 0x1007c), (R_RISCV_SUB16, 0x10078)];
+        let labels = [
+            (R_RISCV_ADD16, CODE_ADDEND + 4),
+            (R_RISCV_SUB16, CODE_ADDEND),
+        ];
         let bytes = data_file(rt.alloc(), &field, &labels)?;
         assert_eq!(rt;
             refused(rt.alloc(), &bytes),
-            Some((wanted, 0x10088)),
+            Some((wanted, FIELD)),
             "{field:?}"
         );
     }
@@ -90,12 +89,12 @@ fn stubs_and_files_that_were_moved(rt: HostRuntime) -> Result<(), Fail> {
     let stubs = program(
         rt.alloc(),
         &code,
-        &[Section::loaded(b".iplt", 0x10088, b"hi")],
+        &[Section::loaded(b".iplt", CODE + 16, b"hi")],
     )?;
     let bytes = stubs.build(rt.alloc())?;
     assert_eq!(rt;
         refused(rt.alloc(), &bytes),
-        Some((FaultKind::IfuncOrPlt, 0x10088))
+        Some((FaultKind::IfuncOrPlt, CODE + 16))
     );
     let mut moved = program(rt.alloc(), &code, &[])?;
     for section in &mut moved.sections {
@@ -115,11 +114,11 @@ fn stubs_and_files_that_were_moved(rt: HostRuntime) -> Result<(), Fail> {
 fn entries_and_instructions(rt: HostRuntime) -> Result<(), Fail> {
     let code = exit7_code(rt.alloc())?;
     let mut file = program(rt.alloc(), &code, &[])?;
-    file.entry = 0x1007a;
+    file.entry = CODE + 2;
     let bytes = file.build(rt.alloc())?;
     assert_eq!(rt;
         refused(rt.alloc(), &bytes),
-        Some((FaultKind::BadEntry, 0x1007a))
+        Some((FaultKind::BadEntry, CODE + 2))
     );
     for (word, wanted) in [
         (0x0000_0000_u32, FaultKind::BadInstruction),
@@ -129,11 +128,7 @@ fn entries_and_instructions(rt: HostRuntime) -> Result<(), Fail> {
         let mut code = exit7_code(rt.alloc())?;
         patch(&mut code, 0, &word.to_le_bytes());
         let bytes = program(rt.alloc(), &code, &[])?.build(rt.alloc())?;
-        assert_eq!(rt;
-            refused(rt.alloc(), &bytes),
-            Some((wanted, 0x10078)),
-            "{word}"
-        );
+        assert_eq!(rt; refused(rt.alloc(), &bytes), Some((wanted, CODE)), "{word}");
     }
     Ok(())
 }
@@ -143,14 +138,14 @@ fn entries_and_instructions(rt: HostRuntime) -> Result<(), Fail> {
 fn a_bare_auipc_that_is_no_instruction(rt: HostRuntime) -> Result<(), Fail> {
     let [set_exit, call] = EXIT;
     let code = assemble(rt.alloc(), &[auipc(A0, 0), set_exit, call])?;
-    let odd = program_at(rt.alloc(), BASE, 0x10079, &code, &[])?;
+    let odd = program_at(rt.alloc(), BASE, CODE + 1, &code, &[])?;
     let bytes = odd.build(rt.alloc())?;
-    let wanted = Some((FaultKind::BadInstruction, 0x10079));
+    let wanted = Some((FaultKind::BadInstruction, CODE + 1));
     assert_eq!(rt; refused(rt.alloc(), &bytes), wanted);
     let mut cut = program(rt.alloc(), &code, &[])?;
-    cut.symbols.push(Symbol::function(b"f", 0x1007a, 0))?;
+    cut.symbols.push(Symbol::function(b"f", CODE + 2, 0))?;
     let bytes = cut.build(rt.alloc())?;
-    let wanted = Some((FaultKind::BadInstruction, 0x10078));
+    let wanted = Some((FaultKind::BadInstruction, CODE));
     assert_eq!(rt; refused(rt.alloc(), &bytes), wanted);
     Ok(())
 }
@@ -166,7 +161,7 @@ fn a_bare_auipc_and_no_instruction(rt: HostRuntime) -> Result<(), Fail> {
         let bytes = program(rt.alloc(), &code, &[])?.build(rt.alloc())?;
         assert_eq!(rt;
             refused(rt.alloc(), &bytes),
-            Some((wanted, 0x10078)),
+            Some((wanted, CODE)),
             "{offset}"
         );
     }

@@ -1,10 +1,11 @@
-// Where instructions start, also in parts that are no function. The code of each file begins at 10078.
+// Where instructions start, also in parts that are no function.
 use elf_image::read;
 use rv_code::Width;
 use rv_reloc::starts;
 use std::alloc::Global;
 use std::test::Fail;
 use test_files::inst::{A0, addi};
+use test_files::shapes::CODE;
 use test_files::{Symbol, exit7_code, program, push_code};
 
 // The starts of the instructions of a file that is read.
@@ -52,10 +53,18 @@ fn a_long_part(rt: HostRuntime) -> Result<(), Fail> {
 #[test]
 fn parts_within_instructions(rt: HostRuntime) -> Result<(), Fail> {
     let odd = [
-        0x10078, 0x10079, 0x1007b, 0x1007d, 0x1007f, 0x10081, 0x10083, 0x10085, 0x10087,
+        CODE,
+        CODE + 1,
+        CODE + 3,
+        CODE + 5,
+        CODE + 7,
+        CODE + 9,
+        CODE + 11,
+        CODE + 13,
+        CODE + 15,
     ];
-    let even = [0x10078, 0x1007a, 0x1007c, 0x10080, 0x10084];
-    for (cut, wanted) in [(0x10079, odd.as_slice()), (0x1007a, even.as_slice())] {
+    let even = [CODE, CODE + 2, CODE + 4, CODE + 8, CODE + 12];
+    for (cut, wanted) in [(CODE + 1, odd.as_slice()), (CODE + 2, even.as_slice())] {
         let code = exit7_code(rt.alloc())?;
         let mut file = program(rt.alloc(), &code, &[])?;
         file.symbols.push(Symbol::function(b"f", cut, 0))?;

@@ -1,19 +1,18 @@
-// All types of relocations, by their numbers. psABI, "Relocations", the table of types. The code of each file begins at 10078.
+// All types of relocations, by their numbers. psABI, "Relocations", the table of types.
 use crate::analysis::{accepted, refused};
+use elf_image::symbol::STT_GNU_IFUNC;
 use rb_bytes::fault::FaultKind;
 use std::alloc::Global;
 use std::test::Fail;
 use test_files::bytes::patch;
+use test_files::shapes::CODE;
 use test_files::{Symbol, exit7_code, of_code, program};
-
-/// The type of a symbol of an indirect function. gABI, "Symbol Types", STT_GNU_IFUNC.
-const STT_GNU_IFUNC: u8 = 10;
 
 // The smallest example with a relocation of this type for its first instruction, a LUI, with the address 0.
 fn typed_file(alloc: Global, kind: u32) -> Result<Vec<u8>, Fail> {
     let code = exit7_code(alloc)?;
     let mut file = program(alloc, &code, &[])?;
-    file.relocations.push(of_code(0x10078, kind, b"", 0))?;
+    file.relocations.push(of_code(CODE, kind, b"", 0))?;
     Ok(file.build(alloc)?)
 }
 
@@ -25,7 +24,7 @@ fn types_that_are_not_supported(rt: HostRuntime) -> Result<(), Fail> {
         66, 191, 192, 255,
     ] {
         let file = typed_file(rt.alloc(), kind)?;
-        let wanted = Some((FaultKind::RelocType, 0x10078));
+        let wanted = Some((FaultKind::RelocType, CODE));
         assert_eq!(rt; refused(rt.alloc(), &file), wanted, "{kind}");
     }
     Ok(())
@@ -65,11 +64,7 @@ fn types_that_do_not_fit(rt: HostRuntime) -> Result<(), Fail> {
         (59, FaultKind::RelocMismatch),
     ] {
         let file = typed_file(rt.alloc(), kind)?;
-        assert_eq!(rt;
-            refused(rt.alloc(), &file),
-            Some((wanted, 0x10078)),
-            "{kind}"
-        );
+        assert_eq!(rt; refused(rt.alloc(), &file), Some((wanted, CODE)), "{kind}");
     }
     Ok(())
 }
@@ -80,13 +75,13 @@ fn types_that_do_not_fit(rt: HostRuntime) -> Result<(), Fail> {
 fn a_symbol_past_the_table(rt: HostRuntime) -> Result<(), Fail> {
     let code = exit7_code(rt.alloc())?;
     let mut file = program(rt.alloc(), &code, &[])?;
-    file.symbols.push(Symbol::label(b"p", 0x10078))?;
-    file.relocations.push(of_code(0x10078, 0, b"p", 0))?;
+    file.symbols.push(Symbol::label(b"p", CODE))?;
+    file.relocations.push(of_code(CODE, 0, b"p", 0))?;
     let mut bytes = file.build(rt.alloc())?;
     let found = accepted(rt.alloc(), &bytes, &[])?;
     assert_eq!(rt; found.funcs.len(), 1);
     patch(&mut bytes, 0x94, &[2]);
-    let wanted = Some((FaultKind::RelocMismatch, 0x10078));
+    let wanted = Some((FaultKind::RelocMismatch, CODE));
     assert_eq!(rt; refused(rt.alloc(), &bytes), wanted);
     Ok(())
 }
@@ -97,10 +92,10 @@ fn an_indirect_function(rt: HostRuntime) -> Result<(), Fail> {
     let mut file = program(rt.alloc(), &code, &[])?;
     file.symbols.push(Symbol {
         kind: STT_GNU_IFUNC,
-        ..Symbol::label(b"f", 0x10080)
+        ..Symbol::label(b"f", CODE + 8)
     })?;
     let bytes = file.build(rt.alloc())?;
-    let wanted = Some((FaultKind::IfuncOrPlt, 0x10080));
+    let wanted = Some((FaultKind::IfuncOrPlt, CODE + 8));
     assert_eq!(rt; refused(rt.alloc(), &bytes), wanted);
     Ok(())
 }

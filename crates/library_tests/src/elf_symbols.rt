@@ -2,6 +2,7 @@
 ghost use Rattle.std.specs.Prelude.{◌<◌};
 
 use crate::elf::refused;
+use elf_image::symbol::SYM_SIZE;
 use elf_image::{cuts, read};
 use rb_bytes::fault::FaultKind;
 use std::alloc::Global;
@@ -19,7 +20,7 @@ const NAME: usize = 6;
 // Where the symbols stand, the first multiple of 8 behind the code, and how many bytes they have.
 const SYMBOLS_AT: u64 = 0x80;
 
-const SYMBOLS: u64 = 24 * (COUNT + 1);
+const SYMBOLS: u64 = SYM_SIZE as u64 * (COUNT + 1);
 
 // How many bytes their names have, which stand behind them, with a zero byte before and after each.
 const TEXTS: u64 = 1 + 7 * COUNT;
@@ -79,7 +80,7 @@ fn a_symbol_whose_name_has_no_end(rt: HostRuntime) -> Result<(), Fail> {
     let alloc = rt.alloc();
     let mut file = file_of_symbols(alloc)?;
     patch(&mut file, (SYMBOLS_AT + SYMBOLS + TEXTS - 1) as usize, b"x");
-    let wanted = Some((FaultKind::Truncated, SYMBOLS_AT + 24 * COUNT));
+    let wanted = Some((FaultKind::Truncated, SYMBOLS_AT + SYM_SIZE as u64 * COUNT));
     assert_eq!(rt; refused(alloc, &file), wanted);
     Ok(())
 }

@@ -3,6 +3,7 @@ use crate::machine::executable::CODE;
 use crate::machine::running::{failing_sink, run_insts, sink, source};
 use rv_code::{Cause, Inst};
 use rv_machine::Stepped;
+use std::alloc::Global;
 use std::test::Fail;
 use test_files::bytes::push_u64s;
 
@@ -42,48 +43,51 @@ const BAD_FILE: u64 = 0xffff_ffff_ffff_fff7;
 
 const NO_SUCH_CALL: u64 = 0xffff_ffff_ffff_ffda;
 
+// What a program stores of a call of this file for this size, where the input is "hello": the buffer and the result.
+fn answer_of(alloc: Global, call: i64, file: i64, size: i64) -> Result<Vec<u8>, Fail> {
+    let mut input = source(alloc, b"hello", &[])?;
+    let mut out = sink(alloc, 100)?;
+    let insts = one_call(call, file, size);
+    let ran = run_insts(
+        alloc,
+        &insts,
+        b"........................",
+        &mut input,
+        &mut out,
+    )?;
+    if (ran.end, ran.steps) != (Stepped::Ended(0), 13) {
+        return Err(Fail::new("it doesn't end after 13 steps"));
+    }
+    Ok(Vec::from_slice(alloc, out.taken())?)
+}
+
 #[test]
 fn calls_answer(rt: HostRuntime) -> Result<(), Fail> {
     let alloc = rt.alloc();
-    let buffers: [&[u8]; 3] = [
-        b"hello...........",
-        b"he..............",
-        b"................",
-    ];
+    let read_five: &[u8] = b"hello...........";
+    let read_two: &[u8] = b"he..............";
+    let read_none: &[u8] = b"................";
     // a call's number, its file, its size, the buffer afterwards, and its result
     for (call, file, size, buffer, result) in [
-        (63, 0, 8, 0, 5),
-        (63, 0, 2, 1, 2),
-        (63, 0, 0, 2, 0),
-        (63, 3, 8, 2, BAD_FILE),
-        (63, 1, 8, 2, BAD_FILE),
-        (64, 0, 8, 2, BAD_FILE),
-        (64, 3, 8, 2, BAD_FILE),
-        (80, 0, 8, 2, NO_SUCH_CALL),
-        (0, 0, 8, 2, NO_SUCH_CALL),
-        (214, 0, 8, 2, 0x51000),
+        (63, 0, 8, read_five, 5),
+        (63, 0, 2, read_two, 2),
+        (63, 0, 0, read_none, 0),
+        (63, 3, 8, read_none, BAD_FILE),
+        (63, 1, 8, read_none, BAD_FILE),
+        (64, 0, 8, read_none, BAD_FILE),
+        (64, 3, 8, read_none, BAD_FILE),
+        (80, 0, 8, read_none, NO_SUCH_CALL),
+        (0, 0, 8, read_none, NO_SUCH_CALL),
+        (214, 0, 8, read_none, 0x51000),
     ] {
-        let mut input = source(alloc, b"hello", &[])?;
-        let mut out = sink(alloc, 100)?;
-        let insts = one_call(call, file, size);
-        let ran = run_insts(
-            alloc,
-            &insts,
-            b"........................",
-            &mut input,
-            &mut out,
-        )?;
-        let mut want = Vec::new(alloc);
-        if let Some(bytes) = buffers.get(buffer) {
-            want.extend_from_slice(bytes)?;
-        }
-        push_u64s(&mut want, &[result])?;
+        let answer = answer_of(alloc, call, file, size)?;
+        let mut wanted = Vec::from_slice(alloc, buffer)?;
+        push_u64s(&mut wanted, &[result])?;
         assert_eq!(rt;
-            (ran.end, ran.steps),
-            (Stepped::Ended(0), 13),
-            "call {call}"
+            answer.as_slice(),
+            wanted.as_slice(),
+            "call {call} of file {file}"
         );
-        assert_eq!(rt; out.taken(), want.as_slice(), "call {call} of file {file}");
     }
     Ok(())
 }
