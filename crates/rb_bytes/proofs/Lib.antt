@@ -3,3 +3,4 @@ pub mod TextAt
 pub mod UnsignedLeb
 pub mod ReaderAnswers
 pub mod SignedLeb
+pub mod DigitValues

@@ -4,7 +4,7 @@ use Rattle.std.proofs.lemmas.List.Sums.{position_or_len_is}
 use Rattle.std.proofs.lemmas.Grind.{common_steps}
 use Rattle.memchr.specs.Find.{IsFirstByte, is_byte}
 use Rattle.rb_bytes.specs.declared.gap.Gap.TheVariants.{Short}
-use Rattle.rb_bytes.specs.Reading.{text_at}
+use Rattle.rb_bytes.specs.Readers.{text_at}
 use Rattle.std.specs.List.{position_or_len}
 use Rattle.std.specs.Prelude.{◌==◌}
 

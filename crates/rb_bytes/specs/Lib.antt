@@ -1,4 +1,6 @@
 pub mod Fault
 pub mod Text
-pub mod Reading
+pub mod Readers
 pub mod Leb
+pub mod Lists
+pub mod Options

@@ -1,6 +1,6 @@
 // A cursor over bytes.
 ghost use Rattle.std.specs.Prelude.{◌≡◌, ◌+◌, ◌<◌, ◌≤◌, length, take, drop, IfOk, IfErr, OnOk, OnErr};
-ghost use Rattle.rb_bytes.specs.Reading.{Reading, Passes, whole_reading, number_at, bytes_at, text_at};
+ghost use Rattle.rb_bytes.specs.Readers.{Reading, Passes, whole_reading, number_read, bytes_at, text_at};
 ghost use Rattle.rb_bytes.specs.Leb.{leb_length, uleb_at, sleb_at};
 ghost use Rattle.rb_bytes.specs.declared.gap.Gap.TheVariants.{Short};
 
@@ -19,7 +19,7 @@ pub struct Cursor<'a> {
 
 impl<'a> Model for Cursor<'a> {
     ghost use Rattle.std.specs.Prelude.{◌+◌, ◌<◌, ◌^◌, length};
-    ghost use Rattle.rb_bytes.specs.Reading.{Reading};
+    ghost use Rattle.rb_bytes.specs.Readers.{Reading};
 
     ghost Value = { Reading };
 
@@ -70,8 +70,8 @@ impl<'a> Cursor<'a> {
 
     /// The next byte. [`Gap::Short`] exactly where none is left.
     pub fn u8(&mut self) -> Result<u8, Gap>
-        ensures read { IfOk result (λ x. number_at 1 self.old.left ≡ Ok (x, self.new.left)) }
-        ensures gap { IfErr result (λ gap. number_at 1 self.old.left ≡ Err gap) }
+        ensures read { IfOk result (λ x. number_read 1 self.old.left ≡ Ok (x, self.new.left)) }
+        ensures gap { IfErr result (λ gap. number_read 1 self.old.left ≡ Err gap) }
         ensures passes { OnOk result (Passes 1 self.old self.new) }
         ensures unchanged { OnErr result (self.new ≡ self.old) }
     {
@@ -81,8 +81,8 @@ impl<'a> Cursor<'a> {
 
     /// The little-endian number in the next two bytes. [`Gap::Short`] exactly where fewer are left.
     pub fn u16(&mut self) -> Result<u16, Gap>
-        ensures read { IfOk result (λ x. number_at 2 self.old.left ≡ Ok (x, self.new.left)) }
-        ensures gap { IfErr result (λ gap. number_at 2 self.old.left ≡ Err gap) }
+        ensures read { IfOk result (λ x. number_read 2 self.old.left ≡ Ok (x, self.new.left)) }
+        ensures gap { IfErr result (λ gap. number_read 2 self.old.left ≡ Err gap) }
         ensures passes { OnOk result (Passes 2 self.old self.new) }
         ensures unchanged { OnErr result (self.new ≡ self.old) }
     {
@@ -92,8 +92,8 @@ impl<'a> Cursor<'a> {
 
     /// The little-endian number in the next four bytes. [`Gap::Short`] exactly where fewer are left.
     pub fn u32(&mut self) -> Result<u32, Gap>
-        ensures read { IfOk result (λ x. number_at 4 self.old.left ≡ Ok (x, self.new.left)) }
-        ensures gap { IfErr result (λ gap. number_at 4 self.old.left ≡ Err gap) }
+        ensures read { IfOk result (λ x. number_read 4 self.old.left ≡ Ok (x, self.new.left)) }
+        ensures gap { IfErr result (λ gap. number_read 4 self.old.left ≡ Err gap) }
         ensures passes { OnOk result (Passes 4 self.old self.new) }
         ensures unchanged { OnErr result (self.new ≡ self.old) }
     {
@@ -104,8 +104,8 @@ impl<'a> Cursor<'a> {
     /// The little-endian number in the next eight bytes. [`Gap::Short`] exactly where fewer are
     /// left.
     pub fn u64(&mut self) -> Result<u64, Gap>
-        ensures read { IfOk result (λ x. number_at 8 self.old.left ≡ Ok (x, self.new.left)) }
-        ensures gap { IfErr result (λ gap. number_at 8 self.old.left ≡ Err gap) }
+        ensures read { IfOk result (λ x. number_read 8 self.old.left ≡ Ok (x, self.new.left)) }
+        ensures gap { IfErr result (λ gap. number_read 8 self.old.left ≡ Err gap) }
         ensures passes { OnOk result (Passes 8 self.old self.new) }
         ensures unchanged { OnErr result (self.new ≡ self.old) }
     {

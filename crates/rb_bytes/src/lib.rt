@@ -6,4 +6,6 @@ pub mod cursor;
 pub mod fault;
 pub mod gap;
 pub mod leb;
+pub mod lists;
+pub mod number;
 pub mod text;

@@ -1,2 +1,2 @@
 pub mod Marks
-pub mod Ranking
+pub mod Ranks

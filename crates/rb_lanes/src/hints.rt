@@ -101,8 +101,8 @@ pub fn count_below(members: &[u64], near: usize, x: u64) -> usize
     search_below(members, x)
 }
 
-// The same, found by a search through all members.
-fn search_below(members: &[u64], x: u64) -> usize
+/// How many members of an ascending list are below `x`, by a search through all.
+pub fn search_below(members: &[u64], x: u64) -> usize
     requires { AllPairs (λ a b. a < b) members.now }
     ensures bound { result ≤ length members.now }
     ensures below { (k : ℕ) (d : ℕ) → k < result → slice_index_or members.now k d < x }

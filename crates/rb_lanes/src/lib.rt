@@ -5,6 +5,6 @@ pub mod hints;
 pub mod marks;
 pub mod ranking;
 
-pub use hints::{Hints, count_below, is_member, is_member_from};
+pub use hints::{Hints, count_below, is_member, is_member_from, search_below};
 pub use marks::length_marks;
 pub use ranking::rank;

@@ -1,6 +1,6 @@
 // How many members of a list are at most a number.
 ghost use Rattle.std.specs.Prelude.{◌≡◌, length};
-ghost use Rattle.rb_lanes.specs.Ranking.{rank};
+ghost use Rattle.rb_lanes.specs.Ranks.{rank};
 
 use std::simd::prelude::*;
 use std::simd::u64x8;

@@ -1,5 +1,5 @@
 use Rattle.std.proofs.Common.{◌+◌, ◌≡◌, length}
-use Rattle.rb_lanes.specs.Ranking.{rank}
+use Rattle.rb_lanes.specs.Ranks.{rank}
 use Rattle.rb_lanes.proofs.ranking.rank.Given as goal
 
 -- what was counted, and what is left to count

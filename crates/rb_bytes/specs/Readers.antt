@@ -25,8 +25,8 @@ abbrev pub bytes_at : ℕ → List ℕ → Result (List ℕ × List ℕ) Gap
 bytes_at n left = if nat_lt (length left) n then Err Short else Ok (take n left, drop n left)
 
 -- the little-endian number in the next n bytes, and the bytes after them
-abbrev pub number_at : ℕ → List ℕ → Result (ℕ × List ℕ) Gap
-number_at n left = if nat_lt (length left) n then Err Short else Ok (little_number n left, drop n left)
+abbrev pub number_read : ℕ → List ℕ → Result (ℕ × List ℕ) Gap
+number_read n left = if nat_lt (length left) n then Err Short else Ok (little_number n left, drop n left)
 
 -- the bytes before the next zero byte, and those after it
 abbrev pub text_at : List ℕ → Result (List ℕ × List ℕ) Gap

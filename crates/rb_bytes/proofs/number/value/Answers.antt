@@ -1,0 +1,19 @@
+use Rattle.rb_bytes.proofs.DigitValues.{appended_none, appended_some, small_value}
+use Rattle.rb_bytes.proofs.number.value.Goals as goal
+
+pub returns-in-None : goal.returns-in-None
+returns-in-None c =
+    appended_none c.args.radix c.loop-c.value c.digit_value.result c.args.digits.now c.loop-c.c-index
+    c.requires.radix c.loop-c-test.true
+    c.loop-c.invariant.0 c.digit_value.ensures c.in-None.ensures
+
+pub loop-c-preserved : goal.loop-c-preserved
+loop-c-preserved c =
+    appended_some c.args.radix c.loop-c.value c.digit_value.result c.in-Some.more c.args.digits.now
+    c.loop-c.c-index c.loop-c-test.true
+    c.loop-c.invariant.0 c.digit_value.ensures c.in-Some.ensures
+
+pub returns : goal.returns
+returns c =
+    small_value c.args.radix c.loop-c.value c.args.digits.now c.loop-c.c-index c.loop-c-test.false
+    c.loop-c.invariant.0 c.loop-c.invariant.1

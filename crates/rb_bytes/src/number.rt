@@ -1,0 +1,93 @@
+// Numbers read from text.
+ghost use Rattle.std.specs.Prelude.{◌≡◌, ◌+◌, ◌*◌, ◌^◌, ◌<◌, ◌≤◌, Some, None, IsTrue, if◌then◌else◌, nat_lt};
+ghost use Rattle.std.specs.Char.{digit_value, is_ascii_digit};
+ghost use Rattle.std.specs.List.{list_all};
+ghost use Rattle.std.specs.Str.Parse.{digits_value};
+ghost use Rattle.rb_bytes.specs.Text.{is_lower_hex_digit, hex_number, decimal_number};
+
+/// The number that 1 to 16 lower-case hexadecimal digits write.
+pub fn hex_number(digits: &[u8]) -> Option<u64>
+    ensures { result ≡ hex_number digits.now }
+{
+    if digits.is_empty() {
+        return None;
+    }
+    if digits.len() > 16 {
+        return None;
+    }
+    if !are_lower_hex(digits) {
+        return None;
+    }
+    value(digits, 16)
+}
+
+/// The number that 1 to 20 decimal digits write, below 2^64.
+pub fn decimal_number(digits: &[u8]) -> Option<u64>
+    ensures { result ≡ decimal_number digits.now }
+{
+    if digits.is_empty() {
+        return None;
+    }
+    if digits.len() > 20 {
+        return None;
+    }
+    if !are_decimal(digits) {
+        return None;
+    }
+    value(digits, 10)
+}
+
+fn are_decimal(digits: &[u8]) -> bool
+    ensures { result ≡ list_all is_ascii_digit digits.now }
+{
+    digits.iter().all(|c| c.is_ascii_digit())
+}
+
+fn are_lower_hex(digits: &[u8]) -> bool
+    ensures { result ≡ list_all is_lower_hex_digit digits.now }
+{
+    digits.iter().all(|c| is_lower_hex_digit(*c))
+}
+
+fn is_lower_hex_digit(c: u8) -> bool
+    ensures { result ≡ is_lower_hex_digit c }
+{
+    c.is_ascii_digit() || (c >= b'a' && c <= b'f')
+}
+
+// The number that digits write, if it is below 2^64.
+fn value(digits: &[u8], radix: u64) -> Option<u64>
+    requires digits { IsTrue (list_all is_lower_hex_digit digits.now) }
+    requires radix { 0 < radix }
+    ensures { result ≡ (if nat_lt (digits_value radix digits.now) (2 ^ 64) then Some (digits_value radix digits.now) else None) }
+{
+    let mut value = 0;
+    for c in digits {
+        match appended(value, radix, digit_value(*c)) {
+            Some(more) => value = more,
+            None => return None,
+        }
+    }
+    Some(value)
+}
+
+// A number with one more digit.
+fn appended(value: u64, radix: u64, digit: u64) -> Option<u64>
+    ensures { result ≡ (if nat_lt (value * radix + digit) (2 ^ 64) then Some (value * radix + digit) else None) }
+{
+    match value.checked_mul(radix) {
+        Some(shifted) => shifted.checked_add(digit),
+        None => None,
+    }
+}
+
+fn digit_value(c: u8) -> u64
+    requires { IsTrue (is_lower_hex_digit c) }
+    ensures { result ≡ digit_value c }
+{
+    if c < b'a' {
+        (c - b'0') as u64
+    } else {
+        (c - b'a') as u64 + 10
+    }
+}
