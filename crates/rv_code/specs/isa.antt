@@ -1,6 +1,6 @@
 pub mod Action
 pub mod Bits
-pub mod Decoding
+pub mod InstBytes
 pub mod Extension
 pub mod FullRows
 pub mod HalfRows

@@ -1,8 +1,9 @@
+pub mod BlockOrders
 pub mod Blocks
 pub mod Edges
 pub mod Flow
 pub mod FunctionLists
-pub mod InFunctions
+pub mod FunctionMembers
 pub mod Lists
 pub mod ProgramCode
 pub mod WorstSizes

@@ -1,11 +1,12 @@
 // Where control goes after an instruction. ISA manual, section 2.5.
-ghost use Rattle.std.specs.Prelude.{◌≡◌};
+ghost use Rattle.std.specs.Prelude.{◌≡◌, ◌+◌, ◌<◌, ◌^◌, length};
 ghost use Rattle.rv_code.specs.isa.Action.{action_of};
 ghost use Rattle.rv_code.specs.isa.TwosComplement.{unsigned64};
 ghost use Rattle.rv_code.specs.layout.Flow as flow;
 ghost use Rattle.rv_code.specs.machine.Machine.{plus};
 
 use crate::inst::Inst;
+use crate::placed::{Func, Placed};
 use crate::register::ZERO;
 
 /// Where a branch, or a JAL, at an address goes.
@@ -71,4 +72,17 @@ pub fn falls(inst: &Inst, is_last: bool) -> bool
     ensures { result ≡ flow.falls (action_of inst.now) is_last }
 {
     !(is_plain_jump(inst) || (is_call(inst) && is_last))
+}
+
+/// The address into which the instruction at a place of a function falls, if it does.
+pub fn fall_target(func: &Func, place: usize, inst: &Placed) -> Option<u64>
+    requires inside { place < length func.now.insts.items }
+    requires room { inst.now.addr + inst.now.len < 2 ^ 64 }
+    ensures { result ≡ flow.fall_target func.now place inst.now }
+{
+    if falls(&inst.inst, place + 1 == func.insts.len()) {
+        Some(inst.addr + inst.len as u64)
+    } else {
+        None
+    }
 }

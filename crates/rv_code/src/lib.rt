@@ -22,7 +22,7 @@ pub use cell::{CellKind, CodeCell};
 pub use inst::Inst;
 pub use layout::{Chains, Emitted, Form, Plan, Size};
 pub use op::Op;
-pub use placed::{Block, Func, Placed, Role, Width};
+pub use placed::{Block, Func, InstPlace, Placed, Role, Width};
 pub use register::{RETURN_ADDRESS, STACK_POINTER, ZERO};
 pub use value::{op_value, taken};
 pub use worst_sizes::worst_size_of_block;

@@ -57,6 +57,15 @@ pub struct Func {
     pub insts: Vec<Placed>,
 }
 
+/// Where an instruction stands among functions.
+#[derive(Clone, Copy, PartialEq, Eq, Debug)]
+pub struct InstPlace {
+    /// The function's place in the list of functions.
+    pub func: usize,
+    /// The instruction's place in the function's `insts`.
+    pub inst: usize,
+}
+
 /// A basic block: a stretch of one function's instructions that is entered only at its first.
 #[derive(Clone, Copy, PartialEq, Eq, Debug)]
 pub struct Block {

@@ -1,7 +1,7 @@
 // The arithmetic of an instruction, on operands that the caller has read.
 ghost use Rattle.std.specs.Prelude.{◌≡◌};
 ghost use Rattle.rv_code.specs.isa.Action.{action_of};
-ghost use Rattle.rv_code.specs.isa.Value.{computed, is_taken};
+ghost use Rattle.rv_code.specs.isa.Value.{operation_value, is_taken};
 
 use crate::action::Action;
 use crate::inst::Inst;
@@ -9,7 +9,7 @@ use crate::inst::Inst;
 /// The result of an operation on two registers or on a register and a constant, where `a` is the
 /// value of rs1 and `b` that of rs2 or the immediate as a word. It is 0 for other instructions.
 pub fn op_value(inst: &Inst, a: u64, b: u64) -> u64
-    ensures { result ≡ computed (action_of inst.now) a b }
+    ensures { result ≡ operation_value (action_of inst.now) a b }
 {
     match inst.action() {
         Action::Compute { op, .. } => op.apply(a, b),

@@ -6,6 +6,9 @@ use crate::action::Action;
 use crate::flow::falls;
 use crate::placed::{Block, Func, Placed};
 
+/// The most bytes of worst size in which every JAL reaches.
+pub const NEAR_LIMIT: u128 = 1_000_000;
+
 /// The most bytes that a block takes wherever it is put; none if it is of no function.
 pub fn worst_size_of_block(funcs: &[Func], block: &Block) -> u128
     ensures is { result ≡ worst.worst_size_of_block funcs.now block.now }

@@ -1,6 +1,6 @@
 // The instruction at the front of two halfwords.
 ghost use Rattle.std.specs.Prelude.{◌≡◌, ℕ, IfSome, IfNone};
-ghost use Rattle.rv_code.specs.isa.Decoding.{Decodes};
+ghost use Rattle.rv_code.specs.isa.InstBytes.{Decodes};
 ghost use Rattle.rv_code.specs.declared.inst.Inst.{Inst};
 
 use crate::full::decode_full;

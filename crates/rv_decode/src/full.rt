@@ -2,10 +2,10 @@
 ghost use Rattle.std.specs.Prelude.{◌≡◌};
 ghost use Rattle.rv_code.specs.isa.Bits.{field};
 ghost use Rattle.rv_code.specs.isa.FullRows.{IsFull};
-ghost use Rattle.rv_decode.specs.internal.Finding.{FindsOnly};
+ghost use Rattle.rv_decode.specs.internal.OnlyInst.{FindsOnly};
 
 use crate::field::{funct3, imm_b, imm_i, imm_j, rd, rs1, rs2};
-use crate::integer::{op, op_32, op_imm, op_imm_32, upper_immediate};
+use crate::integer::{op, op_imm, op_imm_32, upper_immediate};
 use crate::memory::{load, store};
 use rv_code::Inst;
 use rv_code::field::bits;
@@ -26,8 +26,7 @@ pub fn decode_full(word: u32) -> Option<Inst>
         STORE => store(word),
         OP_IMM => op_imm(word),
         OP_IMM_32 => op_imm_32(word),
-        OP => op(word),
-        OP_32 => op_32(word),
+        OP | OP_32 => op(word),
         MISC_MEM => fence(word),
         SYSTEM => system(word),
         _ => None,

@@ -2,7 +2,7 @@
 ghost use Rattle.std.specs.Prelude.{◌≡◌};
 ghost use Rattle.rv_code.specs.isa.Bits.{field};
 ghost use Rattle.rv_code.specs.isa.HalfRows.{IsHalf};
-ghost use Rattle.rv_decode.specs.internal.Finding.{FindsOnly};
+ghost use Rattle.rv_decode.specs.internal.OnlyInst.{FindsOnly};
 
 use crate::compressed::{addi4spn_imm, double_offset, lower_register, upper_register, word_offset};
 use crate::quadrant1::quadrant1;

@@ -2,7 +2,7 @@
 ghost use Rattle.std.specs.Prelude.{◌≡◌};
 ghost use Rattle.rv_code.specs.isa.Bits.{field};
 ghost use Rattle.rv_code.specs.isa.FullRows.{IsFull};
-ghost use Rattle.rv_decode.specs.internal.Finding.{FindsOnly};
+ghost use Rattle.rv_decode.specs.internal.OnlyInst.{FindsOnly};
 
 use crate::field::{funct3, imm_i, imm_s, rd, rs1, rs2};
 use rv_code::Inst;

@@ -3,7 +3,7 @@
 ghost use Rattle.std.specs.Prelude.{◌≡◌};
 ghost use Rattle.rv_code.specs.isa.Bits.{field};
 ghost use Rattle.rv_code.specs.isa.HalfRows.{IsHalf};
-ghost use Rattle.rv_decode.specs.internal.Finding.{FindsOnly};
+ghost use Rattle.rv_decode.specs.internal.OnlyInst.{FindsOnly};
 
 use crate::compressed::{
     addi16sp_imm, branch_offset, jump_offset, lower_register, signed_six, six_bits, upper_register,

@@ -3,7 +3,7 @@
 ghost use Rattle.std.specs.Prelude.{◌≡◌, ◌⊎◌};
 ghost use Rattle.rv_code.specs.isa.Bits.{field};
 ghost use Rattle.rv_code.specs.isa.HalfRows.{IsHalf};
-ghost use Rattle.rv_decode.specs.internal.Finding.{FindsOnly};
+ghost use Rattle.rv_decode.specs.internal.OnlyInst.{FindsOnly};
 
 use crate::compressed::{
     load_double_sp, load_word_sp, rs2, six_bits, store_double_sp, store_word_sp,

@@ -9,7 +9,7 @@ use Rattle.rv_code.specs.isa.HalfRows.{C_SDSP}
 use Rattle.rv_code.specs.declared.inst.Inst.{Inst}
 use Rattle.rv_code.specs.declared.inst.Inst.TheVariants.{Lui, Jal, Jalr, Beq, Bne, Lw, Ld, Sw, Sd, Addi, Andi, Slli, Srli, Srai}
 use Rattle.rv_code.specs.declared.inst.Inst.TheVariants.{Add, Sub, Xor, Or, And, Addiw, Addw, Subw, Ebreak}
-use Rattle.rv_encode.specs.internal.Finding.{Finds, FindsHalf}
+use Rattle.rv_encode.specs.internal.SomeNumber.{Finds, FindsHalf}
 use Rattle.rv_encode.specs.internal.HalfForms.{IsRowOf, HasForm}
 
 -- the first of two answers that isn't None

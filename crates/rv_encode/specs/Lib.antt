@@ -1,3 +1,3 @@
-pub mod Encoding
-pub mod Fits
+pub mod FittingOperands
+pub mod InstWords
 pub mod internal

@@ -1,2 +1,3 @@
-pub mod Finding
+pub mod Computations
 pub mod HalfForms
+pub mod SomeNumber

@@ -2,7 +2,7 @@
 ghost use Rattle.std.specs.Prelude.{◌<◌};
 ghost use Rattle.rv_code.specs.isa.HalfRows.{C_SLLI, C_SRLI, C_SRAI, C_ANDI, C_MV, C_ADD};
 ghost use Rattle.rv_code.specs.declared.inst.Inst.TheVariants.{Slli, Srli, Srai, Andi, Add};
-ghost use Rattle.rv_encode.specs.internal.Finding.{Finds, FindsRow};
+ghost use Rattle.rv_encode.specs.internal.SomeNumber.{Finds, FindsRow};
 ghost use Rattle.rv_encode.specs.internal.HalfForms.{IsPairOf};
 
 use crate::layout::{arithmetic, registers, six_bits};

@@ -1,7 +1,7 @@
 // The two-byte computations with a constant. ISA manual, sections 26.5.1 and 26.5.2.
 ghost use Rattle.rv_code.specs.isa.HalfRows.{C_ADDI, C_ADDIW, C_LI, C_ADDI16SP, C_ADDI4SPN, C_LUI};
 ghost use Rattle.rv_code.specs.declared.inst.Inst.TheVariants.{Addi, Addiw, Lui};
-ghost use Rattle.rv_encode.specs.internal.Finding.{FindsRow};
+ghost use Rattle.rv_encode.specs.internal.SomeNumber.{FindsRow};
 
 use crate::layout::six_bits;
 use crate::operand::{five_bits, multiple, three_bits, unsigned};

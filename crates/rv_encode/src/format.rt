@@ -5,7 +5,7 @@
 ghost use Rattle.std.specs.Prelude.{◌<◌, ◌^◌, IsSome};
 ghost use Rattle.rv_code.specs.isa.Reach.{IsWithin, Reaches};
 ghost use Rattle.rv_code.specs.isa.FullRows.{FormatR, FormatI, FormatS, FormatB, FormatU, FormatJ, Shift64, Shift32};
-ghost use Rattle.rv_encode.specs.internal.Finding.{Finds};
+ghost use Rattle.rv_encode.specs.internal.SomeNumber.{Finds};
 
 use crate::operand::{five_bits, multiple, unsigned};
 use rv_code::field::bits;

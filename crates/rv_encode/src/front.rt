@@ -1,8 +1,8 @@
 // Instructions of either width.
 ghost use Rattle.std.specs.Prelude.{◌≡◌, ℕ, Option, IsSome, IfSome, IfNone};
-ghost use Rattle.rv_encode.specs.Fits.{Fits};
-ghost use Rattle.rv_code.specs.isa.Decoding.{Decodes};
-ghost use Rattle.rv_encode.specs.Encoding.{Encodes, width_of, bytes};
+ghost use Rattle.rv_encode.specs.FittingOperands.{Fits};
+ghost use Rattle.rv_code.specs.isa.InstBytes.{Decodes};
+ghost use Rattle.rv_encode.specs.InstWords.{Encodes, width_of, bytes};
 
 use crate::full::encode_full;
 use crate::half::encode_half;

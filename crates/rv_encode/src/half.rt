@@ -1,7 +1,7 @@
 // Two-byte instructions.
 ghost use Rattle.std.specs.Prelude.{IsSome};
-ghost use Rattle.rv_encode.specs.Fits.{FitsHalf};
-ghost use Rattle.rv_encode.specs.internal.Finding.{FindsHalf};
+ghost use Rattle.rv_encode.specs.FittingOperands.{FitsHalf};
+ghost use Rattle.rv_encode.specs.internal.SomeNumber.{FindsHalf};
 
 use crate::arithmetic::{arithmetic_pair, c_add, c_andi, c_mv, c_slli, c_srai, c_srli};
 use crate::constant::{c_addi, c_addi4spn, c_addi16sp, c_addiw, c_li, c_lui};

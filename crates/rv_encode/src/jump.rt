@@ -3,7 +3,7 @@ ghost use Rattle.std.specs.Prelude.{◌≡◌, ◌<◌, ◌≤◌, ◌^◌, IsSo
 ghost use Rattle.rv_code.specs.isa.Reach.{Reaches};
 ghost use Rattle.rv_code.specs.isa.HalfRows.{C_J, C_JR, C_JALR};
 ghost use Rattle.rv_code.specs.declared.inst.Inst.TheVariants.{Jal, Jalr};
-ghost use Rattle.rv_encode.specs.internal.Finding.{Finds, FindsRow};
+ghost use Rattle.rv_encode.specs.internal.SomeNumber.{Finds, FindsRow};
 ghost use Rattle.rv_encode.specs.internal.HalfForms.{ComparesWithZero};
 
 use crate::layout::registers;

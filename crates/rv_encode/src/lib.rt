@@ -7,6 +7,7 @@ mod format;
 mod front;
 mod full;
 mod half;
+mod integer;
 mod jump;
 mod layout;
 mod memory;

@@ -2,7 +2,7 @@
 ghost use Rattle.std.specs.Prelude.{◌≡◌, ◌≢◌, ◌⊎◌, ◌<◌, ◌≤◌, IfSome, IfNone};
 ghost use Rattle.rv_code.specs.isa.HalfRows.{C_LWSP, C_LDSP, C_SWSP, C_SDSP};
 ghost use Rattle.rv_code.specs.declared.inst.Inst.TheVariants.{Lw, Ld, Sw, Sd};
-ghost use Rattle.rv_encode.specs.internal.Finding.{Finds, FindsRow};
+ghost use Rattle.rv_encode.specs.internal.SomeNumber.{Finds, FindsRow};
 ghost use Rattle.rv_encode.specs.internal.HalfForms.{AccessesWord, AccessesDouble};
 
 use crate::operand::{five_bits, multiple, three_bits};

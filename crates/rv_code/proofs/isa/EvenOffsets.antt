@@ -1,15 +1,13 @@
 -- The offsets of decoded jumps and branches are even.
 use Rattle.std.proofs.Common.{◌≡◌, ℕ, ◌+◌, ◌*◌, ◌%◌, ◌^◌, ◌<◌, ◌≤◌, Option, Some, None, sym, subst, arith, inl, inr, ℤ, pos, ◌-ℤ◌}
-use Rattle.std.proofs.Common.{refl, Bool, true, false, cond}
+use Rattle.std.proofs.Common.{refl, Bool, true, false}
 use Rattle.std.specs.Prelude.{nat_lt, if◌then◌else◌}
 use Rattle.std.proofs.lemmas.Int.{ints}
-use Rattle.std.proofs.lemmas.Bool.{ltb-true, ltb-false}
 use Rattle.rv_code.specs.isa.Bits.{field}
-use Rattle.rv_code.specs.isa.Bits.{signed_by, signed, imm_j, imm_b}
+use Rattle.rv_code.specs.isa.Bits.{signed_by, imm_j, imm_b}
 use Rattle.rv_code.specs.isa.FullRows.{IsFull}
 use Rattle.rv_code.specs.isa.HalfRows.{Row, expansion, jump_offset, branch_offset, C_J, C_BEQZ, C_BNEZ}
-use Rattle.rv_code.specs.isa.HalfRows as row
-use Rattle.rv_code.specs.isa.Decoding.{Decodes}
+use Rattle.rv_code.specs.isa.InstBytes.{Decodes}
 use Rattle.rv_code.specs.isa.TwosComplement.{unsigned64}
 use Rattle.rv_code.specs.declared.inst.Inst.{Inst}
 use Rattle.rv_code.specs.declared.inst.Inst.TheVariants.{Jal, Beq, Bne, Blt, Bge, Bltu, Bgeu}

@@ -5,7 +5,7 @@ use Rattle.std.proofs.lemmas.List.Elements.{Contains-get_or}
 use Rattle.rv_code.specs.declared.placed.Func.{Func}
 use Rattle.rv_code.specs.declared.placed.Block.{Block}
 use Rattle.rv_code.specs.layout.Blocks.{AreBlocks, IsBlockOf, func_of}
-use Rattle.rv_code.specs.layout.InFunctions.{IsOfFunction}
+use Rattle.rv_code.specs.layout.FunctionMembers.{IsOfFunction}
 use Rattle.rv_code.specs.layout.ProgramCode.{ProgramCode}
 
 -- each has some of its function's instructions

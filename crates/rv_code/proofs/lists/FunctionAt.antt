@@ -11,7 +11,7 @@ use Rattle.std.proofs.lemmas.List.Quantifiers.{position-Some}
 use Rattle.std.proofs.lemmas.Option.{get_or_from_slice_get, slice_get_within}
 use Rattle.rv_code.specs.declared.placed.Func.{Func}
 use Rattle.rv_code.specs.layout.FunctionLists.{AreLaidOut}
-use Rattle.rv_code.specs.layout.InFunctions.{holds, function_at}
+use Rattle.rv_code.specs.layout.FunctionMembers.{function_at, func_holds}
 
 pub ends_rise : (funcs : List Func) → AreLaidOut funcs → IsNonDecreasingBy (λ f. f.end) funcs
 ends_rise funcs are i j d le lt = ⊎_elim
@@ -47,9 +47,9 @@ pub function_at-found : (funcs : List Func) (a k : ℕ) (d : Func) → IsAbove f
     (get_or funcs k d).start ≤ a → function_at funcs a ≡ Some k
 function_at-found funcs a k d is lt low =
     let high = is.high k d (omega arith) lt in
-    let first = position_or_len_is (holds a) funcs k d is.within (λ j j_lt. above a (get_or funcs j d).start
+    let first = position_or_len_is (func_holds a) funcs k d is.within (λ j j_lt. above a (get_or funcs j d).start
     (get_or funcs j d).end (is.low j d j_lt)) (λ _. held a (get_or funcs k d).start (get_or funcs k d).end low high) in
-    some_below (position_or_len (holds a) funcs) (length funcs) k first lt
+    some_below (position_or_len (func_holds a) funcs) (length funcs) k first lt
 
 -- none of the functions above starts at the address or below it
 pub function_at-absent : (funcs : List Func) (a k : ℕ) → AreLaidOut funcs → IsAbove funcs a k → ((d : Func) →
@@ -57,7 +57,7 @@ pub function_at-absent : (funcs : List Func) (a k : ℕ) → AreLaidOut funcs �
 function_at-absent [] a k are is high = refl
 function_at-absent (f ∷ fs) a k are is high =
     let funcs = f ∷ fs in
-    let low : (j : ℕ) → j < length funcs → holds a (get_or funcs j f) ≡ false = λ j lt. ⊎_elim
+    let low : (j : ℕ) → j < length funcs → func_holds a (get_or funcs j f) ≡ false = λ j lt. ⊎_elim
     (λ (less : j < k). above a (get_or funcs j f).start (get_or funcs j f).end (is.low j f less))
     (λ (more : k ≤ j). below a (get_or funcs j f).start (get_or funcs j f).end (
     let first = high f (omega arith) in ⊎_elim
@@ -66,7 +66,7 @@ function_at-absent (f ∷ fs) a k are is high =
     (omega arith)).has_bytes in omega arith)
     (cases_eq j k)))
     (cases_lt j k) in
-    none_past (position_or_len (holds a) funcs) (length funcs) (position_or_len_is (holds a) funcs (length funcs) f
+    none_past (position_or_len (func_holds a) funcs) (length funcs) (position_or_len_is (func_holds a) funcs (length funcs) f
     (omega arith) low (λ lt. absurd (omega arith)))
 
 above_test : (n a : ℕ) → nat_le n a ≡ false → a < n
@@ -86,17 +86,17 @@ above_from funcs a k within point = record {
 
 -- a function that holds an address is the one that is found
 pub function_at-holds : (funcs : List Func) (a f g : ℕ) (func : Func) → AreLaidOut funcs → slice_get funcs f ≡ Some func →
-    holds a func ≡ true → function_at funcs a ≡ Some g → g ≡ f
+    func_holds a func ≡ true → function_at funcs a ≡ Some g → g ≡ f
 function_at-holds funcs a f g func are is in_f found =
     let f_in = slice_get_within funcs f func is in
     let at = get_or_from_slice_get funcs f func func is in
-    let first = position-Some (holds a) funcs g func found in
+    let first = position-Some (func_holds a) funcs g func found in
     let bounds = held_bounds a func.start func.end in_f in
     let there = held_bounds a (get_or funcs g func).start (get_or funcs g func).end first.1 in
     ⊎_elim
     (λ (less : f < g).
-    let no : holds a func ≡ false = ap (holds a) (sym at) ∙ first.2 f less in
-    absurd (no_both (holds a func) in_f no))
+    let no : func_holds a func ≡ false = ap (func_holds a) (sym at) ∙ first.2 f less in
+    absurd (no_both (func_holds a func) in_f no))
     (λ (more : g ≤ f). ⊎_elim
     (λ (e : g ≡ f). e)
     (λ (ne : g ≢ f).
@@ -110,9 +110,9 @@ function_at-holds funcs a f g func are is in_f found =
     no_both b yes_it no_it = cc
 
 pub function_at-within : (funcs : List Func) (a g : ℕ) (d : Func) → function_at funcs a ≡ Some g →
-    (g < length funcs) × (holds a (get_or funcs g d) ≡ true)
-function_at-within funcs a g d found = let p = position-Some (holds a) funcs g d found in (p.0, p.1)
+    (g < length funcs) × (func_holds a (get_or funcs g d) ≡ true)
+function_at-within funcs a g d found = let p = position-Some (func_holds a) funcs g d found in (p.0, p.1)
 
 pub function_at-inside : (funcs : List Func) (a g : ℕ) → function_at funcs a ≡ Some g → g < length funcs
 function_at-inside [] a g found = absurd (cc)
-function_at-inside (f ∷ fs) a g found = (position-Some (holds a) (f ∷ fs) g f found).0
+function_at-inside (f ∷ fs) a g found = (position-Some (func_holds a) (f ∷ fs) g f found).0

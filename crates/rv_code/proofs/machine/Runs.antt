@@ -1,5 +1,5 @@
 -- Runs of any machine.
-use Rattle.std.proofs.Common.{◌≡◌, ℕ, suc, ◌+◌, List, [], ◌++◌, sym, subst, arith, append_assoc}
+use Rattle.std.proofs.Common.{ℕ, suc, ◌+◌, List, [], ◌++◌, sym, subst, arith, append_assoc}
 use Rattle.std.proofs.lemmas.List.{append-nil}
 use Rattle.rv_code.specs.machine.Machine.{Event, events, Outcome, SoFar, starts, more}
 

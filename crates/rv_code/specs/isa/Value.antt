@@ -5,9 +5,9 @@ use Rattle.rv_code.specs.declared.action.Action.TheVariants.{Compute, Branch}
 use Rattle.rv_code.specs.isa.Op.{apply, holds}
 
 -- an operation's result, and 0 for what isn't one
-abbrev pub computed : Action → ℕ → ℕ → ℕ
-computed (Compute op rd left right) a b = apply op a b
-computed _ a b = 0
+abbrev pub operation_value : Action → ℕ → ℕ → ℕ
+operation_value (Compute op rd left right) a b = apply op a b
+operation_value _ a b = 0
 
 -- What isn't a conditional branch is never taken.
 abbrev pub is_taken : Action → ℕ → ℕ → Bool

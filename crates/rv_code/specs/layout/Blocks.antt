@@ -1,5 +1,6 @@
 -- Basic blocks: where they begin, and the list of them.
 use Rattle.std.specs.Prelude.{◌≡◌, ◌⊎◌, ℕ, ◌+◌, ◌<◌, ◌≤◌, false, List, Option, IsTrue, IsSomeAnd, length, slice_get}
+use Rattle.std.specs.Option.{option_map_or}
 use Rattle.rv_code.specs.declared.placed.Placed.{Placed}
 use Rattle.rv_code.specs.declared.placed.Func.{Func}
 use Rattle.rv_code.specs.declared.placed.Block.{Block}
@@ -14,6 +15,14 @@ inst_at func i = slice_get func.insts.items i
 -- the function of a block
 abbrev pub func_of : List Func → Block → Option Func
 func_of funcs b = slice_get funcs b.func
+
+-- the address of the i-th instruction of a block's function
+abbrev pub inst_address : List Func → Block → ℕ → ℕ
+inst_address funcs b i = option_map_or (λ func. option_map_or (λ p. p.addr) (inst_at func i) 0) (func_of funcs b) 0
+
+-- the address at which a block begins
+abbrev pub block_start : List Func → Block → ℕ
+block_start funcs b = inst_address funcs b b.first
 
 -- a block ends with it: a conditional branch, or a jump that isn't a call
 abbrev pub EndsBlock : Placed → Type 0

@@ -32,18 +32,21 @@ pub record IsTablePair (funcs : List Func) (cells : List CodeCell) (jump target 
   pub goes_to : Any (λ p. p.addr ≡ target) func.insts.items
   pub named : Any (λ c. CellNames c target) cells
 
+abbrev pub IsPairOf : List Func → List CodeCell → ℕ × ℕ → Type 0
+IsPairOf funcs cells p = IsTablePair funcs cells p.0 p.1
+
 -- all such pairs, in order
 abbrev pub AreTablePairs : List Func → List CodeCell → List (ℕ × ℕ) → Type 0
-AreTablePairs funcs cells pairs = ListsPairs (λ p. IsTablePair funcs cells p.0 p.1) pairs
+AreTablePairs funcs cells pairs = ListsPairs (IsPairOf funcs cells) pairs
 
 -- Edges.
 
 -- The last instruction of a block leads to an address: its branch or jump goes there, it falls there, or it
--- is a table jump that goes with it. A call's target isn't led to.
-pub data LeadsTo (funcs : List Func) (cells : List CodeCell) (func : Func) (i : ℕ) (p : Placed) (a : ℕ) : Type 0 where
-  jumps : EndsBlock p → target_of p ≡ Some a → LeadsTo funcs cells func i p a
-  falls_into : IsTrue (falls_at func i p) → p.addr + p.len ≡ a → LeadsTo funcs cells func i p a
-  by_table : IsTablePair funcs cells p.addr a → LeadsTo funcs cells func i p a
+-- is an indirect jump and a table leads it there, as these pairs say. A call's target isn't led to.
+pub data LeadsTo (IsPair : ℕ × ℕ → Type 0) (func : Func) (i : ℕ) (p : Placed) (a : ℕ) : Type 0 where
+  jumps : EndsBlock p → target_of p ≡ Some a → LeadsTo IsPair func i p a
+  falls_into : IsTrue (falls_at func i p) → p.addr + p.len ≡ a → LeadsTo IsPair func i p a
+  by_table : IsPair (p.addr, a) → LeadsTo IsPair func i p a
 
 -- a block begins with the instruction at an address
 abbrev pub BeginsAt : List Func → Block → ℕ → Type 0
@@ -54,7 +57,8 @@ pub record IsEdge (funcs : List Func) (cells : List CodeCell) (s t : Block) : Ty
   pub one_function : s.func ≡ t.func
   pub to : ℕ
   pub begins : BeginsAt funcs t to
-  pub leads : IsSomeAnd (func_of funcs s) (λ func. IsSomeAnd (inst_at func s.last) (λ p. LeadsTo funcs cells func s.last p to))
+  pub leads : IsSomeAnd (func_of funcs s)
+      (λ func. IsSomeAnd (inst_at func s.last) (λ p. LeadsTo (IsPairOf funcs cells) func s.last p to))
 
 -- the same of blocks by their places in a list of blocks
 abbrev pub IsEdgeIn : List Func → List CodeCell → List Block → ℕ × ℕ → Type 0

@@ -1,6 +1,7 @@
 -- Where control goes after an instruction: calls, jumps, targets, and what falls into the next one.
 -- ISA manual, section 2.5.
-use Rattle.std.specs.Prelude.{ℕ, ◌+◌, ◌==◌, ◌&&◌, ◌||◌, Bool, true, false, not, Option, Some, None, List, length, flat_map, find}
+use Rattle.std.specs.Prelude.{ℕ, ◌+◌, ◌==◌, ◌&&◌, ◌||◌, if◌then◌else◌, Bool, true, false, not, Option, Some, None, List, length}
+use Rattle.std.specs.Prelude.{flat_map, find}
 use Rattle.rv_code.specs.declared.action.Action.{Action}
 use Rattle.rv_code.specs.declared.action.Action.TheVariants.{Branch, Jump, JumpTo}
 use Rattle.rv_code.specs.declared.placed.Placed.{Placed}
@@ -44,9 +45,17 @@ action_at p = action_of p.inst
 abbrev pub target_of : Placed → Option ℕ
 target_of p = target p.addr (action_at p)
 
+-- A conditional branch, or a jump of two bytes (C.J), reaches less far than a JAL.
+abbrev pub is_short : Placed → Bool
+is_short p = is_branch (action_at p) || (p.len == 2)
+
 -- the same of the i-th instruction of a function
 abbrev pub falls_at : Func → ℕ → Placed → Bool
 falls_at func i p = falls (action_at p) (i + 1 == length func.insts.items)
+
+-- the address into which it falls, if it does
+abbrev pub fall_target : Func → ℕ → Placed → Option ℕ
+fall_target func i p = if falls_at func i p then Some (p.addr + p.len) else None
 
 -- the instructions of functions, in order
 abbrev pub insts_of : List Func → List Placed

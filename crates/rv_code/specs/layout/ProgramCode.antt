@@ -33,6 +33,9 @@ pub record ProgramCode : Type 0 where
   pub cells : List CodeCell
   pub entry : ℕ
 
+abbrev pub program_code : List Func → List (ℕ × Role) → List CodeCell → ℕ → ProgramCode
+program_code funcs roles cells entry = record { funcs = funcs; roles = roles; cells = cells; entry = entry }
+
 -- A code address is the start of an instruction of a function.
 abbrev pub is_code_address : List Func → ℕ → Bool
 is_code_address funcs a = is_some (placed_at funcs a)

@@ -11,7 +11,7 @@ use Rattle.rv_code.specs.declared.action.Action.{Action}
 use Rattle.rv_code.specs.declared.action.Action.TheVariants.{Compute, Branch, Jump, JumpTo, Upper, UpperPc, Load, Store, Fence}
 use Rattle.rv_code.specs.declared.action.Action.TheVariants.{SystemCall, Breakpoint}
 use Rattle.rv_code.specs.isa.Action.{action_of}
-use Rattle.rv_code.specs.isa.Decoding.{Decodes}
+use Rattle.rv_code.specs.isa.InstBytes.{Decodes}
 use Rattle.rv_code.specs.isa.Op.{apply, holds}
 use Rattle.rv_code.specs.isa.Extension.{bytes_of, extended}
 use Rattle.rv_code.specs.isa.TwosComplement.{unsigned64}

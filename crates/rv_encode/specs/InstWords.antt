@@ -1,6 +1,6 @@
 -- Which words an instruction has.
 use Rattle.std.specs.Prelude.{ℕ, ◌/◌, ◌%◌, ◌^◌, Option, Some}
-use Rattle.rv_code.specs.isa.Decoding.{Decodes}
+use Rattle.rv_code.specs.isa.InstBytes.{Decodes}
 use Rattle.rv_code.specs.declared.inst.Inst.{Inst}
 use Rattle.rv_code.specs.declared.placed.Width.{Width}
 use Rattle.rv_code.specs.declared.placed.Width.TheVariants as width
