@@ -1,5 +1,6 @@
 pub mod CutLists
 pub mod Extents
 pub mod Folds
+pub mod HeaderFields
 pub mod SegmentExtents
 pub mod TextEnds

@@ -1,9 +1,12 @@
 // A file that was read.
-ghost use Rattle.std.specs.Prelude.{ℕ, ◌≡◌, ◌<◌, ◌≤◌, ◌+◌, All, IsTrue, length};
+ghost use Rattle.std.specs.Prelude.{ℕ, ◌≡◌, ◌<◌, ◌≤◌, ◌+◌, ◌^◌, All, IsTrue, length};
 ghost use Rattle.std.specs.List.Sorted.{IsNonDecreasingBy};
+ghost use Rattle.elf_image.specs.faults.Truncation.{HasHeader};
 ghost use Rattle.elf_image.specs.memory.Image.{has_memory, segment_of, LoadOnce};
 ghost use Rattle.elf_image.specs.declared.relocation.TheConstants.{SHT_RELA};
 
+use crate::image::{segment_among, segment_byte};
+use crate::named::{names_debug, names_frames};
 use crate::number::is_set;
 use crate::section::{SHF_ALLOC, SHF_COMPRESSED, SHF_EXECINSTR};
 use crate::segment::Segment;
@@ -37,7 +40,7 @@ pub struct Section<'a> {
 impl<'a> Section<'a> {
     ghost use Rattle.elf_image.specs.file.Sections.{holds_code};
     ghost use Rattle.elf_image.specs.faults.FileFaults.{is_compressed};
-    ghost use Rattle.elf_image.specs.file.SectionNames.{is_loaded};
+    ghost use Rattle.elf_image.specs.file.SectionNames.{is_called, is_loaded, is_meant_by};
 
     /// Whether the section is loaded.
     pub fn is_loaded(&self) -> bool
@@ -58,6 +61,26 @@ impl<'a> Section<'a> {
         ensures { result ≡ is_compressed self.now.flags self.now.name.now }
     {
         is_set(self.flags, SHF_COMPRESSED) || self.name.starts_with(b".zdebug")
+    }
+
+    /// Whether a name means this section.
+    pub fn is_called(&self, name: &[u8]) -> bool
+        ensures { result ≡ is_called name.now self.now }
+    {
+        self.name == name && self.is_meant_by(name)
+    }
+
+    /// Whether a name means this section, if it is its own.
+    pub fn is_meant_by(&self, name: &[u8]) -> bool
+        ensures { result ≡ is_meant_by name.now self.now }
+    {
+        if names_frames(name) {
+            self.is_loaded() && !self.holds_code()
+        } else if names_debug(name) {
+            !self.is_loaded() && !self.holds_code()
+        } else {
+            true
+        }
     }
 }
 
@@ -108,5 +131,51 @@ pub struct Elf<'a> {
     ghost loaded: { All (λ p. IsTrue (has_memory p)) loads.items },
     ghost once: { LoadOnce loads.items },
     ghost same: { (a : ℕ) → segment_of loads.items a ≡ segment_of segments.items a },
+    pub ghost header: { HasHeader file.now },
     pub ghost tables: { All (λ s. s.kind ≡ SHT_RELA → 0 < s.size → s.offset + s.size ≤ length file.now) sections.items },
+}
+
+impl<'a> Elf<'a> {
+    ghost use Rattle.std.specs.Prelude.{IfSome};
+    ghost use Rattle.std.specs.Option.{option_copied};
+    ghost use Rattle.elf_image.specs.file.SectionNames.{section_called};
+    ghost use Rattle.elf_image.specs.memory.Image.{image_byte, loads_address};
+    ghost use Rattle.elf_image.specs.memory.LoadedBytes.{file_offset};
+
+    /// The segment that loads an address, and none where none does.
+    pub fn segment_at(&self, address: u64) -> Option<&Segment>
+        ensures loads { IfSome result (λ p. IsTrue (loads_address address p.now)) }
+        ensures first { option_copied result ≡ segment_of self.now.segments.items address }
+    {
+        segment_among(&self.loads, address)
+    }
+
+    /// The byte at an address, and none where no segment loads it.
+    pub fn image_byte(&self, address: u64) -> Option<u8>
+        ensures { result ≡ image_byte self.now.file.now self.now.segments.items address }
+    {
+        match self.segment_at(address) {
+            Some(segment) => Some(segment_byte(self.file, address, segment)),
+            None => None,
+        }
+    }
+
+    /// Where in the file the byte at an address stands, if it comes from there.
+    pub fn file_offset(&self, address: u64) -> Option<u128>
+        ensures value { result ≡ file_offset self.now.segments.items address }
+        ensures below { IfSome result (λ offset. offset < 2 ^ 65) }
+    {
+        match self.segment_at(address) {
+            Some(segment) => segment.offset_of(address),
+            None => None,
+        }
+    }
+
+    /// The section that a name means, and of several the first. By the names of unwind tables only what is
+    /// loaded is meant, by those of debug tables only what isn't, and by neither what has code.
+    pub fn section_called(&self, name: &[u8]) -> Option<&Section<'a>>
+        ensures { option_copied result ≡ section_called self.now.sections.items name.now }
+    {
+        self.sections.iter().find(|s| s.is_called(name))
+    }
 }

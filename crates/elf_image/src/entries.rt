@@ -3,30 +3,14 @@
 ghost use Rattle.std.specs.Prelude.{◌≡◌, ◌≤◌, ◌<◌, ◌↔◌, IfSome, IsTrue, length};
 ghost use Rattle.elf_image.specs.file.Header.{e_phnum, e_shnum, segment_place};
 ghost use Rattle.elf_image.specs.file.Sections.{section_place};
-ghost use Rattle.elf_image.specs.faults.Truncation.{HasHeader, HasSegments, HasSections, HasContents};
+ghost use Rattle.elf_image.specs.faults.Truncation.{HasHeader, HasContents};
 ghost use Rattle.elf_image.specs.file.Symbols.{symbol_table, symbol_count};
 
-use crate::header::{e_phnum, e_phoff, e_shnum, e_shoff};
+use crate::header::Header;
 use crate::range::is_whole;
 use crate::section::{SHDR_SIZE, SHT_NOBITS, SHT_SYMTAB, SectionHeader};
 use crate::segment::{PHDR_SIZE, Segment};
 use crate::symbol::SYM_SIZE;
-
-/// Whether the table of program headers lies whole in the file.
-pub fn has_segments(file: &[u8]) -> bool
-    requires { HasHeader file.now }
-    ensures { IsTrue result ↔ HasSegments file.now }
-{
-    is_whole(file, e_phoff(file), PHDR_SIZE as u64 * e_phnum(file) as u64)
-}
-
-/// Whether the table of section headers lies whole in the file.
-pub fn has_sections(file: &[u8]) -> bool
-    requires { HasHeader file.now }
-    ensures { IsTrue result ↔ HasSections file.now }
-{
-    is_whole(file, e_shoff(file), SHDR_SIZE as u64 * e_shnum(file) as u64)
-}
 
 /// The table of program headers of a file in which it lies whole.
 #[derive(Clone, Copy)]
@@ -39,20 +23,12 @@ pub struct SegmentTable<'a> {
 impl<'a> SegmentTable<'a> {
     ghost use Rattle.elf_image.specs.file.Header.{segment};
 
-    /// Where the program header of an index stands.
-    pub fn segment_place(self, index: u16) -> u64
-        requires { index < e_phnum self.file.now }
-        ensures { result ≡ segment_place self.entry.file.now index }
-    {
-        e_phoff(self.file) + PHDR_SIZE as u64 * index as u64
-    }
-
     /// The program header of an index.
     pub fn segment_of(self, index: u16) -> Segment
         requires { index < e_phnum self.file.now }
         ensures { result ≡ segment self.entry.file.now index }
     {
-        Segment::at(self.file, self.segment_place(index) as usize)
+        Segment::at(self.file, segment_place(self, index) as usize)
     }
 }
 
@@ -67,21 +43,47 @@ pub struct SectionTable<'a> {
 impl<'a> SectionTable<'a> {
     ghost use Rattle.elf_image.specs.file.Sections.{section_header};
 
-    /// Where the section header of an index stands.
-    pub fn section_place(self, index: u16) -> u64
-        requires { index < e_shnum self.file.now }
-        ensures { result ≡ section_place self.entry.file.now index }
-    {
-        e_shoff(self.file) + SHDR_SIZE as u64 * index as u64
-    }
-
     /// The section header of an index.
     pub fn section_of(self, index: u16) -> SectionHeader
         requires { index < e_shnum self.file.now }
         ensures { result ≡ section_header self.entry.file.now index }
     {
-        SectionHeader::at(self.file, self.section_place(index) as usize)
+        SectionHeader::at(self.file, section_place(self, index) as usize)
     }
+}
+
+/// How many program headers there are.
+pub fn segment_count(segments: SegmentTable) -> u16
+    ensures { result ≡ e_phnum segments.entry.file.now }
+{
+    let file = segments.file;
+    Header { file }.fields().phnum
+}
+
+/// Where the program header of an index stands.
+pub fn segment_place(segments: SegmentTable, index: u16) -> u64
+    requires { index < e_phnum segments.file.now }
+    ensures { result ≡ segment_place segments.entry.file.now index }
+{
+    let file = segments.file;
+    Header { file }.fields().phoff + PHDR_SIZE as u64 * index as u64
+}
+
+/// How many section headers there are.
+pub fn section_count(headers: SectionTable) -> u16
+    ensures { result ≡ e_shnum headers.entry.file.now }
+{
+    let file = headers.file;
+    Header { file }.fields().shnum
+}
+
+/// Where the section header of an index stands.
+pub fn section_place(headers: SectionTable, index: u16) -> u64
+    requires { index < e_shnum headers.file.now }
+    ensures { result ≡ section_place headers.entry.file.now index }
+{
+    let file = headers.file;
+    Header { file }.fields().shoff + SHDR_SIZE as u64 * index as u64
 }
 
 /// Whether the contents of a section lie whole in the file.
@@ -96,7 +98,7 @@ pub fn symbol_table(headers: SectionTable) -> Option<SectionHeader>
     ensures first { result ≡ symbol_table headers.entry.file.now }
     ensures kind { IfSome result (λ table. table.kind ≡ SHT_SYMTAB) }
 {
-    for index in 0..e_shnum(headers.file) {
+    for index in 0..section_count(headers) {
         let section = headers.section_of(index);
         if section.kind == SHT_SYMTAB {
             return Some(section);

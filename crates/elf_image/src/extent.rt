@@ -1,7 +1,6 @@
 // Ranges of numbers, and those of them that share a number.
-ghost use Rattle.std.specs.Prelude.{◌≡◌, ◌≤◌, ◌<◌, ◌↔◌, ◌+◌, ◌++◌, ℕ, IsTrue, IfOk, OnOk, All, length, slice_index_or};
+ghost use Rattle.std.specs.Prelude.{◌≡◌, ◌≤◌, ◌<◌, ◌↔◌, ◌+◌, ℕ, IsTrue, IfOk, OnOk, All, length, slice_index_or};
 ghost use Rattle.std.specs.List.Sorted.{IsNonDecreasingBy, IsPermutation};
-ghost use Rattle.std.specs.Option.{option_to_list};
 ghost use Rattle.elf_image.specs.faults.LowestPlace.{IsLowest};
 ghost use Rattle.elf_image.specs.internal.Extents.{HavePlaces, IsInOneExtent, IsReach, MeetsAnother, MeetsNext, SharesAnother};
 
@@ -25,16 +24,6 @@ pub fn lowest_shared(mut extents: Vec<Extent>) -> Result<Option<u64>, NoMemory>
 {
     sort_by_start(&mut extents)?;
     Ok(lowest_shared_sorted(&extents))
-}
-
-/// Appends a range, if there is one.
-pub fn push_some(extents: &mut Vec<Extent>, extent: Option<Extent>) -> Result<(), NoMemory>
-    ensures { OnOk result (extents.new.items ≡ extents.old.items ++ option_to_list extent) }
-{
-    if let Some(extent) = extent {
-        extents.push(extent)?;
-    }
-    Ok(())
 }
 
 /// Puts the ranges in the order of their starts.

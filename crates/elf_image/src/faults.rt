@@ -24,7 +24,7 @@ use crate::faults::checks::{
 };
 use crate::faults::loading::lowest_bad_loading;
 use crate::faults::truncated::lowest_truncated;
-use crate::header::is_elf;
+use crate::header::{Header, is_elf};
 use crate::lowest::place_if;
 use rb_bytes::fault::{Fault, FaultKind, Refusal};
 use std::alloc::Global;
@@ -54,7 +54,7 @@ pub fn check_structure(file: &[u8]) -> Result<(), Fault>
 {
     refuse_at(FaultKind::NotElf, lowest_not_elf(file))?;
     refuse_at(FaultKind::Truncated, lowest_truncated(file))?;
-    refuse_at(FaultKind::Flags, lowest_other_flags(file))?;
+    refuse_at(FaultKind::Flags, lowest_other_flags(Header { file }))?;
     refuse_at(
         FaultKind::NotStatic,
         lowest_not_static(SegmentTable { file }),

@@ -1,10 +1,13 @@
 // The file's header. gABI, "ELF Header".
-ghost use Rattle.std.specs.Prelude.{◌≡◌, ◌≤◌, ◌↔◌, IsTrue, length};
+ghost use Rattle.std.specs.Prelude.{◌≡◌, ◌↔◌, IsTrue};
 ghost use Rattle.elf_image.specs.faults.FileFaults.{IsElf};
-ghost use Rattle.elf_image.specs.file.Header.{e_type, e_machine, e_entry, e_phoff, e_shoff, e_flags, e_phentsize, e_phnum};
-ghost use Rattle.elf_image.specs.file.Header.{e_shentsize, e_shnum, e_shstrndx};
+ghost use Rattle.elf_image.specs.faults.Truncation.{HasHeader, HasSegments, HasSections};
+ghost use Rattle.elf_image.specs.internal.HeaderFields.{header_fields};
 
 use crate::number::{u16_at, u32_at, u64_at};
+use crate::range::is_whole;
+use crate::section::SHDR_SIZE;
+use crate::segment::PHDR_SIZE;
 
 /// The size of the header in bytes.
 pub const EHDR_SIZE: usize = 64;
@@ -32,92 +35,81 @@ pub const E_SHNUM: usize = 0x3c;
 
 pub const E_SHSTRNDX: usize = 0x3e;
 
-/// `e_type`: the type of the file.
-pub fn e_type(file: &[u8]) -> u16
-    requires { EHDR_SIZE ≤ length file.now }
-    ensures { result ≡ e_type file.now }
-{
-    u16_at(file, E_TYPE)
+/// The fields of a file's header that are read, in the order of the file. gABI, "ELF Header".
+#[derive(Clone, Copy, PartialEq, Eq, Debug)]
+pub struct HeaderFields {
+    /// `e_type`: the type of the file.
+    pub kind: u16,
+    /// `e_entry`: the address of the entry point.
+    pub entry: u64,
+    /// `e_phoff`: where the table of program headers stands.
+    pub phoff: u64,
+    /// `e_shoff`: where the table of section headers stands.
+    pub shoff: u64,
+    /// `e_flags`: the flags of the machine.
+    pub flags: u32,
+    /// `e_phentsize`: the size of a program header.
+    pub phentsize: u16,
+    /// `e_phnum`: how many program headers there are.
+    pub phnum: u16,
+    /// `e_shentsize`: the size of a section header.
+    pub shentsize: u16,
+    /// `e_shnum`: how many section headers there are.
+    pub shnum: u16,
+    /// `e_shstrndx`: the index of the section with the names of sections.
+    pub shstrndx: u16,
 }
 
-/// `e_machine`: the machine.
-pub fn e_machine(file: &[u8]) -> u16
-    requires { EHDR_SIZE ≤ length file.now }
-    ensures { result ≡ e_machine file.now }
-{
-    u16_at(file, E_MACHINE)
+/// A file in which the header lies whole.
+#[derive(Clone, Copy)]
+pub struct Header<'a> {
+    pub file: &'a [u8],
+    pub ghost whole: { HasHeader file.now },
 }
 
-/// `e_entry`: the address of the entry point.
-pub fn e_entry(file: &[u8]) -> u64
-    requires { EHDR_SIZE ≤ length file.now }
-    ensures { result ≡ e_entry file.now }
-{
-    u64_at(file, E_ENTRY)
-}
+impl<'a> Header<'a> {
+    /// What the header says.
+    pub fn fields(self) -> HeaderFields
+        ensures { result ≡ header_fields self.entry.file.now }
+    {
+        let file = self.file;
+        HeaderFields {
+            kind: u16_at(file, E_TYPE),
+            entry: u64_at(file, E_ENTRY),
+            phoff: u64_at(file, E_PHOFF),
+            shoff: u64_at(file, E_SHOFF),
+            flags: u32_at(file, E_FLAGS),
+            phentsize: u16_at(file, E_PHENTSIZE),
+            phnum: u16_at(file, E_PHNUM),
+            shentsize: u16_at(file, E_SHENTSIZE),
+            shnum: u16_at(file, E_SHNUM),
+            shstrndx: u16_at(file, E_SHSTRNDX),
+        }
+    }
 
-/// `e_phoff`: where the table of program headers stands.
-pub fn e_phoff(file: &[u8]) -> u64
-    requires { EHDR_SIZE ≤ length file.now }
-    ensures { result ≡ e_phoff file.now }
-{
-    u64_at(file, E_PHOFF)
-}
+    /// Whether the table of program headers lies whole in the file.
+    pub fn has_segments(self) -> bool
+        ensures { IsTrue result ↔ HasSegments self.entry.file.now }
+    {
+        let fields = self.fields();
+        is_whole(
+            self.file,
+            fields.phoff,
+            PHDR_SIZE as u64 * fields.phnum as u64,
+        )
+    }
 
-/// `e_shoff`: where the table of section headers stands.
-pub fn e_shoff(file: &[u8]) -> u64
-    requires { EHDR_SIZE ≤ length file.now }
-    ensures { result ≡ e_shoff file.now }
-{
-    u64_at(file, E_SHOFF)
-}
-
-/// `e_flags`: the flags of the machine.
-pub fn e_flags(file: &[u8]) -> u32
-    requires { EHDR_SIZE ≤ length file.now }
-    ensures { result ≡ e_flags file.now }
-{
-    u32_at(file, E_FLAGS)
-}
-
-/// `e_phentsize`: the size of a program header.
-pub fn e_phentsize(file: &[u8]) -> u16
-    requires { EHDR_SIZE ≤ length file.now }
-    ensures { result ≡ e_phentsize file.now }
-{
-    u16_at(file, E_PHENTSIZE)
-}
-
-/// `e_phnum`: how many program headers there are.
-pub fn e_phnum(file: &[u8]) -> u16
-    requires { EHDR_SIZE ≤ length file.now }
-    ensures { result ≡ e_phnum file.now }
-{
-    u16_at(file, E_PHNUM)
-}
-
-/// `e_shentsize`: the size of a section header.
-pub fn e_shentsize(file: &[u8]) -> u16
-    requires { EHDR_SIZE ≤ length file.now }
-    ensures { result ≡ e_shentsize file.now }
-{
-    u16_at(file, E_SHENTSIZE)
-}
-
-/// `e_shnum`: how many section headers there are.
-pub fn e_shnum(file: &[u8]) -> u16
-    requires { EHDR_SIZE ≤ length file.now }
-    ensures { result ≡ e_shnum file.now }
-{
-    u16_at(file, E_SHNUM)
-}
-
-/// `e_shstrndx`: the index of the section with the names of sections.
-pub fn e_shstrndx(file: &[u8]) -> u16
-    requires { EHDR_SIZE ≤ length file.now }
-    ensures { result ≡ e_shstrndx file.now }
-{
-    u16_at(file, E_SHSTRNDX)
+    /// Whether the table of section headers lies whole in the file.
+    pub fn has_sections(self) -> bool
+        ensures { IsTrue result ↔ HasSections self.entry.file.now }
+    {
+        let fields = self.fields();
+        is_whole(
+            self.file,
+            fields.shoff,
+            SHDR_SIZE as u64 * fields.shnum as u64,
+        )
+    }
 }
 
 /// How a file begins: the magic number, 64 bits, little-endian, version 1. gABI, "ELF

@@ -4,32 +4,9 @@ ghost use Rattle.std.specs.List.Sorted.{IsNonDecreasingBy, IsPermutation};
 ghost use Rattle.std.specs.Option.{option_copied};
 ghost use Rattle.elf_image.specs.memory.Image.{byte_of, has_memory, loads_address, segment_of, LoadOnce};
 
-use crate::elf::Elf;
 use crate::segment::Segment;
 use rb_bytes::fault::NoMemory;
 use std::alloc::{AllocError, Global};
-
-impl<'a> Elf<'a> {
-    ghost use Rattle.elf_image.specs.memory.Image.{image_byte};
-
-    /// The segment that loads an address, and none where none does.
-    pub fn segment_at(&self, address: u64) -> Option<&Segment>
-        ensures loads { IfSome result (λ p. IsTrue (loads_address address p.now)) }
-        ensures first { option_copied result ≡ segment_of self.now.segments.items address }
-    {
-        segment_among(&self.loads, address)
-    }
-
-    /// The byte at an address, and none where no segment loads it.
-    pub fn image_byte(&self, address: u64) -> Option<u8>
-        ensures { result ≡ image_byte self.now.file.now self.now.segments.items address }
-    {
-        match self.segment_at(address) {
-            Some(segment) => Some(segment_byte(self.file, address, segment)),
-            None => None,
-        }
-    }
-}
 
 // The segments with memory, by address.
 pub(crate) fn segments_by_address(
@@ -65,8 +42,8 @@ fn sort_by_address(segments: &mut Vec<Segment>) -> Result<(), AllocError>
     Ok(())
 }
 
-// The one among segments with memory, by address, that loads an address.
-fn segment_among(loads: &[Segment], address: u64) -> Option<&Segment>
+/// The one among segments with memory, by address, that loads an address.
+pub(crate) fn segment_among(loads: &[Segment], address: u64) -> Option<&Segment>
     requires rising { IsNonDecreasingBy (λ p. p.vaddr) loads.now }
     requires loaded { All (λ p. IsTrue (has_memory p)) loads.now }
     requires once { LoadOnce loads.now }
@@ -96,8 +73,8 @@ fn count_up_to(segments: &[Segment], address: u64) -> usize
     segments.partition_point(|p| p.vaddr <= address)
 }
 
-// The byte that a segment has at one of its addresses.
-fn segment_byte(file: &[u8], address: u64, segment: &Segment) -> u8
+/// The byte that a segment has at one of its addresses.
+pub(crate) fn segment_byte(file: &[u8], address: u64, segment: &Segment) -> u8
     requires { segment.now.vaddr ≤ address }
     ensures { result ≡ byte_of file.now address segment.now }
 {

@@ -17,6 +17,7 @@ pub mod reader;
 pub mod relocation;
 pub mod section;
 pub mod segment;
+pub mod start;
 pub mod symbol;
 pub mod tables;
 pub mod text;

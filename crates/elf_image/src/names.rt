@@ -5,8 +5,8 @@ ghost use Rattle.elf_image.specs.internal.TextEnds.{IsLastEnd};
 ghost use Rattle.elf_image.specs.file.Sections.{contents, section_names};
 ghost use Rattle.elf_image.specs.file.Symbols.{symbol_names};
 
-use crate::entries::{SectionTable, has_contents};
-use crate::header::{e_shnum, e_shstrndx};
+use crate::entries::{SectionTable, has_contents, section_count};
+use crate::header::Header;
 use crate::section::{SHT_NOBITS, SectionHeader};
 use memchr::memrchr;
 
@@ -39,8 +39,9 @@ pub fn section_names<'a>(headers: SectionTable<'a>) -> Option<&'a [u8]>
     ensures names { IfSome result (λ t. t.now ≡ section_names headers.entry.file.now) }
     ensures none { IfNone result (HasSectionNames headers.entry.file.now → ⊥) }
 {
-    let index = e_shstrndx(headers.file);
-    if index >= e_shnum(headers.file) {
+    let header = Header { file: headers.file };
+    let index = header.fields().shstrndx;
+    if index >= section_count(headers) {
         return None;
     }
     let section = headers.section_of(index);
@@ -59,7 +60,7 @@ pub fn symbol_names<'a>(headers: SectionTable<'a>, table: &SectionHeader) -> Opt
     if !has_contents(headers.file, table) {
         return None;
     }
-    if table.link >= e_shnum(headers.file) as u32 {
+    if table.link >= section_count(headers) as u32 {
         return Some(&headers.file[..0]);
     }
     let section = headers.section_of(table.link as u16);

@@ -8,7 +8,7 @@ ghost use Rattle.elf_image.specs.file.ParsedFile.{AreSections, IsElfOf};
 
 use crate::elf::{Elf, Section};
 use crate::faults::{check_layout, check_structure};
-use crate::header::{e_entry, e_flags, e_phoff};
+use crate::header::Header;
 use crate::image::segments_by_address;
 use crate::tables::{read_sections, read_segments, read_symbols};
 use rb_bytes::fault::{NoMemory, Refusal};
@@ -28,11 +28,12 @@ fn read_beside<'a>(
     let segments = read_segments(alloc, file)?;
     let symbols = read_symbols(alloc, file)?;
     let loads = segments_by_address(alloc, &segments)?;
+    let header = Header { file }.fields();
     Ok(Elf {
         file,
-        flags: e_flags(file),
-        entry: e_entry(file),
-        phoff: e_phoff(file),
+        flags: header.flags,
+        entry: header.entry,
+        phoff: header.phoff,
         sections,
         segments,
         symbols,

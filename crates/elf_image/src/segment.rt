@@ -1,5 +1,5 @@
 // Program headers.
-ghost use Rattle.std.specs.Prelude.{◌≡◌, ◌≤◌, ◌<◌, ◌+◌, length};
+ghost use Rattle.std.specs.Prelude.{◌≡◌, ◌≤◌, ◌<◌, ◌+◌, ◌^◌, IfSome, length};
 
 use crate::number::{is_set, u32_at, u64_at};
 
@@ -21,6 +21,9 @@ pub const PF_X: u32 = 1;
 pub const PF_W: u32 = 2;
 
 pub const PF_R: u32 = 4;
+
+/// The address below which all that is loaded lies.
+pub const ADDRESS_END: u64 = 0x7fff_0000;
 
 /// The size of a program header in bytes.
 pub const PHDR_SIZE: usize = 56;
@@ -49,8 +52,8 @@ pub struct Segment {
 
 impl Segment {
     ghost use Rattle.elf_image.specs.file.Header.{segment_at};
-    ghost use Rattle.elf_image.specs.memory.Image.{has_flag, has_memory, loads_address};
-    ghost use Rattle.elf_image.specs.memory.LoadedBytes.{loads_range};
+    ghost use Rattle.elf_image.specs.memory.Image.{end_of, has_flag, has_memory, loads_address};
+    ghost use Rattle.elf_image.specs.memory.LoadedBytes.{loads_range, offset_in};
     ghost use Rattle.elf_image.specs.faults.SegmentLayout.{is_code_segment};
 
     /// The program header that stands at an offset of a file.
@@ -78,11 +81,33 @@ impl Segment {
         is_set(self.flags as u64, flag as u64)
     }
 
+    /// Where the segment ends in memory.
+    pub fn end(&self) -> u128
+        ensures end { result ≡ end_of self.now }
+        ensures low { result < 2 ^ 65 }
+    {
+        self.vaddr as u128 + self.memsz as u128
+    }
+
     /// Whether the segment loads an address.
     pub fn loads(&self, address: u64) -> bool
         ensures { result ≡ loads_address address self.now }
     {
         self.kind == PT_LOAD && self.vaddr <= address && address - self.vaddr < self.memsz
+    }
+
+    /// Where in the file the byte at one of its addresses stands, if it comes from there.
+    pub fn offset_of(&self, address: u64) -> Option<u128>
+        requires { self.now.vaddr ≤ address }
+        ensures value { result ≡ offset_in address self.now }
+        ensures below { IfSome result (λ offset. offset < 2 ^ 65) }
+    {
+        let place = address - self.vaddr;
+        if place < self.filesz {
+            Some(self.offset as u128 + place as u128)
+        } else {
+            None
+        }
     }
 
     /// Whether the segment loads all of the file's `size` bytes from `start` on.

@@ -2,7 +2,7 @@
 ghost use Rattle.std.specs.Prelude.{◌≡◌, ◌≤◌, ◌+◌, length};
 ghost use Rattle.elf_image.specs.file.ParsedFile.{IsSymbolAt};
 ghost use Rattle.elf_image.specs.file.Symbols.{symbol_names};
-ghost use Rattle.elf_image.specs.file.StringTables.{table_of};
+ghost use Rattle.elf_image.specs.file.StringTables.{name_bytes};
 
 use crate::elf::Symbol;
 use crate::number::{u16_at, u32_at, u64_at};
@@ -29,7 +29,7 @@ pub fn symbol_at<'a>(
     offset: usize,
 ) -> Symbol<'a>
     requires whole { offset + SYM_SIZE ≤ length file.now }
-    requires names { table_of names.now ≡ symbol_names file.now table.now }
+    requires names { name_bytes names.now ≡ symbol_names file.now table.now }
     ensures { IsSymbolAt file.now table.now offset result }
 {
     Symbol {

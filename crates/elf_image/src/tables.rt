@@ -6,11 +6,12 @@ ghost use Rattle.elf_image.specs.file.Header.{e_shnum, segments_of};
 ghost use Rattle.elf_image.specs.file.ParsedFile.{IsSectionAt, AreSections, AreSymbols, AreSymbolsOf};
 ghost use Rattle.elf_image.specs.file.Sections.{section_names};
 ghost use Rattle.elf_image.specs.file.Symbols.{symbol_table, symbol_count, symbol_names};
-ghost use Rattle.elf_image.specs.file.StringTables.{table_of};
+ghost use Rattle.elf_image.specs.file.StringTables.{name_bytes};
 
 use crate::elf::{Section, Symbol};
-use crate::entries::{SectionTable, SegmentTable, symbol_count, symbol_table};
-use crate::header::{e_phnum, e_shnum};
+use crate::entries::{
+    SectionTable, SegmentTable, section_count, segment_count, symbol_count, symbol_table,
+};
 use crate::names::{section_names, symbol_names};
 use crate::section::{SHT_SYMTAB, SectionHeader};
 use crate::segment::Segment;
@@ -26,7 +27,7 @@ pub fn read_segments(alloc: Global, file: &[u8]) -> Result<Vec<Segment>, NoMemor
 {
     let table = SegmentTable { file };
     let mut segments = Vec::new(alloc);
-    for index in 0..e_phnum(file) {
+    for index in 0..segment_count(table) {
         segments.push(table.segment_of(index))?;
     }
     Ok(segments)
@@ -35,7 +36,7 @@ pub fn read_segments(alloc: Global, file: &[u8]) -> Result<Vec<Segment>, NoMemor
 fn read_section<'a>(file: &'a [u8], names: &Names<'a>, index: u16) -> Section<'a>
     requires whole { IsReadable file.now }
     requires index { index < e_shnum file.now }
-    requires names { table_of names.now ≡ section_names file.now }
+    requires names { name_bytes names.now ≡ section_names file.now }
     ensures { IsSectionAt file.now index result }
 {
     let header = SectionTable { file }.section_of(index);
@@ -71,7 +72,7 @@ pub fn read_sections<'a>(alloc: Global, file: &'a [u8]) -> Result<Vec<Section<'a
 {
     let names = Names::new(alloc, section_texts(file))?;
     let mut sections = Vec::new(alloc);
-    for index in 0..e_shnum(file) {
+    for index in 0..section_count(SectionTable { file }) {
         sections.push(read_section(file, &names, index))?;
     }
     Ok(sections)

@@ -16,12 +16,12 @@ pub struct Names<'a> {
 }
 
 impl<'a> Names<'a> {
-    ghost use Rattle.elf_image.specs.file.StringTables.{table_of};
+    ghost use Rattle.elf_image.specs.file.StringTables.{name_bytes};
     ghost use Rattle.elf_image.specs.internal.TextEnds.{IsTextEnd};
 
     /// Finds the zero bytes of a table.
     pub fn new(alloc: Global, table: &'a [u8]) -> Result<Names<'a>, NoMemory>
-        ensures { IfOk result (λ names. table_of names ≡ table.now) }
+        ensures { IfOk result (λ names. name_bytes names ≡ table.now) }
     {
         let zeros = memchr_iter(0, table).collect(alloc)?;
         Ok(Names { table, zeros })
@@ -29,7 +29,7 @@ impl<'a> Names<'a> {
 
     // Where the text ends that begins at an index.
     fn end(&self, index: usize) -> usize
-        ensures { IsTextEnd (table_of self.now) index result }
+        ensures { IsTextEnd (name_bytes self.now) index result }
     {
         let next = self.zeros.partition_point(|zero| *zero < index);
         match self.zeros.get(next) {
@@ -40,7 +40,7 @@ impl<'a> Names<'a> {
 
     /// The text at an index, up to the next zero byte, or to the table's end where none follows.
     pub fn text(&self, index: u32) -> &'a [u8]
-        ensures { result.now ≡ text_of (table_of self.now) index }
+        ensures { result.now ≡ text_of (name_bytes self.now) index }
     {
         let start = index as usize;
         let end = self.end(start);

@@ -3,8 +3,8 @@ use Rattle.std.specs.Prelude.{◌≢◌, ◌≤◌, ◌<◌, ℕ, List, length, 
 use Rattle.elf_image.specs.declared.text.Names.{Names}
 
 -- what contracts see of a table that is asked often: its bytes
-abbrev pub table_of : Names → List ℕ
-table_of names = names.table.now
+abbrev pub name_bytes : Names → List ℕ
+name_bytes names = names.table.now
 
 -- no zero byte stands in a table from an index on
 abbrev pub IsUnended : List ℕ → ℕ → Type 0

@@ -1,7 +1,6 @@
 // The faults of a whole file that one field or one header shows by itself.
 ghost use Rattle.std.specs.Prelude.{◌≡◌, ◌≤◌, ◌<◌, ℕ, IsTrue, List};
 ghost use Rattle.rb_bytes.specs.declared.fault.FaultKind.TheVariants as fault;
-ghost use Rattle.elf_image.specs.faults.Truncation.{HasHeader};
 ghost use Rattle.elf_image.specs.file.Header.{e_phnum, e_shnum};
 ghost use Rattle.elf_image.specs.faults.SegmentLayout.{IsWritableCode, IsHigh, address_end};
 ghost use Rattle.elf_image.specs.faults.LowestPlace.{IsLowest, SomeBelow};
@@ -10,30 +9,25 @@ ghost use Rattle.elf_image.specs.file.ParsedFile.{AreSections};
 ghost use Rattle.elf_image.specs.memory.Image.{loads_address};
 
 use crate::elf::Section;
-use crate::entries::SegmentTable;
-use crate::header::{E_FLAGS, E_TYPE, e_flags, e_phnum, e_type};
+use crate::entries::{SegmentTable, segment_count, segment_place};
+use crate::header::{E_FLAGS, E_TYPE, Header};
 use crate::lowest::{lower, lowest_below, place_if};
-use crate::segment::{PF_W, PT_DYNAMIC, PT_INTERP, Segment};
+use crate::segment::{ADDRESS_END, PF_W, PT_DYNAMIC, PT_INTERP, Segment};
 
 /// The type of an executable that is loaded where its headers say. gABI, "ELF Header".
 pub const ET_EXEC: u16 = 2;
 
-/// The address below which all that is loaded lies.
-pub const ADDRESS_END: u64 = 0x7fff_0000;
-
 /// The place of flags that aren't known.
-pub fn lowest_other_flags(file: &[u8]) -> Option<u64>
-    requires { HasHeader file.now }
-    ensures { IsLowest (HasFault file.now fault.Flags) result }
+pub fn lowest_other_flags(header: Header) -> Option<u64>
+    ensures { IsLowest (HasFault header.entry.file.now fault.Flags) result }
 {
-    place_if(1 < e_flags(file), E_FLAGS as u64)
+    place_if(1 < header.fields().flags, E_FLAGS as u64)
 }
 
-fn lowest_other_type(file: &[u8]) -> Option<u64>
-    requires { HasHeader file.now }
-    ensures { IsLowest (HasOtherType file.now) result }
+fn lowest_other_type(header: Header) -> Option<u64>
+    ensures { IsLowest (HasOtherType header.entry.file.now) result }
 {
-    place_if(e_type(file) != ET_EXEC, E_TYPE as u64)
+    place_if(header.fields().kind != ET_EXEC, E_TYPE as u64)
 }
 
 fn dynamic_segment(segments: SegmentTable, index: u16) -> Option<u64>
@@ -42,14 +36,14 @@ fn dynamic_segment(segments: SegmentTable, index: u16) -> Option<u64>
 {
     let segment = segments.segment_of(index);
     let is_wrong = segment.kind == PT_DYNAMIC || segment.kind == PT_INTERP;
-    place_if(is_wrong, segments.segment_place(index))
+    place_if(is_wrong, segment_place(segments, index))
 }
 
 fn lowest_dynamic_segment(segments: SegmentTable) -> Option<u64>
     ensures { IsLowest (SomeBelow (e_phnum segments.entry.file.now) (IsDynamic segments.entry.file.now)) result }
 {
     lowest_below(
-        e_phnum(segments.file),
+        segment_count(segments),
         |index| dynamic_segment(segments, index),
     )
 }
@@ -59,7 +53,9 @@ pub fn lowest_not_static(segments: SegmentTable) -> Option<u64>
     ensures { IsLowest (HasFault segments.entry.file.now fault.NotStatic) result }
 {
     lower(
-        lowest_other_type(segments.file),
+        lowest_other_type(Header {
+            file: segments.file,
+        }),
         lowest_dynamic_segment(segments),
     )
 }
@@ -70,7 +66,7 @@ fn writable_code(segments: SegmentTable, index: u16) -> Option<u64>
 {
     let segment = segments.segment_of(index);
     let is_wrong = segment.is_code() && segment.has_flag(PF_W);
-    place_if(is_wrong, segments.segment_place(index))
+    place_if(is_wrong, segment_place(segments, index))
 }
 
 /// The place of an executable segment that may be written.
@@ -78,7 +74,7 @@ pub fn lowest_writable_code(segments: SegmentTable) -> Option<u64>
     ensures { IsLowest (HasFault segments.entry.file.now fault.WritableCode) result }
 {
     lowest_below(
-        e_phnum(segments.file),
+        segment_count(segments),
         |index| writable_code(segments, index),
     )
 }
@@ -103,7 +99,7 @@ pub fn lowest_high_address(segments: SegmentTable) -> Option<u64>
     ensures { IsLowest (HasFault segments.entry.file.now fault.HighAddress) result }
 {
     lowest_below(
-        e_phnum(segments.file),
+        segment_count(segments),
         |index| high_address(segments, index),
     )
 }

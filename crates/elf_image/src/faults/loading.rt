@@ -12,10 +12,10 @@ ghost use Rattle.elf_image.specs.faults.FileFaults.{HasFault};
 ghost use Rattle.elf_image.specs.file.ParsedFile.{AreSections};
 
 use crate::elf::Section;
-use crate::entries::SegmentTable;
+use crate::entries::{SegmentTable, segment_count, segment_place};
 use crate::faults::overlap::{lowest_shared_address, lowest_shared_byte};
 use crate::faults::stray::lowest_stray_section;
-use crate::header::{E_PHOFF, e_phnum, e_phoff};
+use crate::header::{E_PHOFF, Header};
 use crate::lowest::{lower, lowest_below, place_if};
 use crate::segment::{PHDR_SIZE, Segment};
 use rb_bytes::fault::NoMemory;
@@ -61,7 +61,7 @@ fn next_code(segments: SegmentTable, from: u16) -> Option<u16>
     ensures first { IfSome result (λ i. (k : ℕ) → IsCode segments.entry.file.now k → from ≤ k → i ≤ k) }
     ensures none { IfNone result ((k : ℕ) → IsCode segments.entry.file.now k → from ≤ k → ⊥) }
 {
-    for index in from..e_phnum(segments.file) {
+    for index in from..segment_count(segments) {
         if segments.segment_of(index).is_code() {
             return Some(index);
         }
@@ -126,7 +126,7 @@ fn lowest_one_too_many(segments: SegmentTable, sections: &[Section]) -> Option<u
     match second_code(segments) {
         Some(second) => {
             let is_wrong = is_too_many(segments, sections, second);
-            place_if(is_wrong, segments.segment_place(second))
+            place_if(is_wrong, segment_place(segments, second))
         }
         None => None,
     }
@@ -138,14 +138,14 @@ fn odd_code(segments: SegmentTable, index: u16) -> Option<u64>
 {
     let segment = segments.segment_of(index);
     let is_odd = segment.vaddr == 0 || segment.filesz != segment.memsz;
-    place_if(segment.is_code() && is_odd, segments.segment_place(index))
+    place_if(segment.is_code() && is_odd, segment_place(segments, index))
 }
 
 // An executable segment at address 0, or one that isn't as long in the file as in memory.
 fn lowest_odd_code(segments: SegmentTable) -> Option<u64>
     ensures { IsLowest (SomeBelow (e_phnum segments.entry.file.now) (IsOddCode segments.entry.file.now)) result }
 {
-    lowest_below(e_phnum(segments.file), |index| odd_code(segments, index))
+    lowest_below(segment_count(segments), |index| odd_code(segments, index))
 }
 
 // The executable segment of the lowest address.
@@ -166,7 +166,7 @@ fn lowest_code_from(segments: SegmentTable, first: u16) -> u16
     ensures { IsLowestCode segments.entry.file.now result }
 {
     let mut lowest = first;
-    for index in first..e_phnum(segments.file) {
+    for index in first..segment_count(segments) {
         lowest = lower_code(segments, lowest, index);
     }
     lowest
@@ -223,7 +223,7 @@ fn crossing(segments: SegmentTable, code: u16, index: u16) -> Option<u64>
 {
     let segment = segments.segment_of(index);
     let is_wrong = crosses_end(segments, code, segment.offset, segment.filesz);
-    place_if(is_wrong, segments.segment_place(index))
+    place_if(is_wrong, segment_place(segments, index))
 }
 
 fn lowest_crossing(segments: SegmentTable, code: u16) -> Option<u64>
@@ -231,7 +231,7 @@ fn lowest_crossing(segments: SegmentTable, code: u16) -> Option<u64>
     ensures { IsLowest (SomeBelow (e_phnum segments.entry.file.now) (IsCrossing segments.entry.file.now)) result }
 {
     lowest_below(
-        e_phnum(segments.file),
+        segment_count(segments),
         |index| crossing(segments, code, index),
     )
 }
@@ -240,8 +240,11 @@ fn crossing_table(segments: SegmentTable, code: u16) -> Option<u64>
     requires code { IsLowestCode segments.file.now code }
     ensures { IsLowest (IsCrossingTable segments.entry.file.now) result }
 {
-    let offset = e_phoff(segments.file);
-    let size = PHDR_SIZE as u64 * e_phnum(segments.file) as u64;
+    let header = Header {
+        file: segments.file,
+    };
+    let offset = header.fields().phoff;
+    let size = PHDR_SIZE as u64 * segment_count(segments) as u64;
     place_if(crosses_end(segments, code, offset, size), offset)
 }
 

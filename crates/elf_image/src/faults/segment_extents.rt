@@ -3,11 +3,11 @@ ghost use Rattle.std.specs.Prelude.{◌≡◌, ◌<◌, ◌+◌, ◌==◌, if◌
 ghost use Rattle.elf_image.specs.file.Header.{e_phnum};
 ghost use Rattle.elf_image.specs.internal.SegmentExtents.{AreExtents, IsExtentOf, IsAddressExtent, IsFileExtent, IsCodeExtent};
 
-use crate::entries::SegmentTable;
-use crate::extent::{Extent, push_some};
-use crate::header::e_phnum;
+use crate::entries::{SegmentTable, segment_count, segment_place};
+use crate::extent::Extent;
 use crate::segment::PT_LOAD;
 use rb_bytes::fault::NoMemory;
+use rb_bytes::lists::push_some;
 use std::alloc::Global;
 
 /// What the ranges of segments are of.
@@ -31,7 +31,7 @@ pub fn segment_extents(
         (λ extents. AreExtents (IsExtentOf kind segments.entry.file.now) (e_phnum segments.entry.file.now) extents.items) }
 {
     let mut extents = Vec::new(alloc);
-    for index in 0..e_phnum(segments.file) {
+    for index in 0..segment_count(segments) {
         push_some(&mut extents, extent_of(segments, index, kind))?;
     }
     Ok(extents)
@@ -60,7 +60,7 @@ fn address_extent(segments: SegmentTable, index: u16) -> Option<Extent>
     if segment.kind != PT_LOAD || segment.memsz == 0 {
         return None;
     }
-    Some(extent_from(segment.vaddr, segment.memsz, segments.segment_place(index)))
+    Some(extent_from(segment.vaddr, segment.memsz, segment_place(segments, index)))
 }
 
 // The addresses of a segment, if it is executable and has any.
@@ -89,7 +89,7 @@ fn file_extent(segments: SegmentTable, index: u16) -> Option<Extent>
     Some(extent_from(
         segment.offset,
         segment.filesz,
-        segments.segment_place(index),
+        segment_place(segments, index),
     ))
 }
 

@@ -8,10 +8,9 @@ ghost use Rattle.elf_image.specs.file.Sections.{holds_code};
 ghost use Rattle.elf_image.specs.faults.LowestPlace.{IsLowest, SomeBelow};
 ghost use Rattle.elf_image.specs.internal.Extents.{IsInOneExtent};
 
-use crate::entries::{SectionTable, SegmentTable};
+use crate::entries::{SectionTable, SegmentTable, section_count, section_place};
 use crate::extent::{Extent, is_covered, reaches_of, sort_by_start};
 use crate::faults::segment_extents::{ExtentKind, segment_extents};
-use crate::header::e_shnum;
 use crate::lowest::{lowest_below, place_if};
 use crate::section::SectionHeader;
 use rb_bytes::fault::NoMemory;
@@ -52,7 +51,7 @@ fn stray_section(headers: SectionTable, reaches: &[Extent], index: u16) -> Optio
     ensures { IsLowest (IsStraySection headers.entry.file.now index) result }
 {
     let is_wrong = is_stray(reaches, &headers.section_of(index));
-    place_if(is_wrong, headers.section_place(index))
+    place_if(is_wrong, section_place(headers, index))
 }
 
 fn lowest_stray(headers: SectionTable, reaches: &[Extent]) -> Option<u64>
@@ -62,7 +61,7 @@ fn lowest_stray(headers: SectionTable, reaches: &[Extent]) -> Option<u64>
     ensures { IsLowest (SomeBelow (e_shnum headers.entry.file.now) (IsStraySection headers.entry.file.now)) result }
 {
     lowest_below(
-        e_shnum(headers.file),
+        section_count(headers),
         |index| stray_section(headers, reaches, index),
     )
 }

@@ -1,6 +1,6 @@
 // Where a file is truncated: the lowest place of each kind of structure.
 ghost use Rattle.std.specs.Prelude.{◌≡◌, ◌<◌, IfNone};
-ghost use Rattle.elf_image.specs.faults.Truncation.{HasHeader, HasContents, IsBadHeaderField, IsTruncatedTable};
+ghost use Rattle.elf_image.specs.faults.Truncation.{HasContents, IsBadHeaderField, IsTruncatedTable};
 ghost use Rattle.elf_image.specs.faults.Truncation.{IsTruncatedSegment, IsTruncatedSection, IsUnnamedSection, AreUnnamedSections};
 ghost use Rattle.elf_image.specs.faults.Truncation.{IsUnnamedSymbol, IsUnnamedSymbolOf, IsTruncatedBySegments};
 ghost use Rattle.elf_image.specs.faults.Truncation.{IsTruncatedBySections, IsTruncated, IsReadable};
@@ -11,13 +11,10 @@ ghost use Rattle.elf_image.specs.file.Sections.{section_names};
 ghost use Rattle.elf_image.specs.file.Symbols.{symbol_table, symbol_count, symbol_names};
 
 use crate::entries::{
-    SectionTable, SegmentTable, has_contents, has_sections, has_segments, symbol_count,
-    symbol_table,
+    SectionTable, SegmentTable, has_contents, section_count, section_place, segment_count,
+    symbol_count, symbol_table,
 };
-use crate::header::{
-    E_PHENTSIZE, E_SHENTSIZE, E_SHSTRNDX, EHDR_SIZE, e_phentsize, e_phnum, e_phoff, e_shentsize,
-    e_shnum, e_shoff, e_shstrndx,
-};
+use crate::header::{E_PHENTSIZE, E_SHENTSIZE, E_SHSTRNDX, EHDR_SIZE, Header};
 use crate::lowest::{lower, lowest_below, place_if};
 use crate::names::{last_end, section_names, symbol_names};
 use crate::number::u32_at;
@@ -27,23 +24,23 @@ use crate::segment::{PHDR_SIZE, PT_LOAD};
 use crate::symbol::SYM_SIZE;
 
 // The fields without which tables can't be read.
-fn lowest_bad_field(file: &[u8]) -> Option<u64>
-    requires { HasHeader file.now }
-    ensures { IsLowest (IsBadHeaderField file.now) result }
+fn lowest_bad_field(header: Header) -> Option<u64>
+    ensures { IsLowest (IsBadHeaderField header.entry.file.now) result }
 {
-    let segments = place_if(e_phentsize(file) as usize != PHDR_SIZE, E_PHENTSIZE as u64);
-    let sections = place_if(e_shentsize(file) as usize != SHDR_SIZE, E_SHENTSIZE as u64);
-    let names = place_if(e_shnum(file) <= e_shstrndx(file), E_SHSTRNDX as u64);
+    let fields = header.fields();
+    let segments = place_if(fields.phentsize as usize != PHDR_SIZE, E_PHENTSIZE as u64);
+    let sections = place_if(fields.shentsize as usize != SHDR_SIZE, E_SHENTSIZE as u64);
+    let names = place_if(fields.shnum <= fields.shstrndx, E_SHSTRNDX as u64);
     lower(lower(segments, sections), names)
 }
 
 // The tables of headers.
-fn lowest_truncated_table(file: &[u8]) -> Option<u64>
-    requires { HasHeader file.now }
-    ensures { IsLowest (IsTruncatedTable file.now) result }
+fn lowest_truncated_table(header: Header) -> Option<u64>
+    ensures { IsLowest (IsTruncatedTable header.entry.file.now) result }
 {
-    let segments = place_if(!has_segments(file), e_phoff(file));
-    let sections = place_if(!has_sections(file), e_shoff(file));
+    let fields = header.fields();
+    let segments = place_if(!header.has_segments(), fields.phoff);
+    let sections = place_if(!header.has_sections(), fields.shoff);
     lower(segments, sections)
 }
 
@@ -62,7 +59,7 @@ fn lowest_truncated_segment(segments: SegmentTable) -> Option<u64>
     ensures { IsLowest (SomeBelow (e_phnum segments.entry.file.now) (IsTruncatedSegment segments.entry.file.now)) result }
 {
     lowest_below(
-        e_phnum(segments.file),
+        segment_count(segments),
         |index| truncated_segment(segments, index),
     )
 }
@@ -80,7 +77,7 @@ fn lowest_truncated_section(headers: SectionTable) -> Option<u64>
     ensures { IsLowest (SomeBelow (e_shnum headers.entry.file.now) (IsTruncatedSection headers.entry.file.now)) result }
 {
     lowest_below(
-        e_shnum(headers.file),
+        section_count(headers),
         |index| truncated_section(headers, index),
     )
 }
@@ -91,7 +88,7 @@ fn unnamed_section(headers: SectionTable, index: u16, end: usize) -> Option<u64>
     ensures { IsLowest (IsUnnamedSection headers.entry.file.now index) result }
 {
     let section = headers.section_of(index);
-    place_if(end <= section.name as usize, headers.section_place(index))
+    place_if(end <= section.name as usize, section_place(headers, index))
 }
 
 // The names of sections in a table that is whole.
@@ -101,7 +98,7 @@ fn lowest_unnamed_in(headers: SectionTable, table: &[u8]) -> Option<u64>
 {
     let end = last_end(table);
     let mut lowest = None;
-    for index in 0..e_shnum(headers.file) {
+    for index in 0..section_count(headers) {
         lowest = lower(lowest, unnamed_section(headers, index, end));
     }
     lowest
@@ -157,26 +154,24 @@ fn lowest_unnamed_symbol(headers: SectionTable) -> Option<u64>
 }
 
 // What the table of program headers names.
-fn lowest_truncated_by_segments(file: &[u8]) -> Option<u64>
-    requires { HasHeader file.now }
-    ensures { IsLowest (IsTruncatedBySegments file.now) result }
+fn lowest_truncated_by_segments(header: Header) -> Option<u64>
+    ensures { IsLowest (IsTruncatedBySegments header.entry.file.now) result }
 {
-    if has_segments(file) {
-        lowest_truncated_segment(SegmentTable { file })
+    if header.has_segments() {
+        lowest_truncated_segment(SegmentTable { file: header.file })
     } else {
         None
     }
 }
 
 // What the table of section headers names.
-fn lowest_truncated_by_sections(file: &[u8]) -> Option<u64>
-    requires { HasHeader file.now }
-    ensures { IsLowest (IsTruncatedBySections file.now) result }
+fn lowest_truncated_by_sections(header: Header) -> Option<u64>
+    ensures { IsLowest (IsTruncatedBySections header.entry.file.now) result }
 {
-    if !has_sections(file) {
+    if !header.has_sections() {
         return None;
     }
-    let headers = SectionTable { file };
+    let headers = SectionTable { file: header.file };
     let names = lower(
         lowest_unnamed_section(headers),
         lowest_unnamed_symbol(headers),
@@ -194,10 +189,11 @@ pub fn lowest_truncated(file: &[u8]) -> Option<u64>
     if file.len() < EHDR_SIZE {
         return Some(0);
     }
-    let header = lower(lowest_bad_field(file), lowest_truncated_table(file));
+    let header = Header { file };
+    let fields = lower(lowest_bad_field(header), lowest_truncated_table(header));
     let tables = lower(
-        lowest_truncated_by_segments(file),
-        lowest_truncated_by_sections(file),
+        lowest_truncated_by_segments(header),
+        lowest_truncated_by_sections(header),
     );
-    lower(header, tables)
+    lower(fields, tables)
 }

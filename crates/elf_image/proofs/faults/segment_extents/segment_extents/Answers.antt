@@ -6,4 +6,4 @@ pub loop-index-preserved : goal.loop-index-preserved
 loop-index-preserved c =
     let file = c.args.segments.file.now in
     AreExtents-more file (IsExtentOf c.args.kind file) (IsExtentOf-unique c.args.kind file) (IsExtentOf-place c.args.kind file)
-    c.loop-index.index _ _ _ c.extent_of.ensures.some c.extent_of.ensures.none c.in_ok-push_some.ensures c.loop-index.invariant
+    c.loop-index.index _ _ _ c.extent_of.ensures.some c.extent_of.ensures.none c.in_ok-push_some.ensures.is c.loop-index.invariant

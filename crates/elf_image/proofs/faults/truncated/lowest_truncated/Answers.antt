@@ -9,7 +9,7 @@ returns-clause-lowest c =
     IsLowest-beyond c.args.file.now _ (omega arith)
     (
     IsLowest-lower _ _ _ c.lower.ensures
-    (IsLowest-lower _ _ _ c.lower-header.ensures c.lowest_bad_field.ensures c.lowest_truncated_table.ensures)
+    (IsLowest-lower _ _ _ c.lower-fields.ensures c.lowest_bad_field.ensures c.lowest_truncated_table.ensures)
     (IsLowest-lower _ _ _ c.lower-tables.ensures c.lowest_truncated_by_segments.ensures c.lowest_truncated_by_sections.ensures)
     )
 

@@ -5,7 +5,7 @@ use Rattle.elf_image.proofs.faults.truncated.lowest_truncated_by_sections.Goals 
 pub returns : goal.returns
 returns c =
     IsLowest-under
-    (HasSections c.args.file.now)
+    (HasSections c.args.header.file.now)
     _
     (c.has_sections.ensures.0 c.if-not-has_sections.false)
     (

@@ -4,5 +4,5 @@ use Rattle.elf_image.proofs.faults.truncated.lowest_truncated_by_segments.Goals 
 
 pub returns-then-has_segments : goal.returns-then-has_segments
 returns-then-has_segments c =
-    IsLowest-under (HasSegments c.args.file.now) _
+    IsLowest-under (HasSegments c.args.header.file.now) _
     (c.has_segments.ensures.0 c.if-has_segments.true) c.lowest_truncated_segment.ensures
