@@ -8,6 +8,10 @@ pub record Outside : Type 0 where
   pub input : SourceSeen
   pub output : SinkSeen
 
+-- what is seen of an input and of an output
+abbrev pub outside_of : SourceSeen → SinkSeen → Outside
+outside_of input output = record { input = input; output = output }
+
 -- what a source tells that has these bytes, if it tells its bytes at all
 abbrev pub as_told : Option (List ℕ) → List ℕ → Option (List ℕ)
 as_told None bytes = None

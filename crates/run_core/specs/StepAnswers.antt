@@ -40,7 +40,7 @@ module _ {M S : Type 0} (state_of : M → List ℕ → S) where
 
 module _ {M S C : Type 0} (state_of : M → List ℕ → S) (step : S → Outcome S C → Type 0) where
   -- With this input it goes on to a state before this rest of it, and the sink took what the step wrote.
-  pub record GoesOn (old new : M) (input rest : List ℕ) (before after : Outside) : Type 0 where
+  pub record StepGoesOn (old new : M) (input rest : List ℕ) (before after : Outside) : Type 0 where
     pub event : Option Event
     pub comes_to : step (state_of old input) (Going (state_of new rest) event)
     pub taken_is : after.output.taken ≡ append_known before.output.taken (output (events event))
@@ -49,7 +49,7 @@ module _ {M S C : Type 0} (state_of : M → List ℕ → S) (step : S → Outcom
   -- isn't read any more.
   pub record StepGoes (old new : M) (ended ends : Bool) (before after : Outside) : Type 0 where
     pub read : List ℕ
-    pub goes_on : (rest : List ℕ) → MayCome ends rest → GoesOn old new (read ++ rest) rest before after
+    pub goes_on : (rest : List ℕ) → MayCome ends rest → StepGoesOn old new (read ++ rest) rest before after
     pub read_is : before.input.left ≡ prepend_known read after.input.left
     pub end_kept : ended ≡ true → (ends ≡ true) × (read ≡ [])
     pub end_is : IsRightly ended before.input.left → IsRightly ends after.input.left

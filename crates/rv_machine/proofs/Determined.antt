@@ -4,7 +4,7 @@ use Rattle.std.specs.Prelude.{unwrap_or}
 use Rattle.rv_code.specs.declared.inst.Inst.{Inst}
 use Rattle.rv_code.specs.declared.cause.Cause.TheVariants as cause
 use Rattle.rv_code.specs.isa.Action.{action_of}
-use Rattle.rv_code.specs.isa.Decoding.{Decodes}
+use Rattle.rv_code.specs.isa.InstBytes.{Decodes}
 use Rattle.rv_code.specs.machine.Machine.{plus}
 use Rattle.rv_code.specs.machine.Step.{ByteState, ByteOutcome, trap, effect, fetched, Steps, no_fetch, illegal, does}
 

@@ -3,7 +3,7 @@ use Rattle.std.proofs.Common.{◌≡◌, ◌∙◌, ◌<◌, ℕ, List, sym, ap,
 use Rattle.std.specs.Prelude.{replicate}
 use Rattle.std.proofs.lemmas.List.{get_or-replicate, length-replicate}
 use Rattle.rv_machine.specs.declared.known.KnownAction.{KnownAction}
-use Rattle.rv_machine.specs.Known.{IsKnown}
+use Rattle.rv_machine.specs.KnownInsts.{IsKnown}
 
 pub known_entries : (entries : List KnownAction) (n : ℕ) (e : KnownAction) → entries ≡ replicate n e → IsKnown e →
     (k : ℕ) (d : KnownAction) → k < length entries → IsKnown (get_or entries k d)

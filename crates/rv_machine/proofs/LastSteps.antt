@@ -5,7 +5,7 @@ use Rattle.run_core.specs.Runs.{steps_done}
 use Rattle.rv_machine.specs.declared.run.Ran.{Ran}
 use Rattle.rv_machine.specs.declared.stepped.Stepped.{Stepped}
 use Rattle.rv_machine.specs.declared.stepped.Stepped.TheVariants as stepped
-use Rattle.rv_machine.specs.Stepped.{answered}
+use Rattle.rv_machine.specs.StepResults.{answered}
 
 pub isnt_going : (end : Stepped) → (end ≡ stepped.Going → ⊥) → answered end ≡ answer.Going → ⊥
 isnt_going stepped.Going other = λ e. other refl

@@ -3,7 +3,7 @@ use Rattle.std.proofs.Common.{◌≡◌, ℕ, List, subst}
 use Rattle.rv_code.specs.machine.Step.{ByteOutcome}
 use Rattle.rv_machine.specs.declared.machine.Machine.{Machine}
 use Rattle.rv_machine.specs.declared.stepped.Stepped.{Stepped}
-use Rattle.rv_machine.specs.Stepped.{Becomes}
+use Rattle.rv_machine.specs.StepResults.{Becomes}
 
 pub same_outcome : (o p : ByteOutcome) (answer : Stepped) (old new : Machine) (input : List ℕ) → o ≡ p →
     Becomes o answer old new input → Becomes p answer old new input

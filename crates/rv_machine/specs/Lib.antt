@@ -1,3 +1,3 @@
-pub mod Known
+pub mod KnownInsts
 pub mod State
-pub mod Stepped
+pub mod StepResults

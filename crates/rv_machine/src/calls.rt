@@ -16,10 +16,10 @@ impl<'a> Machine<'a> {
     ghost use Rattle.rv_code.specs.machine.Machine.{set_register, call_of, Read, Write, Unknown, Exit, Brk};
     ghost use Rattle.rv_code.specs.machine.Step.{a0, a7, calls, refuses_file, sets_break};
     ghost use Rattle.rv_code.specs.machine.Step.{buffer_size, read_call, write_call, effect};
-    ghost use Rattle.run_core.specs.Inputs.{Outside};
+    ghost use Rattle.run_core.specs.Inputs.{outside_of};
     ghost use Rattle.run_core.specs.States.{Same};
     ghost use Rattle.rv_machine.specs.State.{state_of, registers_of};
-    ghost use Rattle.rv_machine.specs.Stepped.{Becomes, StepAnswers};
+    ghost use Rattle.rv_machine.specs.StepResults.{Becomes, StepAnswers};
 
     // Comes back from a call with this result.
     fn return_value(&mut self, value: u64, next: u64) -> Stepped
@@ -82,8 +82,8 @@ impl<'a> Machine<'a> {
     ) -> Stepped
         ensures answer { (output : SinkSeen) → StepAnswers (λ s o. o ≡ read_call s next true) result self.old self.new
             input_end.old.reached input_end.new.reached
-            (record { input = I.seen input.old; output = output })
-            (record { input = I.seen input.new; output = output }) }
+            (outside_of (I.seen input.old) output)
+            (outside_of (I.seen input.new) output) }
         ensures count { (I.seen input.old).faults ≤ (I.seen input.new).faults }
     {
         let address = self.register(A1);
@@ -108,8 +108,8 @@ impl<'a> Machine<'a> {
     fn write_output<O: Sink>(&mut self, next: u64, out: &mut O) -> Stepped
         ensures answer { (input : SourceSeen) (ended : Bool) →
             StepAnswers (λ s o. o ≡ write_call s next true) result self.old self.new ended ended
-            (record { input = input; output = O.seen out.old })
-            (record { input = input; output = O.seen out.new }) }
+            (outside_of input (O.seen out.old))
+            (outside_of input (O.seen out.new)) }
         ensures count { (O.seen out.old).faults ≤ (O.seen out.new).faults }
     {
         let address = self.register(A1);
@@ -129,8 +129,8 @@ impl<'a> Machine<'a> {
     fn read<I: Source>(&mut self, next: u64, input_end: &mut InputEnd, input: &mut I) -> Stepped
         ensures answer { (output : SinkSeen) → StepAnswers (λ s o. o ≡ calls s next Read) result self.old self.new
             input_end.old.reached input_end.new.reached
-            (record { input = I.seen input.old; output = output })
-            (record { input = I.seen input.new; output = output }) }
+            (outside_of (I.seen input.old) output)
+            (outside_of (I.seen input.new) output) }
         ensures count { (I.seen input.old).faults ≤ (I.seen input.new).faults }
     {
         if is_input(self.register(A0)) {
@@ -143,8 +143,8 @@ impl<'a> Machine<'a> {
     fn write<O: Sink>(&mut self, next: u64, out: &mut O) -> Stepped
         ensures answer { (input : SourceSeen) (ended : Bool) →
             StepAnswers (λ s o. o ≡ calls s next Write) result self.old self.new ended ended
-            (record { input = input; output = O.seen out.old })
-            (record { input = input; output = O.seen out.new }) }
+            (outside_of input (O.seen out.old))
+            (outside_of input (O.seen out.new)) }
         ensures count { (O.seen out.old).faults ≤ (O.seen out.new).faults }
     {
         if is_output(self.register(A0)) {
@@ -164,8 +164,8 @@ impl<'a> Machine<'a> {
     ) -> Stepped
         ensures answer { StepAnswers (λ s o. o ≡ calls s next (call_of (s.registers a7))) result self.old self.new
             input_end.old.reached input_end.new.reached
-            (record { input = I.seen input.old; output = O.seen out.old })
-            (record { input = I.seen input.new; output = O.seen out.new }) }
+            (outside_of (I.seen input.old) (O.seen out.old))
+            (outside_of (I.seen input.new) (O.seen out.new)) }
         ensures reads { (I.seen input.old).faults ≤ (I.seen input.new).faults }
         ensures writes { (O.seen out.old).faults ≤ (O.seen out.new).faults }
     {

@@ -12,7 +12,7 @@ impl<'a> Machine<'a> {
     ghost use Rattle.rv_code.specs.machine.Step.{address, effect, loads, stores};
     ghost use Rattle.rv_code.specs.isa.TwosComplement.{unsigned64};
     ghost use Rattle.rv_machine.specs.State.{state_of, HasRegisters};
-    ghost use Rattle.rv_machine.specs.Stepped.{Becomes};
+    ghost use Rattle.rv_machine.specs.StepResults.{Becomes};
 
     // Does an instruction after which the next one stands at `next`.
     pub(crate) fn execute(&mut self, action: Action, next: u64) -> Stepped

@@ -1,6 +1,6 @@
 // Instructions that were decoded before.
 ghost use Rattle.std.specs.Prelude.{◌≡◌, ◌<◌, ℕ, IfSome, IfNone};
-ghost use Rattle.rv_code.specs.isa.Decoding.{Decodes};
+ghost use Rattle.rv_code.specs.isa.InstBytes.{Decodes};
 ghost use Rattle.rv_code.specs.declared.inst.Inst.{Inst};
 
 use rv_code::Action;
@@ -35,7 +35,7 @@ fn place(half: u16, next: Option<u16>) -> usize {
 }
 
 impl KnownActions {
-    ghost use Rattle.rv_machine.specs.Known.{AreKnown, IsAction};
+    ghost use Rattle.rv_machine.specs.KnownInsts.{AreKnown, IsAction};
 
     /// A table in which nothing is found.
     pub fn none(alloc: Global) -> KnownActions
@@ -93,7 +93,7 @@ impl KnownActions {
     }
 }
 
-ghost use Rattle.rv_machine.specs.Known.{IsAction};
+ghost use Rattle.rv_machine.specs.KnownInsts.{IsAction};
 
 fn decoded(half: u16, next: Option<u16>) -> Option<KnownAction>
     ensures half { IfSome result (λ e. e.half ≡ half) }

@@ -17,7 +17,7 @@ impl<'a> Machine<'a> {
     ghost use Rattle.rv_code.specs.isa.TwosComplement.{unsigned64};
     ghost use Rattle.rv_code.specs.machine.Step.{operand, address, goes_to, writes_register};
     ghost use Rattle.rv_machine.specs.State.{state_of, registers_of};
-    ghost use Rattle.rv_machine.specs.Stepped.{Becomes};
+    ghost use Rattle.rv_machine.specs.StepResults.{Becomes};
 
     /// The address of the next instruction.
     pub fn pc(&self) -> u64

@@ -19,7 +19,7 @@ pub struct Ran {
 impl Ran {
     ghost use Rattle.std.specs.Prelude.{◌-◌, ◌<◌, ◌^◌};
     ghost use Rattle.run_core.specs.Runs.{steps_done};
-    ghost use Rattle.rv_machine.specs.Stepped.{answered};
+    ghost use Rattle.rv_machine.specs.StepResults.{answered};
 
     /// A run that came to its end in the step after so many.
     pub fn ended(end: Stepped, steps: u64) -> Ran
@@ -39,16 +39,16 @@ impl Ran {
 
 impl<'a> Machine<'a> {
     ghost use Rattle.rv_code.specs.machine.Step.{Steps};
-    ghost use Rattle.run_core.specs.Inputs.{Outside};
+    ghost use Rattle.run_core.specs.Inputs.{outside_of};
     ghost use Rattle.run_core.specs.Runs.{RunsSomeInput};
     ghost use Rattle.rv_machine.specs.State.{state_of};
-    ghost use Rattle.rv_machine.specs.Stepped.{answered};
+    ghost use Rattle.rv_machine.specs.StepResults.{answered};
 
     /// Does at most `limit` steps. Once a read found the input at its end, it is at its end for the whole run.
     pub fn run<I: Source, O: Sink>(&mut self, limit: u64, input: &mut I, out: &mut O) -> Ran
         ensures answer { RunsSomeInput state_of Steps (answered result.end) limit result.steps self.old self.new
-            (record { input = I.seen input.old; output = O.seen out.old })
-            (record { input = I.seen input.new; output = O.seen out.new }) }
+            (outside_of (I.seen input.old) (O.seen out.old))
+            (outside_of (I.seen input.new) (O.seen out.new)) }
         ensures reads { (I.seen input.old).faults ≤ (I.seen input.new).faults }
         ensures writes { (O.seen out.old).faults ≤ (O.seen out.new).faults }
     {

@@ -11,18 +11,18 @@ use rv_code::{Action, Cause};
 impl<'a> Machine<'a> {
     ghost use Rattle.rv_code.specs.machine.Step.{Steps};
     ghost use Rattle.rv_code.specs.machine.DeterminedRuns.{HasOneOutcome};
-    ghost use Rattle.run_core.specs.Inputs.{Outside};
-    ghost use Rattle.rv_machine.specs.Known.{AreKnown};
+    ghost use Rattle.run_core.specs.Inputs.{outside_of};
+    ghost use Rattle.rv_machine.specs.KnownInsts.{AreKnown};
     ghost use Rattle.rv_machine.specs.State.{state_of};
-    ghost use Rattle.rv_machine.specs.Stepped.{StepAnswers};
+    ghost use Rattle.rv_machine.specs.StepResults.{StepAnswers};
 
     /// Does the instruction at the pc. Input comes from `input`, and output goes to `out`.
     ///
     /// After `Memory`, `Trap` and `Ended` the machine is as it was; after the two faults nothing is said of it.
     pub fn step<I: Source, O: Sink>(&mut self, input: &mut I, out: &mut O) -> Stepped
         ensures answer { (ends : Bool) × StepAnswers Steps result self.old self.new false ends
-            (record { input = I.seen input.old; output = O.seen out.old })
-            (record { input = I.seen input.new; output = O.seen out.new }) }
+            (outside_of (I.seen input.old) (O.seen out.old))
+            (outside_of (I.seen input.new) (O.seen out.new)) }
         ensures determined { (bytes : List ℕ) → HasOneOutcome Steps (state_of self.old bytes) }
         ensures reads { (I.seen input.old).faults ≤ (I.seen input.new).faults }
         ensures writes { (O.seen out.old).faults ≤ (O.seen out.new).faults }
@@ -43,8 +43,8 @@ impl<'a> Machine<'a> {
         requires { AreKnown known.old }
         ensures known { AreKnown known.new }
         ensures answer { StepAnswers Steps result self.old self.new input_end.old.reached input_end.new.reached
-            (record { input = I.seen input.old; output = O.seen out.old })
-            (record { input = I.seen input.new; output = O.seen out.new }) }
+            (outside_of (I.seen input.old) (O.seen out.old))
+            (outside_of (I.seen input.new) (O.seen out.new)) }
         ensures determined { (bytes : List ℕ) → HasOneOutcome Steps (state_of self.old bytes) }
         ensures reads { (I.seen input.old).faults ≤ (I.seen input.new).faults }
         ensures writes { (O.seen out.old).faults ≤ (O.seen out.new).faults }

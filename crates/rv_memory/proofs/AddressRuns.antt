@@ -18,7 +18,7 @@ use Rattle.elf_image.specs.memory.Image.{is_load, end_of, loads_address, segment
 use Rattle.elf_image.specs.memory.Image.{is_loaded_with}
 use Rattle.elf_image.proofs.LoadLemmas.{find-found, find-only, loads-parts, loads-from_parts}
 use Rattle.rv_memory.specs.Pages.{is_within}
-use Rattle.rv_memory.specs.Blank.{misses}
+use Rattle.rv_memory.specs.BlankPages.{misses}
 
 pub all_may-run : (may : ℕ → Bool) (a n : ℕ) → a + n ≤ 2 ^ 64 →
     ((q : ℕ) → a ≤ q → q < a + n → may q ≡ true) → all_may may a n ≡ true

@@ -11,7 +11,7 @@ use Rattle.std.proofs.lemmas.Bool.{cases_lt}
 use Rattle.byteorder.specs.Endian.{little_from}
 use Rattle.elf_image.specs.file.Header.{number_at}
 use Rattle.rv_code.specs.machine.Machine.{plus, memory_bytes, little}
-use Rattle.rv_memory.specs.Patched.{patched}
+use Rattle.rv_memory.specs.Patches.{patched}
 use Rattle.rv_memory.specs.PageIndex.{place_of}
 use Rattle.rv_memory.specs.declared.pages.Pages.{Pages}
 use Rattle.rv_memory.specs.declared.page_index.PageIndex.{PageIndex}

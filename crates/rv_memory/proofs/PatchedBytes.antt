@@ -14,7 +14,7 @@ use Rattle.byteorder.specs.Endian.{little_bytes}
 use Rattle.byteorder.specs.Numbers.{length-bytes_low_first}
 use borrow.Rule.Slice.PartMut.{put_mid}
 use Rattle.rv_code.specs.machine.Machine.{low_bytes}
-use Rattle.rv_memory.specs.Patched.{patched}
+use Rattle.rv_memory.specs.Patches.{patched}
 use Rattle.rv_memory.specs.Pages.{is_within}
 use Rattle.rv_memory.proofs.Cells.{bytes_low_first-low_bytes}
 use Rattle.rv_memory.proofs.StackLengths.{low_bytes-mod}

@@ -7,7 +7,7 @@ use Rattle.std.proofs.lemmas.Bool.{cases_lt, leb-true, leb-false, eqb-true, eqb-
 use Rattle.std.proofs.lemmas.List.Sums.{sum_by-cons}
 use Rattle.std.proofs.lemmas.List.Edits.{length-insert, get_or-insert_below, get_or-insert_at, get_or-insert_above}
 use Rattle.std.proofs.Math.Nat.{eq-or-lt_of_le}
-use Rattle.rb_lanes.specs.Ranking.{rank}
+use Rattle.rb_lanes.specs.Ranks.{rank}
 use Rattle.rv_memory.specs.PageIndex.{beside}
 
 pub record Ascends (xs : List ℕ) : Type 0 where

@@ -14,18 +14,18 @@ abbrev pub is_ever_writable : List Segment → ℕ → ℕ → ℕ → Bool
 is_ever_writable segments from to q = (is_loaded_with PF_W segments q || in_stack q) || (nat_le from q && nat_lt q to)
 
 -- how many bytes the file has of a segment
-abbrev pub size_of : Segment → ℕ
-size_of p = min p.filesz p.memsz
+abbrev pub loaded_size : Segment → ℕ
+loaded_size p = min p.filesz p.memsz
 
 -- They may be executed and never be written: not by the segment's own rights, nor in the stack, nor in what a break can gain
 -- that starts and ends there. The file has them all.
 pub record IsFixedCode (file : List ℕ) (from to : ℕ) (p : Segment) : Type 0 where
   pub executable : has_flag PF_X p ≡ true
   pub unwritable : has_flag PF_W p ≡ false
-  pub below_stack : p.vaddr + size_of p ≤ stack_end - stack_size
-  pub apart : (p.vaddr + size_of p ≤ from) ⊎ (to ≤ p.vaddr)
-  pub in_file : p.offset + size_of p ≤ length file
+  pub below_stack : p.vaddr + loaded_size p ≤ stack_end - stack_size
+  pub apart : (p.vaddr + loaded_size p ≤ from) ⊎ (to ≤ p.vaddr)
+  pub in_file : p.offset + loaded_size p ≤ length file
 
 -- where they are loaded
-abbrev pub range_of : Segment → CodeRange
-range_of p = record { from = p.vaddr; to = p.vaddr + size_of p; offset = p.offset }
+abbrev pub loaded_range : Segment → CodeRange
+loaded_range p = record { from = p.vaddr; to = p.vaddr + loaded_size p; offset = p.offset }

@@ -1,8 +1,8 @@
-pub mod Blank
+pub mod BlankPages
 pub mod CodeRange
 pub mod PageIndex
 pub mod Pages
-pub mod Patched
+pub mod Patches
 pub mod Memory
 pub mod Limits
 pub mod Vector

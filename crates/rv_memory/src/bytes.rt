@@ -2,7 +2,7 @@
 ghost use Rattle.std.specs.Prelude.{◌≡◌, ◌≤◌, ◌<◌, ◌+◌, ◌^◌, IfSome, is_some, length, replicate};
 ghost use Rattle.elf_image.specs.file.Header.{number_at};
 ghost use Rattle.rv_code.specs.machine.Machine.{low_bytes};
-ghost use Rattle.rv_memory.specs.Patched.{patched, is_width};
+ghost use Rattle.rv_memory.specs.Patches.{patched, is_width};
 
 use byteorder::{ByteOrder, LittleEndian};
 use elf_image::number::{u16_at, u32_at, u64_at};

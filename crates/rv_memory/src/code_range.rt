@@ -4,7 +4,7 @@ ghost use Rattle.std.specs.Prelude.{unwrap_or};
 ghost use Rattle.elf_image.specs.declared.segment.TheConstants.{PF_X};
 ghost use Rattle.elf_image.specs.declared.segment.Segment.{Segment};
 ghost use Rattle.elf_image.specs.memory.Image.{image_byte, is_loaded_with, segment_of};
-ghost use Rattle.rv_memory.specs.CodeRange.{is_in_code, is_ever_writable, IsFixedCode, range_of};
+ghost use Rattle.rv_memory.specs.CodeRange.{is_in_code, is_ever_writable, IsFixedCode, loaded_range};
 
 use crate::rights::{STACK_END, STACK_SIZE};
 use elf_image::Elf;
@@ -43,7 +43,7 @@ pub fn code_range(elf: &Elf, break_start: u64, break_bound: u64) -> CodeRange
         unwrap_or (image_byte elf.now.file.now elf.now.segments.items q) 0
         ≡ slice_index elf.now.file.now (result.offset + (q - result.from)) }
     ensures whole { (p : Segment) → segment_of elf.now.segments.items elf.now.entry ≡ Some p →
-        IsFixedCode elf.now.file.now break_start break_bound p → result ≡ range_of p }
+        IsFixedCode elf.now.file.now break_start break_bound p → result ≡ loaded_range p }
     ensures within { result.offset + (result.to - result.from) ≤ length elf.now.file.now }
 {
     let Some(segment) = elf.segment_at(elf.entry) else {

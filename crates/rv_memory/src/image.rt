@@ -1,7 +1,7 @@
 // Pages of a file's image.
 ghost use Rattle.std.specs.Prelude.{◌≡◌, ◌+◌, ◌^◌, ◌≤◌};
 ghost use Rattle.std.specs.List.{list_all};
-ghost use Rattle.rv_memory.specs.Blank.{misses};
+ghost use Rattle.rv_memory.specs.BlankPages.{misses};
 
 use crate::pages::PAGE_SIZE;
 use elf_image::Segment;

@@ -2,7 +2,7 @@
 ghost use Rattle.std.specs.Prelude.{◌≡◌, ◌<◌, ◌≤◌, ◌+◌, ◌*◌, ◌-◌, ◌/◌, ◌%◌, ◌^◌, ◌==◌, ◌&&◌, ℕ, false, None, Some, IfSome, IfOk};
 ghost use Rattle.std.specs.Prelude.{IsOk, IsSome, IsTrue, is_some, OnErr, length, slice_index, nat_le, nat_lt, if◌then◌else◌};
 ghost use Rattle.rv_memory.specs.PageIndex.{place_of};
-ghost use Rattle.rv_memory.specs.Patched.{is_width};
+ghost use Rattle.rv_memory.specs.Patches.{is_width};
 
 use crate::bytes::{clear_bytes, number_in, put_bytes, put_number};
 use crate::page_index::PageIndex;

@@ -3,12 +3,7 @@ ghost use Rattle.std.specs.Prelude.{◌≡◌, ◌≤◌, ◌^◌};
 ghost use Rattle.elf_image.specs.memory.Start.{page_size, rounded_down, writable_end, break_start, break_bound};
 
 use elf_image::Segment;
-use elf_image::segment::PF_W;
-
-const PAGE_SIZE: u64 = 4096;
-
-/// The most that a break grows by: 64 MiB.
-const BREAK_ROOM: u64 = 0x400_0000;
+use elf_image::start::{BREAK_ROOM, PAGE_SIZE, writable_end};
 
 fn rounded_down(address: u64) -> u64
     ensures { result ≡ rounded_down page_size address }
@@ -16,26 +11,12 @@ fn rounded_down(address: u64) -> u64
     address / PAGE_SIZE * PAGE_SIZE
 }
 
-/// The end of the highest writable segment, 0 where none is writable.
-fn writable_end(segments: &[Segment]) -> u64
-    requires { writable_end segments.now ≤ 2 ^ 63 }
-    ensures { result ≡ writable_end segments.now }
-{
-    let mut end = 0u128;
-    for segment in segments {
-        if segment.has_memory() && segment.has_flag(PF_W) {
-            end = end.max(segment.vaddr as u128 + segment.memsz as u128);
-        }
-    }
-    end as u64
-}
-
 /// The least break: the end of the highest writable segment, on a whole page.
 pub fn break_start(segments: &[Segment]) -> u64
     requires { writable_end segments.now ≤ 2 ^ 63 }
     ensures { result ≡ break_start segments.now }
 {
-    (writable_end(segments) + (PAGE_SIZE - 1)) / PAGE_SIZE * PAGE_SIZE
+    (writable_end(segments) as u64 + (PAGE_SIZE - 1)) / PAGE_SIZE * PAGE_SIZE
 }
 
 /// The greatest break.
@@ -43,7 +24,7 @@ pub fn break_bound(segments: &[Segment]) -> u64
     requires { writable_end segments.now ≤ 2 ^ 63 }
     ensures { result ≡ break_bound segments.now }
 {
-    let end = writable_end(segments);
+    let end = writable_end(segments) as u64;
     if end == 0 {
         return 0;
     }

@@ -10,14 +10,19 @@ ghost use Rattle.elf_image.specs.memory.Start.{program_arguments, texts, texts_a
 ghost use Rattle.elf_image.specs.memory.Start.{random_address, start_bytes, rounded_down, stack_pointer, stack_bytes};
 
 use elf_image::segment::PHDR_SIZE;
+use elf_image::start::PAGE_SIZE;
 use elf_image::{Elf, Segment};
 use rb_bytes::fault::NoMemory;
 use std::alloc::Global;
 
+/// The most words that a program may be started with.
+pub const MOST_WORDS: usize = 64;
+
+/// The most bytes of them together.
+pub const MOST_WORD_BYTES: usize = 65536;
+
 /// The name that every program is run by.
 const PROGRAM: &[u8] = b"program";
-
-const PAGE_SIZE: u64 = 4096;
 
 /// The address of the 16 bytes at the stack's end.
 const RANDOM_ADDRESS: u64 = 0x3f_ffff_fff0;

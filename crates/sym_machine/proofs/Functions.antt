@@ -8,13 +8,14 @@ use Rattle.std.proofs.lemmas.List.{get_or_default}
 use Rattle.std.proofs.lemmas.List.Elements.{Contains-append_left, Contains-append_right, Contains-append_cases, Contains-get_or}
 use Rattle.rv_code.specs.declared.placed.Placed.{Placed}
 use Rattle.rv_code.specs.declared.placed.Func.{Func}
+use Rattle.rv_code.specs.declared.placed.InstPlace.{InstPlace}
 use Rattle.rv_code.specs.layout.Flow.{insts_of, placed_at}
 use Rattle.rv_code.specs.layout.FunctionLists.{AreLaidOut}
+use Rattle.rv_code.specs.layout.FunctionMembers.{IsInstPlace}
 use Rattle.rv_code.proofs.lists.Follows.{inst_bounds, insts_rise}
 use Rattle.elf_image.proofs.LoadLemmas.{Contains-cons_cases, Contains-there, find-only, find-none, find-finds}
-use Rattle.sym_machine.specs.declared.inst_index.InstPlace.{InstPlace}
 use Rattle.sym_machine.specs.Rules.{next_in, next_of}
-use Rattle.sym_machine.specs.internal.FunctionOrder.{IsSearchable, IsInstAt, addr_at}
+use Rattle.sym_machine.specs.internal.FunctionOrder.{IsSearchable, addr_at}
 
 pub searchable : (funcs : List Func) → AreLaidOut funcs → IsSearchable funcs
 searchable funcs are = record {
@@ -138,29 +139,30 @@ module _ (funcs : List Func) (s : IsSearchable funcs) where
   ]
 
   -- what stands at a place is the instruction at its address
-  pub placed_at-found : (f i a : ℕ) → IsInstAt funcs f i a → (d : Func) (e : Placed) →
+  pub placed_at-found : (f i a : ℕ) → IsInstPlace funcs a f i → (d : Func) (e : Placed) →
       placed_at funcs a ≡ Some (slice_index_or (insts_at funcs f d) i e)
   placed_at-found f i a at d e =
       find-only (λ p. p.addr == a) (insts_of funcs) (slice_index_or (insts_at funcs f d) i e)
       (in_flat funcs (slice_index_or funcs f d) (slice_index_or (insts_at funcs f d) i e)
-      (Contains-get_or funcs f d at.func) (Contains-get_or (insts_at funcs f d) i e (at.index d)))
-      (eq-eqb _ a (at.addr_is d e))
+      (Contains-get_or funcs f d at.func_within) (Contains-get_or (insts_at funcs f d) i e (at.inst_within d)))
+      (eq-eqb _ a (at.starts d e))
       (λ y y_in passes. only y (occurs funcs y y_in) (eqb-true y.addr a passes))
     where
       only : (y : Placed) → Occurs funcs y → y.addr ≡ a → y ≡ slice_index_or (insts_at funcs f d) i e
       only y o there =
           let x = o.func in
           let here : (slice_index_or (insts_at funcs o.f x) o.i y).addr ≡ a = ap (λ (t : Placed). t.addr) o.is ∙ there in
-          let f_is : f ≡ o.f = same_func f i o.f o.i a x y at.func (at.index x) o.within o.inside (at.addr_is x y) here in
+          let f_is : f ≡ o.f =
+          same_func f i o.f o.i a x y at.func_within (at.inst_within x) o.within o.inside (at.starts x y) here in
           let inside : o.i < length (insts_at funcs f x) = subst (λ k. o.i < length (insts_at funcs k x)) (sym f_is) o.inside in
           let here' : (slice_index_or (insts_at funcs f x) o.i y).addr ≡ a =
           subst (λ k. (slice_index_or (insts_at funcs k x) o.i y).addr ≡ a) (sym f_is) here in
-          let i_is : i ≡ o.i = same_inst f i o.i a x y at.func (at.index x) inside (at.addr_is x y) here' in
+          let i_is : i ≡ o.i = same_inst f i o.i a x y at.func_within (at.inst_within x) inside (at.starts x y) here' in
           sym o.is
           ∙ ap (λ k. slice_index_or (insts_at funcs k x) o.i y) (sym f_is)
           ∙ ap (λ k. slice_index_or (insts_at funcs f x) k y) (sym i_is)
-          ∙ ap (λ t. slice_index_or t.insts.items i y) (get_or_default funcs f x d at.func)
-          ∙ get_or_default (insts_at funcs f d) i y e (at.index d)
+          ∙ ap (λ t. slice_index_or t.insts.items i y) (get_or_default funcs f x d at.func_within)
+          ∙ get_or_default (insts_at funcs f d) i y e (at.inst_within d)
 
   -- An address at which no instruction of any function starts.
   pub placed_at-none : (a : ℕ) → ((g j : ℕ) (d : Func) (e : Placed) → g < length funcs → j < length (insts_at funcs g d) →
@@ -237,13 +239,13 @@ first_of_some [] i within = absurd (omega (arith, within))
 first_of_some (x ∷ xs) i within = x
 
 pub code_address_is : (funcs : List Func) → IsSearchable funcs → (a : ℕ) (o : Option InstPlace) →
-    IfSome o (λ at. IsInstAt funcs at.func at.index a) →
+    IfSome o (λ at. IsInstPlace funcs a at.func at.inst) →
     IfNone o (placed_at funcs a ≡ None) → is_some o ≡ is_some (placed_at funcs a)
 code_address_is funcs s a None found none = sym (ap is_some none)
 code_address_is funcs s a (Some at) found none =
-    let d = first_of_some funcs at.func found.func in
-    let e = first_of_some (insts_at funcs at.func d) at.index (found.index d) in
-    sym (ap is_some (placed_at-found funcs s at.func at.index a found d e))
+    let d = first_of_some funcs at.func found.func_within in
+    let e = first_of_some (insts_at funcs at.func d) at.inst (found.inst_within d) in
+    sym (ap is_some (placed_at-found funcs s at.func at.inst a found d e))
 
 -- The next instruction of a function.
 
@@ -293,18 +295,18 @@ or_none : {A : Type 0} (o p : Option A) → p ≡ None → option_or o p ≡ o
 or_none None p none = none
 or_none (Some x) p none = refl
 
-pub next_of-found : (funcs : List Func) → IsSearchable funcs → (f i a : ℕ) → IsInstAt funcs f i a → (d : Func) →
+pub next_of-found : (funcs : List Func) → IsSearchable funcs → (f i a : ℕ) → IsInstPlace funcs a f i → (d : Func) →
     next_of funcs a ≡ addr_at (insts_at funcs f d) (suc i)
-next_of-found [] s f i a at d = absurd (let l = at.func in omega (arith, l))
+next_of-found [] s f i a at d = absurd (let l = at.func_within in omega (arith, l))
 next_of-found (g ∷ gs) s zero i a at d =
     or_none (next_in g.insts.items a) (next_of gs a)
-    (next_of-none gs a (λ k j d e within inside there. one_func (g ∷ gs) s zero i (suc k) j a d e (omega arith) (at.index d)
-    (omega arith) inside (at.addr_is d e) there (omega arith)))
+    (next_of-none gs a (λ k j d e within inside there. one_func (g ∷ gs) s zero i (suc k) j a d e (omega arith) (at.inst_within d)
+    (omega arith) inside (at.starts d e) there (omega arith)))
     ∙ next_in-found g.insts.items i a (λ i j e less inside. s.rising zero i j g e (omega arith) less inside)
-    (at.index g) (λ e. at.addr_is g e)
+    (at.inst_within g) (λ e. at.starts g e)
 next_of-found (g ∷ gs) s (suc f) i a at d =
-    let l = at.func in
+    let l = at.func_within in
     rw (next_in-none g.insts.items a (λ j e inside there. one_func (g ∷ gs) s zero j (suc f) i a g e (omega arith) inside
-    (omega (arith, l)) (at.index g) there (at.addr_is g e) (omega arith)))
+    (omega (arith, l)) (at.inst_within g) there (at.starts g e) (omega arith)))
     (next_of-found gs (tail_searchable g gs s) f i a
-    (record { func = omega (arith, l); index = λ d. at.index d; addr_is = λ d e. at.addr_is d e }) d)
+    (record { func_within = omega (arith, l); inst_within = λ d. at.inst_within d; starts = λ d e. at.starts d e }) d)

@@ -2,7 +2,7 @@
 use Rattle.std.proofs.Common.{◌≡◌, ℕ, refl, sym, subst}
 use Rattle.run_core.specs.Answers as answer
 use Rattle.run_core.specs.Runs.{steps_done}
-use Rattle.sym_machine.specs.State.{answered}
+use Rattle.sym_machine.specs.MachineState.{answered}
 use Rattle.sym_machine.specs.declared.outcome.SymRan.{SymRan}
 use Rattle.sym_machine.specs.declared.outcome.SymStepped.{SymStepped}
 use Rattle.sym_machine.specs.declared.outcome.SymStepped.TheVariants as stepped

@@ -5,7 +5,7 @@ use Rattle.std.specs.Prelude.{◌&&◌, ◌||◌, ◌==◌, not, nat_le, nat_lt,
 use Rattle.std.specs.List.{list_any}
 use Rattle.std.proofs.lemmas.Bool.{and_parts, eqb-true, leb-true, ltb-true}
 use Rattle.rv_code.specs.machine.Machine.{plus, memory_bytes, put, all_may, low_bytes}
-use Rattle.sym_machine.specs.declared.value.Symbol.{Symbol}
+use Rattle.sym_machine.specs.declared.value.CodeSymbol.{CodeSymbol}
 use Rattle.sym_machine.specs.declared.value.MemoryByte.{MemoryByte}
 use Rattle.sym_machine.specs.declared.value.MemoryByte.TheVariants.{Byte, SymbolByte, Hidden}
 use Rattle.sym_machine.specs.declared.other_bytes.OtherByte.{OtherByte}
@@ -33,13 +33,13 @@ low_bytes_length (suc n) x = ap suc (low_bytes_length n (x / 256))
 
 -- Bytes of one symbol.
 
-bytes_cons : (y : Symbol) (w i : ℕ) (c : MemoryByte) (cs : List MemoryByte) →
+bytes_cons : (y : CodeSymbol) (w i : ℕ) (c : MemoryByte) (cs : List MemoryByte) →
     are_symbol_bytes y w i (c ∷ cs) ≡ is_byte_of c y w i && are_symbol_bytes y w (suc i) cs
 bytes_cons y w i (Byte b) cs = refl
 bytes_cons y w i (SymbolByte z v j) cs = refl
 bytes_cons y w i Hidden cs = refl
 
-pub bytes_step : (cells : ℕ → MemoryByte) (y : Symbol) (w i a n : ℕ) → 0 < n →
+pub bytes_step : (cells : ℕ → MemoryByte) (y : CodeSymbol) (w i a n : ℕ) → 0 < n →
     are_symbol_bytes y w i (memory_bytes cells a n) ≡ is_byte_of (cells a) y w i
     && are_symbol_bytes y w (i + 1) (memory_bytes cells (plus a 1) (n - 1))
 bytes_step cells y w i a n some =
@@ -137,7 +137,7 @@ module _ (others : ℕ → Option OtherByte) (memory : ℕ → ℕ) where
       by false rest = rest
 
   -- bytes of a symbol
-  pub put_symbols : (a q : ℕ) (y : Symbol) (w i n : ℕ) →
+  pub put_symbols : (a q : ℕ) (y : CodeSymbol) (w i n : ℕ) →
       cell_over (put others a (other_bytes y w i n) q) (memory q) ≡ put over a (symbol_bytes y w i n) q
   unfolding put other_bytes symbol_bytes
   put_symbols a q y w i zero = refl
@@ -183,12 +183,12 @@ put_none_same others a (suc n) q all = by (q == a) refl (put_none_same others (p
     by true e rest = ap others (eqb-true q a e) ∙ none_only (others a) parts.0
     by false e rest = rest
 
-pub put_symbol_nothing : (others : ℕ → Option OtherByte) (a n q : ℕ) (y : Symbol) (w i : ℕ) → n ≡ 0 →
+pub put_symbol_nothing : (others : ℕ → Option OtherByte) (a n q : ℕ) (y : CodeSymbol) (w i : ℕ) → n ≡ 0 →
     others q ≡ put others a (other_bytes y w i n) q
 unfolding put other_bytes
 put_symbol_nothing others a n q y w i e = rw e refl
 
-pub put_symbol_next : (others : ℕ → Option OtherByte) (a i n q : ℕ) (y : Symbol) (w first : ℕ) → i < n →
+pub put_symbol_next : (others : ℕ → Option OtherByte) (a i n q : ℕ) (y : CodeSymbol) (w first : ℕ) → i < n →
     put others (plus a i) (other_bytes y w (first + i) (n - i)) q
     ≡ (if q == plus a i then Some (other.Symbol y w (first + i))
     else put others (plus a (i + 1)) (other_bytes y w (first + (i + 1)) (n - (i + 1))) q)

@@ -12,7 +12,7 @@ use Rattle.elf_image.specs.memory.LoadedBytes.{loads_range, file_offset, offset_
 use Rattle.elf_image.proofs.LoadLemmas.{find-found}
 use Rattle.sym_machine.specs.HiddenFields.{e_entry_field, is_hidden_field, hidden_fields}
 use Rattle.sym_machine.specs.internal.Fields.{AreLow}
-use Rattle.sym_machine.specs.internal.Special.{covers}
+use Rattle.sym_machine.specs.internal.SpecialBytes.{covers}
 
 pub list_any-map : {X Y : Type 0} (p : Y → Bool) (f : X → Y) (xs : List X) → list_any p (map f xs) ≡ list_any (λ x. p (f x)) xs
 list_any-map p f [] = refl

@@ -1,6 +1,6 @@
 pub mod HiddenFields
 pub mod Rules
-pub mod State
+pub mod MachineState
 pub mod SymStart
 pub mod SymStep
 pub mod Values

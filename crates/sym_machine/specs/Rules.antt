@@ -19,21 +19,19 @@ use Rattle.rv_code.specs.isa.Op.{apply, holds}
 use Rattle.rv_code.specs.isa.TwosComplement.{unsigned64}
 use Rattle.rv_code.specs.isa.Extension.{extended}
 use Rattle.rv_code.specs.machine.Machine.{plus, little}
+use Rattle.rb_bytes.specs.Options.{only_if}
 use Rattle.sym_machine.specs.declared.value.Pointer.{Pointer}
 use Rattle.sym_machine.specs.declared.value.Pointer.TheVariants.{Code, Ret}
 use Rattle.sym_machine.specs.declared.value.Comparing.{Comparing}
 use Rattle.sym_machine.specs.declared.value.Comparing.TheVariants.{Sub, Xor}
-use Rattle.sym_machine.specs.declared.value.Symbol.{Symbol}
-use Rattle.sym_machine.specs.declared.value.Symbol.TheVariants.{Points, Hi, Abs, Diff, Apart}
+use Rattle.sym_machine.specs.declared.value.CodeSymbol.{CodeSymbol}
+use Rattle.sym_machine.specs.declared.value.CodeSymbol.TheVariants.{Points, Hi, Abs, Diff, Apart}
 use Rattle.sym_machine.specs.declared.value.Signedness.TheVariants.{Signed, Unsigned}
 use Rattle.sym_machine.specs.declared.value.Value.{Value}
 use Rattle.sym_machine.specs.declared.value.Value.TheVariants.{Num, Sym, Piece}
 use Rattle.sym_machine.specs.declared.value.MemoryByte.{MemoryByte}
 use Rattle.sym_machine.specs.declared.value.MemoryByte.TheVariants.{SymbolByte}
 use Rattle.sym_machine.specs.Values.{value_of, is_value_of, numbers, are_symbol_bytes}
-
-abbrev pub only_if : {A : Type 0} → Bool → A → Option A
-only_if test x = if test then Some x else None
 
 -- Upper and lower parts of addresses.
 
@@ -202,13 +200,13 @@ place funcs _ (Num a) offset = Some (Num (plus a offset))
 place funcs _ base offset = Some base
 
 -- a symbol that an LWU gives back whole: its number is never negative
-abbrev pub is_unsigned : Symbol → Bool
+abbrev pub is_unsigned : CodeSymbol → Bool
 is_unsigned (Points p) = true
 is_unsigned (Abs t) = true
 is_unsigned _ = false
 
 -- Bytes of a symbol y from byte i on, which is kept in w bytes: all of them are the symbol, others a piece of it.
-abbrev pub piece : Extension → Symbol → ℕ → ℕ → Option Value
+abbrev pub piece : Extension → CodeSymbol → ℕ → ℕ → Option Value
 piece Whole64 y w i = only_if (w == 8 && i == 0) (Sym y)
 piece Signed32 y w i = Some (if w == 4 && i == 0 then Sym y else Piece y w i 4 Signed)
 piece Zero32 y w i = Some (if w == 4 && i == 0 && is_unsigned y then Sym y else Piece y w i 4 Unsigned)

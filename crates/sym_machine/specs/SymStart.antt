@@ -13,8 +13,8 @@ use Rattle.elf_image.specs.memory.LoadedBytes.{Range, is_in_range, address_of}
 use Rattle.elf_image.specs.memory.Start.{start_memory, start_registers, space_of, break_start}
 use Rattle.sym_machine.specs.declared.outcome.Reason.{Reason}
 use Rattle.sym_machine.specs.declared.value.Pointer.TheVariants.{Code}
-use Rattle.sym_machine.specs.declared.value.Symbol.{Symbol}
-use Rattle.sym_machine.specs.declared.value.Symbol.TheVariants.{Points, Diff}
+use Rattle.sym_machine.specs.declared.value.CodeSymbol.{CodeSymbol}
+use Rattle.sym_machine.specs.declared.value.CodeSymbol.TheVariants.{Points, Diff}
 use Rattle.sym_machine.specs.declared.value.Value.{Value}
 use Rattle.sym_machine.specs.declared.value.Value.TheVariants.{Num}
 use Rattle.sym_machine.specs.declared.value.MemoryByte.{MemoryByte}
@@ -24,12 +24,12 @@ use Rattle.sym_machine.specs.SymStep.{SymState, SymSteps}
 
 -- Symbols.
 
-abbrev pub symbol_of : CellKind → Symbol
+abbrev pub symbol_of : CellKind → CodeSymbol
 symbol_of (kind.Abs to) = Points (Code to)
 symbol_of (kind.Diff to from) = Diff to from
 
-abbrev pub range_of : CodeCell → Range
-range_of cell = record { start = cell.addr; size = cell.width }
+abbrev pub code_cell_range : CodeCell → Range
+code_cell_range cell = record { start = cell.addr; size = cell.width }
 
 -- the byte of a code cell at an address
 abbrev pub byte_of_cell : ℕ → CodeCell → MemoryByte
@@ -53,7 +53,7 @@ abbrev pub hidden_byte : Elf → Bool → List (List ℕ) → ℕ → Option Mem
 hidden_byte elf tight words a = if is_hidden_field elf tight a || is_hidden_entry tight words a then Some Hidden else None
 
 abbrev pub code_cell_byte : List CodeCell → ℕ → Option MemoryByte
-code_cell_byte cells a = option_map (byte_of_cell a) (find (λ c. is_in_range a (range_of c)) cells)
+code_cell_byte cells a = option_map (byte_of_cell a) (find (λ c. is_in_range a (code_cell_range c)) cells)
 
 -- Where these overlap, the entry point comes first. All other bytes are those of the byte machine.
 abbrev pub sym_memory : Elf → List CodeCell → Bool → List (List ℕ) → ℕ → MemoryByte

@@ -21,7 +21,7 @@ use Rattle.rv_code.specs.machine.Step.{a0, a1, a2, a7}
 use Rattle.sym_machine.specs.declared.outcome.Reason.{Reason}
 use Rattle.sym_machine.specs.declared.outcome.Reason.TheVariants as reason
 use Rattle.sym_machine.specs.declared.value.Pointer.TheVariants.{Ret}
-use Rattle.sym_machine.specs.declared.value.Symbol.TheVariants.{Points}
+use Rattle.sym_machine.specs.declared.value.CodeSymbol.TheVariants.{Points}
 use Rattle.sym_machine.specs.declared.value.Value.{Value}
 use Rattle.sym_machine.specs.declared.value.Value.TheVariants.{Num, Sym}
 use Rattle.sym_machine.specs.declared.value.MemoryByte.{MemoryByte}

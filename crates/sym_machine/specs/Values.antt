@@ -10,8 +10,8 @@ use Rattle.sym_machine.specs.declared.value.Pointer.{Pointer}
 use Rattle.sym_machine.specs.declared.value.Pointer.TheVariants.{Code, Ret}
 use Rattle.sym_machine.specs.declared.value.Comparing.{Comparing}
 use Rattle.sym_machine.specs.declared.value.Comparing.TheVariants.{Sub, Xor}
-use Rattle.sym_machine.specs.declared.value.Symbol.{Symbol}
-use Rattle.sym_machine.specs.declared.value.Symbol.TheVariants.{Points, Hi, Abs, Diff, Apart}
+use Rattle.sym_machine.specs.declared.value.CodeSymbol.{CodeSymbol}
+use Rattle.sym_machine.specs.declared.value.CodeSymbol.TheVariants.{Points, Hi, Abs, Diff, Apart}
 use Rattle.sym_machine.specs.declared.value.Value.{Value}
 use Rattle.sym_machine.specs.declared.value.Value.TheVariants.{Num, Sym, Piece}
 use Rattle.sym_machine.specs.declared.value.MemoryByte.{MemoryByte}
@@ -34,7 +34,7 @@ same_comparing Sub Sub = true
 same_comparing Xor Xor = true
 same_comparing _ _ = false
 
-abbrev pub same_symbol : Symbol → Symbol → Bool
+abbrev pub same_symbol : CodeSymbol → CodeSymbol → Bool
 same_symbol (Points p) (Points q) = same_pointer p q
 same_symbol (Hi a) (Hi b) = a == b
 same_symbol (Abs s) (Abs t) = s == t
@@ -70,12 +70,12 @@ numbers (c ∷ cs) = and_byte c (numbers cs)
 -- Symbols in memory.
 
 -- n bytes of a symbol from byte i on, as it is kept in w bytes
-unfoldable pub symbol_bytes : Symbol → ℕ → ℕ → ℕ → List MemoryByte
+unfoldable pub symbol_bytes : CodeSymbol → ℕ → ℕ → ℕ → List MemoryByte
 symbol_bytes y w i zero = []
 symbol_bytes y w i (suc n) = SymbolByte y w i ∷ symbol_bytes y w (suc i) n
 
 -- cells are bytes of a symbol from byte i on, as it is kept in w bytes
-abbrev pub are_symbol_bytes : Symbol → ℕ → ℕ → List MemoryByte → Bool
+abbrev pub are_symbol_bytes : CodeSymbol → ℕ → ℕ → List MemoryByte → Bool
 are_symbol_bytes y w i [] = true
 are_symbol_bytes y w i (SymbolByte z v j ∷ cs) = same_symbol y z && w == v && i == j && are_symbol_bytes y w (suc i) cs
 are_symbol_bytes y w i (c ∷ cs) = false
@@ -94,13 +94,13 @@ stored n (Piece y w i k e) = if nat_le n k then Some (symbol_bytes y w i n) else
 -- The values and cells that the machine makes.
 
 -- pointers that were compared have one kind and different addresses
-abbrev pub AreApart : Pointer → Pointer → Type 0
-AreApart (Code a) (Code b) = a ≢ b
-AreApart (Ret a) (Ret b) = a ≢ b
-AreApart _ _ = ⊥
+abbrev pub AreSymbolsApart : Pointer → Pointer → Type 0
+AreSymbolsApart (Code a) (Code b) = a ≢ b
+AreSymbolsApart (Ret a) (Ret b) = a ≢ b
+AreSymbolsApart _ _ = ⊥
 
-abbrev pub IsSymbol : Symbol → Type 0
-IsSymbol (Apart by p q) = AreApart p q
+abbrev pub IsSymbol : CodeSymbol → Type 0
+IsSymbol (Apart by p q) = AreSymbolsApart p q
 IsSymbol _ = Unit {0}
 
 -- a symbol is kept in 4 or in 8 bytes

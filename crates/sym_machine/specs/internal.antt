@@ -6,4 +6,4 @@ pub mod FunctionOrder
 pub mod KnownInsts
 pub mod Memory
 pub mod OtherBytes
-pub mod Special
+pub mod SpecialBytes

@@ -2,12 +2,12 @@
 ghost use Rattle.std.specs.Prelude.{◌≡◌, Option, Some, None, option_map};
 ghost use Rattle.sym_machine.specs.Values.{stored};
 ghost use Rattle.sym_machine.specs.Rules.{is_unsigned, piece};
-ghost use Rattle.sym_machine.specs.internal.Cases.{moved};
+ghost use Rattle.sym_machine.specs.internal.Cases.{with_offset};
 ghost use Rattle.sym_machine.specs.internal.Accesses.{stored_cells, symbol_piece};
 
 use crate::inst_index::InstIndex;
 use crate::memory::SymbolBytes;
-use crate::value::{Signedness, Symbol, Value};
+use crate::value::{CodeSymbol, Signedness, Value};
 use rv_code::{Extension, Role};
 
 /// What a store writes.
@@ -51,15 +51,15 @@ pub fn what_to_store(count: u8, value: Value) -> Option<Stored>
 }
 
 // Whether an LWU gives a symbol back whole.
-fn is_unsigned(symbol: Symbol) -> bool
+fn is_unsigned(symbol: CodeSymbol) -> bool
     ensures { result ≡ is_unsigned symbol }
 {
     match symbol {
-        Symbol::Points(_) => true,
-        Symbol::Abs(_) => true,
-        Symbol::Hi(_) => false,
-        Symbol::Diff { .. } => false,
-        Symbol::Apart { .. } => false,
+        CodeSymbol::Points(_) => true,
+        CodeSymbol::Abs(_) => true,
+        CodeSymbol::Hi(_) => false,
+        CodeSymbol::Diff { .. } => false,
+        CodeSymbol::Apart { .. } => false,
     }
 }
 
@@ -122,7 +122,7 @@ pub fn piece(extension: Extension, from: SymbolBytes) -> Option<Value>
 
 // A base with an offset.
 fn moved(base: Value, offset: u64) -> Value
-    ensures { result ≡ moved base offset }
+    ensures { result ≡ with_offset base offset }
 {
     match base {
         Value::Num(address) => Value::Num(address.wrapping_add(offset)),

@@ -2,11 +2,12 @@
 ghost use Rattle.std.specs.Prelude.{◌≡◌, ◌-◌, ◌^◌, ◌==◌, ◌&&◌, Option, Some, None, false};
 ghost use Rattle.rv_code.specs.isa.Op.{apply};
 ghost use Rattle.sym_machine.specs.Values.{number};
-ghost use Rattle.sym_machine.specs.Rules.{is_nonzero, copied, compared, compared_by, masked, on_constant, only_if};
+ghost use Rattle.sym_machine.specs.Rules.{is_nonzero, copied, compared, compared_by, masked, on_constant};
+ghost use Rattle.rb_bytes.specs.Options.{only_if};
 ghost use Rattle.sym_machine.specs.internal.Cases.{pointer_in, compared_values, masked_value, both_numbers};
 
 use crate::inst_index::InstIndex;
-use crate::value::{Comparing, Pointer, Symbol, Value};
+use crate::value::{CodeSymbol, Comparing, Pointer, Value};
 use rv_code::Op;
 
 /// Whether a value is surely not 0.
@@ -20,15 +21,15 @@ pub fn is_nonzero(value: Value) -> bool
     }
 }
 
-fn is_symbol_nonzero(symbol: Symbol) -> bool
+fn is_symbol_nonzero(symbol: CodeSymbol) -> bool
     ensures { result ≡ is_nonzero (Value.Sym symbol) }
 {
     match symbol {
-        Symbol::Points(_) => true,
-        Symbol::Apart { .. } => true,
-        Symbol::Hi(_) => false,
-        Symbol::Abs(_) => false,
-        Symbol::Diff { .. } => false,
+        CodeSymbol::Points(_) => true,
+        CodeSymbol::Apart { .. } => true,
+        CodeSymbol::Hi(_) => false,
+        CodeSymbol::Abs(_) => false,
+        CodeSymbol::Diff { .. } => false,
     }
 }
 
@@ -50,7 +51,7 @@ fn compared(by: Comparing, left: Pointer, right: Pointer, a: u64, b: u64) -> Val
     if a == b {
         Value::Num(0)
     } else {
-        Value::Sym(Symbol::Apart { by, left, right })
+        Value::Sym(CodeSymbol::Apart { by, left, right })
     }
 }
 
@@ -78,7 +79,7 @@ fn masked(pointer: Pointer, mask: u64) -> Option<Value>
         return Some(Value::Num(0));
     }
     if mask == 0xffff_ffff_ffff_fffe {
-        return Some(Value::Sym(Symbol::Points(pointer)));
+        return Some(Value::Sym(CodeSymbol::Points(pointer)));
     }
     None
 }
@@ -93,15 +94,15 @@ fn pointer_in(value: Value) -> Option<Pointer>
     }
 }
 
-fn pointer_of(symbol: Symbol) -> Option<Pointer>
+fn pointer_of(symbol: CodeSymbol) -> Option<Pointer>
     ensures { result ≡ pointer_in (Value.Sym symbol) }
 {
     match symbol {
-        Symbol::Points(pointer) => Some(pointer),
-        Symbol::Hi(_) => None,
-        Symbol::Abs(_) => None,
-        Symbol::Diff { .. } => None,
-        Symbol::Apart { .. } => None,
+        CodeSymbol::Points(pointer) => Some(pointer),
+        CodeSymbol::Hi(_) => None,
+        CodeSymbol::Abs(_) => None,
+        CodeSymbol::Diff { .. } => None,
+        CodeSymbol::Apart { .. } => None,
     }
 }
 
@@ -183,21 +184,21 @@ impl<'a> InstIndex<'a> {
         }
     }
 
-    fn from_symbol(&self, symbol: Symbol, other: Value) -> Option<Value>
+    fn from_symbol(&self, symbol: CodeSymbol, other: Value) -> Option<Value>
         ensures { result ≡ from_difference self.now.funcs.now (Value.Sym symbol) other }
     {
         match symbol {
-            Symbol::Diff { to, from } => {
+            CodeSymbol::Diff { to, from } => {
                 if self.is_value_of(from, other) {
                     Some(self.value_of(to))
                 } else {
                     None
                 }
             }
-            Symbol::Points(_) => None,
-            Symbol::Hi(_) => None,
-            Symbol::Abs(_) => None,
-            Symbol::Apart { .. } => None,
+            CodeSymbol::Points(_) => None,
+            CodeSymbol::Hi(_) => None,
+            CodeSymbol::Abs(_) => None,
+            CodeSymbol::Apart { .. } => None,
         }
     }
 

@@ -4,7 +4,7 @@ ghost use Rattle.sym_machine.specs.Rules.{equal_pointers, equal_number, tested};
 ghost use Rattle.sym_machine.specs.internal.Cases.{numbers_tested};
 
 use crate::arithmetic::is_nonzero;
-use crate::value::{Pointer, Symbol, Value};
+use crate::value::{CodeSymbol, Pointer, Value};
 use rv_code::Test;
 
 // Whether two pointers are equal, if they have one kind.
@@ -34,27 +34,27 @@ fn equal_number(value: Value, number: u64) -> Option<bool>
     }
 }
 
-fn equal_symbols(left: Symbol, right: Symbol) -> Option<bool>
+fn equal_symbols(left: CodeSymbol, right: CodeSymbol) -> Option<bool>
     ensures { result ≡ tested Test.Equal (Value.Sym left) (Value.Sym right) }
 {
     match left {
-        Symbol::Points(p) => equal_pointer(p, right),
-        Symbol::Hi(_) => None,
-        Symbol::Abs(_) => None,
-        Symbol::Diff { .. } => None,
-        Symbol::Apart { .. } => None,
+        CodeSymbol::Points(p) => equal_pointer(p, right),
+        CodeSymbol::Hi(_) => None,
+        CodeSymbol::Abs(_) => None,
+        CodeSymbol::Diff { .. } => None,
+        CodeSymbol::Apart { .. } => None,
     }
 }
 
-fn equal_pointer(pointer: Pointer, symbol: Symbol) -> Option<bool>
-    ensures { result ≡ tested Test.Equal (Value.Sym (Symbol.Points pointer)) (Value.Sym symbol) }
+fn equal_pointer(pointer: Pointer, symbol: CodeSymbol) -> Option<bool>
+    ensures { result ≡ tested Test.Equal (Value.Sym (CodeSymbol.Points pointer)) (Value.Sym symbol) }
 {
     match symbol {
-        Symbol::Points(p) => equal_pointers(pointer, p),
-        Symbol::Hi(_) => None,
-        Symbol::Abs(_) => None,
-        Symbol::Diff { .. } => None,
-        Symbol::Apart { .. } => None,
+        CodeSymbol::Points(p) => equal_pointers(pointer, p),
+        CodeSymbol::Hi(_) => None,
+        CodeSymbol::Abs(_) => None,
+        CodeSymbol::Diff { .. } => None,
+        CodeSymbol::Apart { .. } => None,
     }
 }
 

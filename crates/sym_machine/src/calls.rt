@@ -37,11 +37,11 @@ impl<'a> SymMachine<'a> {
     ghost use Rattle.rv_code.specs.machine.Machine.{set_register, call_of, Read, Write, Unknown};
     ghost use Rattle.rv_code.specs.machine.Machine.{Exit, Brk, memory_bytes, most_moved};
     ghost use Rattle.rv_code.specs.machine.Step.{a0, a7};
-    ghost use Rattle.run_core.specs.Inputs.{Outside};
+    ghost use Rattle.run_core.specs.Inputs.{outside_of};
     ghost use Rattle.run_core.specs.States.{Same};
     ghost use Rattle.sym_machine.specs.declared.value.Value.TheVariants.{Num};
     ghost use Rattle.sym_machine.specs.SymStep.{argument, calls, refuses_file, read_call, reads_input, write_call, writes_output};
-    ghost use Rattle.sym_machine.specs.State.{state_of, registers_of, Becomes, StepAnswers};
+    ghost use Rattle.sym_machine.specs.MachineState.{state_of, registers_of, Becomes, StepAnswers};
     ghost use Rattle.sym_machine.specs.internal.Calls.{buffer_in};
     ghost use Rattle.sym_machine.specs.Values.{number};
 
@@ -134,8 +134,8 @@ impl<'a> SymMachine<'a> {
             (λ s o. o ≡ reads_input s next buffer.address buffer.size (take (min buffer.size most_moved) s.input))
             result self.old self.new
             input_end.old.reached input_end.new.reached
-            (record { input = I.seen input.old; output = output })
-            (record { input = I.seen input.new; output = output }) }
+            (outside_of (I.seen input.old) output)
+            (outside_of (I.seen input.new) output) }
         ensures count { (I.seen input.old).faults ≤ (I.seen input.new).faults }
         ensures code { self.new.code ≡ self.old.code }
     {
@@ -164,8 +164,8 @@ impl<'a> SymMachine<'a> {
             (memory_bytes s.memory buffer.address (min buffer.size most_moved)))
             result self.old self.new
             ended ended
-            (record { input = input; output = O.seen out.old })
-            (record { input = input; output = O.seen out.new }) }
+            (outside_of input (O.seen out.old))
+            (outside_of input (O.seen out.new)) }
         ensures count { (O.seen out.old).faults ≤ (O.seen out.new).faults }
         ensures code { self.new.code ≡ self.old.code }
     {
@@ -192,8 +192,8 @@ impl<'a> SymMachine<'a> {
     fn read<I: Source>(&mut self, next: u64, input_end: &mut InputEnd, input: &mut I) -> SymStepped
         ensures answer { (output : SinkSeen) → StepAnswers (λ s o. o ≡ calls s next 63 Read) result self.old self.new
             input_end.old.reached input_end.new.reached
-            (record { input = I.seen input.old; output = output })
-            (record { input = I.seen input.new; output = output }) }
+            (outside_of (I.seen input.old) output)
+            (outside_of (I.seen input.new) output) }
         ensures count { (I.seen input.old).faults ≤ (I.seen input.new).faults }
         ensures code { self.new.code ≡ self.old.code }
     {
@@ -211,8 +211,8 @@ impl<'a> SymMachine<'a> {
         ensures answer { (input : SourceSeen) (ended : Bool) →
             StepAnswers (λ s o. o ≡ calls s next 64 Write) result self.old self.new
             ended ended
-            (record { input = input; output = O.seen out.old })
-            (record { input = input; output = O.seen out.new }) }
+            (outside_of input (O.seen out.old))
+            (outside_of input (O.seen out.new)) }
         ensures count { (O.seen out.old).faults ≤ (O.seen out.new).faults }
         ensures code { self.new.code ≡ self.old.code }
     {
@@ -236,8 +236,8 @@ impl<'a> SymMachine<'a> {
     ) -> SymStepped
         ensures answer { StepAnswers (λ s o. o ≡ argument s a7 (λ n. calls s next n (call_of n))) result self.old self.new
             input_end.old.reached input_end.new.reached
-            (record { input = I.seen input.old; output = O.seen out.old })
-            (record { input = I.seen input.new; output = O.seen out.new }) }
+            (outside_of (I.seen input.old) (O.seen out.old))
+            (outside_of (I.seen input.new) (O.seen out.new)) }
         ensures reads { (I.seen input.old).faults ≤ (I.seen input.new).faults }
         ensures writes { (O.seen out.old).faults ≤ (O.seen out.new).faults }
         ensures code { self.new.code ≡ self.old.code }

@@ -10,7 +10,7 @@ use crate::machine::{Change, SymMachine};
 use crate::outcome::Reason;
 use crate::parts::{is_lower, upper_of_address, upper_of_distance};
 use crate::symbols::number;
-use crate::value::{Pointer, Symbol, Value};
+use crate::value::{CodeSymbol, Pointer, Value};
 use rv_code::{Action, Extension, Op, Operand, Role, Test};
 use rv_memory::rights::Access;
 
@@ -31,7 +31,7 @@ impl<'a> SymMachine<'a> {
     ghost use Rattle.rv_code.specs.isa.TwosComplement.{unsigned64};
     ghost use Rattle.sym_machine.specs.Rules.{combined, base_of, computed, place, loaded_symbol};
     ghost use Rattle.sym_machine.specs.SymStep.{effect, needs, writes_register, branches, jumps, jumps_to, loads, loads_at};
-    ghost use Rattle.sym_machine.specs.State.{state_of, registers_of, funcs_of, changes};
+    ghost use Rattle.sym_machine.specs.MachineState.{state_of, registers_of, funcs_of, changes};
     ghost use Rattle.sym_machine.specs.internal.Memory.{cell_at};
     ghost use Rattle.sym_machine.specs.internal.Accesses.{IsQuiet};
     ghost use Rattle.sym_machine.specs.Rules.{upper_of_distance, upper_of_address, tested};
@@ -195,7 +195,7 @@ impl<'a> SymMachine<'a> {
     {
         Change {
             rd,
-            value: Value::Sym(Symbol::Points(Pointer::Ret(self.pc))),
+            value: Value::Sym(CodeSymbol::Points(Pointer::Ret(self.pc))),
             next: target,
         }
     }

@@ -5,7 +5,7 @@ ghost use Rattle.std.specs.List.{list_any, flat_map, enumerate_from};
 ghost use Rattle.elf_image.specs.declared.elf.Elf.{Elf};
 ghost use Rattle.elf_image.specs.declared.segment.Segment.{Segment};
 ghost use Rattle.elf_image.specs.memory.CodeSegment.{executable_segment, executable_end};
-ghost use Rattle.elf_image.specs.memory.LoadedBytes.{is_in_range, loads_range, address_of, file_offset, offset_in};
+ghost use Rattle.elf_image.specs.memory.LoadedBytes.{is_in_range, loads_range, address_of};
 ghost use Rattle.sym_machine.specs.HiddenFields.{only, e_entry_field, hidden_in_segment, hidden_fields, is_hidden_field};
 ghost use Rattle.sym_machine.specs.HiddenFields.{is_executable_segment};
 ghost use Rattle.sym_machine.specs.internal.Fields.{range_of_field, AreLow};
@@ -120,34 +120,12 @@ fn push_all(
     Ok(())
 }
 
-// Where in the file the byte at an address stands.
-fn file_offset(elf: &Elf, address: u64) -> Option<u128>
-    ensures { result ≡ file_offset elf.now.segments.items address }
-{
-    match elf.segment_at(address) {
-        Some(p) => offset_in(address, p),
-        None => None,
-    }
-}
-
-fn offset_in(address: u64, p: &Segment) -> Option<u128>
-    requires { p.now.vaddr ≤ address }
-    ensures { result ≡ offset_in address p.now }
-{
-    let place = address - p.vaddr;
-    if place < p.filesz {
-        Some(p.offset as u128 + place as u128)
-    } else {
-        None
-    }
-}
-
 /// Whether the byte at an address is one of a hidden field of the headers.
 pub fn is_hidden_field(elf: &Elf, fields: &Fields, address: u64) -> bool
     ensures { (tight : Bool) → map range_of_field fields.now.list.items ≡ hidden_fields elf.now tight →
         result ≡ is_hidden_field elf.now tight address }
 {
-    match file_offset(elf, address) {
+    match elf.file_offset(address) {
         Some(offset) => fields.has(offset),
         None => false,
     }

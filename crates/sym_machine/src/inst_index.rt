@@ -5,17 +5,12 @@ ghost use Rattle.rv_code.specs.declared.placed.Func.{Func};
 ghost use Rattle.rv_code.specs.declared.placed.Placed.{Placed};
 ghost use Rattle.rv_code.specs.layout.FunctionLists.{AreLaidOut};
 ghost use Rattle.rv_code.specs.layout.Flow.{placed_at};
+ghost use Rattle.rv_code.specs.layout.FunctionMembers.{IsInstPlace};
 ghost use Rattle.rv_code.specs.layout.ProgramCode.{is_code_address};
-ghost use Rattle.sym_machine.specs.internal.FunctionOrder.{IsSearchable, IsInstAt, addr_at};
+ghost use Rattle.sym_machine.specs.internal.FunctionOrder.{IsSearchable, addr_at};
 
-use rv_code::{Func, Placed};
-
-/// Where an instruction stands: the place of its function in the list, and its own in the function's `insts`.
-#[derive(Clone, Copy, PartialEq, Eq, Debug)]
-pub struct InstPlace {
-    pub func: usize,
-    pub index: usize,
-}
+use rv_code::functions::starts_up_to;
+use rv_code::{Func, InstPlace, Placed};
 
 /// Functions, in which an instruction is looked up by its address.
 #[derive(Drop)]
@@ -38,7 +33,7 @@ impl<'a> InstIndex<'a> {
 
     /// Where the instruction that starts at an address stands.
     pub fn place(&self, address: u64) -> Option<InstPlace>
-        ensures found { IfSome result (λ at. IsInstAt self.now.funcs.now at.func at.index address) }
+        ensures found { IfSome result (λ at. IsInstPlace self.now.funcs.now address at.func at.inst) }
         ensures none { IfNone result (placed_at self.now.funcs.now address ≡ None) }
     {
         place_in(self.funcs, address)
@@ -78,11 +73,11 @@ impl<'a> InstIndex<'a> {
 // The instruction at a place.
 fn inst_at(funcs: &[Func], at: InstPlace) -> Placed
     requires func { at.func < length funcs.now }
-    requires index { (d : Func) → at.index < length (slice_index_or funcs.now at.func d).insts.items }
-    ensures { (d : Func) (e : Placed) → result ≡ slice_index_or (slice_index_or funcs.now at.func d).insts.items at.index e }
+    requires inst { (d : Func) → at.inst < length (slice_index_or funcs.now at.func d).insts.items }
+    ensures { (d : Func) (e : Placed) → result ≡ slice_index_or (slice_index_or funcs.now at.func d).insts.items at.inst e }
 {
     let insts: &[Placed] = &funcs[at.func].insts;
-    insts[at.index]
+    insts[at.inst]
 }
 
 // The address of an instruction of a function.
@@ -96,13 +91,13 @@ fn address_at(insts: &[Placed], index: usize) -> u64
 // The address of the instruction after one at a place, in its function.
 fn next_in(funcs: &[Func], at: InstPlace) -> Option<u64>
     requires func { at.func < length funcs.now }
-    ensures { (d : Func) → result ≡ addr_at (slice_index_or funcs.now at.func d).insts.items (at.index + 1) }
+    ensures { (d : Func) → result ≡ addr_at (slice_index_or funcs.now at.func d).insts.items (at.inst + 1) }
 {
     let insts: &[Placed] = &funcs[at.func].insts;
-    if at.index >= insts.len() {
+    if at.inst >= insts.len() {
         return None;
     }
-    match insts.get(at.index + 1) {
+    match insts.get(at.inst + 1) {
         Some(next) => Some(next.addr),
         None => None,
     }
@@ -110,7 +105,7 @@ fn next_in(funcs: &[Func], at: InstPlace) -> Option<u64>
 
 fn place_in(funcs: &[Func], address: u64) -> Option<InstPlace>
     requires { IsSearchable funcs.now }
-    ensures found { IfSome result (λ at. IsInstAt funcs.now at.func at.index address) }
+    ensures found { IfSome result (λ at. IsInstPlace funcs.now address at.func at.inst) }
     ensures none { IfNone result (placed_at funcs.now address ≡ None) }
 {
     let above = starts_up_to(funcs, address);
@@ -131,18 +126,8 @@ fn place_in(funcs: &[Func], address: u64) -> Option<InstPlace>
     }
     Some(InstPlace {
         func: above - 1,
-        index: below - 1,
+        inst: below - 1,
     })
-}
-
-// How many functions start at an address or below it.
-fn starts_up_to(funcs: &[Func], address: u64) -> usize
-    requires { IsNonDecreasingBy (λ f. f.start) funcs.now }
-    ensures bound { result ≤ length funcs.now }
-    ensures below { (k : ℕ) (d : Func) → k < result → (slice_index_or funcs.now k d).start ≤ address }
-    ensures above { (k : ℕ) (d : Func) → result ≤ k → k < length funcs.now → address < (slice_index_or funcs.now k d).start }
-{
-    funcs.partition_point(|f| f.start <= address)
 }
 
 // How many instructions start at an address or below it.

@@ -4,7 +4,7 @@ ghost use Rattle.sym_machine.specs.Rules.{pointer};
 
 use crate::inst_index::InstIndex;
 use crate::parts::is_lower;
-use crate::value::{Pointer, Symbol, Value};
+use crate::value::{CodeSymbol, Pointer, Value};
 use rv_code::Role;
 
 /// The pointer that a JALR with an offset goes to, if its value is one.
@@ -18,21 +18,21 @@ pub fn pointer(part: Role, offset: u64, value: Value) -> Option<Pointer>
     }
 }
 
-fn symbol_pointer(part: Role, offset: u64, symbol: Symbol) -> Option<Pointer>
+fn symbol_pointer(part: Role, offset: u64, symbol: CodeSymbol) -> Option<Pointer>
     ensures { result ≡ pointer part offset (Value.Sym symbol) }
 {
     match symbol {
-        Symbol::Points(p) => {
+        CodeSymbol::Points(p) => {
             if is_lower(part) || offset == 0 {
                 Some(p)
             } else {
                 None
             }
         }
-        Symbol::Hi(_) => None,
-        Symbol::Abs(_) => None,
-        Symbol::Diff { .. } => None,
-        Symbol::Apart { .. } => None,
+        CodeSymbol::Hi(_) => None,
+        CodeSymbol::Abs(_) => None,
+        CodeSymbol::Diff { .. } => None,
+        CodeSymbol::Apart { .. } => None,
     }
 }
 

@@ -28,4 +28,4 @@ pub mod value;
 
 pub use machine::SymMachine;
 pub use outcome::{Reason, SymRan, SymStepped};
-pub use value::{Comparing, MemoryByte, Pointer, Signedness, Symbol, Value};
+pub use value::{CodeSymbol, Comparing, MemoryByte, Pointer, Signedness, Value};

@@ -28,7 +28,7 @@ pub struct Change {
 
 impl<'a> SymMachine<'a> {
     ghost use Rattle.sym_machine.specs.SymStep.{writes_register};
-    ghost use Rattle.sym_machine.specs.State.{state_of, registers_of, Becomes, changes};
+    ghost use Rattle.sym_machine.specs.MachineState.{state_of, registers_of, Becomes, changes};
 
     /// The address of the next instruction.
     pub fn pc(&self) -> u64

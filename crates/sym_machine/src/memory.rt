@@ -6,7 +6,7 @@ ghost use Rattle.std.specs.List.{list_any};
 use crate::accesses::Stored;
 use crate::other_bytes::{GROUP_SIZE, OtherByte, OtherBytes};
 use crate::symbols::same_symbol;
-use crate::value::{MemoryByte, Symbol};
+use crate::value::{CodeSymbol, MemoryByte};
 use rb_bytes::fault::NoMemory;
 use rv_memory::memory::Memory;
 
@@ -20,7 +20,7 @@ pub struct SymMemory<'a> {
 /// Bytes of a symbol that is kept in `width` bytes, from byte `first` on.
 #[derive(Clone, Copy, PartialEq, Eq, Debug)]
 pub struct SymbolBytes {
-    pub symbol: Symbol,
+    pub symbol: CodeSymbol,
     pub width: u8,
     pub first: u8,
 }
@@ -169,7 +169,7 @@ impl<'a> SymMemory<'a> {
     }
 
     // Whether bytes are those of a symbol from byte `index` on.
-    fn goes_on(&self, symbol: Symbol, width: u8, index: u64, address: u64, count: u8) -> bool
+    fn goes_on(&self, symbol: CodeSymbol, width: u8, index: u64, address: u64, count: u8) -> bool
         requires { index + count ≤ 300 }
         ensures { result ≡ are_symbol_bytes symbol width index (memory_bytes (cell_at self.now) address count) }
     {
@@ -353,7 +353,7 @@ fn symbol_byte(byte: MemoryByte) -> Option<SymbolBytes>
 }
 
 // Whether a byte is byte `index` of a symbol.
-fn is_byte_of(byte: MemoryByte, symbol: Symbol, width: u8, index: u64) -> bool
+fn is_byte_of(byte: MemoryByte, symbol: CodeSymbol, width: u8, index: u64) -> bool
     ensures { result ≡ is_byte_of byte symbol width index }
 {
     match byte {

@@ -3,7 +3,7 @@ ghost use Rattle.std.specs.Prelude.{◌≡◌, ◌<◌, ◌≤◌, ◌+◌, ◌*
 ghost use Rattle.std.specs.Prelude.{OnErr, length, slice_index, slice_index_or, nat_le, nat_lt, if◌then◌else◌, true};
 ghost use Rattle.rv_memory.specs.PageIndex.{place_of};
 
-use crate::value::Symbol;
+use crate::value::CodeSymbol;
 use rb_bytes::fault::NoMemory;
 use rv_memory::page_index::PageIndex;
 use std::alloc::Global;
@@ -19,7 +19,7 @@ const RECENT: usize = 8192;
 pub enum OtherByte {
     /// Byte `index` of a symbol that is kept in `width` bytes.
     Symbol {
-        symbol: Symbol,
+        symbol: CodeSymbol,
         width: u8,
         index: u8,
     },

@@ -57,7 +57,7 @@ pub struct SymRan {
 impl SymRan {
     ghost use Rattle.std.specs.Prelude.{◌≡◌, ◌-◌, ◌<◌, ◌^◌};
     ghost use Rattle.run_core.specs.Runs.{steps_done};
-    ghost use Rattle.sym_machine.specs.State.{answered};
+    ghost use Rattle.sym_machine.specs.MachineState.{answered};
 
     /// A run that came to its end in the step after so many.
     pub fn ended(end: SymStepped, steps: u64) -> SymRan

@@ -3,7 +3,7 @@ ghost use Rattle.std.specs.Prelude.{◌≡◌, Option, Some, None, if◌then◌e
 ghost use Rattle.sym_machine.specs.Rules.{upper_of_distance, upper_of_address, is_hi, is_abs, is_lower};
 
 use crate::inst_index::InstIndex;
-use crate::value::{Pointer, Symbol, Value};
+use crate::value::{CodeSymbol, Pointer, Value};
 use rv_code::Role;
 
 /// What AUIPC gives at an address.
@@ -11,7 +11,7 @@ pub fn upper_of_distance(part: Role, address: u64) -> Option<Value>
     ensures { result ≡ upper_of_distance part address }
 {
     match part {
-        Role::Hi { .. } | Role::CallHi { .. } => Some(Value::Sym(Symbol::Hi(address))),
+        Role::Hi { .. } | Role::CallHi { .. } => Some(Value::Sym(CodeSymbol::Hi(address))),
         _ => None,
     }
 }
@@ -21,7 +21,7 @@ pub fn upper_of_address(part: Role, number: u64) -> Value
     ensures { result ≡ upper_of_address part number }
 {
     match part {
-        Role::AbsHi { target } => Value::Sym(Symbol::Abs(target)),
+        Role::AbsHi { target } => Value::Sym(CodeSymbol::Abs(target)),
         _ => Value::Num(number),
     }
 }
@@ -41,7 +41,7 @@ fn is_hi(address: u64, value: Value) -> bool
     ensures { result ≡ is_hi address value }
 {
     match value {
-        Value::Sym(Symbol::Hi(from)) => address == from,
+        Value::Sym(CodeSymbol::Hi(from)) => address == from,
         _ => false,
     }
 }
@@ -51,21 +51,22 @@ fn is_abs(target: u64, value: Value) -> bool
     ensures { result ≡ is_abs target value }
 {
     match value {
-        Value::Sym(Symbol::Abs(to)) => target == to,
+        Value::Sym(CodeSymbol::Abs(to)) => target == to,
         _ => false,
     }
 }
 
 impl<'a> InstIndex<'a> {
     ghost use Rattle.sym_machine.specs.Values.{value_of, is_value_of};
-    ghost use Rattle.sym_machine.specs.Rules.{joined, only_if};
+    ghost use Rattle.rb_bytes.specs.Options.{only_if};
+    ghost use Rattle.sym_machine.specs.Rules.{joined};
 
     /// The value of an address: a pointer where an instruction starts there.
     pub fn value_of(&self, address: u64) -> Value
         ensures { result ≡ value_of self.now.funcs.now address }
     {
         if self.is_code_address(address) {
-            Value::Sym(Symbol::Points(Pointer::Code(address)))
+            Value::Sym(CodeSymbol::Points(Pointer::Code(address)))
         } else {
             Value::Num(address)
         }
@@ -82,16 +83,16 @@ impl<'a> InstIndex<'a> {
         }
     }
 
-    fn is_symbol_of(&self, address: u64, symbol: Symbol) -> bool
+    fn is_symbol_of(&self, address: u64, symbol: CodeSymbol) -> bool
         ensures { result ≡ is_value_of self.now.funcs.now address (Value.Sym symbol) }
     {
         match symbol {
-            Symbol::Points(Pointer::Code(to)) => self.is_code_address(address) && to == address,
-            Symbol::Points(Pointer::Ret(_)) => false,
-            Symbol::Hi(_) => false,
-            Symbol::Abs(_) => false,
-            Symbol::Diff { .. } => false,
-            Symbol::Apart { .. } => false,
+            CodeSymbol::Points(Pointer::Code(to)) => self.is_code_address(address) && to == address,
+            CodeSymbol::Points(Pointer::Ret(_)) => false,
+            CodeSymbol::Hi(_) => false,
+            CodeSymbol::Abs(_) => false,
+            CodeSymbol::Diff { .. } => false,
+            CodeSymbol::Apart { .. } => false,
         }
     }
 
@@ -122,10 +123,10 @@ impl<'a> InstIndex<'a> {
 }
 
 fn joined_address(target: u64, base: Value) -> Option<Value>
-    ensures { result ≡ (if is_abs target base then Some (Value.Sym (Symbol.Points (Pointer.Code target))) else None) }
+    ensures { result ≡ (if is_abs target base then Some (Value.Sym (CodeSymbol.Points (Pointer.Code target))) else None) }
 {
     if is_abs(target, base) {
-        Some(Value::Sym(Symbol::Points(Pointer::Code(target))))
+        Some(Value::Sym(CodeSymbol::Points(Pointer::Code(target))))
     } else {
         None
     }

@@ -8,16 +8,16 @@ use rb_io::{Sink, Source};
 use run_core::InputEnd;
 
 impl<'a> SymMachine<'a> {
-    ghost use Rattle.run_core.specs.Inputs.{Outside};
+    ghost use Rattle.run_core.specs.Inputs.{outside_of};
     ghost use Rattle.run_core.specs.Runs.{RunsSomeInput};
     ghost use Rattle.sym_machine.specs.SymStep.{SymSteps};
-    ghost use Rattle.sym_machine.specs.State.{state_of, funcs_of, answered};
+    ghost use Rattle.sym_machine.specs.MachineState.{state_of, funcs_of, answered};
 
     /// Does at most `limit` steps. Once a read found the input at its end, it is at its end for the whole run.
     pub fn run<I: Source, O: Sink>(&mut self, limit: u64, input: &mut I, out: &mut O) -> SymRan
         ensures answer { RunsSomeInput state_of (SymSteps (funcs_of self.old)) (answered result.end) limit result.steps
-            self.old self.new (record { input = I.seen input.old; output = O.seen out.old })
-            (record { input = I.seen input.new; output = O.seen out.new }) }
+            self.old self.new (outside_of (I.seen input.old) (O.seen out.old))
+            (outside_of (I.seen input.new) (O.seen out.new)) }
         ensures reads { (I.seen input.old).faults ≤ (I.seen input.new).faults }
         ensures writes { (O.seen out.old).faults ≤ (O.seen out.new).faults }
         ensures funcs { funcs_of self.new ≡ funcs_of self.old }

@@ -21,7 +21,7 @@ impl<'a> SymMachine<'a> {
     ghost use Rattle.rv_code.specs.layout.FunctionLists.{AreLaidOut};
     ghost use Rattle.rv_memory.specs.Limits.{IsWithinLimits};
     ghost use Rattle.sym_machine.specs.SymStart.{sym_start};
-    ghost use Rattle.sym_machine.specs.State.{state_of, funcs_of};
+    ghost use Rattle.sym_machine.specs.MachineState.{state_of, funcs_of};
 
     /// A machine that is about to run a file's functions with these words as its arguments: at most 64 of them, of at most
     /// 65536 bytes together. `tight` says that the new code of a rewrite has no room behind the executable segment.

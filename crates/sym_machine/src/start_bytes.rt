@@ -13,7 +13,7 @@ ghost use Rattle.sym_machine.specs.internal.Fields.{range_of_field, AreLow};
 use crate::fields::Fields;
 use crate::hidden::{entry_address, hidden_fields, is_hidden_field};
 use crate::other_bytes::{OtherByte, OtherBytes};
-use crate::value::{Pointer, Symbol};
+use crate::value::{CodeSymbol, Pointer};
 use elf_image::segment::PT_LOAD;
 use elf_image::{Elf, Segment};
 use rb_bytes::fault::NoMemory;
@@ -21,19 +21,19 @@ use rv_code::cell::{CellKind, CodeCell};
 use std::alloc::Global;
 
 // What a code cell holds.
-fn symbol_of(kind: CellKind) -> Symbol
+fn symbol_of(kind: CellKind) -> CodeSymbol
     ensures { result ≡ symbol_of kind }
 {
     match kind {
-        CellKind::Abs { to } => Symbol::Points(Pointer::Code(to)),
-        CellKind::Diff { to, from } => Symbol::Diff { to, from },
+        CellKind::Abs { to } => CodeSymbol::Points(Pointer::Code(to)),
+        CellKind::Diff { to, from } => CodeSymbol::Diff { to, from },
     }
 }
 
 impl OtherBytes {
     ghost use Rattle.sym_machine.specs.declared.value.MemoryByte.TheVariants.{Hidden};
     ghost use Rattle.sym_machine.specs.internal.OtherBytes.{other_byte};
-    ghost use Rattle.sym_machine.specs.internal.Special.{special, symbol_over, hidden_over, covers};
+    ghost use Rattle.sym_machine.specs.internal.SpecialBytes.{special, symbol_over, hidden_over, covers};
 
     fn add_byte(&mut self, address: u64, byte: OtherByte) -> Result<(), NoMemory>
         ensures { OnOk result ((q : ℕ) → other_byte self.new q ≡ (if q == address then Some byte else other_byte self.old q)) }
@@ -44,7 +44,7 @@ impl OtherBytes {
     }
 
     // Puts all bytes of a symbol, which is kept in `width` bytes, from an address on.
-    fn add_symbol(&mut self, start: u64, width: u8, symbol: Symbol) -> Result<(), NoMemory>
+    fn add_symbol(&mut self, start: u64, width: u8, symbol: CodeSymbol) -> Result<(), NoMemory>
         requires { start + width ≤ 2 ^ 64 }
         ensures { OnOk result ((q : ℕ) → special self.new q
             ≡ symbol_over symbol width (record { start = start; size = width }) self.old q) }
@@ -163,7 +163,7 @@ impl OtherBytes {
         ensures { OnOk result ((words : List (List ℕ)) → pointer ≡ stack_pointer words → count ≡ length words →
             (q : ℕ) → special self.new q ≡ option_or (entry_byte elf.now words q) (special self.old q)) }
     {
-        let symbol = Symbol::Points(Pointer::Code(elf.entry));
+        let symbol = CodeSymbol::Points(Pointer::Code(elf.entry));
         self.add_symbol(auxiliary_value(pointer, count, 4), 8, symbol)?;
         match entry_address(elf) {
             Some(address) => self.add_symbol(address, 8, symbol),

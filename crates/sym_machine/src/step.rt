@@ -12,9 +12,9 @@ impl<'a> SymMachine<'a> {
     ghost use Rattle.std.specs.Prelude.{◌≢◌};
     ghost use Rattle.rv_code.specs.isa.Action.{action_of};
     ghost use Rattle.rv_code.specs.declared.inst.Inst.{Inst};
-    ghost use Rattle.run_core.specs.Inputs.{Outside};
+    ghost use Rattle.run_core.specs.Inputs.{outside_of};
     ghost use Rattle.sym_machine.specs.SymStep.{SymSteps, effect};
-    ghost use Rattle.sym_machine.specs.State.{state_of, funcs_of, Becomes, StepAnswers};
+    ghost use Rattle.sym_machine.specs.MachineState.{state_of, funcs_of, Becomes, StepAnswers};
     ghost use Rattle.sym_machine.specs.internal.KnownInsts.{AreKnown};
 
     /// Does the instruction at the pc. Input comes from `input`, and output goes to `out`.
@@ -22,8 +22,8 @@ impl<'a> SymMachine<'a> {
     /// After `Memory`, `Stuck` and `Ended` the machine is as it was; after the two faults nothing is said of it.
     pub fn step<I: Source, O: Sink>(&mut self, input: &mut I, out: &mut O) -> SymStepped
         ensures answer { (ends : Bool) × StepAnswers (SymSteps (funcs_of self.old)) result self.old self.new false ends
-            (record { input = I.seen input.old; output = O.seen out.old })
-            (record { input = I.seen input.new; output = O.seen out.new }) }
+            (outside_of (I.seen input.old) (O.seen out.old))
+            (outside_of (I.seen input.new) (O.seen out.new)) }
         ensures reads { (I.seen input.old).faults ≤ (I.seen input.new).faults }
         ensures writes { (O.seen out.old).faults ≤ (O.seen out.new).faults }
         ensures funcs { funcs_of self.new ≡ funcs_of self.old }
@@ -45,8 +45,8 @@ impl<'a> SymMachine<'a> {
         ensures known { AreKnown (funcs_of self.new) known.new }
         ensures answer { StepAnswers (SymSteps (funcs_of self.old)) result self.old self.new
             input_end.old.reached input_end.new.reached
-            (record { input = I.seen input.old; output = O.seen out.old })
-            (record { input = I.seen input.new; output = O.seen out.new }) }
+            (outside_of (I.seen input.old) (O.seen out.old))
+            (outside_of (I.seen input.new) (O.seen out.new)) }
         ensures reads { (I.seen input.old).faults ≤ (I.seen input.new).faults }
         ensures writes { (O.seen out.old).faults ≤ (O.seen out.new).faults }
         ensures funcs { funcs_of self.new ≡ funcs_of self.old }

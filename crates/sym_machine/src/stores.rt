@@ -12,7 +12,7 @@ use rv_memory::rights::Access;
 impl<'a> SymMachine<'a> {
     ghost use Rattle.sym_machine.specs.Rules.{place};
     ghost use Rattle.sym_machine.specs.SymStep.{stores, stores_at};
-    ghost use Rattle.sym_machine.specs.State.{state_of, funcs_of, Becomes};
+    ghost use Rattle.sym_machine.specs.MachineState.{state_of, funcs_of, Becomes};
     ghost use Rattle.sym_machine.specs.internal.Accesses.{stored_cells};
 
     // Stores the `count` low bytes of a value.

@@ -2,7 +2,7 @@
 ghost use Rattle.std.specs.Prelude.{◌≡◌};
 ghost use Rattle.sym_machine.specs.Values.{same_pointer, same_comparing, same_symbol, number};
 
-use crate::value::{Comparing, Pointer, Symbol, Value};
+use crate::value::{CodeSymbol, Comparing, Pointer, Value};
 
 /// Whether two pointers are the same.
 pub fn same_pointer(left: Pointer, right: Pointer) -> bool
@@ -36,30 +36,30 @@ fn same_comparing(left: Comparing, right: Comparing) -> bool
 }
 
 /// Whether two symbols are the same.
-pub fn same_symbol(left: Symbol, right: Symbol) -> bool
+pub fn same_symbol(left: CodeSymbol, right: CodeSymbol) -> bool
     ensures { result ≡ same_symbol left right }
 {
     match left {
-        Symbol::Points(p) => match right {
-            Symbol::Points(q) => same_pointer(p, q),
+        CodeSymbol::Points(p) => match right {
+            CodeSymbol::Points(q) => same_pointer(p, q),
             _ => false,
         },
-        Symbol::Hi(a) => match right {
-            Symbol::Hi(b) => a == b,
+        CodeSymbol::Hi(a) => match right {
+            CodeSymbol::Hi(b) => a == b,
             _ => false,
         },
-        Symbol::Abs(a) => match right {
-            Symbol::Abs(b) => a == b,
+        CodeSymbol::Abs(a) => match right {
+            CodeSymbol::Abs(b) => a == b,
             _ => false,
         },
-        Symbol::Diff { to, from } => match right {
-            Symbol::Diff {
+        CodeSymbol::Diff { to, from } => match right {
+            CodeSymbol::Diff {
                 to: other_to,
                 from: other_from,
             } => to == other_to && from == other_from,
             _ => false,
         },
-        Symbol::Apart {
+        CodeSymbol::Apart {
             by,
             left,
             right: other,
@@ -68,11 +68,11 @@ pub fn same_symbol(left: Symbol, right: Symbol) -> bool
 }
 
 // Whether a symbol is what comparing these two pointers gave.
-fn is_apart(by: Comparing, left: Pointer, right: Pointer, symbol: Symbol) -> bool
-    ensures { result ≡ same_symbol (Symbol.Apart by left right) symbol }
+fn is_apart(by: Comparing, left: Pointer, right: Pointer, symbol: CodeSymbol) -> bool
+    ensures { result ≡ same_symbol (CodeSymbol.Apart by left right) symbol }
 {
     match symbol {
-        Symbol::Apart {
+        CodeSymbol::Apart {
             by: other_by,
             left: other_left,
             right: other_right,

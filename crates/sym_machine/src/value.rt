@@ -20,7 +20,7 @@ pub enum Comparing {
 
 /// A value whose number depends on where the code lies. All fields are addresses of the input.
 #[derive(Clone, Copy, PartialEq, Eq, Debug)]
-pub enum Symbol {
+pub enum CodeSymbol {
     /// A pointer.
     Points(Pointer),
     /// What the AUIPC at an address gives: its own address and the upper part of the distance to its
@@ -56,11 +56,11 @@ pub enum Value {
     /// A number.
     Num(u64),
     /// A symbol, whole.
-    Sym(Symbol),
+    Sym(CodeSymbol),
     /// `bytes` bytes (1, 2 or 4) of a symbol from byte `first` on, as it is kept in `width` bytes (4
     /// or 8), extended to a register.
     Piece {
-        symbol: Symbol,
+        symbol: CodeSymbol,
         width: u8,
         first: u8,
         bytes: u8,
@@ -75,7 +75,7 @@ pub enum MemoryByte {
     Byte(u8),
     /// Byte `index` of a symbol that is kept in `width` bytes (4 or 8).
     SymbolByte {
-        symbol: Symbol,
+        symbol: CodeSymbol,
         width: u8,
         index: u8,
     },

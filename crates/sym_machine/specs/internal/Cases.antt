@@ -2,7 +2,7 @@
 use Rattle.std.specs.Prelude.{ℕ, ◌&&◌, Bool, Option, Some, None, is_some, option_and_then}
 use Rattle.sym_machine.specs.declared.value.Pointer.{Pointer}
 use Rattle.sym_machine.specs.declared.value.Comparing.{Comparing}
-use Rattle.sym_machine.specs.declared.value.Symbol.TheVariants.{Points}
+use Rattle.sym_machine.specs.declared.value.CodeSymbol.TheVariants.{Points}
 use Rattle.sym_machine.specs.declared.value.Value.{Value}
 use Rattle.sym_machine.specs.declared.value.Value.TheVariants.{Num, Sym}
 use Rattle.rv_code.specs.declared.action.Test.{Test}
@@ -34,6 +34,6 @@ numbers_tested test (Num a) (Num b) = Some (holds test a b)
 numbers_tested test _ _ = None
 
 -- a base with an offset
-abbrev pub moved : Value → ℕ → Value
-moved (Num a) offset = Num (plus a offset)
-moved base offset = base
+abbrev pub with_offset : Value → ℕ → Value
+with_offset (Num a) offset = Num (plus a offset)
+with_offset base offset = base

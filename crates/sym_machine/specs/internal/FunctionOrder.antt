@@ -1,5 +1,5 @@
 -- Functions in which a binary search finds an instruction by its address.
-use Rattle.std.specs.Prelude.{◌≡◌, ℕ, ◌<◌, ◌≤◌, List, Option, length, slice_index_or, option_map}
+use Rattle.std.specs.Prelude.{ℕ, ◌<◌, ◌≤◌, List, Option, length, slice_index_or, option_map}
 use Rattle.std.specs.List.{slice_get}
 use Rattle.rv_code.specs.declared.placed.Placed.{Placed}
 use Rattle.rv_code.specs.declared.placed.Func.{Func}
@@ -16,12 +16,6 @@ pub record IsSearchable (funcs : List Func) : Type 0 where
       → j < length (slice_index_or funcs f d).insts.items
       → (slice_index_or (slice_index_or funcs f d).insts.items i e).addr
       < (slice_index_or (slice_index_or funcs f d).insts.items j e).addr
-
--- the i-th instruction of the f-th function starts at an address
-pub record IsInstAt (funcs : List Func) (f i a : ℕ) : Type 0 where
-  pub func : f < length funcs
-  pub index : (d : Func) → i < length (slice_index_or funcs f d).insts.items
-  pub addr_is : (d : Func) (e : Placed) → (slice_index_or (slice_index_or funcs f d).insts.items i e).addr ≡ a
 
 -- the address of the i-th instruction, if there is one
 abbrev pub addr_at : List Placed → ℕ → Option ℕ

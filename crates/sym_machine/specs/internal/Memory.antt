@@ -2,7 +2,7 @@
 use Rattle.std.specs.Prelude.{◌≡◌, ℕ, ◌<◌, ◌&&◌, ◌==◌, nat_lt, nat_le, not, if◌then◌else◌, Bool, true, false, List, [], ◌∷◌}
 use Rattle.std.specs.Prelude.{Option, Some, None, is_none, zero, suc}
 use Rattle.std.specs.Option.{option_map_or}
-use Rattle.sym_machine.specs.declared.value.Symbol.{Symbol}
+use Rattle.sym_machine.specs.declared.value.CodeSymbol.{CodeSymbol}
 use Rattle.sym_machine.specs.declared.other_bytes.OtherByte.{OtherByte}
 use Rattle.sym_machine.specs.declared.other_bytes.OtherByte.TheVariants as other
 use Rattle.rv_code.specs.machine.Machine.{plus}
@@ -27,7 +27,7 @@ abbrev pub cell_at : SymMemory → ℕ → MemoryByte
 cell_at m a = cell_over (other_byte m.others a) (memory_of m.bytes a)
 
 -- bytes of a symbol, as they are kept beside the numbers
-unfoldable pub other_bytes : Symbol → ℕ → ℕ → ℕ → List (Option OtherByte)
+unfoldable pub other_bytes : CodeSymbol → ℕ → ℕ → ℕ → List (Option OtherByte)
 other_bytes y w i zero = []
 other_bytes y w i (suc n) = Some (other.Symbol y w i) ∷ other_bytes y w (suc i) n
 
@@ -47,7 +47,7 @@ abbrev pub symbol_byte : MemoryByte → Option SymbolBytes
 symbol_byte (SymbolByte y w i) = Some (record { symbol = y; width = w; first = i })
 symbol_byte _ = None
 
-abbrev pub is_byte_of : MemoryByte → Symbol → ℕ → ℕ → Bool
+abbrev pub is_byte_of : MemoryByte → CodeSymbol → ℕ → ℕ → Bool
 is_byte_of (SymbolByte z v j) y w i = same_symbol y z && w == v && i == j
 is_byte_of _ y w i = false
 

@@ -10,7 +10,8 @@ use Rattle.sym_machine.proofs.hidden.is_hidden_field.Goals as goal
 pub returns-in-Some : goal.returns-in-Some
 returns-in-Some c = λ tight fields.
     let elf = c.args.elf.now in
-    let at : file_offset elf.segments.items c.args.address ≡ Some c.in-Some.offset = sym c.file_offset.ensures ∙ c.in-Some.is in
+    let at : file_offset elf.segments.items c.args.address ≡ Some c.in-Some.offset = sym c.file_offset.ensures.value
+    ∙ c.in-Some.is in
     c.has.ensures
     ∙ sym (list_any-map (is_in_range c.in-Some.offset) range_of_field c.args.fields.now.list.items)
     ∙ ap (list_any (is_in_range c.in-Some.offset)) fields

@@ -1,6 +1,6 @@
 use Rattle.std.proofs.Common.{◌≡◌}
 use Rattle.std.specs.Prelude.{replicate}
-use Rattle.rv_machine.specs.Known.{IsKnown}
+use Rattle.rv_machine.specs.KnownInsts.{IsKnown}
 use Rattle.rv_machine.proofs.KnownEntries.{known_entries}
 use Rattle.rv_machine.proofs.known.KnownActions.new.Goals as goal
 

@@ -3,7 +3,7 @@ use Rattle.rv_code.specs.machine.Step.{Steps}
 use Rattle.run_core.specs.Runs.{RunsSomeInput}
 use Rattle.run_core.proofs.Walking.{no_step, step_more, last_step, steps_up}
 use Rattle.rv_machine.specs.State.{state_of}
-use Rattle.rv_machine.specs.Stepped.{answered}
+use Rattle.rv_machine.specs.StepResults.{answered}
 use Rattle.rv_machine.proofs.LastSteps.{isnt_going, ran_is}
 use Rattle.rv_machine.proofs.machine.Machine.run.Goals as goal
 

@@ -1,7 +1,7 @@
 use Rattle.std.proofs.Common.{◌≤◌, ◌-◌}
 use Rattle.rv_code.specs.machine.Step.{Steps}
 use Rattle.run_core.proofs.Walking.{Walk}
-use Rattle.rv_machine.specs.Known.{AreKnown}
+use Rattle.rv_machine.specs.KnownInsts.{AreKnown}
 use Rattle.rv_machine.specs.State.{state_of}
 use Rattle.rv_machine.proofs.machine.Machine.run.Given as goal
 

@@ -1,7 +1,7 @@
 use Rattle.std.proofs.Common.{Bool, subst}
 use Rattle.rv_code.specs.machine.Step.{Steps}
 use Rattle.run_core.specs.Inputs.{Outside}
-use Rattle.rv_machine.specs.Stepped.{StepAnswers}
+use Rattle.rv_machine.specs.StepResults.{StepAnswers}
 use Rattle.rv_machine.proofs.machine.Machine.step.Goals as goal
 
 pub returns-clause-answer : goal.returns-clause-answer

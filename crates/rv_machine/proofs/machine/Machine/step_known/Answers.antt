@@ -6,7 +6,7 @@ use Rattle.rv_code.specs.machine.Step.{a7, calls, effect, fetched, Steps, illega
 use Rattle.rv_machine.specs.State.{state_of, HasRegisters}
 use Rattle.rv_machine.proofs.Determined.{only_no_fetch, only_illegal, only_does}
 use Rattle.rv_machine.proofs.Registers.{has_registers}
-use Rattle.rv_machine.specs.Stepped.{answered}
+use Rattle.rv_machine.specs.StepResults.{answered}
 use Rattle.run_core.proofs.Quiet.{quiet_answers, answers_by}
 use Rattle.rv_machine.proofs.machine.Machine.step_known.Goals as goal
 

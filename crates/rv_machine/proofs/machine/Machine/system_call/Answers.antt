@@ -2,7 +2,7 @@ use Rattle.std.proofs.Common.{◌≡◌, ◌∙◌, sym, ap}
 use Rattle.rv_code.specs.machine.Machine.{call_of, Read, Write, Exit, Brk, Unknown}
 use Rattle.rv_code.specs.machine.Step.{a7, calls}
 use Rattle.rv_machine.specs.State.{state_of, registers_of}
-use Rattle.rv_machine.specs.Stepped.{answered}
+use Rattle.rv_machine.specs.StepResults.{answered}
 use Rattle.run_core.proofs.Quiet.{quiet_answers, answers_by}
 use Rattle.rv_machine.proofs.machine.Machine.system_call.Goals as goal
 

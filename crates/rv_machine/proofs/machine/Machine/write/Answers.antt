@@ -2,7 +2,7 @@ use Rattle.std.proofs.Common.{◌≡◌, ◌∙◌, sym, ap, true, false}
 use Rattle.std.specs.Prelude.{◌==◌, ◌||◌}
 use Rattle.rv_code.specs.machine.Step.{a0, write_call, refuses_file}
 use Rattle.rv_machine.specs.State.{state_of}
-use Rattle.rv_machine.specs.Stepped.{answered}
+use Rattle.rv_machine.specs.StepResults.{answered}
 use Rattle.run_core.proofs.Quiet.{quiet_answers, answers_by}
 use Rattle.rv_machine.proofs.machine.Machine.write.Goals as goal
 

@@ -2,7 +2,7 @@ use Rattle.std.proofs.Common.{◌≡◌, ◌∙◌, ◌≤◌, ◌+◌, ℕ, sym
 use Rattle.std.specs.Prelude.{IsOk}
 use Rattle.std.specs.List.{insert}
 use Rattle.std.proofs.lemmas.List.Edits.{length-insert}
-use Rattle.rb_lanes.specs.Ranking.{rank}
+use Rattle.rb_lanes.specs.Ranks.{rank}
 use Rattle.rv_memory.specs.PageIndex.{beside}
 use Rattle.rv_memory.proofs.Ranks.{Ascends, rank_most, beside_absent, beside-insert, ascends-insert}
 use Rattle.rv_memory.proofs.page_group.PageGroup.insert.Goals as goal

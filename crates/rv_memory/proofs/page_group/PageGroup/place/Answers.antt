@@ -1,6 +1,6 @@
 use Rattle.std.proofs.Common.{◌≡◌, ◌∙◌, ◌-◌, sym, ap, arith, get_or, Some}
 use Rattle.std.proofs.lemmas.Grind.{get_or_default_zero}
-use Rattle.rb_lanes.specs.Ranking.{rank}
+use Rattle.rb_lanes.specs.Ranks.{rank}
 use Rattle.rv_memory.proofs.Ranks.{rank_most, beside_found, beside_missing}
 use Rattle.rv_memory.proofs.page_group.PageGroup.place.Goals as goal
 

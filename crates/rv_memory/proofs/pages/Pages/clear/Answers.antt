@@ -2,7 +2,7 @@ use Rattle.std.proofs.Common.{◌≡◌, ◌∙◌, ◌*◌, ◌+◌, ◌/◌, �
 use Rattle.std.specs.Prelude.{replicate}
 use Rattle.std.proofs.lemmas.List.{length-replicate}
 use Rattle.rv_memory.specs.PageIndex.{place_of}
-use Rattle.rv_memory.specs.Patched.{patched}
+use Rattle.rv_memory.specs.Patches.{patched}
 use Rattle.rv_memory.proofs.PageBytes.{vector_written, byte_put-zeros, byte_cleared-none}
 use Rattle.rv_memory.proofs.pages.Pages.clear.Goals as goal
 

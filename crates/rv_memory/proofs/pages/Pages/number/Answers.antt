@@ -4,7 +4,7 @@ use Rattle.elf_image.specs.file.Header.{number_at}
 use Rattle.rv_code.specs.machine.Machine.{memory_bytes, little}
 use Rattle.rv_memory.specs.PageIndex.{place_of}
 use Rattle.rv_memory.specs.Pages.{IsLike}
-use Rattle.rv_memory.specs.Patched.{is_width}
+use Rattle.rv_memory.specs.Patches.{is_width}
 use Rattle.rv_memory.proofs.PageBytes.{number-like, page_byte-some, page_byte-none}
 use Rattle.rv_memory.proofs.pages.Pages.number.Goals as goal
 

@@ -2,7 +2,7 @@ use Rattle.std.proofs.Common.{◌≡◌, ◌∙◌, ◌*◌, ◌+◌, ◌/◌, �
 use Rattle.std.specs.Prelude.{is_some}
 use Rattle.rv_code.specs.machine.Machine.{low_bytes}
 use Rattle.rv_memory.specs.PageIndex.{place_of}
-use Rattle.rv_memory.specs.Patched.{patched}
+use Rattle.rv_memory.specs.Patches.{patched}
 use Rattle.rv_memory.proofs.PatchedBytes.{length-low_bytes}
 use Rattle.rv_memory.proofs.PageBytes.{vector_written, page_byte-some, page_byte-none}
 use Rattle.rv_memory.proofs.pages.Pages.put.Goals as goal

@@ -8,8 +8,8 @@ pub returns-in-Some : goal.returns-in-Some
 returns-in-Some c =
     let funcs = c.args.self.now.funcs.now in
     let at = c.in-Some.ensures.found in
-    let d = first_of_some funcs c.in-Some.at.func at.func in
-    let e = first_of_some (insts_at funcs c.in-Some.at.func d) c.in-Some.at.index (at.index d) in
+    let d = first_of_some funcs c.in-Some.at.func at.func_within in
+    let e = first_of_some (insts_at funcs c.in-Some.at.func d) c.in-Some.at.inst (at.inst_within d) in
     let even : (c.args.pc % 2 == 0) ≡ true = eq-eqb (c.args.pc % 2) 0 c.if-pc-ne0.false in
     rw even (ap Some (c.inst_at.ensures d e)
-    ∙ sym (placed_at-found funcs c.args.self.now.searchable c.in-Some.at.func c.in-Some.at.index c.args.pc at d e))
+    ∙ sym (placed_at-found funcs c.args.self.now.searchable c.in-Some.at.func c.in-Some.at.inst c.args.pc at d e))

@@ -7,10 +7,10 @@ pub returns-in-Some : goal.returns-in-Some
 returns-in-Some c =
     let funcs = c.args.self.now.funcs.now in
     let at = c.in-Some.ensures.found in
-    let d = first_of_some funcs c.in-Some.at.func at.func in
-    let one : c.in-Some.at.index + 1 ≡ suc c.in-Some.at.index = omega arith in
+    let d = first_of_some funcs c.in-Some.at.func at.func_within in
+    let one : c.in-Some.at.inst + 1 ≡ suc c.in-Some.at.inst = omega arith in
     c.next_in.ensures d ∙ ap (addr_at (insts_at funcs c.in-Some.at.func d)) one
-    ∙ sym (next_of-found funcs c.args.self.now.searchable c.in-Some.at.func c.in-Some.at.index c.args.address at d)
+    ∙ sym (next_of-found funcs c.args.self.now.searchable c.in-Some.at.func c.in-Some.at.inst c.args.address at d)
 
 pub returns-in-None : goal.returns-in-None
 returns-in-None c = sym (next_of-none c.args.self.now.funcs.now c.args.address

@@ -4,7 +4,7 @@ use Rattle.rv_code.specs.machine.Step.{a0}
 use Rattle.rv_memory.specs.Memory.{break_after}
 use Rattle.sym_machine.specs.declared.value.Value.TheVariants.{Num}
 use Rattle.sym_machine.specs.Values.{number}
-use Rattle.sym_machine.specs.State.{state_of}
+use Rattle.sym_machine.specs.MachineState.{state_of}
 use Rattle.sym_machine.proofs.CallEffects.{break_same}
 use Rattle.sym_machine.proofs.machine.SymMachine.brk.Goals as goal
 

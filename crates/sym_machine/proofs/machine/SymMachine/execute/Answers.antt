@@ -5,7 +5,7 @@ use Rattle.std.proofs.lemmas.Int.{to_z-of_z}
 use Rattle.rv_code.specs.isa.TwosComplement.{unsigned64}
 use Rattle.sym_machine.specs.Rules.{place}
 use Rattle.sym_machine.specs.SymStep.{effect, stores}
-use Rattle.sym_machine.specs.State.{state_of, funcs_of, Becomes}
+use Rattle.sym_machine.specs.MachineState.{state_of, funcs_of, Becomes}
 use Rattle.sym_machine.proofs.machine.SymMachine.execute.Goals as goal
 
 pub returns-in-Store-clause-answer : goal.returns-in-Store-clause-answer

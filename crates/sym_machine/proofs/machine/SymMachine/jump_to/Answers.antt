@@ -1,5 +1,5 @@
 use Rattle.std.proofs.Common.{◌∙◌, sym}
-use Rattle.sym_machine.specs.State.{state_of, funcs_of}
+use Rattle.sym_machine.specs.MachineState.{state_of, funcs_of}
 use Rattle.sym_machine.proofs.Effects.{jumps_found}
 use Rattle.sym_machine.proofs.machine.SymMachine.jump_to.Goals as goal
 

@@ -17,7 +17,7 @@ use Rattle.sym_machine.specs.declared.value.MemoryByte.TheVariants.{Byte}
 use Rattle.sym_machine.specs.SymStart.{sym_start}
 use Rattle.sym_machine.specs.internal.Fields.{AreLow}
 use Rattle.sym_machine.specs.internal.OtherBytes.{other_byte}
-use Rattle.sym_machine.specs.internal.Special.{special}
+use Rattle.sym_machine.specs.internal.SpecialBytes.{special}
 use Rattle.sym_machine.proofs.StartState.{low_segments, start_register, cell_over-special}
 use Rattle.sym_machine.proofs.machine.SymMachine.load.Goals as goal
 

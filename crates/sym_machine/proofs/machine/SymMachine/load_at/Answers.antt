@@ -5,7 +5,7 @@ use Rattle.rv_code.specs.machine.Machine.{all_may, may_read, memory_bytes, littl
 use Rattle.sym_machine.specs.declared.value.Value.TheVariants.{Num}
 use Rattle.sym_machine.specs.SymStep.{writes_register}
 use Rattle.sym_machine.specs.Values.{numbers}
-use Rattle.sym_machine.specs.State.{state_of}
+use Rattle.sym_machine.specs.MachineState.{state_of}
 use Rattle.sym_machine.proofs.Effects.{loads_number}
 use Rattle.sym_machine.proofs.machine.SymMachine.load_at.Goals as goal
 

@@ -12,7 +12,7 @@ use Rattle.run_core.proofs.SameStates.{same_state}
 use Rattle.sym_machine.specs.declared.value.Value.TheVariants.{Num}
 use Rattle.sym_machine.specs.declared.value.MemoryByte.TheVariants.{Byte}
 use Rattle.sym_machine.specs.SymStep.{moving_event}
-use Rattle.sym_machine.specs.State.{state_of}
+use Rattle.sym_machine.specs.MachineState.{state_of}
 use Rattle.sym_machine.specs.internal.Memory.{cell_at}
 use Rattle.sym_machine.proofs.SamePuts.{put_same}
 use Rattle.sym_machine.proofs.CallEffects.{after_read, reads, read_writes_nothing}

@@ -9,7 +9,7 @@ use Rattle.sym_machine.specs.declared.machine.SymMachine.{SymMachine}
 use Rattle.sym_machine.specs.declared.outcome.SymStepped.{SymStepped}
 use Rattle.sym_machine.specs.declared.outcome.SymStepped.TheVariants as stepped
 use Rattle.sym_machine.specs.SymStep.{SymSteps}
-use Rattle.sym_machine.specs.State.{answered, state_of, funcs_of, StepAnswers}
+use Rattle.sym_machine.specs.MachineState.{answered, state_of, funcs_of, StepAnswers}
 use Rattle.sym_machine.proofs.LastSteps.{isnt_going, ran_is}
 use Rattle.sym_machine.proofs.machine.SymMachine.run.Goals as goal
 

@@ -1,7 +1,7 @@
 use Rattle.std.proofs.Common.{◌≡◌, ◌≤◌, ◌-◌}
 use Rattle.run_core.proofs.Walking.{Walk}
 use Rattle.sym_machine.specs.SymStep.{SymSteps}
-use Rattle.sym_machine.specs.State.{state_of, funcs_of}
+use Rattle.sym_machine.specs.MachineState.{state_of, funcs_of}
 use Rattle.sym_machine.specs.internal.KnownInsts.{AreKnown}
 use Rattle.sym_machine.proofs.machine.SymMachine.run.Given as goal
 

@@ -1,7 +1,7 @@
 use Rattle.std.proofs.Common.{Bool, subst}
 use Rattle.run_core.specs.Inputs.{Outside}
 use Rattle.sym_machine.specs.SymStep.{SymSteps}
-use Rattle.sym_machine.specs.State.{StepAnswers, funcs_of}
+use Rattle.sym_machine.specs.MachineState.{StepAnswers, funcs_of}
 use Rattle.sym_machine.proofs.machine.SymMachine.step.Goals as goal
 
 pub returns-clause-answer : goal.returns-clause-answer

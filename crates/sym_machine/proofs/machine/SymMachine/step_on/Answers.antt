@@ -4,7 +4,7 @@ use Rattle.rv_code.specs.machine.Machine.{plus, call_of}
 use Rattle.rv_code.specs.machine.Step.{a7}
 use Rattle.run_core.proofs.Quiet.{quiet_answers, answers_by}
 use Rattle.sym_machine.specs.SymStep.{SymSteps, effect, argument, calls}
-use Rattle.sym_machine.specs.State.{state_of, funcs_of, answered}
+use Rattle.sym_machine.specs.MachineState.{state_of, funcs_of, answered}
 use Rattle.sym_machine.proofs.KnownEntries.{decoded_action, step_by}
 use Rattle.sym_machine.proofs.machine.SymMachine.step_on.Goals as goal
 

@@ -2,7 +2,7 @@ use Rattle.std.proofs.Common.{◌≡◌, ◌∙◌, sym, ap, Some}
 use Rattle.std.specs.Prelude.{option_map}
 use Rattle.sym_machine.specs.Rules.{place}
 use Rattle.sym_machine.specs.Values.{stored}
-use Rattle.sym_machine.specs.State.{funcs_of}
+use Rattle.sym_machine.specs.MachineState.{funcs_of}
 use Rattle.sym_machine.specs.internal.Accesses.{stored_cells}
 use Rattle.sym_machine.proofs.machine.SymMachine.store.Goals as goal
 

@@ -2,7 +2,7 @@ use Rattle.std.proofs.Common.{◌≡◌, ◌∙◌, sym, rules, true, refl, IsOk
 use Rattle.rv_code.specs.machine.Machine.{all_may, may_write, put}
 use Rattle.rv_memory.proofs.Spaces.{space_in-keeps}
 use Rattle.run_core.specs.States.{Same}
-use Rattle.sym_machine.specs.State.{state_of}
+use Rattle.sym_machine.specs.MachineState.{state_of}
 use Rattle.sym_machine.specs.internal.Accesses.{stored_cells}
 use Rattle.sym_machine.proofs.Options.{from_err}
 use Rattle.sym_machine.proofs.machine.SymMachine.store_at.Goals as goal

@@ -4,7 +4,7 @@ use Rattle.rv_code.specs.machine.Step.{a7}
 use Rattle.run_core.proofs.Quiet.{quiet_answers, answers_by}
 use Rattle.sym_machine.specs.Values.{number}
 use Rattle.sym_machine.specs.SymStep.{argument, calls}
-use Rattle.sym_machine.specs.State.{state_of, answered, registers_of}
+use Rattle.sym_machine.specs.MachineState.{state_of, answered, registers_of}
 use Rattle.sym_machine.proofs.CallEffects.{called}
 use Rattle.sym_machine.proofs.machine.SymMachine.system_call.Goals as goal
 

@@ -3,7 +3,7 @@ use Rattle.std.specs.Prelude.{◌==◌, ◌||◌, if◌then◌else◌, min}
 use Rattle.rv_code.specs.machine.Machine.{Write, most_moved, memory_bytes}
 use Rattle.run_core.proofs.Quiet.{quiet_answers, answers_by}
 use Rattle.sym_machine.specs.SymStep.{calls, write_call, writes_output, refuses_file}
-use Rattle.sym_machine.specs.State.{state_of, answered, registers_of}
+use Rattle.sym_machine.specs.MachineState.{state_of, answered, registers_of}
 use Rattle.sym_machine.specs.internal.Calls.{buffer_in}
 use Rattle.sym_machine.proofs.CallEffects.{arguments_found}
 use Rattle.sym_machine.proofs.machine.SymMachine.write.Goals as goal

@@ -11,7 +11,7 @@ use Rattle.run_core.proofs.Told.{prepend_known-nil}
 use Rattle.sym_machine.specs.declared.value.Value.TheVariants.{Num}
 use Rattle.sym_machine.specs.SymStep.{moving_event}
 use Rattle.sym_machine.specs.Values.{numbers, is_hidden}
-use Rattle.sym_machine.specs.State.{state_of}
+use Rattle.sym_machine.specs.MachineState.{state_of}
 use Rattle.sym_machine.specs.internal.OtherBytes.{other_byte}
 use Rattle.sym_machine.proofs.MemoryCells.{numbers_none}
 use Rattle.sym_machine.proofs.CallEffects.{after_write, writes, writes_symbols, write_writes}

@@ -1,6 +1,6 @@
 use Rattle.std.proofs.Common.{◌≡◌, ◌≤◌, ℕ, drop, length}
 use Rattle.sym_machine.specs.SymStart.{code_cell_byte}
-use Rattle.sym_machine.specs.internal.Special.{special}
+use Rattle.sym_machine.specs.internal.SpecialBytes.{special}
 use Rattle.sym_machine.proofs.other_bytes.OtherBytes.add_cells.Given as goal
 
 abbrev pub invariant-loop-left : goal.invariant-loop-left

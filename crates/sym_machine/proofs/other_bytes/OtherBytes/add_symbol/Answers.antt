@@ -6,7 +6,7 @@ use Rattle.sym_machine.specs.declared.value.MemoryByte.{MemoryByte}
 use Rattle.sym_machine.specs.declared.value.MemoryByte.TheVariants.{SymbolByte}
 use Rattle.sym_machine.specs.internal.Memory.{as_byte}
 use Rattle.sym_machine.specs.internal.OtherBytes.{other_byte}
-use Rattle.sym_machine.specs.internal.Special.{special}
+use Rattle.sym_machine.specs.internal.SpecialBytes.{special}
 use Rattle.sym_machine.proofs.StartRuns.{run_none, run_more}
 use Rattle.sym_machine.proofs.other_bytes.OtherBytes.add_symbol.Goals as goal
 

@@ -1,7 +1,7 @@
 use Rattle.std.proofs.Common.{◌≡◌, ◌+◌, ◌-◌, ℕ, Some}
 use Rattle.std.specs.Prelude.{◌&&◌, nat_le, nat_lt, if◌then◌else◌}
 use Rattle.sym_machine.specs.declared.value.MemoryByte.TheVariants.{SymbolByte}
-use Rattle.sym_machine.specs.internal.Special.{special}
+use Rattle.sym_machine.specs.internal.SpecialBytes.{special}
 use Rattle.sym_machine.proofs.other_bytes.OtherBytes.add_symbol.Given as goal
 
 abbrev pub invariant-loop-index : goal.invariant-loop-index

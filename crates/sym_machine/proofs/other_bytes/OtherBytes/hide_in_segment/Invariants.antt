@@ -3,7 +3,7 @@ use Rattle.std.specs.Prelude.{◌&&◌, nat_le, nat_lt, if◌then◌else◌}
 use Rattle.sym_machine.specs.HiddenFields.{hidden_fields, is_hidden_field}
 use Rattle.sym_machine.specs.declared.value.MemoryByte.TheVariants.{Hidden}
 use Rattle.sym_machine.specs.internal.Fields.{range_of_field}
-use Rattle.sym_machine.specs.internal.Special.{special}
+use Rattle.sym_machine.specs.internal.SpecialBytes.{special}
 use Rattle.sym_machine.proofs.other_bytes.OtherBytes.hide_in_segment.Given as goal
 
 abbrev pub invariant-loop-index : goal.invariant-loop-index

@@ -4,7 +4,7 @@ use Rattle.std.specs.List.{list_any}
 use Rattle.sym_machine.specs.HiddenFields.{hidden_fields, is_hidden_field}
 use Rattle.sym_machine.specs.declared.value.MemoryByte.TheVariants.{Hidden}
 use Rattle.sym_machine.specs.internal.Fields.{range_of_field}
-use Rattle.sym_machine.specs.internal.Special.{special, covers}
+use Rattle.sym_machine.specs.internal.SpecialBytes.{special, covers}
 use Rattle.sym_machine.proofs.other_bytes.OtherBytes.hide_in_segments.Given as goal
 
 abbrev pub invariant-loop-index : goal.invariant-loop-index

@@ -3,7 +3,7 @@ use Rattle.std.specs.Prelude.{ℕ, ◌-◌, ◌+◌, ◌&&◌, nat_le, nat_lt, m
 use Rattle.elf_image.specs.declared.segment.Segment.{Segment}
 use Rattle.elf_image.specs.memory.Image.{is_load}
 use Rattle.elf_image.specs.memory.LoadedBytes.{Range, is_in_range}
-use Rattle.sym_machine.specs.declared.value.Symbol.{Symbol}
+use Rattle.sym_machine.specs.declared.value.CodeSymbol.{CodeSymbol}
 use Rattle.sym_machine.specs.declared.value.MemoryByte.{MemoryByte}
 use Rattle.sym_machine.specs.declared.value.MemoryByte.TheVariants.{SymbolByte, Hidden}
 use Rattle.sym_machine.specs.declared.other_bytes.OtherBytes.{OtherBytes}
@@ -14,7 +14,7 @@ abbrev pub special : OtherBytes → ℕ → Option MemoryByte
 special others a = option_map as_byte (other_byte others a)
 
 -- after a symbol was put over a range, or all of it was hidden
-abbrev pub symbol_over : Symbol → ℕ → Range → OtherBytes → ℕ → Option MemoryByte
+abbrev pub symbol_over : CodeSymbol → ℕ → Range → OtherBytes → ℕ → Option MemoryByte
 symbol_over y w range old q = if is_in_range q range then Some (SymbolByte y w (q - range.start)) else special old q
 
 abbrev pub hidden_over : Range → OtherBytes → ℕ → Option MemoryByte
