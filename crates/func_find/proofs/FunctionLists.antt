@@ -26,18 +26,18 @@ use Rattle.elf_image.specs.faults.FunctionFaults.{IsBareAuipc, IsInsideInstructi
 use Rattle.elf_image.specs.faults.LowestPlace.{IsLowest}
 use Rattle.elf_image.proofs.LowestPlaces.{IsLowest-same}
 use Rattle.rv_reloc.specs.declared.parts.Part.{Part}
-use Rattle.rv_reloc.specs.Parts.{AreApart}
-use Rattle.rv_reloc.specs.Whole.{AreWholeParts}
+use Rattle.rv_reloc.specs.Parts.{ArePartsApart}
+use Rattle.rv_reloc.specs.WholeParts.{AreWholeParts}
 use Rattle.rv_reloc.proofs.StartLists.{starts_inside}
 use Rattle.rv_reloc.proofs.WholeLookup.{StartsIn-inside}
 use Rattle.func_find.specs.FunctionParts.{AreFunctionParts}
 use Rattle.func_find.specs.InstLists.{IsBareBefore, IsGoodBefore, IsFaultBefore, invalid, bare, IsFirstIn, IsFirstRefusal}
-use Rattle.func_find.specs.InstLists.{IsPlacedAt, IsMadeOf, AreMadeOf}
-use Rattle.func_find.specs.Targets.{IsHeld, IsCodeIn, IsInsideIn, JumpsNowhere, CallsInside, IsMisled, HasMisled, IsBadStart}
+use Rattle.func_find.specs.InstLists.{IsPlacedAt, IsFunctionOf, AreFunctionsOf}
+use Rattle.func_find.specs.Targets.{InSomePart, IsCodeIn, IsInsideIn, JumpsNowhere, CallsInside, IsMisled, HasMisled, IsBadStart}
 use Rattle.func_find.proofs.Judged.{IsCodePart-function, HasValidInst-from, HasValidInst-before}
 
 pub AreApart-functions : (elf : Elf) (tabled : List (ℕ × ℕ)) (parts : List Part) →
-    AreFunctionParts elf tabled parts → AreApart parts
+    AreFunctionParts elf tabled parts → ArePartsApart parts
 AreApart-functions elf tabled parts are = record {
   has_bytes = λ k d within.
       let x = slice_index_or parts k d in
@@ -96,7 +96,8 @@ IsInsideIn-instruction elf tabled starts parts are functions a =
           }),
       (λ is.
           let p : Part = record { start = is.start; end = is.end } in
-          let held : IsHeld parts a = (p, record { listed = functions.each p is.function; above = is.above; below = is.below }) in
+          let held : InSomePart parts a =
+          (p, record { listed = functions.each p is.function; above = is.above; below = is.below }) in
           record { held = held; no_start = λ start. is.no_code (to (record { start = start; held = held })) }),
     )
 
@@ -134,7 +135,7 @@ role_is elf roles are a role is has (inr (none, plain)) = absurd (none has.reloc
 
 misled_from : (elf : Elf) (tabled : List (ℕ × ℕ)) (starts : List ℕ) (roles : List (ℕ × Role)) (wholes parts : List Part)
     (funcs : List Func) → AreStarts elf starts → AreRoles elf roles → AreFunctionParts elf tabled parts →
-    AreMadeOf elf wholes parts funcs → (place : ℕ) → IsBadTarget elf tabled place → HasMisled starts parts funcs place
+    AreFunctionsOf elf wholes parts funcs → (place : ℕ) → IsBadTarget elf tabled place → HasMisled starts parts funcs place
 misled_from elf tabled starts roles wholes parts funcs are are_roles functions made place bad = found bad
   where
     listed : (a : ℕ) → IsCodeAddress elf tabled a → (f : Func) × Contains funcs f
@@ -182,7 +183,7 @@ has_role elf a to role is (inr (none, plain)) = absurd (no_plain_call to (sym pl
 
 misled_to : (elf : Elf) (tabled : List (ℕ × ℕ)) (starts : List ℕ) (wholes parts : List Part) (funcs : List Func) →
     AreStarts elf starts →
-    AreFunctionParts elf tabled parts → AreMadeOf elf wholes parts funcs → (place : ℕ) → HasMisled starts parts funcs place →
+    AreFunctionParts elf tabled parts → AreFunctionsOf elf wholes parts funcs → (place : ℕ) → HasMisled starts parts funcs place →
     IsBadTarget elf tabled place
 misled_to elf tabled starts wholes parts funcs are functions made place (k, f, within, is, wrong) =
     let (p, in_parts, of) = made.only f (k, within, is) in
@@ -200,7 +201,7 @@ misled_to elf tabled starts wholes parts funcs are functions made place (k, f, w
 
 pub IsLowest-target : (elf : Elf) (tabled : List (ℕ × ℕ)) (starts : List ℕ) (roles : List (ℕ × Role)) (wholes parts : List Part)
     (funcs : List Func) (lowest : Option ℕ) → AreStarts elf starts → AreRoles elf roles → AreFunctionParts elf tabled parts →
-    AreMadeOf elf wholes parts funcs → IsLowest (HasMisled starts parts funcs) lowest →
+    AreFunctionsOf elf wholes parts funcs → IsLowest (HasMisled starts parts funcs) lowest →
     IsLowest (HasFunctionFault elf tabled BadTarget) lowest
 IsLowest-target elf tabled starts roles wholes parts funcs lowest are are_roles functions made =
     IsLowest-same lowest
@@ -293,7 +294,8 @@ not_bare elf tabled parts functions all_good place bad =
     let fine = all_good p place (functions.each p bad.function) bad.auipc.has.starts.starts in
     fine.not_bare (bare_before elf tabled place bad)
 
-made_good : (elf : Elf) (wholes parts : List Part) (funcs : List Func) → AreMadeOf elf wholes parts funcs → (p : Part) (a : ℕ) →
+made_good : (elf : Elf) (wholes parts : List Part) (funcs : List Func) → AreFunctionsOf elf wholes parts funcs →
+    (p : Part) (a : ℕ) →
     Contains parts p → StartsIn elf p.start p.end a → IsGoodBefore elf p.end a
 made_good elf wholes parts funcs made p a listed starts =
     let (f, in_funcs, is) = made.each p listed in
@@ -303,7 +305,7 @@ made_good elf wholes parts funcs made p a listed starts =
 
 pub no_bad : (elf : Elf) (tabled : List (ℕ × ℕ)) (wholes parts : List Part) (funcs : List Func) →
     AreFunctionParts elf tabled parts →
-    AreMadeOf elf wholes parts funcs →
+    AreFunctionsOf elf wholes parts funcs →
     Lacks (HasFunctionFault elf tabled) BadInstruction × Lacks (HasFunctionFault elf tabled) BareAuipc
 no_bad elf tabled wholes parts funcs functions made = (
   not_good elf tabled parts functions (made_good elf wholes parts funcs made),
@@ -398,7 +400,8 @@ IsAnswered-target elf tabled place none lowest = record {
 -- The functions.
 
 IsFunction-made : (elf : Elf) (tabled : List (ℕ × ℕ)) (wholes : List Part) (p : Part) (f : Func) →
-    AreWholeParts elf tabled wholes → IsFunctionPart elf tabled p.start p.end → IsMadeOf elf wholes p f → IsFunction elf tabled f
+    AreWholeParts elf tabled wholes → IsFunctionPart elf tabled p.start p.end → IsFunctionOf elf wholes p f →
+    IsFunction elf tabled f
 IsFunction-made elf tabled wholes p f are function made = record {
   part = subst (λ (s : ℕ). IsFunctionPart elf tabled s f.end) (sym made.start)
       (subst (IsFunctionPart elf tabled p.start) (sym made.end) function);
@@ -414,7 +417,7 @@ IsFunction-made elf tabled wholes p f are function made = record {
 }
 
 pub AreFunctions-made : (elf : Elf) (tabled : List (ℕ × ℕ)) (wholes parts : List Part) (funcs : List Func) →
-    AreWholeParts elf tabled wholes → AreFunctionParts elf tabled parts → AreMadeOf elf wholes parts funcs →
+    AreWholeParts elf tabled wholes → AreFunctionParts elf tabled parts → AreFunctionsOf elf wholes parts funcs →
     AreFunctions elf tabled funcs
 AreFunctions-made elf tabled wholes parts funcs are functions made = record {
   only = λ f listed. let (p, in_parts, is) = made.only f listed in

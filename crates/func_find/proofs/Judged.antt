@@ -13,14 +13,14 @@ use Rattle.elf_image.specs.code.Parts.{IsCovered, IsCodePart, IsZeroPart, Starts
 use Rattle.elf_image.specs.code.Parts.{length_at}
 use Rattle.elf_image.specs.code.Functions.{IsNopPart, IsFunctionPart, code, referred, fallen_into}
 use Rattle.rv_reloc.specs.declared.parts.Part.{Part}
-use Rattle.rv_reloc.specs.Parts.{AreCodeParts, Follows}
+use Rattle.rv_reloc.specs.Parts.{AreCodeParts, Precedes}
 use Rattle.rv_reloc.proofs.Chosen.{ChosenOf}
 use Rattle.rv_reloc.proofs.StartLists.{starts_inside}
 use Rattle.rv_reloc.proofs.WholeLookup.{StartsIn-inside}
 use Rattle.elf_image.specs.code.FileCode.{AreStarts}
-use Rattle.func_find.specs.Valid.{IsValidBefore, IsNopBefore}
+use Rattle.func_find.specs.ValidInsts.{IsValidBefore, IsNopBefore}
 use Rattle.func_find.specs.FunctionParts.{AreFunctionParts, AreFunctionsBefore, FallsAt, FallsOut, IsEntered, HasReferred}
-use Rattle.func_find.specs.Referred.{AreReferred}
+use Rattle.func_find.specs.Referents.{AreReferred}
 use Rattle.func_find.proofs.StartsApart.{starts_apart, length_is}
 
 -- A valid instruction of a code part.
@@ -214,7 +214,7 @@ IsEntered-last elf tabled start count before d are all entered =
 
 -- those of the first parts are those before the next
 pub AreFunctionsBefore-chosen : (elf : Elf) (tabled : List (ℕ × ℕ)) (parts kept : List Part) (i : ℕ) (d : Part) →
-    AreCodeParts elf parts → i < length parts → ChosenOf (λ p. IsFunctionPart elf tabled p.start p.end) Follows parts i kept →
+    AreCodeParts elf parts → i < length parts → ChosenOf (λ p. IsFunctionPart elf tabled p.start p.end) Precedes parts i kept →
     AreFunctionsBefore elf tabled (slice_index_or parts i d).start kept
 AreFunctionsBefore-chosen elf tabled parts kept i d are within chosen = record {
   only = λ p listed. (chosen.only p listed).1;

@@ -1,7 +1,6 @@
 -- What stands at an address of a function, with its role.
 use Rattle.std.proofs.Common.{◌≡◌, ◌≢◌, ◌∙◌, sym, subst, ap, refl, ℕ, ◌<◌, ◌≤◌, inl, inr, ⊎_elim, ◌↔◌, Bool, true, false, IsTrue}
 use Rattle.std.proofs.Common.{Some, List, Contains, AllPairs, length, slice_index_or, arith}
-use Rattle.std.specs.List.Sorted.{IsNonDecreasingBy}
 use Rattle.std.proofs.lemmas.Bool.{cases_lt}
 use Rattle.std.proofs.lemmas.List.{get_or_default}
 use Rattle.rb_bytes.specs.Fault.{fault_at}
@@ -15,7 +14,7 @@ use Rattle.elf_image.specs.declared.elf.Elf.{Elf}
 use Rattle.elf_image.specs.code.FileCode.{AreRoles}
 use Rattle.elf_image.specs.code.Parts.{IsInstAt, length_at}
 use Rattle.elf_image.specs.code.Roles.{HasRole, HasNoRole}
-use Rattle.func_find.specs.Valid.{IsValidBefore}
+use Rattle.func_find.specs.ValidInsts.{IsValidBefore}
 use Rattle.func_find.specs.InstLists.{IsAuipc, IsFaultBefore, bare, IsPlacedAt}
 use Rattle.func_find.proofs.NoRole.{HasNoRole-none}
 use Rattle.func_find.proofs.StartsApart.{length_is}
@@ -86,13 +85,6 @@ fault_bare elf end a roles found fault are valid none ((rd, imm, is), four) faul
     })
 
 -- Looking up roles.
-
-pub rising : (roles : List (ℕ × Role)) → AllPairs (λ r s. r.0 < s.0) roles → IsNonDecreasingBy (λ r. r.0) roles
-rising roles up i j d upto within =
-    ⊎_elim
-    (λ (less : i < j). let r = up i j d less within in omega arith)
-    (λ (more : j ≤ i). let e : i ≡ j = omega arith in let s = ap (λ (k : ℕ). (slice_index_or roles k d).0) e in omega arith)
-    (cases_lt i j)
 
 pub role_there : (roles : List (ℕ × Role)) (a k : ℕ) (d : ℕ × Role) → k < length roles → (slice_index_or roles k d).0 ≡ a →
     Contains roles (a, (slice_index_or roles k d).1)

@@ -16,10 +16,10 @@ use Rattle.elf_image.specs.code.Roles.{RoleIs}
 use Rattle.elf_image.specs.code.Functions.{AreInsts}
 use Rattle.elf_image.proofs.LoadLemmas.{Contains-cons_cases}
 use Rattle.rv_reloc.specs.declared.parts.Part.{Part}
-use Rattle.rv_reloc.specs.Parts.{Follows}
+use Rattle.rv_reloc.specs.Parts.{Precedes}
 use Rattle.rv_reloc.proofs.StartLists.{starts_inside}
-use Rattle.func_find.specs.InstLists.{IsPlacedAt, IsGoodBefore, IsFaultBefore, IsFirstIn, IsFirstRefusal, ArePlaced, IsMadeOf}
-use Rattle.func_find.specs.InstLists.{AreMadeOf}
+use Rattle.func_find.specs.InstLists.{IsPlacedAt, IsGoodBefore, IsFaultBefore, IsFirstIn, IsFirstRefusal}
+use Rattle.func_find.specs.InstLists.{AreFunctionsOf, AreInstsOf, IsFunctionOf}
 use Rattle.func_find.proofs.StartsApart.{starts_apart, length_is}
 
 AreInsts-push : (elf : Elf) (a mid : ℕ) (ps : List Placed) (p : Placed) → AreInsts elf a ps mid → p.addr ≡ mid →
@@ -78,7 +78,7 @@ placed_next elf start end address next was now p inside placed pushed is are =
     }))
 
 pub placed_all : (elf : Elf) (start end address : ℕ) (insts : List Placed) → end ≤ address →
-    ArePlacedTo elf start end address insts → ArePlaced elf start end insts
+    ArePlacedTo elf start end address insts → AreInstsOf elf start end insts
 placed_all elf start end address insts past are =
     let bound = are.bound in
     let e : address ≡ end = omega arith in
@@ -112,7 +112,7 @@ first_bad elf part address insts fault inside bad are = record {
 
 -- Functions, one part after another.
 
-pub made_none : (elf : Elf) (wholes parts : List Part) → AreMadeOf elf wholes (take 0 parts) []
+pub made_none : (elf : Elf) (wholes parts : List Part) → AreFunctionsOf elf wholes (take 0 parts) []
 made_none elf wholes parts = record {
   only = λ f (k, within, is). absurd (omega arith);
   each = λ p (k, within, is). absurd (omega arith);
@@ -120,18 +120,19 @@ made_none elf wholes parts = record {
 }
 
 pub made_next : (elf : Elf) (wholes parts : List Part) (i : ℕ) (d : Part) (was now : List Func) (func : Func) →
-    AllPairs Follows parts → i < length parts → IsMadeOf elf wholes (slice_index_or parts i d) func → now ≡ was ++ func ∷ [] →
-    AreMadeOf elf wholes (take i parts) was → AreMadeOf elf wholes (take (i + 1) parts) now
+    AllPairs Precedes parts → i < length parts → IsFunctionOf elf wholes (slice_index_or parts i d) func →
+    now ≡ was ++ func ∷ [] →
+    AreFunctionsOf elf wholes (take i parts) was → AreFunctionsOf elf wholes (take (i + 1) parts) now
 made_next elf wholes parts i d was now func ordered within made pushed are =
-    subst (λ (fs : List Func). AreMadeOf elf wholes (take (i + 1) parts) fs) (sym pushed)
-    (subst (λ (ps : List Part). AreMadeOf elf wholes ps (was ++ func ∷ [])) (sym (take_more parts i d within)) (record {
+    subst (λ (fs : List Func). AreFunctionsOf elf wholes (take (i + 1) parts) fs) (sym pushed)
+    (subst (λ (ps : List Part). AreFunctionsOf elf wholes ps (was ++ func ∷ [])) (sym (take_more parts i d within)) (record {
       only = λ f listed. ⊎_elim
           (λ early. let (p, there, is) = are.only f early in (p, Contains-append_left (take i parts) (x ∷ []) p there, is))
-          (λ (same : func ≡ f). (x, Contains-push (take i parts) x, subst (IsMadeOf elf wholes x) same made))
+          (λ (same : func ≡ f). (x, Contains-push (take i parts) x, subst (IsFunctionOf elf wholes x) same made))
           (Contains-push_cases was func f listed);
       each = λ p listed. ⊎_elim
           (λ early. let (f, there, is) = are.each p early in (f, Contains-append_left was (func ∷ []) f there, is))
-          (λ (same : x ≡ p). (func, Contains-push was func, subst (λ (q : Part). IsMadeOf elf wholes q func) same made))
+          (λ (same : x ≡ p). (func, Contains-push was func, subst (λ (q : Part). IsFunctionOf elf wholes q func) same made))
           (Contains-push_cases (take i parts) x p listed);
       ordered = all_pairs_push (λ f g. f.end ≤ g.start) was func are.ordered (λ k e inside.
           let f = slice_index_or was k e in
@@ -155,12 +156,13 @@ made_next elf wholes parts i d was now func ordered within made pushed are =
         omega arith
 
 pub made_all : (elf : Elf) (wholes parts : List Part) (i : ℕ) (funcs : List Func) → i ≡ length parts →
-    AreMadeOf elf wholes (take i parts) funcs → AreMadeOf elf wholes parts funcs
-made_all elf wholes parts i funcs all = subst (λ (ps : List Part). AreMadeOf elf wholes ps funcs) (take_all i parts (omega arith))
+    AreFunctionsOf elf wholes (take i parts) funcs → AreFunctionsOf elf wholes parts funcs
+made_all elf wholes parts i funcs all =
+    subst (λ (ps : List Part). AreFunctionsOf elf wholes ps funcs) (take_all i parts (omega arith))
 
 -- the first fault of a part is that of all, where those before it have none
 pub first_of_all : (elf : Elf) (wholes parts : List Part) (i : ℕ) (d : Part) (funcs : List Func) (fault : Fault) →
-    AllPairs Follows parts → i < length parts → AreMadeOf elf wholes (take i parts) funcs →
+    AllPairs Precedes parts → i < length parts → AreFunctionsOf elf wholes (take i parts) funcs →
     IsFirstIn elf (slice_index_or parts i d ∷ []) fault → IsFirstIn elf parts fault
 first_of_all elf wholes parts i d funcs fault ordered within are first = record {
   part = first.part;
@@ -206,7 +208,7 @@ first_of_all elf wholes parts i d funcs fault ordered within are first = record 
     bounded (inr (k, none, is)) = absurd (omega arith)
 
 pub first_refusal : (elf : Elf) (wholes parts : List Part) (i : ℕ) (d : Part) (funcs : List Func) (r : Refusal) →
-    AllPairs Follows parts → i < length parts → AreMadeOf elf wholes (take i parts) funcs →
+    AllPairs Precedes parts → i < length parts → AreFunctionsOf elf wholes (take i parts) funcs →
     IsFirstRefusal elf (slice_index_or parts i d ∷ []) r → IsFirstRefusal elf parts r
 first_refusal elf wholes parts i d funcs (refusal.Fault fault) ordered within are first =
     first_of_all elf wholes parts i d funcs fault ordered within are first

@@ -8,7 +8,8 @@ use Rattle.rv_reloc.specs.declared.parts.Part.{Part}
 use Rattle.rv_reloc.specs.declared.refs.Refs.{Refs}
 use Rattle.rv_reloc.specs.Parts.{AreCodeParts}
 use Rattle.rv_reloc.specs.Refs.{AreRefs}
-use Rattle.func_find.specs.Referred.{Gains, GoesTo, PartGoesTo, AreReferred}
+use Rattle.rb_bytes.specs.Lists.{Gains}
+use Rattle.func_find.specs.Referents.{GoesTo, PartGoesTo, AreReferred}
 use Rattle.func_find.proofs.Judged.{HasValidInst-from, HasValidInst-before}
 
 pub part_goes : (elf : Elf) (p : Part) (inside : List ℕ) →

@@ -8,18 +8,18 @@ use Rattle.elf_image.specs.declared.elf.Elf.{Elf}
 use Rattle.elf_image.specs.code.Parts.{StartsIn}
 use Rattle.elf_image.specs.code.Functions.{IsFunctionPart, IsReferred}
 use Rattle.rv_reloc.specs.declared.parts.Part.{Part}
-use Rattle.rv_reloc.specs.Parts.{Follows}
-use Rattle.func_find.specs.Valid.{IsValidBefore}
+use Rattle.rv_reloc.specs.Parts.{Precedes}
+use Rattle.func_find.specs.ValidInsts.{IsValidBefore}
 
 -- all parts that are functions, by address
 abbrev pub AreFunctionParts : Elf → List (ℕ × ℕ) → List Part → Type 0
-AreFunctionParts elf tabled parts = ListsAll (λ p. IsFunctionPart elf tabled p.start p.end) Follows parts
+AreFunctionParts elf tabled parts = ListsAll (λ p. IsFunctionPart elf tabled p.start p.end) Precedes parts
 
 -- all those that end by an address
 pub record AreFunctionsBefore (elf : Elf) (tabled : List (ℕ × ℕ)) (bound : ℕ) (parts : List Part) : Type 0 where
   pub only : (p : Part) → Contains parts p → IsFunctionPart elf tabled p.start p.end
   pub each : (p : Part) → IsFunctionPart elf tabled p.start p.end → p.end ≤ bound → Contains parts p
-  pub ordered : AllPairs Follows parts
+  pub ordered : AllPairs Precedes parts
   pub below : (p : Part) → Contains parts p → p.end ≤ bound
 
 -- the instruction at an address ends a part and falls out of it

@@ -14,7 +14,7 @@ use Rattle.elf_image.specs.code.Parts.{StartsIn, IsInstAt}
 use Rattle.elf_image.specs.code.Roles.{HasNoRole, RoleIs}
 use Rattle.elf_image.specs.code.Functions.{AreInsts}
 use Rattle.rv_reloc.specs.declared.parts.Part.{Part}
-use Rattle.func_find.specs.Valid.{IsValidBefore}
+use Rattle.func_find.specs.ValidInsts.{IsValidBefore}
 
 abbrev pub IsAuipc : Inst → Type 0
 IsAuipc inst = (rd : ℕ) × (imm : ℤ) × (inst ≡ Auipc rd imm)
@@ -64,20 +64,20 @@ IsFirstRefusal elf parts (refusal.Fault fault) = IsFirstIn elf parts fault
 IsFirstRefusal elf parts refusal.Memory = ⊤
 
 -- the instructions of a stretch, as they were placed
-pub record ArePlaced (elf : Elf) (start end : ℕ) (insts : List Placed) : Type 0 where
+pub record AreInstsOf (elf : Elf) (start end : ℕ) (insts : List Placed) : Type 0 where
   pub follow : AreInsts elf start insts end
   pub each : (p : Placed) → Contains insts p → StartsIn elf start end p.addr × IsPlacedAt elf end p.addr p
   pub all : (a : ℕ) → StartsIn elf start end a → (p : Placed) × Contains insts p × (p.addr ≡ a)
 
 -- A part and the function that it is, whole where the part is one of the whole ones.
-pub record IsMadeOf (elf : Elf) (wholes : List Part) (part : Part) (func : Func) : Type 0 where
+pub record IsFunctionOf (elf : Elf) (wholes : List Part) (part : Part) (func : Func) : Type 0 where
   pub start : func.start ≡ part.start
   pub end : func.end ≡ part.end
   pub whole : (func.whole ≡ true) ↔ Contains wholes part
-  pub insts : ArePlaced elf part.start part.end func.insts.items
+  pub insts : AreInstsOf elf part.start part.end func.insts.items
 
 -- parts and the functions that they are, one for one
-pub record AreMadeOf (elf : Elf) (wholes parts : List Part) (funcs : List Func) : Type 0 where
-  pub only : (func : Func) → Contains funcs func → (part : Part) × Contains parts part × IsMadeOf elf wholes part func
-  pub each : (part : Part) → Contains parts part → (func : Func) × Contains funcs func × IsMadeOf elf wholes part func
+pub record AreFunctionsOf (elf : Elf) (wholes parts : List Part) (funcs : List Func) : Type 0 where
+  pub only : (func : Func) → Contains funcs func → (part : Part) × Contains parts part × IsFunctionOf elf wholes part func
+  pub each : (part : Part) → Contains parts part → (func : Func) × Contains funcs func × IsFunctionOf elf wholes part func
   pub ordered : AllPairs (λ f g. f.end ≤ g.start) funcs

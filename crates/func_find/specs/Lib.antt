@@ -1,5 +1,5 @@
 pub mod FunctionParts
 pub mod InstLists
-pub mod Referred
+pub mod Referents
 pub mod Targets
-pub mod Valid
+pub mod ValidInsts

@@ -9,17 +9,17 @@ use Rattle.rv_reloc.specs.Parts.{HoldsAddress}
 use Rattle.rv_reloc.specs.Places.{IsPlaceOf}
 
 -- one of the parts holds an address
-abbrev pub IsHeld : List Part → ℕ → Type 0
-IsHeld parts a = (p : Part) × HoldsAddress parts a p
+abbrev pub InSomePart : List Part → ℕ → Type 0
+InSomePart parts a = (p : Part) × HoldsAddress parts a p
 
 -- a start of one of the parts
 pub record IsCodeIn (starts : List ℕ) (parts : List Part) (a : ℕ) : Type 0 where
   pub start : Contains starts a
-  pub held : IsHeld parts a
+  pub held : InSomePart parts a
 
 -- an address of one of the parts that is no start
 pub record IsInsideIn (starts : List ℕ) (parts : List Part) (a : ℕ) : Type 0 where
-  pub held : IsHeld parts a
+  pub held : InSomePart parts a
   pub no_start : Contains starts a → ⊥
 
 -- a branch or jump goes to no start

@@ -5,13 +5,13 @@ ghost use Rattle.elf_image.specs.code.Functions.{AreFunctions};
 ghost use Rattle.elf_image.specs.faults.FirstFault.{IsFree, IsRefusalBy};
 ghost use Rattle.elf_image.specs.faults.FunctionFaults.{HasFunctionFault};
 ghost use Rattle.elf_image.specs.faults.LowestPlace.{IsLowest};
-ghost use Rattle.rv_reloc.specs.Parts.{AreApart};
+ghost use Rattle.rv_reloc.specs.Parts.{ArePartsApart};
 ghost use Rattle.rv_reloc.specs.Refs.{AreRefs};
 ghost use Rattle.func_find.specs.Targets.{IsBadStart};
 
 use crate::function_parts::kept_parts;
 use crate::inst_lists::functions_of;
-use crate::targets::{is_code, lowest_misled};
+use crate::targets::{is_inst_start, lowest_misled};
 use elf_image::Elf;
 use elf_image::lowest::place_if;
 use rb_bytes::fault::{Fault, FaultKind, Refusal};
@@ -78,8 +78,8 @@ fn functions_by(
 // The address, if it starts no instruction of a function.
 fn lowest_bad_start(starts: &Starts, parts: &[Part], address: u64) -> Option<u64>
     requires starts { AllPairs (λ a b. a < b) starts.now }
-    requires parts { AreApart parts.now }
+    requires parts { ArePartsApart parts.now }
     ensures { IsLowest (IsBadStart starts.now parts.now address) result }
 {
-    place_if(!is_code(starts, parts, address), address)
+    place_if(!is_inst_start(starts, parts, address), address)
 }

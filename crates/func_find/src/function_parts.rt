@@ -7,8 +7,8 @@ ghost use Rattle.elf_image.specs.internal.Extents.{IsInOneExtent};
 ghost use Rattle.rv_reloc.specs.Parts.{AreCodeParts};
 ghost use Rattle.rv_reloc.specs.Refs.{AreRefs};
 ghost use Rattle.func_find.specs.FunctionParts.{AreFunctionParts, AreFunctionsBefore, FallsAt, FallsOut, IsEntered};
-ghost use Rattle.func_find.specs.Referred.{AreReferred};
-ghost use Rattle.func_find.specs.Valid.{IsNopBefore};
+ghost use Rattle.func_find.specs.Referents.{AreReferred};
+ghost use Rattle.func_find.specs.ValidInsts.{IsNopBefore};
 
 use crate::referred::Referred;
 use crate::valid::{is_nop_before, valid_before};

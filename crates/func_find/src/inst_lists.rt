@@ -4,8 +4,8 @@ ghost use Rattle.std.specs.Prelude.{IsTrue, length, slice_index_or};
 ghost use Rattle.rv_code.specs.declared.placed.Role.{Role};
 ghost use Rattle.elf_image.specs.code.FileCode.{AreRoles};
 ghost use Rattle.elf_image.specs.code.Parts.{IsCodePart};
-ghost use Rattle.rv_reloc.specs.Parts.{AreApart, Follows};
-ghost use Rattle.func_find.specs.InstLists.{AreMadeOf, ArePlaced, IsAuipc, IsFaultBefore, IsFirstRefusal, IsPlacedAt};
+ghost use Rattle.rv_reloc.specs.Parts.{ArePartsApart, Precedes};
+ghost use Rattle.func_find.specs.InstLists.{AreFunctionsOf, AreInstsOf, IsAuipc, IsFaultBefore, IsFirstRefusal, IsPlacedAt};
 
 use crate::valid::valid_before;
 use elf_image::Elf;
@@ -24,10 +24,10 @@ pub fn functions_of(
     roles: &[(u64, Role)],
 ) -> Result<Vec<Func>, Refusal>
     requires parts { All (λ p. IsCodePart elf.now p.start p.end) parts.now }
-    requires ordered { AllPairs Follows parts.now }
-    requires wholes { AreApart wholes.now }
+    requires ordered { AllPairs Precedes parts.now }
+    requires wholes { ArePartsApart wholes.now }
     requires roles { AreRoles elf.now roles.now }
-    ensures made { IfOk result (λ funcs. AreMadeOf elf.now wholes.now parts.now funcs.items) }
+    ensures made { IfOk result (λ funcs. AreFunctionsOf elf.now wholes.now parts.now funcs.items) }
     ensures fault { IfErr result (IsFirstRefusal elf.now parts.now) }
 {
     let mut funcs = Vec::new(alloc);
@@ -48,7 +48,7 @@ pub fn functions_of(
 
 // Whether a part is one of the whole parts.
 fn is_whole(wholes: &[Part], part: &Part) -> bool
-    requires { AreApart wholes.now }
+    requires { ArePartsApart wholes.now }
     ensures { IsTrue result ↔ Contains wholes.now part.now }
 {
     match part_at(wholes, part.start) {
@@ -75,7 +75,7 @@ fn insts_of(
 ) -> Result<Vec<Placed>, Refusal>
     requires part { part.now.start < part.now.end }
     requires roles { AreRoles elf.now roles.now }
-    ensures placed { IfOk result (λ insts. ArePlaced elf.now part.now.start part.now.end insts.items) }
+    ensures placed { IfOk result (λ insts. AreInstsOf elf.now part.now.start part.now.end insts.items) }
     ensures fault { IfErr result (IsFirstRefusal elf.now (part.now ∷ [])) }
 {
     let most = ((part.end - part.start) / 2).min(LARGE) as usize;

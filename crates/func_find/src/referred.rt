@@ -5,12 +5,14 @@ ghost use Rattle.rv_code.specs.layout.ProgramCode.{RoleNames, CellNames};
 ghost use Rattle.elf_image.specs.code.FileCode.{AreStarts};
 ghost use Rattle.rv_reloc.specs.Parts.{AreCodeParts};
 ghost use Rattle.rv_reloc.specs.Refs.{AreRefs};
-ghost use Rattle.func_find.specs.Referred.{AreReferred, Gains, GoesTo, PartGoesTo};
+ghost use Rattle.rb_bytes.specs.Lists.{Gains};
+ghost use Rattle.func_find.specs.Referents.{AreReferred, GoesTo, PartGoesTo};
 
 use crate::valid::valid_before;
 use elf_image::Elf;
 use elf_image::function_bounds::make_ascending;
 use rb_bytes::fault::NoMemory;
+use rb_bytes::lists::push_some;
 use rv_code::flow::target;
 use rv_code::{CellKind, CodeCell, Role};
 use rv_reloc::Refs;
@@ -102,16 +104,6 @@ fn target_of(elf: &Elf, end: u64, from: u64) -> Option<u64>
         Some(found) => target(from, &found.0),
         None => None,
     }
-}
-
-/// Appends an address, if there is one.
-pub fn push_some(addresses: &mut Vec<u64>, address: Option<u64>) -> Result<(), NoMemory>
-    ensures { OnOk result (Gains addresses.old.items addresses.new.items (λ a. address ≡ Some a)) }
-{
-    if let Some(address) = address {
-        addresses.push(address)?;
-    }
-    Ok(())
 }
 
 /// Appends the addresses that roles name.

@@ -1,9 +1,9 @@
 // Branches, jumps and calls that go to no instruction.
 ghost use Rattle.std.specs.Prelude.{◌≡◌, ◌↔◌, ◌<◌, ℕ, AllPairs, IsTrue};
 ghost use Rattle.elf_image.specs.faults.LowestPlace.{IsLowest};
-ghost use Rattle.rv_reloc.specs.Parts.{AreApart};
+ghost use Rattle.rv_reloc.specs.Parts.{ArePartsApart};
 ghost use Rattle.rv_reloc.specs.Places.{IsPlaceOf};
-ghost use Rattle.func_find.specs.Targets.{CallsInside, HasMisled, IsCodeIn, IsHeld, IsInsideIn, IsMisled, JumpsNowhere};
+ghost use Rattle.func_find.specs.Targets.{CallsInside, HasMisled, IsCodeIn, InSomePart, IsInsideIn, IsMisled, JumpsNowhere};
 
 use elf_image::lowest::{lower, place_if};
 use rv_code::flow::target;
@@ -12,9 +12,9 @@ use rv_reloc::parts::{Part, part_at};
 use rv_reloc::start_index::Starts;
 
 /// Whether an address is the start of an instruction of one of these parts.
-pub fn is_code(starts: &Starts, parts: &[Part], address: u64) -> bool
+pub fn is_inst_start(starts: &Starts, parts: &[Part], address: u64) -> bool
     requires starts { AllPairs (λ a b. a < b) starts.now }
-    requires parts { AreApart parts.now }
+    requires parts { ArePartsApart parts.now }
     ensures { IsTrue result ↔ IsCodeIn starts.now parts.now address }
 {
     starts.has(address) && is_held(parts, address)
@@ -22,8 +22,8 @@ pub fn is_code(starts: &Starts, parts: &[Part], address: u64) -> bool
 
 // Whether one of the parts holds an address.
 fn is_held(parts: &[Part], address: u64) -> bool
-    requires { AreApart parts.now }
-    ensures { IsTrue result ↔ IsHeld parts.now address }
+    requires { ArePartsApart parts.now }
+    ensures { IsTrue result ↔ InSomePart parts.now address }
 {
     part_at(parts, address).is_some()
 }
@@ -31,7 +31,7 @@ fn is_held(parts: &[Part], address: u64) -> bool
 // Whether one of the parts holds an address at which no instruction starts.
 fn is_inside(starts: &Starts, parts: &[Part], address: u64) -> bool
     requires starts { AllPairs (λ a b. a < b) starts.now }
-    requires parts { AreApart parts.now }
+    requires parts { ArePartsApart parts.now }
     ensures { IsTrue result ↔ IsInsideIn starts.now parts.now address }
 {
     is_held(parts, address) && !starts.has(address)
@@ -40,7 +40,7 @@ fn is_inside(starts: &Starts, parts: &[Part], address: u64) -> bool
 /// The lowest address of an instruction that goes to no instruction. `parts` are the functions.
 pub fn lowest_misled(starts: &Starts, parts: &[Part], funcs: &[Func]) -> Option<u64>
     requires starts { AllPairs (λ a b. a < b) starts.now }
-    requires parts { AreApart parts.now }
+    requires parts { ArePartsApart parts.now }
     ensures { IsLowest (HasMisled starts.now parts.now funcs.now) result }
 {
     let mut lowest = None;
@@ -52,7 +52,7 @@ pub fn lowest_misled(starts: &Starts, parts: &[Part], funcs: &[Func]) -> Option<
 
 fn lowest_misled_of(starts: &Starts, parts: &[Part], insts: &[Placed]) -> Option<u64>
     requires starts { AllPairs (λ a b. a < b) starts.now }
-    requires parts { AreApart parts.now }
+    requires parts { ArePartsApart parts.now }
     ensures { IsLowest (IsPlaceOf (λ p. p.addr) (IsMisled starts.now parts.now) insts.now) result }
 {
     let mut lowest = None;
@@ -65,7 +65,7 @@ fn lowest_misled_of(starts: &Starts, parts: &[Part], insts: &[Placed]) -> Option
 // Whether an instruction goes to no instruction.
 fn is_misled(starts: &Starts, parts: &[Part], inst: &Placed) -> bool
     requires starts { AllPairs (λ a b. a < b) starts.now }
-    requires parts { AreApart parts.now }
+    requires parts { ArePartsApart parts.now }
     ensures { IsTrue result ↔ IsMisled starts.now parts.now inst.now }
 {
     jumps_nowhere(starts, parts, inst) || calls_inside(starts, parts, inst)
@@ -74,11 +74,11 @@ fn is_misled(starts: &Starts, parts: &[Part], inst: &Placed) -> bool
 // Whether a branch, or a JAL, goes to no start of an instruction.
 fn jumps_nowhere(starts: &Starts, parts: &[Part], inst: &Placed) -> bool
     requires starts { AllPairs (λ a b. a < b) starts.now }
-    requires parts { AreApart parts.now }
+    requires parts { ArePartsApart parts.now }
     ensures { IsTrue result ↔ JumpsNowhere starts.now parts.now inst.now }
 {
     match target(inst.addr, &inst.inst) {
-        Some(to) => !is_code(starts, parts, to),
+        Some(to) => !is_inst_start(starts, parts, to),
         None => false,
     }
 }
@@ -86,7 +86,7 @@ fn jumps_nowhere(starts: &Starts, parts: &[Part], inst: &Placed) -> bool
 // Whether a call pair goes into the middle of an instruction.
 fn calls_inside(starts: &Starts, parts: &[Part], inst: &Placed) -> bool
     requires starts { AllPairs (λ a b. a < b) starts.now }
-    requires parts { AreApart parts.now }
+    requires parts { ArePartsApart parts.now }
     ensures { IsTrue result ↔ CallsInside starts.now parts.now inst.now }
 {
     match inst.role {

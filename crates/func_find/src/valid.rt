@@ -1,7 +1,7 @@
 // Instructions that can stand where they do, and nops.
 ghost use Rattle.std.specs.Prelude.{◌≡◌, ◌↔◌, ◌<◌, ℕ, IsTrue, IfSome, Some};
 ghost use Rattle.rv_code.specs.declared.inst.Inst.{Inst};
-ghost use Rattle.func_find.specs.Valid.{IsValidBefore, IsNopBefore};
+ghost use Rattle.func_find.specs.ValidInsts.{IsValidBefore, IsNopBefore};
 
 use elf_image::Elf;
 use rv_code::Inst;

@@ -7,9 +7,9 @@ use Rattle.elf_image.specs.declared.elf.Elf.{Elf}
 use Rattle.elf_image.specs.code.Relocations.{Relocation, relocations, is_call_pair}
 use Rattle.elf_image.specs.code.Roles.{Claims, CallPair, CallTo, pair_target}
 use Rattle.elf_image.specs.faults.ReferenceFaults.{IsAddress, IsBadCall}
-use Rattle.rv_reloc.specs.declared.calls.Call.{Call}
+use Rattle.rv_reloc.specs.declared.calls.CallInsts.{CallInsts}
 use Rattle.rv_reloc.specs.Calls.{IsCallAt, IsThrough, GoesTo, Names}
-use Rattle.rv_reloc.specs.Claimed.{IsClaimOf}
+use Rattle.rv_reloc.specs.Claims.{IsClaimOf}
 use Rattle.rv_reloc.proofs.CallFaults.{call_of, pair_call, call_pair}
 use Rattle.rv_reloc.proofs.TypeGroups.{call_kind, hi_kind, lo_kind, low_kind}
 
@@ -17,31 +17,31 @@ same_number : (n m : ℕ) (z : ℤ) → pos n ≡ z → pos m ≡ z → n ≡ m
 same_number n m z is is' = let e : pos n ≡ pos m = is ∙ sym is' in cc
 
 -- the call of a relocation at an address
-pub same_call : (elf : Elf) (q : Relocation) (a : ℕ) (c : Call) → ((d : Call) → IsCallAt elf a d → c ≡ d) →
+pub same_call : (elf : Elf) (q : Relocation) (a : ℕ) (c : CallInsts) → ((d : CallInsts) → IsCallAt elf a d → c ≡ d) →
     (pair : CallPair elf q) → a ≡ q.place → c ≡ call_of pair
 same_call elf q a c only pair here =
     only (call_of pair) (subst (λ (n : ℕ). IsCallAt elf n (call_of pair)) (sym here) (pair_call elf q pair))
 
 -- its target is the one that the call goes to
-goes_same : (elf : Elf) (q : Relocation) (a : ℕ) (c : Call) (t target : ℕ) →
-    ((d : Call) → IsCallAt elf a d → c ≡ d) → GoesTo a c t → CallTo elf q (pos target) → a ≡ q.place → target ≡ t
+goes_same : (elf : Elf) (q : Relocation) (a : ℕ) (c : CallInsts) (t target : ℕ) →
+    ((d : CallInsts) → IsCallAt elf a d → c ≡ d) → GoesTo a c t → CallTo elf q (pos target) → a ≡ q.place → target ≡ t
 goes_same elf q a c t target only goes to here =
     let e = same_call elf q a c only to.pair here in
     let there : pos target ≡ pair_target a c.auipc.imm c.jalr.imm =
     to.target_is ∙ ap (λ (n : ℕ). pair_target n to.pair.upper to.pair.lower) (sym here)
-    ∙ ap (λ (d : Call). pair_target a d.auipc.imm d.jalr.imm) (sym e) in
+    ∙ ap (λ (d : CallInsts). pair_target a d.auipc.imm d.jalr.imm) (sym e) in
     same_number target t (pair_target a c.auipc.imm c.jalr.imm) there goes.1
 
 -- the AUIPC's role
-pub hi_role : (elf : Elf) (q : Relocation) (a key : ℕ) (c : Call) (t : ℕ) (role : Role) → IsTrue (is_call_pair q.kind) →
-    ((d : Call) → IsCallAt elf a d → c ≡ d) → Names a c t → key ≡ a → Claims elf q a key role → role ≡ CallHi t
+pub hi_role : (elf : Elf) (q : Relocation) (a key : ℕ) (c : CallInsts) (t : ℕ) (role : Role) → IsTrue (is_call_pair q.kind) →
+    ((d : CallInsts) → IsCallAt elf a d → c ≡ d) → Names a c t → key ≡ a → Claims elf q a key role → role ≡ CallHi t
 hi_role elf q a key c t role is only (inl goes) same (Claims.call_hi target to here key_is role_is) =
     role_is ∙ ap CallHi (goes_same elf q a c t target only goes to here)
 hi_role elf q a key c t role is only (inr (zero, own)) same (Claims.call_hi target to here key_is role_is) =
-    absurd (to.not_zero (sym (ap (λ (d : Call). d.jalr.base) (same_call elf q a c only to.pair here)) ∙ zero))
+    absurd (to.not_zero (sym (ap (λ (d : CallInsts). d.jalr.base) (same_call elf q a c only to.pair here)) ∙ zero))
 hi_role elf q a key c t role is only named same (Claims.call_lo target to here key_is role_is) = absurd (omega arith)
 hi_role elf q a key c t role is only (inl goes) same (Claims.weak_call pair zero here key_is role_is) =
-    absurd (goes.0.1 (ap (λ (d : Call). d.jalr.base) (same_call elf q a c only pair here) ∙ zero))
+    absurd (goes.0.1 (ap (λ (d : CallInsts). d.jalr.base) (same_call elf q a c only pair here) ∙ zero))
 hi_role elf q a key c t role is only (inr (zero', own)) same (Claims.weak_call pair zero here key_is role_is) =
     role_is ∙ ap CallHi (sym here ∙ sym own)
 hi_role elf q a key c t role is only named same (Claims.hi target to here key_is role_is) =
@@ -66,7 +66,7 @@ hi_key elf r key role is (Claims.abs_hi target to kind rd imm full here key_is r
 hi_key elf r key role is (Claims.abs_lo target to kind inst full some here key_is role_is) =
     let x = call_kind r.kind is in let y = low_kind r.kind kind in absurd (omega arith)
 
-hi_claims : (elf : Elf) (r : Relocation) (c : Call) (t : ℕ) → Contains (relocations elf) r → IsTrue (is_call_pair r.kind) →
+hi_claims : (elf : Elf) (r : Relocation) (c : CallInsts) (t : ℕ) → Contains (relocations elf) r → IsTrue (is_call_pair r.kind) →
     IsCallAt elf r.place c → Names r.place c t → Claims elf r r.place r.place (CallHi t)
 hi_claims elf r c t counts is call (inl goes) =
     Claims.call_hi t
@@ -75,8 +75,9 @@ hi_claims elf r c t counts is call (inl goes) =
 hi_claims elf r c t counts is call (inr (zero, own)) =
     Claims.weak_call (call_pair elf r c counts is call) zero refl refl (ap CallHi own)
 
-pub hi-claim : (elf : Elf) (r : Relocation) (c : Call) (t : ℕ) → Contains (relocations elf) r → IsTrue (is_call_pair r.kind) →
-    IsCallAt elf r.place c → ((d : Call) → IsCallAt elf r.place d → c ≡ d) → Names r.place c t →
+pub hi-claim : (elf : Elf) (r : Relocation) (c : CallInsts) (t : ℕ) → Contains (relocations elf) r →
+    IsTrue (is_call_pair r.kind) →
+    IsCallAt elf r.place c → ((d : CallInsts) → IsCallAt elf r.place d → c ≡ d) → Names r.place c t →
     IsClaimOf elf r r.place (record { at = r.place; kind = r.kind; key = r.place; role = CallHi t })
 hi-claim elf r c t counts is call only named = record {
   at_is = refl;
@@ -87,8 +88,8 @@ hi-claim elf r c t counts is call only named = record {
 }
 
 -- the JALR's role
-pub lo_role : (elf : Elf) (q : Relocation) (a key : ℕ) (c : Call) (t : ℕ) (role : Role) → IsTrue (is_call_pair q.kind) →
-    ((d : Call) → IsCallAt elf a d → c ≡ d) → GoesTo a c t → key ≡ a → Claims elf q (a + 4) key role → role ≡ CallLo a t
+pub lo_role : (elf : Elf) (q : Relocation) (a key : ℕ) (c : CallInsts) (t : ℕ) (role : Role) → IsTrue (is_call_pair q.kind) →
+    ((d : CallInsts) → IsCallAt elf a d → c ≡ d) → GoesTo a c t → key ≡ a → Claims elf q (a + 4) key role → role ≡ CallLo a t
 lo_role elf q a key c t role is only goes same (Claims.call_hi target to here key_is role_is) = absurd (omega arith)
 lo_role elf q a key c t role is only goes same (Claims.call_lo target to here key_is role_is) =
     let there : a ≡ q.place = omega arith in
@@ -113,8 +114,9 @@ lo_view elf r key role (Claims.lo hi target to here key_is role_is) = absurd (om
 lo_view elf r key role (Claims.abs_hi target to kind rd imm full here key_is role_is) = absurd (omega arith)
 lo_view elf r key role (Claims.abs_lo target to kind inst full some here key_is role_is) = absurd (omega arith)
 
-pub lo-claim : (elf : Elf) (r : Relocation) (c : Call) (t : ℕ) → Contains (relocations elf) r → IsTrue (is_call_pair r.kind) →
-    IsCallAt elf r.place c → ((d : Call) → IsCallAt elf r.place d → c ≡ d) → GoesTo r.place c t →
+pub lo-claim : (elf : Elf) (r : Relocation) (c : CallInsts) (t : ℕ) → Contains (relocations elf) r →
+    IsTrue (is_call_pair r.kind) →
+    IsCallAt elf r.place c → ((d : CallInsts) → IsCallAt elf r.place d → c ≡ d) → GoesTo r.place c t →
     IsClaimOf elf r (r.place + 4) (record { at = r.place + 4; kind = r.kind; key = r.place; role = CallLo r.place t })
 lo-claim elf r c t counts is call only goes = record {
   at_is = refl;
@@ -128,15 +130,16 @@ lo-claim elf r c t counts is call only goes = record {
 
 -- no claim where the call goes to no address
 
-pub no_target : (elf : Elf) (r : Relocation) (c : Call) (target : ℕ) → (IsBadCall elf r → ⊥) →
-    ((d : Call) → IsCallAt elf r.place d → c ≡ d) → (IsThrough c → IsAddress (pair_target r.place c.auipc.imm c.jalr.imm) → ⊥) →
+pub no_target : (elf : Elf) (r : Relocation) (c : CallInsts) (target : ℕ) → (IsBadCall elf r → ⊥) →
+    ((d : CallInsts) → IsCallAt elf r.place d → c ≡ d) →
+    (IsThrough c → IsAddress (pair_target r.place c.auipc.imm c.jalr.imm) → ⊥) →
     CallTo elf r (pos target) → ⊥
 no_target elf r c target fits only none to =
     let e = same_call elf r r.place c only to.pair refl in
     fits (IsBadCall.address (pos target) to (λ address.
     none (
-      ap (λ (d : Call). d.jalr.base) e ∙ to.through
-          ∙ sym (ap (λ (d : Call). d.auipc.rd) e),
-      λ zero. to.not_zero (sym (ap (λ (d : Call). d.jalr.base) e) ∙ zero),
+      ap (λ (d : CallInsts). d.jalr.base) e ∙ to.through
+          ∙ sym (ap (λ (d : CallInsts). d.auipc.rd) e),
+      λ zero. to.not_zero (sym (ap (λ (d : CallInsts). d.jalr.base) e) ∙ zero),
     )
-    (subst IsAddress (to.target_is ∙ ap (λ (d : Call). pair_target r.place d.auipc.imm d.jalr.imm) (sym e)) address)))
+    (subst IsAddress (to.target_is ∙ ap (λ (d : CallInsts). pair_target r.place d.auipc.imm d.jalr.imm) (sym e)) address)))

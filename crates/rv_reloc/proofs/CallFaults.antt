@@ -10,22 +10,23 @@ use Rattle.elf_image.specs.code.Parts.{HasInst, IsStartIn}
 use Rattle.elf_image.specs.code.Relocations.{Relocation, relocations, is_call_pair}
 use Rattle.elf_image.specs.code.Roles.{IsFullAt, CallPair, pair_target}
 use Rattle.elf_image.specs.faults.ReferenceFaults.{IsAddress, IsBadCall}
-use Rattle.rv_reloc.specs.declared.calls.Call.{Call}
+use Rattle.rv_reloc.specs.declared.calls.CallInsts.{CallInsts}
 use Rattle.rv_reloc.specs.declared.instructions.Jump.{Jump}
 use Rattle.rv_reloc.specs.declared.instructions.Upper.{Upper}
 use Rattle.rv_reloc.specs.declared.parts.Part.{Part}
 use Rattle.rv_reloc.specs.Calls.{IsCallAt, IsJumpAfter, FitsCall}
-use Rattle.rv_reloc.specs.Parts.{AreApart, AreCodeParts, HoldsAddress}
+use Rattle.rv_reloc.specs.Parts.{ArePartsApart, AreCodeParts, HoldsAddress}
 use Rattle.rv_reloc.proofs.FullLookup.{start_held}
 use Rattle.rv_reloc.proofs.PartLookup.{AreApart-parts}
 
-abbrev pub call_of : {elf : Elf} {r : Relocation} → CallPair elf r → Call
+abbrev pub call_of : {elf : Elf} {r : Relocation} → CallPair elf r → CallInsts
 call_of pair = record { auipc = record { rd = pair.rd; imm = pair.upper }; jalr = record { base = pair.base; imm = pair.lower } }
 
 pub pair_call : (elf : Elf) (r : Relocation) (pair : CallPair elf r) → IsCallAt elf r.place (call_of pair)
 pair_call elf r pair = record { start = pair.start; end = pair.end; auipc = pair.auipc; link = pair.link; jalr = pair.jalr }
 
-abbrev pub call_pair : (elf : Elf) (r : Relocation) (c : Call) → Contains (relocations elf) r → IsTrue (is_call_pair r.kind) →
+abbrev pub call_pair : (elf : Elf) (r : Relocation) (c : CallInsts) → Contains (relocations elf) r →
+    IsTrue (is_call_pair r.kind) →
     IsCallAt elf r.place c → CallPair elf r
 call_pair elf r c counts is_call is = record {
   counts = counts;
@@ -44,17 +45,17 @@ call_pair elf r c counts is_call is = record {
 -- a call that doesn't fit
 
 pub bad-none : (elf : Elf) (r : Relocation) → IsTrue (is_call_pair r.kind) →
-    ((c : Call) → IsCallAt elf r.place c → ⊥) → IsBadCall elf r
+    ((c : CallInsts) → IsCallAt elf r.place c → ⊥) → IsBadCall elf r
 bad-none elf r is_call none = IsBadCall.pair is_call (λ (pair, which). none (call_of pair) (pair_call elf r pair))
 
-pub unfit-bad : (elf : Elf) (r : Relocation) (c : Call) → Contains (relocations elf) r → IsTrue (is_call_pair r.kind) →
-    IsCallAt elf r.place c → ((d : Call) → IsCallAt elf r.place d → c ≡ d) → (FitsCall r.place c → ⊥) → IsBadCall elf r
+pub unfit-bad : (elf : Elf) (r : Relocation) (c : CallInsts) → Contains (relocations elf) r → IsTrue (is_call_pair r.kind) →
+    IsCallAt elf r.place c → ((d : CallInsts) → IsCallAt elf r.place d → c ≡ d) → (FitsCall r.place c → ⊥) → IsBadCall elf r
 unfit-bad elf r c counts is_call is only unfit =
     ⊎_elim
     (λ (zero : c.jalr.base ≡ 0). IsBadCall.pair is_call (λ (pair, which).
     let e : c ≡ call_of pair = only (call_of pair) (pair_call elf r pair) in
     unfit (subst (FitsCall r.place) (sym e) (⊎_elim
-    (λ (same, some). absurd (some (sym (ap (λ (d : Call). d.jalr.base) e) ∙ zero)))
+    (λ (same, some). absurd (some (sym (ap (λ (d : CallInsts). d.jalr.base) e) ∙ zero)))
     (λ weak. inr weak)
     which))))
     (λ (some : c.jalr.base ≢ 0). ⊎_elim
@@ -63,14 +64,14 @@ unfit-bad elf r c counts is_call is only unfit =
     (λ address. unfit (inl ((same, some), address))))
     (λ (differ : c.jalr.base ≢ c.auipc.rd). IsBadCall.pair is_call (λ (pair, which).
     let e : c ≡ call_of pair = only (call_of pair) (pair_call elf r pair) in
-    let base : c.jalr.base ≡ pair.base = ap (λ (d : Call). d.jalr.base) e in
-    let rd : c.auipc.rd ≡ pair.rd = ap (λ (d : Call). d.auipc.rd) e in
+    let base : c.jalr.base ≡ pair.base = ap (λ (d : CallInsts). d.jalr.base) e in
+    let rd : c.auipc.rd ≡ pair.rd = ap (λ (d : CallInsts). d.auipc.rd) e in
     ⊎_elim (λ (same, _). differ (base ∙ same ∙ sym rd)) (λ weak. some (base ∙ weak.0)) which))
     (cases_eq c.jalr.base c.auipc.rd))
     (cases_eq c.jalr.base 0)
 
-bad-unfit : (elf : Elf) (r : Relocation) (c : Call) → Contains (relocations elf) r → IsTrue (is_call_pair r.kind) →
-    IsCallAt elf r.place c → ((d : Call) → IsCallAt elf r.place d → c ≡ d) → IsBadCall elf r → FitsCall r.place c → ⊥
+bad-unfit : (elf : Elf) (r : Relocation) (c : CallInsts) → Contains (relocations elf) r → IsTrue (is_call_pair r.kind) →
+    IsCallAt elf r.place c → ((d : CallInsts) → IsCallAt elf r.place d → c ≡ d) → IsBadCall elf r → FitsCall r.place c → ⊥
 bad-unfit elf r c counts is_call is only (IsBadCall.pair _ refuted) fits =
     refuted (call_pair elf r c counts is_call is, ⊎_elim (λ (through, address). inl through) (λ weak. inr weak) fits)
 bad-unfit elf r c counts is_call is only (IsBadCall.address target to refuted) fits =
@@ -78,9 +79,9 @@ bad-unfit elf r c counts is_call is only (IsBadCall.address target to refuted) f
     let fits' = subst (FitsCall r.place) e fits in
     ⊎_elim (λ (through, address). refuted (subst IsAddress (sym to.target_is) address)) (λ weak. to.not_zero weak.0) fits'
 
-pub bad-some : (elf : Elf) (r : Relocation) (c : Call) (fits : Bool) → Contains (relocations elf) r →
+pub bad-some : (elf : Elf) (r : Relocation) (c : CallInsts) (fits : Bool) → Contains (relocations elf) r →
     IsTrue (is_call_pair r.kind) →
-    IsCallAt elf r.place c → ((d : Call) → IsCallAt elf r.place d → c ≡ d) → IsTrue fits ↔ FitsCall r.place c →
+    IsCallAt elf r.place c → ((d : CallInsts) → IsCallAt elf r.place d → c ≡ d) → IsTrue fits ↔ FitsCall r.place c →
     IsTrue (not fits) ↔ IsBadCall elf r
 bad-some elf r c true counts is_call is only tells = (
   λ refuted. let e : false ≡ true = refuted in absurd (cc),
@@ -98,7 +99,7 @@ bad-is_call elf r (IsBadCall.address target to refuted) = to.pair.is_call
 -- The JALR after an instruction, in the same part.
 
 -- an address lies in one part
-pub held_once : (parts : List Part) (a : ℕ) (p q : Part) → AreApart parts → HoldsAddress parts a p →
+pub held_once : (parts : List Part) (a : ℕ) (p q : Part) → ArePartsApart parts → HoldsAddress parts a p →
     HoldsAddress parts a q → p ≡ q
 held_once parts a p q apart p_holds q_holds =
     let (k, k_within, k_is) = p_holds.listed in
@@ -171,8 +172,8 @@ call_there elf a u j full after =
     let next = after full.start full.end full.has.starts in
     record { start = full.start; end = full.end; auipc = full.has; link = next.link; jalr = next.jalr }
 
-pub call_full : (elf : Elf) (a : ℕ) (c : Call) → (is : IsCallAt elf a c) → IsFullAt elf a (Auipc c.auipc.rd c.auipc.imm)
+pub call_full : (elf : Elf) (a : ℕ) (c : CallInsts) → (is : IsCallAt elf a c) → IsFullAt elf a (Auipc c.auipc.rd c.auipc.imm)
 call_full elf a c is = record { start = is.start; end = is.end; has = is.auipc }
 
-pub call_after : (elf : Elf) (a : ℕ) (c : Call) → (is : IsCallAt elf a c) → IsJumpAfter elf is.start is.end a c.jalr
+pub call_after : (elf : Elf) (a : ℕ) (c : CallInsts) → (is : IsCallAt elf a c) → IsJumpAfter elf is.start is.end a c.jalr
 call_after elf a c is = record { link = is.link; jalr = is.jalr }

@@ -20,11 +20,11 @@ use Rattle.rv_reloc.specs.declared.records.Record.{Record}
 use Rattle.rv_reloc.specs.declared.lows.Low.{Low}
 use Rattle.rv_reloc.specs.Candidates as found
 use Rattle.rv_reloc.specs.Candidates.{AreFree, IsCodeField, IsDifferenceField, IsFieldOf}
-use Rattle.rv_reloc.specs.Found.{AreFound}
+use Rattle.rv_reloc.specs.Finds.{AreFound}
 use Rattle.rv_reloc.specs.Lows.{AreLows}
 use Rattle.rv_reloc.specs.Records.{seen, AreRecords}
 use Rattle.rv_reloc.specs.GotFields.{IsSlotOf}
-use Rattle.rv_reloc.specs.Sweep.{IsFieldUpTo, IsKeyUpTo, IsContentUpTo, AreCandidates}
+use Rattle.rv_reloc.specs.CountedFields.{IsFieldUpTo, IsKeyUpTo, IsContentUpTo, AreCandidates}
 use Rattle.rv_reloc.proofs.Kept.{counts, kept}
 use Rattle.rv_reloc.proofs.DifferenceCases.{cell-bits, difference-listed}
 use Rattle.rv_reloc.proofs.PairTargets.{target_upper, upper_target}

@@ -18,9 +18,9 @@ use Rattle.elf_image.proofs.LowestPlaces.{IsLowest-same}
 use Rattle.rv_reloc.specs.declared.sweep.Candidate.{Candidate}
 use Rattle.rv_reloc.specs.declared.sweep.Content.{Content}
 use Rattle.rv_reloc.specs.declared.sweep.Content.TheVariants.{Address, Difference}
-use Rattle.rv_reloc.specs.Cells.{AreAddresses, HasAddresses, IsBadContent, IsBadField, kind_of, cell_of}
+use Rattle.rv_reloc.specs.Cells.{AreAddresses, HasAddresses, IsBadContent, HasBadContent, kind_of, cell_of}
 use Rattle.rv_reloc.specs.Places.{IsPlaceOf}
-use Rattle.rv_reloc.specs.Sweep.{content, field, AreCounted}
+use Rattle.rv_reloc.specs.CountedFields.{content, as_field, AreCounted}
 use Rattle.rv_reloc.proofs.CellFields.{has-bytes}
 use Rattle.rv_reloc.proofs.Lists.{Contains-map, Contains-from_map}
 
@@ -31,7 +31,7 @@ whole (pos n) is = refl
 whole (negsuc n) is = let low = is.0 in absurd (omega (arith, ints))
 
 bad_field : (f : Candidate) (width : ℕ) (to from : ℤ) → f.content ≡ Difference to from →
-    (IsAddress to × IsAddress from → ⊥) → IsBadField f
+    (IsAddress to × IsAddress from → ⊥) → HasBadContent f
 bad_field f width to from is unfit = record { bad = subst IsBadContent (sym is) unfit }
 
 difference_of : (c : Content) (to from : ℤ) → content c ≡ spec.Difference to from → c ≡ Difference to from
@@ -40,7 +40,7 @@ difference_of (Difference to' from') to from is =
     let e : to' ≡ to = cc in let g : from' ≡ from = cc in ap (λ (z : ℤ). Difference z from') e ∙ ap (λ (z : ℤ). Difference to z) g
 
 bad_counted : (elf : Elf) (tabled : List (ℕ × ℕ)) (f : Candidate) (c : Content) → f.content ≡ c → IsBadContent c →
-    Counts elf tabled (field f) true → HasBadLabel elf tabled f.place
+    Counts elf tabled (as_field f) true → HasBadLabel elf tabled f.place
 bad_counted elf tabled f (Address a) is bad counted = absurd bad
 bad_counted elf tabled f (Difference to from) is bad counted = record {
   width = f.width;
@@ -52,17 +52,19 @@ bad_counted elf tabled f (Difference to from) is bad counted = record {
 }
 
 pub of_bad_field : (elf : Elf) (tabled : List (ℕ × ℕ)) (counted : List Candidate) →
-    AreCounted elf tabled (map field counted) → (p : ℕ) → IsPlaceOf (λ f. f.place) IsBadField counted p → HasBadLabel elf tabled p
+    AreCounted elf tabled (map as_field counted) → (p : ℕ) → IsPlaceOf (λ f. f.place) HasBadContent counted p →
+    HasBadLabel elf tabled p
 of_bad_field elf tabled counted are p is =
     subst (HasBadLabel elf tabled) is.place_is
     (bad_counted elf tabled is.item is.item.content refl is.bad.bad
-    (are.only (field is.item) (Contains-map field counted is.item is.listed)))
+    (are.only (as_field is.item) (Contains-map as_field counted is.item is.listed)))
 
-to_place : (elf : Elf) (tabled : List (ℕ × ℕ)) (counted : List Candidate) → AreCounted elf tabled (map field counted) → (p : ℕ) →
-    HasBadLabel elf tabled p → IsPlaceOf (λ f. f.place) IsBadField counted p
+to_place : (elf : Elf) (tabled : List (ℕ × ℕ)) (counted : List Candidate) → AreCounted elf tabled (map as_field counted) →
+    (p : ℕ) →
+    HasBadLabel elf tabled p → IsPlaceOf (λ f. f.place) HasBadContent counted p
 to_place elf tabled counted are p is =
     let there : Field = record { place = p; width = is.width; content = spec.Difference is.to is.from } in
-    let (f, listed, same) = Contains-from_map field counted there (are.each there is.counted) in
+    let (f, listed, same) = Contains-from_map as_field counted there (are.each there is.counted) in
     record {
       item = f;
       listed = listed;
@@ -72,7 +74,7 @@ to_place elf tabled counted are p is =
     }
 
 pub bad-label : (elf : Elf) (tabled : List (ℕ × ℕ)) (counted : List Candidate) (lowest : Option ℕ) →
-    AreCounted elf tabled (map field counted) → IsLowest (IsPlaceOf (λ f. f.place) IsBadField counted) lowest →
+    AreCounted elf tabled (map as_field counted) → IsLowest (IsPlaceOf (λ f. f.place) HasBadContent counted) lowest →
     IsLowest (HasBadLabel elf tabled) lowest
 bad-label elf tabled counted lowest are is =
     IsLowest-same lowest (of_bad_field elf tabled counted are) (to_place elf tabled counted are) is
@@ -90,7 +92,8 @@ good_content (Difference to from) good = ⊎_elim
     (λ (other : IsAddress to → ⊥). absurd (good (λ both. other both.0)))
     (address_or_not to)
 
-pub none-bad : (counted : List Candidate) → IsLowest (IsPlaceOf (λ f. f.place) IsBadField counted) None → All HasAddresses counted
+pub none-bad : (counted : List Candidate) → IsLowest (IsPlaceOf (λ f. f.place) HasBadContent counted) None →
+    All HasAddresses counted
 none-bad counted is k d within =
     let f = slice_index_or counted k d in
     record {
@@ -118,18 +121,19 @@ same_kind (Difference to from) (Diff to' from') is =
     ap (λ (x : ℕ). Diff x (unsigned_abs from)) (ap unsigned_abs is.0) ∙ ap (λ (x : ℕ). Diff to' x) (ap unsigned_abs is.1)
 
 pub cells-all : (elf : Elf) (tabled : List (ℕ × ℕ)) (counted : List Candidate) (cells : List CodeCell) →
-    All HasAddresses counted → AreCounted elf tabled (map field counted) → cells ≡ map cell_of counted → AreCells elf tabled cells
+    All HasAddresses counted → AreCounted elf tabled (map as_field counted) → cells ≡ map cell_of counted →
+    AreCells elf tabled cells
 cells-all elf tabled counted cells good are made = subst (AreCells elf tabled) (sym made) (record {
   only = λ cell listed.
       let (f, has_f, same) = Contains-from_map cell_of counted cell listed in
       subst (IsCell elf tabled) same (record {
         content = content f.content;
-        counted = are.only (field f) (Contains-map field counted f has_f);
+        counted = are.only (as_field f) (Contains-map as_field counted f has_f);
         same = same_content f.content (labels f has_f);
       });
   each = λ cell is.
       let there : Field = record { place = cell.addr; width = cell.width; content = is.content } in
-      let (f, has_f, same) = Contains-from_map field counted there (are.each there is.counted) in
+      let (f, has_f, same) = Contains-from_map as_field counted there (are.each there is.counted) in
       subst (Contains (map cell_of counted))
       (made_of cell f (ap (λ (g : Field). g.place) same) (ap (λ (g : Field). g.width) same)
       (subst (λ (c : spec.Content). SameContent c cell.kind) (sym (ap (λ (g : Field). g.content) same)) is.same))
@@ -140,9 +144,9 @@ cells-all elf tabled counted cells good are made = subst (AreCells elf tabled) (
       let g = slice_index_or counted j none in
       let at_i = get_or-map cell_of counted i none d (omega arith) in
       let at_j = get_or-map cell_of counted j none d inside in
-      let field_i = get_or-map field counted i none (field f) (omega arith) in
-      let field_j = get_or-map field counted j none (field f) inside in
-      let ends = are.ordered i j (field f) less (let n = length-map counted field in omega arith) in
+      let field_i = get_or-map as_field counted i none (as_field f) (omega arith) in
+      let field_j = get_or-map as_field counted j none (as_field f) inside in
+      let ends = are.ordered i j (as_field f) less (let n = length-map counted as_field in omega arith) in
       let bytes = some_bytes f (i, omega arith, get_or_default counted i f none (omega arith)) in
       let end_i = ap (λ (h : Field). h.place + h.width) field_i in
       let place_j = ap (λ (h : Field). h.place) field_j in
@@ -165,5 +169,5 @@ cells-all elf tabled counted cells good are made = subst (AreCells elf tabled) (
     can_be f (counts _ can others) = can
 
     some_bytes : (f : Candidate) → Contains counted f → 0 < f.width
-    some_bytes f listed = let can = can_be (field f) (are.only (field f) (Contains-map field counted f listed)) in
-        has-bytes elf tabled (field f) can.is_field
+    some_bytes f listed = let can = can_be (as_field f) (are.only (as_field f) (Contains-map as_field counted f listed)) in
+        has-bytes elf tabled (as_field f) can.is_field

@@ -14,7 +14,7 @@ use Rattle.elf_image.specs.code.Relocations.{Relocation, relocations, is_call_pa
 use Rattle.elf_image.specs.code.Roles.{Claims}
 use Rattle.rv_reloc.specs.declared.records.Record.{Record}
 use Rattle.rv_reloc.specs.declared.roles.Claim.{Claim}
-use Rattle.rv_reloc.specs.Claimed.{IsClaimUpTo, IsClaimOf, IsClaim, AreClaimsOf, AreClaims}
+use Rattle.rv_reloc.specs.Claims.{IsClaimUpTo, IsClaimOf, IsClaim, AreClaimsOf, AreClaims}
 use Rattle.rv_reloc.specs.Records.{seen, AreRecords}
 use Rattle.rv_reloc.proofs.Absolutes.{kind_absolute}
 use Rattle.rv_reloc.proofs.Kept.{kept}

@@ -3,7 +3,7 @@ use Rattle.std.proofs.Common.{◌≡◌, ℕ, ◌+◌, ◌<◌, ◌≤◌, false
 use Rattle.std.specs.List.{AllPairs}
 use Rattle.std.specs.Ordering.{nat_cmp, is_lt, ordering_then}
 use Rattle.rv_reloc.specs.declared.roles.Claim.{Claim}
-use Rattle.rv_reloc.specs.Claimed.{IsUpTo, IsClaimUpTo}
+use Rattle.rv_reloc.specs.Claims.{IsUpTo, IsClaimUpTo}
 use Rattle.rv_reloc.proofs.Lexicographic.{number_up, then_up, less_trans, AllPairs-from_next}
 
 -- what the comparison of keys says

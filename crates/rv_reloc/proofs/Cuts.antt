@@ -12,7 +12,7 @@ use Rattle.rv_code.specs.layout.Lists.{ListsAll}
 use Rattle.elf_image.specs.declared.elf.Elf.{Elf}
 use Rattle.elf_image.specs.code.Parts.{IsCut, IsInCode, IsCovered, IsPart, IsCodePart}
 use Rattle.rv_reloc.specs.declared.parts.Part.{Part}
-use Rattle.rv_reloc.specs.Parts.{AreZeros, IsCodeStretch, Follows, AreCodeParts}
+use Rattle.rv_reloc.specs.Parts.{AreZeros, IsCodeStretch, Precedes, AreCodeParts}
 
 -- all cuts, by address
 pub record AreCuts (elf : Elf) (cuts : List ℕ) : Type 0 where
@@ -83,7 +83,7 @@ part_from elf cuts start end are part =
 abbrev pub IsPartUpTo : Elf → ℕ → Part → Type 0
 IsPartUpTo elf bound p = IsCodePart elf p.start p.end × (p.end ≤ bound)
 
-pub parts_begin : (elf : Elf) (cuts : List ℕ) → AreCuts elf cuts → ListsAll (IsPartUpTo elf (slice_index cuts 0)) Follows []
+pub parts_begin : (elf : Elf) (cuts : List ℕ) → AreCuts elf cuts → ListsAll (IsPartUpTo elf (slice_index cuts 0)) Precedes []
 parts_begin elf cuts are = record {
   only = λ p (k, within, is). absurd (omega arith);
   each = λ p is.
@@ -132,10 +132,10 @@ up_to elf low high p above is = let below = is.1 in (is.0, omega arith)
 pub parts_keeps : (elf : Elf) (cuts : List ℕ) (parts now : List Part) (k : ℕ) → AreCuts elf cuts → k + 1 < length cuts →
     IsCodeStretch elf (slice_index cuts k) (slice_index cuts (k + 1)) → now ≡ parts
     ++ record { start = slice_index cuts k; end = slice_index cuts (k + 1) } ∷ [] →
-    ListsAll (IsPartUpTo elf (slice_index cuts k)) Follows parts →
-    ListsAll (IsPartUpTo elf (slice_index cuts (k + 1))) Follows now
+    ListsAll (IsPartUpTo elf (slice_index cuts k)) Precedes parts →
+    ListsAll (IsPartUpTo elf (slice_index cuts (k + 1))) Precedes now
 parts_keeps elf cuts parts now k are within kept pushed listed =
-    subst (ListsAll (IsPartUpTo elf (slice_index cuts (k + 1))) Follows) (sym pushed) (record {
+    subst (ListsAll (IsPartUpTo elf (slice_index cuts (k + 1))) Precedes) (sym pushed) (record {
       only = λ p is_in. ⊎_elim
           (λ before. up_to elf _ _ p low (listed.only p before))
           (λ (same : x ≡ p). subst (IsPartUpTo elf (slice_index cuts (k + 1))) same (code, omega arith))
@@ -145,7 +145,7 @@ parts_keeps elf cuts parts now k are within kept pushed listed =
           (λ (starts, ends). subst (Contains (parts ++ x ∷ [])) (λ i. record { start = sym starts i; end = sym ends i })
           (Contains-push parts x))
           (part_cases elf cuts k p are within is);
-      ordered = all_pairs_push Follows parts x listed.ordered
+      ordered = all_pairs_push Precedes parts x listed.ordered
           (λ j d inside.
           (listed.only (slice_index_or parts j d) (j, inside, get_or_default parts j (slice_index_or parts j d) d inside)).1);
     })
@@ -162,8 +162,8 @@ parts_keeps elf cuts parts now k are within kept pushed listed =
 -- a stretch without
 pub parts_drops : (elf : Elf) (cuts : List ℕ) (parts : List Part) (k : ℕ) → AreCuts elf cuts → k + 1 < length cuts →
     (IsCodeStretch elf (slice_index cuts k) (slice_index cuts (k + 1)) → ⊥) →
-    ListsAll (IsPartUpTo elf (slice_index cuts k)) Follows parts →
-    ListsAll (IsPartUpTo elf (slice_index cuts (k + 1))) Follows parts
+    ListsAll (IsPartUpTo elf (slice_index cuts k)) Precedes parts →
+    ListsAll (IsPartUpTo elf (slice_index cuts (k + 1))) Precedes parts
 parts_drops elf cuts parts k are within dropped listed = record {
   only = λ p is_in. up_to elf _ _ p low (listed.only p is_in);
   each = λ p is. ⊎_elim
@@ -180,7 +180,7 @@ parts_drops elf cuts parts k are within dropped listed = record {
 
 -- the end of the last part is a cut
 pub parts_all : (elf : Elf) (cuts : List ℕ) (parts : List Part) (k : ℕ) → AreCuts elf cuts → length cuts ≤ k + 1 →
-    ListsAll (IsPartUpTo elf (slice_index cuts k)) Follows parts → k < length cuts → AreCodeParts elf parts
+    ListsAll (IsPartUpTo elf (slice_index cuts k)) Precedes parts → k < length cuts → AreCodeParts elf parts
 parts_all elf cuts parts k are all listed within = record {
   only = λ p is_in. (listed.only p is_in).0;
   each = λ p is.
@@ -197,7 +197,7 @@ parts_all elf cuts parts k are all listed within = record {
 
 -- no part without cuts
 pub parts_none : (elf : Elf) (cuts : List ℕ) (parts : List Part) (bound : ℕ) → AreCuts elf cuts → length cuts ≡ 0 →
-    ListsAll (IsPartUpTo elf bound) Follows parts → AreCodeParts elf parts
+    ListsAll (IsPartUpTo elf bound) Precedes parts → AreCodeParts elf parts
 parts_none elf cuts parts bound are none listed = record {
   only = λ p is_in. (listed.only p is_in).0;
   each = λ p is. let (j, inside, starts, ends) = part_from elf cuts p.start p.end are is.part in absurd (omega arith);
@@ -224,8 +224,8 @@ read_at cuts k a within is = is ∙ get_or_default cuts k a 0 within
 
 pub parts_push : (elf : Elf) (cuts : List ℕ) (parts now : List Part) (k start end : ℕ) → AreCuts elf cuts → k < length cuts - 1 →
     start ≡ slice_index_or cuts k start → end ≡ slice_index_or cuts (k + 1) end → IsCodeStretch elf start end → now ≡ parts
-    ++ record { start = start; end = end } ∷ [] → ListsAll (IsPartUpTo elf (slice_index cuts k)) Follows parts →
-    ListsAll (IsPartUpTo elf (slice_index cuts (k + 1))) Follows now
+    ++ record { start = start; end = end } ∷ [] → ListsAll (IsPartUpTo elf (slice_index cuts k)) Precedes parts →
+    ListsAll (IsPartUpTo elf (slice_index cuts (k + 1))) Precedes now
 parts_push elf cuts parts now k start end are within starts ends kept pushed listed =
     let s = read_at cuts k start (omega arith) starts in
     let e = read_at cuts (k + 1) end (omega arith) ends in
@@ -235,8 +235,8 @@ parts_push elf cuts parts now k start end are within starts ends kept pushed lis
 
 pub parts_skip : (elf : Elf) (cuts : List ℕ) (parts : List Part) (k start end : ℕ) → AreCuts elf cuts → k < length cuts - 1 →
     start ≡ slice_index_or cuts k start → end ≡ slice_index_or cuts (k + 1) end → (IsCodeStretch elf start end → ⊥) →
-    ListsAll (IsPartUpTo elf (slice_index cuts k)) Follows parts →
-    ListsAll (IsPartUpTo elf (slice_index cuts (k + 1))) Follows parts
+    ListsAll (IsPartUpTo elf (slice_index cuts k)) Precedes parts →
+    ListsAll (IsPartUpTo elf (slice_index cuts (k + 1))) Precedes parts
 parts_skip elf cuts parts k start end are within starts ends dropped listed =
     let s = read_at cuts k start (omega arith) starts in
     let e = read_at cuts (k + 1) end (omega arith) ends in
@@ -245,7 +245,7 @@ parts_skip elf cuts parts k start end are within starts ends dropped listed =
     (subst (λ (a : ℕ). IsCodeStretch elf a end) (sym s) (subst (IsCodeStretch elf (slice_index cuts k)) (sym e) kept))) listed
 
 pub parts_end : (elf : Elf) (cuts : List ℕ) (parts : List Part) (k : ℕ) → AreCuts elf cuts → k ≡ length cuts - 1 →
-    ListsAll (IsPartUpTo elf (slice_index cuts k)) Follows parts → AreCodeParts elf parts
+    ListsAll (IsPartUpTo elf (slice_index cuts k)) Precedes parts → AreCodeParts elf parts
 parts_end elf cuts parts k are all listed =
     ⊎_elim
     (λ (some : 0 < length cuts). parts_all elf cuts parts k are (omega arith) listed (omega arith))

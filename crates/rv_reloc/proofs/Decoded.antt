@@ -1,7 +1,7 @@
 -- What is decoded from the bytes at an address is the only instruction there.
 use Rattle.std.proofs.Common.{◌≡◌, ◌≢◌, sym, subst, ℕ, ◌⊎◌, inl, inr, ⊎_elim, Option, Some, None, IfSome, IfNone}
 use Rattle.rv_code.specs.declared.inst.Inst.{Inst}
-use Rattle.rv_code.specs.isa.Decoding.{Decodes, DecodesHalf, DecodesFull}
+use Rattle.rv_code.specs.isa.InstBytes.{Decodes, DecodesHalf, DecodesFull}
 use Rattle.elf_image.specs.declared.elf.Elf.{Elf}
 use Rattle.elf_image.specs.code.Parts.{IsInstAt}
 

@@ -6,7 +6,7 @@ use Rattle.std.proofs.lemmas.List.Kept.{AllPairs-from_increasing}
 use Rattle.elf_image.specs.declared.elf.Elf.{Elf}
 use Rattle.elf_image.specs.code.Relocations.{Relocation, relocations, is_pcrel_hi}
 use Rattle.rv_reloc.specs.declared.lows.Low.{Low}
-use Rattle.rv_reloc.specs.Found.{AreFound}
+use Rattle.rv_reloc.specs.Finds.{AreFound}
 use Rattle.rv_reloc.specs.Lows.{AreLows}
 use Rattle.rv_reloc.specs.Pairs.{IsFar, AreFar, MakesNoAddress}
 use Rattle.rv_reloc.proofs.PairTargets.{low_of_upper, upper_low, upper_target, target_upper}

@@ -10,8 +10,8 @@ use Rattle.elf_image.specs.code.Relocations as relocations
 use Rattle.elf_image.specs.code.Relocations.{Relocation, is_address}
 use Rattle.elf_image.specs.memory.LoadedBytes.{loaded_number}
 use Rattle.rv_reloc.specs.declared.differences.Difference.{Difference}
-use Rattle.rv_reloc.specs.declared.labels.Width.{Width}
-use Rattle.rv_reloc.specs.declared.labels.Width.TheVariants.{Bits6, Bits8, Bits16, Bits32, Bits64, Uleb128}
+use Rattle.rv_reloc.specs.declared.labels.FieldWidth.{FieldWidth}
+use Rattle.rv_reloc.specs.declared.labels.FieldWidth.TheVariants.{Bits6, Bits8, Bits16, Bits32, Bits64, Uleb128}
 use Rattle.rv_reloc.specs.Candidates.{AreFree, cell_bytes, IsCellField, IsCodeField, IsDifferenceField, IsFieldOf, pointer}
 use Rattle.rv_reloc.specs.Candidates.{difference}
 use Rattle.rv_reloc.specs.Differences.{IsDifferenceOf, IsTheDifference}
@@ -29,7 +29,7 @@ crosses-found false P Q p test = (λ _. (p, λ q. let e : false ≡ true = test.
 
 -- The bytes of cells.
 
-bytes_of : (w : Width) (bits : ℕ) → width_of w ≡ relocations.Bits bits → (bits ≡ 32) ⊎ (bits ≡ 64) →
+bytes_of : (w : FieldWidth) (bits : ℕ) → width_of w ≡ relocations.Bits bits → (bits ≡ 32) ⊎ (bits ≡ 64) →
     cell_bytes w ≡ Some (bits / 8)
 bytes_of Bits6 bits is cell =
     let e : 6 ≡ bits = cc in ⊎_elim (λ (f : bits ≡ 32). absurd (omega arith)) (λ (f : bits ≡ 64). absurd (omega arith)) cell
@@ -45,7 +45,7 @@ pub cell-to_difference : (elf : Elf) (tabled : List (ℕ × ℕ)) (r : Relocatio
     IsDifferenceOf elf r d → can_be_cell r ≡ true → IsCellField elf tabled r.place d f → IsDifferenceField elf tabled r f
 cell-to_difference elf tabled r d f of can is = by d.width refl
   where
-    made : (w : Width) (bits : ℕ) → d.width ≡ w → width_of w ≡ relocations.Bits bits → f.width ≡ bits / 8 →
+    made : (w : FieldWidth) (bits : ℕ) → d.width ≡ w → width_of w ≡ relocations.Bits bits → f.width ≡ bits / 8 →
         IsDifferenceField elf tabled r f
     made w bits e width bytes = record {
       bits = bits;
@@ -61,10 +61,10 @@ cell-to_difference elf tabled r d f of can is = by d.width refl
       free = subst (AreFree elf r.place) bytes is.free;
     }
 
-    bytes_are : (w : Width) → d.width ≡ w → cell_bytes w ≡ Some f.width
+    bytes_are : (w : FieldWidth) → d.width ≡ w → cell_bytes w ≡ Some f.width
     bytes_are w e = sym (ap cell_bytes e) ∙ is.width_is
 
-    by : (w : Width) → d.width ≡ w → IsDifferenceField elf tabled r f
+    by : (w : FieldWidth) → d.width ≡ w → IsDifferenceField elf tabled r f
     by Bits6 e = let no_bytes : None ≡ Some f.width = bytes_are Bits6 e in absurd (cc)
     by Bits8 e = let no_bytes : None ≡ Some f.width = bytes_are Bits8 e in absurd (cc)
     by Bits16 e = let no_bytes : None ≡ Some f.width = bytes_are Bits16 e in absurd (cc)

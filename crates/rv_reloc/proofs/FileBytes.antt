@@ -12,7 +12,7 @@ use Rattle.elf_image.specs.memory.LoadedBytes.{byte_at}
 use Rattle.elf_image.proofs.LoadLemmas.{find-found, find-only, loads-parts, loads-from_parts}
 use Rattle.rv_reloc.specs.declared.parts.Part.{Part}
 use Rattle.rv_reloc.specs.Halves.{AreBytesOf}
-use Rattle.rv_reloc.specs.Loaded.{AreBytesFrom}
+use Rattle.rv_reloc.specs.LoadedMemory.{AreBytesFrom}
 
 -- a segment that loads one address is found at each that it loads
 same_segment : (elf : Elf) (a q : ℕ) (p : Segment) → segment_of elf.segments.items a ≡ Some p → IsTrue (loads_address q p) →

@@ -5,7 +5,7 @@ use Rattle.std.specs.List.{Contains}
 use Rattle.std.specs.Option.{option_map, option_to_list}
 use Rattle.std.proofs.lemmas.List.{take_more, take_all, map-append}
 use Rattle.std.proofs.lemmas.List.Elements.{Contains-append_left, Contains-push, Contains-push_cases}
-use Rattle.rv_reloc.specs.Found.{AreFound}
+use Rattle.rv_reloc.specs.Finds.{AreFound}
 
 none_listed : {A : Type 0} (a : A) → Contains [] a → ⊥
 none_listed a (k, within, is) = omega arith

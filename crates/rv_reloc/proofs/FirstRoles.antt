@@ -13,7 +13,7 @@ use Rattle.elf_image.specs.declared.elf.Elf.{Elf}
 use Rattle.elf_image.specs.code.Roles.{Claims, HasRole}
 use Rattle.elf_image.specs.code.FileCode.{AreRoles}
 use Rattle.rv_reloc.specs.declared.roles.Claim.{Claim}
-use Rattle.rv_reloc.specs.Claimed.{IsUpTo, IsClaimUpTo, IsClaim, AreClaims, IsFirst}
+use Rattle.rv_reloc.specs.Claims.{IsUpTo, IsClaimUpTo, IsClaim, AreClaims, IsFirstClaim}
 
 not_above : (c d : Claim) → IsClaimUpTo c d → c.at ≤ d.at
 not_above c d (inl less) = omega arith
@@ -32,11 +32,11 @@ up_to_same k1 y1 k2 y2 (inr (e, a)) (inl b) = absurd (omega arith)
 up_to_same k1 y1 k2 y2 (inr (e, a)) (inr (f, b)) = (e, omega arith)
 
 -- the first, by its neighbour
-pub first_zero : (claims : List Claim) (k : ℕ) → k ≡ 0 → IsFirst claims k
+pub first_zero : (claims : List Claim) (k : ℕ) → k ≡ 0 → IsFirstClaim claims k
 first_zero claims k none j d less = absurd (omega arith)
 
 pub first_above : (claims : List Claim) (k : ℕ) → AllPairs IsClaimUpTo claims → k < length claims →
-    ((d : Claim) → (slice_index_or claims (k - 1) d).at < (slice_index_or claims k d).at) → IsFirst claims k
+    ((d : Claim) → (slice_index_or claims (k - 1) d).at < (slice_index_or claims k d).at) → IsFirstClaim claims k
 first_above claims k ordered within rises j d less =
     let here = rises d in
     ⊎_elim
@@ -50,7 +50,7 @@ first_above claims k ordered within rises j d less =
 
 abbrev pub IsFirstBelow : List Claim → ℕ → ℕ × Role → Type 0
 IsFirstBelow claims i r =
-    (k : ℕ) × (k < i) × IsFirst claims k
+    (k : ℕ) × (k < i) × IsFirstClaim claims k
     × ((d : Claim) → ((slice_index_or claims k d).at ≡ r.0) × ((slice_index_or claims k d).role ≡ r.1))
 
 abbrev pub IsBefore : ℕ × Role → ℕ × Role → Type 0
@@ -64,19 +64,19 @@ roles_begin claims roles none = subst (ListsAll (IsFirstBelow claims 0) IsBefore
 })
 
 below_cases : (claims : List Claim) (i : ℕ) (r : ℕ × Role) → IsFirstBelow claims (i + 1) r → IsFirstBelow claims i r
-    ⊎ (IsFirst claims i × ((d : Claim) → ((slice_index_or claims i d).at ≡ r.0) × ((slice_index_or claims i d).role ≡ r.1)))
+    ⊎ (IsFirstClaim claims i × ((d : Claim) → ((slice_index_or claims i d).at ≡ r.0) × ((slice_index_or claims i d).role ≡ r.1)))
 below_cases claims i r (k, below, first, same) =
     ⊎_elim
     (λ (less : k < i). inl (k, less, first, same))
     (λ (more : i ≤ k). let e : k ≡ i = omega arith in
-    inr (subst (λ (n : ℕ). IsFirst claims n
+    inr (subst (λ (n : ℕ). IsFirstClaim claims n
     × ((d : Claim) → ((slice_index_or claims n d).at ≡ r.0) × ((slice_index_or claims n d).role ≡ r.1))) e (first, same)))
     (cases_lt k i)
 
 later : (claims : List Claim) (i : ℕ) (r : ℕ × Role) → IsFirstBelow claims i r → IsFirstBelow claims (i + 1) r
 later claims i r (k, below, first, same) = (k, omega arith, first, same)
 
-pub roles_skip : (claims : List Claim) (roles : List (ℕ × Role)) (i : ℕ) → (IsFirst claims i → ⊥) →
+pub roles_skip : (claims : List Claim) (roles : List (ℕ × Role)) (i : ℕ) → (IsFirstClaim claims i → ⊥) →
     ListsAll (IsFirstBelow claims i) IsBefore roles → ListsAll (IsFirstBelow claims (i + 1)) IsBefore roles
 roles_skip claims roles i other lists = record {
   only = λ r is_in. later claims i r (lists.only r is_in);
@@ -85,7 +85,7 @@ roles_skip claims roles i other lists = record {
 }
 
 pub roles_push : (claims : List Claim) (roles now : List (ℕ × Role)) (i : ℕ) (x : Claim) → i < length claims →
-    x ≡ slice_index_or claims i x → IsFirst claims i → now ≡ roles ++ (x.at, x.role) ∷ [] →
+    x ≡ slice_index_or claims i x → IsFirstClaim claims i → now ≡ roles ++ (x.at, x.role) ∷ [] →
     ListsAll (IsFirstBelow claims i) IsBefore roles → ListsAll (IsFirstBelow claims (i + 1)) IsBefore now
 roles_push claims roles now i x within is first pushed lists =
     subst (ListsAll (IsFirstBelow claims (i + 1)) IsBefore) (sym pushed) (record {
@@ -120,7 +120,7 @@ at_index elf claims k d within = (k, within, get_or_default claims k (slice_inde
 -- where a list has a claim at an address, it has a first one
 first_down : (claims : List Claim) (n k : ℕ) (d : Claim) → k ≤ n → AllPairs IsClaimUpTo claims →
     k < length claims → (j : ℕ) × (j ≤ k)
-    × IsFirst claims j × ((slice_index_or claims j d).at ≡ (slice_index_or claims k d).at)
+    × IsFirstClaim claims j × ((slice_index_or claims j d).at ≡ (slice_index_or claims k d).at)
 first_down claims zero k d bound ordered within = (k, omega arith, first_zero claims k (omega arith), refl)
 first_down claims (suc n) k d bound ordered within =
     ⊎_elim
@@ -148,7 +148,8 @@ first_down claims (suc n) k d bound ordered within =
     (cases_eq k 0)
 
 -- the first at an address is up to any there
-first_least : (claims : List Claim) (k j : ℕ) (d : Claim) → AllPairs IsClaimUpTo claims → IsFirst claims k → k < length claims →
+first_least : (claims : List Claim) (k j : ℕ) (d : Claim) → AllPairs IsClaimUpTo claims → IsFirstClaim claims k →
+    k < length claims →
     j < length claims → (slice_index_or claims j d).at ≡ (slice_index_or claims k d).at →
     IsUpTo (slice_index_or claims k d).kind (slice_index_or claims k d).key (slice_index_or claims j d).kind
     (slice_index_or claims j d).key
@@ -242,7 +243,7 @@ roles_all elf claims roles i are all lists =
 
 -- the test of neighbours
 pub first_if : (claims : List Claim) (k : ℕ) (e : Claim) → AllPairs IsClaimUpTo claims → k < length claims → k ≢ 0 →
-    IsTrue (nat_lt (slice_index_or claims (k - 1) e).at (slice_index_or claims k e).at) ↔ IsFirst claims k
+    IsTrue (nat_lt (slice_index_or claims (k - 1) e).at (slice_index_or claims k e).at) ↔ IsFirstClaim claims k
 first_if claims k e ordered within some = (
   λ is. let less = ltb-true (slice_index_or claims (k - 1) e).at (slice_index_or claims k e).at is in
       first_above claims k ordered within (λ d.

@@ -1,17 +1,9 @@
 -- The numbers of an ascending list between two bounds.
 use Rattle.std.proofs.Common.{◌≡◌, ◌∙◌, sym, ap, ℕ, ◌+◌, ◌-◌, ◌<◌, ◌≤◌, ⊎_elim, ◌↔◌, List, take, drop, length, slice_index_or}
 use Rattle.std.proofs.Common.{arith}
-use Rattle.std.specs.List.{Contains, AllPairs}
-use Rattle.std.specs.List.Sorted.{IsNonDecreasingBy}
+use Rattle.std.specs.List.{Contains}
 use Rattle.std.proofs.lemmas.Bool.{cases_lt}
 use Rattle.std.proofs.lemmas.List.{get_or-take, get_or-drop}
-
-pub rising : (xs : List ℕ) → AllPairs (λ a b. a < b) xs → IsNonDecreasingBy (λ a. a) xs
-rising xs up i j d upto within =
-    ⊎_elim
-    (λ (less : i < j). let r = up i j d less within in omega arith)
-    (λ (more : j ≤ i). let e : i ≡ j = omega arith in let s = ap (λ (k : ℕ). slice_index_or xs k d) e in omega arith)
-    (cases_lt i j)
 
 pub Contains-between : (xs below inside : List ℕ) (n m low high : ℕ) → below ≡ take n xs →
     inside ≡ drop m below → length below ≡ n →

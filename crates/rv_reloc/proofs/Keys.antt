@@ -10,7 +10,7 @@ use Rattle.std.specs.List.{AllPairs}
 use Rattle.std.specs.Ordering.{nat_cmp, int_cmp, is_lt, ordering_then}
 use Rattle.elf_image.specs.code.Cells as cells
 use Rattle.elf_image.specs.code.Cells.{Field, CanBeCell}
-use Rattle.rv_reloc.specs.Sweep.{field, content, IsContentUpTo, IsKeyUpTo}
+use Rattle.rv_reloc.specs.CountedFields.{as_field, content, IsContentUpTo, IsKeyUpTo}
 use Rattle.rv_reloc.specs.declared.sweep.Candidate.{Candidate}
 use Rattle.rv_reloc.specs.declared.sweep.Content.{Content}
 use Rattle.rv_reloc.specs.declared.sweep.Content.TheVariants.{Address, Difference}
@@ -50,7 +50,7 @@ reassociate Equal p q = refl
 reassociate Greater p q = refl
 
 key_up : (cmp : Content → Content → Ordering) → ComparesContents cmp → (x y : Candidate) → IsNotLess cmp x y →
-    IsKeyUpTo (field x) (field y)
+    IsKeyUpTo (as_field x) (as_field y)
 key_up cmp is x y up =
     let widths = nat_cmp x.width y.width in
     then_up x.place y.place (ordering_then widths (cmp y.content x.content)) _
@@ -96,13 +96,14 @@ none = record { place = 0; width = 0; content = Address 0 }
 
 pub keys-sorted : (cmp : Content → Content → Ordering) (xs : List Candidate) → ComparesContents cmp →
     ((k : ℕ) (d : Candidate) → 0 ≤ k → k + 1 < length xs → IsNotLess cmp (slice_index_or xs k d) (slice_index_or xs (k + 1) d)) →
-    AllPairs IsKeyUpTo (map field xs)
+    AllPairs IsKeyUpTo (map as_field xs)
 keys-sorted cmp xs is sorted i j d less within =
-    let inside : j < length xs = (let n = length-map xs field in omega arith) in
-    let up = AllPairs-from_next (λ x y. IsKeyUpTo (field x) (field y)) (λ x y z. key_trans (field x) (field y) (field z)) xs
+    let inside : j < length xs = (let n = length-map xs as_field in omega arith) in
+    let up = AllPairs-from_next (λ x y. IsKeyUpTo (as_field x) (as_field y))
+    (λ x y z. key_trans (as_field x) (as_field y) (as_field z)) xs
     (λ k e before. key_up cmp is (slice_index_or xs k e) (slice_index_or xs (k + 1) e)
     (sorted k e (omega arith) before)) i j none less inside in
-    let at_i = get_or-map field xs i none d (omega arith) in
-    let at_j = get_or-map field xs j none d inside in
-    subst (λ (f : Field). IsKeyUpTo f (slice_index_or (map field xs) j d)) (sym at_i)
-    (subst (λ (g : Field). IsKeyUpTo (field (slice_index_or xs i none)) g) (sym at_j) up)
+    let at_i = get_or-map as_field xs i none d (omega arith) in
+    let at_j = get_or-map as_field xs j none d inside in
+    subst (λ (f : Field). IsKeyUpTo f (slice_index_or (map as_field xs) j d)) (sym at_i)
+    (subst (λ (g : Field). IsKeyUpTo (as_field (slice_index_or xs i none)) g) (sym at_j) up)

@@ -9,9 +9,9 @@ use Rattle.rb_bytes.specs.Leb.{is_last, low_bits, high_bits}
 use Rattle.elf_image.specs.declared.elf.Elf.{Elf}
 use Rattle.elf_image.specs.code.Fields.{leb_from, leb_at, HoldBits}
 use Rattle.elf_image.specs.memory.LoadedBytes.{byte_at}
-use Rattle.rv_reloc.specs.declared.tails.Tail.{Tail}
+use Rattle.rv_reloc.specs.declared.tails.LebRest.{LebRest}
 use Rattle.elf_image.specs.faults.SegmentLayout.{address_end}
-use Rattle.rv_reloc.specs.Loaded.{IsLow}
+use Rattle.rv_reloc.specs.LoadedMemory.{IsLow}
 use Rattle.rv_reloc.specs.Tails.{AreLebBytes, IsTail, TailAt, no_tail, is_tail, magnitude}
 
 -- What the first byte says.
@@ -172,7 +172,7 @@ unloaded-bytes elf a bs are byte = never-bytes elf a bs are (never-unloaded elf 
 pub tail-unloaded : (elf : Elf) (a : ℕ) → byte_at elf a ≡ None → TailAt elf a None
 tail-unloaded elf a byte = no_tail (never-unloaded elf a byte)
 
-pub tail-last : (elf : Elf) (a b : ℕ) (t : Tail) → byte_at elf a ≡ Some b → b < 128 → t.end ≡ a + 1 →
+pub tail-last : (elf : Elf) (a b : ℕ) (t : LebRest) → byte_at elf a ≡ Some b → b < 128 → t.end ≡ a + 1 →
     IsTrue t.is_zeros ↔ HoldBits (b ∷ []) (pos 0) → IsTrue t.is_ones ↔ HoldBits (b ∷ []) (negsuc 0) → TailAt elf a (Some t)
 tail-last elf a b t byte low end zeros ones = is_tail t (record {
   bytes = b ∷ [];
@@ -182,13 +182,13 @@ tail-last elf a b t byte low end zeros ones = is_tail t (record {
   ones = ones;
 })
 
-tail_of : {elf : Elf} {a : ℕ} (t : Tail) → TailAt elf a (Some t) → IsTail elf a t
+tail_of : {elf : Elf} {a : ℕ} (t : LebRest) → TailAt elf a (Some t) → IsTail elf a t
 tail_of t (is_tail _ is) = is
 
 no_tail_of : {elf : Elf} {a : ℕ} → TailAt elf a None → (n : ℕ) → leb_at elf a n ≡ None
 no_tail_of (no_tail never) = never
 
-pub tail-more : (elf : Elf) (a b : ℕ) (t u : Tail) → byte_at elf a ≡ Some b → 128 ≤ b →
+pub tail-more : (elf : Elf) (a b : ℕ) (t u : LebRest) → byte_at elf a ≡ Some b → 128 ≤ b →
     TailAt elf (a + 1) (Some t) → u.end ≡ t.end →
     IsTrue u.is_zeros ↔ ((b % 128 ≡ 0) × IsTrue t.is_zeros) → IsTrue u.is_ones ↔ ((b % 128 ≡ 127) × IsTrue t.is_ones) →
     TailAt elf a (Some u)
@@ -206,7 +206,7 @@ pub tail-never : (elf : Elf) (a b : ℕ) → byte_at elf a ≡ Some b → 128 �
 tail-never elf a b byte high next = no_tail (never-more elf a b byte (le-ltb b 128 high) (no_tail_of next))
 
 -- the place of a tail that ends in so many bytes
-pub tail-bytes : (elf : Elf) (a : ℕ) (t : Tail) → TailAt elf a (Some t) →
+pub tail-bytes : (elf : Elf) (a : ℕ) (t : LebRest) → TailAt elf a (Some t) →
     (bs : List ℕ) × AreLebBytes elf a bs × (t.end ≡ a + length bs)
 tail-bytes elf a t at = let is = tail_of t at in (is.bytes, is.are, is.end)
 
@@ -215,7 +215,8 @@ no_tail-never elf a n at = no_tail_of at n
 
 -- Bits.
 
-pub zeros-hold : (elf : Elf) (a : ℕ) (t : Tail) (bs : List ℕ) (z : ℤ) → TailAt elf a (Some t) → AreLebBytes elf a bs → z ≡ pos 0 →
+pub zeros-hold : (elf : Elf) (a : ℕ) (t : LebRest) (bs : List ℕ) (z : ℤ) → TailAt elf a (Some t) → AreLebBytes elf a bs →
+    z ≡ pos 0 →
     IsTrue t.is_zeros ↔ HoldBits bs z
 zeros-hold elf a t bs z at are is =
     let tail = tail_of t at in
@@ -227,7 +228,7 @@ minus_one : (z : ℤ) → magnitude z ≡ 0 → z ≢ pos 0 → z ≡ negsuc 0
 minus_one (pos n) small other = absurd (other (ap pos small))
 minus_one (negsuc n) small other = ap negsuc small
 
-pub ones-hold : (elf : Elf) (a : ℕ) (t : Tail) (bs : List ℕ) (z : ℤ) → TailAt elf a (Some t) →
+pub ones-hold : (elf : Elf) (a : ℕ) (t : LebRest) (bs : List ℕ) (z : ℤ) → TailAt elf a (Some t) →
     AreLebBytes elf a bs → magnitude z ≡ 0 → z ≢ pos 0 → IsTrue t.is_ones ↔ HoldBits bs z
 ones-hold elf a t bs z at are small other =
     let tail = tail_of t at in
@@ -287,7 +288,7 @@ tail-end elf a low high = tail-unloaded elf a (by (byte_at elf a) refl)
 
 -- Fields in sections.
 
-pub size-beyond : (elf : Elf) (a n : ℕ) (t : Tail) → TailAt elf a (Some t) → (n ≡ 0) ⊎ (a + n < t.end) →
+pub size-beyond : (elf : Elf) (a n : ℕ) (t : LebRest) → TailAt elf a (Some t) → (n ≡ 0) ⊎ (a + n < t.end) →
     None ≡ option_map length (leb_at elf a n)
 size-beyond elf a n t at short =
     let is = tail_of t at in

@@ -12,7 +12,7 @@ use Rattle.elf_image.specs.faults.FileFaults.{IsSound}
 use Rattle.elf_image.specs.faults.SegmentLayout.{address_end}
 use Rattle.elf_image.proofs.LoadLemmas.{find-found}
 use Rattle.elf_image.proofs.ReadLists.{get_or-segments}
-use Rattle.rv_reloc.specs.Loaded.{IsLow}
+use Rattle.rv_reloc.specs.LoadedMemory.{IsLow}
 use Rattle.rv_reloc.specs.Refs.{IsRead}
 
 -- no segment of a sound file loads a high address

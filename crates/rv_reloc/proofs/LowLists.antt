@@ -7,7 +7,7 @@ use Rattle.elf_image.specs.declared.elf.Elf.{Elf}
 use Rattle.elf_image.specs.code.Relocations.{Relocation}
 use Rattle.rv_reloc.specs.declared.records.Record.{Record}
 use Rattle.rv_reloc.specs.declared.lows.Low.{Low}
-use Rattle.rv_reloc.specs.Found.{AreFound}
+use Rattle.rv_reloc.specs.Finds.{AreFound}
 use Rattle.rv_reloc.specs.Lows.{IsLowOf, IsLowPart, AreLows}
 use Rattle.rv_reloc.specs.Records.{seen, AreRecords}
 use Rattle.rv_reloc.proofs.Kept.{counts, kept}

@@ -6,8 +6,8 @@ use Rattle.std.proofs.lemmas.List.Kept.{AllPairs-from_increasing}
 use Rattle.elf_image.specs.declared.elf.Elf.{Elf}
 use Rattle.elf_image.specs.code.Relocations.{Relocation}
 use Rattle.rv_reloc.specs.declared.records.Record.{Record}
-use Rattle.rv_reloc.specs.Found.{AreFound}
-use Rattle.rv_reloc.specs.Named.{NamesUpper, AreNamed}
+use Rattle.rv_reloc.specs.Finds.{AreFound}
+use Rattle.rv_reloc.specs.NamedAddresses.{NamesUpper, AreNamed}
 use Rattle.rv_reloc.specs.Records.{seen, AreRecords}
 use Rattle.rv_reloc.proofs.Kept.{counts, kept}
 

@@ -5,9 +5,9 @@ use Rattle.std.proofs.lemmas.Bool.{cases_lt}
 use Rattle.std.proofs.lemmas.List.{get_or_default}
 use Rattle.elf_image.specs.declared.elf.Elf.{Elf}
 use Rattle.rv_reloc.specs.declared.parts.Part.{Part}
-use Rattle.rv_reloc.specs.Parts.{AreApart, HoldsAddress, AreCodeParts}
+use Rattle.rv_reloc.specs.Parts.{ArePartsApart, HoldsAddress, AreCodeParts}
 
-pub AreApart-parts : (elf : Elf) (parts : List Part) → AreCodeParts elf parts → AreApart parts
+pub AreApart-parts : (elf : Elf) (parts : List Part) → AreCodeParts elf parts → ArePartsApart parts
 AreApart-parts elf parts are = record {
   has_bytes = λ k d within.
       (are.only (slice_index_or parts k d)
@@ -15,7 +15,7 @@ AreApart-parts elf parts are = record {
   ordered = are.ordered;
 }
 
-pub rising : (parts : List Part) → AreApart parts → IsNonDecreasingBy (λ p. p.start) parts
+pub rising : (parts : List Part) → ArePartsApart parts → IsNonDecreasingBy (λ p. p.start) parts
 rising parts are i j d upto within =
     ⊎_elim
     (λ (less : i < j). let b = are.has_bytes i d (omega arith) in let o = are.ordered i j d less within in omega arith)
@@ -26,7 +26,7 @@ rising parts are i j d upto within =
     (cases_lt i j)
 
 -- the last part that begins at an address or below it is the one that holds it, if one does
-pub last_holds : (parts : List Part) (a count : ℕ) (x p : Part) → AreApart parts → 0 < count → count ≤ length parts →
+pub last_holds : (parts : List Part) (a count : ℕ) (x p : Part) → ArePartsApart parts → 0 < count → count ≤ length parts →
     x ≡ slice_index_or parts (count - 1) x → x.start ≤ a →
     ((k : ℕ) (d : Part) → count ≤ k → k < length parts → a < (slice_index_or parts k d).start) → HoldsAddress parts a p → x ≡ p
 last_holds parts a count x p are some bound is low above holds =

@@ -12,8 +12,8 @@ use Rattle.rv_reloc.specs.declared.sweep.Candidate.{Candidate}
 use Rattle.rv_reloc.specs.Cells.{HasAddresses}
 use Rattle.rv_reloc.specs.declared.parts.Part.{Part}
 use Rattle.rv_reloc.specs.Refs.{AreAsked}
-use Rattle.rv_reloc.specs.Sweep.{field, AreCounted}
-use Rattle.rv_reloc.specs.Whole.{AreWholeParts}
+use Rattle.rv_reloc.specs.CountedFields.{as_field, AreCounted}
+use Rattle.rv_reloc.specs.WholeParts.{AreWholeParts}
 use Rattle.rv_reloc.proofs.CellLists.{none-bad, of_bad_field}
 
 -- faults of lower numbers are those of others
@@ -46,7 +46,8 @@ pub no_mismatch : (elf : Elf) (tabled : List (ℕ × ℕ)) → LacksBelow (HasRe
     IsLoMismatch elf place → ⊥
 no_mismatch elf tabled lacks place is = lacks LoMismatch (omega arith) place is
 
-pub all_addresses : (elf : Elf) (tabled : List (ℕ × ℕ)) (counted : List Candidate) → AreCounted elf tabled (map field counted) →
+pub all_addresses : (elf : Elf) (tabled : List (ℕ × ℕ)) (counted : List Candidate) →
+    AreCounted elf tabled (map as_field counted) →
     LacksBelow (HasReferenceFault elf tabled) 15 → All HasAddresses counted
 all_addresses elf tabled counted are lacks =
     none-bad counted
@@ -56,11 +57,11 @@ all_addresses elf tabled counted are lacks =
 
 pub asked : (elf : Elf) (tabled : List (ℕ × ℕ)) (wholes passed again : List Part) (counted seen : List Candidate) →
     passed ≡ wholes → again ≡ wholes → seen ≡ counted → AreWholeParts elf tabled wholes →
-    (AreWholeParts elf tabled passed → AreCounted elf tabled (map field counted)) → AreAsked elf tabled again seen
+    (AreWholeParts elf tabled passed → AreCounted elf tabled (map as_field counted)) → AreAsked elf tabled again seen
 asked elf tabled wholes passed again counted seen e f g are counts = record {
   wholes_are = subst (AreWholeParts elf tabled) (sym f) are;
   counted_are =
-      subst (λ (cs : List Candidate). AreCounted elf tabled (map field cs)) (sym g)
+      subst (λ (cs : List Candidate). AreCounted elf tabled (map as_field cs)) (sym g)
       (counts (subst (AreWholeParts elf tabled) (sym e) are));
 }
 

@@ -5,7 +5,7 @@ use Rattle.elf_image.specs.declared.elf.Elf.{Elf}
 use Rattle.elf_image.specs.code.Cells.{Field}
 use Rattle.rv_reloc.specs.Pairs.{IsTargetOf}
 use Rattle.rv_reloc.specs.declared.lows.Low.{Low}
-use Rattle.rv_reloc.specs.Loaded.{IsLow}
+use Rattle.rv_reloc.specs.LoadedMemory.{IsLow}
 use Rattle.rv_reloc.specs.GotFields.{NamesEntry, IsNamedField, IsSlotOf}
 use Rattle.rv_reloc.specs.declared.slots.SlotLabel.{SlotLabel}
 use Rattle.rv_reloc.specs.Slots.{AreSlotLabels, HasLabelAt}

@@ -12,7 +12,7 @@ use Rattle.elf_image.specs.declared.elf.Elf.{Elf}
 use Rattle.elf_image.specs.code.Parts.{StartsIn, at_start, after, length_at, halfword_at, IsStart}
 use Rattle.elf_image.proofs.LoadLemmas.{Contains-cons_cases}
 use Rattle.rv_reloc.specs.declared.parts.Part.{Part}
-use Rattle.rv_reloc.specs.Parts.{AreCodeParts, Follows}
+use Rattle.rv_reloc.specs.Parts.{AreCodeParts, Precedes}
 use Rattle.rv_reloc.specs.Starts.{starts_within, starts_from, starts_of}
 
 length_by : (is_full : Bool) → 0 < (if is_full then 4 else 2)
@@ -165,7 +165,7 @@ starts_within-lists elf end a (suc n) enough =
 InSome : Elf → List Part → ℕ → Type 0
 InSome elf ps a = (p : Part) × Contains ps p × StartsIn elf p.start p.end a
 
-starts_of-lists : (elf : Elf) (ps : List Part) → AllPairs Follows ps → ListsNumbers (InSome elf ps) (starts_of elf ps)
+starts_of-lists : (elf : Elf) (ps : List Part) → AllPairs Precedes ps → ListsNumbers (InSome elf ps) (starts_of elf ps)
 unfolding InSome
 starts_of-lists elf [] ordered = lists_none (InSome elf []) (λ a (p, (k, within, is), starts). omega arith)
 starts_of-lists elf (p ∷ ps) ordered =

@@ -10,7 +10,7 @@ use Rattle.std.proofs.lemmas.List.Quantifiers.{all_pairs_push}
 use Rattle.elf_image.specs.declared.elf.Elf.{Elf}
 use Rattle.elf_image.specs.code.Cells.{Field, Content, Address, Difference, CanBeCell, Counts, counts, gives_way, IsContentBefore}
 use Rattle.elf_image.specs.code.Cells.{IsFieldBefore}
-use Rattle.rv_reloc.specs.Sweep.{IsFieldUpTo, AreCandidates, AreCounted}
+use Rattle.rv_reloc.specs.CountedFields.{IsFieldUpTo, AreCandidates, AreCounted}
 
 -- The order is strict.
 

@@ -8,7 +8,7 @@ use Rattle.elf_image.specs.code.Relocations.{Relocation, relocations, symbol_val
 use Rattle.elf_image.specs.code.Roles.{Claims, IsFullAt, PcrelLo, PcrelHiTo, PcrelLoTo, lower_immediate}
 use Rattle.elf_image.specs.faults.ReferenceFaults.{IsAddress, IsMisfit, IsBadPair, IsBadLower, IsLoMismatch}
 use Rattle.rv_reloc.specs.declared.lows.Low.{Low}
-use Rattle.rv_reloc.specs.Claimed.{IsClaimOf}
+use Rattle.rv_reloc.specs.Claims.{IsClaimOf}
 use Rattle.rv_reloc.specs.Lows.{IsLowOf, IsLowPart}
 use Rattle.rv_reloc.specs.Pairs.{IsTargetOf}
 use Rattle.rv_reloc.proofs.Differing.{same_or_not}

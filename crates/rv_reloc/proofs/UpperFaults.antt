@@ -8,7 +8,7 @@ use Rattle.elf_image.specs.code.Roles.{lower_immediate}
 use Rattle.elf_image.specs.faults.ReferenceFaults.{IsAuipc, IsUpper, IsBadUpper, IsBadLower}
 use Rattle.rv_reloc.specs.declared.lows.Low.{Low}
 use Rattle.rv_reloc.specs.Lows.{IsLowOf}
-use Rattle.rv_reloc.specs.Named.{AreNamed}
+use Rattle.rv_reloc.specs.NamedAddresses.{AreNamed}
 
 -- upper parts
 

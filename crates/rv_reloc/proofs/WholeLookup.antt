@@ -12,8 +12,8 @@ use Rattle.elf_image.specs.code.FileCode.{AreStarts}
 use Rattle.elf_image.specs.code.Parts.{IsInTabled, IsCodePart, IsPart, StartsIn, IsWholePart}
 use Rattle.elf_image.specs.internal.Extents.{IsInOneExtent}
 use Rattle.rv_reloc.specs.declared.parts.Part.{Part}
-use Rattle.rv_reloc.specs.Parts.{AreApart}
-use Rattle.rv_reloc.specs.Whole.{AreWholeParts, HoldsBoth}
+use Rattle.rv_reloc.specs.Parts.{ArePartsApart}
+use Rattle.rv_reloc.specs.WholeParts.{AreWholeParts, HoldsBoth}
 use Rattle.rv_reloc.proofs.StartLists.{starts_inside}
 
 -- Parts that share an address are one.
@@ -82,7 +82,8 @@ IsWholePart-starts elf tabled start end reaches inside part are same = (
 
 -- Labels in one whole part.
 
-pub AreApart-wholes : (elf : Elf) (tabled : List (ℕ × ℕ)) (wholes : List Part) → AreWholeParts elf tabled wholes → AreApart wholes
+pub AreApart-wholes : (elf : Elf) (tabled : List (ℕ × ℕ)) (wholes : List Part) → AreWholeParts elf tabled wholes →
+    ArePartsApart wholes
 AreApart-wholes elf tabled wholes are = record {
   has_bytes = λ k d within.
       (are.only (slice_index_or wholes k d)
@@ -118,7 +119,7 @@ lower_address p low to from lower holds =
     ⊎_elim (λ (same : low ≡ to). omega (arith, ints)) (λ (same : low ≡ from). omega (arith, ints)) lower
 
 -- the last part that begins at the lower label or below it holds both, if one does
-pub last_holds_both : (wholes : List Part) (count : ℕ) (x p d : Part) (low to from : ℤ) → AreApart wholes →
+pub last_holds_both : (wholes : List Part) (count : ℕ) (x p d : Part) (low to from : ℤ) → ArePartsApart wholes →
     low ≤ℤ to → low ≤ℤ from →
     IsLower low to from → 0 < count → count ≤ length wholes → x ≡ slice_index_or wholes (count - 1) d → pos x.start ≤ℤ low →
     ((k : ℕ) (d : Part) → count ≤ k → k < length wholes → low <ℤ pos (slice_index_or wholes k d).start) → Contains wholes p →

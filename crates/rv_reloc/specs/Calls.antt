@@ -5,11 +5,11 @@ use Rattle.elf_image.specs.declared.elf.Elf.{Elf}
 use Rattle.elf_image.specs.code.Parts.{HasInst}
 use Rattle.elf_image.specs.code.Roles.{pair_target}
 use Rattle.elf_image.specs.faults.ReferenceFaults.{IsAddress}
-use Rattle.rv_reloc.specs.declared.calls.Call.{Call}
+use Rattle.rv_reloc.specs.declared.calls.CallInsts.{CallInsts}
 use Rattle.rv_reloc.specs.declared.instructions.Jump.{Jump}
 
 -- an AUIPC at an address and a JALR after it, in one part
-pub record IsCallAt (elf : Elf) (a : ℕ) (c : Call) : Type 0 where
+pub record IsCallAt (elf : Elf) (a : ℕ) (c : CallInsts) : Type 0 where
   pub start : ℕ
   pub end : ℕ
   pub auipc : HasInst elf start end a (Auipc c.auipc.rd c.auipc.imm) 4
@@ -22,21 +22,21 @@ pub record IsJumpAfter (elf : Elf) (start end a : ℕ) (j : Jump) : Type 0 where
   pub jalr : HasInst elf start end (a + 4) (Jalr link j.base j.imm) 4
 
 -- the JALR jumps through the register that the AUIPC writes
-abbrev pub IsThrough : Call → Type 0
+abbrev pub IsThrough : CallInsts → Type 0
 IsThrough c = (c.jalr.base ≡ c.auipc.rd) × (c.jalr.base ≢ 0)
 
 -- a call of an undefined weak symbol
-abbrev pub IsWeak : Call → Type 0
+abbrev pub IsWeak : CallInsts → Type 0
 IsWeak c = (c.jalr.base ≡ 0) × (c.auipc.imm ≡ pos 0) × ((c.auipc.rd ≡ 0) ⊎ (c.jalr.imm ≡ pos 0))
 
 -- at an address it goes somewhere, or is weak
-abbrev pub FitsCall : ℕ → Call → Type 0
+abbrev pub FitsCall : ℕ → CallInsts → Type 0
 FitsCall a c = (IsThrough c × IsAddress (pair_target a c.auipc.imm c.jalr.imm)) ⊎ IsWeak c
 
 -- at an address it goes to another one
-abbrev pub GoesTo : ℕ → Call → ℕ → Type 0
+abbrev pub GoesTo : ℕ → CallInsts → ℕ → Type 0
 GoesTo a c target = IsThrough c × (pos target ≡ pair_target a c.auipc.imm c.jalr.imm)
 
 -- at an address its AUIPC names another one: the target, or its own where the JALR jumps through x0
-abbrev pub Names : ℕ → Call → ℕ → Type 0
+abbrev pub Names : ℕ → CallInsts → ℕ → Type 0
 Names a c target = GoesTo a c target ⊎ ((c.jalr.base ≡ 0) × (target ≡ a))

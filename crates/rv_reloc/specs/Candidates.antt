@@ -7,8 +7,8 @@ use Rattle.elf_image.specs.memory.LoadedBytes.{loaded_number, file_offset, IsInH
 use Rattle.elf_image.specs.code.Parts.{IsStart}
 use Rattle.elf_image.specs.code.Relocations.{Relocation, Bits, is_address}
 use Rattle.rv_reloc.specs.declared.differences.Difference.{Difference as LabelDifference}
-use Rattle.rv_reloc.specs.declared.labels.Width.{Width}
-use Rattle.rv_reloc.specs.declared.labels.Width.TheVariants.{Bits6, Bits8, Bits16, Bits32, Bits64, Uleb128}
+use Rattle.rv_reloc.specs.declared.labels.FieldWidth.{FieldWidth}
+use Rattle.rv_reloc.specs.declared.labels.FieldWidth.TheVariants.{Bits6, Bits8, Bits16, Bits32, Bits64, Uleb128}
 
 -- all bytes of a field come from the file, and none is one of its headers
 pub record AreFree (elf : Elf) (place width : ℕ) : Type 0 where
@@ -45,7 +45,7 @@ pub record IsDifferenceField (elf : Elf) (tabled : List (ℕ × ℕ)) (r : Reloc
   pub free : AreFree elf r.place (bits / 8)
 
 -- the bytes of a difference that can be a cell
-abbrev pub cell_bytes : Width → Option ℕ
+abbrev pub cell_bytes : FieldWidth → Option ℕ
 cell_bytes Bits32 = Some 4
 cell_bytes Bits64 = Some 8
 cell_bytes Bits6 = None

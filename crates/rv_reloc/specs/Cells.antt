@@ -20,7 +20,7 @@ abbrev pub IsBadContent : Content → Type 0
 IsBadContent (Address to) = ⊥
 IsBadContent (Difference to from) = IsAddress to × IsAddress from → ⊥
 
-pub record IsBadField (f : Candidate) : Type 0 where
+pub record HasBadContent (f : Candidate) : Type 0 where
   pub bad : IsBadContent f.content
 
 abbrev pub kind_of : Content → CellKind

@@ -1,10 +1,10 @@
 -- Labels and how wide a field is for them, as they are kept.
 use Rattle.std.specs.Prelude.{ℤ, pos, ◌<ℤ◌, ◌≤ℤ◌, ◌+ℤ◌, ◌^◌}
 use Rattle.elf_image.specs.code.Relocations as relocations
-use Rattle.rv_reloc.specs.declared.labels.Width.{Width}
-use Rattle.rv_reloc.specs.declared.labels.Width.TheVariants.{Bits6, Bits8, Bits16, Bits32, Bits64, Uleb128}
+use Rattle.rv_reloc.specs.declared.labels.FieldWidth.{FieldWidth}
+use Rattle.rv_reloc.specs.declared.labels.FieldWidth.TheVariants.{Bits6, Bits8, Bits16, Bits32, Bits64, Uleb128}
 
-abbrev pub width_of : Width → relocations.Width
+abbrev pub width_of : FieldWidth → relocations.Width
 width_of Bits6 = relocations.Bits 6
 width_of Bits8 = relocations.Bits 8
 width_of Bits16 = relocations.Bits 16

@@ -17,18 +17,18 @@ pub record IsCodeStretch (elf : Elf) (start end : ℕ) : Type 0 where
   pub no_padding : (IsCovered elf start end → ⊥) × AreZeros elf start end → ⊥
 
 -- parts go up, and share no address
-abbrev pub Follows : Part → Part → Type 0
-Follows p q = p.end ≤ q.start
+abbrev pub Precedes : Part → Part → Type 0
+Precedes p q = p.end ≤ q.start
 
 -- all parts that hold code, by address
 abbrev pub AreCodeParts : Elf → List Part → Type 0
-AreCodeParts elf parts = ListsAll (λ p. IsCodePart elf p.start p.end) Follows parts
+AreCodeParts elf parts = ListsAll (λ p. IsCodePart elf p.start p.end) Precedes parts
 
 -- Some of these parts, by address.
 
-pub record AreApart (parts : List Part) : Type 0 where
+pub record ArePartsApart (parts : List Part) : Type 0 where
   pub has_bytes : All (λ p. p.start < p.end) parts
-  pub ordered : AllPairs Follows parts
+  pub ordered : AllPairs Precedes parts
 
 -- a part of a list holds an address
 pub record HoldsAddress (parts : List Part) (a : ℕ) (p : Part) : Type 0 where

@@ -7,8 +7,8 @@ use Rattle.elf_image.specs.file.ParsedFile.{IsElfOf}
 use Rattle.rv_reloc.specs.declared.parts.Part.{Part}
 use Rattle.rv_reloc.specs.declared.refs.Refs.{Refs}
 use Rattle.rv_reloc.specs.declared.sweep.Candidate.{Candidate}
-use Rattle.rv_reloc.specs.Sweep.{field, AreCounted}
-use Rattle.rv_reloc.specs.Whole.{AreWholeParts}
+use Rattle.rv_reloc.specs.CountedFields.{as_field, AreCounted}
+use Rattle.rv_reloc.specs.WholeParts.{AreWholeParts}
 
 -- it was read from a file, in which its reader found no fault
 pub record IsRead (elf : Elf) : Type 0 where
@@ -23,4 +23,4 @@ pub record AreRefs (elf : Elf) (tabled : List (ℕ × ℕ)) (refs : Refs) : Type
 -- what is asked for its faults: the whole parts of a file of which some ranges have exception tables, and its cells
 pub record AreAsked (elf : Elf) (tabled : List (ℕ × ℕ)) (wholes : List Part) (counted : List Candidate) : Type 0 where
   pub wholes_are : AreWholeParts elf tabled wholes
-  pub counted_are : AreCounted elf tabled (map field counted)
+  pub counted_are : AreCounted elf tabled (map as_field counted)

@@ -6,7 +6,7 @@ use Rattle.rb_bytes.specs.Leb.{is_last}
 use Rattle.elf_image.specs.declared.elf.Elf.{Elf}
 use Rattle.elf_image.specs.code.Fields.{leb_at, HoldBits, bytes_of_bits}
 use Rattle.elf_image.specs.memory.LoadedBytes.{loaded_number}
-use Rattle.rv_reloc.specs.declared.tails.Tail.{Tail}
+use Rattle.rv_reloc.specs.declared.tails.LebRest.{LebRest}
 use Rattle.rv_reloc.specs.declared.tails.Known.{Known}
 
 -- the bytes of the number at an address, however many there may be
@@ -15,7 +15,7 @@ pub record AreLebBytes (elf : Elf) (a : ℕ) (bytes : List ℕ) : Type 0 where
   pub beyond : (n : ℕ) → n < length bytes → leb_at elf a n ≡ None
 
 -- what is said of the bytes from an address on
-pub record IsTail (elf : Elf) (a : ℕ) (t : Tail) : Type 0 where
+pub record IsTail (elf : Elf) (a : ℕ) (t : LebRest) : Type 0 where
   pub bytes : List ℕ
   pub are : AreLebBytes elf a bytes
   pub end : t.end ≡ a + length bytes
@@ -23,9 +23,9 @@ pub record IsTail (elf : Elf) (a : ℕ) (t : Tail) : Type 0 where
   pub ones : IsTrue t.is_ones ↔ HoldBits bytes (negsuc 0)
 
 -- no number ends there, or this is its tail
-pub data TailAt (elf : Elf) (a : ℕ) : Option Tail → Type 0 where
+pub data TailAt (elf : Elf) (a : ℕ) : Option LebRest → Type 0 where
   no_tail : ((n : ℕ) → leb_at elf a n ≡ None) → TailAt elf a None
-  is_tail : (t : Tail) → IsTail elf a t → TailAt elf a (Some t)
+  is_tail : (t : LebRest) → IsTail elf a t → TailAt elf a (Some t)
 
 abbrev pub IsKnown : Elf → Known → Type 0
 IsKnown elf k = TailAt elf k.place k.tail

@@ -7,7 +7,7 @@ ghost use Rattle.elf_image.specs.code.Relocations.{relocations};
 ghost use Rattle.elf_image.specs.code.Roles.{IsFullAt, pair_target};
 ghost use Rattle.elf_image.specs.faults.ReferenceFaults.{IsAddress, IsBadCall};
 ghost use Rattle.rv_reloc.specs.declared.instructions.Jump.{Jump};
-ghost use Rattle.rv_reloc.specs.declared.calls.Call.{Call};
+ghost use Rattle.rv_reloc.specs.declared.calls.CallInsts.{CallInsts};
 ghost use Rattle.rv_reloc.specs.Calls.{IsCallAt, IsJumpAfter, IsThrough, IsWeak, FitsCall, GoesTo, Names};
 ghost use Rattle.rv_reloc.specs.Parts.{AreCodeParts};
 ghost use Rattle.rv_reloc.specs.Records.{seen};
@@ -23,12 +23,12 @@ use elf_image::Elf;
 
 /// The two instructions of a call.
 #[derive(Clone, Copy, PartialEq, Eq, Debug)]
-pub struct Call {
+pub struct CallInsts {
     pub auipc: Upper,
     pub jalr: Jump,
 }
 
-impl Call {
+impl CallInsts {
     /// Whether the JALR jumps through the register that the AUIPC writes.
     pub fn is_through(&self) -> bool
         ensures { IsTrue result ↔ IsThrough self.now }
@@ -114,16 +114,16 @@ fn jump_after(elf: &Elf, starts: &Starts, parts: &[Part], address: u64) -> Optio
 }
 
 /// The call at an address.
-pub fn call_at(elf: &Elf, starts: &Starts, parts: &[Part], address: u64) -> Option<Call>
+pub fn call_at(elf: &Elf, starts: &Starts, parts: &[Part], address: u64) -> Option<CallInsts>
     requires starts { AreStarts elf.now starts.now }
     requires parts { AreCodeParts elf.now parts.now }
     ensures there { IfSome result (IsCallAt elf.now address) }
-    ensures only { (c : Call) → IsCallAt elf.now address c → result ≡ Some c }
+    ensures only { (c : CallInsts) → IsCallAt elf.now address c → result ≡ Some c }
     ensures room { OnSome result (address + 4 < 2 ^ 64) }
 {
     match auipc_at(elf, starts, parts, address) {
         Some(auipc) => match jump_after(elf, starts, parts, address) {
-            Some(jalr) => Some(Call { auipc, jalr }),
+            Some(jalr) => Some(CallInsts { auipc, jalr }),
             None => None,
         },
         None => None,

@@ -3,74 +3,45 @@ ghost use Rattle.std.specs.Prelude.{◌≡◌, ◌↔◌, ℕ, ℤ, ◌+◌, ◌
 ghost use Rattle.std.specs.Prelude.{List, Contains, Some, map, option_map};
 ghost use Rattle.elf_image.specs.code.Cells.{Field, address_width};
 ghost use Rattle.elf_image.specs.code.FileCode.{AreStarts};
-ghost use Rattle.elf_image.specs.memory.LoadedBytes.{file_offset, offset_in, IsInHeaders};
+ghost use Rattle.elf_image.specs.memory.LoadedBytes.{IsInHeaders};
 ghost use Rattle.rv_reloc.specs.Candidates.{AreFree, IsFreeByte, IsCodeField, IsCellField, IsFieldOf, cell_bytes};
-ghost use Rattle.rv_reloc.specs.Found.{AreFound};
-ghost use Rattle.rv_reloc.specs.Parts.{AreApart};
+ghost use Rattle.rv_reloc.specs.Finds.{AreFound};
+ghost use Rattle.rv_reloc.specs.Parts.{ArePartsApart};
 ghost use Rattle.rv_reloc.specs.Records.{AreRecords, seen};
-ghost use Rattle.rv_reloc.specs.Whole.{AreWholeParts};
+ghost use Rattle.rv_reloc.specs.WholeParts.{AreWholeParts};
 ghost use Rattle.elf_image.specs.code.Relocations.{relocations};
-ghost use Rattle.rv_reloc.specs.Loaded.{IsLow};
-ghost use Rattle.rv_reloc.specs.Sweep.{field};
+ghost use Rattle.rv_reloc.specs.LoadedMemory.{IsLow};
+ghost use Rattle.rv_reloc.specs.CountedFields.{as_field};
 
 use crate::differences::{Difference, crosses, difference_of};
-use crate::found::push_found;
-use crate::labels::{Width, can_be_cell};
+use crate::labels::{FieldWidth, can_be_cell};
 use crate::loaded::loaded_number;
 use crate::parts::Part;
 use crate::records::Record;
 use crate::start_index::Starts;
 use crate::sweep::{Candidate, Content};
 use crate::types::is_address;
+use elf_image::Elf;
+use elf_image::header::EHDR_SIZE;
 use elf_image::relocation::R_RISCV_32;
-use elf_image::segment::PHDR_SIZE;
-use elf_image::{Elf, Segment};
+use elf_image::segment::{ADDRESS_END, PHDR_SIZE};
 use rb_bytes::fault::NoMemory;
+use rb_bytes::lists::push_some;
 use std::alloc::Global;
-
-/// The end of the addresses at which a file may be loaded.
-const ADDRESS_END: u64 = 0x7fff0000;
-
-/// The size of the header of a file.
-const HEADER_SIZE: u128 = 64;
-
-// Where in the file the byte at an address of a segment stands, if it comes from there.
-fn offset_in(address: u64, segment: &Segment) -> Option<u128>
-    requires { segment.now.vaddr ≤ address }
-    ensures value { result ≡ offset_in address segment.now }
-    ensures below { IfSome result (λ offset. offset < 2 ^ 65) }
-{
-    let place = address - segment.vaddr;
-    if place < segment.filesz {
-        Some(segment.offset as u128 + place as u128)
-    } else {
-        None
-    }
-}
-
-fn file_offset(elf: &Elf, address: u64) -> Option<u128>
-    ensures value { result ≡ file_offset elf.now.segments.items address }
-    ensures below { IfSome result (λ offset. offset < 2 ^ 65) }
-{
-    match elf.segment_at(address) {
-        Some(segment) => offset_in(address, segment),
-        None => None,
-    }
-}
 
 fn is_in_headers(elf: &Elf, offset: u128) -> bool
     requires { offset < 2 ^ 65 }
     ensures { IsTrue result ↔ IsInHeaders elf.now offset }
 {
     let table = elf.phoff as u128;
-    offset < HEADER_SIZE
+    offset < EHDR_SIZE as u128
         || (table <= offset && offset < table + PHDR_SIZE as u128 * elf.segments.len() as u128)
 }
 
 fn is_free_byte(elf: &Elf, address: u64) -> bool
     ensures { IsTrue result ↔ IsFreeByte elf.now address }
 {
-    match file_offset(elf, address) {
+    match elf.file_offset(address) {
         Some(offset) => !is_in_headers(elf, offset),
         None => false,
     }
@@ -99,8 +70,8 @@ pub fn code_field(elf: &Elf, starts: &Starts, place: u64, width: u8) -> Option<C
     requires starts { AreStarts elf.now starts.now }
     requires width { 0 < width }
     requires bound { width ≤ 8 }
-    ensures is { IfSome (option_map field result) (IsCodeField elf.now place width) }
-    ensures only { (f : Field) → IsCodeField elf.now place width f → option_map field result ≡ Some f }
+    ensures is { IfSome (option_map as_field result) (IsCodeField elf.now place width) }
+    ensures only { (f : Field) → IsCodeField elf.now place width f → option_map as_field result ≡ Some f }
 {
     match loaded_number(elf, place, width) {
         Some(to) => {
@@ -125,16 +96,16 @@ pub fn address_width(kind: u32) -> u8
 }
 
 // The bytes of a field that can be a cell, by the width of a difference.
-fn cell_bytes(width: Width) -> Option<u8>
+fn cell_bytes(width: FieldWidth) -> Option<u8>
     ensures { result ≡ cell_bytes width }
 {
     match width {
-        Width::Bits6 => None,
-        Width::Bits8 => None,
-        Width::Bits16 => None,
-        Width::Bits32 => Some(4),
-        Width::Bits64 => Some(8),
-        Width::Uleb128 => None,
+        FieldWidth::Bits6 => None,
+        FieldWidth::Bits8 => None,
+        FieldWidth::Bits16 => None,
+        FieldWidth::Bits32 => Some(4),
+        FieldWidth::Bits64 => Some(8),
+        FieldWidth::Uleb128 => None,
     }
 }
 
@@ -148,11 +119,11 @@ fn cell_field(
 ) -> Option<Candidate>
     requires low { IsLow elf.now }
     requires starts { AreStarts elf.now starts.now }
-    requires wholes { AreApart wholes.now }
+    requires wholes { ArePartsApart wholes.now }
     ensures is { (tabled : List (ℕ × ℕ)) → AreWholeParts elf.now tabled wholes.now →
-        IfSome (option_map field result) (IsCellField elf.now tabled place difference.now) }
+        IfSome (option_map as_field result) (IsCellField elf.now tabled place difference.now) }
     ensures only { (tabled : List (ℕ × ℕ)) (f : Field) → AreWholeParts elf.now tabled wholes.now →
-        IsCellField elf.now tabled place difference.now f → option_map field result ≡ Some f }
+        IsCellField elf.now tabled place difference.now f → option_map as_field result ≡ Some f }
 {
     if !crosses(elf, starts, wholes, difference) {
         return None;
@@ -186,13 +157,13 @@ fn field_of(
 ) -> Option<Candidate>
     requires low { IsLow elf.now }
     requires starts { AreStarts elf.now starts.now }
-    requires wholes { AreApart wholes.now }
+    requires wholes { ArePartsApart wholes.now }
     requires records { AreRecords elf.now records.now }
     requires listed { Contains (relocations elf.now) (seen relocation.now) }
     ensures is { (tabled : List (ℕ × ℕ)) → AreWholeParts elf.now tabled wholes.now →
-        IfSome (option_map field result) (IsFieldOf elf.now tabled (seen relocation.now)) }
+        IfSome (option_map as_field result) (IsFieldOf elf.now tabled (seen relocation.now)) }
     ensures only { (tabled : List (ℕ × ℕ)) (f : Field) → AreWholeParts elf.now tabled wholes.now →
-        IsFieldOf elf.now tabled (seen relocation.now) f → option_map field result ≡ Some f }
+        IsFieldOf elf.now tabled (seen relocation.now) f → option_map as_field result ≡ Some f }
 {
     if is_address(relocation.kind) {
         return code_field(
@@ -221,14 +192,14 @@ pub fn fields_of(
 ) -> Result<Vec<Candidate>, NoMemory>
     requires low { IsLow elf.now }
     requires starts { AreStarts elf.now starts.now }
-    requires wholes { AreApart wholes.now }
+    requires wholes { ArePartsApart wholes.now }
     requires records { AreRecords elf.now records.now }
     ensures { (tabled : List (ℕ × ℕ)) → AreWholeParts elf.now tabled wholes.now →
-        IfOk result (λ fields. AreFound (λ r f. IsFieldOf elf.now tabled (seen r) f) records.now (map field fields.items)) }
+        IfOk result (λ fields. AreFound (λ r f. IsFieldOf elf.now tabled (seen r) f) records.now (map as_field fields.items)) }
 {
     let mut fields = Vec::new(alloc);
     for (index, relocation) in records.iter().enumerate() {
-        push_found(
+        push_some(
             &mut fields,
             field_of(elf, starts, wholes, records, index, relocation),
         )?;

@@ -4,15 +4,15 @@ ghost use Rattle.elf_image.specs.declared.elf.Elf as file;
 ghost use Rattle.elf_image.specs.code.FileCode.{AreCells, AreStarts};
 ghost use Rattle.elf_image.specs.faults.LowestPlace.{IsLowest};
 ghost use Rattle.elf_image.specs.faults.ReferenceFaults.{HasBadLabel, IsAddress};
-ghost use Rattle.rv_reloc.specs.Cells.{IsBadField, HasAddresses, cell_of};
-ghost use Rattle.rv_reloc.specs.Loaded.{IsLow};
+ghost use Rattle.rv_reloc.specs.Cells.{HasBadContent, HasAddresses, cell_of};
+ghost use Rattle.rv_reloc.specs.LoadedMemory.{IsLow};
 ghost use Rattle.rv_reloc.specs.Lows.{AreLows};
-ghost use Rattle.rv_reloc.specs.Parts.{AreApart, AreCodeParts};
+ghost use Rattle.rv_reloc.specs.Parts.{ArePartsApart, AreCodeParts};
 ghost use Rattle.rv_reloc.specs.Places.{IsPlaceOf};
 ghost use Rattle.rv_reloc.specs.Records.{AreRecords};
 ghost use Rattle.rv_reloc.specs.Slots.{AreSlotLabels};
-ghost use Rattle.rv_reloc.specs.Whole.{AreWholeParts};
-ghost use Rattle.rv_reloc.specs.Sweep.{field, AreCounted};
+ghost use Rattle.rv_reloc.specs.WholeParts.{AreWholeParts};
+ghost use Rattle.rv_reloc.specs.CountedFields.{as_field, AreCounted};
 
 use crate::candidates::fields_of;
 use crate::got_fields::got_fields;
@@ -24,23 +24,21 @@ use crate::start_index::Starts;
 use crate::sweep::{Candidate, Content, sort_fields, sweep};
 use elf_image::Elf;
 use elf_image::lowest::{lower, place_if};
+use elf_image::segment::ADDRESS_END;
 use rb_bytes::fault::NoMemory;
 use rv_code::cell::{CellKind, CodeCell};
 use std::alloc::Global;
 
-/// The end of the addresses at which a file may be loaded, which a label may be too.
-const ADDRESS_END: i128 = 0x7fff0000;
-
-// Whether a label is an address.
+// Whether a label is an address, which the end of those at which a file may be loaded is too.
 fn is_address(label: i128) -> bool
     ensures { IsTrue result ↔ IsAddress label }
 {
-    0 <= label && label <= ADDRESS_END
+    0 <= label && label <= ADDRESS_END as i128
 }
 
 // Whether a field holds a difference with a label that is no address.
 fn is_bad(field: &Candidate) -> bool
-    ensures { IsTrue result ↔ IsBadField field.now }
+    ensures { IsTrue result ↔ HasBadContent field.now }
 {
     match field.content {
         Content::Address { .. } => false,
@@ -54,7 +52,7 @@ fn is_bad(field: &Candidate) -> bool
 }
 
 fn lowest_bad_field(counted: &[Candidate]) -> Option<u64>
-    ensures { IsLowest (IsPlaceOf (λ f. f.place) IsBadField counted.now) result }
+    ensures { IsLowest (IsPlaceOf (λ f. f.place) HasBadContent counted.now) result }
 {
     let mut lowest = None;
     for field in counted {
@@ -65,7 +63,7 @@ fn lowest_bad_field(counted: &[Candidate]) -> Option<u64>
 
 /// The lowest place of a cell with a difference of which a label is no address. Without one, all labels are.
 pub fn lowest_bad_label(counted: &[Candidate]) -> Option<u64>
-    ensures lowest { (elf : file.Elf) (tabled : List (ℕ × ℕ)) → AreCounted elf tabled (map field counted.now) →
+    ensures lowest { (elf : file.Elf) (tabled : List (ℕ × ℕ)) → AreCounted elf tabled (map as_field counted.now) →
         IsLowest (HasBadLabel elf tabled) result }
     ensures none { IfNone result (All HasAddresses counted.now) }
 {
@@ -100,7 +98,7 @@ fn cell_of(field: &Candidate) -> CodeCell
 /// The code cells, of the fields that count.
 pub fn cells(alloc: Global, counted: &[Candidate]) -> Result<Vec<CodeCell>, NoMemory>
     requires { All HasAddresses counted.now }
-    ensures { (elf : file.Elf) (tabled : List (ℕ × ℕ)) → AreCounted elf tabled (map field counted.now) →
+    ensures { (elf : file.Elf) (tabled : List (ℕ × ℕ)) → AreCounted elf tabled (map as_field counted.now) →
         IfOk result (λ cells. AreCells elf tabled cells.items) }
 {
     let mut cells = Vec::new(alloc);
@@ -125,12 +123,12 @@ pub fn counted_fields(
     requires low { IsLow elf.now }
     requires starts { AreStarts elf.now starts.now }
     requires parts { AreCodeParts elf.now parts.now }
-    requires wholes { AreApart wholes.now }
+    requires wholes { ArePartsApart wholes.now }
     requires records { AreRecords elf.now records.now }
     requires labels { AreSlotLabels elf.now labels.now }
     requires lows { AreLows elf.now lows.now }
     ensures { (tabled : List (ℕ × ℕ)) → AreWholeParts elf.now tabled wholes.now →
-        IfOk result (λ counted. AreCounted elf.now tabled (map field counted.items)) }
+        IfOk result (λ counted. AreCounted elf.now tabled (map as_field counted.items)) }
 {
     let mut fields = fields_of(alloc, elf, starts, wholes, records)?;
     let slots = got_fields(alloc, elf, starts, parts, labels, lows)?;

@@ -6,13 +6,12 @@ ghost use Rattle.elf_image.specs.code.FileCode.{AreStarts, AreRoles};
 ghost use Rattle.elf_image.specs.code.Relocations.{Relocation, relocations};
 ghost use Rattle.elf_image.specs.code.Roles.{Claims};
 ghost use Rattle.elf_image.specs.faults.ReferenceFaults.{IsMisfit, IsLoMismatch};
-ghost use Rattle.rv_reloc.specs.Claimed.{IsClaimOf, IsClaimUpTo, AreClaimsOf, AreClaims};
+ghost use Rattle.rv_reloc.specs.Claims.{IsClaimOf, IsClaimUpTo, AreClaimsOf, AreClaims};
 ghost use Rattle.rv_reloc.specs.Lows.{AreLows};
 ghost use Rattle.rv_reloc.specs.Parts.{AreCodeParts};
 ghost use Rattle.rv_reloc.specs.Records.{seen, AreRecords};
 
 use crate::claims::{absolute_claim, call_claim, call_low_claim, lower_claim, upper_claim};
-use crate::found::push_found;
 use crate::lows::Low;
 use crate::parts::Part;
 use crate::records::Record;
@@ -21,6 +20,7 @@ use crate::start_index::Starts;
 use crate::types::{is_absolute, is_call_pair, is_pcrel_hi, is_pcrel_lo};
 use elf_image::Elf;
 use rb_bytes::fault::NoMemory;
+use rb_bytes::lists::push_some;
 use rv_code::Role;
 use std::alloc::Global;
 
@@ -92,8 +92,8 @@ fn read_claims(
 {
     let mut claims = Vec::new(alloc);
     for relocation in records {
-        push_found(&mut claims, claim_at(elf, starts, parts, lows, relocation))?;
-        push_found(&mut claims, claim_after(elf, starts, parts, relocation))?;
+        push_some(&mut claims, claim_at(elf, starts, parts, lows, relocation))?;
+        push_some(&mut claims, claim_after(elf, starts, parts, relocation))?;
     }
     Ok(claims)
 }

@@ -5,7 +5,7 @@ ghost use Rattle.elf_image.specs.code.FileCode.{AreStarts};
 ghost use Rattle.elf_image.specs.code.Relocations.{Relocation, relocations, is_call_pair, is_pcrel_hi, is_pcrel_lo, is_absolute};
 ghost use Rattle.elf_image.specs.code.Roles.{Claims};
 ghost use Rattle.elf_image.specs.faults.ReferenceFaults.{IsMisfit, IsLoMismatch};
-ghost use Rattle.rv_reloc.specs.Claimed.{IsClaimOf, absolute_role};
+ghost use Rattle.rv_reloc.specs.Claims.{IsClaimOf, absolute_role};
 ghost use Rattle.rv_reloc.specs.Lows.{AreLows};
 ghost use Rattle.rv_reloc.specs.Parts.{AreCodeParts};
 ghost use Rattle.rv_reloc.specs.Records.{seen};

@@ -9,16 +9,16 @@ ghost use Rattle.elf_image.specs.code.Relocations as spec;
 ghost use Rattle.elf_image.specs.code.Relocations.{Relocation, relocations, plus_width, minus_width};
 ghost use Rattle.rv_reloc.specs.Differences.{IsDifferenceOf, IsTheDifference, HoldsOther, IsUnpaired};
 ghost use Rattle.rv_reloc.specs.Labels.{width_of};
-ghost use Rattle.rv_reloc.specs.Parts.{AreApart};
-ghost use Rattle.rv_reloc.specs.Whole.{AreWholeParts};
-ghost use Rattle.rv_reloc.specs.Loaded.{IsLow};
+ghost use Rattle.rv_reloc.specs.Parts.{ArePartsApart};
+ghost use Rattle.rv_reloc.specs.WholeParts.{AreWholeParts};
+ghost use Rattle.rv_reloc.specs.LoadedMemory.{IsLow};
 ghost use Rattle.rv_reloc.specs.Records.{AreRecords, seen};
 ghost use Rattle.rv_reloc.specs.Tails.{IsKnown};
 
 use crate::fields::holds_difference;
 use crate::index::{only_minus, only_plus};
 use crate::labels::{
-    Width, can_be_cell, has_code_label, is_code_label, label, minus_width, plus_width,
+    FieldWidth, can_be_cell, has_code_label, is_code_label, label, minus_width, plus_width,
 };
 use crate::parts::Part;
 use crate::records::Record;
@@ -32,7 +32,7 @@ use elf_image::lowest::{lower, place_if};
 /// The difference of two labels.
 #[derive(Clone, Copy)]
 pub struct Difference {
-    pub width: Width,
+    pub width: FieldWidth,
     pub to: i128,
     pub from: i128,
 }
@@ -44,7 +44,7 @@ fn labels_difference(
     records: &[Record],
     near: usize,
     relocation: &Record,
-    width: Width,
+    width: FieldWidth,
 ) -> Option<Difference>
     requires records { AreRecords elf.now records.now }
     requires listed { Contains (relocations elf.now) (seen relocation.now) }
@@ -81,7 +81,7 @@ pub fn difference_of(
 {
     if is_pc_difference(relocation.kind) {
         return Some(Difference {
-            width: Width::Bits32,
+            width: FieldWidth::Bits32,
             to: label(elf, relocation),
             from: relocation.place as i128,
         });
@@ -93,7 +93,7 @@ pub fn difference_of(
 }
 
 // The width of a field to which a relocation adds a label, or from which it subtracts one.
-fn label_width(kind: u32) -> Option<Width>
+fn label_width(kind: u32) -> Option<FieldWidth>
     ensures { (w : spec.Width) →
         (option_map width_of result ≡ Some w) ↔ ((plus_width kind ≡ Some w) ⊎ (minus_width kind ≡ Some w)) }
 {
@@ -103,7 +103,7 @@ fn label_width(kind: u32) -> Option<Width>
     }
 }
 
-fn is_paired(elf: &Elf, records: &[Record], near: usize, place: u64, width: Width) -> bool
+fn is_paired(elf: &Elf, records: &[Record], near: usize, place: u64, width: FieldWidth) -> bool
     requires { AreRecords elf.now records.now }
     ensures { IsTrue result ↔ IsPaired elf.now place (width_of width) }
 {
@@ -188,7 +188,7 @@ pub fn is_narrow(
     relocation: &Record,
 ) -> bool
     requires starts { AreStarts elf.now starts.now }
-    requires wholes { AreApart wholes.now }
+    requires wholes { ArePartsApart wholes.now }
     requires records { AreRecords elf.now records.now }
     requires listed { Contains (relocations elf.now) (seen relocation.now) }
     ensures { (tabled : List (ℕ × ℕ)) → AreWholeParts elf.now tabled wholes.now →
@@ -206,7 +206,7 @@ pub fn is_narrow(
 /// Whether a difference has a code address, and isn't of two labels of one whole part.
 pub fn crosses(elf: &Elf, starts: &Starts, wholes: &[Part], difference: &Difference) -> bool
     requires starts { AreStarts elf.now starts.now }
-    requires wholes { AreApart wholes.now }
+    requires wholes { ArePartsApart wholes.now }
     ensures { (tabled : List (ℕ × ℕ)) → AreWholeParts elf.now tabled wholes.now →
         IsTrue result
         ↔ (HasCodeLabel elf.now difference.now.to difference.now.from
@@ -221,7 +221,7 @@ pub fn crosses(elf: &Elf, starts: &Starts, wholes: &[Part], difference: &Differe
 /// The lowest place of a difference with a code address that no cell can hold, and not of two labels of one whole part.
 pub fn lowest_narrow(elf: &Elf, starts: &Starts, wholes: &[Part], records: &[Record]) -> Option<u64>
     requires starts { AreStarts elf.now starts.now }
-    requires wholes { AreApart wholes.now }
+    requires wholes { ArePartsApart wholes.now }
     requires records { AreRecords elf.now records.now }
     ensures { (tabled : List (ℕ × ℕ)) → AreWholeParts elf.now tabled wholes.now → IsLowest (IsNarrowDiff elf.now tabled) result }
 {

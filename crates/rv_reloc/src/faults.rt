@@ -6,7 +6,7 @@ ghost use Rattle.elf_image.specs.faults.FirstFault.{IsAnswered, LacksBelow};
 ghost use Rattle.elf_image.specs.faults.LowestPlace.{IsLowest};
 ghost use Rattle.elf_image.specs.faults.ReferenceFaults.{HasReferenceFault, IsMisfit};
 ghost use Rattle.rv_reloc.specs.Lows.{AreLows};
-ghost use Rattle.rv_reloc.specs.Parts.{AreApart};
+ghost use Rattle.rv_reloc.specs.Parts.{ArePartsApart};
 ghost use Rattle.rv_reloc.specs.Records.{AreRecords};
 ghost use Rattle.rv_reloc.specs.Refs.{AreAsked};
 
@@ -36,7 +36,7 @@ pub fn check(
     misfit: Option<u64>,
 ) -> Result<(), Fault>
     requires starts { AreStarts elf.now starts.now }
-    requires wholes { AreApart wholes.now }
+    requires wholes { ArePartsApart wholes.now }
     requires records { AreRecords elf.now records.now }
     requires lows { AreLows elf.now lows.now }
     requires misfit { IsLowest (HasRelocation elf.now (IsMisfit elf.now)) misfit }

@@ -7,11 +7,11 @@ ghost use Rattle.elf_image.specs.code.Fields.{HoldsDifference};
 ghost use Rattle.elf_image.specs.memory.LoadedBytes.{loaded_number};
 ghost use Rattle.elf_image.specs.code.Relocations.{Uleb128};
 ghost use Rattle.rv_reloc.specs.Labels.{width_of, IsLabelSize};
-ghost use Rattle.rv_reloc.specs.Loaded.{IsLow};
+ghost use Rattle.rv_reloc.specs.LoadedMemory.{IsLow};
 ghost use Rattle.rv_reloc.specs.Records.{seen};
 ghost use Rattle.rv_reloc.specs.Tails.{IsKnown, HoldsModulo, AreLebBytes, magnitude};
 
-use crate::labels::{Width, minus_width, plus_width};
+use crate::labels::{FieldWidth, minus_width, plus_width};
 use crate::loaded::loaded_number;
 use crate::records::Record;
 use crate::tails::{DIFFERENCE_BYTES, Known, holds_bits, tail_at, tails_at};
@@ -52,18 +52,18 @@ fn leb_size(elf: &Elf, known: &[Known], relocation: &Record) -> Option<u64>
     }
 }
 
-fn width_size(elf: &Elf, known: &[Known], relocation: &Record, width: Width) -> Option<u64>
+fn width_size(elf: &Elf, known: &[Known], relocation: &Record, width: FieldWidth) -> Option<u64>
     requires low { IsLow elf.now }
     requires known { All (IsKnown elf.now) known.now }
     ensures { result ≡ width_size elf.now (seen relocation.now) (width_of width) }
 {
     match width {
-        Width::Bits6 => Some(1),
-        Width::Bits8 => Some(1),
-        Width::Bits16 => Some(2),
-        Width::Bits32 => Some(4),
-        Width::Bits64 => Some(8),
-        Width::Uleb128 => leb_size(elf, known, relocation),
+        FieldWidth::Bits6 => Some(1),
+        FieldWidth::Bits8 => Some(1),
+        FieldWidth::Bits16 => Some(2),
+        FieldWidth::Bits32 => Some(4),
+        FieldWidth::Bits64 => Some(8),
+        FieldWidth::Uleb128 => leb_size(elf, known, relocation),
     }
 }
 
@@ -159,7 +159,7 @@ pub fn holds_difference(
     elf: &Elf,
     known: &[Known],
     relocation: &Record,
-    width: Width,
+    width: FieldWidth,
     to: i128,
     from: i128,
 ) -> bool
@@ -171,12 +171,12 @@ pub fn holds_difference(
 {
     let difference = difference_of(to, from);
     match width {
-        Width::Bits6 => holds_number(elf, relocation.place, 6, difference),
-        Width::Bits8 => holds_number(elf, relocation.place, 8, difference),
-        Width::Bits16 => holds_number(elf, relocation.place, 16, difference),
-        Width::Bits32 => holds_number(elf, relocation.place, 32, difference),
-        Width::Bits64 => holds_number(elf, relocation.place, 64, difference),
-        Width::Uleb128 => holds_leb(elf, known, relocation, to, from),
+        FieldWidth::Bits6 => holds_number(elf, relocation.place, 6, difference),
+        FieldWidth::Bits8 => holds_number(elf, relocation.place, 8, difference),
+        FieldWidth::Bits16 => holds_number(elf, relocation.place, 16, difference),
+        FieldWidth::Bits32 => holds_number(elf, relocation.place, 32, difference),
+        FieldWidth::Bits64 => holds_number(elf, relocation.place, 64, difference),
+        FieldWidth::Uleb128 => holds_leb(elf, known, relocation, to, from),
     }
 }
 

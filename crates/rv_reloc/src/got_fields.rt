@@ -2,15 +2,14 @@
 ghost use Rattle.std.specs.Prelude.{◌≡◌, ◌↔◌, IfOk, IfSome, IsTrue, Some, map, option_map};
 ghost use Rattle.elf_image.specs.code.Cells.{Field};
 ghost use Rattle.elf_image.specs.code.FileCode.{AreStarts};
-ghost use Rattle.rv_reloc.specs.Found.{AreFound};
+ghost use Rattle.rv_reloc.specs.Finds.{AreFound};
 ghost use Rattle.rv_reloc.specs.GotFields.{IsSlotOf, NamesEntry, IsNamedField};
-ghost use Rattle.rv_reloc.specs.Loaded.{IsLow};
+ghost use Rattle.rv_reloc.specs.LoadedMemory.{IsLow};
 ghost use Rattle.rv_reloc.specs.Parts.{AreCodeParts};
 ghost use Rattle.rv_reloc.specs.Slots.{AreSlotLabels};
-ghost use Rattle.rv_reloc.specs.Sweep.{field};
+ghost use Rattle.rv_reloc.specs.CountedFields.{as_field};
 
 use crate::candidates::code_field;
-use crate::found::push_found;
 use crate::loaded::loaded_number;
 use crate::lows::Low;
 use crate::pairs::low_target;
@@ -21,6 +20,7 @@ use crate::sweep::Candidate;
 use crate::targets::natural;
 use elf_image::Elf;
 use rb_bytes::fault::NoMemory;
+use rb_bytes::lists::push_some;
 use std::alloc::Global;
 
 // Whether a relocation says that the entry that the AUIPC at an address names has a label.
@@ -43,8 +43,8 @@ fn named_field(
     requires low { IsLow elf.now }
     requires starts { AreStarts elf.now starts.now }
     requires labels { AreSlotLabels elf.now labels.now }
-    ensures is { IfSome (option_map field result) (IsNamedField elf.now hi slot) }
-    ensures only { (f : Field) → IsNamedField elf.now hi slot f → option_map field result ≡ Some f }
+    ensures is { IfSome (option_map as_field result) (IsNamedField elf.now hi slot) }
+    ensures only { (f : Field) → IsNamedField elf.now hi slot f → option_map as_field result ≡ Some f }
 {
     match loaded_number(elf, slot, 8) {
         Some(to) => {
@@ -69,8 +69,8 @@ fn slot_of(
     requires starts { AreStarts elf.now starts.now }
     requires parts { AreCodeParts elf.now parts.now }
     requires labels { AreSlotLabels elf.now labels.now }
-    ensures is { IfSome (option_map field result) (IsSlotOf elf.now low.now) }
-    ensures only { (f : Field) → IsSlotOf elf.now low.now f → option_map field result ≡ Some f }
+    ensures is { IfSome (option_map as_field result) (IsSlotOf elf.now low.now) }
+    ensures only { (f : Field) → IsSlotOf elf.now low.now f → option_map as_field result ≡ Some f }
 {
     if !has_label_at(labels, low.hi) {
         return None;
@@ -97,11 +97,11 @@ pub fn got_fields(
     requires starts { AreStarts elf.now starts.now }
     requires parts { AreCodeParts elf.now parts.now }
     requires labels { AreSlotLabels elf.now labels.now }
-    ensures { IfOk result (λ slots. AreFound (IsSlotOf elf.now) lows.now (map field slots.items)) }
+    ensures { IfOk result (λ slots. AreFound (IsSlotOf elf.now) lows.now (map as_field slots.items)) }
 {
     let mut slots = Vec::new(alloc);
     for low in lows {
-        push_found(&mut slots, slot_of(elf, starts, parts, labels, low))?;
+        push_some(&mut slots, slot_of(elf, starts, parts, labels, low))?;
     }
     Ok(slots)
 }

@@ -8,20 +8,20 @@ ghost use Rattle.rv_reloc.specs.Index.{class, class_beside, width_code, plus_cla
 ghost use Rattle.rv_reloc.specs.Labels.{width_of};
 ghost use Rattle.rv_reloc.specs.Records.{seen, has_key, IsBelow, IsFrom, AreInOrder, AreRecords, IsSplit, HasKeyAt};
 
-use crate::labels::{Width, minus_width, plus_width};
+use crate::labels::{FieldWidth, minus_width, plus_width};
 use crate::records::Record;
 use crate::types::{is_call_pair, is_pcrel_hi};
 
-fn width_code(width: Width) -> u64
+fn width_code(width: FieldWidth) -> u64
     ensures { result ≡ width_code (width_of width) }
 {
     match width {
-        Width::Bits6 => 7,
-        Width::Bits8 => 9,
-        Width::Bits16 => 17,
-        Width::Bits32 => 33,
-        Width::Bits64 => 65,
-        Width::Uleb128 => 0,
+        FieldWidth::Bits6 => 7,
+        FieldWidth::Bits8 => 9,
+        FieldWidth::Bits16 => 17,
+        FieldWidth::Bits32 => 33,
+        FieldWidth::Bits64 => 65,
+        FieldWidth::Uleb128 => 0,
     }
 }
 
@@ -30,13 +30,13 @@ const CALL_CLASS: u64 = 0;
 
 const UPPER_CLASS: u64 = 1;
 
-fn plus_class(width: Width) -> u64
+fn plus_class(width: FieldWidth) -> u64
     ensures { result ≡ plus_class (width_of width) }
 {
     2 * width_code(width) + 4
 }
 
-fn minus_class(width: Width) -> u64
+fn minus_class(width: FieldWidth) -> u64
     ensures { result ≡ minus_class (width_of width) }
 {
     2 * width_code(width) + 5
@@ -184,7 +184,7 @@ pub fn only_plus<'a>(
     records: &[Record<'a>],
     near: usize,
     place: u64,
-    width: Width,
+    width: FieldWidth,
 ) -> Option<Record<'a>>
     requires { AreInOrder records.now }
     ensures is { (elf : Elf) → AreRecords elf records.now →
@@ -200,7 +200,7 @@ pub fn only_minus<'a>(
     records: &[Record<'a>],
     near: usize,
     place: u64,
-    width: Width,
+    width: FieldWidth,
 ) -> Option<Record<'a>>
     requires { AreInOrder records.now }
     ensures is { (elf : Elf) → AreRecords elf records.now →

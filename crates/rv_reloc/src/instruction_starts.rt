@@ -1,6 +1,5 @@
 // The starts of instructions.
-ghost use Rattle.std.specs.Prelude.{◌≡◌, ◌<◌, ◌≤◌, ◌+◌, ◌-◌, ◌/◌, ◌++◌, ◌↔◌, ℕ, IfOk, OnOk, length, slice_index_or, Contains};
-ghost use Rattle.std.specs.Prelude.{AllPairs};
+ghost use Rattle.std.specs.Prelude.{◌≡◌, ◌<◌, ◌≤◌, ◌+◌, ◌-◌, ◌/◌, ◌++◌, ◌↔◌, ℕ, IfOk, OnOk, length, Contains, AllPairs};
 ghost use Rattle.elf_image.specs.declared.elf.Elf.{Elf};
 ghost use Rattle.elf_image.specs.code.FileCode.{AreStarts};
 ghost use Rattle.rv_reloc.specs.Halves.{AreHalvesOf, AreMarksOf};
@@ -10,6 +9,7 @@ use crate::halves::{halves_taken, read_halves, read_marks};
 use crate::parts::{Part, code_parts};
 use elf_image::Elf;
 use rb_bytes::fault::NoMemory;
+use rb_lanes::search_below;
 use std::alloc::Global;
 
 /// The starts of the instructions of all parts but the uncovered ones of zeros, ascending.
@@ -62,17 +62,7 @@ pub fn starts_in<'a>(starts: &'a [u64], part: &Part) -> &'a [u64]
     ensures members { (a : ℕ) → Contains result.now a ↔ (Contains starts.now a × (part.now.start ≤ a) × (a < part.now.end)) }
     ensures ascending { AllPairs (λ a b. a < b) result.now }
 {
-    let (below, _) = starts.split_at(count_below(starts, part.end));
-    let (_, inside) = below.split_at(count_below(below, part.start));
+    let (below, _) = starts.split_at(search_below(starts, part.end));
+    let (_, inside) = below.split_at(search_below(below, part.start));
     inside
-}
-
-// How many of these addresses, which ascend, are below another.
-fn count_below(addresses: &[u64], address: u64) -> usize
-    requires { AllPairs (λ a b. a < b) addresses.now }
-    ensures bound { result ≤ length addresses.now }
-    ensures below { (k : ℕ) (d : ℕ) → k < result → slice_index_or addresses.now k d < address }
-    ensures above { (k : ℕ) (d : ℕ) → result ≤ k → k < length addresses.now → address ≤ slice_index_or addresses.now k d }
-{
-    addresses.partition_point(|a| *a < address)
 }

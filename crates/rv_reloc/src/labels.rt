@@ -14,7 +14,7 @@ use elf_image::relocation::*;
 
 /// How wide a field is for a label.
 #[derive(Clone, Copy, PartialEq, Eq, Debug)]
-pub enum Width {
+pub enum FieldWidth {
     Bits6,
     Bits8,
     Bits16,
@@ -25,42 +25,42 @@ pub enum Width {
 }
 
 /// The width of the field for a label that is added or set by a type.
-pub fn plus_width(kind: u32) -> Option<Width>
+pub fn plus_width(kind: u32) -> Option<FieldWidth>
     ensures { option_map width_of result ≡ plus_width kind }
 {
     if kind == R_RISCV_SET6 {
-        Some(Width::Bits6)
+        Some(FieldWidth::Bits6)
     } else if kind == R_RISCV_ADD8 || kind == R_RISCV_SET8 {
-        Some(Width::Bits8)
+        Some(FieldWidth::Bits8)
     } else if kind == R_RISCV_ADD16 || kind == R_RISCV_SET16 {
-        Some(Width::Bits16)
+        Some(FieldWidth::Bits16)
     } else if kind == R_RISCV_ADD32 || kind == R_RISCV_SET32 {
-        Some(Width::Bits32)
+        Some(FieldWidth::Bits32)
     } else if kind == R_RISCV_ADD64 {
-        Some(Width::Bits64)
+        Some(FieldWidth::Bits64)
     } else if kind == R_RISCV_SET_ULEB128 {
-        Some(Width::Uleb128)
+        Some(FieldWidth::Uleb128)
     } else {
         None
     }
 }
 
 /// The width of the field for a label that is subtracted by a type.
-pub fn minus_width(kind: u32) -> Option<Width>
+pub fn minus_width(kind: u32) -> Option<FieldWidth>
     ensures { option_map width_of result ≡ minus_width kind }
 {
     if kind == R_RISCV_SUB6 {
-        Some(Width::Bits6)
+        Some(FieldWidth::Bits6)
     } else if kind == R_RISCV_SUB8 {
-        Some(Width::Bits8)
+        Some(FieldWidth::Bits8)
     } else if kind == R_RISCV_SUB16 {
-        Some(Width::Bits16)
+        Some(FieldWidth::Bits16)
     } else if kind == R_RISCV_SUB32 {
-        Some(Width::Bits32)
+        Some(FieldWidth::Bits32)
     } else if kind == R_RISCV_SUB64 {
-        Some(Width::Bits64)
+        Some(FieldWidth::Bits64)
     } else if kind == R_RISCV_SUB_ULEB128 {
-        Some(Width::Uleb128)
+        Some(FieldWidth::Uleb128)
     } else {
         None
     }

@@ -12,7 +12,6 @@ pub mod code;
 pub mod differences;
 pub mod faults;
 pub mod fields;
-pub mod found;
 pub mod got_fields;
 pub mod halves;
 pub mod ifunc;

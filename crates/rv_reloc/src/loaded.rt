@@ -3,7 +3,7 @@ ghost use Rattle.std.specs.Prelude.{◌≡◌, ◌<◌, ◌≤◌, ◌^◌, OnSo
 ghost use Rattle.byteorder.specs.Endian.{little_number};
 ghost use Rattle.elf_image.specs.memory.LoadedBytes.{byte_at, loaded_number};
 ghost use Rattle.elf_image.specs.faults.SegmentLayout.{address_end};
-ghost use Rattle.rv_reloc.specs.Loaded.{IsLow, AreBytesFrom};
+ghost use Rattle.rv_reloc.specs.LoadedMemory.{IsLow, AreBytesFrom};
 
 use byteorder::{ByteOrder, LittleEndian};
 use elf_image::Elf;

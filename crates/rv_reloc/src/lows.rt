@@ -4,13 +4,12 @@ ghost use Rattle.std.specs.List.Sorted.{IsNonDecreasingBy, IsPermutation};
 ghost use Rattle.elf_image.specs.code.FileCode.{AreStarts};
 ghost use Rattle.elf_image.specs.code.Roles.{immediate_i, immediate_s, lower_immediate};
 ghost use Rattle.rv_reloc.specs.declared.lows.Low.{Low};
-ghost use Rattle.rv_reloc.specs.Found.{AreFound};
+ghost use Rattle.rv_reloc.specs.Finds.{AreFound};
 ghost use Rattle.rv_reloc.specs.Parts.{AreCodeParts};
 ghost use Rattle.rv_reloc.specs.Lows.{IsLowOf, AreLows};
 ghost use Rattle.rv_reloc.specs.Records.{seen, AreRecords};
 
 use crate::code::full_at;
-use crate::found::push_found;
 use crate::labels::symbol_value;
 use crate::parts::Part;
 use crate::records::Record;
@@ -19,6 +18,7 @@ use crate::types::is_pcrel_lo;
 use elf_image::Elf;
 use elf_image::relocation::{R_RISCV_LO12_I, R_RISCV_PCREL_LO12_I};
 use rb_bytes::fault::NoMemory;
+use rb_bytes::lists::push_some;
 use rv_code::Inst;
 use rv_code::action::{Action, Operand};
 use rv_code::op::Op;
@@ -101,7 +101,7 @@ fn read_lows(
 {
     let mut lows = Vec::new(alloc);
     for record in records {
-        push_found(&mut lows, low_of(elf, starts, parts, record))?;
+        push_some(&mut lows, low_of(elf, starts, parts, record))?;
     }
     Ok(lows)
 }

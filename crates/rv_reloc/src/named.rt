@@ -1,18 +1,18 @@
 // The addresses that relocations for lower parts name.
 ghost use Rattle.std.specs.Prelude.{◌≡◌, ◌↔◌, ◌<◌, ℕ, IfOk, IfSome, IsTrue, Some, Contains, AllPairs};
 ghost use Rattle.std.specs.List.Sorted.{IsStrictlyIncreasing};
-ghost use Rattle.rv_reloc.specs.Found.{AreFound};
-ghost use Rattle.rv_reloc.specs.Named.{NamesUpper, AreNamed};
+ghost use Rattle.rv_reloc.specs.Finds.{AreFound};
+ghost use Rattle.rv_reloc.specs.NamedAddresses.{NamesUpper, AreNamed};
 ghost use Rattle.rv_reloc.specs.Records.{seen, AreRecords};
 
 use crate::code::is_start;
-use crate::found::push_found;
 use crate::labels::symbol_value;
 use crate::records::Record;
 use crate::types::is_pcrel_lo;
 use elf_image::Elf;
 use elf_image::function_bounds::make_ascending;
 use rb_bytes::fault::NoMemory;
+use rb_bytes::lists::push_some;
 use std::alloc::Global;
 
 // The address that a relocation for a lower part names.
@@ -33,7 +33,7 @@ fn read_named(alloc: Global, elf: &Elf, records: &[Record]) -> Result<Vec<u64>, 
 {
     let mut named = Vec::new(alloc);
     for relocation in records {
-        push_found(&mut named, named_by(elf, relocation))?;
+        push_some(&mut named, named_by(elf, relocation))?;
     }
     Ok(named)
 }

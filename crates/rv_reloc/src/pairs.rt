@@ -3,13 +3,12 @@ ghost use Rattle.std.specs.Prelude.{◌≡◌, ◌↔◌, ℕ, ℤ, pos, IfOk, I
 ghost use Rattle.elf_image.specs.code.FileCode.{AreStarts};
 ghost use Rattle.elf_image.specs.code.Relocations.{relocations};
 ghost use Rattle.elf_image.specs.faults.ReferenceFaults.{IsAddress};
-ghost use Rattle.rv_reloc.specs.Found.{AreFound};
+ghost use Rattle.rv_reloc.specs.Finds.{AreFound};
 ghost use Rattle.rv_reloc.specs.Lows.{AreLows};
 ghost use Rattle.rv_reloc.specs.Pairs.{IsTargetOf, IsFar, AreFar, MakesNoAddress};
 ghost use Rattle.rv_reloc.specs.Parts.{AreCodeParts};
 ghost use Rattle.rv_reloc.specs.Records.{seen};
 
-use crate::found::push_found;
 use crate::instructions::auipc_at;
 use crate::lows::Low;
 use crate::named::is_named;
@@ -21,6 +20,7 @@ use crate::types::is_pcrel_hi;
 use elf_image::Elf;
 use elf_image::function_bounds::make_ascending;
 use rb_bytes::fault::NoMemory;
+use rb_bytes::lists::push_some;
 use std::alloc::Global;
 
 /// The number that a lower part makes with the AUIPC that it names.
@@ -82,7 +82,7 @@ fn read_far(
 {
     let mut far = Vec::new(alloc);
     for low in lows {
-        push_found(&mut far, far_of(elf, starts, parts, low))?;
+        push_some(&mut far, far_of(elf, starts, parts, low))?;
     }
     Ok(far)
 }

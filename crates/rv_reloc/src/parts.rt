@@ -2,7 +2,7 @@
 ghost use Rattle.std.specs.Prelude.{◌≡◌, ◌↔◌, ◌<◌, ◌≤◌, ◌+◌, ℕ, IfOk, IfSome, IsTrue, Some, length, slice_index_or};
 ghost use Rattle.elf_image.specs.code.Parts.{IsCovered, IsInCode};
 ghost use Rattle.elf_image.specs.internal.Extents.{IsInOneExtent};
-ghost use Rattle.rv_reloc.specs.Parts.{AreZeros, IsCodeStretch, AreCodeParts, AreApart, HoldsAddress};
+ghost use Rattle.rv_reloc.specs.Parts.{AreZeros, IsCodeStretch, AreCodeParts, ArePartsApart, HoldsAddress};
 
 use crate::ranges::{Ranges, code_ranges, function_ranges};
 use elf_image::{Elf, cuts};
@@ -63,7 +63,7 @@ fn are_zeros(elf: &Elf, start: u64, end: u64) -> bool
 
 /// The part that an address lies in.
 pub fn part_at(parts: &[Part], address: u64) -> Option<Part>
-    requires { AreApart parts.now }
+    requires { ArePartsApart parts.now }
     ensures holds { IfSome result (HoldsAddress parts.now address) }
     ensures only { (p : Part) → HoldsAddress parts.now address p → result ≡ Some p }
 {
@@ -77,7 +77,7 @@ pub fn part_at(parts: &[Part], address: u64) -> Option<Part>
 
 /// How many parts begin at an address or below it.
 pub fn count_up_to(parts: &[Part], address: u64) -> usize
-    requires { AreApart parts.now }
+    requires { ArePartsApart parts.now }
     ensures bound { result ≤ length parts.now }
     ensures below { (k : ℕ) (d : Part) → k < result → (slice_index_or parts.now k d).start ≤ address }
     ensures above { (k : ℕ) (d : Part) → result ≤ k → k < length parts.now → address < (slice_index_or parts.now k d).start }

@@ -2,11 +2,10 @@
 ghost use Rattle.std.specs.Prelude.{◌≡◌, ◌≤◌, ◌+◌, ◌*◌, ◌++◌, IfOk, OnOk, length, map};
 ghost use Rattle.std.specs.List.Sorted.{IsPermutation};
 ghost use Rattle.elf_image.specs.code.Relocations.{relocations, relocation_at, entries_from, entries_for, entries_of, is_named};
-ghost use Rattle.elf_image.specs.file.Header.{number_at};
 ghost use Rattle.rv_reloc.specs.Records.{seen, counts, IsContained, AreInOrder, AreRecords};
 
 use crate::index::class;
-use byteorder::{ByteOrder, LittleEndian};
+use elf_image::number::{u32_at, u64_at};
 use elf_image::relocation::{RELA_SIZE, SHT_RELA};
 use elf_image::{Elf, Section};
 use rb_bytes::fault::NoMemory;
@@ -22,20 +21,6 @@ pub struct Record<'a> {
     pub kind: u32,
     /// The index of its symbol.
     pub symbol: u32,
-}
-
-fn u32_at(file: &[u8], offset: usize) -> u32
-    requires { offset + 4 ≤ length file.now }
-    ensures { result ≡ number_at file.now offset 4 }
-{
-    LittleEndian::read_u32(&file[offset..])
-}
-
-fn u64_at(file: &[u8], offset: usize) -> u64
-    requires { offset + 8 ≤ length file.now }
-    ensures { result ≡ number_at file.now offset 8 }
-{
-    LittleEndian::read_u64(&file[offset..])
 }
 
 fn record_at<'a>(file: &[u8], section: &'a Section<'a>, offset: usize) -> Record<'a>

@@ -2,7 +2,7 @@
 ghost use Rattle.std.specs.Prelude.{◌≡◌, ◌↔◌, ◌<◌, ℕ, IfOk, IsTrue, AllPairs, length};
 ghost use Rattle.elf_image.specs.declared.elf.Elf.{Elf};
 ghost use Rattle.elf_image.specs.code.FileCode.{AreRoles};
-ghost use Rattle.rv_reloc.specs.Claimed.{AreClaims, IsClaimUpTo, IsFirst};
+ghost use Rattle.rv_reloc.specs.Claims.{AreClaims, IsClaimUpTo, IsFirstClaim};
 
 use rb_bytes::fault::NoMemory;
 use rv_code::Role;
@@ -20,7 +20,7 @@ pub struct Claim {
 fn is_first(claims: &[Claim], index: usize) -> bool
     requires order { AllPairs IsClaimUpTo claims.now }
     requires index { index < length claims.now }
-    ensures { IsTrue result ↔ IsFirst claims.now index }
+    ensures { IsTrue result ↔ IsFirstClaim claims.now index }
 {
     index == 0 || claims[index - 1].at < claims[index].at
 }

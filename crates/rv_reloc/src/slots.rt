@@ -3,17 +3,17 @@ ghost use Rattle.std.specs.Prelude.{◌≡◌, ◌↔◌, ◌<◌, ◌≤◌, �
 ghost use Rattle.std.specs.Prelude.{length, slice_index_or};
 ghost use Rattle.std.specs.List.Sorted.{IsPermutation};
 ghost use Rattle.rv_reloc.specs.declared.slots.SlotLabel.{SlotLabel};
-ghost use Rattle.rv_reloc.specs.Found.{AreFound};
+ghost use Rattle.rv_reloc.specs.Finds.{AreFound};
 ghost use Rattle.rv_reloc.specs.Records.{seen, AreRecords};
 ghost use Rattle.rv_reloc.specs.Slots.{IsSlotLabelOf, IsLabelBelow, IsLabelFrom, AreSlotLabels, HasLabelAt, HasLabelBelow};
 ghost use Rattle.rv_reloc.specs.Slots.{HasLabelFrom, HasOtherLabel};
 
-use crate::found::push_found;
 use crate::labels::label;
 use crate::records::Record;
 use elf_image::Elf;
 use elf_image::relocation::R_RISCV_GOT_HI20;
 use rb_bytes::fault::NoMemory;
+use rb_bytes::lists::push_some;
 use std::alloc::Global;
 
 /// The entry that the AUIPC at a place names is to hold a label.
@@ -42,7 +42,7 @@ fn read_labels(alloc: Global, elf: &Elf, records: &[Record]) -> Result<Vec<SlotL
 {
     let mut labels = Vec::new(alloc);
     for relocation in records {
-        push_found(&mut labels, slot_label(elf, relocation))?;
+        push_some(&mut labels, slot_label(elf, relocation))?;
     }
     Ok(labels)
 }

@@ -2,7 +2,7 @@
 ghost use Rattle.std.specs.Prelude.{◌≡◌, ℕ, List, IfOk, OnOk, map, AllPairs};
 ghost use Rattle.std.specs.List.Sorted.{IsPermutation};
 ghost use Rattle.elf_image.specs.declared.elf.Elf.{Elf};
-ghost use Rattle.rv_reloc.specs.Sweep.{field, IsKeyUpTo, AreCandidates, AreCounted};
+ghost use Rattle.rv_reloc.specs.CountedFields.{as_field, IsKeyUpTo, AreCandidates, AreCounted};
 
 use rb_bytes::fault::NoMemory;
 use std::alloc::Global;
@@ -26,7 +26,7 @@ pub struct Candidate {
 /// Puts fields in the order of their places, the wider before the narrower, and addresses before differences.
 pub fn sort_fields(fields: &mut Vec<Candidate>) -> Result<(), NoMemory>
     ensures permutation { IsPermutation fields.old.items fields.new.items }
-    ensures rising { OnOk result (AllPairs IsKeyUpTo (map field fields.new.items)) }
+    ensures rising { OnOk result (AllPairs IsKeyUpTo (map as_field fields.new.items)) }
 {
     fields.sort_by_key(|f| (f.place, Reverse(f.width), f.content))?;
     Ok(())
@@ -34,8 +34,8 @@ pub fn sort_fields(fields: &mut Vec<Candidate>) -> Result<(), NoMemory>
 
 /// Those that count, of all that can be cells, in their order.
 pub fn sweep(alloc: Global, candidates: &[Candidate]) -> Result<Vec<Candidate>, NoMemory>
-    ensures { (elf : Elf) (tabled : List (ℕ × ℕ)) → AreCandidates elf tabled (map field candidates.now) →
-        IfOk result (λ counted. AreCounted elf tabled (map field counted.items)) }
+    ensures { (elf : Elf) (tabled : List (ℕ × ℕ)) → AreCandidates elf tabled (map as_field candidates.now) →
+        IfOk result (λ counted. AreCounted elf tabled (map as_field counted.items)) }
 {
     let mut counted = Vec::new(alloc);
     let mut reach: u128 = 0;

@@ -5,7 +5,7 @@ ghost use Rattle.std.specs.List.Sorted.{IsPermutation};
 ghost use Rattle.rb_bytes.specs.Leb.{is_last, low_bits, high_bits};
 ghost use Rattle.elf_image.specs.code.Fields.{HoldBits};
 ghost use Rattle.elf_image.specs.memory.LoadedBytes.{byte_at};
-ghost use Rattle.rv_reloc.specs.Loaded.{IsLow};
+ghost use Rattle.rv_reloc.specs.LoadedMemory.{IsLow};
 ghost use Rattle.rv_reloc.specs.Tails.{TailAt, IsKnown, ends_with, magnitude, AreLebBytes};
 
 use crate::loaded::byte_at;
@@ -15,7 +15,7 @@ use std::alloc::Global;
 
 /// What is left of a number in LEB128 from one of its bytes on.
 #[derive(Clone, Copy, Debug)]
-pub struct Tail {
+pub struct LebRest {
     /// The address after its last byte.
     pub end: u64,
     /// All its bytes have seven zero bits.
@@ -28,20 +28,20 @@ pub struct Tail {
 #[derive(Clone, Copy, Debug)]
 pub struct Known {
     pub place: u64,
-    pub tail: Option<Tail>,
+    pub tail: Option<LebRest>,
 }
 
 /// As many bytes of a difference of labels as can differ from those of its sign.
 pub const DIFFERENCE_BYTES: u8 = 10;
 
 // The tail of a single byte, which is the last.
-fn last_tail(address: u64, byte: u8) -> Tail
+fn last_tail(address: u64, byte: u8) -> LebRest
     requires low { address + 1 < 2 ^ 64 }
     ensures end { result.end ≡ address + 1 }
     ensures zeros { IsTrue result.is_zeros ↔ HoldBits (byte ∷ []) (pos 0) }
     ensures ones { IsTrue result.is_ones ↔ HoldBits (byte ∷ []) (negsuc 0) }
 {
-    Tail {
+    LebRest {
         end: address + 1,
         is_zeros: byte % 128 == 0,
         is_ones: byte % 128 == 127,
@@ -49,12 +49,12 @@ fn last_tail(address: u64, byte: u8) -> Tail
 }
 
 // The tail with one more byte in front.
-fn longer_tail(byte: u8, tail: Tail) -> Tail
+fn longer_tail(byte: u8, tail: LebRest) -> LebRest
     ensures end { result.end ≡ tail.end }
     ensures zeros { IsTrue result.is_zeros ↔ ((byte % 128 ≡ 0) × IsTrue tail.is_zeros) }
     ensures ones { IsTrue result.is_ones ↔ ((byte % 128 ≡ 127) × IsTrue tail.is_ones) }
 {
-    Tail {
+    LebRest {
         end: tail.end,
         is_zeros: byte % 128 == 0 && tail.is_zeros,
         is_ones: byte % 128 == 127 && tail.is_ones,
@@ -62,7 +62,7 @@ fn longer_tail(byte: u8, tail: Tail) -> Tail
 }
 
 // The tail at an address, where that of the next address is known.
-fn tail_before(elf: &Elf, address: u64, next: Option<Tail>) -> Option<Tail>
+fn tail_before(elf: &Elf, address: u64, next: Option<LebRest>) -> Option<LebRest>
     requires low { IsLow elf.now }
     requires next { TailAt elf.now (address + 1) next }
     ensures { TailAt elf.now address result }
@@ -83,7 +83,7 @@ fn tail_before(elf: &Elf, address: u64, next: Option<Tail>) -> Option<Tail>
 }
 
 // The tail at a byte with which a number ends, if one does.
-fn tail_of_last(elf: &Elf, address: u64) -> Option<Tail>
+fn tail_of_last(elf: &Elf, address: u64) -> Option<LebRest>
     requires low { IsLow elf.now }
     requires ends { IsTrue (ends_with (byte_at elf.now address)) }
     ensures { TailAt elf.now address result }
@@ -120,7 +120,7 @@ fn stop_between(elf: &Elf, from: u64, to: u64) -> u64
 }
 
 // The tail at an address, where that of a higher one is known.
-fn tail_below(elf: &Elf, from: u64, to: u64, known: Option<Tail>) -> Option<Tail>
+fn tail_below(elf: &Elf, from: u64, to: u64, known: Option<LebRest>) -> Option<LebRest>
     requires low { IsLow elf.now }
     requires order { from ≤ to }
     requires known { TailAt elf.now to known }
@@ -165,7 +165,7 @@ pub fn tails_at(alloc: Global, elf: &Elf, places: &[u64]) -> Result<Vec<Known>, 
 }
 
 // The tail at an address, found from nothing.
-fn tail_from(elf: &Elf, place: u64) -> Option<Tail>
+fn tail_from(elf: &Elf, place: u64) -> Option<LebRest>
     requires { IsLow elf.now }
     ensures { TailAt elf.now place result }
 {
@@ -173,7 +173,7 @@ fn tail_from(elf: &Elf, place: u64) -> Option<Tail>
 }
 
 /// The tail at an address. Those that are known spare the search for the number's end.
-pub fn tail_at(elf: &Elf, known: &[Known], place: u64) -> Option<Tail>
+pub fn tail_at(elf: &Elf, known: &[Known], place: u64) -> Option<LebRest>
     requires low { IsLow elf.now }
     requires known { All (IsKnown elf.now) known.now }
     ensures { TailAt elf.now place result }

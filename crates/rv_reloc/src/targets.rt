@@ -3,8 +3,7 @@ ghost use Rattle.std.specs.Prelude.{◌≡◌, ◌↔◌, ◌<◌, ◌^◌, ℕ,
 ghost use Rattle.elf_image.specs.code.Roles.{pair_target};
 ghost use Rattle.elf_image.specs.faults.ReferenceFaults.{IsAddress};
 
-/// The end of what can be loaded.
-const ADDRESS_END: i128 = 0x7fff0000;
+use elf_image::segment::ADDRESS_END;
 
 /// The target of an AUIPC at `hi` and an instruction with the lower part, which need not be an address.
 pub fn pair_target(hi: u64, upper: i64, lower: i64) -> i128
@@ -18,7 +17,7 @@ pub fn address_of(number: i128) -> Option<u64>
     ensures there { IfSome result (λ a. pos a ≡ number) }
     ensures exact { IsSome result ↔ IsAddress number }
 {
-    if 0 <= number && number <= ADDRESS_END {
+    if 0 <= number && number <= ADDRESS_END as i128 {
         Some(number as u64)
     } else {
         None

@@ -2,7 +2,7 @@
 ghost use Rattle.std.specs.Prelude.{◌≡◌, ◌↔◌, IsTrue};
 ghost use Rattle.elf_image.specs.code.FileCode.{AreStarts};
 ghost use Rattle.elf_image.specs.faults.ReferenceFaults.{IsBadUpper, IsBadLower, IsUpper};
-ghost use Rattle.rv_reloc.specs.Named.{AreNamed};
+ghost use Rattle.rv_reloc.specs.NamedAddresses.{AreNamed};
 ghost use Rattle.rv_reloc.specs.Parts.{AreCodeParts};
 ghost use Rattle.rv_reloc.specs.Records.{seen, AreRecords};
 
@@ -69,11 +69,8 @@ pub fn is_bad_lower(
     requires records { AreRecords elf.now records.now }
     ensures { IsTrue result ↔ IsBadLower elf.now (seen relocation.now) }
 {
-    if !is_pcrel_lo(relocation.kind) {
-        return false;
-    }
     match low_of(elf, starts, parts, relocation) {
         Some(low) => !is_upper(elf, starts, parts, records, low.hi),
-        None => true,
+        None => is_pcrel_lo(relocation.kind),
     }
 }

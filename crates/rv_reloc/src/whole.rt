@@ -6,9 +6,9 @@ ghost use Rattle.elf_image.specs.code.Cells.{IsInOneWhole};
 ghost use Rattle.elf_image.specs.code.FileCode.{AreStarts};
 ghost use Rattle.elf_image.specs.code.Parts.{IsInTabled, IsCodePart, IsWholePart};
 ghost use Rattle.elf_image.specs.internal.Extents.{IsInOneExtent};
-ghost use Rattle.rv_reloc.specs.Parts.{AreCodeParts, AreApart};
+ghost use Rattle.rv_reloc.specs.Parts.{AreCodeParts, ArePartsApart};
 ghost use Rattle.rv_reloc.specs.Ranges.{tabled_extent};
-ghost use Rattle.rv_reloc.specs.Whole.{AreWholeParts, HoldsBoth};
+ghost use Rattle.rv_reloc.specs.WholeParts.{AreWholeParts, HoldsBoth};
 
 use crate::instruction_starts::starts_in;
 use crate::parts::Part;
@@ -80,10 +80,10 @@ fn is_whole(elf: &Elf, starts: &[u64], part: &Part, ranges: &Ranges) -> bool
 fn any_held(ranges: &Ranges, addresses: &[u64]) -> bool
     ensures { IsTrue result ↔ Any (λ a. IsInOneExtent ranges.now.reaches.items a (a + 1)) addresses.now }
 {
-    addresses.iter().any(|a| holds(ranges, *a))
+    addresses.iter().any(|a| contains(ranges, *a))
 }
 
-fn holds(ranges: &Ranges, address: u64) -> bool
+fn contains(ranges: &Ranges, address: u64) -> bool
     ensures { IsTrue result ↔ IsInOneExtent ranges.now.reaches.items address (address + 1) }
 {
     ranges.hold(address, address as u128 + 1)
@@ -91,7 +91,7 @@ fn holds(ranges: &Ranges, address: u64) -> bool
 
 /// Whether both labels lie in one of the whole parts, its end included.
 pub fn in_one_whole(wholes: &[Part], to: i128, from: i128) -> bool
-    requires { AreApart wholes.now }
+    requires { ArePartsApart wholes.now }
     ensures { (elf : Elf) (tabled : List (ℕ × ℕ)) → AreWholeParts elf tabled wholes.now →
         IsTrue result ↔ IsInOneWhole elf tabled to from }
 {
@@ -113,7 +113,7 @@ fn lower(to: i128, from: i128) -> i128
 
 // How many parts begin at a label or below it.
 fn count_up_to(parts: &[Part], label: i128) -> usize
-    requires { AreApart parts.now }
+    requires { ArePartsApart parts.now }
     ensures bound { result ≤ length parts.now }
     ensures below { (k : ℕ) (d : Part) → k < result → pos (slice_index_or parts.now k d).start ≤ℤ label }
     ensures above { (k : ℕ) (d : Part) → result ≤ k → k < length parts.now → label <ℤ pos (slice_index_or parts.now k d).start }

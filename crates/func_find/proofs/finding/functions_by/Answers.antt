@@ -5,8 +5,8 @@ use Rattle.elf_image.specs.faults.FirstFault.{IsAnswered}
 use Rattle.elf_image.specs.faults.FunctionFaults.{HasFunctionFault}
 use Rattle.elf_image.specs.faults.LowestPlace.{IsLowest}
 use Rattle.elf_image.proofs.FaultOrder.{IsAnswered-first}
-use Rattle.rv_reloc.specs.Parts.{AreApart}
-use Rattle.rv_reloc.specs.Whole.{AreWholeParts}
+use Rattle.rv_reloc.specs.Parts.{ArePartsApart}
+use Rattle.rv_reloc.specs.WholeParts.{AreWholeParts}
 use Rattle.rv_reloc.proofs.WholeLookup.{AreApart-wholes}
 use Rattle.func_find.specs.FunctionParts.{AreFunctionParts}
 use Rattle.func_find.specs.Targets.{HasMisled}
@@ -18,7 +18,7 @@ use Rattle.func_find.proofs.finding.functions_by.Goals as goal
 pub lowest_bad_start-requires-clause-parts : goal.lowest_bad_start-requires-clause-parts
 lowest_bad_start-requires-clause-parts c =
     let functions = c.in_ok-function_parts.ensures c.args.whole.now c.requires.refs in
-    subst AreApart (sym c.as_slice-kept.ensures.value) (AreApart-functions c.args.elf.now c.args.whole.now _ functions)
+    subst ArePartsApart (sym c.as_slice-kept.ensures.value) (AreApart-functions c.args.elf.now c.args.whole.now _ functions)
 
 pub returns-in-Some-clause-fault : goal.returns-in-Some-clause-fault
 returns-in-Some-clause-fault c =
@@ -52,7 +52,7 @@ functions_of-requires-clause-ordered c =
 
 pub functions_of-requires-clause-wholes : goal.functions_of-requires-clause-wholes
 functions_of-requires-clause-wholes c =
-    subst AreApart (sym c.as_slice-wholes.ensures.value)
+    subst ArePartsApart (sym c.as_slice-wholes.ensures.value)
     (AreApart-wholes c.args.elf.now c.args.whole.now _ c.in_ok-whole_parts.ensures)
 
 pub returns-in-Err-clause-fault : goal.returns-in-Err-clause-fault
@@ -71,7 +71,7 @@ returns-in-Err-clause-fault c =
 pub lowest_misled-requires-clause-parts : goal.lowest_misled-requires-clause-parts
 lowest_misled-requires-clause-parts c =
     let functions = c.in_ok-function_parts.ensures c.args.whole.now c.requires.refs in
-    subst AreApart (sym c.as_slice-kept.ensures.value) (AreApart-functions c.args.elf.now c.args.whole.now _ functions)
+    subst ArePartsApart (sym c.as_slice-kept.ensures.value) (AreApart-functions c.args.elf.now c.args.whole.now _ functions)
 
 pub returns-in-Some-lowest_misled-clause-fault : goal.returns-in-Some-lowest_misled-clause-fault
 returns-in-Some-lowest_misled-clause-fault c =

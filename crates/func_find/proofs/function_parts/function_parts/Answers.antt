@@ -4,7 +4,7 @@ use Rattle.std.proofs.lemmas.List.Elements.{Contains-get_or, All-push}
 use Rattle.elf_image.specs.code.Functions.{IsFunctionPart}
 use Rattle.elf_image.specs.code.Parts.{IsCodePart}
 use Rattle.rv_reloc.specs.declared.parts.Part.{Part}
-use Rattle.rv_reloc.specs.Parts.{Follows}
+use Rattle.rv_reloc.specs.Parts.{Precedes}
 use Rattle.rv_reloc.proofs.Chosen.{chosen_keep, chosen_skip, chosen_all}
 use Rattle.func_find.specs.FunctionParts.{AreFunctionsBefore}
 use Rattle.func_find.proofs.Judged.{AreFunctionsBefore-chosen, IsCodePart-function}
@@ -31,7 +31,7 @@ loop-part-preserved-then-not-is_function c = record {
       subst (AreFunctionsBefore elf tabled x.start) (sym c.deref.ensures.value)
       (AreFunctionsBefore-chosen elf tabled parts kept c.loop-part.part-index d c.requires.parts c.loop-part-test.true chosen) in
       chosen_skip
-      (λ p. IsFunctionPart elf tabled p.start p.end) Follows parts kept c.loop-part.part-index x d c.loop-part-test.true refl
+      (λ p. IsFunctionPart elf tabled p.start p.end) Precedes parts kept c.loop-part.part-index x d c.loop-part-test.true refl
       (λ function. clash _ ((c.is_function.ensures tabled names before).1 function) c.if-not-is_function.true) chosen;
 }
 
@@ -52,7 +52,7 @@ loop-part-preserved c =
           subst (AreFunctionsBefore elf tabled x.start) (sym c.deref.ensures.value)
           (AreFunctionsBefore-chosen elf tabled parts kept c.loop-part.part-index d c.requires.parts
           c.loop-part-test.true chosen) in
-          chosen_keep (λ p. IsFunctionPart elf tabled p.start p.end) Follows parts kept _ c.loop-part.part-index x d
+          chosen_keep (λ p. IsFunctionPart elf tabled p.start p.end) Precedes parts kept _ c.loop-part.part-index x d
           c.requires.parts.ordered c.loop-part-test.true refl
           ((c.is_function.ensures tabled names before).0 c.if-not-is_function.false) c.in_ok-push.ensures.items chosen;
     }
@@ -60,6 +60,6 @@ loop-part-preserved c =
 pub returns : goal.returns
 returns c = λ tabled names.
     chosen_all
-    (λ p. IsFunctionPart c.args.elf.now tabled p.start p.end) Follows c.args.parts.now _ c.loop-part.part-index (omega arith)
+    (λ p. IsFunctionPart c.args.elf.now tabled p.start p.end) Precedes c.args.parts.now _ c.loop-part.part-index (omega arith)
     (λ p function. c.requires.parts.each p (IsCodePart-function c.args.elf.now tabled p.start p.end function))
     (c.loop-part.invariant.chosen tabled names)

@@ -2,7 +2,7 @@ use Rattle.std.proofs.Common.{◌≡◌, ◌∙◌, sym, subst, Bool, true, fals
 use Rattle.std.proofs.lemmas.Result.{IfOk-weaker}
 use Rattle.rv_reloc.specs.Refs.{AreRefs}
 use Rattle.func_find.specs.FunctionParts.{AreFunctionParts}
-use Rattle.func_find.specs.Referred.{AreReferred}
+use Rattle.func_find.specs.Referents.{AreReferred}
 use Rattle.func_find.proofs.Judged.{AreFunctionParts-code}
 use Rattle.func_find.proofs.function_parts.kept_parts.Goals as goal
 

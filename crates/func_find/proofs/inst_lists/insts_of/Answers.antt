@@ -1,5 +1,5 @@
 use Rattle.std.proofs.Common.{sym, subst, refl}
-use Rattle.func_find.specs.InstLists.{ArePlaced}
+use Rattle.func_find.specs.InstLists.{AreInstsOf}
 use Rattle.func_find.proofs.Placing.{ArePlacedTo, placed_none, placed_next, placed_all, first_bad}
 use Rattle.func_find.proofs.inst_lists.insts_of.Goals as goal
 
@@ -21,5 +21,5 @@ loop-address-preserved c =
 
 pub returns-clause-placed : goal.returns-clause-placed
 returns-clause-placed c =
-    subst (ArePlaced c.args.elf.now c.args.part.now.start c.args.part.now.end) (sym c.shrink_to_fit.ensures.items)
+    subst (AreInstsOf c.args.elf.now c.args.part.now.start c.args.part.now.end) (sym c.shrink_to_fit.ensures.items)
     (placed_all c.args.elf.now _ _ c.loop-address.address _ c.loop-address-test.false c.loop-address.invariant)

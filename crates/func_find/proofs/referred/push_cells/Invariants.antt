@@ -1,6 +1,6 @@
 use Rattle.std.proofs.Common.{take}
 use Rattle.rv_code.specs.layout.ProgramCode.{CellNames}
-use Rattle.func_find.specs.Referred.{Gains}
+use Rattle.rb_bytes.specs.Lists.{Gains}
 use Rattle.func_find.proofs.Gains.{Given}
 use Rattle.func_find.proofs.referred.push_cells.Given as goal
 

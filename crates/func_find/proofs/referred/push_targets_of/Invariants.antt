@@ -1,5 +1,6 @@
 use Rattle.std.proofs.Common.{take}
-use Rattle.func_find.specs.Referred.{Gains, GoesTo}
+use Rattle.rb_bytes.specs.Lists.{Gains}
+use Rattle.func_find.specs.Referents.{GoesTo}
 use Rattle.func_find.proofs.Gains.{Given}
 use Rattle.func_find.proofs.referred.push_targets_of.Given as goal
 

@@ -22,7 +22,7 @@ loop-relocation-preserved c =
     claims_next c.args.elf.now c.args.records.now c.loop-relocation.relocation-index _ c.loop-relocation.claims.items _ _
     c.claim_at.result c.claim_after.result
     c.loop-relocation-test.true
-    (get_or_default _ _ _ _ c.loop-relocation-test.true) c.in_ok-push_found.ensures c.in_ok-push_found-2.ensures
+    (get_or_default _ _ _ _ c.loop-relocation-test.true) c.in_ok-push_some.ensures.is c.in_ok-push_some-2.ensures.is
     c.claim_at.ensures.is c.claim_at.ensures.each c.claim_after.ensures.is c.claim_after.ensures.each c.loop-relocation.invariant
 
 pub returns : goal.returns

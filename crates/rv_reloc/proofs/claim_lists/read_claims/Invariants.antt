@@ -1,5 +1,5 @@
 use Rattle.std.proofs.Common.{take}
-use Rattle.rv_reloc.specs.Claimed.{AreClaimsOf}
+use Rattle.rv_reloc.specs.Claims.{AreClaimsOf}
 use Rattle.rv_reloc.proofs.claim_lists.read_claims.Given as goal
 
 abbrev pub invariant-loop-relocation : goal.invariant-loop-relocation

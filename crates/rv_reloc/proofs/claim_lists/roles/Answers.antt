@@ -1,6 +1,6 @@
 use Rattle.std.proofs.Common.{sym, subst, List}
 use Rattle.rv_reloc.specs.declared.roles.Claim.{Claim}
-use Rattle.rv_reloc.specs.Claimed.{AreClaims}
+use Rattle.rv_reloc.specs.Claims.{AreClaims}
 use Rattle.rv_reloc.proofs.ClaimLists.{AreClaims-sorted}
 use Rattle.rv_reloc.proofs.claim_lists.roles.Goals as goal
 

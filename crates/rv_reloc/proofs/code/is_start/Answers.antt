@@ -1,19 +1,12 @@
-use Rattle.std.proofs.Common.{◌≡◌, ◌∙◌, sym, ap, ℕ, ◌<◌, ◌≤◌, ⊎_elim, ◌↔◌, Bool, true, false, IsTrue, List, Result, Ok, Err}
+use Rattle.std.proofs.Common.{◌≡◌, ◌∙◌, sym, ℕ, ◌<◌, ◌≤◌, ⊎_elim, ◌↔◌, Bool, true, false, IsTrue, List, Result, Ok, Err}
 use Rattle.std.proofs.Common.{length, slice_index_or, arith, MatchResult}
 use Rattle.std.specs.Result.{is_ok}
-use Rattle.std.specs.List.{Contains, AllPairs}
+use Rattle.std.specs.List.{Contains}
 use Rattle.std.proofs.lemmas.Bool.{cases_lt}
 use Rattle.std.proofs.lemmas.List.{get_or_default}
 use Rattle.std.proofs.lemmas.List.Sorted.{searched}
+use Rattle.rb_lanes.proofs.Walked.{rising}
 use Rattle.rv_reloc.proofs.code.is_start.Goals as goal
-
-rising : (xs : List ℕ) → AllPairs (λ a b. a < b) xs → (i j : ℕ) → i ≤ j → j < length xs →
-    slice_index_or xs i 0 ≤ slice_index_or xs j 0
-rising xs up i j upto within =
-    ⊎_elim
-    (λ (less : i < j). let r = up i j 0 less within in omega arith)
-    (λ (more : j ≤ i). let e : i ≡ j = omega arith in let s = ap (λ (k : ℕ). slice_index_or xs k 0) e in omega arith)
-    (cases_lt i j)
 
 found : (xs : List ℕ) (a : ℕ) (r : Result ℕ ℕ) (b : Bool) → b ≡ is_ok r →
     MatchResult r (λ i. (i < length xs) × (slice_index_or xs i 0 ≡ a))
@@ -29,4 +22,4 @@ found xs a (Err i) b is (bound, below, above) = (
 
 pub returns : goal.returns
 returns c = found c.args.addresses.now c.args.address _ _ c.is_ok.ensures.value
-    (searched _ _ _ c.binary_search.ensures.position (rising c.args.addresses.now c.requires))
+    (searched _ _ _ c.binary_search.ensures.position (λ i j. rising (λ (n : ℕ). n) c.args.addresses.now c.requires i j 0))

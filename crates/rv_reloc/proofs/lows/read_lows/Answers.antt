@@ -14,7 +14,7 @@ loop-record-preserved c =
     (λ r low. IsLowOf c.args.elf.now
     (seen r) low) c.args.records.now c.loop-record.record-index _ c.loop-record.lows.items _
     c.low_of.result c.loop-record-test.true
-    (get_or_default _ _ _ _ c.loop-record-test.true) c.in_ok-push_found.ensures c.low_of.ensures.is
+    (get_or_default _ _ _ _ c.loop-record-test.true) c.in_ok-push_some.ensures.is c.low_of.ensures.is
     c.low_of.ensures.only c.loop-record.invariant
 
 pub returns : goal.returns

@@ -1,5 +1,5 @@
 use Rattle.std.proofs.Common.{take}
-use Rattle.rv_reloc.specs.Found.{AreFound}
+use Rattle.rv_reloc.specs.Finds.{AreFound}
 use Rattle.rv_reloc.specs.Lows.{IsLowOf}
 use Rattle.rv_reloc.specs.Records.{seen}
 use Rattle.rv_reloc.proofs.lows.read_lows.Given as goal

@@ -1,6 +1,6 @@
 use Rattle.std.proofs.Common.{take}
-use Rattle.rv_reloc.specs.Found.{AreFound}
-use Rattle.rv_reloc.specs.Named.{NamesUpper}
+use Rattle.rv_reloc.specs.Finds.{AreFound}
+use Rattle.rv_reloc.specs.NamedAddresses.{NamesUpper}
 use Rattle.rv_reloc.specs.Records.{seen}
 use Rattle.rv_reloc.proofs.named.read_named.Given as goal
 

@@ -11,7 +11,7 @@ pub loop-low-preserved : goal.loop-low-preserved
 loop-low-preserved c =
     AreFound-next
     (IsFar c.args.elf.now) c.args.lows.now c.loop-low.low-index _ c.loop-low.far.items _ c.far_of.result c.loop-low-test.true
-    (get_or_default _ _ _ _ c.loop-low-test.true) c.in_ok-push_found.ensures c.far_of.ensures.is
+    (get_or_default _ _ _ _ c.loop-low-test.true) c.in_ok-push_some.ensures.is c.far_of.ensures.is
     c.far_of.ensures.only c.loop-low.invariant
 
 pub returns : goal.returns

@@ -1,6 +1,6 @@
 use Rattle.std.proofs.Common.{arith, subst, sym}
 use Rattle.rv_code.specs.layout.Lists.{ListsAll}
-use Rattle.rv_reloc.specs.Parts.{Follows}
+use Rattle.rv_reloc.specs.Parts.{Precedes}
 use Rattle.rv_reloc.proofs.Cuts.{AreCuts, parts_begin, parts_push, parts_skip, parts_end, read_rises}
 use Rattle.rv_reloc.proofs.parts.code_parts.Goals as goal
 
@@ -14,7 +14,7 @@ pub loop-index-init : goal.loop-index-init
 loop-index-init c =
     let are : AreCuts c.args.elf.now c.in_ok-cuts.cuts.items =
     record { ascending = c.in_ok-cuts.ensures.ascending; exact = c.in_ok-cuts.ensures.exact } in
-    subst (ListsAll _ Follows) (sym c.new-parts.ensures.items) (parts_begin c.args.elf.now c.in_ok-cuts.cuts.items are)
+    subst (ListsAll _ Precedes) (sym c.new-parts.ensures.items) (parts_begin c.args.elf.now c.in_ok-cuts.cuts.items are)
 
 pub loop-index-preserved-then-not-is_code_stretch : goal.loop-index-preserved-then-not-is_code_stretch
 loop-index-preserved-then-not-is_code_stretch c =

@@ -2,7 +2,7 @@ use Rattle.std.proofs.Common.{sym, subst}
 use Rattle.std.proofs.lemmas.Result.{err_from_is_err_and}
 use Rattle.elf_image.specs.faults.FirstFault.{IsAnswered}
 use Rattle.elf_image.specs.faults.ReferenceFaults.{HasReferenceFault}
-use Rattle.rv_reloc.specs.Parts.{AreApart}
+use Rattle.rv_reloc.specs.Parts.{ArePartsApart}
 use Rattle.rv_reloc.specs.Cells.{HasAddresses}
 use Rattle.rv_reloc.proofs.ReferenceFaultOrder.{asked, lacks_all, no_misfit, no_mismatch, all_addresses, passed_on, passed_from}
 use Rattle.rv_reloc.proofs.WholeLookup.{AreApart-wholes}
@@ -10,11 +10,11 @@ use Rattle.rv_reloc.proofs.refs.references_by.Goals as goal
 
 pub counted_fields-requires-clause-wholes : goal.counted_fields-requires-clause-wholes
 counted_fields-requires-clause-wholes c =
-    subst AreApart (sym c.deref.ensures.value) (AreApart-wholes c.args.elf.now c.args.whole.now _ c.in_ok-wholes.ensures)
+    subst ArePartsApart (sym c.deref.ensures.value) (AreApart-wholes c.args.elf.now c.args.whole.now _ c.in_ok-wholes.ensures)
 
 pub check-requires-clause-wholes : goal.check-requires-clause-wholes
 check-requires-clause-wholes c =
-    subst AreApart (sym c.deref-4.ensures.value) (AreApart-wholes c.args.elf.now c.args.whole.now _ c.in_ok-wholes.ensures)
+    subst ArePartsApart (sym c.deref-4.ensures.value) (AreApart-wholes c.args.elf.now c.args.whole.now _ c.in_ok-wholes.ensures)
 
 pub returns-in_err-check-clause-fault : goal.returns-in_err-check-clause-fault
 returns-in_err-check-clause-fault c =

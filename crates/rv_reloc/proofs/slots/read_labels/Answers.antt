@@ -14,7 +14,7 @@ loop-relocation-preserved c =
     AreFound-next
     (λ r s. IsSlotLabelOf c.args.elf.now
     (seen r) s) c.args.records.now c.loop-relocation.relocation-index _ c.loop-relocation.labels.items _ c.slot_label.result
-    c.loop-relocation-test.true (get_or_default _ _ _ _ c.loop-relocation-test.true) c.in_ok-push_found.ensures
+    c.loop-relocation-test.true (get_or_default _ _ _ _ c.loop-relocation-test.true) c.in_ok-push_some.ensures.is
     c.slot_label.ensures.is c.slot_label.ensures.only c.loop-relocation.invariant
 
 pub returns : goal.returns

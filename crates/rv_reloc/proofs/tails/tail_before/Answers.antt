@@ -1,5 +1,5 @@
 use Rattle.std.proofs.Common.{sym, subst, ◌+◌, Option}
-use Rattle.rv_reloc.specs.declared.tails.Tail.{Tail}
+use Rattle.rv_reloc.specs.declared.tails.LebRest.{LebRest}
 use Rattle.rv_reloc.specs.Tails.{TailAt}
 use Rattle.rv_reloc.proofs.Lebs.{tail-unloaded, tail-last, tail-more, tail-never}
 use Rattle.rv_reloc.proofs.tails.tail_before.Goals as goal
@@ -14,12 +14,12 @@ returns-then-byte-lt128 c =
 
 pub returns-in-Some-next : goal.returns-in-Some-next
 returns-in-Some-next c =
-    let next = subst (λ (o : Option Tail). TailAt c.args.elf.now (c.args.address + 1) o) c.in-Some-next.is c.requires.next in
+    let next = subst (λ (o : Option LebRest). TailAt c.args.elf.now (c.args.address + 1) o) c.in-Some-next.is c.requires.next in
     tail-more _ _ _ c.in-Some-next.tail _
     (sym c.in-Some.ensures.value) c.if-byte-lt128.false next c.longer_tail.ensures.end c.longer_tail.ensures.zeros
     c.longer_tail.ensures.ones
 
 pub returns-in-None-next : goal.returns-in-None-next
 returns-in-None-next c =
-    let next = subst (λ (o : Option Tail). TailAt c.args.elf.now (c.args.address + 1) o) c.in-None-next.is c.requires.next in
+    let next = subst (λ (o : Option LebRest). TailAt c.args.elf.now (c.args.address + 1) o) c.in-None-next.is c.requires.next in
     tail-never _ _ _ (sym c.in-Some.ensures.value) c.if-byte-lt128.false next

@@ -3,14 +3,14 @@ use Rattle.std.specs.List.Sorted.{IsPartitionedBy}
 use Rattle.std.proofs.lemmas.Int.{ints}
 use Rattle.std.proofs.lemmas.List.Sorted.{IsPartitionPoint-from_clause}
 use Rattle.rv_reloc.specs.declared.parts.Part.{Part}
-use Rattle.rv_reloc.specs.Parts.{AreApart}
+use Rattle.rv_reloc.specs.Parts.{ArePartsApart}
 use Rattle.rv_reloc.proofs.PartLookup.{rising}
 use Rattle.rv_reloc.proofs.whole.count_up_to.Goals as goal
 
 lower_passes : (a b : ℕ) (z : ℤ) → a ≤ b → int_le (pos b) z ≡ true → int_le (pos a) z ≡ true
 lower_passes a b z upto passes = grind (arith, ints)
 
-parted : (parts : List Part) (label : ℤ) → AreApart parts → IsPartitionedBy (λ p. int_le (pos p.start) label) parts
+parted : (parts : List Part) (label : ℤ) → ArePartsApart parts → IsPartitionedBy (λ p. int_le (pos p.start) label) parts
 parted parts label are i j d upto within passes = lower_passes _ _ label (rising parts are i j d upto within) passes
 
 passes_by : (a : ℕ) (z : ℤ) → int_le (pos a) z ≡ true → pos a ≤ℤ z

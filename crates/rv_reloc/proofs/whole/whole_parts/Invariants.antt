@@ -1,7 +1,7 @@
 use Rattle.elf_image.specs.code.Parts.{IsWholePart}
-use Rattle.rv_reloc.specs.Parts.{Follows}
+use Rattle.rv_reloc.specs.Parts.{Precedes}
 use Rattle.rv_reloc.proofs.Chosen.{ChosenOf}
 use Rattle.rv_reloc.proofs.whole.whole_parts.Given as goal
 
 abbrev pub invariant-loop-part : goal.invariant-loop-part
-invariant-loop-part l = ChosenOf (λ p. IsWholePart l.elf l.tabled p.start p.end) Follows l.parts l.part-index l.wholes.items
+invariant-loop-part l = ChosenOf (λ p. IsWholePart l.elf l.tabled p.start p.end) Precedes l.parts l.part-index l.wholes.items

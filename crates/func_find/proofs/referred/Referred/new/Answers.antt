@@ -3,13 +3,15 @@ use Rattle.std.proofs.lemmas.List.Kept.{AllPairs-from_increasing}
 use Rattle.rv_code.specs.declared.placed.Role.{Role}
 use Rattle.rv_code.specs.declared.cell.CodeCell.{CodeCell}
 use Rattle.rv_code.specs.layout.ProgramCode.{RoleNames, CellNames}
-use Rattle.rv_reloc.proofs.Inside.{rising}
-use Rattle.func_find.specs.Referred.{Gains}
+use Rattle.rb_bytes.specs.Lists.{Gains}
+use Rattle.rb_lanes.proofs.Walked.{rising}
 use Rattle.func_find.proofs.ReferredLists.{AreReferred-lists}
 use Rattle.func_find.proofs.referred.Referred.new.Goals as goal
 
 pub invariant_of-result : goal.invariant_of-result
-invariant_of-result c = record { rising = rising _ (AllPairs-from_increasing _ c.make_ascending.ensures.ascending) }
+invariant_of-result c = record {
+  rising = rising (λ (n : ℕ). n) _ (AllPairs-from_increasing _ c.make_ascending.ensures.ascending);
+}
 
 pub returns : goal.returns
 returns c = λ tabled refers.

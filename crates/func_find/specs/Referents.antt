@@ -1,5 +1,5 @@
 -- The addresses that are referred to, as they are collected.
-use Rattle.std.specs.Prelude.{◌≡◌, ◌⊎◌, ◌↔◌, ℕ, List, Some, Contains}
+use Rattle.std.specs.Prelude.{◌≡◌, ◌↔◌, ℕ, List, Some, Contains}
 use Rattle.rv_code.specs.declared.inst.Inst.{Inst}
 use Rattle.rv_code.specs.isa.Action.{action_of}
 use Rattle.rv_code.specs.layout.Flow.{target}
@@ -7,11 +7,7 @@ use Rattle.elf_image.specs.declared.elf.Elf.{Elf}
 use Rattle.elf_image.specs.code.Parts.{StartsIn}
 use Rattle.elf_image.specs.code.Functions.{IsReferred}
 use Rattle.rv_reloc.specs.declared.parts.Part.{Part}
-use Rattle.func_find.specs.Valid.{IsValidBefore}
-
--- a list got all members of a set, and nothing else
-abbrev pub Gains : {A : Type 0} → List A → List A → (A → Type 0) → Type 0
-Gains {A} old new Is = (a : A) → Contains new a ↔ (Contains old a ⊎ Is a)
+use Rattle.func_find.specs.ValidInsts.{IsValidBefore}
 
 -- the instruction at an address goes to another
 pub record GoesTo (elf : Elf) (end from to : ℕ) : Type 0 where

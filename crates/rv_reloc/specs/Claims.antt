@@ -41,8 +41,8 @@ pub record AreClaims (elf : Elf) (claims : List Claim) : Type 0 where
       (c : Claim) × Contains claims c × (c.at ≡ a) × IsUpTo c.kind c.key r.kind key
 
 -- no claim before the one of an index is at its address
-abbrev pub IsFirst : List Claim → ℕ → Type 0
-IsFirst claims k = (j : ℕ) (d : Claim) → j < k → (slice_index_or claims j d).at < (slice_index_or claims k d).at
+abbrev pub IsFirstClaim : List Claim → ℕ → Type 0
+IsFirstClaim claims k = (j : ℕ) (d : Claim) → j < k → (slice_index_or claims j d).at < (slice_index_or claims k d).at
 
 abbrev pub absolute_role : ℕ → ℕ → Role
 absolute_role kind target = if kind == R_RISCV_HI20 then AbsHi target else AbsLo target

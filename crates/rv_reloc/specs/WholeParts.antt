@@ -4,11 +4,11 @@ use Rattle.rv_code.specs.layout.Lists.{ListsAll}
 use Rattle.elf_image.specs.declared.elf.Elf.{Elf}
 use Rattle.elf_image.specs.code.Parts.{IsWholePart}
 use Rattle.rv_reloc.specs.declared.parts.Part.{Part}
-use Rattle.rv_reloc.specs.Parts.{Follows}
+use Rattle.rv_reloc.specs.Parts.{Precedes}
 
 -- all whole parts, by address
 abbrev pub AreWholeParts : Elf → List (ℕ × ℕ) → List Part → Type 0
-AreWholeParts elf tabled wholes = ListsAll (λ p. IsWholePart elf tabled p.start p.end) Follows wholes
+AreWholeParts elf tabled wholes = ListsAll (λ p. IsWholePart elf tabled p.start p.end) Precedes wholes
 
 -- a part holds both labels, its end included
 pub record HoldsBoth (to from : ℤ) (p : Part) : Type 0 where

@@ -11,8 +11,8 @@ abbrev pub content : Content → cells.Content
 content (Address to) = cells.Address to
 content (Difference to from) = cells.Difference to from
 
-abbrev pub field : Candidate → cells.Field
-field c = record { place = c.place; width = c.width; content = content c.content }
+abbrev pub as_field : Candidate → cells.Field
+as_field c = record { place = c.place; width = c.width; content = content c.content }
 
 -- The order of a sort by place, width and content, in which two addresses are told apart too.
 
