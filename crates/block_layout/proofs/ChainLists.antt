@@ -12,7 +12,7 @@ use Rattle.std.proofs.lemmas.List.Quantifiers.{all_pairs_push}
 use Rattle.std.proofs.lemmas.List.Sorted.{Contains-permutation, IsPermutation-sym, IsPermutation-map}
 use Rattle.block_layout.specs.Links.{Links, IsChain}
 use Rattle.block_layout.specs.Parts.{greatest}
-use Rattle.block_layout.specs.Walks.{AreBetween, IsHotBetween, AreHotBetween, IsUpTo, heads}
+use Rattle.block_layout.specs.Walks.{AreBetween, IsHotBetween, AreHotBetween, IsUpTo, chain_heads}
 use Rattle.block_layout.specs.declared.hot_chains.HotChain.{HotChain}
 use Rattle.block_layout.proofs.Paths.{IsWithin, as_path, inside_path}
 use Rattle.addr_map.proofs.Orders.{AllPairs-permutation}
@@ -60,7 +60,8 @@ chain_inside n p h xs between below chain k d within =
 
 pub record AreHotTo (p : Links) (weight : ℕ → ℕ) (start end : ℕ) (chains : List HotChain) : Type 0 where
   pub only : (c : HotChain) → Contains chains c → IsHotBetween p weight start end c
-  pub each : (h : ℕ) (xs : List ℕ) → start < h → h < end → IsChain p h xs → 0 < greatest weight xs → Contains (heads chains) h
+  pub each : (h : ℕ) (xs : List ℕ) → start < h → h < end → IsChain p h xs → 0 < greatest weight xs →
+      Contains (chain_heads chains) h
   pub rise : AllPairs (λ c d. c.head < d.head) chains
 
 none_in : {X : Type 0} (x : X) → Contains [] x → ⊥
@@ -104,12 +105,13 @@ module _ {p : Links} {weight : ℕ → ℕ} {start h : ℕ} {chains : List HotCh
         (λ (same : c ≡ d). subst (λ (e : HotChain). IsHotBetween p weight start (h + 1) e) same own)
         (Contains-push_cases chains c d listed);
     each = λ g xs after' before is' hot'.
-        let more : heads (chains ++ c ∷ []) ≡ heads chains ++ c.head ∷ [] =
+        let more : chain_heads (chains ++ c ∷ []) ≡ chain_heads chains ++ c.head ∷ [] =
         map-append (λ (d : HotChain). d.head) chains (c ∷ []) in
         subst (λ (hs : List ℕ). Contains hs g) (sym more) (⊎_elim
-        (λ (same : g ≡ h). subst (λ (k : ℕ). Contains (heads chains ++ c.head ∷ []) k) (at ∙ sym same)
-        (Contains-push (heads chains) c.head))
-        (λ (other : g ≢ h). Contains-append_left (heads chains) (c.head ∷ []) g (was.each g xs after' (omega arith) is' hot'))
+        (λ (same : g ≡ h). subst (λ (k : ℕ). Contains (chain_heads chains ++ c.head ∷ []) k) (at ∙ sym same)
+        (Contains-push (chain_heads chains) c.head))
+        (λ (other : g ≢ h). Contains-append_left (chain_heads chains) (c.head ∷ []) g
+        (was.each g xs after' (omega arith) is' hot'))
         (cases_eq g h));
     rise = all_pairs_push (λ x y. x.head < y.head) chains c was.rise
         (λ k d within. let b = (was.only (get_or chains k d) (Contains-get_or chains k d within)).before in omega arith);
@@ -129,7 +131,7 @@ pub hot_all : {p : Links} {weight : ℕ → ℕ} {start end : ℕ} {old new : Li
 hot_all {old = old} {new = new} are moved = record {
   only = λ c listed. are.only c (Contains-permutation new old c (IsPermutation-sym old new moved) listed);
   each = λ h xs after before is hot.
-      Contains-permutation (heads old) (heads new) h (IsPermutation-map (λ (c : HotChain). c.head) old new moved)
+      Contains-permutation (chain_heads old) (chain_heads new) h (IsPermutation-map (λ (c : HotChain). c.head) old new moved)
       (are.each h xs after before is hot);
   apart = AllPairs-permutation (λ c d. (c.head ≡ d.head) → ⊥) (λ c d other same. other (sym same)) old new moved
       (λ i j d less within same. let up = are.rise i j d less within in omega arith);

@@ -12,7 +12,8 @@ use Rattle.std.specs.Option.{option_map_or}
 use Rattle.std.proofs.lemmas.Option.{slice_get-get_or}
 use Rattle.rv_code.specs.declared.placed.Func.{Func}
 use Rattle.rv_code.specs.declared.placed.Block.{Block}
-use Rattle.block_layout.specs.EdgeCounts.{inst_address, edge_count}
+use Rattle.rv_code.specs.layout.Blocks.{inst_address}
+use Rattle.block_layout.specs.EdgeCounts.{edge_count}
 use Rattle.block_layout.specs.EdgeLists.{AreCounted, HaveOtherEnds}
 use Rattle.block_layout.specs.declared.edge_counts.Edge.{Edge}
 use Rattle.addr_map.proofs.Orders.{AllPairs-permutation}

@@ -11,9 +11,10 @@ use Rattle.std.proofs.lemmas.List.Elements.{Contains-append_cases, Contains-get_
 use Rattle.std.proofs.lemmas.Option.{slice_get-get_or}
 use Rattle.rv_code.specs.declared.placed.Block.{Block}
 use Rattle.rv_code.specs.layout.Lists.{ListsNumbers}
+use Rattle.rv_code.specs.layout.BlockOrders.{blocks_of_function}
 use Rattle.block_layout.specs.FunctionParts.{IsHotOrEmpty}
 use Rattle.block_layout.specs.Links.{Links, IsChain}
-use Rattle.block_layout.specs.Parts.{IsOf, blocks_of_function}
+use Rattle.block_layout.specs.Parts.{IsOf}
 use Rattle.block_layout.specs.Walks.{AreBetween, AreFrom, IsHotList}
 use Rattle.block_layout.specs.declared.hot_chains.HotChain.{HotChain}
 use Rattle.block_layout.proofs.Members.{Distinct, none_in, same_members, is_in, distinct_append, in_filter, from_filter, in_range}

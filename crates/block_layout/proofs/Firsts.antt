@@ -6,7 +6,7 @@ use Rattle.std.proofs.lemmas.Bool.{cases_lt, eq-eqb, ne_eqb}
 use Rattle.std.proofs.lemmas.List.{get_or_default}
 use Rattle.std.proofs.lemmas.Option.{slice_get-get_or}
 use Rattle.rv_code.specs.declared.placed.Block.{Block}
-use Rattle.edge_profile.specs.BlockPlaces.{AreApart, IsApart}
+use Rattle.edge_profile.specs.BlockPlaces.{AreBlocksApart, IsApart}
 use Rattle.block_layout.specs.Parts.{IsOf, IsFirstBlock}
 
 -- the block at a place of a list
@@ -19,7 +19,7 @@ get_or-IsOf blocks f k d within is =
     subst (λ (o : Option Block). IsSomeAnd o (λ b. b.func ≡ f)) (slice_get-get_or blocks k d within) is
 
 -- functions rise along the blocks
-pub funcs_rise : (blocks : List Block) → AreApart blocks → (i j : ℕ) (d : Block) → i ≤ j → j < length blocks →
+pub funcs_rise : (blocks : List Block) → AreBlocksApart blocks → (i j : ℕ) (d : Block) → i ≤ j → j < length blocks →
     (get_or blocks i d).func ≤ (get_or blocks j d).func
 funcs_rise blocks apart i j d le within = ⊎_elim
     (λ (less : i < j). up (get_or blocks i d) (get_or blocks j d) (apart.ordered i j d less within))
@@ -32,7 +32,7 @@ funcs_rise blocks apart i j d le within = ⊎_elim
     up b c (inl less) = omega arith
     up b c (inr (same, less)) = omega arith
 
-module _ (blocks : List Block) (apart : AreApart blocks) (k : ℕ) (d e : Block) (within : k < length blocks) where
+module _ (blocks : List Block) (apart : AreBlocksApart blocks) (k : ℕ) (d e : Block) (within : k < length blocks) where
   first_is : ((j : ℕ) → j < k → IsOf blocks (get_or blocks k d).func j → ⊥) → IsFirstBlock blocks k
   first_is none = subst (λ (o : Option Block). IsSomeAnd o (λ b. (j : ℕ) → j < k → IsOf blocks b.func j → ⊥))
       (sym (slice_get-get_or blocks k d within)) none

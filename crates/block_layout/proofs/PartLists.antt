@@ -6,9 +6,9 @@ use Rattle.std.proofs.lemmas.Bool.{cases_lt}
 use Rattle.std.proofs.lemmas.List.{get_or_append_left, map-append, length-map, length-append}
 use Rattle.std.proofs.Math.Seq.{get_or-append_seam}
 use Rattle.rv_code.specs.declared.placed.Block.{Block}
+use Rattle.rv_code.specs.layout.BlockOrders.{list_of}
 use Rattle.block_layout.specs.FunctionParts.{AreSplit, AreSplitTo}
 use Rattle.block_layout.specs.Links.{Links}
-use Rattle.block_layout.specs.Parts.{list_of}
 
 abbrev Lists : Type 0
 Lists = Vec (Vec ℕ Global) Global

@@ -10,7 +10,7 @@ use Rattle.rv_code.specs.layout.Lists.{ListsNumbers}
 use Rattle.block_layout.specs.FunctionParts.{IsHotOrEmpty, AreSplit}
 use Rattle.block_layout.specs.Links.{Links, IsChain}
 use Rattle.block_layout.specs.Parts.{Chain, IsOf, IsFirstBlock, IsHotChain, IsChainBefore, IsHotPart, greatest}
-use Rattle.block_layout.specs.Walks.{AreBetween, AreFrom, AreInner, AreHotBetween, IsHotList, IsUpTo, chain_of, heads}
+use Rattle.block_layout.specs.Walks.{AreBetween, AreFrom, AreInner, AreHotBetween, IsHotList, IsUpTo, chain_of, chain_heads}
 use Rattle.block_layout.specs.declared.hot_chains.HotChain.{HotChain}
 use Rattle.block_layout.proofs.ChainLists.{same_chain}
 use Rattle.block_layout.proofs.Disjoint.{all_blocks}
@@ -111,9 +111,10 @@ module _ (blocks : List Block) (p : Links) (weight : ℕ → ℕ) (f start end :
         let apart : start ≢ x.0 = λ same. is.not_first (subst (IsFirstBlock blocks) same (first_here some)) in
         found (are.each x.0 x.1 (omega arith) range.1 is.chain is.hot)
       where
-        found : Contains (heads others) x.0 → Contains (map chain_of others) x
+        found : Contains (chain_heads others) x.0 → Contains (map chain_of others) x
         found (k, within, at) =
-            let inside : k < length others = let same : length (heads others) ≡ length others = simp length-map in omega arith in
+            let inside : k < length others = let same : length (chain_heads others) ≡ length others =
+            simp length-map in omega arith in
             let d = any others k inside in
             let c = get_or others k d in
             let head : c.head ≡ x.0 = sym (get_or-map (λ (e : HotChain). e.head) others k d x.0 inside) ∙ at in

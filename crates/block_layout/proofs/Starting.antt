@@ -4,8 +4,8 @@ use Rattle.std.specs.Prelude.{IsSomeAnd}
 use Rattle.std.proofs.lemmas.Bool.{cases_lt}
 use Rattle.std.proofs.lemmas.Option.{slice_get_past}
 use Rattle.rv_code.specs.declared.placed.Block.{Block}
-use Rattle.edge_profile.specs.BlockPlaces.{AreApart}
-use Rattle.block_layout.specs.FunctionParts.{IsStart}
+use Rattle.edge_profile.specs.BlockPlaces.{AreBlocksApart}
+use Rattle.block_layout.specs.FunctionParts.{IsFirstOf}
 use Rattle.block_layout.specs.Parts.{IsOf}
 use Rattle.block_layout.specs.Walks.{AreFrom}
 use Rattle.block_layout.proofs.Firsts.{IsOf-get_or, get_or-IsOf, funcs_rise}
@@ -21,12 +21,13 @@ IsOf-within blocks f k is = ⊎_elim
     (subst (λ (o : Option Block). IsSomeAnd o (λ b. b.func ≡ f)) (slice_get_past blocks k past) is))
     (cases_lt k (length blocks))
 
-pub start_at_none : (blocks : List Block) → IsStart blocks 0 0
+pub start_at_none : (blocks : List Block) → IsFirstOf blocks 0 0
 start_at_none blocks =
     record { within = omega arith; below = λ k g less is. absurd (omega arith); above = λ k g le is. omega arith }
 
 -- the blocks from one place to before another are of a function, and no block after them is
-module _ (blocks : List Block) (apart : AreApart blocks) (f start end : ℕ) (is : IsStart blocks f start) (from : start ≤ end)
+module _ (blocks : List Block) (apart : AreBlocksApart blocks) (f start end : ℕ) (is : IsFirstOf blocks f start)
+    (from : start ≤ end)
     (to : end ≤ length blocks)
     (own : (k : ℕ) (d : Block) → start ≤ k → k < end → (get_or blocks k d).func ≡ f)
     (past : (d : Block) → end < length blocks → (get_or blocks end d).func ≢ f) where
@@ -53,7 +54,7 @@ module _ (blocks : List Block) (apart : AreApart blocks) (f start end : ℕ) (is
     );
   }
 
-  pub start_next : IsStart blocks (f + 1) end
+  pub start_next : IsFirstOf blocks (f + 1) end
   start_next = record {
     within = to;
     below = λ k g less listed. ⊎_elim

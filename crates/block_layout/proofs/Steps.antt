@@ -3,12 +3,12 @@ use Rattle.std.proofs.Common.{ℕ, ◌≡◌, ◌≢◌, ◌<◌, ◌≤◌, ◌
 use Rattle.std.proofs.Common.{ap, ⊎_elim, subst, Bool, true}
 use Rattle.std.proofs.lemmas.Bool.{cases_eq}
 use Rattle.std.proofs.Common.{get_or, set, length-set, get_or-set_same, get_or-set_other}
-use Rattle.block_layout.specs.Linking.{IsEdge, Taken, Runs, Refused, IsLinked, KnowsEnds, ends_at, told}
+use Rattle.block_layout.specs.FirstLinks.{Taken, Refused, IsLinked, KnowsEnds, told, LinksLead, IsEdgeNumber, ends_of_edge}
 use Rattle.block_layout.specs.Links.{Links}
 use Rattle.block_layout.specs.declared.edge_counts.Edge.{Edge}
 use Rattle.block_layout.specs.declared.links.ChainLinks.{ChainLinks}
-use Rattle.block_layout.specs.Linking.Runs.{stays, goes}
-use Rattle.block_layout.specs.Linking.Refused.{source_taken, target_taken, first_block, closes}
+use Rattle.block_layout.specs.FirstLinks.LinksLead.{stays, goes}
+use Rattle.block_layout.specs.FirstLinks.Refused.{source_taken, target_taken, first_block, closes}
 
 -- each neighbour of p is one of q
 pub record Grows (p q : Links) : Type 0 where
@@ -17,11 +17,11 @@ pub record Grows (p q : Links) : Type 0 where
 pub Taken-grow : {es : List Edge} {p q : Links} {k m s t : ℕ} → Grows p q → k ≤ m → Taken es p k s t → Taken es q m s t
 Taken-grow g le w = record { joined = g.keeps _ _ w.joined; by = (w.by.0, omega (arith, w.by.1), w.by.2) }
 
-pub Runs-grow : {es : List Edge} {p q : Links} {k m x y : ℕ} → Grows p q → k ≤ m → Runs es p k x y → Runs es q m x y
+pub Runs-grow : {es : List Edge} {p q : Links} {k m x y : ℕ} → Grows p q → k ≤ m → LinksLead es p k x y → LinksLead es q m x y
 Runs-grow g le stays = stays
 Runs-grow g le (goes r t) = goes (Runs-grow g le r) (Taken-grow g le t)
 
-pub Runs-join : {es : List Edge} {p : Links} {k x y z : ℕ} → Runs es p k x y → Runs es p k y z → Runs es p k x z
+pub Runs-join : {es : List Edge} {p : Links} {k x y z : ℕ} → LinksLead es p k x y → LinksLead es p k y z → LinksLead es p k x z
 Runs-join r stays = r
 Runs-join r (goes u t) = goes (Runs-join r u) t
 
@@ -36,14 +36,14 @@ pub Grows-refl : (p : Links) → Grows p p
 Grows-refl p = record { keeps = λ s t e. e }
 
 -- an index has one edge
-pub same_edge : (es : List Edge) (i k x y s t : ℕ) → IsEdge es i x y → IsEdge es k s t → i ≡ k → (x ≡ s) × (y ≡ t)
+pub same_edge : (es : List Edge) (i k x y s t : ℕ) → IsEdgeNumber es i x y → IsEdgeNumber es k s t → i ≡ k → (x ≡ s) × (y ≡ t)
 same_edge es i k x y s t e f same =
-    let both : ends_at es i ≡ ends_at es k = ap (ends_at es) same in
+    let both : ends_of_edge es i ≡ ends_of_edge es k = ap (ends_of_edge es) same in
     let h : (x, y) ≡ (s, t) = sym e.1 ∙ both ∙ f.1 in
     (ap (λ (p : ℕ × ℕ). p.0) h, ap (λ (p : ℕ × ℕ). p.1) h)
 
 -- ---- an edge that makes no neighbours
-pub refuse : {es : List Edge} {n : ℕ} {IsFirst : ℕ → Type 0} {k : ℕ} {p : Links} (s t : ℕ) → IsEdge es k s t →
+pub refuse : {es : List Edge} {n : ℕ} {IsFirst : ℕ → Type 0} {k : ℕ} {p : Links} (s t : ℕ) → IsEdgeNumber es k s t →
     Refused es p IsFirst k s t → IsLinked es n IsFirst k p → IsLinked es n IsFirst (k + 1) p
 refuse {es} {n} {IsFirst} {k} {p} s t at why l = record {
   each = λ i x y below e. ⊎_elim
@@ -93,12 +93,12 @@ Joins-grow {p} {q} {head} {tail} {head'} {tail'} {s} {t} none j = record {
 }
 
 pub accept : {es : List Edge} {n : ℕ} {IsFirst : ℕ → Type 0} {k : ℕ} {p q : Links} {head tail head' tail' : ℕ → ℕ} {s t : ℕ} →
-    IsEdge es k s t → Free p head n IsFirst s t → Joins p q head tail head' tail' s t → KnowsEnds es n k p head tail →
+    IsEdgeNumber es k s t → Free p head n IsFirst s t → Joins p q head tail head' tail' s t → KnowsEnds es n k p head tail →
     IsLinked es n IsFirst k p → IsLinked es n IsFirst (k + 1) q
 accept {es} {n} {IsFirst} {k} {p} {q} {head} {tail} {head'} {tail'} {s} {t} at f j u l =
     let g : Grows p q = Joins-grow f.no_next j in
     let new : Taken es q (k + 1) s t = record { joined = j.next_here; by = (k, omega arith, at) } in
-    let ends : (p.prev (head s) ≡ None) × (tail (head s) ≡ s) × Runs es p k (head s) s = u.ends s f.s_in f.no_next in
+    let ends : (p.prev (head s) ≡ None) × (tail (head s) ≡ s) × LinksLead es p k (head s) s = u.ends s f.s_in f.no_next in
     record {
       each = λ i x y below e. ⊎_elim
           (λ (same : i ≡ k). let h : (x ≡ s) × (y ≡ t) = same_edge es i k x y s t e at same in rw (h.0, h.1) (inl j.next_here))
@@ -131,7 +131,7 @@ accept {es} {n} {IsFirst} {k} {p} {q} {head} {tail} {head'} {tail'} {s} {t} at f
           (cases_eq y t);
       free = λ x is. j.prev_else x (λ (same : x ≡ t). f.not_first (subst IsFirst same is)) ∙ l.free x is;
       whole = λ x below. let w = l.whole x below in ⊎_elim
-          (λ (same : w.0 ≡ t). let h : Runs es p k t x = rw (sym same) w.3 in
+          (λ (same : w.0 ≡ t). let h : LinksLead es p k t x = rw (sym same) w.3 in
           let a : q.prev (head s) ≡ None = j.prev_else (head s) f.apart ∙ ends.0 in (
             head s,
             (u.inside s f.s_in).0,
@@ -143,18 +143,19 @@ accept {es} {n} {IsFirst} {k} {p} {q} {head} {tail} {head'} {tail'} {s} {t} at f
     }
 
 pub ends_accept : {es : List Edge} {n : ℕ} {IsFirst : ℕ → Type 0} {k : ℕ} {p q : Links} {head tail head' tail' : ℕ → ℕ}
-    {s t : ℕ} → IsEdge es k s t → Free p head n IsFirst s t → Joins p q head tail head' tail' s t → KnowsEnds es n k p head tail →
+    {s t : ℕ} → IsEdgeNumber es k s t → Free p head n IsFirst s t → Joins p q head tail head' tail' s t →
+    KnowsEnds es n k p head tail →
     KnowsEnds es n (k + 1) q head' tail'
 ends_accept {es} {n} {IsFirst} {k} {p} {q} {head} {tail} {head'} {tail'} {s} {t} at f j u =
     let g : Grows p q = Joins-grow f.no_next j in
     let new : Taken es q (k + 1) s t = record { joined = j.next_here; by = (k, omega arith, at) } in
     -- the list that s ends, and the one that t begins
-    let front : (p.prev (head s) ≡ None) × (tail (head s) ≡ s) × Runs es p k (head s) s = u.ends s f.s_in f.no_next in
+    let front : (p.prev (head s) ≡ None) × (tail (head s) ≡ s) × LinksLead es p k (head s) s = u.ends s f.s_in f.no_next in
     let back : (p.next (tail t) ≡ None) × (head (tail t) ≡ t) = u.starts t f.t_in f.no_prev in
     let e_in : tail t < n = (u.inside t f.t_in).1 in
-    let rear : (p.prev (head (tail t)) ≡ None) × (tail (head (tail t)) ≡ tail t) × Runs es p k (head (tail t)) (tail t) =
+    let rear : (p.prev (head (tail t)) ≡ None) × (tail (head (tail t)) ≡ tail t) × LinksLead es p k (head (tail t)) (tail t) =
     u.ends (tail t) e_in back.0 in
-    let run : Runs es p k t (tail t) = rw back.1 at rear.2 in
+    let run : LinksLead es p k t (tail t) = rw back.1 at rear.2 in
     let split : tail t ≢ s = λ e. f.apart (sym (ap head e) ∙ back.1) in
     let is_next : (x : ℕ) → q.next x ≡ None → x ≢ s = λ x none e. let a : q.next x ≡ q.next s = ap q.next e in
     let b = j.next_here in cc in
@@ -169,7 +170,7 @@ ends_accept {es} {n} {IsFirst} {k} {p} {q} {head} {tail} {head'} {tail'} {s} {t}
       );
       ends = λ x below none. let apart : x ≢ s = is_next x none in
           let before : p.next x ≡ None = sym (j.next_else x apart) ∙ none in
-          let here : (p.prev (head x) ≡ None) × (tail (head x) ≡ x) × Runs es p k (head x) x = u.ends x below before in
+          let here : (p.prev (head x) ≡ None) × (tail (head x) ≡ x) × LinksLead es p k (head x) x = u.ends x below before in
           ⊎_elim
           (λ (same : x ≡ tail t). let is : head' x ≡ head s = ap head' same ∙ j.head_here in
           rw is (
@@ -253,7 +254,7 @@ as_joins {n} {s} {t} {a} {b} nl pl hl tl e_in h_in s_in t_in j = record {
   tail_else = λ x ne. write_else _ _ (get_or a.head.items s 0) x (get_or a.tail.items t 0) 0 j.tail ne;
 }
 
-pub join_step : {es : List Edge} {n : ℕ} {IsFirst : ℕ → Type 0} {k s t : ℕ} {a b : ChainLinks} → IsEdge es k s t →
+pub join_step : {es : List Edge} {n : ℕ} {IsFirst : ℕ → Type 0} {k s t : ℕ} {a b : ChainLinks} → IsEdgeNumber es k s t →
     IsReady es n IsFirst k a → IsJoined a b s t →
     Free (told a.next.items a.prev.items) (λ x. get_or a.head.items x 0) n IsFirst s t → IsReady es n IsFirst (k + 1) b
 join_step {es} {n} {IsFirst} {k} {s} {t} {a} {b} at r j f =
@@ -274,7 +275,8 @@ option_cases : (o : Option ℕ) → (o ≡ None) ⊎ ((u : ℕ) × (o ≡ Some u
 option_cases None = inl refl
 option_cases (Some u) = inr (u, refl)
 
-pub skip_step : {es : List Edge} {n : ℕ} {IsFirst : ℕ → Type 0} {k s t : ℕ} {a : ChainLinks} → IsEdge es k s t → s < n → t < n
+pub skip_step : {es : List Edge} {n : ℕ} {IsFirst : ℕ → Type 0} {k s t : ℕ} {a : ChainLinks} → IsEdgeNumber es k s t → s < n →
+    t < n
     → IsReady es n IsFirst k a
     → ((get_or a.next.items s None ≢ None) ⊎ ((get_or a.prev.items t None ≢ None) ⊎ (IsFirst t ⊎ (get_or a.head.items s 0 ≡ t))))
     → IsReady es n IsFirst (k + 1) a

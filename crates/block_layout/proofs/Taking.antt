@@ -5,10 +5,10 @@ use Rattle.std.proofs.lemmas.Bool.{cases_lt}
 use Rattle.std.proofs.lemmas.List.{get_or_default}
 use Rattle.block_layout.specs.EdgeCounts.{IsEarlier}
 use Rattle.block_layout.specs.EdgeLists.{AreCounted, HaveOtherEnds, IsKeyBefore}
-use Rattle.block_layout.specs.Linking.{IsEdge, Taken, Runs, Refused, IsLinked, ends_at}
-use Rattle.block_layout.specs.Linking.Runs.{stays as run_stays, goes as run_goes}
-use Rattle.block_layout.specs.Linking.Refused.{source_taken as by_source, target_taken as by_target, first_block as by_first}
-use Rattle.block_layout.specs.Linking.Refused.{closes as by_chain}
+use Rattle.block_layout.specs.FirstLinks.{Taken, Refused, IsLinked, LinksLead, IsEdgeNumber, ends_of_edge}
+use Rattle.block_layout.specs.FirstLinks.LinksLead.{stays as run_stays, goes as run_goes}
+use Rattle.block_layout.specs.FirstLinks.Refused.{source_taken as by_source, target_taken as by_target, first_block as by_first}
+use Rattle.block_layout.specs.FirstLinks.Refused.{closes as by_chain}
 use Rattle.block_layout.specs.Links.{Links, IsLinkedBefore, LeadBefore, IsLeftOut, Lead, AreLinks}
 use Rattle.block_layout.specs.Links.LeadBefore.{at_once, on}
 use Rattle.block_layout.specs.Links.IsLeftOut.{source_taken, target_taken, first_block, closes}
@@ -20,10 +20,10 @@ nothing = record { from = 0; to = 0; count = 0 }
 
 -- a later edge of the list is a later edge
 pub record IsInOrder (count : ℕ × ℕ → ℕ) (es : List Edge) : Type 0 where
-  pub rises : (i j s t u v : ℕ) → i < j → IsEdge es i s t → IsEdge es j u v → IsEarlier count (s, t) (u, v)
+  pub rises : (i j s t u v : ℕ) → i < j → IsEdgeNumber es i s t → IsEdgeNumber es j u v → IsEarlier count (s, t) (u, v)
 
 module _ (count : ℕ × ℕ → ℕ) (es : List Edge) (edges : List (ℕ × ℕ)) (counted : AreCounted count edges es) where
-  own_count : (i : ℕ) → i < length es → count (ends_at es i) ≡ (get_or es i nothing).count
+  own_count : (i : ℕ) → i < length es → count (ends_of_edge es i) ≡ (get_or es i nothing).count
   own_count i within =
       (counted.only (get_or es i nothing) (i, within, get_or_default es i (get_or es i nothing) nothing within)).2
 
@@ -56,20 +56,21 @@ module _ (count : ℕ × ℕ → ℕ) (es : List Edge) (edges : List (ℕ × ℕ
           (cases_lt e.to f.to)
 
 module _ {count : ℕ × ℕ → ℕ} {es : List Edge} {p : Links} (order : IsInOrder count es) where
-  taken_before : {i s t x y : ℕ} → IsEdge es i s t → Taken es p i x y → IsLinkedBefore count p (s, t) x y
+  taken_before : {i s t x y : ℕ} → IsEdgeNumber es i s t → Taken es p i x y → IsLinkedBefore count p (s, t) x y
   taken_before {i} {s} {t} {x} {y} at w = record { next = w.joined; earlier = order.rises w.by.0 i x y s t w.by.1 w.by.2 at }
 
-  runs_before : {i x y : ℕ} (s t : ℕ) → IsEdge es i s t → Runs es p i x y → LeadBefore count p (s, t) x y
+  runs_before : {i x y : ℕ} (s t : ℕ) → IsEdgeNumber es i s t → LinksLead es p i x y → LeadBefore count p (s, t) x y
   runs_before s t at run_stays = at_once
   runs_before s t at (run_goes r w) = on (runs_before s t at r) (taken_before at w)
 
-  left_out : {IsFirst : ℕ → Type 0} {i s t : ℕ} → IsEdge es i s t → Refused es p IsFirst i s t → IsLeftOut count p IsFirst s t
+  left_out : {IsFirst : ℕ → Type 0} {i s t : ℕ} → IsEdgeNumber es i s t → Refused es p IsFirst i s t →
+      IsLeftOut count p IsFirst s t
   left_out at (by_source u w) = source_taken u (taken_before at w)
   left_out at (by_target u w) = target_taken u (taken_before at w)
   left_out at (by_first h) = first_block h
   left_out {s = s} {t = t} at (by_chain r) = closes (runs_before s t at r)
 
-leads : {es : List Edge} {p : Links} {k x y : ℕ} → Runs es p k x y → Lead p x y
+leads : {es : List Edge} {p : Links} {k x y : ℕ} → LinksLead es p k x y → Lead p x y
 leads run_stays = stays
 leads (run_goes r w) = goes (leads r) w.joined
 
@@ -89,7 +90,7 @@ all_linked count es edges n IsFirst p counted order linked past = record {
       (listed, omega arith);
   each = λ s t listed positive.
       let found = counted.each s t listed positive in
-      let at : ends_at es found.0 ≡ (s, t) =
+      let at : ends_of_edge es found.0 ≡ (s, t) =
       ap (λ (e : Edge). (e.from, e.to))
       (get_or_default es found.0 nothing (record { from = s; to = t; count = count (s, t) }) found.1 ∙ found.2) in
       ⊎_elim (λ next. inl next) (λ why. inr (left_out order (found.1, at) why)) (linked.each found.0 s t found.1 (found.1, at));

@@ -7,11 +7,12 @@ use Rattle.std.proofs.lemmas.Bool.{cases_lt}
 use Rattle.std.proofs.lemmas.List.{get_or_default, same_lists, length-map}
 use Rattle.rv_code.specs.declared.placed.Block.{Block}
 use Rattle.rv_code.specs.declared.layout.Chains.{Chains}
+use Rattle.rv_code.specs.layout.BlockOrders.{list_of}
 use Rattle.elf_image.proofs.LoadLemmas.{Contains-cons_cases, Contains-there}
 use Rattle.edge_profile.specs.Weights.{is_hot_function}
 use Rattle.block_layout.specs.EdgeCounts.{edge_count}
 use Rattle.block_layout.specs.Links.{Links, IsChain}
-use Rattle.block_layout.specs.Parts.{IsOf, IsFirstBlock, Chain, greatest, IsChainBefore, IsHotPart, AreParts, list_of, weight_at}
+use Rattle.block_layout.specs.Parts.{IsOf, IsFirstBlock, Chain, greatest, IsChainBefore, IsHotPart, AreParts, weight_at}
 use Rattle.block_layout.specs.Laws.{PartsLaw, items_of}
 use Rattle.block_layout.proofs.ChainLists.{same_chain}
 use Rattle.block_layout.proofs.UniqueLinks.{one_answer}

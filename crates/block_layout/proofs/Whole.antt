@@ -12,14 +12,15 @@ use Rattle.rv_code.specs.declared.placed.Func.{Func}
 use Rattle.rv_code.specs.declared.placed.Block.{Block}
 use Rattle.rv_code.specs.declared.layout.Chains.{Chains}
 use Rattle.rv_code.specs.layout.Blocks.{func_of}
-use Rattle.edge_profile.specs.Counts.{Counted}
+use Rattle.rv_code.specs.layout.FunctionMembers.{IsOfFunction}
+use Rattle.rv_code.specs.layout.BlockOrders.{list_of}
+use Rattle.edge_profile.specs.PairCounts.{Counted}
 use Rattle.edge_profile.specs.Weights.{block_weight, is_hot_block, is_hot_function}
-use Rattle.rv_code.specs.layout.InFunctions.{IsOfFunction}
 use Rattle.block_layout.specs.EdgeLists.{IsWithin, IsInner, AreCounted}
 use Rattle.block_layout.specs.FunctionParts.{AreSplitTo}
-use Rattle.block_layout.specs.Linking.{IsLinked, ends_at}
+use Rattle.block_layout.specs.FirstLinks.{IsLinked, ends_of_edge}
 use Rattle.block_layout.specs.Links.{Links}
-use Rattle.block_layout.specs.Parts.{IsOf, IsFirstBlock, IsHotPart, AreParts, list_of, weight_at}
+use Rattle.block_layout.specs.Parts.{IsOf, IsFirstBlock, IsHotPart, AreParts, weight_at}
 use Rattle.block_layout.specs.Walks.{AreBetween, AreInner}
 use Rattle.block_layout.specs.declared.edge_counts.Edge.{Edge}
 use Rattle.block_layout.proofs.Firsts.{IsOf-get_or, get_or-IsOf}
@@ -41,19 +42,20 @@ all_within blocks edges inner k d within = within_of blocks (get_or edges k d) (
 
 module _ (count : ℕ × ℕ → ℕ) (blocks : List Block) (edges : List (ℕ × ℕ)) (taken : List Edge) (inner : All (IsInner blocks) edges)
     (counted : AreCounted count edges taken) where
-  listed : (i : ℕ) → i < length taken → Contains edges (ends_at taken i)
+  listed : (i : ℕ) → i < length taken → Contains edges (ends_of_edge taken i)
   listed i within = (counted.only (get_or taken i (record { from = 0; to = 0; count = 0 }))
       (Contains-get_or taken i (record { from = 0; to = 0; count = 0 }) within)).0
 
-  pub taken_within : (i : ℕ) → i < length taken → ((ends_at taken i).0 < length blocks) × ((ends_at taken i).1 < length blocks)
+  pub taken_within : (i : ℕ) → i < length taken → ((ends_of_edge taken i).0 < length blocks)
+      × ((ends_of_edge taken i).1 < length blocks)
   taken_within i within =
-      All-contains (IsWithin (length blocks)) edges (ends_at taken i) (all_within blocks edges inner) (listed i within)
+      All-contains (IsWithin (length blocks)) edges (ends_of_edge taken i) (all_within blocks edges inner) (listed i within)
 
   module _ (p : Links) (linked : IsLinked taken (length blocks) (IsFirstBlock blocks) (length taken) p) where
     by_edge : (s t : ℕ) → p.next s ≡ Some t → IsInner blocks (s, t)
     by_edge s t next =
         let by = (linked.only s t next).by in
-        subst (IsInner blocks) by.2.1 (All-contains (IsInner blocks) edges (ends_at taken by.0) inner (listed by.0 by.2.0))
+        subst (IsInner blocks) by.2.1 (All-contains (IsInner blocks) edges (ends_of_edge taken by.0) inner (listed by.0 by.2.0))
 
     pub links_between : AreBetween (length blocks) p
     links_between = record { inside = λ s t next. within_of blocks (s, t) (by_edge s t next); back = linked.back }

@@ -3,16 +3,12 @@ use Rattle.std.specs.Prelude.{◌≡◌, ◌⊎◌, ◌<◌, ℕ, List, slice_ge
 use Rattle.std.specs.Option.{option_map_or}
 use Rattle.rv_code.specs.declared.placed.Func.{Func}
 use Rattle.rv_code.specs.declared.placed.Block.{Block}
-use Rattle.rv_code.specs.layout.Blocks.{inst_at, func_of}
+use Rattle.rv_code.specs.layout.Blocks.{inst_address, block_start}
 use Rattle.rv_code.specs.layout.Lists.{IsPairBefore}
-
--- the address of the i-th instruction of a block's function
-abbrev pub inst_address : List Func → Block → ℕ → ℕ
-inst_address funcs b i = option_map_or (λ func. option_map_or (λ p. p.addr) (inst_at func i) 0) (func_of funcs b) 0
 
 -- the addresses of the first and the last instruction of a block, by its place among the blocks
 abbrev pub first_address : List Func → List Block → ℕ → ℕ
-first_address funcs blocks k = option_map_or (λ b. inst_address funcs b b.first) (slice_get blocks k) 0
+first_address funcs blocks k = option_map_or (block_start funcs) (slice_get blocks k) 0
 
 abbrev pub last_address : List Func → List Block → ℕ → ℕ
 last_address funcs blocks k = option_map_or (λ b. inst_address funcs b b.last) (slice_get blocks k) 0

@@ -3,8 +3,9 @@ use Rattle.std.specs.Prelude.{◌≡◌, ◌⊎◌, ◌<◌, ◌≤◌, ℕ, Lis
 use Rattle.rv_code.specs.declared.placed.Block.{Block}
 use Rattle.rv_code.specs.declared.layout.Chains.{Chains}
 use Rattle.rv_code.specs.layout.Lists.{ListsNumbers}
+use Rattle.rv_code.specs.layout.BlockOrders.{blocks_of_function, hot_of, cold_of}
 use Rattle.block_layout.specs.Links.{Links}
-use Rattle.block_layout.specs.Parts.{IsOf, IsHotPart, blocks_of_function, list_of}
+use Rattle.block_layout.specs.Parts.{IsOf, IsHotPart}
 use Rattle.block_layout.specs.Walks.{IsHotList}
 
 -- the hot part of the blocks from one to before another, if one of them has some weight
@@ -24,10 +25,10 @@ pub record AreSplit (blocks : List Block) (weight : ℕ → ℕ) (p : Links) (f 
 pub record AreSplitTo (blocks : List Block) (weight : ℕ → ℕ) (p : Links) (count : ℕ) (parts : Chains) : Type 0 where
   pub hot_count : length parts.hot.items ≡ count
   pub cold_count : length parts.cold.items ≡ count
-  pub each : (f : ℕ) → f < count → AreSplit blocks weight p f (list_of parts.hot.items f) (list_of parts.cold.items f)
+  pub each : (f : ℕ) → f < count → AreSplit blocks weight p f (hot_of parts f) (cold_of parts f)
 
 -- the blocks below a place are of functions before one, and the others of that one or those after it
-pub record IsStart (blocks : List Block) (f start : ℕ) : Type 0 where
+pub record IsFirstOf (blocks : List Block) (f start : ℕ) : Type 0 where
   pub within : start ≤ length blocks
   pub below : (k g : ℕ) → k < start → IsOf blocks g k → g < f
   pub above : (k g : ℕ) → start ≤ k → IsOf blocks g k → f ≤ g

@@ -4,7 +4,7 @@ use Rattle.std.specs.declared.alloc.Global.{Global}
 use Rattle.rv_code.specs.declared.placed.Func.{Func}
 use Rattle.rv_code.specs.declared.placed.Block.{Block}
 use Rattle.rv_code.specs.declared.layout.Chains.{Chains}
-use Rattle.edge_profile.specs.Counts.{Counted}
+use Rattle.edge_profile.specs.PairCounts.{Counted}
 use Rattle.block_layout.specs.Links.{Links, AreLinks}
 use Rattle.block_layout.specs.Parts.{IsFirstBlock, AreChains}
 

@@ -2,7 +2,7 @@ pub mod EdgeCounts
 pub mod EdgeLists
 pub mod FunctionParts
 pub mod Laws
-pub mod Linking
+pub mod FirstLinks
 pub mod Links
 pub mod Parts
 pub mod Walks

@@ -1,14 +1,13 @@
 -- The hot and the cold part of each function, from chains of blocks and their weights.
-use Rattle.std.specs.Prelude.{◌≡◌, ◌⊎◌, ◌<◌, ◌==◌, ℕ, Bool, true, false, List, [], ◌++◌, Contains, IsPermutation, IsSomeAnd}
-use Rattle.std.specs.Prelude.{filter, flat_map, fold, length, map, max, slice_get, slice_index_or, Vec}
-use Rattle.std.specs.List.{range_with_len}
+use Rattle.std.specs.Prelude.{◌≡◌, ◌⊎◌, ◌<◌, ℕ, Bool, true, false, List, [], ◌++◌, Contains, IsSomeAnd, flat_map, fold, length}
+use Rattle.std.specs.Prelude.{max, slice_get}
 use Rattle.std.specs.Option.{option_map_or}
-use Rattle.std.specs.declared.alloc.Global.{Global}
 use Rattle.rv_code.specs.declared.placed.Func.{Func}
 use Rattle.rv_code.specs.declared.placed.Block.{Block}
 use Rattle.rv_code.specs.declared.layout.Chains.{Chains}
+use Rattle.rv_code.specs.layout.BlockOrders.{hot_of, cold_of}
 use Rattle.rv_code.specs.layout.Lists.{ListsAll, ListsNumbers}
-use Rattle.edge_profile.specs.Counts.{Counted}
+use Rattle.edge_profile.specs.PairCounts.{Counted}
 use Rattle.edge_profile.specs.Weights.{block_weight, is_hot_function}
 use Rattle.block_layout.specs.EdgeCounts.{edge_count}
 use Rattle.block_layout.specs.Links.{Links, IsChain, AreLinks}
@@ -51,29 +50,15 @@ pub record IsHotPart (blocks : List Block) (weight : ℕ → ℕ) (links : Links
   pub first_block : IsFirstBlock blocks first.0
   pub others_are : ListsAll (IsHotChain blocks weight links f) (IsChainBefore weight) others
 
--- the list of a function among lists of lists
-abbrev pub list_of : List (Vec ℕ Global) → ℕ → List ℕ
-list_of lists f = slice_index_or (map (λ list. list.items) lists) f []
-
 -- The parts of each function. One that isn't hot has no hot part. What isn't in the hot part is the cold one, by address.
 pub record AreParts (hot_functions : ℕ → Bool) (count : ℕ) (blocks : List Block) (weight : ℕ → ℕ) (links : Links)
     (parts : Chains) : Type 0 where
   pub hot_count : length parts.hot.items ≡ count
   pub cold_count : length parts.cold.items ≡ count
-  pub hot : (f : ℕ) → f < count → hot_functions f ≡ true → IsHotPart blocks weight links f (list_of parts.hot.items f)
-  pub not_hot : (f : ℕ) → f < count → hot_functions f ≡ false → list_of parts.hot.items f ≡ []
+  pub hot : (f : ℕ) → f < count → hot_functions f ≡ true → IsHotPart blocks weight links f (hot_of parts f)
+  pub not_hot : (f : ℕ) → f < count → hot_functions f ≡ false → hot_of parts f ≡ []
   pub cold : (f : ℕ) → f < count →
-      ListsNumbers (λ k. IsOf blocks f k × (Contains (list_of parts.hot.items f) k → ⊥)) (list_of parts.cold.items f)
-
--- the blocks of a function, in order
-abbrev pub blocks_of_function : List Block → ℕ → List ℕ
-blocks_of_function blocks f =
-    filter (λ k. option_map_or (λ b. b.func) (slice_get blocks k) 0 == f) (range_with_len 0 (length blocks))
-
--- The parts of each function have all its blocks, each once.
-abbrev pub HaveAllBlocks : ℕ → List Block → Chains → Type 0
-HaveAllBlocks count blocks parts =
-    (f : ℕ) → f < count → IsPermutation (blocks_of_function blocks f) (list_of parts.hot.items f ++ list_of parts.cold.items f)
+      ListsNumbers (λ k. IsOf blocks f k × (Contains (hot_of parts f) k → ⊥)) (cold_of parts f)
 
 -- the weight of the block at a place
 abbrev pub weight_at : List Counted → List Func → List Block → ℕ → ℕ

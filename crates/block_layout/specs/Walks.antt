@@ -1,7 +1,7 @@
 -- Links between blocks of one function each, and what is made of their chains.
 use Rattle.std.specs.Prelude.{◌≡◌, ◌<◌, ◌≤◌, ◌++◌, ℕ, List, Some, AllPairs, Contains, flat_map, length, map, ◌⊎◌}
 use Rattle.rv_code.specs.declared.placed.Block.{Block}
-use Rattle.block_layout.specs.Linking.{told}
+use Rattle.block_layout.specs.FirstLinks.{told}
 use Rattle.block_layout.specs.Links.{Links, IsChain}
 use Rattle.block_layout.specs.Parts.{Chain, IsOf, greatest}
 use Rattle.block_layout.specs.declared.links.ChainLinks.{ChainLinks}
@@ -42,13 +42,14 @@ pub record IsHotBetween (p : Links) (weight : ℕ → ℕ) (start end : ℕ) (c 
   pub weight_is : c.weight ≡ greatest weight c.blocks.items
   pub hot : 0 < c.weight
 
-abbrev pub heads : List HotChain → List ℕ
-heads chains = map (λ c. c.head) chains
+abbrev pub chain_heads : List HotChain → List ℕ
+chain_heads chains = map (λ c. c.head) chains
 
 -- all of them, each once
 pub record AreHotBetween (p : Links) (weight : ℕ → ℕ) (start end : ℕ) (chains : List HotChain) : Type 0 where
   pub only : (c : HotChain) → Contains chains c → IsHotBetween p weight start end c
-  pub each : (h : ℕ) (xs : List ℕ) → start < h → h < end → IsChain p h xs → 0 < greatest weight xs → Contains (heads chains) h
+  pub each : (h : ℕ) (xs : List ℕ) → start < h → h < end → IsChain p h xs → 0 < greatest weight xs →
+      Contains (chain_heads chains) h
   pub apart : AllPairs (λ c d. (c.head ≡ d.head) → ⊥) chains
 
 -- a chain isn't put after another

@@ -3,11 +3,11 @@ ghost use Rattle.std.specs.Prelude.{◌≡◌, ◌<◌, ◌≤◌, ℕ, All, All
 ghost use Rattle.std.specs.Prelude.{slice_index_or};
 ghost use Rattle.rv_code.specs.declared.placed.Block.{Block};
 ghost use Rattle.rv_code.specs.declared.placed.Func.{Func};
-ghost use Rattle.rv_code.specs.layout.Blocks.{func_of};
+ghost use Rattle.rv_code.specs.layout.Blocks.{func_of, inst_address};
 ghost use Rattle.rv_code.specs.layout.Lists.{IsPairBefore};
-ghost use Rattle.edge_profile.specs.Profile.{counts_of};
-ghost use Rattle.block_layout.specs.EdgeCounts.{inst_address, edge_count};
-ghost use Rattle.rv_code.specs.layout.InFunctions.{IsOfFunction};
+ghost use Rattle.rv_code.specs.layout.FunctionMembers.{IsOfFunction};
+ghost use Rattle.edge_profile.specs.Profile.{profile_counts};
+ghost use Rattle.block_layout.specs.EdgeCounts.{edge_count};
 ghost use Rattle.block_layout.specs.EdgeLists.{IsWithin, AreCounted, HaveOtherEnds, IsKeyBefore};
 
 use edge_profile::Profile;
@@ -36,7 +36,7 @@ pub fn counted_edges(
     requires edges { All (IsWithin (length blocks.now)) edges.now }
     requires ordered { AllPairs IsPairBefore edges.now }
     ensures counted { IfOk result (λ taken.
-        AreCounted (edge_count (counts_of profile.now) funcs.now blocks.now) edges.now taken.items) }
+        AreCounted (edge_count (profile_counts profile.now) funcs.now blocks.now) edges.now taken.items) }
     ensures sorted { IfOk result (λ taken. AllPairs IsKeyBefore taken.items) }
     ensures once { IfOk result (λ taken. AllPairs HaveOtherEnds taken.items) }
 {
@@ -60,7 +60,7 @@ pub fn counted_edges(
 fn count_along(funcs: &[Func], source: &Block, target: &Block, profile: &Profile) -> u128
     requires source { IsOfFunction funcs.now source.now }
     requires target { IsOfFunction funcs.now target.now }
-    ensures { result ≡ counts_of profile.now (inst_address funcs.now source.now source.now.last)
+    ensures { result ≡ profile_counts profile.now (inst_address funcs.now source.now source.now.last)
         (inst_address funcs.now target.now target.now.first) }
 {
     let last = inst_address(funcs, source, source.last);

@@ -1,10 +1,10 @@
 // The parts of each function.
 ghost use Rattle.std.specs.Prelude.{◌≡◌, ◌+◌, ◌<◌, ◌≤◌, ℕ, All, IfOk, None, length, slice_index, slice_index_or};
 ghost use Rattle.rv_code.specs.declared.placed.Block.{Block};
-ghost use Rattle.block_layout.specs.FunctionParts.{AreSplit, AreSplitTo, IsHotOrEmpty, IsStart};
+ghost use Rattle.block_layout.specs.FunctionParts.{AreSplit, AreSplitTo, IsHotOrEmpty, IsFirstOf};
 ghost use Rattle.block_layout.specs.Parts.{IsFirstBlock, IsOf};
 ghost use Rattle.block_layout.specs.Walks.{AreFrom, AreInner, AreKept, links_of};
-ghost use Rattle.edge_profile.specs.BlockPlaces.{AreApart};
+ghost use Rattle.edge_profile.specs.BlockPlaces.{AreBlocksApart};
 
 use crate::links::ChainLinks;
 use crate::parts::{cold_part, hot_part, is_hot};
@@ -29,7 +29,7 @@ pub fn function_parts(
     links: &ChainLinks,
     weights: &[u128],
 ) -> Result<Chains, NoMemory>
-    requires blocks { AreApart blocks.now }
+    requires blocks { AreBlocksApart blocks.now }
     requires of_functions { (k f : ℕ) → IsOf blocks.now f k → f < count }
     requires links { AreKept links.now }
     requires lengths { length links.now.next.items ≡ length blocks.now }
@@ -64,8 +64,8 @@ fn parts_from(
     func: usize,
     start: usize,
 ) -> Result<Split, NoMemory>
-    requires blocks { AreApart blocks.now }
-    requires start { IsStart blocks.now func start }
+    requires blocks { AreBlocksApart blocks.now }
+    requires start { IsFirstOf blocks.now func start }
     requires links { AreKept links.now }
     requires lengths { length links.now.next.items ≡ length blocks.now }
     requires weights { length weights.now ≡ length blocks.now }
@@ -73,7 +73,7 @@ fn parts_from(
     requires firsts { (k : ℕ) → IsFirstBlock blocks.now k → slice_index_or links.now.prev.items k None ≡ None }
     ensures parts { IfOk result (λ s. AreSplit blocks.now (λ k. slice_index weights.now k) (links_of links.now) func
         s.hot.items s.cold.items) }
-    ensures next { IfOk result (λ s. IsStart blocks.now (func + 1) s.end) }
+    ensures next { IfOk result (λ s. IsFirstOf blocks.now (func + 1) s.end) }
 {
     let end = end_of(blocks, start, func);
     let hot = hot_blocks(alloc, links, weights, start, end)?;
@@ -104,10 +104,10 @@ fn hot_blocks(
 
 // Where the blocks of a function end, which begin at `start`.
 fn end_of(blocks: &[Block], start: usize, func: usize) -> usize
-    requires blocks { AreApart blocks.now }
-    requires start { IsStart blocks.now func start }
+    requires blocks { AreBlocksApart blocks.now }
+    requires start { IsFirstOf blocks.now func start }
     ensures blocks { AreFrom blocks.now func start result }
-    ensures next { IsStart blocks.now (func + 1) result }
+    ensures next { IsFirstOf blocks.now (func + 1) result }
     ensures up { start ≤ result }
 {
     let mut end = start;

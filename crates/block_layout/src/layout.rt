@@ -2,11 +2,12 @@
 ghost use Rattle.std.specs.Prelude.{◌≡◌, All, AllPairs, IfOk, length};
 ghost use Rattle.rv_code.specs.layout.FunctionLists.{AreLaidOut};
 ghost use Rattle.rv_code.specs.layout.Lists.{IsPairBefore};
-ghost use Rattle.edge_profile.specs.BlockPlaces.{AreApart};
-ghost use Rattle.edge_profile.specs.Profile.{counts_of, pairs_of};
-ghost use Rattle.rv_code.specs.layout.InFunctions.{IsOfFunction};
+ghost use Rattle.rv_code.specs.layout.FunctionMembers.{IsOfFunction};
+ghost use Rattle.rv_code.specs.layout.BlockOrders.{HaveAllBlocks};
+ghost use Rattle.edge_profile.specs.BlockPlaces.{AreBlocksApart};
+ghost use Rattle.edge_profile.specs.Profile.{profile_counts, pairs_of};
 ghost use Rattle.block_layout.specs.EdgeLists.{IsInner};
-ghost use Rattle.block_layout.specs.Parts.{AreChains, HaveAllBlocks};
+ghost use Rattle.block_layout.specs.Parts.{AreChains};
 
 use crate::edge_counts::counted_edges;
 use crate::functions::function_parts;
@@ -26,12 +27,12 @@ pub fn chains(
     profile: &Profile,
 ) -> Result<Chains, NoMemory>
     requires funcs { AreLaidOut funcs.now }
-    requires blocks { AreApart blocks.now }
+    requires blocks { AreBlocksApart blocks.now }
     requires stretches { All (IsOfFunction funcs.now) blocks.now }
     requires edges { All (IsInner blocks.now) edges.now }
     requires ordered { AllPairs IsPairBefore edges.now }
-    ensures chains { IfOk result (AreChains (counts_of profile.now) (pairs_of profile.now) funcs.now blocks.now edges.now) }
-    ensures all { IfOk result (HaveAllBlocks (length funcs.now) blocks.now) }
+    ensures chains { IfOk result (AreChains (profile_counts profile.now) (pairs_of profile.now) funcs.now blocks.now edges.now) }
+    ensures all { IfOk result (HaveAllBlocks funcs.now blocks.now) }
 {
     let weights = block_weights(alloc, funcs, blocks, profile)?;
     let taken = counted_edges(alloc, funcs, blocks, edges, profile)?;

@@ -2,8 +2,8 @@
 ghost use Rattle.std.specs.Prelude.{◌≡◌, ◌≢◌, ◌⊎◌, ◌↔◌, ◌<◌, ◌≤◌, ℕ, IfOk, IsTrue, MatchBool, None, Some, true, false, length};
 ghost use Rattle.std.specs.Prelude.{slice_index, slice_index_or, slice_set};
 ghost use Rattle.rv_code.specs.declared.placed.Block.{Block};
-ghost use Rattle.edge_profile.specs.BlockPlaces.{AreApart};
-ghost use Rattle.block_layout.specs.Linking.{IsLinked, ends_at, told};
+ghost use Rattle.edge_profile.specs.BlockPlaces.{AreBlocksApart};
+ghost use Rattle.block_layout.specs.FirstLinks.{IsLinked, told, ends_of_edge};
 ghost use Rattle.block_layout.specs.Parts.{IsFirstBlock};
 
 use crate::edge_counts::Edge;
@@ -86,9 +86,9 @@ impl ChainLinks {
 
 /// The chains that edges make of blocks, taken in their order.
 pub fn link_edges(alloc: Global, blocks: &[Block], edges: &[Edge]) -> Result<ChainLinks, NoMemory>
-    requires blocks { AreApart blocks.now }
+    requires blocks { AreBlocksApart blocks.now }
     requires inside { (i : ℕ) → i < length edges.now →
-        ((ends_at edges.now i).0 < length blocks.now) × ((ends_at edges.now i).1 < length blocks.now) }
+        ((ends_of_edge edges.now i).0 < length blocks.now) × ((ends_of_edge edges.now i).1 < length blocks.now) }
     ensures linked { IfOk result (λ l. IsLinked edges.now (length blocks.now) (IsFirstBlock blocks.now) (length edges.now)
         (told l.next.items l.prev.items)) }
     ensures sized { IfOk result (λ l. (length l.next.items ≡ length blocks.now) × (length l.prev.items ≡ length blocks.now)) }
@@ -106,7 +106,7 @@ pub fn link_edges(alloc: Global, blocks: &[Block], edges: &[Edge]) -> Result<Cha
 /// Whether a block is the first of its function.
 pub fn is_first_block(blocks: &[Block], block: usize) -> bool
     requires inside { block < length blocks.now }
-    requires blocks { AreApart blocks.now }
+    requires blocks { AreBlocksApart blocks.now }
     ensures { IsTrue result ↔ IsFirstBlock blocks.now block }
 {
     if block == 0 {

@@ -87,9 +87,9 @@ block_spans old mid new a at s f so_far here len is_len is =
     } ∷ [])) is_len
     ∙ ap (λ (l : List Span). old ++ l) (sym (laid_append a (map as_it_is s.inner) (record { placed = s.last; form = f } ∷ [])))
 
-pub block_end : (a at len : ℕ) (s : Strip) (f : Form) → at ≡ end_from a (map as_it_is s.inner) →
+pub last_end : (a at len : ℕ) (s : Strip) (f : Form) → at ≡ end_from a (map as_it_is s.inner) →
     len ≡ length_of (record { placed = s.last; form = f }) → at + len ≡ end_from a (pieces_of_strip s f)
-block_end a at len s f here is_len =
+last_end a at len s f here is_len =
     ap (λ (z : ℕ). z + len) here ∙ ap (λ (z : ℕ). end_from a (map as_it_is s.inner) + z) is_len
     ∙ sym (end_append a (map as_it_is s.inner) (record { placed = s.last; form = f } ∷ []))
 

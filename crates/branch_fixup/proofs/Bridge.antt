@@ -10,12 +10,12 @@ use Rattle.rv_code.specs.declared.layout.Form.TheVariants as form
 use Rattle.rv_code.specs.declared.layout.Size.TheVariants.{Half, Full, Long}
 use Rattle.rv_code.specs.declared.placed.Placed.{Placed}
 use Rattle.addr_map.specs.Spans.{new}
-use Rattle.branch_fixup.specs.declared.growth.Tail.{Tail}
-use Rattle.branch_fixup.specs.Pieces.{Piece, PlacedFrom, as_it_is, length_of, length_in, end_from}
-use Rattle.branch_fixup.specs.Reach.{new_target, reaches, lands, main_leap}
+use Rattle.branch_fixup.specs.declared.growth.BlockEnd.{BlockEnd}
+use Rattle.branch_fixup.specs.Pieces.{Piece, PlacedFrom, as_it_is, length_of, piece_length, end_from}
+use Rattle.branch_fixup.specs.Distances.{new_target, reaches, lands, main_leap}
 use Rattle.branch_fixup.specs.Endings.{End, Branches, Goes, end_of_form}
 use Rattle.branch_fixup.specs.Forms.{shorter, FallsShort, IsLeast}
-use Rattle.branch_fixup.specs.Growth.{tail_at, form_at, place, from_at, to_at, half_of, is_enough, IsNeeded}
+use Rattle.branch_fixup.specs.Growth.{end_at, form_at, from_at, to_at, half_of, is_enough, IsNeeded, block_offset}
 use Rattle.branch_fixup.specs.Strips.{Strip, first_in, pieces_of, pieces_of_strip, spans_of}
 use Rattle.rv_code.proofs.lists.Follows.{before_of}
 use Rattle.branch_fixup.proofs.Laid.{AreOnce, placed_from}
@@ -54,52 +54,53 @@ strip_at f a s x h = record {
     first (p ∷ ps) h = h.0
 
 -- how each block ends, as growing sees it
-pub record AreTailsOf (ts : List Tail) (ss : List Strip) : Type 0 where
+pub record AreBlockEndsOf (ts : List BlockEnd) (ss : List Strip) : Type 0 where
   pub one_each : length ts ≡ length ss
-  pub before : (k : ℕ) (d : Strip) → k < length ss → (tail_at ts k).before ≡ before_of (get_or ss k d).inner
-  pub len : (k : ℕ) (d : Strip) → k < length ss → (tail_at ts k).len ≡ (get_or ss k d).last.len
+  pub before : (k : ℕ) (d : Strip) → k < length ss → (end_at ts k).before ≡ before_of (get_or ss k d).inner
+  pub len : (k : ℕ) (d : Strip) → k < length ss → (end_at ts k).len ≡ (get_or ss k d).last.len
 
 -- from block k on
-pub placed_at : (f : ℕ → ℕ) (ts : List Tail) (ss : List Strip) (fs : List Form) (base : ℕ) (d : Strip) →
-    AreTailsOf ts ss → length fs ≡ length ss → PlacedFrom f base (pieces_of ss fs) → (k : ℕ) → k ≤ length ss →
-    PlacedFrom f (base + place ts fs k) (pieces_of (drop k ss) (drop k fs))
-placed_at f ts ss fs base d tails len h zero le = let e : base ≡ base + 0 = omega arith in
+pub placed_at : (f : ℕ → ℕ) (ts : List BlockEnd) (ss : List Strip) (fs : List Form) (base : ℕ) (d : Strip) →
+    AreBlockEndsOf ts ss → length fs ≡ length ss → PlacedFrom f base (pieces_of ss fs) → (k : ℕ) → k ≤ length ss →
+    PlacedFrom f (base + block_offset ts fs k) (pieces_of (drop k ss) (drop k fs))
+placed_at f ts ss fs base d block_ends len h zero le = let e : base ≡ base + 0 = omega arith in
     subst (λ (a : ℕ). PlacedFrom f a (pieces_of ss fs)) e h
-placed_at f ts ss fs base d tails len h (suc k) le =
+placed_at f ts ss fs base d block_ends len h (suc k) le =
     let s : Strip = get_or ss k d in
     let x : Form = form_at fs k in
-    let here = placed_at f ts ss fs base d tails len h k (omega (arith, le)) in
-    let both : PlacedFrom f (base + place ts fs k) (pieces_of (s ∷ drop (suc k) ss) (x ∷ drop (suc k) fs)) =
-    subst (λ (l : List Form). PlacedFrom f (base + place ts fs k) (pieces_of (s ∷ drop (suc k) ss) l))
+    let here = placed_at f ts ss fs base d block_ends len h k (omega (arith, le)) in
+    let both : PlacedFrom f (base + block_offset ts fs k) (pieces_of (s ∷ drop (suc k) ss) (x ∷ drop (suc k) fs)) =
+    subst (λ (l : List Form). PlacedFrom f (base + block_offset ts fs k) (pieces_of (s ∷ drop (suc k) ss) l))
     (drop-cons fs k form.Plain (omega (arith, le, len)))
-    (subst (λ (l : List Strip). PlacedFrom f (base + place ts fs k) (pieces_of l (drop k fs)))
+    (subst (λ (l : List Strip). PlacedFrom f (base + block_offset ts fs k) (pieces_of l (drop k fs)))
     (drop-cons ss k d (omega (arith, le))) here) in
-    let rest = (split_placed f (base + place ts fs k) (pieces_of_strip s x)
+    let rest = (split_placed f (base + block_offset ts fs k) (pieces_of_strip s x)
     (pieces_of (drop (suc k) ss) (drop (suc k) fs)) both).1 in
-    let ends = end_of_inner (base + place ts fs k) s.inner (record { placed = s.last; form = x } ∷ []) in
-    let b = tails.before k d (omega (arith, le)) in
-    let l : length_in (tail_at ts k).len x ≡ length_in s.last.len x = ap (λ (n : ℕ). length_in n x)
-    (tails.len k d (omega (arith, le))) in
+    let ends = end_of_inner (base + block_offset ts fs k) s.inner (record { placed = s.last; form = x } ∷ []) in
+    let b = block_ends.before k d (omega (arith, le)) in
+    let l : piece_length (end_at ts k).len x ≡ piece_length s.last.len x = ap (λ (n : ℕ). piece_length n x)
+    (block_ends.len k d (omega (arith, le))) in
     subst (λ (a : ℕ). PlacedFrom f a (pieces_of (drop (suc k) ss) (drop (suc k) fs))) (ends ∙ omega (arith, b, l)) rest
 
-pub block_placed : (f : ℕ → ℕ) (ts : List Tail) (ss : List Strip) (fs : List Form) (base : ℕ) (d : Strip) →
-    AreTailsOf ts ss → length fs ≡ length ss → PlacedFrom f base (pieces_of ss fs) → (k : ℕ) → k < length ss →
-    PlacedFrom f (base + place ts fs k) (pieces_of_strip (get_or ss k d) (form_at fs k))
-block_placed f ts ss fs base d tails len h k lt =
+pub block_placed : (f : ℕ → ℕ) (ts : List BlockEnd) (ss : List Strip) (fs : List Form) (base : ℕ) (d : Strip) →
+    AreBlockEndsOf ts ss → length fs ≡ length ss → PlacedFrom f base (pieces_of ss fs) → (k : ℕ) → k < length ss →
+    PlacedFrom f (base + block_offset ts fs k) (pieces_of_strip (get_or ss k d) (form_at fs k))
+block_placed f ts ss fs base d block_ends len h k lt =
     let s : Strip = get_or ss k d in
     let x : Form = form_at fs k in
-    let here = placed_at f ts ss fs base d tails len h k (omega (arith, lt)) in
-    let both : PlacedFrom f (base + place ts fs k) (pieces_of (s ∷ drop (suc k) ss) (x ∷ drop (suc k) fs)) =
-    subst (λ (l : List Form). PlacedFrom f (base + place ts fs k) (pieces_of (s ∷ drop (suc k) ss) l))
+    let here = placed_at f ts ss fs base d block_ends len h k (omega (arith, lt)) in
+    let both : PlacedFrom f (base + block_offset ts fs k) (pieces_of (s ∷ drop (suc k) ss) (x ∷ drop (suc k) fs)) =
+    subst (λ (l : List Form). PlacedFrom f (base + block_offset ts fs k) (pieces_of (s ∷ drop (suc k) ss) l))
     (drop-cons fs k form.Plain (omega (arith, lt, len)))
-    (subst (λ (l : List Strip). PlacedFrom f (base + place ts fs k) (pieces_of l (drop k fs))) (drop-cons ss k d lt) here) in
-    (split_placed f (base + place ts fs k) (pieces_of_strip s x) (pieces_of (drop (suc k) ss) (drop (suc k) fs)) both).0
+    (subst (λ (l : List Strip). PlacedFrom f (base + block_offset ts fs k) (pieces_of l (drop k fs)))
+    (drop-cons ss k d lt) here) in
+    (split_placed f (base + block_offset ts fs k) (pieces_of_strip s x) (pieces_of (drop (suc k) ss) (drop (suc k) fs)) both).0
 
-pub block_at : (f : ℕ → ℕ) (ts : List Tail) (ss : List Strip) (fs : List Form) (base : ℕ) (d : Strip) →
-    AreTailsOf ts ss → length fs ≡ length ss → PlacedFrom f base (pieces_of ss fs) → (k : ℕ) → k < length ss →
-    StripAt f (base + place ts fs k) (get_or ss k d)
-block_at f ts ss fs base d tails len h k lt = strip_at f (base + place ts fs k) (get_or ss k d) (form_at fs k)
-    (block_placed f ts ss fs base d tails len h k lt)
+pub block_at : (f : ℕ → ℕ) (ts : List BlockEnd) (ss : List Strip) (fs : List Form) (base : ℕ) (d : Strip) →
+    AreBlockEndsOf ts ss → length fs ≡ length ss → PlacedFrom f base (pieces_of ss fs) → (k : ℕ) → k < length ss →
+    StripAt f (base + block_offset ts fs k) (get_or ss k d)
+block_at f ts ss fs base d block_ends len h k lt = strip_at f (base + block_offset ts fs k) (get_or ss k d) (form_at fs k)
+    (block_placed f ts ss fs base d block_ends len h k lt)
 
 -- moving both ends changes no reach
 shifted_short : (half b f t : ℕ) → reaches half f t ≡ false → reaches half (b + f) (b + t) ≡ false
@@ -114,7 +115,7 @@ abbrev pub leads_to : (ℕ → ℕ) → Placed → Form → ℕ
 leads_to f p (form.Branch true size jump) = f (p.addr + p.len)
 leads_to f p _ = new_target f p
 
-leap_short : (f : ℕ → ℕ) (p : Placed) (ts : List Tail) (fs : List Form) (base k : ℕ) (g : Form) →
+leap_short : (f : ℕ → ℕ) (p : Placed) (ts : List BlockEnd) (fs : List Form) (base k : ℕ) (g : Form) →
     f p.addr ≡ base + from_at ts fs k → leads_to f p g ≡ base + to_at ts fs k → is_enough ts fs k g ≡ false →
     list_all lands (main_leap f (f p.addr) p g) ≡ false
 leap_short f p ts fs base k (form.Branch true Half jump) a t h = rw (
@@ -149,13 +150,13 @@ leap_short f p ts fs base k form.Plain a t h = absurd (cc)
 leap_short f p ts fs base k form.Jump a t h = absurd (cc)
 leap_short f p ts fs base k form.Dropped a t h = absurd (cc)
 
--- each block whose form can grow leads to where its tail says, whatever the sizes
-abbrev pub LeadAsTails : List Tail → List Strip → ℕ → (ℕ → End) → Type 0
-LeadAsTails ts ss base kinds = (k half : ℕ) (d : Strip) (fs : List Form) (g : Form) → half_of g ≡ Some half →
+-- each block whose form can grow leads to where its end says, whatever the sizes
+abbrev pub LeadAsBlockEnds : List BlockEnd → List Strip → ℕ → (ℕ → End) → Type 0
+LeadAsBlockEnds ts ss base kinds = (k half : ℕ) (d : Strip) (fs : List Form) (g : Form) → half_of g ≡ Some half →
     k < length ss → length fs ≡ length ss → end_of_form g ≡ kinds k → leads_to (new (spans_of ss base fs))
     (get_or ss k d).last g ≡ base + to_at ts fs k
 
-has_half : (ts : List Tail) (fs : List Form) (k : ℕ) (g : Form) → is_enough ts fs k g ≡ false →
+has_half : (ts : List BlockEnd) (fs : List Form) (k : ℕ) (g : Form) → is_enough ts fs k g ≡ false →
     (half : ℕ) × (half_of g ≡ Some half)
 has_half ts fs k g h = by (half_of g) refl h
   where
@@ -184,26 +185,26 @@ shorter_kind n form.Plain g e = absurd (cc)
 shorter_kind n form.Jump g e = absurd (cc)
 shorter_kind n form.Dropped g e = absurd (cc)
 
-pub are_least : (ts : List Tail) (ss : List Strip) (base : ℕ) (kinds : ℕ → End) (fs : List Form) (d : Strip) →
-    AreTailsOf ts ss → LeadAsTails ts ss base kinds → ((gs : List Form) → AreOnce (pieces_of ss gs)) →
+pub are_least : (ts : List BlockEnd) (ss : List Strip) (base : ℕ) (kinds : ℕ → End) (fs : List Form) (d : Strip) →
+    AreBlockEndsOf ts ss → LeadAsBlockEnds ts ss base kinds → ((gs : List Form) → AreOnce (pieces_of ss gs)) →
     length fs ≡ length ss → ((k : ℕ) → k < length ss → end_of_form (form_at fs k) ≡ kinds k) → (k : ℕ) → k < length ss →
     IsNeeded ts fs k → IsLeast ss base fs k (get_or ss k d) (form_at fs k)
-are_least ts ss base kinds fs d tails leads once len are k lt needed =
+are_least ts ss base kinds fs d block_ends leads once len are k lt needed =
     subst (λ (n : ℕ). IfSome (shorter n (form_at fs k)) (λ g. FallsShort (spans_of ss base (slice_set fs k g))
-    (get_or ss k d).last g)) (tails.len k d lt)
-    (by (shorter (tail_at ts k).len (form_at fs k)) refl needed)
+    (get_or ss k d).last g)) (block_ends.len k d lt)
+    (by (shorter (end_at ts k).len (form_at fs k)) refl needed)
   where
-    by : (o : Option Form) → shorter (tail_at ts k).len (form_at fs k) ≡ o →
+    by : (o : Option Form) → shorter (end_at ts k).len (form_at fs k) ≡ o →
         IfSome o (λ g. is_enough ts (slice_set fs k g) k g ≡ false) → IfSome o
         (λ g. FallsShort (spans_of ss base (slice_set fs k g)) (get_or ss k d).last g)
     by None e h = tt
     by (Some g) e h =
         let gs : List Form = slice_set fs k g in
         let len_g : length gs ≡ length ss = length-set fs k g ∙ len in
-        let at = block_at (new (spans_of ss base gs)) ts ss gs base d tails len_g
+        let at = block_at (new (spans_of ss base gs)) ts ss gs base d block_ends len_g
         (placed_from base (pieces_of ss gs) (once gs)) k lt in
-        let b = tails.before k d lt in
+        let b = block_ends.before k d lt in
         let from = at.last in
         leap_short (new (spans_of ss base gs)) (get_or ss k d).last ts gs base k g (omega (arith, from, b))
         (leads k (has_half ts gs k g h).0 d gs g (has_half ts gs k g h).1 lt len_g
-        (shorter_kind (tail_at ts k).len (form_at fs k) g e ∙ are k lt)) h
+        (shorter_kind (end_at ts k).len (form_at fs k) g e ∙ are k lt)) h

@@ -16,7 +16,7 @@ use Rattle.rv_code.specs.declared.placed.Role.TheVariants as role
 use Rattle.addr_map.specs.declared.span.Span.{Span}
 use Rattle.addr_map.specs.Spans.{new}
 use Rattle.branch_fixup.specs.Forms.{EndByTable, FallsShort, IsLeast}
-use Rattle.branch_fixup.specs.Reach.{AllLand}
+use Rattle.branch_fixup.specs.Distances.{AllLand}
 use Rattle.branch_fixup.specs.Strips.{Strip, pieces_of, spans_of}
 
 abbrev at : ℕ → Inst → Placed

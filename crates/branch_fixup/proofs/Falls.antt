@@ -1,7 +1,7 @@
 -- Into which address an instruction falls.
 use Rattle.std.proofs.Common.{◌≡◌, ℕ, suc, ◌+◌, ◌<◌, ◌≤◌, List, [], ◌∷◌, length, Option, Some, None, Bool, true, false, refl, sym}
 use Rattle.std.proofs.Common.{ap, ◌∙◌, subst, arith, inl, inr}
-use Rattle.std.specs.Prelude.{slice_get, ◌==◌, not}
+use Rattle.std.specs.Prelude.{slice_get, ◌==◌, not, if◌then◌else◌}
 use Rattle.std.specs.Option.{option_map_or}
 use Rattle.std.proofs.lemmas.Bool.{cases_order, eqb-true, eq-eqb}
 use Rattle.std.proofs.lemmas.List.Elements.{All-contains}
@@ -10,8 +10,8 @@ use Rattle.rv_code.specs.declared.placed.Placed.{Placed}
 use Rattle.rv_code.specs.declared.placed.Func.{Func}
 use Rattle.rv_code.specs.layout.ProgramCode.{is_code_address}
 use Rattle.rv_code.specs.layout.FunctionLists.{Follow, AreLaidOut, address_end}
-use Rattle.rv_code.specs.layout.Flow.{insts_of, falls_at}
-use Rattle.branch_fixup.specs.BlockInsts.{starts_at}
+use Rattle.rv_code.specs.layout.Flow.{insts_of, falls_at, fall_target}
+use Rattle.branch_fixup.specs.BlockInsts.{func_starts_at}
 use Rattle.branch_fixup.specs.Endings.{fall_of}
 use Rattle.rv_code.proofs.lists.Follows.{follow_at, follow_next, follow_last, laid_func, inst_length, some_length, funcs_apart}
 use Rattle.branch_fixup.proofs.Lists.{at_contains, contains_at, there, at_flat, flat_at, find_found, found_find}
@@ -64,10 +64,10 @@ first_inst start [] end h less = absurd (omega (arith, h, less))
 first_inst start (p ∷ ps) end h less = (p, refl, h.0)
 
 starts_there : (funcs : List Func) (g a : ℕ) (func : Func) → slice_get funcs g ≡ Some func → func.start ≡ a →
-    starts_at funcs g a ≡ true
+    func_starts_at funcs g a ≡ true
 starts_there funcs g a func at e = rw at (eq-eqb func.start a e)
 
-start_has : (funcs : List Func) (g a : ℕ) → starts_at funcs g a ≡ true →
+start_has : (funcs : List Func) (g a : ℕ) → func_starts_at funcs g a ≡ true →
     (func : Func) × (slice_get funcs g ≡ Some func) × (func.start ≡ a)
 start_has funcs g a h = by (slice_get funcs g) refl h
   where
@@ -79,21 +79,21 @@ start_has funcs g a h = by (slice_get funcs g) refl h
 -- after a function, that of the next one, if that starts there
 pub code_end : (funcs : List Func) (f i : ℕ) (func : Func) (p : Placed) → AreLaidOut funcs →
     slice_get funcs f ≡ Some func → slice_get func.insts.items i ≡ Some p → suc i ≡ length func.insts.items →
-    is_code_address funcs (p.addr + p.len) ≡ starts_at funcs (f + 1) (p.addr + p.len)
+    is_code_address funcs (p.addr + p.len) ≡ func_starts_at funcs (f + 1) (p.addr + p.len)
 code_end funcs f i func p laid at_f at_i last = bool_same (is_code_address funcs (p.addr + p.len))
-    (starts_at funcs (f + 1) (p.addr + p.len)) forth back
+    (func_starts_at funcs (f + 1) (p.addr + p.len)) forth back
   where
     end : p.addr + p.len ≡ func.end
     end = follow_last func.start func.insts.items func.end i p (laid_func funcs f func laid at_f).follow at_i last
 
-    back : starts_at funcs (f + 1) (p.addr + p.len) ≡ true → is_code_address funcs (p.addr + p.len) ≡ true
+    back : func_starts_at funcs (f + 1) (p.addr + p.len) ≡ true → is_code_address funcs (p.addr + p.len) ≡ true
     back h =
         let (g, at_g, is) = start_has funcs (f + 1) (p.addr + p.len) h in
         let l = laid_func funcs (f + 1) g laid at_g in
         let (q, at_q, first) = first_inst g.start g.insts.items g.end l.follow l.has_bytes in
         subst (λ (a : ℕ). is_code_address funcs a ≡ true) (first ∙ is) (code_there funcs (f + 1) 0 g q at_g at_q)
 
-    forth : is_code_address funcs (p.addr + p.len) ≡ true → starts_at funcs (f + 1) (p.addr + p.len) ≡ true
+    forth : is_code_address funcs (p.addr + p.len) ≡ true → func_starts_at funcs (f + 1) (p.addr + p.len) ≡ true
     forth h =
         let c = code_at funcs (p.addr + p.len) h in
         let l = laid_func funcs c.f c.func laid c.at_func in
@@ -134,6 +134,15 @@ code_end funcs f i func p laid at_f at_i last = bool_same (is_code_address funcs
         ]
 
 -- The cases of falling.
+
+-- it falls where `fall_target` says
+pub falls_to : (func : Func) (i : ℕ) (p : Placed) (next : ℕ) → Some next ≡ fall_target func i p →
+    (falls_at func i p ≡ true) × (next ≡ p.addr + p.len)
+falls_to func i p next h = by (falls_at func i p) h
+  where
+    by : (b : Bool) → Some next ≡ (if b then Some (p.addr + p.len) else None) → (b ≡ true) × (next ≡ p.addr + p.len)
+    by true e = (refl, cc)
+    by false e = absurd (cc)
 
 pub falls_nowhere : (funcs : List Func) (func : Func) (i : ℕ) (p : Placed) → falls_at func i p ≡ false →
     None ≡ fall_of funcs func i p

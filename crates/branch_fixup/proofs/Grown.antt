@@ -5,9 +5,9 @@ use Rattle.std.specs.Prelude.{nat_lt, nat_le}
 use Rattle.std.specs.Option.{option_map_or}
 use Rattle.std.proofs.lemmas.Bool.{and_parts, and_from, leb-true, ltb-true, le-leb, lt-ltb, cases_lt, cases_order}
 use Rattle.rv_code.specs.declared.layout.Form.{Form}
-use Rattle.branch_fixup.specs.declared.growth.Tail.{Tail}
-use Rattle.branch_fixup.specs.Reach.{reaches}
-use Rattle.branch_fixup.specs.Growth.{tail_at, length_at, place, from_at, to_at, half_of, is_enough, AreTails}
+use Rattle.branch_fixup.specs.declared.growth.BlockEnd.{BlockEnd}
+use Rattle.branch_fixup.specs.Distances.{reaches}
+use Rattle.branch_fixup.specs.Growth.{end_at, block_length, from_at, to_at, half_of, is_enough, AreBlockEnds, block_offset}
 
 pub not_true : (b : Bool) → (b ≡ true → ⊥) → b ≡ false
 not_true true h = absurd (h refl)
@@ -38,11 +38,11 @@ short_more half f t g u (back a b c) h =
     no (reaches half f t) h (reach_if half f t (omega (arith, a, b, c, x, y)) (omega (arith, a, b, c, x))))
 
 -- forms that are no shorter
-pub record IsBelow (ts : List Tail) (xs ys : List Form) : Type 0 where
-  pub each : (k : ℕ) → length_at ts xs k ≤ length_at ts ys k
+pub record IsBelow (ts : List BlockEnd) (xs ys : List Form) : Type 0 where
+  pub each : (k : ℕ) → block_length ts xs k ≤ block_length ts ys k
 
-pub gap : (ts : List Tail) (xs ys : List Form) → IsBelow ts xs ys → (a n : ℕ) →
-    place ts xs (n + a) + place ts ys a ≤ place ts ys (n + a) + place ts xs a
+pub gap : (ts : List BlockEnd) (xs ys : List Form) → IsBelow ts xs ys → (a n : ℕ) →
+    block_offset ts xs (n + a) + block_offset ts ys a ≤ block_offset ts ys (n + a) + block_offset ts xs a
 gap ts xs ys b a zero = let z : 0 + a ≡ a = omega arith in rw z (omega arith)
 gap ts xs ys b a (suc n) =
     let z : suc n + a ≡ suc (n + a) = omega arith in
@@ -50,7 +50,7 @@ gap ts xs ys b a (suc n) =
     let rest = gap ts xs ys b a n in
     rw z (omega (arith, more, rest))
 
-pub rises : (ts : List Tail) (xs : List Form) (a n : ℕ) → place ts xs a ≤ place ts xs (n + a)
+pub rises : (ts : List BlockEnd) (xs : List Form) (a n : ℕ) → block_offset ts xs a ≤ block_offset ts xs (n + a)
 rises ts xs a zero = let z : 0 + a ≡ a = omega arith in rw z (omega arith)
 rises ts xs a (suc n) =
     let z : suc n + a ≡ suc (n + a) = omega arith in
@@ -58,36 +58,40 @@ rises ts xs a (suc n) =
     rw z (omega (arith, rest))
 
 -- the way from k ahead to t, and back
-ahead_gap : (ts : List Tail) (xs ys : List Form) → IsBelow ts xs ys → (k t : ℕ) → k < t →
-    (place ts xs k + (tail_at ts k).before ≤ place ts xs t) × (place ts ys k + (tail_at ts k).before ≤ place ts ys t) ×
-    (place ts xs t + place ts ys k ≤ place ts ys t + place ts xs k)
+ahead_gap : (ts : List BlockEnd) (xs ys : List Form) → IsBelow ts xs ys → (k t : ℕ) → k < t →
+    (block_offset ts xs k + (end_at ts k).before ≤ block_offset ts xs t)
+    × (block_offset ts ys k + (end_at ts k).before ≤ block_offset ts ys t) ×
+    (block_offset ts xs t + block_offset ts ys k ≤ block_offset ts ys t + block_offset ts xs k)
 ahead_gap ts xs ys b k t h =
     let z : t - suc k + suc k ≡ t = omega (arith, h) in
     let w : t - k + k ≡ t = omega (arith, h) in
-    let up : place ts xs (suc k) ≤ place ts xs t = subst (λ (j : ℕ). place ts xs (suc k) ≤ place ts xs j) z
+    let up : block_offset ts xs (suc k) ≤ block_offset ts xs t =
+    subst (λ (j : ℕ). block_offset ts xs (suc k) ≤ block_offset ts xs j) z
     (rises ts xs (suc k) (t - suc k)) in
-    let up_2 : place ts ys (suc k) ≤ place ts ys t = subst (λ (j : ℕ). place ts ys (suc k) ≤ place ts ys j) z
+    let up_2 : block_offset ts ys (suc k) ≤ block_offset ts ys t =
+    subst (λ (j : ℕ). block_offset ts ys (suc k) ≤ block_offset ts ys j) z
     (rises ts ys (suc k) (t - suc k)) in
-    let g : place ts xs t + place ts ys k ≤ place ts ys t + place ts xs k =
-    subst (λ (j : ℕ). place ts xs j + place ts ys k ≤ place ts ys j + place ts xs k) w (gap ts xs ys b k (t - k)) in
+    let g : block_offset ts xs t + block_offset ts ys k ≤ block_offset ts ys t + block_offset ts xs k =
+    subst (λ (j : ℕ). block_offset ts xs j + block_offset ts ys k
+    ≤ block_offset ts ys j + block_offset ts xs k) w (gap ts xs ys b k (t - k)) in
     (omega (arith, up), omega (arith, up_2), g)
 
-pub farther : (ts : List Tail) (xs ys : List Form) → AreTails ts → IsBelow ts xs ys → (k : ℕ) → k < length ts →
+pub farther : (ts : List BlockEnd) (xs ys : List Form) → AreBlockEnds ts → IsBelow ts xs ys → (k : ℕ) → k < length ts →
     IsFarther (from_at ts xs k) (to_at ts xs k) (from_at ts ys k) (to_at ts ys k)
-farther ts xs ys tails b k k_in = by (tail_at ts k).to refl
+farther ts xs ys block_ends b k k_in = by (end_at ts k).to refl
   where
-    inside : (tail_at ts k).offset ≤ (tail_at ts (tail_at ts k).to).before
-    inside = tails.to_inside k k_in
+    inside : (end_at ts k).offset ≤ (end_at ts (end_at ts k).to).before
+    inside = block_ends.to_inside k k_in
 
-    by : (t : ℕ) → (tail_at ts k).to ≡ t → IsFarther (from_at ts xs k) (place ts xs t + (tail_at ts k).offset)
-        (from_at ts ys k) (place ts ys t + (tail_at ts k).offset)
+    by : (t : ℕ) → (end_at ts k).to ≡ t → IsFarther (from_at ts xs k) (block_offset ts xs t + (end_at ts k).offset)
+        (from_at ts ys k) (block_offset ts ys t + (end_at ts k).offset)
     by t e = elim (cases_order k t) [
-      | inl same ↦ elim (cases_lt (tail_at ts k).before (tail_at ts k).offset) [
-        | inl less ↦ subst (λ (j : ℕ). IsFarther (from_at ts xs k) (place ts xs j + (tail_at ts k).offset)
-            (from_at ts ys k) (place ts ys j + (tail_at ts k).offset)) same
+      | inl same ↦ elim (cases_lt (end_at ts k).before (end_at ts k).offset) [
+        | inl less ↦ subst (λ (j : ℕ). IsFarther (from_at ts xs k) (block_offset ts xs j + (end_at ts k).offset)
+            (from_at ts ys k) (block_offset ts ys j + (end_at ts k).offset)) same
             (ahead (omega (arith, less)) (omega (arith, less)) (omega arith))
-        | inr more ↦ subst (λ (j : ℕ). IsFarther (from_at ts xs k) (place ts xs j + (tail_at ts k).offset)
-            (from_at ts ys k) (place ts ys j + (tail_at ts k).offset)) same
+        | inr more ↦ subst (λ (j : ℕ). IsFarther (from_at ts xs k) (block_offset ts xs j + (end_at ts k).offset)
+            (from_at ts ys k) (block_offset ts ys j + (end_at ts k).offset)) same
             (back (omega (arith, more)) (omega (arith, more)) (omega arith))
       ]
       | inr apart ↦ elim apart [
@@ -95,18 +99,18 @@ farther ts xs ys tails b k k_in = by (tail_at ts k).to refl
             ahead (omega (arith, x)) (omega (arith, y)) (omega (arith, z))
         | inr after ↦
             let g = ahead_gap ts xs ys b t k after in let x = g.0 in let y = g.1 in let z = g.2 in
-            let within : (tail_at ts k).offset ≤ (tail_at ts t).before =
-            subst (λ (j : ℕ). (tail_at ts k).offset ≤ (tail_at ts j).before) e inside in
+            let within : (end_at ts k).offset ≤ (end_at ts t).before =
+            subst (λ (j : ℕ). (end_at ts k).offset ≤ (end_at ts j).before) e inside in
             back (omega (arith, x, within)) (omega (arith, y, within)) (omega (arith, z))
       ]
     ]
 
-pub not_enough_more : (ts : List Tail) (xs ys : List Form) → AreTails ts → IsBelow ts xs ys → (k : ℕ) (f : Form) →
+pub not_enough_more : (ts : List BlockEnd) (xs ys : List Form) → AreBlockEnds ts → IsBelow ts xs ys → (k : ℕ) (f : Form) →
     k < length ts → is_enough ts xs k f ≡ false → is_enough ts ys k f ≡ false
-not_enough_more ts xs ys tails b k f k_in h = by (half_of f) h
+not_enough_more ts xs ys block_ends b k f k_in h = by (half_of f) h
   where
     by : (o : Option ℕ) → option_map_or (λ half. reaches half (from_at ts xs k) (to_at ts xs k)) o true ≡ false →
         option_map_or (λ half. reaches half (from_at ts ys k) (to_at ts ys k)) o true ≡ false
     by None h = h
     by (Some half) h = short_more half (from_at ts xs k) (to_at ts xs k) (from_at ts ys k) (to_at ts ys k)
-        (farther ts xs ys tails b k k_in) h
+        (farther ts xs ys block_ends b k k_in) h

@@ -1,19 +1,20 @@
 -- Which block of a plan holds an address.
 use Rattle.std.proofs.Common.{◌≡◌, ℕ, ◌+◌, ◌<◌, ◌≤◌, List, [], ◌∷◌, ◌++◌, length, map, Some, None, true, refl, sym, ap, ◌∙◌}
-use Rattle.std.proofs.Common.{subst, arith, inl, inr, get_or}
+use Rattle.std.proofs.Common.{subst, arith, inl, inr, get_or, zero, suc, ◌-◌, take, drop, Option}
 use Rattle.std.specs.Prelude.{slice_get, slice_index, Contains, AllPairs, option_map}
+use Rattle.std.specs.Option.{option_map_or}
 use Rattle.std.proofs.lemmas.List.{length-map}
 use Rattle.std.proofs.lemmas.List.Elements.{Contains-push}
 use Rattle.std.proofs.lemmas.Option.{slice_get_within, get_or_from_slice_get, slice_get-get_or, slice_get-map, slice_get_past}
 use Rattle.rv_code.specs.declared.placed.Placed.{Placed}
 use Rattle.rv_code.specs.declared.placed.Func.{Func}
 use Rattle.rv_code.specs.declared.placed.Block.{Block}
-use Rattle.rv_code.specs.layout.ProgramCode.{ProgramCode, is_code_address}
-use Rattle.rv_code.specs.layout.Blocks.{AreBlocks}
+use Rattle.rv_code.specs.layout.ProgramCode.{ProgramCode, is_code_address, program_code}
+use Rattle.rv_code.specs.layout.Blocks.{AreBlocks, block_start}
 use Rattle.rv_code.specs.layout.FunctionLists.{AreLaidOut}
-use Rattle.branch_fixup.specs.BlockInsts.{start_of}
+use Rattle.rv_code.specs.layout.BlockOrders.{HasAllBlocks}
 use Rattle.branch_fixup.specs.Ends.{begins_of}
-use Rattle.branch_fixup.specs.Inputs.{IsOrder, AreBlocksOf, code_of}
+use Rattle.branch_fixup.specs.Inputs.{AreBlocksOf}
 use Rattle.branch_fixup.specs.Lookup.{IsHolder}
 use Rattle.branch_fixup.specs.Strips.{Strip, strip_of, strips_of, insts_in, first_in}
 use Rattle.branch_fixup.proofs.Covered.{block_of, covers, blocks_apart}
@@ -69,19 +70,45 @@ blocks_up code blocks m n b c s t laid are x y at_m at_n less p q has_p has_q =
           (subst (λ (z : Func). slice_get z.insts.items j.i ≡ Some q) same j.at) (omega (arith, apart, high, low))
     ]
 
+some_inst : (p q : Placed) → Some p ≡ Some q → p ≡ q
+some_inst p q h = cc
+
+-- the first of the instructions from one index to another
+first_inst : (ps : List Placed) (i n : ℕ) (last : Placed) → slice_get ps (i + n) ≡ Some last →
+    option_map_or (λ p. p.addr) (slice_get ps i) 0 ≡ first_in (take n (drop i ps)) last
+first_inst [] i n last at = absurd (nothing last at)
+  where
+    nothing : (p : Placed) → None ≡ Some p → ⊥
+    nothing p h = cc
+first_inst (p ∷ ps) zero zero last at = ap (λ (q : Placed). q.addr) (some_inst p last at)
+first_inst (p ∷ ps) zero (suc n) last at = refl
+first_inst (p ∷ ps) (suc i) n last at =
+    let next : suc i + n ≡ suc (i + n) = omega arith in
+    first_inst ps i n last (subst (λ (k : ℕ). slice_get (p ∷ ps) k ≡ Some last) next at)
+
+start_in_strip : (code : ProgramCode) (b : Block) (s : Strip) → StripOf code b s →
+    block_start code.funcs b ≡ first_in s.inner s.last
+start_in_strip code b s x =
+    let upto = x.is.some in
+    let index : b.first + (b.last - b.first) ≡ b.last = omega (arith, upto) in
+    let at = subst (λ (k : ℕ). slice_get x.func.insts.items k ≡ Some s.last) (sym index) x.last_at in
+    ap (λ (o : Option Func). option_map_or (λ func. option_map_or (λ p. p.addr) (slice_get func.insts.items b.first) 0) o 0) x.at
+    ∙ first_inst x.func.insts.items b.first (b.last - b.first) s.last at
+    ∙ ap (λ (inner : List Placed). first_in inner s.last) (sym x.inner_is)
+
 module _ (code : ProgramCode) (blocks : List Block) (laid : AreLaidOut code.funcs) (are : AreBlocks code blocks) where
   abbrev starts : List ℕ
-  starts = map (start_of code.funcs) blocks
+  starts = map (block_start code.funcs) blocks
 
   pub starts_length : length starts ≡ length blocks
-  starts_length = length-map blocks (start_of code.funcs)
+  starts_length = length-map blocks (block_start code.funcs)
 
   pub start_is : (m d : ℕ) (b : Block) (s : Strip) → slice_get blocks m ≡ Some b → StripOf code b s →
       get_or starts m d ≡ first_in s.inner s.last
   start_is m d b s at x =
-      let e : slice_get starts m ≡ Some (start_of code.funcs b) = slice_get-map (start_of code.funcs) blocks m
-      ∙ ap (option_map (start_of code.funcs)) at in
-      get_or_from_slice_get starts m (start_of code.funcs b) d e ∙ rw x.strip_is refl
+      let e : slice_get starts m ≡ Some (block_start code.funcs b) = slice_get-map (block_start code.funcs) blocks m
+      ∙ ap (option_map (block_start code.funcs)) at in
+      get_or_from_slice_get starts m (block_start code.funcs b) d e ∙ start_in_strip code b s x
 
   pub starts_up : AllPairs (λ a b. a < b) starts
   starts_up m n d less within =
@@ -118,7 +145,7 @@ module _ (code : ProgramCode) (blocks : List Block) (laid : AreLaidOut code.func
           let f = start_is k 0 c t at_c y in
           omega (arith, u, l, f, first_q)
 
-  module _ (order : List ℕ) (perm : IsOrder blocks order) where
+  module _ (order : List ℕ) (perm : HasAllBlocks blocks order) where
     abbrev strips : List Strip
     strips = strips_of code.funcs blocks order
 
@@ -160,10 +187,10 @@ module _ (code : ProgramCode) (blocks : List Block) (laid : AreLaidOut code.func
 
 -- what the code reads at a place of the plan
 pub planned_read : (funcs : List Func) (blocks : List Block) (order : List ℕ) → AreBlocksOf funcs blocks →
-    IsOrder blocks order → (k : ℕ) (d : Block) → k < length order → slice_get
+    HasAllBlocks blocks order → (k : ℕ) (d : Block) → k < length order → slice_get
     (strips_of funcs blocks order) k ≡ strip_of funcs (get_or blocks (get_or order k 0) d)
 planned_read funcs blocks order are perm k d within =
-    let code : ProgramCode = code_of funcs are.roles are.cells are.entry in
+    let code : ProgramCode = program_code funcs are.roles are.cells are.entry in
     let (s, at, plan) = planned_at code blocks are.are order perm k (get_or order k 0) (slice_get-get_or order k 0 within) in
     let same_m : plan.m ≡ get_or order k 0 = some_nat plan.m (get_or order k 0)
     (sym plan.place ∙ slice_get-get_or order k 0 within) in
@@ -171,13 +198,13 @@ planned_read funcs blocks order are perm k d within =
     ∙ get_or_from_slice_get blocks plan.m plan.b d plan.block in
     at ∙ sym plan.of.strip_is ∙ ap (strip_of funcs) (sym block)
 
-pub place_within : (blocks : List Block) (order : List ℕ) → IsOrder blocks order → (k : ℕ) → k < length order →
+pub place_within : (blocks : List Block) (order : List ℕ) → HasAllBlocks blocks order → (k : ℕ) → k < length order →
     get_or order k 0 < length blocks
 place_within blocks order perm k within = order_within blocks order perm k (get_or order k 0) (slice_get-get_or order k 0 within)
 
 pub begins_nowhere : (funcs : List Func) (blocks : List Block) (order : List ℕ) → AreBlocksOf funcs blocks →
-    IsOrder blocks order → (k : ℕ) → length order ≤ k → None ≡ begins_of (strips_of funcs blocks order) k
+    HasAllBlocks blocks order → (k : ℕ) → length order ≤ k → None ≡ begins_of (strips_of funcs blocks order) k
 begins_nowhere funcs blocks order are perm k past =
-    let code : ProgramCode = code_of funcs are.roles are.cells are.entry in
+    let code : ProgramCode = program_code funcs are.roles are.cells are.entry in
     let len = planned_length code blocks are.are order perm in
     rw (slice_get_past (strips_of funcs blocks order) k (omega (arith, len, past))) refl

@@ -21,18 +21,19 @@ use Rattle.rv_code.specs.declared.placed.Block.{Block}
 use Rattle.rv_code.specs.layout.ProgramCode.{ProgramCode}
 use Rattle.rv_code.specs.layout.Blocks.{AreBlocks, Begins, at_start, named, after_end}
 use Rattle.rv_code.specs.layout.FunctionLists.{Follow, AreLaidOut}
-use Rattle.rv_code.specs.layout.Flow.{action_at, target, target_of, is_branch, is_call, is_plain_jump, insts_of}
+use Rattle.rv_code.specs.layout.Flow.{action_at, target, target_of, is_branch, is_call, is_plain_jump, insts_of, is_short}
+use Rattle.rv_code.specs.layout.BlockOrders.{HasAllBlocks}
 use Rattle.addr_map.specs.Spans.{new}
-use Rattle.branch_fixup.specs.declared.growth.Tail.{Tail}
+use Rattle.branch_fixup.specs.declared.growth.BlockEnd.{BlockEnd}
 use Rattle.branch_fixup.specs.Endings.{Kept, LeftOut, Goes, begins_at, end_of_form, ending}
 use Rattle.branch_fixup.specs.Ends.{AreEnds, begins_of, lead_of}
-use Rattle.branch_fixup.specs.Growth.{AreEnough, form_at, half_of, place, tail_at, from_at, to_at}
-use Rattle.branch_fixup.specs.Inputs.{AreDirect, AreNear, IsOrder, KeepsShort, LeadsToCode, StaysIn, is_short}
-use Rattle.branch_fixup.specs.Pieces.{Piece, PlacedFrom, as_it_is, length_in, length_of, end_from, bytes_of_size}
-use Rattle.branch_fixup.specs.Reach.{AllLand, Leap, added_leap, new_target, jal, lands, main_leap, reach_of, reaches}
+use Rattle.branch_fixup.specs.Growth.{AreEnough, form_at, half_of, end_at, from_at, to_at, block_offset}
+use Rattle.branch_fixup.specs.Inputs.{AreDirect, AreNear, KeepsShort, LeadsToCode, StaysIn}
+use Rattle.branch_fixup.specs.Pieces.{Piece, PlacedFrom, as_it_is, piece_length, length_of, end_from, bytes_of_size}
+use Rattle.branch_fixup.specs.Distances.{AllLand, Leap, added_leap, new_target, jal, lands, main_leap, reach_of, reaches}
 use Rattle.branch_fixup.specs.Strips.{Strip, first_in, insts_in, is_alone, pieces_of, pieces_of_strip, spans_of, strips_of}
 use Rattle.branch_fixup.proofs.Appended.{end_append}
-use Rattle.branch_fixup.proofs.Bridge.{AreTailsOf, block_placed, end_of_inner, leads_to}
+use Rattle.branch_fixup.proofs.Bridge.{AreBlockEndsOf, block_placed, end_of_inner, leads_to}
 use Rattle.branch_fixup.proofs.Covered.{blocks_apart}
 use Rattle.rv_code.proofs.lists.Follows.{follow_at, funcs_apart, laid_func, some_length}
 use Rattle.branch_fixup.proofs.Holders.{last_there}
@@ -43,8 +44,9 @@ use Rattle.branch_fixup.proofs.Orders.{order_once}
 use Rattle.branch_fixup.proofs.Placed.{AreStrips, are_strips, before_is, strip_place, strips_once, upto_last}
 use Rattle.branch_fixup.proofs.Planned.{Planned, in_block, inner_goes_on, planned}
 use Rattle.branch_fixup.proofs.Sizes.{kept_falls}
-use Rattle.branch_fixup.proofs.TailFacts.{FallsAfter, IsOfTable, Led, branch_end, led_branch, led_goto, lead_place, tails_of}
-use Rattle.branch_fixup.proofs.TailsFound.{strip_code, strip_fall, strip_target}
+use Rattle.branch_fixup.proofs.BlockEndFacts.{FallsAfter, IsOfTable, Led, branch_end, led_branch, led_goto, lead_place}
+use Rattle.branch_fixup.proofs.BlockEndFacts.{block_ends_of}
+use Rattle.branch_fixup.proofs.BlockEndsFound.{strip_code, strip_fall, strip_target}
 
 -- Lists of pieces.
 
@@ -137,7 +139,7 @@ two_land : (l m : Leap) → lands l ≡ true → lands m ≡ true → list_all l
 two_land l m h k = rw (h, k) refl
 
 module _ (code : ProgramCode) (blocks : List Block) (order : List ℕ) (laid : AreLaidOut code.funcs)
-    (are : AreBlocks code blocks) (perm : IsOrder blocks order) (ts : List Tail) (zs : List Form)
+    (are : AreBlocks code blocks) (perm : HasAllBlocks blocks order) (ts : List BlockEnd) (zs : List Form)
     (ends : AreEnds (strips_of code.funcs blocks order) (length (strips_of code.funcs blocks order)) ts zs)
     (fs : List Form) (base : ℕ) (len : length fs ≡ length (strips_of code.funcs blocks order))
     (same : (k : ℕ) → k < length (strips_of code.funcs blocks order) →
@@ -154,40 +156,41 @@ module _ (code : ProgramCode) (blocks : List Block) (order : List ℕ) (laid : A
   strips : AreStrips ss
   strips = are_strips code blocks order laid are perm
 
-  tails : AreTailsOf ts ss
-  tails = tails_of ss strips ts zs ends
+  block_ends : AreBlockEndsOf ts ss
+  block_ends = block_ends_of ss strips ts zs ends
 
   abbrev IsIn : ℕ → ℕ → Type 0
   IsIn k from = In code blocks order laid are perm ts zs ends fs base len table k from
 
-  placed : (k : ℕ) (s : Strip) → slice_get ss k ≡ Some s → PlacedFrom f (base + place ts fs k) (pieces_of_strip s (form_at fs k))
+  placed : (k : ℕ) (s : Strip) → slice_get ss k ≡ Some s → PlacedFrom f (base + block_offset ts fs k)
+      (pieces_of_strip s (form_at fs k))
   placed k s at =
-      subst (λ (z : Strip). PlacedFrom f (base + place ts fs k) (pieces_of_strip z (form_at fs k)))
+      subst (λ (z : Strip). PlacedFrom f (base + block_offset ts fs k) (pieces_of_strip z (form_at fs k)))
       (get_or_from_slice_get ss k s s at)
-      (block_placed f ts ss fs base s tails len (placed_from base (pieces_of ss fs) (strips_once ss strips fs)) k
+      (block_placed f ts ss fs base s block_ends len (placed_from base (pieces_of ss fs) (strips_once ss strips fs)) k
       (slice_get_within ss k s at))
 
   after : (k : ℕ) (s : Strip) → slice_get ss k ≡ Some s → FallsAfter s
   after k s at a is = let plan = planned code blocks are order perm k s at in (strip_fall code plan.b s plan.of a is).1
 
-  before : (k : ℕ) (s : Strip) → slice_get ss k ≡ Some s → first_in s.inner s.last + (tail_at ts k).before ≡ s.last.addr
-  before k s at = (ends.are_tails k s (slice_get_within ss k s at) at).before
+  before : (k : ℕ) (s : Strip) → slice_get ss k ≡ Some s → first_in s.inner s.last + (end_at ts k).before ≡ s.last.addr
+  before k s at = (ends.are_block_ends k s (slice_get_within ss k s at) at).before
 
-  size : (k : ℕ) (s : Strip) → slice_get ss k ≡ Some s → length_in (tail_at ts k).len
-      (form_at fs k) ≡ length_in s.last.len (form_at fs k)
-  size k s at = ap (λ (n : ℕ). length_in n (form_at fs k)) (ends.are_tails k s (slice_get_within ss k s at) at).len
+  size : (k : ℕ) (s : Strip) → slice_get ss k ≡ Some s → piece_length (end_at ts k).len
+      (form_at fs k) ≡ piece_length s.last.len (form_at fs k)
+  size k s at = ap (λ (n : ℕ). piece_length n (form_at fs k)) (ends.are_block_ends k s (slice_get_within ss k s at) at).len
 
   -- what is somewhere in the k-th block
   in_last : (k : ℕ) (s : Strip) → slice_get ss k ≡ Some s → (from extra : ℕ) →
-      from + first_in s.inner s.last ≡ base + place ts fs k + s.last.addr →
-      extra ≤ length_in s.last.len (form_at fs k) → IsIn k (from + extra)
+      from + first_in s.inner s.last ≡ base + block_offset ts fs k + s.last.addr →
+      extra ≤ piece_length s.last.len (form_at fs k) → IsIn k (from + extra)
   in_last k s at from extra e h =
       let b = before k s at in
       let z = size k s at in
       record { within = slice_get_within ss k s at; low = omega (arith, e, b); high = omega (arith, e, b, z, h) }
 
   in_inner : (k : ℕ) (s : Strip) → slice_get ss k ≡ Some s → (p : Placed) → Contains (insts_in s) p → (from : ℕ) →
-      from + first_in s.inner s.last ≡ base + place ts fs k + p.addr → IsIn k from
+      from + first_in s.inner s.last ≡ base + block_offset ts fs k + p.addr → IsIn k from
   in_inner k s at p has from e =
       let u = upto_last s (strips.each k s at) p has in
       let u0 = u.0 in
@@ -201,7 +204,7 @@ module _ (code : ProgramCode) (blocks : List Block) (order : List ℕ) (laid : A
 
   stays_here : (k : ℕ) (s : Strip) → slice_get ss k ≡ Some s → s.whole ≡ true → (p : Placed) → Contains (insts_in s) p →
       (t : ℕ) → target_of p ≡ Some t → is_short p ≡ true → (from : ℕ) →
-      from + first_in s.inner s.last ≡ base + place ts fs k + p.addr → reaches (reach_of p.len p) from (f t) ≡ true
+      from + first_in s.inner s.last ≡ base + block_offset ts fs k + p.addr → reaches (reach_of p.len p) from (f t) ≡ true
   stays_here k s at whole p has t is short from e =
       let plan = planned code blocks are order perm k s at in
       let x = plan.of in
@@ -218,10 +221,11 @@ module _ (code : ProgramCode) (blocks : List Block) (order : List ℕ) (laid : A
       let here = one_block k s plan whole_func t low high to in
       let same_t : to.t ≡ s = (let g : Some to.t ≡ Some s = sym to.at ∙ ap (slice_get ss) here ∙ at in cc) in
       let has_q : Contains (insts_in s) to.q = subst (λ (z : Strip). Contains (insts_in z) to.q) same_t to.has in
-      let r = strip_place f (base + place ts fs k) s (form_at fs k) (strips.each k s at) (placed k s at) to.q has_q in
-      let r2 : f t + first_in s.inner s.last ≡ base + place ts fs k + t =
-      subst (λ (z : ℕ). f z + first_in s.inner s.last ≡ base + place ts fs k + z) to.addr r in
-      shift_reach (reach_of p.len p) p.addr t from (f t) (first_in s.inner s.last) (base + place ts fs k) e r2 (st.reach t is)
+      let r = strip_place f (base + block_offset ts fs k) s (form_at fs k) (strips.each k s at) (placed k s at) to.q has_q in
+      let r2 : f t + first_in s.inner s.last ≡ base + block_offset ts fs k + t =
+      subst (λ (z : ℕ). f z + first_in s.inner s.last ≡ base + block_offset ts fs k + z) to.addr r in
+      shift_reach (reach_of p.len p) p.addr t from (f t) (first_in s.inner s.last) (base + block_offset ts fs k) e r2
+      (st.reach t is)
     where
       one_block : (k : ℕ) (s : Strip) (plan : Planned code blocks order k s) → plan.of.func.whole ≡ true → (t : ℕ) →
           plan.of.func.start ≤ t → t < plan.of.func.end → (to : Goal t) → to.j ≡ k
@@ -267,7 +271,7 @@ module _ (code : ProgramCode) (blocks : List Block) (order : List ℕ) (laid : A
   -- A branch or jump that keeps its width reaches.
   keeps_reach : (k : ℕ) (s : Strip) → slice_get ss k ≡ Some s → (p : Placed) → Contains (insts_in s) p → (t : ℕ) →
       target_of p ≡ Some t → (s.whole ≡ false → (is_branch (action_at p) ≡ false) ×
-      (is_plain_jump (action_at p) ≡ false)) → (from : ℕ) → from + first_in s.inner s.last ≡ base + place ts fs k +
+      (is_plain_jump (action_at p) ≡ false)) → (from : ℕ) → from + first_in s.inner s.last ≡ base + block_offset ts fs k +
       p.addr → reaches (reach_of p.len p) from (f t) ≡ true
   keeps_reach k s at p has t is goes_on from e = by (is_short p) s.whole refl refl
     where
@@ -310,7 +314,7 @@ module _ (code : ProgramCode) (blocks : List Block) (order : List ℕ) (laid : A
       by (Some t) e = rw e (one_lands (record { half = reach_of p.len p; from = from; to = f t }) (h t e))
 
   inner_lands : (k : ℕ) (s : Strip) → slice_get ss k ≡ Some s → (p : Placed) → Contains s.inner p → (from : ℕ) →
-      from + first_in s.inner s.last ≡ base + place ts fs k + p.addr → Lands f from p form.Plain
+      from + first_in s.inner s.last ≡ base + block_offset ts fs k + p.addr → Lands f from p form.Plain
   inner_lands k s at p has from e =
       let has_p = Contains-append_left s.inner (s.last ∷ []) p has in
       kept_lands p from (λ t is. keeps_reach k s at p has_p t is (λ w. goes_on w) from e)
@@ -322,8 +326,8 @@ module _ (code : ProgramCode) (blocks : List Block) (order : List ℕ) (laid : A
 
   -- a JAL to where the block falls
   fall_lands : (k : ℕ) (s : Strip) → slice_get ss k ≡ Some s → is_some s.fall ≡ true → (from extra : ℕ) →
-      from + first_in s.inner s.last ≡ base + place ts fs k + s.last.addr →
-      extra ≤ length_in s.last.len (form_at fs k) → lands (jal (from + extra) (f (s.last.addr + s.last.len))) ≡ true
+      from + first_in s.inner s.last ≡ base + block_offset ts fs k + s.last.addr →
+      extra ≤ piece_length s.last.len (form_at fs k) → lands (jal (from + extra) (f (s.last.addr + s.last.len))) ≡ true
   fall_lands k s at some from extra e h = by s.fall refl some
     where
       by : (o : Option ℕ) → s.fall ≡ o → is_some o ≡ true → lands (jal (from + extra) (f (s.last.addr + s.last.len))) ≡ true
@@ -337,8 +341,8 @@ module _ (code : ProgramCode) (blocks : List Block) (order : List ℕ) (laid : A
 
   -- a JAL to where a form leads
   lead_lands : (k : ℕ) (s : Strip) → slice_get ss k ≡ Some s → (a : ℕ) → lead_of s (form_at fs k) ≡ Some a →
-      (from extra : ℕ) → from + first_in s.inner s.last ≡ base + place ts fs k + s.last.addr →
-      extra ≤ length_in s.last.len (form_at fs k) → lands (jal (from + extra) (f a)) ≡ true
+      (from extra : ℕ) → from + first_in s.inner s.last ≡ base + block_offset ts fs k + s.last.addr →
+      extra ≤ piece_length s.last.len (form_at fs k) → lands (jal (from + extra) (f a)) ≡ true
   lead_lands k s at a is from extra e h = by (form_at fs k) refl is
     where
       plan : Planned code blocks order k s
@@ -362,7 +366,7 @@ module _ (code : ProgramCode) (blocks : List Block) (order : List ℕ) (laid : A
 
   -- what is enough reaches
   enough_lands : (k : ℕ) (s : Strip) → slice_get ss k ≡ Some s → (a half : ℕ) → lead_of s (form_at fs k) ≡ Some a →
-      half_of (form_at fs k) ≡ Some half → (from : ℕ) → from + first_in s.inner s.last ≡ base + place ts fs k +
+      half_of (form_at fs k) ≡ Some half → (from : ℕ) → from + first_in s.inner s.last ≡ base + block_offset ts fs k +
       s.last.addr → reaches half from (f a) ≡ true
   enough_lands k s at a half is has from e =
       let within = slice_get_within ss k s at in
@@ -374,7 +378,7 @@ module _ (code : ProgramCode) (blocks : List Block) (order : List ℕ) (laid : A
       shift_reach half (from_at ts fs k) (to_at ts fs k) from (f a) 0 base (omega (arith, e, b)) (omega (arith, to)) h
 
   last_lands : (k : ℕ) (s : Strip) → slice_get ss k ≡ Some s → (from : ℕ) →
-      from + first_in s.inner s.last ≡ base + place ts fs k + s.last.addr → Lands f from s.last (form_at fs k)
+      from + first_in s.inner s.last ≡ base + block_offset ts fs k + s.last.addr → Lands f from s.last (form_at fs k)
   last_lands k s at from e = by (form_at fs k) refl
     where
       next : Option ℕ
@@ -400,8 +404,8 @@ module _ (code : ProgramCode) (blocks : List Block) (order : List ℕ) (laid : A
           some = kept_falls s.whole (is_alone s.inner) (action_at s.last) s.fall (target_of s.last) next (of_table form.Jump i)
 
           added : lands (jal (from + s.last.len) (f (s.last.addr + s.last.len))) ≡ true
-          added = fall_lands k s at some from s.last.len e (let z : length_in s.last.len
-              (form_at fs k) ≡ s.last.len + 4 = ap (length_in s.last.len) i in omega (arith, z))
+          added = fall_lands k s at some from s.last.len e (let z : piece_length s.last.len
+              (form_at fs k) ≡ s.last.len + 4 = ap (piece_length s.last.len) i in omega (arith, z))
 
           jump_lands : (o : Option ℕ) → target_of s.last ≡ o → Lands f from s.last form.Jump
           jump_lands None j = rw j (one_lands (jal (from + s.last.len) (f (s.last.addr + s.last.len))) added)
@@ -427,8 +431,8 @@ module _ (code : ProgramCode) (blocks : List Block) (order : List ℕ) (laid : A
           long_at : (jump : Bool) (i : form_at fs k ≡ form.Branch inverted Long jump) →
               lands (jal (from + 4) (f (led_to Long jump i).a)) ≡ true
           long_at jump i = lead_lands k s at (led_to Long jump i).a (ap (lead_of s) i ∙ (led_to Long jump i).is) from 4
-              e (let z : length_in s.last.len (form_at fs k) ≡ length_in s.last.len (form.Branch inverted Long jump) =
-              ap (length_in s.last.len) i in omega (arith, z))
+              e (let z : piece_length s.last.len (form_at fs k) ≡ piece_length s.last.len (form.Branch inverted Long jump) =
+              ap (piece_length s.last.len) i in omega (arith, z))
 
           added_at : (size : Size) (i : form_at fs k ≡ form.Branch inverted size true) →
               lands (jal (from + bytes_of_size size) (f (s.last.addr + s.last.len))) ≡ true
@@ -436,8 +440,8 @@ module _ (code : ProgramCode) (blocks : List Block) (order : List ℕ) (laid : A
               let some = (branch_end s.whole (is_alone s.inner) (action_at s.last) s.fall
               (target_of s.last) next inverted true (of_table (form.Branch inverted size true) i)).falls_jump refl
               in
-              fall_lands k s at some from (bytes_of_size size) e (let z : length_in s.last.len
-              (form_at fs k) ≡ bytes_of_size size + 4 = ap (length_in s.last.len) i in omega (arith, z))
+              fall_lands k s at some from (bytes_of_size size) e (let z : piece_length s.last.len
+              (form_at fs k) ≡ bytes_of_size size + 4 = ap (piece_length s.last.len) i in omega (arith, z))
 
           main_is : (size : Size) (jump : Bool) (i : form_at fs k ≡ form.Branch inverted size jump) →
               (if inverted then f (s.last.addr + s.last.len) else new_target f s.last) ≡ f (led_to size jump i).a
@@ -493,29 +497,30 @@ module _ (code : ProgramCode) (blocks : List Block) (order : List ℕ) (laid : A
 
   -- All blocks, from the last one back.
 
-  strip_lands : (k : ℕ) (s : Strip) → slice_get ss k ≡ Some s → AllLand f (base + place ts fs k)
+  strip_lands : (k : ℕ) (s : Strip) → slice_get ss k ≡ Some s → AllLand f (base + block_offset ts fs k)
       (pieces_of_strip s (form_at fs k))
   strip_lands k s at =
       let i = strips.each k s at in
-      land_strip f (base + place ts fs k) (first_in s.inner s.last) (s.last.addr + s.last.len) (base + place ts fs k)
+      land_strip f (base + block_offset ts fs k) (first_in s.inner s.last) (s.last.addr + s.last.len)
+      (base + block_offset ts fs k)
       (first_in s.inner s.last) s.inner s.last (form_at fs k) i.follow refl (inner_lands k s at) (last_lands k s at)
 
-  strip_end : (k : ℕ) (s : Strip) → slice_get ss k ≡ Some s → end_from (base + place ts fs k)
-      (pieces_of_strip s (form_at fs k)) ≡ base + place ts fs (suc k)
+  strip_end : (k : ℕ) (s : Strip) → slice_get ss k ≡ Some s → end_from (base + block_offset ts fs k)
+      (pieces_of_strip s (form_at fs k)) ≡ base + block_offset ts fs (suc k)
   strip_end k s at =
       let b = before k s at in
       let z = size k s at in
       let i = strips.each k s at in
       let w = before_is (first_in s.inner s.last) (s.last.addr + s.last.len) s.inner s.last i.follow in
-      let ends_at = end_of_inner (base + place ts fs k) s.inner (record { placed = s.last; form = form_at fs k } ∷ []) in
+      let ends_at = end_of_inner (base + block_offset ts fs k) s.inner (record { placed = s.last; form = form_at fs k } ∷ []) in
       omega (arith, b, z, w, ends_at)
 
-  pub lands_from : (n k : ℕ) → k + n ≡ length ss → AllLand f (base + place ts fs k)
-      (pieces_of (drop k ss) (drop k fs)) × (end_from (base + place ts fs k)
-      (pieces_of (drop k ss) (drop k fs)) ≡ base + place ts fs (length ss))
+  pub lands_from : (n k : ℕ) → k + n ≡ length ss → AllLand f (base + block_offset ts fs k)
+      (pieces_of (drop k ss) (drop k fs)) × (end_from (base + block_offset ts fs k)
+      (pieces_of (drop k ss) (drop k fs)) ≡ base + block_offset ts fs (length ss))
   lands_from zero k sum =
       let e : k ≡ length ss = omega (arith, sum) in
-      rw (drop_none k ss (omega (arith, e))) (tt, ap (λ (j : ℕ). base + place ts fs j) e)
+      rw (drop_none k ss (omega (arith, e))) (tt, ap (λ (j : ℕ). base + block_offset ts fs j) e)
   lands_from (suc n) k sum =
       let (s, at) = there ss k (omega (arith, sum)) in
       let rest = lands_from n (suc k) (omega (arith, sum)) in
@@ -523,9 +528,9 @@ module _ (code : ProgramCode) (blocks : List Block) (order : List ℕ) (laid : A
       let rest_pieces : List Piece = pieces_of (drop (suc k) ss) (drop (suc k) fs) in
       let pieces : pieces_of (drop k ss) (drop k fs) ≡ pieces_of_strip s (form_at fs k) ++ rest_pieces = both k s at in
       rw pieces (
-        land_append f (base + place ts fs k) (pieces_of_strip s (form_at fs k)) rest_pieces (strip_lands k s at)
+        land_append f (base + block_offset ts fs k) (pieces_of_strip s (form_at fs k)) rest_pieces (strip_lands k s at)
             (subst (λ (a : ℕ). AllLand f a rest_pieces) (sym end) rest.0),
-        end_append (base + place ts fs k) (pieces_of_strip s (form_at fs k)) rest_pieces
+        end_append (base + block_offset ts fs k) (pieces_of_strip s (form_at fs k)) rest_pieces
             ∙ ap (λ (a : ℕ). end_from a rest_pieces) end ∙ rest.1,
       )
     where
@@ -545,8 +550,8 @@ module _ (code : ProgramCode) (blocks : List Block) (order : List ℕ) (laid : A
       let r = lands_from (length ss) 0 (zero-add (length ss)) in
       subst (λ (a : ℕ). AllLand f a (pieces_of ss fs)) (let z : base + 0 ≡ base = omega arith in z) r.0
 
-  pub all_end : end_from base (pieces_of ss fs) ≡ base + place ts fs (length ss)
+  pub all_end : end_from base (pieces_of ss fs) ≡ base + block_offset ts fs (length ss)
   all_end =
       let r = lands_from (length ss) 0 (zero-add (length ss)) in
-      subst (λ (a : ℕ). end_from a (pieces_of ss fs) ≡ base + place ts fs (length ss))
+      subst (λ (a : ℕ). end_from a (pieces_of ss fs) ≡ base + block_offset ts fs (length ss))
       (let z : base + 0 ≡ base = omega arith in z) r.1

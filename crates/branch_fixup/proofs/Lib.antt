@@ -4,10 +4,10 @@ pub mod Ways
 pub mod Lists
 pub mod Appended
 pub mod Holders
-pub mod TailsFound
+pub mod BlockEndsFound
 pub mod Bridge
 pub mod Placed
-pub mod TailFacts
+pub mod BlockEndFacts
 pub mod Sizes
 pub mod Near
 pub mod Lands

@@ -11,17 +11,18 @@ use Rattle.rv_code.specs.declared.placed.Func.{Func}
 use Rattle.rv_code.specs.declared.placed.Block.{Block}
 use Rattle.rv_code.specs.declared.placed.Role.{Role}
 use Rattle.rv_code.specs.declared.cell.CodeCell.{CodeCell}
-use Rattle.rv_code.specs.layout.ProgramCode.{ProgramCode, is_code_address, IsNamed}
+use Rattle.rv_code.specs.layout.ProgramCode.{ProgramCode, is_code_address, IsNamed, program_code}
 use Rattle.rv_code.specs.layout.Blocks.{AreBlocks}
 use Rattle.rv_code.specs.layout.FunctionLists.{AreLaidOut, address_end}
 use Rattle.rv_code.specs.layout.WorstSizes.{worst_size_of_block}
+use Rattle.rv_code.specs.layout.BlockOrders.{HasAllBlocks}
 use Rattle.addr_map.specs.Spans.{IsMap}
-use Rattle.branch_fixup.specs.declared.growth.Tail.{Tail}
+use Rattle.branch_fixup.specs.declared.growth.BlockEnd.{BlockEnd}
 use Rattle.branch_fixup.specs.Endings.{End, end_of_form}
 use Rattle.branch_fixup.specs.Ends.{AreEnds, begins_of}
-use Rattle.branch_fixup.specs.Forms.{AreForms, FitsLength, end_of, shorter}
-use Rattle.branch_fixup.specs.Growth.{AreEnough, AreGrown, AreTails, IsNeeded, form_at, most_of, place, tail_at}
-use Rattle.branch_fixup.specs.Inputs.{AreBlocksOf, AreDirect, AreNear, IsOrder, code_of, worst_total}
+use Rattle.branch_fixup.specs.Forms.{AreForms, FitsLength, shorter, new_code_end}
+use Rattle.branch_fixup.specs.Growth.{AreEnough, AreGrown, AreBlockEnds, IsNeeded, form_at, most_of, end_at, block_offset}
+use Rattle.branch_fixup.specs.Inputs.{AreBlocksOf, AreDirect, AreNear, worst_total}
 use Rattle.branch_fixup.specs.Strips.{Strip, spans_of, strips_of}
 use Rattle.rv_code.proofs.lists.Follows.{before_of, some_length}
 use Rattle.branch_fixup.proofs.Holders.{last_there}
@@ -31,19 +32,19 @@ use Rattle.branch_fixup.proofs.Map.{valid_map}
 use Rattle.branch_fixup.proofs.Near.{places_between}
 use Rattle.branch_fixup.proofs.Placed.{AreStrips, are_strips, short_spans}
 use Rattle.branch_fixup.proofs.Planned.{planned, planned_length}
-use Rattle.branch_fixup.proofs.Sizes.{strip_least, tails_sum, total_is}
-use Rattle.branch_fixup.proofs.TailFacts.{FallsAfter, IsOfTable, by_table, least, of_table, tails_are, tails_of}
-use Rattle.branch_fixup.proofs.TailsFound.{strip_fall}
+use Rattle.branch_fixup.proofs.Sizes.{strip_least, block_ends_sum, total_is}
+use Rattle.branch_fixup.proofs.BlockEndFacts.{FallsAfter, IsOfTable, by_table, least, of_table, block_ends_are, block_ends_of}
+use Rattle.branch_fixup.proofs.BlockEndsFound.{strip_fall}
 
 module _ (funcs : List Func) (blocks : List Block) (order : List ℕ) (laid : AreLaidOut funcs)
-    (blocks_of : AreBlocksOf funcs blocks) (perm : IsOrder blocks order) (base : ℕ)
-    (room : base + sum_by (worst_size_of_block funcs) blocks ≤ address_end) (ts : List Tail) (zs : List Form)
+    (blocks_of : AreBlocksOf funcs blocks) (perm : HasAllBlocks blocks order) (base : ℕ)
+    (room : base + sum_by (worst_size_of_block funcs) blocks ≤ address_end) (ts : List BlockEnd) (zs : List Form)
     (made : AreEnds (strips_of funcs blocks order) (length order) ts zs) where
   abbrev ss : List Strip
   ss = strips_of funcs blocks order
 
   abbrev code : ProgramCode
-  code = code_of funcs blocks_of.roles blocks_of.cells blocks_of.entry
+  code = program_code funcs blocks_of.roles blocks_of.cells blocks_of.entry
 
   abbrev are : AreBlocks code blocks
   are = blocks_of.are
@@ -63,7 +64,7 @@ module _ (funcs : List Func) (blocks : List Block) (order : List ℕ) (laid : Ar
   abbrev worst : ℕ → ℕ
   worst k = option_map_or (worst_size_of_block funcs) (slice_get blocks k) 0
 
-  most : (k m : ℕ) → slice_get order k ≡ Some m → most_of (tail_at ts k) ≤ 7 * worst m
+  most : (k m : ℕ) → slice_get order k ≡ Some m → most_of (end_at ts k) ≤ 7 * worst m
   most k m at_m =
       let (s, at) = there ss k (let w = slice_get_within order k m at_m in let l = strips_length in omega (arith, w, l)) in
       let plan = planned code blocks are order perm k s at in
@@ -74,40 +75,40 @@ module _ (funcs : List Func) (blocks : List Block) (order : List ℕ) (laid : Ar
       let size = strip_least code plan.b s laid plan.of in
       let long = (some_length s.last ((strips.each k s at).lengths s.last (last_there s))).0 in
       let same : get_or ss k s ≡ s = get_or_from_slice_get ss k s s at in
-      let before = (tails_of ss strips ts zs ends).before k s within ∙ ap (λ (z : Strip). before_of z.inner) same in
+      let before = (block_ends_of ss strips ts zs ends).before k s within ∙ ap (λ (z : Strip). before_of z.inner) same in
       omega (arith, w, size, long, before)
 
-  pub are_tails : AreTails ts
-  are_tails =
-      let sum = tails_sum worst ts order made.tails most in
+  pub are_block_ends : AreBlockEnds ts
+  are_block_ends =
+      let sum = block_ends_sum worst ts order made.block_ends most in
       let total : worst_total funcs blocks order ≡ sum_by (worst_size_of_block funcs) blocks = total_is funcs blocks order perm in
-      tails_are ss strips ts zs ends (omega (arith, sum, total, room))
+      block_ends_are ss strips ts zs ends (omega (arith, sum, total, room))
 
   -- the shortest forms are a beginning
   pub start : AreGrown ts zs
   start = record {
-    one_each = let f = made.forms in let t = made.tails in omega (arith, f, t);
-    needed = λ k within. needed k (let t = made.tails in omega (arith, within, t));
-    fits = λ k within. fits k (let t = made.tails in omega (arith, within, t));
+    one_each = let f = made.forms in let t = made.block_ends in omega (arith, f, t);
+    needed = λ k within. needed k (let t = made.block_ends in omega (arith, within, t));
+    fits = λ k within. fits k (let t = made.block_ends in omega (arith, within, t));
   }
     where
-      fits : (k : ℕ) → k < length order → FitsLength (tail_at ts k).len (form_at zs k)
+      fits : (k : ℕ) → k < length order → FitsLength (end_at ts k).len (form_at zs k)
       fits k within =
           let (s, at) = there ss k (let l = strips_length in omega (arith, within, l)) in
-          subst (λ (n : ℕ). FitsLength n (form_at zs k)) (sym (made.are_tails k s within at).len)
+          subst (λ (n : ℕ). FitsLength n (form_at zs k)) (sym (made.are_block_ends k s within at).len)
           (made.shortest k s within at).ends.fits
 
       needed : (k : ℕ) → k < length order → IsNeeded ts zs k
       needed k within =
           let (s, at) = there ss k (let l = strips_length in omega (arith, within, l)) in
-          let none : shorter (tail_at ts k).len (form_at zs k) ≡ None =
-          ap (λ (n : ℕ). shorter n (form_at zs k)) (made.are_tails k s within at).len
+          let none : shorter (end_at ts k).len (form_at zs k) ≡ None =
+          ap (λ (n : ℕ). shorter n (form_at zs k)) (made.are_block_ends k s within at).len
           ∙ (made.shortest k s within at).shortest in
           rw none tt
 
   module _ (fs : List Form) (grown : AreGrown ts fs) (same : map end_of_form fs ≡ map end_of_form zs) where
     pub one_each : length fs ≡ length ss
-    one_each = let g = grown.one_each in let t = ends.tails in omega (arith, g, t)
+    one_each = let g = grown.one_each in let t = ends.block_ends in omega (arith, g, t)
 
     kinds : (k : ℕ) → k < length ss → end_of_form (form_at fs k) ≡ end_of_form (form_at zs k)
     kinds k within = sym (get_or-map end_of_form fs k form.Plain) ∙ ap
@@ -127,13 +128,13 @@ module _ (funcs : List Func) (blocks : List Block) (order : List ℕ) (laid : Ar
         least = least ss strips ts zs ends fs base one_each kinds after grown;
       }
 
-      pub in_room : end_of ss base fs ≤ base + sum_by (worst_size_of_block funcs) blocks
+      pub in_room : new_code_end ss base fs ≤ base + sum_by (worst_size_of_block funcs) blocks
       in_room =
           let end = all_end code blocks order laid are perm ts zs ends fs base one_each kinds table direct near enough in
           let n : ℕ = length ss in
           let p = places_between code blocks order laid are perm ts zs ends fs base one_each table n 0
           (let z = zero-add n in omega (arith, z)) in
-          let e : place ts fs (0 + n) ≡ place ts fs n = ap (place ts fs) (zero-add n) in
+          let e : block_offset ts fs (0 + n) ≡ block_offset ts fs n = ap (block_offset ts fs) (zero-add n) in
           let all : take n order ≡ order = take_length n order (let l = strips_length in omega (arith, l)) in
           let part : worst_total funcs blocks (take n (drop 0 order)) ≡ worst_total funcs blocks order =
           ap (worst_total funcs blocks) all in
@@ -147,9 +148,9 @@ module _ (funcs : List Func) (blocks : List Block) (order : List ℕ) (laid : Ar
           take_length (suc n) (x ∷ xs) h = ap (λ (l : List ℕ). x ∷ l) (take_length n xs (omega (arith, h)))
 
     pub are_map : base % 2 ≡ 0 → 0 < base → (roles : List (ℕ × Role)) (cells : List CodeCell) (entry : ℕ) →
-        AreBlocks (code_of funcs roles cells entry) blocks → IsMap (λ a. IsTrue (is_code_address funcs a))
-        (IsNamed (code_of funcs roles cells entry)) (spans_of ss base fs)
-    are_map even some roles cells entry blocks_are = valid_map (code_of funcs roles cells entry) blocks order laid
+        AreBlocks (program_code funcs roles cells entry) blocks → IsMap (λ a. IsTrue (is_code_address funcs a))
+        (IsNamed (program_code funcs roles cells entry)) (spans_of ss base fs)
+    are_map even some roles cells entry blocks_are = valid_map (program_code funcs roles cells entry) blocks order laid
         blocks_are perm fs base one_each table even some
 
     pub are_short : All (λ s. s.len ≤ 12) (spans_of ss base fs)
@@ -160,9 +161,9 @@ pub record IsMade (funcs : List Func) (blocks : List Block) (order : List ℕ) (
   pub count : length fs ≡ length order
   pub forms : AreForms (strips_of funcs blocks order) base fs
   pub map : (roles : List (ℕ × Role)) (cells : List CodeCell) (entry : ℕ) →
-      AreBlocks (code_of funcs roles cells entry) blocks → IsMap (λ a. IsTrue (is_code_address funcs a))
-      (IsNamed (code_of funcs roles cells entry)) (spans_of (strips_of funcs blocks order) base fs)
-  pub room : end_of (strips_of funcs blocks order) base fs ≤ base + sum_by (worst_size_of_block funcs) blocks
+      AreBlocks (program_code funcs roles cells entry) blocks → IsMap (λ a. IsTrue (is_code_address funcs a))
+      (IsNamed (program_code funcs roles cells entry)) (spans_of (strips_of funcs blocks order) base fs)
+  pub room : new_code_end (strips_of funcs blocks order) base fs ≤ base + sum_by (worst_size_of_block funcs) blocks
   pub short : All (λ s. s.len ≤ 12) (spans_of (strips_of funcs blocks order) base fs)
 
 -- what a plan is for which there are forms
@@ -170,39 +171,39 @@ pub record IsGiven (funcs : List Func) (blocks : List Block) (order : List ℕ) 
   pub laid : AreLaidOut funcs
   pub direct : AreDirect funcs
   pub blocks_of : AreBlocksOf funcs blocks
-  pub perm : IsOrder blocks order
+  pub perm : HasAllBlocks blocks order
   pub near : AreNear funcs blocks order
   pub even : base % 2 ≡ 0
   pub some : 0 < base
   pub room : base + sum_by (worst_size_of_block funcs) blocks ≤ address_end
 
-pub tails_given : (funcs : List Func) (blocks : List Block) (order : List ℕ) (base : ℕ) →
-    IsGiven funcs blocks order base → (slice : List ℕ) (ts now : List Tail) (zs : List Form) → slice ≡ order →
-    now ≡ ts → AreEnds (strips_of funcs blocks slice) (length slice) ts zs → AreTails now
-tails_given funcs blocks order base g slice ts now zs e d made =
-    subst AreTails (sym d) (are_tails funcs blocks order g.laid g.blocks_of g.perm base g.room ts zs
+pub block_ends_given : (funcs : List Func) (blocks : List Block) (order : List ℕ) (base : ℕ) →
+    IsGiven funcs blocks order base → (slice : List ℕ) (ts now : List BlockEnd) (zs : List Form) → slice ≡ order →
+    now ≡ ts → AreEnds (strips_of funcs blocks slice) (length slice) ts zs → AreBlockEnds now
+block_ends_given funcs blocks order base g slice ts now zs e d made =
+    subst AreBlockEnds (sym d) (are_block_ends funcs blocks order g.laid g.blocks_of g.perm base g.room ts zs
     (subst (λ (o : List ℕ). AreEnds (strips_of funcs blocks o) (length o) ts zs) e made))
 
 pub start_given : (funcs : List Func) (blocks : List Block) (order : List ℕ) (base : ℕ) →
-    IsGiven funcs blocks order base → (slice : List ℕ) (ts now : List Tail) (zs forms_now : List Form) → slice ≡ order →
+    IsGiven funcs blocks order base → (slice : List ℕ) (ts now : List BlockEnd) (zs forms_now : List Form) → slice ≡ order →
     now ≡ ts → forms_now ≡ zs → AreEnds (strips_of funcs blocks slice) (length slice) ts zs → AreGrown now forms_now
 start_given funcs blocks order base g slice ts now zs forms_now e d h made =
-    subst (λ (us : List Tail). AreGrown us forms_now) (sym d) (subst (λ (fs : List Form). AreGrown ts fs) (sym h)
+    subst (λ (us : List BlockEnd). AreGrown us forms_now) (sym d) (subst (λ (fs : List Form). AreGrown ts fs) (sym h)
     (start funcs blocks order g.laid g.blocks_of g.perm base g.room ts zs
     (subst (λ (o : List ℕ). AreEnds (strips_of funcs blocks o) (length o) ts zs) e made)))
 
 pub is_made : (funcs : List Func) (blocks : List Block) (order : List ℕ) (base : ℕ) → IsGiven funcs blocks order base →
-    (slice : List ℕ) (ts now : List Tail) (zs forms_now fs : List Form) → slice ≡ order → now ≡ ts → forms_now ≡ zs →
+    (slice : List ℕ) (ts now : List BlockEnd) (zs forms_now fs : List Form) → slice ≡ order → now ≡ ts → forms_now ≡ zs →
     AreEnds (strips_of funcs blocks slice) (length slice) ts zs → AreGrown now fs →
     map end_of_form fs ≡ map end_of_form forms_now → AreEnough now fs → IsMade funcs blocks order base fs
 is_made funcs blocks order base g slice ts now zs forms_now fs e d h made grown same enough =
     let made_2 : AreEnds (strips_of funcs blocks order) (length order) ts zs =
     subst (λ (o : List ℕ). AreEnds (strips_of funcs blocks o) (length o) ts zs) e made in
-    let grown_2 : AreGrown ts fs = subst (λ (us : List Tail). AreGrown us fs) d grown in
-    let enough_2 : AreEnough ts fs = subst (λ (us : List Tail). AreEnough us fs) d enough in
+    let grown_2 : AreGrown ts fs = subst (λ (us : List BlockEnd). AreGrown us fs) d grown in
+    let enough_2 : AreEnough ts fs = subst (λ (us : List BlockEnd). AreEnough us fs) d enough in
     let same_2 : map end_of_form fs ≡ map end_of_form zs = same ∙ ap (map end_of_form) h in
     record {
-      count = (let o = grown_2.one_each in let t = made_2.tails in omega (arith, o, t));
+      count = (let o = grown_2.one_each in let t = made_2.block_ends in omega (arith, o, t));
       forms = are_forms funcs blocks order g.laid g.blocks_of g.perm base g.room ts zs made_2 fs grown_2 same_2 g.direct
           g.near enough_2;
       map = are_map funcs blocks order g.laid g.blocks_of g.perm base g.room ts zs made_2 fs grown_2 same_2 g.even g.some;

@@ -14,13 +14,13 @@ use Rattle.rv_code.specs.layout.ProgramCode.{ProgramCode, is_code_address, IsNam
 use Rattle.rv_code.specs.layout.Blocks.{AreBlocks, Begins, named}
 use Rattle.rv_code.specs.layout.FunctionLists.{AreLaidOut, HasLength}
 use Rattle.rv_code.specs.layout.Flow.{action_at, target_of}
+use Rattle.rv_code.specs.layout.BlockOrders.{HasAllBlocks}
 use Rattle.addr_map.specs.declared.span.Span.{Span}
 use Rattle.addr_map.specs.Spans.{IsMap, IsStretch, has_byte, is_new_code}
 use Rattle.branch_fixup.specs.Endings.{end_of_form}
 use Rattle.branch_fixup.specs.Ends.{begins_of}
 use Rattle.branch_fixup.specs.Growth.{form_at}
-use Rattle.branch_fixup.specs.Inputs.{IsOrder}
-use Rattle.branch_fixup.specs.Pieces.{Piece, as_it_is, end_from, laid_from, length_in, length_of}
+use Rattle.branch_fixup.specs.Pieces.{Piece, as_it_is, end_from, laid_from, piece_length, length_of}
 use Rattle.branch_fixup.specs.Strips.{Strip, first_in, insts_in, is_alone, pieces_of, pieces_of_strip, spans_of, strips_of}
 use Rattle.branch_fixup.proofs.Falls.{bool_same}
 use Rattle.rv_code.proofs.lists.Follows.{follow_up, laid_func, some_length}
@@ -30,8 +30,8 @@ use Rattle.branch_fixup.proofs.Lists.{Contains-cons_cases, Contains-nil, Contain
 use Rattle.branch_fixup.proofs.Mapped.{AreAll, first_bytes, form_length, is_map, left_end}
 use Rattle.branch_fixup.proofs.Placed.{AreStrips, are_strips, once_one, piece_inst, strips_once, upto_last}
 use Rattle.branch_fixup.proofs.Planned.{InBlock, Planned, in_block, planned}
-use Rattle.branch_fixup.proofs.TailFacts.{IsOfTable}
-use Rattle.branch_fixup.proofs.TailsFound.{strip_address}
+use Rattle.branch_fixup.proofs.BlockEndFacts.{IsOfTable}
+use Rattle.branch_fixup.proofs.BlockEndsFound.{strip_address}
 
 -- Pieces and the blocks that they are of.
 
@@ -79,7 +79,7 @@ from_strip (t ∷ ss) (f ∷ fs) q c = elim (Contains-append_cases (pieces_of_st
 
 -- Their lengths are even, and those of forms that aren't left out aren't 0.
 
-form_even : (n : ℕ) (f : Form) → n % 2 ≡ 0 → length_in n f % 2 ≡ 0
+form_even : (n : ℕ) (f : Form) → n % 2 ≡ 0 → piece_length n f % 2 ≡ 0
 form_even n form.Plain h = h
 form_even n form.Jump h = omega (arith, h)
 form_even n (form.Branch inverted Half true) h = refl
@@ -171,7 +171,7 @@ is_stretch a ps x = bool_same (is_new_code (laid_from a ps) x) (nat_le a x && na
 -- The map.
 
 module _ (code : ProgramCode) (blocks : List Block) (order : List ℕ) (laid : AreLaidOut code.funcs)
-    (are : AreBlocks code blocks) (perm : IsOrder blocks order) (fs : List Form) (base : ℕ)
+    (are : AreBlocks code blocks) (perm : HasAllBlocks blocks order) (fs : List Form) (base : ℕ)
     (len : length fs ≡ length (strips_of code.funcs blocks order)) (table : (k : ℕ) (s : Strip) →
     slice_get (strips_of code.funcs blocks order) k ≡ Some s → IsOfTable s
     (begins_of (strips_of code.funcs blocks order) (k + 1)) (form_at fs k)) where

@@ -15,14 +15,14 @@ use Rattle.rv_code.specs.declared.placed.Placed.{Placed}
 use Rattle.rv_code.specs.layout.Flow.{action_at, target_of}
 use Rattle.addr_map.specs.declared.span.Span.{Span}
 use Rattle.addr_map.specs.Spans.{IsMap}
-use Rattle.branch_fixup.specs.Pieces.{Piece, as_it_is, length_of, length_in, laid_from}
+use Rattle.branch_fixup.specs.Pieces.{Piece, as_it_is, length_of, piece_length, laid_from}
 use Rattle.branch_fixup.specs.Endings.{Goes, LeftOut, ending, end_of_form, begins_at}
 use Rattle.branch_fixup.specs.Strips.{is_alone, first_in}
 use Rattle.branch_fixup.proofs.Laid.{IsFresh, AreOnce, AreEven, once_each, disjoint, are_placed}
 
 -- Of one block: an instruction that is its first one has bytes.
 
-pub form_length : (n : ℕ) (f : Form) → 0 < n → (f ≡ form.Dropped → ⊥) → 0 < length_in n f
+pub form_length : (n : ℕ) (f : Form) → 0 < n → (f ≡ form.Dropped → ⊥) → 0 < piece_length n f
 form_length n form.Plain h k = h
 form_length n form.Jump h k = omega arith
 form_length n (form.Branch inverted Half jump) h k = omega arith
@@ -65,7 +65,7 @@ last_fresh q (p ∷ ps) last f h = last_fresh q ps last f h.1
 last_bytes : (inner : List Placed) (last : Placed) (f : Form) (whole : Bool) (fall after : Option ℕ) →
     AreOnce (map as_it_is inner ++ record { placed = last; form = f } ∷ []) →
     end_of_form f ≡ ending whole (is_alone inner) (action_at last) fall (target_of last) after → 0 < last.len →
-    last.addr ≡ first_in inner last → 0 < length_in last.len f
+    last.addr ≡ first_in inner last → 0 < piece_length last.len f
 last_bytes [] last f whole fall after once table some first =
     form_length last.len f some (λ d. no (left_end whole true (action_at last) fall (target_of last) after
     (sym (ap end_of_form d) ∙ table)).not_alone)

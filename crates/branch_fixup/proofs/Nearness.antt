@@ -5,12 +5,13 @@ use Rattle.std.specs.Option.{option_map_or}
 use Rattle.std.proofs.lemmas.List.Sums.{sum_by-cons}
 use Rattle.rv_code.specs.declared.placed.Func.{Func}
 use Rattle.rv_code.specs.declared.placed.Block.{Block}
-use Rattle.rv_code.specs.layout.WorstSizes.{worst_size_of_block}
-use Rattle.branch_fixup.specs.Inputs.{AreNear, IsOrder, near_limit, worst_between, worst_total}
+use Rattle.rv_code.specs.layout.WorstSizes.{worst_size_of_block, near_limit}
+use Rattle.rv_code.specs.layout.BlockOrders.{HasAllBlocks}
+use Rattle.branch_fixup.specs.Inputs.{AreNear, worst_between, worst_total}
 use Rattle.branch_fixup.proofs.Sizes.{between_total, total_is}
 
 -- All code of at most 1,000,000 bytes is near, in any order.
-pub near_by_total : (funcs : List Func) (blocks : List Block) (order : List ℕ) → IsOrder blocks order →
+pub near_by_total : (funcs : List Func) (blocks : List Block) (order : List ℕ) → HasAllBlocks blocks order →
     sum_by (worst_size_of_block funcs) blocks ≤ near_limit → AreNear funcs blocks order
 near_by_total funcs blocks order perm low = record {
   ahead = λ i j a le x y. all i j;

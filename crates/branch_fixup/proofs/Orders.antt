@@ -13,7 +13,7 @@ use Rattle.std.proofs.lemmas.List.Sorted.{length_permutation}
 use Rattle.std.proofs.lemmas.Option.{slice_get_within, get_or_from_slice_get}
 use Rattle.addr_map.proofs.Orders.{AllPairs-permutation}
 use Rattle.rv_code.specs.declared.placed.Block.{Block}
-use Rattle.branch_fixup.specs.Inputs.{IsOrder}
+use Rattle.rv_code.specs.layout.BlockOrders.{HasAllBlocks}
 use Rattle.branch_fixup.proofs.Lists.{Contains-cons_cases, at_contains, contains_at}
 
 range_below : (n : ℕ) → All (λ x. x < n) (range_with_len 0 n)
@@ -27,28 +27,28 @@ range_differ n = λ i j d less within.
     let f = get_or-range_with_len 0 n j d (omega (arith, within, l)) in
     λ same. absurd (omega (arith, less, e, f, same))
 
-pub order_length : (blocks : List Block) (order : List ℕ) → IsOrder blocks order → length order ≡ length blocks
+pub order_length : (blocks : List Block) (order : List ℕ) → HasAllBlocks blocks order → length order ≡ length blocks
 order_length blocks order is = length_permutation (range_with_len 0 (length blocks)) order is
     ∙ length-range_with_len 0 (length blocks)
 
-pub order_within : (blocks : List Block) (order : List ℕ) → IsOrder blocks order → (k m : ℕ) →
+pub order_within : (blocks : List Block) (order : List ℕ) → HasAllBlocks blocks order → (k m : ℕ) →
     slice_get order k ≡ Some m → m < length blocks
 order_within blocks order is k m at =
     All-contains (λ x. x < length blocks) order m (All-permutation (λ x. x < length blocks)
     (range_with_len 0 (length blocks)) order is (range_below (length blocks))) (at_contains order k m at)
 
-pub order_has : (blocks : List Block) (order : List ℕ) → IsOrder blocks order → (m : ℕ) → m < length blocks →
+pub order_has : (blocks : List Block) (order : List ℕ) → HasAllBlocks blocks order → (m : ℕ) → m < length blocks →
     (k : ℕ) × (slice_get order k ≡ Some m)
 order_has blocks order is m within =
     let l = length-range_with_len 0 (length blocks) in
     contains_at order m (Contains-permutation (range_with_len 0 (length blocks)) order m is
     (m, omega (arith, within, l), get_or-range_with_len 0 (length blocks) m m within ∙ zero-add m))
 
-pub order_differ : (blocks : List Block) (order : List ℕ) → IsOrder blocks order → AllPairs (λ x y. x ≢ y) order
+pub order_differ : (blocks : List Block) (order : List ℕ) → HasAllBlocks blocks order → AllPairs (λ x y. x ≢ y) order
 order_differ blocks order is = AllPairs-permutation (λ (x y : ℕ). x ≢ y) (λ x y ne e. ne (sym e))
     (range_with_len 0 (length blocks)) order is (range_differ (length blocks))
 
-pub order_once : (blocks : List Block) (order : List ℕ) → IsOrder blocks order → (i j m n : ℕ) →
+pub order_once : (blocks : List Block) (order : List ℕ) → HasAllBlocks blocks order → (i j m n : ℕ) →
     slice_get order i ≡ Some m → slice_get order j ≡ Some n → m ≡ n → i ≡ j
 order_once blocks order is i j m n at_i at_j e = elim (cases_order i j) [
   | inl same ↦ same
@@ -62,7 +62,7 @@ order_once blocks order is i j m n at_i at_j e = elim (cases_order i j) [
   ]
 ]
 
-pub order_all_within : (blocks : List Block) (order : List ℕ) → IsOrder blocks order → All (λ m. m < length blocks) order
+pub order_all_within : (blocks : List Block) (order : List ℕ) → HasAllBlocks blocks order → All (λ m. m < length blocks) order
 order_all_within blocks order is = All-permutation (λ x. x < length blocks) (range_with_len 0 (length blocks)) order is
     (range_below (length blocks))
 

@@ -11,15 +11,15 @@ use Rattle.rv_code.specs.declared.placed.Block.{Block}
 use Rattle.rv_code.specs.layout.ProgramCode.{ProgramCode}
 use Rattle.rv_code.specs.layout.Blocks.{AreBlocks}
 use Rattle.rv_code.specs.layout.FunctionLists.{Follow, HasLength, AreLaidOut}
+use Rattle.rv_code.specs.layout.BlockOrders.{HasAllBlocks}
 use Rattle.addr_map.specs.declared.span.Span.{Span}
 use Rattle.addr_map.specs.Spans.{new}
-use Rattle.branch_fixup.specs.declared.growth.Tail.{Tail}
+use Rattle.branch_fixup.specs.declared.growth.BlockEnd.{BlockEnd}
 use Rattle.branch_fixup.specs.Ends.{IsAt}
-use Rattle.branch_fixup.specs.Growth.{form_at, place}
-use Rattle.branch_fixup.specs.Inputs.{IsOrder}
+use Rattle.branch_fixup.specs.Growth.{form_at, block_offset}
 use Rattle.branch_fixup.specs.Pieces.{Piece, PlacedFrom, as_it_is, laid_from, length_of}
 use Rattle.branch_fixup.specs.Strips.{Strip, strips_of, insts_in, first_in, pieces_of, pieces_of_strip, spans_of}
-use Rattle.branch_fixup.proofs.Bridge.{AreTailsOf, block_placed}
+use Rattle.branch_fixup.proofs.Bridge.{AreBlockEndsOf, block_placed}
 use Rattle.rv_code.proofs.lists.Follows.{before_of, some_length}
 use Rattle.branch_fixup.proofs.Holders.{blocks_up}
 use Rattle.branch_fixup.proofs.Laid.{IsFresh, AreOnce, placed_from}
@@ -44,7 +44,7 @@ pub record AreStrips (ss : List Strip) : Type 0 where
   pub differ : (i j : ℕ) (s t : Strip) → slice_get ss i ≡ Some s → slice_get ss j ≡ Some t → i < j → Differ s t
 
 pub are_strips : (code : ProgramCode) (blocks : List Block) (order : List ℕ) → AreLaidOut code.funcs →
-    AreBlocks code blocks → IsOrder blocks order → AreStrips (strips_of code.funcs blocks order)
+    AreBlocks code blocks → HasAllBlocks blocks order → AreStrips (strips_of code.funcs blocks order)
 are_strips code blocks order laid are perm = record { each = each; differ = differ }
   where
     each : (k : ℕ) (s : Strip) → slice_get (strips_of code.funcs blocks order) k ≡ Some s → IsStrip s
@@ -214,18 +214,18 @@ at_place ss j offset a h = by (slice_get ss j) refl h
     by None e k = absurd k
     by (Some s) e (sum, (i, p, within, is, addr)) = record { s = s; p = p; at = e; has = (i, within, is); addr = addr; sum = sum }
 
-pub address_at : (ts : List Tail) (ss : List Strip) (fs : List Form) (base : ℕ) → AreStrips ss → AreTailsOf ts ss →
+pub address_at : (ts : List BlockEnd) (ss : List Strip) (fs : List Form) (base : ℕ) → AreStrips ss → AreBlockEndsOf ts ss →
     length fs ≡ length ss → (j offset a : ℕ) → IsAt ss j offset a → new (spans_of ss base fs) a ≡ base +
-    (place ts fs j + offset)
-address_at ts ss fs base are tails len j offset a is =
+    (block_offset ts fs j + offset)
+address_at ts ss fs base are block_ends len j offset a is =
     let h = at_place ss j offset a is in
     let within = slice_get_within ss j h.s h.at in
     let f : ℕ → ℕ = new (spans_of ss base fs) in
-    let placed = block_placed f ts ss fs base h.s tails len (placed_from base (pieces_of ss fs) (strips_once ss are fs))
+    let placed = block_placed f ts ss fs base h.s block_ends len (placed_from base (pieces_of ss fs) (strips_once ss are fs))
     j within in
     let same : get_or ss j h.s ≡ h.s = get_or_from_slice_get ss j h.s h.s h.at in
-    let here = subst (λ (z : Strip). PlacedFrom f (base + place ts fs j) (pieces_of_strip z (form_at fs j))) same placed in
-    let r = strip_place f (base + place ts fs j) h.s (form_at fs j) (are.each j h.s h.at) here h.p h.has in
+    let here = subst (λ (z : Strip). PlacedFrom f (base + block_offset ts fs j) (pieces_of_strip z (form_at fs j))) same placed in
+    let r = strip_place f (base + block_offset ts fs j) h.s (form_at fs j) (are.each j h.s h.at) here h.p h.has in
     let sum = h.sum in
     let addr = h.addr in
     let g : f h.p.addr ≡ f a = ap f h.addr in

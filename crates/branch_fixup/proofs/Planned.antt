@@ -11,8 +11,8 @@ use Rattle.rv_code.specs.layout.ProgramCode.{ProgramCode}
 use Rattle.rv_code.specs.layout.Blocks.{IsBlockOf, AreBlocks, EndsBlock, after_end}
 use Rattle.rv_code.specs.layout.FunctionLists.{Follow, HasLength, AreLaidOut}
 use Rattle.rv_code.specs.layout.Flow.{action_at, is_branch, is_plain_jump}
+use Rattle.rv_code.specs.layout.BlockOrders.{HasAllBlocks}
 use Rattle.branch_fixup.specs.Endings.{fall_of}
-use Rattle.branch_fixup.specs.Inputs.{IsOrder}
 use Rattle.branch_fixup.specs.Strips.{Strip, strip_of, strips_of, insts_in, first_in}
 use Rattle.branch_fixup.proofs.Covered.{BlockOf, block_of}
 use Rattle.rv_code.proofs.lists.Follows.{before_of, follow_drop, follow_take, laid_func, inst_length}
@@ -220,7 +220,7 @@ module _ (code : ProgramCode) (blocks : List Block) (are : AreBlocks code blocks
       subst (λ (o : Option Strip). length (cons_option o (filter_map strip_at ns)) ≡ suc (length ns)) (sym is)
       (ap suc (strips_length ns (λ j l h. within (suc j) l h)))
 
-  module _ (order : List ℕ) (perm : IsOrder blocks order) where
+  module _ (order : List ℕ) (perm : HasAllBlocks blocks order) where
     pub planned_length : length (strips_of code.funcs blocks order) ≡ length order
     planned_length = strips_length order (order_within blocks order perm)
 

@@ -10,14 +10,15 @@ use Rattle.std.proofs.lemmas.List.{set-set, length-set}
 use Rattle.rv_code.specs.declared.layout.Form.{Form}
 use Rattle.rv_code.specs.declared.layout.Form.TheVariants as form
 use Rattle.rv_code.specs.declared.layout.Size.TheVariants.{Half, Full, Long}
-use Rattle.branch_fixup.specs.declared.growth.Tail.{Tail}
+use Rattle.branch_fixup.specs.declared.growth.BlockEnd.{BlockEnd}
 use Rattle.branch_fixup.specs.Endings.{End, end_of_form}
-use Rattle.branch_fixup.specs.Pieces.{length_in}
+use Rattle.branch_fixup.specs.Pieces.{piece_length}
 use Rattle.branch_fixup.specs.Forms.{shorter, FitsLength}
-use Rattle.branch_fixup.specs.Growth.{tail_at, form_at, length_at, place, longer, left_of, most_of, is_enough, AreTails, IsNeeded}
+use Rattle.branch_fixup.specs.Growth.{end_at, form_at, block_length, longer, left_of, most_of, is_enough, AreBlockEnds, IsNeeded}
+use Rattle.branch_fixup.specs.Growth.{block_offset}
 use Rattle.branch_fixup.proofs.Grown.{IsBelow, not_enough_more}
 
-pub form_length : (len : ℕ) (f : Form) → len ≤ 4 → length_in len f ≤ 12
+pub form_length : (len : ℕ) (f : Form) → len ≤ 4 → piece_length len f ≤ 12
 form_length len form.Plain h = omega (arith, h)
 form_length len form.Jump h = omega (arith, h)
 form_length len (form.Branch inverted Half true) h = omega arith
@@ -30,45 +31,46 @@ form_length len (form.Goto true) h = omega arith
 form_length len (form.Goto false) h = omega arith
 form_length len form.Dropped h = omega arith
 
-pub place-more : (ts : List Tail) (fs : List Form) (k : ℕ) → place ts fs (k + 1) ≡ place ts fs k + length_at ts fs k
+pub place-more : (ts : List BlockEnd) (fs : List Form) (k : ℕ) →
+    block_offset ts fs (k + 1) ≡ block_offset ts fs k + block_length ts fs k
 place-more ts fs k = rw (add-one k) refl
 
 -- no place is far from the start
-place_most : (ts : List Tail) (fs : List Form) → AreTails ts → (i : ℕ) → i ≤ length ts →
-    place ts fs i ≤ sum_by most_of (take i ts)
-place_most ts fs tails zero within = omega arith
-place_most ts fs tails (suc i) within =
-    let rest = place_most ts fs tails i (omega (arith, within)) in
+place_most : (ts : List BlockEnd) (fs : List Form) → AreBlockEnds ts → (i : ℕ) → i ≤ length ts →
+    block_offset ts fs i ≤ sum_by most_of (take i ts)
+place_most ts fs block_ends zero within = omega arith
+place_most ts fs block_ends (suc i) within =
+    let rest = place_most ts fs block_ends i (omega (arith, within)) in
     let more = sum_by_more most_of ts i (record { before = 0; len = 0; to = 0; offset = 0 }) (omega (arith, within)) in
     let e : sum_by most_of (take (suc i) ts) ≡ sum_by most_of (take (i + 1) ts) =
     ap (λ (j : ℕ). sum_by most_of (take j ts)) (sym (add-one i)) in
-    let short = tails.short i (omega (arith, within)) in
-    let l = form_length (tail_at ts i).len (form_at fs i) short in
+    let short = block_ends.short i (omega (arith, within)) in
+    let l = form_length (end_at ts i).len (form_at fs i) short in
     omega (arith, rest, more, e, l)
 
-pub place_low : (ts : List Tail) (fs : List Form) → AreTails ts → (i : ℕ) → i ≤ length ts → place ts fs i < 2 ^ 62
-place_low ts fs tails i within =
-    let most = place_most ts fs tails i within in
+pub place_low : (ts : List BlockEnd) (fs : List Form) → AreBlockEnds ts → (i : ℕ) → i ≤ length ts → block_offset ts fs i < 2 ^ 62
+place_low ts fs block_ends i within =
+    let most = place_most ts fs block_ends i within in
     let part = sum_by-take-le most_of ts i in
-    let low = tails.low in
+    let low = block_ends.low in
     omega (arith, most, part, low)
 
-pub before_low : (ts : List Tail) → AreTails ts → (i : ℕ) → i < length ts → (tail_at ts i).before < 2 ^ 62
-before_low ts tails i within =
+pub before_low : (ts : List BlockEnd) → AreBlockEnds ts → (i : ℕ) → i < length ts → (end_at ts i).before < 2 ^ 62
+before_low ts block_ends i within =
     let part = sum_by_more_le most_of ts i (record { before = 0; len = 0; to = 0; offset = 0 }) within in
-    let low = tails.low in
+    let low = block_ends.low in
     omega (arith, part, low)
 
-pub pushed : (ts : List Tail) (fs : List Form) (v w : List ℕ) (k at : ℕ) → length v ≡ k + 1 →
-    ((i : ℕ) → i ≤ k → get_or v i 0 ≡ place ts fs i) → at ≡ place ts fs (k + 1) → w ≡ v ++ at ∷ [] → (i : ℕ) →
-    i ≤ k + 1 → get_or w i 0 ≡ place ts fs i
+pub pushed : (ts : List BlockEnd) (fs : List Form) (v w : List ℕ) (k at : ℕ) → length v ≡ k + 1 →
+    ((i : ℕ) → i ≤ k → get_or v i 0 ≡ block_offset ts fs i) → at ≡ block_offset ts fs (k + 1) → w ≡ v ++ at ∷ [] → (i : ℕ) →
+    i ≤ k + 1 → get_or w i 0 ≡ block_offset ts fs i
 pushed ts fs v w k at len old e is i h = rw is (elim (cases_lt i (k + 1)) [
   | inl below ↦ get_or_append_left v (at ∷ []) 0 i (omega (arith, len, below)) ∙ old i (omega (arith, below))
   | inr above ↦
       let same : i ≡ k + 1 = omega (arith, h, above) in
       let first : i - (k + 1) ≡ 0 = omega (arith, same) in
       get_or-append_right v (at ∷ []) (k + 1) i 0 len above ∙ ap (λ (j : ℕ). get_or (at ∷ []) j 0) first ∙ e
-      ∙ ap (place ts fs) (sym same)
+      ∙ ap (block_offset ts fs) (sym same)
 ])
 
 -- A form that isn't enough grows by one step, and the one before it is the next shorter one.
@@ -77,7 +79,7 @@ pub record GrowsBy (len : ℕ) (f : Form) : Type 0 where
   pub one_less : left_of (longer f) + 1 ≡ left_of f
   pub fits : FitsLength len (longer f)
 
-pub grows : (ts : List Tail) (fs : List Form) (k len : ℕ) (f : Form) → FitsLength len f → is_enough ts fs k f ≡ false →
+pub grows : (ts : List BlockEnd) (fs : List Form) (k len : ℕ) (f : Form) → FitsLength len f → is_enough ts fs k f ≡ false →
     GrowsBy len f
 grows ts fs k len (form.Branch inverted Half jump) fits h = record {
   back = rw (eq-eqb len 2 fits) refl;
@@ -92,7 +94,7 @@ grows ts fs k len form.Plain fits h = absurd (cc)
 grows ts fs k len form.Jump fits h = absurd (cc)
 grows ts fs k len form.Dropped fits h = absurd (cc)
 
-pub longer_length : (len : ℕ) (f : Form) → length_in len f ≤ length_in len (longer f)
+pub longer_length : (len : ℕ) (f : Form) → piece_length len f ≤ piece_length len (longer f)
 longer_length len (form.Branch inverted Half jump) = omega arith
 longer_length len (form.Branch inverted Full jump) = omega arith
 longer_length len (form.Branch inverted Long jump) = omega arith
@@ -108,11 +110,11 @@ at_same fs i x h = get_or-set_same fs i x form.Plain h
 pub at_other : (fs : List Form) (i k : ℕ) (x : Form) → k ≢ i → form_at (slice_set fs i x) k ≡ form_at fs k
 at_other fs i k x ne = get_or-set_other fs i k x form.Plain ne
 
-below_trans : (ts : List Tail) (xs ys zs : List Form) → IsBelow ts xs ys → IsBelow ts ys zs → IsBelow ts xs zs
+below_trans : (ts : List BlockEnd) (xs ys zs : List Form) → IsBelow ts xs ys → IsBelow ts ys zs → IsBelow ts xs zs
 below_trans ts xs ys zs a b = record { each = λ k. let x = a.each k in let y = b.each k in omega (arith, x, y) }
 
-below_set : (ts : List Tail) (xs ys : List Form) (i : ℕ) (x y : Form) → i < length xs → i < length ys →
-    IsBelow ts xs ys → length_in (tail_at ts i).len x ≤ length_in (tail_at ts i).len y →
+below_set : (ts : List BlockEnd) (xs ys : List Form) (i : ℕ) (x y : Form) → i < length xs → i < length ys →
+    IsBelow ts xs ys → piece_length (end_at ts i).len x ≤ piece_length (end_at ts i).len y →
     IsBelow ts (slice_set xs i x) (slice_set ys i y)
 below_set ts xs ys i x y h k b le = record {
   each = λ j. ⊎_elim
@@ -125,35 +127,35 @@ set_itself : (fs : List Form) (i : ℕ) → slice_set fs i (form_at fs i) ≡ fs
 set_itself fs i = set-get_or fs i form.Plain
 
 -- a form that grows makes no block shorter
-pub below_grow : (ts : List Tail) (fs : List Form) (i : ℕ) → i < length fs →
+pub below_grow : (ts : List BlockEnd) (fs : List Form) (i : ℕ) → i < length fs →
     IsBelow ts fs (slice_set fs i (longer (form_at fs i)))
 below_grow ts fs i h = record {
   each = λ j. ⊎_elim
-      (λ (same : j ≡ i). let l = longer_length (tail_at ts i).len (form_at fs i) in
+      (λ (same : j ≡ i). let l = longer_length (end_at ts i).len (form_at fs i) in
       rw (same, at_same fs i (longer (form_at fs i)) h) (omega (arith, l)))
       (λ (ne : j ≢ i). rw (at_other fs i j (longer (form_at fs i)) ne) (omega arith))
       (cases_eq j i);
 }
 
 -- In a round, before block i.
-pub record IsRound (ts : List Tail) (olds fs : List Form) (i : ℕ) : Type 0 where
+pub record IsRound (ts : List BlockEnd) (olds fs : List Form) (i : ℕ) : Type 0 where
   pub len : length fs ≡ length ts
   pub rest : (k : ℕ) → i ≤ k → form_at fs k ≡ form_at olds k
   pub below : IsBelow ts olds fs
   pub needed : (k : ℕ) → k < length ts → IsNeeded ts fs k
-  pub fits : (k : ℕ) → k < length ts → FitsLength (tail_at ts k).len (form_at fs k)
+  pub fits : (k : ℕ) → k < length ts → FitsLength (end_at ts k).len (form_at fs k)
 
-pub grow_step : (ts : List Tail) (olds fs : List Form) (i : ℕ) → AreTails ts → i < length ts →
+pub grow_step : (ts : List BlockEnd) (olds fs : List Form) (i : ℕ) → AreBlockEnds ts → i < length ts →
     is_enough ts olds i (form_at olds i) ≡ false → IsRound ts olds fs i →
     IsRound ts olds (slice_set fs i (longer (form_at fs i))) (i + 1)
-grow_step ts olds fs i tails i_in short r =
+grow_step ts olds fs i block_ends i_in short r =
     let f : Form = form_at fs i in
     let new : List Form = slice_set fs i (longer f) in
     let in_fs : i < length fs = let l = r.len in omega (arith, i_in, l) in
     let same_f : form_at olds i ≡ f = sym (r.rest i (omega arith)) in
     let short_old : is_enough ts olds i f ≡ false = subst (λ (x : Form). is_enough ts olds i x ≡ false) same_f short in
-    let short_now : is_enough ts fs i f ≡ false = not_enough_more ts olds fs tails r.below i f i_in short_old in
-    let g = grows ts olds i (tail_at ts i).len f (r.fits i i_in) short_old in
+    let short_now : is_enough ts fs i f ≡ false = not_enough_more ts olds fs block_ends r.below i f i_in short_old in
+    let g = grows ts olds i (end_at ts i).len f (r.fits i i_in) short_old in
     let here : form_at new i ≡ longer f = at_same fs i (longer f) in_fs in
     let up : IsBelow ts fs new = below_grow ts fs i in_fs in
     record {
@@ -165,7 +167,7 @@ grow_step ts olds fs i tails i_in short r =
           let back : slice_set new i f ≡ fs = set-set fs i (longer f) f ∙ set_itself fs i in
           rw (same, here, g.back, back) short_now)
           (λ (ne : k ≢ i). rw (at_other fs i k (longer f) ne) (more k k_in (form_at fs k)
-          (shorter (tail_at ts k).len (form_at fs k)) (r.needed k k_in)))
+          (shorter (end_at ts k).len (form_at fs k)) (r.needed k k_in)))
           (cases_eq k i);
       fits = λ k k_in. ⊎_elim
           (λ (same : k ≡ i). rw (same, here) g.fits)
@@ -180,11 +182,11 @@ grow_step ts olds fs i tails i_in short r =
     more k k_in y (Some x) h =
         let l = r.len in
         let new_len = length-set fs i (longer (form_at fs i)) in
-        not_enough_more ts (slice_set fs k x) (slice_set (slice_set fs i (longer (form_at fs i))) k x) tails
+        not_enough_more ts (slice_set fs k x) (slice_set (slice_set fs i (longer (form_at fs i))) k x) block_ends
         (below_set ts fs (slice_set fs i (longer (form_at fs i))) k x x (omega (arith, k_in, l))
         (omega (arith, k_in, l, new_len)) (below_grow ts fs i (omega (arith, l, i_in))) (omega arith)) k x k_in h
 
-pub stay_step : (ts : List Tail) (olds fs : List Form) (i : ℕ) → IsRound ts olds fs i → IsRound ts olds fs (i + 1)
+pub stay_step : (ts : List BlockEnd) (olds fs : List Form) (i : ℕ) → IsRound ts olds fs i → IsRound ts olds fs (i + 1)
 stay_step ts olds fs i r = record {
   len = r.len;
   rest = λ k le. r.rest k (omega (arith, le));
@@ -193,8 +195,8 @@ stay_step ts olds fs i r = record {
   fits = r.fits;
 }
 
-pub left-grow : (ts : List Tail) (olds fs : List Form) (i : ℕ) → i < length fs →
-    GrowsBy (tail_at ts i).len (form_at fs i) → sum_by left_of (slice_set fs i (longer (form_at fs i))) + 1 ≡ sum_by
+pub left-grow : (ts : List BlockEnd) (olds fs : List Form) (i : ℕ) → i < length fs →
+    GrowsBy (end_at ts i).len (form_at fs i) → sum_by left_of (slice_set fs i (longer (form_at fs i))) + 1 ≡ sum_by
     left_of fs
 left-grow ts olds fs i h g = let e = sum_by-set left_of fs i (longer (form_at fs i)) form.Plain h in let o =
     g.one_less in omega (arith, e, o)

@@ -22,18 +22,19 @@ use Rattle.rv_code.specs.layout.Blocks.{Begins, at_start, named, after_end, IsBl
 use Rattle.rv_code.specs.layout.FunctionLists.{HasLength, AreLaidOut}
 use Rattle.rv_code.specs.layout.Flow.{action_at, target_of, falls_at, is_branch}
 use Rattle.rv_code.specs.layout.WorstSizes.{added_jump, worst_length, worst_size_of_block}
+use Rattle.rv_code.specs.layout.BlockOrders.{HasAllBlocks}
 use Rattle.branch_fixup.specs.Endings.{End, Kept, Goes, LeftOut, begins_at, ending, fall_of}
-use Rattle.branch_fixup.specs.declared.growth.Tail.{Tail}
-use Rattle.branch_fixup.specs.Growth.{most_of, tail_at}
-use Rattle.branch_fixup.specs.Inputs.{IsOrder, worst_between, worst_total}
-use Rattle.branch_fixup.specs.Pieces.{length_in}
+use Rattle.branch_fixup.specs.declared.growth.BlockEnd.{BlockEnd}
+use Rattle.branch_fixup.specs.Growth.{most_of, end_at}
+use Rattle.branch_fixup.specs.Inputs.{worst_between, worst_total}
+use Rattle.branch_fixup.specs.Pieces.{piece_length}
 use Rattle.branch_fixup.specs.Strips.{Strip, first_in, insts_in, is_alone}
 use Rattle.rv_code.proofs.lists.Follows.{before_of, follow_at, laid_func, some_length}
 use Rattle.branch_fixup.proofs.Holders.{last_there}
 use Rattle.branch_fixup.proofs.Lists.{Contains-there}
 use Rattle.branch_fixup.proofs.Placed.{IsStrip, before_is}
 use Rattle.branch_fixup.proofs.Planned.{StripOf, in_block, insts_are, strip_follows, strip_length}
-use Rattle.branch_fixup.proofs.TailFacts.{IsOfTable, branch_end, goto_end}
+use Rattle.branch_fixup.proofs.BlockEndFacts.{IsOfTable, branch_end, goto_end}
 
 -- The length of an instruction.
 
@@ -125,7 +126,7 @@ whole_kept alone x fall t next e h = (_, h)
 
 -- the last instruction, with what is added after it
 last_within : (s : Strip) (next : Option ℕ) (g : Form) → s.last.len ≤ 4 → IsOfTable s next g →
-    length_in s.last.len g ≤ worst_length s.last + extra s.fall
+    piece_length s.last.len g ≤ worst_length s.last + extra s.fall
 last_within s next form.Plain short h = let l = inst_within s.last short in omega (arith, l)
 last_within s next form.Jump short h =
     let l = inst_within s.last short in
@@ -138,7 +139,7 @@ last_within s next (form.Branch inverted size jump) short h =
     by size jump w b.falls_jump
   where
     by : (size : _) (jump : Bool) → worst_length s.last ≡ 8 → (jump ≡ true → is_some s.fall ≡ true) →
-        length_in s.last.len (form.Branch inverted size jump) ≤ worst_length s.last + extra s.fall
+        piece_length s.last.len (form.Branch inverted size jump) ≤ worst_length s.last + extra s.fall
     by Half true w j = let e = extra_is s.fall (j refl) in omega (arith, w, e)
     by Half false w j = omega (arith, w)
     by Full true w j = let e = extra_is s.fall (j refl) in omega (arith, w, e)
@@ -149,17 +150,17 @@ last_within s next (form.Goto half) short h =
     let b = goto_end s.whole (is_alone s.inner) (action_at s.last) s.fall (target_of s.last) next h in
     by half (worst_by s.last (Jump 0 b.imm) b.jump ∙ jump_long s.last.len b.imm)
   where
-    by : (half : Bool) → worst_length s.last ≡ 4 → length_in s.last.len (form.Goto half) ≤ worst_length s.last + extra s.fall
+    by : (half : Bool) → worst_length s.last ≡ 4 → piece_length s.last.len (form.Goto half) ≤ worst_length s.last + extra s.fall
     by true w = omega (arith, w)
     by false w = omega (arith, w)
 last_within s next form.Dropped short h = omega arith
 
 -- The same in a function that moves as one piece.
 whole_within : (s : Strip) (next : Option ℕ) (g : Form) → s.whole ≡ true → IsOfTable s next g →
-    length_in s.last.len g ≤ s.last.len + extra s.fall
+    piece_length s.last.len g ≤ s.last.len + extra s.fall
 whole_within s next g whole h = by g h
   where
-    by : (g : Form) → IsOfTable s next g → length_in s.last.len g ≤ s.last.len + extra s.fall
+    by : (g : Form) → IsOfTable s next g → piece_length s.last.len g ≤ s.last.len + extra s.fall
     by form.Plain h = omega arith
     by form.Jump h =
         let e = extra_is s.fall (kept_falls s.whole (is_alone s.inner) (action_at s.last) s.fall (target_of s.last) next h) in
@@ -281,10 +282,10 @@ fits_in code b s laid x n whole_n other_n = by x.func.whole refl
         in_front ps qs p c = Contains-append_left ps qs p c
 
 pub strip_within : (code : ProgramCode) (b : Block) (s : Strip) → AreLaidOut code.funcs → StripOf code b s →
-    (next : Option ℕ) (g : Form) → IsOfTable s next g → before_of s.inner + length_in s.last.len g ≤ worst_size_of_block
+    (next : Option ℕ) (g : Form) → IsOfTable s next g → before_of s.inner + piece_length s.last.len g ≤ worst_size_of_block
     code.funcs b
 strip_within code b s laid x next g h =
-    fits_in code b s laid x (length_in s.last.len g) (λ w. whole_within s next g w h)
+    fits_in code b s laid x (piece_length s.last.len g) (λ w. whole_within s next g w h)
     (inl (last_within s next g (some_length s.last (strip_length code b s laid x s.last (last_there s))).1 h))
 
 -- it has at least its bytes in the input
@@ -309,7 +310,7 @@ range_sum w f a (b ∷ bs) h =
     omega (arith, here, rest, x, y)
 
 -- all blocks in an order take what they take in another one
-pub total_is : (funcs : List Func) (blocks : List Block) (order : List ℕ) → IsOrder blocks order →
+pub total_is : (funcs : List Func) (blocks : List Block) (order : List ℕ) → HasAllBlocks blocks order →
     worst_total funcs blocks order ≡ sum_by (worst_size_of_block funcs) blocks
 total_is funcs blocks order perm =
     sum_by-IsPermutation (λ (k : ℕ). option_map_or (worst_size_of_block funcs) (slice_get blocks k) 0)
@@ -326,14 +327,14 @@ between_total funcs blocks order i j =
     let b = sum_by-take-drop w order i in
     omega (arith, a, b)
 
--- the sum of what tails need at most
-pub tails_sum : (w : ℕ → ℕ) (ts : List Tail) (order : List ℕ) → length ts ≡ length order →
-    ((k m : ℕ) → slice_get order k ≡ Some m → most_of (tail_at ts k) ≤ 7 * w m) → sum_by most_of ts ≤ 7 * sum_by w order
-tails_sum w [] order l h = omega arith
-tails_sum w (t ∷ ts) [] l h = absurd (omega (arith, l))
-tails_sum w (t ∷ ts) (m ∷ ms) l h =
+-- the sum of what block ends need at most
+pub block_ends_sum : (w : ℕ → ℕ) (ts : List BlockEnd) (order : List ℕ) → length ts ≡ length order →
+    ((k m : ℕ) → slice_get order k ≡ Some m → most_of (end_at ts k) ≤ 7 * w m) → sum_by most_of ts ≤ 7 * sum_by w order
+block_ends_sum w [] order l h = omega arith
+block_ends_sum w (t ∷ ts) [] l h = absurd (omega (arith, l))
+block_ends_sum w (t ∷ ts) (m ∷ ms) l h =
     let here = h 0 m refl in
-    let rest = tails_sum w ts ms (omega (arith, l)) (λ k n at. h (suc k) n at) in
+    let rest = block_ends_sum w ts ms (omega (arith, l)) (λ k n at. h (suc k) n at) in
     let a = sum_by-cons most_of t ts in
     let b = sum_by-cons w m ms in
     omega (arith, here, rest, a, b)

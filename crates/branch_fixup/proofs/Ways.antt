@@ -6,159 +6,163 @@ use Rattle.std.specs.Option.{option_map_or}
 use Rattle.std.proofs.lemmas.Bool.{and_parts, leb-true, ltb-true, ltb-false, cases_eq, cases_order}
 use Rattle.std.proofs.lemmas.List.{get_or-set_same, get_or-set_other}
 use Rattle.rv_code.specs.declared.layout.Form.{Form}
-use Rattle.branch_fixup.specs.declared.growth.Tail.{Tail}
+use Rattle.branch_fixup.specs.declared.growth.BlockEnd.{BlockEnd}
 use Rattle.branch_fixup.specs.Forms.{FitsLength}
-use Rattle.branch_fixup.specs.Pieces.{length_in}
-use Rattle.branch_fixup.specs.Growth.{tail_at, form_at, length_at, place, longer, is_enough, from_at, to_at, half_of, left_of}
-use Rattle.branch_fixup.specs.Growth.{AreTails, AreGrown}
-use Rattle.branch_fixup.specs.Reach.{reaches}
+use Rattle.branch_fixup.specs.Pieces.{piece_length}
+use Rattle.branch_fixup.specs.Growth.{end_at, form_at, block_length, longer, is_enough, from_at, to_at, half_of, left_of}
+use Rattle.branch_fixup.specs.Growth.{block_offset}
+use Rattle.branch_fixup.specs.Growth.{AreBlockEnds, AreGrown}
+use Rattle.branch_fixup.specs.Distances.{reaches}
 use Rattle.branch_fixup.specs.Ways.{crosses, is_enough_by, AreStarts, IsLonger, AreLonger, AreLongerOver}
 use Rattle.branch_fixup.proofs.Grown.{IsBelow, ahead, back, gap, rises, short_more}
 use Rattle.branch_fixup.proofs.Rounds.{at_other, at_same, below_grow, grow_step, grows, left-grow, longer_length, place_low}
 
 -- The places of forms are starts.
 
-pub apart_of : (ts : List Tail) (fs : List Form) (i j : ℕ) → i < j → place ts fs i + (tail_at ts i).before ≤ place ts fs j
+pub apart_of : (ts : List BlockEnd) (fs : List Form) (i j : ℕ) → i < j →
+    block_offset ts fs i + (end_at ts i).before ≤ block_offset ts fs j
 apart_of ts fs i j less =
     let z : j - suc i + suc i ≡ j = omega (arith, less) in
-    let up : place ts fs (suc i) ≤ place ts fs j = subst (λ (m : ℕ). place ts fs (suc i) ≤ place ts fs m) z
+    let up : block_offset ts fs (suc i) ≤ block_offset ts fs j =
+    subst (λ (m : ℕ). block_offset ts fs (suc i) ≤ block_offset ts fs m) z
     (rises ts fs (suc i) (j - suc i)) in
     omega (arith, up)
 
-pub are_starts : (ts : List Tail) (fs : List Form) (places : List ℕ) → AreTails ts → length places ≡ length ts + 1 →
-    ((i : ℕ) → i ≤ length ts → slice_index places i ≡ place ts fs i) → AreStarts ts places
-are_starts ts fs places tails len at = record {
+pub are_starts : (ts : List BlockEnd) (fs : List Form) (places : List ℕ) → AreBlockEnds ts → length places ≡ length ts + 1 →
+    ((i : ℕ) → i ≤ length ts → slice_index places i ≡ block_offset ts fs i) → AreStarts ts places
+are_starts ts fs places block_ends len at = record {
   len = len;
   apart = λ i j less within.
       let a = at i (omega (arith, less, within)) in
       let b = at j within in
       let h = apart_of ts fs i j less in
       omega (arith, a, b, h);
-  low = λ i within. let a = at i within in let l = place_low ts fs tails i within in omega (arith, a, l);
+  low = λ i within. let a = at i within in let l = place_low ts fs block_ends i within in omega (arith, a, l);
 }
 
 -- A form that doesn't reach by a lower bound of its way doesn't reach.
 
-back_in : (ts : List Tail) (at : ℕ → ℕ) (t k o : ℕ) → t ≤ k → (t < k → at t + (tail_at ts t).before ≤ at k) →
-    o ≤ (tail_at ts t).before → at t + o ≤ at k + (tail_at ts k).before
+back_in : (ts : List BlockEnd) (at : ℕ → ℕ) (t k o : ℕ) → t ≤ k → (t < k → at t + (end_at ts t).before ≤ at k) →
+    o ≤ (end_at ts t).before → at t + o ≤ at k + (end_at ts k).before
 back_in ts at t k o le apart o_in = elim (cases_order t k) [
-  | inl same ↦ subst (λ (j : ℕ). at t + o ≤ at j + (tail_at ts j).before) same (omega (arith, o_in))
+  | inl same ↦ subst (λ (j : ℕ). at t + o ≤ at j + (end_at ts j).before) same (omega (arith, o_in))
   | inr other ↦ elim other [
     | inl less ↦ let h = apart less in omega (arith, h, o_in)
     | inr more ↦ absurd (omega (arith, le, more))
   ]
 ]
 
-pub not_enough_by : (ts : List Tail) (places : List ℕ) (fs : List Form) (k more : ℕ) (f : Form) → AreTails ts →
+pub not_enough_by : (ts : List BlockEnd) (places : List ℕ) (fs : List Form) (k more : ℕ) (f : Form) → AreBlockEnds ts →
     AreStarts ts places → k < length ts → IsLonger ts places fs k more → is_enough_by ts places more k f ≡ false →
     is_enough ts fs k f ≡ false
-not_enough_by ts places fs k more f tails starts k_in l h = by (half_of f) h
+not_enough_by ts places fs k more f block_ends starts k_in l h = by (half_of f) h
   where
-    split : (half : ℕ) (b : Bool) → nat_lt k (tail_at ts k).to ≡ b →
-        (if b then reaches half (slice_index places k + (tail_at ts k).before)
-        (slice_index places (tail_at ts k).to + (tail_at ts k).offset + more)
-        else reaches half (slice_index places k + (tail_at ts k).before + more)
-        (slice_index places (tail_at ts k).to + (tail_at ts k).offset)) ≡ false →
+    split : (half : ℕ) (b : Bool) → nat_lt k (end_at ts k).to ≡ b →
+        (if b then reaches half (slice_index places k + (end_at ts k).before)
+        (slice_index places (end_at ts k).to + (end_at ts k).offset + more)
+        else reaches half (slice_index places k + (end_at ts k).before + more)
+        (slice_index places (end_at ts k).to + (end_at ts k).offset)) ≡ false →
         reaches half (from_at ts fs k) (to_at ts fs k) ≡ false
     split half true e h =
-        let less = ltb-true k (tail_at ts k).to e in
-        let to_in = tails.to_block k k_in in
-        let p = starts.apart k (tail_at ts k).to less (omega (arith, to_in)) in
-        let q = apart_of ts fs k (tail_at ts k).to less in
+        let less = ltb-true k (end_at ts k).to e in
+        let to_in = block_ends.to_block k k_in in
+        let p = starts.apart k (end_at ts k).to less (omega (arith, to_in)) in
+        let q = apart_of ts fs k (end_at ts k).to less in
         let m = l.ahead (omega (arith, less)) in
-        short_more half (slice_index places k + (tail_at ts k).before)
-        (slice_index places (tail_at ts k).to + (tail_at ts k).offset + more) (from_at ts fs k) (to_at ts fs k)
+        short_more half (slice_index places k + (end_at ts k).before)
+        (slice_index places (end_at ts k).to + (end_at ts k).offset + more) (from_at ts fs k) (to_at ts fs k)
         (ahead (omega (arith, p)) (omega (arith, q)) (omega (arith, m))) h
     split half false e h =
-        let le = ltb-false k (tail_at ts k).to e in
-        let inside = tails.to_inside k k_in in
-        let p = back_in ts (λ j. slice_index places j) (tail_at ts k).to k (tail_at ts k).offset le
-        (λ less. starts.apart (tail_at ts k).to k less (omega (arith, k_in))) inside in
-        let q = back_in ts (place ts fs) (tail_at ts k).to k (tail_at ts k).offset le
-        (apart_of ts fs (tail_at ts k).to k) inside in
+        let le = ltb-false k (end_at ts k).to e in
+        let inside = block_ends.to_inside k k_in in
+        let p = back_in ts (λ j. slice_index places j) (end_at ts k).to k (end_at ts k).offset le
+        (λ less. starts.apart (end_at ts k).to k less (omega (arith, k_in))) inside in
+        let q = back_in ts (block_offset ts fs) (end_at ts k).to k (end_at ts k).offset le
+        (apart_of ts fs (end_at ts k).to k) inside in
         let m = l.back le in
-        short_more half (slice_index places k + (tail_at ts k).before + more)
-        (slice_index places (tail_at ts k).to + (tail_at ts k).offset) (from_at ts fs k) (to_at ts fs k)
+        short_more half (slice_index places k + (end_at ts k).before + more)
+        (slice_index places (end_at ts k).to + (end_at ts k).offset) (from_at ts fs k) (to_at ts fs k)
         (back (omega (arith, p)) (omega (arith, q)) (omega (arith, m))) h
 
     by : (o : Option ℕ) → option_map_or (λ half.
-        if nat_lt k (tail_at ts k).to
-        then reaches half (slice_index places k + (tail_at ts k).before)
-        (slice_index places (tail_at ts k).to + (tail_at ts k).offset + more)
-        else reaches half (slice_index places k + (tail_at ts k).before + more)
-        (slice_index places (tail_at ts k).to + (tail_at ts k).offset)) o true ≡ false →
+        if nat_lt k (end_at ts k).to
+        then reaches half (slice_index places k + (end_at ts k).before)
+        (slice_index places (end_at ts k).to + (end_at ts k).offset + more)
+        else reaches half (slice_index places k + (end_at ts k).before + more)
+        (slice_index places (end_at ts k).to + (end_at ts k).offset)) o true ≡ false →
         option_map_or (λ half. reaches half (from_at ts fs k) (to_at ts fs k)) o true ≡ false
     by None h = h
-    by (Some half) h = split half (nat_lt k (tail_at ts k).to) refl h
+    by (Some half) h = split half (nat_lt k (end_at ts k).to) refl h
 
 -- It stays below the size of all code.
-pub longer_low : (ts : List Tail) (places : List ℕ) (fs : List Form) (k more : ℕ) → AreTails ts → AreStarts ts places →
+pub longer_low : (ts : List BlockEnd) (places : List ℕ) (fs : List Form) (k more : ℕ) → AreBlockEnds ts → AreStarts ts places →
     k < length ts → IsLonger ts places fs k more → more < 2 ^ 62
-longer_low ts places fs k more tails starts k_in l = elim (cases_order k (tail_at ts k).to) [
+longer_low ts places fs k more block_ends starts k_in l = elim (cases_order k (end_at ts k).to) [
   | inl same ↦
       let m = l.ahead (omega (arith, same)) in
-      let a = ap (place ts fs) same in
+      let a = ap (block_offset ts fs) same in
       let b = ap (slice_index places) same in
       omega (arith, m, a, b)
   | inr other ↦ elim other [
     | inl less ↦
         let m = l.ahead (omega (arith, less)) in
-        let p = starts.apart k (tail_at ts k).to less (omega (arith, to_in)) in
-        let low = place_low ts fs tails (tail_at ts k).to (omega (arith, to_in)) in
+        let p = starts.apart k (end_at ts k).to less (omega (arith, to_in)) in
+        let low = place_low ts fs block_ends (end_at ts k).to (omega (arith, to_in)) in
         omega (arith, m, p, low)
     | inr less ↦
         let m = l.back (omega (arith, less)) in
-        let p = starts.apart (tail_at ts k).to k less (omega (arith, k_in)) in
-        let low = place_low ts fs tails k (omega (arith, k_in)) in
+        let p = starts.apart (end_at ts k).to k less (omega (arith, k_in)) in
+        let low = place_low ts fs block_ends k (omega (arith, k_in)) in
         omega (arith, m, p, low)
   ]
 ]
   where
-    to_in : (tail_at ts k).to < length ts
-    to_in = tails.to_block k k_in
+    to_in : (end_at ts k).to < length ts
+    to_in = block_ends.to_block k k_in
 
 -- A growth of one form.
 
-place_before : (ts : List Tail) (fs : List Form) (p : ℕ) (x : Form) (i : ℕ) → i ≤ p →
-    place ts (slice_set fs p x) i ≡ place ts fs i
+place_before : (ts : List BlockEnd) (fs : List Form) (p : ℕ) (x : Form) (i : ℕ) → i ≤ p →
+    block_offset ts (slice_set fs p x) i ≡ block_offset ts fs i
 place_before ts fs p x zero h = refl
 place_before ts fs p x (suc i) h =
     let rest = place_before ts fs p x i (omega (arith, h)) in
-    let here : length_at ts (slice_set fs p x) i ≡ length_at ts fs i =
-    ap (λ (f : Form). (tail_at ts i).before + length_in (tail_at ts i).len f)
+    let here : block_length ts (slice_set fs p x) i ≡ block_length ts fs i =
+    ap (λ (f : Form). (end_at ts i).before + piece_length (end_at ts i).len f)
     (at_other fs p i x (λ e. absurd (omega (arith, e, h)))) in
     omega (arith, rest, here)
 
-place_after : (ts : List Tail) (fs : List Form) (p : ℕ) (x : Form) (bytes : ℕ) → p < length fs →
-    bytes + length_in (tail_at ts p).len (form_at fs p) ≡ length_in (tail_at ts p).len x → (i : ℕ) → p < i →
-    place ts (slice_set fs p x) i ≡ place ts fs i + bytes
+place_after : (ts : List BlockEnd) (fs : List Form) (p : ℕ) (x : Form) (bytes : ℕ) → p < length fs →
+    bytes + piece_length (end_at ts p).len (form_at fs p) ≡ piece_length (end_at ts p).len x → (i : ℕ) → p < i →
+    block_offset ts (slice_set fs p x) i ≡ block_offset ts fs i + bytes
 place_after ts fs p x bytes p_in e zero h = absurd (omega (arith, h))
 place_after ts fs p x bytes p_in e (suc i) h = elim (cases_eq i p) [
   | inl same ↦
       let rest = place_before ts fs p x i (omega (arith, same)) in
-      let new : length_in (tail_at ts i).len (form_at (slice_set fs p x) i) ≡ length_in (tail_at ts p).len x =
+      let new : piece_length (end_at ts i).len (form_at (slice_set fs p x) i) ≡ piece_length (end_at ts p).len x =
       rw (same, at_same fs p x p_in) refl in
-      let old : length_in (tail_at ts i).len (form_at fs i) ≡ length_in (tail_at ts p).len (form_at fs p) =
+      let old : piece_length (end_at ts i).len (form_at fs i) ≡ piece_length (end_at ts p).len (form_at fs p) =
       rw same refl in
       omega (arith, rest, new, old, e)
   | inr other ↦
       let rest = place_after ts fs p x bytes p_in e i (omega (arith, h, other)) in
-      let here : length_at ts (slice_set fs p x) i ≡ length_at ts fs i =
-      ap (λ (f : Form). (tail_at ts i).before + length_in (tail_at ts i).len f) (at_other fs p i x other) in
+      let here : block_length ts (slice_set fs p x) i ≡ block_length ts fs i =
+      ap (λ (f : Form). (end_at ts i).before + piece_length (end_at ts i).len f) (at_other fs p i x other) in
       omega (arith, rest, here)
 ]
 
-gap_to : (ts : List Tail) (xs ys : List Form) → IsBelow ts xs ys → (i j : ℕ) → i ≤ j →
-    place ts xs j + place ts ys i ≤ place ts ys j + place ts xs i
+gap_to : (ts : List BlockEnd) (xs ys : List Form) → IsBelow ts xs ys → (i j : ℕ) → i ≤ j →
+    block_offset ts xs j + block_offset ts ys i ≤ block_offset ts ys j + block_offset ts xs i
 gap_to ts xs ys b i j le =
     let z : j - i + i ≡ j = omega (arith, le) in
-    subst (λ (m : ℕ). place ts xs m + place ts ys i ≤ place ts ys m + place ts xs i) z (gap ts xs ys b i (j - i))
+    subst (λ (m : ℕ). block_offset ts xs m + block_offset ts ys i
+    ≤ block_offset ts ys m + block_offset ts xs i) z (gap ts xs ys b i (j - i))
 
 one_of : (a b : Bool) → (a || b) ≡ true → (P : Type 0) → (a ≡ true → P) → (b ≡ true → P) → P
 one_of true b h P f g = f refl
 one_of false b h P f g = g h
 
-module _ (ts : List Tail) (places : List ℕ) (fs : List Form) (p : ℕ) (p_in : p < length fs) where
+module _ (ts : List BlockEnd) (places : List ℕ) (fs : List Form) (p : ℕ) (p_in : p < length fs) where
   abbrev grown : List Form
   grown = slice_set fs p (longer (form_at fs p))
 
@@ -167,46 +171,46 @@ module _ (ts : List Tail) (places : List ℕ) (fs : List Form) (p : ℕ) (p_in :
   still_longer k more l = record {
     ahead = λ le.
         let m = l.ahead le in
-        let g = gap_to ts fs grown (below_grow ts fs p p_in) k (tail_at ts k).to le in
+        let g = gap_to ts fs grown (below_grow ts fs p p_in) k (end_at ts k).to le in
         omega (arith, m, g);
     back = λ le.
         let m = l.back le in
-        let g = gap_to ts fs grown (below_grow ts fs p p_in) (tail_at ts k).to k le in
+        let g = gap_to ts fs grown (below_grow ts fs p p_in) (end_at ts k).to k le in
         omega (arith, m, g);
   }
 
   -- those over it get longer
   pub longer_over : (k more bytes : ℕ) →
-      bytes + length_in (tail_at ts p).len (form_at fs p) ≡ length_in (tail_at ts p).len (longer (form_at fs p)) →
+      bytes + piece_length (end_at ts p).len (form_at fs p) ≡ piece_length (end_at ts p).len (longer (form_at fs p)) →
       crosses ts k p ≡ true → IsLonger ts places fs k more → IsLonger ts places grown k (more + bytes)
   longer_over k more bytes e over l =
-      one_of (nat_le k p && nat_lt p (tail_at ts k).to) (nat_le (tail_at ts k).to p && nat_lt p k) over
+      one_of (nat_le k p && nat_lt p (end_at ts k).to) (nat_le (end_at ts k).to p && nat_lt p k) over
       (IsLonger ts places grown k (more + bytes))
       (λ h.
-      let (le, less) = and_parts (nat_le k p) (nat_lt p (tail_at ts k).to) h in
+      let (le, less) = and_parts (nat_le k p) (nat_lt p (end_at ts k).to) h in
       let low = leb-true k p le in
-      let high = ltb-true p (tail_at ts k).to less in
+      let high = ltb-true p (end_at ts k).to less in
       let x = place_before ts fs p (longer (form_at fs p)) k low in
-      let y = place_after ts fs p (longer (form_at fs p)) bytes p_in e (tail_at ts k).to high in
+      let y = place_after ts fs p (longer (form_at fs p)) bytes p_in e (end_at ts k).to high in
       record {
         ahead = λ way. let m = l.ahead way in omega (arith, m, x, y);
         back = λ way. absurd (omega (arith, way, low, high));
       })
       (λ h.
-      let (le, less) = and_parts (nat_le (tail_at ts k).to p) (nat_lt p k) h in
-      let low = leb-true (tail_at ts k).to p le in
+      let (le, less) = and_parts (nat_le (end_at ts k).to p) (nat_lt p k) h in
+      let low = leb-true (end_at ts k).to p le in
       let high = ltb-true p k less in
-      let x = place_before ts fs p (longer (form_at fs p)) (tail_at ts k).to low in
+      let x = place_before ts fs p (longer (form_at fs p)) (end_at ts k).to low in
       let y = place_after ts fs p (longer (form_at fs p)) bytes p_in e k high in
       record {
         ahead = λ way. absurd (omega (arith, way, low, high));
         back = λ way. let m = l.back way in omega (arith, m, x, y);
       })
 
-  pub grown_sound : AreTails ts → is_enough ts fs p (form_at fs p) ≡ false → AreGrown ts fs → AreGrown ts grown
-  grown_sound tails short sound =
+  pub grown_sound : AreBlockEnds ts → is_enough ts fs p (form_at fs p) ≡ false → AreGrown ts fs → AreGrown ts grown
+  grown_sound block_ends short sound =
       let one = sound.one_each in
-      let r = grow_step ts fs fs p tails (omega (arith, p_in, one)) short (record {
+      let r = grow_step ts fs fs p block_ends (omega (arith, p_in, one)) short (record {
         len = sound.one_each;
         rest = λ k le. refl;
         below = record { each = λ k. omega arith };
@@ -217,7 +221,7 @@ module _ (ts : List Tail) (places : List ℕ) (fs : List Form) (p : ℕ) (p_in :
 
 -- The step of a loop over blocks: the way of one gets longer by the bytes.
 
-pub add_longer : (ts : List Tail) (places : List ℕ) (fs : List Form) (mores : List ℕ) (p bytes k : ℕ) →
+pub add_longer : (ts : List BlockEnd) (places : List ℕ) (fs : List Form) (mores : List ℕ) (p bytes k : ℕ) →
     length mores ≡ length ts → k < length ts → crosses ts k p ≡ true → AreLonger ts places fs mores →
     AreLongerOver ts places fs mores p bytes k →
     AreLonger ts places fs (slice_set mores k (slice_index mores k + bytes))
@@ -229,21 +233,21 @@ add_longer ts places fs mores p bytes k len k_in over l more j j_in = elim (case
   | inr other ↦ rw (get_or-set_other mores k j (slice_index mores k + bytes) 0 other) (l j j_in)
 ]
 
-pub rest_over : (ts : List Tail) (places : List ℕ) (fs : List Form) (mores : List ℕ) (p bytes k x : ℕ) →
+pub rest_over : (ts : List BlockEnd) (places : List ℕ) (fs : List Form) (mores : List ℕ) (p bytes k x : ℕ) →
     AreLongerOver ts places fs mores p bytes k → AreLongerOver ts places fs (slice_set mores k x) p bytes (k + 1)
 rest_over ts places fs mores p bytes k x more j le j_in over =
     rw (get_or-set_other mores k j x 0 (λ e. absurd (omega (arith, e, le)))) (more j (omega (arith, le)) j_in over)
 
-pub later_over : (ts : List Tail) (places : List ℕ) (fs : List Form) (mores : List ℕ) (p bytes k : ℕ) →
+pub later_over : (ts : List BlockEnd) (places : List ℕ) (fs : List Form) (mores : List ℕ) (p bytes k : ℕ) →
     AreLongerOver ts places fs mores p bytes k → AreLongerOver ts places fs mores p bytes (k + 1)
 later_over ts places fs mores p bytes k more j le j_in over = more j (omega (arith, le)) j_in over
 
 -- What growths leave to grow.
 
-pub fewer_left : (ts : List Tail) (fs : List Form) (k : ℕ) → k < length fs → FitsLength (tail_at ts k).len (form_at fs k) →
+pub fewer_left : (ts : List BlockEnd) (fs : List Form) (k : ℕ) → k < length fs → FitsLength (end_at ts k).len (form_at fs k) →
     is_enough ts fs k (form_at fs k) ≡ false → sum_by left_of (slice_set fs k (longer (form_at fs k))) < sum_by left_of fs
 fewer_left ts fs k k_in fits short =
-    let e = left-grow ts fs fs k k_in (grows ts fs k (tail_at ts k).len (form_at fs k) fits short) in
+    let e = left-grow ts fs fs k k_in (grows ts fs k (end_at ts k).len (form_at fs k) fits short) in
     omega (arith, e)
 
 pub fewer_yes : (grew : Bool) (olds fs news : List Form) →
@@ -259,7 +263,8 @@ fewer_no grew olds fs news e h =
     subst (λ (l : List Form). MatchBool grew (sum_by left_of l < sum_by left_of olds) (l ≡ olds)) (sym e) h
 
 -- the bytes by which a form gets longer
-pub more_bytes : (len : ℕ) (f : Form) → length_in len (longer f) - length_in len f + length_in len f ≡ length_in len (longer f)
+pub more_bytes : (len : ℕ) (f : Form) → piece_length len (longer f) - piece_length len f + piece_length len f
+    ≡ piece_length len (longer f)
 more_bytes len f = let h = longer_length len f in omega (arith, h)
 
 pub none_there : (n i : ℕ) → slice_index (replicate n 0) i ≡ 0
@@ -268,13 +273,13 @@ none_there (suc n) zero = refl
 none_there (suc n) (suc i) = none_there n i
 
 -- No way is known to be longer at the start.
-pub none_longer : (ts : List Tail) (places : List ℕ) (fs : List Form) (mores : List ℕ) → AreTails ts →
-    ((i : ℕ) → i ≤ length ts → slice_index places i ≡ place ts fs i) → ((i : ℕ) → slice_index mores i ≡ 0) →
+pub none_longer : (ts : List BlockEnd) (places : List ℕ) (fs : List Form) (mores : List ℕ) → AreBlockEnds ts →
+    ((i : ℕ) → i ≤ length ts → slice_index places i ≡ block_offset ts fs i) → ((i : ℕ) → slice_index mores i ≡ 0) →
     AreLonger ts places fs mores
-none_longer ts places fs mores tails at zeros k k_in =
-    let to_in = tails.to_block k k_in in
+none_longer ts places fs mores block_ends at zeros k k_in =
+    let to_in = block_ends.to_block k k_in in
     let here = at k (omega (arith, k_in)) in
-    let there = at (tail_at ts k).to (omega (arith, to_in)) in
+    let there = at (end_at ts k).to (omega (arith, to_in)) in
     let z = zeros k in
     record {
       ahead = λ le. omega (arith, here, there, z);

@@ -4,10 +4,10 @@ use Rattle.std.specs.Prelude.{slice_get, option_map}
 use Rattle.rv_code.specs.declared.layout.Form.{Form}
 use Rattle.rv_code.specs.declared.layout.Form.TheVariants as form
 use Rattle.rv_code.specs.layout.Flow.{action_at, target_of}
-use Rattle.branch_fixup.specs.declared.growth.Tail.{Tail}
+use Rattle.branch_fixup.specs.declared.growth.BlockEnd.{BlockEnd}
 use Rattle.branch_fixup.specs.Endings.{end_of_form, ending}
 use Rattle.branch_fixup.specs.Forms.{FitsLength, shorter}
-use Rattle.branch_fixup.specs.Growth.{tail_at, form_at}
+use Rattle.branch_fixup.specs.Growth.{end_at, form_at}
 use Rattle.branch_fixup.specs.Strips.{Strip, is_alone, first_in, insts_in}
 
 -- a form of the table of endings, where the next block begins at an address
@@ -33,16 +33,17 @@ begins_of ss k = option_map (λ s. first_in s.inner s.last) (slice_get ss k)
 abbrev pub IsAt : List Strip → ℕ → ℕ → ℕ → Type 0
 IsAt ss k offset a = IsSomeAnd (slice_get ss k) (λ s. (first_in s.inner s.last + offset ≡ a) × Any (λ p. p.addr ≡ a) (insts_in s))
 
--- The tail of the k-th block, whose branch or jump goes to an address.
-pub record IsTail (ss : List Strip) (s : Strip) (lead : Option ℕ) (t : Tail) : Type 0 where
+-- The end of the k-th block, whose branch or jump goes to an address.
+pub record IsBlockEnd (ss : List Strip) (s : Strip) (lead : Option ℕ) (t : BlockEnd) : Type 0 where
   pub before : first_in s.inner s.last + t.before ≡ s.last.addr
   pub len : t.len ≡ s.last.len
   pub leads : (a : ℕ) → lead ≡ Some a → IsAt ss t.to t.offset a
   pub to_itself : lead ≡ None → IsAt ss t.to t.offset (first_in s.inner s.last)
 
--- tails and forms of the first n blocks
-pub record AreEnds (ss : List Strip) (n : ℕ) (ts : List Tail) (fs : List Form) : Type 0 where
-  pub tails : length ts ≡ n
+-- ends and forms of the first n blocks
+pub record AreEnds (ss : List Strip) (n : ℕ) (ts : List BlockEnd) (fs : List Form) : Type 0 where
+  pub block_ends : length ts ≡ n
   pub forms : length fs ≡ n
   pub shortest : (k : ℕ) (s : Strip) → k < n → slice_get ss k ≡ Some s → IsShortest s (begins_of ss (k + 1)) (form_at fs k)
-  pub are_tails : (k : ℕ) (s : Strip) → k < n → slice_get ss k ≡ Some s → IsTail ss s (lead_of s (form_at fs k)) (tail_at ts k)
+  pub are_block_ends : (k : ℕ) (s : Strip) → k < n → slice_get ss k ≡ Some s →
+      IsBlockEnd ss s (lead_of s (form_at fs k)) (end_at ts k)

@@ -13,13 +13,12 @@ use Rattle.rv_code.specs.declared.placed.Role.{Role}
 use Rattle.rv_code.specs.declared.cell.CodeCell.{CodeCell}
 use Rattle.rv_code.specs.layout.Blocks.{AreBlocks}
 use Rattle.rv_code.specs.layout.Flow.{action_at, target_of}
-use Rattle.rv_code.specs.layout.ProgramCode.{is_code_address, IsNamed}
+use Rattle.rv_code.specs.layout.ProgramCode.{is_code_address, IsNamed, program_code}
 use Rattle.addr_map.specs.declared.span.Span.{Span}
 use Rattle.addr_map.specs.Spans.{new, IsMap}
 use Rattle.branch_fixup.specs.Endings.{end_of_form, ending}
-use Rattle.branch_fixup.specs.Inputs.{code_of}
 use Rattle.branch_fixup.specs.Pieces.{end_from}
-use Rattle.branch_fixup.specs.Reach.{lands, main_leap, AllLand}
+use Rattle.branch_fixup.specs.Distances.{lands, main_leap, AllLand}
 use Rattle.branch_fixup.specs.Strips.{Strip, is_alone, first_of, pieces_of, spans_of}
 
 -- a form of two bytes stands only for an instruction that has two in the input
@@ -60,12 +59,12 @@ pub record AreForms (ss : List Strip) (base : ℕ) (fs : List Form) : Type 0 whe
   pub least : (k : ℕ) (s : Strip) (f : Form) → slice_get ss k ≡ Some s → slice_get fs k ≡ Some f → IsLeast ss base fs k s f
 
 -- where the new code ends
-abbrev pub end_of : List Strip → ℕ → List Form → ℕ
-end_of ss base fs = end_from base (pieces_of ss fs)
+abbrev pub new_code_end : List Strip → ℕ → List Form → ℕ
+new_code_end ss base fs = end_from base (pieces_of ss fs)
 
 -- The spans are a valid map of functions,
 -- for whatever roles, code cells and entry point these are the blocks.
 abbrev pub AreMap : List Func → List Block → List Span → Type 0
 AreMap funcs blocks spans =
-    (roles : List (ℕ × Role)) (cells : List CodeCell) (entry : ℕ) → AreBlocks (code_of funcs roles cells entry) blocks →
-    IsMap (λ a. IsTrue (is_code_address funcs a)) (IsNamed (code_of funcs roles cells entry)) spans
+    (roles : List (ℕ × Role)) (cells : List CodeCell) (entry : ℕ) → AreBlocks (program_code funcs roles cells entry) blocks →
+    IsMap (λ a. IsTrue (is_code_address funcs a)) (IsNamed (program_code funcs roles cells entry)) spans

@@ -5,31 +5,31 @@ use Rattle.std.specs.Option.{option_map_or}
 use Rattle.rv_code.specs.declared.layout.Form.{Form}
 use Rattle.rv_code.specs.declared.layout.Form.TheVariants as form
 use Rattle.rv_code.specs.declared.layout.Size.TheVariants.{Half, Full, Long}
-use Rattle.branch_fixup.specs.declared.growth.Tail.{Tail}
-use Rattle.branch_fixup.specs.Pieces.{length_in}
+use Rattle.branch_fixup.specs.declared.growth.BlockEnd.{BlockEnd}
+use Rattle.branch_fixup.specs.Pieces.{piece_length}
 use Rattle.branch_fixup.specs.Forms.{shorter, FitsLength}
-use Rattle.branch_fixup.specs.Reach.{reaches}
+use Rattle.branch_fixup.specs.Distances.{reaches}
 
-abbrev pub tail_at : List Tail → ℕ → Tail
-tail_at ts k = slice_index_or ts k (record { before = 0; len = 0; to = 0; offset = 0 })
+abbrev pub end_at : List BlockEnd → ℕ → BlockEnd
+end_at ts k = slice_index_or ts k (record { before = 0; len = 0; to = 0; offset = 0 })
 
 abbrev pub form_at : List Form → ℕ → Form
 form_at fs k = slice_index_or fs k form.Plain
 
-abbrev pub length_at : List Tail → List Form → ℕ → ℕ
-length_at ts fs k = (tail_at ts k).before + length_in (tail_at ts k).len (form_at fs k)
+abbrev pub block_length : List BlockEnd → List Form → ℕ → ℕ
+block_length ts fs k = (end_at ts k).before + piece_length (end_at ts k).len (form_at fs k)
 
--- where a block begins, from the start of the code
-abbrev pub place : List Tail → List Form → ℕ → ℕ
-place ts fs zero = 0
-place ts fs (suc k) = place ts fs k + length_at ts fs k
+-- how far from the start of the code a block begins
+abbrev pub block_offset : List BlockEnd → List Form → ℕ → ℕ
+block_offset ts fs zero = 0
+block_offset ts fs (suc k) = block_offset ts fs k + block_length ts fs k
 
 -- where its branch or jump is, and where that leads
-abbrev pub from_at : List Tail → List Form → ℕ → ℕ
-from_at ts fs k = place ts fs k + (tail_at ts k).before
+abbrev pub from_at : List BlockEnd → List Form → ℕ → ℕ
+from_at ts fs k = block_offset ts fs k + (end_at ts k).before
 
-abbrev pub to_at : List Tail → List Form → ℕ → ℕ
-to_at ts fs k = place ts fs (tail_at ts k).to + (tail_at ts k).offset
+abbrev pub to_at : List BlockEnd → List Form → ℕ → ℕ
+to_at ts fs k = block_offset ts fs (end_at ts k).to + (end_at ts k).offset
 
 -- the reach of a form that can grow
 abbrev pub half_of : Form → Option ℕ
@@ -39,14 +39,14 @@ half_of (form.Goto true) = Some (2 ^ 11)
 half_of _ = None
 
 -- a form would reach where the block is
-abbrev pub is_enough : List Tail → List Form → ℕ → Form → Bool
+abbrev pub is_enough : List BlockEnd → List Form → ℕ → Form → Bool
 is_enough ts fs k f = option_map_or (λ half. reaches half (from_at ts fs k) (to_at ts fs k)) (half_of f) true
 
 -- the same where the blocks begin at these places
-abbrev pub is_enough_at : List Tail → List ℕ → ℕ → Form → Bool
+abbrev pub is_enough_at : List BlockEnd → List ℕ → ℕ → Form → Bool
 is_enough_at ts places k f =
     option_map_or (λ half.
-    reaches half (slice_index places k + (tail_at ts k).before) (slice_index places (tail_at ts k).to + (tail_at ts k).offset))
+    reaches half (slice_index places k + (end_at ts k).before) (slice_index places (end_at ts k).to + (end_at ts k).offset))
     (half_of f) true
 
 -- the next longer form
@@ -57,22 +57,22 @@ longer (form.Goto true) = form.Goto false
 longer f = f
 
 -- the most bytes of a block: its last instruction takes at most 12, for a branch of the long form and a JAL
-abbrev pub most_of : Tail → ℕ
+abbrev pub most_of : BlockEnd → ℕ
 most_of t = t.before + 12
 
 -- Each block leads to a block, and not past the last instruction of it. All have few bytes.
-pub record AreTails (ts : List Tail) : Type 0 where
-  pub to_block : (k : ℕ) → k < length ts → (tail_at ts k).to < length ts
-  pub to_inside : (k : ℕ) → k < length ts → (tail_at ts k).offset ≤ (tail_at ts (tail_at ts k).to).before
-  pub short : (k : ℕ) → k < length ts → (tail_at ts k).len ≤ 4
+pub record AreBlockEnds (ts : List BlockEnd) : Type 0 where
+  pub to_block : (k : ℕ) → k < length ts → (end_at ts k).to < length ts
+  pub to_inside : (k : ℕ) → k < length ts → (end_at ts k).offset ≤ (end_at ts (end_at ts k).to).before
+  pub short : (k : ℕ) → k < length ts → (end_at ts k).len ≤ 4
   pub low : sum_by most_of ts < 2 ^ 62
 
 -- A form is needed: the next shorter one, with all others as they are, isn't enough.
-abbrev pub IsNeeded : List Tail → List Form → ℕ → Type 0
+abbrev pub IsNeeded : List BlockEnd → List Form → ℕ → Type 0
 IsNeeded ts fs k =
-    IfSome (shorter (tail_at ts k).len (form_at fs k)) (λ f. is_enough ts (slice_set fs k f) k f ≡ false)
+    IfSome (shorter (end_at ts k).len (form_at fs k)) (λ f. is_enough ts (slice_set fs k f) k f ≡ false)
 
-pub record AreEnough (ts : List Tail) (fs : List Form) : Type 0 where
+pub record AreEnough (ts : List BlockEnd) (fs : List Form) : Type 0 where
   pub enough : (k : ℕ) → k < length fs → is_enough ts fs k (form_at fs k) ≡ true
 
 -- how often a form can still grow
@@ -83,7 +83,7 @@ left_of (form.Goto true) = 1
 left_of _ = 0
 
 -- forms that are needed, of which none of two bytes stands for four
-pub record AreGrown (ts : List Tail) (fs : List Form) : Type 0 where
+pub record AreGrown (ts : List BlockEnd) (fs : List Form) : Type 0 where
   pub one_each : length fs ≡ length ts
   pub needed : (k : ℕ) → k < length ts → IsNeeded ts fs k
-  pub fits : (k : ℕ) → k < length ts → FitsLength (tail_at ts k).len (form_at fs k)
+  pub fits : (k : ℕ) → k < length ts → FitsLength (end_at ts k).len (form_at fs k)

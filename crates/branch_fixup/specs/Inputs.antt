@@ -1,19 +1,16 @@
 -- What code and a plan are like, for which there are forms that reach.
-use Rattle.std.specs.Prelude.{◌≡◌, ◌⊎◌, ℕ, ◌+◌, ◌-◌, ◌≤◌, ◌<◌, ◌==◌, ◌||◌, Bool, false, IsTrue, IsSomeAnd, List, Option}
-use Rattle.std.specs.Prelude.{Some, All, Any, length, sum_by, take, drop, slice_get, option_and_then}
-use Rattle.std.specs.List.{range_with_len}
-use Rattle.std.specs.List.Sorted.{IsPermutation}
-use Rattle.std.specs.Option.{option_map_or}
+use Rattle.std.specs.Prelude.{◌≡◌, ◌⊎◌, ℕ, ◌+◌, ◌-◌, ◌≤◌, ◌<◌, false, IsTrue, IsSomeAnd, List, Option, Some, All, Any}
+use Rattle.std.specs.Prelude.{sum_by, take, drop, slice_get, option_and_then}
 use Rattle.rv_code.specs.declared.placed.Placed.{Placed}
 use Rattle.rv_code.specs.declared.placed.Func.{Func}
 use Rattle.rv_code.specs.declared.placed.Block.{Block}
 use Rattle.rv_code.specs.declared.placed.Role.{Role}
 use Rattle.rv_code.specs.declared.cell.CodeCell.{CodeCell}
 use Rattle.rv_code.specs.layout.Blocks.{AreBlocks}
-use Rattle.rv_code.specs.layout.Flow.{insts_of, action_at, target_of, is_branch, is_call}
-use Rattle.rv_code.specs.layout.ProgramCode.{ProgramCode, is_code_address}
-use Rattle.rv_code.specs.layout.WorstSizes.{worst_size_of_block}
-use Rattle.branch_fixup.specs.Reach.{reaches, reach_of}
+use Rattle.rv_code.specs.layout.Flow.{insts_of, action_at, target_of, is_call, is_short}
+use Rattle.rv_code.specs.layout.ProgramCode.{program_code, is_code_address}
+use Rattle.rv_code.specs.layout.WorstSizes.{worst_at, near_limit}
+use Rattle.branch_fixup.specs.Distances.{reaches, reach_of}
 use Rattle.branch_fixup.specs.Strips.{strip_of, insts_in}
 
 -- The code.
@@ -24,12 +21,8 @@ pub record LeadsToCode (funcs : List Func) (p : Placed) : Type 0 where
   pub to_code : (t : ℕ) → target_of p ≡ Some t → IsTrue (is_code_address funcs t)
   pub short_call : (t : ℕ) → target_of p ≡ Some t → p.len ≡ 2 → is_call (action_at p) ≡ false
 
--- A conditional branch, or a jump of two bytes: it reaches less far than a JAL.
-abbrev pub is_short : Placed → Bool
-is_short p = is_branch (action_at p) || p.len == 2
-
--- In a function that moves as one piece these keep their width.
--- So they have to stay in it, and to reach where they go.
+-- In a function that moves as one piece, what reaches less far than a JAL keeps its width.
+-- So it has to stay in the function, and to reach where it goes.
 pub record StaysIn (func : Func) (p : Placed) : Type 0 where
   pub above : (t : ℕ) → target_of p ≡ Some t → func.start ≤ t
   pub below : (t : ℕ) → target_of p ≡ Some t → t < func.end
@@ -42,29 +35,21 @@ pub record AreDirect (funcs : List Func) : Type 0 where
   pub lead : All (LeadsToCode funcs) (insts_of funcs)
   pub stay : All KeepsShort funcs
 
--- the code with these functions, as the definitions of blocks and names take it
-abbrev pub code_of : List Func → List (ℕ × Role) → List CodeCell → ℕ → ProgramCode
-code_of funcs roles cells entry = record { funcs = funcs; roles = roles; cells = cells; entry = entry }
-
 -- the blocks of functions, for some roles, code cells and entry point
 pub record AreBlocksOf (funcs : List Func) (blocks : List Block) : Type 0 where
   pub roles : List (ℕ × Role)
   pub cells : List CodeCell
   pub entry : ℕ
-  pub are : AreBlocks (code_of funcs roles cells entry) blocks
+  pub are : AreBlocks (program_code funcs roles cells entry) blocks
 
 -- The plan.
-
--- it has all blocks, by their places, each once
-abbrev pub IsOrder : List Block → List ℕ → Type 0
-IsOrder blocks order = IsPermutation (range_with_len 0 (length blocks)) order
 
 abbrev pub block_in : List Block → List ℕ → ℕ → Option Block
 block_in blocks order i = option_and_then (λ k. slice_get blocks k) (slice_get order i)
 
 -- a block falls into an address, or a branch or JAL of it goes there
-abbrev pub Leads : List Func → Block → ℕ → Type 0
-Leads funcs b a =
+abbrev pub BlockLeads : List Func → Block → ℕ → Type 0
+BlockLeads funcs b a =
     IsSomeAnd (strip_of funcs b) (λ s. (s.fall ≡ Some a) ⊎ Any (λ p. target_of p ≡ Some a) (insts_in s))
 
 -- it has the instruction at an address
@@ -73,19 +58,15 @@ BlockHolds funcs b a = IsSomeAnd (strip_of funcs b) (λ s. Any (λ p. p.addr ≡
 
 -- the most bytes that blocks can take, wherever they are put: those at places of the list of blocks
 abbrev pub worst_total : List Func → List Block → List ℕ → ℕ
-worst_total funcs blocks places = sum_by (λ k. option_map_or (worst_size_of_block funcs) (slice_get blocks k) 0) places
+worst_total funcs blocks places = sum_by (worst_at funcs blocks) places
 
 -- those from one place in an order to another, both included
 abbrev pub worst_between : List Func → List Block → List ℕ → ℕ → ℕ → ℕ
 worst_between funcs blocks order i j = worst_total funcs blocks (take (j + 1 - i) (drop i order))
 
--- A JAL reaches 2 ^ 20 bytes either way.
-abbrev pub near_limit : ℕ
-near_limit = 1000000
-
 -- Nearness: from each block to one into which it leads, both included, there are at most so many bytes.
 pub record AreNear (funcs : List Func) (blocks : List Block) (order : List ℕ) : Type 0 where
-  pub ahead : (i j a : ℕ) → i ≤ j → IsSomeAnd (block_in blocks order i) (λ b. Leads funcs b a) →
+  pub ahead : (i j a : ℕ) → i ≤ j → IsSomeAnd (block_in blocks order i) (λ b. BlockLeads funcs b a) →
       IsSomeAnd (block_in blocks order j) (λ c. BlockHolds funcs c a) → worst_between funcs blocks order i j ≤ near_limit
-  pub back : (i j a : ℕ) → j ≤ i → IsSomeAnd (block_in blocks order i) (λ b. Leads funcs b a) →
+  pub back : (i j a : ℕ) → j ≤ i → IsSomeAnd (block_in blocks order i) (λ b. BlockLeads funcs b a) →
       IsSomeAnd (block_in blocks order j) (λ c. BlockHolds funcs c a) → worst_between funcs blocks order j i ≤ near_limit

@@ -1,7 +1,7 @@
 pub mod Pieces
 pub mod Endings
 pub mod Strips
-pub mod Reach
+pub mod Distances
 pub mod Forms
 pub mod Inputs
 pub mod Growth

@@ -28,15 +28,15 @@ abbrev pub bytes_of_jump : Bool → ℕ
 bytes_of_jump jump = if jump then 4 else 0
 
 -- an instruction that has `len` bytes in the input, with what is added after it
-abbrev pub length_in : ℕ → Form → ℕ
-length_in len Plain = len
-length_in len Jump = len + 4
-length_in len (Branch inverted size jump) = bytes_of_size size + bytes_of_jump jump
-length_in len (Goto half) = if half then 2 else 4
-length_in len Dropped = 0
+abbrev pub piece_length : ℕ → Form → ℕ
+piece_length len Plain = len
+piece_length len Jump = len + 4
+piece_length len (Branch inverted size jump) = bytes_of_size size + bytes_of_jump jump
+piece_length len (Goto half) = if half then 2 else 4
+piece_length len Dropped = 0
 
 abbrev pub length_of : Piece → ℕ
-length_of p = length_in p.placed.len p.form
+length_of p = piece_length p.placed.len p.form
 
 -- Pieces one after another from an address on: their spans. A jump that is left out has an empty one,
 -- at the address at which the next piece begins.

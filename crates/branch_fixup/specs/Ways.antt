@@ -3,48 +3,50 @@ use Rattle.std.specs.Prelude.{◌≡◌, ℕ, ◌+◌, ◌^◌, ◌<◌, ◌≤�
 use Rattle.std.specs.Prelude.{length, slice_index}
 use Rattle.std.specs.Option.{option_map_or}
 use Rattle.rv_code.specs.declared.layout.Form.{Form}
-use Rattle.branch_fixup.specs.declared.growth.Tail.{Tail}
-use Rattle.branch_fixup.specs.Growth.{half_of, place, tail_at, AreGrown}
-use Rattle.branch_fixup.specs.Reach.{reaches}
+use Rattle.branch_fixup.specs.declared.growth.BlockEnd.{BlockEnd}
+use Rattle.branch_fixup.specs.Growth.{half_of, end_at, AreGrown, block_offset}
+use Rattle.branch_fixup.specs.Distances.{reaches}
 
 -- Places at which blocks can begin: each holds what stands before a block's last instruction.
-pub record AreStarts (ts : List Tail) (places : List ℕ) : Type 0 where
+pub record AreStarts (ts : List BlockEnd) (places : List ℕ) : Type 0 where
   pub len : length places ≡ length ts + 1
-  pub apart : (i j : ℕ) → i < j → j ≤ length ts → slice_index places i + (tail_at ts i).before ≤ slice_index places j
+  pub apart : (i j : ℕ) → i < j → j ≤ length ts → slice_index places i + (end_at ts i).before ≤ slice_index places j
   pub low : (i : ℕ) → i ≤ length ts → slice_index places i < 2 ^ 62
 
 -- The branch or jump of block k goes past the end of block p, so that its way is longer when that grows.
-abbrev pub crosses : List Tail → ℕ → ℕ → Bool
-crosses ts k p = (nat_le k p && nat_lt p (tail_at ts k).to) || (nat_le (tail_at ts k).to p && nat_lt p k)
+abbrev pub crosses : List BlockEnd → ℕ → ℕ → Bool
+crosses ts k p = (nat_le k p && nat_lt p (end_at ts k).to) || (nat_le (end_at ts k).to p && nat_lt p k)
 
 -- a form of block k would reach where its way is by so many bytes longer than these places say
-abbrev pub is_enough_by : List Tail → List ℕ → ℕ → ℕ → Form → Bool
+abbrev pub is_enough_by : List BlockEnd → List ℕ → ℕ → ℕ → Form → Bool
 is_enough_by ts places more k f =
     option_map_or (λ half.
-    if nat_lt k (tail_at ts k).to
-    then reaches half (slice_index places k + (tail_at ts k).before)
-    (slice_index places (tail_at ts k).to + (tail_at ts k).offset + more)
-    else reaches half (slice_index places k + (tail_at ts k).before + more)
-    (slice_index places (tail_at ts k).to + (tail_at ts k).offset))
+    if nat_lt k (end_at ts k).to
+    then reaches half (slice_index places k + (end_at ts k).before)
+    (slice_index places (end_at ts k).to + (end_at ts k).offset + more)
+    else reaches half (slice_index places k + (end_at ts k).before + more)
+    (slice_index places (end_at ts k).to + (end_at ts k).offset))
     (half_of f) true
 
 -- With these forms the way of block k is by at least so many bytes longer than these places say.
-pub record IsLonger (ts : List Tail) (places : List ℕ) (fs : List Form) (k more : ℕ) : Type 0 where
-  pub ahead : k ≤ (tail_at ts k).to →
-      slice_index places (tail_at ts k).to + place ts fs k + more ≤ place ts fs (tail_at ts k).to + slice_index places k
-  pub back : (tail_at ts k).to ≤ k →
-      slice_index places k + place ts fs (tail_at ts k).to + more ≤ place ts fs k + slice_index places (tail_at ts k).to
+pub record IsLonger (ts : List BlockEnd) (places : List ℕ) (fs : List Form) (k more : ℕ) : Type 0 where
+  pub ahead : k ≤ (end_at ts k).to →
+      slice_index places (end_at ts k).to + block_offset ts fs k + more
+      ≤ block_offset ts fs (end_at ts k).to + slice_index places k
+  pub back : (end_at ts k).to ≤ k →
+      slice_index places k + block_offset ts fs (end_at ts k).to + more
+      ≤ block_offset ts fs k + slice_index places (end_at ts k).to
 
-abbrev pub AreLonger : List Tail → List ℕ → List Form → List ℕ → Type 0
+abbrev pub AreLonger : List BlockEnd → List ℕ → List Form → List ℕ → Type 0
 AreLonger ts places fs mores = (k : ℕ) → k < length ts → IsLonger ts places fs k (slice_index mores k)
 
 -- From block k on, the ways over block p are even longer by so many bytes.
-abbrev pub AreLongerOver : List Tail → List ℕ → List Form → List ℕ → ℕ → ℕ → ℕ → Type 0
+abbrev pub AreLongerOver : List BlockEnd → List ℕ → List Form → List ℕ → ℕ → ℕ → ℕ → Type 0
 AreLongerOver ts places fs mores p bytes k =
     (j : ℕ) → k ≤ j → j < length ts → crosses ts j p ≡ true → IsLonger ts places fs j (slice_index mores j + bytes)
 
 -- between two growths: by how much each way is longer at least
-pub record AreSettling (ts : List Tail) (places : List ℕ) (fs : List Form) (mores : List ℕ) : Type 0 where
+pub record AreSettling (ts : List BlockEnd) (places : List ℕ) (fs : List Form) (mores : List ℕ) : Type 0 where
   pub count : length mores ≡ length ts
   pub sound : AreGrown ts fs
   pub longer : AreLonger ts places fs mores

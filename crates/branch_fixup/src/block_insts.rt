@@ -1,14 +1,15 @@
 // The instructions of a block.
 ghost use Rattle.std.specs.Prelude.{◌≡◌, ◌+◌, ◌<◌, Some, length, slice_get};
 ghost use Rattle.rv_code.specs.layout.FunctionLists.{AreLaidOut};
+ghost use Rattle.rv_code.specs.layout.BlockOrders.{HasAllBlocks};
+ghost use Rattle.rv_code.specs.layout.FunctionMembers.{IsOfFunction};
 ghost use Rattle.branch_fixup.specs.Endings.{fall_of};
 ghost use Rattle.branch_fixup.specs.Ends.{begins_of};
-ghost use Rattle.branch_fixup.specs.Inputs.{AreBlocksOf, IsOrder};
+ghost use Rattle.branch_fixup.specs.Inputs.{AreBlocksOf};
 ghost use Rattle.branch_fixup.specs.Strips.{strip_of, strips_of, first_in};
-ghost use Rattle.rv_code.specs.layout.InFunctions.{IsOfFunction};
-ghost use Rattle.branch_fixup.specs.BlockInsts.{seen, starts_at};
+ghost use Rattle.branch_fixup.specs.BlockInsts.{seen, func_starts_at};
 
-use rv_code::flow::falls;
+use rv_code::flow::fall_target;
 use rv_code::{Block, Func, Placed};
 
 /// A block, by its instructions.
@@ -44,7 +45,7 @@ pub fn insts_of<'a>(funcs: &'a [Func], block: &Block) -> BlockInsts<'a>
 pub fn planned<'a>(funcs: &'a [Func], blocks: &[Block], order: &[usize], k: usize) -> BlockInsts<'a>
     requires laid { AreLaidOut funcs.now }
     requires blocks { AreBlocksOf funcs.now blocks.now }
-    requires order { IsOrder blocks.now order.now }
+    requires order { HasAllBlocks blocks.now order.now }
     requires inside { k < length order.now }
     ensures { slice_get (strips_of funcs.now blocks.now order.now) k ≡ Some (seen result) }
 {
@@ -55,18 +56,18 @@ pub fn planned<'a>(funcs: &'a [Func], blocks: &[Block], order: &[usize], k: usiz
 pub fn begins_of(funcs: &[Func], blocks: &[Block], order: &[usize], k: usize) -> Option<u64>
     requires laid { AreLaidOut funcs.now }
     requires blocks { AreBlocksOf funcs.now blocks.now }
-    requires order { IsOrder blocks.now order.now }
+    requires order { HasAllBlocks blocks.now order.now }
     ensures { result ≡ begins_of (strips_of funcs.now blocks.now order.now) k }
 {
     if k < order.len() {
-        Some(start_of(&planned(funcs, blocks, order, k)))
+        Some(first_address(&planned(funcs, blocks, order, k)))
     } else {
         None
     }
 }
 
-/// The address of its first instruction.
-pub fn start_of(block: &BlockInsts) -> u64
+/// The address of a block's first instruction.
+pub fn first_address(block: &BlockInsts) -> u64
     ensures { result ≡ first_in block.now.inner.now block.now.last }
 {
     match block.inner.first() {
@@ -83,20 +84,16 @@ fn fall_of(funcs: &[Func], index: usize, func: &Func, place: usize, inst: &Place
     requires inst { slice_get func.now.insts.items place ≡ Some inst.now }
     ensures { result ≡ fall_of funcs.now func.now place inst.now }
 {
-    let is_last = place + 1 == func.insts.len();
-    if !falls(&inst.inst, is_last) {
-        return None;
-    }
-    let next = inst.addr + inst.len as u64;
-    if is_last && !starts_at(funcs, index + 1, next) {
+    let next = fall_target(func, place, inst)?;
+    if place + 1 == func.insts.len() && !func_starts_at(funcs, index + 1, next) {
         return None;
     }
     Some(next)
 }
 
 // Whether the function at an index starts at an address.
-fn starts_at(funcs: &[Func], index: usize, address: u64) -> bool
-    ensures { result ≡ starts_at funcs.now index address }
+fn func_starts_at(funcs: &[Func], index: usize, address: u64) -> bool
+    ensures { result ≡ func_starts_at funcs.now index address }
 {
     match funcs.get(index) {
         Some(func) => func.start == address,

@@ -2,9 +2,10 @@
 ghost use Rattle.std.specs.Prelude.{◌≡◌, ◌+◌, ◌%◌, ◌<◌, ◌≤◌, IfOk, All, sum_by};
 ghost use Rattle.rv_code.specs.layout.FunctionLists.{AreLaidOut, address_end};
 ghost use Rattle.rv_code.specs.layout.WorstSizes.{worst_size_of_block};
+ghost use Rattle.rv_code.specs.layout.BlockOrders.{HasAllBlocks};
 ghost use Rattle.addr_map.specs.Spans.{IsStretch};
-ghost use Rattle.branch_fixup.specs.Forms.{AreForms, AreMap, end_of};
-ghost use Rattle.branch_fixup.specs.Inputs.{AreBlocksOf, AreDirect, AreNear, IsOrder};
+ghost use Rattle.branch_fixup.specs.Forms.{AreForms, AreMap, new_code_end};
+ghost use Rattle.branch_fixup.specs.Inputs.{AreBlocksOf, AreDirect, AreNear};
 ghost use Rattle.branch_fixup.specs.Strips.{planned_strips, spans_of};
 
 use crate::ends::ends;
@@ -31,7 +32,7 @@ pub fn forms(
     requires laid { AreLaidOut funcs.now }
     requires direct { AreDirect funcs.now }
     requires blocks { AreBlocksOf funcs.now blocks.now }
-    requires order { IsOrder blocks.now plan.now.order.items }
+    requires order { HasAllBlocks blocks.now plan.now.order.items }
     requires near { AreNear funcs.now blocks.now plan.now.order.items }
     requires even { base % 2 ≡ 0 }
     requires some { 0 < base }
@@ -42,15 +43,15 @@ pub fn forms(
 
     // The new code is one stretch, and takes no more than all worst sizes.
     ensures stretch { IfOk result (λ r.
-        IsStretch r.1.items base (end_of (planned_strips funcs.now blocks.now plan.now) base r.0.items)) }
+        IsStretch r.1.items base (new_code_end (planned_strips funcs.now blocks.now plan.now) base r.0.items)) }
     ensures room { IfOk result (λ r.
-        end_of (planned_strips funcs.now blocks.now plan.now) base r.0.items
+        new_code_end (planned_strips funcs.now blocks.now plan.now) base r.0.items
         ≤ base + sum_by (worst_size_of_block funcs.now) blocks.now) }
     ensures short { IfOk result (λ r. All (λ s. s.len ≤ 12) r.1.items) }
 {
     let order = plan.order.as_slice();
-    let (tails, mut forms) = ends(alloc, funcs, blocks, order)?;
-    grow(alloc, &tails, &mut forms)?;
+    let (block_ends, mut forms) = ends(alloc, funcs, blocks, order)?;
+    grow(alloc, &block_ends, &mut forms)?;
     let spans = spans(alloc, funcs, blocks, order, &forms, base)?;
     Ok((forms, spans))
 }

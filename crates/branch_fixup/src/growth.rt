@@ -1,9 +1,9 @@
 // Forms that grow in rounds: each round is one pass over the blocks.
 ghost use Rattle.std.specs.Prelude.{◌≡◌, ℕ, ◌+◌, ◌^◌, ◌<◌, ◌≤◌, length, IfOk, OnOk, MatchBool, map, slice_index, sum_by, true};
 ghost use Rattle.branch_fixup.specs.Endings.{end_of_form};
-ghost use Rattle.branch_fixup.specs.Growth.{place, is_enough_at, tail_at, left_of, AreTails, AreGrown, AreEnough};
+ghost use Rattle.branch_fixup.specs.Growth.{is_enough_at, end_at, left_of, AreBlockEnds, AreGrown, AreEnough, block_offset};
 
-use crate::lengths::{half_of, length_in, longer, reaches};
+use crate::lengths::{half_of, longer, piece_length, reaches};
 use crate::settling::settle;
 use rv_code::Form;
 use std::alloc::{AllocError, Global};
@@ -13,7 +13,7 @@ const PASSES: u8 = 8;
 
 /// How a block ends.
 #[derive(Clone, Copy, PartialEq, Eq, Debug)]
-pub struct Tail {
+pub struct BlockEnd {
     /// The bytes before its last instruction.
     pub before: u64,
     /// The length of that in the input, 2 or 4.
@@ -25,38 +25,43 @@ pub struct Tail {
 }
 
 // Where each block begins, and where the last one ends.
-pub(crate) fn places(alloc: Global, tails: &[Tail], forms: &[Form]) -> Result<Vec<u64>, AllocError>
-    requires one_each { length forms.now ≡ length tails.now }
-    requires tails { AreTails tails.now }
-    ensures len { IfOk result (λ v. length v.items ≡ length tails.now + 1) }
-    ensures at { IfOk result (λ v. (i : ℕ) → i ≤ length tails.now → slice_index v.items i ≡ place tails.now forms.now i) }
-    ensures low { IfOk result (λ v. (i : ℕ) → i ≤ length tails.now → place tails.now forms.now i < 2 ^ 62) }
+pub(crate) fn places(
+    alloc: Global,
+    block_ends: &[BlockEnd],
+    forms: &[Form],
+) -> Result<Vec<u64>, AllocError>
+    requires one_each { length forms.now ≡ length block_ends.now }
+    requires block_ends { AreBlockEnds block_ends.now }
+    ensures len { IfOk result (λ v. length v.items ≡ length block_ends.now + 1) }
+    ensures at { IfOk result (λ v.
+        (i : ℕ) → i ≤ length block_ends.now → slice_index v.items i ≡ block_offset block_ends.now forms.now i) }
+    ensures low { IfOk result (λ v. (i : ℕ) → i ≤ length block_ends.now → block_offset block_ends.now forms.now i < 2 ^ 62) }
 {
     let mut places = Vec::new(alloc);
     let mut at = 0;
     places.push(at)?;
     for k in 0..forms.len() {
-        let tail = tails[k];
+        let block_end = block_ends[k];
         let form = forms[k];
-        at += tail.before + length_in(tail.len, form) as u64;
+        at += block_end.before + piece_length(block_end.len, form) as u64;
         places.push(at)?;
     }
     Ok(places)
 }
 
 // Whether a form of block `k` reaches, where blocks begin at these places.
-fn is_enough(tails: &[Tail], places: &[u64], k: usize, form: Form) -> bool
-    requires inside { k < length tails.now }
-    requires to_block { (tail_at tails.now k).to < length tails.now }
-    requires short { (tail_at tails.now k).before < 2 ^ 62 }
-    requires near { (tail_at tails.now k).offset < 2 ^ 62 }
-    requires len { length places.now ≡ length tails.now + 1 }
-    requires low { (i : ℕ) → i ≤ length tails.now → slice_index places.now i < 2 ^ 62 }
-    ensures { result ≡ is_enough_at tails.now places.now k form }
+fn is_enough(block_ends: &[BlockEnd], places: &[u64], k: usize, form: Form) -> bool
+    requires inside { k < length block_ends.now }
+    requires to_block { (end_at block_ends.now k).to < length block_ends.now }
+    requires short { (end_at block_ends.now k).before < 2 ^ 62 }
+    requires near { (end_at block_ends.now k).offset < 2 ^ 62 }
+    requires len { length places.now ≡ length block_ends.now + 1 }
+    requires low { (i : ℕ) → i ≤ length block_ends.now → slice_index places.now i < 2 ^ 62 }
+    ensures { result ≡ is_enough_at block_ends.now places.now k form }
 {
-    let tail = tails[k];
-    let from = places[k] + tail.before;
-    let to = places[tail.to] + tail.offset;
+    let block_end = block_ends[k];
+    let from = places[k] + block_end.before;
+    let to = places[block_end.to] + block_end.offset;
     match half_of(form) {
         Some(half) => reaches(half, from, to),
         None => true,
@@ -64,19 +69,19 @@ fn is_enough(tails: &[Tail], places: &[u64], k: usize, form: Form) -> bool
 }
 
 // Each form that isn't enough at the places grows by one step. Tells whether one grew.
-fn grow_once(tails: &[Tail], places: &[u64], forms: &mut [Form]) -> bool
-    requires tails { AreTails tails.now }
-    requires len { length places.now ≡ length tails.now + 1 }
-    requires low { (i : ℕ) → i ≤ length tails.now → place tails.now forms.old i < 2 ^ 62 }
-    requires placed { (i : ℕ) → i ≤ length tails.now → slice_index places.now i ≡ place tails.now forms.old i }
-    requires sound { AreGrown tails.now forms.old }
-    ensures sound { AreGrown tails.now forms.new }
+fn grow_once(block_ends: &[BlockEnd], places: &[u64], forms: &mut [Form]) -> bool
+    requires block_ends { AreBlockEnds block_ends.now }
+    requires len { length places.now ≡ length block_ends.now + 1 }
+    requires low { (i : ℕ) → i ≤ length block_ends.now → block_offset block_ends.now forms.old i < 2 ^ 62 }
+    requires placed { (i : ℕ) → i ≤ length block_ends.now → slice_index places.now i ≡ block_offset block_ends.now forms.old i }
+    requires sound { AreGrown block_ends.now forms.old }
+    ensures sound { AreGrown block_ends.now forms.new }
     ensures same { map end_of_form forms.new ≡ map end_of_form forms.old }
-    ensures ends { MatchBool result (sum_by left_of forms.new < sum_by left_of forms.old) (AreEnough tails.now forms.new) }
+    ensures ends { MatchBool result (sum_by left_of forms.new < sum_by left_of forms.old) (AreEnough block_ends.now forms.new) }
 {
     let mut grew = false;
     for i in 0..forms.len() {
-        if !is_enough(tails, places, i, forms[i]) {
+        if !is_enough(block_ends, places, i, forms[i]) {
             forms[i] = longer(forms[i]);
             grew = true;
         }
@@ -85,23 +90,23 @@ fn grow_once(tails: &[Tail], places: &[u64], forms: &mut [Form]) -> bool
 }
 
 /// Makes the shortest forms longer until each is enough. A form that grew doesn't shrink, so the rounds end.
-pub fn grow(alloc: Global, tails: &[Tail], forms: &mut [Form]) -> Result<(), AllocError>
-    requires tails { AreTails tails.now }
-    requires sound { AreGrown tails.now forms.old }
-    ensures sound { OnOk result (AreGrown tails.now forms.new) }
+pub fn grow(alloc: Global, block_ends: &[BlockEnd], forms: &mut [Form]) -> Result<(), AllocError>
+    requires block_ends { AreBlockEnds block_ends.now }
+    requires sound { AreGrown block_ends.now forms.old }
+    ensures sound { OnOk result (AreGrown block_ends.now forms.new) }
     ensures same { OnOk result (map end_of_form forms.new ≡ map end_of_form forms.old) }
-    ensures enough { OnOk result (AreEnough tails.now forms.new) }
+    ensures enough { OnOk result (AreEnough block_ends.now forms.new) }
 {
     let mut passes = 0;
     loop {
-        let places = places(alloc, tails, forms)?;
-        if !grow_once(tails, &places, forms) {
+        let places = places(alloc, block_ends, forms)?;
+        if !grow_once(block_ends, &places, forms) {
             return Ok(());
         }
         if passes < PASSES {
             passes += 1;
         } else {
-            settle(alloc, tails, forms)?;
+            settle(alloc, block_ends, forms)?;
         }
     }
 }

@@ -1,7 +1,7 @@
 // How long forms are, and how far they reach.
 ghost use Rattle.std.specs.Prelude.{◌≡◌, ◌+◌, ◌<◌, ◌≤◌, ◌^◌, IfSome};
-ghost use Rattle.branch_fixup.specs.Pieces.{bytes_of_size, length_in};
-ghost use Rattle.branch_fixup.specs.Reach.{reaches};
+ghost use Rattle.branch_fixup.specs.Pieces.{bytes_of_size, piece_length};
+ghost use Rattle.branch_fixup.specs.Distances.{reaches};
 ghost use Rattle.branch_fixup.specs.Growth.{half_of, longer};
 
 use rv_code::{Form, Size};
@@ -18,9 +18,9 @@ pub fn bytes_of_size(size: Size) -> u8
 }
 
 /// The bytes of an instruction that has `len` bytes in the input, with those that are added after it.
-pub fn length_in(len: u8, form: Form) -> u8
+pub fn piece_length(len: u8, form: Form) -> u8
     requires { len < 252 }
-    ensures { result ≡ length_in len form }
+    ensures { result ≡ piece_length len form }
 {
     match form {
         Form::Plain => len,

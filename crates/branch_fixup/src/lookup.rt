@@ -1,26 +1,8 @@
 // Where an address of the input is in a plan.
-ghost use Rattle.std.specs.Prelude.{◌≡◌, ◌≢◌, ◌<◌, ◌≤◌, ℕ, IfOk, All, AllPairs, length, map, slice_index, slice_index_or};
-ghost use Rattle.rv_code.specs.layout.FunctionLists.{AreLaidOut};
-ghost use Rattle.rv_code.specs.layout.InFunctions.{IsOfFunction};
-ghost use Rattle.branch_fixup.specs.BlockInsts.{start_of};
+ghost use Rattle.std.specs.Prelude.{◌≡◌, ◌≢◌, ◌<◌, ◌≤◌, ℕ, IfOk, All, AllPairs, length, slice_index, slice_index_or};
 ghost use Rattle.branch_fixup.specs.Lookup.{ArePlaces, Finds};
 
-use crate::block_insts::{insts_of, start_of};
-use rv_code::{Block, Func};
 use std::alloc::{AllocError, Global};
-
-/// Where each block begins, in the order of the list.
-pub fn block_starts(alloc: Global, funcs: &[Func], blocks: &[Block]) -> Result<Vec<u64>, AllocError>
-    requires laid { AreLaidOut funcs.now }
-    requires each { All (IsOfFunction funcs.now) blocks.now }
-    ensures { IfOk result (λ starts. starts.items ≡ map (start_of funcs.now) blocks.now) }
-{
-    let mut starts = Vec::new(alloc);
-    for block in blocks {
-        starts.push(start_of(&insts_of(funcs, block)))?;
-    }
-    Ok(starts)
-}
 
 /// The place in an order of each of the numbers below its length.
 pub fn places_in(alloc: Global, order: &[usize]) -> Result<Vec<usize>, AllocError>

@@ -2,11 +2,11 @@
 // jumps that go there are looked at again.
 ghost use Rattle.std.specs.Prelude.{◌≡◌, ℕ, ◌+◌, ◌^◌, ◌<◌, ◌≤◌, length, All, IfOk, OnOk, MatchBool, map, slice_index, sum_by};
 ghost use Rattle.branch_fixup.specs.Endings.{end_of_form};
-ghost use Rattle.branch_fixup.specs.Growth.{tail_at, left_of, place, AreTails, AreGrown};
+ghost use Rattle.branch_fixup.specs.Growth.{end_at, left_of, AreBlockEnds, AreGrown, block_offset};
 ghost use Rattle.branch_fixup.specs.Ways.{crosses, is_enough_by, AreStarts, AreLonger, AreLongerOver, AreSettling};
 
-use crate::growth::{Tail, places};
-use crate::lengths::{half_of, length_in, longer, reaches};
+use crate::growth::{BlockEnd, places};
+use crate::lengths::{half_of, longer, piece_length, reaches};
 use rv_code::Form;
 use std::alloc::{AllocError, Global};
 
@@ -14,28 +14,28 @@ use std::alloc::{AllocError, Global};
 const REACH: u64 = 1 << 12;
 
 // Whether the branch or jump of block `k` goes past the end of block `p`, so that its way is longer when that grows.
-fn crosses(tails: &[Tail], k: usize, p: usize) -> bool
-    requires { k < length tails.now }
-    ensures { result ≡ crosses tails.now k p }
+fn crosses(block_ends: &[BlockEnd], k: usize, p: usize) -> bool
+    requires { k < length block_ends.now }
+    ensures { result ≡ crosses block_ends.now k p }
 {
-    let to = tails[k].to;
+    let to = block_ends[k].to;
     (k <= p && p < to) || (to <= p && p < k)
 }
 
 // Whether a form of block `k` reaches, where its way is by `more` bytes longer than these places say.
-fn is_enough_by(tails: &[Tail], places: &[u64], more: u64, k: usize, form: Form) -> bool
-    requires tails { AreTails tails.now }
-    requires inside { k < length tails.now }
-    requires starts { AreStarts tails.now places.now }
+fn is_enough_by(block_ends: &[BlockEnd], places: &[u64], more: u64, k: usize, form: Form) -> bool
+    requires block_ends { AreBlockEnds block_ends.now }
+    requires inside { k < length block_ends.now }
+    requires starts { AreStarts block_ends.now places.now }
     requires low { more < 2 ^ 62 }
-    ensures { result ≡ is_enough_by tails.now places.now more k form }
+    ensures { result ≡ is_enough_by block_ends.now places.now more k form }
 {
-    let tail = tails[k];
-    let from = places[k] + tail.before;
-    let to = places[tail.to] + tail.offset;
+    let block_end = block_ends[k];
+    let from = places[k] + block_end.before;
+    let to = places[block_end.to] + block_end.offset;
     match half_of(form) {
         Some(half) => {
-            if k < tail.to {
+            if k < block_end.to {
                 reaches(half, from, to + more)
             } else {
                 reaches(half, from + more, to)
@@ -48,7 +48,7 @@ fn is_enough_by(tails: &[Tail], places: &[u64], more: u64, k: usize, form: Form)
 // Block `p` has grown by some bytes. Makes the ways over it longer, and adds the blocks whose forms don't reach any more.
 // All of those are in a range of blocks.
 fn lengthen(
-    tails: &[Tail],
+    block_ends: &[BlockEnd],
     places: &[u64],
     forms: &[Form],
     more: &mut [u64],
@@ -58,23 +58,23 @@ fn lengthen(
     end: usize,
     short: &mut Vec<usize>,
 ) -> Result<(), AllocError>
-    requires tails { AreTails tails.now }
-    requires starts { AreStarts tails.now places.now }
-    requires count { length more.old ≡ length tails.now }
-    requires one_each { length forms.now ≡ length tails.now }
-    requires longer { AreLonger tails.now places.now forms.now more.old }
-    requires over { AreLongerOver tails.now places.now forms.now more.old p bytes first }
-    requires inside { end ≤ length tails.now }
-    requires listed { All (λ k. k < length tails.now) short.old.items }
-    ensures count { OnOk result (length more.new ≡ length tails.now) }
-    ensures longer { OnOk result (AreLonger tails.now places.now forms.now more.new) }
-    ensures listed { OnOk result (All (λ k. k < length tails.now) short.new.items) }
+    requires block_ends { AreBlockEnds block_ends.now }
+    requires starts { AreStarts block_ends.now places.now }
+    requires count { length more.old ≡ length block_ends.now }
+    requires one_each { length forms.now ≡ length block_ends.now }
+    requires longer { AreLonger block_ends.now places.now forms.now more.old }
+    requires over { AreLongerOver block_ends.now places.now forms.now more.old p bytes first }
+    requires inside { end ≤ length block_ends.now }
+    requires listed { All (λ k. k < length block_ends.now) short.old.items }
+    ensures count { OnOk result (length more.new ≡ length block_ends.now) }
+    ensures longer { OnOk result (AreLonger block_ends.now places.now forms.now more.new) }
+    ensures listed { OnOk result (All (λ k. k < length block_ends.now) short.new.items) }
 {
     for k in first..end {
-        if crosses(tails, k, p) {
-            let reached = is_enough_by(tails, places, more[k], k, forms[k]);
+        if crosses(block_ends, k, p) {
+            let reached = is_enough_by(block_ends, places, more[k], k, forms[k]);
             more[k] += bytes;
-            if reached && !is_enough_by(tails, places, more[k], k, forms[k]) {
+            if reached && !is_enough_by(block_ends, places, more[k], k, forms[k]) {
                 short.push(k)?;
             }
         }
@@ -84,7 +84,7 @@ fn lengthen(
 
 // Block `k` grows by a step, if it doesn't reach. Tells whether it grew, and adds the blocks that don't reach then.
 fn grow_block(
-    tails: &[Tail],
+    block_ends: &[BlockEnd],
     places: &[u64],
     over: &Crossings,
     forms: &mut [Form],
@@ -92,37 +92,38 @@ fn grow_block(
     k: usize,
     short: &mut Vec<usize>,
 ) -> Result<bool, AllocError>
-    requires tails { AreTails tails.now }
-    requires starts { AreStarts tails.now places.now }
-    requires over { length over.now.starts.items ≡ length tails.now }
-    requires inside { k < length tails.now }
-    requires settling { AreSettling tails.now places.now forms.old more.old }
-    requires listed { All (λ k. k < length tails.now) short.old.items }
-    ensures settling { OnOk result (AreSettling tails.now places.now forms.new more.new) }
+    requires block_ends { AreBlockEnds block_ends.now }
+    requires starts { AreStarts block_ends.now places.now }
+    requires over { length over.now.starts.items ≡ length block_ends.now }
+    requires inside { k < length block_ends.now }
+    requires settling { AreSettling block_ends.now places.now forms.old more.old }
+    requires listed { All (λ k. k < length block_ends.now) short.old.items }
+    ensures settling { OnOk result (AreSettling block_ends.now places.now forms.new more.new) }
     ensures same { OnOk result (map end_of_form forms.new ≡ map end_of_form forms.old) }
     ensures fewer { IfOk result
         (λ grew. MatchBool grew (sum_by left_of forms.new < sum_by left_of forms.old) (forms.new ≡ forms.old)) }
-    ensures listed { OnOk result (All (λ k. k < length tails.now) short.new.items) }
+    ensures listed { OnOk result (All (λ k. k < length block_ends.now) short.new.items) }
 {
     let form = forms[k];
-    if is_enough_by(tails, places, more[k], k, form) {
+    if is_enough_by(block_ends, places, more[k], k, form) {
         return Ok(false);
     }
     let grown = longer(form);
     forms[k] = grown;
-    if !is_enough_by(tails, places, more[k], k, grown) {
+    if !is_enough_by(block_ends, places, more[k], k, grown) {
         short.push(k)?;
     }
-    let bytes = (length_in(tails[k].len, grown) - length_in(tails[k].len, form)) as u64;
+    let bytes = (piece_length(block_ends[k].len, grown)
+        - piece_length(block_ends[k].len, form)) as u64;
     let (first, end) = over.range(k);
-    lengthen(tails, places, forms, more, k, bytes, first, end, short)?;
+    lengthen(block_ends, places, forms, more, k, bytes, first, end, short)?;
     Ok(true)
 }
 
 // Each of some blocks grows by a step, if it doesn't reach. Tells whether one grew, and adds the blocks that don't reach
 // then.
 fn grow_blocks(
-    tails: &[Tail],
+    block_ends: &[BlockEnd],
     places: &[u64],
     over: &Crossings,
     forms: &mut [Form],
@@ -130,21 +131,21 @@ fn grow_blocks(
     blocks: &[usize],
     short: &mut Vec<usize>,
 ) -> Result<bool, AllocError>
-    requires tails { AreTails tails.now }
-    requires starts { AreStarts tails.now places.now }
-    requires over { length over.now.starts.items ≡ length tails.now }
-    requires inside { All (λ k. k < length tails.now) blocks.now }
-    requires settling { AreSettling tails.now places.now forms.old more.old }
-    requires listed { All (λ k. k < length tails.now) short.old.items }
-    ensures settling { OnOk result (AreSettling tails.now places.now forms.new more.new) }
+    requires block_ends { AreBlockEnds block_ends.now }
+    requires starts { AreStarts block_ends.now places.now }
+    requires over { length over.now.starts.items ≡ length block_ends.now }
+    requires inside { All (λ k. k < length block_ends.now) blocks.now }
+    requires settling { AreSettling block_ends.now places.now forms.old more.old }
+    requires listed { All (λ k. k < length block_ends.now) short.old.items }
+    ensures settling { OnOk result (AreSettling block_ends.now places.now forms.new more.new) }
     ensures same { OnOk result (map end_of_form forms.new ≡ map end_of_form forms.old) }
     ensures fewer { IfOk result
         (λ grew. MatchBool grew (sum_by left_of forms.new < sum_by left_of forms.old) (forms.new ≡ forms.old)) }
-    ensures listed { OnOk result (All (λ k. k < length tails.now) short.new.items) }
+    ensures listed { OnOk result (All (λ k. k < length block_ends.now) short.new.items) }
 {
     let mut grew = false;
     for k in blocks {
-        let grown = grow_block(tails, places, over, forms, more, *k, short)?;
+        let grown = grow_block(block_ends, places, over, forms, more, *k, short)?;
         if grown {
             grew = true;
         }
@@ -155,18 +156,18 @@ fn grow_blocks(
 // The blocks whose forms don't reach.
 fn short_blocks(
     alloc: Global,
-    tails: &[Tail],
+    block_ends: &[BlockEnd],
     places: &[u64],
     forms: &[Form],
 ) -> Result<Vec<usize>, AllocError>
-    requires tails { AreTails tails.now }
-    requires starts { AreStarts tails.now places.now }
-    requires one_each { length forms.now ≡ length tails.now }
-    ensures { IfOk result (λ short. All (λ k. k < length tails.now) short.items) }
+    requires block_ends { AreBlockEnds block_ends.now }
+    requires starts { AreStarts block_ends.now places.now }
+    requires one_each { length forms.now ≡ length block_ends.now }
+    ensures { IfOk result (λ short. All (λ k. k < length block_ends.now) short.items) }
 {
     let mut short = Vec::new(alloc);
-    for k in 0..tails.len() {
-        if !is_enough_by(tails, places, 0, k, forms[k]) {
+    for k in 0..block_ends.len() {
+        if !is_enough_by(block_ends, places, 0, k, forms[k]) {
             short.push(k)?;
         }
     }
@@ -176,25 +177,25 @@ fn short_blocks(
 // The same again and again, of the blocks that were added, until there are none.
 fn grow_from(
     alloc: Global,
-    tails: &[Tail],
+    block_ends: &[BlockEnd],
     places: &[u64],
     over: &Crossings,
     forms: &mut [Form],
     more: &mut [u64],
     mut blocks: Vec<usize>,
 ) -> Result<(), AllocError>
-    requires tails { AreTails tails.now }
-    requires starts { AreStarts tails.now places.now }
-    requires over { length over.now.starts.items ≡ length tails.now }
-    requires inside { All (λ k. k < length tails.now) blocks.items }
-    requires settling { AreSettling tails.now places.now forms.old more.old }
-    ensures sound { OnOk result (AreGrown tails.now forms.new) }
+    requires block_ends { AreBlockEnds block_ends.now }
+    requires starts { AreStarts block_ends.now places.now }
+    requires over { length over.now.starts.items ≡ length block_ends.now }
+    requires inside { All (λ k. k < length block_ends.now) blocks.items }
+    requires settling { AreSettling block_ends.now places.now forms.old more.old }
+    ensures sound { OnOk result (AreGrown block_ends.now forms.new) }
     ensures same { OnOk result (map end_of_form forms.new ≡ map end_of_form forms.old) }
     ensures fewer { OnOk result (sum_by left_of forms.new ≤ sum_by left_of forms.old) }
 {
     loop {
         let mut short = Vec::new(alloc);
-        let grew = grow_blocks(tails, places, over, forms, more, &blocks, &mut short)?;
+        let grew = grow_blocks(block_ends, places, over, forms, more, &blocks, &mut short)?;
         if !grew {
             return Ok(());
         }
@@ -204,18 +205,18 @@ fn grow_from(
 
 /// Grows forms one at a time until each reaches. A pass over all blocks has to confirm it: ways are followed only where a
 /// form that can grow may reach at the start.
-pub fn settle(alloc: Global, tails: &[Tail], forms: &mut [Form]) -> Result<(), AllocError>
-    requires tails { AreTails tails.now }
-    requires sound { AreGrown tails.now forms.old }
-    ensures sound { OnOk result (AreGrown tails.now forms.new) }
+pub fn settle(alloc: Global, block_ends: &[BlockEnd], forms: &mut [Form]) -> Result<(), AllocError>
+    requires block_ends { AreBlockEnds block_ends.now }
+    requires sound { AreGrown block_ends.now forms.old }
+    ensures sound { OnOk result (AreGrown block_ends.now forms.new) }
     ensures same { OnOk result (map end_of_form forms.new ≡ map end_of_form forms.old) }
     ensures fewer { OnOk result (sum_by left_of forms.new ≤ sum_by left_of forms.old) }
 {
-    let places = places(alloc, tails, forms)?;
-    let over = Crossings::new(alloc, tails, &places)?;
-    let mut more = vec![in alloc; 0; tails.len()]?;
-    let blocks = short_blocks(alloc, tails, &places, forms)?;
-    grow_from(alloc, tails, &places, &over, forms, &mut more, blocks)
+    let places = places(alloc, block_ends, forms)?;
+    let over = Crossings::new(alloc, block_ends, &places)?;
+    let mut more = vec![in alloc; 0; block_ends.len()]?;
+    let blocks = short_blocks(alloc, block_ends, &places, forms)?;
+    grow_from(alloc, block_ends, &places, &over, forms, &mut more, blocks)
 }
 
 /// Which blocks have ways over a block.
@@ -228,13 +229,13 @@ struct Crossings {
 }
 
 impl Crossings {
-    fn new(alloc: Global, tails: &[Tail], places: &[u64]) -> Result<Crossings, AllocError>
-        requires tails { AreTails tails.now }
-        requires starts { AreStarts tails.now places.now }
-        ensures { IfOk result (λ over. length over.starts.items ≡ length tails.now) }
+    fn new(alloc: Global, block_ends: &[BlockEnd], places: &[u64]) -> Result<Crossings, AllocError>
+        requires block_ends { AreBlockEnds block_ends.now }
+        requires starts { AreStarts block_ends.now places.now }
+        ensures { IfOk result (λ over. length over.starts.items ≡ length block_ends.now) }
     {
-        let ends = ends_of(alloc, tails, places)?;
-        let starts = starts_of(alloc, tails, places)?;
+        let ends = ends_of(alloc, block_ends, places)?;
+        let starts = starts_of(alloc, block_ends, places)?;
         Ok(Crossings { ends, starts })
     }
 
@@ -249,43 +250,47 @@ impl Crossings {
 }
 
 // The block to which a branch or jump goes, if a form that can grow may reach it. Otherwise its own.
-fn near(tails: &[Tail], places: &[u64], k: usize) -> usize
-    requires tails { AreTails tails.now }
-    requires inside { k < length tails.now }
-    requires starts { AreStarts tails.now places.now }
+fn near(block_ends: &[BlockEnd], places: &[u64], k: usize) -> usize
+    requires block_ends { AreBlockEnds block_ends.now }
+    requires inside { k < length block_ends.now }
+    requires starts { AreStarts block_ends.now places.now }
 {
-    let tail = tails[k];
-    let from = places[k] + tail.before;
-    let to = places[tail.to] + tail.offset;
+    let block_end = block_ends[k];
+    let from = places[k] + block_end.before;
+    let to = places[block_end.to] + block_end.offset;
     if from.abs_diff(to) <= REACH {
-        tail.to
+        block_end.to
     } else {
         k
     }
 }
 
-fn ends_of(alloc: Global, tails: &[Tail], places: &[u64]) -> Result<Vec<usize>, AllocError>
-    requires tails { AreTails tails.now }
-    requires starts { AreStarts tails.now places.now }
+fn ends_of(alloc: Global, block_ends: &[BlockEnd], places: &[u64]) -> Result<Vec<usize>, AllocError>
+    requires block_ends { AreBlockEnds block_ends.now }
+    requires starts { AreStarts block_ends.now places.now }
 {
-    let mut ends = Vec::with_capacity(alloc, tails.len())?;
+    let mut ends = Vec::with_capacity(alloc, block_ends.len())?;
     let mut last = 0;
-    for k in 0..tails.len() {
-        last = k.max(near(tails, places, k)).max(last);
+    for k in 0..block_ends.len() {
+        last = k.max(near(block_ends, places, k)).max(last);
         ends.push(last)?;
     }
     Ok(ends)
 }
 
-fn starts_of(alloc: Global, tails: &[Tail], places: &[u64]) -> Result<Vec<usize>, AllocError>
-    requires tails { AreTails tails.now }
-    requires starts { AreStarts tails.now places.now }
-    ensures { IfOk result (λ starts. length starts.items ≡ length tails.now) }
+fn starts_of(
+    alloc: Global,
+    block_ends: &[BlockEnd],
+    places: &[u64],
+) -> Result<Vec<usize>, AllocError>
+    requires block_ends { AreBlockEnds block_ends.now }
+    requires starts { AreStarts block_ends.now places.now }
+    ensures { IfOk result (λ starts. length starts.items ≡ length block_ends.now) }
 {
-    let mut starts = vec![in alloc; 0; tails.len()]?;
-    let mut first = tails.len();
-    for k in (0..tails.len()).rev() {
-        first = k.min(near(tails, places, k)).min(first);
+    let mut starts = vec![in alloc; 0; block_ends.len()]?;
+    let mut first = block_ends.len();
+    for k in (0..block_ends.len()).rev() {
+        first = k.min(near(block_ends, places, k)).min(first);
         starts[k] = first;
     }
     Ok(starts)

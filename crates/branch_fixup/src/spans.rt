@@ -1,13 +1,14 @@
 // Where the instructions stand.
 ghost use Rattle.std.specs.Prelude.{◌≡◌, ◌+◌, ◌≤◌, ◌<◌, ◌^◌, ◌++◌, IfOk, length, map};
 ghost use Rattle.rv_code.specs.layout.FunctionLists.{AreLaidOut};
+ghost use Rattle.rv_code.specs.layout.BlockOrders.{HasAllBlocks};
 ghost use Rattle.branch_fixup.specs.BlockInsts.{seen};
-ghost use Rattle.branch_fixup.specs.Inputs.{AreBlocksOf, IsOrder};
+ghost use Rattle.branch_fixup.specs.Inputs.{AreBlocksOf};
 ghost use Rattle.branch_fixup.specs.Pieces.{as_it_is, laid_from, end_from};
 ghost use Rattle.branch_fixup.specs.Strips.{strips_of, pieces_of, pieces_of_strip, spans_of};
 
 use crate::block_insts::{BlockInsts, planned};
-use crate::lengths::length_in;
+use crate::lengths::piece_length;
 use addr_map::Span;
 use rv_code::{Block, Form, Func, Placed};
 use std::alloc::{AllocError, Global};
@@ -43,7 +44,7 @@ fn put_block(
     ensures end { IfOk result (λ end. end ≡ end_from at (pieces_of_strip (seen block.now) form)) }
 {
     let last_at = put_inner(spans, at, block.inner)?;
-    let len = length_in(block.last.len, form);
+    let len = piece_length(block.last.len, form);
     spans.push(Span {
         out: last_at,
         len,
@@ -63,7 +64,7 @@ pub fn spans(
 ) -> Result<Vec<Span>, AllocError>
     requires laid { AreLaidOut funcs.now }
     requires blocks { AreBlocksOf funcs.now blocks.now }
-    requires order { IsOrder blocks.now order.now }
+    requires order { HasAllBlocks blocks.now order.now }
     requires one_each { length forms.now ≡ length order.now }
     requires low { end_from base (pieces_of (strips_of funcs.now blocks.now order.now) forms.now) < 2 ^ 63 }
     ensures { IfOk result (λ spans. spans.items ≡ spans_of (strips_of funcs.now blocks.now order.now) base forms.now) }

@@ -9,14 +9,14 @@ use Rattle.rv_code.specs.declared.placed.Placed.{Placed}
 use Rattle.rv_code.specs.declared.placed.Func.{Func}
 use Rattle.rv_code.specs.declared.placed.Block.{Block}
 use Rattle.rv_code.specs.declared.cell.CodeCell.{CodeCell}
-use Rattle.rv_code.specs.layout.Blocks.{inst_at, func_of, IsBefore}
-use Rattle.rv_code.specs.layout.Edges.{AreTablePairs, LeadsTo, jumps, falls_into, by_table, BeginsAt, IsEdge, IsEdgeIn, AreEdges}
+use Rattle.rv_code.specs.layout.Blocks.{inst_at, func_of, IsBefore, block_start}
+use Rattle.rv_code.specs.layout.Edges.{AreTablePairs, IsPairOf, LeadsTo, jumps, falls_into, by_table, BeginsAt, IsEdge, IsEdgeIn}
+use Rattle.rv_code.specs.layout.Edges.{AreEdges}
 use Rattle.rv_code.specs.layout.FunctionLists.{AreLaidOut}
+use Rattle.rv_code.specs.layout.FunctionMembers.{IsOfFunction}
 use Rattle.move_law.proofs.Lists.{pairs_in, pairs_map}
-use Rattle.rv_code.specs.layout.InFunctions.{IsOfFunction}
 use Rattle.rv_code.proofs.lists.Follows.{funcs_apart}
-use Rattle.cfg_build.specs.EdgeLists.{AreStretches, start_of, Leads}
-use Rattle.cfg_build.specs.EdgeLists as leads
+use Rattle.cfg_build.specs.EdgeLists.{AreStretches}
 use Rattle.cfg_build.proofs.EdgeRows.{IsEdgeBy, AreEdgesBefore}
 use Rattle.cfg_build.proofs.Options.{of_some, some_and, the_some}
 use Rattle.cfg_build.proofs.layout.FunctionInsts.{earlier_below, inst_lies_at}
@@ -30,7 +30,7 @@ pub record IsStretchOf (funcs : List Func) (b : Block) : Type 0 where
   pub func_is : func_of funcs b ≡ Some func
   pub inst : Placed
   pub inst_is : inst_at func b.first ≡ Some inst
-  pub start_is : start_of funcs b ≡ inst.addr
+  pub start_is : block_start funcs b ≡ inst.addr
 
 slice_get_found : {A : Type 0} (xs : List A) (i : ℕ) → i < length xs → (x : A) × (slice_get xs i ≡ Some x)
 slice_get_found [] i within = absurd (omega arith)
@@ -53,7 +53,7 @@ stretch_of funcs b is =
     }
 
 pub BeginsAt-start : (funcs : List Func) (b : Block) → IsOfFunction funcs b → (a : ℕ) →
-    BeginsAt funcs b a ↔ (start_of funcs b ≡ a)
+    BeginsAt funcs b a ↔ (block_start funcs b ≡ a)
 BeginsAt-start funcs b is a =
     let s = stretch_of funcs b is in (
       (λ begins.
@@ -67,7 +67,7 @@ BeginsAt-start funcs b is a =
 
 -- blocks in order begin at addresses that ascend
 before_below : (funcs : List Func) → AreLaidOut funcs → (b c : Block) → IsOfFunction funcs b →
-    IsOfFunction funcs c → IsBefore b c → start_of funcs b < start_of funcs c
+    IsOfFunction funcs c → IsBefore b c → block_start funcs b < block_start funcs c
 before_below funcs are b c is is' before =
     let s = stretch_of funcs b is in
     let t = stretch_of funcs c is' in
@@ -92,10 +92,10 @@ before_below funcs are b c is is' before =
     before
 
 pub starts_ascend : (funcs : List Func) (blocks : List Block) → AreLaidOut funcs → AreStretches funcs blocks →
-    AllPairs (λ a b. a < b) (map (start_of funcs) blocks)
+    AllPairs (λ a b. a < b) (map (block_start funcs) blocks)
 starts_ascend funcs blocks are is =
-    pairs_map (λ a b. a < b) (start_of funcs) blocks
-    (pairs_in IsBefore (λ b c. start_of funcs b < start_of funcs c) blocks
+    pairs_map (λ a b. a < b) (block_start funcs) blocks
+    (pairs_in IsBefore (λ b c. block_start funcs b < block_start funcs c) blocks
     (λ b c b_in c_in before. before_below funcs are b c
     (All-contains (IsOfFunction funcs) blocks b is.each b_in) (All-contains (IsOfFunction funcs) blocks c is.each c_in) before)
     is.ordered)
@@ -103,61 +103,64 @@ starts_ascend funcs blocks are is =
 -- Edges.
 
 module _ (funcs : List Func) (cells : List CodeCell) (targets : List (ℕ × ℕ)) (pairs : AreTablePairs funcs cells targets) where
-  leads_to : (func : Func) (i : ℕ) (p : Placed) (a : ℕ) → Leads targets func i p a → LeadsTo funcs cells func i p a
-  leads_to func i p a (leads.jumps ends goes) = jumps ends goes
-  leads_to func i p a (leads.falls_into falls next) = falls_into falls next
-  leads_to func i p a (leads.by_table table) = by_table (pairs.only (p.addr, a) table)
+  leads_to : (func : Func) (i : ℕ) (p : Placed) (a : ℕ) → LeadsTo (Contains targets) func i p a →
+      LeadsTo (IsPairOf funcs cells) func i p a
+  leads_to func i p a (jumps ends goes) = jumps ends goes
+  leads_to func i p a (falls_into falls next) = falls_into falls next
+  leads_to func i p a (by_table table) = by_table (pairs.only (p.addr, a) table)
 
-  leads_as : (func : Func) (i : ℕ) (p : Placed) (a : ℕ) → LeadsTo funcs cells func i p a → Leads targets func i p a
-  leads_as func i p a (jumps ends goes) = leads.jumps ends goes
-  leads_as func i p a (falls_into falls next) = leads.falls_into falls next
-  leads_as func i p a (by_table table) = leads.by_table (pairs.each (p.addr, a) table)
+  leads_as : (func : Func) (i : ℕ) (p : Placed) (a : ℕ) → LeadsTo (IsPairOf funcs cells) func i p a →
+      LeadsTo (Contains targets) func i p a
+  leads_as func i p a (jumps ends goes) = jumps ends goes
+  leads_as func i p a (falls_into falls next) = falls_into falls next
+  leads_as func i p a (by_table table) = by_table (pairs.each (p.addr, a) table)
 
   module _ (blocks : List Block) (are : All (IsOfFunction funcs) blocks) where
     begins_there : (a t : ℕ) (b : Block) → slice_get blocks t ≡ Some b →
-        (slice_get (map (start_of funcs) blocks) t ≡ Some a) ↔ BeginsAt funcs b a
+        (slice_get (map (block_start funcs) blocks) t ≡ Some a) ↔ BeginsAt funcs b a
     begins_there a t b at =
-        let mapped = slice_get-map (start_of funcs) blocks t ∙ ap (option_map (start_of funcs)) at in
+        let mapped = slice_get-map (block_start funcs) blocks t ∙ ap (option_map (block_start funcs)) at in
         let (to, from) = BeginsAt-start funcs b (All-contains (IsOfFunction funcs) blocks b are (contains_block t b at)) a in (
-          (λ is. from (same_Some (start_of funcs b) a (sym mapped ∙ is))),
+          (λ is. from (same_Some (block_start funcs b) a (sym mapped ∙ is))),
           (λ begins. mapped ∙ ap (λ (x : ℕ). Some x) (to begins)),
         )
       where
         contains_block : (t : ℕ) (b : Block) → slice_get blocks t ≡ Some b → Contains blocks b
         contains_block t b at = (t, slice_get_within blocks t b at, get_or_from_slice_get blocks t b b at)
 
-    edge_in : (e : ℕ × ℕ) → IsEdgeBy funcs targets blocks (map (start_of funcs) blocks) e → IsEdgeIn funcs cells blocks e
+    edge_in : (e : ℕ × ℕ) → IsEdgeBy funcs targets blocks (map (block_start funcs) blocks) e → IsEdgeIn funcs cells blocks e
     edge_in e is =
         let (t, t_is, same) = the_some (λ b. is.block.func ≡ b.func) (slice_get blocks e.1) is.begins.one_function in
-        let (p, p_is, goes) = the_some (λ p. Leads targets is.func is.block.last p is.to)
+        let (p, p_is, goes) = the_some (λ p. LeadsTo (Contains targets) is.func is.block.last p is.to)
         (inst_at is.func is.block.last) is.leads in
         some_and (λ s. IsSomeAnd (slice_get blocks e.1) (λ t. IsEdge funcs cells s t)) (slice_get blocks e.0) is.block is.block_is
         (some_and (λ t. IsEdge funcs cells is.block t) (slice_get blocks e.1) t t_is (record {
           one_function = same;
           to = is.to;
           begins = (begins_there is.to e.1 t t_is).0 is.begins.begins;
-          leads = some_and (λ func. IsSomeAnd (inst_at func is.block.last) (λ p. LeadsTo funcs cells func is.block.last p is.to))
+          leads = some_and (λ func. IsSomeAnd (inst_at func is.block.last)
+              (λ p. LeadsTo (IsPairOf funcs cells) func is.block.last p is.to))
               (func_of funcs is.block) is.func is.func_is
-              (some_and (λ p. LeadsTo funcs cells is.func is.block.last p is.to) (inst_at is.func is.block.last) p p_is
+              (some_and (λ p. LeadsTo (IsPairOf funcs cells) is.func is.block.last p is.to) (inst_at is.func is.block.last) p p_is
               (leads_to is.func is.block.last p is.to goes));
         }))
 
-    edge_by : (e : ℕ × ℕ) → IsEdgeIn funcs cells blocks e → IsEdgeBy funcs targets blocks (map (start_of funcs) blocks) e
+    edge_by : (e : ℕ × ℕ) → IsEdgeIn funcs cells blocks e → IsEdgeBy funcs targets blocks (map (block_start funcs) blocks) e
     edge_by e is =
         let (s, s_is, rest) = the_some (λ s. IsSomeAnd (slice_get blocks e.1) (λ t. IsEdge funcs cells s t))
         (slice_get blocks e.0) is in
         let (t, t_is, edge) = the_some (λ t. IsEdge funcs cells s t) (slice_get blocks e.1) rest in
         let (func, func_is, goes) =
-        the_some (λ func. IsSomeAnd (inst_at func s.last) (λ p. LeadsTo funcs cells func s.last p edge.to))
+        the_some (λ func. IsSomeAnd (inst_at func s.last) (λ p. LeadsTo (IsPairOf funcs cells) func s.last p edge.to))
         (func_of funcs s) edge.leads in
-        let (p, p_is, goes') = the_some (λ p. LeadsTo funcs cells func s.last p edge.to) (inst_at func s.last) goes in
+        let (p, p_is, goes') = the_some (λ p. LeadsTo (IsPairOf funcs cells) func s.last p edge.to) (inst_at func s.last) goes in
         record {
           block = s;
           block_is = s_is;
           func = func;
           func_is = func_is;
           to = edge.to;
-          leads = some_and (λ p. Leads targets func s.last p edge.to) (inst_at func s.last) p p_is
+          leads = some_and (λ p. LeadsTo (Contains targets) func s.last p edge.to) (inst_at func s.last) p p_is
               (leads_as func s.last p edge.to goes');
           begins = record {
             begins = (begins_there edge.to e.1 t t_is).1 edge.begins;
@@ -166,7 +169,7 @@ module _ (funcs : List Func) (cells : List CodeCell) (targets : List (ℕ × ℕ
         }
 
     pub AreEdges-by : (n : ℕ) (starts : List ℕ) (edges : List (ℕ × ℕ)) → n ≡ length blocks →
-        starts ≡ map (start_of funcs) blocks →
+        starts ≡ map (block_start funcs) blocks →
         AreEdgesBefore funcs targets blocks starts n edges → AreEdges funcs cells blocks edges
     AreEdges-by n starts edges all starts_are are = record {
       only = λ e is_in. edge_in e (subst (λ (xs : List ℕ). IsEdgeBy funcs targets blocks xs e) starts_are (are.only e is_in).0);

@@ -1,14 +1,16 @@
 -- The addresses to which the end of a block leads, as they are collected.
-use Rattle.std.proofs.Common.{[], arith, ◌≡◌, sym, subst, ℕ, ◌+◌, ◌⊎◌, inl, inr, ⊎_elim, Bool, List, Option, Some, IsTrue, length}
-use Rattle.std.proofs.Common.{◌==◌}
-use Rattle.std.specs.Prelude.{◌↔◌, Contains}
+use Rattle.std.proofs.Common.{[], arith, ◌≡◌, sym, subst, ℕ, ◌+◌, ◌⊎◌, inl, inr, ⊎_elim, Bool, List, Option, Some, IsTrue}
+use Rattle.std.proofs.Common.{ap, refl, true, false, None}
+use Rattle.std.specs.Prelude.{◌↔◌, Contains, if◌then◌else◌}
+use Rattle.std.proofs.lemmas.Option.{same_Some}
 use Rattle.rv_code.specs.declared.placed.Placed.{Placed}
 use Rattle.rv_code.specs.declared.placed.Func.{Func}
 use Rattle.rv_code.specs.layout.Blocks.{inst_at, EndsBlock}
-use Rattle.rv_code.specs.layout.Flow.{action_at, falls, falls_at, target_of}
-use Rattle.func_find.specs.Referred.{Gains}
+use Rattle.rv_code.specs.layout.Edges.{LeadsTo, jumps, falls_into, by_table}
+use Rattle.rv_code.specs.layout.Flow.{fall_target, falls_at, target_of}
+use Rattle.rb_bytes.specs.Lists.{Gains}
 use Rattle.func_find.proofs.Gains.{gains_both, gains_same}
-use Rattle.cfg_build.specs.EdgeLists.{Leads, jumps, falls_into, by_table, LeadsFrom}
+use Rattle.cfg_build.specs.EdgeLists.{LeadsFrom}
 use Rattle.cfg_build.proofs.Options.{some_and, of_some}
 
 abbrev JumpsTo : Placed → ℕ → Type 0
@@ -21,28 +23,25 @@ module _ (targets : List (ℕ × ℕ)) (func : Func) (i : ℕ) (p : Placed) (at 
   leads_by : (a : ℕ) →
       (JumpsTo p a ⊎ FallsTo func i p a) ⊎ Contains targets (p.addr, a) →
       LeadsFrom targets func i a
-  leads_by a either = some_and (λ p. Leads targets func i p a) (inst_at func i) p at (⊎_elim
+  leads_by a either = some_and (λ p. LeadsTo (Contains targets) func i p a) (inst_at func i) p at (⊎_elim
       (λ inner. ⊎_elim (λ (ends, goes). jumps ends goes) (λ (falls, next). falls_into falls next) inner)
       (λ table. by_table table)
       either)
 
   leads_from : (a : ℕ) → LeadsFrom targets func i a →
       (JumpsTo p a ⊎ FallsTo func i p a) ⊎ Contains targets (p.addr, a)
-  leads_from a leads = by (of_some (λ p. Leads targets func i p a) (inst_at func i) p at leads)
+  leads_from a leads = by (of_some (λ p. LeadsTo (Contains targets) func i p a) (inst_at func i) p at leads)
     where
-      by : Leads targets func i p a →
+      by : LeadsTo (Contains targets) func i p a →
           (JumpsTo p a ⊎ FallsTo func i p a) ⊎ Contains targets (p.addr, a)
       by (jumps ends goes) = inl (inl (ends, goes))
       by (falls_into falls next) = inl (inr (falls, next))
       by (by_table table) = inr table
 
-  pub leads_gained : (one two three four : List ℕ) (jump fall : Option ℕ) (last : Bool) →
-      last ≡ (i + 1 == length func.insts.items) →
-      ((a : ℕ) → (jump ≡ Some a) ↔ JumpsTo p a) →
-      ((a : ℕ) → (fall ≡ Some a) ↔ (IsTrue (falls (action_at p) last) × (p.addr + p.len ≡ a))) →
-      Gains one two (λ a. jump ≡ Some a) → Gains two three (λ a. fall ≡ Some a) →
+  pub leads_gained : (one two three four : List ℕ) (jump fall : Option ℕ) → ((a : ℕ) → (jump ≡ Some a) ↔ JumpsTo p a) →
+      fall ≡ fall_target func i p → Gains one two (λ a. jump ≡ Some a) → Gains two three (λ a. fall ≡ Some a) →
       Gains three four (λ a. Contains targets (p.addr, a)) → Gains one four (LeadsFrom targets func i)
-  leads_gained one two three four jump fall last last_is jump_is fall_is jumped fallen tables =
+  leads_gained one two three four jump fall jump_is fall_is jumped fallen tables =
       gains_same one four
       (λ a. (JumpsTo p a ⊎ FallsTo func i p a) ⊎ Contains targets (p.addr, a))
       (LeadsFrom targets func i) (λ a. (leads_by a, leads_from a))
@@ -51,13 +50,16 @@ module _ (targets : List (ℕ × ℕ)) (func : Func) (i : ℕ) (p : Placed) (at 
       (λ a. Contains targets (p.addr, a))
       (gains_both one two three (λ a. JumpsTo p a) (λ a. FallsTo func i p a)
       (gains_same one two (λ a. jump ≡ Some a) (λ a. JumpsTo p a) jump_is jumped)
-      (gains_same two three (λ a. fall ≡ Some a) (λ a. FallsTo func i p a) (λ a. falls_there a (fall_is a)) fallen))
+      (gains_same two three (λ a. fall ≡ Some a) (λ a. FallsTo func i p a) falls_there fallen))
       tables)
     where
-      falls_there : (a : ℕ) → (fall ≡ Some a) ↔ (IsTrue (falls (action_at p) last) × (p.addr + p.len ≡ a)) →
-          (fall ≡ Some a) ↔ FallsTo func i p a
-      falls_there a is = subst (λ (b : Bool). (fall ≡ Some a)
-          ↔ (IsTrue (falls (action_at p) b) × (p.addr + p.len ≡ a))) last_is is
+      some_where : (b : Bool) (n a : ℕ) → ((if b then Some n else None) ≡ Some a) ↔ (IsTrue b × (n ≡ a))
+      some_where true n a = ((λ is. (refl, same_Some n a is)), (λ (_, same). ap (λ (x : ℕ). Some x) same))
+      some_where false n a = ((λ is. absurd (cc)), (λ (is, _). absurd (cc)))
+
+      falls_there : (a : ℕ) → (fall ≡ Some a) ↔ FallsTo func i p a
+      falls_there a = subst (λ (o : Option ℕ). (o ≡ Some a) ↔ FallsTo func i p a) (sym fall_is)
+          (some_where (falls_at func i p) (p.addr + p.len) a)
 
 -- they begin with an empty list, which is sorted when it has all
 pub leads_all : (Is : ℕ → Type 0) (cleared now last leads : List ℕ) → cleared ≡ [] → Gains cleared now Is →

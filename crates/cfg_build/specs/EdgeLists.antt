@@ -1,33 +1,20 @@
 -- Edges as they are listed: the addresses to which the end of a block leads, and the blocks that begin there.
-use Rattle.std.specs.Prelude.{◌≡◌, ◌+◌, ℕ, List, Some, IsTrue, IsSomeAnd, All, Any, AllPairs, Contains, slice_get}
-use Rattle.std.specs.Option.{option_map_or}
-use Rattle.rv_code.specs.declared.placed.Placed.{Placed}
+use Rattle.std.specs.Prelude.{◌≡◌, ℕ, List, Some, IsSomeAnd, All, Any, AllPairs, Contains, slice_get}
 use Rattle.rv_code.specs.declared.placed.Func.{Func}
 use Rattle.rv_code.specs.declared.placed.Block.{Block}
-use Rattle.rv_code.specs.layout.Blocks.{inst_at, func_of, EndsBlock, IsBefore}
-use Rattle.rv_code.specs.layout.Flow.{target_of, falls_at}
-use Rattle.rv_code.specs.layout.InFunctions.{IsOfFunction}
+use Rattle.rv_code.specs.layout.Blocks.{inst_at, IsBefore}
+use Rattle.rv_code.specs.layout.Edges.{LeadsTo}
+use Rattle.rv_code.specs.layout.FunctionMembers.{IsOfFunction}
 
 -- blocks of functions, in order
 pub record AreStretches (funcs : List Func) (blocks : List Block) : Type 0 where
   pub each : All (IsOfFunction funcs) blocks
   pub ordered : AllPairs IsBefore blocks
 
--- the address at which a block begins
-abbrev pub start_of : List Func → Block → ℕ
-start_of funcs b =
-    option_map_or (λ func. option_map_or (λ p. p.addr) (inst_at func b.first) 0) (func_of funcs b) 0
-
--- The end of a block leads to an address, where these are the pairs of an indirect jump and an address to which a table
--- leads it.
-pub data Leads (targets : List (ℕ × ℕ)) (func : Func) (i : ℕ) (p : Placed) (a : ℕ) : Type 0 where
-  jumps : EndsBlock p → target_of p ≡ Some a → Leads targets func i p a
-  falls_into : IsTrue (falls_at func i p) → p.addr + p.len ≡ a → Leads targets func i p a
-  by_table : Contains targets (p.addr, a) → Leads targets func i p a
-
--- the i-th instruction of a function does
+-- The i-th instruction of a function leads to an address, where these are the pairs of an indirect jump and an address to
+-- which a table leads it.
 abbrev pub LeadsFrom : List (ℕ × ℕ) → Func → ℕ → ℕ → Type 0
-LeadsFrom targets func i a = IsSomeAnd (inst_at func i) (λ p. Leads targets func i p a)
+LeadsFrom targets func i a = IsSomeAnd (inst_at func i) (λ p. LeadsTo (Contains targets) func i p a)
 
 -- a block of a list, whose blocks begin at these addresses, is one of a function and begins at an address
 pub record IsBlockAt (blocks : List Block) (starts : List ℕ) (func a t : ℕ) : Type 0 where

@@ -1,20 +1,21 @@
 // The edges between blocks.
 ghost use Rattle.std.specs.Prelude.{◌≡◌, ◌+◌, ◌<◌, ◌≤◌, ◌⊎◌, ◌↔◌, ℕ, List, All, Any, AllPairs, Contains, IfOk, IfSome, OnOk};
-ghost use Rattle.std.specs.Prelude.{Some, map, length, slice_get};
+ghost use Rattle.std.specs.Prelude.{Some, length, slice_get};
 ghost use Rattle.rv_code.specs.declared.cell.CodeCell.{CodeCell};
 ghost use Rattle.rv_code.specs.layout.Edges.{AreEdges, AreTablePairs};
 ghost use Rattle.rv_code.specs.layout.FunctionLists.{AreLaidOut, IsLaidOut, address_end};
 ghost use Rattle.rv_code.specs.layout.Lists.{IsPairBefore, ListsPairs};
-ghost use Rattle.func_find.specs.Referred.{Gains};
-ghost use Rattle.rv_code.specs.layout.InFunctions.{IsOfFunction};
-ghost use Rattle.cfg_build.specs.EdgeLists.{AreStretches, IsNextOf, LeadsFrom, start_of, IsBlockAt};
+ghost use Rattle.rb_bytes.specs.Lists.{Gains};
+ghost use Rattle.cfg_build.specs.EdgeLists.{AreStretches, IsNextOf, LeadsFrom, IsBlockAt};
 
-use crate::ends::{fall_target, jump_target};
+use crate::ends::jump_target;
 use elf_image::function_bounds::make_ascending;
-use func_find::referred::push_some;
 use rb_bytes::fault::NoMemory;
+use rb_bytes::lists::push_some;
+use rv_code::flow::fall_target;
+use rv_code::functions::block_starts;
 use rv_code::{Block, Func};
-use std::alloc::{AllocError, Global};
+use std::alloc::Global;
 
 /// The edges between blocks of functions, as places in the list of blocks, by source and by target. `targets` are the pairs
 /// of an indirect jump and an address to which a table leads it, in order.
@@ -42,25 +43,6 @@ pub fn edges(
     Ok(edges)
 }
 
-// The addresses at which blocks begin.
-fn block_starts(alloc: Global, funcs: &[Func], blocks: &[Block]) -> Result<Vec<u64>, AllocError>
-    requires { All (IsOfFunction funcs.now) blocks.now }
-    ensures { IfOk result (λ starts. starts.items ≡ map (start_of funcs.now) blocks.now) }
-{
-    let mut starts = Vec::new(alloc);
-    for block in blocks {
-        starts.push(start_of(funcs, block))?;
-    }
-    Ok(starts)
-}
-
-fn start_of(funcs: &[Func], block: &Block) -> u64
-    requires { IsOfFunction funcs.now block.now }
-    ensures { result ≡ start_of funcs.now block.now }
-{
-    funcs[block.func].insts[block.first].addr
-}
-
 // Appends the addresses to which the i-th instruction of a function leads control, if a block ends with it.
 fn push_leads(
     leads: &mut Vec<u64>,
@@ -76,7 +58,7 @@ fn push_leads(
 {
     let inst = func.insts[i];
     push_some(leads, jump_target(&inst))?;
-    push_some(leads, fall_target(&inst, i + 1 == func.insts.len()))?;
+    push_some(leads, fall_target(func, i, &inst))?;
     push_table(leads, targets, inst.addr)?;
     Ok(())
 }

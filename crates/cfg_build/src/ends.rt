@@ -1,10 +1,10 @@
 // Where control leaves a block.
-ghost use Rattle.std.specs.Prelude.{◌≡◌, ◌+◌, ◌^◌, ◌<◌, ◌↔◌, ℕ, IsTrue, Some};
+ghost use Rattle.std.specs.Prelude.{◌≡◌, ◌↔◌, ℕ, IsTrue, Some};
 ghost use Rattle.rv_code.specs.layout.Blocks.{EndsBlock};
-ghost use Rattle.rv_code.specs.layout.Flow.{action_at, falls, target_of};
+ghost use Rattle.rv_code.specs.layout.Flow.{target_of};
 
 use rv_code::Placed;
-use rv_code::flow::{falls, is_branch, is_plain_jump, target};
+use rv_code::flow::{is_branch, is_plain_jump, target};
 
 /// Whether a block ends with an instruction: a conditional branch, or a jump that saves no return address.
 pub fn ends_block(inst: &Placed) -> bool
@@ -21,15 +21,4 @@ pub fn jump_target(inst: &Placed) -> Option<u64>
         return None;
     }
     target(inst.addr, &inst.inst)
-}
-
-/// The address after an instruction, if it falls there.
-pub fn fall_target(inst: &Placed, is_last: bool) -> Option<u64>
-    requires { inst.now.addr + inst.now.len < 2 ^ 64 }
-    ensures { (a : ℕ) → (result ≡ Some a) ↔ (IsTrue (falls (action_at inst.now) is_last) × (inst.now.addr + inst.now.len ≡ a)) }
-{
-    if !falls(&inst.inst, is_last) {
-        return None;
-    }
-    Some(inst.addr + inst.len as u64)
 }

@@ -1,12 +1,13 @@
 // The addresses at which blocks begin because something goes there or holds them.
 ghost use Rattle.std.specs.Prelude.{◌≡◌, ◌<◌, IfOk, OnOk, Any, AllPairs, Some};
 ghost use Rattle.rv_code.specs.layout.Flow.{target_of};
-ghost use Rattle.func_find.specs.Referred.{Gains};
+ghost use Rattle.rb_bytes.specs.Lists.{Gains};
 ghost use Rattle.cfg_build.specs.NamedAddresses.{code_of, AreEntered};
 
 use elf_image::function_bounds::make_ascending;
-use func_find::referred::{push_cells, push_roles, push_some};
+use func_find::referred::{push_cells, push_roles};
 use rb_bytes::fault::NoMemory;
+use rb_bytes::lists::push_some;
 use rv_code::flow::target;
 use rv_code::{Func, Placed};
 use rv_reloc::Refs;

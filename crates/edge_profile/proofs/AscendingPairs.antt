@@ -6,7 +6,7 @@ use Rattle.std.specs.List.Sorted.{IsPartitionedBy}
 use Rattle.std.proofs.lemmas.Bool.{eq-eqb, ne_eqb, eqb-true, lt-ltb, le-ltb, ltb-true, cases_lt, cases_eq}
 use Rattle.std.proofs.lemmas.List.{get_or_default}
 use Rattle.std.proofs.lemmas.List.Sums.{sum_by-cons}
-use Rattle.edge_profile.specs.Counts.{Counted, count_among, is_pair, IsCountedBefore, IsCountOf, ArePairs}
+use Rattle.edge_profile.specs.PairCounts.{Counted, count_among, is_pair, IsCountedBefore, IsCountOf, ArePairs}
 use Rattle.edge_profile.specs.Pairs.{IsAscending, IsCountBelow, is_before}
 
 -- Sums of which at most one term counts.

@@ -7,7 +7,7 @@ use Rattle.rv_code.specs.declared.placed.Func.{Func}
 use Rattle.rv_code.specs.declared.placed.Block.{Block}
 use Rattle.rv_code.specs.layout.Blocks.{AreBlocks, IsBlock, IsBlockOf, IsBefore, func_of}
 use Rattle.rv_code.specs.layout.ProgramCode.{ProgramCode}
-use Rattle.edge_profile.specs.BlockPlaces.{AreApart, IsApart}
+use Rattle.edge_profile.specs.BlockPlaces.{AreBlocksApart, IsApart}
 
 first_last : (code : ProgramCode) (b : Block) (found : Option Func) →
     IsSomeAnd found (λ func. IsBlockOf code func b.first b.last) → b.first ≤ b.last
@@ -24,7 +24,7 @@ no_overlap code b c (Some func) less is other = ⊎_elim
     (λ (inside : c.first ≤ b.last). absurd (is.no_other c.first less inside other.begins))
     (cases_lt b.last c.first)
 
-pub AreApart-blocks : (code : ProgramCode) (blocks : List Block) → AreBlocks code blocks → AreApart blocks
+pub AreApart-blocks : (code : ProgramCode) (blocks : List Block) → AreBlocks code blocks → AreBlocksApart blocks
 AreApart-blocks code blocks are = record {
   some = λ k d within. first_last code (get_or blocks k d) (func_of code.funcs (get_or blocks k d))
       (are.only (get_or blocks k d) (Contains-get_or blocks k d within));

@@ -1,20 +1,22 @@
 -- Instructions of functions that are laid out.
 use Rattle.std.proofs.Common.{◌≡◌, ◌≢◌, ◌<◌, ◌≤◌, ◌+◌, ◌-◌, ◌∙◌, ℕ, Bool, true, false, List, [], ◌∷◌, length, get_or, arith, refl}
 use Rattle.std.proofs.Common.{ap, sym, subst, ⊎_elim, AllPairs, find, is_some, cond, Some}
-use Rattle.std.specs.Prelude.{◌==◌, ◌||◌}
+use Rattle.std.specs.Prelude.{◌==◌, ◌||◌, nat_le}
 use Rattle.std.specs.List.{list_any}
-use Rattle.std.specs.List.Sorted.{IsNonDecreasingBy}
-use Rattle.std.proofs.lemmas.Bool.{eq-eqb, ne_eqb, cases_lt}
+use Rattle.std.specs.List.Sorted.{IsNonDecreasingBy, IsPartitionedBy}
+use Rattle.std.proofs.lemmas.Bool.{eq-eqb, ne_eqb, cases_lt, le-leb, leb-true, leb-false, lt-leb}
 use Rattle.std.proofs.lemmas.List.{get_or_default}
 use Rattle.std.proofs.lemmas.List.Folds.{list_any_none, list_any_at, list_any-append}
+use Rattle.std.proofs.lemmas.List.Sorted.{IsPartitionedBy-leb}
 use Rattle.rv_code.specs.declared.placed.Placed.{Placed}
 use Rattle.rv_code.specs.declared.placed.Func.{Func}
 use Rattle.rv_code.specs.layout.FunctionLists.{IsLaidOut, AreLaidOut, address_end}
 use Rattle.rv_code.proofs.lists.Follows.{inst_bounds}
 use Rattle.rv_code.specs.layout.Flow.{insts_of}
 use Rattle.rv_code.specs.layout.ProgramCode.{is_code_address}
-use Rattle.edge_profile.specs.Places.{IsPlaceOf}
+use Rattle.rv_code.specs.layout.FunctionMembers.{IsInstPlace}
 use Rattle.edge_profile.specs.Weights.{starts_at}
+use Rattle.edge_profile.proofs.Partitions.{passes_up_to, fails_from}
 
 pub non_decreasing : (insts : List Placed) → AllPairs (λ p q. p.addr < q.addr) insts → IsNonDecreasingBy (λ p. p.addr) insts
 non_decreasing insts rising i j d le within = ⊎_elim
@@ -58,18 +60,18 @@ module _ (funcs : List Func) (laid : AreLaidOut funcs) where
       (cases_lt i j)
 
 -- Where a function starts at an address or below it, so do all before it; and where it starts behind it, so do all behind.
-module _ (funcs : List Func) (laid : AreLaidOut funcs) (a n : ℕ) (e : Func) (within : n < length funcs) where
-  pub start_up_to : (get_or funcs n e).start ≤ a → (k : ℕ) (d : Func) → k < n + 1 → (get_or funcs k d).start ≤ a
-  start_up_to low k d less =
-      let rises = funcs_rise funcs laid k n e (omega arith) within in
-      let same = ap (λ (f : Func). f.start) (get_or_default funcs k d e (omega arith)) in
-      omega arith
+module _ (funcs : List Func) (laid : AreLaidOut funcs) (a n : ℕ) (e : Func) where
+  partitioned_starts : IsPartitionedBy (λ f. nat_le f.start a) funcs
+  partitioned_starts = IsPartitionedBy-leb (λ (f : Func). f.start) funcs a (funcs_rise funcs laid)
+
+  pub start_up_to : n < length funcs → (get_or funcs n e).start ≤ a → (k : ℕ) (d : Func) → k < n + 1 →
+      (get_or funcs k d).start ≤ a
+  start_up_to within low k d less =
+      leb-true _ _ (passes_up_to (λ f. nat_le f.start a) funcs partitioned_starts n e within (le-leb _ _ low) k d less)
 
   pub start_behind : a < (get_or funcs n e).start → (k : ℕ) (d : Func) → n ≤ k → k < length funcs → a < (get_or funcs k d).start
   start_behind high k d from inside =
-      let rises = funcs_rise funcs laid n k e from inside in
-      let same = ap (λ (f : Func). f.start) (get_or_default funcs k d e inside) in
-      omega arith
+      leb-false _ _ (fails_from (λ f. nat_le f.start a) funcs partitioned_starts n e (lt-leb _ _ high) k d from inside)
 
 is_some-find : {X : Type 0} (p : X → Bool) (xs : List X) → is_some (find p xs) ≡ list_any p xs
 is_some-find p [] = refl
@@ -96,7 +98,7 @@ any_element [] k within = absurd (omega arith)
 any_element (x ∷ xs) k within = x
 
 -- where an instruction has its place, one starts
-pub code_address_at : (funcs : List Func) (a f i : ℕ) → IsPlaceOf funcs a f i → is_code_address funcs a ≡ true
+pub code_address_at : (funcs : List Func) (a f i : ℕ) → IsInstPlace funcs a f i → is_code_address funcs a ≡ true
 code_address_at funcs a f i is =
     let g = any_element funcs f is.func_within in
     let insts = (get_or funcs f g).insts.items in

@@ -1,9 +1,9 @@
 pub mod AscendingPairs
 pub mod BlockLists
-pub mod DigitValues
 pub mod LaidOut
 pub mod LineLists
 pub mod Merging
 pub mod NameTables
+pub mod Partitions
 pub mod Saying
 pub mod Weighing

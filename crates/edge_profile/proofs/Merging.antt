@@ -11,8 +11,8 @@ use Rattle.std.proofs.lemmas.List.Elements.{All-push, All-set}
 use Rattle.std.proofs.lemmas.List.Quantifiers.{all_pairs_push}
 use Rattle.std.proofs.lemmas.List.Sorted.{sum_by-IsPermutation, length_permutation}
 use Rattle.std.proofs.lemmas.List.Sums.{sum_by_push, sum_by_more, sum_by-set}
-use Rattle.edge_profile.specs.Counts.{Counted, count_among, is_pair, total_count, IsCountedBefore}
-use Rattle.edge_profile.specs.Pairs.{IsNotAfter, AreMerged, IsAdded, is_last}
+use Rattle.edge_profile.specs.PairCounts.{Counted, count_among, is_pair, total_count, IsCountedBefore}
+use Rattle.edge_profile.specs.Pairs.{IsNotAfter, AreMerged, AddsCount, is_last_pair}
 
 -- Two counts of one pair are counted as their sum.
 added-sum : (from to : ℕ) (x : Counted) (n : ℕ)
@@ -51,7 +51,7 @@ module _ (old : List Counted) (k : ℕ) (p d : Counted) (within : k < length old
       (cases_eq i k)
 
   -- a count added to the pair of an element
-  pub added_raised : item.0 ≡ p.0 → item.1 ≡ p.1 → AllPairs IsCountedBefore old → 0 < p.2 → IsAdded old new p
+  pub added_raised : item.0 ≡ p.0 → item.1 ≡ p.1 → AllPairs IsCountedBefore old → 0 < p.2 → AddsCount old new p
   added_raised e f ordered some = record {
     counts = λ from to.
         let sum = sum_by-set (λ q. if is_pair from to q then q.2 else 0) old k (item.0, item.1, item.2 + p.2) d within in
@@ -92,9 +92,9 @@ both_is true b is = (refl, is)
 both_is false b is = absurd (cc)
 
 -- a count added to the last pair
-pub raised_last : (old : List Counted) (k : ℕ) (x p : Counted) → is_last p.0 p.1 old ≡ true
+pub raised_last : (old : List Counted) (k : ℕ) (x p : Counted) → is_last_pair p.0 p.1 old ≡ true
     → k ≡ length old - 1 → x ≡ get_or old k x
-    → AllPairs IsCountedBefore old → 0 < p.2 → IsAdded old (set old k (x.0, x.1, x.2 + p.2)) p
+    → AllPairs IsCountedBefore old → 0 < p.2 → AddsCount old (set old k (x.0, x.1, x.2 + p.2)) p
 raised_last old k x p last at read ordered some =
     let parts = last_is (length old == 0) (is_pair p.0 p.1 (get_or old (length old - 1) (0, 0, 0))) last in
     let many : length old ≢ 0 = λ e. let t = eq-eqb (length old) 0 e in let f = parts.0 in absurd (cc) in
@@ -105,7 +105,7 @@ raised_last old k x p last at read ordered some =
     both_is ((get_or old (length old - 1) (0, 0, 0)).0 == p.0) ((get_or old (length old - 1) (0, 0, 0)).1 == p.1) parts.1 in
     let from = sym (ap (λ (q : Counted). q.0) same) ∙ eqb-true _ _ ends.0 in
     let to = sym (ap (λ (q : Counted). q.1) same) ∙ eqb-true _ _ ends.1 in
-    subst (λ (y : Counted). IsAdded old (set old k (y.0, y.1, y.2 + p.2)) p) (sym read)
+    subst (λ (y : Counted). AddsCount old (set old k (y.0, y.1, y.2 + p.2)) p) (sym read)
     (added_raised old k p x within from to ordered some)
 
 -- a pair that isn't after another, and isn't the same, comes before it
@@ -127,7 +127,7 @@ then_before x y p (inr (e, a)) (inr (f, b)) = inr (e ∙ f, omega arith)
 
 -- a count of a pair that comes after all
 pub added_pushed : (old : List Counted) (p : Counted) → 0 < p.2 → All (λ q. IsNotAfter q p) old → AllPairs IsCountedBefore old
-    → is_last p.0 p.1 old ≡ false → IsAdded old (old ++ p ∷ []) p
+    → is_last_pair p.0 p.1 old ≡ false → AddsCount old (old ++ p ∷ []) p
 added_pushed old p some all ordered other = record {
   counts = λ from to. sum_by_push (λ q. if is_pair from to q then q.2 else 0) old p;
   total = sum_by_push (λ (q : Counted). q.2) old p;
@@ -173,7 +173,7 @@ merged_none said = record {
 -- one count more
 pub merged_more : (said : List Counted) (i : ℕ) (pairs new : List Counted) (d : Counted)
     → AllPairs IsNotAfter said → i < length said
-    → (get_or said i d).2 < 2 ^ 64 → IsAdded pairs new (get_or said i d) → IsMergedTo said i pairs → IsMergedTo said (i + 1) new
+    → (get_or said i d).2 < 2 ^ 64 → AddsCount pairs new (get_or said i d) → IsMergedTo said i pairs → IsMergedTo said (i + 1) new
 merged_more said i pairs new d ordered within small is was =
     let p = get_or said i d in
     record {

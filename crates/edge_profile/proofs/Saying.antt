@@ -3,7 +3,7 @@ use Rattle.std.proofs.Common.{◌≡◌, ◌≤◌, ◌+◌, ◌∙◌, ℕ, con
 use Rattle.std.proofs.Common.{append_assoc, length-append}
 use Rattle.std.proofs.lemmas.List.{append-nil}
 use Rattle.edge_profile.specs.declared.reading.Said.{Said}
-use Rattle.edge_profile.specs.Reading.{SaysAll}
+use Rattle.edge_profile.specs.ReadLines.{SaysAll}
 use Rattle.std.specs.List.{cons_option}
 use Rattle.std.proofs.lemmas.List.Sums.{sum_by-cons}
 use Rattle.edge_profile.proofs.LineLists.{length-lines}
@@ -11,7 +11,7 @@ use Rattle.std.specs.Prelude.{count_by, is_none}
 use Rattle.rv_code.specs.declared.placed.Func.{Func}
 use Rattle.elf_image.specs.declared.elf.Symbol.{Symbol}
 use Rattle.edge_profile.specs.Grammar.{lines}
-use Rattle.edge_profile.specs.Counts.{Counted, counted_by}
+use Rattle.edge_profile.specs.PairCounts.{Counted, counted_by}
 use Rattle.edge_profile.specs.FunctionNames.{AreNamesOf}
 use Rattle.edge_profile.specs.declared.function_names.FunctionNames.{FunctionNames}
 

@@ -16,10 +16,10 @@ use Rattle.rv_code.specs.declared.placed.Func.{Func}
 use Rattle.rv_code.specs.declared.placed.Block.{Block}
 use Rattle.rv_code.specs.layout.FunctionLists.{AreLaidOut}
 use Rattle.rv_code.specs.layout.ProgramCode.{is_code_address}
-use Rattle.edge_profile.specs.Counts.{Counted, total_count}
-use Rattle.edge_profile.specs.Places.{IsPlaceOf}
+use Rattle.edge_profile.specs.PairCounts.{Counted, total_count}
+use Rattle.rv_code.specs.layout.FunctionMembers.{IsInstPlace}
 use Rattle.edge_profile.specs.Weights.{block_weight, insts_of_block, touches, starts_at}
-use Rattle.edge_profile.specs.BlockPlaces.{IsApart, AreApart, begins_by, ends_from, has_inst}
+use Rattle.edge_profile.specs.BlockPlaces.{IsApart, AreBlocksApart, begins_by, ends_from, has_inst}
 use Rattle.rv_code.proofs.lists.Follows.{insts_rise, inst_bounds}
 use Rattle.edge_profile.proofs.LaidOut.{starts_below, starts_above, code_address-list_any, any_element}
 
@@ -135,7 +135,7 @@ module _ (funcs : List Func) where
           let same = code_address-list_any funcs a in
           absurd (cc)
 
-  pub holder_of_place : AreLaidOut funcs → (a f i : ℕ) → IsPlaceOf funcs a f i → (b : Block) →
+  pub holder_of_place : AreLaidOut funcs → (a f i : ℕ) → IsInstPlace funcs a f i → (b : Block) →
       starts_at (insts_of_block funcs b) a ≡ has_inst f i b
   holder_of_place laid a f i is b = ⊎_elim
       (λ (same : b.func ≡ f).
@@ -214,7 +214,7 @@ ends f i b is = ⊎_elim
 ends_test : (f i : ℕ) (b : Block) → b.func ≡ f → i ≤ b.last → ends_from f i b ≡ true
 ends_test f i b same to = rw (eq-eqb b.func f same, le-leb i b.last to) refl
 
-module _ (blocks : List Block) (apart : AreApart blocks) (f i : ℕ) where
+module _ (blocks : List Block) (apart : AreBlocksApart blocks) (f i : ℕ) where
   pub partitioned_blocks : IsPartitionedBy (begins_by f i) blocks
   partitioned_blocks j k d le within is = ⊎_elim
       (λ (less : j < k).
@@ -230,24 +230,6 @@ module _ (blocks : List Block) (apart : AreApart blocks) (f i : ℕ) where
       earlier b c some more (inl less) (inr (same, from)) = inl (omega arith)
       earlier b c some more (inr (own, less)) (inl low) = inl (omega arith)
       earlier b c some more (inr (own, less)) (inr (same, from)) = inr (own ∙ same, omega arith)
-
-  -- Where a block begins by then, all before it do; and where one doesn't, none behind it does.
-  pub first_begin : (n : ℕ) (e : Block) → n < length blocks → begins_by f i (get_or blocks n e) ≡ true →
-      (k : ℕ) (d : Block) → k < n + 1 → begins_by f i (get_or blocks k d) ≡ true
-  first_begin n e within is k d less =
-      partitioned_blocks k n d (omega arith) within
-      (subst (λ (b : Block). begins_by f i b ≡ true) (get_or_default blocks n e d within) is)
-
-  pub rest_begin_not : (n : ℕ) (e : Block) → begins_by f i (get_or blocks n e) ≡ false →
-      (k : ℕ) (d : Block) → n ≤ k → k < length blocks → begins_by f i (get_or blocks k d) ≡ false
-  rest_begin_not n e first k d from within = by (begins_by f i (get_or blocks k d)) refl
-    where
-      here : begins_by f i (get_or blocks n d) ≡ false
-      here = subst (λ (b : Block). begins_by f i b ≡ false) (get_or_default blocks n e d (omega arith)) first
-
-      by : (b : Bool) → begins_by f i (get_or blocks k d) ≡ b → begins_by f i (get_or blocks k d) ≡ false
-      by false is = is
-      by true is = let yes' = partitioned_blocks n k d from within is in let no' = here in absurd (cc)
 
   module _ (below : ℕ) (bound : below ≤ length blocks)
       (low : (k : ℕ) (d : Block) → k < below → begins_by f i (get_or blocks k d) ≡ true)

@@ -10,7 +10,7 @@ abbrev pub IsApart : Block → Block → Type 0
 IsApart b c = (b.func < c.func) ⊎ ((b.func ≡ c.func) × (b.last < c.first))
 
 -- blocks that lie apart, in order
-pub record AreApart (blocks : List Block) : Type 0 where
+pub record AreBlocksApart (blocks : List Block) : Type 0 where
   pub some : All (λ b. b.first ≤ b.last) blocks
   pub ordered : AllPairs IsApart blocks
 
@@ -27,14 +27,14 @@ abbrev pub has_inst : ℕ → ℕ → Block → Bool
 has_inst f i b = b.func == f && nat_le b.first i && nat_le i b.last
 
 -- a place is a given one
-abbrev pub is_at : ℕ → Option ℕ → Bool
-is_at k None = false
-is_at k (Some j) = k == j
+abbrev pub is_place : ℕ → Option ℕ → Bool
+is_place k None = false
+is_place k (Some j) = k == j
 
 -- the block at a place, if at any, has the instruction at an address, and no other block has
 pub record IsHolder (funcs : List Func) (blocks : List Block) (a : ℕ) (place : Option ℕ) : Type 0 where
   pub has : (k : ℕ) (d : Block) → k < length blocks →
-      starts_at (insts_of_block funcs (slice_index_or blocks k d)) a ≡ is_at k place
+      starts_at (insts_of_block funcs (slice_index_or blocks k d)) a ≡ is_place k place
 
 -- numbers, of which the one at a place is raised
 abbrev pub raised_at : List ℕ → Option ℕ → ℕ → List ℕ

@@ -1,10 +1,11 @@
 -- What a line's fields are seen as.
 use Rattle.std.specs.Prelude.{ℕ, List, [], ◌∷◌, Option, Some, None}
+use Rattle.rb_bytes.specs.Text.{hex_number}
 use Rattle.edge_profile.specs.declared.fields.EightFields.{EightFields}
 use Rattle.edge_profile.specs.declared.fields.Line.{Line}
 use Rattle.edge_profile.specs.declared.fields.Place.{Place}
 use denote.Ref.{Bor}
-use Rattle.edge_profile.specs.Grammar.{NamedPlace, BranchLine, fields, named_place, hex_number}
+use Rattle.edge_profile.specs.Grammar.{NamedPlace, BranchLine, fields, named_place}
 
 abbrev pub place_read : Place → NamedPlace
 place_read p = record { name = p.name.now; offset = p.offset }

@@ -1,11 +1,13 @@
 -- The text of a profile: lines, their fields, and the numbers in these. A line has eight fields with one blank between:
 --     1 FROM OFFSET 1 TO OFFSET MISPREDICTIONS COUNT
-use Rattle.std.specs.Prelude.{ℕ, ◌^◌, ◌==◌, ◌&&◌, ◌||◌, Bool, List, [], ◌∷◌, Option, Some, None, is_some, nat_lt, nat_le}
-use Rattle.std.specs.Prelude.{if◌then◌else◌, length, slice_index, option_map, bytes_eq}
-use Rattle.std.specs.Char.{is_ascii_digit}
-use Rattle.std.specs.Int.{is_in_range}
-use Rattle.std.specs.List.{list_all, onto_first, slice_split}
-use Rattle.std.specs.Str.Parse.{digits_value}
+use Rattle.std.specs.Prelude.{ℕ, ◌==◌, ◌&&◌, List, [], ◌∷◌, Option, Some, None, is_some, nat_lt, if◌then◌else◌}
+use Rattle.std.specs.Prelude.{length, slice_index, option_map, bytes_eq}
+use Rattle.std.specs.List.{onto_first, slice_split}
+use Rattle.rb_bytes.specs.Text.{decimal_number, hex_number}
+
+-- the most bytes of a text that is read: 64 MiB
+abbrev pub most_text_bytes : ℕ
+most_text_bytes = 0x4000000
 
 -- the lines of a text: a line feed ends each, which the last may lack
 abbrev pub lines : List ℕ → List (List ℕ)
@@ -16,24 +18,7 @@ lines (c ∷ rest) = if c == 10 then [] ∷ lines rest else onto_first c (lines 
 abbrev pub fields : List ℕ → List (List ℕ)
 fields line = slice_split (λ c. c == 32) line
 
-abbrev pub is_lower_hex_digit : ℕ → Bool
-is_lower_hex_digit c = is_ascii_digit c || is_in_range 97 102 c
-
--- the number below 2^64 that digits write, if they are some, and at most so many
-abbrev pub number_of_digits : (radix most : ℕ) → (ℕ → Bool) → List ℕ → Option ℕ
-number_of_digits radix most is_digit digits =
-    if nat_lt 0 (length digits) && nat_le (length digits) most && list_all is_digit digits
-    && nat_lt (digits_value radix digits) (2 ^ 64)
-    then Some (digits_value radix digits)
-    else None
-
-abbrev pub decimal_number : List ℕ → Option ℕ
-decimal_number digits = number_of_digits 10 20 is_ascii_digit digits
-
-abbrev pub hex_number : List ℕ → Option ℕ
-hex_number digits = number_of_digits 16 16 is_lower_hex_digit digits
-
--- the same, of digits with no zero before another digit
+-- the number that hexadecimal digits write, with no zero before another digit
 abbrev pub short_hex_number : List ℕ → Option ℕ
 short_hex_number digits = if nat_lt 1 (length digits) && slice_index digits 0 == 48 then None else hex_number digits
 

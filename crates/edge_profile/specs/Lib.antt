@@ -1,11 +1,10 @@
 pub mod BlockPlaces
-pub mod Counts
+pub mod PairCounts
 pub mod Fields
 pub mod FunctionNames
 pub mod Grammar
 pub mod Names
 pub mod Pairs
-pub mod Places
 pub mod Profile
-pub mod Reading
+pub mod ReadLines
 pub mod Weights

@@ -18,8 +18,8 @@ abbrev pub symbol_values : List Symbol → List ℕ → List ℕ
 symbol_values symbols name =
     map (λ s. s.value) (filter (λ s. names_function s && bytes_eq s.name.now name) symbols)
 
-abbrev pub symbol_value : List Symbol → List ℕ → Option ℕ
-symbol_value symbols name = only_value (symbol_values symbols name)
+abbrev pub named_value : List Symbol → List ℕ → Option ℕ
+named_value symbols name = only_value (symbol_values symbols name)
 
 -- the address that digits write, if a function starts there
 abbrev pub function_start : List Func → List ℕ → Option ℕ
@@ -29,7 +29,7 @@ function_start funcs digits =
 -- `@` and an address stand for the function that starts there, and every other name for its symbols' value
 abbrev pub value_of_name : List Symbol → List Func → List ℕ → Option ℕ
 value_of_name symbols funcs name =
-    if slice_index name 0 == 64 then function_start funcs (drop 1 name) else symbol_value symbols name
+    if slice_index name 0 == 64 then function_start funcs (drop 1 name) else named_value symbols name
 
 -- an address, if an instruction starts there
 abbrev pub code_address : List Func → ℕ → Option ℕ

@@ -1,7 +1,7 @@
 -- Lists of counts, merged.
 use Rattle.std.specs.Prelude.{◌≡◌, ◌⊎◌, ◌+◌, ◌*◌, ◌^◌, ◌<◌, ◌≤◌, ◌==◌, ◌&&◌, ◌||◌, ℕ, Bool, true, false, List, All, AllPairs}
 use Rattle.std.specs.Prelude.{if◌then◌else◌, ◌-◌, not, nat_lt, length, slice_index_or}
-use Rattle.edge_profile.specs.Counts.{Counted, count_among, is_pair, total_count, IsCountedBefore}
+use Rattle.edge_profile.specs.PairCounts.{Counted, count_among, is_pair, total_count, IsCountedBefore}
 
 -- a pair is not after another
 abbrev pub IsNotAfter : Counted → Counted → Type 0
@@ -22,8 +22,8 @@ pub record IsCountBelow (pairs : List Counted) (from to k : ℕ) : Type 0 where
   pub above : (j : ℕ) (d : Counted) → k ≤ j → j < length pairs → is_before (slice_index_or pairs j d) (from, to, 0) ≡ false
 
 -- a pair is the last of some
-abbrev pub is_last : ℕ → ℕ → List Counted → Bool
-is_last from to pairs = not (length pairs == 0) && is_pair from to (slice_index_or pairs (length pairs - 1) (0, 0, 0))
+abbrev pub is_last_pair : ℕ → ℕ → List Counted → Bool
+is_last_pair from to pairs = not (length pairs == 0) && is_pair from to (slice_index_or pairs (length pairs - 1) (0, 0, 0))
 
 -- the pairs of positive count of all that is said, in order, with the sums of their counts
 pub record AreMerged (said pairs : List Counted) : Type 0 where
@@ -33,7 +33,7 @@ pub record AreMerged (said pairs : List Counted) : Type 0 where
   pub ordered : AllPairs IsCountedBefore pairs
 
 -- the pairs after a count is added that comes after none of them
-pub record IsAdded (old new : List Counted) (p : Counted) : Type 0 where
+pub record AddsCount (old new : List Counted) (p : Counted) : Type 0 where
   pub counts : (from to : ℕ) → count_among from to new ≡ count_among from to old + (if is_pair from to p then p.2 else 0)
   pub total : total_count new ≡ total_count old + p.2
   pub positive : All (λ q. 0 < q.2) old → All (λ q. 0 < q.2) new

@@ -6,7 +6,7 @@ use Rattle.rv_code.specs.declared.placed.Placed.{Placed}
 use Rattle.rv_code.specs.declared.placed.Func.{Func}
 use Rattle.rv_code.specs.declared.placed.Block.{Block}
 use Rattle.rv_code.specs.layout.Blocks.{func_of}
-use Rattle.edge_profile.specs.Counts.{Counted}
+use Rattle.edge_profile.specs.PairCounts.{Counted}
 
 -- the instructions of a block
 abbrev pub insts_of_block : List Func → Block → List Placed

@@ -4,8 +4,8 @@ ghost use Rattle.edge_profile.specs.Grammar.{fields, branch_line};
 ghost use Rattle.edge_profile.specs.Fields.{line_read, place_read};
 ghost use Rattle.edge_profile.specs.Fields.{fields_in, list_of_eight, named_place_of};
 
-use crate::number::{decimal_number, hex_number};
 use crate::split::split_once;
+use rb_bytes::number::{decimal_number, hex_number};
 
 /// So many bytes after the start of a function with a name.
 #[derive(Clone, Copy)]

@@ -2,16 +2,17 @@
 ghost use Rattle.std.specs.Prelude.{◌≡◌, ◌+◌, List, ℕ, Some, OnOk, IfOk, bytes_eq, if◌then◌else◌};
 ghost use Rattle.elf_image.specs.declared.elf.Symbol.{Symbol};
 ghost use Rattle.rv_code.specs.layout.FunctionLists.{AreLaidOut};
-ghost use Rattle.edge_profile.specs.Names.{symbol_value, value_of_name, function_start, code_address, address_at};
+ghost use Rattle.edge_profile.specs.Grammar.{short_hex_number};
+ghost use Rattle.edge_profile.specs.Names.{named_value, value_of_name, function_start, code_address, address_at};
 ghost use Rattle.edge_profile.specs.Fields.{place_read};
 ghost use Rattle.edge_profile.specs.FunctionNames.{known_of, next_known, AreNamesOf};
 
 use crate::fields::Place;
-use crate::number::short_hex_number;
 use crate::places::{starts_function, starts_instruction};
 use elf_image::Symbol;
 use indexmap::IndexMap;
 use rb_bytes::fault::NoMemory;
+use rb_bytes::number::hex_number;
 use rv_code::Func;
 use std::alloc::Global;
 
@@ -40,8 +41,8 @@ impl<'a> FunctionNames<'a> {
     }
 
     // The value of the symbols of a name.
-    fn symbol_value(&self, name: &[u8]) -> Option<u64>
-        ensures { (symbols : List Symbol) → AreNamesOf symbols self.now → result ≡ symbol_value symbols name.now }
+    fn named_value(&self, name: &[u8]) -> Option<u64>
+        ensures { (symbols : List Symbol) → AreNamesOf symbols self.now → result ≡ named_value symbols name.now }
     {
         match self.values.get(name) {
             Some(value) => *value,
@@ -56,7 +57,7 @@ pub fn value_of_name(names: &FunctionNames, funcs: &[Func], name: &[u8]) -> Opti
     ensures { (symbols : List Symbol) → AreNamesOf symbols names.now → result ≡ value_of_name symbols funcs.now name.now }
 {
     if name.is_empty() || name[0] != b'@' {
-        return names.symbol_value(name);
+        return names.named_value(name);
     }
     function_start(funcs, &name[1..])
 }
@@ -72,6 +73,16 @@ fn function_start(funcs: &[Func], digits: &[u8]) -> Option<u64>
     } else {
         None
     }
+}
+
+// The number that hexadecimal digits write, with no zero before another digit.
+fn short_hex_number(digits: &[u8]) -> Option<u64>
+    ensures { result ≡ short_hex_number digits.now }
+{
+    if digits.len() > 1 && digits[0] == b'0' {
+        return None;
+    }
+    hex_number(digits)
 }
 
 /// The address of a named place, if an instruction starts there.

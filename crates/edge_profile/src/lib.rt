@@ -4,7 +4,6 @@
 pub mod fields;
 pub mod function_names;
 pub mod lines;
-pub mod number;
 pub mod pairs;
 pub mod places;
 pub mod profile;

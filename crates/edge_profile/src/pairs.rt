@@ -1,7 +1,7 @@
 // Counts of pairs, merged.
 ghost use Rattle.std.specs.Prelude.{◌≡◌, ◌+◌, ◌<◌, ◌^◌, All, AllPairs, IfOk, IsPermutation, OnOk, length};
-ghost use Rattle.edge_profile.specs.Counts.{IsCountedBefore, total_count};
-ghost use Rattle.edge_profile.specs.Pairs.{IsNotAfter, AreMerged, IsAdded, is_last};
+ghost use Rattle.edge_profile.specs.PairCounts.{IsCountedBefore, total_count};
+ghost use Rattle.edge_profile.specs.Pairs.{IsNotAfter, AreMerged, AddsCount, is_last_pair};
 
 use rb_bytes::fault::NoMemory;
 use std::alloc::Global;
@@ -48,7 +48,7 @@ fn add(pairs: &mut Vec<(u64, u64, u128)>, from: u64, to: u64, count: u128) -> Re
     requires last { All (λ q. IsNotAfter q (from, to, count)) pairs.old.items }
     requires ordered { AllPairs IsCountedBefore pairs.old.items }
     requires fits { total_count pairs.old.items + count < 2 ^ 128 }
-    ensures { OnOk result (IsAdded pairs.old.items pairs.new.items (from, to, count)) }
+    ensures { OnOk result (AddsCount pairs.old.items pairs.new.items (from, to, count)) }
 {
     if is_last(pairs, from, to) {
         let last = pairs.len() - 1;
@@ -61,7 +61,7 @@ fn add(pairs: &mut Vec<(u64, u64, u128)>, from: u64, to: u64, count: u128) -> Re
 
 // Whether a pair is the last of these.
 fn is_last(pairs: &[(u64, u64, u128)], from: u64, to: u64) -> bool
-    ensures { result ≡ is_last from to pairs.now }
+    ensures { result ≡ is_last_pair from to pairs.now }
 {
     let length = pairs.len();
     if length == 0 {

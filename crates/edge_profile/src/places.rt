@@ -3,25 +3,19 @@ ghost use Rattle.std.specs.Prelude.{◌≡◌, ◌==◌, ◌<◌, ◌≤◌, ◌
 ghost use Rattle.std.specs.Prelude.{slice_index_or};
 ghost use Rattle.std.specs.List.{list_any};
 ghost use Rattle.rv_code.specs.layout.FunctionLists.{AreLaidOut};
+ghost use Rattle.rv_code.specs.layout.FunctionMembers.{IsInstPlace};
 ghost use Rattle.rv_code.specs.layout.ProgramCode.{is_code_address};
 ghost use Rattle.rv_code.specs.declared.placed.Func.{Func};
 ghost use Rattle.rv_code.specs.declared.placed.Placed.{Placed};
-ghost use Rattle.edge_profile.specs.Places.{IsPlaceOf};
 ghost use Rattle.edge_profile.specs.Weights.{starts_at};
 
-use rv_code::{Func, Placed};
-
-/// An instruction's place: its function's place in the list of functions, and its own in that one's instructions.
-#[derive(Clone, Copy, PartialEq, Eq, Debug)]
-pub struct InstPlace {
-    pub func: usize,
-    pub inst: usize,
-}
+use rv_code::functions::starts_up_to;
+use rv_code::{Func, InstPlace, Placed};
 
 /// The place of the instruction that starts at an address.
 pub fn place_of(funcs: &[Func], address: u64) -> Option<InstPlace>
     requires { AreLaidOut funcs.now }
-    ensures some { IfSome result (λ p. IsPlaceOf funcs.now address p.func p.inst) }
+    ensures some { IfSome result (λ p. IsInstPlace funcs.now address p.func p.inst) }
     ensures none { IfNone result (is_code_address funcs.now address ≡ false) }
 {
     place_near(funcs, address, 0)
@@ -30,7 +24,7 @@ pub fn place_of(funcs: &[Func], address: u64) -> Option<InstPlace>
 /// The same, where the function of an index is looked at first.
 pub fn place_near(funcs: &[Func], address: u64, near: usize) -> Option<InstPlace>
     requires { AreLaidOut funcs.now }
-    ensures some { IfSome result (λ p. IsPlaceOf funcs.now address p.func p.inst) }
+    ensures some { IfSome result (λ p. IsInstPlace funcs.now address p.func p.inst) }
     ensures none { IfNone result (is_code_address funcs.now address ≡ false) }
 {
     let below = count_up_to(funcs, address, near);
@@ -77,7 +71,7 @@ fn count_up_to(funcs: &[Func], address: u64, near: usize) -> usize
     if is_last_up_to(funcs, address, near) {
         return near + 1;
     }
-    count_of_all(funcs, address)
+    starts_up_to(funcs, address)
 }
 
 // Whether the function of an index is the last that starts at an address or below it.
@@ -95,16 +89,6 @@ fn is_last_up_to(funcs: &[Func], address: u64, index: usize) -> bool
         return true;
     }
     address < funcs[index + 1].start
-}
-
-// How many do, of all.
-fn count_of_all(funcs: &[Func], address: u64) -> usize
-    requires { AreLaidOut funcs.now }
-    ensures bound { result ≤ length funcs.now }
-    ensures below { (k : ℕ) (d : Func) → k < result → (slice_index_or funcs.now k d).start ≤ address }
-    ensures above { (k : ℕ) (d : Func) → result ≤ k → k < length funcs.now → address < (slice_index_or funcs.now k d).start }
-{
-    funcs.partition_point(|f| f.start <= address)
 }
 
 // The place of the instruction that starts at an address.

@@ -1,6 +1,6 @@
 // A profile that was read: counts of pairs of instructions.
 ghost use Rattle.std.specs.Prelude.{◌≡◌, ◌<◌, ◌^◌, All, if◌then◌else◌};
-ghost use Rattle.edge_profile.specs.Counts.{count_among, is_pair, total_count};
+ghost use Rattle.edge_profile.specs.PairCounts.{count_among, is_pair, total_count};
 ghost use Rattle.edge_profile.specs.Pairs.{IsAscending, IsCountBelow, is_before};
 
 /// How often control went from one instruction to another, for each pair of addresses.
@@ -15,12 +15,12 @@ pub struct Profile {
 
 impl Profile {
     ghost use Rattle.std.specs.Prelude.{◌≡◌, ◌<◌, ◌^◌};
-    ghost use Rattle.edge_profile.specs.Counts.{ArePairs, total_count};
-    ghost use Rattle.edge_profile.specs.Profile.{counts_of, pairs_of, ignored_of};
+    ghost use Rattle.edge_profile.specs.PairCounts.{ArePairs, total_count};
+    ghost use Rattle.edge_profile.specs.Profile.{profile_counts, pairs_of, ignored_of};
 
     /// How often control went from one instruction to another.
     pub fn count(&self, from: u64, to: u64) -> u128
-        ensures { result ≡ counts_of self.now from to }
+        ensures { result ≡ profile_counts self.now from to }
     {
         count_in(&self.pairs, from, to)
     }
@@ -28,7 +28,7 @@ impl Profile {
     /// The pairs of positive count, with their counts, by the first address and then by the second.
     pub fn pairs(&self) -> &[(u64, u64, u128)]
         ensures value { result.now ≡ pairs_of self.now }
-        ensures exact { ArePairs (counts_of self.now) result.now }
+        ensures exact { ArePairs (profile_counts self.now) result.now }
         ensures few { total_count result.now < 2 ^ 100 }
     {
         self.pairs.as_slice()

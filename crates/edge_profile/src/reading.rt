@@ -2,10 +2,11 @@
 ghost use Rattle.std.specs.Prelude.{◌≡◌, ◌+◌, ◌<◌, ◌≤◌, ◌^◌, ℕ, List, IfOk, length, option_map};
 ghost use Rattle.elf_image.specs.declared.elf.Symbol.{Symbol};
 ghost use Rattle.rv_code.specs.layout.FunctionLists.{AreLaidOut};
-ghost use Rattle.edge_profile.specs.Counts.{counted_by, counted_in, count_in, ignored_in};
+ghost use Rattle.edge_profile.specs.Grammar.{most_text_bytes};
+ghost use Rattle.edge_profile.specs.PairCounts.{counted_by, counted_in, count_in, ignored_in};
 ghost use Rattle.edge_profile.specs.FunctionNames.{AreNamesOf};
-ghost use Rattle.edge_profile.specs.Reading.{SaysAll};
-ghost use Rattle.edge_profile.specs.Profile.{counts_of, ignored_of};
+ghost use Rattle.edge_profile.specs.ReadLines.{SaysAll};
+ghost use Rattle.edge_profile.specs.Profile.{profile_counts, ignored_of};
 
 use crate::fields::branch_line;
 use crate::function_names::{FunctionNames, address_at};
@@ -26,10 +27,10 @@ pub struct Said {
 
 /// Reads a profile of a file with these functions.
 pub fn read(alloc: Global, text: &[u8], elf: &Elf, funcs: &[Func]) -> Result<Profile, NoMemory>
-    requires text { length text.now ≤ 67108864 }
+    requires text { length text.now ≤ most_text_bytes }
     requires funcs { AreLaidOut funcs.now }
     ensures counts { IfOk result (λ profile. (from to : ℕ) →
-        counts_of profile from to ≡ count_in text.now elf.now funcs.now from to) }
+        profile_counts profile from to ≡ count_in text.now elf.now funcs.now from to) }
     ensures ignored { IfOk result (λ profile. ignored_of profile ≡ ignored_in text.now elf.now funcs.now) }
 {
     let names = FunctionNames::new(alloc, &elf.symbols)?;
@@ -46,7 +47,7 @@ fn said_in(
     names: &FunctionNames,
     funcs: &[Func],
 ) -> Result<Said, NoMemory>
-    requires text { length text.now ≤ 67108864 }
+    requires text { length text.now ≤ most_text_bytes }
     requires funcs { AreLaidOut funcs.now }
     ensures all { IfOk result (λ said. (symbols : List Symbol) → AreNamesOf symbols names.now →
         SaysAll symbols funcs.now text.now said) }

@@ -3,14 +3,14 @@ ghost use Rattle.std.specs.Prelude.{◌≡◌, ◌+◌, ◌*◌, ◌<◌, ◌≤
 ghost use Rattle.std.specs.Prelude.{IsTrue, length, map, not, slice_index, slice_index_or, sum};
 ghost use Rattle.rv_code.specs.declared.placed.Block.{Block};
 ghost use Rattle.rv_code.specs.layout.FunctionLists.{AreLaidOut};
-ghost use Rattle.edge_profile.specs.BlockPlaces.{AreApart, IsHolder, begins_by, ends_from, has_inst, is_at, raised_at};
+ghost use Rattle.edge_profile.specs.BlockPlaces.{AreBlocksApart, IsHolder, begins_by, ends_from, has_inst, is_place, raised_at};
 ghost use Rattle.edge_profile.specs.Profile.{pairs_of};
 ghost use Rattle.edge_profile.specs.Weights.{block_weight, insts_of_block, touches};
 
-use crate::places::{InstPlace, place_near};
+use crate::places::place_near;
 use crate::profile::Profile;
 use rb_bytes::fault::NoMemory;
-use rv_code::{Block, Func};
+use rv_code::{Block, Func, InstPlace};
 use std::alloc::Global;
 
 // How many blocks on either side of a place are looked at before all are searched.
@@ -24,7 +24,7 @@ pub fn block_weights(
     profile: &Profile,
 ) -> Result<Vec<u128>, NoMemory>
     requires funcs { AreLaidOut funcs.now }
-    requires blocks { AreApart blocks.now }
+    requires blocks { AreBlocksApart blocks.now }
     ensures weights { IfOk result (λ weights. weights.items ≡ map (block_weight (pairs_of profile.now) funcs.now) blocks.now) }
     ensures few { IfOk result (λ weights. sum weights.items < 2 ^ 101) }
 {
@@ -46,7 +46,7 @@ fn add(
     near: usize,
 ) -> usize
     requires funcs { AreLaidOut funcs.now }
-    requires blocks { AreApart blocks.now }
+    requires blocks { AreBlocksApart blocks.now }
     requires lengths { length weights.old ≡ length blocks.now }
     requires fits { (k : ℕ) → slice_index weights.old k + 2 * pair.now.2 < 2 ^ 128 }
     ensures weights { (k : ℕ) (d : Block) → k < length blocks.now → slice_index weights.new k ≡ slice_index weights.old k +
@@ -75,7 +75,7 @@ fn raise(numbers: &mut [u128], place: Option<usize>, by: u128)
 
 // A place, unless it is another one.
 fn unless_same(place: Option<usize>, other: Option<usize>) -> Option<usize>
-    ensures places { (k : ℕ) → is_at k result ≡ (is_at k place && not (is_at k other)) }
+    ensures places { (k : ℕ) → is_place k result ≡ (is_place k place && not (is_place k other)) }
     ensures within { (n : ℕ) → IfSome place (λ k. k < n) → IfSome result (λ k. k < n) }
 {
     match place {
@@ -85,7 +85,7 @@ fn unless_same(place: Option<usize>, other: Option<usize>) -> Option<usize>
 }
 
 fn unless_at(place: usize, other: Option<usize>) -> Option<usize>
-    ensures places { (k : ℕ) → is_at k result ≡ (is_at k (Some place) && not (is_at k other)) }
+    ensures places { (k : ℕ) → is_place k result ≡ (is_place k (Some place) && not (is_place k other)) }
     ensures within { IfSome result (λ k. k ≡ place) }
 {
     match other {
@@ -97,7 +97,7 @@ fn unless_at(place: usize, other: Option<usize>) -> Option<usize>
 // The place of the block that has the instruction at an address, which may be near a block.
 fn block_at(funcs: &[Func], blocks: &[Block], address: u64, near: usize) -> Option<usize>
     requires funcs { AreLaidOut funcs.now }
-    requires blocks { AreApart blocks.now }
+    requires blocks { AreBlocksApart blocks.now }
     ensures holder { IsHolder funcs.now blocks.now address result }
     ensures within { IfSome result (λ k. k < length blocks.now) }
 {
@@ -117,9 +117,9 @@ fn func_near(blocks: &[Block], near: usize) -> usize {
 
 // The place of the block that has an instruction.
 fn block_with(blocks: &[Block], place: &InstPlace, near: usize) -> Option<usize>
-    requires { AreApart blocks.now }
+    requires { AreBlocksApart blocks.now }
     ensures has { (k : ℕ) (d : Block) → k < length blocks.now →
-        has_inst place.now.func place.now.inst (slice_index_or blocks.now k d) ≡ is_at k result }
+        has_inst place.now.func place.now.inst (slice_index_or blocks.now k d) ≡ is_place k result }
     ensures within { IfSome result (λ k. k < length blocks.now) }
 {
     let below = count_up_to(blocks, place, near);
@@ -135,7 +135,7 @@ fn block_with(blocks: &[Block], place: &InstPlace, near: usize) -> Option<usize>
 
 // How many blocks begin with an instruction or before it: looked for beside a block first.
 fn count_up_to(blocks: &[Block], place: &InstPlace, near: usize) -> usize
-    requires { AreApart blocks.now }
+    requires { AreBlocksApart blocks.now }
     ensures bound { result ≤ length blocks.now }
     ensures below { (k : ℕ) (d : Block) → k < result →
         begins_by place.now.func place.now.inst (slice_index_or blocks.now k d) ≡ true }
@@ -150,7 +150,7 @@ fn count_up_to(blocks: &[Block], place: &InstPlace, near: usize) -> usize
 
 // The same, where it is at most a few blocks away.
 fn count_beside(blocks: &[Block], place: &InstPlace, near: usize) -> Option<usize>
-    requires { AreApart blocks.now }
+    requires { AreBlocksApart blocks.now }
     ensures bound { IfSome result (λ n. n ≤ length blocks.now) }
     ensures below { IfSome result (λ n. (k : ℕ) (d : Block) → k < n →
         begins_by place.now.func place.now.inst (slice_index_or blocks.now k d) ≡ true) }
@@ -172,7 +172,7 @@ fn count_beside(blocks: &[Block], place: &InstPlace, near: usize) -> Option<usiz
 
 // Whether there are so many blocks, and all of the first ones begin with an instruction or before it.
 fn all_begin(blocks: &[Block], place: &InstPlace, count: usize) -> bool
-    requires { AreApart blocks.now }
+    requires { AreBlocksApart blocks.now }
     ensures { IsTrue result → (k : ℕ) (d : Block) → k < count →
         begins_by place.now.func place.now.inst (slice_index_or blocks.now k d) ≡ true }
 {
@@ -187,7 +187,7 @@ fn all_begin(blocks: &[Block], place: &InstPlace, count: usize) -> bool
 
 // How many do, of all.
 fn count_of_all(blocks: &[Block], place: &InstPlace) -> usize
-    requires { AreApart blocks.now }
+    requires { AreBlocksApart blocks.now }
     ensures bound { result ≤ length blocks.now }
     ensures below { (k : ℕ) (d : Block) → k < result →
         begins_by place.now.func place.now.inst (slice_index_or blocks.now k d) ≡ true }

@@ -7,7 +7,7 @@ use denote.Ref.{Bor}
 use Rattle.std.proofs.lemmas.Bool.{eqb-true, eq-eqb, and_parts}
 use Rattle.std.proofs.lemmas.List.Sums.{sum_by-cons}
 use Rattle.indexmap.specs.IndexMap.{insert_entry}
-use Rattle.edge_profile.specs.Counts.{Counted, count_among, is_pair}
+use Rattle.edge_profile.specs.PairCounts.{Counted, count_among, is_pair}
 
 abbrev pub flat : List ((ℕ × ℕ) × ℕ) → List Counted
 flat entries = map (λ e. (e.0.0, e.0.1, e.1)) entries

@@ -5,7 +5,8 @@ use Rattle.std.specs.Prelude.{◌==◌}
 use Rattle.std.specs.List.{list_all}
 use Rattle.std.proofs.lemmas.Bool.{eqb-true, and_parts}
 use Rattle.std.proofs.lemmas.List.Splits.{slice_split_none, slice_split_at}
-use Rattle.edge_profile.specs.Grammar.{fields, is_lower_hex_digit, lines}
+use Rattle.rb_bytes.specs.Text.{is_lower_hex_digit}
+use Rattle.edge_profile.specs.Grammar.{fields, lines}
 use Rattle.edge_profile.proofs.LineLists.{lines_at}
 
 -- a text lacks a byte

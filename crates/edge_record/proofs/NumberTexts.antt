@@ -11,10 +11,10 @@ use Rattle.std.proofs.Math.Nat.{pow-zero}
 use Rattle.std.proofs.lemmas.Bool.{eqb-true, ne_eqb, lt-ltb, le-ltb, le-leb, cases_lt, cases_eq}
 use Rattle.std.proofs.lemmas.Fmt.{digits_is_IsNumeral, decimal_is_IsNumeral, length-decimal-le}
 use Rattle.std.proofs.lemmas.Str.Parse.{digit_from_value}
-use Rattle.rb_bytes.specs.Text.{hexadecimal}
+use Rattle.rb_bytes.specs.Text.{hexadecimal, is_lower_hex_digit, number_of_digits, hex_number, decimal_number}
 use Rattle.rb_bytes.proofs.HexDigits.{quotient-lt}
-use Rattle.edge_profile.specs.Grammar.{is_lower_hex_digit, number_of_digits, hex_number, short_hex_number, decimal_number}
-use Rattle.edge_profile.proofs.DigitValues.{hex_from_decimal}
+use Rattle.edge_profile.specs.Grammar.{short_hex_number}
+use Rattle.rb_bytes.proofs.DigitValues.{hex_from_decimal}
 
 in_range : (low high c : ℕ) → low ≤ c → c ≤ high → is_in_range low high c ≡ true
 in_range low high c from to = rw (le-leb low c from, le-leb c high to) refl

@@ -7,10 +7,10 @@ use Rattle.std.proofs.lemmas.List.Sums.{sum_by-cons}
 use Rattle.rv_code.specs.declared.placed.Func.{Func}
 use Rattle.rv_code.specs.layout.FunctionLists.{AreLaidOut}
 use Rattle.rv_code.specs.layout.ProgramCode.{is_code_address}
-use Rattle.rb_bytes.specs.Text.{hexadecimal}
+use Rattle.rb_bytes.specs.Text.{hexadecimal, hex_number, decimal_number}
 use Rattle.elf_image.specs.declared.elf.Symbol.{Symbol}
-use Rattle.edge_profile.specs.Counts.{Counted, both_ends, counted_by}
-use Rattle.edge_profile.specs.Grammar.{all_three, branch_line, decimal_number, hex_number, lines, named_place}
+use Rattle.edge_profile.specs.PairCounts.{Counted, both_ends, counted_by}
+use Rattle.edge_profile.specs.Grammar.{all_three, branch_line, lines, named_place}
 use Rattle.edge_profile.specs.Names.{address_at, function_start}
 use Rattle.edge_record.specs.EdgeText.{edge_line, start_at}
 use Rattle.edge_record.proofs.LineTexts.{first_line, line_fields, line_with, line_written}

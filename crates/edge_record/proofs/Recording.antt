@@ -26,16 +26,16 @@ use Rattle.rv_code.specs.machine.Step.{ByteState}
 use Rattle.rv_machine.specs.State.{state_of}
 use Rattle.rv_machine.specs.declared.machine.Machine.{Machine}
 use Rattle.elf_image.specs.declared.elf.Elf.{Elf}
-use Rattle.edge_profile.specs.Counts.{Counted, ArePairs, count_among, counted_in, ignored_in}
+use Rattle.edge_profile.specs.PairCounts.{Counted, ArePairs, count_among, counted_in, ignored_in}
 use Rattle.edge_profile.specs.Weights.{starts_at}
 use Rattle.edge_profile.proofs.AscendingPairs.{are_pairs, ascending_pairs, positive_term}
 use Rattle.edge_profile.proofs.LaidOut.{code_address-list_any}
 use Rattle.edge_record.specs.EdgeText.{IsEdgeText}
 use Rattle.edge_record.specs.Moves.{Move}
-use Rattle.edge_record.specs.Recording.{ByteMoves, IsRecorded, Records, StopsAnywhere, steps_gone}
-use Rattle.edge_record.specs.Taken.{ends_at, is_counted, is_source, saves_at, taken, taken_by}
-use Rattle.edge_record.specs.Texts.{ComesOut, IsFinished, IsTextOf, ran_out, told as text_told, untold}
-use Rattle.edge_record.specs.Watching.{IsWatched, WatchesRun}
+use Rattle.edge_record.specs.RecordedRuns.{ByteMoves, IsRecorded, Records, RecordStops, steps_gone}
+use Rattle.edge_record.specs.MoveCounts.{ends_at, is_counted, is_source, saves_at, taken, taken_by}
+use Rattle.edge_record.specs.Texts.{HasText, IsFinished, IsTextOf, ran_out, told as text_told, untold}
+use Rattle.edge_record.specs.WatchedRuns.{IsWatched, WatchesRun}
 use Rattle.edge_record.proofs.ReadBack.{ArePairsOfCode, IsPairOfCode, none_ignored, read_back}
 use Rattle.edge_record.proofs.Watching.{once, taken-le}
 
@@ -43,7 +43,7 @@ use Rattle.edge_record.proofs.Watching.{once, taken-le}
 
 -- nothing was done
 pub nothing_done : (start : List ℕ → ByteState) (limit : ℕ) (outside : Outside) →
-    ((input : List ℕ) → (start input).input ≡ input) → StopsAnywhere start limit outside outside
+    ((input : List ℕ) → (start input).input ≡ input) → RecordStops start limit outside outside
 nothing_done start limit outside reads = record {
   input = told outside.input.left;
   input_is = told_is outside.input.left;
@@ -181,8 +181,8 @@ module _ (start : List ℕ → ByteState) (limit : ℕ) (fits : limit < 2 ^ 64) 
     (laid : AreLaidOut funcs)
     (blocks : List Block) (m now : Machine) (from : (input : List ℕ) → state_of m input ≡ start input) (counts : Move → Bool)
     (same : (x : Move) → counts x ≡ is_counted funcs blocks x) (said : List Counted) where
-  stops_from : StopsAnywhere (state_of m) limit before after → StopsAnywhere start limit before after
-  stops_from stops = subst (λ (s : List ℕ → ByteState). StopsAnywhere s limit before after) (λ i input. from input i) stops
+  stops_from : RecordStops (state_of m) limit before after → RecordStops start limit before after
+  stops_from stops = subst (λ (s : List ℕ → ByteState). RecordStops s limit before after) (λ i input. from input i) stops
 
   recorded : (came : Answer Cause) (n : ℕ) (text : List ℕ) → IsWatched counts m now limit n before after said came
       → IsTextOf funcs said text → IsRecorded start limit before after elf funcs blocks n text came
@@ -195,7 +195,7 @@ module _ (start : List ℕ → ByteState) (limit : ℕ) (fits : limit < 2 ^ 64) 
         (λ x y. w.counts_are x y ∙ ap (λ (c : Move → Bool). taken_by c w.moves x y) (λ i move. same move i)) is;
   }
 
-  by_text : (came : Answer Cause) (n : ℕ) (text : List ℕ) → WatchesRun counts m now limit n before after said came → ComesOut came
+  by_text : (came : Answer Cause) (n : ℕ) (text : List ℕ) → WatchesRun counts m now limit n before after said came → HasText came
       → IsTextOf funcs said text → Records start limit before after elf funcs blocks n text came
   by_text answer.Going n text w comes is = recorded answer.Going n text w is
   by_text (answer.Ended status) n text w comes is = recorded (answer.Ended status) n text w is
@@ -205,7 +205,7 @@ module _ (start : List ℕ → ByteState) (limit : ℕ) (fits : limit < 2 ^ 64) 
   by_text answer.Memory n text w comes is = absurd comes
 
   by_fault : (came : Answer Cause) (n : ℕ) (text : List ℕ) → WatchesRun counts m now limit n before after said came
-      → (ComesOut came → ⊥) → text ≡ [] → Records start limit before after elf funcs blocks n text came
+      → (HasText came → ⊥) → text ≡ [] → Records start limit before after elf funcs blocks n text came
   by_fault answer.Going n text w comes empty = absurd (comes tt)
   by_fault (answer.Ended status) n text w comes empty = absurd (comes tt)
   by_fault (answer.Halted pc cause) n text w comes empty = absurd (comes tt)
@@ -213,8 +213,8 @@ module _ (start : List ℕ → ByteState) (limit : ℕ) (fits : limit < 2 ^ 64) 
   by_fault answer.WriteFault n text w comes empty = (record { machine = m; ends_as = now; starts = from; runs = w }, empty)
   by_fault answer.Memory n text w comes empty = (stops_from w, empty)
 
-  stops : (came : Answer Cause) (n : ℕ) → WatchesRun counts m now limit n before after said came → ComesOut came →
-      StopsAnywhere (state_of m) limit before after
+  stops : (came : Answer Cause) (n : ℕ) → WatchesRun counts m now limit n before after said came → HasText came →
+      RecordStops (state_of m) limit before after
   stops answer.Going n w comes =
       let ran = w.runs.answers.1 in
       record {

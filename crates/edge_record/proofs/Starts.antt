@@ -11,7 +11,7 @@ use Rattle.rv_code.specs.declared.placed.Func.{Func}
 use Rattle.rv_code.specs.declared.placed.Placed.{Placed}
 use Rattle.rv_code.specs.layout.FunctionLists.{AreLaidOut, IsLaidOut, address_end}
 use Rattle.rv_code.specs.layout.ProgramCode.{is_code_address}
-use Rattle.edge_profile.specs.Places.{IsPlaceOf}
+use Rattle.rv_code.specs.layout.FunctionMembers.{IsInstPlace}
 use Rattle.edge_profile.specs.Weights.{starts_at}
 use Rattle.rv_code.proofs.lists.Follows.{inst_bounds}
 use Rattle.edge_profile.proofs.LaidOut.{any_element, code_address-list_any, funcs_rise, no_code_from, starts_above, starts_below}
@@ -103,7 +103,7 @@ module _ (funcs : List Func) (laid : AreLaidOut funcs) where
       ∙ ap (λ (g : Func). g.start) (get_or_default funcs k f.item d within)
 
   -- by the place of the instruction
-  pub start_at_place : (a f i : ℕ) → IsPlaceOf funcs a f i → (d : Func) → start_at funcs a ≡ (get_or funcs f d).start
+  pub start_at_place : (a f i : ℕ) → IsInstPlace funcs a f i → (d : Func) → start_at funcs a ≡ (get_or funcs f d).start
   start_at_place a f i is d =
       let insts = (get_or funcs f d).insts.items in
       let p = any_element insts i (is.inst_within d) in

@@ -17,11 +17,11 @@ use Rattle.rv_code.specs.machine.Machine.{Ended, Halts}
 use Rattle.rv_code.specs.machine.Step.{Steps}
 use Rattle.rv_machine.specs.State.{state_of}
 use Rattle.rv_machine.specs.declared.machine.Machine.{Machine}
-use Rattle.edge_profile.specs.Counts.{Counted, count_among, is_pair}
+use Rattle.edge_profile.specs.PairCounts.{Counted, count_among, is_pair}
 use Rattle.edge_record.specs.Moves.{Move, starts, more}
-use Rattle.edge_record.specs.Recording.{ByteMoves, StopsAnywhere}
-use Rattle.edge_record.specs.Taken.{taken_by}
-use Rattle.edge_record.specs.Watching.{IsWatched, WatchesRun}
+use Rattle.edge_record.specs.RecordedRuns.{ByteMoves, RecordStops}
+use Rattle.edge_record.specs.MoveCounts.{taken_by}
+use Rattle.edge_record.specs.WatchedRuns.{IsWatched, WatchesRun}
 
 -- How often a move was made.
 
@@ -69,7 +69,7 @@ module _ (counts : Move → Bool) (old : Machine) (before : Outside) where
   pub stops : (limit : ℕ) (now : Machine) (ended : Bool) (n : ℕ) (after final : Outside)
       → Walk state_of Steps old before now ended n after
       → n ≤ limit → final.input.left ≡ after.input.left → final.output.taken ≡ after.output.taken
-      → StopsAnywhere (state_of old) limit before final
+      → RecordStops (state_of old) limit before final
   stops limit now ended n after final walk within left taken =
       let rest = told after.input.left in
       let c = walk.came rest (told_may_come ended after.input.left walk.end_is) in

@@ -4,8 +4,8 @@ use Rattle.edge_record.specs.Moves.{Move}
 use Rattle.edge_record.specs.declared.address_set.AddressSet.{AddressSet}
 use Rattle.edge_record.specs.declared.watched.Watched.{Watched}
 
-abbrev pub has : AddressSet → ℕ → Bool
-has set a = nat_le set.low a && slice_index_or set.marks.items (a - set.low) false
+abbrev pub in_set : AddressSet → ℕ → Bool
+in_set set a = nat_le set.low a && slice_index_or set.marks.items (a - set.low) false
 
 -- a set can be given an address
 pub record HasRoomFor (set : AddressSet) (a : ℕ) : Type 0 where
@@ -18,4 +18,4 @@ pub record HaveSameRoom (old new : AddressSet) : Type 0 where
   pub size : length new.marks.items ≡ length old.marks.items
 
 abbrev pub watches : Watched → Move → Bool
-watches watched m = has watched.sources m.0 && has watched.code m.1
+watches watched m = in_set watched.sources m.0 && in_set watched.code m.1

@@ -1,6 +1,6 @@
 -- What counts of moves say.
 use Rattle.std.specs.Prelude.{List, map}
-use Rattle.edge_profile.specs.Counts.{Counted}
+use Rattle.edge_profile.specs.PairCounts.{Counted}
 use Rattle.edge_record.specs.declared.edge_counts.EdgeCounts.{EdgeCounts}
 
 abbrev pub said_of : EdgeCounts → List Counted

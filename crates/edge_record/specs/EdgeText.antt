@@ -4,7 +4,7 @@ use Rattle.std.specs.Option.{option_map_or}
 use Rattle.rv_code.specs.declared.placed.Func.{Func}
 use Rattle.rb_bytes.specs.Text.{hexadecimal}
 use Rattle.elf_image.specs.declared.elf.Elf.{Elf}
-use Rattle.edge_profile.specs.Counts.{Counted, ArePairs, count_in, ignored_in}
+use Rattle.edge_profile.specs.PairCounts.{Counted, ArePairs, count_in, ignored_in}
 use Rattle.edge_profile.specs.Weights.{starts_at}
 
 -- where the function starts that has an instruction at an address

@@ -2,7 +2,7 @@ pub mod AddressSets
 pub mod EdgeCounts
 pub mod EdgeText
 pub mod Moves
-pub mod Recording
-pub mod Taken
+pub mod RecordedRuns
+pub mod MoveCounts
 pub mod Texts
-pub mod Watching
+pub mod WatchedRuns

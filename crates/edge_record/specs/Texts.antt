@@ -4,7 +4,7 @@ use Rattle.rv_code.specs.declared.cause.Cause.{Cause}
 use Rattle.rv_code.specs.declared.placed.Func.{Func}
 use Rattle.run_core.specs.Answers.{Answer}
 use Rattle.run_core.specs.Answers as answer
-use Rattle.edge_profile.specs.Counts.{Counted}
+use Rattle.edge_profile.specs.PairCounts.{Counted}
 use Rattle.edge_profile.specs.Pairs.{AreMerged}
 use Rattle.edge_record.specs.EdgeText.{edge_line}
 
@@ -13,15 +13,15 @@ abbrev pub IsTextOf : List Func → List Counted → List ℕ → Type 0
 IsTextOf funcs said text = (pairs : List Counted) × AreMerged said pairs × (text ≡ flat_map (edge_line funcs) pairs)
 
 -- the run came out, so that what is said of it has a text
-abbrev pub ComesOut : Answer Cause → Type 0
-ComesOut answer.Going = Unit {0}
-ComesOut (answer.Ended status) = Unit {0}
-ComesOut (answer.Halted pc cause) = Unit {0}
-ComesOut _ = ⊥
+abbrev pub HasText : Answer Cause → Type 0
+HasText answer.Going = Unit {0}
+HasText (answer.Ended status) = Unit {0}
+HasText (answer.Halted pc cause) = Unit {0}
+HasText _ = ⊥
 
 -- The run answered `came` after n steps, and what is given out is `given` after m.
 pub data IsFinished (funcs : List Func) (said : List Counted) (came : Answer Cause) (n : ℕ) (given : Answer Cause) (m : ℕ)
     (text : List ℕ) : Type 0 where
-  told : ComesOut came → came ≡ given → n ≡ m → IsTextOf funcs said text → IsFinished funcs said came n given m text
-  untold : (ComesOut came → ⊥) → came ≡ given → n ≡ m → text ≡ [] → IsFinished funcs said came n given m text
-  ran_out : ComesOut came → given ≡ answer.Memory → text ≡ [] → IsFinished funcs said came n given m text
+  told : HasText came → came ≡ given → n ≡ m → IsTextOf funcs said text → IsFinished funcs said came n given m text
+  untold : (HasText came → ⊥) → came ≡ given → n ≡ m → text ≡ [] → IsFinished funcs said came n given m text
+  ran_out : HasText came → given ≡ answer.Memory → text ≡ [] → IsFinished funcs said came n given m text

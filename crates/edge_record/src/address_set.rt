@@ -13,11 +13,11 @@ pub struct AddressSet {
 
 impl AddressSet {
     ghost use Rattle.std.specs.Prelude.{◌≡◌, ◌==◌, ◌||◌, ℕ, false, length, IfOk};
-    ghost use Rattle.edge_record.specs.AddressSets.{has, HasRoomFor, HaveSameRoom};
+    ghost use Rattle.edge_record.specs.AddressSets.{in_set, HasRoomFor, HaveSameRoom};
 
     /// None of the `size` addresses from `low` on.
     pub fn new(alloc: Global, low: u64, size: usize) -> Result<AddressSet, NoMemory>
-        ensures none { IfOk result (λ set. (a : ℕ) → has set a ≡ false) }
+        ensures none { IfOk result (λ set. (a : ℕ) → in_set set a ≡ false) }
         ensures low { IfOk result (λ set. set.low ≡ low) }
         ensures size { IfOk result (λ set. length set.marks.items ≡ size) }
     {
@@ -28,7 +28,7 @@ impl AddressSet {
     /// Adds an address.
     pub fn insert(&mut self, address: u64)
         requires { HasRoomFor self.old address }
-        ensures added { (a : ℕ) → has self.new a ≡ (address == a || has self.old a) }
+        ensures added { (a : ℕ) → in_set self.new a ≡ (address == a || in_set self.old a) }
         ensures room { HaveSameRoom self.old self.new }
     {
         let place = (address - self.low) as usize;
@@ -37,7 +37,7 @@ impl AddressSet {
 
     /// Whether an address is one of these.
     pub fn has(&self, address: u64) -> bool
-        ensures { result ≡ has self.now address }
+        ensures { result ≡ in_set self.now address }
     {
         if address < self.low {
             return false;

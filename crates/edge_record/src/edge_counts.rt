@@ -13,7 +13,7 @@ pub struct EdgeCounts {
 
 impl EdgeCounts {
     ghost use Rattle.std.specs.Prelude.{◌≡◌, ◌+◌, ◌<◌, ◌^◌, ◌-◌, ℕ, [], OnOk, IfOk, if◌then◌else◌};
-    ghost use Rattle.edge_profile.specs.Counts.{count_among, is_pair};
+    ghost use Rattle.edge_profile.specs.PairCounts.{count_among, is_pair};
     ghost use Rattle.edge_record.specs.EdgeCounts.{said_of};
 
     /// No move was made.

@@ -5,10 +5,11 @@ ghost use Rattle.elf_image.specs.file.ParsedFile.{IsElfOf};
 ghost use Rattle.elf_image.specs.memory.Start.{start};
 ghost use Rattle.rv_code.specs.layout.FunctionLists.{AreLaidOut};
 ghost use Rattle.rv_memory.specs.Limits.{IsWithinLimits};
-ghost use Rattle.rv_machine.specs.Stepped.{answered};
+ghost use Rattle.rv_machine.specs.StepResults.{answered};
 ghost use Rattle.edge_record.specs.EdgeCounts.{said_of};
-ghost use Rattle.edge_record.specs.Recording.{Records};
+ghost use Rattle.edge_record.specs.RecordedRuns.{Records};
 ghost use Rattle.edge_record.specs.Texts.{IsFinished};
+ghost use Rattle.run_core.specs.Inputs.{outside_of};
 
 use crate::edge_counts::EdgeCounts;
 use crate::text::edge_text;
@@ -63,8 +64,8 @@ pub fn trace_edges<I: Source, O: Sink>(
     requires limits { IsWithinLimits (map string_bytes words.now) }
     requires funcs { AreLaidOut funcs.now }
     ensures answer { Records (start elf.now.file.now (map string_bytes words.now)) limit
-        (record { input = I.seen input.old; output = O.seen out.old })
-        (record { input = I.seen input.new; output = O.seen out.new })
+        (outside_of (I.seen input.old) (O.seen out.old))
+        (outside_of (I.seen input.new) (O.seen out.new))
         elf.now funcs.now blocks.now result.ran.steps result.text.items (answered result.ran.end) }
     ensures reads { (I.seen input.old).faults ≤ (I.seen input.new).faults }
     ensures writes { (O.seen out.old).faults ≤ (O.seen out.new).faults }

@@ -1,7 +1,7 @@
 // The text of a profile.
 ghost use Rattle.std.specs.Prelude.{◌≡◌, ◌++◌, ℕ, List, IfOk, OnOk, decimal, flat_map};
 ghost use Rattle.rv_code.specs.layout.FunctionLists.{AreLaidOut};
-ghost use Rattle.edge_profile.specs.Counts.{Counted};
+ghost use Rattle.edge_profile.specs.PairCounts.{Counted};
 ghost use Rattle.edge_profile.specs.Pairs.{AreMerged};
 ghost use Rattle.edge_record.specs.EdgeCounts.{said_of};
 ghost use Rattle.edge_record.specs.EdgeText.{edge_line, place_text, start_at};

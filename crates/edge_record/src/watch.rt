@@ -1,10 +1,11 @@
 // A run whose moves are counted.
 ghost use Rattle.std.specs.Prelude.{◌≡◌, ◌+◌, ◌-◌, ◌^◌, ◌<◌, ◌≤◌, ◌&&◌, ℕ, [], OnOk, if◌then◌else◌};
-ghost use Rattle.edge_profile.specs.Counts.{count_among, is_pair};
+ghost use Rattle.edge_profile.specs.PairCounts.{count_among, is_pair};
 ghost use Rattle.edge_record.specs.AddressSets.{watches};
 ghost use Rattle.edge_record.specs.EdgeCounts.{said_of};
-ghost use Rattle.edge_record.specs.Watching.{WatchesRun};
-ghost use Rattle.rv_machine.specs.Stepped.{answered};
+ghost use Rattle.edge_record.specs.WatchedRuns.{WatchesRun};
+ghost use Rattle.rv_machine.specs.StepResults.{answered};
+ghost use Rattle.run_core.specs.Inputs.{outside_of};
 
 use crate::edge_counts::EdgeCounts;
 use crate::watched::Watched;
@@ -27,8 +28,8 @@ pub fn watch_run<I: Source, O: Sink>(
 ) -> Ran
     requires { said_of counts.old ≡ [] }
     ensures answer { WatchesRun (watches watched.now) machine.old machine.new limit result.steps
-        (record { input = I.seen input.old; output = O.seen out.old })
-        (record { input = I.seen input.new; output = O.seen out.new }) (said_of counts.new) (answered result.end) }
+        (outside_of (I.seen input.old) (O.seen out.old))
+        (outside_of (I.seen input.new) (O.seen out.new)) (said_of counts.new) (answered result.end) }
     ensures reads { (I.seen input.old).faults ≤ (I.seen input.new).faults }
     ensures writes { (O.seen out.old).faults ≤ (O.seen out.new).faults }
 {

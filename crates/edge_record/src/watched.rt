@@ -3,9 +3,9 @@ ghost use Rattle.std.specs.Prelude.{◌≡◌, ◌+◌, ◌<◌, ◌≤◌, ◌|
 ghost use Rattle.std.specs.List.{list_any};
 ghost use Rattle.rv_code.specs.layout.FunctionLists.{AreLaidOut};
 ghost use Rattle.edge_profile.specs.Weights.{starts_at};
-ghost use Rattle.edge_record.specs.AddressSets.{has, HasRoomFor, HaveSameRoom, watches};
+ghost use Rattle.edge_record.specs.AddressSets.{in_set, HasRoomFor, HaveSameRoom, watches};
 ghost use Rattle.edge_record.specs.Moves.{Move};
-ghost use Rattle.edge_record.specs.Taken.{ends_at, is_counted, last_of, saves_at};
+ghost use Rattle.edge_record.specs.MoveCounts.{ends_at, is_counted, last_of, saves_at};
 
 use crate::address_set::AddressSet;
 use rb_bytes::fault::NoMemory;
@@ -25,7 +25,7 @@ impl Watched {
     ghost use Rattle.rv_code.specs.layout.FunctionLists.{AreLaidOut};
     ghost use Rattle.edge_record.specs.AddressSets.{watches};
     ghost use Rattle.edge_record.specs.Moves.{Move};
-    ghost use Rattle.edge_record.specs.Taken.{is_counted};
+    ghost use Rattle.edge_record.specs.MoveCounts.{is_counted};
 
     /// Those of functions with these blocks.
     pub fn new(alloc: Global, funcs: &[Func], blocks: &[Block]) -> Result<Watched, NoMemory>
@@ -65,8 +65,9 @@ fn code_range(funcs: &[Func]) -> (u64, usize)
 fn insert_insts(code: &mut AddressSet, sources: &mut AddressSet, funcs: &[Func])
     requires code_room { All (λ f. All (λ p. HasRoomFor code.old p.addr) f.insts.items) funcs.now }
     requires source_room { All (λ f. All (λ p. HasRoomFor sources.old p.addr) f.insts.items) funcs.now }
-    ensures code { (a : ℕ) → has code.new a ≡ (list_any (λ f. starts_at f.insts.items a) funcs.now || has code.old a) }
-    ensures sources { (a : ℕ) → has sources.new a ≡ (list_any (λ f. saves_at f.insts.items a) funcs.now || has sources.old a) }
+    ensures code { (a : ℕ) → in_set code.new a ≡ (list_any (λ f. starts_at f.insts.items a) funcs.now || in_set code.old a) }
+    ensures sources { (a : ℕ) →
+        in_set sources.new a ≡ (list_any (λ f. saves_at f.insts.items a) funcs.now || in_set sources.old a) }
     ensures code_room { HaveSameRoom code.old code.new }
     ensures source_room { HaveSameRoom sources.old sources.new }
 {
@@ -78,8 +79,8 @@ fn insert_insts(code: &mut AddressSet, sources: &mut AddressSet, funcs: &[Func])
 fn insert_insts_of(code: &mut AddressSet, sources: &mut AddressSet, insts: &[Placed])
     requires code_room { All (λ p. HasRoomFor code.old p.addr) insts.now }
     requires source_room { All (λ p. HasRoomFor sources.old p.addr) insts.now }
-    ensures code { (a : ℕ) → has code.new a ≡ (starts_at insts.now a || has code.old a) }
-    ensures sources { (a : ℕ) → has sources.new a ≡ (saves_at insts.now a || has sources.old a) }
+    ensures code { (a : ℕ) → in_set code.new a ≡ (starts_at insts.now a || in_set code.old a) }
+    ensures sources { (a : ℕ) → in_set sources.new a ≡ (saves_at insts.now a || in_set sources.old a) }
     ensures code_room { HaveSameRoom code.old code.new }
     ensures source_room { HaveSameRoom sources.old sources.new }
 {
@@ -94,7 +95,7 @@ fn insert_insts_of(code: &mut AddressSet, sources: &mut AddressSet, insts: &[Pla
 // Adds the addresses of the last instructions of blocks.
 fn insert_ends(set: &mut AddressSet, funcs: &[Func], blocks: &[Block])
     requires { All (λ f. All (λ p. HasRoomFor set.old p.addr) f.insts.items) funcs.now }
-    ensures { (a : ℕ) → has set.new a ≡ (list_any (λ b. ends_at funcs.now a b) blocks.now || has set.old a) }
+    ensures { (a : ℕ) → in_set set.new a ≡ (list_any (λ b. ends_at funcs.now a b) blocks.now || in_set set.old a) }
 {
     for block in blocks {
         match last_of(funcs, block) {

@@ -2,13 +2,14 @@
 use Rattle.std.proofs.Common.{take, Option, Some, None, inl, inr, subst, ℕ, ◌≡◌, ◌≢◌, ◌⊎◌, ◌<◌, ◌≤◌, ◌+◌, ◌&&◌, not, Bool, true}
 use Rattle.std.proofs.Common.{false, List, [], ◌∷◌, ◌++◌, length, get_or, set, sym, ◌∙◌, ap, refl, arith, ⊎_elim, length-set}
 use Rattle.std.proofs.Common.{get_or-set_same, get_or-set_other}
-use Rattle.std.specs.Prelude.{sum, ◌^◌, All, ◌==◌, slice_index, if◌then◌else◌, nat_le}
+use Rattle.std.specs.Prelude.{sum, ◌^◌, ◌==◌, slice_index, if◌then◌else◌, nat_le}
 use Rattle.std.proofs.lemmas.Bool.{cases_eq, cases_Bool}
 use Rattle.std.proofs.lemmas.List.Sums.{sum_by-append, sum_by-cons, sum_by-set, fold_more}
 use Rattle.std.proofs.lemmas.Grind.{common_steps}
-use Rattle.func_place.specs.Clusters.{has, total, alone, joined_clusters, appended, take_unit, clusters_of, limit}
-use Rattle.func_place.specs.internal.Grouping.{Grouping, list_at, group_of, IsGrouped}
-use Rattle.func_place.specs.internal.ClusterState.{State, count_of, size_at, heat_at, IsSound, Merges, Keeps}
+use Rattle.rv_code.specs.layout.WorstSizes.{near_limit}
+use Rattle.func_place.specs.Clusters.{total, alone, joined_clusters, appended, take_unit, clusters_of, has_unit, AreWithinLimit}
+use Rattle.func_place.specs.internal.Groups.{Grouping, list_at, group_of, IsGrouped}
+use Rattle.func_place.specs.internal.ClusterState.{count_of, size_at, heat_at, Merges, Keeps, IsValidState, ClusterState}
 use Rattle.func_place.proofs.GroupMoves.{IsJoined, count_new, joined_from, grouped_joined, number_among, number_elsewhere}
 use Rattle.func_place.proofs.GroupMoves.{group_among, group_elsewhere}
 
@@ -73,14 +74,14 @@ sum-merged hs first second kept first_in second_in apart ends =
 
 -- A unit's cluster is appended to its caller's.
 
-pub record CanJoin (state : State) (v u : ℕ) : Type 0 where
+pub record CanJoin (state : ClusterState) (v u : ℕ) : Type 0 where
   pub v_in : v < count_of state
   pub u_in : u < count_of state
   pub apart : slice_index state.grouping.numbers v ≢ slice_index state.grouping.numbers u
-  pub low : size_at state v + size_at state u ≤ limit
+  pub low : size_at state v + size_at state u ≤ near_limit
 
 -- two clusters became one
-record IsMerged (old new : State) (first second kept : ℕ) : Type 0 where
+record IsMerged (old new : ClusterState) (first second kept : ℕ) : Type 0 where
   first_in : first < count_of old
   second_in : second < count_of old
   apart : first ≢ second
@@ -94,7 +95,7 @@ kept_end : {old new : Grouping} {first second kept : ℕ} → IsJoined old new f
 kept_end {old} {new} {first} {second} {kept} j =
     ⊎_elim (λ (e : (j.left ≡ first) × (kept ≡ second)). inr e.1) (λ (e : (j.left ≡ second) × (kept ≡ first)). inl e.1) j.ends
 
-merged_from : {old new : State} {v u kept : ℕ} → IsSound old → CanJoin old v u →
+merged_from : {old new : ClusterState} {v u kept : ℕ} → IsValidState old → CanJoin old v u →
     Merges old new (slice_index old.grouping.numbers v) (slice_index old.grouping.numbers u) kept →
     IsMerged old new (slice_index old.grouping.numbers v) (slice_index old.grouping.numbers u) kept
 merged_from {old} {new} {v} {u} {kept} s c m =
@@ -112,8 +113,8 @@ merged_from {old} {new} {v} {u} {kept} s c m =
       heats = m.heats;
     }
 
-sound_merged : {old new : State} {first second kept : ℕ} → IsSound old → IsMerged old new first second kept →
-    slice_index old.totals first + slice_index old.totals second ≤ limit → IsSound new
+sound_merged : {old new : ClusterState} {first second kept : ℕ} → IsValidState old → IsMerged old new first second kept →
+    slice_index old.totals first + slice_index old.totals second ≤ near_limit → IsValidState new
 sound_merged {old} {new} {first} {second} {kept} s m low =
     let kept_in : kept < count_of old = end_in first second kept (count_of old) m.first_in m.second_in m.ends in
     let totals_in : kept < length old.totals = rw s.totals_len kept_in in
@@ -152,11 +153,11 @@ sound_merged {old} {new} {first} {second} {kept} s m low =
         (λ (some : h ≢ 0). let first = one (omega arith) in omega arith)
         (cases_eq h 0)
 
-keeps_merged : {sizes heats : List ℕ} {cluster : ℕ → List ℕ} {old new : State} {first second kept : ℕ} → IsSound old
+keeps_merged : {sizes heats : List ℕ} {cluster : ℕ → List ℕ} {old new : ClusterState} {first second kept : ℕ} → IsValidState old
     → IsMerged old new first second kept → let both = list_at old.grouping.lists first ++ list_at old.grouping.lists second in
     total sizes both ≡ slice_index old.totals first + slice_index old.totals second
     → total heats both ≡ slice_index old.heats first + slice_index old.heats second → Keeps sizes heats cluster old
-    → Keeps sizes heats (λ w. if has both w then both else cluster w) new
+    → Keeps sizes heats (λ w. if has_unit both w then both else cluster w) new
 keeps_merged {sizes} {heats} {cluster} {old} {new} {first} {second} {kept} s m size_is heat_is k =
     let both = list_at old.grouping.lists first ++ list_at old.grouping.lists second in
     let kept_in : kept < count_of old = end_in first second kept (count_of old) m.first_in m.second_in m.ends in
@@ -166,34 +167,35 @@ keeps_merged {sizes} {heats} {cluster} {old} {new} {first} {second} {kept} s m s
     let warm = slice_index old.heats first + slice_index old.heats second in
     record {
       list = λ w lt. let w_in : w < count_of old = rw (← m.count) lt in ⊎_elim
-          (λ (among : has both w ≡ true). rw among (group_among s.grouped m.joined_is w w_in among))
-          (λ (apart : has both w ≡ false). rw apart (group_elsewhere s.grouped m.joined_is w w_in apart ∙ k.list w w_in))
-          (cases_Bool (has both w));
+          (λ (among : has_unit both w ≡ true). rw among (group_among s.grouped m.joined_is w w_in among))
+          (λ (apart : has_unit both w ≡ false). rw apart (group_elsewhere s.grouped m.joined_is w w_in apart ∙ k.list w w_in))
+          (cases_Bool (has_unit both w));
       size = λ w lt. let w_in : w < count_of old = rw (← m.count) lt in ⊎_elim
-          (λ (among : has both w ≡ true). rw (among, number_among s.grouped m.joined_is w w_in among, m.totals)
+          (λ (among : has_unit both w ≡ true). rw (among, number_among s.grouped m.joined_is w w_in among, m.totals)
           (get_or-set_same old.totals kept sum 0 totals_in ∙ sym size_is))
-          (λ (apart : has both w ≡ false). let out = number_elsewhere s.grouped m.joined_is w w_in apart in
+          (λ (apart : has_unit both w ≡ false). let out = number_elsewhere s.grouped m.joined_is w w_in apart in
           rw (apart, out.number, m.totals)
           (get_or-set_other old.totals kept (slice_index old.grouping.numbers w) sum 0 out.not_kept ∙ k.size w w_in))
-          (cases_Bool (has both w));
+          (cases_Bool (has_unit both w));
       heat = λ w lt. let w_in : w < count_of old = rw (← m.count) lt in ⊎_elim
-          (λ (among : has both w ≡ true). rw (among, number_among s.grouped m.joined_is w w_in among, m.heats)
+          (λ (among : has_unit both w ≡ true). rw (among, number_among s.grouped m.joined_is w w_in among, m.heats)
           (merged_kept old.heats first second kept warm heats_in ∙ sym heat_is))
-          (λ (apart : has both w ≡ false). let out = number_elsewhere s.grouped m.joined_is w w_in apart in
+          (λ (apart : has_unit both w ≡ false). let out = number_elsewhere s.grouped m.joined_is w w_in apart in
           rw (apart, out.number, m.heats) (merged_elsewhere old.heats first second kept warm
           (slice_index old.grouping.numbers w) out.not_first out.not_second out.not_kept ∙ k.heat w w_in))
-          (cases_Bool (has both w));
+          (cases_Bool (has_unit both w));
     }
 
-pub sound_join : {old new : State} {v u kept : ℕ} → IsSound old → CanJoin old v u →
-    Merges old new (slice_index old.grouping.numbers v) (slice_index old.grouping.numbers u) kept → IsSound new
+pub sound_join : {old new : ClusterState} {v u kept : ℕ} → IsValidState old → CanJoin old v u →
+    Merges old new (slice_index old.grouping.numbers v) (slice_index old.grouping.numbers u) kept → IsValidState new
 sound_join s c m = sound_merged s (merged_from s c m) c.low
 
-pub count_join : {old new : State} {v u kept : ℕ} → IsSound old → CanJoin old v u →
+pub count_join : {old new : ClusterState} {v u kept : ℕ} → IsValidState old → CanJoin old v u →
     Merges old new (slice_index old.grouping.numbers v) (slice_index old.grouping.numbers u) kept → count_of new ≡ count_of old
 count_join s c m = (merged_from s c m).count
 
-keeps_join : {sizes heats : List ℕ} {cluster : ℕ → List ℕ} {old new : State} {v u kept : ℕ} → IsSound old → CanJoin old v u →
+keeps_join : {sizes heats : List ℕ} {cluster : ℕ → List ℕ} {old new : ClusterState} {v u kept : ℕ} → IsValidState old →
+    CanJoin old v u →
     Merges old new (slice_index old.grouping.numbers v) (slice_index old.grouping.numbers u) kept →
     Keeps sizes heats cluster old → Keeps sizes heats (joined_clusters (cluster v) (cluster u) cluster) new
 keeps_join {sizes} {heats} {cluster} {old} {new} {v} {u} {kept} s c m k =
@@ -204,24 +206,24 @@ keeps_join {sizes} {heats} {cluster} {old} {new} {v} {u} {kept} s c m k =
     let heat_is : total heats (a ++ b) ≡ heat_at old v + heat_at old u =
     sum_by-append (λ w. slice_index heats w) a b ∙ rw (k.list v c.v_in, k.list u c.u_in, k.heat v c.v_in, k.heat u c.u_in) refl in
     let is : a ++ b ≡ cluster v ++ cluster u = rw (k.list v c.v_in, k.list u c.u_in) refl in
-    let P : List ℕ → Type 0 = λ both. Keeps sizes heats (λ w. if has both w then both else cluster w) new in
+    let P : List ℕ → Type 0 = λ both. Keeps sizes heats (λ w. if has_unit both w then both else cluster w) new in
     subst P is (keeps_merged s (merged_from s c m) size_is heat_is k)
 
 other_cluster : (m n : ℕ) → m ≢ n → (n == m) ≡ false
 other_cluster m n ne = grind (arith, common_steps)
 
-fits : (a b : ℕ) → a + b ≤ limit → nat_le (a + b) limit ≡ true
+fits : (a b : ℕ) → a + b ≤ near_limit → nat_le (a + b) near_limit ≡ true
 fits a b le = grind (arith, common_steps)
 
-pub append_step : {old new : State} {v u kept : ℕ} → IsSound old → CanJoin old v u →
+pub append_step : {old new : ClusterState} {v u kept : ℕ} → IsValidState old → CanJoin old v u →
     Merges old new (slice_index old.grouping.numbers v) (slice_index old.grouping.numbers u) kept →
     (sizes heats : List ℕ) (cluster : ℕ → List ℕ) → Keeps sizes heats cluster old →
     Keeps sizes heats (appended sizes (cluster v) (cluster u) u cluster) new
 append_step {old} {new} {v} {u} s c m sizes heats cluster k =
     let first = slice_index old.grouping.numbers v in let second = slice_index old.grouping.numbers u in
-    let other : has (cluster v) u ≡ false = rw (← k.list v c.v_in)
+    let other : has_unit (cluster v) u ≡ false = rw (← k.list v c.v_in)
     (s.grouped.stands u first c.u_in (s.grouped.number_in v c.v_in) ∙ other_cluster first second c.apart) in
-    let both : nat_le (total sizes (cluster v) + total sizes (cluster u)) limit ≡ true =
+    let both : nat_le (total sizes (cluster v) + total sizes (cluster u)) near_limit ≡ true =
     rw (← k.size v c.v_in, ← k.size u c.u_in) (fits (size_at old v) (size_at old u) c.low) in
     rw (other, both) (keeps_join s c m k)
 
@@ -233,9 +235,9 @@ pub record IsAlone (g : Grouping) (n : ℕ) : Type 0 where
   pub number : (u : ℕ) → u < n → slice_index g.numbers u ≡ u
   pub list : (u : ℕ) → u < n → list_at g.lists u ≡ u ∷ []
 
-pub sound_alone : (sizes heats : List ℕ) (state : State) → IsAlone state.grouping (length sizes) → state.totals ≡ sizes →
-    state.heats ≡ heats → length heats ≡ length sizes → sum heats < 2 ^ 101 → All (λ size. size ≤ 1000000) sizes →
-    ((u : ℕ) → u < length sizes → 0 < slice_index heats u → 0 < slice_index sizes u) → IsSound state
+pub sound_alone : (sizes heats : List ℕ) (state : ClusterState) → IsAlone state.grouping (length sizes) → state.totals ≡ sizes →
+    state.heats ≡ heats → length heats ≡ length sizes → sum heats < 2 ^ 101 → AreWithinLimit sizes →
+    ((u : ℕ) → u < length sizes → 0 < slice_index heats u → 0 < slice_index sizes u) → IsValidState state
 sound_alone sizes heats state a totals_is heats_is heats_len room low some = record {
   grouped = a.grouped;
   totals_len = ap length totals_is ∙ sym a.count;
@@ -245,7 +247,7 @@ sound_alone sizes heats state a totals_is heats_is heats_len room low some = rec
   room = rw heats_is room;
 }
 
-pub keeps_alone : (sizes heats : List ℕ) (state : State) → IsAlone state.grouping (length sizes) → state.totals ≡ sizes →
+pub keeps_alone : (sizes heats : List ℕ) (state : ClusterState) → IsAlone state.grouping (length sizes) → state.totals ≡ sizes →
     state.heats ≡ heats → Keeps sizes heats alone state
 keeps_alone sizes heats state a totals_is heats_is = record {
   list = λ u lt. let n = a.number u (rw (← a.count) lt) in rw n (a.list u (rw (← a.count) lt));
@@ -255,12 +257,14 @@ keeps_alone sizes heats state a totals_is heats_is = record {
 
 -- One more unit is taken: it has no caller, or its cluster is appended to its caller's.
 
-pub stays_more : (sizes heats : List ℕ) (caller : ℕ → Option ℕ) (taken : List ℕ) (i : ℕ) (state : State) → i < length taken →
+pub stays_more : (sizes heats : List ℕ) (caller : ℕ → Option ℕ) (taken : List ℕ) (i : ℕ) (state : ClusterState) →
+    i < length taken →
     caller (get_or taken i 0) ≡ None → Keeps sizes heats (clusters_of sizes caller (take i taken)) state →
     Keeps sizes heats (clusters_of sizes caller (take (i + 1) taken)) state
 stays_more sizes heats caller taken i state lt none k = rw (fold_more (take_unit sizes caller) alone taken i 0 lt, none) k
 
-pub appends_more : (sizes heats : List ℕ) (caller : ℕ → Option ℕ) (taken : List ℕ) (i v : ℕ) (state : State) → i < length taken →
+pub appends_more : (sizes heats : List ℕ) (caller : ℕ → Option ℕ) (taken : List ℕ) (i v : ℕ) (state : ClusterState) →
+    i < length taken →
     caller (get_or taken i 0) ≡ Some v → let cluster = clusters_of sizes caller (take i taken) in
     let u = get_or taken i 0 in
     Keeps sizes heats (appended sizes (cluster v) (cluster u) u cluster) state →
@@ -269,13 +273,13 @@ appends_more sizes heats caller taken i v state lt some k = rw (fold_more (take_
 
 -- A hot unit's cluster is hot.
 
-none_has : (u : ℕ) → has [] u ≡ true → ⊥
+none_has : (u : ℕ) → has_unit [] u ≡ true → ⊥
 none_has u h = absurd (grind (arith, common_steps))
 
-later_has : (x u : ℕ) (xs : List ℕ) → has (x ∷ xs) u ≡ true → x ≢ u → has xs u ≡ true
+later_has : (x u : ℕ) (xs : List ℕ) → has_unit (x ∷ xs) u ≡ true → x ≢ u → has_unit xs u ≡ true
 later_has x u xs h ne = grind (arith, common_steps)
 
-le_total : (heats xs : List ℕ) (u : ℕ) → has xs u ≡ true → slice_index heats u ≤ total heats xs
+le_total : (heats xs : List ℕ) (u : ℕ) → has_unit xs u ≡ true → slice_index heats u ≤ total heats xs
 le_total heats [] u h = absurd (none_has u h)
 le_total heats (x ∷ xs) u h =
     let sum = sum_by-cons (λ w. slice_index heats w) x xs in
@@ -287,11 +291,11 @@ le_total heats (x ∷ xs) u h =
 itself : (n : ℕ) → (n == n) ≡ true
 itself n = grind (arith, common_steps)
 
-pub hot_cluster : {sizes heats : List ℕ} {cluster : ℕ → List ℕ} {state : State} → IsSound state →
+pub hot_cluster : {sizes heats : List ℕ} {cluster : ℕ → List ℕ} {state : ClusterState} → IsValidState state →
     Keeps sizes heats cluster state → (u : ℕ) → u < count_of state → 0 < slice_index heats u → 0 < heat_at state u
 hot_cluster {sizes} {heats} {cluster} {state} s k u u_in hot =
     let number = slice_index state.grouping.numbers u in
-    let stands : has (cluster u) u ≡ true =
+    let stands : has_unit (cluster u) u ≡ true =
     rw (← k.list u u_in) (s.grouped.stands u number u_in (s.grouped.number_in u u_in) ∙ itself number) in
     let le = le_total heats (cluster u) u stands in
     let is = k.heat u u_in in
@@ -303,22 +307,23 @@ no_more : (b : Bool) → (b && false) ≡ false
 no_more true = refl
 no_more false = refl
 
-too_large : (n : ℕ) → limit < n → nat_le n limit ≡ false
+too_large : (n : ℕ) → near_limit < n → nat_le n near_limit ≡ false
 too_large n lt = grind (arith, common_steps)
 
-pub stays_large : {state : State} → IsSound state → (v u : ℕ) → v < count_of state → u < count_of state →
-    limit < size_at state v + size_at state u → (sizes heats : List ℕ) (cluster : ℕ → List ℕ) → Keeps sizes heats cluster state →
+pub stays_large : {state : ClusterState} → IsValidState state → (v u : ℕ) → v < count_of state → u < count_of state →
+    near_limit < size_at state v + size_at state u → (sizes heats : List ℕ) (cluster : ℕ → List ℕ) →
+    Keeps sizes heats cluster state →
     Keeps sizes heats (appended sizes (cluster v) (cluster u) u cluster) state
 stays_large {state} s v u v_in u_in large sizes heats cluster k =
-    let over : nat_le (total sizes (cluster v) + total sizes (cluster u)) limit ≡ false =
+    let over : nat_le (total sizes (cluster v) + total sizes (cluster u)) near_limit ≡ false =
     rw (← k.size v v_in, ← k.size u u_in) (too_large (size_at state v + size_at state u) large) in
-    rw (over, no_more (not (has (cluster v) u))) k
+    rw (over, no_more (not (has_unit (cluster v) u))) k
 
-pub stays_same : {state : State} → IsSound state → (v u : ℕ) → v < count_of state → u < count_of state →
+pub stays_same : {state : ClusterState} → IsValidState state → (v u : ℕ) → v < count_of state → u < count_of state →
     slice_index state.grouping.numbers v ≡ slice_index state.grouping.numbers u → (sizes heats : List ℕ) (cluster : ℕ → List ℕ) →
     Keeps sizes heats cluster state → Keeps sizes heats (appended sizes (cluster v) (cluster u) u cluster) state
 stays_same {state} s v u v_in u_in same sizes heats cluster k =
     let first = slice_index state.grouping.numbers v in
-    let inside : has (cluster v) u ≡ true =
+    let inside : has_unit (cluster v) u ≡ true =
     rw (← k.list v v_in) (s.grouped.stands u first u_in (s.grouped.number_in v v_in) ∙ rw (← same) (itself first)) in
     rw inside k

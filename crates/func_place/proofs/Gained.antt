@@ -2,7 +2,7 @@
 use Rattle.std.proofs.Common.{◌≡◌, sym, subst, ◌⊎◌, inl, inr, ⊎_elim, ◌↔◌, List, [], ◌∷◌, ◌++◌}
 use Rattle.std.specs.List.{Contains}
 use Rattle.std.proofs.lemmas.List.Elements.{Contains-append_left, Contains-push, Contains-push_cases}
-use Rattle.func_place.specs.internal.Gains.{Gains}
+use Rattle.rb_bytes.specs.Lists.{Gains}
 
 pub gains_nothing : {A : Type 0} (xs : List A) (Is : A → Type 0) → ((x : A) → Is x → ⊥) → Gains xs xs Is
 gains_nothing xs Is none x = ((λ is. inl is), ⊎_elim (λ is. is) (λ is. absurd (none x is)))

@@ -8,8 +8,8 @@ use Rattle.std.proofs.lemmas.List.{length_push, get_or_push, get_or_append_left}
 use Rattle.std.proofs.lemmas.List.Elements.{All-append}
 use Rattle.std.proofs.lemmas.List.Folds.{list_any-append}
 use Rattle.std.proofs.lemmas.Grind.{common_steps}
-use Rattle.func_place.specs.Clusters.{has}
-use Rattle.func_place.specs.internal.Grouping.{Grouping, list_at, group_of, IsGrouped, Moves, Joins}
+use Rattle.func_place.specs.Clusters.{has_unit}
+use Rattle.func_place.specs.internal.Groups.{Grouping, list_at, group_of, IsGrouped, Joins, MovesGroup}
 
 -- Each number in a group of its own.
 
@@ -32,7 +32,7 @@ apart_more {n} {numbers} {lists} a =
           (λ (ne : k ≢ n). get_or_append_left lists ((n ∷ []) ∷ []) [] k (omega arith) ∙ a.list k (omega arith)) (cases_eq k n);
     }
 
-one_member : (q u : ℕ) → has (q ∷ []) u ≡ (u == q)
+one_member : (q u : ℕ) → has_unit (q ∷ []) u ≡ (u == q)
 one_member q u = grind (arith, common_steps)
 
 pub apart_grouped : {n : ℕ} {g : Grouping} → IsApart n g.numbers g.lists → IsGrouped g
@@ -55,7 +55,7 @@ pub record IsBoth (g : Grouping) (left kept : ℕ) (both : List ℕ) : Type 0 wh
   pub apart : left ≢ kept
   pub left_in : left < length g.lists
   pub kept_in : kept < length g.lists
-  pub units : (u : ℕ) → has both u ≡ (has (list_at g.lists left) u || has (list_at g.lists kept) u)
+  pub units : (u : ℕ) → has_unit both u ≡ (has_unit (list_at g.lists left) u || has_unit (list_at g.lists kept) u)
   pub units_in : All (λ u. u < length g.lists) both
 
 pub stay_kept : (m left kept : ℕ) → ((m == left) || (m == kept)) ≡ ((if m == left then kept else m) == kept)
@@ -79,19 +79,19 @@ pub list_other : (ls : List (List ℕ)) (left kept q : ℕ) (both : List ℕ) �
     list_at (set (set ls left []) kept both) q ≡ list_at ls q
 list_other ls left kept q both a b = get_or-set_other (set ls left []) kept q both [] b ∙ get_or-set_other ls left q [] [] a
 
-pub count_new : {old new : Grouping} {left kept : ℕ} {both : List ℕ} → Moves old new left kept both →
+pub count_new : {old new : Grouping} {left kept : ℕ} {both : List ℕ} → MovesGroup old new left kept both →
     length new.lists ≡ length old.lists
 count_new {old} {new} {left} {kept} {both} m =
     ap length m.lists ∙ length-set (set old.lists left []) kept both ∙ length-set old.lists left []
 
 -- a member's new number, by its old one
-pub number_new : {old new : Grouping} {left kept : ℕ} {both : List ℕ} → IsGrouped old → Moves old new left kept both →
+pub number_new : {old new : Grouping} {left kept : ℕ} {both : List ℕ} → IsGrouped old → MovesGroup old new left kept both →
     left < length old.lists → (u : ℕ) → u < length old.lists →
     slice_index new.numbers u ≡ (if slice_index old.numbers u == left then kept else slice_index old.numbers u)
 number_new {old} {new} {left} {kept} s m lt u u_in = m.numbers u (rw s.numbers_len u_in)
     ∙ ap (λ (b : Bool). if b then kept else slice_index old.numbers u) (s.stands u left u_in lt)
 
-grouped_moves : {old new : Grouping} {left kept : ℕ} {both : List ℕ} → IsGrouped old → Moves old new left kept both →
+grouped_moves : {old new : Grouping} {left kept : ℕ} {both : List ℕ} → IsGrouped old → MovesGroup old new left kept both →
     IsBoth old left kept both → IsGrouped new
 grouped_moves {old} {new} {left} {kept} {both} s m b =
     let len : length new.lists ≡ length old.lists = count_new m in
@@ -122,18 +122,18 @@ grouped_moves {old} {new} {left} {kept} {both} s m b =
 -- One of two groups went to the other, the second's members behind the first's.
 pub record IsJoined (old new : Grouping) (first second kept : ℕ) : Type 0 where
   pub left : ℕ
-  pub moves : Moves old new left kept (list_at old.lists first ++ list_at old.lists second)
+  pub moves : MovesGroup old new left kept (list_at old.lists first ++ list_at old.lists second)
   pub both : IsBoth old left kept (list_at old.lists first ++ list_at old.lists second)
   pub ends : ((left ≡ first) × (kept ≡ second)) ⊎ ((left ≡ second) × (kept ≡ first))
 
-units_of_both : (a b : List ℕ) (u : ℕ) → has (a ++ b) u ≡ (has a u || has b u)
+units_of_both : (a b : List ℕ) (u : ℕ) → has_unit (a ++ b) u ≡ (has_unit a u || has_unit b u)
 units_of_both a b u = list_any-append (λ v. v == u) a b
 
 pub joined_from : {old new : Grouping} {first second kept : ℕ} → IsGrouped old → first ≢ second → first < length old.lists →
     second < length old.lists → Joins old new first second kept → IsJoined old new first second kept
 joined_from {old} {new} {first} {second} {kept} s apart first_in second_in (inl (is, m)) = record {
   left = first;
-  moves = subst (λ (k : ℕ). Moves old new first k (list_at old.lists first ++ list_at old.lists second)) (sym is) m;
+  moves = subst (λ (k : ℕ). MovesGroup old new first k (list_at old.lists first ++ list_at old.lists second)) (sym is) m;
   both = subst (λ (k : ℕ). IsBoth old first k (list_at old.lists first ++ list_at old.lists second)) (sym is) (record {
     apart = apart;
     left_in = first_in;
@@ -146,13 +146,13 @@ joined_from {old} {new} {first} {second} {kept} s apart first_in second_in (inl 
 }
 joined_from {old} {new} {first} {second} {kept} s apart first_in second_in (inr (is, m)) = record {
   left = second;
-  moves = subst (λ (k : ℕ). Moves old new second k (list_at old.lists first ++ list_at old.lists second)) (sym is) m;
+  moves = subst (λ (k : ℕ). MovesGroup old new second k (list_at old.lists first ++ list_at old.lists second)) (sym is) m;
   both = subst (λ (k : ℕ). IsBoth old second k (list_at old.lists first ++ list_at old.lists second)) (sym is) (record {
     apart = λ e. apart (sym e);
     left_in = second_in;
     kept_in = first_in;
     units = λ u. units_of_both (list_at old.lists first) (list_at old.lists second) u
-        ∙ or_comm (has (list_at old.lists first) u) (has (list_at old.lists second) u);
+        ∙ or_comm (has_unit (list_at old.lists first) u) (has_unit (list_at old.lists second) u);
     units_in = All-append (λ w. w < length old.lists) (list_at old.lists first) (list_at old.lists second)
         (s.members_in first first_in) (s.members_in second second_in);
   });
@@ -172,14 +172,15 @@ out_of_both : (m left kept : ℕ) (b : Bool) → b ≡ ((m == left) || (m == kep
 out_of_both m left kept b is h = (grind (arith, common_steps), grind (arith, common_steps), grind (arith, common_steps))
 
 among_both : {old : Grouping} {left kept : ℕ} {both : List ℕ} → IsGrouped old → IsBoth old left kept both → (u : ℕ) →
-    u < length old.lists → has both u ≡ ((slice_index old.numbers u == left) || (slice_index old.numbers u == kept))
+    u < length old.lists → has_unit both u ≡ ((slice_index old.numbers u == left) || (slice_index old.numbers u == kept))
 among_both s b u u_in = b.units u ∙ rw (s.stands u _ u_in b.left_in, s.stands u _ u_in b.kept_in) refl
 
 pub number_among : {old new : Grouping} {first second kept : ℕ} → IsGrouped old → IsJoined old new first second kept → (u : ℕ) →
-    u < length old.lists → has (list_at old.lists first ++ list_at old.lists second) u ≡ true → slice_index new.numbers u ≡ kept
+    u < length old.lists → has_unit (list_at old.lists first ++ list_at old.lists second) u ≡ true →
+    slice_index new.numbers u ≡ kept
 number_among {old} {new} {first} {second} {kept} s j u u_in among =
     number_new s j.moves j.both.left_in u u_in ∙ in_both (slice_index old.numbers u) j.left kept
-    (has (list_at old.lists first ++ list_at old.lists second) u) (among_both s j.both u u_in) among
+    (has_unit (list_at old.lists first ++ list_at old.lists second) u) (among_both s j.both u u_in) among
 
 -- a member of another group
 pub record IsElsewhere (old new : Grouping) (first second kept u : ℕ) : Type 0 where
@@ -189,10 +190,11 @@ pub record IsElsewhere (old new : Grouping) (first second kept u : ℕ) : Type 0
   pub not_kept : slice_index old.numbers u ≢ kept
 
 pub number_elsewhere : {old new : Grouping} {first second kept : ℕ} → IsGrouped old → IsJoined old new first second kept →
-    (u : ℕ) → u < length old.lists → has (list_at old.lists first ++ list_at old.lists second) u ≡ false →
+    (u : ℕ) → u < length old.lists → has_unit (list_at old.lists first ++ list_at old.lists second) u ≡ false →
     IsElsewhere old new first second kept u
 number_elsewhere {old} {new} {first} {second} {kept} s j u u_in apart =
-    let out = out_of_both (slice_index old.numbers u) j.left kept (has (list_at old.lists first ++ list_at old.lists second) u)
+    let out = out_of_both (slice_index old.numbers u) j.left kept
+    (has_unit (list_at old.lists first ++ list_at old.lists second) u)
     (among_both s j.both u u_in) apart in
     let is = number_new s j.moves j.both.left_in u u_in ∙ out.0 in
     ⊎_elim
@@ -211,14 +213,14 @@ number_elsewhere {old} {new} {first} {second} {kept} s j u u_in apart =
     j.ends
 
 pub group_among : {old new : Grouping} {first second kept : ℕ} → IsGrouped old → IsJoined old new first second kept → (u : ℕ) →
-    u < length old.lists → has (list_at old.lists first ++ list_at old.lists second) u ≡ true →
+    u < length old.lists → has_unit (list_at old.lists first ++ list_at old.lists second) u ≡ true →
     group_of new u ≡ list_at old.lists first ++ list_at old.lists second
 group_among {old} {new} {first} {second} {kept} s j u u_in among =
     ap (list_at new.lists) (number_among s j u u_in among) ∙ ap (λ (ls : List (List ℕ)). list_at ls kept) j.moves.lists
     ∙ list_kept old.lists j.left kept (list_at old.lists first ++ list_at old.lists second) j.both.kept_in
 
 pub group_elsewhere : {old new : Grouping} {first second kept : ℕ} → IsGrouped old → IsJoined old new first second kept →
-    (u : ℕ) → u < length old.lists → has (list_at old.lists first ++ list_at old.lists second) u ≡ false →
+    (u : ℕ) → u < length old.lists → has_unit (list_at old.lists first ++ list_at old.lists second) u ≡ false →
     group_of new u ≡ group_of old u
 group_elsewhere {old} {new} {first} {second} {kept} s j u u_in apart =
     let out = number_elsewhere s j u u_in apart in

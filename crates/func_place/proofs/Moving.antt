@@ -5,7 +5,7 @@ use Rattle.std.proofs.lemmas.List.{get_or-map, map-set, get_or-set_other}
 use Rattle.std.proofs.lemmas.Grind.{common_steps}
 use Rattle.std.specs.Prelude.{All}
 use Rattle.std.specs.declared.collections.VecDeque.{VecDeque}
-use Rattle.func_place.specs.internal.Grouping.{list_at, numbered}
+use Rattle.func_place.specs.internal.Groups.{list_at, numbered}
 
 -- one more member goes from the front of what is left to the end of what was moved
 pub end_more : (many few few' many0 few0 : List ℕ) (u : ℕ) → many ++ few ≡ many0 ++ few0 → few ≡ (u ∷ []) ++ few' →

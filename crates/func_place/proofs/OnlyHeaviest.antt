@@ -6,14 +6,14 @@ use Rattle.std.specs.List.{fold, reduce, range_with_len}
 use Rattle.std.proofs.lemmas.List.{get_or_past}
 use Rattle.std.proofs.lemmas.Grind.{common_steps}
 use Rattle.std.proofs.lemmas.Bool.{cases_eq, cases_lt, cases_Bool}
-use Rattle.func_place.specs.declared.calls.Call.{Call}
+use Rattle.func_place.specs.declared.calls.UnitCall.{UnitCall}
 use Rattle.func_place.specs.Calls.{calls_between, callers_of, heavier, heaviest_caller}
 use Rattle.func_place.proofs.Heaviest.{CallsMore, Calls, IsHeaviest, more_trans, more_self, occurs}
 
-abbrev calls_it : List ℕ → List Call → ℕ → ℕ → Bool
+abbrev calls_it : List ℕ → List UnitCall → ℕ → ℕ → Bool
 calls_it heats calls u v = nat_lt 0 (slice_index heats v) && (not (v == u) && nat_lt 0 (calls_between calls v u))
 
-abbrev from_to : List ℕ → List Call → ℕ → ℕ → ℕ → List ℕ
+abbrev from_to : List ℕ → List UnitCall → ℕ → ℕ → ℕ → List ℕ
 from_to heats calls u a k = filter (calls_it heats calls u) (range_with_len a k)
 
 record IsTested (h v u n : ℕ) : Type 0 where
@@ -31,12 +31,12 @@ tested h v u n is = record {
 untested : (h v u n : ℕ) → (nat_lt 0 h && (not (v == u) && nat_lt 0 n)) ≡ false → 0 < h → v ≢ u → 0 < n → ⊥
 untested h v u n is hot ne some = grind (arith, common_steps)
 
-calls_yes : (heats : List ℕ) (calls : List Call) (u v : ℕ) → calls_it heats calls u v ≡ true → Calls heats calls u v
+calls_yes : (heats : List ℕ) (calls : List UnitCall) (u v : ℕ) → calls_it heats calls u v ≡ true → Calls heats calls u v
 calls_yes heats calls u v h =
     let t = tested (slice_index heats v) v u (calls_between calls v u) h in
     record { other = t.other; hot = t.hot; some = t.some }
 
-calls_no : (heats : List ℕ) (calls : List Call) (u v : ℕ) → calls_it heats calls u v ≡ false → Calls heats calls u v → ⊥
+calls_no : (heats : List ℕ) (calls : List UnitCall) (u v : ℕ) → calls_it heats calls u v ≡ false → Calls heats calls u v → ⊥
 calls_no heats calls u v h c = untested (slice_index heats v) v u (calls_between calls v u) h c.hot c.other c.some
 
 -- two tests in turn
@@ -50,17 +50,18 @@ filter-filter p q (x ∷ xs) = ⊎_elim
     (λ (h : q x ≡ false). rw h (filter-filter p q xs))
     (cases_Bool (q x))
 
-callers-from_to : (heats : List ℕ) (calls : List Call) (u : ℕ) → callers_of heats calls u ≡ from_to heats calls u 0 (length heats)
+callers-from_to : (heats : List ℕ) (calls : List UnitCall) (u : ℕ) →
+    callers_of heats calls u ≡ from_to heats calls u 0 (length heats)
 callers-from_to heats calls u = filter-filter (λ v. not (v == u) && nat_lt 0 (calls_between calls v u))
     (λ v. nat_lt 0 (slice_index heats v)) (range_with_len 0 (length heats))
 
 -- the best of a unit v and the callers from a on
-record BestFrom (heats : List ℕ) (calls : List Call) (u a k v r : ℕ) : Type 0 where
+record BestFrom (heats : List ℕ) (calls : List UnitCall) (u a k v r : ℕ) : Type 0 where
   calls_u : Calls heats calls u r
   first : CallsMore calls u r v
   rest : (w : ℕ) → a ≤ w → w < a + k → Calls heats calls u w → CallsMore calls u r w
 
-best_from : (heats : List ℕ) (calls : List Call) (u k a v : ℕ) → v < a → Calls heats calls u v →
+best_from : (heats : List ℕ) (calls : List UnitCall) (u k a v : ℕ) → v < a → Calls heats calls u v →
     BestFrom heats calls u a k v (fold (heavier calls u) v (from_to heats calls u a k))
 best_from heats calls u zero a v lt c =
     record { calls_u = c; first = more_self calls u v; rest = λ w le w_lt _. absurd (omega arith) }
@@ -104,12 +105,12 @@ best_from heats calls u (suc k) a v lt c = ⊎_elim
     at_least m n v a le va = ⊎_elim (λ (lt : m < n). inl lt) (λ (ge : n ≤ m). inr (omega arith, va)) (cases_lt m n)
 
 -- the heaviest of the callers below n
-abbrev IsHeaviestBelow : List ℕ → List Call → ℕ → ℕ → Option ℕ → Type 0
+abbrev IsHeaviestBelow : List ℕ → List UnitCall → ℕ → ℕ → Option ℕ → Type 0
 IsHeaviestBelow heats calls u n None = (w : ℕ) → w < n → Calls heats calls u w → ⊥
 IsHeaviestBelow heats calls u n (Some v) =
     Calls heats calls u v × ((w : ℕ) → w < n → Calls heats calls u w → CallsMore calls u v w)
 
-reduced : (heats : List ℕ) (calls : List Call) (u k a : ℕ) → ((w : ℕ) → w < a → Calls heats calls u w → ⊥) →
+reduced : (heats : List ℕ) (calls : List UnitCall) (u k a : ℕ) → ((w : ℕ) → w < a → Calls heats calls u w → ⊥) →
     IsHeaviestBelow heats calls u (a + k) (reduce (heavier calls u) (from_to heats calls u a k))
 reduced heats calls u zero a none = λ w lt c. none w (omega arith) c
 reduced heats calls u (suc k) a none = ⊎_elim
@@ -124,18 +125,18 @@ reduced heats calls u (suc k) a none = ⊎_elim
     (λ (ne : w ≢ a). none w (omega arith) c) (cases_eq w a)))))
     (cases_Bool (calls_it heats calls u a))
 
-heaviest_below : (heats : List ℕ) (calls : List Call) (u n : ℕ) (o : Option ℕ) → ((w : ℕ) → Calls heats calls u w → w < n) →
+heaviest_below : (heats : List ℕ) (calls : List UnitCall) (u n : ℕ) (o : Option ℕ) → ((w : ℕ) → Calls heats calls u w → w < n) →
     IsHeaviestBelow heats calls u n o → IsHeaviest heats calls u o
 heaviest_below heats calls u n None inside h = λ w c. h w (inside w c) c
 heaviest_below heats calls u n (Some v) inside h = (h.0, λ w c. h.1 w (inside w c) c)
 
-one : (calls : List Call) (u v w : ℕ) → CallsMore calls u v w → CallsMore calls u w v → v ≡ w
+one : (calls : List UnitCall) (u v w : ℕ) → CallsMore calls u v w → CallsMore calls u w v → v ≡ w
 one calls u v w (inl a) (inl b) = absurd (omega arith)
 one calls u v w (inl a) (inr b) = absurd (let e = b.0 in omega arith)
 one calls u v w (inr a) (inl b) = absurd (let e = a.0 in omega arith)
 one calls u v w (inr a) (inr b) = let m = a.1 in let n = b.1 in omega arith
 
-pub only_heaviest : (heats : List ℕ) (calls : List Call) (u : ℕ) (o p : Option ℕ) → IsHeaviest heats calls u o →
+pub only_heaviest : (heats : List ℕ) (calls : List UnitCall) (u : ℕ) (o p : Option ℕ) → IsHeaviest heats calls u o →
     IsHeaviest heats calls u p → o ≡ p
 only_heaviest heats calls u None None a b = refl
 only_heaviest heats calls u None (Some w) a b = absurd (a w b.0)
@@ -143,7 +144,7 @@ only_heaviest heats calls u (Some v) None a b = absurd (b v a.0)
 only_heaviest heats calls u (Some v) (Some w) a b = ap Some (one calls u v w (a.1 w b.0) (b.1 v a.0))
 
 -- what the definition gives
-is_heaviest : (heats : List ℕ) (calls : List Call) (u : ℕ) →
+is_heaviest : (heats : List ℕ) (calls : List UnitCall) (u : ℕ) →
     IsHeaviestBelow heats calls u (length heats) (heaviest_caller heats calls u)
 is_heaviest heats calls u =
     let z : 0 + length heats ≡ length heats = omega arith in
@@ -158,13 +159,13 @@ hot_inside heats w hot = ⊎_elim (λ (lt : w < length heats). lt) (λ (ge : len
     let past = get_or_past heats w 0 ge in
     absurd (omega arith)) (cases_lt w (length heats))
 
-heaviest-is : (heats : List ℕ) (calls : List Call) (u : ℕ) (o : Option ℕ) → IsHeaviest heats calls u o →
+heaviest-is : (heats : List ℕ) (calls : List UnitCall) (u : ℕ) (o : Option ℕ) → IsHeaviest heats calls u o →
     o ≡ heaviest_caller heats calls u
 heaviest-is heats calls u o h = only_heaviest heats calls u o _ h
     (heaviest_below heats calls u (length heats) _ (λ w c. hot_inside heats w c.hot) (is_heaviest heats calls u))
 
 -- past the units no unit is called
-pub callers_found : (heats : List ℕ) (calls : List Call) (best : List (Option ℕ)) (u : ℕ) →
+pub callers_found : (heats : List ℕ) (calls : List UnitCall) (best : List (Option ℕ)) (u : ℕ) →
     All (λ c. (c.from < length heats) × (c.to < length heats)) calls → length best ≡ length heats →
     ((w : ℕ) → w < length heats → IsHeaviest heats calls w (get_or best w None)) →
     get_or best u None ≡ heaviest_caller heats calls u
@@ -177,10 +178,11 @@ callers_found heats calls best u inside len all = heaviest-is heats calls u (get
     omega arith))
     (cases_lt u (length heats)))
 
-pub caller_in : (heats : List ℕ) (calls : List Call) (u v : ℕ) → heaviest_caller heats calls u ≡ Some v → Calls heats calls u v
+pub caller_in : (heats : List ℕ) (calls : List UnitCall) (u v : ℕ) → heaviest_caller heats calls u ≡ Some v →
+    Calls heats calls u v
 caller_in heats calls u v e = (subst (IsHeaviestBelow heats calls u (length heats)) e (is_heaviest heats calls u)).0
 
-pub caller_below : (heats : List ℕ) (calls : List Call) (u v : ℕ) → heaviest_caller heats calls u ≡ Some v → v < length heats
+pub caller_below : (heats : List ℕ) (calls : List UnitCall) (u v : ℕ) → heaviest_caller heats calls u ≡ Some v → v < length heats
 caller_below heats calls u v e = hot_inside heats v (caller_in heats calls u v e).hot
 
 pub same_callers : (f g : ℕ → Option ℕ) → ((u : ℕ) → f u ≡ g u) → f ≡ g

@@ -15,12 +15,12 @@ use Rattle.std.proofs.lemmas.Option.{slice_get_within, slice_get-get_or}
 use Rattle.rv_code.specs.declared.placed.Func.{Func}
 use Rattle.rv_code.specs.declared.placed.Block.{Block}
 use Rattle.rv_code.specs.declared.layout.Chains.{Chains}
-use Rattle.rv_code.specs.layout.WorstSizes.{worst_size_of_block}
-use Rattle.rv_code.specs.layout.InFunctions.{IsOfFunction}
+use Rattle.rv_code.specs.layout.WorstSizes.{worst_size_of_block, worst_at, near_limit}
+use Rattle.rv_code.specs.layout.FunctionMembers.{IsOfFunction}
 use Rattle.func_place.specs.Bands.{blocks_of}
-use Rattle.func_place.specs.Clusters.{limit}
-use Rattle.func_place.specs.Nearness.{owner, worst_at, blocks_of_function, HaveAllBlocks, HasAllBlocks, AreTiedNear}
-use Rattle.func_place.specs.Placement.{hot_of, cold_of, IsPlacement}
+use Rattle.rv_code.specs.layout.BlockOrders.{func_of_block, blocks_of_function, HaveAllBlocks, HasAllBlocks, hot_of, cold_of}
+use Rattle.func_place.specs.Nearness.{AreTiedNear}
+use Rattle.func_place.specs.Placement.{IsPlacement}
 use Rattle.func_place.specs.Units.{AreTied, itself, onward, backward, AreUnits, unit_size, members, unit_part, by_unit}
 use Rattle.func_place.proofs.Times.{times, times-append, times-flat_map, times-filter_in, times-filter_out, times-range_in}
 use Rattle.func_place.proofs.Times.{times-range_out, times-IsPermutation, times-get_or, permutation_from_times, sum-agree}
@@ -29,6 +29,7 @@ use Rattle.func_place.proofs.UnitClasses.{units_inside}
 use Rattle.func_place.proofs.UnitLine.{line_of, line_times, flat, cut_of, order_times, AreOwned, sum_some, units_near}
 use Rattle.func_place.proofs.UnitSums.{no_block}
 use Rattle.func_place.proofs.WorstPositive.{stretch_of}
+use Rattle.func_place.specs.Clusters.{AreWithinLimit}
 
 -- Sums over sums.
 
@@ -112,11 +113,11 @@ one_unit funcs units f g are f_in g_in tied =
 
 -- A program: its blocks are of functions, and parts have them all.
 
-owner_is : (blocks : List Block) (k : ℕ) → k < length blocks → owner blocks k ≡ (get_or blocks k no_block).func
+owner_is : (blocks : List Block) (k : ℕ) → k < length blocks → func_of_block blocks k ≡ (get_or blocks k no_block).func
 owner_is blocks k lt = rw (slice_get-get_or blocks k no_block lt) refl
 
 owner_inside : (funcs : List Func) (blocks : List Block) → All (IsOfFunction funcs) blocks → (k : ℕ) → k < length blocks →
-    owner blocks k < length funcs
+    func_of_block blocks k < length funcs
 owner_inside funcs blocks are k lt =
     let o = stretch_of funcs (get_or blocks k no_block) (are k no_block lt) in
     let f_in = slice_get_within funcs (get_or blocks k no_block).func o.func o.is_func in
@@ -130,15 +131,17 @@ unit_in funcs units are f f_in = units_inside funcs units are f 0 (omega (arith,
 -- how often a block stands in the parts of a function
 part_times : (funcs : List Func) (blocks : List Block) (chains : Chains) → HaveAllBlocks funcs blocks chains → (k f : ℕ) →
     f < length funcs → times k (hot_of chains f) + times k (cold_of chains f)
-    ≡ (if owner blocks k == f then times k (range_with_len 0 (length blocks)) else 0)
+    ≡ (if func_of_block blocks k == f then times k (range_with_len 0 (length blocks)) else 0)
 part_times funcs blocks chains have k f f_in =
     let all = range_with_len 0 (length blocks) in
     let both = times-append k (hot_of chains f) (cold_of chains f) in
     let p = times-IsPermutation k (blocks_of_function blocks f) (hot_of chains f ++ cold_of chains f) (have f f_in) in
     ⊎_elim
-    (λ (h : (owner blocks k == f) ≡ true). rw h (let e = times-filter_in (λ j. owner blocks j == f) k all h in omega arith))
-    (λ (h : (owner blocks k == f) ≡ false). rw h (let z = times-filter_out (λ j. owner blocks j == f) k all h in omega arith))
-    (cases_Bool (owner blocks k == f))
+    (λ (h : (func_of_block blocks k == f) ≡ true). rw h (let e =
+    times-filter_in (λ j. func_of_block blocks j == f) k all h in omega arith))
+    (λ (h : (func_of_block blocks k == f) ≡ false). rw h (let z =
+    times-filter_out (λ j. func_of_block blocks j == f) k all h in omega arith))
+    (cases_Bool (func_of_block blocks k == f))
 
 unit_times : (part other : ℕ → List ℕ) (units : List ℕ) (k u : ℕ) → times k (unit_part part units u) + times k
     (unit_part other units u) ≡ sum_by (λ f. times k (part f) + times k (other f)) (members units u)
@@ -165,24 +168,24 @@ all_times funcs blocks chains units are stretches have k =
     sum-agree (λ u. times k (unit_part (hot_of chains) units u) + times k (unit_part (cold_of chains) units u)) (λ u. sum_by t
     (filter (λ f. slice_index units f == u) all)) all (λ u some. unit_times (hot_of chains) (cold_of chains) units k u)
     ∙ swap t (slice_index units) all all
-    ∙ sum-agree (λ f. t f * times (slice_index units f) all) (λ f. if owner blocks k == f then v else 0) all (λ f some.
+    ∙ sum-agree (λ f. t f * times (slice_index units f) all) (λ f. if func_of_block blocks k == f then v else 0) all (λ f some.
     let f_in : f < length funcs = let l = in_range n f some in omega (arith, are.len) in
     let u_in = unit_in funcs units are f f_in in
     let one = times-range_in (slice_index units f) n (omega (arith, are.len)) in
     ap (λ (m : ℕ). m * times (slice_index units f) all) (part_times funcs blocks chains have k f f_in)
-    ∙ value_if (owner blocks k == f) v (times (slice_index units f) all) one)
-    ∙ sum-at (owner blocks k) v all
+    ∙ value_if (func_of_block blocks k == f) v (times (slice_index units f) all) one)
+    ∙ sum-at (func_of_block blocks k) v all
     ∙ ⊎_elim
     (λ (lt : k < length blocks).
     let o_in = owner_inside funcs blocks stretches k lt in
-    let one = times-range_in (owner blocks k) n (omega (arith, are.len)) in
-    let e : v * times (owner blocks k) all ≡ v = rw one (omega arith) in e)
+    let one = times-range_in (func_of_block blocks k) n (omega (arith, are.len)) in
+    let e : v * times (func_of_block blocks k) all ≡ v = rw one (omega arith) in e)
     (λ (ge : length blocks ≤ k).
     let z = times-range_out k (length blocks) ge in
-    let e : v * times (owner blocks k) all ≡ v = rw z (omega arith) in e)
+    let e : v * times (func_of_block blocks k) all ≡ v = rw z (omega arith) in e)
     (cases_lt k (length blocks))
 
-small_at : (sizes : List ℕ) → All (λ size. size ≤ 1000000) sizes → (u : ℕ) → slice_index sizes u ≤ limit
+small_at : (sizes : List ℕ) → AreWithinLimit sizes → (u : ℕ) → slice_index sizes u ≤ near_limit
 small_at sizes low u = ⊎_elim (λ (lt : u < length sizes). low u 0 lt)
     (λ (ge : length sizes ≤ u). let z = get_or_past sizes u 0 ge in omega arith) (cases_lt u (length sizes))
 
@@ -190,7 +193,7 @@ small_at sizes low u = ⊎_elim (λ (lt : u < length sizes). low u 0 lt)
 
 pub has_all : (funcs : List Func) (blocks : List Block) (chains : Chains) (pairs : List (ℕ × ℕ × ℕ)) (weight : Block → ℕ)
     (order : List ℕ) → All (IsOfFunction funcs) blocks → (p : IsPlacement funcs blocks chains pairs weight order) →
-    All (λ size. size ≤ 1000000) (by_unit (unit_size funcs p.units blocks) p.units) → HaveAllBlocks funcs blocks chains →
+    AreWithinLimit (by_unit (unit_size funcs p.units blocks) p.units) → HaveAllBlocks funcs blocks chains →
     HasAllBlocks blocks order
 has_all funcs blocks chains pairs weight order stretches p low have =
     let units = p.units in
@@ -213,8 +216,8 @@ has_all funcs blocks chains pairs weight order stretches p low have =
 -- Blocks of tied functions are near each other.
 
 part_owner : (funcs : List Func) (blocks : List Block) (chains : Chains) (units : List ℕ) (part : ℕ → List ℕ) →
-    AreUnits funcs units → ((k f : ℕ) → f < length funcs → 0 < times k (part f) → owner blocks k ≡ f) → (u k : ℕ) →
-    0 < times k (unit_part part units u) → slice_index units (owner blocks k) ≡ u
+    AreUnits funcs units → ((k f : ℕ) → f < length funcs → 0 < times k (part f) → func_of_block blocks k ≡ f) → (u k : ℕ) →
+    0 < times k (unit_part part units u) → slice_index units (func_of_block blocks k) ≡ u
 part_owner funcs blocks chains units part are own u k some =
     let s = sum_some (λ f. times k (part f)) (members units u)
     (subst (λ (m : ℕ). 0 < m) (times-flat_map k part (members units u)) some) in
@@ -224,20 +227,20 @@ part_owner funcs blocks chains units part are own u k some =
     ap (slice_index units) (own k f f_in s.2) ∙ equal (slice_index units f) u m.0
 
 function_owner : (funcs : List Func) (blocks : List Block) (chains : Chains) → HaveAllBlocks funcs blocks chains → (k f : ℕ) →
-    f < length funcs → 0 < times k (hot_of chains f) + times k (cold_of chains f) → owner blocks k ≡ f
+    f < length funcs → 0 < times k (hot_of chains f) + times k (cold_of chains f) → func_of_block blocks k ≡ f
 function_owner funcs blocks chains have k f f_in some =
     let e = part_times funcs blocks chains have k f f_in in
     ⊎_elim
-    (λ (h : (owner blocks k == f) ≡ true). equal (owner blocks k) f h)
-    (λ (h : (owner blocks k == f) ≡ false). let z : times k (hot_of chains f) + times k (cold_of chains f) ≡ 0 = e
+    (λ (h : (func_of_block blocks k == f) ≡ true). equal (func_of_block blocks k) f h)
+    (λ (h : (func_of_block blocks k == f) ≡ false). let z : times k (hot_of chains f) + times k (cold_of chains f) ≡ 0 = e
     ∙ rw h refl in absurd (omega arith))
-    (cases_Bool (owner blocks k == f))
+    (cases_Bool (func_of_block blocks k == f))
 
 -- the worst sizes of a unit's parts
 parts_size : (funcs : List Func) (blocks : List Block) (chains : Chains) (units : List ℕ) → AreUnits funcs units →
     All (IsOfFunction funcs) blocks → HaveAllBlocks funcs blocks chains → (u : ℕ) → let weight = worst_at funcs blocks in
     sum_by weight (unit_part (hot_of chains) units u) + sum_by weight (unit_part (cold_of chains) units u)
-    ≡ sum_by (λ k. if slice_index units (owner blocks k) == u then weight k else 0) (range_with_len 0 (length blocks))
+    ≡ sum_by (λ k. if slice_index units (func_of_block blocks k) == u then weight k else 0) (range_with_len 0 (length blocks))
 parts_size funcs blocks chains units are stretches have u =
     let weight = worst_at funcs blocks in
     let all = range_with_len 0 (length blocks) in
@@ -250,30 +253,33 @@ parts_size funcs blocks chains units are stretches have u =
     let l = in_range (length units) f m.1 in
     omega (arith, are.len) in
     let each : (f : ℕ) → 0 < times f fs →
-    sum_by weight (hot_of chains f) + sum_by weight (cold_of chains f) ≡ sum_by weight (filter (λ k. owner blocks k == f) all) =
+    sum_by weight (hot_of chains f) + sum_by weight (cold_of chains f)
+    ≡ sum_by weight (filter (λ k. func_of_block blocks k == f) all) =
     λ f some. sym (sum_by-append weight (hot_of chains f) (cold_of chains f))
     ∙ sum_by-IsPermutation weight (blocks_of_function blocks f) (hot_of chains f ++ cold_of chains f) (have f (inside f some)) in
     (let e : sum_by weight (unit_part (hot_of chains) units u) + sum_by weight (unit_part (cold_of chains) units u)
     ≡ sum_by (λ f. sum_by weight (hot_of chains f) + sum_by weight (cold_of chains f)) fs = omega arith in e)
     ∙ sum-agree (λ f. sum_by weight (hot_of chains f) + sum_by weight (cold_of chains f))
-    (λ f. sum_by weight (filter (λ k. owner blocks k == f) all)) fs each
-    ∙ swap weight (owner blocks) all fs
-    ∙ sum-agree (λ k. weight k * times (owner blocks k) fs)
-    (λ k. if slice_index units (owner blocks k) == u then weight k else 0) all (λ k some.
+    (λ f. sum_by weight (filter (λ k. func_of_block blocks k == f) all)) fs each
+    ∙ swap weight (func_of_block blocks) all fs
+    ∙ sum-agree (λ k. weight k * times (func_of_block blocks k) fs)
+    (λ k. if slice_index units (func_of_block blocks k) == u then weight k else 0) all (λ k some.
     let o_in = owner_inside funcs blocks stretches k (in_range (length blocks) k some) in
-    let one = times-range_in (owner blocks k) (length units) (omega (arith, are.len)) in
+    let one = times-range_in (func_of_block blocks k) (length units) (omega (arith, are.len)) in
     ⊎_elim
-    (λ (h : (slice_index units (owner blocks k) == u) ≡ true). rw h (let t = times-filter_in (λ g. slice_index units g == u)
-    (owner blocks k) (range_with_len 0 (length units)) h ∙ one in rw t (omega arith)))
-    (λ (h : (slice_index units (owner blocks k) == u) ≡ false). rw h (let t = times-filter_out (λ g. slice_index units g == u)
-    (owner blocks k) (range_with_len 0 (length units)) h in rw t (omega arith)))
-    (cases_Bool (slice_index units (owner blocks k) == u)))
+    (λ (h : (slice_index units (func_of_block blocks k) == u) ≡ true). rw h (let t =
+    times-filter_in (λ g. slice_index units g == u)
+    (func_of_block blocks k) (range_with_len 0 (length units)) h ∙ one in rw t (omega arith)))
+    (λ (h : (slice_index units (func_of_block blocks k) == u) ≡ false). rw h (let t =
+    times-filter_out (λ g. slice_index units g == u)
+    (func_of_block blocks k) (range_with_len 0 (length units)) h in rw t (omega arith)))
+    (cases_Bool (slice_index units (func_of_block blocks k) == u)))
 
 no_value : (m u v : ℕ) → m ≢ u → (if m == u then v else 0) ≡ 0
 no_value m u v ne = rw (unequal m u ne) refl
 
 size_at : (funcs : List Func) (blocks : List Block) (units : List ℕ) → AreUnits funcs units → All (IsOfFunction funcs) blocks →
-    (u : ℕ) → sum_by (λ k. if slice_index units (owner blocks k) == u then worst_at funcs blocks k else 0)
+    (u : ℕ) → sum_by (λ k. if slice_index units (func_of_block blocks k) == u then worst_at funcs blocks k else 0)
     (range_with_len 0 (length blocks)) ≤ slice_index (by_unit (unit_size funcs units blocks) units) u
 size_at funcs blocks units are stretches u = ⊎_elim
     (λ (lt : u < length units).
@@ -282,17 +288,18 @@ size_at funcs blocks units are stretches u = ⊎_elim
     let at = get_or-map-range_with_len (unit_size funcs units blocks) 0 (length units) u u 0 lt (omega arith) in
     rw (at, is) (omega arith))
     (λ (ge : length units ≤ u).
-    let z = sum-zero (λ k. if slice_index units (owner blocks k) == u then worst_at funcs blocks k else 0)
+    let z = sum-zero (λ k. if slice_index units (func_of_block blocks k) == u then worst_at funcs blocks k else 0)
     (range_with_len 0 (length blocks)) (λ k some.
     let o_in = owner_inside funcs blocks stretches k (in_range (length blocks) k some) in
-    let u_in = unit_in funcs units are (owner blocks k) o_in in
-    no_value (slice_index units (owner blocks k)) u (worst_at funcs blocks k) (λ e. absurd (let l = are.len in omega arith))) in
+    let u_in = unit_in funcs units are (func_of_block blocks k) o_in in
+    no_value (slice_index units (func_of_block blocks k)) u (worst_at funcs blocks k) (λ e. absurd (let l =
+    are.len in omega arith))) in
     omega arith)
     (cases_lt u (length units))
 
 pub tied_near : (funcs : List Func) (blocks : List Block) (chains : Chains) (pairs : List (ℕ × ℕ × ℕ)) (weight : Block → ℕ)
     (order : List ℕ) → All (IsOfFunction funcs) blocks → (p : IsPlacement funcs blocks chains pairs weight order) →
-    All (λ size. size ≤ 1000000) (by_unit (unit_size funcs p.units blocks) p.units) → HaveAllBlocks funcs blocks chains →
+    AreWithinLimit (by_unit (unit_size funcs p.units blocks) p.units) → HaveAllBlocks funcs blocks chains →
     AreTiedNear funcs blocks order
 tied_near funcs blocks chains pairs weight order stretches p low have i j le lt tied =
     let units = p.units in
@@ -305,13 +312,13 @@ tied_near funcs blocks chains pairs weight order stretches p low have i j le lt 
     let cut = cut_of sizes hot cold line (small_at sizes low) in
     let order_is : order ≡ flat_map (blocks_of hot cold) cut.bands = o.order_is ∙ cut.order_is in
     let all = has_all funcs blocks chains pairs weight order stretches p low have in
-    let inside : (m : ℕ) → m < length order → owner blocks (slice_index order m) < length funcs = λ m m_lt.
+    let inside : (m : ℕ) → m < length order → func_of_block blocks (slice_index order m) < length funcs = λ m m_lt.
     let stands = times-get_or order m 0 m_lt in
     let e = times-IsPermutation (slice_index order m) (range_with_len 0 (length blocks)) order all in
     owner_inside funcs blocks stretches (slice_index order m) (in_range (length blocks) (slice_index order m) (omega arith)) in
     let count = length-map-range_with_len
     (λ (u : ℕ). sum_by (λ (b : Block). if slice_index units b.func == u then weight b else 0) blocks) 0 (length units) in
-    let owned : AreOwned (λ k. slice_index units (owner blocks k)) (worst_at funcs blocks) sizes hot cold = record {
+    let owned : AreOwned (λ k. slice_index units (func_of_block blocks k)) (worst_at funcs blocks) sizes hot cold = record {
       hot_own = part_owner funcs blocks chains units (hot_of chains) are
           (λ k f f_in some. function_owner funcs blocks chains have k f f_in (omega arith));
       cold_own = part_owner funcs blocks chains units (cold_of chains) are
@@ -324,10 +331,11 @@ tied_near funcs blocks chains pairs weight order stretches p low have i j le lt 
     ap (times u) cut.line_is ∙ line_times o u ∙ ap (λ (m : ℕ). times u (range_with_len 0 m)) count in
     ⊎_elim (λ (u_lt : u < length units). let t = times-range_in u (length units) u_lt in omega arith)
     (λ (ge : length units ≤ u). let t = times-range_out u (length units) ge in omega arith) (cases_lt u (length units)) in
-    let same_unit : slice_index units (owner blocks (slice_index order i))
-    ≡ slice_index units (owner blocks (slice_index order j)) = one_unit funcs units (owner blocks (slice_index order i))
-    (owner blocks (slice_index order j)) are (inside i (omega arith)) (inside j lt) tied in
+    let same_unit : slice_index units (func_of_block blocks (slice_index order i))
+    ≡ slice_index units (func_of_block blocks (slice_index order j)) =
+    one_unit funcs units (func_of_block blocks (slice_index order i))
+    (func_of_block blocks (slice_index order j)) are (inside i (omega arith)) (inside j lt) tied in
     let P : List ℕ → Type 0 = λ xs. j < length xs →
-    slice_index units (owner blocks (slice_index xs i)) ≡ slice_index units (owner blocks (slice_index xs j)) →
-    sum_by (worst_at funcs blocks) (take (j + 1 - i) (drop i xs)) ≤ limit in
+    slice_index units (func_of_block blocks (slice_index xs i)) ≡ slice_index units (func_of_block blocks (slice_index xs j)) →
+    sum_by (worst_at funcs blocks) (take (j + 1 - i) (drop i xs)) ≤ near_limit in
     subst P (sym order_is) (units_near owned cut.bands cut.low once i j le) lt same_unit

@@ -14,11 +14,12 @@ use Rattle.rv_code.specs.declared.placed.Placed.{Placed}
 use Rattle.rv_code.specs.declared.placed.Func.{Func}
 use Rattle.rv_code.specs.declared.placed.Block.{Block}
 use Rattle.rv_code.specs.layout.FunctionLists.{AreLaidOut}
-use Rattle.func_place.specs.Clusters.{limit}
+use Rattle.rv_code.specs.layout.WorstSizes.{near_limit}
 use Rattle.func_place.specs.Faults.{IsLongUnit, IsKeptBranch, leaves, HasPlacementFault}
 use Rattle.func_place.specs.Units.{AreUnits, unit_size, by_unit}
 use Rattle.func_place.specs.internal.FirstFaults.{IsFirstLong, IsFirstKept, StaysIn}
 use Rattle.func_place.proofs.InstOrder.{inst_order, inst_order-within}
+use Rattle.func_place.specs.Clusters.{AreWithinLimit}
 
 -- there is one list of units
 pub one_list : (funcs : List Func) (xs ys : List ℕ) → AreUnits funcs xs → AreUnits funcs ys → xs ≡ ys
@@ -35,7 +36,8 @@ size_of funcs blocks units sizes u are is u_in = ap (λ (xs : List ℕ). slice_i
 
 -- a unit that is too long is one by any list of units
 long_size : (funcs : List Func) (blocks : List Block) (units sizes : List ℕ) (place : ℕ) → AreUnits funcs units → sizes
-    ≡ by_unit (unit_size funcs units blocks) units → (long : IsLongUnit funcs blocks place) → limit < slice_index sizes long.unit
+    ≡ by_unit (unit_size funcs units blocks) units → (long : IsLongUnit funcs blocks place) →
+    near_limit < slice_index sizes long.unit
 long_size funcs blocks units sizes place are is long =
     let inside = slice_get_within funcs long.unit long.func long.first in
     let same_units = one_list funcs long.units units long.are_units are in
@@ -46,7 +48,7 @@ long_size funcs blocks units sizes place are is long =
     omega arith
 
 pub no_long : (funcs : List Func) (blocks : List Block) (units sizes : List ℕ) → AreUnits funcs units →
-    sizes ≡ by_unit (unit_size funcs units blocks) units → All (λ size. size ≤ 1000000) sizes → (place : ℕ) →
+    sizes ≡ by_unit (unit_size funcs units blocks) units → AreWithinLimit sizes → (place : ℕ) →
     IsLongUnit funcs blocks place → ⊥
 no_long funcs blocks units sizes are is low place long =
     let large = long_size funcs blocks units sizes place are is long in

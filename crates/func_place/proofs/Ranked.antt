@@ -8,9 +8,9 @@ use Rattle.std.proofs.lemmas.List.Elements.{filter_more, All-push}
 use Rattle.std.proofs.lemmas.List.Sorted.{IsPermutation-map, All-permutation}
 use Rattle.func_place.specs.declared.ranks.Rank.{Rank}
 use Rattle.func_place.specs.Clusters.{total}
-use Rattle.func_place.specs.Ranks.{IsInOrder, begins, heads, denser, denser_by}
-use Rattle.func_place.specs.internal.Grouping.{group_of}
-use Rattle.func_place.specs.internal.ClusterState.{State, Keeps, count_of, size_at, heat_at}
+use Rattle.func_place.specs.Ranks.{IsInOrder, begins, denser, denser_by, cluster_heads}
+use Rattle.func_place.specs.internal.Groups.{group_of}
+use Rattle.func_place.specs.internal.ClusterState.{Keeps, count_of, size_at, heat_at, ClusterState}
 
 pub one-le-sum : (xs : List ℕ) (q : ℕ) → q < length xs → slice_index xs q ≤ sum xs
 one-le-sum xs q lt = get_or-le-sum_by (λ x. x) xs q 0 lt
@@ -21,7 +21,7 @@ pub record IsRank (sizes heats : List ℕ) (cluster : ℕ → List ℕ) (r : Ran
   pub size : r.size ≡ total sizes (cluster r.unit)
 
 pub record AreRanks (sizes heats : List ℕ) (cluster : ℕ → List ℕ) (taken : List ℕ) (ranks : List Rank) : Type 0 where
-  pub units : map (λ r. r.unit) ranks ≡ heads cluster taken
+  pub units : map (λ r. r.unit) ranks ≡ cluster_heads cluster taken
   pub each : All (IsRank sizes heats cluster) ranks
 
 no_rank : Rank
@@ -31,14 +31,15 @@ pub none_ranked : (sizes heats : List ℕ) (cluster : ℕ → List ℕ) (taken :
 none_ranked sizes heats cluster taken = record { units = refl; each = λ k d lt. absurd (omega arith) }
 
 pub ranks_more : (sizes heats : List ℕ) (cluster : ℕ → List ℕ) (taken : List ℕ) (ranks : List Rank)
-    (state : State) (i : ℕ) (r : Rank) → Keeps sizes heats cluster state → i < length taken → get_or taken i 0 < count_of state
+    (state : ClusterState) (i : ℕ) (r : Rank) → Keeps sizes heats cluster state → i < length taken →
+    get_or taken i 0 < count_of state
     → begins (group_of state.grouping (get_or taken i 0)) (get_or taken i 0) ≡ true
     → r.unit ≡ get_or taken i 0 → r.heat ≡ heat_at state (get_or taken i 0) → r.size ≡ size_at state (get_or taken i 0)
     → AreRanks sizes heats cluster (take i taken) ranks → AreRanks sizes heats cluster (take (i + 1) taken) (ranks ++ r ∷ [])
 ranks_more sizes heats cluster taken ranks state i r k lt u_in first unit heat size a =
     let u = get_or taken i 0 in
     let yes_it : begins (cluster u) u ≡ true = rw (← k.list u u_in) first in
-    let more : heads cluster (take (i + 1) taken) ≡ heads cluster (take i taken) ++ u ∷ [] =
+    let more : cluster_heads cluster (take (i + 1) taken) ≡ cluster_heads cluster (take i taken) ++ u ∷ [] =
     filter_more (λ u. begins (cluster u) u) taken i 0 lt ∙ rw yes_it refl in
     record {
       units = map-append (λ (r : Rank). r.unit) ranks (r ∷ []) ∙ rw (a.units, unit, more) refl;
@@ -48,21 +49,21 @@ ranks_more sizes heats cluster taken ranks state i r k lt u_in first unit heat s
       });
     }
 
-pub ranks_skip : (sizes heats : List ℕ) (cluster : ℕ → List ℕ) (taken : List ℕ) (ranks : List Rank) (state : State) (i : ℕ)
+pub ranks_skip : (sizes heats : List ℕ) (cluster : ℕ → List ℕ) (taken : List ℕ) (ranks : List Rank) (state : ClusterState) (i : ℕ)
     → Keeps sizes heats cluster state → i < length taken → get_or taken i 0 < count_of state
     → begins (group_of state.grouping (get_or taken i 0)) (get_or taken i 0) ≡ false
     → AreRanks sizes heats cluster (take i taken) ranks → AreRanks sizes heats cluster (take (i + 1) taken) ranks
 ranks_skip sizes heats cluster taken ranks state i k lt u_in first a =
     let u = get_or taken i 0 in
     let not_it : begins (cluster u) u ≡ false = rw (← k.list u u_in) first in
-    let more : heads cluster (take (i + 1) taken) ≡ heads cluster (take i taken) =
+    let more : cluster_heads cluster (take (i + 1) taken) ≡ cluster_heads cluster (take i taken) =
     filter_more (λ u. begins (cluster u) u) taken i 0 lt ∙ rw not_it (append-nil _) in
     record { units = rw more a.units; each = a.each }
 
 pub ranks_sorted : (sizes heats : List ℕ) (cluster : ℕ → List ℕ) (taken : List ℕ) (ranks sorted : List Rank)
     → AreRanks sizes heats cluster taken ranks
     → IsInOrder (λ a b. denser_by a.heat a.size a.unit b.heat b.size b.unit) ranks sorted
-    → IsInOrder (denser sizes heats cluster) (heads cluster taken) (map (λ r. r.unit) sorted)
+    → IsInOrder (denser sizes heats cluster) (cluster_heads cluster taken) (map (λ r. r.unit) sorted)
 ranks_sorted sizes heats cluster taken ranks sorted a o =
     let all : All (IsRank sizes heats cluster) sorted = All-permutation (IsRank sizes heats cluster) ranks sorted o.each a.each in
     record {

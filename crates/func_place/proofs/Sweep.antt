@@ -7,19 +7,19 @@ use Rattle.std.proofs.lemmas.Grind.{common_steps}
 use Rattle.std.proofs.lemmas.Bool.{cases_eq, cases_lt, cases_Bool}
 use Rattle.std.proofs.lemmas.List.{get_or-take, length-take-le}
 use Rattle.std.proofs.lemmas.List.Sums.{sum_by_more, sum_by_more_le_part}
-use Rattle.func_place.specs.declared.calls.Call.{Call}
+use Rattle.func_place.specs.declared.calls.UnitCall.{UnitCall}
 use Rattle.func_place.specs.Calls.{calls_between}
-use Rattle.func_place.specs.internal.Heaviest.{IsUpTo, AreByCallee, more_of}
+use Rattle.func_place.specs.internal.HeaviestCallers.{IsUpTo, AreByCallee, more_of}
 use Rattle.func_place.proofs.Heaviest.{call_at, IsHeaviest, occurs}
 
 -- One more call.
 
-abbrev added : Call → ℕ → ℕ → ℕ
+abbrev added : UnitCall → ℕ → ℕ → ℕ
 added call w u = if (call.from == w) && (call.to == u) then call.count else 0
 
-sum_more : (calls : List Call) (i w u : ℕ) → i < length calls →
+sum_more : (calls : List UnitCall) (i w u : ℕ) → i < length calls →
     calls_between (take (i + 1) calls) w u ≡ calls_between (take i calls) w u + added (call_at calls i) w u
-sum_more calls i w u lt = sum_by_more (λ (c : Call). added c w u) calls i (record { from = 0; to = 0; count = 0 }) lt
+sum_more calls i w u lt = sum_by_more (λ (c : UnitCall). added c w u) calls i (record { from = 0; to = 0; count = 0 }) lt
 
 none_added : (a b x y c : ℕ) → (a ≢ x) ⊎ (b ≢ y) → (if (a == x) && (b == y) then c else 0) ≡ 0
 none_added a b x y c (inl ne) = grind (arith, common_steps)
@@ -33,13 +33,13 @@ at_most true c = omega arith
 at_most false c = omega arith
 
 -- with one more call a sum is still within that of all
-pub within_all : (calls : List Call) (i w u : ℕ) → i < length calls →
+pub within_all : (calls : List UnitCall) (i w u : ℕ) → i < length calls →
     calls_between (take i calls) w u + (call_at calls i).count ≤ sum_by (λ c. c.count) calls
-within_all calls i w u lt = sum_by_more_le_part (λ (c : Call). added c w u) (λ (c : Call). c.count) calls i
+within_all calls i w u lt = sum_by_more_le_part (λ (c : UnitCall). added c w u) (λ (c : UnitCall). c.count) calls i
     (record { from = 0; to = 0; count = 0 }) lt (λ c. at_most ((c.from == w) && (c.to == u)) c.count)
 
 -- what is counted by the first calls stands among them
-pub occurs_before : (calls : List Call) (i w u : ℕ) → i ≤ length calls → 0 < calls_between (take i calls) w u →
+pub occurs_before : (calls : List UnitCall) (i w u : ℕ) → i ≤ length calls → 0 < calls_between (take i calls) w u →
     (k : ℕ) × (k < i) × ((call_at calls k).from ≡ w) × ((call_at calls k).to ≡ u)
 occurs_before calls i w u le some =
     let k = occurs (take i calls) w u some in
@@ -47,16 +47,16 @@ occurs_before calls i w u le some =
     let lt : k.0 < i = omega (arith, k.1) in
     let same : call_at (take i calls) k.0 ≡ call_at calls k.0 =
     get_or-take i calls k.0 (record { from = 0; to = 0; count = 0 }) lt in
-    (k.0, lt, ap (λ (c : Call). c.from) (sym same) ∙ k.2, ap (λ (c : Call). c.to) (sym same) ∙ k.3)
+    (k.0, lt, ap (λ (c : UnitCall). c.from) (sym same) ∙ k.2, ap (λ (c : UnitCall). c.to) (sym same) ∙ k.3)
 
 -- The pair that was counted last, with its sum so far.
 
-pub record IsRun (calls : List Call) (i : ℕ) (run : Call) : Type 0 where
+pub record IsRun (calls : List UnitCall) (i : ℕ) (run : UnitCall) : Type 0 where
   pub count : run.count ≡ calls_between (take i calls) run.from run.to
   pub before : (k : ℕ) → k < i → IsUpTo (call_at calls k) run
   pub after : (k : ℕ) → i ≤ k → k < length calls → IsUpTo run (call_at calls k)
 
-pub first_run : (calls : List Call) → IsRun calls 0 (record { from = 0; to = 0; count = 0 })
+pub first_run : (calls : List UnitCall) → IsRun calls 0 (record { from = 0; to = 0; count = 0 })
 first_run calls = record {
   count = refl;
   before = λ k lt. absurd (omega arith);
@@ -70,7 +70,7 @@ other_ends : (a b x y : ℕ) → ((a == x) && (b == y)) ≡ false → a ≡ x �
 other_ends a b x y h p q = grind (arith, common_steps)
 
 -- the next pair wasn't counted yet
-nothing_yet : (calls : List Call) (i : ℕ) (run : Call) → i < length calls → IsRun calls i run →
+nothing_yet : (calls : List UnitCall) (i : ℕ) (run : UnitCall) → i < length calls → IsRun calls i run →
     ((run.from == (call_at calls i).from) && (run.to == (call_at calls i).to)) ≡ false →
     calls_between (take i calls) (call_at calls i).from (call_at calls i).to ≡ 0
 nothing_yet calls i run lt r other =
@@ -92,11 +92,11 @@ nothing_yet calls i run lt r other =
     absurd (other_ends run.from run.to call.from call.to other one_from one_to))
     (cases_eq (calls_between (take i calls) call.from call.to) 0)
 
-pub run_step : (calls : List Call) (i : ℕ) (run : Call) → AreByCallee calls → i < length calls → IsRun calls i run →
+pub run_step : (calls : List UnitCall) (i : ℕ) (run : UnitCall) → AreByCallee calls → i < length calls → IsRun calls i run →
     IsRun calls (i + 1) (more_of run (call_at calls i))
 run_step calls i run ordered lt r =
     let call = call_at calls i in
-    let none : Call = record { from = 0; to = 0; count = 0 } in
+    let none : UnitCall = record { from = 0; to = 0; count = 0 } in
     record {
       count = ⊎_elim
           (λ (h : ((run.from == call.from) && (run.to == call.to)) ≡ true).
@@ -185,13 +185,13 @@ same_top Other f g most best same t = subst (λ (h : ℕ → ℕ). IsTopOf Other
 abbrev pub MayCall : List ℕ → ℕ → ℕ → Type 0
 MayCall heats u w = (w ≢ u) × (0 < slice_index heats w)
 
-pub record AreTops (heats : List ℕ) (calls : List Call) (best : List (Option ℕ)) (most : List ℕ) : Type 0 where
+pub record AreTops (heats : List ℕ) (calls : List UnitCall) (best : List (Option ℕ)) (most : List ℕ) : Type 0 where
   pub best_len : length best ≡ length heats
   pub most_len : length most ≡ length heats
   pub top : (u : ℕ) → u < length heats →
       IsTopOf (MayCall heats u) (λ w. calls_between calls w u) (get_or best u None) (slice_index most u)
 
-pub tops_take : (heats : List ℕ) (calls : List Call) (i : ℕ) (best : List (Option ℕ)) (most : List ℕ) (r : Call) →
+pub tops_take : (heats : List ℕ) (calls : List UnitCall) (i : ℕ) (best : List (Option ℕ)) (most : List ℕ) (r : UnitCall) →
     i < length calls → r.from ≡ (call_at calls i).from → r.to ≡ (call_at calls i).to → IsRun calls (i + 1) r →
     AreTops heats (take i calls) best most → r.to < length heats → r.from ≢ r.to → 0 < slice_index heats r.from →
     slice_index most r.to < r.count → AreTops heats (take (i + 1) calls) (set best r.to (Some r.from)) (set most r.to r.count)
@@ -225,7 +225,7 @@ tops_take heats calls i best most r lt from_is to_is run t to_in ne hot more =
           (cases_eq u r.to);
     }
 
-pub tops_keep : (heats : List ℕ) (calls : List Call) (i : ℕ) (best : List (Option ℕ)) (most : List ℕ) (r : Call) →
+pub tops_keep : (heats : List ℕ) (calls : List UnitCall) (i : ℕ) (best : List (Option ℕ)) (most : List ℕ) (r : UnitCall) →
     AreByCallee calls → i < length calls → r.from ≡ (call_at calls i).from → r.to ≡ (call_at calls i).to → IsRun calls (i + 1) r →
     AreTops heats (take i calls) best most → (MayCall heats r.to r.from → ⊥) ⊎ (r.count ≤ slice_index most r.to) →
     AreTops heats (take (i + 1) calls) best most
@@ -284,7 +284,7 @@ no_tops heats best most best_len most_len none zero = record {
       };
 }
 
-top_heaviest : (heats : List ℕ) (calls : List Call) (u most : ℕ) (best : Option ℕ) →
+top_heaviest : (heats : List ℕ) (calls : List UnitCall) (u most : ℕ) (best : Option ℕ) →
     IsTopOf (MayCall heats u) (λ w. calls_between calls w u) best most → IsHeaviest heats calls u best
 top_heaviest heats calls u most None t = λ w c. let le = t.bound w (c.other, c.hot) in
     let zero = t.none refl in
@@ -301,7 +301,7 @@ top_heaviest heats calls u most (Some v) t =
           (cases_lt (calls_between calls w u) (calls_between calls v u)),
     )
 
-pub heaviest_by_tops : (heats : List ℕ) (calls : List Call) (best : List (Option ℕ)) (most : List ℕ) →
+pub heaviest_by_tops : (heats : List ℕ) (calls : List UnitCall) (best : List (Option ℕ)) (most : List ℕ) →
     AreTops heats calls best most → (u : ℕ) → u < length heats → IsHeaviest heats calls u (get_or best u None)
 heaviest_by_tops heats calls best most t u u_in =
     top_heaviest heats calls u (slice_index most u) (get_or best u None) (t.top u u_in)

@@ -3,7 +3,7 @@ use Rattle.std.proofs.Common.{subst, ℕ, ◌≡◌, ◌≢◌, ◌⊎◌, ◌<�
 use Rattle.std.specs.Prelude.{◌==◌, slice_index, if◌then◌else◌}
 use Rattle.std.proofs.lemmas.Bool.{cases_eq}
 use Rattle.std.proofs.lemmas.Grind.{common_steps}
-use Rattle.func_place.specs.internal.Grouping.{Grouping, IsGrouped}
+use Rattle.func_place.specs.internal.Groups.{Grouping, IsGrouped}
 use Rattle.func_place.specs.internal.TieList.{tie_at, Touch, AreTogether, same, more, Agrees}
 use Rattle.func_place.proofs.GroupMoves.{IsJoined, count_new, number_new}
 

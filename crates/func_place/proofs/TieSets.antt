@@ -7,9 +7,9 @@ use Rattle.std.proofs.lemmas.Option.{slice_get_within, same_Some}
 use Rattle.rv_code.specs.declared.placed.Placed.{Placed}
 use Rattle.rv_code.specs.declared.placed.Func.{Func}
 use Rattle.rv_code.specs.layout.Blocks.{inst_at}
-use Rattle.rv_code.specs.layout.Flow.{target_of, falls_at}
-use Rattle.rv_code.specs.layout.InFunctions.{function_at}
-use Rattle.func_place.specs.Units.{Leads, jumps, falls_into}
+use Rattle.rv_code.specs.layout.Flow.{target_of, falls_at, fall_target}
+use Rattle.rv_code.specs.layout.FunctionMembers.{function_at}
+use Rattle.func_place.specs.Units.{jumps, falls_into, LeadsNear}
 use Rattle.func_place.specs.internal.TieList.{TiesAt, TiesFrom, TiesOf, Ties}
 
 -- One instruction: its target and where it falls.
@@ -18,15 +18,12 @@ use Rattle.func_place.specs.internal.TieList.{TiesAt, TiesFrom, TiesOf, Ties}
 abbrev pub TiesTo : List Func → ℕ → Option ℕ → ℕ × ℕ → Type 0
 TiesTo funcs f to t = (a : ℕ) × (to ≡ Some a) × TiesAt funcs f a t
 
-abbrev pub fall_at : Func → ℕ → Placed → Option ℕ
-fall_at func i p = if falls_at func i p then Some (p.addr + p.len) else None
-
 fall_back : (b : Bool) (n a : ℕ) → (if b then Some n else None) ≡ Some a → (b ≡ true) × (n ≡ a)
 fall_back true n a e = (refl, same_Some n a e)
 fall_back false n a e = absurd (cc)
 
 pub from_both : (funcs : List Func) (f i : ℕ) (func : Func) (p : Placed) → slice_get funcs f ≡ Some func → inst_at func i
-    ≡ Some p → (t : ℕ × ℕ) → (TiesTo funcs f (target_of p) t ⊎ TiesTo funcs f (fall_at func i p) t) ↔ TiesFrom funcs f i t
+    ≡ Some p → (t : ℕ × ℕ) → (TiesTo funcs f (target_of p) t ⊎ TiesTo funcs f (fall_target func i p) t) ↔ TiesFrom funcs f i t
 from_both funcs f i func p is_func is_inst t = (
   ⊎_elim
       (λ (a, is, ties).
@@ -38,16 +35,16 @@ from_both funcs f i func p is_func is_inst t = (
       let same_func : from.func ≡ func = same_Some from.func func (sym from.is_func ∙ is_func) in
       let same_inst : from.inst ≡ p =
       same_Some from.inst p (sym from.is_inst ∙ ap (λ (g : Func). inst_at g i) same_func ∙ is_inst) in
-      let leads : Leads func i p from.to = subst (λ (q : Placed). Leads func i q from.to) same_inst
-      (subst (λ (g : Func). Leads g i from.inst from.to) same_func from.leads) in
+      let leads : LeadsNear func i p from.to = subst (λ (q : Placed). LeadsNear func i q from.to) same_inst
+      (subst (λ (g : Func). LeadsNear g i from.inst from.to) same_func from.leads) in
       split from.to from.ties leads),
 )
   where
     falls_true : (b : Bool) (n : ℕ) → IsTrue b → (if b then Some n else None) ≡ Some n
     falls_true b n h = rw h refl
 
-    split : (to : ℕ) → TiesAt funcs f to t → Leads func i p to →
-        TiesTo funcs f (target_of p) t ⊎ TiesTo funcs f (fall_at func i p) t
+    split : (to : ℕ) → TiesAt funcs f to t → LeadsNear func i p to →
+        TiesTo funcs f (target_of p) t ⊎ TiesTo funcs f (fall_target func i p) t
     split to ties (jumps is) = inl (to, is, ties)
     split to ties (falls_into falls is) = inr (to, falls_true (falls_at func i p) (p.addr + p.len) falls ∙ ap Some is, ties)
 

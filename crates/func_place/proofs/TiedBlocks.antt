@@ -7,8 +7,8 @@ use Rattle.rv_code.specs.declared.placed.Placed.{Placed}
 use Rattle.rv_code.specs.declared.placed.Func.{Func}
 use Rattle.rv_code.specs.layout.Blocks.{inst_at}
 use Rattle.rv_code.specs.layout.FunctionLists.{IsLaidOut, AreLaidOut, HasLength}
-use Rattle.rv_code.specs.layout.InFunctions.{function_at}
-use Rattle.func_place.specs.Units.{Leads, AreTied, itself, onward}
+use Rattle.rv_code.specs.layout.FunctionMembers.{function_at}
+use Rattle.func_place.specs.Units.{AreTied, itself, onward, LeadsNear}
 use Rattle.rv_code.proofs.lists.FunctionAt.{IsAbove, ends_rise, function_at-found}
 use Rattle.rv_code.proofs.lists.Follows.{follow_bounds}
 use Rattle.func_place.proofs.WorstPositive.{has_bytes}
@@ -44,7 +44,7 @@ function_at-inst funcs g y other q are is_other is_q =
 -- an instruction leads to another one: their functions are tied
 pub tied_by_insts : (funcs : List Func) (f g x y : ℕ) (func other : Func) (p q : Placed) → AreLaidOut funcs →
     slice_get funcs f ≡ Some func → slice_get funcs g ≡ Some other → inst_at func x ≡ Some p → inst_at other y ≡ Some q →
-    Leads func x p q.addr → AreTied funcs f g
+    LeadsNear func x p q.addr → AreTied funcs f g
 tied_by_insts funcs f g x y func other p q are is_func is_other is_p is_q leads = onward itself (record {
   func = func;
   is_func = is_func;

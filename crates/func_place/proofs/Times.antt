@@ -9,7 +9,7 @@ use Rattle.std.proofs.lemmas.Bool.{cases_eq, cases_Bool}
 use Rattle.std.proofs.lemmas.List.Sums.{sum_by-cons, sum_by-append}
 use Rattle.std.proofs.lemmas.List.Sorted.{sum_by-IsPermutation, IsPermutation-refl, IsPermutation-cons, IsPermutation-trans}
 use Rattle.std.proofs.lemmas.List.Sorted.{IsPermutation-sym, IsPermutation-remove}
-use Rattle.func_place.specs.Clusters.{has}
+use Rattle.func_place.specs.Clusters.{has_unit}
 
 abbrev pub one_if : Bool → ℕ
 one_if b = if b then 1 else 0
@@ -140,23 +140,23 @@ permutation_from_times (x ∷ xs) ys same =
     (IsPermutation-sym ys (x ∷ remove ys k.0) moved)
 
 -- membership as a test
-none_has : (u : ℕ) → has [] u ≡ true → ⊥
+none_has : (u : ℕ) → has_unit [] u ≡ true → ⊥
 none_has u h = absurd (grind (arith, common_steps))
 
-first_has : (x : ℕ) (xs : List ℕ) → has (x ∷ xs) x ≡ true
+first_has : (x : ℕ) (xs : List ℕ) → has_unit (x ∷ xs) x ≡ true
 first_has x xs = grind (arith, common_steps)
 
-later_has : (x u : ℕ) (xs : List ℕ) → x ≢ u → has (x ∷ xs) u ≡ has xs u
+later_has : (x u : ℕ) (xs : List ℕ) → x ≢ u → has_unit (x ∷ xs) u ≡ has_unit xs u
 later_has x u xs ne = grind (arith, common_steps)
 
-pub has-times : (xs : List ℕ) (u : ℕ) → 0 < times u xs → has xs u ≡ true
+pub has-times : (xs : List ℕ) (u : ℕ) → 0 < times u xs → has_unit xs u ≡ true
 has-times [] u some = absurd (let z = times-nil u in omega arith)
 has-times (x ∷ xs) u some = ⊎_elim
     (λ (e : x ≡ u). rw e (first_has u xs))
     (λ (ne : x ≢ u). later_has x u xs ne ∙ has-times xs u (let t = times-other u x xs ne in omega arith))
     (cases_eq x u)
 
-pub times-has : (xs : List ℕ) (u : ℕ) → has xs u ≡ true → 0 < times u xs
+pub times-has : (xs : List ℕ) (u : ℕ) → has_unit xs u ≡ true → 0 < times u xs
 times-has [] u h = absurd (none_has u h)
 times-has (x ∷ xs) u h = ⊎_elim
     (λ (e : x ≡ u). rw e (let t = times-same u xs in omega arith))

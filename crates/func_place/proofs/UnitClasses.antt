@@ -8,7 +8,7 @@ use Rattle.std.proofs.lemmas.List.Elements.{Contains-get_or}
 use Rattle.std.proofs.lemmas.Option.{slice_get_within}
 use Rattle.rv_code.specs.declared.placed.Func.{Func}
 use Rattle.func_place.specs.Units.{LeadsInto, AreTied, itself, onward, backward, AreUnits}
-use Rattle.func_place.specs.internal.Gains.{Gains}
+use Rattle.rb_bytes.specs.Lists.{Gains}
 use Rattle.func_place.specs.internal.TieList.{tie_at, IsTie, Touch, AreTogether, same, more, Ties}
 use Rattle.rv_code.proofs.lists.FunctionAt.{function_at-within}
 

@@ -9,9 +9,10 @@ use Rattle.std.proofs.lemmas.List.{append-nil, flat_map_more, take-append-le, dr
 use Rattle.std.proofs.lemmas.List.{get_or-append_right, get_or_past, length-append, length-drop, drop-drop}
 use Rattle.std.proofs.lemmas.List.Elements.{All-nil, All-push, All-head, All-tail}
 use Rattle.std.proofs.lemmas.List.Sums.{sum_by-cons, sum_by-append, sum_by_push, sum_by-take-le, sum_by-take-drop}
-use Rattle.func_place.specs.declared.calls.Call.{Call}
+use Rattle.func_place.specs.declared.calls.UnitCall.{UnitCall}
 use Rattle.func_place.specs.Calls.{heaviest_caller, hot_units}
-use Rattle.func_place.specs.Clusters.{alone, limit, total}
+use Rattle.rv_code.specs.layout.WorstSizes.{near_limit}
+use Rattle.func_place.specs.Clusters.{alone, total}
 use Rattle.func_place.specs.Bands.{Bands, put_unit, bands_of, blocks_of, order_of}
 use Rattle.func_place.specs.UnitOrder.{IsUnitOrder, cold_units, unit_clusters}
 use Rattle.func_place.proofs.ClusterParts.{IsClustered, alone_clustered, folded_clustered, ranked_warm, ranked_cold}
@@ -41,11 +42,11 @@ not_cold n h = grind (arith, common_steps)
 is_cold : (n : ℕ) → nat_lt 0 n ≡ false → (n == 0) ≡ true
 is_cold n h = grind (arith, common_steps)
 
-abbrev pub line_of : {sizes heats : List ℕ} {calls : List Call} {hot cold : ℕ → List ℕ} {order : List ℕ} →
+abbrev pub line_of : {sizes heats : List ℕ} {calls : List UnitCall} {hot cold : ℕ → List ℕ} {order : List ℕ} →
     IsUnitOrder sizes heats calls hot cold order → List ℕ
 line_of {sizes} {heats} {calls} o = flat_map (unit_clusters sizes heats calls o.taken) o.ranked ++ cold_units heats
 
-pub line_times : {sizes heats : List ℕ} {calls : List Call} {hot cold : ℕ → List ℕ} {order : List ℕ}
+pub line_times : {sizes heats : List ℕ} {calls : List UnitCall} {hot cold : ℕ → List ℕ} {order : List ℕ}
     (o : IsUnitOrder sizes heats calls hot cold order) (w : ℕ) → times w (line_of o) ≡ times w (range_with_len 0 (length heats))
 line_times {sizes} {heats} {calls} o w =
     let n = length heats in
@@ -83,30 +84,30 @@ flat bands = flat_map (λ b. b) bands
 
 record AreBands (sizes us : List ℕ) (bands : Bands) : Type 0 where
   line : flat bands.0 ++ bands.1 ≡ us
-  low : All (λ b. total sizes b ≤ limit) bands.0
-  last : total sizes bands.1 ≤ limit
+  low : All (λ b. total sizes b ≤ near_limit) bands.0
+  last : total sizes bands.1 ≤ near_limit
 
-over : (n : ℕ) → nat_lt limit n ≡ false → n ≤ limit
+over : (n : ℕ) → nat_lt near_limit n ≡ false → n ≤ near_limit
 over n h = grind (arith, common_steps)
 
-bands_step : (sizes us : List ℕ) (u : ℕ) (bands : Bands) → slice_index sizes u ≤ limit → AreBands sizes us bands →
+bands_step : (sizes us : List ℕ) (u : ℕ) (bands : Bands) → slice_index sizes u ≤ near_limit → AreBands sizes us bands →
     AreBands sizes (us ++ u ∷ []) (put_unit sizes bands u)
 bands_step sizes us u bands small a = ⊎_elim
-    (λ (h : nat_lt limit (total sizes bands.1 + slice_index sizes u) ≡ true). rw h (record {
+    (λ (h : nat_lt near_limit (total sizes bands.1 + slice_index sizes u) ≡ true). rw h (record {
       line = ap (λ (xs : List ℕ). xs ++ u ∷ []) (sym (flat_map_more (λ (b : List ℕ). b) [] bands.0 bands.1) ∙ a.line);
-      low = All-push (λ (b : List ℕ). total sizes b ≤ limit) bands.0 bands.1 a.low a.last;
+      low = All-push (λ (b : List ℕ). total sizes b ≤ near_limit) bands.0 bands.1 a.low a.last;
       last = let one = sum_by-cons (λ (x : ℕ). slice_index sizes x) u [] in omega arith;
     }))
-    (λ (h : nat_lt limit (total sizes bands.1 + slice_index sizes u) ≡ false). rw h (record {
+    (λ (h : nat_lt near_limit (total sizes bands.1 + slice_index sizes u) ≡ false). rw h (record {
       line = sym (append_assoc (flat bands.0) bands.1 (u ∷ [])) ∙ ap (λ (xs : List ℕ). xs ++ u ∷ []) a.line;
       low = a.low;
       last =
           let one = sum_by_push (λ (x : ℕ). slice_index sizes x) bands.1 u in
           let le = over (total sizes bands.1 + slice_index sizes u) h in omega arith;
     }))
-    (cases_Bool (nat_lt limit (total sizes bands.1 + slice_index sizes u)))
+    (cases_Bool (nat_lt near_limit (total sizes bands.1 + slice_index sizes u)))
 
-bands_all : (sizes us done : List ℕ) (bands : Bands) → ((u : ℕ) → slice_index sizes u ≤ limit) → AreBands sizes done bands →
+bands_all : (sizes us done : List ℕ) (bands : Bands) → ((u : ℕ) → slice_index sizes u ≤ near_limit) → AreBands sizes done bands →
     AreBands sizes (done ++ us) (fold (put_unit sizes) bands us)
 bands_all sizes [] done bands small a = subst (λ (xs : List ℕ). AreBands sizes xs bands) (sym (append-nil done)) a
 bands_all sizes (u ∷ us) done bands small a =
@@ -117,19 +118,19 @@ bands_all sizes (u ∷ us) done bands small a =
 pub record AreCut (sizes : List ℕ) (hot cold : ℕ → List ℕ) (line order : List ℕ) : Type 0 where
   pub bands : List (List ℕ)
   pub line_is : flat bands ≡ line
-  pub low : All (λ b. total sizes b ≤ limit) bands
+  pub low : All (λ b. total sizes b ≤ near_limit) bands
   pub order_is : order ≡ flat_map (blocks_of hot cold) bands
 
-pub cut_of : (sizes : List ℕ) (hot cold : ℕ → List ℕ) (line : List ℕ) → ((u : ℕ) → slice_index sizes u ≤ limit) →
+pub cut_of : (sizes : List ℕ) (hot cold : ℕ → List ℕ) (line : List ℕ) → ((u : ℕ) → slice_index sizes u ≤ near_limit) →
     AreCut sizes hot cold line (order_of sizes hot cold line)
 cut_of sizes hot cold line small =
     let bands = bands_of sizes line in
     let a = bands_all sizes line [] ([], []) small
-    (record { line = refl; low = All-nil (λ (b : List ℕ). total sizes b ≤ limit); last = omega arith }) in
+    (record { line = refl; low = All-nil (λ (b : List ℕ). total sizes b ≤ near_limit); last = omega arith }) in
     record {
       bands = bands.0 ++ bands.1 ∷ [];
       line_is = sym (flat_map_more (λ (b : List ℕ). b) [] bands.0 bands.1) ∙ a.line;
-      low = All-push (λ (b : List ℕ). total sizes b ≤ limit) bands.0 bands.1 a.low a.last;
+      low = All-push (λ (b : List ℕ). total sizes b ≤ near_limit) bands.0 bands.1 a.low a.last;
       order_is = flat_map_more (blocks_of hot cold) [] bands.0 bands.1;
     }
 
@@ -228,10 +229,11 @@ segment_back xs ys i n le =
     ap (take n) (split ∙ ap (drop (i - length xs)) (drop_at xs ys (length xs) refl))
 
 pub units_near : {owner weight : ℕ → ℕ} {sizes : List ℕ} {hot cold : ℕ → List ℕ} → AreOwned owner weight sizes hot cold →
-    (bands : List (List ℕ)) → All (λ b. total sizes b ≤ limit) bands → ((u : ℕ) → times u (flat bands) ≤ 1) → (i j : ℕ) → i ≤ j →
+    (bands : List (List ℕ)) → All (λ b. total sizes b ≤ near_limit) bands → ((u : ℕ) → times u (flat bands) ≤ 1) → (i j : ℕ) →
+    i ≤ j →
     j < length (flat_map (blocks_of hot cold) bands) →
     owner (slice_index (flat_map (blocks_of hot cold) bands) i) ≡ owner (slice_index (flat_map (blocks_of hot cold) bands) j) →
-    sum_by weight (take (j + 1 - i) (drop i (flat_map (blocks_of hot cold) bands))) ≤ limit
+    sum_by weight (take (j + 1 - i) (drop i (flat_map (blocks_of hot cold) bands))) ≤ near_limit
 units_near a [] low once i j le lt same = absurd (omega arith)
 units_near {owner} {weight} {sizes} {hot} {cold} a (b ∷ bs) low once i j le lt same =
     let xs = blocks_of hot cold b in
@@ -241,7 +243,7 @@ units_near {owner} {weight} {sizes} {hot} {cold} a (b ∷ bs) low once i j le lt
     (λ (front : j < length xs).
     let parts = band_parts a b in
     let sum = sum_by-append weight (flat_map hot b) (flat_map cold b) in
-    let small = All-head (λ (band : List ℕ). total sizes band ≤ limit) b bs low in
+    let small = All-head (λ (band : List ℕ). total sizes band ≤ near_limit) b bs low in
     let part = segment_le weight xs i (j + 1 - i) in
     rw (segment_front xs ys i (j + 1 - i) (omega arith)) (omega arith))
     (λ (late : length xs ≤ j). ⊎_elim
@@ -259,11 +261,11 @@ units_near {owner} {weight} {sizes} {hot} {cold} a (b ∷ bs) low once i j le lt
     (λ (back : length xs ≤ i).
     let i_is : slice_index (xs ++ ys) i ≡ slice_index ys (i - length xs) = get_or-append_right xs ys (length xs) i 0 refl back in
     let j_is : slice_index (xs ++ ys) j ≡ slice_index ys (j - length xs) = get_or-append_right xs ys (length xs) j 0 refl late in
-    let rest = units_near a bs (All-tail (λ (band : List ℕ). total sizes band ≤ limit) b bs low)
+    let rest = units_near a bs (All-tail (λ (band : List ℕ). total sizes band ≤ near_limit) b bs low)
     (λ u. let t = times-append u b (flat bs) in let o = once u in omega arith) (i - length xs) (j - length xs) (omega arith)
     (omega arith) (ap owner (sym i_is) ∙ same ∙ ap owner j_is) in
     let n_is : j - length xs + 1 - (i - length xs) ≡ j + 1 - i = omega arith in
     rw (segment_back xs ys i (j + 1 - i) back)
-    (subst (λ (n : ℕ). sum_by weight (take n (drop (i - length xs) ys)) ≤ limit) n_is rest))
+    (subst (λ (n : ℕ). sum_by weight (take n (drop (i - length xs) ys)) ≤ near_limit) n_is rest))
     (cases_lt i (length xs)))
     (cases_lt j (length xs))

@@ -11,7 +11,7 @@ use Rattle.std.proofs.lemmas.List.FromFn.{fill_by_all}
 use Rattle.std.proofs.lemmas.List.Sums.{sum_by_more, sum_by_more_le, sum_by-cons, sum_by-set}
 use Rattle.rv_code.specs.declared.placed.Block.{Block}
 use Rattle.func_place.specs.Units.{unit_sum, by_unit}
-use Rattle.func_place.specs.internal.Grouping.{list_at}
+use Rattle.func_place.specs.internal.Groups.{list_at}
 use Rattle.func_place.proofs.Ranking.{filter_more}
 
 abbrev pub no_block : Block

@@ -16,7 +16,7 @@ use Rattle.rv_code.specs.layout.Blocks.{func_of}
 use Rattle.rv_code.specs.layout.Flow.{action_at}
 use Rattle.rv_code.specs.layout.FunctionLists.{HasLength, IsLaidOut, AreLaidOut}
 use Rattle.rv_code.specs.layout.WorstSizes.{worst_length, worst_block_size, worst_size_of_block}
-use Rattle.rv_code.specs.layout.InFunctions.{IsOfFunction}
+use Rattle.rv_code.specs.layout.FunctionMembers.{IsOfFunction}
 use Rattle.func_place.specs.Units.{unit_sum}
 
 pub has_bytes : (p : Placed) → HasLength p → 0 < p.len

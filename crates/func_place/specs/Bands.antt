@@ -2,7 +2,8 @@
 -- Each has the hot parts of its units before the cold ones.
 use Rattle.std.specs.Prelude.{ℕ, ◌+◌, if◌then◌else◌, nat_lt, List, [], ◌∷◌, ◌++◌, slice_index}
 use Rattle.std.specs.List.{fold, flat_map}
-use Rattle.func_place.specs.Clusters.{limit, total}
+use Rattle.rv_code.specs.layout.WorstSizes.{near_limit}
+use Rattle.func_place.specs.Clusters.{total}
 
 -- the bands that are complete, and the current one
 abbrev pub Bands : Type 0
@@ -11,7 +12,7 @@ Bands = List (List ℕ) × List ℕ
 -- a unit opens a new band where the current one would pass the limit
 abbrev pub put_unit : List ℕ → Bands → ℕ → Bands
 put_unit sizes bands u =
-    if nat_lt limit (total sizes bands.1 + slice_index sizes u)
+    if nat_lt near_limit (total sizes bands.1 + slice_index sizes u)
     then (bands.0 ++ bands.1 ∷ [], u ∷ [])
     else (bands.0, bands.1 ++ u ∷ [])
 

@@ -1,16 +1,17 @@
 -- Clusters of units, by call-chain clustering: each hot unit's cluster goes behind that of the unit which
 -- calls it most, if both together are small enough.
 use Rattle.std.specs.Prelude.{ℕ, ◌+◌, ◌==◌, ◌&&◌, if◌then◌else◌, Bool, not, nat_le, List, [], ◌∷◌, ◌++◌, Option, sum_by}
-use Rattle.std.specs.Prelude.{slice_index}
+use Rattle.std.specs.Prelude.{◌≤◌, All, slice_index}
 use Rattle.std.specs.List.{fold, list_any}
 use Rattle.std.specs.Option.{option_map_or}
+use Rattle.rv_code.specs.layout.WorstSizes.{near_limit}
 
--- the most bytes of worst size that a unit, a cluster or a band may have
-abbrev pub limit : ℕ
-limit = 1000000
+-- A unit, a cluster or a band has at most this worst size.
+abbrev pub AreWithinLimit : List ℕ → Type 0
+AreWithinLimit sizes = All (λ size. size ≤ near_limit) sizes
 
-abbrev pub has : List ℕ → ℕ → Bool
-has units u = list_any (λ v. v == u) units
+abbrev pub has_unit : List ℕ → ℕ → Bool
+has_unit units u = list_any (λ v. v == u) units
 
 -- the sum of the sizes, or heats, of some units
 abbrev pub total : List ℕ → List ℕ → ℕ
@@ -23,12 +24,12 @@ alone u = u ∷ []
 
 -- a and b have become one cluster, in which b follows a
 abbrev pub joined_clusters : List ℕ → List ℕ → (ℕ → List ℕ) → ℕ → List ℕ
-joined_clusters a b cluster u = if has (a ++ b) u then a ++ b else cluster u
+joined_clusters a b cluster u = if has_unit (a ++ b) u then a ++ b else cluster u
 
 -- u's cluster b goes behind its caller's cluster a, where that is another one and both have at most the limit
 abbrev pub appended : List ℕ → List ℕ → List ℕ → ℕ → (ℕ → List ℕ) → ℕ → List ℕ
 appended sizes a b u cluster =
-    if not (has a u) && nat_le (total sizes a + total sizes b) limit then joined_clusters a b cluster else cluster
+    if not (has_unit a u) && nat_le (total sizes a + total sizes b) near_limit then joined_clusters a b cluster else cluster
 
 -- one unit is taken
 abbrev pub take_unit : List ℕ → (ℕ → Option ℕ) → (ℕ → List ℕ) → ℕ → ℕ → List ℕ

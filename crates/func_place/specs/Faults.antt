@@ -1,14 +1,14 @@
 -- What keeps code from being placed, and where.
-use Rattle.std.specs.Prelude.{◌≡◌, ℕ, ◌<◌, ◌==◌, ◌&&◌, ◌||◌, Bool, false, not, IsTrue, List, Some, Any, slice_get}
+use Rattle.std.specs.Prelude.{◌≡◌, ℕ, ◌<◌, ◌&&◌, Bool, false, not, IsTrue, List, Some, Any, slice_get}
 use Rattle.std.specs.Option.{option_map_or}
 use Rattle.rb_bytes.specs.declared.fault.FaultKind.{FaultKind}
 use Rattle.rb_bytes.specs.declared.fault.FaultKind.TheVariants.{UnitTooLong, KeptBranch}
 use Rattle.rv_code.specs.declared.placed.Placed.{Placed}
 use Rattle.rv_code.specs.declared.placed.Func.{Func}
 use Rattle.rv_code.specs.declared.placed.Block.{Block}
-use Rattle.rv_code.specs.layout.Flow.{action_at, target_of, is_branch}
-use Rattle.func_place.specs.Clusters.{limit}
-use Rattle.rv_code.specs.layout.InFunctions.{holds}
+use Rattle.rv_code.specs.layout.Flow.{target_of, is_short}
+use Rattle.rv_code.specs.layout.WorstSizes.{near_limit}
+use Rattle.rv_code.specs.layout.FunctionMembers.{func_holds}
 use Rattle.func_place.specs.Units.{AreUnits, unit_size}
 
 -- A unit is longer than a branch may reach. Its place is its lowest address.
@@ -19,15 +19,11 @@ pub record IsLongUnit (funcs : List Func) (blocks : List Block) (place : ℕ) : 
   pub func : Func
   pub first : slice_get funcs unit ≡ Some func
   pub start : func.start ≡ place
-  pub long : limit < unit_size funcs units blocks unit
+  pub long : near_limit < unit_size funcs units blocks unit
 
--- a conditional branch, or a jump of two bytes (C.J): it can't reach as far as a JAL
-abbrev pub is_short : Placed → Bool
-is_short p = is_branch (action_at p) || (p.len == 2)
-
--- such an instruction goes out of its function, which keeps its inner bytes
+-- what reaches less far than a JAL goes out of its function, which keeps its inner bytes
 abbrev pub leaves : Func → Placed → Bool
-leaves func p = (func.whole && is_short p) && option_map_or (λ a. not (holds a func)) (target_of p) false
+leaves func p = (func.whole && is_short p) && option_map_or (λ a. not (func_holds a func)) (target_of p) false
 
 abbrev pub IsKeptBranch : List Func → ℕ → Type 0
 IsKeptBranch funcs place = Any (λ func. Any (λ p. (p.addr ≡ place) × IsTrue (leaves func p)) func.insts.items) funcs

@@ -1,18 +1,19 @@
 -- The order of all blocks in the new code.
-use Rattle.std.specs.Prelude.{ℕ, List, [], Option, map, slice_index, slice_index_or, option_and_then}
+use Rattle.std.specs.Prelude.{ℕ, List, Option, slice_index, option_and_then}
 use Rattle.std.specs.List.{filter_map}
 use Rattle.std.specs.Option.{option_map}
 use Rattle.rv_code.specs.declared.placed.Func.{Func}
 use Rattle.rv_code.specs.declared.placed.Block.{Block}
 use Rattle.rv_code.specs.declared.layout.Chains.{Chains}
-use Rattle.func_place.specs.declared.calls.Call.{Call}
-use Rattle.rv_code.specs.layout.InFunctions.{function_at}
+use Rattle.func_place.specs.declared.calls.UnitCall.{UnitCall}
+use Rattle.rv_code.specs.layout.BlockOrders.{hot_of, cold_of}
+use Rattle.rv_code.specs.layout.FunctionMembers.{function_at}
 use Rattle.func_place.specs.Units.{AreUnits, unit_sum, unit_size, unit_part, by_unit}
 use Rattle.func_place.specs.UnitOrder.{IsUnitOrder}
 
 -- What a pair of addresses counts from unit to unit, where both lie in functions.
 -- A pair has its addresses and its count.
-abbrev pub unit_call : List Func → List ℕ → ℕ × ℕ × ℕ → Option Call
+abbrev pub unit_call : List Func → List ℕ → ℕ × ℕ × ℕ → Option UnitCall
 unit_call funcs units p =
     option_and_then (λ f. option_map (λ g. record {
       from = slice_index units f;
@@ -20,15 +21,8 @@ unit_call funcs units p =
       count = p.2;
     }) (function_at funcs p.1)) (function_at funcs p.0)
 
-abbrev pub unit_calls : List Func → List ℕ → List (ℕ × ℕ × ℕ) → List Call
+abbrev pub unit_calls : List Func → List ℕ → List (ℕ × ℕ × ℕ) → List UnitCall
 unit_calls funcs units pairs = filter_map (unit_call funcs units) pairs
-
--- the blocks of a function's hot part, and of its cold part
-abbrev pub hot_of : Chains → ℕ → List ℕ
-hot_of chains f = slice_index_or (map (λ v. v.items) chains.hot.items) f []
-
-abbrev pub cold_of : Chains → ℕ → List ℕ
-cold_of chains f = slice_index_or (map (λ v. v.items) chains.cold.items) f []
 
 -- The units of functions stand in their order, by worst size, by the weights of their blocks, which say how
 -- often these run, and by what is counted between them. In each unit the functions go by address.

@@ -18,8 +18,8 @@ hotter heats u v =
 abbrev pub begins : List ℕ → ℕ → Bool
 begins units u = option_map_or (λ v. v == u) (slice_get units 0) false
 
-abbrev pub heads : (ℕ → List ℕ) → List ℕ → List ℕ
-heads cluster taken = filter (λ u. begins (cluster u) u) taken
+abbrev pub cluster_heads : (ℕ → List ℕ) → List ℕ → List ℕ
+cluster_heads cluster taken = filter (λ u. begins (cluster u) u) taken
 
 -- by density, which is heat divided by size, the greater first, then the lower unit first;
 -- compared by cross products

@@ -8,14 +8,14 @@ use Rattle.rv_code.specs.declared.placed.Func.{Func}
 use Rattle.rv_code.specs.declared.placed.Block.{Block}
 use Rattle.rv_code.specs.layout.Blocks.{inst_at}
 use Rattle.rv_code.specs.layout.Flow.{target_of, falls_at}
-use Rattle.rv_code.specs.layout.InFunctions.{function_at}
+use Rattle.rv_code.specs.layout.FunctionMembers.{function_at}
 use Rattle.rv_code.specs.layout.WorstSizes.{worst_size_of_block}
 
 -- The i-th instruction of a function leads to an address: a branch or a JAL goes there, or it falls there.
 -- A pair of instructions that calls and an indirect jump reach everywhere, and so lead nowhere here.
-pub data Leads (func : Func) (i : ℕ) (p : Placed) (a : ℕ) : Type 0 where
-  jumps : target_of p ≡ Some a → Leads func i p a
-  falls_into : IsTrue (falls_at func i p) → p.addr + p.len ≡ a → Leads func i p a
+pub data LeadsNear (func : Func) (i : ℕ) (p : Placed) (a : ℕ) : Type 0 where
+  jumps : target_of p ≡ Some a → LeadsNear func i p a
+  falls_into : IsTrue (falls_at func i p) → p.addr + p.len ≡ a → LeadsNear func i p a
 
 -- an instruction of the f-th function leads into the g-th one
 pub record LeadsInto (funcs : List Func) (f g : ℕ) : Type 0 where
@@ -25,7 +25,7 @@ pub record LeadsInto (funcs : List Func) (f g : ℕ) : Type 0 where
   pub inst : Placed
   pub is_inst : inst_at func at ≡ Some inst
   pub to : ℕ
-  pub leads : Leads func at inst to
+  pub leads : LeadsNear func at inst to
   pub into : function_at funcs to ≡ Some g
 
 -- Two functions are tied where one leads into the other, or through further ones that are tied so.

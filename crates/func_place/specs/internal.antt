@@ -1,6 +1,5 @@
 pub mod ClusterState
 pub mod FirstFaults
-pub mod Gains
-pub mod Grouping
-pub mod Heaviest
+pub mod Groups
+pub mod HeaviestCallers
 pub mod TieList

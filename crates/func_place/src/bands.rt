@@ -2,9 +2,10 @@
 ghost use Rattle.std.specs.Prelude.{◌≡◌, ◌<◌, ◌≤◌, ◌++◌, All, length, OnOk, IfOk, map};
 ghost use Rattle.std.specs.List.{flat_map};
 ghost use Rattle.func_place.specs.Bands.{blocks_of, order_of};
-ghost use Rattle.func_place.specs.internal.Grouping.{list_at};
+ghost use Rattle.func_place.specs.internal.Groups.{list_at};
+ghost use Rattle.func_place.specs.Clusters.{AreWithinLimit};
 
-use crate::clusters::LIMIT;
+use rv_code::worst_sizes::NEAR_LIMIT;
 use std::alloc::{AllocError, Global};
 
 /// The blocks of units, band by band.
@@ -15,7 +16,7 @@ pub fn order_units(
     hot: &[Vec<usize>],
     cold: &[Vec<usize>],
 ) -> Result<Vec<usize>, AllocError>
-    requires sizes_in { All (λ size. size ≤ 1000000) sizes.now }
+    requires sizes_in { AreWithinLimit sizes.now }
     requires units_in { All (λ u. u < length sizes.now) units.now }
     requires hot_in { length hot.now ≡ length sizes.now }
     requires cold_in { length cold.now ≡ length sizes.now }
@@ -27,7 +28,7 @@ pub fn order_units(
     let mut filled = 0;
     for &unit in units {
         let size = sizes[unit];
-        if filled + size > LIMIT {
+        if filled + size > NEAR_LIMIT {
             put_band(&mut order, &band, hot, cold)?;
             band.clear();
             filled = 0;

@@ -2,16 +2,16 @@
 ghost use Rattle.std.specs.Prelude.{◌≡◌, ℕ, ◌+◌, ◌<◌, ◌^◌, None, All, length, IfOk, sum_by, slice_index_or};
 ghost use Rattle.std.specs.List.Sorted.{IsPermutation};
 ghost use Rattle.func_place.specs.Calls.{heaviest_caller};
-ghost use Rattle.func_place.specs.internal.Heaviest.{AreByCallee, more_of};
+ghost use Rattle.func_place.specs.internal.HeaviestCallers.{AreByCallee, more_of};
 
-use crate::calls::Call;
+use crate::calls::UnitCall;
 use std::alloc::{AllocError, Global};
 
 /// The heaviest caller of each unit.
 pub fn heaviest_callers(
     alloc: Global,
     heats: &[u128],
-    calls: &[Call],
+    calls: &[UnitCall],
 ) -> Result<Vec<Option<usize>>, AllocError>
     requires inside { All (λ c. (c.from < length heats.now) × (c.to < length heats.now)) calls.now }
     requires room { sum_by (λ c. c.count) calls.now < 2 ^ 128 }
@@ -24,7 +24,7 @@ pub fn heaviest_callers(
 }
 
 // The counts by the unit that is called, and then by the caller.
-fn by_callee(alloc: Global, calls: &[Call]) -> Result<Vec<Call>, AllocError>
+fn by_callee(alloc: Global, calls: &[UnitCall]) -> Result<Vec<UnitCall>, AllocError>
     ensures each { IfOk result (λ v. IsPermutation calls.now v.items) }
     ensures ordered { IfOk result (λ v. AreByCallee v.items) }
 {
@@ -37,7 +37,7 @@ fn by_callee(alloc: Global, calls: &[Call]) -> Result<Vec<Call>, AllocError>
 fn heaviest_of_sorted(
     alloc: Global,
     heats: &[u128],
-    calls: &[Call],
+    calls: &[UnitCall],
 ) -> Result<Vec<Option<usize>>, AllocError>
     requires ordered { AreByCallee calls.now }
     requires inside { All (λ c. (c.from < length heats.now) × (c.to < length heats.now)) calls.now }
@@ -48,7 +48,7 @@ fn heaviest_of_sorted(
 {
     let mut heaviest: Vec<Option<usize>> = vec![in alloc; None; heats.len()]?;
     let mut most: Vec<u128> = vec![in alloc; 0; heats.len()]?;
-    let mut run = Call {
+    let mut run = UnitCall {
         from: 0,
         to: 0,
         count: 0,
@@ -64,12 +64,12 @@ fn heaviest_of_sorted(
 }
 
 // One more count of the pair that was counted, or the first one of the next pair.
-fn more_of(run: &Call, call: &Call) -> Call
+fn more_of(run: &UnitCall, call: &UnitCall) -> UnitCall
     requires { run.now.count + call.now.count < 2 ^ 128 }
     ensures { result ≡ more_of run.now call.now }
 {
     let same = run.from == call.from && run.to == call.to;
-    Call {
+    UnitCall {
         from: call.from,
         to: call.to,
         count: if same {

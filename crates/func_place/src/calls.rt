@@ -2,7 +2,7 @@
 
 /// A count from one unit to another. Units are named by numbers.
 #[derive(Clone, Copy, PartialEq, Eq, Debug)]
-pub struct Call {
+pub struct UnitCall {
     pub from: usize,
     pub to: usize,
     pub count: u128,

@@ -2,20 +2,18 @@
 ghost use Rattle.std.specs.Prelude.{◌≡◌, ◌≢◌, ℕ, ◌+◌, ◌<◌, ◌≤◌, ◌^◌, ◌++◌, None, Some, List, All, length, sum, sum_by, OnOk};
 ghost use Rattle.std.specs.Prelude.{IfOk, slice_index, slice_index_or};
 ghost use Rattle.std.specs.List.{flat_map};
-ghost use Rattle.func_place.specs.Clusters.{alone, appended, clusters_of};
+ghost use Rattle.func_place.specs.Clusters.{alone, appended, clusters_of, AreWithinLimit};
 ghost use Rattle.func_place.specs.Ranks.{begins};
 ghost use Rattle.func_place.specs.UnitOrder.{unit_clusters};
-ghost use Rattle.func_place.specs.internal.Grouping.{group_of};
-ghost use Rattle.func_place.specs.internal.ClusterState.{state_of, count_of, size_at, heat_at, IsSound, Merges, Keeps};
+ghost use Rattle.func_place.specs.internal.Groups.{group_of};
+ghost use Rattle.func_place.specs.internal.ClusterState.{state_of, count_of, size_at, heat_at, Merges, Keeps, IsValidState};
 
 use crate::callers::heaviest_callers;
-use crate::calls::Call;
+use crate::calls::UnitCall;
 use crate::groups::Groups;
 use crate::ranks::Rank;
+use rv_code::worst_sizes::NEAR_LIMIT;
 use std::alloc::{AllocError, Global};
-
-/// The most bytes of worst size that a unit, a cluster or a band may have.
-pub const LIMIT: u128 = 1_000_000;
 
 /// The clusters so far.
 #[derive(Drop)]
@@ -30,13 +28,13 @@ pub struct Clusters {
 impl Clusters {
     /// Each unit in a cluster of its own.
     fn new(alloc: Global, sizes: &[u128], heats: &[u128]) -> Result<Clusters, AllocError>
-        requires sizes_in { All (λ size. size ≤ 1000000) sizes.now }
+        requires sizes_in { AreWithinLimit sizes.now }
         requires sizes_some { (u : ℕ) → u < length sizes.now → 0 < slice_index heats.now u →
             0 < slice_index sizes.now u }
         requires heats_len { length heats.now ≡ length sizes.now }
         requires heats_room { sum heats.now < 2 ^ 101 }
         ensures len { IfOk result (λ c. count_of (state_of c) ≡ length sizes.now) }
-        ensures sound { IfOk result (λ c. IsSound (state_of c)) }
+        ensures sound { IfOk result (λ c. IsValidState (state_of c)) }
         ensures keeps { IfOk result (λ c. Keeps sizes.now heats.now alone (state_of c)) }
     {
         let groups = Groups::new(alloc, sizes.len())?;
@@ -51,7 +49,7 @@ impl Clusters {
 
     /// Puts two clusters together, the second after the first.
     fn join(&mut self, alloc: Global, first: usize, second: usize) -> Result<(), AllocError>
-        requires sound { IsSound (state_of self.old) }
+        requires sound { IsValidState (state_of self.old) }
         requires apart { first ≢ second }
         requires first_in { first < count_of (state_of self.old) }
         requires second_in { second < count_of (state_of self.old) }
@@ -69,18 +67,18 @@ impl Clusters {
 
     /// Appends a unit's cluster to that of its caller, where that is another one and both are small enough.
     fn append(&mut self, alloc: Global, caller: usize, unit: usize) -> Result<(), AllocError>
-        requires sound { IsSound (state_of self.old) }
+        requires sound { IsValidState (state_of self.old) }
         requires caller_in { caller < count_of (state_of self.old) }
         requires unit_in { unit < count_of (state_of self.old) }
         ensures len { OnOk result (count_of (state_of self.new) ≡ count_of (state_of self.old)) }
-        ensures sound { OnOk result (IsSound (state_of self.new)) }
+        ensures sound { OnOk result (IsValidState (state_of self.new)) }
         ensures keeps { OnOk result ((sizes heats : List ℕ) (cluster : ℕ → List ℕ) →
             Keeps sizes heats cluster (state_of self.old) →
             Keeps sizes heats (appended sizes (cluster caller) (cluster unit) unit cluster) (state_of self.new)) }
     {
-        let first = self.groups.number_of(caller);
-        let second = self.groups.number_of(unit);
-        if first != second && self.totals[first] + self.totals[second] <= LIMIT {
+        let first = self.groups.group_number(caller);
+        let second = self.groups.group_number(unit);
+        if first != second && self.totals[first] + self.totals[second] <= NEAR_LIMIT {
             self.join(alloc, first, second)?;
         }
         Ok(())
@@ -88,7 +86,7 @@ impl Clusters {
 
     /// Whether a unit begins its cluster.
     pub fn begins(&self, unit: usize) -> bool
-        requires sound { IsSound (state_of self.now) }
+        requires sound { IsValidState (state_of self.now) }
         requires unit_in { unit < count_of (state_of self.now) }
         ensures { result ≡ begins (group_of (state_of self.now).grouping unit) unit }
     {
@@ -97,14 +95,14 @@ impl Clusters {
 
     /// The rank of a unit's cluster, for a unit that begins it.
     pub fn rank(&self, unit: usize) -> Rank
-        requires sound { IsSound (state_of self.now) }
+        requires sound { IsValidState (state_of self.now) }
         requires unit_in { unit < count_of (state_of self.now) }
         requires hot { 0 < heat_at (state_of self.now) unit }
         ensures heat { result.heat ≡ heat_at (state_of self.now) unit }
         ensures size { result.size ≡ size_at (state_of self.now) unit }
         ensures unit { result.unit ≡ unit }
     {
-        let number = self.groups.number_of(unit);
+        let number = self.groups.group_number(unit);
         Rank {
             heat: self.heats[number],
             size: self.totals[number],
@@ -114,7 +112,7 @@ impl Clusters {
 
     /// Appends the clusters of some units to a list.
     pub fn put_clusters(&self, units: &[usize], line: &mut Vec<usize>) -> Result<(), AllocError>
-        requires sound { IsSound (state_of self.now) }
+        requires sound { IsValidState (state_of self.now) }
         requires units_in { All (λ u. u < count_of (state_of self.now)) units.now }
         ensures line { OnOk result ((sizes heats : List ℕ) (cluster : ℕ → List ℕ) →
             Keeps sizes heats cluster (state_of self.now) → line.new.items ≡
@@ -137,7 +135,7 @@ fn fold_units(
     callers: &[Option<usize>],
     taken: &[usize],
 ) -> Result<Clusters, AllocError>
-    requires sizes_in { All (λ size. size ≤ 1000000) sizes.now }
+    requires sizes_in { AreWithinLimit sizes.now }
     requires sizes_some { (u : ℕ) → u < length sizes.now → 0 < slice_index heats.now u → 0 < slice_index sizes.now u }
     requires heats_len { length heats.now ≡ length sizes.now }
     requires heats_room { sum heats.now < 2 ^ 101 }
@@ -145,7 +143,7 @@ fn fold_units(
     requires callers_in { (u v : ℕ) → slice_index_or callers.now u None ≡ Some v → v < length sizes.now }
     requires taken_in { All (λ u. u < length sizes.now) taken.now }
     ensures len { IfOk result (λ c. count_of (state_of c) ≡ length sizes.now) }
-    ensures sound { IfOk result (λ c. IsSound (state_of c)) }
+    ensures sound { IfOk result (λ c. IsValidState (state_of c)) }
     ensures keeps { IfOk result (λ c. Keeps sizes.now heats.now (clusters_of sizes.now
         (λ u. slice_index_or callers.now u None) taken.now) (state_of c)) }
 {
@@ -164,10 +162,10 @@ pub fn cluster_units(
     alloc: Global,
     sizes: &[u128],
     heats: &[u128],
-    calls: &[Call],
+    calls: &[UnitCall],
     taken: &[usize],
 ) -> Result<Clusters, AllocError>
-    requires sizes_in { All (λ size. size ≤ 1000000) sizes.now }
+    requires sizes_in { AreWithinLimit sizes.now }
     requires sizes_some { (u : ℕ) → u < length sizes.now → 0 < slice_index heats.now u → 0 < slice_index sizes.now u }
     requires heats_len { length heats.now ≡ length sizes.now }
     requires heats_room { sum heats.now < 2 ^ 101 }
@@ -175,7 +173,7 @@ pub fn cluster_units(
     requires calls_room { sum_by (λ c. c.count) calls.now < 2 ^ 128 }
     requires taken_in { All (λ u. u < length sizes.now) taken.now }
     ensures len { IfOk result (λ c. count_of (state_of c) ≡ length sizes.now) }
-    ensures sound { IfOk result (λ c. IsSound (state_of c)) }
+    ensures sound { IfOk result (λ c. IsValidState (state_of c)) }
     ensures keeps { IfOk result
         (λ c. Keeps sizes.now heats.now (unit_clusters sizes.now heats.now calls.now taken.now) (state_of c)) }
 {

@@ -2,19 +2,20 @@
 ghost use Rattle.std.specs.Prelude.{◌≡◌, ◌<◌, ◌≤◌, All, MatchOption, length};
 ghost use Rattle.func_place.specs.Faults.{leaves};
 ghost use Rattle.func_place.specs.internal.FirstFaults.{IsFirstLong, IsFirstLeaving, IsFirstKept, StaysIn};
+ghost use Rattle.func_place.specs.Clusters.{AreWithinLimit};
 
-use crate::clusters::LIMIT;
 use rv_code::flow::{is_branch, target};
-use rv_code::functions::holds;
+use rv_code::functions::func_holds;
+use rv_code::worst_sizes::NEAR_LIMIT;
 use rv_code::{Func, Placed};
 
 /// The address of the first unit that is too long, for the worst size of each unit.
 pub fn first_long(funcs: &[Func], sizes: &[u128]) -> Option<u64>
     requires { length sizes.now ≡ length funcs.now }
-    ensures { MatchOption result (All (λ size. size ≤ 1000000) sizes.now) (IsFirstLong funcs.now sizes.now) }
+    ensures { MatchOption result (AreWithinLimit sizes.now) (IsFirstLong funcs.now sizes.now) }
 {
     for (unit, size) in sizes.iter().enumerate() {
-        if *size > LIMIT {
+        if *size > NEAR_LIMIT {
             return Some(funcs[unit].start);
         }
     }
@@ -53,7 +54,7 @@ fn leaves(func: &Func, inst: &Placed) -> bool
         return false;
     }
     match target(inst.addr, &inst.inst) {
-        Some(to) => !holds(func, to),
+        Some(to) => !func_holds(func, to),
         None => false,
     }
 }

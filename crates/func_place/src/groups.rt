@@ -1,7 +1,7 @@
 // Numbers in groups that become larger.
 ghost use Rattle.std.specs.Prelude.{◌≡◌, ◌≢◌, ℕ, ◌<◌, ◌≤◌, [], ◌∷◌, ◌++◌, All, length, OnOk, IfOk, slice_index};
 ghost use Rattle.func_place.specs.Ranks.{begins};
-ghost use Rattle.func_place.specs.internal.Grouping.{grouping_of, list_at, group_of, IsGrouped, numbered, Joins};
+ghost use Rattle.func_place.specs.internal.Groups.{grouping_of, list_at, group_of, IsGrouped, numbered, Joins};
 
 use std::alloc::{AllocError, Global};
 use std::collections::VecDeque;
@@ -56,7 +56,7 @@ impl Groups {
     }
 
     /// The number of a member's group.
-    pub fn number_of(&self, member: usize) -> usize
+    pub fn group_number(&self, member: usize) -> usize
         requires grouped { IsGrouped (grouping_of self.now) }
         requires member_in { member < length (grouping_of self.now).lists }
         ensures is { result ≡ slice_index (grouping_of self.now).numbers member }

@@ -1,17 +1,19 @@
 // The place of each block in the new code.
 ghost use Rattle.std.specs.Prelude.{◌≡◌, ℕ, ◌<◌, ◌≤◌, ◌^◌, All, IfOk, IfErr, OnOk, MatchOption, length, map, sum, sum_by};
 ghost use Rattle.rb_bytes.specs.declared.fault.Refusal.{Refusal};
-ghost use Rattle.rv_code.specs.layout.InFunctions.{IsOfFunction};
+ghost use Rattle.rv_code.specs.layout.FunctionMembers.{IsOfFunction};
 ghost use Rattle.rv_code.specs.declared.placed.Block.{Block};
 ghost use Rattle.rv_code.specs.layout.FunctionLists.{AreLaidOut};
 ghost use Rattle.elf_image.specs.faults.FirstFault.{IsFree, IsRefusalBy};
-ghost use Rattle.edge_profile.specs.BlockPlaces.{AreApart};
+ghost use Rattle.edge_profile.specs.BlockPlaces.{AreBlocksApart};
 ghost use Rattle.edge_profile.specs.Profile.{pairs_of};
 ghost use Rattle.edge_profile.specs.Weights.{block_weight};
 ghost use Rattle.func_place.specs.Faults.{HasPlacementFault};
-ghost use Rattle.func_place.specs.Nearness.{HaveAllBlocks, HasAllBlocks, AreTiedNear};
+ghost use Rattle.rv_code.specs.layout.BlockOrders.{HaveAllBlocks, HasAllBlocks};
+ghost use Rattle.func_place.specs.Nearness.{AreTiedNear};
 ghost use Rattle.func_place.specs.Placement.{IsPlacement};
 ghost use Rattle.func_place.specs.Units.{AreUnits, unit_size, by_unit};
+ghost use Rattle.func_place.specs.Clusters.{AreWithinLimit};
 
 use crate::faults::{first_kept, first_long};
 use crate::sizes::block_sizes;
@@ -36,7 +38,7 @@ pub fn place(
 ) -> Result<Plan, Refusal>
     requires funcs { AreLaidOut funcs.now }
     requires blocks { All (IsOfFunction funcs.now) blocks.now }
-    requires apart { AreApart blocks.now }
+    requires apart { AreBlocksApart blocks.now }
     requires hot { length chains.now.hot.items ≡ length funcs.now }
     requires cold { length chains.now.cold.items ≡ length funcs.now }
     ensures order { IfOk result (λ plan. IsPlacement funcs.now blocks.now chains.now (pairs_of profile.now)
@@ -71,7 +73,7 @@ pub fn sized_units(
     requires blocks { All (IsOfFunction funcs.now) blocks.now }
     ensures units { IfOk result (λ r. AreUnits funcs.now r.0.items) }
     ensures sizes { IfOk result (λ r. r.1.items ≡ by_unit (unit_size funcs.now r.0.items blocks.now) r.0.items) }
-    ensures small { IfOk result (λ r. All (λ size. size ≤ 1000000) r.1.items) }
+    ensures small { IfOk result (λ r. AreWithinLimit r.1.items) }
     ensures free { OnOk result (IsFree (HasPlacementFault funcs.now blocks.now)) }
     ensures fault { IfErr result (IsRefusalBy (HasPlacementFault funcs.now blocks.now)) }
 {
@@ -109,7 +111,7 @@ pub fn order_blocks(
     requires room { sum weights.now < 2 ^ 101 }
     requires units { AreUnits funcs.now units.now }
     requires sizes { sizes.now ≡ by_unit (unit_size funcs.now units.now blocks.now) units.now }
-    requires small { All (λ size. size ≤ 1000000) sizes.now }
+    requires small { AreWithinLimit sizes.now }
     ensures order { IfOk result (λ v. (weight : Block → ℕ) → weights.now ≡ map weight blocks.now →
         IsPlacement funcs.now blocks.now chains.now pairs.now weight v.items) }
     ensures all { IfOk result (λ v. HaveAllBlocks funcs.now blocks.now chains.now → HasAllBlocks blocks.now v.items) }

@@ -1,9 +1,10 @@
 // The order in which hot units are taken, and the order of clusters.
 ghost use Rattle.std.specs.Prelude.{◌≡◌, ℕ, ◌<◌, ◌≤◌, ◌^◌, List, All, length, IfOk, slice_index};
 ghost use Rattle.std.specs.Ordering.{is_lt};
+ghost use Rattle.rv_code.specs.layout.WorstSizes.{near_limit};
 ghost use Rattle.func_place.specs.Calls.{hot_units};
-ghost use Rattle.func_place.specs.Ranks.{IsInOrder, hotter, denser_by, denser, heads};
-ghost use Rattle.func_place.specs.internal.ClusterState.{state_of, count_of, heat_at, IsSound, Keeps};
+ghost use Rattle.func_place.specs.Ranks.{IsInOrder, hotter, denser_by, denser, cluster_heads};
+ghost use Rattle.func_place.specs.internal.ClusterState.{state_of, count_of, heat_at, Keeps, IsValidState};
 
 use crate::clusters::Clusters;
 use std::alloc::{AllocError, Global};
@@ -40,7 +41,7 @@ pub struct Rank {
     pub unit: usize,
     ghost fits: { heat < 2 ^ 101 },
     ghost some: { 0 < size },
-    ghost small: { size ≤ 1000000 },
+    ghost small: { size ≤ near_limit },
 }
 
 // Whether a cluster is denser than another, or as dense and begins with a lower unit.
@@ -76,12 +77,12 @@ pub fn rank_clusters(
     clusters: &Clusters,
     taken: &[usize],
 ) -> Result<Vec<usize>, AllocError>
-    requires sound { IsSound (state_of clusters.now) }
+    requires sound { IsValidState (state_of clusters.now) }
     requires taken_in { All (λ u. u < count_of (state_of clusters.now)) taken.now }
     requires hot { All (λ u. 0 < heat_at (state_of clusters.now) u) taken.now }
     ensures { IfOk result (λ v. (sizes heats : List ℕ) (cluster : ℕ → List ℕ) →
         Keeps sizes heats cluster (state_of clusters.now) → IsInOrder
-        (denser sizes heats cluster) (heads cluster taken.now) v.items) }
+        (denser sizes heats cluster) (cluster_heads cluster taken.now) v.items) }
 {
     let mut ranks = Vec::new(alloc);
     for &unit in taken {

@@ -2,7 +2,7 @@
 ghost use Rattle.std.specs.Prelude.{◌≡◌, ℕ, ◌<◌, ◌≤◌, ◌^◌, All, IfOk, length, map, sum};
 ghost use Rattle.rv_code.specs.declared.placed.Block.{Block};
 ghost use Rattle.func_place.specs.Units.{unit_sum, unit_part, by_unit};
-ghost use Rattle.func_place.specs.internal.Grouping.{list_at};
+ghost use Rattle.func_place.specs.internal.Groups.{list_at};
 
 use rv_code::Block;
 use std::alloc::{AllocError, Global};

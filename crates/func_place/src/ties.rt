@@ -1,14 +1,13 @@
 // Which functions lead into each other.
-ghost use Rattle.std.specs.Prelude.{◌≡◌, ◌≢◌, ◌↔◌, ℕ, ◌+◌, ◌<◌, ◌^◌, [], if◌then◌else◌, IfOk, OnOk, length, slice_get};
+ghost use Rattle.std.specs.Prelude.{◌≡◌, ◌≢◌, ◌↔◌, ℕ, ◌+◌, ◌<◌, ◌^◌, [], IfOk, OnOk, length, slice_get};
 ghost use Rattle.rv_code.specs.layout.FunctionLists.{AreLaidOut};
-ghost use Rattle.rv_code.specs.layout.Flow.{falls_at};
-ghost use Rattle.rv_code.specs.layout.InFunctions.{holds, function_at};
-ghost use Rattle.func_place.specs.internal.Gains.{Gains};
+ghost use Rattle.rv_code.specs.layout.FunctionMembers.{function_at};
+ghost use Rattle.rb_bytes.specs.Lists.{Gains};
 ghost use Rattle.func_place.specs.internal.TieList.{Ties, TiesOf, TiesFrom, TiesAt};
 
-use rv_code::flow::{falls, target};
-use rv_code::functions::{function_at, holds};
-use rv_code::{Func, Placed};
+use rv_code::Func;
+use rv_code::flow::{fall_target, target};
+use rv_code::functions::{func_holds, function_at};
 use std::alloc::{AllocError, Global};
 
 /// The pairs of a function and another one into which it leads, by their places.
@@ -56,21 +55,8 @@ fn put_ties_from(
 {
     let inst = &func.insts[i];
     put_tie(ties, funcs, place, target(inst.addr, &inst.inst))?;
-    put_tie(ties, funcs, place, fall_of(func, i, inst))?;
+    put_tie(ties, funcs, place, fall_target(func, i, inst))?;
     Ok(())
-}
-
-// Where the i-th instruction of a function falls.
-fn fall_of(func: &Func, i: usize, inst: &Placed) -> Option<u64>
-    requires i_in { i < length func.now.insts.items }
-    requires room { inst.now.addr + inst.now.len < 2 ^ 64 }
-    ensures { result ≡ (if falls_at func.now i inst.now then Some (inst.now.addr + inst.now.len) else None) }
-{
-    if falls(&inst.inst, i + 1 == func.insts.len()) {
-        Some(inst.addr + inst.len as u64)
-    } else {
-        None
-    }
 }
 
 // Appends the pair of a function and another one in which an address lies, if there is an address.
@@ -113,7 +99,7 @@ fn other_function_at(funcs: &[Func], place: usize, address: u64) -> Option<usize
     requires inside { place < length funcs.now }
     ensures { (g : ℕ) → (result ≡ Some g) ↔ ((function_at funcs.now address ≡ Some g) × (g ≢ place)) }
 {
-    if holds(&funcs[place], address) {
+    if func_holds(&funcs[place], address) {
         return None;
     }
     function_at(funcs, address)

@@ -3,7 +3,7 @@ ghost use Rattle.std.specs.Prelude.{◌≡◌, IfOk, length, slice_index};
 ghost use Rattle.rv_code.specs.layout.FunctionLists.{AreLaidOut};
 ghost use Rattle.func_place.specs.Placement.{unit_call, unit_calls};
 
-use crate::calls::Call;
+use crate::calls::UnitCall;
 use rv_code::Func;
 use rv_code::functions::function_at;
 use std::alloc::{AllocError, Global};
@@ -14,7 +14,7 @@ pub fn calls_of(
     funcs: &[Func],
     units: &[usize],
     pairs: &[(u64, u64, u128)],
-) -> Result<Vec<Call>, AllocError>
+) -> Result<Vec<UnitCall>, AllocError>
     requires { AreLaidOut funcs.now }
     ensures { IfOk result (λ v. v.items ≡ unit_calls funcs.now units.now pairs.now) }
 {
@@ -28,13 +28,13 @@ pub fn calls_of(
     Ok(calls)
 }
 
-fn call_of(funcs: &[Func], units: &[usize], pair: &(u64, u64, u128)) -> Option<Call>
+fn call_of(funcs: &[Func], units: &[usize], pair: &(u64, u64, u128)) -> Option<UnitCall>
     requires { AreLaidOut funcs.now }
     ensures { result ≡ unit_call funcs.now units.now pair.now }
 {
     match function_at(funcs, pair.0) {
         Some(from) => match function_at(funcs, pair.1) {
-            Some(to) => Some(Call {
+            Some(to) => Some(UnitCall {
                 from: unit_at(units, from),
                 to: unit_at(units, to),
                 count: pair.2,

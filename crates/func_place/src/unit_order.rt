@@ -1,10 +1,11 @@
 // The order of units.
 ghost use Rattle.std.specs.Prelude.{◌≡◌, ℕ, ◌<◌, ◌≤◌, ◌^◌, ◌++◌, All, length, OnOk, IfOk, sum, sum_by, map, slice_index};
 ghost use Rattle.func_place.specs.UnitOrder.{IsUnitOrder, cold_units};
-ghost use Rattle.func_place.specs.internal.Grouping.{list_at};
+ghost use Rattle.func_place.specs.internal.Groups.{list_at};
+ghost use Rattle.func_place.specs.Clusters.{AreWithinLimit};
 
 use crate::bands::order_units;
-use crate::calls::Call;
+use crate::calls::UnitCall;
 use crate::clusters::cluster_units;
 use crate::ranks::{hot_order, rank_clusters};
 use std::alloc::{AllocError, Global};
@@ -14,11 +15,11 @@ pub fn place_units(
     alloc: Global,
     sizes: &[u128],
     heats: &[u128],
-    calls: &[Call],
+    calls: &[UnitCall],
     hot: &[Vec<usize>],
     cold: &[Vec<usize>],
 ) -> Result<Vec<usize>, AllocError>
-    requires sizes_in { All (λ size. size ≤ 1000000) sizes.now }
+    requires sizes_in { AreWithinLimit sizes.now }
     requires sizes_some { (u : ℕ) → u < length sizes.now → 0 < slice_index heats.now u → 0 < slice_index sizes.now u }
     requires heats_len { length heats.now ≡ length sizes.now }
     requires heats_room { sum heats.now < 2 ^ 101 }

@@ -2,7 +2,7 @@
 ghost use Rattle.std.specs.Prelude.{◌≡◌, ◌↔◌, ℕ, ◌+◌, ◌<◌, List, IfOk, OnOk, All, length, slice_index};
 ghost use Rattle.rv_code.specs.layout.FunctionLists.{AreLaidOut};
 ghost use Rattle.func_place.specs.Units.{AreUnits};
-ghost use Rattle.func_place.specs.internal.Grouping.{grouping_of, IsGrouped};
+ghost use Rattle.func_place.specs.internal.Groups.{grouping_of, IsGrouped};
 ghost use Rattle.func_place.specs.internal.TieList.{IsTied, Agrees, AreTogether};
 
 use crate::groups::Groups;
@@ -48,8 +48,8 @@ fn tie(alloc: Global, groups: &mut Groups, a: usize, b: usize) -> Result<(), All
         (grouping_of groups.old).lists) → Agrees ties i (grouping_of groups.old) → Agrees ties (i + 1)
         (grouping_of groups.new)) }
 {
-    let first = groups.number_of(a);
-    let second = groups.number_of(b);
+    let first = groups.group_number(a);
+    let second = groups.group_number(b);
     if first != second {
         groups.join(alloc, first, second)?;
     }

@@ -9,7 +9,7 @@ use Rattle.rv_code.specs.declared.cell.CodeCell.{CodeCell}
 use Rattle.rv_code.specs.layout.Edges.{IsTableJump, AreTablePairs}
 use Rattle.rv_code.specs.layout.Lists.{IsPairBefore}
 use Rattle.rv_code.specs.layout.ProgramCode.{CellNames}
-use Rattle.func_find.specs.Referred.{Gains}
+use Rattle.rb_bytes.specs.Lists.{Gains}
 use Rattle.jump_tables.specs.TablePairs.{IsLabel, IsPairOf}
 
 -- what a read past the end of a list of instructions would give

@@ -2,7 +2,7 @@
 ghost use Rattle.std.specs.Prelude.{◌≡◌, ◌<◌, ◌↔◌, ℕ, AllPairs, Any, Contains, IfOk, OnOk, IsTrue};
 ghost use Rattle.rv_code.specs.layout.Edges.{AreTablePairs, IsTableJump};
 ghost use Rattle.rv_code.specs.layout.Lists.{IsPairBefore};
-ghost use Rattle.func_find.specs.Referred.{Gains};
+ghost use Rattle.rb_bytes.specs.Lists.{Gains};
 ghost use Rattle.jump_tables.specs.TablePairs.{IsPairOf};
 
 use crate::labels::{labels, named_addresses};

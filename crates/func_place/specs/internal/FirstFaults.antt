@@ -2,7 +2,7 @@
 use Rattle.std.specs.Prelude.{◌≡◌, ℕ, ◌<◌, ◌≤◌, true, false, List, Some, All, slice_get, slice_index}
 use Rattle.rv_code.specs.declared.placed.Placed.{Placed}
 use Rattle.rv_code.specs.declared.placed.Func.{Func}
-use Rattle.func_place.specs.Clusters.{limit}
+use Rattle.rv_code.specs.layout.WorstSizes.{near_limit}
 use Rattle.func_place.specs.Faults.{leaves}
 
 pub record IsFirstLong (funcs : List Func) (sizes : List ℕ) (place : ℕ) : Type 0 where
@@ -10,8 +10,8 @@ pub record IsFirstLong (funcs : List Func) (sizes : List ℕ) (place : ℕ) : Ty
   pub func : Func
   pub is_func : slice_get funcs unit ≡ Some func
   pub start : func.start ≡ place
-  pub long : limit < slice_index sizes unit
-  pub earlier : (v : ℕ) → v < unit → slice_index sizes v ≤ limit
+  pub long : near_limit < slice_index sizes unit
+  pub earlier : (v : ℕ) → v < unit → slice_index sizes v ≤ near_limit
 
 -- no instruction of a function leaves it
 abbrev pub StaysIn : Func → Type 0

@@ -3,9 +3,9 @@ use Rattle.std.specs.Prelude.{◌≡◌, ◌≢◌, ◌⊎◌, ℕ, ◌<◌, ◌
 use Rattle.rv_code.specs.declared.placed.Placed.{Placed}
 use Rattle.rv_code.specs.declared.placed.Func.{Func}
 use Rattle.rv_code.specs.layout.Blocks.{inst_at}
-use Rattle.rv_code.specs.layout.InFunctions.{function_at}
-use Rattle.func_place.specs.Units.{Leads}
-use Rattle.func_place.specs.internal.Grouping.{Grouping}
+use Rattle.rv_code.specs.layout.FunctionMembers.{function_at}
+use Rattle.func_place.specs.Units.{LeadsNear}
+use Rattle.func_place.specs.internal.Groups.{Grouping}
 
 -- an address lies in another function than the f-th: the pair of both
 pub record TiesAt (funcs : List Func) (f to : ℕ) (t : ℕ × ℕ) : Type 0 where
@@ -20,7 +20,7 @@ pub record TiesFrom (funcs : List Func) (f i : ℕ) (t : ℕ × ℕ) : Type 0 wh
   pub inst : Placed
   pub is_inst : inst_at func i ≡ Some inst
   pub to : ℕ
-  pub leads : Leads func i inst to
+  pub leads : LeadsNear func i inst to
   pub ties : TiesAt funcs f to t
 
 -- some instruction of a function does

@@ -1,6 +1,6 @@
 use Rattle.std.proofs.Common.{◌≡◌, ◌≤◌, ◌∙◌, ℕ, None, List, AllPairs, length, get_or, subst, sym, arith}
 use Rattle.std.proofs.lemmas.List.{get_or_past}
-use Rattle.edge_profile.specs.Profile.{counts_of, pairs_of}
+use Rattle.edge_profile.specs.Profile.{profile_counts, pairs_of}
 use Rattle.block_layout.specs.EdgeCounts.{edge_count}
 use Rattle.block_layout.specs.EdgeLists.{AreCounted, HaveOtherEnds, IsKeyBefore}
 use Rattle.block_layout.specs.FunctionParts.{AreSplitTo}
@@ -16,7 +16,7 @@ counted_edges-requires-clause-edges c = all_within c.args.blocks.now c.args.edge
 
 pub link_edges-requires-clause-inside : goal.link_edges-requires-clause-inside
 link_edges-requires-clause-inside c =
-    let count = edge_count (counts_of c.args.profile.now) c.args.funcs.now c.args.blocks.now in
+    let count = edge_count (profile_counts c.args.profile.now) c.args.funcs.now c.args.blocks.now in
     let counted =
     subst (λ (es : List Edge). AreCounted count c.args.edges.now es) (sym c.deref.ensures.value) c.in_ok-taken.ensures.counted in
     taken_within count c.args.blocks.now c.args.edges.now c.deref.result.now c.requires.edges counted
@@ -26,7 +26,7 @@ function_parts-requires-clause-of_functions c = of_functions c.args.funcs.now c.
 
 pub function_parts-requires-clause-links : goal.function_parts-requires-clause-links
 function_parts-requires-clause-links c =
-    let count = edge_count (counts_of c.args.profile.now) c.args.funcs.now c.args.blocks.now in
+    let count = edge_count (profile_counts c.args.profile.now) c.args.funcs.now c.args.blocks.now in
     let counted =
     subst (λ (es : List Edge). AreCounted count c.args.edges.now es) (sym c.deref.ensures.value) c.in_ok-taken.ensures.counted in
     let sized = c.in_ok-links.ensures.sized in
@@ -39,7 +39,7 @@ function_parts-requires-clause-links c =
 
 pub function_parts-requires-clause-inner : goal.function_parts-requires-clause-inner
 function_parts-requires-clause-inner c =
-    let count = edge_count (counts_of c.args.profile.now) c.args.funcs.now c.args.blocks.now in
+    let count = edge_count (profile_counts c.args.profile.now) c.args.funcs.now c.args.blocks.now in
     let counted =
     subst (λ (es : List Edge). AreCounted count c.args.edges.now es) (sym c.deref.ensures.value) c.in_ok-taken.ensures.counted in
     links_inner count c.args.blocks.now c.args.edges.now c.deref.result.now c.requires.edges counted
@@ -53,7 +53,7 @@ returns-clause-chains c =
     let funcs = c.args.funcs.now in
     let blocks = c.args.blocks.now in
     let taken = c.deref.result.now in
-    let count = edge_count (counts_of c.args.profile.now) funcs blocks in
+    let count = edge_count (profile_counts c.args.profile.now) funcs blocks in
     let counted =
     subst (λ (es : List Edge). AreCounted count c.args.edges.now es) (sym c.deref.ensures.value) c.in_ok-taken.ensures.counted in
     let sorted = subst (λ (es : List Edge). AllPairs IsKeyBefore es) (sym c.deref.ensures.value) c.in_ok-taken.ensures.sorted in

@@ -1,5 +1,5 @@
 use Rattle.std.proofs.Common.{◌≡◌, length, arith, refl}
-use Rattle.block_layout.specs.Linking.{IsEdge, ends_at}
+use Rattle.block_layout.specs.FirstLinks.{IsEdgeNumber, ends_of_edge}
 use Rattle.block_layout.proofs.Steps.{linked_none, ends_none, join_step, skip_step, first_why}
 use Rattle.block_layout.proofs.links.link_edges.Goals as goal
 use Rattle.block_layout.proofs.links.link_edges.Goals.{then-may_link, else-may_link}
@@ -16,8 +16,8 @@ loop-edge-init c = let e = c.in_ok-links.ensures in record {
 
 pub loop-edge-preserved : goal.loop-edge-preserved
 loop-edge-preserved c =
-    let at : IsEdge c.args.edges.now c.loop-edge.edge-index (ends_at c.args.edges.now c.loop-edge.edge-index).0
-    (ends_at c.args.edges.now c.loop-edge.edge-index).1 = (c.loop-edge-test.true, refl) in
+    let at : IsEdgeNumber c.args.edges.now c.loop-edge.edge-index (ends_of_edge c.args.edges.now c.loop-edge.edge-index).0
+    (ends_of_edge c.args.edges.now c.loop-edge.edge-index).1 = (c.loop-edge-test.true, refl) in
     let inside = c.requires.inside c.loop-edge.edge-index c.loop-edge-test.true in
     elim c.if-may_link.branch [
       | then-may_link w ↦

@@ -1,5 +1,5 @@
 use Rattle.std.proofs.Common.{◌∙◌, arith}
-use Rattle.branch_fixup.specs.Inputs.{code_of}
+use Rattle.rv_code.specs.layout.ProgramCode.{program_code}
 use Rattle.rv_code.proofs.lists.Blocks.{blocks_of_functions}
 use Rattle.branch_fixup.proofs.Holders.{planned_read, place_within}
 use Rattle.branch_fixup.proofs.block_insts.planned.Goals as goal
@@ -15,7 +15,7 @@ bounds-blocks-order c = place_within c.args.blocks.now c.args.order.now c.requir
 pub insts_of-requires-clause-is : goal.insts_of-requires-clause-is
 insts_of-requires-clause-is c =
     let are = c.requires.blocks in
-    blocks_of_functions (code_of c.args.funcs.now are.roles are.cells are.entry) c.args.blocks.now are.are _ _
+    blocks_of_functions (program_code c.args.funcs.now are.roles are.cells are.entry) c.args.blocks.now are.are _ _
     (place_within c.args.blocks.now c.args.order.now c.requires.order c.args.k c.requires.inside)
 
 pub returns : goal.returns

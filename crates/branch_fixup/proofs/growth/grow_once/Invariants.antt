@@ -6,8 +6,8 @@ use Rattle.branch_fixup.proofs.Rounds.{IsRound}
 use Rattle.branch_fixup.proofs.growth.grow_once.Given as goal
 
 abbrev pub invariant-loop-i : goal.invariant-loop-i
-invariant-loop-i l = IsRound l.tails l.initial.forms l.forms l.i
+invariant-loop-i l = IsRound l.block_ends l.initial.forms l.forms l.i
     × MatchBool l.grew (sum_by left_of l.forms < sum_by left_of l.initial.forms)
-    ((l.forms ≡ l.initial.forms) × ((k : ℕ) → k < l.i → is_enough l.tails l.initial.forms k
+    ((l.forms ≡ l.initial.forms) × ((k : ℕ) → k < l.i → is_enough l.block_ends l.initial.forms k
     (form_at l.initial.forms k) ≡ true))
     × (map end_of_form l.forms ≡ map end_of_form l.initial.forms)

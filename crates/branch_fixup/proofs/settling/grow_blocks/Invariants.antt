@@ -7,8 +7,8 @@ use Rattle.branch_fixup.proofs.settling.grow_blocks.Given as goal
 
 abbrev pub invariant-loop-k : goal.invariant-loop-k
 invariant-loop-k l = record {
-  settling : AreSettling l.tails l.places l.forms l.more;
+  settling : AreSettling l.block_ends l.places l.forms l.more;
   same : map end_of_form l.forms ≡ map end_of_form l.initial.forms;
   fewer : MatchBool l.grew (sum_by left_of l.forms < sum_by left_of l.initial.forms) (l.forms ≡ l.initial.forms);
-  listed : All (λ k. k < length l.tails) l.short.items;
+  listed : All (λ k. k < length l.block_ends) l.short.items;
 }

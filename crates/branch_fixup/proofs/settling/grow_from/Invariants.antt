@@ -7,10 +7,10 @@ use Rattle.branch_fixup.proofs.settling.grow_from.Given as goal
 
 abbrev pub invariant-loop-short : goal.invariant-loop-short
 invariant-loop-short l = record {
-  settling : AreSettling l.tails l.places l.forms l.more;
+  settling : AreSettling l.block_ends l.places l.forms l.more;
   same : map end_of_form l.forms ≡ map end_of_form l.initial.forms;
   fewer : sum_by left_of l.forms ≤ sum_by left_of l.initial.forms;
-  listed : All (λ k. k < length l.tails) l.blocks.items;
+  listed : All (λ k. k < length l.block_ends) l.blocks.items;
 }
 
 abbrev pub decreases-loop-short : goal.decreases-loop-short

@@ -2,4 +2,4 @@ use Rattle.std.proofs.Common.{◌<◌, length, All}
 use Rattle.branch_fixup.proofs.settling.short_blocks.Given as goal
 
 abbrev pub invariant-loop-k : goal.invariant-loop-k
-invariant-loop-k l = All (λ k. k < length l.tails) l.short.items
+invariant-loop-k l = All (λ k. k < length l.block_ends) l.short.items

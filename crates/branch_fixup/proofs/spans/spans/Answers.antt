@@ -1,9 +1,8 @@
 use Rattle.std.proofs.Common.{◌≡◌, ◌∙◌, ◌+◌, ◌++◌, ℕ, List, take, get_or, arith, sym, ap}
 use Rattle.rv_code.specs.declared.layout.Form.TheVariants as form
-use Rattle.rv_code.specs.layout.ProgramCode.{ProgramCode}
+use Rattle.rv_code.specs.layout.ProgramCode.{ProgramCode, program_code}
 use Rattle.addr_map.specs.declared.span.Span.{Span}
 use Rattle.branch_fixup.specs.BlockInsts.{seen}
-use Rattle.branch_fixup.specs.Inputs.{code_of}
 use Rattle.branch_fixup.specs.Pieces.{laid_from, end_from}
 use Rattle.branch_fixup.specs.Strips.{strips_of, pieces_of, pieces_of_strip}
 use Rattle.branch_fixup.proofs.Appended.{end_append, laid_append, pieces_more, pieces_part, pieces_all}
@@ -31,7 +30,7 @@ put_block-requires-clause-low c =
 pub put_block-requires-clause-short : goal.put_block-requires-clause-short
 put_block-requires-clause-short c =
     let are = c.requires.blocks in
-    let code : ProgramCode = code_of c.args.funcs.now are.roles are.cells are.entry in
+    let code : ProgramCode = program_code c.args.funcs.now are.roles are.cells are.entry in
     let s = seen c.planned-block.result in
     let plan = planned code c.args.blocks.now are.are c.args.order.now c.requires.order c.loop-k.k s c.planned-block.ensures in
     (some_length s.last (strip_length code plan.b s c.requires.laid plan.of s.last (last_there s))).1
@@ -59,7 +58,7 @@ pub returns : goal.returns
 returns c =
     let are = c.requires.blocks in
     let ss = strips_of c.args.funcs.now c.args.blocks.now c.args.order.now in
-    let len = planned_length (code_of c.args.funcs.now are.roles are.cells are.entry) c.args.blocks.now are.are
+    let len = planned_length (program_code c.args.funcs.now are.roles are.cells are.entry) c.args.blocks.now are.are
     c.args.order.now c.requires.order in
     c.loop-k.invariant.0 ∙ ap (laid_from c.args.base) (pieces_all ss c.args.forms.now c.loop-k.k (omega (arith, len))
     (omega arith))

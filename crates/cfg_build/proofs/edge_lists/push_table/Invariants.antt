@@ -1,5 +1,5 @@
 use Rattle.std.proofs.Common.{◌≡◌, take}
-use Rattle.func_find.specs.Referred.{Gains}
+use Rattle.rb_bytes.specs.Lists.{Gains}
 use Rattle.func_find.proofs.Gains.{Given}
 use Rattle.cfg_build.proofs.edge_lists.push_table.Given as goal
 

@@ -2,7 +2,7 @@ use Rattle.std.proofs.Common.{◌≡◌, subst, List, Some, arith}
 use Rattle.std.specs.Prelude.{Any}
 use Rattle.rv_code.specs.declared.placed.Placed.{Placed}
 use Rattle.rv_code.specs.layout.Flow.{target_of}
-use Rattle.func_find.specs.Referred.{Gains}
+use Rattle.rb_bytes.specs.Lists.{Gains}
 use Rattle.func_find.proofs.Gains.{gains_next, gains_all}
 use Rattle.cfg_build.proofs.named.push_targets.Goals as goal
 

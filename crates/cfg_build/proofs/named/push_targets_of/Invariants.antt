@@ -1,6 +1,6 @@
 use Rattle.std.proofs.Common.{◌≡◌, Some, take}
 use Rattle.rv_code.specs.layout.Flow.{target_of}
-use Rattle.func_find.specs.Referred.{Gains}
+use Rattle.rb_bytes.specs.Lists.{Gains}
 use Rattle.func_find.proofs.Gains.{Given}
 use Rattle.cfg_build.proofs.named.push_targets_of.Given as goal
 

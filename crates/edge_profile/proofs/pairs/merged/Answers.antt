@@ -1,6 +1,6 @@
 use Rattle.std.proofs.Common.{sym, subst, ap, arith, length, List, AllPairs}
 use Rattle.std.proofs.lemmas.List.Sorted.{length_permutation}
-use Rattle.edge_profile.specs.Counts.{Counted}
+use Rattle.edge_profile.specs.PairCounts.{Counted}
 use Rattle.edge_profile.specs.Pairs.{AreMerged, IsNotAfter}
 use Rattle.edge_profile.proofs.Merging.{merged-permutation}
 use Rattle.edge_profile.proofs.pairs.merged.Goals as goal

@@ -1,6 +1,6 @@
 use Rattle.std.proofs.Common.{rules}
 use Rattle.std.proofs.lemmas.List.Sorted.{answers_always}
-use Rattle.edge_profile.specs.Counts.{Counted}
+use Rattle.edge_profile.specs.PairCounts.{Counted}
 use Rattle.edge_profile.proofs.Merging.{pairs-sorted}
 use Rattle.edge_profile.proofs.pairs.sort_by_pair.Goals as goal
 

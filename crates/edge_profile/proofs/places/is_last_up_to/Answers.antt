@@ -13,5 +13,4 @@ returns-clause-below c = λ before.
 
 pub returns-clause-above : goal.returns-clause-above
 returns-clause-above c = λ before.
-    start_behind c.args.funcs.now c.requires c.args.address (c.args.index + 1) _
-    (omega (arith, c.if-funcs-index.false, c.if-index-funcs.false)) (ltb-true _ _ before)
+    start_behind c.args.funcs.now c.requires c.args.address (c.args.index + 1) _ (ltb-true _ _ before)

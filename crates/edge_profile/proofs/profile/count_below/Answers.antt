@@ -1,6 +1,6 @@
 use Rattle.std.proofs.Common.{rules, arith}
 use Rattle.std.proofs.lemmas.List.Sorted.{IsPartitionPoint-from_clause}
-use Rattle.edge_profile.specs.Counts.{Counted}
+use Rattle.edge_profile.specs.PairCounts.{Counted}
 use Rattle.edge_profile.specs.Pairs.{is_before}
 use Rattle.edge_profile.proofs.AscendingPairs.{partitioned}
 use Rattle.edge_profile.proofs.profile.count_below.Goals as goal

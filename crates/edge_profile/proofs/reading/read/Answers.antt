@@ -1,6 +1,6 @@
 use Rattle.std.proofs.Common.{◌∙◌, subst, ap, arith, List}
 use Rattle.elf_image.specs.declared.elf.Symbol.{Symbol}
-use Rattle.edge_profile.specs.Counts.{count_among}
+use Rattle.edge_profile.specs.PairCounts.{count_among}
 use Rattle.edge_profile.specs.FunctionNames.{AreNamesOf}
 use Rattle.edge_profile.proofs.AscendingPairs.{ascending_pairs}
 use Rattle.edge_profile.proofs.reading.read.Goals as goal

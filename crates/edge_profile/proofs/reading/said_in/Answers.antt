@@ -1,6 +1,6 @@
 use Rattle.std.proofs.Common.{sym, ap, subst, List}
 use Rattle.edge_profile.specs.declared.lines.Lines.{Lines}
-use Rattle.edge_profile.specs.Counts.{Counted}
+use Rattle.edge_profile.specs.PairCounts.{Counted}
 use Rattle.edge_profile.proofs.Saying.{SaysTo, says_none, says_more, says_nothing, says_all, says_few}
 use Rattle.edge_profile.proofs.reading.said_in.Goals as goal
 

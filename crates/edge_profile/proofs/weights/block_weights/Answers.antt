@@ -1,6 +1,6 @@
 use Rattle.std.proofs.Common.{◌∙◌, sym, subst, take, List, ℕ, ◌+◌}
 use Rattle.std.proofs.lemmas.List.{take_at, take_all}
-use Rattle.edge_profile.specs.Counts.{Counted}
+use Rattle.edge_profile.specs.PairCounts.{Counted}
 use Rattle.edge_profile.proofs.Weighing.{AreWeights, weights_more, weights_all}
 use Rattle.edge_profile.proofs.weights.block_weights.Goals as goal
 

@@ -1,7 +1,7 @@
 use Rattle.std.proofs.Common.{◌<◌, ◌^◌, ap, map, rules, refl}
 use Rattle.std.specs.Prelude.{string_bytes}
 use Rattle.elf_image.specs.memory.Start.{start}
-use Rattle.rv_machine.specs.Stepped.{answered}
+use Rattle.rv_machine.specs.StepResults.{answered}
 use Rattle.edge_record.specs.AddressSets.{watches}
 use Rattle.edge_record.specs.EdgeCounts.{said_of}
 use Rattle.edge_record.proofs.Recording.{finished, unrecorded}

@@ -1,10 +1,10 @@
 use Rattle.std.proofs.Common.{◌≡◌, ◌∙◌, ◌<◌, ◌^◌, [], false, Result, Ok, Err, arith, rules, refl, sym}
 use Rattle.std.specs.Prelude.{OnOk, is_err}
-use Rattle.rv_machine.specs.Stepped.{answered}
+use Rattle.rv_machine.specs.StepResults.{answered}
 use Rattle.rv_machine.proofs.LastSteps.{isnt_going, ran_is}
 use Rattle.edge_record.specs.AddressSets.{watches}
 use Rattle.edge_record.specs.EdgeCounts.{said_of}
-use Rattle.edge_record.specs.Watching.{WatchesRun}
+use Rattle.edge_record.specs.WatchedRuns.{WatchesRun}
 use Rattle.edge_record.proofs.Watching.{few, last_watch, move_more, no_move, stops, walk_more, watch_up}
 use Rattle.edge_record.proofs.watch.watch_run.Goals as goal
 

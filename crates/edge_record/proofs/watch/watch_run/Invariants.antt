@@ -1,5 +1,5 @@
 use Rattle.std.proofs.Common.{◌≤◌, ◌-◌}
-use Rattle.rv_machine.specs.Known.{AreKnown}
+use Rattle.rv_machine.specs.KnownInsts.{AreKnown}
 use Rattle.edge_record.specs.AddressSets.{watches}
 use Rattle.edge_record.specs.EdgeCounts.{said_of}
 use Rattle.edge_record.proofs.Watching.{Watch}

@@ -1,8 +1,9 @@
 use Rattle.std.proofs.Common.{◌≡◌, ◌<◌, ◌≤◌, length, take, map}
 use Rattle.std.specs.Prelude.{All}
 use Rattle.std.specs.List.{flat_map}
+use Rattle.rv_code.specs.layout.WorstSizes.{near_limit}
 use Rattle.func_place.specs.Clusters.{total}
-use Rattle.func_place.specs.internal.Grouping.{list_at}
+use Rattle.func_place.specs.internal.Groups.{list_at}
 use Rattle.func_place.specs.Bands.{bands_of, blocks_of}
 use Rattle.func_place.proofs.bands.order_units.Given as goal
 
@@ -12,5 +13,5 @@ invariant-loop-unit l =
     (l.order.items ≡ flat_map (blocks_of (list_at (map (λ v. v.items) l.hot)) (list_at (map (λ v. v.items) l.cold))) bands.0)
     × (l.band.items ≡ bands.1)
     × (l.filled ≡ total l.sizes bands.1)
-    × (l.filled ≤ 1000000)
+    × (l.filled ≤ near_limit)
     × All (λ u. u < length l.sizes) l.band.items

@@ -2,7 +2,7 @@ use Rattle.std.proofs.Common.{ℕ, ◌≡◌, ◌<◌, Option, None, subst, leng
 use Rattle.std.specs.Prelude.{IfOk, slice_index_or}
 use Rattle.std.specs.List.Sorted.{IsPermutation}
 use Rattle.std.proofs.lemmas.List.Sorted.{All-permutation, sum_by-IsPermutation}
-use Rattle.func_place.specs.declared.calls.Call.{Call}
+use Rattle.func_place.specs.declared.calls.UnitCall.{UnitCall}
 use Rattle.func_place.specs.Calls.{heaviest_caller}
 use Rattle.func_place.proofs.CalleeOrder.{heaviest_caller-IsPermutation}
 use Rattle.func_place.proofs.callers.heaviest_callers.Goals as goal
@@ -10,14 +10,14 @@ use Rattle.func_place.proofs.callers.heaviest_callers.Goals as goal
 pub heaviest_of_sorted-requires-clause-inside : goal.heaviest_of_sorted-requires-clause-inside
 heaviest_of_sorted-requires-clause-inside c =
     rw c.deref.ensures.value
-    (All-permutation (λ (k : Call). (k.from < length c.args.heats.now) × (k.to < length c.args.heats.now)) c.args.calls.now
+    (All-permutation (λ (k : UnitCall). (k.from < length c.args.heats.now) × (k.to < length c.args.heats.now)) c.args.calls.now
     c.in_ok-sorted.sorted.items c.in_ok-sorted.ensures.each c.requires.inside)
 
 pub heaviest_of_sorted-requires-clause-room : goal.heaviest_of_sorted-requires-clause-room
 heaviest_of_sorted-requires-clause-room c =
     rw (
       c.deref.ensures.value,
-      sum_by-IsPermutation (λ (k : Call). k.count) c.args.calls.now c.in_ok-sorted.sorted.items c.in_ok-sorted.ensures.each,
+      sum_by-IsPermutation (λ (k : UnitCall). k.count) c.args.calls.now c.in_ok-sorted.sorted.items c.in_ok-sorted.ensures.each,
     ) c.requires.room
 
 pub returns-clause-heaviest : goal.returns-clause-heaviest

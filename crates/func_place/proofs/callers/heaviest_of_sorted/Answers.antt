@@ -1,7 +1,7 @@
 use Rattle.std.proofs.Common.{ℕ, ◌≡◌, ◌<◌, ◌+◌, List, length, take, arith, sym, ◌∙◌, ap, subst, inl, inr}
 use Rattle.std.specs.Prelude.{slice_index}
 use Rattle.std.proofs.lemmas.List.{take_all, get_or_read}
-use Rattle.func_place.specs.declared.calls.Call.{Call}
+use Rattle.func_place.specs.declared.calls.UnitCall.{UnitCall}
 use Rattle.func_place.proofs.Heaviest.{call_at}
 use Rattle.func_place.proofs.OnlyHeaviest.{callers_found}
 use Rattle.func_place.proofs.Sweep.{IsRun, AreTops, within_all, run_step, tops_take, tops_keep, heaviest_by_tops}
@@ -27,8 +27,8 @@ loop-call-preserved c =
     let r = c.more_of-run.result in
     let run : IsRun calls (i + 1) r = subst (IsRun calls (i + 1)) (sym c.more_of-run.ensures)
     (run_step calls i c.loop-call.run c.requires.ordered lt c.loop-call.invariant.0) in
-    let from_is : r.from ≡ (call_at calls i).from = ap (λ (c : Call). c.from) c.more_of-run.ensures in
-    let to_is : r.to ≡ (call_at calls i).to = ap (λ (c : Call). c.to) c.more_of-run.ensures in
+    let from_is : r.from ≡ (call_at calls i).from = ap (λ (c : UnitCall). c.from) c.more_of-run.ensures in
+    let to_is : r.to ≡ (call_at calls i).to = ap (λ (c : UnitCall). c.to) c.more_of-run.ensures in
     let to_in : r.to < length heats = rw to_is ((c.requires.inside i (record { from = 0; to = 0; count = 0 }) lt).1) in
     let tops = c.loop-call.invariant.1 in
     let best = c.loop-call.heaviest.items in
@@ -72,7 +72,7 @@ returns-clause-heaviest c = λ u.
     let calls = c.args.calls.now in
     let end : c.loop-call.call-index ≡ length calls = omega arith in
     let tops : AreTops heats calls c.loop-call.heaviest.items c.loop-call.most.items =
-    subst (λ (cs : List Call). AreTops heats cs c.loop-call.heaviest.items c.loop-call.most.items)
+    subst (λ (cs : List UnitCall). AreTops heats cs c.loop-call.heaviest.items c.loop-call.most.items)
     (ap (λ (n : ℕ). take n calls) end ∙ take_all (length calls) calls (omega arith)) c.loop-call.invariant.1 in
     callers_found heats calls c.loop-call.heaviest.items u c.requires.inside tops.best_len
     (λ w lt. heaviest_by_tops heats calls c.loop-call.heaviest.items c.loop-call.most.items tops w lt)

@@ -1,7 +1,7 @@
 use Rattle.std.proofs.Common.{◌≡◌, ℕ, ◌<◌, ◌++◌, length}
 use Rattle.std.specs.Prelude.{All}
 use Rattle.std.specs.VecDeque.{deque_len}
-use Rattle.func_place.specs.internal.Grouping.{numbered}
+use Rattle.func_place.specs.internal.Groups.{numbered}
 use Rattle.func_place.proofs.groups.put_at_end.Given as goal
 
 abbrev pub invariant-loop-u : goal.invariant-loop-u

@@ -1,13 +1,14 @@
-use Rattle.std.proofs.Common.{ℕ, ◌≡◌, ◌<◌, ◌≤◌, List, length, get_or, sym, ap, subst, ◌∙◌, arith, map, Vec, Global}
+use Rattle.std.proofs.Common.{ℕ, ◌≡◌, ◌<◌, List, length, get_or, sym, ap, subst, ◌∙◌, arith, map, Vec, Global}
 use Rattle.std.specs.Prelude.{All, sum_by, slice_index}
 use Rattle.std.proofs.lemmas.List.FromFn.{get_or-map-range_with_len, length-map-range_with_len}
 use Rattle.rv_code.specs.declared.placed.Block.{Block}
 use Rattle.rv_code.specs.layout.WorstSizes.{worst_size_of_block}
-use Rattle.func_place.specs.declared.calls.Call.{Call}
-use Rattle.func_place.specs.Placement.{IsPlacement, unit_calls, hot_of, cold_of}
+use Rattle.func_place.specs.declared.calls.UnitCall.{UnitCall}
+use Rattle.rv_code.specs.layout.BlockOrders.{hot_of, cold_of}
+use Rattle.func_place.specs.Placement.{IsPlacement, unit_calls}
 use Rattle.func_place.specs.UnitOrder.{IsUnitOrder}
 use Rattle.func_place.specs.Units.{unit_sum, unit_size, unit_part, by_unit}
-use Rattle.func_place.specs.internal.Grouping.{list_at}
+use Rattle.func_place.specs.internal.Groups.{list_at}
 use Rattle.func_place.proofs.CallBounds.{calls_inside, calls_count}
 use Rattle.rv_code.proofs.lists.FunctionAt.{function_at-inside}
 use Rattle.func_place.proofs.OrderFacts.{has_all, tied_near}
@@ -15,6 +16,7 @@ use Rattle.func_place.proofs.PlacementFaults.{one_list}
 use Rattle.func_place.proofs.UnitClasses.{units_inside}
 use Rattle.func_place.proofs.WorstPositive.{worst_some, unit_some}
 use Rattle.func_place.proofs.placing.order_blocks.Goals as goal
+use Rattle.func_place.specs.Clusters.{AreWithinLimit}
 
 pub parts_of-requires-clause-inside : goal.parts_of-requires-clause-inside
 parts_of-requires-clause-inside c = λ k d lt. let h = units_inside c.args.funcs.now c.args.units.now c.requires.units k d lt in
@@ -53,7 +55,7 @@ place_units-requires-clause-calls_in c =
     let count : length c.args.sizes.now ≡ length units =
     ap length c.requires.sizes ∙ length-map-range_with_len (unit_size funcs units c.args.blocks.now) 0 (length units) in
     let len = c.requires.units.len in
-    subst (All (λ (k : Call). (k.from < length c.args.sizes.now) × (k.to < length c.args.sizes.now)))
+    subst (All (λ (k : UnitCall). (k.from < length c.args.sizes.now) × (k.to < length c.args.sizes.now)))
     (sym (c.deref-4.ensures.value ∙ c.in_ok-calls.ensures))
     (calls_inside funcs units (length c.args.sizes.now) c.args.pairs.now (λ a f found.
     let f_in = function_at-inside funcs a f found in
@@ -64,7 +66,7 @@ pub place_units-requires-clause-calls_room : goal.place_units-requires-clause-ca
 place_units-requires-clause-calls_room c =
     let le = calls_count c.args.funcs.now c.args.units.now c.args.pairs.now in
     let counts = c.requires.counts in
-    subst (λ (ks : List Call). sum_by (λ k. k.count) ks < 340282366920938463463374607431768211456)
+    subst (λ (ks : List UnitCall). sum_by (λ k. k.count) ks < 340282366920938463463374607431768211456)
     (sym (c.deref-4.ensures.value ∙ c.in_ok-calls.ensures)) (omega arith)
 
 -- the order, by any weights that are these
@@ -97,7 +99,7 @@ placed c weight is =
           subst (λ (f : ℕ → List ℕ). IsUnitOrder sizes_new heats_new calls_new (unit_part (hot_of chains) units) f order) cold_is
           (subst (λ (f : ℕ → List ℕ). IsUnitOrder sizes_new heats_new calls_new f
           (list_at (map items c.deref-6.result.now)) order) hot_is
-          (subst (λ (cs : List Call). IsUnitOrder sizes_new heats_new cs (list_at (map items c.deref-5.result.now))
+          (subst (λ (cs : List UnitCall). IsUnitOrder sizes_new heats_new cs (list_at (map items c.deref-5.result.now))
           (list_at (map items c.deref-6.result.now)) order) calls_is
           (subst (λ (hs : List ℕ). IsUnitOrder sizes_new hs c.deref-4.result.now (list_at (map items c.deref-5.result.now))
           (list_at (map items c.deref-6.result.now)) order) heats_is
@@ -112,13 +114,13 @@ own : (c : goal.After-drop-heats-2) → IsPlacement c.args.funcs.now c.args.bloc
 own c = placed c c.requires.weights.0 c.requires.weights.1
 
 low : (c : goal.After-drop-heats-2) →
-    All (λ size. size ≤ 1000000) (by_unit (unit_size c.args.funcs.now (own c).units c.args.blocks.now) (own c).units)
+    AreWithinLimit (by_unit (unit_size c.args.funcs.now (own c).units c.args.blocks.now) (own c).units)
 low c =
     let funcs = c.args.funcs.now in
     let blocks = c.args.blocks.now in
-    let small : All (λ size. size ≤ 1000000) (by_unit (unit_size funcs c.args.units.now blocks) c.args.units.now) =
-    subst (All (λ (size : ℕ). size ≤ 1000000)) c.requires.sizes c.requires.small in
-    subst (λ (us : List ℕ). All (λ size. size ≤ 1000000) (by_unit (unit_size funcs us blocks) us))
+    let small : AreWithinLimit (by_unit (unit_size funcs c.args.units.now blocks) c.args.units.now) =
+    subst AreWithinLimit c.requires.sizes c.requires.small in
+    subst (λ (us : List ℕ). AreWithinLimit (by_unit (unit_size funcs us blocks) us))
     (sym (one_list funcs (own c).units c.args.units.now (own c).are_units c.requires.units)) small
 
 pub returns-clause-order : goal.returns-clause-order

@@ -1,7 +1,7 @@
 use Rattle.std.proofs.Common.{ℕ, ◌≡◌, ◌<◌, ◌++◌, List, length, map, Vec, Global, arith, refl, ap, ◌∙◌}
 use Rattle.std.specs.Prelude.{slice_index}
 use Rattle.std.proofs.lemmas.List.{map-set, length-map}
-use Rattle.func_place.specs.internal.Grouping.{list_at}
+use Rattle.func_place.specs.internal.Groups.{list_at}
 use Rattle.func_place.proofs.UnitSums.{list_of, parts_next}
 use Rattle.func_place.proofs.sums.parts_of.Goals as goal
 

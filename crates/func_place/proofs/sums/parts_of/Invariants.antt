@@ -1,5 +1,5 @@
 use Rattle.std.proofs.Common.{map}
-use Rattle.func_place.specs.internal.Grouping.{list_at}
+use Rattle.func_place.specs.internal.Groups.{list_at}
 use Rattle.func_place.proofs.UnitSums.{AreEmpty, AreParts}
 use Rattle.func_place.proofs.sums.parts_of.Given as goal
 

@@ -1,7 +1,7 @@
 use Rattle.std.proofs.Common.{ℕ, ◌≡◌, sym, ap, ◌∙◌, Bool, true, false, Some, None, refl}
 use Rattle.std.specs.Prelude.{slice_index_or}
 use Rattle.std.proofs.lemmas.Option.{slice_get_read}
-use Rattle.rv_code.specs.layout.InFunctions.{holds}
+use Rattle.rv_code.specs.layout.FunctionMembers.{func_holds}
 use Rattle.rv_code.proofs.lists.FunctionAt.{function_at-holds, function_at-within}
 use Rattle.func_place.proofs.ties.other_function_at.Goals as goal
 
@@ -11,13 +11,13 @@ not_some g e = cc
 not_both : (b : Bool) → b ≡ true → b ≡ false → ⊥
 not_both b h k = cc
 
-pub returns-then-holds : goal.returns-then-holds
-returns-then-holds c = λ g. (
+pub returns-then-func_holds : goal.returns-then-func_holds
+returns-then-func_holds c = λ g. (
   λ e. absurd (not_some g e),
   λ found. absurd (found.1
       (function_at-holds c.args.funcs.now c.args.address c.args.place g c.index-funcs-place.result c.requires.funcs
       (slice_get_read c.args.funcs.now _ c.args.place c.index-funcs-place.result refl c.requires.inside c.index-funcs-place.is)
-      (sym c.holds.ensures ∙ c.if-holds.true) found.0)),
+      (sym c.func_holds.ensures ∙ c.if-func_holds.true) found.0)),
 )
 
 pub returns : goal.returns
@@ -27,10 +27,11 @@ returns c = λ g. (
         found,
         λ (at : g ≡ c.args.place).
             let there = (function_at-within c.args.funcs.now c.args.address g c.index-funcs-place.result found).1 in
-            let same = ap (λ (k : ℕ). holds c.args.address (slice_index_or c.args.funcs.now k c.index-funcs-place.result)) at in
-            let is = ap (holds c.args.address) c.index-funcs-place.is in
-            not_both (holds c.args.address c.index-funcs-place.result) (is ∙ sym same ∙ there)
-            (sym c.holds.ensures ∙ c.if-holds.false),
+            let same = ap (λ (k : ℕ). func_holds c.args.address (slice_index_or c.args.funcs.now k c.index-funcs-place.result)) at
+            in
+            let is = ap (func_holds c.args.address) c.index-funcs-place.is in
+            not_both (func_holds c.args.address c.index-funcs-place.result) (is ∙ sym same ∙ there)
+            (sym c.func_holds.ensures ∙ c.if-func_holds.false),
       ),
   λ found. c.function_at.ensures ∙ found.0,
 )

@@ -1,4 +1,4 @@
-use Rattle.func_place.specs.internal.Gains.{Gains}
+use Rattle.rb_bytes.specs.Lists.{Gains}
 use Rattle.func_place.proofs.TieSets.{TiesOfBelow}
 use Rattle.func_place.proofs.ties.put_ties_of.Given as goal
 

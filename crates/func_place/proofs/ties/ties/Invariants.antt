@@ -1,5 +1,5 @@
 use Rattle.std.proofs.Common.{[]}
-use Rattle.func_place.specs.internal.Gains.{Gains}
+use Rattle.rb_bytes.specs.Lists.{Gains}
 use Rattle.func_place.proofs.TieSets.{TiesBelow}
 use Rattle.func_place.proofs.ties.ties.Given as goal
 

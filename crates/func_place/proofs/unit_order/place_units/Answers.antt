@@ -4,9 +4,9 @@ use Rattle.std.specs.List.{flat_map}
 use Rattle.std.proofs.lemmas.List.Elements.{All-filter}
 use Rattle.std.proofs.lemmas.List.Sorted.{All-permutation}
 use Rattle.func_place.specs.Bands.{order_of}
-use Rattle.func_place.specs.Ranks.{IsInOrder, denser, heads, begins}
+use Rattle.func_place.specs.Ranks.{IsInOrder, denser, begins, cluster_heads}
 use Rattle.func_place.specs.UnitOrder.{cold_units, unit_clusters}
-use Rattle.func_place.specs.internal.Grouping.{list_at}
+use Rattle.func_place.specs.internal.Groups.{list_at}
 use Rattle.func_place.specs.internal.ClusterState.{state_of, count_of}
 use Rattle.func_place.proofs.ClusterMoves.{hot_cluster}
 use Rattle.func_place.proofs.unit_order.place_units.Goals as goal
@@ -28,7 +28,7 @@ put_clusters-requires-clause-units_in c =
     let inside : All (λ u. u < count_of (state_of c.in_ok-clusters.clusters)) c.deref-2.result.now =
     rw (c.in_ok-clusters.ensures.len, ← c.requires.heats_len, c.deref-2.ensures.value) c.in_ok-taken.ensures.inside in
     rw c.deref-3.ensures.value (All-permutation (λ u. u < count_of (state_of c.in_ok-clusters.clusters))
-    (heads cluster c.deref-2.result.now) c.in_ok-ranked.ranked.items order.each
+    (cluster_heads cluster c.deref-2.result.now) c.in_ok-ranked.ranked.items order.each
     (All-filter (λ u. begins (cluster u) u) (λ u. u < count_of (state_of c.in_ok-clusters.clusters)) c.deref-2.result.now inside))
 
 pub returns : goal.returns
@@ -48,7 +48,8 @@ returns c =
       taken_is = rw c.deref.ensures.value c.in_ok-taken.ensures.ordered;
       ranked = c.in_ok-ranked.ranked.items;
       ranked_is =
-          subst (λ (xs : List ℕ). IsInOrder (denser sizes heats cluster) (heads cluster xs) c.in_ok-ranked.ranked.items) same
+          subst (λ (xs : List ℕ). IsInOrder (denser sizes heats cluster) (cluster_heads cluster xs) c.in_ok-ranked.ranked.items)
+          same
           (c.in_ok-ranked.ensures sizes heats cluster keeps);
       order_is = c.in_ok-order.ensures
           ∙ ap (λ (xs : List ℕ). order_of sizes (list_at (map (λ (v : Vec ℕ Global). v.items) c.args.hot.now))

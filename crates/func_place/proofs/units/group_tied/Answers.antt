@@ -1,5 +1,5 @@
 use Rattle.std.proofs.Common.{ℕ, ◌≡◌, ◌≤◌, ◌<◌, length, arith, refl, ◌∙◌}
-use Rattle.func_place.specs.internal.Grouping.{grouping_of}
+use Rattle.func_place.specs.internal.Groups.{grouping_of}
 use Rattle.func_place.specs.internal.TieList.{tie_at, Agrees}
 use Rattle.func_place.proofs.TieGroups.{agrees_first, numbers_agree}
 use Rattle.func_place.proofs.units.group_tied.Goals as goal

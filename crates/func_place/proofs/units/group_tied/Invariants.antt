@@ -1,5 +1,5 @@
 use Rattle.std.proofs.Common.{◌≡◌, length}
-use Rattle.func_place.specs.internal.Grouping.{IsGrouped, grouping_of}
+use Rattle.func_place.specs.internal.Groups.{IsGrouped, grouping_of}
 use Rattle.func_place.specs.internal.TieList.{Agrees}
 use Rattle.func_place.proofs.units.group_tied.Given as goal
 

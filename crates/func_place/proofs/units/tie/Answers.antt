@@ -1,6 +1,6 @@
 use Rattle.std.proofs.Common.{sym, ◌∙◌}
 use Rattle.std.specs.Prelude.{slice_index}
-use Rattle.func_place.specs.internal.Grouping.{grouping_of}
+use Rattle.func_place.specs.internal.Groups.{grouping_of}
 use Rattle.func_place.proofs.GroupMoves.{IsJoined, joined_from, grouped_joined, count_new}
 use Rattle.func_place.proofs.TieGroups.{agrees_skip, agrees_join}
 use Rattle.func_place.proofs.units.tie.Goals as goal
@@ -9,8 +9,8 @@ joined : (c : goal.In_ok-join) → IsJoined (grouping_of c.args.groups.now) (gro
     (slice_index (grouping_of c.args.groups.now).numbers c.args.a)
     (slice_index (grouping_of c.args.groups.now).numbers c.args.b) c.in_ok-join.field-0
 joined c =
-    let first = c.number_of-first.ensures in
-    let second = c.number_of-second.ensures in
+    let first = c.group_number-first.ensures in
+    let second = c.group_number-second.ensures in
     rw (← first.is, ← second.is)
     (joined_from c.requires.grouped c.if-first-second.true first.within second.within c.in_ok-join.ensures.joins)
 
@@ -27,4 +27,4 @@ returns-in_ok-join-clause-agrees c = λ ties i t old. agrees_join ties i c.args.
 pub returns-else-first-second-clause-agrees : goal.returns-else-first-second-clause-agrees
 returns-else-first-second-clause-agrees c = λ ties i t old.
     agrees_skip ties i c.args.a c.args.b (grouping_of c.args.groups.now) t.is
-    (sym c.number_of-first.ensures.is ∙ c.if-first-second.false ∙ c.number_of-second.ensures.is) old
+    (sym c.group_number-first.ensures.is ∙ c.if-first-second.false ∙ c.group_number-second.ensures.is) old

@@ -1,5 +1,5 @@
 use Rattle.std.proofs.Common.{◌∙◌}
-use Rattle.func_place.specs.internal.Grouping.{grouping_of}
+use Rattle.func_place.specs.internal.Groups.{grouping_of}
 use Rattle.func_place.proofs.UnitClasses.{AreTies, are_ties, ties_inside, are_units, units_inside}
 use Rattle.func_place.proofs.units.units_of.Goals as goal
 

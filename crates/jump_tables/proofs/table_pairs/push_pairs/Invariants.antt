@@ -1,6 +1,6 @@
 use Rattle.std.proofs.Common.{◌≡◌, take}
 use Rattle.rv_code.specs.layout.Edges.{IsTableJump}
-use Rattle.func_find.specs.Referred.{Gains}
+use Rattle.rb_bytes.specs.Lists.{Gains}
 use Rattle.func_find.proofs.Gains.{Given}
 use Rattle.jump_tables.specs.TablePairs.{IsLabel}
 use Rattle.jump_tables.proofs.table_pairs.push_pairs.Given as goal

@@ -1,5 +1,5 @@
 use Rattle.std.proofs.Common.{◌≡◌, take}
-use Rattle.func_find.specs.Referred.{Gains}
+use Rattle.rb_bytes.specs.Lists.{Gains}
 use Rattle.func_find.proofs.Gains.{Given}
 use Rattle.jump_tables.proofs.table_pairs.push_row.Given as goal
 

@@ -2,7 +2,7 @@ use Rattle.std.proofs.Common.{sym, subst, ℕ, ◌<◌, List, arith}
 use Rattle.std.specs.Prelude.{AllPairs}
 use Rattle.rv_code.specs.declared.placed.Placed.{Placed}
 use Rattle.rv_code.specs.declared.placed.Func.{Func}
-use Rattle.func_find.specs.Referred.{Gains}
+use Rattle.rb_bytes.specs.Lists.{Gains}
 use Rattle.func_find.proofs.Gains.{Given, gains_next, gains_all}
 use Rattle.jump_tables.specs.TablePairs.{IsPairOf}
 use Rattle.jump_tables.proofs.Collected.{all_gained, AreTablePairs-all}

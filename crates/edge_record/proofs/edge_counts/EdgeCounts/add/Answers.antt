@@ -2,7 +2,7 @@ use Rattle.std.proofs.Common.{◌≡◌, ◌+◌, ◌∙◌, ap, arith, rules, S
 use Rattle.std.specs.Prelude.{◌==◌, ◌&&◌, unwrap_or}
 use Rattle.std.specs.Map.{lookup, set_value}
 use Rattle.indexmap.specs.IndexMap.{insert_entry}
-use Rattle.edge_profile.specs.Counts.{count_among}
+use Rattle.edge_profile.specs.PairCounts.{count_among}
 use Rattle.edge_record.proofs.Counting.{flat, known-le, count_inserted, set_raised}
 use Rattle.edge_record.proofs.edge_counts.EdgeCounts.add.Goals as goal
 

@@ -2,14 +2,14 @@ use Rattle.std.proofs.Common.{ℕ, ◌<◌, length, ◌≡◌, ◌∙◌, sym, r
 use Rattle.std.specs.Prelude.{slice_index, slice_index_or}
 use Rattle.std.proofs.lemmas.List.{get_or_read}
 use Rattle.func_place.specs.declared.clusters.Clusters.{Clusters}
-use Rattle.func_place.specs.internal.ClusterState.{state_of, count_of, size_at, IsSound, Merges}
+use Rattle.func_place.specs.internal.ClusterState.{state_of, count_of, size_at, Merges, IsValidState}
 use Rattle.func_place.proofs.ClusterMoves.{CanJoin, sound_join, count_join, append_step, stays_large, stays_same}
 use Rattle.func_place.proofs.clusters.Clusters.append.Goals as goal
-use Rattle.func_place.proofs.clusters.Clusters.append.Goals.{else-first-second-via-then-first-second+else-index-le-LIMIT}
+use Rattle.func_place.proofs.clusters.Clusters.append.Goals.{else-first-second-via-then-first-second+else-index-le-NEAR_LIMIT}
 use Rattle.func_place.proofs.clusters.Clusters.append.Goals.{else-first-second-via-else-first-second}
 
 -- what was read of a cluster is the size of its unit's
-read : (d : Clusters) (number u n : ℕ) → IsSound (state_of d) → number ≡ slice_index (state_of d).grouping.numbers u →
+read : (d : Clusters) (number u n : ℕ) → IsValidState (state_of d) → number ≡ slice_index (state_of d).grouping.numbers u →
     number < count_of (state_of d) → n ≡ slice_index_or d.totals.items number n → n ≡ size_at (state_of d) u
 read d number u n sound is number_in read_is =
     let inside : number < length d.totals.items = rw sound.totals_len number_in in
@@ -26,17 +26,17 @@ known : (c : goal.In_ok-join) → Known c
 known c =
     let d = c.args.self.now in
     let sound = c.requires.sound in
-    let first = c.number_of-first.ensures in
-    let second = c.number_of-second.ensures in
-    let one = read d c.number_of-first.result c.args.caller c.index.result.now sound first.is first.within c.index.ensures in
-    let two = read d c.number_of-second.result c.args.unit c.index-then-first-second.result.now sound second.is second.within
+    let first = c.group_number-first.ensures in
+    let second = c.group_number-second.ensures in
+    let one = read d c.group_number-first.result c.args.caller c.index.result.now sound first.is first.within c.index.ensures in
+    let two = read d c.group_number-second.result c.args.unit c.index-then-first-second.result.now sound second.is second.within
     c.index-then-first-second.ensures in
     record {
       can = record {
         v_in = c.requires.caller_in;
         u_in = c.requires.unit_in;
         apart = rw (← first.is, ← second.is) c.if-first-second.true;
-        low = rw (← one, ← two) c.if-index-le-LIMIT.true;
+        low = rw (← one, ← two) c.if-index-le-NEAR_LIMIT.true;
       };
       kept = c.in_ok-join.ensures.0;
       merges = rw (← first.is, ← second.is) c.in_ok-join.ensures.1;
@@ -55,16 +55,16 @@ pub returns-else-first-second-clause-keeps : goal.returns-else-first-second-clau
 returns-else-first-second-clause-keeps c =
     let d = c.args.self.now in
     let sound = c.requires.sound in
-    let first = c.number_of-first.ensures in
-    let second = c.number_of-second.ensures in
+    let first = c.group_number-first.ensures in
+    let second = c.group_number-second.ensures in
     elim c.else-first-second.branch [
-      | else-first-second-via-then-first-second+else-index-le-LIMIT w ↦
+      | else-first-second-via-then-first-second+else-index-le-NEAR_LIMIT w ↦
           let one =
-          read d c.number_of-first.result c.args.caller w.index.result.now sound first.is first.within w.index.ensures in
-          let two = read d c.number_of-second.result c.args.unit w.index-then-first-second.result.now sound second.is
+          read d c.group_number-first.result c.args.caller w.index.result.now sound first.is first.within w.index.ensures in
+          let two = read d c.group_number-second.result c.args.unit w.index-then-first-second.result.now sound second.is
           second.within w.index-then-first-second.ensures in
           stays_large sound c.args.caller c.args.unit c.requires.caller_in c.requires.unit_in
-          (rw (← one, ← two) w.if-index-le-LIMIT.false)
+          (rw (← one, ← two) w.if-index-le-NEAR_LIMIT.false)
       | else-first-second-via-else-first-second w ↦
           stays_same sound c.args.caller c.args.unit c.requires.caller_in c.requires.unit_in
           (sym first.is ∙ w.if-first-second.false ∙ second.is)

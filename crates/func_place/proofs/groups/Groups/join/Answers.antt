@@ -2,7 +2,7 @@ use Rattle.std.proofs.Common.{ℕ, ◌≡◌, ◌<◌, Global, List, [], length,
 use Rattle.std.proofs.lemmas.List.{with_items_is, length-map}
 use Rattle.std.specs.declared.collections.VecDeque.{VecDeque}
 use Rattle.func_place.specs.declared.groups.Groups.{Groups}
-use Rattle.func_place.specs.internal.Grouping.{grouping_of, list_at, numbered}
+use Rattle.func_place.specs.internal.Groups.{grouping_of, list_at, numbered}
 use Rattle.func_place.proofs.Moving.{list_from, list_from_other, lists-set}
 use Rattle.func_place.proofs.groups.Groups.join.Goals as goal
 

@@ -3,7 +3,7 @@ use Rattle.std.specs.Prelude.{◌≡◌, ℕ, List, count_by, filter_map, is_non
 use Rattle.rv_code.specs.declared.placed.Func.{Func}
 use Rattle.elf_image.specs.declared.elf.Symbol.{Symbol}
 use Rattle.edge_profile.specs.Grammar.{lines}
-use Rattle.edge_profile.specs.Counts.{counted_by}
+use Rattle.edge_profile.specs.PairCounts.{counted_by}
 use Rattle.edge_profile.specs.declared.reading.Said.{Said}
 
 pub record SaysAll (symbols : List Symbol) (funcs : List Func) (text : List ℕ) (said : Said) : Type 0 where

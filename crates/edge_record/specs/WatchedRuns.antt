@@ -8,10 +8,10 @@ use Rattle.run_core.specs.Inputs.{Outside}
 use Rattle.run_core.specs.Runs.{RunsSomeInput}
 use Rattle.rv_machine.specs.State.{state_of}
 use Rattle.rv_machine.specs.declared.machine.Machine.{Machine}
-use Rattle.edge_profile.specs.Counts.{Counted, count_among}
+use Rattle.edge_profile.specs.PairCounts.{Counted, count_among}
 use Rattle.edge_record.specs.Moves.{Move}
-use Rattle.edge_record.specs.Recording.{ByteMoves, StopsAnywhere, steps_gone}
-use Rattle.edge_record.specs.Taken.{taken_by}
+use Rattle.edge_record.specs.RecordedRuns.{ByteMoves, RecordStops, steps_gone}
+use Rattle.edge_record.specs.MoveCounts.{taken_by}
 
 module _ (counts : Move → Bool) (old now : Machine) (limit n : ℕ) (before after : Outside) (said : List Counted) where
   -- The run answers so, and of its moves those that are counted were said.
@@ -30,4 +30,4 @@ module _ (counts : Move → Bool) (old now : Machine) (limit n : ℕ) (before af
   WatchesRun (answer.Halted pc cause) = IsWatched (answer.Halted pc cause)
   WatchesRun answer.ReadFault = RunsSomeInput state_of Steps answer.ReadFault limit n old now before after
   WatchesRun answer.WriteFault = RunsSomeInput state_of Steps answer.WriteFault limit n old now before after
-  WatchesRun answer.Memory = StopsAnywhere (state_of old) limit before after
+  WatchesRun answer.Memory = RecordStops (state_of old) limit before after

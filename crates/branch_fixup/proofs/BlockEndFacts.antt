@@ -1,4 +1,4 @@
--- What growing needs of tails, and that grown forms are locally the least.
+-- What growing needs of block ends, and that grown forms are locally the least.
 use Rattle.std.proofs.Common.{◌≡◌, ℕ, zero, suc, ◌+◌, ◌<◌, ◌^◌, List, [], ◌∷◌, length, Option, Some, None, Bool, true, false}
 use Rattle.std.proofs.Common.{refl, sym, ap, ◌∙◌, subst, arith, get_or, ℤ, add-one}
 use Rattle.std.specs.Prelude.{slice_get, sum_by, is_some, ◌&&◌, not, if◌then◌else◌}
@@ -11,15 +11,15 @@ use Rattle.rv_code.specs.declared.action.Action.TheVariants as action
 use Rattle.rv_code.specs.declared.layout.Form.{Form}
 use Rattle.rv_code.specs.declared.layout.Form.TheVariants as form
 use Rattle.rv_code.specs.layout.Flow.{action_at, target, target_of, is_branch}
-use Rattle.addr_map.specs.Spans.{new}
-use Rattle.branch_fixup.specs.declared.growth.Tail.{Tail}
-use Rattle.branch_fixup.specs.Endings.{End, Branches, Goes, LeftOut, end_of_form, ending, begins_at}
-use Rattle.branch_fixup.specs.Ends.{AreEnds, IsAt, IsTail, begins_of, lead_of}
-use Rattle.branch_fixup.specs.Forms.{EndByTable, FitsLength, IsLeast}
-use Rattle.branch_fixup.specs.Growth.{AreGrown, AreTails, form_at, half_of, most_of, tail_at, to_at}
-use Rattle.branch_fixup.specs.Strips.{Strip, first_in, first_of, is_alone, spans_of}
-use Rattle.branch_fixup.proofs.Bridge.{AreTailsOf, LeadAsTails, are_least, leads_to}
 use Rattle.rv_code.proofs.lists.Follows.{some_length}
+use Rattle.addr_map.specs.Spans.{new}
+use Rattle.branch_fixup.specs.declared.growth.BlockEnd.{BlockEnd}
+use Rattle.branch_fixup.specs.Endings.{End, Branches, Goes, LeftOut, end_of_form, ending, begins_at}
+use Rattle.branch_fixup.specs.Ends.{AreEnds, IsAt, IsBlockEnd, begins_of, lead_of}
+use Rattle.branch_fixup.specs.Forms.{EndByTable, FitsLength, IsLeast}
+use Rattle.branch_fixup.specs.Growth.{AreGrown, AreBlockEnds, form_at, half_of, most_of, end_at, to_at}
+use Rattle.branch_fixup.specs.Strips.{Strip, first_in, first_of, is_alone, spans_of}
+use Rattle.branch_fixup.proofs.Bridge.{AreBlockEndsOf, LeadAsBlockEnds, are_least, leads_to}
 use Rattle.branch_fixup.proofs.Holders.{last_there}
 use Rattle.branch_fixup.proofs.Placed.{AreStrips, address_at, at_place, before_is, strips_once, upto_last}
 
@@ -151,60 +151,60 @@ lead_is s form.Dropped = refl
 pub lead_same : (s : Strip) (f g : Form) → end_of_form f ≡ end_of_form g → lead_of s f ≡ lead_of s g
 lead_same s f g e = lead_is s f ∙ ap (lead_by s) e ∙ sym (lead_is s g)
 
--- Tails.
+-- BlockEnds.
 
-module _ (ss : List Strip) (are : AreStrips ss) (ts : List Tail) (zs : List Form) (ends : AreEnds ss (length ss) ts zs) where
-  pub tails_of : AreTailsOf ts ss
-  tails_of = record {
-    one_each = ends.tails;
+module _ (ss : List Strip) (are : AreStrips ss) (ts : List BlockEnd) (zs : List Form) (ends : AreEnds ss (length ss) ts zs) where
+  pub block_ends_of : AreBlockEndsOf ts ss
+  block_ends_of = record {
+    one_each = ends.block_ends;
     before = λ k d within.
         let s : Strip = get_or ss k d in
         let at = slice_get-get_or ss k d within in
-        let t = ends.are_tails k s within at in
+        let t = ends.are_block_ends k s within at in
         let i = are.each k s at in
         let e = before_is (first_in s.inner s.last) (s.last.addr + s.last.len) s.inner s.last i.follow in
         let b = t.before in
         omega (arith, e, b);
-    len = λ k d within. (ends.are_tails k (get_or ss k d) within (slice_get-get_or ss k d within)).len;
+    len = λ k d within. (ends.are_block_ends k (get_or ss k d) within (slice_get-get_or ss k d within)).len;
   }
 
-  at_some : (k : ℕ) (d : Strip) → k < length ss → (a : ℕ) × IsAt ss (tail_at ts k).to (tail_at ts k).offset a
+  at_some : (k : ℕ) (d : Strip) → k < length ss → (a : ℕ) × IsAt ss (end_at ts k).to (end_at ts k).offset a
   at_some k d within = by (lead_of (get_or ss k d) (form_at zs k)) refl
     where
-      t : IsTail ss (get_or ss k d) (lead_of (get_or ss k d) (form_at zs k)) (tail_at ts k)
-      t = ends.are_tails k (get_or ss k d) within (slice_get-get_or ss k d within)
+      t : IsBlockEnd ss (get_or ss k d) (lead_of (get_or ss k d) (form_at zs k)) (end_at ts k)
+      t = ends.are_block_ends k (get_or ss k d) within (slice_get-get_or ss k d within)
 
       by : (o : Option ℕ) → lead_of (get_or ss k d) (form_at zs k) ≡ o →
-          (a : ℕ) × IsAt ss (tail_at ts k).to (tail_at ts k).offset a
+          (a : ℕ) × IsAt ss (end_at ts k).to (end_at ts k).offset a
       by None e = (first_in (get_or ss k d).inner (get_or ss k d).last, t.to_itself e)
       by (Some a) e = (a, t.leads a e)
 
-  pub tails_are : sum_by most_of ts < 2 ^ 62 → AreTails ts
-  tails_are low = record {
+  pub block_ends_are : sum_by most_of ts < 2 ^ 62 → AreBlockEnds ts
+  block_ends_are low = record {
     to_block = λ k within.
-        let len = ends.tails in
+        let len = ends.block_ends in
         let d = some_strip k (omega (arith, within, len)) in
         let (a, is) = at_some k d (omega (arith, within, len)) in
-        let h = at_place ss (tail_at ts k).to (tail_at ts k).offset a is in
-        let w = slice_get_within ss (tail_at ts k).to h.s h.at in
+        let h = at_place ss (end_at ts k).to (end_at ts k).offset a is in
+        let w = slice_get_within ss (end_at ts k).to h.s h.at in
         omega (arith, w, len);
     to_inside = λ k within.
-        let len = ends.tails in
+        let len = ends.block_ends in
         let d = some_strip k (omega (arith, within, len)) in
         let (a, is) = at_some k d (omega (arith, within, len)) in
-        let h = at_place ss (tail_at ts k).to (tail_at ts k).offset a is in
-        let w = slice_get_within ss (tail_at ts k).to h.s h.at in
-        let t = (ends.are_tails (tail_at ts k).to h.s w h.at).before in
-        let u = (upto_last h.s (are.each (tail_at ts k).to h.s h.at) h.p h.has).0 in
+        let h = at_place ss (end_at ts k).to (end_at ts k).offset a is in
+        let w = slice_get_within ss (end_at ts k).to h.s h.at in
+        let t = (ends.are_block_ends (end_at ts k).to h.s w h.at).before in
+        let u = (upto_last h.s (are.each (end_at ts k).to h.s h.at) h.p h.has).0 in
         let addr = h.addr in
         let sum = h.sum in
         omega (arith, t, u, addr, sum);
     short = λ k within.
-        let len = ends.tails in
+        let len = ends.block_ends in
         let d = some_strip k (omega (arith, within, len)) in
         let s : Strip = get_or ss k d in
         let at = slice_get-get_or ss k d (omega (arith, within, len)) in
-        let t = (ends.are_tails k s (omega (arith, within, len)) at).len in
+        let t = (ends.are_block_ends k s (omega (arith, within, len)) at).len in
         let l = (some_length s.last ((are.each k s at).lengths s.last (last_there s))).1 in
         omega (arith, t, l);
     low = low;
@@ -230,11 +230,11 @@ module _ (ss : List Strip) (are : AreStrips ss) (ts : List Tail) (zs : List Form
         new (spans_of ss base gs) a ≡ base + to_at ts gs k
     lead_place gs gs_len k s g a at e is =
         let within = slice_get_within ss k s at in
-        let t = ends.are_tails k s within at in
-        address_at ts ss gs base are tails_of gs_len (tail_at ts k).to (tail_at ts k).offset a
+        let t = ends.are_block_ends k s within at in
+        address_at ts ss gs base are block_ends_of gs_len (end_at ts k).to (end_at ts k).offset a
         (t.leads a (lead_same s (form_at zs k) g (sym e) ∙ is))
 
-    leads_as : LeadAsTails ts ss base (λ k. end_of_form (form_at zs k))
+    leads_as : LeadAsBlockEnds ts ss base (λ k. end_of_form (form_at zs k))
     leads_as k half d gs g has within gs_len e =
         let s : Strip = get_or ss k d in
         let at = slice_get-get_or ss k d within in
@@ -245,8 +245,8 @@ module _ (ss : List Strip) (are : AreStrips ss) (ts : List Tail) (zs : List Form
         IsLeast ss base fs k s f
     least grown k s f at_s at_f =
         let within = slice_get_within ss k s at_s in
-        let one = ends.tails in
-        let h = are_least ts ss base (λ j. end_of_form (form_at zs j)) fs s tails_of leads_as
+        let one = ends.block_ends in
+        let h = are_least ts ss base (λ j. end_of_form (form_at zs j)) fs s block_ends_of leads_as
         (strips_once ss are) len same k within (grown.needed k (omega (arith, within, one))) in
         let same_s : get_or ss k s ≡ s = get_or_from_slice_get ss k s s at_s in
         let same_f : form_at fs k ≡ f = get_or_from_slice_get fs k f form.Plain at_f in
@@ -260,9 +260,9 @@ module _ (ss : List Strip) (are : AreStrips ss) (ts : List Tail) (zs : List Form
             (form_at fs k) × FitsLength s.last.len (form_at fs k)
         each k s at =
             let within = slice_get_within ss k s at in
-            let one = ends.tails in (
+            let one = ends.block_ends in (
               subst (λ (n : ℕ). IsOfTable s (begins_of ss n) (form_at fs k)) (add-one k) (of_table k s at),
-              subst (λ (n : ℕ). FitsLength n (form_at fs k)) (ends.are_tails k s within at).len
+              subst (λ (n : ℕ). FitsLength n (form_at fs k)) (ends.are_block_ends k s within at).len
                   (grown.fits k (omega (arith, within, one))),
             )
 

@@ -2,7 +2,7 @@
 use Rattle.std.specs.Prelude.{ℕ, ◌≡◌, ◌⊎◌, ◌<◌, ◌==◌, if◌then◌else◌, All, List, [], ◌++◌, map, length, slice_index}
 use Rattle.std.specs.Prelude.{slice_index_or, slice_set}
 use Rattle.func_place.specs.declared.groups.Groups.{Groups}
-use Rattle.func_place.specs.Clusters.{has}
+use Rattle.func_place.specs.Clusters.{has_unit}
 
 -- the number of each member's group, and the members of each group
 pub record Grouping : Type 0 where
@@ -25,14 +25,14 @@ pub record IsGrouped (g : Grouping) : Type 0 where
   pub number_in : (u : ℕ) → u < length g.lists → slice_index g.numbers u < length g.lists
   pub members_in : (q : ℕ) → q < length g.lists → All (λ u. u < length g.lists) (list_at g.lists q)
   pub stands : (u q : ℕ) → u < length g.lists → q < length g.lists →
-      has (list_at g.lists q) u ≡ (slice_index g.numbers u == q)
+      has_unit (list_at g.lists q) u ≡ (slice_index g.numbers u == q)
 
 -- the number of a member's group, after some members got another
 abbrev pub numbered : List ℕ → ℕ → List ℕ → ℕ → ℕ
-numbered members number numbers u = if has members u then number else slice_index numbers u
+numbered members number numbers u = if has_unit members u then number else slice_index numbers u
 
 -- The members of one group went to another, which now has a given list.
-pub record Moves (old new : Grouping) (left kept : ℕ) (both : List ℕ) : Type 0 where
+pub record MovesGroup (old new : Grouping) (left kept : ℕ) (both : List ℕ) : Type 0 where
   pub numbers_len : length new.numbers ≡ length old.numbers
   pub numbers : (u : ℕ) → u < length old.numbers →
       slice_index new.numbers u ≡ numbered (list_at old.lists left) kept old.numbers u
@@ -42,4 +42,4 @@ pub record Moves (old new : Grouping) (left kept : ℕ) (both : List ℕ) : Type
 abbrev pub Joins : Grouping → Grouping → ℕ → ℕ → ℕ → Type 0
 Joins old new first second kept =
     let both = list_at old.lists first ++ list_at old.lists second in
-    ((kept ≡ second) × Moves old new first second both) ⊎ ((kept ≡ first) × Moves old new second first both)
+    ((kept ≡ second) × MovesGroup old new first second both) ⊎ ((kept ≡ first) × MovesGroup old new second first both)

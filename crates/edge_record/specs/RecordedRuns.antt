@@ -15,7 +15,7 @@ use Rattle.rv_machine.specs.State.{state_of}
 use Rattle.rv_machine.specs.declared.machine.Machine.{Machine}
 use Rattle.edge_record.specs.EdgeText.{IsEdgeText}
 use Rattle.edge_record.specs.Moves.{Move, Moves}
-use Rattle.edge_record.specs.Taken.{taken}
+use Rattle.edge_record.specs.MoveCounts.{taken}
 
 -- how many of the steps that count go on: all but one that ends
 abbrev pub steps_gone : Answer Cause → ℕ → ℕ
@@ -29,7 +29,7 @@ ByteMoves s n moves t = Moves Steps (λ u. u.pc) s n moves t
 -- A machine that begins in the states of `start`, one for each input, does at most `limit` steps.
 module _ (start : List ℕ → ByteState) (limit : ℕ) (before after : Outside) where
   -- Some first steps were done, which may be all of them, and their output was taken.
-  pub record StopsAnywhere : Type 0 where
+  pub record RecordStops : Type 0 where
     pub input : List ℕ
     pub input_is : before.input.left ≡ as_told before.input.left input
     pub steps : ℕ
@@ -62,4 +62,4 @@ module _ (start : List ℕ → ByteState) (limit : ℕ) (before after : Outside)
     Records (answer.Halted pc cause) = IsRecorded (answer.Halted pc cause)
     Records answer.ReadFault = RunsFromStart answer.ReadFault n × (text ≡ [])
     Records answer.WriteFault = RunsFromStart answer.WriteFault n × (text ≡ [])
-    Records answer.Memory = StopsAnywhere × (text ≡ [])
+    Records answer.Memory = RecordStops × (text ≡ [])
