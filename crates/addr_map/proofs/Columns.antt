@@ -7,7 +7,7 @@ use Rattle.std.proofs.lemmas.Grind.{common_steps}
 use Rattle.std.specs.List.Sorted.{IsNonDecreasingBy}
 use Rattle.std.proofs.lemmas.List.{get_or_default, get_or-take, get_or-drop, length-take, length-drop}
 use Rattle.std.proofs.lemmas.List.Sums.{sum_by-cons}
-use Rattle.rb_lanes.specs.Ranking.{rank}
+use Rattle.rb_lanes.specs.Ranks.{rank}
 use Rattle.addr_map.specs.internal.Columns.{IsAscending, IsFirsts, IsGroupCount}
 
 -- the first k members are at most x, and the others are above it

@@ -6,9 +6,9 @@ use Rattle.std.proofs.lemmas.Bool.{cases_lt}
 use Rattle.std.proofs.lemmas.Grind.{common_steps, get_or_default_zero}
 use Rattle.std.proofs.lemmas.List.{length-map}
 use Rattle.std.proofs.lemmas.Option.{slice_get-get_or}
-use Rattle.rb_lanes.specs.Ranking.{rank}
+use Rattle.rb_lanes.specs.Ranks.{rank}
 use Rattle.addr_map.specs.internal.Columns.{IsAscending}
-use Rattle.addr_map.specs.internal.Orders.{IsByNew, IsHolder, spans_of}
+use Rattle.addr_map.specs.internal.Orders.{IsByNew, IsHolder, column_spans}
 use Rattle.addr_map.specs.Spans.{ShareNoByte, has_byte, owner}
 use Rattle.addr_map.specs.declared.span.Span.{Span}
 use Rattle.addr_map.proofs.Columns.{IsRank, rank_at}
@@ -18,7 +18,7 @@ abbrev pub span_at : List ℕ → List ℕ → List ℕ → ℕ → Span
 span_at outs lens inputs i = record { out = get_or outs i 0; len = get_or lens i 0; input = get_or inputs i 0 }
 
 pub length_spans : (outs lens inputs : List ℕ) → length lens ≡ length outs → length inputs ≡ length outs
-    → length (spans_of outs lens inputs) ≡ length outs
+    → length (column_spans outs lens inputs) ≡ length outs
 length_spans [] lens inputs a b = refl
 length_spans (out ∷ outs) [] inputs a b = absurd (omega arith)
 length_spans (out ∷ outs) (len ∷ lens) [] a b = absurd (omega arith)
@@ -26,7 +26,7 @@ length_spans (out ∷ outs) (len ∷ lens) (input ∷ inputs) a b = ap suc (leng
 
 pub get_spans : (outs lens inputs : List ℕ) (i : ℕ) (d : Span) → length lens ≡ length outs → length inputs ≡ length outs
     → i < length outs
-    → get_or (spans_of outs lens inputs) i d ≡ span_at outs lens inputs i
+    → get_or (column_spans outs lens inputs) i d ≡ span_at outs lens inputs i
 get_spans [] lens inputs i d a b lt = absurd (omega arith)
 get_spans (out ∷ outs) [] inputs i d a b lt = absurd (omega arith)
 get_spans (out ∷ outs) (len ∷ lens) [] i d a b lt = absurd (omega arith)
@@ -36,22 +36,22 @@ get_spans (out ∷ outs) (len ∷ lens) (input ∷ inputs) (suc i) d a b lt = ge
 
 pub slice_get_spans : (outs lens inputs : List ℕ) (i : ℕ) → length lens ≡ length outs → length inputs ≡ length outs
     → i < length outs
-    → slice_get (spans_of outs lens inputs) i ≡ Some (span_at outs lens inputs i)
+    → slice_get (column_spans outs lens inputs) i ≡ Some (span_at outs lens inputs i)
 slice_get_spans outs lens inputs i a b lt =
     let d = span_at outs lens inputs 0 in
-    slice_get-get_or (spans_of outs lens inputs) i d (rw (length_spans outs lens inputs a b) lt)
+    slice_get-get_or (column_spans outs lens inputs) i d (rw (length_spans outs lens inputs a b) lt)
     ∙ ap Some (get_spans outs lens inputs i d a b lt)
 
 -- a line has its place in the columns
 pub inside_columns : {outs lens inputs holders : List ℕ} {lines : List Span} {i : ℕ} → IsByNew outs lens inputs holders
-    → spans_of outs lens inputs ≡ lines → i < length lines
+    → column_spans outs lens inputs ≡ lines → i < length lines
     → i < length outs
 inside_columns {outs} {lens} {inputs} {holders} {lines} {i} m e lt =
     omega (arith, ap length e, length_spans outs lens inputs m.lens_count m.inputs_count)
 
 -- the columns of spans hold these spans
 pub spans_parts : (spans : List Span)
-    → spans_of (map (λ s. s.out) spans) (map (λ s. s.len) spans) (map (λ s. s.input) spans) ≡ spans
+    → column_spans (map (λ s. s.out) spans) (map (λ s. s.len) spans) (map (λ s. s.input) spans) ≡ spans
 spans_parts [] = refl
 spans_parts (s ∷ spans) = ap (λ ss. s ∷ ss) (spans_parts spans)
 
@@ -91,13 +91,13 @@ has_not p s never = or_not (has_byte p s) refl
 -- the byte of no span
 owner_none : (outs lens inputs : List ℕ) (p : ℕ) → length lens ≡ length outs → length inputs ≡ length outs
     → ((i : ℕ) → i < length outs → has_byte p (span_at outs lens inputs i) ≡ false)
-    → owner (spans_of outs lens inputs) p ≡ None
+    → owner (column_spans outs lens inputs) p ≡ None
 owner_none [] lens inputs p a b none = refl
 owner_none (out ∷ outs) [] inputs p a b none = absurd (omega arith)
 owner_none (out ∷ outs) (len ∷ lens) [] p a b none = absurd (omega arith)
 owner_none (out ∷ outs) (len ∷ lens) (input ∷ inputs) p a b none =
     let here : has_byte p (record { out = out; len = len; input = input }) ≡ false = none 0 (omega arith) in
-    let rest : owner (spans_of outs lens inputs) p ≡ None
+    let rest : owner (column_spans outs lens inputs) p ≡ None
     = owner_none outs lens inputs p (omega arith) (omega arith) (λ i lt. none (suc i) (omega arith)) in
     rw here rest
 
@@ -105,14 +105,14 @@ owner_none (out ∷ outs) (len ∷ lens) (input ∷ inputs) p a b none =
 owner_at : (outs lens inputs : List ℕ) (p i : ℕ) → length lens ≡ length outs → length inputs ≡ length outs → i < length outs
     → has_byte p (span_at outs lens inputs i) ≡ true
     → ((j : ℕ) → j < i → has_byte p (span_at outs lens inputs j) ≡ false)
-    → owner (spans_of outs lens inputs) p ≡ Some (get_or inputs i 0)
+    → owner (column_spans outs lens inputs) p ≡ Some (get_or inputs i 0)
 owner_at [] lens inputs p i a b lt here before = absurd (omega arith)
 owner_at (out ∷ outs) [] inputs p i a b lt here before = absurd (omega arith)
 owner_at (out ∷ outs) (len ∷ lens) [] p i a b lt here before = absurd (omega arith)
 owner_at (out ∷ outs) (len ∷ lens) (input ∷ inputs) p zero a b lt here before = rw here refl
 owner_at (out ∷ outs) (len ∷ lens) (input ∷ inputs) p (suc i) a b lt here before =
     let first : has_byte p (record { out = out; len = len; input = input }) ≡ false = before 0 (omega arith) in
-    let rest : owner (spans_of outs lens inputs) p ≡ Some (get_or inputs i 0)
+    let rest : owner (column_spans outs lens inputs) p ≡ Some (get_or inputs i 0)
     = owner_at outs lens inputs p i (omega arith) (omega arith) (omega arith) here (λ j less. before (suc j) (omega arith)) in
     rw first rest
 
@@ -125,7 +125,7 @@ apart outs lens inputs holders i j p m lt inside x y =
     let d = span_at outs lens inputs 0 in
     let s = get_spans outs lens inputs i d a b (omega arith) in
     let t = get_spans outs lens inputs j d a b inside in
-    let long : j < length (spans_of outs lens inputs) = rw (length_spans outs lens inputs a b) inside in
+    let long : j < length (column_spans outs lens inputs) = rw (length_spans outs lens inputs a b) inside in
     m.disjoint i j d lt long p (rw s x) (rw t y)
 
 -- the holders, found from the first span on
@@ -161,7 +161,7 @@ holder_next lens i holder h = record {
 
 -- what is found at the last place up to a byte
 pub owner_low : {outs lens inputs holders : List ℕ} (p : ℕ) → IsByNew outs lens inputs holders → rank outs p ≡ 0
-    → owner (spans_of outs lens inputs) p ≡ None
+    → owner (column_spans outs lens inputs) p ≡ None
 owner_low {outs} {lens} {inputs} {holders} p m none =
     let r : IsRank outs p (rank outs p) = rank_at outs p m.ascending in
     owner_none outs lens inputs p m.lens_count m.inputs_count (λ i lt.
@@ -213,7 +213,7 @@ holder_low {outs} {lens} {inputs} {holders} {p} {i} {holder} h =
 
 pub owner_here : {outs lens inputs holders : List ℕ} {p i holder : ℕ} → IsHeld outs lens inputs holders p i holder
     → p < get_or outs holder 0 + get_or lens holder 0
-    → owner (spans_of outs lens inputs) p ≡ Some (get_or inputs holder 0)
+    → owner (column_spans outs lens inputs) p ≡ Some (get_or inputs holder 0)
 owner_here {outs} {lens} {inputs} {holders} {p} {i} {holder} h lt =
     let m = h.by_new in
     let inside = holder_inside h in
@@ -225,7 +225,7 @@ owner_here {outs} {lens} {inputs} {holders} {p} {i} {holder} h lt =
 
 pub owner_other : {outs lens inputs holders : List ℕ} {p i holder : ℕ} → IsHeld outs lens inputs holders p i holder
     → get_or outs holder 0 + get_or lens holder 0 ≤ p
-    → owner (spans_of outs lens inputs) p ≡ None
+    → owner (column_spans outs lens inputs) p ≡ None
 owner_other {outs} {lens} {inputs} {holders} {p} {i} {holder} h le =
     let m = h.by_new in
     let r : IsRank outs p (rank outs p) = rank_at outs p h.by_new.ascending in

@@ -1,7 +1,7 @@
 // Ascending columns of numbers, in which a place is found by a few short searches.
 ghost use Rattle.std.specs.Prelude.{◌≡◌, IfOk};
 ghost use Rattle.std.specs.List.Sorted.{IsNonDecreasingBy};
-ghost use Rattle.rb_lanes.specs.Ranking.{rank};
+ghost use Rattle.rb_lanes.specs.Ranks.{rank};
 ghost use Rattle.addr_map.specs.internal.Columns.{IsAscending, IsFirsts, IsGroupCount, AreLevels};
 
 use rb_bytes::fault::NoMemory;

@@ -24,11 +24,11 @@ pub(crate) struct NewOrder {
 impl Model for NewOrder {
     ghost use Rattle.std.specs.Prelude.{List};
     ghost use Rattle.addr_map.specs.declared.span.Span.{Span};
-    ghost use Rattle.addr_map.specs.internal.Orders.{IsByNew, spans_of};
+    ghost use Rattle.addr_map.specs.internal.Orders.{IsByNew, column_spans};
 
     ghost Value = { List Span };
 
-    ghost view = { λ m. spans_of m.outs m.lens.items m.inputs.items };
+    ghost view = { λ m. column_spans m.outs m.lens.items m.inputs.items };
 
     ghost invariant = { λ m. IsByNew m.outs m.lens.items m.inputs.items m.holders.items };
 }

@@ -20,7 +20,7 @@ use Rattle.elf_image.specs.code.Functions.{IsNopAt}
 use Rattle.elf_image.specs.code.Parts.{IsInstAt, IsStart, halfword_at}
 use Rattle.elf_image.specs.code.Roles.{Claims, HasRole, RoleIs}
 use Rattle.elf_image.specs.code.Roles as claims
-use Rattle.move_law.specs.Laws.{IsAccepted}
+use Rattle.move_law.specs.Laws.{IsAcceptedCode}
 use Rattle.move_law.proofs.Lists.{all_of}
 use Rattle.move_law.proofs.code.CellWidths.{can_of, field_width, same_address}
 use Rattle.move_law.proofs.code.FittingRoles.{RoleFits, Target, has_code_facts}
@@ -55,7 +55,7 @@ IsHighLow _ = Unit {0}
 four : (elf : Elf) (a b : ℕ) (i j : Inst) (n : ℕ) → IsInstAt elf a i n → a ≡ b → IsInstAt elf b j 4 → n ≡ 4
 four elf a b i j n x same y = sym (length_of elf b i n (subst (λ (z : ℕ). IsInstAt elf z i n) same x)) ∙ length_of elf b j 4 y
 
-module _ (elf : Elf) (code : ProgramCode) (accepted : IsAccepted elf code) (laid : AreLaidOut code.funcs) where
+module _ (elf : Elf) (code : ProgramCode) (accepted : IsAcceptedCode elf code) (laid : AreLaidOut code.funcs) where
   four_by : (p : Placed) → IsInstAt elf p.addr p.inst p.len → (part : Role) (has : HasRole elf p.addr part) →
       Claims elf has.relocation p.addr has.key part → p.len ≡ 4
   four_by p is part has (claims.call_hi t call at k e) =

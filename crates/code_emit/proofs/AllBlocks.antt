@@ -8,11 +8,12 @@ use Rattle.rv_code.specs.declared.placed.Block.{Block}
 use Rattle.rv_code.specs.declared.placed.Func.{Func}
 use Rattle.rv_code.specs.layout.Flow.{insts_of}
 use Rattle.rv_code.specs.layout.FunctionLists.{AreLaidOut, address_end}
-use Rattle.rv_code.specs.layout.ProgramCode.{ProgramCode}
+use Rattle.rv_code.specs.layout.ProgramCode.{ProgramCode, program_code}
+use Rattle.rv_code.specs.layout.BlockOrders.{HasAllBlocks}
 use Rattle.addr_map.specs.declared.span.Span.{Span}
 use Rattle.addr_map.specs.Spans.{new}
 use Rattle.branch_fixup.specs.Ends.{begins_of}
-use Rattle.branch_fixup.specs.Inputs.{AreBlocksOf, AreDirect, IsOrder, code_of}
+use Rattle.branch_fixup.specs.Inputs.{AreBlocksOf, AreDirect}
 use Rattle.branch_fixup.specs.Pieces.{Piece, PlacedFrom, end_from}
 use Rattle.branch_fixup.specs.Strips.{Strip, insts_in, pieces_of, pieces_of_strip, spans_of, strips_of}
 use Rattle.branch_fixup.proofs.Appended.{end_append, pieces_all, pieces_more, pieces_part}
@@ -20,10 +21,10 @@ use Rattle.branch_fixup.proofs.Lists.{at_contains, contains_at, flat_at}
 use Rattle.branch_fixup.proofs.Planned.{planned, planned_length}
 use Rattle.move_law.proofs.Lists.{all_of}
 use Rattle.move_law.specs.Rewrite.{Goes, Rewrite}
-use Rattle.move_law.specs.Faithful.{GoesOn, KeepsInst}
+use Rattle.move_law.specs.FaithfulRewrite.{GoesOn, KeepsInst}
 use Rattle.code_emit.specs.Bytes.{Adds, AllCanBeEncoded}
 use Rattle.code_emit.specs.Inputs.{AreLow, AreMapped, CanMove, HasLowTargets, HaveMap}
-use Rattle.code_emit.specs.Made.{made_from}
+use Rattle.code_emit.specs.NewInsts.{made_from}
 use Rattle.code_emit.specs.Output.{Puts}
 use Rattle.code_emit.proofs.EmitKeeps.{each_goes_on, each_keeps}
 use Rattle.code_emit.proofs.Facts.{all_placed, all_stand, are_low, low_targets, same_new}
@@ -36,7 +37,7 @@ pub record IsGiven (funcs : List Func) (blocks : List Block) (order : List ℕ) 
   pub laid : AreLaidOut funcs
   pub direct : AreDirect funcs
   pub blocks_of : AreBlocksOf funcs blocks
-  pub perm : IsOrder blocks order
+  pub perm : HasAllBlocks blocks order
   pub insts : All CanMove (insts_of funcs)
   pub mapped : HaveMap (strips_of funcs blocks order) fs lines
 
@@ -54,7 +55,7 @@ made_same f g P same h = subst P (λ i t. same t i) h
 module _ (funcs : List Func) (blocks : List Block) (order : List ℕ) (fs : List Form) (lines : List Span)
     (g : IsGiven funcs blocks order fs lines) where
   abbrev code : ProgramCode
-  code = code_of funcs g.blocks_of.roles g.blocks_of.cells g.blocks_of.entry
+  code = program_code funcs g.blocks_of.roles g.blocks_of.cells g.blocks_of.entry
 
   abbrev ss : List Strip
   ss = strips_of funcs blocks order

@@ -18,19 +18,19 @@ use Rattle.rv_code.specs.declared.placed.Role.{Role}
 use Rattle.rv_code.specs.declared.placed.Role.TheVariants as role
 use Rattle.rv_code.specs.isa.Action.{action_of}
 use Rattle.rv_code.specs.isa.Bits.{field}
-use Rattle.rv_code.specs.isa.Decoding.{Decodes}
+use Rattle.rv_code.specs.isa.InstBytes.{Decodes}
 use Rattle.rv_code.specs.isa.FullRows.{IsFull}
 use Rattle.rv_code.specs.isa.HalfRows.{Row, expansion, C_J, C_BEQZ, C_BNEZ}
 use Rattle.rv_code.specs.layout.Flow.{is_branch, target, target_of, action_at}
 use Rattle.rv_code.specs.isa.HiLo.{hi20, lo12}
 use Rattle.rv_code.specs.isa.Reach.{IsWithin, Reaches}
-use Rattle.rv_encode.specs.Fits.{FitsFull, FitsHalf, FitsTwo}
+use Rattle.rv_encode.specs.FittingOperands.{FitsFull, FitsHalf, FitsTwo}
 use Rattle.move_law.specs.RelocatedValues.{distance}
-use Rattle.move_law.specs.Faithful.{with_immediate, made_anew}
-use Rattle.code_emit.specs.Made.{Made, with_distance, turned, kept, jump_to, added, made}
+use Rattle.move_law.specs.FaithfulRewrite.{with_immediate, made_anew}
+use Rattle.code_emit.specs.NewInsts.{Made, with_distance, turned, kept, jump_to, added, made}
 use Rattle.move_law.specs.AddressParts.{IsAuipc, IsLui, TakesLower}
 use Rattle.code_emit.specs.Inputs.{FitsRole}
-use Rattle.branch_fixup.specs.Reach.{reaches, Leap, lands, reach_of, main_leap, added_leap, new_target}
+use Rattle.branch_fixup.specs.Distances.{reaches, Leap, lands, reach_of, main_leap, added_leap, new_target}
 use Rattle.code_emit.specs.Bytes.{CanBeEncoded, AllCanBeEncoded}
 use Rattle.code_emit.proofs.Fit.{reaches_is, lower_within, upper_within, upper_of_number_within}
 

@@ -9,18 +9,19 @@ use Rattle.rv_code.specs.layout.Blocks.{AreBlocks}
 use Rattle.rv_code.specs.layout.Flow.{insts_of}
 use Rattle.rv_code.specs.layout.FunctionLists.{AreLaidOut, address_end}
 use Rattle.rv_code.specs.layout.ProgramCode.{ProgramCode}
+use Rattle.rv_code.specs.layout.BlockOrders.{HasAllBlocks}
 use Rattle.addr_map.specs.declared.span.Span.{Span}
 use Rattle.addr_map.specs.Spans.{new}
 use Rattle.move_law.specs.Rewrite.{Rewrite, Goes, out}
-use Rattle.move_law.specs.Faithful.{GoesOn, KeepsInst}
+use Rattle.move_law.specs.FaithfulRewrite.{GoesOn, KeepsInst}
 use Rattle.move_law.proofs.Lists.{all_of}
-use Rattle.branch_fixup.specs.Inputs.{AreDirect, IsOrder}
+use Rattle.branch_fixup.specs.Inputs.{AreDirect}
 use Rattle.branch_fixup.specs.Pieces.{Piece, PlacedFrom, length_of}
 use Rattle.branch_fixup.specs.Strips.{pieces_of, spans_of, strips_of}
 use Rattle.branch_fixup.proofs.Laid.{laid_has}
 use Rattle.code_emit.specs.Bytes.{Adds, AllStandIn}
 use Rattle.code_emit.specs.Inputs.{AreMapped, CanMove}
-use Rattle.code_emit.specs.Made.{made_from}
+use Rattle.code_emit.specs.NewInsts.{made_from}
 use Rattle.code_emit.specs.Output.{Puts}
 use Rattle.code_emit.proofs.Coded.{has_all}
 use Rattle.code_emit.proofs.Facts.{all_placed, low_new, same_new}
@@ -34,7 +35,7 @@ any_permuted : (P : Span → Type 0) (xs ys : List Span) → ((s : Span) → Con
 any_permuted P xs ys same (k, s, within, is, p) = let (j, more, at) = same s (k, within, is) in (j, s, more, at, p)
 
 module _ (code : ProgramCode) (blocks : List Block) (order : List ℕ) (laid : AreLaidOut code.funcs)
-    (direct : AreDirect code.funcs) (are : AreBlocks code blocks) (perm : IsOrder blocks order)
+    (direct : AreDirect code.funcs) (are : AreBlocks code blocks) (perm : HasAllBlocks blocks order)
     (can : All CanMove (insts_of code.funcs)) (fs : List Form) (base : ℕ) (lines : List Span)
     (m : AreMapped (strips_of code.funcs blocks order) fs base lines) (r : Rewrite) (bytes : List ℕ)
     (puts : Puts r code.funcs lines base bytes)

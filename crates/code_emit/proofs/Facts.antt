@@ -17,12 +17,13 @@ use Rattle.rv_code.specs.layout.Blocks.{AreBlocks}
 use Rattle.rv_code.specs.layout.Flow.{insts_of, target_of}
 use Rattle.rv_code.specs.layout.FunctionLists.{AreLaidOut, Follow, HasLength, address_end}
 use Rattle.rv_code.specs.layout.ProgramCode.{ProgramCode}
+use Rattle.rv_code.specs.layout.BlockOrders.{HasAllBlocks}
 use Rattle.addr_map.specs.declared.span.Span.{Span}
 use Rattle.addr_map.specs.Spans.{is_of, new}
 use Rattle.addr_map.proofs.Orders.{lines_apart, moved_permutation}
-use Rattle.branch_fixup.specs.Inputs.{AreDirect, IsOrder, LeadsToCode}
-use Rattle.branch_fixup.specs.Pieces.{Piece, PlacedFrom, end_from, laid_from, length_in, length_of}
-use Rattle.branch_fixup.specs.Reach.{AllLand, added_leap, new_target, lands, main_leap}
+use Rattle.branch_fixup.specs.Inputs.{AreDirect, LeadsToCode}
+use Rattle.branch_fixup.specs.Pieces.{Piece, PlacedFrom, end_from, laid_from, piece_length, length_of}
+use Rattle.branch_fixup.specs.Distances.{AllLand, added_leap, new_target, lands, main_leap}
 use Rattle.branch_fixup.specs.Strips.{Strip, pieces_of, spans_of, strips_of}
 use Rattle.branch_fixup.proofs.Falls.{below_limit, code_at}
 use Rattle.rv_code.proofs.lists.Follows.{laid_func}
@@ -31,7 +32,7 @@ use Rattle.branch_fixup.proofs.Lists.{Contains-cons_cases, Contains-there, at_co
 use Rattle.branch_fixup.proofs.Placed.{are_strips, strips_once}
 use Rattle.code_emit.specs.Bytes.{AllCanBeEncoded}
 use Rattle.code_emit.specs.Inputs.{AreLow, AreMapped, CanMove, FitsRole, HasLowTargets, IsLowRole}
-use Rattle.code_emit.specs.Made.{Made, made, made_from}
+use Rattle.code_emit.specs.NewInsts.{Made, made, made_from}
 use Rattle.code_emit.proofs.CanStand.{AreLowRole, Fitting, all_can}
 use Rattle.code_emit.proofs.Flows.{target_low}
 use Rattle.code_emit.proofs.Pieces.{inst_of, of_strip, tabled}
@@ -47,7 +48,7 @@ new_has P (s ∷ ss) t each itself =
       | false ↦ new_has P ss t (λ x c. each x (Contains-there s ss x c)) itself
     ]
 
-form_even : (n : ℕ) (f : Form) → n % 2 ≡ 0 → length_in n f % 2 ≡ 0
+form_even : (n : ℕ) (f : Form) → n % 2 ≡ 0 → piece_length n f % 2 ≡ 0
 form_even n form.Plain h = h
 form_even n form.Jump h = omega (arith, h)
 form_even n (form.Branch inverted Half true) h = refl
@@ -146,7 +147,7 @@ can_join (x ∷ xs) ys h k = (h.0, can_join xs ys h.1 k)
 -- Pieces.
 
 module _ (code : ProgramCode) (blocks : List Block) (order : List ℕ) (laid : AreLaidOut code.funcs)
-    (direct : AreDirect code.funcs) (are : AreBlocks code blocks) (perm : IsOrder blocks order)
+    (direct : AreDirect code.funcs) (are : AreBlocks code blocks) (perm : HasAllBlocks blocks order)
     (can : All CanMove (insts_of code.funcs)) (fs : List Form) (base : ℕ) (lines : List Span)
     (m : AreMapped (strips_of code.funcs blocks order) fs base lines) where
   abbrev ss : List Strip

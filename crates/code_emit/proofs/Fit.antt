@@ -9,7 +9,7 @@ use Rattle.std.proofs.lemmas.Bool.{and_parts, leb-true, ltb-true, cases_lt}
 use Rattle.rv_code.specs.isa.Reach.{IsWithin, Reaches}
 use Rattle.rv_code.specs.isa.HiLo.{hi20, lo12}
 use Rattle.move_law.specs.RelocatedValues.{distance}
-use Rattle.branch_fixup.specs.Reach.{reaches}
+use Rattle.branch_fixup.specs.Distances.{reaches}
 
 ahead : (a t : ℕ) → a ≤ t → distance t a ≡ pos (t - a)
 ahead a t h = omega (arith, ints, h)

@@ -11,9 +11,10 @@ use Rattle.rv_code.specs.layout.Blocks.{AreBlocks}
 use Rattle.rv_code.specs.layout.Flow.{insts_of, target_of}
 use Rattle.rv_code.specs.layout.FunctionLists.{AreLaidOut, address_end}
 use Rattle.rv_code.specs.layout.ProgramCode.{ProgramCode, is_code_address}
+use Rattle.rv_code.specs.layout.BlockOrders.{HasAllBlocks}
 use Rattle.move_law.specs.Rewrite.{Rewrite, out}
-use Rattle.move_law.specs.Faithful.{next}
-use Rattle.branch_fixup.specs.Inputs.{AreDirect, IsOrder, LeadsToCode}
+use Rattle.move_law.specs.FaithfulRewrite.{next}
+use Rattle.branch_fixup.specs.Inputs.{AreDirect, LeadsToCode}
 use Rattle.branch_fixup.specs.Strips.{Strip, insts_in, strips_of}
 use Rattle.branch_fixup.proofs.Falls.{below_limit, code_at}
 use Rattle.rv_code.proofs.lists.Follows.{follow_next, laid_func}
@@ -105,7 +106,7 @@ module _ (r : Rewrite) (code : ProgramCode) (laid : AreLaidOut code.funcs) (dire
   each_flows [] h = tt
   each_flows (s ∷ ss) h = (h 0 s refl, each_flows ss (λ k t at. h (suc k) t at))
 
-  pub all_flow : (blocks : List Block) (order : List ℕ) → AreBlocks code blocks → IsOrder blocks order →
+  pub all_flow : (blocks : List Block) (order : List ℕ) → AreBlocks code blocks → HasAllBlocks blocks order →
       AllFlow r (strips_of code.funcs blocks order)
   all_flow blocks order are perm =
       each_flows (strips_of code.funcs blocks order)

@@ -23,13 +23,13 @@ use Rattle.rv_code.specs.machine.Machine.{plus}
 use Rattle.rv_code.specs.isa.TwosComplement.{unsigned64}
 use Rattle.move_law.specs.Rewrite.{Rewrite, Goes, out, inst_end, stays, jumps}
 use Rattle.move_law.specs.RelocatedValues.{distance}
-use Rattle.move_law.specs.Faithful.{next, GetsToNext, GoesOn, made_anew, HasInSpan, goes_on, KeepsBranch, same, opposite}
-use Rattle.move_law.specs.Faithful.{KeepsAction, KeepsInst}
-use Rattle.branch_fixup.specs.Pieces.{length_in, bytes_of_size, bytes_of_jump}
+use Rattle.move_law.specs.FaithfulRewrite.{next, GetsToNext, GoesOn, made_anew, HasInSpan, goes_on, KeepsBranch, same, opposite}
+use Rattle.move_law.specs.FaithfulRewrite.{KeepsAction, KeepsInst}
+use Rattle.branch_fixup.specs.Pieces.{piece_length, bytes_of_size, bytes_of_jump}
 use Rattle.branch_fixup.specs.Endings.{Kept, Branches, LeftOut, end_of_form, begins_at, ending}
 use Rattle.branch_fixup.specs.Endings.{Goes as EndGoes}
-use Rattle.branch_fixup.specs.Reach.{new_target}
-use Rattle.code_emit.specs.Made.{Made, with_distance, opposite_of, kept, branch_to, added, made}
+use Rattle.branch_fixup.specs.Distances.{new_target}
+use Rattle.code_emit.specs.NewInsts.{Made, with_distance, opposite_of, kept, branch_to, added, made}
 use Rattle.code_emit.proofs.Standing.{HasMade, HasAll, has_at, width_is}
 
 abbrev pub apart_of : Option ℕ → Option ℕ → Bool
@@ -38,13 +38,13 @@ apart_of fall next = option_map_or (λ f. not (begins_at next (Some f))) fall fa
 -- An instruction at its place in the new code: where it falls, and which one follows.
 pub record Stands (r : Rewrite) (p : Placed) (form : Form) (fall after : Option ℕ) (a : ℕ) : Type 0 where
   pub out_is : out r p.addr ≡ a
-  pub span : Any (λ s. (s.input ≡ p.addr) × (length_in p.len form ≤ s.len)) r.spans
+  pub span : Any (λ s. (s.input ≡ p.addr) × (piece_length p.len form ≤ s.len)) r.spans
   pub stands : HasAll r.output a (made (out r) a p form)
-  pub room : a + length_in p.len form < 2 ^ 63
+  pub room : a + piece_length p.len form < 2 ^ 63
   pub small_goal : (t : ℕ) → target_of p ≡ Some t → out r t < 2 ^ 63
   pub small_fall : out r (p.addr + p.len) < 2 ^ 63
   pub end : p.addr + p.len < 2 ^ 64
-  pub after_is : (n : ℕ) → after ≡ Some n → out r n ≡ a + length_in p.len form
+  pub after_is : (n : ℕ) → after ≡ Some n → out r n ≡ a + piece_length p.len form
   pub fall_is : (n : ℕ) → fall ≡ Some n → n ≡ p.addr + p.len
   pub falls : is_plain_jump (action_at p) ≡ false → next r p ≡ fall
 
@@ -113,7 +113,7 @@ stays_away : (x : Action) → goes_on x ≡ false → IsTrue (goes_on x) → ⊥
 stays_away x off goes = absurd (let e : true ≡ false = sym goes ∙ off in cc)
 
 module _ (r : Rewrite) (p : Placed) (f : Form) (fall after : Option ℕ) (a : ℕ) (s : Stands r p f fall after a) where
-  in_span : (inst : Inst) (bytes : ℕ) → bytes ≤ length_in p.len f → HasMade r.output a inst bytes → HasInSpan r p inst
+  in_span : (inst : Inst) (bytes : ℕ) → bytes ≤ piece_length p.len f → HasMade r.output a inst bytes → HasInSpan r p inst
   in_span inst bytes h has =
       let (k, t, within, is, (e, fits)) = s.span in
       let there : HasMade r.output (out r p.addr) inst bytes =
@@ -140,11 +140,11 @@ module _ (r : Rewrite) (p : Placed) (f : Form) (fall after : Option ℕ) (a : �
   goes_from inst bytes to has h = subst (λ (q : ℕ). Goes r.output q to) (sym (ends_at inst bytes has)) h
 
   -- Control goes on from e, where the jump stands or the next block begins.
-  on : (b : Bool) (e : ℕ) → apart_of fall after ≡ b → e + bytes_of_jump b ≡ a + length_in p.len f →
+  on : (b : Bool) (e : ℕ) → apart_of fall after ≡ b → e + bytes_of_jump b ≡ a + piece_length p.len f →
       HasAll r.output e (added (out r) p b e) → is_plain_jump (action_at p) ≡ false → GetsToNext r (Goes r.output) p e
   on b e is at has plain = rw (s.falls plain) (by b fall refl is at has)
     where
-      follows : (n : ℕ) (o : Option ℕ) → after ≡ o → not (begins_at o (Some n)) ≡ false → e ≡ a + length_in p.len f →
+      follows : (n : ℕ) (o : Option ℕ) → after ≡ o → not (begins_at o (Some n)) ≡ false → e ≡ a + piece_length p.len f →
           Goes r.output e (out r n)
       follows n None k h at = absurd (cc)
       follows n (Some m) k h at =
@@ -155,7 +155,7 @@ module _ (r : Rewrite) (p : Placed) (f : Form) (fall after : Option ℕ) (a : �
           flip true h = refl
           flip false h = absurd (cc)
 
-      by : (b : Bool) (o : Option ℕ) → fall ≡ o → apart_of o after ≡ b → e + bytes_of_jump b ≡ a + length_in p.len f →
+      by : (b : Bool) (o : Option ℕ) → fall ≡ o → apart_of o after ≡ b → e + bytes_of_jump b ≡ a + piece_length p.len f →
           HasAll r.output e (added (out r) p b e) → IfSome o (λ n. Goes r.output e (out r n))
       by b None k is at has = tt
       by true (Some n) k is at has =
@@ -164,11 +164,11 @@ module _ (r : Rewrite) (p : Placed) (f : Form) (fall after : Option ℕ) (a : �
           (leads r e (out r (p.addr + p.len)) 4 has.0 (omega (arith, at, room)) s.small_fall)
       by false (Some n) k is at has = follows n after refl is (omega (arith, at))
 
-  wrapped : (n : ℕ) (b : Bool) → n + bytes_of_jump b ≡ length_in p.len f → plus a n ≡ a + n
+  wrapped : (n : ℕ) (b : Bool) → n + bytes_of_jump b ≡ piece_length p.len f → plus a n ≡ a + n
   wrapped n b e = let room = s.room in inside_sum a n (omega (arith, e, room))
 
   -- the same from an instruction's end
-  on_end : (b : Bool) (n : ℕ) → apart_of fall after ≡ b → n + bytes_of_jump b ≡ length_in p.len f →
+  on_end : (b : Bool) (n : ℕ) → apart_of fall after ≡ b → n + bytes_of_jump b ≡ piece_length p.len f →
       HasAll r.output (a + n) (added (out r) p b (a + n)) → is_plain_jump (action_at p) ≡ false →
       GetsToNext r (Goes r.output) p (plus (out r p.addr) n)
   on_end b n is at has plain = rw (s.out_is, wrapped n b at) (on b (a + n) is (omega (arith, at)) has plain)
@@ -178,7 +178,7 @@ module _ (r : Rewrite) (p : Placed) (f : Form) (fall after : Option ℕ) (a : �
   goes_to t n h has = let room = s.room in rw s.out_is (leads r a (out r t) n has (omega (arith, room)) (s.small_goal t h))
 
   -- An instruction that keeps its width.
-  kept_keeps : (b : Bool) → apart_of fall after ≡ b → p.len + bytes_of_jump b ≡ length_in p.len f →
+  kept_keeps : (b : Bool) → apart_of fall after ≡ b → p.len + bytes_of_jump b ≡ piece_length p.len f →
       HasMade r.output a (kept (out r) a p) p.len → HasAll r.output (a + p.len) (added (out r) p b (a + p.len)) →
       KeepsInst r (Goes r.output) p
   kept_keeps b is at has more = by (action_at p) refl
@@ -237,7 +237,7 @@ module _ (r : Rewrite) (p : Placed) (f : Form) (fall after : Option ℕ) (a : �
       by Breakpoint e = plain (ap (target p.addr) e)
 
   -- It goes on where it falls.
-  kept_goes_on : (b : Bool) → apart_of fall after ≡ b → p.len + bytes_of_jump b ≡ length_in p.len f →
+  kept_goes_on : (b : Bool) → apart_of fall after ≡ b → p.len + bytes_of_jump b ≡ piece_length p.len f →
       HasMade r.output a (kept (out r) a p) p.len → HasAll r.output (a + p.len) (added (out r) p b (a + p.len)) →
       GoesOn r (Goes r.output) p
   kept_goes_on b is at has more goes =
@@ -256,7 +256,7 @@ module _ (r : Rewrite) (p : Placed) (f : Form) (fall after : Option ℕ) (a : �
   module _ (test : Test) (wanted : Bool) (rs1 rs2 : ℕ) (imm : ℤ) (e : action_at p ≡ Branch test wanted rs1 rs2 imm) where
     -- one that leads to its target
     straight : (jump : Bool) (size : Size) → apart_of fall after ≡ jump →
-        bytes_of_size size + bytes_of_jump jump ≡ length_in p.len f →
+        bytes_of_size size + bytes_of_jump jump ≡ piece_length p.len f →
         HasAll r.output a
         (branch_to (out r (plus p.addr (unsigned64 imm))) p.inst false size a
         ++ added (out r) p jump (a + bytes_of_size size)) →
@@ -294,7 +294,7 @@ module _ (r : Rewrite) (p : Placed) (f : Form) (fall after : Option ℕ) (a : �
         (subst (λ (q : ℕ). HasAll r.output q (added (out r) p jump (a + 8))) past has.1.1) (ap is_plain_jump e)))
 
     -- one that leads to where the input's falls, before its target
-    inverted : (size : Size) → after ≡ Some (plus p.addr (unsigned64 imm)) → bytes_of_size size ≡ length_in p.len f →
+    inverted : (size : Size) → after ≡ Some (plus p.addr (unsigned64 imm)) → bytes_of_size size ≡ piece_length p.len f →
         HasAll r.output a (branch_to (out r (p.addr + p.len)) p.inst true size a) →
         KeepsBranch r (Goes r.output) p test wanted rs1 rs2 (plus p.addr (unsigned64 imm))
     inverted Half is len has =

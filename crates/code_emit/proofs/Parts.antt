@@ -10,10 +10,10 @@ use Rattle.rv_code.specs.declared.placed.Placed.{Placed}
 use Rattle.rv_code.specs.declared.layout.Form.{Form}
 use Rattle.rv_code.specs.declared.layout.Form.TheVariants as form
 use Rattle.rv_code.specs.declared.layout.Size.TheVariants.{Half, Full, Long}
-use Rattle.branch_fixup.specs.Pieces.{Piece, PlacedFrom, length_of, length_in, as_it_is, end_from}
+use Rattle.branch_fixup.specs.Pieces.{Piece, PlacedFrom, length_of, piece_length, as_it_is, end_from}
 use Rattle.branch_fixup.specs.Strips.{Strip, insts_in, pieces_of_strip}
 use Rattle.branch_fixup.proofs.Appended.{map_more}
-use Rattle.code_emit.specs.Made.{Made, made, made_from}
+use Rattle.code_emit.specs.NewInsts.{Made, made, made_from}
 use Rattle.code_emit.specs.Bytes.{after_made, Adds, AllCanBeEncoded}
 use Rattle.code_emit.proofs.Coded.{adds_both, all_can_front, all_can_back}
 
@@ -29,7 +29,7 @@ after-append : (o : ℕ) (xs ys : List Made) → after_made o (xs ++ ys) ≡ aft
 after-append o [] ys = refl
 after-append o (x ∷ xs) ys = after-append (o + x.bytes) xs ys
 
-after_is : (f : ℕ → ℕ) (o a : ℕ) (p : Placed) (x : Form) → after_made o (made f a p x) ≡ o + length_in p.len x
+after_is : (f : ℕ → ℕ) (o a : ℕ) (p : Placed) (x : Form) → after_made o (made f a p x) ≡ o + piece_length p.len x
 after_is f o a p form.Plain = refl
 after_is f o a p form.Jump = omega arith
 after_is f o a p (form.Branch inverted Half true) = omega arith

@@ -15,10 +15,10 @@ use Rattle.rv_code.specs.declared.placed.Placed.{Placed}
 use Rattle.rv_code.specs.layout.Blocks.{AreBlocks}
 use Rattle.rv_code.specs.layout.Flow.{insts_of, action_at, is_branch, target_of}
 use Rattle.rv_code.specs.layout.ProgramCode.{ProgramCode}
+use Rattle.rv_code.specs.layout.BlockOrders.{HasAllBlocks}
 use Rattle.branch_fixup.specs.Endings.{end_of_form, ending}
 use Rattle.branch_fixup.specs.Ends.{begins_of}
 use Rattle.branch_fixup.specs.Forms.{EndByTable, FitsLength}
-use Rattle.branch_fixup.specs.Inputs.{IsOrder}
 use Rattle.branch_fixup.specs.Pieces.{Piece, PlacedFrom, as_it_is, end_from}
 use Rattle.branch_fixup.specs.Strips.{Strip, first_in, first_of, insts_in, is_alone, pieces_of, pieces_of_strip, strips_of}
 use Rattle.branch_fixup.proofs.Appended.{end_append}
@@ -30,7 +30,7 @@ use Rattle.branch_fixup.proofs.Orders.{order_has}
 use Rattle.branch_fixup.proofs.Placed.{piece_inst}
 use Rattle.branch_fixup.proofs.Planned.{Planned, StripOf, block_in_insts, in_block, planned, planned_at}
 use Rattle.code_emit.specs.Bytes.{AllCanBeEncoded}
-use Rattle.code_emit.specs.Made.{made_from}
+use Rattle.code_emit.specs.NewInsts.{made_from}
 use Rattle.code_emit.proofs.Keeps.{branch_by}
 use Rattle.code_emit.proofs.Parts.{can_parts}
 
@@ -83,7 +83,7 @@ one_each (s ∷ ss) (f ∷ fs) table = ap suc (one_each ss fs table.2)
 -- By instructions.
 
 module _ (code : ProgramCode) (blocks : List Block) (order : List ℕ) (are : AreBlocks code blocks)
-    (perm : IsOrder blocks order) where
+    (perm : HasAllBlocks blocks order) where
   pub inst_of : (q : Piece) → OfStrip (strips_of code.funcs blocks order) q → Contains (insts_of code.funcs) q.placed
   inst_of q o =
       let plan = planned code blocks are order perm o.j o.s o.at in

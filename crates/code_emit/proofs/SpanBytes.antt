@@ -8,7 +8,7 @@ use Rattle.rv_code.specs.declared.placed.Func.{Func}
 use Rattle.addr_map.specs.declared.span.Span.{Span}
 use Rattle.move_law.specs.Rewrite.{AreCodeBytes, IsCodeByte, Rewrite}
 use Rattle.move_law.proofs.Lists.{all_of}
-use Rattle.branch_fixup.specs.Forms.{end_of}
+use Rattle.branch_fixup.specs.Forms.{new_code_end}
 use Rattle.branch_fixup.specs.Strips.{Strip, pieces_of, spans_of}
 use Rattle.branch_fixup.proofs.Laid.{inside, laid_above}
 use Rattle.code_emit.specs.Inputs.{AreMapped}
@@ -16,7 +16,7 @@ use Rattle.code_emit.specs.Output.{Puts}
 
 -- They may be executed and not written.
 pub span_bytes : (ss : List Strip) (fs : List Form) (base : ℕ) (lines : List Span) → AreMapped ss fs base lines →
-    (funcs : List Func) (bytes : List ℕ) → base + length bytes ≡ end_of ss base fs →
+    (funcs : List Func) (bytes : List ℕ) → base + length bytes ≡ new_code_end ss base fs →
     (r : Rewrite) → Puts r funcs lines base bytes → All (λ s. AreCodeBytes r.output s.out s.len) lines
 span_bytes ss fs base lines m funcs bytes len r puts =
     all_of (λ (s : Span). AreCodeBytes r.output s.out s.len) lines (λ s c.
@@ -24,7 +24,7 @@ span_bytes ss fs base lines m funcs bytes len r puts =
     (IsPermutation-sym (spans_of ss base fs) lines m.map_is.same) c in
     bytes_of s
     (All-contains (λ (z : Span). base ≤ z.out) (spans_of ss base fs) s (laid_above base (pieces_of ss fs)) there)
-    (All-contains (λ (z : Span). z.out + z.len ≤ end_of ss base fs) (spans_of ss base fs) s
+    (All-contains (λ (z : Span). z.out + z.len ≤ new_code_end ss base fs) (spans_of ss base fs) s
     (inside base (pieces_of ss fs)) there))
   where
     sum : (b o i : ℕ) → b ≤ o → b + (o - b + i) ≡ o + i
@@ -33,8 +33,8 @@ span_bytes ss fs base lines m funcs bytes len r puts =
     within : (b o l n e i : ℕ) → b ≤ o → o + l ≤ e → b + n ≡ e → i < l → o - b + i < n
     within b o l n e i low high is less = omega (arith, low, high, is, less)
 
-    bytes_of : (s : Span) → base ≤ s.out → s.out + s.len ≤ end_of ss base fs → AreCodeBytes r.output s.out s.len
+    bytes_of : (s : Span) → base ≤ s.out → s.out + s.len ≤ new_code_end ss base fs → AreCodeBytes r.output s.out s.len
     bytes_of s low high = λ i less.
         subst (IsCodeByte r.output) (sum base s.out i low)
         (puts.has_code.rights (s.out - base + i)
-        (within base s.out s.len (length bytes) (end_of ss base fs) i low high len less))
+        (within base s.out s.len (length bytes) (new_code_end ss base fs) i low high len less))

@@ -4,7 +4,7 @@ use Rattle.rv_code.specs.declared.inst.Inst.{Inst}
 use Rattle.elf_image.specs.code.Parts.{IsInstIn}
 use Rattle.move_law.specs.Rewrite.{Executable, AreCodeBytes, HasAt, memory_of, width_at}
 use Rattle.move_law.proofs.code.InstLists.{length_is}
-use Rattle.code_emit.specs.Made.{Made}
+use Rattle.code_emit.specs.NewInsts.{Made}
 
 -- an instruction of so many bytes
 pub record HasMade (x : Executable) (a : ℕ) (inst : Inst) (bytes : ℕ) : Type 0 where

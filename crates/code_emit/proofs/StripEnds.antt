@@ -11,7 +11,7 @@ use Rattle.rv_code.specs.declared.layout.Form.{Form}
 use Rattle.rv_code.specs.declared.placed.Placed.{Placed}
 use Rattle.rv_code.specs.layout.Flow.{action_at, is_branch, is_plain_jump, target_of}
 use Rattle.move_law.specs.Rewrite.{Rewrite, out}
-use Rattle.move_law.specs.Faithful.{next}
+use Rattle.move_law.specs.FaithfulRewrite.{next}
 use Rattle.branch_fixup.specs.Pieces.{Piece, as_it_is}
 use Rattle.branch_fixup.specs.Endings.{Kept, ending, begins_at}
 use Rattle.branch_fixup.specs.Strips.{Strip, is_alone, first_in, first_of, pieces_of}

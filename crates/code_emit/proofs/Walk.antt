@@ -5,14 +5,14 @@ use Rattle.std.specs.Prelude.{Any, Contains}
 use Rattle.rv_code.specs.layout.Flow.{action_at, is_plain_jump, target_of}
 use Rattle.branch_fixup.proofs.Lists.{Contains-cons_cases, Contains-there}
 use Rattle.move_law.specs.Rewrite.{Rewrite, out, Goes}
-use Rattle.move_law.specs.Faithful.{next, KeepsInst, GoesOn}
+use Rattle.move_law.specs.FaithfulRewrite.{next, KeepsInst, GoesOn}
 use Rattle.rv_code.specs.declared.placed.Placed.{Placed}
 use Rattle.rv_code.specs.declared.layout.Form.{Form}
 use Rattle.rv_code.specs.declared.layout.Form.TheVariants as form
 use Rattle.rv_code.specs.declared.layout.Size.TheVariants.{Half, Full, Long}
-use Rattle.branch_fixup.specs.Pieces.{Piece, PlacedFrom, length_of, length_in, end_from}
+use Rattle.branch_fixup.specs.Pieces.{Piece, PlacedFrom, length_of, piece_length, end_from}
 use Rattle.branch_fixup.specs.Endings.{end_of_form, ending}
-use Rattle.code_emit.specs.Made.{Made, made, made_from}
+use Rattle.code_emit.specs.NewInsts.{Made, made, made_from}
 use Rattle.code_emit.proofs.Standing.{HasAll}
 use Rattle.code_emit.proofs.Keeps.{Stands, keeps, keeps_on}
 use Rattle.branch_fixup.proofs.Laid.{end_above}
@@ -52,7 +52,7 @@ split_made : (r : Rewrite) (a : ℕ) (xs ys : List Made) → HasAll r.output a (
 split_made r a [] ys h = (tt, h)
 split_made r a (x ∷ xs) ys h = let k = split_made r (a + x.bytes) xs ys h.1 in ((h.0, k.0), k.1)
 
-after_is : (f : ℕ → ℕ) (a : ℕ) (p : Placed) (x : Form) → after_made a (made f a p x) ≡ a + length_in p.len x
+after_is : (f : ℕ → ℕ) (a : ℕ) (p : Placed) (x : Form) → after_made a (made f a p x) ≡ a + piece_length p.len x
 after_is f a p form.Plain = refl
 after_is f a p form.Jump = omega arith
 after_is f a p (form.Branch inverted Half true) = omega arith

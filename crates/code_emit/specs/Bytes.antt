@@ -3,11 +3,11 @@ use Rattle.std.specs.Prelude.{◌≡◌, ℕ, ◌+◌, ◌*◌, ◌/◌, ◌%◌
 use Rattle.std.specs.Prelude.{length, slice_index}
 use Rattle.rv_code.specs.declared.inst.Inst.{Inst}
 use Rattle.rv_code.specs.declared.placed.Width.{Width}
-use Rattle.rv_code.specs.isa.Decoding.{Decodes}
+use Rattle.rv_code.specs.isa.InstBytes.{Decodes}
 use Rattle.rv_code.specs.declared.placed.Width.TheVariants as width
-use Rattle.rv_encode.specs.Encoding.{bytes}
-use Rattle.rv_encode.specs.Fits.{Fits}
-use Rattle.code_emit.specs.Made.{Made}
+use Rattle.rv_encode.specs.InstWords.{bytes}
+use Rattle.rv_encode.specs.FittingOperands.{Fits}
+use Rattle.code_emit.specs.NewInsts.{Made}
 
 -- the bytes of a halfword, and of a word
 abbrev pub half_bytes : ℕ → List ℕ

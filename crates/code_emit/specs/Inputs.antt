@@ -8,13 +8,13 @@ use Rattle.rv_code.specs.declared.layout.Form.{Form}
 use Rattle.rv_code.specs.declared.placed.Placed.{Placed}
 use Rattle.rv_code.specs.declared.placed.Role.{Role}
 use Rattle.rv_code.specs.declared.placed.Role.TheVariants as role
-use Rattle.rv_code.specs.isa.Decoding.{Decodes}
+use Rattle.rv_code.specs.isa.InstBytes.{Decodes}
 use Rattle.rv_code.specs.layout.Flow.{target_of}
 use Rattle.rv_code.specs.layout.FunctionLists.{address_end}
 use Rattle.addr_map.specs.declared.span.Span.{Span}
 use Rattle.addr_map.specs.MapText.{AreInLineOrder}
 use Rattle.addr_map.specs.Spans.{new}
-use Rattle.branch_fixup.specs.Forms.{AreForms, end_of}
+use Rattle.branch_fixup.specs.Forms.{AreForms, new_code_end}
 use Rattle.branch_fixup.specs.Strips.{Strip, spans_of}
 use Rattle.move_law.specs.AddressParts.{IsAuipc, IsLui, TakesLower}
 
@@ -51,7 +51,7 @@ pub record AreMapped (ss : List Strip) (fs : List Form) (base : ℕ) (map : List
   pub forms : AreForms ss base fs
   pub map_is : AreInLineOrder (spans_of ss base fs) map
   pub even : base % 2 ≡ 0
-  pub low : end_of ss base fs ≤ address_end
+  pub low : new_code_end ss base fs ≤ address_end
 
 pub record HaveMap (ss : List Strip) (fs : List Form) (map : List Span) : Type 0 where
   pub base : ℕ

@@ -1,4 +1,4 @@
-pub mod Made
+pub mod NewInsts
 pub mod Bytes
 pub mod Inputs
 pub mod Output

@@ -4,7 +4,7 @@ use Rattle.rv_code.specs.declared.cell.CodeCell.{CodeCell}
 use Rattle.rv_code.specs.declared.placed.Func.{Func}
 use Rattle.addr_map.specs.declared.span.Span.{Span}
 use Rattle.move_law.specs.Rewrite.{Executable, Rewrite, AreCodeBytes, memory_of}
-use Rattle.code_emit.specs.Made.{cell_number}
+use Rattle.code_emit.specs.NewInsts.{cell_number}
 
 -- an executable has bytes of code from an address on, which may be executed and not written
 pub record HasCode (x : Executable) (base : ℕ) (code : List ℕ) : Type 0 where

@@ -2,9 +2,9 @@
 ghost use Rattle.std.specs.Prelude.{◌≡◌, ◌<◌, ◌^◌, pos, ◌≤ℤ◌, ◌-ℤ◌};
 ghost use Rattle.rv_code.specs.isa.HiLo.{hi20, lo12};
 ghost use Rattle.move_law.specs.RelocatedValues.{distance};
-ghost use Rattle.move_law.specs.Faithful.{with_immediate, made_anew};
-ghost use Rattle.code_emit.specs.Made.{with_distance, turned, kept};
-ghost use Rattle.branch_fixup.specs.Reach.{new_target};
+ghost use Rattle.move_law.specs.FaithfulRewrite.{with_immediate, made_anew};
+ghost use Rattle.code_emit.specs.NewInsts.{with_distance, turned, kept};
+ghost use Rattle.branch_fixup.specs.Distances.{new_target};
 ghost use Rattle.code_emit.specs.Inputs.{AreLow, HasLowTargets};
 ghost use Rattle.addr_map.specs.Spans.{new};
 

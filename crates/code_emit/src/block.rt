@@ -4,7 +4,7 @@ ghost use Rattle.addr_map.specs.Spans.{new};
 ghost use Rattle.branch_fixup.specs.BlockInsts.{seen};
 ghost use Rattle.branch_fixup.specs.Pieces.{PlacedFrom, as_it_is, end_from};
 ghost use Rattle.branch_fixup.specs.Strips.{insts_in, pieces_of_strip};
-ghost use Rattle.code_emit.specs.Made.{made_from};
+ghost use Rattle.code_emit.specs.NewInsts.{made_from};
 ghost use Rattle.code_emit.specs.Bytes.{Adds, AllCanBeEncoded};
 ghost use Rattle.code_emit.specs.Inputs.{AreLow, HasLowTargets};
 

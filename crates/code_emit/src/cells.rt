@@ -1,7 +1,7 @@
 // The new content of code cells.
 ghost use Rattle.std.specs.Prelude.{◌≡◌, All, IfOk, map};
 ghost use Rattle.addr_map.specs.Spans.{new};
-ghost use Rattle.code_emit.specs.Made.{cell_number};
+ghost use Rattle.code_emit.specs.NewInsts.{cell_number};
 ghost use Rattle.code_emit.specs.Inputs.{AreLow, IsLowCell, IsLowKind};
 ghost use Rattle.code_emit.specs.Output.{new_cell};
 

@@ -1,8 +1,8 @@
 // Instructions are added to the new code.
 ghost use Rattle.std.specs.Prelude.{◌≡◌, ◌++◌, [], ◌∷◌, OnOk};
 ghost use Rattle.code_emit.specs.Bytes.{half_bytes, full_bytes, Adds, IsEncodable};
-ghost use Rattle.rv_encode.specs.Fits.{Fits};
-ghost use Rattle.rv_encode.specs.Encoding.{bytes};
+ghost use Rattle.rv_encode.specs.FittingOperands.{Fits};
+ghost use Rattle.rv_encode.specs.InstWords.{bytes};
 
 use rv_code::{Inst, Width};
 use rv_encode::{Word, encode};

@@ -3,16 +3,17 @@ ghost use Rattle.std.specs.Prelude.{◌≡◌, ◌+◌, ℕ, All, IfOk, [], leng
 ghost use Rattle.std.specs.Option.{option_map_or};
 ghost use Rattle.rv_code.specs.layout.Flow.{insts_of};
 ghost use Rattle.rv_code.specs.layout.FunctionLists.{AreLaidOut};
+ghost use Rattle.rv_code.specs.layout.BlockOrders.{HasAllBlocks};
 ghost use Rattle.addr_map.specs.Spans.{new};
-ghost use Rattle.move_law.specs.Faithful.{KeepsInst, GoesOn};
+ghost use Rattle.move_law.specs.FaithfulRewrite.{KeepsInst, GoesOn};
 ghost use Rattle.move_law.specs.Rewrite.{Rewrite, Goes};
 ghost use Rattle.branch_fixup.specs.Ends.{begins_of};
-ghost use Rattle.branch_fixup.specs.Forms.{end_of};
-ghost use Rattle.branch_fixup.specs.Inputs.{AreBlocksOf, AreDirect, IsOrder};
+ghost use Rattle.branch_fixup.specs.Forms.{new_code_end};
+ghost use Rattle.branch_fixup.specs.Inputs.{AreBlocksOf, AreDirect};
 ghost use Rattle.branch_fixup.specs.Strips.{pieces_of, strips_of};
 ghost use Rattle.code_emit.specs.Bytes.{Adds};
 ghost use Rattle.code_emit.specs.Inputs.{AreMapped, CanMove, HaveMap, IsLowCell};
-ghost use Rattle.code_emit.specs.Made.{made_from};
+ghost use Rattle.code_emit.specs.NewInsts.{made_from};
 ghost use Rattle.code_emit.specs.Output.{Puts, new_cell};
 
 use crate::anew::new_of;
@@ -28,7 +29,7 @@ use std::alloc::{AllocError, Global};
 fn code_start(funcs: &[Func], blocks: &[Block], order: &[usize], moved: &AddrMap) -> u64
     requires laid { AreLaidOut funcs.now }
     requires blocks { AreBlocksOf funcs.now blocks.now }
-    requires order { IsOrder blocks.now order.now }
+    requires order { HasAllBlocks blocks.now order.now }
     ensures { result ≡ option_map_or (new moved.now) (begins_of (strips_of funcs.now blocks.now order.now) 0) 0 }
 {
     match begins_of(funcs, blocks, order, 0) {
@@ -49,7 +50,7 @@ fn code(
     requires laid { AreLaidOut funcs.now }
     requires direct { AreDirect funcs.now }
     requires blocks { AreBlocksOf funcs.now blocks.now }
-    requires order { IsOrder blocks.now order.now }
+    requires order { HasAllBlocks blocks.now order.now }
     requires insts { All CanMove (insts_of funcs.now) }
     requires mapped { HaveMap (strips_of funcs.now blocks.now order.now) forms.now moved.now }
     requires one_each { length forms.now ≡ length order.now }
@@ -84,7 +85,7 @@ pub fn emit(
     requires laid { AreLaidOut funcs.now }
     requires direct { AreDirect funcs.now }
     requires blocks { AreBlocksOf funcs.now blocks.now }
-    requires order { IsOrder blocks.now plan.now.order.items }
+    requires order { HasAllBlocks blocks.now plan.now.order.items }
     requires insts { All CanMove (insts_of funcs.now) }
     requires cells { All IsLowCell cells.now }
     requires mapped { HaveMap (strips_of funcs.now blocks.now plan.now.order.items) forms.now moved.now }
@@ -92,7 +93,7 @@ pub fn emit(
     // the code is that of one stretch of bytes
     ensures length { IfOk result
         (λ e. (base : ℕ) → AreMapped (strips_of funcs.now blocks.now plan.now.order.items) forms.now base moved.now →
-        base + length e.code.items ≡ end_of (strips_of funcs.now blocks.now plan.now.order.items) base forms.now) }
+        base + length e.code.items ≡ new_code_end (strips_of funcs.now blocks.now plan.now.order.items) base forms.now) }
 
     // its instructions are those of the blocks in their forms, and no others
     ensures made { IfOk result

@@ -1,8 +1,8 @@
 // What stands in the new code for one instruction.
 ghost use Rattle.std.specs.Prelude.{◌≡◌, ◌<◌, ◌+◌, ◌^◌, OnOk, [], ◌∷◌, if◌then◌else◌};
 ghost use Rattle.addr_map.specs.Spans.{new};
-ghost use Rattle.code_emit.specs.Made.{jump_to, branch_to, added, made};
-ghost use Rattle.branch_fixup.specs.Reach.{new_target};
+ghost use Rattle.code_emit.specs.NewInsts.{jump_to, branch_to, added, made};
+ghost use Rattle.branch_fixup.specs.Distances.{new_target};
 ghost use Rattle.branch_fixup.specs.Pieces.{bytes_of_size};
 ghost use Rattle.code_emit.specs.Bytes.{Adds, AllCanBeEncoded, CanBeEncoded, width_of_bytes};
 ghost use Rattle.code_emit.specs.Inputs.{AreLow, HasLowTargets};

@@ -3,4 +3,4 @@ pub mod MoreNames
 pub mod Patches
 pub mod ReadBack
 pub mod SameBytes
-pub mod Spelled
+pub mod Spellings

@@ -9,11 +9,11 @@ use Rattle.byteorder.specs.Numbers.{length-bytes_low_first, little_number-reads_
 use Rattle.elf_image.specs.declared.segment.Segment.{Segment}
 use Rattle.elf_image.specs.file.Header.{number_at, e_phoff, e_phnum, segments_of, segments_from}
 use Rattle.elf_parts.specs.Patches.{Patch, put_all, IsWithin, IsBeside, AreApart, Stands}
-use Rattle.elf_parts.specs.Spelled.{SegmentFits, segment_table}
-use Rattle.elf_parts.specs.Assembled.{PutsNumber, PutsTable}
+use Rattle.elf_parts.specs.Spellings.{SegmentFits, segment_table}
+use Rattle.elf_parts.specs.Assembly.{PutsNumber, PutsTable}
 use Rattle.elf_parts.proofs.Patches.{stands-each, number_at-stands, get_or-put_all}
 use Rattle.elf_image.proofs.NumberBytes.{number_at-same}
-use Rattle.elf_parts.proofs.Spelled.{segments_from-stands}
+use Rattle.elf_parts.proofs.Spellings.{segments_from-stands}
 
 -- a number that a patch puts
 pub number_at-put_all : (ps : List Patch) (xs : List ℕ) (o n v : ℕ) → All (IsWithin (length xs)) ps → AllPairs AreApart ps →

@@ -1,5 +1,5 @@
-pub mod Assembled
+pub mod Assembly
 pub mod Numbers
 pub mod Parts
 pub mod Patches
-pub mod Spelled
+pub mod Spellings

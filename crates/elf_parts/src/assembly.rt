@@ -1,6 +1,6 @@
 // A written file, put together of its parts.
 ghost use Rattle.std.specs.Prelude.{◌≡◌, ◌≤◌, ◌+◌, ◌∷◌, IfOk, All, length, map};
-ghost use Rattle.elf_parts.specs.Assembled.{IsAssembled};
+ghost use Rattle.elf_parts.specs.Assembly.{IsAssembled};
 ghost use Rattle.elf_parts.specs.Numbers.{CanPut, patch_of};
 ghost use Rattle.elf_parts.specs.Parts.{PartsFit, size_of};
 ghost use Rattle.elf_parts.specs.Patches.{put_all};

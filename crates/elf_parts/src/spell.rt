@@ -1,7 +1,7 @@
 // Headers and symbols written as bytes. gABI, "Program Header", "Section Header" and "Symbol Table".
 ghost use Rattle.std.specs.Prelude.{◌≡◌, ◌++◌, All, OnOk};
 ghost use Rattle.byteorder.specs.Endian.{little_bytes};
-ghost use Rattle.elf_parts.specs.Spelled as spec;
+ghost use Rattle.elf_parts.specs.Spellings as spec;
 
 use elf_image::{SectionHeader, Segment};
 use rb_bytes::fault::NoMemory;
@@ -68,7 +68,7 @@ pub fn put_segment(out: &mut Vec<u8>, p: &Segment) -> Result<(), NoMemory>
 }
 
 /// Appends a table of program headers.
-#[tactic(auto, using(crate::proofs::Spelled::tables))]
+#[tactic(auto, using(crate::proofs::Spellings::tables))]
 pub fn put_segments(out: &mut Vec<u8>, segments: &[Segment]) -> Result<(), NoMemory>
     ensures bytes { OnOk result (out.new.items ≡ out.old.items ++ spec.segment_table segments.now) }
     ensures fits { OnOk result (All spec.SegmentFits segments.now) }
@@ -97,7 +97,7 @@ pub fn put_section(out: &mut Vec<u8>, s: &SectionHeader) -> Result<(), NoMemory>
 }
 
 /// Appends a table of section headers.
-#[tactic(auto, using(crate::proofs::Spelled::section_tables))]
+#[tactic(auto, using(crate::proofs::Spellings::section_tables))]
 pub fn put_sections(out: &mut Vec<u8>, sections: &[SectionHeader]) -> Result<(), NoMemory>
     ensures { OnOk result (out.new.items ≡ out.old.items ++ spec.section_table sections.now) }
 {

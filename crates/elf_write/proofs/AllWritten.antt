@@ -7,10 +7,10 @@ use Rattle.elf_image.specs.file.Header.{segments_of}
 use Rattle.elf_image.specs.file.ParsedFile.{IsElfOf}
 use Rattle.elf_image.specs.memory.CodeSegment.{executable_segment}
 use Rattle.addr_map.specs.Spans.{owner}
-use Rattle.elf_write.specs.Made.{IsMade}
+use Rattle.elf_write.specs.FileParts.{IsMade}
 use Rattle.elf_write.specs.Room.{area_above, area_start}
-use Rattle.elf_write.specs.Source.{Source, IsPlaced}
-use Rattle.elf_write.specs.Written.{AreApart, CanHold, IsWritten}
+use Rattle.elf_write.specs.Source.{Source, HasPlace}
+use Rattle.elf_write.specs.WrittenFile.{AreApart, CanHold, IsWritten}
 use Rattle.elf_write.proofs.ImageWritten.{image-is}
 use Rattle.elf_write.proofs.FromMade.{written}
 use Rattle.elf_write.proofs.FrontWritten.{front-written}
@@ -34,7 +34,7 @@ module _ (s : Source) (above : Bool) (w : List ℕ) (read : IsElfOf s.elf.file.n
       (code-load s.elf.file.now sound made.layout.code made.laid_out.executable found-file)
 
   pub all-written : above ≡ is_none (owner s.spans (area_start s.elf.segments.items)) → (tight : Bool) →
-      IsPlaced s tight → IsWritten s tight w
+      HasPlace s tight → IsWritten s tight w
   all-written is tight placed =
       let same : above ≡ tight = is ∙ is-tight s higher tight placed in
       let made_so : IsMade s tight w = subst (λ (t : Bool). IsMade s t w) same made in
@@ -43,5 +43,5 @@ module _ (s : Source) (above : Bool) (w : List ℕ) (read : IsElfOf s.elf.file.n
 
   -- the area stands where the map says
   pub placed-there : above ≡ is_none (owner s.spans (area_start s.elf.segments.items)) → (tight : Bool) →
-      IsPlaced s tight → above ≡ tight
+      HasPlace s tight → above ≡ tight
   placed-there is tight placed = is ∙ is-tight s higher tight placed

@@ -18,7 +18,7 @@ use Rattle.elf_parts.specs.Numbers.{patch_of}
 use Rattle.elf_parts.specs.Patches.{AreApart}
 use Rattle.elf_write.specs.declared.area.Shift.{Shift}
 use Rattle.elf_write.specs.Area.{moved_by}
-use Rattle.elf_write.specs.CellNumbers.{StandsIn, IsCellNumber}
+use Rattle.elf_write.specs.CellNumbers.{CellStandsIn, IsCellNumber}
 use Rattle.elf_write.proofs.CellPatches.{moved-more}
 use Rattle.elf_write.proofs.Images.{segment_of-once}
 
@@ -40,7 +40,7 @@ pub cell-place : (elf : Elf) (shift : Shift) (cell : ℕ × ℕ × ℕ) (number 
     CellPlace elf.segments.items shift cell number
 cell-place elf shift cell number is = cases (segment_of elf.segments.items cell.0) refl is.place
   where
-    cases : (o : Option Segment) → segment_of elf.segments.items cell.0 ≡ o → IsSomeAnd o (StandsIn shift cell number) →
+    cases : (o : Option Segment) → segment_of elf.segments.items cell.0 ≡ o → IsSomeAnd o (CellStandsIn shift cell number) →
         CellPlace elf.segments.items shift cell number
     cases None e place = absurd place
     cases (Some p) e place =

@@ -11,20 +11,21 @@ use Rattle.elf_image.specs.file.Header.{segments_of}
 use Rattle.elf_image.specs.file.ParsedFile.{IsElfOf}
 use Rattle.elf_image.specs.memory.Image.{LoadOnce}
 use Rattle.elf_image.specs.memory.LoadedBytes.{number_in}
+use Rattle.move_law.specs.Rewrite.{executable_of, memory_of}
 use Rattle.elf_parts.specs.declared.number_at.NumberAt.{NumberAt}
 use Rattle.elf_parts.specs.Numbers.{patch_of}
 use Rattle.elf_parts.specs.Parts.{size_of}
 use Rattle.elf_parts.specs.Patches.{Patch, put_all, IsWithin, Stands}
 use Rattle.elf_parts.specs.Patches as patches
-use Rattle.elf_parts.specs.Spelled.{segment_table}
-use Rattle.elf_parts.proofs.Spelled.{length-segment_table}
+use Rattle.elf_parts.specs.Spellings.{segment_table}
+use Rattle.elf_parts.proofs.Spellings.{length-segment_table}
 use Rattle.elf_write.specs.Area.{moved_by, loads_end}
 use Rattle.elf_write.specs.CellNumbers.{IsCellNumber}
 use Rattle.elf_write.specs.FileLayout.{is_kept_table}
-use Rattle.elf_write.specs.Made.{IsMade}
+use Rattle.elf_write.specs.FileParts.{IsMade}
 use Rattle.elf_write.specs.Room.{greatest_align}
 use Rattle.elf_write.specs.Source.{Source}
-use Rattle.elf_write.specs.Written.{CanHold, AreApart, memory_of}
+use Rattle.elf_write.specs.WrittenFile.{CanHold, AreApart}
 use Rattle.elf_write.proofs.CellPatches.{moved-more}
 use Rattle.elf_write.proofs.CellPlaces.{CellPlace, IsBesideHeaders, stands_at, cell-place, numbers-apart, beside-headers}
 use Rattle.elf_write.proofs.FileEnds.{ends-below}
@@ -201,7 +202,7 @@ module _ (s : Source) (tight : Bool) (w : List ℕ) (read : IsElfOf s.elf.file.n
 
     holds : AllPairs AreApart s.cells →
         AreNewLoads made.layout.shift.from made.layout.shift.by s.elf.segments.items made.segments → LoadOnce (segments_of w) →
-        number_in (memory_of w) (cell i).0 (cell i).1 ≡ Some (cell i).2
+        number_in (memory_of (executable_of w)) (cell i).0 (cell i).1 ≡ Some (cell i).2
     holds apart new once =
         let to = new segment (place i below).there (place i below).load in
         cell-held w s.elf.segments.items (segments_of w) made.layout.shift (cell i) (put_number i) (place i below) width
@@ -212,7 +213,8 @@ module _ (s : Source) (tight : Bool) (w : List ℕ) (read : IsElfOf s.elf.file.n
   -- all of them
   pub cells-written : AllPairs AreApart s.cells →
       AreNewLoads made.layout.shift.from made.layout.shift.by s.elf.segments.items made.segments → LoadOnce (segments_of w) →
-      All (λ c. number_in (memory_of w) c.0 c.1 ≡ Some c.2) s.cells
+      All (λ c. number_in (memory_of (executable_of w)) c.0 c.1 ≡ Some c.2) s.cells
   cells-written apart new once i d below =
-      subst (λ (c : ℕ × ℕ × ℕ). number_in (memory_of w) c.0 c.1 ≡ Some c.2) (get_or_default s.cells i none_cell d below)
+      subst (λ (c : ℕ × ℕ × ℕ). number_in (memory_of (executable_of w)) c.0 c.1 ≡ Some c.2)
+      (get_or_default s.cells i none_cell d below)
       (holds i below apart new once)

@@ -11,7 +11,7 @@ use Rattle.elf_image.specs.memory.CodeSegment.{executable_segment, executable_en
 use Rattle.elf_image.specs.memory.Image.{is_load, end_of}
 use Rattle.elf_write.specs.Area.{table_end}
 use Rattle.elf_write.specs.Room.{area_limit, area_start, code_end, room}
-use Rattle.elf_write.specs.Source.{Source, IsPlaced, source_area}
+use Rattle.elf_write.specs.Source.{Source, HasPlace, source_area}
 use Rattle.elf_write.proofs.FreeRange.{limit-below}
 use Rattle.elf_write.proofs.SameBreak.{rounded_up-above}
 
@@ -25,7 +25,7 @@ pub code_end-is : (ps : List Segment) (code : ℕ) (p : Segment) → executable_
 code_end-is ps code p found = ap (λ (o : Option (ℕ × Segment)). option_map_or (λ e. end_of e.1) o 0) found
 
 -- the new code lies in the area
-pub area-some : (s : Source) (tight : Bool) → IsPlaced s tight → (source_area s tight).start < (source_area s tight).end
+pub area-some : (s : Source) (tight : Bool) → HasPlace s tight → (source_area s tight).start < (source_area s tight).end
 area-some s tight placed =
     let some = placed.some in
     let frames = table_end-above 8 (source_area s tight).code_end s.frames (omega arith) in
@@ -34,7 +34,7 @@ area-some s tight placed =
 
 pub code-memory : (s : Source) (code : ℕ) (p : Segment) → executable_segment s.elf.segments.items ≡ Some (code, p) →
     code < length s.elf.segments.items → ((d : Segment) → get_or s.elf.segments.items code d ≡ p) → IsTrue (is_load p) →
-    IsPlaced s false → 0 < p.memsz
+    HasPlace s false → 0 < p.memsz
 code-memory s code p found inside is load placed = cases (cases_lt 0 p.memsz)
   where
     ps : List Segment

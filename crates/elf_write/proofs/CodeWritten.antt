@@ -20,18 +20,18 @@ use Rattle.elf_image.proofs.LoadLemmas.{loads-from_parts}
 use Rattle.elf_parts.specs.declared.number_at.NumberAt.{NumberAt}
 use Rattle.elf_parts.specs.Numbers.{patch_of}
 use Rattle.elf_parts.specs.Patches.{Patch, Stands}
-use Rattle.elf_parts.specs.Spelled.{segment_table}
+use Rattle.elf_parts.specs.Spellings.{segment_table}
 use Rattle.elf_parts.proofs.Patches.{stands-front, stands-put_all}
-use Rattle.elf_parts.proofs.Spelled.{length-segment_table}
+use Rattle.elf_parts.proofs.Spellings.{length-segment_table}
 use Rattle.elf_write.specs.declared.area.Area.{Area}
 use Rattle.elf_write.specs.Area.{moved_by, area_offset, table_end, table_start}
-use Rattle.elf_write.specs.AreaTables.{AreaStands, HasTables}
-use Rattle.elf_write.specs.Carried.{HoldsBytes}
+use Rattle.elf_write.specs.AreaTables.{AreaStands, HoldsTables}
+use Rattle.elf_write.specs.CarriedBytes.{HoldsBytes}
 use Rattle.elf_write.specs.CellNumbers.{IsCellNumber}
 use Rattle.elf_write.specs.FileLayout.{is_kept_table, table_of}
-use Rattle.elf_write.specs.Made.{IsMade}
+use Rattle.elf_write.specs.FileParts.{IsMade}
 use Rattle.elf_write.specs.NewSections.{bytes_called}
-use Rattle.elf_write.specs.Source.{Source, IsPlaced, source_area}
+use Rattle.elf_write.specs.Source.{Source, HasPlace, source_area}
 use Rattle.elf_write.proofs.CodeMemory.{table_end-above}
 use Rattle.elf_write.proofs.CellPlaces.{CellPlace, stands_at, cell-place}
 use Rattle.elf_write.proofs.FileEnds.{ends-below}
@@ -64,7 +64,7 @@ starts-at align start end None some low = tt
 starts-at align start end (Some size) some low = let up = rounded_up-above align end some in omega (arith, low, up)
 
 module _ (s : Source) (tight : Bool) (w : List ℕ) (read : IsElfOf s.elf.file.now s.elf) (sound : IsSound s.elf.file.now)
-    (made : IsMade s tight w) (placed : IsPlaced s tight)
+    (made : IsMade s tight w) (placed : HasPlace s tight)
     (cells-some : (i : ℕ) (c : ℕ × ℕ × ℕ) → i < length s.cells → 0 < (get_or s.cells i c).1) where
   abbrev ps : List Segment
   ps = s.elf.segments.items
@@ -277,7 +277,7 @@ module _ (s : Source) (tight : Bool) (w : List ℕ) (read : IsElfOf s.elf.file.n
   table-stands (Some a) table low stands = part-stands a table low stands
 
   -- all of it
-  pub area-written : {Y Z : Type 0} (tables : List (String Y × Vec ℕ Z)) → HasTables tables made.layout →
+  pub area-written : {Y Z : Type 0} (tables : List (String Y × Vec ℕ Z)) → HoldsTables tables made.layout →
       AreaStands (source_area s tight) tables s.code w
   area-written tables has =
       let place = area-place in

@@ -11,13 +11,13 @@ use Rattle.elf_image.specs.memory.Image.{LoadOnce}
 use Rattle.elf_image.specs.memory.LoadedBytes.{address_of, address_in, loads_range, number_in}
 use Rattle.elf_image.proofs.LoadLemmas.{find-found}
 use Rattle.addr_map.specs.Spans.{moved}
+use Rattle.move_law.specs.Rewrite.{executable_of, memory_of}
 use Rattle.elf_parts.specs.Patches.{Stands}
 use Rattle.elf_parts.proofs.Patches.{stands-each}
 use Rattle.sym_machine.specs.HiddenFields.{e_entry_field}
 use Rattle.elf_write.specs.Area.{moved_by}
-use Rattle.elf_write.specs.Made.{IsMade}
+use Rattle.elf_write.specs.FileParts.{IsMade}
 use Rattle.elf_write.specs.Source.{Source}
-use Rattle.elf_write.specs.Written.{memory_of}
 use Rattle.elf_write.proofs.HeldNumbers.{number-held}
 use Rattle.elf_write.proofs.Loads.{moved-before}
 use Rattle.elf_write.proofs.MadeHeaders.{with_cells, headers, written-is, headers-within, headers-apart, segments-written}
@@ -49,7 +49,7 @@ module _ (s : Source) (tight : Bool) (w : List ℕ) (made : IsMade s tight w) wh
         moved-before made.layout.shift.from made.layout.shift.by 0x18 (omega (arith, keep, high))
 
     held : (p : Segment) → Contains s.elf.segments.items p → LoadsRange 0x18 8 p →
-        number_in (memory_of w) (address_in e_entry_field p) 8 ≡ Some made.fields.entry
+        number_in (memory_of (executable_of w)) (address_in e_entry_field p) 8 ≡ Some made.fields.entry
     held p there loads =
         let to = new p there loads.load in
         let from : p.offset ≤ 0x18 = loads.from in
@@ -68,11 +68,12 @@ module _ (s : Source) (tight : Bool) (w : List ℕ) (made : IsMade s tight w) wh
         (omega arith) (omega (arith, from, in_file)) (omega (arith, from, in_memory)) (omega arith)
         (entry-fits s tight w made) stands
 
-    pub entry_field-written : IfSome (address_of s.elf e_entry_field) (λ a. number_in (memory_of w) a 8 ≡ Some (e_entry w))
+    pub entry_field-written : IfSome (address_of s.elf e_entry_field)
+        (λ a. number_in (memory_of (executable_of w)) a 8 ≡ Some (e_entry w))
     entry_field-written = cases (find (loads_range e_entry_field) s.elf.segments.items) refl
       where
         cases : (o : Option Segment) → find (loads_range e_entry_field) s.elf.segments.items ≡ o →
-            IfSome (option_map (address_in e_entry_field) o) (λ a. number_in (memory_of w) a 8 ≡ Some (e_entry w))
+            IfSome (option_map (address_in e_entry_field) o) (λ a. number_in (memory_of (executable_of w)) a 8 ≡ Some (e_entry w))
         cases None e = tt
         cases (Some p) e =
             let found = find-found (loads_range e_entry_field) s.elf.segments.items p e in

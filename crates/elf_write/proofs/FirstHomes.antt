@@ -15,7 +15,7 @@ use Rattle.elf_image.specs.declared.segment.Segment.{Segment}
 use Rattle.elf_image.specs.memory.Image.{is_load}
 use Rattle.elf_write.specs.declared.sections.Contents.{Contents}
 use Rattle.elf_write.specs.declared.sections.Contents.TheVariants.{Dropped}
-use Rattle.elf_write.specs.HeaderPlaces.{HasNone, IsFirst, IsHome, can_hold, holds, is_unloaded}
+use Rattle.elf_write.specs.HeaderPlaces.{HasNone, IsFirst, IsHome, can_hold, section_holds, is_unloaded}
 use Rattle.elf_write.specs.Homes.{AreContents, AreExtents, AreHomes, extent_of, first_for}
 use Rattle.elf_write.specs.LoadedRanges.{HaveLoaded, meets}
 use Rattle.elf_write.specs.RangeTree.{covers}
@@ -42,7 +42,7 @@ module _ (p : Segment) (some : 0 < p.filesz) where
   test = covers p.offset (p.offset + p.filesz)
 
   -- an empty range holds no bytes
-  covers-extent : (i : ℕ) (c : Contents) (s : Section) → test (extent_of i c s) ≡ holds c s p
+  covers-extent : (i : ℕ) (c : Contents) (s : Section) → test (extent_of i c s) ≡ section_holds c s p
   covers-extent i c s = cases (can_hold c s)
     where
       cases : (b : Bool) →
@@ -66,7 +66,8 @@ module _ (p : Segment) (some : 0 < p.filesz) where
             let count = are.count in
             unwrap_or-slice_get found i Dropped ∙ are.each i s _ is (slice_get-get_or found i Dropped (omega arith))
 
-    test-at : (i : ℕ) (s : Section) → slice_get sections i ≡ Some s → test (get_or extents i no_extent) ≡ holds (contents i s) s p
+    test-at : (i : ℕ) (s : Section) → slice_get sections i ≡ Some s →
+        test (get_or extents i no_extent) ≡ section_holds (contents i s) s p
     test-at i s is =
         ap test (get_or_from_slice_get extents i _ no_extent (extent-at i s is)) ∙ covers-extent i (contents i s) s
 
@@ -90,7 +91,7 @@ module _ (p : Segment) (some : 0 < p.filesz) where
             let passes = passes_at_first test extents no_extent (omega arith) in
             subst (λ (o : Option Extent). IsFirst contents sections p (option_map (λ e. e.place) o)) (sym (extent-at first s is))
             (subst (λ (k : ℕ). IsFirst contents sections p (Some k)) (sym (place-is first (contents first s) s)) (
-              subst (λ (o : Option Section). IsSomeAnd o (λ t. holds (contents first t) t p ≡ true)) (sym is)
+              subst (λ (o : Option Section). IsSomeAnd o (λ t. section_holds (contents first t) t p ≡ true)) (sym is)
                   (sym (test-at first s is) ∙ passes),
               none-before first (omega arith),
             ))

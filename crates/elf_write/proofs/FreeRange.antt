@@ -10,7 +10,7 @@ use Rattle.elf_image.specs.faults.SegmentLayout.{address_end}
 use Rattle.elf_image.specs.memory.Start.{page_size, rounded_down}
 use Rattle.elf_image.proofs.LoadLemmas.{loads-parts, loads-from_parts}
 use Rattle.elf_image.proofs.ReadLists.{length-segments_of, get_or-segments}
-use Rattle.elf_write.specs.Extended.{Loads, ShareNone}
+use Rattle.elf_write.specs.RangesWithNew.{Loads, ShareNone}
 use Rattle.elf_write.specs.NewSegments.{IsFreeRange}
 use Rattle.elf_write.specs.Room.{pages_from, limit_above}
 

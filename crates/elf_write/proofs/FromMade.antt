@@ -5,11 +5,11 @@ use Rattle.elf_image.specs.faults.FileFaults.{IsSound}
 use Rattle.elf_image.specs.file.Header.{segments_of}
 use Rattle.elf_image.specs.file.ParsedFile.{IsElfOf}
 use Rattle.elf_image.specs.memory.Image.{LoadOnce}
-use Rattle.elf_write.specs.Carried.{CarriesImage}
+use Rattle.elf_write.specs.CarriedBytes.{CarriesImage}
 use Rattle.elf_write.specs.FrontBytes.{KeepsFront}
-use Rattle.elf_write.specs.Made.{IsMade}
-use Rattle.elf_write.specs.Source.{Source, IsPlaced, is_changed}
-use Rattle.elf_write.specs.Written.{CanHold, AreApart, IsWritten}
+use Rattle.elf_write.specs.FileParts.{IsMade}
+use Rattle.elf_write.specs.Source.{Source, HasPlace, is_changed}
+use Rattle.elf_write.specs.WrittenFile.{CanHold, AreApart, IsWritten}
 use Rattle.elf_write.proofs.CellsWritten.{cells-written, wide}
 use Rattle.elf_write.proofs.CodeWritten.{code-written, executable-written}
 use Rattle.elf_write.proofs.EntryWritten.{entry-written, entry_field-written}
@@ -19,7 +19,7 @@ use Rattle.elf_write.proofs.PlacesWritten.{places-written}
 use Rattle.elf_write.proofs.SoundFiles.{load_once}
 
 pub written : (s : Source) (tight : Bool) (w : List ℕ) → IsElfOf s.elf.file.now s.elf → IsSound s.elf.file.now →
-    All (CanHold s.elf) s.cells → AllPairs AreApart s.cells → IsMade s tight w → IsPlaced s tight → IsSound w →
+    All (CanHold s.elf) s.cells → AllPairs AreApart s.cells → IsMade s tight w → HasPlace s tight → IsSound w →
     CarriesImage s.elf.file.now w (is_changed s tight) s.elf.segments.items (segments_of w) → KeepsFront s.elf tight w →
     IsWritten s tight w
 written s tight w read sound can apart made placed sound_w image front = record {

@@ -1,7 +1,7 @@
 -- A file that was made has the bytes in front that no segment loads, and those of a table that another one replaces.
 use Rattle.std.proofs.Common.{◌≡◌, ◌∙◌, sym, ap, subst, refl, ℕ, zero, suc, ◌+◌, ◌-◌, ◌*◌, ◌≤◌, ◌<◌, ◌⊎◌, inl, inr, List}
 use Rattle.std.proofs.Common.{Bool, true, false, ◌&&◌, length, map, get_or, arith}
-use Rattle.std.specs.Prelude.{All, Contains, IfSome, IsFalse, IsTrue, Option, Some, nat_le, nat_lt}
+use Rattle.std.specs.Prelude.{All, IfSome, IsFalse, IsTrue, Option, Some, nat_le, nat_lt}
 use Rattle.std.specs.List.{list_any}
 use Rattle.std.proofs.lemmas.Bool.{and_parts, cases_lt, le-leb, leb-true, lt-ltb, ltb-true}
 use Rattle.std.proofs.lemmas.List.{get_or-map, get_or_append_left, length-map}
@@ -17,19 +17,19 @@ use Rattle.elf_parts.specs.declared.number_at.NumberAt.{NumberAt}
 use Rattle.elf_parts.specs.Numbers.{patch_of}
 use Rattle.elf_parts.specs.Parts.{size_of}
 use Rattle.elf_parts.specs.Patches.{IsBeside}
-use Rattle.elf_parts.specs.Spelled.{segment_table}
+use Rattle.elf_parts.specs.Spellings.{segment_table}
 use Rattle.elf_parts.proofs.JoinedParts.{front-byte}
 use Rattle.elf_parts.proofs.Patches.{get_or-put_all}
-use Rattle.elf_parts.proofs.Spelled.{length-segment_table}
+use Rattle.elf_parts.proofs.Spellings.{length-segment_table}
 use Rattle.elf_write.specs.declared.area.Shift.{Shift}
 use Rattle.elf_write.specs.Area.{loads_end, moved_by}
 use Rattle.elf_write.specs.CellNumbers.{IsCellNumber}
 use Rattle.elf_write.specs.FileLayout.{is_kept_table, table_of}
 use Rattle.elf_write.specs.FrontBytes.{IsLeft, KeepsFront, front_end, written_ranges}
-use Rattle.elf_write.specs.Made.{IsMade, header_numbers, number}
+use Rattle.elf_write.specs.FileParts.{IsMade, header_numbers, number}
 use Rattle.elf_write.specs.Room.{greatest_align}
 use Rattle.elf_write.specs.Source.{Source}
-use Rattle.elf_write.specs.Written.{CanHold}
+use Rattle.elf_write.specs.WrittenFile.{CanHold}
 use Rattle.elf_write.proofs.CellPatches.{moved-less, moved-more}
 use Rattle.elf_write.proofs.CellPlaces.{CellPlace, cell-offset, cell-place}
 use Rattle.elf_write.proofs.ImageWritten.{all-more, patches, within-all, written-all}

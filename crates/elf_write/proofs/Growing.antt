@@ -12,8 +12,8 @@ use Rattle.elf_image.specs.memory.CodeSegment.{executable_segment}
 use Rattle.elf_image.specs.memory.Image.{end_of}
 use Rattle.elf_write.specs.declared.area.Area.{Area}
 use Rattle.elf_write.specs.declared.layout.Layout.{Layout}
-use Rattle.elf_write.specs.Area.{code_segment, no_segment, segment_address, start_of, table_end}
-use Rattle.elf_write.specs.Made.{IsLaidOut}
+use Rattle.elf_write.specs.Area.{code_segment, no_segment, segment_address, area_start_of, table_end}
+use Rattle.elf_write.specs.FileParts.{IsLaidOut}
 use Rattle.elf_write.specs.NewSegments.{CanGrow, CanGrowAt}
 use Rattle.elf_write.specs.Room.{code_end, new_segment_start}
 use Rattle.elf_write.proofs.CodeMemory.{table_end-above}
@@ -42,16 +42,16 @@ module _ (elf : Elf) (tight : Bool) (code : List ℕ) (frames index : Option ℕ
   whole = code-whole elf.file.now sound layout.code p found-file
 
   -- the area ends behind its code
-  ends : start_of ps tight ≤ layout.area.end
+  ends : area_start_of ps tight ≤ layout.area.end
   ends =
-      let e : layout.area.end ≡ table_end 4 (table_end 8 (start_of ps tight + length code) frames) index =
+      let e : layout.area.end ≡ table_end 4 (table_end 8 (area_start_of ps tight + length code) frames) index =
       ap (λ (a : Area). a.end) laid.area in
-      let first = table_end-above 8 (start_of ps tight + length code) frames (omega arith) in
-      let second = table_end-above 4 (table_end 8 (start_of ps tight + length code) frames) index (omega arith) in
+      let first = table_end-above 8 (area_start_of ps tight + length code) frames (omega arith) in
+      let second = table_end-above 4 (table_end 8 (area_start_of ps tight + length code) frames) index (omega arith) in
       omega (arith, e, first, second)
 
   -- and begins behind the executable segment
-  begins : end_of p ≤ start_of ps false
+  begins : end_of p ≤ area_start_of ps false
   begins =
       let end : code_end ps ≡ end_of p = ap (λ (o : Option (ℕ × Segment)). option_map_or (λ e. end_of e.1) o 0) laid.found in
       let up = rounded_up-above 16 (code_end ps) (omega arith) in
@@ -63,7 +63,7 @@ module _ (elf : Elf) (tight : Bool) (code : List ℕ) (frames index : Option ℕ
   pub can-grow : CanGrowAt layout.shift.from layout.area.end layout.area.tight layout.code ps
   can-grow not_tight d below =
       let e : tight ≡ false = sym tight-is ∙ not_tight in
-      let end = subst (λ (t : Bool). start_of ps t ≤ layout.area.end) e ends in
+      let end = subst (λ (t : Bool). area_start_of ps t ≤ layout.area.end) e ends in
       let from : layout.shift.from ≡ p.offset + p.filesz =
       ap (λ x. x.from) laid.shift ∙ ap (λ (q : Segment). q.offset + q.filesz) code_segment-is in
       let same : p.filesz ≡ p.memsz = whole in
@@ -80,12 +80,12 @@ module _ (elf : Elf) (tight : Bool) (code : List ℕ) (frames index : Option ℕ
       cases : (b : Bool) → tight ≡ b → layout.area.address ≤ layout.area.end
       cases true e =
           let at : segment_address ps tight ≡ new_segment_start ps = rw e refl in
-          let end = subst (λ (t : Bool). start_of ps t ≤ layout.area.end) e ends in
+          let end = subst (λ (t : Bool). area_start_of ps t ≤ layout.area.end) e ends in
           let up = rounded_up-above 16 (new_segment_start ps + PHDR_SIZE * (length ps + 1)) (omega arith) in
           omega (arith, address, at, end, up)
       cases false e =
           let at : segment_address ps tight ≡ (code_segment ps).vaddr = rw e refl in
           let is : (code_segment ps).vaddr ≡ p.vaddr = ap (λ (q : Segment). q.vaddr) code_segment-is in
-          let end = subst (λ (t : Bool). start_of ps t ≤ layout.area.end) e ends in
+          let end = subst (λ (t : Bool). area_start_of ps t ≤ layout.area.end) e ends in
           let high = begins in
           omega (arith, address, at, is, end, high)

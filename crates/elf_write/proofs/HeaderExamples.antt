@@ -1,10 +1,10 @@
 -- Where program headers go, computed on small examples.
-use Rattle.std.proofs.Common.{◌≡◌, refl, ℕ, Bool, true, false, Option, Some, None, List, [], ◌∷◌}
+use Rattle.std.proofs.Common.{◌≡◌, refl, ℕ, true, false, Some, None, [], ◌∷◌}
 use Rattle.elf_image.specs.declared.elf.Section.{Section}
 use Rattle.elf_image.specs.declared.segment.Segment.{Segment}
 use Rattle.elf_write.specs.declared.area.Area.{Area}
 use Rattle.elf_write.specs.declared.sections.Contents.TheVariants.{Copied, Kept}
-use Rattle.elf_write.specs.HeaderPlaces.{Outline, beside, holds, is_unloaded, new_header, place_behind, place_in}
+use Rattle.elf_write.specs.HeaderPlaces.{Outline, beside, section_holds, is_unloaded, new_header, place_behind, place_in}
 
 -- Code at 1000 to 1020 of the file, in hexadecimal, and a header of four bytes behind it, which no segment loads
 abbrev code : Segment
@@ -43,13 +43,13 @@ section = record {
   entsize = 0;
 }
 
-held : holds Copied section (note 0x1022) ≡ true
+held : section_holds Copied section (note 0x1022) ≡ true
 held = refl
 
-not-held : holds Copied section (note 0x1026) ≡ false
+not-held : section_holds Copied section (note 0x1026) ≡ false
 not-held = refl
 
-not-written : holds Kept section (note 0x1022) ≡ false
+not-written : section_holds Kept section (note 0x1022) ≡ false
 not-written = refl
 
 -- where these contents are at 3000

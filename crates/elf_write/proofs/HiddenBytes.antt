@@ -19,7 +19,7 @@ use Rattle.elf_image.proofs.LoadLemmas.{find-found, loads-from_parts, Contains-c
 use Rattle.sym_machine.specs.HiddenFields.{e_entry_field, e_phoff_field, e_phnum_field, section_fields, p_offset_field}
 use Rattle.sym_machine.specs.HiddenFields.{size_fields, place_fields, only, is_executable_segment, hidden_in_segment}
 use Rattle.sym_machine.specs.HiddenFields.{hidden_fields, is_hidden_field}
-use Rattle.move_law.specs.Faithful.{is_in_entry_field}
+use Rattle.move_law.specs.FaithfulRewrite.{is_in_entry_field}
 use Rattle.elf_write.specs.Source.{Source, is_changed, cell_range}
 use Rattle.elf_write.proofs.Images.{segment_of-once}
 

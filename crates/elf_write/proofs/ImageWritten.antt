@@ -25,12 +25,12 @@ use Rattle.elf_parts.specs.declared.parts.Parts.{Parts}
 use Rattle.elf_parts.specs.Numbers.{patch_of}
 use Rattle.elf_parts.specs.Parts.{size_of}
 use Rattle.elf_parts.specs.Patches.{Patch, put_all, put_patch, IsWithin, Leaves}
-use Rattle.elf_parts.specs.Spelled.{segment_table}
+use Rattle.elf_parts.specs.Spellings.{segment_table}
 use Rattle.elf_write.specs.Area.{moved_by, loads_end}
-use Rattle.elf_write.specs.Carried.{CarriesImage}
+use Rattle.elf_write.specs.CarriedBytes.{CarriesImage}
 use Rattle.elf_write.specs.CellNumbers.{IsCellNumber}
 use Rattle.elf_write.specs.FileLayout.{is_kept_table}
-use Rattle.elf_write.specs.Made.{IsMade, number, header_numbers}
+use Rattle.elf_write.specs.FileParts.{IsMade, number, header_numbers}
 use Rattle.elf_write.specs.NewSegments.{IsNewLoad, AreRenewed, grows_at}
 use Rattle.elf_write.specs.Room.{greatest_align}
 use Rattle.elf_write.specs.Source.{Source, is_changed}

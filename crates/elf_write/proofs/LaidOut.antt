@@ -11,7 +11,7 @@ use Rattle.elf_write.specs.declared.area.Area.{Area}
 use Rattle.elf_write.specs.declared.area.Shift.{Shift}
 use Rattle.elf_write.specs.Area.{loads_end, lowest_behind, moved_by}
 use Rattle.elf_write.specs.NewSegments.{CrossesNot}
-use Rattle.elf_write.specs.Placing.{IsAbove, IsBehind, MovesFrom}
+use Rattle.elf_write.specs.PartPlaces.{IsAbove, IsBehind, MovesFrom}
 use Rattle.elf_write.proofs.FileEnds.{ends-below, begins-behind}
 use Rattle.elf_write.proofs.Loads.{moved-behind, moved-before}
 use Rattle.elf_write.proofs.WrittenImages.{FitSegments}

@@ -15,9 +15,9 @@ use Rattle.elf_image.specs.memory.CodeSegment.{executable_segment, executable_en
 use Rattle.elf_image.specs.memory.LoadedBytes.{is_in_range}
 use Rattle.sym_machine.specs.HiddenFields.{hidden_fields, is_executable_segment}
 use Rattle.elf_parts.specs.Patches.{Leaves}
-use Rattle.elf_parts.specs.Spelled.{Number, number, segment_numbers, segment_table}
+use Rattle.elf_parts.specs.Spellings.{Number, number, segment_numbers, segment_table}
 use Rattle.elf_parts.proofs.SameBytes.{little_bytes-same}
-use Rattle.elf_parts.proofs.Spelled.{length-segment_table}
+use Rattle.elf_parts.proofs.Spellings.{length-segment_table}
 use Rattle.elf_write.specs.Area.{moved_by}
 use Rattle.elf_write.specs.NewSegments.{IsRenewed, AreRenewed, NamesNew, grows_at}
 use Rattle.elf_write.proofs.CellPatches.{moved-less, moved-more}

@@ -6,11 +6,11 @@ pub mod CellsWritten
 pub mod CodeMemory
 pub mod CodeWritten
 pub mod EntryWritten
-pub mod Extended
 pub mod FileEnds
 pub mod FirstHomes
 pub mod FirstNames
 pub mod FirstRange
+pub mod FragmentLists
 pub mod FreeRange
 pub mod FromMade
 pub mod FrontWritten
@@ -35,8 +35,8 @@ pub mod NewSegments
 pub mod Pairs
 pub mod PlacesWritten
 pub mod Positions
+pub mod RangesWithNew
 pub mod ReadHeaders
-pub mod RunLists
 pub mod SameBreak
 pub mod SectionOrder
 pub mod SoundFiles

@@ -7,7 +7,7 @@ use Rattle.elf_image.specs.declared.segment.Segment.{Segment}
 use Rattle.elf_image.specs.declared.segment.TheConstants.{PT_LOAD}
 use Rattle.elf_image.specs.memory.Image.{is_load}
 use Rattle.elf_image.specs.faults.SegmentLayout.{IsFileByte}
-use Rattle.elf_write.specs.Carried.{CarriesSegment}
+use Rattle.elf_write.specs.CarriedBytes.{CarriesSegment}
 use Rattle.elf_write.specs.Area.{moved_by}
 use Rattle.elf_write.specs.NewSegments.{IsNewLoad, CrossesNot}
 

@@ -8,20 +8,20 @@ use Rattle.byteorder.specs.Numbers.{length-bytes_low_first}
 use Rattle.elf_image.specs.declared.segment.Segment.{Segment}
 use Rattle.elf_image.specs.file.Header.{header_size, e_entry, e_phoff, e_phnum, e_shstrndx, segments_of}
 use Rattle.elf_parts.specs.declared.number_at.NumberAt.{NumberAt}
-use Rattle.elf_parts.specs.Assembled.{header_patches, PutsNumber, PutsTable}
+use Rattle.elf_parts.specs.Assembly.{header_patches, PutsNumber, PutsTable}
 use Rattle.elf_parts.specs.Numbers.{CanPut, patch_of}
 use Rattle.elf_parts.specs.Parts.{size_of}
 use Rattle.elf_parts.specs.Patches.{Patch, put_all, IsWithin, AreApart}
-use Rattle.elf_parts.specs.Spelled.{segment_table}
+use Rattle.elf_parts.specs.Spellings.{segment_table}
 use Rattle.elf_parts.proofs.Patches.{length-put_all}
 use Rattle.elf_parts.proofs.ReadBack.{number_at-put_all, segments_of-put_all}
 use Rattle.elf_write.specs.declared.area.Area.{Area}
 use Rattle.elf_write.specs.declared.area.Shift.{Shift}
 use Rattle.elf_write.specs.Area.{shift_of}
 use Rattle.elf_write.specs.NewSegments.{AreNewHeaders}
-use Rattle.elf_write.specs.Written.{FollowsHeaders}
+use Rattle.elf_write.specs.WrittenFile.{FollowsHeaders}
 use Rattle.std.specs.Prelude.{IfSome, Option}
-use Rattle.elf_write.specs.Made.{IsMade, header_numbers, number}
+use Rattle.elf_write.specs.FileParts.{IsMade, header_numbers, number}
 use Rattle.elf_write.specs.Source.{Source, source_area}
 
 -- Numbers of which each begins where the one before has ended or behind it, and the last ends within the file's header.

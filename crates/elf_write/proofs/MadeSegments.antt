@@ -12,7 +12,7 @@ use Rattle.elf_image.specs.file.ParsedFile.{IsElfOf}
 use Rattle.elf_image.specs.memory.Image.{is_load, end_of, has_flag}
 use Rattle.elf_write.specs.declared.area.Area.{Area}
 use Rattle.elf_write.specs.Area.{table_end}
-use Rattle.elf_write.specs.Made.{IsMade}
+use Rattle.elf_write.specs.FileParts.{IsMade}
 use Rattle.elf_write.specs.NewSegments.{IsNewLoad, IsRenewed, area_segment, grows_at}
 use Rattle.elf_write.specs.Room.{area_align, area_above, area_start, code_end, greatest_align, new_segment_start}
 use Rattle.elf_write.specs.Source.{Source, source_area}

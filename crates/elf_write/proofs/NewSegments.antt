@@ -11,9 +11,9 @@ use Rattle.elf_image.specs.file.Header.{e_phnum, segment, segments_of}
 use Rattle.elf_image.specs.memory.Image.{is_load, end_of, loads_address}
 use Rattle.elf_image.proofs.LoadLemmas.{loads-parts, loads-from_parts}
 use Rattle.elf_image.proofs.ReadLists.{length-segments_of, get_or-segments}
-use Rattle.elf_write.specs.Extended.{Loads, LoadsMore, old_index}
+use Rattle.elf_write.specs.RangesWithNew.{Loads, LoadsMore, old_index}
 use Rattle.elf_write.specs.NewSegments.{IsNewLoad, IsRenewed, AreRenewed, grows_at, inserted, IsFreeRange}
-use Rattle.elf_write.proofs.Extended.{old_index-once}
+use Rattle.elf_write.proofs.RangesWithNew.{old_index-once}
 
 -- The header of an index in a file whose headers are known.
 header-at : (file : List ℕ) (segments : List Segment) (j : ℕ) (d : Segment) → segments_of file ≡ segments → j < length segments →

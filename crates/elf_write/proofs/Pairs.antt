@@ -7,7 +7,7 @@ use Rattle.std.proofs.lemmas.Bool.{cases_eq, cases_lt}
 use Rattle.std.proofs.lemmas.List.{append-nil, get_or_append_left, get_or-append_right}
 use Rattle.std.proofs.lemmas.List.Elements.{filter_more}
 use Rattle.std.proofs.lemmas.Option.{get_or_from_slice_get, slice_get-get_or, slice_get_within}
-use Rattle.elf_write.specs.Together.{GoTogether, GoTogetherBelow}
+use Rattle.elf_write.specs.PairedLists.{GoTogether, GoTogetherBelow}
 
 pub below-more : {A B : Type 0} (R : A → B → Type 0) (n : ℕ) (xs : List A) (ys : List B) (d : A) (e : B) →
     GoTogetherBelow R n xs ys → R (get_or xs n d) (get_or ys n e) → GoTogetherBelow R (n + 1) xs ys

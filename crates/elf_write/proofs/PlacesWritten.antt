@@ -20,12 +20,12 @@ use Rattle.elf_parts.specs.Parts.{size_of}
 use Rattle.elf_write.specs.declared.area.Area.{Area}
 use Rattle.elf_write.specs.Area.{code_file_end, file_end_of, lowest_behind, moved_by, area_offset}
 use Rattle.elf_write.specs.FileLayout.{is_kept_table, table_of}
-use Rattle.elf_write.specs.Made.{IsMade}
+use Rattle.elf_write.specs.FileParts.{IsMade}
 use Rattle.elf_write.specs.NewSegments.{IsRenewed, CrossesNot, grows_at}
-use Rattle.elf_write.specs.Placing.{MovesFrom}
+use Rattle.elf_write.specs.PartPlaces.{MovesFrom}
 use Rattle.elf_write.specs.Room.{greatest_align}
-use Rattle.elf_write.specs.Source.{Source, IsPlaced}
-use Rattle.elf_write.specs.Written.{KeepsPlaces}
+use Rattle.elf_write.specs.Source.{Source, HasPlace}
+use Rattle.elf_write.specs.WrittenFile.{KeepsPlaces}
 use Rattle.elf_write.proofs.CodeMemory.{code-memory}
 use Rattle.elf_write.proofs.FileEnds.{begins-behind}
 use Rattle.elf_write.proofs.LaidOut.{stretch-within}
@@ -39,7 +39,7 @@ use Rattle.elf_write.proofs.TableKept.{GrowsTo, LoadsRange, StandsAlike, stays, 
 use Rattle.elf_write.proofs.TableKept.{range_address, address-kept, had_bytes}
 
 module _ (s : Source) (tight : Bool) (w : List ℕ) (read : IsElfOf s.elf.file.now s.elf) (sound : IsSound s.elf.file.now)
-    (made : IsMade s tight w) (placed : IsPlaced s tight) where
+    (made : IsMade s tight w) (placed : HasPlace s tight) where
   abbrev ps : List Segment
   ps = s.elf.segments.items
 
@@ -59,7 +59,7 @@ module _ (s : Source) (tight : Bool) (w : List ℕ) (read : IsElfOf s.elf.file.n
   memory e =
       code-memory s made.layout.code code made.laid_out.found (code-inside s tight w read sound made)
       (code-is s tight w read sound made) load
-      (subst (IsPlaced s) e placed)
+      (subst (HasPlace s) e placed)
 
   -- The break.
   break-written : KeepsBreak ps made.segments

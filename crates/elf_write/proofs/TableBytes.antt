@@ -10,9 +10,9 @@ use Rattle.byteorder.specs.Numbers.{length-bytes_low_first}
 use Rattle.elf_image.specs.declared.segment.Segment.{Segment}
 use Rattle.elf_image.specs.declared.segment.TheConstants.{PHDR_SIZE}
 use Rattle.elf_image.specs.file.Header.{number_at, segment_at}
-use Rattle.elf_parts.specs.Spelled.{Number, number, spelled, segment_numbers, segment_bytes, segment_table}
+use Rattle.elf_parts.specs.Spellings.{Number, number, spelled, segment_numbers, segment_bytes, segment_table}
 use Rattle.elf_parts.proofs.SameBytes.{little_bytes-same}
-use Rattle.elf_parts.proofs.Spelled.{length-segment_bytes}
+use Rattle.elf_parts.proofs.Spellings.{length-segment_bytes}
 
 -- Two lists of numbers that stand at a place agree but where it is hidden.
 pub data AreSameBut (Hidden : ℕ → Type 0) : ℕ → List Number → List Number → Type 0 where

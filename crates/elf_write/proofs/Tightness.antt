@@ -10,7 +10,7 @@ use Rattle.elf_image.specs.memory.CodeSegment.{executable_segment}
 use Rattle.elf_image.specs.memory.Image.{end_of, is_load}
 use Rattle.addr_map.specs.Spans.{owner}
 use Rattle.elf_write.specs.Room.{area_above, area_start, break_end, code_end, greatest_align, highest_end, new_segment_start}
-use Rattle.elf_write.specs.Source.{Source, IsPlaced}
+use Rattle.elf_write.specs.Source.{Source, HasPlace}
 use Rattle.elf_write.proofs.FileEnds.{max-above}
 use Rattle.elf_write.proofs.SameBreak.{rounded_up-above, align-above}
 
@@ -22,7 +22,7 @@ module _ (s : Source) (below : area_start s.elf.segments.items < area_above s.el
   ps : List Segment
   ps = s.elf.segments.items
 
-  pub is-tight : (tight : Bool) → IsPlaced s tight → is_none (owner s.spans (area_start s.elf.segments.items)) ≡ tight
+  pub is-tight : (tight : Bool) → HasPlace s tight → is_none (owner s.spans (area_start s.elf.segments.items)) ≡ tight
   is-tight false placed =
       let some : 0 < length s.code = placed.some in
       let start : ℕ = area_start s.elf.segments.items in

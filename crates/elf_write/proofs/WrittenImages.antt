@@ -6,7 +6,7 @@ use Rattle.elf_image.specs.declared.segment.Segment.{Segment}
 use Rattle.elf_image.specs.memory.Image.{is_load, LoadOnce}
 use Rattle.elf_image.specs.faults.SegmentLayout.{IsFileByte}
 use Rattle.elf_parts.specs.declared.parts.Parts.{Parts}
-use Rattle.elf_write.specs.Carried.{CarriesImage}
+use Rattle.elf_write.specs.CarriedBytes.{CarriesImage}
 use Rattle.elf_write.specs.Area.{moved_by}
 use Rattle.elf_write.specs.NewSegments.{IsNewLoad, CrossesNot}
 use Rattle.elf_parts.specs.Parts.{PartsFit, HasParts}

@@ -53,8 +53,8 @@ segment_offset segments tight =
     then rounded_up (greatest_align segments) (loads_end segments)
     else (code_segment segments).offset
 
-abbrev pub start_of : List Segment → Bool → ℕ
-start_of segments tight = if tight then area_above segments else area_start segments
+abbrev pub area_start_of : List Segment → Bool → ℕ
+area_start_of segments tight = if tight then area_above segments else area_start segments
 
 -- The area.
 
@@ -70,13 +70,13 @@ table_end align end (Some size) = rounded_up align end + size
 -- by the sizes of the code and of the two tables
 abbrev pub area_of : List Segment → Bool → ℕ → Option ℕ → Option ℕ → Area
 area_of segments tight code frames index =
-    let code_end = start_of segments tight + code in
+    let code_end = area_start_of segments tight + code in
     let frames_end = table_end 8 code_end frames in
     record {
       tight = tight;
       address = segment_address segments tight;
       offset = segment_offset segments tight;
-      start = start_of segments tight;
+      start = area_start_of segments tight;
       code_end = code_end;
       frames = table_start 8 code_end frames;
       index = table_start 4 frames_end index;

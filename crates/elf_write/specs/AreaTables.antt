@@ -4,12 +4,12 @@ use Rattle.elf_parts.specs.Patches.{Stands}
 use Rattle.elf_write.specs.declared.area.Area.{Area}
 use Rattle.elf_write.specs.declared.layout.Layout.{Layout}
 use Rattle.elf_write.specs.Area.{area_offset}
-use Rattle.elf_write.specs.Made.{IsMade}
+use Rattle.elf_write.specs.FileParts.{IsMade}
 use Rattle.elf_write.specs.NewSections.{bytes_called}
 use Rattle.elf_write.specs.Source.{Source}
 
 -- The tables stand among the bytes of an area.
-pub record HasTables {Y Z : Type 0} (tables : List (String Y × Vec ℕ Z)) (layout : Layout) : Type 0 where
+pub record HoldsTables {Y Z : Type 0} (tables : List (String Y × Vec ℕ Z)) (layout : Layout) : Type 0 where
   pub frames : IfSome layout.area.frames
       (λ a. Stands layout.bytes.items (a - layout.area.start) (bytes_called tables (codes ".eh_frame")))
   pub index : IfSome layout.area.index
@@ -18,7 +18,7 @@ pub record HasTables {Y Z : Type 0} (tables : List (String Y × Vec ℕ Z)) (lay
 -- A file that was made, with these tables in its area.
 pub record IsMadeWith {Y Z : Type 0} (s : Source) (tables : List (String Y × Vec ℕ Z)) (tight : Bool) (w : List ℕ) : Type 0 where
   pub made : IsMade s tight w
-  pub has_tables : HasTables tables made.layout
+  pub has_tables : HoldsTables tables made.layout
 
 -- All of an area stands in a file.
 pub record AreaStands {Y Z : Type 0} (area : Area) (tables : List (String Y × Vec ℕ Z)) (code w : List ℕ) : Type 0 where

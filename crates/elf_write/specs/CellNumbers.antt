@@ -8,12 +8,12 @@ use Rattle.elf_write.specs.declared.area.Shift.{Shift}
 use Rattle.elf_write.specs.Area.{moved_by}
 
 -- One segment loads all bytes of a cell from the file, and the number stands where the first of them went.
-pub record StandsIn (shift : Shift) (cell : ℕ × ℕ × ℕ) (number : NumberAt) (p : Segment) : Type 0 where
+pub record CellStandsIn (shift : Shift) (cell : ℕ × ℕ × ℕ) (number : NumberAt) (p : Segment) : Type 0 where
   pub inside : (cell.0 - p.vaddr) + cell.1 ≤ min p.filesz p.memsz
   pub offset : number.offset ≡ moved_by shift.from shift.by (p.offset + (cell.0 - p.vaddr))
 
 pub record IsCellNumber (elf : Elf) (shift : Shift) (cell : ℕ × ℕ × ℕ) (number : NumberAt) : Type 0 where
-  pub place : IsSomeAnd (segment_of elf.segments.items cell.0) (StandsIn shift cell number)
+  pub place : IsSomeAnd (segment_of elf.segments.items cell.0) (CellStandsIn shift cell number)
   pub width : number.width ≡ cell.1
   pub value : number.value ≡ cell.2
 

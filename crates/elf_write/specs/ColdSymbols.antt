@@ -1,13 +1,13 @@
 -- The symbols that are added for cold parts, each given by the address of its first instruction in the input.
 use Rattle.std.specs.Prelude.{ℕ, ◌&&◌, ◌==◌, ◌++◌, List, Option, find, codes, option_map, option_and_then}
 use Rattle.rv_code.specs.declared.placed.Func.{Func}
+use Rattle.rv_code.specs.layout.FunctionMembers.{func_holds}
 use Rattle.elf_image.specs.declared.elf.Symbol.{Symbol}
 use Rattle.elf_image.specs.code.Cuts.{names_function}
-use Rattle.rv_code.specs.layout.InFunctions.{holds}
 
 -- where the function starts that has an address
 abbrev pub start_around : List Func → ℕ → Option ℕ
-start_around funcs a = option_map (λ f. f.start) (find (holds a) funcs)
+start_around funcs a = option_map (λ f. f.start) (find (func_holds a) funcs)
 
 -- the first symbol of a function that starts there
 abbrev pub first_named : List Symbol → ℕ → Option Symbol

@@ -40,18 +40,20 @@ is_unloaded segments p =
 abbrev pub can_hold : Contents → Section → Bool
 can_hold contents s = is_written contents && (not (is_loaded s) && not (s.kind == SHT_NOBITS))
 
-abbrev pub holds : Contents → Section → Segment → Bool
-holds contents s p = can_hold contents s && (nat_le s.offset p.offset && nat_le (p.offset + p.filesz) (s.offset + s.size))
+abbrev pub section_holds : Contents → Section → Segment → Bool
+section_holds contents s p =
+    can_hold contents s && (nat_le s.offset p.offset && nat_le (p.offset + p.filesz) (s.offset + s.size))
 
 -- by where the contents of sections are: no section below an index holds them
 abbrev pub HasNone : (ℕ → Section → Contents) → List Section → Segment → ℕ → Type 0
-HasNone contents sections p n = (i : ℕ) (s : Section) → i < n → slice_get sections i ≡ Some s → holds (contents i s) s p ≡ false
+HasNone contents sections p n =
+    (i : ℕ) (s : Section) → i < n → slice_get sections i ≡ Some s → section_holds (contents i s) s p ≡ false
 
 -- the index of the first that does, if there is one
 abbrev pub IsFirst : (ℕ → Section → Contents) → List Section → Segment → Option ℕ → Type 0
 IsFirst contents sections p None = HasNone contents sections p (length sections)
 IsFirst contents sections p (Some i) =
-    IsSomeAnd (slice_get sections i) (λ s. holds (contents i s) s p ≡ true) × HasNone contents sections p i
+    IsSomeAnd (slice_get sections i) (λ s. section_holds (contents i s) s p ≡ true) × HasNone contents sections p i
 
 -- the section that a header follows, if it follows one
 pub record IsHome (contents : ℕ → Section → Contents) (segments : List Segment) (sections : List Section) (p : Segment)

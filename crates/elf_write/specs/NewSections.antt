@@ -3,6 +3,7 @@ use Rattle.std.specs.Prelude.{◌≡◌, ℕ, ◌+◌, ◌-◌, ◌%◌, ◌==�
 use Rattle.std.specs.Prelude.{Some, IfSome, IsTrue, String, Vec, string_bytes, codes, find, length, slice_get, take}
 use Rattle.std.specs.Option.{option_map_or}
 use Rattle.std.specs.Str.{bytes_eq}
+use Rattle.rv_code.specs.isa.Op.{flag}
 use Rattle.elf_image.specs.declared.elf.Elf.{Elf}
 use Rattle.elf_image.specs.declared.elf.Section.{Section}
 use Rattle.elf_image.specs.declared.relocation.TheConstants.{SHT_RELA}
@@ -124,9 +125,6 @@ pub record IsInArea (w : List ℕ) (area : Area) (name bytes : List ℕ) (flags 
 abbrev pub bytes_called : {Y Z : Type 0} → List (String Y × Vec ℕ Z) → List ℕ → List ℕ
 bytes_called tables name = option_map_or (λ t. t.1.items) (find (λ t. bytes_eq (string_bytes t.0) name) tables) []
 
-abbrev pub one_if : Bool → ℕ
-one_if b = if b then 1 else 0
-
 -- A table of ranges is added where one is given and the input has none.
 abbrev pub adds_ranges : {Y Z : Type 0} → List Section → List (String Y × Vec ℕ Z) → Bool
 adds_ranges sections tables =
@@ -143,7 +141,7 @@ pub record AreNewSections {Y Z : Type 0} (elf new : Elf) (tables : List (String 
     (shift : Shift) (code : List ℕ) : Type 0 where
   pub names_at : e_shstrndx new.file.now ≡ e_shstrndx elf.file.now
   pub count : length new.sections.items ≡ (length elf.sections.items + 1)
-      + (one_if (is_some area.frames) + (one_if (is_some area.index) + one_if (adds_ranges elf.sections.items tables)))
+      + (flag (is_some area.frames) + (flag (is_some area.index) + flag (adds_ranges elf.sections.items tables)))
   pub keeps : (i : ℕ) (s n : Section) → slice_get elf.sections.items i ≡ Some s → slice_get new.sections.items i ≡ Some n →
       KeepsHeader s n
   pub follows : (i : ℕ) (s n : Section) → slice_get elf.sections.items i ≡ Some s → slice_get new.sections.items i ≡ Some n →
@@ -152,7 +150,7 @@ pub record AreNewSections {Y Z : Type 0} (elf new : Elf) (tables : List (String 
       (IsInArea new.file.now area (codes ".text") code (SHF_ALLOC + SHF_EXECINSTR) area.start 16)
   pub frames : IfSome area.frames (λ a. At new.sections.items (length elf.sections.items + 1)
       (IsInArea new.file.now area (codes ".eh_frame") (bytes_called tables (codes ".eh_frame")) SHF_ALLOC a 8))
-  pub index : IfSome area.index (λ a. At new.sections.items ((length elf.sections.items + 1) + one_if (is_some area.frames))
+  pub index : IfSome area.index (λ a. At new.sections.items ((length elf.sections.items + 1) + flag (is_some area.frames))
       (IsInArea new.file.now area (codes ".eh_frame_hdr") (bytes_called tables (codes ".eh_frame_hdr")) SHF_ALLOC a 4))
   pub ranges : IsTrue (adds_ranges elf.sections.items tables) → At new.sections.items (length new.sections.items - 1)
       (IsAdded new.file.now (codes ".debug_rnglists") (bytes_called tables (codes ".debug_rnglists")) 0 0 1)

@@ -9,7 +9,7 @@ use Rattle.elf_write.specs.declared.area.Area.{Area}
 use Rattle.elf_write.specs.declared.segments.TheConstants.{PT_PHDR}
 use Rattle.elf_write.specs.Area.{moved_by}
 use Rattle.elf_write.specs.Room.{greatest_align}
-use Rattle.elf_write.specs.Extended.{Loads}
+use Rattle.elf_write.specs.RangesWithNew.{Loads}
 
 -- no bytes of a header begin before an offset and end behind it
 abbrev pub CrossesNot : ℕ → Segment → Type 0

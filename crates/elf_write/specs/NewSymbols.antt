@@ -10,8 +10,8 @@ use Rattle.elf_image.specs.declared.symbol.TheConstants.{STT_FUNC}
 use Rattle.elf_image.specs.code.Cuts.{names_function}
 use Rattle.rv_code.specs.declared.placed.Func.{Func}
 use Rattle.elf_write.specs.ColdSymbols.{cold_name, named_around}
-use Rattle.elf_write.specs.Runs.{IsRunAt}
-use Rattle.elf_write.specs.Together.{GoTogether}
+use Rattle.elf_write.specs.Fragments.{IsFragmentAt}
+use Rattle.elf_write.specs.PairedLists.{GoTogether}
 use Rattle.elf_write.specs.NameTables.{place_of_symbols, symbols_section}
 
 -- One whose value isn't the address of an instruction stays.
@@ -26,7 +26,7 @@ pub record IsMoved (funcs : List Func) (spans : List Span) (text to : ℕ) (s n 
   pub value : n.value ≡ to
   pub shndx : n.section ≡ text
   pub size : IsFalse (names_function s) → n.size ≡ s.size
-  pub run : IsTrue (names_function s) → IsRunAt funcs spans s.value to n.size
+  pub fragment : IsTrue (names_function s) → IsFragmentAt funcs spans s.value to n.size
 
 pub record IsNewSymbol (funcs : List Func) (spans : List Span) (text : ℕ) (s n : Symbol) : Type 0 where
   pub name : n.name.now ≡ s.name.now
@@ -42,7 +42,7 @@ pub record IsColdSymbol (symbols : List Symbol) (funcs : List Func) (spans : Lis
   pub other : n.other ≡ 0
   pub value : moved spans address ≡ Some n.value
   pub shndx : n.section ≡ text
-  pub run : IsRunAt funcs spans address n.value n.size
+  pub fragment : IsFragmentAt funcs spans address n.value n.size
 
 -- The cold parts that get a symbol are those of functions that have a name.
 abbrev pub named_parts : List Symbol → List Func → List ℕ → List ℕ

@@ -7,9 +7,9 @@ use Rattle.elf_image.specs.memory.LoadedBytes.{Range, is_in_range}
 use Rattle.addr_map.specs.declared.span.Span.{Span}
 use Rattle.addr_map.specs.Spans.{IsStretch}
 use Rattle.sym_machine.specs.HiddenFields.{is_hidden_field}
-use Rattle.move_law.specs.Faithful.{is_in_entry_field}
+use Rattle.move_law.specs.FaithfulRewrite.{is_in_entry_field}
 use Rattle.elf_write.specs.declared.area.Area.{Area}
-use Rattle.elf_write.specs.Area.{area_of, start_of}
+use Rattle.elf_write.specs.Area.{area_of, area_start_of}
 use Rattle.elf_write.specs.Room.{room, room_above}
 use Rattle.elf_write.specs.TableSizes.{table_size}
 
@@ -39,9 +39,10 @@ source_area s tight = area_of s.elf.segments.items tight (length s.code) s.frame
 
 -- The map puts the new code behind the executable segment, or in a segment of its own if tight,
 -- and all of the new area has room there.
-pub record IsPlaced (s : Source) (tight : Bool) : Type 0 where
+pub record HasPlace (s : Source) (tight : Bool) : Type 0 where
   pub some : 0 < length s.code
-  pub stretch : IsStretch s.spans (start_of s.elf.segments.items tight) (start_of s.elf.segments.items tight + length s.code)
+  pub stretch : IsStretch s.spans (area_start_of s.elf.segments.items tight)
+      (area_start_of s.elf.segments.items tight + length s.code)
   pub fits : (source_area s tight).end - (source_area s tight).start ≤
       (if tight then room_above s.elf.segments.items else room s.elf.segments.items)
 

@@ -4,7 +4,7 @@ ghost use Rattle.elf_image.specs.memory.CodeSegment.{executable_segment, executa
 ghost use Rattle.elf_write.specs.Area as spec;
 
 use crate::capacity::{area_above, area_start, greatest_align, new_segment_start};
-use crate::round::{rounded_up, sum};
+use crate::round::{checked_rounded_up, in_64_bits, sum};
 use elf_image::Segment;
 use elf_image::segment::PT_LOAD;
 use rb_bytes::fault::NoMemory;
@@ -35,17 +35,6 @@ impl Area {
         ensures { IfOk result (λ offset. offset ≡ area_offset self.now address) }
     {
         sum(self.offset, address.saturating_sub(self.address))
-    }
-}
-
-// An address as a number of 64 bits.
-fn in_64_bits(address: u128) -> Result<u64, NoMemory>
-    ensures { IfOk result (λ a. a ≡ address) }
-{
-    if address <= u64::MAX as u128 {
-        Ok(address as u64)
-    } else {
-        Err(NoMemory)
     }
 }
 
@@ -110,21 +99,26 @@ fn segment_offset(segments: &[Segment], code: &Segment, tight: bool) -> Result<u
     ensures { IfOk result (λ offset. offset ≡ spec.segment_offset segments.now tight) }
 {
     if tight {
-        rounded_up(greatest_align(segments), loads_end(segments)?)
+        checked_rounded_up(greatest_align(segments), loads_end(segments)?)
     } else {
         Ok(code.offset)
     }
 }
 
-/// Where the new code starts.
-pub fn start_of(segments: &[Segment], tight: bool) -> Result<u64, NoMemory>
-    ensures { IfOk result (λ start. start ≡ spec.start_of segments.now tight) }
+/// Where the new code starts. None starts at 0, or at an address that doesn't fit 64 bits.
+pub fn area_start_of(segments: &[Segment], tight: bool) -> Result<u64, NoMemory>
+    ensures start { IfOk result (λ start. start ≡ spec.area_start_of segments.now tight) }
+    ensures some { IfOk result (λ start. 0 < start) }
 {
-    if tight {
-        in_64_bits(area_above(segments))
+    let start = if tight {
+        area_above(segments)
     } else {
-        in_64_bits(area_start(segments))
+        area_start(segments)
+    };
+    if start == 0 {
+        return Err(NoMemory);
     }
+    in_64_bits(start)
 }
 
 // Where a table starts behind an end, if there is one.
@@ -133,7 +127,7 @@ fn table_start(align: u64, end: u64, size: Option<usize>) -> Result<Option<u64>,
     ensures { IfOk result (λ start. start ≡ spec.table_start align end size) }
 {
     match size {
-        Some(_) => Ok(Some(rounded_up(align, end)?)),
+        Some(_) => Ok(Some(checked_rounded_up(align, end)?)),
         None => Ok(None),
     }
 }
@@ -144,7 +138,7 @@ fn table_end(align: u64, end: u64, size: Option<usize>) -> Result<u64, NoMemory>
     ensures { IfOk result (λ after. after ≡ spec.table_end align end size) }
 {
     match size {
-        Some(size) => sum(rounded_up(align, end)?, size as u64),
+        Some(size) => sum(checked_rounded_up(align, end)?, size as u64),
         None => Ok(end),
     }
 }
@@ -161,7 +155,7 @@ pub fn area_of(
     requires { executable.now ≡ spec.code_segment segments.now }
     ensures { IfOk result (λ area. area ≡ spec.area_of segments.now tight code frames index) }
 {
-    let start = start_of(segments, tight)?;
+    let start = area_start_of(segments, tight)?;
     let code_end = sum(start, code as u64)?;
     let frames_end = table_end(8, code_end, frames)?;
     Ok(Area {
@@ -222,7 +216,7 @@ fn step_of(segments: &[Segment], from: u64, area: &Area) -> Result<u64, NoMemory
     match lowest_behind(segments, from) {
         Some(low) => {
             let end = area.offset_of(area.end)?;
-            rounded_up(greatest_align(segments), end.saturating_sub(low))
+            checked_rounded_up(greatest_align(segments), end.saturating_sub(low))
         }
         None => Ok(0),
     }

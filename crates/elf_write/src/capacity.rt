@@ -1,47 +1,19 @@
 // How much room the new area has.
-ghost use Rattle.std.specs.Prelude.{◌≡◌, ◌+◌, ◌-◌, ◌^◌, ◌<◌, min};
+ghost use Rattle.std.specs.Prelude.{◌≡◌, ◌+◌, ◌-◌, ◌^◌, ◌<◌};
 ghost use Rattle.elf_image.specs.memory.CodeSegment.{executable_end};
-ghost use Rattle.elf_image.specs.memory.Start.{rounded_up};
 ghost use Rattle.elf_write.specs.Room as spec;
-ghost use Rattle.elf_write.specs.NoRoom as fault;
-ghost use Rattle.elf_image.specs.memory.Start.{writable_end};
+ghost use Rattle.elf_write.specs.RoomFault as fault;
 
-use elf_image::segment::{PF_W, PHDR_SIZE, PT_LOAD};
+use crate::round::{capped, rounded_up};
+use elf_image::header::EHDR_SIZE;
+use elf_image::segment::{ADDRESS_END, PHDR_SIZE, PT_LOAD};
+use elf_image::start::{BREAK_ROOM, PAGE_SIZE, writable_end};
 use elf_image::{Elf, Segment};
 use rb_bytes::fault::{Fault, FaultKind};
 use sym_machine::code_segment::executable_segment;
 
-/// All that is loaded lies below this address.
-pub const ADDRESS_END: u64 = 0x7fff_0000;
-
-pub const PAGE_SIZE: u64 = 4096;
-
 /// The new area starts at a multiple of this.
 pub const AREA_ALIGN: u64 = 16;
-
-/// The size of the ELF header. gABI, "ELF Header".
-const HEADER_SIZE: u128 = 64;
-
-// How far the break can grow.
-const BREAK_ROOM: u128 = 0x400_0000;
-
-// Rounds up to a multiple of a unit.
-fn rounded_up(unit: u64, n: u128) -> u128
-    requires some { 0 < unit }
-    requires low { n < 2 ^ 66 }
-    ensures up { result ≡ rounded_up unit n }
-    ensures low { result < n + unit }
-{
-    let unit = unit as u128;
-    (n + (unit - 1)) / unit * unit
-}
-
-fn end_of(p: &Segment) -> u128
-    ensures end { result ≡ p.now.vaddr + p.now.memsz }
-    ensures low { result < 2 ^ 65 }
-{
-    p.vaddr as u128 + p.memsz as u128
-}
 
 // The address at which the executable segment ends.
 fn code_end(segments: &[Segment]) -> u128
@@ -49,7 +21,7 @@ fn code_end(segments: &[Segment]) -> u128
     ensures low { result < 2 ^ 65 }
 {
     match executable_segment(segments) {
-        Some((_, p)) => end_of(&p),
+        Some((_, p)) => p.end(),
         None => 0,
     }
 }
@@ -99,7 +71,7 @@ fn file_end(segments: &[Segment]) -> u128
 pub fn room(elf: &Elf) -> u64
     ensures { result ≡ spec.room elf.now.segments.items }
 {
-    if file_end(&elf.segments) < HEADER_SIZE {
+    if file_end(&elf.segments) < EHDR_SIZE as u128 {
         return 0;
     }
     let limit = limit_above(&elf.segments, code_end(&elf.segments));
@@ -127,21 +99,7 @@ fn highest_end(segments: &[Segment]) -> u128
     let mut end = 0;
     for p in segments {
         if p.kind == PT_LOAD {
-            end = end.max(end_of(p));
-        }
-    }
-    end
-}
-
-// Where the highest writable segment ends, 0 where none is writable.
-fn writable_end(segments: &[Segment]) -> u128
-    ensures end { result ≡ writable_end segments.now }
-    ensures low { result < 2 ^ 65 }
-{
-    let mut end = 0;
-    for p in segments {
-        if p.has_memory() && p.has_flag(PF_W) {
-            end = end.max(end_of(p));
+            end = end.max(p.end());
         }
     }
     end
@@ -155,7 +113,7 @@ fn break_end(segments: &[Segment]) -> u128
     if end == 0 {
         return 0;
     }
-    rounded_up(PAGE_SIZE, end) + BREAK_ROOM
+    rounded_up(PAGE_SIZE, end) + BREAK_ROOM as u128
 }
 
 /// Where a segment of the new area's own starts.
@@ -187,17 +145,6 @@ pub fn is_tight(elf: &Elf, need: u64) -> bool
     ensures { result ≡ spec.is_tight elf.now.segments.items need }
 {
     room(elf) < need
-}
-
-// An address, or the highest of 64 bits.
-fn capped(address: u128) -> u64
-    ensures { result ≡ min address (2 ^ 64 - 1) }
-{
-    if address < u64::MAX as u128 {
-        address as u64
-    } else {
-        u64::MAX
-    }
 }
 
 /// The fault `NoRoom`, exactly where a new area of so many bytes has room in neither place.

@@ -54,8 +54,7 @@ pub fn has_headers(
     tables: &SectionTables,
     known: &Sections,
 ) -> Result<bool, NoMemory>
-    requires known { Knows tables.now.elf.now tables.now.tables.now tables.now.area tables.now.shift known.now }
-    requires same { known.now.elf.now ≡ tables.now.elf.now }
+    requires { Knows tables.now.elf.now tables.now.tables.now tables.now.area tables.now.shift known.now }
     ensures { IfOk result (λ holds. IsTrue holds →
         HasNewHeaders tables.now.elf.now tables.now.new.now tables.now.tables.now tables.now.area tables.now.shift) }
 {

@@ -1,6 +1,6 @@
 // The fields of the file's header that are written. gABI, "ELF Header".
 ghost use Rattle.std.specs.Prelude.{◌≡◌};
-ghost use Rattle.elf_write.specs.Made as spec;
+ghost use Rattle.elf_write.specs.FileParts as spec;
 
 use elf_image::header::{E_ENTRY, E_PHNUM, E_PHOFF, E_SHNUM, E_SHOFF, E_SHSTRNDX};
 use elf_parts::NumberAt;
@@ -23,7 +23,7 @@ pub struct HeaderFields {
 
 impl HeaderFields {
     ghost use Rattle.std.specs.Prelude.{◌≡◌, IfOk};
-    ghost use Rattle.elf_write.specs.Made.{header_numbers};
+    ghost use Rattle.elf_write.specs.FileParts.{header_numbers};
 
     /// As numbers at their places.
     pub fn numbers(&self, alloc: Global) -> Result<Vec<NumberAt>, NoMemory>

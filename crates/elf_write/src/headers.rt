@@ -10,8 +10,7 @@ use crate::names::NameTable;
 use crate::old_name::{is_renamed, old_prefix};
 use crate::sections::{Contents, Table};
 use crate::tail::Tail;
-use elf_image::entries::SectionTable;
-use elf_image::header::e_shnum;
+use elf_image::entries::{SectionTable, section_count};
 use elf_image::named::{EH_FRAME, EH_FRAME_HDR};
 use elf_image::relocation::SHT_RELA;
 use elf_image::section::{SHF_ALLOC, SHF_EXECINSTR, SHT_NOBITS, SHT_PROGBITS, SHT_STRTAB};
@@ -41,7 +40,7 @@ pub fn old_headers(
 {
     let table = SectionTable { file: elf.file };
     let mut headers = Vec::new(alloc);
-    for i in 0..e_shnum(elf.file) {
+    for i in 0..section_count(table) {
         let mut header = table.section_of(i);
         if let Some(section) = elf.sections.get(i as usize) {
             if is_renamed(section) {

@@ -4,9 +4,9 @@ ghost use Rattle.addr_map.specs.Spans.{owner};
 ghost use Rattle.elf_parts.specs.Parts.{size_of};
 ghost use Rattle.elf_write.specs.Room.{area_start};
 ghost use Rattle.elf_write.specs.TableSizes as spec;
-ghost use Rattle.elf_write.specs.Made.{IsLaidOut};
+ghost use Rattle.elf_write.specs.FileParts.{IsLaidOut};
 
-use crate::area::{Area, Shift, area_of, start_of};
+use crate::area::{Area, Shift, area_of, area_start_of};
 use crate::area_bytes::{area_bytes, table_size};
 use crate::placing::parts_of;
 use crate::round::sum;
@@ -35,9 +35,9 @@ pub struct Layout {
 impl Layout {
     ghost use Rattle.std.specs.Prelude.{◌≡◌, ◌≤◌, IfOk, codes};
     ghost use Rattle.elf_parts.specs.Parts.{size_of};
-    ghost use Rattle.elf_write.specs.AreaTables.{HasTables};
+    ghost use Rattle.elf_write.specs.AreaTables.{HoldsTables};
     ghost use Rattle.elf_write.specs.TableSizes as spec;
-    ghost use Rattle.elf_write.specs.Made.{IsLaidOut};
+    ghost use Rattle.elf_write.specs.FileParts.{IsLaidOut};
 
     /// That of a file with this new code and these tables.
     pub fn new(
@@ -49,7 +49,7 @@ impl Layout {
     ) -> Result<Layout, NoMemory>
         ensures laid_out { IfOk result (IsLaidOut elf.now tight code.now (spec.table_size tables.now (codes ".eh_frame"))
             (spec.table_size tables.now (codes ".eh_frame_hdr"))) }
-        ensures tables { IfOk result (HasTables tables.now) }
+        ensures tables { IfOk result (HoldsTables tables.now) }
     {
         let segments = elf.segments.as_slice();
         let (index, executable) = executable_segment(segments).ok_or(NoMemory)?;
@@ -87,6 +87,6 @@ impl Layout {
 pub fn is_above(elf: &Elf, map: &AddrMap) -> Result<bool, NoMemory>
     ensures { IfOk result (λ above. above ≡ is_none (owner map.now (area_start elf.now.segments.items))) }
 {
-    let start = start_of(&elf.segments, false)?;
+    let start = area_start_of(&elf.segments, false)?;
     Ok(map.owner(start).is_none())
 }

@@ -8,12 +8,10 @@ ghost use Rattle.elf_write.specs.KnownSections.{Knows};
 
 use crate::area::{Area, Shift, loads_end, lowest_behind};
 use crate::placing::is_kept_table;
-use crate::round::{rounded_up, sum};
+use crate::round::{checked_rounded_up, sum};
 use crate::section_tables::SectionTables;
 use crate::sections::Sections;
-use elf_image::header::{
-    E_ENTRY, E_FLAGS, E_PHNUM, E_SHENTSIZE, E_SHNUM, EHDR_SIZE, e_phoff, e_shoff,
-};
+use elf_image::header::{E_ENTRY, E_FLAGS, E_PHNUM, E_SHENTSIZE, E_SHNUM, Header};
 use elf_image::section::SHDR_SIZE;
 use elf_image::segment::PHDR_SIZE;
 use elf_image::{Elf, Section, Segment};
@@ -21,11 +19,10 @@ use rb_bytes::fault::NoMemory;
 use std::alloc::Global;
 
 // Whether the fields of the header that aren't written are those of the input.
-fn keeps_header_fields(file: &[u8], w: &[u8]) -> bool
-    requires file { EHDR_SIZE ≤ length file.now }
-    requires written { EHDR_SIZE ≤ length w.now }
-    ensures { IsTrue result → spec.KeepsHeaderFields file.now w.now }
+fn keeps_header_fields(old: Header, new: Header) -> bool
+    ensures { IsTrue result → spec.KeepsHeaderFields old.entry.file.now new.entry.file.now }
 {
+    let (file, w) = (old.file, new.file);
     w[0..E_ENTRY] == file[0..E_ENTRY]
         && w[E_FLAGS..E_PHNUM] == file[E_FLAGS..E_PHNUM]
         && w[E_SHENTSIZE..E_SHNUM] == file[E_SHENTSIZE..E_SHNUM]
@@ -54,7 +51,7 @@ fn table_place(elf: &Elf, area: &Area, shift: &Shift) -> Result<u64, NoMemory>
     if is_kept_table(elf, shift) {
         return shift.moved(elf.phoff);
     }
-    rounded_up(8, loaded_end(&elf.segments, area, shift)?)
+    checked_rounded_up(8, loaded_end(&elf.segments, area, shift)?)
 }
 
 // Where the contents of sections begin.
@@ -83,7 +80,7 @@ fn end_at(section: &Section, start: u64) -> Result<u64, NoMemory>
     ensures place { IfOk result (λ end. section.now.offset ≡ rounded_up (max 1 section.now.align) start) }
     ensures end { IfOk result (λ end. end ≡ section.now.offset + section.now.size) }
 {
-    if section.offset != rounded_up(section.align.max(1), start)? {
+    if section.offset != checked_rounded_up(section.align.max(1), start)? {
         return Err(NoMemory);
     }
     sum(section.offset, section.size)
@@ -118,14 +115,13 @@ fn end_of_all(
 }
 
 // Whether the headers of sections stand at the least multiple of 8 at or behind an offset, and a file ends with them.
-fn ends_with_headers(w: &[u8], sections: &[Section], end: u64) -> Result<bool, NoMemory>
-    requires { EHDR_SIZE ≤ length w.now }
-    ensures { IfOk result (λ holds. IsTrue holds →
-        (e_shoff w.now ≡ rounded_up 8 end) × (length w.now ≡ e_shoff w.now + SHDR_SIZE * length sections.now)) }
+fn ends_with_headers(new: Header, sections: &[Section], end: u64) -> Result<bool, NoMemory>
+    ensures { IfOk result (λ holds. IsTrue holds → (e_shoff new.entry.file.now ≡ rounded_up 8 end)
+        × (length new.entry.file.now ≡ e_shoff new.entry.file.now + SHDR_SIZE * length sections.now)) }
 {
-    let place = rounded_up(8, end)?;
+    let place = checked_rounded_up(8, end)?;
     let file_end = sum(place, (SHDR_SIZE * sections.len()) as u64)?;
-    Ok(e_shoff(w) == place && w.len() as u64 == file_end)
+    Ok(new.fields().shoff == place && new.file.len() as u64 == file_end)
 }
 
 /// Whether the written file is laid out so.
@@ -134,24 +130,21 @@ pub fn is_laid_out(
     tables: &SectionTables,
     known: &Sections,
 ) -> Result<bool, NoMemory>
-    requires header { EHDR_SIZE ≤ length tables.now.elf.now.file.now }
-    requires known { Knows tables.now.elf.now tables.now.tables.now tables.now.area tables.now.shift known.now }
+    requires { Knows tables.now.elf.now tables.now.tables.now tables.now.area tables.now.shift known.now }
     ensures { IfOk result (λ holds. IsTrue holds →
         spec.HasFileLayout tables.now.elf.now tables.now.new.now tables.now.tables.now tables.now.area tables.now.shift) }
 {
     let elf = tables.elf;
     let new = tables.new;
-    if new.file.len() < EHDR_SIZE {
+    let header = Header { file: new.file };
+    if !keeps_header_fields(Header { file: elf.file }, header) {
         return Ok(false);
     }
-    if !keeps_header_fields(elf.file, new.file) {
-        return Ok(false);
-    }
-    if e_phoff(new.file) != table_place(elf, &tables.area, &tables.shift)? {
+    if header.fields().phoff != table_place(elf, &tables.area, &tables.shift)? {
         return Ok(false);
     }
     let order = known.order(alloc)?;
     let start = contents_start(elf, &tables.area, &tables.shift)?;
     let end = end_of_all(&new.sections, start, &order, tables.adds_ranges())?;
-    ends_with_headers(new.file, &new.sections, end)
+    ends_with_headers(header, &new.sections, end)
 }

@@ -1,9 +1,10 @@
 // The sections with symbols and names, which are written anew.
 ghost use Rattle.std.specs.Prelude.{◌≡◌};
 ghost use Rattle.std.specs.Option.{option_copied};
+ghost use Rattle.elf_image.specs.file.Header.{e_shstrndx};
 ghost use Rattle.elf_write.specs.NameTables as spec;
 
-use elf_image::header::e_shstrndx;
+use elf_image::header::Header;
 use elf_image::section::SHT_SYMTAB;
 use elf_image::{Elf, Section};
 use rb_bytes::fault::NoMemory;
@@ -17,6 +18,14 @@ pub struct OwnSections {
     pub symbols: Option<usize>,
     /// The names of symbols, if there are symbols.
     pub symbol_names: Option<usize>,
+}
+
+/// The index of the section with the names of sections.
+pub fn place_of_section_names(elf: &Elf) -> usize
+    ensures { result ≡ e_shstrndx elf.now.file.now }
+{
+    let header = Header { file: elf.file };
+    header.fields().shstrndx as usize
 }
 
 /// The index of the symbol table.
@@ -59,15 +68,13 @@ fn place_of_names(elf: &Elf) -> Option<usize>
 
 impl OwnSections {
     ghost use Rattle.std.specs.Prelude.{IfOk};
-    ghost use Rattle.elf_image.specs.faults.Truncation.{HasHeader};
     ghost use Rattle.elf_write.specs.KnownSections.{IsOwnOf};
 
     /// Those of a file. A table that is one of names and of symbols can't be written.
     pub fn new(elf: &Elf) -> Result<OwnSections, NoMemory>
-        requires { HasHeader elf.now.file.now }
         ensures { IfOk result (IsOwnOf elf.now) }
     {
-        let section_names = e_shstrndx(elf.file) as usize;
+        let section_names = place_of_section_names(elf);
         let symbols = place_of_symbols(elf);
         let symbol_names = place_of_names(elf);
         if symbols == Some(section_names) || (symbols.is_some() && symbols == symbol_names) {

@@ -4,6 +4,7 @@ ghost use Rattle.elf_image.specs.faults.Truncation.{IsReadable};
 ghost use Rattle.elf_image.specs.file.Header.{e_shstrndx};
 
 use crate::area_bytes::table_called;
+use crate::fragments::Fragment;
 use crate::headers::{
     NewContents, area_headers, bytes_of, old_headers, place_contents, set_contents,
 };
@@ -12,7 +13,6 @@ use crate::layout::Layout;
 use crate::name_tables::OwnSections;
 use crate::names::NameTable;
 use crate::round::sum;
-use crate::runs::Run;
 use crate::section_tables::DEBUG_RNGLISTS;
 use crate::sections::{Contents, Sections, Table, index_called, replaced_by};
 use crate::symbols::{NewCode, cold_symbols, local_count, symbol_table};
@@ -33,8 +33,8 @@ pub struct SectionSource<'a> {
     /// The addresses of cold parts in the input.
     pub cold: &'a [u64],
     pub map: &'a AddrMap,
-    /// The runs of functions in the new code.
-    pub runs: &'a [Run],
+    /// The fragments of functions in the new code.
+    pub fragments: &'a [Fragment],
     pub tables: &'a [Table],
 }
 
@@ -157,7 +157,7 @@ impl<'a> SectionSource<'a> {
         let code = NewCode {
             funcs: self.funcs,
             map: self.map,
-            runs: self.runs,
+            fragments: self.fragments,
             section: text,
         };
         let added = self.added_symbols(alloc, own, &code, names)?;

@@ -1,17 +1,9 @@
 // Sections whose place new ones take.
 ghost use Rattle.std.specs.Prelude.{◌≡◌, ◌++◌, IfOk};
-ghost use Rattle.elf_image.specs.file.SectionNames.{names_frames};
 ghost use Rattle.elf_write.specs.OldNames as spec;
 
 use elf_image::Section;
-use elf_image::named::{EH_FRAME, EH_FRAME_HDR};
-
-/// Whether a name is that of the unwind tables that are loaded, or of their index.
-pub fn names_frames(name: &[u8]) -> bool
-    ensures { result ≡ names_frames name.now }
-{
-    name == EH_FRAME || name == EH_FRAME_HDR
-}
+use elf_image::named::names_frames;
 
 /// Whether a section keeps its place and contents under another name.
 pub fn is_renamed(section: &Section) -> bool

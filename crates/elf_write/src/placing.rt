@@ -3,8 +3,8 @@ ghost use Rattle.std.specs.Prelude.{◌≡◌, ◌≤◌, IfOk, All, IsTrue, ◌
 ghost use Rattle.elf_parts.specs.Parts.{PartsFit};
 ghost use Rattle.elf_parts.specs.Numbers.{CanPut};
 ghost use Rattle.elf_write.specs.FileLayout as layout;
-ghost use Rattle.elf_write.specs.Made as made;
-ghost use Rattle.elf_write.specs.Placing as spec;
+ghost use Rattle.elf_write.specs.FileParts as made;
+ghost use Rattle.elf_write.specs.PartPlaces as spec;
 ghost use Rattle.elf_image.specs.memory.LoadedBytes.{loads_range};
 ghost use Rattle.std.specs.List.{list_any};
 

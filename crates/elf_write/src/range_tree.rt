@@ -39,7 +39,7 @@ impl Model for RangeTree {
 
     ghost size = { length };
 
-    ghost use Rattle.elf_write.specs.RangeTreeFalls.{depth_le-length};
+    ghost use Rattle.elf_write.specs.RangeTreeDepth.{depth_le-length};
 
     ghost size_decreases = { λ a h. depth_le-length a.node };
 }

@@ -3,10 +3,9 @@
 ghost use Rattle.std.specs.Prelude.{◌≡◌, IfOk, IsTrue};
 ghost use Rattle.rv_code.specs.layout.FunctionLists.{AreLaidOut};
 ghost use Rattle.elf_image.specs.faults.FileFaults.{IsSound};
-ghost use Rattle.elf_image.specs.faults.Truncation.{HasHeader};
 ghost use Rattle.elf_image.specs.file.Header.{e_shstrndx};
 ghost use Rattle.elf_image.specs.file.ParsedFile.{IsElfOf};
-ghost use Rattle.elf_write.specs.AllRuns.{AreRuns};
+ghost use Rattle.elf_write.specs.FragmentLists.{AreFragments};
 ghost use Rattle.elf_write.specs.Area.{shift_of};
 ghost use Rattle.elf_write.specs.AreaTables.{AreaStands};
 ghost use Rattle.elf_write.specs.FileLayout.{HasFileLayout};
@@ -54,9 +53,7 @@ fn area_for(
 
 // Whether the layout and the program headers are those that the file must have.
 fn has_places(alloc: Global, tables: &SectionTables, known: &Sections) -> Result<bool, NoMemory>
-    requires old_header { HasHeader tables.now.elf.now.file.now }
-    requires known { Knows tables.now.elf.now tables.now.tables.now tables.now.area tables.now.shift known.now }
-    requires same { known.now.elf.now ≡ tables.now.elf.now }
+    requires { Knows tables.now.elf.now tables.now.tables.now tables.now.area tables.now.shift known.now }
     ensures layout { IfOk result (λ holds. IsTrue holds →
         HasFileLayout tables.now.elf.now tables.now.new.now tables.now.tables.now tables.now.area tables.now.shift) }
     ensures headers { IfOk result (λ holds. IsTrue holds →
@@ -70,8 +67,7 @@ fn has_places(alloc: Global, tables: &SectionTables, known: &Sections) -> Result
 
 // Whether the sections, their layout and the program headers are those that the file must have.
 fn has_sections(alloc: Global, tables: &SectionTables) -> Result<bool, NoMemory>
-    requires old_header { HasHeader tables.now.elf.now.file.now }
-    requires names { e_shstrndx tables.now.new.now.file.now ≡ e_shstrndx tables.now.elf.now.file.now }
+    requires { e_shstrndx tables.now.new.now.file.now ≡ e_shstrndx tables.now.elf.now.file.now }
     ensures sections { IfOk result (λ holds. IsTrue holds →
         AreaStands tables.now.area tables.now.tables.now tables.now.code.now tables.now.new.now.file.now →
         AreNewSections tables.now.elf.now tables.now.new.now tables.now.tables.now tables.now.area tables.now.shift
@@ -100,7 +96,7 @@ fn has_sections(alloc: Global, tables: &SectionTables) -> Result<bool, NoMemory>
 // Whether the symbols are those that the file must have.
 fn has_symbols(alloc: Global, source: &SectionSource, new: &Elf) -> Result<bool, NoMemory>
     requires laid_out { AreLaidOut source.now.funcs.now }
-    requires runs { AreRuns source.now.funcs.now source.now.map.now source.now.runs.now }
+    requires fragments { AreFragments source.now.funcs.now source.now.map.now source.now.fragments.now }
     ensures { IfOk result (λ holds. IsTrue holds →
         HaveNewSymbols source.now.elf.now new.now source.now.funcs.now source.now.map.now source.now.cold.now) }
 {
@@ -114,7 +110,7 @@ fn has_symbols(alloc: Global, source: &SectionSource, new: &Elf) -> Result<bool,
     let code = CodeSymbols {
         funcs: source.funcs,
         map: source.map,
-        runs: source.runs,
+        fragments: source.fragments,
         text: u16::try_from(elf.sections.len()).map_err(|_| NoMemory)?,
     };
     let tables = SymbolTables {
@@ -134,10 +130,9 @@ fn has_new_tables(
     tight: bool,
     new: &Elf,
 ) -> Result<bool, NoMemory>
-    requires old_header { HasHeader source.now.elf.now.file.now }
     requires names { e_shstrndx new.now.file.now ≡ e_shstrndx source.now.elf.now.file.now }
     requires laid_out { AreLaidOut source.now.funcs.now }
-    requires runs { AreRuns source.now.funcs.now source.now.map.now source.now.runs.now }
+    requires fragments { AreFragments source.now.funcs.now source.now.map.now source.now.fragments.now }
     ensures sections { IfOk result (λ holds. IsTrue holds →
         AreaStands (area_for source.now.elf.now source.now.tables.now code.now tight) source.now.tables.now code.now
         new.now.file.now →
@@ -180,10 +175,9 @@ fn finds_new_tables(
     tight: bool,
     new: &Elf,
 ) -> bool
-    requires old_header { HasHeader source.now.elf.now.file.now }
     requires names { e_shstrndx new.now.file.now ≡ e_shstrndx source.now.elf.now.file.now }
     requires laid_out { AreLaidOut source.now.funcs.now }
-    requires runs { AreRuns source.now.funcs.now source.now.map.now source.now.runs.now }
+    requires fragments { AreFragments source.now.funcs.now source.now.map.now source.now.fragments.now }
     ensures sections { IsTrue result →
         AreaStands (area_for source.now.elf.now source.now.tables.now code.now tight) source.now.tables.now code.now
         new.now.file.now →
@@ -216,10 +210,9 @@ pub fn is_accepted(
     tight: bool,
     file: &[u8],
 ) -> bool
-    requires header { HasHeader source.now.elf.now.file.now }
     requires names { e_shstrndx file.now ≡ e_shstrndx source.now.elf.now.file.now }
     requires laid_out { AreLaidOut source.now.funcs.now }
-    requires runs { AreRuns source.now.funcs.now source.now.map.now source.now.runs.now }
+    requires fragments { AreFragments source.now.funcs.now source.now.map.now source.now.fragments.now }
     ensures sound { IsTrue result → IsSound file.now }
     ensures tables { IsTrue result →
         AreaStands (area_for source.now.elf.now source.now.tables.now code.now tight) source.now.tables.now code.now file.now →

@@ -1,17 +1,29 @@
-// Numbers rounded up.
-ghost use Rattle.std.specs.Prelude.{◌≡◌, ◌+◌, ◌<◌, ◌≤◌, IfOk};
+// Numbers rounded up, and numbers of 64 bits.
+ghost use Rattle.std.specs.Prelude.{◌≡◌, ◌+◌, ◌^◌, ◌<◌, ◌≤◌, IfOk};
 ghost use Rattle.elf_image.specs.memory.Start.{rounded_up};
+ghost use Rattle.elf_write.specs.Need.{capped};
 
 use rb_bytes::fault::NoMemory;
 
-/// Rounds up to a multiple of a unit. What doesn't fit 64 bits is a place that no memory has.
-pub fn rounded_up(unit: u64, n: u64) -> Result<u64, NoMemory>
+/// Rounds up to a multiple of a unit.
+pub fn rounded_up(unit: u64, n: u128) -> u128
+    requires some { 0 < unit }
+    requires low { n < 2 ^ 66 }
+    ensures up { result ≡ rounded_up unit n }
+    ensures above { n ≤ result }
+    ensures low { result < n + unit }
+{
+    let unit = unit as u128;
+    (n + (unit - 1)) / unit * unit
+}
+
+/// The same in 64 bits.
+pub fn checked_rounded_up(unit: u64, n: u64) -> Result<u64, NoMemory>
     requires { 0 < unit }
     ensures up { IfOk result (λ up. up ≡ rounded_up unit n) }
     ensures above { IfOk result (λ up. n ≤ up) }
 {
-    let past = n.checked_add(unit - 1).ok_or(NoMemory)?;
-    Ok(past / unit * unit)
+    in_64_bits(rounded_up(unit, n as u128))
 }
 
 /// A sum, where it fits 64 bits.
@@ -19,4 +31,22 @@ pub fn sum(a: u64, b: u64) -> Result<u64, NoMemory>
     ensures { IfOk result (λ sum. sum ≡ a + b) }
 {
     a.checked_add(b).ok_or(NoMemory)
+}
+
+/// An address or offset as a number of 64 bits. One that doesn't fit is a place that no memory has.
+pub fn in_64_bits(place: u128) -> Result<u64, NoMemory>
+    ensures { IfOk result (λ n. n ≡ place) }
+{
+    if place <= u64::MAX as u128 {
+        Ok(place as u64)
+    } else {
+        Err(NoMemory)
+    }
+}
+
+/// A number as far as 64 bits can say it.
+pub fn capped(n: u128) -> u64
+    ensures { result ≡ capped n }
+{
+    n.min(u64::MAX as u128) as u64
 }

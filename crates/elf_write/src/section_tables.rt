@@ -1,6 +1,6 @@
 // Whether the table of sections of a file that was written is what it must be. gABI, "Section Header".
 ghost use Rattle.std.specs.Prelude.{◌≡◌};
-ghost use Rattle.elf_write.specs.NewSections as spec;
+ghost use Rattle.rv_code.specs.isa.Op.{flag};
 
 use crate::area::{Area, Shift};
 use crate::area_bytes::{bytes_called, table_called};
@@ -14,7 +14,7 @@ use elf_image::{Elf, Section};
 pub const DEBUG_RNGLISTS: &[u8] = b".debug_rnglists";
 
 fn one_if(test: bool) -> usize
-    ensures { result ≡ spec.one_if test }
+    ensures { result ≡ flag test }
 {
     if test { 1 } else { 0 }
 }
@@ -41,7 +41,8 @@ impl<'a> SectionTables<'a> {
     ghost use Rattle.elf_write.specs.Contents.{contents_of};
     ghost use Rattle.elf_write.specs.KnownSections.{Knows};
     ghost use Rattle.elf_write.specs.NewSections.{AreNewSections, At, Follows, IsAdded, IsInArea, KeepsHeader, adds_ranges};
-    ghost use Rattle.elf_write.specs.NewSections.{bytes_called, one_if};
+    ghost use Rattle.elf_write.specs.NewSections.{bytes_called};
+    ghost use Rattle.rv_code.specs.isa.Op.{flag};
 
     // Where the contents of a section of the input are, which has an index.
     fn contents_of(&self, known: &Sections, index: usize, s: &Section) -> Contents
@@ -202,8 +203,8 @@ impl<'a> SectionTables<'a> {
     fn has_count(&self) -> bool
         ensures { IsTrue result →
             length self.now.new.now.sections.items ≡ (length self.now.elf.now.sections.items + 1)
-            + (one_if (is_some self.now.area.frames) + (one_if (is_some self.now.area.index)
-            + one_if (adds_ranges self.now.elf.now.sections.items self.now.tables.now))) }
+            + (flag (is_some self.now.area.frames) + (flag (is_some self.now.area.index)
+            + flag (adds_ranges self.now.elf.now.sections.items self.now.tables.now))) }
     {
         let area = one_if(self.area.frames.is_some()) + one_if(self.area.index.is_some());
         let added = area + one_if(self.adds_ranges());

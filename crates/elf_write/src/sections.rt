@@ -1,12 +1,12 @@
 // Which contents the sections of a written file have. gABI, "Section Header".
 ghost use Rattle.std.specs.Prelude.{◌≡◌, AllPairs, IfOk, IsTrue, map, position, string_bytes};
-ghost use Rattle.elf_image.specs.file.SectionNames.{is_called, is_meant_by};
+ghost use Rattle.elf_image.specs.file.SectionNames.{is_called};
 ghost use Rattle.elf_write.specs.Contents as spec;
 ghost use Rattle.rv_code.specs.layout.Lists.{IsPairBefore};
 
 use crate::kept_bytes::KeptBytes;
 use crate::name_tables::OwnSections;
-use crate::old_name::names_frames;
+use elf_image::named::names_frames;
 use elf_image::relocation::SHT_RELA;
 use elf_image::section::SHT_NOBITS;
 use elf_image::{Elf, Section};
@@ -52,26 +52,11 @@ impl Contents {
 /// Bytes that take the place of a section's, by the section's name.
 pub type Table = (String, Vec<u8>);
 
-// Whether a name means a section, if it is its own.
-fn is_meant_by(name: &[u8], section: &Section) -> bool
-    ensures { result ≡ is_meant_by name.now section.now }
-{
-    if names_frames(name) {
-        section.is_loaded() && !section.holds_code()
-    } else if name.starts_with(b".debug_") {
-        !section.is_loaded() && !section.holds_code()
-    } else {
-        true
-    }
-}
-
 /// The index of the section that a name means.
 pub fn index_called(sections: &[Section], name: &[u8]) -> Option<usize>
     ensures { result ≡ position (is_called name.now) sections.now }
 {
-    sections
-        .iter()
-        .position(|s| s.name == name && is_meant_by(name, s))
+    sections.iter().position(|s| s.is_called(name))
 }
 
 // The index of the section whose place a table with a name takes. Those that stand in the new area take none.

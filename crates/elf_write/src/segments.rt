@@ -9,7 +9,7 @@ ghost use Rattle.elf_write.specs.NewSegments as spec;
 use crate::area::{Area, Shift};
 use crate::capacity::greatest_align;
 use crate::homes::homes_of;
-use crate::round::{rounded_up, sum};
+use crate::round::{checked_rounded_up, sum};
 use crate::sections::Contents;
 use elf_image::segment::{PF_R, PF_X, PHDR_SIZE, PT_GNU_EH_FRAME, PT_LOAD};
 use elf_image::{Elf, Segment};
@@ -150,7 +150,7 @@ impl<'a> Places<'a> {
         let at = self.shift.moved(p.offset)?;
         let end = self.area.offset_of(self.area.end)?;
         if leaves_area(&self.area, end, at, p.filesz) {
-            let step = rounded_up(align, end - at)?;
+            let step = checked_rounded_up(align, end - at)?;
             return Ok(sum(at, step)?.min(self.file_size));
         }
         Ok(at.min(self.file_size))

@@ -3,8 +3,8 @@ ghost use Rattle.std.specs.Prelude.{◌≡◌, IfSome, IsTrue};
 ghost use Rattle.elf_write.specs.ColdSymbols.{cold_name};
 ghost use Rattle.elf_write.specs.NewSymbols as spec;
 
+use crate::fragments::{Fragment, bytes_left};
 use crate::name_parts::is_joined;
-use crate::runs::{Run, bytes_left};
 use crate::symbols::named_around;
 use addr_map::AddrMap;
 use elf_image::Symbol;
@@ -26,8 +26,8 @@ fn is_unmoved(s: &Symbol, n: &Symbol) -> bool
 pub struct CodeSymbols<'a> {
     pub funcs: &'a [Func],
     pub map: &'a AddrMap,
-    /// The runs of functions in the new code.
-    pub runs: &'a [Run],
+    /// The fragments of functions in the new code.
+    pub fragments: &'a [Fragment],
     /// The index of the section with the new code.
     pub text: u16,
 }
@@ -38,20 +38,20 @@ impl<'a> CodeSymbols<'a> {
     ghost use Rattle.rv_code.specs.layout.FunctionLists.{AreLaidOut};
     ghost use Rattle.elf_image.specs.declared.elf.Symbol.{Symbol};
     ghost use Rattle.elf_image.specs.code.Cuts.{names_function};
-    ghost use Rattle.elf_write.specs.AllRuns.{AreRuns};
+    ghost use Rattle.elf_write.specs.FragmentLists.{AreFragments};
     ghost use Rattle.elf_write.specs.FirstNames.{AreFirstNames};
-    ghost use Rattle.elf_write.specs.Runs.{IsRunAt};
+    ghost use Rattle.elf_write.specs.Fragments.{IsFragmentAt};
     ghost use Rattle.elf_write.specs.NewSymbols.{IsColdSymbol, IsMoved, IsNewSymbol, IsUnmoved, named_parts};
-    ghost use Rattle.elf_write.specs.Together.{GoTogether};
+    ghost use Rattle.elf_write.specs.PairedLists.{GoTogether};
 
     // Whether a size is that of the new code of a function from an address on.
-    fn has_run(&self, address: u64, to: u64, size: u64) -> bool
+    fn has_fragment(&self, address: u64, to: u64, size: u64) -> bool
         requires laid_out { AreLaidOut self.now.funcs.now }
-        requires runs { AreRuns self.now.funcs.now self.now.map.now self.now.runs.now }
-        ensures { IsTrue result → IsRunAt self.now.funcs.now self.now.map.now address to size }
+        requires fragments { AreFragments self.now.funcs.now self.now.map.now self.now.fragments.now }
+        ensures { IsTrue result → IsFragmentAt self.now.funcs.now self.now.map.now address to size }
     {
         match function_at(self.funcs, address) {
-            Some(func) => bytes_left(self.runs, func, to) == size,
+            Some(func) => bytes_left(self.fragments, func, to) == size,
             None => true,
         }
     }
@@ -59,13 +59,13 @@ impl<'a> CodeSymbols<'a> {
     // Whether the size of a symbol is right that moved to an address.
     fn has_size(&self, to: u64, s: &Symbol, n: &Symbol) -> bool
         requires laid_out { AreLaidOut self.now.funcs.now }
-        requires runs { AreRuns self.now.funcs.now self.now.map.now self.now.runs.now }
+        requires fragments { AreFragments self.now.funcs.now self.now.map.now self.now.fragments.now }
         ensures other { IsTrue result → IsFalse (names_function s.now) → n.now.size ≡ s.now.size }
-        ensures run { IsTrue result → IsTrue (names_function s.now) →
-            IsRunAt self.now.funcs.now self.now.map.now s.now.value to n.now.size }
+        ensures fragment { IsTrue result → IsTrue (names_function s.now) →
+            IsFragmentAt self.now.funcs.now self.now.map.now s.now.value to n.now.size }
     {
         if s.names_function() {
-            self.has_run(s.value, to, n.size)
+            self.has_fragment(s.value, to, n.size)
         } else {
             n.size == s.size
         }
@@ -73,7 +73,7 @@ impl<'a> CodeSymbols<'a> {
 
     fn is_moved(&self, to: u64, s: &Symbol, n: &Symbol) -> bool
         requires laid_out { AreLaidOut self.now.funcs.now }
-        requires runs { AreRuns self.now.funcs.now self.now.map.now self.now.runs.now }
+        requires fragments { AreFragments self.now.funcs.now self.now.map.now self.now.fragments.now }
         ensures { IsTrue result → IsMoved self.now.funcs.now self.now.map.now self.now.text to s.now n.now }
     {
         n.value == to && n.section == self.text && self.has_size(to, s, n)
@@ -82,7 +82,7 @@ impl<'a> CodeSymbols<'a> {
     // Whether a symbol names what one of the input names, at its new place.
     fn is_at_place(&self, s: &Symbol, n: &Symbol) -> bool
         requires laid_out { AreLaidOut self.now.funcs.now }
-        requires runs { AreRuns self.now.funcs.now self.now.map.now self.now.runs.now }
+        requires fragments { AreFragments self.now.funcs.now self.now.map.now self.now.fragments.now }
         ensures { IsTrue result →
             MatchOption (moved self.now.map.now s.now.value) (IsUnmoved s.now n.now)
             (λ to. IsMoved self.now.funcs.now self.now.map.now self.now.text to s.now n.now) }
@@ -95,7 +95,7 @@ impl<'a> CodeSymbols<'a> {
 
     fn is_new(&self, s: &Symbol, n: &Symbol) -> bool
         requires laid_out { AreLaidOut self.now.funcs.now }
-        requires runs { AreRuns self.now.funcs.now self.now.map.now self.now.runs.now }
+        requires fragments { AreFragments self.now.funcs.now self.now.map.now self.now.fragments.now }
         ensures { IsTrue result → IsNewSymbol self.now.funcs.now self.now.map.now self.now.text s.now n.now }
     {
         n.name == s.name && n.info == s.info && n.other == s.other && self.is_at_place(s, n)
@@ -104,7 +104,7 @@ impl<'a> CodeSymbols<'a> {
     /// Whether symbols are what those of the input become.
     pub fn are_new(&self, old: &[Symbol], new: &[Symbol]) -> bool
         requires laid_out { AreLaidOut self.now.funcs.now }
-        requires runs { AreRuns self.now.funcs.now self.now.map.now self.now.runs.now }
+        requires fragments { AreFragments self.now.funcs.now self.now.map.now self.now.fragments.now }
         ensures { IsTrue result →
             GoTogether (IsNewSymbol self.now.funcs.now self.now.map.now self.now.text) old.now new.now }
     {
@@ -122,7 +122,7 @@ impl<'a> CodeSymbols<'a> {
     // Whether a symbol is that of the cold part that begins at an address.
     fn is_cold(&self, names: &BTreeMap<u64, Symbol>, address: u64, n: &Symbol) -> bool
         requires laid_out { AreLaidOut self.now.funcs.now }
-        requires runs { AreRuns self.now.funcs.now self.now.map.now self.now.runs.now }
+        requires fragments { AreFragments self.now.funcs.now self.now.map.now self.now.fragments.now }
         ensures { IsTrue result → (symbols : List Symbol) → AreFirstNames symbols names.now →
             IsColdSymbol symbols self.now.funcs.now self.now.map.now self.now.text address n.now }
     {
@@ -131,13 +131,13 @@ impl<'a> CodeSymbols<'a> {
             && n.other == 0
             && self.map.moved(address) == Some(n.value)
             && n.section == self.text
-            && self.has_run(address, n.value, n.size)
+            && self.has_fragment(address, n.value, n.size)
     }
 
     /// Whether symbols are those of the cold parts that begin at some addresses.
     pub fn are_cold(&self, names: &BTreeMap<u64, Symbol>, cold: &[u64], new: &[Symbol]) -> bool
         requires laid_out { AreLaidOut self.now.funcs.now }
-        requires runs { AreRuns self.now.funcs.now self.now.map.now self.now.runs.now }
+        requires fragments { AreFragments self.now.funcs.now self.now.map.now self.now.fragments.now }
         ensures { IsTrue result → (symbols : List Symbol) → AreFirstNames symbols names.now →
             GoTogether (IsColdSymbol symbols self.now.funcs.now self.now.map.now self.now.text) cold.now new.now }
     {

@@ -53,7 +53,7 @@ pub struct SymbolTables<'a> {
 impl<'a> SymbolTables<'a> {
     ghost use Rattle.std.specs.Prelude.{IfOk, IsTrue};
     ghost use Rattle.rv_code.specs.layout.FunctionLists.{AreLaidOut};
-    ghost use Rattle.elf_write.specs.AllRuns.{AreRuns};
+    ghost use Rattle.elf_write.specs.FragmentLists.{AreFragments};
     ghost use Rattle.elf_write.specs.NewSymbols.{AreNewSymbols};
 
     /// Whether the symbols are those that the file must have, whose tables have these headers.
@@ -64,7 +64,7 @@ impl<'a> SymbolTables<'a> {
         new_table: &Section,
     ) -> Result<bool, NoMemory>
         requires laid_out { AreLaidOut self.now.code.funcs.now }
-        requires runs { AreRuns self.now.code.funcs.now self.now.code.map.now self.now.code.runs.now }
+        requires fragments { AreFragments self.now.code.funcs.now self.now.code.map.now self.now.code.fragments.now }
         ensures { IfOk result (λ holds. IsTrue holds →
             AreNewSymbols self.now.old.now self.now.new.now self.now.code.funcs.now self.now.code.map.now self.now.cold.now
             self.now.code.text table.now new_table.now) }

@@ -6,9 +6,9 @@ ghost use Rattle.elf_write.specs.ColdSymbols as spec;
 ghost use Rattle.elf_write.specs.FirstNames.{AreFirstNames};
 
 use crate::first_names::first_names;
+use crate::fragments::{Fragment, bytes_left, start_around};
 use crate::headers::bytes_of;
 use crate::names::NameTable;
-use crate::runs::{Run, bytes_left, start_around};
 use addr_map::AddrMap;
 use elf_image::number::u32_at;
 use elf_image::symbol::{STT_FUNC, SYM_SIZE};
@@ -25,8 +25,8 @@ use std::collections::BTreeMap;
 pub struct NewCode<'a> {
     pub funcs: &'a [Func],
     pub map: &'a AddrMap,
-    /// The runs of functions in it.
-    pub runs: &'a [Run],
+    /// The fragments of functions in it.
+    pub fragments: &'a [Fragment],
     /// The index of its section.
     pub section: u16,
 }
@@ -37,7 +37,7 @@ impl<'a> NewCode<'a> {
         requires { AreLaidOut self.now.funcs.now }
     {
         match function_at(self.funcs, old) {
-            Some(func) => bytes_left(self.runs, func, new),
+            Some(func) => bytes_left(self.fragments, func, new),
             None => 0,
         }
     }

@@ -1,7 +1,7 @@
 // What stands in a written file behind all that it loads.
 ghost use Rattle.std.specs.Prelude.{◌≡◌, ◌+◌, IfOk, length};
 
-use crate::round::{rounded_up, sum};
+use crate::round::{checked_rounded_up, sum};
 use elf_parts::patch::fill_to;
 use rb_bytes::fault::NoMemory;
 use std::alloc::Global;
@@ -42,7 +42,7 @@ impl Tail {
         ensures behind { IfOk result (λ place. self.old.base ≤ place) }
     {
         let end = self.end()?;
-        let place = rounded_up(align.max(1), end)?;
+        let place = checked_rounded_up(align.max(1), end)?;
         if place > OUTPUT_LIMIT {
             return Err(NoMemory);
         }

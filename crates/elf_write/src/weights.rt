@@ -2,7 +2,6 @@
 ghost use Rattle.std.specs.Prelude.{◌≡◌, IfOk, List, sum_by};
 ghost use Rattle.std.specs.Option.{option_copied};
 ghost use Rattle.elf_image.specs.declared.elf.Symbol.{Symbol};
-ghost use Rattle.elf_image.specs.faults.Truncation.{HasHeader};
 ghost use Rattle.rv_code.specs.layout.FunctionLists.{AreLaidOut};
 ghost use Rattle.elf_write.specs.FirstNames.{AreFirstNames};
 ghost use Rattle.elf_write.specs.NameTables as tables;
@@ -10,10 +9,9 @@ ghost use Rattle.elf_write.specs.NameWeight as spec;
 ghost use Rattle.elf_write.specs.Need.{capped};
 
 use crate::first_names::first_names;
-use crate::name_tables::symbols_section;
+use crate::name_tables::{place_of_section_names, symbols_section};
 use crate::old_name::is_renamed;
 use crate::symbols::named_around;
-use elf_image::header::e_shstrndx;
 use elf_image::{Elf, Section, Symbol};
 use rb_bytes::fault::NoMemory;
 use rv_code::Func;
@@ -79,10 +77,9 @@ fn cold_weights(
 
 // The section with the names of sections.
 fn names_of_sections<'a>(elf: &'a Elf<'a>) -> Option<&'a Section<'a>>
-    requires { HasHeader elf.now.file.now }
     ensures { option_copied result ≡ tables.names_of_sections elf.now }
 {
-    elf.sections.get(e_shstrndx(elf.file) as usize)
+    elf.sections.get(place_of_section_names(elf))
 }
 
 // The section with the names of symbols, where there are symbols.
@@ -111,8 +108,7 @@ fn size_of(section: Option<&Section>) -> u64
 /// sections. `cold` has the addresses of the first instructions of cold parts. A sum that doesn't fit is given as the
 /// greatest number of 64 bits.
 pub fn name_weight(alloc: Global, elf: &Elf, funcs: &[Func], cold: &[u64]) -> Result<u64, NoMemory>
-    requires header { HasHeader elf.now.file.now }
-    requires laid_out { AreLaidOut funcs.now }
+    requires { AreLaidOut funcs.now }
     ensures { IfOk result (λ n. n ≡ spec.name_weight elf.now funcs.now cold.now) }
 {
     let cold = cold_weights(alloc, &elf.symbols, funcs, cold)?;

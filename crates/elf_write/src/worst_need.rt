@@ -3,18 +3,12 @@ ghost use Rattle.std.specs.Prelude.{◌≡◌, IfOk};
 ghost use Rattle.std.specs.Option.{option_map_or};
 ghost use Rattle.elf_write.specs.Need as spec;
 
+use crate::round::capped;
 use elf_image::Elf;
 use elf_image::named::EH_FRAME;
 use rb_bytes::fault::NoMemory;
 use rv_code::{Block, Func, worst_size_of_block};
 use std::alloc::Global;
-
-// A number as far as 64 bits can say it.
-fn capped(size: u128) -> u64
-    ensures { result ≡ spec.capped size }
-{
-    size.min(u64::MAX as u128) as u64
-}
 
 // The worst sizes of all blocks.
 fn code_need(funcs: &[Func], blocks: &[Block]) -> u64

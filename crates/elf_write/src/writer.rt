@@ -9,18 +9,18 @@ ghost use Rattle.elf_parts.specs.Parts.{PartsFit, size_of};
 ghost use Rattle.rv_code.specs.layout.FunctionLists.{AreLaidOut};
 ghost use Rattle.elf_write.specs.NewTables.{HasNewTables};
 ghost use Rattle.elf_write.specs.AreaTables.{IsMadeWith};
-ghost use Rattle.elf_write.specs.Made.{IsPut, header_numbers};
-ghost use Rattle.elf_write.specs.Source.{IsPlaced, source_of};
-ghost use Rattle.elf_write.specs.Written.{AreApart, CanHold, IsWritten};
+ghost use Rattle.elf_write.specs.FileParts.{IsPut, header_numbers};
+ghost use Rattle.elf_write.specs.Source.{HasPlace, source_of};
+ghost use Rattle.elf_write.specs.WrittenFile.{AreApart, CanHold, IsWritten};
 
 use crate::area_bytes::table_size;
 use crate::cell_numbers::cell_numbers;
+use crate::fragments::fragments;
 use crate::header_fields::HeaderFields;
 use crate::layout::{Layout, is_above};
 use crate::new_sections::{NewSections, SectionSource};
 use crate::placing::{can_put_all, table_place};
 use crate::read_back::is_accepted;
-use crate::runs::runs;
 use crate::sections::Table;
 use crate::segments::Places;
 use crate::tail::Tail;
@@ -164,18 +164,18 @@ pub fn write(
     requires cells { All (CanHold elf.now) emitted.now.cells.items }
     requires apart { AllPairs AreApart emitted.now.cells.items }
     requires laid_out { AreLaidOut funcs.now }
-    ensures written { IfOk result (λ w. (tight : Bool) → IsPlaced (source_of elf.now emitted.now map.now tables.now) tight →
+    ensures written { IfOk result (λ w. (tight : Bool) → HasPlace (source_of elf.now emitted.now map.now tables.now) tight →
         IsWritten (source_of elf.now emitted.now map.now tables.now) tight w.items) }
-    ensures tables { IfOk result (λ w. (tight : Bool) → IsPlaced (source_of elf.now emitted.now map.now tables.now) tight →
+    ensures tables { IfOk result (λ w. (tight : Bool) → HasPlace (source_of elf.now emitted.now map.now tables.now) tight →
         HasNewTables elf.now tables.now emitted.now.code.items funcs.now cold.now map.now tight w.items) }
 {
-    let runs = runs(alloc, funcs, map)?;
+    let fragments = fragments(alloc, funcs, map)?;
     let source = SectionSource {
         elf,
         funcs,
         cold,
         map,
-        runs: &runs,
+        fragments: &fragments,
         tables,
     };
     let tight = is_above(elf, map)?;

@@ -12,8 +12,8 @@ use Rattle.elf_image.specs.memory.Image.{is_loaded_with}
 use Rattle.elf_image.specs.memory.Start.{space_of}
 use Rattle.sym_machine.specs.declared.value.Pointer.{Pointer}
 use Rattle.sym_machine.specs.declared.value.Pointer.TheVariants.{Code, Ret}
-use Rattle.sym_machine.specs.declared.value.Symbol.{Symbol}
-use Rattle.sym_machine.specs.declared.value.Symbol.TheVariants.{Points, Hi, Abs, Diff, Apart}
+use Rattle.sym_machine.specs.declared.value.CodeSymbol.{CodeSymbol}
+use Rattle.sym_machine.specs.declared.value.CodeSymbol.TheVariants.{Points, Hi, Abs, Diff, Apart}
 use Rattle.sym_machine.specs.declared.value.Value.{Value}
 use Rattle.sym_machine.specs.declared.value.Value.TheVariants.{Num, Sym, Piece}
 use Rattle.sym_machine.specs.declared.value.MemoryByte.{MemoryByte}
@@ -36,7 +36,7 @@ abbrev pub IsGivenPointer : Rewrite → Pointer → Type 0
 IsGivenPointer r (Code a) = IsNamed r.code a
 IsGivenPointer r (Ret a) = IsSomeAnd (placed_at r.code.funcs a) (λ p. IsTrue (is_call (action_at p)))
 
-abbrev pub IsGiven : Rewrite → Symbol → Type 0
+abbrev pub IsGiven : Rewrite → CodeSymbol → Type 0
 IsGiven r (Points p) = IsGivenPointer r p
 IsGiven r (Hi a) = IsSomeAnd (placed_at r.code.funcs a) (λ p. HasTarget p.role)
 IsGiven r (Abs t) = Any (λ entry. entry.1 ≡ role.AbsHi t) r.code.roles

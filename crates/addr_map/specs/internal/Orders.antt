@@ -10,11 +10,12 @@ abbrev pub AreApart : Span → Span → Type 0
 AreApart s t = s.input ≡ t.input → ⊥
 
 -- the spans whose parts stand in three columns
-abbrev pub spans_of : List ℕ → List ℕ → List ℕ → List Span
-spans_of [] lens inputs = []
-spans_of (out ∷ outs) [] inputs = []
-spans_of (out ∷ outs) (len ∷ lens) [] = []
-spans_of (out ∷ outs) (len ∷ lens) (input ∷ inputs) = record { out = out; len = len; input = input } ∷ spans_of outs lens inputs
+abbrev pub column_spans : List ℕ → List ℕ → List ℕ → List Span
+column_spans [] lens inputs = []
+column_spans (out ∷ outs) [] inputs = []
+column_spans (out ∷ outs) (len ∷ lens) [] = []
+column_spans (out ∷ outs) (len ∷ lens) (input ∷ inputs) =
+    record { out = out; len = len; input = input } ∷ column_spans outs lens inputs
 
 -- The holder of a place is the last span with bytes up to there, or the first span.
 pub record IsHolder (lens : List ℕ) (i holder : ℕ) : Type 0 where
@@ -30,7 +31,7 @@ pub record IsByNew (outs lens inputs holders : List ℕ) : Type 0 where
   pub inputs_count : length inputs ≡ length outs
   pub holders_count : length holders ≡ length outs
   pub held : (i : ℕ) → i < length outs → IsHolder lens i (slice_index holders i)
-  pub disjoint : AllPairs ShareNoByte (spans_of outs lens inputs)
+  pub disjoint : AllPairs ShareNoByte (column_spans outs lens inputs)
 
 -- each member is above all before it
 abbrev pub IsRising : List ℕ → Type 0

@@ -36,7 +36,7 @@ use Rattle.elf_image.specs.code.Roles as claims
 use Rattle.elf_image.specs.code.Cells.{IsCell, Content, Difference, Address, Counts, SameContent}
 use Rattle.move_law.specs.RelocatedValues.{target_of_role}
 use Rattle.move_law.specs.SimulationRelation.{HasTarget}
-use Rattle.move_law.specs.Laws.{IsAccepted}
+use Rattle.move_law.specs.Laws.{IsAcceptedCode}
 use Rattle.move_law.proofs.code.Immediates.{full_at, also_full, auipc_of, lui_of, low_of, low_immediate}
 use Rattle.move_law.proofs.code.InstLists.{start_code, code_at, inst_at, role_at}
 use Rattle.move_law.specs.AddressParts.{IsAuipc, IsLui, TakesLower}
@@ -426,5 +426,5 @@ module _ (elf : Elf) (tabled : List (ℕ × ℕ)) (code : ProgramCode) (is : IsC
   pub code_facts : CodeFacts code
   code_facts = record { roles = role_fits; abs = abs_named; diffs = diff_targets }
 
-pub has_code_facts : (elf : Elf) (code : ProgramCode) → IsAccepted elf code → CodeFacts code
+pub has_code_facts : (elf : Elf) (code : ProgramCode) → IsAcceptedCode elf code → CodeFacts code
 has_code_facts elf code accepted = code_facts elf accepted.tabled code accepted.code_is accepted.no_fault

@@ -16,7 +16,7 @@ use Rattle.elf_image.specs.code.Parts.{halfword_at, IsInstAt}
 use Rattle.elf_image.specs.declared.relocation.TheConstants.{R_RISCV_PCREL_LO12_I, R_RISCV_LO12_I}
 use Rattle.elf_image.specs.code.Roles.{immediate_i, immediate_s, lower_immediate}
 use Rattle.move_law.specs.AddressParts.{IsAuipc, IsLui, TakesLower}
-use Rattle.move_law.specs.Faithful.{with_immediate}
+use Rattle.move_law.specs.FaithfulRewrite.{with_immediate}
 use Rattle.move_law.proofs.values.HiLoParts.{IsLower, imm_i_lower, imm_s_lower}
 
 -- Opcodes.

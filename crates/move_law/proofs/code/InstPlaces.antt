@@ -27,7 +27,7 @@ use Rattle.elf_image.specs.memory.Image.{end_of, has_flag, is_load, loads_addres
 use Rattle.elf_image.proofs.LoadLemmas.{Contains-cons_cases, find-only, loads-from_parts}
 use Rattle.elf_image.proofs.ReadLists.{get_or-segments, length-segments_of}
 use Rattle.move_law.specs.Rewrite.{executable_read, IsCodeByte}
-use Rattle.move_law.specs.Laws.{IsAccepted}
+use Rattle.move_law.specs.Laws.{IsAcceptedCode}
 use Rattle.move_law.proofs.code.InstLists.{length_of}
 use Rattle.move_law.proofs.files.Executables.{accepted_executable, byte_low, load_once, loaded_byte}
 use Rattle.move_law.proofs.Lists.{all_of, from_flat, pairs_flat}
@@ -132,7 +132,7 @@ pub record CodeAt (elf : Elf) (a : ℕ) : Type 0 where
   pub above : 0 < a
   pub low : a < address_end
 
-module _ (elf : Elf) (code' : ProgramCode) (accepted : IsAccepted elf code') where
+module _ (elf : Elf) (code' : ProgramCode) (accepted : IsAcceptedCode elf code') where
   segment_in : (j : ℕ) → j < e_phnum elf.file.now → Contains elf.segments.items (segment elf.file.now j)
   segment_in j within =
       let count = length-segments_of elf.file.now in

@@ -10,12 +10,12 @@ use Rattle.elf_image.specs.memory.Image.{byte_of, is_load, loads_address, segmen
 use Rattle.elf_image.specs.memory.LoadedBytes.{Range, address_in, address_of, byte_at, loaded_number, loads_range}
 use Rattle.elf_image.proofs.LoadLemmas.{find-found, find-only, loads-from_parts}
 use Rattle.sym_machine.specs.HiddenFields.{e_entry_field}
-use Rattle.move_law.specs.Laws.{IsAccepted}
+use Rattle.move_law.specs.Laws.{IsAcceptedCode}
 use Rattle.move_law.specs.Rewrite.{executable_read}
 use Rattle.move_law.proofs.files.Executables.{accepted_executable, load_once}
 use Rattle.move_law.proofs.files.Numbers.{number_from}
 
-module _ (elf : Elf) (code : ProgramCode) (accepted : IsAccepted elf code) where
+module _ (elf : Elf) (code : ProgramCode) (accepted : IsAcceptedCode elf code) where
   -- a byte of a range of the file that a segment loads
   range_byte : (range : Range) (p : Segment) → Contains elf.segments.items p → loads_range range p ≡ true → (i : ℕ) →
       i < range.size →

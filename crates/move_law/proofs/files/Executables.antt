@@ -18,7 +18,7 @@ use Rattle.elf_image.specs.memory.Start.{start_memory, stack_byte, stack_end, st
 use Rattle.elf_image.proofs.LoadLemmas.{find-found}
 use Rattle.elf_image.proofs.ReadLists.{get_or-segments, LoadOnce-apart}
 use Rattle.move_law.specs.Rewrite.{Executable, executable_of, executable_read, memory_of}
-use Rattle.move_law.specs.Laws.{IsAccepted, IsSoundExecutable}
+use Rattle.move_law.specs.Laws.{IsAcceptedCode, IsSoundExecutable}
 use Rattle.rv_code.proofs.machine.LowBytes.{little_at}
 use Rattle.move_law.proofs.files.Numbers.{bytes_at_is}
 use Rattle.rv_code.specs.layout.ProgramCode.{ProgramCode}
@@ -28,7 +28,7 @@ use Rattle.rv_code.specs.layout.ProgramCode.{ProgramCode}
 pub executable_read-is : (elf : Elf) → IsElfOf elf.file.now elf → executable_read elf ≡ executable_of elf.file.now
 executable_read-is elf is = λ i. record { file = elf.file.now; segments = is.segments i; entry = is.entry i }
 
-pub accepted_executable : (elf : Elf) (code : ProgramCode) → IsAccepted elf code → IsSoundExecutable (executable_read elf)
+pub accepted_executable : (elf : Elf) (code : ProgramCode) → IsAcceptedCode elf code → IsSoundExecutable (executable_read elf)
 accepted_executable elf code accepted =
     record { bytes = accepted.bytes; is = executable_read-is elf accepted.read; sound = accepted.sound }
 

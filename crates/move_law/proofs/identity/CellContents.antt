@@ -25,7 +25,7 @@ use Rattle.elf_image.specs.faults.ReferenceFaults as faults
 use Rattle.sym_machine.specs.SymStart.{symbol_of}
 use Rattle.move_law.specs.Rewrite.{Executable, Rewrite, executable_read, memory_of, out}
 use Rattle.move_law.specs.RelocatedValues.{distance, number_of_symbol}
-use Rattle.move_law.specs.Laws.{IsAccepted, IsSoundExecutable}
+use Rattle.move_law.specs.Laws.{IsAcceptedCode, IsSoundExecutable}
 use Rattle.move_law.proofs.code.FittingRoles.{fits, bounded_of}
 use Rattle.move_law.proofs.code.CellWidths.{field_width, can_of, difference_bits, same_address}
 use Rattle.move_law.proofs.files.Executables.{byte_small, accepted_executable}
@@ -94,7 +94,7 @@ first_same z w z' w' e = cc
 second_same : (z w z' w' : ℤ) → Difference z w ≡ Difference z' w' → w ≡ w'
 second_same z w z' w' e = cc
 
-module _ (elf : Elf) (code : ProgramCode) (accepted : IsAccepted elf code) (r : Rewrite) (stays : (a : ℕ) → out r a ≡ a) where
+module _ (elf : Elf) (code : ProgramCode) (accepted : IsAcceptedCode elf code) (r : Rewrite) (stays : (a : ℕ) → out r a ≡ a) where
   -- a field with an address
   address_holds : (cell : CodeCell) (to to' : ℕ) → (cell.width ≡ 4) ⊎ (cell.width ≡ 8) →
       loaded_number elf cell.addr cell.width ≡ Some to → to ≡ to' →

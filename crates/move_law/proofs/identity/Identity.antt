@@ -26,9 +26,9 @@ use Rattle.addr_map.specs.declared.span.Span.{Span}
 use Rattle.sym_machine.specs.Rules.{next_of}
 use Rattle.sym_machine.specs.SymStart.{program_start}
 use Rattle.sym_machine.specs.declared.value.Pointer.TheVariants as pointer
-use Rattle.move_law.specs.Faithful.{GetsToNext, GoesOn, HasInSpan, IsFaithful, IsMapOf, KeepsAction, KeepsCell, KeepsInst}
-use Rattle.move_law.specs.Faithful.{made_anew, next, same}
-use Rattle.move_law.specs.Laws.{IdentityIsFaithful, IdentityLaw, IsAccepted, KeepsCode, RunsAreReal, identity, own_spans}
+use Rattle.move_law.specs.FaithfulRewrite.{GetsToNext, GoesOn, HasInSpan, IsFaithful, IsMapOf, KeepsAction, KeepsCell, KeepsInst}
+use Rattle.move_law.specs.FaithfulRewrite.{made_anew, next, same}
+use Rattle.move_law.specs.Laws.{IdentityIsFaithful, IdentityLaw, IsAcceptedCode, KeepsCode, RunsAreReal, identity, own_spans}
 use Rattle.move_law.specs.Rewrite.{AreCodeBytes, Goes, HasAt, Rewrite, inst_end, executable_read, jumps, out, program, stays}
 use Rattle.move_law.specs.Rewrite.{width_at}
 use Rattle.move_law.specs.SimulationRelation.{SimulationRelation}
@@ -56,7 +56,7 @@ jal_of : (i : Inst) (rd : ℕ) (imm : ℤ) → action_of i ≡ Jump rd imm → i
 jal_of (Jal rd' imm') rd imm e = cc
 jal_of _ rd imm e = absurd (cc)
 
-module _ (elf : Elf) (code : ProgramCode) (tight : Bool) (accepted : IsAccepted elf code) where
+module _ (elf : Elf) (code : ProgramCode) (tight : Bool) (accepted : IsAcceptedCode elf code) where
   out_same : (a : ℕ) → out (identity elf code tight) a ≡ a
   out_same a = by (find (is_of a) (own_spans code)) refl
     where

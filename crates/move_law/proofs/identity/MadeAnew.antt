@@ -20,7 +20,7 @@ use Rattle.elf_image.specs.faults.ReferenceFaults as faults
 use Rattle.rv_code.specs.isa.HiLo.{hi20, lo12}
 use Rattle.rv_code.specs.layout.Flow.{insts_of}
 use Rattle.rv_code.specs.layout.ProgramCode.{ProgramCode}
-use Rattle.move_law.specs.Faithful.{made_anew, with_immediate}
+use Rattle.move_law.specs.FaithfulRewrite.{made_anew, with_immediate}
 use Rattle.move_law.specs.RelocatedValues.{distance}
 use Rattle.move_law.proofs.code.InstLists.{inst_at}
 use Rattle.move_law.proofs.code.Immediates.{full_at, also_full, auipc_of, lui_of, low_of, low_immediate, immediate, with_same}

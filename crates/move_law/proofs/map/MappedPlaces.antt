@@ -24,7 +24,7 @@ use Rattle.sym_machine.specs.declared.value.Pointer.TheVariants.{Code, Ret}
 use Rattle.move_law.specs.Rewrite.{Rewrite, width_at, out, inst_end, AreCodeBytes, HasAt, Goes}
 use Rattle.move_law.specs.RelocatedValues.{number_of_pointer}
 use Rattle.move_law.specs.SimulationRelation.{IsGivenPointer}
-use Rattle.move_law.specs.Faithful.{made_anew, HasInSpan, KeepsAction, KeepsInst}
+use Rattle.move_law.specs.FaithfulRewrite.{made_anew, HasInSpan, KeepsAction, KeepsInst}
 use Rattle.move_law.specs.Laws.{KeepsCode}
 use Rattle.move_law.proofs.values.Arithmetic.{IsPlace}
 use Rattle.move_law.proofs.steps.Instructions.{width_even, width_some}

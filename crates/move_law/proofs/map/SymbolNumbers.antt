@@ -34,8 +34,8 @@ use Rattle.sym_machine.specs.declared.value.Comparing.{Comparing}
 use Rattle.sym_machine.specs.declared.value.Comparing.TheVariants.{Sub, Xor}
 use Rattle.sym_machine.specs.declared.value.Signedness.{Signedness}
 use Rattle.sym_machine.specs.declared.value.Signedness.TheVariants.{Signed, Unsigned}
-use Rattle.sym_machine.specs.declared.value.Symbol.{Symbol}
-use Rattle.sym_machine.specs.declared.value.Symbol.TheVariants.{Points, Hi, Abs, Diff, Apart}
+use Rattle.sym_machine.specs.declared.value.CodeSymbol.{CodeSymbol}
+use Rattle.sym_machine.specs.declared.value.CodeSymbol.TheVariants.{Points, Hi, Abs, Diff, Apart}
 use Rattle.sym_machine.specs.declared.value.Value.{Value}
 use Rattle.sym_machine.specs.declared.value.Value.TheVariants.{Num, Sym, Piece}
 use Rattle.sym_machine.specs.Values.{IsSymbol, op_of}
@@ -44,7 +44,7 @@ use Rattle.move_law.specs.Rewrite.{Rewrite, width_at, out, Goes, stays}
 use Rattle.move_law.specs.RelocatedValues.{distance, hi20_value, target_at, target_of_role, number_of_pointer, number_of_symbol}
 use Rattle.move_law.specs.RelocatedValues.{extension_of}
 use Rattle.move_law.specs.SimulationRelation.{IsGivenPointer, IsGiven, HasTarget, StandsFor}
-use Rattle.move_law.specs.Faithful.{made_anew, KeepsAction, KeepsInst, GoesOn}
+use Rattle.move_law.specs.FaithfulRewrite.{made_anew, KeepsAction, KeepsInst, GoesOn}
 use Rattle.move_law.specs.Laws.{KeepsCode}
 use Rattle.move_law.proofs.values.Arithmetic.{Label, Symbols}
 use Rattle.move_law.proofs.steps.Premises.{LowerFits, Fits}
@@ -214,7 +214,7 @@ module _ (r : Rewrite) (keeps : KeepsCode r) (facts : CodeFacts r.code) where
           record { low = omega (arith, low, same); target = subst (Target r.code) (sym target_is) f.1 }
 
   -- each symbol's number is short
-  short : (y : Symbol) → IsGiven r y → IsShort (number_of_symbol r y)
+  short : (y : CodeSymbol) → IsGiven r y → IsShort (number_of_symbol r y)
   short (Points p) given = low_short (number_of_pointer r p) (place r keeps p given).low
   short (Hi a) given =
       let t = targeted a given in upper_short (out r (target_at r.code.funcs a)) (out r a)
@@ -231,7 +231,7 @@ module _ (r : Rewrite) (keeps : KeepsCode r) (facts : CodeFacts r.code) where
       low_short (bit_xor (number_of_pointer r p) (number_of_pointer r q))
       (xor_lt 31 (number_of_pointer r p) (number_of_pointer r q) (place r keeps p given.0).low (place r keeps q given.1).low)
 
-  unsigned : (y : Symbol) → IsGiven r y → is_unsigned y ≡ true → number_of_symbol r y < 2 ^ 32
+  unsigned : (y : CodeSymbol) → IsGiven r y → is_unsigned y ≡ true → number_of_symbol r y < 2 ^ 32
   unsigned (Points p) given e = let low = (place r keeps p given).low in omega (arith, low)
   unsigned (Abs t) given e =
       let low =
@@ -248,7 +248,7 @@ module _ (r : Rewrite) (keeps : KeepsCode r) (facts : CodeFacts r.code) where
       sub_above (number_of_pointer r p) (number_of_pointer r q) (place r keeps p g).low (place r keeps q h).low n
   apart_above Xor p q g h n = xor_above (number_of_pointer r p) (number_of_pointer r q) n
 
-  nonzero : (y : Symbol) → IsSymbol y → IsGiven r y → is_nonzero (Sym y) ≡ true → 0 < number_of_symbol r y
+  nonzero : (y : CodeSymbol) → IsSymbol y → IsGiven r y → is_nonzero (Sym y) ≡ true → 0 < number_of_symbol r y
   nonzero (Points p) s given e = (place r keeps p given).above
   nonzero (Apart by (pointer.Code a) (pointer.Code b)) s given e =
       apart_above by (pointer.Code a) (pointer.Code b) given.0 given.1 (λ same. s (code_once r keeps a b given.0 given.1 same))

@@ -23,7 +23,7 @@ use Rattle.rv_code.specs.machine.Step as byte
 use Rattle.rv_code.specs.isa.TwosComplement.{unsigned64}
 use Rattle.sym_machine.specs.declared.value.Pointer.{Pointer}
 use Rattle.sym_machine.specs.declared.value.Pointer.TheVariants.{Code, Ret}
-use Rattle.sym_machine.specs.declared.value.Symbol.TheVariants.{Points, Hi, Abs, Diff, Apart}
+use Rattle.sym_machine.specs.declared.value.CodeSymbol.TheVariants.{Points, Hi, Abs, Diff, Apart}
 use Rattle.sym_machine.specs.declared.value.Value.{Value}
 use Rattle.sym_machine.specs.declared.value.Value.TheVariants.{Num, Sym, Piece}
 use Rattle.sym_machine.specs.Values.{value_of, number}
@@ -33,7 +33,7 @@ use Rattle.sym_machine.specs.SymStep as symbol
 use Rattle.move_law.specs.Rewrite.{Rewrite, out}
 use Rattle.move_law.specs.RelocatedValues.{distance, hi20_value, target_at, target_of_role, number_of_pointer}
 use Rattle.move_law.specs.SimulationRelation.{IsGivenPointer, IsGiven, HasTarget, StandsFor, RelatedData, RelatedPc}
-use Rattle.move_law.specs.Faithful.{made_anew, with_immediate}
+use Rattle.move_law.specs.FaithfulRewrite.{made_anew, with_immediate}
 use Rattle.move_law.proofs.values.Arithmetic.{Symbols, Label, number_stands, label_stands, only_stands, at_number}
 use Rattle.move_law.proofs.values.Arithmetic.{combined_stands}
 use Rattle.move_law.proofs.values.StoredValues.{IsSize}

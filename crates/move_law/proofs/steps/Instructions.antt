@@ -11,7 +11,7 @@ use Rattle.rv_code.specs.declared.action.Action.TheVariants.{SystemCall, Breakpo
 use Rattle.rv_code.specs.declared.action.Action.TheVariants as action
 use Rattle.rv_code.specs.declared.placed.Placed.{Placed}
 use Rattle.rv_code.specs.isa.Action.{action_of}
-use Rattle.rv_code.specs.isa.Decoding.{Decodes}
+use Rattle.rv_code.specs.isa.InstBytes.{Decodes}
 use Rattle.rv_code.specs.layout.Flow.{insts_of, placed_at, action_at, is_call}
 use Rattle.rv_code.specs.machine.Machine.{plus}
 use Rattle.rv_code.specs.isa.Op.{holds}
@@ -21,15 +21,16 @@ use Rattle.rv_code.specs.isa.TwosComplement.{unsigned64}
 use Rattle.elf_image.specs.code.Parts.{halfword_in}
 use Rattle.sym_machine.specs.declared.value.Pointer.{Pointer}
 use Rattle.sym_machine.specs.declared.value.Pointer.TheVariants.{Code, Ret}
-use Rattle.sym_machine.specs.declared.value.Symbol.TheVariants.{Hi}
+use Rattle.sym_machine.specs.declared.value.CodeSymbol.TheVariants.{Hi}
 use Rattle.sym_machine.specs.Rules.{tested, next_of, destination}
 use Rattle.sym_machine.specs.SymStep.{SymState, SymOutcome}
 use Rattle.sym_machine.specs.SymStep as symbol
 use Rattle.move_law.specs.Rewrite.{Rewrite, Executable, memory_of, width_at, out, inst_end, HasAt}
 use Rattle.move_law.specs.RelocatedValues.{target_at, target_of_role, number_of_pointer}
 use Rattle.move_law.specs.SimulationRelation.{IsGivenPointer, IsGiven, HasTarget, RelatedData, RelatedPc}
-use Rattle.move_law.specs.Faithful.{next, GetsToNext, made_anew, goes_on, HasInSpan, KeepsCall, KeepsBranch, same, opposite}
-use Rattle.move_law.specs.Faithful.{KeepsAction}
+use Rattle.move_law.specs.FaithfulRewrite.{next, GetsToNext, made_anew, goes_on, HasInSpan, KeepsCall, KeepsBranch, same}
+use Rattle.move_law.specs.FaithfulRewrite.{opposite}
+use Rattle.move_law.specs.FaithfulRewrite.{KeepsAction}
 use Rattle.rv_code.proofs.isa.EvenOffsets.{EvenOffset, even_offset}
 use Rattle.move_law.proofs.steps.Fetching.{even_plus}
 use Rattle.move_law.proofs.values.Arithmetic.{tested_stands}

@@ -7,10 +7,11 @@ use Rattle.rv_code.specs.machine.Step as byte
 use Rattle.sym_machine.specs.declared.outcome.Reason.TheVariants as reason
 use Rattle.sym_machine.specs.declared.value.Pointer.{Pointer}
 use Rattle.sym_machine.specs.declared.value.Pointer.TheVariants.{Ret}
-use Rattle.sym_machine.specs.declared.value.Symbol.TheVariants.{Points, Hi, Abs, Diff, Apart}
+use Rattle.sym_machine.specs.declared.value.CodeSymbol.TheVariants.{Points, Hi, Abs, Diff, Apart}
 use Rattle.sym_machine.specs.declared.value.Value.{Value}
 use Rattle.sym_machine.specs.declared.value.Value.TheVariants.{Num, Sym, Piece}
-use Rattle.sym_machine.specs.Rules.{only_if, is_lower, pointer, destination}
+use Rattle.rb_bytes.specs.Options.{only_if}
+use Rattle.sym_machine.specs.Rules.{is_lower, pointer, destination}
 use Rattle.sym_machine.specs.SymStep.{SymState, SymOutcome, needs}
 use Rattle.sym_machine.specs.SymStep as symbol
 use Rattle.move_law.specs.Rewrite.{Rewrite}

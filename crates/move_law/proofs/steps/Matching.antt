@@ -18,7 +18,7 @@ use Rattle.sym_machine.specs.declared.outcome.Reason.TheVariants as reason
 use Rattle.sym_machine.specs.SymStep.{SymState, SymOutcome, sym_step, needs}
 use Rattle.move_law.specs.Rewrite.{Rewrite, width_at, out, IsCodeByte, Goes}
 use Rattle.move_law.specs.SimulationRelation.{SimulationRelation, RelatedData}
-use Rattle.move_law.specs.Faithful.{KeepsInst}
+use Rattle.move_law.specs.FaithfulRewrite.{KeepsInst}
 use Rattle.move_law.specs.Laws.{KeepsCode, StepsMatched, EndingsMatched}
 use Rattle.move_law.proofs.steps.Fetching.{HasCode, steps_at, Arrives, arrive}
 use Rattle.move_law.proofs.files.Executables.{loaded_byte, byte_low}

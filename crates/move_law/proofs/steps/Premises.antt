@@ -10,11 +10,11 @@ use Rattle.rv_code.specs.declared.placed.Role.{Role}
 use Rattle.rv_code.specs.declared.placed.Role.TheVariants as role
 use Rattle.rv_code.specs.layout.ProgramCode.{IsNamed}
 use Rattle.rv_code.specs.layout.Flow.{insts_of, action_at}
-use Rattle.sym_machine.specs.declared.value.Symbol.TheVariants.{Hi, Abs}
+use Rattle.sym_machine.specs.declared.value.CodeSymbol.TheVariants.{Hi, Abs}
 use Rattle.move_law.specs.Rewrite.{Rewrite, out}
 use Rattle.move_law.specs.RelocatedValues.{target_at}
 use Rattle.move_law.specs.SimulationRelation.{IsGiven}
-use Rattle.move_law.specs.Faithful.{KeepsInst, GoesOn}
+use Rattle.move_law.specs.FaithfulRewrite.{KeepsInst, GoesOn}
 use Rattle.move_law.proofs.steps.Outcomes.{SameSpaces}
 use Rattle.move_law.proofs.values.Arithmetic.{Symbols, Label}
 use Rattle.move_law.specs.AddressParts.{IsAuipc, IsLui, TakesLower}

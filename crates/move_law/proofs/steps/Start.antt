@@ -25,15 +25,15 @@ use Rattle.elf_image.specs.memory.Start.{in_stack, table_address, space_of, brea
 use Rattle.elf_image.specs.memory.Start.{pages_above}
 use Rattle.elf_image.proofs.LoadLemmas.{find-found}
 use Rattle.sym_machine.specs.declared.value.Pointer.TheVariants.{Code}
-use Rattle.sym_machine.specs.declared.value.Symbol.TheVariants.{Points}
+use Rattle.sym_machine.specs.declared.value.CodeSymbol.TheVariants.{Points}
 use Rattle.sym_machine.specs.declared.value.MemoryByte.TheVariants.{Byte, SymbolByte, Hidden}
 use Rattle.sym_machine.specs.HiddenFields.{e_entry_field, at_phdr, at_phnum, at_entry, is_hidden_field, is_hidden_entry}
 use Rattle.sym_machine.specs.SymStart.{sym_memory, entry_fields, hidden_byte, code_cell_byte, byte_of_entry, byte_of_cell}
-use Rattle.sym_machine.specs.SymStart.{symbol_of, range_of, program_start}
+use Rattle.sym_machine.specs.SymStart.{symbol_of, code_cell_range, program_start}
 use Rattle.move_law.specs.Rewrite.{Executable, Rewrite, executable_read, memory_of, out, program, stays}
 use Rattle.move_law.specs.RelocatedValues.{number_of_symbol}
 use Rattle.move_law.specs.SimulationRelation.{StandsForByte, IsGiven, has_right}
-use Rattle.move_law.specs.Faithful.{is_in_entry_field, KeepsCell}
+use Rattle.move_law.specs.FaithfulRewrite.{is_in_entry_field, KeepsCell}
 use Rattle.move_law.specs.Laws.{KeepsCode, FitStack, StartsRelated}
 use Rattle.move_law.proofs.files.Executables.{loaded_byte, accepted_executable, number_byte, loaded_start}
 use Rattle.move_law.proofs.files.Stack.{stack_of, count, byte_same, entry_on_stack, room, stack_is}
@@ -201,10 +201,10 @@ module _ (r : Rewrite) (keeps : KeepsCode r) (words : List (List ℕ)) (fit : Fi
           (start_memory r.output.file words a)) same (entry_on_the_stack a) e
 
   -- cells
-  cell_stands : (a : ℕ) (cell : CodeCell) → Contains r.code.cells cell → is_in_range a (range_of cell) ≡ true →
+  cell_stands : (a : ℕ) (cell : CodeCell) → Contains r.code.cells cell → is_in_range a (code_cell_range cell) ≡ true →
       StandsForByte r (byte_of_cell a cell) (start_memory r.output.file words a)
   cell_stands a cell is_in e =
-      let inside = inside_range a (range_of cell) e in
+      let inside = inside_range a (code_cell_range cell) e in
       let from = inside.0 in
       let to = inside.1 in
       let number = All-contains (KeepsCell r) r.code.cells cell keeps.faithful.cells.each is_in in
@@ -337,14 +337,14 @@ module _ (r : Rewrite) (keeps : KeepsCode r) (words : List (List ℕ)) (fit : Fi
 
   file_same : (a flag : ℕ) → is_loaded_with flag r.input.segments.items a ≡ true →
       find (is_in_range a) (entry_fields r.input words) ≡ None → is_hidden_field r.input r.tight a ≡ false →
-      find (λ c. is_in_range a (range_of c)) r.code.cells ≡ None →
+      find (λ c. is_in_range a (code_cell_range c)) r.code.cells ≡ None →
       start_memory r.output.file words a ≡ start_memory r.input.file.now words a
   file_same a flag loaded none hidden no_cell =
       let l = loaded_byte (executable_read r.input) flag a loaded in
       let kept = keeps.faithful.bytes a l.0 l.1 in
       let same : memory_of r.output a ≡ Some l.0 =
-      kept.same (or_false (list_any (λ cell. is_in_range a (range_of cell)) r.code.cells) (is_in_entry_field r.input a)
-      (is_hidden_field r.input r.tight a) (none_any (λ cell. is_in_range a (range_of cell)) r.code.cells no_cell)
+      kept.same (or_false (list_any (λ cell. is_in_range a (code_cell_range cell)) r.code.cells) (is_in_entry_field r.input a)
+      (is_hidden_field r.input r.tight a) (none_any (λ cell. is_in_range a (code_cell_range cell)) r.code.cells no_cell)
       (no_entry (address_of r.input e_entry_field) refl) hidden) in
       loaded_start r.output keeps.output words a l.0 same
       ∙ sym (loaded_start (executable_read r.input) (accepted_executable r.input r.code keeps.accepted) words a l.0 l.1)
@@ -364,7 +364,7 @@ module _ (r : Rewrite) (keeps : KeepsCode r) (words : List (List ℕ)) (fit : Fi
     where
       plain : find (is_in_range a) (entry_fields r.input words) ≡ None →
           is_hidden_field r.input r.tight a || is_hidden_entry r.tight words a ≡ false →
-          find (λ c. is_in_range a (range_of c)) r.code.cells ≡ None →
+          find (λ c. is_in_range a (code_cell_range c)) r.code.cells ≡ None →
           StandsForByte r (Byte (start_memory r.input.file.now words a)) (start_memory r.output.file words a)
       plain none hidden no_cell =
           let h = or_parts (is_hidden_field r.input r.tight a) (is_hidden_entry r.tight words a) hidden in
@@ -396,22 +396,22 @@ module _ (r : Rewrite) (keeps : KeepsCode r) (words : List (List ℕ)) (fit : Fi
 
       cell : find (is_in_range a) (entry_fields r.input words) ≡ None →
           is_hidden_field r.input r.tight a || is_hidden_entry r.tight words a ≡ false → (q : Option CodeCell) →
-          find (λ c. is_in_range a (range_of c)) r.code.cells ≡ q →
+          find (λ c. is_in_range a (code_cell_range c)) r.code.cells ≡ q →
           StandsForByte r (unwrap_or (option_map (byte_of_cell a) q) (Byte (start_memory r.input.file.now words a)))
           (start_memory r.output.file words a)
       cell none hidden None e = plain none hidden e
       cell none hidden (Some c) e =
-          let f = find-found (λ c. is_in_range a (range_of c)) r.code.cells c e in cell_stands a c f.1 f.0
+          let f = find-found (λ c. is_in_range a (code_cell_range c)) r.code.cells c e in cell_stands a c f.1 f.0
 
       hide : find (is_in_range a) (entry_fields r.input words) ≡ None → (h : Bool) →
           (is_hidden_field r.input r.tight a || is_hidden_entry r.tight words a) ≡ h →
           StandsForByte r
           (unwrap_or
           (option_or (if h then Some Hidden else None)
-          (option_map (byte_of_cell a) (find (λ c. is_in_range a (range_of c)) r.code.cells)))
+          (option_map (byte_of_cell a) (find (λ c. is_in_range a (code_cell_range c)) r.code.cells)))
           (Byte (start_memory r.input.file.now words a))) (start_memory r.output.file words a)
       hide none true e = record { cell = tt; given = tt; byte = tt }
-      hide none false e = cell none e (find (λ c. is_in_range a (range_of c)) r.code.cells) refl
+      hide none false e = cell none e (find (λ c. is_in_range a (code_cell_range c)) r.code.cells) refl
 
       by : (o : Option Range) → find (is_in_range a) (entry_fields r.input words) ≡ o →
           StandsForByte r

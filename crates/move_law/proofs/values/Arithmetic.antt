@@ -24,12 +24,13 @@ use Rattle.sym_machine.specs.declared.value.Pointer.{Pointer}
 use Rattle.sym_machine.specs.declared.value.Pointer.TheVariants.{Code, Ret}
 use Rattle.sym_machine.specs.declared.value.Comparing.{Comparing}
 use Rattle.sym_machine.specs.declared.value.Comparing.TheVariants.{Sub, Xor}
-use Rattle.sym_machine.specs.declared.value.Symbol.{Symbol}
-use Rattle.sym_machine.specs.declared.value.Symbol.TheVariants.{Points, Hi, Abs, Diff, Apart}
+use Rattle.sym_machine.specs.declared.value.CodeSymbol.{CodeSymbol}
+use Rattle.sym_machine.specs.declared.value.CodeSymbol.TheVariants.{Points, Hi, Abs, Diff, Apart}
 use Rattle.sym_machine.specs.declared.value.Value.{Value}
 use Rattle.sym_machine.specs.declared.value.Value.TheVariants.{Num, Sym, Piece}
-use Rattle.sym_machine.specs.Values.{value_of, is_value_of, IsSymbol, AreApart, op_of}
-use Rattle.sym_machine.specs.Rules.{only_if, is_nonzero, copied, from_difference, sum, compared, compared_by, masked}
+use Rattle.sym_machine.specs.Values.{value_of, is_value_of, IsSymbol, AreSymbolsApart, op_of}
+use Rattle.rb_bytes.specs.Options.{only_if}
+use Rattle.sym_machine.specs.Rules.{is_nonzero, copied, from_difference, sum, compared, compared_by, masked}
 use Rattle.sym_machine.specs.Rules.{on_registers, on_zero, on_constant, combined, equal_pointers, equal_number, tested}
 use Rattle.sym_machine.specs.Rules.{is_unsigned}
 use Rattle.move_law.specs.Rewrite.{Rewrite, out}
@@ -56,10 +57,11 @@ pub record Symbols (r : Rewrite) : Type 0 where
   pub ret_once : (a b : ℕ) → IsGivenPointer r (Ret a) → IsGivenPointer r (Ret b) →
       number_of_pointer r (Ret a) ≡ number_of_pointer r (Ret b) → a ≡ b
   pub labels : (to from : ℕ) → IsGiven r (Diff to from) → Label r to × Label r from
-  pub fits : (y : Symbol) → IsSymbol y → IsGiven r y → number_of_symbol r y < 2 ^ 64
-  pub short : (y : Symbol) → IsSymbol y → IsGiven r y → extended Signed32 (number_of_symbol r y % 2 ^ 32) ≡ number_of_symbol r y
-  pub unsigned : (y : Symbol) → IsSymbol y → IsGiven r y → is_unsigned y ≡ true → number_of_symbol r y < 2 ^ 32
-  pub nonzero : (y : Symbol) → IsSymbol y → IsGiven r y → is_nonzero (Sym y) ≡ true → 0 < number_of_symbol r y
+  pub fits : (y : CodeSymbol) → IsSymbol y → IsGiven r y → number_of_symbol r y < 2 ^ 64
+  pub short : (y : CodeSymbol) → IsSymbol y → IsGiven r y →
+      extended Signed32 (number_of_symbol r y % 2 ^ 32) ≡ number_of_symbol r y
+  pub unsigned : (y : CodeSymbol) → IsSymbol y → IsGiven r y → is_unsigned y ≡ true → number_of_symbol r y < 2 ^ 32
+  pub nonzero : (y : CodeSymbol) → IsSymbol y → IsGiven r y → is_nonzero (Sym y) ≡ true → 0 < number_of_symbol r y
   pub value_fits : (v : Value) (x : ℕ) → StandsFor r v x → ((n : ℕ) → v ≡ Num n → ⊥) → x < 2 ^ 64
 
 -- a test on two numbers is a test on two others
@@ -179,7 +181,7 @@ no_xor : (x y : ℕ) → x ≡ y → apply op.Xor x y ≡ 0
 no_xor x y e = rw e (xor_self y)
 
 compared_stands : (r : Rewrite) (by : Comparing) (p q : Pointer) (a b x y : ℕ) → IsGivenPointer r p → IsGivenPointer r q →
-    (a ≢ b → AreApart p q) → (a ≡ b → number_of_pointer r p ≡ number_of_pointer r q) →
+    (a ≢ b → AreSymbolsApart p q) → (a ≡ b → number_of_pointer r p ≡ number_of_pointer r q) →
     IsPlace (number_of_pointer r p) → x ≡ number_of_pointer r p → y ≡ number_of_pointer r q →
     StandsFor r (compared by p q a b) (apply (op_of by) x y)
 compared_stands r by p q a b x y g h apart same place is is' = cases (a == b) refl by
@@ -239,7 +241,7 @@ flag_lt a b h = rw (lt-ltb a b h) refl
 flag_ge : (a b : ℕ) → b ≤ a → flag (nat_lt a b) ≡ 0
 flag_ge a b h = rw (le-ltb a b h) refl
 
-num_apart : (y : Symbol) (n : ℕ) → Sym y ≡ Num n → ⊥
+num_apart : (y : CodeSymbol) (n : ℕ) → Sym y ≡ Num n → ⊥
 num_apart y n e = absurd (cc)
 
 copies : (r : Rewrite) → Symbols r → (v : Value) (n x : ℕ) → StandsFor r v x → ((m : ℕ) → v ≡ Num m → ⊥) →

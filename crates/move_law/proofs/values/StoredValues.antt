@@ -18,8 +18,8 @@ use Rattle.sym_machine.specs.declared.value.Comparing.{Comparing}
 use Rattle.sym_machine.specs.declared.value.Comparing.TheVariants.{Sub, Xor}
 use Rattle.sym_machine.specs.declared.value.Signedness.{Signedness}
 use Rattle.sym_machine.specs.declared.value.Signedness.TheVariants.{Signed, Unsigned}
-use Rattle.sym_machine.specs.declared.value.Symbol.{Symbol}
-use Rattle.sym_machine.specs.declared.value.Symbol.TheVariants.{Points, Hi, Abs, Diff, Apart}
+use Rattle.sym_machine.specs.declared.value.CodeSymbol.{CodeSymbol}
+use Rattle.sym_machine.specs.declared.value.CodeSymbol.TheVariants.{Points, Hi, Abs, Diff, Apart}
 use Rattle.sym_machine.specs.declared.value.Value.{Value}
 use Rattle.sym_machine.specs.declared.value.Value.TheVariants.{Num, Sym, Piece}
 use Rattle.sym_machine.specs.declared.value.MemoryByte.{MemoryByte}
@@ -46,7 +46,7 @@ same_comparing-true Xor Xor e = refl
 same_comparing-true Sub Xor e = absurd (cc)
 same_comparing-true Xor Sub e = absurd (cc)
 
-pub same_symbol-true : (y z : Symbol) → same_symbol y z ≡ true → y ≡ z
+pub same_symbol-true : (y z : CodeSymbol) → same_symbol y z ≡ true → y ≡ z
 same_symbol-true (Points p) (Points q) e = ap Points (same_pointer-true p q e)
 same_symbol-true (Hi a) (Hi b) e = ap Hi (eqb-true a b e)
 same_symbol-true (Abs a) (Abs b) e = ap Abs (eqb-true a b e)
@@ -88,7 +88,7 @@ numbers_alike r (Byte a ∷ cs) (b ∷ bs) h = cases (numbers cs) (numbers_alike
 
 -- Stores.
 
-parts_alike : (r : Rewrite) (y : Symbol) (w i n x : ℕ) → IsSymbol y → IsGiven r y → IsWidth w → i + n ≤ w →
+parts_alike : (r : Rewrite) (y : CodeSymbol) (w i n x : ℕ) → IsSymbol y → IsGiven r y → IsWidth w → i + n ≤ w →
     x ≡ number_of_symbol r y / 256 ^ i → Alike (StandsForByte r) (symbol_bytes y w i n) (low_bytes n x)
 unfolding symbol_bytes low_bytes
 parts_alike r y w i zero x s g wide fits e = tt
@@ -215,7 +215,7 @@ stored_stands r f n (Piece y w i k e) x size h = cases (nat_le n k) refl
 -- Loads.
 
 -- bytes that stand for parts of a symbol are its bytes
-parts_bytes : (r : Rewrite) (y : Symbol) (w i x : ℕ) (cs : List MemoryByte) (bs : List ℕ) →
+parts_bytes : (r : Rewrite) (y : CodeSymbol) (w i x : ℕ) (cs : List MemoryByte) (bs : List ℕ) →
     x ≡ number_of_symbol r y / 256 ^ i → Alike (StandsForByte r) cs bs → are_symbol_bytes y w i cs ≡ true →
     bs ≡ low_bytes (length cs) x
 unfolding low_bytes
@@ -238,7 +238,7 @@ parts_bytes r y w i x (SymbolByte z v j ∷ cs) (b ∷ bs) e h p =
     one_byte m = omega arith
 
 -- they end within its width
-parts_inside : (r : Rewrite) (y : Symbol) (w i : ℕ) (cs : List MemoryByte) (bs : List ℕ) → i ≤ w →
+parts_inside : (r : Rewrite) (y : CodeSymbol) (w i : ℕ) (cs : List MemoryByte) (bs : List ℕ) → i ≤ w →
     Alike (StandsForByte r) cs bs → are_symbol_bytes y w i cs ≡ true → i + length cs ≤ w
 parts_inside r y w i [] bs inside h p = omega (arith, inside)
 parts_inside r y w i (d ∷ cs) [] inside h p = absurd h
@@ -254,7 +254,7 @@ parts_inside r y w i (SymbolByte z v j ∷ cs) (b ∷ bs) inside h p =
     let rest = parts_inside r y w (suc i) cs bs (omega (arith, at, wide, below)) h.1 p1.1 in
     omega (arith, rest)
 
-pub piece_stands : (r : Rewrite) → Symbols r → (e : Extension) (y : Symbol) (w i x : ℕ) → IsSymbol y → IsGiven r y →
+pub piece_stands : (r : Rewrite) → Symbols r → (e : Extension) (y : CodeSymbol) (w i x : ℕ) → IsSymbol y → IsGiven r y →
     IsWidth w → i + bytes_of e ≤ w → x ≡ bytes_from (number_of_symbol r y) i (bytes_of e) →
     IfSome (piece e y w i) (λ v. StandsFor r v (extended e x))
 piece_stands r f Whole64 y w i x s g wide fits is = only_stands r (w == 8 && i == 0) (Sym y) x (λ e.

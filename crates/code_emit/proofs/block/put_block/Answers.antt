@@ -10,7 +10,7 @@ use Rattle.branch_fixup.proofs.Holders.{last_there}
 use Rattle.branch_fixup.specs.Strips.{insts_in}
 use Rattle.code_emit.specs.Bytes.{AllCanBeEncoded}
 use Rattle.code_emit.specs.Inputs.{HasLowTargets}
-use Rattle.code_emit.specs.Made.{made}
+use Rattle.code_emit.specs.NewInsts.{made}
 use Rattle.code_emit.proofs.Parts.{front_can, last_can, one_more, inner_targets}
 use Rattle.code_emit.proofs.Coded.{on_ok}
 use Rattle.code_emit.proofs.block.put_block.Goals as goal

@@ -2,7 +2,7 @@ use Rattle.std.proofs.Common.{◌+◌, ◌∙◌, ℕ, get_or, arith, sym, subst
 use Rattle.rv_code.specs.declared.layout.Form.TheVariants as form
 use Rattle.addr_map.specs.Spans.{new}
 use Rattle.branch_fixup.proofs.Appended.{no_inst, end_more, end_part}
-use Rattle.code_emit.specs.Made.{made}
+use Rattle.code_emit.specs.NewInsts.{made}
 use Rattle.code_emit.specs.Bytes.{AllCanBeEncoded}
 use Rattle.code_emit.proofs.Parts.{inner_at, inner_can, inner_more}
 use Rattle.code_emit.proofs.block.put_inner.Goals as goal

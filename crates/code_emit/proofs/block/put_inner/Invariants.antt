@@ -2,7 +2,7 @@ use Rattle.std.proofs.Common.{◌≡◌, take}
 use Rattle.std.specs.Prelude.{map}
 use Rattle.addr_map.specs.Spans.{new}
 use Rattle.branch_fixup.specs.Pieces.{as_it_is, end_from}
-use Rattle.code_emit.specs.Made.{made_from}
+use Rattle.code_emit.specs.NewInsts.{made_from}
 use Rattle.code_emit.specs.Bytes.{Adds}
 use Rattle.code_emit.proofs.block.put_inner.Given as goal
 

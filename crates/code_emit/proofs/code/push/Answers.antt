@@ -1,5 +1,5 @@
 use Rattle.std.proofs.Common.{[], ◌∷◌, List, ℕ, sym, subst}
-use Rattle.rv_encode.specs.Encoding.{bytes}
+use Rattle.rv_encode.specs.InstWords.{bytes}
 use Rattle.code_emit.specs.Bytes.{Adds}
 use Rattle.code_emit.proofs.Coded.{half_wanted, on_ok}
 use Rattle.code_emit.proofs.code.push.Goals as goal

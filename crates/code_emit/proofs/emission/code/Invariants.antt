@@ -3,7 +3,7 @@ use Rattle.addr_map.specs.Spans.{new}
 use Rattle.branch_fixup.specs.Strips.{pieces_of, strips_of}
 use Rattle.code_emit.specs.Bytes.{Adds}
 use Rattle.code_emit.specs.Inputs.{AreMapped}
-use Rattle.code_emit.specs.Made.{made_from}
+use Rattle.code_emit.specs.NewInsts.{made_from}
 use Rattle.code_emit.proofs.emission.code.Given as goal
 
 abbrev pub invariant-loop-k : goal.invariant-loop-k

@@ -1,4 +1,4 @@
-use Rattle.elf_parts.proofs.Spelled.{section_bytes-appended}
+use Rattle.elf_parts.proofs.Spellings.{section_bytes-appended}
 use Rattle.elf_parts.proofs.spell.put_section.Goals as goal
 
 pub returns : goal.returns

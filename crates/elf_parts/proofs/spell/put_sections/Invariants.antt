@@ -1,5 +1,5 @@
 use Rattle.std.proofs.Common.{◌≡◌, ◌++◌, take}
-use Rattle.elf_parts.specs.Spelled.{section_table}
+use Rattle.elf_parts.specs.Spellings.{section_table}
 use Rattle.elf_parts.proofs.spell.put_sections.Given as goal
 
 abbrev pub invariant-loop-s : goal.invariant-loop-s

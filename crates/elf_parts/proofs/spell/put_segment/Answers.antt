@@ -1,4 +1,4 @@
-use Rattle.elf_parts.proofs.Spelled.{segment_bytes-appended}
+use Rattle.elf_parts.proofs.Spellings.{segment_bytes-appended}
 use Rattle.elf_parts.proofs.spell.put_segment.Goals as goal
 
 pub returns-clause-bytes : goal.returns-clause-bytes

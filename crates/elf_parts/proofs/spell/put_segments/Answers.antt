@@ -3,8 +3,8 @@ use Rattle.std.proofs.lemmas.Bool.{cases_lt}
 use Rattle.std.proofs.lemmas.Grind.{common_steps}
 use Rattle.std.proofs.lemmas.List.{get_or_default}
 use Rattle.elf_image.specs.declared.segment.Segment.{Segment}
-use Rattle.elf_parts.specs.Spelled.{SegmentFits}
-use Rattle.elf_parts.proofs.Spelled.{tables}
+use Rattle.elf_parts.specs.Spellings.{SegmentFits}
+use Rattle.elf_parts.proofs.Spellings.{tables}
 use Rattle.elf_parts.proofs.spell.put_segments.Goals as goal
 
 pub loop-p-preserved : goal.loop-p-preserved

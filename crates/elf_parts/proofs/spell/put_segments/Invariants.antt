@@ -1,6 +1,6 @@
 use Rattle.std.proofs.Common.{◌≡◌, ℕ, ◌<◌, ◌++◌, take, slice_index_or}
 use Rattle.elf_image.specs.declared.segment.Segment.{Segment}
-use Rattle.elf_parts.specs.Spelled.{SegmentFits, segment_table}
+use Rattle.elf_parts.specs.Spellings.{SegmentFits, segment_table}
 use Rattle.elf_parts.proofs.spell.put_segments.Given as goal
 
 abbrev pub invariant-loop-p : goal.invariant-loop-p

@@ -1,4 +1,4 @@
-use Rattle.elf_parts.proofs.Spelled.{symbol_bytes-appended}
+use Rattle.elf_parts.proofs.Spellings.{symbol_bytes-appended}
 use Rattle.elf_parts.proofs.spell.put_symbol.Goals as goal
 
 pub returns : goal.returns

@@ -24,8 +24,8 @@ returns c =
     subst (λ (cs : List Contents). AreContents known elf.sections.items cs)
     (sym c.deref-2.ensures.value)
     (contents-known-each elf tables.tables.now tables.area tables.shift c.args.known.now c.in_ok-contents.contents.items
-    c.requires.known c.requires.same
-    (c.in_ok-contents.ensures elf.segments.items tables.area tables.shift c.requires.known.kept)) in
+    c.requires c.requires.elf_is
+    (c.in_ok-contents.ensures elf.segments.items tables.area tables.shift c.requires.kept)) in
     let offsets : c.deref-3.result.now ≡ map (λ n. n.offset) new.sections.items =
     c.deref-3.ensures.value ∙ c.in_ok-sections_at.ensures ∙ ap (map (λ (n : Section). n.offset)) c.deref.ensures.value in
     let index : c.unwrap_or.result ≡ unwrap_or (table_size tables.tables.now (codes ".eh_frame_hdr")) 0 = search rules in

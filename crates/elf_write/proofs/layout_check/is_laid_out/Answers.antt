@@ -1,6 +1,7 @@
 use Rattle.std.proofs.Common.{◌≡◌, ◌∙◌, ◌+◌, ◌*◌, ◌++◌, sym, subst, ap, rules, ℕ, Bool, List, length, map}
 use Rattle.std.proofs.lemmas.Result.{IfOk-weaker}
 use Rattle.elf_image.specs.declared.elf.Section.{Section}
+use Rattle.elf_image.specs.declared.header.HeaderFields.{HeaderFields}
 use Rattle.elf_image.specs.declared.section.TheConstants.{SHDR_SIZE}
 use Rattle.elf_image.specs.file.Header.{e_shoff}
 use Rattle.rv_code.specs.layout.Lists.{ListsPairs}
@@ -36,15 +37,15 @@ returns c =
     IfOk-weaker c.ends_with_headers.result _ _
     (λ holds both true. record {
       header = c.keeps_header_fields.ensures c.if-not-keeps_header_fields.false;
-      table = (let same : c.e_phoff.result ≡ c.in_ok-table_place.field-0 = search rules in
-          sym c.e_phoff.ensures ∙ same ∙ c.in_ok-table_place.ensures);
+      table = (let same : c.fields.result.phoff ≡ c.in_ok-table_place.field-0 = search rules in
+          ap (λ (fields : HeaderFields). fields.phoff) (sym c.fields.ensures) ∙ same ∙ c.in_ok-table_place.ensures);
       order = order;
       lists = lists-same elf.sections.items (is_written_by known elf.segments.items tables.area tables.shift)
           (λ i s. is_written (contents_of elf tables.tables.now tables.area tables.shift i s)) order
           (λ i s. ap is_written
-          (contents-known elf tables.tables.now tables.area tables.shift known i s c.requires.known))
-          (subst Lists (ap (λ e. e.sections.items) c.requires.known.elf_is)
-          (c.in_ok-order.ensures elf.segments.items tables.area tables.shift c.requires.known.kept));
+          (contents-known elf tables.tables.now tables.area tables.shift known i s c.requires))
+          (subst Lists (ap (λ e. e.sections.items) c.requires.elf_is)
+          (c.in_ok-order.ensures elf.segments.items tables.area tables.shift c.requires.kept));
       end = end;
       stand = stand;
       headers = (both true).0;

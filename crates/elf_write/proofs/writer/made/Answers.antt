@@ -5,7 +5,7 @@ use Rattle.elf_image.specs.declared.segment.Segment.{Segment}
 use Rattle.elf_parts.specs.declared.number_at.NumberAt.{NumberAt}
 use Rattle.elf_write.specs.declared.layout.Layout.{Layout}
 use Rattle.elf_write.specs.CellNumbers.{AreCellNumbers}
-use Rattle.elf_write.specs.Made.{IsLaidOut, IsPut, IsTablePlace}
+use Rattle.elf_write.specs.FileParts.{IsLaidOut, IsPut, IsTablePlace}
 use Rattle.elf_write.specs.Source.{Source, source_of}
 use Rattle.elf_write.proofs.Growing.{can-grow, in-order}
 use Rattle.elf_write.proofs.writer.made.Goals as goal

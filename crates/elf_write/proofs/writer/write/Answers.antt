@@ -1,11 +1,11 @@
 use Rattle.std.proofs.Common.{◌≡◌, ◌∙◌, ap, subst, sym, Bool, List, ℕ, get_or}
 use Rattle.elf_image.specs.faults.FileFaults.{IsSound}
 use Rattle.elf_image.specs.file.Header.{e_shstrndx}
-use Rattle.elf_write.specs.declared.runs.Run.{Run}
-use Rattle.elf_write.specs.AllRuns.{AreRuns}
+use Rattle.elf_write.specs.declared.fragments.Fragment.{Fragment}
+use Rattle.elf_write.specs.FragmentLists.{AreFragments}
 use Rattle.elf_write.specs.AreaTables.{AreaStands}
 use Rattle.elf_write.specs.NewTables.{HasNewTables, area_for}
-use Rattle.elf_write.specs.Source.{IsPlaced, Source, source_of}
+use Rattle.elf_write.specs.Source.{HasPlace, Source, source_of}
 use Rattle.elf_write.proofs.AllWritten.{all-written, placed-there}
 use Rattle.elf_write.proofs.CellsWritten.{wide}
 use Rattle.elf_write.proofs.CodeWritten.{area-written}
@@ -16,12 +16,10 @@ use Rattle.elf_write.proofs.writer.write.Goals as goal
 pub made-requires-clause-readable : goal.made-requires-clause-readable
 made-requires-clause-readable c = readable c.args.elf.now.file.now c.requires.sound
 
-pub is_accepted-requires-clause-header : goal.is_accepted-requires-clause-header
-is_accepted-requires-clause-header c = (readable c.args.elf.now.file.now c.requires.sound).header
-
-pub is_accepted-requires-clause-runs : goal.is_accepted-requires-clause-runs
-is_accepted-requires-clause-runs c =
-    subst (λ (runs : List Run). AreRuns c.args.funcs.now c.args.map.now runs) (sym c.deref.ensures.value) c.in_ok-runs.ensures
+pub is_accepted-requires-clause-fragments : goal.is_accepted-requires-clause-fragments
+is_accepted-requires-clause-fragments c =
+    subst (λ (fragments : List Fragment). AreFragments c.args.funcs.now c.args.map.now fragments)
+    (sym c.deref.ensures.value) c.in_ok-fragments.ensures
 
 pub is_accepted-requires-clause-names : goal.is_accepted-requires-clause-names
 is_accepted-requires-clause-names c =
@@ -53,7 +51,7 @@ returns-clause-tables c = λ tight placed.
     let there : above ≡ tight = placed-there s above w c.requires.read c.requires.sound c.requires.bytes c.requires.cells
     c.requires.apart made.made sound_w c.in_ok-tight.ensures tight placed in
     let stands =
-    area-written s above w c.requires.read c.requires.sound made.made (subst (λ (t : Bool). IsPlaced s t) (sym there) placed)
+    area-written s above w c.requires.read c.requires.sound made.made (subst (λ (t : Bool). HasPlace s t) (sym there) placed)
     (λ i cell below. wide (get_or s.cells i cell).1 (c.requires.cells i cell below).width) tables made.has_tables in
     let found = c.is_accepted.ensures.tables c.if-not-is_accepted.false in
     subst (λ (t : Bool). HasNewTables elf tables code funcs cold spans t w) there

@@ -1,5 +1,5 @@
 use Rattle.std.proofs.Common.{◌≡◌, length, arith}
-use Rattle.addr_map.specs.internal.Orders.{spans_of}
+use Rattle.addr_map.specs.internal.Orders.{column_spans}
 use Rattle.addr_map.proofs.Owners.{length_spans}
 use Rattle.addr_map.proofs.new_order.NewOrder.len.Goals as goal
 
@@ -7,7 +7,7 @@ pub returns-clause-count : goal.returns-clause-count
 returns-clause-count c =
     let m = c.self.inside in
     let i = c.self.invariant in
-    let count : length (spans_of m.outs m.lens.items m.inputs.items) ≡ length m.outs
+    let count : length (column_spans m.outs m.lens.items m.inputs.items) ≡ length m.outs
     = length_spans m.outs m.lens.items m.inputs.items i.lens_count i.inputs_count in
     rw (← c.self.view_is) (omega (arith, c.len.ensures, i.inputs_count, count, m.inputs.ok))
 

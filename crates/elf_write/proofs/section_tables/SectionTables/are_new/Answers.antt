@@ -1,7 +1,8 @@
 use Rattle.std.proofs.Common.{◌≡◌, ◌∙◌, ap, subst, rules, ℕ, ◌+◌, ◌-◌, IsTrue, Option, Some, None, length}
 use Rattle.std.specs.Prelude.{codes, is_some, IfSome}
+use Rattle.rv_code.specs.isa.Op.{flag}
 use Rattle.elf_image.specs.declared.section.TheConstants.{SHF_ALLOC, SHF_EXECINSTR}
-use Rattle.elf_write.specs.NewSections.{At, IsAdded, IsInArea, adds_ranges, bytes_called, one_if}
+use Rattle.elf_write.specs.NewSections.{At, IsAdded, IsInArea, adds_ranges, bytes_called}
 use Rattle.elf_write.proofs.section_tables.SectionTables.are_new.Goals as goal
 
 both : (P Q : ℕ → Type 0) (place : Option ℕ) → IfSome place (λ a. P a → Q a) → IfSome place P → IfSome place Q
@@ -17,8 +18,8 @@ returns c = λ holds stands.
     let bytes = bytes_called self.tables.now in
     let count : c.len-count.result ≡ length olds = search rules in
     let whole : c.len.result ≡ length news = search rules in
-    let frames : c.one_if-frames.result ≡ one_if (is_some self.area.frames) =
-    c.one_if-frames.ensures ∙ ap one_if c.is_some.ensures in
+    let frames : c.one_if-frames.result ≡ flag (is_some self.area.frames) =
+    c.one_if-frames.ensures ∙ ap flag c.is_some.ensures in
     record {
       names_at = c.requires.names;
       count = c.has_count.ensures c.if-not-has_count.false;

@@ -2,7 +2,7 @@ use Rattle.std.proofs.Common.{List}
 use Rattle.elf_image.specs.declared.elf.Symbol.{Symbol}
 use Rattle.elf_write.specs.FirstNames.{AreFirstNames}
 use Rattle.elf_write.specs.NewSymbols.{IsColdSymbol}
-use Rattle.elf_write.specs.Together.{GoTogetherBelow}
+use Rattle.elf_write.specs.PairedLists.{GoTogetherBelow}
 use Rattle.elf_write.proofs.symbol_check.CodeSymbols.are_cold.Given as goal
 
 abbrev pub invariant-loop-i : goal.invariant-loop-i

@@ -1,5 +1,5 @@
 use Rattle.elf_write.specs.NewSymbols.{IsNewSymbol}
-use Rattle.elf_write.specs.Together.{GoTogetherBelow}
+use Rattle.elf_write.specs.PairedLists.{GoTogetherBelow}
 use Rattle.elf_write.proofs.symbol_check.CodeSymbols.are_new.Given as goal
 
 abbrev pub invariant-loop-i : goal.invariant-loop-i

@@ -1,17 +1,16 @@
 -- The written file.
-use Rattle.std.specs.Prelude.{◌≡◌, ◌⊎◌, ℕ, ◌+◌, ◌^◌, ◌<◌, ◌≤◌, Bool, false, List, Option, Some, All, IfSome, IsSome, length}
+use Rattle.std.specs.Prelude.{◌≡◌, ◌⊎◌, ℕ, ◌+◌, ◌^◌, ◌<◌, ◌≤◌, Bool, false, List, Some, All, IfSome, IsSome, length}
 use Rattle.elf_image.specs.declared.elf.Elf.{Elf}
 use Rattle.elf_image.specs.faults.FileFaults.{IsSound}
 use Rattle.elf_image.specs.file.Header.{e_entry, segments_of}
 use Rattle.elf_image.specs.memory.CodeSegment.{executable_segment}
-use Rattle.elf_image.specs.memory.Image.{image_byte}
 use Rattle.elf_image.specs.memory.LoadedBytes.{number_in, address_of, file_offset, IsInHeaders}
 use Rattle.elf_image.specs.memory.Start.{table_address, break_start, break_bound}
 use Rattle.addr_map.specs.Spans.{moved}
-use Rattle.move_law.specs.Rewrite.{AreCodeBytes, executable_of}
+use Rattle.move_law.specs.Rewrite.{AreCodeBytes, executable_of, memory_of}
 use Rattle.sym_machine.specs.HiddenFields.{e_entry_field}
 use Rattle.elf_write.specs.Area.{shift_of}
-use Rattle.elf_write.specs.Carried.{CarriesImage, HoldsBytes}
+use Rattle.elf_write.specs.CarriedBytes.{CarriesImage, HoldsBytes}
 use Rattle.elf_write.specs.FrontBytes.{KeepsFront}
 use Rattle.elf_write.specs.NewSegments.{AreNewHeaders}
 use Rattle.elf_write.specs.Source.{Source, is_changed, source_area}
@@ -28,9 +27,6 @@ pub record CanHold (elf : Elf) (cell : ℕ × ℕ × ℕ) : Type 0 where
 -- two cells without a byte in common
 abbrev pub AreApart : ℕ × ℕ × ℕ → ℕ × ℕ × ℕ → Type 0
 AreApart c d = (c.0 + c.1 ≤ d.0) ⊎ (d.0 + d.1 ≤ c.0)
-
-abbrev pub memory_of : List ℕ → ℕ → Option ℕ
-memory_of w a = image_byte w (segments_of w) a
 
 -- What a program finds of the layout of its file. Where a file is tight, its table of program headers moves.
 pub record KeepsPlaces (elf : Elf) (tight : Bool) (w : List ℕ) : Type 0 where
@@ -57,10 +53,11 @@ pub record IsWritten (s : Source) (tight : Bool) (w : List ℕ) : Type 0 where
   pub code : HoldsBytes w (segments_of w) (source_area s tight).start s.code
   pub executable : AreCodeBytes (executable_of w) (source_area s tight).start (length s.code)
   -- each code cell holds its content
-  pub cells : All (λ cell. number_in (memory_of w) cell.0 cell.1 ≡ Some cell.2) s.cells
+  pub cells : All (λ cell. number_in (memory_of (executable_of w)) cell.0 cell.1 ≡ Some cell.2) s.cells
   -- the entry point is where the input's went, and the field that says so too, where it is loaded
   pub entry : moved s.spans s.elf.entry ≡ Some (e_entry w)
-  pub entry_field : IfSome (address_of s.elf e_entry_field) (λ a. number_in (memory_of w) a 8 ≡ Some (e_entry w))
+  pub entry_field : IfSome (address_of s.elf e_entry_field)
+      (λ a. number_in (memory_of (executable_of w)) a 8 ≡ Some (e_entry w))
   pub places : KeepsPlaces s.elf tight w
   pub headers : FollowsHeaders s tight w
   -- no fault of the reader's is present

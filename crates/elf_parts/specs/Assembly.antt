@@ -7,7 +7,7 @@ use Rattle.elf_parts.specs.declared.parts.Parts.{Parts}
 use Rattle.elf_parts.specs.Numbers.{patch_of}
 use Rattle.elf_parts.specs.Parts.{HasParts}
 use Rattle.elf_parts.specs.Patches.{Patch, put_all}
-use Rattle.elf_parts.specs.Spelled.{SegmentFits, segment_table}
+use Rattle.elf_parts.specs.Spellings.{SegmentFits, segment_table}
 
 -- the table of program headers, and fields of the file's header
 abbrev pub header_patches : ℕ → List ℕ → List NumberAt → List Patch

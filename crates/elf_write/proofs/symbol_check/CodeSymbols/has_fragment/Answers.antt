@@ -1,8 +1,8 @@
 use Rattle.std.proofs.Common.{◌≡◌, ◌∙◌, sym, subst, rules, ℕ, Option, Some}
 use Rattle.std.specs.Prelude.{IfSome}
-use Rattle.rv_code.specs.layout.InFunctions.{function_at}
-use Rattle.elf_write.specs.Runs.{IsRun}
-use Rattle.elf_write.proofs.symbol_check.CodeSymbols.has_run.Goals as goal
+use Rattle.rv_code.specs.layout.FunctionMembers.{function_at}
+use Rattle.elf_write.specs.Fragments.{IsFragment}
+use Rattle.elf_write.proofs.symbol_check.CodeSymbols.has_fragment.Goals as goal
 
 pub returns-in-Some : goal.returns-in-Some
 returns-in-Some c = λ same.
@@ -10,5 +10,5 @@ returns-in-Some c = λ same.
     let spans = c.args.self.now.map.now in
     let is : function_at funcs c.args.address ≡ Some c.in-Some.func = sym c.function_at.ensures ∙ c.in-Some.is in
     let size : c.bytes_left.result ≡ c.args.size = search rules in
-    subst (λ (o : Option ℕ). IfSome o (λ f. IsRun funcs spans f c.args.to c.args.size)) (sym is)
-    (subst (IsRun funcs spans c.in-Some.func c.args.to) size (c.bytes_left.ensures funcs spans c.requires.runs))
+    subst (λ (o : Option ℕ). IfSome o (λ f. IsFragment funcs spans f c.args.to c.args.size)) (sym is)
+    (subst (IsFragment funcs spans c.in-Some.func c.args.to) size (c.bytes_left.ensures funcs spans c.requires.fragments))

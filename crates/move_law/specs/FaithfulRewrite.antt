@@ -28,7 +28,7 @@ use Rattle.elf_image.specs.memory.Start.{break_start, break_bound, table_address
 use Rattle.addr_map.specs.Spans.{IsMap}
 use Rattle.sym_machine.specs.Rules.{next_of}
 use Rattle.sym_machine.specs.HiddenFields.{e_entry_field, is_hidden_field}
-use Rattle.sym_machine.specs.SymStart.{range_of, symbol_of}
+use Rattle.sym_machine.specs.SymStart.{code_cell_range, symbol_of}
 use Rattle.move_law.specs.Rewrite.{Rewrite, memory_of, width_at, out, inst_end, AreCodeBytes, HasAt, Goes}
 use Rattle.move_law.specs.RelocatedValues.{distance, number_of_symbol}
 
@@ -143,7 +143,7 @@ is_in_entry_field file a =
 
 abbrev pub may_change : Rewrite → ℕ → Bool
 may_change r a =
-    list_any (λ cell. is_in_range a (range_of cell)) r.code.cells || is_in_entry_field r.input a || is_hidden_field r.input
+    list_any (λ cell. is_in_range a (code_cell_range cell)) r.code.cells || is_in_entry_field r.input a || is_hidden_field r.input
     r.tight a
 
 -- a byte that the input loads

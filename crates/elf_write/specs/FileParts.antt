@@ -6,11 +6,11 @@ use Rattle.elf_image.specs.file.Header.{e_shstrndx}
 use Rattle.elf_image.specs.memory.CodeSegment.{executable_segment}
 use Rattle.addr_map.specs.Spans.{moved}
 use Rattle.elf_parts.specs.declared.number_at.NumberAt.{NumberAt}
-use Rattle.elf_parts.specs.Assembled.{IsAssembled}
+use Rattle.elf_parts.specs.Assembly.{IsAssembled}
 use Rattle.elf_parts.specs.Numbers.{CanPut}
 use Rattle.elf_parts.specs.Parts.{PartsFit, size_of}
 use Rattle.elf_parts.specs.Patches.{Stands}
-use Rattle.elf_parts.specs.Spelled.{SegmentFits, segment_table}
+use Rattle.elf_parts.specs.Spellings.{SegmentFits, segment_table}
 use Rattle.elf_write.specs.declared.area.Area.{Area}
 use Rattle.elf_write.specs.declared.area.Shift.{Shift}
 use Rattle.elf_write.specs.declared.header_fields.HeaderFields.{HeaderFields}
@@ -19,7 +19,7 @@ use Rattle.elf_write.specs.Area.{area_of, shift_of, moved_by}
 use Rattle.elf_write.specs.CellNumbers.{AreCellNumbers}
 use Rattle.elf_write.specs.FileLayout.{is_kept_table}
 use Rattle.elf_write.specs.NewSegments.{AreNewHeaders}
-use Rattle.elf_write.specs.Placing.{IsAbove, IsBehind}
+use Rattle.elf_write.specs.PartPlaces.{IsAbove, IsBehind}
 use Rattle.elf_write.specs.Source.{Source}
 
 -- Where the loaded bytes of the input and the new area stand, for new code and for tables of these sizes.

@@ -15,9 +15,9 @@ use Rattle.elf_image.specs.file.Header.{number_at, segment_at, segments_from}
 use Rattle.elf_image.specs.file.Sections.{section_header_at}
 use Rattle.elf_parts.specs.declared.spell.SymbolEntry.{SymbolEntry}
 use Rattle.elf_parts.specs.Patches.{Stands}
-use Rattle.elf_parts.specs.Spelled.{Number, number, spelled, segment_numbers, segment_bytes, section_numbers}
-use Rattle.elf_parts.specs.Spelled.{section_header_bytes}
-use Rattle.elf_parts.specs.Spelled.{symbol_numbers, symbol_entry_bytes, SegmentFits, SectionFits, segment_table, section_table}
+use Rattle.elf_parts.specs.Spellings.{Number, number, spelled, segment_numbers, segment_bytes, section_numbers}
+use Rattle.elf_parts.specs.Spellings.{section_header_bytes}
+use Rattle.elf_parts.specs.Spellings.{symbol_numbers, symbol_entry_bytes, SegmentFits, SectionFits, segment_table, section_table}
 use Rattle.elf_parts.proofs.Patches.{number_at-stands}
 
 -- Bytes that stand, in parts.

@@ -8,7 +8,7 @@ use Rattle.elf_image.specs.memory.Image.{LoadOnce}
 use Rattle.elf_image.specs.faults.SegmentLayout.{SharesAddress}
 use Rattle.elf_image.specs.faults.LowestPlace.{SomeBelow}
 use Rattle.elf_image.proofs.ReadLists.{LoadOnce-apart}
-use Rattle.elf_write.specs.Extended.{Extends, ShareNone, old_index, Loads, LoadsMore}
+use Rattle.elf_write.specs.RangesWithNew.{Extends, ShareNone, old_index, Loads, LoadsMore}
 
 pub shares-none : (n m : ℕ) (Old New : ℕ → ℕ → Type 0) (Fresh : ℕ → Type 0) (owner : ℕ) (old : ℕ → ℕ) → ShareNone n Old →
     Extends n m Old New Fresh owner old → ShareNone m New

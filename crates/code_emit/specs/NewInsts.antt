@@ -13,9 +13,9 @@ use Rattle.rv_code.specs.declared.cell.CellKind.TheVariants.{Abs, Diff}
 use Rattle.rv_code.specs.isa.TwosComplement.{unsigned64}
 use Rattle.rv_code.specs.layout.Flow.{target_of}
 use Rattle.move_law.specs.RelocatedValues.{distance}
-use Rattle.move_law.specs.Faithful.{made_anew}
+use Rattle.move_law.specs.FaithfulRewrite.{made_anew}
 use Rattle.branch_fixup.specs.Pieces.{Piece, length_of, bytes_of_size}
-use Rattle.branch_fixup.specs.Reach.{new_target}
+use Rattle.branch_fixup.specs.Distances.{new_target}
 
 -- The same with another distance, where it has one.
 abbrev pub with_distance : Inst → ℤ → Inst
