@@ -1,8 +1,8 @@
 pub mod Answering
 pub mod Completing
 pub mod OptionWords
-pub mod Numbers
 pub mod RunArguments
+pub mod StepLimit
 pub mod WordExamples
 pub mod Outcomes
 pub mod RunEnds

@@ -6,7 +6,7 @@ use Rattle.rv_code.specs.declared.cause.Cause.{Cause}
 use Rattle.run_core.specs.Answers.{Answer, Going, Ended, Halted, ReadFault, WriteFault, Memory}
 use Rattle.bolt_cli.specs.recording.Phases.{Finished, ProfileWritten}
 use Rattle.bolt_cli.specs.rewrite.Phases.{LinePrinted}
-use Rattle.bolt_cli.specs.run.Endings.{closing_line}
+use Rattle.bolt_cli.specs.run.RunOutcomes.{closing_line}
 use Rattle.bolt_cli.specs.run.Phases.{Closed, is_outcome, status_of}
 use Rattle.bolt_cli.specs.World.{World}
 use Rattle.bolt_cli.specs.declared.status.Status.{Status}

@@ -8,7 +8,7 @@ use Rattle.bolt_cli.specs.CommandAnswers.{Serves, KeepsInput}
 use Rattle.bolt_cli.specs.recording.RecordAnswers.{HoldsProfile, IsRecording, RecordAnswers, RecordsRun, NoneRoseRecording}
 use Rattle.bolt_cli.specs.recording.RecordAnswers.{recorded, at_profile, at_closing, stopped}
 use Rattle.bolt_cli.specs.recording.RecordRuns.{IsRecordProgram, record_machine, record_mode}
-use Rattle.bolt_cli.specs.run.Endings.{Ends, HaltsAt, RunsOn}
+use Rattle.bolt_cli.specs.run.RunOutcomes.{Ends, HaltsAt, RunsOn}
 use Rattle.bolt_cli.specs.run.RunAnswers.{at_input, at_output, out_of_memory, under_way, IsRunAnswer, IsExact}
 use Rattle.bolt_cli.specs.run.SymbolRuns.{too_long}
 use Rattle.bolt_cli.specs.Words.{RecordWords, Record}

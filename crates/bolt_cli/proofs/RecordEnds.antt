@@ -15,14 +15,14 @@ use Rattle.elf_image.specs.memory.Start.{start}
 use Rattle.rv_machine.specs.State.{state_of}
 use Rattle.edge_record.specs.EdgeText.{IsEdgeText}
 use Rattle.edge_record.specs.Moves.{Move}
-use Rattle.edge_record.specs.Recording.{ByteMoves, Records, RunsFromStart}
-use Rattle.edge_record.specs.Taken.{taken}
+use Rattle.edge_record.specs.RecordedRuns.{ByteMoves, Records, RunsFromStart}
+use Rattle.edge_record.specs.MoveCounts.{taken}
 use Rattle.bolt_core.specs.Program.{Program}
 use Rattle.bolt_cli.specs.recording.Phases.{ProfileWritten, Finished, written, at_line, unwritten}
 use Rattle.bolt_cli.specs.recording.Phases as phase
 use Rattle.bolt_cli.specs.recording.RecordAnswers.{RecordsRun, TakesNone, recorded, at_profile, at_closing, stopped}
 use Rattle.bolt_cli.specs.recording.RecordRuns.{record_machine, moving_steps}
-use Rattle.bolt_cli.specs.run.Endings.{Ending, Ends, HaltsAt, RunsOn, Loaded, answer_of, closing_line}
+use Rattle.bolt_cli.specs.run.RunOutcomes.{Ending, Ends, HaltsAt, RunsOn, Loaded, answer_of, closing_line}
 use Rattle.bolt_cli.specs.run.RunAnswers.{Taking, ComesOut, out_of_memory, IsCutShort, IsExact, read_fault, write_fault}
 use Rattle.bolt_cli.specs.run.RunAnswers.{no_memory, outside}
 use Rattle.bolt_cli.specs.Words.{RecordWords}

@@ -13,7 +13,7 @@ use Rattle.rb_bytes.specs.declared.fault.Refusal.TheVariants as refusal
 use Rattle.bolt_cli.specs.Lines.{refused_line}
 use Rattle.bolt_core.specs.Program.{file_limit}
 use Rattle.bolt_cli.specs.rewrite.Phases.{LinePrinted, all_printed, prefix_printed, none_printed, Refuses}
-use Rattle.bolt_cli.specs.run.Endings.{Ending, Ends, HaltsAt, RunsOn, answer_of}
+use Rattle.bolt_cli.specs.run.RunOutcomes.{Ending, Ends, HaltsAt, RunsOn, answer_of}
 use Rattle.bolt_cli.specs.run.Modes.{Mode}
 use Rattle.bolt_cli.specs.run.Phases.{IsRefusalFor, IsUnread}
 use Rattle.bolt_cli.specs.run.Phases as phases

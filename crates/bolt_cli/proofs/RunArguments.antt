@@ -3,27 +3,9 @@ use Rattle.std.proofs.Common.{◌≡◌, ℕ, ◌&&◌, nat_le, not, Bool, true,
 use Rattle.std.proofs.Common.{None, sum_by}
 use Rattle.std.specs.List.{list_all}
 use Rattle.std.proofs.lemmas.Bool.Decides.{nat_tests}
+use Rattle.rb_bytes.specs.Text.{decimal_number}
 use Rattle.rv_memory.specs.Limits.{IsWithinLimits}
-use Rattle.bolt_cli.specs.Words.{limit_of, symbols_of, decimal_number, holds_zero, are_program_words}
-
--- the limit that the values of `--steps` say after the one that was read, if one was
-abbrev pub limit_after : Option ℕ → List (Option (List ℕ)) → Option ℕ
-limit_after None values = limit_of values
-limit_after (Some limit) [] = Some limit
-limit_after (Some limit) (value ∷ values) = None
-
-pub limit_of_none : (values : List (Option (List ℕ))) → limit_of (None ∷ values) ≡ None
-limit_of_none values = refl
-
-pub limit_of_bad : (digits : List ℕ) (values : List (Option (List ℕ))) → decimal_number digits ≡ None →
-    limit_of (Some digits ∷ values) ≡ None
-limit_of_bad digits [] bad = bad
-limit_of_bad digits (value ∷ values) bad = refl
-
-pub limit_of_number : (digits : List ℕ) (values : List (Option (List ℕ))) (limit : ℕ) → decimal_number digits ≡ Some limit →
-    limit_of (Some digits ∷ values) ≡ limit_after (Some limit) values
-limit_of_number digits [] limit good = good
-limit_of_number digits (value ∷ values) limit good = refl
+use Rattle.bolt_cli.specs.Words.{symbols_of, holds_zero, are_program_words}
 
 -- whether `--symbols` is there, after it was or wasn't
 abbrev pub symbols_after : Bool → List (Option (List ℕ)) → Option Bool

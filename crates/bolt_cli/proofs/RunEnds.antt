@@ -18,7 +18,7 @@ use Rattle.bolt_cli.specs.run.RunAnswers.{Taking, ComesOut, StopsAnywhere, Answe
 use Rattle.bolt_cli.specs.run.RunAnswers.{at_closing, out_of_memory, stopped, IsCutShort, read_fault, write_fault, no_memory}
 use Rattle.bolt_cli.specs.run.RunAnswers.{IsExact}
 use Rattle.bolt_cli.specs.run.Phases.{SaysEnding, Closed, status_of}
-use Rattle.bolt_cli.specs.run.Endings.{Ending, Ends, HaltsAt, RunsOn, Loaded, answer_of, closing_line, RunsTo}
+use Rattle.bolt_cli.specs.run.RunOutcomes.{Ending, Ends, HaltsAt, RunsOn, Loaded, answer_of, closing_line, RunsTo}
 use Rattle.bolt_cli.specs.declared.status.Status.{Status}
 use Rattle.bolt_cli.proofs.Answering.{rose_after, rose_before}
 

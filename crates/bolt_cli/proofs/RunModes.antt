@@ -4,7 +4,7 @@ use Rattle.rb_io.specs.Names.{Unchanged}
 use Rattle.rb_io.specs.Views.{FilesGoOn, SourceSeen}
 use Rattle.rb_bytes.specs.declared.fault.Fault.{Fault}
 use Rattle.bolt_cli.specs.CommandAnswers.{KeepsInput, Serves}
-use Rattle.bolt_cli.specs.ParsedWords.{run_on}
+use Rattle.bolt_cli.specs.WordViews.{run_on}
 use Rattle.bolt_cli.specs.run.ByteRuns.{byte_mode}
 use Rattle.bolt_cli.specs.run.Phases.{IsUnread}
 use Rattle.bolt_cli.specs.run.SymbolRuns.{symbol_mode}

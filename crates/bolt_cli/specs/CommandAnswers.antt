@@ -10,7 +10,7 @@ use Rattle.bolt_cli.specs.Status.{exit_number}
 use Rattle.bolt_cli.specs.World.{World}
 use Rattle.bolt_cli.specs.Words.{Command, Rewrite, Map, Run, RunSymbols, Record}
 use Rattle.bolt_cli.specs.Lines.{usage_line}
-use Rattle.bolt_cli.specs.Printing.{PrintsOnly, FailsAtLine}
+use Rattle.bolt_cli.specs.PrintedLines.{PrintsOnly, FailsAtLine}
 use Rattle.bolt_cli.specs.recording.RecordAnswers.{RecordAnswers, RecordCompletes}
 use Rattle.bolt_cli.specs.rewrite.InputAnswers.{IsAccepted, IsOkOrNoMemory, NoInputErrors, OfInputs}
 use Rattle.bolt_cli.specs.rewrite.MapAnswers.{MapAnswers}
@@ -33,7 +33,7 @@ CommandAnswers (Some (RunSymbols words)) answer old new = RunAnswers symbol_mode
 CommandAnswers (Some (Record words)) answer old new = RecordAnswers words old new answer
 CommandAnswers None answer old new = UsageAnswers answer old new
 
--- A rewrite is done and a map is printed, or memory is wanting, where no fault is present and no count rose. A run of a
+-- A rewrite is done and a map is printed, or memory runs out, where no fault is present and no count rose. A run of a
 -- file that can be run answers how that comes out.
 abbrev pub Completes : Option Command → Status → World → World → Type 0
 Completes (Some (Rewrite names)) answer old new =

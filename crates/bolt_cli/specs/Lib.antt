@@ -3,8 +3,8 @@ pub mod rewrite
 pub mod run
 pub mod CommandAnswers
 pub mod Lines
-pub mod ParsedWords
-pub mod Printing
+pub mod WordViews
+pub mod PrintedLines
 pub mod Status
 pub mod Words
 pub mod World

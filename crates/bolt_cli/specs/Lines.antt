@@ -9,10 +9,12 @@ use Rattle.rv_code.specs.declared.cause.Cause.{Cause}
 use Rattle.rv_code.specs.declared.cause.Cause.TheVariants.{Fetch, Illegal, Load, Store, Break}
 use Rattle.sym_machine.specs.declared.outcome.Reason.{Reason}
 use Rattle.sym_machine.specs.declared.outcome.Reason.TheVariants as reason
-use Rattle.bolt_core.specs.Rewriting.{RewriteCounts}
+use Rattle.bolt_core.specs.RewriteCounts.{RewriteCounts}
 
 abbrev pub usage_line : List ℕ
-usage_line = codes "usage: rewrite IN PROFILE OUT MAP, map IN PROFILE, run [--symbols] [--steps N] FILE [WORDS], lookup FILE ADDR, sample N OUT PROFILE, record [--steps N] FILE OUT [WORDS]\n"
+usage_line =
+    codes "usage: rewrite IN PROFILE OUT MAP, map IN PROFILE, run [--symbols] [--steps N] FILE [WORDS], "
+    ++ codes "lookup FILE ADDR, sample N OUT PROFILE, record [--steps N] FILE OUT [WORDS]\n"
 
 -- how a refusal ends: want of room has what is needed and what there is
 abbrev pub refused_end : FaultKind → ℕ → ℕ → List ℕ

@@ -1,11 +1,11 @@
 -- Which words are which command.
-use Rattle.std.specs.Prelude.{ℕ, ◌^◌, ◌&&◌, ◌||◌, ◌==◌, nat_eq, nat_lt, nat_le, not, if◌then◌else◌, Bool, true, false, List, []}
+use Rattle.std.specs.Prelude.{ℕ, ◌&&◌, ◌||◌, ◌==◌, nat_eq, nat_lt, nat_le, not, if◌then◌else◌, Bool, true, false, List, []}
 use Rattle.std.specs.Prelude.{◌∷◌, length, map, sum_by, option_and_then, Option, Some, None, codes}
 use Rattle.std.specs.List.{starts_with, list_all, list_any, before_first, after_first}
 use Rattle.std.specs.Option.{option_map}
 use Rattle.std.specs.Str.{bytes_eq, byte}
-use Rattle.std.specs.Char.{is_ascii_digit}
-use Rattle.std.specs.Str.Parse.{digits_value}
+use Rattle.rb_bytes.specs.Text.{decimal_number}
+use Rattle.rv_memory.specs.Limits.{most_words, most_word_bytes}
 
 -- a word that begins with a hyphen, but for the hyphen alone
 abbrev pub is_option : List ℕ → Bool
@@ -108,14 +108,6 @@ abbrev pub map_of : List Argument → Option InputNames
 map_of (Positional file ∷ Positional profile ∷ []) = Some (record { file = file; profile = profile })
 map_of _ = None
 
--- the number that 1 to 20 decimal digits write, below 2^64
-abbrev pub decimal_number : List ℕ → Option ℕ
-decimal_number digits =
-    if nat_lt 0 (length digits) && nat_le (length digits) 20 && list_all is_ascii_digit digits
-    && nat_lt (digits_value 10 digits) (2 ^ 64)
-    then Some (digits_value 10 digits)
-    else None
-
 -- the most steps of a run: `--steps` says it, once, or not at all
 abbrev pub limit_of : List (Option (List ℕ)) → Option ℕ
 limit_of [] = Some 100000000
@@ -137,10 +129,10 @@ is_run_argument (OptionWord name (Some value)) = bytes_eq name steps_name
 abbrev pub holds_zero : List ℕ → Bool
 holds_zero word = list_any (λ character. character == 0) word
 
--- at most 64 words, of at most 65536 bytes together, and no byte of them zero
+-- as many words and bytes as a program may be given, and no byte of them zero
 abbrev pub are_program_words : List (List ℕ) → Bool
 are_program_words words =
-    nat_le (length words) 64 && nat_le (sum_by (λ word. length word) words) 65536
+    nat_le (length words) most_words && nat_le (sum_by (λ word. length word) words) most_word_bytes
     && list_all (λ word. not (holds_zero word)) words
 
 -- `FILE [WORDS]`

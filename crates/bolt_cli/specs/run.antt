@@ -1,5 +1,5 @@
 pub mod ByteRuns
-pub mod Endings
+pub mod RunOutcomes
 pub mod Modes
 pub mod ParsedCode
 pub mod Phases

@@ -4,10 +4,11 @@ ghost use Rattle.elf_image.specs.faults.FileFaults.{IsSound};
 ghost use Rattle.elf_image.specs.file.ParsedFile.{IsElfOf};
 ghost use Rattle.rv_memory.specs.Limits.{IsWithinLimits};
 ghost use Rattle.bolt_core.specs.Program.{file_limit};
-ghost use Rattle.bolt_cli.specs.ParsedWords.{run_read};
+ghost use Rattle.bolt_cli.specs.WordViews.{run_read};
 ghost use Rattle.bolt_cli.specs.run.ByteRuns.{byte_machine, CannotRun, IsRunnable};
 ghost use Rattle.bolt_cli.specs.run.Phases.{IsRefusalFor};
 ghost use Rattle.bolt_cli.specs.run.RunAnswers.{AnswersRun, IsExact};
+ghost use Rattle.run_core.specs.Inputs.{outside_of};
 
 use crate::closing::{close, status_of};
 use crate::status::Status;
@@ -45,8 +46,8 @@ pub fn run_elf<I: Source, O: Sink>(
     requires fields { IsElfOf elf.now.file.now elf.now }
     requires sound { IsSound elf.now.file.now }
     ensures answer { AnswersRun (byte_machine elf.now.file.now (run_read words.now).words) words.now.limit
-        (record { input = I.seen input.old; output = O.seen out.old })
-        (record { input = I.seen input.new; output = O.seen out.new }) result }
+        (outside_of (I.seen input.old) (O.seen out.old))
+        (outside_of (I.seen input.new) (O.seen out.new)) result }
     ensures exact { IsExact (byte_machine elf.now.file.now (run_read words.now).words) words.now.limit
         (I.seen input.old).left result }
     ensures reads { (I.seen input.old).faults ≤ (I.seen input.new).faults }

@@ -1,7 +1,7 @@
 // How runs end.
 ghost use Rattle.std.specs.Prelude.{◌≡◌, ◌≤◌, IfOk};
-ghost use Rattle.rv_machine.specs.Stepped.{answered};
-ghost use Rattle.bolt_cli.specs.run.Endings.{closing_line};
+ghost use Rattle.rv_machine.specs.StepResults.{answered};
+ghost use Rattle.bolt_cli.specs.run.RunOutcomes.{closing_line};
 ghost use Rattle.bolt_cli.specs.run.Phases.{Closed, status_of};
 
 use crate::lines;

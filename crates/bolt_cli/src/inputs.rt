@@ -4,14 +4,15 @@ ghost use Rattle.rb_io.specs.FaultCounts.{Rose};
 ghost use Rattle.rb_io.specs.Names.{Unchanged};
 ghost use Rattle.rb_io.specs.Views.{FilesGoOn, SourceSeen};
 ghost use Rattle.bolt_core.specs.Program.{file_limit};
-ghost use Rattle.bolt_cli.specs.ParsedWords.{inputs_read};
+ghost use Rattle.bolt_cli.specs.WordViews.{inputs_read};
 ghost use Rattle.bolt_cli.specs.World.{world};
 ghost use Rattle.bolt_cli.specs.rewrite.InputAnswers.{IsMadeOf, IsStopped};
 ghost use Rattle.bolt_cli.specs.rewrite.Inputs.{InputsRead, made_by};
 
-use crate::refusal::{FILE_LIMIT, refuse};
+use crate::refusal::refuse;
 use crate::status::Status;
 use crate::words::InputWords;
+use bolt_core::limits::FILE_LIMIT;
 use bolt_core::{Rewritten, rewrite};
 use rb_bytes::fault::{Fault, FaultKind, Refusal};
 use rb_io::{Files, ReadAll, Sink};

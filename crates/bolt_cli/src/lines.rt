@@ -1,7 +1,7 @@
 // The lines that commands print.
 ghost use Rattle.std.specs.Prelude.{◌≡◌, ◌*◌, ◌++◌, OnOk, OnErr, IfOk, codes};
 ghost use Rattle.rb_bytes.specs.Text.{hexadecimal};
-ghost use Rattle.bolt_core.specs.Seen.{counts_seen};
+ghost use Rattle.bolt_core.specs.RewriteCounts.{counts_seen};
 ghost use Rattle.bolt_cli.specs.Lines.{usage_line, refused_line, refused_end, summary_line, after_steps, ended_line, cause_name};
 ghost use Rattle.bolt_cli.specs.Lines.{trapped_line, reason_name, stuck_line, out_of_steps_line};
 
@@ -16,7 +16,8 @@ use sym_machine::Reason;
 pub fn usage() -> &'static [u8]
     ensures { result.now ≡ usage_line }
 {
-    b"usage: rewrite IN PROFILE OUT MAP, map IN PROFILE, run [--symbols] [--steps N] FILE [WORDS], lookup FILE ADDR, sample N OUT PROFILE, record [--steps N] FILE OUT [WORDS]\n"
+    b"usage: rewrite IN PROFILE OUT MAP, map IN PROFILE, run [--symbols] [--steps N] FILE [WORDS], \
+      lookup FILE ADDR, sample N OUT PROFILE, record [--steps N] FILE OUT [WORDS]\n"
 }
 
 fn put_refused_end(line: &mut Vec<u8>, fault: &Fault) -> Result<(), NoMemory>

@@ -2,7 +2,7 @@
 ghost use Rattle.std.specs.Prelude.{Some};
 ghost use Rattle.rb_io.specs.Views.{SourceSeen};
 ghost use Rattle.bolt_cli.specs.CommandAnswers.{Serves};
-ghost use Rattle.bolt_cli.specs.ParsedWords.{inputs_read};
+ghost use Rattle.bolt_cli.specs.WordViews.{inputs_read};
 ghost use Rattle.bolt_cli.specs.Words.{Map};
 ghost use Rattle.bolt_cli.specs.World.{world};
 

@@ -3,15 +3,15 @@
 ghost use Rattle.std.specs.Prelude.{◌≤◌, Some};
 ghost use Rattle.rb_io.specs.Views.{FilesGoOn, SourceSeen};
 ghost use Rattle.rv_memory.specs.Limits.{IsWithinLimits};
-ghost use Rattle.rv_machine.specs.Stepped.{answered};
+ghost use Rattle.rv_machine.specs.StepResults.{answered};
 ghost use Rattle.bolt_cli.specs.CommandAnswers.{KeepsInput, Serves};
-ghost use Rattle.bolt_cli.specs.ParsedWords.{record_read, run_read};
+ghost use Rattle.bolt_cli.specs.WordViews.{record_read, run_read};
 ghost use Rattle.bolt_cli.specs.recording.Phases.{Finished, ProfileWritten};
 ghost use Rattle.bolt_cli.specs.recording.RecordAnswers.{RecordsRun};
 ghost use Rattle.bolt_cli.specs.recording.RecordRuns.{IsRecordProgram};
 ghost use Rattle.bolt_cli.specs.recording.RecordedCode.{recorded_program};
 ghost use Rattle.bolt_cli.specs.run.ByteRuns.{byte_machine};
-ghost use Rattle.bolt_cli.specs.run.Endings.{closing_line};
+ghost use Rattle.bolt_cli.specs.run.RunOutcomes.{closing_line};
 ghost use Rattle.bolt_cli.specs.run.RunAnswers.{IsExact};
 ghost use Rattle.bolt_cli.specs.Words.{Record};
 ghost use Rattle.bolt_cli.specs.World.{world};

@@ -9,9 +9,6 @@ use rb_bytes::fault::Refusal;
 use rb_io::Sink;
 use std::alloc::Global;
 
-/// The longest file that is read, in bytes.
-pub const FILE_LIMIT: usize = 64 * 1024 * 1024;
-
 /// Prints the line of a refusal, and says how the command ends.
 pub fn refuse<O: Sink>(alloc: Global, refusal: Refusal, out: &mut O) -> Status
     ensures refused { Refuses refusal result (O.seen out.old) (O.seen out.new) }

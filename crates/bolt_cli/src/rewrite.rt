@@ -3,7 +3,7 @@
 ghost use Rattle.std.specs.Prelude.{◌≡◌, ◌≢◌, ◌≤◌, IfOk, Some};
 ghost use Rattle.rb_io.specs.Views.{FilesGoOn, SourceSeen};
 ghost use Rattle.bolt_cli.specs.CommandAnswers.{Serves};
-ghost use Rattle.bolt_cli.specs.ParsedWords.{names_read};
+ghost use Rattle.bolt_cli.specs.WordViews.{names_read};
 ghost use Rattle.bolt_cli.specs.Words.{Rewrite};
 ghost use Rattle.bolt_cli.specs.World.{world};
 ghost use Rattle.bolt_cli.specs.rewrite.Inputs.{made_by};

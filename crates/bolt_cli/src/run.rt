@@ -2,7 +2,7 @@
 ghost use Rattle.std.specs.Prelude.{Some};
 ghost use Rattle.rv_memory.specs.Limits.{IsWithinLimits};
 ghost use Rattle.bolt_cli.specs.CommandAnswers.{KeepsInput, Serves};
-ghost use Rattle.bolt_cli.specs.ParsedWords.{run_on, run_read};
+ghost use Rattle.bolt_cli.specs.WordViews.{run_on, run_read};
 ghost use Rattle.bolt_cli.specs.World.{world};
 
 use crate::byte_run::{run_elf, runnable_file};

@@ -5,8 +5,9 @@ ghost use Rattle.rb_io.specs.Views.{FilesGoOn};
 ghost use Rattle.bolt_core.specs.Program.{file_limit};
 ghost use Rattle.bolt_cli.specs.run.Phases.{IsUnread};
 
-use crate::refusal::{FILE_LIMIT, refuse};
+use crate::refusal::refuse;
 use crate::status::Status;
+use bolt_core::limits::FILE_LIMIT;
 use rb_bytes::fault::{Fault, FaultKind, Refusal};
 use rb_io::{Files, ReadAll, Sink};
 use std::alloc::Global;

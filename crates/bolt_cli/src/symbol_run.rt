@@ -1,12 +1,13 @@
 // Runs on the symbol machine.
 ghost use Rattle.std.specs.Prelude.{◌≡◌, ◌≤◌};
 ghost use Rattle.rv_memory.specs.Limits.{IsWithinLimits};
-ghost use Rattle.sym_machine.specs.State.{answered};
-ghost use Rattle.bolt_cli.specs.ParsedWords.{run_read};
+ghost use Rattle.sym_machine.specs.MachineState.{answered};
+ghost use Rattle.bolt_cli.specs.WordViews.{run_read};
 ghost use Rattle.bolt_cli.specs.run.ParsedCode.{program_of};
 ghost use Rattle.bolt_cli.specs.run.Phases.{status_of};
 ghost use Rattle.bolt_cli.specs.run.RunAnswers.{AnswersRun, IsExact};
 ghost use Rattle.bolt_cli.specs.run.SymbolRuns.{IsSymbolProgram, symbol_machine};
+ghost use Rattle.run_core.specs.Inputs.{outside_of};
 
 use crate::closing::close;
 use crate::status::Status;
@@ -41,8 +42,8 @@ pub fn run_program<I: Source, O: Sink>(
     requires program { IsSymbolProgram program.now.elf.file.now (program_of program.now) }
     requires limits { IsWithinLimits (run_read words.now).words }
     ensures answer { AnswersRun (symbol_machine (program_of program.now) (run_read words.now).words) words.now.limit
-        (record { input = I.seen input.old; output = O.seen out.old })
-        (record { input = I.seen input.new; output = O.seen out.new }) result }
+        (outside_of (I.seen input.old) (O.seen out.old))
+        (outside_of (I.seen input.new) (O.seen out.new)) result }
     ensures exact { IsExact (symbol_machine (program_of program.now) (run_read words.now).words) words.now.limit
         (I.seen input.old).left result }
     ensures reads { (I.seen input.old).faults ≤ (I.seen input.new).faults }

@@ -38,7 +38,8 @@ const SUMMARY: &[u8] =
 const ENDED: &[u8] = b"[ended 7 after 4 steps]\n";
 
 const USAGE: &[u8] =
-    b"usage: rewrite IN PROFILE OUT MAP, map IN PROFILE, run [--symbols] [--steps N] FILE [WORDS], lookup FILE ADDR, sample N OUT PROFILE, record [--steps N] FILE OUT [WORDS]\n";
+    b"usage: rewrite IN PROFILE OUT MAP, map IN PROFILE, run [--symbols] [--steps N] FILE [WORDS], \
+      lookup FILE ADDR, sample N OUT PROFILE, record [--steps N] FILE OUT [WORDS]\n";
 
 fn text(alloc: Global, text: &str) -> Result<String, Fail> {
     Ok(String::from_str(alloc, text)?)

@@ -2,7 +2,7 @@
 ghost use Rattle.std.specs.Prelude.{map, string_bytes, None, Some};
 ghost use Rattle.rb_io.specs.Views.{SourceSeen};
 ghost use Rattle.bolt_cli.specs.CommandAnswers.{KeepsInput, Serves};
-ghost use Rattle.bolt_cli.specs.ParsedWords.{NamesDiffer, WordsFit, command_read};
+ghost use Rattle.bolt_cli.specs.WordViews.{NamesDiffer, WordsFit, command_read};
 ghost use Rattle.bolt_cli.specs.Words.{command_of};
 ghost use Rattle.bolt_cli.specs.World.{world};
 

@@ -2,15 +2,16 @@
 ghost use Rattle.std.specs.Prelude.{◌≡◌, ◌≢◌, ◌∷◌, [], map, string_bytes, IfSome, IfNone, IfOk};
 ghost use Rattle.std.specs.Option.{option_map};
 ghost use Rattle.std.specs.List.{list_all};
-ghost use Rattle.std.specs.Char.{is_ascii_digit};
 ghost use Rattle.rv_memory.specs.Limits.{IsWithinLimits};
-ghost use Rattle.bolt_cli.specs.Words.{Positional, steps_name, symbols_name, is_option, option_of, decimal_number, limit_of};
+ghost use Rattle.bolt_cli.specs.Words.{Positional, steps_name, symbols_name, is_option, option_of, limit_of};
 ghost use Rattle.bolt_cli.specs.Words.{symbols_of, values_of, is_run_argument, is_record_argument, positionals, holds_zero};
 ghost use Rattle.bolt_cli.specs.Words.{are_program_words, rewrite_names_of, map_of, run_of, record_of, command_of};
-ghost use Rattle.bolt_cli.specs.ParsedWords.{IsNoPositional, argument_read, arguments_of, command_read, run_read, record_read};
-ghost use Rattle.bolt_cli.specs.ParsedWords.{inputs_read, names_read, NamesDiffer, WordsFit};
+ghost use Rattle.bolt_cli.specs.WordViews.{IsNoPositional, argument_read, arguments_of, command_read, run_read, record_read};
+ghost use Rattle.bolt_cli.specs.WordViews.{inputs_read, names_read, NamesDiffer, WordsFit};
 
 use rb_bytes::fault::NoMemory;
+use rb_bytes::number::decimal_number;
+use rv_memory::stack::{MOST_WORD_BYTES, MOST_WORDS};
 use std::alloc::Global;
 
 // The option that limits a run's steps.
@@ -21,11 +22,6 @@ const SYMBOLS: &str = "--symbols";
 
 // The most steps of a run where no option says it.
 const DEFAULT_LIMIT: u64 = 100_000_000;
-
-// The most words, and bytes of them, that a program may be given.
-const MOST_WORDS: usize = 64;
-
-const MOST_BYTES: usize = 65536;
 
 /// An input and its profile.
 #[derive(Clone, Copy)]
@@ -195,26 +191,6 @@ fn map_words(mut arguments: Arguments<'_>) -> Option<InputWords<'_>>
     Some(InputWords { file, profile })
 }
 
-// A text of decimal digits, or of nothing.
-fn is_decimal(text: &str) -> bool
-    ensures { result ≡ list_all is_ascii_digit text.now }
-{
-    text.bytes().all(|byte| byte.is_ascii_digit())
-}
-
-// The number that 1 to 20 decimal digits write.
-fn number(digits: &str) -> Option<u64>
-    ensures { result ≡ decimal_number digits.now }
-{
-    if digits.len() > 20 {
-        return None;
-    }
-    if !is_decimal(digits) {
-        return None;
-    }
-    digits.parse().ok()
-}
-
 // No options but those of `run` are among the arguments.
 fn has_run_arguments(arguments: Arguments<'_>) -> bool
     ensures { result ≡ list_all is_run_argument (arguments_of arguments.entry) }
@@ -236,7 +212,7 @@ fn has_run_arguments(arguments: Arguments<'_>) -> bool
 }
 
 // The most steps of a run.
-#[tactic(auto, using(crate::proofs::RunArguments::limit_of_none, crate::proofs::RunArguments::limit_of_bad, crate::proofs::RunArguments::limit_of_number))]
+#[tactic(auto, using(crate::proofs::StepLimit::of_none, crate::proofs::StepLimit::of_bad, crate::proofs::StepLimit::of_number))]
 fn limit(arguments: Arguments<'_>) -> Option<u64>
     ensures { result ≡ limit_of (values_of steps_name (arguments_of arguments.entry)) }
 {
@@ -254,7 +230,7 @@ fn limit(arguments: Arguments<'_>) -> Option<u64>
         if limit.is_some() {
             return None;
         }
-        limit = Some(number(value?)?);
+        limit = Some(decimal_number(value?.as_bytes())?);
     }
     Some(limit.unwrap_or(DEFAULT_LIMIT))
 }
@@ -305,7 +281,7 @@ fn are_program_words(arguments: Arguments<'_>) -> bool
     ensures { result ≡ are_program_words (positionals (arguments_of arguments.entry)) }
 {
     let mut words_left = MOST_WORDS;
-    let mut bytes_left = MOST_BYTES;
+    let mut bytes_left = MOST_WORD_BYTES;
     for argument in arguments {
         if let Argument::Positional(word) = argument {
             if words_left == 0 || word.len() > bytes_left || holds_zero(word) {

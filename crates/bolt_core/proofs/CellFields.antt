@@ -7,11 +7,11 @@ use Rattle.rv_code.specs.declared.cell.CodeCell.{CodeCell}
 use Rattle.rv_code.specs.layout.ProgramCode.{ProgramCode}
 use Rattle.elf_image.specs.code.Cells.{CanBeCell, Content, Counts, Field, IsCell, counts, gives_way}
 use Rattle.elf_image.specs.declared.elf.Elf.{Elf}
-use Rattle.move_law.specs.Laws.{IsAccepted}
+use Rattle.move_law.specs.Laws.{IsAcceptedCode}
 use Rattle.move_law.proofs.Lists.{all_of, pairs_in, pairs_map}
 use Rattle.move_law.proofs.code.CellWidths.{can_of, field_width}
 use Rattle.code_emit.specs.Output.{new_cell}
-use Rattle.elf_write.specs.Written.{CanHold}
+use Rattle.elf_write.specs.WrittenFile.{CanHold}
 
 below : (w n : ℕ) → (w ≡ 4) ⊎ (w ≡ 8) → n % 256 ^ w < 256 ^ w
 below w n (inl four) = subst (λ (k : ℕ). n % 256 ^ k < 256 ^ k) (sym four) (omega arith)
@@ -54,7 +54,7 @@ module _ (elf : Elf) (tabled : List (ℕ × ℕ)) where
         | inr past ↦ past
       ]
 
-module _ (elf : Elf) (code : ProgramCode) (accepted : IsAccepted elf code) (new : ℕ → ℕ) where
+module _ (elf : Elf) (code : ProgramCode) (accepted : IsAcceptedCode elf code) (new : ℕ → ℕ) where
   pub all_hold : All (CanHold elf) (map (new_cell new) code.cells)
   all_hold =
       All-map (CanHold elf) (new_cell new) code.cells

@@ -8,18 +8,18 @@ use Rattle.rv_code.specs.declared.placed.Func.{Func}
 use Rattle.rv_code.specs.declared.placed.Placed.{Placed}
 use Rattle.rv_code.specs.isa.Action.{action_of}
 use Rattle.rv_code.specs.isa.HalfRows as rows
-use Rattle.rv_code.specs.layout.Flow.{action_at, insts_of, is_call, target, target_of}
+use Rattle.rv_code.specs.layout.Flow.{action_at, insts_of, is_call, target, target_of, is_short}
 use Rattle.rv_code.specs.layout.ProgramCode.{ProgramCode, is_code_address}
 use Rattle.elf_image.specs.code.Functions.{AreInsts, IsCodeAddress}
 use Rattle.elf_image.specs.code.Parts.{IsInstAt, IsWholePart, StartsIn, after, at_start, halfword_at, length_at}
 use Rattle.elf_image.specs.declared.elf.Elf.{Elf}
 use Rattle.elf_image.specs.faults.FunctionFaults.{direct}
 use Rattle.elf_image.proofs.LoadLemmas.{Contains-cons_cases}
-use Rattle.move_law.specs.Laws.{IsAccepted}
+use Rattle.move_law.specs.Laws.{IsAcceptedCode}
 use Rattle.move_law.proofs.Lists.{all_of}
 use Rattle.move_law.proofs.code.InstLists.{function_code, inst_at, length_of}
 use Rattle.move_law.proofs.code.InstPlaces.{lies, some_length}
-use Rattle.branch_fixup.specs.Inputs.{AreDirect, KeepsShort, LeadsToCode, StaysIn, is_short}
+use Rattle.branch_fixup.specs.Inputs.{AreDirect, KeepsShort, LeadsToCode, StaysIn}
 
 -- A JAL of two bytes saves nothing.
 
@@ -97,7 +97,7 @@ module _ (elf : Elf) where
           subst (λ (x : Placed). StartsIn elf start end x.addr) same (subst (StartsIn elf start end) (sym are.0) here)
       by (inr k) rest = rest k
 
-module _ (elf : Elf) (code : ProgramCode) (accepted : IsAccepted elf code) where
+module _ (elf : Elf) (code : ProgramCode) (accepted : IsAcceptedCode elf code) where
   code_address : (p : Placed) → Contains (insts_of code.funcs) p → IsCodeAddress elf accepted.tabled p.addr
   code_address p is_in =
       let l = lies elf code accepted p is_in in

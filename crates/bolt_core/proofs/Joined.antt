@@ -12,21 +12,21 @@ use Rattle.elf_image.specs.memory.LoadedBytes.{byte_at, is_in_range, number_in}
 use Rattle.addr_map.specs.declared.span.Span.{Span}
 use Rattle.addr_map.specs.Spans.{new}
 use Rattle.sym_machine.specs.HiddenFields.{is_hidden_field}
-use Rattle.sym_machine.specs.SymStart.{range_of}
-use Rattle.move_law.specs.Faithful.{GoesOn, IsFaithful, IsMapOf, KeepsByte, KeepsCell, KeepsInst, is_in_entry_field}
-use Rattle.move_law.specs.Rewrite.{AreCodeBytes, Goes, Rewrite, executable_of}
+use Rattle.sym_machine.specs.SymStart.{code_cell_range}
+use Rattle.move_law.specs.FaithfulRewrite.{GoesOn, IsFaithful, IsMapOf, KeepsByte, KeepsCell, KeepsInst, is_in_entry_field}
+use Rattle.move_law.specs.Rewrite.{AreCodeBytes, Goes, Rewrite, executable_of, memory_of}
 use Rattle.move_law.proofs.Lists.{all_of, in_map}
 use Rattle.code_emit.specs.Output.{Puts, new_cell}
 use Rattle.code_emit.proofs.CellNumbers.{cell_number_is}
-use Rattle.elf_write.specs.Area.{start_of}
+use Rattle.elf_write.specs.Area.{area_start_of}
 use Rattle.elf_write.specs.Source.{Source, cell_range}
-use Rattle.elf_write.specs.Written.{IsWritten, memory_of}
+use Rattle.elf_write.specs.WrittenFile.{IsWritten}
 
 same_ranges : (new : ℕ → ℕ) (a : ℕ) (cells : List CodeCell) →
     list_any (λ cell. is_in_range a (cell_range cell)) (map (new_cell new) cells) ≡ list_any
-    (λ cell. is_in_range a (range_of cell)) cells
+    (λ cell. is_in_range a (code_cell_range cell)) cells
 same_ranges new a [] = refl
-same_ranges new a (c ∷ cs) = ap (λ (b : Bool). is_in_range a (range_of c) || b) (same_ranges new a cs)
+same_ranges new a (c ∷ cs) = ap (λ (b : Bool). is_in_range a (code_cell_range c) || b) (same_ranges new a cs)
 
 module _ (elf : Elf) (code : ProgramCode) (tight : Bool) (spans : List Span) (bytes w : List ℕ) where
   abbrev pub source : Source
@@ -43,7 +43,7 @@ module _ (elf : Elf) (code : ProgramCode) (tight : Bool) (spans : List Span) (by
   rewrite = record { input = elf; code = code; tight = tight; output = executable_of w; spans = spans }
 
   module _ (written : IsWritten source tight w) where
-    pub puts : Puts rewrite code.funcs spans (start_of elf.segments.items tight) bytes
+    pub puts : Puts rewrite code.funcs spans (area_start_of elf.segments.items tight) bytes
     puts = record {
       funcs_are = refl;
       spans_are = refl;
@@ -63,7 +63,7 @@ module _ (elf : Elf) (code : ProgramCode) (tight : Bool) (spans : List Span) (by
 
     keeps_cell : (c : CodeCell) → Contains code.cells c → KeepsCell rewrite c
     keeps_cell c is_in =
-        let holds = All-contains (λ cell. number_in (memory_of w) cell.0 cell.1 ≡ Some cell.2)
+        let holds = All-contains (λ cell. number_in (memory_of (executable_of w)) cell.0 cell.1 ≡ Some cell.2)
         (map (new_cell (new spans)) code.cells)
         (new_cell (new spans) c) written.cells (in_map (new_cell (new spans)) code.cells c is_in) in
         holds ∙ ap (λ (n : ℕ). Some (n % 256 ^ c.width)) (cell_number_is rewrite c.kind)

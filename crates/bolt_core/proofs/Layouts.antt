@@ -1,21 +1,18 @@
 -- What holds of a program that is laid out, and why it isn't.
-use Rattle.std.proofs.Common.{◌≡◌, refl, sym, subst, ℕ, inl, inr, All, List, Option, Some, None, arith, length}
+use Rattle.std.proofs.Common.{◌≡◌, sym, subst, ℕ, inr, All, List, Option, Some, None}
 use Rattle.rb_bytes.specs.Fault.{fault_at}
 use Rattle.rb_bytes.specs.declared.fault.Fault.{Fault}
-use Rattle.rb_bytes.specs.declared.fault.FaultKind.TheVariants.{TooLarge, Truncated}
+use Rattle.rb_bytes.specs.declared.fault.FaultKind.TheVariants.{TooLarge}
 use Rattle.rb_bytes.specs.declared.fault.Refusal.{Refusal}
 use Rattle.rb_bytes.specs.declared.fault.Refusal.TheVariants as refusal
 use Rattle.rv_code.specs.declared.cell.CodeCell.{CodeCell}
 use Rattle.rv_code.specs.declared.layout.Chains.{Chains}
 use Rattle.rv_code.specs.layout.FunctionLists.{AreLaidOut}
+use Rattle.rv_code.specs.layout.FunctionMembers.{IsOfFunction}
 use Rattle.elf_image.specs.faults.FirstFault.{IsFree, IsRefusalBy}
 use Rattle.elf_image.specs.faults.LowestPlace.{IsLowest}
-use Rattle.elf_image.specs.faults.Truncation.{HasHeader}
-use Rattle.elf_image.specs.file.Header.{header_size}
-use Rattle.std.proofs.lemmas.Bool.{cases_lt}
-use Rattle.rv_code.specs.layout.InFunctions.{IsOfFunction}
-use Rattle.edge_profile.specs.BlockPlaces.{AreApart}
-use Rattle.edge_profile.specs.Counts.{Counted}
+use Rattle.edge_profile.specs.BlockPlaces.{AreBlocksApart}
+use Rattle.edge_profile.specs.PairCounts.{Counted}
 use Rattle.edge_profile.proofs.BlockLists.{AreApart-blocks}
 use Rattle.rv_code.proofs.lists.Blocks.{blocks_of_functions}
 use Rattle.cfg_build.proofs.layout.AcceptedCode.{AreLaidOut-functions}
@@ -32,17 +29,11 @@ module _ (file profile : List ℕ) (x : Program) (is : IsProgramOf file profile 
       AreLaidOut-functions x.elf file is.read (is.plain).sound tabled x.code.funcs (is.code_is).funcs
       (λ kind place has. is.no_fault kind place (inr has))
 
-  pub apart_blocks : AreApart x.blocks
+  pub apart_blocks : AreBlocksApart x.blocks
   apart_blocks = AreApart-blocks x.code x.blocks is.blocks_are
 
   pub stretches : All (IsOfFunction x.code.funcs) x.blocks
   stretches = blocks_of_functions x.code x.blocks is.blocks_are
-
-  pub has_header : HasHeader file
-  has_header = elim (cases_lt (length file) header_size) [
-    | inl short ↦ absurd ((is.plain).sound Truncated 0 (inl ((λ whole. absurd (omega (arith, short, whole))), refl)))
-    | inr whole ↦ whole
-  ]
 
   pub misplaced_refusal : (r : Refusal) → IsRefusalBy (HasPlacementFault x.code.funcs x.blocks) r → IsRefusal file profile r
   misplaced_refusal (refusal.Fault fault) has = misplaced x is has

@@ -8,12 +8,13 @@ use Rattle.rv_code.specs.layout.Blocks.{AreBlocks}
 use Rattle.rv_code.specs.layout.Flow.{falls_at, target_of}
 use Rattle.rv_code.specs.layout.FunctionLists.{AreLaidOut}
 use Rattle.rv_code.specs.layout.ProgramCode.{ProgramCode, is_code_address}
+use Rattle.rv_code.specs.layout.BlockOrders.{func_of_block}
+use Rattle.rv_code.specs.layout.FunctionMembers.{function_at}
 use Rattle.branch_fixup.specs.Inputs as fixup
 use Rattle.branch_fixup.specs.Strips.{Strip, insts_in}
 use Rattle.branch_fixup.proofs.Covered.{block_of}
 use Rattle.branch_fixup.proofs.Planned.{StripOf, in_block, strip_for}
-use Rattle.func_place.specs.Nearness.{AreTiedNear, owner}
-use Rattle.rv_code.specs.layout.InFunctions.{function_at}
+use Rattle.func_place.specs.Nearness.{AreTiedNear}
 use Rattle.func_place.specs.Units.{LeadsInto, backward, falls_into, itself, jumps, onward}
 use Rattle.func_place.proofs.TiedBlocks.{function_at-inst}
 
@@ -43,7 +44,7 @@ module _ (code : ProgramCode) (blocks : List Block) (are : AreBlocks code blocks
       by None e x = absurd x
       by (Some m) e x = at m e (slice_get blocks m) refl x
 
-  owner_is : (k m : ℕ) (b : Block) → slice_get order k ≡ Some m → slice_get blocks m ≡ Some b → owner blocks
+  owner_is : (k m : ℕ) (b : Block) → slice_get order k ≡ Some m → slice_get blocks m ≡ Some b → func_of_block blocks
       (slice_index order k) ≡ b.func
   owner_is k m b place block =
       let e : slice_index order k ≡ m = get_or_from_slice_get order k m 0 place in
@@ -87,8 +88,9 @@ module _ (code : ProgramCode) (blocks : List Block) (are : AreBlocks code blocks
             into = into;
           }
 
-  between : (i j a : ℕ) (b : Stands i (λ b. fixup.Leads code.funcs b a)) (c : Stands j (λ c. fixup.BlockHolds code.funcs c a)) →
-      LeadsInto code.funcs (owner blocks (slice_index order i)) (owner blocks (slice_index order j))
+  between : (i j a : ℕ) (b : Stands i (λ b. fixup.BlockLeads code.funcs b a))
+      (c : Stands j (λ c. fixup.BlockHolds code.funcs c a)) →
+      LeadsInto code.funcs (func_of_block blocks (slice_index order i)) (func_of_block blocks (slice_index order j))
   between i j a b c =
       let (s, x) = strip_for code b.b (block_of code blocks b.m b.b are b.block) in
       let (t, y) = strip_for code c.b (block_of code blocks c.m c.b are c.block) in
@@ -97,18 +99,19 @@ module _ (code : ProgramCode) (blocks : List Block) (are : AreBlocks code blocks
       x.strip_is b.has in
       let holds : Any (λ p. p.addr ≡ a) (insts_in t) =
       subst (λ (o : Option Strip). IsSomeAnd o (λ t. Any (λ p. p.addr ≡ a) (insts_in t))) y.strip_is c.has in
-      subst (λ (f : ℕ). LeadsInto code.funcs f (owner blocks (slice_index order j))) (sym (owner_is i b.m b.b b.place b.block))
+      subst (λ (f : ℕ). LeadsInto code.funcs f (func_of_block blocks (slice_index order j)))
+      (sym (owner_is i b.m b.b b.place b.block))
       (subst (λ (g : ℕ). LeadsInto code.funcs (b.b).func g) (sym (owner_is j c.m c.b c.place c.block))
       (leads_into b.b c.b s t x y a leads holds))
 
   pub near_blocks : AreTiedNear code.funcs blocks order → fixup.AreNear code.funcs blocks order
   near_blocks near = record {
     ahead = λ i j a upto x y.
-        let b = stands i (λ b. fixup.Leads code.funcs b a) x in
+        let b = stands i (λ b. fixup.BlockLeads code.funcs b a) x in
         let c = stands j (λ c. fixup.BlockHolds code.funcs c a) y in
         near i j upto (slice_get_within order j c.m c.place) (onward itself (between i j a b c));
     back = λ i j a upto x y.
-        let b = stands i (λ b. fixup.Leads code.funcs b a) x in
+        let b = stands i (λ b. fixup.BlockLeads code.funcs b a) x in
         let c = stands j (λ c. fixup.BlockHolds code.funcs c a) y in
         near j i upto (slice_get_within order i b.m b.place) (backward itself (between i j a b c));
   }

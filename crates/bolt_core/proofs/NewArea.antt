@@ -11,9 +11,9 @@ use Rattle.elf_image.specs.declared.segment.Segment.{Segment}
 use Rattle.elf_image.specs.faults.SegmentLayout.{address_end}
 use Rattle.elf_image.specs.file.Header.{header_size}
 use Rattle.elf_image.specs.memory.CodeSegment.{executable_end}
-use Rattle.elf_write.specs.Area.{start_of}
+use Rattle.elf_write.specs.Area.{area_start_of}
 use Rattle.elf_write.specs.Need.{capped, code_need, need}
-use Rattle.elf_write.specs.NoRoom.{has_no_room, no_room, no_room_fault}
+use Rattle.elf_write.specs.RoomFault.{has_no_room, no_room, no_room_fault}
 use Rattle.elf_write.specs.Room.{area_limit, area_start, code_end, is_tight, pages_from, room, room_above}
 
 fold-min-le : (xs : List ℕ) (a : ℕ) → fold min a xs ≤ a
@@ -46,7 +46,7 @@ room_of segments tight = cond tight (room_above segments) (room segments)
 
 fits_in : (segments : List Segment) (n : ℕ) (tight : Bool) → is_tight segments n ≡ tight → has_no_room segments n ≡ false → 0
     < n →
-    Fits n (start_of segments tight) (cond tight (room_above segments) (room segments))
+    Fits n (area_start_of segments tight) (cond tight (room_above segments) (room segments))
 fits_in segments n true is_so has some =
     let fits = ltb-false (room_above segments) n (both_false (is_tight segments n) (nat_lt (room_above segments) n) is_so has) in
     record { within = fits; low = omega (arith, some, fits) }
@@ -55,7 +55,7 @@ fits_in segments n false is_so has some =
     (ltb-false (room segments) n is_so)
 
 pub fits_somewhere : (segments : List Segment) (n : ℕ) → no_room segments n ≡ None → 0 < n →
-    Fits n (start_of segments (is_tight segments n)) (cond (is_tight segments n) (room_above segments) (room segments))
+    Fits n (area_start_of segments (is_tight segments n)) (cond (is_tight segments n) (room_above segments) (room segments))
 fits_somewhere segments n none some =
     fits_in segments n (is_tight segments n) refl (no_fault (has_no_room segments n) (no_room_fault segments n) none) some
 
@@ -65,7 +65,7 @@ uncapped : (n limit : ℕ) → capped n ≤ limit → limit ≤ address_end → 
 uncapped n limit low high = omega (arith, low, high)
 
 pub record HasRoom (elf : Elf) (funcs : List Func) (blocks : List Block) : Type 0 where
-  pub low : start_of elf.segments.items (is_tight elf.segments.items (need elf funcs blocks)) + code_need funcs blocks ≤
+  pub low : area_start_of elf.segments.items (is_tight elf.segments.items (need elf funcs blocks)) + code_need funcs blocks ≤
       address_end
   pub within : code_need funcs blocks ≤ cond (is_tight elf.segments.items (need elf funcs blocks))
       (room_above elf.segments.items) (room elf.segments.items)
@@ -86,7 +86,7 @@ has_room elf funcs blocks some none =
     let n : ℕ = need elf funcs blocks in
     let fits = fits_somewhere elf.segments.items n none
     (some_capped (code_need funcs blocks) _ some) in
-    let both = by_sum (code_need funcs blocks) _ (start_of elf.segments.items (is_tight elf.segments.items n))
+    let both = by_sum (code_need funcs blocks) _ (area_start_of elf.segments.items (is_tight elf.segments.items n))
     (cond (is_tight elf.segments.items n) (room_above elf.segments.items) (room elf.segments.items)) fits in
     record { low = both.0; within = both.1 }
 
@@ -95,6 +95,6 @@ has_room elf funcs blocks some none =
 even_up : (n : ℕ) → (n + 15) / 16 * 16 % 2 ≡ 0
 even_up n = omega arith
 
-pub start_even : (segments : List Segment) (tight : Bool) → start_of segments tight % 2 ≡ 0
+pub start_even : (segments : List Segment) (tight : Bool) → area_start_of segments tight % 2 ≡ 0
 start_even segments true = even_up _
 start_even segments false = even_up _

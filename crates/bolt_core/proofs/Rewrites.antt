@@ -13,13 +13,13 @@ use Rattle.elf_image.specs.faults.FileFaults.{IsSound}
 use Rattle.elf_image.specs.faults.FirstFault.{IsRefusalBy}
 use Rattle.elf_image.specs.file.ParsedFile.{IsElfOf}
 use Rattle.addr_map.specs.declared.span.Span.{Span}
-use Rattle.move_law.specs.Faithful.{IsFaithful}
+use Rattle.move_law.specs.FaithfulRewrite.{IsFaithful}
 use Rattle.move_law.specs.Laws.{KeepsCode}
 use Rattle.move_law.proofs.Law.{simulation_law}
 use Rattle.cfg_build.specs.NamedAddresses.{code_of}
 use Rattle.bolt_core.specs.Program.{Fit, IsPlain, IsProgramOf, Program, tabled}
 use Rattle.bolt_core.specs.Refusals.{IsRefusal, bad_code}
-use Rattle.bolt_core.specs.Rewriting.{KeepsRuns, KeepsRunsSoFar, rewrite_of}
+use Rattle.bolt_core.specs.RewrittenFile.{KeepsRuns, KeepsRunsSoFar, rewrite_of}
 use Rattle.bolt_core.specs.Tables.{HasTables}
 use Rattle.bolt_core.specs.declared.file_code.FileCode.{FileCode}
 use Rattle.bolt_core.specs.internal.ReadCode.{IsReadCode, program_of}

@@ -9,7 +9,7 @@ use Rattle.rv_code.specs.layout.FunctionLists.{AreLaidOut}
 use Rattle.rv_code.specs.layout.ProgramCode.{IsNamed, ProgramCode, by_entry, is_code_address}
 use Rattle.rv_code.specs.layout.WorstSizes.{worst_size_of_block}
 use Rattle.elf_image.specs.declared.elf.Elf.{Elf}
-use Rattle.move_law.specs.Laws.{IsAccepted}
+use Rattle.move_law.specs.Laws.{IsAcceptedCode}
 use Rattle.move_law.proofs.code.InstLists.{function_code}
 use Rattle.branch_fixup.proofs.Covered.{covers}
 use Rattle.branch_fixup.proofs.Falls.{code_at}
@@ -17,7 +17,7 @@ use Rattle.rv_code.proofs.lists.Blocks.{blocks_of_functions}
 use Rattle.func_place.proofs.WorstPositive.{worst_some}
 use Rattle.elf_write.specs.Need.{code_need}
 
-module _ (elf : Elf) (code : ProgramCode) (accepted : IsAccepted elf code) where
+module _ (elf : Elf) (code : ProgramCode) (accepted : IsAcceptedCode elf code) where
   entry_code : is_code_address code.funcs elf.entry ≡ true
   entry_code = by (is_code_address code.funcs elf.entry) refl
     where

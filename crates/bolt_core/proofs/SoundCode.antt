@@ -5,7 +5,7 @@ use Rattle.rv_code.specs.layout.Flow.{insts_of}
 use Rattle.rv_code.specs.layout.FunctionLists.{AreLaidOut}
 use Rattle.rv_code.specs.layout.ProgramCode.{ProgramCode}
 use Rattle.elf_image.specs.declared.elf.Elf.{Elf}
-use Rattle.move_law.specs.Laws.{IsAccepted}
+use Rattle.move_law.specs.Laws.{IsAcceptedCode}
 use Rattle.cfg_build.proofs.layout.AcceptedCode.{AreLaidOut-functions}
 use Rattle.branch_fixup.specs.Inputs.{AreDirect}
 use Rattle.code_emit.specs.Inputs.{CanMove, IsLowCell}
@@ -15,7 +15,7 @@ use Rattle.bolt_core.specs.internal.ReadCode.{IsSoundCode}
 use Rattle.bolt_core.proofs.Direct.{are_direct}
 
 module _ (elf : Elf) (code : ProgramCode) (is : IsSoundCode elf code) where
-  abbrev pub accepted : IsAccepted elf code
+  abbrev pub accepted : IsAcceptedCode elf code
   accepted = record {
     bytes = is.bytes;
     read = is.read;

@@ -9,18 +9,18 @@ use Rattle.rv_reloc.specs.declared.refs.Refs.{Refs}
 use Rattle.elf_image.specs.declared.elf.Elf.{Elf}
 use Rattle.elf_image.specs.faults.FileFaults.{IsSound}
 use Rattle.elf_image.specs.file.Header.{segments_of}
-use Rattle.move_law.specs.Faithful.{IsFaithful}
+use Rattle.move_law.specs.FaithfulRewrite.{IsFaithful}
 use Rattle.cfg_build.specs.NamedAddresses.{code_of}
 use Rattle.branch_fixup.specs.Strips.{pieces_of, strips_of}
 use Rattle.code_emit.proofs.SpanBytes.{span_bytes}
-use Rattle.elf_write.specs.Carried.{HoldsBytes}
+use Rattle.elf_write.specs.CarriedBytes.{HoldsBytes}
 use Rattle.elf_write.specs.FrontBytes.{KeepsFront}
-use Rattle.elf_write.specs.Source.{IsPlaced}
-use Rattle.elf_write.specs.Written.{IsWritten}
+use Rattle.elf_write.specs.Source.{HasPlace}
+use Rattle.elf_write.specs.WrittenFile.{IsWritten}
 use Rattle.bolt_core.specs.Refusals.{CanStand}
-use Rattle.bolt_core.specs.Rewriting.{FollowsSegments, IsLaidOutBy, is_tight_program, new_start, rewrite_of}
+use Rattle.bolt_core.specs.RewrittenFile.{FollowsSegments, IsLaidOutBy, is_tight_program, new_start, rewrite_of}
 use Rattle.bolt_core.specs.declared.moving.MovedCode.{MovedCode}
-use Rattle.bolt_core.specs.internal.MovedCode.{IsMoved}
+use Rattle.bolt_core.specs.internal.MovedCode.{IsMovedCode}
 use Rattle.bolt_core.specs.internal.ReadCode.{IsSoundCode, program_of}
 use Rattle.bolt_core.specs.internal.WrittenCode.{source_of}
 use Rattle.bolt_core.proofs.Joined.{faithful, puts, source}
@@ -46,8 +46,8 @@ module _ (elf : Elf) (funcs : List Func) (refs : Refs) (blocks : List Block) (is
   fits : (n at most have : ℕ) → n ≤ most → most ≤ have → at + n - at ≤ have
   fits n at most have short within = omega (arith, short, within)
 
-  module _ (order : List ℕ) (m : MovedCode) (moved : IsMoved funcs refs.cells.items blocks order start m) where
-    pub placed : IsPlaced (source_of elf m.emitted m.map) tight
+  module _ (order : List ℕ) (m : MovedCode) (moved : IsMovedCode funcs refs.cells.items blocks order start m) where
+    pub placed : HasPlace (source_of elf m.emitted m.map) tight
     placed = record {
       some =
           some_code m.map start (length m.emitted.code.items) elf.entry moved.stretch
@@ -57,7 +57,7 @@ module _ (elf : Elf) (funcs : List Func) (refs : Refs) (blocks : List Block) (is
       fits = fits (length m.emitted.code.items) start _ _ moved.fits place.within;
     }
 
-    module _ (w : List ℕ) (given : (t : Bool) → IsPlaced (source_of elf m.emitted m.map) t → IsWritten
+    module _ (w : List ℕ) (given : (t : Bool) → HasPlace (source_of elf m.emitted m.map) t → IsWritten
         (source_of elf m.emitted m.map) t w) where
       written : IsWritten (source elf code tight m.map m.emitted.code.items w) tight w
       written =

@@ -3,7 +3,7 @@ pub mod Limits
 pub mod ProfileOrder
 pub mod Program
 pub mod Refusals
-pub mod Rewriting
-pub mod Seen
+pub mod RewriteCounts
+pub mod RewrittenFile
 pub mod Tables
 pub mod internal

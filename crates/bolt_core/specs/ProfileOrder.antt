@@ -6,10 +6,11 @@ use Rattle.rv_code.specs.declared.layout.Chains.{Chains}
 use Rattle.rv_code.specs.declared.placed.Block.{Block}
 use Rattle.rv_code.specs.declared.placed.Func.{Func}
 use Rattle.rv_code.specs.layout.Edges.{AreTablePairs, AreEdges}
-use Rattle.edge_profile.specs.Counts.{Counted, ArePairs, count_in}
+use Rattle.rv_code.specs.layout.BlockOrders.{list_of}
+use Rattle.edge_profile.specs.PairCounts.{Counted, ArePairs, count_in}
 use Rattle.edge_profile.specs.Weights.{block_weight, is_hot_block}
 use Rattle.block_layout.specs.EdgeCounts.{first_address}
-use Rattle.block_layout.specs.Parts.{AreChains, list_of}
+use Rattle.block_layout.specs.Parts.{AreChains}
 use Rattle.func_place.specs.Placement.{IsPlacement}
 use Rattle.bolt_core.specs.Program.{Program}
 

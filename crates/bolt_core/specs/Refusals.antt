@@ -13,10 +13,10 @@ use Rattle.elf_image.specs.faults.FileFaults.{IsFirstFault, IsSound}
 use Rattle.elf_image.specs.faults.FirstFault.{IsAnswered, IsFree}
 use Rattle.elf_image.specs.faults.LowestPlace.{IsLowest}
 use Rattle.elf_image.specs.file.ParsedFile.{IsElfOf}
-use Rattle.edge_profile.specs.Counts.{Counted}
+use Rattle.edge_profile.specs.PairCounts.{Counted}
 use Rattle.func_place.specs.Faults.{HasPlacementFault}
 use Rattle.elf_write.specs.Need.{need}
-use Rattle.elf_write.specs.NoRoom.{no_room}
+use Rattle.elf_write.specs.RoomFault.{no_room}
 use Rattle.bolt_core.specs.Limits.{IsTooLarge}
 use Rattle.bolt_core.specs.ProfileOrder.{ArePartsBy, cold_starts}
 use Rattle.bolt_core.specs.Program.{Fit, IsPlain, IsProgramOf, Program, file_limit, tabled}
@@ -51,7 +51,7 @@ pub data IsRefused (file profile : List ℕ) (fault : Fault) : Type 0 where
       IsLowest (IsTooLarge x.elf x.code.funcs (cold_starts x.code.funcs x.blocks parts)) (Some place) →
       fault ≡ fault_at TooLarge place → IsRefused file profile fault
 
--- a refusal names such a fault; memory may be wanting at any time
+-- a refusal names such a fault; memory may run out at any time
 abbrev pub IsRefusal : List ℕ → List ℕ → Refusal → Type 0
 IsRefusal file profile (refusal.Fault fault) = IsRefused file profile fault
 IsRefusal file profile refusal.Memory = Unit {0}

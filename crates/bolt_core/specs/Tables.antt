@@ -1,15 +1,13 @@
 -- Tables with addresses of code that aren't carried to moved code yet.
-use Rattle.std.specs.Prelude.{◌≡◌, ◌⊎◌, ◌<◌, ◌||◌, ℕ, Bool, List, IsTrue, nat_eq, codes}
-use Rattle.std.specs.List.{starts_with}
-use Rattle.std.specs.Str.{bytes_eq}
+use Rattle.std.specs.Prelude.{◌≡◌, ◌⊎◌, ◌<◌, ◌||◌, ℕ, Bool, List, IsTrue}
 use Rattle.elf_image.specs.declared.segment.TheConstants.{PT_GNU_EH_FRAME}
 use Rattle.elf_image.specs.file.Header.{e_phnum, e_shnum, segment}
+use Rattle.elf_image.specs.file.SectionNames.{names_debug, names_frames}
 use Rattle.elf_image.specs.file.Sections.{section_header, section_name}
 
 -- the name of an unwind table, of its index, or of one of DWARF's tables
 abbrev pub is_table_name : List ℕ → Bool
-is_table_name name =
-    bytes_eq name (codes ".eh_frame") || bytes_eq name (codes ".eh_frame_hdr") || starts_with nat_eq name (codes ".debug_")
+is_table_name name = names_frames name || names_debug name
 
 -- the section of an index has such a name, and has contents
 pub record IsTableSection (file : List ℕ) (i : ℕ) : Type 0 where

@@ -1,4 +1,4 @@
-pub mod Laid
+pub mod LaidOutProgram
 pub mod MovedCode
 pub mod ReadCode
 pub mod ReadTables

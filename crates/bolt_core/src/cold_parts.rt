@@ -2,7 +2,7 @@
 ghost use Rattle.std.specs.Prelude.{◌≡◌, ◌++◌, [], IfOk, OnOk};
 ghost use Rattle.std.specs.List.{cons_option};
 ghost use Rattle.block_layout.specs.EdgeCounts.{first_address};
-ghost use Rattle.block_layout.specs.Parts.{list_of};
+ghost use Rattle.rv_code.specs.layout.BlockOrders.{list_of};
 ghost use Rattle.bolt_core.specs.ProfileOrder.{cold_start, cold_starts};
 
 use rb_bytes::fault::NoMemory;

@@ -1,7 +1,7 @@
 // How many blocks are hot.
 ghost use Rattle.std.specs.Prelude.{◌≡◌, IfOk, count_by, nat_lt};
 ghost use Rattle.rv_code.specs.layout.FunctionLists.{AreLaidOut};
-ghost use Rattle.edge_profile.specs.BlockPlaces.{AreApart};
+ghost use Rattle.edge_profile.specs.BlockPlaces.{AreBlocksApart};
 ghost use Rattle.edge_profile.specs.Profile.{pairs_of};
 ghost use Rattle.edge_profile.specs.Weights.{is_hot_block};
 
@@ -31,7 +31,7 @@ pub fn count_hot(
     counts: &Profile,
 ) -> Result<u64, NoMemory>
     requires funcs { AreLaidOut funcs.now }
-    requires blocks { AreApart blocks.now }
+    requires blocks { AreBlocksApart blocks.now }
     ensures { IfOk result (λ hot. hot ≡ count_by (is_hot_block (pairs_of counts.now) funcs.now) blocks.now) }
 {
     let weights = block_weights(alloc, funcs, blocks, counts)?;

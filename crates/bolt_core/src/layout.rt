@@ -3,7 +3,7 @@ ghost use Rattle.std.specs.Prelude.{IfOk, IfErr};
 ghost use Rattle.elf_write.specs.Need.{HasNoFrames};
 ghost use Rattle.bolt_core.specs.Program.{IsProgramOf};
 ghost use Rattle.bolt_core.specs.Refusals.{IsRefusal};
-ghost use Rattle.bolt_core.specs.internal.Laid.{IsLaidOut};
+ghost use Rattle.bolt_core.specs.internal.LaidOutProgram.{IsLaidOut};
 ghost use Rattle.bolt_core.specs.internal.ReadCode.{program_seen};
 
 use crate::cold_parts::cold_starts;

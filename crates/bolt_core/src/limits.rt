@@ -1,7 +1,6 @@
-// Limits on what is rewritten, beside that on the length of files.
+// Limits on what is rewritten.
 ghost use Rattle.std.specs.Prelude.{◌≡◌, IfOk};
 ghost use Rattle.rv_code.specs.layout.FunctionLists.{AreLaidOut};
-ghost use Rattle.elf_image.specs.faults.Truncation.{HasHeader};
 ghost use Rattle.elf_image.specs.faults.LowestPlace.{IsLowest};
 ghost use Rattle.elf_image.specs.file.ParsedFile.{IsElfOf};
 ghost use Rattle.bolt_core.specs.Limits.{IsTooLarge};
@@ -12,6 +11,9 @@ use elf_write::name_weight;
 use rb_bytes::fault::NoMemory;
 use rv_code::Func;
 use std::alloc::Global;
+
+/// The most bytes of a file, and of a profile: 64 MiB.
+pub const FILE_LIMIT: usize = 64 * 1024 * 1024;
 
 /// The most functions that a file may have.
 pub const FUNCTION_LIMIT: usize = 200_000;
@@ -31,7 +33,6 @@ pub fn passed_limit(
     cold: &[u64],
 ) -> Result<Option<u64>, NoMemory>
     requires fields { IsElfOf elf.now.file.now elf.now }
-    requires header { HasHeader elf.now.file.now }
     requires laid { AreLaidOut funcs.now }
     ensures { IfOk result (IsLowest (IsTooLarge elf.now funcs.now cold.now)) }
 {

@@ -3,9 +3,10 @@ ghost use Rattle.std.specs.Prelude.{◌≡◌, ◌+◌, ◌%◌, ◌<◌, ◌≤
 ghost use Rattle.rv_code.specs.layout.Flow.{insts_of};
 ghost use Rattle.rv_code.specs.layout.FunctionLists.{AreLaidOut, address_end};
 ghost use Rattle.rv_code.specs.layout.WorstSizes.{worst_size_of_block};
-ghost use Rattle.branch_fixup.specs.Inputs.{AreBlocksOf, AreDirect, AreNear, IsOrder};
+ghost use Rattle.rv_code.specs.layout.BlockOrders.{HasAllBlocks};
+ghost use Rattle.branch_fixup.specs.Inputs.{AreBlocksOf, AreDirect, AreNear};
 ghost use Rattle.code_emit.specs.Inputs.{CanMove, IsLowCell};
-ghost use Rattle.bolt_core.specs.internal.MovedCode.{IsMoved};
+ghost use Rattle.bolt_core.specs.internal.MovedCode.{IsMovedCode};
 
 use addr_map::AddrMap;
 use branch_fixup::forms;
@@ -36,12 +37,12 @@ pub fn move_code(
     requires insts { All CanMove (insts_of funcs.now) }
     requires cells { All IsLowCell cells.now }
     requires blocks { AreBlocksOf funcs.now blocks.now }
-    requires order { IsOrder blocks.now plan.now.order.items }
+    requires order { HasAllBlocks blocks.now plan.now.order.items }
     requires near { AreNear funcs.now blocks.now plan.now.order.items }
     requires even { start % 2 ≡ 0 }
     requires some { 0 < start }
     requires room { start + sum_by (worst_size_of_block funcs.now) blocks.now ≤ address_end }
-    ensures { IfOk result (IsMoved funcs.now cells.now blocks.now plan.now.order.items start) }
+    ensures { IfOk result (IsMovedCode funcs.now cells.now blocks.now plan.now.order.items start) }
 {
     let (forms, spans) = forms(alloc, funcs, blocks, plan, start)?;
     let map = AddrMap::new(alloc, spans)?;

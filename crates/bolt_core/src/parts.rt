@@ -1,8 +1,8 @@
 // The hot and the cold part of each function.
 ghost use Rattle.std.specs.Prelude.{IfOk, length};
 ghost use Rattle.rv_code.specs.layout.FunctionLists.{AreLaidOut};
-ghost use Rattle.edge_profile.specs.Profile.{counts_of, pairs_of};
-ghost use Rattle.block_layout.specs.Parts.{HaveAllBlocks};
+ghost use Rattle.rv_code.specs.layout.BlockOrders.{HaveAllBlocks};
+ghost use Rattle.edge_profile.specs.Profile.{profile_counts, pairs_of};
 ghost use Rattle.branch_fixup.specs.Inputs.{AreBlocksOf};
 ghost use Rattle.bolt_core.specs.ProfileOrder.{ArePartsOf};
 
@@ -25,8 +25,8 @@ pub fn parts(
 ) -> Result<Chains, NoMemory>
     requires laid { AreLaidOut funcs.now }
     requires blocks { AreBlocksOf funcs.now blocks.now }
-    ensures parts { IfOk result (ArePartsOf (counts_of counts.now) (pairs_of counts.now) funcs.now cells.now blocks.now) }
-    ensures all { IfOk result (HaveAllBlocks (length funcs.now) blocks.now) }
+    ensures parts { IfOk result (ArePartsOf (profile_counts counts.now) (pairs_of counts.now) funcs.now cells.now blocks.now) }
+    ensures all { IfOk result (HaveAllBlocks funcs.now blocks.now) }
 {
     let targets = tables(alloc, funcs, cells)?;
     let edges = edges(alloc, funcs, blocks, &targets)?;

@@ -3,13 +3,14 @@ ghost use Rattle.std.specs.Prelude.{◌≡◌, ◌<◌, All, IfOk, IfErr, MatchO
 ghost use Rattle.elf_write.specs.Need.{HasNoFrames};
 ghost use Rattle.bolt_core.specs.Program.{Fit, IsProgramOf};
 ghost use Rattle.bolt_core.specs.Refusals.{IsRefusal, IsRefused};
-ghost use Rattle.bolt_core.specs.Rewriting.{IsRewritten};
-ghost use Rattle.bolt_core.specs.Seen.{counts_seen};
+ghost use Rattle.bolt_core.specs.RewrittenFile.{IsRewritten};
+ghost use Rattle.bolt_core.specs.RewriteCounts.{counts_seen};
 ghost use Rattle.bolt_core.specs.internal.ReadCode.{program_seen};
 
 use crate::counting::count_insts;
 use crate::file_code::read_code;
 use crate::layout::lay_out;
+use crate::limits::FILE_LIMIT;
 use crate::program::Program;
 use crate::tables::has_tables;
 use crate::writing::{Output, write_program};
@@ -18,9 +19,6 @@ use cfg_build::blocks;
 use elf_image::read;
 use rb_bytes::fault::{Fault, FaultKind, Refusal};
 use std::alloc::Global;
-
-/// The most bytes of a file, and of a profile: 64 MiB.
-const FILE_LIMIT: usize = 64 * 1024 * 1024;
 
 /// A rewritten file, and what was counted of it.
 #[derive(Drop)]

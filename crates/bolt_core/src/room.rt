@@ -1,13 +1,13 @@
 // Where the new code goes.
 ghost use Rattle.std.specs.Prelude.{◌≡◌, ◌<◌, IfOk, IfErr, OnOk, None};
-ghost use Rattle.elf_write.specs.Area.{start_of};
+ghost use Rattle.elf_write.specs.Area.{area_start_of};
 ghost use Rattle.elf_write.specs.Need.{HasNoFrames, need};
-ghost use Rattle.elf_write.specs.NoRoom.{no_room};
+ghost use Rattle.elf_write.specs.RoomFault.{no_room};
 ghost use Rattle.elf_write.specs.Room.{is_tight};
 ghost use Rattle.bolt_core.specs.internal.RoomRefusals.{IsNoRoom};
 
-use elf_image::{Elf, Segment};
-use elf_write::capacity::{area_above, area_start};
+use elf_image::Elf;
+use elf_write::area::area_start_of;
 use elf_write::{is_tight, need, no_room};
 use rb_bytes::fault::{NoMemory, Refusal};
 use rv_code::{Block, Func};
@@ -20,22 +20,6 @@ pub struct Site {
     pub start: u64,
 }
 
-// The address at which the new code starts. No code starts at 0, or at an address that doesn't fit 64 bits.
-fn start_of(segments: &[Segment], tight: bool) -> Result<u64, NoMemory>
-    ensures start { IfOk result (λ start. start ≡ start_of segments.now tight) }
-    ensures some { IfOk result (λ start. 0 < start) }
-{
-    let start = if tight {
-        area_above(segments)
-    } else {
-        area_start(segments)
-    };
-    if start == 0 || start > u64::MAX as u128 {
-        return Err(NoMemory);
-    }
-    Ok(start as u64)
-}
-
 /// Where the new code of blocks goes, or the fault `NoRoom`. The file has no unwind table with contents.
 pub fn new_site(
     alloc: Global,
@@ -45,7 +29,7 @@ pub fn new_site(
 ) -> Result<Site, Refusal>
     requires { HasNoFrames elf.now }
     ensures tight { IfOk result (λ site. site.tight ≡ is_tight elf.now.segments.items (need elf.now funcs.now blocks.now)) }
-    ensures start { IfOk result (λ site. site.start ≡ start_of elf.now.segments.items site.tight) }
+    ensures start { IfOk result (λ site. site.start ≡ area_start_of elf.now.segments.items site.tight) }
     ensures some { IfOk result (λ site. 0 < site.start) }
     ensures room { OnOk result (no_room elf.now.segments.items (need elf.now funcs.now blocks.now) ≡ None) }
     ensures refused { IfErr result (IsNoRoom elf.now (need elf.now funcs.now blocks.now)) }
@@ -56,6 +40,6 @@ pub fn new_site(
         None => {}
     }
     let tight = is_tight(elf, need);
-    let start = start_of(&elf.segments, tight)?;
+    let start = area_start_of(&elf.segments, tight)?;
     Ok(Site { tight, start })
 }

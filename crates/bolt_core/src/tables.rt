@@ -7,7 +7,7 @@ ghost use Rattle.elf_write.specs.Need.{HasNoFrames};
 ghost use Rattle.bolt_core.specs.Tables.{HasTables, is_table_name};
 ghost use Rattle.bolt_core.specs.internal.ReadTables.{is_table_section, is_index_header};
 
-use elf_image::named::{EH_FRAME, EH_FRAME_HDR};
+use elf_image::named::{names_debug, names_frames};
 use elf_image::segment::PT_GNU_EH_FRAME;
 use elf_image::{Elf, Section, Segment};
 
@@ -15,7 +15,7 @@ use elf_image::{Elf, Section, Segment};
 fn is_table_name(name: &[u8]) -> bool
     ensures { result ≡ is_table_name name.now }
 {
-    name == EH_FRAME || name == EH_FRAME_HDR || name.starts_with(b".debug_")
+    names_frames(name) || names_debug(name)
 }
 
 // A section with such a name and with contents.

@@ -1,9 +1,10 @@
 // The written file of a program that is laid out.
 ghost use Rattle.std.specs.Prelude.{◌≡◌, ◌<◌, IfOk};
 ghost use Rattle.rv_code.specs.layout.Blocks.{AreBlocks};
-ghost use Rattle.func_place.specs.Nearness.{AreTiedNear, HasAllBlocks};
+ghost use Rattle.rv_code.specs.layout.BlockOrders.{HasAllBlocks};
+ghost use Rattle.func_place.specs.Nearness.{AreTiedNear};
 ghost use Rattle.bolt_core.specs.Refusals.{CanStand};
-ghost use Rattle.bolt_core.specs.Rewriting.{new_start};
+ghost use Rattle.bolt_core.specs.RewrittenFile.{new_start};
 ghost use Rattle.bolt_core.specs.internal.ReadCode.{IsSoundCode, program_seen};
 ghost use Rattle.bolt_core.specs.internal.WrittenCode.{IsOutput};
 

@@ -7,13 +7,13 @@ use Rattle.rv_code.specs.declared.cause.Cause.{Cause}
 use Rattle.run_core.specs.Answers.{Answer}
 use Rattle.run_core.specs.Answers as answer
 use Rattle.bolt_cli.specs.recording.RecordAnswers.{HoldsProfile}
-use Rattle.bolt_cli.specs.run.Endings.{closing_line}
+use Rattle.bolt_cli.specs.run.RunOutcomes.{closing_line}
 use Rattle.bolt_cli.specs.World.{World, WriteRose}
 use Rattle.bolt_cli.specs.declared.status.Status.{Status}
 use Rattle.bolt_cli.specs.declared.status.Status.TheVariants as status
 
 -- The profile was written and then the line printed, and `came` answered; or the profile fails, or the line; or neither was
--- written, for want of memory.
+-- written, out of memory.
 pub data ProfileWritten (result came : Status) (out text line : List ℕ) (old new : World) : Type 0 where
   written : result ≡ came → HoldsProfile out text old new → TakesAll old.output.taken new.output.taken line
       → ProfileWritten result came out text line old new
@@ -31,7 +31,7 @@ pub record LeavesAll (result came : Status) (old new : World) : Type 0 where
   pub unwritten : Unchanged old.files.content new.files.content
   pub unprinted : new.output.taken ≡ old.output.taken
 
--- After a run that came out its profile is written, and nothing after a fault, or for want of memory.
+-- After a run that came out its profile is written, and nothing after an I/O error, or out of memory.
 module _ (result : Status) (out text : List ℕ) (steps : ℕ) (old new : World) where
   abbrev pub SaysProfile : Status → Type 0
   SaysProfile came = ProfileWritten result came out text (closing_line came steps) old new

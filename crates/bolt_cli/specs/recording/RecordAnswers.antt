@@ -7,11 +7,11 @@ use Rattle.rv_code.specs.declared.cause.Cause.{Cause}
 use Rattle.rv_code.specs.machine.Step.{ByteState}
 use Rattle.edge_record.specs.EdgeText.{IsEdgeText}
 use Rattle.edge_record.specs.Moves.{Move}
-use Rattle.edge_record.specs.Recording.{ByteMoves}
-use Rattle.edge_record.specs.Taken.{taken}
+use Rattle.edge_record.specs.RecordedRuns.{ByteMoves}
+use Rattle.edge_record.specs.MoveCounts.{taken}
 use Rattle.bolt_core.specs.Program.{Program}
 use Rattle.bolt_cli.specs.recording.RecordRuns.{IsRecordProgram, record_machine, record_mode, moving_steps}
-use Rattle.bolt_cli.specs.run.Endings.{Ending, answer_of}
+use Rattle.bolt_cli.specs.run.RunOutcomes.{Ending, answer_of}
 use Rattle.bolt_cli.specs.run.RunAnswers.{Taking, ComesOut, StopsRun, FileAnswers, IsComplete, NoRunErrors, outside}
 use Rattle.bolt_cli.specs.Words.{RecordWords}
 use Rattle.bolt_cli.specs.World.{World, WriteRose}

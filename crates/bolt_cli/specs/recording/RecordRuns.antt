@@ -6,7 +6,7 @@ use Rattle.rv_code.specs.layout.Blocks.{AreBlocks}
 use Rattle.elf_image.specs.code.FileCode.{IsCodeOf}
 use Rattle.bolt_core.specs.Program.{Program, tabled}
 use Rattle.bolt_cli.specs.run.ByteRuns.{byte_machine}
-use Rattle.bolt_cli.specs.run.Endings.{Ending, Ends, Loaded}
+use Rattle.bolt_cli.specs.run.RunOutcomes.{Ending, Ends, Loaded}
 use Rattle.bolt_cli.specs.run.Modes.{Mode}
 use Rattle.bolt_cli.specs.run.SymbolRuns.{IsFaultless, CanRunSymbols, CannotRunSymbols}
 

@@ -5,11 +5,12 @@ use Rattle.rb_io.specs.Views.{FilesSeen}
 use Rattle.rb_bytes.specs.declared.fault.Fault.{Fault}
 use Rattle.addr_map.specs.declared.span.Span.{Span}
 use Rattle.bolt_core.specs.Refusals.{IsRefused}
-use Rattle.bolt_core.specs.Rewriting.{RewriteCounts, IsRewritten}
+use Rattle.bolt_core.specs.RewriteCounts.{RewriteCounts}
+use Rattle.bolt_core.specs.RewrittenFile.{IsRewritten}
 use Rattle.bolt_cli.specs.declared.status.Status.{Status}
 use Rattle.bolt_cli.specs.declared.status.Status.TheVariants as status
 use Rattle.bolt_cli.specs.Lines.{refused_line}
-use Rattle.bolt_cli.specs.Printing.{PrintsOnly, IsSilent, FailsAtLine}
+use Rattle.bolt_cli.specs.PrintedLines.{PrintsOnly, IsSilent, FailsAtLine}
 use Rattle.bolt_cli.specs.Words.{InputNames}
 use Rattle.bolt_cli.specs.World.{World, ReadRose}
 

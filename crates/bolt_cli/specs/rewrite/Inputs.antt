@@ -1,7 +1,7 @@
 -- What reading the two files came to, where contents are told.
 use Rattle.std.specs.Prelude.{◌<◌, ◌≤◌, ℕ, List, Option, IsSomeAnd, length}
 use Rattle.bolt_core.specs.Program.{file_limit}
-use Rattle.bolt_core.specs.Seen.{counts_seen}
+use Rattle.bolt_core.specs.RewriteCounts.{counts_seen}
 use Rattle.bolt_core.specs.declared.rewriting.Rewritten.{Rewritten}
 use Rattle.bolt_cli.specs.Words.{InputNames}
 use Rattle.bolt_cli.specs.rewrite.InputAnswers.{AreRead, MadeRewrite}

@@ -3,7 +3,7 @@ use Rattle.std.specs.Prelude.{◌≡◌}
 use Rattle.addr_map.specs.MapText.{map_text}
 use Rattle.bolt_cli.specs.declared.status.Status.{Status}
 use Rattle.bolt_cli.specs.declared.status.Status.TheVariants as status
-use Rattle.bolt_cli.specs.Printing.{PrintsOnly, FailsAtLine}
+use Rattle.bolt_cli.specs.PrintedLines.{PrintsOnly, FailsAtLine}
 use Rattle.bolt_cli.specs.rewrite.InputAnswers.{IsMadeOf, IsStopped, MadeRewrite}
 use Rattle.bolt_cli.specs.Words.{InputNames}
 use Rattle.bolt_cli.specs.World.{World}

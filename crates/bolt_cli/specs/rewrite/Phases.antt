@@ -15,14 +15,14 @@ use Rattle.bolt_cli.specs.declared.status.Status.{Status}
 use Rattle.bolt_cli.specs.declared.status.Status.TheVariants as status
 use Rattle.bolt_cli.specs.declared.rewrite.Texts.{Texts}
 
--- The line was printed, and `done` answered; or a prefix of it; or none of it, for want of memory.
+-- The line was printed, and `done` answered; or a prefix of it; or none of it, out of memory.
 pub data LinePrinted (answer done : Status) (text : List ℕ) (before after : SinkSeen) : Type 0 where
   all_printed : answer ≡ done → TakesAll before.taken after.taken text → LinePrinted answer done text before after
   prefix_printed : answer ≡ status.WriteFault → Rose before.faults after.faults → TakesPrefix before.taken after.taken text
       → LinePrinted answer done text before after
   none_printed : answer ≡ status.NoMemory → after.taken ≡ before.taken → LinePrinted answer done text before after
 
--- the line of a refusal was printed so, or memory is wanting and nothing was printed
+-- the line of a refusal was printed so, or memory ran out and nothing was printed
 abbrev pub Refuses : Refusal → Status → SinkSeen → SinkSeen → Type 0
 Refuses (refusal.Fault fault) answer before after =
     LinePrinted answer (status.Refused fault) (refused_line fault) before after

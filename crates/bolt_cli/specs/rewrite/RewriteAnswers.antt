@@ -6,7 +6,7 @@ use Rattle.addr_map.specs.MapText.{map_text}
 use Rattle.bolt_cli.specs.declared.status.Status.{Status}
 use Rattle.bolt_cli.specs.declared.status.Status.TheVariants as status
 use Rattle.bolt_cli.specs.Lines.{summary_line}
-use Rattle.bolt_cli.specs.Printing.{FailsToPrint}
+use Rattle.bolt_cli.specs.PrintedLines.{FailsToPrint}
 use Rattle.bolt_cli.specs.rewrite.InputAnswers.{IsMadeOf, IsStopped, MadeRewrite, NoInputErrors}
 use Rattle.bolt_cli.specs.Words.{RewriteNames}
 use Rattle.bolt_cli.specs.World.{World, WriteRose}

@@ -9,7 +9,7 @@ use Rattle.elf_image.specs.faults.FileFaults.{IsFirstFault, IsSound}
 use Rattle.elf_image.specs.memory.Start.{start}
 use Rattle.bolt_core.specs.CodeLimit.{HasTooMuchCode}
 use Rattle.bolt_core.specs.Program.{file_limit}
-use Rattle.bolt_cli.specs.run.Endings.{Loaded}
+use Rattle.bolt_cli.specs.run.RunOutcomes.{Loaded}
 use Rattle.bolt_cli.specs.run.Modes.{Mode}
 use Rattle.bolt_cli.specs.declared.status.Status.TheVariants as status
 

@@ -1,7 +1,7 @@
 -- The modes of the command `run`: on which machine files are run, and which files.
 use Rattle.std.specs.Prelude.{List, ℕ}
 use Rattle.rb_bytes.specs.declared.fault.Fault.{Fault}
-use Rattle.bolt_cli.specs.run.Endings.{Loaded}
+use Rattle.bolt_cli.specs.run.RunOutcomes.{Loaded}
 
 -- P is what the machine is given of a file.
 pub record Mode (P V X C : Type 0) : Type 1 where

@@ -12,11 +12,11 @@ use Rattle.run_core.specs.Answers as answer
 use Rattle.bolt_core.specs.Program.{file_limit}
 use Rattle.bolt_cli.specs.rewrite.Phases.{LinePrinted}
 use Rattle.bolt_cli.specs.Lines.{refused_line}
-use Rattle.bolt_cli.specs.run.Endings.{closing_line}
+use Rattle.bolt_cli.specs.run.RunOutcomes.{closing_line}
 use Rattle.bolt_cli.specs.declared.status.Status.{Status}
 use Rattle.bolt_cli.specs.declared.status.Status.TheVariants as status
 
--- Why the file of a name isn't read: it is too long, and is refused; it can't be read; or memory is wanting.
+-- Why the file of a name isn't read: it is too long, and is refused; it can't be read; or the run is out of memory.
 pub data IsUnread (name : List ℕ) (old new : FilesSeen) (before after : SinkSeen) (answer : Status) : Type 0 where
   too_long : (fault : Fault) → fault ≡ fault_at TooLarge 0
       → (IsTrue old.told → IsSomeAnd (old.content name) (λ file. file_limit < length file))
@@ -26,7 +26,7 @@ pub data IsUnread (name : List ℕ) (old new : FilesSeen) (before after : SinkSe
       → IsUnread name old new before after answer
   no_memory : answer ≡ status.NoMemory → after.taken ≡ before.taken → IsUnread name old new before after answer
 
--- a refusal names a fault of which P holds; memory may be wanting at any time
+-- a refusal names a fault of which P holds; memory may run out at any time
 abbrev pub IsRefusalFor : (Fault → Type 0) → Refusal → Type 0
 IsRefusalFor P (refusal.Fault fault) = P fault
 IsRefusalFor P refusal.Memory = Unit {0}
@@ -48,8 +48,8 @@ is_outcome (status.Stuck pc reason) = true
 is_outcome status.OutOfSteps = true
 is_outcome _ = false
 
--- After a run that came out the closing line was printed, or a prefix of it, or none of it. Nothing is printed after a
--- fault, or for want of memory.
+-- After a run that came out the closing line was printed, or a prefix of it, or none of it. Nothing is printed after an
+-- I/O error, or out of memory.
 module _ (result : Status) (steps : ℕ) (before after : SinkSeen) where
   abbrev pub SaysEnding : Status → Type 0
   SaysEnding came = LinePrinted result came (closing_line came steps) before after

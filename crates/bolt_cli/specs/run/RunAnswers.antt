@@ -7,11 +7,11 @@ use Rattle.rb_io.specs.Names.{Unchanged}
 use Rattle.rb_io.specs.TakenText.{TakesAll, TakesPrefix}
 use Rattle.rb_bytes.specs.declared.fault.Fault.{Fault}
 use Rattle.rv_code.specs.machine.Machine.{State, Event, output, SoFar}
-use Rattle.run_core.specs.Inputs.{Outside, as_told}
+use Rattle.run_core.specs.Inputs.{Outside, as_told, outside_of}
 use Rattle.run_core.specs.StepAnswers.{AsksInput, GivesOutput}
 use Rattle.bolt_cli.specs.Lines.{refused_line}
-use Rattle.bolt_cli.specs.Printing.{PrintsOnly, IsSilent, FailsAtLine}
-use Rattle.bolt_cli.specs.run.Endings.{Ending, Loaded, answer_of, closing_line, RunsTo}
+use Rattle.bolt_cli.specs.PrintedLines.{PrintsOnly, IsSilent, FailsAtLine}
+use Rattle.bolt_cli.specs.run.RunOutcomes.{Ending, Loaded, answer_of, closing_line, RunsTo}
 use Rattle.bolt_cli.specs.run.Modes.{Mode}
 use Rattle.bolt_cli.specs.Words.{RunWords}
 use Rattle.bolt_cli.specs.World.{World, ReadRose}
@@ -79,7 +79,7 @@ module _ {V X C : Type 0} (machine : Loaded V X C) (limit : ℕ) (before after :
     stopped : StopsRun answer → AnswersRun answer
 
 abbrev pub outside : World → Outside
-outside w = record { input = w.input; output = w.output }
+outside w = outside_of w.input w.output
 
 module _ {P V X C : Type 0} (mode : Mode P V X C) (words : RunWords) where
   -- the fault is present, where files are told
@@ -109,13 +109,13 @@ module _ {P V X C : Type 0} (mode : Mode P V X C) (words : RunWords) where
   abbrev pub RunAnswers : World → World → Status → Type 0
   RunAnswers old new answer = FileAnswers (IsUnderWay old new answer) old new answer
 
--- a fault of a file or a stream, or want of memory, cut the command short
+-- an I/O error cut the command short, or it ran out of memory
 pub data IsCutShort (answer : Status) : Type 0 where
   read_fault : answer ≡ status.ReadFault → IsCutShort answer
   write_fault : answer ≡ status.WriteFault → IsCutShort answer
   no_memory : answer ≡ status.NoMemory → IsCutShort answer
 
--- the answer says how a run came out, or that memory was wanting
+-- the answer says how a run came out, or that it ran out of memory
 abbrev pub IsRunAnswer : Status → Type 0
 IsRunAnswer (status.Ended value) = Unit {0}
 IsRunAnswer (status.Trapped pc cause) = Unit {0}
@@ -136,14 +136,14 @@ pub record NoRunErrors (words : RunWords) (old new : World) : Type 0 where
   pub input : Rose old.input.faults new.input.faults → ⊥
   pub out : Rose old.output.faults new.output.faults → ⊥
 
--- Of a file that can be run: where it is quiet, the answer says how a run came out. It is exact for the machine with the
--- file's program, unless it was cut short.
+-- Of a file that can be run: where no I/O errors occurred, the answer says how a run came out. It is exact for the machine
+-- with the file's program, unless it was cut short.
 pub record IsComplete {P V X C : Type 0} (mode : Mode P V X C) (words : RunWords) (file : List ℕ) (left : Option (List ℕ))
-    (answer : Status) (IsQuiet : Type 0) : Type 0 where
-  pub some : IsQuiet → IsRunAnswer answer
+    (answer : Status) (NoErrors : Type 0) : Type 0 where
+  pub some : NoErrors → IsRunAnswer answer
   pub exactly : IsCutShort answer
       ⊎ ((program : P) × (mode.IsProgram file program × IsExact (mode.machine program words.words) words.limit left answer))
 
--- it is quiet where no count of faults rose
+-- none occurred where no count of faults rose
 abbrev pub RunCompletes : {P V X C : Type 0} → Mode P V X C → RunWords → List ℕ → Status → World → World → Type 0
 RunCompletes mode words file answer old new = IsComplete mode words file old.input.left answer (NoRunErrors words old new)

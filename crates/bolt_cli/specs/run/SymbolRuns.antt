@@ -27,7 +27,7 @@ use Rattle.sym_machine.specs.declared.value.Value.{Value}
 use Rattle.bolt_core.specs.CodeLimit.{HasTooMuchCode}
 use Rattle.bolt_core.specs.Program.{file_limit, tabled}
 use Rattle.bolt_core.specs.Limits.{function_limit}
-use Rattle.bolt_cli.specs.run.Endings.{Loaded}
+use Rattle.bolt_cli.specs.run.RunOutcomes.{Loaded}
 use Rattle.bolt_cli.specs.run.Modes.{Mode}
 use Rattle.bolt_cli.specs.declared.status.Status.TheVariants as status
 

@@ -5,6 +5,8 @@ use super::rewriting::{MapText, Rewriting, check, check_in, ends_as_before};
 use super::{REWRITE, answer, files_with};
 use crate::status::Status;
 use rb_bytes::fault::{Fault, FaultKind};
+use std::alloc::Global;
+use std::process::Abort;
 use std::test::Fail;
 
 // A branch over one instruction, of two bytes and of four, that was taken once.
@@ -22,6 +24,17 @@ fn over_full(line: &[u8]) -> Rewriting<'_> {
     }
 }
 
+// What is said of a program whose first branch, `short` or not, goes over `size` bytes.
+fn check_branch(
+    rt: &impl Abort,
+    alloc: Global,
+    short: bool,
+    size: u64,
+    moved: &Rewriting<'_>,
+) -> Result<(), Fail> {
+    check(rt, alloc, branch_over(alloc, short, size)?, moved)
+}
+
 // The branch of two bytes reaches 254 bytes far.
 // C.BEQZ a0,254; C.NOP and JAL x0,-254
 #[test]
@@ -33,7 +46,7 @@ fn a_branch_of_two_bytes_reaches(rt: HostRuntime) -> Result<(), Fail> {
         after: b"[ended 0 after 127 steps]\n",
         ..over_short(b"[ended 0 after 126 steps]\n")
     };
-    check(&rt, rt.alloc(), branch_over(rt.alloc(), true, 252)?, &moved)
+    check_branch(&rt, rt.alloc(), true, 252, &moved)
 }
 
 // BEQ a0,x0,258; C.NOP and JAL x0,-256
@@ -49,7 +62,7 @@ fn a_branch_of_four_bytes_is_wanted(rt: HostRuntime) -> Result<(), Fail> {
         after: b"[ended 0 after 128 steps]\n",
         ..over_short(b"[ended 0 after 127 steps]\n")
     };
-    check(&rt, rt.alloc(), branch_over(rt.alloc(), true, 254)?, &moved)
+    check_branch(&rt, rt.alloc(), true, 254, &moved)
 }
 
 // The branch of four bytes reaches 4094 bytes far.
@@ -63,12 +76,7 @@ fn a_branch_of_four_bytes_reaches(rt: HostRuntime) -> Result<(), Fail> {
         after: b"[ended 0 after 2046 steps]\n",
         ..over_full(b"[ended 0 after 2045 steps]\n")
     };
-    check(
-        &rt,
-        rt.alloc(),
-        branch_over(rt.alloc(), false, 4090)?,
-        &moved,
-    )
+    check_branch(&rt, rt.alloc(), false, 4090, &moved)
 }
 
 // BNE a0,x0,8; JAL x0,4096
@@ -81,12 +89,7 @@ fn a_branch_around_a_jump_is_wanted(rt: HostRuntime) -> Result<(), Fail> {
         after: b"[ended 0 after 2048 steps]\n",
         ..over_full(b"[ended 0 after 2046 steps]\n")
     };
-    check(
-        &rt,
-        rt.alloc(),
-        branch_over(rt.alloc(), false, 4092)?,
-        &moved,
-    )
+    check_branch(&rt, rt.alloc(), false, 4092, &moved)
 }
 
 // A function of 999,996 bytes may fall, which takes 4 more.

@@ -7,13 +7,13 @@ use Rattle.rv_code.specs.declared.placed.Func.{Func}
 use Rattle.rv_code.specs.layout.Flow.{insts_of}
 use Rattle.rv_code.specs.layout.WorstSizes.{worst_size_of_block}
 use Rattle.addr_map.specs.Spans.{IsStretch, new}
-use Rattle.move_law.specs.Faithful.{GoesOn, KeepsInst}
+use Rattle.move_law.specs.FaithfulRewrite.{GoesOn, KeepsInst}
 use Rattle.move_law.specs.Rewrite.{Goes, Rewrite}
-use Rattle.branch_fixup.specs.Forms.{AreMap, end_of}
+use Rattle.branch_fixup.specs.Forms.{AreMap, new_code_end}
 use Rattle.branch_fixup.specs.Strips.{pieces_of, strips_of}
 use Rattle.code_emit.specs.Bytes.{Adds}
 use Rattle.code_emit.specs.Inputs.{AreMapped}
-use Rattle.code_emit.specs.Made.{made_from}
+use Rattle.code_emit.specs.NewInsts.{made_from}
 use Rattle.code_emit.specs.Output.{Puts, new_cell}
 use Rattle.bolt_core.specs.declared.moving.MovedCode.{MovedCode}
 
@@ -24,12 +24,12 @@ KeepsAll funcs m base =
     (r : Rewrite) → Puts r funcs m.map base m.emitted.code.items →
     All (KeepsInst r (Goes r.output)) (insts_of funcs) × All (GoesOn r (Goes r.output)) (insts_of funcs)
 
-pub record IsMoved (funcs : List Func) (cells : List CodeCell) (blocks : List Block) (order : List ℕ) (base : ℕ)
+pub record IsMovedCode (funcs : List Func) (cells : List CodeCell) (blocks : List Block) (order : List ℕ) (base : ℕ)
     (m : MovedCode) : Type 0 where
   pub forms : List Form
   pub mapped : AreMapped (strips_of funcs blocks order) forms base m.map
   pub is_map : AreMap funcs blocks m.map
-  pub length_is : base + length m.emitted.code.items ≡ end_of (strips_of funcs blocks order) base forms
+  pub length_is : base + length m.emitted.code.items ≡ new_code_end (strips_of funcs blocks order) base forms
   pub stretch : IsStretch m.map base (base + length m.emitted.code.items)
   pub fits : length m.emitted.code.items ≤ sum_by (worst_size_of_block funcs) blocks
   pub made : Adds [] m.emitted.code.items (made_from (new m.map) base (pieces_of (strips_of funcs blocks order) forms))

@@ -7,13 +7,13 @@ use Rattle.addr_map.specs.declared.span.Span.{Span}
 use Rattle.elf_image.specs.faults.FileFaults.{IsSound}
 use Rattle.elf_image.specs.file.Header.{segments_of}
 use Rattle.addr_map.specs.Spans.{IsStretch}
-use Rattle.move_law.specs.Faithful.{IsFaithful}
-use Rattle.elf_write.specs.Carried.{HoldsBytes}
+use Rattle.move_law.specs.FaithfulRewrite.{IsFaithful}
+use Rattle.elf_write.specs.CarriedBytes.{HoldsBytes}
 use Rattle.elf_write.specs.FrontBytes.{KeepsFront}
 use Rattle.elf_write.specs.NewTables.{HasNewTables}
 use Rattle.elf_write.specs.Source.{Source}
 use Rattle.bolt_core.specs.Program.{Program}
-use Rattle.bolt_core.specs.Rewriting.{FollowsSegments, IsLaidOutBy, is_tight_program, new_start, rewrite_of}
+use Rattle.bolt_core.specs.RewrittenFile.{FollowsSegments, IsLaidOutBy, is_tight_program, new_start, rewrite_of}
 use Rattle.bolt_core.specs.declared.writing.Output.{Output}
 
 -- new code and cells, and no tables

@@ -5,8 +5,8 @@ use Rattle.elf_image.specs.memory.Start.{start}
 use Rattle.run_core.specs.Inputs.{Outside}
 use Rattle.rv_machine.specs.declared.machine.Machine.{Machine}
 use Rattle.rv_machine.specs.State.{state_of}
-use Rattle.rv_machine.specs.Stepped.{answered}
-use Rattle.bolt_cli.specs.ParsedWords.{run_read}
+use Rattle.rv_machine.specs.StepResults.{answered}
+use Rattle.bolt_cli.specs.WordViews.{run_read}
 use Rattle.bolt_cli.specs.run.ByteRuns.{byte_machine}
 use Rattle.bolt_cli.specs.run.Phases.{Closed}
 use Rattle.bolt_cli.specs.run.RunAnswers.{out_of_memory, stopped, no_memory}

@@ -1,4 +1,4 @@
-use Rattle.bolt_cli.specs.ParsedWords.{inputs_read}
+use Rattle.bolt_cli.specs.WordViews.{inputs_read}
 use Rattle.bolt_cli.specs.World.{World, world}
 use Rattle.bolt_cli.proofs.Answering.{are_read, of_long_file, of_long_profile, is_stopped, refuses}
 use Rattle.bolt_cli.proofs.inputs.rewrite_inputs.Goals as goal

@@ -1,5 +1,5 @@
 use Rattle.std.proofs.Common.{◌≤◌, arith, refl}
-use Rattle.bolt_cli.specs.ParsedWords.{inputs_read}
+use Rattle.bolt_cli.specs.WordViews.{inputs_read}
 use Rattle.bolt_cli.specs.World.{World, world}
 use Rattle.bolt_cli.specs.declared.status.Status.TheVariants as status
 use Rattle.bolt_cli.specs.rewrite.Inputs.{made_by}

@@ -1,5 +1,5 @@
 use Rattle.std.proofs.Common.{◌∙◌, ap, refl, sym}
-use Rattle.rv_machine.specs.Stepped.{answered}
+use Rattle.rv_machine.specs.StepResults.{answered}
 use Rattle.bolt_cli.specs.World.{World, world}
 use Rattle.bolt_cli.proofs.Outcomes.{finished, left}
 use Rattle.bolt_cli.proofs.recording.finish.Goals as goal

@@ -1,9 +1,9 @@
 use Rattle.std.proofs.Common.{◌∙◌, ap, refl, inr}
 use Rattle.std.specs.Prelude.{map, string_bytes}
 use Rattle.rb_io.specs.Views.{SinkSeen}
-use Rattle.rv_machine.specs.Stepped.{answered}
+use Rattle.rv_machine.specs.StepResults.{answered}
 use Rattle.bolt_core.specs.Program.{Program}
-use Rattle.bolt_cli.specs.ParsedWords.{record_read}
+use Rattle.bolt_cli.specs.WordViews.{record_read}
 use Rattle.bolt_cli.specs.recording.RecordAnswers.{stopped}
 use Rattle.bolt_cli.specs.recording.RecordedCode.{recorded_program}
 use Rattle.bolt_cli.specs.recording.RecordRuns.{record_machine}

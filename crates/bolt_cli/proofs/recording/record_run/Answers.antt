@@ -1,5 +1,5 @@
 use Rattle.std.proofs.Common.{◌≤◌, refl, ℕ, List, arith}
-use Rattle.bolt_cli.specs.ParsedWords.{record_read}
+use Rattle.bolt_cli.specs.WordViews.{record_read}
 use Rattle.bolt_cli.specs.recording.RecordRuns.{record_mode}
 use Rattle.bolt_cli.specs.recording.RecordedCode.{recorded_program}
 use Rattle.bolt_cli.specs.Words.{RecordWords}

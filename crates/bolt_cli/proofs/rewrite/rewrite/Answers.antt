@@ -1,5 +1,5 @@
 use Rattle.std.proofs.Common.{◌≤◌, arith}
-use Rattle.bolt_cli.specs.ParsedWords.{names_read}
+use Rattle.bolt_cli.specs.WordViews.{names_read}
 use Rattle.bolt_cli.specs.World.{World, world}
 use Rattle.bolt_cli.specs.rewrite.Inputs.{made_by}
 use Rattle.bolt_cli.specs.rewrite.RewriteAnswers.{stopped}

@@ -1,6 +1,6 @@
 use Rattle.std.proofs.Common.{◌≤◌, Some, refl, subst, sym, arith}
 use Rattle.bolt_cli.specs.CommandAnswers.{Serves}
-use Rattle.bolt_cli.specs.ParsedWords.{run_on, run_read}
+use Rattle.bolt_cli.specs.WordViews.{run_on, run_read}
 use Rattle.bolt_cli.specs.run.ByteRuns.{byte_mode}
 use Rattle.bolt_cli.specs.run.ParsedCode.{program_of}
 use Rattle.bolt_cli.specs.run.SymbolRuns.{symbol_mode}

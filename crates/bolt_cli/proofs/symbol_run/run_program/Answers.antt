@@ -8,9 +8,9 @@ use Rattle.run_core.specs.Inputs.{Outside}
 use Rattle.run_core.specs.Runs.{RunsSomeInput}
 use Rattle.sym_machine.specs.SymStart.{SymProgram, sym_start}
 use Rattle.sym_machine.specs.SymStep.{SymSteps}
-use Rattle.sym_machine.specs.State.{state_of, answered, funcs_of}
+use Rattle.sym_machine.specs.MachineState.{state_of, answered, funcs_of}
 use Rattle.sym_machine.specs.declared.machine.SymMachine.{SymMachine}
-use Rattle.bolt_cli.specs.ParsedWords.{run_read}
+use Rattle.bolt_cli.specs.WordViews.{run_read}
 use Rattle.bolt_cli.specs.run.ParsedCode.{program_of}
 use Rattle.bolt_cli.specs.run.Phases.{Closed}
 use Rattle.bolt_cli.specs.run.RunAnswers.{out_of_memory, stopped, no_memory}

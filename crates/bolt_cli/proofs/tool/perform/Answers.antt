@@ -1,6 +1,6 @@
 use Rattle.std.proofs.Common.{Some, sym, subst}
 use Rattle.bolt_cli.specs.CommandAnswers.{Serves}
-use Rattle.bolt_cli.specs.ParsedWords.{command_read}
+use Rattle.bolt_cli.specs.WordViews.{command_read}
 use Rattle.bolt_cli.specs.World.{World, world}
 use Rattle.bolt_cli.specs.declared.words.Command.{Command}
 use Rattle.bolt_cli.proofs.tool.perform.Goals as goal

@@ -1,6 +1,6 @@
 use Rattle.std.proofs.Common.{◌≡◌}
 use Rattle.bolt_cli.specs.Words.{are_program_words, positionals}
-use Rattle.bolt_cli.specs.ParsedWords.{arguments_of}
+use Rattle.bolt_cli.specs.WordViews.{arguments_of}
 use Rattle.bolt_cli.proofs.RunArguments.{fits}
 use Rattle.bolt_cli.proofs.words.are_program_words.Given as goal
 

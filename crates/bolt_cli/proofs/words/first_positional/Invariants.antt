@@ -1,6 +1,6 @@
 use Rattle.std.proofs.Common.{◌≡◌}
 use Rattle.bolt_cli.specs.Words.{positionals}
-use Rattle.bolt_cli.specs.ParsedWords.{arguments_of}
+use Rattle.bolt_cli.specs.WordViews.{arguments_of}
 use Rattle.bolt_cli.proofs.words.first_positional.Given as goal
 
 abbrev pub invariant-loop-argument : goal.invariant-loop-argument

@@ -1,7 +1,7 @@
 use Rattle.std.proofs.Common.{◌≡◌}
 use Rattle.std.specs.List.{list_all}
 use Rattle.bolt_cli.specs.Words.{is_record_argument}
-use Rattle.bolt_cli.specs.ParsedWords.{arguments_of}
+use Rattle.bolt_cli.specs.WordViews.{arguments_of}
 use Rattle.bolt_cli.proofs.words.has_record_arguments.Given as goal
 
 abbrev pub invariant-loop-argument : goal.invariant-loop-argument

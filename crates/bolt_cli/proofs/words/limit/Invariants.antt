@@ -1,7 +1,7 @@
 use Rattle.std.proofs.Common.{◌≡◌, codes}
 use Rattle.bolt_cli.specs.Words.{limit_of, values_of, steps_name}
-use Rattle.bolt_cli.specs.ParsedWords.{arguments_of}
-use Rattle.bolt_cli.proofs.RunArguments.{limit_after}
+use Rattle.bolt_cli.specs.WordViews.{arguments_of}
+use Rattle.bolt_cli.proofs.StepLimit.{limit_after}
 use Rattle.bolt_cli.proofs.words.limit.Given as goal
 
 abbrev pub invariant-loop-argument : goal.invariant-loop-argument

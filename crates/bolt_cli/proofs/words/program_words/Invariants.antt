@@ -1,6 +1,6 @@
 use Rattle.std.proofs.Common.{◌≡◌, ◌++◌, map, string_bytes}
 use Rattle.bolt_cli.specs.Words.{positionals}
-use Rattle.bolt_cli.specs.ParsedWords.{arguments_of}
+use Rattle.bolt_cli.specs.WordViews.{arguments_of}
 use Rattle.bolt_cli.proofs.words.program_words.Given as goal
 
 abbrev pub invariant-loop-argument : goal.invariant-loop-argument

@@ -1,6 +1,6 @@
 use Rattle.std.proofs.Common.{◌≡◌, codes}
 use Rattle.bolt_cli.specs.Words.{symbols_of, values_of, symbols_name}
-use Rattle.bolt_cli.specs.ParsedWords.{arguments_of}
+use Rattle.bolt_cli.specs.WordViews.{arguments_of}
 use Rattle.bolt_cli.proofs.RunArguments.{symbols_after}
 use Rattle.bolt_cli.proofs.words.symbols.Given as goal
 

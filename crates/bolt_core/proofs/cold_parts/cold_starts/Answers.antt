@@ -1,7 +1,7 @@
 use Rattle.std.proofs.Common.{◌≡◌, ◌∙◌, ap, ℕ, List}
 use Rattle.std.specs.Prelude.{Vec}
 use Rattle.std.specs.declared.alloc.Global.{Global}
-use Rattle.block_layout.specs.Parts.{list_of}
+use Rattle.rv_code.specs.layout.BlockOrders.{list_of}
 use Rattle.bolt_core.specs.ProfileOrder.{cold_start}
 use Rattle.bolt_core.proofs.Ranges.{gathers}
 use Rattle.bolt_core.proofs.cold_parts.cold_starts.Goals as goal

@@ -1,6 +1,6 @@
 use Rattle.std.proofs.Common.{◌≡◌}
 use Rattle.std.specs.List.{filter_map, range_with_len}
-use Rattle.block_layout.specs.Parts.{list_of}
+use Rattle.rv_code.specs.layout.BlockOrders.{list_of}
 use Rattle.bolt_core.specs.ProfileOrder.{cold_start}
 use Rattle.bolt_core.proofs.cold_parts.cold_starts.Given as goal
 

@@ -1,9 +1,9 @@
 use Rattle.std.proofs.Common.{◌∙◌, ap, Bool}
 use Rattle.std.proofs.lemmas.Result.{err_from_is_err_and}
-use Rattle.edge_profile.specs.Profile.{counts_of, pairs_of}
-use Rattle.elf_write.specs.Area.{start_of}
+use Rattle.edge_profile.specs.Profile.{profile_counts, pairs_of}
+use Rattle.elf_write.specs.Area.{area_start_of}
 use Rattle.bolt_core.specs.internal.ReadCode.{program_seen}
-use Rattle.bolt_core.proofs.Layouts.{apart_blocks, has_header, laid_program, misplaced_refusal, no_limit_passed, no_place_refusal}
+use Rattle.bolt_core.proofs.Layouts.{apart_blocks, laid_program, misplaced_refusal, no_limit_passed, no_place_refusal}
 use Rattle.bolt_core.proofs.Layouts.{parts_by, stretches, too_large_refusal}
 use Rattle.bolt_core.proofs.layout.lay_out.Goals as goal
 
@@ -40,10 +40,6 @@ returns-in_err-site-clause-refused c =
     (program_seen c.args.program.now) c.requires.program c.in_ok-plan.ensures.free c.in_err-site.field-0.0
     c.in_err-site.ensures.refused)
 
-pub passed_limit-requires-clause-header : goal.passed_limit-requires-clause-header
-passed_limit-requires-clause-header c = has_header c.args.program.now.elf.now.file.now c.args.profile.now
-    (program_seen c.args.program.now) c.requires.program
-
 pub passed_limit-requires-clause-laid : goal.passed_limit-requires-clause-laid
 passed_limit-requires-clause-laid c = laid_program c.args.program.now.elf.now.file.now c.args.profile.now
     (program_seen c.args.program.now) c.requires.program
@@ -56,7 +52,7 @@ returns-in-Some-clause-refused c =
       room = c.in_ok-site.ensures.room;
     }) (pairs_of c.in_ok-counts.counts) c.in_ok-parts.parts
     (parts_by c.args.program.now.elf.now.file.now c.args.profile.now (program_seen c.args.program.now) c.requires.program
-    (counts_of c.in_ok-counts.counts) (pairs_of c.in_ok-counts.counts)
+    (profile_counts c.in_ok-counts.counts) (pairs_of c.in_ok-counts.counts)
     c.deref.result.now c.in_ok-parts.parts c.in_ok-parts.ensures.parts c.deref.ensures.value c.in_ok-counts.ensures.counts)
     c.deref-2.result.now (c.deref-2.ensures.value ∙ c.in_ok-cold.ensures) c.in_ok-place.field-0 c.in-Some.place
     c.in_ok-place.ensures c.in-Some.is c.at.result c.at.ensures
@@ -75,7 +71,7 @@ returns-clause-layout c = record {
   parts = c.in_ok-parts.parts;
   ordered = record {
     parts_are = parts_by c.args.program.now.elf.now.file.now c.args.profile.now (program_seen c.args.program.now)
-        c.requires.program (counts_of c.in_ok-counts.counts)
+        c.requires.program (profile_counts c.in_ok-counts.counts)
         (pairs_of c.in_ok-counts.counts) c.deref.result.now c.in_ok-parts.parts c.in_ok-parts.ensures.parts
         c.deref.ensures.value c.in_ok-counts.ensures.counts;
     placed = c.in_ok-plan.ensures.order;
@@ -88,7 +84,7 @@ returns-clause-layout c = record {
       (c.deref-2.ensures.value ∙ c.in_ok-cold.ensures) c.in_ok-place.field-0 c.in_ok-place.ensures c.in-None.is;
   cold_is = c.in_ok-cold.ensures;
   tight_is = c.in_ok-site.ensures.tight;
-  start_is = c.in_ok-site.ensures.start ∙ ap (λ (tight : Bool). start_of c.args.program.now.elf.now.segments.items tight)
+  start_is = c.in_ok-site.ensures.start ∙ ap (λ (tight : Bool). area_start_of c.args.program.now.elf.now.segments.items tight)
       c.in_ok-site.ensures.tight;
   some = c.in_ok-site.ensures.some;
   hot_is = c.in_ok-hot.ensures;

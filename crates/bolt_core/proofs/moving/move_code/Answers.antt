@@ -2,17 +2,16 @@ use Rattle.std.proofs.Common.{◌≡◌, ◌∙◌, ap, subst, sym, ℕ, ◌+◌
 use Rattle.std.specs.Prelude.{IsTrue, sum_by}
 use Rattle.rv_code.specs.declared.layout.Form.{Form}
 use Rattle.rv_code.specs.layout.FunctionLists.{address_end}
-use Rattle.rv_code.specs.layout.ProgramCode.{IsNamed, is_code_address}
+use Rattle.rv_code.specs.layout.ProgramCode.{IsNamed, is_code_address, program_code}
 use Rattle.rv_code.specs.layout.WorstSizes.{worst_size_of_block}
 use Rattle.addr_map.specs.declared.span.Span.{Span}
 use Rattle.addr_map.specs.MapText.{AreInLineOrder}
 use Rattle.addr_map.specs.Spans.{IsStretch, new}
-use Rattle.branch_fixup.specs.Forms.{end_of}
-use Rattle.branch_fixup.specs.Inputs.{code_of}
+use Rattle.branch_fixup.specs.Forms.{new_code_end}
 use Rattle.branch_fixup.specs.Strips.{Strip, pieces_of, strips_of}
 use Rattle.code_emit.specs.Bytes.{Adds}
 use Rattle.code_emit.specs.Inputs.{AreMapped}
-use Rattle.code_emit.specs.Made.{made_from}
+use Rattle.code_emit.specs.NewInsts.{made_from}
 use Rattle.bolt_core.proofs.Maps.{map_in_order, stretch_in_order}
 use Rattle.bolt_core.proofs.moving.move_code.Goals as goal
 
@@ -42,24 +41,25 @@ returns c =
       map_is = subst (λ (spans : List Span). AreInLineOrder spans c.in_ok-map.map) c.in_ok-forms.ensures.spans
           c.in_ok-map.ensures;
       even = c.requires.even;
-      low = low_end (end_of ss start fs) start sum address_end c.in_ok-forms.ensures.room c.requires.room;
+      low = low_end (new_code_end ss start fs) start sum address_end c.in_ok-forms.ensures.room c.requires.room;
     } in
     let seen : AreMapped ss c.deref.result.now start c.in_ok-map.map =
     subst (λ (gs : List Form). AreMapped ss gs start c.in_ok-map.map) (sym c.deref.ensures.value) mapped in
     let n : ℕ = length c.in_ok-emitted.emitted.code.items in
-    let length_is : start + n ≡ end_of ss start fs =
-    c.in_ok-emitted.ensures.length start seen ∙ ap (λ (gs : List Form). end_of ss start gs) c.deref.ensures.value in
+    let length_is : start + n ≡ new_code_end ss start fs =
+    c.in_ok-emitted.ensures.length start seen ∙ ap (λ (gs : List Form). new_code_end ss start gs) c.deref.ensures.value in
     record {
       forms = fs;
       mapped = mapped;
       is_map = λ roles cells entry are.
-          map_in_order (λ a. IsTrue (is_code_address c.args.funcs.now a)) (IsNamed (code_of c.args.funcs.now roles cells entry))
+          map_in_order (λ a. IsTrue (is_code_address c.args.funcs.now a))
+          (IsNamed (program_code c.args.funcs.now roles cells entry))
           c.in_ok-forms.spans.items c.in_ok-map.map c.in_ok-map.ensures (c.in_ok-forms.ensures.map roles cells entry are);
       length_is = length_is;
       stretch =
           stretch_in_order c.in_ok-forms.spans.items c.in_ok-map.map start (start + n) c.in_ok-map.ensures
           (subst (λ (end : ℕ). IsStretch c.in_ok-forms.spans.items start end) (sym length_is) c.in_ok-forms.ensures.stretch);
-      fits = fits_sum n (end_of ss start fs) start sum length_is c.in_ok-forms.ensures.room;
+      fits = fits_sum n (new_code_end ss start fs) start sum length_is c.in_ok-forms.ensures.room;
       made =
           subst (λ (gs : List Form). Adds [] c.in_ok-emitted.emitted.code.items
           (made_from (new c.in_ok-map.map) start (pieces_of ss gs))) c.deref.ensures.value

@@ -1,15 +1,15 @@
 use Rattle.std.proofs.Common.{subst, sym}
 use Rattle.rv_code.specs.layout.Edges.{AreEdges, AreTablePairs}
-use Rattle.edge_profile.specs.Counts.{ArePairs}
-use Rattle.edge_profile.specs.Profile.{counts_of}
+use Rattle.rv_code.specs.layout.ProgramCode.{program_code}
+use Rattle.edge_profile.specs.PairCounts.{ArePairs}
+use Rattle.edge_profile.specs.Profile.{profile_counts}
 use Rattle.edge_profile.proofs.BlockLists.{AreApart-blocks}
 use Rattle.block_layout.proofs.Premises.{IsInner-edges, ordered-edges}
-use Rattle.branch_fixup.specs.Inputs.{code_of}
 use Rattle.bolt_core.proofs.parts.parts.Goals as goal
 
 pub chains-requires-clause-blocks : goal.chains-requires-clause-blocks
 chains-requires-clause-blocks c =
-    AreApart-blocks (code_of c.args.funcs.now c.requires.blocks.roles c.requires.blocks.cells c.requires.blocks.entry)
+    AreApart-blocks (program_code c.args.funcs.now c.requires.blocks.roles c.requires.blocks.cells c.requires.blocks.entry)
     c.args.blocks.now c.requires.blocks.are
 
 pub chains-requires-clause-edges : goal.chains-requires-clause-edges
@@ -38,7 +38,7 @@ returns-clause-parts c =
     subst (AreEdges c.args.funcs.now c.args.cells.now c.args.blocks.now) (sym c.deref-2.ensures.value)
     (c.in_ok-edges.ensures c.args.cells.now pairs) in
     record {
-      pairs_are = subst (ArePairs (counts_of c.args.counts.now)) c.pairs-pairs.ensures.value c.pairs-pairs.ensures.exact;
+      pairs_are = subst (ArePairs (profile_counts c.args.counts.now)) c.pairs-pairs.ensures.value c.pairs-pairs.ensures.exact;
       targets = c.deref.result.now;
       targets_are = pairs;
       edges = c.deref-2.result.now;

@@ -2,8 +2,8 @@ use Rattle.std.proofs.Common.{sym, subst, ℕ, ◌<◌, List}
 use Rattle.std.specs.Prelude.{All, IfErr, IfOk}
 use Rattle.std.proofs.lemmas.Result.{err_from_is_err_and}
 use Rattle.bolt_core.specs.Refusals.{IsRefusal, not_built}
-use Rattle.bolt_core.specs.Rewriting.{IsRewritten}
-use Rattle.bolt_core.specs.Seen.{counts_seen}
+use Rattle.bolt_core.specs.RewrittenFile.{IsRewritten}
+use Rattle.bolt_core.specs.RewriteCounts.{counts_seen}
 use Rattle.bolt_core.specs.Tables.{HasTables}
 use Rattle.bolt_core.proofs.Rewrites.{bad_code_refusal, is_plain, program_read}
 use Rattle.bolt_core.proofs.rewriting.rewrite.Goals as goal

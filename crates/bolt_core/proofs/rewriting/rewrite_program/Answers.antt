@@ -2,7 +2,8 @@ use Rattle.std.proofs.Common.{◌≡◌, ◌∙◌, subst, ℕ, ◌<◌, List, [
 use Rattle.std.specs.Prelude.{All}
 use Rattle.std.specs.declared.alloc.Global.{Global}
 use Rattle.elf_write.specs.NewTables.{HasNewTables}
-use Rattle.bolt_core.specs.Rewriting.{RewriteCounts, is_tight_program}
+use Rattle.bolt_core.specs.RewriteCounts.{RewriteCounts}
+use Rattle.bolt_core.specs.RewrittenFile.{is_tight_program}
 use Rattle.bolt_core.specs.internal.ReadCode.{program_seen}
 use Rattle.bolt_core.proofs.Rewrites.{keeps_runs, keeps_so_far}
 use Rattle.bolt_core.proofs.rewriting.rewrite_program.Goals as goal

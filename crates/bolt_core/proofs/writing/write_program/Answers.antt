@@ -1,4 +1,4 @@
-use Rattle.std.proofs.Common.{◌≡◌, ◌∙◌, subst, sym, ℕ, ◌+◌, ◌⊎◌, ◌≤◌, List, length, rules}
+use Rattle.std.proofs.Common.{◌≡◌, ◌∙◌, subst, sym, ℕ, ◌+◌, ◌%◌, ◌⊎◌, ◌≤◌, List, length, rules}
 use Rattle.std.specs.Prelude.{All, AllPairs, sum_by}
 use Rattle.rv_code.specs.declared.cell.CodeCell.{CodeCell}
 use Rattle.rv_code.specs.layout.FunctionLists.{address_end}
@@ -6,12 +6,13 @@ use Rattle.rv_code.specs.layout.ProgramCode.{ProgramCode}
 use Rattle.rv_code.specs.layout.WorstSizes.{worst_size_of_block}
 use Rattle.addr_map.specs.Spans.{new}
 use Rattle.code_emit.specs.Inputs.{IsLowCell}
-use Rattle.elf_write.specs.Written.{CanHold}
-use Rattle.bolt_core.specs.internal.MovedCode.{IsMoved}
+use Rattle.elf_write.specs.WrittenFile.{CanHold}
+use Rattle.bolt_core.specs.internal.MovedCode.{IsMovedCode}
 use Rattle.bolt_core.specs.internal.ReadCode.{program_seen}
-use Rattle.bolt_core.specs.Rewriting.{is_tight_program, new_start}
+use Rattle.bolt_core.specs.RewrittenFile.{is_tight_program, new_start}
 use Rattle.bolt_core.proofs.CellFields.{all_apart, all_hold}
 use Rattle.bolt_core.proofs.Near.{near_blocks}
+use Rattle.bolt_core.proofs.NewArea.{start_even}
 use Rattle.bolt_core.proofs.SoundCode.{accepted, cells, direct, insts, laid}
 use Rattle.bolt_core.proofs.WrittenOutput.{bytes_are, code_there, follows_segments, is_faithful, is_laid_out, is_sound}
 use Rattle.bolt_core.proofs.WrittenOutput.{keeps_front, place, placed}
@@ -40,6 +41,12 @@ move_code-requires-clause-near c =
     near_blocks code c.args.program.now.blocks.now c.requires.blocks (laid c.args.program.now.elf.now code c.requires.code)
     c.args.plan.now.order.items c.requires.near
 
+pub move_code-requires-clause-even : goal.move_code-requires-clause-even
+move_code-requires-clause-even c =
+    let program = program_seen c.args.program.now in
+    subst (λ (start : ℕ). start % 2 ≡ 0) (sym c.requires.start)
+    (start_even program.elf.segments.items (is_tight_program program))
+
 pub move_code-requires-clause-room : goal.move_code-requires-clause-room
 move_code-requires-clause-room c =
     subst (λ (start : ℕ). start + sum_by (worst_size_of_block c.args.program.now.funcs.now) c.args.program.now.blocks.now ≤
@@ -56,10 +63,10 @@ write-requires-clause-laid_out c = laid c.args.program.now.elf.now (program_seen
 pub write-requires-clause-cells : goal.write-requires-clause-cells
 write-requires-clause-cells c =
     let code : ProgramCode = (program_seen c.args.program.now).code in
-    let moved : IsMoved c.args.program.now.funcs.now c.args.program.now.refs.now.cells.items c.args.program.now.blocks.now
+    let moved : IsMovedCode c.args.program.now.funcs.now c.args.program.now.refs.now.cells.items c.args.program.now.blocks.now
     c.args.plan.now.order.items
     c.args.start c.in_ok-moved.moved =
-    subst (λ (cs : List CodeCell). IsMoved c.args.program.now.funcs.now cs c.args.program.now.blocks.now
+    subst (λ (cs : List CodeCell). IsMovedCode c.args.program.now.funcs.now cs c.args.program.now.blocks.now
     c.args.plan.now.order.items c.args.start
     c.in_ok-moved.moved)
     c.deref.ensures.value c.in_ok-moved.ensures in
@@ -70,10 +77,10 @@ write-requires-clause-cells c =
 pub write-requires-clause-apart : goal.write-requires-clause-apart
 write-requires-clause-apart c =
     let code : ProgramCode = (program_seen c.args.program.now).code in
-    let moved : IsMoved c.args.program.now.funcs.now c.args.program.now.refs.now.cells.items c.args.program.now.blocks.now
+    let moved : IsMovedCode c.args.program.now.funcs.now c.args.program.now.refs.now.cells.items c.args.program.now.blocks.now
     c.args.plan.now.order.items
     c.args.start c.in_ok-moved.moved =
-    subst (λ (cs : List CodeCell). IsMoved c.args.program.now.funcs.now cs c.args.program.now.blocks.now
+    subst (λ (cs : List CodeCell). IsMovedCode c.args.program.now.funcs.now cs c.args.program.now.blocks.now
     c.args.plan.now.order.items c.args.start
     c.in_ok-moved.moved)
     c.deref.ensures.value c.in_ok-moved.ensures in
@@ -83,14 +90,14 @@ write-requires-clause-apart c =
 
 pub returns : goal.returns
 returns c =
-    let moved : IsMoved c.args.program.now.funcs.now c.args.program.now.refs.now.cells.items c.args.program.now.blocks.now
+    let moved : IsMovedCode c.args.program.now.funcs.now c.args.program.now.refs.now.cells.items c.args.program.now.blocks.now
     c.args.plan.now.order.items
     (new_start (program_seen c.args.program.now)) c.in_ok-moved.moved =
-    subst (λ (start : ℕ). IsMoved c.args.program.now.funcs.now c.args.program.now.refs.now.cells.items
+    subst (λ (start : ℕ). IsMovedCode c.args.program.now.funcs.now c.args.program.now.refs.now.cells.items
     c.args.program.now.blocks.now c.args.plan.now.order.items
     start c.in_ok-moved.moved)
     c.requires.start
-    (subst (λ (cs : List CodeCell). IsMoved c.args.program.now.funcs.now cs c.args.program.now.blocks.now
+    (subst (λ (cs : List CodeCell). IsMovedCode c.args.program.now.funcs.now cs c.args.program.now.blocks.now
     c.args.plan.now.order.items c.args.start
     c.in_ok-moved.moved)
     c.deref.ensures.value c.in_ok-moved.ensures) in

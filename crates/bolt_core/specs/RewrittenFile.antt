@@ -13,16 +13,16 @@ use Rattle.addr_map.specs.declared.span.Span.{Span}
 use Rattle.addr_map.specs.MapText.{AreInLineOrder}
 use Rattle.addr_map.specs.Spans.{IsStretch, new}
 use Rattle.sym_machine.specs.SymStart.{SymRuns, SymRunsSoFar}
-use Rattle.edge_profile.specs.Counts.{Counted, ignored_in}
-use Rattle.move_law.specs.Faithful.{IsFaithful}
+use Rattle.edge_profile.specs.PairCounts.{Counted, ignored_in}
+use Rattle.move_law.specs.FaithfulRewrite.{IsFaithful}
 use Rattle.move_law.specs.Laws.{FitStack}
 use Rattle.move_law.specs.Rewrite.{Rewrite, executable_of, program}
 use Rattle.branch_fixup.specs.Forms.{AreForms}
 use Rattle.branch_fixup.specs.Strips.{pieces_of, spans_of, strips_of}
 use Rattle.code_emit.specs.Bytes.{Adds}
-use Rattle.code_emit.specs.Made.{made_from}
-use Rattle.elf_write.specs.Area.{area_of, shift_of, start_of}
-use Rattle.elf_write.specs.Carried.{HoldsBytes}
+use Rattle.code_emit.specs.NewInsts.{made_from}
+use Rattle.elf_write.specs.Area.{area_of, shift_of, area_start_of}
+use Rattle.elf_write.specs.CarriedBytes.{HoldsBytes}
 use Rattle.elf_write.specs.FrontBytes.{KeepsFront}
 use Rattle.elf_write.specs.NewSegments.{AreNewHeaders}
 use Rattle.elf_write.specs.NewTables.{HasNewTables}
@@ -31,6 +31,7 @@ use Rattle.bolt_core.specs.Limits.{IsTooLarge}
 use Rattle.bolt_core.specs.ProfileOrder.{IsProfileOrder, cold_starts, hot_count}
 use Rattle.bolt_core.specs.Program.{IsProgramOf, Program}
 use Rattle.bolt_core.specs.Refusals.{CanStand, needed_bytes}
+use Rattle.bolt_core.specs.RewriteCounts.{RewriteCounts}
 
 -- a file has no room for the new code behind its executable segment
 abbrev pub is_tight_program : Program → Bool
@@ -38,7 +39,7 @@ is_tight_program x = is_tight x.elf.segments.items (needed_bytes x)
 
 -- where its new code starts
 abbrev pub new_start : Program → ℕ
-new_start x = start_of x.elf.segments.items (is_tight_program x)
+new_start x = area_start_of x.elf.segments.items (is_tight_program x)
 
 abbrev pub rewrite_of : Program → List ℕ → List Span → Rewrite
 rewrite_of x written spans = record {
@@ -86,14 +87,7 @@ FollowsSegments x code written =
     let shift = shift_of segments area in
     IfSome (executable_segment segments) (λ e. AreNewHeaders shift.from shift.by area e.0 segments (segments_of written))
 
--- what was counted of a rewrite
-pub record RewriteCounts : Type 0 where
-  pub functions : ℕ
-  pub instructions : ℕ
-  pub bytes : ℕ
-  pub hot : ℕ
-  pub ignored : ℕ
-
+-- what is counted of it
 abbrev pub counts_of_rewrite : Program → List ℕ → List Counted → List Span → RewriteCounts
 counts_of_rewrite x profile pairs spans = record {
   functions = length x.code.funcs;

@@ -1,13 +1,14 @@
 -- How a program is laid out anew, before its new code is made.
 use Rattle.std.specs.Prelude.{◌≡◌, ◌<◌, ℕ, List}
 use Rattle.rv_code.specs.declared.layout.Chains.{Chains}
-use Rattle.edge_profile.specs.Counts.{Counted, ignored_in}
-use Rattle.func_place.specs.Nearness.{AreTiedNear, HasAllBlocks}
+use Rattle.rv_code.specs.layout.BlockOrders.{HasAllBlocks}
+use Rattle.edge_profile.specs.PairCounts.{Counted, ignored_in}
+use Rattle.func_place.specs.Nearness.{AreTiedNear}
 use Rattle.bolt_core.specs.Limits.{IsTooLarge}
 use Rattle.bolt_core.specs.ProfileOrder.{IsProfileOrder, cold_starts, hot_count}
 use Rattle.bolt_core.specs.Program.{Program}
 use Rattle.bolt_core.specs.Refusals.{CanStand}
-use Rattle.bolt_core.specs.Rewriting.{is_tight_program, new_start}
+use Rattle.bolt_core.specs.RewrittenFile.{is_tight_program, new_start}
 use Rattle.bolt_core.specs.declared.layout.Layout.{Layout}
 
 pub record IsLaidOut (x : Program) (profile : List ℕ) (l : Layout) : Type 0 where

@@ -1,7 +1,15 @@
--- A rewrite as the code keeps it.
-use Rattle.bolt_core.specs.Rewriting.{RewriteCounts}
+-- What is counted of a rewrite.
+use Rattle.std.specs.Prelude.{ℕ}
 use Rattle.bolt_core.specs.declared.rewriting.Rewritten.{Rewritten}
 
+pub record RewriteCounts : Type 0 where
+  pub functions : ℕ
+  pub instructions : ℕ
+  pub bytes : ℕ
+  pub hot : ℕ
+  pub ignored : ℕ
+
+-- as the code keeps it
 abbrev pub counts_seen : Rewritten → RewriteCounts
 counts_seen r = record {
   functions = r.functions;
