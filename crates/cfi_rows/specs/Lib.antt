@@ -1,6 +1,6 @@
 pub mod Rows
 pub mod Instructions
 pub mod Entries
-pub mod Counts
+pub mod EntryCounts
 pub mod Frames
 pub mod FrameNeed

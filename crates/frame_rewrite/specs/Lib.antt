@@ -1,5 +1,5 @@
 pub mod FrameAnswers
-pub mod Carried
+pub mod CarriedFrames
 pub mod Faults
 pub mod Tables
 pub mod Index

@@ -4,4 +4,4 @@ pub mod Entries
 pub mod Units
 pub mod LineAnswers
 pub mod Tables
-pub mod Kept
+pub mod KeptUnits

@@ -1,7 +1,7 @@
 pub mod Texts
 pub mod Report
 pub mod Faults
-pub mod Carried
-pub mod Kept
-pub mod Heavy
+pub mod CarriedTables
+pub mod KeptData
+pub mod TableLimits
 pub mod Refusals

@@ -11,7 +11,7 @@ use Rattle.addr_map.specs.declared.span.Span.{Span}
 use Rattle.cfi_rows.specs.Frames.{tabled}
 use Rattle.frame_rewrite.specs.Faults.{IsRegisteredFrames}
 use Rattle.lookup_core.specs.Faults.{HasTableFault}
-use Rattle.lookup_core.specs.Heavy.{IsTooHeavy}
+use Rattle.lookup_core.specs.TableLimits.{IsTooHeavy}
 
 -- the places of faults, by their kind
 abbrev pub FaultRelation : Type 1

@@ -9,7 +9,7 @@ ghost use Rattle.table_core.specs.declared.run.Run.{Run};
 ghost use Rattle.table_core.specs.declared.written.ListAt.{ListAt};
 ghost use Rattle.table_core.specs.declared.written.Written.{Written};
 ghost use Rattle.table_core.specs.Runs.{carried, run_at, IsWithin};
-ghost use Rattle.table_core.specs.Carried.{IsCarried};
+ghost use Rattle.table_core.specs.CarriedAnswers.{IsCarried};
 
 use crate::run::Run;
 use crate::written::Written;

@@ -12,7 +12,7 @@ use Rattle.dw_unit.specs.declared.attribute.TheConstants.{DW_AT_stmt_list}
 use Rattle.dw_unit.specs.declared.entry.Attr.{Attr}
 use Rattle.dw_unit.specs.Units.{Entry, entries}
 use Rattle.dw_unit.specs.Tables.{sections_of, AreChangedWith}
-use Rattle.line_rewrite.specs.Kept.{AreKeptUnits, unit_number}
+use Rattle.line_rewrite.specs.KeptUnits.{AreKeptUnits, unit_number}
 use Rattle.line_rewrite.specs.Tables.{line_sections}
 
 -- the debug sections that are written anew, and those that aren't carried

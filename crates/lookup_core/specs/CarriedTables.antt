@@ -7,11 +7,11 @@ use Rattle.elf_image.specs.file.SectionNames.{section_called}
 use Rattle.addr_map.specs.declared.span.Span.{Span}
 use Rattle.addr_map.specs.Spans.{owner}
 use Rattle.table_core.specs.declared.written.Written.{Written}
-use Rattle.table_core.specs.Carried.{Agree}
+use Rattle.table_core.specs.CarriedAnswers.{Agree}
 use Rattle.table_core.specs.Sections.{bytes_of}
 use Rattle.cfi_rows.specs.Frames.{eh_frames}
 use Rattle.frame_rewrite.specs.FrameAnswers.{eh, df, is_marked_by, cuts_of}
-use Rattle.frame_rewrite.specs.Carried.{IsCarriedFrame}
+use Rattle.frame_rewrite.specs.CarriedFrames.{IsCarriedFrame}
 use Rattle.frame_rewrite.specs.Index.{StandsIndex}
 use Rattle.frame_rewrite.specs.Tables.{AllowsFrames, StandsAs}
 use Rattle.line_rewrite.specs.Tables.{line, StandsLines}
