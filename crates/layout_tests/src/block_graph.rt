@@ -3,6 +3,7 @@ use crate::layout::{accepted, block};
 use std::test::Fail;
 use test_files::inst::{A0, EXIT, RA, X0, addi, beq, jal, jalr};
 use test_files::programs::countdown;
+use test_files::shapes::CODE;
 use test_files::{Symbol, assemble, program};
 
 #[test]
@@ -28,7 +29,7 @@ fn a_loop(rt: HostRuntime) -> Result<(), Fail> {
 #[test]
 fn a_whole_function(rt: HostRuntime) -> Result<(), Fail> {
     let file = countdown(rt.alloc())?;
-    let found = accepted(rt.alloc(), &file, &[(0x10084, 0x10088)])?;
+    let found = accepted(rt.alloc(), &file, &[(CODE + 12, CODE + 16)])?;
     assert_eq!(rt; found.blocks.as_slice(), [block(0, 0, 5)].as_slice());
     assert_eq!(rt; found.edges.len(), 0);
     Ok(())
@@ -55,8 +56,8 @@ fn two_functions(rt: HostRuntime) -> Result<(), Fail> {
     let [set_exit, call] = EXIT;
     let code = assemble(rt.alloc(), &[addi(A0, X0, 4), set_exit, call])?;
     let mut file = program(rt.alloc(), &code, &[])?;
-    file.symbols.push(Symbol::function(b"f", 0x10078, 4))?;
-    file.symbols.push(Symbol::function(b"g", 0x1007c, 8))?;
+    file.symbols.push(Symbol::function(b"f", CODE, 4))?;
+    file.symbols.push(Symbol::function(b"g", CODE + 4, 8))?;
     let bytes = file.build(rt.alloc())?;
     let found = accepted(rt.alloc(), &bytes, &[])?;
     assert_eq!(rt;
@@ -103,7 +104,7 @@ fn a_call_at_the_end(rt: HostRuntime) -> Result<(), Fail> {
         (16, [block(0, 0, 3)].as_slice()),
     ] {
         let mut file = program(rt.alloc(), &code, &[])?;
-        file.symbols.push(Symbol::function(b"f", 0x10078, size))?;
+        file.symbols.push(Symbol::function(b"f", CODE, size))?;
         let bytes = file.build(rt.alloc())?;
         let found = accepted(rt.alloc(), &bytes, &[])?;
         assert_eq!(rt; found.blocks.as_slice(), blocks, "{size}");

@@ -3,6 +3,7 @@ use crate::layout::{accepted, block};
 use std::test::Fail;
 use test_files::inst::{A4, RA};
 use test_files::programs::{switch_by_addresses, switch_by_distances};
+use test_files::shapes::CODE;
 
 // The table's own address, which the cells name too, is no instruction.
 #[test]
@@ -11,7 +12,7 @@ fn a_table_of_distances(rt: HostRuntime) -> Result<(), Fail> {
     let found = accepted(rt.alloc(), &file, &[])?;
     assert_eq!(rt;
         found.targets.as_slice(),
-        [(0x10088, 0x1008c), (0x10088, 0x10090)].as_slice()
+        [(CODE + 16, CODE + 20), (CODE + 16, CODE + 24)].as_slice()
     );
     let blocks = [block(0, 0, 4), block(0, 5, 5), block(0, 6, 7)];
     assert_eq!(rt; found.blocks.as_slice(), blocks.as_slice());
@@ -27,7 +28,7 @@ fn a_table_of_addresses(rt: HostRuntime) -> Result<(), Fail> {
     let found = accepted(rt.alloc(), &file, &[])?;
     assert_eq!(rt;
         found.targets.as_slice(),
-        [(0x10080, 0x10084), (0x10080, 0x10088)].as_slice()
+        [(CODE + 8, CODE + 12), (CODE + 8, CODE + 16)].as_slice()
     );
     assert_eq!(rt; found.blocks.as_slice(), blocks.as_slice());
     assert_eq!(rt; found.edges.as_slice(), [(0, 1), (0, 2), (1, 2)].as_slice());

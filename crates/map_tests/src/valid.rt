@@ -1,6 +1,6 @@
 // Maps of spans whose conditions are tested first, by comparing any two.
 ghost use Rattle.std.specs.Prelude.{◌≡◌, ◌<◌, AllPairs, false, length, true};
-ghost use Rattle.map_tests.specs.Separate.{AreSeparate, IsSeparateFromFormer};
+ghost use Rattle.map_tests.specs.SpanPairs.{AreSeparate, IsSeparateFromFormer};
 
 use addr_map::{AddrMap, Span};
 use std::alloc::Global;

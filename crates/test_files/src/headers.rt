@@ -1,5 +1,5 @@
 // The headers of a file, field by field.
-use crate::bytes::{push_u16, push_u32, push_u64};
+use crate::bytes::{push_u16, push_u32, push_u32s, push_u64, push_u64s};
 use elf_image::header::{EHDR_SIZE, EM_RISCV, IDENTIFICATION};
 use elf_image::section::SHDR_SIZE;
 use elf_image::segment::PHDR_SIZE;
@@ -67,14 +67,16 @@ pub const P_MEMSZ: usize = 40;
 
 /// Appends a program header, of 56 bytes.
 pub fn push_segment(file: &mut Vec<u8>, segment: &Segment) -> Result<(), AllocError> {
-    push_u32(file, segment.kind)?;
-    push_u32(file, segment.flags)?;
-    push_u64(file, segment.offset)?;
-    push_u64(file, segment.vaddr)?;
-    push_u64(file, segment.paddr)?;
-    push_u64(file, segment.filesz)?;
-    push_u64(file, segment.memsz)?;
-    push_u64(file, segment.align)
+    push_u32s(file, &[segment.kind, segment.flags])?;
+    let numbers = [
+        segment.offset,
+        segment.vaddr,
+        segment.paddr,
+        segment.filesz,
+        segment.memsz,
+        segment.align,
+    ];
+    push_u64s(file, &numbers)
 }
 
 /// The offsets of some fields in a section header. gABI, "Section Header".
@@ -86,16 +88,13 @@ pub const SH_ADDRALIGN: usize = 48;
 
 /// Appends a section header, of 64 bytes.
 pub fn push_section_header(file: &mut Vec<u8>, section: &SectionHeader) -> Result<(), AllocError> {
-    push_u32(file, section.name)?;
-    push_u32(file, section.kind)?;
-    push_u64(file, section.flags)?;
-    push_u64(file, section.addr)?;
-    push_u64(file, section.offset)?;
-    push_u64(file, section.size)?;
-    push_u32(file, section.link)?;
-    push_u32(file, section.info)?;
-    push_u64(file, section.align)?;
-    push_u64(file, section.entsize)
+    push_u32s(file, &[section.name, section.kind])?;
+    push_u64s(
+        file,
+        &[section.flags, section.addr, section.offset, section.size],
+    )?;
+    push_u32s(file, &[section.link, section.info])?;
+    push_u64s(file, &[section.align, section.entsize])
 }
 
 /// The header of the null section: all zeros. gABI, "Sections".
