@@ -3,10 +3,10 @@
 
 pub mod addr_map;
 mod column;
+mod fields;
 mod new_order;
 mod old_order;
 mod order;
-mod parts;
 pub mod span;
 mod text;
 

@@ -5,7 +5,7 @@ ghost use Rattle.addr_map.specs.internal.Orders.{IsHolder};
 ghost use Rattle.addr_map.specs.Spans.{ShareNoByte, owner};
 
 use crate::column::SortedColumn;
-use crate::parts::{inputs_of, lens_of, outs_of};
+use crate::fields::{inputs_of, lens_of, outs_of};
 use crate::span::Span;
 use rb_bytes::fault::NoMemory;
 use std::alloc::Global;

@@ -2,7 +2,7 @@
 ghost use Rattle.std.specs.Prelude.{◌≡◌, IfOk, length, map};
 ghost use Rattle.addr_map.specs.internal.Orders.{IsRising, moved_in};
 
-use crate::parts::{inputs_of, outs_of};
+use crate::fields::{inputs_of, outs_of};
 use crate::span::Span;
 use rb_bytes::fault::NoMemory;
 use rb_lanes::{Hints, count_below};

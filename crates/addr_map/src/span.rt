@@ -1,4 +1,4 @@
-// The parts of the map.
+// The spans of which a map is made.
 
 /// New code that stands for one instruction of the input.
 #[derive(Clone, Copy, PartialEq, Eq, Debug)]

@@ -4,3 +4,5 @@ pub mod UnsignedLeb
 pub mod ReaderAnswers
 pub mod SignedLeb
 pub mod DigitValues
+pub mod Gains
+pub mod Members

@@ -1,4 +1,4 @@
--- Words of marks as numbers with a bit for each halfword.
+-- Marks as numbers with a bit for each halfword.
 use Rattle.std.proofs.Common.{◌≡◌, ◌≢◌, ◌+◌, ◌*◌, ◌<◌, ◌≤◌, ◌/◌, ◌%◌, ◌^◌, ◌∙◌, ℕ, List, Bool, true, false, cond}
 use Rattle.std.proofs.Common.{map, length, take, drop, get_or, slice_set, bit_and, arith, refl, ap, ⊎_elim, below_more}
 use Rattle.std.proofs.Common.{length-drop, get_or-set_other, get_or-set_same}
@@ -13,13 +13,13 @@ use Rattle.std.proofs.lemmas.Nat.{and_mask}
 use Rattle.std.proofs.lemmas.Simd.{mask_l-lt, bit_mask_l, map-map, zip2_splat}
 use Rattle.rb_lanes.specs.Marks.{ends_in_ones, is_marked, marks_of}
 
--- the halfwords of word number k
+-- the halfwords of group k
 abbrev pub halves_at : List ℕ → ℕ → List ℕ
 halves_at halves k = take 64 (drop (64 * k) halves)
 
--- the first words are as they must be
+-- the first groups are as they must be
 abbrev pub AreMarks : List ℕ → List ℕ → ℕ → Type 0
-AreMarks words halves count = (k : ℕ) → k < count → get_or words k 0 ≡ marks_of (halves_at halves k)
+AreMarks groups halves count = (k : ℕ) → k < count → get_or groups k 0 ≡ marks_of (halves_at halves k)
 
 -- before the first halfword is marked there is room for one more
 pub mask_below : (marks i : ℕ) (halves : List ℕ) → marks ≡ marks_of (drop i halves) → 0 < i → length halves ≤ 64
@@ -39,10 +39,10 @@ low_lanes xs n e =
     ∙ map-map (λ x. x == 3) (λ x. bit_and x 3) xs
     ∙ (λ i. map (λ x. and_mask x 2 i == 3) xs)
 
--- a bit of the word where it must stand
-marked : (words halves : List ℕ) (i : ℕ) → get_or words (i / 64) 0 ≡ marks_of (halves_at halves (i / 64))
-    → is_marked words i ≡ ends_in_ones (get_or halves i 0)
-marked words halves i e =
+-- a bit of the group where it must stand
+marked : (groups halves : List ℕ) (i : ℕ) → get_or groups (i / 64) 0 ≡ marks_of (halves_at halves (i / 64))
+    → is_marked groups i ≡ ends_in_ones (get_or halves i 0)
+marked groups halves i e =
     let here = halves_at halves (i / 64) in
     let k = i % 64 in
     let lt : k < 64 = omega arith in
@@ -60,13 +60,13 @@ marked words halves i e =
     is_set true n e = rw e refl
     is_set false n e = rw e refl
 
--- what is split off for a word
+-- what is split off for a group
 pub front_of : (i n : ℕ) (halves rest front : List ℕ) → rest ≡ drop (64 * i) halves → n ≡ min 64 (length rest)
     → front ≡ take n rest
     → front ≡ halves_at halves i
 front_of i n halves rest front r m f = f ∙ ap (λ k. take k rest) m ∙ take_min 64 rest ∙ ap (take 64) r
 
--- what is left for the words after it
+-- what is left for the groups after it
 pub back_of : (i n : ℕ) (halves rest back : List ℕ) → rest ≡ drop (64 * i) halves → n ≡ min 64 (length rest) → back ≡ drop n rest
     → back ≡ drop (64 * (i + 1)) halves
 back_of i n halves rest back r m b =
@@ -77,22 +77,22 @@ back_of i n halves rest back r m b =
     ∙ drop-drop 64 (64 * i) halves
     ∙ ap (λ k. drop k halves) (omega arith)
 
--- one word more
-pub marks_more : (words halves : List ℕ) (i word : ℕ) → i < length words → AreMarks words halves i
-    → word ≡ marks_of (halves_at halves i)
-    → AreMarks (slice_set words i word) halves (i + 1)
-marks_more words halves i word lt before here =
+-- one group more
+pub marks_more : (groups halves : List ℕ) (i group : ℕ) → i < length groups → AreMarks groups halves i
+    → group ≡ marks_of (halves_at halves i)
+    → AreMarks (slice_set groups i group) halves (i + 1)
+marks_more groups halves i group lt before here =
     below_more _ _
     (λ k below. let ne : k ≢ i = omega arith in rw get_or-set_other (before k below))
     (rw get_or-set_same here)
 
--- all words
-pub marks_all : (words halves : List ℕ) → length halves ≤ 64 * length words → AreMarks words halves (length words) → (i : ℕ)
-    → is_marked words i ≡ ends_in_ones (get_or halves i 0)
-marks_all words halves room each i =
+-- all groups
+pub marks_all : (groups halves : List ℕ) → length halves ≤ 64 * length groups → AreMarks groups halves (length groups) → (i : ℕ)
+    → is_marked groups i ≡ ends_in_ones (get_or halves i 0)
+marks_all groups halves room each i =
     ⊎_elim
-    (λ (lt : i / 64 < length words). marked words halves i (each (i / 64) lt))
-    (λ (le : length words ≤ i / 64).
+    (λ (lt : i / 64 < length groups). marked groups halves i (each (i / 64) lt))
+    (λ (le : length groups ≤ i / 64).
     let past : length halves ≤ i = omega arith in
-    rw (get_or_past words (i / 64) 0 le, get_or_past halves i 0 past) (grind (arith, common_steps)))
-    (cases_lt (i / 64) (length words))
+    rw (get_or_past groups (i / 64) 0 le, get_or_past halves i 0 past) (grind (arith, common_steps)))
+    (cases_lt (i / 64) (length groups))

@@ -1,4 +1,4 @@
--- Bits in words of 64, and the halfwords that they mark.
+-- Bits, 64 in a number, and the halfwords that they mark.
 use Rattle.std.specs.Prelude.{ℕ, Bool, List, map, ◌==◌, ◌/◌, ◌%◌, ◌^◌, slice_index}
 use Rattle.std.specs.Simd.Lanes.{mask_l}
 
@@ -6,9 +6,9 @@ use Rattle.std.specs.Simd.Lanes.{mask_l}
 abbrev pub ends_in_ones : ℕ → Bool
 ends_in_ones half = half % 4 == 3
 
--- bit i is set, counted from the lowest bit of the first word; there are no bits past the last word
+-- bit i is set, counted from the lowest bit of the first number; there are no bits past the last one
 abbrev pub is_marked : List ℕ → ℕ → Bool
-is_marked words i = slice_index words (i / 64) / 2 ^ (i % 64) % 2 == 1
+is_marked marks i = slice_index marks (i / 64) / 2 ^ (i % 64) % 2 == 1
 
 -- the number with a bit for each halfword, the lowest for the first
 abbrev pub marks_of : List ℕ → ℕ

@@ -52,9 +52,9 @@ impl Hints {
 fn shift_for(members: &[u64], base: u64) -> u32
     ensures { result < 64 }
 {
-    let span = members.last().copied().unwrap_or(0).saturating_sub(base);
+    let width = members.last().copied().unwrap_or(0).saturating_sub(base);
     for shift in 0..63 {
-        if span >> shift <= members.len() as u64 / MEMBERS {
+        if width >> shift <= members.len() as u64 / MEMBERS {
             return shift;
         }
     }

@@ -5,7 +5,7 @@ ghost use Rattle.rb_lanes.specs.Marks.{ends_in_ones, is_marked, marks_of};
 use std::simd::prelude::*;
 use std::simd::u16x64;
 
-/// How many marks a word holds.
+/// How many marks a number of 64 bits holds.
 const MARKS: usize = 64;
 
 /// Marks the halfwords whose two lowest bits are set: bit `i % 64` of `out[i / 64]` is set exactly where `halves[i]` is
@@ -15,15 +15,15 @@ pub fn length_marks(halves: &[u16], out: &mut [u64])
     ensures { (i : ℕ) → is_marked out.new i ≡ ends_in_ones (slice_index halves.now i) }
 {
     let mut rest = halves;
-    for word in out.iter_mut() {
+    for marks in out.iter_mut() {
         let (front, back) = rest.split_at(MARKS.min(rest.len()));
-        *word = marks_of_word(front);
+        *marks = marks_of_group(front);
         rest = back;
     }
 }
 
-// The marks of one word's halfwords, of which the last word may have fewer.
-fn marks_of_word(halves: &[u16]) -> u64
+// The marks of a group of halfwords, of which the last may have fewer than 64.
+fn marks_of_group(halves: &[u16]) -> u64
     requires { length halves.now ≤ 64 }
     ensures { result ≡ marks_of halves.now }
 {

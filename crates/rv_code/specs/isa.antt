@@ -1,4 +1,5 @@
 pub mod Action
+pub mod AddressParts
 pub mod Bits
 pub mod InstBytes
 pub mod Extension

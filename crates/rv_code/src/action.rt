@@ -25,7 +25,7 @@ pub enum Test {
 }
 
 impl Test {
-    /// Whether the test holds of two words.
+    /// Whether the test holds of two numbers of 64 bits.
     pub fn holds(self, left: u64, right: u64) -> bool
         ensures { result ≡ holds self left right }
     {
@@ -63,7 +63,7 @@ impl Extension {
         }
     }
 
-    /// A loaded number of that many bytes as a word of 64 bits.
+    /// A loaded number of that many bytes in 64 bits.
     pub fn extend(self, number: u64) -> u64
         requires { number < 256 ^ bytes_of self }
         ensures { result ≡ extended self number }

@@ -4,7 +4,7 @@ ghost use Rattle.std.specs.Int.RustNames.{int_div, int_rem};
 ghost use Rattle.rv_code.specs.isa.TwosComplement.{unsigned64, low32, signed32, sign_extended32};
 ghost use Rattle.rv_code.specs.isa.Op.{apply, upper64};
 
-/// An operation on two words of 64 bits. The immediate forms of the instructions share it: `ADDI` is
+/// An operation on two numbers of 64 bits. The immediate forms of the instructions share it: `ADDI` is
 /// `Add` of a register and a constant. The names with `w` work on the low 32 bits and sign-extend.
 /// ISA manual, sections 2.4, 4.2, 13.1 and 13.2.
 #[derive(Clone, Copy, PartialEq, Eq, Debug)]
@@ -40,7 +40,7 @@ pub enum Op {
 }
 
 impl Op {
-    /// The operation's result on two words of 64 bits. Nothing traps: a division by zero gives all
+    /// The operation's result on two numbers of 64 bits. Nothing traps: a division by zero gives all
     /// bits set, or the dividend as remainder.
     pub fn apply(self, left: u64, right: u64) -> u64
         ensures { result ≡ apply self left right }
@@ -168,7 +168,7 @@ fn remuw(left: u64, right: u64) -> u64
     }
 }
 
-// The quotient of signed numbers, rounded toward zero. 2 ^ 63 has the word of -2 ^ 63.
+// The quotient of signed numbers, rounded toward zero. 2 ^ 63 has the bits of -2 ^ 63.
 fn quotient(dividend: i64, divisor: i64) -> u64
     requires { divisor ≢ pos 0 }
     ensures { result ≡ unsigned64 (int_div dividend divisor) }

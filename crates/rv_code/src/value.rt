@@ -7,7 +7,7 @@ use crate::action::Action;
 use crate::inst::Inst;
 
 /// The result of an operation on two registers or on a register and a constant, where `a` is the
-/// value of rs1 and `b` that of rs2 or the immediate as a word. It is 0 for other instructions.
+/// value of rs1 and `b` that of rs2 or the immediate in 64 bits. It is 0 for other instructions.
 pub fn op_value(inst: &Inst, a: u64, b: u64) -> u64
     ensures { result ≡ operation_value (action_of inst.now) a b }
 {

@@ -5,6 +5,6 @@
 pub enum Word {
     /// The halfword of a compressed form.
     Half(u16),
-    /// The word of a four-byte form; its lower half comes first in memory.
+    /// The word of a four-byte form; its low 16 bits come first in memory.
     Full(u32),
 }

@@ -31,7 +31,7 @@ pub trait AddrTable: Drop {
     ghost said: { Self.Answer → Meaning };
 
     /// What the table says at an address.
-    ghost holds: { Self → ℕ → Option Meaning };
+    ghost says: { Self → ℕ → Option Meaning };
 
     /// What the table in a file says at an address; none where the file has a fault of the table.
     ghost means: { Elf → Option (ℕ → Option Meaning) };
@@ -75,13 +75,13 @@ pub trait AddrTable: Drop {
     fn read(alloc: Global, elf: &Elf) -> Result<Self, Refusal>
     where
         Self: Sized,
-        ensures reads { MatchResult result (λ t. (means elf.now ≡ Some (holds t)) × IsFree (has elf.now))
+        ensures reads { MatchResult result (λ t. (means elf.now ≡ Some (says t)) × IsFree (has elf.now))
             (λ e. IsRefusalBy (has elf.now) e) }
         ensures comes { IfOk result (λ t. comes_from t elf.now) };
 
     /// The answer at an address.
     fn at(&self, alloc: Global, a: u64) -> Result<Option<Self::Answer>, NoMemory>
-        ensures { IfOk result (λ o. option_map said o ≡ holds self.now a) };
+        ensures { IfOk result (λ o. option_map said o ≡ says self.now a) };
 
     /// A weight of the table that would be written for a map, which bounds its size in bytes; or the greatest number,
     /// where the weight is none of 64 bits.
@@ -98,7 +98,7 @@ pub trait AddrTable: Drop {
         requires allowed { allows self.now map.now }
         requires fitting { fits self.now map.now runs.now }
         requires within { IsWithin 0 runs.now (2 ^ 64 - 1) }
-        requires answers { (p : ℕ) → option_map said (run_at runs.now p) ≡ carried (holds self.now) map.now p }
+        requires answers { (p : ℕ) → option_map said (run_at runs.now p) ≡ carried (says self.now) map.now p }
         ensures law { IfOk result (λ w. (i f : Elf) → comes_from self.now i → stands i map.now w f →
             IsCarried (carries map.now) map.now (λ p. option_map said (run_at runs.now p)) (means f) × IsFree (has f)
             × keeps i f) }

@@ -9,7 +9,7 @@ use Rattle.addr_map.specs.Spans.{ShareNoByte}
 abbrev pub AreApart : Span → Span → Type 0
 AreApart s t = s.input ≡ t.input → ⊥
 
--- the spans whose parts stand in three columns
+-- the spans whose fields stand in three columns
 abbrev pub column_spans : List ℕ → List ℕ → List ℕ → List Span
 column_spans [] lens inputs = []
 column_spans (out ∷ outs) [] inputs = []

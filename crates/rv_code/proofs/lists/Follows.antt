@@ -104,7 +104,7 @@ follow_take (suc n) a (p ∷ ps) end h =
 
 -- Of functions.
 
-at_contains : {X : Type 0} (xs : List X) (k : ℕ) (x : X) → slice_get xs k ≡ Some x → Contains xs x
+pub at_contains : {X : Type 0} (xs : List X) (k : ℕ) (x : X) → slice_get xs k ≡ Some x → Contains xs x
 at_contains xs k x at = (k, slice_get_within xs k x at, get_or_from_slice_get xs k x x at)
 
 pub laid_func : (funcs : List Func) (f : ℕ) (func : Func) → AreLaidOut funcs → slice_get funcs f ≡ Some func → IsLaidOut func

@@ -1,4 +1,4 @@
--- The low bytes of a number, the number that bytes spell, and the bytes of a list of words.
+-- The low bytes of a number, the number that bytes spell, and the bytes of a list of numbers.
 use Rattle.std.proofs.Common.{◌≡◌, ℕ, zero, suc, ◌+◌, ◌-◌, ◌*◌, ◌/◌, ◌%◌, ◌^◌, ◌<◌, List, [], ◌∷◌, length, refl, sym}
 use Rattle.std.proofs.Common.{ap, ◌∙◌, arith, get_or, All, div-one}
 use Rattle.std.specs.Prelude.{flat_map}
@@ -51,23 +51,23 @@ little_at (b ∷ bs) (suc i) all h =
     ∙ ap (λ (y : ℕ). y % 256) (ap (λ (y : ℕ). y / 256 ^ i) (sym down) ∙ div-div-eq-div-mul (b + 256 * little bs) 256
     (256 ^ i) ∙ ap (λ (d : ℕ). (b + 256 * little bs) / d) (sym p))
 
-pub length_words : (ws : List ℕ) → length (flat_map (low_bytes 8) ws) ≡ 8 * length ws
-length_words [] = refl
-length_words (w ∷ ws) =
-    let a = length-append (low_bytes 8 w) (flat_map (low_bytes 8) ws) in let b = length_low_bytes 8 w in
-    let c = length_words ws in omega (arith, a, b, c)
+pub length_numbers : (ns : List ℕ) → length (flat_map (low_bytes 8) ns) ≡ 8 * length ns
+length_numbers [] = refl
+length_numbers (w ∷ ns) =
+    let a = length-append (low_bytes 8 w) (flat_map (low_bytes 8) ns) in let b = length_low_bytes 8 w in
+    let c = length_numbers ns in omega (arith, a, b, c)
 
--- a byte of words
-pub words_at : (ws : List ℕ) (j i : ℕ) → j < length ws → i < 8 →
-    get_or (flat_map (low_bytes 8) ws) (8 * j + i) 0 ≡ get_or ws j 0 / 256 ^ i % 256
-words_at [] j i h k = absurd (omega (arith, h))
-words_at (w ∷ ws) zero i h k =
+-- a byte of numbers
+pub numbers_at : (ns : List ℕ) (j i : ℕ) → j < length ns → i < 8 →
+    get_or (flat_map (low_bytes 8) ns) (8 * j + i) 0 ≡ get_or ns j 0 / 256 ^ i % 256
+numbers_at [] j i h k = absurd (omega (arith, h))
+numbers_at (w ∷ ns) zero i h k =
     let len = length_low_bytes 8 w in
     let at : 8 * 0 + i ≡ i = omega arith in
-    ap (λ (n : ℕ). get_or (flat_map (low_bytes 8) (w ∷ ws)) n 0) at ∙ get_or_append_left (low_bytes 8 w)
-    (flat_map (low_bytes 8) ws) 0 i (omega (arith, len, k)) ∙ low_bytes_at 8 w i k
-words_at (w ∷ ws) (suc j) i h k =
+    ap (λ (n : ℕ). get_or (flat_map (low_bytes 8) (w ∷ ns)) n 0) at ∙ get_or_append_left (low_bytes 8 w)
+    (flat_map (low_bytes 8) ns) 0 i (omega (arith, len, k)) ∙ low_bytes_at 8 w i k
+numbers_at (w ∷ ns) (suc j) i h k =
     let len = length_low_bytes 8 w in
     let at : 8 * suc j + i - 8 ≡ 8 * j + i = omega arith in
-    get_or-append_right (low_bytes 8 w) (flat_map (low_bytes 8) ws) 8 (8 * suc j + i) 0 len (omega arith)
-    ∙ ap (λ (n : ℕ). get_or (flat_map (low_bytes 8) ws) n 0) at ∙ words_at ws j i (omega (arith, h)) k
+    get_or-append_right (low_bytes 8 w) (flat_map (low_bytes 8) ns) 8 (8 * suc j + i) 0 len (omega arith)
+    ∙ ap (λ (n : ℕ). get_or (flat_map (low_bytes 8) ns) n 0) at ∙ numbers_at ns j i (omega (arith, h)) k

@@ -1,4 +1,4 @@
--- Registers and memory of two machines, cell by cell.
+-- Registers and memory of two machines, byte by byte.
 use Rattle.std.proofs.Common.{◌≡◌, length, ℕ, zero, suc, ◌≤◌, List, [], ◌∷◌}
 use Rattle.std.proofs.Common.{Bool, true, false, refl, ap, ◌∙◌, arith}
 use Rattle.std.specs.Prelude.{if◌then◌else◌, ◌==◌}
@@ -21,13 +21,13 @@ set_alike {A} {B} R (suc r) v x f g h all q = cases (q == suc r)
     cases true = h r refl
     cases false = all q
 
-pub cells_alike : {A B : Type 0} (R : A → B → Type 0) (f : ℕ → A) (g : ℕ → B) (may : ℕ → Bool) (a n : ℕ) →
+pub bytes_alike : {A B : Type 0} (R : A → B → Type 0) (f : ℕ → A) (g : ℕ → B) (may : ℕ → Bool) (a n : ℕ) →
     ((q : ℕ) → may q ≡ true → R (f q) (g q)) → all_may may a n ≡ true → Alike R (memory_bytes f a n) (memory_bytes g a n)
 unfolding memory_bytes all_may
-cells_alike R f g may a zero all can = tt
-cells_alike R f g may a (suc n) all can =
+bytes_alike R f g may a zero all can = tt
+bytes_alike R f g may a (suc n) all can =
     let parts = and_parts (may a) (all_may may (plus a 1) n) can in
-    (all a parts.0, cells_alike R f g may (plus a 1) n all parts.1)
+    (all a parts.0, bytes_alike R f g may (plus a 1) n all parts.1)
 
 pub put_alike : {A B : Type 0} (R : A → B → Type 0) (f : ℕ → A) (g : ℕ → B) (a q : ℕ) (xs : List A) (ys : List B) →
     Alike R xs ys → R (f q) (g q) → R (put f a xs q) (put g a ys q)

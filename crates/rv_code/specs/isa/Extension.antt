@@ -15,7 +15,7 @@ bytes_of Zero8 = 1
 bytes_of Zero16 = 2
 bytes_of Zero32 = 4
 
--- a number of that many bytes as a word: by its sign, or by zeros
+-- a number of that many bytes in 64 bits: by its sign, or by zeros
 abbrev pub extended : Extension → ℕ → ℕ
 extended Signed8 n = unsigned64 (cast_signed w8 n)
 extended Signed16 n = unsigned64 (cast_signed w16 n)

@@ -1,4 +1,4 @@
--- What the arithmetic and logic operations give, and what branches compare, on words of 64 bits.
+-- What the arithmetic and logic operations give, and what branches compare, on numbers of 64 bits.
 -- Sections are those of the ISA manual, volume I.
 use Rattle.std.specs.Prelude.{ℕ, ◌+◌, ◌-◌, ◌*◌, ◌/◌, ◌%◌, ◌^◌, pos, ◌*ℤ◌, ℤ, Bool, nat_lt, int_lt, ◌==◌, if◌then◌else◌, bit_and}
 use Rattle.std.specs.Prelude.{bit_or, bit_xor}
@@ -31,7 +31,7 @@ abbrev pub upper64 : ℤ → ℕ
 upper64 product = cast_unsigned w128 product / 2 ^ 64
 
 -- Quotients round toward zero, and a remainder has the dividend's sign. Where -2 ^ 63 is divided by -1, the
--- quotient 2 ^ 63 is the dividend as a word, and the remainder is 0; the forms of 32 bits are alike (13.2).
+-- quotient 2 ^ 63 is the dividend in 64 bits, and the remainder is 0; the forms of 32 bits are alike (13.2).
 abbrev pub apply : Op → ℕ → ℕ → ℕ
 -- integers of 64 bits (2.4, 4.2): a shift's amount is the low six bits
 apply Add left right = (left + right) % 2 ^ 64

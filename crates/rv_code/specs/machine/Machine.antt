@@ -3,7 +3,7 @@
 use Rattle.std.specs.Prelude.{◌≡◌, ℕ, zero, suc, ◌+◌, ◌-◌, ◌*◌, ◌/◌, ◌%◌, ◌^◌, ◌&&◌, ◌||◌, ◌==◌, nat_lt, nat_le, if◌then◌else◌}
 use Rattle.std.specs.Prelude.{Bool, true, List, [], ◌∷◌, ◌++◌, Option, Some, None}
 
--- Addresses are words of 64 bits, and a sum of addresses wraps. ISA manual, section 1.4.
+-- Addresses are numbers of 64 bits, and a sum of addresses wraps. ISA manual, section 1.4.
 abbrev pub plus : ℕ → ℕ → ℕ
 plus a b = (a + b) % 2 ^ 64
 
@@ -17,12 +17,12 @@ unfoldable pub all_may : (ℕ → Bool) → ℕ → ℕ → Bool
 all_may may a zero = true
 all_may may a (suc n) = may a && all_may may (plus a 1) n
 
--- the n cells from a on
+-- the n bytes from a on
 unfoldable pub memory_bytes : {C : Type 0} → (ℕ → C) → ℕ → ℕ → List C
 memory_bytes memory a zero = []
 memory_bytes memory a (suc n) = memory a ∷ memory_bytes memory (plus a 1) n
 
--- the memory with these cells from a on
+-- the memory with these bytes from a on
 unfoldable pub put : {C : Type 0} → (ℕ → C) → ℕ → List C → ℕ → C
 put memory a [] q = memory q
 put memory a (c ∷ cs) q = if q == a then c else put memory (plus a 1) cs q
@@ -47,7 +47,7 @@ pub record Space : Type 0 where
   pub break_start : ℕ
   pub break_bound : ℕ
 
--- A machine between two steps, with registers of values V and a memory of cells C.
+-- A machine between two steps, with registers of values V and a memory whose bytes are of type C.
 pub record State (V C : Type 0) : Type 0 where
   pub pc : ℕ
   pub registers : ℕ → V

@@ -19,7 +19,7 @@ use Rattle.rv_code.specs.machine.Machine.{plus, set_register, all_may, memory_by
 use Rattle.rv_code.specs.machine.Machine.{may_write, may_execute, with_break, Event, Call, Read, Write, Exit, Brk, Unknown}
 use Rattle.rv_code.specs.machine.Machine.{call_of, most_moved, bad_file, no_such_call, Outcome, Going, Ended, Halts}
 
--- registers hold words of 64 bits, and memory holds bytes
+-- registers hold numbers of 64 bits, and memory holds bytes
 abbrev pub ByteState : Type 0
 ByteState = State ℕ ℕ
 

@@ -1,4 +1,4 @@
-// The parts of spans as columns.
+// The fields of spans as lists.
 ghost use Rattle.std.specs.Prelude.{◌≡◌, IfOk, map};
 
 use crate::span::Span;
