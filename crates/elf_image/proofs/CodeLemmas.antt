@@ -4,7 +4,7 @@ use Rattle.std.proofs.Common.{None, IfSome, IfNone, Any, nat_eq, codes, is_some,
 use Rattle.std.specs.List.{starts_with}
 use Rattle.std.proofs.lemmas.Bool.{cases_lt, cases_order}
 use Rattle.std.proofs.lemmas.Option.{slice_get_cases}
-use Rattle.elf_image.specs.declared.elf.Section.{Section}
+use Rattle.elf_image.specs.declared.section.Section.{Section}
 use Rattle.elf_image.specs.declared.segment.Segment.{Segment}
 use Rattle.elf_image.specs.file.Header.{segment, segment_place, e_phnum, e_shnum}
 use Rattle.elf_image.specs.faults.SegmentLayout.{IsCode, IsSecondCode, IsTooMany, IsOneTooMany, IsLowestCode, IsLowestCodeBelow}

@@ -4,12 +4,12 @@ use Rattle.std.proofs.Common.{List, [], ◌∷◌, ◌++◌, arith, ◌⊎◌, i
 use Rattle.std.specs.List.{Contains, Any, flat_map}
 use Rattle.std.proofs.lemmas.Bool.{ltb-true, ltb-false}
 use Rattle.std.proofs.lemmas.List.Elements.{Contains-append_left, Contains-append_right, Contains-append_cases}
-use Rattle.elf_image.specs.declared.elf.Section.{Section}
-use Rattle.elf_image.specs.declared.elf.Symbol.{Symbol}
+use Rattle.elf_image.specs.declared.section.Section.{Section}
+use Rattle.elf_image.specs.declared.symbol.Symbol.{Symbol}
 use Rattle.elf_image.specs.code.Cuts.{names_function, IsBound, IsCutAddress}
 use Rattle.elf_image.specs.file.Sections.{holds_code}
 use Rattle.elf_image.specs.internal.CutLists.{bounds, bounds_of_symbol, bounds_of_section, symbol_bounds, section_bounds}
-use Rattle.elf_image.proofs.LoadLemmas.{Contains-cons_cases}
+use Rattle.rb_bytes.proofs.Members.{Contains-cons_cases}
 
 -- the members of a list of lists
 Any-cons : {X : Type 0} (P : X → Type 0) (x : X) (xs : List X) → P x ⊎ Any P xs → Any P (x ∷ xs)

@@ -3,7 +3,6 @@ pub mod CutLists
 mod Examples
 pub mod ExtentLemmas
 pub mod FaultOrder
-pub mod FirstPlaces
 pub mod Folds
 pub mod LoadLemmas
 pub mod LowSegments

@@ -1,5 +1,5 @@
 -- The segment that loads an address, found in the order of addresses.
-use Rattle.std.proofs.Common.{◌≡◌, ◌∙◌, sym, ap, subst, refl, ℕ, ◌<◌, ◌≤◌, suc, zero, Bool, true, false, cond, IsTrue, List, []}
+use Rattle.std.proofs.Common.{◌≡◌, ◌∙◌, sym, ap, subst, refl, ℕ, ◌-◌, ◌<◌, ◌≤◌, Bool, true, false, cond, IsTrue, List, []}
 use Rattle.std.proofs.Common.{◌∷◌, length, get_or, Some, None, All, arith, ◌⊎◌, inl, inr, ◌&&◌, nat_le, nat_lt}
 use Rattle.std.specs.List.{Contains, find, filter}
 use Rattle.std.specs.List.Sorted.{IsNonDecreasingBy, IsPermutation}
@@ -8,16 +8,10 @@ use Rattle.std.proofs.lemmas.Bool.{cases_lt}
 use Rattle.std.proofs.lemmas.List.{get_or_default}
 use Rattle.std.proofs.lemmas.List.Elements.{All-same, filter_passes, Contains-get_or}
 use Rattle.std.proofs.lemmas.List.Sorted.{All-permutation, Contains-permutation, IsPermutation-sym}
+use Rattle.rb_bytes.proofs.Members.{Contains-cons_cases, Contains-there}
+use Rattle.elf_image.specs.declared.elf.Elf.{Elf}
 use Rattle.elf_image.specs.declared.segment.Segment.{Segment}
 use Rattle.elf_image.specs.memory.Image.{is_load, end_of, has_memory, loads_address, segment_of, LoadOnce}
-
--- an element of a list is its head or stands in the rest
-pub Contains-cons_cases : {X : Type 0} (y : X) (ys : List X) (x : X) → Contains (y ∷ ys) x → (y ≡ x) ⊎ Contains ys x
-Contains-cons_cases y ys x (zero, within, is) = inl is
-Contains-cons_cases y ys x (suc k, within, is) = inr (k, omega arith, is)
-
-pub Contains-there : {X : Type 0} (y : X) (ys : List X) (x : X) → Contains ys x → Contains (y ∷ ys) x
-Contains-there y ys x (k, within, is) = (suc k, omega arith, is)
 
 -- what a search finds passes, and is in the list
 pub find-found : {X : Type 0} (p : X → Bool) (xs : List X) (x : X) → find p xs ≡ Some x → (p x ≡ true) × Contains xs x
@@ -105,6 +99,16 @@ pub has_memory-from_loads : (a : ℕ) (p : Segment) → IsTrue (loads_address a 
 has_memory-from_loads a p loads =
     let parts = loads-parts a p loads in
     and_from (is_load p) (nat_lt 0 p.memsz) parts.0 (lt-ltb 0 p.memsz (let low = parts.1 in let high = parts.2 in omega arith))
+
+-- the last address of a segment with memory
+pub loads_last : (p : Segment) → has_memory p ≡ true → IsTrue (loads_address (end_of p - 1) p)
+loads_last p has =
+    let parts = and_parts (is_load p) (nat_lt 0 p.memsz) has in
+    let some : 0 < p.memsz = ltb-true 0 p.memsz parts.1 in
+    let from : nat_le p.vaddr (end_of p - 1) ≡ true = le-leb p.vaddr (end_of p - 1) (omega arith) in
+    let to : nat_lt (end_of p - 1) (end_of p) ≡ true = lt-ltb (end_of p - 1) (end_of p) (omega arith) in
+    and_from (is_load p && nat_le p.vaddr (end_of p - 1)) (nat_lt (end_of p - 1) (end_of p))
+    (and_from (is_load p) (nat_le p.vaddr (end_of p - 1)) parts.0 from) to
 
 pub All-order : (segments some loads : List Segment) → some ≡ filter has_memory segments → IsPermutation some loads →
     All (λ p. IsTrue (has_memory p)) loads
@@ -200,3 +204,11 @@ segment_of-none_last loads a i d once loaded rising within below above fails =
     same_as_last loads a p (get_or loads i d) once p_in (Contains-get_or loads i d within) (loaded i d within)
     (omega arith) below loads_it in
     ap (loads_address a) (sym is_last) ∙ loads_it)))
+
+-- the segment that loads an address loads all that lies in it
+pub same_segment : (elf : Elf) (a q : ℕ) (p : Segment) → segment_of elf.segments.items a ≡ Some p → IsTrue (loads_address q p) →
+    segment_of elf.segments.items q ≡ Some p
+same_segment elf a q p found here =
+    let there = find-found (loads_address a) elf.loads.items p (elf.same a ∙ found) in
+    sym (elf.same q)
+    ∙ find-only (loads_address q) elf.loads.items p there.1 here (λ r r_in r_loads. elf.once q r p r_in there.1 r_loads here)

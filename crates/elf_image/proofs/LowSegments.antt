@@ -8,10 +8,11 @@ use Rattle.elf_image.specs.declared.segment.Segment.{Segment}
 use Rattle.elf_image.specs.declared.segment.TheConstants.{PF_W}
 use Rattle.elf_image.specs.file.Header.{segment, segments_of}
 use Rattle.elf_image.specs.memory.Image.{is_load, has_memory, has_flag, end_of, loads_address}
-use Rattle.elf_image.specs.faults.SegmentLayout.{address_end}
+use Rattle.rv_code.specs.layout.FunctionLists.{address_end}
 use Rattle.elf_image.specs.faults.FileFaults.{IsSound}
 use Rattle.elf_image.specs.memory.Start.{writable_end}
-use Rattle.elf_image.proofs.LoadLemmas.{Contains-there}
+use Rattle.rb_bytes.proofs.Members.{Contains-there}
+use Rattle.elf_image.proofs.LoadLemmas.{loads_last}
 use Rattle.elf_image.proofs.ReadLists.{get_or-segments}
 
 -- each segment with memory ends at the bound or below it
@@ -35,16 +36,6 @@ ends_below bound from (p ∷ ps) ends start =
   where
     rest : EndsBelow bound ps
     rest = record { each = λ q is_in. ends.each q (Contains-there p ps q is_in) }
-
--- the last address of a segment with memory
-loads_last : (p : Segment) → has_memory p ≡ true → IsTrue (loads_address (end_of p - 1) p)
-loads_last p has =
-    let parts = and_parts (is_load p) (nat_lt 0 p.memsz) has in
-    let some : 0 < p.memsz = ltb-true 0 p.memsz parts.1 in
-    let from : nat_le p.vaddr (end_of p - 1) ≡ true = le-leb p.vaddr (end_of p - 1) (omega arith) in
-    let to : nat_lt (end_of p - 1) (end_of p) ≡ true = lt-ltb (end_of p - 1) (end_of p) (omega arith) in
-    and_from (is_load p && nat_le p.vaddr (end_of p - 1)) (nat_lt (end_of p - 1) (end_of p))
-    (and_from (is_load p) (nat_le p.vaddr (end_of p - 1)) parts.0 from) to
 
 pub low_end : (file : List ℕ) → IsSound file → writable_end (segments_of file) ≤ 2 ^ 63
 low_end file sound = ends_below (2 ^ 63) 0 (segments_of file) (record { each = ends }) (omega arith)

@@ -5,7 +5,7 @@ use Rattle.byteorder.specs.Endian.{little_from}
 use Rattle.elf_image.specs.file.Header.{number_at}
 
 -- a number is made of its bytes alone
-little_from-same : (i n : ℕ) (xs ys : List ℕ) → ((k : ℕ) → i ≤ k → k < i + n → get_or xs k 0 ≡ get_or ys k 0) →
+pub little_from-same : (i n : ℕ) (xs ys : List ℕ) → ((k : ℕ) → i ≤ k → k < i + n → get_or xs k 0 ≡ get_or ys k 0) →
     little_from i n xs ≡ little_from i n ys
 little_from-same i zero xs ys same = refl
 little_from-same i (suc n) xs ys same =

@@ -1,7 +1,7 @@
 -- What the sections that were read say of the headers in the file.
 use Rattle.std.proofs.Common.{◌≡◌, ◌∙◌, sym, refl, ℕ, ◌+◌, ◌<◌, ◌≤◌, ⊎_elim, List, length, get_or, arith}
 use Rattle.std.proofs.lemmas.Option.{slice_get-get_or}
-use Rattle.elf_image.specs.declared.elf.Section.{Section}
+use Rattle.elf_image.specs.declared.section.Section.{Section}
 use Rattle.elf_image.specs.declared.relocation.TheConstants.{SHT_RELA}
 use Rattle.elf_image.specs.declared.section.TheConstants.{SHT_NOBITS}
 use Rattle.elf_image.specs.file.Header.{e_shnum}

@@ -24,7 +24,7 @@ impl<'a> SegmentTable<'a> {
     ghost use Rattle.elf_image.specs.file.Header.{segment};
 
     /// The program header of an index.
-    pub fn segment_of(self, index: u16) -> Segment
+    pub fn segment_of(self, index: usize) -> Segment
         requires { index < e_phnum self.file.now }
         ensures { result ≡ segment self.entry.file.now index }
     {
@@ -44,7 +44,7 @@ impl<'a> SectionTable<'a> {
     ghost use Rattle.elf_image.specs.file.Sections.{section_header};
 
     /// The section header of an index.
-    pub fn section_of(self, index: u16) -> SectionHeader
+    pub fn section_of(self, index: usize) -> SectionHeader
         requires { index < e_shnum self.file.now }
         ensures { result ≡ section_header self.entry.file.now index }
     {
@@ -53,15 +53,15 @@ impl<'a> SectionTable<'a> {
 }
 
 /// How many program headers there are.
-pub fn segment_count(segments: SegmentTable) -> u16
+pub fn segment_count(segments: SegmentTable) -> usize
     ensures { result ≡ e_phnum segments.entry.file.now }
 {
     let file = segments.file;
-    Header { file }.fields().phnum
+    Header { file }.fields().phnum as usize
 }
 
 /// Where the program header of an index stands.
-pub fn segment_place(segments: SegmentTable, index: u16) -> u64
+pub fn segment_place(segments: SegmentTable, index: usize) -> u64
     requires { index < e_phnum segments.file.now }
     ensures { result ≡ segment_place segments.entry.file.now index }
 {
@@ -70,15 +70,15 @@ pub fn segment_place(segments: SegmentTable, index: u16) -> u64
 }
 
 /// How many section headers there are.
-pub fn section_count(headers: SectionTable) -> u16
+pub fn section_count(headers: SectionTable) -> usize
     ensures { result ≡ e_shnum headers.entry.file.now }
 {
     let file = headers.file;
-    Header { file }.fields().shnum
+    Header { file }.fields().shnum as usize
 }
 
 /// Where the section header of an index stands.
-pub fn section_place(headers: SectionTable, index: u16) -> u64
+pub fn section_place(headers: SectionTable, index: usize) -> u64
     requires { index < e_shnum headers.file.now }
     ensures { result ≡ section_place headers.entry.file.now index }
 {

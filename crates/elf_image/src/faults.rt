@@ -16,7 +16,6 @@ pub mod segment_extents;
 pub mod stray;
 pub mod truncated;
 
-use crate::elf::Section;
 use crate::entries::SegmentTable;
 use crate::faults::checks::{
     lowest_compressed, lowest_high_address, lowest_not_static, lowest_other_flags,
@@ -26,6 +25,7 @@ use crate::faults::loading::lowest_bad_loading;
 use crate::faults::truncated::lowest_truncated;
 use crate::header::{Header, is_elf};
 use crate::lowest::place_if;
+use crate::section::Section;
 use rb_bytes::fault::{Fault, FaultKind, Refusal};
 use std::alloc::Global;
 

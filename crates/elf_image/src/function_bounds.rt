@@ -4,7 +4,9 @@ ghost use Rattle.std.specs.List.Sorted.{IsStrictlyIncreasing};
 ghost use Rattle.elf_image.specs.code.Cuts.{IsCutAddress};
 ghost use Rattle.elf_image.specs.internal.CutLists.{bounds, symbol_bounds, section_bounds};
 
-use crate::elf::{Elf, Section, Symbol};
+use crate::elf::Elf;
+use crate::section::Section;
+use crate::symbol::Symbol;
 use rb_bytes::fault::NoMemory;
 use std::alloc::Global;
 

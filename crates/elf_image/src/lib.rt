@@ -22,9 +22,10 @@ pub mod symbol;
 pub mod tables;
 pub mod text;
 
-pub use elf::{Elf, Section, Symbol};
+pub use elf::Elf;
 pub use faults::refuse_at;
 pub use function_bounds::cuts;
 pub use reader::read;
-pub use section::SectionHeader;
+pub use section::{Section, SectionHeader};
 pub use segment::Segment;
+pub use symbol::Symbol;

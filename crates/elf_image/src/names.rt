@@ -40,7 +40,7 @@ pub fn section_names<'a>(headers: SectionTable<'a>) -> Option<&'a [u8]>
     ensures none { IfNone result (HasSectionNames headers.entry.file.now → ⊥) }
 {
     let header = Header { file: headers.file };
-    let index = header.fields().shstrndx;
+    let index = header.fields().shstrndx as usize;
     if index >= section_count(headers) {
         return None;
     }
@@ -60,10 +60,10 @@ pub fn symbol_names<'a>(headers: SectionTable<'a>, table: &SectionHeader) -> Opt
     if !has_contents(headers.file, table) {
         return None;
     }
-    if table.link >= section_count(headers) as u32 {
+    if table.link as usize >= section_count(headers) {
         return Some(&headers.file[..0]);
     }
-    let section = headers.section_of(table.link as u16);
+    let section = headers.section_of(table.link as usize);
     if !has_contents(headers.file, &section) {
         return None;
     }

@@ -6,10 +6,11 @@ ghost use Rattle.elf_image.specs.file.Header.{e_shnum};
 ghost use Rattle.elf_image.specs.faults.FileFaults.{HasFault, IsSound, IsRefusal};
 ghost use Rattle.elf_image.specs.file.ParsedFile.{AreSections, IsElfOf};
 
-use crate::elf::{Elf, Section};
+use crate::elf::Elf;
 use crate::faults::{check_layout, check_structure};
 use crate::header::Header;
 use crate::image::segments_by_address;
+use crate::section::Section;
 use crate::tables::{read_sections, read_segments, read_symbols};
 use rb_bytes::fault::{NoMemory, Refusal};
 use std::alloc::Global;

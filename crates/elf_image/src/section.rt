@@ -1,6 +1,7 @@
-// Section headers.
+// Sections and their headers.
 ghost use Rattle.std.specs.Prelude.{◌≡◌, ◌≤◌, ◌+◌, length};
 
+use crate::named::{names_debug, names_frames};
 use crate::number::{is_set, u32_at, u64_at};
 
 /// The type of a section that has no bytes in the file. gABI, "Section Types".
@@ -80,5 +81,77 @@ impl SectionHeader {
         ensures { result ≡ holds_code self.now.flags }
     {
         is_set(self.flags, SHF_EXECINSTR)
+    }
+}
+
+/// A section. Offsets and sizes are in bytes. gABI, "Section Header".
+#[derive(Clone, Copy, PartialEq, Eq, Debug)]
+pub struct Section<'a> {
+    /// Its name, without the zero byte.
+    pub name: &'a [u8],
+    /// `sh_type`.
+    pub kind: u32,
+    /// `sh_flags`.
+    pub flags: u64,
+    /// `sh_addr`.
+    pub addr: u64,
+    /// `sh_offset`.
+    pub offset: u64,
+    /// `sh_size`.
+    pub size: u64,
+    /// `sh_link`.
+    pub link: u32,
+    /// `sh_info`.
+    pub info: u32,
+    /// `sh_addralign`.
+    pub align: u64,
+    /// `sh_entsize`.
+    pub entsize: u64,
+}
+
+impl<'a> Section<'a> {
+    ghost use Rattle.elf_image.specs.file.Sections.{holds_code};
+    ghost use Rattle.elf_image.specs.faults.FileFaults.{is_compressed};
+    ghost use Rattle.elf_image.specs.file.SectionNames.{is_called, is_loaded, is_meant_by};
+
+    /// Whether the section is loaded.
+    pub fn is_loaded(&self) -> bool
+        ensures { result ≡ is_loaded self.now }
+    {
+        is_set(self.flags, SHF_ALLOC)
+    }
+
+    /// Whether the section holds instructions.
+    pub fn holds_code(&self) -> bool
+        ensures { result ≡ holds_code self.now.flags }
+    {
+        is_set(self.flags, SHF_EXECINSTR)
+    }
+
+    /// Whether its contents are compressed, by its flags or its name.
+    pub fn is_compressed(&self) -> bool
+        ensures { result ≡ is_compressed self.now.flags self.now.name.now }
+    {
+        is_set(self.flags, SHF_COMPRESSED) || self.name.starts_with(b".zdebug")
+    }
+
+    /// Whether a name means this section.
+    pub fn is_called(&self, name: &[u8]) -> bool
+        ensures { result ≡ is_called name.now self.now }
+    {
+        self.name == name && self.is_meant_by(name)
+    }
+
+    /// Whether a name means this section, if it is its own.
+    pub fn is_meant_by(&self, name: &[u8]) -> bool
+        ensures { result ≡ is_meant_by name.now self.now }
+    {
+        if names_frames(name) {
+            self.is_loaded() && !self.holds_code()
+        } else if names_debug(name) {
+            !self.is_loaded() && !self.holds_code()
+        } else {
+            true
+        }
     }
 }

@@ -1,10 +1,9 @@
-// Entries of the symbol table. gABI, "Symbol Table".
+// Symbols, and the entries of the symbol table that they are. gABI, "Symbol Table".
 ghost use Rattle.std.specs.Prelude.{◌≡◌, ◌≤◌, ◌+◌, length};
 ghost use Rattle.elf_image.specs.file.ParsedFile.{IsSymbolAt};
 ghost use Rattle.elf_image.specs.file.Symbols.{symbol_names};
 ghost use Rattle.elf_image.specs.file.StringTables.{name_bytes};
 
-use crate::elf::Symbol;
 use crate::number::{u16_at, u32_at, u64_at};
 use crate::section::SectionHeader;
 use crate::text::Names;
@@ -20,6 +19,34 @@ pub const STT_FUNC: u8 = 2;
 
 /// The type of a symbol whose routine the program selects when it starts: GNU's `STT_GNU_IFUNC`.
 pub const STT_GNU_IFUNC: u8 = 10;
+
+/// A symbol of the symbol table. gABI, "Symbol Table".
+#[derive(Clone, Copy, PartialEq, Eq, Debug)]
+pub struct Symbol<'a> {
+    /// Its name, without the zero byte.
+    pub name: &'a [u8],
+    /// `st_value`.
+    pub value: u64,
+    /// `st_size`, in bytes.
+    pub size: u64,
+    /// `st_info`: the binding in its high four bits, the type in its low ones.
+    pub info: u8,
+    /// `st_other`.
+    pub other: u8,
+    /// `st_shndx`: the index of its section.
+    pub section: u16,
+}
+
+impl<'a> Symbol<'a> {
+    ghost use Rattle.elf_image.specs.code.Cuts.{names_function};
+
+    /// Whether the symbol names a function.
+    pub fn names_function(&self) -> bool
+        ensures { result ≡ names_function self.now }
+    {
+        self.info % 16 == STT_FUNC
+    }
+}
 
 /// The symbol of a table whose entry stands at an offset.
 pub fn symbol_at<'a>(

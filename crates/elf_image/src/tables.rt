@@ -8,14 +8,13 @@ ghost use Rattle.elf_image.specs.file.Sections.{section_names};
 ghost use Rattle.elf_image.specs.file.Symbols.{symbol_table, symbol_count, symbol_names};
 ghost use Rattle.elf_image.specs.file.StringTables.{name_bytes};
 
-use crate::elf::{Section, Symbol};
 use crate::entries::{
     SectionTable, SegmentTable, section_count, segment_count, symbol_count, symbol_table,
 };
 use crate::names::{section_names, symbol_names};
-use crate::section::{SHT_SYMTAB, SectionHeader};
+use crate::section::{SHT_SYMTAB, Section, SectionHeader};
 use crate::segment::Segment;
-use crate::symbol::{SYM_SIZE, symbol_at};
+use crate::symbol::{SYM_SIZE, Symbol, symbol_at};
 use crate::text::Names;
 use rb_bytes::fault::NoMemory;
 use std::alloc::Global;
@@ -33,7 +32,7 @@ pub fn read_segments(alloc: Global, file: &[u8]) -> Result<Vec<Segment>, NoMemor
     Ok(segments)
 }
 
-fn read_section<'a>(file: &'a [u8], names: &Names<'a>, index: u16) -> Section<'a>
+fn read_section<'a>(file: &'a [u8], names: &Names<'a>, index: usize) -> Section<'a>
     requires whole { IsReadable file.now }
     requires index { index < e_shnum file.now }
     requires names { name_bytes names.now ≡ section_names file.now }

@@ -5,6 +5,7 @@ use Rattle.std.specs.Prelude.{All, AllPairs, Contains, fold}
 use Rattle.std.proofs.lemmas.Grind.{common_steps, same_number_lists}
 use Rattle.std.proofs.lemmas.List.{get_or-drop, get_or-take, get_or_append_left, get_or-append_right}
 use Rattle.byteorder.specs.Endian.{little_from, little_number, little_bytes}
+use Rattle.elf_image.proofs.NumberBytes.{little_from-same}
 use Rattle.elf_image.specs.file.Header.{number_at}
 use Rattle.elf_parts.specs.Patches.{put, Patch, put_patch, put_all, IsBeside, AreApart, IsWithin, Stands}
 
@@ -136,20 +137,10 @@ stands-behind xs bytes =
 
 -- Read back.
 
--- a number is made of its bytes alone
-little_from-stands : (i n : ℕ) (xs ys : List ℕ) → ((k : ℕ) → i ≤ k → k < i + n → get_or xs k 0 ≡ get_or ys k 0) →
-    little_from i n xs ≡ little_from i n ys
-little_from-stands i zero xs ys same = refl
-little_from-stands i (suc n) xs ys same =
-    let first : get_or xs i 0 ≡ get_or ys i 0 = same i (omega arith) (omega arith) in
-    let rest : little_from (suc i) n xs ≡ little_from (suc i) n ys =
-    little_from-stands (suc i) n xs ys (λ k low high. same k (omega arith) (omega arith)) in
-    cc
-
 pub number_at-stands : (file : List ℕ) (o : ℕ) (bytes : List ℕ) (i n : ℕ) → Stands file o bytes → i + n ≤ length bytes →
     number_at file (o + i) n ≡ number_at bytes i n
 number_at-stands file o bytes i n stands inside =
-    little_from-stands 0 n (drop (o + i) file) (drop i bytes)
+    little_from-same 0 n (drop (o + i) file) (drop i bytes)
     (λ k low high. get_or-drop (o + i) file k 0 ∙ ap (λ (j : ℕ). get_or file j 0) (place k) ∙ stands.same (i + k) (omega arith)
     ∙ sym (get_or-drop i bytes k 0))
   where

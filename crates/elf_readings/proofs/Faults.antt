@@ -8,8 +8,8 @@ use Rattle.rb_bytes.specs.declared.fault.FaultKind.TheVariants as kind
 use Rattle.rv_code.specs.declared.inst.Inst.TheVariants.{Auipc}
 use Rattle.rv_code.specs.declared.placed.Role.TheVariants.{CallHi}
 use Rattle.elf_image.specs.declared.elf.Elf.{Elf}
-use Rattle.elf_image.specs.declared.elf.Section.{Section}
-use Rattle.elf_image.specs.declared.elf.Symbol.{Symbol}
+use Rattle.elf_image.specs.declared.section.Section.{Section}
+use Rattle.elf_image.specs.declared.symbol.Symbol.{Symbol}
 use Rattle.elf_image.specs.declared.relocation.TheConstants.{R_RISCV_IRELATIVE}
 use Rattle.elf_image.specs.declared.symbol.TheConstants.{STT_GNU_IFUNC}
 use Rattle.elf_image.specs.code.Relocations.{Relocation}

@@ -3,12 +3,12 @@ use Rattle.std.proofs.Common.{◌≡◌, ◌∙◌, sym, ap, subst, refl, ℕ, �
 use Rattle.std.specs.Prelude.{ℤ, pos, IsSomeAnd}
 use Rattle.std.proofs.lemmas.List.{length-map}
 use Rattle.elf_image.specs.declared.elf.Elf.{Elf}
-use Rattle.elf_image.specs.declared.elf.Section.{Section}
+use Rattle.elf_image.specs.declared.section.Section.{Section}
 use Rattle.elf_image.specs.memory.LoadedBytes.{loaded_number}
 use Rattle.elf_image.specs.code.Relocations.{Relocation, relocations, symbol_value, label, is_pcrel_lo, is_pcrel_hi, is_call_pair}
 use Rattle.elf_image.specs.code.Relocations.{is_supported, HasRelocation, Width}
 use Rattle.elf_image.specs.code.Cells.{is_plus, is_minus, IsCodeLabel}
-use Rattle.elf_image.specs.faults.ReferenceFaults.{IsRelocType, IsCall, IsAuipc, IsNamedByLow, IsUpper, HasLower, HasAbsolute}
+use Rattle.elf_image.specs.faults.ReferenceFaults.{IsRelocType, IsCall, HasAuipc, IsNamedByLow, IsUpper, HasLower, HasAbsolute}
 use Rattle.elf_image.specs.faults.ReferenceFaults.{IsPaired, IsBadField, IsBadCall, IsBadUpper, IsBadPair, IsBadLower}
 use Rattle.elf_image.specs.faults.ReferenceFaults.{IsBadAbsolute, IsBadDifference, HasBadLabel, IsMisfit, IsRelocMismatch}
 use Rattle.elf_image.specs.faults.ReferenceFaults.{IsLoMismatch, IsNarrow, IsNarrowDiff}
@@ -33,7 +33,7 @@ is_call_of : (e e' : Elf) → Alike e e' → (r : Relocation) (s : Section) → 
     IsCall e' (with_section r s)
 is_call_of e e' a r s t (pair, rest) = (pair_of e e' a r s t pair, rest)
 
-auipc_of : (e e' : Elf) → Alike e e' → (at : ℕ) → IsAuipc e at → IsAuipc e' at
+auipc_of : (e e' : Elf) → Alike e e' → (at : ℕ) → HasAuipc e at → HasAuipc e' at
 auipc_of e e' a at (rd, imm, full) = (rd, imm, full_of e e' a at _ full)
 
 abbrev names_low : Elf → ℕ → Relocation → Type 0

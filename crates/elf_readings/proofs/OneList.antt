@@ -1,7 +1,7 @@
 -- Of a set there is one ascending list.
 use Rattle.std.proofs.Common.{◌≡◌, ◌∙◌, sym, ap, subst, refl, ℕ, zero, suc, ◌<◌, ◌⊎◌, inl, inr, ⊎_elim, List, [], ◌∷◌, map, arith}
 use Rattle.std.specs.Prelude.{Contains, AllPairs}
-use Rattle.elf_image.proofs.LoadLemmas.{Contains-cons_cases, Contains-there}
+use Rattle.rb_bytes.proofs.Members.{Contains-cons_cases, Contains-there}
 
 module _ {X Z : Type 0} (key : X → ℕ) (image : X → Z) (Same : X → X → Type 0) (same_key : (x y : X) → Same x y → key x ≡ key y)
     (same_image : (x y : X) → Same x y → image x ≡ image y) where

@@ -2,8 +2,8 @@
 use Rattle.std.proofs.Common.{◌≡◌, ◌∙◌, sym, ap, subst, ℕ, ◌+◌, ◌<◌, ◌≤◌, inl, inr, List, IsTrue}
 use Rattle.rv_code.specs.declared.inst.Inst.{Inst}
 use Rattle.elf_image.specs.declared.elf.Elf.{Elf}
-use Rattle.elf_image.specs.declared.elf.Section.{Section}
-use Rattle.elf_image.specs.declared.elf.Symbol.{Symbol}
+use Rattle.elf_image.specs.declared.section.Section.{Section}
+use Rattle.elf_image.specs.declared.symbol.Symbol.{Symbol}
 use Rattle.elf_image.specs.code.Cuts.{names_function, IsBound}
 use Rattle.elf_image.specs.file.Sections.{holds_code}
 use Rattle.elf_image.specs.code.Parts.{IsCut, IsInCode, IsPart, IsCovered, IsZeroPart, IsCodePart, length_at, length_in}

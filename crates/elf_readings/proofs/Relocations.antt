@@ -7,8 +7,8 @@ use Rattle.std.specs.List.{slice_get, fold}
 use Rattle.std.proofs.lemmas.List.{map-append}
 use Rattle.std.proofs.lemmas.Option.{slice_get-map}
 use Rattle.elf_image.specs.declared.elf.Elf.{Elf}
-use Rattle.elf_image.specs.declared.elf.Section.{Section}
-use Rattle.elf_image.specs.declared.elf.Symbol.{Symbol}
+use Rattle.elf_image.specs.declared.section.Section.{Section}
+use Rattle.elf_image.specs.declared.symbol.Symbol.{Symbol}
 use Rattle.elf_image.specs.declared.relocation.TheConstants.{SHT_RELA, RELA_SIZE}
 use Rattle.elf_image.specs.file.SectionNames.{is_loaded}
 use Rattle.elf_image.specs.code.Relocations.{Relocation, relocations, entries_from, relocation_at, is_named, symbol_value}

@@ -5,7 +5,7 @@ use Rattle.std.specs.Int.{int_rem_euclid}
 use Rattle.rv_code.specs.declared.inst.Inst.{Inst}
 use Rattle.rv_code.specs.declared.placed.Role.{Role}
 use Rattle.elf_image.specs.declared.elf.Elf.{Elf}
-use Rattle.elf_image.specs.declared.elf.Section.{Section}
+use Rattle.elf_image.specs.declared.section.Section.{Section}
 use Rattle.elf_image.specs.memory.LoadedBytes.{byte_at, loaded_number, number_in}
 use Rattle.elf_image.specs.code.Relocations.{Relocation, relocations, label, Width, Bits, Uleb128, plus_width, minus_width}
 use Rattle.elf_image.specs.code.Fields.{leb_from, leb_at, leb_field, bytes_of_bits, width_size, size_by, field_size, HasField}

@@ -1,7 +1,7 @@
 -- The cuts of a file: where functions may begin and end. gABI, "Symbol Table".
 use Rattle.std.specs.Prelude.{◌≡◌, ◌<◌, ◌+◌, ◌%◌, ◌^◌, ◌==◌, ◌⊎◌, ℕ, Bool, IsTrue, List, Any}
-use Rattle.elf_image.specs.declared.elf.Section.{Section}
-use Rattle.elf_image.specs.declared.elf.Symbol.{Symbol}
+use Rattle.elf_image.specs.declared.section.Section.{Section}
+use Rattle.elf_image.specs.declared.symbol.Symbol.{Symbol}
 use Rattle.elf_image.specs.declared.symbol.TheConstants.{STT_FUNC}
 use Rattle.elf_image.specs.file.Sections.{holds_code}
 

@@ -6,7 +6,7 @@ use Rattle.std.specs.Option.{option_map_or}
 use Rattle.std.specs.Str.{bytes_eq}
 use Rattle.rv_code.specs.isa.TwosComplement.{signed64}
 use Rattle.elf_image.specs.declared.elf.Elf.{Elf}
-use Rattle.elf_image.specs.declared.elf.Section.{Section}
+use Rattle.elf_image.specs.declared.section.Section.{Section}
 use Rattle.elf_image.specs.declared.relocation.TheConstants.{SHT_RELA, RELA_SIZE}
 use Rattle.elf_image.specs.declared.relocation.TheConstants as r
 use Rattle.elf_image.specs.file.Header.{number_at}

@@ -10,11 +10,11 @@ use Rattle.rv_code.specs.isa.HiLo.{hi20, lo12}
 use Rattle.rv_code.specs.declared.inst.Inst.{Inst}
 use Rattle.rv_code.specs.declared.inst.Inst.TheVariants.{Auipc, Lui}
 use Rattle.elf_image.specs.declared.elf.Elf.{Elf}
-use Rattle.elf_image.specs.declared.elf.Section.{Section}
+use Rattle.elf_image.specs.declared.section.Section.{Section}
 use Rattle.elf_image.specs.declared.relocation.TheConstants.{R_RISCV_GOT_HI20, R_RISCV_HI20, R_RISCV_IRELATIVE}
 use Rattle.elf_image.specs.declared.symbol.TheConstants.{STT_GNU_IFUNC}
 use Rattle.elf_image.specs.memory.LoadedBytes.{loaded_number}
-use Rattle.elf_image.specs.faults.SegmentLayout.{address_end}
+use Rattle.rv_code.specs.layout.FunctionLists.{address_end}
 use Rattle.elf_image.specs.code.Relocations.{Relocation, relocations, symbol_value, label, is_named, is_supported, is_call_pair}
 use Rattle.elf_image.specs.code.Relocations.{is_pcrel_hi, is_pcrel_lo, Width, plus_width, minus_width, HasRelocation}
 use Rattle.elf_image.specs.code.Roles.{IsFullAt, lower_immediate, CallPair, CallTo, PcrelLo, PcrelHiTo, AbsoluteTo, IsAbsoluteLow}
@@ -40,8 +40,8 @@ IsCall elf r =
     × (((pair.base ≡ pair.rd) × (pair.base ≢ 0))
     ⊎ ((pair.base ≡ 0) × (pair.upper ≡ pos 0) × ((pair.rd ≡ 0) ⊎ (pair.lower ≡ pos 0))))
 
-abbrev pub IsAuipc : Elf → ℕ → Type 0
-IsAuipc elf a = (rd : ℕ) × (imm : ℤ) × IsFullAt elf a (Auipc rd imm)
+abbrev pub HasAuipc : Elf → ℕ → Type 0
+HasAuipc elf a = (rd : ℕ) × (imm : ℤ) × IsFullAt elf a (Auipc rd imm)
 
 -- a relocation for a lower part names an AUIPC, whatever it applies to
 abbrev pub IsNamedByLow : Elf → ℕ → Type 0
@@ -49,7 +49,7 @@ IsNamedByLow elf hi = Any (λ r. IsTrue (is_pcrel_lo r.kind) × (symbol_value el
 
 -- an AUIPC with an upper part that isn't a call's
 pub record IsUpper (elf : Elf) (a : ℕ) : Type 0 where
-  pub auipc : IsAuipc elf a
+  pub auipc : HasAuipc elf a
   pub upper : HasRelocation elf (λ r. IsTrue (is_pcrel_hi r.kind)) a
   pub no_call : HasRelocation elf (λ r. IsTrue (is_call_pair r.kind)) a → ⊥
 
@@ -86,7 +86,7 @@ pub data IsBadCall (elf : Elf) (r : Relocation) : Type 0 where
 
 -- the upper part of a distance isn't on an AUIPC, or no lower part goes with it
 pub data IsBadUpper (elf : Elf) (r : Relocation) : Type 0 where
-  no_auipc : IsTrue (is_pcrel_hi r.kind) → (IsAuipc elf r.place → ⊥) → IsBadUpper elf r
+  no_auipc : IsTrue (is_pcrel_hi r.kind) → (HasAuipc elf r.place → ⊥) → IsBadUpper elf r
   alone : IsTrue (is_pcrel_hi r.kind) → (IsNamedByLow elf r.place → ⊥) → IsBadUpper elf r
 
 -- an AUIPC and a lower part give no address; or their target is an entry of the global offset table that isn't loaded or

@@ -2,6 +2,7 @@
 -- from all others, in the file as in memory. gABI, "Program Header" and "Program Loading".
 use Rattle.std.specs.Prelude.{◌≡◌, ◌≢◌, ◌≤◌, ◌<◌, ◌⊎◌, ◌+◌, ◌*◌, ℕ, List, IsTrue, nat_eq, codes, Bool, ◌&&◌}
 use Rattle.std.specs.List.{starts_with}
+use Rattle.rv_code.specs.layout.FunctionLists.{address_end}
 use Rattle.elf_image.specs.declared.segment.Segment.{Segment}
 use Rattle.elf_image.specs.declared.segment.TheConstants.{PF_X, PF_W, PHDR_SIZE}
 use Rattle.elf_image.specs.file.Header.{e_phoff, e_phnum, e_shnum, segment, segment_place}
@@ -114,10 +115,6 @@ IsBadLoading file place =
 -- an executable segment may be written
 abbrev pub IsWritableCode : List ℕ → ℕ → ℕ → Type 0
 IsWritableCode file i place = (IsCode file i × IsTrue (has_flag PF_W (segment file i))) × (place ≡ segment_place file i)
-
--- the address below which all that is loaded lies
-abbrev pub address_end : ℕ
-address_end = 0x7fff0000
 
 -- a segment loads this address, which isn't below
 abbrev pub IsHigh : List ℕ → ℕ → ℕ → Type 0

@@ -1,7 +1,7 @@
 -- The bounds of symbols and sections as lists, in the order in which the code finds them.
 use Rattle.std.specs.Prelude.{◌+◌, ◌^◌, ℕ, List, [], ◌∷◌, flat_map, nat_lt, if◌then◌else◌}
-use Rattle.elf_image.specs.declared.elf.Section.{Section}
-use Rattle.elf_image.specs.declared.elf.Symbol.{Symbol}
+use Rattle.elf_image.specs.declared.section.Section.{Section}
+use Rattle.elf_image.specs.declared.symbol.Symbol.{Symbol}
 use Rattle.elf_image.specs.code.Cuts.{names_function}
 use Rattle.elf_image.specs.file.Sections.{holds_code}
 

@@ -1,6 +1,6 @@
 -- How a program starts, and its runs. gABI, "Program Loading"; the stack and its auxiliary vector as the
 -- System V ABI has them for other processors ("Process Initialization"), with Linux's AT_RANDOM. The bytes
--- of a file, of words and of input are below 256, and words hold no zero byte.
+-- of a file, of arguments and of input are below 256, and arguments hold no zero byte.
 use Rattle.std.specs.Prelude.{ℕ, ◌+◌, ◌-◌, ◌*◌, ◌/◌, ◌^◌, ◌&&◌, ◌||◌, ◌==◌, nat_lt, nat_le, if◌then◌else◌, Bool, List, [], ◌∷◌}
 use Rattle.std.specs.Prelude.{◌++◌, length, min, max, map, filter, fold, flat_map, find, replicate, slice_index, unwrap_or, codes}
 use Rattle.std.specs.Option.{option_map_or}
@@ -66,16 +66,16 @@ random_bytes = 0 ∷ 1 ∷ 2 ∷ 3 ∷ 4 ∷ 5 ∷ 6 ∷ 7 ∷ 8 ∷ 9 ∷ 10 �
 abbrev pub random_address : ℕ
 random_address = stack_end - 16
 
--- the arguments: the program's name, which is always this one, and the words
+-- the arguments: the program's name, which is always this one, and those that it is run with
 abbrev pub program_arguments : List (List ℕ) → List (List ℕ)
-program_arguments words = codes "program" ∷ words
+program_arguments args = codes "program" ∷ args
 
 -- their texts below these bytes, each with a zero byte
 abbrev pub texts : List (List ℕ) → List ℕ
-texts words = flat_map (λ text. text ++ 0 ∷ []) (program_arguments words)
+texts args = flat_map (λ text. text ++ 0 ∷ []) (program_arguments args)
 
 abbrev pub texts_address : List (List ℕ) → ℕ
-texts_address words = random_address - length (texts words)
+texts_address args = random_address - length (texts args)
 
 -- where texts stand that begin at an address
 abbrev pub text_addresses : ℕ → List (List ℕ) → List ℕ
@@ -95,30 +95,30 @@ auxiliary_vector file =
     3 ∷ table_address file ∷ 4 ∷ PHDR_SIZE ∷ 5 ∷ e_phnum file ∷ 6 ∷ page_size ∷ 9 ∷ e_entry file
     ∷ 25 ∷ random_address ∷ 0 ∷ 0 ∷ []
 
--- the words at the stack pointer: the count of arguments, their addresses, the ends of the lists of arguments
+-- the numbers at the stack pointer: the count of arguments, their addresses, the ends of the lists of arguments
 -- and of environment variables, and the auxiliary vector
 abbrev pub stack_entries : List ℕ → List (List ℕ) → List ℕ
-stack_entries file words =
-    length (program_arguments words) ∷ text_addresses (texts_address words) (program_arguments words)
+stack_entries file args =
+    length (program_arguments args) ∷ text_addresses (texts_address args) (program_arguments args)
     ++ 0 ∷ 0 ∷ auxiliary_vector file
 
 -- they begin at a multiple of 16
 abbrev pub stack_pointer : List (List ℕ) → ℕ
-stack_pointer words = rounded_down 16 (texts_address words - 8 * (length (program_arguments words) + 17))
+stack_pointer args = rounded_down 16 (texts_address args - 8 * (length (program_arguments args) + 17))
 
 abbrev pub start_bytes : List ℕ → List (List ℕ) → List ℕ
-start_bytes file words = flat_map (low_bytes 8) (stack_entries file words)
+start_bytes file args = flat_map (low_bytes 8) (stack_entries file args)
 
 -- the bytes from the stack pointer to the stack's end
 abbrev pub stack_bytes : List ℕ → List (List ℕ) → List ℕ
-stack_bytes file words =
-    start_bytes file words ++ replicate (texts_address words - stack_pointer words - length (start_bytes file words)) 0
-    ++ texts words ++ random_bytes
+stack_bytes file args =
+    start_bytes file args ++ replicate (texts_address args - stack_pointer args - length (start_bytes file args)) 0
+    ++ texts args ++ random_bytes
 
 -- the byte at an address of the stack
 abbrev pub stack_byte : List ℕ → List (List ℕ) → ℕ → ℕ
-stack_byte file words a =
-    if nat_le (stack_pointer words) a then slice_index (stack_bytes file words) (a - stack_pointer words) else 0
+stack_byte file args a =
+    if nat_le (stack_pointer args) a then slice_index (stack_bytes file args) (a - stack_pointer args) else 0
 
 -- The state before the first step.
 
@@ -132,31 +132,31 @@ space_of segments = record {
 }
 
 abbrev pub start_memory : List ℕ → List (List ℕ) → ℕ → ℕ
-start_memory file words a = if in_stack a then stack_byte file words a else unwrap_or (image_byte file (segments_of file) a) 0
+start_memory file args a = if in_stack a then stack_byte file args a else unwrap_or (image_byte file (segments_of file) a) 0
 
 -- every register is 0 but the stack pointer, which is register 2
 abbrev pub start_registers : List (List ℕ) → ℕ → ℕ
-start_registers words r = if r == 2 then stack_pointer words else 0
+start_registers args r = if r == 2 then stack_pointer args else 0
 
 abbrev pub start : List ℕ → List (List ℕ) → List ℕ → ByteState
-start file words input = record {
+start file args input = record {
   pc = e_entry file;
-  registers = start_registers words;
-  memory = start_memory file words;
+  registers = start_registers args;
+  memory = start_memory file args;
   space = space_of (segments_of file);
   program_break = break_start (segments_of file);
   input = input;
 }
 
--- The n-th step of the file, run with these words and this input, ends with this status, after these calls.
+-- The n-th step of the file, run with these arguments and this input, ends with this status, after these calls.
 abbrev pub Runs : List ℕ → List (List ℕ) → List ℕ → ℕ → List Event → ℕ → Type 0
-Runs file words input n trace status = Run Steps (start file words input) n trace status
+Runs file args input n trace status = Run Steps (start file args input) n trace status
 
 -- After n steps that neither end nor trap, with these calls, the next one traps, at this pc for this cause.
 abbrev pub TrapsAfter : List ℕ → List (List ℕ) → List ℕ → ℕ → List Event → ℕ → Cause → Type 0
-TrapsAfter file words input n trace pc cause = HaltsAfter Steps (start file words input) n trace pc cause
+TrapsAfter file args input n trace pc cause = HaltsAfter Steps (start file args input) n trace pc cause
 
 -- Its first n steps neither end nor trap, and make these calls.
-pub record RunsSoFar (file : List ℕ) (words : List (List ℕ)) (input : List ℕ) (n : ℕ) (trace : List Event) : Type 0 where
+pub record RunsSoFar (file : List ℕ) (args : List (List ℕ)) (input : List ℕ) (n : ℕ) (trace : List Event) : Type 0 where
   pub state : ByteState
-  pub so_far : SoFar Steps (start file words input) n trace state
+  pub so_far : SoFar Steps (start file args input) n trace state

@@ -1,17 +1,18 @@
 // The faults of a whole file that one field or one header shows by itself.
-ghost use Rattle.std.specs.Prelude.{◌≡◌, ◌≤◌, ◌<◌, ℕ, IsTrue, List};
+ghost use Rattle.std.specs.Prelude.{◌≡◌, ◌≤◌, ◌<◌, ℕ, IsTrue, IsSomeAnd, if◌then◌else◌, Some, None, List, length, slice_get};
 ghost use Rattle.rb_bytes.specs.declared.fault.FaultKind.TheVariants as fault;
 ghost use Rattle.elf_image.specs.file.Header.{e_phnum, e_shnum};
-ghost use Rattle.elf_image.specs.faults.SegmentLayout.{IsWritableCode, IsHigh, address_end};
+ghost use Rattle.rv_code.specs.layout.FunctionLists.{address_end};
+ghost use Rattle.elf_image.specs.faults.SegmentLayout.{IsWritableCode, IsHigh};
 ghost use Rattle.elf_image.specs.faults.LowestPlace.{IsLowest, SomeBelow};
-ghost use Rattle.elf_image.specs.faults.FileFaults.{HasFault, HasOtherType, IsDynamic};
+ghost use Rattle.elf_image.specs.faults.FileFaults.{HasFault, HasOtherType, IsDynamic, is_compressed};
 ghost use Rattle.elf_image.specs.file.ParsedFile.{AreSections};
 ghost use Rattle.elf_image.specs.memory.Image.{loads_address};
 
-use crate::elf::Section;
 use crate::entries::{SegmentTable, segment_count, segment_place};
 use crate::header::{E_FLAGS, E_TYPE, Header};
 use crate::lowest::{lower, lowest_below, place_if};
+use crate::section::Section;
 use crate::segment::{ADDRESS_END, PF_W, PT_DYNAMIC, PT_INTERP, Segment};
 
 /// The type of an executable that is loaded where its headers say. gABI, "ELF Header".
@@ -30,7 +31,7 @@ fn lowest_other_type(header: Header) -> Option<u64>
     place_if(header.fields().kind != ET_EXEC, E_TYPE as u64)
 }
 
-fn dynamic_segment(segments: SegmentTable, index: u16) -> Option<u64>
+fn dynamic_segment(segments: SegmentTable, index: usize) -> Option<u64>
     requires index { index < e_phnum segments.file.now }
     ensures { IsLowest (IsDynamic segments.entry.file.now index) result }
 {
@@ -60,7 +61,7 @@ pub fn lowest_not_static(segments: SegmentTable) -> Option<u64>
     )
 }
 
-fn writable_code(segments: SegmentTable, index: u16) -> Option<u64>
+fn writable_code(segments: SegmentTable, index: usize) -> Option<u64>
     requires index { index < e_phnum segments.file.now }
     ensures { IsLowest (IsWritableCode segments.entry.file.now index) result }
 {
@@ -87,7 +88,7 @@ fn first_high(segment: &Segment) -> Option<u64>
     place_if(segment.loads(first), first)
 }
 
-fn high_address(segments: SegmentTable, index: u16) -> Option<u64>
+fn high_address(segments: SegmentTable, index: usize) -> Option<u64>
     requires index { index < e_phnum segments.file.now }
     ensures { IsLowest (IsHigh segments.entry.file.now index) result }
 {
@@ -104,15 +105,19 @@ pub fn lowest_high_address(segments: SegmentTable) -> Option<u64>
     )
 }
 
+// The index of a section, if it is compressed.
+fn compressed_section(sections: &[Section], index: usize) -> Option<u64>
+    requires index { index < length sections.now }
+    ensures { IsSomeAnd (slice_get sections.now index)
+        (λ s. result ≡ (if is_compressed s.flags s.name.now then Some index else None)) }
+{
+    place_if(sections[index].is_compressed(), index as u64)
+}
+
 /// The index of the first compressed section.
 pub fn lowest_compressed(sections: &[Section]) -> Option<u64>
     ensures { (file : List ℕ) → AreSections file (e_shnum file) sections.now →
         IsLowest (HasFault file fault.CompressedSection) result }
 {
-    for (index, section) in sections.iter().enumerate() {
-        if section.is_compressed() {
-            return Some(index as u64);
-        }
-    }
-    None
+    lowest_below(sections.len(), |index| compressed_section(sections, index))
 }

@@ -11,12 +11,12 @@ ghost use Rattle.elf_image.specs.faults.LowestPlace.{IsLowest, SomeBelow};
 ghost use Rattle.elf_image.specs.faults.FileFaults.{HasFault};
 ghost use Rattle.elf_image.specs.file.ParsedFile.{AreSections};
 
-use crate::elf::Section;
 use crate::entries::{SegmentTable, segment_count, segment_place};
 use crate::faults::overlap::{lowest_shared_address, lowest_shared_byte};
 use crate::faults::stray::lowest_stray_section;
 use crate::header::{E_PHOFF, Header};
 use crate::lowest::{lower, lowest_below, place_if};
+use crate::section::Section;
 use crate::segment::{PHDR_SIZE, Segment};
 use rb_bytes::fault::NoMemory;
 use std::alloc::Global;
@@ -54,10 +54,10 @@ fn lowest_bad_code(segments: SegmentTable, sections: &[Section]) -> Option<u64>
 }
 
 // The first executable segment from an index on.
-fn next_code(segments: SegmentTable, from: u16) -> Option<u16>
+fn next_code(segments: SegmentTable, from: usize) -> Option<usize>
     ensures code { IfSome result (λ i. IsCode segments.entry.file.now i) }
     ensures from { IfSome result (λ i. from ≤ i) }
-    ensures below { IfSome result (λ i. i + 1 < 2 ^ 16) }
+    ensures below { IfSome result (λ i. i + 1 < 2 ^ 64) }
     ensures first { IfSome result (λ i. (k : ℕ) → IsCode segments.entry.file.now k → from ≤ k → i ≤ k) }
     ensures none { IfNone result ((k : ℕ) → IsCode segments.entry.file.now k → from ≤ k → ⊥) }
 {
@@ -79,9 +79,9 @@ fn lowest_no_code(segments: SegmentTable) -> Option<u64>
 }
 
 // The second executable segment of the table.
-fn second_code(segments: SegmentTable) -> Option<u16>
+fn second_code(segments: SegmentTable) -> Option<usize>
     ensures second { IfSome result (λ i. IsSecondCode segments.entry.file.now i) }
-    ensures below { IfSome result (λ i. i + 1 < 2 ^ 16) }
+    ensures below { IfSome result (λ i. i + 1 < 2 ^ 64) }
     ensures none { IfNone result ((i : ℕ) → IsSecondCode segments.entry.file.now i → ⊥) }
 {
     match next_code(segments, 0) {
@@ -103,16 +103,16 @@ fn has_old_section(sections: &[Section]) -> bool
 }
 
 // Whether a segment from an index on is executable.
-fn has_code_from(segments: SegmentTable, from: u16) -> bool
+fn has_code_from(segments: SegmentTable, from: usize) -> bool
     ensures { IsTrue result ↔ ((k : ℕ) × IsCode segments.entry.file.now k × (from ≤ k)) }
 {
     next_code(segments, from).is_some()
 }
 
 // Whether a second executable segment is one too many: there are more, or the file wasn't moved.
-fn is_too_many(segments: SegmentTable, sections: &[Section], second: u16) -> bool
+fn is_too_many(segments: SegmentTable, sections: &[Section], second: usize) -> bool
     requires sections { AreSections segments.file.now (e_shnum segments.file.now) sections.now }
-    requires second { second + 1 < 2 ^ 16 }
+    requires second { second + 1 < 2 ^ 64 }
     ensures { IsTrue result ↔ IsTooMany segments.entry.file.now second }
 {
     has_code_from(segments, second + 1) || !has_old_section(sections)
@@ -132,7 +132,7 @@ fn lowest_one_too_many(segments: SegmentTable, sections: &[Section]) -> Option<u
     }
 }
 
-fn odd_code(segments: SegmentTable, index: u16) -> Option<u64>
+fn odd_code(segments: SegmentTable, index: usize) -> Option<u64>
     requires index { index < e_phnum segments.file.now }
     ensures { IsLowest (IsOddCode segments.entry.file.now index) result }
 {
@@ -149,7 +149,7 @@ fn lowest_odd_code(segments: SegmentTable) -> Option<u64>
 }
 
 // The executable segment of the lowest address.
-fn lowest_code(segments: SegmentTable) -> Option<u16>
+fn lowest_code(segments: SegmentTable) -> Option<usize>
     ensures some { IfSome result (λ i. IsLowestCode segments.entry.file.now i) }
     ensures none { IfNone result ((i : ℕ) → IsCode segments.entry.file.now i → ⊥) }
 {
@@ -160,7 +160,7 @@ fn lowest_code(segments: SegmentTable) -> Option<u16>
 }
 
 // The same, where this is the first executable segment of the table.
-fn lowest_code_from(segments: SegmentTable, first: u16) -> u16
+fn lowest_code_from(segments: SegmentTable, first: usize) -> usize
     requires code { IsCode segments.file.now first }
     requires first { (k : ℕ) → IsCode segments.file.now k → first ≤ k }
     ensures { IsLowestCode segments.entry.file.now result }
@@ -173,7 +173,7 @@ fn lowest_code_from(segments: SegmentTable, first: u16) -> u16
 }
 
 // The lower of two executable segments, if the one of this index is one.
-fn lower_code(segments: SegmentTable, lowest: u16, index: u16) -> u16
+fn lower_code(segments: SegmentTable, lowest: usize, index: usize) -> usize
     requires index { index < e_phnum segments.file.now }
     requires order { lowest ≤ index }
     requires lowest { IsLowestCodeBelow segments.file.now index lowest }
@@ -188,7 +188,7 @@ fn lower_code(segments: SegmentTable, lowest: u16, index: u16) -> u16
 }
 
 // Whether a segment is executable and lies below another.
-fn is_lower_code(segments: SegmentTable, index: u16, other: u16) -> bool
+fn is_lower_code(segments: SegmentTable, index: usize, other: usize) -> bool
     requires index { index < e_phnum segments.file.now }
     requires other { other < e_phnum segments.file.now }
     ensures { IsTrue result
@@ -200,7 +200,7 @@ fn is_lower_code(segments: SegmentTable, index: u16, other: u16) -> bool
 }
 
 // Whether a range of the file begins before the end of the executable segment, and ends after it.
-fn crosses_end(segments: SegmentTable, code: u16, offset: u64, size: u64) -> bool
+fn crosses_end(segments: SegmentTable, code: usize, offset: u64, size: u64) -> bool
     requires code { IsLowestCode segments.file.now code }
     ensures { IsTrue result ↔ CrossesEnd segments.entry.file.now offset size }
 {
@@ -216,7 +216,7 @@ fn crosses(segment: &Segment, offset: u64, size: u64) -> bool
     (offset as u128) < end && end < offset as u128 + size as u128
 }
 
-fn crossing(segments: SegmentTable, code: u16, index: u16) -> Option<u64>
+fn crossing(segments: SegmentTable, code: usize, index: usize) -> Option<u64>
     requires code { IsLowestCode segments.file.now code }
     requires index { index < e_phnum segments.file.now }
     ensures { IsLowest (IsCrossing segments.entry.file.now index) result }
@@ -226,7 +226,7 @@ fn crossing(segments: SegmentTable, code: u16, index: u16) -> Option<u64>
     place_if(is_wrong, segment_place(segments, index))
 }
 
-fn lowest_crossing(segments: SegmentTable, code: u16) -> Option<u64>
+fn lowest_crossing(segments: SegmentTable, code: usize) -> Option<u64>
     requires code { IsLowestCode segments.file.now code }
     ensures { IsLowest (SomeBelow (e_phnum segments.entry.file.now) (IsCrossing segments.entry.file.now)) result }
 {
@@ -236,7 +236,7 @@ fn lowest_crossing(segments: SegmentTable, code: u16) -> Option<u64>
     )
 }
 
-fn crossing_table(segments: SegmentTable, code: u16) -> Option<u64>
+fn crossing_table(segments: SegmentTable, code: usize) -> Option<u64>
     requires code { IsLowestCode segments.file.now code }
     ensures { IsLowest (IsCrossingTable segments.entry.file.now) result }
 {

@@ -38,7 +38,7 @@ pub fn segment_extents(
 }
 
 // The range of a kind that a segment takes, if it has any.
-fn extent_of(segments: SegmentTable, index: u16, kind: ExtentKind) -> Option<Extent>
+fn extent_of(segments: SegmentTable, index: usize, kind: ExtentKind) -> Option<Extent>
     requires index { index < e_phnum segments.file.now }
     ensures some { IfSome result (λ s. IsExtentOf kind segments.entry.file.now index s) }
     ensures none { IfNone result ((s : Extent) → IsExtentOf kind segments.entry.file.now index s → ⊥) }
@@ -51,7 +51,7 @@ fn extent_of(segments: SegmentTable, index: u16, kind: ExtentKind) -> Option<Ext
 }
 
 // The addresses of a segment, if it is loaded and has any.
-fn address_extent(segments: SegmentTable, index: u16) -> Option<Extent>
+fn address_extent(segments: SegmentTable, index: usize) -> Option<Extent>
     requires index { index < e_phnum segments.file.now }
     ensures some { IfSome result (λ s. IsAddressExtent segments.entry.file.now index s) }
     ensures none { IfNone result ((s : Extent) → IsAddressExtent segments.entry.file.now index s → ⊥) }
@@ -64,7 +64,7 @@ fn address_extent(segments: SegmentTable, index: u16) -> Option<Extent>
 }
 
 // The addresses of a segment, if it is executable and has any.
-fn code_extent(segments: SegmentTable, index: u16) -> Option<Extent>
+fn code_extent(segments: SegmentTable, index: usize) -> Option<Extent>
     requires index { index < e_phnum segments.file.now }
     ensures some { IfSome result (λ s. IsCodeExtent segments.entry.file.now index s) }
     ensures none { IfNone result ((s : Extent) → IsCodeExtent segments.entry.file.now index s → ⊥) }
@@ -77,7 +77,7 @@ fn code_extent(segments: SegmentTable, index: u16) -> Option<Extent>
 }
 
 // The bytes of the file that a segment takes, if it is loaded and takes any.
-fn file_extent(segments: SegmentTable, index: u16) -> Option<Extent>
+fn file_extent(segments: SegmentTable, index: usize) -> Option<Extent>
     requires index { index < e_phnum segments.file.now }
     ensures some { IfSome result (λ s. IsFileExtent segments.entry.file.now index s) }
     ensures none { IfNone result ((s : Extent) → IsFileExtent segments.entry.file.now index s → ⊥) }

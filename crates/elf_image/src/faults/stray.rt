@@ -43,7 +43,7 @@ fn is_stray(reaches: &[Extent], section: &SectionHeader) -> bool
     section.holds_code() && !is_covered(reaches, section.addr, end)
 }
 
-fn stray_section(headers: SectionTable, reaches: &[Extent], index: u16) -> Option<u64>
+fn stray_section(headers: SectionTable, reaches: &[Extent], index: usize) -> Option<u64>
     requires index { index < e_shnum headers.file.now }
     requires rising { IsNonDecreasingBy (λ s. s.start) reaches.now }
     requires growing { IsNonDecreasingBy (λ s. s.end) reaches.now }

@@ -44,7 +44,7 @@ fn lowest_truncated_table(header: Header) -> Option<u64>
     lower(segments, sections)
 }
 
-fn truncated_segment(segments: SegmentTable, index: u16) -> Option<u64>
+fn truncated_segment(segments: SegmentTable, index: usize) -> Option<u64>
     requires index { index < e_phnum segments.file.now }
     ensures { IsLowest (IsTruncatedSegment segments.entry.file.now index) result }
 {
@@ -64,7 +64,7 @@ fn lowest_truncated_segment(segments: SegmentTable) -> Option<u64>
     )
 }
 
-fn truncated_section(headers: SectionTable, index: u16) -> Option<u64>
+fn truncated_section(headers: SectionTable, index: usize) -> Option<u64>
     requires index { index < e_shnum headers.file.now }
     ensures { IsLowest (IsTruncatedSection headers.entry.file.now index) result }
 {
@@ -82,7 +82,7 @@ fn lowest_truncated_section(headers: SectionTable) -> Option<u64>
     )
 }
 
-fn unnamed_section(headers: SectionTable, index: u16, end: usize) -> Option<u64>
+fn unnamed_section(headers: SectionTable, index: usize, end: usize) -> Option<u64>
     requires index { index < e_shnum headers.file.now }
     requires end { IsLastEnd (section_names headers.file.now) end }
     ensures { IsLowest (IsUnnamedSection headers.entry.file.now index) result }
@@ -97,11 +97,10 @@ fn lowest_unnamed_in(headers: SectionTable, table: &[u8]) -> Option<u64>
     ensures { IsLowest (SomeBelow (e_shnum headers.entry.file.now) (IsUnnamedSection headers.entry.file.now)) result }
 {
     let end = last_end(table);
-    let mut lowest = None;
-    for index in 0..section_count(headers) {
-        lowest = lower(lowest, unnamed_section(headers, index, end));
-    }
-    lowest
+    lowest_below(
+        section_count(headers),
+        |index| unnamed_section(headers, index, end),
+    )
 }
 
 // The names of sections.
@@ -133,11 +132,10 @@ fn lowest_unnamed_of(file: &[u8], table: &SectionHeader, names: &[u8]) -> Option
     ensures { IsLowest (SomeBelow (symbol_count table.now) (IsUnnamedSymbol file.now table.now)) result }
 {
     let end = last_end(names);
-    let mut lowest = None;
-    for index in 0..symbol_count(table) {
-        lowest = lower(lowest, unnamed_symbol(file, table, index, end));
-    }
-    lowest
+    lowest_below(
+        symbol_count(table),
+        |index| unnamed_symbol(file, table, index, end),
+    )
 }
 
 // The names of symbols.

@@ -1,7 +1,7 @@
 use Rattle.std.proofs.Common.{subst, ◌≤◌, IsTrue}
 use Rattle.elf_image.specs.declared.segment.Segment.{Segment}
 use Rattle.elf_image.specs.faults.LowestPlace.{IsLowest}
-use Rattle.elf_image.specs.faults.SegmentLayout.{address_end}
+use Rattle.rv_code.specs.layout.FunctionLists.{address_end}
 use Rattle.elf_image.specs.memory.Image.{loads_address}
 use Rattle.elf_image.proofs.faults.checks.high_address.Goals as goal
 
