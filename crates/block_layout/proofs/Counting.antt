@@ -17,6 +17,7 @@ use Rattle.block_layout.specs.EdgeCounts.{edge_count}
 use Rattle.block_layout.specs.EdgeLists.{AreCounted, HaveOtherEnds}
 use Rattle.block_layout.specs.declared.edge_counts.Edge.{Edge}
 use Rattle.addr_map.proofs.Orders.{AllPairs-permutation}
+use Rattle.rb_bytes.proofs.Members.{Contains-nil}
 
 abbrev pub ends : Edge → ℕ × ℕ
 ends e = (e.from, e.to)
@@ -26,12 +27,9 @@ pub record IsCountedTo (count : ℕ × ℕ → ℕ) (edges : List (ℕ × ℕ)) 
   pub counted : AreCounted count (take i edges) taken
   pub ordered : AllPairs (λ e f. IsPairBefore (ends e) (ends f)) taken
 
-empty : {X : Type 0} (x : X) → Contains [] x → ⊥
-empty x (k, within, is) = omega arith
-
 pub counted_none : (count : ℕ × ℕ → ℕ) (edges : List (ℕ × ℕ)) (taken : List Edge) → taken ≡ [] → IsCountedTo count edges 0 taken
 counted_none count edges taken none = subst (λ (es : List Edge). IsCountedTo count edges 0 es) (sym none) (record {
-  counted = record { only = λ e is. absurd (empty e is); each = λ s t is positive. absurd (empty (s, t) is) };
+  counted = record { only = λ e is. absurd (Contains-nil e is); each = λ s t is positive. absurd (Contains-nil (s, t) is) };
   ordered = λ i j d less within. absurd (omega arith);
 })
 

@@ -12,7 +12,7 @@ use Rattle.std.proofs.lemmas.Option.{slice_get-get_or}
 use Rattle.rv_code.specs.declared.placed.Block.{Block}
 use Rattle.rv_code.specs.layout.Lists.{ListsNumbers}
 use Rattle.rv_code.specs.layout.BlockOrders.{blocks_of_function}
-use Rattle.block_layout.specs.FunctionParts.{IsHotOrEmpty}
+use Rattle.block_layout.specs.HotAndCold.{IsHotOrEmpty}
 use Rattle.block_layout.specs.Links.{Links, IsChain}
 use Rattle.block_layout.specs.Parts.{IsOf}
 use Rattle.block_layout.specs.Walks.{AreBetween, AreFrom, IsHotList}

@@ -7,7 +7,7 @@ use Rattle.std.proofs.lemmas.List.{get_or_append_left, map-append, length-map, l
 use Rattle.std.proofs.Math.Seq.{get_or-append_seam}
 use Rattle.rv_code.specs.declared.placed.Block.{Block}
 use Rattle.rv_code.specs.layout.BlockOrders.{list_of}
-use Rattle.block_layout.specs.FunctionParts.{AreSplit, AreSplitTo}
+use Rattle.block_layout.specs.HotAndCold.{AreSplit, AreSplitTo}
 use Rattle.block_layout.specs.Links.{Links}
 
 abbrev Lists : Type 0

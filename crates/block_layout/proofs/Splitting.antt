@@ -7,7 +7,7 @@ use Rattle.std.proofs.lemmas.List.Elements.{All-append, All-nil, All-head, All-t
 use Rattle.std.proofs.lemmas.List.Folds.{flat_map-map}
 use Rattle.rv_code.specs.declared.placed.Block.{Block}
 use Rattle.rv_code.specs.layout.Lists.{ListsNumbers}
-use Rattle.block_layout.specs.FunctionParts.{IsHotOrEmpty, AreSplit}
+use Rattle.block_layout.specs.HotAndCold.{IsHotOrEmpty, AreSplit}
 use Rattle.block_layout.specs.Links.{Links, IsChain}
 use Rattle.block_layout.specs.Parts.{Chain, IsOf, IsFirstBlock, IsHotChain, IsChainBefore, IsHotPart, greatest}
 use Rattle.block_layout.specs.Walks.{AreBetween, AreFrom, AreInner, AreHotBetween, IsHotList, IsUpTo, chain_of, chain_heads}

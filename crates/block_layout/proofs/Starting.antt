@@ -5,7 +5,7 @@ use Rattle.std.proofs.lemmas.Bool.{cases_lt}
 use Rattle.std.proofs.lemmas.Option.{slice_get_past}
 use Rattle.rv_code.specs.declared.placed.Block.{Block}
 use Rattle.edge_profile.specs.BlockPlaces.{AreBlocksApart}
-use Rattle.block_layout.specs.FunctionParts.{IsFirstOf}
+use Rattle.block_layout.specs.HotAndCold.{IsFirstOf}
 use Rattle.block_layout.specs.Parts.{IsOf}
 use Rattle.block_layout.specs.Walks.{AreFrom}
 use Rattle.block_layout.proofs.Firsts.{IsOf-get_or, get_or-IsOf, funcs_rise}

@@ -8,7 +8,7 @@ use Rattle.std.proofs.lemmas.List.{get_or_default, same_lists, length-map}
 use Rattle.rv_code.specs.declared.placed.Block.{Block}
 use Rattle.rv_code.specs.declared.layout.Chains.{Chains}
 use Rattle.rv_code.specs.layout.BlockOrders.{list_of}
-use Rattle.elf_image.proofs.LoadLemmas.{Contains-cons_cases, Contains-there}
+use Rattle.rb_bytes.proofs.Members.{Contains-cons_cases, Contains-there}
 use Rattle.edge_profile.specs.Weights.{is_hot_function}
 use Rattle.block_layout.specs.EdgeCounts.{edge_count}
 use Rattle.block_layout.specs.Links.{Links, IsChain}

@@ -1,5 +1,5 @@
 -- From edges and weights to the parts of all functions.
-use Rattle.std.proofs.Common.{◌≡◌, ◌<◌, ◌≤◌, ◌∙◌, ℕ, zero, suc, Bool, true, false, List, Option, Some, None, length, get_or, map}
+use Rattle.std.proofs.Common.{◌≡◌, ◌<◌, ◌≤◌, ◌∙◌, ℕ, zero, suc, true, false, List, Option, Some, None, length, get_or, map}
 use Rattle.std.proofs.Common.{arith, refl, ap, sym, subst, ⊎_elim, All, Contains}
 use Rattle.std.specs.Prelude.{◌==◌, ◌&&◌, IsSomeAnd, slice_get, slice_index, Any}
 use Rattle.std.specs.Option.{option_map_or}
@@ -16,8 +16,9 @@ use Rattle.rv_code.specs.layout.FunctionMembers.{IsOfFunction}
 use Rattle.rv_code.specs.layout.BlockOrders.{list_of}
 use Rattle.edge_profile.specs.PairCounts.{Counted}
 use Rattle.edge_profile.specs.Weights.{block_weight, is_hot_block, is_hot_function}
+use Rattle.edge_profile.proofs.Merging.{both_is}
 use Rattle.block_layout.specs.EdgeLists.{IsWithin, IsInner, AreCounted}
-use Rattle.block_layout.specs.FunctionParts.{AreSplitTo}
+use Rattle.block_layout.specs.HotAndCold.{AreSplitTo}
 use Rattle.block_layout.specs.FirstLinks.{IsLinked, ends_of_edge}
 use Rattle.block_layout.specs.Links.{Links}
 use Rattle.block_layout.specs.Parts.{IsOf, IsFirstBlock, IsHotPart, AreParts, weight_at}
@@ -96,10 +97,6 @@ weights_are pairs funcs blocks weights are k = ap (λ (ws : List ℕ). slice_ind
     get_or_past (map (block_weight pairs funcs) blocks) k 0 (omega arith)
     ∙ sym (ap (λ (o : Option Block). option_map_or (block_weight pairs funcs) o 0) (slice_get_past blocks k past)))
     (cases_lt k (length blocks))
-
-both_is : (a b : Bool) → (a && b) ≡ true → (a ≡ true) × (b ≡ true)
-both_is true b is = (refl, is)
-both_is false b is = absurd (cc)
 
 module _ (pairs : List Counted) (funcs : List Func) (blocks : List Block) where
   weight_in : (k : ℕ) (d : Block) → k < length blocks →

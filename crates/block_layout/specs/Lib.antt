@@ -1,6 +1,6 @@
 pub mod EdgeCounts
 pub mod EdgeLists
-pub mod FunctionParts
+pub mod HotAndCold
 pub mod Laws
 pub mod FirstLinks
 pub mod Links

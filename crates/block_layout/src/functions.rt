@@ -1,7 +1,7 @@
 // The parts of each function.
 ghost use Rattle.std.specs.Prelude.{◌≡◌, ◌+◌, ◌<◌, ◌≤◌, ℕ, All, IfOk, None, length, slice_index, slice_index_or};
 ghost use Rattle.rv_code.specs.declared.placed.Block.{Block};
-ghost use Rattle.block_layout.specs.FunctionParts.{AreSplit, AreSplitTo, IsHotOrEmpty, IsFirstOf};
+ghost use Rattle.block_layout.specs.HotAndCold.{AreSplit, AreSplitTo, IsHotOrEmpty, IsFirstOf};
 ghost use Rattle.block_layout.specs.Parts.{IsFirstBlock, IsOf};
 ghost use Rattle.block_layout.specs.Walks.{AreFrom, AreInner, AreKept, links_of};
 ghost use Rattle.edge_profile.specs.BlockPlaces.{AreBlocksApart};

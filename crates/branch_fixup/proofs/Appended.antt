@@ -11,7 +11,8 @@ use Rattle.rv_code.specs.declared.inst.Inst.TheVariants.{Lui}
 use Rattle.addr_map.specs.declared.span.Span.{Span}
 use Rattle.branch_fixup.specs.Pieces.{Piece, as_it_is, length_of, laid_from, end_from}
 use Rattle.branch_fixup.specs.Strips.{Strip, pieces_of, pieces_of_strip}
-use Rattle.branch_fixup.proofs.Lists.{take_one_more}
+use Rattle.branch_fixup.proofs.Lists.{take_one_more, some_is}
+use Rattle.branch_fixup.proofs.Laid.{end_above}
 
 -- what a read past the end gives
 abbrev pub no_inst : Placed
@@ -25,10 +26,6 @@ pub laid_append : (a : ℕ) (ps qs : List Piece) → laid_from a (ps ++ qs) ≡ 
 laid_append a [] qs = refl
 laid_append a (p ∷ ps) qs = ap (λ (l : List Span). record { out = a; len = length_of p; input = p.placed.addr } ∷ l)
     (laid_append (a + length_of p) ps qs)
-
-pub end_grows : (a : ℕ) (ps : List Piece) → a ≤ end_from a ps
-end_grows a [] = omega arith
-end_grows a (p ∷ ps) = let h = end_grows (a + length_of p) ps in omega (arith, h)
 
 pub map_more : (ps : List Placed) (i : ℕ) (d : Placed) → i < length ps →
     map as_it_is (take (i + 1) ps) ≡ map as_it_is (take i ps) ++ as_it_is (get_or ps i d) ∷ []
@@ -66,7 +63,7 @@ end_more a at ps i d within here =
 
 -- a part's end is no farther
 pub end_part : (a : ℕ) (ps : List Placed) (i : ℕ) → end_from a (map as_it_is (take i ps)) ≤ end_from a (map as_it_is ps)
-end_part a ps zero = end_grows a (map as_it_is ps)
+end_part a ps zero = end_above a (map as_it_is ps)
 end_part a [] (suc i) = omega arith
 end_part a (p ∷ ps) (suc i) = end_part (a + p.len) ps i
 
@@ -96,7 +93,7 @@ last_end a at len s f here is_len =
 pub inner_ends : (a : ℕ) (s : Strip) (f : Form) → end_from a (map as_it_is s.inner) ≤ end_from a (pieces_of_strip s f)
 inner_ends a s f =
     let e = end_append a (map as_it_is s.inner) (record { placed = s.last; form = f } ∷ []) in
-    let g = end_grows (end_from a (map as_it_is s.inner)) (record { placed = s.last; form = f } ∷ []) in
+    let g = end_above (end_from a (map as_it_is s.inner)) (record { placed = s.last; form = f } ∷ []) in
     omega (arith, e, g)
 
 -- The first blocks of a list.
@@ -111,16 +108,13 @@ pieces_more ss fs k s at within =
     none [] = refl
     none (p ∷ ps) = ap (λ (l : List Piece). p ∷ l) (none ps)
 
-    some_strip : (x y : Strip) → Some x ≡ Some y → x ≡ y
-    some_strip x y h = cc
-
     more : (ss : List Strip) (fs : List Form) (k : ℕ) (s : Strip) → slice_get ss k ≡ Some s → k < length fs →
         pieces_of (take (suc k) ss) (take (suc k) fs) ≡ pieces_of (take k ss) (take k fs) ++ pieces_of_strip s
         (get_or fs k form.Plain)
     more [] fs k s at within = absurd (cc)
     more (x ∷ ss) [] k s at within = absurd (omega (arith, within))
     more (x ∷ ss) (f ∷ fs) zero s at within = sym (none (pieces_of_strip x f))
-        ∙ ap (λ (y : Strip). pieces_of_strip y f) (some_strip x s at)
+        ∙ ap (λ (y : Strip). pieces_of_strip y f) (some_is x s at)
     more (x ∷ ss) (f ∷ fs) (suc k) s at within =
         ap (λ (l : List Piece). pieces_of_strip x f ++ l) (more ss fs k s at (omega (arith, within)))
         ∙ sym (append_assoc (pieces_of_strip x f) (pieces_of (take k ss) (take k fs))
@@ -128,7 +122,7 @@ pieces_more ss fs k s at within =
 
 pub pieces_part : (a : ℕ) (ss : List Strip) (fs : List Form) (k : ℕ) →
     end_from a (pieces_of (take k ss) (take k fs)) ≤ end_from a (pieces_of ss fs)
-pieces_part a ss fs zero = end_grows a (pieces_of ss fs)
+pieces_part a ss fs zero = end_above a (pieces_of ss fs)
 pieces_part a [] fs (suc k) = omega arith
 pieces_part a (s ∷ ss) [] (suc k) = omega arith
 pieces_part a (s ∷ ss) (f ∷ fs) (suc k) =

@@ -17,7 +17,7 @@ use Rattle.branch_fixup.specs.declared.growth.BlockEnd.{BlockEnd}
 use Rattle.branch_fixup.specs.Endings.{End, Branches, Goes, LeftOut, end_of_form, ending, begins_at}
 use Rattle.branch_fixup.specs.Ends.{AreEnds, IsAt, IsBlockEnd, begins_of, lead_of}
 use Rattle.branch_fixup.specs.Forms.{EndByTable, FitsLength, IsLeast}
-use Rattle.branch_fixup.specs.Growth.{AreGrown, AreBlockEnds, form_at, half_of, most_of, end_at, to_at}
+use Rattle.branch_fixup.specs.Growth.{AreGrown, AreBlockEnds, form_at, form_reach, most_of, end_at, to_at}
 use Rattle.branch_fixup.specs.Strips.{Strip, first_in, first_of, is_alone, spans_of}
 use Rattle.branch_fixup.proofs.Bridge.{AreBlockEndsOf, LeadAsBlockEnds, are_least, leads_to}
 use Rattle.branch_fixup.proofs.Holders.{last_there}
@@ -124,13 +124,13 @@ led_goto s next half h =
     let is : target_of s.last ≡ target s.last.addr (Jump 0 e.imm) = ap (target s.last.addr) e.jump in
     record { a = _; is = is; to = λ f. ap (λ (o : Option ℕ). option_map_or f o 0) is }
 
-pub led : (s : Strip) (next : Option ℕ) (g : Form) (half : ℕ) → FallsAfter s → half_of g ≡ Some half →
+pub led : (s : Strip) (next : Option ℕ) (g : Form) (reach : ℕ) → FallsAfter s → form_reach g ≡ Some reach →
     IsOfTable s next g → Led s g
-led s next (form.Branch inverted size jump) half after k h = led_branch s next after inverted size jump h
-led s next (form.Goto short) half after k h = led_goto s next short h
-led s next form.Plain half after k h = absurd (cc)
-led s next form.Jump half after k h = absurd (cc)
-led s next form.Dropped half after k h = absurd (cc)
+led s next (form.Branch inverted size jump) reach after k h = led_branch s next after inverted size jump h
+led s next (form.Goto short) reach after k h = led_goto s next short h
+led s next form.Plain reach after k h = absurd (cc)
+led s next form.Jump reach after k h = absurd (cc)
+led s next form.Dropped reach after k h = absurd (cc)
 
 -- that goes by how a block ends
 lead_by : Strip → End → Option ℕ
@@ -235,10 +235,10 @@ module _ (ss : List Strip) (are : AreStrips ss) (ts : List BlockEnd) (zs : List 
         (t.leads a (lead_same s (form_at zs k) g (sym e) ∙ is))
 
     leads_as : LeadAsBlockEnds ts ss base (λ k. end_of_form (form_at zs k))
-    leads_as k half d gs g has within gs_len e =
+    leads_as k reach d gs g has within gs_len e =
         let s : Strip = get_or ss k d in
         let at = slice_get-get_or ss k d within in
-        let l = led s (begins_of ss (k + 1)) g half (after k s at) has (e ∙ (ends.shortest k s within at).ends.by_table) in
+        let l = led s (begins_of ss (k + 1)) g reach (after k s at) has (e ∙ (ends.shortest k s within at).ends.by_table) in
         l.to (new (spans_of ss base gs)) ∙ lead_place gs gs_len k s g l.a at e l.is
 
     pub least : AreGrown ts fs → (k : ℕ) (s : Strip) (f : Form) → slice_get ss k ≡ Some s → slice_get fs k ≡ Some f →

@@ -16,7 +16,7 @@ use Rattle.rv_code.specs.layout.Blocks.{AreBlocks, block_start}
 use Rattle.rv_code.specs.layout.FunctionLists.{AreLaidOut}
 use Rattle.rv_code.specs.layout.Flow.{insts_of, target_of, falls_at}
 use Rattle.rv_code.specs.layout.BlockOrders.{HasAllBlocks}
-use Rattle.rv_code.proofs.lists.Follows.{follow_at}
+use Rattle.rv_code.proofs.lists.Follows.{follow_at, at_contains}
 use Rattle.branch_fixup.specs.declared.growth.BlockEnd.{BlockEnd}
 use Rattle.branch_fixup.specs.Endings.{fall_of}
 use Rattle.branch_fixup.specs.Ends.{IsAt, IsBlockEnd, IsShortest, AreEnds, lead_of, begins_of}
@@ -26,7 +26,7 @@ use Rattle.branch_fixup.specs.Lookup.{ArePlaces, Finds, IsHolder}
 use Rattle.branch_fixup.specs.Strips.{Strip, strips_of, insts_in, first_in}
 use Rattle.branch_fixup.proofs.Falls.{code_there}
 use Rattle.branch_fixup.proofs.Holders.{first_there, last_there, held, Held, holds, start_is}
-use Rattle.branch_fixup.proofs.Lists.{at_contains, contains_at, flat_at}
+use Rattle.branch_fixup.proofs.Lists.{contains_at, flat_at}
 use Rattle.branch_fixup.proofs.Planned.{StripOf, in_block, planned, strip_follows}
 
 -- A strip's instructions are code.

@@ -15,7 +15,7 @@ use Rattle.branch_fixup.specs.Pieces.{Piece, PlacedFrom, as_it_is, length_of, pi
 use Rattle.branch_fixup.specs.Distances.{new_target, reaches, lands, main_leap}
 use Rattle.branch_fixup.specs.Endings.{End, Branches, Goes, end_of_form}
 use Rattle.branch_fixup.specs.Forms.{shorter, FallsShort, IsLeast}
-use Rattle.branch_fixup.specs.Growth.{end_at, form_at, from_at, to_at, half_of, is_enough, IsNeeded, block_offset}
+use Rattle.branch_fixup.specs.Growth.{end_at, form_at, from_at, to_at, form_reach, is_enough, IsNeeded, block_offset}
 use Rattle.branch_fixup.specs.Strips.{Strip, first_in, pieces_of, pieces_of_strip, spans_of}
 use Rattle.rv_code.proofs.lists.Follows.{before_of}
 use Rattle.branch_fixup.proofs.Laid.{AreOnce, placed_from}
@@ -103,12 +103,12 @@ block_at f ts ss fs base d block_ends len h k lt = strip_at f (base + block_offs
     (block_placed f ts ss fs base d block_ends len h k lt)
 
 -- moving both ends changes no reach
-shifted_short : (half b f t : ℕ) → reaches half f t ≡ false → reaches half (b + f) (b + t) ≡ false
-shifted_short half b f t h = not_true (reaches half (b + f) (b + t)) (λ k.
-    let p = and_parts (nat_lt (b + t) (b + f + half)) (nat_le (b + f) (b + t + half)) k in
-    let x = ltb-true (b + t) (b + f + half) p.0 in
-    let y = leb-true (b + f) (b + t + half) p.1 in
-    no (reaches half f t) h (reach_if half f t (omega (arith, x)) (omega (arith, y))))
+shifted_short : (reach b f t : ℕ) → reaches reach f t ≡ false → reaches reach (b + f) (b + t) ≡ false
+shifted_short reach b f t h = not_true (reaches reach (b + f) (b + t)) (λ k.
+    let p = and_parts (nat_lt (b + t) (b + f + reach)) (nat_le (b + f) (b + t + reach)) k in
+    let x = ltb-true (b + t) (b + f + reach) p.0 in
+    let y = leb-true (b + f) (b + t + reach) p.1 in
+    no (reaches reach f t) h (reach_if reach f t (omega (arith, x)) (omega (arith, y))))
 
 -- where the branch or jump of a form leads
 abbrev pub leads_to : (ℕ → ℕ) → Placed → Form → ℕ
@@ -152,18 +152,18 @@ leap_short f p ts fs base k form.Dropped a t h = absurd (cc)
 
 -- each block whose form can grow leads to where its end says, whatever the sizes
 abbrev pub LeadAsBlockEnds : List BlockEnd → List Strip → ℕ → (ℕ → End) → Type 0
-LeadAsBlockEnds ts ss base kinds = (k half : ℕ) (d : Strip) (fs : List Form) (g : Form) → half_of g ≡ Some half →
+LeadAsBlockEnds ts ss base kinds = (k reach : ℕ) (d : Strip) (fs : List Form) (g : Form) → form_reach g ≡ Some reach →
     k < length ss → length fs ≡ length ss → end_of_form g ≡ kinds k → leads_to (new (spans_of ss base fs))
     (get_or ss k d).last g ≡ base + to_at ts fs k
 
-has_half : (ts : List BlockEnd) (fs : List Form) (k : ℕ) (g : Form) → is_enough ts fs k g ≡ false →
-    (half : ℕ) × (half_of g ≡ Some half)
-has_half ts fs k g h = by (half_of g) refl h
+has_reach : (ts : List BlockEnd) (fs : List Form) (k : ℕ) (g : Form) → is_enough ts fs k g ≡ false →
+    (reach : ℕ) × (form_reach g ≡ Some reach)
+has_reach ts fs k g h = by (form_reach g) refl h
   where
-    by : (o : Option ℕ) → half_of g ≡ o → option_map_or (λ half. reaches half (from_at ts fs k) (to_at ts fs k)) o
-        true ≡ false → (half : ℕ) × (half_of g ≡ Some half)
+    by : (o : Option ℕ) → form_reach g ≡ o → option_map_or (λ reach. reaches reach (from_at ts fs k) (to_at ts fs k)) o
+        true ≡ false → (reach : ℕ) × (form_reach g ≡ Some reach)
     by None e h = absurd (cc)
-    by (Some half) e h = (half, e)
+    by (Some reach) e h = (reach, e)
 
 -- the next shorter form ends alike
 shorter_kind : (n : ℕ) (f g : Form) → shorter n f ≡ Some g → end_of_form g ≡ end_of_form f
@@ -206,5 +206,5 @@ are_least ts ss base kinds fs d block_ends leads once len are k lt needed =
         let b = block_ends.before k d lt in
         let from = at.last in
         leap_short (new (spans_of ss base gs)) (get_or ss k d).last ts gs base k g (omega (arith, from, b))
-        (leads k (has_half ts gs k g h).0 d gs g (has_half ts gs k g h).1 lt len_g
+        (leads k (has_reach ts gs k g h).0 d gs g (has_reach ts gs k g h).1 lt len_g
         (shorter_kind (end_at ts k).len (form_at fs k) g e ∙ are k lt)) h

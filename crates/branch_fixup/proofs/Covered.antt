@@ -8,10 +8,8 @@ use Rattle.rv_code.specs.declared.placed.Func.{Func}
 use Rattle.rv_code.specs.declared.placed.Block.{Block}
 use Rattle.rv_code.specs.layout.ProgramCode.{ProgramCode}
 use Rattle.rv_code.specs.layout.Blocks.{Begins, at_start, IsBlockOf, IsBlock, IsBefore, AreBlocks}
-use Rattle.branch_fixup.proofs.Lists.{at_contains, contains_at, look}
-
-some_func : (f g : Func) → Some f ≡ Some g → f ≡ g
-some_func f g h = cc
+use Rattle.branch_fixup.proofs.Lists.{contains_at, look, some_is}
+use Rattle.rv_code.proofs.lists.Follows.{at_contains}
 
 -- a block of a list, with its function
 pub record BlockOf (code : ProgramCode) (b : Block) : Type 0 where
@@ -125,7 +123,7 @@ apart_in : (code : ProgramCode) (b c : Block) (x : BlockOf code b) (y : BlockOf 
 apart_in code b c x y e less = elim (cases_lt b.last c.first) [
   | inl fine ↦ fine
   | inr not_less ↦
-      let same : y.func ≡ x.func = some_func y.func x.func (sym y.at ∙ ap (slice_get code.funcs) (sym e) ∙ x.at) in
+      let same : y.func ≡ x.func = some_is y.func x.func (sym y.at ∙ ap (slice_get code.funcs) (sym e) ∙ x.at) in
       absurd (x.is.no_other c.first less not_less (subst (λ (z : Func). Begins code z c.first) same y.is.begins))
 ]
 

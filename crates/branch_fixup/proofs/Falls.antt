@@ -13,11 +13,9 @@ use Rattle.rv_code.specs.layout.FunctionLists.{Follow, AreLaidOut, address_end}
 use Rattle.rv_code.specs.layout.Flow.{insts_of, falls_at, fall_target}
 use Rattle.branch_fixup.specs.BlockInsts.{func_starts_at}
 use Rattle.branch_fixup.specs.Endings.{fall_of}
-use Rattle.rv_code.proofs.lists.Follows.{follow_at, follow_next, follow_last, laid_func, inst_length, some_length, funcs_apart}
-use Rattle.branch_fixup.proofs.Lists.{at_contains, contains_at, there, at_flat, flat_at, find_found, found_find}
-
-some_func : (f g : Func) → Some f ≡ Some g → f ≡ g
-some_func f g h = cc
+use Rattle.rv_code.proofs.lists.Follows.{follow_at, follow_next, follow_last, laid_func, inst_length, some_length}
+use Rattle.rv_code.proofs.lists.Follows.{funcs_apart, at_contains}
+use Rattle.branch_fixup.proofs.Lists.{contains_at, there, at_flat, flat_at, find_found, found_find, some_is}
 
 pub bool_same : (a b : Bool) → (a ≡ true → b ≡ true) → (b ≡ true → a ≡ true) → a ≡ b
 bool_same true b h k = sym (h refl)
@@ -104,7 +102,7 @@ code_end funcs f i func p laid at_f at_i last = bool_same (is_code_address funcs
         let addr = c.addr in
         elim (cases_order f c.f) [
           | inl same ↦
-              let fo : func ≡ c.func = some_func func c.func (sym at_f ∙ ap (slice_get funcs) same ∙ c.at_func) in
+              let fo : func ≡ c.func = some_is func c.func (sym at_f ∙ ap (slice_get funcs) same ∙ c.at_func) in
               let e : func.end ≡ c.func.end = ap (λ (z : Func). z.end) fo in
               absurd (omega (arith, end, e, addr, x1, len))
           | inr apart ↦ elim apart [
@@ -116,7 +114,7 @@ code_end funcs f i func p laid at_f at_i last = bool_same (is_code_address funcs
                 let d = funcs_apart funcs f (f + 1) func g laid at_f at_g (omega arith) in
                 starts_there funcs (f + 1) (p.addr + p.len) g at_g (elim (cases_order (f + 1) c.f) [
                   | inl here ↦
-                      let fo : g ≡ c.func = some_func g c.func (sym at_g ∙ ap (slice_get funcs) here ∙ c.at_func) in
+                      let fo : g ≡ c.func = some_is g c.func (sym at_g ∙ ap (slice_get funcs) here ∙ c.at_func) in
                       let e : g.start ≡ c.func.start = ap (λ (z : Func). z.start) fo in
                       omega (arith, end, e, addr, x0, d)
                   | inr far ↦ elim far [

@@ -7,7 +7,7 @@ use Rattle.std.proofs.lemmas.Bool.{and_parts, and_from, leb-true, ltb-true, le-l
 use Rattle.rv_code.specs.declared.layout.Form.{Form}
 use Rattle.branch_fixup.specs.declared.growth.BlockEnd.{BlockEnd}
 use Rattle.branch_fixup.specs.Distances.{reaches}
-use Rattle.branch_fixup.specs.Growth.{end_at, block_length, from_at, to_at, half_of, is_enough, AreBlockEnds, block_offset}
+use Rattle.branch_fixup.specs.Growth.{end_at, block_length, from_at, to_at, form_reach, is_enough, AreBlockEnds, block_offset}
 
 pub not_true : (b : Bool) → (b ≡ true → ⊥) → b ≡ false
 not_true true h = absurd (h refl)
@@ -16,26 +16,26 @@ not_true false h = refl
 pub no : (b : Bool) → b ≡ false → b ≡ true → ⊥
 no b h k = let e : false ≡ true = sym h ∙ k in cc
 
-pub reach_if : (half f t : ℕ) → t < f + half → f ≤ t + half → reaches half f t ≡ true
-reach_if half f t h k = and_from (nat_lt t (f + half)) (nat_le f (t + half)) (lt-ltb t (f + half) h) (le-leb f (t + half) k)
+pub reach_if : (reach f t : ℕ) → t < f + reach → f ≤ t + reach → reaches reach f t ≡ true
+reach_if reach f t h k = and_from (nat_lt t (f + reach)) (nat_le f (t + reach)) (lt-ltb t (f + reach) h) (le-leb f (t + reach) k)
 
 -- a longer way ahead, or back
 pub data IsFarther (f t g u : ℕ) : Type 0 where
   ahead : f ≤ t → g ≤ u → t + g ≤ u + f → IsFarther f t g u
   back : t ≤ f → u ≤ g → f + u ≤ g + t → IsFarther f t g u
 
-pub short_more : (half f t g u : ℕ) → IsFarther f t g u → reaches half f t ≡ false → reaches half g u ≡ false
-short_more half f t g u (ahead a b c) h =
-    not_true (reaches half g u) (λ k.
-    let p = and_parts (nat_lt u (g + half)) (nat_le g (u + half)) k in
-    let x = ltb-true u (g + half) p.0 in
-    no (reaches half f t) h (reach_if half f t (omega (arith, a, b, c, x)) (omega (arith, a))))
-short_more half f t g u (back a b c) h =
-    not_true (reaches half g u) (λ k.
-    let p = and_parts (nat_lt u (g + half)) (nat_le g (u + half)) k in
-    let x = leb-true g (u + half) p.1 in
-    let y = ltb-true u (g + half) p.0 in
-    no (reaches half f t) h (reach_if half f t (omega (arith, a, b, c, x, y)) (omega (arith, a, b, c, x))))
+pub short_more : (reach f t g u : ℕ) → IsFarther f t g u → reaches reach f t ≡ false → reaches reach g u ≡ false
+short_more reach f t g u (ahead a b c) h =
+    not_true (reaches reach g u) (λ k.
+    let p = and_parts (nat_lt u (g + reach)) (nat_le g (u + reach)) k in
+    let x = ltb-true u (g + reach) p.0 in
+    no (reaches reach f t) h (reach_if reach f t (omega (arith, a, b, c, x)) (omega (arith, a))))
+short_more reach f t g u (back a b c) h =
+    not_true (reaches reach g u) (λ k.
+    let p = and_parts (nat_lt u (g + reach)) (nat_le g (u + reach)) k in
+    let x = leb-true g (u + reach) p.1 in
+    let y = ltb-true u (g + reach) p.0 in
+    no (reaches reach f t) h (reach_if reach f t (omega (arith, a, b, c, x, y)) (omega (arith, a, b, c, x))))
 
 -- forms that are no shorter
 pub record IsBelow (ts : List BlockEnd) (xs ys : List Form) : Type 0 where
@@ -107,10 +107,10 @@ farther ts xs ys block_ends b k k_in = by (end_at ts k).to refl
 
 pub not_enough_more : (ts : List BlockEnd) (xs ys : List Form) → AreBlockEnds ts → IsBelow ts xs ys → (k : ℕ) (f : Form) →
     k < length ts → is_enough ts xs k f ≡ false → is_enough ts ys k f ≡ false
-not_enough_more ts xs ys block_ends b k f k_in h = by (half_of f) h
+not_enough_more ts xs ys block_ends b k f k_in h = by (form_reach f) h
   where
-    by : (o : Option ℕ) → option_map_or (λ half. reaches half (from_at ts xs k) (to_at ts xs k)) o true ≡ false →
-        option_map_or (λ half. reaches half (from_at ts ys k) (to_at ts ys k)) o true ≡ false
+    by : (o : Option ℕ) → option_map_or (λ reach. reaches reach (from_at ts xs k) (to_at ts xs k)) o true ≡ false →
+        option_map_or (λ reach. reaches reach (from_at ts ys k) (to_at ts ys k)) o true ≡ false
     by None h = h
-    by (Some half) h = short_more half (from_at ts xs k) (to_at ts xs k) (from_at ts ys k) (to_at ts ys k)
+    by (Some reach) h = short_more reach (from_at ts xs k) (to_at ts xs k) (from_at ts ys k) (to_at ts ys k)
         (farther ts xs ys block_ends b k k_in) h

@@ -20,22 +20,10 @@ use Rattle.branch_fixup.specs.Strips.{Strip, strip_of, strips_of, insts_in, firs
 use Rattle.branch_fixup.proofs.Covered.{block_of, covers, blocks_apart}
 use Rattle.branch_fixup.proofs.Falls.{code_at}
 use Rattle.rv_code.proofs.lists.Follows.{follow_at, follow_up, laid_func, some_length, funcs_apart}
-use Rattle.branch_fixup.proofs.Lists.{there}
+use Rattle.branch_fixup.proofs.Lists.{there, some_is}
 use Rattle.branch_fixup.proofs.Orders.{order_within, order_has}
 use Rattle.branch_fixup.proofs.Planned.{StripOf, strip_for, in_block, block_in_insts, Planned, planned_length, planned_at}
 use Rattle.branch_fixup.proofs.Planned.{strip_length}
-
-some_func : (f g : Func) → Some f ≡ Some g → f ≡ g
-some_func f g h = cc
-
-some_block : (b c : Block) → Some b ≡ Some c → b ≡ c
-some_block b c h = cc
-
-some_strip : (s t : Strip) → Some s ≡ Some t → s ≡ t
-some_strip s t h = cc
-
-some_nat : (m n : ℕ) → Some m ≡ Some n → m ≡ n
-some_nat m n h = cc
 
 pub first_there : (inner : List Placed) (last : Placed) → (p : Placed) × Contains (inner ++ last ∷ []) p ×
     (p.addr ≡ first_in inner last)
@@ -62,16 +50,13 @@ blocks_up code blocks m n b c s t laid are x y at_m at_n less p q has_p has_q =
           let v = (follow_at y.func.start y.func.insts.items y.func.end j.i q ly.follow j.at).0 in
           omega (arith, d, u, v)
       | inr in_one ↦
-          let same : y.func ≡ x.func = some_func y.func x.func (sym y.at ∙ ap (slice_get code.funcs) (sym in_one.0) ∙ x.at) in
+          let same : y.func ≡ x.func = some_is y.func x.func (sym y.at ∙ ap (slice_get code.funcs) (sym in_one.0) ∙ x.at) in
           let apart = in_one.1 in
           let high = i.high in
           let low = j.low in
           follow_up x.func.start x.func.insts.items x.func.end i.i j.i p q lx.follow i.at
           (subst (λ (z : Func). slice_get z.insts.items j.i ≡ Some q) same j.at) (omega (arith, apart, high, low))
     ]
-
-some_inst : (p q : Placed) → Some p ≡ Some q → p ≡ q
-some_inst p q h = cc
 
 -- the first of the instructions from one index to another
 first_inst : (ps : List Placed) (i n : ℕ) (last : Placed) → slice_get ps (i + n) ≡ Some last →
@@ -80,7 +65,7 @@ first_inst [] i n last at = absurd (nothing last at)
   where
     nothing : (p : Placed) → None ≡ Some p → ⊥
     nothing p h = cc
-first_inst (p ∷ ps) zero zero last at = ap (λ (q : Placed). q.addr) (some_inst p last at)
+first_inst (p ∷ ps) zero zero last at = ap (λ (q : Placed). q.addr) (some_is p last at)
 first_inst (p ∷ ps) zero (suc n) last at = refl
 first_inst (p ∷ ps) (suc i) n last at =
     let next : suc i + n ≡ suc (i + n) = omega arith in
@@ -165,9 +150,9 @@ module _ (code : ProgramCode) (blocks : List Block) (laid : AreLaidOut code.func
         let v = covers code blocks are c.f c.i c.func c.at_func (slice_get_within c.func.insts.items c.i c.p c.at_inst) in
         let (j, place) = order_has blocks order perm v.m (slice_get_within blocks v.m v.b v.at) in
         let (s, at, plan) = planned_at code blocks are order perm j v.m place in
-        let same_m : plan.m ≡ v.m = some_nat plan.m v.m (sym plan.place ∙ place) in
-        let same_b : plan.b ≡ v.b = some_block plan.b v.b (sym plan.block ∙ ap (slice_get blocks) same_m ∙ v.at) in
-        let same_f : plan.of.func ≡ c.func = some_func plan.of.func c.func
+        let same_m : plan.m ≡ v.m = some_is plan.m v.m (sym plan.place ∙ place) in
+        let same_b : plan.b ≡ v.b = some_is plan.b v.b (sym plan.block ∙ ap (slice_get blocks) same_m ∙ v.at) in
+        let same_f : plan.of.func ≡ c.func = some_is plan.of.func c.func
         (sym plan.of.at ∙ ap (λ (z : Block). slice_get code.funcs z.func) same_b ∙ ap (slice_get code.funcs) v.func
         ∙ c.at_func) in
         let first : plan.b.first ≡ v.b.first = ap (λ (z : Block). z.first) same_b in
@@ -192,7 +177,7 @@ pub planned_read : (funcs : List Func) (blocks : List Block) (order : List ℕ) 
 planned_read funcs blocks order are perm k d within =
     let code : ProgramCode = program_code funcs are.roles are.cells are.entry in
     let (s, at, plan) = planned_at code blocks are.are order perm k (get_or order k 0) (slice_get-get_or order k 0 within) in
-    let same_m : plan.m ≡ get_or order k 0 = some_nat plan.m (get_or order k 0)
+    let same_m : plan.m ≡ get_or order k 0 = some_is plan.m (get_or order k 0)
     (sym plan.place ∙ slice_get-get_or order k 0 within) in
     let block : get_or blocks (get_or order k 0) d ≡ plan.b = ap (λ (m : ℕ). get_or blocks m d) (sym same_m)
     ∙ get_or_from_slice_get blocks plan.m plan.b d plan.block in

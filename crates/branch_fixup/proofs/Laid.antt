@@ -5,7 +5,7 @@ use Rattle.std.specs.Prelude.{◌==◌, nat_le, nat_lt, Any, Contains, AllPairs}
 use Rattle.std.proofs.lemmas.Bool.{ne_eqb, eq-eqb, and_parts, and_from, leb-true, ltb-true, le-leb, lt-ltb, cases_lt}
 use Rattle.std.proofs.lemmas.List.Elements.{All-cons, All-nil, All-weaker}
 use Rattle.std.proofs.lemmas.List.Kept.{AllPairs-cons}
-use Rattle.branch_fixup.proofs.Lists.{Contains-cons_cases}
+use Rattle.rb_bytes.proofs.Members.{Contains-cons_cases}
 use Rattle.addr_map.specs.declared.span.Span.{Span}
 use Rattle.addr_map.specs.Spans.{has_byte, new, IsPlaced, ShareNoByte}
 use Rattle.branch_fixup.specs.Pieces.{Piece, PlacedFrom, length_of, laid_from, end_from}
@@ -85,7 +85,7 @@ disjoint a (p ∷ ps) =
     (laid_from (a + length_of p) ps) (laid_above (a + length_of p) ps))
     (disjoint (a + length_of p) ps)
 
-even_sum : (a b : ℕ) → a % 2 ≡ 0 → b % 2 ≡ 0 → (a + b) % 2 ≡ 0
+pub even_sum : (a b : ℕ) → a % 2 ≡ 0 → b % 2 ≡ 0 → (a + b) % 2 ≡ 0
 even_sum a b h k = omega (arith, h, k)
 
 pub are_placed : (a : ℕ) (ps : List Piece) → a % 2 ≡ 0 → 0 < a → AreEven ps → All IsPlaced (laid_from a ps)

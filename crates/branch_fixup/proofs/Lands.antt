@@ -27,7 +27,7 @@ use Rattle.addr_map.specs.Spans.{new}
 use Rattle.branch_fixup.specs.declared.growth.BlockEnd.{BlockEnd}
 use Rattle.branch_fixup.specs.Endings.{Kept, LeftOut, Goes, begins_at, end_of_form, ending}
 use Rattle.branch_fixup.specs.Ends.{AreEnds, begins_of, lead_of}
-use Rattle.branch_fixup.specs.Growth.{AreEnough, form_at, half_of, end_at, from_at, to_at, block_offset}
+use Rattle.branch_fixup.specs.Growth.{AreEnough, form_at, form_reach, end_at, from_at, to_at, block_offset}
 use Rattle.branch_fixup.specs.Inputs.{AreDirect, AreNear, KeepsShort, LeadsToCode, StaysIn}
 use Rattle.branch_fixup.specs.Pieces.{Piece, PlacedFrom, as_it_is, piece_length, length_of, end_from, bytes_of_size}
 use Rattle.branch_fixup.specs.Distances.{AllLand, Leap, added_leap, new_target, jal, lands, main_leap, reach_of, reaches}
@@ -35,10 +35,11 @@ use Rattle.branch_fixup.specs.Strips.{Strip, first_in, insts_in, is_alone, piece
 use Rattle.branch_fixup.proofs.Appended.{end_append}
 use Rattle.branch_fixup.proofs.Bridge.{AreBlockEndsOf, block_placed, end_of_inner, leads_to}
 use Rattle.branch_fixup.proofs.Covered.{blocks_apart}
-use Rattle.rv_code.proofs.lists.Follows.{follow_at, funcs_apart, laid_func, some_length}
+use Rattle.rv_code.proofs.lists.Follows.{follow_at, funcs_apart, laid_func, some_length, at_contains}
 use Rattle.branch_fixup.proofs.Holders.{last_there}
 use Rattle.branch_fixup.proofs.Laid.{placed_from}
-use Rattle.branch_fixup.proofs.Lists.{at_contains, there, Contains-there}
+use Rattle.branch_fixup.proofs.Lists.{there}
+use Rattle.rb_bytes.proofs.Members.{Contains-there}
 use Rattle.branch_fixup.proofs.Near.{Found, In, found, near_reach, shift_reach}
 use Rattle.branch_fixup.proofs.Orders.{order_once}
 use Rattle.branch_fixup.proofs.Placed.{AreStrips, are_strips, before_is, strip_place, strips_once, upto_last}
@@ -311,7 +312,7 @@ module _ (code : ProgramCode) (blocks : List Block) (order : List ℕ) (laid : A
     where
       by : (o : Option ℕ) → target_of p ≡ o → Lands f from p form.Plain
       by None e = rw e refl
-      by (Some t) e = rw e (one_lands (record { half = reach_of p.len p; from = from; to = f t }) (h t e))
+      by (Some t) e = rw e (one_lands (record { reach = reach_of p.len p; from = from; to = f t }) (h t e))
 
   inner_lands : (k : ℕ) (s : Strip) → slice_get ss k ≡ Some s → (p : Placed) → Contains s.inner p → (from : ℕ) →
       from + first_in s.inner s.last ≡ base + block_offset ts fs k + p.addr → Lands f from p form.Plain
@@ -365,17 +366,17 @@ module _ (code : ProgramCode) (blocks : List Block) (order : List ℕ) (laid : A
       by form.Dropped g i = absurd (cc)
 
   -- what is enough reaches
-  enough_lands : (k : ℕ) (s : Strip) → slice_get ss k ≡ Some s → (a half : ℕ) → lead_of s (form_at fs k) ≡ Some a →
-      half_of (form_at fs k) ≡ Some half → (from : ℕ) → from + first_in s.inner s.last ≡ base + block_offset ts fs k +
-      s.last.addr → reaches half from (f a) ≡ true
-  enough_lands k s at a half is has from e =
+  enough_lands : (k : ℕ) (s : Strip) → slice_get ss k ≡ Some s → (a reach : ℕ) → lead_of s (form_at fs k) ≡ Some a →
+      form_reach (form_at fs k) ≡ Some reach → (from : ℕ) → from + first_in s.inner s.last ≡ base + block_offset ts fs k +
+      s.last.addr → reaches reach from (f a) ≡ true
+  enough_lands k s at a reach is has from e =
       let within = slice_get_within ss k s at in
       let b = before k s at in
       let to = lead_place ss strips ts zs ends fs base len same after fs len k s (form_at fs k) a at (same k within) is in
-      let h : reaches half (from_at ts fs k) (to_at ts fs k) ≡ true = ap
+      let h : reaches reach (from_at ts fs k) (to_at ts fs k) ≡ true = ap
       (λ (o : Option ℕ). option_map_or (λ n. reaches n (from_at ts fs k) (to_at ts fs k)) o true) (sym has)
       ∙ enough.enough k (omega (arith, within, len)) in
-      shift_reach half (from_at ts fs k) (to_at ts fs k) from (f a) 0 base (omega (arith, e, b)) (omega (arith, to)) h
+      shift_reach reach (from_at ts fs k) (to_at ts fs k) from (f a) 0 base (omega (arith, e, b)) (omega (arith, to)) h
 
   last_lands : (k : ℕ) (s : Strip) → slice_get ss k ≡ Some s → (from : ℕ) →
       from + first_in s.inner s.last ≡ base + block_offset ts fs k + s.last.addr → Lands f from s.last (form_at fs k)
@@ -409,7 +410,7 @@ module _ (code : ProgramCode) (blocks : List Block) (order : List ℕ) (laid : A
 
           jump_lands : (o : Option ℕ) → target_of s.last ≡ o → Lands f from s.last form.Jump
           jump_lands None j = rw j (one_lands (jal (from + s.last.len) (f (s.last.addr + s.last.len))) added)
-          jump_lands (Some t) j = rw j (two_land (record { half = reach_of s.last.len s.last; from = from; to = f t })
+          jump_lands (Some t) j = rw j (two_land (record { reach = reach_of s.last.len s.last; from = from; to = f t })
               (jal (from + s.last.len) (f (s.last.addr + s.last.len))) (kept form.Jump true refl i t j) added)
       by (form.Branch inverted size jump) i = branch_lands size jump i
         where
@@ -422,11 +423,11 @@ module _ (code : ProgramCode) (blocks : List Block) (order : List ℕ) (laid : A
           to_is true size jump a h = h
           to_is false size jump a h = h
 
-          enough_at : (size : Size) (jump : Bool) (i : form_at fs k ≡ form.Branch inverted size jump) (half : ℕ) →
-              half_of (form.Branch inverted size jump) ≡ Some half → lands
-              (record { half = half; from = from; to = f (led_to size jump i).a }) ≡ true
-          enough_at size jump i half h = enough_lands k s at (led_to size jump i).a half
-              (ap (lead_of s) i ∙ (led_to size jump i).is) (ap half_of i ∙ h) from e
+          enough_at : (size : Size) (jump : Bool) (i : form_at fs k ≡ form.Branch inverted size jump) (reach : ℕ) →
+              form_reach (form.Branch inverted size jump) ≡ Some reach → lands
+              (record { reach = reach; from = from; to = f (led_to size jump i).a }) ≡ true
+          enough_at size jump i reach h = enough_lands k s at (led_to size jump i).a reach
+              (ap (lead_of s) i ∙ (led_to size jump i).is) (ap form_reach i ∙ h) from e
 
           long_at : (jump : Bool) (i : form_at fs k ≡ form.Branch inverted Long jump) →
               lands (jal (from + 4) (f (led_to Long jump i).a)) ≡ true
@@ -450,23 +451,23 @@ module _ (code : ProgramCode) (blocks : List Block) (order : List ℕ) (laid : A
           branch_lands : (size : Size) (jump : Bool) → form_at fs k ≡ form.Branch inverted size jump →
               Lands f from s.last (form.Branch inverted size jump)
           branch_lands Half false i = subst (λ (z : ℕ). IsTrue (list_all lands
-              (record { half = 2 ^ 8; from = from; to = z } ∷ []))) (sym (main_is Half false i))
-              (one_lands (record { half = 2 ^ 8; from = from; to = f (led_to Half false i).a })
+              (record { reach = 2 ^ 8; from = from; to = z } ∷ []))) (sym (main_is Half false i))
+              (one_lands (record { reach = 2 ^ 8; from = from; to = f (led_to Half false i).a })
               (enough_at Half false i (2 ^ 8) refl))
           branch_lands Half true i = subst (λ (z : ℕ). IsTrue (list_all lands
-              (record { half = 2 ^ 8; from = from; to = z } ∷ jal (from + bytes_of_size Half)
+              (record { reach = 2 ^ 8; from = from; to = z } ∷ jal (from + bytes_of_size Half)
               (f (s.last.addr + s.last.len)) ∷ []))) (sym (main_is Half true i))
-              (two_land (record { half = 2 ^ 8; from = from; to = f (led_to Half true i).a })
+              (two_land (record { reach = 2 ^ 8; from = from; to = f (led_to Half true i).a })
               (jal (from + bytes_of_size Half) (f (s.last.addr + s.last.len))) (enough_at Half true i (2 ^ 8) refl)
               (added_at Half i))
           branch_lands Full false i = subst (λ (z : ℕ). IsTrue (list_all lands
-              (record { half = 2 ^ 12; from = from; to = z } ∷ []))) (sym (main_is Full false i))
-              (one_lands (record { half = 2 ^ 12; from = from; to = f (led_to Full false i).a })
+              (record { reach = 2 ^ 12; from = from; to = z } ∷ []))) (sym (main_is Full false i))
+              (one_lands (record { reach = 2 ^ 12; from = from; to = f (led_to Full false i).a })
               (enough_at Full false i (2 ^ 12) refl))
           branch_lands Full true i = subst (λ (z : ℕ). IsTrue (list_all lands
-              (record { half = 2 ^ 12; from = from; to = z } ∷ jal (from + bytes_of_size Full)
+              (record { reach = 2 ^ 12; from = from; to = z } ∷ jal (from + bytes_of_size Full)
               (f (s.last.addr + s.last.len)) ∷ []))) (sym (main_is Full true i))
-              (two_land (record { half = 2 ^ 12; from = from; to = f (led_to Full true i).a })
+              (two_land (record { reach = 2 ^ 12; from = from; to = f (led_to Full true i).a })
               (jal (from + bytes_of_size Full) (f (s.last.addr + s.last.len))) (enough_at Full true i (2 ^ 12) refl)
               (added_at Full i))
           branch_lands Long false i = subst (λ (z : ℕ). IsTrue (list_all lands (jal (from + 4) z ∷ [])))
@@ -482,10 +483,10 @@ module _ (code : ProgramCode) (blocks : List Block) (order : List ℕ) (laid : A
 
           goto_lands : (half : Bool) → form_at fs k ≡ form.Goto half → Lands f from s.last (form.Goto half)
           goto_lands true i = subst (λ (z : ℕ). IsTrue (list_all lands
-              (record { half = 2 ^ 11; from = from; to = z } ∷ []))) (sym ((led_to true i).to f))
-              (one_lands (record { half = 2 ^ 11; from = from; to = f (led_to true i).a })
+              (record { reach = 2 ^ 11; from = from; to = z } ∷ []))) (sym ((led_to true i).to f))
+              (one_lands (record { reach = 2 ^ 11; from = from; to = f (led_to true i).a })
               (enough_lands k s at (led_to true i).a (2 ^ 11) (ap (lead_of s) i ∙ (led_to true i).is)
-              (ap half_of i) from e))
+              (ap form_reach i) from e))
           goto_lands false i =
               let far : lands (jal (from + 0) (f (led_to false i).a)) ≡ true =
               lead_lands k s at (led_to false i).a (ap (lead_of s) i ∙ (led_to false i).is) from 0 e

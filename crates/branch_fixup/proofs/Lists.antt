@@ -3,20 +3,8 @@ use Rattle.std.proofs.Common.{◌≡◌, ℕ, zero, suc, ◌+◌, ◌<◌, List,
 use Rattle.std.proofs.Common.{ap, ◌∙◌, subst, arith, inl, inr, ◌⊎◌, take, drop}
 use Rattle.std.specs.Prelude.{Contains, slice_get, flat_map, find, is_some}
 use Rattle.std.proofs.lemmas.List.Elements.{Contains-append_left, Contains-append_right, Contains-append_cases}
-use Rattle.std.proofs.lemmas.Option.{slice_get_within, get_or_from_slice_get, slice_get-get_or}
-
-pub Contains-cons_cases : {X : Type 0} (y : X) (ys : List X) (x : X) → Contains (y ∷ ys) x → (y ≡ x) ⊎ Contains ys x
-Contains-cons_cases y ys x (zero, within, is) = inl is
-Contains-cons_cases y ys x (suc k, within, is) = inr (k, omega arith, is)
-
-pub Contains-there : {X : Type 0} (y : X) (ys : List X) (x : X) → Contains ys x → Contains (y ∷ ys) x
-Contains-there y ys x (k, within, is) = (suc k, omega arith, is)
-
-pub Contains-nil : {X : Type 0} (x : X) → Contains [] x → ⊥
-Contains-nil x c = let l = c.1 in absurd (omega (arith, l))
-
-pub at_contains : {X : Type 0} (xs : List X) (k : ℕ) (x : X) → slice_get xs k ≡ Some x → Contains xs x
-at_contains xs k x h = (k, slice_get_within xs k x h, get_or_from_slice_get xs k x x h)
+use Rattle.std.proofs.lemmas.Option.{slice_get-get_or}
+use Rattle.rb_bytes.proofs.Members.{Contains-nil}
 
 pub contains_at : {X : Type 0} (xs : List X) (x : X) → Contains xs x → (k : ℕ) × (slice_get xs k ≡ Some x)
 contains_at xs x (k, within, is) = (k, slice_get-get_or xs k x within ∙ ap Some is)
@@ -39,7 +27,7 @@ take_in (suc n) [] k x h = absurd (cc)
 take_in (suc n) (y ∷ xs) zero x h = omega arith
 take_in (suc n) (y ∷ xs) (suc k) x h = let i = take_in n xs k x h in omega (arith, i)
 
-some_is : {X : Type 0} (x y : X) → Some x ≡ Some y → x ≡ y
+pub some_is : {X : Type 0} (x y : X) → Some x ≡ Some y → x ≡ y
 some_is x y h = cc
 
 pub take_one_more : {X : Type 0} (n : ℕ) (xs : List X) (x : X) → slice_get xs n ≡ Some x → take (suc n) xs ≡ take n xs ++ x ∷ []

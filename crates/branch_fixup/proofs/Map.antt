@@ -23,10 +23,11 @@ use Rattle.branch_fixup.specs.Growth.{form_at}
 use Rattle.branch_fixup.specs.Pieces.{Piece, as_it_is, end_from, laid_from, piece_length, length_of}
 use Rattle.branch_fixup.specs.Strips.{Strip, first_in, insts_in, is_alone, pieces_of, pieces_of_strip, spans_of, strips_of}
 use Rattle.branch_fixup.proofs.Falls.{bool_same}
-use Rattle.rv_code.proofs.lists.Follows.{follow_up, laid_func, some_length}
+use Rattle.rv_code.proofs.lists.Follows.{follow_up, laid_func, some_length, at_contains}
 use Rattle.branch_fixup.proofs.Holders.{Held, held, first_there, last_there}
 use Rattle.branch_fixup.proofs.Laid.{AreEven, inside, laid_above, stretch}
-use Rattle.branch_fixup.proofs.Lists.{Contains-cons_cases, Contains-nil, Contains-there, at_contains, find_found, found_find}
+use Rattle.branch_fixup.proofs.Lists.{find_found, found_find}
+use Rattle.rb_bytes.proofs.Members.{Contains-cons_cases, Contains-nil, Contains-there}
 use Rattle.branch_fixup.proofs.Mapped.{AreAll, first_bytes, form_length, is_map, left_end}
 use Rattle.branch_fixup.proofs.Placed.{AreStrips, are_strips, once_one, piece_inst, strips_once, upto_last}
 use Rattle.branch_fixup.proofs.Planned.{InBlock, Planned, in_block, planned}
@@ -35,7 +36,7 @@ use Rattle.branch_fixup.proofs.BlockEndsFound.{strip_address}
 
 -- Pieces and the blocks that they are of.
 
-inst_piece : (inner : List Placed) (last : Placed) (x : Form) (p : Placed) → Contains (inner ++ last ∷ []) p →
+pub inst_piece : (inner : List Placed) (last : Placed) (x : Form) (p : Placed) → Contains (inner ++ last ∷ []) p →
     (q : Piece) × Contains (map as_it_is inner ++ record { placed = last; form = x } ∷ []) q × (q.placed ≡ p)
 inst_piece [] last x p c = elim (Contains-cons_cases last [] p c) [
   | inl same ↦ (record { placed = last; form = x }, (0, omega arith, refl), same)
@@ -79,7 +80,7 @@ from_strip (t ∷ ss) (f ∷ fs) q c = elim (Contains-append_cases (pieces_of_st
 
 -- Their lengths are even, and those of forms that aren't left out aren't 0.
 
-form_even : (n : ℕ) (f : Form) → n % 2 ≡ 0 → piece_length n f % 2 ≡ 0
+pub form_even : (n : ℕ) (f : Form) → n % 2 ≡ 0 → piece_length n f % 2 ≡ 0
 form_even n form.Plain h = h
 form_even n form.Jump h = omega (arith, h)
 form_even n (form.Branch inverted Half true) h = refl
@@ -92,7 +93,7 @@ form_even n (form.Goto true) h = refl
 form_even n (form.Goto false) h = refl
 form_even n form.Dropped h = refl
 
-length_even : (p : Placed) → HasLength p → p.len % 2 ≡ 0
+pub length_even : (p : Placed) → HasLength p → p.len % 2 ≡ 0
 length_even p (inl two) = omega (arith, two)
 length_even p (inr four) = omega (arith, four)
 

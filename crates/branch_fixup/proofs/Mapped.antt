@@ -3,7 +3,7 @@ use Rattle.std.proofs.Common.{◌≡◌, ◌≢◌, ℕ, zero, suc, ◌+◌, ◌
 use Rattle.std.proofs.Common.{sym, ap, ◌∙◌, subst, arith, inl, inr, All, get_or}
 use Rattle.std.specs.Prelude.{Any, Contains, map, not, ◌&&◌, if◌then◌else◌}
 use Rattle.std.proofs.lemmas.List.Elements.{All-cons, All-nil}
-use Rattle.branch_fixup.proofs.Lists.{Contains-cons_cases, Contains-there}
+use Rattle.rb_bytes.proofs.Members.{Contains-cons_cases, Contains-there}
 use Rattle.rv_code.specs.declared.action.Action.{Action}
 use Rattle.rv_code.specs.declared.action.Action.TheVariants.{Compute, Branch, Jump, JumpTo, Upper, UpperPc, Load, Store}
 use Rattle.rv_code.specs.declared.action.Action.TheVariants.{SystemCall, Breakpoint}

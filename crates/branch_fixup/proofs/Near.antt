@@ -35,13 +35,13 @@ use Rattle.branch_fixup.proofs.BlockEndFacts.{IsOfTable, block_ends_of}
 use Rattle.branch_fixup.proofs.BlockEndsFound.{at_by}
 
 -- moving both ends changes no reach
-pub shift_reach : (half p t from to first a : ℕ) → from + first ≡ a + p → to + first ≡ a + t → reaches half p t ≡ true →
-    reaches half from to ≡ true
-shift_reach half p t from to first a e f h =
-    let x = and_parts (nat_lt t (p + half)) (nat_le p (t + half)) h in
-    let far = ltb-true t (p + half) x.0 in
-    let back = leb-true p (t + half) x.1 in
-    reach_if half from to (omega (arith, e, f, far)) (omega (arith, e, f, back))
+pub shift_reach : (reach p t from to first a : ℕ) → from + first ≡ a + p → to + first ≡ a + t → reaches reach p t ≡ true →
+    reaches reach from to ≡ true
+shift_reach reach p t from to first a e f h =
+    let x = and_parts (nat_lt t (p + reach)) (nat_le p (t + reach)) h in
+    let far = ltb-true t (p + reach) x.0 in
+    let back = leb-true p (t + reach) x.1 in
+    reach_if reach from to (omega (arith, e, f, far)) (omega (arith, e, f, back))
 
 -- two addresses in a stretch of a million bytes
 in_stretch : (low high from to : ℕ) → high ≤ low + 1000000 → low ≤ from → from ≤ high → low ≤ to → to ≤ high →

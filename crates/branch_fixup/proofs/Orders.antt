@@ -14,7 +14,9 @@ use Rattle.std.proofs.lemmas.Option.{slice_get_within, get_or_from_slice_get}
 use Rattle.addr_map.proofs.Orders.{AllPairs-permutation}
 use Rattle.rv_code.specs.declared.placed.Block.{Block}
 use Rattle.rv_code.specs.layout.BlockOrders.{HasAllBlocks}
-use Rattle.branch_fixup.proofs.Lists.{Contains-cons_cases, at_contains, contains_at}
+use Rattle.branch_fixup.proofs.Lists.{contains_at}
+use Rattle.rv_code.proofs.lists.Follows.{at_contains}
+use Rattle.rb_bytes.proofs.Members.{Contains-cons_cases}
 
 range_below : (n : ℕ) → All (λ x. x < n) (range_with_len 0 n)
 range_below n = λ k d within. let l = length-range_with_len 0 n in let e =
@@ -68,7 +70,7 @@ order_all_within blocks order is = All-permutation (λ x. x < length blocks) (ra
 
 -- An order that has each place once is a permutation.
 
-range_more : (a n : ℕ) → range_with_len a (suc n) ≡ range_with_len a n ++ (a + n) ∷ []
+pub range_more : (a n : ℕ) → range_with_len a (suc n) ≡ range_with_len a n ++ (a + n) ∷ []
 range_more a zero = ap (λ (x : ℕ). x ∷ []) (let e : a ≡ a + 0 = omega arith in e)
 range_more a (suc n) =
     ap (λ (l : List ℕ). a ∷ l) (range_more (a + 1) n)

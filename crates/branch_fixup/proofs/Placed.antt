@@ -23,13 +23,10 @@ use Rattle.branch_fixup.proofs.Bridge.{AreBlockEndsOf, block_placed}
 use Rattle.rv_code.proofs.lists.Follows.{before_of, some_length}
 use Rattle.branch_fixup.proofs.Holders.{blocks_up}
 use Rattle.branch_fixup.proofs.Laid.{IsFresh, AreOnce, placed_from}
-use Rattle.branch_fixup.proofs.Lists.{Contains-cons_cases, Contains-nil, Contains-there}
+use Rattle.rb_bytes.proofs.Members.{Contains-cons_cases, Contains-nil, Contains-there}
 use Rattle.branch_fixup.proofs.Orders.{order_once}
 use Rattle.branch_fixup.proofs.Rounds.{form_length}
 use Rattle.branch_fixup.proofs.Planned.{planned, strip_follows, strip_length}
-
-some_strip : (s t : Strip) → Some s ≡ Some t → s ≡ t
-some_strip s t h = cc
 
 -- What a strip is, whatever it comes from.
 pub record IsStrip (s : Strip) : Type 0 where

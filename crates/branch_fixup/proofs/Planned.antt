@@ -15,21 +15,9 @@ use Rattle.rv_code.specs.layout.BlockOrders.{HasAllBlocks}
 use Rattle.branch_fixup.specs.Endings.{fall_of}
 use Rattle.branch_fixup.specs.Strips.{Strip, strip_of, strips_of, insts_in, first_in}
 use Rattle.branch_fixup.proofs.Covered.{BlockOf, block_of}
-use Rattle.rv_code.proofs.lists.Follows.{before_of, follow_drop, follow_take, laid_func, inst_length}
-use Rattle.branch_fixup.proofs.Lists.{at_contains, contains_at, there, at_drop, at_take, take_in, take_one_more}
+use Rattle.rv_code.proofs.lists.Follows.{before_of, follow_drop, follow_take, laid_func, inst_length, at_contains}
+use Rattle.branch_fixup.proofs.Lists.{contains_at, there, at_drop, at_take, take_in, take_one_more, some_is}
 use Rattle.branch_fixup.proofs.Orders.{order_within}
-
-some_strip : (s t : Strip) → Some s ≡ Some t → s ≡ t
-some_strip s t h = cc
-
-some_func : (f g : Func) → Some f ≡ Some g → f ≡ g
-some_func f g h = cc
-
-some_inst : (p q : Placed) → Some p ≡ Some q → p ≡ q
-some_inst p q h = cc
-
-some_block : (b c : Block) → Some b ≡ Some c → b ≡ c
-some_block b c h = cc
 
 -- The strip of a block.
 
@@ -239,4 +227,4 @@ module _ (code : ProgramCode) (blocks : List Block) (are : AreBlocks code blocks
         let len = planned_length in
         let (m, place) = there order k (omega (arith, within, len)) in
         let (t, at_t, x) = planned_at k m place in
-        subst (λ (z : Strip). Planned code blocks order k z) (some_strip t s (sym at_t ∙ at)) x
+        subst (λ (z : Strip). Planned code blocks order k z) (some_is t s (sym at_t ∙ at)) x

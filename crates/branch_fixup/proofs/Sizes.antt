@@ -31,7 +31,7 @@ use Rattle.branch_fixup.specs.Pieces.{piece_length}
 use Rattle.branch_fixup.specs.Strips.{Strip, first_in, insts_in, is_alone}
 use Rattle.rv_code.proofs.lists.Follows.{before_of, follow_at, laid_func, some_length}
 use Rattle.branch_fixup.proofs.Holders.{last_there}
-use Rattle.branch_fixup.proofs.Lists.{Contains-there}
+use Rattle.rb_bytes.proofs.Members.{Contains-there}
 use Rattle.branch_fixup.proofs.Placed.{IsStrip, before_is}
 use Rattle.branch_fixup.proofs.Planned.{StripOf, in_block, insts_are, strip_follows, strip_length}
 use Rattle.branch_fixup.proofs.BlockEndFacts.{IsOfTable, branch_end, goto_end}

@@ -9,7 +9,7 @@ use Rattle.rv_code.specs.declared.layout.Form.{Form}
 use Rattle.branch_fixup.specs.declared.growth.BlockEnd.{BlockEnd}
 use Rattle.branch_fixup.specs.Forms.{FitsLength}
 use Rattle.branch_fixup.specs.Pieces.{piece_length}
-use Rattle.branch_fixup.specs.Growth.{end_at, form_at, block_length, longer, is_enough, from_at, to_at, half_of, left_of}
+use Rattle.branch_fixup.specs.Growth.{end_at, form_at, block_length, longer, is_enough, from_at, to_at, form_reach, left_of}
 use Rattle.branch_fixup.specs.Growth.{block_offset}
 use Rattle.branch_fixup.specs.Growth.{AreBlockEnds, AreGrown}
 use Rattle.branch_fixup.specs.Distances.{reaches}
@@ -55,24 +55,24 @@ back_in ts at t k o le apart o_in = elim (cases_order t k) [
 pub not_enough_by : (ts : List BlockEnd) (places : List ℕ) (fs : List Form) (k more : ℕ) (f : Form) → AreBlockEnds ts →
     AreStarts ts places → k < length ts → IsLonger ts places fs k more → is_enough_by ts places more k f ≡ false →
     is_enough ts fs k f ≡ false
-not_enough_by ts places fs k more f block_ends starts k_in l h = by (half_of f) h
+not_enough_by ts places fs k more f block_ends starts k_in l h = by (form_reach f) h
   where
-    split : (half : ℕ) (b : Bool) → nat_lt k (end_at ts k).to ≡ b →
-        (if b then reaches half (slice_index places k + (end_at ts k).before)
+    split : (reach : ℕ) (b : Bool) → nat_lt k (end_at ts k).to ≡ b →
+        (if b then reaches reach (slice_index places k + (end_at ts k).before)
         (slice_index places (end_at ts k).to + (end_at ts k).offset + more)
-        else reaches half (slice_index places k + (end_at ts k).before + more)
+        else reaches reach (slice_index places k + (end_at ts k).before + more)
         (slice_index places (end_at ts k).to + (end_at ts k).offset)) ≡ false →
-        reaches half (from_at ts fs k) (to_at ts fs k) ≡ false
-    split half true e h =
+        reaches reach (from_at ts fs k) (to_at ts fs k) ≡ false
+    split reach true e h =
         let less = ltb-true k (end_at ts k).to e in
         let to_in = block_ends.to_block k k_in in
         let p = starts.apart k (end_at ts k).to less (omega (arith, to_in)) in
         let q = apart_of ts fs k (end_at ts k).to less in
         let m = l.ahead (omega (arith, less)) in
-        short_more half (slice_index places k + (end_at ts k).before)
+        short_more reach (slice_index places k + (end_at ts k).before)
         (slice_index places (end_at ts k).to + (end_at ts k).offset + more) (from_at ts fs k) (to_at ts fs k)
         (ahead (omega (arith, p)) (omega (arith, q)) (omega (arith, m))) h
-    split half false e h =
+    split reach false e h =
         let le = ltb-false k (end_at ts k).to e in
         let inside = block_ends.to_inside k k_in in
         let p = back_in ts (λ j. slice_index places j) (end_at ts k).to k (end_at ts k).offset le
@@ -80,19 +80,19 @@ not_enough_by ts places fs k more f block_ends starts k_in l h = by (half_of f) 
         let q = back_in ts (block_offset ts fs) (end_at ts k).to k (end_at ts k).offset le
         (apart_of ts fs (end_at ts k).to k) inside in
         let m = l.back le in
-        short_more half (slice_index places k + (end_at ts k).before + more)
+        short_more reach (slice_index places k + (end_at ts k).before + more)
         (slice_index places (end_at ts k).to + (end_at ts k).offset) (from_at ts fs k) (to_at ts fs k)
         (back (omega (arith, p)) (omega (arith, q)) (omega (arith, m))) h
 
-    by : (o : Option ℕ) → option_map_or (λ half.
+    by : (o : Option ℕ) → option_map_or (λ reach.
         if nat_lt k (end_at ts k).to
-        then reaches half (slice_index places k + (end_at ts k).before)
+        then reaches reach (slice_index places k + (end_at ts k).before)
         (slice_index places (end_at ts k).to + (end_at ts k).offset + more)
-        else reaches half (slice_index places k + (end_at ts k).before + more)
+        else reaches reach (slice_index places k + (end_at ts k).before + more)
         (slice_index places (end_at ts k).to + (end_at ts k).offset)) o true ≡ false →
-        option_map_or (λ half. reaches half (from_at ts fs k) (to_at ts fs k)) o true ≡ false
+        option_map_or (λ reach. reaches reach (from_at ts fs k) (to_at ts fs k)) o true ≡ false
     by None h = h
-    by (Some half) h = split half (nat_lt k (end_at ts k).to) refl h
+    by (Some reach) h = split reach (nat_lt k (end_at ts k).to) refl h
 
 -- It stays below the size of all code.
 pub longer_low : (ts : List BlockEnd) (places : List ℕ) (fs : List Form) (k more : ℕ) → AreBlockEnds ts → AreStarts ts places →

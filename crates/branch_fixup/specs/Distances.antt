@@ -10,9 +10,9 @@ use Rattle.rv_code.specs.declared.placed.Placed.{Placed}
 use Rattle.rv_code.specs.layout.Flow.{action_at, target_of, is_branch}
 use Rattle.branch_fixup.specs.Pieces.{Piece, length_of, bytes_of_size}
 
--- from one address to another, by a distance whose sign bit is worth `half`
+-- from one address to another, by a distance whose sign bit is worth `reach`
 abbrev pub reaches : ℕ → ℕ → ℕ → Bool
-reaches half from to = nat_lt to (from + half) && nat_le from (to + half)
+reaches reach from to = nat_lt to (from + reach) && nat_le from (to + reach)
 
 -- what the sign bit is worth in a branch or jump of the input that has so many bytes
 abbrev pub reach_of : ℕ → Placed → ℕ
@@ -23,15 +23,15 @@ reach_of bytes p =
 
 -- a branch or jump of the new code: what its distance's sign bit is worth, where it is, and where it goes
 pub record Leap : Type 0 where
-  pub half : ℕ
+  pub reach : ℕ
   pub from : ℕ
   pub to : ℕ
 
 abbrev pub lands : Leap → Bool
-lands l = reaches l.half l.from l.to
+lands l = reaches l.reach l.from l.to
 
 abbrev pub jal : ℕ → ℕ → Leap
-jal from to = record { half = 2 ^ 20; from = from; to = to }
+jal from to = record { reach = 2 ^ 20; from = from; to = to }
 
 -- where a branch or jump of the input goes; `new` says where an address is in the new code
 abbrev pub new_target : (ℕ → ℕ) → Placed → ℕ
@@ -46,12 +46,12 @@ main_leap new a p (form.Branch inverted size jump) = by size
     to = if inverted then new (p.addr + p.len) else new_target new p
 
     by : Size → List Leap
-    by Half = record { half = 2 ^ 8; from = a; to = to } ∷ []
-    by Full = record { half = 2 ^ 12; from = a; to = to } ∷ []
+    by Half = record { reach = 2 ^ 8; from = a; to = to } ∷ []
+    by Full = record { reach = 2 ^ 12; from = a; to = to } ∷ []
     by Long = jal (a + 4) to ∷ []
-main_leap new a p (form.Goto half) = record { half = if half then 2 ^ 11 else 2 ^ 20; from = a; to = new_target new p } ∷ []
+main_leap new a p (form.Goto half) = record { reach = if half then 2 ^ 11 else 2 ^ 20; from = a; to = new_target new p } ∷ []
 main_leap new a p form.Dropped = []
-main_leap new a p _ = option_map_or (λ t. record { half = reach_of p.len p; from = a; to = new t } ∷ []) (target_of p) []
+main_leap new a p _ = option_map_or (λ t. record { reach = reach_of p.len p; from = a; to = new t } ∷ []) (target_of p) []
 
 -- the jump that is added after it
 abbrev pub added_leap : (ℕ → ℕ) → ℕ → Placed → Form → List Leap

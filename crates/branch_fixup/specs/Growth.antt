@@ -32,22 +32,22 @@ abbrev pub to_at : List BlockEnd → List Form → ℕ → ℕ
 to_at ts fs k = block_offset ts fs (end_at ts k).to + (end_at ts k).offset
 
 -- the reach of a form that can grow
-abbrev pub half_of : Form → Option ℕ
-half_of (form.Branch inverted Half jump) = Some (2 ^ 8)
-half_of (form.Branch inverted Full jump) = Some (2 ^ 12)
-half_of (form.Goto true) = Some (2 ^ 11)
-half_of _ = None
+abbrev pub form_reach : Form → Option ℕ
+form_reach (form.Branch inverted Half jump) = Some (2 ^ 8)
+form_reach (form.Branch inverted Full jump) = Some (2 ^ 12)
+form_reach (form.Goto true) = Some (2 ^ 11)
+form_reach _ = None
 
 -- a form would reach where the block is
 abbrev pub is_enough : List BlockEnd → List Form → ℕ → Form → Bool
-is_enough ts fs k f = option_map_or (λ half. reaches half (from_at ts fs k) (to_at ts fs k)) (half_of f) true
+is_enough ts fs k f = option_map_or (λ reach. reaches reach (from_at ts fs k) (to_at ts fs k)) (form_reach f) true
 
 -- the same where the blocks begin at these places
 abbrev pub is_enough_at : List BlockEnd → List ℕ → ℕ → Form → Bool
 is_enough_at ts places k f =
-    option_map_or (λ half.
-    reaches half (slice_index places k + (end_at ts k).before) (slice_index places (end_at ts k).to + (end_at ts k).offset))
-    (half_of f) true
+    option_map_or (λ reach.
+    reaches reach (slice_index places k + (end_at ts k).before) (slice_index places (end_at ts k).to + (end_at ts k).offset))
+    (form_reach f) true
 
 -- the next longer form
 abbrev pub longer : Form → Form

@@ -4,7 +4,7 @@ use Rattle.std.specs.Prelude.{length, slice_index}
 use Rattle.std.specs.Option.{option_map_or}
 use Rattle.rv_code.specs.declared.layout.Form.{Form}
 use Rattle.branch_fixup.specs.declared.growth.BlockEnd.{BlockEnd}
-use Rattle.branch_fixup.specs.Growth.{half_of, end_at, AreGrown, block_offset}
+use Rattle.branch_fixup.specs.Growth.{form_reach, end_at, AreGrown, block_offset}
 use Rattle.branch_fixup.specs.Distances.{reaches}
 
 -- Places at which blocks can begin: each holds what stands before a block's last instruction.
@@ -20,13 +20,13 @@ crosses ts k p = (nat_le k p && nat_lt p (end_at ts k).to) || (nat_le (end_at ts
 -- a form of block k would reach where its way is by so many bytes longer than these places say
 abbrev pub is_enough_by : List BlockEnd → List ℕ → ℕ → ℕ → Form → Bool
 is_enough_by ts places more k f =
-    option_map_or (λ half.
+    option_map_or (λ reach.
     if nat_lt k (end_at ts k).to
-    then reaches half (slice_index places k + (end_at ts k).before)
+    then reaches reach (slice_index places k + (end_at ts k).before)
     (slice_index places (end_at ts k).to + (end_at ts k).offset + more)
-    else reaches half (slice_index places k + (end_at ts k).before + more)
+    else reaches reach (slice_index places k + (end_at ts k).before + more)
     (slice_index places (end_at ts k).to + (end_at ts k).offset))
-    (half_of f) true
+    (form_reach f) true
 
 -- With these forms the way of block k is by at least so many bytes longer than these places say.
 pub record IsLonger (ts : List BlockEnd) (places : List ℕ) (fs : List Form) (k more : ℕ) : Type 0 where

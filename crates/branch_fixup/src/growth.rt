@@ -3,7 +3,7 @@ ghost use Rattle.std.specs.Prelude.{◌≡◌, ℕ, ◌+◌, ◌^◌, ◌<◌, �
 ghost use Rattle.branch_fixup.specs.Endings.{end_of_form};
 ghost use Rattle.branch_fixup.specs.Growth.{is_enough_at, end_at, left_of, AreBlockEnds, AreGrown, AreEnough, block_offset};
 
-use crate::lengths::{half_of, longer, piece_length, reaches};
+use crate::lengths::{form_reach, longer, piece_length, reaches};
 use crate::settling::settle;
 use rv_code::Form;
 use std::alloc::{AllocError, Global};
@@ -62,8 +62,8 @@ fn is_enough(block_ends: &[BlockEnd], places: &[u64], k: usize, form: Form) -> b
     let block_end = block_ends[k];
     let from = places[k] + block_end.before;
     let to = places[block_end.to] + block_end.offset;
-    match half_of(form) {
-        Some(half) => reaches(half, from, to),
+    match form_reach(form) {
+        Some(reach) => reaches(reach, from, to),
         None => true,
     }
 }

@@ -2,7 +2,7 @@
 ghost use Rattle.std.specs.Prelude.{◌≡◌, ◌+◌, ◌<◌, ◌≤◌, ◌^◌, IfSome};
 ghost use Rattle.branch_fixup.specs.Pieces.{bytes_of_size, piece_length};
 ghost use Rattle.branch_fixup.specs.Distances.{reaches};
-ghost use Rattle.branch_fixup.specs.Growth.{half_of, longer};
+ghost use Rattle.branch_fixup.specs.Growth.{form_reach, longer};
 
 use rv_code::{Form, Size};
 
@@ -31,20 +31,20 @@ pub fn piece_length(len: u8, form: Form) -> u8
     }
 }
 
-/// Whether a branch or jump reaches from one address to another. The sign bit of its distance is worth `half`.
-pub fn reaches(half: u64, from: u64, to: u64) -> bool
+/// Whether a branch or jump reaches from one address to another. The sign bit of its distance is worth `reach`.
+pub fn reaches(reach: u64, from: u64, to: u64) -> bool
     requires from_low { from + 2 ^ 32 ≤ 2 ^ 64 }
     requires to_low { to + 2 ^ 32 ≤ 2 ^ 64 }
-    requires half_low { half < 2 ^ 32 }
-    ensures { result ≡ reaches half from to }
+    requires reach_low { reach < 2 ^ 32 }
+    ensures { result ≡ reaches reach from to }
 {
-    to < from + half && from <= to + half
+    to < from + reach && from <= to + reach
 }
 
 /// The reach of a form that can grow.
-pub fn half_of(form: Form) -> Option<u64>
-    ensures value { result ≡ half_of form }
-    ensures short { IfSome result (λ half. half < 2 ^ 32) }
+pub fn form_reach(form: Form) -> Option<u64>
+    ensures value { result ≡ form_reach form }
+    ensures short { IfSome result (λ reach. reach < 2 ^ 32) }
 {
     match form {
         Form::Branch { size, .. } => match size {

@@ -6,7 +6,7 @@ ghost use Rattle.branch_fixup.specs.Growth.{end_at, left_of, AreBlockEnds, AreGr
 ghost use Rattle.branch_fixup.specs.Ways.{crosses, is_enough_by, AreStarts, AreLonger, AreLongerOver, AreSettling};
 
 use crate::growth::{BlockEnd, places};
-use crate::lengths::{half_of, longer, piece_length, reaches};
+use crate::lengths::{form_reach, longer, piece_length, reaches};
 use rv_code::Form;
 use std::alloc::{AllocError, Global};
 
@@ -33,12 +33,12 @@ fn is_enough_by(block_ends: &[BlockEnd], places: &[u64], more: u64, k: usize, fo
     let block_end = block_ends[k];
     let from = places[k] + block_end.before;
     let to = places[block_end.to] + block_end.offset;
-    match half_of(form) {
-        Some(half) => {
+    match form_reach(form) {
+        Some(reach) => {
             if k < block_end.to {
-                reaches(half, from, to + more)
+                reaches(reach, from, to + more)
             } else {
-                reaches(half, from + more, to)
+                reaches(reach, from + more, to)
             }
         }
         None => true,

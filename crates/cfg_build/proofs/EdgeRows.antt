@@ -12,7 +12,7 @@ use Rattle.rv_code.specs.declared.placed.Func.{Func}
 use Rattle.rv_code.specs.declared.placed.Block.{Block}
 use Rattle.rv_code.specs.layout.Blocks.{func_of}
 use Rattle.rv_code.specs.layout.Lists.{IsPairBefore, ListsPairs}
-use Rattle.func_find.proofs.Gains.{Any-left, Any-push_cases}
+use Rattle.rb_bytes.proofs.Gains.{Any-left, Any-push_cases}
 use Rattle.cfg_build.specs.EdgeLists.{LeadsFrom, IsBlockAt, IsNextOf}
 
 -- Lists that go up.

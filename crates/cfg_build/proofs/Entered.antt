@@ -6,7 +6,7 @@ use Rattle.rv_code.specs.layout.Flow.{target_of}
 use Rattle.rv_code.specs.layout.ProgramCode.{RoleNames, CellNames, IsTarget, IsHeld, by_role, by_cell, by_entry}
 use Rattle.rv_reloc.specs.declared.refs.Refs.{Refs}
 use Rattle.rb_bytes.specs.Lists.{Gains}
-use Rattle.func_find.proofs.Gains.{gains_both}
+use Rattle.rb_bytes.proofs.Gains.{gains_both}
 use Rattle.move_law.proofs.Lists.{from_flat, in_flat}
 use Rattle.cfg_build.specs.NamedAddresses.{code_of, AreEntered}
 

@@ -9,7 +9,7 @@ use Rattle.rv_code.specs.layout.Blocks.{inst_at, EndsBlock}
 use Rattle.rv_code.specs.layout.Edges.{LeadsTo, jumps, falls_into, by_table}
 use Rattle.rv_code.specs.layout.Flow.{fall_target, falls_at, target_of}
 use Rattle.rb_bytes.specs.Lists.{Gains}
-use Rattle.func_find.proofs.Gains.{gains_both, gains_same}
+use Rattle.rb_bytes.proofs.Gains.{gains_both, gains_same}
 use Rattle.cfg_build.specs.EdgeLists.{LeadsFrom}
 use Rattle.cfg_build.proofs.Options.{some_and, of_some}
 

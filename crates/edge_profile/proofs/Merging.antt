@@ -87,7 +87,7 @@ last_is : (b c : Bool) → (not b && c) ≡ true → (b ≡ false) × (c ≡ tru
 last_is true c is = absurd (cc)
 last_is false c is = (refl, is)
 
-both_is : (a b : Bool) → (a && b) ≡ true → (a ≡ true) × (b ≡ true)
+pub both_is : (a b : Bool) → (a && b) ≡ true → (a ≡ true) × (b ≡ true)
 both_is true b is = (refl, is)
 both_is false b is = absurd (cc)
 

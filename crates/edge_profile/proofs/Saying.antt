@@ -9,7 +9,7 @@ use Rattle.std.proofs.lemmas.List.Sums.{sum_by-cons}
 use Rattle.edge_profile.proofs.LineLists.{length-lines}
 use Rattle.std.specs.Prelude.{count_by, is_none}
 use Rattle.rv_code.specs.declared.placed.Func.{Func}
-use Rattle.elf_image.specs.declared.elf.Symbol.{Symbol}
+use Rattle.elf_image.specs.declared.symbol.Symbol.{Symbol}
 use Rattle.edge_profile.specs.Grammar.{lines}
 use Rattle.edge_profile.specs.PairCounts.{Counted, counted_by}
 use Rattle.edge_profile.specs.FunctionNames.{AreNamesOf}

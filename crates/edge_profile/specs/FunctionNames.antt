@@ -4,7 +4,7 @@ use Rattle.std.specs.declared.hash.FoldHasher.{FoldHasher}
 use Rattle.std.specs.declared.hash.BuildHasherDefault.{BuildHasherDefault}
 use denote.Ref.{Bor}
 use Rattle.indexmap.specs.IndexMap.{IndexMap, get_by}
-use Rattle.elf_image.specs.declared.elf.Symbol.{Symbol}
+use Rattle.elf_image.specs.declared.symbol.Symbol.{Symbol}
 use Rattle.edge_profile.specs.Names.{symbol_values, only_value}
 use Rattle.edge_profile.specs.declared.function_names.FunctionNames.{FunctionNames}
 

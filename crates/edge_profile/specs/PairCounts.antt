@@ -4,7 +4,7 @@ use Rattle.std.specs.Prelude.{filter_map, option_and_then}
 use Rattle.rv_code.specs.declared.placed.Func.{Func}
 use Rattle.rv_code.specs.layout.Lists.{ListsAll, IsPairBefore}
 use Rattle.elf_image.specs.declared.elf.Elf.{Elf}
-use Rattle.elf_image.specs.declared.elf.Symbol.{Symbol}
+use Rattle.elf_image.specs.declared.symbol.Symbol.{Symbol}
 use Rattle.edge_profile.specs.Grammar.{lines, fields, branch_line}
 use Rattle.edge_profile.specs.Names.{address_at}
 

@@ -1,7 +1,7 @@
 -- What was read of a profile's text.
 use Rattle.std.specs.Prelude.{◌≡◌, ℕ, List, count_by, filter_map, is_none}
 use Rattle.rv_code.specs.declared.placed.Func.{Func}
-use Rattle.elf_image.specs.declared.elf.Symbol.{Symbol}
+use Rattle.elf_image.specs.declared.symbol.Symbol.{Symbol}
 use Rattle.edge_profile.specs.Grammar.{lines}
 use Rattle.edge_profile.specs.PairCounts.{counted_by}
 use Rattle.edge_profile.specs.declared.reading.Said.{Said}

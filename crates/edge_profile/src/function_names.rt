@@ -1,6 +1,6 @@
 // What names of functions stand for.
 ghost use Rattle.std.specs.Prelude.{◌≡◌, ◌+◌, List, ℕ, Some, OnOk, IfOk, bytes_eq, if◌then◌else◌};
-ghost use Rattle.elf_image.specs.declared.elf.Symbol.{Symbol};
+ghost use Rattle.elf_image.specs.declared.symbol.Symbol.{Symbol};
 ghost use Rattle.rv_code.specs.layout.FunctionLists.{AreLaidOut};
 ghost use Rattle.edge_profile.specs.Grammar.{short_hex_number};
 ghost use Rattle.edge_profile.specs.Names.{named_value, value_of_name, function_start, code_address, address_at};

@@ -1,6 +1,6 @@
 // Reading a profile's text.
 ghost use Rattle.std.specs.Prelude.{◌≡◌, ◌+◌, ◌<◌, ◌≤◌, ◌^◌, ℕ, List, IfOk, length, option_map};
-ghost use Rattle.elf_image.specs.declared.elf.Symbol.{Symbol};
+ghost use Rattle.elf_image.specs.declared.symbol.Symbol.{Symbol};
 ghost use Rattle.rv_code.specs.layout.FunctionLists.{AreLaidOut};
 ghost use Rattle.edge_profile.specs.Grammar.{most_text_bytes};
 ghost use Rattle.edge_profile.specs.PairCounts.{counted_by, counted_in, count_in, ignored_in};

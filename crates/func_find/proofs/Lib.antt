@@ -1,5 +1,4 @@
 pub mod FunctionLists
-pub mod Gains
 pub mod Judged
 pub mod MisledPlaces
 pub mod NoRole

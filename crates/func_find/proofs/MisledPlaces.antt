@@ -6,7 +6,7 @@ use Rattle.std.proofs.lemmas.List.{take_more}
 use Rattle.std.proofs.lemmas.List.Quantifiers.{Any-push}
 use Rattle.elf_image.specs.faults.LowestPlace.{IsLowest, lower}
 use Rattle.elf_image.proofs.LowestPlaces.{IsLowest-same, IsLowest-lower}
-use Rattle.func_find.proofs.Gains.{Any-left, Any-push_cases}
+use Rattle.rb_bytes.proofs.Gains.{Any-left, Any-push_cases}
 
 pub lowest_next : {A : Type 0} (Has : A → ℕ → Type 0) (xs : List A) (i : ℕ) (x d : A) (a b r : Option ℕ) → i < length xs →
     x ≡ slice_index_or xs i d → r ≡ lower a b → IsLowest (λ p. Any (λ y. Has y p) (take i xs)) a → IsLowest (Has x) b →

@@ -1,6 +1,6 @@
 -- What stands at an address of a function, with its role.
 use Rattle.std.proofs.Common.{◌≡◌, ◌≢◌, ◌∙◌, sym, subst, ap, refl, ℕ, ◌<◌, ◌≤◌, inl, inr, ⊎_elim, ◌↔◌, Bool, true, false, IsTrue}
-use Rattle.std.proofs.Common.{Some, List, Contains, AllPairs, length, slice_index_or, arith}
+use Rattle.std.proofs.Common.{Some, List, Contains, AllPairs, length, slice_index_or, arith, ℤ}
 use Rattle.std.proofs.lemmas.Bool.{cases_lt}
 use Rattle.std.proofs.lemmas.List.{get_or_default}
 use Rattle.rb_bytes.specs.Fault.{fault_at}
@@ -15,7 +15,8 @@ use Rattle.elf_image.specs.code.FileCode.{AreRoles}
 use Rattle.elf_image.specs.code.Parts.{IsInstAt, length_at}
 use Rattle.elf_image.specs.code.Roles.{HasRole, HasNoRole}
 use Rattle.func_find.specs.ValidInsts.{IsValidBefore}
-use Rattle.func_find.specs.InstLists.{IsAuipc, IsFaultBefore, bare, IsPlacedAt}
+use Rattle.rv_code.specs.isa.AddressParts.{IsAuipc}
+use Rattle.func_find.specs.InstLists.{IsFaultBefore, bare, IsPlacedAt}
 use Rattle.func_find.proofs.NoRole.{HasNoRole-none}
 use Rattle.func_find.proofs.StartsApart.{length_is}
 
@@ -53,6 +54,10 @@ placed_role elf end a roles found role are valid only listed =
       not_bare = λ bare. bare.no_role has.relocation has.key role has.claims;
     }
 
+auipc_is : (inst : Inst) → IsAuipc inst → (rd : ℕ) × (imm : ℤ) × (inst ≡ Auipc rd imm)
+auipc_is (Auipc rd imm) is = (rd, imm, refl)
+auipc_is _ is = absurd is
+
 no_role : (elf : Elf) (a : ℕ) (roles : List (ℕ × Role)) → AreRoles elf roles → ((role : Role) → Contains roles (a, role) → ⊥) →
     HasNoRole elf a
 no_role elf a roles are none = HasNoRole-none elf a (λ role has. none role (are.each (a, role) has))
@@ -68,7 +73,8 @@ placed_plain elf end a roles found auipc are valid only none test isnt = record 
   only = only_inst elf end a found valid only;
   not_bare = λ bare.
       let same = pair_is found (Auipc bare.rd bare.imm, 4) (only _ 4 bare.auipc) in
-      let is : auipc ≡ true = test.1 ((bare.rd, bare.imm, ap (λ (x : Inst × ℕ). x.0) same), ap (λ (x : Inst × ℕ). x.1) same) in
+      let there : IsAuipc found.0 = subst IsAuipc (sym (ap (λ (x : Inst × ℕ). x.0) same)) tt in
+      let is : auipc ≡ true = test.1 (there, ap (λ (x : Inst × ℕ). x.1) same) in
       let no : true ≡ false = sym is ∙ isnt in
       absurd (cc);
 }
@@ -76,7 +82,8 @@ placed_plain elf end a roles found auipc are valid only none test isnt = record 
 pub fault_bare : (elf : Elf) (end a : ℕ) (roles : List (ℕ × Role)) (found : Inst × ℕ) (fault : Fault) → AreRoles elf roles →
     IsValidBefore elf end a found.0 found.1 → ((role : Role) → Contains roles (a, role) → ⊥) → IsAuipc found.0 × (found.1 ≡ 4) →
     fault ≡ fault_at BareAuipc a → IsFaultBefore elf end a fault
-fault_bare elf end a roles found fault are valid none ((rd, imm, is), four) fault_is =
+fault_bare elf end a roles found fault are valid none (auipc, four) fault_is =
+    let (rd, imm, is) = auipc_is found.0 auipc in
     bare fault_is (record {
       rd = rd;
       imm = imm;

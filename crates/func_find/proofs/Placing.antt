@@ -14,7 +14,7 @@ use Rattle.elf_image.specs.declared.elf.Elf.{Elf}
 use Rattle.elf_image.specs.code.Parts.{StartsIn, at_start, after, IsInstAt, length_at}
 use Rattle.elf_image.specs.code.Roles.{RoleIs}
 use Rattle.elf_image.specs.code.Functions.{AreInsts}
-use Rattle.elf_image.proofs.LoadLemmas.{Contains-cons_cases}
+use Rattle.rb_bytes.proofs.Members.{Contains-cons_cases}
 use Rattle.rv_reloc.specs.declared.parts.Part.{Part}
 use Rattle.rv_reloc.specs.Parts.{Precedes}
 use Rattle.rv_reloc.proofs.StartLists.{starts_inside}

@@ -16,9 +16,6 @@ use Rattle.elf_image.specs.code.Functions.{AreInsts}
 use Rattle.rv_reloc.specs.declared.parts.Part.{Part}
 use Rattle.func_find.specs.ValidInsts.{IsValidBefore}
 
-abbrev pub IsAuipc : Inst → Type 0
-IsAuipc inst = (rd : ℕ) × (imm : ℤ) × (inst ≡ Auipc rd imm)
-
 -- an AUIPC without a role
 pub record IsBareBefore (elf : Elf) (end a : ℕ) : Type 0 where
   pub rd : ℕ

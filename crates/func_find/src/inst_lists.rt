@@ -5,7 +5,8 @@ ghost use Rattle.rv_code.specs.declared.placed.Role.{Role};
 ghost use Rattle.elf_image.specs.code.FileCode.{AreRoles};
 ghost use Rattle.elf_image.specs.code.Parts.{IsCodePart};
 ghost use Rattle.rv_reloc.specs.Parts.{ArePartsApart, Precedes};
-ghost use Rattle.func_find.specs.InstLists.{AreFunctionsOf, AreInstsOf, IsAuipc, IsFaultBefore, IsFirstRefusal, IsPlacedAt};
+ghost use Rattle.rv_code.specs.isa.AddressParts.{IsAuipc};
+ghost use Rattle.func_find.specs.InstLists.{AreFunctionsOf, AreInstsOf, IsFaultBefore, IsFirstRefusal, IsPlacedAt};
 
 use crate::valid::valid_before;
 use elf_image::Elf;

@@ -35,7 +35,7 @@ more_trans calls u v w x (inr a) (inr b) = inr (b.0 ∙ a.0, let m = a.1 in let 
 pub more_self : (calls : List UnitCall) (u v : ℕ) → CallsMore calls u v v
 more_self calls u v = inr (refl, omega arith)
 
-same_pair : (a b x y : ℕ) → ((a == x) && (b == y)) ≡ true → (a ≡ x) × (b ≡ y)
+pub same_pair : (a b x y : ℕ) → ((a == x) && (b == y)) ≡ true → (a ≡ x) × (b ≡ y)
 same_pair a b x y h = (grind (arith, common_steps), grind (arith, common_steps))
 
 -- what is counted stands in the list

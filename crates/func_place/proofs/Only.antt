@@ -1,45 +1,15 @@
 -- Only one list has these members in this order.
-use Rattle.std.proofs.Common.{subst, ℕ, suc, ◌≡◌, ◌≢◌, ◌⊎◌, ◌<◌, ◌≤◌, ◌+◌, ◌&&◌, ◌||◌, inl, inr, ⊎_elim, Bool, false, List, []}
-use Rattle.std.proofs.Common.{◌∷◌, length, get_or, arith, refl, sym, ◌∙◌, ap}
-use Rattle.std.specs.Prelude.{◌==◌, nat_lt, if◌then◌else◌, sum_by, slice_index}
+use Rattle.std.proofs.Common.{subst, ℕ, suc, ◌≡◌, ◌≢◌, ◌⊎◌, ◌<◌, ◌≤◌, ◌&&◌, ◌||◌, inl, inr, ⊎_elim, Bool, false, List, []}
+use Rattle.std.proofs.Common.{◌∷◌, length, get_or, arith, refl, sym, ◌∙◌}
+use Rattle.std.specs.Prelude.{◌==◌, nat_lt, slice_index}
 use Rattle.std.specs.Cmp.{IsStrictWeakOrder}
 use Rattle.std.specs.List.Sorted.{IsSortedBy}
-use Rattle.std.proofs.lemmas.Grind.{common_steps}
 use Rattle.std.proofs.lemmas.Bool.{cases_eq}
-use Rattle.std.proofs.lemmas.List.Sums.{sum_by-cons}
-use Rattle.std.proofs.lemmas.List.Sorted.{sorted_far, sum_by-IsPermutation}
+use Rattle.std.proofs.lemmas.List.Sorted.{sorted_far}
 use Rattle.func_place.specs.Calls.{hot_units}
 use Rattle.func_place.specs.Ranks.{IsInOrder, hotter}
 use Rattle.func_place.proofs.Ranking.{less_no, less_not, less_once}
-
--- how often u is in a list
-unfoldable times : ℕ → List ℕ → ℕ
-times u xs = sum_by (λ v. if v == u then 1 else 0) xs
-
-times-same : (x : ℕ) (xs : List ℕ) → times x (x ∷ xs) ≡ 1 + times x xs
-unfolding times
-times-same x xs = sum_by-cons (λ v. if v == x then 1 else 0) x xs
-    ∙ ap (λ (n : ℕ). n + sum_by (λ v. if v == x then 1 else 0) xs) (grind (arith, common_steps))
-
-none_of : (x u n : ℕ) → x ≢ u → (if x == u then 1 else 0) + n ≡ n
-none_of x u n ne = grind (arith, common_steps)
-
-times-other : (u x : ℕ) (xs : List ℕ) → x ≢ u → times u (x ∷ xs) ≡ times u xs
-unfolding times
-times-other u x xs ne =
-    sum_by-cons (λ v. if v == u then 1 else 0) x xs ∙ none_of x u (sum_by (λ v. if v == u then 1 else 0) xs) ne
-
-times-none : (u : ℕ) → times u [] ≡ 0
-unfolding times
-times-none u = refl
-
--- a member stands somewhere
-at : (u : ℕ) (xs : List ℕ) → 0 < times u xs → (k : ℕ) × (k < length xs) × ((d : ℕ) → get_or xs k d ≡ u)
-at u [] some = absurd (let z = times-none u in omega arith)
-at u (x ∷ xs) some = ⊎_elim (λ (e : x ≡ u). (0, omega arith, λ d. e))
-    (λ (ne : x ≢ u).
-    let k = at u xs (let t = times-other u x xs ne in omega arith) in
-    (suc k.0, omega (arith, k.1), λ d. k.2 d)) (cases_eq x u)
+use Rattle.func_place.proofs.Times.{times, times-nil, times-same, times-other, times-IsPermutation, stands_at}
 
 -- no later member comes before an earlier one
 unfoldable Far : (ℕ → ℕ → Bool) → List ℕ → Type 0
@@ -52,7 +22,7 @@ far_tail before x xs f = λ i j d le lt. f (suc i) (suc j) d (omega arith) (omeg
 far_head : (before : ℕ → ℕ → Bool) (x y : ℕ) (xs : List ℕ) → Far before (x ∷ xs) → 0 < times y xs → before y x ≡ false
 unfolding Far
 far_head before x y xs f some =
-    let k = at y xs some in
+    let k = stands_at y xs some in
     let h : before (get_or xs k.0 0) x ≡ false = f 0 (suc k.0) 0 (omega arith) (omega (arith, k.1)) in
     subst (λ (z : ℕ). before z x ≡ false) (k.2 0) h
 
@@ -60,9 +30,9 @@ only_list : (before : ℕ → ℕ → Bool) → ((x y : ℕ) → before x y ≡ 
     Far before xs → Far before ys → ((u : ℕ) → times u xs ≡ times u ys) → xs ≡ ys
 only_list before one [] [] f g same = refl
 only_list before one [] (y ∷ ys) f g same =
-    absurd (let a = same y in let b = times-same y ys in let c = times-none y in omega arith)
+    absurd (let a = same y in let b = times-same y ys in let c = times-nil y in omega arith)
 only_list before one (x ∷ xs) [] f g same =
-    absurd (let a = same x in let b = times-same x xs in let c = times-none x in omega arith)
+    absurd (let a = same x in let b = times-same x xs in let c = times-nil x in omega arith)
 only_list before one (x ∷ xs) (y ∷ ys) f g same =
     let first : x ≡ y = ⊎_elim (λ (e : x ≡ y). e)
     (λ (ne : x ≢ y).
@@ -92,9 +62,7 @@ only_list before one (x ∷ xs) (y ∷ ys) f g same =
 
 same_times : (members xs ys : List ℕ) (before : ℕ → ℕ → Bool) → IsInOrder before members xs → IsInOrder before members ys →
     (u : ℕ) → times u xs ≡ times u ys
-unfolding times
-same_times members xs ys before a b u = sum_by-IsPermutation (λ v. if v == u then 1 else 0) members xs a.each
-    ∙ sym (sum_by-IsPermutation (λ v. if v == u then 1 else 0) members ys b.each)
+same_times members xs ys before a b u = times-IsPermutation u members xs a.each ∙ sym (times-IsPermutation u members ys b.each)
 
 far_sorted : (before : ℕ → ℕ → Bool) → IsStrictWeakOrder before → (xs : List ℕ) → IsSortedBy before xs → Far before xs
 unfolding Far

@@ -1,5 +1,5 @@
 -- What the order of blocks is like: it has all blocks, and those of tied functions are near each other.
-use Rattle.std.proofs.Common.{subst, ℕ, zero, suc, ◌≡◌, ◌≢◌, ◌<◌, ◌≤◌, ◌+◌, ◌*◌, ◌-◌, ⊎_elim, Bool, true, false, cond, Option}
+use Rattle.std.proofs.Common.{subst, ℕ, zero, suc, ◌≡◌, ◌<◌, ◌≤◌, ◌+◌, ◌*◌, ◌-◌, ⊎_elim, Bool, true, false, cond, Option}
 use Rattle.std.proofs.Common.{Some, List, [], ◌∷◌, ◌++◌, length, get_or, take, drop, arith, refl, sym, ◌∙◌, ap, add-one}
 use Rattle.std.specs.Prelude.{◌==◌, All, if◌then◌else◌, sum_by, filter, slice_index, slice_get}
 use Rattle.std.specs.List.{range_with_len, flat_map}
@@ -27,7 +27,7 @@ use Rattle.func_place.proofs.Times.{times-range_out, times-IsPermutation, times-
 use Rattle.func_place.proofs.Times.{sum-zero, sum-plus, sum-at}
 use Rattle.func_place.proofs.UnitClasses.{units_inside}
 use Rattle.func_place.proofs.UnitLine.{line_of, line_times, flat, cut_of, order_times, AreOwned, sum_some, units_near}
-use Rattle.func_place.proofs.UnitSums.{no_block}
+use Rattle.func_place.proofs.UnitSums.{no_block, no_if}
 use Rattle.func_place.proofs.WorstPositive.{stretch_of}
 use Rattle.func_place.specs.Clusters.{AreWithinLimit}
 
@@ -85,12 +85,6 @@ in_filter p x xs some = ⊎_elim
 
 equal : (m n : ℕ) → (m == n) ≡ true → m ≡ n
 equal m n h = grind (arith, common_steps)
-
-unequal : (m n : ℕ) → m ≢ n → (m == n) ≡ false
-unequal m n ne = grind (arith, common_steps)
-
-as_equal : (m n : ℕ) → m ≡ n → (m == n) ≡ true
-as_equal m n e = grind (arith, common_steps)
 
 -- Functions that are tied are of one unit.
 
@@ -275,9 +269,6 @@ parts_size funcs blocks chains units are stretches have u =
     (func_of_block blocks k) (range_with_len 0 (length units)) h in rw t (omega arith)))
     (cases_Bool (slice_index units (func_of_block blocks k) == u)))
 
-no_value : (m u v : ℕ) → m ≢ u → (if m == u then v else 0) ≡ 0
-no_value m u v ne = rw (unequal m u ne) refl
-
 size_at : (funcs : List Func) (blocks : List Block) (units : List ℕ) → AreUnits funcs units → All (IsOfFunction funcs) blocks →
     (u : ℕ) → sum_by (λ k. if slice_index units (func_of_block blocks k) == u then worst_at funcs blocks k else 0)
     (range_with_len 0 (length blocks)) ≤ slice_index (by_unit (unit_size funcs units blocks) units) u
@@ -292,7 +283,7 @@ size_at funcs blocks units are stretches u = ⊎_elim
     (range_with_len 0 (length blocks)) (λ k some.
     let o_in = owner_inside funcs blocks stretches k (in_range (length blocks) k some) in
     let u_in = unit_in funcs units are (func_of_block blocks k) o_in in
-    no_value (slice_index units (func_of_block blocks k)) u (worst_at funcs blocks k) (λ e. absurd (let l =
+    no_if (slice_index units (func_of_block blocks k)) u (worst_at funcs blocks k) (λ e. absurd (let l =
     are.len in omega arith))) in
     omega arith)
     (cases_lt u (length units))

@@ -10,7 +10,7 @@ use Rattle.std.proofs.lemmas.List.Sums.{sum_by_more, sum_by_more_le_part}
 use Rattle.func_place.specs.declared.calls.UnitCall.{UnitCall}
 use Rattle.func_place.specs.Calls.{calls_between}
 use Rattle.func_place.specs.internal.HeaviestCallers.{IsUpTo, AreByCallee, more_of}
-use Rattle.func_place.proofs.Heaviest.{call_at, IsHeaviest, occurs}
+use Rattle.func_place.proofs.Heaviest.{call_at, IsHeaviest, occurs, same_pair}
 
 -- One more call.
 
@@ -63,9 +63,6 @@ first_run calls = record {
   after = λ k le lt. record { to = omega arith; from = λ e. omega arith };
 }
 
-same_ends : (a b x y : ℕ) → ((a == x) && (b == y)) ≡ true → (a ≡ x) × (b ≡ y)
-same_ends a b x y h = (grind (arith, common_steps), grind (arith, common_steps))
-
 other_ends : (a b x y : ℕ) → ((a == x) && (b == y)) ≡ false → a ≡ x → b ≡ y → ⊥
 other_ends a b x y h p q = grind (arith, common_steps)
 
@@ -100,7 +97,7 @@ run_step calls i run ordered lt r =
     record {
       count = ⊎_elim
           (λ (h : ((run.from == call.from) && (run.to == call.to)) ≡ true).
-          let same = same_ends run.from run.to call.from call.to h in
+          let same = same_pair run.from run.to call.from call.to h in
           let is : run.count ≡ calls_between (take i calls) call.from call.to =
           r.count ∙ ap (λ (v : ℕ). calls_between (take i calls) v run.to) same.0
           ∙ ap (λ (u : ℕ). calls_between (take i calls) call.from u) same.1 in

@@ -9,6 +9,7 @@ use Rattle.std.proofs.lemmas.Option.{slice_get_within}
 use Rattle.rv_code.specs.declared.placed.Func.{Func}
 use Rattle.func_place.specs.Units.{LeadsInto, AreTied, itself, onward, backward, AreUnits}
 use Rattle.rb_bytes.specs.Lists.{Gains}
+use Rattle.rb_bytes.proofs.Members.{Contains-nil}
 use Rattle.func_place.specs.internal.TieList.{tie_at, IsTie, Touch, AreTogether, same, more, Ties}
 use Rattle.rv_code.proofs.lists.FunctionAt.{function_at-within}
 
@@ -52,12 +53,9 @@ pub record AreTies (funcs : List Func) (ties : List (ℕ × ℕ)) : Type 0 where
   pub only : (k : ℕ) → k < length ties → LeadsInto funcs (tie_at ties k).0 (tie_at ties k).1
   pub each : (f g : ℕ) → LeadsInto funcs f g → g ≢ f → Contains ties (f, g)
 
-none_in : {A : Type 0} (x : A) → Contains [] x → ⊥
-none_in x (k, lt, is) = omega arith
-
 pub are_ties : (funcs : List Func) (ties : List (ℕ × ℕ)) → Gains [] ties (Ties funcs) → AreTies funcs ties
 are_ties funcs ties gains = record {
-  only = λ k lt. leads_from funcs (tie_at ties k) (⊎_elim (λ none. absurd (none_in (tie_at ties k) none)) (λ is. is)
+  only = λ k lt. leads_from funcs (tie_at ties k) (⊎_elim (λ none. absurd (Contains-nil (tie_at ties k) none)) (λ is. is)
       ((gains (tie_at ties k)).0 (Contains-get_or ties k (0, 0) lt)));
   each = λ f g l other. (gains (f, g)).1 (inr (ties_from funcs f g l other));
 }

@@ -28,7 +28,7 @@ pub record AreSums (units : List ℕ) (blocks : List Block) (numbers : List ℕ)
 yes_if : (m u n : ℕ) → m ≡ u → (if m == u then n else 0) ≡ n
 yes_if m u n e = grind (arith, common_steps)
 
-no_if : (m u n : ℕ) → m ≢ u → (if m == u then n else 0) ≡ 0
+pub no_if : (m u n : ℕ) → m ≢ u → (if m == u then n else 0) ≡ 0
 no_if m u n ne = grind (arith, common_steps)
 
 pub sums_next : (units : List ℕ) (blocks : List Block) (numbers : List ℕ) (i : ℕ) (sums : List ℕ) (d : Block) (unit n : ℕ)

@@ -2,7 +2,7 @@
 use Rattle.std.proofs.Common.{◌≡◌, ◌∙◌, ap, refl, ℕ, zero, suc, ◌+◌, ◌-◌, ◌*◌, ◌<◌, List, [], ◌∷◌, ◌++◌, map, append_assoc, arith}
 use Rattle.std.proofs.Common.{None, length, ◌≤◌, slice_get, eq-eqb, Bool, true, false, if◌then◌else◌, ◌/◌}
 use Rattle.std.proofs.lemmas.List.{map-append}
-use Rattle.elf_image.specs.declared.elf.Section.{Section}
+use Rattle.elf_image.specs.declared.section.Section.{Section}
 use Rattle.elf_image.specs.declared.relocation.TheConstants.{RELA_SIZE, SHT_RELA}
 use Rattle.elf_image.specs.code.Relocations.{Relocation, relocation_at, entries_from, entries_for, entries_of}
 use Rattle.elf_image.specs.declared.elf.Elf.{Elf}

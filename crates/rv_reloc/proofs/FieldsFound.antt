@@ -1,6 +1,6 @@
 -- Fields that can be cells, as the calls that look for them find them.
 use Rattle.std.proofs.Common.{◌≡◌, ◌≢◌, ◌∙◌, sym, ap, subst, refl, ℕ, ◌/◌, ℤ, ◌⊎◌, ⊎_elim, ◌↔◌, Bool, true, false, not, ◌||◌}
-use Rattle.std.proofs.Common.{IsTrue, IfSome, List, Option, Some, None, arith}
+use Rattle.std.proofs.Common.{IsTrue, List, Some, None, arith}
 use Rattle.std.proofs.lemmas.Bool.{cases_eq, ne_eqb}
 use Rattle.elf_image.specs.declared.elf.Elf.{Elf}
 use Rattle.elf_image.specs.declared.relocation.TheConstants.{R_RISCV_32, R_RISCV_64}
@@ -18,10 +18,6 @@ use Rattle.rv_reloc.specs.Differences.{IsDifferenceOf, IsTheDifference}
 use Rattle.rv_reloc.specs.Labels.{width_of}
 use Rattle.rv_reloc.specs.GotFields.{IsNamedField, NamesEntry}
 use Rattle.rv_reloc.proofs.DifferenceCases.{cell-bits}
-
-pub all-some : {A : Type 0} {P Q : A → Type 0} (o : Option A) → ((x : A) → P x → Q x) → IfSome o P → IfSome o Q
-all-some None to is = tt
-all-some (Some x) to is = to x is
 
 pub crosses-found : (w : Bool) (P Q : Type 0) → P → IsTrue w ↔ Q → IsTrue (not w) ↔ (P × (Q → ⊥))
 crosses-found true P Q p test = (λ wrong. let e : false ≡ true = wrong in absurd (cc), λ both. absurd (both.1 (test.0 refl)))

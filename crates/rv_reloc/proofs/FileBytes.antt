@@ -9,18 +9,10 @@ use Rattle.elf_image.specs.declared.elf.Elf.{Elf}
 use Rattle.elf_image.specs.declared.segment.Segment.{Segment}
 use Rattle.elf_image.specs.memory.Image.{byte_of, loads_address, segment_of}
 use Rattle.elf_image.specs.memory.LoadedBytes.{byte_at}
-use Rattle.elf_image.proofs.LoadLemmas.{find-found, find-only, loads-parts, loads-from_parts}
+use Rattle.elf_image.proofs.LoadLemmas.{loads-parts, loads-from_parts, same_segment}
 use Rattle.rv_reloc.specs.declared.parts.Part.{Part}
 use Rattle.rv_reloc.specs.Halves.{AreBytesOf}
 use Rattle.rv_reloc.specs.LoadedMemory.{AreBytesFrom}
-
--- a segment that loads one address is found at each that it loads
-same_segment : (elf : Elf) (a q : ℕ) (p : Segment) → segment_of elf.segments.items a ≡ Some p → IsTrue (loads_address q p) →
-    segment_of elf.segments.items q ≡ Some p
-same_segment elf a q p found here =
-    let there = find-found (loads_address a) elf.loads.items p (elf.same a ∙ found) in
-    sym (elf.same q)
-    ∙ find-only (loads_address q) elf.loads.items p there.1 here (λ r r_in r_loads. elf.once q r p r_in there.1 r_loads here)
 
 byte_there : (elf : Elf) (a q : ℕ) (p : Segment) → segment_of elf.segments.items a ≡ Some p → IsTrue (loads_address a p) →
     p.vaddr ≤ q → q < p.vaddr + p.filesz → q < p.vaddr + p.memsz →

@@ -1,20 +1,18 @@
 -- Finding what the items of a list have, one item after another.
 use Rattle.std.proofs.Common.{◌≡◌, ◌∙◌, sym, subst, ap, ℕ, ◌+◌, ◌<◌, ◌≤◌, ⊎_elim, List, [], ◌∷◌, ◌++◌, take, length}
-use Rattle.std.proofs.Common.{slice_index_or, Option, Some, None, IfSome, append-nil, map, arith}
+use Rattle.std.proofs.Common.{slice_index_or, Option, Some, None, IfSome, append-nil, map}
 use Rattle.std.specs.List.{Contains}
 use Rattle.std.specs.Option.{option_map, option_to_list}
 use Rattle.std.proofs.lemmas.List.{take_more, take_all, map-append}
 use Rattle.std.proofs.lemmas.List.Elements.{Contains-append_left, Contains-push, Contains-push_cases}
 use Rattle.rv_reloc.specs.Finds.{AreFound}
-
-none_listed : {A : Type 0} (a : A) → Contains [] a → ⊥
-none_listed a (k, within, is) = omega arith
+use Rattle.rb_bytes.proofs.Members.{Contains-nil}
 
 pub AreFound-begin : {A B : Type 0} (Has : A → B → Type 0) (items : List A) (found : List B) → found ≡ [] →
     AreFound Has (take 0 items) found
 AreFound-begin {A} {B} Has items found none = record {
-  only = λ b listed. absurd (none_listed b (subst (λ (bs : List B). Contains bs b) none listed));
-  each = λ a b listed has. absurd (none_listed a listed);
+  only = λ b listed. absurd (Contains-nil b (subst (λ (bs : List B). Contains bs b) none listed));
+  each = λ a b listed has. absurd (Contains-nil a listed);
 }
 
 pushed : {A B : Type 0} (Has : A → B → Type 0) (items : List A) (x : A) (found : List B) (o : Option B) → IfSome o (Has x) →

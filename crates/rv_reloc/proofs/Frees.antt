@@ -5,7 +5,7 @@ use Rattle.elf_image.specs.declared.elf.Elf.{Elf}
 use Rattle.elf_image.specs.declared.segment.Segment.{Segment}
 use Rattle.elf_image.specs.memory.Image.{byte_of, segment_of}
 use Rattle.elf_image.specs.memory.LoadedBytes.{file_offset, offset_in, IsInHeaders}
-use Rattle.elf_image.specs.faults.SegmentLayout.{address_end}
+use Rattle.rv_code.specs.layout.FunctionLists.{address_end}
 use Rattle.rv_reloc.specs.Candidates.{AreFree, IsFreeByte}
 use Rattle.rv_reloc.specs.LoadedMemory.{IsLow}
 

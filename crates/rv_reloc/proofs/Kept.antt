@@ -1,5 +1,6 @@
 -- Relocations, and the records that are kept for them.
 use Rattle.std.proofs.Common.{◌≡◌, ◌∙◌, sym, subst, ap, ℕ, ◌↔◌, Bool, ◌==◌, ◌&&◌, IsTrue, List, map}
+use Rattle.std.proofs.Common.{Option, Some, IfSome}
 use Rattle.std.specs.List.{Contains, Any}
 use Rattle.std.specs.List.Sorted.{IsPermutation}
 use Rattle.std.proofs.lemmas.List.Sorted.{Contains-permutation, IsPermutation-sym, IsPermutation-map}
@@ -8,9 +9,9 @@ use Rattle.elf_image.specs.code.Cells.{IsOnly}
 use Rattle.elf_image.specs.code.Relocations.{Relocation, relocations, HasRelocation}
 use Rattle.rv_reloc.specs.declared.records.Record.{Record}
 use Rattle.rv_reloc.specs.Index.{class}
-use Rattle.rv_reloc.specs.Records.{seen, AreRecords, AreInOrder, has_key}
+use Rattle.rv_reloc.specs.Records.{seen, AreRecords, AreInOrder, has_key, FindsOnly}
 use Rattle.rv_reloc.proofs.Lists.{Contains-map, Contains-from_map}
-use Rattle.rv_reloc.proofs.Only.{only-permutation, only-map, only-from_map}
+use Rattle.rv_reloc.proofs.Only.{only-permutation, only-map, only-from_map, some-only, only-some}
 use Rattle.rv_reloc.proofs.Ordered.{has_key-true, has_key-same}
 
 pub counts : (elf : Elf) (records : List Record) (r : Record) → AreRecords elf records → Contains records r →
@@ -72,3 +73,19 @@ only-kept elf records place at is same are r only =
     (only-permutation is (relocations elf) (map seen records) r
     (IsPermutation-sym (map seen records) (relocations elf) are.all) only) in
     (q, subst (λ (test : Record → Bool). IsOnly test records q) (λ i z. same (seen z) i) one, there)
+
+-- what is found of a class at a place
+pub finds-only : (records : List Record) (place at n : ℕ) (is : Relocation → Bool) (found : Option Record) → n ≡ at →
+    ((r : Relocation) → is r ≡ (r.place == place && class r.kind == at)) →
+    IfSome found (IsOnly (has_key place n) records) →
+    ((q : Record) → IsOnly (has_key place n) records q → found ≡ Some q) → FindsOnly is records found
+finds-only records place at n is found class_is same one none_else = record {
+  is = λ elf are. some-only found
+      (λ q only. only-relocation elf records place at is same are q
+      (subst (λ (m : ℕ). IsOnly (has_key place m) records q) class_is only))
+      one;
+  only = λ elf r are passing.
+      let (q, only, there) = only-kept elf records place at is same are r passing in
+      only-some seen r found q
+      (none_else q (subst (λ (m : ℕ). IsOnly (has_key place m) records q) (sym class_is) only)) there;
+}

@@ -149,8 +149,5 @@ listed-first items place label n ordered bound below above (k, within, there) =
     same_upto : (z : ℤ) → z ≤ℤ z
     same_upto z = omega (arith, ints)
 
-upto_same : (a b : ℤ) → a ≤ℤ b → b ≤ℤ a → a ≡ b
-upto_same a b one other = grind (arith, ints)
-
 pub same_labels : (a b : ℤ) → a ≤ℤ b → b ≤ℤ a → a ≡ b
-same_labels = upto_same
+same_labels a b one other = grind (arith, ints)

@@ -7,7 +7,7 @@ use Rattle.byteorder.specs.Endian.{little_from}
 use Rattle.rv_code.specs.machine.Machine.{little}
 use Rattle.elf_image.specs.declared.elf.Elf.{Elf}
 use Rattle.elf_image.specs.memory.LoadedBytes.{byte_at, bytes_in, and_more, loaded_number}
-use Rattle.elf_image.specs.faults.SegmentLayout.{address_end}
+use Rattle.rv_code.specs.layout.FunctionLists.{address_end}
 use Rattle.rv_reloc.specs.LoadedMemory.{IsLow, AreBytesFrom}
 
 begins : (elf : Elf) (a : ℕ) → Some 0 ≡ loaded_number elf a zero

@@ -1,14 +1,15 @@
 -- Relocations for upper and lower parts that don't fit.
-use Rattle.std.proofs.Common.{◌≡◌, sym, subst, ap, refl, ℕ, ℤ, ◌↔◌, Bool, true, false, not, ◌&&◌, IsTrue, IsSome, is_some, List}
+use Rattle.std.proofs.Common.{◌≡◌, sym, subst, refl, ℕ, ℤ, ◌↔◌, Bool, true, false, not, ◌&&◌, IsTrue, IsSome, List}
 use Rattle.std.proofs.Common.{Option, Some, None}
 use Rattle.std.specs.List.{Contains}
 use Rattle.elf_image.specs.declared.elf.Elf.{Elf}
 use Rattle.elf_image.specs.code.Relocations.{Relocation, HasRelocation, symbol_value, is_pcrel_hi, is_pcrel_lo, is_call_pair}
 use Rattle.elf_image.specs.code.Roles.{lower_immediate}
-use Rattle.elf_image.specs.faults.ReferenceFaults.{IsAuipc, IsUpper, IsBadUpper, IsBadLower}
+use Rattle.elf_image.specs.faults.ReferenceFaults.{HasAuipc, IsUpper, IsBadUpper, IsBadLower}
 use Rattle.rv_reloc.specs.declared.lows.Low.{Low}
 use Rattle.rv_reloc.specs.Lows.{IsLowOf}
 use Rattle.rv_reloc.specs.NamedAddresses.{AreNamed}
+use Rattle.rv_reloc.proofs.Absolutes.{immediate_some}
 
 -- upper parts
 
@@ -16,11 +17,11 @@ pub bad-is_hi : (elf : Elf) (r : Relocation) → IsBadUpper elf r → IsTrue (is
 bad-is_hi elf r (IsBadUpper.no_auipc is refuted) = is
 bad-is_hi elf r (IsBadUpper.alone is refuted) = is
 
-pub bad-no_auipc : (elf : Elf) (r : Relocation) → IsTrue (is_pcrel_hi r.kind) → (IsAuipc elf r.place → ⊥) → IsBadUpper elf r
+pub bad-no_auipc : (elf : Elf) (r : Relocation) → IsTrue (is_pcrel_hi r.kind) → (HasAuipc elf r.place → ⊥) → IsBadUpper elf r
 bad-no_auipc elf r is none = IsBadUpper.no_auipc is none
 
 pub bad-auipc : (elf : Elf) (r : Relocation) (named : List ℕ) (here : Bool) → AreNamed elf named → IsTrue (is_pcrel_hi r.kind) →
-    IsAuipc elf r.place → IsTrue here ↔ Contains named r.place → IsTrue (not here) ↔ IsBadUpper elf r
+    HasAuipc elf r.place → IsTrue here ↔ Contains named r.place → IsTrue (not here) ↔ IsBadUpper elf r
 bad-auipc elf r named true are is auipc tells = (λ refuted. let e : false ≡ true = refuted in absurd (cc), λ bad. absurd (by bad))
   where
     by : IsBadUpper elf r → ⊥
@@ -31,7 +32,7 @@ bad-auipc elf r named false are is auipc tells = (
   λ _. refl,
 )
 
-pub upper-auipc : (elf : Elf) (a : ℕ) (upper call : Bool) → IsAuipc elf a →
+pub upper-auipc : (elf : Elf) (a : ℕ) (upper call : Bool) → HasAuipc elf a →
     IsTrue upper ↔ HasRelocation elf (λ r. IsTrue (is_pcrel_hi r.kind)) a →
     IsTrue call ↔ HasRelocation elf (λ r. IsTrue (is_call_pair r.kind)) a → IsTrue (upper && not call) ↔ IsUpper elf a
 upper-auipc elf a false call auipc is_upper is_call = (
@@ -56,9 +57,6 @@ bad-is_lo elf r (IsBadLower.no_upper is refuted) = is
 some_immediate : (o : Option ℤ) → IsSome o → (imm : ℤ) × (o ≡ Some imm)
 some_immediate None is = let e : false ≡ true = is in absurd (cc)
 some_immediate (Some imm) is = (imm, refl)
-
-immediate_some : (o : Option ℤ) (imm : ℤ) → o ≡ Some imm → IsSome o
-immediate_some o imm is = ap is_some is
 
 pub bad-no_low : (elf : Elf) (r : Relocation) → IsTrue (is_pcrel_lo r.kind) → ((l : Low) → IsLowOf elf r l → ⊥) → IsBadLower elf r
 bad-no_low elf r is none = IsBadLower.no_lower is (λ (inst, there, some).

@@ -2,7 +2,7 @@
 use Rattle.std.specs.Prelude.{◌≡◌, ℕ, ◌+◌, ◌<◌, List, Some, IsSome, length, slice_index}
 use Rattle.elf_image.specs.declared.elf.Elf.{Elf}
 use Rattle.elf_image.specs.memory.LoadedBytes.{byte_at}
-use Rattle.elf_image.specs.faults.SegmentLayout.{address_end}
+use Rattle.rv_code.specs.layout.FunctionLists.{address_end}
 
 -- all loaded bytes lie below the end of what can be loaded
 pub record IsLow (elf : Elf) : Type 0 where

@@ -1,7 +1,7 @@
 -- The addresses of sections and symbols, and ranges that are given by their ends, as ranges.
 use Rattle.std.specs.Prelude.{ℕ, ◌+◌}
-use Rattle.elf_image.specs.declared.elf.Section.{Section}
-use Rattle.elf_image.specs.declared.elf.Symbol.{Symbol}
+use Rattle.elf_image.specs.declared.section.Section.{Section}
+use Rattle.elf_image.specs.declared.symbol.Symbol.{Symbol}
 use Rattle.elf_image.specs.declared.extent.Extent.{Extent}
 
 abbrev pub section_extent : Section → Extent

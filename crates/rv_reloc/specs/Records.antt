@@ -1,10 +1,11 @@
 -- The relocations of a file as they are kept.
 use Rattle.std.specs.Prelude.{◌≡◌, ◌⊎◌, ◌<◌, ◌≤◌, ◌+◌, ◌&&◌, Bool, codes, not, ℕ, List, AllPairs, map, length, slice_index_or}
-use Rattle.std.specs.Prelude.{◌==◌}
+use Rattle.std.specs.Prelude.{◌==◌, Option, IfSome, IsSomeAnd}
 use Rattle.std.specs.List.Sorted.{IsPermutation}
 use Rattle.elf_image.specs.declared.elf.Elf.{Elf}
-use Rattle.elf_image.specs.declared.elf.Section.{Section}
+use Rattle.elf_image.specs.declared.section.Section.{Section}
 use Rattle.elf_image.specs.declared.relocation.TheConstants.{SHT_RELA}
+use Rattle.elf_image.specs.code.Cells.{IsOnly}
 use Rattle.elf_image.specs.code.Relocations.{Relocation, relocations, is_named}
 use Rattle.elf_image.specs.file.SectionNames.{is_loaded}
 use Rattle.rv_reloc.specs.declared.records.Record.{Record}
@@ -56,3 +57,9 @@ abbrev pub HasKeyAt : ℕ → ℕ → List Record → ℕ → Type 0
 HasKeyAt place at records k =
     (k < length records)
     × ((d : Record) → ((slice_index_or records k d).place ≡ place) × (class_of (slice_index_or records k d) ≡ at))
+
+-- the only relocation that passes a test, in any file with these records
+pub record FindsOnly (passes : Relocation → Bool) (records : List Record) (found : Option Record) : Type 0 where
+  pub is : (elf : Elf) → AreRecords elf records → IfSome found (λ r. IsOnly passes (relocations elf) (seen r))
+  pub only : (elf : Elf) (r : Relocation) → AreRecords elf records → IsOnly passes (relocations elf) r →
+      IsSomeAnd found (λ q. seen q ≡ r)

@@ -76,7 +76,7 @@ fn is_marked(marks: &[u64], index: usize) -> bool
     ensures { result ≡ is_marked marks.now index }
 {
     match marks.get(index / 64) {
-        Some(word) => (*word >> (index % 64)) % 2 == 1,
+        Some(group) => (*group >> (index % 64)) % 2 == 1,
         None => false,
     }
 }

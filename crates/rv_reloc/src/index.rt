@@ -1,12 +1,12 @@
 // Looking up relocations by place and class.
-ghost use Rattle.std.specs.Prelude.{◌≡◌, ◌↔◌, ◌<◌, ◌≤◌, ◌-◌, ℕ, IsTrue, IfSome, IsSomeAnd, Some, length, slice_index_or, Any};
+ghost use Rattle.std.specs.Prelude.{◌≡◌, ◌↔◌, ◌<◌, ◌≤◌, ◌-◌, ℕ, IsTrue, IfSome, Some, length, slice_index_or, Any};
 ghost use Rattle.elf_image.specs.declared.elf.Elf.{Elf};
 ghost use Rattle.elf_image.specs.code.Cells.{IsOnly, is_plus, is_minus};
-ghost use Rattle.elf_image.specs.code.Relocations.{Relocation, relocations, HasRelocation, is_call_pair, is_pcrel_hi};
+ghost use Rattle.elf_image.specs.code.Relocations.{HasRelocation, is_call_pair, is_pcrel_hi};
 ghost use Rattle.rv_reloc.specs.declared.records.Record.{Record};
 ghost use Rattle.rv_reloc.specs.Index.{class, class_beside, width_code, plus_class, minus_class};
 ghost use Rattle.rv_reloc.specs.Labels.{width_of};
-ghost use Rattle.rv_reloc.specs.Records.{seen, has_key, IsBelow, IsFrom, AreInOrder, AreRecords, IsSplit, HasKeyAt};
+ghost use Rattle.rv_reloc.specs.Records.{has_key, IsBelow, IsFrom, AreInOrder, AreRecords, IsSplit, HasKeyAt, FindsOnly};
 
 use crate::labels::{FieldWidth, minus_width, plus_width};
 use crate::records::Record;
@@ -187,10 +187,7 @@ pub fn only_plus<'a>(
     width: FieldWidth,
 ) -> Option<Record<'a>>
     requires { AreInOrder records.now }
-    ensures is { (elf : Elf) → AreRecords elf records.now →
-        IfSome result (λ r. IsOnly (is_plus place (width_of width)) (relocations elf) (seen r)) }
-    ensures only { (elf : Elf) (r : Relocation) → AreRecords elf records.now →
-        IsOnly (is_plus place (width_of width)) (relocations elf) r → IsSomeAnd result (λ q. seen q ≡ r) }
+    ensures { FindsOnly (is_plus place (width_of width)) records.now result }
 {
     only(records, near, place, plus_class(width))
 }
@@ -203,10 +200,7 @@ pub fn only_minus<'a>(
     width: FieldWidth,
 ) -> Option<Record<'a>>
     requires { AreInOrder records.now }
-    ensures is { (elf : Elf) → AreRecords elf records.now →
-        IfSome result (λ r. IsOnly (is_minus place (width_of width)) (relocations elf) (seen r)) }
-    ensures only { (elf : Elf) (r : Relocation) → AreRecords elf records.now →
-        IsOnly (is_minus place (width_of width)) (relocations elf) r → IsSomeAnd result (λ q. seen q ≡ r) }
+    ensures { FindsOnly (is_minus place (width_of width)) records.now result }
 {
     only(records, near, place, minus_class(width))
 }

@@ -3,7 +3,7 @@ ghost use Rattle.std.specs.Prelude.{◌≡◌, ℕ, ℤ, IfSome, Some, Contains,
 ghost use Rattle.rv_code.specs.declared.inst.Inst.TheVariants.{Auipc};
 ghost use Rattle.elf_image.specs.code.FileCode.{AreStarts};
 ghost use Rattle.elf_image.specs.code.Roles.{IsFullAt};
-ghost use Rattle.elf_image.specs.faults.ReferenceFaults.{IsAuipc};
+ghost use Rattle.elf_image.specs.faults.ReferenceFaults.{HasAuipc};
 ghost use Rattle.rv_reloc.specs.Instructions.{auipc_of, lui_of, jalr_of};
 ghost use Rattle.rv_reloc.specs.Parts.{AreCodeParts};
 

@@ -2,7 +2,7 @@
 ghost use Rattle.std.specs.Prelude.{◌≡◌, ◌<◌, ◌≤◌, ◌^◌, OnSome, IfSome, length};
 ghost use Rattle.byteorder.specs.Endian.{little_number};
 ghost use Rattle.elf_image.specs.memory.LoadedBytes.{byte_at, loaded_number};
-ghost use Rattle.elf_image.specs.faults.SegmentLayout.{address_end};
+ghost use Rattle.rv_code.specs.layout.FunctionLists.{address_end};
 ghost use Rattle.rv_reloc.specs.LoadedMemory.{IsLow, AreBytesFrom};
 
 use byteorder::{ByteOrder, LittleEndian};

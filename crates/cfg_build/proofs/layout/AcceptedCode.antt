@@ -11,7 +11,7 @@ use Rattle.rv_code.specs.declared.placed.Placed.{Placed}
 use Rattle.rv_code.specs.declared.placed.Func.{Func}
 use Rattle.rv_code.specs.layout.FunctionLists.{Follow, HasLength, IsLaidOut, AreLaidOut, address_end}
 use Rattle.elf_image.specs.declared.elf.Elf.{Elf}
-use Rattle.elf_image.specs.declared.elf.Section.{Section}
+use Rattle.elf_image.specs.declared.section.Section.{Section}
 use Rattle.elf_image.specs.declared.segment.TheConstants.{PF_X}
 use Rattle.elf_image.specs.code.Functions.{AreInsts, AreFunctions}
 use Rattle.elf_image.specs.code.Parts.{IsPart, IsInstAt, at_start}

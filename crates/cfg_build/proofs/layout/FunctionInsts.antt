@@ -10,7 +10,7 @@ use Rattle.rv_code.specs.declared.placed.Func.{Func}
 use Rattle.rv_code.specs.layout.Blocks.{inst_at}
 use Rattle.rv_code.specs.layout.FunctionLists.{Follow, HasLength, IsLaidOut}
 use Rattle.rv_code.proofs.lists.Follows.{follow_last, follow_next, follow_order, follow_up, follow_upto, some_length}
-use Rattle.elf_image.proofs.LoadLemmas.{Contains-cons_cases}
+use Rattle.rb_bytes.proofs.Members.{Contains-cons_cases}
 
 -- an instruction lies between two addresses, at an even one
 pub record LiesIn (start end : ℕ) (p : Placed) : Type 0 where

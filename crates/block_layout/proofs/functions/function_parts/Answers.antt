@@ -1,5 +1,5 @@
 use Rattle.std.proofs.Common.{◌≡◌, ℕ, slice_index, subst, arith}
-use Rattle.block_layout.specs.FunctionParts.{AreSplitTo}
+use Rattle.block_layout.specs.HotAndCold.{AreSplitTo}
 use Rattle.block_layout.specs.Walks.{links_of}
 use Rattle.block_layout.proofs.Starting.{start_at_none}
 use Rattle.block_layout.proofs.PartLists.{split_none, split_more}

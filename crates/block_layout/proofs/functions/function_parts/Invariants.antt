@@ -1,5 +1,5 @@
 use Rattle.std.proofs.Common.{slice_index}
-use Rattle.block_layout.specs.FunctionParts.{AreSplitTo, IsFirstOf}
+use Rattle.block_layout.specs.HotAndCold.{AreSplitTo, IsFirstOf}
 use Rattle.block_layout.specs.Walks.{links_of}
 use Rattle.block_layout.proofs.functions.function_parts.Given as goal
 

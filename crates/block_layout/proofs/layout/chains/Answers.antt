@@ -3,7 +3,7 @@ use Rattle.std.proofs.lemmas.List.{get_or_past}
 use Rattle.edge_profile.specs.Profile.{profile_counts, pairs_of}
 use Rattle.block_layout.specs.EdgeCounts.{edge_count}
 use Rattle.block_layout.specs.EdgeLists.{AreCounted, HaveOtherEnds, IsKeyBefore}
-use Rattle.block_layout.specs.FunctionParts.{AreSplitTo}
+use Rattle.block_layout.specs.HotAndCold.{AreSplitTo}
 use Rattle.block_layout.specs.Parts.{IsFirstBlock}
 use Rattle.block_layout.specs.Walks.{AreBetween, links_of}
 use Rattle.block_layout.specs.declared.edge_counts.Edge.{Edge}

@@ -1,6 +1,6 @@
 use Rattle.std.proofs.Common.{◌≡◌, refl, subst, ℕ, arith}
 use Rattle.std.specs.Prelude.{Contains}
-use Rattle.func_find.proofs.Gains.{gains_next, gains_all, gains_one, gains_same}
+use Rattle.rb_bytes.proofs.Gains.{gains_next, gains_all, gains_one, gains_same}
 use Rattle.cfg_build.proofs.edge_lists.push_table.Goals as goal
 
 pub loop-pair-preserved : goal.loop-pair-preserved

@@ -1,6 +1,6 @@
 use Rattle.std.proofs.Common.{◌≡◌, take}
 use Rattle.rb_bytes.specs.Lists.{Gains}
-use Rattle.func_find.proofs.Gains.{Given}
+use Rattle.rb_bytes.proofs.Gains.{Given}
 use Rattle.cfg_build.proofs.edge_lists.push_table.Given as goal
 
 abbrev pub invariant-loop-pair : goal.invariant-loop-pair

@@ -3,7 +3,7 @@ use Rattle.std.specs.Prelude.{Any}
 use Rattle.rv_code.specs.declared.placed.Placed.{Placed}
 use Rattle.rv_code.specs.layout.Flow.{target_of}
 use Rattle.rb_bytes.specs.Lists.{Gains}
-use Rattle.func_find.proofs.Gains.{gains_next, gains_all}
+use Rattle.rb_bytes.proofs.Gains.{gains_next, gains_all}
 use Rattle.cfg_build.proofs.named.push_targets.Goals as goal
 
 pub loop-func-preserved : goal.loop-func-preserved

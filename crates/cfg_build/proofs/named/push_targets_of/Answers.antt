@@ -1,6 +1,6 @@
 use Rattle.std.proofs.Common.{◌≡◌, ◌∙◌, sym, refl, Some, arith}
 use Rattle.rv_code.specs.layout.Flow.{target_of}
-use Rattle.func_find.proofs.Gains.{gains_next, gains_all, gains_same}
+use Rattle.rb_bytes.proofs.Gains.{gains_next, gains_all, gains_same}
 use Rattle.cfg_build.proofs.named.push_targets_of.Goals as goal
 
 pub loop-inst-preserved : goal.loop-inst-preserved

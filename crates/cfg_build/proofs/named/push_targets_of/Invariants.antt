@@ -1,7 +1,7 @@
 use Rattle.std.proofs.Common.{◌≡◌, Some, take}
 use Rattle.rv_code.specs.layout.Flow.{target_of}
 use Rattle.rb_bytes.specs.Lists.{Gains}
-use Rattle.func_find.proofs.Gains.{Given}
+use Rattle.rb_bytes.proofs.Gains.{Given}
 use Rattle.cfg_build.proofs.named.push_targets_of.Given as goal
 
 abbrev pub invariant-loop-inst : goal.invariant-loop-inst

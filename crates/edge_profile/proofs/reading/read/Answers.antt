@@ -1,5 +1,5 @@
 use Rattle.std.proofs.Common.{◌∙◌, subst, ap, arith, List}
-use Rattle.elf_image.specs.declared.elf.Symbol.{Symbol}
+use Rattle.elf_image.specs.declared.symbol.Symbol.{Symbol}
 use Rattle.edge_profile.specs.PairCounts.{count_among}
 use Rattle.edge_profile.specs.FunctionNames.{AreNamesOf}
 use Rattle.edge_profile.proofs.AscendingPairs.{ascending_pairs}

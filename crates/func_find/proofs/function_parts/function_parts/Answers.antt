@@ -1,4 +1,4 @@
-use Rattle.std.proofs.Common.{◌≡◌, ◌∙◌, sym, subst, true, false, Bool, refl, slice_index_or, arith}
+use Rattle.std.proofs.Common.{sym, subst, true, false, refl, slice_index_or, arith}
 use Rattle.std.specs.List.{All}
 use Rattle.std.proofs.lemmas.List.Elements.{Contains-get_or, All-push}
 use Rattle.elf_image.specs.code.Functions.{IsFunctionPart}
@@ -6,12 +6,10 @@ use Rattle.elf_image.specs.code.Parts.{IsCodePart}
 use Rattle.rv_reloc.specs.declared.parts.Part.{Part}
 use Rattle.rv_reloc.specs.Parts.{Precedes}
 use Rattle.rv_reloc.proofs.Chosen.{chosen_keep, chosen_skip, chosen_all}
+use Rattle.rv_reloc.proofs.Either.{clash}
 use Rattle.func_find.specs.FunctionParts.{AreFunctionsBefore}
 use Rattle.func_find.proofs.Judged.{AreFunctionsBefore-chosen, IsCodePart-function}
 use Rattle.func_find.proofs.function_parts.function_parts.Goals as goal
-
-clash : (b : Bool) → b ≡ true → b ≡ false → ⊥
-clash b is isnt = let no : true ≡ false = sym is ∙ isnt in cc
 
 pub is_function-requires-clause-part : goal.is_function-requires-clause-part
 is_function-requires-clause-part c =

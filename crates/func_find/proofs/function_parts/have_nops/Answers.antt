@@ -1,14 +1,12 @@
-use Rattle.std.proofs.Common.{◌≡◌, ◌∙◌, sym, subst, refl, ap, ℕ, ◌<◌, ◌≤◌, ⊎_elim, Bool, true, false, slice_index_or, arith}
+use Rattle.std.proofs.Common.{◌≡◌, ◌∙◌, sym, subst, refl, ap, ℕ, ◌<◌, ◌≤◌, ⊎_elim, true, false, slice_index_or, arith}
 use Rattle.std.proofs.lemmas.Bool.{cases_lt}
 use Rattle.std.proofs.lemmas.List.{get_or_default}
 use Rattle.std.proofs.lemmas.List.Elements.{Contains-get_or}
 use Rattle.elf_image.specs.code.Functions.{IsNopPart}
 use Rattle.rv_reloc.specs.declared.parts.Part.{Part}
+use Rattle.rv_reloc.proofs.Either.{clash}
 use Rattle.func_find.proofs.Judged.{inside_starts}
 use Rattle.func_find.proofs.function_parts.have_nops.Goals as goal
-
-clash : (b : Bool) → b ≡ true → b ≡ false → ⊥
-clash b is isnt = let no : true ≡ false = sym is ∙ isnt in cc
 
 pub starts_in-requires-clause-has_bytes : goal.starts_in-requires-clause-has_bytes
 starts_in-requires-clause-has_bytes c =

@@ -1,10 +1,8 @@
-use Rattle.std.proofs.Common.{◌≡◌, ◌∙◌, sym, refl, Bool, true, false}
+use Rattle.std.proofs.Common.{refl, true, false}
 use Rattle.elf_image.specs.code.Functions.{code}
 use Rattle.func_find.proofs.Judged.{inside_starts, HasReferred-any, IsFunctionPart-referred, IsFunctionPart-entered}
+use Rattle.rv_reloc.proofs.Either.{clash}
 use Rattle.func_find.proofs.function_parts.is_function.Goals as goal
-
-clash : (b : Bool) → b ≡ true → b ≡ false → ⊥
-clash b is isnt = let no : true ≡ false = sym is ∙ isnt in cc
 
 pub is_nop_part-requires-clause-inside : goal.is_nop_part-requires-clause-inside
 is_nop_part-requires-clause-inside c =

@@ -1,9 +1,7 @@
-use Rattle.std.proofs.Common.{◌≡◌, ◌∙◌, sym, Bool, true, false}
+use Rattle.std.proofs.Common.{◌≡◌, true, false}
 use Rattle.func_find.proofs.Judged.{IsNopPart-tests, IsNopPart-all}
+use Rattle.rv_reloc.proofs.Either.{clash}
 use Rattle.func_find.proofs.function_parts.is_nop_part.Goals as goal
-
-clash : (b : Bool) → b ≡ true → b ≡ false → ⊥
-clash b is isnt = let no : true ≡ false = sym is ∙ isnt in cc
 
 pub returns-then-hold : goal.returns-then-hold
 returns-then-hold c = (

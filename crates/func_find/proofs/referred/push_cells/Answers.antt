@@ -1,6 +1,6 @@
 use Rattle.std.proofs.Common.{refl, arith}
 use Rattle.rv_code.specs.layout.ProgramCode.{CellNames}
-use Rattle.func_find.proofs.Gains.{gains_next, gains_all}
+use Rattle.rb_bytes.proofs.Gains.{gains_next, gains_all}
 use Rattle.func_find.proofs.referred.push_cells.Goals as goal
 
 pub loop-cell-preserved : goal.loop-cell-preserved

@@ -1,7 +1,7 @@
 use Rattle.std.proofs.Common.{take}
 use Rattle.rv_code.specs.layout.ProgramCode.{CellNames}
 use Rattle.rb_bytes.specs.Lists.{Gains}
-use Rattle.func_find.proofs.Gains.{Given}
+use Rattle.rb_bytes.proofs.Gains.{Given}
 use Rattle.func_find.proofs.referred.push_cells.Given as goal
 
 abbrev pub invariant-loop-cell : goal.invariant-loop-cell

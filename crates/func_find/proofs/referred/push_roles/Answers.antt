@@ -1,7 +1,7 @@
 use Rattle.std.proofs.Common.{refl, arith}
 use Rattle.rv_code.specs.declared.placed.Role.TheVariants.{Plain}
 use Rattle.rv_code.specs.layout.ProgramCode.{RoleNames}
-use Rattle.func_find.proofs.Gains.{gains_next, gains_all, gains_same}
+use Rattle.rb_bytes.proofs.Gains.{gains_next, gains_all, gains_same}
 use Rattle.func_find.proofs.referred.push_roles.Goals as goal
 
 pub loop-role-preserved : goal.loop-role-preserved

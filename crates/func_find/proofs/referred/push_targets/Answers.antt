@@ -2,7 +2,7 @@ use Rattle.std.proofs.Common.{refl, slice_index_or, arith}
 use Rattle.std.proofs.lemmas.List.Elements.{Contains-get_or}
 use Rattle.rv_reloc.specs.declared.parts.Part.{Part}
 use Rattle.func_find.specs.Referents.{PartGoesTo}
-use Rattle.func_find.proofs.Gains.{gains_next, gains_all, gains_same}
+use Rattle.rb_bytes.proofs.Gains.{gains_next, gains_all, gains_same}
 use Rattle.func_find.proofs.Judged.{inside_starts}
 use Rattle.func_find.proofs.ReferredLists.{part_goes}
 use Rattle.func_find.proofs.referred.push_targets.Goals as goal

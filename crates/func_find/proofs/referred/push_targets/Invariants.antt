@@ -1,7 +1,7 @@
 use Rattle.std.proofs.Common.{take}
 use Rattle.rb_bytes.specs.Lists.{Gains}
 use Rattle.func_find.specs.Referents.{PartGoesTo}
-use Rattle.func_find.proofs.Gains.{Given}
+use Rattle.rb_bytes.proofs.Gains.{Given}
 use Rattle.func_find.proofs.referred.push_targets.Given as goal
 
 abbrev pub invariant-loop-part : goal.invariant-loop-part

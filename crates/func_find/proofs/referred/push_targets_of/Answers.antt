@@ -1,6 +1,6 @@
 use Rattle.std.proofs.Common.{refl, arith}
 use Rattle.func_find.specs.Referents.{GoesTo}
-use Rattle.func_find.proofs.Gains.{gains_next, gains_all, gains_same}
+use Rattle.rb_bytes.proofs.Gains.{gains_next, gains_all, gains_same}
 use Rattle.func_find.proofs.referred.push_targets_of.Goals as goal
 
 pub loop-from-preserved : goal.loop-from-preserved

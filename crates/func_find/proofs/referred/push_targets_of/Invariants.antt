@@ -1,7 +1,7 @@
 use Rattle.std.proofs.Common.{take}
 use Rattle.rb_bytes.specs.Lists.{Gains}
 use Rattle.func_find.specs.Referents.{GoesTo}
-use Rattle.func_find.proofs.Gains.{Given}
+use Rattle.rb_bytes.proofs.Gains.{Given}
 use Rattle.func_find.proofs.referred.push_targets_of.Given as goal
 
 abbrev pub invariant-loop-from : goal.invariant-loop-from

@@ -1,7 +1,7 @@
 use Rattle.std.proofs.Common.{ℕ, sym, subst, ◌∙◌}
 use Rattle.std.proofs.lemmas.Option.{same_Some}
 use Rattle.func_place.specs.internal.TieList.{TiesAt}
-use Rattle.func_place.proofs.Gained.{gains_same}
+use Rattle.rb_bytes.proofs.Gains.{gains_same}
 use Rattle.func_place.proofs.TieSets.{TiesTo}
 use Rattle.func_place.proofs.ties.put_tie.Goals as goal
 

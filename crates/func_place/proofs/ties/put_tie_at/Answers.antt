@@ -1,5 +1,5 @@
 use Rattle.func_place.specs.internal.TieList.{TiesAt}
-use Rattle.func_place.proofs.Gained.{gains_nothing, gains_one, gains_same}
+use Rattle.rb_bytes.proofs.Gains.{gains_nothing, gains_one, gains_same}
 use Rattle.func_place.proofs.TieSets.{at_found}
 use Rattle.func_place.proofs.ties.put_tie_at.Goals as goal
 

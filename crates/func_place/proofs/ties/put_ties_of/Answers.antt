@@ -1,7 +1,8 @@
 use Rattle.std.proofs.Common.{◌+◌, arith, refl}
 use Rattle.std.proofs.lemmas.Option.{slice_get_read}
 use Rattle.func_place.specs.internal.TieList.{TiesFrom, TiesOf}
-use Rattle.func_place.proofs.Gained.{gains_both, gains_same}
+use Rattle.rb_bytes.proofs.Gains.{gains_same}
+use Rattle.func_place.proofs.Gained.{gains_both}
 use Rattle.func_place.proofs.TieSets.{TiesOfBelow, below_next, below_all}
 use Rattle.func_place.proofs.ties.put_ties_of.Goals as goal
 

@@ -1,6 +1,7 @@
 use Rattle.std.proofs.Common.{◌+◌, [], arith}
 use Rattle.func_place.specs.internal.TieList.{TiesOf, Ties}
-use Rattle.func_place.proofs.Gained.{gains_both, gains_same}
+use Rattle.rb_bytes.proofs.Gains.{gains_same}
+use Rattle.func_place.proofs.Gained.{gains_both}
 use Rattle.func_place.proofs.TieSets.{TiesBelow, funcs_next, funcs_all}
 use Rattle.func_place.proofs.ties.ties.Goals as goal
 

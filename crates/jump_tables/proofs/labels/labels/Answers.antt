@@ -1,7 +1,7 @@
 use Rattle.std.proofs.Common.{◌≡◌, refl, sym, subst, slice_index_or, arith}
 use Rattle.std.specs.Prelude.{Contains}
 use Rattle.rv_code.specs.declared.placed.Placed.{Placed}
-use Rattle.func_find.proofs.Gains.{gains_next, gains_all, gains_nothing, gains_one, gains_same}
+use Rattle.rb_bytes.proofs.Gains.{gains_next, gains_all, gains_nothing, gains_one, gains_same}
 use Rattle.jump_tables.specs.TablePairs.{IsLabel}
 use Rattle.jump_tables.proofs.Collected.{all_gained, labels_are, no_inst}
 use Rattle.jump_tables.proofs.labels.labels.Goals as goal

@@ -1,7 +1,7 @@
 use Rattle.std.proofs.Common.{◌≡◌, take}
 use Rattle.std.specs.Prelude.{Contains}
 use Rattle.rb_bytes.specs.Lists.{Gains}
-use Rattle.func_find.proofs.Gains.{Given}
+use Rattle.rb_bytes.proofs.Gains.{Given}
 use Rattle.jump_tables.proofs.labels.labels.Given as goal
 
 abbrev pub invariant-loop-inst : goal.invariant-loop-inst

@@ -2,7 +2,7 @@ use Rattle.std.proofs.Common.{◌≡◌, refl, sym, subst, ℕ, List, slice_inde
 use Rattle.std.specs.Prelude.{◌↔◌, Contains}
 use Rattle.rv_code.specs.declared.placed.Placed.{Placed}
 use Rattle.rv_code.specs.layout.Edges.{IsTableJump}
-use Rattle.func_find.proofs.Gains.{gains_next, gains_all, gains_nothing, gains_same}
+use Rattle.rb_bytes.proofs.Gains.{gains_next, gains_all, gains_nothing, gains_same}
 use Rattle.jump_tables.specs.TablePairs.{IsLabel}
 use Rattle.jump_tables.proofs.Collected.{jump_is, no_inst, pairs_are}
 use Rattle.jump_tables.proofs.table_pairs.push_pairs.Goals as goal

@@ -1,7 +1,7 @@
 use Rattle.std.proofs.Common.{◌≡◌, take}
 use Rattle.rv_code.specs.layout.Edges.{IsTableJump}
 use Rattle.rb_bytes.specs.Lists.{Gains}
-use Rattle.func_find.proofs.Gains.{Given}
+use Rattle.rb_bytes.proofs.Gains.{Given}
 use Rattle.jump_tables.specs.TablePairs.{IsLabel}
 use Rattle.jump_tables.proofs.table_pairs.push_pairs.Given as goal
 

@@ -1,5 +1,5 @@
 use Rattle.std.proofs.Common.{◌≡◌, refl, ℕ, slice_index_or, arith}
-use Rattle.func_find.proofs.Gains.{gains_next, gains_all, gains_one, gains_same}
+use Rattle.rb_bytes.proofs.Gains.{gains_next, gains_all, gains_one, gains_same}
 use Rattle.jump_tables.proofs.Collected.{row_is}
 use Rattle.jump_tables.proofs.table_pairs.push_row.Goals as goal
 

@@ -1,6 +1,6 @@
 use Rattle.std.proofs.Common.{◌≡◌, take}
 use Rattle.rb_bytes.specs.Lists.{Gains}
-use Rattle.func_find.proofs.Gains.{Given}
+use Rattle.rb_bytes.proofs.Gains.{Given}
 use Rattle.jump_tables.proofs.table_pairs.push_row.Given as goal
 
 abbrev pub invariant-loop-label : goal.invariant-loop-label

@@ -3,7 +3,7 @@ use Rattle.std.specs.Prelude.{AllPairs}
 use Rattle.rv_code.specs.declared.placed.Placed.{Placed}
 use Rattle.rv_code.specs.declared.placed.Func.{Func}
 use Rattle.rb_bytes.specs.Lists.{Gains}
-use Rattle.func_find.proofs.Gains.{Given, gains_next, gains_all}
+use Rattle.rb_bytes.proofs.Gains.{Given, gains_next, gains_all}
 use Rattle.jump_tables.specs.TablePairs.{IsPairOf}
 use Rattle.jump_tables.proofs.Collected.{all_gained, AreTablePairs-all}
 use Rattle.jump_tables.proofs.table_pairs.tables.Goals as goal

@@ -2,7 +2,8 @@ use Rattle.std.proofs.Common.{◌∙◌, sym, subst, ℕ}
 use Rattle.elf_image.specs.code.Relocations.{Bits}
 use Rattle.rv_reloc.specs.Candidates.{IsCodeField, difference}
 use Rattle.rv_reloc.specs.Records.{seen}
-use Rattle.rv_reloc.proofs.FieldsFound.{all-some, code-of, difference-of, cell-to_difference, difference-to_cell}
+use Rattle.rv_reloc.proofs.FieldsFound.{code-of, difference-of, cell-to_difference, difference-to_cell}
+use Rattle.rv_reloc.proofs.Only.{some-only}
 use Rattle.rv_reloc.proofs.candidates.field_of.Goals as goal
 
 pub returns-then-is_address-clause-only : goal.returns-then-is_address-clause-only
@@ -23,7 +24,7 @@ returns-then-not-can_be_cell-clause-only c = λ tabled f are is.
 pub returns-in-Some-clause-is : goal.returns-in-Some-clause-is
 returns-in-Some-clause-is c = λ tabled are.
     let r = seen c.args.relocation.now in
-    all-some _ (λ f is. difference (cell-to_difference c.args.elf.now tabled r c.in-Some.difference f c.in-Some.ensures.is
+    some-only _ (λ f is. difference (cell-to_difference c.args.elf.now tabled r c.in-Some.difference f c.in-Some.ensures.is
     (sym c.can_be_cell.ensures ∙ c.if-not-can_be_cell.false) is)) (c.cell_field.ensures.is tabled are)
 
 pub returns-in-Some-clause-only : goal.returns-in-Some-clause-only

@@ -1,9 +1,10 @@
-use Rattle.rv_reloc.proofs.FieldsFound.{all-some, named-field}
+use Rattle.rv_reloc.proofs.FieldsFound.{named-field}
+use Rattle.rv_reloc.proofs.Only.{some-only}
 use Rattle.rv_reloc.proofs.got_fields.named_field.Goals as goal
 
 pub returns-else-not-names_entry-clause-is : goal.returns-else-not-names_entry-clause-is
 returns-else-not-names_entry-clause-is c =
-    all-some _ (λ f code. named-field c.args.elf.now c.args.hi c.args.slot c.in-Some.to f c.in-Some.ensures.value
+    some-only _ (λ f code. named-field c.args.elf.now c.args.hi c.args.slot c.in-Some.to f c.in-Some.ensures.value
     (c.names_entry.ensures.0 c.if-not-names_entry.false) code) c.code_field.ensures.is
 
 pub returns-else-not-names_entry-clause-only : goal.returns-else-not-names_entry-clause-only

@@ -2,9 +2,9 @@ use Rattle.std.proofs.Common.{◌≡◌, ◌∙◌, sym, ℕ, ◌<◌, ◌≤◌
 use Rattle.std.specs.Int.{w128}
 use Rattle.std.proofs.lemmas.Bool.{cases_lt}
 use Rattle.std.proofs.lemmas.Int.{to_z-of_z}
-use Rattle.rv_reloc.proofs.FieldsFound.{all-some}
 use Rattle.rv_reloc.proofs.Options.{same_some, not_found}
 use Rattle.rv_reloc.proofs.SlotFields.{slot-made, slot-named, slot-missing, label-listed}
+use Rattle.rv_reloc.proofs.Only.{some-only}
 use Rattle.rv_reloc.proofs.got_fields.slot_of.Goals as goal
 
 not_small : (a : ℕ) → (a < 2 ^ 64 → ⊥) → 2 ^ 64 ≤ a
@@ -25,7 +25,7 @@ returns-in-Some-natural-clause-is c =
     let number = c.in-Some.number in
     let fits : FitsSigned w128 number = search rules in
     let slot = c.in-Some-natural.ensures.there ∙ to_z-of_z w128 number fits in
-    all-some _
+    some-only _
     (λ f entry. slot-made c.args.elf.now c.args.low.now number c.in-Some-natural.slot f c.in-Some.ensures.is slot entry)
     c.named_field.ensures.is
 

@@ -1,6 +1,6 @@
 use Rattle.std.proofs.Common.{ℕ, ◌<◌, IsTrue, codes, nat_eq, slice_index_or}
 use Rattle.std.specs.List.{starts_with}
-use Rattle.elf_image.specs.declared.elf.Section.{Section}
+use Rattle.elf_image.specs.declared.section.Section.{Section}
 use Rattle.rv_reloc.proofs.ifunc.lowest_already_moved.Given as goal
 
 abbrev pub invariant-loop-index : goal.invariant-loop-index

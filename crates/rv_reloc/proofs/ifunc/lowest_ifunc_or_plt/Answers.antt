@@ -1,6 +1,6 @@
 use Rattle.std.proofs.Common.{◌≡◌, ◌≢◌, ◌%◌, subst, List}
-use Rattle.elf_image.specs.declared.elf.Section.{Section}
-use Rattle.elf_image.specs.declared.elf.Symbol.{Symbol}
+use Rattle.elf_image.specs.declared.section.Section.{Section}
+use Rattle.elf_image.specs.declared.symbol.Symbol.{Symbol}
 use Rattle.elf_image.specs.declared.relocation.TheConstants.{R_RISCV_IRELATIVE}
 use Rattle.elf_image.specs.declared.symbol.TheConstants.{STT_GNU_IFUNC}
 use Rattle.elf_image.specs.code.Relocations.{Relocation}

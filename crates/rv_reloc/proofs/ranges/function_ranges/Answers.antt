@@ -1,6 +1,6 @@
 use Rattle.std.proofs.Common.{◌≡◌, ◌<◌, ◌↔◌, ◌∙◌, ap, ℕ, List, Result, Ok, Err, IfOk, map}
 use Rattle.std.specs.List.{filter}
-use Rattle.elf_image.specs.declared.elf.Symbol.{Symbol}
+use Rattle.elf_image.specs.declared.symbol.Symbol.{Symbol}
 use Rattle.elf_image.specs.declared.elf.Elf.{Elf}
 use Rattle.elf_image.specs.declared.extent.Extent.{Extent}
 use Rattle.elf_image.specs.code.Cuts.{names_function}

@@ -1,12 +1,10 @@
-use Rattle.std.proofs.Common.{◌≡◌, ◌∙◌, sym, true, false, Bool, refl, arith}
+use Rattle.std.proofs.Common.{true, false, refl, arith}
 use Rattle.std.proofs.lemmas.List.Elements.{Contains-get_or}
 use Rattle.elf_image.specs.code.Parts.{IsWholePart}
 use Rattle.rv_reloc.specs.Parts.{Precedes}
 use Rattle.rv_reloc.proofs.Chosen.{chosen_keep, chosen_skip, chosen_all}
+use Rattle.rv_reloc.proofs.Either.{clash}
 use Rattle.rv_reloc.proofs.whole.whole_parts.Goals as goal
-
-clash : (b : Bool) → b ≡ true → b ≡ false → ⊥
-clash b is isnt = let no : true ≡ false = sym is ∙ isnt in cc
 
 pub is_whole-requires-clause-part : goal.is_whole-requires-clause-part
 is_whole-requires-clause-part c =
