@@ -8,7 +8,7 @@ use Rattle.rv_code.specs.declared.placed.Func.{Func}
 use Rattle.rv_code.specs.layout.FunctionLists.{AreLaidOut}
 use Rattle.rv_code.specs.layout.ProgramCode.{is_code_address}
 use Rattle.rb_bytes.specs.Text.{hexadecimal, hex_number, decimal_number}
-use Rattle.elf_image.specs.declared.elf.Symbol.{Symbol}
+use Rattle.elf_image.specs.declared.symbol.Symbol.{Symbol}
 use Rattle.edge_profile.specs.PairCounts.{Counted, both_ends, counted_by}
 use Rattle.edge_profile.specs.Grammar.{all_three, branch_line, lines, named_place}
 use Rattle.edge_profile.specs.Names.{address_at, function_start}

@@ -47,23 +47,23 @@ impl Recorded {
     }
 }
 
-/// Runs a file with these words as its arguments for at most `limit` steps, as `Machine::run` does, and records how often
+/// Runs a file with these arguments for at most `limit` steps, as `Machine::run` does, and records how often
 /// control went from the last instruction of a block, or from one that saves a return address, to which instruction.
 pub fn trace_edges<I: Source, O: Sink>(
     alloc: Global,
     elf: &Elf<'_>,
     funcs: &[Func],
     blocks: &[Block],
-    words: &[String],
+    args: &[String],
     limit: u64,
     input: &mut I,
     out: &mut O,
 ) -> Recorded
     requires read { IsElfOf elf.now.file.now elf.now }
     requires sound { IsSound elf.now.file.now }
-    requires limits { IsWithinLimits (map string_bytes words.now) }
+    requires limits { IsWithinLimits (map string_bytes args.now) }
     requires funcs { AreLaidOut funcs.now }
-    ensures answer { Records (start elf.now.file.now (map string_bytes words.now)) limit
+    ensures answer { Records (start elf.now.file.now (map string_bytes args.now)) limit
         (outside_of (I.seen input.old) (O.seen out.old))
         (outside_of (I.seen input.new) (O.seen out.new))
         elf.now funcs.now blocks.now result.ran.steps result.text.items (answered result.ran.end) }
@@ -73,7 +73,7 @@ pub fn trace_edges<I: Source, O: Sink>(
     let Ok(watched) = Watched::new(alloc, funcs, blocks) else {
         return Recorded::out_of_memory(alloc);
     };
-    let Ok(mut machine) = Machine::load(alloc, elf, words) else {
+    let Ok(mut machine) = Machine::load(alloc, elf, args) else {
         return Recorded::out_of_memory(alloc);
     };
     let mut counts = EdgeCounts::new(alloc);

@@ -65,9 +65,9 @@ IsByteOf r (Byte b) n = n ≡ b
 IsByteOf r (SymbolByte y w i) n = n ≡ bytes_from (number_of_symbol r y) i 1
 IsByteOf r Hidden n = Unit {0}
 
--- A byte of memory has its cell's.
+-- A byte of the output's memory stands for one of the symbol machine's.
 pub record StandsForByte (r : Rewrite) (c : MemoryByte) (n : ℕ) : Type 0 where
-  pub cell : IsMemoryByte c
+  pub made : IsMemoryByte c
   pub given : IsGivenByte r c
   pub byte : IsByteOf r c n
 

@@ -17,16 +17,16 @@ impl<'a> Machine<'a> {
     ghost use Rattle.rv_memory.specs.Limits.{IsWithinLimits};
     ghost use Rattle.rv_machine.specs.State.{state_of};
 
-    /// A machine that is about to run a file with these words as its arguments: at most 64 of them, of at most
+    /// A machine that is about to run a file with these arguments: at most 64 of them, of at most
     /// 65536 bytes together.
-    pub fn load(alloc: Global, elf: &'a Elf<'a>, words: &[String]) -> Result<Machine<'a>, NoMemory>
+    pub fn load(alloc: Global, elf: &'a Elf<'a>, args: &[String]) -> Result<Machine<'a>, NoMemory>
         requires read { IsElfOf elf.now.file.now elf.now }
         requires sound { IsSound elf.now.file.now }
-        requires limits { IsWithinLimits (map string_bytes words.now) }
+        requires limits { IsWithinLimits (map string_bytes args.now) }
         ensures { IfOk result (λ m. (input : List ℕ) →
-            state_of m input ≡ start elf.now.file.now (map string_bytes words.now) input) }
+            state_of m input ≡ start elf.now.file.now (map string_bytes args.now) input) }
     {
-        let bytes = stack_bytes(alloc, elf, words)?;
+        let bytes = stack_bytes(alloc, elf, args)?;
         let bytes: &[u8] = &bytes;
         let pointer = STACK_END - bytes.len() as u64;
         let mut memory = Memory::new(alloc, elf);

@@ -16,7 +16,7 @@ use Rattle.elf_image.specs.declared.segment.Segment.{Segment}
 use Rattle.elf_image.specs.declared.elf.Elf.{Elf}
 use Rattle.elf_image.specs.memory.Image.{is_load, end_of, loads_address, segment_of, byte_of, image_byte, has_flag}
 use Rattle.elf_image.specs.memory.Image.{is_loaded_with}
-use Rattle.elf_image.proofs.LoadLemmas.{find-found, find-only, loads-parts, loads-from_parts}
+use Rattle.elf_image.proofs.LoadLemmas.{loads-parts, loads-from_parts, same_segment}
 use Rattle.rv_memory.specs.Pages.{is_within}
 use Rattle.rv_memory.specs.BlankPages.{misses}
 
@@ -29,14 +29,6 @@ all_may-run may a (suc (suc n)) room each =
     let next : plus a 1 ≡ a + 1 = omega arith in
     rw (each a (omega arith) (omega arith), next)
     (all_may-run may (a + 1) (suc n) (omega arith) (λ q from to. each q (omega arith) (omega arith)))
-
-pub all_may-weaker : (few more : ℕ → Bool) (a n : ℕ) → ((q : ℕ) → few q ≡ true → more q ≡ true) → all_may few a n ≡ true →
-    all_may more a n ≡ true
-unfolding all_may
-all_may-weaker few more a zero each all = refl
-all_may-weaker few more a (suc n) each all =
-    let parts = and_parts (few a) (all_may few (plus a 1) n) all in
-    rw (each a parts.0) (all_may-weaker few more (plus a 1) n each parts.1)
 
 pub or_first : (x y z : Bool) → x ≡ true → ((x || y) || z) ≡ true
 or_first x y z is = rw is refl
@@ -117,14 +109,6 @@ put_pages old new unwritten a bytes room is q = by_start (nat_le a q) refl
         let within : is_within a (length bytes) q ≡ false = rw test refl in
         ap (λ r. unwrap_or r (unwritten q)) (is q ∙ ap (λ t. if t then Some (slice_index bytes (q - a)) else old q) within)
         ∙ sym (put_out (λ p. unwrap_or (old p) (unwritten p)) a q bytes room (inl (leb-false a q test)))
-
--- the segment that loads an address loads all that lies in it
-pub same_segment : (elf : Elf) (a q : ℕ) (p : Segment) → segment_of elf.segments.items a ≡ Some p → IsTrue (loads_address q p) →
-    segment_of elf.segments.items q ≡ Some p
-same_segment elf a q p found here =
-    let there = find-found (loads_address a) elf.loads.items p (elf.same a ∙ found) in
-    sym (elf.same q)
-    ∙ find-only (loads_address q) elf.loads.items p there.1 here (λ r r_in r_loads. elf.once q r p r_in there.1 r_loads here)
 
 pub loaded_run : (elf : Elf) (flag a n : ℕ) (p : Segment) → segment_of elf.segments.items a ≡ Some p →
     IsTrue (loads_address a p) →

@@ -19,12 +19,10 @@ use Rattle.std.proofs.lemmas.List.{get_or-drop}
 use Rattle.elf_image.specs.file.Header.{number_at}
 use Rattle.rv_code.specs.machine.Machine.{little, memory_bytes}
 use Rattle.rv_memory.proofs.PageBytes.{little_from-is}
-use Rattle.rv_memory.proofs.AddressRuns.{all_may-run, all_may-weaker, or_second}
-use Rattle.rv_memory.proofs.StackMemory.{in_stack-both}
+use Rattle.rv_memory.proofs.AddressRuns.{all_may-run, or_second}
+use Rattle.rv_code.proofs.machine.RelatedMemory.{all_may_implied}
+use Rattle.rv_memory.proofs.StackMemory.{in_stack-both, clash}
 use Rattle.rv_memory.specs.Pages.{page_byte, is_within, byte_put, cleared_between}
-
-clash : (b : Bool) → b ≡ true → b ≡ false → ⊥
-clash b is fails = absurd (cc)
 
 neither : (a b : Bool) → (a || b) ≡ false → (a ≡ false) × (b ≡ false)
 neither true b is = absurd (cc)
@@ -235,7 +233,7 @@ code_put_if m false new a n bytes size room all put kept =
 pub writable-keeps : (old new : Memory) → Keeps old new → (a n : ℕ) → all_may (writes old) a n ≡ true →
     all_may (writes new) a n ≡ true
 writable-keeps old new keeps a n all =
-    all_may-weaker (writes old) (writes new) a n (λ q is. writes-keeps old new keeps q ∙ is) all
+    all_may_implied (writes old) (writes new) a n (λ q is. writes-keeps old new keeps q ∙ is) all
 
 pub stack_writable : (m : Memory) (a n : ℕ) → stack_end - stack_size ≤ a → a + n ≤ stack_end → all_may (writes m) a n ≡ true
 stack_writable m a n low high =

@@ -8,9 +8,8 @@ use Rattle.elf_image.specs.declared.segment.TheConstants.{PF_W}
 use Rattle.elf_image.specs.declared.elf.Elf.{Elf}
 use Rattle.elf_image.specs.memory.Image.{loads_address, segment_of, byte_of, image_byte, has_flag, is_loaded_with}
 use Rattle.elf_image.specs.memory.Start.{in_stack, stack_end, stack_size}
-use Rattle.elf_image.proofs.LoadLemmas.{loads-parts, loads-from_parts}
+use Rattle.elf_image.proofs.LoadLemmas.{loads-parts, loads-from_parts, same_segment}
 use Rattle.rv_memory.specs.CodeRange.{is_ever_writable}
-use Rattle.rv_memory.proofs.AddressRuns.{same_segment}
 
 -- in what a segment loads from the file
 module _ (elf : Elf) (entry : ℕ) (p : Segment) (found : segment_of elf.segments.items entry ≡ Some p)

@@ -1,4 +1,4 @@
-pub mod Cells
+pub mod MemoryBytes
 pub mod Ranks
 pub mod PatchedBytes
 pub mod PageBytes

@@ -14,9 +14,10 @@ use Rattle.byteorder.specs.Endian.{little_bytes}
 use Rattle.byteorder.specs.Numbers.{length-bytes_low_first}
 use borrow.Rule.Slice.PartMut.{put_mid}
 use Rattle.rv_code.specs.machine.Machine.{low_bytes}
+use Rattle.rv_code.proofs.machine.LowBytes.{length_low_bytes}
 use Rattle.rv_memory.specs.Patches.{patched}
 use Rattle.rv_memory.specs.Pages.{is_within}
-use Rattle.rv_memory.proofs.Cells.{bytes_low_first-low_bytes}
+use Rattle.rv_memory.proofs.MemoryBytes.{bytes_low_first-low_bytes}
 use Rattle.rv_memory.proofs.StackLengths.{low_bytes-mod}
 
 -- a write at the front of what follows a place
@@ -113,11 +114,6 @@ pub mid_patched : (at k : ℕ) (xs ys zs : List ℕ) → zs ≡ ys → k ≡ len
 unfolding patched
 mid_patched at k xs ys zs is size within = rw (is, size) (grind (arith, common_steps))
 
-pub length-low_bytes : (n v : ℕ) → length (low_bytes n v) ≡ n
-unfolding low_bytes
-length-low_bytes zero v = refl
-length-low_bytes (suc n) v = ap suc (length-low_bytes n (v / 256))
-
 pub little_bytes-low_bytes : (n v : ℕ) → little_bytes n (v % 256 ^ n) ≡ low_bytes n v
 little_bytes-low_bytes n v =
     let whole : take n (little_bytes n (v % 256 ^ n)) ≡ little_bytes n (v % 256 ^ n) =
@@ -131,7 +127,7 @@ number_patched at n v xs zs within is =
     ap (λ ys. take at xs ++ (ys ++ drop (length xs - at) (drop at xs))) is
     ∙ patched_at at n xs (little_bytes n (v % 256 ^ n))
     ∙ ap (λ ys. take at xs ++ (ys ++ drop (at + n) xs)) (little_bytes-low_bytes n v)
-    ∙ ap (λ (k : ℕ). take at xs ++ (low_bytes n v ++ drop (at + k) xs)) (sym (length-low_bytes n v))
+    ∙ ap (λ (k : ℕ). take at xs ++ (low_bytes n v ++ drop (at + k) xs)) (sym (length_low_bytes n v))
 
 pub set_one : (at v : ℕ) (xs : List ℕ) → at + 1 ≤ length xs → set xs at v ≡ patched at (v ∷ []) xs
 unfolding patched

@@ -1,4 +1,4 @@
--- How long the parts of a start stack are, and the low bytes of its words.
+-- How long the parts of a start stack are, and the low bytes of its numbers.
 use Rattle.std.proofs.Common.{◌≡◌, ◌∙◌, ◌+◌, ◌-◌, ◌*◌, ◌/◌, ◌%◌, ◌^◌, ◌<◌, ◌≤◌, ℕ, zero, suc, List, [], ◌∷◌, ◌++◌, refl, sym, ap}
 use Rattle.std.proofs.Common.{arith, length, take, take_all, length-append, append_assoc}
 use Rattle.std.proofs.lemmas.List.{length-replicate}
@@ -9,6 +9,7 @@ use Rattle.std.proofs.lemmas.Nat.{mod-mul-add, div-mul-add}
 use Rattle.std.proofs.lemmas.Grind.{flat_map-append}
 use Rattle.std.specs.Prelude.{flat_map, sum_by, codes, replicate}
 use Rattle.rv_code.specs.machine.Machine.{low_bytes}
+use Rattle.rv_code.proofs.machine.LowBytes.{length_numbers}
 use Rattle.elf_image.specs.declared.segment.TheConstants.{PHDR_SIZE}
 use Rattle.elf_image.specs.file.Header.{e_entry, e_phnum}
 use Rattle.elf_image.specs.memory.Start.{page_size, random_address, random_bytes, rounded_down, stack_end, stack_size}
@@ -31,123 +32,109 @@ low_bytes-mod (suc k) x =
     ∙ div-mul-add (x / 256 % 256 ^ k) 256 (x % 256) low in
     rw (first, rest, low_bytes-mod k (x / 256)) refl
 
-pub low_bytes-word : (x : ℕ) → low_bytes 8 (x % 2 ^ 64) ≡ low_bytes 8 x
-low_bytes-word x = low_bytes-mod 8 x
+pub low_bytes-number : (x : ℕ) → low_bytes 8 (x % 2 ^ 64) ≡ low_bytes 8 x
+low_bytes-number x = low_bytes-mod 8 x
 
--- the words at the stack pointer, part by part
-pub start_bytes-is : (file : List ℕ) (words : List (List ℕ)) →
-    ((low_bytes 8 (length (program_arguments words))
-    ++ flat_map (low_bytes 8) (text_addresses (texts_address words) (program_arguments words)))
+-- the numbers at the stack pointer, part by part
+pub start_bytes-is : (file : List ℕ) (args : List (List ℕ)) →
+    ((low_bytes 8 (length (program_arguments args))
+    ++ flat_map (low_bytes 8) (text_addresses (texts_address args) (program_arguments args)))
     ++ flat_map (low_bytes 8) (0 ∷ 0 ∷ []))
     ++ flat_map (low_bytes 8) (vector (table_address file % 2 ^ 64) (e_phnum file) (e_entry file))
-    ≡ start_bytes file words
-start_bytes-is file words =
-    let addresses = text_addresses (texts_address words) (program_arguments words) in
+    ≡ start_bytes file args
+start_bytes-is file args =
+    let addresses = text_addresses (texts_address args) (program_arguments args) in
     let wrapped : flat_map (low_bytes 8) (vector (table_address file % 2 ^ 64) (e_phnum file) (e_entry file))
     ≡ flat_map (low_bytes 8) (auxiliary_vector file) =
     ap (λ bytes. low_bytes 8 3
     ++ (bytes ++ flat_map (low_bytes 8)
     (4 ∷ PHDR_SIZE ∷ 5 ∷ e_phnum file ∷ 6 ∷ page_size ∷ 9 ∷ e_entry file ∷ 25 ∷ random_address ∷ 0 ∷ 0 ∷ [])))
-    (low_bytes-word (table_address file)) in
+    (low_bytes-number (table_address file)) in
     ap (λ bytes.
-    ((low_bytes 8 (length (program_arguments words)) ++ flat_map (low_bytes 8) addresses) ++ flat_map (low_bytes 8) (0 ∷ 0 ∷ []))
+    ((low_bytes 8 (length (program_arguments args)) ++ flat_map (low_bytes 8) addresses) ++ flat_map (low_bytes 8) (0 ∷ 0 ∷ []))
     ++ bytes) wrapped
-    ∙ append_assoc (low_bytes 8 (length (program_arguments words)) ++ flat_map (low_bytes 8) addresses)
+    ∙ append_assoc (low_bytes 8 (length (program_arguments args)) ++ flat_map (low_bytes 8) addresses)
     (flat_map (low_bytes 8) (0 ∷ 0 ∷ [])) (flat_map (low_bytes 8) (auxiliary_vector file))
-    ∙ ap (λ bytes. (low_bytes 8 (length (program_arguments words)) ++ flat_map (low_bytes 8) addresses) ++ bytes)
+    ∙ ap (λ bytes. (low_bytes 8 (length (program_arguments args)) ++ flat_map (low_bytes 8) addresses) ++ bytes)
     (sym (flat_map-append (low_bytes 8) (0 ∷ 0 ∷ []) (auxiliary_vector file)))
-    ∙ sym (flat_map-append (low_bytes 8) (length (program_arguments words) ∷ addresses) (0 ∷ 0 ∷ auxiliary_vector file))
-
-length-low_bytes : (n x : ℕ) → length (low_bytes n x) ≡ n
-unfolding low_bytes
-length-low_bytes zero x = refl
-length-low_bytes (suc n) x = ap suc (length-low_bytes n (x / 256))
-
-pub length-words : (xs : List ℕ) → length (flat_map (low_bytes 8) xs) ≡ 8 * length xs
-length-words [] = refl
-length-words (x ∷ xs) =
-    let first : length (low_bytes 8 x) ≡ 8 = length-low_bytes 8 x in
-    let rest : length (flat_map (low_bytes 8) xs) ≡ 8 * length xs = length-words xs in
-    let both : length (low_bytes 8 x ++ flat_map (low_bytes 8) xs) ≡ length (low_bytes 8 x) + length (flat_map (low_bytes 8) xs) =
-    length-append (low_bytes 8 x) (flat_map (low_bytes 8) xs) in
-    omega (arith, first, rest, both)
+    ∙ sym (flat_map-append (low_bytes 8) (length (program_arguments args) ∷ addresses) (0 ∷ 0 ∷ auxiliary_vector file))
 
 pub length-text_addresses : (a : ℕ) (ts : List (List ℕ)) → length (text_addresses a ts) ≡ length ts
 length-text_addresses a [] = refl
 length-text_addresses a (t ∷ ts) = ap suc (length-text_addresses (a + length t + 1) ts)
 
-length-ended : (words : List (List ℕ)) →
-    length (flat_map (λ text. text ++ 0 ∷ []) words) ≡ sum_by (λ word. length word) words + length words
+length-ended : (args : List (List ℕ)) →
+    length (flat_map (λ text. text ++ 0 ∷ []) args) ≡ sum_by (λ arg. length arg) args + length args
 length-ended [] = refl
-length-ended (w ∷ words) =
-    let rest : length (flat_map (λ text. text ++ 0 ∷ []) words) ≡ sum_by (λ word. length word) words + length words =
-    length-ended words in
-    let both : length ((w ++ 0 ∷ []) ++ flat_map (λ text. text ++ 0 ∷ []) words)
-    ≡ length (w ++ 0 ∷ []) + length (flat_map (λ text. text ++ 0 ∷ []) words) =
-    length-append (w ++ 0 ∷ []) (flat_map (λ text. text ++ 0 ∷ []) words) in
+length-ended (w ∷ args) =
+    let rest : length (flat_map (λ text. text ++ 0 ∷ []) args) ≡ sum_by (λ arg. length arg) args + length args =
+    length-ended args in
+    let both : length ((w ++ 0 ∷ []) ++ flat_map (λ text. text ++ 0 ∷ []) args)
+    ≡ length (w ++ 0 ∷ []) + length (flat_map (λ text. text ++ 0 ∷ []) args) =
+    length-append (w ++ 0 ∷ []) (flat_map (λ text. text ++ 0 ∷ []) args) in
     let one : length (w ++ 0 ∷ []) ≡ length w + 1 = length-append w (0 ∷ []) in
-    let lengths : sum_by (λ word. length word) (w ∷ words) ≡ length w + sum_by (λ word. length word) words =
-    sum_by-cons (λ word. length word) w words in
-    let whole : length (flat_map (λ text. text ++ 0 ∷ []) (w ∷ words))
-    ≡ length ((w ++ 0 ∷ []) ++ flat_map (λ text. text ++ 0 ∷ []) words) = refl in
-    let count : length (w ∷ words) ≡ length words + 1 = omega arith in
+    let lengths : sum_by (λ arg. length arg) (w ∷ args) ≡ length w + sum_by (λ arg. length arg) args =
+    sum_by-cons (λ arg. length arg) w args in
+    let whole : length (flat_map (λ text. text ++ 0 ∷ []) (w ∷ args))
+    ≡ length ((w ++ 0 ∷ []) ++ flat_map (λ text. text ++ 0 ∷ []) args) = refl in
+    let count : length (w ∷ args) ≡ length args + 1 = omega arith in
     omega (arith, rest, both, one, lengths, whole, count)
 
-pub length-texts : (words : List (List ℕ)) → IsWithinLimits words → length (texts words) ≤ 65608
-length-texts words limits =
-    let rest : length (flat_map (λ text. text ++ 0 ∷ []) words) ≡ sum_by (λ word. length word) words + length words =
-    length-ended words in
-    let both : length (texts words) ≡ 8 + length (flat_map (λ text. text ++ 0 ∷ []) words) =
-    length-append (codes "program" ++ 0 ∷ []) (flat_map (λ text. text ++ 0 ∷ []) words) in
+pub length-texts : (args : List (List ℕ)) → IsWithinLimits args → length (texts args) ≤ 65608
+length-texts args limits =
+    let rest : length (flat_map (λ text. text ++ 0 ∷ []) args) ≡ sum_by (λ arg. length arg) args + length args =
+    length-ended args in
+    let both : length (texts args) ≡ 8 + length (flat_map (λ text. text ++ 0 ∷ []) args) =
+    length-append (codes "program" ++ 0 ∷ []) (flat_map (λ text. text ++ 0 ∷ []) args) in
     omega (arith, rest, both, limits.few, limits.short)
 
-pub length-start_bytes : (file : List ℕ) (words : List (List ℕ)) →
-    length (start_bytes file words) ≡ 8 * (length (program_arguments words) + 17)
-length-start_bytes file words =
-    let addresses = text_addresses (texts_address words) (program_arguments words) in
-    let bytes : length (start_bytes file words)
-    ≡ 8 * length ((length (program_arguments words) ∷ addresses) ++ (0 ∷ 0 ∷ auxiliary_vector file)) =
-    length-words ((length (program_arguments words) ∷ addresses) ++ (0 ∷ 0 ∷ auxiliary_vector file)) in
-    let parts : length ((length (program_arguments words) ∷ addresses) ++ (0 ∷ 0 ∷ auxiliary_vector file))
+pub length-start_bytes : (file : List ℕ) (args : List (List ℕ)) →
+    length (start_bytes file args) ≡ 8 * (length (program_arguments args) + 17)
+length-start_bytes file args =
+    let addresses = text_addresses (texts_address args) (program_arguments args) in
+    let bytes : length (start_bytes file args)
+    ≡ 8 * length ((length (program_arguments args) ∷ addresses) ++ (0 ∷ 0 ∷ auxiliary_vector file)) =
+    length_numbers ((length (program_arguments args) ∷ addresses) ++ (0 ∷ 0 ∷ auxiliary_vector file)) in
+    let parts : length ((length (program_arguments args) ∷ addresses) ++ (0 ∷ 0 ∷ auxiliary_vector file))
     ≡ suc (length addresses) + 16 =
-    length-append (length (program_arguments words) ∷ addresses) (0 ∷ 0 ∷ auxiliary_vector file) in
-    let count : length addresses ≡ length (program_arguments words) =
-    length-text_addresses (texts_address words) (program_arguments words) in
+    length-append (length (program_arguments args) ∷ addresses) (0 ∷ 0 ∷ auxiliary_vector file) in
+    let count : length addresses ≡ length (program_arguments args) =
+    length-text_addresses (texts_address args) (program_arguments args) in
     omega (arith, bytes, parts, count)
 
 -- the stack's bytes end at its end
-pub stack_bytes-end : (file : List ℕ) (words : List (List ℕ)) → IsWithinLimits words →
-    stack_pointer words + length (stack_bytes file words) ≡ stack_end
-stack_bytes-end file words limits =
-    let pad = texts_address words - stack_pointer words - length (start_bytes file words) in
+pub stack_bytes-end : (file : List ℕ) (args : List (List ℕ)) → IsWithinLimits args →
+    stack_pointer args + length (stack_bytes file args) ≡ stack_end
+stack_bytes-end file args limits =
+    let pad = texts_address args - stack_pointer args - length (start_bytes file args) in
     let zeros : List ℕ = replicate pad 0 in
-    let short : length (texts words) ≤ 65608 = length-texts words limits in
-    let few : length (program_arguments words) ≤ 65 = omega (arith, limits.few) in
-    let started : length (start_bytes file words) ≡ 8 * (length (program_arguments words) + 17) = length-start_bytes file words in
-    let one : length (stack_bytes file words) ≡ length ((start_bytes file words ++ zeros) ++ texts words) + length random_bytes =
-    length-append ((start_bytes file words ++ zeros) ++ texts words) random_bytes in
-    let two : length ((start_bytes file words ++ zeros) ++ texts words)
-    ≡ length (start_bytes file words ++ zeros) + length (texts words) =
-    length-append (start_bytes file words ++ zeros) (texts words) in
-    let three : length (start_bytes file words ++ zeros) ≡ length (start_bytes file words) + length (zeros) =
-    length-append (start_bytes file words) (zeros) in
+    let short : length (texts args) ≤ 65608 = length-texts args limits in
+    let few : length (program_arguments args) ≤ 65 = omega (arith, limits.few) in
+    let started : length (start_bytes file args) ≡ 8 * (length (program_arguments args) + 17) = length-start_bytes file args in
+    let one : length (stack_bytes file args) ≡ length ((start_bytes file args ++ zeros) ++ texts args) + length random_bytes =
+    length-append ((start_bytes file args ++ zeros) ++ texts args) random_bytes in
+    let two : length ((start_bytes file args ++ zeros) ++ texts args)
+    ≡ length (start_bytes file args ++ zeros) + length (texts args) =
+    length-append (start_bytes file args ++ zeros) (texts args) in
+    let three : length (start_bytes file args ++ zeros) ≡ length (start_bytes file args) + length (zeros) =
+    length-append (start_bytes file args) (zeros) in
     let four : length (zeros) ≡ pad = length-replicate pad 0 in
-    whole (length (texts words)) (length (program_arguments words)) (length (start_bytes file words))
-    (length (stack_bytes file words)) short few started (omega (arith, one, two, three, four))
+    whole (length (texts args)) (length (program_arguments args)) (length (start_bytes file args))
+    (length (stack_bytes file args)) short few started (omega (arith, one, two, three, four))
   where
     whole : (t n s all : ℕ) → t ≤ 65608 → n ≤ 65 → s ≡ 8 * (n + 17) →
         all ≡ s + (random_address - t - rounded_down 16 (random_address - t - 8 * (n + 17)) - s) + t + 16 →
         rounded_down 16 (random_address - t - 8 * (n + 17)) + all ≡ stack_end
     whole t n s all short few started is = omega (arith, short, few, started, is)
 
--- the words at the stack pointer end below the arguments' texts
-pub start_bytes-room : (file : List ℕ) (words : List (List ℕ)) → IsWithinLimits words →
-    length (start_bytes file words) ≤ texts_address words - stack_pointer words
-start_bytes-room file words limits =
-    let short : length (texts words) ≤ 65608 = length-texts words limits in
-    let few : length (program_arguments words) ≤ 65 = omega (arith, limits.few) in
-    room (length (texts words)) (length (program_arguments words)) (length (start_bytes file words)) short few
-    (length-start_bytes file words)
+-- the numbers at the stack pointer end below the arguments' texts
+pub start_bytes-room : (file : List ℕ) (args : List (List ℕ)) → IsWithinLimits args →
+    length (start_bytes file args) ≤ texts_address args - stack_pointer args
+start_bytes-room file args limits =
+    let short : length (texts args) ≤ 65608 = length-texts args limits in
+    let few : length (program_arguments args) ≤ 65 = omega (arith, limits.few) in
+    room (length (texts args)) (length (program_arguments args)) (length (start_bytes file args)) short few
+    (length-start_bytes file args)
   where
     room : (t n s : ℕ) → t ≤ 65608 → n ≤ 65 → s ≡ 8 * (n + 17) →
         s ≤ random_address - t - rounded_down 16 (random_address - t - 8 * (n + 17))
@@ -162,10 +149,10 @@ padded out start n len m same is fits size =
     rw (is, same, all, size) refl
 
 -- the stack has room for its bytes
-pub stack_pointer-within : (words : List (List ℕ)) → IsWithinLimits words → stack_end - stack_size ≤ stack_pointer words
-stack_pointer-within words limits =
-    let few : length (program_arguments words) ≤ 65 = omega (arith, limits.few) in
-    within (length (texts words)) (length (program_arguments words)) (length-texts words limits) few
+pub stack_pointer-within : (args : List (List ℕ)) → IsWithinLimits args → stack_end - stack_size ≤ stack_pointer args
+stack_pointer-within args limits =
+    let few : length (program_arguments args) ≤ 65 = omega (arith, limits.few) in
+    within (length (texts args)) (length (program_arguments args)) (length-texts args limits) few
   where
     within : (t n : ℕ) → t ≤ 65608 → n ≤ 65 → stack_end - stack_size ≤ rounded_down 16 (random_address - t - 8 * (n + 17))
     within t n short few = omega (arith, short, few)

@@ -60,8 +60,8 @@ put_past memory a q (b ∷ bytes) room past =
     cases true test rest = let same : q ≡ a = eqb-true q a test in absurd (omega (arith, same, past))
     cases false test rest = rest
 
-apart : (b : Bool) → b ≡ true → b ≡ false → ⊥
-apart b t f = absurd (cc)
+pub clash : (b : Bool) → b ≡ true → b ≡ false → ⊥
+clash b t f = absurd (cc)
 
 pub in_stack-both : (q : ℕ) → nat_le (stack_end - stack_size) q ≡ true → nat_lt q stack_end ≡ true → in_stack q ≡ true
 in_stack-both q from before = rw (from, before) refl
@@ -71,7 +71,7 @@ beside : (q : ℕ) → in_stack q ≡ false → (P : Type 0) → (q < stack_end 
 beside q test P under over = by_end (nat_lt q stack_end) refl
   where
     by_start : nat_lt q stack_end ≡ true → (u : Bool) → nat_le (stack_end - stack_size) q ≡ u → P
-    by_start before true from = absurd (apart (in_stack q) (in_stack-both q from before) test)
+    by_start before true from = absurd (clash (in_stack q) (in_stack-both q from before) test)
     by_start before false from = under (leb-false (stack_end - stack_size) q from)
 
     by_end : (t : Bool) → nat_lt q stack_end ≡ t → P

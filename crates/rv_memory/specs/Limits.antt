@@ -1,13 +1,13 @@
--- The words that a program may be started with.
+-- The arguments that a program may be started with.
 use Rattle.std.specs.Prelude.{ℕ, ◌≤◌, List, length, sum_by}
 
-abbrev pub most_words : ℕ
-most_words = 64
+abbrev pub most_args : ℕ
+most_args = 64
 
--- of all words together
-abbrev pub most_word_bytes : ℕ
-most_word_bytes = 65536
+-- of all arguments together
+abbrev pub most_arg_bytes : ℕ
+most_arg_bytes = 65536
 
-pub record IsWithinLimits (words : List (List ℕ)) : Type 0 where
-  pub few : length words ≤ most_words
-  pub short : sum_by (λ word. length word) words ≤ most_word_bytes
+pub record IsWithinLimits (args : List (List ℕ)) : Type 0 where
+  pub few : length args ≤ most_args
+  pub short : sum_by (λ arg. length arg) args ≤ most_arg_bytes

@@ -132,7 +132,7 @@ impl<'a> Memory<'a> {
     }
 
     // The number of `count` bytes, byte by byte.
-    #[tactic(auto, using(crate::proofs::Cells::little_none, crate::proofs::Cells::little_step))]
+    #[tactic(auto, using(crate::proofs::MemoryBytes::little_none, crate::proofs::MemoryBytes::little_step))]
     fn number_of_bytes(&self, address: u64, count: u8) -> u64
         requires { count ≤ 8 }
         ensures value { result ≡ little (memory_bytes (memory_of self.now) address count) }

@@ -1,4 +1,4 @@
-// The stack of a program that starts: the words at the stack pointer, and its arguments.
+// The stack of a program that starts: the numbers at the stack pointer, and its arguments.
 ghost use Rattle.std.specs.Prelude.{◌≡◌, ◌+◌, ◌*◌, ◌-◌, ◌<◌, ◌≤◌, ◌++◌, ◌∷◌, [], ◌%◌, ◌^◌, IfOk, IfSome, OnOk, find};
 ghost use Rattle.std.specs.Prelude.{option_copied, length, flat_map, map, string_bytes, String};
 ghost use Rattle.rv_code.specs.machine.Machine.{low_bytes};
@@ -15,11 +15,11 @@ use elf_image::{Elf, Segment};
 use rb_bytes::fault::NoMemory;
 use std::alloc::Global;
 
-/// The most words that a program may be started with.
-pub const MOST_WORDS: usize = 64;
+/// The most arguments that a program may be started with.
+pub const MOST_ARGS: usize = 64;
 
 /// The most bytes of them together.
-pub const MOST_WORD_BYTES: usize = 65536;
+pub const MOST_ARG_BYTES: usize = 65536;
 
 /// The name that every program is run by.
 const PROGRAM: &[u8] = b"program";
@@ -29,11 +29,11 @@ const RANDOM_ADDRESS: u64 = 0x3f_ffff_fff0;
 
 const RANDOM_BYTES: [u8; 16] = [0, 1, 2, 3, 4, 5, 6, 7, 8, 9, 10, 11, 12, 13, 14, 15];
 
-#[tactic(auto, using(crate::proofs::Cells::word_bytes))]
-fn put_word(out: &mut Vec<u8>, word: u64) -> Result<(), NoMemory>
-    ensures { OnOk result (out.new.items ≡ out.old.items ++ low_bytes 8 word) }
+#[tactic(auto, using(crate::proofs::MemoryBytes::number_bytes))]
+fn put_number(out: &mut Vec<u8>, number: u64) -> Result<(), NoMemory>
+    ensures { OnOk result (out.new.items ≡ out.old.items ++ low_bytes 8 number) }
 {
-    out.extend_from_slice(&word.to_le_bytes())?;
+    out.extend_from_slice(&number.to_le_bytes())?;
     Ok(())
 }
 
@@ -46,39 +46,39 @@ fn put_text(out: &mut Vec<u8>, text: &[u8]) -> Result<(), NoMemory>
 }
 
 // The arguments' texts, each with a zero byte.
-fn texts(alloc: Global, words: &[String]) -> Result<Vec<u8>, NoMemory>
-    ensures { IfOk result (λ out. out.items ≡ texts (map string_bytes words.now)) }
+fn texts(alloc: Global, args: &[String]) -> Result<Vec<u8>, NoMemory>
+    ensures { IfOk result (λ out. out.items ≡ texts (map string_bytes args.now)) }
 {
     let mut out = Vec::new(alloc);
     put_text(&mut out, PROGRAM)?;
-    for word in words {
-        put_text(&mut out, word.as_bytes())?;
+    for arg in args {
+        put_text(&mut out, arg.as_bytes())?;
     }
     Ok(out)
 }
 
-// Words of eight bytes, one after another.
-fn put_words(out: &mut Vec<u8>, words: &[u64]) -> Result<(), NoMemory>
-    ensures { OnOk result (out.new.items ≡ out.old.items ++ flat_map (low_bytes 8) words.now) }
+// Numbers of eight bytes, one after another.
+fn put_numbers(out: &mut Vec<u8>, numbers: &[u64]) -> Result<(), NoMemory>
+    ensures { OnOk result (out.new.items ≡ out.old.items ++ flat_map (low_bytes 8) numbers.now) }
 {
-    for word in words {
-        put_word(out, *word)?;
+    for number in numbers {
+        put_number(out, *number)?;
     }
     Ok(())
 }
 
 // The addresses of the arguments' texts, the first of which stands at `address`.
-fn put_addresses(out: &mut Vec<u8>, address: u64, words: &[String]) -> Result<(), NoMemory>
-    requires { address + length (texts (map string_bytes words.now)) ≤ 2 ^ 38 }
+fn put_addresses(out: &mut Vec<u8>, address: u64, args: &[String]) -> Result<(), NoMemory>
+    requires { address + length (texts (map string_bytes args.now)) ≤ 2 ^ 38 }
     ensures { OnOk result
         (out.new.items ≡ out.old.items
-        ++ flat_map (low_bytes 8) (text_addresses address (program_arguments (map string_bytes words.now)))) }
+        ++ flat_map (low_bytes 8) (text_addresses address (program_arguments (map string_bytes args.now)))) }
 {
-    put_word(out, address)?;
+    put_number(out, address)?;
     let mut next = address + PROGRAM.len() as u64 + 1;
-    for word in words {
-        put_word(out, next)?;
-        next += word.len() as u64 + 1;
+    for arg in args {
+        put_number(out, next)?;
+        next += arg.len() as u64 + 1;
     }
     Ok(())
 }
@@ -109,7 +109,7 @@ fn table_address(elf: &Elf) -> u64
 fn put_vector(out: &mut Vec<u8>, table: u64, count: u64, entry: u64) -> Result<(), NoMemory>
     ensures { OnOk result (out.new.items ≡ out.old.items ++ flat_map (low_bytes 8) (vector table count entry)) }
 {
-    let words = [
+    let entries = [
         3,
         table,
         4,
@@ -125,29 +125,24 @@ fn put_vector(out: &mut Vec<u8>, table: u64, count: u64, entry: u64) -> Result<(
         0,
         0,
     ];
-    put_words(out, &words)
+    put_numbers(out, &entries)
 }
 
-// The words at the stack pointer: the count of arguments, their addresses, the ends of the lists of
+// The numbers at the stack pointer: the count of arguments, their addresses, the ends of the lists of
 // arguments and of environment variables, and the auxiliary vector.
-fn start_bytes(
-    alloc: Global,
-    elf: &Elf,
-    words: &[String],
-    address: u64,
-) -> Result<Vec<u8>, NoMemory>
+fn start_bytes(alloc: Global, elf: &Elf, args: &[String], address: u64) -> Result<Vec<u8>, NoMemory>
     requires entry { elf.now.entry ≡ e_entry elf.now.file.now }
     requires phoff { elf.now.phoff ≡ e_phoff elf.now.file.now }
     requires segments { elf.now.segments.items ≡ segments_of elf.now.file.now }
-    requires address { address ≡ texts_address (map string_bytes words.now) }
-    requires limits { IsWithinLimits (map string_bytes words.now) }
-    ensures { IfOk result (λ out. out.items ≡ start_bytes elf.now.file.now (map string_bytes words.now)) }
+    requires address { address ≡ texts_address (map string_bytes args.now) }
+    requires limits { IsWithinLimits (map string_bytes args.now) }
+    ensures { IfOk result (λ out. out.items ≡ start_bytes elf.now.file.now (map string_bytes args.now)) }
 {
     let segments: &[Segment] = &elf.segments;
     let mut out = Vec::new(alloc);
-    put_word(&mut out, words.len() as u64 + 1)?;
-    put_addresses(&mut out, address, words)?;
-    put_words(&mut out, &[0, 0])?;
+    put_number(&mut out, args.len() as u64 + 1)?;
+    put_addresses(&mut out, address, args)?;
+    put_numbers(&mut out, &[0, 0])?;
     put_vector(
         &mut out,
         table_address(elf),
@@ -157,7 +152,7 @@ fn start_bytes(
     Ok(out)
 }
 
-// The address of the words at the start, below the arguments' texts.
+// The address of the numbers at the start, below the arguments' texts.
 fn stack_pointer(address: u64, count: u64) -> u64
     requires address { address ≤ random_address }
     requires room { 1000000 ≤ address }
@@ -168,18 +163,18 @@ fn stack_pointer(address: u64, count: u64) -> u64
 }
 
 /// The bytes of the stack at the start, from the stack pointer to the stack's end.
-pub fn stack_bytes(alloc: Global, elf: &Elf, words: &[String]) -> Result<Vec<u8>, NoMemory>
+pub fn stack_bytes(alloc: Global, elf: &Elf, args: &[String]) -> Result<Vec<u8>, NoMemory>
     requires entry { elf.now.entry ≡ e_entry elf.now.file.now }
     requires phoff { elf.now.phoff ≡ e_phoff elf.now.file.now }
     requires segments { elf.now.segments.items ≡ segments_of elf.now.file.now }
-    requires limits { IsWithinLimits (map string_bytes words.now) }
-    ensures { IfOk result (λ out. out.items ≡ stack_bytes elf.now.file.now (map string_bytes words.now)) }
+    requires limits { IsWithinLimits (map string_bytes args.now) }
+    ensures { IfOk result (λ out. out.items ≡ stack_bytes elf.now.file.now (map string_bytes args.now)) }
 {
-    let ends = texts(alloc, words)?;
+    let ends = texts(alloc, args)?;
     let ends: &[u8] = &ends;
     let address = RANDOM_ADDRESS - ends.len() as u64;
-    let pointer = stack_pointer(address, words.len() as u64 + 1);
-    let mut out = start_bytes(alloc, elf, words, address)?;
+    let pointer = stack_pointer(address, args.len() as u64 + 1);
+    let mut out = start_bytes(alloc, elf, args, address)?;
     out.resize((address - pointer) as usize, 0)?;
     out.extend_from_slice(ends)?;
     out.extend_from_slice(&RANDOM_BYTES)?;

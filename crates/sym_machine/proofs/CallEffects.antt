@@ -76,16 +76,16 @@ read_writes_nothing at size bytes known = append_known-nil known
 abbrev pub after_write : SymState → ℕ → List ℕ → SymState
 after_write s next bytes = record s { pc = next; registers = set_register a0 (Num (length bytes)) s.registers }
 
-pub writes : (s : SymState) (next file at size : ℕ) (cells : List MemoryByte) (bytes : List ℕ) →
+pub writes : (s : SymState) (next file at size : ℕ) (held : List MemoryByte) (bytes : List ℕ) →
     all_may (may_read s) at (min size most_moved) ≡ true →
-    list_any is_hidden cells ≡ false → numbers cells ≡ Some bytes →
-    writes_output s next file at size cells ≡ Going (after_write s next bytes) (Some (moving_event 64 file at size bytes))
-writes s next file at size cells bytes may open_cells is = rw (may, open_cells, is) refl
+    list_any is_hidden held ≡ false → numbers held ≡ Some bytes →
+    writes_output s next file at size held ≡ Going (after_write s next bytes) (Some (moving_event 64 file at size bytes))
+writes s next file at size held bytes may all_open is = rw (may, all_open, is) refl
 
-pub writes_symbols : (s : SymState) (next file at size : ℕ) (cells : List MemoryByte) →
+pub writes_symbols : (s : SymState) (next file at size : ℕ) (held : List MemoryByte) →
     all_may (may_read s) at (min size most_moved) ≡ true →
-    list_any is_hidden cells ≡ false → numbers cells ≡ None → writes_output s next file at size cells ≡ Halts s.pc reason.CallArg
-writes_symbols s next file at size cells may open_cells is = rw (may, open_cells, is) refl
+    list_any is_hidden held ≡ false → numbers held ≡ None → writes_output s next file at size held ≡ Halts s.pc reason.CallArg
+writes_symbols s next file at size held may all_open is = rw (may, all_open, is) refl
 
 pub write_writes : (file at size : ℕ) (bytes : List ℕ) → output (events (Some (moving_event 64 file at size bytes))) ≡ bytes
 unfolding output

@@ -20,16 +20,16 @@ use Rattle.sym_machine.specs.internal.Accesses.{symbol_piece}
 use Rattle.sym_machine.specs.internal.Memory.{symbol_in}
 
 -- numbers are not hidden
-pub numbers_open : (cells : List MemoryByte) (bytes : List ℕ) → numbers cells ≡ Some bytes → list_any is_hidden cells ≡ false
+pub numbers_open : (held : List MemoryByte) (bytes : List ℕ) → numbers held ≡ Some bytes → list_any is_hidden held ≡ false
 numbers_open [] bytes is = refl
-numbers_open (Byte b ∷ cells) bytes is = by (numbers cells) refl is (λ rest e. numbers_open cells rest e)
+numbers_open (Byte b ∷ held) bytes is = by (numbers held) refl is (λ rest e. numbers_open held rest e)
   where
-    by : (o : Option (List ℕ)) → numbers cells ≡ o → and_byte (Byte b) o ≡ Some bytes →
-        ((rest : List ℕ) → numbers cells ≡ Some rest → list_any is_hidden cells ≡ false) → list_any is_hidden cells ≡ false
+    by : (o : Option (List ℕ)) → numbers held ≡ o → and_byte (Byte b) o ≡ Some bytes →
+        ((rest : List ℕ) → numbers held ≡ Some rest → list_any is_hidden held ≡ false) → list_any is_hidden held ≡ false
     by None e is open_rest = absurd (cc)
     by (Some rest) e is open_rest = open_rest rest e
-numbers_open (SymbolByte y w i ∷ cells) bytes is = absurd (cc)
-numbers_open (Hidden ∷ cells) bytes is = absurd (cc)
+numbers_open (SymbolByte y w i ∷ held) bytes is = absurd (cc)
+numbers_open (Hidden ∷ held) bytes is = absurd (cc)
 
 pub loads_number : (s : SymState) (next : ℕ) (e : Extension) (rd a n : ℕ) → all_may (may_read s) a (bytes_of e) ≡ true →
     Some n ≡ option_map little (numbers (memory_bytes s.memory a (bytes_of e))) →
@@ -43,12 +43,12 @@ loads_number s next e rd a n may is = by (numbers (memory_bytes s.memory a (byte
         let n_is : n ≡ little bytes = cc in
         rw (may, numbers_open (memory_bytes s.memory a (bytes_of e)) bytes found, found, n_is) refl
 
-pub loaded_is : (e : Extension) (cells : List MemoryByte) (b : SymbolBytes) → symbol_in cells ≡ Some b →
-    symbol_piece e b ≡ loaded_symbol e cells
+pub loaded_is : (e : Extension) (held : List MemoryByte) (b : SymbolBytes) → symbol_in held ≡ Some b →
+    symbol_piece e b ≡ loaded_symbol e held
 loaded_is e [] b is = absurd (cc)
-loaded_is e (Byte n ∷ cells) b is = absurd (cc)
-loaded_is e (Hidden ∷ cells) b is = absurd (cc)
-loaded_is e (SymbolByte y w i ∷ cells) b is = by (are_symbol_bytes y w (suc i) cells) is
+loaded_is e (Byte n ∷ held) b is = absurd (cc)
+loaded_is e (Hidden ∷ held) b is = absurd (cc)
+loaded_is e (SymbolByte y w i ∷ held) b is = by (are_symbol_bytes y w (suc i) held) is
   where
     by : (t : Bool) →
         (◌≡◌ {A = Option SymbolBytes} (if t then Some (record { symbol = y; width = w; first = i }) else None) (Some b)) →
@@ -56,7 +56,7 @@ loaded_is e (SymbolByte y w i ∷ cells) b is = by (are_symbol_bytes y w (suc i)
     by true same = let this : b ≡ record { symbol = y; width = w; first = i } = cc in ap (symbol_piece e) this
     by false same = absurd (cc)
 
-pub jumps_found : (funcs : List Func) (s : SymState) (part : Role) (rd offset : ℕ) (base v : Value) (p : Pointer) (t : ℕ) →
-    goal funcs part base ≡ Some v →
-    pointer part offset v ≡ Some p → destination funcs p ≡ Some t → jumps_to funcs s part rd base offset ≡ jumps s rd t
-jumps_found funcs s part rd offset base v p t goal_is pointer_is destination_is = rw (goal_is, pointer_is, destination_is) refl
+pub jumps_found : (funcs : List Func) (s : SymState) (role : Role) (rd offset : ℕ) (base v : Value) (p : Pointer) (t : ℕ) →
+    goal funcs role base ≡ Some v →
+    pointer role offset v ≡ Some p → destination funcs p ≡ Some t → jumps_to funcs s role rd base offset ≡ jumps s rd t
+jumps_found funcs s role rd offset base v p t goal_is pointer_is destination_is = rw (goal_is, pointer_is, destination_is) refl

@@ -143,7 +143,7 @@ state pc v = record {
 
 -- what an action at 10078 comes to where each register holds a value
 abbrev stuck_at : Role → Action → Value → SymOutcome
-stuck_at part action v = effect [] part action 0x1007c (state 0x10078 v)
+stuck_at role action v = effect [] role action 0x1007c (state 0x10078 v)
 
 no_instruction : sym_step [] (state 0x10079 (Num 0)) ≡ Halts 0x10079 reason.FellOff
 no_instruction = refl

@@ -1,7 +1,7 @@
 -- The bytes of groups, before and after a write.
 use Rattle.std.proofs.Common.{◌≡◌, ◌∙◌, sym, ap, refl, ℕ, ◌+◌, ◌*◌, ◌/◌, ◌%◌, ◌≤◌, ◌<◌, Bool, true, false, List, [], ◌∷◌, ◌++◌}
 use Rattle.std.proofs.Common.{length, get_or, Option, Some, None, arith, inl, inr, length-append}
-use Rattle.std.specs.Prelude.{◌&&◌, ◌==◌, nat_le, nat_lt, if◌then◌else◌, slice_set}
+use Rattle.std.specs.Prelude.{◌&&◌, ◌==◌, nat_le, nat_lt, if◌then◌else◌, option_map, slice_set}
 use Rattle.std.specs.Option.{option_and_then, is_some}
 use Rattle.std.proofs.lemmas.List.{get_or_append_left, get_or-append_right, get_or-set_same, get_or-set_other}
 use Rattle.std.proofs.lemmas.Bool.{eqb-true, eqb-false, eq-eqb, le-leb, lt-ltb, leb-true, ltb-true, false_from_ne_true, and_parts}
@@ -10,27 +10,28 @@ use Rattle.rv_memory.specs.PageIndex.{place_of}
 use Rattle.rv_memory.specs.declared.page_index.PageIndex.{PageIndex}
 use Rattle.sym_machine.specs.declared.other_bytes.OtherByte.{OtherByte}
 use Rattle.sym_machine.specs.declared.other_bytes.OtherBytes.{OtherBytes}
+use Rattle.sym_machine.specs.internal.Memory.{as_byte}
 use Rattle.sym_machine.specs.internal.OtherBytes.{byte_in, other_byte, has_group, cleared_between}
 
-pub byte_in-same : (index : PageIndex) (cells : List (Option OtherByte)) (old : OtherBytes) → cells ≡ old.cells.items →
-    ((q : ℕ) → place_of index q ≡ place_of old.index q) → (q : ℕ) → byte_in index cells q ≡ other_byte old q
+pub byte_in-same : (index : PageIndex) (slots : List (Option OtherByte)) (old : OtherBytes) → slots ≡ old.slots.items →
+    ((q : ℕ) → place_of index q ≡ place_of old.index q) → (q : ℕ) → byte_in index slots q ≡ other_byte old q
 unfolding byte_in
-byte_in-same index cells old same places q = rw (same, places (q / 8)) refl
+byte_in-same index slots old same places q = rw (same, places (q / 8)) refl
 
 pub other_byte-none : (others : OtherBytes) (a : ℕ) → place_of others.index (a / 8) ≡ None → other_byte others a ≡ None
 unfolding byte_in
 other_byte-none others a none = rw none refl
 
 pub other_byte-some : (others : OtherBytes) (a i : ℕ) → place_of others.index (a / 8) ≡ Some i →
-    other_byte others a ≡ get_or others.cells.items (i * 8 + a % 8) None
+    other_byte others a ≡ get_or others.slots.items (i * 8 + a % 8) None
 unfolding byte_in
 other_byte-some others a i found = rw found refl
 
 pub in_groups : (others : OtherBytes) (a i : ℕ) → place_of others.index (a / 8) ≡ Some i →
-    i * 8 + a % 8 < length others.cells.items
+    i * 8 + a % 8 < length others.slots.items
 in_groups others a i found =
     let here : i < length others.numbers.items = others.held (a / 8) i found in
-    let size : length others.cells.items ≡ length others.numbers.items * 8 = others.sized in
+    let size : length others.slots.items ≡ length others.numbers.items * 8 = others.sized in
     omega arith
 
 pub none_of_false : {A : Type 0} (o : Option A) → is_some o ≡ false → o ≡ None
@@ -42,15 +43,15 @@ pub no_group : (others : OtherBytes) (a q : ℕ) → has_group others a ≡ fals
 no_group others a q none same = other_byte-none others q (ap (place_of others.index) same ∙ none_of_false _ none)
 
 -- one byte is written
-pub byte_set : (old : OtherBytes) (cells : List (Option OtherByte)) (a i : ℕ) (c : Option OtherByte) →
+pub byte_set : (old : OtherBytes) (slots : List (Option OtherByte)) (a i : ℕ) (c : Option OtherByte) →
     place_of old.index (a / 8) ≡ Some i →
-    cells ≡ slice_set old.cells.items (i * 8 + a % 8) c → (q : ℕ) →
-    byte_in old.index cells q ≡ (if q == a then c else other_byte old q)
+    slots ≡ slice_set old.slots.items (i * 8 + a % 8) c → (q : ℕ) →
+    byte_in old.index slots q ≡ (if q == a then c else other_byte old q)
 unfolding byte_in
-byte_set old cells a i c found is q = rw is (cases (q == a) refl)
+byte_set old slots a i c found is q = rw is (cases (q == a) refl)
   where
     xs : List (Option OtherByte)
-    xs = old.cells.items
+    xs = old.slots.items
 
     other : (r : Option ℕ) → place_of old.index (q / 8) ≡ r → (q ≡ a → ⊥) →
         option_and_then (λ place. get_or (slice_set xs (i * 8 + a % 8) c) (place * 8 + q % 8) None) r
@@ -87,7 +88,7 @@ byte_unset old a none q = cases (q == a) refl
     cases false test = refl
 
 -- One more group.
-module _ (place next : ℕ → Option ℕ) (numbers : List ℕ) (cells more : List (Option OtherByte)) (n : ℕ)
+module _ (place next : ℕ → Option ℕ) (numbers : List ℕ) (slots more : List (Option OtherByte)) (n : ℕ)
     (indexed : (i : ℕ) → i < length numbers → place (get_or numbers i 0) ≡ Some i)
     (held : (q i : ℕ) → place q ≡ Some i → i < length numbers) (numbered : (q i : ℕ) → place q ≡ Some i → get_or numbers i 0 ≡ q)
     (absent : place n ≡ None) (is : (q : ℕ) → next q ≡ (if q == n then Some (length numbers) else place q)) where
@@ -138,8 +139,8 @@ module _ (place next : ℕ → Option ℕ) (numbers : List ℕ) (cells more : Li
           ap (λ k. get_or (numbers ++ n ∷ []) k 0) (sym here) ∙ last ∙ sym (eqb-true q n e)
       cases false e = let there : place q ≡ Some i = sym (next-old q e) ∙ found in before i (held q i there) ∙ numbered q i there
 
-  pub sized_more : length cells ≡ length numbers * 8 → length more ≡ 8 → length (cells ++ more) ≡ length (numbers ++ n ∷ []) * 8
-  sized_more size whole = omega (arith, length-append numbers (n ∷ []), length-append cells more)
+  pub sized_more : length slots ≡ length numbers * 8 → length more ≡ 8 → length (slots ++ more) ≡ length (numbers ++ n ∷ []) * 8
+  sized_more size whole = omega (arith, length-append numbers (n ∷ []), length-append slots more)
 
   pub marked_more : (recent : List ℕ) (k : ℕ) → length recent ≡ 8192 →
       ((i : ℕ) → i < length numbers → 0 < get_or recent (get_or numbers i 0 % 8192) 0) → k ≡ n % 8192 →
@@ -173,35 +174,35 @@ module _ (place next : ℕ → Option ℕ) (numbers : List ℕ) (cells more : Li
           let here = old apart in
           omega arith
 
-  pub group_added : length cells ≡ length numbers * 8 → ((k : ℕ) → get_or more k None ≡ None) → (q : ℕ) →
-      option_and_then (λ i. get_or (cells ++ more) (i * 8 + q % 8) None) (next (q / 8))
-      ≡ option_and_then (λ i. get_or cells (i * 8 + q % 8) None) (place (q / 8))
+  pub group_added : length slots ≡ length numbers * 8 → ((k : ℕ) → get_or more k None ≡ None) → (q : ℕ) →
+      option_and_then (λ i. get_or (slots ++ more) (i * 8 + q % 8) None) (next (q / 8))
+      ≡ option_and_then (λ i. get_or slots (i * 8 + q % 8) None) (place (q / 8))
   group_added size empty q = cases (q / 8 == n) refl
     where
-      old : (r : Option ℕ) → place (q / 8) ≡ r → option_and_then (λ i. get_or (cells ++ more) (i * 8 + q % 8) None) r
-          ≡ option_and_then (λ i. get_or cells (i * 8 + q % 8) None) r
+      old : (r : Option ℕ) → place (q / 8) ≡ r → option_and_then (λ i. get_or (slots ++ more) (i * 8 + q % 8) None) r
+          ≡ option_and_then (λ i. get_or slots (i * 8 + q % 8) None) r
       old None e = refl
-      old (Some i) e = let here = held (q / 8) i e in get_or_append_left cells more None (i * 8 + q % 8) (omega arith)
+      old (Some i) e = let here = held (q / 8) i e in get_or_append_left slots more None (i * 8 + q % 8) (omega arith)
 
       cases : (t : Bool) → (q / 8 == n) ≡ t →
-          option_and_then (λ i. get_or (cells ++ more) (i * 8 + q % 8) None) (next (q / 8))
-          ≡ option_and_then (λ i. get_or cells (i * 8 + q % 8) None) (place (q / 8))
+          option_and_then (λ i. get_or (slots ++ more) (i * 8 + q % 8) None) (next (q / 8))
+          ≡ option_and_then (λ i. get_or slots (i * 8 + q % 8) None) (place (q / 8))
       cases true e =
-          ap (option_and_then (λ i. get_or (cells ++ more) (i * 8 + q % 8) None)) (next-new (q / 8) (eqb-true (q / 8) n e))
-          ∙ get_or-append_right cells more (length numbers * 8) (length numbers * 8 + q % 8) None size (omega arith)
+          ap (option_and_then (λ i. get_or (slots ++ more) (i * 8 + q % 8) None)) (next-new (q / 8) (eqb-true (q / 8) n e))
+          ∙ get_or-append_right slots more (length numbers * 8) (length numbers * 8 + q % 8) None size (omega arith)
           ∙ empty _
-          ∙ sym (ap (option_and_then (λ i. get_or cells (i * 8 + q % 8) None)) (ap place (eqb-true (q / 8) n e) ∙ absent))
+          ∙ sym (ap (option_and_then (λ i. get_or slots (i * 8 + q % 8) None)) (ap place (eqb-true (q / 8) n e) ∙ absent))
       cases false e =
-          ap (option_and_then (λ i. get_or (cells ++ more) (i * 8 + q % 8) None)) (next-old (q / 8) e) ∙ old (place (q / 8)) refl
+          ap (option_and_then (λ i. get_or (slots ++ more) (i * 8 + q % 8) None)) (next-old (q / 8) e) ∙ old (place (q / 8)) refl
 
-pub byte_in-added : (old : OtherBytes) (index : PageIndex) (cells : List (Option OtherByte)) (n : ℕ)
+pub byte_in-added : (old : OtherBytes) (index : PageIndex) (slots : List (Option OtherByte)) (n : ℕ)
     (more : List (Option OtherByte)) → place_of old.index n ≡ None →
     ((q : ℕ) → place_of index q ≡ (if q == n then Some (length old.numbers.items) else place_of old.index q)) →
-    cells ≡ old.cells.items ++ more → ((k : ℕ) → get_or more k None ≡ None) → (q : ℕ) → byte_in index cells q ≡ other_byte old q
+    slots ≡ old.slots.items ++ more → ((k : ℕ) → get_or more k None ≡ None) → (q : ℕ) → byte_in index slots q ≡ other_byte old q
 unfolding byte_in
-byte_in-added old index cells n more absent is added empty q =
+byte_in-added old index slots n more absent is added empty q =
     rw added (group_added (place_of old.index)
-    (place_of index) old.numbers.items old.cells.items more n old.indexed old.held old.numbered absent is old.sized empty q)
+    (place_of index) old.numbers.items old.slots.items more n old.indexed old.held old.numbered absent is old.sized empty q)
 
 -- Runs that are cleared.
 
@@ -268,3 +269,8 @@ cleared_nothing others from to none q = elim (cases_lt q from) [
     | inr past ↦ rw (in_run-past from to q past) refl
   ]
 ]
+
+pub map_if : (t : Bool) (x : OtherByte) (o : Option OtherByte) →
+    option_map as_byte (if t then Some x else o) ≡ (if t then Some (as_byte x) else option_map as_byte o)
+map_if true x o = refl
+map_if false x o = refl

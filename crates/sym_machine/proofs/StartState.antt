@@ -1,4 +1,4 @@
--- The state at the start: low segments, registers, and cells over bytes.
+-- The state at the start: low segments, registers, and code cells over the bytes of the file.
 use Rattle.std.proofs.Common.{◌≡◌, ◌∙◌, sym, subst, refl, ℕ, zero, suc, ◌+◌, ◌-◌, ◌^◌, ◌<◌, ◌≤◌, ◌&&◌, nat_le, nat_lt, true}
 use Rattle.std.proofs.Common.{false, IsTrue, List, ◌∷◌, Option, Some, None, arith, ⊎_elim}
 use Rattle.std.specs.Prelude.{Contains, replicate, if◌then◌else◌, ◌==◌, unwrap_or, option_map, slice_index_or}
@@ -7,24 +7,15 @@ use Rattle.rb_bytes.specs.declared.fault.FaultKind.TheVariants.{HighAddress}
 use Rattle.elf_image.specs.declared.segment.Segment.{Segment}
 use Rattle.elf_image.specs.file.Header.{segment, segments_of}
 use Rattle.elf_image.specs.memory.Image.{is_load, has_memory, end_of, loads_address}
-use Rattle.elf_image.specs.faults.SegmentLayout.{address_end}
+use Rattle.rv_code.specs.layout.FunctionLists.{address_end}
 use Rattle.elf_image.specs.faults.FileFaults.{IsSound}
+use Rattle.elf_image.proofs.LoadLemmas.{loads_last}
 use Rattle.elf_image.proofs.ReadLists.{get_or-segments}
 use Rattle.sym_machine.specs.declared.value.Value.TheVariants.{Num}
 use Rattle.sym_machine.specs.declared.value.MemoryByte.TheVariants.{Byte}
 use Rattle.sym_machine.specs.declared.other_bytes.OtherByte.{OtherByte}
 use Rattle.sym_machine.specs.internal.Fields.{AreLow}
-use Rattle.sym_machine.specs.internal.Memory.{as_byte, cell_over}
-
--- the last address of a segment with memory
-loads_last : (p : Segment) → has_memory p ≡ true → IsTrue (loads_address (end_of p - 1) p)
-loads_last p has =
-    let parts = and_parts (is_load p) (nat_lt 0 p.memsz) has in
-    let some : 0 < p.memsz = ltb-true 0 p.memsz parts.1 in
-    let from : nat_le p.vaddr (end_of p - 1) ≡ true = le-leb p.vaddr (end_of p - 1) (omega arith) in
-    let to : nat_lt (end_of p - 1) (end_of p) ≡ true = lt-ltb (end_of p - 1) (end_of p) (omega arith) in
-    and_from (is_load p && nat_le p.vaddr (end_of p - 1)) (nat_lt (end_of p - 1) (end_of p))
-    (and_from (is_load p) (nat_le p.vaddr (end_of p - 1)) parts.0 from) to
+use Rattle.sym_machine.specs.internal.Memory.{as_byte, byte_over}
 
 pub low_segments : (file : List ℕ) → IsSound file → AreLow (segments_of file)
 low_segments file sound = record { each = ends }
@@ -55,6 +46,6 @@ start_register p (suc (suc (suc n))) =
     (λ test. let same : suc (suc (suc n)) ≡ 2 = eqb-true (suc (suc (suc n))) 2 test in omega (arith, same)) in
     rw other (nums 253 n)
 
-pub cell_over-special : (o : Option OtherByte) (b : ℕ) → cell_over o b ≡ unwrap_or (option_map as_byte o) (Byte b)
-cell_over-special None b = refl
-cell_over-special (Some x) b = refl
+pub byte_over-special : (o : Option OtherByte) (b : ℕ) → byte_over o b ≡ unwrap_or (option_map as_byte o) (Byte b)
+byte_over-special None b = refl
+byte_over-special (Some x) b = refl

@@ -67,23 +67,23 @@ hidden_fields elf tight =
 
 -- the n-th value of the auxiliary vector, on the stack
 abbrev pub auxiliary_value : List (List ℕ) → ℕ → Range
-auxiliary_value words n = record { start = stack_pointer words + 8 * (length (program_arguments words) + 4 + 2 * n); size = 8 }
+auxiliary_value args n = record { start = stack_pointer args + 8 * (length (program_arguments args) + 4 + 2 * n); size = 8 }
 
 -- those of AT_PHDR, AT_PHNUM and AT_ENTRY
 abbrev pub at_phdr : List (List ℕ) → Range
-at_phdr words = auxiliary_value words 0
+at_phdr args = auxiliary_value args 0
 
 abbrev pub at_phnum : List (List ℕ) → Range
-at_phnum words = auxiliary_value words 2
+at_phnum args = auxiliary_value args 2
 
 abbrev pub at_entry : List (List ℕ) → Range
-at_entry words = auxiliary_value words 4
+at_entry args = auxiliary_value args 4
 
--- The byte at an address is one of a hidden field: one of a header, or in a tight file one of the two words on the stack
+-- The byte at an address is one of a hidden field: one of a header, or in a tight file one of the two numbers on the stack
 -- that speak of the table.
 abbrev pub is_hidden_field : Elf → Bool → ℕ → Bool
 is_hidden_field elf tight a =
     option_map_or (λ offset. list_any (is_in_range offset) (hidden_fields elf tight)) (file_offset elf.segments.items a) false
 
 abbrev pub is_hidden_entry : Bool → List (List ℕ) → ℕ → Bool
-is_hidden_entry tight words a = tight && (is_in_range a (at_phdr words) || is_in_range a (at_phnum words))
+is_hidden_entry tight args a = tight && (is_in_range a (at_phdr args) || is_in_range a (at_phnum args))

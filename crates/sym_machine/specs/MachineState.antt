@@ -16,7 +16,7 @@ use Rattle.sym_machine.specs.declared.outcome.SymStepped.TheVariants as stepped
 use Rattle.sym_machine.specs.declared.value.Value.{Value}
 use Rattle.sym_machine.specs.declared.value.Value.TheVariants.{Num}
 use Rattle.sym_machine.specs.SymStep.{SymState, SymOutcome, writes_register}
-use Rattle.sym_machine.specs.internal.Memory.{cell_at}
+use Rattle.sym_machine.specs.internal.Memory.{memory_at}
 
 abbrev pub funcs_of : SymMachine → List Func
 funcs_of m = m.code.funcs.now
@@ -29,7 +29,7 @@ abbrev pub state_of : SymMachine → List ℕ → SymState
 state_of m input = record {
   pc = m.pc;
   registers = registers_of m;
-  memory = cell_at m.memory;
+  memory = memory_at m.memory;
   space = space_in m.memory.bytes;
   program_break = m.memory.bytes.program_break;
   input = input;

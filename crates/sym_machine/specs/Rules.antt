@@ -139,8 +139,8 @@ base_of registers (Immediate imm) = Num (unsigned64 imm)
 
 -- what an operation gives; ADDI with a lower part goes by its role alone
 abbrev pub computed : List Func → Role → (ℕ → Value) → Op → Operand → Operand → Option Value
-computed funcs part registers o left right =
-    if is_lower part then joined funcs part (base_of registers left) else combined funcs registers o left right
+computed funcs role registers o left right =
+    if is_lower role then joined funcs role (base_of registers left) else combined funcs registers o left right
 
 -- Branches.
 
@@ -165,12 +165,12 @@ tested test v w = None
 
 -- The value to which a JALR goes: its lower part's target, or its register's.
 abbrev pub goal : List Func → Role → Value → Option Value
-goal funcs part base = if is_lower part then joined funcs part base else Some base
+goal funcs role base = if is_lower role then joined funcs role base else Some base
 
 -- It has to be a pointer, and without a lower part the offset 0.
 abbrev pub pointer : Role → ℕ → Value → Option Pointer
-pointer part offset (Sym (Points p)) = only_if (is_lower part || offset == 0) p
-pointer part offset _ = None
+pointer role offset (Sym (Points p)) = only_if (is_lower role || offset == 0) p
+pointer role offset _ = None
 
 -- the instruction after one in a list
 abbrev pub next_in : List Placed → ℕ → Option ℕ
@@ -220,6 +220,6 @@ abbrev pub loaded_symbol : Extension → List MemoryByte → Option Value
 loaded_symbol e (SymbolByte y w i ∷ cs) = if are_symbol_bytes y w (suc i) cs then piece e y w i else None
 loaded_symbol e _ = None
 
--- what a load gives of cells, none of which is hidden
+-- what a load gives of the bytes that memory has there, none of which is hidden
 abbrev pub loaded : Extension → List MemoryByte → Option Value
-loaded e cells = option_or (option_map (λ bytes. Num (extended e (little bytes))) (numbers cells)) (loaded_symbol e cells)
+loaded e held = option_or (option_map (λ bytes. Num (extended e (little bytes))) (numbers held)) (loaded_symbol e held)

@@ -40,35 +40,35 @@ abbrev pub byte_of_entry : Elf → ℕ → Range → MemoryByte
 byte_of_entry elf a range = SymbolByte (Points (Code elf.entry)) 8 (a - range.start)
 
 abbrev pub entry_fields : Elf → List (List ℕ) → List Range
-entry_fields elf words =
-    option_map_or (λ a. record { start = a; size = 8 } ∷ []) (address_of elf e_entry_field) [] ++ at_entry words ∷ []
+entry_fields elf args =
+    option_map_or (λ a. record { start = a; size = 8 } ∷ []) (address_of elf e_entry_field) [] ++ at_entry args ∷ []
 
 -- The state before the first step.
 
 -- what stands at an address for the entry point, for a hidden field, and for a code cell
 abbrev pub entry_byte : Elf → List (List ℕ) → ℕ → Option MemoryByte
-entry_byte elf words a = option_map (byte_of_entry elf a) (find (is_in_range a) (entry_fields elf words))
+entry_byte elf args a = option_map (byte_of_entry elf a) (find (is_in_range a) (entry_fields elf args))
 
 abbrev pub hidden_byte : Elf → Bool → List (List ℕ) → ℕ → Option MemoryByte
-hidden_byte elf tight words a = if is_hidden_field elf tight a || is_hidden_entry tight words a then Some Hidden else None
+hidden_byte elf tight args a = if is_hidden_field elf tight a || is_hidden_entry tight args a then Some Hidden else None
 
 abbrev pub code_cell_byte : List CodeCell → ℕ → Option MemoryByte
 code_cell_byte cells a = option_map (byte_of_cell a) (find (λ c. is_in_range a (code_cell_range c)) cells)
 
 -- Where these overlap, the entry point comes first. All other bytes are those of the byte machine.
 abbrev pub sym_memory : Elf → List CodeCell → Bool → List (List ℕ) → ℕ → MemoryByte
-sym_memory elf cells tight words a =
-    unwrap_or (option_or (entry_byte elf words a) (option_or (hidden_byte elf tight words a) (code_cell_byte cells a)))
-    (Byte (start_memory elf.file.now words a))
+sym_memory elf cells tight args a =
+    unwrap_or (option_or (entry_byte elf args a) (option_or (hidden_byte elf tight args a) (code_cell_byte cells a)))
+    (Byte (start_memory elf.file.now args a))
 
 abbrev pub sym_registers : List (List ℕ) → ℕ → Value
-sym_registers words r = Num (start_registers words r)
+sym_registers args r = Num (start_registers args r)
 
 abbrev pub sym_start : Elf → List CodeCell → Bool → List (List ℕ) → List ℕ → SymState
-sym_start elf cells tight words input = record {
+sym_start elf cells tight args input = record {
   pc = elf.entry;
-  registers = sym_registers words;
-  memory = sym_memory elf cells tight words;
+  registers = sym_registers args;
+  memory = sym_memory elf cells tight args;
   space = space_of elf.segments.items;
   program_break = break_start elf.segments.items;
   input = input;
@@ -84,17 +84,17 @@ pub record SymProgram : Type 0 where
   pub tight : Bool
 
 abbrev pub program_start : SymProgram → List (List ℕ) → List ℕ → SymState
-program_start p words input = sym_start p.elf p.cells p.tight words input
+program_start p args input = sym_start p.elf p.cells p.tight args input
 
--- The n-th step of the program, run with these words and this input, ends with this status, after these calls.
+-- The n-th step of the program, run with these arguments and this input, ends with this status, after these calls.
 abbrev pub SymRuns : SymProgram → List (List ℕ) → List ℕ → ℕ → List Event → ℕ → Type 0
-SymRuns p words input n trace status = Run (SymSteps p.funcs) (program_start p words input) n trace status
+SymRuns p args input n trace status = Run (SymSteps p.funcs) (program_start p args input) n trace status
 
 -- After n steps that neither end nor stick, with these calls, the machine is stuck, at this pc for this reason.
 abbrev pub SticksAfter : SymProgram → List (List ℕ) → List ℕ → ℕ → List Event → ℕ → Reason → Type 0
-SticksAfter p words input n trace pc why = HaltsAfter (SymSteps p.funcs) (program_start p words input) n trace pc why
+SticksAfter p args input n trace pc why = HaltsAfter (SymSteps p.funcs) (program_start p args input) n trace pc why
 
 -- Its first n steps neither end nor stick, and make these calls.
-pub record SymRunsSoFar (p : SymProgram) (words : List (List ℕ)) (input : List ℕ) (n : ℕ) (trace : List Event) : Type 0 where
+pub record SymRunsSoFar (p : SymProgram) (args : List (List ℕ)) (input : List ℕ) (n : ℕ) (trace : List Event) : Type 0 where
   pub state : SymState
-  pub so_far : SoFar (SymSteps p.funcs) (program_start p words input) n trace state
+  pub so_far : SoFar (SymSteps p.funcs) (program_start p args input) n trace state

@@ -57,7 +57,7 @@ abbrev pub writes_register : SymState → ℕ → ℕ → Value → SymOutcome
 writes_register s next rd v = Going (record s { pc = next; registers = set_register rd v s.registers }) None
 
 abbrev pub writes_memory : SymState → ℕ → ℕ → List MemoryByte → SymOutcome
-writes_memory s next a cells = Going (record s { pc = next; memory = put s.memory a cells }) None
+writes_memory s next a bytes = Going (record s { pc = next; memory = put s.memory a bytes }) None
 
 -- a system call comes back, with its result in a0
 abbrev pub returns : SymState → ℕ → Event → SymOutcome
@@ -79,12 +79,12 @@ abbrev pub loads : SymState → ℕ → Extension → ℕ → Option Value → S
 loads s next e rd at = needs s reason.Operate at (λ v. needs s reason.Access (number v) (loads_at s next e rd))
 
 abbrev pub stores_at : SymState → ℕ → ℕ → List MemoryByte → ℕ → SymOutcome
-stores_at s next n cells a = checks s reason.Access (all_may (may_write s) a n) (writes_memory s next a cells)
+stores_at s next n bytes a = checks s reason.Access (all_may (may_write s) a n) (writes_memory s next a bytes)
 
 abbrev pub stores : SymState → ℕ → ℕ → Value → Option Value → SymOutcome
 stores s next n value at =
     needs s reason.Operate at
-    (λ v. needs s reason.Operate (stored n value) (λ cells. needs s reason.Access (number v) (stores_at s next n cells)))
+    (λ v. needs s reason.Operate (stored n value) (λ bytes. needs s reason.Access (number v) (stores_at s next n bytes)))
 
 -- Branches, and jumps through registers.
 
@@ -93,9 +93,9 @@ branches s next target true test = needs s reason.Compare test (λ holds. goes_t
 branches s next target false test = needs s reason.Compare test (λ holds. goes_to s (if holds then next else target))
 
 abbrev pub jumps_to : List Func → SymState → Role → ℕ → Value → ℕ → SymOutcome
-jumps_to funcs s part rd base offset =
-    needs s reason.Operate (goal funcs part base) (λ v.
-    needs s reason.NotCode (pointer part offset v) (λ p.
+jumps_to funcs s role rd base offset =
+    needs s reason.Operate (goal funcs role base) (λ v.
+    needs s reason.NotCode (pointer role offset v) (λ p.
     needs s reason.EndOfFunction (destination funcs p) (jumps s rd)))
 
 -- System calls. Each uses the arguments that it names, whatever it answers.
@@ -126,10 +126,10 @@ reads_input s next at size bytes =
 
 -- bytes of a buffer go out, all of which may be read
 abbrev pub writes_output : SymState → ℕ → ℕ → ℕ → ℕ → List MemoryByte → SymOutcome
-writes_output s next file at size cells =
+writes_output s next file at size held =
     checks s reason.Access (all_may (may_read s) at (min size most_moved))
-    (checks s reason.Hidden (not (list_any is_hidden cells))
-    (needs s reason.CallArg (numbers cells) (λ bytes. returns s next (moving_event 64 file at size bytes))))
+    (checks s reason.Hidden (not (list_any is_hidden held))
+    (needs s reason.CallArg (numbers held) (λ bytes. returns s next (moving_event 64 file at size bytes))))
 
 -- standard input is file 0, standard output and standard error are files 1 and 2
 abbrev pub read_call : SymState → ℕ → ℕ → ℕ → ℕ → SymOutcome
@@ -157,20 +157,20 @@ calls s next n Unknown = returns s next (record { number = n; used = []; moved =
 
 -- what an instruction with a role does whose next one is at a pc
 abbrev pub effect : List Func → Role → Action → ℕ → SymState → SymOutcome
-effect funcs part (Compute op rd left right) next s =
-    needs s reason.Operate (computed funcs part s.registers op left right) (writes_register s next rd)
-effect funcs part (Branch test wanted rs1 rs2 imm) next s =
+effect funcs role (Compute op rd left right) next s =
+    needs s reason.Operate (computed funcs role s.registers op left right) (writes_register s next rd)
+effect funcs role (Branch test wanted rs1 rs2 imm) next s =
     branches s next (plus s.pc (unsigned64 imm)) wanted (tested test (s.registers rs1) (s.registers rs2))
-effect funcs part (Jump rd imm) next s = jumps s rd (plus s.pc (unsigned64 imm))
-effect funcs part (JumpTo rd rs1 imm) next s = jumps_to funcs s part rd (s.registers rs1) (unsigned64 imm)
-effect funcs part (Upper rd imm) next s = writes_register s next rd (upper_of_address part (unsigned64 imm * 4096 % 2 ^ 64))
-effect funcs part (UpperPc rd imm) next s = needs s reason.Operate (upper_of_distance part s.pc) (writes_register s next rd)
-effect funcs part (Load e rd rs1 imm) next s = loads s next e rd (place funcs part (s.registers rs1) (unsigned64 imm))
-effect funcs part (Store n rs1 rs2 imm) next s =
-    stores s next n (s.registers rs2) (place funcs part (s.registers rs1) (unsigned64 imm))
-effect funcs part Fence next s = goes_to s next
-effect funcs part SystemCall next s = argument s a7 (λ n. calls s next n (call_of n))
-effect funcs part Breakpoint next s = Halts s.pc reason.Break
+effect funcs role (Jump rd imm) next s = jumps s rd (plus s.pc (unsigned64 imm))
+effect funcs role (JumpTo rd rs1 imm) next s = jumps_to funcs s role rd (s.registers rs1) (unsigned64 imm)
+effect funcs role (Upper rd imm) next s = writes_register s next rd (upper_of_address role (unsigned64 imm * 4096 % 2 ^ 64))
+effect funcs role (UpperPc rd imm) next s = needs s reason.Operate (upper_of_distance role s.pc) (writes_register s next rd)
+effect funcs role (Load e rd rs1 imm) next s = loads s next e rd (place funcs role (s.registers rs1) (unsigned64 imm))
+effect funcs role (Store n rs1 rs2 imm) next s =
+    stores s next n (s.registers rs2) (place funcs role (s.registers rs1) (unsigned64 imm))
+effect funcs role Fence next s = goes_to s next
+effect funcs role SystemCall next s = argument s a7 (λ n. calls s next n (call_of n))
+effect funcs role Breakpoint next s = Halts s.pc reason.Break
 
 -- the instruction of a function at a pc; there is none at an odd one
 abbrev pub instruction : List Func → ℕ → Option Placed

@@ -1,4 +1,4 @@
--- Values and cells of the symbol machine: which are equal, and what stands in memory for a value.
+-- Values and bytes of memory of the symbol machine: which are equal, and what stands in memory for a value.
 use Rattle.std.specs.Prelude.{◌≡◌, ◌≢◌, ◌⊎◌, ◌<◌, ◌≤◌, ◌+◌, ℕ, zero, suc, ◌==◌, ◌&&◌, not, nat_le, if◌then◌else◌, Bool, true}
 use Rattle.std.specs.Prelude.{false, List, [], ◌∷◌, Option, Some, None, map, option_map}
 use Rattle.rv_code.specs.declared.placed.Func.{Func}
@@ -62,7 +62,7 @@ abbrev pub and_byte : MemoryByte → Option (List ℕ) → Option (List ℕ)
 and_byte (Byte b) rest = option_map (λ bs. b ∷ bs) rest
 and_byte _ rest = None
 
--- cells that are all numbers
+-- bytes of memory that are all numbers
 abbrev pub numbers : List MemoryByte → Option (List ℕ)
 numbers [] = Some []
 numbers (c ∷ cs) = and_byte c (numbers cs)
@@ -74,7 +74,7 @@ unfoldable pub symbol_bytes : CodeSymbol → ℕ → ℕ → ℕ → List Memory
 symbol_bytes y w i zero = []
 symbol_bytes y w i (suc n) = SymbolByte y w i ∷ symbol_bytes y w (suc i) n
 
--- cells are bytes of a symbol from byte i on, as it is kept in w bytes
+-- they are bytes of a symbol from byte i on, as it is kept in w bytes
 abbrev pub are_symbol_bytes : CodeSymbol → ℕ → ℕ → List MemoryByte → Bool
 are_symbol_bytes y w i [] = true
 are_symbol_bytes y w i (SymbolByte z v j ∷ cs) = same_symbol y z && w == v && i == j && are_symbol_bytes y w (suc i) cs
@@ -91,7 +91,7 @@ stored n (Num x) = Some (map Byte (low_bytes n x))
 stored n (Sym y) = Some (symbol_bytes y (if n == 4 then 4 else 8) 0 n)
 stored n (Piece y w i k e) = if nat_le n k then Some (symbol_bytes y w i n) else None
 
--- The values and cells that the machine makes.
+-- The values and bytes of memory that the machine makes.
 
 -- pointers that were compared have one kind and different addresses
 abbrev pub AreSymbolsApart : Pointer → Pointer → Type 0

@@ -3,7 +3,7 @@ ghost use Rattle.std.specs.Prelude.{◌≡◌, Option, Some, None, option_map};
 ghost use Rattle.sym_machine.specs.Values.{stored};
 ghost use Rattle.sym_machine.specs.Rules.{is_unsigned, piece};
 ghost use Rattle.sym_machine.specs.internal.Cases.{with_offset};
-ghost use Rattle.sym_machine.specs.internal.Accesses.{stored_cells, symbol_piece};
+ghost use Rattle.sym_machine.specs.internal.Accesses.{stored_bytes, symbol_piece};
 
 use crate::inst_index::InstIndex;
 use crate::memory::SymbolBytes;
@@ -21,7 +21,7 @@ pub enum Stored {
 
 /// What a store of `count` bytes of a value writes.
 pub fn what_to_store(count: u8, value: Value) -> Option<Stored>
-    ensures { option_map (stored_cells count) result ≡ stored count value }
+    ensures { option_map (stored_bytes count) result ≡ stored count value }
 {
     match value {
         Value::Num(number) => Some(Stored::Number(number)),
@@ -63,7 +63,7 @@ fn is_unsigned(symbol: CodeSymbol) -> bool
     }
 }
 
-fn part(from: SymbolBytes, bytes: u8, extended: Signedness) -> Value
+fn piece_of(from: SymbolBytes, bytes: u8, extended: Signedness) -> Value
     ensures { result ≡ Value.Piece from.symbol from.width from.first bytes extended }
 {
     Value::Piece {
@@ -91,7 +91,7 @@ fn signed_word(from: SymbolBytes) -> Value
     if from.width == 4 && from.first == 0 {
         Value::Sym(from.symbol)
     } else {
-        part(from, 4, Signedness::Signed)
+        piece_of(from, 4, Signedness::Signed)
     }
 }
 
@@ -101,7 +101,7 @@ fn unsigned_word(from: SymbolBytes) -> Value
     if from.width == 4 && from.first == 0 && is_unsigned(from.symbol) {
         Value::Sym(from.symbol)
     } else {
-        part(from, 4, Signedness::Unsigned)
+        piece_of(from, 4, Signedness::Unsigned)
     }
 }
 
@@ -113,10 +113,10 @@ pub fn piece(extension: Extension, from: SymbolBytes) -> Option<Value>
         Extension::Whole64 => whole(from),
         Extension::Signed32 => Some(signed_word(from)),
         Extension::Zero32 => Some(unsigned_word(from)),
-        Extension::Signed16 => Some(part(from, 2, Signedness::Signed)),
-        Extension::Zero16 => Some(part(from, 2, Signedness::Unsigned)),
-        Extension::Signed8 => Some(part(from, 1, Signedness::Signed)),
-        Extension::Zero8 => Some(part(from, 1, Signedness::Unsigned)),
+        Extension::Signed16 => Some(piece_of(from, 2, Signedness::Signed)),
+        Extension::Zero16 => Some(piece_of(from, 2, Signedness::Unsigned)),
+        Extension::Signed8 => Some(piece_of(from, 1, Signedness::Signed)),
+        Extension::Zero8 => Some(piece_of(from, 1, Signedness::Unsigned)),
     }
 }
 
@@ -135,12 +135,12 @@ impl<'a> InstIndex<'a> {
     ghost use Rattle.sym_machine.specs.Rules.{place};
 
     /// The value that is the address of a load or a store.
-    pub fn address_of(&self, part: Role, base: Value, offset: u64) -> Option<Value>
-        ensures { result ≡ place self.now.funcs.now part base offset }
+    pub fn address_of(&self, role: Role, base: Value, offset: u64) -> Option<Value>
+        ensures { result ≡ place self.now.funcs.now role base offset }
     {
-        match part {
-            Role::Lo { .. } => self.joined(part, base),
-            Role::CallLo { .. } => self.joined(part, base),
+        match role {
+            Role::Lo { .. } => self.joined(role, base),
+            Role::CallLo { .. } => self.joined(role, base),
             Role::AbsLo { .. } => None,
             Role::Plain => Some(moved(base, offset)),
             Role::CallHi { .. } => Some(moved(base, offset)),

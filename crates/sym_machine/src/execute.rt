@@ -32,15 +32,15 @@ impl<'a> SymMachine<'a> {
     ghost use Rattle.sym_machine.specs.Rules.{combined, base_of, computed, place, loaded_symbol};
     ghost use Rattle.sym_machine.specs.SymStep.{effect, needs, writes_register, branches, jumps, jumps_to, loads, loads_at};
     ghost use Rattle.sym_machine.specs.MachineState.{state_of, registers_of, funcs_of, changes};
-    ghost use Rattle.sym_machine.specs.internal.Memory.{cell_at};
-    ghost use Rattle.sym_machine.specs.internal.Accesses.{IsQuiet};
+    ghost use Rattle.sym_machine.specs.internal.Memory.{memory_at};
+    ghost use Rattle.sym_machine.specs.internal.Accesses.{ChangesRegistersOnly};
     ghost use Rattle.sym_machine.specs.Rules.{upper_of_distance, upper_of_address, tested};
 
     // What an instruction with a role changes after which the next one stands at `next`.
-    pub(crate) fn change(&self, part: Role, action: Action, next: u64) -> Result<Change, Reason>
-        requires { IsQuiet action }
+    pub(crate) fn change(&self, role: Role, action: Action, next: u64) -> Result<Change, Reason>
+        requires { ChangesRegistersOnly action }
         ensures { (input : List ℕ) →
-            changes (state_of self.now input) result ≡ effect (funcs_of self.now) part action next (state_of self.now input) }
+            changes (state_of self.now input) result ≡ effect (funcs_of self.now) role action next (state_of self.now input) }
     {
         match action {
             Action::Compute {
@@ -48,7 +48,7 @@ impl<'a> SymMachine<'a> {
                 rd,
                 left,
                 right,
-            } => self.compute(part, op, rd, left, right, next),
+            } => self.compute(role, op, rd, left, right, next),
             Action::Branch {
                 test,
                 wanted,
@@ -58,17 +58,17 @@ impl<'a> SymMachine<'a> {
             } => self.branch(test, wanted, rs1, rs2, imm.cast_unsigned(), next),
             Action::Jump { rd, imm } => self.jump_by(rd, imm.cast_unsigned()),
             Action::JumpTo { rd, rs1, imm } => {
-                self.jump_to(part, rd, self.register(rs1), imm.cast_unsigned())
+                self.jump_to(role, rd, self.register(rs1), imm.cast_unsigned())
             }
-            Action::Upper { rd, imm } => self.upper(part, rd, imm.cast_unsigned(), next),
-            Action::UpperPc { rd, .. } => self.upper_pc(part, rd, next),
+            Action::Upper { rd, imm } => self.upper(role, rd, imm.cast_unsigned(), next),
+            Action::UpperPc { rd, .. } => self.upper_pc(role, rd, next),
             Action::Load {
                 extension,
                 rd,
                 rs1,
                 imm,
             } => self.load_value(
-                part,
+                role,
                 extension,
                 rd,
                 self.register(rs1),
@@ -121,11 +121,11 @@ impl<'a> SymMachine<'a> {
         }
     }
 
-    fn computed(&self, part: Role, op: Op, left: Operand, right: Operand) -> Option<Value>
-        ensures { result ≡ computed (funcs_of self.now) part (registers_of self.now) op left right }
+    fn computed(&self, role: Role, op: Op, left: Operand, right: Operand) -> Option<Value>
+        ensures { result ≡ computed (funcs_of self.now) role (registers_of self.now) op left right }
     {
-        if is_lower(part) {
-            self.code.joined(part, self.operand(left))
+        if is_lower(role) {
+            self.code.joined(role, self.operand(left))
         } else {
             self.combined(op, left, right)
         }
@@ -133,7 +133,7 @@ impl<'a> SymMachine<'a> {
 
     fn compute(
         &self,
-        part: Role,
+        role: Role,
         op: Op,
         rd: u8,
         left: Operand,
@@ -142,10 +142,10 @@ impl<'a> SymMachine<'a> {
     ) -> Result<Change, Reason>
         ensures { (input : List ℕ) → let s = state_of self.now input in
             changes s result
-            ≡ needs s Reason.Operate (computed (funcs_of self.now) part (registers_of self.now) op left right)
+            ≡ needs s Reason.Operate (computed (funcs_of self.now) role (registers_of self.now) op left right)
             (writes_register s next rd) }
     {
-        match self.computed(part, op, left, right) {
+        match self.computed(role, op, left, right) {
             Some(value) => Ok(Change { rd, value, next }),
             None => Err(Reason::Operate),
         }
@@ -200,15 +200,15 @@ impl<'a> SymMachine<'a> {
         }
     }
 
-    fn jump_to(&self, part: Role, rd: u8, base: Value, offset: u64) -> Result<Change, Reason>
+    fn jump_to(&self, role: Role, rd: u8, base: Value, offset: u64) -> Result<Change, Reason>
         ensures { (input : List ℕ) →
             changes (state_of self.now input) result
-            ≡ jumps_to (funcs_of self.now) (state_of self.now input) part rd base offset }
+            ≡ jumps_to (funcs_of self.now) (state_of self.now input) role rd base offset }
     {
-        let Some(value) = self.code.goal(part, base) else {
+        let Some(value) = self.code.goal(role, base) else {
             return Err(Reason::Operate);
         };
-        let Some(to) = pointer(part, offset, value) else {
+        let Some(to) = pointer(role, offset, value) else {
             return Err(Reason::NotCode);
         };
         let Some(target) = self.code.destination(to) else {
@@ -217,19 +217,19 @@ impl<'a> SymMachine<'a> {
         Ok(self.jump(rd, target))
     }
 
-    fn upper(&self, part: Role, rd: u8, imm: u64, next: u64) -> Result<Change, Reason>
+    fn upper(&self, role: Role, rd: u8, imm: u64, next: u64) -> Result<Change, Reason>
         ensures { (input : List ℕ) → let s = state_of self.now input in
-            changes s result ≡ writes_register s next rd (upper_of_address part (imm * 4096 % 2 ^ 64)) }
+            changes s result ≡ writes_register s next rd (upper_of_address role (imm * 4096 % 2 ^ 64)) }
     {
-        let value = upper_of_address(part, imm.wrapping_mul(4096));
+        let value = upper_of_address(role, imm.wrapping_mul(4096));
         Ok(Change { rd, value, next })
     }
 
-    fn upper_pc(&self, part: Role, rd: u8, next: u64) -> Result<Change, Reason>
+    fn upper_pc(&self, role: Role, rd: u8, next: u64) -> Result<Change, Reason>
         ensures { (input : List ℕ) → let s = state_of self.now input in
-            changes s result ≡ needs s Reason.Operate (upper_of_distance part s.pc) (writes_register s next rd) }
+            changes s result ≡ needs s Reason.Operate (upper_of_distance role s.pc) (writes_register s next rd) }
     {
-        match upper_of_distance(part, self.pc) {
+        match upper_of_distance(role, self.pc) {
             Some(value) => Ok(Change { rd, value, next }),
             None => Err(Reason::Operate),
         }
@@ -237,7 +237,7 @@ impl<'a> SymMachine<'a> {
 
     fn load_value(
         &self,
-        part: Role,
+        role: Role,
         extension: Extension,
         rd: u8,
         base: Value,
@@ -245,9 +245,9 @@ impl<'a> SymMachine<'a> {
         next: u64,
     ) -> Result<Change, Reason>
         ensures { (input : List ℕ) → let s = state_of self.now input in
-            changes s result ≡ loads s next extension rd (place (funcs_of self.now) part base offset) }
+            changes s result ≡ loads s next extension rd (place (funcs_of self.now) role base offset) }
     {
-        let Some(at) = self.code.address_of(part, base, offset) else {
+        let Some(at) = self.code.address_of(role, base, offset) else {
             return Err(Reason::Operate);
         };
         let Some(address) = number(at) else {
@@ -288,7 +288,7 @@ impl<'a> SymMachine<'a> {
 
     fn loaded_symbol(&self, extension: Extension, address: u64, count: u8) -> Option<Value>
         requires { count ≤ 8 }
-        ensures { result ≡ loaded_symbol extension (memory_bytes (cell_at self.now.memory) address count) }
+        ensures { result ≡ loaded_symbol extension (memory_bytes (memory_at self.now.memory) address count) }
     {
         match self.memory.symbol(address, count) {
             Some(bytes) => piece(extension, bytes),

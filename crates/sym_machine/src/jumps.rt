@@ -8,22 +8,22 @@ use crate::value::{CodeSymbol, Pointer, Value};
 use rv_code::Role;
 
 /// The pointer that a JALR with an offset goes to, if its value is one.
-pub fn pointer(part: Role, offset: u64, value: Value) -> Option<Pointer>
-    ensures { result ≡ pointer part offset value }
+pub fn pointer(role: Role, offset: u64, value: Value) -> Option<Pointer>
+    ensures { result ≡ pointer role offset value }
 {
     match value {
         Value::Num(_) => None,
-        Value::Sym(symbol) => symbol_pointer(part, offset, symbol),
+        Value::Sym(symbol) => symbol_pointer(role, offset, symbol),
         Value::Piece { .. } => None,
     }
 }
 
-fn symbol_pointer(part: Role, offset: u64, symbol: CodeSymbol) -> Option<Pointer>
-    ensures { result ≡ pointer part offset (Value.Sym symbol) }
+fn symbol_pointer(role: Role, offset: u64, symbol: CodeSymbol) -> Option<Pointer>
+    ensures { result ≡ pointer role offset (Value.Sym symbol) }
 {
     match symbol {
         CodeSymbol::Points(p) => {
-            if is_lower(part) || offset == 0 {
+            if is_lower(role) || offset == 0 {
                 Some(p)
             } else {
                 None
@@ -40,11 +40,11 @@ impl<'a> InstIndex<'a> {
     ghost use Rattle.sym_machine.specs.Rules.{goal, destination};
 
     /// The value to which a JALR goes.
-    pub fn goal(&self, part: Role, base: Value) -> Option<Value>
-        ensures { result ≡ goal self.now.funcs.now part base }
+    pub fn goal(&self, role: Role, base: Value) -> Option<Value>
+        ensures { result ≡ goal self.now.funcs.now role base }
     {
-        if is_lower(part) {
-            self.joined(part, base)
+        if is_lower(role) {
+            self.joined(role, base)
         } else {
             Some(base)
         }

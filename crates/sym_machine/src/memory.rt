@@ -30,14 +30,15 @@ impl<'a> SymMemory<'a> {
     ghost use Rattle.rv_memory.specs.Memory.{memory_of, writes, space_in, break_after, may_stand, HasRoom, Keeps};
     ghost use Rattle.sym_machine.specs.declared.value.MemoryByte.TheVariants.{Byte};
     ghost use Rattle.sym_machine.specs.internal.OtherBytes.{other_byte, has_group};
-    ghost use Rattle.sym_machine.specs.internal.Memory.{cell_at, is_number_at, is_open_at, symbol_in, cell_after, other_bytes};
+    ghost use Rattle.sym_machine.specs.internal.Memory.{memory_at, memory_after, is_number_at, is_open_at};
+    ghost use Rattle.sym_machine.specs.internal.Memory.{symbol_in, other_bytes};
     ghost use Rattle.sym_machine.specs.internal.Memory.{HasGroups};
-    ghost use Rattle.sym_machine.specs.internal.Accesses.{stored_cells};
+    ghost use Rattle.sym_machine.specs.internal.Accesses.{stored_bytes};
     ghost use Rattle.sym_machine.specs.Values.{numbers, is_hidden, are_symbol_bytes, symbol_bytes};
 
     /// What stands at an address.
     pub fn byte(&self, address: u64) -> MemoryByte
-        ensures { result ≡ cell_at self.now address }
+        ensures { result ≡ memory_at self.now address }
     {
         match self.others.byte(address) {
             Some(
@@ -108,7 +109,7 @@ impl<'a> SymMemory<'a> {
 
     /// Whether a hidden byte stands at one of `count` addresses.
     pub fn has_hidden(&self, address: u64, count: usize) -> bool
-        ensures { result ≡ list_any is_hidden (memory_bytes (cell_at self.now) address count) }
+        ensures { result ≡ list_any is_hidden (memory_bytes (memory_at self.now) address count) }
     {
         !self.is_each_open(address, count)
     }
@@ -127,7 +128,7 @@ impl<'a> SymMemory<'a> {
     /// The number of `count` bytes at an address, if all are numbers.
     pub fn number(&self, address: u64, count: u8) -> Option<u64>
         requires { count ≤ 8 }
-        ensures value { result ≡ option_map little (numbers (memory_bytes (cell_at self.now) address count)) }
+        ensures value { result ≡ option_map little (numbers (memory_bytes (memory_at self.now) address count)) }
         ensures below { IfSome result (λ number. number < 256 ^ count) }
     {
         if !self.are_numbers(address, count as usize) {
@@ -139,7 +140,7 @@ impl<'a> SymMemory<'a> {
     /// The bytes at `count` addresses, all of which have numbers.
     pub fn numbers(&self, address: u64, count: usize) -> Result<Vec<u8>, NoMemory>
         requires { all_may (is_number_at self.now) address count ≡ true }
-        ensures { IfOk result (λ bytes. numbers (memory_bytes (cell_at self.now) address count) ≡ Some bytes.items) }
+        ensures { IfOk result (λ bytes. numbers (memory_bytes (memory_at self.now) address count) ≡ Some bytes.items) }
     {
         self.bytes.bytes(address, count)
     }
@@ -147,7 +148,7 @@ impl<'a> SymMemory<'a> {
     /// The symbol of `count` successive bytes from an address on, if they are successive bytes of one, kept in one width.
     pub fn symbol(&self, address: u64, count: u8) -> Option<SymbolBytes>
         requires { count ≤ 8 }
-        ensures { result ≡ symbol_in (memory_bytes (cell_at self.now) address count) }
+        ensures { result ≡ symbol_in (memory_bytes (memory_at self.now) address count) }
     {
         if count == 0 {
             return None;
@@ -171,7 +172,7 @@ impl<'a> SymMemory<'a> {
     // Whether bytes are those of a symbol from byte `index` on.
     fn goes_on(&self, symbol: CodeSymbol, width: u8, index: u64, address: u64, count: u8) -> bool
         requires { index + count ≤ 300 }
-        ensures { result ≡ are_symbol_bytes symbol width index (memory_bytes (cell_at self.now) address count) }
+        ensures { result ≡ are_symbol_bytes symbol width index (memory_bytes (memory_at self.now) address count) }
     {
         if count == 0 {
             return true;
@@ -210,9 +211,9 @@ impl<'a> SymMemory<'a> {
     pub fn store_number(&mut self, address: u64, count: u8, number: u64) -> Result<(), NoMemory>
         requires few { count ≤ 8 }
         requires writable { all_may (writes self.old.bytes) address count ≡ true }
-        ensures written { IsOk result → (q : ℕ) → cell_at self.new q
-            ≡ put (cell_at self.old) address (map Byte (low_bytes count number)) q }
-        ensures unwritten { OnErr result ((q : ℕ) → cell_at self.new q ≡ cell_at self.old q) }
+        ensures written { IsOk result → (q : ℕ) → memory_at self.new q
+            ≡ put (memory_at self.old) address (map Byte (low_bytes count number)) q }
+        ensures unwritten { OnErr result ((q : ℕ) → memory_at self.new q ≡ memory_at self.old q) }
         ensures space_kept { Keeps self.old.bytes self.new.bytes }
     {
         self.bytes.store(address, count, number)?;
@@ -224,9 +225,9 @@ impl<'a> SymMemory<'a> {
     pub fn store(&mut self, address: u64, count: u8, stored: Stored) -> Result<(), NoMemory>
         requires few { count ≤ 8 }
         requires writable { all_may (writes self.old.bytes) address count ≡ true }
-        ensures written { IsOk result → (q : ℕ) → cell_at self.new q
-            ≡ put (cell_at self.old) address (stored_cells count stored) q }
-        ensures unwritten { OnErr result ((q : ℕ) → cell_at self.new q ≡ cell_at self.old q) }
+        ensures written { IsOk result → (q : ℕ) → memory_at self.new q
+            ≡ put (memory_at self.old) address (stored_bytes count stored) q }
+        ensures unwritten { OnErr result ((q : ℕ) → memory_at self.new q ≡ memory_at self.old q) }
         ensures space_kept { Keeps self.old.bytes self.new.bytes }
     {
         match stored {
@@ -237,9 +238,9 @@ impl<'a> SymMemory<'a> {
 
     // Bytes past the 256th, which no symbol has, find no place.
     fn store_bytes(&mut self, address: u64, count: u8, bytes: SymbolBytes) -> Result<(), NoMemory>
-        ensures written { IsOk result → (q : ℕ) → cell_at self.new q
-            ≡ put (cell_at self.old) address (symbol_bytes bytes.symbol bytes.width bytes.first count) q }
-        ensures unwritten { OnErr result ((q : ℕ) → cell_at self.new q ≡ cell_at self.old q) }
+        ensures written { IsOk result → (q : ℕ) → memory_at self.new q
+            ≡ put (memory_at self.old) address (symbol_bytes bytes.symbol bytes.width bytes.first count) q }
+        ensures unwritten { OnErr result ((q : ℕ) → memory_at self.new q ≡ memory_at self.old q) }
         ensures space_kept { Keeps self.old.bytes self.new.bytes }
     {
         if bytes.first as u16 + count as u16 > 256 {
@@ -251,7 +252,7 @@ impl<'a> SymMemory<'a> {
     /// Takes room for `count` numbers from an address on, and gives a buffer of that size.
     pub fn buffer(&mut self, address: u64, count: usize) -> Result<Vec<u8>, NoMemory>
         ensures size { IfOk result (λ buffer. length buffer.items ≡ count) }
-        ensures kept { (q : ℕ) → cell_at self.new q ≡ cell_at self.old q }
+        ensures kept { (q : ℕ) → memory_at self.new q ≡ memory_at self.old q }
         ensures room { IsOk result → HasRoom self.new.bytes address count }
         ensures space_kept { Keeps self.old.bytes self.new.bytes }
     {
@@ -262,8 +263,8 @@ impl<'a> SymMemory<'a> {
     pub fn overwrite(&mut self, address: u64, bytes: &[u8])
         requires room { HasRoom self.old.bytes address (length bytes.now) }
         requires writable { all_may (writes self.old.bytes) address (length bytes.now) ≡ true }
-        ensures written { (q : ℕ) → cell_at self.new q
-            ≡ put (cell_at self.old) address (map Byte bytes.now) q }
+        ensures written { (q : ℕ) → memory_at self.new q
+            ≡ put (memory_at self.old) address (map Byte bytes.now) q }
         ensures space_kept { Keeps self.old.bytes self.new.bytes }
     {
         self.bytes.overwrite(address, bytes);
@@ -278,9 +279,9 @@ impl<'a> SymMemory<'a> {
         bytes: SymbolBytes,
     ) -> Result<(), NoMemory>
         requires { bytes.first + count ≤ 256 }
-        ensures written { IsOk result → (q : ℕ) → cell_at self.new q
-            ≡ put (cell_at self.old) address (symbol_bytes bytes.symbol bytes.width bytes.first count) q }
-        ensures unwritten { OnErr result ((q : ℕ) → cell_at self.new q ≡ cell_at self.old q) }
+        ensures written { IsOk result → (q : ℕ) → memory_at self.new q
+            ≡ put (memory_at self.old) address (symbol_bytes bytes.symbol bytes.width bytes.first count) q }
+        ensures unwritten { OnErr result ((q : ℕ) → memory_at self.new q ≡ memory_at self.old q) }
         ensures space_kept { self.new.bytes ≡ self.old.bytes }
     {
         self.reserve(address, count)?;
@@ -322,7 +323,7 @@ impl<'a> SymMemory<'a> {
     /// Moves the break, if it may stand there. Bytes that it gains are zero.
     pub fn set_break(&mut self, to: u64)
         ensures moved { self.new.bytes.program_break ≡ break_after self.old.bytes to }
-        ensures gained { (q : ℕ) → cell_at self.new q ≡ cell_after self.old to q }
+        ensures gained { (q : ℕ) → memory_at self.new q ≡ memory_after self.old to q }
         ensures space_kept { space_in self.new.bytes ≡ space_in self.old.bytes }
     {
         let from = self.bytes.program_break;

@@ -33,13 +33,13 @@ pub enum OtherByte {
 #[derive(Drop)]
 pub struct OtherBytes {
     // The bytes of all groups, one group after another, and the number of each: its first address, divided by 8.
-    pub cells: Vec<Option<OtherByte>>,
+    pub slots: Vec<Option<OtherByte>>,
     pub numbers: Vec<u64>,
     pub index: PageIndex,
     // For the lowest bits of a group's number: one more than the place of a group with these bits, or 0 where there is
     // none.
     pub recent: Vec<usize>,
-    pub ghost sized: { length cells.items ≡ length numbers.items * 8 },
+    pub ghost sized: { length slots.items ≡ length numbers.items * 8 },
     pub ghost indexed: { (i : ℕ) → i < length numbers.items → place_of index (slice_index numbers.items i) ≡ Some i },
     pub ghost held: { (q i : ℕ) → place_of index q ≡ Some i → i < length numbers.items },
     pub ghost numbered: { (q i : ℕ) → place_of index q ≡ Some i → slice_index numbers.items i ≡ q },
@@ -56,7 +56,7 @@ impl OtherBytes {
     {
         let recent = Vec::from_elem(alloc, 0, RECENT)?;
         Ok(OtherBytes {
-            cells: Vec::new(alloc),
+            slots: Vec::new(alloc),
             numbers: Vec::new(alloc),
             index: PageIndex::new(alloc),
             recent,
@@ -89,8 +89,8 @@ impl OtherBytes {
         ensures { result ≡ other_byte self.now address }
     {
         match self.place(address / GROUP_SIZE as u64) {
-            Some(place) => cell_at(
-                &self.cells,
+            Some(place) => slot_at(
+                &self.slots,
                 place * GROUP_SIZE + (address % GROUP_SIZE as u64) as usize,
             ),
             None => None,
@@ -116,12 +116,12 @@ impl OtherBytes {
         ensures room { IsOk result → IsSome (place_of self.new.index number) }
         ensures groups { (q : ℕ) → IsSome (place_of self.old.index q) → IsSome (place_of self.new.index q) }
     {
-        self.cells.reserve(GROUP_SIZE)?;
+        self.slots.reserve(GROUP_SIZE)?;
         self.numbers.reserve(1)?;
         let place = self.numbers.len();
         self.index.insert(number, place)?;
         self.numbers.push(number).unwrap();
-        self.cells.extend_from_slice(&[None; GROUP_SIZE]).unwrap();
+        self.slots.extend_from_slice(&[None; GROUP_SIZE]).unwrap();
         self.recent[(number % RECENT as u64) as usize] = place + 1;
         Ok(())
     }
@@ -133,7 +133,7 @@ impl OtherBytes {
         ensures groups { (q : ℕ) → has_group self.new q ≡ has_group self.old q }
     {
         if let Some(place) = self.place(address / GROUP_SIZE as u64) {
-            self.cells[place * GROUP_SIZE + (address % GROUP_SIZE as u64) as usize] = Some(byte);
+            self.slots[place * GROUP_SIZE + (address % GROUP_SIZE as u64) as usize] = Some(byte);
         }
     }
 
@@ -142,7 +142,7 @@ impl OtherBytes {
         ensures { (q : ℕ) → other_byte self.new q ≡ (if q == address then None else other_byte self.old q) }
     {
         if let Some(place) = self.place(address / GROUP_SIZE as u64) {
-            self.cells[place * GROUP_SIZE + (address % GROUP_SIZE as u64) as usize] = None;
+            self.slots[place * GROUP_SIZE + (address % GROUP_SIZE as u64) as usize] = None;
         }
     }
 
@@ -181,9 +181,9 @@ impl OtherBytes {
     }
 }
 
-fn cell_at(cells: &[Option<OtherByte>], at: usize) -> Option<OtherByte>
-    requires { at < length cells.now }
-    ensures { result ≡ slice_index_or cells.now at None }
+fn slot_at(slots: &[Option<OtherByte>], at: usize) -> Option<OtherByte>
+    requires { at < length slots.now }
+    ensures { result ≡ slice_index_or slots.now at None }
 {
-    cells[at]
+    slots[at]
 }

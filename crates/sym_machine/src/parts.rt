@@ -7,31 +7,31 @@ use crate::value::{CodeSymbol, Pointer, Value};
 use rv_code::Role;
 
 /// What AUIPC gives at an address.
-pub fn upper_of_distance(part: Role, address: u64) -> Option<Value>
-    ensures { result ≡ upper_of_distance part address }
+pub fn upper_of_distance(role: Role, address: u64) -> Option<Value>
+    ensures { result ≡ upper_of_distance role address }
 {
-    match part {
+    match role {
         Role::Hi { .. } | Role::CallHi { .. } => Some(Value::Sym(CodeSymbol::Hi(address))),
         _ => None,
     }
 }
 
 /// What LUI gives with a number as its immediate.
-pub fn upper_of_address(part: Role, number: u64) -> Value
-    ensures { result ≡ upper_of_address part number }
+pub fn upper_of_address(role: Role, number: u64) -> Value
+    ensures { result ≡ upper_of_address role number }
 {
-    match part {
+    match role {
         Role::AbsHi { target } => Value::Sym(CodeSymbol::Abs(target)),
         _ => Value::Num(number),
     }
 }
 
 /// Whether a role is that of a lower part.
-pub fn is_lower(part: Role) -> bool
-    ensures { result ≡ is_lower part }
+pub fn is_lower(role: Role) -> bool
+    ensures { result ≡ is_lower role }
 {
     matches!(
-        part,
+        role,
         Role::Lo { .. } | Role::CallLo { .. } | Role::AbsLo { .. }
     )
 }
@@ -97,10 +97,10 @@ impl<'a> InstIndex<'a> {
     }
 
     /// What a lower part and its base give together.
-    pub fn joined(&self, part: Role, base: Value) -> Option<Value>
-        ensures { result ≡ joined self.now.funcs.now part base }
+    pub fn joined(&self, role: Role, base: Value) -> Option<Value>
+        ensures { result ≡ joined self.now.funcs.now role base }
     {
-        match part {
+        match role {
             Role::Lo { hi, target } => self.joined_distance(hi, target, base),
             Role::CallLo { hi, target } => self.joined_distance(hi, target, base),
             Role::AbsLo { target } => joined_address(target, base),

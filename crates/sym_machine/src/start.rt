@@ -23,31 +23,31 @@ impl<'a> SymMachine<'a> {
     ghost use Rattle.sym_machine.specs.SymStart.{sym_start};
     ghost use Rattle.sym_machine.specs.MachineState.{state_of, funcs_of};
 
-    /// A machine that is about to run a file's functions with these words as its arguments: at most 64 of them, of at most
+    /// A machine that is about to run a file's functions with these arguments: at most 64 of them, of at most
     /// 65536 bytes together. `tight` says that the new code of a rewrite has no room behind the executable segment.
     pub fn load(
         alloc: Global,
         elf: &'a Elf<'a>,
         funcs: &'a [Func],
         cells: &[CodeCell],
-        words: &[String],
+        args: &[String],
         tight: bool,
     ) -> Result<SymMachine<'a>, NoMemory>
         requires read { IsElfOf elf.now.file.now elf.now }
         requires sound { IsSound elf.now.file.now }
-        requires limits { IsWithinLimits (map string_bytes words.now) }
+        requires limits { IsWithinLimits (map string_bytes args.now) }
         requires laid_out { AreLaidOut funcs.now }
         requires cells { All (λ cell. cell.addr + cell.width ≤ 2 ^ 64) cells.now }
         ensures start { IfOk result (λ m. (input : List ℕ) →
-            state_of m input ≡ sym_start elf.now cells.now tight (map string_bytes words.now) input) }
+            state_of m input ≡ sym_start elf.now cells.now tight (map string_bytes args.now) input) }
         ensures funcs { IfOk result (λ m. funcs_of m ≡ funcs.now) }
     {
-        let bytes = stack_bytes(alloc, elf, words)?;
+        let bytes = stack_bytes(alloc, elf, args)?;
         let bytes: &[u8] = &bytes;
         let pointer = STACK_END - bytes.len() as u64;
         let mut memory = Memory::new(alloc, elf);
         memory.write(pointer, bytes)?;
-        let others = OtherBytes::start(alloc, elf, cells, pointer, words.len(), tight)?;
+        let others = OtherBytes::start(alloc, elf, cells, pointer, args.len(), tight)?;
         let mut registers = [Value::Num(0); REGISTERS];
         registers[STACK_POINTER as usize] = Value::Num(pointer);
         Ok(SymMachine {

@@ -143,11 +143,11 @@ impl OtherBytes {
         Ok(())
     }
 
-    // In a tight file, the words on the stack that speak of the table of program headers.
+    // In a tight file, the numbers on the stack that speak of the table of program headers.
     fn hide_entries(&mut self, pointer: u64, count: usize, tight: bool) -> Result<(), NoMemory>
         requires low { pointer + 8 * (count + 20) ≤ 2 ^ 64 }
-        ensures { OnOk result ((words : List (List ℕ)) → pointer ≡ stack_pointer words → count ≡ length words →
-            (q : ℕ) → special self.new q ≡ (if is_hidden_entry tight words q then Some Hidden else special self.old q)) }
+        ensures { OnOk result ((args : List (List ℕ)) → pointer ≡ stack_pointer args → count ≡ length args →
+            (q : ℕ) → special self.new q ≡ (if is_hidden_entry tight args q then Some Hidden else special self.old q)) }
     {
         if !tight {
             return Ok(());
@@ -160,8 +160,8 @@ impl OtherBytes {
     fn add_entry(&mut self, elf: &Elf, pointer: u64, count: usize) -> Result<(), NoMemory>
         requires low { AreLow elf.now.segments.items }
         requires stack { pointer + 8 * (count + 20) ≤ 2 ^ 64 }
-        ensures { OnOk result ((words : List (List ℕ)) → pointer ≡ stack_pointer words → count ≡ length words →
-            (q : ℕ) → special self.new q ≡ option_or (entry_byte elf.now words q) (special self.old q)) }
+        ensures { OnOk result ((args : List (List ℕ)) → pointer ≡ stack_pointer args → count ≡ length args →
+            (q : ℕ) → special self.new q ≡ option_or (entry_byte elf.now args q) (special self.old q)) }
     {
         let symbol = CodeSymbol::Points(Pointer::Code(elf.entry));
         self.add_symbol(auxiliary_value(pointer, count, 4), 8, symbol)?;
@@ -171,7 +171,7 @@ impl OtherBytes {
         }
     }
 
-    /// The bytes of a file that starts with `count` words and this stack pointer.
+    /// The bytes of a file that starts with `count` arguments and this stack pointer.
     pub(crate) fn start(
         alloc: Global,
         elf: &Elf,
@@ -183,10 +183,10 @@ impl OtherBytes {
         requires low { AreLow elf.now.segments.items }
         requires cells { All (λ cell. cell.addr + cell.width ≤ 2 ^ 64) cells.now }
         requires stack { pointer + 8 * (count + 20) ≤ 2 ^ 64 }
-        ensures { IfOk result (λ others. (words : List (List ℕ)) → pointer ≡ stack_pointer words → count ≡ length words →
+        ensures { IfOk result (λ others. (args : List (List ℕ)) → pointer ≡ stack_pointer args → count ≡ length args →
             (q : ℕ) → special others q
-            ≡ option_or (entry_byte elf.now words q)
-            (option_or (hidden_byte elf.now tight words q) (code_cell_byte cells.now q))) }
+            ≡ option_or (entry_byte elf.now args q)
+            (option_or (hidden_byte elf.now tight args q) (code_cell_byte cells.now q))) }
     {
         let mut others = OtherBytes::new(alloc)?;
         others.add_cells(cells)?;
@@ -201,8 +201,8 @@ impl OtherBytes {
 fn auxiliary_value(pointer: u64, count: usize, n: u64) -> u64
     requires low { pointer + 8 * (count + 20) ≤ 2 ^ 64 }
     requires few { n ≤ 4 }
-    ensures is { (words : List (List ℕ)) → pointer ≡ stack_pointer words → count ≡ length words →
-        (auxiliary_value words n) ≡ record { start = result; size = 8 } }
+    ensures is { (args : List (List ℕ)) → pointer ≡ stack_pointer args → count ≡ length args →
+        (auxiliary_value args n) ≡ record { start = result; size = 8 } }
     ensures low { result + 8 ≤ 2 ^ 64 }
 {
     pointer + 8 * (count as u64 + 5 + 2 * n)

@@ -63,11 +63,11 @@ impl<'a> SymMachine<'a> {
     }
 
     // Does an instruction with a role after which the next one stands at `next`.
-    fn execute(&mut self, part: Role, action: Action, next: u64) -> SymStepped
+    fn execute(&mut self, role: Role, action: Action, next: u64) -> SymStepped
         requires no_call { action ≢ Action.SystemCall }
         requires action { (i : Inst) × (action ≡ action_of i) }
         ensures answer { (input : List ℕ) →
-            Becomes (effect (funcs_of self.old) part action next (state_of self.old input)) result self.old self.new input }
+            Becomes (effect (funcs_of self.old) role action next (state_of self.old input)) result self.old self.new input }
         ensures code { self.new.code ≡ self.old.code }
     {
         match action {
@@ -79,11 +79,11 @@ impl<'a> SymMachine<'a> {
             } => {
                 let base = self.register(rs1);
                 let value = self.register(rs2);
-                self.store(part, bytes, base, imm.cast_unsigned(), value, next)
+                self.store(role, bytes, base, imm.cast_unsigned(), value, next)
             }
             Action::SystemCall => unreachable!(),
             _ => {
-                let change = self.change(part, action, next);
+                let change = self.change(role, action, next);
                 self.apply(change)
             }
         }

@@ -13,12 +13,12 @@ impl<'a> SymMachine<'a> {
     ghost use Rattle.sym_machine.specs.Rules.{place};
     ghost use Rattle.sym_machine.specs.SymStep.{stores, stores_at};
     ghost use Rattle.sym_machine.specs.MachineState.{state_of, funcs_of, Becomes};
-    ghost use Rattle.sym_machine.specs.internal.Accesses.{stored_cells};
+    ghost use Rattle.sym_machine.specs.internal.Accesses.{stored_bytes};
 
     // Stores the `count` low bytes of a value.
     pub(crate) fn store(
         &mut self,
-        part: Role,
+        role: Role,
         count: u8,
         base: Value,
         offset: u64,
@@ -27,10 +27,10 @@ impl<'a> SymMachine<'a> {
     ) -> SymStepped
         requires { count ≤ 8 }
         ensures answer { (input : List ℕ) → let s = state_of self.old input in
-            Becomes (stores s next count value (place (funcs_of self.old) part base offset)) result self.old self.new input }
+            Becomes (stores s next count value (place (funcs_of self.old) role base offset)) result self.old self.new input }
         ensures code { self.new.code ≡ self.old.code }
     {
-        let Some(at) = self.code.address_of(part, base, offset) else {
+        let Some(at) = self.code.address_of(role, base, offset) else {
             return self.stuck(Reason::Operate);
         };
         let Some(stored) = what_to_store(count, value) else {
@@ -45,7 +45,7 @@ impl<'a> SymMachine<'a> {
     fn store_at(&mut self, count: u8, stored: Stored, address: u64, next: u64) -> SymStepped
         requires { count ≤ 8 }
         ensures answer { (input : List ℕ) → let s = state_of self.old input in
-            Becomes (stores_at s next count (stored_cells count stored) address) result self.old self.new input }
+            Becomes (stores_at s next count (stored_bytes count stored) address) result self.old self.new input }
         ensures code { self.new.code ≡ self.old.code }
     {
         if !self

@@ -25,7 +25,7 @@ use Rattle.elf_image.specs.faults.FirstFault.{IsFree}
 use Rattle.elf_image.specs.faults.CodeFaults.{HasCodeFault}
 use Rattle.elf_image.specs.code.FileCode.{IsCodeOf}
 use Rattle.elf_image.specs.code.Functions as functions
-use Rattle.elf_image.specs.faults.SegmentLayout.{address_end}
+use Rattle.rv_code.specs.layout.FunctionLists.{address_end}
 use Rattle.elf_image.specs.code.Parts.{halfword_at, IsInstAt, IsStart}
 use Rattle.elf_image.specs.code.Relocations.{Relocation, relocations, is_call_pair, is_pcrel_hi}
 use Rattle.elf_image.specs.faults.ReferenceFaults.{IsAddress, IsUpper, IsMisfit}
@@ -34,12 +34,12 @@ use Rattle.elf_image.specs.code.Roles.{Claims, HasRole, RoleIs, CallPair, CallTo
 use Rattle.elf_image.specs.code.Roles.{lower_immediate}
 use Rattle.elf_image.specs.code.Roles as claims
 use Rattle.elf_image.specs.code.Cells.{IsCell, Content, Difference, Address, Counts, SameContent}
-use Rattle.move_law.specs.RelocatedValues.{target_of_role}
+use Rattle.move_law.specs.RelocatedValues.{upper_target}
 use Rattle.move_law.specs.SimulationRelation.{HasTarget}
 use Rattle.move_law.specs.Laws.{IsAcceptedCode}
 use Rattle.move_law.proofs.code.Immediates.{full_at, also_full, auipc_of, lui_of, low_of, low_immediate}
 use Rattle.move_law.proofs.code.InstLists.{start_code, code_at, inst_at, role_at}
-use Rattle.move_law.specs.AddressParts.{IsAuipc, IsLui, TakesLower}
+use Rattle.rv_code.specs.isa.AddressParts.{IsAuipc, IsLui, TakesLower}
 
 -- What the input's file gives, whatever is written.
 
@@ -51,7 +51,7 @@ pub record Target (code : ProgramCode) (t : ℕ) : Type 0 where
 abbrev pub LowerRole : ProgramCode → ℕ → ℕ → Inst → Type 0
 LowerRole code hi target inst =
     TakesLower inst × Target code target × ((q : Placed) → placed_at code.funcs hi ≡ Some q → HasTarget q.role →
-    target_of_role q.role ≡ target)
+    upper_target q.role ≡ target)
 
 abbrev pub RoleFits : ProgramCode → Role → Inst → Type 0
 RoleFits code role.Plain inst = Unit {0}
@@ -173,16 +173,16 @@ module _ (elf : Elf) (tabled : List (ℕ × ℕ)) (code : ProgramCode) (is : IsC
   -- what an AUIPC of a call has as its target
   call_same : (q : Relocation) (target : ℕ) → CallTo elf q (pos target) → (part : Role) → RoleIs elf q.place part →
       HasTarget part →
-      target_of_role part ≡ target
+      upper_target part ≡ target
   call_same q target call part (inr n) h = absurd (subst HasTarget n.1 h)
   call_same q target call part (inl has) h = by has.claims
     where
-      by : Claims elf has.relocation q.place has.key part → target_of_role part ≡ target
+      by : Claims elf has.relocation q.place has.key part → upper_target part ≡ target
       by (claims.call_hi t other at k e) =
           let same = same_call elf has.relocation q other.pair call.pair (sym at) in
           let targets : pos t ≡ pos target =
           other.target_is ∙ (rw (sym at, same.uppers, same.lowers) refl) ∙ sym call.target_is in
-          ap target_of_role e ∙ same_pos t target targets
+          ap upper_target e ∙ same_pos t target targets
       by (claims.weak_call pair zero_is at k e) =
           absurd (call.not_zero ((same_call elf q has.relocation call.pair pair at).bases ∙ zero_is))
       by (claims.hi t upper at k e) = absurd (
@@ -244,7 +244,7 @@ module _ (elf : Elf) (tabled : List (ℕ × ℕ)) (code : ProgramCode) (is : IsC
   -- what an AUIPC of a lower part has as its target
   pair_same : (q : Relocation) (hi target : ℕ) → PcrelLoTo elf q hi (pos target) → (part : Role) → RoleIs elf hi part →
       HasTarget part →
-      target_of_role part ≡ target
+      upper_target part ≡ target
   pair_same q hi target lower part (inr n) h = absurd (subst HasTarget n.1 h)
   pair_same q hi target lower part (inl has) h = by has.claims
     where
@@ -253,7 +253,7 @@ module _ (elf : Elf) (tabled : List (ℕ × ℕ)) (code : ProgramCode) (is : IsC
       no_call call counts at = has_upper q hi lower.lower lower.part (λ u.
           u.no_call (record { relocation = has.relocation; counts = counts; is = call; place_is = sym at }))
 
-      by : Claims elf has.relocation hi has.key part → target_of_role part ≡ target
+      by : Claims elf has.relocation hi has.key part → upper_target part ≡ target
       by (claims.hi t upper at k e) =
           let uppers = same_auipc elf (has.relocation).place hi upper.rd lower.rd upper.upper lower.upper (sym at)
           upper.auipc.has.is_inst lower.auipc.has.is_inst in
@@ -261,7 +261,7 @@ module _ (elf : Elf) (tabled : List (ℕ × ℕ)) (code : ProgramCode) (is : IsC
           (sym at) upper.part in
           let lowers : upper.lower ≡ lower.lower = same_lower upper.low q hi upper.lower lower.lower part' lower.part in
           let targets : pos t ≡ pos target = upper.target_is ∙ (rw (sym at, uppers, lowers) refl) ∙ sym lower.target_is in
-          ap target_of_role e ∙ same_pos t target targets
+          ap upper_target e ∙ same_pos t target targets
       by (claims.call_hi t call at k e) = absurd (no_call call.pair.is_call call.pair.counts at)
       by (claims.weak_call pair zero_is at k e) = absurd (no_call pair.is_call pair.counts at)
       by (claims.call_lo t call at k e) = absurd (subst HasTarget e h)

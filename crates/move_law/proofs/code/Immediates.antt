@@ -15,7 +15,7 @@ use Rattle.elf_image.specs.declared.elf.Elf.{Elf}
 use Rattle.elf_image.specs.code.Parts.{halfword_at, IsInstAt}
 use Rattle.elf_image.specs.declared.relocation.TheConstants.{R_RISCV_PCREL_LO12_I, R_RISCV_LO12_I}
 use Rattle.elf_image.specs.code.Roles.{immediate_i, immediate_s, lower_immediate}
-use Rattle.move_law.specs.AddressParts.{IsAuipc, IsLui, TakesLower}
+use Rattle.rv_code.specs.isa.AddressParts.{IsAuipc, IsLui, TakesLower}
 use Rattle.move_law.specs.FaithfulRewrite.{with_immediate}
 use Rattle.move_law.proofs.values.HiLoParts.{IsLower, imm_i_lower, imm_s_lower}
 
@@ -142,7 +142,7 @@ addi_only w (Srli rd rs1 imm) row e f = absurd (let g = row.funct3_is in omega (
 addi_only w (Srai rd rs1 imm) row e f = absurd (let g = row.funct3_is in omega (arith, f, g))
 addi_only w _ row e f = absurd (omega (arith, e))
 
--- of one word
+-- of one instruction word
 
 pub auipc_of : (w rd : ℕ) (imm : ℤ) (i : Inst) → IsFull w (Auipc rd imm) → IsFull w i → IsAuipc i
 auipc_of w rd imm i a b = auipc_only i (sym (opcode_is w i b) ∙ a.opcode_is)

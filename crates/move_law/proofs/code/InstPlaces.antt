@@ -14,17 +14,19 @@ use Rattle.rv_code.specs.layout.Flow.{insts_of}
 use Rattle.rv_code.specs.layout.ProgramCode.{ProgramCode}
 use Rattle.rb_bytes.specs.declared.fault.FaultKind.TheVariants.{BadInstruction, ExecSegments, WritableCode}
 use Rattle.elf_image.specs.declared.elf.Elf.{Elf}
-use Rattle.elf_image.specs.declared.elf.Section.{Section}
+use Rattle.elf_image.specs.declared.section.Section.{Section}
 use Rattle.elf_image.specs.declared.segment.Segment.{Segment}
 use Rattle.elf_image.specs.declared.segment.TheConstants.{PF_W, PF_X}
 use Rattle.elf_image.specs.code.Functions.{AreInsts, IsFunctionPart, code, referred, fallen_into}
 use Rattle.elf_image.specs.code.Parts.{IsPart, IsInstAt, StartsIn, at_start, after, length_at}
-use Rattle.elf_image.specs.faults.SegmentLayout.{IsCode, LiesInCode, address_end}
+use Rattle.rv_code.specs.layout.FunctionLists.{address_end}
+use Rattle.elf_image.specs.faults.SegmentLayout.{IsCode, LiesInCode}
 use Rattle.elf_image.specs.file.Header.{e_phnum, segment, segment_place, segments_of}
 use Rattle.elf_image.specs.file.ParsedFile.{IsSectionAt}
 use Rattle.elf_image.specs.file.Sections.{section_header, section_place, holds_code}
 use Rattle.elf_image.specs.memory.Image.{end_of, has_flag, is_load, loads_address, segment_of}
-use Rattle.elf_image.proofs.LoadLemmas.{Contains-cons_cases, find-only, loads-from_parts}
+use Rattle.elf_image.proofs.LoadLemmas.{find-only, loads-from_parts}
+use Rattle.rb_bytes.proofs.Members.{Contains-cons_cases}
 use Rattle.elf_image.proofs.ReadLists.{get_or-segments, length-segments_of}
 use Rattle.move_law.specs.Rewrite.{executable_read, IsCodeByte}
 use Rattle.move_law.specs.Laws.{IsAcceptedCode}

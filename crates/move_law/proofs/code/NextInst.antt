@@ -8,7 +8,7 @@ use Rattle.rv_code.specs.declared.placed.Func.{Func}
 use Rattle.elf_image.specs.declared.elf.Elf.{Elf}
 use Rattle.elf_image.specs.code.Functions.{AreInsts}
 use Rattle.elf_image.specs.code.Parts.{length_at}
-use Rattle.elf_image.proofs.LoadLemmas.{Contains-there}
+use Rattle.rb_bytes.proofs.Members.{Contains-there}
 use Rattle.sym_machine.specs.Rules.{next_in, next_of}
 use Rattle.move_law.proofs.code.InstLists.{length_of}
 

@@ -12,7 +12,7 @@ use Rattle.elf_image.specs.declared.segment.Segment.{Segment}
 use Rattle.elf_image.specs.file.Header.{segment, segments_of}
 use Rattle.elf_image.specs.memory.Image.{is_loaded_with, has_flag, segment_of, loads_address, image_byte, byte_of, LoadOnce}
 use Rattle.elf_image.specs.memory.LoadedBytes.{bytes_in, number_in}
-use Rattle.elf_image.specs.faults.SegmentLayout.{address_end}
+use Rattle.rv_code.specs.layout.FunctionLists.{address_end}
 use Rattle.elf_image.specs.file.ParsedFile.{IsElfOf}
 use Rattle.elf_image.specs.memory.Start.{start_memory, stack_byte, stack_end, stack_size, in_stack}
 use Rattle.elf_image.proofs.LoadLemmas.{find-found}
@@ -117,13 +117,13 @@ module _ (x : Executable) (sound : IsSoundExecutable x) where
           at.each i h ∙ ap Some (little_at bs i small (omega (arith, len, h)) ∙ ap (λ (w : ℕ). w / 256 ^ i % 256) same)
 
   -- what is loaded is in memory at the start
-  pub loaded_start : (words : List (List ℕ)) (a b : ℕ) → memory_of x a ≡ Some b → start_memory x.file words a ≡ b
-  loaded_start words a b e = by (in_stack a) refl
+  pub loaded_start : (args : List (List ℕ)) (a b : ℕ) → memory_of x a ≡ Some b → start_memory x.file args a ≡ b
+  loaded_start args a b e = by (in_stack a) refl
     where
       there : image_byte x.file (segments_of x.file) a ≡ Some b
       there = subst (λ (l : List Segment). image_byte x.file l a ≡ Some b) segments_are e
 
       by : (t : Bool) → in_stack a ≡ t →
-          (if t then stack_byte x.file words a else unwrap_or (image_byte x.file (segments_of x.file) a) 0) ≡ b
+          (if t then stack_byte x.file args a else unwrap_or (image_byte x.file (segments_of x.file) a) 0) ≡ b
       by true s = absurd (stack_high a s (byte_low a b e))
       by false s = rw there refl

@@ -11,7 +11,8 @@ use Rattle.elf_image.specs.memory.Image.{is_load, has_memory, has_flag, end_of, 
 use Rattle.elf_image.specs.memory.Image.{is_loaded_with, byte_of}
 use Rattle.elf_image.specs.memory.Start.{page_size, rounded_down, rounded_up, writable_end, break_start, break_bound, break_room}
 use Rattle.elf_image.specs.memory.Start.{pages_above, in_stack}
-use Rattle.elf_image.proofs.LoadLemmas.{find-found, Contains-there, Contains-cons_cases}
+use Rattle.elf_image.proofs.LoadLemmas.{find-found, loads_last}
+use Rattle.rb_bytes.proofs.Members.{Contains-there, Contains-cons_cases}
 use Rattle.move_law.specs.Rewrite.{Rewrite, executable_read, memory_of}
 use Rattle.move_law.specs.Laws.{KeepsCode}
 use Rattle.move_law.proofs.files.Executables.{loaded_byte, byte_low, load_once, stack_high}
@@ -84,15 +85,6 @@ least f h from (p ∷ ps) q is_in t = by (f p) refl (Contains-cons_cases p ps q 
         let m : h p ≡ h q = ap h same in omega (arith, l, m)
     by false e (inr k) rest = rest from k
     by true e (inr k) rest = rest (min from (h p)) k
-
-loads_last : (p : Segment) → has_memory p ≡ true → IsTrue (loads_address (end_of p - 1) p)
-loads_last p has =
-    let parts = and_parts (is_load p) (nat_lt 0 p.memsz) has in
-    let some : 0 < p.memsz = ltb-true 0 p.memsz parts.1 in
-    let from : nat_le p.vaddr (end_of p - 1) ≡ true = le-leb p.vaddr (end_of p - 1) (omega arith) in
-    let to : nat_lt (end_of p - 1) (end_of p) ≡ true = lt-ltb (end_of p - 1) (end_of p) (omega arith) in
-    and_from (is_load p && nat_le p.vaddr (end_of p - 1)) (nat_lt (end_of p - 1) (end_of p))
-    (and_from (is_load p) (nat_le p.vaddr (end_of p - 1)) parts.0 from) to
 
 up : (w : ℕ) → w ≤ rounded_up page_size w
 up w = omega arith

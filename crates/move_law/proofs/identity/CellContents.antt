@@ -18,7 +18,7 @@ use Rattle.elf_image.specs.code.Cells.{IsField, pointer, slot, difference, IsCel
 use Rattle.elf_image.specs.code.Cells.{SameContent, IsDifference, of_labels, of_place}
 use Rattle.elf_image.specs.code.Fields.{HoldsDifference, bytes_of_bits}
 use Rattle.elf_image.specs.memory.LoadedBytes.{bytes_in, number_in, loaded_number}
-use Rattle.elf_image.specs.faults.SegmentLayout.{address_end}
+use Rattle.rv_code.specs.layout.FunctionLists.{address_end}
 use Rattle.elf_image.specs.code.Relocations.{Relocation, relocations, Width, Bits}
 use Rattle.elf_image.specs.faults.ReferenceFaults.{IsAddress}
 use Rattle.elf_image.specs.faults.ReferenceFaults as faults

@@ -283,7 +283,7 @@ pub identity_is_faithful : IdentityIsFaithful
 identity_is_faithful elf code tight accepted = faithful elf code tight accepted
 
 pub runs_are_real : RunsAreReal
-runs_are_real elf code tight accepted words input fit n trace status run =
+runs_are_real elf code tight accepted args input fit n trace status run =
     let r : Rewrite = identity elf code tight in
     let keeps : KeepsCode r = record {
       accepted = accepted;
@@ -291,11 +291,11 @@ runs_are_real elf code tight accepted words input fit n trace status run =
       faithful = faithful elf code tight accepted;
     } in
     let known = (facts_of r keeps (has_code_facts elf code accepted)).facts in
-    let started = starts_related r keeps words input fit in
-    let related : SimulationRelation r Same (program_start (program r) words input) (start elf.file.now words input) = record {
+    let started = starts_related r keeps args input fit in
+    let related : SimulationRelation r Same (program_start (program r) args input) (start elf.file.now args input) = record {
       pc = λ there. (
-        (rw (entry_is r keeps words fit) (place r keeps (pointer.Code r.input.entry) (entry_named r keeps words fit)).even),
-        entry_is r keeps words fit,
+        (rw (entry_is r keeps args fit) (place r keeps (pointer.Code r.input.entry) (entry_named r keeps args fit)).even),
+        entry_is r keeps args fit,
       );
       rest = started.rest;
     } in
@@ -312,7 +312,7 @@ runs_are_real elf code tight accepted words input fit n trace status run =
       };
       jumps = jump_stays elf code tight accepted;
     })
-    (program_start (program r) words input) (start elf.file.now words input) related n trace status run
+    (program_start (program r) args input) (start elf.file.now args input) related n trace status run
 
 pub identity_law : IdentityLaw
 identity_law = record { faithful = identity_is_faithful; runs = runs_are_real }

@@ -11,7 +11,7 @@ use Rattle.rv_code.specs.layout.Flow.{insts_of, placed_at, action_at}
 use Rattle.rv_code.specs.machine.Machine.{plus, Event, Going, Ended, Halts, SoFar, starts, more, Run}
 use Rattle.rv_code.specs.machine.Step.{ByteState, ByteOutcome, Steps}
 use Rattle.rv_code.specs.machine.Step as byte
-use Rattle.elf_image.specs.faults.SegmentLayout.{address_end}
+use Rattle.rv_code.specs.layout.FunctionLists.{address_end}
 use Rattle.sym_machine.specs.declared.outcome.Reason.TheVariants as reason
 use Rattle.sym_machine.specs.SymStep.{SymState, SymOutcome, SymSteps, sym_step, needs}
 use Rattle.std.specs.Prelude.{Contains}

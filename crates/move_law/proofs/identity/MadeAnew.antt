@@ -27,7 +27,7 @@ use Rattle.move_law.proofs.code.Immediates.{full_at, also_full, auipc_of, lui_of
 use Rattle.move_law.proofs.code.Immediates.{auipc_imm, lui_imm, low_imm, low_field_lower, imm_of}
 use Rattle.move_law.proofs.values.HiLoParts.{IsLower, upper_is, lower_is}
 use Rattle.move_law.proofs.code.FittingRoles.{fits, same_int, same_call}
-use Rattle.move_law.specs.AddressParts.{TakesLower}
+use Rattle.rv_code.specs.isa.AddressParts.{TakesLower}
 
 kinds_differ : (kind : ℕ) → kind ≡ R_RISCV_HI20 → IsAbsoluteLow kind → ⊥
 kinds_differ kind h (inl l) = omega (arith, h, l)

@@ -15,7 +15,7 @@ use Rattle.rv_code.specs.declared.placed.Placed.{Placed}
 use Rattle.rv_code.specs.layout.ProgramCode.{is_code_address, IsNamed}
 use Rattle.rv_code.specs.layout.Flow.{insts_of, placed_at, action_at, is_call}
 use Rattle.rv_code.specs.machine.Machine.{plus}
-use Rattle.elf_image.specs.faults.SegmentLayout.{address_end}
+use Rattle.rv_code.specs.layout.FunctionLists.{address_end}
 use Rattle.elf_image.proofs.LoadLemmas.{find-found}
 use Rattle.addr_map.specs.declared.span.Span.{Span}
 use Rattle.addr_map.specs.Spans.{is_of, has_byte, IsPlaced, ShareNoByte}

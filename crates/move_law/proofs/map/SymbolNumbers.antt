@@ -27,7 +27,7 @@ use Rattle.rv_code.specs.isa.HiLo.{hi20}
 use Rattle.rv_code.specs.machine.Machine.{plus}
 use Rattle.rv_code.specs.isa.Op.{apply}
 use Rattle.rv_code.specs.isa.TwosComplement.{unsigned64}
-use Rattle.elf_image.specs.faults.SegmentLayout.{address_end}
+use Rattle.rv_code.specs.layout.FunctionLists.{address_end}
 use Rattle.sym_machine.specs.declared.value.Pointer.{Pointer}
 use Rattle.sym_machine.specs.declared.value.Pointer.TheVariants as pointer
 use Rattle.sym_machine.specs.declared.value.Comparing.{Comparing}
@@ -41,7 +41,7 @@ use Rattle.sym_machine.specs.declared.value.Value.TheVariants.{Num, Sym, Piece}
 use Rattle.sym_machine.specs.Values.{IsSymbol, op_of}
 use Rattle.sym_machine.specs.Rules.{is_nonzero, is_unsigned}
 use Rattle.move_law.specs.Rewrite.{Rewrite, width_at, out, Goes, stays}
-use Rattle.move_law.specs.RelocatedValues.{distance, hi20_value, target_at, target_of_role, number_of_pointer, number_of_symbol}
+use Rattle.move_law.specs.RelocatedValues.{distance, hi20_value, target_at, upper_target, number_of_pointer, number_of_symbol}
 use Rattle.move_law.specs.RelocatedValues.{extension_of}
 use Rattle.move_law.specs.SimulationRelation.{IsGivenPointer, IsGiven, HasTarget, StandsFor}
 use Rattle.move_law.specs.FaithfulRewrite.{made_anew, KeepsAction, KeepsInst, GoesOn}
@@ -55,7 +55,7 @@ use Rattle.move_law.proofs.files.Rights.{spaces_same}
 use Rattle.move_law.proofs.map.MappedPlaces.{place, code_once, ret_once, stays_put, code_place, named_span, in_span}
 use Rattle.move_law.proofs.code.FittingRoles.{CodeFacts, RoleFits, Target, has_code_facts}
 use Rattle.move_law.proofs.code.InstLists.{found_at}
-use Rattle.move_law.specs.AddressParts.{IsAuipc}
+use Rattle.rv_code.specs.isa.AddressParts.{IsAuipc}
 
 -- Numbers that 32 bits hold, with their sign.
 
@@ -128,22 +128,22 @@ is_upper : (i : Inst) → IsAuipc i → IsUpperPc (action_of i)
 is_upper (Auipc rd imm) h = tt
 is_upper _ h = absurd h
 
-word8_fits : (x : ℕ) → x < 256 → unsigned64 (cast_signed w8 x) < 2 ^ 64
-word8_fits x h = by (nat_lt x 128) refl
+signed8_fits : (x : ℕ) → x < 256 → unsigned64 (cast_signed w8 x) < 2 ^ 64
+signed8_fits x h = by (nat_lt x 128) refl
   where
     by : (b : Bool) → nat_lt x 128 ≡ b → unsigned64 (if b then pos x else negsuc (256 - suc x)) < 2 ^ 64
     by true e = omega (arith, h)
     by false e = omega (arith, h)
 
-word16_fits : (x : ℕ) → x < 65536 → unsigned64 (cast_signed w16 x) < 2 ^ 64
-word16_fits x h = by (nat_lt x 32768) refl
+signed16_fits : (x : ℕ) → x < 65536 → unsigned64 (cast_signed w16 x) < 2 ^ 64
+signed16_fits x h = by (nat_lt x 32768) refl
   where
     by : (b : Bool) → nat_lt x 32768 ≡ b → unsigned64 (if b then pos x else negsuc (65536 - suc x)) < 2 ^ 64
     by true e = omega (arith, h)
     by false e = omega (arith, h)
 
-word32_fits : (x : ℕ) → x < 4294967296 → unsigned64 (cast_signed w32 x) < 2 ^ 64
-word32_fits x h = by (nat_lt x 2147483648) refl
+signed32_fits : (x : ℕ) → x < 4294967296 → unsigned64 (cast_signed w32 x) < 2 ^ 64
+signed32_fits x h = by (nat_lt x 2147483648) refl
   where
     by : (b : Bool) → nat_lt x 2147483648 ≡ b → unsigned64 (if b then pos x else negsuc (4294967296 - suc x)) < 2 ^ 64
     by true e = omega (arith, h)
@@ -193,7 +193,7 @@ module _ (r : Rewrite) (keeps : KeepsCode r) (facts : CodeFacts r.code) where
   targeted a given = by (placed_at r.code.funcs a) refl given
     where
       of : (p : Placed) → Contains (insts_of r.code.funcs) p → (role : Role) → p.role ≡ role → HasTarget role →
-          RoleFits r.code role p.inst → IsAuipc p.inst × Target r.code (target_of_role role)
+          RoleFits r.code role p.inst → IsAuipc p.inst × Target r.code (upper_target role)
       of p is_in (role.Hi t) e h f = f
       of p is_in (role.CallHi t) e h f = f
       of p is_in role.Plain e h f = absurd h
@@ -207,8 +207,8 @@ module _ (r : Rewrite) (keeps : KeepsCode r) (facts : CodeFacts r.code) where
       by (Some p) e h =
           let at = found_at r.code.funcs a p e in
           let f = of p at.contains p.role refl h (facts.roles p at.contains) in
-          let target_is : target_at r.code.funcs a ≡ target_of_role p.role =
-          ap (λ (o : Option Placed). option_map_or (λ p. target_of_role p.role) o 0) e in
+          let target_is : target_at r.code.funcs a ≡ upper_target p.role =
+          ap (λ (o : Option Placed). option_map_or (λ p. upper_target p.role) o 0) e in
           let low = auipc_low p at.contains f.0 in
           let same : out r p.addr ≡ out r a = ap (λ (n : ℕ). out r n) at.at in
           record { low = omega (arith, low, same); target = subst (Target r.code) (sym target_is) f.1 }
@@ -264,9 +264,9 @@ module _ (r : Rewrite) (keeps : KeepsCode r) (facts : CodeFacts r.code) where
   piece_fits n m Unsigned (inl e) = rw e (omega arith)
   piece_fits n m Unsigned (inr (inl e)) = rw e (omega arith)
   piece_fits n m Unsigned (inr (inr e)) = rw e (omega arith)
-  piece_fits n m Signed (inl e) = rw e (word8_fits (m % 256 ^ 1) (omega arith))
-  piece_fits n m Signed (inr (inl e)) = rw e (word16_fits (m % 256 ^ 2) (omega arith))
-  piece_fits n m Signed (inr (inr e)) = rw e (word32_fits (m % 256 ^ 4) (omega arith))
+  piece_fits n m Signed (inl e) = rw e (signed8_fits (m % 256 ^ 1) (omega arith))
+  piece_fits n m Signed (inr (inl e)) = rw e (signed16_fits (m % 256 ^ 2) (omega arith))
+  piece_fits n m Signed (inr (inr e)) = rw e (signed32_fits (m % 256 ^ 4) (omega arith))
 
   value_fits : (v : Value) (x : ℕ) → StandsFor r v x → ((n : ℕ) → v ≡ Num n → ⊥) → x < 2 ^ 64
   value_fits (Num n) x h apart = absurd (apart n refl)
@@ -288,7 +288,7 @@ module _ (r : Rewrite) (keeps : KeepsCode r) (facts : CodeFacts r.code) where
 
   -- roles
   lower_fits : (hi target : ℕ) → Target r.code target →
-      ((q : Placed) → placed_at r.code.funcs hi ≡ Some q → HasTarget q.role → target_of_role q.role ≡ target) →
+      ((q : Placed) → placed_at r.code.funcs hi ≡ Some q → HasTarget q.role → upper_target q.role ≡ target) →
       LowerFits r hi target
   lower_fits hi target t same = record { label = label target t; same = by }
     where
@@ -298,7 +298,7 @@ module _ (r : Rewrite) (keeps : KeepsCode r) (facts : CodeFacts r.code) where
           at : (o : Option Placed) → placed_at r.code.funcs hi ≡ o → IsSomeAnd o (λ p. HasTarget p.role) →
               target_at r.code.funcs hi ≡ target
           at None e h = absurd h
-          at (Some q) e h = ap (λ (o : Option Placed). option_map_or (λ p. target_of_role p.role) o 0) e ∙ same q e h
+          at (Some q) e h = ap (λ (o : Option Placed). option_map_or (λ p. upper_target p.role) o 0) e ∙ same q e h
 
   fits : (p : Placed) → Contains (insts_of r.code.funcs) p → (role : Role) → p.role ≡ role → RoleFits r.code role p.inst →
       Fits r p.addr role p.inst

@@ -31,7 +31,7 @@ use Rattle.sym_machine.specs.Rules.{is_lower, is_hi, is_abs, joined, goal, place
 use Rattle.sym_machine.specs.SymStep.{SymState, SymOutcome, needs}
 use Rattle.sym_machine.specs.SymStep as symbol
 use Rattle.move_law.specs.Rewrite.{Rewrite, out}
-use Rattle.move_law.specs.RelocatedValues.{distance, hi20_value, target_at, target_of_role, number_of_pointer}
+use Rattle.move_law.specs.RelocatedValues.{distance, hi20_value, target_at, upper_target, number_of_pointer}
 use Rattle.move_law.specs.SimulationRelation.{IsGivenPointer, IsGiven, HasTarget, StandsFor, RelatedData, RelatedPc}
 use Rattle.move_law.specs.FaithfulRewrite.{made_anew, with_immediate}
 use Rattle.move_law.proofs.values.Arithmetic.{Symbols, Label, number_stands, label_stands, only_stands, at_number}
@@ -42,7 +42,7 @@ use Rattle.move_law.proofs.steps.Effects.{computes, loads, stores, system_call, 
 use Rattle.move_law.proofs.steps.Jumps.{jumps_to}
 use Rattle.move_law.proofs.values.HiLoSums.{upper_of_distance_is, upper_of_number_is, distance_sum, number_sum}
 use Rattle.move_law.proofs.steps.Premises.{UpperFits, LowerFits, Fits}
-use Rattle.move_law.specs.AddressParts.{TakesLower}
+use Rattle.rv_code.specs.isa.AddressParts.{TakesLower}
 use Rattle.std.proofs.lemmas.Option.{same_Some}
 use Rattle.move_law.proofs.Lists.{if_found}
 
@@ -276,7 +276,7 @@ module _ (r : Rewrite) (L : ℕ → ℕ → Type 0) (symbols : Symbols r) (space
 
   -- any instruction that isn't a branch or a JAL
   pub arm : (part : Role) (inst : Inst) → IsPlain (action_of inst) → Fits r s.pc part inst → u.pc ≡ out r s.pc →
-      target_at r.code.funcs s.pc ≡ target_of_role part → (HasTarget part → IsGiven r (Hi s.pc)) →
+      target_at r.code.funcs s.pc ≡ upper_target part → (HasTarget part → IsGiven r (Hi s.pc)) →
       (IsNoJump (action_of inst) → RelatedPc r L next from) → (is_call (action_of inst) ≡ true → IsGivenPointer r (Ret s.pc)) →
       Follows r L (symbol.effect r.code.funcs part (action_of inst) next s)
       (byte.effect (action_of (made_anew (out r) s.pc part inst)) from u)

@@ -32,6 +32,7 @@ use Rattle.move_law.proofs.values.Arithmetic.{Symbols, number_stands}
 use Rattle.move_law.proofs.values.StoredValues.{IsSize, bytes_alike, numbers_alike, stored_stands, loaded_stands}
 use Rattle.move_law.proofs.steps.Outcomes.{SameSpaces, Follows, needs_found, checks_follows, stored_data, reads_alike, reads_can}
 use Rattle.move_law.proofs.steps.Outcomes.{writes_can, gives_follows, fixed_not_written, break_start_same, break_bound_same}
+use Rattle.move_law.proofs.steps.Outcomes.{lt_le}
 use Rattle.std.proofs.lemmas.Option.{same_Some}
 use Rattle.move_law.proofs.Lists.{if_found}
 
@@ -41,10 +42,10 @@ number_is r (Num m) x n h e = h.number ∙ same_Some m n e
 number_is r (Sym y) x n h e = absurd (cc)
 number_is r (Piece y w i k g) x n h e = absurd (cc)
 
-length_cells : {C : Type 0} (memory : ℕ → C) (a n : ℕ) → length (memory_bytes memory a n) ≡ n
+length_bytes : {C : Type 0} (memory : ℕ → C) (a n : ℕ) → length (memory_bytes memory a n) ≡ n
 unfolding memory_bytes
-length_cells memory a zero = refl
-length_cells memory a (suc n) = ap suc (length_cells memory (plus a 1) n)
+length_bytes memory a zero = refl
+length_bytes memory a (suc n) = ap suc (length_bytes memory (plus a 1) n)
 
 length_taken : (n : ℕ) (xs : List ℕ) → length (take n xs) ≤ n
 length_taken n xs = grind (arith, common_steps)
@@ -76,9 +77,6 @@ read_data r spaces s u rel a n bs rest can fits = record {
 
 le_le : (x y z : ℕ) → x ≤ y → y ≤ z → x ≤ z
 le_le x y z h k = omega (arith, h, k)
-
-lt_le : (x y z : ℕ) → x < y → y ≤ z → x < z
-lt_le x y z h k = omega (arith, h, k)
 
 -- a right that is there after the break is set was there before, but in what was gained
 had : (reads writes executes from to old : Bool) → (to ≡ true → old ≡ true) →
@@ -114,7 +112,7 @@ break_data r spaces s u rel to =
     u' = record u { program_break = to; memory = λ a. if nat_le u.program_break a && nat_lt a to then 0 else u.memory a }
 
     byte_zero : StandsForByte r (Byte 0) 0
-    byte_zero = record { cell = tt; given = tt; byte = refl }
+    byte_zero = record { made = tt; given = tt; byte = refl }
 
     -- an address that has a right afterwards had it before, or is one that was gained
     memory : (a : ℕ) → IsTrue (has_right s' a) → StandsForByte r (s'.memory a) (u'.memory a)
@@ -197,7 +195,7 @@ module _ (r : Rewrite) (L : ℕ → ℕ → Type 0) (symbols : Symbols r) (space
           if_found (λ w. StandsFor r w (extended e (little (memory_bytes u.memory n (bytes_of e)))))
           (loaded e (memory_bytes s.memory n (bytes_of e))) w found
           (loaded_stands r symbols e (memory_bytes s.memory n (bytes_of e)) (memory_bytes u.memory n (bytes_of e))
-          (length_cells s.memory n (bytes_of e)) (reads_alike r spaces s u rel n (bytes_of e) can))))))))
+          (length_bytes s.memory n (bytes_of e)) (reads_alike r spaces s u rel n (bytes_of e) can))))))))
 
   pub stores : (n a x : ℕ) (v : Value) (o : Option Value) → IsSize n → StandsFor r v x →
       IfSome o (λ w. (m : ℕ) → number w ≡ Some m → a ≡ m) →

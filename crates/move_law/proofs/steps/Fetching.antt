@@ -10,7 +10,7 @@ use Rattle.rv_code.specs.isa.InstBytes.{Decodes}
 use Rattle.rv_code.specs.isa.TwosComplement.{unsigned64}
 use Rattle.rv_code.specs.machine.Machine.{plus, all_may, memory_bytes, little, may_execute, SoFar, starts, more}
 use Rattle.rv_code.specs.machine.Step.{ByteState, halfword, fetched, effect, Steps, does}
-use Rattle.elf_image.specs.faults.SegmentLayout.{address_end}
+use Rattle.rv_code.specs.layout.FunctionLists.{address_end}
 use Rattle.elf_image.specs.code.Parts.{halfword_in, IsInstIn}
 use Rattle.move_law.specs.Rewrite.{Executable, memory_of, width_at, IsCodeByte, AreCodeBytes, HasAt, Goes, stays, jumps}
 use Rattle.rv_code.proofs.isa.EvenOffsets.{even_offset}
@@ -28,10 +28,10 @@ two_may : (may : ℕ → Bool) (a : ℕ) → a + 2 ≤ 2 ^ 64 → may a ≡ true
 unfolding all_may
 two_may may a room first second = rw (first, plus_inside a 1 (omega arith), second) refl
 
-two_cells : (memory : ℕ → ℕ) (a b c : ℕ) → a + 2 ≤ 2 ^ 64 → memory a ≡ b → memory (a + 1) ≡ c →
+two_bytes : (memory : ℕ → ℕ) (a b c : ℕ) → a + 2 ≤ 2 ^ 64 → memory a ≡ b → memory (a + 1) ≡ c →
     little (memory_bytes memory a 2) ≡ b + 256 * c
 unfolding memory_bytes little
-two_cells memory a b c room first second = rw (first, plus_inside a 1 (omega arith), second) (omega arith)
+two_bytes memory a b c room first second = rw (first, plus_inside a 1 (omega arith), second) (omega arith)
 
 shifted : (x : Executable) (p i j : ℕ) → IsCodeByte x (p + (i + j)) → IsCodeByte x (p + i + j)
 shifted x p i j is = let e : p + (i + j) ≡ p + i + j = omega arith in subst (λ (n : ℕ). IsCodeByte x n) e is
@@ -51,7 +51,7 @@ module _ (x : Executable) (b : ByteState) (has : HasCode x b) where
       let first : IsCodeByte x a = rw add-zero at (code 0 (omega arith)) in
       let second = code 1 (omega arith) in
       let low = has.low (a + 1) second in
-      two_cells b.memory a (unwrap_or (memory_of x a) 0) (unwrap_or (memory_of x (a + 1)) 0) (omega arith)
+      two_bytes b.memory a (unwrap_or (memory_of x a) 0) (unwrap_or (memory_of x (a + 1)) 0) (omega arith)
       (has.byte a first) (has.byte (a + 1) second)
 
   may_two : (a : ℕ) → AreCodeBytes x a 2 → all_may (may_execute b) a 2 ≡ true

@@ -26,7 +26,7 @@ use Rattle.sym_machine.specs.Rules.{tested, next_of, destination}
 use Rattle.sym_machine.specs.SymStep.{SymState, SymOutcome}
 use Rattle.sym_machine.specs.SymStep as symbol
 use Rattle.move_law.specs.Rewrite.{Rewrite, Executable, memory_of, width_at, out, inst_end, HasAt}
-use Rattle.move_law.specs.RelocatedValues.{target_at, target_of_role, number_of_pointer}
+use Rattle.move_law.specs.RelocatedValues.{target_at, upper_target, number_of_pointer}
 use Rattle.move_law.specs.SimulationRelation.{IsGivenPointer, IsGiven, HasTarget, RelatedData, RelatedPc}
 use Rattle.move_law.specs.FaithfulRewrite.{next, GetsToNext, made_anew, goes_on, HasInSpan, KeepsCall, KeepsBranch, same}
 use Rattle.move_law.specs.FaithfulRewrite.{opposite}
@@ -186,7 +186,7 @@ module _ (r : Rewrite) (L : ℕ → ℕ → Type 0) (facts : Facts r L) (p : Pla
   given : HasTarget p.role → IsGiven r (Hi p.addr)
   given target = rw there target
 
-  target_is : target_at r.code.funcs p.addr ≡ target_of_role p.role
+  target_is : target_at r.code.funcs p.addr ≡ upper_target p.role
   target_is = rw there refl
 
   even_end : (u : ByteState) (inst : Inst) → HasAt r.output (out r p.addr) inst → u.pc % 2 ≡ 0 →

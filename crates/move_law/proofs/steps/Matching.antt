@@ -13,7 +13,7 @@ use Rattle.rv_code.specs.machine.Step.{ByteState, ByteOutcome, Steps}
 use Rattle.rv_code.specs.machine.Step as byte
 use Rattle.rv_code.specs.isa.TwosComplement.{unsigned64}
 use Rattle.elf_image.specs.declared.segment.TheConstants.{PF_X}
-use Rattle.elf_image.specs.faults.SegmentLayout.{address_end}
+use Rattle.rv_code.specs.layout.FunctionLists.{address_end}
 use Rattle.sym_machine.specs.declared.outcome.Reason.TheVariants as reason
 use Rattle.sym_machine.specs.SymStep.{SymState, SymOutcome, sym_step, needs}
 use Rattle.move_law.specs.Rewrite.{Rewrite, width_at, out, IsCodeByte, Goes}

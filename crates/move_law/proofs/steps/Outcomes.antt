@@ -16,7 +16,7 @@ use Rattle.sym_machine.specs.declared.value.MemoryByte.{MemoryByte}
 use Rattle.sym_machine.specs.SymStep.{SymState, SymOutcome, needs, checks}
 use Rattle.move_law.specs.Rewrite.{Rewrite, memory_of}
 use Rattle.move_law.specs.SimulationRelation.{StandsFor, StandsForByte, RelatedData, RelatedPc}
-use Rattle.rv_code.proofs.machine.RelatedMemory.{Alike, set_alike, cells_alike, put_alike, put_keeps, all_may_implied}
+use Rattle.rv_code.proofs.machine.RelatedMemory.{Alike, set_alike, bytes_alike, put_alike, put_keeps, all_may_implied}
 
 -- What the two files give a program.
 pub record SameSpaces (r : Rewrite) : Type 0 where
@@ -64,8 +64,8 @@ or_last : (x y : Bool) → y ≡ true → x || y ≡ true
 or_last true y h = refl
 or_last false y h = h
 
-below : (x y z : ℕ) → x < y → y ≤ z → x < z
-below x y z h k = omega arith
+pub lt_le : (x y z : ℕ) → x < y → y ≤ z → x < z
+lt_le x y z h k = omega arith
 
 module _ (r : Rewrite) (spaces : SameSpaces r) (c : SymState) (b : ByteState) (rel : RelatedData r c b) where
   pub break_start_same : c.space.break_start ≡ b.space.break_start
@@ -121,13 +121,13 @@ module _ (r : Rewrite) (spaces : SameSpaces r) (c : SymState) (b : ByteState) (r
           ap (λ (s : Space). s.break_bound) rel.output_rights in
           let fits = rel.break_fits.1 in
           (spaces.fixed a byte e h).1 (rw (sym start_is) from)
-          (rw (sym bound_is) (below a b.program_break b.space.break_bound to fits))
+          (rw (sym bound_is) (lt_le a b.program_break b.space.break_bound to fits))
 
   -- Loads read related cells.
   pub reads_alike : (a n : ℕ) → all_may (may_read c) a n ≡ true →
       Alike (StandsForByte r) (memory_bytes c.memory a n) (memory_bytes b.memory a n)
   reads_alike a n can =
-      cells_alike (StandsForByte r) c.memory b.memory (may_read c) a n (λ q may. rel.memory q (rw may refl)) can
+      bytes_alike (StandsForByte r) c.memory b.memory (may_read c) a n (λ q may. rel.memory q (rw may refl)) can
 
   pub reads_can : (a n : ℕ) → all_may (may_read c) a n ≡ true → all_may (may_read b) a n ≡ true
   reads_can a n can = all_may_implied (may_read c) (may_read b) a n may_read_kept can

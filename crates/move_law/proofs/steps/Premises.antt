@@ -17,7 +17,7 @@ use Rattle.move_law.specs.SimulationRelation.{IsGiven}
 use Rattle.move_law.specs.FaithfulRewrite.{KeepsInst, GoesOn}
 use Rattle.move_law.proofs.steps.Outcomes.{SameSpaces}
 use Rattle.move_law.proofs.values.Arithmetic.{Symbols, Label}
-use Rattle.move_law.specs.AddressParts.{IsAuipc, IsLui, TakesLower}
+use Rattle.rv_code.specs.isa.AddressParts.{IsAuipc, IsLui, TakesLower}
 
 -- an AUIPC and its target
 pub record UpperFits (r : Rewrite) (a target : ℕ) : Type 0 where

@@ -31,15 +31,15 @@ walks matched r keeps c b rel (more {n = n} {trace = trace} {t = v} {u = d} e w 
     record { steps = w'.steps + m.0; few = omega arith; state = m.2; so_far = join w'.so_far m.3; related = m.4 }
 
 pub runs_kept_so_far : StartsRelated → StepsMatched → RunsKeptSoFar
-runs_kept_so_far started matched r keeps words input fit n trace run =
-    let w = walks matched r keeps (program_start (program r) words input) (start r.output.file words input)
-    (started r keeps words input fit) run.so_far in
+runs_kept_so_far started matched r keeps args input fit n trace run =
+    let w = walks matched r keeps (program_start (program r) args input) (start r.output.file args input)
+    (started r keeps args input fit) run.so_far in
     (w.steps, w.few, record { state = w.state; so_far = w.so_far })
 
 pub runs_kept : StartsRelated → StepsMatched → EndingsMatched → RunsKept
-runs_kept started matched ended r keeps words input fit n trace status run =
-    let w = walks matched r keeps (program_start (program r) words input) (start r.output.file words input)
-    (started r keeps words input fit) run.so_far in
+runs_kept started matched ended r keeps args input fit n trace status run =
+    let w = walks matched r keeps (program_start (program r) args input) (start r.output.file args input)
+    (started r keeps args input fit) run.so_far in
     let m = ended r keeps run.state w.state status w.related run.ends in
     let end = m.2 in
     let few = w.few in
@@ -53,7 +53,7 @@ runs_kept started matched ended r keeps words input fit n trace status run =
         last = omega arith;
         state = end.state;
         so_far =
-            subst (λ (l : List Event). SoFar Steps (start r.output.file words input) (w.steps + end.before) l end.state)
+            subst (λ (l : List Event). SoFar Steps (start r.output.file args input) (w.steps + end.before) l end.state)
             (append-nil trace) (join w.so_far end.so_far);
         ends = end.ends;
       },

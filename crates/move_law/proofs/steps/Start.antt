@@ -104,7 +104,7 @@ flags false false true s b e f h = inr (inr refl)
 flags false false false s b e f h =
     absurd (let k : ((false || false) || false) || ((false || false) || false) || false ≡ true = rw (e, f) at h in cc)
 
-module _ (r : Rewrite) (keeps : KeepsCode r) (words : List (List ℕ)) (fit : FitStack words) where
+module _ (r : Rewrite) (keeps : KeepsCode r) (args : List (List ℕ)) (fit : FitStack args) where
   pub entry_is : e_entry r.output.file ≡ out r r.input.entry
   entry_is = sym (ap (λ (x : Executable). x.entry) keeps.output.is) ∙ keeps.faithful.entry
 
@@ -128,43 +128,43 @@ module _ (r : Rewrite) (keeps : KeepsCode r) (words : List (List ℕ)) (fit : Fi
   entry_cell_is : (i n : ℕ) → i < 8 → n ≡ out r r.input.entry / 256 ^ i % 256 →
       StandsForByte r (SymbolByte (Points (Code r.input.entry)) 8 i) n
   entry_cell_is i n h e =
-      record { cell = (tt, inr refl, h); given = entry_named; byte = e ∙ one_byte (out r r.input.entry / 256 ^ i) }
+      record { made = (tt, inr refl, h); given = entry_named; byte = e ∙ one_byte (out r r.input.entry / 256 ^ i) }
     where
       one_byte : (m : ℕ) → m % 256 ≡ m % 256 ^ 1
       one_byte m = omega arith
 
   -- on the stack
-  in_words : (a : ℕ) → stack_pointer words ≤ a → a < stack_pointer words + 8 * (count words + 17) →
-      start_memory r.output.file words a ≡ get_or (stack_of words (table_address r.output.file) (e_phnum r.output.file)
-      (e_entry r.output.file)) (a - stack_pointer words) 0
-  in_words a from to =
-      let rooms = room words fit in
+  in_numbers : (a : ℕ) → stack_pointer args ≤ a → a < stack_pointer args + 8 * (count args + 17) →
+      start_memory r.output.file args a ≡ get_or (stack_of args (table_address r.output.file) (e_phnum r.output.file)
+      (e_entry r.output.file)) (a - stack_pointer args) 0
+  in_numbers a from to =
+      let rooms = room args fit in
       let end = rooms.0 in
       let fits = fit in
       let inside : in_stack a ≡ true = and_from (nat_le (stack_end - stack_size) a) (nat_lt a stack_end)
       (le-leb (stack_end - stack_size) a (omega (arith, fits, from))) (lt-ltb a stack_end (omega (arith, end, to))) in
-      rw (inside, le-leb (stack_pointer words) a from) (ap (λ (l : List ℕ). get_or l (a - stack_pointer words) 0)
-      (stack_is r.output.file words))
+      rw (inside, le-leb (stack_pointer args) a from) (ap (λ (l : List ℕ). get_or l (a - stack_pointer args) 0)
+      (stack_is r.output.file args))
 
-  entry_on_the_stack : (a : ℕ) → is_in_range a (at_entry words) ≡ true →
-      StandsForByte r (SymbolByte (Points (Code r.input.entry)) 8 (a - (at_entry words).start))
-      (start_memory r.output.file words a)
+  entry_on_the_stack : (a : ℕ) → is_in_range a (at_entry args) ≡ true →
+      StandsForByte r (SymbolByte (Points (Code r.input.entry)) 8 (a - (at_entry args).start))
+      (start_memory r.output.file args a)
   entry_on_the_stack a e =
-      let inside = inside_range a (at_entry words) e in
+      let inside = inside_range a (at_entry args) e in
       let from = inside.0 in
       let to = inside.1 in
-      let at : a - stack_pointer words ≡ 8 * (count words + 12) + (a - (at_entry words).start) = omega (arith, from, to) in
-      entry_cell_is (a - (at_entry words).start) (start_memory r.output.file words a) (omega (arith, from, to))
-      (in_words a (omega (arith, from)) (omega (arith, to))
-      ∙ ap (λ (k : ℕ). get_or (stack_of words (table_address r.output.file) (e_phnum r.output.file)
+      let at : a - stack_pointer args ≡ 8 * (count args + 12) + (a - (at_entry args).start) = omega (arith, from, to) in
+      entry_cell_is (a - (at_entry args).start) (start_memory r.output.file args a) (omega (arith, from, to))
+      (in_numbers a (omega (arith, from)) (omega (arith, to))
+      ∙ ap (λ (k : ℕ). get_or (stack_of args (table_address r.output.file) (e_phnum r.output.file)
       (e_entry r.output.file)) k 0) at
-      ∙ entry_on_stack words (table_address r.output.file) (e_phnum r.output.file) (e_entry r.output.file)
-      (a - (at_entry words).start) (omega (arith, from, to))
-      ∙ ap (λ (w : ℕ). w / 256 ^ (a - (at_entry words).start) % 256) entry_is)
+      ∙ entry_on_stack args (table_address r.output.file) (e_phnum r.output.file) (e_entry r.output.file)
+      (a - (at_entry args).start) (omega (arith, from, to))
+      ∙ ap (λ (w : ℕ). w / 256 ^ (a - (at_entry args).start) % 256) entry_is)
 
   entry_in_header : (a x : ℕ) → address_of r.input e_entry_field ≡ Some x →
       is_in_range a (record { start = x; size = 8 }) ≡ true →
-      StandsForByte r (SymbolByte (Points (Code r.input.entry)) 8 (a - x)) (start_memory r.output.file words a)
+      StandsForByte r (SymbolByte (Points (Code r.input.entry)) 8 (a - x)) (start_memory r.output.file args a)
   entry_in_header a x at e =
       let inside = inside_range a (record { start = x; size = 8 }) e in
       let from = inside.0 in
@@ -176,33 +176,33 @@ module _ (r : Rewrite) (keeps : KeepsCode r) (words : List (List ℕ)) (fit : Fi
       let back : x + (a - x) ≡ a = omega (arith, from) in
       let there' : memory_of r.output a ≡ Some (r.output.entry / 256 ^ (a - x) % 256) = ap (memory_of r.output) (sym back)
       ∙ there in
-      entry_cell_is (a - x) (start_memory r.output.file words a) (omega (arith, from, to))
-      (loaded_start r.output keeps.output words a (r.output.entry / 256 ^ (a - x) % 256) there'
+      entry_cell_is (a - x) (start_memory r.output.file args a) (omega (arith, from, to))
+      (loaded_start r.output keeps.output args a (r.output.entry / 256 ^ (a - x) % 256) there'
       ∙ ap (λ (w : ℕ). w / 256 ^ (a - x) % 256) keeps.faithful.entry)
 
-  entry_stands : (a : ℕ) (range : Range) → Contains (entry_fields r.input words) range → is_in_range a range ≡ true →
-      StandsForByte r (byte_of_entry r.input a range) (start_memory r.output.file words a)
+  entry_stands : (a : ℕ) (range : Range) → Contains (entry_fields r.input args) range → is_in_range a range ≡ true →
+      StandsForByte r (byte_of_entry r.input a range) (start_memory r.output.file args a)
   entry_stands a range is_in e =
       by (address_of r.input e_entry_field) refl
       (Contains-append_cases (option_map_or (λ a. record { start = a; size = 8 } ∷ []) (address_of r.input e_entry_field)
-      []) (at_entry words ∷ []) range is_in)
+      []) (at_entry args ∷ []) range is_in)
     where
       by : (o : Option ℕ) → address_of r.input e_entry_field ≡ o →
-          Contains (option_map_or (λ a. record { start = a; size = 8 } ∷ []) o []) range ⊎ Contains (at_entry words ∷ [])
-          range → StandsForByte r (byte_of_entry r.input a range) (start_memory r.output.file words a)
+          Contains (option_map_or (λ a. record { start = a; size = 8 } ∷ []) o []) range ⊎ Contains (at_entry args ∷ [])
+          range → StandsForByte r (byte_of_entry r.input a range) (start_memory r.output.file args a)
       by None k (inl c) = absurd (let l = c.1 in omega (arith, l))
       by (Some x) k (inl c) =
           let same : record { start = x; size = 8 } ≡ range = only_one (record { start = x; size = 8 }) range c in
           subst (λ (q : Range). is_in_range a q ≡ true → StandsForByte r (byte_of_entry r.input a q)
-          (start_memory r.output.file words a)) same (entry_in_header a x k) e
+          (start_memory r.output.file args a)) same (entry_in_header a x k) e
       by o k (inr c) =
-          let same : at_entry words ≡ range = only_one (at_entry words) range c in
+          let same : at_entry args ≡ range = only_one (at_entry args) range c in
           subst (λ (q : Range). is_in_range a q ≡ true → StandsForByte r (byte_of_entry r.input a q)
-          (start_memory r.output.file words a)) same (entry_on_the_stack a) e
+          (start_memory r.output.file args a)) same (entry_on_the_stack a) e
 
   -- cells
   cell_stands : (a : ℕ) (cell : CodeCell) → Contains r.code.cells cell → is_in_range a (code_cell_range cell) ≡ true →
-      StandsForByte r (byte_of_cell a cell) (start_memory r.output.file words a)
+      StandsForByte r (byte_of_cell a cell) (start_memory r.output.file args a)
   cell_stands a cell is_in e =
       let inside = inside_range a (code_cell_range cell) e in
       let from = inside.0 in
@@ -215,9 +215,9 @@ module _ (r : Rewrite) (keeps : KeepsCode r) (words : List (List ℕ)) (fit : Fi
       let there' : memory_of r.output a ≡ Some (v % 256 ^ cell.width / 256 ^ (a - cell.addr) % 256) =
       ap (memory_of r.output) (sym back) ∙ there in
       record {
-        cell = (symbol_tt cell.kind, width, omega (arith, from, to));
+        made = (symbol_tt cell.kind, width, omega (arith, from, to));
         given = given cell.kind refl;
-        byte = loaded_start r.output keeps.output words a (v % 256 ^ cell.width / 256 ^ (a - cell.addr) % 256) there'
+        byte = loaded_start r.output keeps.output args a (v % 256 ^ cell.width / 256 ^ (a - cell.addr) % 256) there'
             ∙ byte_of_width v cell.width (a - cell.addr) width (omega (arith, from, to));
       }
     where
@@ -269,11 +269,11 @@ module _ (r : Rewrite) (keeps : KeepsCode r) (words : List (List ℕ)) (fit : Fi
 
   -- all other bytes are as they were
 
-  at_entry_none : (a : ℕ) → find (is_in_range a) (entry_fields r.input words) ≡ None → is_in_range a (at_entry words) ≡ true → ⊥
+  at_entry_none : (a : ℕ) → find (is_in_range a) (entry_fields r.input args) ≡ None → is_in_range a (at_entry args) ≡ true → ⊥
   at_entry_none a none e =
-      find_none (is_in_range a) (entry_fields r.input words) (at_entry words) none
+      find_none (is_in_range a) (entry_fields r.input args) (at_entry args) none
       (Contains-append_right (option_map_or (λ a. record { start = a; size = 8 } ∷ []) (address_of r.input e_entry_field)
-      []) (at_entry words ∷ []) (at_entry words) (zero, omega arith, refl)) e
+      []) (at_entry args ∷ []) (at_entry args) (zero, omega arith, refl)) e
 
   counts_same : r.tight ≡ false → e_phnum r.output.file ≡ e_phnum r.input.file.now
   counts_same loose =
@@ -284,20 +284,20 @@ module _ (r : Rewrite) (keeps : KeepsCode r) (words : List (List ℕ)) (fit : Fi
       ∙ length-segments_from r.input.file.now (e_phoff r.input.file.now) (e_phnum r.input.file.now) in
       sym out_count ∙ sym same ∙ in_count
 
-  stack_same : (a : ℕ) → in_stack a ≡ true → find (is_in_range a) (entry_fields r.input words) ≡ None →
-      is_hidden_entry r.tight words a ≡ false → start_memory r.output.file words a ≡ start_memory r.input.file.now words a
-  stack_same a inside none hidden = rw inside (by (nat_le (stack_pointer words) a) refl)
+  stack_same : (a : ℕ) → in_stack a ≡ true → find (is_in_range a) (entry_fields r.input args) ≡ None →
+      is_hidden_entry r.tight args a ≡ false → start_memory r.output.file args a ≡ start_memory r.input.file.now args a
+  stack_same a inside none hidden = rw inside (by (nat_le (stack_pointer args) a) refl)
     where
-      word_at : (n : ℕ) → stack_pointer words ≤ a → (a - stack_pointer words) / 8 ≡ n →
-          is_in_range a (record { start = stack_pointer words + 8 * n; size = 8 }) ≡ true
-      word_at n from e =
-          holds_inside a (record { start = stack_pointer words + 8 * n; size = 8 }) (omega (arith, from, e))
+      number_there : (n : ℕ) → stack_pointer args ≤ a → (a - stack_pointer args) / 8 ≡ n →
+          is_in_range a (record { start = stack_pointer args + 8 * n; size = 8 }) ≡ true
+      number_there n from e =
+          holds_inside a (record { start = stack_pointer args + 8 * n; size = 8 }) (omega (arith, from, e))
           (omega (arith, from, e))
 
-      shown : (t : Bool) → r.tight ≡ t → is_in_range a (at_phdr words) || is_in_range a (at_phnum words) ≡ true → t ≡ false
+      shown : (t : Bool) → r.tight ≡ t → is_in_range a (at_phdr args) || is_in_range a (at_phnum args) ≡ true → t ≡ false
       shown false e h = refl
       shown true e h =
-          absurd (let f : (true && (is_in_range a (at_phdr words) || is_in_range a (at_phnum words))) ≡ false =
+          absurd (let f : (true && (is_in_range a (at_phdr args) || is_in_range a (at_phnum args))) ≡ false =
           rw e at hidden in let k : true ≡ false = sym h ∙ f in cc)
 
       or_here : (x y : Bool) → x ≡ true → x || y ≡ true
@@ -307,38 +307,38 @@ module _ (r : Rewrite) (keeps : KeepsCode r) (words : List (List ℕ)) (fit : Fi
       or_there true y e = refl
       or_there false y e = e
 
-      phdr : stack_pointer words ≤ a → (a - stack_pointer words) / 8 ≡ count words + 4 → r.tight ≡ false
+      phdr : stack_pointer args ≤ a → (a - stack_pointer args) / 8 ≡ count args + 4 → r.tight ≡ false
       phdr from e =
-          shown r.tight refl (or_here (is_in_range a (at_phdr words)) (is_in_range a (at_phnum words))
-          (word_at (count words + 4 + 2 * 0) from (omega (arith, e))))
+          shown r.tight refl (or_here (is_in_range a (at_phdr args)) (is_in_range a (at_phnum args))
+          (number_there (count args + 4 + 2 * 0) from (omega (arith, e))))
 
-      phnum : stack_pointer words ≤ a → (a - stack_pointer words) / 8 ≡ count words + 8 → r.tight ≡ false
+      phnum : stack_pointer args ≤ a → (a - stack_pointer args) / 8 ≡ count args + 8 → r.tight ≡ false
       phnum from e =
-          shown r.tight refl (or_there (is_in_range a (at_phdr words)) (is_in_range a (at_phnum words))
-          (word_at (count words + 4 + 2 * 2) from (omega (arith, e))))
+          shown r.tight refl (or_there (is_in_range a (at_phdr args)) (is_in_range a (at_phnum args))
+          (number_there (count args + 4 + 2 * 2) from (omega (arith, e))))
 
-      bytes : stack_pointer words ≤ a →
-          slice_index (stack_bytes r.output.file words) (a - stack_pointer words)
-          ≡ slice_index (stack_bytes r.input.file.now words) (a - stack_pointer words)
+      bytes : stack_pointer args ≤ a →
+          slice_index (stack_bytes r.output.file args) (a - stack_pointer args)
+          ≡ slice_index (stack_bytes r.input.file.now args) (a - stack_pointer args)
       bytes from =
-          ap (λ (l : List ℕ). get_or l (a - stack_pointer words) 0) (stack_is r.output.file words)
-          ∙ byte_same words (table_address r.output.file) (e_phnum r.output.file) (e_entry r.output.file)
-          (table_address r.input.file.now) (e_phnum r.input.file.now) (e_entry r.input.file.now) (a - stack_pointer words)
+          ap (λ (l : List ℕ). get_or l (a - stack_pointer args) 0) (stack_is r.output.file args)
+          ∙ byte_same args (table_address r.output.file) (e_phnum r.output.file) (e_entry r.output.file)
+          (table_address r.input.file.now) (e_phnum r.input.file.now) (e_entry r.input.file.now) (a - stack_pointer args)
           (λ e. sym (keeps.faithful.layout.table (phdr from e)).place)
           (λ e. counts_same (phnum from e))
-          (λ e. absurd (at_entry_none a none (word_at (count words + 4 + 2 * 4) from (omega (arith, e)))))
-          ∙ ap (λ (l : List ℕ). get_or l (a - stack_pointer words) 0) (sym (stack_is r.input.file.now words))
+          (λ e. absurd (at_entry_none a none (number_there (count args + 4 + 2 * 4) from (omega (arith, e)))))
+          ∙ ap (λ (l : List ℕ). get_or l (a - stack_pointer args) 0) (sym (stack_is r.input.file.now args))
 
-      by : (t : Bool) → nat_le (stack_pointer words) a ≡ t →
-          (if t then slice_index (stack_bytes r.output.file words) (a - stack_pointer words) else 0)
-          ≡ (if t then slice_index (stack_bytes r.input.file.now words) (a - stack_pointer words) else 0)
+      by : (t : Bool) → nat_le (stack_pointer args) a ≡ t →
+          (if t then slice_index (stack_bytes r.output.file args) (a - stack_pointer args) else 0)
+          ≡ (if t then slice_index (stack_bytes r.input.file.now args) (a - stack_pointer args) else 0)
       by false e = refl
-      by true e = bytes (leb-true (stack_pointer words) a e)
+      by true e = bytes (leb-true (stack_pointer args) a e)
 
   file_same : (a flag : ℕ) → is_loaded_with flag r.input.segments.items a ≡ true →
-      find (is_in_range a) (entry_fields r.input words) ≡ None → is_hidden_field r.input r.tight a ≡ false →
+      find (is_in_range a) (entry_fields r.input args) ≡ None → is_hidden_field r.input r.tight a ≡ false →
       find (λ c. is_in_range a (code_cell_range c)) r.code.cells ≡ None →
-      start_memory r.output.file words a ≡ start_memory r.input.file.now words a
+      start_memory r.output.file args a ≡ start_memory r.input.file.now args a
   file_same a flag loaded none hidden no_cell =
       let l = loaded_byte (executable_read r.input) flag a loaded in
       let kept = keeps.faithful.bytes a l.0 l.1 in
@@ -346,29 +346,29 @@ module _ (r : Rewrite) (keeps : KeepsCode r) (words : List (List ℕ)) (fit : Fi
       kept.same (or_false (list_any (λ cell. is_in_range a (code_cell_range cell)) r.code.cells) (is_in_entry_field r.input a)
       (is_hidden_field r.input r.tight a) (none_any (λ cell. is_in_range a (code_cell_range cell)) r.code.cells no_cell)
       (no_entry (address_of r.input e_entry_field) refl) hidden) in
-      loaded_start r.output keeps.output words a l.0 same
-      ∙ sym (loaded_start (executable_read r.input) (accepted_executable r.input r.code keeps.accepted) words a l.0 l.1)
+      loaded_start r.output keeps.output args a l.0 same
+      ∙ sym (loaded_start (executable_read r.input) (accepted_executable r.input r.code keeps.accepted) args a l.0 l.1)
     where
       no_entry : (o : Option ℕ) → address_of r.input e_entry_field ≡ o →
           option_map_or (λ start. is_in_range a (record { start = start; size = 8 })) o false ≡ false
       no_entry None e = refl
       no_entry (Some x) e = false_from_ne_true (is_in_range a (record { start = x; size = 8 })) (λ h.
-          let fields : entry_fields r.input words ≡ (record { start = x; size = 8 } ∷ []) ++ at_entry words ∷ [] =
-          ap (λ (o : Option ℕ). option_map_or (λ a. record { start = a; size = 8 } ∷ []) o [] ++ at_entry words ∷ []) e in
-          find_none (is_in_range a) ((record { start = x; size = 8 } ∷ []) ++ at_entry words ∷ [])
+          let fields : entry_fields r.input args ≡ (record { start = x; size = 8 } ∷ []) ++ at_entry args ∷ [] =
+          ap (λ (o : Option ℕ). option_map_or (λ a. record { start = a; size = 8 } ∷ []) o [] ++ at_entry args ∷ []) e in
+          find_none (is_in_range a) ((record { start = x; size = 8 } ∷ []) ++ at_entry args ∷ [])
           (record { start = x; size = 8 }) (ap (find (is_in_range a)) (sym fields) ∙ none) (zero, omega arith, refl) h)
 
-  pub memory : (a : ℕ) → IsTrue (has_right (program_start (program r) words []) a) →
-      StandsForByte r (sym_memory r.input r.code.cells r.tight words a) (start_memory r.output.file words a)
-  memory a right = by (find (is_in_range a) (entry_fields r.input words)) refl
+  pub memory : (a : ℕ) → IsTrue (has_right (program_start (program r) args []) a) →
+      StandsForByte r (sym_memory r.input r.code.cells r.tight args a) (start_memory r.output.file args a)
+  memory a right = by (find (is_in_range a) (entry_fields r.input args)) refl
     where
-      plain : find (is_in_range a) (entry_fields r.input words) ≡ None →
-          is_hidden_field r.input r.tight a || is_hidden_entry r.tight words a ≡ false →
+      plain : find (is_in_range a) (entry_fields r.input args) ≡ None →
+          is_hidden_field r.input r.tight a || is_hidden_entry r.tight args a ≡ false →
           find (λ c. is_in_range a (code_cell_range c)) r.code.cells ≡ None →
-          StandsForByte r (Byte (start_memory r.input.file.now words a)) (start_memory r.output.file words a)
+          StandsForByte r (Byte (start_memory r.input.file.now args a)) (start_memory r.output.file args a)
       plain none hidden no_cell =
-          let h = or_parts (is_hidden_field r.input r.tight a) (is_hidden_entry r.tight words a) hidden in
-          record { cell = tt; given = tt; byte = cases (in_stack a) refl h.0 h.1 }
+          let h = or_parts (is_hidden_field r.input r.tight a) (is_hidden_entry r.tight args a) hidden in
+          record { made = tt; given = tt; byte = cases (in_stack a) refl h.0 h.1 }
         where
           no_break : (nat_le (break_start r.input.segments.items) a && nat_lt a (break_start r.input.segments.items)) ≡ false
           no_break =
@@ -381,8 +381,8 @@ module _ (r : Rewrite) (keeps : KeepsCode r) (words : List (List ℕ)) (fit : Fi
               omega (arith, from, to))
 
           cases : (t : Bool) → in_stack a ≡ t → is_hidden_field r.input r.tight a ≡ false →
-              is_hidden_entry r.tight words a ≡ false →
-              start_memory r.output.file words a ≡ start_memory r.input.file.now words a
+              is_hidden_entry r.tight args a ≡ false →
+              start_memory r.output.file args a ≡ start_memory r.input.file.now args a
           cases true e f w = stack_same a e none w
           cases false e f w =
               elim (flags (is_loaded_with PF_R r.input.segments.items a) (is_loaded_with PF_W r.input.segments.items a)
@@ -394,50 +394,50 @@ module _ (r : Rewrite) (keeps : KeepsCode r) (words : List (List ℕ)) (fit : Fi
                 | inr (inr k) ↦ file_same a PF_X k none f no_cell
               ]
 
-      cell : find (is_in_range a) (entry_fields r.input words) ≡ None →
-          is_hidden_field r.input r.tight a || is_hidden_entry r.tight words a ≡ false → (q : Option CodeCell) →
+      cell : find (is_in_range a) (entry_fields r.input args) ≡ None →
+          is_hidden_field r.input r.tight a || is_hidden_entry r.tight args a ≡ false → (q : Option CodeCell) →
           find (λ c. is_in_range a (code_cell_range c)) r.code.cells ≡ q →
-          StandsForByte r (unwrap_or (option_map (byte_of_cell a) q) (Byte (start_memory r.input.file.now words a)))
-          (start_memory r.output.file words a)
+          StandsForByte r (unwrap_or (option_map (byte_of_cell a) q) (Byte (start_memory r.input.file.now args a)))
+          (start_memory r.output.file args a)
       cell none hidden None e = plain none hidden e
       cell none hidden (Some c) e =
           let f = find-found (λ c. is_in_range a (code_cell_range c)) r.code.cells c e in cell_stands a c f.1 f.0
 
-      hide : find (is_in_range a) (entry_fields r.input words) ≡ None → (h : Bool) →
-          (is_hidden_field r.input r.tight a || is_hidden_entry r.tight words a) ≡ h →
+      hide : find (is_in_range a) (entry_fields r.input args) ≡ None → (h : Bool) →
+          (is_hidden_field r.input r.tight a || is_hidden_entry r.tight args a) ≡ h →
           StandsForByte r
           (unwrap_or
           (option_or (if h then Some Hidden else None)
           (option_map (byte_of_cell a) (find (λ c. is_in_range a (code_cell_range c)) r.code.cells)))
-          (Byte (start_memory r.input.file.now words a))) (start_memory r.output.file words a)
-      hide none true e = record { cell = tt; given = tt; byte = tt }
+          (Byte (start_memory r.input.file.now args a))) (start_memory r.output.file args a)
+      hide none true e = record { made = tt; given = tt; byte = tt }
       hide none false e = cell none e (find (λ c. is_in_range a (code_cell_range c)) r.code.cells) refl
 
-      by : (o : Option Range) → find (is_in_range a) (entry_fields r.input words) ≡ o →
+      by : (o : Option Range) → find (is_in_range a) (entry_fields r.input args) ≡ o →
           StandsForByte r
           (unwrap_or
           (option_or (option_map (byte_of_entry r.input a) o)
-          (option_or (hidden_byte r.input r.tight words a) (code_cell_byte r.code.cells a)))
-          (Byte (start_memory r.input.file.now words a))) (start_memory r.output.file words a)
-      by None e = hide e (is_hidden_field r.input r.tight a || is_hidden_entry r.tight words a) refl
+          (option_or (hidden_byte r.input r.tight args a) (code_cell_byte r.code.cells a)))
+          (Byte (start_memory r.input.file.now args a))) (start_memory r.output.file args a)
+      by None e = hide e (is_hidden_field r.input r.tight a || is_hidden_entry r.tight args a) refl
       by (Some range) e =
-          let f = find-found (is_in_range a) (entry_fields r.input words) range e in entry_stands a range f.1 f.0
+          let f = find-found (is_in_range a) (entry_fields r.input args) range e in entry_stands a range f.1 f.0
 
 pub starts_related : StartsRelated
-starts_related r keeps words input fit = record {
+starts_related r keeps args input fit = record {
   pc = λ there. (
-    (rw (entry_is r keeps words fit) (place r keeps (Code r.input.entry) (entry_named r keeps words fit)).even),
-    stays (entry_is r keeps words fit),
+    (rw (entry_is r keeps args fit) (place r keeps (Code r.input.entry) (entry_named r keeps args fit)).even),
+    stays (entry_is r keeps args fit),
   );
   rest = record {
     zero_is = refl;
-    registers = λ i. number_stands r (start_registers words i);
-    memory = λ a right. memory r keeps words fit a right;
+    registers = λ i. number_stands r (start_registers args i);
+    memory = λ a right. memory r keeps args fit a right;
     input = refl;
     break_is = keeps.faithful.layout.break_start_is ∙ ap (λ (x : Executable). break_start x.segments) keeps.output.is;
     break_fits = (omega arith, bound_above (segments_of r.output.file));
     input_rights = refl;
     output_rights = ap (λ (x : Executable). space_of x.segments) (sym keeps.output.is);
-    loaded = λ a byte w e. loaded_start r.output keeps.output words a byte e;
+    loaded = λ a byte w e. loaded_start r.output keeps.output args a byte e;
   };
 }

@@ -71,7 +71,7 @@ next_byte x m i e = let p : 256 ^ suc i ≡ 256 ^ i * 256 = grind arith in rw (e
 
 pub bytes_alike : (r : Rewrite) (bs : List ℕ) → Alike (StandsForByte r) (map Byte bs) bs
 bytes_alike r [] = tt
-bytes_alike r (b ∷ bs) = (record { cell = tt; given = tt; byte = refl }, bytes_alike r bs)
+bytes_alike r (b ∷ bs) = (record { made = tt; given = tt; byte = refl }, bytes_alike r bs)
 
 pub numbers_alike : (r : Rewrite) (cs : List MemoryByte) (bs : List ℕ) → Alike (StandsForByte r) cs bs →
     IfSome (numbers cs) (λ ns. bs ≡ ns)
@@ -93,7 +93,7 @@ parts_alike : (r : Rewrite) (y : CodeSymbol) (w i n x : ℕ) → IsSymbol y → 
 unfolding symbol_bytes low_bytes
 parts_alike r y w i zero x s g wide fits e = tt
 parts_alike r y w i (suc n) x s g wide fits e = (
-  record { cell = (s, wide, omega (arith, fits)); given = g; byte = rw e (one_byte (number_of_symbol r y / 256 ^ i)) },
+  record { made = (s, wide, omega (arith, fits)); given = g; byte = rw e (one_byte (number_of_symbol r y / 256 ^ i)) },
   parts_alike r y w (suc i) n (x / 256) s g wide (omega (arith, fits)) (next_byte x (number_of_symbol r y) i e),
 )
   where
@@ -250,7 +250,7 @@ parts_inside r y w i (SymbolByte z v j ∷ cs) (b ∷ bs) inside h p =
     let p3 = and_parts (same_symbol y z) (w == v) p2.0 in
     let at : i ≡ j = eqb-true i j p2.1 in
     let wide : w ≡ v = eqb-true w v p3.1 in
-    let below : j < v = (h.0.cell).2 in
+    let below : j < v = (h.0.made).2 in
     let rest = parts_inside r y w (suc i) cs bs (omega (arith, at, wide, below)) h.1 p1.1 in
     omega (arith, rest)
 
@@ -324,9 +324,9 @@ loaded_symbol_stands r f e (SymbolByte y w i ∷ cs) (b ∷ bs) len h = cases (a
         (next_byte m (number_of_symbol r y) i refl) h.1 g in
         let first : b ≡ m % 256 = h.0.byte ∙ one_byte m in
         let bytes : b ∷ bs ≡ low_bytes (suc (length cs)) m = rw (first, rest) refl in
-        let below : suc i ≤ w = (h.0.cell).2 in
+        let below : suc i ≤ w = (h.0.made).2 in
         let inside = parts_inside r y w (suc i) cs bs below h.1 g in
-        piece_stands r f e y w i (little (b ∷ bs)) (h.0.cell).0 h.0.given (h.0.cell).1 (rw (sym len) (omega (arith, inside)))
+        piece_stands r f e y w i (little (b ∷ bs)) (h.0.made).0 h.0.given (h.0.made).1 (rw (sym len) (omega (arith, inside)))
         (ap little bytes ∙ little_low_bytes (suc (length cs)) m ∙ ap (λ (n : ℕ). m % 256 ^ n) len)
 
 pub loaded_stands : (r : Rewrite) → Symbols r → (e : Extension) (cs : List MemoryByte) (bs : List ℕ) →

@@ -14,15 +14,15 @@ use Rattle.sym_machine.specs.Values.{symbol_bytes}
 use Rattle.sym_machine.specs.Rules.{piece}
 
 -- what stands in memory after a store of n bytes
-abbrev pub stored_cells : ℕ → Stored → List MemoryByte
-stored_cells n (store.Number x) = map Byte (low_bytes n x)
-stored_cells n (store.Symbol from) = symbol_bytes from.symbol from.width from.first n
+abbrev pub stored_bytes : ℕ → Stored → List MemoryByte
+stored_bytes n (store.Number x) = map Byte (low_bytes n x)
+stored_bytes n (store.Symbol from) = symbol_bytes from.symbol from.width from.first n
 
 abbrev pub symbol_piece : Extension → SymbolBytes → Option Value
 symbol_piece e from = piece e from.symbol from.width from.first
 
 -- an action that is neither a store nor a system call
-abbrev pub IsQuiet : Action → Type 0
-IsQuiet (Store n rs1 rs2 imm) = ⊥
-IsQuiet SystemCall = ⊥
-IsQuiet _ = Unit {0}
+abbrev pub ChangesRegistersOnly : Action → Type 0
+ChangesRegistersOnly (Store n rs1 rs2 imm) = ⊥
+ChangesRegistersOnly SystemCall = ⊥
+ChangesRegistersOnly _ = Unit {0}

@@ -20,11 +20,11 @@ as_byte (other.Symbol y w i) = SymbolByte y w i
 as_byte other.Hidden = Hidden
 
 -- another byte stands over the number
-abbrev pub cell_over : Option OtherByte → ℕ → MemoryByte
-cell_over o b = option_map_or as_byte o (Byte b)
+abbrev pub byte_over : Option OtherByte → ℕ → MemoryByte
+byte_over o b = option_map_or as_byte o (Byte b)
 
-abbrev pub cell_at : SymMemory → ℕ → MemoryByte
-cell_at m a = cell_over (other_byte m.others a) (memory_of m.bytes a)
+abbrev pub memory_at : SymMemory → ℕ → MemoryByte
+memory_at m a = byte_over (other_byte m.others a) (memory_of m.bytes a)
 
 -- bytes of a symbol, as they are kept beside the numbers
 unfoldable pub other_bytes : CodeSymbol → ℕ → ℕ → ℕ → List (Option OtherByte)
@@ -35,9 +35,9 @@ abbrev pub is_number_at : SymMemory → ℕ → Bool
 is_number_at m a = is_none (other_byte m.others a)
 
 abbrev pub is_open_at : SymMemory → ℕ → Bool
-is_open_at m a = not (is_hidden (cell_at m a))
+is_open_at m a = not (is_hidden (memory_at m a))
 
--- the symbol of which cells are successive bytes, all kept in one width
+-- the symbol of which bytes of memory are successive bytes, all kept in one width
 abbrev pub symbol_in : List MemoryByte → Option SymbolBytes
 symbol_in (SymbolByte y w i ∷ cs) =
     if are_symbol_bytes y w (suc i) cs then Some (record { symbol = y; width = w; first = i }) else None
@@ -56,8 +56,8 @@ abbrev pub HasGroups : OtherBytes → ℕ → ℕ → Type 0
 HasGroups others a n = (k : ℕ) → k < n → has_group others (plus a k) ≡ true
 
 -- what stands at an address after the break was asked to go to a place
-abbrev pub cell_after : SymMemory → ℕ → ℕ → MemoryByte
-cell_after m to a =
+abbrev pub memory_after : SymMemory → ℕ → ℕ → MemoryByte
+memory_after m to a =
     if may_stand m.bytes to
-    then (if nat_le m.bytes.program_break a && nat_lt a to then Byte 0 else cell_at m a)
-    else cell_at m a
+    then (if nat_le m.bytes.program_break a && nat_lt a to then Byte 0 else memory_at m a)
+    else memory_at m a

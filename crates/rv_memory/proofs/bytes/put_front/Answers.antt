@@ -1,6 +1,6 @@
 use Rattle.std.proofs.Common.{◌∙◌, ap, take}
 use Rattle.rv_memory.specs.Patches.{patched}
-use Rattle.rv_memory.proofs.Cells.{low_bytes_of}
+use Rattle.rv_memory.proofs.MemoryBytes.{low_bytes_of}
 use Rattle.rv_memory.proofs.bytes.put_front.Goals as goal
 
 pub returns : goal.returns

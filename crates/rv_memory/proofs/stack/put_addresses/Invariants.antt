@@ -4,9 +4,9 @@ use Rattle.rv_code.specs.machine.Machine.{low_bytes}
 use Rattle.elf_image.specs.memory.Start.{text_addresses, program_arguments}
 use Rattle.rv_memory.proofs.stack.put_addresses.Given as goal
 
-abbrev pub invariant-loop-word : goal.invariant-loop-word
-invariant-loop-word l = record {
-  written : l.out.items ++ flat_map (low_bytes 8) (text_addresses l.next (map string_bytes (drop l.word-index l.words)))
-      ≡ l.fn.out.items ++ flat_map (low_bytes 8) (text_addresses l.address (program_arguments (map string_bytes l.words)));
-  room : l.next + length (flat_map (λ text. text ++ 0 ∷ []) (map string_bytes (drop l.word-index l.words))) ≤ 2 ^ 38;
+abbrev pub invariant-loop-arg : goal.invariant-loop-arg
+invariant-loop-arg l = record {
+  written : l.out.items ++ flat_map (low_bytes 8) (text_addresses l.next (map string_bytes (drop l.arg-index l.args)))
+      ≡ l.fn.out.items ++ flat_map (low_bytes 8) (text_addresses l.address (program_arguments (map string_bytes l.args)));
+  room : l.next + length (flat_map (λ text. text ++ 0 ∷ []) (map string_bytes (drop l.arg-index l.args))) ≤ 2 ^ 38;
 }

@@ -8,42 +8,42 @@ use Rattle.rv_memory.proofs.stack.stack_bytes.Goals as goal
 
 pub overflow_sub-address : goal.overflow_sub-address
 overflow_sub-address c =
-    let words : List (List ℕ) = map string_bytes c.args.words.now in
-    let ends : length c.deref-ends.result.now ≡ length (texts words) =
+    let args : List (List ℕ) = map string_bytes c.args.args.now in
+    let ends : length c.deref-ends.result.now ≡ length (texts args) =
     ap length (c.deref-ends.ensures.value ∙ c.in_ok-ends.ensures) in
-    omega (arith, ends, length-texts words c.requires.limits)
+    omega (arith, ends, length-texts args c.requires.limits)
 
 pub stack_pointer-pointer-requires-clause-room : goal.stack_pointer-pointer-requires-clause-room
 stack_pointer-pointer-requires-clause-room c =
-    let words : List (List ℕ) = map string_bytes c.args.words.now in
-    let ends : length c.deref-ends.result.now ≡ length (texts words) =
+    let args : List (List ℕ) = map string_bytes c.args.args.now in
+    let ends : length c.deref-ends.result.now ≡ length (texts args) =
     ap length (c.deref-ends.ensures.value ∙ c.in_ok-ends.ensures) in
-    omega (arith, ends, length-texts words c.requires.limits)
+    omega (arith, ends, length-texts args c.requires.limits)
 
 pub returns : goal.returns
 returns c =
     let file = c.args.elf.now.file.now in
-    let words : List (List ℕ) = map string_bytes c.args.words.now in
-    let ends : c.deref-ends.result.now ≡ texts words = c.deref-ends.ensures.value ∙ c.in_ok-ends.ensures in
-    let address : random_address - length c.deref-ends.result.now ≡ texts_address words =
+    let args : List (List ℕ) = map string_bytes c.args.args.now in
+    let ends : c.deref-ends.result.now ≡ texts args = c.deref-ends.ensures.value ∙ c.in_ok-ends.ensures in
+    let address : random_address - length c.deref-ends.result.now ≡ texts_address args =
     ap (λ (bytes : List ℕ). random_address - length bytes) ends in
-    let count : length c.args.words.now + 1 ≡ length (program_arguments words) =
-    omega (arith, length-map c.args.words.now string_bytes) in
-    let pointer : c.stack_pointer-pointer.result ≡ stack_pointer words =
+    let count : length c.args.args.now + 1 ≡ length (program_arguments args) =
+    omega (arith, length-map c.args.args.now string_bytes) in
+    let pointer : c.stack_pointer-pointer.result ≡ stack_pointer args =
     c.stack_pointer-pointer.ensures
-    ∙ ap (λ (a : ℕ). rounded_down 16 (a - 8 * (length c.args.words.now + 1 + 17))) address
-    ∙ ap (λ (n : ℕ). rounded_down 16 (texts_address words - 8 * (n + 17))) count in
+    ∙ ap (λ (a : ℕ). rounded_down 16 (a - 8 * (length c.args.args.now + 1 + 17))) address
+    ∙ ap (λ (n : ℕ). rounded_down 16 (texts_address args - 8 * (n + 17))) count in
     let size : random_address - length c.deref-ends.result.now - c.stack_pointer-pointer.result
-    ≡ texts_address words - stack_pointer words =
-    ap (λ (a : ℕ). a - c.stack_pointer-pointer.result) address ∙ ap (λ (p : ℕ). texts_address words - p) pointer in
-    let n = texts_address words - stack_pointer words in
-    let resized : c.resize.new.self.items ≡ start_bytes file words ++ replicate (n - length (start_bytes file words)) 0 =
+    ≡ texts_address args - stack_pointer args =
+    ap (λ (a : ℕ). a - c.stack_pointer-pointer.result) address ∙ ap (λ (p : ℕ). texts_address args - p) pointer in
+    let n = texts_address args - stack_pointer args in
+    let resized : c.resize.new.self.items ≡ start_bytes file args ++ replicate (n - length (start_bytes file args)) 0 =
     c.in_ok-resize.ensures.items
     ∙ ap (λ k. take k c.in_ok-out.out.items ++ replicate (k - c.in_ok-out.out.len) 0) size
-    ∙ padded c.in_ok-out.out.items (start_bytes file words) n c.in_ok-out.out.len
-    (n - length (start_bytes file words)) c.in_ok-out.ensures (search rules)
-    (start_bytes-room file words c.requires.limits) refl in
+    ∙ padded c.in_ok-out.out.items (start_bytes file args) n c.in_ok-out.out.len
+    (n - length (start_bytes file args)) c.in_ok-out.ensures (search rules)
+    (start_bytes-room file args c.requires.limits) refl in
     c.in_ok-extend_from_slice-2.ensures.items
     ∙ ap (λ bytes. bytes ++ random_bytes)
     (c.in_ok-extend_from_slice.ensures.items ∙ ap (λ bytes. bytes ++ c.deref-ends.result.now) resized
-    ∙ ap (λ bytes. (start_bytes file words ++ replicate (n - length (start_bytes file words)) 0) ++ bytes) ends)
+    ∙ ap (λ bytes. (start_bytes file args ++ replicate (n - length (start_bytes file args)) 0) ++ bytes) ends)

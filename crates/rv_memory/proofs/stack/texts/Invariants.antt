@@ -3,7 +3,7 @@ use Rattle.std.specs.Prelude.{flat_map, map, string_bytes}
 use Rattle.elf_image.specs.memory.Start.{texts}
 use Rattle.rv_memory.proofs.stack.texts.Given as goal
 
-abbrev pub invariant-loop-word : goal.invariant-loop-word
-invariant-loop-word l =
-    l.out.items ++ flat_map (λ text. text ++ 0 ∷ []) (map string_bytes (drop l.word-index l.words))
-    ≡ texts (map string_bytes l.words)
+abbrev pub invariant-loop-arg : goal.invariant-loop-arg
+invariant-loop-arg l =
+    l.out.items ++ flat_map (λ text. text ++ 0 ∷ []) (map string_bytes (drop l.arg-index l.args))
+    ≡ texts (map string_bytes l.args)

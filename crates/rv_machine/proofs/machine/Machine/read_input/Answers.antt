@@ -10,7 +10,7 @@ use Rattle.rv_machine.specs.State.{state_of}
 use Rattle.rv_memory.proofs.Spaces.{space_in-keeps}
 use Rattle.rv_memory.specs.Memory.{writes}
 use Rattle.rv_memory.proofs.CodeKept.{all_may_front, writable-keeps}
-use Rattle.rv_memory.proofs.Cells.{put_same}
+use Rattle.rv_memory.proofs.MemoryBytes.{put_same}
 use Rattle.rv_machine.proofs.CallSteps.{after_read, read_event, read_call-reads, read_call-traps, read_writes_nothing}
 use Rattle.rv_machine.proofs.machine.Machine.read_input.Goals as goal
 

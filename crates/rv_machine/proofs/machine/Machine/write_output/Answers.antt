@@ -34,7 +34,7 @@ returns-in-Took-clause-answer g c = λ input ended.
           let size : c.buffer_size-count.result ≡ buffer_size s = c.buffer_size-count.ensures.is rest in
           let may_read_all : all_may (may_read s) (s.registers a1) (buffer_size s) ≡ true =
           rw (c.register-address.ensures, size) at (sym c.may_all.ensures ∙ c.if-not-may_all.false) in
-          let cells : memory_bytes s.memory (s.registers a1) (buffer_size s) ≡ moved =
+          let moved_is : memory_bytes s.memory (s.registers a1) (buffer_size s) ≡ moved =
           sym (rw (c.register-address.ensures, size) at (c.deref.ensures.value ∙ c.in-Ok.ensures)) in
           let got : length moved ≡ c.in-Took.count = sym c.in-Took.ensures.whole in
           let state = c.return_value.ensures.state rest in
@@ -49,7 +49,7 @@ returns-in-Took-clause-answer g c = λ input ended.
           record {
             event = Some (write_event s moved);
             comes_to = ap (λ x. Going x (Some (write_event s moved))) (sym (same_state (after_write s c.args.next moved) t same))
-                ∙ sym (write_call-writes s c.args.next moved may_read_all cells);
+                ∙ sym (write_call-writes s c.args.next moved may_read_all moved_is);
             taken_is =
                 c.in-Took.ensures.all ∙ ap (append_known (g.O.Sink.seen c.args.out.now).taken) (sym (write_writes s moved));
           };
@@ -67,12 +67,12 @@ returns-clause-answer g c = λ input ended. record {
       let size : c.buffer_size-count.result ≡ buffer_size s = c.buffer_size-count.ensures.is input in
       let may : all_may (may_read s) (s.registers a1) (buffer_size s) ≡ true =
       rw (c.register-address.ensures, size) at (sym c.may_all.ensures ∙ c.if-not-may_all.false) in
-      let cells : memory_bytes s.memory (s.registers a1) (buffer_size s) ≡ moved =
+      let moved_is : memory_bytes s.memory (s.registers a1) (buffer_size s) ≡ moved =
       sym (rw (c.register-address.ensures, size) at (c.deref.ensures.value ∙ c.in-Ok.ensures)) in
       record {
         next = after_write s c.args.next moved;
         event = write_event s moved;
-        comes_to = sym (write_call-writes s c.args.next moved may cells);
+        comes_to = sym (write_call-writes s c.args.next moved may moved_is);
         number_is = refl;
         front = c.in-Failed.ensures.front refl;
       };

@@ -1,6 +1,6 @@
 use Rattle.std.proofs.Common.{◌≡◌, ◌≤◌, ◌^◌, ◌-◌, suc, ap, arith, ℕ}
 use Rattle.std.proofs.Math.Nat.{pow-suc}
-use Rattle.rv_memory.proofs.Cells.{byte_power}
+use Rattle.rv_memory.proofs.MemoryBytes.{byte_power}
 use Rattle.rv_memory.proofs.memory.Memory.+number_of_bytes.Goals as goal
 
 pub overflow_mul-result : goal.overflow_mul-result

@@ -2,7 +2,7 @@ use Rattle.std.proofs.Common.{◌-◌, ◌+◌, ◌∙◌, sym, ap, arith}
 use Rattle.std.specs.Prelude.{◌&&◌}
 use Rattle.rv_code.specs.machine.Machine.{plus, all_may}
 use Rattle.rv_memory.specs.Memory.{may}
-use Rattle.rv_memory.proofs.Cells.{all_may_none, all_may_next}
+use Rattle.rv_memory.proofs.MemoryBytes.{all_may_none, all_may_next}
 use Rattle.rv_memory.proofs.memory.Memory.may_each.Goals as goal
 
 pub returns-then-not-may : goal.returns-then-not-may

@@ -2,7 +2,7 @@ use Rattle.std.proofs.Common.{◌≡◌, ◌<◌, ◌-◌, ◌+◌, rules, arith
 use Rattle.std.proofs.lemmas.Grind.{common_steps}
 use Rattle.rv_code.specs.machine.Machine.{plus}
 use Rattle.rv_memory.specs.Memory.{memory_of}
-use Rattle.rv_memory.proofs.Cells.{put_none, put_next}
+use Rattle.rv_memory.proofs.MemoryBytes.{put_none, put_next}
 use Rattle.rv_memory.specs.Memory.{writes}
 use Rattle.rv_memory.proofs.CodeKept.{all_may_each, writable-keeps}
 use Rattle.std.proofs.Common.{◌∙◌, ap, drop}

@@ -1,7 +1,7 @@
 use Rattle.std.proofs.Common.{◌≡◌, ◌∙◌, ap, take}
 use Rattle.rv_code.specs.machine.Machine.{put}
 use Rattle.rv_memory.specs.Memory.{memory_of}
-use Rattle.rv_memory.proofs.Cells.{low_bytes_of, put_same}
+use Rattle.rv_memory.proofs.MemoryBytes.{low_bytes_of, put_same}
 use Rattle.std.proofs.Common.{subst, sym, length, true}
 use Rattle.rv_code.specs.machine.Machine.{all_may}
 use Rattle.rv_memory.specs.Memory.{writes}

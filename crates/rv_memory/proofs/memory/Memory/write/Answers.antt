@@ -2,7 +2,7 @@ use Rattle.std.proofs.Common.{length}
 use Rattle.rv_memory.proofs.CodeKept.{writable-keeps}
 use Rattle.std.proofs.Common.{◌∙◌}
 use Rattle.rv_memory.specs.Memory.{memory_of}
-use Rattle.rv_memory.proofs.Cells.{put_same}
+use Rattle.rv_memory.proofs.MemoryBytes.{put_same}
 use Rattle.rv_memory.proofs.memory.Memory.write.Goals as goal
 
 pub overwrite-requires-clause-writable : goal.overwrite-requires-clause-writable

@@ -3,7 +3,7 @@ use Rattle.std.specs.Prelude.{is_some}
 use Rattle.rv_code.specs.machine.Machine.{low_bytes}
 use Rattle.rv_memory.specs.PageIndex.{place_of}
 use Rattle.rv_memory.specs.Patches.{patched}
-use Rattle.rv_memory.proofs.PatchedBytes.{length-low_bytes}
+use Rattle.rv_code.proofs.machine.LowBytes.{length_low_bytes}
 use Rattle.rv_memory.proofs.PageBytes.{vector_written, page_byte-some, page_byte-none}
 use Rattle.rv_memory.proofs.pages.Pages.put.Goals as goal
 
@@ -13,7 +13,7 @@ returns-in-Some-clause-put c = λ put q.
     let a = c.args.address in
     let low = low_bytes c.args.count c.args.number in
     let found : place_of p.index (a / 4096) ≡ Some c.in-Some.place = sym c.place.ensures ∙ c.in-Some.is in
-    let in_page : a % 4096 + length low ≤ 4096 = omega (arith, c.requires.within, length-low_bytes c.args.count c.args.number) in
+    let in_page : a % 4096 + length low ≤ 4096 = omega (arith, c.requires.within, length_low_bytes c.args.count c.args.number) in
     vector_written p c.put_number.new.bytes low a c.in-Some.place found in_page
     (c.put_number.ensures ∙ ap (patched (c.in-Some.place * 4096 + a % 4096) low) c.deref_mut.ensures.value) q
 

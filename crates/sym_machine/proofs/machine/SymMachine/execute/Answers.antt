@@ -14,13 +14,13 @@ returns-in-Store-clause-answer c = λ input.
     let s = state_of m input in
     let fits : FitsSigned w64 c.in-Store.imm = search rules in
     let offset : c.cast_unsigned.result ≡ unsigned64 c.in-Store.imm = simp to_z-of_z at c.cast_unsigned.ensures in
-    let is : stores s c.args.next c.in-Store.bytes c.register-value.result (place (funcs_of m) c.args.part c.register-base.result
-    c.cast_unsigned.result) ≡ effect (funcs_of m) c.args.part c.args.action c.args.next s =
+    let is : stores s c.args.next c.in-Store.bytes c.register-value.result (place (funcs_of m) c.args.role c.register-base.result
+    c.cast_unsigned.result) ≡ effect (funcs_of m) c.args.role c.args.action c.args.next s =
     ap (λ v. stores s c.args.next c.in-Store.bytes v
-    (place (funcs_of m) c.args.part c.register-base.result c.cast_unsigned.result)) c.register-value.ensures
+    (place (funcs_of m) c.args.role c.register-base.result c.cast_unsigned.result)) c.register-value.ensures
     ∙ ap (λ b. stores s c.args.next c.in-Store.bytes (s.registers c.in-Store.rs2)
-    (place (funcs_of m) c.args.part b c.cast_unsigned.result)) c.register-base.ensures
+    (place (funcs_of m) c.args.role b c.cast_unsigned.result)) c.register-base.ensures
     ∙ ap (λ (o : ℕ). stores s c.args.next c.in-Store.bytes (s.registers c.in-Store.rs2)
-    (place (funcs_of m) c.args.part (s.registers c.in-Store.rs1) o)) offset
-    ∙ ap (λ a. effect (funcs_of m) c.args.part a c.args.next s) (sym c.in-Store.is) in
+    (place (funcs_of m) c.args.role (s.registers c.in-Store.rs1) o)) offset
+    ∙ ap (λ a. effect (funcs_of m) c.args.role a c.args.next s) (sym c.in-Store.is) in
     subst (λ o. Becomes o c.store.result m c.store.new.self input) is (c.store.ensures.answer input)

@@ -13,7 +13,7 @@ use Rattle.sym_machine.specs.declared.value.Value.TheVariants.{Num}
 use Rattle.sym_machine.specs.declared.value.MemoryByte.TheVariants.{Byte}
 use Rattle.sym_machine.specs.SymStep.{moving_event}
 use Rattle.sym_machine.specs.MachineState.{state_of}
-use Rattle.sym_machine.specs.internal.Memory.{cell_at}
+use Rattle.sym_machine.specs.internal.Memory.{memory_at}
 use Rattle.sym_machine.proofs.SamePuts.{put_same}
 use Rattle.sym_machine.proofs.CallEffects.{after_read, reads, read_writes_nothing}
 use Rattle.sym_machine.proofs.machine.SymMachine.read_input.Goals as goal
@@ -45,7 +45,7 @@ returns-in-Bytes-clause-answer g c = λ output.
             pc_is = state.pc_is;
             registers_are = λ r. ap (λ n. set_register a0 (Num n) s.registers r) got ∙ state.registers_are r;
             memory_is = λ q.
-                put_same s.memory (cell_at c.buffer.new.self) (λ x. sym (c.buffer.ensures.kept x)) b.address q (map Byte bytes)
+                put_same s.memory (memory_at c.buffer.new.self) (λ x. sym (c.buffer.ensures.kept x)) b.address q (map Byte bytes)
                 ∙ sym (c.overwrite.ensures.written q)
                 ∙ state.memory_is q;
             space_is =

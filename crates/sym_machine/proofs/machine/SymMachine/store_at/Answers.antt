@@ -3,7 +3,7 @@ use Rattle.rv_code.specs.machine.Machine.{all_may, may_write, put}
 use Rattle.rv_memory.proofs.Spaces.{space_in-keeps}
 use Rattle.run_core.specs.States.{Same}
 use Rattle.sym_machine.specs.MachineState.{state_of}
-use Rattle.sym_machine.specs.internal.Accesses.{stored_cells}
+use Rattle.sym_machine.specs.internal.Accesses.{stored_bytes}
 use Rattle.sym_machine.proofs.Options.{from_err}
 use Rattle.sym_machine.proofs.machine.SymMachine.store_at.Goals as goal
 
@@ -15,7 +15,7 @@ returns-clause-answer c = λ input.
     let ok : IsOk c.store.result = search rules in
     let same : Same (record s {
       pc = c.args.next;
-      memory = put s.memory c.args.address (stored_cells c.args.count c.args.stored);
+      memory = put s.memory c.args.address (stored_bytes c.args.count c.args.stored);
     }) (state_of (record { pc = c.args.next; registers = m.registers; memory = c.store.new.self; code = m.code }) input) =
     record {
       pc_is = refl;

@@ -13,7 +13,7 @@ use Rattle.sym_machine.specs.SymStep.{moving_event}
 use Rattle.sym_machine.specs.Values.{numbers, is_hidden}
 use Rattle.sym_machine.specs.MachineState.{state_of}
 use Rattle.sym_machine.specs.internal.OtherBytes.{other_byte}
-use Rattle.sym_machine.proofs.MemoryCells.{numbers_none}
+use Rattle.sym_machine.proofs.SymbolMemory.{numbers_none}
 use Rattle.sym_machine.proofs.CallEffects.{after_write, writes, writes_symbols, write_writes}
 use Rattle.sym_machine.proofs.machine.SymMachine.write_output.Goals as goal
 
@@ -27,13 +27,13 @@ returns-then-not-are_numbers-clause-answer g c = λ input ended.
           let size : c.count-count.result ≡ min b.size most_moved = c.count-count.ensures.is in
           let may : all_may (may_read s) b.address (min b.size most_moved) ≡ true =
           rw size at (sym c.may_all.ensures ∙ c.if-not-may_all.false) in
-          let open_cells : list_any is_hidden (memory_bytes s.memory b.address (min b.size most_moved)) ≡ false =
+          let all_open : list_any is_hidden (memory_bytes s.memory b.address (min b.size most_moved)) ≡ false =
           rw size at (sym c.has_hidden.ensures ∙ c.if-has_hidden.false) in
           let none : numbers (memory_bytes s.memory b.address (min b.size most_moved)) ≡ None =
           rw size at (numbers_none (other_byte m.others) (memory_of m.bytes) b.address c.count-count.result
           (sym c.are_numbers.ensures ∙ c.if-not-are_numbers.true)) in
           sym (writes_symbols s c.args.next b.file b.address b.size
-          (memory_bytes s.memory b.address (min b.size most_moved)) may open_cells none);
+          (memory_bytes s.memory b.address (min b.size most_moved)) may all_open none);
       state_is = λ input. refl;
       left_is = refl;
       taken_is = refl;
@@ -51,7 +51,7 @@ returns-in-Took-clause-answer g c = λ input ended.
           let size : c.count-count.result ≡ min b.size most_moved = c.count-count.ensures.is in
           let may_read_all : all_may (may_read s) b.address (min b.size most_moved) ≡ true =
           rw size at (sym c.may_all.ensures ∙ c.if-not-may_all.false) in
-          let open_cells : list_any is_hidden (memory_bytes s.memory b.address (min b.size most_moved)) ≡ false =
+          let all_open : list_any is_hidden (memory_bytes s.memory b.address (min b.size most_moved)) ≡ false =
           rw size at (sym c.has_hidden.ensures ∙ c.if-has_hidden.false) in
           let all : numbers (memory_bytes s.memory b.address (min b.size most_moved)) ≡ Some bytes =
           (rw size at c.in-Ok.ensures) ∙ ap Some (sym c.deref.ensures.value) in
@@ -70,7 +70,7 @@ returns-in-Took-clause-answer g c = λ input ended.
             comes_to = ap (λ x. Going x (Some (moving_event 64 b.file b.address b.size bytes)))
                 (sym (same_state (after_write s c.args.next bytes) t same))
                 ∙ sym (writes s c.args.next b.file b.address b.size
-                (memory_bytes s.memory b.address (min b.size most_moved)) bytes may_read_all open_cells all);
+                (memory_bytes s.memory b.address (min b.size most_moved)) bytes may_read_all all_open all);
             taken_is = c.in-Took.ensures.all
                 ∙ ap (append_known (g.O.Sink.seen c.args.out.now).taken) (sym (write_writes b.file b.address b.size bytes));
           };
@@ -89,7 +89,7 @@ returns-clause-answer g c = λ input ended. record {
       let size : c.count-count.result ≡ min b.size most_moved = c.count-count.ensures.is in
       let may : all_may (may_read s) b.address (min b.size most_moved) ≡ true =
       rw size at (sym c.may_all.ensures ∙ c.if-not-may_all.false) in
-      let open_cells : list_any is_hidden (memory_bytes s.memory b.address (min b.size most_moved)) ≡ false =
+      let all_open : list_any is_hidden (memory_bytes s.memory b.address (min b.size most_moved)) ≡ false =
       rw size at (sym c.has_hidden.ensures ∙ c.if-has_hidden.false) in
       let all : numbers (memory_bytes s.memory b.address (min b.size most_moved)) ≡ Some bytes =
       (rw size at c.in-Ok.ensures) ∙ ap Some (sym c.deref.ensures.value) in
@@ -97,7 +97,7 @@ returns-clause-answer g c = λ input ended. record {
         next = after_write s c.args.next bytes;
         event = moving_event 64 b.file b.address b.size bytes;
         comes_to = sym (writes s c.args.next b.file b.address b.size
-            (memory_bytes s.memory b.address (min b.size most_moved)) bytes may open_cells all);
+            (memory_bytes s.memory b.address (min b.size most_moved)) bytes may all_open all);
         number_is = refl;
         front = c.in-Failed.ensures.front refl;
       };

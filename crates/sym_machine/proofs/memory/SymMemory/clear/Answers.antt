@@ -2,7 +2,7 @@ use Rattle.std.proofs.Common.{◌≡◌, ◌∙◌, sym, true}
 use Rattle.rv_code.specs.machine.Machine.{all_may}
 use Rattle.sym_machine.specs.internal.OtherBytes.{other_byte}
 use Rattle.sym_machine.specs.internal.Memory.{is_number_at}
-use Rattle.sym_machine.proofs.MemoryCells.{put_none_same}
+use Rattle.sym_machine.proofs.SymbolMemory.{put_none_same}
 use Rattle.sym_machine.proofs.memory.SymMemory.clear.Goals as goal
 
 pub returns-then-are_numbers-clause-cleared : goal.returns-then-are_numbers-clause-cleared

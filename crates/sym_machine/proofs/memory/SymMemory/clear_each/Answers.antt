@@ -2,7 +2,7 @@ use Rattle.std.proofs.Common.{◌≡◌, ◌∙◌, ◌+◌, ◌-◌, ◌<◌, s
 use Rattle.std.specs.Prelude.{◌==◌, if◌then◌else◌, replicate}
 use Rattle.rv_code.specs.machine.Machine.{plus, put}
 use Rattle.sym_machine.specs.internal.OtherBytes.{other_byte}
-use Rattle.sym_machine.proofs.MemoryCells.{put_nothing, put_none_next}
+use Rattle.sym_machine.proofs.SymbolMemory.{put_nothing, put_none_next}
 use Rattle.sym_machine.proofs.memory.SymMemory.clear_each.Goals as goal
 
 pub loop-left-init : goal.loop-left-init

@@ -2,7 +2,7 @@ use Rattle.std.proofs.Common.{◌∙◌, sym, ap}
 use Rattle.std.specs.Prelude.{not}
 use Rattle.rv_memory.specs.Memory.{memory_of}
 use Rattle.sym_machine.specs.internal.OtherBytes.{other_byte}
-use Rattle.sym_machine.proofs.MemoryCells.{hidden_any}
+use Rattle.sym_machine.proofs.SymbolMemory.{hidden_any}
 use Rattle.sym_machine.proofs.memory.SymMemory.has_hidden.Goals as goal
 
 pub returns : goal.returns

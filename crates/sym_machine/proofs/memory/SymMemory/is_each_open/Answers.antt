@@ -1,7 +1,7 @@
 use Rattle.std.proofs.Common.{◌-◌, ◌+◌, ◌∙◌, sym, ap, arith}
 use Rattle.std.specs.Prelude.{◌&&◌}
 use Rattle.rv_code.specs.machine.Machine.{plus, all_may}
-use Rattle.rv_memory.proofs.Cells.{all_may_none, all_may_next}
+use Rattle.rv_memory.proofs.MemoryBytes.{all_may_none, all_may_next}
 use Rattle.sym_machine.specs.internal.Memory.{is_open_at}
 use Rattle.sym_machine.proofs.memory.SymMemory.is_each_open.Goals as goal
 

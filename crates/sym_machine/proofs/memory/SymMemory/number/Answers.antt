@@ -4,7 +4,7 @@ use Rattle.rv_code.specs.machine.Machine.{all_may, little}
 use Rattle.rv_memory.specs.Memory.{memory_of}
 use Rattle.sym_machine.specs.internal.OtherBytes.{other_byte}
 use Rattle.sym_machine.specs.internal.Memory.{is_number_at}
-use Rattle.sym_machine.proofs.MemoryCells.{numbers_all, numbers_none}
+use Rattle.sym_machine.proofs.SymbolMemory.{numbers_all, numbers_none}
 use Rattle.sym_machine.proofs.memory.SymMemory.number.Goals as goal
 
 pub returns-then-not-are_numbers-clause-value : goal.returns-then-not-are_numbers-clause-value

@@ -4,7 +4,7 @@ use Rattle.std.specs.declared.alloc.Global.{Global}
 use Rattle.rb_bytes.specs.declared.fault.NoMemory.{NoMemory}
 use Rattle.rv_memory.specs.Memory.{memory_of}
 use Rattle.sym_machine.specs.internal.OtherBytes.{other_byte}
-use Rattle.sym_machine.proofs.MemoryCells.{numbers_all}
+use Rattle.sym_machine.proofs.SymbolMemory.{numbers_all}
 use Rattle.sym_machine.proofs.memory.SymMemory.numbers.Goals as goal
 
 these : (r : Result (Vec ℕ Global) NoMemory) (ns : Option (List ℕ)) (xs : List ℕ) → ns ≡ Some xs →

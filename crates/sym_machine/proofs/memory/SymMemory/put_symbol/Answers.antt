@@ -4,7 +4,7 @@ use Rattle.rv_code.specs.machine.Machine.{plus, put}
 use Rattle.sym_machine.specs.declared.other_bytes.OtherByte.TheVariants as other
 use Rattle.sym_machine.specs.internal.OtherBytes.{other_byte}
 use Rattle.sym_machine.specs.internal.Memory.{other_bytes}
-use Rattle.sym_machine.proofs.MemoryCells.{put_symbol_nothing, put_symbol_next}
+use Rattle.sym_machine.proofs.SymbolMemory.{put_symbol_nothing, put_symbol_next}
 use Rattle.sym_machine.proofs.memory.SymMemory.put_symbol.Goals as goal
 
 pub loop-left-init : goal.loop-left-init

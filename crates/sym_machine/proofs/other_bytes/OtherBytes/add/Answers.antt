@@ -33,7 +33,7 @@ invariant_of-self-2 c =
     let n = c.args.number in
     let xs = p.numbers.items in
     let ok : IsOk c.extend_from_slice.result = search rules in
-    let cells : c.extend_from_slice.new.self.items ≡ p.cells.items ++ nones =
+    let slots : c.extend_from_slice.new.self.items ≡ p.slots.items ++ nones =
     (rw ok at c.extend_from_slice.ensures.items) ∙ ap (λ ys. ys ++ nones) c.reserve.ensures.items in
     let numbers : c.push.new.self.items ≡ xs ++ n ∷ [] =
     (rw c.unwrap.ensures at c.push.ensures.items) ∙ ap (λ ys. ys ++ n ∷ []) c.reserve-2.ensures.items in
@@ -44,13 +44,13 @@ invariant_of-self-2 c =
     let new = place_of c.insert.new.self in
     record {
       sized =
-          ap length cells ∙ sized_more old new xs p.cells.items nones n p.indexed p.held p.numbered c.requires.new is p.sized refl
+          ap length slots ∙ sized_more old new xs p.slots.items nones n p.indexed p.held p.numbered c.requires.new is p.sized refl
           ∙ ap (λ ys. length ys * 8) (sym numbers);
-      indexed = rw numbers (indexed_more old new xs p.cells.items nones n p.indexed p.held p.numbered c.requires.new is);
-      held = rw numbers (held_more old new xs p.cells.items nones n p.indexed p.held p.numbered c.requires.new is);
-      numbered = rw numbers (numbered_more old new xs p.cells.items nones n p.indexed p.held p.numbered c.requires.new is);
+      indexed = rw numbers (indexed_more old new xs p.slots.items nones n p.indexed p.held p.numbered c.requires.new is);
+      held = rw numbers (held_more old new xs p.slots.items nones n p.indexed p.held p.numbered c.requires.new is);
+      numbered = rw numbers (numbered_more old new xs p.slots.items nones n p.indexed p.held p.numbered c.requires.new is);
       at_hand = length-set p.recent.items (n % 8192) (c.len-place.result + 1) ∙ p.at_hand;
-      marked = rw (numbers, size) (marked_more old new xs p.cells.items nones n p.indexed p.held p.numbered c.requires.new is
+      marked = rw (numbers, size) (marked_more old new xs p.slots.items nones n p.indexed p.held p.numbered c.requires.new is
           p.recent.items (n % 8192) p.at_hand p.marked refl);
     }
 
@@ -59,9 +59,9 @@ returns-clause-kept c = λ q.
     let p = c.args.self.now in
     let n = c.args.number in
     let done : IsOk c.extend_from_slice.result = search rules in
-    let cells : c.extend_from_slice.new.self.items ≡ p.cells.items ++ nones =
+    let slots : c.extend_from_slice.new.self.items ≡ p.slots.items ++ nones =
     (rw done at c.extend_from_slice.ensures.items) ∙ ap (λ ys. ys ++ nones) c.reserve.ensures.items in
     let size : c.len-place.result ≡ length p.numbers.items = c.len-place.ensures ∙ c.reserve-2.ensures.len ∙ p.numbers.ok.0 in
     let is : (m : ℕ) → place_of c.insert.new.self m ≡ (if m == n then Some (length p.numbers.items) else place_of p.index m) =
     λ m. c.in_ok-insert.ensures.added refl m ∙ ap (λ k. if m == n then Some k else place_of p.index m) size in
-    byte_in-added p c.insert.new.self c.extend_from_slice.new.self.items n nones c.requires.new is cells no_more q
+    byte_in-added p c.insert.new.self c.extend_from_slice.new.self.items n nones c.requires.new is slots no_more q

@@ -7,7 +7,7 @@ pub returns-in-Some : goal.returns-in-Some
 returns-in-Some c =
     let p = c.args.self.now in
     let found : place_of p.index (c.args.address / 8) ≡ Some c.in-Some.place = sym c.place.ensures ∙ c.in-Some.is in
-    c.cell_at.ensures ∙ ap (λ xs. get_or xs (c.in-Some.place * 8 + c.args.address % 8) None) c.deref.ensures.value
+    c.slot_at.ensures ∙ ap (λ xs. get_or xs (c.in-Some.place * 8 + c.args.address % 8) None) c.deref.ensures.value
     ∙ sym (other_byte-some p c.args.address c.in-Some.place found)
 
 pub returns-in-None : goal.returns-in-None

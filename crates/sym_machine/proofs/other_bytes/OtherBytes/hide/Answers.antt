@@ -1,6 +1,5 @@
-use Rattle.std.proofs.Common.{◌≡◌, ◌∙◌, ◌+◌, ap, arith, ℕ, Some, Bool, true, false, refl, Option}
+use Rattle.std.proofs.Common.{◌≡◌, ◌∙◌, ◌+◌, ap, arith, ℕ, Some, refl, Option}
 use Rattle.std.specs.Prelude.{◌&&◌, ◌==◌, nat_le, nat_lt, if◌then◌else◌, option_map}
-use Rattle.sym_machine.specs.declared.other_bytes.OtherByte.{OtherByte}
 use Rattle.sym_machine.specs.declared.other_bytes.OtherByte.TheVariants as other
 use Rattle.sym_machine.specs.declared.value.MemoryByte.{MemoryByte}
 use Rattle.sym_machine.specs.declared.value.MemoryByte.TheVariants.{Hidden}
@@ -8,12 +7,8 @@ use Rattle.sym_machine.specs.internal.Memory.{as_byte}
 use Rattle.sym_machine.specs.internal.OtherBytes.{other_byte}
 use Rattle.sym_machine.specs.internal.SpecialBytes.{special}
 use Rattle.sym_machine.proofs.StartRuns.{run_none, run_more}
+use Rattle.sym_machine.proofs.Groups.{map_if}
 use Rattle.sym_machine.proofs.other_bytes.OtherBytes.hide.Goals as goal
-
-map_if : (t : Bool) (x : OtherByte) (o : Option OtherByte) →
-    option_map as_byte (if t then Some x else o) ≡ (if t then Some (as_byte x) else option_map as_byte o)
-map_if true x o = refl
-map_if false x o = refl
 
 pub loop-index-init : goal.loop-index-init
 loop-index-init c = λ q. run_none (Some Hidden) (special c.args.self.now q) c.args.start q

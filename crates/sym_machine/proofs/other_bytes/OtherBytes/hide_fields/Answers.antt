@@ -1,5 +1,5 @@
 use Rattle.std.proofs.Common.{◌∙◌, ap, Some, List, map}
-use Rattle.std.specs.Prelude.{Result, Ok, Err, OnOk, if◌then◌else◌, ◌&&◌}
+use Rattle.std.specs.Prelude.{if◌then◌else◌, ◌&&◌}
 use Rattle.std.specs.List.{list_any}
 use Rattle.elf_image.specs.declared.segment.Segment.{Segment}
 use Rattle.sym_machine.specs.declared.value.MemoryByte.TheVariants.{Hidden}
@@ -7,11 +7,8 @@ use Rattle.sym_machine.specs.HiddenFields.{is_hidden_field}
 use Rattle.sym_machine.specs.internal.Fields.{range_of_field}
 use Rattle.sym_machine.specs.internal.SpecialBytes.{special, covers}
 use Rattle.sym_machine.proofs.StartFields.{hidden_everywhere}
+use Rattle.sym_machine.proofs.Options.{on_ok}
 use Rattle.sym_machine.proofs.other_bytes.OtherBytes.hide_fields.Goals as goal
-
-on_ok : {T E P Q : Type 0} (r : Result T E) → (P → Q) → OnOk r P → OnOk r Q
-on_ok (Ok x) f p = f p
-on_ok (Err e) f p = tt
 
 pub returns : goal.returns
 returns c =

@@ -15,13 +15,13 @@ hidden_join false true o = refl
 hidden_join false false o = refl
 
 pub returns : goal.returns
-returns c = λ words pointer count q.
+returns c = λ args pointer count q.
     let elf = c.args.elf.now in
     let f = is_hidden_field elf c.args.tight q in
-    let e = is_hidden_entry c.args.tight words q in
-    c.in_ok-add_entry.ensures words pointer count q
-    ∙ ap (option_or (entry_byte elf words q))
-    (c.in_ok-hide_entries.ensures words pointer count q
+    let e = is_hidden_entry c.args.tight args q in
+    c.in_ok-add_entry.ensures args pointer count q
+    ∙ ap (option_or (entry_byte elf args q))
+    (c.in_ok-hide_entries.ensures args pointer count q
     ∙ ap (λ (o : Option MemoryByte). if e then Some Hidden else o)
     (c.in_ok-hide_fields.ensures q ∙ ap (λ (o : Option MemoryByte). if f then Some Hidden else o) (c.in_ok-add_cells.ensures q))
     ∙ hidden_join e f (code_cell_byte c.args.cells.now q))

@@ -1,4 +1,4 @@
--- Cells in a row, one at a time.
+-- Bytes of memory in a row, one at a time.
 use Rattle.std.proofs.Common.{◌≡◌, ℕ, zero, suc, ◌+◌, ◌-◌, ◌*◌, ◌/◌, ◌%◌, ◌<◌, ◌≤◌, ◌^◌, Bool, true, List, [], ◌∷◌, ◌++◌, length}
 use Rattle.std.proofs.Common.{take, drop, get_or, refl, sym, ap, ◌∙◌, arith, append_assoc, append-nil, div-one, drop_of_length-le}
 use Rattle.std.proofs.Common.{drop-cons}
@@ -18,33 +18,33 @@ unfolding memory_bytes little
 little_step memory a zero h = absurd (omega arith)
 little_step memory a (suc n) h = let e : suc n - 1 ≡ n = omega arith in rw e refl
 
-pub cells_none : (memory : ℕ → ℕ) (a n : ℕ) → n ≡ 0 → memory_bytes memory a n ≡ []
+pub bytes_none : (memory : ℕ → ℕ) (a n : ℕ) → n ≡ 0 → memory_bytes memory a n ≡ []
 unfolding memory_bytes
-cells_none memory a n e = rw e refl
+bytes_none memory a n e = rw e refl
 
--- the cells from a + i on begin with the one there
-pub cells_next : (memory : ℕ → ℕ) (a i n : ℕ) → i < n →
+-- the bytes from a + i on begin with the one there
+pub bytes_next : (memory : ℕ → ℕ) (a i n : ℕ) → i < n →
     memory_bytes memory (plus a i) (n - i) ≡ memory (plus a i) ∷ memory_bytes memory (plus a (i + 1)) (n - (i + 1))
 unfolding memory_bytes
-cells_next memory a i n h =
+bytes_next memory a i n h =
     let e : n - i ≡ suc (n - (i + 1)) = omega arith in
     let next : plus (plus a i) 1 ≡ plus a (i + 1) = omega arith in
     rw (e, next) refl
 
--- what was copied of the cells, with one more
-pub cells_more : (memory : ℕ → ℕ) (a i n : ℕ) (front whole : List ℕ) → i < n →
+-- what was copied of the bytes, with one more
+pub bytes_more : (memory : ℕ → ℕ) (a i n : ℕ) (front whole : List ℕ) → i < n →
     front ++ memory_bytes memory (plus a i) (n - i) ≡ whole →
     (front ++ memory (plus a i) ∷ []) ++ memory_bytes memory (plus a (i + 1)) (n - (i + 1)) ≡ whole
-cells_more memory a i n front whole h e =
+bytes_more memory a i n front whole h e =
     append_assoc front (memory (plus a i) ∷ []) (memory_bytes memory (plus a (i + 1)) (n - (i + 1)))
-    ∙ ap (λ rest. front ++ rest) (sym (cells_next memory a i n h)) ∙ e
+    ∙ ap (λ rest. front ++ rest) (sym (bytes_next memory a i n h)) ∙ e
 
 -- and with none left
-pub cells_all : (memory : ℕ → ℕ) (a i n : ℕ) (front whole : List ℕ) → n ≤ i →
+pub bytes_all : (memory : ℕ → ℕ) (a i n : ℕ) (front whole : List ℕ) → n ≤ i →
     front ++ memory_bytes memory (plus a i) (n - i) ≡ whole → front ≡ whole
-cells_all memory a i n front whole h e =
+bytes_all memory a i n front whole h e =
     let none : n - i ≡ 0 = omega arith in
-    let empty : memory_bytes memory (plus a i) (n - i) ≡ [] = cells_none memory (plus a i) (n - i) none in
+    let empty : memory_bytes memory (plus a i) (n - i) ≡ [] = bytes_none memory (plus a i) (n - i) none in
     grind (arith, append-nil, div-one, empty, e)
 
 -- seven bytes fit in 56 bits
@@ -96,7 +96,7 @@ bytes_low_first-low_bytes i (suc n) (suc k) v h =
     div-div-eq-div-mul v (256 ^ i) 256 ∙ ap (λ (d : ℕ). v / d) (sym (pow-suc 256 i)) in
     rw (byte_at-is i v, next, bytes_low_first-low_bytes (suc i) n k v (omega arith)) refl
 
--- the low bytes of a word, of the eight that it has
+-- the low bytes of a number, of the eight that it has
 pub low_bytes_of : (n v : ℕ) → n ≤ 8 → take n (to_le_bytes w64 v) ≡ low_bytes n v
 low_bytes_of n v h = rw (div-one v) at (bytes_low_first-low_bytes 0 n 8 v h)
 
@@ -106,8 +106,8 @@ unfolding put
 put_same old new same a q [] = same q
 put_same old new same a q (b ∷ bytes) = ap (λ rest. if q == a then b else rest) (put_same old new same (plus a 1) q bytes)
 
--- a word's bytes are its eight low bytes
+-- a number's bytes are its eight low bytes
 pub to_le_bytes-low_bytes : (v : ℕ) → to_le_bytes w64 v ≡ low_bytes 8 v
 to_le_bytes-low_bytes v = low_bytes_of 8 v (omega arith)
 
-pub ruleset word_bytes = to_le_bytes-low_bytes
+pub ruleset number_bytes = to_le_bytes-low_bytes

@@ -10,26 +10,21 @@ use Rattle.sym_machine.specs.declared.value.MemoryByte.{MemoryByte}
 use Rattle.sym_machine.specs.declared.value.MemoryByte.TheVariants.{Byte, SymbolByte, Hidden}
 use Rattle.sym_machine.specs.declared.other_bytes.OtherByte.{OtherByte}
 use Rattle.sym_machine.specs.declared.other_bytes.OtherByte.TheVariants as other
-use Rattle.sym_machine.specs.internal.Memory.{cell_over, other_bytes, symbol_in, symbol_byte, is_byte_of}
+use Rattle.sym_machine.specs.internal.Memory.{byte_over, other_bytes, symbol_in, symbol_byte, is_byte_of}
 use Rattle.sym_machine.specs.declared.memory.SymbolBytes.{SymbolBytes}
 use Rattle.sym_machine.specs.Values.{numbers, and_byte, is_hidden, symbol_bytes, are_symbol_bytes}
 
 -- Reading.
 
-pub cells_step : (cells : ℕ → MemoryByte) (a n : ℕ) → 0 < n →
-    memory_bytes cells a n ≡ cells a ∷ memory_bytes cells (plus a 1) (n - 1)
+pub memory_step : (memory : ℕ → MemoryByte) (a n : ℕ) → 0 < n →
+    memory_bytes memory a n ≡ memory a ∷ memory_bytes memory (plus a 1) (n - 1)
 unfolding memory_bytes
-cells_step cells a zero h = absurd (omega arith)
-cells_step cells a (suc n) h = let e : suc n - 1 ≡ n = omega arith in rw e refl
+memory_step memory a zero h = absurd (omega arith)
+memory_step memory a (suc n) h = let e : suc n - 1 ≡ n = omega arith in rw e refl
 
-pub cells_none : (cells : ℕ → MemoryByte) (a n : ℕ) → n ≡ 0 → memory_bytes cells a n ≡ []
+pub memory_none : (memory : ℕ → MemoryByte) (a n : ℕ) → n ≡ 0 → memory_bytes memory a n ≡ []
 unfolding memory_bytes
-cells_none cells a n e = rw e refl
-
-pub low_bytes_length : (n x : ℕ) → length (low_bytes n x) ≡ n
-unfolding low_bytes
-low_bytes_length zero x = refl
-low_bytes_length (suc n) x = ap suc (low_bytes_length n (x / 256))
+memory_none memory a n e = rw e refl
 
 -- Bytes of one symbol.
 
@@ -39,13 +34,14 @@ bytes_cons y w i (Byte b) cs = refl
 bytes_cons y w i (SymbolByte z v j) cs = refl
 bytes_cons y w i Hidden cs = refl
 
-pub bytes_step : (cells : ℕ → MemoryByte) (y : CodeSymbol) (w i a n : ℕ) → 0 < n →
-    are_symbol_bytes y w i (memory_bytes cells a n) ≡ is_byte_of (cells a) y w i
-    && are_symbol_bytes y w (i + 1) (memory_bytes cells (plus a 1) (n - 1))
-bytes_step cells y w i a n some =
+pub bytes_step : (memory : ℕ → MemoryByte) (y : CodeSymbol) (w i a n : ℕ) → 0 < n →
+    are_symbol_bytes y w i (memory_bytes memory a n) ≡ is_byte_of (memory a) y w i
+    && are_symbol_bytes y w (i + 1) (memory_bytes memory (plus a 1) (n - 1))
+bytes_step memory y w i a n some =
     let next : i + 1 ≡ suc i = omega arith in
-    ap (are_symbol_bytes y w i) (cells_step cells a n some) ∙ bytes_cons y w i (cells a) (memory_bytes cells (plus a 1) (n - 1))
-    ∙ ap (λ (k : ℕ). is_byte_of (cells a) y w i && are_symbol_bytes y w k (memory_bytes cells (plus a 1) (n - 1))) (sym next)
+    ap (are_symbol_bytes y w i) (memory_step memory a n some)
+    ∙ bytes_cons y w i (memory a) (memory_bytes memory (plus a 1) (n - 1))
+    ∙ ap (λ (k : ℕ). is_byte_of (memory a) y w i && are_symbol_bytes y w k (memory_bytes memory (plus a 1) (n - 1))) (sym next)
 
 -- the symbol that begins with a byte, if the others follow
 abbrev followed : Option SymbolBytes → List MemoryByte → Option SymbolBytes
@@ -57,25 +53,26 @@ symbol_cons (Byte b) cs = refl
 symbol_cons (SymbolByte z v j) cs = refl
 symbol_cons Hidden cs = refl
 
-pub symbol_none : (cells : ℕ → MemoryByte) (a n : ℕ) → 0 < n → symbol_byte (cells a) ≡ None →
-    symbol_in (memory_bytes cells a n) ≡ None
-symbol_none cells a n some none =
-    ap symbol_in (cells_step cells a n some) ∙ symbol_cons (cells a) (memory_bytes cells (plus a 1) (n - 1))
-    ∙ ap (λ o. followed o (memory_bytes cells (plus a 1) (n - 1))) none
+pub symbol_none : (memory : ℕ → MemoryByte) (a n : ℕ) → 0 < n → symbol_byte (memory a) ≡ None →
+    symbol_in (memory_bytes memory a n) ≡ None
+symbol_none memory a n some none =
+    ap symbol_in (memory_step memory a n some) ∙ symbol_cons (memory a) (memory_bytes memory (plus a 1) (n - 1))
+    ∙ ap (λ o. followed o (memory_bytes memory (plus a 1) (n - 1))) none
 
-pub symbol_some : (cells : ℕ → MemoryByte) (a n : ℕ) (b : SymbolBytes) (follow : Bool) → 0 < n → symbol_byte (cells a) ≡ Some b →
-    are_symbol_bytes b.symbol b.width (b.first + 1) (memory_bytes cells (plus a 1) (n - 1)) ≡ follow →
-    symbol_in (memory_bytes cells a n) ≡ (if follow then Some b else None)
-symbol_some cells a n b follow some is follow_is =
+pub symbol_some : (memory : ℕ → MemoryByte) (a n : ℕ) (b : SymbolBytes) (follow : Bool) → 0 < n →
+    symbol_byte (memory a) ≡ Some b →
+    are_symbol_bytes b.symbol b.width (b.first + 1) (memory_bytes memory (plus a 1) (n - 1)) ≡ follow →
+    symbol_in (memory_bytes memory a n) ≡ (if follow then Some b else None)
+symbol_some memory a n b follow some is follow_is =
     let next : suc b.first ≡ b.first + 1 = omega arith in
-    ap symbol_in (cells_step cells a n some) ∙ symbol_cons (cells a) (memory_bytes cells (plus a 1) (n - 1))
-    ∙ ap (λ o. followed o (memory_bytes cells (plus a 1) (n - 1))) is
+    ap symbol_in (memory_step memory a n some) ∙ symbol_cons (memory a) (memory_bytes memory (plus a 1) (n - 1))
+    ∙ ap (λ o. followed o (memory_bytes memory (plus a 1) (n - 1))) is
     ∙ ap (λ (t : Bool). if t then Some b else None)
-    (ap (λ (k : ℕ). are_symbol_bytes b.symbol b.width k (memory_bytes cells (plus a 1) (n - 1))) next ∙ follow_is)
+    (ap (λ (k : ℕ). are_symbol_bytes b.symbol b.width k (memory_bytes memory (plus a 1) (n - 1))) next ∙ follow_is)
 
 module _ (others : ℕ → Option OtherByte) (memory : ℕ → ℕ) where
   abbrev pub over : ℕ → MemoryByte
-  over a = cell_over (others a) (memory a)
+  over a = byte_over (others a) (memory a)
 
   pub numbers_all : (a n : ℕ) → all_may (λ q. is_none (others q)) a n ≡ true →
       numbers (memory_bytes over a n) ≡ Some (memory_bytes memory a n)
@@ -123,14 +120,14 @@ module _ (others : ℕ → Option OtherByte) (memory : ℕ → ℕ) where
 
   -- numbers over a run that the others leave
   pub put_numbers : (a q : ℕ) (bytes : List ℕ) →
-      cell_over (put others a (replicate (length bytes) None) q) (put memory a bytes q) ≡ put over a (map Byte bytes) q
+      byte_over (put others a (replicate (length bytes) None) q) (put memory a bytes q) ≡ put over a (map Byte bytes) q
   unfolding put
   put_numbers a q [] = refl
   put_numbers a q (b ∷ bytes) = by (q == a) (put_numbers (plus a 1) q bytes)
     where
-      by : (t : Bool) → cell_over (put others (plus a 1) (replicate (length bytes) None) q) (put memory (plus a 1) bytes q)
+      by : (t : Bool) → byte_over (put others (plus a 1) (replicate (length bytes) None) q) (put memory (plus a 1) bytes q)
           ≡ put over (plus a 1) (map Byte bytes) q →
-          cell_over (if t then None else put others (plus a 1) (replicate (length bytes) None) q)
+          byte_over (if t then None else put others (plus a 1) (replicate (length bytes) None) q)
           (if t then b else put memory (plus a 1) bytes q)
           ≡ (if t then Byte b else put over (plus a 1) (map Byte bytes) q)
       by true rest = refl
@@ -138,14 +135,14 @@ module _ (others : ℕ → Option OtherByte) (memory : ℕ → ℕ) where
 
   -- bytes of a symbol
   pub put_symbols : (a q : ℕ) (y : CodeSymbol) (w i n : ℕ) →
-      cell_over (put others a (other_bytes y w i n) q) (memory q) ≡ put over a (symbol_bytes y w i n) q
+      byte_over (put others a (other_bytes y w i n) q) (memory q) ≡ put over a (symbol_bytes y w i n) q
   unfolding put other_bytes symbol_bytes
   put_symbols a q y w i zero = refl
   put_symbols a q y w i (suc n) = by (q == a) (put_symbols (plus a 1) q y w (suc i) n)
     where
-      by : (t : Bool) → cell_over (put others (plus a 1) (other_bytes y w (suc i) n) q) (memory q)
+      by : (t : Bool) → byte_over (put others (plus a 1) (other_bytes y w (suc i) n) q) (memory q)
           ≡ put over (plus a 1) (symbol_bytes y w (suc i) n) q →
-          cell_over (if t then Some (other.Symbol y w i) else put others (plus a 1) (other_bytes y w (suc i) n) q) (memory q)
+          byte_over (if t then Some (other.Symbol y w i) else put others (plus a 1) (other_bytes y w (suc i) n) q) (memory q)
           ≡ (if t then SymbolByte y w i else put over (plus a 1) (symbol_bytes y w (suc i) n) q)
       by true rest = refl
       by false rest = rest
@@ -204,20 +201,20 @@ put_symbol_next others a i n q y w first h =
 never_within : (from q : ℕ) → nat_le from q ≡ true → nat_lt q from ≡ true → ⊥
 never_within from q low high = let l = leb-true from q low in let h = ltb-true q from high in omega arith
 
-pub break_cells : (others : ℕ → Option OtherByte) (memory : ℕ → ℕ) (from to q : ℕ) (stands : Bool) →
-    cell_over (if nat_le from q && nat_lt q (if stands then to else from) then None else others q)
+pub break_bytes : (others : ℕ → Option OtherByte) (memory : ℕ → ℕ) (from to q : ℕ) (stands : Bool) →
+    byte_over (if nat_le from q && nat_lt q (if stands then to else from) then None else others q)
     (if stands then (if nat_le from q && nat_lt q to then 0 else memory q) else memory q)
-    ≡ (if stands then (if nat_le from q && nat_lt q to then Byte 0 else cell_over (others q) (memory q))
-    else cell_over (others q) (memory q))
-break_cells others memory from to q true = by (nat_le from q && nat_lt q to)
+    ≡ (if stands then (if nat_le from q && nat_lt q to then Byte 0 else byte_over (others q) (memory q))
+    else byte_over (others q) (memory q))
+break_bytes others memory from to q true = by (nat_le from q && nat_lt q to)
   where
-    by : (t : Bool) → cell_over (if t then None else others q) (if t then 0 else memory q)
-        ≡ (if t then Byte 0 else cell_over (others q) (memory q))
+    by : (t : Bool) → byte_over (if t then None else others q) (if t then 0 else memory q)
+        ≡ (if t then Byte 0 else byte_over (others q) (memory q))
     by true = refl
     by false = refl
-break_cells others memory from to q false = by (nat_le from q && nat_lt q from) refl
+break_bytes others memory from to q false = by (nat_le from q && nat_lt q from) refl
   where
     by : (t : Bool) → (nat_le from q && nat_lt q from) ≡ t →
-        cell_over (if t then None else others q) (memory q) ≡ cell_over (others q) (memory q)
+        byte_over (if t then None else others q) (memory q) ≡ byte_over (others q) (memory q)
     by true e = let parts = and_parts (nat_le from q) (nat_lt q from) e in absurd (never_within from q parts.0 parts.1)
     by false e = refl
