@@ -5,7 +5,7 @@ use Rattle.std.proofs.lemmas.List.{take_all}
 use Rattle.std.proofs.lemmas.List.Sums.{sum_by-cons, sum_by_more, sum_by_more_le}
 use Rattle.std.specs.List.{slice_get, range_with_len, sum_by}
 use Rattle.elf_image.specs.declared.elf.Elf.{Elf}
-use Rattle.elf_image.specs.declared.elf.Section.{Section}
+use Rattle.elf_image.specs.declared.section.Section.{Section}
 use Rattle.elf_image.specs.file.ParsedFile.{IsSectionAt, IsElfOf}
 use Rattle.elf_image.specs.file.Sections.{section_header, section_headers, holds_code}
 use Rattle.bolt_core.specs.CodeLimit.{code_size_limit, header_code_bytes, HasTooMuchCode}

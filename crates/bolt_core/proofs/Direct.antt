@@ -14,7 +14,7 @@ use Rattle.elf_image.specs.code.Functions.{AreInsts, IsCodeAddress}
 use Rattle.elf_image.specs.code.Parts.{IsInstAt, IsWholePart, StartsIn, after, at_start, halfword_at, length_at}
 use Rattle.elf_image.specs.declared.elf.Elf.{Elf}
 use Rattle.elf_image.specs.faults.FunctionFaults.{direct}
-use Rattle.elf_image.proofs.LoadLemmas.{Contains-cons_cases}
+use Rattle.rb_bytes.proofs.Members.{Contains-cons_cases}
 use Rattle.move_law.specs.Laws.{IsAcceptedCode}
 use Rattle.move_law.proofs.Lists.{all_of}
 use Rattle.move_law.proofs.code.InstLists.{function_code, inst_at, length_of}

@@ -1,24 +1,21 @@
 -- Where new code goes that has room.
-use Rattle.std.proofs.Common.{◌≡◌, refl, ℕ, ◌+◌, ◌-◌, ◌*◌, ◌/◌, ◌%◌, ◌<◌, ◌≤◌, Some, None, Bool, true, false, List, [], ◌∷◌, cond}
-use Rattle.std.proofs.Common.{min, arith}
-use Rattle.std.specs.Prelude.{◌&&◌, fold, nat_lt}
+use Rattle.std.proofs.Common.{◌≡◌, refl, ℕ, ◌+◌, ◌-◌, ◌*◌, ◌/◌, ◌%◌, ◌<◌, ◌≤◌, Some, None, Bool, true, false, List, cond}
+use Rattle.std.proofs.Common.{arith}
+use Rattle.std.specs.Prelude.{◌&&◌, nat_lt}
 use Rattle.std.proofs.lemmas.Bool.{ltb-false}
 use Rattle.rb_bytes.specs.declared.fault.Fault.{Fault}
 use Rattle.rv_code.specs.declared.placed.Block.{Block}
 use Rattle.rv_code.specs.declared.placed.Func.{Func}
 use Rattle.elf_image.specs.declared.elf.Elf.{Elf}
 use Rattle.elf_image.specs.declared.segment.Segment.{Segment}
-use Rattle.elf_image.specs.faults.SegmentLayout.{address_end}
+use Rattle.rv_code.specs.layout.FunctionLists.{address_end}
 use Rattle.elf_image.specs.file.Header.{header_size}
 use Rattle.elf_image.specs.memory.CodeSegment.{executable_end}
 use Rattle.elf_write.specs.Area.{area_start_of}
 use Rattle.elf_write.specs.Need.{capped, code_need, need}
 use Rattle.elf_write.specs.RoomFault.{has_no_room, no_room, no_room_fault}
 use Rattle.elf_write.specs.Room.{area_limit, area_start, code_end, is_tight, pages_from, room, room_above}
-
-fold-min-le : (xs : List ℕ) (a : ℕ) → fold min a xs ≤ a
-fold-min-le [] a = omega arith
-fold-min-le (x ∷ xs) a = let rest : fold min (min a x) xs ≤ min a x = fold-min-le xs (min a x) in omega (arith, rest)
+use Rattle.elf_write.proofs.FreeRange.{fold-min-le}
 
 low_limit : (segments : List Segment) → area_limit segments ≤ address_end
 low_limit segments = fold-min-le (pages_from (code_end segments) segments) address_end

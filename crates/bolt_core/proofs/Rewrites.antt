@@ -42,11 +42,11 @@ module _ (file profile : List ℕ) (x : Program) (is : IsProgramOf file profile 
   }
 
   pub keeps_runs : KeepsRuns x w spans
-  keeps_runs = λ words input fit n trace status run. simulation_law.runs (rewrite_of x w spans) keeps words input fit n trace
+  keeps_runs = λ args input fit n trace status run. simulation_law.runs (rewrite_of x w spans) keeps args input fit n trace
       status run
 
   pub keeps_so_far : KeepsRunsSoFar x w spans
-  keeps_so_far = λ words input fit n trace run. simulation_law.so_far (rewrite_of x w spans) keeps words input fit n trace run
+  keeps_so_far = λ args input fit n trace run. simulation_law.so_far (rewrite_of x w spans) keeps args input fit n trace run
 
 -- What was read.
 

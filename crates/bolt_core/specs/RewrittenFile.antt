@@ -53,15 +53,15 @@ rewrite_of x written spans = record {
 -- Each run of the input that ends on the symbol machine is matched by one of the written file on the byte
 -- machine, with the same arguments and input, the same system calls and the same status.
 abbrev pub KeepsRuns : Program → List ℕ → List Span → Type 0
-KeepsRuns x written spans = (words : List (List ℕ)) (input : List ℕ) → FitStack words →
-    (n : ℕ) (trace : List Event) (status : ℕ) → SymRuns (program (rewrite_of x written spans)) words input n trace status →
-    (m : ℕ) × (m ≤ 3 * n + 1) × Runs written words input m trace status
+KeepsRuns x written spans = (args : List (List ℕ)) (input : List ℕ) → FitStack args →
+    (n : ℕ) (trace : List Event) (status : ℕ) → SymRuns (program (rewrite_of x written spans)) args input n trace status →
+    (m : ℕ) × (m ≤ 3 * n + 1) × Runs written args input m trace status
 
 -- Every other run is matched as far as it goes.
 abbrev pub KeepsRunsSoFar : Program → List ℕ → List Span → Type 0
-KeepsRunsSoFar x written spans = (words : List (List ℕ)) (input : List ℕ) → FitStack words →
-    (n : ℕ) (trace : List Event) → SymRunsSoFar (program (rewrite_of x written spans)) words input n trace →
-    (m : ℕ) × (m ≤ 3 * n) × RunsSoFar written words input m trace
+KeepsRunsSoFar x written spans = (args : List (List ℕ)) (input : List ℕ) → FitStack args →
+    (n : ℕ) (trace : List Event) → SymRunsSoFar (program (rewrite_of x written spans)) args input n trace →
+    (m : ℕ) × (m ≤ 3 * n) × RunsSoFar written args input m trace
 
 -- The new code has the blocks in an order, each in a form, from the start of the new area on:
 -- the spans are theirs, and its bytes are those of their instructions in these forms, and no others.

@@ -1,11 +1,11 @@
 // Where the cold parts of functions begin.
-ghost use Rattle.std.specs.Prelude.{◌≡◌, ◌++◌, [], IfOk, OnOk};
-ghost use Rattle.std.specs.List.{cons_option};
+ghost use Rattle.std.specs.Prelude.{◌≡◌, IfOk};
 ghost use Rattle.block_layout.specs.EdgeCounts.{first_address};
 ghost use Rattle.rv_code.specs.layout.BlockOrders.{list_of};
 ghost use Rattle.bolt_core.specs.ProfileOrder.{cold_start, cold_starts};
 
 use rb_bytes::fault::NoMemory;
+use rb_bytes::lists::push_some;
 use rv_code::{Block, Chains, Func};
 use std::alloc::Global;
 
@@ -46,17 +46,6 @@ fn cold_start(funcs: &[Func], blocks: &[Block], hot: &[usize], cold: &[usize]) -
         Some(place) => Some(first_address(funcs, blocks, *place)),
         None => None,
     }
-}
-
-// Appends an address, if there is one.
-fn push_some(starts: &mut Vec<u64>, start: Option<u64>) -> Result<(), NoMemory>
-    ensures { OnOk result (starts.new.items ≡ starts.old.items ++ cons_option start []) }
-{
-    match start {
-        Some(start) => starts.push(start)?,
-        None => {}
-    }
-    Ok(())
 }
 
 /// For each function with a hot and a cold part the address in the input of the cold part's first instruction, in the order

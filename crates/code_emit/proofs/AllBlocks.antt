@@ -17,7 +17,8 @@ use Rattle.branch_fixup.specs.Inputs.{AreBlocksOf, AreDirect}
 use Rattle.branch_fixup.specs.Pieces.{Piece, PlacedFrom, end_from}
 use Rattle.branch_fixup.specs.Strips.{Strip, insts_in, pieces_of, pieces_of_strip, spans_of, strips_of}
 use Rattle.branch_fixup.proofs.Appended.{end_append, pieces_all, pieces_more, pieces_part}
-use Rattle.branch_fixup.proofs.Lists.{at_contains, contains_at, flat_at}
+use Rattle.branch_fixup.proofs.Lists.{contains_at, flat_at}
+use Rattle.rv_code.proofs.lists.Follows.{at_contains}
 use Rattle.branch_fixup.proofs.Planned.{planned, planned_length}
 use Rattle.move_law.proofs.Lists.{all_of}
 use Rattle.move_law.specs.Rewrite.{Goes, Rewrite}

@@ -28,9 +28,10 @@ use Rattle.rv_encode.specs.FittingOperands.{FitsFull, FitsHalf, FitsTwo}
 use Rattle.move_law.specs.RelocatedValues.{distance}
 use Rattle.move_law.specs.FaithfulRewrite.{with_immediate, made_anew}
 use Rattle.code_emit.specs.NewInsts.{Made, with_distance, turned, kept, jump_to, added, made}
-use Rattle.move_law.specs.AddressParts.{IsAuipc, IsLui, TakesLower}
+use Rattle.rv_code.specs.isa.AddressParts.{IsAuipc, IsLui, TakesLower}
 use Rattle.code_emit.specs.Inputs.{FitsRole}
 use Rattle.branch_fixup.specs.Distances.{reaches, Leap, lands, reach_of, main_leap, added_leap, new_target}
+use Rattle.branch_fixup.proofs.Laid.{even_sum}
 use Rattle.code_emit.specs.Bytes.{CanBeEncoded, AllCanBeEncoded}
 use Rattle.code_emit.proofs.Fit.{reaches_is, lower_within, upper_within, upper_of_number_within}
 
@@ -286,12 +287,12 @@ pub record Fitting (f : ℕ → ℕ) (a : ℕ) (p : Placed) (x : Form) : Type 0 
   pub lands : list_all lands (main_leap f a p x ++ added_leap f a p x) ≡ true
 
 kept_can : (f : ℕ → ℕ) (a : ℕ) (p : Placed) (x : Form) → Fitting f a p x → (rest : List Leap) →
-    list_all lands (option_map_or (λ t. record { half = reach_of p.len p; from = a; to = f t } ∷ []) (target_of p) [] ++ rest)
+    list_all lands (option_map_or (λ t. record { reach = reach_of p.len p; from = a; to = f t } ∷ []) (target_of p) [] ++ rest)
     ≡ true → CanBeEncoded (record { inst = kept f a p; bytes = p.len }) × (list_all lands rest ≡ true)
 kept_can f a p x s rest h = by (target_of p) refl h
   where
     by : (o : Option ℕ) → target_of p ≡ o →
-        list_all lands (option_map_or (λ t. record { half = reach_of p.len p; from = a; to = f t } ∷ []) o [] ++ rest) ≡ true →
+        list_all lands (option_map_or (λ t. record { reach = reach_of p.len p; from = a; to = f t } ∷ []) o [] ++ rest) ≡ true →
         CanBeEncoded (record {
           inst = option_map_or (λ t. with_distance p.inst (distance (f t) a)) (target_of p)
               (made_anew f p.addr p.role p.inst);
@@ -303,11 +304,8 @@ kept_can f a p x s rest h = by (target_of p) refl h
         let even : f t % 2 ≡ 0 = ap (λ (o : Option ℕ). option_map_or f o 0 % 2) (sym e) ∙ s.even_goal in
         (rw e (moved_can s.half s.next p a t (f t) s.decodes e parts.0 s.even even), parts.1)
 
-even_sum : (a b : ℕ) → a % 2 ≡ 0 → b % 2 ≡ 0 → (a + b) % 2 ≡ 0
-even_sum a b h k = omega (arith, h, k)
-
 added_can : (f : ℕ → ℕ) (p : Placed) (jump : Bool) (a : ℕ) → a % 2 ≡ 0 → f (p.addr + p.len) % 2 ≡ 0 →
-    list_all lands (if jump then record { half = 2 ^ 20; from = a; to = f (p.addr + p.len) } ∷ [] else []) ≡ true →
+    list_all lands (if jump then record { reach = 2 ^ 20; from = a; to = f (p.addr + p.len) } ∷ [] else []) ≡ true →
     AllCanBeEncoded (added f p jump a)
 added_can f p true a h k l =
     (jal_can (f (p.addr + p.len)) a (and_parts (reaches (2 ^ 20) a (f (p.addr + p.len))) true l).0 h k, tt)

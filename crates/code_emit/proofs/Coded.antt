@@ -1,7 +1,7 @@
 -- Bytes that are added to code are the instruction that they encode, and instructions that stand in code stand in a file.
 use Rattle.std.proofs.Common.{◌≡◌, ℕ, ◌+◌, ◌-◌, ◌*◌, ◌/◌, ◌%◌, ◌^◌, ◌<◌, ◌≤◌, List, [], ◌∷◌, ◌++◌, length, Some, refl, sym, ap}
 use Rattle.std.proofs.Common.{◌∙◌, subst, arith, get_or}
-use Rattle.std.specs.Prelude.{slice_index, Result, Ok, Err, OnOk}
+use Rattle.std.specs.Prelude.{slice_index}
 use Rattle.std.proofs.lemmas.List.{get_or_append_left, get_or-append_right, length-append}
 use Rattle.rv_code.specs.declared.inst.Inst.{Inst}
 use Rattle.rv_encode.specs.declared.word.Word.TheVariants as word
@@ -94,7 +94,7 @@ join_stand : (code : List ℕ) (o : ℕ) (xs ys : List Made) → AllStandIn code
 join_stand code o [] ys h k = k
 join_stand code o (x ∷ xs) ys h k = (h.0, join_stand code (o + x.bytes) xs ys h.1 k)
 
-after-append : (o : ℕ) (xs ys : List Made) → after_made o (xs ++ ys) ≡ after_made (after_made o xs) ys
+pub after-append : (o : ℕ) (xs ys : List Made) → after_made o (xs ++ ys) ≡ after_made (after_made o xs) ys
 after-append o [] ys = refl
 after-append o (x ∷ xs) ys = after-append (o + x.bytes) xs ys
 
@@ -149,10 +149,6 @@ has_all x base o code [] has s = tt
 has_all x base o code (m ∷ ms) has s =
     let sum : base + (o + m.bytes) ≡ base + o + m.bytes = omega arith in
     (has_made x base o code m has s.0, subst (λ (a : ℕ). HasAll x a ms) sum (has_all x base (o + m.bytes) code ms has s.1))
-
-pub on_ok : {A E P Q : Type 0} (r : Result A E) → (P → Q) → OnOk r P → OnOk r Q
-on_ok (Ok x) f h = f h
-on_ok (Err e) f h = tt
 
 pub all_can_front : (xs ys : List Made) → AllCanBeEncoded (xs ++ ys) → AllCanBeEncoded xs
 all_can_front [] ys h = tt

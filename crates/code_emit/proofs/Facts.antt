@@ -6,8 +6,6 @@ use Rattle.std.specs.Option.{option_map_or}
 use Rattle.std.specs.List.{list_all}
 use Rattle.std.proofs.lemmas.List.Elements.{All-contains}
 use Rattle.rv_code.specs.declared.layout.Form.{Form}
-use Rattle.rv_code.specs.declared.layout.Form.TheVariants as form
-use Rattle.rv_code.specs.declared.layout.Size.TheVariants.{Half, Full, Long}
 use Rattle.rv_code.specs.declared.placed.Block.{Block}
 use Rattle.rv_code.specs.declared.placed.Placed.{Placed}
 use Rattle.rv_code.specs.declared.placed.Func.{Func}
@@ -22,14 +20,16 @@ use Rattle.addr_map.specs.declared.span.Span.{Span}
 use Rattle.addr_map.specs.Spans.{is_of, new}
 use Rattle.addr_map.proofs.Orders.{lines_apart, moved_permutation}
 use Rattle.branch_fixup.specs.Inputs.{AreDirect, LeadsToCode}
-use Rattle.branch_fixup.specs.Pieces.{Piece, PlacedFrom, end_from, laid_from, piece_length, length_of}
+use Rattle.branch_fixup.specs.Pieces.{Piece, PlacedFrom, end_from, laid_from, length_of}
 use Rattle.branch_fixup.specs.Distances.{AllLand, added_leap, new_target, lands, main_leap}
 use Rattle.branch_fixup.specs.Strips.{Strip, pieces_of, spans_of, strips_of}
 use Rattle.branch_fixup.proofs.Falls.{below_limit, code_at}
-use Rattle.rv_code.proofs.lists.Follows.{laid_func}
-use Rattle.branch_fixup.proofs.Laid.{AreOnce, inside, once_each, placed_from}
-use Rattle.branch_fixup.proofs.Lists.{Contains-cons_cases, Contains-there, at_contains, at_flat, contains_at, flat_at}
+use Rattle.rv_code.proofs.lists.Follows.{laid_func, at_contains}
+use Rattle.branch_fixup.proofs.Laid.{AreOnce, inside, once_each, placed_from, even_sum}
+use Rattle.branch_fixup.proofs.Lists.{at_flat, contains_at, flat_at}
+use Rattle.rb_bytes.proofs.Members.{Contains-cons_cases, Contains-there}
 use Rattle.branch_fixup.proofs.Placed.{are_strips, strips_once}
+use Rattle.branch_fixup.proofs.Map.{form_even, length_even}
 use Rattle.code_emit.specs.Bytes.{AllCanBeEncoded}
 use Rattle.code_emit.specs.Inputs.{AreLow, AreMapped, CanMove, FitsRole, HasLowTargets, IsLowRole}
 use Rattle.code_emit.specs.NewInsts.{Made, made, made_from}
@@ -48,22 +48,6 @@ new_has P (s ∷ ss) t each itself =
       | false ↦ new_has P ss t (λ x c. each x (Contains-there s ss x c)) itself
     ]
 
-form_even : (n : ℕ) (f : Form) → n % 2 ≡ 0 → piece_length n f % 2 ≡ 0
-form_even n form.Plain h = h
-form_even n form.Jump h = omega (arith, h)
-form_even n (form.Branch inverted Half true) h = refl
-form_even n (form.Branch inverted Half false) h = refl
-form_even n (form.Branch inverted Full true) h = refl
-form_even n (form.Branch inverted Full false) h = refl
-form_even n (form.Branch inverted Long true) h = refl
-form_even n (form.Branch inverted Long false) h = refl
-form_even n (form.Goto true) h = refl
-form_even n (form.Goto false) h = refl
-form_even n form.Dropped h = refl
-
-even_sum : (a b : ℕ) → a % 2 ≡ 0 → b % 2 ≡ 0 → (a + b) % 2 ≡ 0
-even_sum a b h k = omega (arith, h, k)
-
 outs_even : (a : ℕ) (ps : List Piece) → a % 2 ≡ 0 → ((q : Piece) → Contains ps q → q.placed.len % 2 ≡ 0) → (s : Span) →
     Contains (laid_from a ps) s → s.out % 2 ≡ 0
 outs_even a [] even lens s c = let l = c.1 in absurd (omega (arith, l))
@@ -77,10 +61,6 @@ outs_even a (p ∷ ps) even lens s c =
     ]
 
 -- Instructions.
-
-even_length : (p : Placed) → HasLength p → p.len % 2 ≡ 0
-even_length p (inl two) = omega (arith, two)
-even_length p (inr four) = omega (arith, four)
 
 pub record IsIn (funcs : List Func) (p : Placed) : Type 0 where
   pub len : p.len % 2 ≡ 0
@@ -102,7 +82,7 @@ is_in funcs p laid c =
     let (i, at) = contains_at w.a.insts.items p w.has in
     let l = laid_func funcs w.i w.a laid w.at in
     let lens : (q : Placed) → Contains w.a.insts.items q → q.len % 2 ≡ 0 =
-    λ q h. even_length q (All-contains HasLength w.a.insts.items q l.lengths h) in
+    λ q h. length_even q (All-contains HasLength w.a.insts.items q l.lengths h) in
     record {
       len = lens p w.has;
       low = below_limit funcs w.i i w.a p laid w.at at;

@@ -17,8 +17,8 @@ use Rattle.move_law.specs.FaithfulRewrite.{next}
 use Rattle.branch_fixup.specs.Inputs.{AreDirect, LeadsToCode}
 use Rattle.branch_fixup.specs.Strips.{Strip, insts_in, strips_of}
 use Rattle.branch_fixup.proofs.Falls.{below_limit, code_at}
-use Rattle.rv_code.proofs.lists.Follows.{follow_next, laid_func}
-use Rattle.branch_fixup.proofs.Lists.{at_contains, at_drop, at_take, flat_at, take_in}
+use Rattle.rv_code.proofs.lists.Follows.{follow_next, laid_func, at_contains}
+use Rattle.branch_fixup.proofs.Lists.{at_drop, at_take, flat_at, take_in}
 use Rattle.branch_fixup.proofs.Planned.{StripOf, insts_are, inner_goes_on, planned}
 use Rattle.code_emit.proofs.Next.{fall_address, falls_before, next_among, next_falls}
 use Rattle.code_emit.proofs.StripEnds.{AllFlow, AllInner, FlowsAs, IsInner}

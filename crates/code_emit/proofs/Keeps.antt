@@ -25,6 +25,7 @@ use Rattle.move_law.specs.Rewrite.{Rewrite, Goes, out, inst_end, stays, jumps}
 use Rattle.move_law.specs.RelocatedValues.{distance}
 use Rattle.move_law.specs.FaithfulRewrite.{next, GetsToNext, GoesOn, made_anew, HasInSpan, goes_on, KeepsBranch, same, opposite}
 use Rattle.move_law.specs.FaithfulRewrite.{KeepsAction, KeepsInst}
+use Rattle.move_law.proofs.steps.Fetching.{plus_inside}
 use Rattle.branch_fixup.specs.Pieces.{piece_length, bytes_of_size, bytes_of_jump}
 use Rattle.branch_fixup.specs.Endings.{Kept, Branches, LeftOut, end_of_form, begins_at, ending}
 use Rattle.branch_fixup.specs.Endings.{Goes as EndGoes}
@@ -53,9 +54,6 @@ lead a t h k = omega (arith, ints, h, k)
 
 not_zero : (n : ℕ) → (suc n == 0) ≡ false
 not_zero n = ne_eqb (suc n) 0 (λ h. absurd (omega (arith, h)))
-
-inside_sum : (a n : ℕ) → a + n < 2 ^ 64 → plus a n ≡ a + n
-inside_sum a n h = omega (arith, h)
 
 plus_small : (a n : ℕ) → plus a n < 2 ^ 64
 plus_small a n = omega arith
@@ -165,7 +163,7 @@ module _ (r : Rewrite) (p : Placed) (f : Form) (fall after : Option ℕ) (a : �
       by false (Some n) k is at has = follows n after refl is (omega (arith, at))
 
   wrapped : (n : ℕ) (b : Bool) → n + bytes_of_jump b ≡ piece_length p.len f → plus a n ≡ a + n
-  wrapped n b e = let room = s.room in inside_sum a n (omega (arith, e, room))
+  wrapped n b e = let room = s.room in plus_inside a n (omega (arith, e, room))
 
   -- the same from an instruction's end
   on_end : (b : Bool) (n : ℕ) → apart_of fall after ≡ b → n + bytes_of_jump b ≡ piece_length p.len f →
@@ -287,9 +285,9 @@ module _ (r : Rewrite) (p : Placed) (f : Form) (fall after : Option ℕ) (a : �
         (in_span (with_distance (opposite_of p.inst) (pos 8)) 4 (omega (arith, len)) has.0)
         (turned_action p.inst test wanted rs1 rs2 imm (pos 8) e)
         (goes_from (with_distance (opposite_of p.inst) (pos 8)) 4 (out r t) has.0
-        (rw (s.out_is, inside_sum a 4 (omega (arith, len, room)))
+        (rw (s.out_is, plus_inside a 4 (omega (arith, len, room)))
         (leads r (a + 4) (out r t) 4 has.1.0 (omega (arith, len, room)) (s.small_goal t (ap (target p.addr) e)))))
-        (rw (s.out_is, inside_sum a 8 (omega (arith, len, room)))
+        (rw (s.out_is, plus_inside a 8 (omega (arith, len, room)))
         (on jump (a + 8) is (omega (arith, len))
         (subst (λ (q : ℕ). HasAll r.output q (added (out r) p jump (a + 8))) past has.1.1) (ap is_plain_jump e)))
 
@@ -305,7 +303,7 @@ module _ (r : Rewrite) (p : Placed) (f : Form) (fall after : Option ℕ) (a : �
         (in_span (with_distance (opposite_of p.inst) z) 2 (omega (arith, len)) has.0)
         (turned_action p.inst test wanted rs1 rs2 imm z e)
         (goes_from (with_distance (opposite_of p.inst) z) 2 (out r (plus p.addr (unsigned64 imm))) has.0
-        (rw (s.out_is, inside_sum a 2 (omega (arith, len, room))) (stays (omega (arith, there, len)))))
+        (rw (s.out_is, plus_inside a 2 (omega (arith, len, room))) (stays (omega (arith, there, len)))))
         (rw s.out_is
         (falls_to (plus a (unsigned64 z)) (stays (lead a (out r (p.addr + p.len)) (omega (arith, room)) s.small_fall))
         (ap is_plain_jump e)))
@@ -317,7 +315,7 @@ module _ (r : Rewrite) (p : Placed) (f : Form) (fall after : Option ℕ) (a : �
         (in_span (with_distance (opposite_of p.inst) z) 4 (omega (arith, len)) has.0)
         (turned_action p.inst test wanted rs1 rs2 imm z e)
         (goes_from (with_distance (opposite_of p.inst) z) 4 (out r (plus p.addr (unsigned64 imm))) has.0
-        (rw (s.out_is, inside_sum a 4 (omega (arith, len, room))) (stays (omega (arith, there, len)))))
+        (rw (s.out_is, plus_inside a 4 (omega (arith, len, room))) (stays (omega (arith, there, len)))))
         (rw s.out_is
         (falls_to (plus a (unsigned64 z)) (stays (lead a (out r (p.addr + p.len)) (omega (arith, room)) s.small_fall))
         (ap is_plain_jump e)))
@@ -327,9 +325,9 @@ module _ (r : Rewrite) (p : Placed) (f : Form) (fall after : Option ℕ) (a : �
         same (with_distance p.inst (pos 8)) (pos 8)
         (in_span (with_distance p.inst (pos 8)) 4 (omega (arith, len)) has.0)
         (branch_action p.inst test wanted rs1 rs2 imm (pos 8) e)
-        (rw (s.out_is, inside_sum a 8 (omega (arith, len, room))) (stays (omega (arith, there, len))))
+        (rw (s.out_is, plus_inside a 8 (omega (arith, len, room))) (stays (omega (arith, there, len))))
         (on_from (with_distance p.inst (pos 8)) 4 has.0
-        (rw (s.out_is, inside_sum a 4 (omega (arith, len, room)))
+        (rw (s.out_is, plus_inside a 4 (omega (arith, len, room)))
         (falls_to (a + 4) (leads r (a + 4) (out r (p.addr + p.len)) 4 has.1.0 (omega (arith, len, room)) s.small_fall)
         (ap is_plain_jump e))))
 

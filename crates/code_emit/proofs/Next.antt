@@ -16,7 +16,7 @@ use Rattle.move_law.proofs.code.InstLists.{found_at}
 use Rattle.branch_fixup.specs.Endings.{fall_of}
 use Rattle.branch_fixup.proofs.Falls.{below_limit, code_next, falls_in, falls_nowhere}
 use Rattle.rv_code.proofs.lists.Follows.{follow_next, inst_once, laid_func}
-use Rattle.branch_fixup.proofs.Lists.{there}
+use Rattle.branch_fixup.proofs.Lists.{there, some_is}
 
 -- `next` of a rewrite with these functions
 abbrev pub next_among : List Func → Placed → Option ℕ
@@ -24,12 +24,6 @@ next_among funcs p =
     if is_call (action_at p)
     then next_of funcs p.addr
     else option_map (λ q. q.addr) (placed_at funcs (plus p.addr p.len))
-
-same : (p q : Placed) → Some p ≡ Some q → p ≡ q
-same p q e = cc
-
-same_func : (f g : Func) → Some f ≡ Some g → f ≡ g
-same_func f g e = cc
 
 -- In one function.
 
@@ -39,7 +33,8 @@ next_in_at [] i x p q at_i at_j here once = absurd (cc)
 next_in_at (a ∷ []) zero x p q at_i at_j here once = absurd (cc)
 next_in_at (a ∷ []) (suc i) x p q at_i at_j here once = absurd (cc)
 next_in_at (a ∷ b ∷ ps) zero x p q at_i at_j here once =
-    rw (eq-eqb a.addr x (ap (λ (z : Placed). z.addr) (same a p at_i) ∙ here)) (ap (λ (z : Placed). Some z.addr) (same b q at_j))
+    rw (eq-eqb a.addr x (ap (λ (z : Placed). z.addr) (some_is a p at_i) ∙ here))
+    (ap (λ (z : Placed). Some z.addr) (some_is b q at_j))
 next_in_at (a ∷ b ∷ ps) (suc i) x p q at_i at_j here once =
     rw (ne_eqb a.addr x (λ e. absurd (let h = once 0 a refl e in omega (arith, h))))
     (next_in_at (b ∷ ps) i x p q at_i at_j here (λ j r at e. let h = once (suc j) r at e in omega (arith, h)))
@@ -64,7 +59,7 @@ next_of_at : (fs : List Func) (f : ℕ) (func : Func) (x : ℕ) (o : Option ℕ)
     ((g : ℕ) (h : Func) → slice_get fs g ≡ Some h → (g ≡ f → ⊥) → next_in h.insts.items x ≡ None) → next_of fs x ≡ o
 next_of_at [] f func x o at here other = absurd (cc)
 next_of_at (h ∷ fs) zero func x o at here other =
-    by o (subst (λ (z : Func). next_in z.insts.items x ≡ o) (sym (same_func h func at)) here)
+    by o (subst (λ (z : Func). next_in z.insts.items x ≡ o) (sym (some_is h func at)) here)
   where
     by : (o : Option ℕ) → next_in h.insts.items x ≡ o → option_or (next_in h.insts.items x) (next_of fs x) ≡ o
     by None e = rw e (next_of_none fs x (λ g k at_g. other (suc g) k at_g (λ z. absurd (omega (arith, z)))))

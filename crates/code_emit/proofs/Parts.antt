@@ -15,7 +15,7 @@ use Rattle.branch_fixup.specs.Strips.{Strip, insts_in, pieces_of_strip}
 use Rattle.branch_fixup.proofs.Appended.{map_more}
 use Rattle.code_emit.specs.NewInsts.{Made, made, made_from}
 use Rattle.code_emit.specs.Bytes.{after_made, Adds, AllCanBeEncoded}
-use Rattle.code_emit.proofs.Coded.{adds_both, all_can_front, all_can_back}
+use Rattle.code_emit.proofs.Coded.{adds_both, all_can_front, all_can_back, after-append}
 
 made_from-append : (f : ℕ → ℕ) (a : ℕ) (xs ys : List Piece) → made_from f a (xs ++ ys) ≡ made_from f a xs
     ++ made_from f (end_from a xs) ys
@@ -24,10 +24,6 @@ made_from-append f a (x ∷ xs) ys =
     ap (λ (r : List Made). made f a x.placed x.form ++ r) (made_from-append f (a + length_of x) xs ys)
     ∙ sym (append_assoc (made f a x.placed x.form) (made_from f (a + length_of x) xs)
     (made_from f (end_from (a + length_of x) xs) ys))
-
-after-append : (o : ℕ) (xs ys : List Made) → after_made o (xs ++ ys) ≡ after_made (after_made o xs) ys
-after-append o [] ys = refl
-after-append o (x ∷ xs) ys = after-append (o + x.bytes) xs ys
 
 after_is : (f : ℕ → ℕ) (o a : ℕ) (p : Placed) (x : Form) → after_made o (made f a p x) ≡ o + piece_length p.len x
 after_is f o a p form.Plain = refl

@@ -24,11 +24,14 @@ use Rattle.branch_fixup.specs.Strips.{Strip, first_in, first_of, insts_in, is_al
 use Rattle.branch_fixup.proofs.Appended.{end_append}
 use Rattle.branch_fixup.proofs.Bridge.{split_placed}
 use Rattle.branch_fixup.proofs.Covered.{Covers, covers}
-use Rattle.branch_fixup.proofs.Lists.{Contains-cons_cases, Contains-nil, Contains-there, at_contains, at_flat, contains_at}
+use Rattle.branch_fixup.proofs.Lists.{at_flat, contains_at}
+use Rattle.rv_code.proofs.lists.Follows.{at_contains}
+use Rattle.rb_bytes.proofs.Members.{Contains-cons_cases, Contains-nil}
 use Rattle.branch_fixup.proofs.Lists.{flat_at}
 use Rattle.branch_fixup.proofs.Orders.{order_has}
 use Rattle.branch_fixup.proofs.Placed.{piece_inst}
 use Rattle.branch_fixup.proofs.Planned.{Planned, StripOf, block_in_insts, in_block, planned, planned_at}
+use Rattle.branch_fixup.proofs.Map.{inst_piece}
 use Rattle.code_emit.specs.Bytes.{AllCanBeEncoded}
 use Rattle.code_emit.specs.NewInsts.{made_from}
 use Rattle.code_emit.proofs.Keeps.{branch_by}
@@ -48,18 +51,6 @@ of_strip (t ∷ ss) [] q c = absurd (Contains-nil q c)
 of_strip (t ∷ ss) (f ∷ fs) q c = elim (Contains-append_cases (pieces_of_strip t f) (pieces_of ss fs) q c) [
   | inl here ↦ record { j = 0; s = t; at = refl; has = piece_inst t.inner t.last f q here }
   | inr later ↦ let r = of_strip ss fs q later in record { j = suc r.j; s = r.s; at = r.at; has = r.has }
-]
-
-inst_piece : (inner : List Placed) (last : Placed) (x : Form) (p : Placed) → Contains (inner ++ last ∷ []) p → (q : Piece)
-    × Contains (map as_it_is inner ++ record { placed = last; form = x } ∷ []) q × (q.placed ≡ p)
-inst_piece [] last x p c = elim (Contains-cons_cases last [] p c) [
-  | inl same ↦ (record { placed = last; form = x }, (0, omega arith, refl), same)
-  | inr later ↦ absurd (Contains-nil p later)
-]
-inst_piece (r ∷ rs) last x p c = elim (Contains-cons_cases r (rs ++ last ∷ []) p c) [
-  | inl same ↦ (as_it_is r, (0, omega arith, refl), same)
-  | inr later ↦ let (q, has, is) = inst_piece rs last x p later in
-      (q, Contains-there (as_it_is r) (map as_it_is rs ++ record { placed = last; form = x } ∷ []) q has, is)
 ]
 
 piece_there : (ss : List Strip) (fs : List Form) → EndByTable ss fs → (j : ℕ) (s : Strip) → slice_get ss j ≡ Some s →

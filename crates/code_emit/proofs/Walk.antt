@@ -3,7 +3,7 @@ use Rattle.std.proofs.Common.{◌≡◌, ℕ, ◌+◌, ◌^◌, ◌<◌, ◌≤�
 use Rattle.std.proofs.Common.{ap, ◌∙◌, subst, arith, inl, inr}
 use Rattle.std.specs.Prelude.{Any, Contains}
 use Rattle.rv_code.specs.layout.Flow.{action_at, is_plain_jump, target_of}
-use Rattle.branch_fixup.proofs.Lists.{Contains-cons_cases, Contains-there}
+use Rattle.rb_bytes.proofs.Members.{Contains-cons_cases, Contains-there}
 use Rattle.move_law.specs.Rewrite.{Rewrite, out, Goes}
 use Rattle.move_law.specs.FaithfulRewrite.{next, KeepsInst, GoesOn}
 use Rattle.rv_code.specs.declared.placed.Placed.{Placed}

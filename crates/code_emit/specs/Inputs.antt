@@ -16,7 +16,7 @@ use Rattle.addr_map.specs.MapText.{AreInLineOrder}
 use Rattle.addr_map.specs.Spans.{new}
 use Rattle.branch_fixup.specs.Forms.{AreForms, new_code_end}
 use Rattle.branch_fixup.specs.Strips.{Strip, spans_of}
-use Rattle.move_law.specs.AddressParts.{IsAuipc, IsLui, TakesLower}
+use Rattle.rv_code.specs.isa.AddressParts.{IsAuipc, IsLui, TakesLower}
 
 -- A role fits an instruction of so many bytes: it is of the kind that the role wants, and not compressed.
 -- The addresses of roles lie at most at the limit of code.

@@ -5,11 +5,11 @@ use Rattle.std.specs.Prelude.{Contains, fold, filter, ◌&&◌, nat_le, nat_lt}
 use Rattle.std.proofs.lemmas.Bool.{and_from, lt-ltb, le-leb}
 use Rattle.elf_image.specs.declared.segment.Segment.{Segment}
 use Rattle.elf_image.specs.memory.Image.{is_load}
-use Rattle.elf_image.proofs.LoadLemmas.{Contains-cons_cases}
+use Rattle.rb_bytes.proofs.Members.{Contains-cons_cases}
 use Rattle.elf_write.specs.Area.{has_file_bytes, file_end_of, loads_end, lower_start, lowest_behind}
 
 -- the greatest of numbers is where it begins or above, and at each of those that pass or above
-max-from : (xs : List ℕ) (a : ℕ) → a ≤ fold max a xs
+pub max-from : (xs : List ℕ) (a : ℕ) → a ≤ fold max a xs
 max-from [] a = omega arith
 max-from (x ∷ xs) a = let rest : max a x ≤ fold max (max a x) xs = max-from xs (max a x) in omega arith
 

@@ -9,7 +9,7 @@ use Rattle.std.proofs.lemmas.List.Folds.{find_at}
 use Rattle.std.proofs.lemmas.List.Sums.{fails_before_first, passes_at_first}
 use Rattle.std.proofs.lemmas.Option.{get_or_from_slice_get, slice_get-get_or, slice_get-map, slice_get_cases, slice_get_past}
 use Rattle.std.proofs.lemmas.Option.{slice_get_within, unwrap_or-slice_get}
-use Rattle.elf_image.specs.declared.elf.Section.{Section}
+use Rattle.elf_image.specs.declared.section.Section.{Section}
 use Rattle.elf_image.specs.declared.extent.Extent.{Extent}
 use Rattle.elf_image.specs.declared.segment.Segment.{Segment}
 use Rattle.elf_image.specs.memory.Image.{is_load}

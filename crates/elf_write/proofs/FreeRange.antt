@@ -6,7 +6,7 @@ use Rattle.std.proofs.lemmas.Bool.{and_from, le-leb, cases_lt}
 use Rattle.elf_image.specs.declared.segment.Segment.{Segment}
 use Rattle.elf_image.specs.file.Header.{e_phnum, segment, segments_of}
 use Rattle.elf_image.specs.memory.Image.{is_load, end_of, loads_address}
-use Rattle.elf_image.specs.faults.SegmentLayout.{address_end}
+use Rattle.rv_code.specs.layout.FunctionLists.{address_end}
 use Rattle.elf_image.specs.memory.Start.{page_size, rounded_down}
 use Rattle.elf_image.proofs.LoadLemmas.{loads-parts, loads-from_parts}
 use Rattle.elf_image.proofs.ReadLists.{length-segments_of, get_or-segments}
@@ -15,7 +15,7 @@ use Rattle.elf_write.specs.NewSegments.{IsFreeRange}
 use Rattle.elf_write.specs.Room.{pages_from, limit_above}
 
 -- the least of numbers is at or below where it begins, and below more numbers no higher
-fold-min-le : (xs : List ℕ) (a : ℕ) → fold min a xs ≤ a
+pub fold-min-le : (xs : List ℕ) (a : ℕ) → fold min a xs ≤ a
 fold-min-le [] a = omega arith
 fold-min-le (x ∷ xs) a = let rest : fold min (min a x) xs ≤ min a x = fold-min-le xs (min a x) in omega arith
 

@@ -4,7 +4,7 @@ use Rattle.std.proofs.Common.{Vec}
 use Rattle.std.specs.Prelude.{nat_lt, map, position, string_bytes}
 use Rattle.std.specs.List.{position_or_len}
 use Rattle.elf_image.specs.declared.elf.Elf.{Elf}
-use Rattle.elf_image.specs.declared.elf.Section.{Section}
+use Rattle.elf_image.specs.declared.section.Section.{Section}
 use Rattle.elf_image.specs.file.Header.{e_shstrndx}
 use Rattle.elf_write.specs.declared.area.Area.{Area}
 use Rattle.elf_write.specs.declared.area.Shift.{Shift}

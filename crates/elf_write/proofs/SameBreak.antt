@@ -12,6 +12,7 @@ use Rattle.elf_image.specs.memory.Start.{writable_end, break_start, break_bound,
 use Rattle.elf_write.specs.declared.area.Area.{Area}
 use Rattle.elf_write.specs.NewSegments.{IsRenewed, AreRenewed, AreNewHeaders, grows_at, inserted, area_segment}
 use Rattle.elf_write.specs.Room.{greatest_align, highest_end, break_end, new_segment_start}
+use Rattle.elf_write.proofs.FileEnds.{max-from}
 
 -- Values of the segments that pass a test.
 
@@ -229,12 +230,8 @@ rounded_up-above unit n some = above (rounded_up unit n) ((n + (unit - 1)) % uni
     above : (m rest : ℕ) → m + rest ≡ n + (unit - 1) → rest < unit → n ≤ m
     above m rest sum small = omega arith
 
-most-above : (vs : List ℕ) (most : ℕ) → most ≤ fold max most vs
-most-above [] most = omega arith
-most-above (v ∷ vs) most = let rest : max most v ≤ fold max (max most v) vs = most-above vs (max most v) in omega arith
-
 pub align-above : (ps : List Segment) → page_size ≤ greatest_align ps
-align-above ps = most-above (map (λ p. p.align) (filter is_load ps)) page_size
+align-above ps = max-from (map (λ p. p.align) (filter is_load ps)) page_size
 
 on-page : (end v : ℕ) → room_of end ≤ v → room_of end ≤ rounded_down page_size v
 on-page end v above = omega arith

@@ -9,7 +9,7 @@ use Rattle.std.proofs.lemmas.List.{get_or_default}
 use Rattle.std.proofs.lemmas.List.Elements.{Contains-append_left, Contains-push, Contains-push_cases}
 use Rattle.std.proofs.lemmas.List.Sorted.{Contains-permutation, IsPermutation-sym}
 use Rattle.std.proofs.lemmas.Option.{slice_get_within}
-use Rattle.elf_image.specs.declared.elf.Section.{Section}
+use Rattle.elf_image.specs.declared.section.Section.{Section}
 use Rattle.rv_code.specs.layout.Lists.{IsPairBefore, ListsPairs}
 use Rattle.elf_write.specs.FileLayout.{PassesAt}
 use Rattle.elf_write.specs.WrittenSections.{offset_if}

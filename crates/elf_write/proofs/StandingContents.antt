@@ -1,7 +1,7 @@
 -- Contents that stand one behind another.
 use Rattle.std.proofs.Common.{◌≡◌, ◌∙◌, sym, subst, ap, refl, ℕ, ◌+◌, ◌<◌, List, [], ◌∷◌, ◌++◌, length, get_or, map, take}
 use Rattle.std.proofs.lemmas.List.{map-append, take_more}
-use Rattle.elf_image.specs.declared.elf.Section.{Section}
+use Rattle.elf_image.specs.declared.section.Section.{Section}
 use Rattle.elf_write.specs.FileLayout.{StandFrom, StandsBehind}
 
 -- one more

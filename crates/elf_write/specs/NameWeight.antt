@@ -3,8 +3,8 @@ use Rattle.std.specs.Prelude.{ℕ, ◌+◌, if◌then◌else◌, List, length, s
 use Rattle.std.specs.Option.{option_map_or}
 use Rattle.rv_code.specs.declared.placed.Func.{Func}
 use Rattle.elf_image.specs.declared.elf.Elf.{Elf}
-use Rattle.elf_image.specs.declared.elf.Section.{Section}
-use Rattle.elf_image.specs.declared.elf.Symbol.{Symbol}
+use Rattle.elf_image.specs.declared.section.Section.{Section}
+use Rattle.elf_image.specs.declared.symbol.Symbol.{Symbol}
 use Rattle.elf_write.specs.ColdSymbols.{named_around}
 use Rattle.elf_write.specs.NameTables.{names_of_sections, names_of_symbols, size_of}
 use Rattle.elf_write.specs.Need.{capped}

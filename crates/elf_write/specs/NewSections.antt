@@ -5,7 +5,7 @@ use Rattle.std.specs.Option.{option_map_or}
 use Rattle.std.specs.Str.{bytes_eq}
 use Rattle.rv_code.specs.isa.Op.{flag}
 use Rattle.elf_image.specs.declared.elf.Elf.{Elf}
-use Rattle.elf_image.specs.declared.elf.Section.{Section}
+use Rattle.elf_image.specs.declared.section.Section.{Section}
 use Rattle.elf_image.specs.declared.relocation.TheConstants.{SHT_RELA}
 use Rattle.elf_image.specs.declared.section.TheConstants.{SHT_NOBITS, SHT_PROGBITS, SHT_STRTAB, SHF_ALLOC, SHF_EXECINSTR}
 use Rattle.elf_image.specs.file.Header.{e_shstrndx}
@@ -37,7 +37,7 @@ IsAligned n = n.offset % max 1 n.align ≡ 0
 
 -- the contents are these bytes
 pub record HoldsContents (w bytes : List ℕ) (n : Section) : Type 0 where
-  pub holds : section_bytes w n ≡ bytes
+  pub contents : section_bytes w n ≡ bytes
   pub size : n.size ≡ length bytes
   pub aligned : IsAligned n
 
@@ -113,7 +113,7 @@ pub record IsHeader (name : List ℕ) (flags addr align : ℕ) (n : Section) : T
 
 pub record IsAdded (w name bytes : List ℕ) (flags addr align : ℕ) (n : Section) : Type 0 where
   pub header : IsHeader name flags addr align n
-  pub holds : section_bytes w n ≡ bytes
+  pub contents : section_bytes w n ≡ bytes
   pub size : n.size ≡ length bytes
 
 -- one in the new area

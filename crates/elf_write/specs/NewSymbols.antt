@@ -4,8 +4,8 @@ use Rattle.std.specs.Prelude.{length, filter, take, drop}
 use Rattle.addr_map.specs.declared.span.Span.{Span}
 use Rattle.addr_map.specs.Spans.{moved}
 use Rattle.elf_image.specs.declared.elf.Elf.{Elf}
-use Rattle.elf_image.specs.declared.elf.Section.{Section}
-use Rattle.elf_image.specs.declared.elf.Symbol.{Symbol}
+use Rattle.elf_image.specs.declared.section.Section.{Section}
+use Rattle.elf_image.specs.declared.symbol.Symbol.{Symbol}
 use Rattle.elf_image.specs.declared.symbol.TheConstants.{STT_FUNC}
 use Rattle.elf_image.specs.code.Cuts.{names_function}
 use Rattle.rv_code.specs.declared.placed.Func.{Func}

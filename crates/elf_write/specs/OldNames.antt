@@ -1,7 +1,7 @@
 -- How sections are called whose place new ones take.
 use Rattle.std.specs.Prelude.{ℕ, ◌||◌, if◌then◌else◌, Bool, nat_eq, List, ◌++◌, codes}
 use Rattle.std.specs.List.{starts_with}
-use Rattle.elf_image.specs.declared.elf.Section.{Section}
+use Rattle.elf_image.specs.declared.section.Section.{Section}
 use Rattle.elf_image.specs.file.Sections.{holds_code}
 use Rattle.elf_image.specs.file.SectionNames.{names_frames}
 

@@ -1,6 +1,6 @@
 -- What is made of the program headers of the input, by what they follow.
 use Rattle.std.specs.Prelude.{◌≡◌, ℕ, List, Some, slice_get}
-use Rattle.elf_image.specs.declared.elf.Section.{Section}
+use Rattle.elf_image.specs.declared.section.Section.{Section}
 use Rattle.elf_image.specs.declared.segment.Segment.{Segment}
 use Rattle.elf_write.specs.declared.sections.Contents.{Contents}
 use Rattle.elf_write.specs.declared.segments.Places.{Places}

@@ -42,7 +42,7 @@ pub fn old_headers(
     let mut headers = Vec::new(alloc);
     for i in 0..section_count(table) {
         let mut header = table.section_of(i);
-        if let Some(section) = elf.sections.get(i as usize) {
+        if let Some(section) = elf.sections.get(i) {
             if is_renamed(section) {
                 header.name = names.add(old_prefix(section.name), section.name)?;
             }

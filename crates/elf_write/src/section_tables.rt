@@ -33,7 +33,7 @@ pub struct SectionTables<'a> {
 
 impl<'a> SectionTables<'a> {
     ghost use Rattle.std.specs.Prelude.{◌≡◌, ℕ, ◌+◌, ◌-◌, ◌<◌, IfSome, IsTrue, Some, codes, is_some, length, slice_get};
-    ghost use Rattle.elf_image.specs.declared.elf.Section.{Section};
+    ghost use Rattle.elf_image.specs.declared.section.Section.{Section};
     ghost use Rattle.elf_image.specs.file.Header.{e_shstrndx};
     ghost use Rattle.elf_parts.specs.Patches.{Stands};
     ghost use Rattle.elf_write.specs.Area.{area_offset};

@@ -36,7 +36,7 @@ impl<'a> CodeSymbols<'a> {
     ghost use Rattle.std.specs.Prelude.{◌≡◌, IfOk, IsFalse, IsTrue, List, MatchOption};
     ghost use Rattle.addr_map.specs.Spans.{moved};
     ghost use Rattle.rv_code.specs.layout.FunctionLists.{AreLaidOut};
-    ghost use Rattle.elf_image.specs.declared.elf.Symbol.{Symbol};
+    ghost use Rattle.elf_image.specs.declared.symbol.Symbol.{Symbol};
     ghost use Rattle.elf_image.specs.code.Cuts.{names_function};
     ghost use Rattle.elf_write.specs.FragmentLists.{AreFragments};
     ghost use Rattle.elf_write.specs.FirstNames.{AreFirstNames};

@@ -1,7 +1,7 @@
 // The symbol table of a written file. gABI, "Symbol Table".
 ghost use Rattle.std.specs.Prelude.{◌≡◌, List};
 ghost use Rattle.rv_code.specs.layout.FunctionLists.{AreLaidOut};
-ghost use Rattle.elf_image.specs.declared.elf.Symbol.{Symbol};
+ghost use Rattle.elf_image.specs.declared.symbol.Symbol.{Symbol};
 ghost use Rattle.elf_write.specs.ColdSymbols as spec;
 ghost use Rattle.elf_write.specs.FirstNames.{AreFirstNames};
 

@@ -1,7 +1,7 @@
 // A bound on the bytes of the tables of names that are written.
 ghost use Rattle.std.specs.Prelude.{◌≡◌, IfOk, List, sum_by};
 ghost use Rattle.std.specs.Option.{option_copied};
-ghost use Rattle.elf_image.specs.declared.elf.Symbol.{Symbol};
+ghost use Rattle.elf_image.specs.declared.symbol.Symbol.{Symbol};
 ghost use Rattle.rv_code.specs.layout.FunctionLists.{AreLaidOut};
 ghost use Rattle.elf_write.specs.FirstNames.{AreFirstNames};
 ghost use Rattle.elf_write.specs.NameTables as tables;

@@ -7,7 +7,7 @@ use Rattle.elf_image.specs.file.Sections.{holds_code}
 use Rattle.elf_image.specs.code.FileCode.{IsCodeOf}
 use Rattle.elf_image.specs.code.Functions.{AreFunctions}
 use Rattle.elf_image.specs.declared.elf.Elf.{Elf}
-use Rattle.elf_image.specs.declared.elf.Section.{Section}
+use Rattle.elf_image.specs.declared.section.Section.{Section}
 use Rattle.elf_image.specs.faults.CodeFaults.{HasCodeFault}
 use Rattle.elf_image.specs.faults.FileFaults.{IsSound}
 use Rattle.elf_image.specs.faults.FirstFault.{IsFree}

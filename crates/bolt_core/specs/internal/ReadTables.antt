@@ -1,6 +1,6 @@
 -- What was read of tables that aren't carried yet.
 use Rattle.std.specs.Prelude.{◌&&◌, ◌==◌, nat_lt, Bool}
-use Rattle.elf_image.specs.declared.elf.Section.{Section}
+use Rattle.elf_image.specs.declared.section.Section.{Section}
 use Rattle.elf_image.specs.declared.segment.Segment.{Segment}
 use Rattle.elf_image.specs.declared.segment.TheConstants.{PT_GNU_EH_FRAME}
 use Rattle.bolt_core.specs.Tables.{is_table_name}

@@ -15,9 +15,9 @@ loop-f-preserved c =
     gathers
     (λ f. cold_start c.args.funcs.now c.args.blocks.now (list_of c.args.parts.now.hot.items f)
     (list_of c.args.parts.now.cold.items f))
-    c.loop-f.f c.loop-f.starts.items c.push_some.new.starts.items c.cold_start-start.result c.loop-f.invariant
+    c.loop-f.f c.loop-f.starts.items c.push_some.new.list.items c.cold_start-start.result c.loop-f.invariant
     (c.cold_start-start.ensures
     ∙ ap (λ (part : List ℕ). cold_start c.args.funcs.now c.args.blocks.now part c.list_at-cold.result.now) hot
     ∙ ap (λ (part : List ℕ). cold_start c.args.funcs.now c.args.blocks.now (list_of c.args.parts.now.hot.items c.loop-f.f)
     part) cold)
-    c.in_ok-push_some.ensures
+    c.in_ok-push_some.ensures.is

@@ -1,7 +1,7 @@
 use Rattle.std.proofs.Common.{sym, ap, ◌∙◌, BTreeMap, ℕ, cond, nat_cmp, Some}
 use Rattle.std.specs.Prelude.{is_some}
 use Rattle.std.specs.BTreeMap.{get}
-use Rattle.elf_image.specs.declared.elf.Symbol.{Symbol}
+use Rattle.elf_image.specs.declared.symbol.Symbol.{Symbol}
 use Rattle.elf_write.proofs.FirstNames.{first-new, first-named, first-no_function}
 use Rattle.elf_write.proofs.first_names.first_names.Goals as goal
 use Rattle.elf_write.proofs.first_names.first_names.Goals.{then-names_function+then-not-contains_key+in_ok-insert}

@@ -1,7 +1,7 @@
 use Rattle.std.proofs.Common.{◌≡◌, ◌∙◌, subst, sym, ap, rules, ℕ, List, Some, ◌∷◌, [], ◌++◌, length, length-append, arith}
 use Rattle.std.specs.Prelude.{slice_get, unwrap_or}
 use Rattle.std.proofs.lemmas.Option.{get_or_from_slice_get}
-use Rattle.elf_image.specs.declared.elf.Section.{Section}
+use Rattle.elf_image.specs.declared.section.Section.{Section}
 use Rattle.elf_image.specs.declared.extent.Extent.{Extent}
 use Rattle.elf_write.specs.declared.sections.Contents.{Contents}
 use Rattle.elf_write.specs.declared.sections.Contents.TheVariants.{Dropped}

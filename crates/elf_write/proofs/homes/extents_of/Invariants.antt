@@ -1,6 +1,6 @@
 use Rattle.std.proofs.Common.{◌≡◌, ℕ, Some, length}
 use Rattle.std.specs.Prelude.{slice_get, unwrap_or}
-use Rattle.elf_image.specs.declared.elf.Section.{Section}
+use Rattle.elf_image.specs.declared.section.Section.{Section}
 use Rattle.elf_image.specs.declared.extent.Extent.{Extent}
 use Rattle.elf_write.specs.declared.sections.Contents.TheVariants.{Dropped}
 use Rattle.elf_write.specs.Homes.{extent_of}

@@ -1,6 +1,6 @@
 use Rattle.std.proofs.Common.{◌≡◌, ◌∙◌, ◌+◌, ◌*◌, ◌++◌, sym, subst, ap, rules, ℕ, Bool, List, length, map}
 use Rattle.std.proofs.lemmas.Result.{IfOk-weaker}
-use Rattle.elf_image.specs.declared.elf.Section.{Section}
+use Rattle.elf_image.specs.declared.section.Section.{Section}
 use Rattle.elf_image.specs.declared.header.HeaderFields.{HeaderFields}
 use Rattle.elf_image.specs.declared.section.TheConstants.{SHDR_SIZE}
 use Rattle.elf_image.specs.file.Header.{e_shoff}

@@ -1,6 +1,6 @@
 use Rattle.std.proofs.Common.{◌≡◌, ℕ, ◌<◌, Some}
 use Rattle.std.specs.Prelude.{slice_get}
-use Rattle.elf_image.specs.declared.elf.Section.{Section}
+use Rattle.elf_image.specs.declared.section.Section.{Section}
 use Rattle.elf_write.specs.Contents.{contents_of}
 use Rattle.elf_write.specs.NewSections.{Follows, KeepsHeader}
 use Rattle.elf_write.proofs.section_tables.SectionTables.all_follow.Given as goal

@@ -1,5 +1,5 @@
 use Rattle.std.proofs.Common.{List}
-use Rattle.elf_image.specs.declared.elf.Symbol.{Symbol}
+use Rattle.elf_image.specs.declared.symbol.Symbol.{Symbol}
 use Rattle.elf_write.specs.FirstNames.{AreFirstNames}
 use Rattle.elf_write.specs.NewSymbols.{IsColdSymbol}
 use Rattle.elf_write.specs.PairedLists.{GoTogetherBelow}

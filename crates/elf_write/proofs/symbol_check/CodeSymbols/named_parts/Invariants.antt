@@ -1,5 +1,5 @@
 use Rattle.std.proofs.Common.{◌≡◌, List, take}
-use Rattle.elf_image.specs.declared.elf.Symbol.{Symbol}
+use Rattle.elf_image.specs.declared.symbol.Symbol.{Symbol}
 use Rattle.elf_write.specs.FirstNames.{AreFirstNames}
 use Rattle.elf_write.specs.NewSymbols.{named_parts}
 use Rattle.elf_write.proofs.symbol_check.CodeSymbols.named_parts.Given as goal

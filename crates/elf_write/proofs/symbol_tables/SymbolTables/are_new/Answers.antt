@@ -1,5 +1,5 @@
 use Rattle.std.proofs.Common.{◌≡◌, ◌∙◌, ap, subst, rules, ℕ, List, length, take, drop}
-use Rattle.elf_image.specs.declared.elf.Symbol.{Symbol}
+use Rattle.elf_image.specs.declared.symbol.Symbol.{Symbol}
 use Rattle.elf_write.specs.NewSymbols.{IsColdSymbol, IsNewSymbol, local_count, named_parts, new_info}
 use Rattle.elf_write.proofs.Pairs.{together-at}
 use Rattle.elf_write.proofs.symbol_tables.SymbolTables.are_new.Goals as goal
