@@ -25,7 +25,7 @@ use Rattle.bolt_cli.specs.rewrite.Phases.{AreTextsOf, LinePrinted, all_printed, 
 use Rattle.bolt_cli.specs.rewrite.Phases.{Refuses}
 use Rattle.bolt_cli.specs.rewrite.RewriteAnswers.{HoldBoth, HoldsOut, OthersKept, RewriteAnswers, StopsWriting, at_map, at_out}
 use Rattle.bolt_cli.specs.rewrite.RewriteAnswers.{at_summary, at_write, done}
-use Rattle.bolt_cli.specs.Words.{InputNames, RewriteNames}
+use Rattle.bolt_cli.specs.CommandLine.{InputNames, RewriteNames}
 use Rattle.bolt_cli.specs.World.{World}
 
 -- a fact of what was read is one of what there is

@@ -4,7 +4,7 @@ use Rattle.rb_io.specs.Views.{FilesGoOn}
 use Rattle.rb_bytes.specs.declared.fault.Fault.{Fault}
 use Rattle.bolt_cli.specs.CommandAnswers.{Serves}
 use Rattle.bolt_cli.specs.run.ByteRuns.{byte_mode, IsRunnable, CannotRun, too_long, unsound, much_code}
-use Rattle.bolt_cli.specs.Words.{RunWords, Run}
+use Rattle.bolt_cli.specs.CommandLine.{RunArgs, Run}
 use Rattle.bolt_cli.specs.World.{World}
 use Rattle.bolt_cli.specs.declared.status.Status.{Status}
 use Rattle.bolt_cli.proofs.RunAnswering.{IsLawful, IsRunServed}
@@ -19,14 +19,14 @@ pub lawful : IsLawful byte_mode
 lawful = record {
   long_cannot = λ file long. too_long long refl;
   not_both = not_both;
-  halts = λ program words pc cause. tt;
+  halts = λ program args pc cause. tt;
 }
 
 -- the whole of it, by what is served of the file
-pub serves : (words : RunWords) (old new : World) (answer : Status) → IsRunServed byte_mode words old new answer
+pub serves : (args : RunArgs) (old new : World) (answer : Status) → IsRunServed byte_mode args old new answer
     → FilesGoOn old.files new.files → old.input.faults ≤ new.input.faults → old.output.faults ≤ new.output.faults
-    → Serves (Some (Run words)) answer old new
-serves words old new answer served go_on input output = record {
+    → Serves (Some (Run args)) answer old new
+serves args old new answer served go_on input output = record {
   answers = served.done;
   completes = served.completes;
   files_go_on = go_on;

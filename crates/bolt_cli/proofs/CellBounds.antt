@@ -12,13 +12,13 @@ use Rattle.elf_image.specs.code.Relocations.{Relocation, Width, Bits, plus_width
 use Rattle.elf_image.specs.declared.elf.Elf.{Elf}
 use Rattle.elf_image.specs.declared.segment.Segment.{Segment}
 use Rattle.elf_image.specs.faults.FileFaults.{IsSound}
-use Rattle.elf_image.specs.faults.SegmentLayout.{address_end}
+use Rattle.rv_code.specs.layout.FunctionLists.{address_end}
 use Rattle.elf_image.specs.file.Header.{segment, segments_of}
 use Rattle.elf_image.specs.file.ParsedFile.{IsElfOf}
 use Rattle.elf_image.specs.memory.Image.{loads_address}
 use Rattle.elf_image.specs.memory.LoadedBytes.{file_offset}
 use Rattle.std.proofs.lemmas.List.{get_or_default}
-use Rattle.elf_image.proofs.LoadLemmas.{Contains-there}
+use Rattle.rb_bytes.proofs.Members.{Contains-there}
 use Rattle.elf_image.proofs.ReadLists.{get_or-segments}
 
 -- Widths.

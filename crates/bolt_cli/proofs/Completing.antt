@@ -13,7 +13,7 @@ use Rattle.bolt_cli.specs.rewrite.MapAnswers as map
 use Rattle.bolt_cli.specs.rewrite.RewriteAnswers.{NoneRoseWriting, RewriteAnswers, StopsWriting, at_map, at_out, at_summary}
 use Rattle.bolt_cli.specs.rewrite.RewriteAnswers.{at_write, done}
 use Rattle.bolt_cli.specs.rewrite.RewriteAnswers as rewrite
-use Rattle.bolt_cli.specs.Words.{InputNames, Map, Rewrite, RewriteNames}
+use Rattle.bolt_cli.specs.CommandLine.{InputNames, Map, Rewrite, RewriteNames}
 use Rattle.bolt_cli.specs.World.{World}
 
 -- two facts of both inputs that exclude each other

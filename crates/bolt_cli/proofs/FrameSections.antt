@@ -8,7 +8,7 @@ use Rattle.std.proofs.lemmas.Bool.{and_parts, ltb-true, ltb-false, lt-ltb}
 use Rattle.std.proofs.lemmas.List.Folds.{Any-from_list_any, list_any-from_Any, list_any_at}
 use Rattle.std.proofs.lemmas.Option.{slice_get_read, slice_get_cases}
 use Rattle.elf_image.specs.declared.elf.Elf.{Elf}
-use Rattle.elf_image.specs.declared.elf.Section.{Section}
+use Rattle.elf_image.specs.declared.section.Section.{Section}
 use Rattle.elf_image.specs.file.ParsedFile.{IsElfOf, IsSectionAt}
 use Rattle.elf_image.specs.file.SectionNames.{is_called, is_meant_by, section_called}
 use Rattle.elf_image.proofs.LoadLemmas.{find-found}

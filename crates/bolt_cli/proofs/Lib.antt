@@ -1,9 +1,9 @@
 pub mod Answering
 pub mod Completing
-pub mod OptionWords
+pub mod OptionTokens
 pub mod RunArguments
 pub mod StepLimit
-pub mod WordExamples
+pub mod CommandLineExamples
 pub mod Outcomes
 pub mod RunEnds
 pub mod RunAnswering

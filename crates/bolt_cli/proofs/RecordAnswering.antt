@@ -11,7 +11,7 @@ use Rattle.bolt_cli.specs.recording.RecordRuns.{IsRecordProgram, record_machine,
 use Rattle.bolt_cli.specs.run.RunOutcomes.{Ends, HaltsAt, RunsOn}
 use Rattle.bolt_cli.specs.run.RunAnswers.{at_input, at_output, out_of_memory, under_way, IsRunAnswer, IsExact}
 use Rattle.bolt_cli.specs.run.SymbolRuns.{too_long}
-use Rattle.bolt_cli.specs.Words.{RecordWords, Record}
+use Rattle.bolt_cli.specs.CommandLine.{RecordArgs, Record}
 use Rattle.bolt_cli.specs.World.{World}
 use Rattle.bolt_cli.specs.declared.status.Status.{Status}
 use Rattle.bolt_cli.specs.declared.status.Status.TheVariants as status
@@ -29,8 +29,8 @@ still_holds out text old new files same go_on holds = record {
 }
 
 -- a run that got under way refuses no file, so it may have read its input
-module _ (program : Program) (words : RecordWords) (old_world new_world : World) (answer : Status) where
-  not_refused : (fault : Fault) → RecordsRun program words old_world new_world answer → answer ≡ status.Refused fault → ⊥
+module _ (program : Program) (args : RecordArgs) (old_world new_world : World) (answer : Status) where
+  not_refused : (fault : Fault) → RecordsRun program args old_world new_world answer → answer ≡ status.Refused fault → ⊥
   not_refused fault (recorded (Ends value) text so profiled holds) same = absurd (cc)
   not_refused fault (recorded (HaltsAt pc why) text so profiled holds) same = absurd (cc)
   not_refused fault (recorded RunsOn text so profiled holds) same = absurd (cc)
@@ -40,8 +40,8 @@ module _ (program : Program) (words : RecordWords) (old_world new_world : World)
   not_refused fault (stopped (at_output so rose stops) kept) same = absurd (cc)
   not_refused fault (stopped (out_of_memory so stops) kept) same = absurd (cc)
 
-  pub keeps_input : {Input : Type 0} (old new : Input) → RecordsRun program words old_world new_world answer →
-      KeepsInput (Some (Record words)) answer old new
+  pub keeps_input : {Input : Type 0} (old new : Input) → RecordsRun program args old_world new_world answer →
+      KeepsInput (Some (Record args)) answer old new
   keeps_input old new run = record {
     refused = λ fault same. absurd (not_refused fault run same);
     untouched = λ leaves. absurd leaves;
@@ -51,22 +51,22 @@ pub lawful : IsLawful record_mode
 lawful = record {
   long_cannot = λ file long. too_long long refl;
   not_both = not_both;
-  halts = λ program words pc cause. tt;
+  halts = λ program args pc cause. tt;
 }
 
-module _ (words : RecordWords) (old new : World) where
+module _ (args : RecordArgs) (old new : World) where
   -- a run that got under way
   goes_under_way : (answer : Status) (file : List ℕ) (program : Program)
-      → (IsTrue old.files.told → old.files.content words.run.file ≡ Some file) → IsRecordProgram file program
-      → RecordsRun program words old new answer → RecordAnswers words old new answer
+      → (IsTrue old.files.told → old.files.content args.run.file ≡ Some file) → IsRecordProgram file program
+      → RecordsRun program args old new answer → RecordAnswers args old new answer
   goes_under_way answer file program is program_is run =
       under_way (record { file = file; file_is = is; program = program; program_is = program_is; run = run })
 
   -- what holds from after the file was read on, when nothing was printed, holds from before it
   after_reading : (program : Program) (files : FilesSeen) (answer : Status) → Unchanged old.files.content files.content
       → FilesGoOn old.files files
-      → RecordsRun program words (record { files = files; input = old.input; output = old.output }) new answer
-      → RecordsRun program words old new answer
+      → RecordsRun program args (record { files = files; input = old.input; output = old.output }) new answer
+      → RecordsRun program args old new answer
   after_reading program files answer same go_on (recorded ending text so profiled holds) =
       recorded ending text so (record {
         comes_out = profiled.comes_out;
@@ -75,9 +75,9 @@ module _ (words : RecordWords) (old new : World) where
         gone = profiled.gone;
         text_is = profiled.text_is;
       })
-      (still_holds words.out text old new files same go_on holds)
+      (still_holds args.out text old new files same go_on holds)
   after_reading program files answer same go_on (at_profile ending so rose out others) =
-      at_profile ending so (rose_after _ _ _ (go_on.writes.each words.out) rose) out
+      at_profile ending so (rose_after _ _ _ (go_on.writes.each args.out) rose) out
       (record { others = λ name apart. others.others name apart ∙ same.each name })
   after_reading program files answer same go_on (at_closing ending text so rose profiled holds) =
       at_closing ending text so rose (record {
@@ -87,57 +87,57 @@ module _ (words : RecordWords) (old new : World) where
         gone = profiled.gone;
         text_is = profiled.text_is;
       })
-      (still_holds words.out text old new files same go_on holds)
+      (still_holds args.out text old new files same go_on holds)
   after_reading program files answer same go_on (stopped stops kept) =
       stopped stops (record { each = λ name. kept.each name ∙ same.each name })
 
   -- Where all is quiet, the answer of a run that got under way says how it came out.
-  module _ (file : List ℕ) (told : IsTrue old.files.told) (is : old.files.content words.run.file ≡ Some file)
-      (can : record_mode.CanRun file) (quiet : NoneRoseRecording words old new) (answer : Status) where
-    recorded_said : (program : Program) → RecordsRun program words old new answer → IsRunAnswer answer
+  module _ (file : List ℕ) (told : IsTrue old.files.told) (is : old.files.content args.run.file ≡ Some file)
+      (can : record_mode.CanRun file) (quiet : NoneRoseRecording args old new) (answer : Status) where
+    recorded_said : (program : Program) → RecordsRun program args old new answer → IsRunAnswer answer
     recorded_said program (recorded ending text so profiled holds) =
-        subst IsRunAnswer (sym so) (ending_said record_mode words.run old new lawful file told is can program ending)
+        subst IsRunAnswer (sym so) (ending_said record_mode args.run old new lawful file told is can program ending)
     recorded_said program (at_profile ending so rose out others) = absurd (quiet.out rose)
     recorded_said program (at_closing ending text so rose profiled holds) = absurd (quiet.others.out rose)
     recorded_said program (stopped stops kept) =
-        stop_said record_mode words.run old new lawful file told is can program answer quiet.others stops
+        stop_said record_mode args.run old new lawful file told is can program answer quiet.others stops
 
-    said : RecordAnswers words old new answer → IsRunAnswer answer
+    said : RecordAnswers args old new answer → IsRunAnswer answer
     said done =
-        some_said record_mode words.run old new lawful file told is can (IsRecording words old new answer) answer
+        some_said record_mode args.run old new lawful file told is can (IsRecording args old new answer) answer
         (λ way. recorded_said way.program way.run) quiet.others done
 
   pub after_read : (program : Program) (files : FilesSeen) (output : SinkSeen) (answer : Status)
       → Unchanged old.files.content files.content → FilesGoOn old.files files → output ≡ old.output
-      → RecordsRun program words (record { files = files; input = old.input; output = output }) new answer
-      → RecordsRun program words old new answer
+      → RecordsRun program args (record { files = files; input = old.input; output = output }) new answer
+      → RecordsRun program args old new answer
   after_read program files output answer same go_on unprinted run =
       after_reading program files answer same go_on
-      (subst (λ (o : SinkSeen). RecordsRun program words (record { files = files; input = old.input; output = o }) new answer)
+      (subst (λ (o : SinkSeen). RecordsRun program args (record { files = files; input = old.input; output = o }) new answer)
       unprinted run)
 
   abbrev pub IsRecordServed : Status → Type 0
   IsRecordServed answer =
-      IsServed record_mode words.run (IsRecording words old new answer) (NoneRoseRecording words old new) old new answer
+      IsServed record_mode args.run (IsRecording args old new answer) (NoneRoseRecording args old new) old new answer
 
   pub run_recorded : (answer : Status) (file : List ℕ) (program : Program)
-      → (IsTrue old.files.told → old.files.content words.run.file ≡ Some file) → IsRecordProgram file program
-      → RecordsRun program words old new answer
-      → IsExact (record_machine program words.run.words) words.run.limit old.input.left answer → IsRecordServed answer
+      → (IsTrue old.files.told → old.files.content args.run.file ≡ Some file) → IsRecordProgram file program
+      → RecordsRun program args old new answer
+      → IsExact (record_machine program args.run.args) args.run.limit old.input.left answer → IsRecordServed answer
   run_recorded answer file program is program_is run exact =
-      let done : RecordAnswers words old new answer = goes_under_way answer file program is program_is run in
+      let done : RecordAnswers args old new answer = goes_under_way answer file program is program_is run in
       record {
         done = done;
         completes = λ told other other_is can. record {
           some = λ quiet. said other told other_is can quiet answer done;
           exactly =
-              other_exact record_mode words.run old new answer file other program (is told) other_is program_is exact;
+              other_exact record_mode args.run old new answer file other program (is told) other_is program_is exact;
         };
       }
 
   -- the whole of it, by what is served of the file
   pub serves : (answer : Status) → IsRecordServed answer → FilesGoOn old.files new.files
-      → old.input.faults ≤ new.input.faults → old.output.faults ≤ new.output.faults → Serves (Some (Record words)) answer old new
+      → old.input.faults ≤ new.input.faults → old.output.faults ≤ new.output.faults → Serves (Some (Record args)) answer old new
   serves answer served go_on input output = record {
     answers = served.done;
     completes = served.completes;

@@ -25,55 +25,55 @@ use Rattle.bolt_cli.specs.recording.RecordRuns.{record_machine, moving_steps}
 use Rattle.bolt_cli.specs.run.RunOutcomes.{Ending, Ends, HaltsAt, RunsOn, Loaded, answer_of, closing_line}
 use Rattle.bolt_cli.specs.run.RunAnswers.{Taking, ComesOut, out_of_memory, IsCutShort, IsExact, read_fault, write_fault}
 use Rattle.bolt_cli.specs.run.RunAnswers.{no_memory, outside}
-use Rattle.bolt_cli.specs.Words.{RecordWords}
+use Rattle.bolt_cli.specs.CommandLine.{RecordArgs}
 use Rattle.bolt_cli.specs.World.{World}
 use Rattle.bolt_cli.specs.declared.status.Status.{Status}
 use Rattle.bolt_cli.proofs.Answering.{rose_after}
 use Rattle.bolt_cli.proofs.RunEnds.{came_on, came_ended, came_halted, comes_out, unclosed, stops, only, step_answer, Came}
 
--- a recorded run of the words, functions and blocks by other names of them
-pub by_names : (elf : Elf) (words words' : List (List ℕ)) (limit : ℕ) (before after : Outside) (funcs funcs' : List Func)
-    (blocks blocks' : List Block) (n : ℕ) (text : List ℕ) (a : Answer Cause) → words ≡ words' → funcs ≡ funcs' → blocks ≡ blocks'
-    → Records (start elf.file.now words) limit before after elf funcs blocks n text a
-    → Records (start elf.file.now words') limit before after elf funcs' blocks' n text a
-by_names elf words words' limit before after funcs funcs' blocks blocks' n text a same_words same_funcs same_blocks r =
-    subst (λ (ws : List (List ℕ)). Records (start elf.file.now ws) limit before after elf funcs' blocks' n text a) same_words
-    (subst (λ (fs : List Func). Records (start elf.file.now words) limit before after elf fs blocks' n text a) same_funcs
-    (subst (λ (bs : List Block). Records (start elf.file.now words) limit before after elf funcs bs n text a) same_blocks r))
+-- a recorded run of the arguments, functions and blocks by other names of them
+pub by_names : (elf : Elf) (args args' : List (List ℕ)) (limit : ℕ) (before after : Outside) (funcs funcs' : List Func)
+    (blocks blocks' : List Block) (n : ℕ) (text : List ℕ) (a : Answer Cause) → args ≡ args' → funcs ≡ funcs' → blocks ≡ blocks'
+    → Records (start elf.file.now args) limit before after elf funcs blocks n text a
+    → Records (start elf.file.now args') limit before after elf funcs' blocks' n text a
+by_names elf args args' limit before after funcs funcs' blocks blocks' n text a same_args same_funcs same_blocks r =
+    subst (λ (xs : List (List ℕ)). Records (start elf.file.now xs) limit before after elf funcs' blocks' n text a) same_args
+    (subst (λ (fs : List Func). Records (start elf.file.now args) limit before after elf fs blocks' n text a) same_funcs
+    (subst (λ (bs : List Block). Records (start elf.file.now args) limit before after elf funcs bs n text a) same_blocks r))
 
 -- The run ends with what was taken by `output`, and then the profile is written.
-module _ (program : Program) (words : RecordWords) (steps : ℕ) (text : List ℕ) (old new : World) (output : SinkSeen)
+module _ (program : Program) (args : RecordArgs) (steps : ℕ) (text : List ℕ) (old new : World) (output : SinkSeen)
     (writes_rise : old.output.faults ≤ output.faults) (writes_last : output.faults ≤ new.output.faults) where
   abbrev machine : Loaded ℕ ℕ Cause
-  machine = record_machine program words.run.words
+  machine = record_machine program args.run.args
 
   -- between the run and the writing
   abbrev between : World
   between = record { files = old.files; input = new.input; output = output }
 
   abbrev Recorded : Answer Cause → Type 0
-  Recorded a = Records machine.start words.run.limit (outside old)
+  Recorded a = Records machine.start args.run.limit (outside old)
       (outside between) program.elf program.code.funcs program.blocks steps text a
 
   abbrev FinishedSo : Status → Answer Cause → Type 0
-  FinishedSo result a = Finished result words.out text steps between new a
+  FinishedSo result a = Finished result args.out text steps between new a
 
   abbrev Runs : Answer Cause → Type 0
-  Runs a = RunsFromStart machine.start words.run.limit (outside old) (outside between) a steps
+  Runs a = RunsFromStart machine.start args.run.limit (outside old) (outside between) a steps
 
   abbrev CameSo : (a : Answer Cause) → Runs a → Ending Cause → Type 0
   CameSo a r ending =
-      Came state_of machine words.run.limit r.machine r.ends_as steps (outside old) (outside between) (outside new)
+      Came state_of machine args.run.limit r.machine r.ends_as steps (outside old) (outside between) (outside new)
       r.starts (λ input. refl) (λ pc cause result steps b c printed. printed) refl refl writes_rise writes_last ending
 
   abbrev ComesSo : Taking → Ending Cause → Type 0
-  ComesSo Takes ending = ComesOut machine words.run.limit (outside old) (outside new) Takes ending
+  ComesSo Takes ending = ComesOut machine args.run.limit (outside old) (outside new) Takes ending
 
   abbrev out_of : (a : Answer Cause) (r : Runs a) (Takes : Taking) (ending : Ending Cause)
       → Takes output.taken new.output.taken (closing_line (answer_of machine ending) steps)
       → CameSo a r ending → ComesSo Takes ending
   out_of a r Takes ending line came =
-      comes_out state_of machine words.run.limit r.machine r.ends_as steps (outside old) (outside between) (outside new)
+      comes_out state_of machine args.run.limit r.machine r.ends_as steps (outside old) (outside between) (outside new)
       r.starts (λ input. refl)
       (λ pc cause result steps b c printed. printed) refl refl writes_rise writes_last Takes ending line came
 
@@ -81,8 +81,8 @@ module _ (program : Program) (words : RecordWords) (steps : ℕ) (text : List �
   came_out : (a : Answer Cause) (r : Runs a) (ending : Ending Cause) (came : CameSo a r ending)
       (moves : List Move) (state : ByteState) → ByteMoves (machine.start came.input) (moving_steps ending steps) moves state
       → IsEdgeText program.elf program.code.funcs (taken program.code.funcs program.blocks moves) text → (result : Status)
-      → ProfileWritten result (answer_of machine ending) words.out text
-      (closing_line (answer_of machine ending) steps) between new → RecordsRun program words old new result
+      → ProfileWritten result (answer_of machine ending) args.out text
+      (closing_line (answer_of machine ending) steps) between new → RecordsRun program args old new result
   came_out a r ending came moves state gone text_is result (written is holds line) =
       recorded ending text is
       (record { comes_out = out_of a r TakesAll ending line came; moves = moves; state = state; gone = gone; text_is = text_is })
@@ -101,37 +101,37 @@ module _ (program : Program) (words : RecordWords) (steps : ℕ) (text : List �
       (record { text_is = holds.text_is; others = holds.others })
   came_out a r ending came moves state gone text_is result (unwritten is same kept) =
       stopped (out_of_memory is
-      (unclosed state_of machine words.run.limit r.machine r.ends_as steps (outside old) (outside between) (outside new)
+      (unclosed state_of machine args.run.limit r.machine r.ends_as steps (outside old) (outside between) (outside new)
       r.starts (λ input. refl)
       (λ pc cause result steps b c printed. printed) refl refl writes_rise writes_last kept ending came)) same
 
-  pub answers : (a : Answer Cause) (result : Status) → Recorded a → FinishedSo result a → RecordsRun program words old new result
+  pub answers : (a : Answer Cause) (result : Status) → Recorded a → FinishedSo result a → RecordsRun program args old new result
   answers end.Going result r finished =
       came_out end.Going r.run RunsOn
-      (came_on state_of machine words.run.limit r.run.machine r.run.ends_as steps (outside old) (outside between) (outside new)
+      (came_on state_of machine args.run.limit r.run.machine r.run.ends_as steps (outside old) (outside between) (outside new)
       r.run.starts (λ input. refl) (λ pc cause result steps b c printed. printed) refl refl writes_rise writes_last r.run.runs)
       r.moves r.state r.gone r.text_is result finished
   answers (end.Ended value) result r finished =
       came_out (end.Ended value) r.run (Ends value)
-      (came_ended state_of machine words.run.limit r.run.machine r.run.ends_as steps (outside old) (outside between) (outside new)
+      (came_ended state_of machine args.run.limit r.run.machine r.run.ends_as steps (outside old) (outside between) (outside new)
       r.run.starts (λ input. refl)
       (λ pc cause result steps b c printed. printed) refl refl writes_rise writes_last value r.run.runs)
       r.moves r.state r.gone r.text_is result finished
   answers (end.Halted pc cause) result r finished =
       came_out (end.Halted pc cause) r.run (HaltsAt pc cause)
-      (came_halted state_of machine words.run.limit r.run.machine r.run.ends_as steps (outside old)
+      (came_halted state_of machine args.run.limit r.run.machine r.run.ends_as steps (outside old)
       (outside between) (outside new)
       r.run.starts (λ input. refl)
       (λ pc cause result steps b c printed. printed) refl refl writes_rise writes_last pc cause r.run.runs)
       r.moves r.state r.gone r.text_is result finished
   answers end.ReadFault result r finished =
       stopped
-      (stops state_of machine words.run.limit r.0.machine r.0.ends_as steps (outside old) (outside between) (outside new)
+      (stops state_of machine args.run.limit r.0.machine r.0.ends_as steps (outside old) (outside between) (outside new)
       r.0.starts (λ input. refl) (λ pc cause result steps b c printed. printed) refl refl writes_rise writes_last
       end.ReadFault result tt r.0.runs finished.result_is finished.unprinted) finished.unwritten
   answers end.WriteFault result r finished =
       stopped
-      (stops state_of machine words.run.limit r.0.machine r.0.ends_as steps (outside old) (outside between) (outside new)
+      (stops state_of machine args.run.limit r.0.machine r.0.ends_as steps (outside old) (outside between) (outside new)
       r.0.starts (λ input. refl) (λ pc cause result steps b c printed. printed) refl refl writes_rise writes_last
       end.WriteFault result tt r.0.runs finished.result_is finished.unprinted) finished.unwritten
   answers end.Memory result r finished =
@@ -150,7 +150,7 @@ module _ (program : Program) (words : RecordWords) (steps : ℕ) (text : List �
   Says result ending = (result ≡ answer_of machine ending) ⊎ IsCutShort result
 
   written_says : (result : Status) (ending : Ending Cause) (line : List ℕ)
-      → ProfileWritten result (answer_of machine ending) words.out text line between new → Says result ending
+      → ProfileWritten result (answer_of machine ending) args.out text line between new → Says result ending
   written_says result ending line (written is holds taken) = inl is
   written_says result ending line (phase.at_profile is rose others same) = inr (write_fault is)
   written_says result ending line (at_line is rose holds taken) = inr (write_fault is)
@@ -162,15 +162,15 @@ module _ (program : Program) (words : RecordWords) (steps : ℕ) (text : List �
   finished_says result RunsOn finished = written_says result RunsOn _ finished
 
   only_so : (a : Answer Cause) (r : Runs a) (result : Status) → (IsInterrupted a → ⊥) → FinishedSo result a
-      → IsExact machine words.run.limit old.input.left result
+      → IsExact machine args.run.limit old.input.left result
   only_so a r result came finished =
-      only state_of machine words.run.limit r.machine r.ends_as steps (outside old) (outside between) (outside new)
+      only state_of machine args.run.limit r.machine r.ends_as steps (outside old) (outside between) (outside new)
       r.starts (λ input. refl) (λ pc cause result steps b c printed. printed) refl refl writes_rise writes_last
       a result r.runs (λ fault. absurd (came fault))
       (λ ending same. finished_says result ending (subst (λ b. FinishedSo result b) same finished))
 
   pub exact : (a : Answer Cause) (result : Status) → Recorded a → FinishedSo result a →
-      IsExact machine words.run.limit old.input.left result
+      IsExact machine args.run.limit old.input.left result
   exact end.Going result r finished = only_so end.Going r.run result (λ fault. fault) finished
   exact (end.Ended value) result r finished = only_so (end.Ended value) r.run result (λ fault. fault) finished
   exact (end.Halted pc cause) result r finished = only_so (end.Halted pc cause) r.run result (λ fault. fault) finished

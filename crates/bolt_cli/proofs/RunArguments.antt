@@ -5,7 +5,7 @@ use Rattle.std.specs.List.{list_all}
 use Rattle.std.proofs.lemmas.Bool.Decides.{nat_tests}
 use Rattle.rb_bytes.specs.Text.{decimal_number}
 use Rattle.rv_memory.specs.Limits.{IsWithinLimits}
-use Rattle.bolt_cli.specs.Words.{symbols_of, holds_zero, are_program_words}
+use Rattle.bolt_cli.specs.CommandLine.{symbols_of, holds_zero, are_program_args}
 
 -- whether `--symbols` is there, after it was or wasn't
 abbrev pub symbols_after : Bool → List (Option (List ℕ)) → Option Bool
@@ -18,11 +18,11 @@ pub symbols_of_more : (value : Option (List ℕ)) (values : List (Option (List �
 symbols_of_more value [] = refl
 symbols_of_more value (next ∷ values) = refl
 
--- at most so many words, of at most so many bytes together, and no byte of them zero
+-- at most so many arguments, of at most so many bytes together, and no byte of them zero
 abbrev pub fits : ℕ → ℕ → List (List ℕ) → Bool
-fits most_words most_bytes words =
-    nat_le (length words) most_words && nat_le (sum_by (λ word. length word) words) most_bytes
-    && list_all (λ word. not (holds_zero word)) words
+fits most_args most_bytes args =
+    nat_le (length args) most_args && nat_le (sum_by (λ arg. length arg) args) most_bytes
+    && list_all (λ arg. not (holds_zero arg)) args
 
-pub within_limits : (words : List (List ℕ)) → are_program_words words ≡ true → IsWithinLimits words
-within_limits words h = record { few = grind (arith, nat_tests); short = grind (arith, nat_tests) }
+pub within_limits : (args : List (List ℕ)) → are_program_args args ≡ true → IsWithinLimits args
+within_limits args h = record { few = grind (arith, nat_tests); short = grind (arith, nat_tests) }

@@ -1,7 +1,7 @@
 -- The limit that `--steps` sets, value after value.
 use Rattle.std.proofs.Common.{◌≡◌, ℕ, List, [], ◌∷◌, refl, Option, Some, None}
 use Rattle.rb_bytes.specs.Text.{decimal_number}
-use Rattle.bolt_cli.specs.Words.{limit_of}
+use Rattle.bolt_cli.specs.CommandLine.{limit_of}
 
 -- the limit that the values of `--steps` say after the one that was read, if one was
 abbrev pub limit_after : Option ℕ → List (Option (List ℕ)) → Option ℕ

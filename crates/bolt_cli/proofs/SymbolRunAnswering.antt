@@ -8,7 +8,7 @@ use Rattle.bolt_core.specs.Program.{tabled}
 use Rattle.bolt_cli.specs.CommandAnswers.{Serves}
 use Rattle.bolt_cli.specs.run.SymbolRuns.{symbol_mode, IsSymbolProgram, CanRunSymbols, CannotRunSymbols, too_long, unsound}
 use Rattle.bolt_cli.specs.run.SymbolRuns.{not_built, bad_code, much_code, many_functions}
-use Rattle.bolt_cli.specs.Words.{RunWords, RunSymbols}
+use Rattle.bolt_cli.specs.CommandLine.{RunArgs, RunSymbols}
 use Rattle.bolt_cli.specs.World.{World}
 use Rattle.bolt_cli.specs.declared.status.Status.{Status}
 use Rattle.bolt_cli.proofs.RunAnswering.{IsLawful, IsRunServed}
@@ -32,14 +32,14 @@ pub lawful : IsLawful symbol_mode
 lawful = record {
   long_cannot = λ file long. too_long long refl;
   not_both = not_both;
-  halts = λ program words pc why. tt;
+  halts = λ program args pc why. tt;
 }
 
 -- the whole of it, by what is served of the file
-pub serves : (words : RunWords) (old new : World) (answer : Status) → IsRunServed symbol_mode words old new answer
+pub serves : (args : RunArgs) (old new : World) (answer : Status) → IsRunServed symbol_mode args old new answer
     → FilesGoOn old.files new.files → old.input.faults ≤ new.input.faults → old.output.faults ≤ new.output.faults
-    → Serves (Some (RunSymbols words)) answer old new
-serves words old new answer served go_on input output = record {
+    → Serves (Some (RunSymbols args)) answer old new
+serves args old new answer served go_on input output = record {
   answers = served.done;
   completes = served.completes;
   files_go_on = go_on;

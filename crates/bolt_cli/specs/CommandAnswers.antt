@@ -8,7 +8,7 @@ use Rattle.bolt_cli.specs.declared.status.Status.{Status}
 use Rattle.bolt_cli.specs.declared.status.Status.TheVariants as status
 use Rattle.bolt_cli.specs.Status.{exit_number}
 use Rattle.bolt_cli.specs.World.{World}
-use Rattle.bolt_cli.specs.Words.{Command, Rewrite, Map, Run, RunSymbols, Record}
+use Rattle.bolt_cli.specs.CommandLine.{Command, Rewrite, Map, Run, RunSymbols, Record}
 use Rattle.bolt_cli.specs.Lines.{usage_line}
 use Rattle.bolt_cli.specs.PrintedLines.{PrintsOnly, FailsAtLine}
 use Rattle.bolt_cli.specs.recording.RecordAnswers.{RecordAnswers, RecordCompletes}
@@ -19,7 +19,7 @@ use Rattle.bolt_cli.specs.run.ByteRuns.{byte_mode, IsRunnable}
 use Rattle.bolt_cli.specs.run.RunAnswers.{RunAnswers, RunCompletes}
 use Rattle.bolt_cli.specs.run.SymbolRuns.{symbol_mode, CanRunSymbols}
 
--- the answers to words that are no command
+-- the answers to arguments that are no command
 abbrev pub UsageAnswers : Status → World → World → Type 0
 UsageAnswers status.Usage old new = PrintsOnly usage_line old new
 UsageAnswers status.WriteFault old new = FailsAtLine usage_line old new
@@ -28,9 +28,9 @@ UsageAnswers _ old new = ⊥
 abbrev pub CommandAnswers : Option Command → Status → World → World → Type 0
 CommandAnswers (Some (Rewrite names)) answer old new = RewriteAnswers names old new answer
 CommandAnswers (Some (Map names)) answer old new = MapAnswers names old new answer
-CommandAnswers (Some (Run words)) answer old new = RunAnswers byte_mode words old new answer
-CommandAnswers (Some (RunSymbols words)) answer old new = RunAnswers symbol_mode words old new answer
-CommandAnswers (Some (Record words)) answer old new = RecordAnswers words old new answer
+CommandAnswers (Some (Run args)) answer old new = RunAnswers byte_mode args old new answer
+CommandAnswers (Some (RunSymbols args)) answer old new = RunAnswers symbol_mode args old new answer
+CommandAnswers (Some (Record args)) answer old new = RecordAnswers args old new answer
 CommandAnswers None answer old new = UsageAnswers answer old new
 
 -- A rewrite is done and a map is printed, or memory runs out, where no fault is present and no count rose. A run of a
@@ -40,25 +40,25 @@ Completes (Some (Rewrite names)) answer old new =
     IsTrue old.files.told → OfInputs old names.inputs IsAccepted → NoneRoseWriting names old new → IsOkOrNoMemory answer
 Completes (Some (Map names)) answer old new =
     IsTrue old.files.told → OfInputs old names IsAccepted → NoInputErrors names old new → IsOkOrNoMemory answer
-Completes (Some (Run words)) answer old new =
-    IsTrue old.files.told → (file : List ℕ) → old.files.content words.file ≡ Some file → IsRunnable file →
-    RunCompletes byte_mode words file answer old new
-Completes (Some (RunSymbols words)) answer old new =
-    IsTrue old.files.told → (file : List ℕ) → old.files.content words.file ≡ Some file → CanRunSymbols file →
-    RunCompletes symbol_mode words file answer old new
-Completes (Some (Record words)) answer old new =
-    IsTrue old.files.told → (file : List ℕ) → old.files.content words.run.file ≡ Some file → CanRunSymbols file →
-    RecordCompletes words file answer old new
+Completes (Some (Run args)) answer old new =
+    IsTrue old.files.told → (file : List ℕ) → old.files.content args.file ≡ Some file → IsRunnable file →
+    RunCompletes byte_mode args file answer old new
+Completes (Some (RunSymbols args)) answer old new =
+    IsTrue old.files.told → (file : List ℕ) → old.files.content args.file ≡ Some file → CanRunSymbols file →
+    RunCompletes symbol_mode args file answer old new
+Completes (Some (Record args)) answer old new =
+    IsTrue old.files.told → (file : List ℕ) → old.files.content args.run.file ≡ Some file → CanRunSymbols file →
+    RecordCompletes args file answer old new
 Completes None answer old new = Unit {0}
 
 -- the command doesn't touch standard input
 abbrev pub LeavesInput : Option Command → Type 0
-LeavesInput (Some (Run words)) = ⊥
-LeavesInput (Some (RunSymbols words)) = ⊥
-LeavesInput (Some (Record words)) = ⊥
+LeavesInput (Some (Run args)) = ⊥
+LeavesInput (Some (RunSymbols args)) = ⊥
+LeavesInput (Some (Record args)) = ⊥
 LeavesInput _ = Unit {0}
 
--- What a command does, or words that are none: its answer, and the world after it.
+-- What a command does, or arguments that are none: its answer, and the world after it.
 pub record Serves (command : Option Command) (answer : Status) (old new : World) : Type 0 where
   -- what holds by the answer, and which answers are left where nothing is wrong
   pub answers : CommandAnswers command answer old new

@@ -3,8 +3,8 @@ pub mod rewrite
 pub mod run
 pub mod CommandAnswers
 pub mod Lines
-pub mod WordViews
+pub mod CommandLineViews
 pub mod PrintedLines
 pub mod Status
-pub mod Words
+pub mod CommandLine
 pub mod World

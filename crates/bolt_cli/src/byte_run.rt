@@ -4,15 +4,15 @@ ghost use Rattle.elf_image.specs.faults.FileFaults.{IsSound};
 ghost use Rattle.elf_image.specs.file.ParsedFile.{IsElfOf};
 ghost use Rattle.rv_memory.specs.Limits.{IsWithinLimits};
 ghost use Rattle.bolt_core.specs.Program.{file_limit};
-ghost use Rattle.bolt_cli.specs.WordViews.{run_read};
+ghost use Rattle.bolt_cli.specs.CommandLineViews.{run_read};
 ghost use Rattle.bolt_cli.specs.run.ByteRuns.{byte_machine, CannotRun, IsRunnable};
 ghost use Rattle.bolt_cli.specs.run.Phases.{IsRefusalFor};
 ghost use Rattle.bolt_cli.specs.run.RunAnswers.{AnswersRun, IsExact};
 ghost use Rattle.run_core.specs.Inputs.{outside_of};
 
 use crate::closing::{close, status_of};
+use crate::command_line::{RunArgs, program_args};
 use crate::status::Status;
-use crate::words::{RunWords, program_words};
 use bolt_core::code_limit::has_too_much_code;
 use elf_image::{Elf, read};
 use rb_bytes::fault::{Fault, FaultKind, Refusal};
@@ -37,28 +37,28 @@ pub fn runnable_file<'a>(alloc: Global, file: &'a [u8]) -> Result<Elf<'a>, Refus
 /// Runs a file that was read.
 pub fn run_elf<I: Source, O: Sink>(
     alloc: Global,
-    words: &RunWords<'_>,
+    args: &RunArgs<'_>,
     elf: &Elf<'_>,
     input: &mut I,
     out: &mut O,
 ) -> Status
-    requires limits { IsWithinLimits (run_read words.now).words }
+    requires limits { IsWithinLimits (run_read args.now).args }
     requires fields { IsElfOf elf.now.file.now elf.now }
     requires sound { IsSound elf.now.file.now }
-    ensures answer { AnswersRun (byte_machine elf.now.file.now (run_read words.now).words) words.now.limit
+    ensures answer { AnswersRun (byte_machine elf.now.file.now (run_read args.now).args) args.now.limit
         (outside_of (I.seen input.old) (O.seen out.old))
         (outside_of (I.seen input.new) (O.seen out.new)) result }
-    ensures exact { IsExact (byte_machine elf.now.file.now (run_read words.now).words) words.now.limit
+    ensures exact { IsExact (byte_machine elf.now.file.now (run_read args.now).args) args.now.limit
         (I.seen input.old).left result }
     ensures reads { (I.seen input.old).faults ≤ (I.seen input.new).faults }
     ensures writes { (O.seen out.old).faults ≤ (O.seen out.new).faults }
 {
-    let Ok(program) = program_words(alloc, words) else {
+    let Ok(program) = program_args(alloc, args) else {
         return Status::NoMemory;
     };
     let Ok(mut machine) = Machine::load(alloc, elf, &program) else {
         return Status::NoMemory;
     };
-    let ran = machine.run(words.limit, input, out);
+    let ran = machine.run(args.limit, input, out);
     close(alloc, status_of(ran.end), ran.steps, out)
 }

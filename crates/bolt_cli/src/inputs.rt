@@ -4,14 +4,14 @@ ghost use Rattle.rb_io.specs.FaultCounts.{Rose};
 ghost use Rattle.rb_io.specs.Names.{Unchanged};
 ghost use Rattle.rb_io.specs.Views.{FilesGoOn, SourceSeen};
 ghost use Rattle.bolt_core.specs.Program.{file_limit};
-ghost use Rattle.bolt_cli.specs.WordViews.{inputs_read};
+ghost use Rattle.bolt_cli.specs.CommandLineViews.{inputs_read};
 ghost use Rattle.bolt_cli.specs.World.{world};
 ghost use Rattle.bolt_cli.specs.rewrite.InputAnswers.{IsMadeOf, IsStopped};
 ghost use Rattle.bolt_cli.specs.rewrite.Inputs.{InputsRead, made_by};
 
+use crate::command_line::InputArgs;
 use crate::refusal::refuse;
 use crate::status::Status;
-use crate::words::InputWords;
 use bolt_core::limits::FILE_LIMIT;
 use bolt_core::{Rewritten, rewrite};
 use rb_bytes::fault::{Fault, FaultKind, Refusal};
@@ -34,27 +34,27 @@ pub enum Inputs {
 }
 
 fn read_inputs<F: Files>(
-    words: &InputWords<'_>,
+    args: &InputArgs<'_>,
     files: &mut F,
     file: &mut Vec<u8>,
     profile: &mut Vec<u8>,
 ) -> Inputs
     ensures read { IsTrue (F.seen files.old).told →
-        InputsRead result (F.seen files.old).content (inputs_read words.now) file.new.items profile.new.items }
+        InputsRead result (F.seen files.old).content (inputs_read args.now) file.new.items profile.new.items }
     ensures failed { result ≡ Inputs.Failed →
-        Rose ((F.seen files.old).read_faults words.now.file.now) ((F.seen files.new).read_faults words.now.file.now)
-        ⊎ Rose ((F.seen files.old).read_faults words.now.profile.now) ((F.seen files.new).read_faults words.now.profile.now) }
+        Rose ((F.seen files.old).read_faults args.now.file.now) ((F.seen files.new).read_faults args.now.file.now)
+        ⊎ Rose ((F.seen files.old).read_faults args.now.profile.now) ((F.seen files.new).read_faults args.now.profile.now) }
     ensures kept { Unchanged (F.seen files.old).content (F.seen files.new).content }
     ensures files_go_on { FilesGoOn (F.seen files.old) (F.seen files.new) }
 {
-    let first = files.read_all(words.file, FILE_LIMIT, file);
+    let first = files.read_all(args.file, FILE_LIMIT, file);
     if first == ReadAll::Failed {
         return Inputs::Failed;
     }
     if first == ReadAll::Memory {
         return Inputs::Memory;
     }
-    match files.read_all(words.profile, FILE_LIMIT, profile) {
+    match files.read_all(args.profile, FILE_LIMIT, profile) {
         ReadAll::Failed => Inputs::Failed,
         ReadAll::Memory => Inputs::Memory,
         ReadAll::TooLong | ReadAll::Done if first == ReadAll::TooLong => Inputs::LongFile,
@@ -66,14 +66,14 @@ fn read_inputs<F: Files>(
 /// Rewrites an input by its profile, and writes nothing. Where that isn't done it says why, and how the command ends.
 pub fn rewrite_inputs<F: Files, O: Sink>(
     alloc: Global,
-    words: &InputWords<'_>,
+    args: &InputArgs<'_>,
     files: &mut F,
     out: &mut O,
 ) -> Result<Rewritten, Status>
-    ensures made { IfOk result (λ r. IsMadeOf (inputs_read words.now) (F.seen files.old) (made_by r)) }
+    ensures made { IfOk result (λ r. IsMadeOf (inputs_read args.now) (F.seen files.old) (made_by r)) }
     ensures unprinted { OnOk result (O.seen out.new ≡ O.seen out.old) }
     // Standard input can be any: it stays as it was.
-    ensures stopped { (input : SourceSeen) → IfErr result (IsStopped (inputs_read words.now)
+    ensures stopped { (input : SourceSeen) → IfErr result (IsStopped (inputs_read args.now)
         (world (F.seen files.old) input (O.seen out.old)) (world (F.seen files.new) input (O.seen out.new))) }
     ensures kept { Unchanged (F.seen files.old).content (F.seen files.new).content }
     ensures files_go_on { FilesGoOn (F.seen files.old) (F.seen files.new) }
@@ -81,7 +81,7 @@ pub fn rewrite_inputs<F: Files, O: Sink>(
 {
     let mut file = Vec::new(alloc);
     let mut profile = Vec::new(alloc);
-    match read_inputs(words, files, &mut file, &mut profile) {
+    match read_inputs(args, files, &mut file, &mut profile) {
         Inputs::Whole => {}
         Inputs::LongFile => {
             let fault = Fault::at(FaultKind::TooLarge, 0);

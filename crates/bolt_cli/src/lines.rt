@@ -12,7 +12,7 @@ use rv_code::Cause;
 use std::alloc::Global;
 use sym_machine::Reason;
 
-/// The line for words that are no command.
+/// The line for arguments that are no command.
 pub fn usage() -> &'static [u8]
     ensures { result.now ≡ usage_line }
 {

@@ -1,8 +1,9 @@
-//! The program: it reads its words, does the command, and ends with the number of the answer.
+//! The program: it reads its arguments, does the command, and ends with the number of the answer.
 #![tactic(auto)]
 
 mod byte_run;
 mod closing;
+mod command_line;
 mod frames;
 mod inputs;
 mod lines;
@@ -22,7 +23,6 @@ mod symbol_run;
 #[cfg(test)]
 mod tests;
 mod tool;
-mod words;
 
 use crate::permissions::keep_permissions;
 use crate::serving::serve;
@@ -31,30 +31,30 @@ use rb_io::{HostFiles, HostSink, HostSource};
 use std::env;
 use std::process::ExitCode;
 
-// The words after the program's own name, if there is memory for them.
-fn read_words(rt: &HostRuntime) -> Option<Vec<String>> {
-    let mut words = Vec::new(rt.alloc());
-    let Ok(args) = env::args(rt) else {
+// The arguments that the program is started with, without its own name, if there is memory for them.
+fn read_args(rt: &HostRuntime) -> Option<Vec<String>> {
+    let mut args = Vec::new(rt.alloc());
+    let Ok(given) = env::args(rt) else {
         return None;
     };
-    for word in args.skip(1) {
-        if words.push(word).is_err() {
+    for arg in given.skip(1) {
+        if args.push(arg).is_err() {
             return None;
         }
     }
-    Some(words)
+    Some(args)
 }
 
 fn main(rt: HostRuntime) -> ExitCode {
-    let Some(words) = read_words(&rt) else {
+    let Some(args) = read_args(&rt) else {
         return ExitCode::from(Status::NoMemory.number());
     };
     let mut files = HostFiles::new(&rt);
     let mut input = HostSource::new(rt.stdin());
     let mut out = HostSink::new(rt.stdout());
-    let code = serve(rt.alloc(), &words, &mut files, &mut input, &mut out);
+    let code = serve(rt.alloc(), &args, &mut files, &mut input, &mut out);
     if code == ExitCode::SUCCESS {
-        keep_permissions(&rt, &words);
+        keep_permissions(&rt, &args);
     }
     code
 }

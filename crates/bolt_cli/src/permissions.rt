@@ -1,11 +1,11 @@
 // The permissions of written files.
-use crate::words::{Command, parse};
+use crate::command_line::{Command, parse};
 use std::{fs, io};
 
 /// Gives the output of a rewrite the permissions of its input, where the system allows it: a program is to be run
 /// by those who ran it before. An output that is a device, as `/dev/null`, keeps its own.
-pub fn keep_permissions<R: std::rt::Files>(rt: &R, words: &[String]) {
-    if let Some(Command::Rewrite(names)) = parse(words) {
+pub fn keep_permissions<R: std::rt::Files>(rt: &R, args: &[String]) {
+    if let Some(Command::Rewrite(names)) = parse(args) {
         let _ = copy_permissions(rt, names.inputs.file, names.out);
     }
 }

@@ -2,28 +2,28 @@
 ghost use Rattle.std.specs.Prelude.{Some};
 ghost use Rattle.rb_io.specs.Views.{SourceSeen};
 ghost use Rattle.bolt_cli.specs.CommandAnswers.{Serves};
-ghost use Rattle.bolt_cli.specs.WordViews.{inputs_read};
-ghost use Rattle.bolt_cli.specs.Words.{Map};
+ghost use Rattle.bolt_cli.specs.CommandLineViews.{inputs_read};
+ghost use Rattle.bolt_cli.specs.CommandLine.{Map};
 ghost use Rattle.bolt_cli.specs.World.{world};
 
+use crate::command_line::InputArgs;
 use crate::inputs::rewrite_inputs;
 use crate::status::Status;
-use crate::words::InputWords;
 use rb_io::{Files, Put, Sink};
 use std::alloc::Global;
 
 /// Does `map`.
 pub fn print_map<F: Files, O: Sink>(
     alloc: Global,
-    words: &InputWords<'_>,
+    args: &InputArgs<'_>,
     files: &mut F,
     out: &mut O,
 ) -> Status
     // Standard input can be any: it stays as it was.
-    ensures { (input : SourceSeen) → Serves (Some (Map (inputs_read words.now))) result
+    ensures { (input : SourceSeen) → Serves (Some (Map (inputs_read args.now))) result
         (world (F.seen files.old) input (O.seen out.old)) (world (F.seen files.new) input (O.seen out.new)) }
 {
-    let rewritten = match rewrite_inputs(alloc, words, files, out) {
+    let rewritten = match rewrite_inputs(alloc, args, files, out) {
         Ok(rewritten) => rewritten,
         Err(answer) => return answer,
     };

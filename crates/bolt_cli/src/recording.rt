@@ -5,7 +5,7 @@ ghost use Rattle.rb_io.specs.Views.{FilesGoOn, SourceSeen};
 ghost use Rattle.rv_memory.specs.Limits.{IsWithinLimits};
 ghost use Rattle.rv_machine.specs.StepResults.{answered};
 ghost use Rattle.bolt_cli.specs.CommandAnswers.{KeepsInput, Serves};
-ghost use Rattle.bolt_cli.specs.WordViews.{record_read, run_read};
+ghost use Rattle.bolt_cli.specs.CommandLineViews.{record_read, run_read};
 ghost use Rattle.bolt_cli.specs.recording.Phases.{Finished, ProfileWritten};
 ghost use Rattle.bolt_cli.specs.recording.RecordAnswers.{RecordsRun};
 ghost use Rattle.bolt_cli.specs.recording.RecordRuns.{IsRecordProgram};
@@ -13,15 +13,15 @@ ghost use Rattle.bolt_cli.specs.recording.RecordedCode.{recorded_program};
 ghost use Rattle.bolt_cli.specs.run.ByteRuns.{byte_machine};
 ghost use Rattle.bolt_cli.specs.run.RunOutcomes.{closing_line};
 ghost use Rattle.bolt_cli.specs.run.RunAnswers.{IsExact};
-ghost use Rattle.bolt_cli.specs.Words.{Record};
+ghost use Rattle.bolt_cli.specs.CommandLine.{Record};
 ghost use Rattle.bolt_cli.specs.World.{world};
 
 use crate::closing::{closing_line, status_of};
+use crate::command_line::{RecordArgs, program_args};
 use crate::record_code::{RecordProgram, record_program};
 use crate::refusal::refuse;
 use crate::run_file::read_file;
 use crate::status::Status;
-use crate::words::{RecordWords, program_words};
 use edge_record::{Recorded, trace_edges};
 use rb_io::{Files, Put, Sink, Source, Wrote, print_all};
 use std::alloc::Global;
@@ -78,24 +78,24 @@ fn finish<F: Files, O: Sink>(
 // Runs what was read of a file, and writes a profile of the run.
 fn record_elf<F: Files, I: Source, O: Sink>(
     alloc: Global,
-    words: &RecordWords<'_>,
+    args: &RecordArgs<'_>,
     program: &RecordProgram<'_>,
     files: &mut F,
     input: &mut I,
     out: &mut O,
 ) -> Status
-    requires limits { IsWithinLimits (run_read words.now.run).words }
+    requires limits { IsWithinLimits (run_read args.now.run).args }
     requires program { IsRecordProgram program.now.elf.file.now (recorded_program program.now) }
-    ensures answer { RecordsRun (recorded_program program.now) (record_read words.now)
+    ensures answer { RecordsRun (recorded_program program.now) (record_read args.now)
         (world (F.seen files.old) (I.seen input.old) (O.seen out.old))
         (world (F.seen files.new) (I.seen input.new) (O.seen out.new)) result }
-    ensures exact { IsExact (byte_machine program.now.elf.file.now (run_read words.now.run).words) words.now.run.limit
+    ensures exact { IsExact (byte_machine program.now.elf.file.now (run_read args.now.run).args) args.now.run.limit
         (I.seen input.old).left result }
     ensures files_go_on { FilesGoOn (F.seen files.old) (F.seen files.new) }
     ensures reads { (I.seen input.old).faults ≤ (I.seen input.new).faults }
     ensures writes { (O.seen out.old).faults ≤ (O.seen out.new).faults }
 {
-    let Ok(given) = program_words(alloc, &words.run) else {
+    let Ok(given) = program_args(alloc, &args.run) else {
         return Status::NoMemory;
     };
     let funcs = program.code.funcs.as_slice();
@@ -105,33 +105,33 @@ fn record_elf<F: Files, I: Source, O: Sink>(
         funcs,
         &program.blocks,
         &given,
-        words.run.limit,
+        args.run.limit,
         input,
         out,
     );
-    finish(alloc, words.out, &recorded, files, out)
+    finish(alloc, args.out, &recorded, files, out)
 }
 
 /// Does `record`.
 pub fn record_run<F: Files, I: Source, O: Sink>(
     alloc: Global,
-    words: &RecordWords<'_>,
+    args: &RecordArgs<'_>,
     files: &mut F,
     input: &mut I,
     out: &mut O,
 ) -> Status
-    requires { IsWithinLimits (run_read words.now.run).words }
-    ensures serves { Serves (Some (Record (record_read words.now))) result
+    requires { IsWithinLimits (run_read args.now.run).args }
+    ensures serves { Serves (Some (Record (record_read args.now))) result
         (world (F.seen files.old) (I.seen input.old) (O.seen out.old))
         (world (F.seen files.new) (I.seen input.new) (O.seen out.new)) }
-    ensures input_kept { KeepsInput (Some (Record (record_read words.now))) result input.old input.new }
+    ensures input_kept { KeepsInput (Some (Record (record_read args.now))) result input.old input.new }
 {
-    let file = match read_file(alloc, words.run.file, files, out) {
+    let file = match read_file(alloc, args.run.file, files, out) {
         Ok(file) => file,
         Err(answer) => return answer,
     };
     match record_program(alloc, &file) {
-        Ok(program) => record_elf(alloc, words, &program, files, input, out),
+        Ok(program) => record_elf(alloc, args, &program, files, input, out),
         Err(refusal) => refuse(alloc, refusal, out),
     }
 }

@@ -3,16 +3,16 @@
 ghost use Rattle.std.specs.Prelude.{◌≡◌, ◌≢◌, ◌≤◌, IfOk, Some};
 ghost use Rattle.rb_io.specs.Views.{FilesGoOn, SourceSeen};
 ghost use Rattle.bolt_cli.specs.CommandAnswers.{Serves};
-ghost use Rattle.bolt_cli.specs.WordViews.{names_read};
-ghost use Rattle.bolt_cli.specs.Words.{Rewrite};
+ghost use Rattle.bolt_cli.specs.CommandLineViews.{names_read};
+ghost use Rattle.bolt_cli.specs.CommandLine.{Rewrite};
 ghost use Rattle.bolt_cli.specs.World.{world};
 ghost use Rattle.bolt_cli.specs.rewrite.Inputs.{made_by};
 ghost use Rattle.bolt_cli.specs.rewrite.Phases.{AreTextsOf, OutputsWritten};
 
+use crate::command_line::RewriteArgs;
 use crate::inputs::rewrite_inputs;
 use crate::lines;
 use crate::status::Status;
-use crate::words::RewriteWords;
 use bolt_core::Rewritten;
 use rb_bytes::fault::NoMemory;
 use rb_io::{Files, Put, Sink, Wrote, print_all};
@@ -38,23 +38,23 @@ fn texts_of(alloc: Global, rewritten: &Rewritten) -> Result<Texts, NoMemory>
 
 // Writes the output, the map and the summary.
 fn write_outputs<F: Files, O: Sink>(
-    words: &RewriteWords<'_>,
+    args: &RewriteArgs<'_>,
     files: &mut F,
     out: &mut O,
     rewritten: &Rewritten,
     texts: &Texts,
 ) -> Status
-    requires { words.now.out.now ≢ words.now.map.now }
-    ensures answer { (input : SourceSeen) → OutputsWritten result (names_read words.now)
+    requires { args.now.out.now ≢ args.now.map.now }
+    ensures answer { (input : SourceSeen) → OutputsWritten result (names_read args.now)
         rewritten.now.file.items texts.now.map.items texts.now.summary.items
         (world (F.seen files.old) input (O.seen out.old)) (world (F.seen files.new) input (O.seen out.new)) }
     ensures files_go_on { FilesGoOn (F.seen files.old) (F.seen files.new) }
     ensures faults { (O.seen out.old).faults ≤ (O.seen out.new).faults }
 {
-    if files.write_all(words.out, &rewritten.file) == Wrote::Failed {
+    if files.write_all(args.out, &rewritten.file) == Wrote::Failed {
         return Status::WriteFault;
     }
-    if files.write_all(words.map, &texts.map) == Wrote::Failed {
+    if files.write_all(args.map, &texts.map) == Wrote::Failed {
         return Status::WriteFault;
     }
     match print_all(out, &texts.summary) {
@@ -66,21 +66,21 @@ fn write_outputs<F: Files, O: Sink>(
 /// Does `rewrite`.
 pub fn rewrite<F: Files, O: Sink>(
     alloc: Global,
-    words: &RewriteWords<'_>,
+    args: &RewriteArgs<'_>,
     files: &mut F,
     out: &mut O,
 ) -> Status
-    requires { words.now.out.now ≢ words.now.map.now }
+    requires { args.now.out.now ≢ args.now.map.now }
     // Standard input can be any: it stays as it was.
-    ensures { (input : SourceSeen) → Serves (Some (Rewrite (names_read words.now))) result
+    ensures { (input : SourceSeen) → Serves (Some (Rewrite (names_read args.now))) result
         (world (F.seen files.old) input (O.seen out.old)) (world (F.seen files.new) input (O.seen out.new)) }
 {
-    let rewritten = match rewrite_inputs(alloc, &words.inputs, files, out) {
+    let rewritten = match rewrite_inputs(alloc, &args.inputs, files, out) {
         Ok(rewritten) => rewritten,
         Err(answer) => return answer,
     };
     let Ok(texts) = texts_of(alloc, &rewritten) else {
         return Status::NoMemory;
     };
-    write_outputs(words, files, out, &rewritten, &texts)
+    write_outputs(args, files, out, &rewritten, &texts)
 }

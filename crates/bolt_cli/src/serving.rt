@@ -1,7 +1,7 @@
 // What the process does with files and streams, whatever they are.
 ghost use Rattle.std.specs.Prelude.{map, string_bytes};
 ghost use Rattle.bolt_cli.specs.CommandAnswers.{Exits};
-ghost use Rattle.bolt_cli.specs.Words.{command_of};
+ghost use Rattle.bolt_cli.specs.CommandLine.{command_of};
 ghost use Rattle.bolt_cli.specs.World.{world};
 
 use crate::tool::tool;
@@ -9,20 +9,21 @@ use rb_io::{Files, Sink, Source};
 use std::alloc::Global;
 use std::process::ExitCode;
 
-/// Does what the words say, which don't hold the program's own name, and gives the code that the process exits with.
+/// Does what the arguments say, which don't hold the program's own name, and gives the code that the process exits
+/// with.
 ///
 /// `input` is standard input, and `out` standard output.
 pub fn serve<F: Files, I: Source, O: Sink>(
     alloc: Global,
-    words: &[String],
+    args: &[String],
     files: &mut F,
     input: &mut I,
     out: &mut O,
 ) -> ExitCode
-    ensures { Exits (command_of (map string_bytes words.now)) result
+    ensures { Exits (command_of (map string_bytes args.now)) result
         (world (F.seen files.old) (I.seen input.old) (O.seen out.old))
         (world (F.seen files.new) (I.seen input.new) (O.seen out.new)) input.old input.new }
 {
-    let status = tool(alloc, words, files, input, out);
+    let status = tool(alloc, args, files, input, out);
     ExitCode::from(status.number())
 }

@@ -14,7 +14,7 @@ pub enum Status {
     Ok,
     /// The program that was run ended with this status.
     Ended(u8),
-    /// The words are no command.
+    /// The arguments are no command.
     Usage,
     /// A file is refused: why, and where.
     Refused(Fault),

@@ -2,7 +2,7 @@
 ghost use Rattle.std.specs.Prelude.{◌≡◌, ◌≤◌};
 ghost use Rattle.rv_memory.specs.Limits.{IsWithinLimits};
 ghost use Rattle.sym_machine.specs.MachineState.{answered};
-ghost use Rattle.bolt_cli.specs.WordViews.{run_read};
+ghost use Rattle.bolt_cli.specs.CommandLineViews.{run_read};
 ghost use Rattle.bolt_cli.specs.run.ParsedCode.{program_of};
 ghost use Rattle.bolt_cli.specs.run.Phases.{status_of};
 ghost use Rattle.bolt_cli.specs.run.RunAnswers.{AnswersRun, IsExact};
@@ -10,9 +10,9 @@ ghost use Rattle.bolt_cli.specs.run.SymbolRuns.{IsSymbolProgram, symbol_machine}
 ghost use Rattle.run_core.specs.Inputs.{outside_of};
 
 use crate::closing::close;
+use crate::command_line::{RunArgs, program_args};
 use crate::status::Status;
 use crate::symbol_code::SymbolProgram;
-use crate::words::{RunWords, program_words};
 use rb_io::{Sink, Source};
 use std::alloc::Global;
 use sym_machine::{SymMachine, SymStepped};
@@ -35,21 +35,21 @@ fn status_of(end: SymStepped) -> Status
 pub fn run_program<I: Source, O: Sink>(
     alloc: Global,
     program: &SymbolProgram<'_>,
-    words: &RunWords<'_>,
+    args: &RunArgs<'_>,
     input: &mut I,
     out: &mut O,
 ) -> Status
     requires program { IsSymbolProgram program.now.elf.file.now (program_of program.now) }
-    requires limits { IsWithinLimits (run_read words.now).words }
-    ensures answer { AnswersRun (symbol_machine (program_of program.now) (run_read words.now).words) words.now.limit
+    requires limits { IsWithinLimits (run_read args.now).args }
+    ensures answer { AnswersRun (symbol_machine (program_of program.now) (run_read args.now).args) args.now.limit
         (outside_of (I.seen input.old) (O.seen out.old))
         (outside_of (I.seen input.new) (O.seen out.new)) result }
-    ensures exact { IsExact (symbol_machine (program_of program.now) (run_read words.now).words) words.now.limit
+    ensures exact { IsExact (symbol_machine (program_of program.now) (run_read args.now).args) args.now.limit
         (I.seen input.old).left result }
     ensures reads { (I.seen input.old).faults ≤ (I.seen input.new).faults }
     ensures writes { (O.seen out.old).faults ≤ (O.seen out.new).faults }
 {
-    let Ok(given) = program_words(alloc, words) else {
+    let Ok(given) = program_args(alloc, args) else {
         return Status::NoMemory;
     };
     let funcs = program.code.funcs.as_slice();
@@ -58,6 +58,6 @@ pub fn run_program<I: Source, O: Sink>(
     else {
         return Status::NoMemory;
     };
-    let ran = machine.run(words.limit, input, out);
+    let ran = machine.run(args.limit, input, out);
     close(alloc, status_of(ran.end), ran.steps, out)
 }

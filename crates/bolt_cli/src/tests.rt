@@ -45,10 +45,10 @@ fn text(alloc: Global, text: &str) -> Result<String, Fail> {
     Ok(String::from_str(alloc, text)?)
 }
 
-fn words(alloc: Global, words: &[&str]) -> Result<Vec<String>, Fail> {
+fn args(alloc: Global, strings: &[&str]) -> Result<Vec<String>, Fail> {
     let mut list = Vec::new(alloc);
-    for word in words {
-        list.push(text(alloc, word)?)?;
+    for string in strings {
+        list.push(text(alloc, string)?)?;
     }
     Ok(list)
 }
@@ -74,17 +74,17 @@ fn files(alloc: Global, input: Vec<u8>, fail: &[u64]) -> Result<MemFiles, Fail> 
     files_with(alloc, input, b"", 4096, fail)
 }
 
-// Does what the words say, on a sink with so much room.
+// Does what the arguments say, on a sink with so much room.
 fn answer(
     alloc: Global,
     line: &[&str],
     files: &mut MemFiles,
     room: usize,
 ) -> Result<(Status, MemSink), Fail> {
-    let words = words(alloc, line)?;
+    let args = args(alloc, line)?;
     let mut input = MemSource::new(Vec::new(alloc), Vec::new(alloc));
     let mut out = MemSink::new(alloc, room, Vec::new(alloc))?;
-    let status = tool(alloc, &words, files, &mut input, &mut out);
+    let status = tool(alloc, &args, files, &mut input, &mut out);
     Ok((status, out))
 }
 
@@ -183,7 +183,7 @@ fn a_huge_output_is_not_made(rt: HostRuntime) -> Result<(), Fail> {
 }
 
 #[test]
-fn words_that_are_no_command(rt: HostRuntime) -> Result<(), Fail> {
+fn arguments_that_are_no_command(rt: HostRuntime) -> Result<(), Fail> {
     let alloc = rt.alloc();
     let lines: [&[&str]; 12] = [
         &[],
@@ -211,7 +211,7 @@ fn words_that_are_no_command(rt: HostRuntime) -> Result<(), Fail> {
 }
 
 #[test]
-fn words_after_two_hyphens_are_names(rt: HostRuntime) -> Result<(), Fail> {
+fn arguments_after_two_hyphens_are_names(rt: HostRuntime) -> Result<(), Fail> {
     let alloc = rt.alloc();
     let mut files = files(alloc, exit7(alloc)?, &[])?;
     files.put(text(alloc, "-")?, Vec::new(alloc))?;

@@ -2,21 +2,21 @@
 ghost use Rattle.std.specs.Prelude.{map, string_bytes, None, Some};
 ghost use Rattle.rb_io.specs.Views.{SourceSeen};
 ghost use Rattle.bolt_cli.specs.CommandAnswers.{KeepsInput, Serves};
-ghost use Rattle.bolt_cli.specs.WordViews.{NamesDiffer, WordsFit, command_read};
-ghost use Rattle.bolt_cli.specs.Words.{command_of};
+ghost use Rattle.bolt_cli.specs.CommandLineViews.{NamesDiffer, ArgsFit, command_read};
+ghost use Rattle.bolt_cli.specs.CommandLine.{command_of};
 ghost use Rattle.bolt_cli.specs.World.{world};
 
+use crate::command_line::{Command, parse};
 use crate::lines;
 use crate::print_map::print_map;
 use crate::recording::record_run;
 use crate::rewrite::rewrite;
 use crate::run::{RunMode, run};
 use crate::status::Status;
-use crate::words::{Command, parse};
 use rb_io::{Files, Put, Sink, Source, print_all};
 use std::alloc::Global;
 
-// Says which words are commands.
+// Says which arguments are a command.
 fn usage<F: Files, O: Sink>(files: &F, out: &mut O) -> Status
     ensures { (input : SourceSeen) → Serves None result
         (world (F.seen files.now) input (O.seen out.old)) (world (F.seen files.now) input (O.seen out.new)) }
@@ -36,38 +36,38 @@ fn perform<F: Files, I: Source, O: Sink>(
     out: &mut O,
 ) -> Status
     requires apart { NamesDiffer command.now }
-    requires limits { WordsFit command.now }
+    requires limits { ArgsFit command.now }
     ensures serves { Serves (Some (command_read command.now)) result
         (world (F.seen files.old) (I.seen input.old) (O.seen out.old))
         (world (F.seen files.new) (I.seen input.new) (O.seen out.new)) }
     ensures input_kept { KeepsInput (Some (command_read command.now)) result input.old input.new }
 {
     match command {
-        Command::Rewrite(words) => rewrite(alloc, words, files, out),
-        Command::Map(words) => print_map(alloc, words, files, out),
-        Command::Run(words) => run(alloc, words, RunMode::Bytes, files, input, out),
-        Command::RunSymbols(words) => run(alloc, words, RunMode::Symbols, files, input, out),
-        Command::Record(words) => record_run(alloc, words, files, input, out),
+        Command::Rewrite(args) => rewrite(alloc, args, files, out),
+        Command::Map(args) => print_map(alloc, args, files, out),
+        Command::Run(args) => run(alloc, args, RunMode::Bytes, files, input, out),
+        Command::RunSymbols(args) => run(alloc, args, RunMode::Symbols, files, input, out),
+        Command::Record(args) => record_run(alloc, args, files, input, out),
     }
 }
 
-/// Does what the words say, which don't hold the program's own name.
+/// Does what the arguments say, which don't hold the program's own name.
 ///
 /// `input` is standard input, and `out` standard output. What holds at the end is said by the
 /// answer. Files, input and output that don't tell their bytes have nothing said of them.
 pub fn tool<F: Files, I: Source, O: Sink>(
     alloc: Global,
-    words: &[String],
+    args: &[String],
     files: &mut F,
     input: &mut I,
     out: &mut O,
 ) -> Status
-    ensures serves { Serves (command_of (map string_bytes words.now)) result
+    ensures serves { Serves (command_of (map string_bytes args.now)) result
         (world (F.seen files.old) (I.seen input.old) (O.seen out.old))
         (world (F.seen files.new) (I.seen input.new) (O.seen out.new)) }
-    ensures input_kept { KeepsInput (command_of (map string_bytes words.now)) result input.old input.new }
+    ensures input_kept { KeepsInput (command_of (map string_bytes args.now)) result input.old input.new }
 {
-    match parse(words) {
+    match parse(args) {
         Some(command) => perform(alloc, &command, files, input, out),
         None => usage(files, out),
     }

@@ -13,7 +13,7 @@ use Rattle.bolt_core.specs.Program.{Program}
 use Rattle.bolt_cli.specs.recording.RecordRuns.{IsRecordProgram, record_machine, record_mode, moving_steps}
 use Rattle.bolt_cli.specs.run.RunOutcomes.{Ending, answer_of}
 use Rattle.bolt_cli.specs.run.RunAnswers.{Taking, ComesOut, StopsRun, FileAnswers, IsComplete, NoRunErrors, outside}
-use Rattle.bolt_cli.specs.Words.{RecordWords}
+use Rattle.bolt_cli.specs.CommandLine.{RecordArgs}
 use Rattle.bolt_cli.specs.World.{World, WriteRose}
 use Rattle.bolt_cli.specs.declared.status.Status.{Status}
 use Rattle.bolt_cli.specs.declared.status.Status.TheVariants as status
@@ -27,47 +27,47 @@ pub record HoldsProfile (out : List ℕ) (text : List ℕ) (old new : World) : T
   pub text_is : IsTrue old.files.told → new.files.content out ≡ Some text
   pub others : UnchangedBut out old.files.content new.files.content
 
-module _ (program : Program) (words : RecordWords) (old new : World) where
+module _ (program : Program) (args : RecordArgs) (old new : World) where
   -- The run comes out so, and the text is that of its moves: a line for each pair that was taken, by which a profile of
   -- the file says just how often each pair was taken.
   pub record IsProfiled (Takes : Taking) (ending : Ending Cause) (text : List ℕ) : Type 0 where
     pub comes_out :
-        ComesOut (record_machine program words.run.words) words.run.limit (outside old) (outside new) Takes ending
+        ComesOut (record_machine program args.run.args) args.run.limit (outside old) (outside new) Takes ending
     pub moves : List Move
     pub state : ByteState
-    pub gone : ByteMoves ((record_machine program words.run.words).start comes_out.input) (moving_steps ending comes_out.steps)
+    pub gone : ByteMoves ((record_machine program args.run.args).start comes_out.input) (moving_steps ending comes_out.steps)
         moves state
     pub text_is : IsEdgeText program.elf program.code.funcs (taken program.code.funcs program.blocks moves) text
 
   -- how a run is answered that got under way
   pub data RecordsRun (answer : Status) : Type 0 where
-    recorded : (ending : Ending Cause) (text : List ℕ) → answer ≡ answer_of (record_machine program words.run.words) ending
-        → IsProfiled TakesAll ending text → HoldsProfile words.out text old new → RecordsRun answer
-    at_profile : (ending : Ending Cause) → answer ≡ status.WriteFault → WriteRose old new words.out
-        → ComesOut (record_machine program words.run.words) words.run.limit (outside old) (outside new) TakesNone ending
-        → UnchangedBut words.out old.files.content new.files.content → RecordsRun answer
+    recorded : (ending : Ending Cause) (text : List ℕ) → answer ≡ answer_of (record_machine program args.run.args) ending
+        → IsProfiled TakesAll ending text → HoldsProfile args.out text old new → RecordsRun answer
+    at_profile : (ending : Ending Cause) → answer ≡ status.WriteFault → WriteRose old new args.out
+        → ComesOut (record_machine program args.run.args) args.run.limit (outside old) (outside new) TakesNone ending
+        → UnchangedBut args.out old.files.content new.files.content → RecordsRun answer
     at_closing : (ending : Ending Cause) (text : List ℕ) → answer ≡ status.WriteFault
         → Rose old.output.faults new.output.faults → IsProfiled TakesPrefix ending text
-        → HoldsProfile words.out text old new → RecordsRun answer
-    stopped : StopsRun (record_machine program words.run.words) words.run.limit (outside old) (outside new) answer
+        → HoldsProfile args.out text old new → RecordsRun answer
+    stopped : StopsRun (record_machine program args.run.args) args.run.limit (outside old) (outside new) answer
         → Unchanged old.files.content new.files.content → RecordsRun answer
 
 -- the file was read and has no fault, and the machine with its program answered so
-pub record IsRecording (words : RecordWords) (old new : World) (answer : Status) : Type 0 where
+pub record IsRecording (args : RecordArgs) (old new : World) (answer : Status) : Type 0 where
   pub file : List ℕ
-  pub file_is : IsTrue old.files.told → old.files.content words.run.file ≡ Some file
+  pub file_is : IsTrue old.files.told → old.files.content args.run.file ≡ Some file
   pub program : Program
   pub program_is : IsRecordProgram file program
-  pub run : RecordsRun program words old new answer
+  pub run : RecordsRun program args old new answer
 
-abbrev pub RecordAnswers : RecordWords → World → World → Status → Type 0
-RecordAnswers words old new answer = FileAnswers record_mode words.run (IsRecording words old new answer) old new answer
+abbrev pub RecordAnswers : RecordArgs → World → World → Status → Type 0
+RecordAnswers args old new answer = FileAnswers record_mode args.run (IsRecording args old new answer) old new answer
 
 -- no count of faults rose, of the file that is written neither
-pub record NoneRoseRecording (words : RecordWords) (old new : World) : Type 0 where
-  pub others : NoRunErrors words.run old new
-  pub out : WriteRose old new words.out → ⊥
+pub record NoneRoseRecording (args : RecordArgs) (old new : World) : Type 0 where
+  pub others : NoRunErrors args.run old new
+  pub out : WriteRose old new args.out → ⊥
 
-abbrev pub RecordCompletes : RecordWords → List ℕ → Status → World → World → Type 0
-RecordCompletes words file answer old new =
-    IsComplete record_mode words.run file old.input.left answer (NoneRoseRecording words old new)
+abbrev pub RecordCompletes : RecordArgs → List ℕ → Status → World → World → Type 0
+RecordCompletes args file answer old new =
+    IsComplete record_mode args.run file old.input.left answer (NoneRoseRecording args old new)

@@ -17,7 +17,7 @@ pub record IsRecordProgram (file : List ℕ) (program : Program) : Type 0 where
   pub blocks_are : AreBlocks program.code program.blocks
 
 abbrev pub record_machine : Program → List (List ℕ) → Loaded ℕ ℕ Cause
-record_machine program words = byte_machine program.elf.file.now words
+record_machine program args = byte_machine program.elf.file.now args
 
 -- the faults for which a file isn't run are those of the symbol machine
 abbrev pub record_mode : Mode Program ℕ ℕ Cause

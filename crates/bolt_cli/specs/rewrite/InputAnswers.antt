@@ -11,7 +11,7 @@ use Rattle.bolt_cli.specs.declared.status.Status.{Status}
 use Rattle.bolt_cli.specs.declared.status.Status.TheVariants as status
 use Rattle.bolt_cli.specs.Lines.{refused_line}
 use Rattle.bolt_cli.specs.PrintedLines.{PrintsOnly, IsSilent, FailsAtLine}
-use Rattle.bolt_cli.specs.Words.{InputNames}
+use Rattle.bolt_cli.specs.CommandLine.{InputNames}
 use Rattle.bolt_cli.specs.World.{World, ReadRose}
 
 -- P holds of the contents of the input and of the profile, both being there

@@ -3,7 +3,7 @@ use Rattle.std.specs.Prelude.{◌<◌, ◌≤◌, ℕ, List, Option, IsSomeAnd, 
 use Rattle.bolt_core.specs.Program.{file_limit}
 use Rattle.bolt_core.specs.RewriteCounts.{counts_seen}
 use Rattle.bolt_core.specs.declared.rewriting.Rewritten.{Rewritten}
-use Rattle.bolt_cli.specs.Words.{InputNames}
+use Rattle.bolt_cli.specs.CommandLine.{InputNames}
 use Rattle.bolt_cli.specs.rewrite.InputAnswers.{AreRead, MadeRewrite}
 use Rattle.bolt_cli.specs.declared.inputs.Inputs.{Inputs}
 use Rattle.bolt_cli.specs.declared.inputs.Inputs.TheVariants as inputs

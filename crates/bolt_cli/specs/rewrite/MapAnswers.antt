@@ -5,7 +5,7 @@ use Rattle.bolt_cli.specs.declared.status.Status.{Status}
 use Rattle.bolt_cli.specs.declared.status.Status.TheVariants as status
 use Rattle.bolt_cli.specs.PrintedLines.{PrintsOnly, FailsAtLine}
 use Rattle.bolt_cli.specs.rewrite.InputAnswers.{IsMadeOf, IsStopped, MadeRewrite}
-use Rattle.bolt_cli.specs.Words.{InputNames}
+use Rattle.bolt_cli.specs.CommandLine.{InputNames}
 use Rattle.bolt_cli.specs.World.{World}
 
 pub data MapAnswers (names : InputNames) (old new : World) (answer : Status) : Type 0 where

@@ -10,7 +10,7 @@ use Rattle.bolt_cli.specs.Lines.{refused_line, summary_line}
 use Rattle.bolt_cli.specs.World.{World}
 use Rattle.bolt_cli.specs.rewrite.InputAnswers.{MadeRewrite}
 use Rattle.bolt_cli.specs.rewrite.RewriteAnswers.{HoldBoth, StopsWriting}
-use Rattle.bolt_cli.specs.Words.{RewriteNames}
+use Rattle.bolt_cli.specs.CommandLine.{RewriteNames}
 use Rattle.bolt_cli.specs.declared.status.Status.{Status}
 use Rattle.bolt_cli.specs.declared.status.Status.TheVariants as status
 use Rattle.bolt_cli.specs.declared.rewrite.Texts.{Texts}

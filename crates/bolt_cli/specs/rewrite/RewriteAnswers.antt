@@ -8,7 +8,7 @@ use Rattle.bolt_cli.specs.declared.status.Status.TheVariants as status
 use Rattle.bolt_cli.specs.Lines.{summary_line}
 use Rattle.bolt_cli.specs.PrintedLines.{FailsToPrint}
 use Rattle.bolt_cli.specs.rewrite.InputAnswers.{IsMadeOf, IsStopped, MadeRewrite, NoInputErrors}
-use Rattle.bolt_cli.specs.Words.{RewriteNames}
+use Rattle.bolt_cli.specs.CommandLine.{RewriteNames}
 use Rattle.bolt_cli.specs.World.{World, WriteRose}
 
 -- other names than those of the output and of the map have what they had

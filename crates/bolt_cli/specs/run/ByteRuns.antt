@@ -14,7 +14,7 @@ use Rattle.bolt_cli.specs.run.Modes.{Mode}
 use Rattle.bolt_cli.specs.declared.status.Status.TheVariants as status
 
 abbrev pub byte_machine : List ℕ → List (List ℕ) → Loaded ℕ ℕ Cause
-byte_machine file words = record { step = Steps; start = start file words; halted = status.Trapped }
+byte_machine file args = record { step = Steps; start = start file args; halted = status.Trapped }
 
 -- a file that is run
 pub record IsRunnable (file : List ℕ) : Type 0 where

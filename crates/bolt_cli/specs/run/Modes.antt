@@ -7,7 +7,7 @@ use Rattle.bolt_cli.specs.run.RunOutcomes.{Loaded}
 pub record Mode (P V X C : Type 0) : Type 1 where
   -- what it is given of a file that can be run
   pub IsProgram : List ℕ → P → Type 0
-  -- the machine with that in it, and with the words of its arguments
+  -- the machine with that in it, and with the program's arguments
   pub machine : P → List (List ℕ) → Loaded V X C
   -- no fault is found in a file; and the fault for which one isn't run
   pub CanRun : List ℕ → Type 0

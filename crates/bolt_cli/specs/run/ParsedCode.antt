@@ -2,7 +2,7 @@
 use Rattle.std.specs.Prelude.{◌&&◌, ℕ, nat_lt, Bool, List, codes}
 use Rattle.std.specs.Str.{bytes_eq}
 use Rattle.elf_image.specs.declared.elf.Elf.{Elf}
-use Rattle.elf_image.specs.declared.elf.Section.{Section}
+use Rattle.elf_image.specs.declared.section.Section.{Section}
 use Rattle.elf_write.specs.Need.{HasNoFrames}
 use Rattle.sym_machine.specs.SymStart.{SymProgram}
 use Rattle.bolt_core.specs.declared.file_code.FileCode.{FileCode}

@@ -13,7 +13,7 @@ use Rattle.bolt_cli.specs.Lines.{refused_line}
 use Rattle.bolt_cli.specs.PrintedLines.{PrintsOnly, IsSilent, FailsAtLine}
 use Rattle.bolt_cli.specs.run.RunOutcomes.{Ending, Loaded, answer_of, closing_line, RunsTo}
 use Rattle.bolt_cli.specs.run.Modes.{Mode}
-use Rattle.bolt_cli.specs.Words.{RunWords}
+use Rattle.bolt_cli.specs.CommandLine.{RunArgs}
 use Rattle.bolt_cli.specs.World.{World, ReadRose}
 use Rattle.bolt_cli.specs.declared.status.Status.{Status}
 use Rattle.bolt_cli.specs.declared.status.Status.TheVariants as status
@@ -81,19 +81,19 @@ module _ {V X C : Type 0} (machine : Loaded V X C) (limit : ℕ) (before after :
 abbrev pub outside : World → Outside
 outside w = outside_of w.input w.output
 
-module _ {P V X C : Type 0} (mode : Mode P V X C) (words : RunWords) where
+module _ {P V X C : Type 0} (mode : Mode P V X C) (args : RunArgs) where
   -- the fault is present, where files are told
   abbrev pub HasRunFault : World → Fault → Type 0
-  HasRunFault w fault = IsTrue w.files.told → IsSomeAnd (w.files.content words.file) (λ file. mode.CannotRun file fault)
+  HasRunFault w fault = IsTrue w.files.told → IsSomeAnd (w.files.content args.file) (λ file. mode.CannotRun file fault)
 
   -- The file was read, it can be run, no file was written, and the machine with its program answered so.
   pub record IsUnderWay (old new : World) (answer : Status) : Type 0 where
     pub file : List ℕ
-    pub file_is : IsTrue old.files.told → old.files.content words.file ≡ Some file
+    pub file_is : IsTrue old.files.told → old.files.content args.file ≡ Some file
     pub unwritten : Unchanged old.files.content new.files.content
     pub program : P
     pub program_is : mode.IsProgram file program
-    pub run : AnswersRun (mode.machine program words.words) words.limit (outside old) (outside new) answer
+    pub run : AnswersRun (mode.machine program args.args) args.limit (outside old) (outside new) answer
 
   -- Where nothing is run, standard input stays as it was. U holds of a run that got under way.
   pub data FileAnswers (U : Type 0) (old new : World) (answer : Status) : Type 0 where
@@ -102,7 +102,7 @@ module _ {P V X C : Type 0} (mode : Mode P V X C) (words : RunWords) where
         → new.input ≡ old.input → FileAnswers U old new answer
     at_refusal : (fault : Fault) → answer ≡ status.WriteFault → HasRunFault old fault → FailsAtLine (refused_line fault) old new
         → new.input ≡ old.input → FileAnswers U old new answer
-    at_file : answer ≡ status.ReadFault → ReadRose old new words.file → IsSilent old new → new.input ≡ old.input
+    at_file : answer ≡ status.ReadFault → ReadRose old new args.file → IsSilent old new → new.input ≡ old.input
         → FileAnswers U old new answer
     before_run : answer ≡ status.NoMemory → IsSilent old new → new.input ≡ old.input → FileAnswers U old new answer
 
@@ -131,19 +131,19 @@ IsExact {C = C} machine limit left answer = (input : List ℕ) → left ≡ Some
     (answer ≡ answer_of machine ending) ⊎ IsCutShort answer
 
 -- No count of faults rose: of the file, of standard input and of standard output.
-pub record NoRunErrors (words : RunWords) (old new : World) : Type 0 where
-  pub file : ReadRose old new words.file → ⊥
+pub record NoRunErrors (args : RunArgs) (old new : World) : Type 0 where
+  pub file : ReadRose old new args.file → ⊥
   pub input : Rose old.input.faults new.input.faults → ⊥
   pub out : Rose old.output.faults new.output.faults → ⊥
 
 -- Of a file that can be run: where no I/O errors occurred, the answer says how a run came out. It is exact for the machine
 -- with the file's program, unless it was cut short.
-pub record IsComplete {P V X C : Type 0} (mode : Mode P V X C) (words : RunWords) (file : List ℕ) (left : Option (List ℕ))
+pub record IsComplete {P V X C : Type 0} (mode : Mode P V X C) (args : RunArgs) (file : List ℕ) (left : Option (List ℕ))
     (answer : Status) (NoErrors : Type 0) : Type 0 where
   pub some : NoErrors → IsRunAnswer answer
   pub exactly : IsCutShort answer
-      ⊎ ((program : P) × (mode.IsProgram file program × IsExact (mode.machine program words.words) words.limit left answer))
+      ⊎ ((program : P) × (mode.IsProgram file program × IsExact (mode.machine program args.args) args.limit left answer))
 
 -- none occurred where no count of faults rose
-abbrev pub RunCompletes : {P V X C : Type 0} → Mode P V X C → RunWords → List ℕ → Status → World → World → Type 0
-RunCompletes mode words file answer old new = IsComplete mode words file old.input.left answer (NoRunErrors words old new)
+abbrev pub RunCompletes : {P V X C : Type 0} → Mode P V X C → RunArgs → List ℕ → Status → World → World → Type 0
+RunCompletes mode args file answer old new = IsComplete mode args file old.input.left answer (NoRunErrors args old new)

@@ -32,8 +32,8 @@ use Rattle.bolt_cli.specs.run.Modes.{Mode}
 use Rattle.bolt_cli.specs.declared.status.Status.TheVariants as status
 
 abbrev pub symbol_machine : SymProgram → List (List ℕ) → Loaded Value MemoryByte Reason
-symbol_machine program words =
-    record { step = SymSteps program.funcs; start = program_start program words; halted = status.Stuck }
+symbol_machine program args =
+    record { step = SymSteps program.funcs; start = program_start program args; halted = status.Stuck }
 
 -- Which files are run.
 

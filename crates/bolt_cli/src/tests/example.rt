@@ -6,13 +6,18 @@ use elf_image::{SectionHeader, Segment};
 use std::alloc::Global;
 use std::test::Fail;
 use test_files::exit7_code;
+use test_files::file::PAGE;
 use test_files::headers::{
     ET_EXEC, FileHeader, NULL_SECTION, push_file_header, push_section_header, push_segment,
 };
+use test_files::shapes::{BASE, CODE};
+
+// The address of the first instruction of the new code.
+const NEW_CODE: u64 = 0x10090;
 
 const HEADER: FileHeader = FileHeader {
     kind: ET_EXEC,
-    entry: 0x10090,
+    entry: NEW_CODE,
     phoff: 0x40,
     shoff: 0xc8,
     flags: 0,
@@ -25,11 +30,11 @@ const SEGMENT: Segment = Segment {
     kind: PT_LOAD,
     flags: PF_R | PF_X,
     offset: 0,
-    vaddr: 0x10000,
-    paddr: 0x10000,
+    vaddr: BASE,
+    paddr: BASE,
     filesz: 0xa0,
     memsz: 0xa0,
-    align: 0x1000,
+    align: PAGE,
 };
 
 // Of code in its old place.
@@ -37,7 +42,7 @@ const OLD_TEXT: SectionHeader = SectionHeader {
     name: 17,
     kind: SHT_PROGBITS,
     flags: SHF_ALLOC | SHF_EXECINSTR,
-    addr: 0x10078,
+    addr: CODE,
     offset: 0x78,
     size: 16,
     align: 4,
@@ -57,7 +62,7 @@ const TEXT: SectionHeader = SectionHeader {
     name: 27,
     kind: SHT_PROGBITS,
     flags: SHF_ALLOC | SHF_EXECINSTR,
-    addr: 0x10090,
+    addr: NEW_CODE,
     offset: 0x90,
     size: 16,
     align: 16,

@@ -1,4 +1,4 @@
-// Executables that tests rewrite and run. Their code begins at 10078 but where an address is given.
+// Executables that tests rewrite and run. Their code begins at `CODE` but where an address is given.
 
 use elf_image::relocation::{
     R_RISCV_64, R_RISCV_CALL_PLT, R_RISCV_GOT_HI20, R_RISCV_HI20, R_RISCV_LO12_I,
@@ -12,21 +12,41 @@ use test_files::inst::{
     A0, A3, A4, A5, A6, EXIT, NOP, RA, SP, X0, addi, andi, auipc, bne, jalr, ld, lui, lw, sltiu,
     sub, sw,
 };
-use test_files::shapes::BASE;
+use test_files::shapes::{BASE, CODE, DATA};
 use test_files::{
     BuildError, Section, Symbol, assemble, assemble_short, exit7_code, of_code, of_section,
     program, program_at, two_segments,
 };
+
+/// The address of the first instruction, as a relocation's addend.
+pub const CODE_ADDEND: i64 = CODE as i64;
+
+/// What `addresses_compared` compares with another address: that of its last instruction but one.
+pub const COMPARED: u32 = 0x10090;
+
+/// Where 16 bytes of code stand with 32 bytes of room between them and `NEXT`, which is enough for new code.
+pub const ROOMY: u64 = 0x10fd0;
+
+/// Where they stand with 16 bytes of room, which is too little: new code needs 20.
+pub const TIGHT: u64 = 0x10fe0;
+
+// Where a segment behind the code is loaded, and where it stands in the file.
+const NEXT: u64 = 0x11000;
+
+const NEXT_OFFSET: u64 = 0x1000;
+
+// Where a third segment stands in the file.
+const THIRD_OFFSET: u64 = 0x2000;
 
 // Two functions of two instructions each, of which the first calls a symbol with such a jump.
 fn calling(alloc: Global, jump: Inst, callee: &[u8]) -> Result<Vec<u8>, BuildError> {
     let [set_exit, call] = EXIT;
     let code = assemble(alloc, &[auipc(RA, 0), jump, set_exit, call])?;
     let mut file = program(alloc, &code, &[])?;
-    file.symbols.push(Symbol::function(b"f", 0x10078, 8))?;
-    file.symbols.push(Symbol::function(b"g", 0x10080, 8))?;
+    file.symbols.push(Symbol::function(b"f", CODE, 8))?;
+    file.symbols.push(Symbol::function(b"g", CODE + 8, 8))?;
     file.relocations
-        .push(of_code(0x10078, R_RISCV_CALL_PLT, callee, 0))?;
+        .push(of_code(CODE, R_RISCV_CALL_PLT, callee, 0))?;
     file.build(alloc)
 }
 
@@ -55,19 +75,19 @@ pub fn addresses_in_data(alloc: Global) -> Result<Vec<u8>, BuildError> {
             call,
         ],
     )?;
-    let entry = 0x1008c_u64.to_le_bytes();
+    let entry = (CODE + 20).to_le_bytes();
     let data = [
-        Section::writable(b".init_array", 0x20000, &entry),
-        Section::writable(b".got", 0x20008, &entry),
+        Section::writable(b".init_array", DATA, &entry),
+        Section::writable(b".got", DATA + 8, &entry),
     ];
     let mut file = two_segments(alloc, &code, &data)?;
-    file.symbols.push(Symbol::function(b"f", 0x10078, 20))?;
-    file.symbols.push(Symbol::function(b"g", 0x1008c, 8))?;
-    file.symbols.push(Symbol::label(b"p", 0x10078))?;
+    file.symbols.push(Symbol::function(b"f", CODE, 20))?;
+    file.symbols.push(Symbol::function(b"g", CODE + 20, 8))?;
+    file.symbols.push(Symbol::label(b"p", CODE))?;
     file.relocations.extend_from_slice(&[
-        of_code(0x10078, R_RISCV_GOT_HI20, b"g", 0),
-        of_code(0x1007c, R_RISCV_PCREL_LO12_I, b"p", 0),
-        of_section(b".init_array", 0x20000, R_RISCV_64, b"g", 0),
+        of_code(CODE, R_RISCV_GOT_HI20, b"g", 0),
+        of_code(CODE + 4, R_RISCV_PCREL_LO12_I, b"p", 0),
+        of_section(b".init_array", DATA, R_RISCV_64, b"g", 0),
     ])?;
     file.build(alloc)
 }
@@ -89,14 +109,14 @@ pub fn address_added_to(alloc: Global) -> Result<Vec<u8>, BuildError> {
     )?;
     let mut file = program(alloc, &code, &[])?;
     file.relocations.extend_from_slice(&[
-        of_code(0x10078, R_RISCV_HI20, b"", 0x10088),
-        of_code(0x1007c, R_RISCV_LO12_I, b"", 0x10088),
+        of_code(CODE, R_RISCV_HI20, b"", CODE_ADDEND + 16),
+        of_code(CODE + 4, R_RISCV_LO12_I, b"", CODE_ADDEND + 16),
     ])?;
     file.build(alloc)
 }
 
-/// Copies a function's address in two halves.
-pub fn address_in_halves(alloc: Global) -> Result<Vec<u8>, BuildError> {
+/// Copies a function's address in two pieces.
+pub fn address_in_pieces(alloc: Global) -> Result<Vec<u8>, BuildError> {
     let [set_exit, call] = EXIT;
     let code = assemble(
         alloc,
@@ -114,11 +134,10 @@ pub fn address_in_halves(alloc: Global) -> Result<Vec<u8>, BuildError> {
     )?;
     let mut bytes = [0; 16];
     let (front, _) = bytes.split_at_mut(8);
-    front.copy_from_slice(&0x10094_u64.to_le_bytes());
-    let data = [Section::writable(b".data", 0x20000, &bytes)];
+    front.copy_from_slice(&(CODE + 28).to_le_bytes());
+    let data = [Section::writable(b".data", DATA, &bytes)];
     let mut file = two_segments(alloc, &code, &data)?;
-    file.relocations
-        .push(of_section(b".data", 0x20000, R_RISCV_64, b"", 0x10094))?;
+    file.relocations.push(of_section(b".data", DATA, R_RISCV_64, b"", CODE_ADDEND + 28))?;
     file.build(alloc)
 }
 
@@ -138,26 +157,25 @@ pub fn addresses_compared(alloc: Global, second: u32) -> Result<Vec<u8>, BuildEr
             call,
         ],
     )?;
-    let first = 0x10090_u64.to_le_bytes();
+    let first = (COMPARED as u64).to_le_bytes();
     let other = (second as u64).to_le_bytes();
     let data = [
-        Section::writable(b".first", 0x20000, &first),
-        Section::writable(b".second", 0x20008, &other),
+        Section::writable(b".first", DATA, &first),
+        Section::writable(b".second", DATA + 8, &other),
     ];
     let mut file = two_segments(alloc, &code, &data)?;
-    file.relocations
-        .push(of_section(b".first", 0x20000, R_RISCV_64, b"", 0x10090))?;
-    file.relocations.push(of_section(b".second", 0x20008, R_RISCV_64, b"", second as i64))?;
+    file.relocations.push(of_section(b".first", DATA, R_RISCV_64, b"", COMPARED as i64))?;
+    file.relocations.push(of_section(b".second", DATA + 8, R_RISCV_64, b"", second as i64))?;
     file.build(alloc)
 }
 
-/// Loads the address of the program headers from the stack. Behind its code another segment is loaded at 11000.
+/// Loads the address of the program headers from the stack. Behind its code another segment is loaded at `NEXT`.
 pub fn headers_from_stack(alloc: Global, text: u64) -> Result<Vec<u8>, BuildError> {
     let [set_exit, call] = EXIT;
     let code = assemble(alloc, &[ld(A0, 40, SP), addi(A0, A0, 7), set_exit, call])?;
     let mut file = program_at(alloc, BASE, text, &code, &[])?;
-    let data = [Section::loaded(b".rodata", 0x11000, b"next")];
-    file.add_segment(PF_R, 0x1000, 0x11000, &data)?;
+    let data = [Section::loaded(b".rodata", NEXT, b"next")];
+    file.add_segment(PF_R, NEXT_OFFSET, NEXT, &data)?;
     file.build(alloc)
 }
 
@@ -166,8 +184,8 @@ pub fn falling(alloc: Global) -> Result<Vec<u8>, BuildError> {
     let [set_exit, call] = EXIT;
     let code = assemble(alloc, &[addi(A0, X0, 4), set_exit, call])?;
     let mut file = program(alloc, &code, &[])?;
-    file.symbols.push(Symbol::function(b"f", 0x10078, 4))?;
-    file.symbols.push(Symbol::function(b"g", 0x1007c, 8))?;
+    file.symbols.push(Symbol::function(b"f", CODE, 4))?;
+    file.symbols.push(Symbol::function(b"g", CODE + 4, 8))?;
     file.build(alloc)
 }
 
@@ -199,8 +217,8 @@ pub fn nops(alloc: Global, count: u32) -> Result<Vec<u8>, BuildError> {
     program(alloc, &code, &[])?.build(alloc)
 }
 
-/// The smallest example's code at an address, and behind it another segment of 8 bytes at 11000, and one at an address where
-/// that is given.
+/// The smallest example's code at an address, and behind it another segment of 8 bytes at `NEXT`, and one at an address
+/// where that is given.
 pub fn beside_segment(
     alloc: Global,
     text: u64,
@@ -209,11 +227,11 @@ pub fn beside_segment(
 ) -> Result<Vec<u8>, BuildError> {
     let code = exit7_code(alloc)?;
     let mut file = program_at(alloc, BASE, text, &code, &[])?;
-    let data = [Section::loaded(b".rodata", 0x11000, &[0; 8])];
-    file.add_segment(flags, 0x1000, 0x11000, &data)?;
+    let data = [Section::loaded(b".rodata", NEXT, &[0; 8])];
+    file.add_segment(flags, NEXT_OFFSET, NEXT, &data)?;
     if let Some(address) = third {
         let more = [Section::loaded(b".more", address, &[0; 8])];
-        file.add_segment(PF_R, 0x2000, address, &more)?;
+        file.add_segment(PF_R, THIRD_OFFSET, address, &more)?;
     }
     file.build(alloc)
 }

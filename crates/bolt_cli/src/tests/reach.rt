@@ -8,6 +8,12 @@ use rb_bytes::fault::{Fault, FaultKind};
 use std::alloc::Global;
 use std::process::Abort;
 use std::test::Fail;
+use test_files::shapes::CODE;
+
+// Where the new code stands in the file, behind code with a branch of two bytes and behind code with one of four.
+const BEHIND_SHORT: usize = 0x180;
+
+const BEHIND_FULL: usize = 0x1080;
 
 // A branch over one instruction, of two bytes and of four, that was taken once.
 fn over_short(line: &[u8]) -> Rewriting<'_> {
@@ -42,7 +48,10 @@ fn a_branch_of_two_bytes_reaches(rt: HostRuntime) -> Result<(), Fail> {
     let moved = Rewriting {
         map: MapText::Ends(b"10180 2 10078\n", b"\n1027e 6 1007a\n"),
         summary: b"moved 1 functions, 126 instructions, 260 bytes; 2 hot blocks; 0 profile lines ignored\n",
-        bytes: &[(0x180, b"\x7d\xcd"), (0x27e, b"\x01\x00\x6f\xf0\x3f\xf0")],
+        bytes: &[
+            (BEHIND_SHORT, b"\x7d\xcd"),
+            (BEHIND_SHORT + 254, b"\x01\x00\x6f\xf0\x3f\xf0"),
+        ],
         after: b"[ended 0 after 127 steps]\n",
         ..over_short(b"[ended 0 after 126 steps]\n")
     };
@@ -56,8 +65,8 @@ fn a_branch_of_four_bytes_is_wanted(rt: HostRuntime) -> Result<(), Fail> {
         map: MapText::Ends(b"10180 4 10078\n", b"\n10282 6 1007a\n"),
         summary: b"moved 1 functions, 127 instructions, 264 bytes; 2 hot blocks; 0 profile lines ignored\n",
         bytes: &[
-            (0x180, b"\x63\x01\x05\x10"),
-            (0x282, b"\x01\x00\x6f\xf0\x1f\xf0"),
+            (BEHIND_SHORT, b"\x63\x01\x05\x10"),
+            (BEHIND_SHORT + 258, b"\x01\x00\x6f\xf0\x1f\xf0"),
         ],
         after: b"[ended 0 after 128 steps]\n",
         ..over_short(b"[ended 0 after 127 steps]\n")
@@ -72,7 +81,7 @@ fn a_branch_of_four_bytes_reaches(rt: HostRuntime) -> Result<(), Fail> {
     let moved = Rewriting {
         map: MapText::Ends(b"11080 4 10078\n", b"\n1207e 6 1007c\n"),
         summary: b"moved 1 functions, 2045 instructions, 4100 bytes; 2 hot blocks; 0 profile lines ignored\n",
-        bytes: &[(0x1080, b"\xe3\x0f\x05\x7e")],
+        bytes: &[(BEHIND_FULL, b"\xe3\x0f\x05\x7e")],
         after: b"[ended 0 after 2046 steps]\n",
         ..over_full(b"[ended 0 after 2045 steps]\n")
     };
@@ -85,7 +94,7 @@ fn a_branch_around_a_jump_is_wanted(rt: HostRuntime) -> Result<(), Fail> {
     let moved = Rewriting {
         map: MapText::Ends(b"11080 8 10078\n", b"\n12084 6 1007c\n"),
         summary: b"moved 1 functions, 2046 instructions, 4106 bytes; 2 hot blocks; 0 profile lines ignored\n",
-        bytes: &[(0x1080, b"\x63\x14\x05\x00\x6f\x10\0\0")],
+        bytes: &[(BEHIND_FULL, b"\x63\x14\x05\x00\x6f\x10\0\0")],
         after: b"[ended 0 after 2048 steps]\n",
         ..over_full(b"[ended 0 after 2046 steps]\n")
     };
@@ -118,7 +127,7 @@ fn a_function_that_is_too_long(rt: HostRuntime) -> Result<(), Fail> {
         out.taken(),
         b"refused 18 UnitTooLong at 10078\n".as_slice()
     );
-    let fault = Fault::at(FaultKind::UnitTooLong, 0x10078);
+    let fault = Fault::at(FaultKind::UnitTooLong, CODE);
     assert_eq!(rt; status, Status::Refused(fault));
     Ok(())
 }

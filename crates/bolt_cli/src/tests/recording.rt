@@ -61,7 +61,7 @@ fn some_steps_are_recorded(rt: HostRuntime) -> Result<(), Fail> {
 }
 
 #[test]
-fn words_that_record_nothing(rt: HostRuntime) -> Result<(), Fail> {
+fn arguments_that_record_nothing(rt: HostRuntime) -> Result<(), Fail> {
     let alloc = rt.alloc();
     let lines: [&[&str]; 7] = [
         &["record"],

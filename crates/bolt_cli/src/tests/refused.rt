@@ -13,6 +13,9 @@ use test_files::exit7;
 use test_files::headers::{P_FLAGS, P_MEMSZ, P_VADDR, SH_ADDR, SH_FLAGS};
 use test_files::shapes::{EXIT7_NAMES, EXIT7_SEGMENT, EXIT7_TEXT};
 
+/// The first address that is too high for a byte of a file.
+pub const TOO_HIGH: u64 = 0x7fff_0000;
+
 // Bytes that stand in place of the example's, from an offset on.
 #[derive(Clone, Copy)]
 struct Change<'a> {
@@ -36,16 +39,16 @@ fn changed(alloc: Global, changes: &[Change<'_>]) -> Result<Vec<u8>, Fail> {
     Ok(file)
 }
 
-/// Does what the words say, and checks that a file is refused so.
+/// Does what the arguments say, and checks that a file is refused so.
 pub fn check_command(
     rt: &impl Abort,
     alloc: Global,
-    words: &[&str],
+    args: &[&str],
     files: &mut MemFiles,
     fault: Fault,
     line: &[u8],
 ) -> Result<(), Fail> {
-    let (status, out) = answer(alloc, words, files, 200)?;
+    let (status, out) = answer(alloc, args, files, 200)?;
     assert_eq!(rt; status, Status::Refused(fault));
     assert_eq!(rt; status.number(), 221);
     assert_eq!(rt; out.taken(), line);
@@ -125,7 +128,7 @@ fn high_addresses(rt: HostRuntime) -> Result<(), Fail> {
                 bytes: b"\x78\0\xff\x7f",
             },
         ],
-        fault: Fault::at(FaultKind::HighAddress, 0x7fff_0000),
+        fault: Fault::at(FaultKind::HighAddress, TOO_HIGH),
         line: b"refused 7 HighAddress at 7fff0000\n",
     };
     check_row(&rt, rt.alloc(), &row)

@@ -1,7 +1,7 @@
 // Programs that are rewritten.
 
 use super::programs::{
-    address_added_to, address_in_halves, addresses_compared, addresses_in_data, call,
+    COMPARED, address_added_to, address_in_pieces, addresses_compared, addresses_in_data, call,
     call_of_nothing, falling,
 };
 use super::rewriting::{MapText, Rewriting, check, ends_as_before};
@@ -10,6 +10,9 @@ use rv_code::Cause;
 use std::test::Fail;
 use test_files::inst::A4;
 use test_files::programs::{countdown, greeting, switch_by_addresses, switch_by_distances};
+
+// Where data at `DATA` stands in the file.
+const DATA_OFFSET: usize = 0x1000;
 
 /// The profile of a loop that counts from three down.
 pub const COUNTDOWN_PROFILE: &[u8] = b"1 @10078 c 1 @10078 4 0 3\n1 @10078 4 1 @10078 10 0 1\n";
@@ -171,7 +174,10 @@ fn addresses_of_functions_in_data(rt: HostRuntime) -> Result<(), Fail> {
         map: MapText::Ends(b"100a0 4 10078\n", b"\n100b4 4 1008c\n100b8 4 10090\n"),
         summary: b"moved 2 functions, 7 instructions, 28 bytes; 0 hot blocks; 0 profile lines ignored\n",
         // AUIPC a5,10; LD a5,-152(a5)
-        bytes: &[(0xa0, b"\x97\x07\x01\x00\x83\xb7\x87\xf6"), (0x1000, moved)],
+        bytes: &[
+            (0xa0, b"\x97\x07\x01\x00\x83\xb7\x87\xf6"),
+            (DATA_OFFSET, moved),
+        ],
         ..ends_as_before(0, b"[ended 0 after 7 steps]\n")
     };
     check(&rt, alloc, addresses_in_data(alloc)?, &moved)
@@ -188,24 +194,24 @@ fn an_address_that_is_added_to(rt: HostRuntime) -> Result<(), Fail> {
     check(&rt, rt.alloc(), address_added_to(rt.alloc())?, &moved)
 }
 
-// A function's address that is copied in two halves.
+// A function's address that is copied in two pieces.
 #[test]
-fn an_address_in_halves(rt: HostRuntime) -> Result<(), Fail> {
+fn an_address_in_pieces(rt: HostRuntime) -> Result<(), Fail> {
     let moved = Rewriting {
         map: MapText::Ends(b"100a0 4 10078\n", b"\n100c0 4 10098\n"),
         summary: b"moved 1 functions, 9 instructions, 36 bytes; 0 hot blocks; 0 profile lines ignored\n",
-        bytes: &[(0x1000, b"\xbc\x00\x01\0\0\0\0\0")],
+        bytes: &[(DATA_OFFSET, b"\xbc\x00\x01\0\0\0\0\0")],
         ..ends_as_before(0, b"[ended 0 after 9 steps]\n")
     };
-    check(&rt, rt.alloc(), address_in_halves(rt.alloc())?, &moved)
+    check(&rt, rt.alloc(), address_in_pieces(rt.alloc())?, &moved)
 }
 
 #[test]
 fn addresses_that_are_compared(rt: HostRuntime) -> Result<(), Fail> {
     let alloc = rt.alloc();
     let ends: [(u32, u8, &[u8]); 2] = [
-        (0x10094, 0, b"[ended 0 after 8 steps]\n"),
-        (0x10090, 1, b"[ended 1 after 8 steps]\n"),
+        (COMPARED + 4, 0, b"[ended 0 after 8 steps]\n"),
+        (COMPARED, 1, b"[ended 1 after 8 steps]\n"),
     ];
     for (second, value, line) in ends {
         check(
@@ -215,7 +221,7 @@ fn addresses_that_are_compared(rt: HostRuntime) -> Result<(), Fail> {
             &Rewriting {
                 map: MapText::Ends(b"100a0 4 10078\n", b"\n100bc 4 10094\n"),
                 summary: b"moved 1 functions, 8 instructions, 32 bytes; 0 hot blocks; 0 profile lines ignored\n",
-                bytes: &[(0x1000, b"\xb8\x00\x01\0\0\0\0\0")],
+                bytes: &[(DATA_OFFSET, b"\xb8\x00\x01\0\0\0\0\0")],
                 ..ends_as_before(value, line)
             },
         )?;

@@ -1,7 +1,8 @@
 // Files with another segment behind their code: with room for the new code, and without it, where it gets a segment of its
 // own.
 
-use super::programs::{beside_segment, headers_from_stack};
+use super::programs::{ROOMY, TIGHT, beside_segment, headers_from_stack};
+use super::refused::TOO_HIGH;
 use super::rewriting::{MapText, ROOM, Rewriting, check, ends_as_before};
 use super::{REWRITE, answer, files_with};
 use crate::status::Status;
@@ -13,6 +14,7 @@ use rb_io::MemFiles;
 use std::alloc::Global;
 use std::process::Abort;
 use std::test::Fail;
+use test_files::file::PAGE;
 use test_files::headers::push_segment;
 
 // The smallest example's code, which is moved so.
@@ -24,21 +26,35 @@ fn moved_to<'a>(lines: &'a [u8]) -> Rewriting<'a> {
     }
 }
 
+// Where a new segment above all is loaded, and where it stands in the file.
+const NEW: u64 = 0x12000;
+
+const NEW_OFFSET: u64 = 0x2000;
+
+// Where the header of that segment stands in the file, the third one of the table that it begins with.
+const NEW_HEADER: usize = 0x2070;
+
+// The last page that a segment may be loaded on.
+const LAST_PAGE: u64 = 0x7ffe_f000;
+
+// Where new code would stand above it, behind a table of four program headers.
+const ABOVE_LAST: u64 = TOO_HIGH + 224;
+
 const ABOVE: Segment = Segment {
     kind: PT_LOAD,
     flags: PF_R | PF_X,
-    offset: 0x2000,
-    vaddr: 0x12000,
-    paddr: 0x12000,
+    offset: NEW_OFFSET,
+    vaddr: NEW,
+    paddr: NEW,
     filesz: 0xc0,
     memsz: 0xc0,
-    align: 0x1000,
+    align: PAGE,
 };
 
 #[test]
 fn new_code_behind_the_old(rt: HostRuntime) -> Result<(), Fail> {
     let alloc = rt.alloc();
-    let input = beside_segment(alloc, 0x10fd0, PF_R, None)?;
+    let input = beside_segment(alloc, ROOMY, PF_R, None)?;
     let lines = b"10fe0 4 10fd0\n10fe4 4 10fd4\n10fe8 4 10fd8\n10fec 4 10fdc\n";
     check(&rt, alloc, input, &moved_to(lines))
 }
@@ -47,7 +63,7 @@ fn new_code_behind_the_old(rt: HostRuntime) -> Result<(), Fail> {
 #[test]
 fn new_code_above_all(rt: HostRuntime) -> Result<(), Fail> {
     let alloc = rt.alloc();
-    let input = beside_segment(alloc, 0x10fe0, PF_R, None)?;
+    let input = beside_segment(alloc, TIGHT, PF_R, None)?;
     let lines = b"120b0 4 10fe0\n120b4 4 10fe4\n120b8 4 10fe8\n120bc 4 10fec\n";
     let mut header = Vec::new(alloc);
     push_segment(&mut header, &ABOVE)?;
@@ -55,7 +71,7 @@ fn new_code_above_all(rt: HostRuntime) -> Result<(), Fail> {
         bytes: &[
             (E_PHOFF, b"\0\x20\0\0\0\0\0\0"),
             (E_PHNUM, b"\x03\0"),
-            (0x2070, &header),
+            (NEW_HEADER, &header),
         ],
         ..moved_to(lines)
     };
@@ -66,7 +82,7 @@ fn new_code_above_all(rt: HostRuntime) -> Result<(), Fail> {
 #[test]
 fn new_code_above_the_break(rt: HostRuntime) -> Result<(), Fail> {
     let alloc = rt.alloc();
-    let input = beside_segment(alloc, 0x10fe0, PF_R | PF_W, None)?;
+    let input = beside_segment(alloc, TIGHT, PF_R | PF_W, None)?;
     let lines = b"40120b0 4 10fe0\n40120b4 4 10fe4\n40120b8 4 10fe8\n40120bc 4 10fec\n";
     check(&rt, alloc, input, &moved_to(lines))
 }
@@ -74,7 +90,7 @@ fn new_code_above_the_break(rt: HostRuntime) -> Result<(), Fail> {
 #[test]
 fn no_room_above(rt: HostRuntime) -> Result<(), Fail> {
     let alloc = rt.alloc();
-    let input = beside_segment(alloc, 0x10fe0, PF_R, Some(0x7ffe_f000))?;
+    let input = beside_segment(alloc, TIGHT, PF_R, Some(LAST_PAGE))?;
     let mut files = files_with(alloc, input, b"", 0, &[])?;
     let (status, out) = answer(alloc, &REWRITE, &mut files, 200)?;
     assert_eq!(rt;
@@ -83,7 +99,7 @@ fn no_room_above(rt: HostRuntime) -> Result<(), Fail> {
     );
     let fault = Fault {
         kind: FaultKind::NoRoom,
-        place: 0x7fff_00e0,
+        place: ABOVE_LAST,
         need: 20,
         room: 0,
     };
@@ -104,7 +120,7 @@ fn refuses_moved(rt: &impl Abort, alloc: Global, files: &mut MemFiles) -> Result
 #[test]
 fn files_that_were_moved(rt: HostRuntime) -> Result<(), Fail> {
     let alloc = rt.alloc();
-    for text in [0x10fd0, 0x10fe0] {
+    for text in [ROOMY, TIGHT] {
         let input = beside_segment(alloc, text, PF_R, None)?;
         let mut files = files_with(alloc, input, b"", ROOM, &[])?;
         let (status, _out) = answer(alloc, &REWRITE, &mut files, 200)?;
@@ -118,7 +134,7 @@ fn files_that_were_moved(rt: HostRuntime) -> Result<(), Fail> {
 #[test]
 fn headers_that_a_program_reads(rt: HostRuntime) -> Result<(), Fail> {
     let alloc = rt.alloc();
-    let input = headers_from_stack(alloc, 0x10fd0)?;
+    let input = headers_from_stack(alloc, ROOMY)?;
     check(
         &rt,
         alloc,

@@ -1,6 +1,6 @@
 // Programs that are run: how runs end, what programs are given, and sources, sinks and files that fail.
 
-use super::{USAGE, text, words};
+use super::{USAGE, args, text};
 use crate::status::Status;
 use crate::tool::tool;
 use rb_bytes::fault::{Fault, FaultKind};
@@ -81,11 +81,11 @@ const QUIET: Streams<'static> = Streams {
     room: 200,
 };
 
-// Does what the words say, where the file `in` holds an executable.
+// Does what the arguments say, where the file `in` holds an executable.
 fn run(
     alloc: Global,
     file: Vec<u8>,
-    words: &[String],
+    args: &[String],
     streams: Streams<'_>,
 ) -> Result<(Status, MemSink), Fail> {
     let mut files = MemFiles::new(alloc, Vec::new(alloc));
@@ -93,16 +93,16 @@ fn run(
     let bytes = Vec::from_slice(alloc, streams.input)?;
     let mut input = MemSource::new(bytes, Vec::from_slice(alloc, streams.fail)?);
     let mut out = MemSink::new(alloc, streams.room, Vec::new(alloc))?;
-    let status = tool(alloc, words, &mut files, &mut input, &mut out);
+    let status = tool(alloc, args, &mut files, &mut input, &mut out);
     Ok((status, out))
 }
 
-// A program, the words that run it, and how the run comes out.
+// A program, the arguments that run it, and how the run comes out.
 #[derive(Clone, Copy)]
 struct Case<'a> {
     code: &'a [Inst],
     data: &'a [u8],
-    words: &'a [&'a str],
+    args: &'a [&'a str],
     status: Status,
     printed: &'a [u8],
 }
@@ -110,7 +110,7 @@ struct Case<'a> {
 fn check(rt: &impl Abort, alloc: Global, case: &Case<'_>) -> Result<(), Fail> {
     let code = assemble(alloc, case.code)?;
     let file = executable(alloc, &code, case.data)?;
-    let (status, out) = run(alloc, file, &words(alloc, case.words)?, QUIET)?;
+    let (status, out) = run(alloc, file, &args(alloc, case.args)?, QUIET)?;
     assert_eq!(rt; status, case.status);
     assert_eq!(rt; out.taken(), case.printed);
     Ok(())
@@ -122,21 +122,21 @@ fn programs_end(rt: HostRuntime) -> Result<(), Fail> {
         Case {
             code: &greeting_code(),
             data: b"hi",
-            words: &["run", "in"],
+            args: &["run", "in"],
             status: Status::Ended(0),
             printed: b"hi[ended 0 after 9 steps]\n",
         },
         Case {
             code: &countdown_code(),
             data: &[],
-            words: &["run", "in"],
+            args: &["run", "in"],
             status: Status::Ended(0),
             printed: b"[ended 0 after 13 steps]\n",
         },
         Case {
             code: &countdown_code(),
             data: &[],
-            words: &["run", "--steps", "13", "in"],
+            args: &["run", "--steps", "13", "in"],
             status: Status::Ended(0),
             printed: b"[ended 0 after 13 steps]\n",
         },
@@ -168,11 +168,11 @@ fn runs_are_out_of_steps(rt: HostRuntime) -> Result<(), Fail> {
         ),
     ];
     assert_eq!(rt; Status::OutOfSteps.number(), 226);
-    for (words, printed) in cases {
+    for (args, printed) in cases {
         let case = Case {
             code: &countdown_code(),
             data: &[],
-            words,
+            args,
             status: Status::OutOfSteps,
             printed,
         };
@@ -194,7 +194,7 @@ fn check_trap(
     let case = Case {
         code,
         data: &[],
-        words: &["run", "in"],
+        args: &["run", "in"],
         status,
         printed,
     };
@@ -240,7 +240,7 @@ fn no_instruction_is_a_trap(rt: HostRuntime) -> Result<(), Fail> {
     let alloc = rt.alloc();
     let printed: &[u8] = b"[trapped Illegal at 10078 after 0 steps]\n";
     let file = executable(alloc, &[0; 4], &[])?;
-    let (status, out) = run(alloc, file, &words(alloc, &["run", "in"])?, QUIET)?;
+    let (status, out) = run(alloc, file, &args(alloc, &["run", "in"])?, QUIET)?;
     assert_eq!(rt; status, Status::Trapped(CODE, Cause::Illegal));
     assert_eq!(rt; out.taken(), printed);
     Ok(())
@@ -257,7 +257,7 @@ fn a_long_program_is_run(rt: HostRuntime) -> Result<(), Fail> {
     let case = Case {
         code: &code,
         data: &[],
-        words: &["run", "in"],
+        args: &["run", "in"],
         status: Status::Ended(0),
         printed: b"[ended 0 after 249999 steps]\n",
     };
@@ -265,7 +265,7 @@ fn a_long_program_is_run(rt: HostRuntime) -> Result<(), Fail> {
 }
 
 #[test]
-fn programs_are_given_their_words(rt: HostRuntime) -> Result<(), Fail> {
+fn programs_are_given_their_arguments(rt: HostRuntime) -> Result<(), Fail> {
     let cases: [(&[&str], u8, &[u8]); 4] = [
         (
             &["run", "in", "alpha"],
@@ -288,11 +288,11 @@ fn programs_are_given_their_words(rt: HostRuntime) -> Result<(), Fail> {
             b"--ste[ended 2 after 8 steps]\n",
         ),
     ];
-    for (words, status, printed) in cases {
+    for (args, status, printed) in cases {
         let case = Case {
             code: &arguments(),
             data: &[],
-            words,
+            args,
             status: Status::Ended(status),
             printed,
         };
@@ -301,41 +301,46 @@ fn programs_are_given_their_words(rt: HostRuntime) -> Result<(), Fail> {
     Ok(())
 }
 
-// `run in` with so many words of so many bytes each.
-fn many_words(alloc: Global, count: usize, size: usize) -> Result<Vec<String>, Fail> {
-    let mut list = words(alloc, &["run", "in"])?;
+// `run in` with so many arguments of so many bytes each.
+fn many_args(alloc: Global, count: usize, size: usize) -> Result<Vec<String>, Fail> {
+    let mut list = args(alloc, &["run", "in"])?;
     for _ in 0..count {
-        let mut word = String::new(alloc);
+        let mut arg = String::new(alloc);
         for _ in 0..size {
-            word.push('w')?;
+            arg.push('w')?;
         }
-        list.push(word)?;
+        list.push(arg)?;
     }
     Ok(list)
 }
 
+/// How many arguments a program is given at most, and of how many bytes in all.
+const MOST_ARGS: usize = 64;
+
+const MOST_BYTES: usize = 65536;
+
 #[test]
-fn programs_are_given_at_most_so_many_words(rt: HostRuntime) -> Result<(), Fail> {
+fn programs_are_given_at_most_so_many_arguments(rt: HostRuntime) -> Result<(), Fail> {
     let alloc = rt.alloc();
     let cases: [(usize, usize, Status, &[u8]); 4] = [
         (
-            64,
-            1024,
+            MOST_ARGS,
+            MOST_BYTES / MOST_ARGS,
             Status::Ended(65),
             b"wwwww[ended 65 after 8 steps]\n",
         ),
-        (65, 5, Status::Usage, USAGE),
+        (MOST_ARGS + 1, 5, Status::Usage, USAGE),
         (
             1,
-            65536,
+            MOST_BYTES,
             Status::Ended(2),
             b"wwwww[ended 2 after 8 steps]\n",
         ),
-        (1, 65537, Status::Usage, USAGE),
+        (1, MOST_BYTES + 1, Status::Usage, USAGE),
     ];
     for (count, size, wanted, printed) in cases {
         let file = executable(alloc, &assemble(alloc, &arguments())?, &[])?;
-        let (status, out) = run(alloc, file, &many_words(alloc, count, size)?, QUIET)?;
+        let (status, out) = run(alloc, file, &many_args(alloc, count, size)?, QUIET)?;
         assert_eq!(rt; status, wanted);
         assert_eq!(rt; out.taken(), printed);
     }
@@ -343,7 +348,7 @@ fn programs_are_given_at_most_so_many_words(rt: HostRuntime) -> Result<(), Fail>
 }
 
 #[test]
-fn words_that_are_no_run(rt: HostRuntime) -> Result<(), Fail> {
+fn arguments_that_are_no_run(rt: HostRuntime) -> Result<(), Fail> {
     let alloc = rt.alloc();
     let lines: [&[&str]; 18] = [
         &["run"],
@@ -366,7 +371,7 @@ fn words_that_are_no_run(rt: HostRuntime) -> Result<(), Fail> {
         &["run", "in", "a\0b"],
     ];
     for line in lines {
-        let (status, out) = run(alloc, exit7(alloc)?, &words(alloc, line)?, QUIET)?;
+        let (status, out) = run(alloc, exit7(alloc)?, &args(alloc, line)?, QUIET)?;
         assert_eq!(rt; status, Status::Usage);
         assert_eq!(rt; out.taken(), USAGE);
     }
@@ -388,7 +393,7 @@ fn sources_that_fail_in_mid_stream(rt: HostRuntime) -> Result<(), Fail> {
             room: 200,
         };
         let file = executable(alloc, &assemble(alloc, &copy())?, &[])?;
-        let (status, out) = run(alloc, file, &words(alloc, &["run", "in"])?, streams)?;
+        let (status, out) = run(alloc, file, &args(alloc, &["run", "in"])?, streams)?;
         assert_eq!(rt; status, wanted);
         assert_eq!(rt; out.taken(), printed);
     }
@@ -402,7 +407,7 @@ fn sinks_that_are_full(rt: HostRuntime) -> Result<(), Fail> {
     for room in [0, 1, 2, 3, 25] {
         let file = executable(alloc, &assemble(alloc, &greeting_code())?, b"hi")?;
         let streams = Streams { room, ..QUIET };
-        let (status, out) = run(alloc, file, &words(alloc, &["run", "in"])?, streams)?;
+        let (status, out) = run(alloc, file, &args(alloc, &["run", "in"])?, streams)?;
         assert_eq!(rt; status, Status::WriteFault);
         assert_eq!(rt; out.taken(), whole.get(..room).ok_or("room")?);
     }
@@ -430,7 +435,7 @@ fn files_that_are_missing_or_refused(rt: HostRuntime) -> Result<(), Fail> {
     for (name, size, wanted, printed) in cases {
         let mut file = exit7(alloc)?;
         file.truncate(size);
-        let (status, out) = run(alloc, file, &words(alloc, &["run", name])?, QUIET)?;
+        let (status, out) = run(alloc, file, &args(alloc, &["run", name])?, QUIET)?;
         assert_eq!(rt; status, wanted);
         assert_eq!(rt; out.taken(), printed);
     }

@@ -40,14 +40,14 @@ pub struct Sample {
 pub const ONE_FUNCTION: Sample = Sample {
     functions: 1,
     call: (0, -0x34),
-    data: 0x11048,
+    data: CODE + 72,
     size: 80,
 };
 
 pub const THREE_FUNCTIONS: Sample = Sample {
     functions: 3,
     call: (0, -0x94),
-    data: 0x110a8,
+    data: CODE + 168,
     size: 160,
 };
 
@@ -55,7 +55,7 @@ pub const THREE_FUNCTIONS: Sample = Sample {
 const HUNDRED_FUNCTIONS: Sample = Sample {
     functions: 100,
     call: (-1, -0x2c4),
-    data: 0x122d8,
+    data: CODE + 4824,
     size: 4040,
 };
 

@@ -1,11 +1,11 @@
 // Programs that run on the symbol machine: how their runs end there and on the byte machine, and where it gets stuck.
 
 use super::programs::{
-    address_added_to, address_in_halves, addresses_compared, addresses_in_data, beside_segment,
-    call, falling, headers_from_stack,
+    COMPARED, ROOMY, TIGHT, address_added_to, address_in_pieces, addresses_compared,
+    addresses_in_data, beside_segment, call, falling, headers_from_stack,
 };
 use super::samples::{ONE_FUNCTION, THREE_FUNCTIONS, sample_file};
-use super::{text, words};
+use super::{args, text};
 use crate::status::Status;
 use crate::tool::tool;
 use elf_image::segment::{PF_R, PF_W};
@@ -17,20 +17,15 @@ use sym_machine::Reason;
 use test_files::exit7;
 use test_files::inst::A4;
 use test_files::programs::{countdown, greeting, switch_by_addresses, switch_by_distances};
+use test_files::shapes::CODE;
 
-// Runs the file `in` by these words.
+// Runs the file `in` by these arguments.
 fn run(alloc: Global, file: &[u8], line: &[&str]) -> Result<(Status, MemSink), Fail> {
     let mut files = MemFiles::new(alloc, Vec::new(alloc));
     files.put(text(alloc, "in")?, Vec::from_slice(alloc, file)?)?;
     let mut input = MemSource::new(Vec::new(alloc), Vec::new(alloc));
     let mut out = MemSink::new(alloc, 200, Vec::new(alloc))?;
-    let status = tool(
-        alloc,
-        &words(alloc, line)?,
-        &mut files,
-        &mut input,
-        &mut out,
-    );
+    let status = tool(alloc, &args(alloc, line)?, &mut files, &mut input, &mut out);
     Ok((status, out))
 }
 
@@ -110,14 +105,14 @@ fn addresses_in_data_end_alike(rt: HostRuntime) -> Result<(), Fail> {
     let alloc = rt.alloc();
     let runs: [(Vec<u8>, u8, &[u8]); 5] = [
         (addresses_in_data(alloc)?, 0, b"[ended 0 after 7 steps]\n"),
-        (address_in_halves(alloc)?, 0, b"[ended 0 after 9 steps]\n"),
+        (address_in_pieces(alloc)?, 0, b"[ended 0 after 9 steps]\n"),
         (
-            addresses_compared(alloc, 0x10094)?,
+            addresses_compared(alloc, COMPARED + 4)?,
             0,
             b"[ended 0 after 8 steps]\n",
         ),
         (
-            addresses_compared(alloc, 0x10090)?,
+            addresses_compared(alloc, COMPARED)?,
             1,
             b"[ended 1 after 8 steps]\n",
         ),
@@ -136,7 +131,7 @@ fn files_without_room_end_alike(rt: HostRuntime) -> Result<(), Fail> {
     let alloc = rt.alloc();
     let ended: (Status, &[u8]) = (Status::Ended(7), b"[ended 7 after 4 steps]\n");
     for flags in [PF_R, PF_R | PF_W] {
-        let file = beside_segment(alloc, 0x10fe0, flags, None)?;
+        let file = beside_segment(alloc, TIGHT, flags, None)?;
         comes_out_alike(&rt, alloc, &file, ended)?;
     }
     Ok(())
@@ -146,10 +141,10 @@ fn files_without_room_end_alike(rt: HostRuntime) -> Result<(), Fail> {
 fn a_pointer_is_added_to(rt: HostRuntime) -> Result<(), Fail> {
     let alloc = rt.alloc();
     let file = address_added_to(alloc)?;
-    assert_eq!(rt; Status::Stuck(0x10080, Reason::Operate).number(), 227);
+    assert_eq!(rt; Status::Stuck(CODE + 8, Reason::Operate).number(), 227);
     let ended: (Status, &[u8]) = (Status::Ended(0), b"[ended 0 after 6 steps]\n");
     let stuck: (Status, &[u8]) = (
-        Status::Stuck(0x10080, Reason::Operate),
+        Status::Stuck(CODE + 8, Reason::Operate),
         b"[stuck Operate at 10080 after 2 steps]\n",
     );
     come_out(&rt, alloc, &file, ended, stuck)
@@ -160,10 +155,10 @@ fn a_pointer_is_added_to(rt: HostRuntime) -> Result<(), Fail> {
 fn what_a_rewriting_changes_is_hidden(rt: HostRuntime) -> Result<(), Fail> {
     let alloc = rt.alloc();
     let ended: (Status, &[u8]) = (Status::Ended(71), b"[ended 71 after 4 steps]\n");
-    comes_out_alike(&rt, alloc, &headers_from_stack(alloc, 0x10fd0)?, ended)?;
-    let tight = headers_from_stack(alloc, 0x10fe0)?;
+    comes_out_alike(&rt, alloc, &headers_from_stack(alloc, ROOMY)?, ended)?;
+    let tight = headers_from_stack(alloc, TIGHT)?;
     let stuck: (Status, &[u8]) = (
-        Status::Stuck(0x10fe0, Reason::Hidden),
+        Status::Stuck(TIGHT, Reason::Hidden),
         b"[stuck Hidden at 10fe0 after 0 steps]\n",
     );
     come_out(&rt, alloc, &tight, ended, stuck)

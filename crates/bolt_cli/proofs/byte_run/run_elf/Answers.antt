@@ -6,7 +6,7 @@ use Rattle.run_core.specs.Inputs.{Outside}
 use Rattle.rv_machine.specs.declared.machine.Machine.{Machine}
 use Rattle.rv_machine.specs.State.{state_of}
 use Rattle.rv_machine.specs.StepResults.{answered}
-use Rattle.bolt_cli.specs.WordViews.{run_read}
+use Rattle.bolt_cli.specs.CommandLineViews.{run_read}
 use Rattle.bolt_cli.specs.run.ByteRuns.{byte_machine}
 use Rattle.bolt_cli.specs.run.Phases.{Closed}
 use Rattle.bolt_cli.specs.run.RunAnswers.{out_of_memory, stopped, no_memory}
@@ -14,21 +14,21 @@ use Rattle.bolt_cli.specs.declared.status.Status.{Status}
 use Rattle.bolt_cli.proofs.RunEnds.{no_step, answers, exact}
 use Rattle.bolt_cli.proofs.byte_run.run_elf.Goals as goal
 
--- the machine starts with the words that were read
-started : (m : Machine) (file : List ℕ) (given items : List (String Global)) (words : List (List ℕ)) → given ≡ items →
-    map string_bytes items ≡ words →
+-- the machine starts with the arguments that were read
+started : (m : Machine) (file : List ℕ) (given items : List (String Global)) (args : List (List ℕ)) → given ≡ items →
+    map string_bytes items ≡ args →
     ((input : List ℕ) → state_of m input ≡ start file (map string_bytes given) input) → (input : List ℕ) →
-    state_of m input ≡ start file words input
-started m file given items words same read loaded input =
+    state_of m input ≡ start file args input
+started m file given items args same read loaded input =
     loaded input ∙ ap (λ list. start file (map string_bytes list) input) same ∙ ap (λ list. start file list input) read
 
 pub returns-in_default-clause-answer : goal.returns-in_default-clause-answer
 returns-in_default-clause-answer g c = stopped (out_of_memory refl
-    (no_step (byte_machine c.args.elf.now.file.now (run_read c.args.words.now).words) c.args.words.now.limit _ (λ input. refl)))
+    (no_step (byte_machine c.args.elf.now.file.now (run_read c.args.args.now).args) c.args.args.now.limit _ (λ input. refl)))
 
 pub returns-in_default-load-clause-answer : goal.returns-in_default-load-clause-answer
 returns-in_default-load-clause-answer g c = stopped (out_of_memory refl
-    (no_step (byte_machine c.args.elf.now.file.now (run_read c.args.words.now).words) c.args.words.now.limit _ (λ input. refl)))
+    (no_step (byte_machine c.args.elf.now.file.now (run_read c.args.args.now).args) c.args.args.now.limit _ (λ input. refl)))
 
 pub returns-in_default-clause-exact : goal.returns-in_default-clause-exact
 returns-in_default-clause-exact g c = λ input is ending n trace rest run. inr (no_memory refl)
@@ -41,7 +41,7 @@ returns-clause-answer g c =
     let before : Outside = record { input = g.I.Source.seen c.args.input.now; output = g.O.Sink.seen c.args.out.now } in
     let mid : Outside = record { input = g.I.Source.seen c.run-ran.new.input; output = g.O.Sink.seen c.run-ran.new.out } in
     let after : Outside = record { input = g.I.Source.seen c.run-ran.new.input; output = g.O.Sink.seen c.close.new.out } in
-    answers state_of (byte_machine c.args.elf.now.file.now (run_read c.args.words.now).words) c.args.words.now.limit
+    answers state_of (byte_machine c.args.elf.now.file.now (run_read c.args.args.now).args) c.args.args.now.limit
     c.in-Ok-load.machine c.run-ran.new.self c.run-ran.result.steps before mid after
     (λ input. started c.in-Ok-load.machine c.args.elf.now.file.now _ _ _ c.deref.ensures.value c.in-Ok.ensures
     c.in-Ok-load.ensures input) (λ input. refl) (λ pc cause result steps b a printed. printed)
@@ -55,7 +55,7 @@ returns-clause-exact g c =
     let before : Outside = record { input = g.I.Source.seen c.args.input.now; output = g.O.Sink.seen c.args.out.now } in
     let mid : Outside = record { input = g.I.Source.seen c.run-ran.new.input; output = g.O.Sink.seen c.run-ran.new.out } in
     let after : Outside = record { input = g.I.Source.seen c.run-ran.new.input; output = g.O.Sink.seen c.close.new.out } in
-    exact state_of (byte_machine c.args.elf.now.file.now (run_read c.args.words.now).words) c.args.words.now.limit
+    exact state_of (byte_machine c.args.elf.now.file.now (run_read c.args.args.now).args) c.args.args.now.limit
     c.in-Ok-load.machine c.run-ran.new.self c.run-ran.result.steps before mid after
     (λ input. started c.in-Ok-load.machine c.args.elf.now.file.now _ _ _ c.deref.ensures.value c.in-Ok.ensures
     c.in-Ok-load.ensures input) (λ input. refl) (λ pc cause result steps b a printed. printed)

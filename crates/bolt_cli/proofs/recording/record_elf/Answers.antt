@@ -3,12 +3,12 @@ use Rattle.std.specs.Prelude.{map, string_bytes}
 use Rattle.rb_io.specs.Views.{SinkSeen}
 use Rattle.rv_machine.specs.StepResults.{answered}
 use Rattle.bolt_core.specs.Program.{Program}
-use Rattle.bolt_cli.specs.WordViews.{record_read}
+use Rattle.bolt_cli.specs.CommandLineViews.{record_read}
 use Rattle.bolt_cli.specs.recording.RecordAnswers.{stopped}
 use Rattle.bolt_cli.specs.recording.RecordedCode.{recorded_program}
 use Rattle.bolt_cli.specs.recording.RecordRuns.{record_machine}
 use Rattle.bolt_cli.specs.run.RunAnswers.{out_of_memory, no_memory}
-use Rattle.bolt_cli.specs.Words.{RecordWords}
+use Rattle.bolt_cli.specs.CommandLine.{RecordArgs}
 use Rattle.bolt_cli.specs.World.{World, world}
 use Rattle.bolt_cli.proofs.FaultlessCode.{laid_out}
 use Rattle.bolt_cli.proofs.RunEnds.{no_step}
@@ -18,7 +18,7 @@ use Rattle.bolt_cli.proofs.recording.record_elf.Goals as goal
 pub returns-in_default-clause-answer : goal.returns-in_default-clause-answer
 returns-in_default-clause-answer g c =
     stopped (out_of_memory refl (no_step (record_machine (recorded_program c.args.program.now)
-    (record_read c.args.words.now).run.words) c.args.words.now.run.limit _ (λ input. refl)))
+    (record_read c.args.args.now).run.args) c.args.args.now.run.limit _ (λ input. refl)))
     (record { each = λ name. refl })
 
 pub returns-in_default-clause-exact : goal.returns-in_default-clause-exact
@@ -32,13 +32,13 @@ trace_edges-recorded-requires-clause-funcs g c =
 
 pub returns-clause-answer : goal.returns-clause-answer
 returns-clause-answer g c =
-    let words : RecordWords = record_read c.args.words.now in
+    let args : RecordArgs = record_read c.args.args.now in
     let old : World = world (g.F.Files.seen c.args.files.now) (g.I.Source.seen c.args.input.now) (g.O.Sink.seen c.args.out.now) in
     let new : World = world (g.F.Files.seen c.finish.new.files) (g.I.Source.seen c.trace_edges-recorded.new.input)
     (g.O.Sink.seen c.finish.new.out) in
     let mid : SinkSeen = g.O.Sink.seen c.trace_edges-recorded.new.out in
     let program : Program = recorded_program c.args.program.now in
-    answers program words c.trace_edges-recorded.result.ran.steps c.trace_edges-recorded.result.text.items old new mid
+    answers program args c.trace_edges-recorded.result.ran.steps c.trace_edges-recorded.result.text.items old new mid
     c.trace_edges-recorded.ensures.writes c.finish.ensures.never_falls
     (answered c.trace_edges-recorded.result.ran.end) c.finish.result
     (by_names c.args.program.now.elf _ _ _ _ _ _ _ _ _ _ _ _ (ap (map string_bytes) c.deref-2.ensures.value
@@ -48,13 +48,13 @@ returns-clause-answer g c =
 
 pub returns-clause-exact : goal.returns-clause-exact
 returns-clause-exact g c =
-    let words : RecordWords = record_read c.args.words.now in
+    let args : RecordArgs = record_read c.args.args.now in
     let old : World = world (g.F.Files.seen c.args.files.now) (g.I.Source.seen c.args.input.now) (g.O.Sink.seen c.args.out.now) in
     let new : World = world (g.F.Files.seen c.finish.new.files) (g.I.Source.seen c.trace_edges-recorded.new.input)
     (g.O.Sink.seen c.finish.new.out) in
     let mid : SinkSeen = g.O.Sink.seen c.trace_edges-recorded.new.out in
     let program : Program = recorded_program c.args.program.now in
-    exact program words c.trace_edges-recorded.result.ran.steps c.trace_edges-recorded.result.text.items old new mid
+    exact program args c.trace_edges-recorded.result.ran.steps c.trace_edges-recorded.result.text.items old new mid
     c.trace_edges-recorded.ensures.writes c.finish.ensures.never_falls
     (answered c.trace_edges-recorded.result.ran.end) c.finish.result
     (by_names c.args.program.now.elf _ _ _ _ _ _ _ _ _ _ _ _ (ap (map string_bytes) c.deref-2.ensures.value

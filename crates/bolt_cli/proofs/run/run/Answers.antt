@@ -1,10 +1,10 @@
 use Rattle.std.proofs.Common.{◌≤◌, Some, refl, subst, sym, arith}
 use Rattle.bolt_cli.specs.CommandAnswers.{Serves}
-use Rattle.bolt_cli.specs.WordViews.{run_on, run_read}
+use Rattle.bolt_cli.specs.CommandLineViews.{run_on, run_read}
 use Rattle.bolt_cli.specs.run.ByteRuns.{byte_mode}
 use Rattle.bolt_cli.specs.run.ParsedCode.{program_of}
 use Rattle.bolt_cli.specs.run.SymbolRuns.{symbol_mode}
-use Rattle.bolt_cli.specs.Words.{RunWords}
+use Rattle.bolt_cli.specs.CommandLine.{RunArgs}
 use Rattle.bolt_cli.specs.World.{World, world}
 use Rattle.bolt_cli.specs.declared.run.RunMode.{RunMode}
 use Rattle.bolt_cli.proofs.ByteRunAnswering as by_bytes
@@ -15,16 +15,16 @@ use Rattle.bolt_cli.proofs.run.run.Goals as goal
 
 pub returns-in-Err-clause-serves : goal.returns-in-Err-clause-serves
 returns-in-Err-clause-serves g c =
-    let words : RunWords = run_read c.args.words.now in
+    let args : RunArgs = run_read c.args.args.now in
     let old : World = world (g.F.Files.seen c.args.files.now) (g.I.Source.seen c.args.input.now) (g.O.Sink.seen c.args.out.now) in
     let new : World =
     world (g.F.Files.seen c.read_file.new.files) (g.I.Source.seen c.args.input.now) (g.O.Sink.seen c.read_file.new.out) in
-    unread_serves words old new c.in-Err.answer c.in-Err.ensures.kept refl c.in-Err.ensures.unread c.in-Err.ensures.files_go_on
+    unread_serves args old new c.in-Err.answer c.in-Err.ensures.kept refl c.in-Err.ensures.unread c.in-Err.ensures.files_go_on
     c.in-Err.ensures.never_falls c.args.mode
 
 pub returns-in-Ok-runnable_file-clause-serves : goal.returns-in-Ok-runnable_file-clause-serves
 returns-in-Ok-runnable_file-clause-serves g c =
-    let words : RunWords = run_read c.args.words.now in
+    let args : RunArgs = run_read c.args.args.now in
     let old : World = world (g.F.Files.seen c.args.files.now) (g.I.Source.seen c.args.input.now) (g.O.Sink.seen c.args.out.now) in
     let mid : World =
     world (g.F.Files.seen c.read_file.new.files) (g.I.Source.seen c.args.input.now) (g.O.Sink.seen c.read_file.new.out) in
@@ -32,12 +32,12 @@ returns-in-Ok-runnable_file-clause-serves g c =
     world (g.F.Files.seen c.read_file.new.files) (g.I.Source.seen c.run_elf.new.input) (g.O.Sink.seen c.run_elf.new.out) in
     let first : old.output.faults ≤ mid.output.faults = c.in-Ok.ensures.never_falls in
     let next : mid.output.faults ≤ new.output.faults = c.run_elf.ensures.writes in
-    subst (λ (m : RunMode). Serves (Some (run_on m words)) c.run_elf.result old new) (sym c.in-Bytes.is)
-    (by_bytes.serves words old new c.run_elf.result
-    (run_answered byte_mode words old new by_bytes.lawful c.run_elf.result c.in-Ok.ensures.kept c.deref.result.now
+    subst (λ (m : RunMode). Serves (Some (run_on m args)) c.run_elf.result old new) (sym c.in-Bytes.is)
+    (by_bytes.serves args old new c.run_elf.result
+    (run_answered byte_mode args old new by_bytes.lawful c.run_elf.result c.in-Ok.ensures.kept c.deref.result.now
     c.in-Ok-runnable_file.elf.file.now
     mid.output c.in-Ok.ensures.unprinted
-    (λ told. passed_is (old.files.content words.file) c.in-Ok.file.items c.deref.result.now c.deref.ensures.value
+    (λ told. passed_is (old.files.content args.file) c.in-Ok.file.items c.deref.result.now c.deref.ensures.value
     (c.in-Ok.ensures.read told)) (record {
       program_is = c.in-Ok-runnable_file.ensures.fields.file_is;
       runnable = c.in-Ok-runnable_file.ensures.runnable;
@@ -46,7 +46,7 @@ returns-in-Ok-runnable_file-clause-serves g c =
 
 pub returns-in-Bytes-clause-serves : goal.returns-in-Bytes-clause-serves
 returns-in-Bytes-clause-serves g c =
-    let words : RunWords = run_read c.args.words.now in
+    let args : RunArgs = run_read c.args.args.now in
     let old : World = world (g.F.Files.seen c.args.files.now) (g.I.Source.seen c.args.input.now) (g.O.Sink.seen c.args.out.now) in
     let mid : World =
     world (g.F.Files.seen c.read_file.new.files) (g.I.Source.seen c.args.input.now) (g.O.Sink.seen c.read_file.new.out) in
@@ -54,17 +54,17 @@ returns-in-Bytes-clause-serves g c =
     world (g.F.Files.seen c.read_file.new.files) (g.I.Source.seen c.args.input.now) (g.O.Sink.seen c.refuse.new.out) in
     let first : old.output.faults ≤ mid.output.faults = c.in-Ok.ensures.never_falls in
     let next : mid.output.faults ≤ new.output.faults = c.refuse.ensures.never_falls in
-    subst (λ (m : RunMode). Serves (Some (run_on m words)) c.refuse.result old new) (sym c.in-Bytes.is)
-    (by_bytes.serves words old new c.refuse.result
-    (file_refused byte_mode words old new by_bytes.lawful (λ quiet. quiet) c.refuse.result c.in-Ok.ensures.kept refl
+    subst (λ (m : RunMode). Serves (Some (run_on m args)) c.refuse.result old new) (sym c.in-Bytes.is)
+    (by_bytes.serves args old new c.refuse.result
+    (file_refused byte_mode args old new by_bytes.lawful (λ quiet. quiet) c.refuse.result c.in-Ok.ensures.kept refl
     c.deref.result.now c.in-Err-runnable_file.refusal mid.output c.in-Ok.ensures.unprinted
-    (λ told. passed_is (old.files.content words.file) c.in-Ok.file.items c.deref.result.now c.deref.ensures.value
+    (λ told. passed_is (old.files.content args.file) c.in-Ok.file.items c.deref.result.now c.deref.ensures.value
     (c.in-Ok.ensures.read told)) c.in-Err-runnable_file.ensures.fault c.refuse.ensures.refused)
     c.in-Ok.ensures.files_go_on (omega arith) (omega arith))
 
 pub returns-in-Ok-symbol_program-clause-serves : goal.returns-in-Ok-symbol_program-clause-serves
 returns-in-Ok-symbol_program-clause-serves g c =
-    let words : RunWords = run_read c.args.words.now in
+    let args : RunArgs = run_read c.args.args.now in
     let old : World = world (g.F.Files.seen c.args.files.now) (g.I.Source.seen c.args.input.now) (g.O.Sink.seen c.args.out.now) in
     let mid : World =
     world (g.F.Files.seen c.read_file.new.files) (g.I.Source.seen c.args.input.now) (g.O.Sink.seen c.read_file.new.out) in
@@ -73,19 +73,19 @@ returns-in-Ok-symbol_program-clause-serves g c =
     (g.O.Sink.seen c.run_program.new.out) in
     let first : old.output.faults ≤ mid.output.faults = c.in-Ok.ensures.never_falls in
     let next : mid.output.faults ≤ new.output.faults = c.run_program.ensures.writes in
-    subst (λ (m : RunMode). Serves (Some (run_on m words)) c.run_program.result old new) (sym c.in-Symbols.is)
-    (by_symbols.serves words old new c.run_program.result
-    (run_answered symbol_mode words old new by_symbols.lawful c.run_program.result c.in-Ok.ensures.kept
+    subst (λ (m : RunMode). Serves (Some (run_on m args)) c.run_program.result old new) (sym c.in-Symbols.is)
+    (by_symbols.serves args old new c.run_program.result
+    (run_answered symbol_mode args old new by_symbols.lawful c.run_program.result c.in-Ok.ensures.kept
     c.deref-in-Symbols.result.now (program_of c.in-Ok-symbol_program.program)
     mid.output c.in-Ok.ensures.unprinted
-    (λ told. passed_is (old.files.content words.file) c.in-Ok.file.items c.deref-in-Symbols.result.now
+    (λ told. passed_is (old.files.content args.file) c.in-Ok.file.items c.deref-in-Symbols.result.now
     c.deref-in-Symbols.ensures.value
     (c.in-Ok.ensures.read told)) c.in-Ok-symbol_program.ensures.program c.run_program.ensures.answer c.run_program.ensures.exact)
     c.in-Ok.ensures.files_go_on c.run_program.ensures.reads (omega arith))
 
 pub returns-clause-serves : goal.returns-clause-serves
 returns-clause-serves g c =
-    let words : RunWords = run_read c.args.words.now in
+    let args : RunArgs = run_read c.args.args.now in
     let old : World = world (g.F.Files.seen c.args.files.now) (g.I.Source.seen c.args.input.now) (g.O.Sink.seen c.args.out.now) in
     let mid : World =
     world (g.F.Files.seen c.read_file.new.files) (g.I.Source.seen c.args.input.now) (g.O.Sink.seen c.read_file.new.out) in
@@ -94,22 +94,22 @@ returns-clause-serves g c =
     (g.O.Sink.seen c.refuse-in-Err-symbol_program.new.out) in
     let first : old.output.faults ≤ mid.output.faults = c.in-Ok.ensures.never_falls in
     let next : mid.output.faults ≤ new.output.faults = c.refuse-in-Err-symbol_program.ensures.never_falls in
-    subst (λ (m : RunMode). Serves (Some (run_on m words)) c.refuse-in-Err-symbol_program.result old new) (sym c.in-Symbols.is)
-    (by_symbols.serves words old new c.refuse-in-Err-symbol_program.result
-    (file_refused symbol_mode words old new by_symbols.lawful (λ quiet. quiet) c.refuse-in-Err-symbol_program.result
+    subst (λ (m : RunMode). Serves (Some (run_on m args)) c.refuse-in-Err-symbol_program.result old new) (sym c.in-Symbols.is)
+    (by_symbols.serves args old new c.refuse-in-Err-symbol_program.result
+    (file_refused symbol_mode args old new by_symbols.lawful (λ quiet. quiet) c.refuse-in-Err-symbol_program.result
     c.in-Ok.ensures.kept refl
     c.deref-in-Symbols.result.now c.in-Err-symbol_program.refusal mid.output c.in-Ok.ensures.unprinted
-    (λ told. passed_is (old.files.content words.file) c.in-Ok.file.items c.deref-in-Symbols.result.now
+    (λ told. passed_is (old.files.content args.file) c.in-Ok.file.items c.deref-in-Symbols.result.now
     c.deref-in-Symbols.ensures.value
     (c.in-Ok.ensures.read told)) c.in-Err-symbol_program.ensures.fault c.refuse-in-Err-symbol_program.ensures.refused)
     c.in-Ok.ensures.files_go_on (omega arith) (omega arith))
 
 pub returns-in-Ok-symbol_program-clause-input_kept : goal.returns-in-Ok-symbol_program-clause-input_kept
 returns-in-Ok-symbol_program-clause-input_kept g c =
-    let words : RunWords = run_read c.args.words.now in
+    let args : RunArgs = run_read c.args.args.now in
     let old : World = world (g.F.Files.seen c.args.files.now) (g.I.Source.seen c.args.input.now) (g.O.Sink.seen c.args.out.now) in
-    run_keeps_input c.args.mode words c.run_program.result c.args.input.now c.run_program.new.input
-    (λ fault. run_not_refused symbol_mode words old old by_symbols.lawful (program_of c.in-Ok-symbol_program.program) _ _
+    run_keeps_input c.args.mode args c.run_program.result c.args.input.now c.run_program.new.input
+    (λ fault. run_not_refused symbol_mode args old old by_symbols.lawful (program_of c.in-Ok-symbol_program.program) _ _
     c.run_program.result fault c.run_program.ensures.answer)
 
 pub run_program-requires-clause-program : goal.run_program-requires-clause-program

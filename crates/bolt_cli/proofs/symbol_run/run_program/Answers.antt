@@ -10,7 +10,7 @@ use Rattle.sym_machine.specs.SymStart.{SymProgram, sym_start}
 use Rattle.sym_machine.specs.SymStep.{SymSteps}
 use Rattle.sym_machine.specs.MachineState.{state_of, answered, funcs_of}
 use Rattle.sym_machine.specs.declared.machine.SymMachine.{SymMachine}
-use Rattle.bolt_cli.specs.WordViews.{run_read}
+use Rattle.bolt_cli.specs.CommandLineViews.{run_read}
 use Rattle.bolt_cli.specs.run.ParsedCode.{program_of}
 use Rattle.bolt_cli.specs.run.Phases.{Closed}
 use Rattle.bolt_cli.specs.run.RunAnswers.{out_of_memory, stopped, no_memory}
@@ -24,11 +24,11 @@ use Rattle.bolt_cli.proofs.symbol_run.run_program.Goals as goal
 
 pub returns-in_default-clause-answer : goal.returns-in_default-clause-answer
 returns-in_default-clause-answer g c = stopped (out_of_memory refl (no_step (symbol_machine
-    (program_of c.args.program.now) (run_read c.args.words.now).words) c.args.words.now.limit _ (λ input. refl)))
+    (program_of c.args.program.now) (run_read c.args.args.now).args) c.args.args.now.limit _ (λ input. refl)))
 
 pub returns-in_default-load-clause-answer : goal.returns-in_default-load-clause-answer
 returns-in_default-load-clause-answer g c = stopped (out_of_memory refl (no_step (symbol_machine
-    (program_of c.args.program.now) (run_read c.args.words.now).words) c.args.words.now.limit _ (λ input. refl)))
+    (program_of c.args.program.now) (run_read c.args.args.now).args) c.args.args.now.limit _ (λ input. refl)))
 
 pub returns-in_default-clause-exact : goal.returns-in_default-clause-exact
 returns-in_default-clause-exact g c = λ input is ending n trace rest run. inr (no_memory refl)
@@ -36,12 +36,12 @@ returns-in_default-clause-exact g c = λ input is ending n trace rest run. inr (
 pub returns-in_default-load-clause-exact : goal.returns-in_default-load-clause-exact
 returns-in_default-load-clause-exact g c = λ input is ending n trace rest run. inr (no_memory refl)
 
--- the machine starts as the file's program does, with the words that were read
+-- the machine starts as the file's program does, with the arguments that were read
 started : (m : SymMachine) (elf : Elf) (tight : Bool) (given_cells cells : List CodeCell) (given items : List (String Global))
-    (words : List (List ℕ)) → given_cells ≡ cells → given ≡ items → map string_bytes items ≡ words →
+    (args : List (List ℕ)) → given_cells ≡ cells → given ≡ items → map string_bytes items ≡ args →
     ((input : List ℕ) → state_of m input ≡ sym_start elf given_cells tight (map string_bytes given) input) → (input : List ℕ) →
-    state_of m input ≡ sym_start elf cells tight words input
-started m elf tight given_cells cells given items words same_cells same read loaded input =
+    state_of m input ≡ sym_start elf cells tight args input
+started m elf tight given_cells cells given items args same_cells same read loaded input =
     loaded input ∙ ap (λ cs. sym_start elf cs tight (map string_bytes given) input) same_cells
     ∙ ap (λ list. sym_start elf cells tight (map string_bytes list) input) same
     ∙ ap (λ list. sym_start elf cells tight list input) read
@@ -66,11 +66,11 @@ returns-clause-answer g c =
     let after : Outside = record { input = g.I.Source.seen c.run-ran.new.input; output = g.O.Sink.seen c.close.new.out } in
     let program : SymProgram = program_of c.args.program.now in
     let funcs_are : funcs_of c.in-Ok-load.machine ≡ program.funcs = c.in-Ok-load.ensures.funcs ∙ c.as_slice-funcs.ensures.value in
-    let ran : RunsSomeInput state_of (SymSteps program.funcs) (answered c.run-ran.result.end) c.args.words.now.limit
+    let ran : RunsSomeInput state_of (SymSteps program.funcs) (answered c.run-ran.result.end) c.args.args.now.limit
     c.run-ran.result.steps c.in-Ok-load.machine c.run-ran.new.self before mid =
-    subst (λ (funcs : List Func). RunsSomeInput state_of (SymSteps funcs) (answered c.run-ran.result.end) c.args.words.now.limit
+    subst (λ (funcs : List Func). RunsSomeInput state_of (SymSteps funcs) (answered c.run-ran.result.end) c.args.args.now.limit
     c.run-ran.result.steps c.in-Ok-load.machine c.run-ran.new.self before mid) funcs_are c.run-ran.ensures.answer in
-    answers state_of (symbol_machine program (run_read c.args.words.now).words) c.args.words.now.limit c.in-Ok-load.machine
+    answers state_of (symbol_machine program (run_read c.args.args.now).args) c.args.args.now.limit c.in-Ok-load.machine
     c.run-ran.new.self c.run-ran.result.steps before mid after
     (started c.in-Ok-load.machine c.args.program.now.elf c.args.program.now.tight _ _ _ _ _ c.as_slice-cells.ensures.value
     c.deref.ensures.value c.in-Ok.ensures c.in-Ok-load.ensures.start) (λ input. refl)
@@ -87,11 +87,11 @@ returns-clause-exact g c =
     let after : Outside = record { input = g.I.Source.seen c.run-ran.new.input; output = g.O.Sink.seen c.close.new.out } in
     let program : SymProgram = program_of c.args.program.now in
     let funcs_are : funcs_of c.in-Ok-load.machine ≡ program.funcs = c.in-Ok-load.ensures.funcs ∙ c.as_slice-funcs.ensures.value in
-    let ran : RunsSomeInput state_of (SymSteps program.funcs) (answered c.run-ran.result.end) c.args.words.now.limit
+    let ran : RunsSomeInput state_of (SymSteps program.funcs) (answered c.run-ran.result.end) c.args.args.now.limit
     c.run-ran.result.steps c.in-Ok-load.machine c.run-ran.new.self before mid =
-    subst (λ (funcs : List Func). RunsSomeInput state_of (SymSteps funcs) (answered c.run-ran.result.end) c.args.words.now.limit
+    subst (λ (funcs : List Func). RunsSomeInput state_of (SymSteps funcs) (answered c.run-ran.result.end) c.args.args.now.limit
     c.run-ran.result.steps c.in-Ok-load.machine c.run-ran.new.self before mid) funcs_are c.run-ran.ensures.answer in
-    exact state_of (symbol_machine program (run_read c.args.words.now).words) c.args.words.now.limit c.in-Ok-load.machine
+    exact state_of (symbol_machine program (run_read c.args.args.now).args) c.args.args.now.limit c.in-Ok-load.machine
     c.run-ran.new.self c.run-ran.result.steps before mid after
     (started c.in-Ok-load.machine c.args.program.now.elf c.args.program.now.tight _ _ _ _ _ c.as_slice-cells.ensures.value
     c.deref.ensures.value c.in-Ok.ensures c.in-Ok-load.ensures.start) (λ input. refl)

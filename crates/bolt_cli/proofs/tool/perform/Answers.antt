@@ -1,8 +1,8 @@
 use Rattle.std.proofs.Common.{Some, sym, subst}
 use Rattle.bolt_cli.specs.CommandAnswers.{Serves}
-use Rattle.bolt_cli.specs.WordViews.{command_read}
+use Rattle.bolt_cli.specs.CommandLineViews.{command_read}
 use Rattle.bolt_cli.specs.World.{World, world}
-use Rattle.bolt_cli.specs.declared.words.Command.{Command}
+use Rattle.bolt_cli.specs.declared.command_line.Command.{Command}
 use Rattle.bolt_cli.proofs.tool.perform.Goals as goal
 
 pub returns-in-Rewrite-clause-serves : goal.returns-in-Rewrite-clause-serves

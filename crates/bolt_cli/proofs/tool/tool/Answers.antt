@@ -1,6 +1,6 @@
 use Rattle.std.proofs.Common.{Option, subst}
 use Rattle.bolt_cli.specs.CommandAnswers.{KeepsInput, Serves}
-use Rattle.bolt_cli.specs.Words.{Command}
+use Rattle.bolt_cli.specs.CommandLine.{Command}
 use Rattle.bolt_cli.specs.World.{World, world}
 use Rattle.bolt_cli.proofs.tool.tool.Goals as goal
 

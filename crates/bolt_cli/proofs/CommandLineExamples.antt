@@ -1,13 +1,13 @@
--- Words that are commands, and words that are none.
+-- Arguments that are commands, and arguments that are none.
 use Rattle.std.proofs.Common.{◌≡◌, ℕ, List, [], ◌∷◌, Option, Some, None, codes, refl}
-use Rattle.bolt_cli.specs.Words.{Command, Record, Run, command_of}
+use Rattle.bolt_cli.specs.CommandLine.{Command, Record, Run, command_of}
 
 run : List ℕ
 run = codes "run"
 
--- a run of `f` with one word `a`
+-- a run of `f` with one argument
 run_of_f : List ℕ → ℕ → Option Command
-run_of_f word limit = Some (Run (record { file = codes "f"; words = word ∷ []; limit = limit }))
+run_of_f arg limit = Some (Run (record { file = codes "f"; args = arg ∷ []; limit = limit }))
 
 no_option : command_of (run ∷ codes "f" ∷ codes "a" ∷ []) ≡ run_of_f (codes "a") 100000000
 unfolding run run_of_f
@@ -59,7 +59,7 @@ unfolding run
 zero_byte = refl
 
 record_of_f : Option Command
-record_of_f = Some (Record (record { run = record { file = codes "f"; words = codes "a" ∷ []; limit = 7 }; out = codes "o" }))
+record_of_f = Some (Record (record { run = record { file = codes "f"; args = codes "a" ∷ []; limit = 7 }; out = codes "o" }))
 
 recorded_run : command_of (codes "record" ∷ codes "f" ∷ codes "--steps=7" ∷ codes "o" ∷ codes "a" ∷ []) ≡ record_of_f
 unfolding record_of_f
