@@ -114,7 +114,7 @@ fn fields_that_share_bytes(rt: HostRuntime) -> Result<(), Fail> {
     Ok(())
 }
 
-// A label that is no address doesn't matter where the difference is no cell: behind the first half of an address, and in the
+// A label that is no address doesn't matter where the difference is no cell: behind the first bytes of an address, and in the
 // file's header, whose entry point is the first instruction.
 #[test]
 fn labels_of_fields_that_are_no_cells(rt: HostRuntime) -> Result<(), Fail> {

@@ -69,7 +69,7 @@ fn types_that_do_not_fit(rt: HostRuntime) -> Result<(), Fail> {
     Ok(())
 }
 
-// The table has the null symbol and one more. The relocation stands at 88 in the file, and its symbol's index, the upper half
+// The table has the null symbol and one more. The relocation stands at 88 in the file, and its symbol's index, the high 32 bits
 // of `r_info`, at 94. gABI, "Relocation".
 #[test]
 fn a_symbol_past_the_table(rt: HostRuntime) -> Result<(), Fail> {

@@ -10,7 +10,7 @@ use std::test::Fail;
 use test_files::bytes::patch;
 use test_files::exit7;
 use test_files::headers::{P_FLAGS, P_MEMSZ, SH_FLAGS};
-use test_files::shapes::{EXIT7_LAST_NAME, EXIT7_NAMES, EXIT7_SEGMENT, EXIT7_TEXT};
+use test_files::shapes::{CODE, EXIT7_LAST_NAME, EXIT7_NAMES, EXIT7_SEGMENT, EXIT7_TEXT};
 
 // Where the identification says in which order bytes stand.
 const EI_DATA: usize = 5;
@@ -31,7 +31,10 @@ fn the_example_has_its_fields(rt: HostRuntime) -> Result<(), Fail> {
     let Ok(elf) = read(rt.alloc(), &file) else {
         return Err(Fail::new("refused"));
     };
-    assert_eq!(rt; (elf.flags, elf.entry, elf.phoff), (0, 0x10078, 0x40));
+    assert_eq!(rt;
+        (elf.flags, elf.entry, elf.phoff),
+        (0, CODE, EXIT7_SEGMENT as u64)
+    );
     assert_eq!(rt; elf.segments.len(), 1);
     assert_eq!(rt; elf.symbols.len(), 0);
     let mut names = Vec::new(rt.alloc());
@@ -40,8 +43,8 @@ fn the_example_has_its_fields(rt: HostRuntime) -> Result<(), Fail> {
     }
     let wanted: [&[u8]; 3] = [b"", b".text", b".shstrtab"];
     assert_eq!(rt; names.as_slice(), wanted.as_slice());
-    assert_eq!(rt; elf.image_byte(0x10079), Some(0x05));
-    assert_eq!(rt; elf.image_byte(0x10088), None);
+    assert_eq!(rt; elf.image_byte(CODE + 1), Some(0x05));
+    assert_eq!(rt; elf.image_byte(CODE + 16), None);
     Ok(())
 }
 

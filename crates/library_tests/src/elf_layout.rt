@@ -7,7 +7,7 @@ use std::alloc::Global;
 use std::process::Abort;
 use std::test::Fail;
 use test_files::bytes::patch;
-use test_files::shapes::EXIT7_LAST_NAME;
+use test_files::shapes::{BASE, CODE, DATA, EXIT7_LAST_NAME, EXIT7_TEXT};
 use test_files::{HeaderTable, exit7, exit7_code, program};
 
 // The type of a segment with notes. gABI, "Program Header".
@@ -16,19 +16,29 @@ const PT_NOTE: u32 = 4;
 // Where the example's segment ends in the file.
 const CODE_END: u64 = 0x88;
 
+// Where the table of program headers stands in the example with two, the second of them, and the file's end.
+const TABLE: u64 = 0x160;
+
+const SECOND: u64 = 0x198;
+
+const FILE_END: u64 = 0x1d0;
+
+// The address below which all that is loaded has to lie.
+const ADDRESS_END: u64 = 0x7fff_0000;
+
 // A segment behind the example's, of no byte of the file.
 const NOTHING: Segment = Segment {
     kind: PT_LOAD,
     flags: PF_R,
-    offset: 0x88,
-    vaddr: 0x20000,
-    paddr: 0x20000,
+    offset: CODE_END,
+    vaddr: DATA,
+    paddr: DATA,
     filesz: 0,
     memsz: 16,
     align: 1,
 };
 
-// The example with its program headers at 160, its end, and a second one at 198. The first segment ends at an offset.
+// The example with its program headers behind all else, and a second one. The first segment ends at an offset.
 fn with_second(alloc: Global, end: u64, second: &Segment) -> Result<Vec<u8>, Fail> {
     let code = exit7_code(alloc)?;
     let mut file = program(alloc, &code, &[])?;
@@ -81,8 +91,11 @@ fn segments_must_share_no_address(rt: HostRuntime) -> Result<(), Fail> {
     let cases = [
         (NOTHING, None),
         // begins where the first ends, and one address below
-        (nothing_at(0x10088), None),
-        (nothing_at(0x10087), Some((FaultKind::ExecSegments, 0x160))),
+        (nothing_at(CODE + 16), None),
+        (
+            nothing_at(CODE + 15),
+            Some((FaultKind::ExecSegments, TABLE)),
+        ),
     ];
     check_seconds(&rt, rt.alloc(), &cases)
 }
@@ -91,11 +104,17 @@ fn segments_must_share_no_address(rt: HostRuntime) -> Result<(), Fail> {
 fn segments_must_share_no_byte(rt: HostRuntime) -> Result<(), Fail> {
     let cases = [
         // takes no byte of the file from inside the first, and one
-        (bytes_at(0x87, 0), None),
-        (bytes_at(0x87, 1), Some((FaultKind::ExecSegments, 0x160))),
+        (bytes_at(CODE_END - 1, 0), None),
+        (
+            bytes_at(CODE_END - 1, 1),
+            Some((FaultKind::ExecSegments, TABLE)),
+        ),
         // takes no byte from past the file's end, and one
-        (bytes_at(0x1d0, 0), None),
-        (bytes_at(0x1d0, 1), Some((FaultKind::Truncated, 0x1d0))),
+        (bytes_at(FILE_END, 0), None),
+        (
+            bytes_at(FILE_END, 1),
+            Some((FaultKind::Truncated, FILE_END)),
+        ),
     ];
     check_seconds(&rt, rt.alloc(), &cases)
 }
@@ -103,9 +122,12 @@ fn segments_must_share_no_byte(rt: HostRuntime) -> Result<(), Fail> {
 #[test]
 fn notes_must_not_cross_the_end_of_the_code(rt: HostRuntime) -> Result<(), Fail> {
     let cases = [
-        (note_at(0x80, 9), Some((FaultKind::ExecSegments, 0x198))),
-        (note_at(0x80, 8), None),
-        (note_at(0x88, 8), None),
+        (
+            note_at(CODE_END - 8, 9),
+            Some((FaultKind::ExecSegments, SECOND)),
+        ),
+        (note_at(CODE_END - 8, 8), None),
+        (note_at(CODE_END, 8), None),
     ];
     check_seconds(&rt, rt.alloc(), &cases)
 }
@@ -124,10 +146,10 @@ fn segments_of_other_kinds(rt: HostRuntime) -> Result<(), Fail> {
     let code_of_two_sizes = Segment { filesz: 0, ..code };
     let cases = [
         // asks for a dynamic linker
-        (interpreter, Some((FaultKind::NotStatic, 0x198))),
+        (interpreter, Some((FaultKind::NotStatic, SECOND))),
         // executable too, and besides of two sizes
-        (code, Some((FaultKind::ExecSegments, 0x198))),
-        (code_of_two_sizes, Some((FaultKind::ExecSegments, 0x198))),
+        (code, Some((FaultKind::ExecSegments, SECOND))),
+        (code_of_two_sizes, Some((FaultKind::ExecSegments, SECOND))),
     ];
     check_seconds(&rt, rt.alloc(), &cases)
 }
@@ -137,25 +159,22 @@ fn segments_must_not_be_too_high(rt: HostRuntime) -> Result<(), Fail> {
     let high = FaultKind::HighAddress;
     let cases = [
         // up to the highest address, past it, and past all addresses
-        (nothing_at(0x7ffe_fff0), None),
-        (nothing_at(0x7ffe_fff8), Some((high, 0x7fff_0000))),
-        (
-            nothing_at(0xffff_ffff_ffff_fff8),
-            Some((high, 0xffff_ffff_ffff_fff8)),
-        ),
+        (nothing_at(ADDRESS_END - 16), None),
+        (nothing_at(ADDRESS_END - 8), Some((high, ADDRESS_END))),
+        (nothing_at(u64::MAX - 7), Some((high, u64::MAX - 7))),
     ];
     check_seconds(&rt, rt.alloc(), &cases)
 }
 
 #[test]
 fn the_table_of_segments_must_not_cross_the_code(rt: HostRuntime) -> Result<(), Fail> {
-    let crossed = Some((FaultKind::ExecSegments, 0x160));
+    let crossed = Some((FaultKind::ExecSegments, TABLE));
     // the executable segment ends where the table begins, in it, and where it ends
     for (end, wanted) in [
-        (0x160, None),
-        (0x161, crossed),
-        (0x1cf, crossed),
-        (0x1d0, None),
+        (TABLE, None),
+        (TABLE + 1, crossed),
+        (FILE_END - 1, crossed),
+        (FILE_END, None),
     ] {
         let file = with_second(rt.alloc(), end, &NOTHING)?;
         assert_eq!(rt; refused(rt.alloc(), &file), wanted);
@@ -171,7 +190,7 @@ fn only_moved_files_have_two_segments_of_code(rt: HostRuntime) -> Result<(), Fai
         ..NOTHING
     };
     let mut file = with_second(rt.alloc(), CODE_END, &second)?;
-    let wanted = Some((FaultKind::ExecSegments, 0x198));
+    let wanted = Some((FaultKind::ExecSegments, SECOND));
     assert_eq!(rt; refused(rt.alloc(), &file), wanted);
     patch(&mut file, EXIT7_LAST_NAME, b".old.text");
     assert_eq!(rt; refused(rt.alloc(), &file), None);
@@ -192,11 +211,11 @@ fn with_text(alloc: Global, addr: u64, size: u64) -> Result<Vec<u8>, Fail> {
 #[test]
 fn code_must_lie_in_its_segment(rt: HostRuntime) -> Result<(), Fail> {
     // .text one address higher, so that it ends past the segment
-    let file = with_text(rt.alloc(), 0x10079, 16)?;
-    let wanted = Some((FaultKind::ExecSegments, 0xe0));
+    let file = with_text(rt.alloc(), CODE + 1, 16)?;
+    let wanted = Some((FaultKind::ExecSegments, EXIT7_TEXT as u64));
     assert_eq!(rt; refused(rt.alloc(), &file), wanted);
     // no byte of an empty one lies outside
-    let file = with_text(rt.alloc(), 0x10079, 0)?;
+    let file = with_text(rt.alloc(), CODE + 1, 0)?;
     assert_eq!(rt; refused(rt.alloc(), &file), None);
     Ok(())
 }
@@ -208,10 +227,10 @@ fn the_example_has_its_cuts_and_sections(rt: HostRuntime) -> Result<(), Fail> {
         return Err(Fail::new("refused"));
     };
     let found = cuts(rt.alloc(), &elf)?;
-    assert_eq!(rt; found.as_slice(), [0x10078, 0x10088].as_slice());
-    assert_eq!(rt; elf.section_called(b".text").map(|s| s.addr), Some(0x10078));
+    assert_eq!(rt; found.as_slice(), [CODE, CODE + 16].as_slice());
+    assert_eq!(rt; elf.section_called(b".text").map(|s| s.addr), Some(CODE));
     assert_eq!(rt; elf.section_called(b".eh_frame").map(|s| s.addr), None);
-    assert_eq!(rt; elf.segment_at(0x10087).map(|p| p.offset), Some(0));
-    assert_eq!(rt; elf.segment_at(0xffff).map(|p| p.offset), None);
+    assert_eq!(rt; elf.segment_at(CODE + 15).map(|p| p.offset), Some(0));
+    assert_eq!(rt; elf.segment_at(BASE - 1).map(|p| p.offset), None);
     Ok(())
 }

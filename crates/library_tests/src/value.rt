@@ -55,7 +55,7 @@ fn divides_signed_numbers(rt: HostRuntime) {
     }
 }
 
-// The high halves were worked out apart, from the products as whole numbers.
+// The high 64 bits were worked out apart, from the products as whole numbers.
 #[test]
 fn multiplies(rt: HostRuntime) {
     let left = 0xaaaa_aaaa_aaaa_aaab;

@@ -1,8 +1,8 @@
-// Ranks and marks at every length around a vector's and a word's.
+// Ranks and marks at every length around a vector's and a number's of 64 bits.
 use rb_lanes::{length_marks, rank};
 use std::test::Fail;
 
-/// More than two words of marks.
+/// More marks than two numbers of 64 bits hold.
 const LONGEST: usize = 130;
 
 #[test]
@@ -46,12 +46,12 @@ fn halfword(i: usize) -> u16 {
 fn marks_of_every_length(rt: HostRuntime) -> Result<(), Fail> {
     let mut halves = Vec::new(rt.alloc());
     for n in 0..=LONGEST {
-        let mut words = [u64::MAX; 4];
+        let mut marks = [u64::MAX; 4];
         if halves.len() <= 256 {
-            length_marks(&halves, &mut words);
+            length_marks(&halves, &mut marks);
         }
         for i in 0..256 {
-            let marked = words[i / 64] >> (i % 64) & 1 == 1;
+            let marked = marks[i / 64] >> (i % 64) & 1 == 1;
             assert_eq!(rt; marked, i < n && i % 3 == 0, "halfword {i} of {n}");
         }
         halves.push(halfword(n))?;

@@ -44,9 +44,9 @@ pub fn push_symbol(table: &mut Vec<u8>, symbol: &SymbolEntry) -> Result<(), Allo
 pub struct RelaEntry {
     /// `r_offset`.
     pub offset: u64,
-    /// The type, the lower half of `r_info`.
+    /// The type, the low 32 bits of `r_info`.
     pub kind: u32,
-    /// The index of the symbol, the upper half of `r_info`.
+    /// The index of the symbol, the high 32 bits of `r_info`.
     pub symbol: u32,
     /// `r_addend`.
     pub addend: i64,
