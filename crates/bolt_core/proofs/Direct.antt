@@ -16,7 +16,7 @@ use Rattle.elf_image.specs.declared.elf.Elf.{Elf}
 use Rattle.elf_image.specs.faults.FunctionFaults.{direct}
 use Rattle.rb_bytes.proofs.Members.{Contains-cons_cases}
 use Rattle.move_law.specs.Laws.{IsAcceptedCode}
-use Rattle.move_law.proofs.Lists.{all_of}
+use Rattle.rb_bytes.proofs.ListLemmas.{all_of}
 use Rattle.move_law.proofs.code.InstLists.{function_code, inst_at, length_of}
 use Rattle.move_law.proofs.code.InstPlaces.{lies, some_length}
 use Rattle.branch_fixup.specs.Inputs.{AreDirect, KeepsShort, LeadsToCode, StaysIn}

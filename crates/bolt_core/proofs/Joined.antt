@@ -15,7 +15,7 @@ use Rattle.sym_machine.specs.HiddenFields.{is_hidden_field}
 use Rattle.sym_machine.specs.SymStart.{code_cell_range}
 use Rattle.move_law.specs.FaithfulRewrite.{GoesOn, IsFaithful, IsMapOf, KeepsByte, KeepsCell, KeepsInst, is_in_entry_field}
 use Rattle.move_law.specs.Rewrite.{AreCodeBytes, Goes, Rewrite, executable_of, memory_of}
-use Rattle.move_law.proofs.Lists.{all_of, in_map}
+use Rattle.rb_bytes.proofs.ListLemmas.{all_of, in_map}
 use Rattle.code_emit.specs.Output.{Puts, new_cell}
 use Rattle.code_emit.proofs.CellNumbers.{cell_number_is}
 use Rattle.elf_write.specs.Area.{area_start_of}

@@ -14,7 +14,7 @@ use Rattle.rv_code.specs.layout.Edges.{AreTablePairs, IsPairOf, LeadsTo, jumps, 
 use Rattle.rv_code.specs.layout.Edges.{AreEdges}
 use Rattle.rv_code.specs.layout.FunctionLists.{AreLaidOut}
 use Rattle.rv_code.specs.layout.FunctionMembers.{IsOfFunction}
-use Rattle.move_law.proofs.Lists.{pairs_in, pairs_map}
+use Rattle.rb_bytes.proofs.ListLemmas.{pairs_in, pairs_map}
 use Rattle.rv_code.proofs.lists.Follows.{funcs_apart}
 use Rattle.cfg_build.specs.EdgeLists.{AreStretches}
 use Rattle.cfg_build.proofs.EdgeRows.{IsEdgeBy, AreEdgesBefore}

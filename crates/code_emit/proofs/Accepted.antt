@@ -21,7 +21,7 @@ use Rattle.elf_image.specs.code.Parts.{IsInstAt, IsStart, halfword_at}
 use Rattle.elf_image.specs.code.Roles.{Claims, HasRole, RoleIs}
 use Rattle.elf_image.specs.code.Roles as claims
 use Rattle.move_law.specs.Laws.{IsAcceptedCode}
-use Rattle.move_law.proofs.Lists.{all_of}
+use Rattle.rb_bytes.proofs.ListLemmas.{all_of}
 use Rattle.move_law.proofs.code.CellWidths.{can_of, field_width, same_address}
 use Rattle.move_law.proofs.code.FittingRoles.{RoleFits, Target, has_code_facts}
 use Rattle.move_law.proofs.code.Immediates as immediates

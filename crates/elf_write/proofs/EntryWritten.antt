@@ -9,7 +9,7 @@ use Rattle.elf_image.specs.file.Header.{e_entry, segments_of}
 use Rattle.elf_image.specs.file.ParsedFile.{IsElfOf}
 use Rattle.elf_image.specs.memory.Image.{LoadOnce}
 use Rattle.elf_image.specs.memory.LoadedBytes.{address_of, address_in, loads_range, number_in}
-use Rattle.elf_image.proofs.LoadLemmas.{find-found}
+use Rattle.rb_bytes.proofs.Searches.{find-found}
 use Rattle.addr_map.specs.Spans.{moved}
 use Rattle.move_law.specs.Rewrite.{executable_of, memory_of}
 use Rattle.elf_parts.specs.Patches.{Stands}

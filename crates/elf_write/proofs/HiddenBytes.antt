@@ -15,7 +15,8 @@ use Rattle.elf_image.specs.faults.SegmentLayout.{IsFileByte}
 use Rattle.elf_image.specs.memory.CodeSegment.{executable_end}
 use Rattle.elf_image.specs.memory.Image.{is_load, loads_address, segment_of, LoadOnce}
 use Rattle.elf_image.specs.memory.LoadedBytes.{Range, is_in_range, address_of, address_in, loads_range, file_offset, offset_in}
-use Rattle.elf_image.proofs.LoadLemmas.{find-found, loads-from_parts}
+use Rattle.elf_image.proofs.LoadLemmas.{loads-from_parts}
+use Rattle.rb_bytes.proofs.Searches.{find-found}
 use Rattle.rb_bytes.proofs.Members.{Contains-cons_cases}
 use Rattle.sym_machine.specs.HiddenFields.{e_entry_field, e_phoff_field, e_phnum_field, section_fields, p_offset_field}
 use Rattle.sym_machine.specs.HiddenFields.{size_fields, place_fields, only, is_executable_segment, hidden_in_segment}

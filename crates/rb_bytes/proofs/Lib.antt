@@ -6,3 +6,6 @@ pub mod SignedLeb
 pub mod DigitValues
 pub mod Gains
 pub mod Members
+pub mod Searches
+pub mod ListLemmas
+pub mod Stable

@@ -10,7 +10,7 @@ use Rattle.elf_image.specs.code.Cuts.{names_function}
 use Rattle.elf_image.specs.file.Sections.{holds_code}
 use Rattle.elf_image.specs.code.Parts.{IsCovered, IsInCode, IsInTabled}
 use Rattle.elf_image.specs.internal.Extents.{IsInOneExtent}
-use Rattle.elf_image.proofs.LoadLemmas.{Contains-filter, Contains-from_filter}
+use Rattle.rb_bytes.proofs.Searches.{Contains-filter, Contains-from_filter}
 use Rattle.elf_image.proofs.ReachLemmas.{IsCovered-permutation}
 use Rattle.rv_reloc.proofs.Lists.{Contains-from_map, Contains-map}
 use Rattle.rv_reloc.specs.Ranges.{section_extent, symbol_extent, tabled_extent}

@@ -15,9 +15,9 @@ use Rattle.elf_image.specs.code.Functions.{AreInsts, IsFunctionPart, IsNopPart, 
 use Rattle.elf_image.specs.code.Parts.{halfword_in, length_in, length_at, IsInstIn, IsInstAt, StartsIn, at_start, after, IsStart}
 use Rattle.elf_image.specs.memory.LoadedBytes.{byte_at}
 use Rattle.elf_image.specs.code.Roles.{RoleIs}
-use Rattle.elf_image.proofs.LoadLemmas.{find-found}
+use Rattle.rb_bytes.proofs.Searches.{find-found}
 use Rattle.rb_bytes.proofs.Members.{Contains-there, Contains-cons_cases}
-use Rattle.move_law.proofs.Lists.{find_none, from_flat, in_flat}
+use Rattle.rb_bytes.proofs.ListLemmas.{find_none, from_flat, in_flat}
 
 -- The instruction at an address.
 

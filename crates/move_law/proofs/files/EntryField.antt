@@ -8,7 +8,8 @@ use Rattle.elf_image.specs.declared.elf.Elf.{Elf}
 use Rattle.elf_image.specs.declared.segment.Segment.{Segment}
 use Rattle.elf_image.specs.memory.Image.{byte_of, is_load, loads_address, segment_of}
 use Rattle.elf_image.specs.memory.LoadedBytes.{Range, address_in, address_of, byte_at, loaded_number, loads_range}
-use Rattle.elf_image.proofs.LoadLemmas.{find-found, find-only, loads-from_parts}
+use Rattle.elf_image.proofs.LoadLemmas.{loads-from_parts}
+use Rattle.rb_bytes.proofs.Searches.{find-found, find-only}
 use Rattle.sym_machine.specs.HiddenFields.{e_entry_field}
 use Rattle.move_law.specs.Laws.{IsAcceptedCode}
 use Rattle.move_law.specs.Rewrite.{executable_read}

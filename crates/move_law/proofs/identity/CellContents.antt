@@ -32,7 +32,7 @@ use Rattle.move_law.proofs.files.Executables.{byte_small, accepted_executable}
 use Rattle.move_law.proofs.files.Numbers.{bytes_at_is}
 use Rattle.move_law.proofs.values.HiLoParts.{antisym}
 use Rattle.move_law.proofs.code.FittingRoles.{same_pos}
-use Rattle.move_law.proofs.code.InstPlaces.{stable_equal}
+use Rattle.rb_bytes.proofs.Stable.{stable_equal}
 
 little_small : (bs : List ℕ) → All (λ b. b < 256) bs → little bs < 256 ^ length bs
 unfolding little

@@ -20,7 +20,7 @@ use Rattle.rv_code.specs.machine.Machine.{plus}
 use Rattle.elf_image.specs.declared.elf.Elf.{Elf}
 use Rattle.elf_image.specs.code.Parts.{IsInstAt}
 use Rattle.elf_image.specs.memory.Start.{start}
-use Rattle.elf_image.proofs.LoadLemmas.{find-found}
+use Rattle.rb_bytes.proofs.Searches.{find-found}
 use Rattle.addr_map.specs.Spans.{IsPlaced, ShareNoByte, is_of}
 use Rattle.addr_map.specs.declared.span.Span.{Span}
 use Rattle.sym_machine.specs.Rules.{next_of}
@@ -47,7 +47,7 @@ use Rattle.move_law.proofs.code.FittingRoles.{has_code_facts}
 use Rattle.move_law.proofs.steps.Start.{entry_is, entry_named, starts_related}
 use Rattle.move_law.proofs.map.SymbolNumbers.{facts_of}
 use Rattle.move_law.proofs.code.InstLists.{found_at}
-use Rattle.move_law.proofs.Lists.{all_of, from_map, in_map, pairs_in, pairs_map}
+use Rattle.rb_bytes.proofs.ListLemmas.{all_of, from_map, in_map, pairs_in, pairs_map}
 
 abbrev own : Placed → Span
 own p = record { out = p.addr; len = p.len; input = p.addr }

@@ -16,7 +16,7 @@ use Rattle.rv_code.specs.layout.ProgramCode.{is_code_address, IsNamed}
 use Rattle.rv_code.specs.layout.Flow.{insts_of, placed_at, action_at, is_call}
 use Rattle.rv_code.specs.machine.Machine.{plus}
 use Rattle.rv_code.specs.layout.FunctionLists.{address_end}
-use Rattle.elf_image.proofs.LoadLemmas.{find-found}
+use Rattle.rb_bytes.proofs.Searches.{find-found}
 use Rattle.addr_map.specs.declared.span.Span.{Span}
 use Rattle.addr_map.specs.Spans.{is_of, has_byte, IsPlaced, ShareNoByte}
 use Rattle.sym_machine.specs.declared.value.Pointer.{Pointer}
@@ -29,7 +29,7 @@ use Rattle.move_law.specs.Laws.{KeepsCode}
 use Rattle.move_law.proofs.values.Arithmetic.{IsPlace}
 use Rattle.move_law.proofs.steps.Instructions.{width_even, width_some}
 use Rattle.move_law.proofs.steps.Matching.{code_is_low}
-use Rattle.move_law.proofs.Lists.{find_none, one_of}
+use Rattle.rb_bytes.proofs.ListLemmas.{find_none, one_of}
 use Rattle.move_law.proofs.code.InstLists.{found_at}
 
 module _ (r : Rewrite) (keeps : KeepsCode r) where

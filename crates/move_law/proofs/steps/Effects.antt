@@ -34,7 +34,7 @@ use Rattle.move_law.proofs.steps.Outcomes.{SameSpaces, Follows, needs_found, che
 use Rattle.move_law.proofs.steps.Outcomes.{writes_can, gives_follows, fixed_not_written, break_start_same, break_bound_same}
 use Rattle.move_law.proofs.steps.Outcomes.{lt_le}
 use Rattle.std.proofs.lemmas.Option.{same_Some}
-use Rattle.move_law.proofs.Lists.{if_found}
+use Rattle.rb_bytes.proofs.ListLemmas.{if_found}
 
 -- the number of a value that is one
 pub number_is : (r : Rewrite) (v : Value) (x n : ℕ) → StandsFor r v x → number v ≡ Some n → x ≡ n

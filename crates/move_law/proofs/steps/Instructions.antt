@@ -41,7 +41,7 @@ use Rattle.move_law.proofs.steps.Actions.{IsPlain, IsNoJump, arm, is_saving}
 use Rattle.move_law.proofs.steps.Premises.{may_be_left_out, Facts}
 use Rattle.move_law.proofs.code.InstLists.{found_at}
 use Rattle.std.proofs.lemmas.Option.{same_Some}
-use Rattle.move_law.proofs.Lists.{if_found}
+use Rattle.rb_bytes.proofs.ListLemmas.{if_found}
 
 -- Widths and offsets.
 

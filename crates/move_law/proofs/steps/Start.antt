@@ -23,7 +23,7 @@ use Rattle.rb_bytes.specs.declared.fault.FaultKind.TheVariants.{BadEntry}
 use Rattle.elf_image.specs.memory.Start.{start, start_memory, start_registers, stack_bytes, stack_pointer, stack_end, stack_size}
 use Rattle.elf_image.specs.memory.Start.{in_stack, table_address, space_of, break_start, break_bound, writable_end, break_room}
 use Rattle.elf_image.specs.memory.Start.{pages_above}
-use Rattle.elf_image.proofs.LoadLemmas.{find-found}
+use Rattle.rb_bytes.proofs.Searches.{find-found}
 use Rattle.sym_machine.specs.declared.value.Pointer.TheVariants.{Code}
 use Rattle.sym_machine.specs.declared.value.CodeSymbol.TheVariants.{Points}
 use Rattle.sym_machine.specs.declared.value.MemoryByte.TheVariants.{Byte, SymbolByte, Hidden}
@@ -43,7 +43,7 @@ use Rattle.move_law.proofs.map.MappedPlaces.{place}
 use Rattle.move_law.proofs.code.InstLists.{function_code, start_code}
 use Rattle.sym_machine.specs.Values.{IsSymbol}
 use Rattle.std.proofs.lemmas.List.Elements.{All-contains}
-use Rattle.move_law.proofs.Lists.{find_none, none_any, only_one, if_found}
+use Rattle.rb_bytes.proofs.ListLemmas.{find_none, none_any, only_one, if_found}
 use Rattle.elf_image.proofs.ReadLists.{length-segments_from}
 
 -- The files.

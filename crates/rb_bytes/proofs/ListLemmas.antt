@@ -7,7 +7,7 @@ use Rattle.std.proofs.lemmas.Bool.{cases_order}
 use Rattle.std.proofs.lemmas.List.{get_or-map, get_or_default, length-map}
 use Rattle.std.proofs.lemmas.List.Elements.{Contains-append_cases, Contains-append_left, Contains-append_right, Contains-get_or}
 use Rattle.std.proofs.lemmas.List.Kept.{AllPairs-cons}
-use Rattle.elf_image.proofs.LoadLemmas.{find-finds}
+use Rattle.rb_bytes.proofs.Searches.{find-finds}
 use Rattle.rb_bytes.proofs.Members.{Contains-cons_cases, Contains-there}
 
 -- what holds of the value, if there is one, holds of this one
