@@ -16,7 +16,8 @@ use Rattle.sym_machine.specs.SymStart.{SymRuns, SymRunsSoFar}
 use Rattle.edge_profile.specs.PairCounts.{Counted, ignored_in}
 use Rattle.move_law.specs.FaithfulRewrite.{IsFaithful}
 use Rattle.move_law.specs.Laws.{FitStack}
-use Rattle.move_law.specs.Rewrite.{Rewrite, executable_of, program}
+use Rattle.move_law.specs.Rewrite.{Rewrite, program}
+use Rattle.elf_image.specs.memory.Executables.{executable_of}
 use Rattle.branch_fixup.specs.Forms.{AreForms}
 use Rattle.branch_fixup.specs.Strips.{pieces_of, spans_of, strips_of}
 use Rattle.code_emit.specs.Bytes.{Adds}

@@ -18,10 +18,9 @@ use Rattle.elf_image.specs.memory.LoadedBytes.{Range, is_in_range, address_of, a
 use Rattle.elf_image.proofs.LoadLemmas.{loads-from_parts}
 use Rattle.rb_bytes.proofs.Searches.{find-found}
 use Rattle.rb_bytes.proofs.Members.{Contains-cons_cases}
-use Rattle.sym_machine.specs.HiddenFields.{e_entry_field, e_phoff_field, e_phnum_field, section_fields, p_offset_field}
-use Rattle.sym_machine.specs.HiddenFields.{size_fields, place_fields, only, is_executable_segment, hidden_in_segment}
-use Rattle.sym_machine.specs.HiddenFields.{hidden_fields, is_hidden_field}
-use Rattle.move_law.specs.FaithfulRewrite.{is_in_entry_field}
+use Rattle.elf_image.specs.memory.HiddenFields.{e_entry_field, e_phoff_field, e_phnum_field, section_fields, p_offset_field}
+use Rattle.elf_image.specs.memory.HiddenFields.{size_fields, place_fields, only, is_executable_segment, hidden_in_segment}
+use Rattle.elf_image.specs.memory.HiddenFields.{hidden_fields, is_hidden_field, is_in_entry_field}
 use Rattle.elf_write.specs.Source.{Source, is_changed, cell_range}
 use Rattle.elf_write.proofs.Images.{segment_of-once}
 

@@ -19,7 +19,7 @@ use Rattle.elf_image.specs.memory.CodeSegment.{executable_end}
 use Rattle.elf_image.specs.memory.Image.{LoadOnce}
 use Rattle.elf_image.specs.memory.LoadedBytes.{is_in_range}
 use Rattle.elf_image.proofs.ReadLists.{length-segments_of, get_or-segments}
-use Rattle.sym_machine.specs.HiddenFields.{hidden_fields}
+use Rattle.elf_image.specs.memory.HiddenFields.{hidden_fields}
 use Rattle.elf_parts.specs.declared.number_at.NumberAt.{NumberAt}
 use Rattle.elf_parts.specs.declared.parts.Parts.{Parts}
 use Rattle.elf_parts.specs.Numbers.{patch_of}

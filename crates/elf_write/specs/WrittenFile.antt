@@ -7,8 +7,8 @@ use Rattle.elf_image.specs.memory.CodeSegment.{executable_segment}
 use Rattle.elf_image.specs.memory.LoadedBytes.{number_in, address_of, file_offset, IsInHeaders}
 use Rattle.elf_image.specs.memory.Start.{table_address, break_start, break_bound}
 use Rattle.addr_map.specs.Spans.{moved}
-use Rattle.move_law.specs.Rewrite.{AreCodeBytes, executable_of, memory_of}
-use Rattle.sym_machine.specs.HiddenFields.{e_entry_field}
+use Rattle.elf_image.specs.memory.Executables.{AreCodeBytes, executable_of, memory_of}
+use Rattle.elf_image.specs.memory.HiddenFields.{e_entry_field}
 use Rattle.elf_write.specs.Area.{shift_of}
 use Rattle.elf_write.specs.CarriedBytes.{CarriesImage, HoldsBytes}
 use Rattle.elf_write.specs.FrontBytes.{KeepsFront}

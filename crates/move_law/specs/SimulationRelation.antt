@@ -20,7 +20,8 @@ use Rattle.sym_machine.specs.declared.value.MemoryByte.{MemoryByte}
 use Rattle.sym_machine.specs.declared.value.MemoryByte.TheVariants.{Byte, SymbolByte, Hidden}
 use Rattle.sym_machine.specs.Values.{IsValue, IsMemoryByte}
 use Rattle.sym_machine.specs.SymStep.{SymState}
-use Rattle.move_law.specs.Rewrite.{Rewrite, memory_of, out}
+use Rattle.move_law.specs.Rewrite.{Rewrite, out}
+use Rattle.elf_image.specs.memory.Executables.{memory_of}
 use Rattle.move_law.specs.RelocatedValues.{number_of_symbol, number_of_value, bytes_from}
 
 -- The symbols that the input gives: a pointer to a named address, or to the point after a call; the upper part of an

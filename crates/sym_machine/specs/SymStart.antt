@@ -19,7 +19,8 @@ use Rattle.sym_machine.specs.declared.value.Value.{Value}
 use Rattle.sym_machine.specs.declared.value.Value.TheVariants.{Num}
 use Rattle.sym_machine.specs.declared.value.MemoryByte.{MemoryByte}
 use Rattle.sym_machine.specs.declared.value.MemoryByte.TheVariants.{Byte, SymbolByte, Hidden}
-use Rattle.sym_machine.specs.HiddenFields.{e_entry_field, at_entry, is_hidden_field, is_hidden_entry}
+use Rattle.elf_image.specs.memory.HiddenFields.{e_entry_field, is_hidden_field}
+use Rattle.sym_machine.specs.HiddenEntries.{at_entry, is_hidden_entry}
 use Rattle.sym_machine.specs.SymStep.{SymState, SymSteps}
 
 -- Symbols.

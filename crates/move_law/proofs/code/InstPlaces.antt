@@ -29,7 +29,7 @@ use Rattle.elf_image.proofs.LoadLemmas.{loads-from_parts}
 use Rattle.rb_bytes.proofs.Searches.{find-only}
 use Rattle.rb_bytes.proofs.Members.{Contains-cons_cases}
 use Rattle.elf_image.proofs.ReadLists.{get_or-segments, length-segments_of}
-use Rattle.move_law.specs.Rewrite.{executable_read, IsCodeByte}
+use Rattle.elf_image.specs.memory.Executables.{executable_read, IsCodeByte}
 use Rattle.move_law.specs.Laws.{IsAcceptedCode}
 use Rattle.move_law.proofs.code.InstLists.{length_of}
 use Rattle.move_law.proofs.files.Executables.{accepted_executable, byte_low, load_once, loaded_byte}

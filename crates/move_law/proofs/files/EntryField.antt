@@ -10,9 +10,9 @@ use Rattle.elf_image.specs.memory.Image.{byte_of, is_load, loads_address, segmen
 use Rattle.elf_image.specs.memory.LoadedBytes.{Range, address_in, address_of, byte_at, loaded_number, loads_range}
 use Rattle.elf_image.proofs.LoadLemmas.{loads-from_parts}
 use Rattle.rb_bytes.proofs.Searches.{find-found, find-only}
-use Rattle.sym_machine.specs.HiddenFields.{e_entry_field}
+use Rattle.elf_image.specs.memory.HiddenFields.{e_entry_field}
 use Rattle.move_law.specs.Laws.{IsAcceptedCode}
-use Rattle.move_law.specs.Rewrite.{executable_read}
+use Rattle.elf_image.specs.memory.Executables.{executable_read}
 use Rattle.move_law.proofs.files.Executables.{accepted_executable, load_once}
 use Rattle.move_law.proofs.files.Numbers.{number_from}
 

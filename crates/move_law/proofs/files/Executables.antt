@@ -17,7 +17,7 @@ use Rattle.elf_image.specs.file.ParsedFile.{IsElfOf}
 use Rattle.elf_image.specs.memory.Start.{start_memory, stack_byte, stack_end, stack_size, in_stack}
 use Rattle.rb_bytes.proofs.Searches.{find-found}
 use Rattle.elf_image.proofs.ReadLists.{get_or-segments, LoadOnce-apart}
-use Rattle.move_law.specs.Rewrite.{Executable, executable_of, executable_read, memory_of}
+use Rattle.elf_image.specs.memory.Executables.{Executable, executable_of, executable_read, memory_of}
 use Rattle.move_law.specs.Laws.{IsAcceptedCode, IsSoundExecutable}
 use Rattle.rv_code.proofs.machine.LowBytes.{little_at}
 use Rattle.move_law.proofs.files.Numbers.{bytes_at_is}

@@ -14,7 +14,8 @@ use Rattle.elf_image.specs.memory.Start.{pages_above, in_stack}
 use Rattle.elf_image.proofs.LoadLemmas.{loads_last}
 use Rattle.rb_bytes.proofs.Searches.{find-found}
 use Rattle.rb_bytes.proofs.Members.{Contains-there, Contains-cons_cases}
-use Rattle.move_law.specs.Rewrite.{Rewrite, executable_read, memory_of}
+use Rattle.move_law.specs.Rewrite.{Rewrite}
+use Rattle.elf_image.specs.memory.Executables.{executable_read, memory_of}
 use Rattle.move_law.specs.Laws.{KeepsCode}
 use Rattle.move_law.proofs.files.Executables.{loaded_byte, byte_low, load_once, stack_high}
 use Rattle.move_law.proofs.steps.Outcomes.{SameSpaces}

@@ -23,7 +23,8 @@ use Rattle.elf_image.specs.code.Relocations.{Relocation, relocations, Width, Bit
 use Rattle.elf_image.specs.faults.ReferenceFaults.{IsAddress}
 use Rattle.elf_image.specs.faults.ReferenceFaults as faults
 use Rattle.sym_machine.specs.SymStart.{symbol_of}
-use Rattle.move_law.specs.Rewrite.{Executable, Rewrite, executable_read, memory_of, out}
+use Rattle.move_law.specs.Rewrite.{Rewrite, out}
+use Rattle.elf_image.specs.memory.Executables.{Executable, executable_read, memory_of}
 use Rattle.move_law.specs.RelocatedValues.{distance, number_of_symbol}
 use Rattle.move_law.specs.Laws.{IsAcceptedCode, IsSoundExecutable}
 use Rattle.move_law.proofs.code.FittingRoles.{fits, bounded_of}

@@ -29,7 +29,8 @@ use Rattle.sym_machine.specs.declared.value.Pointer.TheVariants as pointer
 use Rattle.move_law.specs.FaithfulRewrite.{GetsToNext, GoesOn, HasInSpan, IsFaithful, IsMapOf, KeepsAction, KeepsCell, KeepsInst}
 use Rattle.move_law.specs.FaithfulRewrite.{made_anew, next, same}
 use Rattle.move_law.specs.Laws.{IdentityIsFaithful, IdentityLaw, IsAcceptedCode, KeepsCode, RunsAreReal, identity, own_spans}
-use Rattle.move_law.specs.Rewrite.{AreCodeBytes, Goes, HasAt, Rewrite, inst_end, executable_read, jumps, out, program, stays}
+use Rattle.move_law.specs.Rewrite.{Goes, HasAt, Rewrite, inst_end, jumps, out, program, stays}
+use Rattle.elf_image.specs.memory.Executables.{AreCodeBytes, executable_read}
 use Rattle.move_law.specs.Rewrite.{width_at}
 use Rattle.move_law.specs.SimulationRelation.{SimulationRelation}
 use Rattle.move_law.proofs.code.NextInst.{next_of_is}

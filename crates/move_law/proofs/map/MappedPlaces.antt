@@ -21,7 +21,8 @@ use Rattle.addr_map.specs.declared.span.Span.{Span}
 use Rattle.addr_map.specs.Spans.{is_of, has_byte, IsPlaced, ShareNoByte}
 use Rattle.sym_machine.specs.declared.value.Pointer.{Pointer}
 use Rattle.sym_machine.specs.declared.value.Pointer.TheVariants.{Code, Ret}
-use Rattle.move_law.specs.Rewrite.{Rewrite, width_at, out, inst_end, AreCodeBytes, HasAt, Goes}
+use Rattle.move_law.specs.Rewrite.{Rewrite, width_at, out, inst_end, HasAt, Goes}
+use Rattle.elf_image.specs.memory.Executables.{AreCodeBytes}
 use Rattle.move_law.specs.RelocatedValues.{number_of_pointer}
 use Rattle.move_law.specs.SimulationRelation.{IsGivenPointer}
 use Rattle.move_law.specs.FaithfulRewrite.{made_anew, HasInSpan, KeepsAction, KeepsInst}

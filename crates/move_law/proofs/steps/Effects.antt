@@ -24,7 +24,8 @@ use Rattle.sym_machine.specs.Values.{number, numbers, stored, is_hidden}
 use Rattle.sym_machine.specs.Rules.{loaded}
 use Rattle.sym_machine.specs.SymStep.{SymState, SymOutcome, needs, checks}
 use Rattle.sym_machine.specs.SymStep as symbol
-use Rattle.move_law.specs.Rewrite.{Rewrite, memory_of}
+use Rattle.move_law.specs.Rewrite.{Rewrite}
+use Rattle.elf_image.specs.memory.Executables.{memory_of}
 use Rattle.move_law.specs.SimulationRelation.{StandsFor, StandsForByte, has_right, RelatedData, RelatedPc}
 use Rattle.rv_code.proofs.machine.LowBytes.{length_low_bytes}
 use Rattle.rv_code.proofs.machine.RelatedMemory.{Alike, put_alike, put_keeps}

@@ -25,7 +25,8 @@ use Rattle.sym_machine.specs.declared.value.CodeSymbol.TheVariants.{Hi}
 use Rattle.sym_machine.specs.Rules.{tested, next_of, destination}
 use Rattle.sym_machine.specs.SymStep.{SymState, SymOutcome}
 use Rattle.sym_machine.specs.SymStep as symbol
-use Rattle.move_law.specs.Rewrite.{Rewrite, Executable, memory_of, width_at, out, inst_end, HasAt}
+use Rattle.move_law.specs.Rewrite.{Rewrite, width_at, out, inst_end, HasAt}
+use Rattle.elf_image.specs.memory.Executables.{Executable, memory_of}
 use Rattle.move_law.specs.RelocatedValues.{target_at, upper_target, number_of_pointer}
 use Rattle.move_law.specs.SimulationRelation.{IsGivenPointer, IsGiven, HasTarget, RelatedData, RelatedPc}
 use Rattle.move_law.specs.FaithfulRewrite.{next, GetsToNext, made_anew, goes_on, HasInSpan, KeepsCall, KeepsBranch, same}

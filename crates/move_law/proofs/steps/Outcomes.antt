@@ -14,7 +14,8 @@ use Rattle.sym_machine.specs.declared.value.Value.{Value}
 use Rattle.sym_machine.specs.declared.value.Value.TheVariants.{Num}
 use Rattle.sym_machine.specs.declared.value.MemoryByte.{MemoryByte}
 use Rattle.sym_machine.specs.SymStep.{SymState, SymOutcome, needs, checks}
-use Rattle.move_law.specs.Rewrite.{Rewrite, memory_of}
+use Rattle.move_law.specs.Rewrite.{Rewrite}
+use Rattle.elf_image.specs.memory.Executables.{memory_of}
 use Rattle.move_law.specs.SimulationRelation.{StandsFor, StandsForByte, RelatedData, RelatedPc}
 use Rattle.rv_code.proofs.machine.RelatedMemory.{Alike, set_alike, bytes_alike, put_alike, put_keeps, all_may_implied}
 

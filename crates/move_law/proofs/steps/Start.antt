@@ -27,13 +27,15 @@ use Rattle.rb_bytes.proofs.Searches.{find-found}
 use Rattle.sym_machine.specs.declared.value.Pointer.TheVariants.{Code}
 use Rattle.sym_machine.specs.declared.value.CodeSymbol.TheVariants.{Points}
 use Rattle.sym_machine.specs.declared.value.MemoryByte.TheVariants.{Byte, SymbolByte, Hidden}
-use Rattle.sym_machine.specs.HiddenFields.{e_entry_field, at_phdr, at_phnum, at_entry, is_hidden_field, is_hidden_entry}
+use Rattle.elf_image.specs.memory.HiddenFields.{e_entry_field, is_hidden_field, is_in_entry_field}
+use Rattle.sym_machine.specs.HiddenEntries.{at_phdr, at_phnum, at_entry, is_hidden_entry}
 use Rattle.sym_machine.specs.SymStart.{sym_memory, entry_fields, hidden_byte, code_cell_byte, byte_of_entry, byte_of_cell}
 use Rattle.sym_machine.specs.SymStart.{symbol_of, code_cell_range, program_start}
-use Rattle.move_law.specs.Rewrite.{Executable, Rewrite, executable_read, memory_of, out, program, stays}
+use Rattle.move_law.specs.Rewrite.{Rewrite, out, program, stays}
+use Rattle.elf_image.specs.memory.Executables.{Executable, executable_read, memory_of}
 use Rattle.move_law.specs.RelocatedValues.{number_of_symbol}
 use Rattle.move_law.specs.SimulationRelation.{StandsForByte, IsGiven, has_right}
-use Rattle.move_law.specs.FaithfulRewrite.{is_in_entry_field, KeepsCell}
+use Rattle.move_law.specs.FaithfulRewrite.{KeepsCell}
 use Rattle.move_law.specs.Laws.{KeepsCode, FitStack, StartsRelated}
 use Rattle.move_law.proofs.files.Executables.{loaded_byte, accepted_executable, number_byte, loaded_start}
 use Rattle.move_law.proofs.files.Stack.{stack_of, count, byte_same, entry_on_stack, room, stack_is}

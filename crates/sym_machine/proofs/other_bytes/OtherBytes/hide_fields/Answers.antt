@@ -3,7 +3,7 @@ use Rattle.std.specs.Prelude.{if◌then◌else◌, ◌&&◌}
 use Rattle.std.specs.List.{list_any}
 use Rattle.elf_image.specs.declared.segment.Segment.{Segment}
 use Rattle.sym_machine.specs.declared.value.MemoryByte.TheVariants.{Hidden}
-use Rattle.sym_machine.specs.HiddenFields.{is_hidden_field}
+use Rattle.elf_image.specs.memory.HiddenFields.{is_hidden_field}
 use Rattle.sym_machine.specs.internal.Fields.{range_of_field}
 use Rattle.sym_machine.specs.internal.SpecialBytes.{special, covers}
 use Rattle.sym_machine.proofs.StartFields.{hidden_everywhere}
