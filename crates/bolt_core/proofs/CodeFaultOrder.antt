@@ -9,7 +9,7 @@ use Rattle.rb_bytes.specs.declared.fault.Refusal.{Refusal}
 use Rattle.rb_bytes.specs.declared.fault.Refusal.TheVariants as refusal
 use Rattle.elf_image.specs.declared.elf.Elf.{Elf}
 use Rattle.elf_image.specs.faults.CodeFaults.{HasCodeFault}
-use Rattle.elf_image.specs.faults.FirstFault.{IsAnswered, IsFree, IsRefusalBy}
+use Rattle.rb_bytes.specs.FirstFault.{IsAnswered, IsFree, IsRefusalBy}
 use Rattle.elf_image.specs.faults.FunctionFaults.{HasFunctionFault}
 use Rattle.elf_image.specs.faults.ReferenceFaults.{HasReferenceFault}
 

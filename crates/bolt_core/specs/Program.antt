@@ -7,7 +7,7 @@ use Rattle.elf_image.specs.code.FileCode.{IsCodeOf}
 use Rattle.elf_image.specs.declared.elf.Elf.{Elf}
 use Rattle.elf_image.specs.faults.CodeFaults.{HasCodeFault}
 use Rattle.elf_image.specs.faults.FileFaults.{IsSound}
-use Rattle.elf_image.specs.faults.FirstFault.{IsFree}
+use Rattle.rb_bytes.specs.FirstFault.{IsFree}
 use Rattle.elf_image.specs.file.ParsedFile.{IsElfOf}
 use Rattle.bolt_core.specs.Tables.{HasTables}
 

@@ -7,11 +7,10 @@ use Rattle.std.proofs.lemmas.Bool.{cases_lt, eq-eqb, eqb-true, ne_eqb}
 use Rattle.std.proofs.lemmas.Option.{slice_get_within}
 use Rattle.rv_code.specs.declared.placed.Placed.{Placed}
 use Rattle.rv_code.specs.declared.placed.Func.{Func}
-use Rattle.rv_code.specs.layout.Flow.{action_at, falls_at, is_call, is_plain_jump, placed_at}
+use Rattle.rv_code.specs.layout.Flow.{action_at, falls_at, is_call, is_plain_jump, placed_at, next_in, next_of}
 use Rattle.rv_code.specs.layout.FunctionLists.{AreLaidOut}
 use Rattle.rv_code.specs.layout.ProgramCode.{is_code_address}
 use Rattle.rv_code.specs.machine.Machine.{plus}
-use Rattle.sym_machine.specs.Rules.{next_in, next_of}
 use Rattle.move_law.proofs.code.InstLists.{found_at}
 use Rattle.branch_fixup.specs.Endings.{fall_of}
 use Rattle.branch_fixup.proofs.Falls.{below_limit, code_next, falls_in, falls_nowhere}

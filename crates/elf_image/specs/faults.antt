@@ -1,6 +1,5 @@
 pub mod CodeFaults
 pub mod FileFaults
-pub mod FirstFault
 pub mod FunctionFaults
 pub mod LowestPlace
 pub mod ReferenceFaults

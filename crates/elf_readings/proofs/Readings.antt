@@ -15,7 +15,7 @@ use Rattle.elf_image.specs.file.ParsedFile.{IsSectionAt, IsSymbolAt, AreSymbolsO
 use Rattle.elf_image.specs.code.Functions.{AreFunctions}
 use Rattle.elf_image.specs.code.FileCode.{AreStarts, AreRoles, AreCells}
 use Rattle.elf_image.specs.faults.CodeFaults.{HasCodeFault}
-use Rattle.elf_image.specs.faults.FirstFault.{IsFree, IsAnswered}
+use Rattle.rb_bytes.specs.FirstFault.{IsFree, IsAnswered}
 use Rattle.elf_readings.specs.Laws.{HaveSameCode, ReadingLaw, bounds}
 use Rattle.elf_readings.proofs.Alike.{bare, bare_symbol, Alike, back}
 use Rattle.elf_readings.proofs.Parts.{start_of}

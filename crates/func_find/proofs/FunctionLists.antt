@@ -21,7 +21,7 @@ use Rattle.elf_image.specs.code.FileCode.{AreStarts, AreRoles}
 use Rattle.elf_image.specs.code.Parts.{IsCodePart, StartsIn, IsInstAt, IsWholePart}
 use Rattle.elf_image.specs.code.Roles.{HasRole, RoleIs}
 use Rattle.elf_image.specs.code.Functions.{AreInsts, IsFunctionPart, IsCodeAddress, IsFunction, AreFunctions}
-use Rattle.elf_image.specs.faults.FirstFault.{Lacks, LacksBelow, IsFree, IsAnswered, IsRefusalBy}
+use Rattle.rb_bytes.specs.FirstFault.{Lacks, LacksBelow, IsFree, IsAnswered, IsRefusalBy}
 use Rattle.elf_image.specs.faults.FunctionFaults.{IsBareAuipc, IsInsideInstruction, IsBadTarget, direct, pair, HasFunctionFault}
 use Rattle.elf_image.specs.faults.LowestPlace.{IsLowest}
 use Rattle.elf_image.proofs.LowestPlaces.{IsLowest-same}

@@ -15,7 +15,7 @@ use Rattle.rv_code.specs.declared.placed.Role.TheVariants as role
 use Rattle.rv_code.specs.declared.cell.CodeCell.{CodeCell}
 use Rattle.rv_code.specs.isa.Action.{action_of}
 use Rattle.rv_code.specs.layout.ProgramCode.{is_code_address, IsNamed}
-use Rattle.rv_code.specs.layout.Flow.{insts_of, placed_at, action_at, is_call}
+use Rattle.rv_code.specs.layout.Flow.{insts_of, placed_at, action_at, is_call, next_of}
 use Rattle.rv_code.specs.isa.HiLo.{hi20, lo12}
 use Rattle.rv_code.specs.machine.Machine.{plus}
 use Rattle.rv_code.specs.isa.TwosComplement.{unsigned64}
@@ -24,7 +24,6 @@ use Rattle.elf_image.specs.memory.Image.{is_loaded_with}
 use Rattle.elf_image.specs.memory.LoadedBytes.{byte_at, number_in, is_in_range, address_of}
 use Rattle.elf_image.specs.memory.Start.{break_start, break_bound, table_address}
 use Rattle.addr_map.specs.Spans.{IsMap}
-use Rattle.sym_machine.specs.Rules.{next_of}
 use Rattle.elf_image.specs.memory.HiddenFields.{e_entry_field, is_hidden_field, is_in_entry_field}
 use Rattle.sym_machine.specs.SymStart.{code_cell_range, symbol_of}
 use Rattle.move_law.specs.Rewrite.{Rewrite, width_at, out, inst_end, HasAt, Goes}

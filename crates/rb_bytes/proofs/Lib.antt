@@ -9,3 +9,5 @@ pub mod Members
 pub mod Searches
 pub mod ListLemmas
 pub mod Stable
+pub mod Permuted
+pub mod Results

@@ -5,7 +5,7 @@ use Rattle.rb_bytes.specs.declared.fault.FaultKind.TheVariants.{RelocType, Reloc
 use Rattle.rb_bytes.specs.declared.fault.FaultKind.TheVariants.{AlreadyMoved}
 use Rattle.elf_image.specs.declared.elf.Elf.{Elf}
 use Rattle.elf_image.specs.code.Relocations.{Relocation, relocations}
-use Rattle.elf_image.specs.faults.FirstFault.{LacksBelow, IsFree}
+use Rattle.rb_bytes.specs.FirstFault.{LacksBelow, IsFree}
 use Rattle.elf_image.specs.faults.ReferenceFaults.{HasReferenceFault, IsMisfit, IsLoMismatch}
 use Rattle.elf_image.proofs.LowestPlaces.{IsLowest-none}
 use Rattle.rv_reloc.specs.declared.sweep.Candidate.{Candidate}

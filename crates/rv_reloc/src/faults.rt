@@ -2,7 +2,7 @@
 ghost use Rattle.std.specs.Prelude.{ℕ, List, OnOk, IfErr};
 ghost use Rattle.elf_image.specs.code.FileCode.{AreStarts};
 ghost use Rattle.elf_image.specs.code.Relocations.{HasRelocation};
-ghost use Rattle.elf_image.specs.faults.FirstFault.{IsAnswered, LacksBelow};
+ghost use Rattle.rb_bytes.specs.FirstFault.{IsAnswered, LacksBelow};
 ghost use Rattle.elf_image.specs.faults.LowestPlace.{IsLowest};
 ghost use Rattle.elf_image.specs.faults.ReferenceFaults.{HasReferenceFault, IsMisfit};
 ghost use Rattle.rv_reloc.specs.Lows.{AreLows};

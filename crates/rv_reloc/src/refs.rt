@@ -1,7 +1,7 @@
 // What points at a file's code.
 ghost use Rattle.std.specs.Prelude.{ℕ, List, IfOk, IfErr, OnOk};
 ghost use Rattle.elf_image.specs.code.FileCode.{AreStarts};
-ghost use Rattle.elf_image.specs.faults.FirstFault.{IsFree, IsRefusalBy};
+ghost use Rattle.rb_bytes.specs.FirstFault.{IsFree, IsRefusalBy};
 ghost use Rattle.elf_image.specs.faults.ReferenceFaults.{HasReferenceFault};
 ghost use Rattle.rv_reloc.specs.LoadedMemory.{IsLow};
 ghost use Rattle.rv_reloc.specs.Lows.{AreLows};

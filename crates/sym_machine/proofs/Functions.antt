@@ -9,13 +9,12 @@ use Rattle.std.proofs.lemmas.List.Elements.{Contains-append_left, Contains-appen
 use Rattle.rv_code.specs.declared.placed.Placed.{Placed}
 use Rattle.rv_code.specs.declared.placed.Func.{Func}
 use Rattle.rv_code.specs.declared.placed.InstPlace.{InstPlace}
-use Rattle.rv_code.specs.layout.Flow.{insts_of, placed_at}
+use Rattle.rv_code.specs.layout.Flow.{insts_of, placed_at, next_in, next_of}
 use Rattle.rv_code.specs.layout.FunctionLists.{AreLaidOut}
 use Rattle.rv_code.specs.layout.FunctionMembers.{IsInstPlace}
 use Rattle.rv_code.proofs.lists.Follows.{inst_bounds, insts_rise}
 use Rattle.rb_bytes.proofs.Searches.{find-only, find-none, find-finds}
 use Rattle.rb_bytes.proofs.Members.{Contains-cons_cases, Contains-there}
-use Rattle.sym_machine.specs.Rules.{next_in, next_of}
 use Rattle.sym_machine.specs.internal.FunctionOrder.{IsSearchable, addr_at}
 
 pub searchable : (funcs : List Func) → AreLaidOut funcs → IsSearchable funcs

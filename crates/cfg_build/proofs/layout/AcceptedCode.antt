@@ -16,7 +16,7 @@ use Rattle.elf_image.specs.declared.segment.TheConstants.{PF_X}
 use Rattle.elf_image.specs.code.Functions.{AreInsts, AreFunctions}
 use Rattle.elf_image.specs.code.Parts.{IsPart, IsInstAt, at_start}
 use Rattle.elf_image.specs.faults.FileFaults.{IsSound}
-use Rattle.elf_image.specs.faults.FirstFault.{IsFree}
+use Rattle.rb_bytes.specs.FirstFault.{IsFree}
 use Rattle.elf_image.specs.faults.FunctionFaults.{HasFunctionFault}
 use Rattle.elf_image.specs.faults.SegmentLayout.{LiesInCode}
 use Rattle.elf_image.specs.file.Header.{segment}

@@ -21,7 +21,7 @@ use Rattle.rv_code.specs.layout.Flow.{insts_of, placed_at}
 use Rattle.rb_bytes.specs.declared.fault.FaultKind.TheVariants.{RelocMismatch, LoMismatch}
 use Rattle.elf_image.specs.declared.elf.Elf.{Elf}
 use Rattle.elf_image.specs.declared.relocation.TheConstants.{R_RISCV_CALL, R_RISCV_CALL_PLT}
-use Rattle.elf_image.specs.faults.FirstFault.{IsFree}
+use Rattle.rb_bytes.specs.FirstFault.{IsFree}
 use Rattle.elf_image.specs.faults.CodeFaults.{HasCodeFault}
 use Rattle.elf_image.specs.code.FileCode.{IsCodeOf}
 use Rattle.elf_image.specs.code.Functions as functions

@@ -14,7 +14,7 @@ use Rattle.rv_code.specs.declared.inst.Inst.TheVariants.{Jal}
 use Rattle.rv_code.specs.declared.placed.Placed.{Placed}
 use Rattle.rv_code.specs.isa.Action.{action_of}
 use Rattle.rv_code.specs.isa.TwosComplement.{unsigned64}
-use Rattle.rv_code.specs.layout.Flow.{action_at, insts_of, is_call, placed_at}
+use Rattle.rv_code.specs.layout.Flow.{action_at, insts_of, is_call, placed_at, next_of}
 use Rattle.rv_code.specs.layout.ProgramCode.{ProgramCode, is_code_address}
 use Rattle.rv_code.specs.machine.Machine.{plus}
 use Rattle.elf_image.specs.declared.elf.Elf.{Elf}
@@ -23,7 +23,6 @@ use Rattle.elf_image.specs.memory.Start.{start}
 use Rattle.rb_bytes.proofs.Searches.{find-found}
 use Rattle.addr_map.specs.Spans.{IsPlaced, ShareNoByte, is_of}
 use Rattle.addr_map.specs.declared.span.Span.{Span}
-use Rattle.sym_machine.specs.Rules.{next_of}
 use Rattle.sym_machine.specs.SymStart.{program_start}
 use Rattle.sym_machine.specs.declared.value.Pointer.TheVariants as pointer
 use Rattle.move_law.specs.FaithfulRewrite.{GetsToNext, GoesOn, HasInSpan, IsFaithful, IsMapOf, KeepsAction, KeepsCell, KeepsInst}

@@ -14,7 +14,7 @@ use Rattle.elf_image.specs.code.Relocations.{Relocation}
 use Rattle.elf_image.specs.code.Roles.{IsAbsoluteLow, Claims, HasRole, RoleIs, CallPair, PcrelLo}
 use Rattle.elf_image.specs.code.Roles as claims
 use Rattle.elf_image.specs.faults.CodeFaults.{HasCodeFault}
-use Rattle.elf_image.specs.faults.FirstFault.{IsFree}
+use Rattle.rb_bytes.specs.FirstFault.{IsFree}
 use Rattle.elf_image.specs.faults.ReferenceFaults.{IsCall, IsMisfit, HasAbsolute}
 use Rattle.elf_image.specs.faults.ReferenceFaults as faults
 use Rattle.rv_code.specs.isa.HiLo.{hi20, lo12}

@@ -12,7 +12,7 @@ use Rattle.rv_code.specs.declared.action.Action.TheVariants as action
 use Rattle.rv_code.specs.declared.placed.Placed.{Placed}
 use Rattle.rv_code.specs.isa.Action.{action_of}
 use Rattle.rv_code.specs.isa.InstBytes.{Decodes}
-use Rattle.rv_code.specs.layout.Flow.{insts_of, placed_at, action_at, is_call}
+use Rattle.rv_code.specs.layout.Flow.{insts_of, placed_at, action_at, is_call, next_of}
 use Rattle.rv_code.specs.machine.Machine.{plus}
 use Rattle.rv_code.specs.isa.Op.{holds}
 use Rattle.rv_code.specs.machine.Step.{ByteState}
@@ -22,7 +22,7 @@ use Rattle.elf_image.specs.code.Parts.{halfword_in}
 use Rattle.sym_machine.specs.declared.value.Pointer.{Pointer}
 use Rattle.sym_machine.specs.declared.value.Pointer.TheVariants.{Code, Ret}
 use Rattle.sym_machine.specs.declared.value.CodeSymbol.TheVariants.{Hi}
-use Rattle.sym_machine.specs.Rules.{tested, next_of, destination}
+use Rattle.sym_machine.specs.Rules.{tested, destination}
 use Rattle.sym_machine.specs.SymStep.{SymState, SymOutcome}
 use Rattle.sym_machine.specs.SymStep as symbol
 use Rattle.move_law.specs.Rewrite.{Rewrite, width_at, out, inst_end, HasAt}

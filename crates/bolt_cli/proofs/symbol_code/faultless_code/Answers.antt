@@ -5,7 +5,7 @@ use Rattle.rb_bytes.specs.declared.fault.Refusal.TheVariants as refusal
 use Rattle.elf_image.specs.declared.elf.Elf.{Elf}
 use Rattle.elf_image.specs.faults.CodeFaults.{HasCodeFault}
 use Rattle.elf_image.specs.faults.FileFaults.{IsSound}
-use Rattle.elf_image.specs.faults.FirstFault.{IsRefusalBy}
+use Rattle.rb_bytes.specs.FirstFault.{IsRefusalBy}
 use Rattle.elf_image.specs.file.ParsedFile.{IsElfOf}
 use Rattle.bolt_core.specs.Program.{file_limit, tabled}
 use Rattle.bolt_cli.specs.run.Phases.{IsRefusalFor}

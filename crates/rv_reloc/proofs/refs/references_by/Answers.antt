@@ -1,6 +1,6 @@
 use Rattle.std.proofs.Common.{sym, subst}
 use Rattle.std.proofs.lemmas.Result.{err_from_is_err_and}
-use Rattle.elf_image.specs.faults.FirstFault.{IsAnswered}
+use Rattle.rb_bytes.specs.FirstFault.{IsAnswered}
 use Rattle.elf_image.specs.faults.ReferenceFaults.{HasReferenceFault}
 use Rattle.rv_reloc.specs.Parts.{ArePartsApart}
 use Rattle.rv_reloc.specs.Cells.{HasAddresses}
