@@ -5,7 +5,7 @@ use Rattle.std.proofs.lemmas.List.Elements.{All-map}
 use Rattle.std.proofs.lemmas.Bool.{cases_lt}
 use Rattle.rv_code.specs.declared.cell.CodeCell.{CodeCell}
 use Rattle.rv_code.specs.layout.ProgramCode.{ProgramCode}
-use Rattle.elf_image.specs.code.Cells.{CanBeCell, Content, Counts, Field, IsCell, counts, gives_way}
+use Rattle.elf_code.specs.Cells.{CanBeCell, Content, Counts, Field, IsCell, counts, gives_way}
 use Rattle.elf_image.specs.declared.elf.Elf.{Elf}
 use Rattle.move_law.specs.Laws.{IsAcceptedCode}
 use Rattle.rb_bytes.proofs.ListLemmas.{all_of, pairs_in, pairs_map}

@@ -8,7 +8,8 @@ use Rattle.rv_code.specs.layout.Flow.{insts_of}
 use Rattle.rv_code.specs.layout.ProgramCode.{ProgramCode}
 use Rattle.elf_image.specs.declared.elf.Elf.{Elf}
 use Rattle.elf_image.specs.declared.segment.TheConstants.{PF_R, PF_W, PF_X}
-use Rattle.elf_image.specs.memory.LoadedBytes.{byte_at, is_in_range, number_in}
+use Rattle.elf_image.specs.memory.LoadedBytes.{byte_at, is_in_range}
+use Rattle.rv_code.specs.machine.MemoryNumbers.{number_in}
 use Rattle.addr_map.specs.declared.span.Span.{Span}
 use Rattle.addr_map.specs.Spans.{new}
 use Rattle.elf_image.specs.memory.HiddenFields.{is_hidden_field, is_in_entry_field}

@@ -7,8 +7,8 @@ use Rattle.rv_code.specs.declared.placed.Block.{Block}
 use Rattle.rv_code.specs.declared.placed.Func.{Func}
 use Rattle.rv_code.specs.layout.Blocks.{AreBlocks}
 use Rattle.elf_image.specs.declared.elf.Elf.{Elf}
-use Rattle.elf_image.specs.code.Functions.{AreFunctions}
-use Rattle.elf_image.specs.faults.CodeFaults.{HasCodeFault}
+use Rattle.elf_code.specs.Functions.{AreFunctions}
+use Rattle.elf_code.specs.CodeFaults.{HasCodeFault}
 use Rattle.elf_image.specs.faults.FileFaults.{IsSound}
 use Rattle.rb_bytes.specs.FirstFault.{IsRefusalBy}
 use Rattle.elf_image.specs.file.ParsedFile.{IsElfOf}

@@ -8,7 +8,7 @@ use Rattle.rv_code.specs.machine.Machine.{Event}
 use Rattle.elf_image.specs.faults.FileFaults.{IsSound}
 use Rattle.elf_image.specs.file.Header.{segments_of}
 use Rattle.elf_image.specs.memory.CodeSegment.{executable_segment}
-use Rattle.elf_image.specs.memory.Start.{Runs, RunsSoFar}
+use Rattle.rv_memory.specs.Start.{Runs, RunsSoFar}
 use Rattle.addr_map.specs.declared.span.Span.{Span}
 use Rattle.addr_map.specs.MapText.{AreInLineOrder}
 use Rattle.addr_map.specs.Spans.{IsStretch, new}

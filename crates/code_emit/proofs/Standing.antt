@@ -1,7 +1,7 @@
 -- Instructions that stand in an executable, with their lengths.
 use Rattle.std.proofs.Common.{◌≡◌, ℕ, ◌+◌, List, [], ◌∷◌, sym, subst}
 use Rattle.rv_code.specs.declared.inst.Inst.{Inst}
-use Rattle.elf_image.specs.code.Parts.{IsInstIn}
+use Rattle.elf_code.specs.Parts.{IsInstIn}
 use Rattle.move_law.specs.Rewrite.{HasAt, width_at}
 use Rattle.elf_image.specs.memory.Executables.{Executable, AreCodeBytes, memory_of}
 use Rattle.move_law.proofs.code.InstLists.{length_is}

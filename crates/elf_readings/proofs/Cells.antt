@@ -8,10 +8,10 @@ use Rattle.elf_image.specs.declared.segment.Segment.{Segment}
 use Rattle.elf_image.specs.declared.segment.TheConstants.{PHDR_SIZE}
 use Rattle.elf_image.specs.file.Header.{header_size}
 use Rattle.elf_image.specs.memory.LoadedBytes.{file_offset}
-use Rattle.elf_image.specs.code.Relocations.{Relocation, relocations, Width}
-use Rattle.elf_image.specs.code.Cells.{IsOnly, is_plus, is_minus, IsDifference, of_labels, of_place, IsCodeLabel, HasCodeLabel}
-use Rattle.elf_image.specs.code.Cells.{IsInOneWhole, Field, IsField, pointer, slot, difference, CanBeCell, Counts, counts}
-use Rattle.elf_image.specs.code.Cells.{gives_way, IsCell}
+use Rattle.elf_code.specs.Relocations.{Relocation, relocations, Width}
+use Rattle.elf_code.specs.Cells.{IsOnly, is_plus, is_minus, IsDifference, of_labels, of_place, IsCodeLabel, HasCodeLabel}
+use Rattle.elf_code.specs.Cells.{IsInOneWhole, Field, IsField, pointer, slot, difference, CanBeCell, Counts, counts}
+use Rattle.elf_code.specs.Cells.{gives_way, IsCell}
 use Rattle.elf_readings.proofs.Alike.{bare, Alike, back}
 use Rattle.elf_readings.proofs.Relocations.{with_section, Twin, twin, count_alike}
 use Rattle.elf_readings.proofs.Parts.{start_of, whole_of}

@@ -8,7 +8,8 @@ use Rattle.elf_image.specs.faults.FileFaults.{IsSound}
 use Rattle.elf_image.specs.file.Header.{e_entry, segments_of}
 use Rattle.elf_image.specs.file.ParsedFile.{IsElfOf}
 use Rattle.elf_image.specs.memory.Image.{LoadOnce}
-use Rattle.elf_image.specs.memory.LoadedBytes.{address_of, address_in, loads_range, number_in}
+use Rattle.elf_image.specs.memory.LoadedBytes.{address_of, address_in, loads_range}
+use Rattle.rv_code.specs.machine.MemoryNumbers.{number_in}
 use Rattle.rb_bytes.proofs.Searches.{find-found}
 use Rattle.addr_map.specs.Spans.{moved}
 use Rattle.elf_image.specs.memory.Executables.{executable_of, memory_of}

@@ -21,8 +21,9 @@ use Rattle.rv_code.specs.machine.Machine.{plus}
 use Rattle.rv_code.specs.isa.TwosComplement.{unsigned64}
 use Rattle.elf_image.specs.declared.segment.TheConstants.{PF_R, PF_W, PF_X}
 use Rattle.elf_image.specs.memory.Image.{is_loaded_with}
-use Rattle.elf_image.specs.memory.LoadedBytes.{byte_at, number_in, is_in_range, address_of}
-use Rattle.elf_image.specs.memory.Start.{break_start, break_bound, table_address}
+use Rattle.elf_image.specs.memory.LoadedBytes.{byte_at, is_in_range, address_of}
+use Rattle.rv_code.specs.machine.MemoryNumbers.{number_in}
+use Rattle.elf_image.specs.memory.Break.{break_start, break_bound, table_address}
 use Rattle.addr_map.specs.Spans.{IsMap}
 use Rattle.elf_image.specs.memory.HiddenFields.{e_entry_field, is_hidden_field, is_in_entry_field}
 use Rattle.sym_machine.specs.SymStart.{code_cell_range, symbol_of}

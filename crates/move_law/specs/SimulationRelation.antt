@@ -9,7 +9,7 @@ use Rattle.rv_code.specs.machine.Machine.{State, Space, may_read, may_write, may
 use Rattle.rv_code.specs.machine.Step.{ByteState}
 use Rattle.elf_image.specs.declared.segment.TheConstants.{PF_W}
 use Rattle.elf_image.specs.memory.Image.{is_loaded_with}
-use Rattle.elf_image.specs.memory.Start.{space_of}
+use Rattle.rv_memory.specs.Start.{space_of}
 use Rattle.sym_machine.specs.declared.value.Pointer.{Pointer}
 use Rattle.sym_machine.specs.declared.value.Pointer.TheVariants.{Code, Ret}
 use Rattle.sym_machine.specs.declared.value.CodeSymbol.{CodeSymbol}

@@ -9,8 +9,8 @@ use Rattle.rv_code.specs.machine.Machine.{plus, all_may}
 use Rattle.elf_image.specs.declared.segment.Segment.{Segment}
 use Rattle.elf_image.specs.declared.segment.TheConstants.{PF_W}
 use Rattle.elf_image.specs.memory.Image.{image_byte, is_loaded_with}
-use Rattle.elf_image.specs.memory.Start.{in_stack, stack_end, stack_size, writable_end, break_start, break_bound, break_room}
-use Rattle.elf_image.specs.memory.Start.{pages_above}
+use Rattle.elf_image.specs.memory.Break.{writable_end, break_start, break_bound, break_room, pages_above}
+use Rattle.rv_memory.specs.Start.{in_stack, stack_end, stack_size}
 use Rattle.rv_memory.specs.declared.memory.Memory.{Memory}
 use Rattle.rv_memory.specs.CodeRange.{is_in_code}
 use Rattle.rv_memory.specs.Memory.{memory_of, is_zero_filled, unwritten_byte, writes, executes, Keeps}

@@ -4,7 +4,7 @@ use Rattle.std.proofs.Common.{length}
 use Rattle.std.specs.Prelude.{if◌then◌else◌, ◌==◌, nat_le, nat_lt, slice_index, replicate}
 use Rattle.std.proofs.lemmas.Bool.{eqb-true, eqb-false, leb-true, leb-false, ltb-true, ltb-false, and_parts, false_from_ne_true}
 use Rattle.rv_code.specs.machine.Machine.{plus, put}
-use Rattle.elf_image.specs.memory.Start.{in_stack, stack_end, stack_size}
+use Rattle.rv_memory.specs.Start.{in_stack, stack_end, stack_size}
 
 plus_one : (a n : ℕ) → a + suc n < 2 ^ 64 → plus a 1 ≡ a + 1
 plus_one a n h = omega arith

@@ -10,11 +10,11 @@ use Rattle.std.proofs.lemmas.List.Elements.{Contains-append_left, Contains-appen
 use Rattle.std.proofs.lemmas.List.Sorted.{Contains-permutation, IsPermutation-sym}
 use Rattle.elf_image.specs.declared.elf.Elf.{Elf}
 use Rattle.elf_image.specs.declared.relocation.TheConstants.{R_RISCV_32, R_RISCV_GOT_HI20}
-use Rattle.elf_image.specs.code.Cells.{Field, Content, Address, Difference, CanBeCell, IsField, pointer, slot, difference}
-use Rattle.elf_image.specs.code.Cells.{IsContentBefore, address_width}
-use Rattle.elf_image.specs.memory.LoadedBytes.{loaded_number}
-use Rattle.elf_image.specs.code.Relocations.{Relocation, Bits, is_pcrel_hi}
-use Rattle.elf_image.specs.code.Roles.{IsFullAt, pair_target, PcrelHiTo, PcrelLo}
+use Rattle.elf_code.specs.Cells.{Field, Content, Address, Difference, CanBeCell, IsField, pointer, slot, difference}
+use Rattle.elf_code.specs.Cells.{IsContentBefore, address_width}
+use Rattle.elf_code.specs.LoadedNumbers.{loaded_number}
+use Rattle.elf_code.specs.Relocations.{Relocation, Bits, is_pcrel_hi}
+use Rattle.elf_code.specs.Roles.{IsFullAt, pair_target, PcrelHiTo, PcrelLo}
 use Rattle.rv_code.specs.declared.inst.Inst.TheVariants.{Auipc}
 use Rattle.rv_reloc.specs.declared.records.Record.{Record}
 use Rattle.rv_reloc.specs.declared.lows.Low.{Low}

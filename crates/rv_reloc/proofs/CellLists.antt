@@ -9,11 +9,11 @@ use Rattle.rv_code.specs.declared.cell.CodeCell.{CodeCell}
 use Rattle.rv_code.specs.declared.cell.CellKind.{CellKind}
 use Rattle.rv_code.specs.declared.cell.CellKind.TheVariants.{Abs, Diff}
 use Rattle.elf_image.specs.declared.elf.Elf.{Elf}
-use Rattle.elf_image.specs.code.Cells as spec
-use Rattle.elf_image.specs.code.Cells.{Field, CanBeCell, Counts, counts, IsCell, SameContent}
-use Rattle.elf_image.specs.code.FileCode.{AreCells}
+use Rattle.elf_code.specs.Cells as spec
+use Rattle.elf_code.specs.Cells.{Field, CanBeCell, Counts, counts, IsCell, SameContent}
+use Rattle.elf_code.specs.FileCode.{AreCells}
 use Rattle.elf_image.specs.faults.LowestPlace.{IsLowest}
-use Rattle.elf_image.specs.faults.ReferenceFaults.{IsAddress, HasBadLabel}
+use Rattle.elf_code.specs.ReferenceFaults.{IsAddress, HasBadLabel}
 use Rattle.elf_image.proofs.LowestPlaces.{IsLowest-same}
 use Rattle.rv_reloc.specs.declared.sweep.Candidate.{Candidate}
 use Rattle.rv_reloc.specs.declared.sweep.Content.{Content}

@@ -8,12 +8,12 @@ use Rattle.std.specs.Option.{is_some}
 use Rattle.std.proofs.lemmas.Bool.{cases_eq, eq-eqb, ne_eqb}
 use Rattle.elf_image.specs.declared.elf.Elf.{Elf}
 use Rattle.elf_image.specs.declared.relocation.TheConstants.{R_RISCV_32_PCREL, R_RISCV_PLT32, R_RISCV_ADD32, R_RISCV_ADD64}
-use Rattle.elf_image.specs.code.Cells.{IsOnly, same_width, is_plus, is_minus, IsDifference, of_labels, of_place, can_be_cell}
-use Rattle.elf_image.specs.code.Cells.{IsCodeLabel, HasCodeLabel, IsInOneWhole}
-use Rattle.elf_image.specs.code.Fields.{HoldsDifference}
-use Rattle.elf_image.specs.faults.ReferenceFaults.{IsBadDifference, number, unpaired, IsPaired, IsNarrow}
-use Rattle.elf_image.specs.code.Relocations.{Relocation, relocations, Width, Bits, Uleb128, plus_width, minus_width}
-use Rattle.elf_image.specs.code.Relocations.{is_pc_difference, is_add, label}
+use Rattle.elf_code.specs.Cells.{IsOnly, same_width, is_plus, is_minus, IsDifference, of_labels, of_place, can_be_cell}
+use Rattle.elf_code.specs.Cells.{IsCodeLabel, HasCodeLabel, IsInOneWhole}
+use Rattle.elf_code.specs.Fields.{HoldsDifference}
+use Rattle.elf_code.specs.ReferenceFaults.{IsBadDifference, number, unpaired, IsPaired, IsNarrow}
+use Rattle.elf_code.specs.Relocations.{Relocation, relocations, Width, Bits, Uleb128, plus_width, minus_width}
+use Rattle.elf_code.specs.Relocations.{is_pc_difference, is_add, label}
 use Rattle.rv_reloc.proofs.Ordered.{count-cons, count-some, one_if}
 use Rattle.rv_reloc.specs.declared.differences.Difference.{Difference}
 use Rattle.rv_reloc.specs.Differences.{IsDifferenceOf, IsTheDifference, HoldsOther, IsUnpaired}

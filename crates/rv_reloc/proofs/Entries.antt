@@ -4,7 +4,7 @@ use Rattle.std.proofs.Common.{None, length, ◌≤◌, slice_get, eq-eqb, Bool, 
 use Rattle.std.proofs.lemmas.List.{map-append}
 use Rattle.elf_image.specs.declared.section.Section.{Section}
 use Rattle.elf_image.specs.declared.relocation.TheConstants.{RELA_SIZE, SHT_RELA}
-use Rattle.elf_image.specs.code.Relocations.{Relocation, relocation_at, entries_from, entries_for, entries_of}
+use Rattle.elf_code.specs.Relocations.{Relocation, relocation_at, entries_from, entries_for, entries_of}
 use Rattle.elf_image.specs.declared.elf.Elf.{Elf}
 use Rattle.rv_reloc.specs.declared.records.Record.{Record}
 use Rattle.rv_reloc.specs.Records.{seen, counts}

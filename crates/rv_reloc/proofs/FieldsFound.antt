@@ -4,11 +4,11 @@ use Rattle.std.proofs.Common.{IsTrue, List, Some, None, arith}
 use Rattle.std.proofs.lemmas.Bool.{cases_eq, ne_eqb}
 use Rattle.elf_image.specs.declared.elf.Elf.{Elf}
 use Rattle.elf_image.specs.declared.relocation.TheConstants.{R_RISCV_32, R_RISCV_64}
-use Rattle.elf_image.specs.code.Cells as cell
-use Rattle.elf_image.specs.code.Cells.{Field, IsDifference, can_be_cell, HasCodeLabel, IsInOneWhole}
-use Rattle.elf_image.specs.code.Relocations as relocations
-use Rattle.elf_image.specs.code.Relocations.{Relocation, is_address}
-use Rattle.elf_image.specs.memory.LoadedBytes.{loaded_number}
+use Rattle.elf_code.specs.Cells as cell
+use Rattle.elf_code.specs.Cells.{Field, IsDifference, can_be_cell, HasCodeLabel, IsInOneWhole}
+use Rattle.elf_code.specs.Relocations as relocations
+use Rattle.elf_code.specs.Relocations.{Relocation, is_address}
+use Rattle.elf_code.specs.LoadedNumbers.{loaded_number}
 use Rattle.rv_reloc.specs.declared.differences.Difference.{Difference}
 use Rattle.rv_reloc.specs.declared.labels.FieldWidth.{FieldWidth}
 use Rattle.rv_reloc.specs.declared.labels.FieldWidth.TheVariants.{Bits6, Bits8, Bits16, Bits32, Bits64, Uleb128}

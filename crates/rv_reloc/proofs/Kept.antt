@@ -5,8 +5,8 @@ use Rattle.std.specs.List.{Contains, Any}
 use Rattle.std.specs.List.Sorted.{IsPermutation}
 use Rattle.std.proofs.lemmas.List.Sorted.{Contains-permutation, IsPermutation-sym, IsPermutation-map}
 use Rattle.elf_image.specs.declared.elf.Elf.{Elf}
-use Rattle.elf_image.specs.code.Cells.{IsOnly}
-use Rattle.elf_image.specs.code.Relocations.{Relocation, relocations, HasRelocation}
+use Rattle.elf_code.specs.Cells.{IsOnly}
+use Rattle.elf_code.specs.Relocations.{Relocation, relocations, HasRelocation}
 use Rattle.rv_reloc.specs.declared.records.Record.{Record}
 use Rattle.rv_reloc.specs.Index.{class}
 use Rattle.rv_reloc.specs.Records.{seen, AreRecords, AreInOrder, has_key, FindsOnly}

@@ -4,7 +4,7 @@ use Rattle.std.proofs.Common.{◌∷◌, map, arith}
 use Rattle.std.specs.List.{count_by}
 use Rattle.std.specs.List.Sorted.{IsPermutation}
 use Rattle.std.proofs.lemmas.List.Sorted.{Contains-permutation, sum_by-IsPermutation}
-use Rattle.elf_image.specs.code.Cells.{IsOnly}
+use Rattle.elf_code.specs.Cells.{IsOnly}
 use Rattle.rv_reloc.proofs.Lists.{Contains-map, Contains-from_map}
 use Rattle.rv_reloc.proofs.Ordered.{count-cons, one_if}
 

@@ -6,9 +6,9 @@ use Rattle.std.proofs.lemmas.List.Elements.{All-contains, filter_passes}
 use Rattle.std.proofs.lemmas.List.Sorted.{IsPermutation-sym}
 use Rattle.elf_image.specs.declared.elf.Elf.{Elf}
 use Rattle.elf_image.specs.declared.extent.Extent.{Extent}
-use Rattle.elf_image.specs.code.Cuts.{names_function}
+use Rattle.elf_image.specs.file.Cuts.{names_function}
 use Rattle.elf_image.specs.file.Sections.{holds_code}
-use Rattle.elf_image.specs.code.Parts.{IsCovered, IsInCode, IsInTabled}
+use Rattle.elf_code.specs.Parts.{IsCovered, IsInCode, IsInTabled}
 use Rattle.elf_image.specs.internal.Extents.{IsInOneExtent}
 use Rattle.rb_bytes.proofs.Searches.{Contains-filter, Contains-from_filter}
 use Rattle.elf_image.proofs.ReachLemmas.{IsCovered-permutation}

@@ -2,7 +2,7 @@
 -- file, and one is the entry point.
 use Rattle.std.specs.Prelude.{ℕ, ◌+◌, ◌*◌, ◌&&◌, ◌||◌, Bool, List, length}
 use Rattle.elf_image.specs.memory.LoadedBytes.{Range, is_in_range}
-use Rattle.elf_image.specs.memory.Start.{program_arguments, stack_pointer}
+use Rattle.rv_memory.specs.Start.{program_arguments, stack_pointer}
 
 -- the n-th value of the auxiliary vector, on the stack
 abbrev pub auxiliary_value : List (List ℕ) → ℕ → Range

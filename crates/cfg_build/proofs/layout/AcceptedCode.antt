@@ -13,11 +13,11 @@ use Rattle.rv_code.specs.layout.FunctionLists.{Follow, HasLength, IsLaidOut, Are
 use Rattle.elf_image.specs.declared.elf.Elf.{Elf}
 use Rattle.elf_image.specs.declared.section.Section.{Section}
 use Rattle.elf_image.specs.declared.segment.TheConstants.{PF_X}
-use Rattle.elf_image.specs.code.Functions.{AreInsts, AreFunctions}
-use Rattle.elf_image.specs.code.Parts.{IsPart, IsInstAt, at_start}
+use Rattle.elf_code.specs.Functions.{AreInsts, AreFunctions}
+use Rattle.elf_code.specs.Parts.{IsPart, IsInstAt, at_start}
 use Rattle.elf_image.specs.faults.FileFaults.{IsSound}
 use Rattle.rb_bytes.specs.FirstFault.{IsFree}
-use Rattle.elf_image.specs.faults.FunctionFaults.{HasFunctionFault}
+use Rattle.elf_code.specs.FunctionFaults.{HasFunctionFault}
 use Rattle.elf_image.specs.faults.SegmentLayout.{LiesInCode}
 use Rattle.elf_image.specs.file.Header.{segment}
 use Rattle.elf_image.specs.file.ParsedFile.{IsElfOf, IsSectionAt}

@@ -3,10 +3,10 @@ use Rattle.std.proofs.Common.{◌≡◌, ℕ, ◌/◌, List, Bool, true, false, 
 use Rattle.std.specs.Prelude.{if◌then◌else◌, ◌==◌}
 use Rattle.std.proofs.lemmas.Bool.{and_parts, eqb-true}
 use Rattle.elf_image.specs.declared.elf.Elf.{Elf}
-use Rattle.elf_image.specs.code.Cells.{Field, IsField, pointer, slot, difference, Counts, counts, gives_way, CanBeCell, Address}
-use Rattle.elf_image.specs.code.Cells.{IsDifference, of_labels, of_place, same_width, can_be_cell}
-use Rattle.elf_image.specs.code.Relocations.{Relocation, Bits, plus_width, is_add, is_pc_difference}
-use Rattle.elf_image.specs.memory.Start.{start}
+use Rattle.elf_code.specs.Cells.{Field, IsField, pointer, slot, difference, Counts, counts, gives_way, CanBeCell, Address}
+use Rattle.elf_code.specs.Cells.{IsDifference, of_labels, of_place, same_width, can_be_cell}
+use Rattle.elf_code.specs.Relocations.{Relocation, Bits, plus_width, is_add, is_pc_difference}
+use Rattle.rv_memory.specs.Start.{start}
 use Rattle.move_law.proofs.code.FittingRoles.{either_of}
 
 pub can_of : {elf : Elf} {tabled : List (ℕ × ℕ)} {f : Field} {b : Bool} → Counts elf tabled f b → CanBeCell elf tabled f

@@ -22,18 +22,18 @@ use Rattle.rb_bytes.specs.declared.fault.FaultKind.TheVariants.{RelocMismatch, L
 use Rattle.elf_image.specs.declared.elf.Elf.{Elf}
 use Rattle.elf_image.specs.declared.relocation.TheConstants.{R_RISCV_CALL, R_RISCV_CALL_PLT}
 use Rattle.rb_bytes.specs.FirstFault.{IsFree}
-use Rattle.elf_image.specs.faults.CodeFaults.{HasCodeFault}
-use Rattle.elf_image.specs.code.FileCode.{IsCodeOf}
-use Rattle.elf_image.specs.code.Functions as functions
+use Rattle.elf_code.specs.CodeFaults.{HasCodeFault}
+use Rattle.elf_code.specs.FileCode.{IsCodeOf}
+use Rattle.elf_code.specs.Functions as functions
 use Rattle.rv_code.specs.layout.FunctionLists.{address_end}
-use Rattle.elf_image.specs.code.Parts.{halfword_at, IsInstAt, IsStart}
-use Rattle.elf_image.specs.code.Relocations.{Relocation, relocations, is_call_pair, is_pcrel_hi}
-use Rattle.elf_image.specs.faults.ReferenceFaults.{IsAddress, IsUpper, IsMisfit}
-use Rattle.elf_image.specs.faults.ReferenceFaults as faults
-use Rattle.elf_image.specs.code.Roles.{Claims, HasRole, RoleIs, CallPair, CallTo, PcrelLo, PcrelHiTo, PcrelLoTo, pair_target}
-use Rattle.elf_image.specs.code.Roles.{lower_immediate}
-use Rattle.elf_image.specs.code.Roles as claims
-use Rattle.elf_image.specs.code.Cells.{IsCell, Content, Difference, Address, Counts, SameContent}
+use Rattle.elf_code.specs.Parts.{halfword_at, IsInstAt, IsStart}
+use Rattle.elf_code.specs.Relocations.{Relocation, relocations, is_call_pair, is_pcrel_hi}
+use Rattle.elf_code.specs.ReferenceFaults.{IsAddress, IsUpper, IsMisfit}
+use Rattle.elf_code.specs.ReferenceFaults as faults
+use Rattle.elf_code.specs.Roles.{Claims, HasRole, RoleIs, CallPair, CallTo, PcrelLo, PcrelHiTo, PcrelLoTo, pair_target}
+use Rattle.elf_code.specs.Roles.{lower_immediate}
+use Rattle.elf_code.specs.Roles as claims
+use Rattle.elf_code.specs.Cells.{IsCell, Content, Difference, Address, Counts, SameContent}
 use Rattle.move_law.specs.RelocatedValues.{upper_target}
 use Rattle.move_law.specs.SimulationRelation.{HasTarget}
 use Rattle.move_law.specs.Laws.{IsAcceptedCode}

@@ -17,8 +17,8 @@ use Rattle.elf_image.specs.declared.elf.Elf.{Elf}
 use Rattle.elf_image.specs.declared.section.Section.{Section}
 use Rattle.elf_image.specs.declared.segment.Segment.{Segment}
 use Rattle.elf_image.specs.declared.segment.TheConstants.{PF_W, PF_X}
-use Rattle.elf_image.specs.code.Functions.{AreInsts, IsFunctionPart, code, referred, fallen_into}
-use Rattle.elf_image.specs.code.Parts.{IsPart, IsInstAt, StartsIn, at_start, after, length_at}
+use Rattle.elf_code.specs.Functions.{AreInsts, IsFunctionPart, code, referred, fallen_into}
+use Rattle.elf_code.specs.Parts.{IsPart, IsInstAt, StartsIn, at_start, after, length_at}
 use Rattle.rv_code.specs.layout.FunctionLists.{address_end}
 use Rattle.elf_image.specs.faults.SegmentLayout.{IsCode, LiesInCode}
 use Rattle.elf_image.specs.file.Header.{e_phnum, segment, segment_place, segments_of}

@@ -6,8 +6,8 @@ use Rattle.std.proofs.lemmas.Bool.{eqb-true}
 use Rattle.rv_code.specs.declared.placed.Placed.{Placed}
 use Rattle.rv_code.specs.declared.placed.Func.{Func}
 use Rattle.elf_image.specs.declared.elf.Elf.{Elf}
-use Rattle.elf_image.specs.code.Functions.{AreInsts}
-use Rattle.elf_image.specs.code.Parts.{length_at}
+use Rattle.elf_code.specs.Functions.{AreInsts}
+use Rattle.elf_code.specs.Parts.{length_at}
 use Rattle.rb_bytes.proofs.Members.{Contains-there}
 use Rattle.rv_code.specs.layout.Flow.{next_in, next_of}
 use Rattle.move_law.proofs.code.InstLists.{length_of}

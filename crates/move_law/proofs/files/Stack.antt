@@ -7,9 +7,9 @@ use Rattle.std.proofs.lemmas.List.{get_or_append_left, get_or-append_right, leng
 use Rattle.rv_code.specs.machine.Machine.{low_bytes}
 use Rattle.elf_image.specs.declared.segment.TheConstants.{PHDR_SIZE}
 use Rattle.elf_image.specs.file.Header.{e_entry, e_phnum}
-use Rattle.elf_image.specs.memory.Start.{stack_entries, start_bytes, stack_bytes, stack_pointer, stack_end, stack_size}
-use Rattle.elf_image.specs.memory.Start.{random_address, random_bytes, program_arguments, texts, texts_address, text_addresses}
-use Rattle.elf_image.specs.memory.Start.{table_address, page_size}
+use Rattle.rv_memory.specs.Start.{stack_entries, start_bytes, stack_bytes, stack_pointer, stack_end, stack_size}
+use Rattle.rv_memory.specs.Start.{random_address, random_bytes, program_arguments, texts, texts_address, text_addresses}
+use Rattle.elf_image.specs.memory.Break.{table_address, page_size}
 use Rattle.rv_code.proofs.machine.LowBytes.{length_numbers, numbers_at}
 
 length_texts : (a : ℕ) (texts : List (List ℕ)) → length (text_addresses a texts) ≡ length texts

@@ -18,8 +18,8 @@ use Rattle.rv_code.specs.layout.Flow.{action_at, insts_of, is_call, placed_at, n
 use Rattle.rv_code.specs.layout.ProgramCode.{ProgramCode, is_code_address}
 use Rattle.rv_code.specs.machine.Machine.{plus}
 use Rattle.elf_image.specs.declared.elf.Elf.{Elf}
-use Rattle.elf_image.specs.code.Parts.{IsInstAt}
-use Rattle.elf_image.specs.memory.Start.{start}
+use Rattle.elf_code.specs.Parts.{IsInstAt}
+use Rattle.rv_memory.specs.Start.{start}
 use Rattle.rb_bytes.proofs.Searches.{find-found}
 use Rattle.addr_map.specs.Spans.{IsPlaced, ShareNoByte, is_of}
 use Rattle.addr_map.specs.declared.span.Span.{Span}

@@ -14,7 +14,7 @@ use Rattle.rv_code.specs.machine.Step.{ByteState, ByteOutcome, a0, a1, a2, a7, b
 use Rattle.rv_code.specs.machine.Step as byte
 use Rattle.elf_image.specs.declared.segment.TheConstants.{PF_W}
 use Rattle.elf_image.specs.memory.Image.{is_loaded_with}
-use Rattle.elf_image.specs.memory.Start.{break_start, break_bound}
+use Rattle.elf_image.specs.memory.Break.{break_start, break_bound}
 use Rattle.sym_machine.specs.declared.outcome.Reason.TheVariants as reason
 use Rattle.sym_machine.specs.declared.value.Value.{Value}
 use Rattle.sym_machine.specs.declared.value.Value.TheVariants.{Num, Sym, Piece}

@@ -18,7 +18,7 @@ use Rattle.rv_code.specs.isa.Op.{holds}
 use Rattle.rv_code.specs.machine.Step.{ByteState}
 use Rattle.rv_code.specs.machine.Step as byte
 use Rattle.rv_code.specs.isa.TwosComplement.{unsigned64}
-use Rattle.elf_image.specs.code.Parts.{halfword_in}
+use Rattle.elf_code.specs.Parts.{halfword_in}
 use Rattle.sym_machine.specs.declared.value.Pointer.{Pointer}
 use Rattle.sym_machine.specs.declared.value.Pointer.TheVariants.{Code, Ret}
 use Rattle.sym_machine.specs.declared.value.CodeSymbol.TheVariants.{Hi}

@@ -15,14 +15,15 @@ use Rattle.elf_image.specs.declared.segment.Segment.{Segment}
 use Rattle.elf_image.specs.declared.segment.TheConstants.{PF_R, PF_W, PF_X}
 use Rattle.elf_image.specs.file.Header.{e_entry, e_phnum, e_phoff, segments_of}
 use Rattle.elf_image.specs.memory.Image.{is_loaded_with}
-use Rattle.elf_image.specs.memory.LoadedBytes.{number_in, Range, is_in_range, address_of}
-use Rattle.elf_image.specs.code.Cells.{IsField, pointer, slot, difference, IsCell, Content, Address, Difference, SameContent}
-use Rattle.elf_image.specs.code.Functions as functions
-use Rattle.elf_image.specs.code.Parts.{IsStart}
+use Rattle.elf_image.specs.memory.LoadedBytes.{Range, is_in_range, address_of}
+use Rattle.rv_code.specs.machine.MemoryNumbers.{number_in}
+use Rattle.elf_code.specs.Cells.{IsField, pointer, slot, difference, IsCell, Content, Address, Difference, SameContent}
+use Rattle.elf_code.specs.Functions as functions
+use Rattle.elf_code.specs.Parts.{IsStart}
 use Rattle.rb_bytes.specs.declared.fault.FaultKind.TheVariants.{BadEntry}
-use Rattle.elf_image.specs.memory.Start.{start, start_memory, start_registers, stack_bytes, stack_pointer, stack_end, stack_size}
-use Rattle.elf_image.specs.memory.Start.{in_stack, table_address, space_of, break_start, break_bound, writable_end, break_room}
-use Rattle.elf_image.specs.memory.Start.{pages_above}
+use Rattle.rv_memory.specs.Start.{start, start_memory, start_registers, stack_bytes, stack_pointer, stack_end, stack_size}
+use Rattle.elf_image.specs.memory.Break.{table_address, break_start, break_bound, writable_end, break_room, pages_above}
+use Rattle.rv_memory.specs.Start.{in_stack, space_of}
 use Rattle.rb_bytes.proofs.Searches.{find-found}
 use Rattle.sym_machine.specs.declared.value.Pointer.TheVariants.{Code}
 use Rattle.sym_machine.specs.declared.value.CodeSymbol.TheVariants.{Points}

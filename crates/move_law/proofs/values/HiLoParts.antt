@@ -7,7 +7,7 @@ use Rattle.std.proofs.lemmas.Int.{ints}
 use Rattle.std.proofs.lemmas.Bool.{ltb-true, ltb-false}
 use Rattle.rv_code.specs.isa.Bits.{field, signed_by, imm_i, imm_s}
 use Rattle.rv_code.specs.isa.HiLo.{hi20, lo12}
-use Rattle.elf_image.specs.code.Roles.{pair_target}
+use Rattle.elf_code.specs.Roles.{pair_target}
 use Rattle.move_law.specs.RelocatedValues.{distance}
 
 pub record IsLower (z : ℤ) : Type 0 where

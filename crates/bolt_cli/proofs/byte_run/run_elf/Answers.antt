@@ -1,7 +1,7 @@
 use Rattle.std.proofs.Common.{◌≡◌, ◌∙◌, ap, subst, ℕ, List, refl, inr}
 use Rattle.std.specs.Prelude.{map, String, string_bytes}
 use Rattle.std.specs.declared.alloc.Global.{Global}
-use Rattle.elf_image.specs.memory.Start.{start}
+use Rattle.rv_memory.specs.Start.{start}
 use Rattle.run_core.specs.Inputs.{Outside}
 use Rattle.rv_machine.specs.declared.machine.Machine.{Machine}
 use Rattle.rv_machine.specs.State.{state_of}

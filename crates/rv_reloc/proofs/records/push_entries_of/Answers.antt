@@ -1,5 +1,5 @@
 use Rattle.std.proofs.Common.{◌∙◌, sym, ap, List, ◌++◌, map, append-nil, length, arith}
-use Rattle.elf_image.specs.code.Relocations.{Relocation}
+use Rattle.elf_code.specs.Relocations.{Relocation}
 use Rattle.rv_reloc.specs.Records.{seen}
 use Rattle.rv_reloc.proofs.Entries.{entries_of-missing, slice_get-none}
 use Rattle.rv_reloc.proofs.records.push_entries_of.Goals as goal

@@ -1,5 +1,5 @@
 use Rattle.std.proofs.Common.{◌≡◌, ◌∙◌, ap}
-use Rattle.elf_image.specs.memory.Start.{break_start, break_bound}
+use Rattle.elf_image.specs.memory.Break.{break_start, break_bound}
 use Rattle.rv_memory.proofs.CodeKept.{break_fits}
 use Rattle.rv_memory.proofs.memory.Memory.new.Goals as goal
 
