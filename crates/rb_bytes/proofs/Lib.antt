@@ -11,3 +11,5 @@ pub mod ListLemmas
 pub mod Stable
 pub mod Permuted
 pub mod Results
+pub mod Tests
+pub mod NumberBytes

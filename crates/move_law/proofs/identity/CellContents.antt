@@ -29,10 +29,11 @@ use Rattle.elf_image.specs.memory.Executables.{Executable, executable_read, memo
 use Rattle.move_law.specs.RelocatedValues.{distance, number_of_symbol}
 use Rattle.move_law.specs.Laws.{IsAcceptedCode, IsSoundExecutable}
 use Rattle.move_law.proofs.code.FittingRoles.{fits, bounded_of}
-use Rattle.move_law.proofs.code.CellWidths.{field_width, can_of, difference_bits, same_address}
+use Rattle.move_law.proofs.code.CellWidths.{field_width, can_of, same_address}
+use Rattle.elf_code.proofs.Differences.{difference_bits}
 use Rattle.move_law.proofs.files.Executables.{byte_small, accepted_executable}
 use Rattle.move_law.proofs.files.Numbers.{bytes_at_is}
-use Rattle.move_law.proofs.values.HiLoParts.{antisym}
+use Rattle.rb_bytes.proofs.Tests.{antisym}
 use Rattle.move_law.proofs.code.FittingRoles.{same_pos}
 use Rattle.rb_bytes.proofs.Stable.{stable_equal}
 

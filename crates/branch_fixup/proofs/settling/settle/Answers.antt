@@ -1,8 +1,9 @@
 use Rattle.std.proofs.Common.{◌≡◌, ◌∙◌, length, sym, subst, rules, replicate}
 use Rattle.std.proofs.lemmas.List.{length-replicate}
 use Rattle.branch_fixup.specs.Ways.{AreStarts}
-use Rattle.branch_fixup.proofs.Ways.{are_starts, none_longer, none_there}
+use Rattle.branch_fixup.proofs.Ways.{are_starts, none_longer}
 use Rattle.branch_fixup.proofs.settling.settle.Goals as goal
+use Rattle.rb_bytes.proofs.ListLemmas.{zeros}
 
 pub new-requires-clause-starts : goal.new-requires-clause-starts
 new-requires-clause-starts c =
@@ -31,5 +32,5 @@ grow_from-requires-clause-settling c =
       count = length-replicate (length ts) 0;
       sound = c.requires.sound;
       longer = none_longer ts c.in_ok-places.places.items c.args.forms.now (replicate (length ts) 0) c.requires.block_ends
-          c.in_ok-places.ensures.at (none_there (length ts));
+          c.in_ok-places.ensures.at (zeros (length ts));
     })

@@ -6,10 +6,10 @@ use Rattle.elf_code.specs.Parts.{IsCodePart}
 use Rattle.rv_reloc.specs.declared.parts.Part.{Part}
 use Rattle.rv_reloc.specs.Parts.{Precedes}
 use Rattle.rv_reloc.proofs.Chosen.{chosen_keep, chosen_skip, chosen_all}
-use Rattle.rv_reloc.proofs.Either.{clash}
 use Rattle.func_find.specs.FunctionParts.{AreFunctionsBefore}
 use Rattle.func_find.proofs.Judged.{AreFunctionsBefore-chosen, IsCodePart-function}
 use Rattle.func_find.proofs.function_parts.function_parts.Goals as goal
+use Rattle.rb_bytes.proofs.Tests.{clash}
 
 pub is_function-requires-clause-part : goal.is_function-requires-clause-part
 is_function-requires-clause-part c =
