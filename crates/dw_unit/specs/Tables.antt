@@ -1,16 +1,17 @@
 -- The debug sections of a file that units are read from, and how those of the written file follow from the input's.
-use Rattle.std.specs.Prelude.{◌≡◌, ◌↔◌, ◌+◌, ◌-◌, ◌*◌, ℕ, IsTrue, List, sum_by, unwrap_or, codes, Contains, length, slice_get}
+use Rattle.std.specs.Prelude.{◌≡◌, ◌<◌, ◌≤◌, ◌^◌, ◌+◌, ◌-◌, ◌*◌, ℕ, IsTrue, List, sum_by, unwrap_or, codes, Contains, length, slice_get}
 use Rattle.std.specs.Prelude.{Option, Some, None}
 use Rattle.rv_code.specs.declared.inst.Inst.{Inst}
 use Rattle.rv_code.specs.isa.Action.{action_of}
 use Rattle.rv_code.specs.layout.Flow.{is_call}
 use Rattle.elf_image.specs.declared.elf.Elf.{Elf}
 use Rattle.elf_code.specs.Parts.{IsInstAt}
+use Rattle.elf_image.specs.faults.FirstFault.{IsFree}
 use Rattle.addr_map.specs.declared.span.Span.{Span}
 use Rattle.table_core.specs.declared.written.ListAt.{ListAt}
 use Rattle.table_core.specs.Sections.{bytes_of}
 use Rattle.dw_unit.specs.Declarations.{table_at}
-use Rattle.dw_unit.specs.Faults.{FaultPlaces}
+use Rattle.dw_unit.specs.Faults.{FaultPlaces, HasDwarfFault, unit_places}
 use Rattle.dw_unit.specs.Moves.{Moves, list_at}
 use Rattle.dw_unit.specs.Units.{Sections, Entry, entries}
 use Rattle.dw_unit.specs.Changes.{changed_info, changed_abbrevs, changed_addr, table_offsets, IsChangedEntry, is_own_entry}
@@ -36,7 +37,8 @@ pub record IsCallEnd (elf : Elf) (spans : List Span) (from to : ℕ) : Type 0 wh
 -- what a map and lists make of a file's addresses and attributes
 pub record AreMovesOf (elf : Elf) (spans : List Span) (m : Moves) : Type 0 where
   pub spans_are : m.spans ≡ spans
-  pub call_ends : (from to : ℕ) → (m.call_end from ≡ Some to) ↔ IsCallEnd elf spans from to
+  pub call_end_is : (from to : ℕ) → m.call_end from ≡ Some to → IsCallEnd elf spans from to
+  pub no_call_end : (from to : ℕ) → m.call_end from ≡ None → IsCallEnd elf spans from to → ⊥
 
 -- The three sections of the file f are those of the input i, changed.
 pub record AreChanged (m : Moves) (i f : Elf) : Type 0 where
@@ -65,6 +67,18 @@ pub record AreChangedBy (spans : List Span) (lists : List ListAt) (i f : Elf) : 
   pub are_moves : AreMovesOf i spans moves
   pub named : (l : ListAt) → Contains lists l → list_at moves.lists l.entry l.attr ≡ Some l.offset
   pub changed : AreChanged moves i f
+  pub entries_are : AreChangedEntries moves i f
+
+-- The new contents of the two sections of a file whose code moves. In each file that has them, and the table of addresses
+-- changed too, each entry stands where it stood, and units can be read.
+pub record AreNewUnits (elf : Elf) (spans : List Span) (lists : List ListAt) (info abbrevs : List ℕ) : Type 0 where
+  pub moves : Moves
+  pub are_moves : AreMovesOf elf spans moves
+  pub lists_are : moves.lists ≡ lists
+  pub info_is : info ≡ changed_info (sections_of elf) moves
+  pub abbrevs_are : abbrevs ≡ changed_abbrevs (sections_of elf)
+  pub entries_are : (f : Elf) → AreChanged moves elf f → AreChangedEntries moves elf f
+  pub sound : (f : Elf) → AreChanged moves elf f → IsFree (HasDwarfFault (unit_places (sections_of f)))
 
 -- no fault is answered
 abbrev pub answers_if_free : {A : Type 0} → FaultPlaces → (ℕ → Option A) → Option (ℕ → Option A)
