@@ -79,6 +79,11 @@ pub trait AddrTable: Drop {
     fn at(&self, alloc: Global, a: u64) -> Result<Option<Self::Answer>, NoMemory>
         ensures { IfOk result (λ o. option_map said o ≡ says self.now a) };
 
+    /// Whether two addresses certainly have the same answer. `false` says nothing; it is the answer of a table that
+    /// can't tell without looking both up.
+    fn alike(&self, a: u64, b: u64) -> bool
+        ensures { IsTrue result → says self.now a ≡ says self.now b };
+
     /// A weight of the table that would be written for a map, which bounds its size in bytes; or the greatest number,
     /// where the weight is none of 64 bits.
     fn weight(&self, alloc: Global, map: &AddrMap) -> Result<u64, NoMemory>
