@@ -1,6 +1,6 @@
 // The functions that an address belongs to.
 ghost use Rattle.std.specs.Prelude.{◌≡◌, IfOk, IfErr, OnOk};
-ghost use Rattle.elf_image.specs.faults.FirstFault.{IsFree, IsRefusalBy};
+ghost use Rattle.rb_bytes.specs.FirstFault.{IsFree, IsRefusalBy};
 ghost use Rattle.inline_frames.specs.Faults.{HasChainFault};
 ghost use Rattle.inline_frames.specs.Frames as spec;
 

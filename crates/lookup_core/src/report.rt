@@ -1,6 +1,6 @@
 // The report on an address.
 ghost use Rattle.std.specs.Prelude.{◌≡◌, IfOk, IfErr, OnOk};
-ghost use Rattle.elf_image.specs.faults.FirstFault.{IsFree, IsRefusalBy};
+ghost use Rattle.rb_bytes.specs.FirstFault.{IsFree, IsRefusalBy};
 ghost use Rattle.lookup_core.specs.Report.{report};
 ghost use Rattle.table_set.specs.TableFaults.{HasTableFault};
 
