@@ -4,15 +4,15 @@ use Rattle.std.proofs.Common.{◌≡◌, ℕ, List, [], ◌∷◌, Option, Some,
 use Rattle.addr_map.specs.declared.span.Span.{Span}
 use Rattle.rb_bytes.specs.Leb.{uleb}
 use Rattle.table_core.specs.declared.written.ListAt.{ListAt}
-use Rattle.table_core.specs.Units.{units_from}
+use Rattle.table_core.specs.DebugUnits.{units_from}
 use Rattle.dw_unit.specs.declared.declaration.Spec.{Spec}
 use Rattle.dw_unit.specs.declared.entry.Attr.{Attr}
 use Rattle.dw_unit.specs.AbbrevWeight.{abbrev_weight}
 use Rattle.dw_unit.specs.Changes.{changed_info, changed_abbrevs, changed_attrs, new_address}
 use Rattle.dw_unit.specs.Declarations.{Declaration, specs_within, table_within, has_bad_high}
 use Rattle.dw_unit.specs.Faults.{unit_places}
-use Rattle.dw_unit.specs.Moves.{Moves}
-use Rattle.dw_unit.specs.Units.{Entry, Sections, entries, entries_within, enclosing}
+use Rattle.dw_unit.specs.EntryMoves.{Moves}
+use Rattle.dw_unit.specs.CompUnits.{Entry, Sections, entries, entries_within, enclosing}
 
 abbrevs : List ℕ
 abbrevs = 1 ∷ 17 ∷ 1 ∷ 17 ∷ 1 ∷ 18 ∷ 7 ∷ 0 ∷ 0 ∷ 2 ∷ 46 ∷ 0 ∷ 17 ∷ 1 ∷ 18 ∷ 6 ∷ 0 ∷ 0 ∷ 0 ∷ []

@@ -2,7 +2,7 @@
 use Rattle.std.specs.Prelude.{◌-◌, ◌*◌, ℕ, sum_by, unwrap_or}
 use Rattle.dw_unit.specs.Changes.{table_offsets}
 use Rattle.dw_unit.specs.Declarations.{table_at}
-use Rattle.dw_unit.specs.Units.{Sections}
+use Rattle.dw_unit.specs.CompUnits.{Sections}
 
 -- three times the bytes of a table that a unit names, its closing zero among them
 abbrev pub table_weight : Sections → ℕ → ℕ

@@ -1,7 +1,7 @@
 -- Entries as they are listed, of whose declarations the tag is left.
 use Rattle.std.specs.Prelude.{ℕ, List, map}
 use Rattle.dw_unit.specs.declared.entry.Attr.{Attr}
-use Rattle.dw_unit.specs.Units.{Entry, Sections, entries}
+use Rattle.dw_unit.specs.CompUnits.{Entry, Sections, entries}
 
 pub record ListedEntry : Type 0 where
   pub place : ℕ

@@ -10,9 +10,9 @@ use Rattle.addr_map.specs.declared.span.Span.{Span}
 use Rattle.table_core.specs.declared.written.ListAt.{ListAt}
 use Rattle.table_core.specs.Sections.{bytes_of}
 use Rattle.dw_unit.specs.Faults.{FaultPlaces, HasDwarfFault, unit_places}
-use Rattle.dw_unit.specs.Moves.{Moves, list_at}
-use Rattle.dw_unit.specs.Units.{Sections}
-use Rattle.dw_unit.specs.ChangedUnits.{AreChangedUnits}
+use Rattle.dw_unit.specs.EntryMoves.{Moves, list_at}
+use Rattle.dw_unit.specs.CompUnits.{Sections}
+use Rattle.dw_unit.specs.ChangedEntries.{AreChangedUnits}
 use Rattle.dw_unit.specs.Changes.{changed_info, changed_abbrevs, changed_addr}
 
 abbrev pub sections_of : Elf → Sections

@@ -4,7 +4,7 @@ use Rattle.std.proofs.Common.{◌≡◌, ℕ, pos, List, [], ◌∷◌, Option, 
 use Rattle.std.specs.Prelude.{IsTrue, unwrap_or}
 use Rattle.addr_map.specs.declared.span.Span.{Span}
 use Rattle.cfi_rows.specs.Entries.{Cie, Fde, is_in_range, no_augmentation}
-use Rattle.cfi_rows.specs.Rows.{nothing_known}
+use Rattle.cfi_rows.specs.FrameRows.{nothing_known}
 use Rattle.frame_rewrite.specs.FrameAnswers.{is_marked_by}
 use Rattle.frame_rewrite.specs.Tables.{MovesWhole}
 

@@ -2,7 +2,7 @@
 use Rattle.std.proofs.Common.{◌≡◌, ◌==◌, ℕ, List, [], ◌∷◌, Bool, false, refl, map}
 use Rattle.std.specs.List.{list_any}
 use Rattle.dw_unit.specs.Declarations.{Declaration}
-use Rattle.dw_unit.specs.Units.{Entry}
+use Rattle.dw_unit.specs.CompUnits.{Entry}
 use Rattle.inline_frames.specs.Chains.{chain_in}
 
 abbrev declared : ℕ → Declaration

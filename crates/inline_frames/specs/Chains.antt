@@ -1,7 +1,7 @@
 -- The entries of the functions that an address belongs to, from the innermost inlined one out. DWARF 5, sections 3.3.1
 -- and 3.3.8.
 use Rattle.std.specs.Prelude.{◌==◌, ◌&&◌, ◌||◌, ℕ, Bool, List, [], ◌∷◌, if◌then◌else◌}
-use Rattle.dw_unit.specs.Units.{Entry, Unit, units, enclosing}
+use Rattle.dw_unit.specs.CompUnits.{Entry, Unit, units, enclosing}
 use Rattle.range_loc_rewrite.specs.Faults.{ListSections}
 use Rattle.range_loc_rewrite.specs.Ranges.{ranges_of, hold}
 use Rattle.inline_frames.specs.declared.tag.TheConstants.{DW_TAG_subprogram, DW_TAG_inlined_subroutine}

@@ -7,13 +7,13 @@ use Rattle.std.specs.Option.{option_or}
 use Rattle.elf_image.specs.declared.elf.Elf.{Elf}
 use Rattle.table_core.specs.declared.form.TheConstants.{DW_FORM_string, DW_FORM_strp, DW_FORM_line_strp, DW_FORM_ref_addr}
 use Rattle.table_core.specs.declared.form.TheConstants.{DW_FORM_ref_udata}
-use Rattle.table_core.specs.Forms.{is_text_index}
+use Rattle.table_core.specs.AttributeForms.{is_text_index}
 use Rattle.table_core.specs.Texts.{text_in}
 use Rattle.table_core.specs.Sections.{bytes_of}
 use Rattle.dw_unit.specs.declared.attribute.TheConstants.{DW_AT_name, DW_AT_abstract_origin, DW_AT_specification}
 use Rattle.dw_unit.specs.declared.attribute.TheConstants.{DW_AT_str_offsets_base}
 use Rattle.dw_unit.specs.declared.entry.Attr.{Attr}
-use Rattle.dw_unit.specs.Units.{Entry, Unit, Sections, units, entries, attr, base, number_in, value_bytes}
+use Rattle.dw_unit.specs.CompUnits.{Entry, Unit, Sections, units, entries, attr, base, number_in, value_bytes}
 use Rattle.dw_unit.specs.Tables.{sections_of}
 
 -- the sections that names are read from

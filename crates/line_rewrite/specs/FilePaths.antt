@@ -1,10 +1,10 @@
 -- The paths of files that line units name. DWARF 5, section 6.2.4.
 use Rattle.std.specs.Prelude.{◌==◌, ℕ, List, Option, option_and_then, slice_get}
 use Rattle.std.specs.List.{find}
-use Rattle.table_core.specs.Units.{Walked, walked}
+use Rattle.table_core.specs.DebugUnits.{Walked, walked}
 use Rattle.line_rewrite.specs.Entries.{path_of}
 use Rattle.line_rewrite.specs.Tables.{LineSections}
-use Rattle.line_rewrite.specs.Units.{LineUnit, unit_of}
+use Rattle.line_rewrite.specs.LineUnits.{LineUnit, unit_of}
 
 -- the line unit at an offset
 abbrev pub line_unit_at : LineSections → ℕ → Option LineUnit

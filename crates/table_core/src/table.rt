@@ -1,12 +1,15 @@
 // Tables of answers by address.
-ghost use Rattle.std.specs.Prelude.{◌≡◌, ◌-◌, ◌^◌, ℕ, List, Option, Some, IfOk, IsTrue, ◌↔◌, MatchResult, option_map, min};
+ghost use Rattle.std.specs.Prelude.{◌≡◌, ◌-◌, ◌^◌, ℕ, List, AllPairs, Option, Some, IfOk, IsTrue, ◌↔◌, MatchResult, option_map};
+ghost use Rattle.std.specs.Prelude.{min};
 ghost use Rattle.rb_bytes.specs.declared.fault.FaultKind.{FaultKind};
 ghost use Rattle.elf_image.specs.declared.elf.Elf.{Elf};
 ghost use Rattle.rb_bytes.specs.FirstFault.{IsFree, IsRefusalBy};
+ghost use Rattle.addr_map.specs.MapText.{IsLineBefore};
+ghost use Rattle.addr_map.specs.Spans.{ShareNoByte};
 ghost use Rattle.addr_map.specs.declared.span.Span.{Span};
 ghost use Rattle.table_core.specs.declared.run.Run.{Run};
 ghost use Rattle.table_core.specs.declared.written.Written.{Written};
-ghost use Rattle.table_core.specs.Runs.{carried, run_at, said_runs, AreLow, IsWithin};
+ghost use Rattle.table_core.specs.AnswerRuns.{carried, run_at, said_runs, AreLow, IsWithin};
 ghost use Rattle.table_core.specs.CarriedAnswers.{IsCarried};
 
 use crate::run::Run;
@@ -84,9 +87,12 @@ pub trait AddrTable: Drop {
     fn alike(&self, a: u64, b: u64) -> bool
         ensures { IsTrue result → says self.now a ≡ says self.now b };
 
-    /// A weight of the table that would be written for a map, which bounds its size in bytes; or the greatest number,
-    /// where the weight is none of 64 bits.
+    /// The weight of the table that would be written for a map, by which its size is limited; or the greatest number, where
+    /// the weight is none of 64 bits.
     fn weight(&self, alloc: Global, map: &AddrMap) -> Result<u64, NoMemory>
+        requires ordered { AllPairs IsLineBefore map.now }
+        requires disjoint { AllPairs ShareNoByte map.now }
+        requires low { AreLow map.now }
         ensures { IfOk result (λ n. (weight : ℕ) × weighs self.now map.now weight × (n ≡ min weight (2 ^ 64 - 1))) };
 
     /// Writes the table anew, of runs that have the old answers at the owners of their bytes.

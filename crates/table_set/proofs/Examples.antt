@@ -1,8 +1,8 @@
 -- Two line units of no contents, at 0 and 6, of which the second one moves to 10.
 use Rattle.std.proofs.Common.{◌≡◌, ℕ, List, [], ◌∷◌, refl}
 use Rattle.table_core.specs.declared.written.ListAt.{ListAt}
-use Rattle.table_core.specs.Units.{units_from}
-use Rattle.line_rewrite.specs.KeptUnits.{unit_number}
+use Rattle.table_core.specs.DebugUnits.{units_from}
+use Rattle.line_rewrite.specs.KeptLineUnits.{unit_number}
 use Rattle.line_rewrite.specs.Tables.{LineSections}
 use Rattle.table_set.specs.KeptData.{line_offset}
 

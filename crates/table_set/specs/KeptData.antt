@@ -9,9 +9,9 @@ use Rattle.addr_map.specs.declared.span.Span.{Span}
 use Rattle.table_core.specs.declared.written.ListAt.{ListAt}
 use Rattle.table_core.specs.Sections.{bytes_of}
 use Rattle.dw_unit.specs.Changes.{no_line_unit}
-use Rattle.dw_unit.specs.Moves.{list_at}
+use Rattle.dw_unit.specs.EntryMoves.{list_at}
 use Rattle.dw_unit.specs.Tables.{AreChangedWith}
-use Rattle.line_rewrite.specs.KeptUnits.{AreKeptUnits, unit_number}
+use Rattle.line_rewrite.specs.KeptLineUnits.{AreKeptUnits, unit_number}
 use Rattle.line_rewrite.specs.LineTable.{line_attr}
 use Rattle.line_rewrite.specs.Tables.{line_sections}
 

@@ -4,8 +4,8 @@ use Rattle.std.specs.List.{AllZip}
 use Rattle.dw_unit.specs.declared.attribute.TheConstants.{DW_AT_high_pc}
 use Rattle.dw_unit.specs.declared.entry.Attr.{Attr}
 use Rattle.dw_unit.specs.Changes.{new_value, changed_attrs, new_offset, is_own, is_first_of}
-use Rattle.dw_unit.specs.Moves.{Moves}
-use Rattle.dw_unit.specs.Units.{Entry, Unit, Sections, units, value_bytes}
+use Rattle.dw_unit.specs.EntryMoves.{Moves}
+use Rattle.dw_unit.specs.CompUnits.{Entry, Unit, Sections, units, value_bytes}
 
 -- a value that isn't written anew
 abbrev pub IsKeptValue : Moves → (is_own is_first : Bool) → Entry → Attr → Type 0
