@@ -1,6 +1,6 @@
 -- A unit of two entries: its own one covers 18 bytes from 10078 and has eight bytes of DW_AT_high_pc, a subprogram in it 8
 -- bytes from 1007c with four. The code moves to 20000.
-use Rattle.std.proofs.Common.{◌≡◌, ℕ, List, [], ◌∷◌, Option, Some, None, Bool, true, false, refl, map}
+use Rattle.std.proofs.Common.{◌≡◌, ℕ, List, [], ◌∷◌, Some, None, true, false, refl, map}
 use Rattle.addr_map.specs.declared.span.Span.{Span}
 use Rattle.rb_bytes.specs.Leb.{uleb}
 use Rattle.table_core.specs.declared.written.ListAt.{ListAt}
@@ -8,7 +8,7 @@ use Rattle.table_core.specs.DebugUnits.{units_from}
 use Rattle.dw_unit.specs.declared.declaration.Spec.{Spec}
 use Rattle.dw_unit.specs.declared.entry.Attr.{Attr}
 use Rattle.dw_unit.specs.AbbrevWeight.{abbrev_weight}
-use Rattle.dw_unit.specs.Changes.{changed_info, changed_abbrevs, changed_attrs, new_address}
+use Rattle.dw_unit.specs.Changes.{changed_info, changed_abbrevs, new_address}
 use Rattle.dw_unit.specs.Declarations.{Declaration, specs_within, table_within, has_bad_high}
 use Rattle.dw_unit.specs.Faults.{unit_places}
 use Rattle.dw_unit.specs.EntryMoves.{Moves}

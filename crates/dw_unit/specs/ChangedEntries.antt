@@ -1,5 +1,5 @@
 -- Units of the written file, beside those of the input that they were made of.
-use Rattle.std.specs.Prelude.{◌≡◌, ◌≢◌, ℕ, Bool, List, Contains, Option, None, take, drop}
+use Rattle.std.specs.Prelude.{◌≡◌, ◌≢◌, ℕ, Bool, List, Contains, None}
 use Rattle.std.specs.List.{AllZip}
 use Rattle.dw_unit.specs.declared.attribute.TheConstants.{DW_AT_high_pc}
 use Rattle.dw_unit.specs.declared.entry.Attr.{Attr}

@@ -1,6 +1,6 @@
 -- A marked range from 10078 to 10090, of which the instruction at 1007c moved to 20000. Between where the range starts, which
 -- didn't move, and that instruction stands code of another function.
-use Rattle.std.proofs.Common.{◌≡◌, ℕ, pos, List, [], ◌∷◌, Option, Some, None, Bool, true, false, refl, sym, ap, subst, arith}
+use Rattle.std.proofs.Common.{◌≡◌, ℕ, pos, [], ◌∷◌, Option, true, false, refl, sym, ap, subst, arith}
 use Rattle.std.specs.Prelude.{IsTrue, unwrap_or}
 use Rattle.addr_map.specs.declared.span.Span.{Span}
 use Rattle.cfi_rows.specs.Entries.{Cie, Fde, is_in_range, no_augmentation}
@@ -46,6 +46,6 @@ other_code = record { out = 0x10100; len = 4; input = 0x30000 }
 gap : MovesWhole (moved_apart ∷ other_code ∷ []) fde → ⊥
 gap whole =
     let found = whole.no_gap moved_apart 0x10100 (0, omega arith, refl) refl (omega arith) (omega arith) in
-    let same : found.0 ≡ 0x30000 = sym (ap (λ (o : Option ℕ). unwrap_or o 0) found.1.0) in
-    let inside : is_in_range fde 0x30000 ≡ true = subst (λ (o : ℕ). IsTrue (is_in_range fde o)) same found.1.1 in
+    let same : found.0 ≡ 0x30000 = sym (ap (λ (o : Option ℕ). unwrap_or o 0) found.1) in
+    let inside : is_in_range fde 0x30000 ≡ true = subst (λ (o : ℕ). IsTrue (is_in_range fde o)) same found.2 in
     absurd (cc)

@@ -1,5 +1,5 @@
 -- A function with two inlined ones in it, one in the other, and a second function.
-use Rattle.std.proofs.Common.{◌≡◌, ◌==◌, ℕ, List, [], ◌∷◌, Bool, false, refl, map}
+use Rattle.std.proofs.Common.{◌≡◌, ◌==◌, ℕ, List, [], ◌∷◌, false, refl, map}
 use Rattle.std.specs.List.{list_any}
 use Rattle.dw_unit.specs.Declarations.{Declaration}
 use Rattle.dw_unit.specs.CompUnits.{Entry}

@@ -1,5 +1,5 @@
 -- The report of some answers.
-use Rattle.std.proofs.Common.{◌≡◌, ℕ, pos, negsuc, List, [], ◌∷◌, ◌++◌, Some, None, true, false, refl}
+use Rattle.std.proofs.Common.{◌≡◌, pos, negsuc, [], ◌∷◌, ◌++◌, Some, None, true, false, refl}
 use Rattle.std.specs.Prelude.{codes}
 use Rattle.std.specs.Fmt.{digits}
 use Rattle.cfi_rows.specs.declared.row.Cfa.TheVariants.{Reg}
@@ -13,17 +13,17 @@ abbrev said : LineSaid
 said = record {
   unit = 0;
   rows =
-    record {
-      path = codes "/s/a.c";
-      line = 2;
-      column = 0;
-      stmt = true;
-      block = false;
-      prologue = false;
-      epilogue = false;
-      isa = 0;
-      disc = 3;
-    } ∷ [];
+      record {
+        path = codes "/s/a.c";
+        line = 2;
+        column = 0;
+        stmt = true;
+        block = false;
+        prologue = false;
+        epilogue = false;
+        isa = 0;
+        disc = 3;
+      } ∷ [];
 }
 
 abbrev place : PlaceSaid

@@ -1,6 +1,6 @@
 -- A unit covers 10078 to 10090 and a block in it 10080 to 10088, with a variable whose location is a list: one expression
 -- from 10078 to 10084, and another one by default.
-use Rattle.std.proofs.Common.{◌≡◌, ℕ, List, [], ◌∷◌, None, Bool, true, false, refl}
+use Rattle.std.proofs.Common.{◌≡◌, ℕ, List, [], ◌∷◌, None, false, refl}
 use Rattle.table_core.specs.DebugUnits.{units_from}
 use Rattle.dw_unit.specs.Declarations.{specs_within, table_within}
 use Rattle.dw_unit.specs.CompUnits.{entries_within}
