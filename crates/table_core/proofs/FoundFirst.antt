@@ -3,7 +3,8 @@ use Rattle.std.proofs.Common.{ℕ, suc, ◌+◌, ◌≡◌, List, [], ◌∷◌,
 use Rattle.std.specs.Prelude.{find, position, slice_get, option_and_then}
 use Rattle.std.specs.List.{position_from}
 use Rattle.std.proofs.lemmas.Iterator.Adapters.{position_from-zero}
-use Rattle.table_core.specs.AddressRanges.{Range, holds_address}
+use Rattle.table_core.specs.declared.range.Range.{Range}
+use Rattle.table_core.specs.AddressRanges.{holds_address}
 use Rattle.table_core.specs.declared.first_range.FirstRange.{FirstRange}
 use Rattle.table_core.specs.FirstRanges.{first_range}
 

@@ -9,7 +9,7 @@ use Rattle.std.proofs.lemmas.Bool.Decides.{nat_tests}
 use Rattle.std.proofs.lemmas.Grind.{common_steps}
 use Rattle.std.proofs.lemmas.List.{take_more, take_all, get_or_default}
 use Rattle.std.proofs.lemmas.List.Sorted.{IsNonDecreasingBy-push, IsNonDecreasingBy-short}
-use Rattle.table_core.specs.AddressRanges.{Range}
+use Rattle.table_core.specs.declared.range.Range.{Range}
 use Rattle.table_core.specs.declared.pieces.Piece.{Piece}
 use Rattle.table_core.specs.Pieces.{under, IsNext}
 
