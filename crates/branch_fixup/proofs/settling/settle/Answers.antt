@@ -26,9 +26,9 @@ grow_from-requires-clause-starts c =
 pub grow_from-requires-clause-settling : goal.grow_from-requires-clause-settling
 grow_from-requires-clause-settling c =
     let ts = c.args.block_ends.now in
-    let zeros : c.deref_mut.result.now ≡ replicate (length ts) 0 =
+    let fresh : c.deref_mut.result.now ≡ replicate (length ts) 0 =
     c.deref_mut.ensures.value ∙ c.in_ok-more.ensures.items_if_clones_equal (λ y h. search rules) in
-    rw (c.deref-3.ensures.value, zeros) (record {
+    rw (c.deref-3.ensures.value, fresh) (record {
       count = length-replicate (length ts) 0;
       sound = c.requires.sound;
       longer = none_longer ts c.in_ok-places.places.items c.args.forms.now (replicate (length ts) 0) c.requires.block_ends
