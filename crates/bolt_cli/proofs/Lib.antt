@@ -1,17 +1,17 @@
-pub mod Answering
-pub mod Completing
-pub mod OptionTokens
-pub mod RunArguments
-pub mod StepLimit
-pub mod CommandLineExamples
-pub mod Outcomes
-pub mod RunEnds
-pub mod RunAnswering
-pub mod ByteRunAnswering
-pub mod FrameSections
-pub mod CellBounds
-pub mod SymbolRunAnswering
-pub mod RunModes
-pub mod FaultlessCode
-pub mod RecordEnds
-pub mod RecordAnswering
+mod Answering
+mod Completing
+mod OptionTokens
+mod RunArguments
+mod StepLimit
+mod CommandLineExamples
+mod Outcomes
+mod RunEnds
+mod RunAnswering
+mod ByteRunAnswering
+mod FrameSections
+mod CellBounds
+mod SymbolRunAnswering
+mod RunModes
+mod FaultlessCode
+mod RecordEnds
+mod RecordAnswering
