@@ -105,8 +105,8 @@ def run_tool(words):
 
 def readelf_complaints(path):
     status, text = run_tool(["readelf", "-aW", path])
-    lines = [line for line in text.splitlines() if re.search(r"readelf: |<corrupt|\[<?corrupt", line)]
-    lines = [line.split("readelf: ", 1)[-1].replace(path, "FILE") for line in lines]
+    text = text.replace("readelf: ", "\nreadelf: ")            # where a line before it has no end
+    lines = [line.replace(path, "FILE") for line in text.splitlines() if re.search(r"readelf: |<corrupt", line)]
     return lines + ([f"signal {-status}"] if status < 0 else [])
 
 

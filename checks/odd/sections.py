@@ -3,7 +3,7 @@ import struct
 
 from odd import code as odd_code
 from odd.builder import (
-    SYMBOL_SIZE, PF_R, PF_W, SHF_ALLOC, SHF_EXECINSTR, SHF_INFO_LINK, SHF_WRITE, SHN_ABS, SHN_COMMON,
+    SYMBOL_SIZE, PF_R, PF_W, PT_LOAD, SHF_ALLOC, SHF_EXECINSTR, SHF_INFO_LINK, SHF_WRITE, SHN_ABS, SHN_COMMON,
     SHN_UNDEF, SHN_XINDEX, SHT_DYNSYM, SHT_GROUP, SHT_HASH, SHT_INIT_ARRAY, SHT_NOBITS, SHT_NOTE,
     SHT_NULL, SHT_PROGBITS, SHT_REL, SHT_STRTAB, SHT_SYMTAB, SHT_SYMTAB_SHNDX, STB_GLOBAL, STB_LOCAL,
     STB_WEAK, STT_COMMON, STT_FILE, STT_FUNC, STT_NOTYPE, STT_OBJECT, STT_SECTION, STT_TLS, Symbol,
@@ -386,3 +386,39 @@ def relocation_of_any_type(shape, rng):
     at = rng.choice([shape.code.start, shape.data_address, shape.data_address + 3, 7])
     rng.choice(shape.relocations).entries.append((at, rng.randint(0, 66), rng.choice(shape.table.symbols or [None]),
                                                   rng.choice([0, 4, -1])))
+
+
+def add_pointer(shape, section, address):
+    """A relocation of a field that holds, or should hold, the address of the first function."""
+    of = {s.name: s for s in shape.table.symbols}
+    shape.add_relocation_table(section, [(address, odd_code.R_RISCV_64, of.get("_start"), 0)])
+
+
+@oddity
+def pointer_over_two_segments(shape, rng):
+    """Two segments, one right behind the other, each of which loads half of a pointer to code."""
+    pointer = struct.pack("<Q", shape.code.start)
+    part, address = shape.load(bytes(4) + pointer[:4], PF_R | PF_W)
+    other = shape.elf.part(pointer[4:] + bytes(4), rng.choice([20, 25]))
+    other.congruent = address + 8
+    shape.elf.segment(PT_LOAD, flags=PF_R | PF_W, part=other, address=address + 8)
+    section = shape.elf.section(".halves", SHT_PROGBITS, flags=SHF_ALLOC | SHF_WRITE, part=part, size=8, address=address)
+    section.kind, section.size = (SHT_NOBITS, 16) if rng.random() < 0.5 else (SHT_PROGBITS, 8)
+    add_pointer(shape, section, address + 4)
+
+
+@oddity
+def pointer_in_memory_alone(shape, rng):
+    """Its bytes, or some of them, are zeros that aren't in the file."""
+    part, address = shape.load(struct.pack("<Q", shape.code.start)[:rng.choice([0, 4, 7])], PF_R | PF_W, more=24)
+    section = shape.elf.section(".bss", SHT_NOBITS, flags=SHF_ALLOC | SHF_WRITE, size=24, part=part, address=address)
+    add_pointer(shape, section, address)
+
+
+@oddity
+def pointer_in_the_header(shape, rng):
+    """The file's header is a loaded section, and its entry point a pointer with a relocation."""
+    if not shape.elf.header_apart:
+        address = shape.code_segment.address
+        section = shape.elf.section(".header", SHT_PROGBITS, flags=SHF_ALLOC, part=shape.text, size=64, address=address)
+        add_pointer(shape, section, address + 24)

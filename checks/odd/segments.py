@@ -6,7 +6,7 @@ from odd.builder import (
     PT_INTERP, PT_LOAD, PT_NOTE, PT_NULL, PT_PHDR, PT_RISCV_ATTRIBUTES, PT_TLS, SHF_ALLOC,
     SHF_COMPRESSED, SHF_WRITE, SHT_NOBITS, SHT_NOTE, SHT_PROGBITS, SHT_RISCV_ATTRIBUTES, STB_GLOBAL,
     Symbol, up)
-from odd.shape import SLOTS, oddity
+from odd.shape import EMPTY, SLOTS, oddity
 
 
 # The order of the file.
@@ -65,6 +65,15 @@ def program_headers_unaligned(shape, rng):
     shape.elf.program_headers_in = None
     shape.elf.program_headers.rank, shape.elf.program_headers.align = 60, 1
     shape.elf.program_headers.gap = rng.choice([1, 2, 4])
+
+
+@oddity
+def program_headers_overlap_the_header(shape, rng):
+    """The first program header begins in the last eight bytes of the file's header, which it has as its type."""
+    shape.elf.segments.insert(0, shape.elf.segment(PT_NULL, size=rng.choice([0, 8])))
+    shape.elf.segments.pop()
+    if not shape.elf.header_apart and shape.code_section.start >= EMPTY:
+        shape.elf.program_headers_in = (shape.text, HEADER_SIZE - 8)
 
 
 @oddity

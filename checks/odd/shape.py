@@ -46,7 +46,8 @@ class Shape:
         self.with_table = rng.random() < 0.6
         self.elf.flags = int(compressed)
         sizes = odd_code.write(odd_code.Code(start, compressed, {}), random.Random(seed), names, self.with_table)
-        self.data_address = up(sizes.here() + 2 * PAGE, PAGE) + rng.choice([0, 0, FAR])
+        # at a page of its own, or such that it follows the code in the file
+        self.data_address = up(sizes.here() + 2 * PAGE, rng.choice([PAGE, 8])) + rng.choice([0, 0, FAR])
         known = sizes.labels | {f"pointer_{n}": self.data_address + 8 * k for k, n in enumerate(names)}
         code = odd_code.write(odd_code.Code(start, compressed, known), random.Random(seed), names, self.with_table)
         self.code, self.names = code, names

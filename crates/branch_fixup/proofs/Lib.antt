@@ -4,6 +4,7 @@ pub mod Ways
 pub mod Lists
 pub mod Appended
 pub mod Holders
+pub mod InputBytes
 pub mod BlockEndsFound
 pub mod Bridge
 pub mod Placed
