@@ -54,7 +54,8 @@ def empty_sections(shape, rng):
 
 @oddity
 def empty_section_at_the_end_of_numbers(shape, rng):
-    shape.elf.section(".empty", SHT_PROGBITS, size=0, offset=(1 << 64) - rng.choice([1, 8, 0x1000]))
+    shape.elf.section(".empty", rng.choice([SHT_PROGBITS, SHT_NOBITS]), flags=rng.choice([0, SHF_ALLOC]), size=0,
+                      offset=(1 << 64) - rng.choice([1, 8, 0x1000]))
 
 
 @oddity
