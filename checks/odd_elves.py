@@ -1,10 +1,11 @@
 #!/usr/bin/env python3
 """Sends odd executables through `rewrite`, and reports what it should not have made of them.
 
-    python3 checks/odd_elves.py PROGRAM COUNT SEED [--keep FOLDER]
+    python3 checks/odd_elves.py PROGRAM COUNT SEED [--only ODDITY] [--keep FOLDER]
 
 PROGRAM is a command, as `./sudrepka` or `python3 other.py`. COUNT files are made, the same ones for the same
-SEED. Each is a small program for RV64, laid out by the ELF standard alone, with some oddities that no linker
+SEED; 2000 from 1 on have each oddity in some forty files. --only gives each file just the one of that name.
+Each is a small program for RV64, laid out by the ELF standard alone, with some oddities that no linker
 makes but the standard allows: tables in any order, headers and sections that name the same bytes or none,
 huge alignments, symbols without a home and so on. A rewriter has to take each file or to refuse it by name.
 
@@ -33,7 +34,7 @@ import odd.segments  # noqa: F401
 from odd.shape import ODDITIES, Shape
 
 OK, REFUSED, OUT_OF_MEMORY = 0, 221, 224
-SECONDS = 60
+SECONDS, TIMED_OUT = 60, -1000
 SHT_SYMTAB, SHT_RELA = 2, 4
 
 
@@ -99,22 +100,31 @@ def normalised(line):
 
 
 def run_tool(words):
-    done = subprocess.run(words, capture_output=True, timeout=SECONDS)
+    """The status, negative for a signal, and what was printed."""
+    try:
+        done = subprocess.run(words, capture_output=True, timeout=SECONDS)
+    except subprocess.TimeoutExpired:
+        return TIMED_OUT, ""
     return done.returncode, (done.stdout + b"\n" + done.stderr).decode(errors="replace")
+
+
+def failure(status):
+    """How a tool failed that didn't end by itself."""
+    return ["timed out" if status == TIMED_OUT else f"signal {-status}"] if status < 0 else []
 
 
 def readelf_complaints(path):
     status, text = run_tool(["readelf", "-aW", path])
     text = text.replace("readelf: ", "\nreadelf: ")            # where a line before it has no end
     lines = [line.replace(path, "FILE") for line in text.splitlines() if re.search(r"readelf: |<corrupt", line)]
-    return lines + ([f"signal {-status}"] if status < 0 else [])
+    return lines + failure(status)
 
 
 def elflint_complaints(path):
     status, text = run_tool(["eu-elflint", "--gnu-ld", path])
     text = text.replace("PHDR entry do not match", "PHDR entry do not match\n")      # it forgets to end that line
     lines = [line for line in text.splitlines() if line.strip() and line.strip() != "No errors"]
-    return lines + ([f"signal {-status}"] if status < 0 else [])
+    return lines + failure(status)
 
 
 def new_complaints(complaints, before, after):
@@ -148,12 +158,9 @@ class Judge:
     def judge(self, folder, is_huge):
         """The answer to the file `in` with the profile `profile` in a folder, and what is wrong with it."""
         before, profile, after, map_file = (os.path.join(folder, n) for n in ("in", "profile", "out", "map"))
-        try:
-            status, text = run_tool(self.program + ["rewrite", before, profile, after, map_file])
-        except subprocess.TimeoutExpired:
-            return "timed out", ["timed out"]
+        status, text = run_tool(self.program + ["rewrite", before, profile, after, map_file])
         if status < 0:
-            return f"signal {-status}", [f"signal {-status}"]
+            return failure(status)[0], failure(status)
         if status == REFUSED:
             return " ".join(text.split()[:3]), []
         if status == OUT_OF_MEMORY:
