@@ -267,7 +267,7 @@ def huge_alignment_of_a_segment(shape, rng):
 def odd_alignment_of_segments(shape, rng):
     for segment in shape.elf.segments:
         if rng.random() < 0.6:
-            segment.align = rng.choice([0, 1, 3, 0x1001, 0x3000, 8])
+            segment.align = rng.choice([0, 1, 2, 8, 0x2000])
 
 
 @oddity
