@@ -69,11 +69,12 @@ class Headers:
     def is_dropped(self, section):
         return self.sections[section][1] == SHT_RELA or self.name(section) in (b".debug_macro", b".gdb_index")
 
-    def has_other_offset(self, section):
-        """The symbols, their names and those of sections stand where no segment loads, and an empty section goes with
-        the loaded bytes behind it."""
-        if self.sections[section][5] == 0:
-            return True
+    def is_empty(self, section):
+        """It goes with the loaded bytes behind it, and so maybe out of its segment."""
+        return self.sections[section][5] == 0
+
+    def is_table_of_names(self, section):
+        """The symbols, their names or those of sections: a written file has them anew, where no segment loads."""
         symbols = [k for k, s in enumerate(self.sections) if s[1] == SHT_SYMTAB][:1]
         return section in symbols + [self.sections[k][6] for k in symbols] + [self.names]
 
@@ -87,9 +88,9 @@ def is_no_matter(line, headers):
     section = re.search(r"section \[ *(\d+)\]", line)
     number = int(section[1]) if section else len(headers.sections)
     if number < len(headers.sections):
-        if headers.is_dropped(number):
+        if headers.is_dropped(number) or headers.is_empty(number) and "segment" in line:
             return True
-        if "alloc flag set but section not in any loaded segment" in line and headers.has_other_offset(number):
+        if "alloc flag set but section not in any loaded segment" in line and headers.is_table_of_names(number):
             return True
     program = re.search(r"program header entry (\d+): file offset and virtual address not module of alignment", line)
     return bool(program) and int(program[1]) < len(headers.programs) and headers.has_no_bytes(int(program[1]))
