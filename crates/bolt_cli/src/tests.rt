@@ -15,6 +15,7 @@ mod room;
 mod run;
 mod samples;
 mod symbols;
+mod unrelocated;
 
 use self::example::exit7_moved;
 use crate::status::Status;

@@ -4,6 +4,7 @@ mod Ways
 pub mod Lists
 pub mod Appended
 pub mod Holders
+mod InputBytes
 mod BlockEndsFound
 pub mod Bridge
 pub mod Placed
