@@ -125,13 +125,29 @@ impl<'a> NewContents<'a> {
     // The bytes that are written for a section, if they stand behind the loaded ones.
     fn written(&self, elf: &Elf<'a>, contents: Contents, section: &Section) -> Option<&'a [u8]> {
         match contents {
-            Contents::Dropped | Contents::Kept => None,
+            Contents::Dropped | Contents::Inactive | Contents::Kept => None,
             Contents::Copied => Some(bytes_of(elf.file, section)),
             Contents::SectionNames => Some(self.section_names),
             Contents::Symbols => Some(self.symbols),
             Contents::SymbolNames => Some(self.symbol_names),
             Contents::Given(table) => self.tables.get(table).map(|t| t.1.as_slice()),
         }
+    }
+}
+
+// A header of no section, which has a name.
+fn no_section(name: u32) -> SectionHeader {
+    SectionHeader {
+        name,
+        kind: SHT_NULL,
+        flags: 0,
+        addr: 0,
+        offset: 0,
+        size: 0,
+        link: 0,
+        info: 0,
+        align: 0,
+        entsize: 0,
     }
 }
 
@@ -142,11 +158,8 @@ pub fn set_contents(
     shift: &Shift,
 ) -> Result<(), NoMemory> {
     match contents {
-        Contents::Dropped => {
-            header.kind = SHT_NULL;
-            header.offset = 0;
-            header.size = 0;
-        }
+        Contents::Dropped => *header = no_section(header.name),
+        Contents::Inactive => {}
         Contents::Kept => header.offset = shift.moved(header.offset)?,
         Contents::Copied => {}
         Contents::SectionNames | Contents::Symbols | Contents::SymbolNames => {

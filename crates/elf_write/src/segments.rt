@@ -97,7 +97,7 @@ fn index_for(area: &Area, p: &Segment) -> Option<u64>
 impl<'a> Places<'a> {
     ghost use Rattle.std.specs.Prelude.{◌+◌, ◌*◌, IsTrue, if◌then◌else◌, length, option_map, slice_get, unwrap_or};
     ghost use Rattle.std.specs.Option.{option_map_or};
-    ghost use Rattle.elf_write.specs.HeaderPlaces.{beside, moved_header, new_header, place_behind, place_in};
+    ghost use Rattle.elf_write.specs.HeaderPlaces.{beside, moved_header, names_table, new_header, place_behind, place_in};
     ghost use Rattle.elf_write.specs.PlacedHeaders.{AreMade, AreNewEach, outline};
     ghost use Rattle.elf_write.specs.NewSegments.{AreNewHeaders, AreRenewed, CanGrow, CanGrowAt, IsRenewed, area_segment};
     ghost use Rattle.elf_write.specs.NewSegments.{grown, grows_at};
@@ -156,6 +156,14 @@ impl<'a> Places<'a> {
         Ok(at.min(self.file_size))
     }
 
+    // Whether a header names the table of program headers: not where it would begin in the new area and end behind it.
+    fn names_table(&self, p: &Segment) -> Result<bool, NoMemory>
+        ensures { IfOk result (λ names. names ≡ names_table (outline self.now) p.now) }
+    {
+        let end = self.area.offset_of(self.area.end)?;
+        Ok(p.kind == PT_PHDR && !leaves_area(&self.area, end, self.table_at, p.filesz))
+    }
+
     // Where the bytes of a header go that stand behind the executable segment.
     fn place_behind(&self, p: &Segment, home: Option<usize>, align: u64) -> Result<u64, NoMemory>
         requires { 0 < align }
@@ -167,7 +175,7 @@ impl<'a> Places<'a> {
         if p.kind == PT_LOAD && p.filesz > 0 {
             return self.shift.moved(p.offset);
         }
-        if p.kind == PT_PHDR {
+        if self.names_table(p)? {
             return Ok(self.table_at);
         }
         match home {
