@@ -91,11 +91,9 @@ pub record IsOwn (s n : Section) : Type 0 where
   pub flags : n.flags ≡ without_code s.flags
   pub aligned : IsAligned n
 
--- A table of names begins with the names that it had.
-pub record IsNameTable (file w : List ℕ) (s n : Section) : Type 0 where
+pub record IsNameTable (s n : Section) : Type 0 where
   pub own : IsOwn s n
   pub info : n.info ≡ s.info
-  pub begins : take (length (section_bytes file s)) (section_bytes w n) ≡ section_bytes file s
 
 abbrev pub kind_of_given : ℕ → ℕ
 kind_of_given kind = if kind == SHT_NOBITS then SHT_PROGBITS else kind
@@ -110,9 +108,9 @@ Follows tables shift file w Dropped s n = IsDropped n
 Follows tables shift file w Inactive s n = IsInactive w s n
 Follows tables shift file w Kept s n = IsKept shift w s n
 Follows tables shift file w Copied s n = HasNewContents w (section_bytes file s) s.kind s n
-Follows tables shift file w SectionNames s n = IsNameTable file w s n
+Follows tables shift file w SectionNames s n = IsNameTable s n
 Follows tables shift file w Symbols s n = IsOwn s n
-Follows tables shift file w SymbolNames s n = IsNameTable file w s n
+Follows tables shift file w SymbolNames s n = IsNameTable s n
 Follows tables shift file w (Given t) s n = HasNewContents w (given_bytes tables t) (kind_of_given s.kind) s n
 
 -- Sections that are added.

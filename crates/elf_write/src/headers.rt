@@ -10,12 +10,12 @@ use crate::names::NameTable;
 use crate::old_name::{is_renamed, old_prefix};
 use crate::sections::{Contents, Table};
 use crate::tail::Tail;
+use crate::unwritable::Unwritable;
 use elf_image::entries::{SectionTable, section_count};
 use elf_image::named::{EH_FRAME, EH_FRAME_HDR};
 use elf_image::relocation::SHT_RELA;
 use elf_image::section::{SHF_ALLOC, SHF_EXECINSTR, SHT_NOBITS, SHT_PROGBITS, SHT_STRTAB};
 use elf_image::{Elf, Section, SectionHeader};
-use rb_bytes::fault::NoMemory;
 use std::alloc::Global;
 
 /// The type of no section. gABI, "Section Types".
@@ -35,7 +35,7 @@ pub fn old_headers(
     alloc: Global,
     elf: &Elf,
     names: &mut NameTable,
-) -> Result<Vec<SectionHeader>, NoMemory>
+) -> Result<Vec<SectionHeader>, Unwritable>
     requires { IsReadable elf.now.file.now }
 {
     let table = SectionTable { file: elf.file };
@@ -60,7 +60,7 @@ fn area_section(
     addr: u64,
     size: u64,
     align: u64,
-) -> Result<SectionHeader, NoMemory> {
+) -> Result<SectionHeader, Unwritable> {
     Ok(SectionHeader {
         name,
         kind: SHT_PROGBITS,
@@ -81,7 +81,7 @@ pub fn area_headers(
     area: &Area,
     tables: &[Table],
     names: &mut NameTable,
-) -> Result<(), NoMemory> {
+) -> Result<(), Unwritable> {
     let code = area.code_end.saturating_sub(area.start);
     let name = names.add(b".text", b"")?;
     headers.push(area_section(name, SHF_ALLOC + SHF_EXECINSTR, area, area.start, code, 16)?)?;
@@ -156,7 +156,7 @@ pub fn set_contents(
     header: &mut SectionHeader,
     contents: Contents,
     shift: &Shift,
-) -> Result<(), NoMemory> {
+) -> Result<(), Unwritable> {
     match contents {
         Contents::Dropped => *header = no_section(header.name),
         Contents::Inactive => {}
@@ -185,7 +185,7 @@ fn place_bytes(
     index: usize,
     bytes: &[u8],
     tail: &mut Tail,
-) -> Result<(), NoMemory>
+) -> Result<(), Unwritable>
     ensures { tail.new.base ≡ tail.old.base }
 {
     if index < headers.len() {
@@ -205,7 +205,7 @@ pub fn place_contents<'a>(
     new: &NewContents<'a>,
     headers: &mut [SectionHeader],
     tail: &mut Tail,
-) -> Result<(), NoMemory>
+) -> Result<(), Unwritable>
     ensures { OnOk result (tail.new.base ≡ tail.old.base) }
 {
     for entry in order {

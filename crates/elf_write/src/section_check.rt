@@ -122,20 +122,10 @@ fn is_own(s: &Section, n: &Section) -> bool
         && is_aligned(n)
 }
 
-// Whether bytes begin with others.
-fn begins_with(bytes: &[u8], front: &[u8]) -> bool
-    ensures { IsTrue result → take (length front.now) bytes.now ≡ front.now }
+fn is_name_table(s: &Section, n: &Section) -> bool
+    ensures { IsTrue result → spec.IsNameTable s.now n.now }
 {
-    if bytes.len() < front.len() {
-        return false;
-    }
-    &bytes[..front.len()] == front
-}
-
-fn is_name_table(file: &[u8], w: &[u8], s: &Section, n: &Section) -> bool
-    ensures { IsTrue result → spec.IsNameTable file.now w.now s.now n.now }
-{
-    is_own(s, n) && n.info == s.info && begins_with(bytes_of(w, n), bytes_of(file, s))
+    is_own(s, n) && n.info == s.info
 }
 
 // The bytes of a table by its place.
@@ -171,9 +161,7 @@ impl<'a> Files<'a> {
             Contents::Inactive => is_inactive(self.new, s, n),
             Contents::Kept => is_kept(&self.shift, self.new, s, n),
             Contents::Copied => is_rewritten(self.new, bytes_of(self.old, s), s.kind, s, n),
-            Contents::SectionNames | Contents::SymbolNames => {
-                is_name_table(self.old, self.new, s, n)
-            }
+            Contents::SectionNames | Contents::SymbolNames => is_name_table(s, n),
             Contents::Symbols => is_own(s, n),
             Contents::Given(place) => {
                 let bytes = given_bytes(self.tables, place);

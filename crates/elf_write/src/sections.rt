@@ -7,6 +7,7 @@ ghost use Rattle.rv_code.specs.layout.Lists.{IsPairBefore};
 use crate::headers::SHT_NULL;
 use crate::kept_bytes::KeptBytes;
 use crate::name_tables::OwnSections;
+use crate::unwritable::Unwritable;
 use elf_image::named::names_frames;
 use elf_image::relocation::SHT_RELA;
 use elf_image::section::SHT_NOBITS;
@@ -198,7 +199,7 @@ impl<'a> Sections<'a> {
     }
 
     /// The sections whose contents are written behind the loaded bytes: their offsets and indices, ascending.
-    pub fn order(&self, alloc: Global) -> Result<Vec<(u64, usize)>, NoMemory>
+    pub fn order(&self, alloc: Global) -> Result<Vec<(u64, usize)>, Unwritable>
         ensures { (segments : List Segment) (area : Area) (shift : Shift) → Keeps segments area shift self.now.kept.now →
             IfOk result (λ order.
             ListsPairs (PassesAt self.now.elf.now.sections.items (is_written_by self.now segments area shift)) order.items) }
@@ -211,7 +212,7 @@ impl<'a> Sections<'a> {
         }
         order.sort_unstable();
         if !are_ascending(&order) {
-            return Err(NoMemory);
+            return Err(Unwritable::Layout);
         }
         Ok(order)
     }
