@@ -9,7 +9,7 @@ use crate::area_bytes::table_size;
 use crate::names::NameTable;
 use crate::old_name::{is_renamed, old_prefix};
 use crate::sections::{Contents, Table};
-use crate::tail::Tail;
+use crate::tail::{Tail, end_behind};
 use crate::unwritable::Unwritable;
 use elf_image::entries::{SectionTable, section_count};
 use elf_image::named::{EH_FRAME, EH_FRAME_HDR};
@@ -194,6 +194,27 @@ fn place_bytes(
         headers[index].size = bytes.len() as u64;
     }
     Ok(())
+}
+
+/// Where contents that are written from an offset on will end, in an order of their indices. No file is so large that they
+/// would be written for nothing.
+pub fn contents_end<'a>(
+    elf: &Elf<'a>,
+    contents: &[Contents],
+    order: &[(u64, usize)],
+    new: &NewContents<'a>,
+    start: u64,
+) -> Result<u64, Unwritable> {
+    let mut end = start;
+    for entry in order {
+        let i = entry.1;
+        if let (Some(section), Some(contents)) = (elf.sections.get(i), contents.get(i)) {
+            if let Some(bytes) = new.written(elf, *contents, section) {
+                end = end_behind(end, section.align, bytes.len())?;
+            }
+        }
+    }
+    Ok(end)
 }
 
 /// Writes the contents of sections behind the loaded bytes, in an order of their indices, and sets what their headers say

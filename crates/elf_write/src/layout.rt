@@ -11,7 +11,7 @@ use crate::area_bytes::{area_bytes, table_size};
 use crate::placing::parts_of;
 use crate::round::sum;
 use crate::sections::Table;
-use crate::tail::OUTPUT_LIMIT;
+use crate::tail::limited;
 use crate::unwritable::Unwritable;
 use addr_map::AddrMap;
 use elf_image::Elf;
@@ -74,11 +74,7 @@ impl Layout {
         ensures { IfOk result (λ end. end ≡ size_of self.now.parts) }
     {
         let moved = self.parts.high - self.parts.low;
-        let end = sum(self.parts.behind_at as u64, moved as u64)?;
-        if end > OUTPUT_LIMIT {
-            return Err(Unwritable::TooLarge);
-        }
-        Ok(end)
+        limited(sum(self.parts.behind_at as u64, moved as u64)?)
     }
 }
 

@@ -24,7 +24,7 @@ impl NameTable {
         }
         let index = self.bytes.len();
         if index > u32::MAX as usize {
-            return Err(Unwritable::Layout);
+            return Err(Unwritable::TooLarge);
         }
         self.bytes.extend_from_slice(front)?;
         self.bytes.extend_from_slice(back)?;

@@ -6,7 +6,7 @@ ghost use Rattle.elf_image.specs.file.Header.{e_shstrndx};
 use crate::area_bytes::table_called;
 use crate::fragments::Fragment;
 use crate::headers::{
-    NewContents, area_headers, bytes_of, old_headers, place_contents, set_contents,
+    NewContents, area_headers, bytes_of, contents_end, old_headers, place_contents, set_contents,
 };
 use crate::kept_bytes::KeptBytes;
 use crate::layout::Layout;
@@ -16,8 +16,9 @@ use crate::round::sum;
 use crate::section_tables::DEBUG_RNGLISTS;
 use crate::sections::{Contents, Sections, Table, index_called, replaced_by};
 use crate::symbols::{NewCode, cold_symbols, local_count, symbol_table};
-use crate::tail::Tail;
+use crate::tail::{Tail, limited};
 use crate::unwritable::Unwritable;
+use crate::weights::name_weight;
 use addr_map::AddrMap;
 use elf_image::section::{SHDR_SIZE, SHT_PROGBITS};
 use elf_image::{Elf, SectionHeader};
@@ -169,13 +170,12 @@ impl<'a> SectionSource<'a> {
         symbol_table(alloc, self.elf, section, &code, &added)
     }
 
-    // Where the contents of the input's sections are, which is set in their headers, and the order of those that are written.
+    // Where the contents of the input's sections are, and the order of those that are written.
     fn old_contents(
         &self,
         alloc: Global,
         own: OwnSections,
         layout: &Layout,
-        headers: &mut [SectionHeader],
     ) -> Result<(Vec<Contents>, Vec<(u64, usize)>), Unwritable> {
         let replaced = replaced_by(alloc, &self.elf.sections, self.tables)?;
         let kept = KeptBytes::new(alloc, &self.elf.segments, &layout.area, &layout.shift)?;
@@ -185,11 +185,21 @@ impl<'a> SectionSource<'a> {
             replaced: &replaced,
             kept: &kept,
         };
-        let contents = sections.contents(alloc)?;
-        for i in 0..contents.len().min(headers.len()) {
-            set_contents(&mut headers[i], contents[i], &layout.shift)?;
+        Ok((sections.contents(alloc)?, sections.order(alloc)?))
+    }
+
+    // Before names are made and contents copied: whether they fit a file.
+    fn check_sizes(&self, alloc: Global, contents: &[Contents]) -> Result<(), Unwritable>
+        requires { AreLaidOut self.now.funcs.now }
+    {
+        let mut size = name_weight(alloc, self.elf, self.funcs, self.cold)?;
+        for (section, contents) in self.elf.sections.iter().zip(contents) {
+            if matches!(contents, Contents::Copied) {
+                size = size.saturating_add(section.size);
+            }
         }
-        Ok((contents, sections.order(alloc)?))
+        limited(size)?;
+        Ok(())
     }
 
     /// Writes the contents of all sections into a tail, and their headers behind them.
@@ -205,19 +215,24 @@ impl<'a> SectionSource<'a> {
         ensures base { IfOk result (λ new. tail.new.base ≡ tail.old.base) }
     {
         let own = OwnSections::new(self.elf)?;
+        let (contents, order) = self.old_contents(alloc, own, layout)?;
+        self.check_sizes(alloc, &contents)?;
         let mut names = NewNames::new(alloc, self.elf, &own)?;
         let mut headers = old_headers(alloc, self.elf, &mut names.sections)?;
         let text = u16::try_from(headers.len()).map_err(|_| Unwritable::Layout)?;
         area_headers(&mut headers, &layout.area, self.tables, &mut names.sections)?;
         let ranges = added_ranges(self.elf, self.tables, &mut names.sections)?;
         let symbols = self.symbols(alloc, &own, &mut names, &mut headers, text)?;
-        let (contents, order) = self.old_contents(alloc, own, layout, &mut headers)?;
+        for i in 0..contents.len().min(headers.len()) {
+            set_contents(&mut headers[i], contents[i], &layout.shift)?;
+        }
         let new = NewContents {
             section_names: names.sections.bytes(),
             symbols: &symbols,
             symbol_names: names.of_symbols(),
             tables: self.tables,
         };
+        contents_end(self.elf, &contents, &order, &new, tail.end()?)?;
         place_contents(self.elf, &contents, &order, &new, &mut headers, tail)?;
         if let (Some(header), Some(table)) = (ranges, table_called(self.tables, DEBUG_RNGLISTS)) {
             headers.push(SectionHeader {

@@ -9,6 +9,23 @@ use std::alloc::Global;
 /// No file is written that has more bytes.
 pub const OUTPUT_LIMIT: u64 = 1 << 30;
 
+/// An end of a file, if one may have so many bytes.
+pub fn limited(end: u64) -> Result<u64, Unwritable>
+    ensures { IfOk result (λ e. e ≡ end) }
+{
+    if end > OUTPUT_LIMIT {
+        Err(Unwritable::TooLarge)
+    } else {
+        Ok(end)
+    }
+}
+
+/// Where so many bytes end that stand behind others at a multiple of an alignment, of which 0 is none.
+pub fn end_behind(end: u64, align: u64, size: usize) -> Result<u64, Unwritable> {
+    let start = checked_rounded_up(align.max(1), end)?;
+    limited(sum(start, size as u64)?)
+}
+
 /// Bytes from an offset of the file on, to which more are added.
 #[derive(Drop)]
 pub struct Tail {
@@ -42,10 +59,7 @@ impl Tail {
         ensures behind { IfOk result (λ place. self.old.base ≤ place) }
     {
         let end = self.end()?;
-        let place = checked_rounded_up(align.max(1), end)?;
-        if place > OUTPUT_LIMIT {
-            return Err(Unwritable::TooLarge);
-        }
+        let place = limited(checked_rounded_up(align.max(1), end)?)?;
         let size = (place - self.base) as usize;
         fill_to(&mut self.bytes, size)?;
         Ok(place)
@@ -56,6 +70,7 @@ impl Tail {
         ensures { self.new.base ≡ self.old.base }
     {
         let place = self.align_to(align)?;
+        limited(sum(place, bytes.len() as u64)?)?;
         self.bytes.extend_from_slice(bytes)?;
         Ok(place)
     }
@@ -64,7 +79,8 @@ impl Tail {
     pub fn fill(&mut self, count: usize) -> Result<(), Unwritable>
         ensures { self.new.base ≡ self.old.base }
     {
-        let size = self.bytes.len().checked_add(count).ok_or(Unwritable::Layout)?;
+        limited(sum(self.end()?, count as u64)?)?;
+        let size = self.bytes.len() + count;
         fill_to(&mut self.bytes, size)?;
         Ok(())
     }
