@@ -11,7 +11,7 @@ use Rattle.elf_write.proofs.CellsWritten.{wide}
 use Rattle.elf_write.proofs.CodeWritten.{area-written}
 use Rattle.elf_write.proofs.MadeHeaders.{e_shstrndx-written}
 use Rattle.elf_write.proofs.SoundFiles.{readable}
-use Rattle.elf_write.proofs.writer.write.Goals as goal
+use Rattle.elf_write.proofs.writer.written.Goals as goal
 
 pub made-requires-clause-readable : goal.made-requires-clause-readable
 made-requires-clause-readable c = readable c.args.elf.now.file.now c.requires.sound
@@ -33,7 +33,7 @@ returns-clause-written c =
     all-written
     (source_of c.args.elf.now c.args.emitted.now c.args.map.now c.args.tables.now) c.in_ok-tight.tight c.in_ok-file.file.items
     c.requires.read c.requires.sound c.requires.bytes c.requires.cells c.requires.apart c.in_ok-file.ensures.made
-    (subst IsSound c.deref-3.ensures.value (c.is_accepted.ensures.sound c.if-not-is_accepted.false)) c.in_ok-tight.ensures
+    (subst IsSound c.deref-3.ensures.value (c.in_ok-is_accepted.ensures.sound c.if-not-branch.false)) c.in_ok-tight.ensures
 
 pub returns-clause-tables : goal.returns-clause-tables
 returns-clause-tables c = λ tight placed.
@@ -47,13 +47,13 @@ returns-clause-tables c = λ tight placed.
     let above = c.in_ok-tight.tight in
     let s : Source = source_of elf c.args.emitted.now spans tables in
     let made = c.in_ok-file.ensures in
-    let sound_w : IsSound w = subst IsSound c.deref-3.ensures.value (c.is_accepted.ensures.sound c.if-not-is_accepted.false) in
+    let sound_w : IsSound w = subst IsSound c.deref-3.ensures.value (c.in_ok-is_accepted.ensures.sound c.if-not-branch.false) in
     let there : above ≡ tight = placed-there s above w c.requires.read c.requires.sound c.requires.bytes c.requires.cells
     c.requires.apart made.made sound_w c.in_ok-tight.ensures tight placed in
     let stands =
     area-written s above w c.requires.read c.requires.sound made.made (subst (λ (t : Bool). HasPlace s t) (sym there) placed)
     (λ i cell below. wide (get_or s.cells i cell).1 (c.requires.cells i cell below).width) tables made.has_tables in
-    let found = c.is_accepted.ensures.tables c.if-not-is_accepted.false in
+    let found = c.in_ok-is_accepted.ensures.tables c.if-not-branch.false in
     subst (λ (t : Bool). HasNewTables elf tables code funcs cold spans t w) there
     (subst (λ (f : List ℕ). AreaStands (area_for elf tables code above) tables code f →
     HasNewTables elf tables code funcs cold spans above f)
