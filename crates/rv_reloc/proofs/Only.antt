@@ -1,5 +1,5 @@
 -- That a list has exactly one item that passes a test, where some of many are left out, and of what items stand for.
-use Rattle.std.proofs.Common.{◌≡◌, ◌∙◌, sym, subst, refl, ◌+◌, Bool, true, cond, Option, Some, None, IfSome, IsSomeAnd, List, []}
+use Rattle.std.proofs.Common.{◌≡◌, ◌∙◌, sym, subst, refl, ◌+◌, Bool, true, Option, Some, None, IfSome, IsSomeAnd, List, []}
 use Rattle.std.proofs.Common.{◌∷◌, map, arith, ◌≤◌, ⊎_elim}
 use Rattle.std.specs.List.{count_by}
 use Rattle.elf_code.specs.Cells.{IsOnly}

@@ -1,6 +1,6 @@
 -- Lists of which items that occur more than twice are left out, one run of numbered items after another.
 use Rattle.std.proofs.Common.{◌≡◌, ◌∙◌, ap, sym, subst, refl, ℕ, zero, suc, ◌+◌, ◌-◌, ◌≤◌, ◌<◌, ◌⊎◌, inl, inr, Bool, true, false}
-use Rattle.std.proofs.Common.{List, [], ◌∷◌, ◌++◌, map, cond, arith, IsTrue, length, append_assoc, min, max, ⊎_elim, ◌↔◌}
+use Rattle.std.proofs.Common.{List, [], ◌∷◌, ◌++◌, map, cond, arith, IsTrue, min, max, ⊎_elim}
 use Rattle.std.specs.List.{count_by, sum_by, Contains, range_with_len, flat_map}
 use Rattle.std.specs.List.Sorted.{IsPermutation}
 use Rattle.std.proofs.lemmas.Bool.{cases_lt}
@@ -136,36 +136,38 @@ module _ {A : Type 0} (at : ℕ → A) where
       let len = length-map-range_with_len at a n in
       (k - a, omega arith, get_or-map-range_with_len at a n (k - a) k (at k) (omega arith) (omega arith))
 
-  module _ (full kept : List A) (first once twice end from : ℕ) (taken : AreTaken at kept first once twice)
-      (rises : first ≤ end) (from_is : from ≡ max first (min twice end)) where
+  module _ (full kept : List A) (first once twice count from : ℕ) (taken : AreTaken at kept first once twice)
+      (from_is : from ≡ max first (min twice (first + count))) where
     -- the items of a run that are new or occurred once before are added
-    pub run-thinned : IsThinned full kept → IsThinned (full ++ span first (end - first)) (kept ++ span from (end - from))
+    pub run-thinned : IsThinned full kept → IsThinned (full ++ span first count) (kept ++ span from (first + count - from))
     run-thinned is =
-        let parts : span first (end - first) ≡ span first (from - first) ++ span from (end - from) =
-        ap (λ (n : ℕ). span first n) (let e : end - first ≡ (from - first) + (end - from) = omega arith in e)
-        ∙ span-split first (from - first) (end - from)
-        ∙ ap (λ (a : ℕ). span first (from - first) ++ span a (end - from))
+        let left = first + count - from in
+        let parts : span first count ≡ span first (from - first) ++ span from left =
+        ap (λ (n : ℕ). span first n) (let e : count ≡ (from - first) + left = omega arith in e)
+        ∙ span-split first (from - first) left
+        ∙ ap (λ (a : ℕ). span first (from - first) ++ span a left)
         (let e : first + (from - first) ≡ from = omega arith in e) in
-        subst (λ (new : List A). IsThinned (full ++ new) (kept ++ span from (end - from))) (sym parts)
-        (thinned-more full kept (span first (from - first)) (span from (end - from)) is
+        subst (λ (new : List A). IsThinned (full ++ new) (kept ++ span from left)) (sym parts)
+        (thinned-more full kept (span first (from - first)) (span from left) is
         (λ x out. let (k, low, high, same) = span-in first (from - first) x out in
         subst (λ (y : A). IsTwice kept y) same (taken.are_twice k low (omega arith))))
 
-    pub run-taken : AreTaken at (kept ++ span from (end - from)) first (max once end) (max (min once end) twice)
+    pub run-taken : AreTaken at (kept ++ span from (first + count - from)) first (max once (first + count))
+        (max (min once (first + count)) twice)
     run-taken = record {
       are_once = λ k low high. ⊎_elim
-          (λ (old : k < once). Contains-append_left kept (span from (end - from)) (at k) (taken.are_once k low old))
+          (λ (old : k < once). Contains-append_left kept (span from (first + count - from)) (at k) (taken.are_once k low old))
           (λ (new : once ≤ k). ⊎_elim
-          (λ (out : k < from). Contains-append_left kept (span from (end - from)) (at k)
+          (λ (out : k < from). Contains-append_left kept (span from (first + count - from)) (at k)
           (taken.are_twice k low (omega arith)).listed)
-          (λ (there : from ≤ k). Contains-append_right kept (span from (end - from)) (at k)
-          (span-has from (end - from) k there (omega arith)))
+          (λ (there : from ≤ k). Contains-append_right kept (span from (first + count - from)) (at k)
+          (span-has from (first + count - from) k there (omega arith)))
           (cases_lt k from))
           (cases_lt k once);
       are_twice = λ k low high. ⊎_elim
-          (λ (old : k < twice). twice-more kept (span from (end - from)) (at k) (taken.are_twice k low old))
-          (λ (new : twice ≤ k). twice-both kept (span from (end - from)) (at k) (taken.are_once k low (omega arith))
-          (span-has from (end - from) k (omega arith) (omega arith)))
+          (λ (old : k < twice). twice-more kept (span from (first + count - from)) (at k) (taken.are_twice k low old))
+          (λ (new : twice ≤ k). twice-both kept (span from (first + count - from)) (at k) (taken.are_once k low (omega arith))
+          (span-has from (first + count - from) k (omega arith) (omega arith)))
           (cases_lt k twice);
     }
 

@@ -1,5 +1,5 @@
 // Tables of relocations as runs of numbered entries, so that what several tables share is read once or twice.
-ghost use Rattle.std.specs.Prelude.{◌≡◌, ◌≤◌, ◌+◌, ◌*◌, List, Some, IfOk, IfSome, IfNone, IsTrue, All, length, slice_get};
+ghost use Rattle.std.specs.Prelude.{◌≡◌, ◌≤◌, ◌+◌, ◌*◌, List, [], Some, IfOk, IfSome, IfNone, IsTrue, All, length, slice_get};
 ghost use Rattle.std.specs.List.{flat_map};
 ghost use Rattle.std.specs.List.Sorted.{IsPermutation};
 ghost use Rattle.elf_image.specs.declared.elf.Elf.{Elf};
@@ -22,9 +22,7 @@ pub struct EntryRun {
     pub section: usize,
     pub phase: usize,
     pub first: usize,
-    /// One more than the last number.
-    pub end: usize,
-    pub ghost rises: { first ≤ end },
+    pub count: usize,
 }
 
 /// How far relocations of the last run's section and phase were taken, of those from its first on.
@@ -44,7 +42,7 @@ impl Taken {
             section: 0,
             phase: 0,
             first: 0,
-            end: 0,
+            count: 0,
         };
         Taken::none_of(&run)
     }
@@ -110,12 +108,11 @@ fn run_for(elf: &Elf, table: &Section, section: &Section) -> Option<EntryRun>
     if table.size == 0 {
         return None;
     }
-    let first = table.offset as usize / RELA_SIZE;
     Some(EntryRun {
         section: table.info as usize,
         phase: table.offset as usize % RELA_SIZE,
-        first,
-        end: first + table.size as usize / RELA_SIZE,
+        first: table.offset as usize / RELA_SIZE,
+        count: table.size as usize / RELA_SIZE,
     })
 }
 

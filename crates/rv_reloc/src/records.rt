@@ -75,22 +75,23 @@ fn push_new<'a>(
     requires target { slice_get elf.now.sections.items taken.run.section ≡ Some section.now }
     requires taken { HasTaken elf.now (map seen records.now.items) taken }
     ensures thinned { OnOk result ((full : List Relocation) → IsThinned full (map seen records.old.items) →
-        IsThinned (full ++ run_entries elf.now taken.entry.run) (map seen records.new.items)) }
+        IsThinned (full ++ run_entries elf.now taken.run) (map seen records.new.items)) }
     ensures taken { IfOk result (HasTaken elf.now (map seen records.new.items)) }
 {
-    let Taken { run, once, twice } = taken;
-    let from = run.first.max(twice.min(run.end));
+    let run = taken.run;
+    let end = run.first + run.count;
+    let from = run.first.max(taken.twice.min(end));
     push_entries(
         records,
         elf.file,
         section,
         run.phase + RELA_SIZE * from,
-        run.end - from,
+        end - from,
     )?;
     Ok(Taken {
         run,
-        once: once.max(run.end),
-        twice: once.min(run.end).max(twice),
+        once: taken.once.max(end),
+        twice: taken.once.min(end).max(taken.twice),
     })
 }
 
