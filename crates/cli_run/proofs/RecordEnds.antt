@@ -138,6 +138,7 @@ module _ (program : Program) (args : RecordArgs) (steps : ℕ) (text : List ℕ)
       stopped (out_of_memory finished.result_is (record {
         input = s.input;
         input_is = s.input_is;
+        input_bytes = s.input_bytes;
         steps = s.steps;
         trace = s.trace;
         state = s.state;

@@ -8,11 +8,11 @@ use Rattle.rb_io.specs.Views.{SinkSeen}
 use Rattle.rv_code.specs.machine.Machine.{State, Event, output, SoFar, starts, Run, HaltsAfter}
 use Rattle.run_core.specs.Answers.{Answer}
 use Rattle.run_core.specs.Answers as end
-use Rattle.run_core.specs.Inputs.{Outside, as_told}
+use Rattle.run_core.specs.Inputs.{AreSomeBytes, Outside, as_told}
 use Rattle.run_core.specs.Runs.{RunsSomeInput, StateRunsTo, IsInterrupted}
 use Rattle.run_core.specs.StepAnswers.{GivesOutput}
 use Rattle.run_core.proofs.OnlyAnswers.{IsAnswered, only_answer}
-use Rattle.run_core.proofs.Told.{told, told_is, append_known-nil}
+use Rattle.run_core.proofs.Told.{told, told_is, none_told, append_known-nil}
 use Rattle.cli_base.specs.Printing.{all_printed, prefix_printed, none_printed}
 use Rattle.cli_run.specs.run.RunAnswers.{Taking, ComesOut, StopsAnywhere, AnswersRun, StopsRun, came_out, at_input, at_output}
 use Rattle.cli_run.specs.run.RunAnswers.{at_closing, out_of_memory, stopped, IsCutShort, read_fault, write_fault, no_memory}
@@ -31,6 +31,7 @@ no_step machine limit now keeps =
     record {
       input = input;
       input_is = told_is now.input.left;
+      input_bytes = none_told now.input.left;
       steps = 0;
       trace = [];
       state = machine.start input;
@@ -64,6 +65,7 @@ module _ {M V X C : Type 0} (state_of : M → List ℕ → State V X) (machine :
   pub record Came (ending : Ending C) : Type 0 where
     pub input : List ℕ
     pub input_is : before.input.left ≡ as_told before.input.left input
+    pub input_bytes : AreSomeBytes before.input.left input
     pub trace : List Event
     pub rest : List ℕ
     pub runs : RunsTo machine input limit ending steps trace rest
@@ -80,6 +82,7 @@ module _ {M V X C : Type 0} (state_of : M → List ℕ → State V X) (machine :
       record {
         input = ran.input;
         input_is = ran.input_is;
+        input_bytes = ran.input_bytes;
         trace = r.trace;
         rest = r.rest;
         runs =
@@ -95,6 +98,7 @@ module _ {M V X C : Type 0} (state_of : M → List ℕ → State V X) (machine :
       record {
         input = ran.input;
         input_is = ran.input_is;
+        input_bytes = ran.input_bytes;
         trace = r.trace;
         rest = r.rest;
         runs = (
@@ -113,6 +117,7 @@ module _ {M V X C : Type 0} (state_of : M → List ℕ → State V X) (machine :
       record {
         input = ran.input;
         input_is = ran.input_is;
+        input_bytes = ran.input_bytes;
         trace = r.trace;
         rest = r.rest;
         runs = (
@@ -130,6 +135,7 @@ module _ {M V X C : Type 0} (state_of : M → List ℕ → State V X) (machine :
   comes_out Takes ending line came = record {
     input = came.input;
     input_is = came.input_is;
+    input_bytes = came.input_bytes;
     steps = steps;
     trace = came.trace;
     rest = came.rest;
@@ -144,6 +150,7 @@ module _ {M V X C : Type 0} (state_of : M → List ℕ → State V X) (machine :
   unclosed same (Ends value) came = record {
     input = came.input;
     input_is = came.input_is;
+    input_bytes = came.input_bytes;
     steps = came.runs.1.0.before;
     trace = came.trace;
     state = came.runs.1.0.state;
@@ -157,6 +164,7 @@ module _ {M V X C : Type 0} (state_of : M → List ℕ → State V X) (machine :
   unclosed same (HaltsAt pc cause) came = record {
     input = came.input;
     input_is = came.input_is;
+    input_bytes = came.input_bytes;
     steps = steps;
     trace = came.trace;
     state = came.runs.1.0.state;
@@ -170,6 +178,7 @@ module _ {M V X C : Type 0} (state_of : M → List ℕ → State V X) (machine :
   unclosed same RunsOn came = record {
     input = came.input;
     input_is = came.input_is;
+    input_bytes = came.input_bytes;
     steps = steps;
     trace = came.trace;
     state = came.runs.1.0;
@@ -197,6 +206,7 @@ module _ {M V X C : Type 0} (state_of : M → List ℕ → State V X) (machine :
       at_input is (subst (λ n. Rose before.input.faults n) (sym reads_same) r.cause) (record {
         input = ran.input;
         input_is = ran.input_is;
+        input_bytes = ran.input_bytes;
         steps = steps;
         trace = r.trace;
         state = r.state;
@@ -208,6 +218,7 @@ module _ {M V X C : Type 0} (state_of : M → List ℕ → State V X) (machine :
       at_output is (rose_before _ _ _ writes_last r.cause) (record {
         input = ran.input;
         input_is = ran.input_is;
+        input_bytes = ran.input_bytes;
         steps = steps;
         trace = r.trace;
         state = r.state;
@@ -223,6 +234,7 @@ module _ {M V X C : Type 0} (state_of : M → List ℕ → State V X) (machine :
       out_of_memory is (record {
         input = ran.input;
         input_is = ran.input_is;
+        input_bytes = ran.input_bytes;
         steps = steps;
         trace = r.trace;
         state = state_of new r.rest;

@@ -1,5 +1,5 @@
--- What holds at the end of a run, by its answer. What is said of its steps is said of some input, which is the one that
--- standard input tells, where it tells its bytes.
+-- What holds at the end of a run, by its answer. What is said of its steps is said of some input of bytes, which is the one
+-- that standard input tells, where it tells its bytes.
 use Rattle.std.specs.Prelude.{◌≡◌, ◌⊎◌, ℕ, ◌<◌, ◌≤◌, List, Option, Some, IsTrue, IsSomeAnd}
 use Rattle.std.specs.Io.KnownBytes.{append_known}
 use Rattle.rb_io.specs.FaultCounts.{Rose}
@@ -7,7 +7,7 @@ use Rattle.rb_io.specs.Names.{Unchanged}
 use Rattle.rb_io.specs.TakenText.{TakesAll, TakesPrefix}
 use Rattle.rb_bytes.specs.declared.fault.Fault.{Fault}
 use Rattle.rv_code.specs.machine.Machine.{State, Event, output, SoFar}
-use Rattle.run_core.specs.Inputs.{Outside, as_told, outside_of}
+use Rattle.run_core.specs.Inputs.{AreSomeBytes, Outside, as_told, outside_of}
 use Rattle.run_core.specs.StepAnswers.{AsksInput, GivesOutput}
 use Rattle.cli_base.specs.Lines.{refused_line}
 use Rattle.cli_base.specs.Served.{IsServed}
@@ -30,6 +30,7 @@ module _ {V X C : Type 0} (machine : Loaded V X C) (limit : ℕ) (before after :
   pub record ComesOut (Takes : Taking) (ending : Ending C) : Type 0 where
     pub input : List ℕ
     pub input_is : before.input.left ≡ as_told before.input.left input
+    pub input_bytes : AreSomeBytes before.input.left input
     pub steps : ℕ
     pub trace : List Event
     pub rest : List ℕ
@@ -42,6 +43,7 @@ module _ {V X C : Type 0} (machine : Loaded V X C) (limit : ℕ) (before after :
   pub record FirstSteps (P : ℕ → List ℕ → State V X → Type 0) : Type 0 where
     pub input : List ℕ
     pub input_is : before.input.left ≡ as_told before.input.left input
+    pub input_bytes : AreSomeBytes before.input.left input
     pub steps : ℕ
     pub trace : List Event
     pub state : State V X
