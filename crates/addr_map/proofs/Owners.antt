@@ -75,7 +75,7 @@ by_new_parts spans outs lens inputs holders o l n few up disjoint count held =
     }
 
 -- tests of bytes
-has : (p : ℕ) (s : Span) → s.out ≤ p → p < s.out + s.len → has_byte p s ≡ true
+pub has : (p : ℕ) (s : Span) → s.out ≤ p → p < s.out + s.len → has_byte p s ≡ true
 has p s le lt = grind (arith, common_steps)
 
 has_bounds : (p : ℕ) (s : Span) → has_byte p s ≡ true → (s.out ≤ p) × (p < s.out + s.len)

@@ -15,7 +15,7 @@ use Rattle.block_layout.specs.Parts.{greatest}
 use Rattle.block_layout.specs.Walks.{AreBetween, IsHotBetween, AreHotBetween, IsUpTo, chain_heads}
 use Rattle.block_layout.specs.declared.hot_chains.HotChain.{HotChain}
 use Rattle.block_layout.proofs.Paths.{IsWithin, as_path, inside_path}
-use Rattle.addr_map.proofs.Orders.{AllPairs-permutation}
+use Rattle.rb_bytes.proofs.Permuted.{AllPairs-permutation}
 use Rattle.rb_bytes.proofs.Members.{Contains-nil}
 
 module _ {p : Links} {h : ℕ} {xs ys : List ℕ} (one : IsChain p h xs) (other : IsChain p h ys) where

@@ -16,7 +16,7 @@ use Rattle.rv_code.specs.layout.Blocks.{inst_address}
 use Rattle.block_layout.specs.EdgeCounts.{edge_count}
 use Rattle.block_layout.specs.EdgeLists.{AreCounted, HaveOtherEnds}
 use Rattle.block_layout.specs.declared.edge_counts.Edge.{Edge}
-use Rattle.addr_map.proofs.Orders.{AllPairs-permutation}
+use Rattle.rb_bytes.proofs.Permuted.{AllPairs-permutation}
 use Rattle.rb_bytes.proofs.Members.{Contains-nil}
 
 abbrev pub ends : Edge → ℕ × ℕ

@@ -10,7 +10,7 @@ use Rattle.std.proofs.lemmas.List.FromFn.{get_or-range_with_len, length-range_wi
 use Rattle.std.proofs.lemmas.List.Kept.{AllPairs-cons, AllPairs-filter}
 use Rattle.std.proofs.lemmas.List.Sorted.{IsPermutation-refl, IsPermutation-cons, IsPermutation-trans, IsPermutation-sym}
 use Rattle.std.proofs.lemmas.List.Sorted.{IsPermutation-remove, Contains-permutation}
-use Rattle.addr_map.proofs.Orders.{AllPairs-permutation}
+use Rattle.rb_bytes.proofs.Permuted.{AllPairs-permutation}
 
 abbrev pub Distinct : List ℕ → Type 0
 Distinct xs = AllPairs (λ a b. a ≢ b) xs

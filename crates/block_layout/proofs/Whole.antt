@@ -3,7 +3,7 @@ use Rattle.std.proofs.Common.{◌≡◌, ◌<◌, ◌≤◌, ◌∙◌, ℕ, zer
 use Rattle.std.proofs.Common.{arith, refl, ap, sym, subst, ⊎_elim, All, Contains}
 use Rattle.std.specs.Prelude.{◌==◌, ◌&&◌, IsSomeAnd, slice_get, slice_index, Any}
 use Rattle.std.specs.Option.{option_map_or}
-use Rattle.std.proofs.lemmas.Bool.{cases_lt, eq-eqb, eqb-true, lt-ltb, ltb-true}
+use Rattle.std.proofs.lemmas.Bool.{cases_lt, eq-eqb, eqb-true, lt-ltb, ltb-true, and_parts}
 use Rattle.std.proofs.lemmas.List.{get_or-map, get_or_past, length-map}
 use Rattle.std.proofs.lemmas.List.Elements.{Contains-get_or, All-contains}
 use Rattle.std.proofs.lemmas.List.Folds.{Any-from_list_any, list_any_at}
@@ -16,7 +16,6 @@ use Rattle.rv_code.specs.layout.FunctionMembers.{IsOfFunction}
 use Rattle.rv_code.specs.layout.BlockOrders.{list_of}
 use Rattle.edge_profile.specs.PairCounts.{Counted}
 use Rattle.edge_profile.specs.Weights.{block_weight, is_hot_block, is_hot_function}
-use Rattle.edge_profile.proofs.Merging.{both_is}
 use Rattle.block_layout.specs.EdgeLists.{IsWithin, IsInner, AreCounted}
 use Rattle.block_layout.specs.HotAndCold.{AreSplitTo}
 use Rattle.block_layout.specs.FirstLinks.{IsLinked, ends_of_edge}
@@ -117,7 +116,7 @@ module _ (pairs : List Counted) (funcs : List Func) (blocks : List Block) where
       hot : (f : ℕ) → f < length funcs → Any (λ b. (b.func == f && is_hot_block pairs funcs b) ≡ true) blocks →
           IsHotPart blocks (weight_at pairs funcs blocks) p f (list_of parts.hot.items f)
       hot f within (k, b, inside, at, is) =
-          let both = both_is (b.func == f) (is_hot_block pairs funcs b) is in
+          let both = and_parts (b.func == f) (is_hot_block pairs funcs b) is in
           let own : b.func ≡ f = eqb-true b.func f both.0 in
           let heavy : 0 < block_weight pairs funcs b = ltb-true 0 (block_weight pairs funcs b) both.1 in
           let weight : weight_at pairs funcs blocks k ≡ block_weight pairs funcs b =

@@ -5,10 +5,10 @@ use Rattle.std.proofs.lemmas.List.Elements.{All-map}
 use Rattle.std.proofs.lemmas.Bool.{cases_lt}
 use Rattle.rv_code.specs.declared.cell.CodeCell.{CodeCell}
 use Rattle.rv_code.specs.layout.ProgramCode.{ProgramCode}
-use Rattle.elf_image.specs.code.Cells.{CanBeCell, Content, Counts, Field, IsCell, counts, gives_way}
+use Rattle.elf_code.specs.Cells.{CanBeCell, Content, Counts, Field, IsCell, counts, gives_way}
 use Rattle.elf_image.specs.declared.elf.Elf.{Elf}
 use Rattle.move_law.specs.Laws.{IsAcceptedCode}
-use Rattle.move_law.proofs.Lists.{all_of, pairs_in, pairs_map}
+use Rattle.rb_bytes.proofs.ListLemmas.{all_of, pairs_in, pairs_map}
 use Rattle.move_law.proofs.code.CellWidths.{can_of, field_width}
 use Rattle.code_emit.specs.Output.{new_cell}
 use Rattle.elf_write.specs.WrittenFile.{CanHold}

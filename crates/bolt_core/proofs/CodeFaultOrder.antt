@@ -8,10 +8,10 @@ use Rattle.rb_bytes.specs.declared.fault.FaultKind.TheVariants.{AlreadyMoved, Ba
 use Rattle.rb_bytes.specs.declared.fault.Refusal.{Refusal}
 use Rattle.rb_bytes.specs.declared.fault.Refusal.TheVariants as refusal
 use Rattle.elf_image.specs.declared.elf.Elf.{Elf}
-use Rattle.elf_image.specs.faults.CodeFaults.{HasCodeFault}
-use Rattle.elf_image.specs.faults.FirstFault.{IsAnswered, IsFree, IsRefusalBy}
-use Rattle.elf_image.specs.faults.FunctionFaults.{HasFunctionFault}
-use Rattle.elf_image.specs.faults.ReferenceFaults.{HasReferenceFault}
+use Rattle.elf_code.specs.CodeFaults.{HasCodeFault}
+use Rattle.rb_bytes.specs.FirstFault.{IsAnswered, IsFree, IsRefusalBy}
+use Rattle.elf_code.specs.FunctionFaults.{HasFunctionFault}
+use Rattle.elf_code.specs.ReferenceFaults.{HasReferenceFault}
 
 module _ (elf : Elf) (tabled : List (ℕ × ℕ)) where
   of_references : (kind : FaultKind) (place : ℕ) → HasReferenceFault elf tabled kind place → number_of kind ≤ 14

@@ -10,13 +10,13 @@ use Rattle.rv_code.specs.isa.Action.{action_of}
 use Rattle.rv_code.specs.isa.HalfRows as rows
 use Rattle.rv_code.specs.layout.Flow.{action_at, insts_of, is_call, target, target_of, is_short}
 use Rattle.rv_code.specs.layout.ProgramCode.{ProgramCode, is_code_address}
-use Rattle.elf_image.specs.code.Functions.{AreInsts, IsCodeAddress}
-use Rattle.elf_image.specs.code.Parts.{IsInstAt, IsWholePart, StartsIn, after, at_start, halfword_at, length_at}
+use Rattle.elf_code.specs.Functions.{AreInsts, IsCodeAddress}
+use Rattle.elf_code.specs.Parts.{IsInstAt, IsWholePart, StartsIn, after, at_start, halfword_at, length_at}
 use Rattle.elf_image.specs.declared.elf.Elf.{Elf}
-use Rattle.elf_image.specs.faults.FunctionFaults.{direct}
+use Rattle.elf_code.specs.FunctionFaults.{direct}
 use Rattle.rb_bytes.proofs.Members.{Contains-cons_cases}
 use Rattle.move_law.specs.Laws.{IsAcceptedCode}
-use Rattle.move_law.proofs.Lists.{all_of}
+use Rattle.rb_bytes.proofs.ListLemmas.{all_of}
 use Rattle.move_law.proofs.code.InstLists.{function_code, inst_at, length_of}
 use Rattle.move_law.proofs.code.InstPlaces.{lies, some_length}
 use Rattle.branch_fixup.specs.Inputs.{AreDirect, KeepsShort, LeadsToCode, StaysIn}

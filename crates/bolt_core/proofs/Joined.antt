@@ -8,16 +8,18 @@ use Rattle.rv_code.specs.layout.Flow.{insts_of}
 use Rattle.rv_code.specs.layout.ProgramCode.{ProgramCode}
 use Rattle.elf_image.specs.declared.elf.Elf.{Elf}
 use Rattle.elf_image.specs.declared.segment.TheConstants.{PF_R, PF_W, PF_X}
-use Rattle.elf_image.specs.memory.LoadedBytes.{byte_at, is_in_range, number_in}
+use Rattle.elf_image.specs.memory.LoadedBytes.{byte_at, is_in_range}
+use Rattle.rv_code.specs.machine.MemoryNumbers.{number_in}
 use Rattle.addr_map.specs.declared.span.Span.{Span}
 use Rattle.addr_map.specs.Spans.{new}
-use Rattle.sym_machine.specs.HiddenFields.{is_hidden_field}
+use Rattle.elf_image.specs.memory.HiddenFields.{is_hidden_field, is_in_entry_field}
 use Rattle.sym_machine.specs.SymStart.{code_cell_range}
-use Rattle.move_law.specs.FaithfulRewrite.{GoesOn, IsFaithful, IsMapOf, KeepsByte, KeepsCell, KeepsInst, is_in_entry_field}
-use Rattle.move_law.specs.Rewrite.{AreCodeBytes, Goes, Rewrite, executable_of, memory_of}
-use Rattle.move_law.proofs.Lists.{all_of, in_map}
+use Rattle.move_law.specs.FaithfulRewrite.{GoesOn, IsFaithful, IsMapOf, KeepsByte, KeepsCell, KeepsInst}
+use Rattle.move_law.specs.Rewrite.{Goes, Rewrite}
+use Rattle.elf_image.specs.memory.Executables.{AreCodeBytes, executable_of, memory_of}
+use Rattle.rb_bytes.proofs.ListLemmas.{all_of, in_map}
 use Rattle.code_emit.specs.Output.{Puts, new_cell}
-use Rattle.code_emit.proofs.CellNumbers.{cell_number_is}
+use Rattle.bolt_core.proofs.CellNumbers.{cell_number_is}
 use Rattle.elf_write.specs.Area.{area_start_of}
 use Rattle.elf_write.specs.Source.{Source, cell_range}
 use Rattle.elf_write.specs.WrittenFile.{IsWritten}

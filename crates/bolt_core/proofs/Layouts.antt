@@ -9,7 +9,7 @@ use Rattle.rv_code.specs.declared.cell.CodeCell.{CodeCell}
 use Rattle.rv_code.specs.declared.layout.Chains.{Chains}
 use Rattle.rv_code.specs.layout.FunctionLists.{AreLaidOut}
 use Rattle.rv_code.specs.layout.FunctionMembers.{IsOfFunction}
-use Rattle.elf_image.specs.faults.FirstFault.{IsFree, IsRefusalBy}
+use Rattle.rb_bytes.specs.FirstFault.{IsFree, IsRefusalBy}
 use Rattle.elf_image.specs.faults.LowestPlace.{IsLowest}
 use Rattle.edge_profile.specs.BlockPlaces.{AreBlocksApart}
 use Rattle.edge_profile.specs.PairCounts.{Counted}

@@ -1,4 +1,5 @@
 pub mod CellFields
+pub mod CellNumbers
 pub mod CodeFaultOrder
 pub mod CodeSizes
 pub mod Direct

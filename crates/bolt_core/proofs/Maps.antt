@@ -9,7 +9,8 @@ use Rattle.std.proofs.lemmas.List.Sums.{sum_by-cons}
 use Rattle.addr_map.specs.declared.span.Span.{Span}
 use Rattle.addr_map.specs.MapText.{AreInLineOrder}
 use Rattle.addr_map.specs.Spans.{IsMap, IsPlaced, IsStretch, ShareNoByte, has_byte, is_new_code}
-use Rattle.addr_map.proofs.Orders.{AllPairs-permutation, disjoint_flip}
+use Rattle.addr_map.proofs.Orders.{disjoint_flip}
+use Rattle.rb_bytes.proofs.Permuted.{AllPairs-permutation}
 use Rattle.branch_fixup.specs.Pieces.{Piece, end_from, laid_from, length_of}
 
 any_permuted : {X : Type 0} (P : X → Type 0) (xs ys : List X) → IsPermutation xs ys → Any P xs → Any P ys

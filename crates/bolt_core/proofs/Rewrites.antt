@@ -7,10 +7,10 @@ use Rattle.rv_code.specs.declared.placed.Block.{Block}
 use Rattle.rv_code.specs.declared.placed.Func.{Func}
 use Rattle.rv_code.specs.layout.Blocks.{AreBlocks}
 use Rattle.elf_image.specs.declared.elf.Elf.{Elf}
-use Rattle.elf_image.specs.code.Functions.{AreFunctions}
-use Rattle.elf_image.specs.faults.CodeFaults.{HasCodeFault}
+use Rattle.elf_code.specs.Functions.{AreFunctions}
+use Rattle.elf_code.specs.CodeFaults.{HasCodeFault}
 use Rattle.elf_image.specs.faults.FileFaults.{IsSound}
-use Rattle.elf_image.specs.faults.FirstFault.{IsRefusalBy}
+use Rattle.rb_bytes.specs.FirstFault.{IsRefusalBy}
 use Rattle.elf_image.specs.file.ParsedFile.{IsElfOf}
 use Rattle.addr_map.specs.declared.span.Span.{Span}
 use Rattle.move_law.specs.FaithfulRewrite.{IsFaithful}

@@ -14,7 +14,7 @@ use Rattle.elf_image.specs.declared.segment.TheConstants.{PT_GNU_EH_FRAME}
 use Rattle.elf_image.specs.file.Header.{segment, segments_of}
 use Rattle.elf_image.specs.file.ParsedFile.{IsElfOf, IsSectionAt}
 use Rattle.elf_image.specs.file.SectionNames.{is_called, is_meant_by, section_called}
-use Rattle.elf_image.proofs.LoadLemmas.{find-found}
+use Rattle.rb_bytes.proofs.Searches.{find-found}
 use Rattle.elf_image.proofs.ReadLists.{get_or-segments, length-segments_of}
 use Rattle.bolt_core.specs.Tables.{HasTables, IsIndexHeader, IsTableSection, is_table_name}
 use Rattle.bolt_core.specs.internal.ReadTables.{is_index_header, is_table_section}

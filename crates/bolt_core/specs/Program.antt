@@ -3,11 +3,11 @@ use Rattle.std.specs.Prelude.{◌*◌, ◌^◌, ◌≤◌, ℕ, List, [], length
 use Rattle.rv_code.specs.declared.placed.Block.{Block}
 use Rattle.rv_code.specs.layout.Blocks.{AreBlocks}
 use Rattle.rv_code.specs.layout.ProgramCode.{ProgramCode}
-use Rattle.elf_image.specs.code.FileCode.{IsCodeOf}
+use Rattle.elf_code.specs.FileCode.{IsCodeOf}
 use Rattle.elf_image.specs.declared.elf.Elf.{Elf}
-use Rattle.elf_image.specs.faults.CodeFaults.{HasCodeFault}
+use Rattle.elf_code.specs.CodeFaults.{HasCodeFault}
 use Rattle.elf_image.specs.faults.FileFaults.{IsSound}
-use Rattle.elf_image.specs.faults.FirstFault.{IsFree}
+use Rattle.rb_bytes.specs.FirstFault.{IsFree}
 use Rattle.elf_image.specs.file.ParsedFile.{IsElfOf}
 use Rattle.bolt_core.specs.Tables.{HasTables}
 

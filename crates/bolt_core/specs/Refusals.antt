@@ -8,9 +8,9 @@ use Rattle.rb_bytes.specs.declared.fault.Refusal.{Refusal}
 use Rattle.rb_bytes.specs.declared.fault.Refusal.TheVariants as refusal
 use Rattle.rv_code.specs.declared.layout.Chains.{Chains}
 use Rattle.elf_image.specs.declared.elf.Elf.{Elf}
-use Rattle.elf_image.specs.faults.CodeFaults.{HasCodeFault}
+use Rattle.elf_code.specs.CodeFaults.{HasCodeFault}
 use Rattle.elf_image.specs.faults.FileFaults.{IsFirstFault, IsSound}
-use Rattle.elf_image.specs.faults.FirstFault.{IsAnswered, IsFree}
+use Rattle.rb_bytes.specs.FirstFault.{IsAnswered, IsFree}
 use Rattle.elf_image.specs.faults.LowestPlace.{IsLowest}
 use Rattle.elf_image.specs.file.ParsedFile.{IsElfOf}
 use Rattle.edge_profile.specs.PairCounts.{Counted}

@@ -8,7 +8,7 @@ use Rattle.rv_code.specs.machine.Machine.{Event}
 use Rattle.elf_image.specs.faults.FileFaults.{IsSound}
 use Rattle.elf_image.specs.file.Header.{segments_of}
 use Rattle.elf_image.specs.memory.CodeSegment.{executable_segment}
-use Rattle.elf_image.specs.memory.Start.{Runs, RunsSoFar}
+use Rattle.rv_memory.specs.Start.{Runs, RunsSoFar}
 use Rattle.addr_map.specs.declared.span.Span.{Span}
 use Rattle.addr_map.specs.MapText.{AreInLineOrder}
 use Rattle.addr_map.specs.Spans.{IsStretch, new}
@@ -16,7 +16,8 @@ use Rattle.sym_machine.specs.SymStart.{SymRuns, SymRunsSoFar}
 use Rattle.edge_profile.specs.PairCounts.{Counted, ignored_in}
 use Rattle.move_law.specs.FaithfulRewrite.{IsFaithful}
 use Rattle.move_law.specs.Laws.{FitStack}
-use Rattle.move_law.specs.Rewrite.{Rewrite, executable_of, program}
+use Rattle.move_law.specs.Rewrite.{Rewrite, program}
+use Rattle.elf_image.specs.memory.Executables.{executable_of}
 use Rattle.branch_fixup.specs.Forms.{AreForms}
 use Rattle.branch_fixup.specs.Strips.{pieces_of, spans_of, strips_of}
 use Rattle.code_emit.specs.Bytes.{Adds}

@@ -1,8 +1,8 @@
 // The code of a file, and what is wrong in it.
 ghost use Rattle.std.specs.Prelude.{IfOk, IfErr};
-ghost use Rattle.elf_image.specs.faults.CodeFaults.{HasCodeFault};
+ghost use Rattle.elf_code.specs.CodeFaults.{HasCodeFault};
 ghost use Rattle.elf_image.specs.faults.FileFaults.{IsSound};
-ghost use Rattle.elf_image.specs.faults.FirstFault.{IsRefusalBy};
+ghost use Rattle.rb_bytes.specs.FirstFault.{IsRefusalBy};
 ghost use Rattle.elf_image.specs.file.ParsedFile.{IsElfOf};
 ghost use Rattle.bolt_core.specs.Program.{tabled};
 ghost use Rattle.bolt_core.specs.internal.ReadCode.{IsReadCode};

@@ -2,7 +2,7 @@
 use Rattle.std.proofs.Common.{◌≡◌, ℕ, zero, suc, ◌+◌, ◌<◌, ◌≤◌, List, [], ◌∷◌, ◌++◌, length, map, take, Some, refl, sym, ap, ◌∙◌}
 use Rattle.std.proofs.Common.{arith, get_or, add-one, append_assoc, pos}
 use Rattle.std.specs.Prelude.{slice_get}
-use Rattle.std.proofs.lemmas.Option.{slice_get-get_or}
+use Rattle.std.proofs.lemmas.Option.{slice_get-get_or, same_Some}
 use Rattle.rv_code.specs.declared.layout.Form.{Form}
 use Rattle.rv_code.specs.declared.layout.Form.TheVariants as form
 use Rattle.rv_code.specs.declared.placed.Placed.{Placed}
@@ -11,7 +11,7 @@ use Rattle.rv_code.specs.declared.inst.Inst.TheVariants.{Lui}
 use Rattle.addr_map.specs.declared.span.Span.{Span}
 use Rattle.branch_fixup.specs.Pieces.{Piece, as_it_is, length_of, laid_from, end_from}
 use Rattle.branch_fixup.specs.Strips.{Strip, pieces_of, pieces_of_strip}
-use Rattle.branch_fixup.proofs.Lists.{take_one_more, some_is}
+use Rattle.branch_fixup.proofs.Lists.{take_one_more}
 use Rattle.branch_fixup.proofs.Laid.{end_above}
 
 -- what a read past the end gives
@@ -114,7 +114,7 @@ pieces_more ss fs k s at within =
     more [] fs k s at within = absurd (cc)
     more (x ∷ ss) [] k s at within = absurd (omega (arith, within))
     more (x ∷ ss) (f ∷ fs) zero s at within = sym (none (pieces_of_strip x f))
-        ∙ ap (λ (y : Strip). pieces_of_strip y f) (some_is x s at)
+        ∙ ap (λ (y : Strip). pieces_of_strip y f) (same_Some x s at)
     more (x ∷ ss) (f ∷ fs) (suc k) s at within =
         ap (λ (l : List Piece). pieces_of_strip x f ++ l) (more ss fs k s at (omega (arith, within)))
         ∙ sym (append_assoc (pieces_of_strip x f) (pieces_of (take k ss) (take k fs))

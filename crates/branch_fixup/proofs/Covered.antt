@@ -3,12 +3,12 @@ use Rattle.std.proofs.Common.{◌≡◌, ℕ, zero, suc, ◌+◌, ◌-◌, ◌<�
 use Rattle.std.proofs.Common.{sym, ap, ◌∙◌, subst, arith, inl, inr, ◌⊎◌}
 use Rattle.std.specs.Prelude.{slice_get, slice_index_or, IsSomeAnd, ◌==◌, ◌&&◌, nat_le}
 use Rattle.std.proofs.lemmas.Bool.{cases_lt, eq-eqb, eqb-true, and_parts, and_from, leb-true, le-leb}
-use Rattle.std.proofs.lemmas.Option.{slice_get_within, get_or_from_slice_get}
+use Rattle.std.proofs.lemmas.Option.{slice_get_within, get_or_from_slice_get, same_Some}
 use Rattle.rv_code.specs.declared.placed.Func.{Func}
 use Rattle.rv_code.specs.declared.placed.Block.{Block}
 use Rattle.rv_code.specs.layout.ProgramCode.{ProgramCode}
 use Rattle.rv_code.specs.layout.Blocks.{Begins, at_start, IsBlockOf, IsBlock, IsBefore, AreBlocks}
-use Rattle.branch_fixup.proofs.Lists.{contains_at, look, some_is}
+use Rattle.branch_fixup.proofs.Lists.{contains_at, look}
 use Rattle.rv_code.proofs.lists.Follows.{at_contains}
 
 -- a block of a list, with its function
@@ -123,7 +123,7 @@ apart_in : (code : ProgramCode) (b c : Block) (x : BlockOf code b) (y : BlockOf 
 apart_in code b c x y e less = elim (cases_lt b.last c.first) [
   | inl fine ↦ fine
   | inr not_less ↦
-      let same : y.func ≡ x.func = some_is y.func x.func (sym y.at ∙ ap (slice_get code.funcs) (sym e) ∙ x.at) in
+      let same : y.func ≡ x.func = same_Some y.func x.func (sym y.at ∙ ap (slice_get code.funcs) (sym e) ∙ x.at) in
       absurd (x.is.no_other c.first less not_less (subst (λ (z : Func). Begins code z c.first) same y.is.begins))
 ]
 

@@ -5,7 +5,7 @@ use Rattle.std.specs.Prelude.{slice_get, ◌==◌, not, if◌then◌else◌}
 use Rattle.std.specs.Option.{option_map_or}
 use Rattle.std.proofs.lemmas.Bool.{cases_order, eqb-true, eq-eqb}
 use Rattle.std.proofs.lemmas.List.Elements.{All-contains}
-use Rattle.std.proofs.lemmas.Option.{slice_get_within}
+use Rattle.std.proofs.lemmas.Option.{slice_get_within, same_Some}
 use Rattle.rv_code.specs.declared.placed.Placed.{Placed}
 use Rattle.rv_code.specs.declared.placed.Func.{Func}
 use Rattle.rv_code.specs.layout.ProgramCode.{is_code_address}
@@ -15,12 +15,9 @@ use Rattle.branch_fixup.specs.BlockInsts.{func_starts_at}
 use Rattle.branch_fixup.specs.Endings.{fall_of}
 use Rattle.rv_code.proofs.lists.Follows.{follow_at, follow_next, follow_last, laid_func, inst_length, some_length}
 use Rattle.rv_code.proofs.lists.Follows.{funcs_apart, at_contains}
-use Rattle.branch_fixup.proofs.Lists.{contains_at, there, at_flat, flat_at, find_found, found_find, some_is}
-
-pub bool_same : (a b : Bool) → (a ≡ true → b ≡ true) → (b ≡ true → a ≡ true) → a ≡ b
-bool_same true b h k = sym (h refl)
-bool_same false true h k = k refl
-bool_same false false h k = refl
+use Rattle.branch_fixup.proofs.Lists.{contains_at, at_flat, flat_at, find_found, found_find}
+use Rattle.rb_bytes.proofs.Tests.{bool_same}
+use Rattle.rb_bytes.proofs.ListLemmas.{slice_get_found}
 
 -- An instruction of a function, by its places.
 pub record CodeAt (funcs : List Func) (a : ℕ) : Type 0 where
@@ -51,7 +48,7 @@ pub code_next : (funcs : List Func) (f i : ℕ) (func : Func) (p : Placed) → A
     slice_get funcs f ≡ Some func → slice_get func.insts.items i ≡ Some p → suc i < length func.insts.items →
     is_code_address funcs (p.addr + p.len) ≡ true
 code_next funcs f i func p laid at_f at_i less =
-    let (q, at_q) = there func.insts.items (suc i) less in
+    let (q, at_q) = slice_get_found func.insts.items (suc i) less in
     let l = laid_func funcs f func laid at_f in
     let e = follow_next func.start func.insts.items func.end i p q l.follow at_i at_q in
     subst (λ (a : ℕ). is_code_address funcs a ≡ true) e (code_there funcs f (suc i) func q at_f at_q)
@@ -102,19 +99,19 @@ code_end funcs f i func p laid at_f at_i last = bool_same (is_code_address funcs
         let addr = c.addr in
         elim (cases_order f c.f) [
           | inl same ↦
-              let fo : func ≡ c.func = some_is func c.func (sym at_f ∙ ap (slice_get funcs) same ∙ c.at_func) in
+              let fo : func ≡ c.func = same_Some func c.func (sym at_f ∙ ap (slice_get funcs) same ∙ c.at_func) in
               let e : func.end ≡ c.func.end = ap (λ (z : Func). z.end) fo in
               absurd (omega (arith, end, e, addr, x1, len))
           | inr apart ↦ elim apart [
             | inl less ↦
-                let (g, at_g) = there funcs (f + 1) (let w = slice_get_within funcs c.f c.func c.at_func in
+                let (g, at_g) = slice_get_found funcs (f + 1) (let w = slice_get_within funcs c.f c.func c.at_func in
                 omega (arith, less, w)) in
                 let lg = laid_func funcs (f + 1) g laid at_g in
                 let bytes = lg.has_bytes in
                 let d = funcs_apart funcs f (f + 1) func g laid at_f at_g (omega arith) in
                 starts_there funcs (f + 1) (p.addr + p.len) g at_g (elim (cases_order (f + 1) c.f) [
                   | inl here ↦
-                      let fo : g ≡ c.func = some_is g c.func (sym at_g ∙ ap (slice_get funcs) here ∙ c.at_func) in
+                      let fo : g ≡ c.func = same_Some g c.func (sym at_g ∙ ap (slice_get funcs) here ∙ c.at_func) in
                       let e : g.start ≡ c.func.start = ap (λ (z : Func). z.start) fo in
                       omega (arith, end, e, addr, x0, d)
                   | inr far ↦ elim far [

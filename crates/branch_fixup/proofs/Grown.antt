@@ -4,14 +4,11 @@ use Rattle.std.proofs.Common.{sym, ◌∙◌, subst, arith, inl, inr}
 use Rattle.std.specs.Prelude.{nat_lt, nat_le}
 use Rattle.std.specs.Option.{option_map_or}
 use Rattle.std.proofs.lemmas.Bool.{and_parts, and_from, leb-true, ltb-true, le-leb, lt-ltb, cases_lt, cases_order}
+use Rattle.std.proofs.lemmas.Bool.{false_from_ne_true}
 use Rattle.rv_code.specs.declared.layout.Form.{Form}
 use Rattle.branch_fixup.specs.declared.growth.BlockEnd.{BlockEnd}
 use Rattle.branch_fixup.specs.Distances.{reaches}
 use Rattle.branch_fixup.specs.Growth.{end_at, block_length, from_at, to_at, form_reach, is_enough, AreBlockEnds, block_offset}
-
-pub not_true : (b : Bool) → (b ≡ true → ⊥) → b ≡ false
-not_true true h = absurd (h refl)
-not_true false h = refl
 
 pub no : (b : Bool) → b ≡ false → b ≡ true → ⊥
 no b h k = let e : false ≡ true = sym h ∙ k in cc
@@ -26,12 +23,12 @@ pub data IsFarther (f t g u : ℕ) : Type 0 where
 
 pub short_more : (reach f t g u : ℕ) → IsFarther f t g u → reaches reach f t ≡ false → reaches reach g u ≡ false
 short_more reach f t g u (ahead a b c) h =
-    not_true (reaches reach g u) (λ k.
+    false_from_ne_true (reaches reach g u) (λ k.
     let p = and_parts (nat_lt u (g + reach)) (nat_le g (u + reach)) k in
     let x = ltb-true u (g + reach) p.0 in
     no (reaches reach f t) h (reach_if reach f t (omega (arith, a, b, c, x)) (omega (arith, a))))
 short_more reach f t g u (back a b c) h =
-    not_true (reaches reach g u) (λ k.
+    false_from_ne_true (reaches reach g u) (λ k.
     let p = and_parts (nat_lt u (g + reach)) (nat_le g (u + reach)) k in
     let x = leb-true g (u + reach) p.1 in
     let y = ltb-true u (g + reach) p.0 in

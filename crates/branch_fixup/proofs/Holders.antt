@@ -6,6 +6,7 @@ use Rattle.std.specs.Option.{option_map_or}
 use Rattle.std.proofs.lemmas.List.{length-map}
 use Rattle.std.proofs.lemmas.List.Elements.{Contains-push}
 use Rattle.std.proofs.lemmas.Option.{slice_get_within, get_or_from_slice_get, slice_get-get_or, slice_get-map, slice_get_past}
+use Rattle.std.proofs.lemmas.Option.{same_Some}
 use Rattle.rv_code.specs.declared.placed.Placed.{Placed}
 use Rattle.rv_code.specs.declared.placed.Func.{Func}
 use Rattle.rv_code.specs.declared.placed.Block.{Block}
@@ -20,10 +21,10 @@ use Rattle.branch_fixup.specs.Strips.{Strip, strip_of, strips_of, insts_in, firs
 use Rattle.branch_fixup.proofs.Covered.{block_of, covers, blocks_apart}
 use Rattle.branch_fixup.proofs.Falls.{code_at}
 use Rattle.rv_code.proofs.lists.Follows.{follow_at, follow_up, laid_func, some_length, funcs_apart}
-use Rattle.branch_fixup.proofs.Lists.{there, some_is}
 use Rattle.branch_fixup.proofs.Orders.{order_within, order_has}
 use Rattle.branch_fixup.proofs.Planned.{StripOf, strip_for, in_block, block_in_insts, Planned, planned_length, planned_at}
 use Rattle.branch_fixup.proofs.Planned.{strip_length}
+use Rattle.rb_bytes.proofs.ListLemmas.{slice_get_found}
 
 pub first_there : (inner : List Placed) (last : Placed) → (p : Placed) × Contains (inner ++ last ∷ []) p ×
     (p.addr ≡ first_in inner last)
@@ -50,7 +51,7 @@ blocks_up code blocks m n b c s t laid are x y at_m at_n less p q has_p has_q =
           let v = (follow_at y.func.start y.func.insts.items y.func.end j.i q ly.follow j.at).0 in
           omega (arith, d, u, v)
       | inr in_one ↦
-          let same : y.func ≡ x.func = some_is y.func x.func (sym y.at ∙ ap (slice_get code.funcs) (sym in_one.0) ∙ x.at) in
+          let same : y.func ≡ x.func = same_Some y.func x.func (sym y.at ∙ ap (slice_get code.funcs) (sym in_one.0) ∙ x.at) in
           let apart = in_one.1 in
           let high = i.high in
           let low = j.low in
@@ -65,7 +66,7 @@ first_inst [] i n last at = absurd (nothing last at)
   where
     nothing : (p : Placed) → None ≡ Some p → ⊥
     nothing p h = cc
-first_inst (p ∷ ps) zero zero last at = ap (λ (q : Placed). q.addr) (some_is p last at)
+first_inst (p ∷ ps) zero zero last at = ap (λ (q : Placed). q.addr) (same_Some p last at)
 first_inst (p ∷ ps) zero (suc n) last at = refl
 first_inst (p ∷ ps) (suc i) n last at =
     let next : suc i + n ≡ suc (i + n) = omega arith in
@@ -98,8 +99,8 @@ module _ (code : ProgramCode) (blocks : List Block) (laid : AreLaidOut code.func
   pub starts_up : AllPairs (λ a b. a < b) starts
   starts_up m n d less within =
       let len = starts_length in
-      let (b, at_m) = there blocks m (omega (arith, less, within, len)) in
-      let (c, at_n) = there blocks n (omega (arith, within, len)) in
+      let (b, at_m) = slice_get_found blocks m (omega (arith, less, within, len)) in
+      let (c, at_n) = slice_get_found blocks n (omega (arith, within, len)) in
       let (s, x) = strip_for code b (block_of code blocks m b are at_m) in
       let (t, y) = strip_for code c (block_of code blocks n c are at_n) in
       let (p, has_p, first_p) = first_there s.inner s.last in
@@ -122,7 +123,7 @@ module _ (code : ProgramCode) (blocks : List Block) (laid : AreLaidOut code.func
       below : (k : ℕ) → m < k → k < length starts → p.addr < slice_index starts k
       below k less inside =
           let len = starts_length in
-          let (c, at_c) = there blocks k (omega (arith, inside, len)) in
+          let (c, at_c) = slice_get_found blocks k (omega (arith, inside, len)) in
           let (t, y) = strip_for code c (block_of code blocks k c are at_c) in
           let (q, has_q, first_q) = first_there t.inner t.last in
           let u = blocks_up code blocks m k b c s t laid are x y at at_c less p q has_p has_q in
@@ -150,9 +151,9 @@ module _ (code : ProgramCode) (blocks : List Block) (laid : AreLaidOut code.func
         let v = covers code blocks are c.f c.i c.func c.at_func (slice_get_within c.func.insts.items c.i c.p c.at_inst) in
         let (j, place) = order_has blocks order perm v.m (slice_get_within blocks v.m v.b v.at) in
         let (s, at, plan) = planned_at code blocks are order perm j v.m place in
-        let same_m : plan.m ≡ v.m = some_is plan.m v.m (sym plan.place ∙ place) in
-        let same_b : plan.b ≡ v.b = some_is plan.b v.b (sym plan.block ∙ ap (slice_get blocks) same_m ∙ v.at) in
-        let same_f : plan.of.func ≡ c.func = some_is plan.of.func c.func
+        let same_m : plan.m ≡ v.m = same_Some plan.m v.m (sym plan.place ∙ place) in
+        let same_b : plan.b ≡ v.b = same_Some plan.b v.b (sym plan.block ∙ ap (slice_get blocks) same_m ∙ v.at) in
+        let same_f : plan.of.func ≡ c.func = same_Some plan.of.func c.func
         (sym plan.of.at ∙ ap (λ (z : Block). slice_get code.funcs z.func) same_b ∙ ap (slice_get code.funcs) v.func
         ∙ c.at_func) in
         let first : plan.b.first ≡ v.b.first = ap (λ (z : Block). z.first) same_b in
@@ -177,7 +178,7 @@ pub planned_read : (funcs : List Func) (blocks : List Block) (order : List ℕ) 
 planned_read funcs blocks order are perm k d within =
     let code : ProgramCode = program_code funcs are.roles are.cells are.entry in
     let (s, at, plan) = planned_at code blocks are.are order perm k (get_or order k 0) (slice_get-get_or order k 0 within) in
-    let same_m : plan.m ≡ get_or order k 0 = some_is plan.m (get_or order k 0)
+    let same_m : plan.m ≡ get_or order k 0 = same_Some plan.m (get_or order k 0)
     (sym plan.place ∙ slice_get-get_or order k 0 within) in
     let block : get_or blocks (get_or order k 0) d ≡ plan.b = ap (λ (m : ℕ). get_or blocks m d) (sym same_m)
     ∙ get_or_from_slice_get blocks plan.m plan.b d plan.block in

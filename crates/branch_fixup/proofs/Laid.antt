@@ -2,12 +2,13 @@
 use Rattle.std.proofs.Common.{◌≡◌, ◌≢◌, ℕ, suc, ◌+◌, ◌%◌, ◌<◌, ◌≤◌, List, [], ◌∷◌, true, false, refl, sym, ap, arith, inl, inr}
 use Rattle.std.proofs.Common.{All}
 use Rattle.std.specs.Prelude.{◌==◌, nat_le, nat_lt, Any, Contains, AllPairs}
-use Rattle.std.proofs.lemmas.Bool.{ne_eqb, eq-eqb, and_parts, and_from, leb-true, ltb-true, le-leb, lt-ltb, cases_lt}
+use Rattle.std.proofs.lemmas.Bool.{ne_eqb, eq-eqb, and_parts, leb-true, ltb-true, cases_lt}
 use Rattle.std.proofs.lemmas.List.Elements.{All-cons, All-nil, All-weaker}
 use Rattle.std.proofs.lemmas.List.Kept.{AllPairs-cons}
 use Rattle.rb_bytes.proofs.Members.{Contains-cons_cases}
 use Rattle.addr_map.specs.declared.span.Span.{Span}
 use Rattle.addr_map.specs.Spans.{has_byte, new, IsPlaced, ShareNoByte}
+use Rattle.addr_map.proofs.Owners.{has}
 use Rattle.branch_fixup.specs.Pieces.{Piece, PlacedFrom, length_of, laid_from, end_from}
 
 -- pieces of which each has an instruction of its own
@@ -117,9 +118,6 @@ pub end_above : (a : ℕ) (ps : List Piece) → a ≤ end_from a ps
 end_above a [] = omega arith
 end_above a (p ∷ ps) = let h = end_above (a + length_of p) ps in omega (arith, h)
 
-in_first : (x : ℕ) (s : Span) → s.out ≤ x → x < s.out + s.len → has_byte x s ≡ true
-in_first x s h k = and_from (nat_le s.out x) (nat_lt x (s.out + s.len)) (le-leb s.out x h) (lt-ltb x (s.out + s.len) k)
-
 -- they fill one stretch
 pub stretch : (a : ℕ) (ps : List Piece) (x : ℕ) → a ≤ x → x < end_from a ps → Any (λ s. has_byte x s ≡ true) (laid_from a ps)
 stretch a [] x h k = absurd (omega (arith, h, k))
@@ -129,7 +127,7 @@ stretch a (p ∷ ps) x h k = elim (cases_lt x (a + length_of p)) [
     record { out = a; len = length_of p; input = p.placed.addr },
     omega arith,
     refl,
-    in_first x (record { out = a; len = length_of p; input = p.placed.addr }) h below,
+    has x (record { out = a; len = length_of p; input = p.placed.addr }) h below,
   )
   | inr above ↦ let (i, s, within, is, e) = stretch (a + length_of p) ps x above k in (suc i, s, omega (arith, within), is, e)
 ]

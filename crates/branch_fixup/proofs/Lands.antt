@@ -38,8 +38,8 @@ use Rattle.branch_fixup.proofs.Covered.{blocks_apart}
 use Rattle.rv_code.proofs.lists.Follows.{follow_at, funcs_apart, laid_func, some_length, at_contains}
 use Rattle.branch_fixup.proofs.Holders.{last_there}
 use Rattle.branch_fixup.proofs.Laid.{placed_from}
-use Rattle.branch_fixup.proofs.Lists.{there}
 use Rattle.rb_bytes.proofs.Members.{Contains-there}
+use Rattle.rb_bytes.proofs.ListLemmas.{slice_get_found}
 use Rattle.branch_fixup.proofs.Near.{Found, In, found, near_reach, shift_reach}
 use Rattle.branch_fixup.proofs.Orders.{order_once}
 use Rattle.branch_fixup.proofs.Placed.{AreStrips, are_strips, before_is, strip_place, strips_once, upto_last}
@@ -523,7 +523,7 @@ module _ (code : ProgramCode) (blocks : List Block) (order : List ℕ) (laid : A
       let e : k ≡ length ss = omega (arith, sum) in
       rw (drop_none k ss (omega (arith, e))) (tt, ap (λ (j : ℕ). base + block_offset ts fs j) e)
   lands_from (suc n) k sum =
-      let (s, at) = there ss k (omega (arith, sum)) in
+      let (s, at) = slice_get_found ss k (omega (arith, sum)) in
       let rest = lands_from n (suc k) (omega (arith, sum)) in
       let end = strip_end k s at in
       let rest_pieces : List Piece = pieces_of (drop (suc k) ss) (drop (suc k) fs) in

@@ -1,9 +1,9 @@
 -- Elements of lists, by their places.
-use Rattle.std.proofs.Common.{◌≡◌, ℕ, zero, suc, ◌+◌, ◌<◌, List, [], ◌∷◌, ◌++◌, length, Some, Bool, true, false, cond, refl, sym}
+use Rattle.std.proofs.Common.{◌≡◌, ℕ, zero, suc, ◌+◌, ◌<◌, List, [], ◌∷◌, ◌++◌, Some, Bool, true, false, cond, refl, sym}
 use Rattle.std.proofs.Common.{ap, ◌∙◌, subst, arith, inl, inr, ◌⊎◌, take, drop}
 use Rattle.std.specs.Prelude.{Contains, slice_get, flat_map, find, is_some}
 use Rattle.std.proofs.lemmas.List.Elements.{Contains-append_left, Contains-append_right, Contains-append_cases}
-use Rattle.std.proofs.lemmas.Option.{slice_get-get_or}
+use Rattle.std.proofs.lemmas.Option.{slice_get-get_or, same_Some}
 use Rattle.rb_bytes.proofs.Members.{Contains-nil}
 
 pub contains_at : {X : Type 0} (xs : List X) (x : X) → Contains xs x → (k : ℕ) × (slice_get xs k ≡ Some x)
@@ -27,12 +27,9 @@ take_in (suc n) [] k x h = absurd (cc)
 take_in (suc n) (y ∷ xs) zero x h = omega arith
 take_in (suc n) (y ∷ xs) (suc k) x h = let i = take_in n xs k x h in omega (arith, i)
 
-pub some_is : {X : Type 0} (x y : X) → Some x ≡ Some y → x ≡ y
-some_is x y h = cc
-
 pub take_one_more : {X : Type 0} (n : ℕ) (xs : List X) (x : X) → slice_get xs n ≡ Some x → take (suc n) xs ≡ take n xs ++ x ∷ []
 take_one_more n [] x h = absurd (cc)
-take_one_more zero (y ∷ xs) x h = ap (λ (z : _). z ∷ []) (some_is y x h)
+take_one_more zero (y ∷ xs) x h = ap (λ (z : _). z ∷ []) (same_Some y x h)
 take_one_more (suc n) (y ∷ xs) x h = ap (λ (zs : List _). y ∷ zs) (take_one_more n xs x h)
 
 -- Lists of lists.
@@ -41,7 +38,7 @@ pub flat_at : {A B : Type 0} (f : A → List B) (xs : List A) (i : ℕ) (a : A) 
     Contains (f a) b → Contains (flat_map f xs) b
 flat_at f [] i a b h c = absurd (cc)
 flat_at f (x ∷ xs) zero a b h c = Contains-append_left (f x) (flat_map f xs) b
-    (subst (λ (y : _). Contains (f y) b) (sym (some_is x a h)) c)
+    (subst (λ (y : _). Contains (f y) b) (sym (same_Some x a h)) c)
 flat_at f (x ∷ xs) (suc i) a b h c = Contains-append_right (f x) (flat_map f xs) b (flat_at f xs i a b h c)
 
 -- where an element of one of the lists is
@@ -81,7 +78,7 @@ look p (y ∷ ys) = by (p y) refl (look p ys)
     by false e (inr n) = inr none
       where
         none : (k : ℕ) (x : _) → slice_get (y ∷ ys) k ≡ Some x → p x ≡ false
-        none zero x h = ap p (sym (some_is y x h)) ∙ e
+        none zero x h = ap p (sym (same_Some y x h)) ∙ e
         none (suc k) x h = n k x h
 
 found_by : {X : Type 0} (p : X → Bool) (y : X) (ys : List X) (b : Bool) → p y ≡ b →
@@ -101,11 +98,6 @@ some_by p y ys false more = more refl
 pub found_find : {X : Type 0} (p : X → Bool) (xs : List X) (k : ℕ) (x : X) → slice_get xs k ≡ Some x → p x ≡ true →
     is_some (find p xs) ≡ true
 found_find p [] k x h t = absurd (cc)
-found_find p (y ∷ ys) zero x h t = some_by p y ys (p y) (λ f. absurd (let e : p y ≡ true = ap p (some_is y x h)
+found_find p (y ∷ ys) zero x h t = some_by p y ys (p y) (λ f. absurd (let e : p y ≡ true = ap p (same_Some y x h)
     ∙ t in let c : true ≡ false = sym e ∙ f in cc))
 found_find p (y ∷ ys) (suc k) x h t = some_by p y ys (p y) (λ f. found_find p ys k x h t)
-
-pub there : {X : Type 0} (xs : List X) (i : ℕ) → i < length xs → (x : X) × (slice_get xs i ≡ Some x)
-there [] i h = absurd (omega (arith, h))
-there (x ∷ xs) zero h = (x, refl)
-there (x ∷ xs) (suc i) h = there xs i (omega (arith, h))

@@ -27,7 +27,6 @@ use Rattle.branch_fixup.specs.Strips.{Strip, spans_of, strips_of}
 use Rattle.rv_code.proofs.lists.Follows.{before_of, some_length}
 use Rattle.branch_fixup.proofs.Holders.{last_there}
 use Rattle.branch_fixup.proofs.Lands.{all_end, all_land}
-use Rattle.branch_fixup.proofs.Lists.{there}
 use Rattle.branch_fixup.proofs.Map.{valid_map}
 use Rattle.branch_fixup.proofs.Near.{places_between}
 use Rattle.branch_fixup.proofs.Placed.{AreStrips, are_strips, short_spans}
@@ -35,6 +34,7 @@ use Rattle.branch_fixup.proofs.Planned.{planned, planned_length}
 use Rattle.branch_fixup.proofs.Sizes.{strip_least, block_ends_sum, total_is}
 use Rattle.branch_fixup.proofs.BlockEndFacts.{FallsAfter, IsOfTable, by_table, least, of_table, block_ends_are, block_ends_of}
 use Rattle.branch_fixup.proofs.BlockEndsFound.{strip_fall}
+use Rattle.rb_bytes.proofs.ListLemmas.{slice_get_found}
 
 module _ (funcs : List Func) (blocks : List Block) (order : List ℕ) (laid : AreLaidOut funcs)
     (blocks_of : AreBlocksOf funcs blocks) (perm : HasAllBlocks blocks order) (base : ℕ)
@@ -66,7 +66,7 @@ module _ (funcs : List Func) (blocks : List Block) (order : List ℕ) (laid : Ar
 
   most : (k m : ℕ) → slice_get order k ≡ Some m → most_of (end_at ts k) ≤ 7 * worst m
   most k m at_m =
-      let (s, at) = there ss k (let w = slice_get_within order k m at_m in let l = strips_length in omega (arith, w, l)) in
+      let (s, at) = slice_get_found ss k (let w = slice_get_within order k m at_m in let l = strips_length in omega (arith, w, l)) in
       let plan = planned code blocks are order perm k s at in
       let within = slice_get_within ss k s at in
       let same_m : plan.m ≡ m = (let e : Some plan.m ≡ Some m = sym plan.place ∙ at_m in cc) in
@@ -94,13 +94,13 @@ module _ (funcs : List Func) (blocks : List Block) (order : List ℕ) (laid : Ar
     where
       fits : (k : ℕ) → k < length order → FitsLength (end_at ts k).len (form_at zs k)
       fits k within =
-          let (s, at) = there ss k (let l = strips_length in omega (arith, within, l)) in
+          let (s, at) = slice_get_found ss k (let l = strips_length in omega (arith, within, l)) in
           subst (λ (n : ℕ). FitsLength n (form_at zs k)) (sym (made.are_block_ends k s within at).len)
           (made.shortest k s within at).ends.fits
 
       needed : (k : ℕ) → k < length order → IsNeeded ts zs k
       needed k within =
-          let (s, at) = there ss k (let l = strips_length in omega (arith, within, l)) in
+          let (s, at) = slice_get_found ss k (let l = strips_length in omega (arith, within, l)) in
           let none : shorter (end_at ts k).len (form_at zs k) ≡ None =
           ap (λ (n : ℕ). shorter n (form_at zs k)) (made.are_block_ends k s within at).len
           ∙ (made.shortest k s within at).shortest in

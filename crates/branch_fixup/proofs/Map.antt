@@ -22,7 +22,7 @@ use Rattle.branch_fixup.specs.Ends.{begins_of}
 use Rattle.branch_fixup.specs.Growth.{form_at}
 use Rattle.branch_fixup.specs.Pieces.{Piece, as_it_is, end_from, laid_from, piece_length, length_of}
 use Rattle.branch_fixup.specs.Strips.{Strip, first_in, insts_in, is_alone, pieces_of, pieces_of_strip, spans_of, strips_of}
-use Rattle.branch_fixup.proofs.Falls.{bool_same}
+use Rattle.rb_bytes.proofs.Tests.{bool_same}
 use Rattle.rv_code.proofs.lists.Follows.{follow_up, laid_func, some_length, at_contains}
 use Rattle.branch_fixup.proofs.Holders.{Held, held, first_there, last_there}
 use Rattle.branch_fixup.proofs.Laid.{AreEven, inside, laid_above, stretch}

@@ -27,12 +27,13 @@ use Rattle.branch_fixup.proofs.Bridge.{AreBlockEndsOf}
 use Rattle.rv_code.proofs.lists.Follows.{before_of}
 use Rattle.branch_fixup.proofs.Grown.{reach_if}
 use Rattle.branch_fixup.proofs.Holders.{Held, held}
-use Rattle.branch_fixup.proofs.Lists.{at_drop, take_one_more, there}
+use Rattle.branch_fixup.proofs.Lists.{at_drop, take_one_more}
 use Rattle.branch_fixup.proofs.Placed.{AreStrips, address_at, are_strips, upto_last}
 use Rattle.branch_fixup.proofs.Planned.{Planned, planned, planned_length}
 use Rattle.branch_fixup.proofs.Sizes.{strip_within}
 use Rattle.branch_fixup.proofs.BlockEndFacts.{IsOfTable, block_ends_of}
 use Rattle.branch_fixup.proofs.BlockEndsFound.{at_by}
+use Rattle.rb_bytes.proofs.ListLemmas.{slice_get_found}
 
 -- moving both ends changes no reach
 pub shift_reach : (reach p t from to first a : ℕ) → from + first ≡ a + p → to + first ≡ a + t → reaches reach p t ≡ true →
@@ -72,7 +73,7 @@ module _ (code : ProgramCode) (blocks : List Block) (order : List ℕ) (laid : A
   place_step : (k m : ℕ) → slice_get order k ≡ Some m → k < length ss →
       block_offset ts fs (suc k) ≤ block_offset ts fs k + worst m
   place_step k m at_m within =
-      let (s, at) = there ss k within in
+      let (s, at) = slice_get_found ss k within in
       let plan = planned code blocks are order perm k s at in
       let same_m : plan.m ≡ m = (let e : Some plan.m ≡ Some m = sym plan.place ∙ at_m in cc) in
       let w : worst m ≡ worst_size_of_block code.funcs plan.b = ap worst (sym same_m)
@@ -90,7 +91,7 @@ module _ (code : ProgramCode) (blocks : List Block) (order : List ℕ) (laid : A
       ap (block_offset ts fs) (let z : i + 0 ≡ i = omega arith in z) in omega (arith, e)
   places_between (suc n) i h =
       let olen = planned_length code blocks are order perm in
-      let (m, at_m) = there order (i + n) (omega (arith, h, olen)) in
+      let (m, at_m) = slice_get_found order (i + n) (omega (arith, h, olen)) in
       let rest = places_between n i (omega (arith, h)) in
       let step = place_step (i + n) m at_m (omega (arith, h)) in
       let e : block_offset ts fs (i + suc n) ≡ block_offset ts fs (suc (i + n)) = ap (block_offset ts fs)

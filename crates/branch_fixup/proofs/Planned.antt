@@ -3,7 +3,7 @@ use Rattle.std.proofs.Common.{◌≡◌, ℕ, zero, suc, ◌+◌, ◌-◌, ◌<�
 use Rattle.std.proofs.Common.{refl, sym, ap, ◌∙◌, subst, arith, inl, inr, take, drop}
 use Rattle.std.specs.Prelude.{slice_get, Contains, option_and_then}
 use Rattle.std.specs.List.{filter_map, cons_option}
-use Rattle.std.proofs.lemmas.Option.{slice_get_within}
+use Rattle.std.proofs.lemmas.Option.{slice_get_within, same_Some}
 use Rattle.rv_code.specs.declared.placed.Placed.{Placed}
 use Rattle.rv_code.specs.declared.placed.Func.{Func}
 use Rattle.rv_code.specs.declared.placed.Block.{Block}
@@ -16,8 +16,9 @@ use Rattle.branch_fixup.specs.Endings.{fall_of}
 use Rattle.branch_fixup.specs.Strips.{Strip, strip_of, strips_of, insts_in, first_in}
 use Rattle.branch_fixup.proofs.Covered.{BlockOf, block_of}
 use Rattle.rv_code.proofs.lists.Follows.{before_of, follow_drop, follow_take, laid_func, inst_length, at_contains}
-use Rattle.branch_fixup.proofs.Lists.{contains_at, there, at_drop, at_take, take_in, take_one_more, some_is}
+use Rattle.branch_fixup.proofs.Lists.{contains_at, at_drop, at_take, take_in, take_one_more}
 use Rattle.branch_fixup.proofs.Orders.{order_within}
+use Rattle.rb_bytes.proofs.ListLemmas.{slice_get_found}
 
 -- The strip of a block.
 
@@ -45,7 +46,7 @@ strip_by funcs func b p at last = rw (at, last) refl
 
 pub strip_for : (code : ProgramCode) (b : Block) → BlockOf code b → (s : Strip) × StripOf code b s
 strip_for code b x =
-    let (p, e) = there x.func.insts.items b.last x.is.inside in (
+    let (p, e) = slice_get_found x.func.insts.items b.last x.is.inside in (
       strip_in code.funcs x.func b p,
       record {
         func = x.func;
@@ -183,7 +184,7 @@ module _ (code : ProgramCode) (blocks : List Block) (are : AreBlocks code blocks
   known : (m : ℕ) → m < length blocks → (b : Block) × (s : Strip) × (slice_get blocks m ≡ Some b) ×
       (strip_at m ≡ Some s) × StripOf code b s
   known m within =
-      let (b, at) = there blocks m within in
+      let (b, at) = slice_get_found blocks m within in
       let (s, x) = strip_for code b (block_of code blocks m b are at) in
       (b, s, at, rw at x.strip_is, x)
 
@@ -225,6 +226,6 @@ module _ (code : ProgramCode) (blocks : List Block) (are : AreBlocks code blocks
     planned k s at =
         let within = slice_get_within (strips_of code.funcs blocks order) k s at in
         let len = planned_length in
-        let (m, place) = there order k (omega (arith, within, len)) in
+        let (m, place) = slice_get_found order k (omega (arith, within, len)) in
         let (t, at_t, x) = planned_at k m place in
-        subst (λ (z : Strip). Planned code blocks order k z) (some_is t s (sym at_t ∙ at)) x
+        subst (λ (z : Strip). Planned code blocks order k z) (same_Some t s (sym at_t ∙ at)) x

@@ -1,6 +1,6 @@
 -- Ways that get longer while forms grow one at a time.
 use Rattle.std.proofs.Common.{◌≡◌, ℕ, zero, suc, ◌+◌, ◌-◌, ◌^◌, ◌<◌, ◌≤◌, List, length, Option, Some, None, Bool, true, false}
-use Rattle.std.proofs.Common.{refl, sym, ap, subst, arith, inl, inr, replicate}
+use Rattle.std.proofs.Common.{refl, sym, ap, subst, arith, inl, inr}
 use Rattle.std.specs.Prelude.{slice_index, slice_set, nat_lt, nat_le, ◌&&◌, ◌||◌, if◌then◌else◌, MatchBool, sum_by}
 use Rattle.std.specs.Option.{option_map_or}
 use Rattle.std.proofs.lemmas.Bool.{and_parts, leb-true, ltb-true, ltb-false, cases_eq, cases_order}
@@ -16,6 +16,7 @@ use Rattle.branch_fixup.specs.Distances.{reaches}
 use Rattle.branch_fixup.specs.Ways.{crosses, is_enough_by, AreStarts, IsLonger, AreLonger, AreLongerOver}
 use Rattle.branch_fixup.proofs.Grown.{IsBelow, ahead, back, gap, rises, short_more}
 use Rattle.branch_fixup.proofs.Rounds.{at_other, at_same, below_grow, grow_step, grows, left-grow, longer_length, place_low}
+use Rattle.rb_bytes.proofs.ListLemmas.{zeros}
 
 -- The places of forms are starts.
 
@@ -266,11 +267,6 @@ fewer_no grew olds fs news e h =
 pub more_bytes : (len : ℕ) (f : Form) → piece_length len (longer f) - piece_length len f + piece_length len f
     ≡ piece_length len (longer f)
 more_bytes len f = let h = longer_length len f in omega (arith, h)
-
-pub none_there : (n i : ℕ) → slice_index (replicate n 0) i ≡ 0
-none_there zero i = refl
-none_there (suc n) zero = refl
-none_there (suc n) (suc i) = none_there n i
 
 -- No way is known to be longer at the start.
 pub none_longer : (ts : List BlockEnd) (places : List ℕ) (fs : List Form) (mores : List ℕ) → AreBlockEnds ts →

@@ -1,5 +1,5 @@
 -- The edges that a list of blocks has.
-use Rattle.std.proofs.Common.{◌≡◌, ◌∙◌, sym, subst, ap, refl, ℕ, zero, suc, ◌<◌, ◌≤◌, ⊎_elim, List, [], ◌∷◌, Option, Some, All}
+use Rattle.std.proofs.Common.{◌≡◌, ◌∙◌, sym, subst, ap, ℕ, ◌<◌, ◌≤◌, ⊎_elim, List, Option, Some, All}
 use Rattle.std.proofs.Common.{map, length, arith}
 use Rattle.std.specs.Prelude.{◌↔◌, AllPairs, Contains, IsSomeAnd, slice_get}
 use Rattle.std.specs.Option.{option_map, option_map_or}
@@ -14,7 +14,7 @@ use Rattle.rv_code.specs.layout.Edges.{AreTablePairs, IsPairOf, LeadsTo, jumps, 
 use Rattle.rv_code.specs.layout.Edges.{AreEdges}
 use Rattle.rv_code.specs.layout.FunctionLists.{AreLaidOut}
 use Rattle.rv_code.specs.layout.FunctionMembers.{IsOfFunction}
-use Rattle.move_law.proofs.Lists.{pairs_in, pairs_map}
+use Rattle.rb_bytes.proofs.ListLemmas.{pairs_in, pairs_map, slice_get_found}
 use Rattle.rv_code.proofs.lists.Follows.{funcs_apart}
 use Rattle.cfg_build.specs.EdgeLists.{AreStretches}
 use Rattle.cfg_build.proofs.EdgeRows.{IsEdgeBy, AreEdgesBefore}
@@ -31,11 +31,6 @@ pub record IsStretchOf (funcs : List Func) (b : Block) : Type 0 where
   pub inst : Placed
   pub inst_is : inst_at func b.first ≡ Some inst
   pub start_is : block_start funcs b ≡ inst.addr
-
-slice_get_found : {A : Type 0} (xs : List A) (i : ℕ) → i < length xs → (x : A) × (slice_get xs i ≡ Some x)
-slice_get_found [] i within = absurd (omega arith)
-slice_get_found (x ∷ xs) zero within = (x, refl)
-slice_get_found (x ∷ xs) (suc i) within = slice_get_found xs i (omega arith)
 
 pub stretch_of : (funcs : List Func) (b : Block) → IsOfFunction funcs b → IsStretchOf funcs b
 stretch_of funcs b is =

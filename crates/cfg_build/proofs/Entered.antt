@@ -7,7 +7,7 @@ use Rattle.rv_code.specs.layout.ProgramCode.{RoleNames, CellNames, IsTarget, IsH
 use Rattle.rv_reloc.specs.declared.refs.Refs.{Refs}
 use Rattle.rb_bytes.specs.Lists.{Gains}
 use Rattle.rb_bytes.proofs.Gains.{gains_both}
-use Rattle.move_law.proofs.Lists.{from_flat, in_flat}
+use Rattle.rb_bytes.proofs.ListLemmas.{from_flat, in_flat}
 use Rattle.cfg_build.specs.NamedAddresses.{code_of, AreEntered}
 
 -- a branch or jump of a function goes to an address

@@ -5,10 +5,10 @@ use Rattle.std.specs.Prelude.{◌==◌, ◌||◌, All, Contains, if◌then◌els
 use Rattle.std.proofs.lemmas.Bool.{and_parts, eqb-true, cases_lt}
 use Rattle.rb_bytes.specs.declared.fault.FaultKind.TheVariants.{HighAddress}
 use Rattle.rv_code.specs.declared.cell.CodeCell.{CodeCell}
-use Rattle.elf_image.specs.code.Cells.{IsDifference, of_labels, of_place, same_width, can_be_cell, Field, IsField, pointer, slot}
-use Rattle.elf_image.specs.code.Cells.{difference, CanBeCell, Counts, counts, gives_way, IsCell}
-use Rattle.elf_image.specs.code.FileCode.{AreCells}
-use Rattle.elf_image.specs.code.Relocations.{Relocation, Width, Bits, plus_width, is_add, is_pc_difference}
+use Rattle.elf_code.specs.Cells.{IsDifference, of_labels, of_place, same_width, can_be_cell, Field, IsField, pointer, slot}
+use Rattle.elf_code.specs.Cells.{difference, CanBeCell, Counts, counts, gives_way, IsCell}
+use Rattle.elf_code.specs.FileCode.{AreCells}
+use Rattle.elf_code.specs.Relocations.{Relocation, Width, Bits, plus_width, is_add, is_pc_difference}
 use Rattle.elf_image.specs.declared.elf.Elf.{Elf}
 use Rattle.elf_image.specs.declared.segment.Segment.{Segment}
 use Rattle.elf_image.specs.faults.FileFaults.{IsSound}

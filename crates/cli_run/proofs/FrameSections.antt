@@ -11,7 +11,7 @@ use Rattle.elf_image.specs.declared.elf.Elf.{Elf}
 use Rattle.elf_image.specs.declared.section.Section.{Section}
 use Rattle.elf_image.specs.file.ParsedFile.{IsElfOf, IsSectionAt}
 use Rattle.elf_image.specs.file.SectionNames.{is_called, is_meant_by, section_called}
-use Rattle.elf_image.proofs.LoadLemmas.{find-found}
+use Rattle.rb_bytes.proofs.Searches.{find-found}
 use Rattle.cli_run.specs.run.ParsedCode.{is_frame_section}
 use Rattle.cli_run.specs.run.SymbolRuns.{HasFrames}
 

@@ -11,7 +11,7 @@ use Rattle.run_core.specs.Runs.{IsInterrupted}
 use Rattle.rv_code.specs.declared.placed.Block.{Block}
 use Rattle.rv_code.specs.declared.placed.Func.{Func}
 use Rattle.elf_image.specs.declared.elf.Elf.{Elf}
-use Rattle.elf_image.specs.memory.Start.{start}
+use Rattle.rv_memory.specs.Start.{start}
 use Rattle.rv_machine.specs.State.{state_of}
 use Rattle.edge_record.specs.EdgeText.{IsEdgeText}
 use Rattle.edge_record.specs.Moves.{Move}

@@ -14,14 +14,14 @@ use Rattle.rv_code.specs.layout.Flow.{insts_of}
 use Rattle.rv_code.specs.layout.FunctionLists.{AreLaidOut, address_end}
 use Rattle.rv_code.specs.layout.ProgramCode.{CellNames, KindNames, ProgramCode, is_code_address}
 use Rattle.elf_image.specs.declared.elf.Elf.{Elf}
-use Rattle.elf_image.specs.code.Cells.{Address, Content, Difference, IsCell, IsField, SameContent, difference, pointer, slot}
-use Rattle.elf_image.specs.code.Functions as functions
-use Rattle.elf_image.specs.code.Functions.{IsNopAt}
-use Rattle.elf_image.specs.code.Parts.{IsInstAt, IsStart, halfword_at}
-use Rattle.elf_image.specs.code.Roles.{Claims, HasRole, RoleIs}
-use Rattle.elf_image.specs.code.Roles as claims
+use Rattle.elf_code.specs.Cells.{Address, Content, Difference, IsCell, IsField, SameContent, difference, pointer, slot}
+use Rattle.elf_code.specs.Functions as functions
+use Rattle.elf_code.specs.Functions.{IsNopAt}
+use Rattle.elf_code.specs.Parts.{IsInstAt, IsStart, halfword_at}
+use Rattle.elf_code.specs.Roles.{Claims, HasRole, RoleIs}
+use Rattle.elf_code.specs.Roles as claims
 use Rattle.move_law.specs.Laws.{IsAcceptedCode}
-use Rattle.move_law.proofs.Lists.{all_of}
+use Rattle.rb_bytes.proofs.ListLemmas.{all_of}
 use Rattle.move_law.proofs.code.CellWidths.{can_of, field_width, same_address}
 use Rattle.move_law.proofs.code.FittingRoles.{RoleFits, Target, has_code_facts}
 use Rattle.move_law.proofs.code.Immediates as immediates

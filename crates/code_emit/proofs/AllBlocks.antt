@@ -20,7 +20,7 @@ use Rattle.branch_fixup.proofs.Appended.{end_append, pieces_all, pieces_more, pi
 use Rattle.branch_fixup.proofs.Lists.{contains_at, flat_at}
 use Rattle.rv_code.proofs.lists.Follows.{at_contains}
 use Rattle.branch_fixup.proofs.Planned.{planned, planned_length}
-use Rattle.move_law.proofs.Lists.{all_of}
+use Rattle.rb_bytes.proofs.ListLemmas.{all_of}
 use Rattle.move_law.specs.Rewrite.{Goes, Rewrite}
 use Rattle.move_law.specs.FaithfulRewrite.{GoesOn, KeepsInst}
 use Rattle.code_emit.specs.Bytes.{Adds, AllCanBeEncoded}

@@ -8,8 +8,8 @@ use Rattle.rv_encode.specs.declared.word.Word.TheVariants as word
 use Rattle.rv_code.specs.declared.placed.Width.{Width}
 use Rattle.rv_code.specs.declared.placed.Width.TheVariants as width
 use Rattle.rv_encode.specs.InstWords.{Encodes, bytes}
-use Rattle.elf_image.specs.code.Parts.{halfword_in}
-use Rattle.move_law.specs.Rewrite.{Executable, IsCodeByte, memory_of}
+use Rattle.elf_code.specs.Parts.{halfword_in}
+use Rattle.elf_image.specs.memory.Executables.{Executable, IsCodeByte, memory_of}
 use Rattle.code_emit.specs.NewInsts.{Made}
 use Rattle.code_emit.specs.Bytes.{half_bytes, full_bytes, half_in, StandsIn, AllStandIn, after_made, Adds, CanBeEncoded}
 use Rattle.code_emit.specs.Bytes.{AllCanBeEncoded}

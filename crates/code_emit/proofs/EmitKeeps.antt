@@ -14,7 +14,7 @@ use Rattle.addr_map.specs.declared.span.Span.{Span}
 use Rattle.addr_map.specs.Spans.{new}
 use Rattle.move_law.specs.Rewrite.{Rewrite, Goes, out}
 use Rattle.move_law.specs.FaithfulRewrite.{GoesOn, KeepsInst}
-use Rattle.move_law.proofs.Lists.{all_of}
+use Rattle.rb_bytes.proofs.ListLemmas.{all_of}
 use Rattle.branch_fixup.specs.Inputs.{AreDirect}
 use Rattle.branch_fixup.specs.Pieces.{Piece, PlacedFrom, length_of}
 use Rattle.branch_fixup.specs.Strips.{pieces_of, spans_of, strips_of}

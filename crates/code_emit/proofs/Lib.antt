@@ -6,7 +6,6 @@ pub mod CanStand
 pub mod Keeps
 pub mod Walk
 pub mod StripEnds
-pub mod CellNumbers
 pub mod Next
 pub mod Flows
 pub mod Pieces

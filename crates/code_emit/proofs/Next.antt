@@ -4,19 +4,18 @@ use Rattle.std.proofs.Common.{sym, ap, ◌∙◌, subst, arith, inl, inr}
 use Rattle.std.specs.Prelude.{◌==◌, ◌&&◌, ◌||◌, not, if◌then◌else◌, is_some, option_map, slice_get}
 use Rattle.std.specs.Option.{option_or}
 use Rattle.std.proofs.lemmas.Bool.{cases_lt, eq-eqb, eqb-true, ne_eqb}
-use Rattle.std.proofs.lemmas.Option.{slice_get_within}
+use Rattle.std.proofs.lemmas.Option.{slice_get_within, same_Some}
 use Rattle.rv_code.specs.declared.placed.Placed.{Placed}
 use Rattle.rv_code.specs.declared.placed.Func.{Func}
-use Rattle.rv_code.specs.layout.Flow.{action_at, falls_at, is_call, is_plain_jump, placed_at}
+use Rattle.rv_code.specs.layout.Flow.{action_at, falls_at, is_call, is_plain_jump, placed_at, next_in, next_of}
 use Rattle.rv_code.specs.layout.FunctionLists.{AreLaidOut}
 use Rattle.rv_code.specs.layout.ProgramCode.{is_code_address}
 use Rattle.rv_code.specs.machine.Machine.{plus}
-use Rattle.sym_machine.specs.Rules.{next_in, next_of}
 use Rattle.move_law.proofs.code.InstLists.{found_at}
 use Rattle.branch_fixup.specs.Endings.{fall_of}
 use Rattle.branch_fixup.proofs.Falls.{below_limit, code_next, falls_in, falls_nowhere}
 use Rattle.rv_code.proofs.lists.Follows.{follow_next, inst_once, laid_func}
-use Rattle.branch_fixup.proofs.Lists.{there, some_is}
+use Rattle.rb_bytes.proofs.ListLemmas.{slice_get_found}
 
 -- `next` of a rewrite with these functions
 abbrev pub next_among : List Func → Placed → Option ℕ
@@ -33,8 +32,8 @@ next_in_at [] i x p q at_i at_j here once = absurd (cc)
 next_in_at (a ∷ []) zero x p q at_i at_j here once = absurd (cc)
 next_in_at (a ∷ []) (suc i) x p q at_i at_j here once = absurd (cc)
 next_in_at (a ∷ b ∷ ps) zero x p q at_i at_j here once =
-    rw (eq-eqb a.addr x (ap (λ (z : Placed). z.addr) (some_is a p at_i) ∙ here))
-    (ap (λ (z : Placed). Some z.addr) (some_is b q at_j))
+    rw (eq-eqb a.addr x (ap (λ (z : Placed). z.addr) (same_Some a p at_i) ∙ here))
+    (ap (λ (z : Placed). Some z.addr) (same_Some b q at_j))
 next_in_at (a ∷ b ∷ ps) (suc i) x p q at_i at_j here once =
     rw (ne_eqb a.addr x (λ e. absurd (let h = once 0 a refl e in omega (arith, h))))
     (next_in_at (b ∷ ps) i x p q at_i at_j here (λ j r at e. let h = once (suc j) r at e in omega (arith, h)))
@@ -59,7 +58,7 @@ next_of_at : (fs : List Func) (f : ℕ) (func : Func) (x : ℕ) (o : Option ℕ)
     ((g : ℕ) (h : Func) → slice_get fs g ≡ Some h → (g ≡ f → ⊥) → next_in h.insts.items x ≡ None) → next_of fs x ≡ o
 next_of_at [] f func x o at here other = absurd (cc)
 next_of_at (h ∷ fs) zero func x o at here other =
-    by o (subst (λ (z : Func). next_in z.insts.items x ≡ o) (sym (some_is h func at)) here)
+    by o (subst (λ (z : Func). next_in z.insts.items x ≡ o) (sym (same_Some h func at)) here)
   where
     by : (o : Option ℕ) → next_in h.insts.items x ≡ o → option_or (next_in h.insts.items x) (next_of fs x) ≡ o
     by None e = rw e (next_of_none fs x (λ g k at_g. other (suc g) k at_g (λ z. absurd (omega (arith, z)))))
@@ -91,7 +90,7 @@ module _ (funcs : List Func) (laid : AreLaidOut funcs) (f i : ℕ) (func : Func)
 
   pub next_there : suc i < length func.insts.items → next_of funcs p.addr ≡ Some (p.addr + p.len)
   next_there less =
-      let (q, at_q) = there func.insts.items (suc i) less in
+      let (q, at_q) = slice_get_found func.insts.items (suc i) less in
       let e = follow_next func.start func.insts.items func.end i p q (laid_func funcs f func laid at_f).follow at_i at_q in
       next_of_at funcs f func p.addr (Some (p.addr + p.len)) at_f
       (next_in_at func.insts.items i p.addr p q at_i at_q refl once ∙ ap Some e) others

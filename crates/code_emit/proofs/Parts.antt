@@ -4,7 +4,7 @@ use Rattle.std.proofs.Common.{take, true, false}
 use Rattle.std.specs.Prelude.{All, map}
 use Rattle.std.proofs.lemmas.List.{append_assoc}
 use Rattle.std.proofs.lemmas.List.Elements.{All-contains, Contains-append_left}
-use Rattle.move_law.proofs.Lists.{all_of}
+use Rattle.rb_bytes.proofs.ListLemmas.{all_of}
 use Rattle.code_emit.specs.Inputs.{HasLowTargets}
 use Rattle.rv_code.specs.declared.placed.Placed.{Placed}
 use Rattle.rv_code.specs.declared.layout.Form.{Form}

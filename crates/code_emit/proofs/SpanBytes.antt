@@ -6,8 +6,9 @@ use Rattle.std.proofs.lemmas.List.Sorted.{Contains-permutation, IsPermutation-sy
 use Rattle.rv_code.specs.declared.layout.Form.{Form}
 use Rattle.rv_code.specs.declared.placed.Func.{Func}
 use Rattle.addr_map.specs.declared.span.Span.{Span}
-use Rattle.move_law.specs.Rewrite.{AreCodeBytes, IsCodeByte, Rewrite}
-use Rattle.move_law.proofs.Lists.{all_of}
+use Rattle.move_law.specs.Rewrite.{Rewrite}
+use Rattle.elf_image.specs.memory.Executables.{AreCodeBytes, IsCodeByte}
+use Rattle.rb_bytes.proofs.ListLemmas.{all_of}
 use Rattle.branch_fixup.specs.Forms.{new_code_end}
 use Rattle.branch_fixup.specs.Strips.{Strip, pieces_of, spans_of}
 use Rattle.branch_fixup.proofs.Laid.{inside, laid_above}

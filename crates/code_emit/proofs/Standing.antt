@@ -1,8 +1,9 @@
 -- Instructions that stand in an executable, with their lengths.
 use Rattle.std.proofs.Common.{◌≡◌, ℕ, ◌+◌, List, [], ◌∷◌, sym, subst}
 use Rattle.rv_code.specs.declared.inst.Inst.{Inst}
-use Rattle.elf_image.specs.code.Parts.{IsInstIn}
-use Rattle.move_law.specs.Rewrite.{Executable, AreCodeBytes, HasAt, memory_of, width_at}
+use Rattle.elf_code.specs.Parts.{IsInstIn}
+use Rattle.move_law.specs.Rewrite.{HasAt, width_at}
+use Rattle.elf_image.specs.memory.Executables.{Executable, AreCodeBytes, memory_of}
 use Rattle.move_law.proofs.code.InstLists.{length_is}
 use Rattle.code_emit.specs.NewInsts.{Made}
 

@@ -3,7 +3,8 @@ use Rattle.std.specs.Prelude.{◌≡◌, ℕ, ◌+◌, ◌%◌, ◌^◌, ◌<◌
 use Rattle.rv_code.specs.declared.cell.CodeCell.{CodeCell}
 use Rattle.rv_code.specs.declared.placed.Func.{Func}
 use Rattle.addr_map.specs.declared.span.Span.{Span}
-use Rattle.move_law.specs.Rewrite.{Executable, Rewrite, AreCodeBytes, memory_of}
+use Rattle.move_law.specs.Rewrite.{Rewrite}
+use Rattle.elf_image.specs.memory.Executables.{Executable, AreCodeBytes, memory_of}
 use Rattle.code_emit.specs.NewInsts.{cell_number}
 
 -- an executable has bytes of code from an address on, which may be executed and not written

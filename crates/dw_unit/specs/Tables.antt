@@ -5,7 +5,7 @@ use Rattle.rv_code.specs.declared.inst.Inst.{Inst}
 use Rattle.rv_code.specs.isa.Action.{action_of}
 use Rattle.rv_code.specs.layout.Flow.{is_call}
 use Rattle.elf_image.specs.declared.elf.Elf.{Elf}
-use Rattle.elf_image.specs.code.Parts.{IsInstAt}
+use Rattle.elf_code.specs.Parts.{IsInstAt}
 use Rattle.addr_map.specs.declared.span.Span.{Span}
 use Rattle.table_core.specs.declared.written.ListAt.{ListAt}
 use Rattle.table_core.specs.Sections.{bytes_of}

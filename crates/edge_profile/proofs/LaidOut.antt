@@ -17,6 +17,7 @@ use Rattle.rv_code.specs.layout.ProgramCode.{is_code_address}
 use Rattle.rv_code.specs.layout.FunctionMembers.{IsInstPlace}
 use Rattle.edge_profile.specs.Weights.{starts_at}
 use Rattle.edge_profile.proofs.Partitions.{passes_up_to, fails_from}
+use Rattle.rb_bytes.proofs.ListLemmas.{any_element}
 
 pub non_decreasing : (insts : List Placed) → AllPairs (λ p q. p.addr < q.addr) insts → IsNonDecreasingBy (λ p. p.addr) insts
 non_decreasing insts rising i j d le within = ⊎_elim
@@ -91,11 +92,6 @@ code-list_any (f ∷ funcs) a =
 pub code_address-list_any : (funcs : List Func) (a : ℕ) →
     is_code_address funcs a ≡ list_any (λ f. starts_at f.insts.items a) funcs
 code_address-list_any funcs a = is_some-find (λ p. p.addr == a) (insts_of funcs) ∙ code-list_any funcs a
-
--- an element of a list that has one
-pub any_element : {X : Type 0} (xs : List X) (k : ℕ) → k < length xs → X
-any_element [] k within = absurd (omega arith)
-any_element (x ∷ xs) k within = x
 
 -- where an instruction has its place, one starts
 pub code_address_at : (funcs : List Func) (a f i : ℕ) → IsInstPlace funcs a f i → is_code_address funcs a ≡ true

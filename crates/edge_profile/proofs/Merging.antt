@@ -5,7 +5,7 @@ use Rattle.std.proofs.Common.{length-set, get_or-set_same, get_or-set_other}
 use Rattle.std.specs.Prelude.{◌==◌, ◌&&◌, if◌then◌else◌, not}
 use Rattle.std.specs.List.Sorted.{IsPermutation}
 use Rattle.std.specs.Ordering.{nat_cmp, is_lt, ordering_then}
-use Rattle.std.proofs.lemmas.Bool.{eq-eqb, ne_eqb, eqb-true, lt-ltb, le-ltb, cases_lt, cases_eq}
+use Rattle.std.proofs.lemmas.Bool.{eq-eqb, ne_eqb, eqb-true, lt-ltb, le-ltb, cases_lt, cases_eq, and_parts}
 use Rattle.std.proofs.lemmas.List.{get_or_default, take_all}
 use Rattle.std.proofs.lemmas.List.Elements.{All-push, All-set}
 use Rattle.std.proofs.lemmas.List.Quantifiers.{all_pairs_push}
@@ -87,10 +87,6 @@ last_is : (b c : Bool) → (not b && c) ≡ true → (b ≡ false) × (c ≡ tru
 last_is true c is = absurd (cc)
 last_is false c is = (refl, is)
 
-pub both_is : (a b : Bool) → (a && b) ≡ true → (a ≡ true) × (b ≡ true)
-both_is true b is = (refl, is)
-both_is false b is = absurd (cc)
-
 -- a count added to the last pair
 pub raised_last : (old : List Counted) (k : ℕ) (x p : Counted) → is_last_pair p.0 p.1 old ≡ true
     → k ≡ length old - 1 → x ≡ get_or old k x
@@ -102,7 +98,7 @@ raised_last old k x p last at read ordered some =
     let same : get_or old (length old - 1) (0, 0, 0) ≡ get_or old k x =
     ap (λ (j : ℕ). get_or old j (0, 0, 0)) (sym at) ∙ get_or_default old k (0, 0, 0) x within in
     let ends =
-    both_is ((get_or old (length old - 1) (0, 0, 0)).0 == p.0) ((get_or old (length old - 1) (0, 0, 0)).1 == p.1) parts.1 in
+    and_parts ((get_or old (length old - 1) (0, 0, 0)).0 == p.0) ((get_or old (length old - 1) (0, 0, 0)).1 == p.1) parts.1 in
     let from = sym (ap (λ (q : Counted). q.0) same) ∙ eqb-true _ _ ends.0 in
     let to = sym (ap (λ (q : Counted). q.1) same) ∙ eqb-true _ _ ends.1 in
     subst (λ (y : Counted). AddsCount old (set old k (y.0, y.1, y.2 + p.2)) p) (sym read)

@@ -7,7 +7,7 @@ use Rattle.std.specs.Cmp.Lexicographic.{bytes_decides}
 use Rattle.std.specs.Prelude.{◌==◌, ◌&&◌, bytes_eq, if◌then◌else◌}
 use Rattle.std.specs.List.{list_all}
 use Rattle.elf_image.specs.declared.symbol.Symbol.{Symbol}
-use Rattle.elf_image.specs.code.Cuts.{names_function}
+use Rattle.elf_image.specs.file.Cuts.{names_function}
 use Rattle.edge_profile.specs.Names.{symbol_values}
 use Rattle.edge_profile.specs.FunctionNames.{Values, known_by, known_of, next_known}
 

@@ -21,7 +21,8 @@ use Rattle.rv_code.specs.layout.FunctionMembers.{IsInstPlace}
 use Rattle.edge_profile.specs.Weights.{block_weight, insts_of_block, touches, starts_at}
 use Rattle.edge_profile.specs.BlockPlaces.{IsApart, AreBlocksApart, begins_by, ends_from, has_inst}
 use Rattle.rv_code.proofs.lists.Follows.{insts_rise, inst_bounds}
-use Rattle.edge_profile.proofs.LaidOut.{starts_below, starts_above, code_address-list_any, any_element}
+use Rattle.edge_profile.proofs.LaidOut.{starts_below, starts_above, code_address-list_any}
+use Rattle.rb_bytes.proofs.ListLemmas.{any_element}
 
 -- Which blocks have the instruction at an address.
 

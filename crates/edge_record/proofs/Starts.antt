@@ -14,7 +14,8 @@ use Rattle.rv_code.specs.layout.ProgramCode.{is_code_address}
 use Rattle.rv_code.specs.layout.FunctionMembers.{IsInstPlace}
 use Rattle.edge_profile.specs.Weights.{starts_at}
 use Rattle.rv_code.proofs.lists.Follows.{inst_bounds}
-use Rattle.edge_profile.proofs.LaidOut.{any_element, code_address-list_any, funcs_rise, no_code_from, starts_above, starts_below}
+use Rattle.edge_profile.proofs.LaidOut.{code_address-list_any, funcs_rise, no_code_from, starts_above, starts_below}
+use Rattle.rb_bytes.proofs.ListLemmas.{any_element}
 use Rattle.edge_record.specs.EdgeText.{start_at}
 
 -- the first element that passes a test, and its place

@@ -2,7 +2,7 @@
 ghost use Rattle.std.specs.Prelude.{◌≡◌, ◌≤◌, map, string_bytes};
 ghost use Rattle.elf_image.specs.faults.FileFaults.{IsSound};
 ghost use Rattle.elf_image.specs.file.ParsedFile.{IsElfOf};
-ghost use Rattle.elf_image.specs.memory.Start.{start};
+ghost use Rattle.rv_memory.specs.Start.{start};
 ghost use Rattle.rv_code.specs.layout.FunctionLists.{AreLaidOut};
 ghost use Rattle.rv_memory.specs.Limits.{IsWithinLimits};
 ghost use Rattle.rv_machine.specs.StepResults.{answered};

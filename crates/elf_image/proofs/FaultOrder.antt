@@ -10,7 +10,7 @@ use Rattle.rb_bytes.specs.declared.fault.FaultKind.{FaultKind}
 use Rattle.rb_bytes.specs.declared.fault.FaultKind.TheVariants.{NotElf, Truncated, Flags, NotStatic, ExecSegments, WritableCode}
 use Rattle.rb_bytes.specs.declared.fault.FaultKind.TheVariants.{HighAddress, CompressedSection, RelocType, RelocMismatch}
 use Rattle.rb_bytes.specs.declared.fault.FaultKind.TheVariants.{LoMismatch, NarrowDiff, IfuncOrPlt, AlreadyMoved, BadEntry}
-use Rattle.elf_image.specs.faults.FirstFault.{LacksBelow, IsAnswered}
+use Rattle.rb_bytes.specs.FirstFault.{LacksBelow, IsAnswered}
 use Rattle.elf_image.specs.faults.LowestPlace.{IsLowest}
 use Rattle.elf_image.specs.faults.FileFaults.{HasFault, IsSound}
 

@@ -1,6 +1,6 @@
 -- The segment that loads an address, found in the order of addresses.
-use Rattle.std.proofs.Common.{◌≡◌, ◌∙◌, sym, ap, subst, refl, ℕ, ◌-◌, ◌<◌, ◌≤◌, Bool, true, false, cond, IsTrue, List, []}
-use Rattle.std.proofs.Common.{◌∷◌, length, get_or, Some, None, All, arith, ◌⊎◌, inl, inr, ◌&&◌, nat_le, nat_lt}
+use Rattle.std.proofs.Common.{◌≡◌, ◌∙◌, sym, ap, subst, refl, ℕ, ◌-◌, ◌<◌, ◌≤◌, true, false, IsTrue, List}
+use Rattle.std.proofs.Common.{length, get_or, Some, None, All, arith, inl, inr, ◌&&◌, nat_le, nat_lt}
 use Rattle.std.specs.List.{Contains, find, filter}
 use Rattle.std.specs.List.Sorted.{IsNonDecreasingBy, IsPermutation}
 use Rattle.std.proofs.lemmas.Bool.{and_parts, and_from, leb-true, ltb-true, le-leb, lt-ltb, false_from_ne_true, both_ways}
@@ -8,78 +8,10 @@ use Rattle.std.proofs.lemmas.Bool.{cases_lt}
 use Rattle.std.proofs.lemmas.List.{get_or_default}
 use Rattle.std.proofs.lemmas.List.Elements.{All-same, filter_passes, Contains-get_or}
 use Rattle.std.proofs.lemmas.List.Sorted.{All-permutation, Contains-permutation, IsPermutation-sym}
-use Rattle.rb_bytes.proofs.Members.{Contains-cons_cases, Contains-there}
 use Rattle.elf_image.specs.declared.elf.Elf.{Elf}
 use Rattle.elf_image.specs.declared.segment.Segment.{Segment}
 use Rattle.elf_image.specs.memory.Image.{is_load, end_of, has_memory, loads_address, segment_of, LoadOnce}
-
--- what a search finds passes, and is in the list
-pub find-found : {X : Type 0} (p : X → Bool) (xs : List X) (x : X) → find p xs ≡ Some x → (p x ≡ true) × Contains xs x
-find-found p [] x found = cc
-find-found {X} p (y ∷ ys) x found =
-    elim (p y) as (λ b. p y ≡ b → cond b (Some y) (find p ys) ≡ Some x → (p x ≡ true) × Contains (y ∷ ys) x) [
-      | true ↦ λ passes first. let same : y ≡ x = cc in (ap p (sym same) ∙ passes, (0, omega arith, same))
-      | false ↦ λ fails later. let rest = find-found p ys x later in (rest.0, Contains-there y ys x rest.1)
-    ]
-    refl found
-
--- a search finds something where an element passes
-pub find-finds : {X : Type 0} (p : X → Bool) (xs : List X) (x : X) → Contains xs x → p x ≡ true → (y : X) × (find p xs ≡ Some y)
-find-finds p [] x (k, within, is) passes = absurd (omega arith)
-find-finds {X} p (y ∷ ys) x is_in passes =
-    elim (p y) as (λ b. p y ≡ b → (z : X) × (cond b (Some y) (find p ys) ≡ Some z)) [
-      | true ↦ λ first. (y, refl)
-      | false ↦ λ fails. elim (Contains-cons_cases y ys x is_in) [
-        | inl same ↦ absurd (let both : true ≡ false = sym passes ∙ (ap p (sym same) ∙ fails) in cc)
-        | inr later ↦ find-finds p ys x later passes
-      ]
-    ]
-    refl
-
--- and nothing where none does
-pub find-none : {X : Type 0} (p : X → Bool) (xs : List X) → ((x : X) → Contains xs x → p x ≡ false) → find p xs ≡ None
-find-none {X} p xs fails =
-    elim (find p xs) as (λ r. find p xs ≡ r → r ≡ None) [
-      | None ↦ λ is. refl
-      | Some x ↦ λ is. let found = find-found p xs x is in absurd (let both : true ≡ false = sym found.0 ∙ fails x found.1 in cc)
-    ]
-    refl
-
--- the only element that passes is found
-pub find-only : {X : Type 0} (p : X → Bool) (xs : List X) (x : X) → Contains xs x → p x ≡ true →
-    ((y : X) → Contains xs y → p y ≡ true → y ≡ x) → find p xs ≡ Some x
-find-only p xs x is_in passes only =
-    let (y, is) = find-finds p xs x is_in passes in
-    let found = find-found p xs y is in
-    is ∙ ap (λ z. Some z) (only y found.1 found.0)
-
--- what a filter keeps
-pub Contains-filter : {X : Type 0} (p : X → Bool) (xs : List X) (x : X) → Contains xs x → p x ≡ true → Contains (filter p xs) x
-Contains-filter p [] x (k, within, is) passes = absurd (omega arith)
-Contains-filter {X} p (y ∷ ys) x is_in passes =
-    elim (p y) as (λ b. p y ≡ b → Contains (cond b (y ∷ filter p ys) (filter p ys)) x) [
-      | true ↦ λ first. elim (Contains-cons_cases y ys x is_in) [
-        | inl same ↦ (0, omega arith, same)
-        | inr later ↦ Contains-there y (filter p ys) x (Contains-filter p ys x later passes)
-      ]
-      | false ↦ λ fails. elim (Contains-cons_cases y ys x is_in) [
-        | inl same ↦ absurd (let both : true ≡ false = sym passes ∙ (ap p (sym same) ∙ fails) in cc)
-        | inr later ↦ Contains-filter p ys x later passes
-      ]
-    ]
-    refl
-
-pub Contains-from_filter : {X : Type 0} (p : X → Bool) (xs : List X) (x : X) → Contains (filter p xs) x → Contains xs x
-Contains-from_filter p [] x (k, within, is) = absurd (omega arith)
-Contains-from_filter {X} p (y ∷ ys) x is_in =
-    elim (p y) as (λ b. Contains (cond b (y ∷ filter p ys) (filter p ys)) x → Contains (y ∷ ys) x) [
-      | true ↦ λ kept. elim (Contains-cons_cases y (filter p ys) x kept) [
-        | inl same ↦ (0, omega arith, same)
-        | inr later ↦ Contains-there y ys x (Contains-from_filter p ys x later)
-      ]
-      | false ↦ λ kept. Contains-there y ys x (Contains-from_filter p ys x kept)
-    ]
-    is_in
+use Rattle.rb_bytes.proofs.Searches.{find-found, find-finds, find-none, find-only, Contains-filter, Contains-from_filter}
 
 -- Lists of segments: all those with memory, in some order.
 

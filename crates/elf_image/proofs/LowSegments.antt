@@ -1,16 +1,16 @@
 -- In a sound file all that is loaded lies low, so the break has room above it.
 use Rattle.std.proofs.Common.{◌≡◌, ◌∙◌, sym, subst, refl, ℕ, ◌+◌, ◌-◌, ◌^◌, ◌<◌, ◌≤◌, zero, true, false, cond, IsTrue, List, []}
-use Rattle.std.proofs.Common.{◌∷◌, arith, ⊎_elim, ◌&&◌, nat_le, nat_lt, max, map}
+use Rattle.std.proofs.Common.{◌∷◌, arith, ⊎_elim, ◌&&◌, nat_le, nat_lt, max, map, Bool}
 use Rattle.std.specs.List.{Contains, filter, fold}
-use Rattle.std.proofs.lemmas.Bool.{and_parts, and_from, ltb-true, le-leb, lt-ltb, cases_lt}
+use Rattle.std.specs.Prelude.{◌==◌, if◌then◌else◌, min}
+use Rattle.std.proofs.lemmas.Bool.{and_parts, and_from, ltb-true, le-leb, lt-ltb, cases_lt, eqb-true}
 use Rattle.rb_bytes.specs.declared.fault.FaultKind.TheVariants.{HighAddress}
 use Rattle.elf_image.specs.declared.segment.Segment.{Segment}
-use Rattle.elf_image.specs.declared.segment.TheConstants.{PF_W}
+use Rattle.elf_image.specs.declared.segment.TheConstants.{PF_W, ADDRESS_END}
 use Rattle.elf_image.specs.file.Header.{segment, segments_of}
 use Rattle.elf_image.specs.memory.Image.{is_load, has_memory, has_flag, end_of, loads_address}
-use Rattle.rv_code.specs.layout.FunctionLists.{address_end}
 use Rattle.elf_image.specs.faults.FileFaults.{IsSound}
-use Rattle.elf_image.specs.memory.Start.{writable_end}
+use Rattle.elf_image.specs.memory.Break.{writable_end, break_start, break_bound, break_room, pages_above}
 use Rattle.rb_bytes.proofs.Members.{Contains-there}
 use Rattle.elf_image.proofs.LoadLemmas.{loads_last}
 use Rattle.elf_image.proofs.ReadLists.{get_or-segments}
@@ -45,8 +45,17 @@ low_end file sound = ends_below (2 ^ 63) 0 (segments_of file) (record { each = e
         let found = get_or-segments file i p within in
         let p_is : segment file i ≡ p = sym found.1 ∙ at in
         ⊎_elim
-        (λ (low : end_of p < address_end + 1). omega arith)
-        (λ (high : address_end + 1 ≤ end_of p).
+        (λ (low : end_of p < ADDRESS_END + 1). omega arith)
+        (λ (high : ADDRESS_END + 1 ≤ end_of p).
         absurd (sound HighAddress (end_of p - 1)
         (i, found.0, (subst (λ q. IsTrue (loads_address (end_of p - 1) q)) (sym p_is) (loads_last p has), omega arith))))
-        (cases_lt (end_of p) (address_end + 1))
+        (cases_lt (end_of p) (ADDRESS_END + 1))
+
+pub break_fits : (segments : List Segment) → break_start segments ≤ break_bound segments
+break_fits segments = cases (writable_end segments == 0) refl
+  where
+    cases : (t : Bool) → (writable_end segments == 0) ≡ t →
+        break_start segments ≤
+        (if t then 0 else max (break_start segments) (fold min (break_start segments + break_room) (pages_above segments)))
+    cases false test = omega arith
+    cases true test = let none : writable_end segments ≡ 0 = eqb-true (writable_end segments) 0 test in omega arith

@@ -1,4 +1,3 @@
-pub mod code
 pub mod faults
 pub mod file
 pub mod internal

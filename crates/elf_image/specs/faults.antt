@@ -1,8 +1,4 @@
-pub mod CodeFaults
 pub mod FileFaults
-pub mod FirstFault
-pub mod FunctionFaults
 pub mod LowestPlace
-pub mod ReferenceFaults
 pub mod SegmentLayout
 pub mod Truncation

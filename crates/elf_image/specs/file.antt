@@ -1,3 +1,4 @@
+pub mod Cuts
 pub mod Header
 pub mod ParsedFile
 pub mod SectionNames

@@ -2,5 +2,6 @@ pub mod CutLists
 pub mod Extents
 pub mod Folds
 pub mod HeaderFields
+pub mod LowestAddresses
 pub mod SegmentExtents
 pub mod TextEnds

@@ -1,4 +1,6 @@
+pub mod Break
 pub mod CodeSegment
+pub mod Executables
+pub mod HiddenFields
 pub mod Image
 pub mod LoadedBytes
-pub mod Start

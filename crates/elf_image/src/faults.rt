@@ -2,7 +2,7 @@
 ghost use Rattle.std.specs.Prelude.{◌≡◌, MatchOption, OnOk, IfErr};
 ghost use Rattle.rb_bytes.specs.Fault.{fault_at};
 ghost use Rattle.rb_bytes.specs.declared.fault.FaultKind.TheVariants as kind;
-ghost use Rattle.elf_image.specs.faults.FirstFault.{LacksBelow};
+ghost use Rattle.rb_bytes.specs.FirstFault.{LacksBelow};
 ghost use Rattle.elf_image.specs.faults.Truncation.{IsReadable};
 ghost use Rattle.elf_image.specs.file.Header.{e_shnum};
 ghost use Rattle.elf_image.specs.faults.LowestPlace.{IsLowest};

@@ -1,7 +1,7 @@
 // Where the functions of a file may begin and end.
 ghost use Rattle.std.specs.Prelude.{ℕ, ◌≡◌, ◌↔◌, ◌++◌, IfOk, OnOk, Contains};
 ghost use Rattle.std.specs.List.Sorted.{IsStrictlyIncreasing};
-ghost use Rattle.elf_image.specs.code.Cuts.{IsCutAddress};
+ghost use Rattle.elf_image.specs.file.Cuts.{IsCutAddress};
 ghost use Rattle.elf_image.specs.internal.CutLists.{bounds, symbol_bounds, section_bounds};
 
 use crate::elf::Elf;

@@ -1,6 +1,7 @@
 //! ELF files: their headers, and the memory that they describe.
 #![tactic(auto)]
 
+pub mod code_segment;
 pub mod elf;
 pub mod entries;
 pub mod extent;

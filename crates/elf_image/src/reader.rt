@@ -1,6 +1,6 @@
 // A file, read whole.
 ghost use Rattle.std.specs.Prelude.{◌≡◌, IfOk, OnOk, IfErr};
-ghost use Rattle.elf_image.specs.faults.FirstFault.{LacksBelow};
+ghost use Rattle.rb_bytes.specs.FirstFault.{LacksBelow};
 ghost use Rattle.elf_image.specs.faults.Truncation.{IsReadable};
 ghost use Rattle.elf_image.specs.file.Header.{e_shnum};
 ghost use Rattle.elf_image.specs.faults.FileFaults.{HasFault, IsSound, IsRefusal};

@@ -1,6 +1,6 @@
 // Where a program's break starts. The page is Linux's for RISC-V.
 ghost use Rattle.std.specs.Prelude.{◌≡◌, ◌<◌, ◌^◌};
-ghost use Rattle.elf_image.specs.memory.Start.{writable_end};
+ghost use Rattle.elf_image.specs.memory.Break.{writable_end};
 
 use crate::segment::{PF_W, Segment};
 

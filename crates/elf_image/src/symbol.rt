@@ -38,7 +38,7 @@ pub struct Symbol<'a> {
 }
 
 impl<'a> Symbol<'a> {
-    ghost use Rattle.elf_image.specs.code.Cuts.{names_function};
+    ghost use Rattle.elf_image.specs.file.Cuts.{names_function};
 
     /// Whether the symbol names a function.
     pub fn names_function(&self) -> bool

@@ -1,8 +1,8 @@
 -- Patches that leave a byte, and headers written over themselves.
 use Rattle.std.proofs.Common.{◌≡◌, ◌∙◌, sym, ap, subst, refl, ℕ, zero, suc, ◌+◌, ◌-◌, ◌*◌, ◌/◌, ◌%◌, ◌≤◌, ◌<◌, ◌^◌, ◌⊎◌, inl, inr}
-use Rattle.std.proofs.Common.{List, [], ◌∷◌, ◌++◌, length, take, drop, get_or, arith}
+use Rattle.std.proofs.Common.{List, [], ◌∷◌, length, take, drop, get_or, arith}
 use Rattle.std.specs.Prelude.{All, slice_index}
-use Rattle.std.specs.Int.{bytes_low_first, byte_at}
+use Rattle.std.specs.Int.{bytes_low_first}
 use Rattle.std.proofs.Math.Nat.{pow-succ', div-div-eq-div-mul}
 use Rattle.std.proofs.lemmas.Bool.{cases_lt}
 use Rattle.std.proofs.lemmas.List.{get_or-drop}
@@ -10,6 +10,7 @@ use Rattle.elf_image.specs.file.Header.{number_at}
 use Rattle.byteorder.specs.Endian.{little_from, little_number, little_bytes}
 use Rattle.elf_parts.specs.Patches.{put, Patch, put_all, IsBeside, IsWithin, Leaves}
 use Rattle.elf_parts.proofs.Patches.{length-put, get_or-put_beside, get_or-put_there}
+use Rattle.rb_bytes.proofs.NumberBytes.{byte_at-power}
 
 get_or-put_leaves : (a : ℕ) (bytes xs : List ℕ) (k : ℕ) → a + length bytes ≤ length xs →
     Leaves k (get_or xs k 0) (record { offset = a; bytes = bytes }) → get_or (put a bytes xs) k 0 ≡ get_or xs k 0
@@ -56,11 +57,6 @@ little_byte i (suc n) (suc k) xs bytes below =
     ∙ ap (λ (q : ℕ). q / 256 ^ k % 256) (high_bytes (get_or xs i 0) (little_from (suc i) n xs) (bytes i))
     ∙ little_byte (suc i) n k xs bytes (omega arith)
     ∙ ap (λ (j : ℕ). get_or xs j 0) there
-
--- a byte of a number's bytes
-byte_at-power : (i v : ℕ) → byte_at i v ≡ v / 256 ^ i % 256
-byte_at-power zero v = omega arith
-byte_at-power (suc i) v = refl
 
 get_or-low_first : (i n v k : ℕ) → k < n → get_or (bytes_low_first i n v) k 0 ≡ v / 256 ^ (i + k) % 256
 get_or-low_first i zero v k below = absurd (omega arith)

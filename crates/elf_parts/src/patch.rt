@@ -1,6 +1,6 @@
 // Bytes put over those of a file, and zeros added behind them.
 ghost use Rattle.std.specs.Prelude.{◌≡◌, ◌≤◌, ◌<◌, ◌+◌, ◌-◌, ◌++◌, length, OnOk, IfOk, replicate};
-ghost use Rattle.elf_image.specs.memory.Start.{rounded_up};
+ghost use Rattle.elf_image.specs.memory.Break.{rounded_up};
 ghost use Rattle.elf_parts.specs.Patches.{put};
 
 use rb_bytes::fault::NoMemory;

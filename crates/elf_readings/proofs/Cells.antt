@@ -1,6 +1,6 @@
 -- Code cells don't depend on the reading.
 use Rattle.std.proofs.Common.{◌≡◌, ◌∙◌, sym, subst, refl, ℕ, ◌+◌, ◌*◌, ◌≤◌, ◌<◌, ◌⊎◌, inl, inr, Bool, List, IsTrue, length}
-use Rattle.std.specs.Prelude.{Contains, ℤ, IsSome, IfSome}
+use Rattle.std.specs.Prelude.{ℤ, IsSome, IfSome}
 use Rattle.rv_code.specs.declared.cell.CodeCell.{CodeCell}
 use Rattle.elf_image.specs.declared.elf.Elf.{Elf}
 use Rattle.elf_image.specs.declared.section.Section.{Section}
@@ -8,10 +8,11 @@ use Rattle.elf_image.specs.declared.segment.Segment.{Segment}
 use Rattle.elf_image.specs.declared.segment.TheConstants.{PHDR_SIZE}
 use Rattle.elf_image.specs.file.Header.{header_size}
 use Rattle.elf_image.specs.memory.LoadedBytes.{file_offset}
-use Rattle.elf_image.specs.code.Relocations.{Relocation, relocations, Width}
-use Rattle.elf_image.specs.code.Cells.{IsOnly, is_plus, is_minus, IsDifference, of_labels, of_place, IsCodeLabel, HasCodeLabel}
-use Rattle.elf_image.specs.code.Cells.{IsInOneWhole, Field, IsField, pointer, slot, difference, CanBeCell, Counts, counts}
-use Rattle.elf_image.specs.code.Cells.{gives_way, IsCell}
+use Rattle.elf_code.specs.Relocations.{Relocation, relocations, Width}
+use Rattle.elf_code.specs.Cells.{IsOnly, is_plus, is_minus, IsDifference, of_labels, of_place, IsCodeLabel, HasCodeLabel}
+use Rattle.elf_code.specs.Cells.{IsInOneWhole, Field, IsField, pointer, slot, difference, CanBeCell, Counts, counts}
+use Rattle.elf_code.specs.Cells.{gives_way, IsCell}
+use Rattle.elf_code.proofs.Differences.{difference_counts}
 use Rattle.elf_readings.proofs.Alike.{bare, Alike, back}
 use Rattle.elf_readings.proofs.Relocations.{with_section, Twin, twin, count_alike}
 use Rattle.elf_readings.proofs.Parts.{start_of, whole_of}
@@ -36,11 +37,6 @@ difference_of e e' a r s t w to from (of_labels only minus minus_only to_is from
     (to_is ∙ label_alike e e' a r) (from_is ∙ label_alike e e' a minus)
 difference_of e e' a r s t w to from (of_place counted kind width to_is from_is) =
     of_place t.there kind width (to_is ∙ label_alike e e' a r) from_is
-
-pub difference_counts : (e : Elf) (r : Relocation) (w : Width) (to from : ℤ) → IsDifference e r w to from →
-    Contains (relocations e) r
-difference_counts e r w to from (of_labels only minus minus_only to_is from_is) = only.listed
-difference_counts e r w to from (of_place counted kind width to_is from_is) = counted
 
 pub code_label_of : (e e' : Elf) → Alike e e' → (z : ℤ) → IsCodeLabel e z → IsCodeLabel e' z
 code_label_of e e' a z (at, is, start) = (at, is, start_of e e' a at start)

@@ -4,14 +4,14 @@ use Rattle.std.specs.Prelude.{ℤ, pos, IsSomeAnd}
 use Rattle.std.proofs.lemmas.List.{length-map}
 use Rattle.elf_image.specs.declared.elf.Elf.{Elf}
 use Rattle.elf_image.specs.declared.section.Section.{Section}
-use Rattle.elf_image.specs.memory.LoadedBytes.{loaded_number}
-use Rattle.elf_image.specs.code.Relocations.{Relocation, relocations, symbol_value, label, is_pcrel_lo, is_pcrel_hi, is_call_pair}
-use Rattle.elf_image.specs.code.Relocations.{is_supported, HasRelocation, Width}
-use Rattle.elf_image.specs.code.Cells.{is_plus, is_minus, IsCodeLabel}
-use Rattle.elf_image.specs.faults.ReferenceFaults.{IsRelocType, IsCall, HasAuipc, IsNamedByLow, IsUpper, HasLower, HasAbsolute}
-use Rattle.elf_image.specs.faults.ReferenceFaults.{IsPaired, IsBadField, IsBadCall, IsBadUpper, IsBadPair, IsBadLower}
-use Rattle.elf_image.specs.faults.ReferenceFaults.{IsBadAbsolute, IsBadDifference, HasBadLabel, IsMisfit, IsRelocMismatch}
-use Rattle.elf_image.specs.faults.ReferenceFaults.{IsLoMismatch, IsNarrow, IsNarrowDiff}
+use Rattle.elf_code.specs.LoadedNumbers.{loaded_number}
+use Rattle.elf_code.specs.Relocations.{Relocation, relocations, symbol_value, label, is_pcrel_lo, is_pcrel_hi, is_call_pair}
+use Rattle.elf_code.specs.Relocations.{is_supported, HasRelocation, Width}
+use Rattle.elf_code.specs.Cells.{is_plus, is_minus, IsCodeLabel}
+use Rattle.elf_code.specs.ReferenceFaults.{IsRelocType, IsCall, HasAuipc, IsNamedByLow, IsUpper, HasLower, HasAbsolute}
+use Rattle.elf_code.specs.ReferenceFaults.{IsPaired, IsBadField, IsBadCall, IsBadUpper, IsBadPair, IsBadLower}
+use Rattle.elf_code.specs.ReferenceFaults.{IsBadAbsolute, IsBadDifference, HasBadLabel, IsMisfit, IsRelocMismatch}
+use Rattle.elf_code.specs.ReferenceFaults.{IsLoMismatch, IsNarrow, IsNarrowDiff}
 use Rattle.elf_readings.proofs.Alike.{bare_symbol, Alike, back, any_alike}
 use Rattle.elf_readings.proofs.Relocations.{with_section, bare_relocation, relocations_alike, Twin, flip, twin, symbol_alike}
 use Rattle.elf_readings.proofs.Roles.{label_alike, number_alike, field_of, holds_of, full_of, pair_of, call_of, low_of, hi_of}

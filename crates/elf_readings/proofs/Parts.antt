@@ -4,11 +4,11 @@ use Rattle.rv_code.specs.declared.inst.Inst.{Inst}
 use Rattle.elf_image.specs.declared.elf.Elf.{Elf}
 use Rattle.elf_image.specs.declared.section.Section.{Section}
 use Rattle.elf_image.specs.declared.symbol.Symbol.{Symbol}
-use Rattle.elf_image.specs.code.Cuts.{names_function, IsBound}
+use Rattle.elf_image.specs.file.Cuts.{names_function, IsBound}
 use Rattle.elf_image.specs.file.Sections.{holds_code}
-use Rattle.elf_image.specs.code.Parts.{IsCut, IsInCode, IsPart, IsCovered, IsZeroPart, IsCodePart, length_at, length_in}
-use Rattle.elf_image.specs.code.Parts.{halfword_at, halfword_in, IsInstAt, IsInstIn, StartsIn, at_start, after, IsStartIn}
-use Rattle.elf_image.specs.code.Parts.{IsStart, HasInst, HasValidInst, IsWholePart}
+use Rattle.elf_code.specs.Parts.{IsCut, IsInCode, IsPart, IsCovered, IsZeroPart, IsCodePart, length_at, length_in}
+use Rattle.elf_code.specs.Parts.{halfword_at, halfword_in, IsInstAt, IsInstIn, StartsIn, at_start, after, IsStartIn}
+use Rattle.elf_code.specs.Parts.{IsStart, HasInst, HasValidInst, IsWholePart}
 use Rattle.elf_image.specs.memory.LoadedBytes.{byte_at}
 use Rattle.elf_readings.proofs.Alike.{bare, bare_symbol, Alike, back, any_alike, memory}
 

@@ -12,10 +12,10 @@ use Rattle.elf_image.specs.declared.symbol.Symbol.{Symbol}
 use Rattle.elf_image.specs.declared.section.SectionHeader.{SectionHeader}
 use Rattle.elf_image.specs.file.Symbols.{symbol_table}
 use Rattle.elf_image.specs.file.ParsedFile.{IsSectionAt, IsSymbolAt, AreSymbolsOf, IsElfOf}
-use Rattle.elf_image.specs.code.Functions.{AreFunctions}
-use Rattle.elf_image.specs.code.FileCode.{AreStarts, AreRoles, AreCells}
-use Rattle.elf_image.specs.faults.CodeFaults.{HasCodeFault}
-use Rattle.elf_image.specs.faults.FirstFault.{IsFree, IsAnswered}
+use Rattle.elf_code.specs.Functions.{AreFunctions}
+use Rattle.elf_code.specs.FileCode.{AreStarts, AreRoles, AreCells}
+use Rattle.elf_code.specs.CodeFaults.{HasCodeFault}
+use Rattle.rb_bytes.specs.FirstFault.{IsFree, IsAnswered}
 use Rattle.elf_readings.specs.Laws.{HaveSameCode, ReadingLaw, bounds}
 use Rattle.elf_readings.proofs.Alike.{bare, bare_symbol, Alike, back}
 use Rattle.elf_readings.proofs.Parts.{start_of}

@@ -11,7 +11,7 @@ use Rattle.elf_image.specs.declared.section.Section.{Section}
 use Rattle.elf_image.specs.declared.symbol.Symbol.{Symbol}
 use Rattle.elf_image.specs.declared.relocation.TheConstants.{SHT_RELA, RELA_SIZE}
 use Rattle.elf_image.specs.file.SectionNames.{is_loaded}
-use Rattle.elf_image.specs.code.Relocations.{Relocation, relocations, entries_from, relocation_at, is_named, symbol_value}
+use Rattle.elf_code.specs.Relocations.{Relocation, relocations, entries_from, relocation_at, is_named, symbol_value}
 use Rattle.elf_readings.proofs.Alike.{bare, bare_symbol, Alike, contains_alike}
 
 abbrev pub with_section : Relocation → Section → Relocation

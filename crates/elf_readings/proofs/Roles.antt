@@ -6,12 +6,14 @@ use Rattle.rv_code.specs.declared.inst.Inst.{Inst}
 use Rattle.rv_code.specs.declared.placed.Role.{Role}
 use Rattle.elf_image.specs.declared.elf.Elf.{Elf}
 use Rattle.elf_image.specs.declared.section.Section.{Section}
-use Rattle.elf_image.specs.memory.LoadedBytes.{byte_at, loaded_number, number_in}
-use Rattle.elf_image.specs.code.Relocations.{Relocation, relocations, label, Width, Bits, Uleb128, plus_width, minus_width}
-use Rattle.elf_image.specs.code.Fields.{leb_from, leb_at, leb_field, bytes_of_bits, width_size, size_by, field_size, HasField}
-use Rattle.elf_image.specs.code.Fields.{HoldBits, HoldsDifference}
-use Rattle.elf_image.specs.code.Roles.{IsFullAt, CallPair, CallTo, PcrelLo, PcrelHiTo, PcrelLoTo, AbsoluteTo, Claims, call_hi}
-use Rattle.elf_image.specs.code.Roles.{call_lo, weak_call, hi, lo, abs_hi, abs_lo, HasRole, HasNoRole, RoleIs}
+use Rattle.elf_image.specs.memory.LoadedBytes.{byte_at}
+use Rattle.elf_code.specs.LoadedNumbers.{loaded_number}
+use Rattle.rv_code.specs.machine.MemoryNumbers.{number_in}
+use Rattle.elf_code.specs.Relocations.{Relocation, relocations, label, Width, Bits, Uleb128, plus_width, minus_width}
+use Rattle.elf_code.specs.Fields.{leb_from, leb_at, leb_field, bytes_of_bits, width_size, size_by, field_size, HasField}
+use Rattle.elf_code.specs.Fields.{HoldBits, HoldsDifference}
+use Rattle.elf_code.specs.Roles.{IsFullAt, CallPair, CallTo, PcrelLo, PcrelHiTo, PcrelLoTo, AbsoluteTo, Claims, call_hi}
+use Rattle.elf_code.specs.Roles.{call_lo, weak_call, hi, lo, abs_hi, abs_lo, HasRole, HasNoRole, RoleIs}
 use Rattle.elf_readings.proofs.Alike.{Alike, back, memory}
 use Rattle.elf_readings.proofs.Relocations.{with_section, Twin, twin, symbol_alike}
 use Rattle.elf_readings.proofs.Parts.{byte_of, has_inst_of, start_of}

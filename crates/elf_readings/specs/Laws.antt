@@ -7,10 +7,10 @@ use Rattle.rv_code.specs.declared.cell.CodeCell.{CodeCell}
 use Rattle.rv_code.specs.declared.placed.Func.{Func}
 use Rattle.rv_code.specs.declared.placed.Role.{Role}
 use Rattle.elf_image.specs.declared.elf.Elf.{Elf}
-use Rattle.elf_image.specs.code.FileCode.{AreStarts, AreRoles, AreCells}
-use Rattle.elf_image.specs.code.Functions.{IsCodeAddress, AreFunctions}
-use Rattle.elf_image.specs.faults.CodeFaults.{HasCodeFault}
-use Rattle.elf_image.specs.faults.FirstFault.{IsFree, IsAnswered}
+use Rattle.elf_code.specs.FileCode.{AreStarts, AreRoles, AreCells}
+use Rattle.elf_code.specs.Functions.{IsCodeAddress, AreFunctions}
+use Rattle.elf_code.specs.CodeFaults.{HasCodeFault}
+use Rattle.rb_bytes.specs.FirstFault.{IsFree, IsAnswered}
 use Rattle.elf_image.specs.file.ParsedFile.{IsElfOf}
 
 -- what holds of the code of one reading holds of that of the other

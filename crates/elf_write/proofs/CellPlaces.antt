@@ -12,7 +12,8 @@ use Rattle.elf_image.specs.file.Header.{header_size}
 use Rattle.elf_image.specs.memory.Image.{is_load, loads_address, segment_of, LoadOnce}
 use Rattle.elf_image.specs.memory.LoadedBytes.{file_offset, offset_in, IsInHeaders}
 use Rattle.elf_image.specs.faults.SegmentLayout.{IsFileByte}
-use Rattle.elf_image.proofs.LoadLemmas.{find-found, loads-parts, loads-from_parts}
+use Rattle.elf_image.proofs.LoadLemmas.{loads-parts, loads-from_parts}
+use Rattle.rb_bytes.proofs.Searches.{find-found}
 use Rattle.elf_parts.specs.declared.number_at.NumberAt.{NumberAt}
 use Rattle.elf_parts.specs.Numbers.{patch_of}
 use Rattle.elf_parts.specs.Patches.{AreApart}

@@ -10,8 +10,8 @@ use Rattle.elf_image.specs.faults.FileFaults.{IsSound}
 use Rattle.elf_image.specs.file.Header.{segments_of}
 use Rattle.elf_image.specs.file.ParsedFile.{IsElfOf}
 use Rattle.elf_image.specs.memory.Image.{LoadOnce}
-use Rattle.elf_image.specs.memory.LoadedBytes.{number_in}
-use Rattle.move_law.specs.Rewrite.{executable_of, memory_of}
+use Rattle.rv_code.specs.machine.MemoryNumbers.{number_in}
+use Rattle.elf_image.specs.memory.Executables.{executable_of, memory_of}
 use Rattle.elf_parts.specs.declared.number_at.NumberAt.{NumberAt}
 use Rattle.elf_parts.specs.Numbers.{patch_of}
 use Rattle.elf_parts.specs.Parts.{size_of}

@@ -8,13 +8,14 @@ use Rattle.elf_image.specs.faults.FileFaults.{IsSound}
 use Rattle.elf_image.specs.file.Header.{e_entry, segments_of}
 use Rattle.elf_image.specs.file.ParsedFile.{IsElfOf}
 use Rattle.elf_image.specs.memory.Image.{LoadOnce}
-use Rattle.elf_image.specs.memory.LoadedBytes.{address_of, address_in, loads_range, number_in}
-use Rattle.elf_image.proofs.LoadLemmas.{find-found}
+use Rattle.elf_image.specs.memory.LoadedBytes.{address_of, address_in, loads_range}
+use Rattle.rv_code.specs.machine.MemoryNumbers.{number_in}
+use Rattle.rb_bytes.proofs.Searches.{find-found}
 use Rattle.addr_map.specs.Spans.{moved}
-use Rattle.move_law.specs.Rewrite.{executable_of, memory_of}
+use Rattle.elf_image.specs.memory.Executables.{executable_of, memory_of}
 use Rattle.elf_parts.specs.Patches.{Stands}
 use Rattle.elf_parts.proofs.Patches.{stands-each}
-use Rattle.sym_machine.specs.HiddenFields.{e_entry_field}
+use Rattle.elf_image.specs.memory.HiddenFields.{e_entry_field}
 use Rattle.elf_write.specs.Area.{moved_by}
 use Rattle.elf_write.specs.FileParts.{IsMade}
 use Rattle.elf_write.specs.Source.{Source}

@@ -7,7 +7,7 @@ use Rattle.elf_image.specs.declared.segment.Segment.{Segment}
 use Rattle.elf_image.specs.file.Header.{e_phnum, segment, segments_of}
 use Rattle.elf_image.specs.memory.Image.{is_load, end_of, loads_address}
 use Rattle.rv_code.specs.layout.FunctionLists.{address_end}
-use Rattle.elf_image.specs.memory.Start.{page_size, rounded_down}
+use Rattle.elf_image.specs.memory.Break.{page_size, rounded_down}
 use Rattle.elf_image.proofs.LoadLemmas.{loads-parts, loads-from_parts}
 use Rattle.elf_image.proofs.ReadLists.{length-segments_of, get_or-segments}
 use Rattle.elf_write.specs.RangesWithNew.{Loads, ShareNone}

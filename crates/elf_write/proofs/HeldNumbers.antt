@@ -9,7 +9,7 @@ use Rattle.byteorder.specs.Numbers.{length-bytes_low_first}
 use Rattle.elf_image.specs.declared.segment.Segment.{Segment}
 use Rattle.elf_image.specs.declared.segment.TheConstants.{PT_LOAD}
 use Rattle.elf_image.specs.memory.Image.{image_byte, byte_of, is_load, loads_address, LoadOnce}
-use Rattle.elf_image.specs.memory.LoadedBytes.{number_in}
+use Rattle.rv_code.specs.machine.MemoryNumbers.{number_in}
 use Rattle.elf_image.proofs.LoadLemmas.{loads-from_parts}
 use Rattle.elf_parts.specs.declared.number_at.NumberAt.{NumberAt}
 use Rattle.elf_parts.specs.Numbers.{patch_of}

@@ -4,7 +4,7 @@ use Rattle.std.proofs.Common.{Option, Some, None, Bool, true, false, IsTrue, len
 use Rattle.std.specs.Prelude.{Contains, find, flat_map, is_none, ◌||◌, ◌&&◌, nat_le, nat_lt, option_map, option_and_then}
 use Rattle.std.specs.List.{list_any, enumerate_from}
 use Rattle.std.specs.Option.{option_map_or}
-use Rattle.std.proofs.lemmas.Bool.{lt-ltb, le-leb, leb-true, and_from, eq-eqb}
+use Rattle.std.proofs.lemmas.Bool.{lt-ltb, le-leb, leb-true, and_from, eq-eqb, or_left, or_right}
 use Rattle.std.proofs.lemmas.List.{get_or_default}
 use Rattle.std.proofs.lemmas.List.Folds.{list_any-append, list_any_at}
 use Rattle.std.proofs.lemmas.List.FromFn.{length-enumerate_from, get_or-enumerate_from}
@@ -15,12 +15,13 @@ use Rattle.elf_image.specs.faults.SegmentLayout.{IsFileByte}
 use Rattle.elf_image.specs.memory.CodeSegment.{executable_end}
 use Rattle.elf_image.specs.memory.Image.{is_load, loads_address, segment_of, LoadOnce}
 use Rattle.elf_image.specs.memory.LoadedBytes.{Range, is_in_range, address_of, address_in, loads_range, file_offset, offset_in}
-use Rattle.elf_image.proofs.LoadLemmas.{find-found, loads-from_parts}
+use Rattle.elf_image.proofs.LoadLemmas.{loads-from_parts}
+use Rattle.rb_bytes.proofs.Searches.{find-found}
 use Rattle.rb_bytes.proofs.Members.{Contains-cons_cases}
-use Rattle.sym_machine.specs.HiddenFields.{e_entry_field, e_phoff_field, e_phnum_field, section_fields, p_offset_field}
-use Rattle.sym_machine.specs.HiddenFields.{size_fields, place_fields, only, is_executable_segment, hidden_in_segment}
-use Rattle.sym_machine.specs.HiddenFields.{hidden_fields, is_hidden_field}
-use Rattle.move_law.specs.FaithfulRewrite.{is_in_entry_field}
+use Rattle.rb_bytes.proofs.Tests.{second_of}
+use Rattle.elf_image.specs.memory.HiddenFields.{e_entry_field, e_phoff_field, e_phnum_field, section_fields, p_offset_field}
+use Rattle.elf_image.specs.memory.HiddenFields.{size_fields, place_fields, only, is_executable_segment, hidden_in_segment}
+use Rattle.elf_image.specs.memory.HiddenFields.{hidden_fields, is_hidden_field, is_in_entry_field}
 use Rattle.elf_write.specs.Source.{Source, is_changed, cell_range}
 use Rattle.elf_write.proofs.Images.{segment_of-once}
 
@@ -30,22 +31,11 @@ and-left : (a b : Bool) → (a && b) ≡ true → a ≡ true
 and-left true b e = refl
 and-left false b e = e
 
-and-right : (a b : Bool) → (a && b) ≡ true → b ≡ true
-and-right true b e = e
-and-right false b e = let differ : false ≡ true = e in absurd (cc)
-
-or-left : (a b : Bool) → a ≡ true → (a || b) ≡ true
-or-left a b e = rw e refl
-
-or-right : (a b : Bool) → b ≡ true → (a || b) ≡ true
-or-right true b e = refl
-or-right false b e = e
-
 any-left : {X : Type 0} (p : X → Bool) (xs ys : List X) → list_any p xs ≡ true → list_any p (xs ++ ys) ≡ true
-any-left p xs ys e = list_any-append p xs ys ∙ or-left (list_any p xs) (list_any p ys) e
+any-left p xs ys e = list_any-append p xs ys ∙ or_left (list_any p xs) (list_any p ys) e
 
 any-right : {X : Type 0} (p : X → Bool) (xs ys : List X) → list_any p ys ≡ true → list_any p (xs ++ ys) ≡ true
-any-right p xs ys e = list_any-append p xs ys ∙ or-right (list_any p xs) (list_any p ys) e
+any-right p xs ys e = list_any-append p xs ys ∙ or_right (list_any p xs) (list_any p ys) e
 
 any-flat_map : {X Y : Type 0} (p : Y → Bool) (f : X → List Y) (xs : List X) (x : X) → Contains xs x → list_any p (f x) ≡ true →
     list_any p (flat_map f xs) ≡ true
@@ -63,7 +53,7 @@ in-range k start size from below =
 
 any-only : (k : ℕ) (test : Bool) (r : Range) → test ≡ true → is_in_range k r ≡ true →
     list_any (is_in_range k) (only test r) ≡ true
-any-only k test r e inside = rw e (or-left (is_in_range k r) false inside)
+any-only k test r e inside = rw e (or_left (is_in_range k r) false inside)
 
 -- Fields of the file's header.
 
@@ -90,13 +80,13 @@ module _ (elf : Elf) (tight : Bool) where
 
   pub hides-e_shoff : (k : ℕ) → 0x28 ≤ k → k < 0x30 → list_any (is_in_range k) (hidden_fields elf tight) ≡ true
   hides-e_shoff k from below =
-      in-sections k (or-left (is_in_range k (record { start = 0x28; size = 8 })) _ (in-range k 0x28 8 from below))
+      in-sections k (or_left (is_in_range k (record { start = 0x28; size = 8 })) _ (in-range k 0x28 8 from below))
 
   pub hides-e_shnum : (k : ℕ) → 0x3c ≤ k → k < 0x3e → list_any (is_in_range k) (hidden_fields elf tight) ≡ true
   hides-e_shnum k from below =
       in-sections k
-      (or-right (is_in_range k (record { start = 0x28; size = 8 })) _
-      (or-left (is_in_range k (record { start = 0x3c; size = 2 })) _ (in-range k 0x3c 2 from below)))
+      (or_right (is_in_range k (record { start = 0x28; size = 8 })) _
+      (or_left (is_in_range k (record { start = 0x3c; size = 2 })) _ (in-range k 0x3c 2 from below)))
 
   pub hides-e_phoff : (k : ℕ) → 0x20 ≤ k → k < 0x28 → (tight || nat_le (executable_end elf.segments.items) elf.phoff) ≡ true →
       list_any (is_in_range k) (hidden_fields elf tight) ≡ true
@@ -201,20 +191,20 @@ is_hidden-at elf tight p k once there in_file in_memory hides =
     (λ (o : Option ℕ). option_map_or (λ offset. list_any (is_in_range offset) (hidden_fields elf tight)) o false) placed ∙ hides
 
 pub changed-hidden : (s : Source) (tight : Bool) (a : ℕ) → is_hidden_field s.elf tight a ≡ true → is_changed s tight a ≡ true
-changed-hidden s tight a e = or-right (list_any (λ cell. is_in_range a (cell_range cell)) s.cells || is_in_entry_field s.elf a)
+changed-hidden s tight a e = or_right (list_any (λ cell. is_in_range a (cell_range cell)) s.cells || is_in_entry_field s.elf a)
     (is_hidden_field s.elf tight a) e
 
 pub changed-entry : (s : Source) (tight : Bool) (a : ℕ) → is_in_entry_field s.elf a ≡ true → is_changed s tight a ≡ true
 changed-entry s tight a e =
-    or-left (list_any (λ cell. is_in_range a (cell_range cell)) s.cells || is_in_entry_field s.elf a)
+    or_left (list_any (λ cell. is_in_range a (cell_range cell)) s.cells || is_in_entry_field s.elf a)
     (is_hidden_field s.elf tight a)
-    (or-right (list_any (λ cell. is_in_range a (cell_range cell)) s.cells) (is_in_entry_field s.elf a) e)
+    (or_right (list_any (λ cell. is_in_range a (cell_range cell)) s.cells) (is_in_entry_field s.elf a) e)
 
 pub changed-cell : (s : Source) (tight : Bool) (a : ℕ) (cell : ℕ × ℕ × ℕ) → Contains s.cells cell → cell.0 ≤ a →
     a < cell.0 + cell.1 → is_changed s tight a ≡ true
 changed-cell s tight a cell (i, below, is) from under =
-    or-left (list_any (λ c. is_in_range a (cell_range c)) s.cells || is_in_entry_field s.elf a) (is_hidden_field s.elf tight a)
-    (or-left (list_any (λ c. is_in_range a (cell_range c)) s.cells) (is_in_entry_field s.elf a)
+    or_left (list_any (λ c. is_in_range a (cell_range c)) s.cells || is_in_entry_field s.elf a) (is_hidden_field s.elf tight a)
+    (or_left (list_any (λ c. is_in_range a (cell_range c)) s.cells) (is_in_entry_field s.elf a)
     (list_any_at (λ c. is_in_range a (cell_range c)) s.cells i cell below
     (ap (λ (c : ℕ × ℕ × ℕ). is_in_range a (cell_range c)) is ∙ in-range a cell.0 cell.1 from under)))
 
@@ -233,10 +223,10 @@ changed-e_entry s tight p k once alone there in_file in_memory from below =
     whole q e = (
       (
         and-left (is_load q) _ (and-left (is_load q && nat_le q.offset 0x18) _ e),
-        leb-true q.offset 0x18 (and-right (is_load q) (nat_le q.offset 0x18) (and-left (is_load q && nat_le q.offset 0x18) _ e)),
+        leb-true q.offset 0x18 (second_of (is_load q) (nat_le q.offset 0x18) (and-left (is_load q && nat_le q.offset 0x18) _ e)),
       ),
       leb-true 0x20 (q.offset + min q.filesz q.memsz)
-          (and-right (is_load q && nat_le q.offset 0x18) (nat_le 0x20 (q.offset + min q.filesz q.memsz)) e),
+          (second_of (is_load q && nat_le q.offset 0x18) (nat_le 0x20 (q.offset + min q.filesz q.memsz)) e),
     )
 
     cases : (o : Option Segment) → find (loads_range e_entry_field) s.elf.segments.items ≡ o → is_changed s tight a ≡ true

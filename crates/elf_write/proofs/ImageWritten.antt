@@ -4,7 +4,7 @@ use Rattle.std.proofs.Common.{◌++◌, Option, Bool, true, false, length, map, 
 use Rattle.std.specs.Prelude.{All, Contains, IsFalse, ◌||◌, nat_le}
 use Rattle.std.specs.Option.{option_map_or}
 use Rattle.std.specs.List.{list_any}
-use Rattle.std.proofs.lemmas.Bool.{cases_lt, leb-false, lt-ltb}
+use Rattle.std.proofs.lemmas.Bool.{cases_lt, leb-false, lt-ltb, or_parts}
 use Rattle.std.proofs.lemmas.List.{get_or-map, get_or_default, length-map}
 use Rattle.std.proofs.lemmas.List.Elements.{All-append}
 use Rattle.std.proofs.lemmas.List.Sums.{fold-append}
@@ -19,7 +19,7 @@ use Rattle.elf_image.specs.memory.CodeSegment.{executable_end}
 use Rattle.elf_image.specs.memory.Image.{LoadOnce}
 use Rattle.elf_image.specs.memory.LoadedBytes.{is_in_range}
 use Rattle.elf_image.proofs.ReadLists.{length-segments_of, get_or-segments}
-use Rattle.sym_machine.specs.HiddenFields.{hidden_fields}
+use Rattle.elf_image.specs.memory.HiddenFields.{hidden_fields}
 use Rattle.elf_parts.specs.declared.number_at.NumberAt.{NumberAt}
 use Rattle.elf_parts.specs.declared.parts.Parts.{Parts}
 use Rattle.elf_parts.specs.Numbers.{patch_of}
@@ -61,11 +61,6 @@ low-bytes : (xs : List ℕ) → All (λ b. b < 256) xs → (j : ℕ) → get_or 
 low-bytes [] all j = omega arith
 low-bytes (x ∷ xs) all zero = all 0 x (omega arith)
 low-bytes (x ∷ xs) all (suc j) = low-bytes xs (λ i d below. all (suc i) d (omega arith)) j
-
--- neither holds
-or-parts : (a b : Bool) → (a || b) ≡ false → (a ≡ false) × (b ≡ false)
-or-parts false b e = (refl, e)
-or-parts true b e = let differ : true ≡ false = e in absurd (cc)
 
 module _ (s : Source) (tight : Bool) (w : List ℕ) (read : IsElfOf s.elf.file.now s.elf) (sound : IsSound s.elf.file.now)
     (bytes : All (λ b. b < 256) s.elf.file.now) (made : IsMade s tight w) where
@@ -249,7 +244,7 @@ module _ (s : Source) (tight : Bool) (w : List ℕ) (read : IsElfOf s.elf.file.n
             get_or (little_bytes 8 made.fields.segments_at) (k - 0x20) 0 ≡ get_or file k 0
         cases from below true moves = absurd (shown (hides-e_phoff s.elf tight k from below moves))
         cases from below false stays = same-number 0x20 8 made.fields.segments_at (made.segments_at
-            ∙ kept-place (or-parts tight (nat_le (executable_end ps) s.elf.phoff) stays) ∙ read.phoff) from below
+            ∙ kept-place (or_parts tight (nat_le (executable_end ps) s.elf.phoff) stays) ∙ read.phoff) from below
           where
             kept-place : (tight ≡ false) × (nat_le (executable_end ps) s.elf.phoff ≡ false) → made.table_at ≡ s.elf.phoff
             kept-place both =

@@ -8,7 +8,8 @@ use Rattle.std.proofs.lemmas.Bool.{lt-ltb, le-ltb, ltb-true, ltb-false}
 use Rattle.elf_image.specs.declared.segment.Segment.{Segment}
 use Rattle.elf_image.specs.file.Header.{is_set}
 use Rattle.elf_image.specs.memory.Image.{image_byte, byte_of, is_load, has_flag, loads_address, segment_of, end_of, LoadOnce}
-use Rattle.elf_image.proofs.LoadLemmas.{find-found, find-only, loads-parts, loads-from_parts}
+use Rattle.elf_image.proofs.LoadLemmas.{loads-parts, loads-from_parts}
+use Rattle.rb_bytes.proofs.Searches.{find-found, find-only}
 use Rattle.elf_write.specs.CarriedBytes.{CarriesSegment, CarriesSegments, CarriesByte, CarriesImage, HoldsBytes}
 use Rattle.elf_parts.specs.Patches.{Stands}
 

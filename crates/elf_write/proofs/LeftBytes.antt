@@ -13,7 +13,7 @@ use Rattle.elf_image.specs.declared.segment.TheConstants.{PHDR_SIZE, PT_GNU_EH_F
 use Rattle.elf_image.specs.file.Header.{number_at, segment_at}
 use Rattle.elf_image.specs.memory.CodeSegment.{executable_segment, executable_end}
 use Rattle.elf_image.specs.memory.LoadedBytes.{is_in_range}
-use Rattle.sym_machine.specs.HiddenFields.{hidden_fields, is_executable_segment}
+use Rattle.elf_image.specs.memory.HiddenFields.{hidden_fields, is_executable_segment}
 use Rattle.elf_parts.specs.Patches.{Leaves}
 use Rattle.elf_parts.specs.Spellings.{Number, number, segment_numbers, segment_table}
 use Rattle.elf_parts.proofs.SameBytes.{little_bytes-same}

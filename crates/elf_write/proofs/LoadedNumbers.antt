@@ -6,7 +6,7 @@ use Rattle.std.proofs.lemmas.List.{append-nil}
 use Rattle.byteorder.specs.Endian.{little_bytes, little_from}
 use Rattle.byteorder.specs.Numbers.{length-bytes_low_first, little_from-cons, little_from-bytes}
 use Rattle.rv_code.specs.machine.Machine.{little}
-use Rattle.elf_image.specs.memory.LoadedBytes.{and_more, bytes_in, number_in}
+use Rattle.rv_code.specs.machine.MemoryNumbers.{and_more, bytes_in, number_in}
 
 bytes_in-holds : (memory : ℕ → Option ℕ) (a : ℕ) (bytes : List ℕ) →
     ((j : ℕ) → j < length bytes → memory (a + j) ≡ Some (get_or bytes j 0)) → bytes_in memory a (length bytes) ≡ Some bytes

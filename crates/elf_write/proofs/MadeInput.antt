@@ -10,7 +10,7 @@ use Rattle.elf_image.specs.file.Header.{segments_of}
 use Rattle.elf_image.specs.file.ParsedFile.{IsElfOf}
 use Rattle.elf_image.specs.memory.CodeSegment.{executable_segment}
 use Rattle.elf_image.specs.memory.Image.{LoadOnce}
-use Rattle.elf_image.specs.memory.Start.{rounded_up}
+use Rattle.elf_image.specs.memory.Break.{rounded_up}
 use Rattle.elf_write.specs.declared.area.Area.{Area}
 use Rattle.elf_write.specs.Area.{code_segment, loads_end, no_segment, moved_by, step_of}
 use Rattle.elf_write.specs.FileParts.{IsMade}

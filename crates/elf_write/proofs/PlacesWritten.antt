@@ -14,7 +14,7 @@ use Rattle.elf_image.specs.file.Header.{e_phnum, segments_of}
 use Rattle.elf_image.specs.file.ParsedFile.{IsElfOf}
 use Rattle.elf_image.specs.memory.Image.{is_load, end_of}
 use Rattle.elf_image.specs.memory.LoadedBytes.{loads_range}
-use Rattle.elf_image.specs.memory.Start.{table_address, break_start, break_bound, rounded_up}
+use Rattle.elf_image.specs.memory.Break.{table_address, break_start, break_bound, rounded_up}
 use Rattle.elf_image.proofs.ReadLists.{length-segments_of}
 use Rattle.elf_parts.specs.Parts.{size_of}
 use Rattle.elf_write.specs.declared.area.Area.{Area}

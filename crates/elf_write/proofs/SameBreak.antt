@@ -8,11 +8,13 @@ use Rattle.std.proofs.lemmas.Nat.{div-add-mod', mod_below}
 use Rattle.elf_image.specs.declared.segment.Segment.{Segment}
 use Rattle.elf_image.specs.declared.segment.TheConstants.{PT_LOAD, PF_W}
 use Rattle.elf_image.specs.memory.Image.{is_load, end_of, has_memory, has_flag}
-use Rattle.elf_image.specs.memory.Start.{writable_end, break_start, break_bound, break_room, page_size, rounded_down, rounded_up}
+use Rattle.elf_image.specs.memory.Break.{writable_end, break_start, break_bound, break_room, page_size, rounded_down}
+use Rattle.elf_image.specs.memory.Break.{rounded_up}
 use Rattle.elf_write.specs.declared.area.Area.{Area}
 use Rattle.elf_write.specs.NewSegments.{IsRenewed, AreRenewed, AreNewHeaders, grows_at, inserted, area_segment}
 use Rattle.elf_write.specs.Room.{greatest_align, highest_end, break_end, new_segment_start}
 use Rattle.elf_write.proofs.FileEnds.{max-from}
+use Rattle.rb_bytes.proofs.Tests.{bool_same}
 
 -- Values of the segments that pass a test.
 
@@ -85,11 +87,6 @@ and-false : (b : Bool) → (b && false) ≡ false
 and-false true = refl
 and-false false = refl
 
-pub bool-same : (a b : Bool) → (a ≡ true → b ≡ true) → (b ≡ true → a ≡ true) → a ≡ b
-bool-same true b there back = sym (there refl)
-bool-same false true there back = back refl
-bool-same false false there back = refl
-
 abbrev is_written : Segment → Bool
 is_written p = has_memory p && has_flag PF_W p
 
@@ -123,7 +120,7 @@ module _ (file_end step end : ℕ) (tight : Bool) (p q : Segment) where
       cases true e =
           let same : is_load q ≡ true = load-same grown renewed ∙ e in
           let sizes : nat_lt 0 q.memsz ≡ nat_lt 0 p.memsz =
-          bool-same (nat_lt 0 q.memsz) (nat_lt 0 p.memsz)
+          bool_same (nat_lt 0 q.memsz) (nat_lt 0 p.memsz)
           (λ some. lt-ltb 0 p.memsz (memory-from grown renewed grows e (ltb-true 0 q.memsz some)))
           (λ some.
           let low : 0 < p.memsz = ltb-true 0 p.memsz some in

@@ -18,7 +18,7 @@ use Rattle.elf_image.specs.faults.Truncation.{IsReadable}
 use Rattle.elf_image.proofs.LowestPlaces.{IsLowest-none}
 use Rattle.elf_image.proofs.ReadableFiles.{lowest-readable}
 use Rattle.elf_image.proofs.ReadLists.{length-segments_of, get_or-segments, LoadOnce-apart}
-use Rattle.move_law.proofs.code.InstPlaces.{stable_equal}
+use Rattle.rb_bytes.proofs.Stable.{stable_equal}
 
 -- The first of a list with indices that passes a test.
 record IsFirst {X : Type 0} (p : ℕ × X → Bool) (xs : List X) (n i : ℕ) (x : X) : Type 0 where

@@ -11,7 +11,7 @@ use Rattle.elf_image.specs.memory.Image.{is_load}
 use Rattle.elf_image.specs.memory.LoadedBytes.{Range, loads_range, address_in}
 use Rattle.elf_write.specs.NewSegments.{IsRenewed, AreRenewed, CrossesNot}
 use Rattle.elf_write.proofs.Loads.{moved-behind, moved-before}
-use Rattle.elf_write.proofs.SameBreak.{bool-same}
+use Rattle.rb_bytes.proofs.Tests.{bool_same}
 
 -- a segment loads a range of the file
 pub record LoadsRange (start size : ℕ) (p : Segment) : Type 0 where
@@ -267,7 +267,7 @@ address-kept file_end step end area_end start size tight grows ps qs at some are
     found-kept (loads_range (range_at start size)) (loads_range (range_at start size)) (address_in (range_at start size))
     (address_in (range_at start size)) ps qs are.count
     (λ k d below.
-    bool-same (loads_range (range_at start size) (get_or qs k d)) (loads_range (range_at start size) (get_or ps k d))
+    bool_same (loads_range (range_at start size) (get_or qs k d)) (loads_range (range_at start size) (get_or ps k d))
     (λ e. range-loads start size (get_or ps k d)
     (back-stays file_end step end area_end start size tight (grows k) (get_or ps k d) (get_or qs k d) some (are.each k d d below)
     (apart k d below) (grow k d below) low within (loads-range start size (get_or qs k d) e)))
@@ -280,7 +280,7 @@ address-kept file_end step end area_end start size tight grows ps qs at some are
     found-kept (loads_range (range_at start size)) (loads_range (range_at (start + step) size)) (address_in (range_at start size))
     (address_in (range_at (start + step) size)) ps qs are.count
     (λ k d below.
-    bool-same (loads_range (range_at (start + step) size) (get_or qs k d)) (loads_range (range_at start size) (get_or ps k d))
+    bool_same (loads_range (range_at (start + step) size) (get_or qs k d)) (loads_range (range_at start size) (get_or ps k d))
     (λ e. range-loads start size (get_or ps k d)
     (back-moves file_end step end area_end start size tight (grows k) (get_or ps k d) (get_or qs k d) some (are.each k d d below)
     (apart k d below) (grow k d below) behind above (loads-range (start + step) size (get_or qs k d) e)))
@@ -293,7 +293,7 @@ address-kept file_end step end area_end start size tight grows ps qs at some are
     found-kept (loads_range (range_at start size)) (loads_range (range_at at size)) (address_in (range_at start size))
     (address_in (range_at at size)) ps qs are.count
     (λ k d below.
-    bool-same (loads_range (range_at at size) (get_or qs k d)) (loads_range (range_at start size) (get_or ps k d))
+    bool_same (loads_range (range_at at size) (get_or qs k d)) (loads_range (range_at start size) (get_or ps k d))
     (λ e. absurd (after k d below (loads-range at size (get_or qs k d) e)))
     (λ e. absurd (before k d below (loads-range start size (get_or ps k d) e))))
     (λ k d below e. absurd (before k d below (loads-range start size (get_or ps k d) e)))

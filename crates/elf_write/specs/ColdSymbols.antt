@@ -3,7 +3,7 @@ use Rattle.std.specs.Prelude.{ℕ, ◌&&◌, ◌==◌, ◌++◌, List, Option, f
 use Rattle.rv_code.specs.declared.placed.Func.{Func}
 use Rattle.rv_code.specs.layout.FunctionMembers.{func_holds}
 use Rattle.elf_image.specs.declared.symbol.Symbol.{Symbol}
-use Rattle.elf_image.specs.code.Cuts.{names_function}
+use Rattle.elf_image.specs.file.Cuts.{names_function}
 
 -- where the function starts that has an address
 abbrev pub start_around : List Func → ℕ → Option ℕ

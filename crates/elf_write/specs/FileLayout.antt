@@ -11,7 +11,7 @@ use Rattle.elf_image.specs.declared.segment.Segment.{Segment}
 use Rattle.elf_image.specs.declared.segment.TheConstants.{PHDR_SIZE}
 use Rattle.elf_image.specs.file.Header.{e_phoff, e_shoff}
 use Rattle.elf_image.specs.memory.LoadedBytes.{Range, loads_range}
-use Rattle.elf_image.specs.memory.Start.{rounded_up}
+use Rattle.elf_image.specs.memory.Break.{rounded_up}
 use Rattle.rv_code.specs.layout.Lists.{ListsPairs}
 use Rattle.elf_write.specs.declared.area.Area.{Area}
 use Rattle.elf_write.specs.declared.area.Shift.{Shift}

@@ -6,7 +6,7 @@ use Rattle.elf_image.specs.declared.elf.Elf.{Elf}
 use Rattle.elf_image.specs.declared.segment.Segment.{Segment}
 use Rattle.elf_image.specs.memory.Image.{is_load}
 use Rattle.elf_image.specs.memory.LoadedBytes.{Range, is_in_range}
-use Rattle.sym_machine.specs.HiddenFields.{e_entry_field, e_phoff_field, e_phnum_field, only, section_fields}
+use Rattle.elf_image.specs.memory.HiddenFields.{e_entry_field, e_phoff_field, e_phnum_field, only, section_fields}
 use Rattle.elf_write.specs.Area.{code_file_end, loads_end}
 use Rattle.elf_write.specs.FileLayout.{table_of}
 

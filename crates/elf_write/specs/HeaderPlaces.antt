@@ -13,7 +13,7 @@ use Rattle.elf_image.specs.declared.segment.TheConstants.{PHDR_SIZE, PT_GNU_EH_F
 use Rattle.elf_image.specs.file.SectionNames.{is_loaded}
 use Rattle.elf_image.specs.memory.CodeSegment.{executable_segment}
 use Rattle.elf_image.specs.memory.Image.{is_load}
-use Rattle.elf_image.specs.memory.Start.{rounded_up}
+use Rattle.elf_image.specs.memory.Break.{rounded_up}
 use Rattle.elf_write.specs.declared.area.Area.{Area}
 use Rattle.elf_write.specs.declared.area.Shift.{Shift}
 use Rattle.elf_write.specs.declared.sections.Contents.{Contents}

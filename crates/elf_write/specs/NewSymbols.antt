@@ -7,7 +7,7 @@ use Rattle.elf_image.specs.declared.elf.Elf.{Elf}
 use Rattle.elf_image.specs.declared.section.Section.{Section}
 use Rattle.elf_image.specs.declared.symbol.Symbol.{Symbol}
 use Rattle.elf_image.specs.declared.symbol.TheConstants.{STT_FUNC}
-use Rattle.elf_image.specs.code.Cuts.{names_function}
+use Rattle.elf_image.specs.file.Cuts.{names_function}
 use Rattle.rv_code.specs.declared.placed.Func.{Func}
 use Rattle.elf_write.specs.ColdSymbols.{cold_name, named_around}
 use Rattle.elf_write.specs.Fragments.{IsFragmentAt}

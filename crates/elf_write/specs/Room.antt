@@ -8,7 +8,7 @@ use Rattle.elf_image.specs.declared.segment.TheConstants.{PHDR_SIZE}
 use Rattle.elf_image.specs.file.Header.{header_size}
 use Rattle.elf_image.specs.memory.CodeSegment.{executable_segment, executable_end}
 use Rattle.elf_image.specs.memory.Image.{is_load, end_of}
-use Rattle.elf_image.specs.memory.Start.{page_size, rounded_down, rounded_up, writable_end, break_start, break_room}
+use Rattle.elf_image.specs.memory.Break.{page_size, rounded_down, rounded_up, writable_end, break_start, break_room}
 use Rattle.rv_code.specs.layout.FunctionLists.{address_end}
 
 abbrev pub area_align : ℕ

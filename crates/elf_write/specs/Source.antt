@@ -6,8 +6,7 @@ use Rattle.elf_image.specs.declared.elf.Elf.{Elf}
 use Rattle.elf_image.specs.memory.LoadedBytes.{Range, is_in_range}
 use Rattle.addr_map.specs.declared.span.Span.{Span}
 use Rattle.addr_map.specs.Spans.{IsStretch}
-use Rattle.sym_machine.specs.HiddenFields.{is_hidden_field}
-use Rattle.move_law.specs.FaithfulRewrite.{is_in_entry_field}
+use Rattle.elf_image.specs.memory.HiddenFields.{is_hidden_field, is_in_entry_field}
 use Rattle.elf_write.specs.declared.area.Area.{Area}
 use Rattle.elf_write.specs.Area.{area_of, area_start_of}
 use Rattle.elf_write.specs.Room.{room, room_above}

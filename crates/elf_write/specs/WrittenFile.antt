@@ -4,11 +4,12 @@ use Rattle.elf_image.specs.declared.elf.Elf.{Elf}
 use Rattle.elf_image.specs.faults.FileFaults.{IsSound}
 use Rattle.elf_image.specs.file.Header.{e_entry, segments_of}
 use Rattle.elf_image.specs.memory.CodeSegment.{executable_segment}
-use Rattle.elf_image.specs.memory.LoadedBytes.{number_in, address_of, file_offset, IsInHeaders}
-use Rattle.elf_image.specs.memory.Start.{table_address, break_start, break_bound}
+use Rattle.elf_image.specs.memory.LoadedBytes.{address_of, file_offset, IsInHeaders}
+use Rattle.rv_code.specs.machine.MemoryNumbers.{number_in}
+use Rattle.elf_image.specs.memory.Break.{table_address, break_start, break_bound}
 use Rattle.addr_map.specs.Spans.{moved}
-use Rattle.move_law.specs.Rewrite.{AreCodeBytes, executable_of, memory_of}
-use Rattle.sym_machine.specs.HiddenFields.{e_entry_field}
+use Rattle.elf_image.specs.memory.Executables.{AreCodeBytes, executable_of, memory_of}
+use Rattle.elf_image.specs.memory.HiddenFields.{e_entry_field}
 use Rattle.elf_write.specs.Area.{shift_of}
 use Rattle.elf_write.specs.CarriedBytes.{CarriesImage, HoldsBytes}
 use Rattle.elf_write.specs.FrontBytes.{KeepsFront}

@@ -5,12 +5,12 @@ ghost use Rattle.elf_write.specs.Room as spec;
 ghost use Rattle.elf_write.specs.RoomFault as fault;
 
 use crate::round::{capped, rounded_up};
+use elf_image::code_segment::executable_segment;
 use elf_image::header::EHDR_SIZE;
 use elf_image::segment::{ADDRESS_END, PHDR_SIZE, PT_LOAD};
 use elf_image::start::{BREAK_ROOM, PAGE_SIZE, writable_end};
 use elf_image::{Elf, Segment};
 use rb_bytes::fault::{Fault, FaultKind};
-use sym_machine::code_segment::executable_segment;
 
 /// The new area starts at a multiple of this.
 pub const AREA_ALIGN: u64 = 16;

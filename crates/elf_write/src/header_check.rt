@@ -8,11 +8,11 @@ use crate::area_bytes::table_size;
 use crate::section_tables::SectionTables;
 use crate::sections::Sections;
 use crate::segments::Places;
+use elf_image::code_segment::executable_segment;
 use elf_image::named::EH_FRAME_HDR;
 use elf_image::{Section, Segment};
 use rb_bytes::fault::NoMemory;
 use std::alloc::Global;
-use sym_machine::code_segment::executable_segment;
 
 // The offsets of sections.
 fn offsets_of(alloc: Global, sections: &[Section]) -> Result<Vec<u64>, NoMemory>

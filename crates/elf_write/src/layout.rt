@@ -14,11 +14,11 @@ use crate::sections::Table;
 use crate::tail::OUTPUT_LIMIT;
 use addr_map::AddrMap;
 use elf_image::Elf;
+use elf_image::code_segment::executable_segment;
 use elf_image::named::{EH_FRAME, EH_FRAME_HDR};
 use elf_parts::Parts;
 use rb_bytes::fault::NoMemory;
 use std::alloc::Global;
-use sym_machine::code_segment::executable_segment;
 
 /// The loaded part of a written file.
 #[derive(Drop)]

@@ -2,7 +2,7 @@
 // the bytes that it loads. gABI, "ELF Header", "Program Header" and "Section Header".
 ghost use Rattle.std.specs.Prelude.{◌≡◌, ◌+◌, ◌*◌, ◌++◌, ◌≤◌, IfOk, IsTrue, length, map, max};
 ghost use Rattle.elf_image.specs.file.Header.{e_shoff};
-ghost use Rattle.elf_image.specs.memory.Start.{rounded_up};
+ghost use Rattle.elf_image.specs.memory.Break.{rounded_up};
 ghost use Rattle.elf_write.specs.FileLayout as spec;
 ghost use Rattle.elf_write.specs.KnownSections.{Knows};
 

@@ -26,11 +26,11 @@ use crate::section_tables::SectionTables;
 use crate::sections::{Sections, Table, replaced_by};
 use crate::symbol_check::CodeSymbols;
 use crate::symbol_tables::SymbolTables;
+use elf_image::code_segment::executable_segment;
 use elf_image::named::{EH_FRAME, EH_FRAME_HDR};
 use elf_image::{Elf, read};
 use rb_bytes::fault::NoMemory;
 use std::alloc::Global;
-use sym_machine::code_segment::executable_segment;
 
 // The new area for some code and tables, and how bytes move to make room for it.
 fn area_for(

@@ -1,6 +1,6 @@
 // Numbers rounded up, and numbers of 64 bits.
 ghost use Rattle.std.specs.Prelude.{◌≡◌, ◌+◌, ◌^◌, ◌<◌, ◌≤◌, IfOk};
-ghost use Rattle.elf_image.specs.memory.Start.{rounded_up};
+ghost use Rattle.elf_image.specs.memory.Break.{rounded_up};
 ghost use Rattle.elf_write.specs.Need.{capped};
 
 use rb_bytes::fault::NoMemory;

@@ -37,7 +37,7 @@ impl<'a> CodeSymbols<'a> {
     ghost use Rattle.addr_map.specs.Spans.{moved};
     ghost use Rattle.rv_code.specs.layout.FunctionLists.{AreLaidOut};
     ghost use Rattle.elf_image.specs.declared.symbol.Symbol.{Symbol};
-    ghost use Rattle.elf_image.specs.code.Cuts.{names_function};
+    ghost use Rattle.elf_image.specs.file.Cuts.{names_function};
     ghost use Rattle.elf_write.specs.FragmentLists.{AreFragments};
     ghost use Rattle.elf_write.specs.FirstNames.{AreFirstNames};
     ghost use Rattle.elf_write.specs.Fragments.{IsFragmentAt};

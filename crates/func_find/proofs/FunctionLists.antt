@@ -17,12 +17,12 @@ use Rattle.rv_code.specs.declared.placed.Role.TheVariants.{Plain, CallHi}
 use Rattle.rv_code.specs.isa.Action.{action_of}
 use Rattle.rv_code.specs.layout.Flow.{target, target_of}
 use Rattle.elf_image.specs.declared.elf.Elf.{Elf}
-use Rattle.elf_image.specs.code.FileCode.{AreStarts, AreRoles}
-use Rattle.elf_image.specs.code.Parts.{IsCodePart, StartsIn, IsInstAt, IsWholePart}
-use Rattle.elf_image.specs.code.Roles.{HasRole, RoleIs}
-use Rattle.elf_image.specs.code.Functions.{AreInsts, IsFunctionPart, IsCodeAddress, IsFunction, AreFunctions}
-use Rattle.elf_image.specs.faults.FirstFault.{Lacks, LacksBelow, IsFree, IsAnswered, IsRefusalBy}
-use Rattle.elf_image.specs.faults.FunctionFaults.{IsBareAuipc, IsInsideInstruction, IsBadTarget, direct, pair, HasFunctionFault}
+use Rattle.elf_code.specs.FileCode.{AreStarts, AreRoles}
+use Rattle.elf_code.specs.Parts.{IsCodePart, StartsIn, IsInstAt, IsWholePart}
+use Rattle.elf_code.specs.Roles.{HasRole, RoleIs}
+use Rattle.elf_code.specs.Functions.{AreInsts, IsFunctionPart, IsCodeAddress, IsFunction, AreFunctions}
+use Rattle.rb_bytes.specs.FirstFault.{Lacks, LacksBelow, IsFree, IsAnswered, IsRefusalBy}
+use Rattle.elf_code.specs.FunctionFaults.{IsBareAuipc, IsInsideInstruction, IsBadTarget, direct, pair, HasFunctionFault}
 use Rattle.elf_image.specs.faults.LowestPlace.{IsLowest}
 use Rattle.elf_image.proofs.LowestPlaces.{IsLowest-same}
 use Rattle.rv_reloc.specs.declared.parts.Part.{Part}

@@ -9,15 +9,14 @@ use Rattle.std.proofs.lemmas.List.Elements.{All-contains}
 use Rattle.rv_code.specs.declared.inst.Inst.{Inst}
 use Rattle.elf_image.specs.declared.elf.Elf.{Elf}
 use Rattle.elf_image.specs.memory.LoadedBytes.{byte_at}
-use Rattle.elf_image.specs.code.Parts.{IsCovered, IsCodePart, IsZeroPart, StartsIn, at_start, HasValidInst, halfword_at}
-use Rattle.elf_image.specs.code.Parts.{length_at}
-use Rattle.elf_image.specs.code.Functions.{IsNopPart, IsFunctionPart, code, referred, fallen_into}
+use Rattle.elf_code.specs.Parts.{IsCovered, IsCodePart, IsZeroPart, StartsIn, at_start, HasValidInst, halfword_at, length_at}
+use Rattle.elf_code.specs.Functions.{IsNopPart, IsFunctionPart, code, referred, fallen_into}
 use Rattle.rv_reloc.specs.declared.parts.Part.{Part}
 use Rattle.rv_reloc.specs.Parts.{AreCodeParts, Precedes}
 use Rattle.rv_reloc.proofs.Chosen.{ChosenOf}
 use Rattle.rv_reloc.proofs.StartLists.{starts_inside}
 use Rattle.rv_reloc.proofs.WholeLookup.{StartsIn-inside}
-use Rattle.elf_image.specs.code.FileCode.{AreStarts}
+use Rattle.elf_code.specs.FileCode.{AreStarts}
 use Rattle.func_find.specs.ValidInsts.{IsValidBefore, IsNopBefore}
 use Rattle.func_find.specs.FunctionParts.{AreFunctionParts, AreFunctionsBefore, FallsAt, FallsOut, IsEntered, HasReferred}
 use Rattle.func_find.specs.Referents.{AreReferred}

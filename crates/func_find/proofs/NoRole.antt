@@ -3,8 +3,8 @@ use Rattle.std.proofs.Common.{ℕ, zero, suc, ◌<◌, ◌≤◌, inl, inr, ⊎_
 use Rattle.std.proofs.lemmas.Bool.{cases_lt}
 use Rattle.rv_code.specs.declared.placed.Role.{Role}
 use Rattle.elf_image.specs.declared.elf.Elf.{Elf}
-use Rattle.elf_image.specs.code.Relocations.{Relocation}
-use Rattle.elf_image.specs.code.Roles.{Claims, HasRole, HasNoRole}
+use Rattle.elf_code.specs.Relocations.{Relocation}
+use Rattle.elf_code.specs.Roles.{Claims, HasRole, HasNoRole}
 
 -- none of a type below n
 NoneBelow : Elf → ℕ → ℕ → Type 0

@@ -11,9 +11,9 @@ use Rattle.rv_code.specs.declared.inst.Inst.TheVariants.{Auipc}
 use Rattle.rv_code.specs.declared.placed.Role.{Role}
 use Rattle.rv_code.specs.declared.placed.Role.TheVariants.{Plain}
 use Rattle.elf_image.specs.declared.elf.Elf.{Elf}
-use Rattle.elf_image.specs.code.FileCode.{AreRoles}
-use Rattle.elf_image.specs.code.Parts.{IsInstAt, length_at}
-use Rattle.elf_image.specs.code.Roles.{HasRole, HasNoRole}
+use Rattle.elf_code.specs.FileCode.{AreRoles}
+use Rattle.elf_code.specs.Parts.{IsInstAt, length_at}
+use Rattle.elf_code.specs.Roles.{HasRole, HasNoRole}
 use Rattle.func_find.specs.ValidInsts.{IsValidBefore}
 use Rattle.rv_code.specs.isa.AddressParts.{IsAuipc}
 use Rattle.func_find.specs.InstLists.{IsFaultBefore, bare, IsPlacedAt}

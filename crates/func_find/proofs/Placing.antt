@@ -11,9 +11,9 @@ use Rattle.rb_bytes.specs.declared.fault.Refusal.TheVariants as refusal
 use Rattle.rv_code.specs.declared.placed.Placed.{Placed}
 use Rattle.rv_code.specs.declared.placed.Func.{Func}
 use Rattle.elf_image.specs.declared.elf.Elf.{Elf}
-use Rattle.elf_image.specs.code.Parts.{StartsIn, at_start, after, IsInstAt, length_at}
-use Rattle.elf_image.specs.code.Roles.{RoleIs}
-use Rattle.elf_image.specs.code.Functions.{AreInsts}
+use Rattle.elf_code.specs.Parts.{StartsIn, at_start, after, IsInstAt, length_at}
+use Rattle.elf_code.specs.Roles.{RoleIs}
+use Rattle.elf_code.specs.Functions.{AreInsts}
 use Rattle.rb_bytes.proofs.Members.{Contains-cons_cases}
 use Rattle.rv_reloc.specs.declared.parts.Part.{Part}
 use Rattle.rv_reloc.specs.Parts.{Precedes}

@@ -2,8 +2,8 @@
 use Rattle.std.proofs.Common.{◌≡◌, sym, subst, ℕ, zero, suc, inl, inr, ⊎_elim, ◌↔◌, List, [], ◌∷◌, Contains, Any, arith}
 use Rattle.rv_code.specs.layout.ProgramCode.{RoleNames, CellNames}
 use Rattle.elf_image.specs.declared.elf.Elf.{Elf}
-use Rattle.elf_image.specs.code.Parts.{StartsIn}
-use Rattle.elf_image.specs.code.Functions.{IsReferred, jump, role, cell, entry}
+use Rattle.elf_code.specs.Parts.{StartsIn}
+use Rattle.elf_code.specs.Functions.{IsReferred, jump, role, cell, entry}
 use Rattle.rv_reloc.specs.declared.parts.Part.{Part}
 use Rattle.rv_reloc.specs.declared.refs.Refs.{Refs}
 use Rattle.rv_reloc.specs.Parts.{AreCodeParts}

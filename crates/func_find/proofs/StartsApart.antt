@@ -5,7 +5,7 @@ use Rattle.std.proofs.lemmas.Bool.{eq-eqb, ne_eqb}
 use Rattle.rv_code.specs.declared.inst.Inst.{Inst}
 use Rattle.rv_code.specs.isa.InstBytes.{DecodesHalf, DecodesFull}
 use Rattle.elf_image.specs.declared.elf.Elf.{Elf}
-use Rattle.elf_image.specs.code.Parts.{StartsIn, IsInstAt, length_at, halfword_at}
+use Rattle.elf_code.specs.Parts.{StartsIn, IsInstAt, length_at, halfword_at}
 use Rattle.rv_reloc.proofs.StartLists.{length_positive, starts_cases, starts_inside}
 
 -- no start lies in the instruction of another

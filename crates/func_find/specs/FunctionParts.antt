@@ -5,8 +5,8 @@ use Rattle.rv_code.specs.isa.Action.{action_of}
 use Rattle.rv_code.specs.layout.Flow.{falls}
 use Rattle.rv_code.specs.layout.Lists.{ListsAll}
 use Rattle.elf_image.specs.declared.elf.Elf.{Elf}
-use Rattle.elf_image.specs.code.Parts.{StartsIn}
-use Rattle.elf_image.specs.code.Functions.{IsFunctionPart, IsReferred}
+use Rattle.elf_code.specs.Parts.{StartsIn}
+use Rattle.elf_code.specs.Functions.{IsFunctionPart, IsReferred}
 use Rattle.rv_reloc.specs.declared.parts.Part.{Part}
 use Rattle.rv_reloc.specs.Parts.{Precedes}
 use Rattle.func_find.specs.ValidInsts.{IsValidBefore}

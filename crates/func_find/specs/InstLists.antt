@@ -10,9 +10,9 @@ use Rattle.rv_code.specs.declared.inst.Inst.TheVariants.{Auipc}
 use Rattle.rv_code.specs.declared.placed.Placed.{Placed}
 use Rattle.rv_code.specs.declared.placed.Func.{Func}
 use Rattle.elf_image.specs.declared.elf.Elf.{Elf}
-use Rattle.elf_image.specs.code.Parts.{StartsIn, IsInstAt}
-use Rattle.elf_image.specs.code.Roles.{HasNoRole, RoleIs}
-use Rattle.elf_image.specs.code.Functions.{AreInsts}
+use Rattle.elf_code.specs.Parts.{StartsIn, IsInstAt}
+use Rattle.elf_code.specs.Roles.{HasNoRole, RoleIs}
+use Rattle.elf_code.specs.Functions.{AreInsts}
 use Rattle.rv_reloc.specs.declared.parts.Part.{Part}
 use Rattle.func_find.specs.ValidInsts.{IsValidBefore}
 

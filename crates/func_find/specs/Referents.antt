@@ -4,8 +4,8 @@ use Rattle.rv_code.specs.declared.inst.Inst.{Inst}
 use Rattle.rv_code.specs.isa.Action.{action_of}
 use Rattle.rv_code.specs.layout.Flow.{target}
 use Rattle.elf_image.specs.declared.elf.Elf.{Elf}
-use Rattle.elf_image.specs.code.Parts.{StartsIn}
-use Rattle.elf_image.specs.code.Functions.{IsReferred}
+use Rattle.elf_code.specs.Parts.{StartsIn}
+use Rattle.elf_code.specs.Functions.{IsReferred}
 use Rattle.rv_reloc.specs.declared.parts.Part.{Part}
 use Rattle.func_find.specs.ValidInsts.{IsValidBefore}
 

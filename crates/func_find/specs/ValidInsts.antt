@@ -2,8 +2,8 @@
 use Rattle.std.specs.Prelude.{◌≡◌, ◌≢◌, ℕ, ◌+◌, ◌≤◌, ◌%◌}
 use Rattle.rv_code.specs.declared.inst.Inst.{Inst}
 use Rattle.elf_image.specs.declared.elf.Elf.{Elf}
-use Rattle.elf_image.specs.code.Parts.{length_at}
-use Rattle.elf_image.specs.code.Functions.{IsNopAt}
+use Rattle.elf_code.specs.Parts.{length_at}
+use Rattle.elf_code.specs.Functions.{IsNopAt}
 use Rattle.rv_reloc.specs.Parts.{IsInstBefore}
 
 -- the bytes at an address are an instruction that the file can have there, which ends by another address

@@ -1,9 +1,9 @@
 // The functions of a file.
 ghost use Rattle.std.specs.Prelude.{◌≡◌, ◌<◌, IfOk, IfErr, OnOk, AllPairs};
-ghost use Rattle.elf_image.specs.code.FileCode.{AreStarts};
-ghost use Rattle.elf_image.specs.code.Functions.{AreFunctions};
-ghost use Rattle.elf_image.specs.faults.FirstFault.{IsFree, IsRefusalBy};
-ghost use Rattle.elf_image.specs.faults.FunctionFaults.{HasFunctionFault};
+ghost use Rattle.elf_code.specs.FileCode.{AreStarts};
+ghost use Rattle.elf_code.specs.Functions.{AreFunctions};
+ghost use Rattle.rb_bytes.specs.FirstFault.{IsFree, IsRefusalBy};
+ghost use Rattle.elf_code.specs.FunctionFaults.{HasFunctionFault};
 ghost use Rattle.elf_image.specs.faults.LowestPlace.{IsLowest};
 ghost use Rattle.rv_reloc.specs.Parts.{ArePartsApart};
 ghost use Rattle.rv_reloc.specs.Refs.{AreRefs};

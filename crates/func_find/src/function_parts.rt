@@ -1,8 +1,8 @@
 // Which parts are functions: all but padding of nops that nothing leads to.
 ghost use Rattle.std.specs.Prelude.{◌≡◌, ◌↔◌, ◌<◌, ℕ, List, All, Any, IfOk, IsTrue, Contains};
-ghost use Rattle.elf_image.specs.code.FileCode.{AreStarts};
-ghost use Rattle.elf_image.specs.code.Functions.{IsFunctionPart, IsNopPart};
-ghost use Rattle.elf_image.specs.code.Parts.{IsCodePart, IsCovered, StartsIn};
+ghost use Rattle.elf_code.specs.FileCode.{AreStarts};
+ghost use Rattle.elf_code.specs.Functions.{IsFunctionPart, IsNopPart};
+ghost use Rattle.elf_code.specs.Parts.{IsCodePart, IsCovered, StartsIn};
 ghost use Rattle.elf_image.specs.internal.Extents.{IsInOneExtent};
 ghost use Rattle.rv_reloc.specs.Parts.{AreCodeParts};
 ghost use Rattle.rv_reloc.specs.Refs.{AreRefs};

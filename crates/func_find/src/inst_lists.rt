@@ -2,8 +2,8 @@
 ghost use Rattle.std.specs.Prelude.{◌≡◌, ◌↔◌, ◌<◌, ◌≤◌, ℕ, List, [], ◌∷◌, All, AllPairs, Contains, IfOk, IfErr, IfSome, IfNone};
 ghost use Rattle.std.specs.Prelude.{IsTrue, length, slice_index_or};
 ghost use Rattle.rv_code.specs.declared.placed.Role.{Role};
-ghost use Rattle.elf_image.specs.code.FileCode.{AreRoles};
-ghost use Rattle.elf_image.specs.code.Parts.{IsCodePart};
+ghost use Rattle.elf_code.specs.FileCode.{AreRoles};
+ghost use Rattle.elf_code.specs.Parts.{IsCodePart};
 ghost use Rattle.rv_reloc.specs.Parts.{ArePartsApart, Precedes};
 ghost use Rattle.rv_code.specs.isa.AddressParts.{IsAuipc};
 ghost use Rattle.func_find.specs.InstLists.{AreFunctionsOf, AreInstsOf, IsFaultBefore, IsFirstRefusal, IsPlacedAt};

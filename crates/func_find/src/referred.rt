@@ -2,7 +2,7 @@
 ghost use Rattle.std.specs.Prelude.{◌≡◌, ◌↔◌, ℕ, List, Any, IfOk, OnOk, IsTrue, Some, Contains};
 ghost use Rattle.std.specs.List.Sorted.{IsNonDecreasingBy};
 ghost use Rattle.rv_code.specs.layout.ProgramCode.{RoleNames, CellNames};
-ghost use Rattle.elf_image.specs.code.FileCode.{AreStarts};
+ghost use Rattle.elf_code.specs.FileCode.{AreStarts};
 ghost use Rattle.rv_reloc.specs.Parts.{AreCodeParts};
 ghost use Rattle.rv_reloc.specs.Refs.{AreRefs};
 ghost use Rattle.rb_bytes.specs.Lists.{Gains};

@@ -9,7 +9,7 @@ use Rattle.std.proofs.lemmas.Option.{slice_get_within, get_or_from_slice_get, sl
 use Rattle.rb_bytes.specs.Fault.{fault_at, number_of}
 use Rattle.rb_bytes.specs.declared.fault.FaultKind.{FaultKind}
 use Rattle.rb_bytes.specs.declared.fault.FaultKind.TheVariants.{UnitTooLong, KeptBranch}
-use Rattle.elf_image.specs.faults.FirstFault.{IsAnswered, IsFree, LacksBelow}
+use Rattle.rb_bytes.specs.FirstFault.{IsAnswered, IsFree, LacksBelow}
 use Rattle.rv_code.specs.declared.placed.Placed.{Placed}
 use Rattle.rv_code.specs.declared.placed.Func.{Func}
 use Rattle.rv_code.specs.declared.placed.Block.{Block}

@@ -7,6 +7,7 @@ use Rattle.std.proofs.lemmas.Grind.{common_steps}
 use Rattle.std.proofs.lemmas.Bool.{cases_eq, cases_lt, cases_Bool}
 use Rattle.std.proofs.lemmas.List.{get_or-take, length-take-le}
 use Rattle.std.proofs.lemmas.List.Sums.{sum_by_more, sum_by_more_le_part}
+use Rattle.std.proofs.lemmas.Option.{same_Some}
 use Rattle.func_place.specs.declared.calls.UnitCall.{UnitCall}
 use Rattle.func_place.specs.Calls.{calls_between}
 use Rattle.func_place.specs.internal.HeaviestCallers.{IsUpTo, AreByCallee, more_of}
@@ -121,9 +122,6 @@ pub record IsTopOf (Other : ℕ → Type 0) (count : ℕ → ℕ) (best : Option
   pub is : (v : ℕ) → best ≡ Some v → count v ≡ most
   pub first : (v w : ℕ) → best ≡ Some v → Other w → count w ≡ most → v ≤ w
 
-some_is : (v w : ℕ) → Some v ≡ Some w → v ≡ w
-some_is v w e = cc
-
 some_none : (v : ℕ) → Some v ≡ None → ⊥
 some_none v e = cc
 
@@ -135,11 +133,11 @@ take_top Other f g from most best t same may more = record {
       let is = same w ne in
       omega arith) (cases_eq w from);
   none = λ e. absurd (some_none from e);
-  other = λ v e. subst Other (some_is from v e) may;
+  other = λ v e. subst Other (same_Some from v e) may;
   some = λ v e. omega arith;
-  is = λ v e. ap g (sym (some_is from v e));
+  is = λ v e. ap g (sym (same_Some from v e));
   first = λ v w e o h. ⊎_elim
-      (λ (at : w ≡ from). let v_is = some_is from v e in omega arith)
+      (λ (at : w ≡ from). let v_is = same_Some from v e in omega arith)
       (λ (ne : w ≢ from). let le = t.bound w o in let is = same w ne in absurd (omega arith))
       (cases_eq w from);
 }

@@ -4,7 +4,7 @@ ghost use Rattle.rb_bytes.specs.declared.fault.Refusal.{Refusal};
 ghost use Rattle.rv_code.specs.layout.FunctionMembers.{IsOfFunction};
 ghost use Rattle.rv_code.specs.declared.placed.Block.{Block};
 ghost use Rattle.rv_code.specs.layout.FunctionLists.{AreLaidOut};
-ghost use Rattle.elf_image.specs.faults.FirstFault.{IsFree, IsRefusalBy};
+ghost use Rattle.rb_bytes.specs.FirstFault.{IsFree, IsRefusalBy};
 ghost use Rattle.edge_profile.specs.BlockPlaces.{AreBlocksApart};
 ghost use Rattle.edge_profile.specs.Profile.{pairs_of};
 ghost use Rattle.edge_profile.specs.Weights.{block_weight};

@@ -4,9 +4,9 @@ use Rattle.rb_bytes.specs.declared.fault.Fault.{Fault}
 use Rattle.rb_bytes.specs.declared.fault.FaultKind.{FaultKind}
 use Rattle.rb_bytes.specs.declared.fault.FaultKind.TheVariants.{RegisteredFrames, FrameFault, TooLarge}
 use Rattle.elf_image.specs.declared.elf.Elf.{Elf}
-use Rattle.elf_image.specs.faults.FirstFault.{IsAnswered, IsFree}
+use Rattle.rb_bytes.specs.FirstFault.{IsAnswered, IsFree}
 use Rattle.elf_image.specs.faults.FileFaults.{HasFault}
-use Rattle.elf_image.specs.faults.CodeFaults.{HasCodeFault}
+use Rattle.elf_code.specs.CodeFaults.{HasCodeFault}
 use Rattle.addr_map.specs.declared.span.Span.{Span}
 use Rattle.cfi_rows.specs.Frames.{tabled}
 use Rattle.frame_rewrite.specs.Faults.{IsRegisteredFrames}

@@ -2,7 +2,6 @@
 -- else. From these facts alone follows that the output keeps the input's runs.
 use Rattle.std.specs.Prelude.{◌≡◌, ℕ, zero, suc, ◌%◌, ◌^◌, ◌≤◌, ◌==◌, ◌||◌, if◌then◌else◌, ℤ, pos, Bool, true, false, not, IsTrue}
 use Rattle.std.specs.Prelude.{IsFalse, IsSome, IfSome, Option, Some, All, Any, length, option_map}
-use Rattle.std.specs.Option.{option_map_or}
 use Rattle.std.specs.List.{list_any}
 use Rattle.rv_code.specs.declared.inst.Inst.{Inst}
 use Rattle.rv_code.specs.declared.inst.Inst.TheVariants.{Lui, Auipc, Jal, Jalr, Lb, Lh, Lw, Ld, Lbu, Lhu, Lwu, Sb, Sh, Sw, Sd}
@@ -16,20 +15,20 @@ use Rattle.rv_code.specs.declared.placed.Role.TheVariants as role
 use Rattle.rv_code.specs.declared.cell.CodeCell.{CodeCell}
 use Rattle.rv_code.specs.isa.Action.{action_of}
 use Rattle.rv_code.specs.layout.ProgramCode.{is_code_address, IsNamed}
-use Rattle.rv_code.specs.layout.Flow.{insts_of, placed_at, action_at, is_call}
+use Rattle.rv_code.specs.layout.Flow.{insts_of, placed_at, action_at, is_call, next_of}
 use Rattle.rv_code.specs.isa.HiLo.{hi20, lo12}
 use Rattle.rv_code.specs.machine.Machine.{plus}
 use Rattle.rv_code.specs.isa.TwosComplement.{unsigned64}
-use Rattle.elf_image.specs.declared.elf.Elf.{Elf}
 use Rattle.elf_image.specs.declared.segment.TheConstants.{PF_R, PF_W, PF_X}
 use Rattle.elf_image.specs.memory.Image.{is_loaded_with}
-use Rattle.elf_image.specs.memory.LoadedBytes.{byte_at, number_in, is_in_range, address_of}
-use Rattle.elf_image.specs.memory.Start.{break_start, break_bound, table_address}
+use Rattle.elf_image.specs.memory.LoadedBytes.{byte_at, is_in_range, address_of}
+use Rattle.rv_code.specs.machine.MemoryNumbers.{number_in}
+use Rattle.elf_image.specs.memory.Break.{break_start, break_bound, table_address}
 use Rattle.addr_map.specs.Spans.{IsMap}
-use Rattle.sym_machine.specs.Rules.{next_of}
-use Rattle.sym_machine.specs.HiddenFields.{e_entry_field, is_hidden_field}
+use Rattle.elf_image.specs.memory.HiddenFields.{e_entry_field, is_hidden_field, is_in_entry_field}
 use Rattle.sym_machine.specs.SymStart.{code_cell_range, symbol_of}
-use Rattle.move_law.specs.Rewrite.{Rewrite, memory_of, width_at, out, inst_end, AreCodeBytes, HasAt, Goes}
+use Rattle.move_law.specs.Rewrite.{Rewrite, width_at, out, inst_end, HasAt, Goes}
+use Rattle.elf_image.specs.memory.Executables.{memory_of, AreCodeBytes}
 use Rattle.move_law.specs.RelocatedValues.{distance, number_of_symbol}
 
 -- The map.
@@ -137,10 +136,6 @@ pub record SameRights (r : Rewrite) (a : ℕ) : Type 0 where
   pub executes : SameRight r PF_X a
 
 -- the bytes that may change: those of code cells, of the field of the entry point, and of hidden fields
-abbrev pub is_in_entry_field : Elf → ℕ → Bool
-is_in_entry_field file a =
-    option_map_or (λ start. is_in_range a (record { start = start; size = 8 })) (address_of file e_entry_field) false
-
 abbrev pub may_change : Rewrite → ℕ → Bool
 may_change r a =
     list_any (λ cell. is_in_range a (code_cell_range cell)) r.code.cells || is_in_entry_field r.input a || is_hidden_field r.input

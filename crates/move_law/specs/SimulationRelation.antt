@@ -9,7 +9,7 @@ use Rattle.rv_code.specs.machine.Machine.{State, Space, may_read, may_write, may
 use Rattle.rv_code.specs.machine.Step.{ByteState}
 use Rattle.elf_image.specs.declared.segment.TheConstants.{PF_W}
 use Rattle.elf_image.specs.memory.Image.{is_loaded_with}
-use Rattle.elf_image.specs.memory.Start.{space_of}
+use Rattle.rv_memory.specs.Start.{space_of}
 use Rattle.sym_machine.specs.declared.value.Pointer.{Pointer}
 use Rattle.sym_machine.specs.declared.value.Pointer.TheVariants.{Code, Ret}
 use Rattle.sym_machine.specs.declared.value.CodeSymbol.{CodeSymbol}
@@ -20,7 +20,8 @@ use Rattle.sym_machine.specs.declared.value.MemoryByte.{MemoryByte}
 use Rattle.sym_machine.specs.declared.value.MemoryByte.TheVariants.{Byte, SymbolByte, Hidden}
 use Rattle.sym_machine.specs.Values.{IsValue, IsMemoryByte}
 use Rattle.sym_machine.specs.SymStep.{SymState}
-use Rattle.move_law.specs.Rewrite.{Rewrite, memory_of, out}
+use Rattle.move_law.specs.Rewrite.{Rewrite, out}
+use Rattle.elf_image.specs.memory.Executables.{memory_of}
 use Rattle.move_law.specs.RelocatedValues.{number_of_symbol, number_of_value, bytes_from}
 
 -- The symbols that the input gives: a pointer to a named address, or to the point after a call; the upper part of an

@@ -6,3 +6,10 @@ pub mod SignedLeb
 pub mod DigitValues
 pub mod Gains
 pub mod Members
+pub mod Searches
+pub mod ListLemmas
+pub mod Stable
+pub mod Permuted
+pub mod Results
+pub mod Tests
+pub mod NumberBytes

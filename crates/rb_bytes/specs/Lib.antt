@@ -4,3 +4,4 @@ pub mod Readers
 pub mod Leb
 pub mod Lists
 pub mod Options
+pub mod FirstFault

@@ -1,3 +1,4 @@
 pub mod Machine
 pub mod DeterminedRuns
 pub mod Step
+pub mod MemoryNumbers

@@ -1,14 +1,9 @@
 -- What a call of brk leaves.
 use Rattle.std.proofs.Common.{◌≡◌, ◌∙◌, sym, ap, ℕ, Bool, true, false}
-use Rattle.std.specs.Prelude.{◌&&◌, nat_le, nat_lt, if◌then◌else◌, Result, Ok, Err, OnErr}
-use Rattle.std.specs.Result.{is_err}
+use Rattle.std.specs.Prelude.{◌&&◌, nat_le, nat_lt, if◌then◌else◌}
 use Rattle.rv_code.specs.machine.Machine.{set_register, with_break}
 use Rattle.rv_code.specs.machine.Step.{ByteState, a0}
 use Rattle.run_core.specs.States.{Same}
-
-pub from_err : {T E : Type 0} (P : Type 0) (r : Result T E) → is_err r ≡ true → OnErr r P → P
-from_err P (Ok x) is p = absurd (cc)
-from_err P (Err e) is p = p
 
 -- a state after the break was asked to go to a place
 pub break_same : (s t : ByteState) (next to : ℕ) →

@@ -1,15 +1,12 @@
 -- A step comes to one outcome.
 use Rattle.std.proofs.Common.{◌≡◌, ◌∙◌, ℕ, Option, Some, None, sym, ap, subst}
-use Rattle.std.specs.Prelude.{unwrap_or}
+use Rattle.std.proofs.lemmas.Option.{same_Some}
 use Rattle.rv_code.specs.declared.inst.Inst.{Inst}
 use Rattle.rv_code.specs.declared.cause.Cause.TheVariants as cause
 use Rattle.rv_code.specs.isa.Action.{action_of}
 use Rattle.rv_code.specs.isa.InstBytes.{Decodes}
 use Rattle.rv_code.specs.machine.Machine.{plus}
 use Rattle.rv_code.specs.machine.Step.{ByteState, ByteOutcome, trap, effect, fetched, Steps, no_fetch, illegal, does}
-
-some_same : {A : Type 0} (x y : A) → Some x ≡ Some y → x ≡ y
-some_same x y same = ap (λ o. unwrap_or o x) same
 
 module _ (s : ByteState) where
   pub only_no_fetch : fetched s ≡ None → (o : ByteOutcome) → Steps s o → o ≡ trap s cause.Fetch
@@ -19,7 +16,7 @@ module _ (s : ByteState) where
 
   module _ (half : ℕ) (next : Option ℕ) (is : fetched s ≡ Some (half, next)) where
     fetched_same : (h : ℕ) (k : Option ℕ) → fetched s ≡ Some (h, k) → ◌≡◌ {A = ℕ × Option ℕ} (half, next) (h, k)
-    fetched_same h k other = some_same {A = ℕ × Option ℕ} (half, next) (h, k) (sym is ∙ other)
+    fetched_same h k other = same_Some {A = ℕ × Option ℕ} (half, next) (h, k) (sym is ∙ other)
 
     pub only_illegal : ((i : Inst) (w : ℕ) → Decodes half next i w → ⊥) → (o : ByteOutcome) → Steps s o → o ≡ trap s cause.Illegal
     only_illegal never o (no_fetch none same) = absurd (cc)

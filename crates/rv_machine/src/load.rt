@@ -13,7 +13,7 @@ use std::alloc::Global;
 impl<'a> Machine<'a> {
     ghost use Rattle.elf_image.specs.faults.FileFaults.{IsSound};
     ghost use Rattle.elf_image.specs.file.ParsedFile.{IsElfOf};
-    ghost use Rattle.elf_image.specs.memory.Start.{start};
+    ghost use Rattle.rv_memory.specs.Start.{start};
     ghost use Rattle.rv_memory.specs.Limits.{IsWithinLimits};
     ghost use Rattle.rv_machine.specs.State.{state_of};
 

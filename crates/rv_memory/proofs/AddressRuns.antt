@@ -10,7 +10,7 @@ use Rattle.std.specs.Prelude.{Result, Ok, Err, IsOk, OnErr}
 use Rattle.std.proofs.Common.{◌/◌, ◌%◌}
 use Rattle.std.specs.Option.{option_map, option_map_or}
 use Rattle.std.proofs.lemmas.Bool.{and_parts, leb-true, leb-false, ltb-true, ltb-false, eqb-true, eqb-false, eq-eqb, le-leb}
-use Rattle.std.proofs.lemmas.Bool.{lt-ltb, false_from_ne_true, cases_lt}
+use Rattle.std.proofs.lemmas.Bool.{lt-ltb, false_from_ne_true, cases_lt, or_cases}
 use Rattle.rv_code.specs.machine.Machine.{plus, put, all_may}
 use Rattle.elf_image.specs.declared.segment.Segment.{Segment}
 use Rattle.elf_image.specs.declared.elf.Elf.{Elf}
@@ -121,17 +121,13 @@ loaded_run elf flag a n p found loads flagged from to room =
     (same_segment elf a q p found (loads-from_parts q p (loads-parts a p loads).0 (omega arith) (omega arith)))
     ∙ flagged)
 
-either : (a b : Bool) → (a || b) ≡ true → (a ≡ true) ⊎ (b ≡ true)
-either true b is = inl refl
-either false b is = inr is
-
 missed : (from q : ℕ) (p : Segment) → misses from p ≡ true → IsTrue (loads_address q p) → q < from + 4096 →
     p.vaddr + p.filesz ≤ from
 missed from q p clear loads high =
     let parts = loads-parts q p loads in
     let load : is_load p ≡ true = parts.0 in
     let low = parts.1 in
-    elim (either (nat_le (p.vaddr + p.filesz) from) (nat_le (from + 4096) p.vaddr) (rw load at clear)) [
+    elim (or_cases (nat_le (p.vaddr + p.filesz) from) (nat_le (from + 4096) p.vaddr) (rw load at clear)) [
       | inl before ↦ leb-true (p.vaddr + p.filesz) from before
       | inr after ↦ let far = leb-true (from + 4096) p.vaddr after in absurd (omega arith)
     ]

@@ -1,16 +1,16 @@
 -- Code that no program may write keeps its bytes.
 use Rattle.std.proofs.Common.{◌≡◌, ◌∙◌, sym, ap, refl, ℕ, zero, suc, ◌+◌, ◌-◌, ◌*◌, ◌/◌, ◌%◌, ◌^◌, ◌<◌, ◌≤◌, Bool, true, false}
 use Rattle.std.proofs.Common.{List, length, Option, Some, None, arith}
-use Rattle.std.specs.Prelude.{◌&&◌, ◌||◌, ◌==◌, nat_le, nat_lt, if◌then◌else◌, unwrap_or, slice_index, max, fold, min, Result, Ok}
+use Rattle.std.specs.Prelude.{◌&&◌, ◌||◌, ◌==◌, nat_le, nat_lt, if◌then◌else◌, unwrap_or, slice_index, Result, Ok}
 use Rattle.std.specs.Prelude.{Err, IsOk, OnErr}
 use Rattle.std.specs.Option.{option_map}
 use Rattle.std.proofs.lemmas.Bool.{and_parts, and_from, leb-true, ltb-true, le-leb, lt-ltb, false_from_ne_true, eqb-true}
+use Rattle.std.proofs.lemmas.Bool.{or_parts}
 use Rattle.rv_code.specs.machine.Machine.{plus, all_may}
-use Rattle.elf_image.specs.declared.segment.Segment.{Segment}
 use Rattle.elf_image.specs.declared.segment.TheConstants.{PF_W}
 use Rattle.elf_image.specs.memory.Image.{image_byte, is_loaded_with}
-use Rattle.elf_image.specs.memory.Start.{in_stack, stack_end, stack_size, writable_end, break_start, break_bound, break_room}
-use Rattle.elf_image.specs.memory.Start.{pages_above}
+use Rattle.elf_image.specs.memory.Break.{break_start, break_bound}
+use Rattle.rv_memory.specs.Start.{in_stack, stack_end, stack_size}
 use Rattle.rv_memory.specs.declared.memory.Memory.{Memory}
 use Rattle.rv_memory.specs.CodeRange.{is_in_code}
 use Rattle.rv_memory.specs.Memory.{memory_of, is_zero_filled, unwritten_byte, writes, executes, Keeps}
@@ -21,12 +21,9 @@ use Rattle.rv_code.specs.machine.Machine.{little, memory_bytes}
 use Rattle.rv_memory.proofs.PageBytes.{little_from-is}
 use Rattle.rv_memory.proofs.AddressRuns.{all_may-run, or_second}
 use Rattle.rv_code.proofs.machine.RelatedMemory.{all_may_implied}
-use Rattle.rv_memory.proofs.StackMemory.{in_stack-both, clash}
+use Rattle.rv_memory.proofs.StackMemory.{in_stack-both}
+use Rattle.rb_bytes.proofs.Tests.{clash}
 use Rattle.rv_memory.specs.Pages.{page_byte, is_within, byte_put, cleared_between}
-
-neither : (a b : Bool) → (a || b) ≡ false → (a ≡ false) × (b ≡ false)
-neither true b is = absurd (cc)
-neither false b is = (refl, is)
 
 pub all_may_at : (may : ℕ → Bool) (a n k : ℕ) → all_may may a n ≡ true → k < n → a + k < 2 ^ 64 → may (a + k) ≡ true
 unfolding all_may
@@ -72,9 +69,9 @@ fixed_parts : (m : Memory) (q : ℕ) → is_in_code m.code q ≡ true → (is_lo
     × (in_stack q ≡ false) × ((nat_le m.break_start q && nat_lt q m.break_bound) ≡ false)
 fixed_parts m q here =
     let outer =
-    neither (is_loaded_with PF_W m.elf.now.segments.items q || in_stack q) (nat_le m.break_start q && nat_lt q m.break_bound)
+    or_parts (is_loaded_with PF_W m.elf.now.segments.items q || in_stack q) (nat_le m.break_start q && nat_lt q m.break_bound)
     (m.code_fixed q here) in
-    let inner = neither (is_loaded_with PF_W m.elf.now.segments.items q) (in_stack q) outer.0 in
+    let inner = or_parts (is_loaded_with PF_W m.elf.now.segments.items q) (in_stack q) outer.0 in
     (inner.0, inner.1, outer.1)
 
 pub unwritable : (m : Memory) (q : ℕ) → is_in_code m.code q ≡ true → writes m q ≡ false
@@ -171,15 +168,6 @@ code_taken m (Ok x) new n page added kept bytes q byte here found = cases (q / 4
         ∙ ap (λ t. if t then Some (slice_index page (q % 4096)) else page_byte m.pages q) test in
         let value : byte ≡ slice_index page (q % 4096) = cc in
         value ∙ bytes (q % 4096) (omega arith) ∙ ap (unwritten_byte m) whole ∙ unwritten_code m q here
-
-pub break_fits : (segments : List Segment) → break_start segments ≤ break_bound segments
-break_fits segments = cases (writable_end segments == 0) refl
-  where
-    cases : (t : Bool) → (writable_end segments == 0) ≡ t →
-        break_start segments ≤
-        (if t then 0 else max (break_start segments) (fold min (break_start segments + break_room) (pages_above segments)))
-    cases false test = omega arith
-    cases true test = let none : writable_end segments ≡ 0 = eqb-true (writable_end segments) 0 test in omega arith
 
 pub writes-keeps : (old new : Memory) → Keeps old new → (q : ℕ) → writes new q ≡ writes old q
 writes-keeps old new keeps q = rw (keeps.elf_is, keeps.start_is, keeps.break_is) refl

@@ -7,7 +7,7 @@ use Rattle.elf_image.specs.declared.segment.Segment.{Segment}
 use Rattle.elf_image.specs.declared.segment.TheConstants.{PF_W}
 use Rattle.elf_image.specs.declared.elf.Elf.{Elf}
 use Rattle.elf_image.specs.memory.Image.{loads_address, segment_of, byte_of, image_byte, has_flag, is_loaded_with}
-use Rattle.elf_image.specs.memory.Start.{in_stack, stack_end, stack_size}
+use Rattle.rv_memory.specs.Start.{in_stack, stack_end, stack_size}
 use Rattle.elf_image.proofs.LoadLemmas.{loads-parts, loads-from_parts, same_segment}
 use Rattle.rv_memory.specs.CodeRange.{is_ever_writable}
 

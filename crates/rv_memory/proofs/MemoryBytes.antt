@@ -1,12 +1,13 @@
 -- Bytes of memory in a row, one at a time.
-use Rattle.std.proofs.Common.{◌≡◌, ℕ, zero, suc, ◌+◌, ◌-◌, ◌*◌, ◌/◌, ◌%◌, ◌<◌, ◌≤◌, ◌^◌, Bool, true, List, [], ◌∷◌, ◌++◌, length}
+use Rattle.std.proofs.Common.{◌≡◌, ℕ, zero, suc, ◌+◌, ◌-◌, ◌*◌, ◌/◌, ◌<◌, ◌≤◌, ◌^◌, Bool, true, List, [], ◌∷◌, ◌++◌, length}
 use Rattle.std.proofs.Common.{take, drop, get_or, refl, sym, ap, ◌∙◌, arith, append_assoc, append-nil, div-one, drop_of_length-le}
 use Rattle.std.proofs.Common.{drop-cons}
 use Rattle.std.specs.Prelude.{if◌then◌else◌, ◌==◌, ◌&&◌}
 use Rattle.std.proofs.Math.Nat.{pow-le-pow_right, pow-suc, div-div-eq-div-mul}
 use Rattle.std.proofs.Math.Bool.{and-true}
 use Rattle.rv_code.specs.machine.Machine.{plus, memory_bytes, put, little, all_may, low_bytes}
-use Rattle.std.specs.Int.{w64, to_le_bytes, bytes_low_first, byte_at}
+use Rattle.std.specs.Int.{w64, to_le_bytes, bytes_low_first}
+use Rattle.rb_bytes.proofs.NumberBytes.{byte_at-power}
 
 pub little_none : (memory : ℕ → ℕ) (a n : ℕ) → n ≡ 0 → little (memory_bytes memory a n) ≡ 0
 unfolding memory_bytes little
@@ -83,10 +84,6 @@ pub all_may_two : (may : ℕ → Bool) (a : ℕ) → all_may may a 2 ≡ may a &
 unfolding all_may
 all_may_two may a = rw (and-true (may (plus a 1))) refl
 
-byte_at-is : (i v : ℕ) → byte_at i v ≡ v / 256 ^ i % 256
-byte_at-is zero v = rw div-one refl
-byte_at-is (suc i) v = refl
-
 pub bytes_low_first-low_bytes : (i n k v : ℕ) → n ≤ k → take n (bytes_low_first i k v) ≡ low_bytes n (v / 256 ^ i)
 unfolding low_bytes
 bytes_low_first-low_bytes i zero k v h = refl
@@ -94,7 +91,7 @@ bytes_low_first-low_bytes i (suc n) zero v h = absurd (omega arith)
 bytes_low_first-low_bytes i (suc n) (suc k) v h =
     let next : v / 256 ^ i / 256 ≡ v / 256 ^ suc i =
     div-div-eq-div-mul v (256 ^ i) 256 ∙ ap (λ (d : ℕ). v / d) (sym (pow-suc 256 i)) in
-    rw (byte_at-is i v, next, bytes_low_first-low_bytes (suc i) n k v (omega arith)) refl
+    rw (byte_at-power i v, next, bytes_low_first-low_bytes (suc i) n k v (omega arith)) refl
 
 -- the low bytes of a number, of the eight that it has
 pub low_bytes_of : (n v : ℕ) → n ≤ 8 → take n (to_le_bytes w64 v) ≡ low_bytes n v

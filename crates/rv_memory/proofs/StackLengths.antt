@@ -12,9 +12,9 @@ use Rattle.rv_code.specs.machine.Machine.{low_bytes}
 use Rattle.rv_code.proofs.machine.LowBytes.{length_numbers}
 use Rattle.elf_image.specs.declared.segment.TheConstants.{PHDR_SIZE}
 use Rattle.elf_image.specs.file.Header.{e_entry, e_phnum}
-use Rattle.elf_image.specs.memory.Start.{page_size, random_address, random_bytes, rounded_down, stack_end, stack_size}
-use Rattle.elf_image.specs.memory.Start.{stack_pointer, stack_bytes, program_arguments, texts, texts_address, text_addresses}
-use Rattle.elf_image.specs.memory.Start.{table_address, auxiliary_vector, start_bytes}
+use Rattle.elf_image.specs.memory.Break.{page_size, rounded_down, table_address}
+use Rattle.rv_memory.specs.Start.{random_address, random_bytes, stack_end, stack_size, stack_pointer, stack_bytes}
+use Rattle.rv_memory.specs.Start.{program_arguments, texts, texts_address, text_addresses, auxiliary_vector, start_bytes}
 use Rattle.rv_memory.specs.Vector.{vector}
 use Rattle.rv_memory.specs.Limits.{IsWithinLimits}
 

@@ -4,7 +4,9 @@ use Rattle.std.proofs.Common.{length}
 use Rattle.std.specs.Prelude.{if◌then◌else◌, ◌==◌, nat_le, nat_lt, slice_index, replicate}
 use Rattle.std.proofs.lemmas.Bool.{eqb-true, eqb-false, leb-true, leb-false, ltb-true, ltb-false, and_parts, false_from_ne_true}
 use Rattle.rv_code.specs.machine.Machine.{plus, put}
-use Rattle.elf_image.specs.memory.Start.{in_stack, stack_end, stack_size}
+use Rattle.rv_memory.specs.Start.{in_stack, stack_end, stack_size}
+use Rattle.rb_bytes.proofs.Tests.{clash}
+use Rattle.rb_bytes.proofs.ListLemmas.{zeros}
 
 plus_one : (a n : ℕ) → a + suc n < 2 ^ 64 → plus a 1 ≡ a + 1
 plus_one a n h = omega arith
@@ -60,9 +62,6 @@ put_past memory a q (b ∷ bytes) room past =
     cases true test rest = let same : q ≡ a = eqb-true q a test in absurd (omega (arith, same, past))
     cases false test rest = rest
 
-pub clash : (b : Bool) → b ≡ true → b ≡ false → ⊥
-clash b t f = absurd (cc)
-
 pub in_stack-both : (q : ℕ) → nat_le (stack_end - stack_size) q ≡ true → nat_lt q stack_end ≡ true → in_stack q ≡ true
 in_stack-both q from before = rw (from, before) refl
 
@@ -108,11 +107,6 @@ module _ (bytes : List ℕ) (pointer : ℕ) (image memory : ℕ → ℕ) (is : (
       by_stack false test = outside q test ∙ is q ∙ ap (λ (t : Bool). if t then 0 else image q) test
 
 -- the registers at the start
-
-zeros : (k n : ℕ) → slice_index (replicate k 0) n ≡ 0
-zeros zero n = refl
-zeros (suc k) zero = refl
-zeros (suc k) (suc n) = zeros k n
 
 pub start_register : (p r : ℕ) → slice_index (0 ∷ 0 ∷ p ∷ replicate 29 0) r ≡ (if r == 2 then p else 0)
 start_register p zero = refl

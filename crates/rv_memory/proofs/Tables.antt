@@ -6,7 +6,7 @@ use Rattle.elf_image.specs.declared.segment.Segment.{Segment}
 use Rattle.elf_image.specs.declared.segment.TheConstants.{PHDR_SIZE}
 use Rattle.elf_image.specs.file.Header.{e_phoff, e_phnum, segments_of}
 use Rattle.elf_image.specs.memory.LoadedBytes.{loads_range}
-use Rattle.elf_image.specs.memory.Start.{table_address}
+use Rattle.elf_image.specs.memory.Break.{table_address}
 use Rattle.elf_image.proofs.ReadLists.{length-segments_of}
 
 pub table_address-is : (file : List ℕ) (phoff : ℕ) (segments : List Segment) (found : Option Segment) → phoff ≡ e_phoff file →

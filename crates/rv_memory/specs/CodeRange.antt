@@ -3,7 +3,7 @@ use Rattle.std.specs.Prelude.{◌≡◌, ◌≤◌, ◌+◌, ◌-◌, ◌⊎◌,
 use Rattle.elf_image.specs.declared.segment.Segment.{Segment}
 use Rattle.elf_image.specs.declared.segment.TheConstants.{PF_W, PF_X}
 use Rattle.elf_image.specs.memory.Image.{has_flag, is_loaded_with}
-use Rattle.elf_image.specs.memory.Start.{in_stack, stack_end, stack_size}
+use Rattle.rv_memory.specs.Start.{in_stack, stack_end, stack_size}
 use Rattle.rv_memory.specs.declared.code_range.CodeRange.{CodeRange}
 
 abbrev pub is_in_code : CodeRange → ℕ → Bool

@@ -6,3 +6,4 @@ pub mod Patches
 pub mod Memory
 pub mod Limits
 pub mod Vector
+pub mod Start

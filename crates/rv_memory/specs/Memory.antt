@@ -3,7 +3,7 @@ use Rattle.std.specs.Prelude.{◌≡◌, ℕ, ◌<◌, ◌&&◌, ◌||◌, nat_l
 use Rattle.rv_code.specs.machine.Machine.{Space, plus}
 use Rattle.elf_image.specs.declared.segment.TheConstants.{PF_R, PF_W, PF_X}
 use Rattle.elf_image.specs.memory.Image.{image_byte, is_loaded_with}
-use Rattle.elf_image.specs.memory.Start.{in_stack}
+use Rattle.rv_memory.specs.Start.{in_stack}
 use Rattle.rv_memory.specs.Pages.{page_byte}
 use Rattle.rv_memory.specs.declared.rights.Access.{Access}
 use Rattle.rv_memory.specs.declared.rights.Access.TheVariants.{Read, Write, Execute}

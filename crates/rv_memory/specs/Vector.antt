@@ -1,7 +1,8 @@
 -- The auxiliary vector.
 use Rattle.std.specs.Prelude.{ℕ, List, [], ◌∷◌}
 use Rattle.elf_image.specs.declared.segment.TheConstants.{PHDR_SIZE}
-use Rattle.elf_image.specs.memory.Start.{page_size, random_address}
+use Rattle.elf_image.specs.memory.Break.{page_size}
+use Rattle.rv_memory.specs.Start.{random_address}
 
 -- by the address and the count of program headers and the entry point
 abbrev pub vector : ℕ → ℕ → ℕ → List ℕ

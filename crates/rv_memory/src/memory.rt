@@ -53,7 +53,8 @@ pub struct Memory<'a> {
 impl<'a> Memory<'a> {
     ghost use Rattle.rv_memory.specs.Memory.{memory_of, unwritten_byte, HasRoom, Keeps, space_in, break_after, byte_after};
     ghost use Rattle.rv_memory.specs.Memory.{gained_by_break, reads, writes, executes, may};
-    ghost use Rattle.elf_image.specs.memory.Start.{in_stack, space_of, writable_end, break_start};
+    ghost use Rattle.elf_image.specs.memory.Break.{writable_end, break_start};
+    ghost use Rattle.rv_memory.specs.Start.{in_stack, space_of};
     ghost use Rattle.rv_code.specs.machine.Machine.{plus, memory_bytes, put, little, low_bytes, all_may};
 
     /// The memory of a program that starts, with a stack of zeros.

@@ -1,6 +1,6 @@
 // Where a program's break starts, and how far it may go.
 ghost use Rattle.std.specs.Prelude.{◌≡◌, ◌≤◌, ◌^◌};
-ghost use Rattle.elf_image.specs.memory.Start.{page_size, rounded_down, writable_end, break_start, break_bound};
+ghost use Rattle.elf_image.specs.memory.Break.{page_size, rounded_down, writable_end, break_start, break_bound};
 
 use elf_image::Segment;
 use elf_image::start::{BREAK_ROOM, PAGE_SIZE, writable_end};

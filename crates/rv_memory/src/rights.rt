@@ -1,7 +1,7 @@
 // What a program may do with an address.
 ghost use Rattle.std.specs.Prelude.{◌≡◌, ◌↔◌, ◌<◌, ◌≤◌, ◌+◌, IsTrue};
 ghost use Rattle.elf_image.specs.memory.Image.{is_loaded_with};
-ghost use Rattle.elf_image.specs.memory.Start.{in_stack};
+ghost use Rattle.rv_memory.specs.Start.{in_stack};
 
 use elf_image::Elf;
 

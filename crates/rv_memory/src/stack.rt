@@ -6,8 +6,9 @@ ghost use Rattle.rv_memory.specs.Vector.{vector};
 ghost use Rattle.rv_memory.specs.Limits.{IsWithinLimits};
 ghost use Rattle.elf_image.specs.file.Header.{e_phoff, e_entry, segments_of};
 ghost use Rattle.elf_image.specs.memory.LoadedBytes.{loads_range};
-ghost use Rattle.elf_image.specs.memory.Start.{program_arguments, texts, texts_address, text_addresses, table_address};
-ghost use Rattle.elf_image.specs.memory.Start.{random_address, start_bytes, rounded_down, stack_pointer, stack_bytes};
+ghost use Rattle.elf_image.specs.memory.Break.{table_address, rounded_down};
+ghost use Rattle.rv_memory.specs.Start.{program_arguments, texts, texts_address, text_addresses};
+ghost use Rattle.rv_memory.specs.Start.{random_address, start_bytes, stack_pointer, stack_bytes};
 
 use elf_image::segment::PHDR_SIZE;
 use elf_image::start::PAGE_SIZE;

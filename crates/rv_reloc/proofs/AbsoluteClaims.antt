@@ -5,9 +5,9 @@ use Rattle.rv_code.specs.declared.placed.Role.{Role}
 use Rattle.rv_code.specs.declared.placed.Role.TheVariants.{AbsHi, AbsLo}
 use Rattle.elf_image.specs.declared.elf.Elf.{Elf}
 use Rattle.elf_image.specs.declared.relocation.TheConstants.{R_RISCV_HI20}
-use Rattle.elf_image.specs.code.Relocations.{Relocation, is_absolute}
-use Rattle.elf_image.specs.code.Roles.{Claims, AbsoluteTo, IsAbsoluteLow}
-use Rattle.elf_image.specs.faults.ReferenceFaults.{HasAbsolute, IsAbsoluteKind}
+use Rattle.elf_code.specs.Relocations.{Relocation, is_absolute}
+use Rattle.elf_code.specs.Roles.{Claims, AbsoluteTo, IsAbsoluteLow}
+use Rattle.elf_code.specs.ReferenceFaults.{HasAbsolute, IsAbsoluteKind}
 use Rattle.rv_reloc.specs.Claims.{IsClaimOf, absolute_role}
 use Rattle.rv_reloc.proofs.Absolutes.{absolute_kind, low_differs, immediate_some}
 use Rattle.rv_reloc.proofs.TypeGroups.{Between, call_kind, hi_kind, lo_kind}

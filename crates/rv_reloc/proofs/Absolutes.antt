@@ -7,9 +7,9 @@ use Rattle.rv_code.specs.declared.inst.Inst.{Inst}
 use Rattle.rv_code.specs.declared.inst.Inst.TheVariants.{Lui}
 use Rattle.elf_image.specs.declared.elf.Elf.{Elf}
 use Rattle.elf_image.specs.declared.relocation.TheConstants.{R_RISCV_HI20}
-use Rattle.elf_image.specs.code.Relocations.{Relocation, is_absolute}
-use Rattle.elf_image.specs.code.Roles.{IsFullAt, AbsoluteTo, IsAbsoluteLow, lower_immediate}
-use Rattle.elf_image.specs.faults.ReferenceFaults.{HasAbsolute, IsAbsoluteKind, IsBadAbsolute}
+use Rattle.elf_code.specs.Relocations.{Relocation, is_absolute}
+use Rattle.elf_code.specs.Roles.{IsFullAt, AbsoluteTo, IsAbsoluteLow, lower_immediate}
+use Rattle.elf_code.specs.ReferenceFaults.{HasAbsolute, IsAbsoluteKind, IsBadAbsolute}
 use Rattle.rv_reloc.specs.Instructions.{lui_of, HasUpper, HasPart}
 
 -- the types

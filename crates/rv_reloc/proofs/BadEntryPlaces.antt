@@ -2,10 +2,10 @@
 use Rattle.std.proofs.Common.{◌≡◌, ◌∙◌, sym, subst, refl, ℕ, ℤ, pos, ◌↔◌, IsTrue, IsSomeAnd, List, Option, Some, None}
 use Rattle.elf_image.specs.declared.elf.Elf.{Elf}
 use Rattle.elf_image.specs.declared.relocation.TheConstants.{R_RISCV_GOT_HI20}
-use Rattle.elf_image.specs.code.Relocations.{label, is_pcrel_hi, HasRelocation}
+use Rattle.elf_code.specs.Relocations.{label, is_pcrel_hi, HasRelocation}
 use Rattle.elf_image.specs.faults.LowestPlace.{IsLowest}
-use Rattle.elf_image.specs.faults.ReferenceFaults.{IsAddress}
-use Rattle.elf_image.specs.memory.LoadedBytes.{loaded_number}
+use Rattle.elf_code.specs.ReferenceFaults.{IsAddress}
+use Rattle.elf_code.specs.LoadedNumbers.{loaded_number}
 use Rattle.elf_image.proofs.LowestPlaces.{IsLowest-same}
 use Rattle.rv_reloc.specs.declared.lows.Low.{Low}
 use Rattle.rv_reloc.specs.declared.slots.SlotLabel.{SlotLabel}

@@ -4,9 +4,9 @@ use Rattle.std.specs.List.{Contains}
 use Rattle.rv_code.specs.declared.placed.Role.{Role}
 use Rattle.rv_code.specs.declared.placed.Role.TheVariants.{CallHi, CallLo}
 use Rattle.elf_image.specs.declared.elf.Elf.{Elf}
-use Rattle.elf_image.specs.code.Relocations.{Relocation, relocations, is_call_pair}
-use Rattle.elf_image.specs.code.Roles.{Claims, CallPair, CallTo, pair_target}
-use Rattle.elf_image.specs.faults.ReferenceFaults.{IsAddress, IsBadCall}
+use Rattle.elf_code.specs.Relocations.{Relocation, relocations, is_call_pair}
+use Rattle.elf_code.specs.Roles.{Claims, CallPair, CallTo, pair_target}
+use Rattle.elf_code.specs.ReferenceFaults.{IsAddress, IsBadCall}
 use Rattle.rv_reloc.specs.declared.calls.CallInsts.{CallInsts}
 use Rattle.rv_reloc.specs.Calls.{IsCallAt, IsThrough, GoesTo, Names}
 use Rattle.rv_reloc.specs.Claims.{IsClaimOf}

@@ -6,10 +6,10 @@ use Rattle.std.proofs.lemmas.Bool.{cases_eq, cases_lt}
 use Rattle.std.proofs.lemmas.List.{get_or_default}
 use Rattle.rv_code.specs.declared.inst.Inst.TheVariants.{Auipc, Jalr}
 use Rattle.elf_image.specs.declared.elf.Elf.{Elf}
-use Rattle.elf_image.specs.code.Parts.{HasInst, IsStartIn}
-use Rattle.elf_image.specs.code.Relocations.{Relocation, relocations, is_call_pair}
-use Rattle.elf_image.specs.code.Roles.{IsFullAt, CallPair, pair_target}
-use Rattle.elf_image.specs.faults.ReferenceFaults.{IsAddress, IsBadCall}
+use Rattle.elf_code.specs.Parts.{HasInst, IsStartIn}
+use Rattle.elf_code.specs.Relocations.{Relocation, relocations, is_call_pair}
+use Rattle.elf_code.specs.Roles.{IsFullAt, CallPair, pair_target}
+use Rattle.elf_code.specs.ReferenceFaults.{IsAddress, IsBadCall}
 use Rattle.rv_reloc.specs.declared.calls.CallInsts.{CallInsts}
 use Rattle.rv_reloc.specs.declared.instructions.Jump.{Jump}
 use Rattle.rv_reloc.specs.declared.instructions.Upper.{Upper}

@@ -10,11 +10,12 @@ use Rattle.std.proofs.lemmas.List.Elements.{Contains-append_left, Contains-appen
 use Rattle.std.proofs.lemmas.List.Sorted.{Contains-permutation, IsPermutation-sym}
 use Rattle.elf_image.specs.declared.elf.Elf.{Elf}
 use Rattle.elf_image.specs.declared.relocation.TheConstants.{R_RISCV_32, R_RISCV_GOT_HI20}
-use Rattle.elf_image.specs.code.Cells.{Field, Content, Address, Difference, CanBeCell, IsField, pointer, slot, difference}
-use Rattle.elf_image.specs.code.Cells.{IsContentBefore, address_width}
-use Rattle.elf_image.specs.memory.LoadedBytes.{loaded_number}
-use Rattle.elf_image.specs.code.Relocations.{Relocation, Bits, is_pcrel_hi}
-use Rattle.elf_image.specs.code.Roles.{IsFullAt, pair_target, PcrelHiTo, PcrelLo}
+use Rattle.elf_code.specs.Cells.{Field, Content, Address, Difference, CanBeCell, IsField, pointer, slot, difference}
+use Rattle.elf_code.specs.Cells.{IsContentBefore, address_width}
+use Rattle.elf_code.specs.LoadedNumbers.{loaded_number}
+use Rattle.elf_code.specs.Relocations.{Relocation, Bits, is_pcrel_hi}
+use Rattle.elf_code.specs.Roles.{IsFullAt, pair_target, PcrelHiTo, PcrelLo}
+use Rattle.elf_code.proofs.Differences.{difference_counts, difference_bits}
 use Rattle.rv_code.specs.declared.inst.Inst.TheVariants.{Auipc}
 use Rattle.rv_reloc.specs.declared.records.Record.{Record}
 use Rattle.rv_reloc.specs.declared.lows.Low.{Low}
@@ -26,7 +27,6 @@ use Rattle.rv_reloc.specs.Records.{seen, AreRecords}
 use Rattle.rv_reloc.specs.GotFields.{IsSlotOf}
 use Rattle.rv_reloc.specs.CountedFields.{IsFieldUpTo, IsKeyUpTo, IsContentUpTo, AreCandidates}
 use Rattle.rv_reloc.proofs.Kept.{counts, kept}
-use Rattle.rv_reloc.proofs.DifferenceCases.{cell-bits, difference-listed}
 use Rattle.rv_reloc.proofs.PairTargets.{target_upper, upper_target}
 
 -- What a field has.
@@ -54,7 +54,7 @@ has-bytes elf tabled f (pointer r listed is place width to loaded start content)
 has-bytes elf tabled f (slot r kind pair width to loaded label start content) = omega arith
 has-bytes elf tabled f (difference r bits to from is can code across place width content) =
     ⊎_elim (λ (e : bits ≡ 32). let w : bits / 8 ≡ 4 = ap (λ (n : ℕ). n / 8) e in omega arith)
-    (λ (e : bits ≡ 64). let w : bits / 8 ≡ 8 = ap (λ (n : ℕ). n / 8) e in omega arith) (cell-bits elf r bits to from is can)
+    (λ (e : bits ≡ 64). let w : bits / 8 ≡ 8 = ap (λ (n : ℕ). n / 8) e in omega arith) (difference_bits elf r bits to from is can)
 
 -- The order.
 
@@ -213,7 +213,7 @@ candidates-all elf tabled records lows ofs slots both fields are are_lows of_rec
         } in
         Contains-append_right ofs slots f (of_lows.each l f has_l slot_is)
     in_either f is (difference r bits to from made can_be code across place width content) =
-        let (q, has_q, same) = kept elf records r are (difference-listed elf r (Bits bits) to from made) in
+        let (q, has_q, same) = kept elf records r are (difference_counts elf r (Bits bits) to from made) in
         let field_is : IsDifferenceField elf tabled r f = record {
           bits = bits;
           to = to;

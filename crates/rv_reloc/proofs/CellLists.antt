@@ -9,11 +9,11 @@ use Rattle.rv_code.specs.declared.cell.CodeCell.{CodeCell}
 use Rattle.rv_code.specs.declared.cell.CellKind.{CellKind}
 use Rattle.rv_code.specs.declared.cell.CellKind.TheVariants.{Abs, Diff}
 use Rattle.elf_image.specs.declared.elf.Elf.{Elf}
-use Rattle.elf_image.specs.code.Cells as spec
-use Rattle.elf_image.specs.code.Cells.{Field, CanBeCell, Counts, counts, IsCell, SameContent}
-use Rattle.elf_image.specs.code.FileCode.{AreCells}
+use Rattle.elf_code.specs.Cells as spec
+use Rattle.elf_code.specs.Cells.{Field, CanBeCell, Counts, counts, IsCell, SameContent}
+use Rattle.elf_code.specs.FileCode.{AreCells}
 use Rattle.elf_image.specs.faults.LowestPlace.{IsLowest}
-use Rattle.elf_image.specs.faults.ReferenceFaults.{IsAddress, HasBadLabel}
+use Rattle.elf_code.specs.ReferenceFaults.{IsAddress, HasBadLabel}
 use Rattle.elf_image.proofs.LowestPlaces.{IsLowest-same}
 use Rattle.rv_reloc.specs.declared.sweep.Candidate.{Candidate}
 use Rattle.rv_reloc.specs.declared.sweep.Content.{Content}
@@ -22,7 +22,7 @@ use Rattle.rv_reloc.specs.Cells.{AreAddresses, HasAddresses, IsBadContent, HasBa
 use Rattle.rv_reloc.specs.Places.{IsPlaceOf}
 use Rattle.rv_reloc.specs.CountedFields.{content, as_field, AreCounted}
 use Rattle.rv_reloc.proofs.CellFields.{has-bytes}
-use Rattle.rv_reloc.proofs.Lists.{Contains-map, Contains-from_map}
+use Rattle.rb_bytes.proofs.ListLemmas.{from_map, in_map}
 
 -- Labels.
 
@@ -57,14 +57,14 @@ pub of_bad_field : (elf : Elf) (tabled : List (ℕ × ℕ)) (counted : List Cand
 of_bad_field elf tabled counted are p is =
     subst (HasBadLabel elf tabled) is.place_is
     (bad_counted elf tabled is.item is.item.content refl is.bad.bad
-    (are.only (as_field is.item) (Contains-map as_field counted is.item is.listed)))
+    (are.only (as_field is.item) (in_map as_field counted is.item is.listed)))
 
 to_place : (elf : Elf) (tabled : List (ℕ × ℕ)) (counted : List Candidate) → AreCounted elf tabled (map as_field counted) →
     (p : ℕ) →
     HasBadLabel elf tabled p → IsPlaceOf (λ f. f.place) HasBadContent counted p
 to_place elf tabled counted are p is =
     let there : Field = record { place = p; width = is.width; content = spec.Difference is.to is.from } in
-    let (f, listed, same) = Contains-from_map as_field counted there (are.each there is.counted) in
+    let (f, listed, same) = from_map as_field counted there (are.each there is.counted) in
     record {
       item = f;
       listed = listed;
@@ -125,19 +125,19 @@ pub cells-all : (elf : Elf) (tabled : List (ℕ × ℕ)) (counted : List Candida
     AreCells elf tabled cells
 cells-all elf tabled counted cells good are made = subst (AreCells elf tabled) (sym made) (record {
   only = λ cell listed.
-      let (f, has_f, same) = Contains-from_map cell_of counted cell listed in
+      let (f, has_f, same) = from_map cell_of counted cell listed in
       subst (IsCell elf tabled) same (record {
         content = content f.content;
-        counted = are.only (as_field f) (Contains-map as_field counted f has_f);
+        counted = are.only (as_field f) (in_map as_field counted f has_f);
         same = same_content f.content (labels f has_f);
       });
   each = λ cell is.
       let there : Field = record { place = cell.addr; width = cell.width; content = is.content } in
-      let (f, has_f, same) = Contains-from_map as_field counted there (are.each there is.counted) in
+      let (f, has_f, same) = from_map as_field counted there (are.each there is.counted) in
       subst (Contains (map cell_of counted))
       (made_of cell f (ap (λ (g : Field). g.place) same) (ap (λ (g : Field). g.width) same)
       (subst (λ (c : spec.Content). SameContent c cell.kind) (sym (ap (λ (g : Field). g.content) same)) is.same))
-      (Contains-map cell_of counted f has_f);
+      (in_map cell_of counted f has_f);
   ordered = λ i j d less within.
       let inside : j < length counted = (let n = length-map counted cell_of in omega arith) in
       let f = slice_index_or counted i none in
@@ -169,5 +169,5 @@ cells-all elf tabled counted cells good are made = subst (AreCells elf tabled) (
     can_be f (counts _ can others) = can
 
     some_bytes : (f : Candidate) → Contains counted f → 0 < f.width
-    some_bytes f listed = let can = can_be (as_field f) (are.only (as_field f) (Contains-map as_field counted f listed)) in
+    some_bytes f listed = let can = can_be (as_field f) (are.only (as_field f) (in_map as_field counted f listed)) in
         has-bytes elf tabled (as_field f) can.is_field

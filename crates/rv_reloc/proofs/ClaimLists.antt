@@ -10,8 +10,8 @@ use Rattle.std.proofs.lemmas.List.Elements.{Contains-push_cases}
 use Rattle.std.proofs.lemmas.List.Sorted.{Contains-permutation, IsPermutation-sym}
 use Rattle.rv_code.specs.declared.placed.Role.{Role}
 use Rattle.elf_image.specs.declared.elf.Elf.{Elf}
-use Rattle.elf_image.specs.code.Relocations.{Relocation, relocations, is_call_pair, is_pcrel_hi, is_pcrel_lo, is_absolute}
-use Rattle.elf_image.specs.code.Roles.{Claims}
+use Rattle.elf_code.specs.Relocations.{Relocation, relocations, is_call_pair, is_pcrel_hi, is_pcrel_lo, is_absolute}
+use Rattle.elf_code.specs.Roles.{Claims}
 use Rattle.rv_reloc.specs.declared.records.Record.{Record}
 use Rattle.rv_reloc.specs.declared.roles.Claim.{Claim}
 use Rattle.rv_reloc.specs.Claims.{IsClaimUpTo, IsClaimOf, IsClaim, AreClaimsOf, AreClaims}

@@ -2,8 +2,8 @@
 use Rattle.std.proofs.Common.{◌≡◌, ◌≢◌, ◌∙◌, sym, ap, refl, ℕ, ◌+◌, ◌⊎◌, inl, inr, ⊎_elim, ◌↔◌, Bool, true, false, ◌==◌, ◌||◌}
 use Rattle.std.proofs.Common.{IsTrue, Option, Some, None, arith, eq-eqb}
 use Rattle.std.proofs.lemmas.Bool.{cases_eq, or_cases, eqb-true, ne_eqb}
-use Rattle.elf_image.specs.code.Cells.{same_width}
-use Rattle.elf_image.specs.code.Relocations.{Width, Bits, Uleb128, plus_width, minus_width, is_call_pair, is_pcrel_hi}
+use Rattle.elf_code.specs.Cells.{same_width}
+use Rattle.elf_code.specs.Relocations.{Width, Bits, Uleb128, plus_width, minus_width, is_call_pair, is_pcrel_hi}
 use Rattle.rv_reloc.specs.Index.{class, class_by, class_beside, plus_class, minus_class, call_class, upper_class, width_code}
 
 -- the class of a type that has a width, and of one that has none

@@ -7,8 +7,8 @@ use Rattle.std.specs.List.{Contains}
 use Rattle.std.proofs.lemmas.Int.{ints}
 use Rattle.std.proofs.lemmas.List.{get_or_default}
 use Rattle.elf_image.specs.declared.elf.Elf.{Elf}
-use Rattle.elf_image.specs.code.Cells.{IsCodeLabel}
-use Rattle.elf_image.specs.code.FileCode.{AreStarts}
+use Rattle.elf_code.specs.Cells.{IsCodeLabel}
+use Rattle.elf_code.specs.FileCode.{AreStarts}
 
 whole : (z : ℤ) → pos 0 ≤ℤ z → z ≡ pos (unsigned_abs z)
 whole (pos n) not_below = refl

@@ -10,7 +10,7 @@ use Rattle.std.proofs.lemmas.List.Quantifiers.{all_pairs_push}
 use Rattle.std.specs.List.Sorted.{IsStrictlyIncreasing}
 use Rattle.rv_code.specs.layout.Lists.{ListsAll}
 use Rattle.elf_image.specs.declared.elf.Elf.{Elf}
-use Rattle.elf_image.specs.code.Parts.{IsCut, IsInCode, IsCovered, IsPart, IsCodePart}
+use Rattle.elf_code.specs.Parts.{IsCut, IsInCode, IsCovered, IsPart, IsCodePart}
 use Rattle.rv_reloc.specs.declared.parts.Part.{Part}
 use Rattle.rv_reloc.specs.Parts.{AreZeros, IsCodeStretch, Precedes, AreCodeParts}
 

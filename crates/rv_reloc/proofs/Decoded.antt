@@ -3,7 +3,7 @@ use Rattle.std.proofs.Common.{◌≡◌, ◌≢◌, sym, subst, ℕ, ◌⊎◌, 
 use Rattle.rv_code.specs.declared.inst.Inst.{Inst}
 use Rattle.rv_code.specs.isa.InstBytes.{Decodes, DecodesHalf, DecodesFull}
 use Rattle.elf_image.specs.declared.elf.Elf.{Elf}
-use Rattle.elf_image.specs.code.Parts.{IsInstAt}
+use Rattle.elf_code.specs.Parts.{IsInstAt}
 
 -- a form of two bytes doesn't look at the next halfword
 pub Decodes-two : (half : ℕ) (next next' : Option ℕ) (inst : Inst) (bytes : ℕ) → bytes ≢ 4 → Decodes half next inst bytes →

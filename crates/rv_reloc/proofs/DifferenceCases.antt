@@ -1,19 +1,20 @@
 -- Differences of labels, by the relocations that make them.
 use Rattle.std.proofs.Common.{◌≡◌, ◌≢◌, ◌∙◌, sym, ap, subst, refl, ℕ, ◌≤◌, ℤ, pos, ◌⊎◌, inl, inr, ⊎_elim, ◌↔◌, Bool, true, false}
-use Rattle.std.proofs.Common.{not, IsFalse, ◌==◌, ◌||◌, ◌&&◌, IsTrue, IsSomeAnd, IfSome, List, [], ◌∷◌, Option, Some, None, arith}
+use Rattle.std.proofs.Common.{not, IsFalse, ◌==◌, IsTrue, IsSomeAnd, IfSome, List, [], ◌∷◌, Option, Some, None, arith}
 use Rattle.std.specs.List.{Contains, count_by}
 use Rattle.std.proofs.lemmas.List.{get_or_default}
 use Rattle.rb_bytes.proofs.Members.{Contains-cons_cases}
+use Rattle.rb_bytes.proofs.Tests.{second_of}
 use Rattle.std.specs.Option.{is_some}
-use Rattle.std.proofs.lemmas.Bool.{cases_eq, eq-eqb, ne_eqb}
+use Rattle.std.proofs.lemmas.Bool.{cases_eq, eq-eqb, ne_eqb, and_from}
 use Rattle.elf_image.specs.declared.elf.Elf.{Elf}
 use Rattle.elf_image.specs.declared.relocation.TheConstants.{R_RISCV_32_PCREL, R_RISCV_PLT32, R_RISCV_ADD32, R_RISCV_ADD64}
-use Rattle.elf_image.specs.code.Cells.{IsOnly, same_width, is_plus, is_minus, IsDifference, of_labels, of_place, can_be_cell}
-use Rattle.elf_image.specs.code.Cells.{IsCodeLabel, HasCodeLabel, IsInOneWhole}
-use Rattle.elf_image.specs.code.Fields.{HoldsDifference}
-use Rattle.elf_image.specs.faults.ReferenceFaults.{IsBadDifference, number, unpaired, IsPaired, IsNarrow}
-use Rattle.elf_image.specs.code.Relocations.{Relocation, relocations, Width, Bits, Uleb128, plus_width, minus_width}
-use Rattle.elf_image.specs.code.Relocations.{is_pc_difference, is_add, label}
+use Rattle.elf_code.specs.Cells.{IsOnly, same_width, is_plus, is_minus, IsDifference, of_labels, of_place, can_be_cell}
+use Rattle.elf_code.specs.Cells.{IsCodeLabel, HasCodeLabel, IsInOneWhole}
+use Rattle.elf_code.specs.Fields.{HoldsDifference}
+use Rattle.elf_code.specs.ReferenceFaults.{IsBadDifference, number, unpaired, IsPaired, IsNarrow}
+use Rattle.elf_code.specs.Relocations.{Relocation, relocations, Width, Bits, Uleb128, plus_width, minus_width}
+use Rattle.elf_code.specs.Relocations.{is_pc_difference, is_add, label}
 use Rattle.rv_reloc.proofs.Ordered.{count-cons, count-some, one_if}
 use Rattle.rv_reloc.specs.declared.differences.Difference.{Difference}
 use Rattle.rv_reloc.specs.Differences.{IsDifferenceOf, IsTheDifference, HoldsOther, IsUnpaired}
@@ -35,17 +36,9 @@ is-same-width : (w : Width) → same_width w (Some w) ≡ true
 is-same-width (Bits n) = eq-eqb n n refl
 is-same-width Uleb128 = refl
 
-is_both : (a b : Bool) → a ≡ true → b ≡ true → (a && b) ≡ true
-is_both true b is also = also
-is_both false b is also = absurd (cc)
-
-second_of : (a b : Bool) → (a && b) ≡ true → b ≡ true
-second_of true b both = both
-second_of false b both = absurd (cc)
-
 pub passes-plus : (r : Relocation) (w : Width) → plus_width r.kind ≡ Some w → is_plus r.place w r ≡ true
 passes-plus r w is =
-    is_both (r.place == r.place) (same_width w (plus_width r.kind)) (eq-eqb r.place r.place refl)
+    and_from (r.place == r.place) (same_width w (plus_width r.kind)) (eq-eqb r.place r.place refl)
     (ap (same_width w) is ∙ is-same-width w)
 
 pub plus-passed : (place : ℕ) (r : Relocation) (w : Width) → is_plus place w r ≡ true → plus_width r.kind ≡ Some w
@@ -264,10 +257,6 @@ none-narrow elf tabled r none = (
 
 -- The widths of cells.
 
-either_of : (a b : Bool) → (a || b) ≡ true → (a ≡ true) ⊎ (b ≡ true)
-either_of true b is = inl refl
-either_of false b is = inr is
-
 bits_once : (kind m n : ℕ) → plus_width kind ≡ Some (Bits m) → plus_width kind ≡ Some (Bits n) → m ≡ n
 bits_once kind m n e f = let g : Some (Bits m) ≡ Some (Bits n) = sym e ∙ f in cc
 
@@ -280,16 +269,3 @@ added kind bits is width = ⊎_elim
     ≡ true = rw (ne_eqb kind R_RISCV_ADD32 other, ne_eqb kind R_RISCV_ADD64 other') at is in absurd (cc))
     (cases_eq kind R_RISCV_ADD64))
     (cases_eq kind R_RISCV_ADD32)
-
-pub cell-bits : (elf : Elf) (r : Relocation) (bits : ℕ) (to from : ℤ) →
-    IsDifference elf r (Bits bits) to from → can_be_cell r ≡ true → (bits ≡ 32) ⊎ (bits ≡ 64)
-cell-bits elf r bits to from (of_labels only minus only_minus to_is from_is) can =
-    let width = plus-passed r.place r (Bits bits) only.passes in
-    ⊎_elim (λ add. added r.kind bits add width) (λ pc. absurd (pc_and_plus r.kind (Bits bits) pc width))
-    (either_of (is_add r.kind) (is_pc_difference r.kind) can)
-cell-bits elf r bits to from (of_place listed pc width_is to_is from_is) can = let e : bits ≡ 32 = cc in inl e
-
-pub difference-listed : (elf : Elf) (r : Relocation) (w : Width) (to from : ℤ) → IsDifference elf r w to from →
-    Contains (relocations elf) r
-difference-listed elf r w to from (of_labels only minus only_minus to_is from_is) = only.listed
-difference-listed elf r w to from (of_place listed pc width_is to_is from_is) = listed

@@ -6,8 +6,8 @@ use Rattle.std.proofs.lemmas.Bool.{cases_lt, cases_eq}
 use Rattle.std.proofs.lemmas.List.{get_or_default}
 use Rattle.elf_image.specs.declared.elf.Elf.{Elf}
 use Rattle.elf_image.specs.faults.LowestPlace.{IsLowest, SomeBelow}
-use Rattle.elf_image.specs.code.Roles.{PcrelLo}
-use Rattle.elf_image.specs.faults.ReferenceFaults.{IsLoMismatch}
+use Rattle.elf_code.specs.Roles.{PcrelLo}
+use Rattle.elf_code.specs.ReferenceFaults.{IsLoMismatch}
 use Rattle.elf_image.proofs.LowestPlaces.{IsLowest-same}
 use Rattle.rv_reloc.specs.declared.lows.Low.{Low}
 use Rattle.rv_reloc.specs.Lows.{AreLows, DiffersFromNext, TwoDiffer}

@@ -7,6 +7,3 @@ either {P} {Q} false b r is one other = (
   λ passes. inr (other.0 (sym is ∙ passes)),
   ⊎_elim (λ p. let e : false ≡ true = one.1 p in absurd (cc)) (λ q. is ∙ other.1 q),
 )
-
-pub clash : (b : Bool) → b ≡ true → b ≡ false → ⊥
-clash b is isnt = let no : true ≡ false = sym is ∙ isnt in cc

@@ -1,10 +1,10 @@
 -- The relocations of a table, one after another.
 use Rattle.std.proofs.Common.{◌≡◌, ◌∙◌, ap, refl, ℕ, zero, suc, ◌+◌, ◌-◌, ◌*◌, ◌<◌, List, [], ◌∷◌, ◌++◌, map, append_assoc, arith}
-use Rattle.std.proofs.Common.{None, length, ◌≤◌, slice_get, eq-eqb, Bool, true, false, if◌then◌else◌, ◌/◌}
+use Rattle.std.proofs.Common.{None, slice_get, eq-eqb, Bool, true, false, if◌then◌else◌, ◌/◌}
 use Rattle.std.proofs.lemmas.List.{map-append}
 use Rattle.elf_image.specs.declared.section.Section.{Section}
 use Rattle.elf_image.specs.declared.relocation.TheConstants.{RELA_SIZE, SHT_RELA}
-use Rattle.elf_image.specs.code.Relocations.{Relocation, relocation_at, entries_from, entries_for, entries_of}
+use Rattle.elf_code.specs.Relocations.{Relocation, relocation_at, entries_from, entries_for, entries_of}
 use Rattle.elf_image.specs.declared.elf.Elf.{Elf}
 use Rattle.rv_reloc.specs.declared.records.Record.{Record}
 use Rattle.rv_reloc.specs.Records.{seen, counts}
@@ -45,11 +45,6 @@ read_one was now r left one pushed is =
 pub entries_of-missing : (elf : Elf) (table : Section) → table.kind ≡ SHT_RELA → slice_get elf.sections.items table.info ≡ None →
     entries_of elf table ≡ []
 entries_of-missing elf table kind none = rw (eq-eqb table.kind SHT_RELA kind, none) refl
-
-pub slice_get-none : {A : Type 0} (xs : List A) (i : ℕ) → length xs ≤ i → slice_get xs i ≡ None
-slice_get-none [] i above = refl
-slice_get-none (x ∷ xs) zero above = absurd (omega arith)
-slice_get-none (x ∷ xs) (suc i) above = slice_get-none xs i (omega arith)
 
 -- a table without entries
 pub entries_for-empty : (elf : Elf) (table section : Section) → table.size ≡ 0 → entries_for elf table section ≡ []

@@ -2,7 +2,7 @@
 use Rattle.std.proofs.Common.{sym, subst, ap, ◌∙◌, ℕ, List, Option}
 use Rattle.elf_image.specs.declared.elf.Elf.{Elf}
 use Rattle.elf_image.specs.faults.LowestPlace.{IsLowest}
-use Rattle.elf_image.specs.code.Relocations.{Relocation, HasRelocation}
+use Rattle.elf_code.specs.Relocations.{Relocation, HasRelocation}
 use Rattle.elf_image.proofs.LowestPlaces.{IsLowest-same}
 use Rattle.rv_reloc.specs.declared.records.Record.{Record}
 use Rattle.rv_reloc.specs.Places.{IsPlaceOf}

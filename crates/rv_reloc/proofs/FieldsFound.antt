@@ -4,11 +4,12 @@ use Rattle.std.proofs.Common.{IsTrue, List, Some, None, arith}
 use Rattle.std.proofs.lemmas.Bool.{cases_eq, ne_eqb}
 use Rattle.elf_image.specs.declared.elf.Elf.{Elf}
 use Rattle.elf_image.specs.declared.relocation.TheConstants.{R_RISCV_32, R_RISCV_64}
-use Rattle.elf_image.specs.code.Cells as cell
-use Rattle.elf_image.specs.code.Cells.{Field, IsDifference, can_be_cell, HasCodeLabel, IsInOneWhole}
-use Rattle.elf_image.specs.code.Relocations as relocations
-use Rattle.elf_image.specs.code.Relocations.{Relocation, is_address}
-use Rattle.elf_image.specs.memory.LoadedBytes.{loaded_number}
+use Rattle.elf_code.specs.Cells as cell
+use Rattle.elf_code.specs.Cells.{Field, IsDifference, can_be_cell, HasCodeLabel, IsInOneWhole}
+use Rattle.elf_code.specs.Relocations as relocations
+use Rattle.elf_code.specs.Relocations.{Relocation, is_address}
+use Rattle.elf_code.specs.LoadedNumbers.{loaded_number}
+use Rattle.elf_code.proofs.Differences.{difference_bits}
 use Rattle.rv_reloc.specs.declared.differences.Difference.{Difference}
 use Rattle.rv_reloc.specs.declared.labels.FieldWidth.{FieldWidth}
 use Rattle.rv_reloc.specs.declared.labels.FieldWidth.TheVariants.{Bits6, Bits8, Bits16, Bits32, Bits64, Uleb128}
@@ -17,7 +18,6 @@ use Rattle.rv_reloc.specs.Candidates.{difference}
 use Rattle.rv_reloc.specs.Differences.{IsDifferenceOf, IsTheDifference}
 use Rattle.rv_reloc.specs.Labels.{width_of}
 use Rattle.rv_reloc.specs.GotFields.{IsNamedField, NamesEntry}
-use Rattle.rv_reloc.proofs.DifferenceCases.{cell-bits}
 
 pub crosses-found : (w : Bool) (P Q : Type 0) → P → IsTrue w ↔ Q → IsTrue (not w) ↔ (P × (Q → ⊥))
 crosses-found true P Q p test = (λ wrong. let e : false ≡ true = wrong in absurd (cc), λ both. absurd (both.1 (test.0 refl)))
@@ -79,7 +79,7 @@ pub difference-to_cell : (elf : Elf) (tabled : List (ℕ × ℕ)) (r : Relocatio
     IsDifferenceField elf tabled r f → IsCellField elf tabled r.place d f
 difference-to_cell elf tabled r d f only is =
     let the = only (relocations.Bits is.bits) is.to is.from is.is in
-    let bytes = bytes_of d.width is.bits the.width_is (cell-bits elf r is.bits is.to is.from is.is is.can_be) in
+    let bytes = bytes_of d.width is.bits the.width_is (difference_bits elf r is.bits is.to is.from is.is is.can_be) in
     record {
       has_code = subst (λ (z : ℤ). HasCodeLabel elf z d.from) (sym the.to_is)
           (subst (HasCodeLabel elf is.to) (sym the.from_is) is.has_code);

@@ -4,7 +4,7 @@ use Rattle.std.proofs.Common.{slice_index, Option, Some, arith}
 use Rattle.std.specs.Option.{option_map, unwrap_or}
 use Rattle.std.proofs.lemmas.Bool.{lt-ltb}
 use Rattle.std.proofs.lemmas.List.{get_or-take, get_or-drop, length-take, length-drop}
-use Rattle.elf_image.specs.code.Parts.{halfword_at}
+use Rattle.elf_code.specs.Parts.{halfword_at}
 use Rattle.elf_image.specs.declared.elf.Elf.{Elf}
 use Rattle.elf_image.specs.declared.segment.Segment.{Segment}
 use Rattle.elf_image.specs.memory.Image.{byte_of, loads_address, segment_of}

@@ -10,8 +10,8 @@ use Rattle.rv_code.specs.declared.placed.Role.{Role}
 use Rattle.rv_code.specs.declared.placed.Role.TheVariants.{Plain}
 use Rattle.rv_code.specs.layout.Lists.{ListsAll}
 use Rattle.elf_image.specs.declared.elf.Elf.{Elf}
-use Rattle.elf_image.specs.code.Roles.{Claims, HasRole}
-use Rattle.elf_image.specs.code.FileCode.{AreRoles}
+use Rattle.elf_code.specs.Roles.{Claims, HasRole}
+use Rattle.elf_code.specs.FileCode.{AreRoles}
 use Rattle.rv_reloc.specs.declared.roles.Claim.{Claim}
 use Rattle.rv_reloc.specs.Claims.{IsUpTo, IsClaimUpTo, IsClaim, AreClaims, IsFirstClaim}
 

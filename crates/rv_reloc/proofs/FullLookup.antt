@@ -2,8 +2,8 @@
 use Rattle.std.proofs.Common.{◌≡◌, ℕ, List, arith}
 use Rattle.rv_code.specs.declared.inst.Inst.{Inst}
 use Rattle.elf_image.specs.declared.elf.Elf.{Elf}
-use Rattle.elf_image.specs.code.Parts.{IsStart}
-use Rattle.elf_image.specs.code.Roles.{IsFullAt}
+use Rattle.elf_code.specs.Parts.{IsStart}
+use Rattle.elf_code.specs.Roles.{IsFullAt}
 use Rattle.rv_reloc.specs.declared.parts.Part.{Part}
 use Rattle.rv_reloc.specs.Parts.{AreCodeParts, HoldsAddress, IsInstBefore}
 use Rattle.rv_reloc.proofs.StartLists.{starts_inside}

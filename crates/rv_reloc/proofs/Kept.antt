@@ -5,25 +5,25 @@ use Rattle.std.specs.List.{Contains, Any}
 use Rattle.std.specs.List.Sorted.{IsPermutation}
 use Rattle.std.proofs.lemmas.List.Sorted.{Contains-permutation, IsPermutation-sym, IsPermutation-map}
 use Rattle.elf_image.specs.declared.elf.Elf.{Elf}
-use Rattle.elf_image.specs.code.Cells.{IsOnly}
-use Rattle.elf_image.specs.code.Relocations.{Relocation, relocations, HasRelocation}
+use Rattle.elf_code.specs.Cells.{IsOnly}
+use Rattle.elf_code.specs.Relocations.{Relocation, relocations, HasRelocation}
 use Rattle.rv_reloc.specs.declared.records.Record.{Record}
 use Rattle.rv_reloc.specs.Index.{class}
 use Rattle.rv_reloc.specs.Records.{seen, AreRecords, AreInOrder, has_key, FindsOnly}
-use Rattle.rv_reloc.proofs.Lists.{Contains-map, Contains-from_map}
 use Rattle.rv_reloc.proofs.Only.{only-permutation, only-map, only-from_map, some-only, only-some}
 use Rattle.rv_reloc.proofs.Ordered.{has_key-true, has_key-same}
+use Rattle.rb_bytes.proofs.ListLemmas.{from_map, in_map}
 
 pub counts : (elf : Elf) (records : List Record) (r : Record) → AreRecords elf records → Contains records r →
     Contains (relocations elf) (seen r)
 counts elf records r are listed =
-    Contains-permutation (map seen records) (relocations elf) (seen r) are.all (Contains-map seen records r listed)
+    Contains-permutation (map seen records) (relocations elf) (seen r) are.all (in_map seen records r listed)
 
 pub kept : (elf : Elf) (records : List Record) (r : Relocation) → AreRecords elf records →
     Contains (relocations elf) r → (q : Record)
     × Contains records q × (seen q ≡ r)
 kept elf records r are listed =
-    Contains-from_map seen records r
+    from_map seen records r
     (Contains-permutation (relocations elf) (map seen records) r
     (IsPermutation-sym (map seen records) (relocations elf) are.all) listed)
 

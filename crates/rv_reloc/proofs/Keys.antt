@@ -8,8 +8,8 @@ use Rattle.std.specs.declared.cmp.Ordering.{Ordering}
 use Rattle.std.specs.declared.cmp.Ordering.TheVariants.{Less, Equal, Greater}
 use Rattle.std.specs.List.{AllPairs}
 use Rattle.std.specs.Ordering.{nat_cmp, int_cmp, is_lt, ordering_then}
-use Rattle.elf_image.specs.code.Cells as cells
-use Rattle.elf_image.specs.code.Cells.{Field, CanBeCell}
+use Rattle.elf_code.specs.Cells as cells
+use Rattle.elf_code.specs.Cells.{Field, CanBeCell}
 use Rattle.rv_reloc.specs.CountedFields.{as_field, content, IsContentUpTo, IsKeyUpTo}
 use Rattle.rv_reloc.specs.declared.sweep.Candidate.{Candidate}
 use Rattle.rv_reloc.specs.declared.sweep.Content.{Content}

@@ -148,6 +148,3 @@ listed-first items place label n ordered bound below above (k, within, there) =
   where
     same_upto : (z : ℤ) → z ≤ℤ z
     same_upto z = omega (arith, ints)
-
-pub same_labels : (a b : ℤ) → a ≤ℤ b → b ≤ℤ a → a ≡ b
-same_labels a b one other = grind (arith, ints)

@@ -7,7 +7,7 @@ use Rattle.std.proofs.lemmas.Bool.{lt-ltb, le-ltb}
 use Rattle.std.proofs.Math.Nat.{pow-suc}
 use Rattle.rb_bytes.specs.Leb.{is_last, low_bits, high_bits}
 use Rattle.elf_image.specs.declared.elf.Elf.{Elf}
-use Rattle.elf_image.specs.code.Fields.{leb_from, leb_at, HoldBits}
+use Rattle.elf_code.specs.Fields.{leb_from, leb_at, HoldBits}
 use Rattle.elf_image.specs.memory.LoadedBytes.{byte_at}
 use Rattle.rv_reloc.specs.declared.tails.LebRest.{LebRest}
 use Rattle.rv_code.specs.layout.FunctionLists.{address_end}

@@ -34,7 +34,6 @@ pub mod LabelOrder
 pub mod LabelsAt
 pub mod Lebs
 pub mod Lexicographic
-pub mod Lists
 pub mod LoadedNumbers
 pub mod LowFiles
 pub mod LowLists

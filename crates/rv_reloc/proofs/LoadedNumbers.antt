@@ -6,7 +6,9 @@ use Rattle.std.proofs.Math.Nat.{pow-suc, pow-le-pow_right}
 use Rattle.byteorder.specs.Endian.{little_from}
 use Rattle.rv_code.specs.machine.Machine.{little}
 use Rattle.elf_image.specs.declared.elf.Elf.{Elf}
-use Rattle.elf_image.specs.memory.LoadedBytes.{byte_at, bytes_in, and_more, loaded_number}
+use Rattle.elf_image.specs.memory.LoadedBytes.{byte_at}
+use Rattle.elf_code.specs.LoadedNumbers.{loaded_number}
+use Rattle.rv_code.specs.machine.MemoryNumbers.{bytes_in, and_more}
 use Rattle.rv_code.specs.layout.FunctionLists.{address_end}
 use Rattle.rv_reloc.specs.LoadedMemory.{IsLow, AreBytesFrom}
 

@@ -10,7 +10,7 @@ use Rattle.elf_image.specs.file.Header.{segment, segments_of}
 use Rattle.elf_image.specs.memory.Image.{loads_address, segment_of, byte_of}
 use Rattle.elf_image.specs.faults.FileFaults.{IsSound}
 use Rattle.rv_code.specs.layout.FunctionLists.{address_end}
-use Rattle.elf_image.proofs.LoadLemmas.{find-found}
+use Rattle.rb_bytes.proofs.Searches.{find-found}
 use Rattle.elf_image.proofs.ReadLists.{get_or-segments}
 use Rattle.rv_reloc.specs.LoadedMemory.{IsLow}
 use Rattle.rv_reloc.specs.Refs.{IsRead}

@@ -3,10 +3,10 @@ use Rattle.std.proofs.Common.{◌≡◌, ℕ, ◌<◌, ◌≤◌, pos, ◌⊎◌
 use Rattle.std.proofs.lemmas.Bool.{cases_lt}
 use Rattle.std.proofs.lemmas.Int.{ints}
 use Rattle.elf_image.specs.declared.elf.Elf.{Elf}
-use Rattle.elf_image.specs.code.Fields.{HasField}
-use Rattle.elf_image.specs.code.Relocations.{Relocation, HasRelocation}
+use Rattle.elf_code.specs.Fields.{HasField}
+use Rattle.elf_code.specs.Relocations.{Relocation, HasRelocation}
 use Rattle.elf_image.specs.faults.LowestPlace.{IsLowest, lower}
-use Rattle.elf_image.specs.faults.ReferenceFaults.{IsAddress, IsBadField, IsBadPair, IsMisfit}
+use Rattle.elf_code.specs.ReferenceFaults.{IsAddress, IsBadField, IsBadPair, IsMisfit}
 use Rattle.elf_image.proofs.LowestPlaces.{IsLowest-same, IsLowest-lower}
 use Rattle.rv_reloc.specs.declared.records.Record.{Record}
 use Rattle.rv_reloc.specs.BadEntries.{HasBadEntry}

@@ -4,9 +4,9 @@ use Rattle.std.proofs.Common.{◌∷◌, map, arith}
 use Rattle.std.specs.List.{count_by}
 use Rattle.std.specs.List.Sorted.{IsPermutation}
 use Rattle.std.proofs.lemmas.List.Sorted.{Contains-permutation, sum_by-IsPermutation}
-use Rattle.elf_image.specs.code.Cells.{IsOnly}
-use Rattle.rv_reloc.proofs.Lists.{Contains-map, Contains-from_map}
+use Rattle.elf_code.specs.Cells.{IsOnly}
 use Rattle.rv_reloc.proofs.Ordered.{count-cons, one_if}
+use Rattle.rb_bytes.proofs.ListLemmas.{from_map, in_map}
 
 pub only-permutation : {A : Type 0} (test : A → Bool) (xs ys : List A) (x : A) → IsPermutation xs ys →
     IsOnly test xs x → IsOnly test ys x
@@ -29,12 +29,12 @@ count-map f test (x ∷ xs) =
 pub only-map : {A B : Type 0} (f : A → B) (test : B → Bool) (xs : List A) (x : A) → IsOnly (λ y. test (f y)) xs x →
     IsOnly test (map f xs) (f x)
 only-map f test xs x is =
-    record { listed = Contains-map f xs x is.listed; passes = is.passes; alone = count-map f test xs ∙ is.alone }
+    record { listed = in_map f xs x is.listed; passes = is.passes; alone = count-map f test xs ∙ is.alone }
 
 pub only-from_map : {A B : Type 0} (f : A → B) (test : B → Bool) (xs : List A) (y : B) → IsOnly test (map f xs) y → (x : A)
     × IsOnly (λ z. test (f z)) xs x × (f x ≡ y)
 only-from_map {B = B} f test xs y is =
-    let (x, listed, same) = Contains-from_map f xs y is.listed in (
+    let (x, listed, same) = from_map f xs y is.listed in (
       x,
       record {
         listed = listed;

@@ -9,7 +9,7 @@ use Rattle.std.proofs.lemmas.Bool.{cases_lt, cases_eq, lt-ltb, le-ltb, eq-eqb, n
 use Rattle.std.proofs.lemmas.List.{get_or_default}
 use Rattle.std.proofs.lemmas.List.Sums.{sum_by-cons}
 use Rattle.rv_reloc.specs.declared.records.Record.{Record}
-use Rattle.elf_image.specs.code.Cells.{IsOnly}
+use Rattle.elf_code.specs.Cells.{IsOnly}
 use Rattle.rv_reloc.specs.Records.{class_of, IsBelow, IsFrom, AreInOrder, has_key, IsSplit, HasKeyAt}
 use Rattle.rv_reloc.proofs.Lexicographic.{number_up, then_up, less_trans, AllPairs-from_next}
 

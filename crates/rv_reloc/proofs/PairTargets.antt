@@ -2,8 +2,8 @@
 use Rattle.std.proofs.Common.{◌≡◌, sym, subst, ℕ, ℤ, IsTrue}
 use Rattle.std.specs.List.{Contains}
 use Rattle.elf_image.specs.declared.elf.Elf.{Elf}
-use Rattle.elf_image.specs.code.Relocations.{Relocation, relocations, is_pcrel_hi}
-use Rattle.elf_image.specs.code.Roles.{PcrelLo, PcrelHiTo, PcrelLoTo}
+use Rattle.elf_code.specs.Relocations.{Relocation, relocations, is_pcrel_hi}
+use Rattle.elf_code.specs.Roles.{PcrelLo, PcrelHiTo, PcrelLoTo}
 use Rattle.rv_reloc.specs.declared.lows.Low.{Low}
 use Rattle.rv_reloc.specs.Lows.{IsLowPart}
 use Rattle.rv_reloc.specs.Pairs.{IsTargetOf}

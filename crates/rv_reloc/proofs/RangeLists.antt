@@ -6,13 +6,13 @@ use Rattle.std.proofs.lemmas.List.Elements.{All-contains, filter_passes}
 use Rattle.std.proofs.lemmas.List.Sorted.{IsPermutation-sym}
 use Rattle.elf_image.specs.declared.elf.Elf.{Elf}
 use Rattle.elf_image.specs.declared.extent.Extent.{Extent}
-use Rattle.elf_image.specs.code.Cuts.{names_function}
+use Rattle.elf_image.specs.file.Cuts.{names_function}
 use Rattle.elf_image.specs.file.Sections.{holds_code}
-use Rattle.elf_image.specs.code.Parts.{IsCovered, IsInCode, IsInTabled}
+use Rattle.elf_code.specs.Parts.{IsCovered, IsInCode, IsInTabled}
 use Rattle.elf_image.specs.internal.Extents.{IsInOneExtent}
-use Rattle.elf_image.proofs.LoadLemmas.{Contains-filter, Contains-from_filter}
+use Rattle.rb_bytes.proofs.Searches.{Contains-filter, Contains-from_filter}
+use Rattle.rb_bytes.proofs.ListLemmas.{from_map, in_map}
 use Rattle.elf_image.proofs.ReachLemmas.{IsCovered-permutation}
-use Rattle.rv_reloc.proofs.Lists.{Contains-from_map, Contains-map}
 use Rattle.rv_reloc.specs.Ranges.{section_extent, symbol_extent, tabled_extent}
 
 -- a chosen item has a range that holds a stretch
@@ -23,7 +23,7 @@ IsInOneExtent-from_chosen : {X : Type 0} (p : X → Bool) (f : X → Extent) (xs
     IsInOneExtent (map f (filter p xs)) start end → HasRange p f xs start end
 unfolding HasRange
 IsInOneExtent-from_chosen p f xs start end (s, is_in, low, high) =
-    let (x, kept, same) = Contains-from_map f (filter p xs) s is_in in
+    let (x, kept, same) = from_map f (filter p xs) s is_in in
     let (k, within, is) = Contains-from_filter p xs x kept in
     let starts = ap (λ (t : Extent). t.start) same in
     let ends = ap (λ (t : Extent). t.end) same in
@@ -33,7 +33,7 @@ IsInOneExtent-to_chosen : {X : Type 0} (p : X → Bool) (f : X → Extent) (xs :
     IsInOneExtent (map f (filter p xs)) start end
 unfolding HasRange
 IsInOneExtent-to_chosen p f xs start end (k, x, within, is, (chosen, low, high)) =
-    (f x, Contains-map f (filter p xs) x (Contains-filter p xs x (k, within, is) chosen), low, high)
+    (f x, in_map f (filter p xs) x (Contains-filter p xs x (k, within, is) chosen), low, high)
 
 -- the same of ranges that are asked
 chosen : {X : Type 0} (p : X → Bool) (f : X → Extent) (xs : List X) (reaches extents : List Extent) →
@@ -82,11 +82,11 @@ IsInOneExtent-tabled tabled reaches extents same are a =
     let (from, to) = same a (a + 1) (omega arith) in (
       (λ covered.
           let (s, is_in, low, high) = subst (λ (ss : List Extent). IsInOneExtent ss a (a + 1)) are (from covered) in
-          let (x, (k, within, is), span) = Contains-from_map tabled_extent tabled s is_in in
+          let (x, (k, within, is), span) = from_map tabled_extent tabled s is_in in
           let starts = ap (λ (t : Extent). t.start) span in
           let ends = ap (λ (t : Extent). t.end) span in
           (k, x, within, is, (omega arith, omega arith))),
       (λ (k, x, within, is, (low, high)).
           to (subst (λ (ss : List Extent). IsInOneExtent ss a (a + 1)) (sym are)
-          (tabled_extent x, Contains-map tabled_extent tabled x (k, within, is), low, omega arith))),
+          (tabled_extent x, in_map tabled_extent tabled x (k, within, is), low, omega arith))),
     )

@@ -5,9 +5,9 @@ use Rattle.elf_image.specs.declared.section.Section.{Section}
 use Rattle.elf_image.specs.declared.symbol.Symbol.{Symbol}
 use Rattle.elf_image.specs.declared.relocation.TheConstants.{R_RISCV_IRELATIVE}
 use Rattle.elf_image.specs.declared.symbol.TheConstants.{STT_GNU_IFUNC}
-use Rattle.elf_image.specs.code.Relocations.{HasRelocation}
+use Rattle.elf_code.specs.Relocations.{HasRelocation}
 use Rattle.elf_image.specs.faults.LowestPlace.{IsLowest, lower}
-use Rattle.elf_image.specs.faults.ReferenceFaults.{IsStubs, IsIfuncOrPlt}
+use Rattle.elf_code.specs.ReferenceFaults.{IsStubs, IsIfuncOrPlt}
 use Rattle.elf_image.proofs.LowestPlaces.{IsLowest-same, IsLowest-lower}
 use Rattle.rv_reloc.specs.Places.{IsPlaceOf}
 

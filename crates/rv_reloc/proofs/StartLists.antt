@@ -9,7 +9,7 @@ use Rattle.std.proofs.lemmas.List.Elements.{All-append}
 use Rattle.std.proofs.lemmas.List.Elements.{Contains-append_left, Contains-append_right, Contains-append_cases}
 use Rattle.rv_code.specs.layout.Lists.{ListsNumbers}
 use Rattle.elf_image.specs.declared.elf.Elf.{Elf}
-use Rattle.elf_image.specs.code.Parts.{StartsIn, at_start, after, length_at, halfword_at, IsStart}
+use Rattle.elf_code.specs.Parts.{StartsIn, at_start, after, length_at, halfword_at, IsStart}
 use Rattle.rb_bytes.proofs.Members.{Contains-cons_cases}
 use Rattle.rv_reloc.specs.declared.parts.Part.{Part}
 use Rattle.rv_reloc.specs.Parts.{AreCodeParts, Precedes}

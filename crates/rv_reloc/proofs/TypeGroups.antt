@@ -1,7 +1,7 @@
 -- Types that are of one group are of no other.
 use Rattle.std.proofs.Common.{◌≡◌, ℕ, ◌≤◌, ◌⊎◌, inl, inr, ⊎_elim, ◌==◌, ◌||◌, IsTrue, arith}
 use Rattle.std.proofs.lemmas.Bool.{or_cases, eqb-true}
-use Rattle.elf_image.specs.code.Relocations.{is_call_pair, is_pcrel_hi, is_pcrel_lo}
+use Rattle.elf_code.specs.Relocations.{is_call_pair, is_pcrel_hi, is_pcrel_lo}
 
 -- from one type on to another
 abbrev pub Between : ℕ → ℕ → ℕ → Type 0

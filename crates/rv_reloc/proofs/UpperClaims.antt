@@ -4,9 +4,9 @@ use Rattle.std.specs.List.{Contains}
 use Rattle.rv_code.specs.declared.placed.Role.{Role}
 use Rattle.rv_code.specs.declared.placed.Role.TheVariants.{Hi, Lo}
 use Rattle.elf_image.specs.declared.elf.Elf.{Elf}
-use Rattle.elf_image.specs.code.Relocations.{Relocation, relocations, symbol_value, is_pcrel_hi, is_pcrel_lo}
-use Rattle.elf_image.specs.code.Roles.{Claims, IsFullAt, PcrelLo, PcrelHiTo, PcrelLoTo, lower_immediate}
-use Rattle.elf_image.specs.faults.ReferenceFaults.{IsAddress, IsMisfit, IsBadPair, IsBadLower, IsLoMismatch}
+use Rattle.elf_code.specs.Relocations.{Relocation, relocations, symbol_value, is_pcrel_hi, is_pcrel_lo}
+use Rattle.elf_code.specs.Roles.{Claims, IsFullAt, PcrelLo, PcrelHiTo, PcrelLoTo, lower_immediate}
+use Rattle.elf_code.specs.ReferenceFaults.{IsAddress, IsMisfit, IsBadPair, IsBadLower, IsLoMismatch}
 use Rattle.rv_reloc.specs.declared.lows.Low.{Low}
 use Rattle.rv_reloc.specs.Claims.{IsClaimOf}
 use Rattle.rv_reloc.specs.Lows.{IsLowOf, IsLowPart}

@@ -3,9 +3,9 @@ use Rattle.std.proofs.Common.{◌≡◌, sym, subst, refl, ℕ, ℤ, ◌↔◌, 
 use Rattle.std.proofs.Common.{Option, Some, None}
 use Rattle.std.specs.List.{Contains}
 use Rattle.elf_image.specs.declared.elf.Elf.{Elf}
-use Rattle.elf_image.specs.code.Relocations.{Relocation, HasRelocation, symbol_value, is_pcrel_hi, is_pcrel_lo, is_call_pair}
-use Rattle.elf_image.specs.code.Roles.{lower_immediate}
-use Rattle.elf_image.specs.faults.ReferenceFaults.{HasAuipc, IsUpper, IsBadUpper, IsBadLower}
+use Rattle.elf_code.specs.Relocations.{Relocation, HasRelocation, symbol_value, is_pcrel_hi, is_pcrel_lo, is_call_pair}
+use Rattle.elf_code.specs.Roles.{lower_immediate}
+use Rattle.elf_code.specs.ReferenceFaults.{HasAuipc, IsUpper, IsBadUpper, IsBadLower}
 use Rattle.rv_reloc.specs.declared.lows.Low.{Low}
 use Rattle.rv_reloc.specs.Lows.{IsLowOf}
 use Rattle.rv_reloc.specs.NamedAddresses.{AreNamed}

@@ -7,9 +7,9 @@ use Rattle.std.proofs.lemmas.Int.{ints}
 use Rattle.std.proofs.lemmas.List.{get_or_default}
 use Rattle.elf_image.specs.declared.elf.Elf.{Elf}
 use Rattle.elf_image.specs.declared.extent.Extent.{Extent}
-use Rattle.elf_image.specs.code.Cells.{IsInOneWhole}
-use Rattle.elf_image.specs.code.FileCode.{AreStarts}
-use Rattle.elf_image.specs.code.Parts.{IsInTabled, IsCodePart, IsPart, StartsIn, IsWholePart}
+use Rattle.elf_code.specs.Cells.{IsInOneWhole}
+use Rattle.elf_code.specs.FileCode.{AreStarts}
+use Rattle.elf_code.specs.Parts.{IsInTabled, IsCodePart, IsPart, StartsIn, IsWholePart}
 use Rattle.elf_image.specs.internal.Extents.{IsInOneExtent}
 use Rattle.rv_reloc.specs.declared.parts.Part.{Part}
 use Rattle.rv_reloc.specs.Parts.{ArePartsApart}

@@ -2,10 +2,10 @@
 use Rattle.std.specs.Prelude.{◌≡◌, ℕ, pos, IsSomeAnd}
 use Rattle.elf_image.specs.declared.elf.Elf.{Elf}
 use Rattle.elf_image.specs.declared.relocation.TheConstants.{R_RISCV_GOT_HI20}
-use Rattle.elf_image.specs.code.Relocations.{Relocation, label}
-use Rattle.elf_image.specs.code.Roles.{PcrelHiTo}
-use Rattle.elf_image.specs.faults.ReferenceFaults.{IsAddress}
-use Rattle.elf_image.specs.memory.LoadedBytes.{loaded_number}
+use Rattle.elf_code.specs.Relocations.{Relocation, label}
+use Rattle.elf_code.specs.Roles.{PcrelHiTo}
+use Rattle.elf_code.specs.ReferenceFaults.{IsAddress}
+use Rattle.elf_code.specs.LoadedNumbers.{loaded_number}
 use Rattle.rv_reloc.specs.declared.lows.Low.{Low}
 use Rattle.rv_reloc.specs.declared.slots.SlotLabel.{SlotLabel}
 use Rattle.rv_reloc.specs.Pairs.{IsTargetOf}

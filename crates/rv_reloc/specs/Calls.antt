@@ -2,9 +2,9 @@
 use Rattle.std.specs.Prelude.{◌≡◌, ◌≢◌, ◌⊎◌, ℕ, ◌+◌, pos}
 use Rattle.rv_code.specs.declared.inst.Inst.TheVariants.{Auipc, Jalr}
 use Rattle.elf_image.specs.declared.elf.Elf.{Elf}
-use Rattle.elf_image.specs.code.Parts.{HasInst}
-use Rattle.elf_image.specs.code.Roles.{pair_target}
-use Rattle.elf_image.specs.faults.ReferenceFaults.{IsAddress}
+use Rattle.elf_code.specs.Parts.{HasInst}
+use Rattle.elf_code.specs.Roles.{pair_target}
+use Rattle.elf_code.specs.ReferenceFaults.{IsAddress}
 use Rattle.rv_reloc.specs.declared.calls.CallInsts.{CallInsts}
 use Rattle.rv_reloc.specs.declared.instructions.Jump.{Jump}
 

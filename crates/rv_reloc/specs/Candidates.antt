@@ -1,11 +1,12 @@
 -- The fields that can be cells, as they are found: one relocation, and one lower part, after another.
 use Rattle.std.specs.Prelude.{◌≡◌, ℕ, ◌+◌, ◌/◌, ◌<◌, ℤ, IsTrue, IsSome, IsSomeAnd, IfSome, List, Option, Some, None}
 use Rattle.elf_image.specs.declared.elf.Elf.{Elf}
-use Rattle.elf_image.specs.code.Cells.{Field, Address, Difference, address_width, IsDifference, can_be_cell, HasCodeLabel}
-use Rattle.elf_image.specs.code.Cells.{IsInOneWhole}
-use Rattle.elf_image.specs.memory.LoadedBytes.{loaded_number, file_offset, IsInHeaders}
-use Rattle.elf_image.specs.code.Parts.{IsStart}
-use Rattle.elf_image.specs.code.Relocations.{Relocation, Bits, is_address}
+use Rattle.elf_code.specs.Cells.{Field, Address, Difference, address_width, IsDifference, can_be_cell, HasCodeLabel}
+use Rattle.elf_code.specs.Cells.{IsInOneWhole}
+use Rattle.elf_image.specs.memory.LoadedBytes.{file_offset, IsInHeaders}
+use Rattle.elf_code.specs.LoadedNumbers.{loaded_number}
+use Rattle.elf_code.specs.Parts.{IsStart}
+use Rattle.elf_code.specs.Relocations.{Relocation, Bits, is_address}
 use Rattle.rv_reloc.specs.declared.differences.Difference.{Difference as LabelDifference}
 use Rattle.rv_reloc.specs.declared.labels.FieldWidth.{FieldWidth}
 use Rattle.rv_reloc.specs.declared.labels.FieldWidth.TheVariants.{Bits6, Bits8, Bits16, Bits32, Bits64, Uleb128}

@@ -3,7 +3,7 @@ use Rattle.std.specs.Int.RustNames.{unsigned_abs}
 use Rattle.rv_code.specs.declared.cell.CodeCell.{CodeCell}
 use Rattle.rv_code.specs.declared.cell.CellKind.{CellKind}
 use Rattle.rv_code.specs.declared.cell.CellKind.TheVariants.{Abs, Diff}
-use Rattle.elf_image.specs.faults.ReferenceFaults.{IsAddress}
+use Rattle.elf_code.specs.ReferenceFaults.{IsAddress}
 use Rattle.rv_reloc.specs.declared.sweep.Candidate.{Candidate}
 use Rattle.rv_reloc.specs.declared.sweep.Content.{Content}
 use Rattle.rv_reloc.specs.declared.sweep.Content.TheVariants.{Address, Difference}

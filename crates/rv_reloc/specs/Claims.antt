@@ -4,8 +4,8 @@ use Rattle.rv_code.specs.declared.placed.Role.{Role}
 use Rattle.rv_code.specs.declared.placed.Role.TheVariants.{AbsHi, AbsLo}
 use Rattle.elf_image.specs.declared.elf.Elf.{Elf}
 use Rattle.elf_image.specs.declared.relocation.TheConstants.{R_RISCV_HI20}
-use Rattle.elf_image.specs.code.Relocations.{Relocation}
-use Rattle.elf_image.specs.code.Roles.{Claims}
+use Rattle.elf_code.specs.Relocations.{Relocation}
+use Rattle.elf_code.specs.Roles.{Claims}
 use Rattle.rv_reloc.specs.declared.records.Record.{Record}
 use Rattle.rv_reloc.specs.declared.roles.Claim.{Claim}
 use Rattle.rv_reloc.specs.Records.{seen}

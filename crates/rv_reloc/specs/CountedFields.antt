@@ -1,8 +1,8 @@
 -- Which of the fields that can be cells count, as a sweep over them finds them.
 use Rattle.std.specs.Prelude.{◌≡◌, ◌⊎◌, ◌<◌, ◌≤◌, ◌+◌, ℕ, ◌<ℤ◌, ◌≤ℤ◌, true, List, Contains, AllPairs}
 use Rattle.elf_image.specs.declared.elf.Elf.{Elf}
-use Rattle.elf_image.specs.code.Cells as cells
-use Rattle.elf_image.specs.code.Cells.{CanBeCell, Counts, IsFieldBefore}
+use Rattle.elf_code.specs.Cells as cells
+use Rattle.elf_code.specs.Cells.{CanBeCell, Counts, IsFieldBefore}
 use Rattle.rv_reloc.specs.declared.sweep.Candidate.{Candidate}
 use Rattle.rv_reloc.specs.declared.sweep.Content.{Content}
 use Rattle.rv_reloc.specs.declared.sweep.Content.TheVariants.{Address, Difference}

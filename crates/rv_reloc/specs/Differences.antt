@@ -1,11 +1,11 @@
 -- Differences of labels as they are found, one relocation after another.
 use Rattle.std.specs.Prelude.{◌≡◌, ◌⊎◌, ℤ, Some}
 use Rattle.elf_image.specs.declared.elf.Elf.{Elf}
-use Rattle.elf_image.specs.code.Cells.{IsDifference, IsCodeLabel}
-use Rattle.elf_image.specs.code.Fields.{HoldsDifference}
-use Rattle.elf_image.specs.faults.ReferenceFaults.{IsPaired}
-use Rattle.elf_image.specs.code.Relocations as relocations
-use Rattle.elf_image.specs.code.Relocations.{Relocation}
+use Rattle.elf_code.specs.Cells.{IsDifference, IsCodeLabel}
+use Rattle.elf_code.specs.Fields.{HoldsDifference}
+use Rattle.elf_code.specs.ReferenceFaults.{IsPaired}
+use Rattle.elf_code.specs.Relocations as relocations
+use Rattle.elf_code.specs.Relocations.{Relocation}
 use Rattle.rv_reloc.specs.declared.differences.Difference.{Difference}
 use Rattle.rv_reloc.specs.Labels.{width_of, IsLabelSize}
 

@@ -2,8 +2,8 @@
 use Rattle.std.specs.Prelude.{◌≡◌, ℕ, pos, Contains}
 use Rattle.elf_image.specs.declared.elf.Elf.{Elf}
 use Rattle.elf_image.specs.declared.relocation.TheConstants.{R_RISCV_GOT_HI20}
-use Rattle.elf_image.specs.code.Cells.{Field}
-use Rattle.elf_image.specs.code.Relocations.{Relocation, relocations, label}
+use Rattle.elf_code.specs.Cells.{Field}
+use Rattle.elf_code.specs.Relocations.{Relocation, relocations, label}
 use Rattle.rv_reloc.specs.Candidates.{IsCodeField}
 use Rattle.rv_reloc.specs.declared.lows.Low.{Low}
 use Rattle.rv_reloc.specs.Pairs.{IsTargetOf}

@@ -2,7 +2,7 @@
 use Rattle.std.specs.Prelude.{◌≡◌, ◌≢◌, ◌⊎◌, ℕ, pos, IsSomeAnd, Option, Some, None}
 use Rattle.rv_code.specs.isa.HiLo.{hi20, lo12}
 use Rattle.elf_image.specs.declared.relocation.TheConstants.{R_RISCV_HI20}
-use Rattle.elf_image.specs.code.Roles.{lower_immediate}
+use Rattle.elf_code.specs.Roles.{lower_immediate}
 use Rattle.rv_code.specs.declared.inst.Inst.{Inst}
 use Rattle.rv_code.specs.declared.inst.Inst.TheVariants.{Auipc, Lui, Jalr}
 use Rattle.rv_reloc.specs.declared.instructions.Upper.{Upper}

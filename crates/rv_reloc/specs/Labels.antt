@@ -1,6 +1,6 @@
 -- Labels and how wide a field is for them, as they are kept.
 use Rattle.std.specs.Prelude.{ℤ, pos, ◌<ℤ◌, ◌≤ℤ◌, ◌+ℤ◌, ◌^◌}
-use Rattle.elf_image.specs.code.Relocations as relocations
+use Rattle.elf_code.specs.Relocations as relocations
 use Rattle.rv_reloc.specs.declared.labels.FieldWidth.{FieldWidth}
 use Rattle.rv_reloc.specs.declared.labels.FieldWidth.TheVariants.{Bits6, Bits8, Bits16, Bits32, Bits64, Uleb128}
 

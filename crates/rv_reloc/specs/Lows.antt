@@ -3,8 +3,8 @@ use Rattle.std.specs.Prelude.{◌≡◌, ◌≢◌, ◌↔◌, ◌+◌, ◌<◌,
 use Rattle.std.specs.List.Sorted.{IsNonDecreasingBy}
 use Rattle.rv_code.specs.declared.inst.Inst.{Inst}
 use Rattle.elf_image.specs.declared.elf.Elf.{Elf}
-use Rattle.elf_image.specs.code.Relocations.{Relocation, symbol_value, is_pcrel_lo}
-use Rattle.elf_image.specs.code.Roles.{IsFullAt, PcrelLo, lower_immediate}
+use Rattle.elf_code.specs.Relocations.{Relocation, symbol_value, is_pcrel_lo}
+use Rattle.elf_code.specs.Roles.{IsFullAt, PcrelLo, lower_immediate}
 use Rattle.rv_reloc.specs.declared.lows.Low.{Low}
 
 -- a relocation gives the instruction at its place a lower part for an AUIPC

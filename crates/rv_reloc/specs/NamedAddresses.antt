@@ -1,8 +1,8 @@
 -- The addresses that relocations for lower parts name.
 use Rattle.std.specs.Prelude.{◌≡◌, ◌<◌, ◌↔◌, ℕ, List, IsTrue, Contains, AllPairs}
 use Rattle.elf_image.specs.declared.elf.Elf.{Elf}
-use Rattle.elf_image.specs.code.Relocations.{Relocation, symbol_value, is_pcrel_lo}
-use Rattle.elf_image.specs.faults.ReferenceFaults.{IsNamedByLow}
+use Rattle.elf_code.specs.Relocations.{Relocation, symbol_value, is_pcrel_lo}
+use Rattle.elf_code.specs.ReferenceFaults.{IsNamedByLow}
 
 -- a relocation for a lower part names an address
 pub record NamesUpper (elf : Elf) (r : Relocation) (a : ℕ) : Type 0 where

@@ -2,9 +2,9 @@
 use Rattle.std.specs.Prelude.{◌≡◌, ◌↔◌, ◌<◌, ℕ, ℤ, List, Contains, AllPairs}
 use Rattle.rv_code.specs.declared.inst.Inst.TheVariants.{Auipc}
 use Rattle.elf_image.specs.declared.elf.Elf.{Elf}
-use Rattle.elf_image.specs.code.Relocations.{Relocation}
-use Rattle.elf_image.specs.code.Roles.{IsFullAt, PcrelHiTo, pair_target}
-use Rattle.elf_image.specs.faults.ReferenceFaults.{IsAddress}
+use Rattle.elf_code.specs.Relocations.{Relocation}
+use Rattle.elf_code.specs.Roles.{IsFullAt, PcrelHiTo, pair_target}
+use Rattle.elf_code.specs.ReferenceFaults.{IsAddress}
 use Rattle.rv_reloc.specs.declared.lows.Low.{Low}
 use Rattle.rv_reloc.specs.Lows.{IsLowPart}
 

@@ -4,7 +4,7 @@ use Rattle.rv_code.specs.layout.Lists.{ListsAll}
 use Rattle.rv_code.specs.declared.inst.Inst.{Inst}
 use Rattle.elf_image.specs.declared.elf.Elf.{Elf}
 use Rattle.elf_image.specs.memory.LoadedBytes.{byte_at}
-use Rattle.elf_image.specs.code.Parts.{IsInCode, IsCovered, IsCodePart, IsInstAt}
+use Rattle.elf_code.specs.Parts.{IsInCode, IsCovered, IsCodePart, IsInstAt}
 use Rattle.rv_reloc.specs.declared.parts.Part.{Part}
 
 -- all bytes from one address to before another are zero

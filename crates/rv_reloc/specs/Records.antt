@@ -5,8 +5,8 @@ use Rattle.std.specs.List.Sorted.{IsPermutation}
 use Rattle.elf_image.specs.declared.elf.Elf.{Elf}
 use Rattle.elf_image.specs.declared.section.Section.{Section}
 use Rattle.elf_image.specs.declared.relocation.TheConstants.{SHT_RELA}
-use Rattle.elf_image.specs.code.Cells.{IsOnly}
-use Rattle.elf_image.specs.code.Relocations.{Relocation, relocations, is_named}
+use Rattle.elf_code.specs.Cells.{IsOnly}
+use Rattle.elf_code.specs.Relocations.{Relocation, relocations, is_named}
 use Rattle.elf_image.specs.file.SectionNames.{is_loaded}
 use Rattle.rv_reloc.specs.declared.records.Record.{Record}
 use Rattle.rv_reloc.specs.Index.{class}

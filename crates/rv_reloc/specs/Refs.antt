@@ -1,7 +1,7 @@
 -- The references of a file as lists.
 use Rattle.std.specs.Prelude.{ℕ, List, map}
 use Rattle.elf_image.specs.declared.elf.Elf.{Elf}
-use Rattle.elf_image.specs.code.FileCode.{AreRoles, AreCells}
+use Rattle.elf_code.specs.FileCode.{AreRoles, AreCells}
 use Rattle.elf_image.specs.faults.FileFaults.{IsSound}
 use Rattle.elf_image.specs.file.ParsedFile.{IsElfOf}
 use Rattle.rv_reloc.specs.declared.parts.Part.{Part}

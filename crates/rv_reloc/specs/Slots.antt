@@ -2,7 +2,7 @@
 use Rattle.std.specs.Prelude.{◌≡◌, ◌≢◌, ◌⊎◌, ◌↔◌, ◌<◌, ℕ, ℤ, pos, ◌<ℤ◌, ◌≤ℤ◌, List, Contains, AllPairs}
 use Rattle.elf_image.specs.declared.elf.Elf.{Elf}
 use Rattle.elf_image.specs.declared.relocation.TheConstants.{R_RISCV_GOT_HI20}
-use Rattle.elf_image.specs.code.Relocations.{Relocation, relocations, label}
+use Rattle.elf_code.specs.Relocations.{Relocation, relocations, label}
 use Rattle.rv_reloc.specs.declared.slots.SlotLabel.{SlotLabel}
 
 -- a relocation at a place says that an entry holds its label

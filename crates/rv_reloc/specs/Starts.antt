@@ -1,7 +1,7 @@
 -- The starts of instructions as lists.
 use Rattle.std.specs.Prelude.{ℕ, zero, suc, ◌+◌, ◌-◌, nat_lt, if◌then◌else◌, List, [], ◌∷◌, flat_map}
 use Rattle.elf_image.specs.declared.elf.Elf.{Elf}
-use Rattle.elf_image.specs.code.Parts.{length_at}
+use Rattle.elf_code.specs.Parts.{length_at}
 use Rattle.rv_reloc.specs.declared.parts.Part.{Part}
 
 -- the instructions, by their lengths, that start from an address on to before an end, at most n

@@ -4,8 +4,8 @@ use Rattle.std.specs.Prelude.{Some, None, length}
 use Rattle.std.specs.Int.{int_rem_euclid}
 use Rattle.rb_bytes.specs.Leb.{is_last}
 use Rattle.elf_image.specs.declared.elf.Elf.{Elf}
-use Rattle.elf_image.specs.code.Fields.{leb_at, HoldBits, bytes_of_bits}
-use Rattle.elf_image.specs.memory.LoadedBytes.{loaded_number}
+use Rattle.elf_code.specs.Fields.{leb_at, HoldBits, bytes_of_bits}
+use Rattle.elf_code.specs.LoadedNumbers.{loaded_number}
 use Rattle.rv_reloc.specs.declared.tails.LebRest.{LebRest}
 use Rattle.rv_reloc.specs.declared.tails.Known.{Known}
 

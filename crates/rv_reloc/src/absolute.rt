@@ -1,10 +1,10 @@
 // Relocations for the parts of absolute addresses.
 ghost use Rattle.std.specs.Prelude.{◌≡◌, ◌↔◌, ℕ, pos, IfSome, IsTrue, Some, Contains};
 ghost use Rattle.rv_code.specs.isa.HiLo.{hi20, lo12};
-ghost use Rattle.elf_image.specs.code.FileCode.{AreStarts};
-ghost use Rattle.elf_image.specs.code.Relocations.{relocations, is_absolute};
-ghost use Rattle.elf_image.specs.code.Roles.{AbsoluteTo};
-ghost use Rattle.elf_image.specs.faults.ReferenceFaults.{HasAbsolute, IsBadAbsolute};
+ghost use Rattle.elf_code.specs.FileCode.{AreStarts};
+ghost use Rattle.elf_code.specs.Relocations.{relocations, is_absolute};
+ghost use Rattle.elf_code.specs.Roles.{AbsoluteTo};
+ghost use Rattle.elf_code.specs.ReferenceFaults.{HasAbsolute, IsBadAbsolute};
 ghost use Rattle.rv_reloc.specs.Instructions.{HasPart};
 ghost use Rattle.rv_reloc.specs.Parts.{AreCodeParts};
 ghost use Rattle.rv_reloc.specs.Records.{seen};

@@ -1,11 +1,11 @@
 // Calls: an AUIPC and a JALR after it.
 ghost use Rattle.std.specs.Prelude.{◌≡◌, ◌↔◌, ℕ, ℤ, ◌+◌, ◌<◌, ◌^◌, IfSome, OnSome, IsSome, IsTrue, Some, Contains};
 ghost use Rattle.rv_code.specs.declared.inst.Inst.TheVariants.{Jalr};
-ghost use Rattle.elf_image.specs.code.FileCode.{AreStarts};
-ghost use Rattle.elf_image.specs.code.Parts.{IsStartIn};
-ghost use Rattle.elf_image.specs.code.Relocations.{relocations};
-ghost use Rattle.elf_image.specs.code.Roles.{IsFullAt, pair_target};
-ghost use Rattle.elf_image.specs.faults.ReferenceFaults.{IsAddress, IsBadCall};
+ghost use Rattle.elf_code.specs.FileCode.{AreStarts};
+ghost use Rattle.elf_code.specs.Parts.{IsStartIn};
+ghost use Rattle.elf_code.specs.Relocations.{relocations};
+ghost use Rattle.elf_code.specs.Roles.{IsFullAt, pair_target};
+ghost use Rattle.elf_code.specs.ReferenceFaults.{IsAddress, IsBadCall};
 ghost use Rattle.rv_reloc.specs.declared.instructions.Jump.{Jump};
 ghost use Rattle.rv_reloc.specs.declared.calls.CallInsts.{CallInsts};
 ghost use Rattle.rv_reloc.specs.Calls.{IsCallAt, IsJumpAfter, IsThrough, IsWeak, FitsCall, GoesTo, Names};

@@ -1,15 +1,15 @@
 // The fields that can be cells.
 ghost use Rattle.std.specs.Prelude.{◌≡◌, ◌↔◌, ℕ, ℤ, ◌+◌, ◌<◌, ◌≤◌, ◌++◌, ◌^◌, IsTrue, IsSomeAnd, IfSome, IfOk, OnOk, OnSome, All};
 ghost use Rattle.std.specs.Prelude.{List, Contains, Some, map, option_map};
-ghost use Rattle.elf_image.specs.code.Cells.{Field, address_width};
-ghost use Rattle.elf_image.specs.code.FileCode.{AreStarts};
+ghost use Rattle.elf_code.specs.Cells.{Field, address_width};
+ghost use Rattle.elf_code.specs.FileCode.{AreStarts};
 ghost use Rattle.elf_image.specs.memory.LoadedBytes.{IsInHeaders};
 ghost use Rattle.rv_reloc.specs.Candidates.{AreFree, IsFreeByte, IsCodeField, IsCellField, IsFieldOf, cell_bytes};
 ghost use Rattle.rv_reloc.specs.Finds.{AreFound};
 ghost use Rattle.rv_reloc.specs.Parts.{ArePartsApart};
 ghost use Rattle.rv_reloc.specs.Records.{AreRecords, seen};
 ghost use Rattle.rv_reloc.specs.WholeParts.{AreWholeParts};
-ghost use Rattle.elf_image.specs.code.Relocations.{relocations};
+ghost use Rattle.elf_code.specs.Relocations.{relocations};
 ghost use Rattle.rv_reloc.specs.LoadedMemory.{IsLow};
 ghost use Rattle.rv_reloc.specs.CountedFields.{as_field};
 

@@ -1,9 +1,9 @@
 // Code cells: the fields that count, of those that can be cells.
 ghost use Rattle.std.specs.Prelude.{◌≡◌, ◌↔◌, ℕ, pos, List, IfOk, OnOk, IfNone, IsTrue, All, Contains, map};
 ghost use Rattle.elf_image.specs.declared.elf.Elf as file;
-ghost use Rattle.elf_image.specs.code.FileCode.{AreCells, AreStarts};
+ghost use Rattle.elf_code.specs.FileCode.{AreCells, AreStarts};
 ghost use Rattle.elf_image.specs.faults.LowestPlace.{IsLowest};
-ghost use Rattle.elf_image.specs.faults.ReferenceFaults.{HasBadLabel, IsAddress};
+ghost use Rattle.elf_code.specs.ReferenceFaults.{HasBadLabel, IsAddress};
 ghost use Rattle.rv_reloc.specs.Cells.{HasBadContent, HasAddresses, cell_of};
 ghost use Rattle.rv_reloc.specs.LoadedMemory.{IsLow};
 ghost use Rattle.rv_reloc.specs.Lows.{AreLows};

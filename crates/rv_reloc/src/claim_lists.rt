@@ -2,10 +2,10 @@
 ghost use Rattle.std.specs.Prelude.{◌≡◌, ◌+◌, ℕ, IfOk, OnOk, IfSome, IsSomeAnd, Contains, AllPairs, All};
 ghost use Rattle.std.specs.List.Sorted.{IsPermutation};
 ghost use Rattle.rv_code.specs.declared.placed.Role.{Role};
-ghost use Rattle.elf_image.specs.code.FileCode.{AreStarts, AreRoles};
-ghost use Rattle.elf_image.specs.code.Relocations.{Relocation, relocations};
-ghost use Rattle.elf_image.specs.code.Roles.{Claims};
-ghost use Rattle.elf_image.specs.faults.ReferenceFaults.{IsMisfit, IsLoMismatch};
+ghost use Rattle.elf_code.specs.FileCode.{AreStarts, AreRoles};
+ghost use Rattle.elf_code.specs.Relocations.{Relocation, relocations};
+ghost use Rattle.elf_code.specs.Roles.{Claims};
+ghost use Rattle.elf_code.specs.ReferenceFaults.{IsMisfit, IsLoMismatch};
 ghost use Rattle.rv_reloc.specs.Claims.{IsClaimOf, IsClaimUpTo, AreClaimsOf, AreClaims};
 ghost use Rattle.rv_reloc.specs.Lows.{AreLows};
 ghost use Rattle.rv_reloc.specs.Parts.{AreCodeParts};

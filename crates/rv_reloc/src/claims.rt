@@ -1,10 +1,10 @@
 // The claims to roles that relocations make.
 ghost use Rattle.std.specs.Prelude.{◌≡◌, ◌+◌, ℕ, IfSome, IsSomeAnd, IsTrue, Contains};
 ghost use Rattle.rv_code.specs.declared.placed.Role.{Role};
-ghost use Rattle.elf_image.specs.code.FileCode.{AreStarts};
-ghost use Rattle.elf_image.specs.code.Relocations.{Relocation, relocations, is_call_pair, is_pcrel_hi, is_pcrel_lo, is_absolute};
-ghost use Rattle.elf_image.specs.code.Roles.{Claims};
-ghost use Rattle.elf_image.specs.faults.ReferenceFaults.{IsMisfit, IsLoMismatch};
+ghost use Rattle.elf_code.specs.FileCode.{AreStarts};
+ghost use Rattle.elf_code.specs.Relocations.{Relocation, relocations, is_call_pair, is_pcrel_hi, is_pcrel_lo, is_absolute};
+ghost use Rattle.elf_code.specs.Roles.{Claims};
+ghost use Rattle.elf_code.specs.ReferenceFaults.{IsMisfit, IsLoMismatch};
 ghost use Rattle.rv_reloc.specs.Claims.{IsClaimOf, absolute_role};
 ghost use Rattle.rv_reloc.specs.Lows.{AreLows};
 ghost use Rattle.rv_reloc.specs.Parts.{AreCodeParts};

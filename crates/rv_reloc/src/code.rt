@@ -1,9 +1,9 @@
 // Instructions at their addresses.
 ghost use Rattle.std.specs.Prelude.{◌≡◌, ◌↔◌, ◌<◌, ◌≤◌, ◌+◌, ◌*◌, ℕ, IsTrue, IfSome, Some, Contains, AllPairs};
 ghost use Rattle.rv_code.specs.declared.inst.Inst.{Inst};
-ghost use Rattle.elf_image.specs.code.FileCode.{AreStarts};
-ghost use Rattle.elf_image.specs.code.Parts.{halfword_at};
-ghost use Rattle.elf_image.specs.code.Roles.{IsFullAt};
+ghost use Rattle.elf_code.specs.FileCode.{AreStarts};
+ghost use Rattle.elf_code.specs.Parts.{halfword_at};
+ghost use Rattle.elf_code.specs.Roles.{IsFullAt};
 ghost use Rattle.rv_reloc.specs.Parts.{AreCodeParts, IsInstBefore};
 
 use crate::loaded::bytes_from;

@@ -1,12 +1,12 @@
 // Differences of labels, and which of them are at fault.
 ghost use Rattle.std.specs.Prelude.{◌≡◌, ◌↔◌, ◌⊎◌, Some, option_map, ℕ, ℤ, IsTrue, IfSome, IsSomeAnd, All, List, Contains, map};
 ghost use Rattle.elf_image.specs.declared.elf.Elf.{Elf};
-ghost use Rattle.elf_image.specs.code.Cells.{IsDifference, HasCodeLabel, IsInOneWhole};
-ghost use Rattle.elf_image.specs.code.FileCode.{AreStarts};
+ghost use Rattle.elf_code.specs.Cells.{IsDifference, HasCodeLabel, IsInOneWhole};
+ghost use Rattle.elf_code.specs.FileCode.{AreStarts};
 ghost use Rattle.elf_image.specs.faults.LowestPlace.{IsLowest};
-ghost use Rattle.elf_image.specs.faults.ReferenceFaults.{IsBadDifference, IsNarrow, IsNarrowDiff, IsPaired};
-ghost use Rattle.elf_image.specs.code.Relocations as spec;
-ghost use Rattle.elf_image.specs.code.Relocations.{Relocation, relocations, plus_width, minus_width};
+ghost use Rattle.elf_code.specs.ReferenceFaults.{IsBadDifference, IsNarrow, IsNarrowDiff, IsPaired};
+ghost use Rattle.elf_code.specs.Relocations as spec;
+ghost use Rattle.elf_code.specs.Relocations.{Relocation, relocations, plus_width, minus_width};
 ghost use Rattle.rv_reloc.specs.Differences.{IsDifferenceOf, IsTheDifference, HoldsOther, IsUnpaired};
 ghost use Rattle.rv_reloc.specs.Labels.{width_of};
 ghost use Rattle.rv_reloc.specs.Parts.{ArePartsApart};

@@ -1,10 +1,10 @@
 // The faults of a file's references, one after another.
 ghost use Rattle.std.specs.Prelude.{ℕ, List, OnOk, IfErr};
-ghost use Rattle.elf_image.specs.code.FileCode.{AreStarts};
-ghost use Rattle.elf_image.specs.code.Relocations.{HasRelocation};
-ghost use Rattle.elf_image.specs.faults.FirstFault.{IsAnswered, LacksBelow};
+ghost use Rattle.elf_code.specs.FileCode.{AreStarts};
+ghost use Rattle.elf_code.specs.Relocations.{HasRelocation};
+ghost use Rattle.rb_bytes.specs.FirstFault.{IsAnswered, LacksBelow};
 ghost use Rattle.elf_image.specs.faults.LowestPlace.{IsLowest};
-ghost use Rattle.elf_image.specs.faults.ReferenceFaults.{HasReferenceFault, IsMisfit};
+ghost use Rattle.elf_code.specs.ReferenceFaults.{HasReferenceFault, IsMisfit};
 ghost use Rattle.rv_reloc.specs.Lows.{AreLows};
 ghost use Rattle.rv_reloc.specs.Parts.{ArePartsApart};
 ghost use Rattle.rv_reloc.specs.Records.{AreRecords};

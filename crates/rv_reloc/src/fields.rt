@@ -2,10 +2,10 @@
 ghost use Rattle.std.specs.Prelude.{◌≡◌, ◌↔◌, ◌≤◌, ◌<◌, ◌+◌, ◌%◌, ◌^◌, ℤ, pos, ◌-ℤ◌, IsTrue, IfOk, All, List, ℕ, Some, length};
 ghost use Rattle.std.specs.Prelude.{option_map};
 ghost use Rattle.std.specs.Int.{int_rem_euclid};
-ghost use Rattle.elf_image.specs.code.Fields.{leb_field, width_size, fixed_size, field_size, HasField, bytes_of_bits};
-ghost use Rattle.elf_image.specs.code.Fields.{HoldsDifference};
-ghost use Rattle.elf_image.specs.memory.LoadedBytes.{loaded_number};
-ghost use Rattle.elf_image.specs.code.Relocations.{Uleb128};
+ghost use Rattle.elf_code.specs.Fields.{leb_field, width_size, fixed_size, field_size, HasField, bytes_of_bits};
+ghost use Rattle.elf_code.specs.Fields.{HoldsDifference};
+ghost use Rattle.elf_code.specs.LoadedNumbers.{loaded_number};
+ghost use Rattle.elf_code.specs.Relocations.{Uleb128};
 ghost use Rattle.rv_reloc.specs.Labels.{width_of, IsLabelSize};
 ghost use Rattle.rv_reloc.specs.LoadedMemory.{IsLow};
 ghost use Rattle.rv_reloc.specs.Records.{seen};

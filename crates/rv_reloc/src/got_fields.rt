@@ -1,7 +1,7 @@
 // Entries of the global offset table, which an AUIPC and its lower parts name.
 ghost use Rattle.std.specs.Prelude.{◌≡◌, ◌↔◌, IfOk, IfSome, IsTrue, Some, map, option_map};
-ghost use Rattle.elf_image.specs.code.Cells.{Field};
-ghost use Rattle.elf_image.specs.code.FileCode.{AreStarts};
+ghost use Rattle.elf_code.specs.Cells.{Field};
+ghost use Rattle.elf_code.specs.FileCode.{AreStarts};
 ghost use Rattle.rv_reloc.specs.Finds.{AreFound};
 ghost use Rattle.rv_reloc.specs.GotFields.{IsSlotOf, NamesEntry, IsNamedField};
 ghost use Rattle.rv_reloc.specs.LoadedMemory.{IsLow};

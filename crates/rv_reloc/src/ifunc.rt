@@ -5,7 +5,7 @@ ghost use Rattle.elf_image.specs.declared.elf.Elf.{Elf};
 ghost use Rattle.elf_image.specs.declared.relocation.TheConstants.{R_RISCV_IRELATIVE};
 ghost use Rattle.elf_image.specs.declared.symbol.TheConstants.{STT_GNU_IFUNC};
 ghost use Rattle.elf_image.specs.faults.LowestPlace.{IsLowest};
-ghost use Rattle.elf_image.specs.faults.ReferenceFaults.{IsStubs, IsIfuncOrPlt, IsAlreadyMoved};
+ghost use Rattle.elf_code.specs.ReferenceFaults.{IsStubs, IsIfuncOrPlt, IsAlreadyMoved};
 ghost use Rattle.rv_reloc.specs.Places.{IsPlaceOf};
 ghost use Rattle.rv_reloc.specs.Records.{AreRecords};
 

@@ -1,8 +1,8 @@
 // Looking up relocations by place and class.
 ghost use Rattle.std.specs.Prelude.{◌≡◌, ◌↔◌, ◌<◌, ◌≤◌, ◌-◌, ℕ, IsTrue, IfSome, Some, length, slice_index_or, Any};
 ghost use Rattle.elf_image.specs.declared.elf.Elf.{Elf};
-ghost use Rattle.elf_image.specs.code.Cells.{IsOnly, is_plus, is_minus};
-ghost use Rattle.elf_image.specs.code.Relocations.{HasRelocation, is_call_pair, is_pcrel_hi};
+ghost use Rattle.elf_code.specs.Cells.{IsOnly, is_plus, is_minus};
+ghost use Rattle.elf_code.specs.Relocations.{HasRelocation, is_call_pair, is_pcrel_hi};
 ghost use Rattle.rv_reloc.specs.declared.records.Record.{Record};
 ghost use Rattle.rv_reloc.specs.Index.{class, class_beside, width_code, plus_class, minus_class};
 ghost use Rattle.rv_reloc.specs.Labels.{width_of};

@@ -1,7 +1,7 @@
 // The starts of instructions.
 ghost use Rattle.std.specs.Prelude.{◌≡◌, ◌<◌, ◌≤◌, ◌+◌, ◌-◌, ◌/◌, ◌++◌, ◌↔◌, ℕ, IfOk, OnOk, length, Contains, AllPairs};
 ghost use Rattle.elf_image.specs.declared.elf.Elf.{Elf};
-ghost use Rattle.elf_image.specs.code.FileCode.{AreStarts};
+ghost use Rattle.elf_code.specs.FileCode.{AreStarts};
 ghost use Rattle.rv_reloc.specs.Halves.{AreHalvesOf, AreMarksOf};
 ghost use Rattle.rv_reloc.specs.Starts.{starts_from, starts_of};
 

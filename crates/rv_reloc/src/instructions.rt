@@ -1,9 +1,9 @@
 // The instructions that references look for, at their addresses.
 ghost use Rattle.std.specs.Prelude.{◌≡◌, ℕ, ℤ, IfSome, Some, Contains, IsTrue, ◌↔◌};
 ghost use Rattle.rv_code.specs.declared.inst.Inst.TheVariants.{Auipc};
-ghost use Rattle.elf_image.specs.code.FileCode.{AreStarts};
-ghost use Rattle.elf_image.specs.code.Roles.{IsFullAt};
-ghost use Rattle.elf_image.specs.faults.ReferenceFaults.{HasAuipc};
+ghost use Rattle.elf_code.specs.FileCode.{AreStarts};
+ghost use Rattle.elf_code.specs.Roles.{IsFullAt};
+ghost use Rattle.elf_code.specs.ReferenceFaults.{HasAuipc};
 ghost use Rattle.rv_reloc.specs.Instructions.{auipc_of, lui_of, jalr_of};
 ghost use Rattle.rv_reloc.specs.Parts.{AreCodeParts};
 

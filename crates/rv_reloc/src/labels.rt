@@ -1,8 +1,8 @@
 // The labels that relocations add to a field, set it to or subtract from it, and how wide the field is for them.
 ghost use Rattle.std.specs.Prelude.{◌≡◌, ◌+ℤ◌, ℤ, pos, option_map, IsTrue, ◌↔◌};
-ghost use Rattle.elf_image.specs.code.FileCode.{AreStarts};
-ghost use Rattle.elf_image.specs.code.Relocations.{symbol_value, label, plus_width, minus_width, is_add};
-ghost use Rattle.elf_image.specs.code.Cells.{can_be_cell, IsCodeLabel, HasCodeLabel};
+ghost use Rattle.elf_code.specs.FileCode.{AreStarts};
+ghost use Rattle.elf_code.specs.Relocations.{symbol_value, label, plus_width, minus_width, is_add};
+ghost use Rattle.elf_code.specs.Cells.{can_be_cell, IsCodeLabel, HasCodeLabel};
 ghost use Rattle.rv_reloc.specs.Labels.{width_of, IsLabelSize};
 ghost use Rattle.rv_reloc.specs.Records.{seen};
 

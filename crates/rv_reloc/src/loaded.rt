@@ -1,7 +1,8 @@
 // Bytes and numbers in the memory that a file describes.
 ghost use Rattle.std.specs.Prelude.{◌≡◌, ◌<◌, ◌≤◌, ◌^◌, OnSome, IfSome, length};
 ghost use Rattle.byteorder.specs.Endian.{little_number};
-ghost use Rattle.elf_image.specs.memory.LoadedBytes.{byte_at, loaded_number};
+ghost use Rattle.elf_image.specs.memory.LoadedBytes.{byte_at};
+ghost use Rattle.elf_code.specs.LoadedNumbers.{loaded_number};
 ghost use Rattle.rv_code.specs.layout.FunctionLists.{address_end};
 ghost use Rattle.rv_reloc.specs.LoadedMemory.{IsLow, AreBytesFrom};
 

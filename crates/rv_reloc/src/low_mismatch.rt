@@ -3,7 +3,7 @@ ghost use Rattle.std.specs.Prelude.{◌↔◌, ◌<◌, IsTrue, length};
 ghost use Rattle.std.specs.List.Sorted.{IsNonDecreasingBy};
 ghost use Rattle.elf_image.specs.declared.elf.Elf.{Elf};
 ghost use Rattle.elf_image.specs.faults.LowestPlace.{IsLowest};
-ghost use Rattle.elf_image.specs.faults.ReferenceFaults.{IsLoMismatch};
+ghost use Rattle.elf_code.specs.ReferenceFaults.{IsLoMismatch};
 ghost use Rattle.rv_reloc.specs.Lows.{AreLows, DiffersFromNext};
 
 use crate::lows::Low;

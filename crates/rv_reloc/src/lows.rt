@@ -1,8 +1,8 @@
 // The lower parts of distances, by the AUIPC that they name.
 ghost use Rattle.std.specs.Prelude.{◌≡◌, ◌<◌, ◌≤◌, ℕ, IfOk, OnOk, IfSome, IsSome, Some, Contains, length, slice_index_or};
 ghost use Rattle.std.specs.List.Sorted.{IsNonDecreasingBy, IsPermutation};
-ghost use Rattle.elf_image.specs.code.FileCode.{AreStarts};
-ghost use Rattle.elf_image.specs.code.Roles.{immediate_i, immediate_s, lower_immediate};
+ghost use Rattle.elf_code.specs.FileCode.{AreStarts};
+ghost use Rattle.elf_code.specs.Roles.{immediate_i, immediate_s, lower_immediate};
 ghost use Rattle.rv_reloc.specs.declared.lows.Low.{Low};
 ghost use Rattle.rv_reloc.specs.Finds.{AreFound};
 ghost use Rattle.rv_reloc.specs.Parts.{AreCodeParts};

@@ -1,9 +1,9 @@
 // Relocations that don't fit the instructions that they apply to.
 ghost use Rattle.std.specs.Prelude.{◌≡◌, ◌↔◌, ◌||◌, IfOk, IsTrue, All, Contains};
-ghost use Rattle.elf_image.specs.code.FileCode.{AreStarts};
-ghost use Rattle.elf_image.specs.code.Relocations.{HasRelocation, relocations};
+ghost use Rattle.elf_code.specs.FileCode.{AreStarts};
+ghost use Rattle.elf_code.specs.Relocations.{HasRelocation, relocations};
 ghost use Rattle.elf_image.specs.faults.LowestPlace.{IsLowest};
-ghost use Rattle.elf_image.specs.faults.ReferenceFaults.{IsBadField, IsMisfit};
+ghost use Rattle.elf_code.specs.ReferenceFaults.{IsBadField, IsMisfit};
 ghost use Rattle.rv_reloc.specs.LoadedMemory.{IsLow};
 ghost use Rattle.rv_reloc.specs.Lows.{AreLows};
 ghost use Rattle.rv_reloc.specs.Misfits.{IsMisplaced, IsUnfit, HasBadSymbol};

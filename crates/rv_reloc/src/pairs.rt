@@ -1,8 +1,8 @@
 // Lower parts together with the AUIPCs that they name.
 ghost use Rattle.std.specs.Prelude.{◌≡◌, ◌↔◌, ℕ, ℤ, pos, IfOk, IfSome, IsSome, IsTrue, Some, Contains};
-ghost use Rattle.elf_image.specs.code.FileCode.{AreStarts};
-ghost use Rattle.elf_image.specs.code.Relocations.{relocations};
-ghost use Rattle.elf_image.specs.faults.ReferenceFaults.{IsAddress};
+ghost use Rattle.elf_code.specs.FileCode.{AreStarts};
+ghost use Rattle.elf_code.specs.Relocations.{relocations};
+ghost use Rattle.elf_code.specs.ReferenceFaults.{IsAddress};
 ghost use Rattle.rv_reloc.specs.Finds.{AreFound};
 ghost use Rattle.rv_reloc.specs.Lows.{AreLows};
 ghost use Rattle.rv_reloc.specs.Pairs.{IsTargetOf, IsFar, AreFar, MakesNoAddress};

@@ -1,6 +1,6 @@
 // The parts of executable sections that hold code.
 ghost use Rattle.std.specs.Prelude.{◌≡◌, ◌↔◌, ◌<◌, ◌≤◌, ◌+◌, ℕ, IfOk, IfSome, IsTrue, Some, length, slice_index_or};
-ghost use Rattle.elf_image.specs.code.Parts.{IsCovered, IsInCode};
+ghost use Rattle.elf_code.specs.Parts.{IsCovered, IsInCode};
 ghost use Rattle.elf_image.specs.internal.Extents.{IsInOneExtent};
 ghost use Rattle.rv_reloc.specs.Parts.{AreZeros, IsCodeStretch, AreCodeParts, ArePartsApart, HoldsAddress};
 

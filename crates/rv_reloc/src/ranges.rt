@@ -1,9 +1,9 @@
 // Ranges of addresses, of which it is asked whether one holds a stretch.
 ghost use Rattle.std.specs.Prelude.{◌≡◌, ◌↔◌, ◌<◌, ◌≤◌, ◌+◌, ℕ, IfOk, IsTrue, map, filter};
 ghost use Rattle.std.specs.List.Sorted.{IsNonDecreasingBy};
-ghost use Rattle.elf_image.specs.code.Cuts.{names_function};
+ghost use Rattle.elf_image.specs.file.Cuts.{names_function};
 ghost use Rattle.elf_image.specs.file.Sections.{holds_code};
-ghost use Rattle.elf_image.specs.code.Parts.{IsCovered, IsInCode};
+ghost use Rattle.elf_code.specs.Parts.{IsCovered, IsInCode};
 ghost use Rattle.elf_image.specs.internal.Extents.{IsInOneExtent};
 ghost use Rattle.rv_reloc.specs.Ranges.{section_extent, symbol_extent};
 

@@ -1,7 +1,7 @@
 // The relocations of a file that count, one after another.
 ghost use Rattle.std.specs.Prelude.{◌≡◌, ◌≤◌, ◌+◌, ◌*◌, ◌++◌, IfOk, OnOk, length, map};
 ghost use Rattle.std.specs.List.Sorted.{IsPermutation};
-ghost use Rattle.elf_image.specs.code.Relocations.{relocations, relocation_at, entries_from, entries_for, entries_of, is_named};
+ghost use Rattle.elf_code.specs.Relocations.{relocations, relocation_at, entries_from, entries_for, entries_of, is_named};
 ghost use Rattle.rv_reloc.specs.Records.{seen, counts, IsContained, AreInOrder, AreRecords};
 
 use crate::index::class;

@@ -1,8 +1,8 @@
 // What points at a file's code.
 ghost use Rattle.std.specs.Prelude.{ℕ, List, IfOk, IfErr, OnOk};
-ghost use Rattle.elf_image.specs.code.FileCode.{AreStarts};
-ghost use Rattle.elf_image.specs.faults.FirstFault.{IsFree, IsRefusalBy};
-ghost use Rattle.elf_image.specs.faults.ReferenceFaults.{HasReferenceFault};
+ghost use Rattle.elf_code.specs.FileCode.{AreStarts};
+ghost use Rattle.rb_bytes.specs.FirstFault.{IsFree, IsRefusalBy};
+ghost use Rattle.elf_code.specs.ReferenceFaults.{HasReferenceFault};
 ghost use Rattle.rv_reloc.specs.LoadedMemory.{IsLow};
 ghost use Rattle.rv_reloc.specs.Lows.{AreLows};
 ghost use Rattle.rv_reloc.specs.Parts.{AreCodeParts};

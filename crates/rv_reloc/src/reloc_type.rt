@@ -1,7 +1,7 @@
 // Relocations of types that are not supported.
 ghost use Rattle.elf_image.specs.declared.elf.Elf.{Elf};
 ghost use Rattle.elf_image.specs.faults.LowestPlace.{IsLowest};
-ghost use Rattle.elf_image.specs.faults.ReferenceFaults.{IsRelocType};
+ghost use Rattle.elf_code.specs.ReferenceFaults.{IsRelocType};
 ghost use Rattle.rv_reloc.specs.Records.{AreRecords};
 
 use crate::records::Record;

@@ -1,7 +1,7 @@
 // The roles of instructions, of all that claim to have one.
 ghost use Rattle.std.specs.Prelude.{◌≡◌, ◌↔◌, ◌<◌, ℕ, IfOk, IsTrue, AllPairs, length};
 ghost use Rattle.elf_image.specs.declared.elf.Elf.{Elf};
-ghost use Rattle.elf_image.specs.code.FileCode.{AreRoles};
+ghost use Rattle.elf_code.specs.FileCode.{AreRoles};
 ghost use Rattle.rv_reloc.specs.Claims.{AreClaims, IsClaimUpTo, IsFirstClaim};
 
 use rb_bytes::fault::NoMemory;

@@ -3,7 +3,7 @@ ghost use Rattle.std.specs.Prelude.{◌≡◌, ◌<◌, ◌≤◌, ◌+◌, ◌-
 ghost use Rattle.std.specs.Prelude.{IfSome, OnSome, OnOk, All, length, Option};
 ghost use Rattle.std.specs.List.Sorted.{IsPermutation};
 ghost use Rattle.rb_bytes.specs.Leb.{is_last, low_bits, high_bits};
-ghost use Rattle.elf_image.specs.code.Fields.{HoldBits};
+ghost use Rattle.elf_code.specs.Fields.{HoldBits};
 ghost use Rattle.elf_image.specs.memory.LoadedBytes.{byte_at};
 ghost use Rattle.rv_reloc.specs.LoadedMemory.{IsLow};
 ghost use Rattle.rv_reloc.specs.Tails.{TailAt, IsKnown, ends_with, magnitude, AreLebBytes};

@@ -1,7 +1,7 @@
 // What a pair of instructions makes together.
 ghost use Rattle.std.specs.Prelude.{◌≡◌, ◌↔◌, ◌<◌, ◌^◌, ℕ, pos, IfSome, IsSome, Some};
-ghost use Rattle.elf_image.specs.code.Roles.{pair_target};
-ghost use Rattle.elf_image.specs.faults.ReferenceFaults.{IsAddress};
+ghost use Rattle.elf_code.specs.Roles.{pair_target};
+ghost use Rattle.elf_code.specs.ReferenceFaults.{IsAddress};
 
 use elf_image::segment::ADDRESS_END;
 

@@ -1,7 +1,7 @@
 // Relocations for the upper and lower parts of distances.
 ghost use Rattle.std.specs.Prelude.{◌≡◌, ◌↔◌, IsTrue};
-ghost use Rattle.elf_image.specs.code.FileCode.{AreStarts};
-ghost use Rattle.elf_image.specs.faults.ReferenceFaults.{IsBadUpper, IsBadLower, IsUpper};
+ghost use Rattle.elf_code.specs.FileCode.{AreStarts};
+ghost use Rattle.elf_code.specs.ReferenceFaults.{IsBadUpper, IsBadLower, IsUpper};
 ghost use Rattle.rv_reloc.specs.NamedAddresses.{AreNamed};
 ghost use Rattle.rv_reloc.specs.Parts.{AreCodeParts};
 ghost use Rattle.rv_reloc.specs.Records.{seen, AreRecords};

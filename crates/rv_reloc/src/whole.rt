@@ -2,9 +2,9 @@
 ghost use Rattle.std.specs.Prelude.{◌≡◌, ◌↔◌, ◌⊎◌, ◌+◌, ◌<◌, ◌≤◌, ℕ, ℤ, pos, int_le, ◌≤ℤ◌, ◌<ℤ◌, List, IfOk, IsTrue, Any, map};
 ghost use Rattle.std.specs.Prelude.{length, slice_index_or};
 ghost use Rattle.elf_image.specs.declared.elf.Elf.{Elf};
-ghost use Rattle.elf_image.specs.code.Cells.{IsInOneWhole};
-ghost use Rattle.elf_image.specs.code.FileCode.{AreStarts};
-ghost use Rattle.elf_image.specs.code.Parts.{IsInTabled, IsCodePart, IsWholePart};
+ghost use Rattle.elf_code.specs.Cells.{IsInOneWhole};
+ghost use Rattle.elf_code.specs.FileCode.{AreStarts};
+ghost use Rattle.elf_code.specs.Parts.{IsInTabled, IsCodePart, IsWholePart};
 ghost use Rattle.elf_image.specs.internal.Extents.{IsInOneExtent};
 ghost use Rattle.rv_reloc.specs.Parts.{AreCodeParts, ArePartsApart};
 ghost use Rattle.rv_reloc.specs.Ranges.{tabled_extent};

@@ -9,13 +9,13 @@ use Rattle.std.proofs.lemmas.List.Elements.{Contains-append_left, Contains-appen
 use Rattle.rv_code.specs.declared.placed.Placed.{Placed}
 use Rattle.rv_code.specs.declared.placed.Func.{Func}
 use Rattle.rv_code.specs.declared.placed.InstPlace.{InstPlace}
-use Rattle.rv_code.specs.layout.Flow.{insts_of, placed_at}
+use Rattle.rv_code.specs.layout.Flow.{insts_of, placed_at, next_in, next_of}
 use Rattle.rv_code.specs.layout.FunctionLists.{AreLaidOut}
 use Rattle.rv_code.specs.layout.FunctionMembers.{IsInstPlace}
 use Rattle.rv_code.proofs.lists.Follows.{inst_bounds, insts_rise}
-use Rattle.elf_image.proofs.LoadLemmas.{find-only, find-none, find-finds}
+use Rattle.rb_bytes.proofs.Searches.{find-only, find-none, find-finds}
 use Rattle.rb_bytes.proofs.Members.{Contains-cons_cases, Contains-there}
-use Rattle.sym_machine.specs.Rules.{next_in, next_of}
+use Rattle.rb_bytes.proofs.ListLemmas.{any_element}
 use Rattle.sym_machine.specs.internal.FunctionOrder.{IsSearchable, addr_at}
 
 pub searchable : (funcs : List Func) → AreLaidOut funcs → IsSearchable funcs
@@ -234,18 +234,13 @@ none_in insts a below rising bound low high last j e inside at =
     (cases_lt j below))
     (cases_lt j (below - 1))
 
--- any element of a list that has one
-pub first_of_some : {A : Type 0} (xs : List A) (i : ℕ) → i < length xs → A
-first_of_some [] i within = absurd (omega (arith, within))
-first_of_some (x ∷ xs) i within = x
-
 pub code_address_is : (funcs : List Func) → IsSearchable funcs → (a : ℕ) (o : Option InstPlace) →
     IfSome o (λ at. IsInstPlace funcs a at.func at.inst) →
     IfNone o (placed_at funcs a ≡ None) → is_some o ≡ is_some (placed_at funcs a)
 code_address_is funcs s a None found none = sym (ap is_some none)
 code_address_is funcs s a (Some at) found none =
-    let d = first_of_some funcs at.func found.func_within in
-    let e = first_of_some (insts_at funcs at.func d) at.inst (found.inst_within d) in
+    let d = any_element funcs at.func found.func_within in
+    let e = any_element (insts_at funcs at.func d) at.inst (found.inst_within d) in
     sym (ap is_some (placed_at-found funcs s at.func at.inst a found d e))
 
 -- The next instruction of a function.

@@ -9,8 +9,8 @@ use Rattle.elf_image.specs.declared.elf.Elf.{Elf}
 use Rattle.elf_image.specs.declared.segment.Segment.{Segment}
 use Rattle.elf_image.specs.memory.Image.{is_load, has_memory, end_of, loads_address, segment_of}
 use Rattle.elf_image.specs.memory.LoadedBytes.{loads_range, file_offset, offset_in, is_in_range}
-use Rattle.elf_image.proofs.LoadLemmas.{find-found}
-use Rattle.sym_machine.specs.HiddenFields.{e_entry_field, is_hidden_field, hidden_fields}
+use Rattle.rb_bytes.proofs.Searches.{find-found}
+use Rattle.elf_image.specs.memory.HiddenFields.{e_entry_field, is_hidden_field, hidden_fields}
 use Rattle.sym_machine.specs.internal.Fields.{AreLow}
 use Rattle.sym_machine.specs.internal.SpecialBytes.{covers}
 

@@ -1,6 +1,6 @@
 -- What the symbol machine can do with values. A rule gives a result, or none where the machine doesn't know one that
 -- holds wherever the code lies. On numbers the rules are those of the byte machine.
-use Rattle.std.specs.Prelude.{ℕ, zero, suc, ◌-◌, ◌^◌, ◌==◌, ◌&&◌, ◌||◌, if◌then◌else◌, Bool, true, false, List, [], ◌∷◌, Option}
+use Rattle.std.specs.Prelude.{ℕ, zero, suc, ◌-◌, ◌^◌, ◌==◌, ◌&&◌, ◌||◌, if◌then◌else◌, Bool, true, false, List, ◌∷◌, Option}
 use Rattle.std.specs.Prelude.{Some, None, option_map}
 use Rattle.std.specs.Option.{option_or}
 use Rattle.rv_code.specs.declared.op.Op.{Op}
@@ -11,7 +11,6 @@ use Rattle.rv_code.specs.declared.action.Test.{Test}
 use Rattle.rv_code.specs.declared.action.Test.TheVariants.{Equal}
 use Rattle.rv_code.specs.declared.action.Extension.{Extension}
 use Rattle.rv_code.specs.declared.action.Extension.TheVariants.{Signed8, Signed16, Signed32, Whole64, Zero8, Zero16, Zero32}
-use Rattle.rv_code.specs.declared.placed.Placed.{Placed}
 use Rattle.rv_code.specs.declared.placed.Func.{Func}
 use Rattle.rv_code.specs.declared.placed.Role.{Role}
 use Rattle.rv_code.specs.declared.placed.Role.TheVariants as role
@@ -19,6 +18,7 @@ use Rattle.rv_code.specs.isa.Op.{apply, holds}
 use Rattle.rv_code.specs.isa.TwosComplement.{unsigned64}
 use Rattle.rv_code.specs.isa.Extension.{extended}
 use Rattle.rv_code.specs.machine.Machine.{plus, little}
+use Rattle.rv_code.specs.layout.Flow.{next_of}
 use Rattle.rb_bytes.specs.Options.{only_if}
 use Rattle.sym_machine.specs.declared.value.Pointer.{Pointer}
 use Rattle.sym_machine.specs.declared.value.Pointer.TheVariants.{Code, Ret}
@@ -171,17 +171,6 @@ goal funcs role base = if is_lower role then joined funcs role base else Some ba
 abbrev pub pointer : Role → ℕ → Value → Option Pointer
 pointer role offset (Sym (Points p)) = only_if (is_lower role || offset == 0) p
 pointer role offset _ = None
-
--- the instruction after one in a list
-abbrev pub next_in : List Placed → ℕ → Option ℕ
-next_in [] a = None
-next_in (p ∷ []) a = None
-next_in (p ∷ q ∷ ps) a = if p.addr == a then Some q.addr else next_in (q ∷ ps) a
-
--- the instruction after one in its function
-abbrev pub next_of : List Func → ℕ → Option ℕ
-next_of [] a = None
-next_of (f ∷ fs) a = option_or (next_in f.insts.items a) (next_of fs a)
 
 -- where a pointer leads: after a call there may be nothing in its function
 abbrev pub destination : List Func → Pointer → Option ℕ

@@ -10,7 +10,8 @@ use Rattle.rv_code.specs.declared.placed.Func.{Func}
 use Rattle.rv_code.specs.machine.Machine.{Event, Run, SoFar, HaltsAfter}
 use Rattle.elf_image.specs.declared.elf.Elf.{Elf}
 use Rattle.elf_image.specs.memory.LoadedBytes.{Range, is_in_range, address_of}
-use Rattle.elf_image.specs.memory.Start.{start_memory, start_registers, space_of, break_start}
+use Rattle.elf_image.specs.memory.Break.{break_start}
+use Rattle.rv_memory.specs.Start.{start_memory, start_registers, space_of}
 use Rattle.sym_machine.specs.declared.outcome.Reason.{Reason}
 use Rattle.sym_machine.specs.declared.value.Pointer.TheVariants.{Code}
 use Rattle.sym_machine.specs.declared.value.CodeSymbol.{CodeSymbol}
@@ -19,7 +20,8 @@ use Rattle.sym_machine.specs.declared.value.Value.{Value}
 use Rattle.sym_machine.specs.declared.value.Value.TheVariants.{Num}
 use Rattle.sym_machine.specs.declared.value.MemoryByte.{MemoryByte}
 use Rattle.sym_machine.specs.declared.value.MemoryByte.TheVariants.{Byte, SymbolByte, Hidden}
-use Rattle.sym_machine.specs.HiddenFields.{e_entry_field, at_entry, is_hidden_field, is_hidden_entry}
+use Rattle.elf_image.specs.memory.HiddenFields.{e_entry_field, is_hidden_field}
+use Rattle.sym_machine.specs.HiddenEntries.{at_entry, is_hidden_entry}
 use Rattle.sym_machine.specs.SymStep.{SymState, SymSteps}
 
 -- Symbols.

@@ -6,12 +6,12 @@ ghost use Rattle.elf_image.specs.declared.elf.Elf.{Elf};
 ghost use Rattle.elf_image.specs.declared.segment.Segment.{Segment};
 ghost use Rattle.elf_image.specs.memory.CodeSegment.{executable_segment, executable_end};
 ghost use Rattle.elf_image.specs.memory.LoadedBytes.{is_in_range, loads_range, address_of};
-ghost use Rattle.sym_machine.specs.HiddenFields.{only, e_entry_field, hidden_in_segment, hidden_fields, is_hidden_field};
-ghost use Rattle.sym_machine.specs.HiddenFields.{is_executable_segment};
+ghost use Rattle.elf_image.specs.memory.HiddenFields.{only, e_entry_field, hidden_in_segment, hidden_fields, is_hidden_field};
+ghost use Rattle.elf_image.specs.memory.HiddenFields.{is_executable_segment};
 ghost use Rattle.sym_machine.specs.internal.Fields.{range_of_field, AreLow};
 
-use crate::code_segment::executable_segment;
 use crate::fields::{Field, Fields};
+use elf_image::code_segment::executable_segment;
 use elf_image::segment::{PHDR_SIZE, PT_GNU_EH_FRAME};
 use elf_image::{Elf, Segment};
 use rb_bytes::fault::NoMemory;

@@ -21,7 +21,7 @@ pub struct InstIndex<'a> {
 
 impl<'a> InstIndex<'a> {
     ghost use Rattle.sym_machine.specs.SymStep.{instruction};
-    ghost use Rattle.sym_machine.specs.Rules.{next_of};
+    ghost use Rattle.rv_code.specs.layout.Flow.{next_of};
 
     /// An index of functions.
     pub fn new(funcs: &'a [Func]) -> InstIndex<'a>

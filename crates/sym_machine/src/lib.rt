@@ -6,7 +6,6 @@ pub mod accesses;
 pub mod arithmetic;
 pub mod branches;
 pub mod calls;
-pub mod code_segment;
 pub mod execute;
 pub mod fields;
 pub mod hidden;

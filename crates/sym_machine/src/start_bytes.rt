@@ -4,9 +4,9 @@ ghost use Rattle.std.specs.Prelude.{OnOk, map, length, if◌then◌else◌, nat_
 ghost use Rattle.std.specs.List.{list_any};
 ghost use Rattle.std.specs.Option.{option_or};
 ghost use Rattle.elf_image.specs.memory.LoadedBytes.{is_in_range};
-ghost use Rattle.elf_image.specs.memory.Start.{stack_pointer};
-ghost use Rattle.sym_machine.specs.HiddenFields.{hidden_fields, is_hidden_field, is_hidden_entry, at_phdr, at_phnum, at_entry};
-ghost use Rattle.sym_machine.specs.HiddenFields.{auxiliary_value};
+ghost use Rattle.rv_memory.specs.Start.{stack_pointer};
+ghost use Rattle.elf_image.specs.memory.HiddenFields.{hidden_fields, is_hidden_field};
+ghost use Rattle.sym_machine.specs.HiddenEntries.{is_hidden_entry, at_phdr, at_phnum, at_entry, auxiliary_value};
 ghost use Rattle.sym_machine.specs.SymStart.{symbol_of, code_cell_byte, entry_byte, hidden_byte};
 ghost use Rattle.sym_machine.specs.internal.Fields.{range_of_field, AreLow};
 

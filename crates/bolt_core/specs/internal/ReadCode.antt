@@ -4,13 +4,13 @@ use Rattle.rv_code.specs.declared.placed.Block.{Block}
 use Rattle.rv_code.specs.declared.placed.Func.{Func}
 use Rattle.rv_code.specs.layout.ProgramCode.{ProgramCode}
 use Rattle.elf_image.specs.file.Sections.{holds_code}
-use Rattle.elf_image.specs.code.FileCode.{IsCodeOf}
-use Rattle.elf_image.specs.code.Functions.{AreFunctions}
+use Rattle.elf_code.specs.FileCode.{IsCodeOf}
+use Rattle.elf_code.specs.Functions.{AreFunctions}
 use Rattle.elf_image.specs.declared.elf.Elf.{Elf}
 use Rattle.elf_image.specs.declared.section.Section.{Section}
-use Rattle.elf_image.specs.faults.CodeFaults.{HasCodeFault}
+use Rattle.elf_code.specs.CodeFaults.{HasCodeFault}
 use Rattle.elf_image.specs.faults.FileFaults.{IsSound}
-use Rattle.elf_image.specs.faults.FirstFault.{IsFree}
+use Rattle.rb_bytes.specs.FirstFault.{IsFree}
 use Rattle.elf_image.specs.file.ParsedFile.{IsElfOf}
 use Rattle.rv_reloc.specs.Refs.{AreRefs}
 use Rattle.rv_reloc.specs.declared.refs.Refs.{Refs}

@@ -13,11 +13,11 @@ use Rattle.rv_code.specs.layout.FunctionLists.{Follow, HasLength, IsLaidOut, Are
 use Rattle.elf_image.specs.declared.elf.Elf.{Elf}
 use Rattle.elf_image.specs.declared.section.Section.{Section}
 use Rattle.elf_image.specs.declared.segment.TheConstants.{PF_X}
-use Rattle.elf_image.specs.code.Functions.{AreInsts, AreFunctions}
-use Rattle.elf_image.specs.code.Parts.{IsPart, IsInstAt, at_start}
+use Rattle.elf_code.specs.Functions.{AreInsts, AreFunctions}
+use Rattle.elf_code.specs.Parts.{IsPart, IsInstAt, at_start}
 use Rattle.elf_image.specs.faults.FileFaults.{IsSound}
-use Rattle.elf_image.specs.faults.FirstFault.{IsFree}
-use Rattle.elf_image.specs.faults.FunctionFaults.{HasFunctionFault}
+use Rattle.rb_bytes.specs.FirstFault.{IsFree}
+use Rattle.elf_code.specs.FunctionFaults.{HasFunctionFault}
 use Rattle.elf_image.specs.faults.SegmentLayout.{LiesInCode}
 use Rattle.elf_image.specs.file.Header.{segment}
 use Rattle.elf_image.specs.file.ParsedFile.{IsElfOf, IsSectionAt}
@@ -25,8 +25,8 @@ use Rattle.elf_image.specs.file.Sections.{section_header, section_place, holds_c
 use Rattle.elf_image.specs.memory.Image.{has_flag, is_load}
 use Rattle.elf_image.proofs.LoadLemmas.{loads-from_parts}
 use Rattle.func_find.proofs.Judged.{IsCodePart-function}
-use Rattle.move_law.proofs.Lists.{all_of}
-use Rattle.move_law.proofs.code.InstPlaces.{stable_equal}
+use Rattle.rb_bytes.proofs.ListLemmas.{all_of}
+use Rattle.rb_bytes.proofs.Stable.{stable_equal}
 
 stable_upto : (a b : ℕ) → ((a ≤ b → ⊥) → ⊥) → a ≤ b
 stable_upto a b h = ⊎_elim (λ (past : b < a). absurd (h (λ upto. omega arith))) (λ (upto : a ≤ b). upto) (cases_lt b a)

@@ -10,8 +10,8 @@ use Rattle.rv_code.specs.layout.Blocks.{inst_at}
 use Rattle.rv_code.specs.layout.Flow.{insts_of, placed_at}
 use Rattle.rv_code.specs.layout.FunctionLists.{IsLaidOut, AreLaidOut, address_end}
 use Rattle.rv_code.proofs.lists.Follows.{funcs_apart}
-use Rattle.elf_image.proofs.LoadLemmas.{find-found, find-only}
-use Rattle.move_law.proofs.Lists.{from_flat, in_flat, one_of, pairs_flat}
+use Rattle.rb_bytes.proofs.Searches.{find-found, find-only}
+use Rattle.rb_bytes.proofs.ListLemmas.{from_flat, in_flat, one_of, pairs_flat}
 use Rattle.cfg_build.proofs.layout.FunctionInsts.{LiesIn, contains_at, inst_lies, insts_ascend}
 
 pub contains_func : (funcs : List Func) (f : ℕ) (func : Func) → slice_get funcs f ≡ Some func → Contains funcs func

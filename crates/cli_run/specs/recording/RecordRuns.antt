@@ -3,7 +3,7 @@
 use Rattle.std.specs.Prelude.{◌-◌, ℕ, List}
 use Rattle.rv_code.specs.declared.cause.Cause.{Cause}
 use Rattle.rv_code.specs.layout.Blocks.{AreBlocks}
-use Rattle.elf_image.specs.code.FileCode.{IsCodeOf}
+use Rattle.elf_code.specs.FileCode.{IsCodeOf}
 use Rattle.bolt_core.specs.Program.{Program, tabled}
 use Rattle.cli_run.specs.run.ByteRuns.{byte_machine}
 use Rattle.cli_run.specs.run.RunOutcomes.{Ending, Ends, Loaded}

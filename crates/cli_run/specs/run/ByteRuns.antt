@@ -6,7 +6,7 @@ use Rattle.rb_bytes.specs.declared.fault.FaultKind.TheVariants.{TooLarge}
 use Rattle.rv_code.specs.declared.cause.Cause.{Cause}
 use Rattle.rv_code.specs.machine.Step.{Steps}
 use Rattle.elf_image.specs.faults.FileFaults.{IsFirstFault, IsSound}
-use Rattle.elf_image.specs.memory.Start.{start}
+use Rattle.rv_memory.specs.Start.{start}
 use Rattle.bolt_core.specs.CodeLimit.{HasTooMuchCode}
 use Rattle.bolt_core.specs.Program.{file_limit}
 use Rattle.cli_run.specs.run.RunOutcomes.{Loaded}

@@ -8,12 +8,12 @@ use Rattle.rv_code.specs.declared.placed.Block.{Block}
 use Rattle.rv_code.specs.declared.placed.Func.{Func}
 use Rattle.rv_code.specs.declared.placed.Role.{Role}
 use Rattle.rv_code.specs.layout.Blocks.{AreBlocks}
-use Rattle.elf_image.specs.code.FileCode.{AreRoles, AreCells}
-use Rattle.elf_image.specs.code.Functions.{AreFunctions}
+use Rattle.elf_code.specs.FileCode.{AreRoles, AreCells}
+use Rattle.elf_code.specs.Functions.{AreFunctions}
 use Rattle.elf_image.specs.declared.elf.Elf.{Elf}
-use Rattle.elf_image.specs.faults.CodeFaults.{HasCodeFault}
+use Rattle.elf_code.specs.CodeFaults.{HasCodeFault}
 use Rattle.elf_image.specs.faults.FileFaults.{IsFirstFault, IsSound}
-use Rattle.elf_image.specs.faults.FirstFault.{IsAnswered, IsFree}
+use Rattle.rb_bytes.specs.FirstFault.{IsAnswered, IsFree}
 use Rattle.elf_image.specs.file.Header.{e_shnum}
 use Rattle.elf_image.specs.file.ParsedFile.{IsElfOf}
 use Rattle.elf_image.specs.file.Sections.{section_header, section_name}

@@ -9,7 +9,7 @@ use Rattle.rb_bytes.specs.declared.fault.FaultKind.TheVariants.{HighAddress, Com
 use Rattle.elf_image.specs.declared.section.TheConstants.{SHF_COMPRESSED}
 use Rattle.elf_image.specs.declared.segment.TheConstants.{PT_DYNAMIC, PT_INTERP}
 use Rattle.elf_image.specs.faults.Truncation.{IsTruncated}
-use Rattle.elf_image.specs.faults.FirstFault.{IsAnswered, IsFree, IsRefusalBy}
+use Rattle.rb_bytes.specs.FirstFault.{IsAnswered, IsFree, IsRefusalBy}
 use Rattle.elf_image.specs.file.Header.{e_type, e_machine, e_flags, e_phnum, e_shnum, is_set, segment, segment_place}
 use Rattle.elf_image.specs.faults.SegmentLayout.{IsBadLoading, IsWritableCode, IsHigh}
 use Rattle.elf_image.specs.faults.LowestPlace.{SomeBelow}

@@ -2,9 +2,8 @@
 -- from all others, in the file as in memory. gABI, "Program Header" and "Program Loading".
 use Rattle.std.specs.Prelude.{◌≡◌, ◌≢◌, ◌≤◌, ◌<◌, ◌⊎◌, ◌+◌, ◌*◌, ℕ, List, IsTrue, nat_eq, codes, Bool, ◌&&◌}
 use Rattle.std.specs.List.{starts_with}
-use Rattle.rv_code.specs.layout.FunctionLists.{address_end}
 use Rattle.elf_image.specs.declared.segment.Segment.{Segment}
-use Rattle.elf_image.specs.declared.segment.TheConstants.{PF_X, PF_W, PHDR_SIZE}
+use Rattle.elf_image.specs.declared.segment.TheConstants.{PF_X, PF_W, PHDR_SIZE, ADDRESS_END}
 use Rattle.elf_image.specs.file.Header.{e_phoff, e_phnum, e_shnum, segment, segment_place}
 use Rattle.elf_image.specs.memory.Image.{is_load, end_of, has_flag, loads_address}
 use Rattle.elf_image.specs.faults.LowestPlace.{SomeBelow}
@@ -118,4 +117,4 @@ IsWritableCode file i place = (IsCode file i × IsTrue (has_flag PF_W (segment f
 
 -- a segment loads this address, which isn't below
 abbrev pub IsHigh : List ℕ → ℕ → ℕ → Type 0
-IsHigh file i address = IsTrue (loads_address address (segment file i)) × (address_end ≤ address)
+IsHigh file i address = IsTrue (loads_address address (segment file i)) × (ADDRESS_END ≤ address)

@@ -2,7 +2,7 @@
 use Rattle.std.specs.Prelude.{◌+◌, ◌^◌, ℕ, List, [], ◌∷◌, flat_map, nat_lt, if◌then◌else◌}
 use Rattle.elf_image.specs.declared.section.Section.{Section}
 use Rattle.elf_image.specs.declared.symbol.Symbol.{Symbol}
-use Rattle.elf_image.specs.code.Cuts.{names_function}
+use Rattle.elf_image.specs.file.Cuts.{names_function}
 use Rattle.elf_image.specs.file.Sections.{holds_code}
 
 abbrev pub bounds : ℕ → ℕ → List ℕ

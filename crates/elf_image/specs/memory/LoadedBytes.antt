@@ -1,33 +1,15 @@
--- Bytes and numbers in the memory that a file describes, and where in the file they come from.
-use Rattle.std.specs.Prelude.{◌⊎◌, ℕ, zero, suc, ◌+◌, ◌-◌, ◌*◌, ◌<◌, ◌≤◌, ◌&&◌, nat_lt, nat_le, min, if◌then◌else◌, Bool, List}
-use Rattle.std.specs.Prelude.{[], ◌∷◌, Option, Some, None, length, find, option_map, option_and_then}
-use Rattle.rv_code.specs.machine.Machine.{little}
+-- Bytes in the memory that a file describes, and where in the file they come from.
+use Rattle.std.specs.Prelude.{◌⊎◌, ℕ, ◌+◌, ◌-◌, ◌*◌, ◌<◌, ◌≤◌, ◌&&◌, nat_lt, nat_le, min, if◌then◌else◌, Bool, List}
+use Rattle.std.specs.Prelude.{Option, Some, None, length, find, option_map, option_and_then}
 use Rattle.elf_image.specs.declared.elf.Elf.{Elf}
 use Rattle.elf_image.specs.declared.segment.Segment.{Segment}
 use Rattle.elf_image.specs.declared.segment.TheConstants.{PHDR_SIZE}
 use Rattle.elf_image.specs.file.Header.{header_size}
 use Rattle.elf_image.specs.memory.Image.{is_load, image_byte, segment_of}
 
--- Memory is a function: at each address there is a byte or none.
-
-abbrev pub and_more : Option ℕ → Option (List ℕ) → Option (List ℕ)
-and_more first rest = option_and_then (λ b. option_map (λ bs. b ∷ bs) rest) first
-
--- the n bytes from an address on, if all are there
-unfoldable pub bytes_in : (ℕ → Option ℕ) → ℕ → ℕ → Option (List ℕ)
-bytes_in memory a zero = Some []
-bytes_in memory a (suc n) = and_more (memory a) (bytes_in memory (a + 1) n)
-
--- the number that they are
-abbrev pub number_in : (ℕ → Option ℕ) → ℕ → ℕ → Option ℕ
-number_in memory a n = option_map little (bytes_in memory a n)
-
--- the byte at an address, and the number of n bytes, in the memory of a file
+-- the byte at an address, in the memory of a file
 abbrev pub byte_at : Elf → ℕ → Option ℕ
 byte_at elf a = image_byte elf.file.now elf.segments.items a
-
-abbrev pub loaded_number : Elf → ℕ → ℕ → Option ℕ
-loaded_number elf a n = number_in (byte_at elf) a n
 
 -- where in the file the byte at an address of a segment stands, if it comes from there
 abbrev pub offset_in : ℕ → Segment → Option ℕ

@@ -2,7 +2,7 @@
 ghost use Rattle.std.specs.Prelude.{◌≡◌, ◌≤◌, ◌<◌, ℕ, IsTrue, IsSomeAnd, if◌then◌else◌, Some, None, List, length, slice_get};
 ghost use Rattle.rb_bytes.specs.declared.fault.FaultKind.TheVariants as fault;
 ghost use Rattle.elf_image.specs.file.Header.{e_phnum, e_shnum};
-ghost use Rattle.rv_code.specs.layout.FunctionLists.{address_end};
+ghost use Rattle.elf_image.specs.declared.segment.TheConstants.{ADDRESS_END};
 ghost use Rattle.elf_image.specs.faults.SegmentLayout.{IsWritableCode, IsHigh};
 ghost use Rattle.elf_image.specs.faults.LowestPlace.{IsLowest, SomeBelow};
 ghost use Rattle.elf_image.specs.faults.FileFaults.{HasFault, HasOtherType, IsDynamic, is_compressed};
@@ -82,7 +82,7 @@ pub fn lowest_writable_code(segments: SegmentTable) -> Option<u64>
 
 // The first address of a segment that isn't below the bound.
 fn first_high(segment: &Segment) -> Option<u64>
-    ensures { IsLowest (λ a. IsTrue (loads_address a segment.now) × (address_end ≤ a)) result }
+    ensures { IsLowest (λ a. IsTrue (loads_address a segment.now) × (ADDRESS_END ≤ a)) result }
 {
     let first = segment.vaddr.max(ADDRESS_END);
     place_if(segment.loads(first), first)

@@ -2,12 +2,12 @@
 -- aren't code lie low. References without a fault say so.
 use Rattle.std.proofs.Common.{◌≡◌, ◌≢◌, ℕ, ◌+◌, ◌*◌, ◌^◌, ◌<◌, ◌≤◌, List, Option, Some, None, Bool, true, false, refl, sym, ap}
 use Rattle.std.proofs.Common.{◌∙◌, subst, arith, inl, inr, ◌⊎◌, ℤ, pos}
-use Rattle.std.specs.Prelude.{◌==◌, ◌||◌, IsTrue, IsSome}
+use Rattle.std.specs.Prelude.{◌==◌, IsTrue, IsSome}
 use Rattle.std.specs.List.{Contains, Any}
 use Rattle.std.proofs.lemmas.Int.{ints}
 use Rattle.std.specs.Ordering.{int_eq}
 use Rattle.std.proofs.lemmas.Bool.Decides.{Decides-int_eq}
-use Rattle.std.proofs.lemmas.Bool.{eqb-true, ne_eqb, cases_lt}
+use Rattle.std.proofs.lemmas.Bool.{eqb-true, ne_eqb, cases_lt, or_cases}
 use Rattle.rv_code.specs.declared.inst.Inst.{Inst}
 use Rattle.rv_code.specs.declared.inst.Inst.TheVariants.{Lui, Auipc, Jalr}
 use Rattle.rv_code.specs.declared.cell.CellKind.{CellKind}
@@ -21,19 +21,19 @@ use Rattle.rv_code.specs.layout.Flow.{insts_of, placed_at}
 use Rattle.rb_bytes.specs.declared.fault.FaultKind.TheVariants.{RelocMismatch, LoMismatch}
 use Rattle.elf_image.specs.declared.elf.Elf.{Elf}
 use Rattle.elf_image.specs.declared.relocation.TheConstants.{R_RISCV_CALL, R_RISCV_CALL_PLT}
-use Rattle.elf_image.specs.faults.FirstFault.{IsFree}
-use Rattle.elf_image.specs.faults.CodeFaults.{HasCodeFault}
-use Rattle.elf_image.specs.code.FileCode.{IsCodeOf}
-use Rattle.elf_image.specs.code.Functions as functions
+use Rattle.rb_bytes.specs.FirstFault.{IsFree}
+use Rattle.elf_code.specs.CodeFaults.{HasCodeFault}
+use Rattle.elf_code.specs.FileCode.{IsCodeOf}
+use Rattle.elf_code.specs.Functions as functions
 use Rattle.rv_code.specs.layout.FunctionLists.{address_end}
-use Rattle.elf_image.specs.code.Parts.{halfword_at, IsInstAt, IsStart}
-use Rattle.elf_image.specs.code.Relocations.{Relocation, relocations, is_call_pair, is_pcrel_hi}
-use Rattle.elf_image.specs.faults.ReferenceFaults.{IsAddress, IsUpper, IsMisfit}
-use Rattle.elf_image.specs.faults.ReferenceFaults as faults
-use Rattle.elf_image.specs.code.Roles.{Claims, HasRole, RoleIs, CallPair, CallTo, PcrelLo, PcrelHiTo, PcrelLoTo, pair_target}
-use Rattle.elf_image.specs.code.Roles.{lower_immediate}
-use Rattle.elf_image.specs.code.Roles as claims
-use Rattle.elf_image.specs.code.Cells.{IsCell, Content, Difference, Address, Counts, SameContent}
+use Rattle.elf_code.specs.Parts.{halfword_at, IsInstAt, IsStart}
+use Rattle.elf_code.specs.Relocations.{Relocation, relocations, is_call_pair, is_pcrel_hi}
+use Rattle.elf_code.specs.ReferenceFaults.{IsAddress, IsUpper, IsMisfit}
+use Rattle.elf_code.specs.ReferenceFaults as faults
+use Rattle.elf_code.specs.Roles.{Claims, HasRole, RoleIs, CallPair, CallTo, PcrelLo, PcrelHiTo, PcrelLoTo}
+use Rattle.elf_code.specs.Roles.{lower_immediate}
+use Rattle.elf_code.specs.Roles as claims
+use Rattle.elf_code.specs.Cells.{IsCell, Content, Difference, Address, Counts, SameContent}
 use Rattle.move_law.specs.RelocatedValues.{upper_target}
 use Rattle.move_law.specs.SimulationRelation.{HasTarget}
 use Rattle.move_law.specs.Laws.{IsAcceptedCode}
@@ -119,10 +119,6 @@ same_call elf r s p q same =
 
 -- Types of relocations.
 
-pub either_of : (x y : Bool) → x || y ≡ true → (x ≡ true) ⊎ (y ≡ true)
-either_of true y e = inl refl
-either_of false y e = inr e
-
 call_kind : (k : ℕ) → ((k == R_RISCV_CALL) ≡ true) ⊎ ((k == R_RISCV_CALL_PLT) ≡ true) → k ≤ 19
 call_kind k (inl e) = let h : k ≡ 18 = eqb-true k 18 e in omega (arith, h)
 call_kind k (inr e) = let h : k ≡ 19 = eqb-true k 19 e in omega (arith, h)
@@ -139,7 +135,7 @@ hi_kind k e = elim (cases_lt k 20) [
 
 kinds_apart : (k k' : ℕ) → is_call_pair k ≡ true → is_pcrel_hi k' ≡ true → k < k'
 kinds_apart k k' c h =
-    let low = call_kind k (either_of (k == R_RISCV_CALL) (k == R_RISCV_CALL_PLT) c) in
+    let low = call_kind k (or_cases (k == R_RISCV_CALL) (k == R_RISCV_CALL_PLT) c) in
     let high = hi_kind k' h in
     omega (arith, low, high)
 

@@ -12,9 +12,9 @@ use Rattle.rv_code.specs.declared.inst.Inst.TheVariants.{Ecall, Ebreak, Addiw, S
 use Rattle.rv_code.specs.declared.inst.Inst.TheVariants.{Mul, Mulh, Mulhsu, Mulhu, Div, Divu, Rem, Remu, Mulw, Divw, Divuw, Remw}
 use Rattle.rv_code.specs.declared.inst.Inst.TheVariants.{Remuw}
 use Rattle.elf_image.specs.declared.elf.Elf.{Elf}
-use Rattle.elf_image.specs.code.Parts.{halfword_at, IsInstAt}
+use Rattle.elf_code.specs.Parts.{halfword_at, IsInstAt}
 use Rattle.elf_image.specs.declared.relocation.TheConstants.{R_RISCV_PCREL_LO12_I, R_RISCV_LO12_I}
-use Rattle.elf_image.specs.code.Roles.{immediate_i, immediate_s, lower_immediate}
+use Rattle.elf_code.specs.Roles.{immediate_i, immediate_s, lower_immediate}
 use Rattle.rv_code.specs.isa.AddressParts.{IsAuipc, IsLui, TakesLower}
 use Rattle.move_law.specs.FaithfulRewrite.{with_immediate}
 use Rattle.move_law.proofs.values.HiLoParts.{IsLower, imm_i_lower, imm_s_lower}

@@ -10,14 +10,14 @@ use Rattle.rv_code.specs.declared.placed.Func.{Func}
 use Rattle.rv_code.specs.layout.ProgramCode.{ProgramCode, is_code_address}
 use Rattle.rv_code.specs.layout.Flow.{insts_of, placed_at}
 use Rattle.elf_image.specs.declared.elf.Elf.{Elf}
-use Rattle.elf_image.specs.code.FileCode.{IsCodeOf}
-use Rattle.elf_image.specs.code.Functions.{AreInsts, IsFunctionPart, IsNopPart, IsReferred, code, referred}
-use Rattle.elf_image.specs.code.Parts.{halfword_in, length_in, length_at, IsInstIn, IsInstAt, StartsIn, at_start, after, IsStart}
+use Rattle.elf_code.specs.FileCode.{IsCodeOf}
+use Rattle.elf_code.specs.Functions.{AreInsts, IsFunctionPart, IsNopPart, IsReferred, code, referred}
+use Rattle.elf_code.specs.Parts.{halfword_in, length_in, length_at, IsInstIn, IsInstAt, StartsIn, at_start, after, IsStart}
 use Rattle.elf_image.specs.memory.LoadedBytes.{byte_at}
-use Rattle.elf_image.specs.code.Roles.{RoleIs}
-use Rattle.elf_image.proofs.LoadLemmas.{find-found}
+use Rattle.elf_code.specs.Roles.{RoleIs}
+use Rattle.rb_bytes.proofs.Searches.{find-found}
 use Rattle.rb_bytes.proofs.Members.{Contains-there, Contains-cons_cases}
-use Rattle.move_law.proofs.Lists.{find_none, from_flat, in_flat}
+use Rattle.rb_bytes.proofs.ListLemmas.{find_none, from_flat, in_flat}
 
 -- The instruction at an address.
 

@@ -1,10 +1,10 @@
 -- Where the instructions of accepted code lie: in bytes that are loaded to be executed and not to be written, at even
 -- addresses, one after another.
-use Rattle.std.proofs.Common.{◌≡◌, ℕ, ◌+◌, ◌-◌, ◌%◌, ◌<◌, ◌≤◌, List, [], ◌∷◌, length, Option, Some, Bool, true, false, refl, sym}
+use Rattle.std.proofs.Common.{◌≡◌, ℕ, ◌+◌, ◌-◌, ◌%◌, ◌<◌, ◌≤◌, List, [], ◌∷◌, length, Option, Some, true, false, refl, sym}
 use Rattle.std.proofs.Common.{ap, ◌∙◌, subst, arith, inl, inr, ◌⊎◌, get_or}
-use Rattle.std.specs.Prelude.{Contains, AllPairs, Any, IsTrue, nat_eq, slice_get}
+use Rattle.std.specs.Prelude.{Contains, AllPairs, Any, IsTrue, slice_get}
 use Rattle.std.specs.Option.{option_map_or}
-use Rattle.std.proofs.lemmas.Bool.{and_parts, cases_lt, eqb-true, eqb-false, false_from_ne_true}
+use Rattle.std.proofs.lemmas.Bool.{and_parts, cases_lt, false_from_ne_true}
 use Rattle.std.proofs.lemmas.List.Elements.{Contains-get_or}
 use Rattle.std.proofs.lemmas.List.Kept.{AllPairs-cons}
 use Rattle.std.proofs.lemmas.Option.{slice_get_read}
@@ -17,40 +17,24 @@ use Rattle.elf_image.specs.declared.elf.Elf.{Elf}
 use Rattle.elf_image.specs.declared.section.Section.{Section}
 use Rattle.elf_image.specs.declared.segment.Segment.{Segment}
 use Rattle.elf_image.specs.declared.segment.TheConstants.{PF_W, PF_X}
-use Rattle.elf_image.specs.code.Functions.{AreInsts, IsFunctionPart, code, referred, fallen_into}
-use Rattle.elf_image.specs.code.Parts.{IsPart, IsInstAt, StartsIn, at_start, after, length_at}
+use Rattle.elf_code.specs.Functions.{AreInsts, IsFunctionPart, code, referred, fallen_into}
+use Rattle.elf_code.specs.Parts.{IsPart, IsInstAt, StartsIn, at_start, after, length_at}
 use Rattle.rv_code.specs.layout.FunctionLists.{address_end}
 use Rattle.elf_image.specs.faults.SegmentLayout.{IsCode, LiesInCode}
 use Rattle.elf_image.specs.file.Header.{e_phnum, segment, segment_place, segments_of}
 use Rattle.elf_image.specs.file.ParsedFile.{IsSectionAt}
 use Rattle.elf_image.specs.file.Sections.{section_header, section_place, holds_code}
 use Rattle.elf_image.specs.memory.Image.{end_of, has_flag, is_load, loads_address, segment_of}
-use Rattle.elf_image.proofs.LoadLemmas.{find-only, loads-from_parts}
+use Rattle.elf_image.proofs.LoadLemmas.{loads-from_parts}
+use Rattle.rb_bytes.proofs.Searches.{find-only}
 use Rattle.rb_bytes.proofs.Members.{Contains-cons_cases}
 use Rattle.elf_image.proofs.ReadLists.{get_or-segments, length-segments_of}
-use Rattle.move_law.specs.Rewrite.{executable_read, IsCodeByte}
+use Rattle.elf_image.specs.memory.Executables.{executable_read, IsCodeByte}
 use Rattle.move_law.specs.Laws.{IsAcceptedCode}
 use Rattle.move_law.proofs.code.InstLists.{length_of}
 use Rattle.move_law.proofs.files.Executables.{accepted_executable, byte_low, load_once, loaded_byte}
-use Rattle.move_law.proofs.Lists.{all_of, from_flat, pairs_flat}
-
--- What isn't false, where that can be decided.
-
-stable_bool : (b c : Bool) → ((b ≡ c → ⊥) → ⊥) → b ≡ c
-stable_bool true true h = refl
-stable_bool false false h = refl
-stable_bool true false h = absurd (h (λ e. absurd (cc)))
-stable_bool false true h = absurd (h (λ e. absurd (cc)))
-
-stable_lt : (a b : ℕ) → ((a < b → ⊥) → ⊥) → a < b
-stable_lt a b h = elim (cases_lt a b) [ inl less ↦ less | inr more ↦ absurd (h (λ less. absurd (omega (arith, less, more)))) ]
-
-pub stable_equal : (a b : ℕ) → ((a ≡ b → ⊥) → ⊥) → a ≡ b
-stable_equal a b h = by (nat_eq a b) refl
-  where
-    by : (t : Bool) → nat_eq a b ≡ t → a ≡ b
-    by true e = eqb-true a b e
-    by false e = absurd (h (eqb-false a b e))
+use Rattle.rb_bytes.proofs.ListLemmas.{all_of, from_flat, pairs_flat}
+use Rattle.rb_bytes.proofs.Stable.{stable_bool, stable_lt, stable_equal}
 
 -- Instructions that follow one another.
 

@@ -6,10 +6,10 @@ use Rattle.std.proofs.lemmas.Bool.{eqb-true}
 use Rattle.rv_code.specs.declared.placed.Placed.{Placed}
 use Rattle.rv_code.specs.declared.placed.Func.{Func}
 use Rattle.elf_image.specs.declared.elf.Elf.{Elf}
-use Rattle.elf_image.specs.code.Functions.{AreInsts}
-use Rattle.elf_image.specs.code.Parts.{length_at}
+use Rattle.elf_code.specs.Functions.{AreInsts}
+use Rattle.elf_code.specs.Parts.{length_at}
 use Rattle.rb_bytes.proofs.Members.{Contains-there}
-use Rattle.sym_machine.specs.Rules.{next_in, next_of}
+use Rattle.rv_code.specs.layout.Flow.{next_in, next_of}
 use Rattle.move_law.proofs.code.InstLists.{length_of}
 
 next_in_is : (elf : Elf) (start : ℕ) (ps : List Placed) (end x b : ℕ) → AreInsts elf start ps end → next_in ps x ≡ Some b →

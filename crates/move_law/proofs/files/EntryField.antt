@@ -7,11 +7,13 @@ use Rattle.rv_code.specs.layout.ProgramCode.{ProgramCode}
 use Rattle.elf_image.specs.declared.elf.Elf.{Elf}
 use Rattle.elf_image.specs.declared.segment.Segment.{Segment}
 use Rattle.elf_image.specs.memory.Image.{byte_of, is_load, loads_address, segment_of}
-use Rattle.elf_image.specs.memory.LoadedBytes.{Range, address_in, address_of, byte_at, loaded_number, loads_range}
-use Rattle.elf_image.proofs.LoadLemmas.{find-found, find-only, loads-from_parts}
-use Rattle.sym_machine.specs.HiddenFields.{e_entry_field}
+use Rattle.elf_image.specs.memory.LoadedBytes.{Range, address_in, address_of, byte_at, loads_range}
+use Rattle.elf_code.specs.LoadedNumbers.{loaded_number}
+use Rattle.elf_image.proofs.LoadLemmas.{loads-from_parts}
+use Rattle.rb_bytes.proofs.Searches.{find-found, find-only}
+use Rattle.elf_image.specs.memory.HiddenFields.{e_entry_field}
 use Rattle.move_law.specs.Laws.{IsAcceptedCode}
-use Rattle.move_law.specs.Rewrite.{executable_read}
+use Rattle.elf_image.specs.memory.Executables.{executable_read}
 use Rattle.move_law.proofs.files.Executables.{accepted_executable, load_once}
 use Rattle.move_law.proofs.files.Numbers.{number_from}
 

@@ -11,13 +11,13 @@ use Rattle.elf_image.specs.declared.elf.Elf.{Elf}
 use Rattle.elf_image.specs.declared.segment.Segment.{Segment}
 use Rattle.elf_image.specs.file.Header.{segment, segments_of}
 use Rattle.elf_image.specs.memory.Image.{is_loaded_with, has_flag, segment_of, loads_address, image_byte, byte_of, LoadOnce}
-use Rattle.elf_image.specs.memory.LoadedBytes.{bytes_in, number_in}
+use Rattle.rv_code.specs.machine.MemoryNumbers.{bytes_in, number_in}
 use Rattle.rv_code.specs.layout.FunctionLists.{address_end}
 use Rattle.elf_image.specs.file.ParsedFile.{IsElfOf}
-use Rattle.elf_image.specs.memory.Start.{start_memory, stack_byte, stack_end, stack_size, in_stack}
-use Rattle.elf_image.proofs.LoadLemmas.{find-found}
+use Rattle.rv_memory.specs.Start.{start_memory, stack_byte, stack_end, stack_size, in_stack}
+use Rattle.rb_bytes.proofs.Searches.{find-found}
 use Rattle.elf_image.proofs.ReadLists.{get_or-segments, LoadOnce-apart}
-use Rattle.move_law.specs.Rewrite.{Executable, executable_of, executable_read, memory_of}
+use Rattle.elf_image.specs.memory.Executables.{Executable, executable_of, executable_read, memory_of}
 use Rattle.move_law.specs.Laws.{IsAcceptedCode, IsSoundExecutable}
 use Rattle.rv_code.proofs.machine.LowBytes.{little_at}
 use Rattle.move_law.proofs.files.Numbers.{bytes_at_is}

@@ -4,7 +4,7 @@ use Rattle.std.proofs.Common.{subst, arith, get_or}
 use Rattle.std.specs.Prelude.{option_map}
 use Rattle.rv_code.specs.machine.Machine.{little}
 use Rattle.byteorder.specs.Endian.{little_from}
-use Rattle.elf_image.specs.memory.LoadedBytes.{bytes_in, and_more, number_in}
+use Rattle.rv_code.specs.machine.MemoryNumbers.{bytes_in, and_more, number_in}
 
 -- the bytes at an address are the bytes there
 pub record BytesAt (memory : ℕ → Option ℕ) (a n : ℕ) (bs : List ℕ) : Type 0 where

@@ -9,11 +9,14 @@ use Rattle.elf_image.specs.declared.segment.Segment.{Segment}
 use Rattle.elf_image.specs.declared.segment.TheConstants.{PF_R, PF_W}
 use Rattle.elf_image.specs.memory.Image.{is_load, has_memory, has_flag, end_of, loads_address, LoadOnce, segment_of}
 use Rattle.elf_image.specs.memory.Image.{is_loaded_with, byte_of}
-use Rattle.elf_image.specs.memory.Start.{page_size, rounded_down, rounded_up, writable_end, break_start, break_bound, break_room}
-use Rattle.elf_image.specs.memory.Start.{pages_above, in_stack}
-use Rattle.elf_image.proofs.LoadLemmas.{find-found, loads_last}
+use Rattle.elf_image.specs.memory.Break.{page_size, rounded_down, rounded_up, writable_end, break_start, break_bound}
+use Rattle.elf_image.specs.memory.Break.{break_room, pages_above}
+use Rattle.rv_memory.specs.Start.{in_stack}
+use Rattle.elf_image.proofs.LoadLemmas.{loads_last}
+use Rattle.rb_bytes.proofs.Searches.{find-found}
 use Rattle.rb_bytes.proofs.Members.{Contains-there, Contains-cons_cases}
-use Rattle.move_law.specs.Rewrite.{Rewrite, executable_read, memory_of}
+use Rattle.move_law.specs.Rewrite.{Rewrite}
+use Rattle.elf_image.specs.memory.Executables.{executable_read, memory_of}
 use Rattle.move_law.specs.Laws.{KeepsCode}
 use Rattle.move_law.proofs.files.Executables.{loaded_byte, byte_low, load_once, stack_high}
 use Rattle.move_law.proofs.steps.Outcomes.{SameSpaces}

@@ -7,14 +7,11 @@ use Rattle.std.proofs.lemmas.List.{get_or_append_left, get_or-append_right, leng
 use Rattle.rv_code.specs.machine.Machine.{low_bytes}
 use Rattle.elf_image.specs.declared.segment.TheConstants.{PHDR_SIZE}
 use Rattle.elf_image.specs.file.Header.{e_entry, e_phnum}
-use Rattle.elf_image.specs.memory.Start.{stack_entries, start_bytes, stack_bytes, stack_pointer, stack_end, stack_size}
-use Rattle.elf_image.specs.memory.Start.{random_address, random_bytes, program_arguments, texts, texts_address, text_addresses}
-use Rattle.elf_image.specs.memory.Start.{table_address, page_size}
+use Rattle.rv_memory.specs.Start.{stack_entries, start_bytes, stack_bytes, stack_pointer, stack_end, stack_size}
+use Rattle.rv_memory.specs.Start.{random_address, random_bytes, program_arguments, texts, texts_address, text_addresses}
+use Rattle.rv_memory.proofs.StackLengths.{length-text_addresses}
+use Rattle.elf_image.specs.memory.Break.{table_address, page_size}
 use Rattle.rv_code.proofs.machine.LowBytes.{length_numbers, numbers_at}
-
-length_texts : (a : ℕ) (texts : List (List ℕ)) → length (text_addresses a texts) ≡ length texts
-length_texts a [] = refl
-length_texts a (t ∷ ts) = ap suc (length_texts (a + length t + 1) ts)
 
 abbrev pub count : List (List ℕ) → ℕ
 count args = length (program_arguments args)
@@ -27,7 +24,7 @@ abbrev pub back : ℕ → ℕ → ℕ → List ℕ
 back t n e = 0 ∷ 0 ∷ 3 ∷ t ∷ 4 ∷ PHDR_SIZE ∷ 5 ∷ n ∷ 6 ∷ page_size ∷ 9 ∷ e ∷ 25 ∷ random_address ∷ 0 ∷ 0 ∷ []
 
 pub front_length : (args : List (List ℕ)) → length (front args) ≡ suc (count args)
-front_length args = ap suc (length_texts (texts_address args) (program_arguments args))
+front_length args = ap suc (length-text_addresses (texts_address args) (program_arguments args))
 
 numbers_are : (file : List ℕ) (args : List (List ℕ)) →
     stack_entries file args ≡ front args ++ back (table_address file) (e_phnum file) (e_entry file)

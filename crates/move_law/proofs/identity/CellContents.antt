@@ -14,25 +14,28 @@ use Rattle.rv_code.specs.machine.Machine.{little}
 use Rattle.rv_code.specs.isa.TwosComplement.{unsigned64}
 use Rattle.rb_bytes.specs.declared.fault.FaultKind.TheVariants.{RelocMismatch}
 use Rattle.elf_image.specs.declared.elf.Elf.{Elf}
-use Rattle.elf_image.specs.code.Cells.{IsField, pointer, slot, difference, IsCell, Counts, Content, Address, Difference}
-use Rattle.elf_image.specs.code.Cells.{SameContent, IsDifference, of_labels, of_place}
-use Rattle.elf_image.specs.code.Fields.{HoldsDifference, bytes_of_bits}
-use Rattle.elf_image.specs.memory.LoadedBytes.{bytes_in, number_in, loaded_number}
+use Rattle.elf_code.specs.Cells.{IsField, pointer, slot, difference, IsCell, Counts, Content, Address, Difference}
+use Rattle.elf_code.specs.Cells.{SameContent, IsDifference, of_labels, of_place}
+use Rattle.elf_code.specs.Fields.{HoldsDifference, bytes_of_bits}
+use Rattle.elf_code.specs.LoadedNumbers.{loaded_number}
+use Rattle.rv_code.specs.machine.MemoryNumbers.{bytes_in, number_in}
 use Rattle.rv_code.specs.layout.FunctionLists.{address_end}
-use Rattle.elf_image.specs.code.Relocations.{Relocation, relocations, Width, Bits}
-use Rattle.elf_image.specs.faults.ReferenceFaults.{IsAddress}
-use Rattle.elf_image.specs.faults.ReferenceFaults as faults
+use Rattle.elf_code.specs.Relocations.{Relocation, relocations, Width, Bits}
+use Rattle.elf_code.specs.ReferenceFaults.{IsAddress}
+use Rattle.elf_code.specs.ReferenceFaults as faults
 use Rattle.sym_machine.specs.SymStart.{symbol_of}
-use Rattle.move_law.specs.Rewrite.{Executable, Rewrite, executable_read, memory_of, out}
+use Rattle.move_law.specs.Rewrite.{Rewrite, out}
+use Rattle.elf_image.specs.memory.Executables.{Executable, executable_read, memory_of}
 use Rattle.move_law.specs.RelocatedValues.{distance, number_of_symbol}
 use Rattle.move_law.specs.Laws.{IsAcceptedCode, IsSoundExecutable}
 use Rattle.move_law.proofs.code.FittingRoles.{fits, bounded_of}
-use Rattle.move_law.proofs.code.CellWidths.{field_width, can_of, difference_bits, same_address}
+use Rattle.move_law.proofs.code.CellWidths.{field_width, can_of, same_address}
+use Rattle.elf_code.proofs.Differences.{difference_bits}
 use Rattle.move_law.proofs.files.Executables.{byte_small, accepted_executable}
 use Rattle.move_law.proofs.files.Numbers.{bytes_at_is}
-use Rattle.move_law.proofs.values.HiLoParts.{antisym}
+use Rattle.rb_bytes.proofs.Tests.{antisym}
 use Rattle.move_law.proofs.code.FittingRoles.{same_pos}
-use Rattle.move_law.proofs.code.InstPlaces.{stable_equal}
+use Rattle.rb_bytes.proofs.Stable.{stable_equal}
 
 little_small : (bs : List ℕ) → All (λ b. b < 256) bs → little bs < 256 ^ length bs
 unfolding little

@@ -14,22 +14,22 @@ use Rattle.rv_code.specs.declared.inst.Inst.TheVariants.{Jal}
 use Rattle.rv_code.specs.declared.placed.Placed.{Placed}
 use Rattle.rv_code.specs.isa.Action.{action_of}
 use Rattle.rv_code.specs.isa.TwosComplement.{unsigned64}
-use Rattle.rv_code.specs.layout.Flow.{action_at, insts_of, is_call, placed_at}
+use Rattle.rv_code.specs.layout.Flow.{action_at, insts_of, is_call, placed_at, next_of}
 use Rattle.rv_code.specs.layout.ProgramCode.{ProgramCode, is_code_address}
 use Rattle.rv_code.specs.machine.Machine.{plus}
 use Rattle.elf_image.specs.declared.elf.Elf.{Elf}
-use Rattle.elf_image.specs.code.Parts.{IsInstAt}
-use Rattle.elf_image.specs.memory.Start.{start}
-use Rattle.elf_image.proofs.LoadLemmas.{find-found}
+use Rattle.elf_code.specs.Parts.{IsInstAt}
+use Rattle.rv_memory.specs.Start.{start}
+use Rattle.rb_bytes.proofs.Searches.{find-found}
 use Rattle.addr_map.specs.Spans.{IsPlaced, ShareNoByte, is_of}
 use Rattle.addr_map.specs.declared.span.Span.{Span}
-use Rattle.sym_machine.specs.Rules.{next_of}
 use Rattle.sym_machine.specs.SymStart.{program_start}
 use Rattle.sym_machine.specs.declared.value.Pointer.TheVariants as pointer
 use Rattle.move_law.specs.FaithfulRewrite.{GetsToNext, GoesOn, HasInSpan, IsFaithful, IsMapOf, KeepsAction, KeepsCell, KeepsInst}
 use Rattle.move_law.specs.FaithfulRewrite.{made_anew, next, same}
 use Rattle.move_law.specs.Laws.{IdentityIsFaithful, IdentityLaw, IsAcceptedCode, KeepsCode, RunsAreReal, identity, own_spans}
-use Rattle.move_law.specs.Rewrite.{AreCodeBytes, Goes, HasAt, Rewrite, inst_end, executable_read, jumps, out, program, stays}
+use Rattle.move_law.specs.Rewrite.{Goes, HasAt, Rewrite, inst_end, jumps, out, program, stays}
+use Rattle.elf_image.specs.memory.Executables.{AreCodeBytes, executable_read}
 use Rattle.move_law.specs.Rewrite.{width_at}
 use Rattle.move_law.specs.SimulationRelation.{SimulationRelation}
 use Rattle.move_law.proofs.code.NextInst.{next_of_is}
@@ -47,7 +47,7 @@ use Rattle.move_law.proofs.code.FittingRoles.{has_code_facts}
 use Rattle.move_law.proofs.steps.Start.{entry_is, entry_named, starts_related}
 use Rattle.move_law.proofs.map.SymbolNumbers.{facts_of}
 use Rattle.move_law.proofs.code.InstLists.{found_at}
-use Rattle.move_law.proofs.Lists.{all_of, from_map, in_map, pairs_in, pairs_map}
+use Rattle.rb_bytes.proofs.ListLemmas.{all_of, from_map, in_map, pairs_in, pairs_map}
 
 abbrev own : Placed → Span
 own p = record { out = p.addr; len = p.len; input = p.addr }

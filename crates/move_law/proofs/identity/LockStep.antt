@@ -15,7 +15,8 @@ use Rattle.rv_code.specs.layout.FunctionLists.{address_end}
 use Rattle.sym_machine.specs.declared.outcome.Reason.TheVariants as reason
 use Rattle.sym_machine.specs.SymStep.{SymState, SymOutcome, SymSteps, sym_step, needs}
 use Rattle.std.specs.Prelude.{Contains}
-use Rattle.move_law.specs.Rewrite.{Rewrite, width_at, out, IsCodeByte, HasAt}
+use Rattle.move_law.specs.Rewrite.{Rewrite, width_at, out, HasAt}
+use Rattle.elf_image.specs.memory.Executables.{IsCodeByte}
 use Rattle.move_law.specs.SimulationRelation.{SimulationRelation, RelatedData}
 use Rattle.move_law.proofs.steps.Fetching.{steps_at, even_plus}
 use Rattle.move_law.proofs.steps.Outcomes.{Follows, moved_data}

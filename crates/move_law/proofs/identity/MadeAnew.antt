@@ -8,15 +8,15 @@ use Rattle.rv_code.specs.declared.placed.Placed.{Placed}
 use Rattle.rv_code.specs.declared.placed.Role.{Role}
 use Rattle.elf_image.specs.declared.elf.Elf.{Elf}
 use Rattle.elf_image.specs.declared.relocation.TheConstants.{R_RISCV_HI20}
-use Rattle.elf_image.specs.code.FileCode.{IsCodeOf}
-use Rattle.elf_image.specs.code.Parts.{halfword_at, IsInstAt}
-use Rattle.elf_image.specs.code.Relocations.{Relocation}
-use Rattle.elf_image.specs.code.Roles.{IsAbsoluteLow, Claims, HasRole, RoleIs, CallPair, PcrelLo}
-use Rattle.elf_image.specs.code.Roles as claims
-use Rattle.elf_image.specs.faults.CodeFaults.{HasCodeFault}
-use Rattle.elf_image.specs.faults.FirstFault.{IsFree}
-use Rattle.elf_image.specs.faults.ReferenceFaults.{IsCall, IsMisfit, HasAbsolute}
-use Rattle.elf_image.specs.faults.ReferenceFaults as faults
+use Rattle.elf_code.specs.FileCode.{IsCodeOf}
+use Rattle.elf_code.specs.Parts.{halfword_at, IsInstAt}
+use Rattle.elf_code.specs.Relocations.{Relocation}
+use Rattle.elf_code.specs.Roles.{IsAbsoluteLow, Claims, HasRole, RoleIs, CallPair, PcrelLo}
+use Rattle.elf_code.specs.Roles as claims
+use Rattle.elf_code.specs.CodeFaults.{HasCodeFault}
+use Rattle.rb_bytes.specs.FirstFault.{IsFree}
+use Rattle.elf_code.specs.ReferenceFaults.{IsCall, IsMisfit, HasAbsolute}
+use Rattle.elf_code.specs.ReferenceFaults as faults
 use Rattle.rv_code.specs.isa.HiLo.{hi20, lo12}
 use Rattle.rv_code.specs.layout.Flow.{insts_of}
 use Rattle.rv_code.specs.layout.ProgramCode.{ProgramCode}

@@ -16,12 +16,13 @@ use Rattle.rv_code.specs.layout.ProgramCode.{is_code_address, IsNamed}
 use Rattle.rv_code.specs.layout.Flow.{insts_of, placed_at, action_at, is_call}
 use Rattle.rv_code.specs.machine.Machine.{plus}
 use Rattle.rv_code.specs.layout.FunctionLists.{address_end}
-use Rattle.elf_image.proofs.LoadLemmas.{find-found}
+use Rattle.rb_bytes.proofs.Searches.{find-found}
 use Rattle.addr_map.specs.declared.span.Span.{Span}
 use Rattle.addr_map.specs.Spans.{is_of, has_byte, IsPlaced, ShareNoByte}
 use Rattle.sym_machine.specs.declared.value.Pointer.{Pointer}
 use Rattle.sym_machine.specs.declared.value.Pointer.TheVariants.{Code, Ret}
-use Rattle.move_law.specs.Rewrite.{Rewrite, width_at, out, inst_end, AreCodeBytes, HasAt, Goes}
+use Rattle.move_law.specs.Rewrite.{Rewrite, width_at, out, inst_end, HasAt, Goes}
+use Rattle.elf_image.specs.memory.Executables.{AreCodeBytes}
 use Rattle.move_law.specs.RelocatedValues.{number_of_pointer}
 use Rattle.move_law.specs.SimulationRelation.{IsGivenPointer}
 use Rattle.move_law.specs.FaithfulRewrite.{made_anew, HasInSpan, KeepsAction, KeepsInst}
@@ -29,7 +30,7 @@ use Rattle.move_law.specs.Laws.{KeepsCode}
 use Rattle.move_law.proofs.values.Arithmetic.{IsPlace}
 use Rattle.move_law.proofs.steps.Instructions.{width_even, width_some}
 use Rattle.move_law.proofs.steps.Matching.{code_is_low}
-use Rattle.move_law.proofs.Lists.{find_none, one_of}
+use Rattle.rb_bytes.proofs.ListLemmas.{find_none, one_of}
 use Rattle.move_law.proofs.code.InstLists.{found_at}
 
 module _ (r : Rewrite) (keeps : KeepsCode r) where

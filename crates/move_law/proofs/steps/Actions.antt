@@ -44,7 +44,7 @@ use Rattle.move_law.proofs.values.HiLoSums.{upper_of_distance_is, upper_of_numbe
 use Rattle.move_law.proofs.steps.Premises.{UpperFits, LowerFits, Fits}
 use Rattle.rv_code.specs.isa.AddressParts.{TakesLower}
 use Rattle.std.proofs.lemmas.Option.{same_Some}
-use Rattle.move_law.proofs.Lists.{if_found}
+use Rattle.rb_bytes.proofs.ListLemmas.{if_found}
 
 -- an action of an instruction that isn't a branch or a JAL; stores have the sizes that instructions have
 abbrev pub IsPlain : Action → Type 0

@@ -14,7 +14,7 @@ use Rattle.rv_code.specs.machine.Step.{ByteState, ByteOutcome, a0, a1, a2, a7, b
 use Rattle.rv_code.specs.machine.Step as byte
 use Rattle.elf_image.specs.declared.segment.TheConstants.{PF_W}
 use Rattle.elf_image.specs.memory.Image.{is_loaded_with}
-use Rattle.elf_image.specs.memory.Start.{break_start, break_bound}
+use Rattle.elf_image.specs.memory.Break.{break_start, break_bound}
 use Rattle.sym_machine.specs.declared.outcome.Reason.TheVariants as reason
 use Rattle.sym_machine.specs.declared.value.Value.{Value}
 use Rattle.sym_machine.specs.declared.value.Value.TheVariants.{Num, Sym, Piece}
@@ -24,7 +24,8 @@ use Rattle.sym_machine.specs.Values.{number, numbers, stored, is_hidden}
 use Rattle.sym_machine.specs.Rules.{loaded}
 use Rattle.sym_machine.specs.SymStep.{SymState, SymOutcome, needs, checks}
 use Rattle.sym_machine.specs.SymStep as symbol
-use Rattle.move_law.specs.Rewrite.{Rewrite, memory_of}
+use Rattle.move_law.specs.Rewrite.{Rewrite}
+use Rattle.elf_image.specs.memory.Executables.{memory_of}
 use Rattle.move_law.specs.SimulationRelation.{StandsFor, StandsForByte, has_right, RelatedData, RelatedPc}
 use Rattle.rv_code.proofs.machine.LowBytes.{length_low_bytes}
 use Rattle.rv_code.proofs.machine.RelatedMemory.{Alike, put_alike, put_keeps}
@@ -34,7 +35,7 @@ use Rattle.move_law.proofs.steps.Outcomes.{SameSpaces, Follows, needs_found, che
 use Rattle.move_law.proofs.steps.Outcomes.{writes_can, gives_follows, fixed_not_written, break_start_same, break_bound_same}
 use Rattle.move_law.proofs.steps.Outcomes.{lt_le}
 use Rattle.std.proofs.lemmas.Option.{same_Some}
-use Rattle.move_law.proofs.Lists.{if_found}
+use Rattle.rb_bytes.proofs.ListLemmas.{if_found}
 
 -- the number of a value that is one
 pub number_is : (r : Rewrite) (v : Value) (x n : ℕ) → StandsFor r v x → number v ≡ Some n → x ≡ n

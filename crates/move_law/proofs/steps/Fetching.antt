@@ -11,8 +11,9 @@ use Rattle.rv_code.specs.isa.TwosComplement.{unsigned64}
 use Rattle.rv_code.specs.machine.Machine.{plus, all_may, memory_bytes, little, may_execute, SoFar, starts, more}
 use Rattle.rv_code.specs.machine.Step.{ByteState, halfword, fetched, effect, Steps, does}
 use Rattle.rv_code.specs.layout.FunctionLists.{address_end}
-use Rattle.elf_image.specs.code.Parts.{halfword_in, IsInstIn}
-use Rattle.move_law.specs.Rewrite.{Executable, memory_of, width_at, IsCodeByte, AreCodeBytes, HasAt, Goes, stays, jumps}
+use Rattle.elf_code.specs.Parts.{halfword_in, IsInstIn}
+use Rattle.move_law.specs.Rewrite.{width_at, HasAt, Goes, stays, jumps}
+use Rattle.elf_image.specs.memory.Executables.{Executable, memory_of, IsCodeByte, AreCodeBytes}
 use Rattle.rv_code.proofs.isa.EvenOffsets.{even_offset}
 
 -- The state has the code of a file.

@@ -12,20 +12,21 @@ use Rattle.rv_code.specs.declared.action.Action.TheVariants as action
 use Rattle.rv_code.specs.declared.placed.Placed.{Placed}
 use Rattle.rv_code.specs.isa.Action.{action_of}
 use Rattle.rv_code.specs.isa.InstBytes.{Decodes}
-use Rattle.rv_code.specs.layout.Flow.{insts_of, placed_at, action_at, is_call}
+use Rattle.rv_code.specs.layout.Flow.{insts_of, placed_at, action_at, is_call, next_of}
 use Rattle.rv_code.specs.machine.Machine.{plus}
 use Rattle.rv_code.specs.isa.Op.{holds}
 use Rattle.rv_code.specs.machine.Step.{ByteState}
 use Rattle.rv_code.specs.machine.Step as byte
 use Rattle.rv_code.specs.isa.TwosComplement.{unsigned64}
-use Rattle.elf_image.specs.code.Parts.{halfword_in}
+use Rattle.elf_code.specs.Parts.{halfword_in}
 use Rattle.sym_machine.specs.declared.value.Pointer.{Pointer}
 use Rattle.sym_machine.specs.declared.value.Pointer.TheVariants.{Code, Ret}
 use Rattle.sym_machine.specs.declared.value.CodeSymbol.TheVariants.{Hi}
-use Rattle.sym_machine.specs.Rules.{tested, next_of, destination}
+use Rattle.sym_machine.specs.Rules.{tested, destination}
 use Rattle.sym_machine.specs.SymStep.{SymState, SymOutcome}
 use Rattle.sym_machine.specs.SymStep as symbol
-use Rattle.move_law.specs.Rewrite.{Rewrite, Executable, memory_of, width_at, out, inst_end, HasAt}
+use Rattle.move_law.specs.Rewrite.{Rewrite, width_at, out, inst_end, HasAt}
+use Rattle.elf_image.specs.memory.Executables.{Executable, memory_of}
 use Rattle.move_law.specs.RelocatedValues.{target_at, upper_target, number_of_pointer}
 use Rattle.move_law.specs.SimulationRelation.{IsGivenPointer, IsGiven, HasTarget, RelatedData, RelatedPc}
 use Rattle.move_law.specs.FaithfulRewrite.{next, GetsToNext, made_anew, goes_on, HasInSpan, KeepsCall, KeepsBranch, same}
@@ -41,7 +42,7 @@ use Rattle.move_law.proofs.steps.Actions.{IsPlain, IsNoJump, arm, is_saving}
 use Rattle.move_law.proofs.steps.Premises.{may_be_left_out, Facts}
 use Rattle.move_law.proofs.code.InstLists.{found_at}
 use Rattle.std.proofs.lemmas.Option.{same_Some}
-use Rattle.move_law.proofs.Lists.{if_found}
+use Rattle.rb_bytes.proofs.ListLemmas.{if_found}
 
 -- Widths and offsets.
 

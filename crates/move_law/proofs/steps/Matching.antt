@@ -16,7 +16,8 @@ use Rattle.elf_image.specs.declared.segment.TheConstants.{PF_X}
 use Rattle.rv_code.specs.layout.FunctionLists.{address_end}
 use Rattle.sym_machine.specs.declared.outcome.Reason.TheVariants as reason
 use Rattle.sym_machine.specs.SymStep.{SymState, SymOutcome, sym_step, needs}
-use Rattle.move_law.specs.Rewrite.{Rewrite, width_at, out, IsCodeByte, Goes}
+use Rattle.move_law.specs.Rewrite.{Rewrite, width_at, out, Goes}
+use Rattle.elf_image.specs.memory.Executables.{IsCodeByte}
 use Rattle.move_law.specs.SimulationRelation.{SimulationRelation, RelatedData}
 use Rattle.move_law.specs.FaithfulRewrite.{KeepsInst}
 use Rattle.move_law.specs.Laws.{KeepsCode, StepsMatched, EndingsMatched}

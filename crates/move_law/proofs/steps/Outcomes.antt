@@ -8,13 +8,15 @@ use Rattle.rv_code.specs.machine.Machine.{Going, Ended, Halts}
 use Rattle.rv_code.specs.machine.Step.{ByteState, ByteOutcome}
 use Rattle.elf_image.specs.declared.segment.TheConstants.{PF_W}
 use Rattle.elf_image.specs.memory.Image.{is_loaded_with}
-use Rattle.elf_image.specs.memory.Start.{space_of, break_start, break_bound}
+use Rattle.elf_image.specs.memory.Break.{break_start, break_bound}
+use Rattle.rv_memory.specs.Start.{space_of}
 use Rattle.sym_machine.specs.declared.outcome.Reason.{Reason}
 use Rattle.sym_machine.specs.declared.value.Value.{Value}
 use Rattle.sym_machine.specs.declared.value.Value.TheVariants.{Num}
 use Rattle.sym_machine.specs.declared.value.MemoryByte.{MemoryByte}
 use Rattle.sym_machine.specs.SymStep.{SymState, SymOutcome, needs, checks}
-use Rattle.move_law.specs.Rewrite.{Rewrite, memory_of}
+use Rattle.move_law.specs.Rewrite.{Rewrite}
+use Rattle.elf_image.specs.memory.Executables.{memory_of}
 use Rattle.move_law.specs.SimulationRelation.{StandsFor, StandsForByte, RelatedData, RelatedPc}
 use Rattle.rv_code.proofs.machine.RelatedMemory.{Alike, set_alike, bytes_alike, put_alike, put_keeps, all_may_implied}
 

@@ -3,7 +3,7 @@ use Rattle.std.proofs.Common.{ℕ, ◌+◌, ◌*◌, ◌≤◌, List, subst, ari
 use Rattle.std.proofs.lemmas.List.{append-nil}
 use Rattle.rv_code.specs.machine.Machine.{Event, SoFar, starts, more}
 use Rattle.rv_code.specs.machine.Step.{ByteState, Steps}
-use Rattle.elf_image.specs.memory.Start.{start}
+use Rattle.rv_memory.specs.Start.{start}
 use Rattle.sym_machine.specs.SymStart.{program_start}
 use Rattle.sym_machine.specs.SymStep.{SymState, SymSteps}
 use Rattle.move_law.specs.SimulationRelation.{SimulationRelation}

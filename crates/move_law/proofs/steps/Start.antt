@@ -1,11 +1,11 @@
 -- The states before the first step are related.
 use Rattle.std.proofs.Common.{◌≡◌, ℕ, zero, suc, ◌+◌, ◌-◌, ◌*◌, ◌/◌, ◌%◌, ◌^◌, ◌<◌, ◌≤◌, List, [], ◌∷◌, ◌++◌, length, Option}
 use Rattle.std.proofs.Common.{Some, None, Bool, true, false, refl, sym, ap, ◌∙◌, subst, arith, inl, inr, ◌⊎◌, get_or}
-use Rattle.std.specs.Prelude.{if◌then◌else◌, ◌==◌, ◌&&◌, ◌||◌, nat_le, nat_lt, IsTrue, option_map, unwrap_or, slice_index, find}
-use Rattle.std.specs.Prelude.{max, min}
+use Rattle.std.specs.Prelude.{if◌then◌else◌, ◌&&◌, ◌||◌, nat_le, nat_lt, IsTrue, option_map, unwrap_or, slice_index, find}
+use Rattle.std.specs.Prelude.{min}
 use Rattle.std.specs.List.{Contains, list_any, fold}
 use Rattle.std.specs.Option.{option_map_or, option_or}
-use Rattle.std.proofs.lemmas.Bool.{and_parts, and_from, eqb-true, leb-true, ltb-true, le-leb, lt-ltb, false_from_ne_true}
+use Rattle.std.proofs.lemmas.Bool.{and_parts, and_from, leb-true, ltb-true, le-leb, lt-ltb, false_from_ne_true}
 use Rattle.std.proofs.lemmas.List.Elements.{Contains-append_right, Contains-append_cases}
 use Rattle.rv_code.specs.declared.cell.CodeCell.{CodeCell}
 use Rattle.rv_code.specs.declared.cell.CellKind.{CellKind}
@@ -15,25 +15,28 @@ use Rattle.elf_image.specs.declared.segment.Segment.{Segment}
 use Rattle.elf_image.specs.declared.segment.TheConstants.{PF_R, PF_W, PF_X}
 use Rattle.elf_image.specs.file.Header.{e_entry, e_phnum, e_phoff, segments_of}
 use Rattle.elf_image.specs.memory.Image.{is_loaded_with}
-use Rattle.elf_image.specs.memory.LoadedBytes.{number_in, Range, is_in_range, address_of}
-use Rattle.elf_image.specs.code.Cells.{IsField, pointer, slot, difference, IsCell, Content, Address, Difference, SameContent}
-use Rattle.elf_image.specs.code.Functions as functions
-use Rattle.elf_image.specs.code.Parts.{IsStart}
+use Rattle.elf_image.specs.memory.LoadedBytes.{Range, is_in_range, address_of}
+use Rattle.rv_code.specs.machine.MemoryNumbers.{number_in}
+use Rattle.elf_code.specs.Cells.{IsField, pointer, slot, difference, IsCell, Content, Address, Difference, SameContent}
+use Rattle.elf_code.specs.Functions as functions
+use Rattle.elf_code.specs.Parts.{IsStart}
 use Rattle.rb_bytes.specs.declared.fault.FaultKind.TheVariants.{BadEntry}
-use Rattle.elf_image.specs.memory.Start.{start, start_memory, start_registers, stack_bytes, stack_pointer, stack_end, stack_size}
-use Rattle.elf_image.specs.memory.Start.{in_stack, table_address, space_of, break_start, break_bound, writable_end, break_room}
-use Rattle.elf_image.specs.memory.Start.{pages_above}
-use Rattle.elf_image.proofs.LoadLemmas.{find-found}
+use Rattle.rv_memory.specs.Start.{start, start_memory, start_registers, stack_bytes, stack_pointer, stack_end, stack_size}
+use Rattle.elf_image.specs.memory.Break.{table_address, break_start, break_room, pages_above}
+use Rattle.rv_memory.specs.Start.{in_stack, space_of}
+use Rattle.rb_bytes.proofs.Searches.{find-found}
 use Rattle.sym_machine.specs.declared.value.Pointer.TheVariants.{Code}
 use Rattle.sym_machine.specs.declared.value.CodeSymbol.TheVariants.{Points}
 use Rattle.sym_machine.specs.declared.value.MemoryByte.TheVariants.{Byte, SymbolByte, Hidden}
-use Rattle.sym_machine.specs.HiddenFields.{e_entry_field, at_phdr, at_phnum, at_entry, is_hidden_field, is_hidden_entry}
+use Rattle.elf_image.specs.memory.HiddenFields.{e_entry_field, is_hidden_field, is_in_entry_field}
+use Rattle.sym_machine.specs.HiddenEntries.{at_phdr, at_phnum, at_entry, is_hidden_entry}
 use Rattle.sym_machine.specs.SymStart.{sym_memory, entry_fields, hidden_byte, code_cell_byte, byte_of_entry, byte_of_cell}
 use Rattle.sym_machine.specs.SymStart.{symbol_of, code_cell_range, program_start}
-use Rattle.move_law.specs.Rewrite.{Executable, Rewrite, executable_read, memory_of, out, program, stays}
+use Rattle.move_law.specs.Rewrite.{Rewrite, out, program, stays}
+use Rattle.elf_image.specs.memory.Executables.{Executable, executable_read, memory_of}
 use Rattle.move_law.specs.RelocatedValues.{number_of_symbol}
 use Rattle.move_law.specs.SimulationRelation.{StandsForByte, IsGiven, has_right}
-use Rattle.move_law.specs.FaithfulRewrite.{is_in_entry_field, KeepsCell}
+use Rattle.move_law.specs.FaithfulRewrite.{KeepsCell}
 use Rattle.move_law.specs.Laws.{KeepsCode, FitStack, StartsRelated}
 use Rattle.move_law.proofs.files.Executables.{loaded_byte, accepted_executable, number_byte, loaded_start}
 use Rattle.move_law.proofs.files.Stack.{stack_of, count, byte_same, entry_on_stack, room, stack_is}
@@ -43,8 +46,9 @@ use Rattle.move_law.proofs.map.MappedPlaces.{place}
 use Rattle.move_law.proofs.code.InstLists.{function_code, start_code}
 use Rattle.sym_machine.specs.Values.{IsSymbol}
 use Rattle.std.proofs.lemmas.List.Elements.{All-contains}
-use Rattle.move_law.proofs.Lists.{find_none, none_any, only_one, if_found}
+use Rattle.rb_bytes.proofs.ListLemmas.{find_none, none_any, only_one, if_found}
 use Rattle.elf_image.proofs.ReadLists.{length-segments_from}
+use Rattle.elf_image.proofs.LowSegments.{break_fits}
 
 -- The files.
 
@@ -60,14 +64,6 @@ holds_inside a range h k =
 
 abbrev least_page : List Segment → ℕ
 least_page segments = fold min (break_start segments + break_room) (pages_above segments)
-
-bound_above : (segments : List Segment) → break_start segments ≤ break_bound segments
-bound_above segments = by (writable_end segments == 0) refl
-  where
-    by : (b : Bool) → (writable_end segments == 0) ≡ b →
-        break_start segments ≤ (if b then 0 else max (break_start segments) (least_page segments))
-    by true e = let z : writable_end segments ≡ 0 = eqb-true (writable_end segments) 0 e in omega (arith, z)
-    by false e = omega arith
 
 or_parts : (x y : Bool) → x || y ≡ false → (x ≡ false) × (y ≡ false)
 or_parts true y e = absurd (cc)
@@ -435,7 +431,7 @@ starts_related r keeps args input fit = record {
     memory = λ a right. memory r keeps args fit a right;
     input = refl;
     break_is = keeps.faithful.layout.break_start_is ∙ ap (λ (x : Executable). break_start x.segments) keeps.output.is;
-    break_fits = (omega arith, bound_above (segments_of r.output.file));
+    break_fits = (omega arith, break_fits (segments_of r.output.file));
     input_rights = refl;
     output_rights = ap (λ (x : Executable). space_of x.segments) (sym keeps.output.is);
     loaded = λ a byte w e. loaded_start r.output keeps.output args a byte e;

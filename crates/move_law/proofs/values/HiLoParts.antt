@@ -7,8 +7,9 @@ use Rattle.std.proofs.lemmas.Int.{ints}
 use Rattle.std.proofs.lemmas.Bool.{ltb-true, ltb-false}
 use Rattle.rv_code.specs.isa.Bits.{field, signed_by, imm_i, imm_s}
 use Rattle.rv_code.specs.isa.HiLo.{hi20, lo12}
-use Rattle.elf_image.specs.code.Roles.{pair_target}
+use Rattle.elf_code.specs.Roles.{pair_target}
 use Rattle.move_law.specs.RelocatedValues.{distance}
+use Rattle.rb_bytes.proofs.Tests.{antisym}
 
 pub record IsLower (z : ℤ) : Type 0 where
   pub low : (pos 0 -ℤ pos 2048) ≤ℤ z
@@ -42,12 +43,6 @@ split t a u l is e =
 
 pub upper_is : (t a : ℕ) (u l : ℤ) → IsLower l → pos t ≡ pair_target a u l → hi20 (distance t a) ≡ u
 upper_is t a u l is e = let s = split t a u l is e in shr_of (distance t a +ℤ pos 0x800) u s.0 s.1
-
-pub antisym : (x y : ℤ) → x ≤ℤ y → y ≤ℤ x → x ≡ y
-antisym (pos a) (pos b) h k = ap pos (omega (arith, ints, h, k))
-antisym (negsuc a) (negsuc b) h k = ap negsuc (omega (arith, ints, h, k))
-antisym (pos a) (negsuc b) h k = absurd (omega (arith, ints, h, k))
-antisym (negsuc a) (pos b) h k = absurd (omega (arith, ints, h, k))
 
 pub lower_is : (t a : ℕ) (u l : ℤ) → IsLower l → pos t ≡ pair_target a u l → lo12 (distance t a) ≡ l
 lower_is t a u l is e =

@@ -1,7 +1,8 @@
 -- Where control goes after an instruction: calls, jumps, targets, and what falls into the next one.
 -- ISA manual, section 2.5.
 use Rattle.std.specs.Prelude.{ℕ, ◌+◌, ◌==◌, ◌&&◌, ◌||◌, if◌then◌else◌, Bool, true, false, not, Option, Some, None, List, length}
-use Rattle.std.specs.Prelude.{flat_map, find}
+use Rattle.std.specs.Prelude.{flat_map, find, [], ◌∷◌}
+use Rattle.std.specs.Option.{option_or}
 use Rattle.rv_code.specs.declared.action.Action.{Action}
 use Rattle.rv_code.specs.declared.action.Action.TheVariants.{Branch, Jump, JumpTo}
 use Rattle.rv_code.specs.declared.placed.Placed.{Placed}
@@ -64,3 +65,14 @@ insts_of funcs = flat_map (λ f. f.insts.items) funcs
 -- the instruction of a function that starts at an address
 abbrev pub placed_at : List Func → ℕ → Option Placed
 placed_at funcs a = find (λ p. p.addr == a) (insts_of funcs)
+
+-- the instruction after one in a list
+abbrev pub next_in : List Placed → ℕ → Option ℕ
+next_in [] a = None
+next_in (p ∷ []) a = None
+next_in (p ∷ q ∷ ps) a = if p.addr == a then Some q.addr else next_in (q ∷ ps) a
+
+-- the instruction after one in its function
+abbrev pub next_of : List Func → ℕ → Option ℕ
+next_of [] a = None
+next_of (f ∷ fs) a = option_or (next_in f.insts.items a) (next_of fs a)

@@ -1,7 +1,6 @@
 -- Fields of the headers as the code has them, and segments that lie low.
-use Rattle.std.specs.Prelude.{◌≡◌, ◌≤◌, ◌<◌, ◌^◌, ℕ, List, Option, Bool, Contains, true, false, nat_lt, length, slice_index_or}
+use Rattle.std.specs.Prelude.{◌≡◌, ◌≤◌, ◌<◌, ◌^◌, ℕ, List, Bool, Contains, true, false, length, slice_index_or}
 use Rattle.std.specs.List.{list_any}
-use Rattle.std.specs.Option.{option_map_or}
 use Rattle.elf_image.specs.declared.segment.Segment.{Segment}
 use Rattle.elf_image.specs.memory.Image.{has_memory, end_of}
 use Rattle.elf_image.specs.memory.LoadedBytes.{Range, is_in_range}
@@ -9,10 +8,6 @@ use Rattle.sym_machine.specs.declared.fields.Field.{Field}
 
 abbrev pub range_of_field : Field → Range
 range_of_field field = record { start = field.start; size = field.size }
-
--- an address is above the lowest, if there is one
-abbrev pub is_above : Option ℕ → ℕ → Bool
-is_above lowest a = option_map_or (λ other. nat_lt other a) lowest false
 
 -- of each of the first bytes of a file, whether one of these fields has it
 abbrev pub AreMarked : List Bool → List Field → Type 0

@@ -1,7 +1,8 @@
 use Rattle.std.proofs.Common.{rules}
 use Rattle.std.proofs.lemmas.List.Sorted.{IsNonDecreasingBy-from_sort_by_key}
 use Rattle.addr_map.specs.internal.Orders.{AreApart}
-use Rattle.addr_map.proofs.Orders.{AllPairs-permutation, apart_flip, rising_inputs}
+use Rattle.addr_map.proofs.Orders.{apart_flip, rising_inputs}
+use Rattle.rb_bytes.proofs.Permuted.{AllPairs-permutation}
 use Rattle.addr_map.proofs.order.sort_by_input.Goals as goal
 
 pub returns-clause-rises : goal.returns-clause-rises

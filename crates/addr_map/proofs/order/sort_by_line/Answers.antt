@@ -2,7 +2,8 @@ use Rattle.std.proofs.Common.{rules}
 use Rattle.std.proofs.lemmas.List.Sorted.{answers_always}
 use Rattle.addr_map.specs.internal.Orders.{AreApart}
 use Rattle.addr_map.specs.Spans.{ShareNoByte}
-use Rattle.addr_map.proofs.Orders.{AllPairs-permutation, apart_flip, disjoint_flip, line_key, line_order}
+use Rattle.addr_map.proofs.Orders.{apart_flip, disjoint_flip, line_key, line_order}
+use Rattle.rb_bytes.proofs.Permuted.{AllPairs-permutation}
 use Rattle.addr_map.proofs.order.sort_by_line.Goals as goal
 
 pub returns : goal.returns

@@ -3,9 +3,9 @@ use Rattle.std.proofs.lemmas.Result.{err_from_is_err_and}
 use Rattle.rb_bytes.specs.declared.fault.Refusal.{Refusal}
 use Rattle.rb_bytes.specs.declared.fault.Refusal.TheVariants as refusal
 use Rattle.elf_image.specs.declared.elf.Elf.{Elf}
-use Rattle.elf_image.specs.faults.CodeFaults.{HasCodeFault}
+use Rattle.elf_code.specs.CodeFaults.{HasCodeFault}
 use Rattle.elf_image.specs.faults.FileFaults.{IsSound}
-use Rattle.elf_image.specs.faults.FirstFault.{IsRefusalBy}
+use Rattle.rb_bytes.specs.FirstFault.{IsRefusalBy}
 use Rattle.elf_image.specs.file.ParsedFile.{IsElfOf}
 use Rattle.bolt_core.specs.Program.{file_limit, tabled}
 use Rattle.cli_run.specs.run.Phases.{IsRefusalFor}

@@ -12,7 +12,7 @@ use Rattle.code_emit.specs.Bytes.{AllCanBeEncoded}
 use Rattle.code_emit.specs.Inputs.{HasLowTargets}
 use Rattle.code_emit.specs.NewInsts.{made}
 use Rattle.code_emit.proofs.Parts.{front_can, last_can, one_more, inner_targets}
-use Rattle.sym_machine.proofs.Options.{on_ok}
+use Rattle.rb_bytes.proofs.Results.{on_ok}
 use Rattle.code_emit.proofs.block.put_block.Goals as goal
 
 pub put_inner-requires-clause-placed : goal.put_inner-requires-clause-placed

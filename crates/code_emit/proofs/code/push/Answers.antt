@@ -2,7 +2,7 @@ use Rattle.std.proofs.Common.{[], ◌∷◌, List, ℕ, sym, subst}
 use Rattle.rv_encode.specs.InstWords.{bytes}
 use Rattle.code_emit.specs.Bytes.{Adds}
 use Rattle.code_emit.proofs.Coded.{half_wanted}
-use Rattle.sym_machine.proofs.Options.{on_ok}
+use Rattle.rb_bytes.proofs.Results.{on_ok}
 use Rattle.code_emit.proofs.code.push.Goals as goal
 
 pub returns-in-Some-Half : goal.returns-in-Some-Half

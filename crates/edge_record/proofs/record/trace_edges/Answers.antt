@@ -1,6 +1,6 @@
 use Rattle.std.proofs.Common.{◌<◌, ◌^◌, ap, map, rules, refl}
 use Rattle.std.specs.Prelude.{string_bytes}
-use Rattle.elf_image.specs.memory.Start.{start}
+use Rattle.rv_memory.specs.Start.{start}
 use Rattle.rv_machine.specs.StepResults.{answered}
 use Rattle.edge_record.specs.AddressSets.{watches}
 use Rattle.edge_record.specs.EdgeCounts.{said_of}

@@ -1,5 +1,5 @@
 use Rattle.std.proofs.Common.{◌≡◌, ◌<◌, ◌^◌, take}
-use Rattle.elf_image.specs.memory.Start.{writable_end}
+use Rattle.elf_image.specs.memory.Break.{writable_end}
 use Rattle.elf_image.proofs.start.writable_end.Given as goal
 
 abbrev pub invariant-loop-segment : goal.invariant-loop-segment

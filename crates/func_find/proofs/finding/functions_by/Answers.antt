@@ -1,8 +1,8 @@
 use Rattle.std.proofs.Common.{sym, subst, refl, List, None, Some, arith}
 use Rattle.rb_bytes.specs.declared.fault.FaultKind.TheVariants.{BadEntry, BadTarget}
 use Rattle.rv_code.specs.declared.placed.Func.{Func}
-use Rattle.elf_image.specs.faults.FirstFault.{IsAnswered}
-use Rattle.elf_image.specs.faults.FunctionFaults.{HasFunctionFault}
+use Rattle.rb_bytes.specs.FirstFault.{IsAnswered}
+use Rattle.elf_code.specs.FunctionFaults.{HasFunctionFault}
 use Rattle.elf_image.specs.faults.LowestPlace.{IsLowest}
 use Rattle.elf_image.proofs.FaultOrder.{IsAnswered-first}
 use Rattle.rv_reloc.specs.Parts.{ArePartsApart}

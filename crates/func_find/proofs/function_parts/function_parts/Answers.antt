@@ -1,15 +1,15 @@
 use Rattle.std.proofs.Common.{sym, subst, true, false, refl, slice_index_or, arith}
 use Rattle.std.specs.List.{All}
 use Rattle.std.proofs.lemmas.List.Elements.{Contains-get_or, All-push}
-use Rattle.elf_image.specs.code.Functions.{IsFunctionPart}
-use Rattle.elf_image.specs.code.Parts.{IsCodePart}
+use Rattle.elf_code.specs.Functions.{IsFunctionPart}
+use Rattle.elf_code.specs.Parts.{IsCodePart}
 use Rattle.rv_reloc.specs.declared.parts.Part.{Part}
 use Rattle.rv_reloc.specs.Parts.{Precedes}
 use Rattle.rv_reloc.proofs.Chosen.{chosen_keep, chosen_skip, chosen_all}
-use Rattle.rv_reloc.proofs.Either.{clash}
 use Rattle.func_find.specs.FunctionParts.{AreFunctionsBefore}
 use Rattle.func_find.proofs.Judged.{AreFunctionsBefore-chosen, IsCodePart-function}
 use Rattle.func_find.proofs.function_parts.function_parts.Goals as goal
+use Rattle.rb_bytes.proofs.Tests.{clash}
 
 pub is_function-requires-clause-part : goal.is_function-requires-clause-part
 is_function-requires-clause-part c =

@@ -1,7 +1,7 @@
 use Rattle.std.proofs.Common.{ℕ, List}
 use Rattle.std.specs.List.{All}
-use Rattle.elf_image.specs.code.Functions.{IsFunctionPart}
-use Rattle.elf_image.specs.code.Parts.{IsCodePart}
+use Rattle.elf_code.specs.Functions.{IsFunctionPart}
+use Rattle.elf_code.specs.Parts.{IsCodePart}
 use Rattle.rv_reloc.specs.Parts.{Precedes}
 use Rattle.rv_reloc.proofs.Chosen.{ChosenOf}
 use Rattle.func_find.specs.Referents.{AreReferred}

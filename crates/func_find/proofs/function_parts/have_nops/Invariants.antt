@@ -1,5 +1,5 @@
 use Rattle.std.proofs.Common.{ℕ, ◌<◌, slice_index_or}
-use Rattle.elf_image.specs.code.Functions.{IsNopPart}
+use Rattle.elf_code.specs.Functions.{IsNopPart}
 use Rattle.rv_reloc.specs.declared.parts.Part.{Part}
 use Rattle.func_find.proofs.function_parts.have_nops.Given as goal
 

@@ -1,7 +1,7 @@
 use Rattle.std.proofs.Common.{◌≡◌, true, false}
 use Rattle.func_find.proofs.Judged.{IsNopPart-tests, IsNopPart-all}
-use Rattle.rv_reloc.proofs.Either.{clash}
 use Rattle.func_find.proofs.function_parts.is_nop_part.Goals as goal
+use Rattle.rb_bytes.proofs.Tests.{clash}
 
 pub returns-then-hold : goal.returns-then-hold
 returns-then-hold c = (

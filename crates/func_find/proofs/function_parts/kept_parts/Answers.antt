@@ -1,11 +1,11 @@
 use Rattle.std.proofs.Common.{sym, subst, true, ℕ, List}
 use Rattle.std.proofs.lemmas.Result.{IfOk-weaker}
 use Rattle.rv_reloc.specs.Refs.{AreRefs}
-use Rattle.rv_reloc.proofs.Either.{clash}
 use Rattle.func_find.specs.FunctionParts.{AreFunctionParts}
 use Rattle.func_find.specs.Referents.{AreReferred}
 use Rattle.func_find.proofs.Judged.{AreFunctionParts-code}
 use Rattle.func_find.proofs.function_parts.kept_parts.Goals as goal
+use Rattle.rb_bytes.proofs.Tests.{clash}
 
 pub returns-then-not-branch : goal.returns-then-not-branch
 returns-then-not-branch c = λ tabled refers.

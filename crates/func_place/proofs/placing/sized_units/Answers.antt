@@ -1,7 +1,7 @@
 use Rattle.std.proofs.Common.{ℕ, ◌≡◌, ◌≤◌, ◌*◌, List, length, sym, ap, subst, ◌∙◌, arith}
 use Rattle.std.specs.Prelude.{All, sum, ◌^◌}
 use Rattle.std.proofs.lemmas.List.Sums.{sum_by-le}
-use Rattle.elf_image.specs.faults.FirstFault.{IsAnswered}
+use Rattle.rb_bytes.specs.FirstFault.{IsAnswered}
 use Rattle.rv_code.specs.layout.WorstSizes.{worst_size_of_block}
 use Rattle.func_place.specs.Faults.{HasPlacementFault}
 use Rattle.func_place.specs.Units.{unit_size, by_unit}

@@ -1,15 +1,13 @@
-use Rattle.std.proofs.Common.{ℕ, ◌≡◌, sym, ap, ◌∙◌, Bool, true, false, Some, None, refl}
+use Rattle.std.proofs.Common.{ℕ, ◌≡◌, sym, ap, ◌∙◌, true, false, Some, None, refl}
 use Rattle.std.specs.Prelude.{slice_index_or}
 use Rattle.std.proofs.lemmas.Option.{slice_get_read}
 use Rattle.rv_code.specs.layout.FunctionMembers.{func_holds}
 use Rattle.rv_code.proofs.lists.FunctionAt.{function_at-holds, function_at-within}
 use Rattle.func_place.proofs.ties.other_function_at.Goals as goal
+use Rattle.rb_bytes.proofs.Tests.{clash}
 
 not_some : (g : ℕ) → None ≡ Some g → ⊥
 not_some g e = cc
-
-not_both : (b : Bool) → b ≡ true → b ≡ false → ⊥
-not_both b h k = cc
 
 pub returns-then-func_holds : goal.returns-then-func_holds
 returns-then-func_holds c = λ g. (
@@ -30,7 +28,7 @@ returns c = λ g. (
             let same = ap (λ (k : ℕ). func_holds c.args.address (slice_index_or c.args.funcs.now k c.index-funcs-place.result)) at
             in
             let is = ap (func_holds c.args.address) c.index-funcs-place.is in
-            not_both (func_holds c.args.address c.index-funcs-place.result) (is ∙ sym same ∙ there)
+            clash (func_holds c.args.address c.index-funcs-place.result) (is ∙ sym same ∙ there)
             (sym c.func_holds.ensures ∙ c.if-func_holds.false),
       ),
   λ found. c.function_at.ensures ∙ found.0,

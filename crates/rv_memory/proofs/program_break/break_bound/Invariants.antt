@@ -1,7 +1,7 @@
 use Rattle.std.proofs.Common.{◌≡◌, ◌+◌, drop}
 use Rattle.std.specs.Prelude.{fold, min, map, filter, ◌&&◌, nat_le}
 use Rattle.elf_image.specs.memory.Image.{has_memory}
-use Rattle.elf_image.specs.memory.Start.{page_size, rounded_down, writable_end, break_start, break_room, pages_above}
+use Rattle.elf_image.specs.memory.Break.{page_size, rounded_down, writable_end, break_start, break_room, pages_above}
 use Rattle.rv_memory.proofs.program_break.break_bound.Given as goal
 
 abbrev pub invariant-loop-segment : goal.invariant-loop-segment

@@ -1,7 +1,7 @@
 use Rattle.std.proofs.Common.{◌≡◌, ◌≤◌, ◌+◌, ◌++◌, ◌∷◌, ◌^◌, [], drop, length}
 use Rattle.std.specs.Prelude.{flat_map, map, string_bytes}
 use Rattle.rv_code.specs.machine.Machine.{low_bytes}
-use Rattle.elf_image.specs.memory.Start.{text_addresses, program_arguments}
+use Rattle.rv_memory.specs.Start.{text_addresses, program_arguments}
 use Rattle.rv_memory.proofs.stack.put_addresses.Given as goal
 
 abbrev pub invariant-loop-arg : goal.invariant-loop-arg

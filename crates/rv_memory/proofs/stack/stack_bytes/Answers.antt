@@ -1,8 +1,9 @@
 use Rattle.std.proofs.Common.{◌≡◌, ◌∙◌, ◌+◌, ◌-◌, ◌*◌, ℕ, List, ◌++◌, ap, refl, rules, arith, length, take}
 use Rattle.std.proofs.lemmas.List.{length-map}
 use Rattle.std.specs.Prelude.{map, replicate, string_bytes}
-use Rattle.elf_image.specs.memory.Start.{program_arguments, random_address, random_bytes, rounded_down, texts, texts_address}
-use Rattle.elf_image.specs.memory.Start.{start_bytes, stack_pointer}
+use Rattle.elf_image.specs.memory.Break.{rounded_down}
+use Rattle.rv_memory.specs.Start.{program_arguments, random_address, random_bytes, texts, texts_address}
+use Rattle.rv_memory.specs.Start.{start_bytes, stack_pointer}
 use Rattle.rv_memory.proofs.StackLengths.{length-texts, start_bytes-room, padded}
 use Rattle.rv_memory.proofs.stack.stack_bytes.Goals as goal
 

@@ -3,7 +3,8 @@ use Rattle.std.proofs.lemmas.List.{length-map}
 use Rattle.std.specs.Prelude.{map, flat_map, string_bytes}
 use Rattle.rv_code.specs.machine.Machine.{low_bytes}
 use Rattle.elf_image.specs.file.Header.{e_phnum}
-use Rattle.elf_image.specs.memory.Start.{program_arguments, texts, texts_address, text_addresses, table_address}
+use Rattle.elf_image.specs.memory.Break.{table_address}
+use Rattle.rv_memory.specs.Start.{program_arguments, texts, texts_address, text_addresses}
 use Rattle.rv_memory.specs.Vector.{vector}
 use Rattle.rv_memory.proofs.StackLengths.{length-texts, start_bytes-is}
 use Rattle.elf_image.proofs.ReadLists.{length-segments_of}

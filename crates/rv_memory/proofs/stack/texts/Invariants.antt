@@ -1,6 +1,6 @@
 use Rattle.std.proofs.Common.{◌≡◌, ◌++◌, ◌∷◌, [], drop}
 use Rattle.std.specs.Prelude.{flat_map, map, string_bytes}
-use Rattle.elf_image.specs.memory.Start.{texts}
+use Rattle.rv_memory.specs.Start.{texts}
 use Rattle.rv_memory.proofs.stack.texts.Given as goal
 
 abbrev pub invariant-loop-arg : goal.invariant-loop-arg

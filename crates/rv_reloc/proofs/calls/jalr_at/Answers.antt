@@ -1,6 +1,6 @@
 use Rattle.std.proofs.Common.{◌∙◌, sym, ap, subst, ℕ, Option, IfSome}
 use Rattle.rv_code.specs.declared.inst.Inst.TheVariants.{Jalr}
-use Rattle.elf_image.specs.code.Roles.{IsFullAt}
+use Rattle.elf_code.specs.Roles.{IsFullAt}
 use Rattle.rv_reloc.specs.declared.instructions.Jump.{Jump}
 use Rattle.rv_reloc.specs.Instructions.{jalr_of}
 use Rattle.rv_reloc.proofs.InstructionFields.{as_jalr}

@@ -1,7 +1,7 @@
 use Rattle.std.proofs.Common.{◌∙◌, sym, ap, ℤ, refl, rules, FitsSigned, to_z, of_z}
 use Rattle.std.specs.Int.{w128}
 use Rattle.std.proofs.lemmas.Int.{to_z-of_z}
-use Rattle.elf_image.specs.code.Cells.{Difference}
+use Rattle.elf_code.specs.Cells.{Difference}
 use Rattle.rv_reloc.proofs.candidates.cell_field.Goals as goal
 
 pub returns-else-not-are_free-clause-is : goal.returns-else-not-are_free-clause-is

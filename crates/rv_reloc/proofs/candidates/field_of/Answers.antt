@@ -1,5 +1,5 @@
 use Rattle.std.proofs.Common.{◌∙◌, sym, subst, ℕ}
-use Rattle.elf_image.specs.code.Relocations.{Bits}
+use Rattle.elf_code.specs.Relocations.{Bits}
 use Rattle.rv_reloc.specs.Candidates.{IsCodeField, difference}
 use Rattle.rv_reloc.specs.Records.{seen}
 use Rattle.rv_reloc.proofs.FieldsFound.{code-of, difference-of, cell-to_difference, difference-to_cell}

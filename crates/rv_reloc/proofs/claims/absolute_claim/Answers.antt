@@ -1,5 +1,5 @@
 use Rattle.std.proofs.Common.{ap, not}
-use Rattle.elf_image.specs.faults.ReferenceFaults.{IsMisfit}
+use Rattle.elf_code.specs.ReferenceFaults.{IsMisfit}
 use Rattle.rv_reloc.specs.Records.{seen}
 use Rattle.rv_reloc.proofs.Absolutes.{bad-absolute}
 use Rattle.rv_reloc.proofs.AbsoluteClaims.{absolute_view, absolute-claim}

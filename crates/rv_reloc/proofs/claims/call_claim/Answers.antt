@@ -1,5 +1,5 @@
 use Rattle.std.proofs.Common.{sym}
-use Rattle.elf_image.specs.faults.ReferenceFaults.{IsMisfit}
+use Rattle.elf_code.specs.ReferenceFaults.{IsMisfit}
 use Rattle.rv_reloc.specs.Records.{seen}
 use Rattle.rv_reloc.proofs.CallFaults.{bad-none, unfit-bad}
 use Rattle.rv_reloc.proofs.CallClaims.{hi-claim, hi_key}

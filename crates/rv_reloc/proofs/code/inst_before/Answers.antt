@@ -1,6 +1,6 @@
 use Rattle.std.proofs.Common.{◌≢◌, sym, subst, ℕ, ◌+◌, Some, None, arith}
 use Rattle.rv_code.specs.isa.InstBytes.{Decodes}
-use Rattle.elf_image.specs.code.Parts.{halfword_at}
+use Rattle.elf_code.specs.Parts.{halfword_at}
 use Rattle.rv_reloc.proofs.Decoded.{decoded, Decodes-two, Decodes-same}
 use Rattle.rv_reloc.proofs.code.inst_before.Goals as goal
 

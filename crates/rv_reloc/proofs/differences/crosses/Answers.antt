@@ -1,7 +1,7 @@
 use Rattle.std.proofs.Common.{subst, ℤ, IsTrue, ◌↔◌, rules, FitsSigned, to_z, of_z}
 use Rattle.std.specs.Int.{w128}
 use Rattle.std.proofs.lemmas.Int.{to_z-of_z}
-use Rattle.elf_image.specs.code.Cells.{HasCodeLabel, IsInOneWhole}
+use Rattle.elf_code.specs.Cells.{HasCodeLabel, IsInOneWhole}
 use Rattle.rv_reloc.proofs.FieldsFound.{crosses-found}
 use Rattle.rv_reloc.proofs.differences.crosses.Goals as goal
 

@@ -1,7 +1,7 @@
 use Rattle.std.proofs.Common.{◌∙◌, sym, subst, rules, FitsSigned, refl, arith}
 use Rattle.std.specs.Int.{w128}
 use Rattle.std.proofs.lemmas.Int.{to_z-of_z, ints}
-use Rattle.elf_image.specs.code.Cells.{of_place}
+use Rattle.elf_code.specs.Cells.{of_place}
 use Rattle.rv_reloc.specs.Labels.{IsLabelSize}
 use Rattle.rv_reloc.specs.Records.{seen}
 use Rattle.rv_reloc.proofs.DifferenceCases.{by-place, no-difference}

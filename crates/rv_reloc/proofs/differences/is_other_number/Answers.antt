@@ -1,7 +1,7 @@
 use Rattle.std.proofs.Common.{subst, ℤ, IsTrue, ◌↔◌, rules, FitsSigned, to_z, of_z}
 use Rattle.std.specs.Int.{w128}
 use Rattle.std.proofs.lemmas.Int.{to_z-of_z}
-use Rattle.elf_image.specs.code.Fields.{HoldsDifference}
+use Rattle.elf_code.specs.Fields.{HoldsDifference}
 use Rattle.rv_reloc.specs.Labels.{width_of}
 use Rattle.rv_reloc.specs.Records.{seen}
 use Rattle.rv_reloc.proofs.DifferenceCases.{other-found, none-other}

@@ -1,7 +1,7 @@
 use Rattle.std.proofs.Common.{◌≡◌, ◌∙◌, sym, subst, ℤ, IsTrue, ◌↔◌, true, false, Some, None, rules, FitsSigned, refl}
 use Rattle.std.specs.Int.{w128}
 use Rattle.std.proofs.lemmas.Int.{to_z-of_z}
-use Rattle.elf_image.specs.code.Cells.{IsCodeLabel}
+use Rattle.elf_code.specs.Cells.{IsCodeLabel}
 use Rattle.rv_reloc.specs.Labels.{width_of}
 use Rattle.rv_reloc.specs.Records.{seen}
 use Rattle.rv_reloc.proofs.DifferenceCases.{paired-none, unpaired-found}

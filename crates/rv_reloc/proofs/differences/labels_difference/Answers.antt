@@ -1,8 +1,8 @@
 use Rattle.std.proofs.Common.{◌∙◌, sym, ap, subst, ℤ, rules, FitsSigned, to_z, of_z, IfSome, Option}
 use Rattle.std.specs.Int.{w128}
 use Rattle.std.proofs.lemmas.Int.{to_z-of_z}
-use Rattle.elf_image.specs.code.Cells.{IsOnly, is_plus, is_minus, IsDifference}
-use Rattle.elf_image.specs.code.Relocations.{relocations, label}
+use Rattle.elf_code.specs.Cells.{IsOnly, is_plus, is_minus, IsDifference}
+use Rattle.elf_code.specs.Relocations.{relocations, label}
 use Rattle.rv_reloc.specs.declared.records.Record.{Record}
 use Rattle.rv_reloc.specs.Labels.{width_of, IsLabelSize}
 use Rattle.rv_reloc.specs.Records.{seen}

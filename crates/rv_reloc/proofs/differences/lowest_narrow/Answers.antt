@@ -1,6 +1,6 @@
 use Rattle.std.proofs.Common.{◌≡◌, sym, refl, length, arith}
 use Rattle.std.proofs.lemmas.List.{get_or_default}
-use Rattle.elf_image.specs.faults.ReferenceFaults.{IsNarrow}
+use Rattle.elf_code.specs.ReferenceFaults.{IsNarrow}
 use Rattle.rv_reloc.proofs.Faulty.{lowest-relocation}
 use Rattle.rv_reloc.proofs.Kept.{counts}
 use Rattle.rv_reloc.proofs.Places.{IsPlaceOf-begin, IsPlaceOf-next, IsPlaceOf-all}

@@ -1,6 +1,6 @@
 use Rattle.std.proofs.Common.{ℕ, List, take}
 use Rattle.elf_image.specs.faults.LowestPlace.{IsLowest}
-use Rattle.elf_image.specs.faults.ReferenceFaults.{IsNarrow}
+use Rattle.elf_code.specs.ReferenceFaults.{IsNarrow}
 use Rattle.rv_reloc.specs.Places.{IsPlaceOf}
 use Rattle.rv_reloc.specs.Records.{seen}
 use Rattle.rv_reloc.specs.WholeParts.{AreWholeParts}

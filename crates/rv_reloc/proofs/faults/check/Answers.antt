@@ -2,7 +2,7 @@ use Rattle.std.proofs.Common.{sym, arith}
 use Rattle.std.proofs.lemmas.Result.{err_from_is_err_and}
 use Rattle.rb_bytes.specs.declared.fault.FaultKind.TheVariants.{RelocType, RelocMismatch, LoMismatch, NarrowDiff, IfuncOrPlt}
 use Rattle.rb_bytes.specs.declared.fault.FaultKind.TheVariants.{AlreadyMoved}
-use Rattle.elf_image.specs.faults.ReferenceFaults.{HasReferenceFault}
+use Rattle.elf_code.specs.ReferenceFaults.{HasReferenceFault}
 use Rattle.elf_image.proofs.FaultOrder.{refused, refused-lacks, refused-fault, went_on, stopped}
 use Rattle.elf_image.proofs.LowestPlaces.{IsLowest-lower}
 use Rattle.rv_reloc.proofs.ReferenceFaultOrder.{lacks_others}

@@ -1,7 +1,7 @@
 use Rattle.std.proofs.Common.{◌≡◌, ◌∙◌, sym, ap, ◌+◌, ◌-◌, ◌-ℤ◌, ℤ, List, IsTrue, ◌↔◌, subst, rules, FitsSigned, to_z, of_z}
 use Rattle.std.specs.Int.{w128}
 use Rattle.std.proofs.lemmas.Int.{to_z-of_z}
-use Rattle.elf_image.specs.code.Fields.{HoldBits}
+use Rattle.elf_code.specs.Fields.{HoldBits}
 use Rattle.rv_reloc.specs.Tails.{AreLebBytes}
 use Rattle.rv_reloc.proofs.Lebs.{field-holds}
 use Rattle.rv_reloc.proofs.fields.holds_leb.Goals as goal

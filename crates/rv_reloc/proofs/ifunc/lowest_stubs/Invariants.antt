@@ -1,6 +1,6 @@
 use Rattle.std.proofs.Common.{◌≢◌, take}
 use Rattle.elf_image.specs.faults.LowestPlace.{IsLowest}
-use Rattle.elf_image.specs.faults.ReferenceFaults.{IsStubs}
+use Rattle.elf_code.specs.ReferenceFaults.{IsStubs}
 use Rattle.rv_reloc.specs.Places.{IsPlaceOf}
 use Rattle.rv_reloc.proofs.ifunc.lowest_stubs.Given as goal
 

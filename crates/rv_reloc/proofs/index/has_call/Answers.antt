@@ -1,4 +1,4 @@
-use Rattle.elf_image.specs.code.Relocations.{is_call_pair}
+use Rattle.elf_code.specs.Relocations.{is_call_pair}
 use Rattle.rv_reloc.specs.Index.{call_class}
 use Rattle.rv_reloc.proofs.Classes.{call-class}
 use Rattle.rv_reloc.proofs.Kept.{any-relocation}

@@ -1,4 +1,4 @@
-use Rattle.elf_image.specs.code.Relocations.{is_pcrel_hi}
+use Rattle.elf_code.specs.Relocations.{is_pcrel_hi}
 use Rattle.rv_reloc.specs.Index.{upper_class}
 use Rattle.rv_reloc.proofs.Classes.{upper-class}
 use Rattle.rv_reloc.proofs.Kept.{any-relocation}

@@ -1,5 +1,5 @@
 use Rattle.std.proofs.Common.{ap, Bool, ◌==◌, ◌&&◌}
-use Rattle.elf_image.specs.code.Cells.{is_plus}
+use Rattle.elf_code.specs.Cells.{is_plus}
 use Rattle.rv_reloc.specs.Labels.{width_of}
 use Rattle.rv_reloc.proofs.Classes.{plus-class}
 use Rattle.rv_reloc.proofs.Kept.{finds-only}

@@ -3,7 +3,7 @@ use Rattle.std.proofs.Common.{[], ◌∷◌, ◌++◌, length, slice_index, appe
 use Rattle.std.specs.Option.{unwrap_or}
 use Rattle.rb_lanes.specs.Marks.{ends_in_ones}
 use Rattle.elf_image.specs.declared.elf.Elf.{Elf}
-use Rattle.elf_image.specs.code.Parts.{length_at, halfword_at}
+use Rattle.elf_code.specs.Parts.{length_at, halfword_at}
 use Rattle.elf_image.specs.memory.LoadedBytes.{byte_at}
 use Rattle.rv_reloc.specs.Starts.{starts_from}
 use Rattle.rv_reloc.proofs.StartLists.{starts_from-next, starts_from-past}

@@ -1,6 +1,6 @@
 use Rattle.std.proofs.Common.{◌∙◌, sym, ap, subst, List}
 use Rattle.rv_code.specs.layout.Lists.{ListsNumbers}
-use Rattle.elf_image.specs.code.Parts.{IsStart}
+use Rattle.elf_code.specs.Parts.{IsStart}
 use Rattle.rv_reloc.specs.declared.parts.Part.{Part}
 use Rattle.rv_reloc.specs.Starts.{starts_of}
 use Rattle.rv_reloc.proofs.StartLists.{starts-list}

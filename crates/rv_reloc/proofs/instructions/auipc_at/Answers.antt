@@ -1,6 +1,6 @@
 use Rattle.std.proofs.Common.{◌∙◌, sym, ap, subst, Option, IfSome}
 use Rattle.rv_code.specs.declared.inst.Inst.TheVariants.{Auipc}
-use Rattle.elf_image.specs.code.Roles.{IsFullAt}
+use Rattle.elf_code.specs.Roles.{IsFullAt}
 use Rattle.rv_reloc.specs.declared.instructions.Upper.{Upper}
 use Rattle.rv_reloc.specs.Instructions.{auipc_of}
 use Rattle.rv_reloc.proofs.InstructionFields.{as_auipc}

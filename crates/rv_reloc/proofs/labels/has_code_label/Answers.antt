@@ -1,7 +1,7 @@
 use Rattle.std.proofs.Common.{rules, subst, ℤ, IsTrue, ◌↔◌, FitsSigned}
 use Rattle.std.specs.Int.{w128}
 use Rattle.std.proofs.lemmas.Int.{to_z-of_z}
-use Rattle.elf_image.specs.code.Cells.{IsCodeLabel}
+use Rattle.elf_code.specs.Cells.{IsCodeLabel}
 use Rattle.rv_reloc.proofs.CodeLabels.{either-first, either-second}
 use Rattle.rv_reloc.proofs.labels.has_code_label.Goals as goal
 

@@ -1,7 +1,7 @@
 use Rattle.std.proofs.Common.{◌≡◌, ◌∙◌, sym, ap, Option, Some, None, FitsSigned, w64, rules}
 use Rattle.std.proofs.lemmas.Int.{to_z-of_z}
 use Rattle.rv_code.specs.declared.inst.Inst.{Inst}
-use Rattle.elf_image.specs.code.Roles.{lower_immediate}
+use Rattle.elf_code.specs.Roles.{lower_immediate}
 use Rattle.rv_reloc.proofs.LowLists.{low_same}
 use Rattle.rv_reloc.proofs.lows.low_of.Goals as goal
 

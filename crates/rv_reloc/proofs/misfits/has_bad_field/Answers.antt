@@ -1,5 +1,5 @@
 use Rattle.std.proofs.Common.{◌≡◌, ◌∙◌, sym, refl, false, true, not, Bool, IsTrue, ◌↔◌}
-use Rattle.elf_image.specs.faults.ReferenceFaults.{IsBadField}
+use Rattle.elf_code.specs.ReferenceFaults.{IsBadField}
 use Rattle.rv_reloc.specs.Records.{seen}
 use Rattle.rv_reloc.proofs.MisfitCases.{bad_symbol, field_cases}
 use Rattle.rv_reloc.proofs.misfits.has_bad_field.Goals as goal

@@ -1,7 +1,7 @@
 use Rattle.std.proofs.Common.{◌≡◌, ◌∙◌, sym, ap, subst, refl, false, true, Some, FitsSigned, rules}
 use Rattle.std.specs.Int.{w128}
 use Rattle.std.proofs.lemmas.Int.{to_z-of_z}
-use Rattle.elf_image.specs.faults.ReferenceFaults.{IsAddress}
+use Rattle.elf_code.specs.ReferenceFaults.{IsAddress}
 use Rattle.rv_reloc.proofs.Options.{same_some, not_found}
 use Rattle.rv_reloc.proofs.pairs.far_of.Goals as goal
 

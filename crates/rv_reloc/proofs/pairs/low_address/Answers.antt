@@ -1,7 +1,7 @@
 use Rattle.std.proofs.Common.{◌∙◌, sym, subst, FitsSigned, rules}
 use Rattle.std.specs.Int.{w128}
 use Rattle.std.proofs.lemmas.Int.{to_z-of_z}
-use Rattle.elf_image.specs.faults.ReferenceFaults.{IsAddress}
+use Rattle.elf_code.specs.ReferenceFaults.{IsAddress}
 use Rattle.rv_reloc.specs.Pairs.{IsTargetOf}
 use Rattle.rv_reloc.proofs.Only.{some-only}
 use Rattle.rv_reloc.proofs.Options.{same_some, not_found}

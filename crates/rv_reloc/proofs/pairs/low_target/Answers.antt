@@ -1,7 +1,7 @@
 use Rattle.std.proofs.Common.{◌≡◌, ◌∙◌, sym, ap, ℕ, ℤ, Some, FitsSigned, w64, rules}
 use Rattle.std.specs.Int.{w128}
 use Rattle.std.proofs.lemmas.Int.{to_z-of_z}
-use Rattle.elf_image.specs.code.Roles.{pair_target}
+use Rattle.elf_code.specs.Roles.{pair_target}
 use Rattle.rv_reloc.specs.declared.instructions.Upper.{Upper}
 use Rattle.rv_reloc.proofs.Options.{same_some, not_found}
 use Rattle.rv_reloc.proofs.pairs.low_target.Goals as goal

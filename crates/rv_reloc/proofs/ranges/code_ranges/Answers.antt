@@ -4,7 +4,7 @@ use Rattle.elf_image.specs.declared.section.Section.{Section}
 use Rattle.elf_image.specs.declared.elf.Elf.{Elf}
 use Rattle.elf_image.specs.declared.extent.Extent.{Extent}
 use Rattle.elf_image.specs.file.Sections.{holds_code}
-use Rattle.elf_image.specs.code.Parts.{IsInCode}
+use Rattle.elf_code.specs.Parts.{IsInCode}
 use Rattle.elf_image.specs.internal.Extents.{IsInOneExtent}
 use Rattle.rv_reloc.specs.declared.ranges.Ranges.{Ranges}
 use Rattle.rv_reloc.specs.Ranges.{section_extent}

@@ -3,8 +3,8 @@ use Rattle.std.specs.List.{filter}
 use Rattle.elf_image.specs.declared.symbol.Symbol.{Symbol}
 use Rattle.elf_image.specs.declared.elf.Elf.{Elf}
 use Rattle.elf_image.specs.declared.extent.Extent.{Extent}
-use Rattle.elf_image.specs.code.Cuts.{names_function}
-use Rattle.elf_image.specs.code.Parts.{IsCovered}
+use Rattle.elf_image.specs.file.Cuts.{names_function}
+use Rattle.elf_code.specs.Parts.{IsCovered}
 use Rattle.elf_image.specs.internal.Extents.{IsInOneExtent}
 use Rattle.rv_reloc.specs.declared.ranges.Ranges.{Ranges}
 use Rattle.rv_reloc.specs.Ranges.{symbol_extent}

@@ -1,6 +1,6 @@
 use Rattle.std.proofs.Common.{◌∙◌, sym, ap, List, ◌++◌, ◌+◌, ◌*◌, ◌-◌, map, append-nil, arith}
 use Rattle.elf_image.specs.declared.relocation.TheConstants.{RELA_SIZE}
-use Rattle.elf_image.specs.code.Relocations.{Relocation}
+use Rattle.elf_code.specs.Relocations.{Relocation}
 use Rattle.rv_reloc.specs.Records.{seen}
 use Rattle.rv_reloc.proofs.Entries.{entries_from-none, entries_from-next, read_one}
 use Rattle.rv_reloc.proofs.records.push_entries.Goals as goal

@@ -1,6 +1,6 @@
 use Rattle.std.proofs.Common.{◌≡◌, ◌++◌, ◌+◌, ◌*◌, ◌-◌, map}
 use Rattle.elf_image.specs.declared.relocation.TheConstants.{RELA_SIZE}
-use Rattle.elf_image.specs.code.Relocations.{entries_from}
+use Rattle.elf_code.specs.Relocations.{entries_from}
 use Rattle.rv_reloc.specs.Records.{seen}
 use Rattle.rv_reloc.proofs.records.push_entries.Given as goal
 

@@ -1,5 +1,5 @@
 use Rattle.std.proofs.Common.{◌∙◌, sym, ap, List, ◌++◌, map, append-nil}
-use Rattle.elf_image.specs.code.Relocations.{Relocation}
+use Rattle.elf_code.specs.Relocations.{Relocation}
 use Rattle.rv_reloc.specs.Records.{seen}
 use Rattle.rv_reloc.proofs.Entries.{entries_for-empty}
 use Rattle.rv_reloc.proofs.records.push_entries_for.Goals as goal

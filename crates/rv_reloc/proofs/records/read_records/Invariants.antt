@@ -1,6 +1,6 @@
 use Rattle.std.proofs.Common.{◌≡◌, map, take}
 use Rattle.std.specs.List.{flat_map}
-use Rattle.elf_image.specs.code.Relocations.{entries_of}
+use Rattle.elf_code.specs.Relocations.{entries_of}
 use Rattle.rv_reloc.specs.Records.{seen}
 use Rattle.rv_reloc.proofs.records.read_records.Given as goal
 

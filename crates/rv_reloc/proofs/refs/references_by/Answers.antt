@@ -1,7 +1,7 @@
 use Rattle.std.proofs.Common.{sym, subst}
 use Rattle.std.proofs.lemmas.Result.{err_from_is_err_and}
-use Rattle.elf_image.specs.faults.FirstFault.{IsAnswered}
-use Rattle.elf_image.specs.faults.ReferenceFaults.{HasReferenceFault}
+use Rattle.rb_bytes.specs.FirstFault.{IsAnswered}
+use Rattle.elf_code.specs.ReferenceFaults.{HasReferenceFault}
 use Rattle.rv_reloc.specs.Parts.{ArePartsApart}
 use Rattle.rv_reloc.specs.Cells.{HasAddresses}
 use Rattle.rv_reloc.proofs.ReferenceFaultOrder.{asked, lacks_all, no_misfit, no_mismatch, all_addresses, passed_on, passed_from}

@@ -1,6 +1,6 @@
 use Rattle.std.proofs.Common.{◌≡◌, ◌∙◌, sym, Bool, true, false, refl, not, IsFalse, IsTrue, length, arith, ◌↔◌}
 use Rattle.std.proofs.lemmas.List.{get_or_default}
-use Rattle.elf_image.specs.code.Relocations.{Relocation, is_supported}
+use Rattle.elf_code.specs.Relocations.{Relocation, is_supported}
 use Rattle.rv_reloc.proofs.Faulty.{lowest-relocation}
 use Rattle.rv_reloc.proofs.Places.{IsPlaceOf-begin, IsPlaceOf-next, IsPlaceOf-all}
 use Rattle.rv_reloc.proofs.reloc_type.lowest_reloc_type.Goals as goal

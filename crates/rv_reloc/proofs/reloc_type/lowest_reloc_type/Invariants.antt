@@ -1,6 +1,6 @@
 use Rattle.std.proofs.Common.{take, IsFalse}
 use Rattle.elf_image.specs.faults.LowestPlace.{IsLowest}
-use Rattle.elf_image.specs.code.Relocations.{is_supported}
+use Rattle.elf_code.specs.Relocations.{is_supported}
 use Rattle.rv_reloc.specs.Places.{IsPlaceOf}
 use Rattle.rv_reloc.proofs.reloc_type.lowest_reloc_type.Given as goal
 

@@ -7,8 +7,9 @@ use Rattle.std.proofs.lemmas.Int.{to_z-of_z}
 use Rattle.std.proofs.lemmas.List.{get_or_default}
 use Rattle.rv_reloc.specs.declared.slots.SlotLabel.{SlotLabel}
 use Rattle.rv_reloc.specs.Slots.{IsLabelBelow, IsLabelFrom}
-use Rattle.rv_reloc.proofs.LabelOrder.{listed-first, same_labels}
+use Rattle.rv_reloc.proofs.LabelOrder.{listed-first}
 use Rattle.rv_reloc.proofs.slots.has_label.Goals as goal
+use Rattle.rb_bytes.proofs.Tests.{antisym}
 
 -- what is read past the end
 abbrev no_label : SlotLabel
@@ -30,7 +31,7 @@ found items place label z n same ordered bound below above listed =
     (λ (y : ℤ). (k : ℕ) (d : SlotLabel) → n ≤ k → k < length items → IsLabelFrom place y (slice_index_or items k d)) same above)
     listed in
     let default = get_or_default items n no_label target inside in
-    (inside, ap (λ (s : SlotLabel). s.place) default ∙ at, ap (λ (s : SlotLabel). s.label) default ∙ same_labels _ _ low high)
+    (inside, ap (λ (s : SlotLabel). s.place) default ∙ at, ap (λ (s : SlotLabel). s.label) default ∙ antisym _ _ low high)
 
 pub returns : goal.returns
 returns c =

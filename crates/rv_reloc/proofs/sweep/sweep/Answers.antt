@@ -1,6 +1,6 @@
 use Rattle.std.proofs.Common.{◌≡◌, ◌∙◌, sym, ap, subst, ℕ, ◌<◌, List, map, length, slice_index_or, arith}
 use Rattle.std.proofs.lemmas.List.{map-append, get_or-map, length-map}
-use Rattle.elf_image.specs.code.Cells.{Field}
+use Rattle.elf_code.specs.Cells.{Field}
 use Rattle.rv_reloc.specs.CountedFields.{as_field}
 use Rattle.rv_reloc.specs.declared.sweep.Candidate.{Candidate}
 use Rattle.rv_reloc.proofs.Sweeps.{IsSweptTo, IsSweptTo-begin, IsSweptTo-drops, IsSweptTo-pushed, IsSweptTo-all}

@@ -4,7 +4,7 @@ use Rattle.std.proofs.lemmas.Bool.{lt-ltb}
 use Rattle.std.proofs.lemmas.Int.{to_z-of_z}
 use Rattle.std.specs.Int.{w128}
 use Rattle.rb_bytes.specs.Leb.{low_bits, high_bits}
-use Rattle.elf_image.specs.code.Fields.{HoldBits}
+use Rattle.elf_code.specs.Fields.{HoldBits}
 use Rattle.rv_reloc.specs.Tails.{AreLebBytes, magnitude}
 use Rattle.rv_reloc.proofs.Lebs.{first-bits, last-bits, more-bits, unloaded-bytes, high-small}
 use Rattle.rv_reloc.proofs.tails.+holds_within.Goals as goal

@@ -1,5 +1,5 @@
 use Rattle.std.proofs.Common.{◌≡◌, subst, false, true, Bool, ◌↔◌, IsTrue}
-use Rattle.elf_image.specs.code.Relocations.{HasRelocation, is_pcrel_hi}
+use Rattle.elf_code.specs.Relocations.{HasRelocation, is_pcrel_hi}
 use Rattle.rv_reloc.proofs.UpperFaults.{upper-auipc}
 use Rattle.rv_reloc.proofs.Options.{not_found}
 use Rattle.rv_reloc.proofs.uppers.is_upper.Goals as goal

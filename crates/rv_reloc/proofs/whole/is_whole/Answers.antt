@@ -1,6 +1,6 @@
 use Rattle.std.proofs.Common.{ℕ, ◌↔◌}
 use Rattle.std.specs.List.{Contains}
-use Rattle.elf_image.specs.code.Parts.{StartsIn}
+use Rattle.elf_code.specs.Parts.{StartsIn}
 use Rattle.rv_reloc.proofs.WholeLookup.{StartsIn-inside, IsWholePart-starts}
 use Rattle.rv_reloc.proofs.whole.is_whole.Goals as goal
 

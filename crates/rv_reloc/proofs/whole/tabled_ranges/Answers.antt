@@ -1,7 +1,7 @@
 use Rattle.std.proofs.Common.{◌≡◌, ◌<◌, ◌+◌, ◌↔◌, ℕ, List, Result, Ok, Err, IfOk, map}
 use Rattle.std.specs.List.{Any}
 use Rattle.elf_image.specs.declared.extent.Extent.{Extent}
-use Rattle.elf_image.specs.code.Parts.{IsInTabled}
+use Rattle.elf_code.specs.Parts.{IsInTabled}
 use Rattle.elf_image.specs.internal.Extents.{IsInOneExtent}
 use Rattle.rv_reloc.specs.declared.ranges.Ranges.{Ranges}
 use Rattle.rv_reloc.specs.Ranges.{tabled_extent}

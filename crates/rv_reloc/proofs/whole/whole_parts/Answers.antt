@@ -1,10 +1,10 @@
 use Rattle.std.proofs.Common.{true, false, refl, arith}
 use Rattle.std.proofs.lemmas.List.Elements.{Contains-get_or}
-use Rattle.elf_image.specs.code.Parts.{IsWholePart}
+use Rattle.elf_code.specs.Parts.{IsWholePart}
 use Rattle.rv_reloc.specs.Parts.{Precedes}
 use Rattle.rv_reloc.proofs.Chosen.{chosen_keep, chosen_skip, chosen_all}
-use Rattle.rv_reloc.proofs.Either.{clash}
 use Rattle.rv_reloc.proofs.whole.whole_parts.Goals as goal
+use Rattle.rb_bytes.proofs.Tests.{clash}
 
 pub is_whole-requires-clause-part : goal.is_whole-requires-clause-part
 is_whole-requires-clause-part c =

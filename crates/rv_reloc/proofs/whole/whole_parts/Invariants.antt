@@ -1,4 +1,4 @@
-use Rattle.elf_image.specs.code.Parts.{IsWholePart}
+use Rattle.elf_code.specs.Parts.{IsWholePart}
 use Rattle.rv_reloc.specs.Parts.{Precedes}
 use Rattle.rv_reloc.proofs.Chosen.{ChosenOf}
 use Rattle.rv_reloc.proofs.whole.whole_parts.Given as goal

@@ -2,7 +2,7 @@ use Rattle.std.proofs.Common.{◌≡◌, ◌∙◌, sym, ap, Some, false}
 use Rattle.std.specs.List.{list_any}
 use Rattle.std.specs.Option.{option_map_or}
 use Rattle.elf_image.specs.memory.LoadedBytes.{is_in_range, file_offset}
-use Rattle.sym_machine.specs.HiddenFields.{hidden_fields}
+use Rattle.elf_image.specs.memory.HiddenFields.{hidden_fields}
 use Rattle.sym_machine.specs.internal.Fields.{range_of_field}
 use Rattle.sym_machine.proofs.StartFields.{list_any-map}
 use Rattle.sym_machine.proofs.hidden.is_hidden_field.Goals as goal

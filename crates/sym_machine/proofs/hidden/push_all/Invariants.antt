@@ -1,6 +1,6 @@
 use Rattle.std.proofs.Common.{◌≡◌, ◌++◌, drop, map}
 use Rattle.std.specs.List.{flat_map, enumerate_from}
-use Rattle.sym_machine.specs.HiddenFields.{hidden_in_segment}
+use Rattle.elf_image.specs.memory.HiddenFields.{hidden_in_segment}
 use Rattle.sym_machine.specs.internal.Fields.{range_of_field}
 use Rattle.sym_machine.proofs.hidden.push_all.Given as goal
 

@@ -3,8 +3,8 @@ use Rattle.std.specs.Prelude.{map, string_bytes, unwrap_or, if◌then◌else◌,
 use Rattle.rv_code.specs.machine.Machine.{put}
 use Rattle.elf_image.specs.file.Header.{segments_of}
 use Rattle.elf_image.specs.memory.Image.{image_byte}
-use Rattle.elf_image.specs.memory.Start.{break_start, in_stack, space_of, stack_bytes, stack_end, stack_pointer, start}
-use Rattle.elf_image.specs.memory.Start.{writable_end}
+use Rattle.elf_image.specs.memory.Break.{break_start, writable_end}
+use Rattle.rv_memory.specs.Start.{in_stack, space_of, stack_bytes, stack_end, stack_pointer, start}
 use Rattle.rv_memory.specs.Memory.{memory_of}
 use Rattle.run_core.proofs.SameStates.{same_state}
 use Rattle.elf_image.proofs.LowSegments.{low_end}

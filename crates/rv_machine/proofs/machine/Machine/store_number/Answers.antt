@@ -3,8 +3,8 @@ use Rattle.rv_code.specs.machine.Machine.{all_may, may_write, low_bytes, put}
 use Rattle.run_core.specs.States.{Same}
 use Rattle.rv_machine.specs.State.{state_of}
 use Rattle.rv_memory.proofs.Spaces.{space_in-keeps}
-use Rattle.rv_machine.proofs.Breaks.{from_err}
 use Rattle.rv_machine.proofs.machine.Machine.store_number.Goals as goal
+use Rattle.rb_bytes.proofs.Results.{from_err}
 
 pub returns : goal.returns
 returns c = λ input.

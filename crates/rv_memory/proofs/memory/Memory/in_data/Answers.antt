@@ -1,6 +1,6 @@
 use Rattle.std.proofs.Common.{◌≡◌, ◌+◌, ◌-◌, ◌<◌, ◌≤◌, ℕ, arith, true, refl}
 use Rattle.std.proofs.lemmas.Bool.{le-leb, lt-ltb}
-use Rattle.elf_image.specs.memory.Start.{in_stack, stack_end, stack_size}
+use Rattle.rv_memory.specs.Start.{in_stack, stack_end, stack_size}
 use Rattle.elf_image.specs.declared.segment.TheConstants.{PF_R, PF_W}
 use Rattle.elf_image.specs.memory.Image.{is_loaded_with}
 use Rattle.rv_memory.specs.Memory.{reads, writes, gained_by_break}

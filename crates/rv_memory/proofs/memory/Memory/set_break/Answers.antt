@@ -5,7 +5,7 @@ use Rattle.std.proofs.Common.{◌≡◌, true, refl}
 use Rattle.std.specs.Prelude.{unwrap_or}
 use Rattle.std.proofs.lemmas.Bool.{le-leb}
 use Rattle.elf_image.specs.memory.Image.{image_byte}
-use Rattle.elf_image.specs.memory.Start.{in_stack}
+use Rattle.rv_memory.specs.Start.{in_stack}
 use Rattle.rv_memory.specs.Memory.{may_stand}
 use Rattle.rv_memory.proofs.AddressRuns.{break_moved}
 use Rattle.rv_memory.proofs.memory.Memory.set_break.Goals as goal

@@ -4,7 +4,8 @@ use Rattle.std.proofs.lemmas.List.{length-map}
 use Rattle.rv_code.specs.machine.Machine.{put}
 use Rattle.elf_image.specs.file.Header.{segments_of}
 use Rattle.elf_image.specs.memory.Image.{image_byte}
-use Rattle.elf_image.specs.memory.Start.{in_stack, stack_bytes, stack_end, stack_pointer, start_memory, writable_end}
+use Rattle.elf_image.specs.memory.Break.{writable_end}
+use Rattle.rv_memory.specs.Start.{in_stack, stack_bytes, stack_end, stack_pointer, start_memory}
 use Rattle.elf_image.proofs.LowSegments.{low_end}
 use Rattle.rv_memory.specs.Memory.{memory_of}
 use Rattle.rv_memory.proofs.Spaces.{space_in-keeps}

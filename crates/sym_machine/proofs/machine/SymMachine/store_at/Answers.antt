@@ -4,7 +4,7 @@ use Rattle.rv_memory.proofs.Spaces.{space_in-keeps}
 use Rattle.run_core.specs.States.{Same}
 use Rattle.sym_machine.specs.MachineState.{state_of}
 use Rattle.sym_machine.specs.internal.Accesses.{stored_bytes}
-use Rattle.sym_machine.proofs.Options.{from_err}
+use Rattle.rb_bytes.proofs.Results.{from_err}
 use Rattle.sym_machine.proofs.machine.SymMachine.store_at.Goals as goal
 
 pub returns-clause-answer : goal.returns-clause-answer

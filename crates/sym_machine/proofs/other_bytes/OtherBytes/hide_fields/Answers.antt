@@ -3,11 +3,11 @@ use Rattle.std.specs.Prelude.{if◌then◌else◌, ◌&&◌}
 use Rattle.std.specs.List.{list_any}
 use Rattle.elf_image.specs.declared.segment.Segment.{Segment}
 use Rattle.sym_machine.specs.declared.value.MemoryByte.TheVariants.{Hidden}
-use Rattle.sym_machine.specs.HiddenFields.{is_hidden_field}
+use Rattle.elf_image.specs.memory.HiddenFields.{is_hidden_field}
 use Rattle.sym_machine.specs.internal.Fields.{range_of_field}
 use Rattle.sym_machine.specs.internal.SpecialBytes.{special, covers}
 use Rattle.sym_machine.proofs.StartFields.{hidden_everywhere}
-use Rattle.sym_machine.proofs.Options.{on_ok}
+use Rattle.rb_bytes.proofs.Results.{on_ok}
 use Rattle.sym_machine.proofs.other_bytes.OtherBytes.hide_fields.Goals as goal
 
 pub returns : goal.returns

@@ -1,6 +1,6 @@
 use Rattle.std.proofs.Common.{◌≡◌, ◌+◌, ℕ, Some, Bool, map}
 use Rattle.std.specs.Prelude.{◌&&◌, nat_le, nat_lt, if◌then◌else◌}
-use Rattle.sym_machine.specs.HiddenFields.{hidden_fields, is_hidden_field}
+use Rattle.elf_image.specs.memory.HiddenFields.{hidden_fields, is_hidden_field}
 use Rattle.sym_machine.specs.declared.value.MemoryByte.TheVariants.{Hidden}
 use Rattle.sym_machine.specs.internal.Fields.{range_of_field}
 use Rattle.sym_machine.specs.internal.SpecialBytes.{special}

@@ -1,7 +1,7 @@
 use Rattle.std.proofs.Common.{◌≡◌, ℕ, Some, Bool, map, take}
 use Rattle.std.specs.Prelude.{◌&&◌, if◌then◌else◌}
 use Rattle.std.specs.List.{list_any}
-use Rattle.sym_machine.specs.HiddenFields.{hidden_fields, is_hidden_field}
+use Rattle.elf_image.specs.memory.HiddenFields.{hidden_fields, is_hidden_field}
 use Rattle.sym_machine.specs.declared.value.MemoryByte.TheVariants.{Hidden}
 use Rattle.sym_machine.specs.internal.Fields.{range_of_field}
 use Rattle.sym_machine.specs.internal.SpecialBytes.{special, covers}

@@ -3,7 +3,8 @@ use Rattle.std.specs.Prelude.{if◌then◌else◌, ◌||◌}
 use Rattle.std.specs.Option.{option_or}
 use Rattle.sym_machine.specs.declared.value.MemoryByte.{MemoryByte}
 use Rattle.sym_machine.specs.declared.value.MemoryByte.TheVariants.{Hidden}
-use Rattle.sym_machine.specs.HiddenFields.{is_hidden_field, is_hidden_entry}
+use Rattle.elf_image.specs.memory.HiddenFields.{is_hidden_field}
+use Rattle.sym_machine.specs.HiddenEntries.{is_hidden_entry}
 use Rattle.sym_machine.specs.SymStart.{entry_byte, code_cell_byte}
 use Rattle.sym_machine.proofs.other_bytes.OtherBytes.start.Goals as goal
 

@@ -6,10 +6,10 @@ use Rattle.rv_code.specs.declared.cell.CodeCell.{CodeCell}
 use Rattle.rv_code.specs.layout.ProgramCode.{ProgramCode}
 use Rattle.rv_code.specs.layout.Lists.{ListsAll, ListsNumbers}
 use Rattle.elf_image.specs.declared.elf.Elf.{Elf}
-use Rattle.elf_image.specs.code.Roles.{HasRole}
-use Rattle.elf_image.specs.code.Cells.{IsCell}
-use Rattle.elf_image.specs.code.Functions.{AreFunctions}
-use Rattle.elf_image.specs.code.Parts.{IsStart}
+use Rattle.elf_code.specs.Roles.{HasRole}
+use Rattle.elf_code.specs.Cells.{IsCell}
+use Rattle.elf_code.specs.Functions.{AreFunctions}
+use Rattle.elf_code.specs.Parts.{IsStart}
 
 -- the starts of instructions, ascending
 abbrev pub AreStarts : Elf → List ℕ → Type 0

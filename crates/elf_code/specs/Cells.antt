@@ -8,11 +8,12 @@ use Rattle.rv_code.specs.declared.cell.CellKind.{CellKind}
 use Rattle.rv_code.specs.declared.cell.CellKind.TheVariants.{Abs, Diff}
 use Rattle.elf_image.specs.declared.elf.Elf.{Elf}
 use Rattle.elf_image.specs.declared.relocation.TheConstants.{R_RISCV_32, R_RISCV_GOT_HI20}
-use Rattle.elf_image.specs.memory.LoadedBytes.{loaded_number, file_offset, IsInHeaders}
-use Rattle.elf_image.specs.code.Parts.{IsStart, IsWholePart}
-use Rattle.elf_image.specs.code.Relocations.{Relocation, relocations, label, is_address, is_pc_difference, is_add, Width, Bits}
-use Rattle.elf_image.specs.code.Relocations.{Uleb128, plus_width, minus_width}
-use Rattle.elf_image.specs.code.Roles.{PcrelHiTo}
+use Rattle.elf_image.specs.memory.LoadedBytes.{file_offset, IsInHeaders}
+use Rattle.elf_code.specs.LoadedNumbers.{loaded_number}
+use Rattle.elf_code.specs.Parts.{IsStart, IsWholePart}
+use Rattle.elf_code.specs.Relocations.{Relocation, relocations, label, is_address, is_pc_difference, is_add, Width, Bits}
+use Rattle.elf_code.specs.Relocations.{Uleb128, plus_width, minus_width}
+use Rattle.elf_code.specs.Roles.{PcrelHiTo}
 
 -- Differences.
 

@@ -5,7 +5,7 @@ use Rattle.std.specs.Prelude.{unwrap_or}
 use Rattle.rv_code.specs.declared.inst.Inst.{Inst}
 use Rattle.rv_code.specs.isa.InstBytes.{Decodes}
 use Rattle.elf_image.specs.declared.elf.Elf.{Elf}
-use Rattle.elf_image.specs.code.Cuts.{IsCutAddress, names_function}
+use Rattle.elf_image.specs.file.Cuts.{IsCutAddress, names_function}
 use Rattle.elf_image.specs.file.Sections.{holds_code}
 use Rattle.elf_image.specs.memory.LoadedBytes.{byte_at}
 

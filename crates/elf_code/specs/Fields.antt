@@ -6,8 +6,9 @@ use Rattle.std.specs.Int.{int_rem_euclid}
 use Rattle.rb_bytes.specs.Leb.{is_last, low_bits, high_bits}
 use Rattle.elf_image.specs.declared.elf.Elf.{Elf}
 use Rattle.elf_image.specs.declared.relocation.TheConstants.{R_RISCV_64, R_RISCV_IRELATIVE}
-use Rattle.elf_image.specs.memory.LoadedBytes.{byte_at, loaded_number}
-use Rattle.elf_image.specs.code.Relocations.{Relocation, is_ignored, is_call_pair, Width, Bits, Uleb128, plus_width, minus_width}
+use Rattle.elf_image.specs.memory.LoadedBytes.{byte_at}
+use Rattle.elf_code.specs.LoadedNumbers.{loaded_number}
+use Rattle.elf_code.specs.Relocations.{Relocation, is_ignored, is_call_pair, Width, Bits, Uleb128, plus_width, minus_width}
 
 -- A number in LEB128.
 

@@ -1,52 +1,16 @@
--- How a program starts, and its runs. gABI, "Program Loading"; the stack and its auxiliary vector as the
--- System V ABI has them for other processors ("Process Initialization"), with Linux's AT_RANDOM. The bytes
--- of a file, of arguments and of input are below 256, and arguments hold no zero byte.
-use Rattle.std.specs.Prelude.{ℕ, ◌+◌, ◌-◌, ◌*◌, ◌/◌, ◌^◌, ◌&&◌, ◌||◌, ◌==◌, nat_lt, nat_le, if◌then◌else◌, Bool, List, [], ◌∷◌}
-use Rattle.std.specs.Prelude.{◌++◌, length, min, max, map, filter, fold, flat_map, find, replicate, slice_index, unwrap_or, codes}
-use Rattle.std.specs.Option.{option_map_or}
+-- How a program starts, and its runs. The stack and its auxiliary vector are as the System V ABI has them for other
+-- processors ("Process Initialization"), with Linux's AT_RANDOM. The bytes of a file, of arguments and of input are
+-- below 256, and arguments hold no zero byte.
+use Rattle.std.specs.Prelude.{ℕ, ◌+◌, ◌-◌, ◌*◌, ◌^◌, ◌&&◌, ◌||◌, ◌==◌, nat_lt, nat_le, if◌then◌else◌, Bool, List, [], ◌∷◌, ◌++◌}
+use Rattle.std.specs.Prelude.{length, flat_map, replicate, slice_index, unwrap_or, codes}
 use Rattle.rv_code.specs.machine.Machine.{Space, low_bytes, Event, Run, SoFar, HaltsAfter}
 use Rattle.rv_code.specs.declared.cause.Cause.{Cause}
 use Rattle.rv_code.specs.machine.Step.{ByteState, Steps}
 use Rattle.elf_image.specs.declared.segment.Segment.{Segment}
 use Rattle.elf_image.specs.declared.segment.TheConstants.{PF_R, PF_W, PF_X, PHDR_SIZE}
-use Rattle.elf_image.specs.file.Header.{e_entry, e_phoff, e_phnum, segments_of}
-use Rattle.elf_image.specs.memory.LoadedBytes.{Range, loads_range, address_in}
-use Rattle.elf_image.specs.memory.Image.{has_memory, end_of, image_byte, has_flag, is_loaded_with}
-
-abbrev pub page_size : ℕ
-page_size = 4096
-
-abbrev pub rounded_down : ℕ → ℕ → ℕ
-rounded_down unit n = n / unit * unit
-
-abbrev pub rounded_up : ℕ → ℕ → ℕ
-rounded_up unit n = (n + (unit - 1)) / unit * unit
-
--- The break, by the segments that are loaded and have at least one byte of memory.
-
--- the end of the highest writable one, 0 where none is writable
-abbrev pub writable_end : List Segment → ℕ
-writable_end segments = fold max 0 (map end_of (filter (λ p. has_memory p && has_flag PF_W p) segments))
-
--- the break starts there, on a whole page
-abbrev pub break_start : List Segment → ℕ
-break_start segments = rounded_up page_size (writable_end segments)
-
--- the most that it grows by
-abbrev pub break_room : ℕ
-break_room = 64 * 2 ^ 20
-
--- the pages on which the segments above start
-abbrev pub pages_above : List Segment → List ℕ
-pages_above segments =
-    map (λ p. rounded_down page_size p.vaddr) (filter (λ p. has_memory p && nat_le (writable_end segments) p.vaddr) segments)
-
--- It ends below the next segment, and never before its start. Without a writable segment it stays 0.
-abbrev pub break_bound : List Segment → ℕ
-break_bound segments =
-    if writable_end segments == 0
-    then 0
-    else max (break_start segments) (fold min (break_start segments + break_room) (pages_above segments))
+use Rattle.elf_image.specs.file.Header.{e_entry, e_phnum, segments_of}
+use Rattle.elf_image.specs.memory.Image.{image_byte, is_loaded_with}
+use Rattle.elf_image.specs.memory.Break.{rounded_down, table_address, break_bound, page_size, break_start}
 
 -- The stack: 8 MiB below 2 ^ 38.
 
@@ -81,13 +45,6 @@ texts_address args = random_address - length (texts args)
 abbrev pub text_addresses : ℕ → List (List ℕ) → List ℕ
 text_addresses a [] = []
 text_addresses a (text ∷ rest) = a ∷ text_addresses (a + length text + 1) rest
-
--- the table of program headers, and where it is loaded: 0 where no segment loads all of it from the file
-abbrev pub table_range : List ℕ → Range
-table_range file = record { start = e_phoff file; size = PHDR_SIZE * e_phnum file }
-
-abbrev pub table_address : List ℕ → ℕ
-table_address file = option_map_or (address_in (table_range file)) (find (loads_range (table_range file)) (segments_of file)) 0
 
 -- AT_PHDR, AT_PHENT, AT_PHNUM, AT_PAGESZ, AT_ENTRY, AT_RANDOM and AT_NULL, each with its value
 abbrev pub auxiliary_vector : List ℕ → List ℕ

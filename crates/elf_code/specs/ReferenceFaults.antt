@@ -13,14 +13,14 @@ use Rattle.elf_image.specs.declared.elf.Elf.{Elf}
 use Rattle.elf_image.specs.declared.section.Section.{Section}
 use Rattle.elf_image.specs.declared.relocation.TheConstants.{R_RISCV_GOT_HI20, R_RISCV_HI20, R_RISCV_IRELATIVE}
 use Rattle.elf_image.specs.declared.symbol.TheConstants.{STT_GNU_IFUNC}
-use Rattle.elf_image.specs.memory.LoadedBytes.{loaded_number}
+use Rattle.elf_code.specs.LoadedNumbers.{loaded_number}
 use Rattle.rv_code.specs.layout.FunctionLists.{address_end}
-use Rattle.elf_image.specs.code.Relocations.{Relocation, relocations, symbol_value, label, is_named, is_supported, is_call_pair}
-use Rattle.elf_image.specs.code.Relocations.{is_pcrel_hi, is_pcrel_lo, Width, plus_width, minus_width, HasRelocation}
-use Rattle.elf_image.specs.code.Roles.{IsFullAt, lower_immediate, CallPair, CallTo, PcrelLo, PcrelHiTo, AbsoluteTo, IsAbsoluteLow}
-use Rattle.elf_image.specs.code.Cells.{IsOnly, is_plus, is_minus, IsDifference, can_be_cell, IsCodeLabel, HasCodeLabel}
-use Rattle.elf_image.specs.code.Cells.{IsInOneWhole, Counts, Difference}
-use Rattle.elf_image.specs.code.Fields.{HasField, HoldsDifference}
+use Rattle.elf_code.specs.Relocations.{Relocation, relocations, symbol_value, label, is_named, is_supported, is_call_pair}
+use Rattle.elf_code.specs.Relocations.{is_pcrel_hi, is_pcrel_lo, Width, plus_width, minus_width, HasRelocation}
+use Rattle.elf_code.specs.Roles.{IsFullAt, lower_immediate, CallPair, CallTo, PcrelLo, PcrelHiTo, AbsoluteTo, IsAbsoluteLow}
+use Rattle.elf_code.specs.Cells.{IsOnly, is_plus, is_minus, IsDifference, can_be_cell, IsCodeLabel, HasCodeLabel}
+use Rattle.elf_code.specs.Cells.{IsInOneWhole, Counts, Difference}
+use Rattle.elf_code.specs.Fields.{HasField, HoldsDifference}
 
 -- A relocation of a type that isn't supported.
 abbrev pub IsRelocType : Elf → ℕ → Type 0

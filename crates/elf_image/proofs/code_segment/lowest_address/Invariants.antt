@@ -2,8 +2,8 @@ use Rattle.std.proofs.Common.{◌≡◌, ℕ, drop}
 use Rattle.std.specs.Prelude.{◌&&◌, ◌||◌, nat_lt}
 use Rattle.std.specs.List.{list_any}
 use Rattle.elf_image.specs.faults.SegmentLayout.{is_code_segment}
-use Rattle.sym_machine.specs.internal.Fields.{is_above}
-use Rattle.sym_machine.proofs.code_segment.lowest_address.Given as goal
+use Rattle.elf_image.specs.internal.LowestAddresses.{is_above}
+use Rattle.elf_image.proofs.code_segment.lowest_address.Given as goal
 
 abbrev pub invariant-loop-q : goal.invariant-loop-q
 invariant-loop-q l = (a : ℕ) →

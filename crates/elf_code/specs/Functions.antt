@@ -10,10 +10,10 @@ use Rattle.rv_code.specs.isa.Action.{action_of}
 use Rattle.rv_code.specs.layout.Flow.{target, falls}
 use Rattle.rv_code.specs.layout.ProgramCode.{RoleNames, CellNames}
 use Rattle.elf_image.specs.declared.elf.Elf.{Elf}
-use Rattle.elf_image.specs.code.Parts.{IsPart, IsCovered, IsCodePart, IsWholePart, StartsIn, HasValidInst, IsInstAt, halfword_at}
-use Rattle.elf_image.specs.code.Parts.{length_at}
-use Rattle.elf_image.specs.code.Roles.{HasRole, RoleIs}
-use Rattle.elf_image.specs.code.Cells.{IsCell}
+use Rattle.elf_code.specs.Parts.{IsPart, IsCovered, IsCodePart, IsWholePart, StartsIn, HasValidInst, IsInstAt, halfword_at}
+use Rattle.elf_code.specs.Parts.{length_at}
+use Rattle.elf_code.specs.Roles.{HasRole, RoleIs}
+use Rattle.elf_code.specs.Cells.{IsCell}
 
 -- C.NOP, or ADDI x0,x0,0. ISA manual, section 2.4 and the chapter on C, "NOP Instruction".
 abbrev pub IsNopAt : Elf → ℕ → Type 0

@@ -14,8 +14,8 @@ use Rattle.rv_code.specs.declared.placed.Role.TheVariants.{Plain, CallHi, CallLo
 use Rattle.rv_code.specs.isa.Action.{action_of}
 use Rattle.elf_image.specs.declared.elf.Elf.{Elf}
 use Rattle.elf_image.specs.declared.relocation.TheConstants.{R_RISCV_PCREL_LO12_I, R_RISCV_HI20, R_RISCV_LO12_I, R_RISCV_LO12_S}
-use Rattle.elf_image.specs.code.Parts.{HasInst, IsStart}
-use Rattle.elf_image.specs.code.Relocations.{Relocation, relocations, symbol_value, label, is_call_pair, is_pcrel_hi, is_pcrel_lo}
+use Rattle.elf_code.specs.Parts.{HasInst, IsStart}
+use Rattle.elf_code.specs.Relocations.{Relocation, relocations, symbol_value, label, is_call_pair, is_pcrel_hi, is_pcrel_lo}
 
 -- a four-byte instruction of a code part starts at an address
 pub record IsFullAt (elf : Elf) (a : ℕ) (inst : Inst) : Type 0 where

@@ -2,8 +2,8 @@
 use Rattle.std.specs.Prelude.{◌⊎◌, ℕ, List}
 use Rattle.rb_bytes.specs.declared.fault.FaultKind.{FaultKind}
 use Rattle.elf_image.specs.declared.elf.Elf.{Elf}
-use Rattle.elf_image.specs.faults.FunctionFaults.{HasFunctionFault}
-use Rattle.elf_image.specs.faults.ReferenceFaults.{HasReferenceFault}
+use Rattle.elf_code.specs.FunctionFaults.{HasFunctionFault}
+use Rattle.elf_code.specs.ReferenceFaults.{HasReferenceFault}
 
 -- the places of a fault, in a file of which some ranges have exception tables
 abbrev pub HasCodeFault : Elf → List (ℕ × ℕ) → FaultKind → ℕ → Type 0

@@ -1,7 +1,6 @@
--- Hidden fields: those in a file's headers that its rewriting changes, and what the stack says of them. The symbol machine
--- reads none of them.
-use Rattle.std.specs.Prelude.{ℕ, ◌+◌, ◌*◌, ◌==◌, ◌&&◌, ◌||◌, nat_le, if◌then◌else◌, Bool, false, List, []}
-use Rattle.std.specs.Prelude.{◌∷◌, ◌++◌, length, flat_map, is_none}
+-- Hidden fields: those in a file's headers that its rewriting changes. The symbol machine reads none of them.
+use Rattle.std.specs.Prelude.{ℕ, ◌+◌, ◌*◌, ◌==◌, ◌||◌, nat_le, if◌then◌else◌, Bool, false, List, []}
+use Rattle.std.specs.Prelude.{◌∷◌, ◌++◌, flat_map, is_none}
 use Rattle.std.specs.Option.{option_map_or}
 use Rattle.std.specs.List.{list_any, enumerate_from}
 use Rattle.elf_image.specs.declared.elf.Elf.{Elf}
@@ -9,7 +8,6 @@ use Rattle.elf_image.specs.declared.segment.Segment.{Segment}
 use Rattle.elf_image.specs.declared.segment.TheConstants.{PHDR_SIZE, PT_GNU_EH_FRAME}
 use Rattle.elf_image.specs.memory.CodeSegment.{executable_segment, executable_end}
 use Rattle.elf_image.specs.memory.LoadedBytes.{Range, is_in_range, address_of, file_offset}
-use Rattle.elf_image.specs.memory.Start.{program_arguments, stack_pointer}
 
 -- Fields of the headers, by their offsets. gABI, "ELF Header" and "Program Header".
 
@@ -45,6 +43,11 @@ only test range = if test then range ∷ [] else []
 abbrev pub is_executable_segment : Elf → ℕ → Bool
 is_executable_segment elf index = option_map_or (λ e. e.0 == index) (executable_segment elf.segments.items) false
 
+-- the byte at an address is one of the entry point's field, where that is loaded
+abbrev pub is_in_entry_field : Elf → ℕ → Bool
+is_in_entry_field file a =
+    option_map_or (λ start. is_in_range a (record { start = start; size = 8 })) (address_of file e_entry_field) false
+
 -- of the program header of an index: the sizes of the executable segment; the offset, where it is past that segment;
 -- and where the header of the unwind table stands (LSB, "PT_GNU_EH_FRAME")
 abbrev pub hidden_in_segment : Elf → ℕ × Segment → List Range
@@ -65,25 +68,7 @@ hidden_fields elf tight =
     ++ only (is_none (address_of elf e_entry_field)) e_entry_field
     ++ flat_map (hidden_in_segment elf) (enumerate_from 0 elf.segments.items)
 
--- the n-th value of the auxiliary vector, on the stack
-abbrev pub auxiliary_value : List (List ℕ) → ℕ → Range
-auxiliary_value args n = record { start = stack_pointer args + 8 * (length (program_arguments args) + 4 + 2 * n); size = 8 }
-
--- those of AT_PHDR, AT_PHNUM and AT_ENTRY
-abbrev pub at_phdr : List (List ℕ) → Range
-at_phdr args = auxiliary_value args 0
-
-abbrev pub at_phnum : List (List ℕ) → Range
-at_phnum args = auxiliary_value args 2
-
-abbrev pub at_entry : List (List ℕ) → Range
-at_entry args = auxiliary_value args 4
-
--- The byte at an address is one of a hidden field: one of a header, or in a tight file one of the two numbers on the stack
--- that speak of the table.
+-- the byte at an address is one of a hidden field
 abbrev pub is_hidden_field : Elf → Bool → ℕ → Bool
 is_hidden_field elf tight a =
     option_map_or (λ offset. list_any (is_in_range offset) (hidden_fields elf tight)) (file_offset elf.segments.items a) false
-
-abbrev pub is_hidden_entry : Bool → List (List ℕ) → ℕ → Bool
-is_hidden_entry tight args a = tight && (is_in_range a (at_phdr args) || is_in_range a (at_phnum args))

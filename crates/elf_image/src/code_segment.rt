@@ -3,9 +3,9 @@ ghost use Rattle.std.specs.Prelude.{◌≡◌, ◌&&◌, ◌||◌, ℕ, nat_lt};
 ghost use Rattle.std.specs.List.{list_any};
 ghost use Rattle.elf_image.specs.memory.CodeSegment.{executable_segment};
 ghost use Rattle.elf_image.specs.faults.SegmentLayout.{is_code_segment};
-ghost use Rattle.sym_machine.specs.internal.Fields.{is_above};
+ghost use Rattle.elf_image.specs.internal.LowestAddresses.{is_above};
 
-use elf_image::Segment;
+use crate::segment::Segment;
 
 // The lowest address of an executable segment.
 fn lowest_address(segments: &[Segment]) -> Option<u64>

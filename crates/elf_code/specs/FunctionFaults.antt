@@ -8,9 +8,9 @@ use Rattle.rv_code.specs.declared.placed.Role.TheVariants.{CallHi}
 use Rattle.rv_code.specs.isa.Action.{action_of}
 use Rattle.rv_code.specs.layout.Flow.{target}
 use Rattle.elf_image.specs.declared.elf.Elf.{Elf}
-use Rattle.elf_image.specs.code.Parts.{StartsIn, IsInstAt, HasValidInst}
-use Rattle.elf_image.specs.code.Roles.{HasRole, HasNoRole}
-use Rattle.elf_image.specs.code.Functions.{IsFunctionPart, IsCodeAddress}
+use Rattle.elf_code.specs.Parts.{StartsIn, IsInstAt, HasValidInst}
+use Rattle.elf_code.specs.Roles.{HasRole, HasNoRole}
+use Rattle.elf_code.specs.Functions.{IsFunctionPart, IsCodeAddress}
 
 -- The entry point starts no instruction of a function.
 pub record IsBadEntry (elf : Elf) (tabled : List (ℕ × ℕ)) (place : ℕ) : Type 0 where

@@ -1,8 +1,11 @@
 pub mod Cells
-pub mod Cuts
+pub mod CodeFaults
 pub mod Fields
 pub mod FileCode
+pub mod FunctionFaults
 pub mod Functions
+pub mod LoadedNumbers
 pub mod Parts
+pub mod ReferenceFaults
 pub mod Relocations
 pub mod Roles

@@ -1,13 +1,14 @@
 -- Options and lists: what a search finds or doesn't, lists of lists, lists of what a function gives, and items that go in pairs.
 use Rattle.std.proofs.Common.{◌≡◌, ℕ, zero, suc, ◌<◌, List, [], ◌∷◌, ◌++◌, length, map, Option, Some, None, Bool, true, false}
 use Rattle.std.proofs.Common.{cond, refl, sym, ap, ◌∙◌, subst, arith, inl, inr, ◌⊎◌, All, get_or}
-use Rattle.std.specs.Prelude.{AllPairs, Contains, IfSome, find, flat_map, slice_index_or, ◌||◌}
+use Rattle.std.specs.Prelude.{AllPairs, Contains, IfSome, find, flat_map, slice_index_or, ◌||◌, slice_index, replicate}
+use Rattle.std.specs.Prelude.{slice_get}
 use Rattle.std.specs.List.{list_any}
 use Rattle.std.proofs.lemmas.Bool.{cases_order}
 use Rattle.std.proofs.lemmas.List.{get_or-map, get_or_default, length-map}
 use Rattle.std.proofs.lemmas.List.Elements.{Contains-append_cases, Contains-append_left, Contains-append_right, Contains-get_or}
 use Rattle.std.proofs.lemmas.List.Kept.{AllPairs-cons}
-use Rattle.elf_image.proofs.LoadLemmas.{find-finds}
+use Rattle.rb_bytes.proofs.Searches.{find-finds}
 use Rattle.rb_bytes.proofs.Members.{Contains-cons_cases, Contains-there}
 
 -- what holds of the value, if there is one, holds of this one
@@ -151,3 +152,18 @@ one_of {X} R xs x y pairs (i, i_in, i_is) (j, j_in, j_is) not_xy not_yx =
     pair2 : (j i : ℕ) → j < i → slice_index_or xs j x ≡ y → slice_index_or xs i x ≡ x →
         R (slice_index_or xs j x) (slice_index_or xs i x) → R y x
     pair2 j i l a b h = subst (λ (t : X). R y t) b (subst (λ (t : X). R t (slice_index_or xs i x)) a h)
+
+pub zeros : (k n : ℕ) → slice_index (replicate k 0) n ≡ 0
+zeros zero n = refl
+zeros (suc k) zero = refl
+zeros (suc k) (suc n) = zeros k n
+
+pub slice_get_found : {A : Type 0} (xs : List A) (i : ℕ) → i < length xs → (x : A) × (slice_get xs i ≡ Some x)
+slice_get_found [] i within = absurd (omega arith)
+slice_get_found (x ∷ xs) zero within = (x, refl)
+slice_get_found (x ∷ xs) (suc i) within = slice_get_found xs i (omega arith)
+
+-- an element of a list that has one
+pub any_element : {X : Type 0} (xs : List X) (k : ℕ) → k < length xs → X
+any_element [] k within = absurd (omega arith)
+any_element (x ∷ xs) k within = x

@@ -1,0 +1,30 @@
+-- Types of relocations, on small examples: each equation holds by computing.
+use Rattle.std.specs.Prelude.{◌≡◌, Some, None, true, false, refl}
+use Rattle.elf_code.specs.Relocations.{is_supported, Bits, Uleb128, plus_width, minus_width}
+
+-- 61 is the greatest that is supported
+uleb_is_supported : is_supported 61 ≡ true
+uleb_is_supported = refl
+
+next_is_not : is_supported 62 ≡ false
+next_is_not = refl
+
+-- COPY, which only a dynamic linker knows
+copy_is_not : is_supported 4 ≡ false
+copy_is_not = refl
+
+-- SET32 and SUB32 have one width, and so have ADD32 and SUB32
+width_of_set32 : plus_width 56 ≡ Some (Bits 32)
+width_of_set32 = refl
+
+width_of_sub32 : minus_width 39 ≡ Some (Bits 32)
+width_of_sub32 = refl
+
+width_of_sub6 : minus_width 52 ≡ Some (Bits 6)
+width_of_sub6 = refl
+
+width_of_set_uleb : plus_width 60 ≡ Some Uleb128
+width_of_set_uleb = refl
+
+sub_adds_nothing : plus_width 39 ≡ None
+sub_adds_nothing = refl

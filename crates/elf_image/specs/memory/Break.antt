@@ -1,0 +1,51 @@
+-- Where a program's break starts, and how far it goes; and where its table of program headers is loaded.
+use Rattle.std.specs.Prelude.{ℕ, ◌+◌, ◌-◌, ◌*◌, ◌/◌, ◌^◌, ◌&&◌, ◌==◌, nat_le, if◌then◌else◌, List}
+use Rattle.std.specs.Prelude.{min, max, map, filter, fold, find}
+use Rattle.std.specs.Option.{option_map_or}
+use Rattle.elf_image.specs.declared.segment.Segment.{Segment}
+use Rattle.elf_image.specs.declared.segment.TheConstants.{PF_W, PHDR_SIZE}
+use Rattle.elf_image.specs.file.Header.{e_phoff, e_phnum, segments_of}
+use Rattle.elf_image.specs.memory.LoadedBytes.{Range, loads_range, address_in}
+use Rattle.elf_image.specs.memory.Image.{has_memory, end_of, has_flag}
+
+abbrev pub page_size : ℕ
+page_size = 4096
+
+abbrev pub rounded_down : ℕ → ℕ → ℕ
+rounded_down unit n = n / unit * unit
+
+abbrev pub rounded_up : ℕ → ℕ → ℕ
+rounded_up unit n = (n + (unit - 1)) / unit * unit
+
+-- The break, by the segments that are loaded and have at least one byte of memory.
+
+-- the end of the highest writable one, 0 where none is writable
+abbrev pub writable_end : List Segment → ℕ
+writable_end segments = fold max 0 (map end_of (filter (λ p. has_memory p && has_flag PF_W p) segments))
+
+-- the break starts there, on a whole page
+abbrev pub break_start : List Segment → ℕ
+break_start segments = rounded_up page_size (writable_end segments)
+
+-- the most that it grows by
+abbrev pub break_room : ℕ
+break_room = 64 * 2 ^ 20
+
+-- the pages on which the segments above start
+abbrev pub pages_above : List Segment → List ℕ
+pages_above segments =
+    map (λ p. rounded_down page_size p.vaddr) (filter (λ p. has_memory p && nat_le (writable_end segments) p.vaddr) segments)
+
+-- It ends below the next segment, and never before its start. Without a writable segment it stays 0.
+abbrev pub break_bound : List Segment → ℕ
+break_bound segments =
+    if writable_end segments == 0
+    then 0
+    else max (break_start segments) (fold min (break_start segments + break_room) (pages_above segments))
+
+-- the table of program headers, and where it is loaded: 0 where no segment loads all of it from the file
+abbrev pub table_range : List ℕ → Range
+table_range file = record { start = e_phoff file; size = PHDR_SIZE * e_phnum file }
+
+abbrev pub table_address : List ℕ → ℕ
+table_address file = option_map_or (address_in (table_range file)) (find (loads_range (table_range file)) (segments_of file)) 0
