@@ -1,32 +1,12 @@
-//! The program: it reads its arguments, does the command, and ends with the number of the answer.
+//! The program: it does what its arguments say, and ends with the number of the answer.
 #![tactic(auto)]
 
-mod byte_run;
-mod closing;
-mod command_line;
-mod frames;
-mod inputs;
-mod lines;
 mod permissions;
-mod print_map;
-mod printing;
-mod record_code;
-mod recording;
-mod refusal;
-mod rewrite;
-mod run;
-mod run_file;
-mod serving;
-mod status;
-mod symbol_code;
-mod symbol_run;
-#[cfg(test)]
-mod tests;
-mod tool;
 
 use crate::permissions::keep_permissions;
-use crate::serving::serve;
-use crate::status::Status;
+use bolt_tool::serve;
+pub use bolt_tool::tool;
+use cli_base::Status;
 use rb_io::{HostFiles, HostSink, HostSource};
 use std::env;
 use std::process::ExitCode;

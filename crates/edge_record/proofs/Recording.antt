@@ -11,7 +11,7 @@ use Rattle.std.proofs.lemmas.Option.{get_or_from_slice_get, slice_get_within}
 use Rattle.run_core.specs.Answers.{Answer}
 use Rattle.run_core.specs.Answers as answer
 use Rattle.run_core.specs.Inputs.{Outside, as_told}
-use Rattle.run_core.proofs.Told.{append_known-nil, told, told_is}
+use Rattle.run_core.proofs.Told.{append_known-nil, none_told, told, told_is}
 use Rattle.run_core.proofs.Walking.{output-nil}
 use Rattle.rv_code.specs.declared.cause.Cause.{Cause}
 use Rattle.rv_code.specs.declared.placed.Func.{Func}
@@ -47,6 +47,7 @@ pub nothing_done : (start : List ℕ → ByteState) (limit : ℕ) (outside : Out
 nothing_done start limit outside reads = record {
   input = told outside.input.left;
   input_is = told_is outside.input.left;
+  input_bytes = none_told outside.input.left;
   steps = 0;
   within = omega arith;
   trace = [];
@@ -220,6 +221,7 @@ module _ (start : List ℕ → ByteState) (limit : ℕ) (fits : limit < 2 ^ 64) 
       record {
         input = w.runs.input;
         input_is = w.runs.input_is;
+        input_bytes = w.runs.input_bytes;
         steps = n;
         within = omega (arith, w.runs.answers.0);
         trace = ran.trace;
@@ -233,6 +235,7 @@ module _ (start : List ℕ → ByteState) (limit : ℕ) (fits : limit < 2 ^ 64) 
       record {
         input = w.runs.input;
         input_is = w.runs.input_is;
+        input_bytes = w.runs.input_bytes;
         steps = ran.run.before;
         within = omega (arith, w.runs.answers.0, ran.run.last);
         trace = ran.trace;
@@ -246,6 +249,7 @@ module _ (start : List ℕ → ByteState) (limit : ℕ) (fits : limit < 2 ^ 64) 
       record {
         input = w.runs.input;
         input_is = w.runs.input_is;
+        input_bytes = w.runs.input_bytes;
         steps = n;
         within = omega (arith, w.runs.answers.0);
         trace = ran.trace;

@@ -8,7 +8,7 @@ use Rattle.run_core.specs.Answers as answer
 use Rattle.run_core.specs.Inputs.{Outside, MayCome}
 use Rattle.run_core.specs.Runs.{steps_done}
 use Rattle.run_core.specs.StepAnswers.{StepAnswers, StepGoes, StepStops}
-use Rattle.run_core.proofs.Told.{as_told-prepend, told, told_before, told_is, told_may_come}
+use Rattle.run_core.proofs.Told.{as_told-prepend, told, told_before, told_bytes, told_is, told_may_come}
 use Rattle.run_core.proofs.Walking.{Walk, ends_run, fails_at_read, fails_at_write, halts_run, may_before, no_step, step_more}
 use Rattle.run_core.proofs.Walking.{steps_up}
 use Rattle.rv_code.specs.declared.cause.Cause.{Cause}
@@ -76,6 +76,7 @@ module _ (counts : Move → Bool) (old : Machine) (before : Outside) where
       record {
         input = walk.read ++ rest;
         input_is = told_before before.input.left after.input.left walk.read rest walk.read_is (told_is after.input.left);
+        input_bytes = told_bytes before.input.left after.input.left walk.read walk.read_is walk.bytes;
         steps = n;
         within = within;
         trace = c.trace;

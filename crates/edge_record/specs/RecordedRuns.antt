@@ -9,7 +9,7 @@ use Rattle.rv_code.specs.machine.Step.{ByteState, Steps}
 use Rattle.elf_image.specs.declared.elf.Elf.{Elf}
 use Rattle.run_core.specs.Answers.{Answer}
 use Rattle.run_core.specs.Answers as answer
-use Rattle.run_core.specs.Inputs.{Outside, as_told}
+use Rattle.run_core.specs.Inputs.{AreSomeBytes, Outside, as_told}
 use Rattle.run_core.specs.Runs.{RunsSomeInput}
 use Rattle.rv_machine.specs.State.{state_of}
 use Rattle.rv_machine.specs.declared.machine.Machine.{Machine}
@@ -32,6 +32,7 @@ module _ (start : List ℕ → ByteState) (limit : ℕ) (before after : Outside)
   pub record RecordStops : Type 0 where
     pub input : List ℕ
     pub input_is : before.input.left ≡ as_told before.input.left input
+    pub input_bytes : AreSomeBytes before.input.left input
     pub steps : ℕ
     pub within : steps ≤ limit
     pub trace : List Event

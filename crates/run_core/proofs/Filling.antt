@@ -1,8 +1,15 @@
 -- Bytes that are read piece by piece.
-use Rattle.std.proofs.Common.{◌≡◌, ◌+◌, ◌∙◌, sym, ap, ℕ, List, Option, length, take, ◌++◌}
+use Rattle.std.proofs.Common.{◌≡◌, ◌+◌, ◌∙◌, ◌<◌, sym, ap, subst, ℕ, List, Option, length, take, get_or, ◌++◌, Fits, w8}
+use Rattle.std.specs.Prelude.{All}
+use Rattle.std.proofs.Math.Facts.{Fits-lt-pow}
+use Rattle.std.proofs.lemmas.List.{get_or_default}
 use Rattle.std.proofs.Math.Seq.{take-append-add}
 use Rattle.std.specs.Io.KnownBytes.{prepend_known}
 use Rattle.run_core.proofs.Told.{prepend_known-append}
+
+-- what a slice of bytes holds are bytes
+pub are_bytes : (xs : List ℕ) → ((i : ℕ) → Fits w8 (get_or xs i 0)) → All (λ b. b < 256) xs
+are_bytes xs fit = λ k d below. subst (λ n. n < 256) (get_or_default xs k 0 d below) (Fits-lt-pow (fit k))
 
 -- what was read fills the front of a buffer, and n more bytes stand at the front of the rest
 pub prepend_known-more : (a b c : Option (List ℕ)) (front filled rest : List ℕ) (d n : ℕ) → length front ≡ d → front ≡ filled →

@@ -1,6 +1,7 @@
 -- Answers of steps that neither read input nor write output.
 use Rattle.std.proofs.Common.{◌≡◌, ℕ, List, [], ◌++◌, Option, Some, None, Bool, true, false, refl, sym, subst}
-use Rattle.std.specs.Prelude.{if◌then◌else◌, ◌==◌}
+use Rattle.std.specs.Prelude.{◌<◌, if◌then◌else◌, ◌==◌}
+use Rattle.std.proofs.lemmas.List.Elements.{All-nil}
 use Rattle.std.specs.Io.KnownBytes.{append_known}
 use Rattle.rv_code.specs.machine.Machine.{State, Event, events, output, Outcome, Going, Ended, Halts}
 use Rattle.run_core.specs.Answers.{Answer}
@@ -77,6 +78,7 @@ module _ {M V X C : Type 0} (state_of : M → List ℕ → State V X) where
         → StepAnswers state_of step a old new ended ended outside outside
     quiet_answers effect answer.Going ended outside steps becomes = record {
       read = [];
+      bytes = All-nil (λ b. b < 256);
       goes_on = λ rest may.
           let went = goes (state_of old rest) (effect (state_of old rest)) rest (steps rest) (becomes rest) in
           record {
@@ -120,6 +122,7 @@ module _ {M V X C : Type 0} (state_of : M → List ℕ → State V X) where
         StepAnswers state_of other a old new ended ends before after
     answers_by answer.Going a = record {
       read = a.read;
+      bytes = a.bytes;
       goes_on = λ rest may.
           let g = a.goes_on rest may in
           record { event = g.event; comes_to = implies (a.read ++ rest) _ g.comes_to; taken_is = g.taken_is };

@@ -1,7 +1,9 @@
 -- What a source tells of its bytes, and a sink of what it took.
-use Rattle.std.proofs.Common.{◌≡◌, ◌∙◌, refl, sym, ap, ℕ, List, [], ◌++◌, Option, Some, None, Bool, append-nil, append_assoc}
+use Rattle.std.proofs.Common.{◌≡◌, ◌∙◌, ◌<◌, refl, sym, ap, ℕ, List, [], ◌++◌, Option, Some, None, Bool, append-nil, append_assoc}
+use Rattle.std.specs.Prelude.{All}
+use Rattle.std.proofs.lemmas.List.Elements.{All-append, All-nil}
 use Rattle.std.specs.Io.KnownBytes.{append_known, prepend_known, IsAtEnd}
-use Rattle.run_core.specs.Inputs.{as_told, MayCome, IsRightly}
+use Rattle.run_core.specs.Inputs.{as_told, AreSomeBytes, MayCome, IsRightly}
 
 -- some bytes that a source may have, which are what it tells where it tells them
 abbrev pub told : Option (List ℕ) → List ℕ
@@ -32,6 +34,17 @@ pub prepend_known-append : (xs ys : List ℕ) (known : Option (List ℕ)) →
     prepend_known xs (prepend_known ys known) ≡ prepend_known (xs ++ ys) known
 prepend_known-append xs ys None = refl
 prepend_known-append xs ys (Some zs) = ap Some (sym (append_assoc xs ys zs))
+
+-- bytes that were read, and then what is told of the rest
+pub told_bytes : (before after : Option (List ℕ)) (read : List ℕ) → before ≡ prepend_known read after →
+    All (λ b. b < 256) read → AreSomeBytes before (read ++ told after)
+told_bytes before None read is bytes = λ untold. All-append (λ b. b < 256) read [] bytes (All-nil (λ b. b < 256))
+told_bytes before (Some rest) read is bytes = λ untold. absurd (cc)
+
+-- nothing was read
+pub none_told : (known : Option (List ℕ)) → AreSomeBytes known (told known)
+none_told None = λ untold. All-nil (λ b. b < 256)
+none_told (Some bytes) = λ untold. absurd (cc)
 
 -- before it lost some bytes
 pub told_before : (before after : Option (List ℕ)) (read rest : List ℕ) → before ≡ prepend_known read after →

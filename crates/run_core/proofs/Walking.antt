@@ -1,7 +1,8 @@
 -- Steps after steps: what a loop over a machine's steps keeps, and what it comes to.
 use Rattle.std.proofs.Common.{◌≡◌, ◌∙◌, ◌+◌, ◌<◌, ◌≤◌, ℕ, suc, List, [], ◌∷◌, ◌++◌, Bool, false, Option, refl, sym, ap, subst}
 use Rattle.std.proofs.Common.{arith, append_assoc, take}
-use Rattle.std.specs.Prelude.{if◌then◌else◌, ◌==◌}
+use Rattle.std.proofs.lemmas.List.Elements.{All-append, All-nil}
+use Rattle.std.specs.Prelude.{All, if◌then◌else◌, ◌==◌}
 use Rattle.std.specs.Io.KnownBytes.{append_known, prepend_known}
 use Rattle.rb_io.proofs.Printing.{append_known-append}
 use Rattle.rv_code.specs.machine.DeterminedRuns.{HasOneOutcome, IsDetermined, IsStop}
@@ -9,11 +10,11 @@ use Rattle.rv_code.specs.machine.Machine.{Event, events, output, Outcome, Ended,
 use Rattle.rv_code.proofs.machine.OnlyRuns.{fewer, more_determined, stop_determines}
 use Rattle.run_core.specs.Answers.{Answer}
 use Rattle.run_core.specs.Answers as answer
-use Rattle.run_core.specs.Inputs.{Outside, as_told, MayCome, IsRightly}
+use Rattle.run_core.specs.Inputs.{AreSomeBytes, Outside, as_told, MayCome, IsRightly}
 use Rattle.run_core.specs.Runs.{RunsSomeInput, steps_done}
 use Rattle.run_core.specs.StepAnswers.{StepAnswers, StepGoes, StepStops, FailsToRead, FailsToWrite, RanOut}
 use Rattle.run_core.proofs.Told.{told, told_is, told_may_come, told_before, as_told-prepend, prepend_known-nil}
-use Rattle.run_core.proofs.Told.{prepend_known-append, append_known-nil}
+use Rattle.run_core.proofs.Told.{prepend_known-append, append_known-nil, told_bytes}
 
 pub output-append : (es fs : List Event) → output (es ++ fs) ≡ output es ++ output fs
 unfolding output
@@ -36,6 +37,7 @@ module _ {M S C : Type 0} (state_of : M → List ℕ → S) (step : S → Outcom
   -- n steps read some bytes and come to this machine, whatever comes after these
   pub record Walk (now : M) (ended : Bool) (n : ℕ) (after : Outside) : Type 0 where
     pub read : List ℕ
+    pub bytes : All (λ b. b < 256) read
     pub came : (rest : List ℕ) → MayCome ended rest → Came now (read ++ rest) rest n after
     pub read_is : before.input.left ≡ prepend_known read after.input.left
     pub end_is : IsRightly ended after.input.left
@@ -47,6 +49,7 @@ module _ {M S C : Type 0} (state_of : M → List ℕ → S) (step : S → Outcom
   abbrev pub no_step : (ended : Bool) → ended ≡ false → Walk old ended 0 before
   no_step ended none = record {
     read = [];
+    bytes = All-nil (λ b. b < 256);
     came = λ rest may. record {
       trace = [];
       so_far = starts;
@@ -76,6 +79,7 @@ module _ {M S C : Type 0} (state_of : M → List ℕ → S) (step : S → Outcom
         Walk new ends (n + 1) after
     step_more new ends after goes = record {
       read = walk.read ++ goes.read;
+      bytes = All-append (λ b. b < 256) walk.read goes.read walk.bytes goes.bytes;
       came = λ rest may.
           let c = walk.came (goes.read ++ rest) (may_before new ends after goes rest may) in
           let g = goes.goes_on rest may in
@@ -114,6 +118,9 @@ module _ {M S C : Type 0} (state_of : M → List ℕ → S) (step : S → Outcom
     pub input_now_is : before.input.left ≡ as_told before.input.left input_now
     input_now_is = told_before before.input.left between.input.left walk.read rest_now walk.read_is (told_is between.input.left)
 
+    pub input_bytes_now : AreSomeBytes before.input.left input_now
+    input_bytes_now = told_bytes before.input.left between.input.left walk.read walk.read_is walk.bytes
+
     pub rest_now_is : between.input.left ≡ as_told before.input.left rest_now
     rest_now_is =
         told_is between.input.left ∙ as_told-prepend before.input.left between.input.left walk.read rest_now walk.read_is
@@ -134,6 +141,7 @@ module _ {M S C : Type 0} (state_of : M → List ℕ → S) (step : S → Outcom
       ends_run status stops = record {
         input = input_now;
         input_is = input_now_is;
+        input_bytes = input_bytes_now;
         answers = (
           omega (arith, below),
           record {
@@ -159,6 +167,7 @@ module _ {M S C : Type 0} (state_of : M → List ℕ → S) (step : S → Outcom
       halts_run pc cause stops = record {
         input = input_now;
         input_is = input_now_is;
+        input_bytes = input_bytes_now;
         answers = (
           below,
           record {
@@ -178,6 +187,7 @@ module _ {M S C : Type 0} (state_of : M → List ℕ → S) (step : S → Outcom
       fails_at_read rise fails = record {
         input = input_now;
         input_is = input_now_is;
+        input_bytes = input_bytes_now;
         answers = (
           below,
           record {
@@ -198,6 +208,7 @@ module _ {M S C : Type 0} (state_of : M → List ℕ → S) (step : S → Outcom
       fails_at_write rise fails = record {
         input = input_now;
         input_is = input_now_is;
+        input_bytes = input_bytes_now;
         answers = (
           below,
           record {
@@ -229,6 +240,7 @@ module _ {M S C : Type 0} (state_of : M → List ℕ → S) (step : S → Outcom
       runs_out out = record {
         input = input_now;
         input_is = input_now_is;
+        input_bytes = input_bytes_now;
         answers = (
           below,
           record {
@@ -264,6 +276,7 @@ module _ {M S C : Type 0} (state_of : M → List ℕ → S) (step : S → Outcom
       record {
         input = walk.read ++ rest;
         input_is = told_before before.input.left after.input.left walk.read rest walk.read_is (told_is after.input.left);
+        input_bytes = told_bytes before.input.left after.input.left walk.read walk.read_is walk.bytes;
         answers = (
           up,
           record {

@@ -1,5 +1,5 @@
 -- The input of a run: the bytes of a source that may not tell them, up to where it was found at its end.
-use Rattle.std.specs.Prelude.{◌≡◌, ℕ, List, [], Bool, true, Option, None, Some}
+use Rattle.std.specs.Prelude.{◌≡◌, ◌<◌, ℕ, All, List, [], Bool, true, Option, None, Some}
 use Rattle.std.specs.Io.KnownBytes.{IsAtEnd}
 use Rattle.rb_io.specs.Views.{SourceSeen, SinkSeen}
 
@@ -16,6 +16,10 @@ outside_of input output = record { input = input; output = output }
 abbrev pub as_told : Option (List ℕ) → List ℕ → Option (List ℕ)
 as_told None bytes = None
 as_told (Some told) bytes = Some bytes
+
+-- where a source doesn't tell its bytes, these are some that it may have
+abbrev pub AreSomeBytes : Option (List ℕ) → List ℕ → Type 0
+AreSomeBytes known bytes = known ≡ None → All (λ b. b < 256) bytes
 
 -- The source was found at its end, or it wasn't.
 

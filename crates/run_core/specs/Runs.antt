@@ -6,7 +6,7 @@ use Rattle.rv_code.specs.machine.DeterminedRuns.{IsDetermined}
 use Rattle.rv_code.specs.machine.Machine.{Event, output, Outcome, SoFar, Run, HaltsAfter}
 use Rattle.run_core.specs.Answers.{Answer}
 use Rattle.run_core.specs.Answers as answer
-use Rattle.run_core.specs.Inputs.{Outside, as_told}
+use Rattle.run_core.specs.Inputs.{AreSomeBytes, Outside, as_told}
 use Rattle.run_core.specs.StepAnswers.{AsksInput, GivesOutput}
 
 -- The steps that are done, where the step after the first n comes to the answer. One that ends is counted, and one that
@@ -111,5 +111,6 @@ module _ {M S C : Type 0} (state_of : M → List ℕ → S) (step : S → Outcom
   pub record RunsSomeInput (answer : Answer C) (limit n : ℕ) (old now : M) (before after : Outside) : Type 0 where
     pub input : List ℕ
     pub input_is : before.input.left ≡ as_told before.input.left input
+    pub input_bytes : AreSomeBytes before.input.left input
     pub answers : MachineRunAnswers answer limit n old now input before after
     pub determined : IsDetermined step (state_of old input) (determined_steps answer limit n)

@@ -1,5 +1,5 @@
 -- What a step answers, and what it does to a machine and to the outside.
-use Rattle.std.specs.Prelude.{◌≡◌, ℕ, ◌<◌, List, [], ◌∷◌, ◌++◌, Bool, true, Option, Some}
+use Rattle.std.specs.Prelude.{◌≡◌, ℕ, ◌<◌, All, List, [], ◌∷◌, ◌++◌, Bool, true, Option, Some}
 use Rattle.std.specs.Io.KnownBytes.{append_known, prepend_known}
 use Rattle.rb_io.specs.FaultCounts.{Rose}
 use Rattle.rb_io.specs.TakenText.{TakesPrefix}
@@ -49,6 +49,7 @@ module _ {M S C : Type 0} (state_of : M → List ℕ → S) (step : S → Outcom
   -- isn't read any more.
   pub record StepGoes (old new : M) (ended ends : Bool) (before after : Outside) : Type 0 where
     pub read : List ℕ
+    pub bytes : All (λ b. b < 256) read
     pub goes_on : (rest : List ℕ) → MayCome ends rest → StepGoesOn old new (read ++ rest) rest before after
     pub read_is : before.input.left ≡ prepend_known read after.input.left
     pub end_kept : ended ≡ true → (ends ≡ true) × (read ≡ [])

@@ -1,5 +1,5 @@
 // A source that is read up to its end.
-ghost use Rattle.std.specs.Prelude.{◌≡◌, ◌<◌, ◌≤◌, ℕ, [], length, take, true, false};
+ghost use Rattle.std.specs.Prelude.{◌≡◌, ◌<◌, ◌≤◌, ℕ, All, [], length, take, true, false};
 ghost use Rattle.std.specs.Io.KnownBytes.{prepend_known};
 ghost use Rattle.rb_io.specs.CallResults.{IfBytes};
 ghost use Rattle.rb_io.specs.FaultCounts.{Rose};
@@ -27,6 +27,7 @@ impl InputEnd {
         ensures within { IfBytes result (λ n. n ≤ length buffer.new) }
         ensures moved { IfBytes result (λ n.
             (I.seen input.old).left ≡ prepend_known (take n buffer.new) (I.seen input.new).left) }
+        ensures bytes { IfBytes result (λ n. All (λ b. b < 256) (take n buffer.new)) }
         ensures none_after_end { self.old.reached ≡ true → IfBytes result (λ n. n ≡ 0) }
         ensures kept { self.old.reached ≡ true → self.new.reached ≡ true }
         ensures end { IfBytes result (λ n. n < length buffer.old → self.new.reached ≡ true) }

@@ -1,5 +1,6 @@
-use Rattle.std.proofs.Common.{arith, length, length-append, ◌++◌, ◌≡◌, ◌+◌}
-use Rattle.run_core.proofs.Filling.{prepend_known-more}
+use Rattle.std.proofs.Common.{arith, length, length-append, ◌++◌, ◌≡◌, ◌+◌, ◌<◌}
+use Rattle.std.proofs.lemmas.List.Elements.{All-take}
+use Rattle.run_core.proofs.Filling.{are_bytes, prepend_known-more}
 use Rattle.run_core.proofs.input_end.InputEnd.fill.Goals as goal
 
 pub loop-done-preserved : goal.loop-done-preserved
@@ -12,6 +13,7 @@ loop-done-preserved g c = record {
   moved = prepend_known-more _ _ _ c.split_at_mut-rest.result.0.now _ c.read.new.buf c.loop-done.done c.in-Bytes.count
       c.split_at_mut-rest.ensures.front_len c.split_at_mut-rest.ensures.front c.loop-done.invariant.moved
       c.in-Bytes.ensures.moved;
+  bytes = All-take (λ b. b < 256) (c.loop-done.done + c.in-Bytes.count) _ (are_bytes _ c.type_inv.buffer);
   never_falls = omega (arith, c.loop-done.invariant.never_falls, c.read.ensures.never_falls);
 }
 

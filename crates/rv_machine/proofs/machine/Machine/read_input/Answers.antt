@@ -1,4 +1,5 @@
-use Rattle.std.proofs.Common.{◌≡◌, ◌∙◌, ◌<◌, ◌≤◌, sym, ap, refl, arith, Some, true, false, length, take, drop, [], ◌++◌}
+use Rattle.std.proofs.Common.{◌≡◌, ◌∙◌, ◌<◌, ◌≤◌, sym, ap, subst, refl, arith, ℕ, List, Some, true, false, length, take, drop, [], ◌++◌}
+use Rattle.std.specs.Prelude.{All}
 use Rattle.std.specs.Io.KnownBytes.{prepend_known}
 use Rattle.rv_code.specs.machine.Machine.{Going, all_may, may_write, put, set_register}
 use Rattle.rv_code.specs.machine.Step.{a0, a1, a2, buffer_size}
@@ -40,8 +41,13 @@ returns-in-Bytes-clause-answer g c = λ output.
     ap length c.deref_mut.ensures.value ∙ c.in-Ok.ensures.size in
     let few : length moved ≤ buffer_size (state_of old []) =
     omega (arith, got, c.in-Bytes.ensures.within, c.fill.auto.buffer, filled, size) in
+    let from_buffer : moved ≡ take c.in-Bytes.got c.fill.new.buffer =
+    c.split_at.ensures.front ∙ ap (take c.in-Bytes.got)
+    (c.deref.ensures.value ∙ written_over c.fill.new.buffer (drop (length c.fill.new.buffer) c.in-Ok.buffer.items)
+    c.in-Ok.buffer.len (sym (c.fill.auto.buffer ∙ c.deref_mut.ensures.len))) in
     rw c.return_value.ensures.going (record {
       read = moved;
+      bytes = subst (λ (xs : List ℕ). All (λ b. b < 256) xs) (sym from_buffer) c.in-Bytes.ensures.bytes;
       goes_on = λ rest may.
           let s = state_of old (moved ++ rest) in
           let t = state_of new rest in
@@ -74,10 +80,7 @@ returns-in-Bytes-clause-answer g c = λ output.
             taken_is = read_writes_nothing s moved output.taken;
           };
       read_is =
-          c.in-Bytes.ensures.moved ∙ ap (λ bytes. prepend_known bytes (g.I.Source.seen c.fill.new.input).left)
-          (sym (c.split_at.ensures.front ∙ ap (take c.in-Bytes.got)
-          (c.deref.ensures.value ∙ written_over c.fill.new.buffer (drop (length c.fill.new.buffer) c.in-Ok.buffer.items)
-          c.in-Ok.buffer.len (sym (c.fill.auto.buffer ∙ c.deref_mut.ensures.len)))));
+          c.in-Bytes.ensures.moved ∙ ap (λ xs. prepend_known xs (g.I.Source.seen c.fill.new.input).left) (sym from_buffer);
       end_kept = λ e. (c.in-Bytes.ensures.kept e, none_read moved c.in-Bytes.got got (c.in-Bytes.ensures.none_after_end e));
       end_is = c.in-Bytes.ensures.rightly;
     })

@@ -1,4 +1,5 @@
 use Rattle.std.proofs.Common.{◌≡◌, ◌∙◌, sym, ap, refl, Some, true, false, length, []}
+use Rattle.std.proofs.lemmas.List.Elements.{All-nil}
 use Rattle.std.specs.Io.KnownBytes.{append_known}
 use Rattle.rv_code.specs.machine.Machine.{Going, all_may, may_read, memory_bytes, set_register}
 use Rattle.rv_code.specs.machine.Step.{a0, a1, buffer_size}
@@ -28,6 +29,7 @@ returns-in-Took-clause-answer g c = λ input ended.
     let moved = c.deref.result.now in
     rw c.return_value.ensures.going (record {
       read = [];
+      bytes = All-nil (λ b. b < 256);
       goes_on = λ rest may.
           let s = state_of c.args.self.now rest in
           let t = state_of c.return_value.new.self rest in

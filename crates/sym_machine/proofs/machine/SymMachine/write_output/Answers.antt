@@ -1,4 +1,5 @@
 use Rattle.std.proofs.Common.{◌≡◌, ◌∙◌, sym, ap, refl, Some, None, true, false, length, []}
+use Rattle.std.proofs.lemmas.List.Elements.{All-nil}
 use Rattle.std.specs.Prelude.{min}
 use Rattle.std.specs.List.{list_any}
 use Rattle.std.specs.Io.KnownBytes.{append_known}
@@ -45,6 +46,7 @@ returns-in-Took-clause-answer g c = λ input ended.
     let b = c.args.buffer in
     rw c.return_value.ensures.going (record {
       read = [];
+      bytes = All-nil (λ b. b < 256);
       goes_on = λ rest may.
           let s = state_of c.args.self.now rest in
           let t = state_of c.return_value.new.self rest in

@@ -1,7 +1,0 @@
-pub mod ByteRuns
-pub mod RunOutcomes
-pub mod Modes
-pub mod ParsedCode
-pub mod Phases
-pub mod RunAnswers
-pub mod SymbolRuns

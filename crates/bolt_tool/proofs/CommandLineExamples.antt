@@ -1,0 +1,72 @@
+-- Arguments that are commands, and arguments that are none.
+use Rattle.std.proofs.Common.{◌≡◌, ℕ, List, [], ◌∷◌, Option, Some, None, codes, refl}
+use Rattle.bolt_tool.specs.CommandLine.{Command, Record, Run, command_of}
+
+run : List ℕ
+run = codes "run"
+
+-- a run of `f` with one argument
+run_of_f : List ℕ → ℕ → Option Command
+run_of_f arg limit = Some (Run (record { file = codes "f"; args = arg ∷ []; limit = limit }))
+
+no_option : command_of (run ∷ codes "f" ∷ codes "a" ∷ []) ≡ run_of_f (codes "a") 100000000
+unfolding run run_of_f
+no_option = refl
+
+option_before : command_of (run ∷ codes "--steps" ∷ codes "7" ∷ codes "f" ∷ codes "a" ∷ []) ≡ run_of_f (codes "a") 7
+unfolding run run_of_f
+option_before = refl
+
+option_between : command_of (run ∷ codes "f" ∷ codes "--steps=007" ∷ codes "-" ∷ []) ≡ run_of_f (codes "-") 7
+unfolding run run_of_f
+option_between = refl
+
+option_behind : command_of (run ∷ codes "f" ∷ codes "a" ∷ codes "--steps" ∷ codes "0" ∷ []) ≡ run_of_f (codes "a") 0
+unfolding run run_of_f
+option_behind = refl
+
+options_ended : command_of (run ∷ codes "--" ∷ codes "f" ∷ codes "--steps=7" ∷ []) ≡ run_of_f (codes "--steps=7") 100000000
+unfolding run run_of_f
+options_ended = refl
+
+hyphens_twice : command_of (run ∷ codes "f" ∷ codes "--" ∷ codes "--" ∷ []) ≡ run_of_f (codes "--") 100000000
+unfolding run run_of_f
+hyphens_twice = refl
+
+-- the option takes the two hyphens, which are no number
+hyphens_taken : command_of (run ∷ codes "--steps" ∷ codes "--" ∷ codes "f" ∷ []) ≡ None
+unfolding run
+hyphens_taken = refl
+
+no_value : command_of (run ∷ codes "f" ∷ codes "--steps" ∷ []) ≡ None
+unfolding run
+no_value = refl
+
+option_twice : command_of (run ∷ codes "--steps" ∷ codes "7" ∷ codes "--steps=7" ∷ codes "f" ∷ []) ≡ None
+unfolding run
+option_twice = refl
+
+no_file : command_of (run ∷ codes "--steps" ∷ codes "f" ∷ []) ≡ None
+unfolding run
+no_file = refl
+
+too_large : command_of (run ∷ codes "--steps=18446744073709551616" ∷ codes "f" ∷ []) ≡ None
+unfolding run
+too_large = refl
+
+zero_byte : command_of (run ∷ codes "f" ∷ (97 ∷ 0 ∷ []) ∷ []) ≡ None
+unfolding run
+zero_byte = refl
+
+record_of_f : Option Command
+record_of_f = Some (Record (record { run = record { file = codes "f"; args = codes "a" ∷ []; limit = 7 }; out = codes "o" }))
+
+recorded_run : command_of (codes "record" ∷ codes "f" ∷ codes "--steps=7" ∷ codes "o" ∷ codes "a" ∷ []) ≡ record_of_f
+unfolding record_of_f
+recorded_run = refl
+
+recorded_over : command_of (codes "record" ∷ codes "f" ∷ codes "f" ∷ []) ≡ None
+recorded_over = refl
+
+recorded_on_symbols : command_of (codes "record" ∷ codes "--symbols" ∷ codes "f" ∷ codes "o" ∷ []) ≡ None
+recorded_on_symbols = refl

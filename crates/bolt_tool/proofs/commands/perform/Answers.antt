@@ -1,0 +1,22 @@
+use Rattle.std.proofs.Common.{Some, sym, subst}
+use Rattle.bolt_tool.specs.CommandAnswers.{Serves}
+use Rattle.bolt_tool.specs.CommandLineViews.{command_read}
+use Rattle.cli_base.specs.World.{World, world}
+use Rattle.bolt_tool.specs.declared.command_line.Command.{Command}
+use Rattle.bolt_tool.proofs.commands.perform.Goals as goal
+
+pub returns-in-Rewrite-clause-serves : goal.returns-in-Rewrite-clause-serves
+returns-in-Rewrite-clause-serves g c =
+    let old : World = world (g.F.Files.seen c.args.files.now) (g.I.Source.seen c.args.input.now) (g.O.Sink.seen c.args.out.now) in
+    let new : World =
+    world (g.F.Files.seen c.rewrite.new.files) (g.I.Source.seen c.args.input.now) (g.O.Sink.seen c.rewrite.new.out) in
+    subst (λ (command : Command). Serves (Some (command_read command)) c.rewrite.result old new) (sym c.in-Rewrite.is)
+    (c.rewrite.ensures (g.I.Source.seen c.args.input.now))
+
+pub returns-in-Map-clause-serves : goal.returns-in-Map-clause-serves
+returns-in-Map-clause-serves g c =
+    let old : World = world (g.F.Files.seen c.args.files.now) (g.I.Source.seen c.args.input.now) (g.O.Sink.seen c.args.out.now) in
+    let new : World =
+    world (g.F.Files.seen c.print_map.new.files) (g.I.Source.seen c.args.input.now) (g.O.Sink.seen c.print_map.new.out) in
+    subst (λ (command : Command). Serves (Some (command_read command)) c.print_map.result old new) (sym c.in-Map.is)
+    (c.print_map.ensures (g.I.Source.seen c.args.input.now))

@@ -1,0 +1,68 @@
+-- What holds at the end of the program, by its answer.
+use Rattle.std.specs.Prelude.{◌≡◌, Option, Some, None, IsTrue}
+use Rattle.std.specs.Process.{exit_status}
+use Rattle.std.specs.declared.process.ExitCode.{ExitCode}
+use Rattle.cli_base.specs.declared.status.Status.{Status}
+use Rattle.cli_base.specs.declared.status.Status.TheVariants as status
+use Rattle.cli_base.specs.Status.{exit_number}
+use Rattle.cli_base.specs.Served.{IsInputKept, IsServed}
+use Rattle.cli_base.specs.World.{World}
+use Rattle.bolt_tool.specs.CommandLine.{Command, Rewrite, Map, Run, RunSymbols, Record}
+use Rattle.bolt_tool.specs.Lines.{usage_line}
+use Rattle.cli_base.specs.PrintedLines.{PrintsOnly, FailsAtLine}
+use Rattle.cli_run.specs.recording.RecordAnswers.{RecordAnswers, RecordCompletes}
+use Rattle.bolt_tool.specs.rewrite.InputAnswers.{IsAccepted, IsOkOrNoMemory, NoInputErrors, OfInputs}
+use Rattle.bolt_tool.specs.rewrite.MapAnswers.{MapAnswers}
+use Rattle.bolt_tool.specs.rewrite.RewriteAnswers.{NoneRoseWriting, RewriteAnswers}
+use Rattle.cli_run.specs.run.ByteRuns.{byte_mode}
+use Rattle.cli_run.specs.run.RunAnswers.{CompletesRun, RunAnswers}
+use Rattle.cli_run.specs.run.SymbolRuns.{symbol_mode}
+
+-- the answers to arguments that are no command
+abbrev pub UsageAnswers : Status → World → World → Type 0
+UsageAnswers status.Usage old new = PrintsOnly usage_line old new
+UsageAnswers status.WriteFault old new = FailsAtLine usage_line old new
+UsageAnswers _ old new = ⊥
+
+abbrev pub CommandAnswers : Option Command → Status → World → World → Type 0
+CommandAnswers (Some (Rewrite names)) answer old new = RewriteAnswers names old new answer
+CommandAnswers (Some (Map names)) answer old new = MapAnswers names old new answer
+CommandAnswers (Some (Run args)) answer old new = RunAnswers byte_mode args old new answer
+CommandAnswers (Some (RunSymbols args)) answer old new = RunAnswers symbol_mode args old new answer
+CommandAnswers (Some (Record args)) answer old new = RecordAnswers args old new answer
+CommandAnswers None answer old new = UsageAnswers answer old new
+
+-- A rewrite is done and a map is printed, or memory runs out, where no fault is present and no count rose. A run of a
+-- file that can be run answers how that comes out.
+abbrev pub Completes : Option Command → Status → World → World → Type 0
+Completes (Some (Rewrite names)) answer old new =
+    IsTrue old.files.told → OfInputs old names.inputs IsAccepted → NoneRoseWriting names old new → IsOkOrNoMemory answer
+Completes (Some (Map names)) answer old new =
+    IsTrue old.files.told → OfInputs old names IsAccepted → NoInputErrors names old new → IsOkOrNoMemory answer
+Completes (Some (Run args)) answer old new = CompletesRun byte_mode args answer old new
+Completes (Some (RunSymbols args)) answer old new = CompletesRun symbol_mode args answer old new
+Completes (Some (Record args)) answer old new = RecordCompletes args answer old new
+Completes None answer old new = Unit {0}
+
+-- the command doesn't touch standard input
+abbrev pub LeavesInput : Option Command → Type 0
+LeavesInput (Some (Run args)) = ⊥
+LeavesInput (Some (RunSymbols args)) = ⊥
+LeavesInput (Some (Record args)) = ⊥
+LeavesInput _ = Unit {0}
+
+-- What a command does, or arguments that are none: its answer, and the world after it.
+abbrev pub Serves : Option Command → Status → World → World → Type 0
+Serves command answer old new = IsServed (CommandAnswers command answer old new) (Completes command answer old new) old new
+
+-- standard input stays as it was after a refusal, and by a command that doesn't touch it
+abbrev pub KeepsInput : {Input : Type 0} → Option Command → Status → Input → Input → Type 0
+KeepsInput command answer old new = IsInputKept (LeavesInput command) answer old new
+
+-- A process does a command, and exits with the number of its answer.
+pub record Exits {Input : Type 0} (command : Option Command) (code : ExitCode) (old new : World) (before after : Input) :
+    Type 0 where
+  pub answer : Status
+  pub code_is : exit_status code ≡ exit_number answer
+  pub serves : Serves command answer old new
+  pub input_kept : KeepsInput command answer before after

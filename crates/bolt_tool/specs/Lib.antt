@@ -1,0 +1,5 @@
+pub mod rewrite
+pub mod CommandAnswers
+pub mod CommandLine
+pub mod CommandLineViews
+pub mod Lines

@@ -1,0 +1,16 @@
+-- What holds at the end of a command that prints the map of a rewrite, by its answer. It writes no file.
+use Rattle.std.specs.Prelude.{◌≡◌}
+use Rattle.addr_map.specs.MapText.{map_text}
+use Rattle.cli_base.specs.declared.status.Status.{Status}
+use Rattle.cli_base.specs.declared.status.Status.TheVariants as status
+use Rattle.cli_base.specs.PrintedLines.{PrintsOnly, FailsAtLine}
+use Rattle.bolt_tool.specs.rewrite.InputAnswers.{IsMadeOf, IsStopped, MadeRewrite}
+use Rattle.bolt_tool.specs.CommandLine.{InputNames}
+use Rattle.cli_base.specs.World.{World}
+
+pub data MapAnswers (names : InputNames) (old new : World) (answer : Status) : Type 0 where
+  printed : answer ≡ status.Ok → (made : MadeRewrite) → IsMadeOf names old.files made → PrintsOnly (map_text made.spans) old new
+      → MapAnswers names old new answer
+  at_text : answer ≡ status.WriteFault → (made : MadeRewrite) → IsMadeOf names old.files made
+      → FailsAtLine (map_text made.spans) old new → MapAnswers names old new answer
+  stopped : IsStopped names old new answer → MapAnswers names old new answer

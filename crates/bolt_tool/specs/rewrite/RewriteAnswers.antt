@@ -1,0 +1,52 @@
+-- What holds at the end of a rewrite, by its answer.
+use Rattle.std.specs.Prelude.{◌≡◌, ◌≢◌, ℕ, List, Some, IsTrue}
+use Rattle.rb_io.specs.Names.{UnchangedBut}
+use Rattle.rb_io.specs.TakenText.{TakesAll}
+use Rattle.addr_map.specs.MapText.{map_text}
+use Rattle.cli_base.specs.declared.status.Status.{Status}
+use Rattle.cli_base.specs.declared.status.Status.TheVariants as status
+use Rattle.bolt_tool.specs.Lines.{summary_line}
+use Rattle.cli_base.specs.PrintedLines.{FailsToPrint}
+use Rattle.bolt_tool.specs.rewrite.InputAnswers.{IsMadeOf, IsStopped, MadeRewrite, NoInputErrors}
+use Rattle.bolt_tool.specs.CommandLine.{RewriteNames}
+use Rattle.cli_base.specs.World.{World, WriteRose}
+
+-- other names than those of the output and of the map have what they had
+abbrev pub OthersKept : RewriteNames → World → World → Type 0
+OthersKept names old new =
+    (name : List ℕ) → name ≢ names.out → name ≢ names.map → new.files.content name ≡ old.files.content name
+
+-- the output holds these bytes, where files are told
+abbrev pub HoldsOut : RewriteNames → List ℕ → World → World → Type 0
+HoldsOut names written old new = IsTrue old.files.told → new.files.content names.out ≡ Some written
+
+-- both files hold their bytes, and no other name changed
+pub record HoldBoth (names : RewriteNames) (written map : List ℕ) (old new : World) : Type 0 where
+  pub out : HoldsOut names written old new
+  pub map_is : IsTrue old.files.told → new.files.content names.map ≡ Some map
+  pub others : OthersKept names old new
+
+-- A write fails: of the output, which alone may have changed; of the map, after the output; or of the summary, after both.
+pub data StopsWriting (names : RewriteNames) (written map summary : List ℕ) (old new : World) : Type 0 where
+  at_out : WriteRose old new names.out → new.output.taken ≡ old.output.taken
+      → UnchangedBut names.out old.files.content new.files.content → StopsWriting names written map summary old new
+  at_map : WriteRose old new names.map → new.output.taken ≡ old.output.taken → HoldsOut names written old new
+      → OthersKept names old new → StopsWriting names written map summary old new
+  at_summary : HoldBoth names written map old new → FailsToPrint summary old new
+      → StopsWriting names written map summary old new
+
+-- the answers of a rewrite
+pub data RewriteAnswers (names : RewriteNames) (old new : World) (answer : Status) : Type 0 where
+  done : answer ≡ status.Ok → (made : MadeRewrite) → IsMadeOf names.inputs old.files made
+      → HoldBoth names made.written (map_text made.spans) old new
+      → TakesAll old.output.taken new.output.taken (summary_line made.counts) → RewriteAnswers names old new answer
+  at_write : answer ≡ status.WriteFault → (made : MadeRewrite) → IsMadeOf names.inputs old.files made
+      → StopsWriting names made.written (map_text made.spans) (summary_line made.counts) old new
+      → RewriteAnswers names old new answer
+  stopped : IsStopped names.inputs old new answer → RewriteAnswers names old new answer
+
+-- no count of faults rose, of the files that are written neither
+pub record NoneRoseWriting (names : RewriteNames) (old new : World) : Type 0 where
+  pub others : NoInputErrors names.inputs old new
+  pub out : WriteRose old new names.out → ⊥
+  pub map : WriteRose old new names.map → ⊥

@@ -1,0 +1,74 @@
+// What the program does.
+ghost use Rattle.std.specs.Prelude.{map, string_bytes, None, Some};
+ghost use Rattle.rb_io.specs.Views.{SourceSeen};
+ghost use Rattle.bolt_tool.specs.CommandAnswers.{KeepsInput, Serves};
+ghost use Rattle.bolt_tool.specs.CommandLineViews.{NamesDiffer, ArgsFit, command_read};
+ghost use Rattle.bolt_tool.specs.CommandLine.{command_of};
+ghost use Rattle.cli_base.specs.World.{world};
+
+use crate::command_line::{Command, parse};
+use crate::lines;
+use crate::print_map::print_map;
+use crate::rewrite::rewrite;
+use crate::running::{record_tokens, run_tokens};
+use cli_base::Status;
+use cli_run::RunMode;
+use rb_io::{Files, Put, Sink, Source, print_all};
+use std::alloc::Global;
+
+// Says which arguments are a command.
+fn usage<F: Files, O: Sink>(files: &F, out: &mut O) -> Status
+    ensures { (input : SourceSeen) → Serves None result
+        (world (F.seen files.now) input (O.seen out.old)) (world (F.seen files.now) input (O.seen out.new)) }
+{
+    match print_all(out, lines::usage()) {
+        Put::Took(_) => Status::Usage,
+        Put::Failed => Status::WriteFault,
+    }
+}
+
+// Does a command.
+fn perform<F: Files, I: Source, O: Sink>(
+    alloc: Global,
+    command: &Command<'_>,
+    files: &mut F,
+    input: &mut I,
+    out: &mut O,
+) -> Status
+    requires apart { NamesDiffer command.now }
+    requires limits { ArgsFit command.now }
+    ensures serves { Serves (Some (command_read command.now)) result
+        (world (F.seen files.old) (I.seen input.old) (O.seen out.old))
+        (world (F.seen files.new) (I.seen input.new) (O.seen out.new)) }
+    ensures input_kept { KeepsInput (Some (command_read command.now)) result input.old input.new }
+{
+    match command {
+        Command::Rewrite(args) => rewrite(alloc, args, files, out),
+        Command::Map(args) => print_map(alloc, args, files, out),
+        Command::Run(args) => run_tokens(alloc, args, RunMode::Bytes, files, input, out),
+        Command::RunSymbols(args) => run_tokens(alloc, args, RunMode::Symbols, files, input, out),
+        Command::Record(args) => record_tokens(alloc, args, files, input, out),
+    }
+}
+
+/// Does what the arguments say, which don't hold the program's own name.
+///
+/// `input` is standard input, and `out` standard output. What holds at the end is said by the
+/// answer. Files, input and output that don't tell their bytes have nothing said of them.
+pub fn tool<F: Files, I: Source, O: Sink>(
+    alloc: Global,
+    args: &[String],
+    files: &mut F,
+    input: &mut I,
+    out: &mut O,
+) -> Status
+    ensures serves { Serves (command_of (map string_bytes args.now)) result
+        (world (F.seen files.old) (I.seen input.old) (O.seen out.old))
+        (world (F.seen files.new) (I.seen input.new) (O.seen out.new)) }
+    ensures input_kept { KeepsInput (command_of (map string_bytes args.now)) result input.old input.new }
+{
+    match parse(args) {
+        Some(command) => perform(alloc, &command, files, input, out),
+        None => usage(files, out),
+    }
+}

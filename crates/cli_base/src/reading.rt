@@ -1,0 +1,42 @@
+// Files that are read whole.
+ghost use Rattle.std.specs.Prelude.{◌≡◌, ◌≤◌, length, IfOk, IfErr, IsTrue, OnOk, Some};
+ghost use Rattle.rb_io.specs.Names.{Unchanged};
+ghost use Rattle.rb_io.specs.Views.{FilesGoOn};
+ghost use Rattle.cli_base.specs.Reading.{IsUnread};
+
+use crate::refusal::refuse;
+use crate::status::Status;
+use rb_bytes::fault::{Fault, FaultKind, Refusal};
+use rb_io::{Files, ReadAll, Sink};
+use std::alloc::Global;
+
+/// The content of a file of at most `limit` bytes. Where it isn't read, a file that is too long is refused, and this is
+/// how the command ends.
+pub fn read_file<F: Files, O: Sink>(
+    alloc: Global,
+    name: &str,
+    limit: usize,
+    files: &mut F,
+    out: &mut O,
+) -> Result<Vec<u8>, Status>
+    ensures read { IfOk result (λ file. IsTrue (F.seen files.old).told →
+        (F.seen files.old).content name.now ≡ Some file.items) }
+    ensures fits { IfOk result (λ file. length file.items ≤ limit) }
+    ensures unprinted { OnOk result (O.seen out.new ≡ O.seen out.old) }
+    ensures unread { IfErr result
+        (IsUnread name.now limit (F.seen files.old) (F.seen files.new) (O.seen out.old) (O.seen out.new)) }
+    ensures kept { Unchanged (F.seen files.old).content (F.seen files.new).content }
+    ensures files_go_on { FilesGoOn (F.seen files.old) (F.seen files.new) }
+    ensures never_falls { (O.seen out.old).faults ≤ (O.seen out.new).faults }
+{
+    let mut file = Vec::new(alloc);
+    match files.read_all(name, limit, &mut file) {
+        ReadAll::Done => Ok(file),
+        ReadAll::TooLong => {
+            let fault = Fault::at(FaultKind::TooLarge, 0);
+            Err(refuse(alloc, Refusal::Fault(fault), out))
+        }
+        ReadAll::Failed => Err(Status::ReadFault),
+        ReadAll::Memory => Err(Status::NoMemory),
+    }
+}

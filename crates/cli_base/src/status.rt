@@ -1,0 +1,63 @@
+// How a command ends.
+ghost use Rattle.std.specs.Prelude.{◌≡◌};
+ghost use Rattle.cli_base.specs.Status.{exit_number, is_outcome};
+
+use rb_bytes::fault::Fault;
+use rv_code::Cause;
+use sym_machine::Reason;
+
+/// How a command ended. The program ends with its number.
+#[derive(Clone, Copy, PartialEq, Eq, Debug)]
+pub enum Status {
+    /// The command was done whole.
+    Ok,
+    /// The program that was run ended with this status.
+    Ended(u8),
+    /// The arguments are no command.
+    Usage,
+    /// A file is refused: why, and where.
+    Refused(Fault),
+    /// A file, or input that a run asks for, could not be read.
+    ReadFault,
+    /// A file, a line, or the output of a run could not be written.
+    WriteFault,
+    /// Memory could not be had.
+    NoMemory,
+    /// The program that was run trapped, at this pc.
+    Trapped(u64, Cause),
+    /// The program that was run goes on after as many steps as it was given.
+    OutOfSteps,
+    /// The symbol machine got stuck in the program that was run, at this pc.
+    Stuck(u64, Reason),
+}
+
+impl Status {
+    /// The number that the program ends with.
+    pub fn number(self) -> u8
+        ensures { result ≡ exit_number self }
+    {
+        match self {
+            Status::Ok => 0,
+            Status::Ended(value) => value,
+            Status::Usage => 220,
+            Status::Refused(_) => 221,
+            Status::ReadFault => 222,
+            Status::WriteFault => 223,
+            Status::NoMemory => 224,
+            Status::Trapped(_, _) => 225,
+            Status::OutOfSteps => 226,
+            Status::Stuck(_, _) => 227,
+        }
+    }
+
+    /// Whether it says how a run came out.
+    pub fn is_outcome(self) -> bool
+        ensures { result ≡ is_outcome self }
+    {
+        match self {
+            Status::Ended(_) | Status::Trapped(_, _) | Status::Stuck(_, _) => true,
+            Status::OutOfSteps => true,
+            _ => false,
+        }
+    }
+}

@@ -1,0 +1,18 @@
+-- The byte machine as a mode of `run`.
+use Rattle.std.proofs.Common.{refl, ℕ, List, arith}
+use Rattle.rb_bytes.specs.declared.fault.Fault.{Fault}
+use Rattle.cli_run.specs.run.ByteRuns.{byte_mode, IsRunnable, CannotRun, too_long, unsound, much_code}
+use Rattle.cli_run.proofs.RunAnswering.{IsLawful}
+
+-- a file that can't be run isn't one that can
+not_both : (file : List ℕ) (fault : Fault) → CannotRun file fault → IsRunnable file → ⊥
+not_both file fault (too_long long e) runnable = let fits = runnable.fits in absurd (omega arith)
+not_both file fault (unsound fits present) runnable = runnable.sound fault.kind fault.place present.present
+not_both file fault (much_code fits sound much e) runnable = runnable.code_fits much
+
+pub lawful : IsLawful byte_mode
+lawful = record {
+  long_cannot = λ file long. too_long long refl;
+  not_both = not_both;
+  halts = λ program args pc cause. tt;
+}

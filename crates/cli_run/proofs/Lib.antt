@@ -1,0 +1,11 @@
+pub mod ByteRunAnswering
+pub mod CellBounds
+pub mod FaultlessCode
+pub mod FrameSections
+pub mod Outcomes
+pub mod RecordAnswering
+pub mod RecordEnds
+pub mod RunAnswering
+pub mod RunEnds
+pub mod RunModes
+pub mod SymbolRunAnswering

@@ -1,0 +1,3 @@
+pub mod recording
+pub mod run
+pub mod RunArgs

@@ -1,0 +1,8 @@
+pub mod ByteRuns
+pub mod RunOutcomes
+pub mod Modes
+pub mod ParsedCode
+pub mod Phases
+pub mod RunAnswers
+pub mod Serving
+pub mod SymbolRuns

@@ -1,0 +1,39 @@
+-- What reading the code of a file comes to, and then the steps of a run.
+use Rattle.std.specs.Prelude.{◌≡◌, ℕ}
+use Rattle.rb_bytes.specs.declared.fault.Fault.{Fault}
+use Rattle.rb_bytes.specs.declared.fault.Refusal.{Refusal}
+use Rattle.rb_bytes.specs.declared.fault.Refusal.TheVariants as refusal
+use Rattle.rb_io.specs.Views.{SinkSeen}
+use Rattle.run_core.specs.Answers.{Answer}
+use Rattle.run_core.specs.Answers as answer
+use Rattle.cli_base.specs.Printing.{LinePrinted}
+use Rattle.cli_run.specs.run.RunOutcomes.{closing_line}
+use Rattle.cli_base.specs.declared.status.Status.{Status}
+use Rattle.cli_base.specs.declared.status.Status.TheVariants as status
+
+-- a refusal names a fault of which P holds; memory may run out at any time
+abbrev pub IsRefusalFor : (Fault → Type 0) → Refusal → Type 0
+IsRefusalFor P (refusal.Fault fault) = P fault
+IsRefusalFor P refusal.Memory = Unit {0}
+
+-- the answer to what a run on a machine came to, and `halted` says that the machine halts
+abbrev pub status_of : {C : Type 0} → (ℕ → C → Status) → Answer C → Status
+status_of halted answer.Going = status.OutOfSteps
+status_of halted (answer.Ended value) = status.Ended value
+status_of halted (answer.Halted pc cause) = halted pc cause
+status_of halted answer.ReadFault = status.ReadFault
+status_of halted answer.WriteFault = status.WriteFault
+status_of halted answer.Memory = status.NoMemory
+
+-- After a run that came out the closing line was printed, or a prefix of it, or none of it. Nothing is printed after an
+-- I/O error, or out of memory.
+module _ (result : Status) (steps : ℕ) (before after : SinkSeen) where
+  abbrev pub SaysEnding : Status → Type 0
+  SaysEnding came = LinePrinted result came (closing_line came steps) before after
+
+  abbrev pub Closed : Status → Type 0
+  Closed (status.Ended value) = SaysEnding (status.Ended value)
+  Closed (status.Trapped pc cause) = SaysEnding (status.Trapped pc cause)
+  Closed (status.Stuck pc reason) = SaysEnding (status.Stuck pc reason)
+  Closed status.OutOfSteps = SaysEnding status.OutOfSteps
+  Closed came = (result ≡ came) × (after.taken ≡ before.taken)

@@ -1,0 +1,50 @@
+// How runs end.
+ghost use Rattle.std.specs.Prelude.{◌≡◌, ◌≤◌, IfOk};
+ghost use Rattle.rv_machine.specs.StepResults.{answered};
+ghost use Rattle.cli_run.specs.run.RunOutcomes.{closing_line};
+ghost use Rattle.cli_run.specs.run.Phases.{Closed, status_of};
+
+use cli_base::{Status, lines, print_line};
+use rb_bytes::fault::NoMemory;
+use rb_io::Sink;
+use rv_machine::Stepped;
+use std::alloc::Global;
+
+/// The answer to what the byte machine came to.
+pub fn status_of(end: Stepped) -> Status
+    ensures { result ≡ status_of Status.Trapped (answered end) }
+{
+    match end {
+        Stepped::Going => Status::OutOfSteps,
+        Stepped::Ended(value) => Status::Ended(value),
+        Stepped::Trap(pc, cause) => Status::Trapped(pc, cause),
+        Stepped::ReadFault => Status::ReadFault,
+        Stepped::WriteFault => Status::WriteFault,
+        Stepped::Memory => Status::NoMemory,
+    }
+}
+
+/// The line that says how a run came out, where `came` says that it did.
+pub fn closing_line(alloc: Global, came: Status, steps: u64) -> Result<Vec<u8>, NoMemory>
+    ensures { IfOk result (λ line. line.items ≡ closing_line came steps) }
+{
+    match came {
+        Status::OutOfSteps => lines::out_of_steps(alloc, steps),
+        Status::Ended(value) => lines::ended(alloc, value, steps),
+        Status::Trapped(pc, cause) => lines::trapped(alloc, pc, cause, steps),
+        Status::Stuck(pc, reason) => lines::stuck(alloc, pc, reason, steps),
+        _ => Ok(Vec::new(alloc)),
+    }
+}
+
+/// Says how a run came out, where `came` says that it did.
+pub fn close<O: Sink>(alloc: Global, came: Status, steps: u64, out: &mut O) -> Status
+    ensures closed { Closed result steps (O.seen out.old) (O.seen out.new) came }
+    ensures never_falls { (O.seen out.old).faults ≤ (O.seen out.new).faults }
+{
+    if came.is_outcome() {
+        print_line(closing_line(alloc, came, steps), came, out)
+    } else {
+        came
+    }
+}

@@ -1,0 +1,54 @@
+// The command `run`: the file is read whole, and then runs on the byte machine or, with `--symbols`, on the symbol machine.
+ghost use Rattle.rv_memory.specs.Limits.{IsWithinLimits};
+ghost use Rattle.cli_base.specs.Served.{IsInputKept};
+ghost use Rattle.cli_run.specs.RunArgs.{run_given};
+ghost use Rattle.cli_run.specs.run.Serving.{ServesRun};
+ghost use Rattle.cli_base.specs.World.{world};
+
+use crate::byte_run::{run_elf, runnable_file};
+use crate::run_args::RunArgs;
+use crate::symbol_code::symbol_program;
+use crate::symbol_run::run_program;
+use bolt_core::limits::FILE_LIMIT;
+use cli_base::{Status, read_file, refuse};
+use rb_io::{Files, Sink, Source};
+use std::alloc::Global;
+
+/// The machine that a file runs on.
+#[derive(Clone, Copy, PartialEq, Eq, Debug)]
+pub enum RunMode {
+    Bytes,
+    Symbols,
+}
+
+/// Does `run`.
+pub fn run<F: Files, I: Source, O: Sink>(
+    alloc: Global,
+    args: &RunArgs<'_>,
+    mode: RunMode,
+    files: &mut F,
+    input: &mut I,
+    out: &mut O,
+) -> Status
+    requires { IsWithinLimits (run_given args.now).args }
+    ensures serves { ServesRun mode (run_given args.now) result
+        (world (F.seen files.old) (I.seen input.old) (O.seen out.old))
+        (world (F.seen files.new) (I.seen input.new) (O.seen out.new)) }
+    // It may read its input where it runs.
+    ensures input_kept { IsInputKept ⊥ result input.old input.new }
+{
+    let file = match read_file(alloc, args.file, FILE_LIMIT, files, out) {
+        Ok(file) => file,
+        Err(answer) => return answer,
+    };
+    match mode {
+        RunMode::Bytes => match runnable_file(alloc, &file) {
+            Ok(elf) => run_elf(alloc, args, &elf, input, out),
+            Err(refusal) => refuse(alloc, refusal, out),
+        },
+        RunMode::Symbols => match symbol_program(alloc, &file) {
+            Ok(program) => run_program(alloc, &program, args, input, out),
+            Err(refusal) => refuse(alloc, refusal, out),
+        },
+    }
+}

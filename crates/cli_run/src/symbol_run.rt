@@ -1,0 +1,66 @@
+// Runs on the symbol machine.
+ghost use Rattle.std.specs.Prelude.{◌≡◌, ◌≤◌};
+ghost use Rattle.rv_memory.specs.Limits.{IsWithinLimits};
+ghost use Rattle.sym_machine.specs.MachineState.{answered};
+ghost use Rattle.cli_run.specs.RunArgs.{run_given};
+ghost use Rattle.cli_run.specs.run.ParsedCode.{program_of};
+ghost use Rattle.cli_run.specs.run.Phases.{status_of};
+ghost use Rattle.cli_run.specs.run.RunAnswers.{AnswersRun, IsExact};
+ghost use Rattle.cli_run.specs.run.SymbolRuns.{IsSymbolProgram, symbol_machine};
+ghost use Rattle.run_core.specs.Inputs.{outside_of};
+
+use crate::closing::close;
+use crate::run_args::RunArgs;
+use crate::symbol_code::SymbolProgram;
+use cli_base::Status;
+use rb_io::{Sink, Source};
+use std::alloc::Global;
+use sym_machine::{SymMachine, SymStepped};
+
+// The answer to what the symbol machine came to.
+fn status_of(end: SymStepped) -> Status
+    ensures { result ≡ status_of Status.Stuck (answered end) }
+{
+    match end {
+        SymStepped::Ended(value) => Status::Ended(value),
+        SymStepped::Stuck(pc, reason) => Status::Stuck(pc, reason),
+        SymStepped::Going => Status::OutOfSteps,
+        SymStepped::ReadFault => Status::ReadFault,
+        SymStepped::WriteFault => Status::WriteFault,
+        SymStepped::Memory => Status::NoMemory,
+    }
+}
+
+/// Runs what was read of a file.
+pub fn run_program<I: Source, O: Sink>(
+    alloc: Global,
+    program: &SymbolProgram<'_>,
+    args: &RunArgs<'_>,
+    input: &mut I,
+    out: &mut O,
+) -> Status
+    requires program { IsSymbolProgram program.now.elf.file.now (program_of program.now) }
+    requires limits { IsWithinLimits (run_given args.now).args }
+    ensures answer { AnswersRun (symbol_machine (program_of program.now) (run_given args.now).args) args.now.limit
+        (outside_of (I.seen input.old) (O.seen out.old))
+        (outside_of (I.seen input.new) (O.seen out.new)) result }
+    ensures exact { IsExact (symbol_machine (program_of program.now) (run_given args.now).args) args.now.limit
+        (I.seen input.old).left result }
+    ensures reads { (I.seen input.old).faults ≤ (I.seen input.new).faults }
+    ensures writes { (O.seen out.old).faults ≤ (O.seen out.new).faults }
+{
+    let funcs = program.code.funcs.as_slice();
+    let cells = program.code.refs.cells.as_slice();
+    let Ok(mut machine) = SymMachine::load(
+        alloc,
+        &program.elf,
+        funcs,
+        cells,
+        args.args,
+        program.tight,
+    ) else {
+        return Status::NoMemory;
+    };
+    let ran = machine.run(args.limit, input, out);
+    close(alloc, status_of(ran.end), ran.steps, out)
+}
