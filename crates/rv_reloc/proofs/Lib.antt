@@ -16,6 +16,7 @@ pub mod DifferenceCases
 pub mod Differing
 pub mod Either
 pub mod Entries
+pub mod EntrySpans
 pub mod FarLists
 pub mod Faulty
 pub mod FieldsFound
@@ -51,6 +52,7 @@ pub mod Selecting
 pub mod SlotFields
 pub mod StartLists
 pub mod Sweeps
+pub mod Thinning
 pub mod TypeGroups
 pub mod UpperClaims
 pub mod UpperFaults

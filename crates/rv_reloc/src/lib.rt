@@ -10,6 +10,7 @@ pub mod claim_lists;
 pub mod claims;
 pub mod code;
 pub mod differences;
+pub mod entry_runs;
 pub mod faults;
 pub mod fields;
 pub mod got_fields;
