@@ -1,4 +1,4 @@
-use Rattle.std.proofs.Common.{◌+◌, arith}
+use Rattle.std.proofs.Common.{◌+◌}
 use Rattle.std.proofs.lemmas.Bool.{ltb-true}
 use Rattle.edge_profile.proofs.LaidOut.{start_behind, start_up_to}
 use Rattle.edge_profile.proofs.places.is_last_up_to.Goals as goal
