@@ -6,7 +6,6 @@ mod CallFaults
 mod CellFields
 mod CellLists
 pub mod Chosen
-<<<<<<< HEAD
 mod ClaimLists
 mod ClaimOrder
 mod Classes
@@ -46,64 +45,15 @@ mod Options
 mod Ordered
 mod PairTargets
 mod PartLookup
-=======
-mod ClaimLists
-mod ClaimOrder
-mod Classes
-mod CodeLabels
-mod Cuts
-mod Decoded
-mod DifferenceCases
-mod Differing
-mod Either
-mod Entries
-mod EntrySpans
-mod FarLists
-mod Faulty
-mod FieldsFound
-mod Finds
-mod FileBytes
-mod FirstLow
-mod FirstRoles
-mod Frees
-mod FullLookup
-mod Inside
-mod InstructionFields
-mod Kept
-mod Keys
-mod LabelLists
-mod LabelOrder
-mod LabelsAt
-mod Lebs
-mod Lexicographic
-mod LoadedNumbers
-mod LowFiles
-mod LowLists
-mod MisfitCases
-mod NamedLists
-mod Only
-mod Options
-mod Ordered
-mod PairTargets
-mod PartLookup
->>>>>>> ab3974ac64cbb1b70fc050a75b14d5bb85261e8c
 pub mod Places
 mod RangeLists
 mod ReferenceFaultOrder
 mod Selecting
 mod SlotFields
 pub mod StartLists
-<<<<<<< HEAD
 mod Sweeps
 mod Thinning
 mod TypeGroups
 mod UpperClaims
 mod UpperFaults
-=======
-mod Sweeps
-mod Thinning
-mod TypeGroups
-mod UpperClaims
-mod UpperFaults
->>>>>>> ab3974ac64cbb1b70fc050a75b14d5bb85261e8c
 pub mod WholeLookup

@@ -9,7 +9,6 @@ mod cells;
 mod claim_lists;
 mod claims;
 pub mod code;
-<<<<<<< HEAD
 mod differences;
 mod entry_runs;
 mod faults;
@@ -18,16 +17,6 @@ mod got_fields;
 mod halves;
 mod ifunc;
 mod index;
-=======
-pub mod differences;
-pub mod entry_runs;
-pub mod faults;
-pub mod fields;
-pub mod got_fields;
-pub mod halves;
-pub mod ifunc;
-pub mod index;
->>>>>>> ab3974ac64cbb1b70fc050a75b14d5bb85261e8c
 pub mod instruction_starts;
 mod instructions;
 mod labels;
