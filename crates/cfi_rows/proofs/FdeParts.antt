@@ -95,7 +95,7 @@ register-sum k own is known r kept h =
     let counted = (h (flat_map registers_set own) kept.registers).count in
     let first = kept.count in
     let all : length (distinct (flat_map registers_set (own ++ is))) ≡ length (distinct (flat_map registers_set own ++ flat_map registers_set is)) =
-        ap (λ xs. length (distinct xs)) (flat_map-append registers_set own is) in
+    ap (λ xs. length (distinct xs)) (flat_map-append registers_set own is) in
     omega arith
 
 byte-sum : (k : Kept) (own is : List Instruction) (known : Known) (n : ℕ) → IsKept k own known → n ≡ sum_by bytes_in is →

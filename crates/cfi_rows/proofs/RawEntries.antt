@@ -35,7 +35,7 @@ pub next : (debug : Bool) (n count place : ℕ) (left : List ℕ) (es : List Raw
 next debug n count place left es e rest h l f =
     onward-is debug n count place left es (Stands e rest) h l f
     ∙ (let more = walk debug (n - (count + 1)) (place + 8 + length e.body) rest in
-      ap (λ (xs : List RawEntry). record { entries = xs; broken = more.broken }) (sym (append_assoc es (e ∷ []) more.entries)))
+    ap (λ (xs : List RawEntry). record { entries = xs; broken = more.broken }) (sym (append_assoc es (e ∷ []) more.entries)))
 
 pub ends : (debug : Bool) (n count place : ℕ) (left : List ℕ) (es : List RawEntry) → count < n → 0 < length left →
     front_of debug place left ≡ Ends → after es (walk debug (n - count) place left) ≡ record { entries = es; broken = None }

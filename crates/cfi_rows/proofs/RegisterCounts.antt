@@ -80,15 +80,15 @@ pub added : (xs ys : List ℕ) (known : BTreeSet ℕ) (old new : Registers) (y :
     Adds old.set new.set y → new.count ≡ old.count + 1 → AreCounted xs (ys ++ y ∷ []) known new
 added xs ys known old new y a k o n c = record {
   count =
-    let s = count-snoc (xs ++ ys) y in
-    let i : has y (xs ++ ys) ≡ false = sym (a.members y) ∙ ap (λ b. b || contains nat_cmp old.set y) k ∙ o in
-    let t : one (has y (xs ++ ys)) ≡ 1 = ap one i in
-    let u : length (distinct (xs ++ (ys ++ y ∷ []))) ≡ length (distinct ((xs ++ ys) ++ y ∷ [])) = ap (λ zs. length (distinct zs)) (sym (append_assoc xs ys (y ∷ []))) in
-    let v = a.count in
-    omega arith;
+      let s = count-snoc (xs ++ ys) y in
+      let i : has y (xs ++ ys) ≡ false = sym (a.members y) ∙ ap (λ b. b || contains nat_cmp old.set y) k ∙ o in
+      let t : one (has y (xs ++ ys)) ≡ 1 = ap one i in
+      let u : length (distinct (xs ++ (ys ++ y ∷ []))) ≡ length (distinct ((xs ++ ys) ++ y ∷ [])) = ap (λ zs. length (distinct zs)) (sym (append_assoc xs ys (y ∷ []))) in
+      let v = a.count in
+      omega arith;
   members = λ q.
-    ap (λ b. contains nat_cmp known q || b) (n q) ∙ or-assoc (contains nat_cmp known q) (contains nat_cmp old.set q) (y == q)
-    ∙ ap (λ b. b || (y == q)) (a.members q) ∙ sym (any-snoc q (xs ++ ys) y) ∙ ap (has q) (append_assoc xs ys (y ∷ []))
+      ap (λ b. contains nat_cmp known q || b) (n q) ∙ or-assoc (contains nat_cmp known q) (contains nat_cmp old.set q) (y == q)
+      ∙ ap (λ b. b || (y == q)) (a.members q) ∙ sym (any-snoc q (xs ++ ys) y) ∙ ap (has q) (append_assoc xs ys (y ∷ []));
 }
 
 or-same : (b c : Bool) → (c ≡ true → b ≡ true) → b ≡ (b || c)
@@ -102,16 +102,16 @@ pub kept : (xs ys : List ℕ) (known : BTreeSet ℕ) (old new : Registers) (y : 
     ((q : ℕ) → contains nat_cmp new.set q ≡ contains nat_cmp old.set q) → new.count ≡ old.count → AreCounted xs (ys ++ y ∷ []) known new
 kept xs ys known old new y a k n c = record {
   count =
-    let s = count-snoc (xs ++ ys) y in
-    let t : one (has y (xs ++ ys)) ≡ 0 = ap one (sym (a.members y) ∙ k) in
-    let u : length (distinct (xs ++ (ys ++ y ∷ []))) ≡ length (distinct ((xs ++ ys) ++ y ∷ [])) = ap (λ zs. length (distinct zs)) (sym (append_assoc xs ys (y ∷ []))) in
-    let v = a.count in
-    omega arith;
+      let s = count-snoc (xs ++ ys) y in
+      let t : one (has y (xs ++ ys)) ≡ 0 = ap one (sym (a.members y) ∙ k) in
+      let u : length (distinct (xs ++ (ys ++ y ∷ []))) ≡ length (distinct ((xs ++ ys) ++ y ∷ [])) = ap (λ zs. length (distinct zs)) (sym (append_assoc xs ys (y ∷ []))) in
+      let v = a.count in
+      omega arith;
   members = λ q.
-    let i : has y (xs ++ ys) ≡ true = sym (a.members y) ∙ k in
-    ap (λ b. contains nat_cmp known q || b) (n q) ∙ a.members q
-    ∙ or-same (has q (xs ++ ys)) (y == q) (λ t. let p : y ≡ q = grind (arith, nat_tests) in ap (λ z. has z (xs ++ ys)) (sym p) ∙ i)
-    ∙ sym (any-snoc q (xs ++ ys) y) ∙ ap (has q) (append_assoc xs ys (y ∷ []))
+      let i : has y (xs ++ ys) ≡ true = sym (a.members y) ∙ k in
+      ap (λ b. contains nat_cmp known q || b) (n q) ∙ a.members q
+      ∙ or-same (has q (xs ++ ys)) (y == q) (λ t. let p : y ≡ q = grind (arith, nat_tests) in ap (λ z. has z (xs ++ ys)) (sym p) ∙ i)
+      ∙ sym (any-snoc q (xs ++ ys) y) ∙ ap (has q) (append_assoc xs ys (y ∷ []));
 }
 
 pub at-number : (a b : Bool) (y q : ℕ) → nat_lt y q ≡ a → (y == q) ≡ b → is_eq (nat_cmp y q) ≡ b

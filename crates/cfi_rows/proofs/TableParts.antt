@@ -199,8 +199,8 @@ pub nothing-kept : (debug : Bool) (address : ℕ) (es : List RawEntry) (cies : B
 nothing-kept debug address es cies e = λ p.
     subst (λ xs. KeptFor address (get nat_cmp cies p) (entry_named debug xs (Some p))) (sym none)
     (subst (λ g. KeptFor address g None) (sym (ap (lookup (is_at (nat_cmp p))) e)) tt) where
-  none : drop (length es - 0) es ≡ []
-  none = let z : length es - 0 ≡ length es = omega arith in ap (λ n. drop n es) z ∙ drop-all es
+      none : drop (length es - 0) es ≡ []
+      none = let z : length es - 0 ≡ length es = omega arith in ap (λ n. drop n es) z ∙ drop-all es
 
 pub last-is : {X : Type 0} (xs : List X) (count : ℕ) (d : X) → count < length xs →
     drop (length xs - (count + 1)) xs ≡ get_or xs (length xs - 1 - count) d ∷ drop (length xs - count) xs

@@ -33,8 +33,14 @@ pub struct Augmentation {
 impl Augmentation {
     // What no letter has changed yet.
     fn plain(has_data: bool) -> Augmentation
-        ensures { augmentation_of result ≡ record { has_data = has_data; encoding = spec.no_augmentation.encoding;
-            table = None; handler = 0; indirect = spec.no_augmentation.indirect; signal = spec.no_augmentation.signal } }
+        ensures { augmentation_of result ≡ record {
+          has_data = has_data;
+          encoding = spec.no_augmentation.encoding;
+          table = None;
+          handler = 0;
+          indirect = spec.no_augmentation.indirect;
+          signal = spec.no_augmentation.signal;
+        } }
     {
         Augmentation {
             has_data,
@@ -67,7 +73,12 @@ impl Augmentation {
     }
 
     // Takes a handler by its encoding.
-    fn take_handler(&mut self, encoding: u8, end: u128, cursor: &mut Cursor<'_>) -> Result<(), Failed>
+    fn take_handler(
+        &mut self,
+        encoding: u8,
+        end: u128,
+        cursor: &mut Cursor<'_>,
+    ) -> Result<(), Failed>
         requires { end < 2 ^ 66 }
         ensures ok { OnOk result (spec.handler_at (augmentation_of self.old) end encoding cursor.old.left
             ≡ Ok (augmentation_of self.new, cursor.new.left)) }
@@ -174,7 +185,11 @@ fn by_letters(letters: &[u8], end: u128, bytes: &[u8]) -> Result<Augmentation, F
 }
 
 /// The augmentation by its text; `end` is where the bytes left end.
-pub(crate) fn read_augmentation(text: &[u8], end: u128, cursor: &mut Cursor<'_>) -> Result<Augmentation, Failed>
+pub(crate) fn read_augmentation(
+    text: &[u8],
+    end: u128,
+    cursor: &mut Cursor<'_>,
+) -> Result<Augmentation, Failed>
     requires { end < 2 ^ 66 }
     ensures ok { IfOk result (λ a. spec.augmentation_at end text.now cursor.old.left ≡ Ok (augmentation_of a, cursor.new.left)) }
     ensures err { IfErr result (λ e. Fails e (spec.augmentation_at end text.now cursor.old.left ≡ Err Entry)) }

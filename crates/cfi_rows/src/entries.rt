@@ -22,7 +22,11 @@ impl<'a> RawEntry<'a> {
     fn is_cie(&self, debug: bool) -> bool
         ensures { result ≡ spec.is_cie debug self.now }
     {
-        if debug { self.id == DEBUG_CIE_ID } else { self.id == 0 }
+        if debug {
+            self.id == DEBUG_CIE_ID
+        } else {
+            self.id == 0
+        }
     }
 
     // The offset of the CIE that an FDE names.
@@ -86,7 +90,13 @@ fn read_cies(
 {
     let mut cies = BTreeMap::new(alloc);
     for count in 0..entries.len() {
-        add_cie(alloc, debug, address, &entries[entries.len() - 1 - count], &mut cies)?;
+        add_cie(
+            alloc,
+            debug,
+            address,
+            &entries[entries.len() - 1 - count],
+            &mut cies,
+        )?;
     }
     Ok(cies)
 }

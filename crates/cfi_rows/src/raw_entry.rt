@@ -82,7 +82,10 @@ pub(crate) fn walk<'a>(alloc: Global, debug: bool, table: &'a [u8]) -> Result<Wa
     // Each has a byte or more.
     for count in 0..table.len() {
         if left.is_empty() {
-            return Ok(Walked { entries, broken: None });
+            return Ok(Walked {
+                entries,
+                broken: None,
+            });
         }
         match entry_at(debug, place, left) {
             Ok((entry, rest)) => {
@@ -90,12 +93,24 @@ pub(crate) fn walk<'a>(alloc: Global, debug: bool, table: &'a [u8]) -> Result<Wa
                 left = rest;
                 entries.push(entry)?;
             }
-            Err(NoEntry::Ends) => return Ok(Walked { entries, broken: None }),
-            Err(NoEntry::Breaks) => return Ok(Walked { entries, broken: Some(place) }),
+            Err(NoEntry::Ends) => return Ok(Walked {
+                entries,
+                broken: None,
+            }),
+            Err(NoEntry::Breaks) => return Ok(Walked {
+                entries,
+                broken: Some(place),
+            }),
         }
     }
     if left.is_empty() {
-        return Ok(Walked { entries, broken: None });
+        return Ok(Walked {
+            entries,
+            broken: None,
+        });
     }
-    Ok(Walked { entries, broken: Some(place) })
+    Ok(Walked {
+        entries,
+        broken: Some(place),
+    })
 }

@@ -7,8 +7,9 @@ ghost use Rattle.cfi_rows.specs.declared.instruction.Malformed.TheVariants.{Entr
 use crate::factors::Factors;
 use crate::failed::Failed;
 use crate::instruction::{
-    DW_CFA_GNU_args_size,    DW_CFA_def_cfa_offset_sf, DW_CFA_def_cfa_sf, DW_CFA_expression, DW_CFA_offset_extended_sf,
-    DW_CFA_val_expression, DW_CFA_val_offset, DW_CFA_val_offset_sf, Instruction,
+    DW_CFA_GNU_args_size, DW_CFA_def_cfa_offset_sf, DW_CFA_def_cfa_sf, DW_CFA_expression,
+    DW_CFA_offset_extended_sf, DW_CFA_val_expression, DW_CFA_val_offset, DW_CFA_val_offset_sf,
+    Instruction,
 };
 use crate::operand::{block, signed, unsigned};
 use crate::row::{Cfa, Rule};

@@ -6,11 +6,17 @@ ghost use Rattle.cfi_rows.specs.declared.instruction.Malformed.TheVariants.{Entr
 
 use crate::factors::Factors;
 use crate::failed::Failed;
-use crate::instruction::{DW_CFA_advance_loc1, DW_CFA_advance_loc2, DW_CFA_nop, DW_CFA_set_loc, Instruction};
+use crate::instruction::{
+    DW_CFA_advance_loc1, DW_CFA_advance_loc2, DW_CFA_nop, DW_CFA_set_loc, Instruction,
+};
 use crate::operand::{byte, half, word};
 use rb_bytes::cursor::Cursor;
 
-pub(crate) fn location(cursor: &mut Cursor<'_>, op: u8, factors: &Factors) -> Result<Instruction, Failed>
+pub(crate) fn location(
+    cursor: &mut Cursor<'_>,
+    op: u8,
+    factors: &Factors,
+) -> Result<Instruction, Failed>
     requires { op ≤ 4 }
     ensures ok { IfOk result (λ i. instruction_of (context_of factors.now) op cursor.old.left ≡ Ok (i, cursor.new.left)) }
     ensures err { IfErr result (λ e. Fails e (instruction_of (context_of factors.now) op cursor.old.left ≡ Err Entry)) }

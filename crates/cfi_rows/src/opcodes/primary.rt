@@ -11,7 +11,11 @@ use crate::operand::unsigned;
 use crate::row::Rule;
 use rb_bytes::cursor::Cursor;
 
-pub(crate) fn primary(cursor: &mut Cursor<'_>, op: u8, factors: &Factors) -> Result<Instruction, Failed>
+pub(crate) fn primary(
+    cursor: &mut Cursor<'_>,
+    op: u8,
+    factors: &Factors,
+) -> Result<Instruction, Failed>
     requires { 64 ≤ op }
     ensures ok { IfOk result (λ i. instruction_of (context_of factors.now) op cursor.old.left ≡ Ok (i, cursor.new.left)) }
     ensures err { IfErr result (λ e. Fails e (instruction_of (context_of factors.now) op cursor.old.left ≡ Err Entry)) }

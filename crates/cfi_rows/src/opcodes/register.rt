@@ -7,13 +7,18 @@ ghost use Rattle.cfi_rows.specs.declared.instruction.Malformed.TheVariants.{Entr
 use crate::factors::Factors;
 use crate::failed::Failed;
 use crate::instruction::{
-    DW_CFA_offset_extended, DW_CFA_restore_extended, DW_CFA_same_value, DW_CFA_undefined, Instruction,
+    DW_CFA_offset_extended, DW_CFA_restore_extended, DW_CFA_same_value, DW_CFA_undefined,
+    Instruction,
 };
 use crate::operand::unsigned;
 use crate::row::Rule;
 use rb_bytes::cursor::Cursor;
 
-pub(crate) fn register(cursor: &mut Cursor<'_>, op: u8, factors: &Factors) -> Result<Instruction, Failed>
+pub(crate) fn register(
+    cursor: &mut Cursor<'_>,
+    op: u8,
+    factors: &Factors,
+) -> Result<Instruction, Failed>
     requires low { 5 ≤ op }
     requires high { op ≤ 9 }
     ensures ok { IfOk result (λ i. instruction_of (context_of factors.now) op cursor.old.left ≡ Ok (i, cursor.new.left)) }

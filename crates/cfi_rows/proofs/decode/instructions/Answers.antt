@@ -24,8 +24,8 @@ loop-count-preserved c =
     let h : c.loop-count.count < c.left-count-end.result = search rules in
     c.loop-count.invariant ∙ next _ _ _ _ _ _ _ h z c.in_ok-instruction.ensures.ok
     ∙ ap
-      (λ xs. after xs (instructions_in (context_of c.args.factors.now) (c.left-count-end.result - (c.loop-count.count + 1))
-      c.instruction.new.cursor.left)) (sym c.in_ok-push.ensures.items)
+    (λ xs. after xs (instructions_in (context_of c.args.factors.now) (c.left-count-end.result - (c.loop-count.count + 1))
+    c.instruction.new.cursor.left)) (sym c.in_ok-push.ensures.items)
 
 pub returns-then-left-gt0-clause-err : goal.returns-then-left-gt0-clause-err
 returns-then-left-gt0-clause-err c =

@@ -16,7 +16,7 @@ returns-in-Some-Some-clause-ok c = λ es kept.
     let e = c.args.entry.now in
     let g : get nat_cmp c.args.cies.now c.in-Some.place ≡ Some (Some k) = search rules in
     let f = found c.args.debug c.args.address es c.in-Some.place k
-        (subst (λ o. KeptFor c.args.address o (entry_named c.args.debug es (Some c.in-Some.place))) g (kept c.in-Some.place)) in
+    (subst (λ o. KeptFor c.args.address o (entry_named c.args.debug es (Some c.in-Some.place))) g (kept c.in-Some.place)) in
     let is = fde-is c.args.debug c.args.address es e c.in-Some.place k (sym c.cie_place.ensures ∙ c.in-Some.is) f in
     subst (λ r. IfOk c.read_fde.result (λ f. IsOkAnd r (λ x. f ≡ fde_of x)))
     (ap (λ n. fde_at (cie_of k f.cie.instructions f.cie.known) n e) c.end.ensures.is ∙ sym is)
@@ -28,7 +28,7 @@ returns-in-Some-Some-clause-err c = λ es kept.
     let e = c.args.entry.now in
     let g : get nat_cmp c.args.cies.now c.in-Some.place ≡ Some (Some k) = search rules in
     let f = found c.args.debug c.args.address es c.in-Some.place k
-        (subst (λ o. KeptFor c.args.address o (entry_named c.args.debug es (Some c.in-Some.place))) g (kept c.in-Some.place)) in
+    (subst (λ o. KeptFor c.args.address o (entry_named c.args.debug es (Some c.in-Some.place))) g (kept c.in-Some.place)) in
     let is = fde-is c.args.debug c.args.address es e c.in-Some.place k (sym c.cie_place.ensures ∙ c.in-Some.is) f in
     subst (λ r. IfErr c.read_fde.result (λ x. Fails x (r ≡ Err Entry)))
     (ap (λ n. fde_at (cie_of k f.cie.instructions f.cie.known) n e) c.end.ensures.is ∙ sym is)

@@ -19,7 +19,7 @@ returns-in_err-list-clause-err c = λ is known kept.
     let p = err_from_is_err_and c.from_residual-in_err-list.result c.from_residual-in_err-list.ensures.1 in
     let A = augmentation_of c.args.cie.now.head.augmentation in
     let head = sym (ap (λ (r : Reading). fde_head_at A c.args.end r.left) c.new-cursor.ensures
-        ∙ ap (λ (e : RawEntry). fde_head_at A c.args.end e.body) c.entry.view_is) ∙ c.in_ok-head.ensures.ok in
+    ∙ ap (λ (e : RawEntry). fde_head_at A c.args.end e.body) c.entry.view_is) ∙ c.in_ok-head.ensures.ok in
     rw (p.1, p.2)
     (fails_by c.in_err-list.field-0.0
     (λ n. no-instructions (cie_of c.args.cie.now is known) c.args.end c.args.entry.now c.in_ok-head.head c.read_fde_head.new.cursor.left head
@@ -31,7 +31,7 @@ returns-in_err-rows-clause-err c = λ is known kept.
     let p = err_from_is_err_and c.from_residual-in_err-rows.result c.from_residual-in_err-rows.ensures.1 in
     let A = augmentation_of c.args.cie.now.head.augmentation in
     let head = sym (ap (λ (r : Reading). fde_head_at A c.args.end r.left) c.new-cursor.ensures
-        ∙ ap (λ (e : RawEntry). fde_head_at A c.args.end e.body) c.entry.view_is) ∙ c.in_ok-head.ensures.ok in
+    ∙ ap (λ (e : RawEntry). fde_head_at A c.args.end e.body) c.entry.view_is) ∙ c.in_ok-head.ensures.ok in
     rw (p.1, p.2)
     (fails_by c.in_err-rows.field-0.0
     (λ n. unsound c.args.cie.now is known c.args.end c.args.entry.now c.in_ok-head.head c.read_fde_head.new.cursor.left c.in_ok-list.list.items kept head
@@ -43,7 +43,7 @@ pub returns-clause-ok : goal.returns-clause-ok
 returns-clause-ok c = λ is known kept.
     let A = augmentation_of c.args.cie.now.head.augmentation in
     let head = sym (ap (λ (r : Reading). fde_head_at A c.args.end r.left) c.new-cursor.ensures
-        ∙ ap (λ (e : RawEntry). fde_head_at A c.args.end e.body) c.entry.view_is) ∙ c.in_ok-head.ensures.ok in
+    ∙ ap (λ (e : RawEntry). fde_head_at A c.args.end e.body) c.entry.view_is) ∙ c.in_ok-head.ensures.ok in
     let own : c.in_ok-own.own ≡ sum_by bytes_in c.deref-3.result.now = search rules in
     made-as c.args.cie.now is known c.args.end c.args.entry.now c.in_ok-head.head c.read_fde_head.new.cursor.left c.in_ok-list.list.items
     c.in_ok-rows.rows c.in_ok-added.added c.in_ok-own.own _ _ _ kept head

@@ -25,12 +25,13 @@ loop-count-preserved c =
     let z : 0 < length c.loop-count.left.now = search rules in
     let body : length c.entry.inside.body.now ≡ length c.in-Ok.entry.body = search rules in
     let place : c.loop-count.place + 8 + length c.in-Ok.entry.body ≡ c.loop-count.place + (8 + length c.entry.inside.body.now) = omega arith in
-    let count = length c.args.table.now - (c.loop-count.count + 1) in
-    (c.loop-count.invariant.0 ∙ next _ _ _ _ _ _ _ _ c.loop-count-test.true z c.in-Ok.ensures.entry
-    ∙ ap (λ n. after (c.loop-count.entries.items ++ c.in-Ok.entry ∷ []) (walk c.args.debug count n c.in-Ok.rest.now)) place
-    ∙ ap (λ xs. after xs (walk c.args.debug count (c.loop-count.place + (8 + length c.entry.inside.body.now)) c.in-Ok.rest.now))
-    (sym c.in_ok-push-in-Ok.ensures.items),
-      let size = c.in-Ok.ensures.size in let all = c.loop-count.invariant.1 in omega arith)
+    let count = length c.args.table.now - (c.loop-count.count + 1) in (
+      c.loop-count.invariant.0 ∙ next _ _ _ _ _ _ _ _ c.loop-count-test.true z c.in-Ok.ensures.entry
+          ∙ ap (λ n. after (c.loop-count.entries.items ++ c.in-Ok.entry ∷ []) (walk c.args.debug count n c.in-Ok.rest.now)) place
+          ∙ ap (λ xs. after xs (walk c.args.debug count (c.loop-count.place + (8 + length c.entry.inside.body.now)) c.in-Ok.rest.now))
+          (sym c.in_ok-push-in-Ok.ensures.items),
+      let size = c.in-Ok.ensures.size in let all = c.loop-count.invariant.1 in omega arith,
+    )
 
 pub returns-then-is_empty-2 : goal.returns-then-is_empty-2
 returns-then-is_empty-2 c =

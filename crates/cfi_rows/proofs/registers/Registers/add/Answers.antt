@@ -7,12 +7,12 @@ use Rattle.cfi_rows.proofs.registers.Registers.add.Goals.{then-contains-via-then
 pub returns-then-contains-clause-added : goal.returns-then-contains-clause-added
 returns-then-contains-clause-added c = λ xs ys a counted.
     let either : (contains nat_cmp c.args.known.now c.args.register || contains nat_cmp c.args.self.now.set c.args.register) ≡ true =
-        elim c.then-contains.branch [
-          then-contains-via-then-contains w ↦
-            let k : contains nat_cmp c.args.known.now c.args.register ≡ true = search rules in or-left _ _ k
-        | then-contains-via-else-contains+then-contains-2 w ↦
-            let k : contains nat_cmp c.args.self.now.set c.args.register ≡ true = search rules in or-right _ _ k
-        ] in
+    elim c.then-contains.branch [
+      | then-contains-via-then-contains w ↦
+          let k : contains nat_cmp c.args.known.now c.args.register ≡ true = search rules in or-left _ _ k
+      | then-contains-via-else-contains+then-contains-2 w ↦
+          let k : contains nat_cmp c.args.self.now.set c.args.register ≡ true = search rules in or-right _ _ k
+    ] in
     kept xs ys c.args.known.now c.args.self.now c.args.self.now c.args.register counted either (λ q. refl) refl
 
 pub returns-clause-added : goal.returns-clause-added
