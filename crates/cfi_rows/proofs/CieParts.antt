@@ -1,0 +1,56 @@
+-- A CIE by its parts.
+use Rattle.std.proofs.Common.{◌≡◌, ◌∙◌, ℕ, List, Result, Ok, Err, Some, None, refl, sym, ap, subst}
+use Rattle.std.specs.Prelude.{IsOkAnd, flat_map, sum_by, length}
+use Rattle.table_core.specs.ReadSteps.{and_so}
+use Rattle.table_core.specs.Weights.{distinct}
+use Rattle.cfi_rows.specs.declared.cie.Cie.{Cie as Kept}
+use Rattle.cfi_rows.specs.declared.instruction.Instruction.{Instruction}
+use Rattle.cfi_rows.specs.declared.instruction.Malformed.TheVariants.{Entry}
+use Rattle.cfi_rows.specs.FrameInstructions.{instructions_at}
+use Rattle.cfi_rows.specs.Heads.{head_of}
+use Rattle.cfi_rows.specs.EntryCounts.{registers_set, bytes_in}
+use Rattle.cfi_rows.specs.Outlines.{frame_after}
+use Rattle.cfi_rows.specs.RegisterSets.{AreIn}
+use Rattle.cfi_rows.specs.Entries.{Head, cie_at, cie_by, cie_after, cie_made, head_at, head_context, sound_if}
+use Rattle.cfi_rows.specs.KeptCies.{cie_of, IsKeptCie}
+use Rattle.cfi_rows.proofs.Outlining.{KnownFrame, known-frame, unknown}
+
+abbrev head_kept : Kept → Head
+head_kept k = head_of k.head
+
+ok-when : {X E : Type 0} (P : X → Type 0) (r : Result X E) (x : X) → r ≡ Ok x → P x → IsOkAnd r P
+ok-when {X} {E} P r x e p = subst (λ (r : Result X E). IsOkAnd r P) (sym e) p
+
+head-only : (end : ℕ) (body rest : List ℕ) (h : Head) → head_at end body ≡ Ok (h, rest) →
+    cie_at end body ≡ and_so (instructions_at (head_context end h) rest) (cie_after h)
+head-only end body rest h e = ap (λ r. and_so r (cie_by end)) e
+
+pub no-head : (end : ℕ) (body : List ℕ) → head_at end body ≡ Err Entry → cie_at end body ≡ Err Entry
+no-head end body e = ap (λ r. and_so r (cie_by end)) e
+
+pub no-instructions : (end : ℕ) (body rest : List ℕ) (h : Head) → head_at end body ≡ Ok (h, rest) →
+    instructions_at (head_context end h) rest ≡ Err Entry → cie_at end body ≡ Err Entry
+no-instructions end body rest h e f = head-only end body rest h e ∙ ap (λ r. and_so r (cie_after h)) f
+
+with-list : (end : ℕ) (body rest : List ℕ) (h : Head) (is : List Instruction) → head_at end body ≡ Ok (h, rest) →
+    instructions_at (head_context end h) rest ≡ Ok is → cie_at end body ≡ cie_after h is
+with-list end body rest h is e f = head-only end body rest h e ∙ ap (λ r. and_so r (cie_after h)) f
+
+pub no-frame : (end : ℕ) (body rest : List ℕ) (h : Head) (is : List Instruction) → head_at end body ≡ Ok (h, rest) →
+    instructions_at (head_context end h) rest ≡ Ok is → frame_after is ≡ None → cie_at end body ≡ Err Entry
+no-frame end body rest h is e f n = with-list end body rest h is e f ∙ ap (λ o. and_so (sound_if o) (cie_made h is)) (unknown is n)
+
+by-known : (end : ℕ) (body rest : List ℕ) (k : Kept) (is : List Instruction) → head_at end body ≡ Ok (head_kept k, rest) →
+    instructions_at (head_context end (head_kept k)) rest ≡ Ok is → KnownFrame is k.frame →
+    AreIn (flat_map registers_set is) k.registers.set → length (distinct (flat_map registers_set is)) ≡ k.registers.count →
+    sum_by bytes_in is ≡ k.bytes → IsOkAnd (cie_at end body) (IsKeptCie k)
+by-known end body rest k is e f n r c b =
+    ok-when (IsKeptCie k) (cie_at end body) (cie_of k is n.known)
+    (with-list end body rest (head_kept k) is e f ∙ ap (λ o. and_so (sound_if o) (cie_made (head_kept k) is)) n.known_is)
+    (record { same = refl; kept = record { frame = n.kind; registers = r; count = c; bytes = b } })
+
+pub made : (end : ℕ) (body rest : List ℕ) (k : Kept) (is : List Instruction) → head_at end body ≡ Ok (head_kept k, rest) →
+    instructions_at (head_context end (head_kept k)) rest ≡ Ok is → frame_after is ≡ Some k.frame →
+    AreIn (flat_map registers_set is) k.registers.set → length (distinct (flat_map registers_set is)) ≡ k.registers.count →
+    sum_by bytes_in is ≡ k.bytes → IsOkAnd (cie_at end body) (IsKeptCie k)
+made end body rest k is e f n = by-known end body rest k is e f (known-frame is k.frame n)

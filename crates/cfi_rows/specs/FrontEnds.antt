@@ -1,0 +1,8 @@
+-- What stands where no entry does.
+use Rattle.cfi_rows.specs.declared.raw_entry.NoEntry.{NoEntry}
+use Rattle.cfi_rows.specs.declared.raw_entry.NoEntry.TheVariants as none
+use Rattle.cfi_rows.specs.Entries.{Front, Ends, Breaks}
+
+abbrev pub front_without : NoEntry → Front
+front_without none.Ends = Ends
+front_without none.Breaks = Breaks

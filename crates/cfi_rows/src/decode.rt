@@ -1,0 +1,59 @@
+// The instructions of an entry. DWARF 5, section 7.24.
+ghost use Rattle.std.specs.Prelude.{◌≡◌, IfOk, IfErr, Ok, Err};
+ghost use Rattle.cfi_rows.specs.FrameInstructions.{instruction_at, instructions_at};
+ghost use Rattle.cfi_rows.specs.Reads.{Fails, context_of};
+ghost use Rattle.cfi_rows.specs.declared.instruction.Malformed.TheVariants.{Entry};
+
+use crate::factors::Factors;
+use crate::failed::Failed;
+use crate::instruction::Instruction;
+use crate::opcodes::extended::extended;
+use crate::opcodes::frame::frame;
+use crate::opcodes::location::location;
+use crate::opcodes::primary::primary;
+use crate::opcodes::register::register;
+use crate::operand::byte;
+use rb_bytes::cursor::Cursor;
+use std::alloc::Global;
+
+// The next instruction.
+fn instruction(
+    alloc: Global,
+    cursor: &mut Cursor<'_>,
+    factors: &Factors,
+) -> Result<Instruction, Failed>
+    ensures ok { IfOk result (λ i. instruction_at (context_of factors.now) cursor.old.left ≡ Ok (i, cursor.new.left)) }
+    ensures err { IfErr result (λ e. Fails e (instruction_at (context_of factors.now) cursor.old.left ≡ Err Entry)) }
+{
+    let op = byte(cursor)?;
+    match op {
+        0..=4 => location(cursor, op, factors),
+        5..=9 => register(cursor, op, factors),
+        10..=15 => frame(alloc, cursor, op, factors),
+        16..=63 => extended(alloc, cursor, op, factors),
+        _ => primary(cursor, op, factors),
+    }
+}
+
+/// The instructions that all bytes left spell.
+pub(crate) fn instructions(
+    alloc: Global,
+    cursor: &mut Cursor<'_>,
+    factors: &Factors,
+) -> Result<Vec<Instruction>, Failed>
+    ensures ok { IfOk result (λ is. instructions_at (context_of factors.now) cursor.old.left ≡ Ok is.items) }
+    ensures err { IfErr result (λ e. Fails e (instructions_at (context_of factors.now) cursor.old.left ≡ Err Entry)) }
+{
+    let mut list = Vec::new(alloc);
+    // Each has a byte or more.
+    for count in 0..cursor.left() {
+        if cursor.left() == 0 {
+            return Ok(list);
+        }
+        list.push(instruction(alloc, cursor, factors)?)?;
+    }
+    if cursor.left() > 0 {
+        return Err(Failed::Malformed);
+    }
+    Ok(list)
+}
