@@ -224,7 +224,7 @@ impl<'a> SectionSource<'a> {
         area_headers(&mut headers, &layout.area, self.tables, &mut names.sections)?;
         let ranges = added_ranges(self.elf, self.tables, &mut names.sections)?;
         let symbols = self.symbols(alloc, &own, &mut names, &mut headers, text)?;
-        set_all_contents(&mut headers, &contents, &layout.shift)?;
+        set_all_contents(&mut headers, &contents, &layout.shift);
         let new = NewContents {
             section_names: names.sections.bytes(),
             symbols: &symbols,
@@ -251,15 +251,10 @@ impl<'a> SectionSource<'a> {
 }
 
 // Sets what headers say of their contents, but for the places of those that are written.
-fn set_all_contents(
-    headers: &mut [SectionHeader],
-    contents: &[Contents],
-    shift: &Shift,
-) -> Result<(), Unwritable> {
+fn set_all_contents(headers: &mut [SectionHeader], contents: &[Contents], shift: &Shift) {
     for i in 0..contents.len().min(headers.len()) {
-        set_contents(&mut headers[i], contents[i], shift)?;
+        set_contents(&mut headers[i], contents[i], shift);
     }
-    Ok(())
 }
 
 // Writes the table of headers, and says where it stands. No section stands behind the file's end.
