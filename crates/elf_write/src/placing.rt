@@ -110,7 +110,12 @@ pub fn is_kept_table(elf: &Elf, shift: &Shift) -> bool
 
 /// Where the table of program headers stands: with the new code, where it stood, or behind the loaded bytes, where
 /// zeros are added for it.
-pub fn table_place(elf: &Elf, area: &Area, shift: &Shift, tail: &mut Tail) -> Result<u64, Unwritable>
+pub fn table_place(
+    elf: &Elf,
+    area: &Area,
+    shift: &Shift,
+    tail: &mut Tail,
+) -> Result<u64, Unwritable>
     ensures place { IfOk result (λ at. made.IsTablePlace elf.now area.now shift.now tail.old.base at) }
     ensures base { IfOk result (λ at. tail.new.base ≡ tail.old.base) }
 {

@@ -1,9 +1,9 @@
 // Numbers rounded up, and numbers of 64 bits.
-use crate::unwritable::Unwritable;
 ghost use Rattle.std.specs.Prelude.{◌≡◌, ◌+◌, ◌^◌, ◌<◌, ◌≤◌, IfOk};
 ghost use Rattle.elf_image.specs.memory.Break.{rounded_up};
 ghost use Rattle.elf_write.specs.Need.{capped};
 
+use crate::unwritable::Unwritable;
 
 /// Rounds up to a multiple of a unit.
 pub fn rounded_up(unit: u64, n: u128) -> u128

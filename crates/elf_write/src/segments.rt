@@ -114,7 +114,9 @@ impl<'a> Places<'a> {
     {
         let count = self.elf.segments.len() as u64;
         let count = sum(count, 1)?;
-        count.checked_mul(PHDR_SIZE as u64).ok_or(Unwritable::Layout)
+        count
+            .checked_mul(PHDR_SIZE as u64)
+            .ok_or(Unwritable::Layout)
     }
 
     // Where a section of an index stands in the written file, and in the input.
