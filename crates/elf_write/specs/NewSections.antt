@@ -1,6 +1,6 @@
 -- The sections of a written file, beside those of its input. gABI, "Section Header".
 use Rattle.std.specs.Prelude.{◌≡◌, ℕ, ◌+◌, ◌-◌, ◌%◌, ◌==◌, ◌&&◌, is_none, is_some, min, max, if◌then◌else◌, Bool, List, []}
-use Rattle.std.specs.Prelude.{Some, IfSome, IsTrue, String, Vec, string_bytes, codes, find, length, slice_get, take}
+use Rattle.std.specs.Prelude.{Some, IfSome, IsTrue, String, Vec, string_bytes, codes, find, length, slice_get}
 use Rattle.std.specs.Option.{option_map_or}
 use Rattle.std.specs.Str.{bytes_eq}
 use Rattle.rv_code.specs.isa.Op.{flag}

@@ -193,6 +193,18 @@ impl Shift {
         })
     }
 
+    /// Where the byte at an offset is, if it has a place in the file.
+    pub fn reach(&self, offset: u64) -> u128
+        ensures is { result ≡ moved_by self.now.from self.now.by offset }
+        ensures low { result < 2 ^ 65 }
+    {
+        if self.from <= offset {
+            offset as u128 + self.by as u128
+        } else {
+            offset as u128
+        }
+    }
+
     /// Where the byte at an offset went.
     pub fn moved(&self, offset: u64) -> Result<u64, Unwritable>
         ensures { IfOk result (λ o. o ≡ moved_by self.now.from self.now.by offset) }

@@ -152,15 +152,11 @@ fn no_section(name: u32) -> SectionHeader {
 }
 
 /// Sets what a header says of its contents, but for the places of those that are written.
-pub fn set_contents(
-    header: &mut SectionHeader,
-    contents: Contents,
-    shift: &Shift,
-) -> Result<(), Unwritable> {
+pub fn set_contents(header: &mut SectionHeader, contents: Contents, shift: &Shift) {
     match contents {
         Contents::Dropped => *header = no_section(header.name),
         Contents::Inactive => {}
-        Contents::Kept => header.offset = shift.moved(header.offset)?,
+        Contents::Kept => header.offset = shift.reach(header.offset).min(u64::MAX as u128) as u64,
         Contents::Copied => {}
         Contents::SectionNames | Contents::Symbols | Contents::SymbolNames => {
             header.flags = without_code(header.flags);
@@ -176,7 +172,6 @@ pub fn set_contents(
             }
         }
     }
-    Ok(())
 }
 
 // Writes the contents of the section of an index.

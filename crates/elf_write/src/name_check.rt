@@ -1,10 +1,7 @@
 // Whether the tables of names of a file that was written are what they must be, as they are read back. gABI, "String
 // Table".
-ghost use Rattle.std.specs.Prelude.{◌≡◌, ◌++◌, IfOk, IfSome, IsTrue, List, flat_map};
-ghost use Rattle.elf_image.specs.declared.symbol.Symbol.{Symbol};
+ghost use Rattle.std.specs.Prelude.{◌≡◌, ◌++◌, IfOk, IfSome, IsTrue, flat_map};
 ghost use Rattle.rv_code.specs.layout.FunctionLists.{AreLaidOut};
-ghost use Rattle.elf_write.specs.ColdSymbols.{named_around};
-ghost use Rattle.elf_write.specs.FirstNames.{AreFirstNames};
 ghost use Rattle.elf_write.specs.NewNames as spec;
 ghost use Rattle.elf_write.specs.NewNames.{HaveNewNames};
 
@@ -84,34 +81,6 @@ fn behind_added<'a>(bytes: &'a [u8], area: &Area, ranges: bool) -> Option<&'a [u
     behind_if(rest, ranges, DEBUG_RNGLISTS)
 }
 
-// The same of the name of a cold part's symbol, if it gets one.
-fn behind_cold_name<'a>(bytes: &'a [u8], symbol: Option<Symbol>) -> Option<&'a [u8]>
-    ensures { IfSome result (λ rest. bytes.now ≡ spec.name_behind symbol.entry ++ rest.now) }
-{
-    match symbol {
-        Some(symbol) => behind_name(bytes, symbol.name, b".cold"),
-        None => Some(bytes),
-    }
-}
-
-// The same of all of them.
-fn behind_cold_names<'a>(
-    bytes: &'a [u8],
-    names: &BTreeMap<u64, Symbol>,
-    funcs: &[Func],
-    cold: &[u64],
-) -> Option<&'a [u8]>
-    requires { AreLaidOut funcs.now }
-    ensures { (symbols : List Symbol) → AreFirstNames symbols names.now →
-        IfSome result (λ rest. bytes.now ≡ flat_map (λ a. spec.name_behind (named_around symbols funcs.now a)) cold.now ++ rest.now) }
-{
-    let mut rest = bytes;
-    for address in cold {
-        rest = behind_cold_name(rest, named_around(names, funcs, *address))?;
-    }
-    Some(rest)
-}
-
 // What follows the bytes of a table in those of one with more names. One that was empty begins with a zero byte then.
 fn behind_old_table<'a>(table: &'a [u8], old: &[u8]) -> Option<&'a [u8]>
     ensures { IfSome result (λ rest. table.now ≡ spec.extended old.now rest.now) }
@@ -136,41 +105,77 @@ fn table_bytes<'a>(elf: &Elf<'a>, index: usize) -> &'a [u8]
     }
 }
 
-/// The tables of names of the input and of a written file, and the names by which cold parts are called.
+/// The tables of names of the input and of a written file.
 #[derive(Clone, Copy)]
 pub struct NewNames<'a> {
     pub tables: &'a SectionTables<'a>,
     pub funcs: &'a [Func],
     /// The addresses of cold parts.
     pub cold: &'a [u64],
-    pub names: &'a BTreeMap<u64, Symbol<'a>>,
 }
 
 impl<'a> NewNames<'a> {
-    ghost use Rattle.std.specs.Prelude.{◌≡◌, ◌≢◌, IfSome, IsTrue};
+    ghost use Rattle.std.specs.Prelude.{◌≡◌, ◌≢◌, ◌++◌, IfSome, IsTrue};
     ghost use Rattle.elf_image.specs.file.Header.{e_shstrndx};
     ghost use Rattle.rv_code.specs.layout.FunctionLists.{AreLaidOut};
+    ghost use Rattle.elf_write.specs.ColdSymbols.{named_around};
     ghost use Rattle.elf_write.specs.FirstNames.{AreFirstNames};
     ghost use Rattle.elf_write.specs.NameTables.{place_of_names};
-    ghost use Rattle.elf_write.specs.NewNames.{HaveNewNames, cold_names, extended, names_added, table_bytes};
+    ghost use Rattle.elf_write.specs.NewNames.{HaveNewNames, cold_names, extended, name_behind, names_added, table_bytes};
     ghost use Rattle.elf_write.specs.NewSections.{adds_ranges};
 
-    // Whether bytes are the names of cold parts.
-    fn are_cold(&self, bytes: &[u8]) -> bool
+    // What follows the name of the symbol of the cold part that begins at an address, if it gets one.
+    fn behind_cold_name<'b>(
+        &self,
+        names: &BTreeMap<u64, Symbol>,
+        bytes: &'b [u8],
+        address: u64,
+    ) -> Option<&'b [u8]>
         requires laid_out { AreLaidOut self.now.funcs.now }
-        requires names { AreFirstNames self.now.tables.now.elf.now.symbols.items self.now.names.now }
+        requires names { AreFirstNames self.now.tables.now.elf.now.symbols.items names.now }
+        ensures { IfSome result (λ rest. bytes.now ≡
+            name_behind (named_around self.now.tables.now.elf.now.symbols.items self.now.funcs.now address) ++ rest.now) }
+    {
+        match named_around(names, self.funcs, address) {
+            Some(symbol) => behind_name(bytes, symbol.name, b".cold"),
+            None => Some(bytes),
+        }
+    }
+
+    // The same of all of them.
+    fn behind_cold_names<'b>(
+        &self,
+        names: &BTreeMap<u64, Symbol>,
+        bytes: &'b [u8],
+    ) -> Option<&'b [u8]>
+        requires laid_out { AreLaidOut self.now.funcs.now }
+        requires names { AreFirstNames self.now.tables.now.elf.now.symbols.items names.now }
+        ensures { IfSome result (λ rest. bytes.now ≡
+            cold_names self.now.tables.now.elf.now self.now.funcs.now self.now.cold.now ++ rest.now) }
+    {
+        let mut rest = bytes;
+        for address in self.cold {
+            rest = self.behind_cold_name(names, rest, *address)?;
+        }
+        Some(rest)
+    }
+
+    // Whether bytes are the names of cold parts.
+    fn are_cold(&self, names: &BTreeMap<u64, Symbol>, bytes: &[u8]) -> bool
+        requires laid_out { AreLaidOut self.now.funcs.now }
+        requires names { AreFirstNames self.now.tables.now.elf.now.symbols.items names.now }
         ensures { IsTrue result → bytes.now ≡ cold_names self.now.tables.now.elf.now self.now.funcs.now self.now.cold.now }
     {
-        match behind_cold_names(bytes, self.names, self.funcs, self.cold) {
+        match self.behind_cold_names(names, bytes) {
             Some(rest) => rest.is_empty(),
             None => false,
         }
     }
 
     // Whether bytes are the names that are added to those of sections, whose table has an index.
-    fn are_added(&self, bytes: &[u8], index: usize) -> bool
+    fn are_added(&self, names: &BTreeMap<u64, Symbol>, bytes: &[u8], index: usize) -> bool
         requires laid_out { AreLaidOut self.now.funcs.now }
-        requires names { AreFirstNames self.now.tables.now.elf.now.symbols.items self.now.names.now }
+        requires names { AreFirstNames self.now.tables.now.elf.now.symbols.items names.now }
         requires index { index ≡ e_shstrndx self.now.tables.now.elf.now.file.now }
         ensures { IsTrue result → bytes.now ≡ names_added self.now.tables.now.elf.now self.now.tables.now.area
             (adds_ranges self.now.tables.now.elf.now.sections.items self.now.tables.now.tables.now) self.now.funcs.now
@@ -184,16 +189,16 @@ impl<'a> NewNames<'a> {
             return false;
         };
         if place_of_names(elf) == Some(index) {
-            self.are_cold(rest)
+            self.are_cold(names, rest)
         } else {
             rest.is_empty()
         }
     }
 
     // Whether the table of names of sections is what it must be.
-    fn has_sections(&self) -> bool
+    fn has_sections(&self, names: &BTreeMap<u64, Symbol>) -> bool
         requires laid_out { AreLaidOut self.now.funcs.now }
-        requires names { AreFirstNames self.now.tables.now.elf.now.symbols.items self.now.names.now }
+        requires names { AreFirstNames self.now.tables.now.elf.now.symbols.items names.now }
         ensures { IsTrue result →
             table_bytes self.now.tables.now.new.now (e_shstrndx self.now.tables.now.elf.now.file.now) ≡
             extended (table_bytes self.now.tables.now.elf.now (e_shstrndx self.now.tables.now.elf.now.file.now))
@@ -204,30 +209,30 @@ impl<'a> NewNames<'a> {
         let index = place_of_section_names(self.tables.elf);
         let old = table_bytes(self.tables.elf, index);
         match behind_old_table(table_bytes(self.tables.new, index), old) {
-            Some(rest) => self.are_added(rest, index),
+            Some(rest) => self.are_added(names, rest, index),
             None => false,
         }
     }
 
     // Whether the table of an index has the names of cold parts.
-    fn has_cold(&self, index: usize) -> bool
+    fn has_cold(&self, names: &BTreeMap<u64, Symbol>, index: usize) -> bool
         requires laid_out { AreLaidOut self.now.funcs.now }
-        requires names { AreFirstNames self.now.tables.now.elf.now.symbols.items self.now.names.now }
+        requires names { AreFirstNames self.now.tables.now.elf.now.symbols.items names.now }
         ensures { IsTrue result → table_bytes self.now.tables.now.new.now index ≡
             extended (table_bytes self.now.tables.now.elf.now index)
             (cold_names self.now.tables.now.elf.now self.now.funcs.now self.now.cold.now) }
     {
         let old = table_bytes(self.tables.elf, index);
         match behind_old_table(table_bytes(self.tables.new, index), old) {
-            Some(rest) => self.are_cold(rest),
+            Some(rest) => self.are_cold(names, rest),
             None => false,
         }
     }
 
     // Whether the table of names of symbols is what it must be, where it is another one.
-    fn has_symbols(&self) -> bool
+    fn has_symbols(&self, names: &BTreeMap<u64, Symbol>) -> bool
         requires laid_out { AreLaidOut self.now.funcs.now }
-        requires names { AreFirstNames self.now.tables.now.elf.now.symbols.items self.now.names.now }
+        requires names { AreFirstNames self.now.tables.now.elf.now.symbols.items names.now }
         ensures { IsTrue result → IfSome (place_of_names self.now.tables.now.elf.now) (λ i.
             i ≢ e_shstrndx self.now.tables.now.elf.now.file.now →
             table_bytes self.now.tables.now.new.now i ≡ extended (table_bytes self.now.tables.now.elf.now i)
@@ -235,23 +240,23 @@ impl<'a> NewNames<'a> {
     {
         let elf = self.tables.elf;
         match place_of_names(elf) {
-            Some(index) => index == place_of_section_names(elf) || self.has_cold(index),
+            Some(index) => index == place_of_section_names(elf) || self.has_cold(names, index),
             None => true,
         }
     }
 
     /// Whether both are.
-    pub fn are_new(&self) -> bool
+    pub fn are_new(&self, names: &BTreeMap<u64, Symbol>) -> bool
         requires laid_out { AreLaidOut self.now.funcs.now }
-        requires names { AreFirstNames self.now.tables.now.elf.now.symbols.items self.now.names.now }
+        requires names { AreFirstNames self.now.tables.now.elf.now.symbols.items names.now }
         ensures { IsTrue result →
             HaveNewNames self.now.tables.now.elf.now self.now.tables.now.new.now self.now.tables.now.tables.now
             self.now.tables.now.area self.now.funcs.now self.now.cold.now }
     {
-        if !self.has_sections() {
+        if !self.has_sections(names) {
             return false;
         }
-        self.has_symbols()
+        self.has_symbols(names)
     }
 }
 
@@ -267,11 +272,10 @@ pub fn has_names(
         HaveNewNames tables.now.elf.now tables.now.new.now tables.now.tables.now tables.now.area funcs.now cold.now) }
 {
     let names = first_names(alloc, &tables.elf.symbols)?;
-    let names = NewNames {
+    let tables = NewNames {
         tables,
         funcs,
         cold,
-        names: &names,
     };
-    Ok(names.are_new())
+    Ok(tables.are_new(&names))
 }

@@ -3,6 +3,7 @@ ghost use Rattle.std.specs.Prelude.{◌≡◌, IfOk};
 ghost use Rattle.elf_image.specs.faults.Truncation.{IsReadable};
 ghost use Rattle.elf_image.specs.file.Header.{e_shstrndx};
 
+use crate::area::Shift;
 use crate::area_bytes::table_called;
 use crate::fragments::Fragment;
 use crate::headers::{
@@ -223,9 +224,7 @@ impl<'a> SectionSource<'a> {
         area_headers(&mut headers, &layout.area, self.tables, &mut names.sections)?;
         let ranges = added_ranges(self.elf, self.tables, &mut names.sections)?;
         let symbols = self.symbols(alloc, &own, &mut names, &mut headers, text)?;
-        for i in 0..contents.len().min(headers.len()) {
-            set_contents(&mut headers[i], contents[i], &layout.shift)?;
-        }
+        set_all_contents(&mut headers, &contents, &layout.shift);
         let new = NewContents {
             section_names: names.sections.bytes(),
             symbols: &symbols,
@@ -248,6 +247,13 @@ impl<'a> SectionSource<'a> {
             names: own.section_names,
             table_at,
         })
+    }
+}
+
+// Sets what headers say of their contents, but for the places of those that are written.
+fn set_all_contents(headers: &mut [SectionHeader], contents: &[Contents], shift: &Shift) {
+    for i in 0..contents.len().min(headers.len()) {
+        set_contents(&mut headers[i], contents[i], shift);
     }
 }
 

@@ -33,7 +33,7 @@ use crate::unwritable::Unwritable;
 use elf_image::code_segment::executable_segment;
 use elf_image::named::{EH_FRAME, EH_FRAME_HDR};
 use elf_image::symbol::SYM_SIZE;
-use elf_image::{Elf, Section, read};
+use elf_image::{Elf, Section, Symbol, read};
 use rb_bytes::fault::Refusal;
 use std::alloc::Global;
 
@@ -103,7 +103,8 @@ fn bytes_behind<'a>(elf: &Elf<'a>, table: &Section) -> &'a [u8]
     ensures { result.now ≡ bytes_behind elf.now table.now }
 {
     let bytes = bytes_of(elf.file, table);
-    let end = SYM_SIZE * elf.symbols.len();
+    let symbols: &[Symbol] = &elf.symbols;
+    let end = SYM_SIZE * symbols.len();
     &bytes[end.min(bytes.len())..]
 }
 

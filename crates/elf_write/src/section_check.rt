@@ -76,15 +76,10 @@ fn is_inactive(w: &[u8], s: &Section, n: &Section) -> bool
 fn is_kept(shift: &Shift, w: &[u8], s: &Section, n: &Section) -> bool
     ensures { IsTrue result → spec.IsKept shift.now w.now s.now n.now }
 {
-    match shift.moved(s.offset) {
-        Ok(moved) => {
-            n.kind == s.kind
-                && keeps_header(s, n)
-                && n.offset == moved.min(w.len() as u64)
-                && n.size == s.size
-        }
-        Err(_) => false,
-    }
+    n.kind == s.kind
+        && keeps_header(s, n)
+        && n.offset as u128 == shift.reach(s.offset).min(w.len() as u128)
+        && n.size == s.size
 }
 
 fn is_rewritten(w: &[u8], bytes: &[u8], kind: u32, s: &Section, n: &Section) -> bool

@@ -88,7 +88,7 @@ impl<'a> SectionTables<'a> {
 
     fn all_follow(&self, known: &Sections) -> bool
         requires { Knows self.now.elf.now self.now.tables.now self.now.area self.now.shift known.now }
-        ensures keeps { IsTrue result → (i : ℕ) (s n : Section) → slice_get self.now.elf.now.sections.items i ≡ Some s →
+        ensures called { IsTrue result → (i : ℕ) (s n : Section) → slice_get self.now.elf.now.sections.items i ≡ Some s →
             slice_get self.now.new.now.sections.items i ≡ Some n → n.name.now ≡ new_name s }
         ensures follows { IsTrue result → (i : ℕ) (s n : Section) → slice_get self.now.elf.now.sections.items i ≡ Some s →
             slice_get self.now.new.now.sections.items i ≡ Some n →

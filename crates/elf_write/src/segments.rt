@@ -1,5 +1,5 @@
 // The program headers of a written file. gABI, "Program Header".
-ghost use Rattle.std.specs.Prelude.{◌≡◌, ◌≤◌, ◌<◌, ◌-◌, ℕ, IfOk, IsTrue, length, slice_index_or, true, false};
+ghost use Rattle.std.specs.Prelude.{◌≡◌, ◌≤◌, ◌<◌, ◌-◌, ◌^◌, ℕ, IfOk, IsTrue, length, slice_index_or, true, false};
 ghost use Rattle.elf_image.specs.declared.segment.Segment.{Segment};
 ghost use Rattle.elf_image.specs.memory.Image.{is_load};
 ghost use Rattle.elf_write.specs.Area.{area_offset};
@@ -9,7 +9,7 @@ ghost use Rattle.elf_write.specs.NewSegments as spec;
 use crate::area::{Area, Shift};
 use crate::capacity::greatest_align;
 use crate::homes::homes_of;
-use crate::round::{checked_rounded_up, sum};
+use crate::round::{rounded_up, sum};
 use crate::sections::Contents;
 use crate::unwritable::Unwritable;
 use elf_image::segment::{PF_R, PF_X, PHDR_SIZE, PT_GNU_EH_FRAME, PT_LOAD};
@@ -76,11 +76,13 @@ fn can_grow(p: &Segment, from: u64, end: u64) -> bool
 }
 
 // Whether bytes begin in the area and end behind it.
-fn leaves_area(area: &Area, end: u64, start: u64, size: u64) -> bool
-    requires { end ≡ area_offset area.now area.now.end }
-    ensures { result ≡ leaves_area area.now start size }
+fn leaves_area(area: &Area, end: u64, start: u128, size: u64) -> bool
+    requires end { end ≡ area_offset area.now area.now.end }
+    requires low { start < 2 ^ 65 }
+    ensures is { result ≡ leaves_area area.now start size }
+    ensures before { IsTrue result → start < end }
 {
-    !area.tight && start < end && (end as u128) < start as u128 + size as u128
+    !area.tight && start < end as u128 && (end as u128) < start + size as u128
 }
 
 // The index of the unwind table, where a header names it.
@@ -149,13 +151,12 @@ impl<'a> Places<'a> {
         requires { 0 < align }
         ensures { IfOk result (λ o. o ≡ beside (outline self.now) align p.now) }
     {
-        let at = self.shift.moved(p.offset)?;
         let end = self.area.offset_of(self.area.end)?;
+        let mut at = self.shift.reach(p.offset);
         if leaves_area(&self.area, end, at, p.filesz) {
-            let step = checked_rounded_up(align, end - at)?;
-            return Ok(sum(at, step)?.min(self.file_size));
+            at += rounded_up(align, end as u128 - at);
         }
-        Ok(at.min(self.file_size))
+        Ok(at.min(self.file_size as u128) as u64)
     }
 
     // Whether a header names the table of program headers: not where it would begin in the new area and end behind it.
@@ -163,7 +164,7 @@ impl<'a> Places<'a> {
         ensures { IfOk result (λ names. names ≡ names_table (outline self.now) p.now) }
     {
         let end = self.area.offset_of(self.area.end)?;
-        Ok(p.kind == PT_PHDR && !leaves_area(&self.area, end, self.table_at, p.filesz))
+        Ok(p.kind == PT_PHDR && !leaves_area(&self.area, end, self.table_at as u128, p.filesz))
     }
 
     // Where the bytes of a header go that stand behind the executable segment.
