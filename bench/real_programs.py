@@ -134,8 +134,8 @@ class Checks:
             self.say(f"readelf: {line}")
         if shutil.which("eu-elflint"):
             for line in self.complaints(["eu-elflint", "--gnu-ld"], r"."):
-                # gABI, "Section Header": the other members of a header of type SHT_NULL are undefined.
-                if not re.search(r"NULL section|is NULL|zeroth section has nonzero offset|^No errors", line):
+                # Sections of relocations are left out: a header of type SHT_NULL stays, with the name.
+                if not re.search(r"expected RELA, is NULL|nonzero sh_name for NULL section|^No errors", line):
                     self.say(f"eu-elflint: {line}")
 
     def instructions(self, path, section):

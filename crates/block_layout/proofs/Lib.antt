@@ -1,17 +1,17 @@
-pub mod ChainLists
-pub mod Counting
-pub mod Disjoint
-pub mod Firsts
-pub mod Marking
-pub mod Members
-pub mod PartLists
-pub mod Paths
+mod ChainLists
+mod Counting
+mod Disjoint
+mod Firsts
+mod Marking
+mod Members
+mod PartLists
+mod Paths
 pub mod Premises
-pub mod Sorting
-pub mod Splitting
-pub mod Starting
-pub mod Steps
-pub mod Taking
-pub mod UniqueLinks
-pub mod UniqueParts
-pub mod Whole
+mod Sorting
+mod Splitting
+mod Starting
+mod Steps
+mod Taking
+mod UniqueLinks
+mod UniqueParts
+mod Whole

@@ -1,17 +1,17 @@
-pub mod CellFields
-pub mod CellNumbers
-pub mod CodeFaultOrder
-pub mod CodeSizes
-pub mod Direct
-pub mod Joined
-pub mod Layouts
-pub mod Maps
-pub mod Near
-pub mod NewArea
-pub mod PassedLimits
-pub mod Ranges
-pub mod Rewrites
-pub mod SomeCode
-pub mod SoundCode
-pub mod TableSections
-pub mod WrittenOutput
+mod CellFields
+mod CellNumbers
+mod CodeFaultOrder
+mod CodeSizes
+mod Direct
+mod Joined
+mod Layouts
+mod Maps
+mod Near
+mod NewArea
+mod PassedLimits
+mod Ranges
+mod Rewrites
+mod SomeCode
+mod SoundCode
+mod TableSections
+mod WrittenOutput

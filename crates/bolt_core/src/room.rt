@@ -40,6 +40,6 @@ pub fn new_site(
         None => {}
     }
     let tight = is_tight(elf, need);
-    let start = area_start_of(&elf.segments, tight)?;
+    let start = area_start_of(&elf.segments, tight).ok_or(NoMemory)?;
     Ok(Site { tight, start })
 }

@@ -1,7 +1,7 @@
-pub mod Answering
-pub mod CommandLineExamples
-pub mod Completing
-pub mod GivenRuns
-pub mod OptionTokens
-pub mod RunArguments
-pub mod StepLimit
+mod Answering
+mod CommandLineExamples
+mod Completing
+mod GivenRuns
+mod OptionTokens
+mod RunArguments
+mod StepLimit

@@ -1,23 +1,24 @@
-pub mod Grown
-pub mod Rounds
-pub mod Ways
+mod Grown
+mod Rounds
+mod Ways
 pub mod Lists
 pub mod Appended
 pub mod Holders
-pub mod BlockEndsFound
+mod InputBytes
+mod BlockEndsFound
 pub mod Bridge
 pub mod Placed
-pub mod BlockEndFacts
-pub mod Sizes
-pub mod Near
-pub mod Lands
-pub mod Mapped
+mod BlockEndFacts
+mod Sizes
+mod Near
+mod Lands
+mod Mapped
 pub mod Map
-pub mod Made
-pub mod Nearness
-pub mod Examples
+mod Made
+mod Nearness
+mod Examples
 pub mod Covered
-pub mod Starts
+mod Starts
 pub mod Falls
 pub mod Orders
 pub mod Planned

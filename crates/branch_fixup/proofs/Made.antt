@@ -13,7 +13,7 @@ use Rattle.rv_code.specs.declared.placed.Role.{Role}
 use Rattle.rv_code.specs.declared.cell.CodeCell.{CodeCell}
 use Rattle.rv_code.specs.layout.ProgramCode.{ProgramCode, is_code_address, IsNamed, program_code}
 use Rattle.rv_code.specs.layout.Blocks.{AreBlocks}
-use Rattle.rv_code.specs.layout.FunctionLists.{AreLaidOut, address_end}
+use Rattle.rv_code.specs.layout.FunctionLists.{AreLaidOut}
 use Rattle.rv_code.specs.layout.WorstSizes.{worst_size_of_block}
 use Rattle.rv_code.specs.layout.BlockOrders.{HasAllBlocks}
 use Rattle.addr_map.specs.Spans.{IsMap}
@@ -26,20 +26,20 @@ use Rattle.branch_fixup.specs.Inputs.{AreBlocksOf, AreDirect, AreNear, worst_tot
 use Rattle.branch_fixup.specs.Strips.{Strip, spans_of, strips_of}
 use Rattle.rv_code.proofs.lists.Follows.{before_of, some_length}
 use Rattle.branch_fixup.proofs.Holders.{last_there}
+use Rattle.branch_fixup.proofs.InputBytes.{input_bytes, input_total}
 use Rattle.branch_fixup.proofs.Lands.{all_end, all_land}
 use Rattle.branch_fixup.proofs.Map.{valid_map}
 use Rattle.branch_fixup.proofs.Near.{places_between}
 use Rattle.branch_fixup.proofs.Placed.{AreStrips, are_strips, short_spans}
 use Rattle.branch_fixup.proofs.Planned.{planned, planned_length}
-use Rattle.branch_fixup.proofs.Sizes.{strip_least, block_ends_sum, total_is}
+use Rattle.branch_fixup.proofs.Sizes.{block_ends_sum, order_sum, total_is}
 use Rattle.branch_fixup.proofs.BlockEndFacts.{FallsAfter, IsOfTable, by_table, least, of_table, block_ends_are, block_ends_of}
 use Rattle.branch_fixup.proofs.BlockEndsFound.{strip_fall}
 use Rattle.rb_bytes.proofs.ListLemmas.{slice_get_found}
 
 module _ (funcs : List Func) (blocks : List Block) (order : List ℕ) (laid : AreLaidOut funcs)
     (blocks_of : AreBlocksOf funcs blocks) (perm : HasAllBlocks blocks order) (base : ℕ)
-    (room : base + sum_by (worst_size_of_block funcs) blocks ≤ address_end) (ts : List BlockEnd) (zs : List Form)
-    (made : AreEnds (strips_of funcs blocks order) (length order) ts zs) where
+    (ts : List BlockEnd) (zs : List Form) (made : AreEnds (strips_of funcs blocks order) (length order) ts zs) where
   abbrev ss : List Strip
   ss = strips_of funcs blocks order
 
@@ -61,28 +61,29 @@ module _ (funcs : List Func) (blocks : List Block) (order : List ℕ) (laid : Ar
   pub forms_length : length zs ≡ length order
   forms_length = made.forms
 
-  abbrev worst : ℕ → ℕ
-  worst k = option_map_or (worst_size_of_block funcs) (slice_get blocks k) 0
+  abbrev size : ℕ → ℕ
+  size k = option_map_or (input_bytes funcs) (slice_get blocks k) 0
 
-  most : (k m : ℕ) → slice_get order k ≡ Some m → most_of (end_at ts k) ≤ 7 * worst m
+  most : (k m : ℕ) → slice_get order k ≡ Some m → most_of (end_at ts k) ≤ 7 * size m
   most k m at_m =
       let (s, at) = slice_get_found ss k (let w = slice_get_within order k m at_m in let l = strips_length in omega (arith, w, l)) in
       let plan = planned code blocks are order perm k s at in
       let within = slice_get_within ss k s at in
       let same_m : plan.m ≡ m = (let e : Some plan.m ≡ Some m = sym plan.place ∙ at_m in cc) in
-      let w : worst m ≡ worst_size_of_block funcs plan.b = ap worst (sym same_m)
-      ∙ ap (λ (o : Option Block). option_map_or (worst_size_of_block funcs) o 0) plan.block in
-      let size = strip_least code plan.b s laid plan.of in
+      let bytes : size m ≡ before_of s.inner + s.last.len = ap size (sym same_m)
+      ∙ ap (λ (o : Option Block). option_map_or (input_bytes funcs) o 0) plan.block
+      ∙ ap (λ (o : Option Strip). option_map_or (λ t. before_of t.inner + t.last.len) o 0) plan.of.strip_is in
       let long = (some_length s.last ((strips.each k s at).lengths s.last (last_there s))).0 in
       let same : get_or ss k s ≡ s = get_or_from_slice_get ss k s s at in
       let before = (block_ends_of ss strips ts zs ends).before k s within ∙ ap (λ (z : Strip). before_of z.inner) same in
-      omega (arith, w, size, long, before)
+      omega (arith, bytes, long, before)
 
   pub are_block_ends : AreBlockEnds ts
   are_block_ends =
-      let sum = block_ends_sum worst ts order made.block_ends most in
-      let total : worst_total funcs blocks order ≡ sum_by (worst_size_of_block funcs) blocks = total_is funcs blocks order perm in
-      block_ends_are ss strips ts zs ends (omega (arith, sum, total, room))
+      let sum = block_ends_sum size ts order made.block_ends most in
+      let total = order_sum (input_bytes funcs) blocks order perm in
+      let low = input_total code blocks laid are in
+      block_ends_are ss strips ts zs ends (omega (arith, sum, total, low))
 
   -- the shortest forms are a beginning
   pub start : AreGrown ts zs
@@ -175,13 +176,12 @@ pub record IsGiven (funcs : List Func) (blocks : List Block) (order : List ℕ) 
   pub near : AreNear funcs blocks order
   pub even : base % 2 ≡ 0
   pub some : 0 < base
-  pub room : base + sum_by (worst_size_of_block funcs) blocks ≤ address_end
 
 pub block_ends_given : (funcs : List Func) (blocks : List Block) (order : List ℕ) (base : ℕ) →
     IsGiven funcs blocks order base → (slice : List ℕ) (ts now : List BlockEnd) (zs : List Form) → slice ≡ order →
     now ≡ ts → AreEnds (strips_of funcs blocks slice) (length slice) ts zs → AreBlockEnds now
 block_ends_given funcs blocks order base g slice ts now zs e d made =
-    subst AreBlockEnds (sym d) (are_block_ends funcs blocks order g.laid g.blocks_of g.perm base g.room ts zs
+    subst AreBlockEnds (sym d) (are_block_ends funcs blocks order g.laid g.blocks_of g.perm base ts zs
     (subst (λ (o : List ℕ). AreEnds (strips_of funcs blocks o) (length o) ts zs) e made))
 
 pub start_given : (funcs : List Func) (blocks : List Block) (order : List ℕ) (base : ℕ) →
@@ -189,7 +189,7 @@ pub start_given : (funcs : List Func) (blocks : List Block) (order : List ℕ) (
     now ≡ ts → forms_now ≡ zs → AreEnds (strips_of funcs blocks slice) (length slice) ts zs → AreGrown now forms_now
 start_given funcs blocks order base g slice ts now zs forms_now e d h made =
     subst (λ (us : List BlockEnd). AreGrown us forms_now) (sym d) (subst (λ (fs : List Form). AreGrown ts fs) (sym h)
-    (start funcs blocks order g.laid g.blocks_of g.perm base g.room ts zs
+    (start funcs blocks order g.laid g.blocks_of g.perm base ts zs
     (subst (λ (o : List ℕ). AreEnds (strips_of funcs blocks o) (length o) ts zs) e made)))
 
 pub is_made : (funcs : List Func) (blocks : List Block) (order : List ℕ) (base : ℕ) → IsGiven funcs blocks order base →
@@ -204,12 +204,12 @@ is_made funcs blocks order base g slice ts now zs forms_now fs e d h made grown 
     let same_2 : map end_of_form fs ≡ map end_of_form zs = same ∙ ap (map end_of_form) h in
     record {
       count = (let o = grown_2.one_each in let t = made_2.block_ends in omega (arith, o, t));
-      forms = are_forms funcs blocks order g.laid g.blocks_of g.perm base g.room ts zs made_2 fs grown_2 same_2 g.direct
+      forms = are_forms funcs blocks order g.laid g.blocks_of g.perm base ts zs made_2 fs grown_2 same_2 g.direct
           g.near enough_2;
-      map = are_map funcs blocks order g.laid g.blocks_of g.perm base g.room ts zs made_2 fs grown_2 same_2 g.even g.some;
-      room = in_room funcs blocks order g.laid g.blocks_of g.perm base g.room ts zs made_2 fs grown_2 same_2 g.direct
+      map = are_map funcs blocks order g.laid g.blocks_of g.perm base ts zs made_2 fs grown_2 same_2 g.even g.some;
+      room = in_room funcs blocks order g.laid g.blocks_of g.perm base ts zs made_2 fs grown_2 same_2 g.direct
           g.near enough_2;
-      short = are_short funcs blocks order g.laid g.blocks_of g.perm base g.room ts zs made_2 fs grown_2 same_2;
+      short = are_short funcs blocks order g.laid g.blocks_of g.perm base ts zs made_2 fs grown_2 same_2;
     }
 
 -- what a slice of a vector leaves in it

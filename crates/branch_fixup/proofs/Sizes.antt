@@ -288,14 +288,6 @@ strip_within code b s laid x next g h =
     fits_in code b s laid x (piece_length s.last.len g) (λ w. whole_within s next g w h)
     (inl (last_within s next g (some_length s.last (strip_length code b s laid x s.last (last_there s))).1 h))
 
--- it has at least its bytes in the input
-pub strip_least : (code : ProgramCode) (b : Block) (s : Strip) → AreLaidOut code.funcs → StripOf code b s →
-    before_of s.inner + s.last.len ≤ worst_size_of_block code.funcs b
-strip_least code b s laid x =
-    fits_in code b s laid x s.last.len (λ w. omega arith) (inl (let l =
-    inst_within s.last (some_length s.last (strip_length code b s laid x s.last (last_there s))).1 in
-    omega (arith, l)))
-
 -- Totals.
 
 range_sum : (w : Block → ℕ) (f : ℕ → ℕ) (a : ℕ) (bs : List Block) → ((i : ℕ) (b : Block) → slice_get bs i ≡ Some b →
@@ -309,15 +301,19 @@ range_sum w f a (b ∷ bs) h =
     let y = sum_by-cons w b bs in
     omega (arith, here, rest, x, y)
 
+-- a sum over all blocks in an order
+pub order_sum : (w : Block → ℕ) (blocks : List Block) (order : List ℕ) → HasAllBlocks blocks order →
+    sum_by (λ k. option_map_or w (slice_get blocks k) 0) order ≡ sum_by w blocks
+order_sum w blocks order perm =
+    sum_by-IsPermutation (λ (k : ℕ). option_map_or w (slice_get blocks k) 0) (range_with_len 0 (length blocks)) order perm
+    ∙ range_sum w (λ (k : ℕ). option_map_or w (slice_get blocks k) 0) 0 blocks
+    (λ i b at. ap (λ (k : ℕ). option_map_or w (slice_get blocks k) 0) (zero-add i)
+    ∙ ap (λ (o : Option Block). option_map_or w o 0) at)
+
 -- all blocks in an order take what they take in another one
 pub total_is : (funcs : List Func) (blocks : List Block) (order : List ℕ) → HasAllBlocks blocks order →
     worst_total funcs blocks order ≡ sum_by (worst_size_of_block funcs) blocks
-total_is funcs blocks order perm =
-    sum_by-IsPermutation (λ (k : ℕ). option_map_or (worst_size_of_block funcs) (slice_get blocks k) 0)
-    (range_with_len 0 (length blocks)) order perm
-    ∙ range_sum (worst_size_of_block funcs) (λ (k : ℕ). option_map_or (worst_size_of_block funcs) (slice_get blocks k) 0) 0 blocks
-    (λ i b at. ap (λ (k : ℕ). option_map_or (worst_size_of_block funcs) (slice_get blocks k) 0) (zero-add i)
-    ∙ ap (λ (o : Option Block). option_map_or (worst_size_of_block funcs) o 0) at)
+total_is funcs blocks order perm = order_sum (worst_size_of_block funcs) blocks order perm
 
 pub between_total : (funcs : List Func) (blocks : List Block) (order : List ℕ) (i j : ℕ) →
     worst_between funcs blocks order i j ≤ worst_total funcs blocks order

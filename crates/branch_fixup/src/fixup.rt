@@ -1,6 +1,6 @@
 // Forms and spans for a plan.
-ghost use Rattle.std.specs.Prelude.{◌≡◌, ◌+◌, ◌%◌, ◌<◌, ◌≤◌, IfOk, All, sum_by};
-ghost use Rattle.rv_code.specs.layout.FunctionLists.{AreLaidOut, address_end};
+ghost use Rattle.std.specs.Prelude.{◌≡◌, ◌+◌, ◌%◌, ◌^◌, ◌<◌, ◌≤◌, IfOk, All, sum_by};
+ghost use Rattle.rv_code.specs.layout.FunctionLists.{AreLaidOut};
 ghost use Rattle.rv_code.specs.layout.WorstSizes.{worst_size_of_block};
 ghost use Rattle.rv_code.specs.layout.BlockOrders.{HasAllBlocks};
 ghost use Rattle.addr_map.specs.Spans.{IsStretch};
@@ -20,8 +20,8 @@ use std::alloc::Global;
 /// stretch of bytes, with the blocks in that order. Each form reaches, and none could be the next shorter one with all
 /// others as they are.
 ///
-/// The blocks are all those of the functions. The plan has each once, blocks between which code goes lie near one another
-/// in it, and with all at their worst sizes the new code ends below 7fff0000 (hexadecimal). `base` is even and not 0.
+/// The blocks are all those of the functions. The plan has each once, and blocks between which code goes lie near one
+/// another in it. `base` is even and not 0, and with all blocks at their worst sizes the new code ends below 2^64.
 pub fn forms(
     alloc: Global,
     funcs: &[Func],
@@ -36,7 +36,7 @@ pub fn forms(
     requires near { AreNear funcs.now blocks.now plan.now.order.items }
     requires even { base % 2 ≡ 0 }
     requires some { 0 < base }
-    requires room { base + sum_by (worst_size_of_block funcs.now) blocks.now ≤ address_end }
+    requires room { base + sum_by (worst_size_of_block funcs.now) blocks.now < 2 ^ 64 }
     ensures forms { IfOk result (λ r. AreForms (planned_strips funcs.now blocks.now plan.now) base r.0.items) }
     ensures spans { IfOk result (λ r. r.1.items ≡ spans_of (planned_strips funcs.now blocks.now plan.now) base r.0.items) }
     ensures map { IfOk result (λ r. AreMap funcs.now blocks.now r.1.items) }

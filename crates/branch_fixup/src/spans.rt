@@ -15,7 +15,7 @@ use std::alloc::{AllocError, Global};
 
 // Appends the spans of instructions that keep their lengths, from an address on. Gives the address at which they end.
 fn put_inner(spans: &mut Vec<Span>, mut at: u64, insts: &[Placed]) -> Result<u64, AllocError>
-    requires { end_from at (map as_it_is insts.now) < 2 ^ 63 }
+    requires { end_from at (map as_it_is insts.now) < 2 ^ 64 }
     ensures spans { IfOk result (λ end. spans.new.items ≡ spans.old.items ++ laid_from at (map as_it_is insts.now)) }
     ensures end { IfOk result (λ end. end ≡ end_from at (map as_it_is insts.now)) }
 {
@@ -37,7 +37,7 @@ fn put_block(
     block: &BlockInsts,
     form: Form,
 ) -> Result<u64, AllocError>
-    requires low { end_from at (pieces_of_strip (seen block.now) form) < 2 ^ 63 }
+    requires low { end_from at (pieces_of_strip (seen block.now) form) < 2 ^ 64 }
     requires short { block.now.last.len ≤ 4 }
     ensures spans { IfOk result (λ end.
         spans.new.items ≡ spans.old.items ++ laid_from at (pieces_of_strip (seen block.now) form)) }
@@ -66,7 +66,7 @@ pub fn spans(
     requires blocks { AreBlocksOf funcs.now blocks.now }
     requires order { HasAllBlocks blocks.now order.now }
     requires one_each { length forms.now ≡ length order.now }
-    requires low { end_from base (pieces_of (strips_of funcs.now blocks.now order.now) forms.now) < 2 ^ 63 }
+    requires low { end_from base (pieces_of (strips_of funcs.now blocks.now order.now) forms.now) < 2 ^ 64 }
     ensures { IfOk result (λ spans. spans.items ≡ spans_of (strips_of funcs.now blocks.now order.now) base forms.now) }
 {
     let mut spans = Vec::new(alloc);

@@ -1,8 +1,8 @@
-pub mod EdgeRows
-pub mod Entered
+mod EdgeRows
+mod Entered
 pub mod layout
-pub mod EdgeSets
-pub mod Leads
-pub mod Lookups
-pub mod Options
-pub mod PushedBlocks
+mod EdgeSets
+mod Leads
+mod Lookups
+mod Options
+mod PushedBlocks

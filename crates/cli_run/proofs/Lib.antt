@@ -1,11 +1,11 @@
-pub mod ByteRunAnswering
-pub mod CellBounds
-pub mod FaultlessCode
-pub mod FrameSections
-pub mod Outcomes
-pub mod RecordAnswering
-pub mod RecordEnds
-pub mod RunAnswering
-pub mod RunEnds
+mod ByteRunAnswering
+mod CellBounds
+mod FaultlessCode
+mod FrameSections
+mod Outcomes
+mod RecordAnswering
+mod RecordEnds
+mod RunAnswering
+mod RunEnds
 pub mod RunModes
-pub mod SymbolRunAnswering
+mod SymbolRunAnswering

@@ -1,16 +1,16 @@
-pub mod Standing
-pub mod Coded
-pub mod Parts
-pub mod Fit
-pub mod CanStand
-pub mod Keeps
-pub mod Walk
-pub mod StripEnds
-pub mod Next
-pub mod Flows
-pub mod Pieces
-pub mod Facts
-pub mod EmitKeeps
-pub mod AllBlocks
+mod Standing
+mod Coded
+mod Parts
+mod Fit
+mod CanStand
+mod Keeps
+mod Walk
+mod StripEnds
+mod Next
+mod Flows
+mod Pieces
+mod Facts
+mod EmitKeeps
+mod AllBlocks
 pub mod Accepted
 pub mod SpanBytes

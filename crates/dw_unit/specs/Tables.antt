@@ -1,19 +1,19 @@
 -- The debug sections of a file that units are read from, and how those of the written file follow from the input's.
-use Rattle.std.specs.Prelude.{◌≡◌, ◌↔◌, ◌+◌, ◌-◌, ◌*◌, ℕ, IsTrue, List, sum_by, unwrap_or, codes, Contains, length, slice_get}
-use Rattle.std.specs.Prelude.{Option, Some, None}
+use Rattle.std.specs.Prelude.{◌≡◌, ◌+◌, ℕ, IsTrue, List, codes, Contains, Option, Some, None}
 use Rattle.rv_code.specs.declared.inst.Inst.{Inst}
 use Rattle.rv_code.specs.isa.Action.{action_of}
 use Rattle.rv_code.specs.layout.Flow.{is_call}
 use Rattle.elf_image.specs.declared.elf.Elf.{Elf}
 use Rattle.elf_code.specs.Parts.{IsInstAt}
+use Rattle.rb_bytes.specs.FirstFault.{IsFree}
 use Rattle.addr_map.specs.declared.span.Span.{Span}
 use Rattle.table_core.specs.declared.written.ListAt.{ListAt}
 use Rattle.table_core.specs.Sections.{bytes_of}
-use Rattle.dw_unit.specs.Declarations.{table_at}
-use Rattle.dw_unit.specs.Faults.{FaultPlaces}
-use Rattle.dw_unit.specs.Moves.{Moves, list_at}
-use Rattle.dw_unit.specs.Units.{Sections, Entry, entries}
-use Rattle.dw_unit.specs.Changes.{changed_info, changed_abbrevs, changed_addr, table_offsets, IsChangedEntry, is_own_entry}
+use Rattle.dw_unit.specs.Faults.{FaultPlaces, HasDwarfFault, unit_places}
+use Rattle.dw_unit.specs.EntryMoves.{Moves, list_at}
+use Rattle.dw_unit.specs.CompUnits.{Sections}
+use Rattle.dw_unit.specs.ChangedEntries.{AreChangedUnits}
+use Rattle.dw_unit.specs.Changes.{changed_info, changed_abbrevs, changed_addr}
 
 abbrev pub sections_of : Elf → Sections
 sections_of elf = record {
@@ -36,7 +36,8 @@ pub record IsCallEnd (elf : Elf) (spans : List Span) (from to : ℕ) : Type 0 wh
 -- what a map and lists make of a file's addresses and attributes
 pub record AreMovesOf (elf : Elf) (spans : List Span) (m : Moves) : Type 0 where
   pub spans_are : m.spans ≡ spans
-  pub call_ends : (from to : ℕ) → (m.call_end from ≡ Some to) ↔ IsCallEnd elf spans from to
+  pub call_end_is : (from to : ℕ) → m.call_end from ≡ Some to → IsCallEnd elf spans from to
+  pub no_call_end : (from to : ℕ) → m.call_end from ≡ None → IsCallEnd elf spans from to → ⊥
 
 -- The three sections of the file f are those of the input i, changed.
 pub record AreChanged (m : Moves) (i f : Elf) : Type 0 where
@@ -44,20 +45,13 @@ pub record AreChanged (m : Moves) (i f : Elf) : Type 0 where
   pub abbrevs : bytes_of f (codes ".debug_abbrev") ≡ changed_abbrevs (sections_of i)
   pub addr : bytes_of f (codes ".debug_addr") ≡ changed_addr m (sections_of i).addr
 
--- Entry by entry: each stands where it stood, with its changes, and no other does.
-pub record AreChangedEntries (m : Moves) (i f : Elf) : Type 0 where
-  pub count : length (entries (sections_of f)) ≡ length (entries (sections_of i))
-  pub each : (k : ℕ) (old new : Entry) → slice_get (entries (sections_of i)) k ≡ Some old →
-      slice_get (entries (sections_of f)) k ≡ Some new →
-      IsChangedEntry (sections_of i) m (is_own_entry (sections_of i) old) old new
-
 -- They were changed for a map, and by just these lists.
 pub record AreChangedWith (spans : List Span) (lists : List ListAt) (i f : Elf) : Type 0 where
   pub moves : Moves
   pub are_moves : AreMovesOf i spans moves
   pub lists_are : moves.lists ≡ lists
   pub changed : AreChanged moves i f
-  pub entries_are : AreChangedEntries moves i f
+  pub units_are : AreChangedUnits (sections_of i) moves (sections_of f)
 
 -- They were changed for a map, and by lists among which are those of a written table.
 pub record AreChangedBy (spans : List Span) (lists : List ListAt) (i f : Elf) : Type 0 where
@@ -65,18 +59,23 @@ pub record AreChangedBy (spans : List Span) (lists : List ListAt) (i f : Elf) : 
   pub are_moves : AreMovesOf i spans moves
   pub named : (l : ListAt) → Contains lists l → list_at moves.lists l.entry l.attr ≡ Some l.offset
   pub changed : AreChanged moves i f
+  pub units_are : AreChangedUnits (sections_of i) moves (sections_of f)
 
--- no fault is answered
+-- The new contents of the two sections of a file whose code moves. In each file that has them, and the tables of addresses
+-- changed too, each entry stands where it stood, and units can be read.
+pub record AreNewUnits (elf : Elf) (spans : List Span) (lists : List ListAt) (info abbrevs : List ℕ) : Type 0 where
+  pub moves : Moves
+  pub are_moves : AreMovesOf elf spans moves
+  pub lists_are : moves.lists ≡ lists
+  pub info_is : info ≡ changed_info (sections_of elf) moves
+  pub abbrevs_are : abbrevs ≡ changed_abbrevs (sections_of elf)
+  pub units_are : (f : Elf) → AreChanged moves elf f → AreChangedUnits (sections_of elf) moves (sections_of f)
+  pub sound : (f : Elf) → AreChanged moves elf f → IsFree (HasDwarfFault (unit_places (sections_of f)))
+
+-- where no fault is answered
+abbrev pub unless_any : {X : Type 0} → Option ℕ → Option ℕ → Option ℕ → Option ℕ → X → Option X
+unless_any None None None None x = Some x
+unless_any _ _ _ _ x = None
+
 abbrev pub answers_if_free : {A : Type 0} → FaultPlaces → (ℕ → Option A) → Option (ℕ → Option A)
-answers_if_free {A = A} p answers = free p.version p.form p.high p.bad where
-  free : Option ℕ → Option ℕ → Option ℕ → Option ℕ → Option (ℕ → Option A)
-  free None None None None = Some answers
-  free _ _ _ _ = None
-
--- The weight of the written `.debug_abbrev`: three times the bytes of each table that a unit names, its closing zero
--- among them.
-abbrev pub table_weight : Sections → ℕ → ℕ
-table_weight s offset = 3 * (unwrap_or (table_at s.abbrevs offset).end offset - offset)
-
-abbrev pub abbrev_weight : Sections → ℕ
-abbrev_weight s = sum_by (table_weight s) (table_offsets s)
+answers_if_free p answers = unless_any p.version p.form p.high p.bad answers

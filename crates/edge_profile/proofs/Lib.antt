@@ -2,8 +2,8 @@ pub mod AscendingPairs
 pub mod BlockLists
 pub mod LaidOut
 pub mod LineLists
-pub mod Merging
-pub mod NameTables
-pub mod Partitions
-pub mod Saying
-pub mod Weighing
+mod Merging
+mod NameTables
+mod Partitions
+mod Saying
+mod Weighing

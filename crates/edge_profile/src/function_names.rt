@@ -1,11 +1,11 @@
 // What names of functions stand for.
-ghost use Rattle.std.specs.Prelude.{◌≡◌, ◌+◌, List, ℕ, Some, OnOk, IfOk, bytes_eq, if◌then◌else◌};
+ghost use Rattle.std.specs.Prelude.{◌≡◌, ◌+◌, List, ℕ, Some, true, OnOk, IfOk, bytes_eq, if◌then◌else◌};
 ghost use Rattle.elf_image.specs.declared.symbol.Symbol.{Symbol};
 ghost use Rattle.rv_code.specs.layout.FunctionLists.{AreLaidOut};
 ghost use Rattle.edge_profile.specs.Grammar.{short_hex_number};
-ghost use Rattle.edge_profile.specs.Names.{named_value, value_of_name, function_start, code_address, address_at};
+ghost use Rattle.edge_profile.specs.Names.{symbol_values, named_value, value_of_name, function_start, code_address, address_at};
 ghost use Rattle.edge_profile.specs.Fields.{place_read};
-ghost use Rattle.edge_profile.specs.FunctionNames.{known_of, next_known, AreNamesOf};
+ghost use Rattle.edge_profile.specs.FunctionNames.{known_of, known_by, next_known, has_length, AreNamesOf};
 
 use crate::fields::Place;
 use crate::places::{starts_function, starts_instruction};
@@ -16,38 +16,106 @@ use rb_bytes::number::hex_number;
 use rv_code::Func;
 use std::alloc::Global;
 
-/// The values of functions' symbols by their names; None at a name of several values.
+/// The values of functions' symbols by their names. Names may be ends of one text, so many bytes in a small file: those
+/// that are as long as no name that is asked for aren't read.
 #[derive(Drop)]
-pub struct FunctionNames<'a> {
-    values: IndexMap<&'a [u8], Option<u64>>,
+pub struct FunctionNames<'list, 'file> {
+    symbols: &'list [Symbol<'file>],
+    // For each length, whether names of it are in `values`.
+    lengths: Vec<bool>,
+    // None at a name of several values.
+    values: IndexMap<&'file [u8], Option<u64>>,
 }
 
-impl<'a> FunctionNames<'a> {
+impl<'list, 'file> FunctionNames<'list, 'file> {
     ghost use Rattle.std.specs.Prelude.{◌≡◌, ℕ, List, IfOk};
     ghost use Rattle.edge_profile.specs.FunctionNames.{AreNamesOf};
 
-    /// The names of a file's functions.
-    pub fn new(alloc: Global, symbols: &[Symbol<'a>]) -> Result<FunctionNames<'a>, NoMemory>
+    /// The names of a file's functions, of which those of these lengths are asked for often.
+    pub fn new(
+        alloc: Global,
+        symbols: &'list [Symbol<'file>],
+        lengths: Vec<bool>,
+    ) -> Result<FunctionNames<'list, 'file>, NoMemory>
         ensures { IfOk result (AreNamesOf symbols.now) }
     {
-        let mut values = IndexMap::new(alloc);
-        for symbol in symbols {
-            if !symbol.names_function() {
-                continue;
-            }
-            add_value(&mut values, symbol.name, symbol.value)?;
-        }
-        Ok(FunctionNames { values })
+        let values = values_by_name(alloc, symbols, &lengths)?;
+        Ok(FunctionNames {
+            symbols,
+            lengths,
+            values,
+        })
     }
 
     // The value of the symbols of a name.
     fn named_value(&self, name: &[u8]) -> Option<u64>
         ensures { (symbols : List Symbol) → AreNamesOf symbols self.now → result ≡ named_value symbols name.now }
     {
+        if !has_length(&self.lengths, name) {
+            return value_among(self.symbols, name);
+        }
         match self.values.get(name) {
             Some(value) => *value,
             None => None,
         }
+    }
+}
+
+// Whether a name has one of these lengths.
+fn has_length(lengths: &[bool], name: &[u8]) -> bool
+    ensures { result ≡ has_length lengths.now name.now }
+{
+    name.len() < lengths.len() && lengths[name.len()]
+}
+
+// The values of functions' symbols by their names, of those that have one of these lengths.
+fn values_by_name<'file>(
+    alloc: Global,
+    symbols: &[Symbol<'file>],
+    lengths: &[bool],
+) -> Result<IndexMap<&'file [u8], Option<u64>>, NoMemory>
+    ensures { IfOk result (λ values. (name : List ℕ) → has_length lengths.now name ≡ true →
+        known_of values name ≡ known_by (symbol_values symbols.now name)) }
+{
+    let mut values = IndexMap::new(alloc);
+    for symbol in symbols {
+        if !symbol.names_function() {
+            continue;
+        }
+        if !has_length(lengths, symbol.name) {
+            continue;
+        }
+        add_value(&mut values, symbol.name, symbol.value)?;
+    }
+    Ok(values)
+}
+
+// The value of the symbols of a name, looked for among all.
+fn value_among(symbols: &[Symbol], name: &[u8]) -> Option<u64>
+    ensures { result ≡ named_value symbols.now name.now }
+{
+    let mut known = None;
+    for symbol in symbols {
+        if !symbol.names_function() {
+            continue;
+        }
+        if symbol.name == name {
+            known = Some(next_known(known, symbol.value));
+        }
+    }
+    match known {
+        Some(value) => value,
+        None => None,
+    }
+}
+
+// What is known of a name of which this was known and that has one more value.
+fn next_known(known: Option<Option<u64>>, value: u64) -> Option<u64>
+    ensures { result ≡ next_known known value }
+{
+    match known {
+        Some(known) => same_value(known, value),
+        None => Some(value),
     }
 }
 

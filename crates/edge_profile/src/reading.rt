@@ -33,11 +33,36 @@ pub fn read(alloc: Global, text: &[u8], elf: &Elf, funcs: &[Func]) -> Result<Pro
         profile_counts profile from to ≡ count_in text.now elf.now funcs.now from to) }
     ensures ignored { IfOk result (λ profile. ignored_of profile ≡ ignored_in text.now elf.now funcs.now) }
 {
-    let names = FunctionNames::new(alloc, &elf.symbols)?;
+    let lengths = name_lengths(alloc, text)?;
+    let names = FunctionNames::new(alloc, &elf.symbols, lengths)?;
     let said = said_in(alloc, text, &names, funcs)?;
     let Said { counted, ignored } = said;
     let pairs = merged(alloc, counted)?;
     Ok(Profile { pairs, ignored })
+}
+
+// For each length, whether a line has a name of it that isn't an address.
+fn name_lengths(alloc: Global, text: &[u8]) -> Result<Vec<bool>, NoMemory> {
+    let mut lengths = Vec::new(alloc);
+    for line in (Lines { left: text }) {
+        if let Some(line) = branch_line(line) {
+            mark_length(&mut lengths, line.from.name)?;
+            mark_length(&mut lengths, line.to.name)?;
+        }
+    }
+    Ok(lengths)
+}
+
+// Marks the length of a name that isn't an address.
+fn mark_length(lengths: &mut Vec<bool>, name: &[u8]) -> Result<(), NoMemory> {
+    if name.starts_with(b"@") {
+        return Ok(());
+    }
+    if lengths.len() <= name.len() {
+        lengths.resize(name.len() + 1, false)?;
+    }
+    lengths[name.len()] = true;
+    Ok(())
 }
 
 // What the lines of a text say.

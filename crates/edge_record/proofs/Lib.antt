@@ -1,7 +1,7 @@
-pub mod Counting
-pub mod LineTexts
-pub mod NumberTexts
-pub mod ReadBack
-pub mod Recording
-pub mod Starts
-pub mod Watching
+mod Counting
+mod LineTexts
+mod NumberTexts
+mod ReadBack
+mod Recording
+mod Starts
+mod Watching

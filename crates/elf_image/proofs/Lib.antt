@@ -1,9 +1,9 @@
-pub mod CodeLemmas
-pub mod CutLists
+mod CodeLemmas
+mod CutLists
 mod Examples
-pub mod ExtentLemmas
+mod ExtentLemmas
 pub mod FaultOrder
-pub mod Folds
+mod Folds
 pub mod LoadLemmas
 pub mod LowSegments
 pub mod LowestPlaces
@@ -11,7 +11,7 @@ pub mod NumberBytes
 pub mod ReachLemmas
 pub mod ReadLists
 pub mod ReadableFiles
-pub mod SectionLemmas
-pub mod SegmentExtentLemmas
-pub mod TruncatedPlaces
-pub mod ZeroPlaces
+mod SectionLemmas
+mod SegmentExtentLemmas
+mod TruncatedPlaces
+mod ZeroPlaces

@@ -1,5 +1,5 @@
 pub mod JoinedParts
-pub mod MoreNames
+mod MoreNames
 pub mod Patches
 pub mod ReadBack
 pub mod SameBytes

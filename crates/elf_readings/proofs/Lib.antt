@@ -1,10 +1,10 @@
-pub mod Alike
-pub mod Relocations
-pub mod Parts
-pub mod Roles
-pub mod Cells
-pub mod Misfits
-pub mod Functions
-pub mod Faults
-pub mod OneList
+mod Alike
+mod Relocations
+mod Parts
+mod Roles
+mod Cells
+mod Misfits
+mod Functions
+mod Faults
+mod OneList
 pub mod Readings

@@ -94,6 +94,10 @@ goes-on = refl
 table : place_behind outline 0x1000 (Some 0x3002) (record (note 0x1022) { kind = 6 }) ≡ 0x40
 table = refl
 
+-- one that is so long that it would leave the area from there follows its section, as any other
+long-table : place_behind outline 0x1000 (Some 0x3002) (record (note 0x1022) { kind = 6; filesz = 0x2000 }) ≡ 0x3002
+long-table = refl
+
 front : new_header (code ∷ []) outline None (note 0x101c) ≡ note 0x101c
 front = refl
 

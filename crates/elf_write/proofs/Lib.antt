@@ -1,47 +1,47 @@
-pub mod AllWritten
-pub mod CellLists
-pub mod CellPatches
-pub mod CellPlaces
-pub mod CellsWritten
-pub mod CodeMemory
-pub mod CodeWritten
-pub mod EntryWritten
-pub mod FileEnds
-pub mod FirstHomes
-pub mod FirstNames
-pub mod FirstRange
-pub mod FragmentLists
+mod AllWritten
+mod CellLists
+mod CellPatches
+mod CellPlaces
+mod CellsWritten
+mod CodeMemory
+mod CodeWritten
+mod EntryWritten
+mod FileEnds
+mod FirstHomes
+mod FirstNames
+mod FirstRange
+mod FragmentLists
 pub mod FreeRange
-pub mod FromMade
-pub mod FrontWritten
-pub mod Growing
+mod FromMade
+mod FrontWritten
+mod Growing
 mod HeaderExamples
-pub mod HeldNumbers
-pub mod HiddenBytes
-pub mod ImageWritten
-pub mod Images
-pub mod InArea
-pub mod KeptRanges
-pub mod KnownContents
-pub mod LaidOut
-pub mod LeftBytes
-pub mod LoadedNumbers
-pub mod LoadedRanges
-pub mod Loads
-pub mod MadeHeaders
-pub mod MadeInput
-pub mod MadeSegments
-pub mod NewSegments
-pub mod Pairs
-pub mod PlacesWritten
-pub mod Positions
-pub mod RangesWithNew
-pub mod ReadHeaders
-pub mod SameBreak
-pub mod SectionOrder
-pub mod SoundFiles
-pub mod StandingContents
-pub mod TableBytes
-pub mod TableKept
-pub mod Tightness
-pub mod WrittenImages
+mod HeldNumbers
+mod HiddenBytes
+mod ImageWritten
+mod Images
+mod InArea
+mod KeptRanges
+mod KnownContents
+mod LaidOut
+mod LeftBytes
+mod LoadedNumbers
+mod LoadedRanges
+mod Loads
+mod MadeHeaders
+mod MadeInput
+mod MadeSegments
+mod NewSegments
+mod Pairs
+mod PlacesWritten
+mod Positions
+mod RangesWithNew
+mod ReadHeaders
+mod SameBreak
+mod SectionOrder
+mod SoundFiles
+mod StandingContents
+mod TableBytes
+mod TableKept
+mod Tightness
+mod WrittenImages

@@ -14,8 +14,9 @@ use Rattle.elf_image.specs.file.SectionNames.{is_called, is_loaded, names_frames
 use Rattle.elf_image.specs.memory.Image.{is_load}
 use Rattle.elf_write.specs.declared.area.Area.{Area}
 use Rattle.elf_write.specs.declared.area.Shift.{Shift}
+use Rattle.elf_write.specs.declared.headers.TheConstants.{SHT_NULL}
 use Rattle.elf_write.specs.declared.sections.Contents.{Contents}
-use Rattle.elf_write.specs.declared.sections.Contents.TheVariants.{Dropped, Kept, Copied, SectionNames, Symbols, SymbolNames}
+use Rattle.elf_write.specs.declared.sections.Contents.TheVariants.{Dropped, Inactive, Kept, Copied, SectionNames, Symbols, SymbolNames}
 use Rattle.elf_write.specs.declared.sections.Contents.TheVariants.{Given}
 use Rattle.elf_write.specs.Area.{loads_end}
 use Rattle.elf_write.specs.NameTables.{place_of_symbols, place_of_names}
@@ -53,10 +54,15 @@ place_replaced sections name = if names_frames name then None else position (is_
 abbrev pub table_for : {Y Z : Type 0} → List (String Y × Vec ℕ Z) → List Section → ℕ → Option ℕ
 table_for tables sections index = position (λ t. is_at index (place_replaced sections (string_bytes t.0))) tables
 
+-- A header of no section has no contents: that of index 0, and others like it.
+abbrev pub is_inactive : Section → Bool
+is_inactive s = (s.kind == SHT_NULL) && (s.size == 0)
+
 -- where the contents are of a section that isn't replaced
 abbrev pub own_contents : List Segment → Area → Shift → Section → Contents
 own_contents segments area shift s =
-    if s.kind == SHT_NOBITS then Kept
+    if is_inactive s then Inactive
+    else if s.kind == SHT_NOBITS then Kept
     else if is_loaded s && ((s.size == 0) || stays segments area shift s.offset (s.offset + s.size)) then Kept
     else Copied
 

@@ -16,7 +16,7 @@ use Rattle.rv_code.specs.layout.Lists.{ListsPairs}
 use Rattle.elf_write.specs.declared.area.Area.{Area}
 use Rattle.elf_write.specs.declared.area.Shift.{Shift}
 use Rattle.elf_write.specs.declared.sections.Contents.{Contents}
-use Rattle.elf_write.specs.declared.sections.Contents.TheVariants.{Dropped, Kept}
+use Rattle.elf_write.specs.declared.sections.Contents.TheVariants.{Dropped, Inactive, Kept}
 use Rattle.elf_write.specs.Area.{loads_end, lowest_behind, moved_by, area_offset}
 use Rattle.elf_write.specs.Contents.{contents_of}
 use Rattle.elf_write.specs.NewSections.{adds_ranges}
@@ -59,6 +59,7 @@ table_place elf area shift =
 
 abbrev pub is_written : Contents → Bool
 is_written Dropped = false
+is_written Inactive = false
 is_written Kept = false
 is_written _ = true
 

@@ -89,11 +89,15 @@ beside outline align p =
     let end = area_offset outline.area outline.area.end in
     min (if leaves_area outline.area at p.filesz then at + rounded_up align (end - at) else at) outline.file_size
 
+-- A header of the table of program headers names it, unless it would begin in the new area and end behind it.
+abbrev pub names_table : Outline → Segment → Bool
+names_table outline p = (p.kind == PT_PHDR) && not (leaves_area outline.area outline.table_at p.filesz)
+
 -- where the bytes of a header are that stand at or behind the executable segment's end
 abbrev pub place_behind : Outline → ℕ → Option ℕ → Segment → ℕ
 place_behind outline align in_section p =
     if is_load p && nat_lt 0 p.filesz then moved_by outline.shift.from outline.shift.by p.offset
-    else if p.kind == PT_PHDR then outline.table_at
+    else if names_table outline p then outline.table_at
     else unwrap_or in_section (beside outline align p)
 
 abbrev pub moved_header : Outline → ℕ → Option ℕ → Segment → Segment

@@ -18,6 +18,7 @@ pub mod LoadedRanges
 pub mod NameTables
 pub mod NameWeight
 pub mod Need
+pub mod NewNames
 pub mod NewSections
 pub mod NewSegments
 pub mod NewSymbols

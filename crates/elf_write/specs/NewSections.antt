@@ -15,7 +15,7 @@ use Rattle.elf_write.specs.declared.area.Area.{Area}
 use Rattle.elf_write.specs.declared.area.Shift.{Shift}
 use Rattle.elf_write.specs.declared.headers.TheConstants.{SHT_NULL}
 use Rattle.elf_write.specs.declared.sections.Contents.{Contents}
-use Rattle.elf_write.specs.declared.sections.Contents.TheVariants.{Dropped, Kept, Copied, SectionNames, Symbols, SymbolNames}
+use Rattle.elf_write.specs.declared.sections.Contents.TheVariants.{Dropped, Inactive, Kept, Copied, SectionNames, Symbols, SymbolNames}
 use Rattle.elf_write.specs.declared.sections.Contents.TheVariants.{Given}
 use Rattle.elf_write.specs.Area.{moved_by, area_offset}
 use Rattle.elf_write.specs.Contents.{contents_of, section_bytes}
@@ -23,13 +23,18 @@ use Rattle.elf_write.specs.OldNames.{new_name}
 
 -- Sections of the input.
 
--- What stays of a header; the name may be another.
-pub record KeepsHeader (s n : Section) : Type 0 where
-  pub name : n.name.now ≡ new_name s
+-- What stays of the header of one that isn't dropped.
+pub record KeepsFields (s n : Section) : Type 0 where
   pub addr : n.addr ≡ s.addr
   pub link : n.link ≡ s.link
   pub align : n.align ≡ s.align
   pub entsize : n.entsize ≡ s.entsize
+
+-- all of it, but for the type and what it says of the contents
+pub record KeepsHeader (s n : Section) : Type 0 where
+  pub fields : KeepsFields s n
+  pub flags : n.flags ≡ s.flags
+  pub info : n.info ≡ s.info
 
 -- the contents stand at the section's alignment, of which 0 is none
 abbrev pub IsAligned : Section → Type 0
@@ -41,27 +46,36 @@ pub record HoldsContents (w bytes : List ℕ) (n : Section) : Type 0 where
   pub size : n.size ≡ length bytes
   pub aligned : IsAligned n
 
-pub record SameFlags (s n : Section) : Type 0 where
-  pub flags : n.flags ≡ s.flags
-  pub info : n.info ≡ s.info
-
-pub record IsDropped (s n : Section) : Type 0 where
+-- A header of no section says nothing but its name.
+pub record IsDropped (n : Section) : Type 0 where
   pub kind : n.kind ≡ SHT_NULL
-  pub same : SameFlags s n
+  pub flags : n.flags ≡ 0
+  pub addr : n.addr ≡ 0
   pub offset : n.offset ≡ 0
   pub size : n.size ≡ 0
+  pub link : n.link ≡ 0
+  pub info : n.info ≡ 0
+  pub align : n.align ≡ 0
+  pub entsize : n.entsize ≡ 0
 
--- They move as loaded bytes do, but not past the end of the file.
+-- One that was there says what it said, but no offset past the end of the file.
+pub record IsInactive (w : List ℕ) (s n : Section) : Type 0 where
+  pub kind : n.kind ≡ s.kind
+  pub same : KeepsHeader s n
+  pub offset : n.offset ≡ min s.offset (length w)
+  pub size : n.size ≡ s.size
+
+-- Contents that are kept move as loaded bytes do, but not past the end of the file.
 pub record IsKept (shift : Shift) (w : List ℕ) (s n : Section) : Type 0 where
   pub kind : n.kind ≡ s.kind
-  pub same : SameFlags s n
+  pub same : KeepsHeader s n
   pub offset : n.offset ≡ min (moved_by shift.from shift.by s.offset) (length w)
   pub size : n.size ≡ s.size
 
--- They are written with new contents, or with those that they had.
+-- Others are written anew, or as they were.
 pub record HasNewContents (w bytes : List ℕ) (kind : ℕ) (s n : Section) : Type 0 where
   pub kind_is : n.kind ≡ kind
-  pub same : SameFlags s n
+  pub same : KeepsHeader s n
   pub contents : HoldsContents w bytes n
 
 -- Tables of symbols and names hold no instructions, and have contents.
@@ -72,15 +86,14 @@ abbrev pub kind_of_own : ℕ → ℕ
 kind_of_own kind = if kind == SHT_RELA then SHT_NULL else if kind == SHT_NOBITS then SHT_STRTAB else kind
 
 pub record IsOwn (s n : Section) : Type 0 where
+  pub fields : KeepsFields s n
   pub kind : n.kind ≡ kind_of_own s.kind
   pub flags : n.flags ≡ without_code s.flags
   pub aligned : IsAligned n
 
--- A table of names begins with the names that it had.
-pub record IsNameTable (file w : List ℕ) (s n : Section) : Type 0 where
+pub record IsNameTable (s n : Section) : Type 0 where
   pub own : IsOwn s n
   pub info : n.info ≡ s.info
-  pub begins : take (length (section_bytes file s)) (section_bytes w n) ≡ section_bytes file s
 
 abbrev pub kind_of_given : ℕ → ℕ
 kind_of_given kind = if kind == SHT_NOBITS then SHT_PROGBITS else kind
@@ -91,12 +104,13 @@ given_bytes tables t = option_map_or (λ table. table.1.items) (slice_get tables
 
 -- by where the contents are
 abbrev pub Follows : {Y Z : Type 0} → List (String Y × Vec ℕ Z) → Shift → List ℕ → List ℕ → Contents → Section → Section → Type 0
-Follows tables shift file w Dropped s n = IsDropped s n
+Follows tables shift file w Dropped s n = IsDropped n
+Follows tables shift file w Inactive s n = IsInactive w s n
 Follows tables shift file w Kept s n = IsKept shift w s n
 Follows tables shift file w Copied s n = HasNewContents w (section_bytes file s) s.kind s n
-Follows tables shift file w SectionNames s n = IsNameTable file w s n
+Follows tables shift file w SectionNames s n = IsNameTable s n
 Follows tables shift file w Symbols s n = IsOwn s n
-Follows tables shift file w SymbolNames s n = IsNameTable file w s n
+Follows tables shift file w SymbolNames s n = IsNameTable s n
 Follows tables shift file w (Given t) s n = HasNewContents w (given_bytes tables t) (kind_of_given s.kind) s n
 
 -- Sections that are added.
@@ -142,8 +156,8 @@ pub record AreNewSections {Y Z : Type 0} (elf new : Elf) (tables : List (String 
   pub names_at : e_shstrndx new.file.now ≡ e_shstrndx elf.file.now
   pub count : length new.sections.items ≡ (length elf.sections.items + 1)
       + (flag (is_some area.frames) + (flag (is_some area.index) + flag (adds_ranges elf.sections.items tables)))
-  pub keeps : (i : ℕ) (s n : Section) → slice_get elf.sections.items i ≡ Some s → slice_get new.sections.items i ≡ Some n →
-      KeepsHeader s n
+  pub called : (i : ℕ) (s n : Section) → slice_get elf.sections.items i ≡ Some s → slice_get new.sections.items i ≡ Some n →
+      n.name.now ≡ new_name s
   pub follows : (i : ℕ) (s n : Section) → slice_get elf.sections.items i ≡ Some s → slice_get new.sections.items i ≡ Some n →
       Follows tables shift elf.file.now new.file.now (contents_of elf tables area shift i s) s n
   pub text : At new.sections.items (length elf.sections.items)

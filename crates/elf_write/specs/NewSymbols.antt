@@ -1,15 +1,16 @@
 -- The symbols of a written file, beside those of its input. gABI, "Symbol Table".
-use Rattle.std.specs.Prelude.{◌≡◌, ℕ, ◌+◌, ◌==◌, is_some, min, if◌then◌else◌, List, Some, IsFalse, IsTrue, MatchOption, IfSome}
+use Rattle.std.specs.Prelude.{◌≡◌, ℕ, ◌+◌, ◌*◌, ◌==◌, is_some, min, if◌then◌else◌, List, Some, IsFalse, IsTrue, MatchOption, IfSome}
 use Rattle.std.specs.Prelude.{length, filter, take, drop}
 use Rattle.addr_map.specs.declared.span.Span.{Span}
 use Rattle.addr_map.specs.Spans.{moved}
 use Rattle.elf_image.specs.declared.elf.Elf.{Elf}
 use Rattle.elf_image.specs.declared.section.Section.{Section}
 use Rattle.elf_image.specs.declared.symbol.Symbol.{Symbol}
-use Rattle.elf_image.specs.declared.symbol.TheConstants.{STT_FUNC}
+use Rattle.elf_image.specs.declared.symbol.TheConstants.{STT_FUNC, SYM_SIZE}
 use Rattle.elf_image.specs.file.Cuts.{names_function}
 use Rattle.rv_code.specs.declared.placed.Func.{Func}
 use Rattle.elf_write.specs.ColdSymbols.{cold_name, named_around}
+use Rattle.elf_write.specs.Contents.{section_bytes}
 use Rattle.elf_write.specs.Fragments.{IsFragmentAt}
 use Rattle.elf_write.specs.PairedLists.{GoTogether}
 use Rattle.elf_write.specs.NameTables.{place_of_symbols, symbols_section}
@@ -66,8 +67,14 @@ pub record AreNewSymbols (old new : List Symbol) (funcs : List Func) (spans : Li
   pub behind : GoTogether (IsNewSymbol funcs spans text) (drop (local_count old table) old)
       (drop (length (named_parts old funcs cold)) (drop (local_count old table) new))
 
+-- what stands in a table behind its last whole symbol
+abbrev pub bytes_behind : Elf → Section → List ℕ
+bytes_behind elf table = drop (SYM_SIZE * length elf.symbols.items) (section_bytes elf.file.now table)
+
 -- The tables of two files: both have one, at the same index, or neither has symbols.
 pub record HaveNewSymbols (elf new : Elf) (funcs : List Func) (spans : List Span) (cold : List ℕ) : Type 0 where
   pub place : place_of_symbols new ≡ place_of_symbols elf
+  pub rest : (table new_table : Section) → symbols_section elf ≡ Some table → symbols_section new ≡ Some new_table →
+      bytes_behind new new_table ≡ bytes_behind elf table
   pub symbols : (table new_table : Section) → symbols_section elf ≡ Some table → symbols_section new ≡ Some new_table →
       AreNewSymbols elf.symbols.items new.symbols.items funcs spans cold (length elf.sections.items) table new_table

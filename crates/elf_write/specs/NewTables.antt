@@ -1,4 +1,4 @@
--- The sections, the program headers, the symbols and the layout of a written file, as they are read of it.
+-- The sections, the program headers, the names, the symbols and the layout of a written file, as they are read of it.
 use Rattle.std.specs.Prelude.{ℕ, List, Bool, String, Vec, codes, length}
 use Rattle.addr_map.specs.declared.span.Span.{Span}
 use Rattle.elf_image.specs.declared.elf.Elf.{Elf}
@@ -8,6 +8,7 @@ use Rattle.elf_write.specs.declared.area.Area.{Area}
 use Rattle.elf_write.specs.Area.{area_of, shift_of}
 use Rattle.elf_write.specs.FileLayout.{HasFileLayout}
 use Rattle.elf_write.specs.HeaderPlaces.{HasNewHeaders}
+use Rattle.elf_write.specs.NewNames.{HaveNewNames}
 use Rattle.elf_write.specs.NewSections.{AreNewSections}
 use Rattle.elf_write.specs.NewSymbols.{HaveNewSymbols}
 use Rattle.elf_write.specs.TableSizes.{table_size}
@@ -18,7 +19,7 @@ area_for elf tables code tight =
     area_of elf.segments.items tight (length code) (table_size tables (codes ".eh_frame"))
     (table_size tables (codes ".eh_frame_hdr"))
 
--- What is read of the file w has the sections, program headers, symbols and layout that follow from the input,
+-- What is read of the file w has the sections, program headers, names, symbols and layout that follow from the input,
 -- the tables that are given, the new code, the functions, their cold parts and the map.
 pub record HasNewTables {Y Z : Type 0} (elf : Elf) (tables : List (String Y × Vec ℕ Z)) (code : List ℕ)
     (funcs : List Func) (cold : List ℕ) (spans : List Span) (tight : Bool) (w : List ℕ) : Type 0 where
@@ -28,6 +29,7 @@ pub record HasNewTables {Y Z : Type 0} (elf : Elf) (tables : List (String Y × V
       (shift_of elf.segments.items (area_for elf tables code tight)) code
   pub headers : HasNewHeaders elf new tables (area_for elf tables code tight)
       (shift_of elf.segments.items (area_for elf tables code tight))
+  pub names : HaveNewNames elf new tables (area_for elf tables code tight) funcs cold
   pub symbols : HaveNewSymbols elf new funcs spans cold
   pub layout : HasFileLayout elf new tables (area_for elf tables code tight)
       (shift_of elf.segments.items (area_for elf tables code tight))

@@ -1,13 +1,13 @@
 // The new area, and where the loaded bytes of the input are beside it.
-ghost use Rattle.std.specs.Prelude.{◌≡◌, ◌+◌, ◌^◌, ◌<◌, IfOk, Some};
+ghost use Rattle.std.specs.Prelude.{◌≡◌, ◌+◌, ◌^◌, ◌<◌, IfOk, IfSome, Some};
 ghost use Rattle.elf_image.specs.memory.CodeSegment.{executable_segment, executable_end};
 ghost use Rattle.elf_write.specs.Area as spec;
 
 use crate::capacity::{area_above, area_start, greatest_align, new_segment_start};
 use crate::round::{checked_rounded_up, in_64_bits, sum};
+use crate::unwritable::Unwritable;
 use elf_image::Segment;
 use elf_image::segment::PT_LOAD;
-use rb_bytes::fault::NoMemory;
 
 /// The new area: the new code, and behind it the tables that are loaded.
 #[derive(Clone, Copy, PartialEq, Eq, Debug)]
@@ -31,7 +31,7 @@ impl Area {
     ghost use Rattle.elf_write.specs.Area.{area_offset};
 
     /// Where an address of the area is in the written file.
-    pub fn offset_of(&self, address: u64) -> Result<u64, NoMemory>
+    pub fn offset_of(&self, address: u64) -> Result<u64, Unwritable>
         ensures { IfOk result (λ offset. offset ≡ area_offset self.now address) }
     {
         sum(self.offset, address.saturating_sub(self.address))
@@ -53,7 +53,7 @@ fn file_end_of(p: &Segment) -> u128
 }
 
 /// Where the last loaded byte ends in the file.
-pub fn loads_end(segments: &[Segment]) -> Result<u64, NoMemory>
+pub fn loads_end(segments: &[Segment]) -> Result<u64, Unwritable>
     ensures { IfOk result (λ end. end ≡ spec.loads_end segments.now) }
 {
     let mut end: u128 = 0;
@@ -82,7 +82,7 @@ pub fn lowest_behind(segments: &[Segment], offset: u64) -> Option<u64>
 }
 
 // The address of the area's segment.
-fn segment_address(segments: &[Segment], code: &Segment, tight: bool) -> Result<u64, NoMemory>
+fn segment_address(segments: &[Segment], code: &Segment, tight: bool) -> Result<u64, Unwritable>
     requires { code.now ≡ spec.code_segment segments.now }
     ensures { IfOk result (λ address. address ≡ spec.segment_address segments.now tight) }
 {
@@ -94,7 +94,7 @@ fn segment_address(segments: &[Segment], code: &Segment, tight: bool) -> Result<
 }
 
 // The offset of the area's segment in the written file.
-fn segment_offset(segments: &[Segment], code: &Segment, tight: bool) -> Result<u64, NoMemory>
+fn segment_offset(segments: &[Segment], code: &Segment, tight: bool) -> Result<u64, Unwritable>
     requires { code.now ≡ spec.code_segment segments.now }
     ensures { IfOk result (λ offset. offset ≡ spec.segment_offset segments.now tight) }
 {
@@ -106,9 +106,9 @@ fn segment_offset(segments: &[Segment], code: &Segment, tight: bool) -> Result<u
 }
 
 /// Where the new code starts. None starts at 0, or at an address that doesn't fit 64 bits.
-pub fn area_start_of(segments: &[Segment], tight: bool) -> Result<u64, NoMemory>
-    ensures start { IfOk result (λ start. start ≡ spec.area_start_of segments.now tight) }
-    ensures some { IfOk result (λ start. 0 < start) }
+pub fn area_start_of(segments: &[Segment], tight: bool) -> Option<u64>
+    ensures start { IfSome result (λ start. start ≡ spec.area_start_of segments.now tight) }
+    ensures some { IfSome result (λ start. 0 < start) }
 {
     let start = if tight {
         area_above(segments)
@@ -116,13 +116,13 @@ pub fn area_start_of(segments: &[Segment], tight: bool) -> Result<u64, NoMemory>
         area_start(segments)
     };
     if start == 0 {
-        return Err(NoMemory);
+        return None;
     }
-    in_64_bits(start)
+    in_64_bits(start).ok()
 }
 
 // Where a table starts behind an end, if there is one.
-fn table_start(align: u64, end: u64, size: Option<usize>) -> Result<Option<u64>, NoMemory>
+fn table_start(align: u64, end: u64, size: Option<usize>) -> Result<Option<u64>, Unwritable>
     requires { 0 < align }
     ensures { IfOk result (λ start. start ≡ spec.table_start align end size) }
 {
@@ -133,7 +133,7 @@ fn table_start(align: u64, end: u64, size: Option<usize>) -> Result<Option<u64>,
 }
 
 // Where it ends; without one nothing is added.
-fn table_end(align: u64, end: u64, size: Option<usize>) -> Result<u64, NoMemory>
+fn table_end(align: u64, end: u64, size: Option<usize>) -> Result<u64, Unwritable>
     requires { 0 < align }
     ensures { IfOk result (λ after. after ≡ spec.table_end align end size) }
 {
@@ -151,11 +151,11 @@ pub fn area_of(
     code: usize,
     frames: Option<usize>,
     index: Option<usize>,
-) -> Result<Area, NoMemory>
+) -> Result<Area, Unwritable>
     requires { executable.now ≡ spec.code_segment segments.now }
     ensures { IfOk result (λ area. area ≡ spec.area_of segments.now tight code frames index) }
 {
-    let start = area_start_of(segments, tight)?;
+    let start = area_start_of(segments, tight).ok_or(Unwritable::Layout)?;
     let code_end = sum(start, code as u64)?;
     let frames_end = table_end(8, code_end, frames)?;
     Ok(Area {
@@ -182,7 +182,7 @@ impl Shift {
     ghost use Rattle.elf_write.specs.Area.{code_segment, moved_by, shift_of};
 
     /// How the bytes behind the executable segment make room for an area.
-    pub fn new(segments: &[Segment], executable: &Segment, area: &Area) -> Result<Shift, NoMemory>
+    pub fn new(segments: &[Segment], executable: &Segment, area: &Area) -> Result<Shift, Unwritable>
         requires { executable.now ≡ code_segment segments.now }
         ensures { IfOk result (λ shift. shift ≡ shift_of segments.now area.now) }
     {
@@ -194,7 +194,7 @@ impl Shift {
     }
 
     /// Where the byte at an offset went.
-    pub fn moved(&self, offset: u64) -> Result<u64, NoMemory>
+    pub fn moved(&self, offset: u64) -> Result<u64, Unwritable>
         ensures { IfOk result (λ o. o ≡ moved_by self.now.from self.now.by offset) }
     {
         if self.from <= offset {
@@ -206,7 +206,7 @@ impl Shift {
 }
 
 // How far the bytes from an offset on move to make room for an area.
-fn step_of(segments: &[Segment], from: u64, area: &Area) -> Result<u64, NoMemory>
+fn step_of(segments: &[Segment], from: u64, area: &Area) -> Result<u64, Unwritable>
     requires { from ≡ spec.code_file_end segments.now }
     ensures { IfOk result (λ step. step ≡ spec.step_of segments.now area.now) }
 {

@@ -8,9 +8,9 @@ ghost use Rattle.elf_write.specs.TableSizes as spec;
 
 use crate::area::Area;
 use crate::sections::Table;
+use crate::unwritable::Unwritable;
 use elf_image::named::{EH_FRAME, EH_FRAME_HDR};
 use elf_parts::patch::fill_to;
-use rb_bytes::fault::NoMemory;
 use std::alloc::Global;
 
 /// The first table with a name.
@@ -46,7 +46,7 @@ fn add_table(
     start: u64,
     address: Option<u64>,
     table: &[u8],
-) -> Result<(), NoMemory>
+) -> Result<(), Unwritable>
     ensures keeps { OnOk result ((o : ℕ) (xs : List ℕ) → Stands bytes.old.items o xs → Stands bytes.new.items o xs) }
     ensures adds { OnOk result (IfSome address (λ a. Stands bytes.new.items (a - start) table.now)) }
 {
@@ -55,7 +55,7 @@ fn add_table(
     };
     let place = address.saturating_sub(start) as usize;
     if place < bytes.len() {
-        return Err(NoMemory);
+        return Err(Unwritable::Layout);
     }
     fill_to(bytes, place)?;
     bytes.extend_from_slice(table)?;
@@ -68,7 +68,7 @@ pub fn area_bytes(
     area: &Area,
     code: &[u8],
     tables: &[Table],
-) -> Result<Vec<u8>, NoMemory>
+) -> Result<Vec<u8>, Unwritable>
     ensures code { IfOk result (λ bytes. Stands bytes.items 0 code.now) }
     ensures frames { IfOk result (λ bytes. IfSome area.now.frames
         (λ a. Stands bytes.items (a - area.now.start) (bytes_called tables.now (codes ".eh_frame")))) }

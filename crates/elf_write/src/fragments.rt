@@ -10,8 +10,8 @@ ghost use Rattle.rv_code.specs.layout.FunctionMembers.{function_at};
 ghost use Rattle.elf_write.specs.Fragments.{IsFragment};
 
 use crate::round::sum;
+use crate::unwritable::Unwritable;
 use addr_map::{AddrMap, Span};
-use rb_bytes::fault::NoMemory;
 use rv_code::Func;
 use rv_code::functions::function_at;
 use std::alloc::Global;
@@ -44,20 +44,20 @@ fn function_start(funcs: &[Func], place: usize) -> Option<u64>
 
 /// All fragments, by address. The spans of a map lie in the order of their bytes, share none, and are of functions; where they
 /// weren't, no file would be written.
-pub fn fragments(alloc: Global, funcs: &[Func], map: &AddrMap) -> Result<Vec<Fragment>, NoMemory>
+pub fn fragments(alloc: Global, funcs: &[Func], map: &AddrMap) -> Result<Vec<Fragment>, Unwritable>
     requires { AreLaidOut funcs.now }
     ensures { IfOk result (λ fragments. AreFragments funcs.now map.now fragments.items) }
 {
     let mut fragments: Vec<Fragment> = Vec::new(alloc);
     for i in 0..map.len() {
-        let span = map.span(i).ok_or(NoMemory)?;
+        let span = map.span(i).ok_or(Unwritable::Layout)?;
         add_span(&mut fragments, funcs, &span)?;
     }
     Ok(fragments)
 }
 
 // Adds the bytes of a span behind those of others.
-fn add_span(fragments: &mut Vec<Fragment>, funcs: &[Func], span: &Span) -> Result<(), NoMemory>
+fn add_span(fragments: &mut Vec<Fragment>, funcs: &[Func], span: &Span) -> Result<(), Unwritable>
     requires { AreLaidOut funcs.now }
     ensures { OnOk result ((spans : List Span) → AreFragments funcs.now spans fragments.old.items →
         AreFragments funcs.now (spans ++ span.now ∷ []) fragments.new.items) }
@@ -65,7 +65,7 @@ fn add_span(fragments: &mut Vec<Fragment>, funcs: &[Func], span: &Span) -> Resul
     if span.len == 0 {
         return Ok(());
     }
-    let func = function_at(funcs, span.input).ok_or(NoMemory)?;
+    let func = function_at(funcs, span.input).ok_or(Unwritable::Layout)?;
     let end = sum(span.out, span.len as u64)?;
     let start = span.out;
     add_fragment(fragments, Fragment { start, end, func })?;
@@ -73,7 +73,7 @@ fn add_span(fragments: &mut Vec<Fragment>, funcs: &[Func], span: &Span) -> Resul
 }
 
 // Adds a fragment behind others, or its bytes to the last of them.
-fn add_fragment(fragments: &mut Vec<Fragment>, fragment: Fragment) -> Result<(), NoMemory>
+fn add_fragment(fragments: &mut Vec<Fragment>, fragment: Fragment) -> Result<(), Unwritable>
     requires { fragment.start < fragment.end }
     ensures { OnOk result (Grows fragments.old.items fragment fragments.new.items) }
 {
@@ -89,7 +89,7 @@ fn add_fragment(fragments: &mut Vec<Fragment>, fragment: Fragment) -> Result<(),
         return Ok(());
     }
     if fragment.start < last.end {
-        return Err(NoMemory);
+        return Err(Unwritable::Layout);
     }
     fragments.push(last)?;
     fragments.push(fragment)?;

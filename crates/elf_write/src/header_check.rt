@@ -8,6 +8,7 @@ use crate::area_bytes::table_size;
 use crate::section_tables::SectionTables;
 use crate::sections::Sections;
 use crate::segments::Places;
+use crate::unwritable::Unwritable;
 use elf_image::code_segment::executable_segment;
 use elf_image::named::EH_FRAME_HDR;
 use elf_image::{Section, Segment};
@@ -38,7 +39,7 @@ fn has_made(
     places: &Places,
     code: usize,
     segments: &[Segment],
-) -> Result<bool, NoMemory>
+) -> Result<bool, Unwritable>
     ensures { IfOk result (λ holds. IsTrue holds → AreMade places.now code segments.now) }
 {
     if !places.can_grow(code) {
@@ -53,13 +54,13 @@ pub fn has_headers(
     alloc: Global,
     tables: &SectionTables,
     known: &Sections,
-) -> Result<bool, NoMemory>
+) -> Result<bool, Unwritable>
     requires { Knows tables.now.elf.now tables.now.tables.now tables.now.area tables.now.shift known.now }
     ensures { IfOk result (λ holds. IsTrue holds →
         HasNewHeaders tables.now.elf.now tables.now.new.now tables.now.tables.now tables.now.area tables.now.shift) }
 {
     let segments = tables.elf.segments.as_slice();
-    let (code, _) = executable_segment(segments).ok_or(NoMemory)?;
+    let (code, _) = executable_segment(segments).ok_or(Unwritable::Layout)?;
     let contents = known.contents(alloc)?;
     let sections_at = offsets_of(alloc, &tables.new.sections)?;
     let places = Places {

@@ -9,13 +9,13 @@ use crate::area_bytes::table_size;
 use crate::names::NameTable;
 use crate::old_name::{is_renamed, old_prefix};
 use crate::sections::{Contents, Table};
-use crate::tail::Tail;
+use crate::tail::{Tail, end_behind};
+use crate::unwritable::Unwritable;
 use elf_image::entries::{SectionTable, section_count};
 use elf_image::named::{EH_FRAME, EH_FRAME_HDR};
 use elf_image::relocation::SHT_RELA;
 use elf_image::section::{SHF_ALLOC, SHF_EXECINSTR, SHT_NOBITS, SHT_PROGBITS, SHT_STRTAB};
 use elf_image::{Elf, Section, SectionHeader};
-use rb_bytes::fault::NoMemory;
 use std::alloc::Global;
 
 /// The type of no section. gABI, "Section Types".
@@ -35,7 +35,7 @@ pub fn old_headers(
     alloc: Global,
     elf: &Elf,
     names: &mut NameTable,
-) -> Result<Vec<SectionHeader>, NoMemory>
+) -> Result<Vec<SectionHeader>, Unwritable>
     requires { IsReadable elf.now.file.now }
 {
     let table = SectionTable { file: elf.file };
@@ -60,7 +60,7 @@ fn area_section(
     addr: u64,
     size: u64,
     align: u64,
-) -> Result<SectionHeader, NoMemory> {
+) -> Result<SectionHeader, Unwritable> {
     Ok(SectionHeader {
         name,
         kind: SHT_PROGBITS,
@@ -81,7 +81,7 @@ pub fn area_headers(
     area: &Area,
     tables: &[Table],
     names: &mut NameTable,
-) -> Result<(), NoMemory> {
+) -> Result<(), Unwritable> {
     let code = area.code_end.saturating_sub(area.start);
     let name = names.add(b".text", b"")?;
     headers.push(area_section(name, SHF_ALLOC + SHF_EXECINSTR, area, area.start, code, 16)?)?;
@@ -125,7 +125,7 @@ impl<'a> NewContents<'a> {
     // The bytes that are written for a section, if they stand behind the loaded ones.
     fn written(&self, elf: &Elf<'a>, contents: Contents, section: &Section) -> Option<&'a [u8]> {
         match contents {
-            Contents::Dropped | Contents::Kept => None,
+            Contents::Dropped | Contents::Inactive | Contents::Kept => None,
             Contents::Copied => Some(bytes_of(elf.file, section)),
             Contents::SectionNames => Some(self.section_names),
             Contents::Symbols => Some(self.symbols),
@@ -135,18 +135,31 @@ impl<'a> NewContents<'a> {
     }
 }
 
+// A header of no section, which has a name.
+fn no_section(name: u32) -> SectionHeader {
+    SectionHeader {
+        name,
+        kind: SHT_NULL,
+        flags: 0,
+        addr: 0,
+        offset: 0,
+        size: 0,
+        link: 0,
+        info: 0,
+        align: 0,
+        entsize: 0,
+    }
+}
+
 /// Sets what a header says of its contents, but for the places of those that are written.
 pub fn set_contents(
     header: &mut SectionHeader,
     contents: Contents,
     shift: &Shift,
-) -> Result<(), NoMemory> {
+) -> Result<(), Unwritable> {
     match contents {
-        Contents::Dropped => {
-            header.kind = SHT_NULL;
-            header.offset = 0;
-            header.size = 0;
-        }
+        Contents::Dropped => *header = no_section(header.name),
+        Contents::Inactive => {}
         Contents::Kept => header.offset = shift.moved(header.offset)?,
         Contents::Copied => {}
         Contents::SectionNames | Contents::Symbols | Contents::SymbolNames => {
@@ -172,7 +185,7 @@ fn place_bytes(
     index: usize,
     bytes: &[u8],
     tail: &mut Tail,
-) -> Result<(), NoMemory>
+) -> Result<(), Unwritable>
     ensures { tail.new.base ≡ tail.old.base }
 {
     if index < headers.len() {
@@ -181,6 +194,27 @@ fn place_bytes(
         headers[index].size = bytes.len() as u64;
     }
     Ok(())
+}
+
+/// Where contents that are written from an offset on will end, in an order of their indices. No file is so large that they
+/// would be written for nothing.
+pub fn contents_end<'a>(
+    elf: &Elf<'a>,
+    contents: &[Contents],
+    order: &[(u64, usize)],
+    new: &NewContents<'a>,
+    start: u64,
+) -> Result<u64, Unwritable> {
+    let mut end = start;
+    for entry in order {
+        let i = entry.1;
+        if let (Some(section), Some(contents)) = (elf.sections.get(i), contents.get(i)) {
+            if let Some(bytes) = new.written(elf, *contents, section) {
+                end = end_behind(end, section.align, bytes.len())?;
+            }
+        }
+    }
+    Ok(end)
 }
 
 /// Writes the contents of sections behind the loaded bytes, in an order of their indices, and sets what their headers say
@@ -192,7 +226,7 @@ pub fn place_contents<'a>(
     new: &NewContents<'a>,
     headers: &mut [SectionHeader],
     tail: &mut Tail,
-) -> Result<(), NoMemory>
+) -> Result<(), Unwritable>
     ensures { OnOk result (tail.new.base ≡ tail.old.base) }
 {
     for entry in order {

@@ -6,6 +6,7 @@ ghost use Rattle.elf_image.specs.internal.Extents.{IsInOneExtent};
 ghost use Rattle.elf_write.specs.Contents.{moves_with};
 
 use crate::area::{Area, Shift, loads_end};
+use crate::unwritable::Unwritable;
 use elf_image::extent::{Extent, is_covered, reaches_of, sort_by_start};
 use elf_image::segment::PT_LOAD;
 use elf_image::{Section, Segment};
@@ -33,7 +34,7 @@ impl KeptBytes {
         segments: &[Segment],
         area: &Area,
         shift: &Shift,
-    ) -> Result<KeptBytes, NoMemory>
+    ) -> Result<KeptBytes, Unwritable>
         ensures { IfOk result (Keeps segments.now area.now shift.now) }
     {
         if area.tight {

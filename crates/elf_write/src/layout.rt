@@ -11,13 +11,13 @@ use crate::area_bytes::{area_bytes, table_size};
 use crate::placing::parts_of;
 use crate::round::sum;
 use crate::sections::Table;
-use crate::tail::OUTPUT_LIMIT;
+use crate::tail::limited;
+use crate::unwritable::Unwritable;
 use addr_map::AddrMap;
 use elf_image::Elf;
 use elf_image::code_segment::executable_segment;
 use elf_image::named::{EH_FRAME, EH_FRAME_HDR};
 use elf_parts::Parts;
-use rb_bytes::fault::NoMemory;
 use std::alloc::Global;
 
 /// The loaded part of a written file.
@@ -46,13 +46,13 @@ impl Layout {
         tight: bool,
         code: &[u8],
         tables: &[Table],
-    ) -> Result<Layout, NoMemory>
+    ) -> Result<Layout, Unwritable>
         ensures laid_out { IfOk result (IsLaidOut elf.now tight code.now (spec.table_size tables.now (codes ".eh_frame"))
             (spec.table_size tables.now (codes ".eh_frame_hdr"))) }
         ensures tables { IfOk result (HoldsTables tables.now) }
     {
         let segments = elf.segments.as_slice();
-        let (index, executable) = executable_segment(segments).ok_or(NoMemory)?;
+        let (index, executable) = executable_segment(segments).ok_or(Unwritable::Layout)?;
         let frames = table_size(tables, EH_FRAME);
         let header = table_size(tables, EH_FRAME_HDR);
         let area = area_of(segments, &executable, tight, code.len(), frames, header)?;
@@ -69,24 +69,20 @@ impl Layout {
     }
 
     /// Where the tail begins.
-    pub fn end(&self) -> Result<u64, NoMemory>
+    pub fn end(&self) -> Result<u64, Unwritable>
         requires { self.now.parts.low ≤ self.now.parts.high }
         ensures { IfOk result (λ end. end ≡ size_of self.now.parts) }
     {
         let moved = self.parts.high - self.parts.low;
-        let end = sum(self.parts.behind_at as u64, moved as u64)?;
-        if end > OUTPUT_LIMIT {
-            return Err(NoMemory);
-        }
-        Ok(end)
+        limited(sum(self.parts.behind_at as u64, moved as u64)?)
     }
 }
 
 /// Whether a map puts the new code into a segment of its own: no byte of it stands where it would start behind the executable
 /// segment.
-pub fn is_above(elf: &Elf, map: &AddrMap) -> Result<bool, NoMemory>
+pub fn is_above(elf: &Elf, map: &AddrMap) -> Result<bool, Unwritable>
     ensures { IfOk result (λ above. above ≡ is_none (owner map.now (area_start elf.now.segments.items))) }
 {
-    let start = area_start_of(&elf.segments, false)?;
+    let start = area_start_of(&elf.segments, false).ok_or(Unwritable::Layout)?;
     Ok(map.owner(start).is_none())
 }

@@ -11,11 +11,11 @@ use crate::placing::is_kept_table;
 use crate::round::{checked_rounded_up, sum};
 use crate::section_tables::SectionTables;
 use crate::sections::Sections;
+use crate::unwritable::Unwritable;
 use elf_image::header::{E_ENTRY, E_FLAGS, E_PHNUM, E_SHENTSIZE, E_SHNUM, Header};
 use elf_image::section::SHDR_SIZE;
 use elf_image::segment::PHDR_SIZE;
 use elf_image::{Elf, Section, Segment};
-use rb_bytes::fault::NoMemory;
 use std::alloc::Global;
 
 // Whether the fields of the header that aren't written are those of the input.
@@ -29,7 +29,7 @@ fn keeps_header_fields(old: Header, new: Header) -> bool
 }
 
 // Where the loaded bytes end in the written file.
-fn loaded_end(segments: &[Segment], area: &Area, shift: &Shift) -> Result<u64, NoMemory>
+fn loaded_end(segments: &[Segment], area: &Area, shift: &Shift) -> Result<u64, Unwritable>
     ensures { IfOk result (λ end. end ≡ spec.loaded_end segments.now area.now shift.now) }
 {
     if area.tight {
@@ -42,7 +42,7 @@ fn loaded_end(segments: &[Segment], area: &Area, shift: &Shift) -> Result<u64, N
 }
 
 // Where the table of program headers stands.
-fn table_place(elf: &Elf, area: &Area, shift: &Shift) -> Result<u64, NoMemory>
+fn table_place(elf: &Elf, area: &Area, shift: &Shift) -> Result<u64, Unwritable>
     ensures { IfOk result (λ at. at ≡ spec.table_place elf.now area.now shift.now) }
 {
     if area.tight {
@@ -55,7 +55,7 @@ fn table_place(elf: &Elf, area: &Area, shift: &Shift) -> Result<u64, NoMemory>
 }
 
 // Where the contents of sections begin.
-fn contents_start(elf: &Elf, area: &Area, shift: &Shift) -> Result<u64, NoMemory>
+fn contents_start(elf: &Elf, area: &Area, shift: &Shift) -> Result<u64, Unwritable>
     ensures { IfOk result (λ start. start ≡ spec.contents_start elf.now area.now shift.now) }
 {
     if area.tight || is_kept_table(elf, shift) {
@@ -67,27 +67,27 @@ fn contents_start(elf: &Elf, area: &Area, shift: &Shift) -> Result<u64, NoMemory
 }
 
 // Where the contents of the section of an index end, which stand at their alignment at or behind an offset.
-fn end_behind(sections: &[Section], start: u64, index: usize) -> Result<u64, NoMemory>
+fn end_behind(sections: &[Section], start: u64, index: usize) -> Result<u64, Unwritable>
     ensures { IfOk result (λ end. spec.StandsBehind sections.now start index end) }
 {
     match sections.get(index) {
         Some(section) => end_at(section, start),
-        None => Err(NoMemory),
+        None => Err(Unwritable::ReadBack),
     }
 }
 
-fn end_at(section: &Section, start: u64) -> Result<u64, NoMemory>
+fn end_at(section: &Section, start: u64) -> Result<u64, Unwritable>
     ensures place { IfOk result (λ end. section.now.offset ≡ rounded_up (max 1 section.now.align) start) }
     ensures end { IfOk result (λ end. end ≡ section.now.offset + section.now.size) }
 {
     if section.offset != checked_rounded_up(section.align.max(1), start)? {
-        return Err(NoMemory);
+        return Err(Unwritable::ReadBack);
     }
     sum(section.offset, section.size)
 }
 
 // Where the contents of the sections of some indices end, which stand one behind another.
-fn end_of(sections: &[Section], start: u64, order: &[(u64, usize)]) -> Result<u64, NoMemory>
+fn end_of(sections: &[Section], start: u64, order: &[(u64, usize)]) -> Result<u64, Unwritable>
     ensures { IfOk result (λ end. spec.StandFrom sections.now start (map (λ place. place.1) order.now) end) }
 {
     let mut end = start;
@@ -103,7 +103,7 @@ fn end_of_all(
     start: u64,
     order: &[(u64, usize)],
     adds_ranges: bool,
-) -> Result<u64, NoMemory>
+) -> Result<u64, Unwritable>
     ensures { IfOk result (λ end. spec.StandFrom sections.now start
         (map (λ place. place.1) order.now ++ spec.added_ranges adds_ranges (length sections.now)) end) }
 {
@@ -115,7 +115,7 @@ fn end_of_all(
 }
 
 // Whether the headers of sections stand at the least multiple of 8 at or behind an offset, and a file ends with them.
-fn ends_with_headers(new: Header, sections: &[Section], end: u64) -> Result<bool, NoMemory>
+fn ends_with_headers(new: Header, sections: &[Section], end: u64) -> Result<bool, Unwritable>
     ensures { IfOk result (λ holds. IsTrue holds → (e_shoff new.entry.file.now ≡ rounded_up 8 end)
         × (length new.entry.file.now ≡ e_shoff new.entry.file.now + SHDR_SIZE * length sections.now)) }
 {
@@ -129,7 +129,7 @@ pub fn is_laid_out(
     alloc: Global,
     tables: &SectionTables,
     known: &Sections,
-) -> Result<bool, NoMemory>
+) -> Result<bool, Unwritable>
     requires { Knows tables.now.elf.now tables.now.tables.now tables.now.area tables.now.shift known.now }
     ensures { IfOk result (λ holds. IsTrue holds →
         spec.HasFileLayout tables.now.elf.now tables.now.new.now tables.now.tables.now tables.now.area tables.now.shift) }

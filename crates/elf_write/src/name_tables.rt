@@ -4,10 +4,10 @@ ghost use Rattle.std.specs.Option.{option_copied};
 ghost use Rattle.elf_image.specs.file.Header.{e_shstrndx};
 ghost use Rattle.elf_write.specs.NameTables as spec;
 
+use crate::unwritable::Unwritable;
 use elf_image::header::Header;
 use elf_image::section::SHT_SYMTAB;
 use elf_image::{Elf, Section};
-use rb_bytes::fault::NoMemory;
 
 /// The indices of the sections that are written anew.
 #[derive(Clone, Copy, PartialEq, Eq, Debug)]
@@ -53,8 +53,8 @@ fn among(sections: &[Section], index: usize) -> Option<usize>
     }
 }
 
-// The index of the section with the names of symbols, if there are symbols.
-fn place_of_names(elf: &Elf) -> Option<usize>
+/// The index of the section with the names of symbols, if there are symbols.
+pub fn place_of_names(elf: &Elf) -> Option<usize>
     ensures { result ≡ spec.place_of_names elf.now }
 {
     if elf.symbols.is_empty() {
@@ -71,14 +71,14 @@ impl OwnSections {
     ghost use Rattle.elf_write.specs.KnownSections.{IsOwnOf};
 
     /// Those of a file. A table that is one of names and of symbols can't be written.
-    pub fn new(elf: &Elf) -> Result<OwnSections, NoMemory>
+    pub fn new(elf: &Elf) -> Result<OwnSections, Unwritable>
         ensures { IfOk result (IsOwnOf elf.now) }
     {
         let section_names = place_of_section_names(elf);
         let symbols = place_of_symbols(elf);
         let symbol_names = place_of_names(elf);
         if symbols == Some(section_names) || (symbols.is_some() && symbols == symbol_names) {
-            return Err(NoMemory);
+            return Err(Unwritable::Layout);
         }
         Ok(OwnSections {
             section_names,

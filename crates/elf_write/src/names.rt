@@ -1,5 +1,6 @@
 // Tables of names that grow. gABI, "String Table".
 
+use crate::unwritable::Unwritable;
 use rb_bytes::fault::NoMemory;
 use std::alloc::Global;
 
@@ -17,13 +18,13 @@ impl NameTable {
     }
 
     /// Adds a name, given in two parts, and says at which index it stands. A table begins with a zero byte.
-    pub fn add(&mut self, front: &[u8], back: &[u8]) -> Result<u32, NoMemory> {
+    pub fn add(&mut self, front: &[u8], back: &[u8]) -> Result<u32, Unwritable> {
         if self.bytes.is_empty() {
             self.bytes.push(0)?;
         }
         let index = self.bytes.len();
         if index > u32::MAX as usize {
-            return Err(NoMemory);
+            return Err(Unwritable::TooLarge);
         }
         self.bytes.extend_from_slice(front)?;
         self.bytes.extend_from_slice(back)?;

@@ -6,7 +6,7 @@ ghost use Rattle.elf_image.specs.file.Header.{e_shstrndx};
 use crate::area_bytes::table_called;
 use crate::fragments::Fragment;
 use crate::headers::{
-    NewContents, area_headers, bytes_of, old_headers, place_contents, set_contents,
+    NewContents, area_headers, bytes_of, contents_end, old_headers, place_contents, set_contents,
 };
 use crate::kept_bytes::KeptBytes;
 use crate::layout::Layout;
@@ -16,12 +16,13 @@ use crate::round::sum;
 use crate::section_tables::DEBUG_RNGLISTS;
 use crate::sections::{Contents, Sections, Table, index_called, replaced_by};
 use crate::symbols::{NewCode, cold_symbols, local_count, symbol_table};
-use crate::tail::Tail;
+use crate::tail::{Tail, limited};
+use crate::unwritable::Unwritable;
+use crate::weights::name_weight;
 use addr_map::AddrMap;
 use elf_image::section::{SHDR_SIZE, SHT_PROGBITS};
 use elf_image::{Elf, SectionHeader};
 use elf_parts::spell::{SymbolEntry, put_sections};
-use rb_bytes::fault::NoMemory;
 use rv_code::Func;
 use std::alloc::Global;
 
@@ -59,7 +60,7 @@ struct NewNames {
 }
 
 impl NewNames {
-    fn new(alloc: Global, elf: &Elf, own: &OwnSections) -> Result<NewNames, NoMemory> {
+    fn new(alloc: Global, elf: &Elf, own: &OwnSections) -> Result<NewNames, Unwritable> {
         let sections = names_at(alloc, elf, own.section_names)?;
         let symbols = match own.symbol_names {
             Some(index) => {
@@ -84,9 +85,10 @@ impl NewNames {
 }
 
 // A table with the bytes of the section of an index.
-fn names_at(alloc: Global, elf: &Elf, index: usize) -> Result<NameTable, NoMemory> {
-    let section = elf.sections.get(index).ok_or(NoMemory)?;
-    NameTable::new(alloc, bytes_of(elf.file, section))
+fn names_at(alloc: Global, elf: &Elf, index: usize) -> Result<NameTable, Unwritable> {
+    let section = elf.sections.get(index).ok_or(Unwritable::Layout)?;
+    let table = NameTable::new(alloc, bytes_of(elf.file, section))?;
+    Ok(table)
 }
 
 // The header of the table of ranges, where one is given and the input has none.
@@ -94,7 +96,7 @@ fn added_ranges(
     elf: &Elf,
     tables: &[Table],
     names: &mut NameTable,
-) -> Result<Option<SectionHeader>, NoMemory> {
+) -> Result<Option<SectionHeader>, Unwritable> {
     if table_called(tables, DEBUG_RNGLISTS).is_none()
         || index_called(&elf.sections, DEBUG_RNGLISTS).is_some()
     {
@@ -127,7 +129,7 @@ impl<'a> SectionSource<'a> {
         own: &OwnSections,
         code: &NewCode,
         names: &mut NewNames,
-    ) -> Result<Vec<SymbolEntry>, NoMemory>
+    ) -> Result<Vec<SymbolEntry>, Unwritable>
         requires { AreLaidOut code.now.funcs.now }
     {
         if own.symbol_names.is_none() {
@@ -147,13 +149,13 @@ impl<'a> SectionSource<'a> {
         names: &mut NewNames,
         headers: &mut [SectionHeader],
         text: u16,
-    ) -> Result<Vec<u8>, NoMemory>
+    ) -> Result<Vec<u8>, Unwritable>
         requires { AreLaidOut self.now.funcs.now }
     {
         let Some(index) = own.symbols else {
             return Ok(Vec::new(alloc));
         };
-        let section = self.elf.sections.get(index).ok_or(NoMemory)?;
+        let section = self.elf.sections.get(index).ok_or(Unwritable::Layout)?;
         let code = NewCode {
             funcs: self.funcs,
             map: self.map,
@@ -163,19 +165,18 @@ impl<'a> SectionSource<'a> {
         let added = self.added_symbols(alloc, own, &code, names)?;
         if !added.is_empty() && index < headers.len() {
             let count = sum(local_count(self.elf, section) as u64, added.len() as u64)?;
-            headers[index].info = u32::try_from(count).map_err(|_| NoMemory)?;
+            headers[index].info = u32::try_from(count).map_err(|_| Unwritable::Layout)?;
         }
         symbol_table(alloc, self.elf, section, &code, &added)
     }
 
-    // Where the contents of the input's sections are, which is set in their headers, and the order of those that are written.
+    // Where the contents of the input's sections are, and the order of those that are written.
     fn old_contents(
         &self,
         alloc: Global,
         own: OwnSections,
         layout: &Layout,
-        headers: &mut [SectionHeader],
-    ) -> Result<(Vec<Contents>, Vec<(u64, usize)>), NoMemory> {
+    ) -> Result<(Vec<Contents>, Vec<(u64, usize)>), Unwritable> {
         let replaced = replaced_by(alloc, &self.elf.sections, self.tables)?;
         let kept = KeptBytes::new(alloc, &self.elf.segments, &layout.area, &layout.shift)?;
         let sections = Sections {
@@ -184,11 +185,21 @@ impl<'a> SectionSource<'a> {
             replaced: &replaced,
             kept: &kept,
         };
-        let contents = sections.contents(alloc)?;
-        for i in 0..contents.len().min(headers.len()) {
-            set_contents(&mut headers[i], contents[i], &layout.shift)?;
+        Ok((sections.contents(alloc)?, sections.order(alloc)?))
+    }
+
+    // Before names are made and contents copied: whether they fit a file.
+    fn check_sizes(&self, alloc: Global, contents: &[Contents]) -> Result<(), Unwritable>
+        requires { AreLaidOut self.now.funcs.now }
+    {
+        let mut size = name_weight(alloc, self.elf, self.funcs, self.cold)?;
+        for (section, contents) in self.elf.sections.iter().zip(contents) {
+            if matches!(contents, Contents::Copied) {
+                size = size.saturating_add(section.size);
+            }
         }
-        Ok((contents, sections.order(alloc)?))
+        limited(size)?;
+        Ok(())
     }
 
     /// Writes the contents of all sections into a tail, and their headers behind them.
@@ -197,26 +208,31 @@ impl<'a> SectionSource<'a> {
         alloc: Global,
         layout: &Layout,
         tail: &mut Tail,
-    ) -> Result<NewSections, NoMemory>
+    ) -> Result<NewSections, Unwritable>
         requires readable { IsReadable self.now.elf.now.file.now }
         requires laid_out { AreLaidOut self.now.funcs.now }
         ensures names { IfOk result (λ new. new.names ≡ e_shstrndx self.now.elf.now.file.now) }
         ensures base { IfOk result (λ new. tail.new.base ≡ tail.old.base) }
     {
         let own = OwnSections::new(self.elf)?;
+        let (contents, order) = self.old_contents(alloc, own, layout)?;
+        self.check_sizes(alloc, &contents)?;
         let mut names = NewNames::new(alloc, self.elf, &own)?;
         let mut headers = old_headers(alloc, self.elf, &mut names.sections)?;
-        let text = u16::try_from(headers.len()).map_err(|_| NoMemory)?;
+        let text = u16::try_from(headers.len()).map_err(|_| Unwritable::Layout)?;
         area_headers(&mut headers, &layout.area, self.tables, &mut names.sections)?;
         let ranges = added_ranges(self.elf, self.tables, &mut names.sections)?;
         let symbols = self.symbols(alloc, &own, &mut names, &mut headers, text)?;
-        let (contents, order) = self.old_contents(alloc, own, layout, &mut headers)?;
+        for i in 0..contents.len().min(headers.len()) {
+            set_contents(&mut headers[i], contents[i], &layout.shift)?;
+        }
         let new = NewContents {
             section_names: names.sections.bytes(),
             symbols: &symbols,
             symbol_names: names.of_symbols(),
             tables: self.tables,
         };
+        contents_end(self.elf, &contents, &order, &new, tail.end()?)?;
         place_contents(self.elf, &contents, &order, &new, &mut headers, tail)?;
         if let (Some(header), Some(table)) = (ranges, table_called(self.tables, DEBUG_RNGLISTS)) {
             headers.push(SectionHeader {
@@ -240,14 +256,14 @@ fn put_table(
     alloc: Global,
     headers: &mut Vec<SectionHeader>,
     tail: &mut Tail,
-) -> Result<u64, NoMemory>
+) -> Result<u64, Unwritable>
     ensures { IfOk result (λ at. tail.new.base ≡ tail.old.base) }
 {
     let table_at = tail.align_to(8)?;
     let size = (headers.len() as u64)
         .checked_mul(SHDR_SIZE as u64)
-        .ok_or(NoMemory)?;
-    let end = table_at.checked_add(size).ok_or(NoMemory)?;
+        .ok_or(Unwritable::Layout)?;
+    let end = table_at.checked_add(size).ok_or(Unwritable::Layout)?;
     for header in headers.iter_mut() {
         header.offset = header.offset.min(end);
     }

@@ -11,14 +11,14 @@ ghost use Rattle.std.specs.List.{list_any};
 use crate::area::{Area, Shift, loads_end, lowest_behind};
 use crate::round::sum;
 use crate::tail::Tail;
+use crate::unwritable::Unwritable;
 use elf_image::header::EHDR_SIZE;
 use elf_image::segment::PHDR_SIZE;
 use elf_image::{Elf, Segment};
 use elf_parts::{NumberAt, Parts};
-use rb_bytes::fault::NoMemory;
 
 // The bytes of the input that keep their places, where the area has a segment of its own.
-fn tight_parts(segments: &[Segment], area: &Area) -> Result<Parts, NoMemory>
+fn tight_parts(segments: &[Segment], area: &Area) -> Result<Parts, Unwritable>
     ensures { IfOk result (λ parts. spec.IsAbove segments.now area.now parts) }
 {
     let keep = loads_end(segments)?.max(EHDR_SIZE as u64);
@@ -32,7 +32,7 @@ fn tight_parts(segments: &[Segment], area: &Area) -> Result<Parts, NoMemory>
 }
 
 // The same, where it lies behind the executable segment and others move.
-fn parts_behind(segments: &[Segment], area: &Area, shift: &Shift) -> Result<Parts, NoMemory>
+fn parts_behind(segments: &[Segment], area: &Area, shift: &Shift) -> Result<Parts, Unwritable>
     ensures { IfOk result (λ parts. spec.IsBehind segments.now area.now shift.now parts) }
 {
     let area_at = area.offset_of(area.start)? as usize;
@@ -75,7 +75,7 @@ pub fn parts_of(
     shift: &Shift,
     input: usize,
     bytes: usize,
-) -> Result<Parts, NoMemory>
+) -> Result<Parts, Unwritable>
     ensures can { IfOk result (λ parts. PartsFit parts input bytes) }
     ensures header { IfOk result (λ parts. 64 ≤ parts.keep) }
     ensures above { IfOk result (λ parts. area.now.tight ≡ true → spec.IsAbove segments.now area.now parts) }
@@ -87,7 +87,7 @@ pub fn parts_of(
         parts_behind(segments, area, shift)?
     };
     if !can_stand(&parts, input, bytes) {
-        return Err(NoMemory);
+        return Err(Unwritable::Layout);
     }
     Ok(parts)
 }
@@ -110,7 +110,7 @@ pub fn is_kept_table(elf: &Elf, shift: &Shift) -> bool
 
 /// Where the table of program headers stands: with the new code, where it stood, or behind the loaded bytes, where
 /// zeros are added for it.
-pub fn table_place(elf: &Elf, area: &Area, shift: &Shift, tail: &mut Tail) -> Result<u64, NoMemory>
+pub fn table_place(elf: &Elf, area: &Area, shift: &Shift, tail: &mut Tail) -> Result<u64, Unwritable>
     ensures place { IfOk result (λ at. made.IsTablePlace elf.now area.now shift.now tail.old.base at) }
     ensures base { IfOk result (λ at. tail.new.base ≡ tail.old.base) }
 {
@@ -124,7 +124,7 @@ pub fn table_place(elf: &Elf, area: &Area, shift: &Shift, tail: &mut Tail) -> Re
         place
     };
     if place < EHDR_SIZE as u64 {
-        return Err(NoMemory);
+        return Err(Unwritable::Layout);
     }
     Ok(place)
 }

@@ -1,5 +1,5 @@
-// Whether a file that was written has the sections, program headers, symbols and layout that it must have, as they
-// are read back.
+// Whether a file that was written has the sections, program headers, names, symbols and layout that it must have, as
+// they are read back.
 ghost use Rattle.std.specs.Prelude.{◌≡◌, IfOk, IsTrue};
 ghost use Rattle.rv_code.specs.layout.FunctionLists.{AreLaidOut};
 ghost use Rattle.elf_image.specs.faults.FileFaults.{IsSound};
@@ -11,25 +11,30 @@ ghost use Rattle.elf_write.specs.AreaTables.{AreaStands};
 ghost use Rattle.elf_write.specs.FileLayout.{HasFileLayout};
 ghost use Rattle.elf_write.specs.HeaderPlaces.{HasNewHeaders};
 ghost use Rattle.elf_write.specs.KnownSections.{Knows};
+ghost use Rattle.elf_write.specs.NewNames.{HaveNewNames};
 ghost use Rattle.elf_write.specs.NewSections.{AreNewSections};
-ghost use Rattle.elf_write.specs.NewSymbols.{HaveNewSymbols};
+ghost use Rattle.elf_write.specs.NewSymbols.{HaveNewSymbols, bytes_behind};
 ghost use Rattle.elf_write.specs.NewTables.{HasNewTables, area_for};
 
 use crate::area::{Area, Shift, area_of};
 use crate::area_bytes::table_size;
 use crate::header_check::has_headers;
+use crate::headers::bytes_of;
 use crate::kept_bytes::KeptBytes;
 use crate::layout_check::is_laid_out;
+use crate::name_check::has_names;
 use crate::name_tables::{OwnSections, place_of_symbols, symbols_section};
 use crate::new_sections::SectionSource;
 use crate::section_tables::SectionTables;
 use crate::sections::{Sections, Table, replaced_by};
 use crate::symbol_check::CodeSymbols;
 use crate::symbol_tables::SymbolTables;
+use crate::unwritable::Unwritable;
 use elf_image::code_segment::executable_segment;
 use elf_image::named::{EH_FRAME, EH_FRAME_HDR};
-use elf_image::{Elf, read};
-use rb_bytes::fault::NoMemory;
+use elf_image::symbol::SYM_SIZE;
+use elf_image::{Elf, Section, read};
+use rb_bytes::fault::Refusal;
 use std::alloc::Global;
 
 // The new area for some code and tables, and how bytes move to make room for it.
@@ -38,12 +43,12 @@ fn area_for(
     tables: &[Table],
     code: &[u8],
     tight: bool,
-) -> Result<(Area, Shift), NoMemory>
+) -> Result<(Area, Shift), Unwritable>
     ensures area { IfOk result (λ r. r.0 ≡ area_for elf.now tables.now code.now tight) }
     ensures shift { IfOk result (λ r. r.1 ≡ shift_of elf.now.segments.items r.0) }
 {
     let segments = elf.segments.as_slice();
-    let (_, executable) = executable_segment(segments).ok_or(NoMemory)?;
+    let (_, executable) = executable_segment(segments).ok_or(Unwritable::Layout)?;
     let frames = table_size(tables, EH_FRAME);
     let header = table_size(tables, EH_FRAME_HDR);
     let area = area_of(segments, &executable, tight, code.len(), frames, header)?;
@@ -52,7 +57,7 @@ fn area_for(
 }
 
 // Whether the layout and the program headers are those that the file must have.
-fn has_places(alloc: Global, tables: &SectionTables, known: &Sections) -> Result<bool, NoMemory>
+fn has_places(alloc: Global, tables: &SectionTables, known: &Sections) -> Result<bool, Unwritable>
     requires { Knows tables.now.elf.now tables.now.tables.now tables.now.area tables.now.shift known.now }
     ensures layout { IfOk result (λ holds. IsTrue holds →
         HasFileLayout tables.now.elf.now tables.now.new.now tables.now.tables.now tables.now.area tables.now.shift) }
@@ -66,7 +71,7 @@ fn has_places(alloc: Global, tables: &SectionTables, known: &Sections) -> Result
 }
 
 // Whether the sections, their layout and the program headers are those that the file must have.
-fn has_sections(alloc: Global, tables: &SectionTables) -> Result<bool, NoMemory>
+fn has_sections(alloc: Global, tables: &SectionTables) -> Result<bool, Unwritable>
     requires { e_shstrndx tables.now.new.now.file.now ≡ e_shstrndx tables.now.elf.now.file.now }
     ensures sections { IfOk result (λ holds. IsTrue holds →
         AreaStands tables.now.area tables.now.tables.now tables.now.code.now tables.now.new.now.file.now →
@@ -93,8 +98,17 @@ fn has_sections(alloc: Global, tables: &SectionTables) -> Result<bool, NoMemory>
     has_places(alloc, tables, &known)
 }
 
+// What stands in a table behind its last whole symbol.
+fn bytes_behind<'a>(elf: &Elf<'a>, table: &Section) -> &'a [u8]
+    ensures { result.now ≡ bytes_behind elf.now table.now }
+{
+    let bytes = bytes_of(elf.file, table);
+    let end = SYM_SIZE * elf.symbols.len();
+    &bytes[end.min(bytes.len())..]
+}
+
 // Whether the symbols are those that the file must have.
-fn has_symbols(alloc: Global, source: &SectionSource, new: &Elf) -> Result<bool, NoMemory>
+fn has_symbols(alloc: Global, source: &SectionSource, new: &Elf) -> Result<bool, Unwritable>
     requires laid_out { AreLaidOut source.now.funcs.now }
     requires fragments { AreFragments source.now.funcs.now source.now.map.now source.now.fragments.now }
     ensures { IfOk result (λ holds. IsTrue holds →
@@ -107,11 +121,14 @@ fn has_symbols(alloc: Global, source: &SectionSource, new: &Elf) -> Result<bool,
     let (Some(table), Some(new_table)) = (symbols_section(elf), symbols_section(new)) else {
         return Ok(true);
     };
+    if bytes_behind(new, new_table) != bytes_behind(elf, table) {
+        return Ok(false);
+    }
     let code = CodeSymbols {
         funcs: source.funcs,
         map: source.map,
         fragments: source.fragments,
-        text: u16::try_from(elf.sections.len()).map_err(|_| NoMemory)?,
+        text: u16::try_from(elf.sections.len()).map_err(|_| Unwritable::Layout)?,
     };
     let tables = SymbolTables {
         old: &elf.symbols,
@@ -122,6 +139,27 @@ fn has_symbols(alloc: Global, source: &SectionSource, new: &Elf) -> Result<bool,
     tables.are_new(alloc, table, new_table)
 }
 
+// Whether the names and the symbols are those that the file must have.
+fn has_names_and_symbols(
+    alloc: Global,
+    source: &SectionSource,
+    tables: &SectionTables,
+) -> Result<bool, Unwritable>
+    requires laid_out { AreLaidOut source.now.funcs.now }
+    requires fragments { AreFragments source.now.funcs.now source.now.map.now source.now.fragments.now }
+    requires input { tables.now.elf.now ≡ source.now.elf.now }
+    ensures names { IfOk result (λ holds. IsTrue holds →
+        HaveNewNames source.now.elf.now tables.now.new.now tables.now.tables.now tables.now.area source.now.funcs.now
+        source.now.cold.now) }
+    ensures symbols { IfOk result (λ holds. IsTrue holds →
+        HaveNewSymbols source.now.elf.now tables.now.new.now source.now.funcs.now source.now.map.now source.now.cold.now) }
+{
+    if !has_names(alloc, tables, source.funcs, source.cold)? {
+        return Ok(false);
+    }
+    has_symbols(alloc, source, tables.new)
+}
+
 // Whether all of them are.
 fn has_new_tables(
     alloc: Global,
@@ -129,7 +167,7 @@ fn has_new_tables(
     code: &[u8],
     tight: bool,
     new: &Elf,
-) -> Result<bool, NoMemory>
+) -> Result<bool, Unwritable>
     requires names { e_shstrndx new.now.file.now ≡ e_shstrndx source.now.elf.now.file.now }
     requires laid_out { AreLaidOut source.now.funcs.now }
     requires fragments { AreFragments source.now.funcs.now source.now.map.now source.now.fragments.now }
@@ -144,6 +182,8 @@ fn has_new_tables(
         (area_for source.now.elf.now source.now.tables.now code.now tight)
         (shift_of source.now.elf.now.segments.items
         (area_for source.now.elf.now source.now.tables.now code.now tight))) }
+    ensures names { IfOk result (λ holds. IsTrue holds → HaveNewNames source.now.elf.now new.now source.now.tables.now
+        (area_for source.now.elf.now source.now.tables.now code.now tight) source.now.funcs.now source.now.cold.now) }
     ensures symbols { IfOk result (λ holds. IsTrue holds →
         HaveNewSymbols source.now.elf.now new.now source.now.funcs.now source.now.map.now source.now.cold.now) }
     ensures layout { IfOk result (λ holds. IsTrue holds →
@@ -164,44 +204,10 @@ fn has_new_tables(
     if !has_sections(alloc, &tables)? {
         return Ok(false);
     }
-    has_symbols(alloc, source, new)
+    has_names_and_symbols(alloc, source, &tables)
 }
 
-// The same, where memory that was wanting counts as no.
-fn finds_new_tables(
-    alloc: Global,
-    source: &SectionSource,
-    code: &[u8],
-    tight: bool,
-    new: &Elf,
-) -> bool
-    requires names { e_shstrndx new.now.file.now ≡ e_shstrndx source.now.elf.now.file.now }
-    requires laid_out { AreLaidOut source.now.funcs.now }
-    requires fragments { AreFragments source.now.funcs.now source.now.map.now source.now.fragments.now }
-    ensures sections { IsTrue result →
-        AreaStands (area_for source.now.elf.now source.now.tables.now code.now tight) source.now.tables.now code.now
-        new.now.file.now →
-        AreNewSections source.now.elf.now new.now source.now.tables.now
-        (area_for source.now.elf.now source.now.tables.now code.now tight)
-        (shift_of source.now.elf.now.segments.items (area_for source.now.elf.now source.now.tables.now code.now tight))
-        code.now }
-    ensures headers { IsTrue result → HasNewHeaders source.now.elf.now new.now source.now.tables.now
-        (area_for source.now.elf.now source.now.tables.now code.now tight)
-        (shift_of source.now.elf.now.segments.items (area_for source.now.elf.now source.now.tables.now code.now tight)) }
-    ensures symbols { IsTrue result →
-        HaveNewSymbols source.now.elf.now new.now source.now.funcs.now source.now.map.now source.now.cold.now }
-    ensures layout { IsTrue result →
-        HasFileLayout source.now.elf.now new.now source.now.tables.now
-        (area_for source.now.elf.now source.now.tables.now code.now tight)
-        (shift_of source.now.elf.now.segments.items (area_for source.now.elf.now source.now.tables.now code.now tight)) }
-{
-    match has_new_tables(alloc, source, code, tight, new) {
-        Ok(holds) => holds,
-        Err(_) => false,
-    }
-}
-
-/// Whether the reader takes a file, and finds the sections, program headers, symbols and layout in it that the file
+/// Whether the reader takes a file, and finds the sections, program headers, names, symbols and layout in it that the file
 /// must have. The bytes of its new area aren't looked at.
 pub fn is_accepted(
     alloc: Global,
@@ -209,18 +215,19 @@ pub fn is_accepted(
     code: &[u8],
     tight: bool,
     file: &[u8],
-) -> bool
+) -> Result<bool, Unwritable>
     requires names { e_shstrndx file.now ≡ e_shstrndx source.now.elf.now.file.now }
     requires laid_out { AreLaidOut source.now.funcs.now }
     requires fragments { AreFragments source.now.funcs.now source.now.map.now source.now.fragments.now }
-    ensures sound { IsTrue result → IsSound file.now }
-    ensures tables { IsTrue result →
+    ensures sound { IfOk result (λ holds. IsTrue holds → IsSound file.now) }
+    ensures tables { IfOk result (λ holds. IsTrue holds →
         AreaStands (area_for source.now.elf.now source.now.tables.now code.now tight) source.now.tables.now code.now file.now →
         HasNewTables source.now.elf.now source.now.tables.now code.now source.now.funcs.now source.now.cold.now
-        source.now.map.now tight file.now }
+        source.now.map.now tight file.now) }
 {
     match read(alloc, file) {
-        Ok(found) => finds_new_tables(alloc, source, code, tight, &found),
-        Err(_) => false,
+        Ok(found) => has_new_tables(alloc, source, code, tight, &found),
+        Err(Refusal::Fault(_)) => Ok(false),
+        Err(Refusal::Memory) => Err(Unwritable::Memory),
     }
 }

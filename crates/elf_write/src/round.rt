@@ -1,9 +1,9 @@
 // Numbers rounded up, and numbers of 64 bits.
+use crate::unwritable::Unwritable;
 ghost use Rattle.std.specs.Prelude.{◌≡◌, ◌+◌, ◌^◌, ◌<◌, ◌≤◌, IfOk};
 ghost use Rattle.elf_image.specs.memory.Break.{rounded_up};
 ghost use Rattle.elf_write.specs.Need.{capped};
 
-use rb_bytes::fault::NoMemory;
 
 /// Rounds up to a multiple of a unit.
 pub fn rounded_up(unit: u64, n: u128) -> u128
@@ -18,7 +18,7 @@ pub fn rounded_up(unit: u64, n: u128) -> u128
 }
 
 /// The same in 64 bits.
-pub fn checked_rounded_up(unit: u64, n: u64) -> Result<u64, NoMemory>
+pub fn checked_rounded_up(unit: u64, n: u64) -> Result<u64, Unwritable>
     requires { 0 < unit }
     ensures up { IfOk result (λ up. up ≡ rounded_up unit n) }
     ensures above { IfOk result (λ up. n ≤ up) }
@@ -27,20 +27,20 @@ pub fn checked_rounded_up(unit: u64, n: u64) -> Result<u64, NoMemory>
 }
 
 /// A sum, where it fits 64 bits.
-pub fn sum(a: u64, b: u64) -> Result<u64, NoMemory>
+pub fn sum(a: u64, b: u64) -> Result<u64, Unwritable>
     ensures { IfOk result (λ sum. sum ≡ a + b) }
 {
-    a.checked_add(b).ok_or(NoMemory)
+    a.checked_add(b).ok_or(Unwritable::Layout)
 }
 
 /// An address or offset as a number of 64 bits. One that doesn't fit is a place that no memory has.
-pub fn in_64_bits(place: u128) -> Result<u64, NoMemory>
+pub fn in_64_bits(place: u128) -> Result<u64, Unwritable>
     ensures { IfOk result (λ n. n ≡ place) }
 {
     if place <= u64::MAX as u128 {
         Ok(place as u64)
     } else {
-        Err(NoMemory)
+        Err(Unwritable::Layout)
     }
 }
 

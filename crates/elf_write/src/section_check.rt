@@ -12,8 +12,8 @@ use elf_image::Section;
 use elf_image::relocation::SHT_RELA;
 use elf_image::section::{SHT_NOBITS, SHT_PROGBITS, SHT_STRTAB};
 
-// Whether a name is the one that a section of the input gets.
-fn is_new_name(s: &Section, name: &[u8]) -> bool
+/// Whether a name is the one that a section of the input gets.
+pub fn is_new_name(s: &Section, name: &[u8]) -> bool
     ensures { IsTrue result → name.now ≡ new_name s.now }
 {
     if is_renamed(s) {
@@ -23,15 +23,17 @@ fn is_new_name(s: &Section, name: &[u8]) -> bool
     }
 }
 
-/// Whether a section has what stays of a header.
-pub fn keeps_header(s: &Section, n: &Section) -> bool
+// Whether a section has what stays of a header that isn't dropped.
+fn keeps_fields(s: &Section, n: &Section) -> bool
+    ensures { IsTrue result → spec.KeepsFields s.now n.now }
+{
+    n.addr == s.addr && n.link == s.link && n.align == s.align && n.entsize == s.entsize
+}
+
+fn keeps_header(s: &Section, n: &Section) -> bool
     ensures { IsTrue result → spec.KeepsHeader s.now n.now }
 {
-    is_new_name(s, n.name)
-        && n.addr == s.addr
-        && n.link == s.link
-        && n.align == s.align
-        && n.entsize == s.entsize
+    keeps_fields(s, n) && n.flags == s.flags && n.info == s.info
 }
 
 fn is_aligned(n: &Section) -> bool
@@ -46,16 +48,28 @@ fn holds_contents(w: &[u8], bytes: &[u8], n: &Section) -> bool
     bytes_of(w, n) == bytes && n.size == bytes.len() as u64 && is_aligned(n)
 }
 
-fn same_flags(s: &Section, n: &Section) -> bool
-    ensures { IsTrue result → spec.SameFlags s.now n.now }
+fn is_dropped(n: &Section) -> bool
+    ensures { IsTrue result → spec.IsDropped n.now }
 {
-    n.flags == s.flags && n.info == s.info
+    n.kind == SHT_NULL
+        && n.flags == 0
+        && n.addr == 0
+        && n.offset == 0
+        && n.size == 0
+        && n.link == 0
+        && n.info == 0
+        && n.align == 0
+        && n.entsize == 0
 }
 
-fn is_dropped(s: &Section, n: &Section) -> bool
-    ensures { IsTrue result → spec.IsDropped s.now n.now }
+// Whether a header of no section is as it was, but for an offset past the file's end.
+fn is_inactive(w: &[u8], s: &Section, n: &Section) -> bool
+    ensures { IsTrue result → spec.IsInactive w.now s.now n.now }
 {
-    n.kind == SHT_NULL && same_flags(s, n) && n.offset == 0 && n.size == 0
+    n.kind == s.kind
+        && keeps_header(s, n)
+        && n.offset == s.offset.min(w.len() as u64)
+        && n.size == s.size
 }
 
 // Whether the contents are where the loaded bytes of the input went.
@@ -65,7 +79,7 @@ fn is_kept(shift: &Shift, w: &[u8], s: &Section, n: &Section) -> bool
     match shift.moved(s.offset) {
         Ok(moved) => {
             n.kind == s.kind
-                && same_flags(s, n)
+                && keeps_header(s, n)
                 && n.offset == moved.min(w.len() as u64)
                 && n.size == s.size
         }
@@ -76,7 +90,7 @@ fn is_kept(shift: &Shift, w: &[u8], s: &Section, n: &Section) -> bool
 fn is_rewritten(w: &[u8], bytes: &[u8], kind: u32, s: &Section, n: &Section) -> bool
     ensures { IsTrue result → spec.HasNewContents w.now bytes.now kind s.now n.now }
 {
-    n.kind == kind && same_flags(s, n) && holds_contents(w, bytes, n)
+    n.kind == kind && keeps_header(s, n) && holds_contents(w, bytes, n)
 }
 
 fn kind_of_own(kind: u32) -> u32
@@ -102,23 +116,16 @@ fn kind_of_given(kind: u32) -> u32
 fn is_own(s: &Section, n: &Section) -> bool
     ensures { IsTrue result → spec.IsOwn s.now n.now }
 {
-    n.kind == kind_of_own(s.kind) && n.flags == without_code(s.flags) && is_aligned(n)
+    keeps_fields(s, n)
+        && n.kind == kind_of_own(s.kind)
+        && n.flags == without_code(s.flags)
+        && is_aligned(n)
 }
 
-// Whether bytes begin with others.
-fn begins_with(bytes: &[u8], front: &[u8]) -> bool
-    ensures { IsTrue result → take (length front.now) bytes.now ≡ front.now }
+fn is_name_table(s: &Section, n: &Section) -> bool
+    ensures { IsTrue result → spec.IsNameTable s.now n.now }
 {
-    if bytes.len() < front.len() {
-        return false;
-    }
-    &bytes[..front.len()] == front
-}
-
-fn is_name_table(file: &[u8], w: &[u8], s: &Section, n: &Section) -> bool
-    ensures { IsTrue result → spec.IsNameTable file.now w.now s.now n.now }
-{
-    is_own(s, n) && n.info == s.info && begins_with(bytes_of(w, n), bytes_of(file, s))
+    is_own(s, n) && n.info == s.info
 }
 
 // The bytes of a table by its place.
@@ -150,12 +157,11 @@ impl<'a> Files<'a> {
             Follows self.now.tables.now self.now.shift self.now.old.now self.now.new.now contents s.now n.now }
     {
         match contents {
-            Contents::Dropped => is_dropped(s, n),
+            Contents::Dropped => is_dropped(n),
+            Contents::Inactive => is_inactive(self.new, s, n),
             Contents::Kept => is_kept(&self.shift, self.new, s, n),
             Contents::Copied => is_rewritten(self.new, bytes_of(self.old, s), s.kind, s, n),
-            Contents::SectionNames | Contents::SymbolNames => {
-                is_name_table(self.old, self.new, s, n)
-            }
+            Contents::SectionNames | Contents::SymbolNames => is_name_table(s, n),
             Contents::Symbols => is_own(s, n),
             Contents::Given(place) => {
                 let bytes = given_bytes(self.tables, place);

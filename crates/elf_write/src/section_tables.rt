@@ -4,7 +4,7 @@ ghost use Rattle.rv_code.specs.isa.Op.{flag};
 
 use crate::area::{Area, Shift};
 use crate::area_bytes::{bytes_called, table_called};
-use crate::section_check::{Added, Files, keeps_header};
+use crate::section_check::{Added, Files, is_new_name};
 use crate::sections::{Contents, Sections, Table};
 use elf_image::named::{EH_FRAME, EH_FRAME_HDR};
 use elf_image::section::{SHF_ALLOC, SHF_EXECINSTR};
@@ -40,8 +40,9 @@ impl<'a> SectionTables<'a> {
     ghost use Rattle.elf_write.specs.AreaTables.{AreaStands};
     ghost use Rattle.elf_write.specs.Contents.{contents_of};
     ghost use Rattle.elf_write.specs.KnownSections.{Knows};
-    ghost use Rattle.elf_write.specs.NewSections.{AreNewSections, At, Follows, IsAdded, IsInArea, KeepsHeader, adds_ranges};
+    ghost use Rattle.elf_write.specs.NewSections.{AreNewSections, At, Follows, IsAdded, IsInArea, adds_ranges};
     ghost use Rattle.elf_write.specs.NewSections.{bytes_called};
+    ghost use Rattle.elf_write.specs.OldNames.{new_name};
     ghost use Rattle.rv_code.specs.isa.Op.{flag};
 
     // Where the contents of a section of the input are, which has an index.
@@ -55,7 +56,7 @@ impl<'a> SectionTables<'a> {
     // Whether a section is what one of the input becomes, which has an index.
     fn becomes(&self, known: &Sections, index: usize, s: &Section, n: &Section) -> bool
         requires { Knows self.now.elf.now self.now.tables.now self.now.area self.now.shift known.now }
-        ensures keeps { IsTrue result → KeepsHeader s.now n.now }
+        ensures called { IsTrue result → n.now.name.now ≡ new_name s.now }
         ensures follows { IsTrue result →
             Follows self.now.tables.now self.now.shift self.now.elf.now.file.now self.now.new.now.file.now
             (contents_of self.now.elf.now self.now.tables.now self.now.area self.now.shift index s.now) s.now n.now }
@@ -66,14 +67,14 @@ impl<'a> SectionTables<'a> {
             tables: self.tables,
             shift: self.shift,
         };
-        keeps_header(s, n) && files.follows(self.contents_of(known, index, s), s, n)
+        is_new_name(s, n.name) && files.follows(self.contents_of(known, index, s), s, n)
     }
 
     // Whether the section of an index is what that of the input becomes.
     fn follows(&self, known: &Sections, index: usize) -> bool
         requires { Knows self.now.elf.now self.now.tables.now self.now.area self.now.shift known.now }
-        ensures keeps { IsTrue result → (s n : Section) → slice_get self.now.elf.now.sections.items index ≡ Some s →
-            slice_get self.now.new.now.sections.items index ≡ Some n → KeepsHeader s n }
+        ensures called { IsTrue result → (s n : Section) → slice_get self.now.elf.now.sections.items index ≡ Some s →
+            slice_get self.now.new.now.sections.items index ≡ Some n → n.name.now ≡ new_name s }
         ensures follows { IsTrue result → (s n : Section) → slice_get self.now.elf.now.sections.items index ≡ Some s →
             slice_get self.now.new.now.sections.items index ≡ Some n →
             Follows self.now.tables.now self.now.shift self.now.elf.now.file.now self.now.new.now.file.now
@@ -88,7 +89,7 @@ impl<'a> SectionTables<'a> {
     fn all_follow(&self, known: &Sections) -> bool
         requires { Knows self.now.elf.now self.now.tables.now self.now.area self.now.shift known.now }
         ensures keeps { IsTrue result → (i : ℕ) (s n : Section) → slice_get self.now.elf.now.sections.items i ≡ Some s →
-            slice_get self.now.new.now.sections.items i ≡ Some n → KeepsHeader s n }
+            slice_get self.now.new.now.sections.items i ≡ Some n → n.name.now ≡ new_name s }
         ensures follows { IsTrue result → (i : ℕ) (s n : Section) → slice_get self.now.elf.now.sections.items i ≡ Some s →
             slice_get self.now.new.now.sections.items i ≡ Some n →
             Follows self.now.tables.now self.now.shift self.now.elf.now.file.now self.now.new.now.file.now

@@ -4,8 +4,10 @@ ghost use Rattle.elf_image.specs.file.SectionNames.{is_called};
 ghost use Rattle.elf_write.specs.Contents as spec;
 ghost use Rattle.rv_code.specs.layout.Lists.{IsPairBefore};
 
+use crate::headers::SHT_NULL;
 use crate::kept_bytes::KeptBytes;
 use crate::name_tables::OwnSections;
+use crate::unwritable::Unwritable;
 use elf_image::named::names_frames;
 use elf_image::relocation::SHT_RELA;
 use elf_image::section::SHT_NOBITS;
@@ -18,6 +20,8 @@ use std::alloc::Global;
 pub enum Contents {
     /// Nowhere: of the section only a header is left, of no type.
     Dropped,
+    /// There are none: the header is one of no section.
+    Inactive,
     /// Where the loaded bytes of the input are.
     Kept,
     /// Behind them, as they were.
@@ -39,7 +43,7 @@ impl Contents {
         ensures { result ≡ is_written self.now }
     {
         match self {
-            Contents::Dropped | Contents::Kept => false,
+            Contents::Dropped | Contents::Inactive | Contents::Kept => false,
             Contents::Copied
             | Contents::SectionNames
             | Contents::Symbols
@@ -51,6 +55,13 @@ impl Contents {
 
 /// Bytes that take the place of a section's, by the section's name.
 pub type Table = (String, Vec<u8>);
+
+// Whether a header is one of no section, without contents.
+fn is_inactive(section: &Section) -> bool
+    ensures { result ≡ spec.is_inactive section.now }
+{
+    section.kind == SHT_NULL && section.size == 0
+}
 
 /// The index of the section that a name means.
 pub fn index_called(sections: &[Section], name: &[u8]) -> Option<usize>
@@ -152,6 +163,9 @@ impl<'a> Sections<'a> {
         ensures { (segments : List Segment) (area : Area) (shift : Shift) → Keeps segments area shift self.now.kept.now →
             result ≡ spec.own_contents segments area shift section.now }
     {
+        if is_inactive(section) {
+            return Contents::Inactive;
+        }
         if section.kind == SHT_NOBITS {
             return Contents::Kept;
         }
@@ -185,7 +199,7 @@ impl<'a> Sections<'a> {
     }
 
     /// The sections whose contents are written behind the loaded bytes: their offsets and indices, ascending.
-    pub fn order(&self, alloc: Global) -> Result<Vec<(u64, usize)>, NoMemory>
+    pub fn order(&self, alloc: Global) -> Result<Vec<(u64, usize)>, Unwritable>
         ensures { (segments : List Segment) (area : Area) (shift : Shift) → Keeps segments area shift self.now.kept.now →
             IfOk result (λ order.
             ListsPairs (PassesAt self.now.elf.now.sections.items (is_written_by self.now segments area shift)) order.items) }
@@ -198,7 +212,7 @@ impl<'a> Sections<'a> {
         }
         order.sort_unstable();
         if !are_ascending(&order) {
-            return Err(NoMemory);
+            return Err(Unwritable::Layout);
         }
         Ok(order)
     }

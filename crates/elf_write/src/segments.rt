@@ -11,9 +11,9 @@ use crate::capacity::greatest_align;
 use crate::homes::homes_of;
 use crate::round::{checked_rounded_up, sum};
 use crate::sections::Contents;
+use crate::unwritable::Unwritable;
 use elf_image::segment::{PF_R, PF_X, PHDR_SIZE, PT_GNU_EH_FRAME, PT_LOAD};
 use elf_image::{Elf, Segment};
-use rb_bytes::fault::NoMemory;
 use std::alloc::Global;
 
 /// The type of the program header that names their table. gABI, "Program Header".
@@ -37,7 +37,7 @@ pub struct Places<'a> {
 }
 
 // A header that names so many bytes at an address of the area.
-fn at_area(p: &Segment, area: &Area, address: u64, size: u64) -> Result<Segment, NoMemory>
+fn at_area(p: &Segment, area: &Area, address: u64, size: u64) -> Result<Segment, Unwritable>
     ensures kind { IfOk result (λ q. q.kind ≡ p.now.kind) }
     ensures flags { IfOk result (λ q. q.flags ≡ p.now.flags) }
     ensures align { IfOk result (λ q. q.align ≡ p.now.align) }
@@ -97,7 +97,7 @@ fn index_for(area: &Area, p: &Segment) -> Option<u64>
 impl<'a> Places<'a> {
     ghost use Rattle.std.specs.Prelude.{◌+◌, ◌*◌, IsTrue, if◌then◌else◌, length, option_map, slice_get, unwrap_or};
     ghost use Rattle.std.specs.Option.{option_map_or};
-    ghost use Rattle.elf_write.specs.HeaderPlaces.{beside, moved_header, new_header, place_behind, place_in};
+    ghost use Rattle.elf_write.specs.HeaderPlaces.{beside, moved_header, names_table, new_header, place_behind, place_in};
     ghost use Rattle.elf_write.specs.PlacedHeaders.{AreMade, AreNewEach, outline};
     ghost use Rattle.elf_write.specs.NewSegments.{AreNewHeaders, AreRenewed, CanGrow, CanGrowAt, IsRenewed, area_segment};
     ghost use Rattle.elf_write.specs.NewSegments.{grown, grows_at};
@@ -107,12 +107,12 @@ impl<'a> Places<'a> {
     ghost use Rattle.elf_write.specs.Area.{moved_by};
 
     // The size of a table with one more program header.
-    fn table_size(&self) -> Result<u64, NoMemory>
+    fn table_size(&self) -> Result<u64, Unwritable>
         ensures { IfOk result (λ size. size ≡ 56 * (length self.now.elf.now.segments.items + 1)) }
     {
         let count = self.elf.segments.len() as u64;
         let count = sum(count, 1)?;
-        count.checked_mul(PHDR_SIZE as u64).ok_or(NoMemory)
+        count.checked_mul(PHDR_SIZE as u64).ok_or(Unwritable::Layout)
     }
 
     // Where a section of an index stands in the written file, and in the input.
@@ -135,7 +135,7 @@ impl<'a> Places<'a> {
     }
 
     // Where the bytes of a header are, which stand in the contents of the section of an index.
-    fn place_in(&self, p: &Segment, home: usize) -> Result<u64, NoMemory>
+    fn place_in(&self, p: &Segment, home: usize) -> Result<u64, Unwritable>
         ensures { IfOk result (λ o. o ≡ place_in self.now.elf.now.sections.items self.now.sections_at.now p.now home) }
     {
         let before = p.offset.saturating_sub(self.old_section_at(home));
@@ -143,7 +143,7 @@ impl<'a> Places<'a> {
     }
 
     // Where bytes go that stay beside the loaded ones: none begin in the new area and end behind it.
-    fn beside(&self, p: &Segment, align: u64) -> Result<u64, NoMemory>
+    fn beside(&self, p: &Segment, align: u64) -> Result<u64, Unwritable>
         requires { 0 < align }
         ensures { IfOk result (λ o. o ≡ beside (outline self.now) align p.now) }
     {
@@ -156,8 +156,16 @@ impl<'a> Places<'a> {
         Ok(at.min(self.file_size))
     }
 
+    // Whether a header names the table of program headers: not where it would begin in the new area and end behind it.
+    fn names_table(&self, p: &Segment) -> Result<bool, Unwritable>
+        ensures { IfOk result (λ names. names ≡ names_table (outline self.now) p.now) }
+    {
+        let end = self.area.offset_of(self.area.end)?;
+        Ok(p.kind == PT_PHDR && !leaves_area(&self.area, end, self.table_at, p.filesz))
+    }
+
     // Where the bytes of a header go that stand behind the executable segment.
-    fn place_behind(&self, p: &Segment, home: Option<usize>, align: u64) -> Result<u64, NoMemory>
+    fn place_behind(&self, p: &Segment, home: Option<usize>, align: u64) -> Result<u64, Unwritable>
         requires { 0 < align }
         ensures load { IfOk result (λ o. p.now.kind ≡ PT_LOAD → 0 < p.now.filesz →
             o ≡ moved_by self.now.shift.from self.now.shift.by p.now.offset) }
@@ -167,7 +175,7 @@ impl<'a> Places<'a> {
         if p.kind == PT_LOAD && p.filesz > 0 {
             return self.shift.moved(p.offset);
         }
-        if p.kind == PT_PHDR {
+        if self.names_table(p)? {
             return Ok(self.table_at);
         }
         match home {
@@ -182,7 +190,7 @@ impl<'a> Places<'a> {
         p: &Segment,
         home: Option<usize>,
         align: u64,
-    ) -> Result<Segment, NoMemory>
+    ) -> Result<Segment, Unwritable>
         requires { 0 < align }
         ensures renewed { IfOk result (IsRenewed self.now.shift.from self.now.shift.by self.now.area.end self.now.area.tight false
             p.now) }
@@ -205,7 +213,7 @@ impl<'a> Places<'a> {
         is_code: bool,
         home: Option<usize>,
         align: u64,
-    ) -> Result<Segment, NoMemory>
+    ) -> Result<Segment, Unwritable>
         requires align { 0 < align }
         requires grows { is_code ≡ true → self.now.area.tight ≡ false → CanGrow self.now.shift.from self.now.area.end p.now }
         requires greatest { align ≡ greatest_align self.now.elf.now.segments.items }
@@ -229,7 +237,7 @@ impl<'a> Places<'a> {
     }
 
     // The headers of the input's segments, of which the executable one has an index.
-    fn all_renewed(&self, alloc: Global, code: usize) -> Result<Vec<Segment>, NoMemory>
+    fn all_renewed(&self, alloc: Global, code: usize) -> Result<Vec<Segment>, Unwritable>
         requires { CanGrowAt self.now.shift.from self.now.area.end self.now.area.tight code self.now.elf.now.segments.items }
         ensures renewed { IfOk result (λ qs. AreRenewed self.now.shift.from self.now.shift.by self.now.area.end
             self.now.area.tight (grows_at self.now.area.tight code) self.now.elf.now.segments.items qs.items) }
@@ -246,7 +254,7 @@ impl<'a> Places<'a> {
     }
 
     /// All program headers. A new one stands behind the last that is loaded.
-    pub fn segments(&self, alloc: Global, code: usize) -> Result<Vec<Segment>, NoMemory>
+    pub fn segments(&self, alloc: Global, code: usize) -> Result<Vec<Segment>, Unwritable>
         requires grows { CanGrowAt self.now.shift.from self.now.area.end self.now.area.tight code
             self.now.elf.now.segments.items }
         requires ordered { self.now.area.address ≤ self.now.area.end }

@@ -4,8 +4,8 @@ ghost use Rattle.elf_write.specs.NewSymbols as spec;
 
 use crate::first_names::first_names;
 use crate::symbol_check::CodeSymbols;
+use crate::unwritable::Unwritable;
 use elf_image::{Section, Symbol};
-use rb_bytes::fault::NoMemory;
 use std::alloc::Global;
 
 // How many symbols are local by the header of their table.
@@ -62,7 +62,7 @@ impl<'a> SymbolTables<'a> {
         alloc: Global,
         table: &Section,
         new_table: &Section,
-    ) -> Result<bool, NoMemory>
+    ) -> Result<bool, Unwritable>
         requires laid_out { AreLaidOut self.now.code.funcs.now }
         requires fragments { AreFragments self.now.code.funcs.now self.now.code.map.now self.now.code.fragments.now }
         ensures { IfOk result (λ holds. IsTrue holds →

@@ -9,6 +9,7 @@ use crate::first_names::first_names;
 use crate::fragments::{Fragment, bytes_left, start_around};
 use crate::headers::bytes_of;
 use crate::names::NameTable;
+use crate::unwritable::Unwritable;
 use addr_map::AddrMap;
 use elf_image::number::u32_at;
 use elf_image::symbol::{STT_FUNC, SYM_SIZE};
@@ -99,7 +100,7 @@ pub fn cold_symbols(
     code: &NewCode,
     cold: &[u64],
     table: &mut NameTable,
-) -> Result<Vec<SymbolEntry>, NoMemory>
+) -> Result<Vec<SymbolEntry>, Unwritable>
     requires { AreLaidOut code.now.funcs.now }
 {
     let names = first_names(alloc, &elf.symbols)?;
@@ -122,7 +123,7 @@ pub fn symbol_table(
     section: &Section,
     code: &NewCode,
     cold: &[SymbolEntry],
-) -> Result<Vec<u8>, NoMemory>
+) -> Result<Vec<u8>, Unwritable>
     requires { AreLaidOut code.now.funcs.now }
 {
     let mut bytes = Vec::new(alloc);
@@ -133,7 +134,7 @@ pub fn symbol_table(
             put_all(&mut bytes, cold)?;
         }
         if rest.len() < SYM_SIZE {
-            return Err(NoMemory);
+            return Err(Unwritable::Layout);
         }
         put_symbol(&mut bytes, &code.entry_of(&elf.symbols[i], u32_at(rest, 0)))?;
         rest = &rest[SYM_SIZE..];

@@ -24,6 +24,7 @@ use crate::read_back::is_accepted;
 use crate::sections::Table;
 use crate::segments::Places;
 use crate::tail::Tail;
+use crate::unwritable::Unwritable;
 use addr_map::AddrMap;
 use elf_image::named::EH_FRAME_HDR;
 use elf_image::{Elf, SectionHeader, Segment};
@@ -43,7 +44,7 @@ fn put_together(
     segments: &[Segment],
     fields: &[NumberAt],
     table_at: u64,
-) -> Result<Vec<u8>, NoMemory>
+) -> Result<Vec<u8>, Unwritable>
     requires can { PartsFit layout.now.parts (length elf.now.file.now) (length layout.now.bytes.items) }
     requires base { tail.now.base ≡ size_of layout.now.parts }
     ensures { IfOk result
@@ -56,9 +57,9 @@ fn put_together(
         || !can_put_all(size, fields)
         || table_at as u128 + table.len() as u128 > size as u128
     {
-        return Err(NoMemory);
+        return Err(Unwritable::Layout);
     }
-    assemble(
+    let file = assemble(
         alloc,
         &layout.parts,
         elf.file,
@@ -68,7 +69,8 @@ fn put_together(
         table_at as usize,
         &table,
         fields,
-    )
+    )?;
+    Ok(file)
 }
 
 // The offsets of sections.
@@ -87,7 +89,7 @@ fn fields_of(
     sections: &NewSections,
     segments: &[Segment],
     table_at: u64,
-) -> Result<HeaderFields, NoMemory>
+) -> Result<HeaderFields, Unwritable>
     ensures entry { IfOk result (λ fields. moved map.now elf.now.entry ≡ Some fields.entry) }
     ensures segments_at { IfOk result (λ fields. fields.segments_at ≡ table_at) }
     ensures segments { IfOk result (λ fields. fields.segments ≡ length segments.now) }
@@ -96,7 +98,7 @@ fn fields_of(
     ensures names { IfOk result (λ fields. fields.names ≡ sections.now.names) }
 {
     Ok(HeaderFields {
-        entry: map.moved(elf.entry).ok_or(NoMemory)?,
+        entry: map.moved(elf.entry).ok_or(Unwritable::Layout)?,
         segments_at: table_at,
         segments: segments.len() as u64,
         sections_at: sections.table_at,
@@ -111,7 +113,7 @@ fn made(
     source: &SectionSource,
     emitted: &Emitted,
     tight: bool,
-) -> Result<Vec<u8>, NoMemory>
+) -> Result<Vec<u8>, Unwritable>
     requires readable { IsReadable source.now.elf.now.file.now }
     requires read { IsElfOf source.now.elf.now.file.now source.now.elf.now }
     requires sound { IsSound source.now.elf.now.file.now }
@@ -144,6 +146,44 @@ fn made(
     )
 }
 
+// The written file, or why there is none.
+fn written(
+    alloc: Global,
+    elf: &Elf,
+    funcs: &[Func],
+    cold: &[u64],
+    emitted: &Emitted,
+    map: &AddrMap,
+    tables: &[Table],
+) -> Result<Vec<u8>, Unwritable>
+    requires read { IsElfOf elf.now.file.now elf.now }
+    requires sound { IsSound elf.now.file.now }
+    requires bytes { All (λ b. b < 256) elf.now.file.now }
+    requires cells { All (CanHold elf.now) emitted.now.cells.items }
+    requires apart { AllPairs AreApart emitted.now.cells.items }
+    requires laid_out { AreLaidOut funcs.now }
+    ensures written { IfOk result (λ w. (tight : Bool) → HasPlace (source_of elf.now emitted.now map.now tables.now) tight →
+        IsWritten (source_of elf.now emitted.now map.now tables.now) tight w.items) }
+    ensures tables { IfOk result (λ w. (tight : Bool) → HasPlace (source_of elf.now emitted.now map.now tables.now) tight →
+        HasNewTables elf.now tables.now emitted.now.code.items funcs.now cold.now map.now tight w.items) }
+{
+    let fragments = fragments(alloc, funcs, map)?;
+    let source = SectionSource {
+        elf,
+        funcs,
+        cold,
+        map,
+        fragments: &fragments,
+        tables,
+    };
+    let tight = is_above(elf, map)?;
+    let file = made(alloc, &source, emitted, tight)?;
+    if !is_accepted(alloc, &source, &emitted.code, tight, &file)? {
+        return Err(Unwritable::ReadBack);
+    }
+    Ok(file)
+}
+
 /// The written file, by the functions of the input, the addresses of their cold parts, the new code and the new contents of
 /// code cells, the map, and the tables that are written anew.
 ///
@@ -169,19 +209,8 @@ pub fn write(
     ensures tables { IfOk result (λ w. (tight : Bool) → HasPlace (source_of elf.now emitted.now map.now tables.now) tight →
         HasNewTables elf.now tables.now emitted.now.code.items funcs.now cold.now map.now tight w.items) }
 {
-    let fragments = fragments(alloc, funcs, map)?;
-    let source = SectionSource {
-        elf,
-        funcs,
-        cold,
-        map,
-        fragments: &fragments,
-        tables,
-    };
-    let tight = is_above(elf, map)?;
-    let file = made(alloc, &source, emitted, tight)?;
-    if !is_accepted(alloc, &source, &emitted.code, tight, &file) {
-        return Err(NoMemory);
+    match written(alloc, elf, funcs, cold, emitted, map, tables) {
+        Ok(file) => Ok(file),
+        Err(_) => Err(NoMemory),
     }
-    Ok(file)
 }

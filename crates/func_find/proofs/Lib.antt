@@ -1,8 +1,8 @@
-pub mod FunctionLists
+mod FunctionLists
 pub mod Judged
-pub mod MisledPlaces
-pub mod NoRole
-pub mod PlacedAt
-pub mod Placing
-pub mod ReferredLists
-pub mod StartsApart
+mod MisledPlaces
+mod NoRole
+mod PlacedAt
+mod Placing
+mod ReferredLists
+mod StartsApart

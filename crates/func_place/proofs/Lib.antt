@@ -1,26 +1,26 @@
-pub mod CallBounds
-pub mod CallLists
-pub mod CalleeOrder
-pub mod ClusterMoves
-pub mod ClusterParts
-pub mod Gained
-pub mod GroupMoves
-pub mod Heaviest
-pub mod InstOrder
-pub mod LowestMembers
-pub mod Moving
-pub mod Only
-pub mod OnlyHeaviest
-pub mod OrderFacts
-pub mod PlacementFaults
-pub mod Ranked
-pub mod Ranking
-pub mod Sweep
+mod CallBounds
+mod CallLists
+mod CalleeOrder
+mod ClusterMoves
+mod ClusterParts
+mod Gained
+mod GroupMoves
+mod Heaviest
+mod InstOrder
+mod LowestMembers
+mod Moving
+mod Only
+mod OnlyHeaviest
+mod OrderFacts
+mod PlacementFaults
+mod Ranked
+mod Ranking
+mod Sweep
 pub mod TiedBlocks
-pub mod Times
-pub mod TieGroups
-pub mod TieSets
-pub mod UnitClasses
-pub mod UnitLine
-pub mod UnitSums
+mod Times
+mod TieGroups
+mod TieSets
+mod UnitClasses
+mod UnitLine
+mod UnitSums
 pub mod WorstPositive

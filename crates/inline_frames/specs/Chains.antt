@@ -1,7 +1,7 @@
 -- The entries of the functions that an address belongs to, from the innermost inlined one out. DWARF 5, sections 3.3.1
 -- and 3.3.8.
-use Rattle.std.specs.Prelude.{◌==◌, ◌&&◌, ◌||◌, ℕ, Bool, List, [], ◌∷◌, nat_lt, if◌then◌else◌}
-use Rattle.dw_unit.specs.Units.{Entry, Unit, units}
+use Rattle.std.specs.Prelude.{◌==◌, ◌&&◌, ◌||◌, ℕ, Bool, List, [], ◌∷◌, if◌then◌else◌}
+use Rattle.dw_unit.specs.CompUnits.{Entry, Unit, units, enclosing}
 use Rattle.range_loc_rewrite.specs.Faults.{ListSections}
 use Rattle.range_loc_rewrite.specs.Ranges.{ranges_of, hold}
 use Rattle.inline_frames.specs.declared.tag.TheConstants.{DW_TAG_subprogram, DW_TAG_inlined_subroutine}
@@ -11,12 +11,7 @@ abbrev pub is_function_at : ListSections → ℕ → Unit → Entry → Bool
 is_function_at s a u e =
     (e.declaration.tag == DW_TAG_subprogram || e.declaration.tag == DW_TAG_inlined_subroutine) && hold (ranges_of s u e) a
 
--- the entries that one of a depth lies in, among those before it from the last on; the innermost first
-abbrev pub enclosing : ℕ → List Entry → List Entry
-enclosing depth [] = []
-enclosing depth (e ∷ before) = if nat_lt e.depth depth then e ∷ enclosing e.depth before else enclosing depth before
-
--- those of them that hold the address, up to and with the first one that isn't inlined
+-- those of some entries that hold the address, up to and with the first one that isn't inlined
 abbrev pub outward : (Entry → Bool) → List Entry → List Entry
 outward test [] = []
 outward test (e ∷ es) =

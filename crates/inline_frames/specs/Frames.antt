@@ -1,19 +1,16 @@
 -- The frames of an address: the name of each function of its chain, and where control is in it. DWARF 5, section 3.3.8.2.
-use Rattle.std.specs.Prelude.{◌==◌, ◌||◌, ℕ, List, [], ◌∷◌, ◌++◌, flat_map, codes, decimal, if◌then◌else◌, slice_get, unwrap_or}
+use Rattle.std.specs.Prelude.{◌==◌, ◌||◌, ℕ, List, [], ◌∷◌, ◌++◌, flat_map, codes, decimal, if◌then◌else◌, unwrap_or}
 use Rattle.std.specs.Prelude.{Option, Some, None, option_map, option_and_then}
-use Rattle.std.specs.List.{find}
 use Rattle.elf_image.specs.declared.elf.Elf.{Elf}
 use Rattle.table_core.specs.declared.form.TheConstants.{DW_FORM_addr, DW_FORM_sec_offset}
-use Rattle.table_core.specs.Forms.{is_address_index}
+use Rattle.table_core.specs.AttributeForms.{is_address_index}
 use Rattle.table_core.specs.Texts.{or_none}
-use Rattle.table_core.specs.Units.{Walked, walked}
 use Rattle.dw_unit.specs.declared.attribute.TheConstants.{DW_AT_stmt_list, DW_AT_call_file, DW_AT_call_line, DW_AT_call_column}
 use Rattle.dw_unit.specs.declared.entry.Attr.{Attr}
-use Rattle.dw_unit.specs.Units.{Entry, attr, own_entry}
-use Rattle.line_rewrite.specs.Entries.{path_of}
-use Rattle.line_rewrite.specs.Units.{LineUnit, unit_of}
+use Rattle.dw_unit.specs.CompUnits.{Entry, attr, own_entry}
+use Rattle.line_rewrite.specs.FilePaths.{path_at}
 use Rattle.line_rewrite.specs.LineAnswers.{RowSaid, LineSaid}
-use Rattle.line_rewrite.specs.Tables.{LineSections, line_sections, line}
+use Rattle.line_rewrite.specs.Tables.{line_sections, line}
 use Rattle.range_loc_rewrite.specs.Tables.{list_sections}
 use Rattle.inline_frames.specs.Names.{NameSections, name_sections, name_of, unit_of_entry}
 use Rattle.inline_frames.specs.Chains.{chain}
@@ -44,25 +41,16 @@ abbrev pub unsigned_of : ℕ → Entry → Option ℕ
 unsigned_of name e =
     option_and_then (λ (a : Attr). if a.form == DW_FORM_addr || is_address_index a.form then None else Some a.value) (attr name e)
 
--- the line unit at an offset, which its unit's own entry names
-abbrev pub line_unit_at : LineSections → ℕ → Option LineUnit
-line_unit_at s offset =
-    option_and_then (λ (w : Walked). option_and_then (unit_of s.strings) w.bytes)
-    (find (λ (w : Walked). w.place == offset) (walked 5 s.line))
-
+-- the offset of the line unit that its unit's own entry names
 abbrev pub line_offset : NameSections → Entry → Option ℕ
 line_offset s e =
     option_and_then (λ (a : Attr). if a.form == DW_FORM_sec_offset then Some a.value else None)
     (option_and_then (attr DW_AT_stmt_list) (option_and_then own_entry (unit_of_entry s e)))
 
--- the path of a file of a line unit, by its index
-abbrev pub file_path : LineUnit → ℕ → Option (List ℕ)
-file_path u index = option_and_then (path_of u.directories) (slice_get u.files index)
-
 abbrev pub call_path : Elf → Entry → Option (List ℕ)
 call_path elf e =
-    option_and_then (λ u. option_and_then (file_path u) (unsigned_of DW_AT_call_file e))
-    (option_and_then (line_unit_at (line_sections elf)) (line_offset (name_sections elf) e))
+    option_and_then (λ offset. option_and_then (path_at (line_sections elf) offset) (unsigned_of DW_AT_call_file e))
+    (line_offset (name_sections elf) e)
 
 abbrev pub frame_at_row : Elf → ℕ → Entry → Frame
 frame_at_row elf a e = record {

@@ -1,3 +1,4 @@
 pub mod Names
 pub mod Chains
 pub mod Frames
+pub mod Faults

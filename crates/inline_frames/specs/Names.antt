@@ -1,18 +1,19 @@
 -- The names of entries. DWARF 5, sections 2.15, 3.3.8, 7.5.5 and 7.26.
-use Rattle.std.specs.Prelude.{◌+◌, ◌*◌, ◌==◌, ◌&&◌, ℕ, zero, suc, List, codes, nat_le, if◌then◌else◌, Option, Some, None}
+use Rattle.std.specs.Prelude.{◌+◌, ◌-◌, ◌*◌, ◌==◌, ◌&&◌, ℕ, zero, suc, List, codes, nat_le, take, if◌then◌else◌, Option, Some}
+use Rattle.std.specs.Prelude.{None}
 use Rattle.std.specs.Prelude.{option_and_then}
 use Rattle.std.specs.List.{find}
 use Rattle.std.specs.Option.{option_or}
 use Rattle.elf_image.specs.declared.elf.Elf.{Elf}
 use Rattle.table_core.specs.declared.form.TheConstants.{DW_FORM_string, DW_FORM_strp, DW_FORM_line_strp, DW_FORM_ref_addr}
 use Rattle.table_core.specs.declared.form.TheConstants.{DW_FORM_ref_udata}
-use Rattle.table_core.specs.Forms.{is_text_index}
+use Rattle.table_core.specs.AttributeForms.{is_text_index}
 use Rattle.table_core.specs.Texts.{text_in}
 use Rattle.table_core.specs.Sections.{bytes_of}
 use Rattle.dw_unit.specs.declared.attribute.TheConstants.{DW_AT_name, DW_AT_abstract_origin, DW_AT_specification}
 use Rattle.dw_unit.specs.declared.attribute.TheConstants.{DW_AT_str_offsets_base}
 use Rattle.dw_unit.specs.declared.entry.Attr.{Attr}
-use Rattle.dw_unit.specs.Units.{Entry, Unit, Sections, units, entries, attr, base, number_in}
+use Rattle.dw_unit.specs.CompUnits.{Entry, Unit, Sections, units, entries, attr, base, number_in, value_bytes}
 use Rattle.dw_unit.specs.Tables.{sections_of}
 
 -- the sections that names are read from
@@ -42,9 +43,10 @@ text_of_index s e index =
     (base DW_AT_str_offsets_base u))
     (unit_of_entry s e)
 
+-- a text that stands in the entry ends with a zero byte
 abbrev pub text_of : NameSections → Entry → Attr → Option (List ℕ)
 text_of s e a =
-    if a.form == DW_FORM_string then text_in s.units.info a.place
+    if a.form == DW_FORM_string then Some (take (a.len - 1) (value_bytes s.units.info a))
     else (if a.form == DW_FORM_strp then text_in s.str a.value
     else (if a.form == DW_FORM_line_strp then text_in s.line_str a.value
     else (if is_text_index a.form then text_of_index s e a.value else None)))
@@ -61,11 +63,12 @@ referred s e = option_and_then (λ place. find (λ (x : Entry). x.place == place
     (option_and_then (target_of e) (option_or (attr DW_AT_abstract_origin e) (attr DW_AT_specification e)))
 
 -- Its own name, or else that of the entry which it names, as `more` finds it. A name of its own that can't be read is none.
+abbrev pub own_name_or : NameSections → Entry → Option Attr → Option (List ℕ) → Option (List ℕ)
+own_name_or s e (Some a) more = text_of s e a
+own_name_or s e None more = more
+
 abbrev pub name_or : NameSections → Entry → Option (List ℕ) → Option (List ℕ)
-name_or s e more = by (attr DW_AT_name e) where
-  by : Option Attr → Option (List ℕ)
-  by (Some a) = text_of s e a
-  by None = more
+name_or s e more = own_name_or s e (attr DW_AT_name e) more
 
 -- through at most n references
 abbrev pub name_within : NameSections → ℕ → Entry → Option (List ℕ)

@@ -1,2 +1,2 @@
-pub mod Collected
-pub mod PairOrder
+mod Collected
+mod PairOrder

@@ -17,12 +17,18 @@ use Rattle.range_loc_rewrite.specs.Tables.{list_sections}
 use Rattle.lookup_core.specs.Texts.{bytes_text, offset_text, register_text, if_set, unless_zero}
 
 -- A row: path, line and column, the flags that are set, and what isn't 0.
-abbrev pub row_line : RowSaid → List ℕ
-row_line r =
-    codes "line " ++ r.path ++ codes ":" ++ decimal r.line ++ codes ":" ++ decimal r.column
-    ++ if_set r.stmt (codes " stmt") ++ if_set r.block (codes " block") ++ if_set r.prologue (codes " prologue")
+
+abbrev pub position_text : List ℕ → ℕ → ℕ → List ℕ
+position_text path line column = codes "line " ++ path ++ codes ":" ++ decimal line ++ codes ":" ++ decimal column
+
+abbrev pub flags_text : RowSaid → List ℕ
+flags_text r =
+    if_set r.stmt (codes " stmt") ++ if_set r.block (codes " block") ++ if_set r.prologue (codes " prologue")
     ++ if_set r.epilogue (codes " epilogue")
-    ++ unless_zero r.isa (codes " isa " ++ decimal r.isa) ++ unless_zero r.disc (codes " disc " ++ decimal r.disc) ++ codes "\n"
+    ++ unless_zero r.isa (codes " isa " ++ decimal r.isa) ++ unless_zero r.disc (codes " disc " ++ decimal r.disc)
+
+abbrev pub row_line : RowSaid → List ℕ
+row_line r = position_text r.path r.line r.column ++ flags_text r ++ codes "\n"
 
 abbrev pub line_lines : Option LineSaid → List ℕ
 line_lines said = option_map_or (λ (l : LineSaid). flat_map row_line l.rows) said []
@@ -35,12 +41,12 @@ abbrev pub expression_text : List ℕ → List ℕ
 expression_text [] = codes "-"
 expression_text (b ∷ bs) = bytes_text (b ∷ bs)
 
-abbrev pub places_line : PlaceSaid → List ℕ → List ℕ
-places_line p x =
-    codes "places " ++ hexadecimal p.entry ++ codes " " ++ hexadecimal p.attr ++ codes " " ++ expression_text x ++ codes "\n"
+abbrev pub place_line : ℕ → ℕ → List ℕ → List ℕ
+place_line entry attr x =
+    codes "places " ++ hexadecimal entry ++ codes " " ++ hexadecimal attr ++ codes " " ++ expression_text x ++ codes "\n"
 
 abbrev pub places_lines : PlaceSaid → List ℕ
-places_lines p = flat_map (places_line p) p.expressions
+places_lines p = flat_map (place_line p.entry p.attr) p.expressions
 
 -- How to unwind: the canonical frame address, the return address' column, the rules of registers, and what the entry
 -- has besides.
@@ -65,17 +71,25 @@ abbrev pub star : Bool → List ℕ
 star true = codes "*"
 star false = []
 
+abbrev pub handler_text : ℕ → Bool → List ℕ
+handler_text handler indirect = unless_zero handler (codes " handler " ++ star indirect ++ hexadecimal handler)
+
 abbrev pub unwind_line : FrameAnswer → List ℕ
 unwind_line x =
     codes "unwind cfa " ++ cfa_text x.row.cfa ++ codes " ra " ++ register_text x.ra ++ flat_map register_rule x.row.rules
-    ++ unless_zero x.handler (codes " handler " ++ star x.indirect ++ hexadecimal x.handler)
+    ++ handler_text x.handler x.indirect
     ++ unless_zero x.table (codes " table " ++ hexadecimal x.table) ++ if_set x.signal (codes " signal") ++ codes "\n"
 
--- all lines that there are, or one that says that there is none
-abbrev pub lines_at : Elf → ℕ → List ℕ
-lines_at elf a =
-    line_lines (line elf a) ++ flat_map covers_line (covering (list_sections elf) a)
-    ++ flat_map places_lines (places_said (list_sections elf) a) ++ option_map_or unwind_line (unwind elf a) []
+-- the lines of answers
+abbrev pub lines_of : Option LineSaid → List ℕ → List PlaceSaid → Option FrameAnswer → List ℕ
+lines_of line covers places unwind =
+    line_lines line ++ flat_map covers_line covers ++ flat_map places_lines places ++ option_map_or unwind_line unwind []
 
+-- all lines that there are, or one that says that there is none
+abbrev pub report_of : Option LineSaid → List ℕ → List PlaceSaid → Option FrameAnswer → List ℕ
+report_of line covers places unwind = or_none (lines_of line covers places unwind)
+
+-- the report on an address of a file
 abbrev pub report : Elf → ℕ → List ℕ
-report elf a = or_none (lines_at elf a)
+report elf a =
+    report_of (line elf a) (covering (list_sections elf) a) (places_said (list_sections elf) a) (unwind elf a)

@@ -1,8 +1,8 @@
 pub mod HexDigits
-pub mod TextAt
-pub mod UnsignedLeb
-pub mod ReaderAnswers
-pub mod SignedLeb
+mod TextAt
+mod UnsignedLeb
+mod ReaderAnswers
+mod SignedLeb
 pub mod DigitValues
 pub mod Gains
 pub mod Members

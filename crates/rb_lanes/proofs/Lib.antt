@@ -1,2 +1,2 @@
-pub mod Masks
+mod Masks
 pub mod Walked

@@ -1,4 +1,4 @@
-pub mod Filling
+mod Filling
 pub mod OnlyAnswers
 pub mod Quiet
 pub mod Reading

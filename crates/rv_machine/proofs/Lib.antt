@@ -1,9 +1,9 @@
-pub mod Branches
-pub mod Breaks
-pub mod KnownEntries
-pub mod Outcomes
-pub mod Fetches
-pub mod CallSteps
-pub mod Registers
-pub mod Determined
+mod Branches
+mod Breaks
+mod KnownEntries
+mod Outcomes
+mod Fetches
+mod CallSteps
+mod Registers
+mod Determined
 pub mod LastSteps

@@ -1,11 +1,11 @@
 pub mod MemoryBytes
-pub mod Ranks
-pub mod PatchedBytes
-pub mod PageBytes
+mod Ranks
+mod PatchedBytes
+mod PageBytes
 pub mod AddressRuns
-pub mod CodeRanges
+mod CodeRanges
 pub mod CodeKept
 pub mod Spaces
 pub mod StackLengths
-pub mod Tables
+mod Tables
 pub mod StackMemory

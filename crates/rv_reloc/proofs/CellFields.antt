@@ -14,9 +14,8 @@ use Rattle.elf_code.specs.Cells.{Field, Content, Address, Difference, CanBeCell,
 use Rattle.elf_code.specs.Cells.{IsContentBefore, address_width}
 use Rattle.elf_code.specs.LoadedNumbers.{loaded_number}
 use Rattle.elf_code.specs.Relocations.{Relocation, Bits, is_pcrel_hi}
-use Rattle.elf_code.specs.Roles.{IsFullAt, pair_target, PcrelHiTo, PcrelLo}
+use Rattle.elf_code.specs.Roles.{PcrelHiTo}
 use Rattle.elf_code.proofs.Differences.{difference_counts, difference_bits}
-use Rattle.rv_code.specs.declared.inst.Inst.TheVariants.{Auipc}
 use Rattle.rv_reloc.specs.declared.records.Record.{Record}
 use Rattle.rv_reloc.specs.declared.lows.Low.{Low}
 use Rattle.rv_reloc.specs.Candidates as found

@@ -1,57 +1,59 @@
-pub mod AbsoluteClaims
-pub mod Absolutes
-pub mod BadEntryPlaces
-pub mod CallClaims
-pub mod CallFaults
-pub mod CellFields
-pub mod CellLists
+mod AbsoluteClaims
+mod Absolutes
+mod BadEntryPlaces
+mod CallClaims
+mod CallFaults
+mod CellFields
+mod CellLists
 pub mod Chosen
-pub mod ClaimLists
-pub mod ClaimOrder
-pub mod Classes
-pub mod CodeLabels
-pub mod Cuts
-pub mod Decoded
-pub mod DifferenceCases
-pub mod Differing
-pub mod Either
-pub mod Entries
-pub mod FarLists
-pub mod Faulty
-pub mod FieldsFound
-pub mod Finds
-pub mod FileBytes
-pub mod FirstLow
-pub mod FirstRoles
-pub mod Frees
-pub mod FullLookup
-pub mod Inside
-pub mod InstructionFields
-pub mod Kept
-pub mod Keys
-pub mod LabelLists
-pub mod LabelOrder
-pub mod LabelsAt
-pub mod Lebs
-pub mod Lexicographic
-pub mod LoadedNumbers
-pub mod LowFiles
-pub mod LowLists
-pub mod MisfitCases
-pub mod NamedLists
-pub mod Only
-pub mod Options
-pub mod Ordered
-pub mod PairTargets
-pub mod PartLookup
+mod ClaimLists
+mod ClaimOrder
+mod Classes
+mod CodeLabels
+mod Cuts
+mod Decoded
+mod DifferenceCases
+mod Differing
+mod Either
+mod Entries
+mod EntrySpans
+mod FarLists
+mod Faulty
+mod FieldsFound
+mod Finds
+mod FileBytes
+mod FirstLow
+mod FirstRoles
+mod Frees
+mod FullLookup
+mod Inside
+mod InstructionFields
+mod Kept
+mod Keys
+mod LabelLists
+mod LabelOrder
+mod LabelsAt
+mod Lebs
+mod Lexicographic
+mod LoadedNumbers
+mod LowFiles
+mod LowLists
+mod MisfitCases
+mod NamedLists
+mod Only
+mod Options
+mod Ordered
+mod PairTargets
+mod PartLookup
 pub mod Places
-pub mod RangeLists
-pub mod ReferenceFaultOrder
-pub mod Selecting
-pub mod SlotFields
+mod RangeLists
+mod ReferenceFaultOrder
+mod Selecting
+mod SlotFields
 pub mod StartLists
-pub mod Sweeps
-pub mod TypeGroups
-pub mod UpperClaims
-pub mod UpperFaults
+mod Sweeps
+mod Thinning
+mod TypeGroups
+mod UpperClaims
+mod UpperFaults
 pub mod WholeLookup

@@ -1,19 +1,30 @@
--- That a list has exactly one item that passes a test, in another order and of what items stand for.
-use Rattle.std.proofs.Common.{◌≡◌, ◌∙◌, sym, subst, refl, ◌+◌, Bool, true, cond, Option, Some, None, IfSome, IsSomeAnd, List, []}
-use Rattle.std.proofs.Common.{◌∷◌, map, arith}
+-- That a list has exactly one item that passes a test, where some of many are left out, and of what items stand for.
+use Rattle.std.proofs.Common.{◌≡◌, ◌∙◌, sym, subst, refl, ◌+◌, Bool, true, Option, Some, None, IfSome, IsSomeAnd, List, []}
+use Rattle.std.proofs.Common.{◌∷◌, map, arith, ◌≤◌, ⊎_elim}
 use Rattle.std.specs.List.{count_by}
-use Rattle.std.specs.List.Sorted.{IsPermutation}
-use Rattle.std.proofs.lemmas.List.Sorted.{Contains-permutation, sum_by-IsPermutation}
 use Rattle.elf_code.specs.Cells.{IsOnly}
-use Rattle.rv_reloc.proofs.Ordered.{count-cons, one_if}
+use Rattle.rv_reloc.specs.Thinned.{IsThinned}
 use Rattle.rb_bytes.proofs.ListLemmas.{from_map, in_map}
+use Rattle.rv_reloc.proofs.Ordered.{count-cons, one_if}
 
-pub only-permutation : {A : Type 0} (test : A → Bool) (xs ys : List A) (x : A) → IsPermutation xs ys →
-    IsOnly test xs x → IsOnly test ys x
-only-permutation test xs ys x moved is = record {
-  listed = Contains-permutation xs ys x moved is.listed;
+pub only-thinned : {A : Type 0} (test : A → Bool) (full kept : List A) (x : A) → IsThinned full kept → IsOnly test kept x →
+    IsOnly test full x
+only-thinned test full kept x thinned is = record {
+  listed = thinned.back x is.listed;
   passes = is.passes;
-  alone = sum_by-IsPermutation (λ y. cond (test y) 1 0) xs ys moved ∙ is.alone;
+  alone = let one = is.alone in ⊎_elim (λ (same : count_by test kept ≡ count_by test full). omega arith)
+      (λ (two : (2 ≤ count_by test kept) × (2 ≤ count_by test full)). absurd (let more = two.0 in omega arith))
+      (thinned.counts test);
+}
+
+pub thinned-only : {A : Type 0} (test : A → Bool) (full kept : List A) (x : A) → IsThinned full kept → IsOnly test full x →
+    IsOnly test kept x
+thinned-only test full kept x thinned is = record {
+  listed = thinned.each x is.listed;
+  passes = is.passes;
+  alone = let one = is.alone in ⊎_elim (λ (same : count_by test kept ≡ count_by test full). omega arith)
+      (λ (two : (2 ≤ count_by test kept) × (2 ≤ count_by test full)). absurd (let more = two.1 in omega arith))
+      (thinned.counts test);
 }
 
 count-map : {A B : Type 0} (f : A → B) (test : B → Bool) (xs : List A) → count_by test (map f xs) ≡ count_by (λ x. test (f x)) xs

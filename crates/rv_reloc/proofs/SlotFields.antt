@@ -1,5 +1,5 @@
 -- Entries of the global offset table that lower parts name.
-use Rattle.std.proofs.Common.{◌≡◌, ◌∙◌, sym, ap, subst, refl, ℕ, ◌≤◌, ◌^◌, ℤ, pos, ◌↔◌, Bool, IsTrue, List, Option, Some, arith}
+use Rattle.std.proofs.Common.{◌≡◌, ◌∙◌, sym, subst, refl, ℕ, ◌≤◌, ◌^◌, ℤ, pos, ◌↔◌, Bool, IsTrue, List, arith}
 use Rattle.std.specs.List.{Contains}
 use Rattle.elf_image.specs.declared.elf.Elf.{Elf}
 use Rattle.elf_code.specs.Cells.{Field}

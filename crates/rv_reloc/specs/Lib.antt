@@ -4,6 +4,7 @@ pub mod Candidates
 pub mod Cells
 pub mod Claims
 pub mod Differences
+pub mod EntryRuns
 pub mod Finds
 pub mod GotFields
 pub mod Halves
@@ -24,4 +25,5 @@ pub mod Slots
 pub mod Starts
 pub mod CountedFields
 pub mod Tails
+pub mod Thinned
 pub mod WholeParts

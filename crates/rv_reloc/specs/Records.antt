@@ -1,7 +1,6 @@
 -- The relocations of a file as they are kept.
 use Rattle.std.specs.Prelude.{◌≡◌, ◌⊎◌, ◌<◌, ◌≤◌, ◌+◌, ◌&&◌, Bool, codes, not, ℕ, List, AllPairs, map, length, slice_index_or}
 use Rattle.std.specs.Prelude.{◌==◌, Option, IfSome, IsSomeAnd}
-use Rattle.std.specs.List.Sorted.{IsPermutation}
 use Rattle.elf_image.specs.declared.elf.Elf.{Elf}
 use Rattle.elf_image.specs.declared.section.Section.{Section}
 use Rattle.elf_image.specs.declared.relocation.TheConstants.{SHT_RELA}
@@ -10,6 +9,7 @@ use Rattle.elf_code.specs.Relocations.{Relocation, relocations, is_named}
 use Rattle.elf_image.specs.file.SectionNames.{is_loaded}
 use Rattle.rv_reloc.specs.declared.records.Record.{Record}
 use Rattle.rv_reloc.specs.Index.{class}
+use Rattle.rv_reloc.specs.Thinned.{IsThinned}
 
 -- what a record is kept for
 abbrev pub seen : Record → Relocation
@@ -36,9 +36,9 @@ IsFrom place at r = (place < r.place) ⊎ ((place ≡ r.place) × (at ≤ class_
 abbrev pub AreInOrder : List Record → Type 0
 AreInOrder records = AllPairs (λ q r. IsFrom q.place (class_of q) r) records
 
--- all relocations that count, in this order
+-- all relocations that count, in this order; of some that occur more than twice not all
 pub record AreRecords (elf : Elf) (records : List Record) : Type 0 where
-  pub all : IsPermutation (map seen records) (relocations elf)
+  pub all : IsThinned (relocations elf) (map seen records)
   pub ordered : AreInOrder records
 
 -- Looking up by place and class.

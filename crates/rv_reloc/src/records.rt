@@ -1,12 +1,16 @@
 // The relocations of a file that count, one after another.
-ghost use Rattle.std.specs.Prelude.{◌≡◌, ◌≤◌, ◌+◌, ◌*◌, ◌++◌, IfOk, OnOk, length, map};
+ghost use Rattle.std.specs.Prelude.{◌≡◌, ◌≤◌, ◌+◌, ◌*◌, ◌++◌, List, Some, All, IfOk, OnOk, length, map, slice_get};
+ghost use Rattle.std.specs.List.{flat_map};
 ghost use Rattle.std.specs.List.Sorted.{IsPermutation};
-ghost use Rattle.elf_code.specs.Relocations.{relocations, relocation_at, entries_from, entries_for, entries_of, is_named};
-ghost use Rattle.rv_reloc.specs.Records.{seen, counts, IsContained, AreInOrder, AreRecords};
+ghost use Rattle.elf_code.specs.Relocations.{Relocation, relocation_at, entries_from, is_named};
+ghost use Rattle.rv_reloc.specs.EntryRuns.{run_entries, IsWholeRun, HasTaken};
+ghost use Rattle.rv_reloc.specs.Records.{seen, AreInOrder, AreRecords};
+ghost use Rattle.rv_reloc.specs.Thinned.{IsThinned};
 
+use crate::entry_runs::{EntryRun, Taken, sorted_runs};
 use crate::index::class;
 use elf_image::number::{u32_at, u64_at};
-use elf_image::relocation::{RELA_SIZE, SHT_RELA};
+use elf_image::relocation::RELA_SIZE;
 use elf_image::{Elf, Section};
 use rb_bytes::fault::NoMemory;
 use std::alloc::Global;
@@ -53,13 +57,6 @@ fn push_entries<'a>(
     Ok(())
 }
 
-// Whether the relocations of a section count.
-fn counts(section: &Section) -> bool
-    ensures { result ≡ counts section.now }
-{
-    section.is_loaded() && !is_named(section, b".eh_frame")
-}
-
 /// Whether a section has a name.
 pub fn is_named(section: &Section, name: &[u8]) -> bool
     ensures { result ≡ is_named section.now name.now }
@@ -67,55 +64,70 @@ pub fn is_named(section: &Section, name: &[u8]) -> bool
     section.name == name
 }
 
-fn push_entries_for<'a>(
+// Adds the relocations of a run for a section, but those that were taken twice before.
+fn push_new<'a>(
     records: &mut Vec<Record<'a>>,
-    elf: &'a Elf<'a>,
-    table: &Section,
+    elf: &Elf,
     section: &'a Section<'a>,
-) -> Result<(), NoMemory>
-    requires contained { IsContained elf.now.file.now table.now }
-    requires is_table { table.now.kind ≡ SHT_RELA }
-    ensures { OnOk result (map seen records.new.items ≡ map seen records.old.items ++ entries_for elf.now table.now section.now) }
+    taken: Taken,
+) -> Result<Taken, NoMemory>
+    requires whole { IsWholeRun elf.now taken.run }
+    requires target { slice_get elf.now.sections.items taken.run.section ≡ Some section.now }
+    requires taken { HasTaken elf.now (map seen records.now.items) taken }
+    ensures thinned { OnOk result ((full : List Relocation) → IsThinned full (map seen records.old.items) →
+        IsThinned (full ++ run_entries elf.now taken.run) (map seen records.new.items)) }
+    ensures taken { IfOk result (HasTaken elf.now (map seen records.new.items)) }
 {
-    if !counts(section) {
-        return Ok(());
-    }
-    if table.size == 0 {
-        return Ok(());
-    }
+    let run = taken.run;
+    let end = run.first + run.count;
+    let from = run.first.max(taken.twice.min(end));
     push_entries(
         records,
         elf.file,
         section,
-        table.offset as usize,
-        table.size as usize / RELA_SIZE,
-    )
+        run.phase + RELA_SIZE * from,
+        end - from,
+    )?;
+    Ok(Taken {
+        run,
+        once: taken.once.max(end),
+        twice: taken.once.min(end).max(taken.twice),
+    })
 }
 
-fn push_entries_of<'a>(
+// Adds the relocations of the next run, but those that were taken twice before.
+fn push_run<'a>(
     records: &mut Vec<Record<'a>>,
     elf: &'a Elf<'a>,
-    table: &Section,
-) -> Result<(), NoMemory>
-    requires contained { IsContained elf.now.file.now table.now }
-    ensures { OnOk result (map seen records.new.items ≡ map seen records.old.items ++ entries_of elf.now table.now) }
+    taken: Taken,
+    run: &EntryRun,
+) -> Result<Taken, NoMemory>
+    requires whole { IsWholeRun elf.now run.now }
+    requires taken { HasTaken elf.now (map seen records.now.items) taken }
+    ensures thinned { OnOk result ((full : List Relocation) → IsThinned full (map seen records.old.items) →
+        IsThinned (full ++ run_entries elf.now run.now) (map seen records.new.items)) }
+    ensures taken { IfOk result (HasTaken elf.now (map seen records.new.items)) }
 {
-    if table.kind != SHT_RELA {
-        return Ok(());
-    }
-    match elf.sections.get(table.info as usize) {
-        Some(section) => push_entries_for(records, elf, table, section),
-        None => Ok(()),
+    match elf.sections.get(run.section) {
+        Some(section) => push_new(records, elf, section, taken.of_next(run)),
+        None => Ok(taken),
     }
 }
 
-// All relocations that count, in the order of their tables.
-fn read_records<'a>(alloc: Global, elf: &'a Elf<'a>) -> Result<Vec<Record<'a>>, NoMemory>
-    ensures { IfOk result (λ records. map seen records.items ≡ relocations elf.now) }
+// The relocations of runs, one run after another. What was taken twice before is left out: so tables that share entries are
+// read in the time of these, and whether a relocation is the only one of a kind is kept.
+fn read_records<'a>(
+    alloc: Global,
+    elf: &'a Elf<'a>,
+    runs: &[EntryRun],
+) -> Result<Vec<Record<'a>>, NoMemory>
+    requires { All (IsWholeRun elf.now) runs.now }
+    ensures { IfOk result (λ records. IsThinned (flat_map (run_entries elf.now) runs.now) (map seen records.items)) }
 {
     let mut records = Vec::new(alloc);
-    for table in &elf.sections {
-        push_entries_of(&mut records, elf, table)?;
+    let mut taken = Taken::none();
+    for run in runs {
+        taken = push_run(&mut records, elf, taken, run)?;
     }
     Ok(records)
 }
@@ -133,7 +145,8 @@ fn sort_records(records: &mut Vec<Record>) -> Result<(), NoMemory>
 pub fn records<'a>(alloc: Global, elf: &'a Elf<'a>) -> Result<Vec<Record<'a>>, NoMemory>
     ensures { IfOk result (λ records. AreRecords elf.now records.items) }
 {
-    let mut records = read_records(alloc, elf)?;
+    let runs = sorted_runs(alloc, elf)?;
+    let mut records = read_records(alloc, elf, &runs)?;
     sort_records(&mut records)?;
     Ok(records)
 }

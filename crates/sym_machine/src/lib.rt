@@ -2,27 +2,27 @@
 //! does doesn't depend on where the code lies.
 #![tactic(auto)]
 
-pub mod accesses;
-pub mod arithmetic;
-pub mod branches;
-pub mod calls;
-pub mod execute;
-pub mod fields;
-pub mod hidden;
-pub mod inst_index;
-pub mod jumps;
-pub mod known;
+mod accesses;
+mod arithmetic;
+mod branches;
+mod calls;
+mod execute;
+mod fields;
+mod hidden;
+mod inst_index;
+mod jumps;
+mod known;
 pub mod machine;
-pub mod memory;
-pub mod other_bytes;
+mod memory;
+mod other_bytes;
 pub mod outcome;
-pub mod parts;
-pub mod run;
-pub mod start;
+mod parts;
+mod run;
+mod start;
 mod start_bytes;
-pub mod step;
-pub mod stores;
-pub mod symbols;
+mod step;
+mod stores;
+mod symbols;
 pub mod value;
 
 pub use machine::SymMachine;

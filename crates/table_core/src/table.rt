@@ -1,14 +1,15 @@
 // Tables of answers by address.
-ghost use Rattle.std.specs.Prelude.{◌≡◌, ◌≤◌, ◌-◌, ◌^◌, ℕ, List, Option, Some, IfOk, IsTrue, ◌↔◌, MatchResult, option_map, min};
-ghost use Rattle.std.specs.Prelude.{length};
+ghost use Rattle.std.specs.Prelude.{◌≡◌, ◌-◌, ◌^◌, ℕ, List, AllPairs, Option, Some, IfOk, IsTrue, ◌↔◌, MatchResult, option_map};
+ghost use Rattle.std.specs.Prelude.{min};
 ghost use Rattle.rb_bytes.specs.declared.fault.FaultKind.{FaultKind};
 ghost use Rattle.elf_image.specs.declared.elf.Elf.{Elf};
 ghost use Rattle.rb_bytes.specs.FirstFault.{IsFree, IsRefusalBy};
+ghost use Rattle.addr_map.specs.MapText.{IsLineBefore};
+ghost use Rattle.addr_map.specs.Spans.{ShareNoByte};
 ghost use Rattle.addr_map.specs.declared.span.Span.{Span};
 ghost use Rattle.table_core.specs.declared.run.Run.{Run};
-ghost use Rattle.table_core.specs.declared.written.ListAt.{ListAt};
 ghost use Rattle.table_core.specs.declared.written.Written.{Written};
-ghost use Rattle.table_core.specs.Runs.{carried, run_at, IsWithin};
+ghost use Rattle.table_core.specs.AnswerRuns.{carried, run_at, said_runs, AreLow, IsWithin};
 ghost use Rattle.table_core.specs.CarriedAnswers.{IsCarried};
 
 use crate::run::Run;
@@ -56,13 +57,11 @@ pub trait AddrTable: Drop {
 
     /// What has to hold for the table to be written with numbers of 32 bits: its sections are no larger than a file
     /// may be, and its weight, or for a loaded table the end of what is written, is within its limit.
-    ghost fits: { Self → List Span → List (Run Self.Answer) → Type 0 };
+    ghost fits: { Self → List Span → List (Run Meaning) → Type 0 };
 
-    /// A bound on the bytes of the written table.
-    ghost bounds: { Self → List Span → List (Run Self.Answer) → ℕ → Type 0 };
-
-    /// The places of lists that a written table says are those that entries and units need, each once and below 2 ^ 32.
-    ghost lists_for: { Self → List ListAt → Type 0 };
+    /// What is said of a table that was written of runs, whatever file it will stand in: how many bytes it has, which lists
+    /// are in it, and what is read of its bytes alone.
+    ghost makes: { Self → List Span → List (Run Meaning) → Written → Type 0 };
 
     /// What a file in which the table stands keeps of the input besides answers.
     ghost keeps: { Elf → Elf → Type 0 };
@@ -83,9 +82,17 @@ pub trait AddrTable: Drop {
     fn at(&self, alloc: Global, a: u64) -> Result<Option<Self::Answer>, NoMemory>
         ensures { IfOk result (λ o. option_map said o ≡ says self.now a) };
 
-    /// A weight of the table that would be written for a map, which bounds its size in bytes; or the greatest number,
-    /// where the weight is none of 64 bits.
+    /// Whether two addresses certainly have the same answer. `false` says nothing; it is the answer of a table that
+    /// can't tell without looking both up.
+    fn alike(&self, a: u64, b: u64) -> bool
+        ensures { IsTrue result → says self.now a ≡ says self.now b };
+
+    /// The weight of the table that would be written for a map, by which its size is limited; or the greatest number, where
+    /// the weight is none of 64 bits.
     fn weight(&self, alloc: Global, map: &AddrMap) -> Result<u64, NoMemory>
+        requires ordered { AllPairs IsLineBefore map.now }
+        requires disjoint { AllPairs ShareNoByte map.now }
+        requires low { AreLow map.now }
         ensures { IfOk result (λ n. (weight : ℕ) × weighs self.now map.now weight × (n ≡ min weight (2 ^ 64 - 1))) };
 
     /// Writes the table anew, of runs that have the old answers at the owners of their bytes.
@@ -96,12 +103,14 @@ pub trait AddrTable: Drop {
         map: &AddrMap,
     ) -> Result<Written, NoMemory>
         requires allowed { allows self.now map.now }
-        requires fitting { fits self.now map.now runs.now }
+        requires fitting { fits self.now map.now (said_runs said runs.now) }
         requires within { IsWithin 0 runs.now (2 ^ 64 - 1) }
         requires answers { (p : ℕ) → option_map said (run_at runs.now p) ≡ carried (says self.now) map.now p }
         ensures law { IfOk result (λ w. (i f : Elf) → comes_from self.now i → stands i map.now w f →
             IsCarried (carries map.now) map.now (λ p. option_map said (run_at runs.now p)) (means f) × IsFree (has f)
             × keeps i f) }
-        ensures lists { IfOk result (λ w. lists_for self.now w.lists.items) }
-        ensures size { IfOk result (λ w. (n : ℕ) → bounds self.now map.now runs.now n → length w.bytes.items ≤ n) };
+        ensures made { IfOk result (λ w. makes self.now map.now (said_runs said runs.now) w) };
+
+    /// A map that is allowed has no byte at the last address, so each run ends below 2 ^ 64.
+    ghost is_low: { (t : Self) (spans : List Span) → allows t spans → AreLow spans };
 }

@@ -70,8 +70,7 @@ const TEXT: SectionHeader = SectionHeader {
 };
 
 /// The example with its code moved, worked out by hand: the segment grows to a0, the names stand there
-/// with `.old.text` and `.text` behind them, and four section headers at c8. The null section, which is
-/// empty, stands first of what isn't loaded.
+/// with `.old.text` and `.text` behind them, and four section headers at c8, of which the first stays.
 pub fn exit7_moved(alloc: Global) -> Result<Vec<u8>, Fail> {
     let code = exit7_code(alloc)?;
     let mut file = Vec::new(alloc);
@@ -81,11 +80,7 @@ pub fn exit7_moved(alloc: Global) -> Result<Vec<u8>, Fail> {
     file.extend_from_slice(&[0; 8])?;
     file.extend_from_slice(&code)?;
     file.extend_from_slice(b"\0.text\0.shstrtab\0.old.text\0.text\0\0\0\0\0\0\0\0")?;
-    let null = SectionHeader {
-        offset: 0xa0,
-        ..NULL_SECTION
-    };
-    for section in [null, OLD_TEXT, NAMES, TEXT] {
+    for section in [NULL_SECTION, OLD_TEXT, NAMES, TEXT] {
         push_section_header(&mut file, &section)?;
     }
     Ok(file)

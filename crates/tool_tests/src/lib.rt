@@ -28,3 +28,5 @@ mod room;
 mod samples;
 #[cfg(test)]
 mod smallest;
+#[cfg(test)]
+mod unrelocated;

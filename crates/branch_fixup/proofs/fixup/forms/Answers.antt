@@ -29,7 +29,6 @@ grow-requires c =
       near = q.near;
       even = q.even;
       some = q.some;
-      room = q.room;
     } in
     record {
       block_ends = block_ends_given funcs blocks order base g c.as_slice-order.result.now c.in_ok-block_ends.block_ends.items
@@ -57,7 +56,6 @@ spans-requires-clause-low c =
       near = q.near;
       even = q.even;
       some = q.some;
-      room = q.room;
     } in
     let m : IsMade funcs blocks order base fs = is_made funcs blocks order base g c.as_slice-order.result.now
     c.in_ok-block_ends.block_ends.items c.deref.result.now c.in_ok-block_ends.forms.items c.deref_mut.result.now fs
@@ -95,7 +93,6 @@ returns c =
       near = q.near;
       even = q.even;
       some = q.some;
-      room = q.room;
     } in
     let m : IsMade funcs blocks order base fs = is_made funcs blocks order base g c.as_slice-order.result.now
     c.in_ok-block_ends.block_ends.items c.deref.result.now c.in_ok-block_ends.forms.items c.deref_mut.result.now fs

@@ -1,4 +1,4 @@
-use Rattle.std.proofs.Common.{◌≡◌, ◌∙◌, sym}
+use Rattle.std.proofs.Common.{◌∙◌, sym}
 use Rattle.rv_reloc.specs.Records.{seen}
 use Rattle.rv_reloc.proofs.UpperFaults.{bad-is_lo, bad-low, bad-no_low}
 use Rattle.rv_reloc.proofs.Options.{not_found}

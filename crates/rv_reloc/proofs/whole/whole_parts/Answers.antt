@@ -1,4 +1,4 @@
-use Rattle.std.proofs.Common.{true, false, refl, arith}
+use Rattle.std.proofs.Common.{refl, arith}
 use Rattle.std.proofs.lemmas.List.Elements.{Contains-get_or}
 use Rattle.elf_code.specs.Parts.{IsWholePart}
 use Rattle.rv_reloc.specs.Parts.{Precedes}

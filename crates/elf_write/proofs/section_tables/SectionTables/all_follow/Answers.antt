@@ -4,14 +4,14 @@ use Rattle.elf_write.proofs.section_tables.SectionTables.all_follow.Goals as goa
 
 pub loop-i-preserved : goal.loop-i-preserved
 loop-i-preserved c = record {
-  keeps = below_more _ _ c.loop-i.invariant.keeps (c.follows.ensures.keeps c.if-not-follows.false);
+  called = below_more _ _ c.loop-i.invariant.called (c.follows.ensures.called c.if-not-follows.false);
   follows = below_more _ _ c.loop-i.invariant.follows (c.follows.ensures.follows c.if-not-follows.false);
 }
 
-pub returns-clause-keeps : goal.returns-clause-keeps
-returns-clause-keeps c = λ _ i s n is_s is_n.
+pub returns-clause-called : goal.returns-clause-called
+returns-clause-called c = λ _ i s n is_s is_n.
     let within = slice_get_within c.args.self.now.elf.now.sections.items i s is_s in
-    c.loop-i.invariant.keeps i (omega arith) s n is_s is_n
+    c.loop-i.invariant.called i (omega arith) s n is_s is_n
 
 pub returns-clause-follows : goal.returns-clause-follows
 returns-clause-follows c = λ _ i s n is_s is_n.

@@ -23,7 +23,7 @@ returns c = λ holds stands.
     record {
       names_at = c.requires.names;
       count = c.has_count.ensures c.if-not-has_count.false;
-      keeps = c.all_follow.ensures.keeps c.if-not-all_follow.false;
+      called = c.all_follow.ensures.called c.if-not-all_follow.false;
       follows = c.all_follow.ensures.follows c.if-not-all_follow.false;
       text = subst
           (λ (k : ℕ). At news k

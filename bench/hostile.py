@@ -1,0 +1,253 @@
+#!/usr/bin/env python3
+"""Seconds and memory of files that are made to be slow, and how both grow with the file.
+
+    python3 bench/hostile.py [--tool COMMAND] [--kib KIB] [KIND..]
+
+Each kind is a small file in which few bytes name much: names that are ends of one text, headers of sections over one
+table. A file of about KIB, one of twice and one of four times the size are made in a temporary folder; COMMAND
+(`sudrepka` where it isn't given) rewrites each, or runs it where the kind says so. Each line has the kind, the size, the
+seconds of the processor and the peak memory in MiB of the best of three runs, and by how much both grew since the file of
+half the size. Where a file takes less than 0.05 seconds or 32 MiB, its growth says nothing and is left out. All growth
+has to be below 2.5: the script ends with status 1 where some isn't.
+"""
+import argparse
+import os
+import random
+import struct
+import subprocess
+import sys
+import tempfile
+
+BASE, TEXT = 0x10000, 64 + 56  # the address of the file's first byte, and where in the file its code begins
+MOST, LEAST_SECONDS, LEAST_MIB = 2.5, 0.05, 32
+SHT_PROGBITS, SHT_SYMTAB, SHT_STRTAB, SHT_RELA, STT_FUNC = 1, 2, 3, 4, 0x12
+R_RISCV_64, R_RISCV_BRANCH, R_RISCV_RELAX = 2, 16, 51
+MOST_SECTIONS = 65_000
+RETURN = bytes.fromhex("67800000")  # ret
+CHOICE = bytes.fromhex("630c0500") + RETURN  # beqz a0, past the ret; ret
+
+
+def section(name, kind, flags, addr, offset, size, link=0, info=0, align=1, entsize=0):
+    return struct.pack("<IIQQQQIIQQ", name, kind, flags, addr, offset, size, link, info, align, entsize)
+
+
+def symbol(name, value, size):
+    return struct.pack("<IBBHQQ", name, STT_FUNC, 0, 1, value, size)
+
+
+def relocation(place, kind, name=0, addend=0):
+    return struct.pack("<QQq", place, name << 32 | kind, addend)
+
+
+class File:
+    """A file with one segment of code, in which sections are put one behind another. The section 1 is the code, 2 the
+    names of sections."""
+
+    def __init__(self, code, section_names=b"\0"):
+        self.body = bytearray(TEXT) + code
+        self.headers = [bytes(64), section(0, SHT_PROGBITS, 6, BASE + TEXT, TEXT, len(code), align=4)]
+        self.loaded = len(self.body)
+        self.add(SHT_STRTAB, section_names)
+
+    def put(self, contents):
+        """Puts bytes into the file, and says where."""
+        self.body += bytes(-len(self.body) % 8)
+        self.body += contents
+        return len(self.body) - len(contents)
+
+    def add(self, kind, contents, name=0, link=0, info=0, entsize=0):
+        """A section with these contents, and its index."""
+        return self.add_header(kind, self.put(contents), len(contents), name, link, info, entsize)
+
+    def add_header(self, kind, offset, size, name=0, link=0, info=0, entsize=0):
+        self.headers.append(section(name, kind, 0, 0, offset, size, link, info, 1, entsize))
+        return len(self.headers) - 1
+
+    def add_symbols(self, entries, names):
+        """A symbol table and its names: each entry is a place in the names, a value and a size."""
+        table = bytes(24) + b"".join(symbol(*entry) for entry in entries)
+        strings = len(self.headers) + 1
+        self.add(SHT_SYMTAB, table, link=strings, info=1, entsize=24)
+        self.add(SHT_STRTAB, names)
+
+    def bytes(self):
+        headers_at = self.put(b"".join(self.headers))
+        fields = (2, 243, 1, BASE + TEXT, 64, headers_at, 1, 64, 56, 1, 64, len(self.headers), 2)
+        struct.pack_into("<16sHHIQQQIHHHHHH", self.body, 0, b"\x7fELF\2\1\1", *fields)
+        segment = (1, 5, 0, BASE, BASE, self.loaded, self.loaded, 0x1000)
+        struct.pack_into("<IIQQQQQQ", self.body, 64, *segment)
+        return bytes(self.body)
+
+
+def long_name(size):
+    """A text of letters in which no two ends are alike for long."""
+    return bytes(random.Random(1).choices(b"abcdefghijklmnopqrstuvwxyz", k=size))
+
+
+def function_symbols(size, text_of):
+    """Functions of one instruction, whose names are ends of a text; half of the file is the text."""
+    count = size // 2 // 32
+    text = text_of(size // 2)
+    starts = [1 + k * (len(text) // count) for k in range(count)]
+    file = File(RETURN * count)
+    file.add_symbols([(starts[k], BASE + TEXT + 4 * k, 4) for k in range(count)], b"\0" + text + b"\0")
+    return file, [text[start - 1 :] for start in starts]
+
+
+def symbol_names(size):
+    return function_symbols(size, long_name)[0].bytes(), b""
+
+
+def like_names(size):
+    """All letters are alike, so that names differ in their lengths alone."""
+    return function_symbols(size, lambda length: b"a" * length)[0].bytes(), b""
+
+
+def named_names(size):
+    """The profile names some of them, as many as its own size allows; and half of the symbols have the longest name."""
+    count = size // 2 // 32
+    text = long_name(size // 2)
+    starts = [1 + max(k - count // 2, 0) * (2 * len(text) // count) for k in range(count)]
+    file = File(RETURN * count)
+    file.add_symbols([(starts[k], BASE + TEXT, 4) for k in range(count)], b"\0" + text + b"\0")
+    lines, left, length = [], size // 2, len(text)
+    while left > 2 * length and length > 0:
+        name = text[len(text) - length :]
+        lines.append(b"1 %s 0 1 %s 0 0 1\n" % (name, name))
+        left -= 2 * length
+        length //= 2
+    lines += [b"1 %s 0 1 %s 0 0 1\n" % (text[-k:], text[-k:]) for k in range(1, int((size / 2) ** 0.5))]
+    return file.bytes(), b"".join(lines)
+
+
+def cold_names(size):
+    """Each function has a part that didn't run, which gets a symbol of its own with the name of the function."""
+    count = size // 2 // 80
+    text = long_name(size // 2)
+    code = (CHOICE + 4 * bytes.fromhex("13000000") + RETURN) * count
+    file = File(code)
+    each = len(code) // count
+    starts = [1 + k * (len(text) // count) for k in range(count)]
+    file.add_symbols([(starts[k], BASE + TEXT + each * k, each) for k in range(count)], b"\0" + text + b"\0")
+    lines = [b"1 @%x 0 1 @%x 4 0 9\n" % (2 * (BASE + TEXT + each * k,)) for k in range(count)]
+    return file.bytes(), b"".join(lines)
+
+
+def section_names(size):
+    """Sections without contents, whose names are ends of one text."""
+    count = min(size // 2 // 64, MOST_SECTIONS)
+    text = long_name(size // 2)
+    file = File(RETURN, b"\0" + text + b"\0")
+    file.add_symbols([(0, BASE + TEXT, 4)], b"\0")
+    for k in range(count):
+        file.add_header(SHT_PROGBITS, 0, 0, name=1 + k * (len(text) // count))
+    return file.bytes(), b""
+
+
+def headers_over(size, kind, table, entsize, step=0, infos=(1,)):
+    """Many section headers over one table, half of the file each; each begins so many bytes after the one before."""
+    file = File(RETURN)
+    file.add_symbols([(0, BASE + TEXT, 4)], b"\0")
+    names = len(file.headers) - 1
+    offset = file.put(table)
+    for k in range(min(size // 2 // 64, MOST_SECTIONS)):
+        info = infos[k % len(infos)]
+        file.add_header(kind, offset + step * k, len(table) - step * k, link=names, info=info, entsize=entsize)
+    return file.bytes(), b""
+
+
+def relocation_headers(size):
+    return headers_over(size, SHT_RELA, relocation(BASE + TEXT, R_RISCV_RELAX) * (size // 2 // 24), 24)
+
+
+def relocation_ends(size):
+    """Each header begins one relocation after the one before."""
+    return headers_over(size, SHT_RELA, relocation(BASE + TEXT, R_RISCV_RELAX) * (size // 2 // 24), 24, step=24)
+
+
+def symbol_headers(size):
+    return headers_over(size, SHT_SYMTAB, symbol(0, BASE + TEXT, 4) * (size // 2 // 24), 24)
+
+
+def text_headers(size):
+    return headers_over(size, SHT_PROGBITS, bytes(size // 2), 0)
+
+
+KINDS = {
+    "symbol-names": symbol_names,
+    "like-names": like_names,
+    "named-names": named_names,
+    "cold-names": cold_names,
+    "section-names": section_names,
+    "relocation-headers": relocation_headers,
+    "relocation-ends": relocation_ends,
+    "symbol-headers": symbol_headers,
+    "text-headers": text_headers,
+}
+
+
+def measure(command):
+    """The processor's seconds and the peak in MiB of the best of three runs, and what the last one printed."""
+    found = []
+    for _ in range(3):
+        with tempfile.TemporaryFile() as said:
+            process = subprocess.Popen(command, stdout=said, stderr=said)
+            usage = os.wait4(process.pid, 0)[2]
+            said.seek(0)
+            last = said.read().decode(errors="replace").strip()
+        found.append((usage.ru_utime + usage.ru_stime, usage.ru_maxrss / 1024))
+    return min(seconds for seconds, _ in found), min(peak for _, peak in found), last
+
+
+def growth(now, before, least):
+    """By how much a figure grew, if it says something."""
+    return now / before if before is not None and now > least else None
+
+
+def show(grew):
+    return "" if grew is None else f"{grew:5.2f}"
+
+
+def main():
+    words = argparse.ArgumentParser(description="seconds and memory of files that are made to be slow")
+    words.add_argument("--tool", default="sudrepka", help="the command that takes `rewrite ..`")
+    words.add_argument("--kib", type=int, default=512)
+    words.add_argument("--make", help="writes the smallest file of each kind into this folder, and runs nothing")
+    words.add_argument("kinds", nargs="*", choices=[[], *KINDS], default=[])
+    given = words.parse_args()
+    well = True
+    with tempfile.TemporaryDirectory() as folder:
+        for kind in given.kinds or KINDS:
+            before = (None, None)
+            for times in (1, 2, 4):
+                path = lambda name: os.path.join(given.make or folder, name)
+                names = [path(f"{kind}.in"), path(f"{kind}.profile"), path("out"), path("map")]
+                # in a process of its own, since a child's peak counts what its parent had when it began
+                maker = [sys.executable, os.path.abspath(__file__), "--write", kind, str(given.kib * 1024 * times), *names[:2]]
+                subprocess.run(maker, check=True)
+                if given.make:
+                    break
+                seconds, peak, last = measure([*given.tool.split(), "rewrite", *names])
+                grew = growth(seconds, before[0], LEAST_SECONDS), growth(peak, before[1], LEAST_MIB)
+                before = (seconds, peak)
+                well = well and all(each is None or each < MOST for each in grew)
+                kib = os.path.getsize(names[0]) // 1024
+                print(
+                    f"{kind:18} {kib:6} KiB {seconds:8.3f} s {show(grew[0]):5} {peak:8.1f} MiB {show(grew[1]):5} {last[:60]}",
+                    flush=True,
+                )
+    sys.exit(0 if well else 1)
+
+
+def write(kind, size, file_path, profile_path):
+    contents, profile = KINDS[kind](size)
+    for path, data in ((file_path, contents), (profile_path, profile)):
+        with open(path, "wb") as file:
+            file.write(data)
+
+
+if __name__ == "__main__":
+    if sys.argv[1:2] == ["--write"]:
+        write(sys.argv[2], int(sys.argv[3]), *sys.argv[4:6])
+    else:
+        main()

@@ -1,0 +1,12 @@
+-- The weight of the written `.debug_abbrev`, which bounds its size.
+use Rattle.std.specs.Prelude.{◌-◌, ◌*◌, ℕ, sum_by, unwrap_or}
+use Rattle.dw_unit.specs.Changes.{table_offsets}
+use Rattle.dw_unit.specs.Declarations.{table_at}
+use Rattle.dw_unit.specs.CompUnits.{Sections}
+
+-- three times the bytes of a table that a unit names, its closing zero among them
+abbrev pub table_weight : Sections → ℕ → ℕ
+table_weight s offset = 3 * (unwrap_or (table_at s.abbrevs offset).end offset - offset)
+
+abbrev pub abbrev_weight : Sections → ℕ
+abbrev_weight s = sum_by (table_weight s) (table_offsets s)

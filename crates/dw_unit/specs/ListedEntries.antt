@@ -1,0 +1,18 @@
+-- Entries as they are listed, of whose declarations the tag is left.
+use Rattle.std.specs.Prelude.{ℕ, List, map}
+use Rattle.dw_unit.specs.declared.entry.Attr.{Attr}
+use Rattle.dw_unit.specs.CompUnits.{Entry, Sections, entries}
+
+pub record ListedEntry : Type 0 where
+  pub place : ℕ
+  pub unit : ℕ
+  pub depth : ℕ
+  pub tag : ℕ
+  pub attrs : List Attr
+
+abbrev pub listed : Entry → ListedEntry
+listed e = record { place = e.place; unit = e.unit; depth = e.depth; tag = e.declaration.tag; attrs = e.attrs }
+
+-- all entries of a file, in order
+abbrev pub listed_entries : Sections → List ListedEntry
+listed_entries s = map listed (entries s)

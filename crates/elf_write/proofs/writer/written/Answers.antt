@@ -1,0 +1,64 @@
+use Rattle.std.proofs.Common.{◌≡◌, ◌∙◌, ap, subst, sym, Bool, List, ℕ, get_or}
+use Rattle.elf_image.specs.faults.FileFaults.{IsSound}
+use Rattle.elf_image.specs.file.Header.{e_shstrndx}
+use Rattle.elf_write.specs.declared.fragments.Fragment.{Fragment}
+use Rattle.elf_write.specs.FragmentLists.{AreFragments}
+use Rattle.elf_write.specs.AreaTables.{AreaStands}
+use Rattle.elf_write.specs.NewTables.{HasNewTables, area_for}
+use Rattle.elf_write.specs.Source.{HasPlace, Source, source_of}
+use Rattle.elf_write.proofs.AllWritten.{all-written, placed-there}
+use Rattle.elf_write.proofs.CellsWritten.{wide}
+use Rattle.elf_write.proofs.CodeWritten.{area-written}
+use Rattle.elf_write.proofs.MadeHeaders.{e_shstrndx-written}
+use Rattle.elf_write.proofs.SoundFiles.{readable}
+use Rattle.elf_write.proofs.writer.written.Goals as goal
+
+pub made-requires-clause-readable : goal.made-requires-clause-readable
+made-requires-clause-readable c = readable c.args.elf.now.file.now c.requires.sound
+
+pub is_accepted-requires-clause-fragments : goal.is_accepted-requires-clause-fragments
+is_accepted-requires-clause-fragments c =
+    subst (λ (fragments : List Fragment). AreFragments c.args.funcs.now c.args.map.now fragments)
+    (sym c.deref.ensures.value) c.in_ok-fragments.ensures
+
+pub is_accepted-requires-clause-names : goal.is_accepted-requires-clause-names
+is_accepted-requires-clause-names c =
+    ap e_shstrndx c.deref-3.ensures.value
+    ∙ e_shstrndx-written
+    (source_of c.args.elf.now c.args.emitted.now c.args.map.now c.args.tables.now) c.in_ok-tight.tight c.in_ok-file.file.items
+    c.in_ok-file.ensures.made
+
+pub returns-clause-written : goal.returns-clause-written
+returns-clause-written c =
+    all-written
+    (source_of c.args.elf.now c.args.emitted.now c.args.map.now c.args.tables.now) c.in_ok-tight.tight c.in_ok-file.file.items
+    c.requires.read c.requires.sound c.requires.bytes c.requires.cells c.requires.apart c.in_ok-file.ensures.made
+    (subst IsSound c.deref-3.ensures.value (c.in_ok-is_accepted.ensures.sound c.if-not-branch.false)) c.in_ok-tight.ensures
+
+pub returns-clause-tables : goal.returns-clause-tables
+returns-clause-tables c = λ tight placed.
+    let elf = c.args.elf.now in
+    let tables = c.args.tables.now in
+    let code = c.args.emitted.now.code.items in
+    let funcs = c.args.funcs.now in
+    let cold = c.args.cold.now in
+    let spans = c.args.map.now in
+    let w = c.in_ok-file.file.items in
+    let above = c.in_ok-tight.tight in
+    let s : Source = source_of elf c.args.emitted.now spans tables in
+    let made = c.in_ok-file.ensures in
+    let sound_w : IsSound w = subst IsSound c.deref-3.ensures.value (c.in_ok-is_accepted.ensures.sound c.if-not-branch.false) in
+    let there : above ≡ tight = placed-there s above w c.requires.read c.requires.sound c.requires.bytes c.requires.cells
+    c.requires.apart made.made sound_w c.in_ok-tight.ensures tight placed in
+    let stands =
+    area-written s above w c.requires.read c.requires.sound made.made (subst (λ (t : Bool). HasPlace s t) (sym there) placed)
+    (λ i cell below. wide (get_or s.cells i cell).1 (c.requires.cells i cell below).width) tables made.has_tables in
+    let found = c.in_ok-is_accepted.ensures.tables c.if-not-branch.false in
+    subst (λ (t : Bool). HasNewTables elf tables code funcs cold spans t w) there
+    (subst (λ (f : List ℕ). AreaStands (area_for elf tables code above) tables code f →
+    HasNewTables elf tables code funcs cold spans above f)
+    c.deref-3.ensures.value
+    (subst (λ (bs : List ℕ). AreaStands (area_for elf tables bs above) tables bs c.deref-3.result.now →
+    HasNewTables elf tables bs funcs cold spans above c.deref-3.result.now)
+    c.deref-2.ensures.value found)
+    stands)

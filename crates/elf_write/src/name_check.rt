@@ -1,0 +1,277 @@
+// Whether the tables of names of a file that was written are what they must be, as they are read back. gABI, "String
+// Table".
+ghost use Rattle.std.specs.Prelude.{◌≡◌, ◌++◌, IfOk, IfSome, IsTrue, List, flat_map};
+ghost use Rattle.elf_image.specs.declared.symbol.Symbol.{Symbol};
+ghost use Rattle.rv_code.specs.layout.FunctionLists.{AreLaidOut};
+ghost use Rattle.elf_write.specs.ColdSymbols.{named_around};
+ghost use Rattle.elf_write.specs.FirstNames.{AreFirstNames};
+ghost use Rattle.elf_write.specs.NewNames as spec;
+ghost use Rattle.elf_write.specs.NewNames.{HaveNewNames};
+
+use crate::area::Area;
+use crate::first_names::first_names;
+use crate::headers::bytes_of;
+use crate::name_tables::{place_of_names, place_of_section_names};
+use crate::old_name::{is_renamed, old_prefix};
+use crate::section_tables::{DEBUG_RNGLISTS, SectionTables};
+use crate::symbols::named_around;
+use elf_image::named::{EH_FRAME, EH_FRAME_HDR};
+use elf_image::{Elf, Section, Symbol};
+use rb_bytes::fault::NoMemory;
+use rv_code::Func;
+use std::alloc::Global;
+use std::collections::BTreeMap;
+
+// What follows others in bytes that begin with them.
+fn behind<'a>(bytes: &'a [u8], front: &[u8]) -> Option<&'a [u8]>
+    ensures { IfSome result (λ rest. bytes.now ≡ front.now ++ rest.now) }
+{
+    if bytes.len() < front.len() {
+        return None;
+    }
+    let (first, rest) = bytes.split_at(front.len());
+    if first == front { Some(rest) } else { None }
+}
+
+// The same of a name of two parts, which ends with a zero byte.
+fn behind_name<'a>(bytes: &'a [u8], front: &[u8], back: &[u8]) -> Option<&'a [u8]>
+    ensures { IfSome result (λ rest. bytes.now ≡ spec.ended (front.now ++ back.now) ++ rest.now) }
+{
+    let rest = behind(behind(bytes, front)?, back)?;
+    behind(rest, &[0])
+}
+
+// The same of a name that may be there.
+fn behind_if<'a>(bytes: &'a [u8], there: bool, name: &[u8]) -> Option<&'a [u8]>
+    ensures { IfSome result (λ rest. bytes.now ≡ spec.ended_if there name.now ++ rest.now) }
+{
+    if there {
+        behind_name(bytes, name, &[])
+    } else {
+        Some(bytes)
+    }
+}
+
+// The same of the new name of a section that gets one.
+fn behind_old_name<'a>(bytes: &'a [u8], section: &Section) -> Option<&'a [u8]>
+    ensures { IfSome result (λ rest. bytes.now ≡ spec.old_ended section.now ++ rest.now) }
+{
+    if is_renamed(section) {
+        behind_name(bytes, old_prefix(section.name), section.name)
+    } else {
+        Some(bytes)
+    }
+}
+
+// The same of all of them.
+fn behind_old_names<'a>(bytes: &'a [u8], sections: &[Section]) -> Option<&'a [u8]>
+    ensures { IfSome result (λ rest. bytes.now ≡ flat_map spec.old_ended sections.now ++ rest.now) }
+{
+    let mut rest = bytes;
+    for section in sections {
+        rest = behind_old_name(rest, section)?;
+    }
+    Some(rest)
+}
+
+// The same of the names of sections that are added.
+fn behind_added<'a>(bytes: &'a [u8], area: &Area, ranges: bool) -> Option<&'a [u8]>
+    ensures { IfSome result (λ rest. bytes.now ≡ spec.added_names area.now ranges ++ rest.now) }
+{
+    let rest = behind_if(bytes, true, b".text")?;
+    let rest = behind_if(rest, area.frames.is_some(), EH_FRAME)?;
+    let rest = behind_if(rest, area.index.is_some(), EH_FRAME_HDR)?;
+    behind_if(rest, ranges, DEBUG_RNGLISTS)
+}
+
+// The same of the name of a cold part's symbol, if it gets one.
+fn behind_cold_name<'a>(bytes: &'a [u8], symbol: Option<Symbol>) -> Option<&'a [u8]>
+    ensures { IfSome result (λ rest. bytes.now ≡ spec.name_behind symbol.entry ++ rest.now) }
+{
+    match symbol {
+        Some(symbol) => behind_name(bytes, symbol.name, b".cold"),
+        None => Some(bytes),
+    }
+}
+
+// The same of all of them.
+fn behind_cold_names<'a>(
+    bytes: &'a [u8],
+    names: &BTreeMap<u64, Symbol>,
+    funcs: &[Func],
+    cold: &[u64],
+) -> Option<&'a [u8]>
+    requires { AreLaidOut funcs.now }
+    ensures { (symbols : List Symbol) → AreFirstNames symbols names.now →
+        IfSome result (λ rest. bytes.now ≡ flat_map (λ a. spec.name_behind (named_around symbols funcs.now a)) cold.now ++ rest.now) }
+{
+    let mut rest = bytes;
+    for address in cold {
+        rest = behind_cold_name(rest, named_around(names, funcs, *address))?;
+    }
+    Some(rest)
+}
+
+// What follows the bytes of a table in those of one with more names. One that was empty begins with a zero byte then.
+fn behind_old_table<'a>(table: &'a [u8], old: &[u8]) -> Option<&'a [u8]>
+    ensures { IfSome result (λ rest. table.now ≡ spec.extended old.now rest.now) }
+{
+    if !old.is_empty() {
+        return behind(table, old);
+    }
+    if table.is_empty() {
+        return Some(table);
+    }
+    let rest = behind(table, &[0])?;
+    if rest.is_empty() { None } else { Some(rest) }
+}
+
+// The bytes of the section of an index, if there is one.
+fn table_bytes<'a>(elf: &Elf<'a>, index: usize) -> &'a [u8]
+    ensures { result.now ≡ spec.table_bytes elf.now index }
+{
+    match elf.sections.get(index) {
+        Some(section) => bytes_of(elf.file, section),
+        None => &[],
+    }
+}
+
+/// The tables of names of the input and of a written file, and the names by which cold parts are called.
+#[derive(Clone, Copy)]
+pub struct NewNames<'a> {
+    pub tables: &'a SectionTables<'a>,
+    pub funcs: &'a [Func],
+    /// The addresses of cold parts.
+    pub cold: &'a [u64],
+    pub names: &'a BTreeMap<u64, Symbol<'a>>,
+}
+
+impl<'a> NewNames<'a> {
+    ghost use Rattle.std.specs.Prelude.{◌≡◌, ◌≢◌, IfSome, IsTrue};
+    ghost use Rattle.elf_image.specs.file.Header.{e_shstrndx};
+    ghost use Rattle.rv_code.specs.layout.FunctionLists.{AreLaidOut};
+    ghost use Rattle.elf_write.specs.FirstNames.{AreFirstNames};
+    ghost use Rattle.elf_write.specs.NameTables.{place_of_names};
+    ghost use Rattle.elf_write.specs.NewNames.{HaveNewNames, cold_names, extended, names_added, table_bytes};
+    ghost use Rattle.elf_write.specs.NewSections.{adds_ranges};
+
+    // Whether bytes are the names of cold parts.
+    fn are_cold(&self, bytes: &[u8]) -> bool
+        requires laid_out { AreLaidOut self.now.funcs.now }
+        requires names { AreFirstNames self.now.tables.now.elf.now.symbols.items self.now.names.now }
+        ensures { IsTrue result → bytes.now ≡ cold_names self.now.tables.now.elf.now self.now.funcs.now self.now.cold.now }
+    {
+        match behind_cold_names(bytes, self.names, self.funcs, self.cold) {
+            Some(rest) => rest.is_empty(),
+            None => false,
+        }
+    }
+
+    // Whether bytes are the names that are added to those of sections, whose table has an index.
+    fn are_added(&self, bytes: &[u8], index: usize) -> bool
+        requires laid_out { AreLaidOut self.now.funcs.now }
+        requires names { AreFirstNames self.now.tables.now.elf.now.symbols.items self.now.names.now }
+        requires index { index ≡ e_shstrndx self.now.tables.now.elf.now.file.now }
+        ensures { IsTrue result → bytes.now ≡ names_added self.now.tables.now.elf.now self.now.tables.now.area
+            (adds_ranges self.now.tables.now.elf.now.sections.items self.now.tables.now.tables.now) self.now.funcs.now
+            self.now.cold.now }
+    {
+        let elf = self.tables.elf;
+        let Some(rest) = behind_old_names(bytes, &elf.sections) else {
+            return false;
+        };
+        let Some(rest) = behind_added(rest, &self.tables.area, self.tables.adds_ranges()) else {
+            return false;
+        };
+        if place_of_names(elf) == Some(index) {
+            self.are_cold(rest)
+        } else {
+            rest.is_empty()
+        }
+    }
+
+    // Whether the table of names of sections is what it must be.
+    fn has_sections(&self) -> bool
+        requires laid_out { AreLaidOut self.now.funcs.now }
+        requires names { AreFirstNames self.now.tables.now.elf.now.symbols.items self.now.names.now }
+        ensures { IsTrue result →
+            table_bytes self.now.tables.now.new.now (e_shstrndx self.now.tables.now.elf.now.file.now) ≡
+            extended (table_bytes self.now.tables.now.elf.now (e_shstrndx self.now.tables.now.elf.now.file.now))
+            (names_added self.now.tables.now.elf.now self.now.tables.now.area
+            (adds_ranges self.now.tables.now.elf.now.sections.items self.now.tables.now.tables.now) self.now.funcs.now
+            self.now.cold.now) }
+    {
+        let index = place_of_section_names(self.tables.elf);
+        let old = table_bytes(self.tables.elf, index);
+        match behind_old_table(table_bytes(self.tables.new, index), old) {
+            Some(rest) => self.are_added(rest, index),
+            None => false,
+        }
+    }
+
+    // Whether the table of an index has the names of cold parts.
+    fn has_cold(&self, index: usize) -> bool
+        requires laid_out { AreLaidOut self.now.funcs.now }
+        requires names { AreFirstNames self.now.tables.now.elf.now.symbols.items self.now.names.now }
+        ensures { IsTrue result → table_bytes self.now.tables.now.new.now index ≡
+            extended (table_bytes self.now.tables.now.elf.now index)
+            (cold_names self.now.tables.now.elf.now self.now.funcs.now self.now.cold.now) }
+    {
+        let old = table_bytes(self.tables.elf, index);
+        match behind_old_table(table_bytes(self.tables.new, index), old) {
+            Some(rest) => self.are_cold(rest),
+            None => false,
+        }
+    }
+
+    // Whether the table of names of symbols is what it must be, where it is another one.
+    fn has_symbols(&self) -> bool
+        requires laid_out { AreLaidOut self.now.funcs.now }
+        requires names { AreFirstNames self.now.tables.now.elf.now.symbols.items self.now.names.now }
+        ensures { IsTrue result → IfSome (place_of_names self.now.tables.now.elf.now) (λ i.
+            i ≢ e_shstrndx self.now.tables.now.elf.now.file.now →
+            table_bytes self.now.tables.now.new.now i ≡ extended (table_bytes self.now.tables.now.elf.now i)
+            (cold_names self.now.tables.now.elf.now self.now.funcs.now self.now.cold.now)) }
+    {
+        let elf = self.tables.elf;
+        match place_of_names(elf) {
+            Some(index) => index == place_of_section_names(elf) || self.has_cold(index),
+            None => true,
+        }
+    }
+
+    /// Whether both are.
+    pub fn are_new(&self) -> bool
+        requires laid_out { AreLaidOut self.now.funcs.now }
+        requires names { AreFirstNames self.now.tables.now.elf.now.symbols.items self.now.names.now }
+        ensures { IsTrue result →
+            HaveNewNames self.now.tables.now.elf.now self.now.tables.now.new.now self.now.tables.now.tables.now
+            self.now.tables.now.area self.now.funcs.now self.now.cold.now }
+    {
+        if !self.has_sections() {
+            return false;
+        }
+        self.has_symbols()
+    }
+}
+
+/// Whether the tables of names are what they must be.
+pub fn has_names(
+    alloc: Global,
+    tables: &SectionTables,
+    funcs: &[Func],
+    cold: &[u64],
+) -> Result<bool, NoMemory>
+    requires { AreLaidOut funcs.now }
+    ensures { IfOk result (λ holds. IsTrue holds →
+        HaveNewNames tables.now.elf.now tables.now.new.now tables.now.tables.now tables.now.area funcs.now cold.now) }
+{
+    let names = first_names(alloc, &tables.elf.symbols)?;
+    let names = NewNames {
+        tables,
+        funcs,
+        cold,
+        names: &names,
+    };
+    Ok(names.are_new())
+}

@@ -1,0 +1,10 @@
+use Rattle.table_core.specs.LastRuns.{IsAnswer}
+use Rattle.table_core.specs.AnswerRuns.{said_runs}
+use Rattle.table_core.proofs.NewCode.{AreMade}
+use Rattle.table_core.proofs.carrying.runs_of.Given as goal
+
+abbrev pub invariant-loop-i : goal.invariant-loop-i
+invariant-loop-i g l = record {
+  made : AreMade (g.T.AddrTable.says l.table) l.map l.i (said_runs g.T.AddrTable.said l.runs.items);
+  asked : IsAnswer (g.T.AddrTable.says l.table l.asked) (said_runs g.T.AddrTable.said l.runs.items);
+}

@@ -1,0 +1,48 @@
+-- What is kept of the debug data of a file whose code moves: units and entries, line units, and the sections without code
+-- addresses.
+use Rattle.std.specs.Prelude.{◌≡◌, ℕ, Bool, false, IsTrue, List, [], ◌∷◌, codes, unwrap_or}
+use Rattle.std.specs.List.{list_any}
+use Rattle.std.specs.Str.{bytes_eq}
+use Rattle.elf_image.specs.declared.elf.Elf.{Elf}
+use Rattle.elf_image.specs.file.SectionNames.{names_debug}
+use Rattle.addr_map.specs.declared.span.Span.{Span}
+use Rattle.table_core.specs.declared.written.ListAt.{ListAt}
+use Rattle.table_core.specs.Sections.{bytes_of}
+use Rattle.dw_unit.specs.Changes.{no_line_unit}
+use Rattle.dw_unit.specs.EntryMoves.{list_at}
+use Rattle.dw_unit.specs.Tables.{AreChangedWith}
+use Rattle.line_rewrite.specs.KeptLineUnits.{AreKeptUnits, unit_number}
+use Rattle.line_rewrite.specs.LineTable.{line_attr}
+use Rattle.line_rewrite.specs.Tables.{line_sections}
+
+-- the offset of a line unit that is written for another: that of the unit's list, or one that names none
+abbrev pub line_offset : List ListAt → ℕ → ℕ
+line_offset lists n = unwrap_or (list_at lists n line_attr) no_line_unit
+
+pub record AreUnitsKept (spans : List Span) (lists : List ListAt) (i f : Elf) : Type 0 where
+  -- entries stand where they stood, changed in place by these lists
+  pub changed : AreChangedWith spans lists i f
+  pub line_units : AreKeptUnits i f
+  -- An offset that named a line unit names the one of the same number, and one that named none names none: its number is
+  -- that of units, of which both files have as many.
+  pub line_offsets : (n : ℕ) →
+      unit_number (line_sections f) (line_offset lists n) ≡ unit_number (line_sections i) n
+
+-- the debug sections that are written anew, and those that are left out
+abbrev pub written_names : List (List ℕ)
+written_names =
+    codes ".debug_info" ∷ codes ".debug_abbrev" ∷ codes ".debug_addr" ∷ codes ".debug_line" ∷ codes ".debug_rnglists"
+    ∷ codes ".debug_loclists"
+    ∷ codes ".debug_aranges" ∷ codes ".debug_frame" ∷ []
+
+abbrev pub dropped_names : List (List ℕ)
+dropped_names = codes ".debug_macro" ∷ []
+
+abbrev pub is_one_of : List (List ℕ) → List ℕ → Bool
+is_one_of names name = list_any (bytes_eq name) names
+
+pub record IsDebugKept (spans : List Span) (lists : List ListAt) (i f : Elf) : Type 0 where
+  pub units : AreUnitsKept spans lists i f
+  pub others : (name : List ℕ) → IsTrue (names_debug name) → is_one_of written_names name ≡ false →
+      is_one_of dropped_names name ≡ false →
+      bytes_of f name ≡ bytes_of i name
