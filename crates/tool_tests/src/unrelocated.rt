@@ -18,7 +18,10 @@ fn is_rewritten_and_stuck(rt: &impl Abort, alloc: Global, input: Vec<u8>) -> Res
     assert_eq!(rt; status, Status::Ok);
     let (status, out) = answer(alloc, &["run", "--symbols", "in"], &mut files, 200)?;
     assert_eq!(rt; status, Status::Stuck(CODE + 8, Reason::NotCode));
-    assert_eq!(rt; out.taken(), b"[stuck NotCode at 10080 after 2 steps]\n".as_slice());
+    assert_eq!(rt;
+        out.taken(),
+        b"[stuck NotCode at 10080 after 2 steps]\n".as_slice()
+    );
     let (status, _out) = answer(alloc, &["run", "in"], &mut files, 200)?;
     assert_eq!(rt; status, Status::Ended(0));
     Ok(())
