@@ -1,5 +1,5 @@
 -- The debug sections of a file that units are read from, and how those of the written file follow from the input's.
-use Rattle.std.specs.Prelude.{◌≡◌, ◌+◌, ℕ, IsTrue, List, codes, Contains, Option, Some, None}
+use Rattle.std.specs.Prelude.{◌≡◌, ◌+◌, ◌%◌, ◌^◌, ℕ, IsTrue, List, codes, Contains, Option, Some, None}
 use Rattle.rv_code.specs.declared.inst.Inst.{Inst}
 use Rattle.rv_code.specs.isa.Action.{action_of}
 use Rattle.rv_code.specs.layout.Flow.{is_call}
@@ -31,7 +31,7 @@ pub record IsCallEnd (elf : Elf) (spans : List Span) (from to : ℕ) : Type 0 wh
   pub there : IsInstAt elf span.input inst bytes
   pub calls : IsTrue (is_call (action_of inst))
   pub from_is : from ≡ span.input + bytes
-  pub to_is : to ≡ span.out + bytes
+  pub to_is : to ≡ (span.out + bytes) % 2 ^ 64
 
 -- what a map and lists make of a file's addresses and attributes
 pub record AreMovesOf (elf : Elf) (spans : List Span) (m : Moves) : Type 0 where
