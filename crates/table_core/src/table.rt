@@ -103,6 +103,8 @@ pub trait AddrTable: Drop {
         map: &AddrMap,
     ) -> Result<Written, NoMemory>
         requires allowed { allows self.now map.now }
+        requires ordered { AllPairs IsLineBefore map.now }
+        requires disjoint { AllPairs ShareNoByte map.now }
         requires fitting { fits self.now map.now (said_runs said runs.now) }
         requires within { IsWithin 0 runs.now (2 ^ 64 - 1) }
         requires answers { (p : ℕ) → option_map said (run_at runs.now p) ≡ carried (says self.now) map.now p }
