@@ -1,6 +1,6 @@
 // What the augmentation of a CIE says. LSB, "The Common Information Entry Format".
 ghost use Rattle.std.specs.Prelude.{◌≡◌, ◌-◌, ◌<◌, ◌^◌, ℕ, List, length, IfOk, IfErr, OnOk, Ok, Err, Some, None, MatchOption};
-ghost use Rattle.cfi_rows.specs.FrameInstructions.{stored_at, pointed};
+ghost use Rattle.cfi_rows.specs.FrameInstructions.{block_at, stored_at, pointed};
 ghost use Rattle.cfi_rows.specs.Entries as spec;
 ghost use Rattle.cfi_rows.specs.Reads.{Fails};
 ghost use Rattle.cfi_rows.specs.Augmentations.{augmentation_of};
@@ -146,8 +146,8 @@ fn table_encoding_of(byte: u8) -> Result<Option<Encoding>, Failed>
 
 // Data of a stated length.
 fn data<'a>(cursor: &mut Cursor<'a>) -> Result<&'a [u8], Failed>
-    ensures ok { IfOk result (λ d. spec.data_at cursor.old.left ≡ Ok (d.now, cursor.new.left)) }
-    ensures err { IfErr result (λ e. Fails e (spec.data_at cursor.old.left ≡ Err Entry)) }
+    ensures ok { IfOk result (λ d. block_at cursor.old.left ≡ Ok (d.now, cursor.new.left)) }
+    ensures err { IfErr result (λ e. Fails e (block_at cursor.old.left ≡ Err Entry)) }
 {
     let length = unsigned(cursor)?;
     Ok(cursor.take(length as usize)?)
