@@ -1,5 +1,5 @@
 -- The debug sections of a file that units are read from, and how those of the written file follow from the input's.
-use Rattle.std.specs.Prelude.{◌≡◌, ◌+◌, ◌%◌, ◌^◌, ℕ, IsTrue, List, codes, Contains, Option, Some, None}
+use Rattle.std.specs.Prelude.{◌≡◌, ◌+◌, ◌%◌, ◌^◌, ℕ, IsTrue, List, [], ◌∷◌, codes, Contains, Option, Some, None}
 use Rattle.rv_code.specs.declared.inst.Inst.{Inst}
 use Rattle.rv_code.specs.isa.Action.{action_of}
 use Rattle.rv_code.specs.layout.Flow.{is_call}
@@ -8,6 +8,7 @@ use Rattle.elf_code.specs.Parts.{IsInstAt}
 use Rattle.rb_bytes.specs.FirstFault.{IsFree}
 use Rattle.addr_map.specs.declared.span.Span.{Span}
 use Rattle.table_core.specs.declared.written.ListAt.{ListAt}
+use Rattle.table_core.specs.ReadSteps.{unless_any}
 use Rattle.table_core.specs.Sections.{bytes_of}
 use Rattle.dw_unit.specs.Faults.{FaultPlaces, HasDwarfFault, unit_places}
 use Rattle.dw_unit.specs.EntryMoves.{Moves, list_at}
@@ -73,9 +74,5 @@ pub record AreNewUnits (elf : Elf) (spans : List Span) (lists : List ListAt) (in
   pub sound : (f : Elf) → AreChanged moves elf f → IsFree (HasDwarfFault (unit_places (sections_of f)))
 
 -- where no fault is answered
-abbrev pub unless_any : {X : Type 0} → Option ℕ → Option ℕ → Option ℕ → Option ℕ → X → Option X
-unless_any None None None None x = Some x
-unless_any _ _ _ _ x = None
-
 abbrev pub answers_if_free : {A : Type 0} → FaultPlaces → (ℕ → Option A) → Option (ℕ → Option A)
-answers_if_free p answers = unless_any p.version p.form p.high p.bad answers
+answers_if_free p answers = unless_any (p.version ∷ p.form ∷ p.high ∷ p.bad ∷ []) answers
