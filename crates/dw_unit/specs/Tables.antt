@@ -10,8 +10,8 @@ use Rattle.addr_map.specs.declared.span.Span.{Span}
 use Rattle.table_core.specs.declared.written.ListAt.{ListAt}
 use Rattle.table_core.specs.ReadSteps.{unless_any}
 use Rattle.table_core.specs.Sections.{bytes_of}
-use Rattle.dw_unit.specs.Faults.{FaultPlaces, HasDwarfFault, unit_places}
-use Rattle.dw_unit.specs.EntryMoves.{Moves, list_at}
+use Rattle.dw_unit.specs.Faults.{FaultPlaces, HasDwarfFault, unit_fault_places}
+use Rattle.dw_unit.specs.EntryMoves.{Moves, new_list_offset}
 use Rattle.dw_unit.specs.CompUnits.{Sections}
 use Rattle.dw_unit.specs.ChangedEntries.{AreChangedUnits}
 use Rattle.dw_unit.specs.Changes.{changed_info, changed_abbrevs, changed_addr}
@@ -58,7 +58,7 @@ pub record AreChangedWith (spans : List Span) (lists : List ListAt) (i f : Elf) 
 pub record AreChangedBy (spans : List Span) (lists : List ListAt) (i f : Elf) : Type 0 where
   pub moves : Moves
   pub are_moves : AreMovesOf i spans moves
-  pub named : (l : ListAt) → Contains lists l → list_at moves.lists l.entry l.attr ≡ Some l.offset
+  pub named : (l : ListAt) → Contains lists l → new_list_offset moves.lists l.entry l.attr ≡ Some l.offset
   pub changed : AreChanged moves i f
   pub units_are : AreChangedUnits (sections_of i) moves (sections_of f)
 
@@ -71,7 +71,7 @@ pub record AreNewUnits (elf : Elf) (spans : List Span) (lists : List ListAt) (in
   pub info_is : info ≡ changed_info (sections_of elf) moves
   pub abbrevs_are : abbrevs ≡ changed_abbrevs (sections_of elf)
   pub units_are : (f : Elf) → AreChanged moves elf f → AreChangedUnits (sections_of elf) moves (sections_of f)
-  pub sound : (f : Elf) → AreChanged moves elf f → IsFree (HasDwarfFault (unit_places (sections_of f)))
+  pub sound : (f : Elf) → AreChanged moves elf f → IsFree (HasDwarfFault (unit_fault_places (sections_of f)))
 
 -- where no fault is answered
 abbrev pub answers_if_free : {A : Type 0} → FaultPlaces → (ℕ → Option A) → Option (ℕ → Option A)

@@ -42,15 +42,15 @@ unsigned_of name e =
     option_and_then (λ (a : Attr). if a.form == DW_FORM_addr || is_address_index a.form then None else Some a.value) (attr name e)
 
 -- the offset of the line unit that its unit's own entry names
-abbrev pub line_offset : NameSections → Entry → Option ℕ
-line_offset s e =
+abbrev pub named_line_unit : NameSections → Entry → Option ℕ
+named_line_unit s e =
     option_and_then (λ (a : Attr). if a.form == DW_FORM_sec_offset then Some a.value else None)
     (option_and_then (attr DW_AT_stmt_list) (option_and_then own_entry (unit_of_entry s e)))
 
 abbrev pub call_path : Elf → Entry → Option (List ℕ)
 call_path elf e =
     option_and_then (λ offset. option_and_then (path_at (line_sections elf) offset) (unsigned_of DW_AT_call_file e))
-    (line_offset (name_sections elf) e)
+    (named_line_unit (name_sections elf) e)
 
 abbrev pub frame_at_row : Elf → ℕ → Entry → Frame
 frame_at_row elf a e = record {

@@ -4,7 +4,7 @@ use Rattle.table_core.specs.declared.written.ListAt.{ListAt}
 use Rattle.table_core.specs.DebugUnits.{units_from}
 use Rattle.line_rewrite.specs.KeptLineUnits.{unit_number}
 use Rattle.line_rewrite.specs.Tables.{LineSections}
-use Rattle.table_set.specs.KeptData.{line_offset}
+use Rattle.table_set.specs.KeptData.{new_line_offset}
 
 section : List ℕ
 section = 2 ∷ 0 ∷ 0 ∷ 0 ∷ 5 ∷ 0 ∷ 2 ∷ 0 ∷ 0 ∷ 0 ∷ 5 ∷ 0 ∷ []
@@ -31,9 +31,9 @@ no_unit : unit_number sections 4 ≡ 2
 unfolding section units_from
 no_unit = refl
 
-moved_offset : line_offset lists 6 ≡ 10
+moved_offset : new_line_offset lists 6 ≡ 10
 moved_offset = refl
 
 -- what named none gets an offset that names none
-no_offset : line_offset lists 4 ≡ 0xffffffff
+no_offset : new_line_offset lists 4 ≡ 0xffffffff
 no_offset = refl
