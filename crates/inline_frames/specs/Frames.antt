@@ -5,7 +5,8 @@ use Rattle.elf_image.specs.declared.elf.Elf.{Elf}
 use Rattle.table_core.specs.declared.form.TheConstants.{DW_FORM_addr, DW_FORM_sec_offset}
 use Rattle.table_core.specs.AttributeForms.{is_address_index}
 use Rattle.table_core.specs.Texts.{or_none}
-use Rattle.dw_unit.specs.declared.attribute.TheConstants.{DW_AT_stmt_list, DW_AT_call_file, DW_AT_call_line, DW_AT_call_column}
+use Rattle.table_core.specs.declared.written.TheConstants.{DW_AT_stmt_list}
+use Rattle.dw_unit.specs.declared.attribute.TheConstants.{DW_AT_call_file, DW_AT_call_line, DW_AT_call_column}
 use Rattle.dw_unit.specs.declared.entry.Attr.{Attr}
 use Rattle.dw_unit.specs.CompUnits.{Entry, attr, own_entry}
 use Rattle.line_rewrite.specs.FilePaths.{path_at}

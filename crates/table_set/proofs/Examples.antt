@@ -1,5 +1,6 @@
 -- Two line units of no contents, at 0 and 6, of which the second one moves to 10.
 use Rattle.std.proofs.Common.{◌≡◌, ℕ, List, [], ◌∷◌, refl}
+use Rattle.table_core.specs.declared.written.TheConstants.{DW_AT_stmt_list}
 use Rattle.table_core.specs.declared.written.ListAt.{ListAt}
 use Rattle.table_core.specs.DebugUnits.{units_from}
 use Rattle.line_rewrite.specs.KeptLineUnits.{unit_number}
@@ -13,7 +14,7 @@ abbrev sections : LineSections
 sections = record { line = section; strings = record { str = []; line_str = [] } }
 
 abbrev unit_list : ℕ → ℕ → ListAt
-unit_list entry offset = record { entry = entry; attr = 0x10; offset = offset }
+unit_list entry offset = record { entry = entry; attr = DW_AT_stmt_list; offset = offset }
 
 abbrev lists : List ListAt
 lists = unit_list 0 0 ∷ unit_list 6 10 ∷ []
