@@ -40,7 +40,8 @@ row_of elf a = option_and_then (λ (l : LineSaid). last_row l.rows) (line elf a)
 
 abbrev pub unsigned_of : ℕ → Entry → Option ℕ
 unsigned_of name e =
-    option_and_then (λ (a : Attr). if a.form == DW_FORM_addr || is_address_index a.form then None else Some a.value) (attr name e)
+    option_and_then (λ (a : Attr). if a.form == DW_FORM_addr || is_address_index a.form then None else Some a.value)
+    (attr name e)
 
 -- the offset of the line unit that its unit's own entry names
 abbrev pub named_line_unit : NameSections → Entry → Option ℕ
