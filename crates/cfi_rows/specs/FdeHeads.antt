@@ -10,7 +10,8 @@ abbrev pub head_by : ℕ → ℕ → ℕ → List ℕ → Read FdeHead
 head_by start size table left = Ok (record { start = start; size = size; table = table }, left)
 
 abbrev pub head_from : Augmentation → ℕ → ℕ → ℕ → List ℕ → Read FdeHead
-head_from a end start size left = cond (nat_lt (start + size) (2 ^ 64)) (and_then (table_at a end left) (head_by start size)) (Err Entry)
+head_from a end start size left =
+    cond (nat_lt (start + size) (2 ^ 64)) (and_then (table_at a end left) (head_by start size)) (Err Entry)
 
 abbrev pub head_sized : Augmentation → ℕ → ℕ → List ℕ → Read FdeHead
 head_sized a end start left = and_then (stored_at (size_encoding a.encoding) left) (head_from a end start)

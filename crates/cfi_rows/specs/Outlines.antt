@@ -1,14 +1,15 @@
 -- What of the states of a frame program decides whether an instruction is malformed: the rules of registers don't.
-use Rattle.std.specs.Prelude.{ℕ, ◌+◌, ◌^◌, Bool, true, false, nat_lt, nat_le, cond, List, [], ◌∷◌, map, reverse, Option, Some, None}
-use Rattle.std.specs.Prelude.{option_map, option_and_then}
+use Rattle.std.specs.Prelude.{ℕ, ◌+◌, ◌^◌, Bool, true, false, nat_lt, nat_le, cond, List, [], ◌∷◌, map, reverse, Option}
+use Rattle.std.specs.Prelude.{Some, None, option_map, option_and_then}
 use Rattle.cfi_rows.specs.declared.outline.FrameKind.{FrameKind}
 use Rattle.cfi_rows.specs.declared.outline.FrameKind.TheVariants.{Nothing, Register, Expression}
 use Rattle.cfi_rows.specs.declared.outline.Outline.{Outline as Kept}
 use Rattle.cfi_rows.specs.declared.row.Cfa.{Cfa}
 use Rattle.cfi_rows.specs.declared.row.Cfa.TheVariants.{Reg, Expr}
 use Rattle.cfi_rows.specs.declared.instruction.Instruction.{Instruction}
-use Rattle.cfi_rows.specs.declared.instruction.Instruction.TheVariants.{Advance, SetLoc, DefCfa, DefCfaRegister, DefCfaOffset}
-use Rattle.cfi_rows.specs.declared.instruction.Instruction.TheVariants.{SetRule, Restore, RememberState, RestoreState, Nop}
+use Rattle.cfi_rows.specs.declared.instruction.Instruction.TheVariants.{Advance, SetLoc, DefCfa, DefCfaRegister}
+use Rattle.cfi_rows.specs.declared.instruction.Instruction.TheVariants.{DefCfaOffset, SetRule, Restore, RememberState}
+use Rattle.cfi_rows.specs.declared.instruction.Instruction.TheVariants.{RestoreState, Nop}
 use Rattle.cfi_rows.specs.FrameRows.{Known, State, ends_row}
 
 pub record Outline : Type 0 where
@@ -25,7 +26,8 @@ kind_of None = Nothing
 kind_of (Some cfa) = kind_of_cfa cfa
 
 abbrev pub outline_of : State → Outline
-outline_of s = record { location = s.location; frame = kind_of s.known.cfa; saved = map (λ (k : Known). kind_of k.cfa) s.saved }
+outline_of s =
+    record { location = s.location; frame = kind_of s.known.cfa; saved = map (λ (k : Known). kind_of k.cfa) s.saved }
 
 -- as the code keeps it, with what was remembered last at the end
 abbrev pub kept_outline : Kept → Outline

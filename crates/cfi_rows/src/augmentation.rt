@@ -1,6 +1,7 @@
 // What the augmentation of a CIE says. LSB, "The Common Information Entry Format".
-ghost use Rattle.std.specs.Prelude.{◌≡◌, ◌-◌, ◌<◌, ◌^◌, ℕ, List, length, IfOk, IfErr, OnOk, Ok, Err, Some, None, MatchOption};
-ghost use Rattle.cfi_rows.specs.FrameInstructions.{stored_at, pointed};
+ghost use Rattle.std.specs.Prelude.{◌≡◌, ◌-◌, ◌<◌, ◌^◌, ℕ, List, length, IfOk, IfErr, OnOk, Ok, Err, Some, None};
+ghost use Rattle.std.specs.Prelude.{MatchOption};
+ghost use Rattle.cfi_rows.specs.FrameInstructions.{block_at, stored_at, pointed};
 ghost use Rattle.cfi_rows.specs.Entries as spec;
 ghost use Rattle.cfi_rows.specs.Reads.{Fails};
 ghost use Rattle.cfi_rows.specs.Augmentations.{augmentation_of};
@@ -57,7 +58,8 @@ impl Augmentation {
         requires { end < 2 ^ 66 }
         ensures ok { OnOk result (spec.letter_at end letter (augmentation_of self.old) cursor.old.left
             ≡ Ok (augmentation_of self.new, cursor.new.left)) }
-        ensures err { IfErr result (λ e. Fails e (spec.letter_at end letter (augmentation_of self.old) cursor.old.left ≡ Err Entry)) }
+        ensures err { IfErr result (λ e. Fails e (spec.letter_at end letter (augmentation_of self.old) cursor.old.left
+            ≡ Err Entry)) }
     {
         match letter {
             b'R' => self.encoding = encoding_of(byte(cursor)?)?,
@@ -82,7 +84,8 @@ impl Augmentation {
         requires { end < 2 ^ 66 }
         ensures ok { OnOk result (spec.handler_at (augmentation_of self.old) end encoding cursor.old.left
             ≡ Ok (augmentation_of self.new, cursor.new.left)) }
-        ensures err { IfErr result (λ e. Fails e (spec.handler_at (augmentation_of self.old) end encoding cursor.old.left ≡ Err Entry)) }
+        ensures err { IfErr result (λ e. Fails e (spec.handler_at (augmentation_of self.old) end encoding cursor.old.left
+            ≡ Err Entry)) }
     {
         match encoding as u64 {
             DW_EH_PE_omit => {
@@ -108,8 +111,10 @@ impl Augmentation {
     /// The pointer to an exception table of an FDE, and 0 where there is none.
     pub(crate) fn table_pointer(&self, end: u128, cursor: &mut Cursor<'_>) -> Result<u64, Failed>
         requires { end < 2 ^ 66 }
-        ensures ok { IfOk result (λ t. spec.table_at (augmentation_of self.now) end cursor.old.left ≡ Ok (t, cursor.new.left)) }
-        ensures err { IfErr result (λ e. Fails e (spec.table_at (augmentation_of self.now) end cursor.old.left ≡ Err Entry)) }
+        ensures ok { IfOk result (λ t. spec.table_at (augmentation_of self.now) end cursor.old.left
+            ≡ Ok (t, cursor.new.left)) }
+        ensures err { IfErr result (λ e. Fails e (spec.table_at (augmentation_of self.now) end cursor.old.left
+            ≡ Err Entry)) }
     {
         if !self.has_data {
             return Ok(0);
@@ -146,8 +151,8 @@ fn table_encoding_of(byte: u8) -> Result<Option<Encoding>, Failed>
 
 // Data of a stated length.
 fn data<'a>(cursor: &mut Cursor<'a>) -> Result<&'a [u8], Failed>
-    ensures ok { IfOk result (λ d. spec.data_at cursor.old.left ≡ Ok (d.now, cursor.new.left)) }
-    ensures err { IfErr result (λ e. Fails e (spec.data_at cursor.old.left ≡ Err Entry)) }
+    ensures ok { IfOk result (λ d. block_at cursor.old.left ≡ Ok (d.now, cursor.new.left)) }
+    ensures err { IfErr result (λ e. Fails e (block_at cursor.old.left ≡ Err Entry)) }
 {
     let length = unsigned(cursor)?;
     Ok(cursor.take(length as usize)?)
@@ -191,7 +196,8 @@ pub(crate) fn read_augmentation(
     cursor: &mut Cursor<'_>,
 ) -> Result<Augmentation, Failed>
     requires { end < 2 ^ 66 }
-    ensures ok { IfOk result (λ a. spec.augmentation_at end text.now cursor.old.left ≡ Ok (augmentation_of a, cursor.new.left)) }
+    ensures ok { IfOk result (λ a. spec.augmentation_at end text.now cursor.old.left
+        ≡ Ok (augmentation_of a, cursor.new.left)) }
     ensures err { IfErr result (λ e. Fails e (spec.augmentation_at end text.now cursor.old.left ≡ Err Entry)) }
 {
     let Some((first, letters)) = text.split_first() else {

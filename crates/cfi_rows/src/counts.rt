@@ -1,5 +1,6 @@
 // What is counted of the instructions of an entry.
-ghost use Rattle.std.specs.Prelude.{◌≡◌, ◌≤◌, ◌<◌, ◌^◌, ◌+◌, ◌++◌, ℕ, List, [], ◌∷◌, length, IfOk, OnOk, IfSome, Some, None, sum_by, flat_map};
+ghost use Rattle.std.specs.Prelude.{◌≡◌, ◌≤◌, ◌<◌, ◌^◌, ◌+◌, ◌++◌, ℕ, List, [], ◌∷◌, length, IfOk, OnOk, IfSome, Some};
+ghost use Rattle.std.specs.Prelude.{None, sum_by, flat_map};
 ghost use Rattle.std.specs.Option.{option_to_list};
 ghost use Rattle.cfi_rows.specs.EntryCounts as spec;
 ghost use Rattle.cfi_rows.specs.RegisterSets.{AreIn, AreCounted};

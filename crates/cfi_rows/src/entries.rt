@@ -1,5 +1,6 @@
 // The entries of a frame table up to the first malformed one. LSB, "The .eh_frame section"; DWARF 5, section 6.4.1.
-ghost use Rattle.std.specs.Prelude.{◌≡◌, ◌<◌, ◌≤◌, ◌+◌, ◌^◌, ℕ, if◌then◌else◌, List, ◌∷◌, Option, Some, IfOk, IfErr, OnOk, IsOkAnd, Ok, Err};
+ghost use Rattle.std.specs.Prelude.{◌≡◌, ◌<◌, ◌≤◌, ◌+◌, ◌^◌, ℕ, if◌then◌else◌, List, ◌∷◌, Option, Some, IfOk, IfErr};
+ghost use Rattle.std.specs.Prelude.{OnOk, IsOkAnd, Ok, Err};
 ghost use Rattle.cfi_rows.specs.Entries as spec;
 ghost use Rattle.cfi_rows.specs.Reads.{Fails};
 ghost use Rattle.cfi_rows.specs.ReadFrames.{fde_of};
@@ -180,7 +181,8 @@ fn take_entry(
     listed: &mut Listed,
 ) -> Result<bool, NoMemory>
     requires { listed.old.cies < 2 ^ 63 }
-    ensures taken { IfOk result (λ sound. (es rest : List spec.RawEntry) (broken : Option ℕ) → AreKept debug address es cies.now →
+    ensures taken { IfOk result (λ sound. (es rest : List spec.RawEntry) (broken : Option ℕ) →
+        AreKept debug address es cies.now →
         joined listed.old.cies listed.old.list.items (said (spec.frames_from debug address es broken (entry.now ∷ rest))) ≡
         (if sound then joined listed.new.cies listed.new.list.items (said (spec.frames_from debug address es broken rest))
         else record { cies = listed.new.cies; list = listed.new.list.items; bad = Some entry.now.place })) }

@@ -52,8 +52,10 @@ pub(crate) fn read_fde_head(
     cursor: &mut Cursor<'_>,
 ) -> Result<FdeHead, Failed>
     requires { end < 2 ^ 66 }
-    ensures ok { IfOk result (λ h. fde_head_at (augmentation_of augmentation.now) end cursor.old.left ≡ Ok (h, cursor.new.left)) }
-    ensures err { IfErr result (λ e. Fails e (fde_head_at (augmentation_of augmentation.now) end cursor.old.left ≡ Err Entry)) }
+    ensures ok { IfOk result (λ h. fde_head_at (augmentation_of augmentation.now) end cursor.old.left
+        ≡ Ok (h, cursor.new.left)) }
+    ensures err { IfErr result (λ e. Fails e (fde_head_at (augmentation_of augmentation.now) end cursor.old.left
+        ≡ Err Entry)) }
     ensures fits { IfOk result (λ h. h.start + h.size < 2 ^ 64) }
 {
     let start = augmentation.encoding.pointer(end, cursor)?;

@@ -39,7 +39,8 @@ impl Outline {
 
     // Does one instruction.
     fn step(&mut self, instruction: &Instruction) -> Result<(), Failed>
-        ensures ok { OnOk result (spec.outline_step instruction.now (spec.kept_outline self.old) ≡ Some (spec.kept_outline self.new)) }
+        ensures ok { OnOk result (spec.outline_step instruction.now (spec.kept_outline self.old)
+            ≡ Some (spec.kept_outline self.new)) }
         ensures err { IfErr result (λ e. Fails e (spec.outline_step instruction.now (spec.kept_outline self.old) ≡ None)) }
     {
         match instruction {
@@ -64,8 +65,10 @@ impl Outline {
     }
 
     fn advance(&mut self, bytes: u64) -> Result<(), Failed>
-        ensures ok { OnOk result (spec.moved_outline (self.old.location + bytes) (spec.kept_outline self.old) ≡ Some (spec.kept_outline self.new)) }
-        ensures err { IfErr result (λ e. Fails e (spec.moved_outline (self.old.location + bytes) (spec.kept_outline self.old) ≡ None)) }
+        ensures ok { OnOk result (spec.moved_outline (self.old.location + bytes) (spec.kept_outline self.old)
+            ≡ Some (spec.kept_outline self.new)) }
+        ensures err { IfErr result (λ e. Fails e (spec.moved_outline (self.old.location + bytes) (spec.kept_outline self.old)
+            ≡ None)) }
     {
         match self.location.checked_add(bytes) {
             Some(location) => {
@@ -89,7 +92,8 @@ impl Outline {
 
     // The frame address has to be found by a register.
     fn needs_register(&self) -> Result<(), Failed>
-        ensures ok { OnOk result (spec.if_register self.now.frame (spec.kept_outline self.now) ≡ Some (spec.kept_outline self.now)) }
+        ensures ok { OnOk result (spec.if_register self.now.frame (spec.kept_outline self.now)
+            ≡ Some (spec.kept_outline self.now)) }
         ensures err { IfErr result (λ e. Fails e (spec.if_register self.now.frame (spec.kept_outline self.now) ≡ None)) }
     {
         match self.frame {
@@ -107,8 +111,10 @@ impl Outline {
     }
 
     fn restore(&mut self) -> Result<(), Failed>
-        ensures ok { OnOk result (spec.taken_back (spec.kept_outline self.old) (spec.kept_outline self.old).saved ≡ Some (spec.kept_outline self.new)) }
-        ensures err { IfErr result (λ e. Fails e (spec.taken_back (spec.kept_outline self.old) (spec.kept_outline self.old).saved ≡ None)) }
+        ensures ok { OnOk result (spec.taken_back (spec.kept_outline self.old) (spec.kept_outline self.old).saved
+            ≡ Some (spec.kept_outline self.new)) }
+        ensures err { IfErr result (λ e. Fails e (spec.taken_back (spec.kept_outline self.old) (spec.kept_outline self.old).saved
+            ≡ None)) }
     {
         match self.saved.pop() {
             Some(frame) => {
@@ -150,8 +156,10 @@ pub(crate) fn row_count(
     start: u64,
     frame: FrameKind,
 ) -> Result<u64, Failed>
-    ensures ok { IfOk result (λ n. spec.outline_rows instructions.now (record { location = start; frame = frame; saved = [] }) ≡ Some n) }
-    ensures err { IfErr result (λ e. Fails e (spec.outline_rows instructions.now (record { location = start; frame = frame; saved = [] }) ≡ None)) }
+    ensures ok { IfOk result (λ n. spec.outline_rows instructions.now (record { location = start; frame = frame; saved = [] })
+        ≡ Some n) }
+    ensures err { IfErr result (λ e. Fails e (spec.outline_rows instructions.now (record { location = start; frame = frame; saved = [] })
+        ≡ None)) }
 {
     let mut outline = Outline::new(alloc, start, frame);
     let mut rows: u64 = 0;

@@ -1,6 +1,6 @@
 // The entries of a frame table, one after another. LSB, "The .eh_frame section"; DWARF 5, section 6.4.1.
 ghost use Rattle.std.specs.Prelude.{◌≡◌, ◌+◌, IfOk, IfErr, length};
-ghost use Rattle.cfi_rows.specs.Entries.{Stands, front_of, walked};
+ghost use Rattle.cfi_rows.specs.Entries.{Stands, front_of, walked_entries};
 ghost use Rattle.cfi_rows.specs.FrontEnds.{front_without};
 
 use byteorder::{ByteOrder, LittleEndian};
@@ -74,7 +74,7 @@ pub struct Walked<'a> {
 
 /// Walks the entries of a table.
 pub(crate) fn walk<'a>(alloc: Global, debug: bool, table: &'a [u8]) -> Result<Walked<'a>, NoMemory>
-    ensures { IfOk result (λ w. walked debug table.now ≡ record { entries = w.entries.items; broken = w.broken }) }
+    ensures { IfOk result (λ w. walked_entries debug table.now ≡ record { entries = w.entries.items; broken = w.broken }) }
 {
     let mut entries = Vec::new(alloc);
     let mut left = table;

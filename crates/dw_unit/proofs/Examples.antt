@@ -10,7 +10,7 @@ use Rattle.dw_unit.specs.declared.entry.Attr.{Attr}
 use Rattle.dw_unit.specs.AbbrevWeight.{abbrev_weight}
 use Rattle.dw_unit.specs.Changes.{changed_info, changed_abbrevs, new_address}
 use Rattle.dw_unit.specs.Declarations.{Declaration, specs_within, table_within, has_bad_high}
-use Rattle.dw_unit.specs.Faults.{unit_places}
+use Rattle.dw_unit.specs.Faults.{unit_fault_places}
 use Rattle.dw_unit.specs.EntryMoves.{Moves}
 use Rattle.dw_unit.specs.CompUnits.{Entry, Sections, entries, entries_within, enclosing}
 
@@ -48,7 +48,7 @@ entries_are : places_of (entries sections) ≡ (12, 0) ∷ (29, 1) ∷ []
 unfolding abbrevs info units_from specs_within table_within entries_within
 entries_are = refl
 
-no_fault : (unit_places sections).bad ≡ None
+no_fault : (unit_fault_places sections).bad ≡ None
 unfolding abbrevs info units_from specs_within table_within entries_within
 no_fault = refl
 

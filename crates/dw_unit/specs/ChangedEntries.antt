@@ -11,7 +11,8 @@ use Rattle.dw_unit.specs.CompUnits.{Entry, Unit, Sections, units, value_bytes}
 abbrev pub IsKeptValue : Moves → (is_own is_first : Bool) → Entry → Attr → Type 0
 IsKeptValue m is_own is_first e a = (a.name ≢ DW_AT_high_pc) × (new_value m is_own is_first e a ≡ None)
 
--- An entry, and the same entry of the written file, whose `.debug_info` is `info`: it stands where it stood, with its changes.
+-- An entry, and the same entry of the written file, whose `.debug_info` is `info`: it stands where it stood, with its
+-- changes.
 -- Each value that isn't written anew has the bytes that it had, as texts and expressions have.
 pub record IsChangedEntry (s : Sections) (info : List ℕ) (m : Moves) (is_first : Bool) (old new : Entry) : Type 0 where
   pub place : new.place ≡ old.place

@@ -1,5 +1,5 @@
 -- The debug sections of a file that units are read from, and how those of the written file follow from the input's.
-use Rattle.std.specs.Prelude.{◌≡◌, ◌+◌, ℕ, IsTrue, List, codes, Contains, Option, Some, None}
+use Rattle.std.specs.Prelude.{◌≡◌, ◌+◌, ◌%◌, ◌^◌, ℕ, IsTrue, List, [], ◌∷◌, codes, Contains, Option, Some, None}
 use Rattle.rv_code.specs.declared.inst.Inst.{Inst}
 use Rattle.rv_code.specs.isa.Action.{action_of}
 use Rattle.rv_code.specs.layout.Flow.{is_call}
@@ -8,9 +8,10 @@ use Rattle.elf_code.specs.Parts.{IsInstAt}
 use Rattle.rb_bytes.specs.FirstFault.{IsFree}
 use Rattle.addr_map.specs.declared.span.Span.{Span}
 use Rattle.table_core.specs.declared.written.ListAt.{ListAt}
+use Rattle.table_core.specs.ReadSteps.{unless_any}
 use Rattle.table_core.specs.Sections.{bytes_of}
-use Rattle.dw_unit.specs.Faults.{FaultPlaces, HasDwarfFault, unit_places}
-use Rattle.dw_unit.specs.EntryMoves.{Moves, list_at}
+use Rattle.dw_unit.specs.Faults.{FaultPlaces, HasDwarfFault, unit_fault_places}
+use Rattle.dw_unit.specs.EntryMoves.{Moves, new_list_offset}
 use Rattle.dw_unit.specs.CompUnits.{Sections}
 use Rattle.dw_unit.specs.ChangedEntries.{AreChangedUnits}
 use Rattle.dw_unit.specs.Changes.{changed_info, changed_abbrevs, changed_addr}
@@ -31,7 +32,7 @@ pub record IsCallEnd (elf : Elf) (spans : List Span) (from to : ℕ) : Type 0 wh
   pub there : IsInstAt elf span.input inst bytes
   pub calls : IsTrue (is_call (action_of inst))
   pub from_is : from ≡ span.input + bytes
-  pub to_is : to ≡ span.out + bytes
+  pub to_is : to ≡ (span.out + bytes) % 2 ^ 64
 
 -- what a map and lists make of a file's addresses and attributes
 pub record AreMovesOf (elf : Elf) (spans : List Span) (m : Moves) : Type 0 where
@@ -57,7 +58,7 @@ pub record AreChangedWith (spans : List Span) (lists : List ListAt) (i f : Elf) 
 pub record AreChangedBy (spans : List Span) (lists : List ListAt) (i f : Elf) : Type 0 where
   pub moves : Moves
   pub are_moves : AreMovesOf i spans moves
-  pub named : (l : ListAt) → Contains lists l → list_at moves.lists l.entry l.attr ≡ Some l.offset
+  pub named : (l : ListAt) → Contains lists l → new_list_offset moves.lists l.entry l.attr ≡ Some l.offset
   pub changed : AreChanged moves i f
   pub units_are : AreChangedUnits (sections_of i) moves (sections_of f)
 
@@ -70,12 +71,8 @@ pub record AreNewUnits (elf : Elf) (spans : List Span) (lists : List ListAt) (in
   pub info_is : info ≡ changed_info (sections_of elf) moves
   pub abbrevs_are : abbrevs ≡ changed_abbrevs (sections_of elf)
   pub units_are : (f : Elf) → AreChanged moves elf f → AreChangedUnits (sections_of elf) moves (sections_of f)
-  pub sound : (f : Elf) → AreChanged moves elf f → IsFree (HasDwarfFault (unit_places (sections_of f)))
+  pub sound : (f : Elf) → AreChanged moves elf f → IsFree (HasDwarfFault (unit_fault_places (sections_of f)))
 
 -- where no fault is answered
-abbrev pub unless_any : {X : Type 0} → Option ℕ → Option ℕ → Option ℕ → Option ℕ → X → Option X
-unless_any None None None None x = Some x
-unless_any _ _ _ _ x = None
-
 abbrev pub answers_if_free : {A : Type 0} → FaultPlaces → (ℕ → Option A) → Option (ℕ → Option A)
-answers_if_free p answers = unless_any p.version p.form p.high p.bad answers
+answers_if_free p answers = unless_any (p.version ∷ p.form ∷ p.high ∷ p.bad ∷ []) answers

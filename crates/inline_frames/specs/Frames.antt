@@ -5,7 +5,8 @@ use Rattle.elf_image.specs.declared.elf.Elf.{Elf}
 use Rattle.table_core.specs.declared.form.TheConstants.{DW_FORM_addr, DW_FORM_sec_offset}
 use Rattle.table_core.specs.AttributeForms.{is_address_index}
 use Rattle.table_core.specs.Texts.{or_none}
-use Rattle.dw_unit.specs.declared.attribute.TheConstants.{DW_AT_stmt_list, DW_AT_call_file, DW_AT_call_line, DW_AT_call_column}
+use Rattle.table_core.specs.declared.written.TheConstants.{DW_AT_stmt_list}
+use Rattle.dw_unit.specs.declared.attribute.TheConstants.{DW_AT_call_file, DW_AT_call_line, DW_AT_call_column}
 use Rattle.dw_unit.specs.declared.entry.Attr.{Attr}
 use Rattle.dw_unit.specs.CompUnits.{Entry, attr, own_entry}
 use Rattle.line_rewrite.specs.FilePaths.{path_at}
@@ -39,18 +40,19 @@ row_of elf a = option_and_then (λ (l : LineSaid). last_row l.rows) (line elf a)
 
 abbrev pub unsigned_of : ℕ → Entry → Option ℕ
 unsigned_of name e =
-    option_and_then (λ (a : Attr). if a.form == DW_FORM_addr || is_address_index a.form then None else Some a.value) (attr name e)
+    option_and_then (λ (a : Attr). if a.form == DW_FORM_addr || is_address_index a.form then None else Some a.value)
+    (attr name e)
 
 -- the offset of the line unit that its unit's own entry names
-abbrev pub line_offset : NameSections → Entry → Option ℕ
-line_offset s e =
+abbrev pub named_line_unit : NameSections → Entry → Option ℕ
+named_line_unit s e =
     option_and_then (λ (a : Attr). if a.form == DW_FORM_sec_offset then Some a.value else None)
     (option_and_then (attr DW_AT_stmt_list) (option_and_then own_entry (unit_of_entry s e)))
 
 abbrev pub call_path : Elf → Entry → Option (List ℕ)
 call_path elf e =
     option_and_then (λ offset. option_and_then (path_at (line_sections elf) offset) (unsigned_of DW_AT_call_file e))
-    (line_offset (name_sections elf) e)
+    (named_line_unit (name_sections elf) e)
 
 abbrev pub frame_at_row : Elf → ℕ → Entry → Frame
 frame_at_row elf a e = record {

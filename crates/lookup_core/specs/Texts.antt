@@ -1,6 +1,6 @@
 -- Parts of lines of the report.
-use Rattle.std.specs.Prelude.{ℕ, ℤ, pos, negsuc, suc, ◌/◌, ◌%◌, ◌==◌, Bool, true, false, List, [], ◌++◌, flat_map, if◌then◌else◌}
-use Rattle.std.specs.Prelude.{codes, decimal}
+use Rattle.std.specs.Prelude.{ℕ, ℤ, pos, negsuc, suc, ◌/◌, ◌%◌, ◌==◌, Bool, true, false, List, [], ◌++◌, flat_map}
+use Rattle.std.specs.Prelude.{if◌then◌else◌, codes, decimal}
 use Rattle.rb_bytes.specs.Text.{hexadecimal}
 
 -- a byte in two hexadecimal digits

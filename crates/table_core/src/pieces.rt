@@ -1,5 +1,6 @@
 // The addresses cut into pieces, at all addresses of each of which one range is the first that holds them.
-ghost use Rattle.std.specs.Prelude.{◌≡◌, ◌<◌, ◌≤◌, ◌+◌, ◌^◌, ◌⊎◌, ◌∷◌, [], ℕ, None, IfOk, IsTrue, IsFalse, length, slice_index_or};
+ghost use Rattle.std.specs.Prelude.{◌≡◌, ◌<◌, ◌≤◌, ◌+◌, ◌^◌, ◌⊎◌, ◌∷◌, [], ℕ, None, IfOk, IsTrue, IsFalse, length};
+ghost use Rattle.std.specs.Prelude.{slice_index_or};
 ghost use Rattle.std.specs.List.{position_from};
 ghost use Rattle.std.specs.List.Sorted.{IsNonDecreasingBy};
 ghost use Rattle.std.specs.Option.{option_or};
@@ -25,7 +26,8 @@ pub(crate) fn pieces_of(
     number: usize,
 ) -> Result<Vec<Piece>, NoMemory>
     requires { number + length ranges.now < 2 ^ 64 }
-    ensures found { IfOk result (λ pieces. (a : ℕ) → under None pieces.items a ≡ position_from (holds_address a) number ranges.now) }
+    ensures found { IfOk result (λ pieces. (a : ℕ) → under None pieces.items a
+        ≡ position_from (holds_address a) number ranges.now) }
     ensures rises { IfOk result (λ pieces. IsNonDecreasingBy (λ p. p.start) pieces.items) }
 {
     if ranges.is_empty() {
@@ -41,7 +43,8 @@ pub(crate) fn pieces_of(
 }
 
 fn pieces_of_one(alloc: Global, range: Range, number: usize) -> Result<Vec<Piece>, NoMemory>
-    ensures found { IfOk result (λ pieces. (a : ℕ) → under None pieces.items a ≡ position_from (holds_address a) number (range ∷ [])) }
+    ensures found { IfOk result (λ pieces. (a : ℕ) → under None pieces.items a
+        ≡ position_from (holds_address a) number (range ∷ [])) }
     ensures rises { IfOk result (λ pieces. IsNonDecreasingBy (λ p. p.start) pieces.items) }
 {
     let mut pieces = Vec::new(alloc);
@@ -64,7 +67,8 @@ fn pieces_of_one(alloc: Global, range: Range, number: usize) -> Result<Vec<Piece
 fn merged(alloc: Global, front: &[Piece], back: &[Piece]) -> Result<Vec<Piece>, NoMemory>
     requires front { IsNonDecreasingBy (λ p. p.start) front.now }
     requires back { IsNonDecreasingBy (λ p. p.start) back.now }
-    ensures found { IfOk result (λ pieces. (a : ℕ) → under None pieces.items a ≡ option_or (under None front.now a) (under None back.now a)) }
+    ensures found { IfOk result (λ pieces. (a : ℕ) → under None pieces.items a
+        ≡ option_or (under None front.now a) (under None back.now a)) }
     ensures rises { IfOk result (λ pieces. IsNonDecreasingBy (λ p. p.start) pieces.items) }
 {
     let mut pieces = Vec::new(alloc);

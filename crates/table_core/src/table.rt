@@ -1,6 +1,6 @@
 // Tables of answers by address.
-ghost use Rattle.std.specs.Prelude.{◌≡◌, ◌-◌, ◌^◌, ℕ, List, AllPairs, Option, Some, IfOk, IsTrue, ◌↔◌, MatchResult, option_map};
-ghost use Rattle.std.specs.Prelude.{min};
+ghost use Rattle.std.specs.Prelude.{◌≡◌, ◌-◌, ◌^◌, ℕ, List, AllPairs, Option, Some, IfOk, IsTrue, ◌↔◌, MatchResult};
+ghost use Rattle.std.specs.Prelude.{option_map, min};
 ghost use Rattle.rb_bytes.specs.declared.fault.FaultKind.{FaultKind};
 ghost use Rattle.elf_image.specs.declared.elf.Elf.{Elf};
 ghost use Rattle.rb_bytes.specs.FirstFault.{IsFree, IsRefusalBy};
@@ -103,6 +103,8 @@ pub trait AddrTable: Drop {
         map: &AddrMap,
     ) -> Result<Written, NoMemory>
         requires allowed { allows self.now map.now }
+        requires ordered { AllPairs IsLineBefore map.now }
+        requires disjoint { AllPairs ShareNoByte map.now }
         requires fitting { fits self.now map.now (said_runs said runs.now) }
         requires within { IsWithin 0 runs.now (2 ^ 64 - 1) }
         requires answers { (p : ℕ) → option_map said (run_at runs.now p) ≡ carried (says self.now) map.now p }

@@ -1,10 +1,11 @@
 -- Two line units of no contents, at 0 and 6, of which the second one moves to 10.
 use Rattle.std.proofs.Common.{◌≡◌, ℕ, List, [], ◌∷◌, refl}
+use Rattle.table_core.specs.declared.written.TheConstants.{DW_AT_stmt_list}
 use Rattle.table_core.specs.declared.written.ListAt.{ListAt}
 use Rattle.table_core.specs.DebugUnits.{units_from}
 use Rattle.line_rewrite.specs.KeptLineUnits.{unit_number}
 use Rattle.line_rewrite.specs.Tables.{LineSections}
-use Rattle.table_set.specs.KeptData.{line_offset}
+use Rattle.table_set.specs.KeptData.{new_line_offset}
 
 section : List ℕ
 section = 2 ∷ 0 ∷ 0 ∷ 0 ∷ 5 ∷ 0 ∷ 2 ∷ 0 ∷ 0 ∷ 0 ∷ 5 ∷ 0 ∷ []
@@ -13,7 +14,7 @@ abbrev sections : LineSections
 sections = record { line = section; strings = record { str = []; line_str = [] } }
 
 abbrev unit_list : ℕ → ℕ → ListAt
-unit_list entry offset = record { entry = entry; attr = 0x10; offset = offset }
+unit_list entry offset = record { entry = entry; attr = DW_AT_stmt_list; offset = offset }
 
 abbrev lists : List ListAt
 lists = unit_list 0 0 ∷ unit_list 6 10 ∷ []
@@ -31,9 +32,9 @@ no_unit : unit_number sections 4 ≡ 2
 unfolding section units_from
 no_unit = refl
 
-moved_offset : line_offset lists 6 ≡ 10
+moved_offset : new_line_offset lists 6 ≡ 10
 moved_offset = refl
 
 -- what named none gets an offset that names none
-no_offset : line_offset lists 4 ≡ 0xffffffff
+no_offset : new_line_offset lists 4 ≡ 0xffffffff
 no_offset = refl

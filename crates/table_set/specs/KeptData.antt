@@ -6,18 +6,18 @@ use Rattle.std.specs.Str.{bytes_eq}
 use Rattle.elf_image.specs.declared.elf.Elf.{Elf}
 use Rattle.elf_image.specs.file.SectionNames.{names_debug}
 use Rattle.addr_map.specs.declared.span.Span.{Span}
+use Rattle.table_core.specs.declared.written.TheConstants.{DW_AT_stmt_list}
 use Rattle.table_core.specs.declared.written.ListAt.{ListAt}
 use Rattle.table_core.specs.Sections.{bytes_of}
 use Rattle.dw_unit.specs.Changes.{no_line_unit}
-use Rattle.dw_unit.specs.EntryMoves.{list_at}
+use Rattle.dw_unit.specs.EntryMoves.{new_list_offset}
 use Rattle.dw_unit.specs.Tables.{AreChangedWith}
 use Rattle.line_rewrite.specs.KeptLineUnits.{AreKeptUnits, unit_number}
-use Rattle.line_rewrite.specs.LineTable.{line_attr}
 use Rattle.line_rewrite.specs.Tables.{line_sections}
 
 -- the offset of a line unit that is written for another: that of the unit's list, or one that names none
-abbrev pub line_offset : List ListAt → ℕ → ℕ
-line_offset lists n = unwrap_or (list_at lists n line_attr) no_line_unit
+abbrev pub new_line_offset : List ListAt → ℕ → ℕ
+new_line_offset lists n = unwrap_or (new_list_offset lists n DW_AT_stmt_list) no_line_unit
 
 pub record AreUnitsKept (spans : List Span) (lists : List ListAt) (i f : Elf) : Type 0 where
   -- entries stand where they stood, changed in place by these lists
@@ -26,7 +26,7 @@ pub record AreUnitsKept (spans : List Span) (lists : List ListAt) (i f : Elf) : 
   -- An offset that named a line unit names the one of the same number, and one that named none names none: its number is
   -- that of units, of which both files have as many.
   pub line_offsets : (n : ℕ) →
-      unit_number (line_sections f) (line_offset lists n) ≡ unit_number (line_sections i) n
+      unit_number (line_sections f) (new_line_offset lists n) ≡ unit_number (line_sections i) n
 
 -- the debug sections that are written anew, and those that are left out
 abbrev pub written_names : List (List ℕ)
