@@ -1,0 +1,93 @@
+// Files are rewritten, and what the written ones must have.
+use crate::code::PROFILE;
+use crate::extras::EXTRAS;
+use crate::places::LAYOUTS;
+use crate::shape::{Shape, Tables, build};
+use bolt_core::rewrite;
+use elf_image::relocation::SHT_RELA;
+use elf_image::{Elf, Section, read};
+use std::alloc::Global;
+use std::process::Abort;
+use std::test::Fail;
+
+// The header of no section.
+fn is_dropped(section: &Section<'_>) -> bool {
+    let numbers = [
+        section.flags,
+        section.addr,
+        section.offset,
+        section.size,
+        section.align,
+        section.entsize,
+    ];
+    let words = [section.kind, section.link, section.info];
+    numbers == [0; 6] && words == [0; 3]
+}
+
+// What is read.
+fn accepted<'a>(alloc: Global, file: &'a [u8]) -> Result<Elf<'a>, Fail> {
+    match read(alloc, file) {
+        Ok(elf) => Ok(elf),
+        Err(_) => Err(Fail::new("refused")),
+    }
+}
+
+// The null section says nothing, and neither do relocations.
+fn has_dropped(input: &Elf<'_>, output: &Elf<'_>) -> bool {
+    let has_null = output
+        .sections
+        .first()
+        .is_some_and(|section| is_dropped(section));
+    let mut pairs = input.sections.iter().zip(&output.sections);
+    has_null && pairs.all(|(old, new)| old.kind != SHT_RELA || is_dropped(new))
+}
+
+// The part of `f` that isn't run has a symbol.
+fn has_cold_symbol(output: &Elf<'_>) -> bool {
+    output
+        .symbols
+        .iter()
+        .any(|symbol| symbol.name == b"f.cold".as_slice())
+}
+
+// The file of a shape is rewritten, to one that is read, with the segments and sections that it has to have.
+fn check(rt: &impl Abort, alloc: Global, shape: &Shape) -> Result<(), Fail> {
+    let file = build(alloc, shape)?;
+    let result = rewrite(alloc, &file, PROFILE);
+    assert!(rt; result.is_ok(), "at {shape:?}");
+    let moved = match result {
+        Ok(moved) => moved,
+        Err(_) => return Err(Fail::new("refused")),
+    };
+    let input = accepted(alloc, &file)?;
+    let output = accepted(alloc, &moved.file)?;
+    let added = output.segments.len().saturating_sub(input.segments.len());
+    assert_eq!(rt; added == 1, shape.places.is_tight, "at {shape:?}");
+    assert_eq!(rt;
+        output.sections.len(),
+        input.sections.len().saturating_add(1),
+        "at {shape:?}"
+    );
+    assert!(rt; has_dropped(&input, &output), "at {shape:?}");
+    assert_eq!(rt;
+        has_cold_symbol(&output),
+        shape.tables.has_symbols(),
+        "at {shape:?}"
+    );
+    Ok(())
+}
+
+/// Each layout, with each extra and these tables.
+pub fn check_all(rt: &impl Abort, alloc: Global, tables: Tables) -> Result<(), Fail> {
+    for places in LAYOUTS {
+        for extra in EXTRAS {
+            let shape = Shape {
+                places,
+                tables,
+                extra,
+            };
+            check(rt, alloc, &shape)?;
+        }
+    }
+    Ok(())
+}
