@@ -81,20 +81,18 @@ fn header(kind: u32, place: Place, size: u64) -> Segment {
 pub fn add_front(file: &mut ElfFile<'_>, extra: Extra, places: &Places) -> Result<(), BuildError> {
     let offset = EHDR_SIZE as u64;
     let addr = if places.loads_headers() {
-        BASE + offset
+        BASE.saturating_add(offset)
     } else {
         0
     };
     match extra {
         Extra::OwnTable => {
-            let mut count = 2;
-            if places.constants.is_some() {
-                count += 1;
-            }
-            if places.data.is_some() {
-                count += 1;
-            }
-            let size = count * PHDR_SIZE as u64;
+            let count: u64 = match (places.constants, places.data) {
+                (Some(_), Some(_)) => 4,
+                (None, None) => 2,
+                _ => 3,
+            };
+            let size = count.saturating_mul(PHDR_SIZE as u64);
             file.segments
                 .push(header(PT_PHDR, Place { addr, offset }, size))?;
         }
@@ -138,8 +136,8 @@ const LOADED_NOTE: Place = Place {
 };
 
 fn add_notes(file: &mut ElfFile<'_>, places: &Places) -> Result<(), BuildError> {
-    for index in 0u64..6 {
-        let offset = NOTES_OFFSET + index * 0x20;
+    for index in 0u8..6 {
+        let offset = NOTES_OFFSET + index as u64 * 0x20;
         file.sections.push(Section {
             kind: SHT_NOTE,
             offset: Some(offset),
@@ -163,9 +161,9 @@ fn add_notes(file: &mut ElfFile<'_>, places: &Places) -> Result<(), BuildError> 
 
 // Segments of 8 bytes, on one page of the file and each on a page of its own in memory.
 fn add_segments(file: &mut ElfFile<'_>) -> Result<(), BuildError> {
-    for index in 0u64..8 {
-        let offset = 0x3000 + index * 0x200;
-        let addr = 0x40_0000 + index * 0x10200;
+    for index in 0u8..8 {
+        let offset = 0x3000 + index as u64 * 0x200;
+        let addr = 0x40_0000 + index as u64 * 0x10200;
         let flags = if index % 4 < 2 { PF_R } else { PF_R | PF_W };
         if index % 2 == 0 {
             let section = [Section::loaded(b".more", addr, b"12345678")];
