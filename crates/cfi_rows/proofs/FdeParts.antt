@@ -19,7 +19,7 @@ use Rattle.cfi_rows.specs.FrameRows.{Known, rows, begins}
 use Rattle.cfi_rows.specs.EntryCounts.{registers_set, bytes_in}
 use Rattle.cfi_rows.specs.Outlines.{outline_rows, kind_of}
 use Rattle.cfi_rows.specs.RegisterSets.{AreIn, AreCounted}
-use Rattle.cfi_rows.specs.ReadFrames.{fde_of}
+use Rattle.cfi_rows.specs.ReadEntries.{fde_of}
 use Rattle.cfi_rows.specs.Entries.{Cie, Fde, RawEntry, fde_at, fde_sized, fde_from, fde_by, fde_after, fde_made, fde_context, size_encoding, table_at, sound_if}
 use Rattle.cfi_rows.specs.FdeHeads.{fde_head_at, head_sized, head_from, head_by}
 use Rattle.cfi_rows.specs.KeptCies.{cie_of, IsKept}

@@ -13,7 +13,7 @@ use Rattle.cfi_rows.specs.declared.cie.Cie.{Cie as Kept}
 use Rattle.cfi_rows.specs.declared.frame_table.Fde.{Fde as ReadFde}
 use Rattle.cfi_rows.specs.declared.instruction.Malformed.{Malformed}
 use Rattle.cfi_rows.specs.declared.instruction.Malformed.TheVariants.{Entry}
-use Rattle.cfi_rows.specs.ReadFrames.{fde_of}
+use Rattle.cfi_rows.specs.ReadEntries.{fde_of}
 use Rattle.cfi_rows.specs.Entries.{Cie, Fde, Frames, RawEntry, cie_at, cie_in, cie_place, end_of, entry_named, fde_at, frames_from, is_cie, is_named, one_cie, one_fde, sound_if}
 use Rattle.cfi_rows.specs.KeptCies.{IsKeptCie, cie_of}
 use Rattle.cfi_rows.specs.KeptTables.{KeptAs, KeptFor, AreKept, fde_in, SaidFrames, said, joined}

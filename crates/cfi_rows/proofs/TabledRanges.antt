@@ -3,7 +3,7 @@ use Rattle.std.proofs.Common.{◌≡◌, ℕ, Bool, true, false, List, [], ◌�
 use Rattle.std.specs.Prelude.{filter, nat_lt}
 use Rattle.cfi_rows.specs.declared.frame_table.Fde.{Fde as ReadFde}
 use Rattle.cfi_rows.specs.Entries.{Fde}
-use Rattle.cfi_rows.specs.ReadFrames.{fde_of}
+use Rattle.cfi_rows.specs.ReadEntries.{fde_of}
 
 abbrev pub read_ranges : List ReadFde → List (ℕ × ℕ)
 read_ranges fs = map (λ (f : ReadFde). (f.start, f.end)) (filter (λ (f : ReadFde). nat_lt 0 f.table) fs)

@@ -9,7 +9,7 @@ use Rattle.cfi_rows.specs.declared.listed.Listed.{Listed}
 use Rattle.cfi_rows.specs.declared.instruction.Malformed.{Malformed}
 use Rattle.cfi_rows.specs.Entries.{Cie, Fde, Frames, RawEntry, cie_at, cie_in, cie_place, end_of, entry_named, fde_at}
 use Rattle.cfi_rows.specs.KeptCies.{IsKeptCie}
-use Rattle.cfi_rows.specs.ReadFrames.{fde_of}
+use Rattle.cfi_rows.specs.ReadEntries.{fde_of}
 
 -- a CIE is kept where it is sound
 abbrev pub KeptAs : Option Kept → Result Cie Malformed → Type 0

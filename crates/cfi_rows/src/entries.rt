@@ -3,7 +3,7 @@ ghost use Rattle.std.specs.Prelude.{◌≡◌, ◌<◌, ◌≤◌, ◌+◌, ◌^
 ghost use Rattle.std.specs.Prelude.{OnOk, IsOkAnd, Ok, Err};
 ghost use Rattle.cfi_rows.specs.Entries as spec;
 ghost use Rattle.cfi_rows.specs.Reads.{Fails};
-ghost use Rattle.cfi_rows.specs.ReadFrames.{fde_of};
+ghost use Rattle.cfi_rows.specs.ReadEntries.{fde_of};
 ghost use Rattle.cfi_rows.specs.KeptTables.{KeptAs, AreKept, fde_in, said, said_of, joined};
 ghost use Rattle.cfi_rows.specs.declared.instruction.Malformed.TheVariants.{Entry};
 ghost use Rattle.table_core.specs.ReadSteps.{is_ok};

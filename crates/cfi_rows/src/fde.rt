@@ -3,7 +3,7 @@ ghost use Rattle.std.specs.Prelude.{◌≡◌, ◌+◌, ◌<◌, ◌^◌, List, 
 ghost use Rattle.cfi_rows.specs.Entries as spec;
 ghost use Rattle.cfi_rows.specs.FrameRows.{Known};
 ghost use Rattle.cfi_rows.specs.Reads.{Fails};
-ghost use Rattle.cfi_rows.specs.ReadFrames.{fde_of};
+ghost use Rattle.cfi_rows.specs.ReadEntries.{fde_of};
 ghost use Rattle.cfi_rows.specs.Augmentations.{augmentation_of};
 ghost use Rattle.cfi_rows.specs.FdeHeads.{fde_head_at};
 ghost use Rattle.cfi_rows.specs.KeptCies.{cie_of, IsKept};

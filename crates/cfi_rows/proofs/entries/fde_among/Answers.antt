@@ -2,7 +2,7 @@ use Rattle.std.proofs.Common.{rules, ◌≡◌, ◌∙◌, Some, sym, ap, subst,
 use Rattle.std.specs.Prelude.{IfOk, IfErr, IsOkAnd, Err}
 use Rattle.std.specs.BTreeMap.{get}
 use Rattle.cfi_rows.specs.Reads.{Fails}
-use Rattle.cfi_rows.specs.ReadFrames.{fde_of}
+use Rattle.cfi_rows.specs.ReadEntries.{fde_of}
 use Rattle.cfi_rows.specs.declared.instruction.Malformed.TheVariants.{Entry}
 use Rattle.cfi_rows.specs.Entries.{fde_at, entry_named}
 use Rattle.cfi_rows.specs.KeptCies.{cie_of}
