@@ -5,3 +5,4 @@ pub mod OnlyRuns
 pub mod MergedPieces
 pub mod FoundFirst
 pub mod OnlyWeights
+pub mod Numbers

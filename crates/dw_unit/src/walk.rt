@@ -1,0 +1,84 @@
+// Entries of a unit, one after another. DWARF 5, sections 7.5.2 and 7.5.3.
+ghost use Rattle.std.specs.Prelude.{◌≡◌, ◌≤◌, ◌<◌, ◌-◌, ◌+◌, ◌^◌, [], IfOk, OnOk, Ok, Err, length, MatchOption};
+ghost use Rattle.table_core.specs.ReadSteps.{with_head};
+ghost use Rattle.dw_unit.specs.CompUnits.{attrs_at};
+ghost use Rattle.dw_unit.specs.Walking.{entries_at, walked_entry, unit_bounds};
+ghost use Rattle.dw_unit.specs.Stops.{IfTrouble};
+ghost use Rattle.dw_unit.specs.Told.{told_declaration, told_table};
+
+use crate::attr::attr;
+use crate::declaration::{Declaration, Spec, unsigned};
+use crate::entry::Attr;
+use crate::table::Table;
+use crate::trouble::{Stop, Trouble};
+use rb_bytes::cursor::Cursor;
+
+/// The attributes that a declaration names, in place of those that stand in `attrs`.
+pub fn read_attrs<'a>(
+    cursor: &mut Cursor<'a>,
+    end: u64,
+    declaration: u64,
+    specs: &[Spec],
+    attrs: &mut Vec<Attr>,
+) -> Result<(), Stop>
+    requires { length cursor.old.left ≤ end }
+    ensures read { OnOk result (attrs_at end declaration specs.now cursor.old.left ≡ Ok (attrs.new.items, cursor.new.left)) }
+    ensures trouble { IfTrouble result (λ e. attrs_at end declaration specs.now cursor.old.left ≡ Err e) }
+    ensures on { OnOk result (length cursor.new.left ≤ length cursor.old.left) }
+{
+    attrs.clear();
+    for spec in specs {
+        let next = attr(cursor, end, declaration, *spec)?;
+        attrs.push(next)?;
+    }
+    Ok(())
+}
+
+/// An entry without its attributes.
+#[derive(Clone, Copy)]
+pub struct Head<'t> {
+    pub place: u64,
+    pub depth: u64,
+    pub declaration: &'t Declaration,
+}
+
+/// The next entry of a unit, at a depth that becomes that of what follows; its attributes stand in `attrs` then.
+pub fn next_entry<'a, 't>(
+    cursor: &mut Cursor<'a>,
+    unit: u64,
+    end: u64,
+    depth: &mut u64,
+    table: &'t Table,
+    attrs: &mut Vec<Attr>,
+) -> Result<Option<Head<'t>>, Stop>
+    requires within { length cursor.old.left ≤ end }
+    requires bounded { depth.old + length cursor.old.left < 2 ^ 64 }
+    ensures read { IfOk result (λ o. MatchOption o
+        (entries_at (unit_bounds unit end (told_table table.entry.now)) depth.old cursor.old.left ≡ Ok [])
+        (λ h. entries_at (unit_bounds unit end (told_table table.entry.now)) depth.old cursor.old.left
+        ≡ with_head (walked_entry (unit_bounds unit end (told_table table.entry.now)) h.place h.depth (told_declaration h.declaration.now) attrs.new.items)
+        (entries_at (unit_bounds unit end (told_table table.entry.now)) depth.new cursor.new.left))) }
+    ensures trouble { IfTrouble result (λ e. entries_at (unit_bounds unit end (told_table table.entry.now)) depth.old cursor.old.left ≡ Err e) }
+    ensures on { OnOk result (length cursor.new.left ≤ length cursor.old.left) }
+    ensures still_bounded { OnOk result (depth.new + length cursor.new.left < 2 ^ 64) }
+{
+    'codes: while cursor.left() > 0 {
+        let place = end - cursor.left() as u64;
+        let code = unsigned(cursor)?;
+        if code != 0 {
+            let declaration = table.declaration(code)?;
+            read_attrs(cursor, end, declaration.place, &declaration.specs, attrs)?;
+            let head = Head {
+                place,
+                depth: *depth,
+                declaration,
+            };
+            if declaration.children {
+                *depth += 1;
+            }
+            return Ok(Some(head));
+        }
+        *depth = depth.saturating_sub(1);
+    }
+    Ok(None)
+}
