@@ -8,7 +8,7 @@ use Rattle.elf_image.specs.declared.section.Section.{Section}
 use Rattle.elf_image.specs.declared.symbol.Symbol.{Symbol}
 use Rattle.elf_image.specs.file.Cuts.{names_function, IsBound, IsCutAddress}
 use Rattle.elf_image.specs.file.Sections.{holds_code}
-use Rattle.elf_image.specs.internal.CutLists.{bounds, bounds_of_symbol, bounds_of_section, symbol_bounds, section_bounds}
+use Rattle.elf_image.specs.file.CutLists.{bounds, bounds_of_symbol, bounds_of_section, symbol_bounds, section_bounds}
 use Rattle.rb_bytes.proofs.Members.{Contains-cons_cases}
 
 -- the members of a list of lists

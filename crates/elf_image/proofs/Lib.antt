@@ -1,5 +1,5 @@
 mod CodeLemmas
-mod CutLists
+pub mod CutLists
 mod Examples
 mod ExtentLemmas
 pub mod FaultOrder

@@ -1,3 +1,4 @@
+pub mod CutLists
 pub mod Cuts
 pub mod Header
 pub mod ParsedFile

@@ -1,4 +1,3 @@
-pub mod CutLists
 pub mod Extents
 pub mod Folds
 pub mod HeaderFields

@@ -2,7 +2,7 @@
 ghost use Rattle.std.specs.Prelude.{ℕ, ◌≡◌, ◌↔◌, ◌++◌, IfOk, OnOk, Contains};
 ghost use Rattle.std.specs.List.Sorted.{IsStrictlyIncreasing};
 ghost use Rattle.elf_image.specs.file.Cuts.{IsCutAddress};
-ghost use Rattle.elf_image.specs.internal.CutLists.{bounds, symbol_bounds, section_bounds};
+ghost use Rattle.elf_image.specs.file.CutLists.{bounds, symbol_bounds, section_bounds};
 
 use crate::elf::Elf;
 use crate::section::Section;

@@ -1,8 +1,8 @@
 pub mod HexDigits
 mod TextAt
-mod UnsignedLeb
+pub mod UnsignedLeb
 mod ReaderAnswers
-mod SignedLeb
+pub mod SignedLeb
 pub mod DigitValues
 pub mod Gains
 pub mod Members

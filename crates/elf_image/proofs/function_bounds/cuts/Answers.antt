@@ -1,6 +1,6 @@
 use Rattle.std.proofs.Common.{◌≡◌, sym, subst, List, ◌++◌, ℕ, rules}
 use Rattle.std.specs.List.{Contains}
-use Rattle.elf_image.specs.internal.CutLists.{symbol_bounds, section_bounds}
+use Rattle.elf_image.specs.file.CutLists.{symbol_bounds, section_bounds}
 use Rattle.elf_image.proofs.CutLists.{IsCutAddress-from_lists, lists-from_IsCutAddress}
 use Rattle.elf_image.proofs.function_bounds.cuts.Goals as goal
 

@@ -1,5 +1,5 @@
 use Rattle.std.proofs.Common.{◌≡◌, ◌++◌, take}
-use Rattle.elf_image.specs.internal.CutLists.{section_bounds}
+use Rattle.elf_image.specs.file.CutLists.{section_bounds}
 use Rattle.elf_image.proofs.function_bounds.push_section_bounds.Given as goal
 
 abbrev pub invariant-loop-section : goal.invariant-loop-section
