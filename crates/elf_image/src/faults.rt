@@ -1,5 +1,5 @@
 // The faults of a file, one after another.
-ghost use Rattle.std.specs.Prelude.{◌≡◌, MatchOption, OnOk, IfErr};
+ghost use Rattle.std.specs.Prelude.{◌≡◌, MatchOption, MatchResult, OnOk, IfErr};
 ghost use Rattle.rb_bytes.specs.Fault.{fault_at};
 ghost use Rattle.rb_bytes.specs.declared.fault.FaultKind.TheVariants as kind;
 ghost use Rattle.rb_bytes.specs.FirstFault.{LacksBelow};
@@ -49,8 +49,7 @@ fn lowest_not_elf(file: &[u8]) -> Option<u64>
 /// `NotElf`, `Truncated`, `Flags` and `NotStatic`.
 pub fn check_structure(file: &[u8]) -> Result<(), Fault>
     ensures readable { OnOk result (IsReadable file.now) }
-    ensures lacks { OnOk result (LacksBelow (HasFault file.now) 5) }
-    ensures fault { IfErr result (IsFirstFault file.now) }
+    ensures checked { MatchResult result (λ _. LacksBelow (HasFault file.now) 5) (IsFirstFault file.now) }
 {
     refuse_at(FaultKind::NotElf, lowest_not_elf(file))?;
     refuse_at(FaultKind::Truncated, lowest_truncated(file))?;
@@ -68,8 +67,7 @@ fn check_places(file: &[u8], sections: &[Section], loading: Option<u64>) -> Resu
     requires lacks { LacksBelow (HasFault file.now) 5 }
     requires sections { AreSections file.now (e_shnum file.now) sections.now }
     requires loading { IsLowest (HasFault file.now kind.ExecSegments) loading }
-    ensures lacks { OnOk result (LacksBelow (HasFault file.now) 9) }
-    ensures fault { IfErr result (IsFirstFault file.now) }
+    ensures { MatchResult result (λ _. LacksBelow (HasFault file.now) 9) (IsFirstFault file.now) }
 {
     let segments = SegmentTable { file };
     refuse_at(FaultKind::ExecSegments, loading)?;

@@ -127,19 +127,26 @@ segments_from-stands (p ∷ ps) file o fits stands =
     segments_from-stands ps file (o + PHDR_SIZE) (λ k d below. fits (suc k) d (omega arith)) next in
     ap (λ (x : Segment). x ∷ segments_from file (o + PHDR_SIZE) (length ps)) here ∙ ap (λ (xs : List Segment). p ∷ xs) rest
 
--- one more header
+-- one more header of a table
+table_take : {A : Type 0} (spell : A → List ℕ) (table : List A → List ℕ) → table [] ≡ [] →
+    ((x : A) (xs : List A) → table (x ∷ xs) ≡ spell x ++ table xs) → (xs : List A) (i : ℕ) (d : A) → i < length xs →
+    table (take (i + 1) xs) ≡ table (take i xs) ++ spell (get_or xs i d)
+table_take spell table none more [] i d below = absurd (omega arith)
+table_take spell table none more (x ∷ xs) zero d below =
+    more x [] ∙ ap (λ (ys : List ℕ). spell x ++ ys) none ∙ append-nil (spell x)
+    ∙ sym (ap (λ (ys : List ℕ). ys ++ spell x) none)
+table_take spell table none more (x ∷ xs) (suc i) d below =
+    let count : suc i + 1 ≡ suc (i + 1) = omega arith in
+    ap (λ (n : ℕ). table (take n (x ∷ xs))) count
+    ∙ more x (take (i + 1) xs)
+    ∙ ap (λ (ys : List ℕ). spell x ++ ys) (table_take spell table none more xs i d (omega arith))
+    ∙ sym (append_assoc (spell x) (table (take i xs)) (spell (get_or xs i d)))
+    ∙ sym (ap (λ (ys : List ℕ). ys ++ spell (get_or xs i d)) (more x (take i xs)))
+
 pub segment_table-take : (ps : List Segment) (i : ℕ) (d : Segment) → i < length ps →
     segment_table (take (i + 1) ps) ≡ segment_table (take i ps) ++ segment_bytes (get_or ps i d)
 unfolding segment_table
-segment_table-take [] i d below = absurd (omega arith)
-segment_table-take (p ∷ ps) zero d below = append-nil (segment_bytes p)
-segment_table-take (p ∷ ps) (suc i) d below =
-    let rest : segment_table (take (i + 1) ps) ≡ segment_table (take i ps) ++ segment_bytes (get_or ps i d) =
-    segment_table-take ps i d (omega arith) in
-    let count : suc i + 1 ≡ suc (i + 1) = omega arith in
-    ap (λ (n : ℕ). segment_table (take n (p ∷ ps))) count
-    ∙ ap (λ (xs : List ℕ). segment_bytes p ++ xs) rest
-    ∙ sym (append_assoc (segment_bytes p) (segment_table (take i ps)) (segment_bytes (get_or ps i d)))
+segment_table-take = table_take segment_bytes segment_table refl (λ p ps. refl)
 
 pub segment_table-none : segment_table [] ≡ []
 unfolding segment_table
@@ -217,15 +224,7 @@ section-in-table (s ∷ ss) file o (suc k) d fits stands below =
 pub section_table-take : (ss : List SectionHeader) (i : ℕ) (d : SectionHeader) → i < length ss →
     section_table (take (i + 1) ss) ≡ section_table (take i ss) ++ section_header_bytes (get_or ss i d)
 unfolding section_table
-section_table-take [] i d below = absurd (omega arith)
-section_table-take (s ∷ ss) zero d below = append-nil (section_header_bytes s)
-section_table-take (s ∷ ss) (suc i) d below =
-    let rest : section_table (take (i + 1) ss) ≡ section_table (take i ss) ++ section_header_bytes (get_or ss i d) =
-    section_table-take ss i d (omega arith) in
-    let count : suc i + 1 ≡ suc (i + 1) = omega arith in
-    ap (λ (n : ℕ). section_table (take n (s ∷ ss))) count
-    ∙ ap (λ (xs : List ℕ). section_header_bytes s ++ xs) rest
-    ∙ sym (append_assoc (section_header_bytes s) (section_table (take i ss)) (section_header_bytes (get_or ss i d)))
+section_table-take = table_take section_header_bytes section_table refl (λ s ss. refl)
 
 pub section_table-none : section_table [] ≡ []
 unfolding section_table

@@ -1,6 +1,7 @@
 pub mod MemoryBytes
 mod Ranks
 mod PatchedBytes
+pub mod OneMoreNumber
 mod PageBytes
 pub mod AddressRuns
 mod CodeRanges

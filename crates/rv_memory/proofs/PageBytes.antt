@@ -151,53 +151,10 @@ number-like p a n i low found in_page memory like =
     ∙ sym (get_or-drop (i * 4096 + a % 4096) p.bytes.items (0 + k) 0))
 
 -- One more page.
-module _ (place next : ℕ → Option ℕ) (numbers bytes page : List ℕ) (n : ℕ)
-    (indexed : (i : ℕ) → i < length numbers → place (get_or numbers i 0) ≡ Some i)
-    (held : (q i : ℕ) → place q ≡ Some i → i < length numbers) (numbered : (q i : ℕ) → place q ≡ Some i → get_or numbers i 0 ≡ q)
-    (absent : place n ≡ None) (is : (q : ℕ) → next q ≡ (if q == n then Some (length numbers) else place q)) where
-  next-new : (q : ℕ) → q ≡ n → next q ≡ Some (length numbers)
-  next-new q same = is q ∙ ap (λ t. if t then Some (length numbers) else place q) (eq-eqb q n same)
-
-  next-old : (q : ℕ) → (q == n) ≡ false → next q ≡ place q
-  next-old q other = is q ∙ ap (λ t. if t then Some (length numbers) else place q) other
-
-  last : get_or (numbers ++ n ∷ []) (length numbers) 0 ≡ n
-  last = get_or-append_right numbers (n ∷ []) (length numbers) (length numbers) 0 refl (omega arith)
-      ∙ ap (λ (k : ℕ). get_or (n ∷ []) k 0) {y = 0} (omega arith)
-
-  before : (i : ℕ) → i < length numbers → get_or (numbers ++ n ∷ []) i 0 ≡ get_or numbers i 0
-  before i less = get_or_append_left numbers (n ∷ []) 0 i less
-
-  pub indexed_more : (i : ℕ) → i < length (numbers ++ n ∷ []) → next (get_or (numbers ++ n ∷ []) i 0) ≡ Some i
-  indexed_more i within = elim (cases_lt i (length numbers)) [
-    | inl less ↦
-        let found : place (get_or numbers i 0) ≡ Some i = indexed i less in
-        let other : (get_or numbers i 0 == n) ≡ false =
-        false_from_ne_true (get_or numbers i 0 == n)
-        (λ e. absurd
-        (let none : place (get_or numbers i 0) ≡ None = ap place (eqb-true (get_or numbers i 0) n e) ∙ absent in
-        let both : Some i ≡ None = sym found ∙ none in cc)) in
-        ap next (before i less) ∙ next-old (get_or numbers i 0) other ∙ found
-    | inr more ↦
-        let same : i ≡ length numbers = omega (arith, within, length-append numbers (n ∷ [])) in
-        ap (λ k. next (get_or (numbers ++ n ∷ []) k 0)) same ∙ next-new _ last ∙ ap Some (sym same)
-  ]
-
-  pub held_more : (q i : ℕ) → next q ≡ Some i → i < length (numbers ++ n ∷ [])
-  held_more q i found = cases (q == n) refl
-    where
-      cases : (t : Bool) → (q == n) ≡ t → i < length (numbers ++ n ∷ [])
-      cases true e = let same : Some (length numbers) ≡ Some i = sym (next-new q (eqb-true q n e)) ∙ found in
-          let here : length numbers ≡ i = cc in omega (arith, length-append numbers (n ∷ []))
-      cases false e = let there = held q i (sym (next-old q e) ∙ found) in omega (arith, length-append numbers (n ∷ []))
-
-  pub numbered_more : (q i : ℕ) → next q ≡ Some i → get_or (numbers ++ n ∷ []) i 0 ≡ q
-  numbered_more q i found = cases (q == n) refl
-    where
-      cases : (t : Bool) → (q == n) ≡ t → get_or (numbers ++ n ∷ []) i 0 ≡ q
-      cases true e = let same : Some (length numbers) ≡ Some i = sym (next-new q (eqb-true q n e)) ∙ found in
-          let here : length numbers ≡ i = cc in ap (λ k. get_or (numbers ++ n ∷ []) k 0) (sym here) ∙ last ∙ sym (eqb-true q n e)
-      cases false e = let there : place q ≡ Some i = sym (next-old q e) ∙ found in before i (held q i there) ∙ numbered q i there
+module _ (place next : ℕ → Option ℕ) (numbers bytes page : List ℕ) (n : ℕ) (held : (q i : ℕ) → place q ≡ Some i → i < length numbers)
+    (is : (q : ℕ) → next q ≡ (if q == n then Some (length numbers) else place q)) where
+  next-is : (q : ℕ) (t : Bool) → (q == n) ≡ t → next q ≡ (if t then Some (length numbers) else place q)
+  next-is q t test = is q ∙ ap (λ b. if b then Some (length numbers) else place q) test
 
   pub sized_more : length bytes ≡ length numbers * 4096 → length page ≡ 4096 →
       length (bytes ++ page) ≡ length (numbers ++ n ∷ []) * 4096
@@ -222,11 +179,11 @@ module _ (place next : ℕ → Option ℕ) (numbers bytes page : List ℕ) (n : 
           ≡ (if t then Some (get_or page (q % 4096) 0)
           else option_map (λ i. get_or bytes (i * 4096 + q % 4096) 0) (place (q / 4096)))
       cases true e =
-          ap (option_map (λ i. get_or (bytes ++ page) (i * 4096 + q % 4096) 0)) (next-new (q / 4096) (eqb-true (q / 4096) n e))
+          ap (option_map (λ i. get_or (bytes ++ page) (i * 4096 + q % 4096) 0)) (next-is (q / 4096) true e)
           ∙ ap Some (get_or-append_right bytes page (length numbers * 4096)
           (length numbers * 4096 + q % 4096) 0 size (omega arith)
           ∙ ap (λ (k : ℕ). get_or page k 0) {y = q % 4096} (omega arith))
-      cases false e = ap (option_map (λ i. get_or (bytes ++ page) (i * 4096 + q % 4096) 0)) (next-old (q / 4096) e)
+      cases false e = ap (option_map (λ i. get_or (bytes ++ page) (i * 4096 + q % 4096) 0)) (next-is (q / 4096) false e)
           ∙ old (place (q / 4096)) refl
 
 pub byte_in-added : (old : Pages) (index : PageIndex) (bytes : List ℕ) (n : ℕ) (page : List ℕ) → place_of old.index n ≡ None →
@@ -237,7 +194,7 @@ pub byte_in-added : (old : Pages) (index : PageIndex) (bytes : List ℕ) (n : �
 unfolding byte_in
 byte_in-added old index bytes n page absent is added whole q =
     rw added (page_added (place_of old.index)
-    (place_of index) old.numbers.items old.bytes.items page n old.indexed old.held old.numbered absent is old.sized whole q)
+    (place_of index) old.numbers.items old.bytes.items page n old.held is old.sized whole q)
 
 pub place-none : (p : Pages) (a : ℕ) → is_some (page_byte p a) ≡ false → place_of p.index (a / 4096) ≡ None
 unfolding byte_in

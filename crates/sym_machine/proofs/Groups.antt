@@ -6,6 +6,7 @@ use Rattle.std.specs.Option.{option_and_then, is_some}
 use Rattle.std.proofs.lemmas.List.{get_or_append_left, get_or-append_right, get_or-set_same, get_or-set_other}
 use Rattle.std.proofs.lemmas.Bool.{eqb-true, eqb-false, eq-eqb, le-leb, lt-ltb, leb-true, ltb-true, false_from_ne_true, and_parts}
 use Rattle.std.proofs.lemmas.Bool.{cases_lt}
+use Rattle.rv_memory.proofs.OneMoreNumber.{number_last, number_before}
 use Rattle.rv_memory.specs.PageIndex.{place_of}
 use Rattle.rv_memory.specs.declared.page_index.PageIndex.{PageIndex}
 use Rattle.sym_machine.specs.declared.other_bytes.OtherByte.{OtherByte}
@@ -88,91 +89,48 @@ byte_unset old a none q = cases (q == a) refl
     cases false test = refl
 
 -- One more group.
+
+pub sized_more : (numbers : List ℕ) (slots more : List (Option OtherByte)) (n : ℕ) → length slots ≡ length numbers * 8 →
+    length more ≡ 8 → length (slots ++ more) ≡ length (numbers ++ n ∷ []) * 8
+sized_more numbers slots more n size whole = omega (arith, length-append numbers (n ∷ []), length-append slots more)
+
+pub marked_more : (numbers recent : List ℕ) (n k : ℕ) → length recent ≡ 8192 →
+    ((i : ℕ) → i < length numbers → 0 < get_or recent (get_or numbers i 0 % 8192) 0) → k ≡ n % 8192 →
+    (i : ℕ) → i < length (numbers ++ n ∷ []) →
+    0 < get_or (slice_set recent k (length numbers + 1)) (get_or (numbers ++ n ∷ []) i 0 % 8192) 0
+marked_more numbers recent n k size marked at i within = cases (get_or (numbers ++ n ∷ []) i 0 % 8192 == k) refl
+  where
+    old : (get_or (numbers ++ n ∷ []) i 0 % 8192 ≡ k → ⊥) → 0 < get_or recent (get_or (numbers ++ n ∷ []) i 0 % 8192) 0
+    old apart = elim (cases_lt i (length numbers)) [
+      | inl less ↦ let here = marked i less in
+          let same = ap (λ (x : ℕ). get_or recent (x % 8192) 0) (number_before numbers n i less) in omega arith
+      | inr more ↦
+          let same : i ≡ length numbers = omega (arith, within, length-append numbers (n ∷ [])) in
+          absurd (apart (ap (λ (x : ℕ). get_or (numbers ++ n ∷ []) x 0 % 8192) same ∙ ap (λ (x : ℕ). x % 8192) (number_last numbers n) ∙ sym at))
+    ]
+
+    cases : (t : Bool) → (get_or (numbers ++ n ∷ []) i 0 % 8192 == k) ≡ t →
+        0 < get_or (slice_set recent k (length numbers + 1)) (get_or (numbers ++ n ∷ []) i 0 % 8192) 0
+    cases true test =
+        let same = eqb-true _ k test in
+        let is : get_or (slice_set recent k (length numbers + 1))
+        (get_or (numbers ++ n ∷ []) i 0 % 8192) 0 ≡ length numbers + 1 =
+        ap (λ (x : ℕ). get_or (slice_set recent k (length numbers + 1)) x 0) same
+        ∙ get_or-set_same recent k (length numbers + 1) 0 (omega arith) in
+        omega arith
+    cases false test =
+        let apart = eqb-false _ k test in
+        let is : get_or (slice_set recent k (length numbers + 1)) (get_or (numbers ++ n ∷ []) i 0 % 8192) 0
+        ≡ get_or recent (get_or (numbers ++ n ∷ []) i 0 % 8192) 0 =
+        get_or-set_other recent k _ (length numbers + 1) 0 apart in
+        let here = old apart in
+        omega arith
+
 module _ (place next : ℕ → Option ℕ) (numbers : List ℕ) (slots more : List (Option OtherByte)) (n : ℕ)
-    (indexed : (i : ℕ) → i < length numbers → place (get_or numbers i 0) ≡ Some i)
-    (held : (q i : ℕ) → place q ≡ Some i → i < length numbers) (numbered : (q i : ℕ) → place q ≡ Some i → get_or numbers i 0 ≡ q)
-    (absent : place n ≡ None) (is : (q : ℕ) → next q ≡ (if q == n then Some (length numbers) else place q)) where
-  next-new : (q : ℕ) → q ≡ n → next q ≡ Some (length numbers)
-  next-new q same = is q ∙ ap (λ t. if t then Some (length numbers) else place q) (eq-eqb q n same)
-
-  next-old : (q : ℕ) → (q == n) ≡ false → next q ≡ place q
-  next-old q other = is q ∙ ap (λ t. if t then Some (length numbers) else place q) other
-
-  last : get_or (numbers ++ n ∷ []) (length numbers) 0 ≡ n
-  last = get_or-append_right numbers (n ∷ []) (length numbers) (length numbers) 0 refl (omega arith)
-      ∙ ap (λ (k : ℕ). get_or (n ∷ []) k 0) {y = 0} (omega arith)
-
-  before : (i : ℕ) → i < length numbers → get_or (numbers ++ n ∷ []) i 0 ≡ get_or numbers i 0
-  before i less = get_or_append_left numbers (n ∷ []) 0 i less
-
-  pub indexed_more : (i : ℕ) → i < length (numbers ++ n ∷ []) → next (get_or (numbers ++ n ∷ []) i 0) ≡ Some i
-  indexed_more i within = elim (cases_lt i (length numbers)) [
-    | inl less ↦
-        let found : place (get_or numbers i 0) ≡ Some i = indexed i less in
-        let other : (get_or numbers i 0 == n) ≡ false = false_from_ne_true (get_or numbers i 0 == n)
-        (λ e. absurd (let none : place (get_or numbers i 0) ≡ None = ap place (eqb-true (get_or numbers i 0) n e) ∙ absent in
-        let both : Some i ≡ None = sym found ∙ none in
-        cc)) in
-        ap next (before i less) ∙ next-old (get_or numbers i 0) other ∙ found
-    | inr more ↦
-        let same : i ≡ length numbers = omega (arith, within, length-append numbers (n ∷ [])) in
-        ap (λ k. next (get_or (numbers ++ n ∷ []) k 0)) same ∙ next-new _ last ∙ ap Some (sym same)
-  ]
-
-  pub held_more : (q i : ℕ) → next q ≡ Some i → i < length (numbers ++ n ∷ [])
-  held_more q i found = cases (q == n) refl
-    where
-      cases : (t : Bool) → (q == n) ≡ t → i < length (numbers ++ n ∷ [])
-      cases true e =
-          let same : Some (length numbers) ≡ Some i = sym (next-new q (eqb-true q n e)) ∙ found in
-          let here : length numbers ≡ i = cc in
-          omega (arith, length-append numbers (n ∷ []))
-      cases false e = let there = held q i (sym (next-old q e) ∙ found) in omega (arith, length-append numbers (n ∷ []))
-
-  pub numbered_more : (q i : ℕ) → next q ≡ Some i → get_or (numbers ++ n ∷ []) i 0 ≡ q
-  numbered_more q i found = cases (q == n) refl
-    where
-      cases : (t : Bool) → (q == n) ≡ t → get_or (numbers ++ n ∷ []) i 0 ≡ q
-      cases true e =
-          let same : Some (length numbers) ≡ Some i = sym (next-new q (eqb-true q n e)) ∙ found in
-          let here : length numbers ≡ i = cc in
-          ap (λ k. get_or (numbers ++ n ∷ []) k 0) (sym here) ∙ last ∙ sym (eqb-true q n e)
-      cases false e = let there : place q ≡ Some i = sym (next-old q e) ∙ found in before i (held q i there) ∙ numbered q i there
-
-  pub sized_more : length slots ≡ length numbers * 8 → length more ≡ 8 → length (slots ++ more) ≡ length (numbers ++ n ∷ []) * 8
-  sized_more size whole = omega (arith, length-append numbers (n ∷ []), length-append slots more)
-
-  pub marked_more : (recent : List ℕ) (k : ℕ) → length recent ≡ 8192 →
-      ((i : ℕ) → i < length numbers → 0 < get_or recent (get_or numbers i 0 % 8192) 0) → k ≡ n % 8192 →
-      (i : ℕ) → i < length (numbers ++ n ∷ []) →
-      0 < get_or (slice_set recent k (length numbers + 1)) (get_or (numbers ++ n ∷ []) i 0 % 8192) 0
-  marked_more recent k size marked at i within = cases (get_or (numbers ++ n ∷ []) i 0 % 8192 == k) refl
-    where
-      old : (get_or (numbers ++ n ∷ []) i 0 % 8192 ≡ k → ⊥) → 0 < get_or recent (get_or (numbers ++ n ∷ []) i 0 % 8192) 0
-      old apart = elim (cases_lt i (length numbers)) [
-        | inl less ↦ let here = marked i less in
-            let same = ap (λ (x : ℕ). get_or recent (x % 8192) 0) (before i less) in omega arith
-        | inr more ↦
-            let same : i ≡ length numbers = omega (arith, within, length-append numbers (n ∷ [])) in
-            absurd (apart (ap (λ (x : ℕ). get_or (numbers ++ n ∷ []) x 0 % 8192) same ∙ ap (λ (x : ℕ). x % 8192) last ∙ sym at))
-      ]
-
-      cases : (t : Bool) → (get_or (numbers ++ n ∷ []) i 0 % 8192 == k) ≡ t →
-          0 < get_or (slice_set recent k (length numbers + 1)) (get_or (numbers ++ n ∷ []) i 0 % 8192) 0
-      cases true test =
-          let same = eqb-true _ k test in
-          let is : get_or (slice_set recent k (length numbers + 1))
-          (get_or (numbers ++ n ∷ []) i 0 % 8192) 0 ≡ length numbers + 1 =
-          ap (λ (x : ℕ). get_or (slice_set recent k (length numbers + 1)) x 0) same
-          ∙ get_or-set_same recent k (length numbers + 1) 0 (omega arith) in
-          omega arith
-      cases false test =
-          let apart = eqb-false _ k test in
-          let is : get_or (slice_set recent k (length numbers + 1)) (get_or (numbers ++ n ∷ []) i 0 % 8192) 0
-          ≡ get_or recent (get_or (numbers ++ n ∷ []) i 0 % 8192) 0 =
-          get_or-set_other recent k _ (length numbers + 1) 0 apart in
-          let here = old apart in
-          omega arith
+    (held : (q i : ℕ) → place q ≡ Some i → i < length numbers) (absent : place n ≡ None)
+    (is : (q : ℕ) → next q ≡ (if q == n then Some (length numbers) else place q)) where
+  next-is : (q : ℕ) (t : Bool) → (q == n) ≡ t → next q ≡ (if t then Some (length numbers) else place q)
+  next-is q t test = is q ∙ ap (λ b. if b then Some (length numbers) else place q) test
 
   pub group_added : length slots ≡ length numbers * 8 → ((k : ℕ) → get_or more k None ≡ None) → (q : ℕ) →
       option_and_then (λ i. get_or (slots ++ more) (i * 8 + q % 8) None) (next (q / 8))
@@ -188,12 +146,12 @@ module _ (place next : ℕ → Option ℕ) (numbers : List ℕ) (slots more : Li
           option_and_then (λ i. get_or (slots ++ more) (i * 8 + q % 8) None) (next (q / 8))
           ≡ option_and_then (λ i. get_or slots (i * 8 + q % 8) None) (place (q / 8))
       cases true e =
-          ap (option_and_then (λ i. get_or (slots ++ more) (i * 8 + q % 8) None)) (next-new (q / 8) (eqb-true (q / 8) n e))
+          ap (option_and_then (λ i. get_or (slots ++ more) (i * 8 + q % 8) None)) (next-is (q / 8) true e)
           ∙ get_or-append_right slots more (length numbers * 8) (length numbers * 8 + q % 8) None size (omega arith)
           ∙ empty _
           ∙ sym (ap (option_and_then (λ i. get_or slots (i * 8 + q % 8) None)) (ap place (eqb-true (q / 8) n e) ∙ absent))
       cases false e =
-          ap (option_and_then (λ i. get_or (slots ++ more) (i * 8 + q % 8) None)) (next-old (q / 8) e) ∙ old (place (q / 8)) refl
+          ap (option_and_then (λ i. get_or (slots ++ more) (i * 8 + q % 8) None)) (next-is (q / 8) false e) ∙ old (place (q / 8)) refl
 
 pub byte_in-added : (old : OtherBytes) (index : PageIndex) (slots : List (Option OtherByte)) (n : ℕ)
     (more : List (Option OtherByte)) → place_of old.index n ≡ None →
@@ -202,7 +160,7 @@ pub byte_in-added : (old : OtherBytes) (index : PageIndex) (slots : List (Option
 unfolding byte_in
 byte_in-added old index slots n more absent is added empty q =
     rw added (group_added (place_of old.index)
-    (place_of index) old.numbers.items old.slots.items more n old.indexed old.held old.numbered absent is old.sized empty q)
+    (place_of index) old.numbers.items old.slots.items more n old.held absent is old.sized empty q)
 
 -- Runs that are cleared.
 

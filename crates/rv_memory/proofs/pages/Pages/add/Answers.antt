@@ -1,7 +1,8 @@
 use Rattle.std.proofs.Common.{◌≡◌, ◌∙◌, ◌++◌, ◌∷◌, [], ℕ, ◌*◌, Some, sym, ap, refl, rules, length}
 use Rattle.std.specs.Prelude.{IsOk, ◌==◌, if◌then◌else◌}
 use Rattle.rv_memory.specs.PageIndex.{place_of}
-use Rattle.rv_memory.proofs.PageBytes.{on_err, byte_in-same, byte_in-added, indexed_more, held_more, numbered_more, sized_more}
+use Rattle.rv_memory.proofs.OneMoreNumber.{indexed_more, held_more, numbered_more}
+use Rattle.rv_memory.proofs.PageBytes.{on_err, byte_in-same, byte_in-added, sized_more}
 use Rattle.rv_memory.proofs.pages.Pages.add.Goals as goal
 
 pub returns-in_err-reserve-clause-kept : goal.returns-in_err-reserve-clause-kept
@@ -35,11 +36,11 @@ invariant_of-self-2 c =
     let new = place_of c.insert.new.self in
     record {
       sized = ap length bytes
-          ∙ sized_more old new xs p.bytes.items page n p.indexed p.held p.numbered c.requires.new is p.sized c.requires.whole
+          ∙ sized_more old new xs p.bytes.items page n p.held is p.sized c.requires.whole
           ∙ ap (λ ys. length ys * 4096) (sym numbers);
-      indexed = rw numbers (indexed_more old new xs p.bytes.items page n p.indexed p.held p.numbered c.requires.new is);
-      held = rw numbers (held_more old new xs p.bytes.items page n p.indexed p.held p.numbered c.requires.new is);
-      numbered = rw numbers (numbered_more old new xs p.bytes.items page n p.indexed p.held p.numbered c.requires.new is);
+      indexed = rw numbers (indexed_more old new xs n p.indexed p.held p.numbered c.requires.new is);
+      held = rw numbers (held_more old new xs n p.indexed p.held p.numbered c.requires.new is);
+      numbered = rw numbers (numbered_more old new xs n p.indexed p.held p.numbered c.requires.new is);
     }
 
 pub returns-clause-added : goal.returns-clause-added

@@ -4,8 +4,8 @@ use Rattle.std.specs.Prelude.{IsOk, ◌==◌, if◌then◌else◌}
 use Rattle.std.proofs.lemmas.List.{length-set}
 use Rattle.rv_memory.specs.PageIndex.{place_of}
 use Rattle.sym_machine.specs.declared.other_bytes.OtherByte.{OtherByte}
-use Rattle.sym_machine.proofs.Groups.{byte_in-same, byte_in-added, indexed_more, held_more, numbered_more, sized_more}
-use Rattle.sym_machine.proofs.Groups.{marked_more}
+use Rattle.rv_memory.proofs.OneMoreNumber.{indexed_more, held_more, numbered_more}
+use Rattle.sym_machine.proofs.Groups.{byte_in-same, byte_in-added, sized_more, marked_more}
 use Rattle.sym_machine.proofs.other_bytes.OtherBytes.add.Goals as goal
 
 pub returns-in_err-insert-clause-kept : goal.returns-in_err-insert-clause-kept
@@ -44,14 +44,13 @@ invariant_of-self-2 c =
     let new = place_of c.insert.new.self in
     record {
       sized =
-          ap length slots ∙ sized_more old new xs p.slots.items nones n p.indexed p.held p.numbered c.requires.new is p.sized refl
+          ap length slots ∙ sized_more xs p.slots.items nones n p.sized refl
           ∙ ap (λ ys. length ys * 8) (sym numbers);
-      indexed = rw numbers (indexed_more old new xs p.slots.items nones n p.indexed p.held p.numbered c.requires.new is);
-      held = rw numbers (held_more old new xs p.slots.items nones n p.indexed p.held p.numbered c.requires.new is);
-      numbered = rw numbers (numbered_more old new xs p.slots.items nones n p.indexed p.held p.numbered c.requires.new is);
+      indexed = rw numbers (indexed_more old new xs n p.indexed p.held p.numbered c.requires.new is);
+      held = rw numbers (held_more old new xs n p.indexed p.held p.numbered c.requires.new is);
+      numbered = rw numbers (numbered_more old new xs n p.indexed p.held p.numbered c.requires.new is);
       at_hand = length-set p.recent.items (n % 8192) (c.len-place.result + 1) ∙ p.at_hand;
-      marked = rw (numbers, size) (marked_more old new xs p.slots.items nones n p.indexed p.held p.numbered c.requires.new is
-          p.recent.items (n % 8192) p.at_hand p.marked refl);
+      marked = rw (numbers, size) (marked_more xs p.recent.items n (n % 8192) p.at_hand p.marked refl);
     }
 
 pub returns-clause-kept : goal.returns-clause-kept
