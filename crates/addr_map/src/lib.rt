@@ -1,7 +1,7 @@
 //! The map from the instructions of the input to their new code.
 #![tactic(auto)]
 
-pub mod addr_map;
+mod addr_map;
 mod column;
 mod fields;
 mod new_order;

@@ -1,13 +1,13 @@
 //! The order of blocks within their functions: chains of blocks that often follow one another, hot ones first.
 #![tactic(auto)]
 
-pub mod edge_counts;
-pub mod functions;
-pub mod hot_chains;
-pub mod layout;
-pub mod links;
-pub mod parts;
-pub mod walks;
+mod edge_counts;
+mod functions;
+mod hot_chains;
+mod layout;
+mod links;
+mod parts;
+mod walks;
 
 ghost use Rattle.block_layout.specs.Laws.{LinksLaw, PartsLaw};
 

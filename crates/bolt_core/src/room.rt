@@ -7,8 +7,8 @@ ghost use Rattle.elf_write.specs.Room.{is_tight};
 ghost use Rattle.bolt_core.specs.internal.RoomRefusals.{IsNoRoom};
 
 use elf_image::Elf;
-use elf_write::area::area_start_of;
-use elf_write::{is_tight, need, no_room};
+
+use elf_write::{area_start_of, is_tight, need, no_room};
 use rb_bytes::fault::{NoMemory, Refusal};
 use rv_code::{Block, Func};
 use std::alloc::Global;

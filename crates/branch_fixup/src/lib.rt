@@ -2,13 +2,13 @@
 #![tactic(auto)]
 
 pub mod block_insts;
-pub mod endings;
-pub mod ends;
-pub mod fixup;
-pub mod growth;
+mod endings;
+mod ends;
+mod fixup;
+mod growth;
 pub mod lengths;
-pub mod lookup;
-pub mod settling;
-pub mod spans;
+mod lookup;
+mod settling;
+mod spans;
 
 pub use fixup::forms;

@@ -1,10 +1,10 @@
 //! Basic blocks of functions, and the edges between them.
 #![tactic(auto)]
 
-pub mod block_lists;
-pub mod edge_lists;
-pub mod ends;
-pub mod named;
+mod block_lists;
+mod edge_lists;
+mod ends;
+mod named;
 
 pub use block_lists::blocks;
 pub use edge_lists::edges;

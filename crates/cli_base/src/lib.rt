@@ -2,9 +2,9 @@
 #![tactic(auto)]
 
 pub mod lines;
-pub mod printing;
-pub mod reading;
-pub mod refusal;
+mod printing;
+mod reading;
+mod refusal;
 pub mod status;
 
 pub use printing::print_line;

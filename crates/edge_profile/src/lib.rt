@@ -1,14 +1,14 @@
 //! Profiles of a program's runs: how often control went from one instruction to another, read from text.
 #![tactic(auto)]
 
-pub mod fields;
-pub mod function_names;
-pub mod lines;
+mod fields;
+mod function_names;
+mod lines;
 pub mod pairs;
 pub mod places;
-pub mod profile;
-pub mod reading;
-pub mod split;
+mod profile;
+mod reading;
+mod split;
 pub mod weights;
 
 pub use profile::Profile;

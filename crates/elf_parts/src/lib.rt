@@ -2,7 +2,7 @@
 //! added behind them.
 #![tactic(auto)]
 
-pub mod assembly;
+mod assembly;
 pub mod number_at;
 pub mod parts;
 pub mod patch;

@@ -2,7 +2,7 @@
 //! finds them.
 #![tactic(auto)]
 
-pub mod chain;
-pub mod tag;
+mod chain;
+mod tag;
 
 pub use chain::{Frame, frames};

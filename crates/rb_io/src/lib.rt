@@ -3,18 +3,18 @@
 
 mod calls;
 mod copy;
-pub mod files;
-pub mod host_files;
-pub mod host_streams;
-pub mod mem_files;
-pub mod mem_sink;
-pub mod mem_source;
-pub mod no_memory;
-pub mod print;
-pub mod sink;
+mod files;
+mod host_files;
+mod host_streams;
+mod mem_files;
+mod mem_sink;
+mod mem_source;
+mod no_memory;
+mod print;
+mod sink;
 mod slot;
 mod slots;
-pub mod source;
+mod source;
 
 pub use files::{Files, ReadAll, Wrote};
 pub use host_files::HostFiles;

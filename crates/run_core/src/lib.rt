@@ -2,6 +2,6 @@
 #![tactic(auto)]
 
 pub mod calls;
-pub mod input_end;
+mod input_end;
 
 pub use input_end::InputEnd;

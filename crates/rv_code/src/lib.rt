@@ -12,8 +12,8 @@ pub mod layout;
 pub mod op;
 pub mod opcode;
 pub mod placed;
-pub mod register;
-pub mod value;
+mod register;
+mod value;
 pub mod worst_sizes;
 
 pub use action::{Action, Extension, Operand, Test};

@@ -1,15 +1,15 @@
 //! The byte machine: runs a file by the instruction set's rules, one step at a time.
 #![tactic(auto)]
 
-pub mod calls;
-pub mod execute;
-pub mod fetch;
+mod calls;
+mod execute;
+mod fetch;
 pub mod known;
-pub mod load;
+mod load;
 pub mod machine;
-pub mod run;
-pub mod step;
-pub mod stepped;
+mod run;
+mod step;
+mod stepped;
 
 pub use machine::Machine;
 pub use run::Ran;

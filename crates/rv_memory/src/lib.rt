@@ -1,14 +1,14 @@
 //! A program's memory: what it wrote, over what its file loads, and the stack that it starts with.
 #![tactic(auto)]
 
-pub mod bytes;
-pub mod code_range;
-pub mod image;
+mod bytes;
+mod code_range;
+mod image;
 pub mod memory;
-pub mod page_group;
+mod page_group;
 pub mod page_index;
-pub mod pages;
-pub mod program_break;
+mod pages;
+mod program_break;
 pub mod rights;
 pub mod stack;
 

@@ -3,7 +3,7 @@
 
 pub mod bytes;
 pub mod code;
-pub mod error;
+mod error;
 pub mod file;
 pub mod headers;
 pub mod inst;
