@@ -213,8 +213,15 @@ is_made funcs blocks order base g slice ts now zs forms_now fs e d h made grown 
     }
 
 -- what a slice of a vector leaves in it
-pub seam : {X : Type 0} (n : ℕ) (xs ys : List X) → length xs ≡ n → take n (xs ++ ys) ≡ xs
+seam : {X : Type 0} (n : ℕ) (xs ys : List X) → length xs ≡ n → take n (xs ++ ys) ≡ xs
 seam zero [] ys e = refl
 seam zero (x ∷ xs) ys e = absurd (omega (arith, e))
 seam (suc n) [] ys e = absurd (omega (arith, e))
 seam (suc n) (x ∷ xs) ys e = ap (λ (l : List _). x ∷ l) (seam n xs ys (omega (arith, e)))
+
+-- as many forms as there were stand in their vector alone
+pub kept_forms : (order slice : List ℕ) (fs rest : List Form) (len : ℕ) → length fs ≡ length order → len ≡ length slice →
+    slice ≡ order → take len (fs ++ rest) ≡ fs
+kept_forms order slice fs rest len count old same =
+    let as_many = ap length same in
+    seam len fs rest (omega (arith, count, old, as_many))

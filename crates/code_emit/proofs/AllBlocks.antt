@@ -23,7 +23,7 @@ use Rattle.branch_fixup.proofs.Planned.{planned, planned_length}
 use Rattle.rb_bytes.proofs.ListLemmas.{all_of}
 use Rattle.move_law.specs.Rewrite.{Goes, Rewrite}
 use Rattle.move_law.specs.FaithfulRewrite.{GoesOn, KeepsInst}
-use Rattle.code_emit.specs.Bytes.{Adds, AllCanBeEncoded}
+use Rattle.code_emit.specs.Bytes.{Adds, AllCanBeEncoded, CanBePut}
 use Rattle.code_emit.specs.Inputs.{AreLow, AreMapped, CanMove, HasLowTargets, HaveMap}
 use Rattle.code_emit.specs.NewInsts.{made_from}
 use Rattle.code_emit.specs.Output.{Puts}
@@ -45,9 +45,7 @@ pub record IsGiven (funcs : List Func) (blocks : List Block) (order : List ℕ) 
 -- a block whose last instruction is in a form, put where others end
 pub record IsPut (lines : List Span) (s : Strip) (f : Form) (end here : ℕ) : Type 0 where
   pub here_is : here ≡ end
-  pub placed : PlacedFrom (new lines) here (pieces_of_strip s f)
-  pub can : AllCanBeEncoded (made_from (new lines) here (pieces_of_strip s f))
-  pub low : end_from here (pieces_of_strip s f) < 2 ^ 61
+  pub fits : CanBePut (new lines) here (pieces_of_strip s f)
 
 -- a function of addresses may be another one that gives the same
 made_same : (f g : ℕ → ℕ) (P : (ℕ → ℕ) → Type 0) → ((t : ℕ) → f t ≡ g t) → P f → P g
@@ -111,9 +109,11 @@ module _ (funcs : List Func) (blocks : List Block) (order : List ℕ) (fs : List
       put_after start n x is size adds =
           subst (λ (a : ℕ). IsPut lines s (get_or fs k form.Plain) (end_from base before) a) (sym here) (record {
             here_is = refl;
-            placed = block_placed (new lines) base ss fs k s at less are_placed;
-            can = block_can (new lines) base ss fs k s at less can_stand;
-            low = let x = more in let y = part in let z = end in omega (arith, x, y, z);
+            fits = record {
+              placed = block_placed (new lines) base ss fs k s at less are_placed;
+              can = block_can (new lines) base ss fs k s at less can_stand;
+              low = let x = more in let y = part in let z = end in omega (arith, x, y, z);
+            };
           })
         where
           here : start + n ≡ end_from base before

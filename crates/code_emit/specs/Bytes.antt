@@ -1,5 +1,5 @@
 -- Bytes of the new code, and which instructions stand in them.
-use Rattle.std.specs.Prelude.{◌≡◌, ℕ, ◌+◌, ◌*◌, ◌/◌, ◌%◌, ◌<◌, ◌≤◌, ◌==◌, if◌then◌else◌, List, [], ◌∷◌, Option, Some}
+use Rattle.std.specs.Prelude.{◌≡◌, ℕ, ◌+◌, ◌*◌, ◌/◌, ◌%◌, ◌^◌, ◌<◌, ◌≤◌, ◌==◌, if◌then◌else◌, List, [], ◌∷◌, Option, Some}
 use Rattle.std.specs.Prelude.{length, slice_index}
 use Rattle.rv_code.specs.declared.inst.Inst.{Inst}
 use Rattle.rv_code.specs.declared.placed.Width.{Width}
@@ -7,7 +7,8 @@ use Rattle.rv_code.specs.isa.InstBytes.{Decodes}
 use Rattle.rv_code.specs.declared.placed.Width.TheVariants as width
 use Rattle.rv_encode.specs.InstWords.{bytes}
 use Rattle.rv_encode.specs.FittingOperands.{Fits}
-use Rattle.code_emit.specs.NewInsts.{Made}
+use Rattle.branch_fixup.specs.Pieces.{Piece, PlacedFrom, end_from}
+use Rattle.code_emit.specs.NewInsts.{Made, made_from}
 
 -- the bytes of a halfword, and of a word
 abbrev pub half_bytes : ℕ → List ℕ
@@ -57,3 +58,9 @@ pub record CanBeEncoded (m : Made) : Type 0 where
 abbrev pub AllCanBeEncoded : List Made → Type 0
 AllCanBeEncoded [] = Unit {0}
 AllCanBeEncoded (m ∷ ms) = CanBeEncoded m × AllCanBeEncoded ms
+
+-- pieces from an address on: they stand where they were placed, can be encoded there, and end far below the limit
+pub record CanBePut (new : ℕ → ℕ) (at : ℕ) (pieces : List Piece) : Type 0 where
+  pub placed : PlacedFrom new at pieces
+  pub can : AllCanBeEncoded (made_from new at pieces)
+  pub low : end_from at pieces < 2 ^ 61

@@ -5,7 +5,7 @@ ghost use Rattle.branch_fixup.specs.BlockInsts.{seen};
 ghost use Rattle.branch_fixup.specs.Pieces.{PlacedFrom, as_it_is, end_from};
 ghost use Rattle.branch_fixup.specs.Strips.{insts_in, pieces_of_strip};
 ghost use Rattle.code_emit.specs.NewInsts.{made_from};
-ghost use Rattle.code_emit.specs.Bytes.{Adds, AllCanBeEncoded};
+ghost use Rattle.code_emit.specs.Bytes.{Adds, AllCanBeEncoded, CanBePut};
 ghost use Rattle.code_emit.specs.Inputs.{AreLow, HasLowTargets};
 
 use crate::piece::put_piece;
@@ -45,10 +45,8 @@ pub(crate) fn put_block(
     block: &BlockInsts,
     form: Form,
 ) -> Result<(), AllocError>
-    requires placed { PlacedFrom (new moved.now) at (pieces_of_strip (seen block.now) form) }
-    requires can { AllCanBeEncoded (made_from (new moved.now) at (pieces_of_strip (seen block.now) form)) }
+    requires fits { CanBePut (new moved.now) at (pieces_of_strip (seen block.now) form) }
     requires lows { AreLow moved.now }
-    requires low { end_from at (pieces_of_strip (seen block.now) form) < 2 ^ 61 }
     requires targets { All HasLowTargets (insts_in (seen block.now)) }
     ensures adds { OnOk result
         (Adds code.old.items code.new.items (made_from (new moved.now) at (pieces_of_strip (seen block.now) form))) }

@@ -18,15 +18,15 @@ use Rattle.code_emit.proofs.block.put_block.Goals as goal
 pub put_inner-requires-clause-placed : goal.put_inner-requires-clause-placed
 put_inner-requires-clause-placed c =
     (split_placed (new c.args.moved.now) c.args.at (map as_it_is c.args.block.now.inner.now)
-    (record { placed = c.args.block.now.last; form = c.args.form } ∷ []) c.requires.placed).0
+    (record { placed = c.args.block.now.last; form = c.args.form } ∷ []) c.requires.fits.placed).0
 
 pub put_inner-requires-clause-can : goal.put_inner-requires-clause-can
-put_inner-requires-clause-can c = front_can (new c.args.moved.now) c.args.at (seen c.args.block.now) c.args.form c.requires.can
+put_inner-requires-clause-can c = front_can (new c.args.moved.now) c.args.at (seen c.args.block.now) c.args.form c.requires.fits.can
 
 pub put_inner-requires-clause-low : goal.put_inner-requires-clause-low
 put_inner-requires-clause-low c =
     let e = inner_ends c.args.at (seen c.args.block.now) c.args.form in
-    let low = c.requires.low in
+    let low = c.requires.fits.low in
     omega (arith, e, low)
 
 pub put_inner-requires-clause-targets : goal.put_inner-requires-clause-targets
@@ -36,18 +36,18 @@ pub put_piece-requires-clause-here : goal.put_piece-requires-clause-here
 put_piece-requires-clause-here c =
     c.in_ok-last_at.ensures.end
     ∙ sym (split_placed (new c.args.moved.now) c.args.at (map as_it_is c.args.block.now.inner.now)
-    (record { placed = c.args.block.now.last; form = c.args.form } ∷ []) c.requires.placed).1.0
+    (record { placed = c.args.block.now.last; form = c.args.form } ∷ []) c.requires.fits.placed).1.0
 
 pub put_piece-requires-clause-can : goal.put_piece-requires-clause-can
 put_piece-requires-clause-can c =
     subst (λ (n : ℕ). AllCanBeEncoded (made (new c.args.moved.now) n c.args.block.now.last c.args.form))
     (sym c.in_ok-last_at.ensures.end)
-    (last_can (new c.args.moved.now) c.args.at (seen c.args.block.now) c.args.form c.requires.can)
+    (last_can (new c.args.moved.now) c.args.at (seen c.args.block.now) c.args.form c.requires.fits.can)
 
 pub put_piece-requires-clause-low : goal.put_piece-requires-clause-low
 put_piece-requires-clause-low c =
     let e = inner_ends c.args.at (seen c.args.block.now) c.args.form in
-    let low = c.requires.low in
+    let low = c.requires.fits.low in
     let here = c.in_ok-last_at.ensures.end in
     omega (arith, e, low, here)
 

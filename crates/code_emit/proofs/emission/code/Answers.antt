@@ -20,11 +20,11 @@ overflow_add-at c =
     (c.loop-k.invariant q.mapped.base q.mapped.mapped) in
     let above = end_above (c.code_start-start.result + c.len.result)
     (pieces_of_strip (seen c.planned-block.result) (get_or c.args.forms.now c.loop-k.k form.Plain)) in
-    let low = put.low in
+    let low = put.fits.low in
     omega (arith, above, low)
 
-pub put_block-requires-clause-placed : goal.put_block-requires-clause-placed
-put_block-requires-clause-placed c =
+pub put_block-requires-clause-fits : goal.put_block-requires-clause-fits
+put_block-requires-clause-fits c =
     let q = c.requires in
     let g : IsGiven c.args.funcs.now c.args.blocks.now c.args.order.now c.args.forms.now c.args.moved.now =
     record { laid = q.laid; direct = q.direct; blocks_of = q.blocks; perm = q.order; insts = q.insts; mapped = q.mapped } in
@@ -33,19 +33,7 @@ put_block-requires-clause-placed c =
     q.mapped.base q.mapped.mapped c.loop-k.k (seen c.planned-block.result) c.planned-block.ensures (omega arith)
     c.code_start-start.result c.len.result c.loop-k.code.items c.code_start-start.ensures size
     (c.loop-k.invariant q.mapped.base q.mapped.mapped) in
-    put.placed
-
-pub put_block-requires-clause-can : goal.put_block-requires-clause-can
-put_block-requires-clause-can c =
-    let q = c.requires in
-    let g : IsGiven c.args.funcs.now c.args.blocks.now c.args.order.now c.args.forms.now c.args.moved.now =
-    record { laid = q.laid; direct = q.direct; blocks_of = q.blocks; perm = q.order; insts = q.insts; mapped = q.mapped } in
-    let size : c.len.result ≡ length c.loop-k.code.items = search rules in
-    let put = put_after c.args.funcs.now c.args.blocks.now c.args.order.now c.args.forms.now c.args.moved.now g
-    q.mapped.base q.mapped.mapped c.loop-k.k (seen c.planned-block.result) c.planned-block.ensures (omega arith)
-    c.code_start-start.result c.len.result c.loop-k.code.items c.code_start-start.ensures size
-    (c.loop-k.invariant q.mapped.base q.mapped.mapped) in
-    put.can
+    put.fits
 
 pub put_block-requires-clause-lows : goal.put_block-requires-clause-lows
 put_block-requires-clause-lows c =
@@ -53,18 +41,6 @@ put_block-requires-clause-lows c =
     let g : IsGiven c.args.funcs.now c.args.blocks.now c.args.order.now c.args.forms.now c.args.moved.now =
     record { laid = q.laid; direct = q.direct; blocks_of = q.blocks; perm = q.order; insts = q.insts; mapped = q.mapped } in
     lows c.args.funcs.now c.args.blocks.now c.args.order.now c.args.forms.now c.args.moved.now g
-
-pub put_block-requires-clause-low : goal.put_block-requires-clause-low
-put_block-requires-clause-low c =
-    let q = c.requires in
-    let g : IsGiven c.args.funcs.now c.args.blocks.now c.args.order.now c.args.forms.now c.args.moved.now =
-    record { laid = q.laid; direct = q.direct; blocks_of = q.blocks; perm = q.order; insts = q.insts; mapped = q.mapped } in
-    let size : c.len.result ≡ length c.loop-k.code.items = search rules in
-    let put = put_after c.args.funcs.now c.args.blocks.now c.args.order.now c.args.forms.now c.args.moved.now g
-    q.mapped.base q.mapped.mapped c.loop-k.k (seen c.planned-block.result) c.planned-block.ensures (omega arith)
-    c.code_start-start.result c.len.result c.loop-k.code.items c.code_start-start.ensures size
-    (c.loop-k.invariant q.mapped.base q.mapped.mapped) in
-    put.low
 
 pub put_block-requires-clause-targets : goal.put_block-requires-clause-targets
 put_block-requires-clause-targets c =
