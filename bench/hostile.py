@@ -165,6 +165,19 @@ def relocation_ends(size):
     return headers_over(size, SHT_RELA, relocation(BASE + TEXT, R_RISCV_RELAX) * (size // 2 // 24), 24, step=24)
 
 
+def relocation_targets(size):
+    """As many sections over the code as tables over one list of relocations: each table is for a section of its own."""
+    file = File(RETURN)
+    file.add_symbols([(0, BASE + TEXT, 4)], b"\0")
+    names = len(file.headers) - 1
+    table = relocation(BASE + TEXT, R_RISCV_RELAX) * (size // 2 // 24)
+    offset = file.put(table)
+    for _ in range(min(size // 2 // 128, MOST_SECTIONS // 2)):
+        file.headers.append(section(0, SHT_PROGBITS, 2, BASE + TEXT, TEXT, len(RETURN)))
+        file.add_header(SHT_RELA, offset, len(table), link=names, info=len(file.headers) - 1, entsize=24)
+    return file.bytes(), b""
+
+
 def symbol_headers(size):
     return headers_over(size, SHT_SYMTAB, symbol(0, BASE + TEXT, 4) * (size // 2 // 24), 24)
 
@@ -181,6 +194,7 @@ KINDS = {
     "section-names": section_names,
     "relocation-headers": relocation_headers,
     "relocation-ends": relocation_ends,
+    "relocation-targets": relocation_targets,
     "symbol-headers": symbol_headers,
     "text-headers": text_headers,
 }

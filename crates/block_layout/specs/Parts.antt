@@ -16,7 +16,7 @@ use Rattle.block_layout.specs.Links.{Links, IsChain, AreLinks}
 abbrev pub IsOf : List Block → ℕ → ℕ → Type 0
 IsOf blocks f k = IsSomeAnd (slice_get blocks k) (λ b. b.func ≡ f)
 
--- it is the first block of its function: none before it is of that one
+-- a block is the first of its function: none before it is of that one
 abbrev pub IsFirstBlock : List Block → ℕ → Type 0
 IsFirstBlock blocks k = IsSomeAnd (slice_get blocks k) (λ b. (j : ℕ) → j < k → IsOf blocks b.func j → ⊥)
 

@@ -15,7 +15,7 @@ pub record AreBetween (n : ℕ) (p : Links) : Type 0 where
   pub inside : (s t : ℕ) → p.next s ≡ Some t → (s < n) × (t < n)
   pub back : (s t : ℕ) → p.next s ≡ Some t → p.prev t ≡ Some s
 
--- such links, kept as lists
+-- links between blocks, kept as lists
 pub record AreKept (links : ChainLinks) : Type 0 where
   pub lengths : length links.prev.items ≡ length links.next.items
   pub between : AreBetween (length links.next.items) (links_of links)

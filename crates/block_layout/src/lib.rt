@@ -11,7 +11,7 @@ mod walks;
 
 ghost use Rattle.block_layout.specs.Laws.{LinksLaw, PartsLaw};
 
-pub use layout::chains;
+pub use layout::{chains, chains_by};
 
 /// A profile leaves no choice of links: whatever meets `AreLinks` for the same edges and counts has the same neighbours for
 /// each block.

@@ -3,7 +3,13 @@ pub mod BlockLists
 pub mod LaidOut
 pub mod LineLists
 mod Merging
+mod KnownValues
+mod NameEnding
+mod NameIndices
+mod NameOrder
 mod NameTables
 mod Partitions
 mod Saying
+mod SymbolTables
+mod TableIndices
 mod Weighing

@@ -3,13 +3,12 @@ use Rattle.std.proofs.Common.{◌≡◌, ◌<◌, ◌+◌, ◌∙◌, ℕ, Bool,
 use Rattle.std.proofs.Common.{filter, length, get_or, take}
 use Rattle.std.proofs.lemmas.List.{take_more, append-nil, map-append}
 use Rattle.std.proofs.lemmas.List.Elements.{filter-append}
-use Rattle.std.specs.Cmp.Lexicographic.{bytes_decides}
 use Rattle.std.specs.Prelude.{◌==◌, ◌&&◌, bytes_eq, if◌then◌else◌}
 use Rattle.std.specs.List.{list_all}
 use Rattle.elf_image.specs.declared.symbol.Symbol.{Symbol}
 use Rattle.elf_image.specs.file.Cuts.{names_function}
 use Rattle.edge_profile.specs.Names.{symbol_values}
-use Rattle.edge_profile.specs.FunctionNames.{Values, known_by, known_of, next_known, has_length}
+use Rattle.edge_profile.specs.FunctionNames.{known_by, next_known}
 
 list_all-push : (p : ℕ → Bool) (vs : List ℕ) (v : ℕ) → list_all p (vs ++ v ∷ []) ≡ (list_all p vs && p v)
 list_all-push p [] v = &&_true (p v)
@@ -68,47 +67,3 @@ module _ (symbols : List Symbol) (i : ℕ) (d : Symbol) (within : i < length sym
           (known_by (symbol_values (take i symbols) name))
       at true = known_by-push (symbol_values (take i symbols) name) (get_or symbols i d).value
       at false = ap known_by (append-nil (symbol_values (take i symbols) name))
-
--- a table of what is known of names, with one function's symbol more
-pub known-more : (symbols : List Symbol) (i : ℕ) (d : Symbol) → i < length symbols
-    → names_function (get_or symbols i d) ≡ true → (lengths : List Bool) → (old new : Values)
-    → ((name : List ℕ) → has_length lengths name ≡ true → known_of old name ≡ known_by (symbol_values (take i symbols) name))
-    → ((name : List ℕ) → known_of new name ≡ (if bytes_eq (get_or symbols i d).name.now name
-    then Some (next_known (known_of old (get_or symbols i d).name.now) (get_or symbols i d).value) else known_of old name))
-    → (name : List ℕ) → has_length lengths name ≡ true
-    → known_of new name ≡ known_by (symbol_values (take (i + 1) symbols) name)
-known-more symbols i d within function lengths old new was is name wanted =
-    is name ∙ at (bytes_eq own name) refl ∙ sym (known_values symbols i d within name function)
-  where
-    own : List ℕ
-    own = (get_or symbols i d).name.now
-
-    at : (b : Bool) → bytes_eq own name ≡ b
-        → cond b (Some (next_known (known_of old own) (get_or symbols i d).value)) (known_of old name)
-        ≡ cond b (Some (next_known (known_by (symbol_values (take i symbols) name)) (get_or symbols i d).value))
-        (known_by (symbol_values (take i symbols) name))
-    at true same =
-        let names : own ≡ name = (bytes_decides own name).0 same in
-        ap (λ known. Some (next_known known (get_or symbols i d).value)) (ap (known_of old) names ∙ was name wanted)
-    at false other = was name wanted
-
--- A name of another length than is asked for is none that is.
-pub values-unread : (symbols : List Symbol) (i : ℕ) (d : Symbol) → i < length symbols
-    → names_function (get_or symbols i d) ≡ true → (lengths : List Bool)
-    → has_length lengths (get_or symbols i d).name.now ≡ false → (name : List ℕ) → has_length lengths name ≡ true
-    → known_by (symbol_values (take (i + 1) symbols) name) ≡ known_by (symbol_values (take i symbols) name)
-values-unread symbols i d within function lengths unread name wanted =
-    known_values symbols i d within name function ∙ at (bytes_eq own name) refl
-  where
-    own : List ℕ
-    own = (get_or symbols i d).name.now
-
-    at : (b : Bool) → bytes_eq own name ≡ b
-        → cond b (Some (next_known (known_by (symbol_values (take i symbols) name)) (get_or symbols i d).value))
-        (known_by (symbol_values (take i symbols) name))
-        ≡ known_by (symbol_values (take i symbols) name)
-    at true same =
-        let names : own ≡ name = (bytes_decides own name).0 same in
-        let clash : true ≡ false = sym wanted ∙ sym (ap (has_length lengths) names) ∙ unread in
-        absurd (cc)
-    at false other = refl

@@ -1,12 +1,11 @@
 -- What a table of names holds.
-use Rattle.std.specs.Prelude.{◌≡◌, ℕ, ◌==◌, ◌&&◌, nat_lt, Bool, true, false, List, [], ◌∷◌, Option, Some, None, length}
-use Rattle.std.specs.Prelude.{if◌then◌else◌, slice_index_or, bytes_eq}
+use Rattle.std.specs.Prelude.{◌≡◌, ℕ, ◌==◌, List, [], ◌∷◌, Option, Some, None, if◌then◌else◌, bytes_eq}
 use Rattle.std.specs.declared.hash.FoldHasher.{FoldHasher}
 use Rattle.std.specs.declared.hash.BuildHasherDefault.{BuildHasherDefault}
 use denote.Ref.{Bor}
 use Rattle.indexmap.specs.IndexMap.{IndexMap, get_by}
 use Rattle.elf_image.specs.declared.symbol.Symbol.{Symbol}
-use Rattle.edge_profile.specs.Names.{symbol_values, only_value}
+use Rattle.edge_profile.specs.Names.{only_value, named_value}
 use Rattle.edge_profile.specs.declared.function_names.FunctionNames.{FunctionNames}
 
 -- values by names; None at a name of several values
@@ -28,12 +27,12 @@ next_known None v = Some v
 next_known (Some None) v = None
 next_known (Some (Some w)) v = if v == w then Some w else None
 
--- a name has one of the lengths that are marked
-abbrev pub has_length : List Bool → List ℕ → Bool
-has_length lengths name = nat_lt (length name) (length lengths) && slice_index_or lengths (length name) false
+-- the values of some names
+abbrev pub AreValues : List Symbol → Values → Type 0
+AreValues symbols values = (name : List ℕ) (value : Option ℕ) → known_of values name ≡ Some value →
+    value ≡ named_value symbols name
 
--- what is known of the names of these lengths; all others are looked for among the symbols
+-- the values of names that are asked for; all others are looked for among the symbols
 pub record AreNamesOf (symbols : List Symbol) (names : FunctionNames) : Type 0 where
   pub symbols_are : names.symbols.now ≡ symbols
-  pub values_are : (name : List ℕ) → has_length names.lengths.items name ≡ true →
-      known_of names.values name ≡ known_by (symbol_values symbols name)
+  pub values_are : AreValues symbols names.values

@@ -3,8 +3,10 @@ pub mod PairCounts
 pub mod Fields
 pub mod FunctionNames
 pub mod Grammar
+pub mod NameEnds
 pub mod Names
 pub mod Pairs
 pub mod Profile
 pub mod ReadLines
+pub mod SymbolValues
 pub mod Weights

@@ -1,15 +1,20 @@
 // What names of functions stand for.
-ghost use Rattle.std.specs.Prelude.{◌≡◌, ◌+◌, List, ℕ, Some, true, OnOk, IfOk, bytes_eq, if◌then◌else◌};
+ghost use Rattle.std.specs.Prelude.{◌≡◌, ◌+◌, List, ℕ, Some, OnOk, IfOk, IfSome};
 ghost use Rattle.elf_image.specs.declared.symbol.Symbol.{Symbol};
+ghost use Rattle.elf_image.specs.faults.Truncation.{IsReadable};
+ghost use Rattle.elf_image.specs.file.ParsedFile.{IsElfOf};
 ghost use Rattle.rv_code.specs.layout.FunctionLists.{AreLaidOut};
 ghost use Rattle.edge_profile.specs.Grammar.{short_hex_number};
-ghost use Rattle.edge_profile.specs.Names.{symbol_values, named_value, value_of_name, function_start, code_address, address_at};
+ghost use Rattle.edge_profile.specs.Names.{named_value, value_of_name, function_start, code_address, address_at};
 ghost use Rattle.edge_profile.specs.Fields.{place_read};
-ghost use Rattle.edge_profile.specs.FunctionNames.{known_of, known_by, next_known, has_length, AreNamesOf};
+ghost use Rattle.edge_profile.specs.FunctionNames.{next_known, AreValues, AreNamesOf};
+ghost use Rattle.edge_profile.specs.SymbolValues.{AreKnown};
 
 use crate::fields::Place;
+use crate::name_ends::NameEnds;
 use crate::places::{starts_function, starts_instruction};
-use elf_image::Symbol;
+use crate::symbol_values::known_values;
+use elf_image::{Elf, Symbol};
 use indexmap::IndexMap;
 use rb_bytes::fault::NoMemory;
 use rb_bytes::number::hex_number;
@@ -17,32 +22,33 @@ use rv_code::Func;
 use std::alloc::Global;
 
 /// The values of functions' symbols by their names. Names may be ends of one text, so many bytes in a small file: those
-/// that are as long as no name that is asked for aren't read.
+/// that aren't asked for aren't read, and the others from their common ends.
 #[derive(Drop)]
-pub struct FunctionNames<'list, 'file> {
+pub struct FunctionNames<'list, 'file, 'name> {
     symbols: &'list [Symbol<'file>],
-    // For each length, whether names of it are in `values`.
-    lengths: Vec<bool>,
-    // None at a name of several values.
-    values: IndexMap<&'file [u8], Option<u64>>,
+    // Of the names that are asked for and stand in the file: None at a name of several values, or of none.
+    values: IndexMap<&'name [u8], Option<u64>>,
 }
 
-impl<'list, 'file> FunctionNames<'list, 'file> {
+impl<'list, 'file, 'name> FunctionNames<'list, 'file, 'name> {
     ghost use Rattle.std.specs.Prelude.{◌≡◌, ℕ, List, IfOk};
+    ghost use Rattle.elf_image.specs.faults.Truncation.{IsReadable};
+    ghost use Rattle.elf_image.specs.file.ParsedFile.{IsElfOf};
     ghost use Rattle.edge_profile.specs.FunctionNames.{AreNamesOf};
 
-    /// The names of a file's functions, of which those of these lengths are asked for often.
+    /// The names of a file's functions, of which these are asked for often.
     pub fn new(
         alloc: Global,
-        symbols: &'list [Symbol<'file>],
-        lengths: Vec<bool>,
-    ) -> Result<FunctionNames<'list, 'file>, NoMemory>
-        ensures { IfOk result (AreNamesOf symbols.now) }
+        elf: &'list Elf<'file>,
+        asked: &[&'name [u8]],
+    ) -> Result<FunctionNames<'list, 'file, 'name>, NoMemory>
+        requires read { IsElfOf elf.now.file.now elf.now }
+        requires readable { IsReadable elf.now.file.now }
+        ensures { IfOk result (AreNamesOf elf.now.symbols.items) }
     {
-        let values = values_by_name(alloc, symbols, &lengths)?;
+        let values = asked_values(alloc, elf, asked)?;
         Ok(FunctionNames {
-            symbols,
-            lengths,
+            symbols: &elf.symbols,
             values,
         })
     }
@@ -51,43 +57,74 @@ impl<'list, 'file> FunctionNames<'list, 'file> {
     fn named_value(&self, name: &[u8]) -> Option<u64>
         ensures { (symbols : List Symbol) → AreNamesOf symbols self.now → result ≡ named_value symbols name.now }
     {
-        if !has_length(&self.lengths, name) {
-            return value_among(self.symbols, name);
-        }
         match self.values.get(name) {
             Some(value) => *value,
-            None => None,
+            None => value_among(self.symbols, name),
         }
     }
 }
 
-// Whether a name has one of these lengths.
-fn has_length(lengths: &[bool], name: &[u8]) -> bool
-    ensures { result ≡ has_length lengths.now name.now }
+// The values of these names.
+fn asked_values<'name>(
+    alloc: Global,
+    elf: &Elf,
+    asked: &[&'name [u8]],
+) -> Result<IndexMap<&'name [u8], Option<u64>>, NoMemory>
+    requires read { IsElfOf elf.now.file.now elf.now }
+    requires readable { IsReadable elf.now.file.now }
+    ensures { IfOk result (AreValues elf.now.symbols.items) }
 {
-    name.len() < lengths.len() && lengths[name.len()]
+    if asked.is_empty() {
+        return Ok(IndexMap::new(alloc));
+    }
+    let ends = NameEnds::new(alloc, asked)?;
+    let known = known_values(alloc, elf, &ends)?;
+    Ok(values_by_name(alloc, &ends, &known, asked)?)
 }
 
-// The values of functions' symbols by their names, of those that have one of these lengths.
-fn values_by_name<'file>(
+// The values of these names, by what is known of them.
+fn values_by_name<'name>(
     alloc: Global,
-    symbols: &[Symbol<'file>],
-    lengths: &[bool],
-) -> Result<IndexMap<&'file [u8], Option<u64>>, NoMemory>
-    ensures { IfOk result (λ values. (name : List ℕ) → has_length lengths.now name ≡ true →
-        known_of values name ≡ known_by (symbol_values symbols.now name)) }
+    ends: &NameEnds,
+    known: &[Option<Option<u64>>],
+    asked: &[&'name [u8]],
+) -> Result<IndexMap<&'name [u8], Option<u64>>, NoMemory>
+    ensures { IfOk result (λ values. (symbols : List Symbol) → AreKnown ends.now.backward.items symbols known.now →
+        AreValues symbols values) }
 {
     let mut values = IndexMap::new(alloc);
-    for symbol in symbols {
-        if !symbol.names_function() {
-            continue;
-        }
-        if !has_length(lengths, symbol.name) {
-            continue;
-        }
-        add_value(&mut values, symbol.name, symbol.value)?;
+    for name in asked {
+        insert_value(&mut values, name, value_of(ends, known, name))?;
     }
     Ok(values)
+}
+
+// The value of a name that is among these.
+fn value_of(ends: &NameEnds, known: &[Option<Option<u64>>], name: &[u8]) -> Option<Option<u64>>
+    ensures { (symbols : List Symbol) → AreKnown ends.now.backward.items symbols known.now →
+        IfSome result (λ value. value ≡ named_value symbols name.now) }
+{
+    let index = ends.index_of(name)?;
+    if index >= known.len() {
+        return None;
+    }
+    Some(known[index].flatten())
+}
+
+// Puts a name with its value, if it has one, to others.
+fn insert_value<'name>(
+    values: &mut IndexMap<&'name [u8], Option<u64>>,
+    name: &'name [u8],
+    value: Option<Option<u64>>,
+) -> Result<(), NoMemory>
+    ensures { OnOk result ((symbols : List Symbol) → IfSome value (λ v. v ≡ named_value symbols name.now) →
+        AreValues symbols values.old → AreValues symbols values.new) }
+{
+    let Some(value) = value else {
+        return Ok(());
+    };
+    values.insert(name, value)?;
+    Ok(())
 }
 
 // The value of the symbols of a name, looked for among all.
@@ -109,8 +146,8 @@ fn value_among(symbols: &[Symbol], name: &[u8]) -> Option<u64>
     }
 }
 
-// What is known of a name of which this was known and that has one more value.
-fn next_known(known: Option<Option<u64>>, value: u64) -> Option<u64>
+/// What is known of a name of which this was known and that has one more value.
+pub fn next_known(known: Option<Option<u64>>, value: u64) -> Option<u64>
     ensures { result ≡ next_known known value }
 {
     match known {
@@ -179,31 +216,6 @@ fn code_address(funcs: &[Func], start: u64, offset: u64) -> Option<u64>
             }
         }
         None => None,
-    }
-}
-
-// Adds a value of a name.
-fn add_value<'a>(
-    values: &mut IndexMap<&'a [u8], Option<u64>>,
-    name: &'a [u8],
-    value: u64,
-) -> Result<(), NoMemory>
-    ensures { OnOk result ((other : List ℕ) → known_of values.new other ≡
-        (if bytes_eq name.now other then Some (next_known (known_of values.old name.now) value)
-        else known_of values.old other)) }
-{
-    let next = next_value(values, name, value);
-    values.insert(name, next)?;
-    Ok(())
-}
-
-// What is known of a name that has one more value.
-fn next_value(values: &IndexMap<&[u8], Option<u64>>, name: &[u8], value: u64) -> Option<u64>
-    ensures { result ≡ next_known (known_of values.now name.now) value }
-{
-    match values.get(name) {
-        Some(known) => same_value(*known, value),
-        None => Some(value),
     }
 }
 

@@ -4,11 +4,13 @@
 mod fields;
 mod function_names;
 mod lines;
+mod name_ends;
 pub mod pairs;
 pub mod places;
 mod profile;
 mod reading;
 mod split;
+mod symbol_values;
 pub mod weights;
 
 pub use profile::Profile;

@@ -1,6 +1,8 @@
 // Reading a profile's text.
 ghost use Rattle.std.specs.Prelude.{◌≡◌, ◌+◌, ◌<◌, ◌≤◌, ◌^◌, ℕ, List, IfOk, length, option_map};
 ghost use Rattle.elf_image.specs.declared.symbol.Symbol.{Symbol};
+ghost use Rattle.elf_image.specs.faults.Truncation.{IsReadable};
+ghost use Rattle.elf_image.specs.file.ParsedFile.{IsElfOf};
 ghost use Rattle.rv_code.specs.layout.FunctionLists.{AreLaidOut};
 ghost use Rattle.edge_profile.specs.Grammar.{most_text_bytes};
 ghost use Rattle.edge_profile.specs.PairCounts.{counted_by, counted_in, count_in, ignored_in};
@@ -14,6 +16,7 @@ use crate::lines::Lines;
 use crate::pairs::merged;
 use crate::profile::Profile;
 use elf_image::Elf;
+use indexmap::IndexSet;
 use rb_bytes::fault::NoMemory;
 use rv_code::Func;
 use std::alloc::Global;
@@ -29,39 +32,37 @@ pub struct Said {
 pub fn read(alloc: Global, text: &[u8], elf: &Elf, funcs: &[Func]) -> Result<Profile, NoMemory>
     requires text { length text.now ≤ most_text_bytes }
     requires funcs { AreLaidOut funcs.now }
+    requires elf { IsElfOf elf.now.file.now elf.now }
+    requires readable { IsReadable elf.now.file.now }
     ensures counts { IfOk result (λ profile. (from to : ℕ) →
         profile_counts profile from to ≡ count_in text.now elf.now funcs.now from to) }
     ensures ignored { IfOk result (λ profile. ignored_of profile ≡ ignored_in text.now elf.now funcs.now) }
 {
-    let lengths = name_lengths(alloc, text)?;
-    let names = FunctionNames::new(alloc, &elf.symbols, lengths)?;
+    let asked = asked_names(alloc, text)?;
+    let names = FunctionNames::new(alloc, elf, asked.as_slice())?;
     let said = said_in(alloc, text, &names, funcs)?;
     let Said { counted, ignored } = said;
     let pairs = merged(alloc, counted)?;
     Ok(Profile { pairs, ignored })
 }
 
-// For each length, whether a line has a name of it that isn't an address.
-fn name_lengths(alloc: Global, text: &[u8]) -> Result<Vec<bool>, NoMemory> {
-    let mut lengths = Vec::new(alloc);
+// The names of a text's lines that aren't addresses, each once.
+fn asked_names<'text>(alloc: Global, text: &'text [u8]) -> Result<IndexSet<&'text [u8]>, NoMemory> {
+    let mut names = IndexSet::new(alloc);
     for line in (Lines { left: text }) {
         if let Some(line) = branch_line(line) {
-            mark_length(&mut lengths, line.from.name)?;
-            mark_length(&mut lengths, line.to.name)?;
+            ask(&mut names, line.from.name)?;
+            ask(&mut names, line.to.name)?;
         }
     }
-    Ok(lengths)
+    Ok(names)
 }
 
-// Marks the length of a name that isn't an address.
-fn mark_length(lengths: &mut Vec<bool>, name: &[u8]) -> Result<(), NoMemory> {
-    if name.starts_with(b"@") {
-        return Ok(());
+// Adds a name that isn't an address.
+fn ask<'text>(names: &mut IndexSet<&'text [u8]>, name: &'text [u8]) -> Result<(), NoMemory> {
+    if !name.starts_with(b"@") {
+        names.insert(name)?;
     }
-    if lengths.len() <= name.len() {
-        lengths.resize(name.len() + 1, false)?;
-    }
-    lengths[name.len()] = true;
     Ok(())
 }
 

@@ -1,7 +1,5 @@
-use Rattle.std.proofs.Common.{◌∙◌, subst, ap, arith, List}
-use Rattle.elf_image.specs.declared.symbol.Symbol.{Symbol}
+use Rattle.std.proofs.Common.{◌∙◌, ap, arith}
 use Rattle.edge_profile.specs.PairCounts.{count_among}
-use Rattle.edge_profile.specs.FunctionNames.{AreNamesOf}
 use Rattle.edge_profile.proofs.AscendingPairs.{ascending_pairs}
 use Rattle.edge_profile.proofs.reading.read.Goals as goal
 
@@ -16,14 +14,9 @@ invariant_of-result c = record {
 }
 
 pub returns-clause-ignored : goal.returns-clause-ignored
-returns-clause-ignored c =
-    let names =
-    subst (λ (symbols : List Symbol). AreNamesOf symbols c.in_ok-names.names) c.deref.ensures.value c.in_ok-names.ensures in
-    (c.in_ok-said.ensures.all c.args.elf.now.symbols.items names).ignored
+returns-clause-ignored c = (c.in_ok-said.ensures.all c.args.elf.now.symbols.items c.in_ok-names.ensures).ignored
 
 pub returns-clause-counts : goal.returns-clause-counts
 returns-clause-counts c = λ from to.
-    let names =
-    subst (λ (symbols : List Symbol). AreNamesOf symbols c.in_ok-names.names) c.deref.ensures.value c.in_ok-names.ensures in
     c.in_ok-pairs.ensures.counts from to
-    ∙ ap (count_among from to) (c.in_ok-said.ensures.all c.args.elf.now.symbols.items names).counted
+    ∙ ap (count_among from to) (c.in_ok-said.ensures.all c.args.elf.now.symbols.items c.in_ok-names.ensures).counted

@@ -9,7 +9,7 @@ use Rattle.block_layout.specs.Walks.{AreBetween, links_of}
 use Rattle.block_layout.specs.declared.edge_counts.Edge.{Edge}
 use Rattle.block_layout.proofs.Whole.{all_within, taken_within, links_between, links_inner, of_functions, weights_are, parts_of}
 use Rattle.block_layout.proofs.Taking.{in_order, all_linked}
-use Rattle.block_layout.proofs.layout.chains.Goals as goal
+use Rattle.block_layout.proofs.layout.chains_by.Goals as goal
 
 pub counted_edges-requires-clause-edges : goal.counted_edges-requires-clause-edges
 counted_edges-requires-clause-edges c = all_within c.args.blocks.now c.args.edges.now c.requires.edges
@@ -61,8 +61,8 @@ returns-clause-chains c =
     let order = in_order count taken c.args.edges.now counted sorted once in
     let past : (x : ℕ) → length blocks ≤ x → get_or c.in_ok-links.links.prev.items x None ≡ None =
     λ x out. get_or_past c.in_ok-links.links.prev.items x None (let size = c.in_ok-links.ensures.sized.1 in omega arith) in
-    let same = weights_are (pairs_of c.args.profile.now) funcs blocks c.deref-2.result.now
-    (c.deref-2.ensures.value ∙ c.in_ok-weights.ensures.weights) in
+    let same = weights_are (pairs_of c.args.profile.now) funcs blocks c.args.weights.now
+    c.requires.weights in
     record {
       links = links_of c.in_ok-links.links;
       links_are = all_linked count taken c.args.edges.now (length blocks) (IsFirstBlock blocks)
