@@ -14,11 +14,14 @@ use crate::fields::Fields;
 use crate::hidden::{entry_address, hidden_fields, is_hidden_field};
 use crate::other_bytes::{OtherByte, OtherBytes};
 use crate::value::{CodeSymbol, Pointer};
-use elf_image::segment::PT_LOAD;
+use elf_image::segment::{PHDR_SIZE, PT_LOAD};
 use elf_image::{Elf, Segment};
 use rb_bytes::fault::NoMemory;
 use rv_code::cell::{CellKind, CodeCell};
 use std::alloc::Global;
+
+// The size of a file's header in bytes. gABI, "ELF Header".
+const HEADER_SIZE: u128 = 64;
 
 // What a code cell holds.
 fn symbol_of(kind: CellKind) -> CodeSymbol
@@ -33,7 +36,8 @@ fn symbol_of(kind: CellKind) -> CodeSymbol
 impl OtherBytes {
     ghost use Rattle.sym_machine.specs.declared.value.MemoryByte.TheVariants.{Hidden};
     ghost use Rattle.sym_machine.specs.internal.OtherBytes.{other_byte};
-    ghost use Rattle.sym_machine.specs.internal.SpecialBytes.{special, symbol_over, hidden_over, covers};
+    ghost use Rattle.sym_machine.specs.internal.SpecialBytes.{special, symbol_over, hidden_over};
+    ghost use Rattle.sym_machine.specs.internal.SpecialBytes.{covers_header, covers_between};
 
     fn add_byte(&mut self, address: u64, byte: OtherByte) -> Result<(), NoMemory>
         ensures { OnOk result ((q : ℕ) → other_byte self.new q ≡ (if q == address then Some byte else other_byte self.old q)) }
@@ -86,19 +90,62 @@ impl OtherBytes {
         Ok(())
     }
 
-    // The hidden bytes that a segment loads.
+    // The hidden bytes that a segment loads: they are bytes of the file's header or of the table of program headers, so no
+    // others are looked at.
     fn hide_in_segment(&mut self, elf: &Elf, fields: &Fields, p: &Segment) -> Result<(), NoMemory>
         requires low { AreLow elf.now.segments.items }
         requires one { Contains elf.now.segments.items p.now }
         ensures { OnOk result ((tight : Bool) → map range_of_field fields.now.list.items ≡ hidden_fields elf.now tight →
             (q : ℕ) → special self.new q
-            ≡ (if covers q p.now && is_hidden_field elf.now tight q then Some Hidden else special self.old q)) }
+            ≡ (if covers_header elf.now q p.now && is_hidden_field elf.now tight q then Some Hidden else special self.old q)) }
+    {
+        let segments = elf.segments.as_slice();
+        let table = PHDR_SIZE as u128 * segments.len() as u128;
+        self.hide_between(elf, fields, p, 0, HEADER_SIZE)?;
+        self.hide_between(elf, fields, p, elf.phoff, elf.phoff as u128 + table)
+    }
+
+    // The hidden bytes that a segment loads from one offset of the file up to another.
+    fn hide_between(
+        &mut self,
+        elf: &Elf,
+        fields: &Fields,
+        p: &Segment,
+        from: u64,
+        to: u128,
+    ) -> Result<(), NoMemory>
+        requires low { AreLow elf.now.segments.items }
+        requires one { Contains elf.now.segments.items p.now }
+        ensures { OnOk result ((tight : Bool) → map range_of_field fields.now.list.items ≡ hidden_fields elf.now tight →
+            (q : ℕ) → special self.new q
+            ≡ (if covers_between from to q p.now && is_hidden_field elf.now tight q then Some Hidden else special self.old q)) }
     {
         if p.kind != PT_LOAD {
             return Ok(());
         }
-        for index in 0..p.filesz.min(p.memsz) {
-            self.hide_at(elf, fields, p.vaddr + index)?;
+        let skipped = from.saturating_sub(p.offset);
+        let end = file_end(p, to);
+        if skipped >= end {
+            return Ok(());
+        }
+        self.hide_run(elf, fields, p.vaddr + skipped, end - skipped)
+    }
+
+    // The hidden bytes at `size` addresses from one on.
+    fn hide_run(
+        &mut self,
+        elf: &Elf,
+        fields: &Fields,
+        start: u64,
+        size: u64,
+    ) -> Result<(), NoMemory>
+        requires { start + size ≤ 2 ^ 64 }
+        ensures { OnOk result ((tight : Bool) → map range_of_field fields.now.list.items ≡ hidden_fields elf.now tight →
+            (q : ℕ) → special self.new q ≡ (if (nat_le start q && nat_lt q (start + size)) && is_hidden_field elf.now tight q
+            then Some Hidden else special self.old q)) }
+    {
+        for index in 0..size {
+            self.hide_at(elf, fields, start + index)?;
         }
         Ok(())
     }
@@ -135,7 +182,8 @@ impl OtherBytes {
         requires all { segments.now ≡ elf.now.segments.items }
         ensures { OnOk result ((tight : Bool) → map range_of_field fields.now.list.items ≡ hidden_fields elf.now tight →
             (q : ℕ) → special self.new q
-            ≡ (if list_any (covers q) segments.now && is_hidden_field elf.now tight q then Some Hidden else special self.old q)) }
+            ≡ (if list_any (covers_header elf.now q) segments.now && is_hidden_field elf.now tight q then Some Hidden
+            else special self.old q)) }
     {
         for index in 0..segments.len() {
             self.hide_in_segment(elf, fields, &segments[index])?;
@@ -194,6 +242,19 @@ impl OtherBytes {
         others.hide_entries(pointer, count, tight)?;
         others.add_entry(elf, pointer, count)?;
         Ok(others)
+    }
+}
+
+// How many bytes a segment loads from the file up to an offset.
+fn file_end(p: &Segment, to: u128) -> u64
+    ensures { result ≡ min (to - p.now.offset) (min p.now.filesz p.now.memsz) }
+{
+    let loaded = p.filesz.min(p.memsz);
+    let before = to.saturating_sub(p.offset as u128);
+    if before < loaded as u128 {
+        before as u64
+    } else {
+        loaded
     }
 }
 

@@ -1,6 +1,10 @@
 -- The bytes at the start that are no numbers.
-use Rattle.std.specs.Prelude.{ℕ, ◌-◌, ◌+◌, ◌&&◌, nat_le, nat_lt, min, if◌then◌else◌, Bool, Option, Some, option_map}
+use Rattle.std.specs.Prelude.{ℕ, ◌-◌, ◌+◌, ◌*◌, ◌&&◌, ◌||◌, nat_le, nat_lt, min, length, if◌then◌else◌, Bool}
+use Rattle.std.specs.Prelude.{Option, Some, option_map}
+use Rattle.elf_image.specs.declared.elf.Elf.{Elf}
 use Rattle.elf_image.specs.declared.segment.Segment.{Segment}
+use Rattle.elf_image.specs.declared.segment.TheConstants.{PHDR_SIZE}
+use Rattle.elf_image.specs.file.Header.{header_size}
 use Rattle.elf_image.specs.memory.Image.{is_load}
 use Rattle.elf_image.specs.memory.LoadedBytes.{Range, is_in_range}
 use Rattle.sym_machine.specs.declared.value.CodeSymbol.{CodeSymbol}
@@ -23,3 +27,13 @@ hidden_over range old q = if is_in_range q range then Some Hidden else special o
 -- a segment loads a byte of the file to an address
 abbrev pub covers : ℕ → Segment → Bool
 covers q p = is_load p && (nat_le p.vaddr q && nat_lt q (p.vaddr + min p.filesz p.memsz))
+
+-- it stands there from one offset of the file up to another
+abbrev pub covers_between : ℕ → ℕ → ℕ → Segment → Bool
+covers_between from to q p =
+    covers q p && (nat_le from (p.offset + (q - p.vaddr)) && nat_lt (p.offset + (q - p.vaddr)) to)
+
+-- it stands there in the file's header, or in the table of program headers
+unfoldable pub covers_header : Elf → ℕ → Segment → Bool
+covers_header elf q p =
+    covers_between 0 header_size q p || covers_between elf.phoff (elf.phoff + PHDR_SIZE * length elf.segments.items) q p

@@ -4,10 +4,11 @@ use Rattle.std.specs.List.{list_any}
 use Rattle.elf_image.specs.memory.HiddenFields.{hidden_fields, is_hidden_field}
 use Rattle.sym_machine.specs.declared.value.MemoryByte.TheVariants.{Hidden}
 use Rattle.sym_machine.specs.internal.Fields.{range_of_field}
-use Rattle.sym_machine.specs.internal.SpecialBytes.{special, covers}
+use Rattle.sym_machine.specs.internal.SpecialBytes.{special, covers_header}
 use Rattle.sym_machine.proofs.other_bytes.OtherBytes.hide_in_segments.Given as goal
 
 abbrev pub invariant-loop-index : goal.invariant-loop-index
 invariant-loop-index l = (tight : Bool) → map range_of_field l.fields.list.items ≡ hidden_fields l.elf tight → (q : ℕ) →
-    special l.self q ≡ (if list_any (covers q) (take l.index l.segments) && is_hidden_field l.elf tight q then Some Hidden
+    special l.self q ≡ (if list_any (covers_header l.elf q) (take l.index l.segments) && is_hidden_field l.elf tight q
+    then Some Hidden
     else special l.initial.self q)
