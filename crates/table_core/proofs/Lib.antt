@@ -1,6 +1,7 @@
 pub mod Grown
 pub mod NewCode
 pub mod UnitsBack
+pub mod UnitsWalk
 pub mod OnlyRuns
 pub mod MergedPieces
 pub mod FoundFirst

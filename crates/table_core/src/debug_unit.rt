@@ -1,0 +1,116 @@
+// The units of a debug section, one after another. DWARF 5, sections 7.2.2 and 7.4.
+ghost use Rattle.std.specs.Prelude.{◌≡◌, ◌+◌, IfOk, IfSome, MatchOption, false, true, length, drop, option_map};
+ghost use Rattle.table_core.specs.DebugUnits.{walked, unit_bytes, unit_length, is_other_version, is_whole_unit};
+
+use byteorder::{ByteOrder, LittleEndian};
+use rb_bytes::fault::NoMemory;
+use std::alloc::Global;
+use std::marker::Model;
+
+/// A unit, which stands behind its length.
+#[derive(Drop)]
+pub struct DebugUnit<'a> {
+    /// Its offset in the section.
+    pub place: u64,
+    /// The bytes behind its length, where they lie whole in the section and hold a version.
+    pub bytes: Option<&'a [u8]>,
+    /// Whether it is of another format or version than is read.
+    pub is_other: bool,
+}
+
+impl<'a> Model for DebugUnit<'a> {
+    ghost use Rattle.std.specs.Prelude.{option_map};
+    ghost use Rattle.table_core.specs.DebugUnits.{Walked};
+
+    ghost Value = { Walked };
+
+    ghost view = { λ u. record { place = u.place; bytes = option_map (λ b. b.now) u.bytes; is_other = u.is_other } };
+}
+
+/// The length that says that a unit is of the 64-bit format.
+const DWARF64: u32 = 0xffff_ffff;
+
+fn unit_bytes(left: &[u8]) -> Option<&[u8]>
+    ensures { option_map (λ b. b.now) result ≡ unit_bytes left.now }
+{
+    if left.len() < 4 {
+        return None;
+    }
+    let length = LittleEndian::read_u32(left);
+    let (_, behind) = left.split_at(4);
+    if length == DWARF64 || length < 2 || behind.len() < length as usize {
+        return None;
+    }
+    let (bytes, _) = behind.split_at(length as usize);
+    Some(bytes)
+}
+
+fn is_other_version(version: u16, left: &[u8]) -> bool
+    ensures { result ≡ is_other_version version left.now }
+{
+    if left.len() < 4 {
+        return false;
+    }
+    let length = LittleEndian::read_u32(left);
+    if length == DWARF64 {
+        return true;
+    }
+    if left.len() < 6 || length < 2 {
+        return false;
+    }
+    let (_, behind) = left.split_at(4);
+    LittleEndian::read_u16(behind) != version
+}
+
+// What stands behind the unit at the front, where that is whole.
+fn behind_unit(left: &[u8]) -> Option<&[u8]>
+    ensures is { MatchOption result (is_whole_unit left.now ≡ false)
+        (λ rest. (is_whole_unit left.now ≡ true) × (rest.now ≡ drop (unit_length left.now + 4) left.now)) }
+    ensures size { IfSome result (λ rest. length rest.now + (unit_length left.now + 4) ≡ length left.now) }
+{
+    if left.len() < 4 {
+        return None;
+    }
+    let length = LittleEndian::read_u32(left);
+    if length == DWARF64 || left.len() - 4 < length as usize {
+        return None;
+    }
+    let (_, rest) = left.split_at(length as usize + 4);
+    Some(rest)
+}
+
+fn unit_at<'a>(version: u16, place: u64, left: &'a [u8]) -> DebugUnit<'a>
+    ensures { result ≡ record { place = place; bytes = unit_bytes left.now; is_other = is_other_version version left.now } }
+{
+    DebugUnit {
+        place,
+        bytes: unit_bytes(left),
+        is_other: is_other_version(version, left),
+    }
+}
+
+/// The units of a section of which those of a version are read.
+pub fn debug_units<'a>(
+    alloc: Global,
+    version: u16,
+    section: &'a [u8],
+) -> Result<Vec<DebugUnit<'a>>, NoMemory>
+    ensures { IfOk result (λ us. us.items ≡ walked version section.now) }
+{
+    let mut units = Vec::new(alloc);
+    let mut left = section;
+    let mut place: u64 = 0;
+    // Each has a byte or more.
+    for count in 0..section.len() {
+        if left.is_empty() {
+            return Ok(units);
+        }
+        units.push(unit_at(version, place, left))?;
+        let Some(rest) = behind_unit(left) else {
+            return Ok(units);
+        };
+        place += (left.len() - rest.len()) as u64;
+        left = rest;
+    }
+    Ok(units)
+}
