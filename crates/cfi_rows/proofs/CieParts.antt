@@ -32,7 +32,7 @@ pub no-instructions : (end : ℕ) (body rest : List ℕ) (h : Head) → head_at 
     instructions_at (head_context end h) rest ≡ Err Entry → cie_at end body ≡ Err Entry
 no-instructions end body rest h e f = head-only end body rest h e ∙ ap (λ r. and_so r (cie_after h)) f
 
-with-list : (end : ℕ) (body rest : List ℕ) (h : Head) (is : List Instruction) → head_at end body ≡ Ok (h, rest) →
+pub with-list : (end : ℕ) (body rest : List ℕ) (h : Head) (is : List Instruction) → head_at end body ≡ Ok (h, rest) →
     instructions_at (head_context end h) rest ≡ Ok is → cie_at end body ≡ cie_after h is
 with-list end body rest h is e f = head-only end body rest h e ∙ ap (λ r. and_so r (cie_after h)) f
 

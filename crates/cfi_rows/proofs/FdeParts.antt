@@ -65,7 +65,7 @@ pub no-instructions : (cie : Cie) (end : ℕ) (e : RawEntry) (h : FdeHead) (rest
     instructions_at (fde_context cie end) rest ≡ Err Entry → fde_at cie end e ≡ Err Entry
 no-instructions cie end e h rest f g = with-head cie end e h rest f ∙ ap (λ r. and_so r (fde_after cie e.place h.start h.size h.table)) g
 
-with-list : (cie : Cie) (end : ℕ) (e : RawEntry) (h : FdeHead) (rest : List ℕ) (is : List Instruction) →
+pub with-list : (cie : Cie) (end : ℕ) (e : RawEntry) (h : FdeHead) (rest : List ℕ) (is : List Instruction) →
     fde_head_at cie.augmentation end e.body ≡ Ok (h, rest) → instructions_at (fde_context cie end) rest ≡ Ok is →
     fde_at cie end e ≡ and_so (sound_if (rows cie.known.rules is (begins h.start cie.known))) (fde_made cie e.place h.start h.size h.table is)
 with-list cie end e h rest is f g = with-head cie end e h rest f ∙ ap (λ r. and_so r (fde_after cie e.place h.start h.size h.table)) g

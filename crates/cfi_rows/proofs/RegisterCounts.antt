@@ -24,7 +24,7 @@ abbrev one : Bool → ℕ
 one true = 0
 one false = 1
 
-same-test : (x y : ℕ) → (x == y) ≡ (y == x)
+pub same-test : (x y : ℕ) → (x == y) ≡ (y == x)
 same-test x y = at (x == y) (y == x) refl refl where
   at : (a b : Bool) → (x == y) ≡ a → (y == x) ≡ b → a ≡ b
   at true true e f = refl

@@ -31,7 +31,7 @@ impl<'a> RawEntry<'a> {
     }
 
     // The offset of the CIE that an FDE names.
-    fn cie_place(&self, debug: bool) -> Option<u128>
+    pub(crate) fn cie_place(&self, debug: bool) -> Option<u128>
         ensures { result ≡ spec.cie_place debug self.now }
     {
         if debug {
@@ -45,7 +45,7 @@ impl<'a> RawEntry<'a> {
     }
 
     // The address at which it ends, of a section at an address.
-    fn end(&self, address: u64) -> u128
+    pub(crate) fn end(&self, address: u64) -> u128
         ensures is { result ≡ spec.end_of address self.now }
         ensures small { result < 2 ^ 66 }
     {
@@ -206,7 +206,7 @@ fn take_entry(
 }
 
 /// The entries of the contents of a section at an address.
-pub(crate) fn read_entries(
+pub fn read_entries(
     alloc: Global,
     debug: bool,
     address: u64,

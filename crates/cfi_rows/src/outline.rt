@@ -180,7 +180,7 @@ pub(crate) fn row_count(
 
 impl Instruction {
     // Whether it moves the location.
-    fn ends_row(&self) -> bool
+    pub(crate) fn ends_row(&self) -> bool
         ensures { result ≡ ends_row self.now }
     {
         match self {

@@ -1,0 +1,30 @@
+-- The states of frame programs as the code keeps them: what was remembered is kept by the changes since.
+use Rattle.std.specs.Prelude.{List, [], ◌∷◌, reverse, option_map}
+use Rattle.std.specs.Rc.{rc_value}
+use Rattle.cfi_rows.specs.declared.rules.Change.{Change}
+use Rattle.cfi_rows.specs.declared.machine.Known.{Known as Kept}
+use Rattle.cfi_rows.specs.declared.machine.Machine.{Machine}
+use Rattle.cfi_rows.specs.declared.machine.Saved.{Saved}
+use Rattle.cfi_rows.specs.FrameRows.{Rules, restored, Known, State}
+
+-- rules with changes taken back, of which the last one stands first
+abbrev pub undone : Rules → List Change → Rules
+undone rules [] = rules
+undone rules (c ∷ cs) = undone (restored c.register (option_map rc_value c.rule) rules) cs
+
+-- the states that were remembered, of which the last one stands first
+abbrev pub remembered : Rules → List Change → List Saved → List Known
+remembered rules cs [] = []
+remembered rules cs (s ∷ ss) =
+    record { cfa = option_map rc_value s.cfa; rules = undone rules cs }
+    ∷ remembered (undone rules cs) (reverse s.changes.items) ss
+
+abbrev pub known_of : Kept → Known
+known_of k = record { cfa = option_map rc_value k.cfa; rules = k.rules }
+
+abbrev pub state_of : Machine → State
+state_of m = record {
+  location = m.location;
+  known = record { cfa = option_map rc_value m.cfa; rules = m.rules };
+  saved = remembered m.rules (reverse m.changes.items) (reverse m.saved.items);
+}

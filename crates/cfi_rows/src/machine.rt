@@ -1,0 +1,216 @@
+// The machine that the instructions of frame entries run on. DWARF 5, section 6.4.2.
+ghost use Rattle.std.specs.Prelude.{◌≡◌, ◌+◌, ◌∷◌, cond, nat_le, None, Some, option_map, IfOk, OnOk};
+ghost use Rattle.std.specs.Rc.{rc_value};
+ghost use Rattle.cfi_rows.specs.FrameRows as spec;
+ghost use Rattle.cfi_rows.specs.RowMachines.{known_of, state_of};
+
+use crate::failed::Failed;
+use crate::instruction::Instruction;
+use crate::row::{Cfa, PlacedRow, Row, Rule};
+use crate::rules::{Change, RuleMap};
+use rb_bytes::fault::NoMemory;
+use std::alloc::Global;
+use std::mem;
+use std::rc::Rc;
+
+/// What is known at a point of a program: how the canonical frame address is found, and the rules of registers.
+#[derive(Drop)]
+pub struct Known {
+    pub cfa: Option<Rc<Cfa>>,
+    pub rules: RuleMap,
+}
+
+/// A state that was remembered: how the frame address was found in it, and what changes of rules led to it
+/// from the one that was remembered before it.
+#[derive(Drop)]
+pub struct Saved {
+    pub cfa: Option<Rc<Cfa>>,
+    pub changes: Vec<Change>,
+}
+
+/// A program under way. Of the states that it remembered it keeps by what they differ, so that to remember one takes the
+/// same time whatever the number of rules.
+#[derive(Drop)]
+pub struct Machine {
+    pub location: u64,
+    pub cfa: Option<Rc<Cfa>>,
+    pub rules: RuleMap,
+    /// The changes of rules since a state was remembered last.
+    pub changes: Vec<Change>,
+    pub saved: Vec<Saved>,
+}
+
+// A frame address rule once more, if there is one.
+fn shared(cfa: &Option<Rc<Cfa>>) -> Result<Option<Rc<Cfa>>, NoMemory>
+    ensures { IfOk result (λ copy. option_map rc_value copy ≡ option_map rc_value cfa.now) }
+{
+    match cfa {
+        Some(cfa) => Ok(Some(cfa.clone()?)),
+        None => Ok(None),
+    }
+}
+
+// A frame address rule by a register, with another register.
+fn with_register(cfa: &Option<Rc<Cfa>>, register: u64) -> Option<Cfa>
+    ensures { result ≡ spec.with_register register (option_map rc_value cfa.now) }
+{
+    match cfa {
+        Some(cfa) => match cfa.as_ref() {
+            Cfa::Reg { reg: _, offset } => Some(Cfa::Reg {
+                reg: register,
+                offset: *offset,
+            }),
+            Cfa::Expr(_) => None,
+        },
+        None => None,
+    }
+}
+
+// A frame address rule by a register, with another offset.
+fn with_offset(cfa: &Option<Rc<Cfa>>, offset: i64) -> Option<Cfa>
+    ensures { result ≡ spec.with_offset offset (option_map rc_value cfa.now) }
+{
+    match cfa {
+        Some(cfa) => match cfa.as_ref() {
+            Cfa::Reg { reg, offset: _ } => Some(Cfa::Reg { reg: *reg, offset }),
+            Cfa::Expr(_) => None,
+        },
+        None => None,
+    }
+}
+
+impl Machine {
+    /// At the start of a program, with what is known there.
+    pub(crate) fn begin(alloc: Global, location: u64, known: &Known) -> Result<Machine, NoMemory>
+        ensures { IfOk result (λ m. state_of m ≡ spec.begins location (known_of known.now)) }
+    {
+        Ok(Machine {
+            location,
+            cfa: shared(&known.cfa)?,
+            rules: known.rules.shared()?,
+            changes: Vec::new(alloc),
+            saved: Vec::new(alloc),
+        })
+    }
+
+    /// Does one instruction, under the initial rules.
+    pub(crate) fn step(
+        &mut self,
+        alloc: Global,
+        initial: &RuleMap,
+        instruction: &Instruction,
+    ) -> Result<(), Failed>
+        ensures { OnOk result (spec.step initial.now instruction.now (state_of self.old) ≡ Some (state_of self.new)) }
+    {
+        match instruction {
+            Instruction::Advance(bytes) => self.advance(*bytes),
+            Instruction::SetLoc(address) => self.go_to(*address),
+            Instruction::DefCfa(cfa) => self.define(alloc, cfa.copy(alloc)?),
+            Instruction::DefCfaRegister(register) => match with_register(&self.cfa, *register) {
+                Some(cfa) => self.define(alloc, cfa),
+                None => Err(Failed::Malformed),
+            },
+            Instruction::DefCfaOffset(offset) => match with_offset(&self.cfa, *offset) {
+                Some(cfa) => self.define(alloc, cfa),
+                None => Err(Failed::Malformed),
+            },
+            Instruction::SetRule(register, rule) => {
+                self.replace_rule(*register, Some(Rc::new(alloc, rule.copy(alloc)?)?))
+            }
+            Instruction::Restore(register) => {
+                self.replace_rule(*register, initial.rule(*register)?)
+            }
+            Instruction::RememberState => self.remember(alloc),
+            Instruction::RestoreState => self.restore(),
+            Instruction::Nop => Ok(()),
+        }
+    }
+
+    fn advance(&mut self, bytes: u64) -> Result<(), Failed>
+        ensures { OnOk result (spec.moved_to (self.old.location + bytes) (state_of self.old) ≡ Some (state_of self.new)) }
+    {
+        match self.location.checked_add(bytes) {
+            Some(location) => {
+                self.location = location;
+                Ok(())
+            }
+            None => Err(Failed::Malformed),
+        }
+    }
+
+    fn go_to(&mut self, address: u64) -> Result<(), Failed>
+        ensures { OnOk result (cond (nat_le self.old.location address) (spec.moved_to address (state_of self.old)) None
+            ≡ Some (state_of self.new)) }
+    {
+        if address < self.location {
+            return Err(Failed::Malformed);
+        }
+        self.location = address;
+        Ok(())
+    }
+
+    fn define(&mut self, alloc: Global, cfa: Cfa) -> Result<(), Failed>
+        ensures { OnOk result (spec.with_cfa (state_of self.old) cfa ≡ state_of self.new) }
+    {
+        self.cfa = Some(Rc::new(alloc, cfa)?);
+        Ok(())
+    }
+
+    fn replace_rule(&mut self, register: u64, rule: Option<Rc<Rule>>) -> Result<(), Failed>
+        ensures { OnOk result (spec.with_rules (state_of self.old)
+            (spec.restored register (option_map rc_value rule) self.old.rules) ≡ state_of self.new) }
+    {
+        let change = self.rules.replace(register, rule)?;
+        self.changes.push(change)?;
+        Ok(())
+    }
+
+    fn remember(&mut self, alloc: Global) -> Result<(), Failed>
+        ensures { OnOk result (record {
+          location = (state_of self.old).location;
+          known = (state_of self.old).known;
+          saved = (state_of self.old).known ∷ (state_of self.old).saved;
+        } ≡ state_of self.new) }
+    {
+        let cfa = shared(&self.cfa)?;
+        let changes = mem::replace(&mut self.changes, Vec::new(alloc));
+        self.saved.push(Saved { cfa, changes })?;
+        Ok(())
+    }
+
+    fn restore(&mut self) -> Result<(), Failed>
+        ensures { OnOk result (spec.take_back (state_of self.old) (state_of self.old).saved ≡ Some (state_of self.new)) }
+    {
+        let Some(saved) = self.saved.pop() else {
+            return Err(Failed::Malformed);
+        };
+        self.cfa = saved.cfa;
+        let changes = mem::replace(&mut self.changes, saved.changes);
+        self.rules.undo(changes)?;
+        Ok(())
+    }
+
+    /// The row that is known, which has to have a frame address rule.
+    pub(crate) fn row(&self, alloc: Global) -> Result<Row, Failed>
+        ensures { IfOk result (λ row. spec.row_of (state_of self.now).known ≡ Some row) }
+    {
+        let Some(cfa) = &self.cfa else {
+            return Err(Failed::Malformed);
+        };
+        Ok(Row {
+            cfa: cfa.copy(alloc)?,
+            rules: self.rules.copied(alloc)?,
+        })
+    }
+
+    /// The row that is known, with the location at which it begins.
+    pub(crate) fn placed_row(&self, alloc: Global) -> Result<PlacedRow, Failed>
+        ensures start { IfOk result (λ r. r.start ≡ self.now.location) }
+        ensures row { IfOk result (λ r. spec.row_of (state_of self.now).known ≡ Some r.row) }
+    {
+        Ok(PlacedRow {
+            start: self.location,
+            row: self.row(alloc)?,
+        })
+    }
+}
