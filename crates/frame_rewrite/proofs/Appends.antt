@@ -1,0 +1,110 @@
+-- One append after another.
+use Rattle.std.proofs.Common.{ℕ, suc, ◌+◌, ◌-◌, ◌≤◌, ◌<◌, ◌≡◌, List, [], ◌∷◌, ◌++◌, Bool, true, false, refl, sym, ◌∙◌, ap, subst, arith, length, append_assoc}
+use Rattle.std.proofs.Common.{get_or, drop, take, add-one, drop-cons, length-append, flat_map}
+use Rattle.std.proofs.lemmas.Grind.{common_steps}
+use Rattle.std.specs.Prelude.{All}
+use Rattle.std.specs.List.{position_or_len}
+use Rattle.cfi_rows.specs.Entries.{RawEntry}
+use Rattle.frame_rewrite.specs.SpelledFrames.{zeros, padding, spelled_entry}
+use Rattle.frame_rewrite.proofs.EntriesBack.{spelled-length}
+
+pub next-is : {A : Type 0} (xs : List A) (i : ℕ) (d : A) → i < length xs → drop i xs ≡ get_or xs i d ∷ drop (i + 1) xs
+next-is xs i d h = rw (add-one, drop-cons xs i d) refl
+
+pub past-end : {A : Type 0} (xs : List A) (i : ℕ) → length xs ≤ i → drop i xs ≡ []
+past-end xs i h = grind (arith, common_steps)
+
+pub append-nil : (xs : List ℕ) → xs ++ [] ≡ xs
+append-nil xs = grind (arith, common_steps)
+
+pub zeros-more : (o new : List ℕ) (n i : ℕ) (want : List ℕ) → i < n → new ≡ o ++ 0 ∷ [] → o ++ zeros (n - i) ≡ want
+    → new ++ zeros (n - (i + 1)) ≡ want
+zeros-more o new n i want h e w =
+    let k : n - i ≡ suc (n - (i + 1)) = omega arith in
+    ap (λ (l : List ℕ). l ++ zeros (n - (i + 1))) e ∙ append_assoc o (0 ∷ []) (zeros (n - (i + 1)))
+    ∙ ap (λ (m : ℕ). o ++ zeros m) (sym k) ∙ w
+
+-- items that are spelled one after another
+pub spelled-more : {A : Type 0} (spelled : A → List ℕ) (xs : List A) (i : ℕ) (x d : A) (o new want : List ℕ)
+    → i < length xs → x ≡ get_or xs i d → new ≡ o ++ spelled x
+    → o ++ flat_map spelled (drop i xs) ≡ want → new ++ flat_map spelled (drop (i + 1) xs) ≡ want
+spelled-more spelled xs i x d o new want h is e w =
+    let n = next-is xs i d h in
+    ap (λ (l : List ℕ). l ++ flat_map spelled (drop (i + 1) xs)) e
+    ∙ append_assoc o (spelled x) (flat_map spelled (drop (i + 1) xs))
+    ∙ ap (λ y. o ++ (spelled y ++ flat_map spelled (drop (i + 1) xs))) is
+    ∙ ap (λ l. o ++ flat_map spelled l) (sym n) ∙ w
+
+pub spelled-all : {A : Type 0} (spelled : A → List ℕ) (xs : List A) (i : ℕ) (o want : List ℕ) → length xs ≤ i
+    → o ++ flat_map spelled (drop i xs) ≡ want → o ≡ want
+spelled-all spelled xs i o want h w = sym (append-nil o) ∙ ap (λ l. o ++ flat_map spelled l) (sym (past-end xs i h)) ∙ w
+
+pub six-puts : (o a b c d e f x y z t r s : List ℕ) → a ≡ o ++ x → b ≡ a ++ y → c ≡ b ++ z → d ≡ c ++ t → e ≡ d ++ r
+    → f ≡ e ++ s → f ≡ o ++ (x ++ (y ++ (z ++ (t ++ (r ++ s)))))
+six-puts o a b c d e f x y z t r s p q u v w m = rw (m, w, v, u, q, p) (simp append_assoc)
+
+-- a body of some fields, and the entry of it
+
+pub body-put : (a b d f : List ℕ) → a ≡ [] → b ≡ a ++ f → d ≡ b ++ zeros (padding (length b))
+    → d ≡ f ++ zeros (padding (length f))
+body-put a b d f p q r = rw (r, q, p) refl
+
+pub new-length : (out new : List ℕ) (e : RawEntry) → new ≡ out ++ spelled_entry e
+    → length new ≡ length out + 8 + length e.body
+new-length out new e w =
+    let s : length (spelled_entry e ++ []) ≡ 8 + length e.body + 0 = spelled-length e [] in
+    let m : length (spelled_entry e) ≡ 8 + length e.body + 0 = ap length (sym (append-nil (spelled_entry e))) ∙ s in
+    let t : length new ≡ length out + length (spelled_entry e) = ap length w ∙ length-append out (spelled_entry e) in
+    added (length new) (length out) (length (spelled_entry e)) (length e.body) t m where
+      added : (n o s b : ℕ) → n ≡ o + s → s ≡ 8 + b + 0 → n ≡ o + 8 + b
+      added n o s b e f = omega arith
+
+-- the place of the first item that passes a test
+
+pub pos-true : {A : Type 0} (p : A → Bool) (x : A) (xs : List A) → p x ≡ true → position_or_len p (x ∷ xs) ≡ 0
+pos-true p x xs e = rw e refl
+
+pub pos-false : {A : Type 0} (p : A → Bool) (x : A) (xs : List A) → p x ≡ false
+    → position_or_len p (x ∷ xs) ≡ 1 + position_or_len p xs
+pos-false p x xs e = rw e refl
+
+pub place-more : {A : Type 0} (p : A → Bool) (xs : List A) (i n : ℕ) (d : A) → i < length xs → p (get_or xs i d) ≡ false
+    → n ≡ i + position_or_len p (drop i xs) → n ≡ i + 1 + position_or_len p (drop (i + 1) xs)
+place-more p xs i n d h f e =
+    let s : position_or_len p (drop i xs) ≡ 1 + position_or_len p (drop (i + 1) xs) = ap (position_or_len p)
+    (next-is xs i d h) ∙ pos-false p (get_or xs i d) (drop (i + 1) xs) f in
+    omega arith
+
+pub place-here : {A : Type 0} (p : A → Bool) (xs : List A) (i n : ℕ) (d : A) → i < length xs → p (get_or xs i d) ≡ true
+    → n ≡ i + position_or_len p (drop i xs) → i ≡ n
+place-here p xs i n d h f e =
+    let s : position_or_len p (drop i xs) ≡ 0 = ap (position_or_len p) (next-is xs i d h)
+    ∙ pos-true p (get_or xs i d) (drop (i + 1) xs) f in
+    omega arith
+
+pub place-end : {A : Type 0} (p : A → Bool) (xs : List A) (i n : ℕ) → length xs ≤ i → i ≤ length xs
+    → n ≡ i + position_or_len p (drop i xs) → length xs ≡ n
+place-end p xs i n h k e =
+    let z : position_or_len p (drop i xs) ≡ 0 = ap (position_or_len p) (past-end xs i h) in
+    omega arith
+
+pub entry-put : (out new a b d g f : List ℕ) (place id want : ℕ)
+    → new ≡ out ++ spelled_entry (record { place = place; id = id; body = g }) → g ≡ d → id ≡ want
+    → a ≡ [] → b ≡ a ++ f → d ≡ b ++ zeros (padding (length b))
+    → new ≡ out ++ spelled_entry (record { place = place; id = want; body = f ++ zeros (padding (length f)) })
+entry-put out new a b d g f place id want w u e p q r =
+    w ∙ ap (λ (n : ℕ). out ++ spelled_entry (record { place = place; id = n; body = g })) e
+    ∙ ap (λ (l : List ℕ). out ++ spelled_entry (record { place = place; id = want; body = l })) (u ∙ body-put a b d f p q r)
+
+pub empty : {A : Type 0} (xs : List A) → length xs ≡ 0 → xs ≡ []
+empty [] h = refl
+empty (x ∷ xs) h = absurd (omega arith)
+
+pub all-taken : {A : Type 0} (P : A → Type 0) (xs : List A) (i : ℕ) → length xs ≤ i → All P (take i xs) → All P xs
+all-taken P xs i h f = subst (All P) (whole xs i h) f where
+  whole : {A : Type 0} (xs : List A) (i : ℕ) → length xs ≤ i → take i xs ≡ xs
+  whole xs i h = grind (arith, common_steps)
+
+pub four-puts : (o a b c d x y z t : List ℕ) → o ≡ [] → a ≡ o ++ x → b ≡ a ++ y → c ≡ b ++ z → d ≡ c ++ t
+    → d ≡ ((x ++ y) ++ z) ++ t
+four-puts o a b c d x y z t n p q r s = rw (s, r, q, p, n) refl

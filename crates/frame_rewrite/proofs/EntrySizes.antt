@@ -1,0 +1,193 @@
+-- How many bytes written entries have.
+use Rattle.std.proofs.Common.{ℕ, zero, suc, ◌+◌, ◌-◌, ◌*◌, ◌≤◌, ◌≡◌, List, [], ◌∷◌, ◌++◌, Bool, refl, sym, ◌∙◌, ap, subst, arith, length}
+use Rattle.std.proofs.Common.{take, drop, flat_map, length-append}
+use Rattle.std.specs.Prelude.{sum_by}
+use Rattle.std.proofs.lemmas.List.Sums.{sum_by-cons, sum_by-take-drop}
+use Rattle.byteorder.specs.Endian.{little_bytes}
+use Rattle.rb_bytes.specs.Leb.{uleb, sleb}
+use Rattle.rb_bytes.proofs.UnsignedLeb.{length-uleb-le}
+use Rattle.rb_bytes.proofs.SignedLeb.{length-sleb-le}
+use Rattle.addr_map.specs.declared.span.Span.{Span}
+use Rattle.table_core.specs.declared.run.Run.{Run}
+use Rattle.cfi_rows.specs.declared.row.Cfa.{Cfa}
+use Rattle.cfi_rows.specs.declared.row.Cfa.TheVariants.{Reg, Expr}
+use Rattle.cfi_rows.specs.declared.row.Rule.{Rule}
+use Rattle.cfi_rows.specs.declared.row.Rule.TheVariants as rule
+use Rattle.cfi_rows.specs.EntryCounts.{cfa_bytes, rule_bytes}
+use Rattle.cfi_rows.specs.FrameRows.{RowValue, Rules}
+use Rattle.cfi_rows.specs.Entries.{RawEntry}
+use Rattle.frame_rewrite.specs.declared.cie_key.CieKey.{CieKey}
+use Rattle.frame_rewrite.specs.FrameAnswers.{FrameAnswer}
+use Rattle.frame_rewrite.specs.SpelledFrames.{spelled_block, spelled_cfa, spelled_rule, spelled_rules, spelled_row, spelled_next, spelled_entries, zeros, padding}
+use Rattle.frame_rewrite.specs.SpelledFrames.{start_of, last_end, fde_fields, fde_body, fde_entry, fde_entries, more_count}
+use Rattle.frame_rewrite.specs.Tables.{rules_bytes, run_size}
+use Rattle.frame_rewrite.proofs.NumbersBack.{length-little, length-zeros}
+use Rattle.frame_rewrite.proofs.EntriesBack.{spelled-length}
+
+abbrev Runs : Type 0
+Runs = List (Run FrameAnswer)
+
+two-numbers : (a b : List ℕ) → length a ≤ 10 → length b ≤ 10 → length (a ++ b) ≤ 20
+two-numbers a b l m = let e : length (a ++ b) ≡ length a + length b = length-append a b in omega arith
+
+block-size : (b : List ℕ) → length (spelled_block b) ≤ 10 + length b
+block-size b =
+    let e : length (uleb (length b) ++ b) ≡ length (uleb (length b)) + length b = length-append (uleb (length b)) b in
+    let l : length (uleb (length b)) ≤ 10 = length-uleb-le (length b) in
+    omega arith
+
+register-block : (r : ℕ) (b : List ℕ) → length (uleb r ++ spelled_block b) ≤ 20 + length b
+register-block r b =
+    let e : length (uleb r ++ spelled_block b) ≡ length (uleb r) + length (spelled_block b) = length-append (uleb r)
+    (spelled_block b) in
+    let l : length (uleb r) ≤ 10 = length-uleb-le r in
+    let m : length (spelled_block b) ≤ 10 + length b = block-size b in
+    omega arith
+
+one-more : (n m k : ℕ) → n ≤ m → m + 1 ≤ k → suc n ≤ k
+one-more n m k h g = omega arith
+
+cfa-size : (c : Cfa) → length (spelled_cfa c) ≤ 21 + cfa_bytes c
+cfa-size (Reg r n) = one-more (length (uleb r ++ sleb n)) 20 21
+    (two-numbers (uleb r) (sleb n) (length-uleb-le r) (length-sleb-le n)) (omega arith)
+cfa-size (Expr b) = one-more (length (spelled_block b)) (10 + length b) (21 + length b) (block-size b) (omega arith)
+
+rule-size : (r : ℕ) (v : Rule) → length (spelled_rule r v) ≤ 21 + rule_bytes v
+rule-size r rule.Undefined = one-more (length (uleb r)) 10 21 (length-uleb-le r) (omega arith)
+rule-size r rule.Same = one-more (length (uleb r)) 10 21 (length-uleb-le r) (omega arith)
+rule-size r (rule.Offset n) = one-more (length (uleb r ++ sleb n)) 20 21
+    (two-numbers (uleb r) (sleb n) (length-uleb-le r) (length-sleb-le n)) (omega arith)
+rule-size r (rule.ValOffset n) = one-more (length (uleb r ++ sleb n)) 20 21
+    (two-numbers (uleb r) (sleb n) (length-uleb-le r) (length-sleb-le n)) (omega arith)
+rule-size r (rule.Reg q) = one-more (length (uleb r ++ uleb q)) 20 21
+    (two-numbers (uleb r) (uleb q) (length-uleb-le r) (length-uleb-le q)) (omega arith)
+rule-size r (rule.Expr b) = one-more (length (uleb r ++ spelled_block b)) (20 + length b) (21 + length b)
+    (register-block r b) (omega arith)
+rule-size r (rule.ValExpr b) = one-more (length (uleb r ++ spelled_block b)) (20 + length b) (21 + length b)
+    (register-block r b) (omega arith)
+
+rules-size : (rules : Rules) → length (spelled_rules rules) ≤ 21 * length rules + rules_bytes rules
+rules-size [] = omega arith
+rules-size (x ∷ xs) =
+    let e : length (spelled_rule x.0 x.1 ++ spelled_rules xs)
+    ≡ length (spelled_rule x.0 x.1) + length (spelled_rules xs) = length-append (spelled_rule x.0 x.1)
+    (spelled_rules xs) in
+    sums _ (length (spelled_rule x.0 x.1)) (length (spelled_rules xs)) (rule_bytes x.1) (length xs) (rules_bytes xs) _ e
+    (rule-size x.0 x.1) (rules-size xs)
+    (sum_by-cons (λ (y : ℕ × Rule). rule_bytes y.1) x xs) where
+      sums : (t a b x n r s : ℕ) → t ≡ a + b → a ≤ 21 + x → b ≤ 21 * n + r → s ≡ x + r → t ≤ 21 * suc n + s
+      sums t a b x n r s e h g k = omega arith
+
+-- what is counted of a row
+abbrev row_count : RowValue → ℕ
+row_count row = 21 * length row.rules + (cfa_bytes row.cfa + rules_bytes row.rules)
+
+row-size : (row : RowValue) → length (spelled_row row) ≤ 22 + row_count row
+row-size row =
+    let e : length (spelled_cfa row.cfa ++ spelled_rules row.rules)
+    ≡ length (spelled_cfa row.cfa) + length (spelled_rules row.rules) = length-append (spelled_cfa row.cfa)
+    (spelled_rules row.rules) in
+    sums _ (length (spelled_cfa row.cfa)) (length (spelled_rules row.rules)) (cfa_bytes row.cfa) (length row.rules)
+    (rules_bytes row.rules) e (cfa-size row.cfa) (rules-size row.rules) where
+      sums : (t a b x n r : ℕ) → t ≡ a + b → a ≤ 21 + x → b ≤ 21 * n + r → suc t ≤ 22 + (21 * n + (x + r))
+      sums t a b x n r e h g = omega arith
+
+behind-eight : (d : ℕ) (xs : List ℕ) → length (little_bytes 8 d ++ xs) ≡ 8 + length xs
+behind-eight d xs = length-append (little_bytes 8 d) xs ∙ ap (λ (n : ℕ). n + length xs) (length-little 8 d)
+
+next-size : (r : Run FrameAnswer) → length (spelled_next r) ≤ 32 + row_count r.answer.row
+next-size r = sums _ _ (length (spelled_row r.answer.row)) (row_count r.answer.row)
+    (behind-eight r.start (0x0b ∷ spelled_row r.answer.row)) refl (row-size r.answer.row) where
+      sums : (t u a n : ℕ) → t ≡ 8 + u → u ≡ suc a → a ≤ 22 + n → suc t ≤ 32 + n
+      sums t u a n e f h = omega arith
+
+abbrev total : Runs → ℕ
+total rs = sum_by (λ (r : Run FrameAnswer). run_size r.answer) rs
+
+total-cons : (r : Run FrameAnswer) (rs : Runs) → total (r ∷ rs) ≡ run_size r.answer + total rs
+total-cons r rs = sum_by-cons (λ (x : Run FrameAnswer). run_size x.answer) r rs
+
+counted : (r : Run FrameAnswer) → 88 + row_count r.answer.row ≤ run_size r.answer
+counted r = sums (length r.answer.row.rules) (cfa_bytes r.answer.row.cfa + rules_bytes r.answer.row.rules) where
+  sums : (n x : ℕ) → 88 + (21 * n + x) ≤ 64 + 24 * (n + 1) + x
+  sums n x = omega arith
+
+more-size : (rs : Runs) → length (flat_map spelled_next rs) + 8 * length rs ≤ total rs
+more-size [] = omega arith
+more-size (r ∷ rs) =
+    let e : length (spelled_next r ++ flat_map spelled_next rs)
+    ≡ length (spelled_next r) + length (flat_map spelled_next rs) = length-append (spelled_next r)
+    (flat_map spelled_next rs) in
+    sums _ (length (spelled_next r)) (length (flat_map spelled_next rs)) (row_count r.answer.row) (run_size r.answer)
+    (length rs) (total rs) _ e (next-size r) (counted r) (more-size rs) (total-cons r rs) where
+      sums : (t a b x s n m u : ℕ) → t ≡ a + b → a ≤ 32 + x → 88 + x ≤ s → b + 8 * n ≤ m → u ≡ s + m → t + 8 * suc n ≤ u
+      sums t a b x s n m u e h c g k = omega arith
+
+fields-size : (spans : List Span) (r : Run FrameAnswer) (more : Runs)
+    → length (fde_fields spans r more) ≡ 25 + (length (spelled_row r.answer.row) + length (flat_map spelled_next more))
+fields-size spans r more =
+    sums _ _ _ _ _ _
+    (behind-eight (start_of spans r) (little_bytes 8 (last_end (r.start + r.len) more - start_of spans r)
+    ++ (8 ∷ (little_bytes 8 r.answer.table ++ (spelled_row r.answer.row ++ flat_map spelled_next more)))))
+    (behind-eight (last_end (r.start + r.len) more - start_of spans r)
+    (8 ∷ (little_bytes 8 r.answer.table ++ (spelled_row r.answer.row ++ flat_map spelled_next more))))
+    refl
+    (behind-eight r.answer.table (spelled_row r.answer.row ++ flat_map spelled_next more))
+    (length-append (spelled_row r.answer.row) (flat_map spelled_next more)) where
+      sums : (t u v w x y : ℕ) → t ≡ 8 + u → u ≡ 8 + v → v ≡ suc w → w ≡ 8 + x → x ≡ y → t ≡ 25 + y
+      sums t u v w x y a b c d e = omega arith
+
+body-size : (spans : List Span) (r : Run FrameAnswer) (more : Runs)
+    → 8 + length (fde_body spans r more) + 8 * suc (length more) ≤ run_size r.answer + total more
+body-size spans r more =
+    let f = fields-size spans r more in
+    let b = length-append (fde_fields spans r more) (zeros (padding (length (fde_fields spans r more)))) in
+    let z = length-zeros (padding (length (fde_fields spans r more))) in
+    sums _ (length (fde_fields spans r more)) _ (length (spelled_row r.answer.row)) (length (flat_map spelled_next more))
+    (row_count r.answer.row) (run_size r.answer) (length more) (total more)
+    b (subst (λ (n : ℕ). n ≤ 7) (sym z) (padded (length (fde_fields spans r more)))) f (row-size r.answer.row) (counted r)
+    (more-size more) where
+      padded : (n : ℕ) → padding n ≤ 7
+      padded n = omega arith
+
+      sums : (t f z a m x s n u : ℕ) → t ≡ f + z → z ≤ 7 → f ≡ 25 + (a + m) → a ≤ 22 + x → 88 + x ≤ s → m + 8 * n ≤ u
+          → 8 + t + 8 * suc n ≤ s + u
+      sums t f z a m x s n u e p g h c k = omega arith
+
+total-split : (k : ℕ) (rs : Runs) → total rs ≡ total (take k rs) + total (drop k rs)
+total-split k rs = sym (sum_by-take-drop (λ (r : Run FrameAnswer). run_size r.answer) rs k)
+
+length-split : (k : ℕ) (rs : Runs) → length rs ≡ length (take k rs) + length (drop k rs)
+length-split zero rs = omega arith
+length-split (suc k) [] = refl
+length-split (suc k) (r ∷ rs) = one (length rs) (length (take k rs)) (length (drop k rs)) (length-split k rs) where
+  one : (a b c : ℕ) → a ≡ b + c → suc a ≡ suc b + c
+  one a b c e = omega arith
+
+pub least-total : (rs : Runs) → 8 * length rs ≤ total rs
+least-total [] = omega arith
+least-total (r ∷ rs) = sums (length rs) (run_size r.answer) (total rs) (row_count r.answer.row) _ (counted r)
+    (least-total rs) (total-cons r rs) where
+      sums : (n s t x u : ℕ) → 88 + x ≤ s → 8 * n ≤ t → u ≡ s + t → 8 * suc n ≤ u
+      sums n s t x u c h k = omega arith
+
+nothing-more : (n t : ℕ) → n ≤ t → 0 + n ≤ t
+nothing-more n t h = omega arith
+
+pub fdes-size : (debug : Bool) (spans : List Span) (keys : List CieKey) (n place : ℕ) (rs : Runs)
+    → length (spelled_entries (fde_entries debug spans keys n place rs)) + 8 * length rs ≤ total rs
+unfolding fde_entries
+fdes-size debug spans keys n place [] = omega arith
+fdes-size debug spans keys zero place (r ∷ rs) = nothing-more (8 * length (r ∷ rs)) (total (r ∷ rs)) (least-total (r ∷ rs))
+fdes-size debug spans keys (suc n) place (r ∷ rs) =
+    sums _ _ _ (run_size r.answer) _ _ _ _ _ _ _
+    (spelled-length (fde_entry debug spans keys place r (take (more_count r rs) rs))
+    (spelled_entries (fde_entries debug spans keys n
+    (place + 8 + length (fde_body spans r (take (more_count r rs) rs))) (drop (more_count r rs) rs))))
+    (body-size spans r (take (more_count r rs) rs)) (length-split (more_count r rs) rs) (total-split (more_count r rs) rs)
+    (fdes-size debug spans keys n (place + 8 + length (fde_body spans r (take (more_count r rs) rs)))
+    (drop (more_count r rs) rs)) (total-cons r rs) where
+      sums : (t b rest s taken left count both front back u : ℕ) → t ≡ 8 + b + rest → 8 + b + 8 * suc taken ≤ s + front
+          → count ≡ taken + left → both ≡ front + back → rest + 8 * left ≤ back
+          → u ≡ s + both → t + 8 * suc count ≤ u
+      sums t b rest s taken left count both front back u e h c d g k = omega arith

@@ -1,0 +1,217 @@
+-- Steps of the loops that write entries.
+use Rattle.std.proofs.Common.{ℕ, suc, ◌+◌, ◌-◌, ◌*◌, ◌≤◌, ◌<◌, ◌≡◌, ◌^◌, List, [], ◌∷◌, ◌++◌, Bool, refl, sym, ◌∙◌, ap, subst, arith, length, append_assoc}
+use Rattle.std.proofs.Common.{get_or, drop, take}
+use Rattle.std.specs.Prelude.{All}
+use Rattle.std.proofs.lemmas.Grind.{flat_map-append}
+use Rattle.std.proofs.lemmas.List.Elements.{All-head, All-tail, All-drop}
+use Rattle.addr_map.specs.declared.span.Span.{Span}
+use Rattle.table_core.specs.declared.run.Run.{Run}
+use Rattle.table_core.specs.AnswerRuns.{IsWithin}
+use Rattle.cfi_rows.specs.declared.row.Rule.{Rule}
+use Rattle.cfi_rows.specs.Entries.{RawEntry}
+use Rattle.cfi_rows.specs.FrameRows.{Rules}
+use Rattle.frame_rewrite.specs.declared.cie_key.CieKey.{CieKey}
+use Rattle.frame_rewrite.specs.FrameAnswers.{FrameAnswer}
+use Rattle.frame_rewrite.specs.SpelledFits.{RuleFits, RulesFit, Writes, WritesAll, EndFits, IsSpelled}
+use Rattle.frame_rewrite.specs.SpelledFrames.{spelled_entry, spelled_entries, cie_entry, cie_entries, fde_entry, fde_entries, fde_body, more_count, start_of, last_end, cie_size, cie_body, end_mark}
+use Rattle.frame_rewrite.proofs.Appends.{next-is, past-end, append-nil, new-length}
+use Rattle.frame_rewrite.proofs.EntriesBack.{spelled-length}
+use Rattle.frame_rewrite.proofs.RunGroups.{within-take, within-drop, within-low, le-last, ends-fit}
+use Rattle.frame_rewrite.proofs.TableBack.{Before, cie-length}
+
+abbrev Runs : Type 0
+Runs = List (Run FrameAnswer)
+
+pub rules-more : (least m i : ℕ) (xs : Rules) (x : ℕ × Rule) (W : Type 0) → i < length xs → x ≡ get_or xs i x
+    → least ≤ x.0 → x.0 < 2 ^ 64 → RuleFits x.1 → m ≡ x.0 + 1
+    → (RulesFit least (drop i xs) → W) → RulesFit m (drop (i + 1) xs) → W
+rules-more least m i xs x W h is l s f e w more =
+    w (subst (RulesFit least) (sym (next-is xs i x h))
+    (subst (λ (y : ℕ × Rule). RulesFit least (y ∷ drop (i + 1) xs)) is
+    (l, s, f, subst (λ (n : ℕ). RulesFit n (drop (i + 1) xs)) e more)))
+
+pub rules-end : (least i : ℕ) (xs : Rules) (W : Type 0) → length xs ≤ i → (RulesFit least (drop i xs) → W) → W
+rules-end least i xs W h w = w (subst (RulesFit least) (sym (past-end xs i h)) tt)
+
+-- one CIE more
+pub cie-more : (debug : Bool) (ks : List CieKey) (i : ℕ) (d : CieKey) (o new want : List ℕ) → i < length ks
+    → new ≡ o ++ spelled_entry (cie_entry debug i (get_or ks i d))
+    → o ++ spelled_entries (cie_entries debug i (drop i ks)) ≡ want
+    → new ++ spelled_entries (cie_entries debug (i + 1) (drop (i + 1) ks)) ≡ want
+cie-more debug ks i d o new want h e w =
+    ap (λ (l : List ℕ). l ++ spelled_entries (cie_entries debug (i + 1) (drop (i + 1) ks))) e
+    ∙ append_assoc o (spelled_entry (cie_entry debug i (get_or ks i d)))
+    (spelled_entries (cie_entries debug (i + 1) (drop (i + 1) ks)))
+    ∙ ap (λ (l : List CieKey). o ++ spelled_entries (cie_entries debug i l)) (sym (next-is ks i d h)) ∙ w
+
+pub cies-end : (debug : Bool) (ks : List CieKey) (i : ℕ) (o want : List ℕ) → length ks ≤ i
+    → o ++ spelled_entries (cie_entries debug i (drop i ks)) ≡ want → o ≡ want
+cies-end debug ks i o want h w = sym (append-nil o)
+    ∙ ap (λ (l : List CieKey). o ++ spelled_entries (cie_entries debug i l)) (sym (past-end ks i h)) ∙ w
+
+pub cies-long : (debug : Bool) (i : ℕ) (ks : List CieKey)
+    → length (spelled_entries (cie_entries debug i ks)) ≡ cie_size * length ks
+cies-long debug i [] = refl
+cies-long debug i (k ∷ ks) =
+    sums _ (length (cie_body k)) (length (spelled_entries (cie_entries debug (i + 1) ks))) (length ks)
+    (spelled-length (cie_entry debug i k) (spelled_entries (cie_entries debug (i + 1) ks))) (cie-length k)
+    (cies-long debug (i + 1) ks) where
+      sums : (a b c n : ℕ) → a ≡ 8 + b + c → b ≡ 24 → c ≡ 32 * n → a ≡ 32 * suc n
+      sums a b c n e f g = omega arith
+
+-- one group more
+
+abbrev spelled_from : (debug : Bool) → List Span → List CieKey → ℕ → ℕ → Runs → List ℕ
+spelled_from debug spans keys n place rs = spelled_entries (fde_entries debug spans keys n place rs)
+
+entries-next : (debug : Bool) (spans : List Span) (keys : List CieKey) (n place : ℕ) (r : Run FrameAnswer) (rs : Runs)
+    → spelled_from debug spans keys (suc n) place (r ∷ rs)
+    ≡ spelled_entry (fde_entry debug spans keys place r (take (more_count r rs) rs))
+    ++ spelled_from debug spans keys n (place + 8 + length (fde_body spans r (take (more_count r rs) rs)))
+    (drop (more_count r rs) rs)
+unfolding fde_entries
+entries-next debug spans keys n place r rs = refl
+
+pub group-more : (debug : Bool) (spans : List Span) (keys : List CieKey) (n count : ℕ) (r : Run FrameAnswer)
+    (rs rest : Runs) (o new want : List ℕ) → count < n → rest ≡ r ∷ rs
+    → new ≡ o ++ spelled_entry (fde_entry debug spans keys (length o) r (take (more_count r rs) rs))
+    → o ++ spelled_entries (fde_entries debug spans keys (n - count) (length o) rest) ≡ want
+    → new ++ spelled_entries (fde_entries debug spans keys (n - (count + 1)) (length new) (drop (more_count r rs) rs)) ≡ want
+group-more debug spans keys n count r rs rest o new want h is e w =
+    let l : length new ≡ length o + 8 + length (fde_body spans r (take (more_count r rs) rs)) = new-length o new
+    (fde_entry debug spans keys (length o) r (take (more_count r rs) rs)) e in
+    let k : n - count ≡ suc (n - (count + 1)) = omega arith in
+    ap (λ (m : ℕ). new ++ spelled_from debug spans keys (n - (count + 1)) m (drop (more_count r rs) rs)) l
+    ∙ ap (λ (x : List ℕ). x ++ spelled_from debug spans keys (n - (count + 1))
+    (length o + 8 + length (fde_body spans r (take (more_count r rs) rs))) (drop (more_count r rs) rs)) e
+    ∙ append_assoc o (spelled_entry (fde_entry debug spans keys (length o) r (take (more_count r rs) rs)))
+    (spelled_from debug spans keys (n - (count + 1))
+    (length o + 8 + length (fde_body spans r (take (more_count r rs) rs))) (drop (more_count r rs) rs))
+    ∙ ap (λ (x : List ℕ). o ++ x) (sym (entries-next debug spans keys (n - (count + 1)) (length o) r rs))
+    ∙ ap (λ (m : ℕ). o ++ spelled_from debug spans keys m (length o) (r ∷ rs)) (sym k)
+    ∙ ap (λ (x : Runs). o ++ spelled_from debug spans keys (n - count) (length o) x) (sym is) ∙ w
+
+writes-next : (spans : List Span) (keys : List CieKey) (n place : ℕ) (r : Run FrameAnswer) (rs : Runs)
+    → Writes spans keys place r (take (more_count r rs) rs)
+    → WritesAll spans keys n (place + 8 + length (fde_body spans r (take (more_count r rs) rs)))
+    (drop (more_count r rs) rs) → WritesAll spans keys (suc n) place (r ∷ rs)
+unfolding WritesAll
+writes-next spans keys n place r rs w more = (w, more)
+
+pub writes-more : (debug : Bool) (spans : List Span) (keys : List CieKey) (n count : ℕ) (r : Run FrameAnswer)
+    (rs rest : Runs) (o new : List ℕ) (W : Type 0) → count < n → rest ≡ r ∷ rs
+    → new ≡ o ++ spelled_entry (fde_entry debug spans keys (length o) r (take (more_count r rs) rs))
+    → Writes spans keys (length o) r (take (more_count r rs) rs)
+    → (WritesAll spans keys (n - count) (length o) rest → W)
+    → WritesAll spans keys (n - (count + 1)) (length new) (drop (more_count r rs) rs) → W
+writes-more debug spans keys n count r rs rest o new W h is e w all more =
+    let l : length new ≡ length o + 8 + length (fde_body spans r (take (more_count r rs) rs)) = new-length o new
+    (fde_entry debug spans keys (length o) r (take (more_count r rs) rs)) e in
+    let k : n - count ≡ suc (n - (count + 1)) = omega arith in
+    all (subst (WritesAll spans keys (n - count) (length o)) (sym is)
+    (subst (λ (m : ℕ). WritesAll spans keys m (length o) (r ∷ rs)) (sym k)
+    (writes-next spans keys (n - (count + 1)) (length o) r rs w
+    (subst (λ (m : ℕ). WritesAll spans keys (n - (count + 1)) m (drop (more_count r rs) rs)) l more))))
+
+pub no-entries : (debug : Bool) (spans : List Span) (keys : List CieKey) (n place : ℕ) (rest : Runs) (o want : List ℕ)
+    → rest ≡ []
+    → o ++ spelled_entries (fde_entries debug spans keys n place rest) ≡ want → o ≡ want
+unfolding fde_entries
+no-entries debug spans keys n place rest o want e w = sym (append-nil o)
+    ∙ ap (λ (x : Runs). o ++ spelled_from debug spans keys n place x) (sym e) ∙ w
+
+no-fuel : (debug : Bool) (spans : List Span) (keys : List CieKey) (place : ℕ) (rest : Runs)
+    → fde_entries debug spans keys 0 place rest ≡ []
+unfolding fde_entries
+no-fuel debug spans keys place [] = refl
+no-fuel debug spans keys place (r ∷ rs) = refl
+
+pub out-of-fuel : (debug : Bool) (spans : List Span) (keys : List CieKey) (n count place : ℕ) (rest : Runs)
+    (o want : List ℕ) → n ≤ count
+    → o ++ spelled_entries (fde_entries debug spans keys (n - count) place rest) ≡ want → o ≡ want
+out-of-fuel debug spans keys n count place rest o want h w =
+    let z : n - count ≡ 0 = omega arith in
+    sym (append-nil o) ∙ ap (λ (x : List RawEntry). o ++ spelled_entries x) (sym (no-fuel debug spans keys place rest))
+    ∙ ap (λ (m : ℕ). o ++ spelled_from debug spans keys m place rest) (sym z) ∙ w
+
+pub no-writes : (spans : List Span) (keys : List CieKey) (n place : ℕ) (rest : Runs) (W : Type 0) → rest ≡ []
+    → (WritesAll spans keys n place rest → W) → W
+unfolding WritesAll
+no-writes spans keys n place rest W e w = w (subst (WritesAll spans keys n place) (sym e) tt)
+
+unfuelled : (spans : List Span) (keys : List CieKey) (place : ℕ) (rest : Runs) → WritesAll spans keys 0 place rest
+unfolding WritesAll
+unfuelled spans keys place [] = tt
+unfuelled spans keys place (r ∷ rs) = tt
+
+pub out-of-writes : (spans : List Span) (keys : List CieKey) (n count place : ℕ) (rest : Runs) (W : Type 0) → n ≤ count
+    → (WritesAll spans keys (n - count) place rest → W) → W
+out-of-writes spans keys n count place rest W h w =
+    let z : n - count ≡ 0 = omega arith in
+    w (subst (λ (m : ℕ). WritesAll spans keys m place rest) (sym z) (unfuelled spans keys place rest))
+
+pub longer : (out new : List ℕ) (n : ℕ) (e : RawEntry) → new ≡ out ++ spelled_entry e → n ≤ length out → n ≤ length new
+longer out new n e w h = let l : length new ≡ length out + 8 + length e.body = new-length out new e w in omega arith
+
+-- what the runs behind a group keep
+pub within-behind : (k : ℕ) (r : Run FrameAnswer) (rs rest : Runs) (hi : ℕ) → rest ≡ r ∷ rs → IsWithin 0 rest hi
+    → IsWithin 0 (drop k rs) hi
+within-behind k r rs rest hi e w =
+    let v : IsWithin 0 (r ∷ rs) hi = subst (λ (x : Runs). IsWithin 0 x hi) e w in
+    within-low (last_end (r.start + r.len) (take k rs)) 0 (drop k rs) hi (least (last_end (r.start + r.len) (take k rs)))
+    (within-drop k (r.start + r.len) rs hi v.2) where
+      least : (n : ℕ) → 0 ≤ n
+      least n = omega arith
+
+pub before-behind : (spans : List Span) (k : ℕ) (r : Run FrameAnswer) (rs rest : Runs) → rest ≡ r ∷ rs
+    → All (Before spans) rest → All (Before spans) (drop k rs)
+before-behind spans k r rs rest e f = All-drop (Before spans) k rs
+    (All-tail (Before spans) r rs (subst (All (Before spans)) e f))
+
+-- what is asked of a group
+
+pub group-ends : (k : ℕ) (r : Run FrameAnswer) (rs rest : Runs) (hi : ℕ) → rest ≡ r ∷ rs → hi < 2 ^ 64
+    → IsWithin 0 rest hi → All EndFits (r ∷ take k rs)
+group-ends k r rs rest hi e h w =
+    let v : IsWithin 0 (r ∷ rs) hi = subst (λ (x : Runs). IsWithin 0 x hi) e w in
+    ends-fit 0 (r ∷ take k rs) hi h (v.0, v.1, within-take k (r.start + r.len) rs hi v.2)
+
+pub group-start : (spans : List Span) (k : ℕ) (r : Run FrameAnswer) (rs rest : Runs) (hi : ℕ) → rest ≡ r ∷ rs
+    → IsWithin 0 rest hi → All (Before spans) rest
+    → start_of spans r ≤ last_end (r.start + r.len) (take k rs)
+group-start spans k r rs rest hi e w f =
+    let v : IsWithin 0 (r ∷ rs) hi = subst (λ (x : Runs). IsWithin 0 x hi) e w in
+    let before : start_of spans r ≤ r.start = All-head (Before spans) r rs (subst (All (Before spans)) e f) in
+    let later : r.start + r.len ≤ last_end (r.start + r.len) (take k rs) = le-last (r.start + r.len) (take k rs) hi
+    (within-take k (r.start + r.len) rs hi v.2) in
+    least _ _ _ _ before later where
+      least : (s a n e : ℕ) → s ≤ a → a + n ≤ e → s ≤ e
+      least s a n e h l = omega arith
+
+-- a whole table
+
+pub cies-put : (debug : Bool) (ks slice : List CieKey) (start a : List ℕ) → start ≡ [] → slice ≡ ks
+    → a ≡ start ++ spelled_entries (cie_entries debug 0 slice)
+    → a ≡ spelled_entries (cie_entries debug 0 ks)
+cies-put debug ks slice start a z s e =
+    e ∙ ap (λ (l : List ℕ). l ++ spelled_entries (cie_entries debug 0 slice)) z
+    ∙ ap (λ (l : List CieKey). spelled_entries (cie_entries debug 0 l)) s
+
+pub cies-room : (debug : Bool) (ks : List CieKey) (a : List ℕ) → a ≡ spelled_entries (cie_entries debug 0 ks)
+    → length a ≡ cie_size * length ks
+cies-room debug ks a e = ap length e ∙ cies-long debug 0 ks
+
+pub spelled-table : (debug : Bool) (spans : List Span) (keys : List CieKey) (runs : Runs) (a b c : List ℕ)
+    → a ≡ spelled_entries (cie_entries debug 0 keys)
+    → b ≡ a ++ spelled_entries (fde_entries debug spans keys (length runs) (length a) runs) → c ≡ b ++ end_mark debug
+    → WritesAll spans keys (length runs) (length a) runs → IsSpelled debug spans keys runs c
+spelled-table debug spans keys runs a b c e f g w =
+    let n : length a ≡ cie_size * length keys = cies-room debug keys a e in
+    record {
+      writes = subst (λ (m : ℕ). WritesAll spans keys (length runs) m runs) n w;
+      bytes_are = g ∙ ap (λ (l : List ℕ). l ++ end_mark debug)
+          (f ∙ ap (λ (m : ℕ). a ++ spelled_from debug spans keys (length runs) m runs) n
+          ∙ ap (λ (l : List ℕ). l ++ spelled_from debug spans keys (length runs) (cie_size * length keys) runs) e
+          ∙ sym (flat_map-append spelled_entry (cie_entries debug 0 keys)
+          (fde_entries debug spans keys (length runs) (cie_size * length keys) runs)));
+    }

@@ -1,0 +1,77 @@
+-- Lists of kinds of frames.
+use Rattle.std.proofs.Common.{ℕ, suc, ◌+◌, ◌<◌, ◌≡◌, ◌==◌, ◌&&◌, List, [], ◌∷◌, ◌++◌, Option, Some, None, cond, ltb, Bool, true, false, refl, sym, ◌∙◌, ap, arith, length}
+use Rattle.std.specs.Prelude.{All, slice_get, position}
+use Rattle.std.specs.List.{position_or_len}
+use Rattle.std.proofs.lemmas.Bool.Decides.{nat_tests}
+use Rattle.std.proofs.lemmas.List.Elements.{All-push}
+use Rattle.frame_rewrite.specs.declared.cie_key.CieKey.{CieKey}
+use Rattle.frame_rewrite.specs.SpelledFits.{KeyFits}
+use Rattle.frame_rewrite.specs.SpelledFrames.{is_one, is_key}
+use Rattle.frame_rewrite.proofs.Appends.{pos-true, pos-false}
+
+-- a key that passes the test is the key
+same-bools : (a b : Bool) → is_one a b ≡ true → b ≡ a
+same-bools true b e = e
+same-bools false true e = absurd (cc)
+same-bools false false e = refl
+
+parts : (a b c d : Bool) → (a && b && c && d) ≡ true → (a ≡ true) × (b ≡ true) × (c ≡ true) × (d ≡ true)
+parts true true true true e = (refl, refl, refl, refl)
+parts true true true false e = absurd (cc)
+parts true true false d e = absurd (cc)
+parts true false c d e = absurd (cc)
+parts false b c d e = absurd (cc)
+
+same-key : (a b : CieKey) → is_key a b ≡ true → b ≡ a
+same-key a b e =
+    let p = parts (a.ra == b.ra) (a.handler == b.handler) (is_one a.indirect b.indirect) (is_one a.signal b.signal) e in
+    let r : b.ra ≡ a.ra = grind (arith, nat_tests, p.0) in
+    let h : b.handler ≡ a.handler = grind (arith, nat_tests, p.1) in
+    λ i. record {
+      ra = r i;
+      handler = h i;
+      indirect = same-bools a.indirect b.indirect p.2 i;
+      signal = same-bools a.signal
+          b.signal p.3 i;
+    }
+
+key-first : (b : Bool) (k x : CieKey) (xs : List CieKey) → is_key k x ≡ b
+    → (position_or_len (is_key k) xs < length xs → slice_get xs (position_or_len (is_key k) xs) ≡ Some k)
+    → position_or_len (is_key k) (x ∷ xs) < length (x ∷ xs)
+    → slice_get (x ∷ xs) (position_or_len (is_key k) (x ∷ xs)) ≡ Some k
+key-first true k x xs e more h = ap (slice_get (x ∷ xs)) (pos-true (is_key k) x xs e)
+    ∙ ap (λ (y : CieKey). Some y) (same-key k x e)
+key-first false k x xs e more h =
+    let t : position_or_len (is_key k) (x ∷ xs) ≡ 1 + position_or_len (is_key k) xs = pos-false (is_key k) x xs e in
+    let u : position_or_len (is_key k) (x ∷ xs) ≡ suc (position_or_len (is_key k) xs) = omega arith in
+    ap (slice_get (x ∷ xs)) u ∙ more (omega arith)
+
+pub key-found : (k : CieKey) (ks : List CieKey) → position_or_len (is_key k) ks < length ks
+    → slice_get ks (position_or_len (is_key k) ks) ≡ Some k
+key-found k [] h = absurd (omega arith)
+key-found k (x ∷ xs) h = key-first (is_key k x) k x xs refl (key-found k xs) h
+
+-- what stands at the place where a key is found
+pub found-at : (k : CieKey) (ks : List CieKey) (i : ℕ) → position (is_key k) ks ≡ Some i → slice_get ks i ≡ Some k
+found-at k ks i e = one (ltb (position_or_len (is_key k) ks) (length ks)) refl where
+  inside : ltb (position_or_len (is_key k) ks) (length ks) ≡ true → position_or_len (is_key k) ks < length ks
+  inside t = grind (arith, nat_tests)
+
+  some-same : (x y : ℕ) → Some x ≡ Some y → x ≡ y
+  some-same x y e = cc
+
+  none-some : ◌≡◌ {A = Option ℕ} None (Some i) → ⊥
+  none-some e = cc
+
+  one : (b : Bool) → ltb (position_or_len (is_key k) ks) (length ks) ≡ b → slice_get ks i ≡ Some k
+  one true t =
+      let at : position_or_len (is_key k) ks ≡ i = some-same _ _
+      (sym (ap (λ (b : Bool). cond b (Some (position_or_len (is_key k) ks)) None) t) ∙ e) in
+      ap (slice_get ks) (sym at) ∙ key-found k ks (inside t)
+  one false t = absurd (none-some (sym (ap (λ (b : Bool). cond b (Some (position_or_len (is_key k) ks)) None) t) ∙ e))
+
+-- a key more, unless it is there
+pub fits-insert : (b : Bool) (ks : List CieKey) (k : CieKey) → All KeyFits ks → KeyFits k
+    → All KeyFits (cond b ks (ks ++ k ∷ []))
+fits-insert true ks k f g = f
+fits-insert false ks k f g = All-push KeyFits ks k f g

@@ -1,0 +1,103 @@
+-- The instructions of an entry describe its rows: each row begins from the state that was remembered first, in which nothing
+-- is known.
+use Rattle.std.proofs.Common.{ℕ, zero, suc, ◌+◌, ◌^◌, ◌≤◌, ◌<◌, ◌≡◌, List, [], ◌∷◌, ◌++◌, Option, Some, None, ltb, leb, true, refl, sym, ◌∙◌, ap, arith}
+use Rattle.std.proofs.Common.{append_assoc, map, flat_map}
+use Rattle.std.proofs.lemmas.Bool.Decides.{nat_tests}
+use Rattle.table_core.specs.declared.run.Run.{Run}
+use Rattle.cfi_rows.specs.declared.row.Cfa.{Cfa}
+use Rattle.cfi_rows.specs.declared.row.Rule.{Rule}
+use Rattle.cfi_rows.specs.declared.instruction.Instruction.{Instruction}
+use Rattle.cfi_rows.specs.FrameRows.{RowValue, Rules, with_rule, Known, State, begins, nothing_known, rows, prepended, known_after, PlacedRow}
+use Rattle.frame_rewrite.specs.FrameAnswers.{FrameAnswer}
+use Rattle.frame_rewrite.specs.SpelledFits.{RulesFit}
+use Rattle.frame_rewrite.proofs.InstructionsBack.{rule_list, row_instructions, next_instructions, program, nops}
+
+abbrev AllBelow : ℕ → Rules → Type 0
+AllBelow k [] = Unit {0}
+AllBelow k (x ∷ xs) = (x.0 < k) × AllBelow k xs
+
+below-more : (k n : ℕ) (xs : Rules) → k ≤ n → AllBelow k xs → AllBelow n xs
+below-more k n [] h b = tt
+below-more k n (x ∷ xs) h b = (omega arith, below-more k n xs h b.1)
+
+below-snoc : (k : ℕ) (v : Rule) (xs : Rules) → AllBelow k xs → AllBelow (k + 1) (xs ++ (k, v) ∷ [])
+below-snoc k v [] b = (omega arith, tt)
+below-snoc k v (x ∷ xs) b = (omega arith, below-snoc k v xs b.1)
+
+-- past registers that are lower, only the rest matters
+ruled-past : (k : ℕ) (v : Rule) (xs ys : Rules) → AllBelow k xs → with_rule k v (xs ++ ys) ≡ xs ++ with_rule k v ys
+ruled-past k v [] ys b = refl
+ruled-past k v (x ∷ xs) ys b =
+    let t : ltb x.0 k ≡ true = grind (arith, nat_tests, b.0) in
+    rw t (ap (λ (l : Rules). x ∷ l) (ruled-past k v xs ys b.1))
+
+append-nil : (xs : Rules) → xs ++ [] ≡ xs
+append-nil [] = refl
+append-nil (x ∷ xs) = ap (λ (l : Rules). x ∷ l) (append-nil xs)
+
+abbrev at_point : ℕ → Option Cfa → Rules → List Known → State
+at_point start cfa rules saved = record { location = start; known = record { cfa = cfa; rules = rules }; saved = saved }
+
+-- ascending rules, set in order, are the rules
+rules-run : (start least : ℕ) (cfa : Cfa) (old xs : Rules) (saved : List Known) (more : List Instruction)
+    → AllBelow least old → RulesFit least xs
+    → rows [] (rule_list xs ++ more) (at_point start (Some cfa) old saved)
+    ≡ rows [] more (at_point start (Some cfa) (old ++ xs) saved)
+rules-run start least cfa old [] saved more b a = ap (λ (l : Rules). rows [] more (at_point start (Some cfa) l saved))
+    (sym (append-nil old))
+rules-run start least cfa old (x ∷ xs) saved more b a =
+    let c : AllBelow x.0 old = below-more least x.0 old a.0 b in
+    let e : with_rule x.0 x.1 old ≡ old ++ x ∷ [] = ap (with_rule x.0 x.1) (sym (append-nil old))
+    ∙ ruled-past x.0 x.1 old [] c in
+    ap (λ (l : Rules). rows [] (rule_list xs ++ more) (at_point start (Some cfa) l saved)) e
+    ∙ rules-run start (x.0 + 1) cfa (old ++ x ∷ []) xs saved more (below-snoc x.0 x.1 old c) a.3
+    ∙ ap (λ (l : Rules). rows [] more (at_point start (Some cfa) l saved)) (append_assoc old (x ∷ []) xs)
+
+row-run : (start : ℕ) (row : RowValue) (more : List Instruction) → RulesFit 0 row.rules
+    → rows [] (row_instructions row ++ more) (at_point start None [] [])
+    ≡ rows [] more (at_point start (Some row.cfa) row.rules (nothing_known ∷ []))
+row-run start row more a = rules-run start 0 row.cfa [] row.rules (nothing_known ∷ []) more tt a
+
+nops-run : (start k : ℕ) (row : RowValue) → rows [] (nops k)
+    (at_point start (Some row.cfa) row.rules (nothing_known ∷ [])) ≡ Some (record { start = start; row = row } ∷ [])
+nops-run start zero row = refl
+nops-run start (suc k) row = nops-run start k row
+
+-- the rows of further runs
+abbrev pub placed : List (Run FrameAnswer) → List PlacedRow
+placed rs = map (λ (r : Run FrameAnswer). record { start = r.start; row = r.answer.row }) rs
+
+-- the locations of further runs ascend, from one on, and their rules do
+abbrev pub Follow : ℕ → List (Run FrameAnswer) → Type 0
+Follow at [] = Unit {0}
+Follow at (r ∷ rs) = (at ≤ r.start) × (r.start < 2 ^ 64) × RulesFit 0 r.answer.row.rules × Follow r.start rs
+
+more-run : (at k : ℕ) (row : RowValue) (more : List (Run FrameAnswer)) → Follow at more
+    → rows [] (flat_map next_instructions more ++ nops k) (at_point at (Some row.cfa) row.rules (nothing_known ∷ []))
+    ≡ Some (record { start = at; row = row } ∷ placed more)
+more-run at k row [] f = nops-run at k row
+more-run at k row (r ∷ rs) f =
+    let a : leb at r.start ≡ true = grind (arith, nat_tests) in
+    let b : ltb r.start (2 ^ 64) ≡ true = grind (arith, nat_tests) in
+    let t : (next_instructions r ++ flat_map next_instructions rs) ++ nops k
+    ≡ next_instructions r ++ (flat_map next_instructions rs ++ nops k)
+    = append_assoc (next_instructions r) (flat_map next_instructions rs) (nops k) in
+    let later = row-run r.start r.answer.row (flat_map next_instructions rs ++ nops k) f.2
+    ∙ more-run r.start k r.answer.row rs f.3 in
+    ap (λ (l : List Instruction). rows [] l (at_point at (Some row.cfa) row.rules (nothing_known ∷ []))) t
+    ∙ rw (a, b) (ap (prepended at (Some row)) later)
+
+-- the rows of an entry
+pub rows-back : (start k : ℕ) (row : RowValue) (more : List (Run FrameAnswer)) → RulesFit 0 row.rules → Follow start more
+    → rows [] (program row more ++ nops k) (begins start nothing_known)
+    ≡ Some (record { start = start; row = row } ∷ placed more)
+rows-back start k row more a f =
+    let t : (row_instructions row ++ flat_map next_instructions more) ++ nops k
+    ≡ row_instructions row ++ (flat_map next_instructions more ++ nops k)
+    = append_assoc (row_instructions row) (flat_map next_instructions more) (nops k) in
+    ap (λ (l : List Instruction). rows [] l (begins start nothing_known)) t
+    ∙ row-run start row (flat_map next_instructions more ++ nops k) a ∙ more-run start k row more f
+
+pub known-nops : (k start : ℕ) → known_after (nops k) (Some (begins start nothing_known)) ≡ Some nothing_known
+known-nops zero start = refl
+known-nops (suc k) start = known-nops k start

@@ -1,0 +1,93 @@
+-- What is told of the first entry that holds an address.
+use Rattle.std.proofs.Common.{◌≡◌, ◌∙◌, ℕ, Bool, true, false, cond, List, [], ◌∷◌, map, Option, Some, None, option_map, refl, sym, ap, subst, arith, length, get_or, ◌<◌}
+use Rattle.std.proofs.lemmas.Bool.Decides.{nat_tests}
+use Rattle.std.proofs.lemmas.Option.{same_Some, slice_get-map, slice_get-get_or}
+use Rattle.std.specs.Prelude.{nat_lt, IsTrue, IfOk, Result, Ok, Err, slice_get, option_and_then, position}
+use Rattle.std.specs.List.{find}
+use Rattle.table_core.specs.declared.range.Range.{Range}
+use Rattle.table_core.specs.AddressRanges.{holds_address}
+use Rattle.table_core.specs.FirstRanges.{first_range}
+use Rattle.table_core.specs.declared.first_range.FirstRange.{FirstRange}
+use Rattle.table_core.proofs.FoundFirst.{found_first}
+use Rattle.cfi_rows.specs.declared.frame_table.Fde.{Fde as ReadFde}
+use Rattle.cfi_rows.specs.FrameRows.{RowValue, row_at}
+use Rattle.cfi_rows.specs.Entries.{Fde, is_in_range, range_of}
+use Rattle.cfi_rows.specs.ReadEntries.{fde_of}
+use Rattle.frame_rewrite.specs.FrameAnswers.{FrameAnswer, answer_at, answer_of}
+use Rattle.frame_rewrite.specs.FrameLookups.{told_at, told_by, answer_by}
+
+-- what is found passes the test
+passes : {X : Type 0} (test : X → Bool) (xs : List X) (x : X) → find test xs ≡ Some x → test x ≡ true
+passes test [] x e = absurd (cc)
+passes {X} test (y ∷ ys) x e = at (test y) refl (passes test ys x) e where
+  at : (b : Bool) → test y ≡ b → (find test ys ≡ Some x → test x ≡ true) → cond b (Some y) (find test ys) ≡ Some x → test x ≡ true
+  at true t r f = subst (λ (z : X). test z ≡ true) (same_Some _ _ f) t
+  at false t r f = r f
+
+pub told-none : (index : FirstRange) (list : List Fde) (a : ℕ) → first_range index a ≡ position (holds_address a) (map range_of list) →
+    first_range index a ≡ None → told_at list a ≡ None
+told-none index list a is e =
+    ap (option_and_then (told_by a)) (found_first index range_of list a is ∙ ap (option_and_then (slice_get list)) e)
+
+told-some : (list : List Fde) (a : ℕ) (f : Fde) (fde : ReadFde) (row : RowValue) → find (λ f. is_in_range f a) list ≡ Some f → fde_of f ≡ fde →
+    row_at a f.rows None ≡ Some row → Some (fde, row) ≡ told_at list a
+told-some list a f fde row e g r = sym (
+    ap (option_and_then (told_by a)) e ∙ ap (option_map (λ row. (fde_of f, row))) r ∙ ap (λ (x : ReadFde). Some (x, row)) g)
+
+pub told-row : (index : FirstRange) (list : List Fde) (a i : ℕ) (fde : ReadFde) (row : RowValue) →
+    first_range index a ≡ position (holds_address a) (map range_of list) → first_range index a ≡ Some i → slice_get (map fde_of list) i ≡ Some fde →
+    ((f : Fde) → slice_get list i ≡ Some f → IsTrue (is_in_range f a) → row_at a f.rows None ≡ Some row) → Some (fde, row) ≡ told_at list a
+told-row index list a i fde row is e g r = at (slice_get list i) refl where
+  at : (o : Option Fde) → slice_get list i ≡ o → Some (fde, row) ≡ told_at list a
+  at None f = let n : option_map fde_of (slice_get list i) ≡ None = ap (option_map fde_of) f in
+      let m : option_map fde_of (slice_get list i) ≡ Some fde = sym (slice_get-map fde_of list i) ∙ g in absurd (cc)
+  at (Some x) f =
+      let found : find (λ f. is_in_range f a) list ≡ Some x =
+      found_first index range_of list a is ∙ ap (option_and_then (slice_get list)) e ∙ f in
+      let same : fde_of x ≡ fde = same_Some _ _ (sym (ap (option_map fde_of) f) ∙ sym (slice_get-map fde_of list i) ∙ g) in
+      told-some list a x fde row found same (r x f (passes (λ f. is_in_range f a) list x found))
+
+-- the answer made of it
+abbrev answer_of_told : (ReadFde → Bool) → ReadFde × RowValue → FrameAnswer
+answer_of_told mark t = answer_by t.0 t.1 (mark t.0)
+
+pub answered : (is_marked : Fde → Bool) (mark : ReadFde → Bool) (list : List Fde) (a : ℕ) → ((f : Fde) → mark (fde_of f) ≡ is_marked f) →
+    option_map (answer_of_told mark) (told_at list a) ≡ answer_at is_marked list a
+answered is_marked mark list a same = by-entry (find (λ f. is_in_range f a) list) where
+  by-row : (f : Fde) (o : Option RowValue) → option_map (answer_of_told mark) (option_map (λ row. (fde_of f, row)) o)
+      ≡ option_map (λ row. answer_by (fde_of f) row (is_marked f)) o
+  by-row f None = refl
+  by-row f (Some row) = ap (λ b. Some (answer_by (fde_of f) row b)) (same f)
+
+  by-entry : (o : Option Fde) → option_map (answer_of_told mark) (option_and_then (told_by a) o) ≡ option_and_then (λ f. answer_of is_marked f a) o
+  by-entry None = refl
+  by-entry (Some f) = by-row f (row_at a f.rows None)
+
+-- as it is answered where an entry is told
+pub told-answer : (is_marked : Fde → Bool) (mark : ReadFde → Bool) (list : List Fde) (a : ℕ) (fde : ReadFde) (row : RowValue) (answer : FrameAnswer) →
+    ((f : Fde) → mark (fde_of f) ≡ is_marked f) → Some (fde, row) ≡ told_at list a → answer ≡ answer_by fde row (mark fde) →
+    Some answer ≡ answer_at is_marked list a
+told-answer is_marked mark list a fde row answer same e f =
+    ap (λ (x : FrameAnswer). Some x) f ∙ ap (option_map (answer_of_told mark)) e ∙ answered is_marked mark list a same
+
+-- a list as it is kept has the ranges of the entries
+pub same-ranges : {X : Type 0} (f : ReadFde → X) (list : List Fde) → map f (map fde_of list) ≡ map (λ x. f (fde_of x)) list
+same-ranges f [] = refl
+same-ranges f (x ∷ xs) = ap (λ zs. f (fde_of x) ∷ zs) (same-ranges f xs)
+
+abbrev kept_range : ReadFde → Range
+kept_range f = record { low = f.start; high = f.end }
+
+pub index-of : {E : Type 0} (r : Result FirstRange E) (kept : List ReadFde) (ranges : List Range) →
+    IfOk r (λ index. (a : ℕ) → first_range index a ≡ position (holds_address a) ranges) → ranges ≡ map kept_range kept →
+    IfOk r (λ index. (list : List Fde) → kept ≡ map fde_of list → (a : ℕ) → first_range index a ≡ position (holds_address a) (map range_of list))
+index-of (Err e) kept ranges h g = tt
+index-of (Ok index) kept ranges h g = λ list e a.
+    h a ∙ ap (position (holds_address a)) (g ∙ ap (map kept_range) e ∙ same-ranges kept_range list)
+
+-- what is found at an index
+pub item-at : (xs kept : List ReadFde) (i : ℕ) (fde : ReadFde) → true ≡ nat_lt i (length xs) → fde ≡ get_or xs i fde → xs ≡ kept →
+    slice_get kept i ≡ Some fde
+item-at xs kept i fde t e f =
+    let within : i < length xs = grind (arith, nat_tests) in
+    ap (λ ys. slice_get ys i) (sym f) ∙ slice_get-get_or xs i fde within ∙ ap (λ (x : ReadFde). Some x) (sym e)

@@ -1,0 +1,153 @@
+-- The law and what is made, of the two tables where they stand.
+use Rattle.std.proofs.Common.{ℕ, ◌+◌, ◌-◌, ◌*◌, ◌^◌, ◌≤◌, ◌≡◌, List, [], Option, Some, None, Bool, true, false, refl, sym, ◌∙◌, ap, subst, arith, length}
+use Rattle.std.specs.Prelude.{All, is_some, option_and_then, sum_by}
+use Rattle.std.proofs.lemmas.List.Elements.{All-nil}
+use Rattle.rb_bytes.specs.FirstFault.{IsFree}
+use Rattle.elf_image.specs.declared.section.Section.{Section}
+use Rattle.addr_map.specs.declared.span.Span.{Span}
+use Rattle.addr_map.specs.Spans.{owner, is_new_code}
+use Rattle.table_core.specs.declared.run.Run.{Run}
+use Rattle.table_core.specs.AnswerRuns.{IsWithin, run_at, carried}
+use Rattle.table_core.specs.CarriedAnswers.{Agree, IsCarried}
+use Rattle.table_core.specs.Sections.{Held, held_by}
+use Rattle.table_core.specs.declared.written.Written.{Written}
+use Rattle.cfi_rows.specs.Entries.{Fde, Frames, frames, walk}
+use Rattle.cfi_rows.specs.Frames.{frames_of}
+use Rattle.cfi_rows.specs.ReadFrames.{read_as, section_held}
+use Rattle.frame_rewrite.specs.declared.cie_key.CieKey.{CieKey}
+use Rattle.frame_rewrite.specs.declared.eh.EhFrames.{EhFrames}
+use Rattle.frame_rewrite.specs.CarriedFrames.{IsCarriedFrame}
+use Rattle.frame_rewrite.specs.Faults.{IsFrameFault}
+use Rattle.frame_rewrite.specs.declared.debug.DebugFrames.{DebugFrames}
+use Rattle.frame_rewrite.specs.FrameAnswers.{FrameAnswer, answer_at, is_marked_by, is_never_marked}
+use Rattle.frame_rewrite.specs.SpelledFits.{KeyFits, IsReached, IsSpelled}
+use Rattle.frame_rewrite.specs.Tables.{answers, EhMakes, MovesWhole, run_size, eh_says, debug_says, EhAllows}
+use Rattle.frame_rewrite.proofs.EntrySizes.{least-total}
+use Rattle.frame_rewrite.proofs.FirstRows.{frames-begin}
+use Rattle.frame_rewrite.proofs.Law.{law, reads-as}
+use Rattle.frame_rewrite.proofs.MadeTables.{starts-in, count-of, size-of, ends-with}
+use Rattle.frame_rewrite.proofs.Reached.{reached}
+
+abbrev Runs : Type 0
+Runs = List (Run FrameAnswer)
+
+-- where the table stands
+abbrev pub Stands : (debug : Bool) → (Fde → Bool) → List Span → Runs → Held → Type 0
+Stands debug is_marked spans runs section =
+    IsCarried (IsCarriedFrame spans) spans (run_at runs) (answers is_marked (frames_of debug section))
+    × IsFree (IsFrameFault (frames_of debug section))
+
+pub stands : (debug : Bool) (is_marked : Fde → Bool) (spans : List Span) (keys : List CieKey) (runs : Runs)
+    (bytes : List ℕ) (section : Held) → All KeyFits keys
+    → IsWithin 0 runs (2 ^ 64 - 1) → All (IsReached spans runs) runs → IsSpelled debug spans keys runs bytes
+    → section.bytes ≡ bytes → Stands debug is_marked spans runs section
+stands debug is_marked spans keys runs bytes section f w r s e =
+    subst (λ (l : List ℕ). IsCarried (IsCarriedFrame spans) spans (run_at runs)
+    (answers is_marked (frames debug section.address l)) × IsFree (IsFrameFault (frames debug section.address l)))
+    (sym e)
+    (law debug is_marked spans keys runs bytes section.address f w r s)
+
+-- Without a section there is nothing.
+
+pub none-framed : (debug : Bool) (address : ℕ) → frames debug address [] ≡ record { cies = 0; list = []; bad = None }
+unfolding walk
+none-framed debug address = refl
+
+none-carried : (is_marked : Fde → Bool) (list : List Fde) (spans : List Span) (p : ℕ) → list ≡ []
+    → carried (answer_at is_marked list) spans p ≡ None
+none-carried is_marked list spans p e = ap (λ l. carried (answer_at is_marked l) spans p) e ∙ owned (owner spans p) where
+  owned : (o : Option ℕ) → option_and_then (answer_at is_marked []) o ≡ None
+  owned None = refl
+  owned (Some a) = refl
+
+pub none-listed : (debug : Bool) (section : Held) → section.bytes ≡ [] → (frames_of debug section).list ≡ []
+none-listed debug section e = ap (λ (l : List ℕ). (frames debug section.address l).list) e
+    ∙ ap (λ (t : Frames). t.list) (none-framed debug section.address)
+
+pub nothing-stands : (debug : Bool) (old is_marked : Fde → Bool) (spans : List Span) (runs : Runs) (list : List Fde)
+    (section : Held) → list ≡ [] → section.bytes ≡ []
+    → ((p : ℕ) → run_at runs p ≡ carried (answer_at old list) spans p) → Stands debug is_marked spans runs section
+nothing-stands debug old is_marked spans runs list section e f a =
+    let now : frames_of debug section ≡ record { cies = 0; list = []; bad = None } = ap (frames debug section.address) f
+    ∙ none-framed debug section.address in
+    subst (λ (t : Frames). IsCarried (IsCarriedFrame spans) spans (run_at runs) (answers is_marked t)
+    × IsFree (IsFrameFault t)) (sym now) (
+      λ p owned. subst (λ (o : Option FrameAnswer). Agree (IsCarriedFrame spans) o None)
+          (sym (a p ∙ none-carried old list spans p e)) tt,
+      λ kind place fault. absurd (some_none place fault.1),
+    ) where
+      some_none : (place : ℕ) → ◌≡◌ {A = Option ℕ} None (Some place) → ⊥
+      some_none place e = cc
+
+-- a section that isn't there
+pub nothing-held : (file : List ℕ) (s : Option Section) → is_some s ≡ false → (held_by file s).bytes ≡ []
+nothing-held file None e = refl
+nothing-held file (Some s) e = absurd (cc)
+
+-- What is made
+
+pub makes : (t : EhFrames) (spans : List Span) (keys : List CieKey) (runs : Runs) (w : Written) → All KeyFits keys
+    → IsWithin 0 runs (2 ^ 64 - 1)
+    → ((p : ℕ) → run_at runs p ≡ carried (eh_says t) spans p) → All (IsReached spans runs) runs
+    → length keys ≤ (read_as t.frames).cies
+    → t.has_section ≡ true → IsSpelled false spans keys runs w.bytes.items → w.lists.items ≡ [] → EhMakes t spans runs w
+makes t spans keys runs w f within a r few there s lists =
+    record {
+      sound = λ at. ap (λ (x : Frames). x.bad) (reads-as false spans keys runs w.bytes.items at f within r s);
+      starts = λ at. starts-in (eh_says t) spans keys runs w.bytes.items at f within a r s;
+      count = λ at. count-of spans keys runs w.bytes.items at f within r s;
+      size = size-of spans keys runs w.bytes.items (read_as t.frames).cies few s;
+      ends = λ _. ends-with spans keys runs w.bytes.items s;
+      nothing = λ none. absurd (clash t.has_section there none);
+      lists = lists;
+    } where
+      clash : (b : Bool) → b ≡ true → b ≡ false → ⊥
+      clash b x y = cc
+
+pub makes-nothing : (t : EhFrames) (spans : List Span) (runs : Runs) (w : Written) → t.has_section ≡ false
+    → w.bytes.items ≡ [] → w.lists.items ≡ [] → EhMakes t spans runs w
+makes-nothing t spans runs w none e lists =
+    let empty = λ (at : ℕ). ap (frames false at) e ∙ none-framed false at in
+    record {
+      sound = λ at. ap (λ (x : Frames). x.bad) (empty at);
+      starts = λ at. subst (λ (x : Frames). All (λ (f : Fde). is_new_code spans f.start ≡ true) x.list) (sym (empty at))
+          (All-nil (λ (f : Fde). is_new_code spans f.start ≡ true));
+      count = λ at. subst (λ (x : Frames). length x.list ≤ length runs) (sym (empty at)) (least (length runs));
+      size = subst (λ (l : List ℕ). length l + 8 * length runs ≤ 16 + 64 * (read_as t.frames).cies + sum_by
+          (λ (r : Run FrameAnswer). run_size r.answer) runs) (sym e)
+          (room (8 * length runs) (read_as t.frames).cies _ (least-total runs));
+      ends = λ there. absurd (clash t.has_section there none);
+      nothing = λ _. e;
+      lists = lists;
+    } where
+      clash : (b : Bool) → b ≡ true → b ≡ false → ⊥
+      clash b x y = cc
+
+      least : (n : ℕ) → 0 ≤ n
+      least n = omega arith
+
+      room : (n c s : ℕ) → n ≤ s → 0 + n ≤ 16 + 64 * c + s
+      room n c s h = omega arith
+
+-- the entries of marked runs hold no bytes but those of runs
+pub all-reached : (debug : Bool) (is_marked : Fde → Bool) (section : Held) (spans : List Span) (runs : Runs)
+    → IsWithin 0 runs (2 ^ 64 - 1)
+    → ((p : ℕ) → run_at runs p ≡ carried (answer_at is_marked (frames_of debug section).list) spans p)
+    → All (λ f. is_marked f ≡ true → MovesWhole spans f) (frames_of debug section).list → All (IsReached spans runs) runs
+all-reached debug is_marked section spans runs w a m =
+    reached is_marked (frames_of debug section).list spans runs (2 ^ 64 - 1) w a m
+    (frames-begin debug section.address section.bytes)
+
+pub eh-reached : (t : EhFrames) (spans : List Span) (runs : Runs) → EhAllows t spans → IsWithin 0 runs (2 ^ 64 - 1)
+    → ((p : ℕ) → run_at runs p ≡ carried (eh_says t) spans p)
+    → All (IsReached spans runs) runs
+eh-reached t spans runs allowed w a = all-reached t.frames.debug (is_marked_by t.cuts.items) (section_held t.frames) spans
+    runs w a allowed.1
+
+pub debug-reached : (t : DebugFrames) (spans : List Span) (runs : Runs) → IsWithin 0 runs (2 ^ 64 - 1)
+    → ((p : ℕ) → run_at runs p ≡ carried (debug_says t) spans p)
+    → All (IsReached spans runs) runs
+debug-reached t spans runs w a = all-reached t.frames.debug is_never_marked (section_held t.frames) spans runs w a
+    (λ k d h m. absurd (clash m)) where
+      clash : false ≡ true → ⊥
+      clash e = cc

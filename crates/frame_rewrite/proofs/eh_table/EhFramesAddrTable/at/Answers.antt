@@ -1,0 +1,14 @@
+use Rattle.std.proofs.Common.{rules, ◌∙◌, refl, ap}
+use Rattle.cfi_rows.specs.ReadFrames.{read_as}
+use Rattle.frame_rewrite.specs.FrameAnswers.{is_marked_by}
+use Rattle.frame_rewrite.specs.FrameLookups.{answer_by, is_marked_as}
+use Rattle.frame_rewrite.proofs.ToldEntries.{told-answer}
+use Rattle.frame_rewrite.proofs.eh_table.EhFramesAddrTable.at.Goals as goal
+
+pub returns-in-Some : goal.returns-in-Some
+returns-in-Some c =
+    let t = c.args.self.now in
+    let told = c.in-Some.told in
+    told-answer (is_marked_by t.cuts.items) (is_marked_as t.cuts.items) (read_as t.frames).list c.args.a told.fde told.row c.answer.result
+    (λ f. refl) (search rules)
+    (c.answer.ensures ∙ ap (answer_by told.fde told.row) (c.is_marked-marked.ensures ∙ ap (λ xs. is_marked_as xs told.fde) c.deref.ensures.value))

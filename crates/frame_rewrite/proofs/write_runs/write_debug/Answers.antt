@@ -1,0 +1,29 @@
+use Rattle.std.proofs.Common.{◌∙◌, ◌≡◌, true, rules, length}
+use Rattle.table_core.specs.Sections.{held}
+use Rattle.cfi_rows.specs.ReadFrames.{read_as, section_held}
+use Rattle.frame_rewrite.specs.FrameAnswers.{is_never_marked}
+use Rattle.frame_rewrite.specs.Tables.{debug_name}
+use Rattle.frame_rewrite.proofs.AnswersBack.{reached-before}
+use Rattle.frame_rewrite.proofs.Appends.{empty}
+use Rattle.frame_rewrite.proofs.WrittenTables.{stands, none-listed, nothing-stands, debug-reached}
+use Rattle.frame_rewrite.proofs.write_runs.write_debug.Goals as goal
+
+pub returns-then-is_empty-clause-law : goal.returns-then-is_empty-clause-law
+returns-then-is_empty-clause-law c =
+    let none : length c.args.table.now.frames.section.items ≡ 0 = search rules in
+    λ f there. nothing-stands true is_never_marked is_never_marked c.args.map.now c.args.runs.now
+    (read_as c.args.table.now.frames).list (held f debug_name)
+    (none-listed c.args.table.now.frames.debug (section_held c.args.table.now.frames)
+    (empty c.args.table.now.frames.section.items none)) (there ∙ c.new.ensures.items) c.requires.answers
+
+pub written-requires-clause-before : goal.written-requires-clause-before
+written-requires-clause-before c =
+    reached-before c.args.map.now c.args.runs.now c.args.runs.now
+    (debug-reached c.args.table.now c.args.map.now c.args.runs.now c.requires.within c.requires.answers)
+
+pub returns-clause-law : goal.returns-clause-law
+returns-clause-law c = λ f there.
+    stands true is_never_marked c.args.map.now _ c.args.runs.now c.in_ok-bytes.bytes.items (held f debug_name)
+    c.in_ok-keys.ensures c.requires.within
+    (debug-reached c.args.table.now c.args.map.now c.args.runs.now c.requires.within c.requires.answers)
+    c.in_ok-bytes.ensures there

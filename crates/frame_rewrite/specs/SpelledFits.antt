@@ -1,0 +1,74 @@
+-- What fits the fields of a written frame table.
+use Rattle.std.specs.Prelude.{◌≡◌, ℕ, ◌+◌, ◌*◌, ◌++◌, ◌^◌, ◌<◌, ◌≤◌, Bool, List, [], ◌∷◌, All, length, take, drop, FitsSigned, Some, slice_get}
+use Rattle.std.specs.Prelude.{IsSome}
+use Rattle.std.specs.Int.{w64}
+use Rattle.addr_map.specs.declared.span.Span.{Span}
+use Rattle.table_core.specs.declared.run.Run.{Run}
+use Rattle.table_core.specs.AnswerRuns.{run_at}
+use Rattle.cfi_rows.specs.declared.row.Cfa.{Cfa}
+use Rattle.cfi_rows.specs.declared.row.Cfa.TheVariants.{Reg, Expr}
+use Rattle.cfi_rows.specs.declared.row.Rule.{Rule}
+use Rattle.cfi_rows.specs.declared.row.Rule.TheVariants as rule
+use Rattle.cfi_rows.specs.FrameRows.{RowValue, Rules}
+use Rattle.frame_rewrite.specs.declared.cie_key.CieKey.{CieKey}
+use Rattle.frame_rewrite.specs.FrameAnswers.{FrameAnswer}
+use Rattle.frame_rewrite.specs.SpelledFrames.{key_of, key_index, fde_body, more_count, start_of, cie_size, spelled_entries, table_entries}
+use Rattle.frame_rewrite.specs.SpelledFrames.{end_mark}
+
+abbrev pub CfaFits : Cfa → Type 0
+CfaFits (Reg r n) = (r < 2 ^ 64) × FitsSigned w64 n
+CfaFits (Expr b) = length b < 2 ^ 64
+
+abbrev pub RuleFits : Rule → Type 0
+RuleFits rule.Undefined = Unit {0}
+RuleFits rule.Same = Unit {0}
+RuleFits (rule.Offset n) = FitsSigned w64 n
+RuleFits (rule.ValOffset n) = FitsSigned w64 n
+RuleFits (rule.Reg q) = q < 2 ^ 64
+RuleFits (rule.Expr b) = length b < 2 ^ 64
+RuleFits (rule.ValExpr b) = length b < 2 ^ 64
+
+-- the registers ascend, from one on
+abbrev pub RulesFit : ℕ → Rules → Type 0
+RulesFit least [] = Unit {0}
+RulesFit least (x ∷ xs) = (least ≤ x.0) × (x.0 < 2 ^ 64) × RuleFits x.1 × RulesFit (x.0 + 1) xs
+
+pub record RowFits (row : RowValue) : Type 0 where
+  pub cfa : CfaFits row.cfa
+  pub rules : RulesFit 0 row.rules
+
+pub record KeyFits (k : CieKey) : Type 0 where
+  pub ra : k.ra < 256
+  pub handler : k.handler < 2 ^ 64
+
+-- an entry at an offset: its fields fit, and its CIE is the one that its answers need
+pub record Writes (spans : List Span) (keys : List CieKey) (place : ℕ) (r : Run FrameAnswer)
+    (more : List (Run FrameAnswer)) : Type 0 where
+  pub low : place + 4 < 2 ^ 32
+  pub size : length (fde_body spans r more) + 4 < 0xffffffff
+  pub key : slice_get keys (key_index spans keys r) ≡ Some (key_of spans r.answer)
+  pub table : r.answer.table < 2 ^ 64
+  pub row : RowFits r.answer.row
+  pub rows : All (λ (q : Run FrameAnswer). RowFits q.answer.row) more
+
+unfoldable pub WritesAll : List Span → List CieKey → ℕ → ℕ → List (Run FrameAnswer) → Type 0
+WritesAll spans keys n place [] = Unit {0}
+WritesAll spans keys ℕ.zero place (r ∷ rs) = Unit {0}
+WritesAll spans keys (ℕ.suc n) place (r ∷ rs) =
+    Writes spans keys place r (take (more_count r rs) rs)
+    × WritesAll spans keys n (place + 8 + length (fde_body spans r (take (more_count r rs) rs))) (drop (more_count r rs) rs)
+
+-- The entry of a run holds no byte before it but those of runs.
+pub record IsReached (spans : List Span) (runs : List (Run FrameAnswer)) (r : Run FrameAnswer) : Type 0 where
+  pub before : start_of spans r ≤ r.start
+  pub filled : (p : ℕ) → start_of spans r ≤ p → p < r.start + r.len → IsSome (run_at runs p)
+
+-- a run ends before the last address
+abbrev pub EndFits : Run FrameAnswer → Type 0
+EndFits r = r.start + r.len < 2 ^ 64
+
+-- a table that was written of runs, whose CIEs are those of some kinds of frames
+pub record IsSpelled (debug : Bool) (spans : List Span) (keys : List CieKey) (runs : List (Run FrameAnswer))
+    (bytes : List ℕ) : Type 0 where
+  pub writes : WritesAll spans keys (length runs) (cie_size * length keys) runs
+  pub bytes_are : bytes ≡ spelled_entries (table_entries debug spans keys runs) ++ end_mark debug

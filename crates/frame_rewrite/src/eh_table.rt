@@ -1,0 +1,98 @@
+// What `.eh_frame` answers by address.
+ghost use Rattle.std.specs.Prelude.{◌≡◌};
+ghost use Rattle.frame_rewrite.specs.CarriedFrames.{IsCarriedFrame};
+ghost use Rattle.frame_rewrite.specs.FrameAnswers.{FrameAnswer};
+ghost use Rattle.frame_rewrite.specs.Faults.{IsFrameFault};
+ghost use Rattle.frame_rewrite.specs.Tables as spec;
+ghost use Rattle.cfi_rows.specs.Frames.{eh_frames};
+
+use crate::answer::FrameAt;
+use crate::eh::EhFrames;
+use crate::lookup::{index_of, tell};
+use crate::marks::is_marked;
+use crate::same::same_answer;
+use crate::write_runs::write_eh;
+use addr_map::AddrMap;
+use cfi_rows::frames;
+use elf_image::{Elf, cuts};
+use rb_bytes::fault::{Fault, FaultKind, NoMemory, Refusal};
+use std::alloc::Global;
+use table_core::{AddrTable, Run, Written};
+
+impl AddrTable for EhFrames {
+    type Answer = FrameAt;
+
+    ghost Meaning = { FrameAnswer };
+
+    ghost said = { λ x. x };
+
+    ghost says = { spec.eh_says };
+
+    ghost means = { spec.eh_answers };
+
+    ghost has = { λ elf. IsFrameFault (eh_frames elf) };
+
+    ghost comes_from = { spec.EhComesFrom };
+
+    ghost allows = { spec.EhAllows };
+
+    ghost stands = { λ i spans w f. spec.StandsAs spec.eh_name w f };
+
+    ghost carries = { IsCarriedFrame };
+
+    ghost weighs = { λ t spans n. n ≡ 0 };
+
+    ghost fits = { spec.EhFits };
+
+    ghost makes = { spec.EhMakes };
+
+    ghost keeps = { λ i f. Unit {0} };
+
+    ghost is_low = { λ t spans h. h.0 };
+
+    fn same(x: &FrameAt, y: &FrameAt) -> bool {
+        same_answer(x, y)
+    }
+
+    fn read(alloc: Global, elf: &Elf) -> Result<EhFrames, Refusal> {
+        let frames = frames(alloc, elf, false)?;
+        if let Some(place) = frames.bad {
+            return Err(Refusal::Fault(Fault::at(FaultKind::FrameFault, place)));
+        }
+        let index = index_of(alloc, &frames.list)?;
+        let cuts = cuts(alloc, elf)?;
+        Ok(EhFrames {
+            frames,
+            has_section: elf.section_called(b".eh_frame").is_some(),
+            cuts,
+            index,
+        })
+    }
+
+    fn at(&self, alloc: Global, a: u64) -> Result<Option<FrameAt>, NoMemory> {
+        match tell(alloc, &self.frames, &self.index, a)? {
+            Some(told) => {
+                let marked = is_marked(&self.cuts, &told.fde);
+                Ok(Some(told.answer(marked)))
+            }
+            None => Ok(None),
+        }
+    }
+
+    fn alike(&self, _a: u64, _b: u64) -> bool {
+        false
+    }
+
+    fn weight(&self, _alloc: Global, map: &AddrMap) -> Result<u64, NoMemory> {
+        Ok(0)
+    }
+
+    fn write_runs(
+        &self,
+        alloc: Global,
+        runs: &[Run<FrameAt>],
+        map: &AddrMap,
+    ) -> Result<Written, NoMemory> {
+        write_eh(self, alloc, runs, map)
+    }
+}

@@ -1,0 +1,82 @@
+// The entry of a frame table that holds an address, and what it says there.
+ghost use Rattle.std.specs.Prelude.{◌≡◌, ℕ, List, IfOk, map, option_map, position};
+ghost use Rattle.table_core.specs.AddressRanges.{holds_address};
+ghost use Rattle.table_core.specs.FirstRanges.{first_range};
+ghost use Rattle.cfi_rows.specs.Entries.{Fde as Entry, range_of};
+ghost use Rattle.cfi_rows.specs.ReadEntries.{fde_of};
+ghost use Rattle.cfi_rows.specs.ReadFrames.{read_as};
+ghost use Rattle.frame_rewrite.specs.FrameLookups.{told_at, answer_by};
+
+use crate::answer::FrameAt;
+use cfi_rows::Row;
+use cfi_rows::frame_table::{Fde, Frames};
+use rb_bytes::fault::NoMemory;
+use std::alloc::Global;
+use table_core::{FirstRange, Range};
+
+/// The first entry that holds an address, and its row there.
+#[derive(Drop)]
+pub struct Told {
+    pub fde: Fde,
+    pub row: Row,
+}
+
+impl Told {
+    /// The answer, of an entry that is marked or isn't.
+    pub(crate) fn answer(self, marked: bool) -> FrameAt
+        ensures { result ≡ answer_by self.fde self.row marked }
+    {
+        FrameAt {
+            row: self.row,
+            ra: self.fde.ra,
+            handler: self.fde.handler,
+            indirect: self.fde.indirect,
+            table: self.fde.table,
+            signal: self.fde.signal,
+            start: self.fde.start,
+            marked,
+        }
+    }
+}
+
+/// An index of entries by the addresses in their ranges.
+pub(crate) fn index_of(alloc: Global, list: &[Fde]) -> Result<FirstRange, NoMemory>
+    ensures { IfOk result (λ index. (fs : List Entry) → list.now ≡ map fde_of fs →
+        (a : ℕ) → first_range index a ≡ position (holds_address a) (map range_of fs)) }
+{
+    let ranges = ranges_of(alloc, list)?;
+    FirstRange::new(alloc, &ranges)
+}
+
+fn ranges_of(alloc: Global, list: &[Fde]) -> Result<Vec<Range>, NoMemory>
+    ensures { IfOk result (λ ranges. ranges.items ≡ map (λ f. record { low = f.start; high = f.end }) list.now) }
+{
+    let ranges = list
+        .iter()
+        .map(|f| Range {
+            low: f.start,
+            high: f.end as u128,
+        })
+        .collect(alloc)?;
+    Ok(ranges)
+}
+
+/// What the first entry that holds an address says there, by an index of the table's entries.
+pub(crate) fn tell(
+    alloc: Global,
+    frames: &Frames,
+    index: &FirstRange,
+    a: u64,
+) -> Result<Option<Told>, NoMemory>
+    requires { (a : ℕ) → first_range index.now a ≡ position (holds_address a) (map range_of (read_as frames.now).list) }
+    ensures { IfOk result (λ o. option_map (λ t. (t.fde, t.row)) o ≡ told_at (read_as frames.now).list a) }
+{
+    let Some(i) = index.find(a) else {
+        return Ok(None);
+    };
+    let Some(fde) = frames.list.get(i) else {
+        return Err(NoMemory);
+    };
+    let row = frames.row(alloc, i, a)?;
+    Ok(Some(Told { fde: *fde, row }))
+}

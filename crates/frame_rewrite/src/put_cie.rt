@@ -1,0 +1,112 @@
+// Entries of a frame table, and CIEs. LSB, "The .eh_frame section".
+ghost use Rattle.std.specs.Prelude.{◌≡◌, ◌<◌, ◌+◌, ◌^◌, ◌++◌, ℕ, OnOk, All, length};
+ghost use Rattle.cfi_rows.specs.Entries as entries;
+ghost use Rattle.frame_rewrite.specs.SpelledFrames as spec;
+ghost use Rattle.frame_rewrite.specs.SpelledFits.{KeyFits};
+
+use crate::cie_key::CieKey;
+use crate::spelling::{put_byte, put_bytes, put_u32, put_u64, put_zeros};
+use cfi_rows::encoding::{DW_EH_PE_absptr, DW_EH_PE_indirect_absptr};
+use rb_bytes::fault::NoMemory;
+
+/// The greatest number of bytes of an entry's contents: its length field has no value that says that it is longer.
+const MAX_BODY: usize = 0xffff_fff0;
+
+/// The greatest id of an entry.
+const MAX_ID: usize = 0xffff_ffff;
+
+/// Appends an entry, if its id and its length fit their fields.
+pub(crate) fn put_entry(out: &mut Vec<u8>, id: usize, body: &[u8]) -> Result<(), NoMemory>
+    ensures written { OnOk result (out.new.items ≡ out.old.items
+        ++ spec.spelled_entry (record { place = length out.old.items; id = id; body = body.now })) }
+    ensures id { OnOk result (id < 2 ^ 32) }
+    ensures size { OnOk result (length body.now + 4 < 0xffffffff) }
+{
+    if id > MAX_ID || body.len() > MAX_BODY {
+        return Err(NoMemory);
+    }
+    put_u32(out, (body.len() + 4) as u32)?;
+    put_u32(out, id as u32)?;
+    put_bytes(out, body)
+}
+
+// The letters of the augmentation, and the byte that ends them.
+fn put_text(out: &mut Vec<u8>, signal: bool) -> Result<(), NoMemory>
+    ensures { OnOk result (out.new.items ≡ out.old.items ++ spec.cie_text signal) }
+{
+    if signal {
+        put_bytes(out, b"zRPLS\0")
+    } else {
+        put_bytes(out, b"zRPL\0")
+    }
+}
+
+fn handler_encoding(indirect: bool) -> u8
+    ensures { result ≡ spec.handler_encoding indirect }
+{
+    if indirect {
+        DW_EH_PE_indirect_absptr as u8
+    } else {
+        DW_EH_PE_absptr as u8
+    }
+}
+
+fn cie_nops(signal: bool) -> usize
+    ensures { result ≡ spec.cie_nops signal }
+{
+    if signal { 2 } else { 3 }
+}
+
+// The contents of a CIE, of 24 bytes.
+fn put_cie(out: &mut Vec<u8>, key: &CieKey) -> Result<(), NoMemory>
+    requires { key.now.ra < 256 }
+    ensures { OnOk result (out.new.items ≡ out.old.items ++ spec.cie_body key.now) }
+{
+    put_byte(out, 1)?;
+    put_text(out, key.signal)?;
+    put_bytes(
+        out,
+        &[1, 1, key.ra as u8, 11, 0, handler_encoding(key.indirect)],
+    )?;
+    put_u64(out, key.handler)?;
+    put_byte(out, DW_EH_PE_absptr as u8)?;
+    put_zeros(out, cie_nops(key.signal))?;
+    Ok(())
+}
+
+/// The id of a CIE.
+fn cie_id(debug: bool) -> usize
+    ensures { result ≡ entries.cie_id debug }
+{
+    if debug { 0xffff_ffff } else { 0 }
+}
+
+fn put_cie_entry(
+    out: &mut Vec<u8>,
+    body: &mut Vec<u8>,
+    debug: bool,
+    key: &CieKey,
+) -> Result<(), NoMemory>
+    requires { key.now.ra < 256 }
+    ensures { OnOk result ((i : ℕ) → out.new.items ≡ out.old.items ++ spec.spelled_entry (spec.cie_entry debug i key.now)) }
+{
+    body.clear();
+    put_cie(body, key)?;
+    put_entry(out, cie_id(debug), body)
+}
+
+/// Appends all CIEs.
+pub(crate) fn put_cies(
+    out: &mut Vec<u8>,
+    body: &mut Vec<u8>,
+    debug: bool,
+    keys: &[CieKey],
+) -> Result<(), NoMemory>
+    requires { All KeyFits keys.now }
+    ensures { OnOk result (out.new.items ≡ out.old.items ++ spec.spelled_entries (spec.cie_entries debug 0 keys.now)) }
+{
+    for (i, key) in keys.iter().enumerate() {
+        put_cie_entry(out, body, debug, key)?;
+    }
+    Ok(())
+}

@@ -1,0 +1,201 @@
+// FDEs, each of a group of runs. LSB, "The .eh_frame section".
+ghost use Rattle.std.specs.Prelude.{◌≡◌, ◌<◌, ◌≤◌, ◌+◌, ◌-◌, ◌*◌, ◌^◌, ◌++◌, ◌∷◌, Some, OnOk, IfOk, All};
+ghost use Rattle.std.specs.Prelude.{length, flat_map, slice_get};
+ghost use Rattle.std.specs.List.{position_or_len};
+ghost use Rattle.table_core.specs.AnswerRuns.{IsWithin};
+ghost use Rattle.frame_rewrite.specs.SpelledFrames as spec;
+ghost use Rattle.frame_rewrite.specs.SpelledFits.{RowFits, Writes, WritesAll, EndFits};
+
+use crate::answer::FrameAt;
+use crate::cie_key::{CieKey, key_of, new_address};
+use crate::put_cie::put_entry;
+use crate::spelling::{put_byte, put_next_row, put_row, put_u64, put_zeros};
+use addr_map::AddrMap;
+use indexmap::IndexSet;
+use rb_bytes::fault::NoMemory;
+use table_core::Run;
+
+/// The size of a CIE.
+pub(crate) const CIE_SIZE: usize = 32;
+
+/// The last place at which an entry may begin, so that distances in the table fit four bytes.
+const MAX_PLACE: usize = 0xffff_0000;
+
+// Whether a run goes on in the entry of another, which is of a whole function.
+fn continues(first: &Run<FrameAt>, next: &Run<FrameAt>) -> bool
+    ensures { result ≡ spec.continues first.now next.now }
+{
+    let (first, next) = (&first.answer, &next.answer);
+    first.marked
+        && next.marked
+        && first.start == next.start
+        && first.table == next.table
+        && first.ra == next.ra
+        && first.handler == next.handler
+        && first.indirect == next.indirect
+        && first.signal == next.signal
+}
+
+// How many of the runs behind one go on in its entry.
+fn more_count(first: &Run<FrameAt>, others: &[Run<FrameAt>]) -> usize
+    ensures count { result ≡ spec.more_count first.now others.now }
+    ensures within { result ≤ length others.now }
+{
+    for (i, next) in others.iter().enumerate() {
+        if !continues(first, next) {
+            return i;
+        }
+    }
+    others.len()
+}
+
+// Where the entry of a run begins.
+fn start_of(map: &AddrMap, run: &Run<FrameAt>) -> u64
+    ensures { result ≡ spec.start_of map.now run.now }
+{
+    if run.answer.marked {
+        new_address(map, run.answer.start)
+    } else {
+        run.start
+    }
+}
+
+// Where the last run of a group ends.
+fn group_end(first: &Run<FrameAt>, more: &[Run<FrameAt>]) -> u64
+    requires { All EndFits (first.now ∷ more.now) }
+    ensures { result ≡ spec.last_end (first.now.start + first.now.len) more.now }
+{
+    let mut end = first.start + first.len;
+    for run in more {
+        end = run.start + run.len;
+    }
+    end
+}
+
+fn put_next_rows(out: &mut Vec<u8>, more: &[Run<FrameAt>]) -> Result<(), NoMemory>
+    ensures written { OnOk result (out.new.items ≡ out.old.items ++ flat_map spec.spelled_next more.now) }
+    ensures fits { OnOk result (All (λ r. RowFits r.answer.row) more.now) }
+{
+    for run in more {
+        put_next_row(out, run.start, &run.answer.row)?;
+    }
+    Ok(())
+}
+
+// The range of an entry, its exception table and its rows.
+fn put_fields(
+    out: &mut Vec<u8>,
+    map: &AddrMap,
+    first: &Run<FrameAt>,
+    more: &[Run<FrameAt>],
+) -> Result<(), NoMemory>
+    requires ends { All EndFits (first.now ∷ more.now) }
+    requires start { spec.start_of map.now first.now ≤ spec.last_end (first.now.start + first.now.len) more.now }
+    ensures written { OnOk result (out.new.items ≡ out.old.items ++ spec.fde_fields map.now first.now more.now) }
+    ensures table { OnOk result (first.now.answer.table < 2 ^ 64) }
+    ensures row { OnOk result (RowFits first.now.answer.row) }
+    ensures rows { OnOk result (All (λ r. RowFits r.answer.row) more.now) }
+{
+    let start = start_of(map, first);
+    put_u64(out, start)?;
+    put_u64(out, group_end(first, more) - start)?;
+    put_byte(out, 8)?;
+    put_u64(out, first.answer.table)?;
+    put_row(out, &first.answer.row)?;
+    put_next_rows(out, more)?;
+    Ok(())
+}
+
+// As many zero bytes as make the length a multiple of 8.
+fn pad(out: &mut Vec<u8>) -> Result<(), NoMemory>
+    ensures { OnOk result (out.new.items ≡ out.old.items ++ spec.zeros (spec.padding (length out.old.items))) }
+{
+    let count = 7 - (out.len() % 8 + 7) % 8;
+    put_zeros(out, count)
+}
+
+// The id of an FDE at a place, whose CIE is the one of an index.
+fn fde_id(debug: bool, place: usize, index: usize) -> usize
+    requires within { CIE_SIZE * index ≤ place }
+    requires fits { place + 4 < 2 ^ 32 }
+    ensures { result ≡ spec.fde_id debug place index }
+{
+    if debug {
+        CIE_SIZE * index
+    } else {
+        place + 4 - CIE_SIZE * index
+    }
+}
+
+// The index of a kind of frame.
+fn index_of(keys: &IndexSet<CieKey>, key: &CieKey) -> Result<usize, NoMemory>
+    ensures index { IfOk result (λ i. i ≡ position_or_len (spec.is_key key.now) keys.now.keys) }
+    ensures found { IfOk result (λ i. slice_get keys.now.keys i ≡ Some key.now) }
+    ensures within { IfOk result (λ i. i < length keys.now.keys) }
+{
+    match keys.get_index_of(key) {
+        Some(index) => Ok(index),
+        None => Err(NoMemory),
+    }
+}
+
+// Appends the FDE of a group of runs.
+fn put_fde(
+    out: &mut Vec<u8>,
+    body: &mut Vec<u8>,
+    debug: bool,
+    keys: &IndexSet<CieKey>,
+    map: &AddrMap,
+    first: &Run<FrameAt>,
+    more: &[Run<FrameAt>],
+) -> Result<(), NoMemory>
+    requires behind { CIE_SIZE * length keys.now.keys ≤ length out.old.items }
+    requires ends { All EndFits (first.now ∷ more.now) }
+    requires start { spec.start_of map.now first.now ≤ spec.last_end (first.now.start + first.now.len) more.now }
+    ensures written { OnOk result (out.new.items ≡ out.old.items
+        ++ spec.spelled_entry (spec.fde_entry debug map.now keys.now.keys (length out.old.items) first.now more.now)) }
+    ensures writes { OnOk result (Writes map.now keys.now.keys (length out.old.items) first.now more.now) }
+{
+    if out.len() > MAX_PLACE {
+        return Err(NoMemory);
+    }
+    let key = key_of(map, &first.answer);
+    let index = index_of(keys, &key)?;
+    body.clear();
+    put_fields(body, map, first, more)?;
+    pad(body)?;
+    let id = fde_id(debug, out.len(), index);
+    put_entry(out, id, body)?;
+    Ok(())
+}
+
+/// Appends the FDEs of runs.
+pub(crate) fn put_fdes(
+    out: &mut Vec<u8>,
+    body: &mut Vec<u8>,
+    debug: bool,
+    keys: &IndexSet<CieKey>,
+    map: &AddrMap,
+    runs: &[Run<FrameAt>],
+) -> Result<(), NoMemory>
+    requires behind { CIE_SIZE * length keys.now.keys ≤ length out.old.items }
+    requires within { IsWithin 0 runs.now (2 ^ 64 - 1) }
+    requires before { All (λ r. spec.start_of map.now r ≤ r.start) runs.now }
+    ensures written { OnOk result (out.new.items ≡ out.old.items
+        ++ spec.spelled_entries
+        (spec.fde_entries debug map.now keys.now.keys (length runs.now) (length out.old.items) runs.now)) }
+    ensures writes { OnOk result (WritesAll map.now keys.now.keys (length runs.now) (length out.old.items) runs.now) }
+{
+    let mut rest = runs;
+    for count in 0..runs.len() {
+        match rest.split_first() {
+            None => return Ok(()),
+            Some((first, others)) => {
+                let (more, behind) = others.split_at(more_count(first, others));
+                put_fde(out, body, debug, keys, map, first, more)?;
+                rest = behind;
+            }
+        }
+    }
+    Ok(())
+}

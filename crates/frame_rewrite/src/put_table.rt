@@ -1,0 +1,67 @@
+// Whole frame tables. LSB, "The .eh_frame section"; DWARF 5, section 6.4.1.
+ghost use Rattle.std.specs.Prelude.{◌≡◌, ◌<◌, ◌≤◌, ◌-◌, ◌^◌, ◌++◌, IfOk, OnOk, All};
+ghost use Rattle.table_core.specs.AnswerRuns.{IsWithin};
+ghost use Rattle.frame_rewrite.specs.SpelledFrames as spec;
+ghost use Rattle.frame_rewrite.specs.SpelledFits.{KeyFits, IsSpelled};
+
+use crate::answer::FrameAt;
+use crate::cie_key::{CieKey, key_of};
+use crate::put_cie::put_cies;
+use crate::put_fde::put_fdes;
+use crate::spelling::put_zeros;
+use addr_map::AddrMap;
+use indexmap::IndexSet;
+use rb_bytes::fault::NoMemory;
+use std::alloc::Global;
+use table_core::Run;
+
+/// The greatest return register.
+const MAX_REGISTER: u64 = 255;
+
+/// The kinds of frames that runs need, each once.
+pub(crate) fn keys_of(
+    alloc: Global,
+    map: &AddrMap,
+    runs: &[Run<FrameAt>],
+) -> Result<IndexSet<CieKey>, NoMemory>
+    ensures { IfOk result (λ keys. All KeyFits keys.keys) }
+{
+    let mut keys = IndexSet::new(alloc);
+    for run in runs {
+        let key = key_of(map, &run.answer);
+        // A return register that was read is no greater.
+        if key.ra > MAX_REGISTER {
+            return Err(NoMemory);
+        }
+        keys.insert(key)?;
+    }
+    Ok(keys)
+}
+
+// Appends what ends a table.
+fn put_end(out: &mut Vec<u8>, debug: bool) -> Result<(), NoMemory>
+    ensures { OnOk result (out.new.items ≡ out.old.items ++ spec.end_mark debug) }
+{
+    if debug { Ok(()) } else { put_zeros(out, 4) }
+}
+
+/// A frame table, `.debug_frame` where `debug` holds, made of runs that need some kinds of frames.
+pub(crate) fn written(
+    alloc: Global,
+    debug: bool,
+    keys: &IndexSet<CieKey>,
+    map: &AddrMap,
+    runs: &[Run<FrameAt>],
+) -> Result<Vec<u8>, NoMemory>
+    requires keys { All KeyFits keys.now.keys }
+    requires within { IsWithin 0 runs.now (2 ^ 64 - 1) }
+    requires before { All (λ r. spec.start_of map.now r ≤ r.start) runs.now }
+    ensures { IfOk result (λ bytes. IsSpelled debug map.now keys.now.keys runs.now bytes.items) }
+{
+    let mut out = Vec::new(alloc);
+    let mut body = Vec::new(alloc);
+    put_cies(&mut out, &mut body, debug, keys.as_slice())?;
+    put_fdes(&mut out, &mut body, debug, keys, map, runs)?;
+    put_end(&mut out, debug)?;
+    Ok(out)
+}

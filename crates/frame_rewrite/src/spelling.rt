@@ -1,0 +1,170 @@
+// How rows are spelled as call frame instructions. DWARF 5, section 6.4.2.
+ghost use Rattle.std.specs.Prelude.{◌≡◌, ◌++◌, ◌∷◌, [], OnOk};
+ghost use Rattle.byteorder.specs.Endian.{little_bytes};
+ghost use Rattle.rb_bytes.specs.Leb.{uleb, sleb};
+ghost use Rattle.frame_rewrite.specs.SpelledFrames as spec;
+ghost use Rattle.frame_rewrite.specs.SpelledFits.{CfaFits, RuleFits, RulesFit, RowFits};
+
+use byteorder::{ByteOrder, LittleEndian};
+use cfi_rows::instruction::{
+    DW_CFA_def_cfa_expression, DW_CFA_def_cfa_sf, DW_CFA_expression, DW_CFA_offset_extended_sf,
+    DW_CFA_register, DW_CFA_remember_state, DW_CFA_restore_state, DW_CFA_same_value,
+    DW_CFA_set_loc, DW_CFA_undefined, DW_CFA_val_expression, DW_CFA_val_offset_sf,
+};
+use cfi_rows::row::{Cfa, Expression, Row, Rule};
+use rb_bytes::fault::NoMemory;
+use rb_bytes::leb::{put_sleb, put_uleb};
+
+pub(crate) fn put_u32(out: &mut Vec<u8>, n: u32) -> Result<(), NoMemory>
+    ensures { OnOk result (out.new.items ≡ out.old.items ++ little_bytes 4 n) }
+{
+    let mut field = [0; 4];
+    LittleEndian::write_u32(&mut field, n);
+    out.extend_from_slice(&field)?;
+    Ok(())
+}
+
+pub(crate) fn put_u64(out: &mut Vec<u8>, n: u64) -> Result<(), NoMemory>
+    ensures { OnOk result (out.new.items ≡ out.old.items ++ little_bytes 8 n) }
+{
+    let mut field = [0; 8];
+    LittleEndian::write_u64(&mut field, n);
+    out.extend_from_slice(&field)?;
+    Ok(())
+}
+
+pub(crate) fn put_byte(out: &mut Vec<u8>, b: u8) -> Result<(), NoMemory>
+    ensures { OnOk result (out.new.items ≡ out.old.items ++ b ∷ []) }
+{
+    out.push(b)?;
+    Ok(())
+}
+
+pub(crate) fn put_bytes(out: &mut Vec<u8>, bytes: &[u8]) -> Result<(), NoMemory>
+    ensures { OnOk result (out.new.items ≡ out.old.items ++ bytes.now) }
+{
+    out.extend_from_slice(bytes)?;
+    Ok(())
+}
+
+fn put_signed(out: &mut Vec<u8>, n: i64) -> Result<(), NoMemory>
+    ensures { OnOk result (out.new.items ≡ out.old.items ++ sleb n) }
+{
+    put_sleb(out, n)
+}
+
+fn put_unsigned(out: &mut Vec<u8>, n: u64) -> Result<(), NoMemory>
+    ensures { OnOk result (out.new.items ≡ out.old.items ++ uleb n) }
+{
+    put_uleb(out, n)
+}
+
+// An expression behind its length.
+fn put_block(out: &mut Vec<u8>, block: &Expression) -> Result<(), NoMemory>
+    ensures { OnOk result (out.new.items ≡ out.old.items ++ spec.spelled_block block.now) }
+{
+    put_unsigned(out, block.bytes.len() as u64)?;
+    put_bytes(out, &block.bytes)
+}
+
+// An opcode and a register.
+fn put_register(out: &mut Vec<u8>, opcode: u8, register: u64) -> Result<(), NoMemory>
+    ensures { OnOk result (out.new.items ≡ out.old.items ++ opcode ∷ uleb register) }
+{
+    put_byte(out, opcode)?;
+    put_unsigned(out, register)
+}
+
+fn put_cfa(out: &mut Vec<u8>, cfa: &Cfa) -> Result<(), NoMemory>
+    ensures spelled { OnOk result (out.new.items ≡ out.old.items ++ spec.spelled_cfa cfa.now) }
+    ensures fits { OnOk result (CfaFits cfa.now) }
+{
+    match cfa {
+        Cfa::Reg { reg, offset } => {
+            put_register(out, DW_CFA_def_cfa_sf as u8, *reg)?;
+            put_signed(out, *offset)
+        }
+        Cfa::Expr(block) => {
+            put_byte(out, DW_CFA_def_cfa_expression as u8)?;
+            put_block(out, block)
+        }
+    }
+}
+
+fn put_rule(out: &mut Vec<u8>, register: u64, rule: &Rule) -> Result<(), NoMemory>
+    ensures spelled { OnOk result (out.new.items ≡ out.old.items ++ spec.spelled_rule register rule.now) }
+    ensures fits { OnOk result (RuleFits rule.now) }
+{
+    match rule {
+        Rule::Undefined => put_register(out, DW_CFA_undefined as u8, register),
+        Rule::Same => put_register(out, DW_CFA_same_value as u8, register),
+        Rule::Offset(offset) => {
+            put_register(out, DW_CFA_offset_extended_sf as u8, register)?;
+            put_signed(out, *offset)
+        }
+        Rule::ValOffset(offset) => {
+            put_register(out, DW_CFA_val_offset_sf as u8, register)?;
+            put_signed(out, *offset)
+        }
+        Rule::Reg(other) => {
+            put_register(out, DW_CFA_register as u8, register)?;
+            put_unsigned(out, *other)
+        }
+        Rule::Expr(block) => {
+            put_register(out, DW_CFA_expression as u8, register)?;
+            put_block(out, block)
+        }
+        Rule::ValExpr(block) => {
+            put_register(out, DW_CFA_val_expression as u8, register)?;
+            put_block(out, block)
+        }
+    }
+}
+
+// The rules of a row, whose registers ascend.
+fn put_rules(out: &mut Vec<u8>, rules: &[(u64, Rule)]) -> Result<(), NoMemory>
+    ensures spelled { OnOk result (out.new.items ≡ out.old.items ++ spec.spelled_rules rules.now) }
+    ensures fits { OnOk result (RulesFit 0 rules.now) }
+{
+    let mut least: u128 = 0;
+    for (register, rule) in rules {
+        // The rules of a row that was read ascend.
+        if (*register as u128) < least {
+            return Err(NoMemory);
+        }
+        put_rule(out, *register, rule)?;
+        least = *register as u128 + 1;
+    }
+    Ok(())
+}
+
+/// A whole row, from a state in which nothing is known, which is remembered.
+pub(crate) fn put_row(out: &mut Vec<u8>, row: &Row) -> Result<(), NoMemory>
+    ensures spelled { OnOk result (out.new.items ≡ out.old.items ++ spec.spelled_row row.now) }
+    ensures fits { OnOk result (RowFits row.now) }
+{
+    put_byte(out, DW_CFA_remember_state as u8)?;
+    put_cfa(out, &row.cfa)?;
+    put_rules(out, &row.rules)
+}
+
+/// A location, and a whole row from there on, in an entry that begins with another row.
+pub(crate) fn put_next_row(out: &mut Vec<u8>, location: u64, row: &Row) -> Result<(), NoMemory>
+    ensures spelled { OnOk result (out.new.items ≡ out.old.items ++ spec.spelled_next_row location row.now) }
+    ensures fits { OnOk result (RowFits row.now) }
+{
+    put_byte(out, DW_CFA_set_loc as u8)?;
+    put_u64(out, location)?;
+    put_byte(out, DW_CFA_restore_state as u8)?;
+    put_row(out, row)
+}
+
+/// Zero bytes, which are instructions that do nothing.
+pub(crate) fn put_zeros(out: &mut Vec<u8>, count: usize) -> Result<(), NoMemory>
+    ensures { OnOk result (out.new.items ≡ out.old.items ++ spec.zeros count) }
+{
+    for i in 0..count {
+        put_byte(out, 0)?;
+    }
+    Ok(())
+}

@@ -1,0 +1,76 @@
+// The two tables written anew, of runs.
+ghost use Rattle.std.specs.Prelude.{◌≡◌, ◌-◌, ◌^◌, ℕ, IfOk};
+ghost use Rattle.elf_image.specs.declared.elf.Elf.{Elf};
+ghost use Rattle.rb_bytes.specs.FirstFault.{IsFree};
+ghost use Rattle.table_core.specs.AnswerRuns.{IsWithin, run_at, carried};
+ghost use Rattle.table_core.specs.CarriedAnswers.{IsCarried};
+ghost use Rattle.cfi_rows.specs.Frames.{eh_frames, debug_frames};
+ghost use Rattle.frame_rewrite.specs.CarriedFrames.{IsCarriedFrame};
+ghost use Rattle.frame_rewrite.specs.Faults.{IsFrameFault};
+ghost use Rattle.frame_rewrite.specs.Tables as spec;
+
+use crate::answer::FrameAt;
+use crate::debug::DebugFrames;
+use crate::eh::EhFrames;
+use crate::put_table::{keys_of, written};
+use addr_map::AddrMap;
+use rb_bytes::fault::NoMemory;
+use std::alloc::Global;
+use table_core::{Run, Written};
+
+/// `.eh_frame`; where there was no such section, no bytes.
+pub(crate) fn write_eh(
+    table: &EhFrames,
+    alloc: Global,
+    runs: &[Run<FrameAt>],
+    map: &AddrMap,
+) -> Result<Written, NoMemory>
+    requires allowed { spec.EhAllows table.now map.now }
+    requires within { IsWithin 0 runs.now (2 ^ 64 - 1) }
+    requires answers { (p : ℕ) → run_at runs.now p ≡ carried (spec.eh_says table.now) map.now p }
+    ensures law { IfOk result (λ w. (i f : Elf) → spec.EhComesFrom table.now i → spec.StandsAs spec.eh_name w f →
+        IsCarried (IsCarriedFrame map.now) map.now (run_at runs.now) (spec.eh_answers f)
+        × IsFree (IsFrameFault (eh_frames f))) }
+    ensures made { IfOk result (λ w. spec.EhMakes table.now map.now runs.now w) }
+{
+    let lists = Vec::new(alloc);
+    if !table.has_section {
+        return Ok(Written {
+            bytes: Vec::new(alloc),
+            lists,
+        });
+    }
+    let keys = keys_of(alloc, map, runs)?;
+    // Each kind of frame is that of a CIE that was read.
+    if keys.len() as u64 > table.frames.cies {
+        return Err(NoMemory);
+    }
+    let bytes = written(alloc, false, &keys, map, runs)?;
+    Ok(Written { bytes, lists })
+}
+
+/// `.debug_frame`; where it was empty, no bytes.
+pub(crate) fn write_debug(
+    table: &DebugFrames,
+    alloc: Global,
+    runs: &[Run<FrameAt>],
+    map: &AddrMap,
+) -> Result<Written, NoMemory>
+    requires within { IsWithin 0 runs.now (2 ^ 64 - 1) }
+    requires answers { (p : ℕ) → run_at runs.now p ≡ carried (spec.debug_says table.now) map.now p }
+    ensures law { IfOk result (λ w. (f : Elf) → spec.StandsAs spec.debug_name w f →
+        IsCarried (IsCarriedFrame map.now) map.now (run_at runs.now) (spec.debug_answers f)
+        × IsFree (IsFrameFault (debug_frames f))) }
+    ensures made { IfOk result (λ w. spec.DebugMakes table.now w) }
+{
+    let lists = Vec::new(alloc);
+    if table.frames.section.is_empty() {
+        return Ok(Written {
+            bytes: Vec::new(alloc),
+            lists,
+        });
+    }
+    let keys = keys_of(alloc, map, runs)?;
+    let bytes = written(alloc, true, &keys, map, runs)?;
+    Ok(Written { bytes, lists })
+}
