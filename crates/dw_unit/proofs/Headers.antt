@@ -1,5 +1,5 @@
 -- A unit's header, with another offset of abbreviations in it.
-use Rattle.std.proofs.Common.{◌≡◌, ◌<◌, ◌≤◌, ◌+◌, ◌-◌, ◌++◌, ℕ, List, ◌∷◌, Bool, true, false, Ok, Err, Result, refl, ap, sym, ◌∙◌, arith, length, length-append, append_assoc}
+use Rattle.std.proofs.Common.{◌≡◌, ◌+◌, ◌-◌, ◌++◌, ℕ, List, ◌∷◌, Bool, true, false, Ok, Err, Result, refl, ap, sym, ◌∙◌, arith, length, length-append, append_assoc}
 use Rattle.std.specs.Prelude.{◌==◌, ◌&&◌}
 use Rattle.rb_bytes.specs.declared.gap.Gap.{Gap}
 use Rattle.rb_bytes.specs.Readers.{bytes_at, number_read, and_then}

@@ -1,5 +1,5 @@
 -- Readers take what stands at the front, whatever follows: bytes that are as many as those that followed.
-use Rattle.std.proofs.Common.{◌≡◌, ◌<◌, ◌≤◌, ◌+◌, ◌-◌, ◌^◌, ◌++◌, ℕ, zero, suc, List, [], ◌∷◌, Bool, true, false, cond, Ok, Err, Result, refl, ap, sym, ◌∙◌, arith, length, take, drop, nat_lt, length-append, append_assoc}
+use Rattle.std.proofs.Common.{◌≡◌, ◌<◌, ◌≤◌, ◌+◌, ◌^◌, ◌++◌, ℕ, zero, suc, List, [], ◌∷◌, Bool, true, false, cond, Ok, Err, Result, refl, ap, sym, ◌∙◌, arith, length, take, drop, nat_lt, length-append, append_assoc}
 use Rattle.std.specs.Prelude.{◌==◌}
 use Rattle.std.specs.List.{position_or_len}
 use Rattle.std.specs.Int.{w64, cast_unsigned}

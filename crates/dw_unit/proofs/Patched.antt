@@ -1,5 +1,5 @@
 -- Bytes with numbers written over them.
-use Rattle.std.proofs.Common.{◌≡◌, ◌<◌, ◌≤◌, ◌+◌, ◌-◌, ◌++◌, ℕ, zero, suc, List, [], ◌∷◌, refl, ap, sym, ◌∙◌, arith, length, take, drop, append_assoc}
+use Rattle.std.proofs.Common.{◌≡◌, ◌≤◌, ◌+◌, ◌-◌, ◌++◌, ℕ, zero, suc, List, [], ◌∷◌, refl, ap, sym, ◌∙◌, arith, length, take, drop, append_assoc}
 use Rattle.std.specs.Int.{bytes_low_first, byte_at}
 use Rattle.byteorder.specs.Endian.{little_bytes}
 use Rattle.std.proofs.lemmas.List.{take_at, drop-drop}

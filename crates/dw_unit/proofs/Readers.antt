@@ -237,3 +237,6 @@ pub attrs_trouble : (xs : List Attr) (end d : ℕ) (s : Spec) (specs : List Spec
     with_front xs (attrs_at end d (s ∷ specs) left) ≡ Err t
 attrs_trouble xs end d s specs left t e =
     ap (λ (r : Read Attr). with_front xs (and_then r (λ a left1. and_then (attrs_at end d specs left1) (λ attrs rest. Ok (a ∷ attrs, rest))))) e
+
+pub next_declaration_local : (place : ℕ) → Local (next_declaration place)
+next_declaration_local place = then_local (λ left. whole (uleb_at left)) (declaration_or_end place) (trouble_local Unsound uleb_at uleb_local) (declaration_or_end-local place)

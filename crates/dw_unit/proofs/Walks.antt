@@ -1,6 +1,6 @@
 -- Lists that were read so far.
 use Rattle.dw_unit.specs.Declarations.{Declaration, Table}
-use Rattle.std.proofs.Common.{◌≡◌, ◌++◌, List, ◌∷◌, Ok, Err, Result, ◌∙◌, ℕ}
+use Rattle.std.proofs.Common.{◌++◌, List, Ok, Err, Result, ℕ}
 
 -- what was read, and then what is read
 abbrev pub with_front : {X E : Type 0} → List X → Result (List X × List ℕ) E → Result (List X × List ℕ) E

@@ -1,5 +1,5 @@
 -- Units one behind another, each with its patches.
-use Rattle.std.proofs.Common.{◌≡◌, ◌≤◌, ◌+◌, ◌++◌, ℕ, List, [], ◌∷◌, refl, ap, ◌∙◌, length}
+use Rattle.std.proofs.Common.{◌≡◌, ◌+◌, ◌++◌, ℕ, List, [], ◌∷◌, refl, ap, ◌∙◌, length}
 use Rattle.std.specs.Prelude.{flat_map}
 use Rattle.dw_unit.specs.Changes.{Patch, patched}
 use Rattle.dw_unit.proofs.Patched.{From}

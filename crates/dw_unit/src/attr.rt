@@ -11,7 +11,7 @@ use table_core::form::{DW_FORM_addr, DW_FORM_addrx4, DW_FORM_implicit_const, DW_
 use table_core::shape::shape_of;
 use table_core::value::value;
 
-fn is_form(form: u64) -> bool
+pub(crate) fn is_form(form: u64) -> bool
     ensures { result ≡ is_form form }
 {
     DW_FORM_addr <= form && form <= DW_FORM_addrx4 && form != 2

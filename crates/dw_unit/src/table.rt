@@ -1,15 +1,11 @@
 // Tables of abbreviations. DWARF 5, section 7.5.3.
-ghost use Rattle.std.specs.Prelude.{◌≡◌, ◌≤◌, ◌<◌, ◌-◌, ◌==◌, IfOk, IfErr, OnOk, Ok, Err, length, option_map, map};
-ghost use Rattle.std.specs.Prelude.{◌||◌, not};
-ghost use Rattle.std.specs.List.{find, list_any};
-ghost use Rattle.dw_unit.specs.CompUnits.{are_named_once, may_repeat, declaration_of};
-ghost use Rattle.dw_unit.specs.Declarations.{next_declaration, table_at, is_named};
+ghost use Rattle.std.specs.Prelude.{◌≡◌, ◌≤◌, ◌<◌, ◌-◌, IfOk, OnOk, Ok, Err, length, option_map};
+ghost use Rattle.dw_unit.specs.Declarations.{next_declaration, table_at};
 ghost use Rattle.dw_unit.specs.Stops.{IfTrouble};
 ghost use Rattle.dw_unit.specs.Told.{told_declaration, told_table};
 
-use crate::attribute::{DW_AT_unused_high, DW_AT_unused_table};
-use crate::declaration::{Declaration, Spec, read_declaration, unsigned};
-use crate::trouble::{Stop, Trouble};
+use crate::declaration::{Declaration, read_declaration, unsigned};
+use crate::trouble::Stop;
 use rb_bytes::cursor::Cursor;
 use rb_bytes::fault::NoMemory;
 use std::alloc::Global;
@@ -65,65 +61,5 @@ pub fn read_table(alloc: Global, section: &[u8], offset: usize) -> Result<Table,
             Err(Stop::Trouble(_)) => return Ok(Table { list, end: None }),
             Err(Stop::Memory) => return Err(NoMemory),
         }
-    }
-}
-
-// Whether no attribute is named twice but for this project's own.
-#[tactic(auto, using(crate::proofs::Named::named_step, crate::proofs::Named::named_end))]
-fn are_named_once(specs: &[Spec]) -> bool
-    ensures { result ≡ are_named_once specs.now }
-{
-    for (index, spec) in specs.iter().enumerate() {
-        let (_, later) = specs.split_at(index + 1);
-        if !is_single(spec.name, later) {
-            return false;
-        }
-    }
-    true
-}
-
-fn is_single(name: u64, later: &[Spec]) -> bool
-    ensures { result ≡ (may_repeat name || not (list_any (is_named name) later.now)) }
-{
-    may_repeat(name) || !names(name, later)
-}
-
-fn names(name: u64, specs: &[Spec]) -> bool
-    ensures { result ≡ list_any (is_named name) specs.now }
-{
-    specs.iter().any(|other| other.name == name)
-}
-
-fn may_repeat(name: u64) -> bool
-    ensures { result ≡ may_repeat name }
-{
-    DW_AT_unused_high <= name && name <= DW_AT_unused_table
-}
-
-// The first declaration of a code.
-fn declared(list: &[Declaration], code: u64) -> Option<&Declaration>
-    ensures { option_map (λ d. told_declaration d.now) result ≡ find (λ d. d.code == code) (map told_declaration list.now) }
-{
-    for declaration in list {
-        if declaration.code == code {
-            return Some(declaration);
-        }
-    }
-    None
-}
-
-impl Table {
-    /// The declaration that a code means.
-    pub fn declaration(&self, code: u64) -> Result<&Declaration, Trouble>
-        ensures read { IfOk result (λ d. declaration_of (told_table self.now) code ≡ Ok (told_declaration d.now)) }
-        ensures trouble { IfErr result (λ e. declaration_of (told_table self.now) code ≡ Err e) }
-    {
-        let Some(declaration) = declared(&self.list, code) else {
-            return Err(Trouble::Unsound);
-        };
-        if !are_named_once(&declaration.specs) {
-            return Err(Trouble::Unsound);
-        }
-        Ok(declaration)
     }
 }

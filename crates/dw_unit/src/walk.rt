@@ -1,15 +1,16 @@
 // Entries of a unit, one after another. DWARF 5, sections 7.5.2 and 7.5.3.
-ghost use Rattle.std.specs.Prelude.{◌≡◌, ◌≤◌, ◌<◌, ◌-◌, ◌+◌, ◌^◌, [], IfOk, OnOk, Ok, Err, length, MatchOption};
+ghost use Rattle.std.specs.Prelude.{◌≡◌, ◌≤◌, ◌<◌, ◌-◌, ◌+◌, ◌^◌, [], IfOk, IfSome, OnOk, Ok, Err, length, MatchOption};
 ghost use Rattle.table_core.specs.ReadSteps.{with_head};
 ghost use Rattle.dw_unit.specs.CompUnits.{attrs_at};
 ghost use Rattle.dw_unit.specs.Walking.{entries_at, walked_entry, unit_bounds};
 ghost use Rattle.dw_unit.specs.Stops.{IfTrouble};
-ghost use Rattle.dw_unit.specs.Told.{told_declaration, told_table};
+ghost use Rattle.dw_unit.specs.Told.{told_declaration};
+ghost use Rattle.dw_unit.specs.TablesAt.{told_at};
 
 use crate::attr::attr;
 use crate::declaration::{Declaration, Spec, unsigned};
 use crate::entry::Attr;
-use crate::table::Table;
+use crate::table_place::TableAt;
 use crate::trouble::{Stop, Trouble};
 use rb_bytes::cursor::Cursor;
 
@@ -48,18 +49,19 @@ pub fn next_entry<'a, 't>(
     unit: u64,
     end: u64,
     depth: &mut u64,
-    table: &'t Table,
+    table: TableAt<'t>,
     attrs: &mut Vec<Attr>,
 ) -> Result<Option<Head<'t>>, Stop>
     requires within { length cursor.old.left ≤ end }
     requires bounded { depth.old + length cursor.old.left < 2 ^ 64 }
     ensures read { IfOk result (λ o. MatchOption o
-        (entries_at (unit_bounds unit end (told_table table.entry.now)) depth.old cursor.old.left ≡ Ok [])
-        (λ h. entries_at (unit_bounds unit end (told_table table.entry.now)) depth.old cursor.old.left
-        ≡ with_head (walked_entry (unit_bounds unit end (told_table table.entry.now)) h.place h.depth (told_declaration h.declaration.now) attrs.new.items)
-        (entries_at (unit_bounds unit end (told_table table.entry.now)) depth.new cursor.new.left))) }
-    ensures trouble { IfTrouble result (λ e. entries_at (unit_bounds unit end (told_table table.entry.now)) depth.old cursor.old.left ≡ Err e) }
+        (entries_at (unit_bounds unit end (told_at table.entry)) depth.old cursor.old.left ≡ Ok [])
+        (λ h. entries_at (unit_bounds unit end (told_at table.entry)) depth.old cursor.old.left
+        ≡ with_head (walked_entry (unit_bounds unit end (told_at table.entry)) h.place h.depth (told_declaration h.declaration.now) attrs.new.items)
+        (entries_at (unit_bounds unit end (told_at table.entry)) depth.new cursor.new.left))) }
+    ensures trouble { IfTrouble result (λ e. entries_at (unit_bounds unit end (told_at table.entry)) depth.old cursor.old.left ≡ Err e) }
     ensures on { OnOk result (length cursor.new.left ≤ length cursor.old.left) }
+    ensures forward { IfOk result (λ o. IfSome o (λ _. length cursor.new.left < length cursor.old.left)) }
     ensures still_bounded { OnOk result (depth.new + length cursor.new.left < 2 ^ 64) }
 {
     'codes: while cursor.left() > 0 {

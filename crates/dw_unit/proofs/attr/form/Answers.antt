@@ -1,4 +1,4 @@
-use Rattle.std.proofs.Common.{◌≡◌, ◌≤◌, ◌<◌, ◌∙◌, sym, ap, arith, ℕ}
+use Rattle.std.proofs.Common.{◌∙◌, sym, ap, arith, ℕ}
 use Rattle.std.proofs.lemmas.Result.{err_from_is_err_and}
 use Rattle.dw_unit.specs.CompUnits.{form_at}
 use Rattle.dw_unit.proofs.Forms.{form_step, form_gap, form_implicit, uleb_forward}

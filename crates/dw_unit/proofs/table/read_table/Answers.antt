@@ -1,4 +1,4 @@
-use Rattle.std.proofs.Common.{◌≡◌, ◌≤◌, ◌<◌, ◌-◌, ◌∙◌, ◌++◌, ◌∷◌, [], sym, ap, arith, Some, List, ℕ, length, map, drop, length-drop}
+use Rattle.std.proofs.Common.{◌≡◌, ◌-◌, ◌∙◌, ◌∷◌, [], sym, ap, arith, Some, List, ℕ, length, map, drop, length-drop}
 use Rattle.std.proofs.lemmas.List.{map-append}
 use Rattle.dw_unit.specs.Declarations.{Declaration, table_within}
 use Rattle.rb_bytes.specs.Readers.{Reading}

@@ -1,11 +1,12 @@
-use Rattle.std.proofs.Common.{◌≡◌, ◌≤◌, ◌<◌, ◌-◌, ◌+◌, ◌∙◌, sym, ap, arith, Err, List, ℕ, length, Bool, true, false}
+use Rattle.std.proofs.Common.{◌≡◌, ◌<◌, ◌-◌, ◌+◌, ◌∙◌, sym, ap, arith, Err, List, ℕ, length, Bool}
 use Rattle.std.specs.Prelude.{if◌then◌else◌}
 use Rattle.std.proofs.lemmas.Result.{err_from_is_err_and}
 use Rattle.table_core.specs.ReadSteps.{with_head}
 use Rattle.dw_unit.specs.CompUnits.{UnitBounds, attrs_at, depth_behind}
 use Rattle.dw_unit.specs.Declarations.{Declaration}
 use Rattle.dw_unit.specs.Walking.{entries_at, unit_bounds, walked_entry}
-use Rattle.dw_unit.specs.Told.{told_declaration, told_table}
+use Rattle.dw_unit.specs.Told.{told_declaration}
+use Rattle.dw_unit.specs.TablesAt.{told_at}
 use Rattle.dw_unit.proofs.Entries.{no_entries, bad_code, end_code, bad_declaration, bad_attrs, one_entry, trouble_map}
 use Rattle.dw_unit.specs.declared.declaration.Spec.{Spec}
 use Rattle.dw_unit.specs.declared.entry.Attr.{Attr}
@@ -14,14 +15,14 @@ use Rattle.dw_unit.proofs.walk.next_entry.Goals.{then-declaration, else-declarat
 
 pub returns-in_err-code-clause-trouble : goal.returns-in_err-code-clause-trouble
 returns-in_err-code-clause-trouble c =
-    let u : UnitBounds = unit_bounds c.args.unit c.args.end (told_table c.args.table.now) in
+    let u : UnitBounds = unit_bounds c.args.unit c.args.end (told_at c.args.table) in
     let p = err_from_is_err_and c.from_residual.result c.from_residual.ensures.1 in
     let some : 0 < length c.codes.cursor.left = omega arith in
     rw (p.1, p.2) (sym c.codes.invariant.same ∙ bad_code u c.codes.depth c.codes.cursor.left c.in_err-code.field-0.0 some c.in_err-code.ensures.trouble)
 
 pub returns-in_err-declaration-clause-trouble : goal.returns-in_err-declaration-clause-trouble
 returns-in_err-declaration-clause-trouble c =
-    let u : UnitBounds = unit_bounds c.args.unit c.args.end (told_table c.args.table.now) in
+    let u : UnitBounds = unit_bounds c.args.unit c.args.end (told_at c.args.table) in
     let p = err_from_is_err_and c.from_residual-in_err-declaration.result c.from_residual-in_err-declaration.ensures.1 in
     let some : 0 < length c.codes.cursor.left = omega arith in
     rw (p.1, p.2) (sym c.codes.invariant.same ∙ bad_declaration u c.codes.depth c.in_ok-code.code c.codes.cursor.left c.unsigned.new.cursor.left c.in_err-declaration.field-0.0 some
@@ -29,7 +30,7 @@ returns-in_err-declaration-clause-trouble c =
 
 pub returns-in_err-read_attrs-clause-trouble : goal.returns-in_err-read_attrs-clause-trouble
 returns-in_err-read_attrs-clause-trouble c =
-    let u : UnitBounds = unit_bounds c.args.unit c.args.end (told_table c.args.table.now) in
+    let u : UnitBounds = unit_bounds c.args.unit c.args.end (told_at c.args.table) in
     let p = err_from_is_err_and c.from_residual-in_err-read_attrs.result c.from_residual-in_err-read_attrs.ensures.1 in
     let some : 0 < length c.codes.cursor.left = omega arith in
     let d : Declaration = told_declaration c.in_ok-declaration.declaration.now in
@@ -40,7 +41,7 @@ returns-in_err-read_attrs-clause-trouble c =
 
 pub returns-then-code-ne0-clause-read : goal.returns-then-code-ne0-clause-read
 returns-then-code-ne0-clause-read c =
-    let u : UnitBounds = unit_bounds c.args.unit c.args.end (told_table c.args.table.now) in
+    let u : UnitBounds = unit_bounds c.args.unit c.args.end (told_at c.args.table) in
     let some : 0 < length c.codes.cursor.left = omega arith in
     let d : Declaration = told_declaration c.in_ok-declaration.declaration.now in
     let left : List ℕ = c.codes.cursor.left in
@@ -59,7 +60,7 @@ returns-then-code-ne0-clause-read c =
 
 pub codes-preserved : goal.codes-preserved
 codes-preserved c =
-    let u : UnitBounds = unit_bounds c.args.unit c.args.end (told_table c.args.table.now) in
+    let u : UnitBounds = unit_bounds c.args.unit c.args.end (told_at c.args.table) in
     let some : 0 < length c.codes.cursor.left = omega arith in
     let read = rw c.if-code-ne0.false at c.in_ok-code.ensures.read in
     let less : length c.unsigned.new.cursor.left < length c.codes.cursor.left = c.in_ok-code.ensures.on in
@@ -73,6 +74,6 @@ codes-preserved c =
 
 pub returns-clause-read : goal.returns-clause-read
 returns-clause-read c =
-    let u : UnitBounds = unit_bounds c.args.unit c.args.end (told_table c.args.table.now) in
+    let u : UnitBounds = unit_bounds c.args.unit c.args.end (told_at c.args.table) in
     let none : length c.codes.cursor.left ≡ 0 = omega arith in
     sym c.codes.invariant.same ∙ no_entries u c.codes.depth c.codes.cursor.left none

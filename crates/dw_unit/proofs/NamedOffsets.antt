@@ -1,0 +1,229 @@
+-- The offsets that headers name are those at which units have their abbreviations.
+use Rattle.std.proofs.Common.{◌≡◌, ◌≢◌, ◌∙◌, ◌<◌, ◌≤◌, ◌+◌, ⊎_elim, ℕ, zero, suc, Bool, true, false, Option, Some, None, Ok, Err, Result, List, [], ◌∷◌, refl, sym, ap, subst, arith, length, drop, map, get_or}
+use Rattle.std.specs.Prelude.{slice_index, ⊤, ◌==◌, ◌||◌, if◌then◌else◌, filter, option_map}
+use Rattle.std.specs.List.{find, list_any, range_with_len}
+use Rattle.std.specs.Option.{option_or}
+use Rattle.std.specs.List.Sorted.{IsStrictlyIncreasing}
+use Rattle.std.proofs.lemmas.Bool.{cases_eq, cases_lt, eq-eqb, ne_eqb, eqb-true}
+use Rattle.std.proofs.Common.{eqb}
+use Rattle.std.specs.Prelude.{Contains, IsPermutation}
+use Rattle.std.specs.List.{dedup}
+use Rattle.std.proofs.lemmas.List.Kept.{Contains-dedup_nat, Contains-from_dedup}
+use Rattle.std.proofs.lemmas.List.Sorted.{Contains-permutation, IsPermutation-sym}
+use Rattle.rb_bytes.proofs.Members.{Contains-nil, Contains-cons_cases, Contains-there}
+use Rattle.rb_bytes.specs.Readers.{and_then}
+use Rattle.rb_bytes.specs.FirstFault.{IsFree}
+use Rattle.rb_bytes.specs.declared.fault.FaultKind.TheVariants as fault
+use Rattle.table_core.specs.ReadSteps.{oks, and_so}
+use Rattle.table_core.specs.DebugUnits.{Walked, walked}
+use Rattle.dw_unit.specs.declared.trouble.Trouble.{Trouble}
+use Rattle.dw_unit.specs.Trouble.{Read, sound_if}
+use Rattle.dw_unit.specs.Declarations.{Table, table_at, table_within}
+use Rattle.dw_unit.specs.CompUnits.{Sections, Unit, Entry, unit_of, unit_by, units, header_of, end_of, entries_within}
+use Rattle.dw_unit.specs.Faults.{HasDwarfFault, unit_fault_places, fails, is_bad, is_sound_unit, bad_address_table}
+use Rattle.dw_unit.specs.Changes.{table_offsets}
+use Rattle.dw_unit.specs.NamedOffsets.{offset_read, offset_of, is_of, is_named_by}
+
+-- Ascending numbers are those of a range that are among them.
+
+abbrev Ascends : ℕ → List ℕ → Type 0
+Ascends a [] = ⊤
+Ascends a (x ∷ xs) = (a ≤ x) × Ascends (x + 1) xs
+
+abbrev AreBelow : ℕ → List ℕ → Type 0
+AreBelow n [] = ⊤
+AreBelow n (x ∷ xs) = (x < n) × AreBelow n xs
+
+abbrev among : ℕ → List ℕ → Bool
+among q xs = list_any (λ o. o == q) xs
+
+lacks_less : (a b : ℕ) (xs : List ℕ) → a < b → Ascends b xs → among a xs ≡ false
+lacks_less a b [] h up = refl
+lacks_less a b (x ∷ xs) h up =
+    let ne : x ≢ a = let g = up.0 in λ e. absurd (omega arith) in
+    let g = up.0 in rw (ne_eqb x a ne) (lacks_less a (x + 1) xs (omega arith) up.1)
+
+later_up : (a b : ℕ) (xs : List ℕ) → b ≤ a → Ascends a xs → Ascends b xs
+later_up a b [] h up = tt
+later_up a b (x ∷ xs) h up = (let g = up.0 in omega arith, up.1)
+
+range_filter : (p : ℕ → Bool) (n a : ℕ) (xs : List ℕ) → Ascends a xs → AreBelow (a + n) xs → ((q : ℕ) → a ≤ q → q < a + n → among q xs ≡ p q) →
+    filter p (range_with_len a n) ≡ xs
+range_filter p zero a [] up below same = refl
+range_filter p zero a (x ∷ xs) up below same = let g = up.0 in let h = below.0 in absurd (omega arith)
+range_filter p (suc n) a [] up below same =
+    let out : p a ≡ false = sym (same a (omega arith) (omega arith)) in
+    rw out (range_filter p n (a + 1) [] tt tt (λ q h l. same q (omega arith) (omega arith)))
+range_filter p (suc n) a (x ∷ xs) up below same = ⊎_elim
+    (λ (e : x ≡ a).
+    let there : p a ≡ true = sym (same a (omega arith) (omega arith)) ∙ ap (λ (b : Bool). b || among a xs) (eq-eqb x a e) in
+    rw there (ap (λ (k : ℕ). k ∷ filter p (range_with_len (a + 1) n)) (sym e)
+    ∙ ap (λ (l : List ℕ). x ∷ l) (range_filter p n (a + 1) xs (later_up (x + 1) (a + 1) xs (omega arith) up.1) (below_more xs below.1)
+    (λ q h l. sym (ap (λ (b : Bool). b || among q xs) (ne_eqb x q (λ f. absurd (omega arith)))) ∙ same q (omega arith) (omega arith)))))
+    (λ (ne : x ≢ a).
+    let more : a + 1 ≤ x = let g = up.0 in omega arith in
+    let out : p a ≡ false = sym (same a (omega arith) (omega arith)) ∙ lacks_less a (a + 1) (x ∷ xs) (omega arith) (more, up.1) in
+    rw out (range_filter p n (a + 1) (x ∷ xs) (more, up.1) (below_more (x ∷ xs) below) (λ q h l. same q (omega arith) (omega arith))))
+    (cases_eq x a) where
+      below_more : (ys : List ℕ) → AreBelow (a + suc n) ys → AreBelow (a + 1 + n) ys
+      below_more [] h = tt
+      below_more (y ∷ ys) h = (let g = h.0 in omega arith, below_more ys h.1)
+
+ascends_from : (a : ℕ) (xs : List ℕ) → IsStrictlyIncreasing xs → (0 < length xs → a ≤ get_or xs 0 0) → Ascends a xs
+ascends_from a [] up h = tt
+ascends_from a (x ∷ xs) up h = (
+  h (omega arith),
+  ascends_from (x + 1) xs
+      (λ k l. let e : suc k + 1 ≡ suc (k + 1) = omega arith in
+      subst (λ (n : ℕ). slice_index xs k < slice_index (x ∷ xs) n) e (up (suc k) (omega arith)))
+      (λ l. let g = up 0 (omega arith) in omega arith),
+)
+
+-- A sound section's units are those whose headers it has, each with a table that ends.
+
+nothing_there : (section : List ℕ) (n size : ℕ) → table_within n size [] ≡ record { list = []; end = None }
+unfolding table_within
+nothing_there section zero size = refl
+nothing_there section (suc n) size = refl
+
+drop-past : (n : ℕ) (xs : List ℕ) → length xs ≤ n → drop n xs ≡ []
+drop-past zero [] h = refl
+drop-past zero (x ∷ xs) h = absurd (omega arith)
+drop-past (suc n) [] h = refl
+drop-past (suc n) (x ∷ xs) h = drop-past n xs (omega arith)
+
+-- a table that ends begins within the section
+ends_inside : (section : List ℕ) (offset end : ℕ) → (table_at section offset).end ≡ Some end → offset < length section
+ends_inside section offset end e = ⊎_elim (λ (h : offset < length section). h)
+    (λ (h : length section ≤ offset).
+    let none : None ≡ Some end = sym (ap (λ (t : Table). t.end) (ap (table_within (length section) (length section)) (drop-past offset section h)
+    ∙ nothing_there section (length section) (length section))) ∙ e in absurd (cc))
+    (cases_lt offset (length section))
+
+-- what a unit that can be read says of its offset
+record IsNamed (abbrevs : List ℕ) (w : Walked) (u : Unit) : Type 0 where
+  offset : offset_of w ≡ Some u.abbrev_offset
+  inside : u.abbrev_offset < length abbrevs
+
+module _ (abbrevs : List ℕ) (place end : ℕ) where
+  by_entries : (offset : ℕ) (r : Result (List Entry) Trouble) (u : Unit) →
+      and_so r (λ entries. Ok (record { place = place; abbrev_offset = offset; entries = entries })) ≡ Ok u → u.abbrev_offset ≡ offset
+  by_entries offset (Err t) u e = absurd (cc)
+  by_entries offset (Ok es) u e = sym (ap (or_offset offset) e) where
+    or_offset : ℕ → Result Unit Trouble → ℕ
+    or_offset n (Ok u) = u.abbrev_offset
+    or_offset n (Err t) = n
+
+  by_end : (offset : ℕ) (left : List ℕ) (o : Option ℕ) (u : Unit) → (table_at abbrevs offset).end ≡ o →
+      and_so (sound_if o) (λ _. and_so (entries_within (record { place = place; end = end; table = table_at abbrevs offset }) (length left) 0 left) (λ entries.
+      Ok (record { place = place; abbrev_offset = offset; entries = entries }))) ≡ Ok u → (u.abbrev_offset ≡ offset) × (offset < length abbrevs)
+  by_end offset left None u is e = absurd (cc)
+  by_end offset left (Some n) u is e = (
+    by_entries offset (entries_within (record { place = place; end = end; table = table_at abbrevs offset }) (length left) 0 left) u e,
+    ends_inside abbrevs offset n is,
+  )
+
+  by_header : (r : Read ℕ) (u : Unit) → and_then r (λ offset left. unit_by place end offset (table_at abbrevs offset) left) ≡ Ok u →
+      (offset_read r ≡ Some u.abbrev_offset) × (u.abbrev_offset < length abbrevs)
+  by_header (Err t) u e = absurd (cc)
+  by_header (Ok read) u e =
+      let p = by_end read.0 read.1 (table_at abbrevs read.0).end u refl e in
+      (ap (λ (n : ℕ). Some n) (sym p.0), subst (λ (n : ℕ). n < length abbrevs) (sym p.0) p.1)
+
+named_unit : (abbrevs : List ℕ) (w : Walked) (u : Unit) → unit_of abbrevs w ≡ Ok u → IsNamed abbrevs w u
+named_unit abbrevs w u e = let p = by_header abbrevs w.place (end_of w) (header_of w) u e in record { offset = p.0; inside = p.1 }
+
+module _ (abbrevs : List ℕ) (test : Unit → Bool) where
+  abbrev bad : Walked → Bool
+  bad w = fails test (unit_of abbrevs w)
+
+  -- none of some is bad
+  none_here : (w : Walked) (ws : List Walked) → find bad (w ∷ ws) ≡ None → (bad w ≡ false) × (find bad ws ≡ None)
+  none_here w ws e = step (bad w) refl e where
+    step : (b : Bool) → bad w ≡ b → (if b then Some w else find bad ws) ≡ None → (bad w ≡ false) × (find bad ws ≡ None)
+    step true f e = absurd (cc)
+    step false f e = (f, e)
+
+  read_here : (w : Walked) (r : Result Unit Trouble) → unit_of abbrevs w ≡ r → bad w ≡ false → (u : Unit) × (r ≡ Ok u) × IsNamed abbrevs w u
+  read_here w (Ok u) is f = (u, refl, named_unit abbrevs w u is)
+  read_here w (Err t) is f = let g : true ≡ false = sym (ap (fails test) is) ∙ f in absurd (cc)
+
+  pub named_units : (q : ℕ) (ws : List Walked) → find bad ws ≡ None →
+      list_any (λ (u : Unit). u.abbrev_offset == q) (oks (map (unit_of abbrevs) ws)) ≡ is_named_by q ws
+  named_units q [] e = refl
+  named_units q (w ∷ ws) e =
+      let p = none_here w ws e in
+      let r = read_here w (unit_of abbrevs w) refl p.0 in
+      let u = r.0 in
+      ap (λ (x : Result Unit Trouble). list_any (λ (u : Unit). u.abbrev_offset == q) (oks (x ∷ map (unit_of abbrevs) ws))) r.1
+      ∙ ap (λ (b : Bool). (u.abbrev_offset == q) || b) (named_units q ws p.1)
+      ∙ sym (ap (λ (o : Option ℕ). is_of q o || is_named_by q ws) r.2.offset)
+
+  inside_by : (offset q : ℕ) (rest b : Bool) → (offset == q) ≡ b → offset < length abbrevs → (rest ≡ true → q < length abbrevs) →
+      (b || rest) ≡ true → q < length abbrevs
+  inside_by offset q rest true e h f t = subst (λ (n : ℕ). n < length abbrevs) (eqb-true offset q e) h
+  inside_by offset q rest false e h f t = f t
+
+  pub named_inside : (q : ℕ) (ws : List Walked) → find bad ws ≡ None → is_named_by q ws ≡ true → q < length abbrevs
+  named_inside q [] e t = absurd (cc)
+  named_inside q (w ∷ ws) e t =
+      let p = none_here w ws e in
+      let r = read_here w (unit_of abbrevs w) refl p.0 in
+      let u = r.0 in
+      inside_by u.abbrev_offset q (is_named_by q ws) (u.abbrev_offset == q) refl r.2.inside (named_inside q ws p.1)
+      (sym (ap (λ (o : Option ℕ). is_of q o || is_named_by q ws) r.2.offset) ∙ t)
+
+-- The offsets of a sound file's units
+
+no_bad : (s : Sections) → IsFree (HasDwarfFault (unit_fault_places s)) → find (is_bad s) (walked 5 s.info) ≡ None
+no_bad s free = step (find (is_bad s) (walked 5 s.info)) refl where
+  step : (o : Option Walked) → find (is_bad s) (walked 5 s.info) ≡ o → o ≡ None
+  step None e = refl
+  step (Some w) e = absurd (free fault.DwarfFault w.place
+      (ap (λ (o : Option Walked). option_or (option_map (λ (u : Walked). u.place) o) (bad_address_table s.addr)) e))
+
+all_below : (n : ℕ) (xs : List ℕ) → ((q : ℕ) → among q xs ≡ true → q < n) → AreBelow n xs
+all_below n [] h = tt
+all_below n (x ∷ xs) h = (h x (ap (λ (b : Bool). b || among x xs) (eq-eqb x x refl)), all_below n xs (λ q e. h q (later_among (x == q) (among q xs) e))) where
+  later_among : (a b : Bool) → b ≡ true → (a || b) ≡ true
+  later_among true b e = refl
+  later_among false b e = e
+
+pub offsets_are : (s : Sections) (os : List ℕ) → IsFree (HasDwarfFault (unit_fault_places s)) → IsStrictlyIncreasing os →
+    ((q : ℕ) → among q os ≡ is_named_by q (walked 5 s.info)) → table_offsets s ≡ os
+offsets_are s os free up named =
+    let good = no_bad s free in
+    let ws : List Walked = walked 5 s.info in
+    let whole : length s.abbrevs ≡ 0 + length s.abbrevs = omega arith in
+    range_filter (λ q. list_any (λ (u : Unit). u.abbrev_offset == q) (units s)) (length s.abbrevs) 0 os (ascends_from 0 os up (λ h. omega arith))
+    (subst (λ (n : ℕ). AreBelow n os) whole (all_below (length s.abbrevs) os (λ q e. named_inside s.abbrevs (is_sound_unit s.addr) q ws good (sym (named q) ∙ e))))
+    (λ q h l. named q ∙ sym (named_units s.abbrevs (is_sound_unit s.addr) q ws good))
+
+-- numbers that were put in order, each once
+
+same_bools : (a b : Bool) → (a ≡ true → b ≡ true) → (b ≡ true → a ≡ true) → a ≡ b
+same_bools true b f g = sym (f refl)
+same_bools false true f g = g refl
+same_bools false false f g = refl
+
+among_in : (q : ℕ) (xs : List ℕ) → Contains xs q → among q xs ≡ true
+among_in q [] c = absurd (Contains-nil q c)
+among_in q (x ∷ xs) c = ⊎_elim
+    (λ (e : x ≡ q). ap (λ (b : Bool). b || among q xs) (eq-eqb x q e))
+    (λ (there : Contains xs q). right_true (x == q) (among q xs) (among_in q xs there))
+    (Contains-cons_cases x xs q c) where
+      right_true : (a b : Bool) → b ≡ true → (a || b) ≡ true
+      right_true true b e = refl
+      right_true false b e = e
+
+in_among : (q : ℕ) (xs : List ℕ) → among q xs ≡ true → Contains xs q
+in_among q [] e = absurd (cc)
+in_among q (x ∷ xs) e = by_test (x == q) refl e (in_among q xs) where
+  by_test : (b : Bool) → (x == q) ≡ b → (b || among q xs) ≡ true → (among q xs ≡ true → Contains xs q) → Contains (x ∷ xs) q
+  by_test true f g ih = (0, omega arith, eqb-true x q f)
+  by_test false f g ih = Contains-there x xs q (ih g)
+
+pub among_kept : (q : ℕ) (xs ys : List ℕ) → IsPermutation xs ys → among q (dedup eqb ys) ≡ among q xs
+among_kept q xs ys moved = same_bools (among q (dedup eqb ys)) (among q xs)
+    (λ e. among_in q xs (Contains-permutation ys xs q (IsPermutation-sym xs ys moved) (Contains-from_dedup eqb ys q (in_among q (dedup eqb ys) e))))
+    (λ e. among_in q (dedup eqb ys) (Contains-dedup_nat ys q (Contains-permutation xs ys q moved (in_among q xs e))))

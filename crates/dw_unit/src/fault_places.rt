@@ -1,0 +1,35 @@
+// Which fault of units is answered.
+ghost use Rattle.std.specs.Prelude.{OnOk, IfErr};
+ghost use Rattle.rb_bytes.specs.FirstFault.{IsFree, IsAnswered};
+ghost use Rattle.dw_unit.specs.Faults.{HasDwarfFault};
+
+use rb_bytes::fault::{Fault, FaultKind};
+
+/// Of each of four faults the place that is answered, where it is present.
+#[derive(Clone, Copy)]
+pub struct FaultPlaces {
+    pub version: Option<u64>,
+    pub form: Option<u64>,
+    pub high: Option<u64>,
+    pub bad: Option<u64>,
+}
+
+/// Refuses for the first fault that is present.
+pub fn refused(places: FaultPlaces) -> Result<(), Fault>
+    ensures free { OnOk result (IsFree (HasDwarfFault (record { version = places.version; form = places.form; high = places.high; bad = places.bad }))) }
+    ensures fault { IfErr result (IsAnswered (HasDwarfFault (record { version = places.version; form = places.form; high = places.high; bad = places.bad }))) }
+{
+    if let Some(place) = places.version {
+        return Err(Fault::at(FaultKind::DwarfVersion, place));
+    }
+    if let Some(place) = places.form {
+        return Err(Fault::at(FaultKind::DwarfForm, place));
+    }
+    if let Some(place) = places.high {
+        return Err(Fault::at(FaultKind::HighPcForm, place));
+    }
+    if let Some(place) = places.bad {
+        return Err(Fault::at(FaultKind::DwarfFault, place));
+    }
+    Ok(())
+}

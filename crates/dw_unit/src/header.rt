@@ -1,0 +1,67 @@
+// Headers of units. DWARF 5, section 7.5.1.
+ghost use Rattle.std.specs.Prelude.{◌≡◌, ◌≤◌, IfOk, IfErr, OnOk, Ok, Err, length};
+ghost use Rattle.rb_bytes.specs.Readers.{number_read, bytes_at};
+ghost use Rattle.dw_unit.specs.CompUnits.{header_at, is_type, type_fields};
+ghost use Rattle.dw_unit.specs.Trouble.{whole};
+
+use crate::declaration::byte;
+use crate::trouble::Trouble;
+use crate::unit_type::{DW_UT_compile, DW_UT_partial, DW_UT_type};
+use rb_bytes::cursor::Cursor;
+
+/// How many bytes an address has.
+const ADDRESS_SIZE: u8 = 8;
+
+fn half<'a>(cursor: &mut Cursor<'a>) -> Result<u16, Trouble>
+    ensures read { IfOk result (λ x. whole (number_read 2 cursor.old.left) ≡ Ok (x, cursor.new.left)) }
+    ensures trouble { IfErr result (λ e. whole (number_read 2 cursor.old.left) ≡ Err e) }
+    ensures on { OnOk result (length cursor.new.left ≤ length cursor.old.left) }
+{
+    let number = cursor.u16()?;
+    Ok(number)
+}
+
+fn word<'a>(cursor: &mut Cursor<'a>) -> Result<u32, Trouble>
+    ensures read { IfOk result (λ x. whole (number_read 4 cursor.old.left) ≡ Ok (x, cursor.new.left)) }
+    ensures trouble { IfErr result (λ e. whole (number_read 4 cursor.old.left) ≡ Err e) }
+    ensures on { OnOk result (length cursor.new.left ≤ length cursor.old.left) }
+{
+    let number = cursor.u32()?;
+    Ok(number)
+}
+
+// Passes the fields that only a unit of its type has.
+fn pass_fields<'a>(cursor: &mut Cursor<'a>, kind: u8) -> Result<&'a [u8], Trouble>
+    ensures read { IfOk result (λ x. whole (bytes_at (type_fields kind) cursor.old.left) ≡ Ok (x.now, cursor.new.left)) }
+    ensures trouble { IfErr result (λ e. whole (bytes_at (type_fields kind) cursor.old.left) ≡ Err e) }
+    ensures on { OnOk result (length cursor.new.left ≤ length cursor.old.left) }
+{
+    let fields = if kind as u64 == DW_UT_type { 12 } else { 0 };
+    let bytes = cursor.take(fields)?;
+    Ok(bytes)
+}
+
+fn is_type(kind: u8) -> bool
+    ensures { result ≡ is_type kind }
+{
+    let kind = kind as u64;
+    kind == DW_UT_compile || kind == DW_UT_type || kind == DW_UT_partial
+}
+
+/// The offset of the unit's abbreviations, in the header behind its length.
+pub fn header<'a>(cursor: &mut Cursor<'a>) -> Result<u64, Trouble>
+    ensures read { IfOk result (λ x. header_at cursor.old.left ≡ Ok (x, cursor.new.left)) }
+    ensures trouble { IfErr result (λ e. header_at cursor.old.left ≡ Err e) }
+    ensures on { OnOk result (length cursor.new.left ≤ length cursor.old.left) }
+{
+    half(cursor)?;
+    let kind = byte(cursor)?;
+    let address_size = byte(cursor)?;
+    let offset = word(cursor)?;
+    pass_fields(cursor, kind)?;
+    if is_type(kind) && address_size == ADDRESS_SIZE {
+        Ok(offset as u64)
+    } else {
+        Err(Trouble::Unsound)
+    }
+}

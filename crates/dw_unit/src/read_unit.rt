@@ -1,0 +1,181 @@
+// Units and their faults.
+ghost use Rattle.std.specs.Prelude.{◌≡◌, ◌≤◌, ◌++◌, ◌∷◌, [], ℕ, List, None, IfOk, Err, length};
+ghost use Rattle.table_core.specs.DebugUnits.{Walked};
+ghost use Rattle.table_core.specs.ReadSteps.{least};
+ghost use Rattle.dw_unit.specs.Faults.{unformed};
+ghost use Rattle.dw_unit.specs.UnitReadings.{AreReadings, IsBehind, IsReading};
+ghost use Rattle.dw_unit.specs.CompUnits.{unit_by};
+ghost use Rattle.dw_unit.specs.TablesAt.{told_at};
+
+use crate::entry::Entry;
+use crate::header::header;
+use crate::lowest::lower;
+use crate::soundness::is_sound_unit;
+use crate::tables::{FoundTable, Tables};
+use crate::trouble::{Stop, Trouble};
+use crate::unit::unit_entries;
+use crate::unit_reading::{Readings, UnitReading};
+use rb_bytes::cursor::Cursor;
+use rb_bytes::fault::NoMemory;
+use std::alloc::Global;
+use table_core::DebugUnit;
+
+// The place of the declaration of a value that names no form.
+fn no_form(trouble: Trouble) -> Option<u64>
+    ensures { result ≡ least (unformed (Err trouble)) }
+{
+    match trouble {
+        Trouble::NoForm(place) => Some(place),
+        Trouble::Unsound => None,
+    }
+}
+
+// What is read of a unit of which nothing can be read.
+fn unread(trouble: Trouble) -> UnitReading
+    ensures { result ≡ record { bad_form = None; bad_high = None; unformed = least (unformed (Err trouble)); entries = None } }
+{
+    UnitReading {
+        bad_form: None,
+        bad_high: None,
+        unformed: no_form(trouble),
+        entries: None,
+    }
+}
+
+// What is read of a unit behind its header, by a table that begins at some offset.
+fn read_behind<'a>(
+    alloc: Global,
+    addr: &[u8],
+    cursor: &mut Cursor<'a>,
+    place: u64,
+    end: u64,
+    table: FoundTable<'_>,
+) -> Result<UnitReading, NoMemory>
+    requires { length cursor.old.left ≤ end }
+    ensures form { IfOk result (λ r. r.bad_form ≡ table.entry.bad_form) }
+    ensures high { IfOk result (λ r. r.bad_high ≡ table.entry.bad_high) }
+    ensures behind { IfOk result (λ r. (offset : ℕ) →
+        IsBehind addr.now (unit_by place end offset (told_at table.entry.at) cursor.old.left) r) }
+{
+    let mut reading = unread(Trouble::Unsound);
+    reading.bad_form = table.bad_form;
+    reading.bad_high = table.bad_high;
+    match unit_entries(alloc, cursor, place, end, table.at) {
+        Ok(entries) => {
+            if is_sound_unit(addr, &entries) {
+                return Ok(UnitReading {
+                    bad_form: table.bad_form,
+                    bad_high: table.bad_high,
+                    unformed: None,
+                    entries: Some(entries),
+                });
+            }
+            Ok(reading)
+        }
+        Err(Stop::Trouble(trouble)) => {
+            reading.unformed = no_form(trouble);
+            Ok(reading)
+        }
+        Err(Stop::Memory) => Err(NoMemory),
+    }
+}
+
+fn read_unit(
+    alloc: Global,
+    tables: &Tables<'_>,
+    addr: &[u8],
+    unit: &DebugUnit<'_>,
+) -> Result<UnitReading, NoMemory>
+    ensures { IfOk result (IsReading tables.now.section.now addr.now unit.now) }
+{
+    let Some(bytes) = unit.bytes else {
+        return Ok(unread(Trouble::Unsound));
+    };
+    let Some(start) = unit.place.checked_add(4) else {
+        return Err(NoMemory);
+    };
+    let Some(end) = start.checked_add(bytes.len() as u64) else {
+        return Err(NoMemory);
+    };
+    let mut cursor = Cursor::new(bytes);
+    match header(&mut cursor) {
+        Ok(offset) => {
+            let Some(table) = tables.find(offset) else {
+                return Err(NoMemory);
+            };
+            read_behind(alloc, addr, &mut cursor, unit.place, end, table)
+        }
+        Err(trouble) => Ok(unread(trouble)),
+    }
+}
+
+fn appended(entries: Vec<Entry>, more: Vec<Entry>) -> Result<Vec<Entry>, NoMemory>
+    ensures { IfOk result (λ es. es.items ≡ entries.items ++ more.items) }
+{
+    let mut all = entries;
+    let mut added = more;
+    all.append(&mut added)?;
+    Ok(all)
+}
+
+// What is read of some units, with what is read of the next one at a place.
+fn joined(so_far: Readings, place: u64, reading: UnitReading) -> Result<Readings, NoMemory>
+    ensures { IfOk result (λ r. (abbrevs addr : List ℕ) (ws : List Walked) (w : Walked) → w.place ≡ place →
+        AreReadings abbrevs addr ws so_far → IsReading abbrevs addr w reading → AreReadings abbrevs addr (ws ++ w ∷ []) r) }
+{
+    let bad_form = lower(so_far.bad_form, reading.bad_form);
+    let bad_high = lower(so_far.bad_high, reading.bad_high);
+    let unformed = lower(so_far.unformed, reading.unformed);
+    let entries = so_far.entries;
+    if let Some(bad) = so_far.bad {
+        return Ok(Readings {
+            bad_form,
+            bad_high,
+            unformed,
+            bad: Some(bad),
+            entries,
+        });
+    }
+    match reading.entries {
+        Some(more) => {
+            let all = appended(entries, more)?;
+            Ok(Readings {
+                bad_form,
+                bad_high,
+                unformed,
+                bad: None,
+                entries: all,
+            })
+        }
+        None => Ok(Readings {
+            bad_form,
+            bad_high,
+            unformed,
+            bad: Some(place),
+            entries,
+        }),
+    }
+}
+
+/// Reads all units.
+pub fn read_units(
+    alloc: Global,
+    tables: &Tables<'_>,
+    addr: &[u8],
+    units: &[DebugUnit<'_>],
+) -> Result<Readings, NoMemory>
+    ensures { IfOk result (AreReadings tables.now.section.now addr.now units.now) }
+{
+    let mut readings = Readings {
+        bad_form: None,
+        bad_high: None,
+        unformed: None,
+        bad: None,
+        entries: Vec::new(alloc),
+    };
+    for unit in units {
+        let reading = read_unit(alloc, tables, addr, unit)?;
+        readings = joined(readings, unit.place, reading)?;
+    }
+    Ok(readings)
+}

@@ -1,0 +1,156 @@
+// The tables of abbreviations that units name, each declaration read once.
+ghost use Rattle.std.specs.Prelude.{◌≡◌, IfOk, OnOk, IfSome};
+ghost use Rattle.table_core.specs.ReadSteps.{least};
+ghost use Rattle.dw_unit.specs.Declarations.{table_at, has_bad_form, has_bad_high};
+ghost use Rattle.dw_unit.specs.Faults.{places_with};
+ghost use Rattle.dw_unit.specs.TablesAt.{told_at};
+ghost use Rattle.dw_unit.specs.TableStarts.{AreStarts, AreMarked};
+ghost use Rattle.dw_unit.specs.Told.{told_table};
+
+use crate::declaration_tests::{has_bad_form, has_bad_high};
+use crate::indexed_table::{IndexedTable, indexed};
+use crate::lowest::lower_of;
+use crate::start::Start;
+use crate::table::{Table, read_table};
+use crate::table_place::TableAt;
+use rb_bytes::fault::NoMemory;
+use std::alloc::Global;
+use std::collections::BTreeMap;
+
+/// How many bytes are read again at most, where tables overlap out of step.
+const READ_AGAIN: u64 = 1 << 28;
+
+/// The tables of a section that begin at some offsets.
+#[derive(Drop)]
+pub struct Tables<'s> {
+    section: &'s [u8],
+    read: Vec<IndexedTable>,
+    starts: BTreeMap<u64, Start>,
+    ghost right: { AreStarts section.now read.items starts },
+}
+
+/// A table, and the least places of its declarations that have a bad form or a bad high address.
+#[derive(Clone, Copy)]
+pub struct FoundTable<'t> {
+    pub at: TableAt<'t>,
+    pub bad_form: Option<u64>,
+    pub bad_high: Option<u64>,
+}
+
+// Marks where tables begin that begin with a declaration of one; answers the least places of faults of all of it.
+fn mark(
+    starts: &mut BTreeMap<u64, Start>,
+    number: usize,
+    table: &Table,
+    offsets: &[u64],
+) -> Result<(Option<u64>, Option<u64>), NoMemory>
+    ensures marks { OnOk result (AreMarked (told_table table.now) number starts.old starts.new) }
+    ensures form { IfOk result (λ f. f.0 ≡ least (places_with has_bad_form (told_table table.now).list)) }
+    ensures high { IfOk result (λ f. f.1 ≡ least (places_with has_bad_high (told_table table.now).list)) }
+{
+    let mut form = None;
+    let mut high = None;
+    'marks: for index in (0..table.list.len()).rev() {
+        let declaration = &table.list[index];
+        form = lower_of(has_bad_form(declaration), declaration.place, form);
+        high = lower_of(has_bad_high(declaration), declaration.place, high);
+        if offsets.binary_search(&declaration.place).is_ok() {
+            let start = Start {
+                number,
+                index,
+                form,
+                high,
+            };
+            starts.insert(declaration.place, start)?;
+        }
+    }
+    Ok((form, high))
+}
+
+// Reads the table of an offset, and marks where others begin in it; answers how many bytes it has.
+fn read_at(
+    alloc: Global,
+    section: &[u8],
+    offset: u64,
+    offsets: &[u64],
+    read: &mut Vec<IndexedTable>,
+    starts: &mut BTreeMap<u64, Start>,
+) -> Result<u64, NoMemory>
+    requires { AreStarts section.now read.old.items starts.old }
+    ensures { OnOk result (AreStarts section.now read.new.items starts.new) }
+{
+    let from = offset.min(section.len() as u64) as usize;
+    let table = read_table(alloc, section, from)?;
+    let end = match table.end {
+        Some(end) => end,
+        None => section.len() as u64,
+    };
+    let number = read.len();
+    let (form, high) = mark(starts, number, &table, offsets)?;
+    let start = Start {
+        number,
+        index: 0,
+        form,
+        high,
+    };
+    starts.insert(offset, start)?;
+    let table = indexed(alloc, table)?;
+    read.push(table)?;
+    Ok(end.saturating_sub(offset))
+}
+
+/// Reads the tables that begin at some offsets, which ascend.
+pub fn read_tables<'s>(
+    alloc: Global,
+    section: &'s [u8],
+    offsets: &[u64],
+) -> Result<Tables<'s>, NoMemory>
+    ensures { IfOk result (λ t. t.section.now ≡ section.now) }
+{
+    let mut read = Vec::new(alloc);
+    let mut starts = BTreeMap::new(alloc);
+    let mut left = section.len() as u64 + READ_AGAIN;
+    for offset in offsets {
+        if !starts.contains_key(offset) {
+            let size = read_at(alloc, section, *offset, offsets, &mut read, &mut starts)?;
+            if left < size {
+                return Err(NoMemory);
+            }
+            left -= size;
+        }
+    }
+    Ok(Tables {
+        section,
+        read,
+        starts,
+    })
+}
+
+impl<'s> Tables<'s> {
+    ghost use Rattle.std.specs.Prelude.{slice_get};
+    ghost use Rattle.std.specs.Option.{option_copied};
+
+    fn indexed(&self, number: usize) -> Option<&IndexedTable>
+        ensures { option_copied result ≡ slice_get self.now.read.items number }
+    {
+        self.read.get(number)
+    }
+
+    /// The table at an offset, if it was read.
+    pub fn find(&self, offset: u64) -> Option<FoundTable<'_>>
+        ensures table { IfSome result (λ t. table_at self.now.section.now offset ≡ told_at t.at) }
+        ensures form { IfSome result (λ t. t.bad_form ≡ least (places_with has_bad_form (table_at self.now.section.now offset).list)) }
+        ensures high { IfSome result (λ t. t.bad_high ≡ least (places_with has_bad_high (table_at self.now.section.now offset).list)) }
+    {
+        let start = self.starts.get(&offset)?;
+        let table = self.indexed(start.number)?;
+        Some(FoundTable {
+            at: TableAt {
+                table,
+                index: start.index,
+            },
+            bad_form: start.form,
+            bad_high: start.high,
+        })
+    }
+}

@@ -1,0 +1,68 @@
+// The entries of a unit. DWARF 5, sections 7.5.1 to 7.5.3.
+ghost use Rattle.std.specs.Prelude.{◌≡◌, ◌≤◌, ℕ, IfOk, Ok, Err, length};
+ghost use Rattle.dw_unit.specs.Walking.{entries_at, unit_bounds};
+ghost use Rattle.dw_unit.specs.TablesAt.{told_at};
+ghost use Rattle.dw_unit.specs.ListedUnits.{listed_result, listed_unit};
+ghost use Rattle.dw_unit.specs.CompUnits.{unit_by};
+ghost use Rattle.dw_unit.specs.Stops.{IfTrouble};
+
+use crate::entry::Entry;
+use crate::table_place::TableAt;
+use crate::trouble::{Stop, Trouble};
+use crate::walk::next_entry;
+use rb_bytes::cursor::Cursor;
+use std::alloc::Global;
+
+/// The entries in the bytes left of a unit at a place, which ends at another.
+pub fn read_entries<'a>(
+    alloc: Global,
+    cursor: &mut Cursor<'a>,
+    unit: u64,
+    end: u64,
+    table: TableAt<'_>,
+) -> Result<Vec<Entry>, Stop>
+    requires within { length cursor.old.left ≤ end }
+    ensures read { IfOk result (λ es. listed_result (entries_at (unit_bounds unit end (told_at table.entry)) 0 cursor.old.left) ≡ Ok es.items) }
+    ensures trouble { IfTrouble result (λ e. entries_at (unit_bounds unit end (told_at table.entry)) 0 cursor.old.left ≡ Err e) }
+{
+    let mut entries = Vec::new(alloc);
+    let mut depth = 0;
+    'entries: loop {
+        let mut attrs = Vec::new(alloc);
+        match next_entry(cursor, unit, end, &mut depth, table, &mut attrs)? {
+            Some(head) => {
+                let Ok(depth) = u32::try_from(head.depth) else {
+                    return Err(Stop::Memory);
+                };
+                entries.push(Entry {
+                    place: head.place,
+                    unit,
+                    depth,
+                    tag: head.declaration.tag,
+                    attrs,
+                })?;
+            }
+            None => return Ok(entries),
+        }
+    }
+}
+
+/// The entries of a unit behind its header, by a table that begins at some offset.
+pub fn unit_entries<'a>(
+    alloc: Global,
+    cursor: &mut Cursor<'a>,
+    unit: u64,
+    end: u64,
+    table: TableAt<'_>,
+) -> Result<Vec<Entry>, Stop>
+    requires within { length cursor.old.left ≤ end }
+    ensures read { IfOk result (λ es. (offset : ℕ) →
+        listed_unit (unit_by unit end offset (told_at table.entry) cursor.old.left) ≡ Ok es.items) }
+    ensures trouble { IfTrouble result (λ e. (offset : ℕ) → unit_by unit end offset (told_at table.entry) cursor.old.left ≡ Err e) }
+{
+    if table.table.table.end.is_none() {
+        return Err(Stop::Trouble(Trouble::Unsound));
+    }
+    let entries = read_entries(alloc, cursor, unit, end, table)?;
+    Ok(entries)
+}
