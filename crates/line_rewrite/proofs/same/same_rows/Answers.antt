@@ -1,4 +1,4 @@
-use Rattle.std.proofs.Common.{arith, sym, ◌∙◌, refl, rules, ◌≡◌, ◌≤◌, ◌<◌, length}
+use Rattle.std.proofs.Common.{arith, sym, ◌∙◌, refl, ◌≤◌, ◌<◌, length}
 use Rattle.line_rewrite.proofs.SameLists.{same-more, same-end}
 use Rattle.line_rewrite.proofs.same.same_rows.Goals as goal
 

@@ -1,0 +1,8 @@
+use Rattle.std.proofs.Common.{arith}
+use Rattle.line_rewrite.proofs.Lookups.{state_found}
+use Rattle.line_rewrite.proofs.lookup.state_for.Goals as goal
+
+pub returns-clause-found : goal.returns-clause-found
+returns-clause-found c = λ coding lengths bytes rows are up.
+    state_found coding lengths bytes rows _ _ _ _ _ _ are up c.if-reached-eq0.false c.count_up_to-reached.ensures.bound c.split_at.ensures.front c.if-below-eq0.false c.count_up_to-below.ensures.bound
+    (c.count_up_to-reached.ensures.last _ (omega arith)) c.if-address-eq0.false (c.count_up_to-below.ensures.last _ (omega arith))

@@ -1,0 +1,35 @@
+use Rattle.std.specs.Prelude.{All}
+use Rattle.std.proofs.Common.{sym, subst}
+use Rattle.std.proofs.lemmas.List.Elements.{All-push}
+use Rattle.line_rewrite.specs.KeptSequences.{IsKept}
+use Rattle.line_rewrite.proofs.Keeps.{sequences_more, sequences_stop, sequences_out}
+use Rattle.line_rewrite.proofs.program.sequences_of.Goals as goal
+
+pub sequences-preserved : goal.sequences-preserved
+sequences-preserved c =
+    let follows = rw c.in-Some.is at c.in_ok-sequence.ensures.sequences in
+    let kept = rw c.in-Some.is at c.in_ok-sequence.ensures.kept in
+    let next = rw c.in-Some.is at c.in_ok-sequence.ensures.next in
+    let P = IsKept c.args.coding.now c.args.lengths.now c.args.bytes.now in
+    record {
+      same = sequences_more _ _ _ c.sequences.list.items c.push.new.self.items c.in-Some.sequence c.sequences.place c.in-Some.next _
+          c.sequences.invariant.same follows c.in_ok-push-in-Some.ensures.items;
+      kept = subst (All P) (sym c.in_ok-push-in-Some.ensures.items)
+          (All-push P c.sequences.list.items c.in-Some.sequence c.sequences.invariant.kept kept);
+      within = next.1;
+    }
+
+pub returns-in-None : goal.returns-in-None
+returns-in-None c =
+    let stops = rw c.in-None.is at c.in_ok-sequence.ensures.sequences in
+    record {
+      are = sequences_stop _ _ _ c.sequences.list.items c.sequences.place _ c.sequences.invariant.same stops;
+      kept = c.sequences.invariant.kept;
+    }
+
+pub returns : goal.returns
+returns c = record {
+  are = sequences_stop _ _ _ c.sequences.list.items c.sequences.place _ c.sequences.invariant.same
+      (sequences_out _ _ _ c.sequences.place c.sequences-test.false);
+  kept = c.sequences.invariant.kept;
+}

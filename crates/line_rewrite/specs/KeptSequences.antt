@@ -1,0 +1,31 @@
+-- Sequences that are kept by some states of the walks over them.
+use Rattle.std.specs.Prelude.{◌≡◌, ℕ, All, List, length, map}
+use Rattle.line_rewrite.specs.declared.coding.Coding.{Coding}
+use Rattle.line_rewrite.specs.declared.kept.KeptSequence.{KeptSequence}
+use Rattle.line_rewrite.specs.Operations.{operations}
+use Rattle.line_rewrite.specs.LineMachine.{Sequence, sequences, start}
+use Rattle.line_rewrite.specs.LineAnswers.{first_address}
+use Rattle.line_rewrite.specs.Walks.{Ascends}
+use Rattle.line_rewrite.specs.Keeping.{rows_at_place, AreKept, Suffice}
+
+-- the sequence that begins at a place of a program
+abbrev pub sequence_at : Coding → List ℕ → List ℕ → ℕ → ℕ → Sequence
+sequence_at coding lengths program place end =
+    record { rows = rows_at_place coding lengths program (start coding) place; end = end }
+
+abbrev pub told_sequence : Coding → List ℕ → List ℕ → KeptSequence → Sequence
+told_sequence coding lengths program k = sequence_at coding lengths program k.place k.end
+
+-- It is kept by states of the walk over its rows, which are enough to find each row.
+pub record IsKept (coding : Coding) (lengths program : List ℕ) (k : KeptSequence) : Type 0 where
+  pub states : AreKept coding lengths program (told_sequence coding lengths program k).rows k.kept.items
+  pub many : Suffice (length (told_sequence coding lengths program k).rows) (length k.kept.items)
+  pub low : k.low ≡ first_address (told_sequence coding lengths program k).rows k.end
+
+-- the sequences of a program are kept, and their addresses don't fall
+pub record AreSequences (coding : Coding) (lengths program : List ℕ) (ks : List KeptSequence) : Type 0 where
+  pub are : sequences coding (operations coding.opcode_base lengths program) ≡ map (told_sequence coding lengths program) ks
+  pub kept : All (IsKept coding lengths program) ks
+
+abbrev pub Ascend : List Sequence → Type 0
+Ascend ss = All (λ s. Ascends 0 s.rows) ss

@@ -1,0 +1,11 @@
+-- Programs that are as they should be.
+use Rattle.std.specs.Prelude.{◌&&◌, ℕ, Bool, List, None}
+use Rattle.line_rewrite.specs.declared.coding.Coding.{Coding}
+use Rattle.line_rewrite.specs.Operations.{operations, is_whole}
+use Rattle.line_rewrite.specs.LineMachine.{sound_from, start}
+
+-- those of a unit with so many files
+abbrev pub is_sound : Coding → ℕ → List ℕ → List ℕ → Bool
+is_sound coding files lengths program =
+    is_whole coding.opcode_base lengths program
+    && sound_from coding files None (start coding) (operations coding.opcode_base lengths program)

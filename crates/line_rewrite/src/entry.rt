@@ -1,0 +1,131 @@
+// The directories and files of a line unit. DWARF 5, sections 6.2.4 and 6.2.4.1.
+ghost use Rattle.std.specs.Prelude.{◌≡◌, Some, None, IfOk};
+ghost use Rattle.table_core.specs.Texts.{text_in};
+ghost use Rattle.line_rewrite.specs.Entries.{text_of};
+ghost use Rattle.line_rewrite.specs.KeptEntries.{or_empty, strings_held, texts_strings, told_value, told_name};
+ghost use Rattle.line_rewrite.specs.EntrySteps.{told_found, found_more};
+ghost use Rattle.line_rewrite.specs.Troubles.{IfMalformed};
+
+use crate::content::{DW_LNCT_directory_index, DW_LNCT_path};
+use crate::text::Texts;
+use crate::trouble::Trouble;
+use crate::value::Value;
+use rb_bytes::cursor::Cursor;
+use std::alloc::{AllocError, Global};
+
+// The text at an offset of a section; where none is, an empty one.
+fn text_from(section: &[u8], offset: u64) -> &[u8]
+    ensures { result.now ≡ or_empty (text_in section.now offset) }
+{
+    let (_, left) = section.split_at((section.len() as u64).min(offset) as usize);
+    let mut cursor = Cursor::new(left);
+    match cursor.text() {
+        Ok(text) => text,
+        Err(_) => &[],
+    }
+}
+
+/// A text that was read, or where it stands.
+#[derive(Drop)]
+pub enum Text {
+    Own(Vec<u8>),
+    /// An offset of `.debug_str`.
+    Str(u64),
+    /// An offset of `.debug_line_str`.
+    LineStr(u64),
+}
+
+impl Text {
+    /// Its bytes; where none stand at its offset, none.
+    pub fn bytes<'t>(&'t self, str: &'t [u8], line_str: &'t [u8]) -> &'t [u8]
+        ensures { result.now ≡ told_name (strings_held str.now line_str.now) self.now }
+    {
+        match self {
+            Text::Own(text) => text,
+            Text::Str(offset) => text_from(str, *offset),
+            Text::LineStr(offset) => text_from(line_str, *offset),
+        }
+    }
+}
+
+/// A directory or a file: its text, and the index of its directory.
+#[derive(Drop)]
+pub struct Entry {
+    pub text: Text,
+    pub directory: u64,
+}
+
+/// What contents say so far.
+#[derive(Drop)]
+pub struct Found {
+    pub path: Option<Text>,
+    pub directory: u64,
+}
+
+/// A copy of some bytes.
+pub fn copied(alloc: Global, bytes: &[u8]) -> Result<Vec<u8>, AllocError>
+    ensures { IfOk result (λ v. v.items ≡ bytes.now) }
+{
+    let mut copy = Vec::new(alloc);
+    copy.extend_from_slice(bytes)?;
+    Ok(copy)
+}
+
+// The text that a value is.
+fn text_of<'a>(alloc: Global, texts: &Texts, value: Value<'a>) -> Result<Text, Trouble>
+    ensures read { IfOk result (λ t. text_of (texts_strings texts.now) (told_value value.entry)
+        ≡ Some (told_name (texts_strings texts.now) t)) }
+    ensures malformed { IfMalformed result
+        (text_of (texts_strings texts.now) (told_value value.entry) ≡ None) }
+{
+    match value {
+        Value::Text(text) => Ok(Text::Own(copied(alloc, text)?)),
+        Value::AtStr(offset) => {
+            if !texts.has_str(offset) {
+                return Err(Trouble::Malformed);
+            }
+            Ok(Text::Str(offset))
+        }
+        Value::AtLineStr(offset) => {
+            if !texts.has_line_str(offset) {
+                return Err(Trouble::Malformed);
+            }
+            Ok(Text::LineStr(offset))
+        }
+        Value::Number(_) | Value::Other => Err(Trouble::Malformed),
+    }
+}
+
+/// What contents say with one more.
+pub fn take_content<'a>(
+    alloc: Global,
+    texts: &Texts,
+    content: u64,
+    value: Value<'a>,
+    found: Found,
+) -> Result<Found, Trouble>
+    ensures read { IfOk result (λ new. found_more (texts_strings texts.now) content (told_value value.entry) (told_found (texts_strings texts.now) found)
+        ≡ Some (told_found (texts_strings texts.now) new)) }
+    ensures malformed { IfMalformed result
+        (found_more (texts_strings texts.now) content (told_value value.entry) (told_found (texts_strings texts.now) found) ≡ None) }
+{
+    if content == DW_LNCT_path {
+        let text = text_of(alloc, texts, value)?;
+        return Ok(Found {
+            path: Some(text),
+            directory: found.directory,
+        });
+    }
+    if content == DW_LNCT_directory_index {
+        return match value {
+            Value::Number(directory) => Ok(Found {
+                path: found.path,
+                directory,
+            }),
+            Value::Text(_) | Value::AtStr(_) | Value::AtLineStr(_) | Value::Other => {
+                Err(Trouble::Malformed)
+            }
+        };
+    }
+    Ok(found)
+}

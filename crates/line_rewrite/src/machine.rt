@@ -1,0 +1,149 @@
+// The state machine. DWARF 5, sections 6.2.2 and 6.2.5.
+ghost use Rattle.std.specs.Prelude.{◌≡◌, ◌<◌, ◌≤◌, ◌*◌};
+ghost use Rattle.line_rewrite.specs.LineMachine.{start, advanced, lined, address_advance, line_advance, after_op, after_row, effect_of};
+
+use crate::coding::Coding;
+use crate::effect::Effect;
+use crate::operation::LineOp;
+use crate::registers::Registers;
+
+/// The registers where a sequence begins.
+pub fn start(coding: &Coding) -> Registers
+    ensures { result ≡ start coding.now }
+{
+    Registers {
+        address: 0,
+        file: 1,
+        line: 1,
+        column: 0,
+        is_stmt: coding.default_is_stmt,
+        basic_block: false,
+        prologue_end: false,
+        epilogue_begin: false,
+        isa: 0,
+        discriminator: 0,
+    }
+}
+
+// The address advanced by n, where it stays in 64 bits.
+fn advanced(n: u64, registers: Registers) -> Option<Registers>
+    ensures { result ≡ advanced n registers }
+{
+    match registers.address.checked_add(n) {
+        Some(address) => Some(Registers {
+            address,
+            ..registers
+        }),
+        None => None,
+    }
+}
+
+// The line advanced, modulo 2 ^ 64.
+fn lined(by: i64, registers: Registers) -> Registers
+    ensures { result ≡ lined by registers }
+{
+    Registers {
+        line: registers.line.wrapping_add(by.cast_unsigned()),
+        ..registers
+    }
+}
+
+// By how much a special opcode advances the address.
+fn address_advance(coding: &Coding, adjusted: u8) -> u64
+    requires { 0 < coding.now.line_range }
+    ensures { result ≡ address_advance coding.now adjusted }
+{
+    (adjusted / coding.line_range) as u64 * coding.minimum_instruction_length as u64
+}
+
+// By how much a special opcode advances the line.
+fn line_advance(coding: &Coding, adjusted: u8) -> i64
+    requires { 0 < coding.now.line_range }
+    ensures { result ≡ line_advance coding.now adjusted }
+{
+    coding.line_base as i64 + (adjusted % coding.line_range) as i64
+}
+
+// The address advanced by so many instructions.
+fn advanced_by(coding: &Coding, n: u64, registers: Registers) -> Option<Registers>
+    ensures { result ≡ advanced (n * coding.now.minimum_instruction_length) registers }
+{
+    match n.checked_mul(coding.minimum_instruction_length as u64) {
+        Some(by) => advanced(by, registers),
+        None => None,
+    }
+}
+
+/// The registers after an operation; those of a row, where it appends one.
+pub fn after_op(coding: &Coding, op: LineOp, registers: Registers) -> Option<Registers>
+    requires { 0 < coding.now.line_range }
+    ensures { result ≡ after_op coding.now op registers }
+{
+    match op {
+        LineOp::Special(adjusted) => {
+            let by = address_advance(coding, adjusted);
+            advanced(by, lined(line_advance(coding, adjusted), registers))
+        }
+        LineOp::AdvancePc(n) => advanced_by(coding, n, registers),
+        LineOp::AdvanceLine(by) => Some(lined(by, registers)),
+        LineOp::SetFile(file) => Some(Registers { file, ..registers }),
+        LineOp::SetColumn(column) => Some(Registers {
+            column,
+            ..registers
+        }),
+        LineOp::NegateStmt => Some(Registers {
+            is_stmt: !registers.is_stmt,
+            ..registers
+        }),
+        LineOp::SetBasicBlock => Some(Registers {
+            basic_block: true,
+            ..registers
+        }),
+        LineOp::ConstAddPc => {
+            advanced(address_advance(coding, 255 - coding.opcode_base), registers)
+        }
+        LineOp::FixedAdvancePc(n) => advanced(n as u64, registers),
+        LineOp::SetPrologueEnd => Some(Registers {
+            prologue_end: true,
+            ..registers
+        }),
+        LineOp::SetEpilogueBegin => Some(Registers {
+            epilogue_begin: true,
+            ..registers
+        }),
+        LineOp::SetIsa(isa) => Some(Registers { isa, ..registers }),
+        LineOp::SetAddress(address) => Some(Registers {
+            address,
+            ..registers
+        }),
+        LineOp::SetDiscriminator(discriminator) => Some(Registers {
+            discriminator,
+            ..registers
+        }),
+        LineOp::Copy | LineOp::EndSequence | LineOp::Unknown => Some(registers),
+    }
+}
+
+/// What an operation does to the table.
+pub fn effect_of(op: LineOp) -> Effect
+    ensures { result ≡ effect_of op }
+{
+    match op {
+        LineOp::Special(_) | LineOp::Copy => Effect::Appends,
+        LineOp::EndSequence => Effect::Ends,
+        _ => Effect::Sets,
+    }
+}
+
+/// The registers after a row was appended.
+pub fn after_row(registers: Registers) -> Registers
+    ensures { result ≡ after_row registers }
+{
+    Registers {
+        basic_block: false,
+        prologue_end: false,
+        epilogue_begin: false,
+        discriminator: 0,
+        ..registers
+    }
+}

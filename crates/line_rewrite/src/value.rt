@@ -1,0 +1,67 @@
+// The values of entries. DWARF 5, sections 6.2.4.1 and 7.5.5.
+ghost use Rattle.std.specs.Prelude.{◌≡◌, ◌==◌, ℕ, List, false, Some, None, IfOk};
+ghost use Rattle.table_core.specs.declared.form.TheConstants.{DW_FORM_string};
+ghost use Rattle.line_rewrite.specs.Entries.{form_here, form_value, read_value};
+ghost use Rattle.line_rewrite.specs.KeptEntries.{told_value};
+ghost use Rattle.line_rewrite.specs.Troubles.{IfMalformed};
+
+use crate::trouble::Trouble;
+use rb_bytes::cursor::Cursor;
+use table_core::form::*;
+use table_core::shape::{Shape, shape_of};
+use table_core::value::value;
+
+/// What a value is. A text may stand at an offset of `.debug_str` or of `.debug_line_str`.
+#[derive(Clone, Copy)]
+pub enum Value<'a> {
+    Number(u64),
+    Text(&'a [u8]),
+    AtStr(u64),
+    AtLineStr(u64),
+    Other,
+}
+
+/// The form of a value: an indirect form names it before the value.
+pub fn form_here<'a>(cursor: &mut Cursor<'a>, form: u64) -> Result<u64, Trouble>
+    ensures read { IfOk result (λ x. form_here form cursor.old.left ≡ Some (x, cursor.new.left)) }
+    ensures malformed { IfMalformed result (form_here form cursor.old.left ≡ None) }
+{
+    if form != DW_FORM_indirect {
+        return Ok(form);
+    }
+    let form = cursor.uleb()?;
+    Ok(form)
+}
+
+// What a value of a form is that is no text in the bytes.
+fn value_of<'a>(form: u64, number: u64) -> Value<'a>
+    requires { (form == DW_FORM_string) ≡ false }
+    ensures { (left : List ℕ) → told_value result ≡ form_value form number left }
+{
+    match form {
+        DW_FORM_data1 | DW_FORM_data2 | DW_FORM_data4 | DW_FORM_data8 | DW_FORM_udata => {
+            Value::Number(number)
+        }
+        DW_FORM_strp => Value::AtStr(number),
+        DW_FORM_line_strp => Value::AtLineStr(number),
+        _ => Value::Other,
+    }
+}
+
+/// The value of a form at the front.
+pub fn read_value<'a>(cursor: &mut Cursor<'a>, form: u64) -> Result<Value<'a>, Trouble>
+    ensures read { IfOk result (λ v. read_value form cursor.old.left ≡ Some (told_value v, cursor.new.left)) }
+    ensures malformed { IfMalformed result (read_value form cursor.old.left ≡ None) }
+{
+    if form == DW_FORM_string {
+        let text = cursor.text()?;
+        return Ok(Value::Text(text));
+    }
+    match shape_of(form) {
+        None | Some(Shape::Implicit) => Err(Trouble::Malformed),
+        Some(shape) => {
+            let number = value(cursor, 0, shape)?;
+            Ok(value_of(form, number))
+        }
+    }
+}
