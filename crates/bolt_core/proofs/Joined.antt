@@ -20,7 +20,7 @@ use Rattle.elf_image.specs.memory.Executables.{AreCodeBytes, executable_of, memo
 use Rattle.rb_bytes.proofs.ListLemmas.{all_of, in_map}
 use Rattle.code_emit.specs.Output.{Puts, new_cell}
 use Rattle.bolt_core.proofs.CellNumbers.{cell_number_is}
-use Rattle.elf_write.specs.Area.{area_start_of}
+use Rattle.area_room.specs.Room.{area_start_of}
 use Rattle.elf_write.specs.Source.{Source, cell_range}
 use Rattle.elf_write.specs.WrittenFile.{IsWritten}
 

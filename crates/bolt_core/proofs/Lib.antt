@@ -1,10 +1,8 @@
+mod Accepted
 mod CellFields
 mod CellNumbers
-mod CodeFaultOrder
-mod CodeSizes
 mod Direct
 mod Joined
-mod Layouts
 mod Maps
 mod Near
 mod NewArea
@@ -13,5 +11,4 @@ mod Ranges
 mod Rewrites
 mod SomeCode
 mod SoundCode
-mod TableSections
 mod WrittenOutput

@@ -11,10 +11,10 @@ use Rattle.elf_image.specs.declared.segment.Segment.{Segment}
 use Rattle.rv_code.specs.layout.FunctionLists.{address_end}
 use Rattle.elf_image.specs.file.Header.{header_size}
 use Rattle.elf_image.specs.memory.CodeSegment.{executable_end}
-use Rattle.elf_write.specs.Area.{area_start_of}
-use Rattle.elf_write.specs.Need.{capped, code_need, need}
-use Rattle.elf_write.specs.RoomFault.{has_no_room, no_room, no_room_fault}
-use Rattle.elf_write.specs.Room.{area_limit, area_start, code_end, is_tight, pages_from, room, room_above}
+use Rattle.area_room.specs.Room.{area_start_of}
+use Rattle.area_room.specs.Need.{capped, code_need, need}
+use Rattle.area_room.specs.RoomFault.{has_no_room, no_room, no_room_fault}
+use Rattle.area_room.specs.Room.{area_limit, area_start, code_end, is_tight, pages_from, room, room_above}
 use Rattle.elf_write.proofs.FreeRange.{fold-min-le}
 
 low_limit : (segments : List Segment) → area_limit segments ≤ address_end

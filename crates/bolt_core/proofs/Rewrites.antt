@@ -1,82 +1,189 @@
--- A rewritten file keeps the runs of its input, and what was read of a file is a program or a reason to refuse it.
-use Rattle.std.proofs.Common.{◌≡◌, ◌∙◌, refl, sym, subst, ℕ, ◌<◌, List, Bool, true, false}
-use Rattle.std.specs.Prelude.{All, IsTrue}
-use Rattle.rb_bytes.specs.declared.fault.Refusal.{Refusal}
-use Rattle.rb_bytes.specs.declared.fault.Refusal.TheVariants as refusal
+-- A written file is a rewrite of its input, and keeps its runs.
+use Rattle.std.proofs.Common.{◌≡◌, ◌∙◌, refl, sym, subst, ap, ℕ, ◌+◌, ◌%◌, ◌<◌, ◌≤◌, ◌⊎◌, Bool, List, [], ◌∷◌, arith, cond, get_or, length, map, Fits, w8}
+use Rattle.std.specs.Prelude.{All, AllPairs, count_by, nat_lt, sum_by}
+use Rattle.std.specs.List.{fold}
+use Rattle.std.proofs.Math.Facts.{Fits-lt-pow}
+use Rattle.std.proofs.lemmas.List.{get_or_default}
+use Rattle.std.specs.declared.alloc.Global.{Global}
+use Rattle.rv_code.specs.declared.layout.Chains.{Chains}
+use Rattle.rv_code.specs.declared.layout.Emitted.{Emitted}
 use Rattle.rv_code.specs.declared.placed.Block.{Block}
 use Rattle.rv_code.specs.declared.placed.Func.{Func}
-use Rattle.rv_code.specs.layout.Blocks.{AreBlocks}
+use Rattle.rv_code.specs.layout.Flow.{insts_of}
+use Rattle.rv_code.specs.layout.FunctionLists.{address_end}
+use Rattle.rv_code.specs.layout.WorstSizes.{worst_size_of_block}
 use Rattle.elf_image.specs.declared.elf.Elf.{Elf}
-use Rattle.elf_code.specs.Functions.{AreFunctions}
-use Rattle.elf_code.specs.CodeFaults.{HasCodeFault}
 use Rattle.elf_image.specs.faults.FileFaults.{IsSound}
-use Rattle.rb_bytes.specs.FirstFault.{IsRefusalBy}
-use Rattle.elf_image.specs.file.ParsedFile.{IsElfOf}
 use Rattle.addr_map.specs.declared.span.Span.{Span}
+use Rattle.addr_map.specs.Spans.{new}
+use Rattle.rv_reloc.specs.declared.refs.Refs.{Refs}
+use Rattle.edge_profile.specs.PairCounts.{Counted, ignored_in}
+use Rattle.edge_profile.specs.Weights.{block_weight, is_hot_block}
 use Rattle.move_law.specs.FaithfulRewrite.{IsFaithful}
 use Rattle.move_law.specs.Laws.{KeepsCode}
 use Rattle.move_law.proofs.Law.{simulation_law}
-use Rattle.cfg_build.specs.NamedAddresses.{code_of}
-use Rattle.bolt_core.specs.Program.{Fit, IsPlain, IsProgramOf, Program, tabled}
-use Rattle.bolt_core.specs.Refusals.{IsRefusal, bad_code}
-use Rattle.bolt_core.specs.RewrittenFile.{KeepsRuns, KeepsRunsSoFar, rewrite_of}
-use Rattle.bolt_core.specs.Tables.{HasTables}
-use Rattle.bolt_core.specs.declared.file_code.FileCode.{FileCode}
-use Rattle.bolt_core.specs.internal.ReadCode.{IsReadCode, program_of}
+use Rattle.branch_fixup.specs.Inputs.{AreNear}
+use Rattle.func_place.specs.Nearness.{AreTiedNear}
+use Rattle.elf_write.specs.NewTables.{HasNewTables}
+use Rattle.elf_write.specs.Source.{HasPlace}
+use Rattle.elf_write.specs.WrittenFile.{AreApart, CanHold, IsWritten}
+use Rattle.program.specs.Program.{Program, program_of}
+use Rattle.program.specs.Room.{is_tight_program, new_start}
+use Rattle.bolt_core.specs.Limits.{IsTooLarge}
+use Rattle.bolt_core.specs.ProfileOrder.{IsProfileOrder, cold_starts, hot_count}
+use Rattle.bolt_core.specs.Refusals.{CanStand, IsInput}
+use Rattle.bolt_core.specs.RewriteCounts.{RewriteCounts}
+use Rattle.bolt_core.specs.RewrittenFile.{IsRewritten, KeepsRuns, KeepsRunsSoFar, counts_of_rewrite, rewrite_of}
+use Rattle.bolt_core.specs.internal.MovedCode.{IsMovedCode}
+use Rattle.bolt_core.proofs.CellFields.{all_apart, all_hold}
+use Rattle.bolt_core.proofs.Near.{near_blocks}
+use Rattle.bolt_core.proofs.NewArea.{start_even}
+use Rattle.bolt_core.proofs.SoundCode.{IsSoundCode, accepted, laid, of_input}
+use Rattle.bolt_core.proofs.WrittenOutput.{bytes_are, code_there, follows_segments, is_faithful, is_laid_out, is_sound}
+use Rattle.bolt_core.proofs.WrittenOutput.{keeps_front, place, placed, source_of}
 
-module _ (file profile : List ℕ) (x : Program) (is : IsProgramOf file profile x) (bytes : All (λ b. b < 256) x.elf.file.now)
+module _ {file profile : List ℕ} {x : Program} (input : IsInput file profile x) (bytes : All (λ b. b < 256) file)
     (w : List ℕ) (written : All (λ b. b < 256) w) (sound : IsSound w) (spans : List Span)
     (faithful : IsFaithful (rewrite_of x w spans)) where
   keeps : KeepsCode (rewrite_of x w spans)
   keeps = record {
-    accepted = record {
-      bytes = bytes;
-      read = subst (λ (f : List ℕ). IsElfOf f x.elf) (sym (is.read).file_is) is.read;
-      sound = subst IsSound (sym (is.read).file_is) (is.plain).sound;
-      tabled = tabled;
-      code_is = is.code_is;
-      no_fault = is.no_fault;
-    };
+    accepted = accepted x.elf x.code (of_input input bytes);
     output = record { bytes = written; is = refl; sound = sound };
     faithful = faithful;
   }
 
-  pub keeps_runs : KeepsRuns x w spans
-  keeps_runs = λ args input fit n trace status run. simulation_law.runs (rewrite_of x w spans) keeps args input fit n trace
+  keeps_runs : KeepsRuns x w spans
+  keeps_runs = λ args given fit n trace status run. simulation_law.runs (rewrite_of x w spans) keeps args given fit n trace
       status run
 
-  pub keeps_so_far : KeepsRunsSoFar x w spans
-  keeps_so_far = λ args input fit n trace run. simulation_law.so_far (rewrite_of x w spans) keeps args input fit n trace run
+  keeps_so_far : KeepsRunsSoFar x w spans
+  keeps_so_far = λ args given fit n trace run. simulation_law.so_far (rewrite_of x w spans) keeps args given fit n trace run
 
--- What was read.
+-- counts that are equal one by one
+pub counted : (functions instructions bytes hot ignored instructions' bytes' hot' ignored' : ℕ) → instructions ≡ instructions' →
+    bytes ≡ bytes' → hot ≡ hot' → ignored ≡ ignored' →
+    ◌≡◌ {A = RewriteCounts}
+    (record { functions = functions; instructions = instructions; bytes = bytes; hot = hot; ignored = ignored })
+    (record { functions = functions; instructions = instructions'; bytes = bytes'; hot = hot'; ignored = ignored' })
+counted functions instructions bytes hot ignored instructions' bytes' hot' ignored' e f g h = λ i. record {
+  functions = functions;
+  instructions = e i;
+  bytes = f i;
+  hot = g i;
+  ignored = h i;
+}
 
-module _ (file profile : List ℕ) (elf : Elf) (read : IsElfOf file elf) (fit : Fit file profile) (sound : IsSound file) where
-  no_tables : (b : Bool) → (HasTables elf.file.now → b ≡ true) → b ≡ false → HasTables file → ⊥
-  no_tables true tells none tables = absurd (cc)
-  no_tables false tells none tables = absurd (let some : false ≡ true = tells (subst HasTables (sym read.file_is) tables) in cc)
+-- what a slice of bytes holds are bytes
+pub all_bytes : (bytes : List ℕ) → ((k : ℕ) → Fits w8 (get_or bytes k 0)) → All (λ b. b < 256) bytes
+all_bytes bytes fit = λ k d within. subst (λ n. n < 256) (get_or_default bytes k 0 d within) (Fits-lt-pow (fit k))
 
-  pub is_plain : (b : Bool) → (HasTables elf.file.now → IsTrue b) → b ≡ false → IsPlain file profile
-  is_plain b tells none = record { fit = fit; sound = sound; no_tables = no_tables b tells none }
+-- the hot blocks are those whose weights are positive
+count_from : {X : Type 0} (weight : X → ℕ) (n : ℕ) (xs : List X) →
+    fold (λ (a : ℕ) (b : ℕ). a + cond (nat_lt 0 b) 1 0) n (map weight xs)
+    ≡ fold (λ (a : ℕ) (x : X). a + cond (nat_lt 0 (weight x)) 1 0) n xs
+count_from weight n [] = refl
+count_from weight n (x ∷ xs) = count_from weight (n + cond (nat_lt 0 (weight x)) 1 0) xs
 
-  pub bad_code_refusal : IsPlain file profile → (r : Refusal) → IsRefusalBy (HasCodeFault elf tabled) r → IsRefusal file profile r
-  bad_code_refusal plain (refusal.Fault fault) has = bad_code plain elf read has
-  bad_code_refusal plain refusal.Memory has = tt
+count_of : {X : Type 0} (weight : X → ℕ) (xs : List X) →
+    count_by (nat_lt 0) (map weight xs) ≡ count_by (λ x. nat_lt 0 (weight x)) xs
+count_of weight xs = count_from weight 0 xs
 
-  pub program_read : IsPlain file profile → (code : FileCode) → IsReadCode elf code → (seen funcs : List Func)
-      (blocks : List Block) →
-      seen ≡ code.funcs.items → funcs ≡ code.funcs.items → AreBlocks (code_of seen code.refs elf.entry) blocks →
-      (listed : List Block) → listed ≡ blocks → IsProgramOf elf.file.now profile (program_of elf funcs code.refs listed)
-  program_read plain code is seen funcs blocks first second are listed same = record {
-    plain = subst (λ (f : List ℕ). IsPlain f profile) (sym read.file_is) plain;
-    read = subst (λ (f : List ℕ). IsElfOf f elf) (sym read.file_is) read;
-    code_is = record {
-      funcs = subst (AreFunctions elf tabled) (sym second) is.funcs;
-      roles = (is.refs).roles;
-      cells = (is.refs).cells;
-      entry = refl;
-    };
-    no_fault = is.no_fault;
-    blocks_are =
-        subst (AreBlocks (code_of funcs code.refs elf.entry)) (sym same)
-        (subst (λ (fs : List Func). AreBlocks (code_of fs code.refs elf.entry) blocks) (first ∙ sym second) are);
-  }
+pub hot_counted : (pairs : List Counted) (funcs : List Func) (blocks : List Block) (given weights : List ℕ) (hot : ℕ) →
+    given ≡ weights → weights ≡ map (block_weight pairs funcs) blocks → hot ≡ count_by (nat_lt 0) given →
+    hot ≡ count_by (is_hot_block pairs funcs) blocks
+hot_counted pairs funcs blocks given weights hot same are is =
+    is ∙ ap (λ (ws : List ℕ). count_by (nat_lt 0) ws) (same ∙ are) ∙ count_of (block_weight pairs funcs) blocks
+
+module _ {file profile : List ℕ} (elf : Elf) (funcs : List Func) (refs : Refs) (blocks : List Block)
+    (input : IsInput file profile (program_of elf funcs refs blocks)) (bytes : All (λ b. b < 256) file) where
+  abbrev x : Program
+  x = program_of elf funcs refs blocks
+
+  pub sound_code : IsSoundCode elf x.code
+  sound_code = of_input input bytes
+
+  pub near : (order : List ℕ) → AreTiedNear funcs blocks order → AreNear funcs blocks order
+  near order tied =
+      near_blocks x.code blocks (input.program).blocks_are (laid elf x.code sound_code) order tied
+
+  pub even : (start : ℕ) → start ≡ new_start x → start % 2 ≡ 0
+  even start is =
+      subst (λ (s : ℕ). s % 2 ≡ 0) (sym is) (start_even elf.segments.items (is_tight_program x))
+
+  module _ (stands : CanStand x) where
+    pub room : (start : ℕ) → start ≡ new_start x → start + sum_by (worst_size_of_block funcs) blocks ≤ address_end
+    room start is =
+        subst (λ (s : ℕ). s + sum_by (worst_size_of_block funcs) blocks ≤ address_end) (sym is)
+        (place elf funcs refs blocks sound_code (input.program).blocks_are stands).low
+
+    module _ (start : ℕ) (start_is : start ≡ new_start x) (order : List ℕ) (spans : List Span) (emitted : Emitted)
+        (made : IsMovedCode funcs refs.cells.items blocks order start spans emitted) where
+      moved : IsMovedCode funcs refs.cells.items blocks order (new_start x) spans emitted
+      moved = subst (λ (s : ℕ). IsMovedCode funcs refs.cells.items blocks order s spans emitted) start_is made
+
+      pub cells_held : All (CanHold elf) emitted.cells.items
+      cells_held =
+          subst (λ (cs : List (ℕ × ℕ × ℕ)). All (CanHold elf) cs) (sym made.cells_are)
+          (all_hold elf x.code (accepted elf x.code sound_code) (new spans))
+
+      pub cells_apart : AllPairs AreApart emitted.cells.items
+      cells_apart =
+          subst (λ (cs : List (ℕ × ℕ × ℕ)). AllPairs AreApart cs) (sym made.cells_are)
+          (all_apart elf x.code (accepted elf x.code sound_code) (new spans))
+
+      module _ (cold w : List ℕ) (w_bytes : All (λ b. b < 256) w)
+          (written : (t : Bool) → HasPlace (source_of elf emitted spans) t → IsWritten (source_of elf emitted spans) t w)
+          (tables : (t : Bool) → HasPlace (source_of elf emitted spans) t →
+          HasNewTables {Y = Global} {Z = Global} elf [] emitted.code.items funcs cold spans t w)
+          (pairs : List Counted) (parts : Chains) (ordered : IsProfileOrder x profile pairs parts order)
+          (cold_is : cold ≡ cold_starts funcs blocks parts)
+          (fits : (place : ℕ) → IsTooLarge elf funcs cold place → ⊥) where
+        sound : IsSound w
+        sound = is_sound elf funcs refs blocks sound_code (input.program).blocks_are stands order spans emitted moved w written
+
+        faithful : IsFaithful (rewrite_of x w spans)
+        faithful =
+            is_faithful elf funcs refs blocks sound_code (input.program).blocks_are stands order spans emitted moved w written
+
+        pub rewritten : (instructions size hot ignored : ℕ) → instructions ≡ length (insts_of funcs) →
+            size ≡ length emitted.code.items → hot ≡ hot_count x pairs → ignored ≡ ignored_in profile elf funcs →
+            IsRewritten file profile w spans (record {
+              functions = length funcs;
+              instructions = instructions;
+              bytes = size;
+              hot = hot;
+              ignored = ignored;
+            })
+        rewritten instructions size hot ignored instructions_are size_is hot_is ignored_is = record {
+          program = x;
+          accepted = input;
+          stands = stands;
+          pairs = pairs;
+          parts = parts;
+          order = order;
+          fits = subst (λ (c : List ℕ). (place : ℕ) → IsTooLarge elf funcs c place → ⊥) cold_is fits;
+          sound = sound;
+          faithful = faithful;
+          runs = keeps_runs input bytes w w_bytes sound spans faithful;
+          so_far = keeps_so_far input bytes w w_bytes sound spans faithful;
+          ordered = ordered;
+          code = emitted.code.items;
+          laid_out =
+              is_laid_out elf funcs refs blocks sound_code (input.program).blocks_are stands order spans emitted moved;
+          stretch = moved.stretch;
+          code_stands =
+              code_there elf funcs refs blocks sound_code (input.program).blocks_are stands order spans emitted moved w written;
+          tables =
+              subst (λ (c : List ℕ). HasNewTables {Y = Global} {Z = Global} elf [] emitted.code.items funcs c spans
+              (is_tight_program x) w) cold_is
+              (tables (is_tight_program x)
+              (placed elf funcs refs blocks sound_code (input.program).blocks_are stands order spans emitted moved));
+          headers =
+              follows_segments elf funcs refs blocks sound_code (input.program).blocks_are stands order spans emitted moved w
+              written;
+          front =
+              keeps_front elf funcs refs blocks sound_code (input.program).blocks_are stands order spans emitted moved w written;
+          counted = counted (length funcs) instructions size hot ignored _ _ _ _ instructions_are
+              (size_is ∙ bytes_are elf funcs refs blocks sound_code (input.program).blocks_are stands order spans emitted moved)
+              hot_is ignored_is;
+        }

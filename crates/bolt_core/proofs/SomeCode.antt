@@ -15,7 +15,7 @@ use Rattle.branch_fixup.proofs.Covered.{covers}
 use Rattle.branch_fixup.proofs.Falls.{code_at}
 use Rattle.rv_code.proofs.lists.Blocks.{blocks_of_functions}
 use Rattle.func_place.proofs.WorstPositive.{worst_some}
-use Rattle.elf_write.specs.Need.{code_need}
+use Rattle.area_room.specs.Need.{code_need}
 
 module _ (elf : Elf) (code : ProgramCode) (accepted : IsAcceptedCode elf code) where
   entry_code : is_code_address code.funcs elf.entry ≡ true

@@ -1,5 +1,5 @@
 -- What holds of the code of a file in which no fault was found.
-use Rattle.std.proofs.Common.{refl, inr}
+use Rattle.std.proofs.Common.{◌<◌, refl, sym, subst, inr, ℕ, List}
 use Rattle.std.specs.Prelude.{All}
 use Rattle.rv_code.specs.layout.Flow.{insts_of}
 use Rattle.rv_code.specs.layout.FunctionLists.{AreLaidOut}
@@ -10,9 +10,34 @@ use Rattle.cfg_build.proofs.layout.AcceptedCode.{AreLaidOut-functions}
 use Rattle.branch_fixup.specs.Inputs.{AreDirect}
 use Rattle.code_emit.specs.Inputs.{CanMove, IsLowCell}
 use Rattle.code_emit.proofs.Accepted.{can_move, low_cells}
-use Rattle.bolt_core.specs.Program.{tabled}
-use Rattle.bolt_core.specs.internal.ReadCode.{IsSoundCode}
+use Rattle.elf_code.specs.CodeFaults.{HasCodeFault}
+use Rattle.elf_code.specs.FileCode.{IsCodeOf}
+use Rattle.elf_image.specs.faults.FileFaults.{IsSound}
+use Rattle.elf_image.specs.file.ParsedFile.{IsElfOf}
+use Rattle.rb_bytes.specs.FirstFault.{IsFree}
+use Rattle.program.specs.Program.{Program, tabled}
+use Rattle.bolt_core.specs.Refusals.{IsInput}
 use Rattle.bolt_core.proofs.Direct.{are_direct}
+
+-- a file that was read and its code, without any fault
+pub record IsSoundCode (elf : Elf) (code : ProgramCode) : Type 0 where
+  pub bytes : All (λ b. b < 256) elf.file.now
+  pub read : IsElfOf elf.file.now elf
+  pub sound : IsSound elf.file.now
+  pub code_is : IsCodeOf elf tabled code
+  pub no_fault : IsFree (HasCodeFault elf tabled)
+
+pub of_input : {file profile : List ℕ} {x : Program} → IsInput file profile x → All (λ b. b < 256) file →
+    IsSoundCode x.elf x.code
+of_input {x = x} is bytes =
+    let faultless = (is.program).faultless in
+    record {
+      bytes = subst (λ (f : List ℕ). All (λ b. b < 256) f) (sym (faultless.read).file_is) bytes;
+      read = subst (λ (f : List ℕ). IsElfOf f x.elf) (sym (faultless.read).file_is) faultless.read;
+      sound = subst IsSound (sym (faultless.read).file_is) (faultless.plain).sound;
+      code_is = (is.program).code_is;
+      no_fault = faultless.no_fault;
+    }
 
 module _ (elf : Elf) (code : ProgramCode) (is : IsSoundCode elf code) where
   abbrev pub accepted : IsAcceptedCode elf code

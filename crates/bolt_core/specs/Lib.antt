@@ -1,9 +1,6 @@
-pub mod CodeLimit
 pub mod Limits
 pub mod ProfileOrder
-pub mod Program
 pub mod Refusals
 pub mod RewriteCounts
 pub mod RewrittenFile
-pub mod Tables
 pub mod internal

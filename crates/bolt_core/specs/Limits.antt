@@ -1,13 +1,10 @@
 -- Limits on what is rewritten, beside that on the length of files.
-use Rattle.std.specs.Prelude.{◌≡◌, ◌<◌, ℕ, List, length}
+use Rattle.std.specs.Prelude.{◌≡◌, ◌<◌, ℕ, List}
 use Rattle.rv_code.specs.declared.placed.Func.{Func}
 use Rattle.elf_image.specs.declared.elf.Elf.{Elf}
 use Rattle.elf_image.specs.file.Header.{e_phnum, e_shnum}
 use Rattle.elf_write.specs.NameWeight.{name_weight}
-use Rattle.bolt_core.specs.CodeLimit.{HasTooMuchCode}
-
-abbrev pub function_limit : ℕ
-function_limit = 200000
+use Rattle.program.specs.Limits.{IsCodeTooLarge}
 
 -- of section headers, and of program headers
 abbrev pub header_limit : ℕ
@@ -20,8 +17,7 @@ name_limit = 4000000000
 -- The places at which a file with these functions passes a limit: its code, its functions, its headers,
 -- or the names that are written. Of functions whose cold part stands apart, `cold` has the addresses of that.
 pub data IsTooLarge (elf : Elf) (funcs : List Func) (cold : List ℕ) (place : ℕ) : Type 0 where
-  much_code : place ≡ 2 → HasTooMuchCode elf.file.now → IsTooLarge elf funcs cold place
-  many_functions : place ≡ 3 → function_limit < length funcs → IsTooLarge elf funcs cold place
+  large_code : IsCodeTooLarge elf.file.now funcs place → IsTooLarge elf funcs cold place
   many_sections : place ≡ 5 → header_limit < e_shnum elf.file.now → IsTooLarge elf funcs cold place
   many_segments : place ≡ 5 → header_limit < e_phnum elf.file.now → IsTooLarge elf funcs cold place
   long_names : place ≡ 6 → name_limit < name_weight elf funcs cold → IsTooLarge elf funcs cold place

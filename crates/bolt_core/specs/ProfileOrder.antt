@@ -12,7 +12,7 @@ use Rattle.edge_profile.specs.Weights.{block_weight, is_hot_block}
 use Rattle.block_layout.specs.EdgeCounts.{first_address}
 use Rattle.block_layout.specs.Parts.{AreChains}
 use Rattle.func_place.specs.Placement.{IsPlacement}
-use Rattle.bolt_core.specs.Program.{Program}
+use Rattle.program.specs.Program.{Program}
 
 -- what a profile counts, from one instruction of the program to another
 abbrev pub counts_of : Program → List ℕ → ℕ → ℕ → ℕ
@@ -29,7 +29,7 @@ pub record ArePartsOf (counts : ℕ → ℕ → ℕ) (pairs : List Counted) (fun
   pub edges_are : AreEdges funcs cells blocks edges
   pub chains : AreChains counts pairs funcs blocks edges parts
 
--- those that a profile asks for
+-- the parts that a profile asks for
 abbrev pub ArePartsBy : Program → List ℕ → List Counted → Chains → Type 0
 ArePartsBy x profile pairs parts = ArePartsOf (counts_of x profile) pairs x.code.funcs x.code.cells x.blocks parts
 
@@ -48,7 +48,7 @@ cold_start funcs blocks [] cold = None
 cold_start funcs blocks (h ∷ hs) [] = None
 cold_start funcs blocks (h ∷ hs) (c ∷ cs) = Some (first_address funcs blocks c)
 
--- those of all functions
+-- the starts of the cold parts of all functions
 abbrev pub cold_starts : List Func → List Block → Chains → List ℕ
 cold_starts funcs blocks parts =
     filter_map (λ f. cold_start funcs blocks (list_of parts.hot.items f) (list_of parts.cold.items f))

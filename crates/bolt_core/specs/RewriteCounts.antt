@@ -9,7 +9,7 @@ pub record RewriteCounts : Type 0 where
   pub hot : ℕ
   pub ignored : ℕ
 
--- as the code keeps it
+-- the counts of a rewrite as the code keeps it
 abbrev pub counts_seen : Rewritten → RewriteCounts
 counts_seen r = record {
   functions = r.functions;

@@ -1,5 +1,5 @@
 -- What a rewritten file is to its input and its profile.
-use Rattle.std.specs.Prelude.{◌≡◌, ◌+◌, ◌*◌, ◌≤◌, ℕ, Bool, List, [], None, IfSome, length, sum_by}
+use Rattle.std.specs.Prelude.{◌≡◌, ◌+◌, ◌*◌, ◌≤◌, ℕ, List, [], None, IfSome, length, sum_by}
 use Rattle.std.specs.declared.alloc.Global.{Global}
 use Rattle.rv_code.specs.declared.layout.Chains.{Chains}
 use Rattle.rv_code.specs.declared.layout.Form.{Form}
@@ -22,25 +22,17 @@ use Rattle.branch_fixup.specs.Forms.{AreForms}
 use Rattle.branch_fixup.specs.Strips.{pieces_of, spans_of, strips_of}
 use Rattle.code_emit.specs.Bytes.{Adds}
 use Rattle.code_emit.specs.NewInsts.{made_from}
-use Rattle.elf_write.specs.Area.{area_of, shift_of, area_start_of}
+use Rattle.elf_write.specs.Area.{area_of, shift_of}
 use Rattle.elf_write.specs.CarriedBytes.{HoldsBytes}
 use Rattle.elf_write.specs.FrontBytes.{KeepsFront}
 use Rattle.elf_write.specs.NewSegments.{AreNewHeaders}
 use Rattle.elf_write.specs.NewTables.{HasNewTables}
-use Rattle.elf_write.specs.Room.{is_tight}
+use Rattle.program.specs.Program.{Program}
+use Rattle.program.specs.Room.{is_tight_program, new_start}
 use Rattle.bolt_core.specs.Limits.{IsTooLarge}
 use Rattle.bolt_core.specs.ProfileOrder.{IsProfileOrder, cold_starts, hot_count}
-use Rattle.bolt_core.specs.Program.{IsProgramOf, Program}
-use Rattle.bolt_core.specs.Refusals.{CanStand, needed_bytes}
+use Rattle.bolt_core.specs.Refusals.{CanStand, IsInput}
 use Rattle.bolt_core.specs.RewriteCounts.{RewriteCounts}
-
--- a file has no room for the new code behind its executable segment
-abbrev pub is_tight_program : Program → Bool
-is_tight_program x = is_tight x.elf.segments.items (needed_bytes x)
-
--- where its new code starts
-abbrev pub new_start : Program → ℕ
-new_start x = area_start_of x.elf.segments.items (is_tight_program x)
 
 abbrev pub rewrite_of : Program → List ℕ → List Span → Rewrite
 rewrite_of x written spans = record {
@@ -101,7 +93,7 @@ counts_of_rewrite x profile pairs spans = record {
 pub record IsRewritten (file profile written : List ℕ) (spans : List Span) (counts : RewriteCounts) : Type 0 where
   -- no fault is present
   pub program : Program
-  pub accepted : IsProgramOf file profile program
+  pub accepted : IsInput file profile program
   pub stands : CanStand program
   pub pairs : List Counted
   pub parts : Chains

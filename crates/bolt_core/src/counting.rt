@@ -1,5 +1,5 @@
-// How many instructions functions have.
-ghost use Rattle.std.specs.Prelude.{◌≡◌, IfOk, length};
+// What is counted of a rewrite.
+ghost use Rattle.std.specs.Prelude.{◌≡◌, IfOk, count_by, length, nat_lt};
 ghost use Rattle.rv_code.specs.layout.Flow.{insts_of};
 
 use rb_bytes::fault::NoMemory;
@@ -14,4 +14,17 @@ pub fn count_insts(funcs: &[Func]) -> Result<u64, NoMemory>
         count = count.checked_add(func.insts.len() as u64).ok_or(NoMemory)?;
     }
     Ok(count)
+}
+
+/// How many of the weights of blocks are those of hot ones.
+pub fn count_hot(weights: &[u128]) -> u64
+    ensures { result ≡ count_by (nat_lt 0) weights.now }
+{
+    let mut count = 0;
+    for weight in weights {
+        if *weight > 0 {
+            count += 1;
+        }
+    }
+    count
 }

@@ -1,22 +1,18 @@
 // Limits on what is rewritten.
-ghost use Rattle.std.specs.Prelude.{◌≡◌, IfOk};
+ghost use Rattle.std.specs.Prelude.{ℕ, ◌≤◌, IfErr, OnOk, length};
 ghost use Rattle.rv_code.specs.layout.FunctionLists.{AreLaidOut};
-ghost use Rattle.elf_image.specs.faults.LowestPlace.{IsLowest};
 ghost use Rattle.elf_image.specs.file.ParsedFile.{IsElfOf};
+ghost use Rattle.program.specs.Limits.{IsLimitFault};
+ghost use Rattle.program.specs.Refusals.{IsRefusalFor};
 ghost use Rattle.bolt_core.specs.Limits.{IsTooLarge};
+ghost use Rattle.bolt_core.specs.Refusals.{Fit, IsRefusal};
 
-use crate::code_limit::has_too_much_code;
 use elf_image::Elf;
 use elf_write::name_weight;
-use rb_bytes::fault::NoMemory;
+use program::{FILE_LIMIT, check_code};
+use rb_bytes::fault::{Fault, FaultKind, Refusal};
 use rv_code::Func;
 use std::alloc::Global;
-
-/// The most bytes of a file, and of a profile: 64 MiB.
-pub const FILE_LIMIT: usize = 64 * 1024 * 1024;
-
-/// The most functions that a file may have.
-pub const FUNCTION_LIMIT: usize = 200_000;
 
 // The most headers of sections, and of segments.
 const HEADER_LIMIT: usize = 65_000;
@@ -24,33 +20,43 @@ const HEADER_LIMIT: usize = 65_000;
 // The most bytes of names that are written.
 const NAME_LIMIT: u64 = 4_000_000_000;
 
-/// The first limit that a program passes: 2 for its code, 3 for its functions, 5 for its headers, and 6 for the names that are
-/// written. `cold` has the addresses of the cold parts that get a name.
-pub fn passed_limit(
+/// Refuses a file that is too long, at 0, and then a profile, at 1.
+pub fn check_lengths(file: &[u8], profile: &[u8]) -> Result<(), Refusal>
+    ensures fit { OnOk result (Fit file.now profile.now) }
+    ensures refused { IfErr result (IsRefusal file.now profile.now) }
+{
+    if file.len() > FILE_LIMIT {
+        return Err(Refusal::Fault(Fault::at(FaultKind::TooLarge, 0)));
+    }
+    if profile.len() > FILE_LIMIT {
+        return Err(Refusal::Fault(Fault::at(FaultKind::TooLarge, 1)));
+    }
+    Ok(())
+}
+
+/// Refuses a program that passes one of the other limits: on its code, at 2 and 3, on its headers, at 5, or on the names that
+/// are written, at 6. `cold` has the addresses of the cold parts that get a name.
+pub fn check_sizes(
     alloc: Global,
     elf: &Elf<'_>,
     funcs: &[Func],
     cold: &[u64],
-) -> Result<Option<u64>, NoMemory>
+) -> Result<(), Refusal>
     requires fields { IsElfOf elf.now.file.now elf.now }
     requires laid { AreLaidOut funcs.now }
-    ensures { IfOk result (IsLowest (IsTooLarge elf.now funcs.now cold.now)) }
+    ensures within { OnOk result ((place : ℕ) → IsTooLarge elf.now funcs.now cold.now place → ⊥) }
+    ensures refused { IfErr result (IsRefusalFor (IsLimitFault (IsTooLarge elf.now funcs.now cold.now))) }
 {
-    if has_too_much_code(elf) {
-        return Ok(Some(2));
-    }
-    if funcs.len() > FUNCTION_LIMIT {
-        return Ok(Some(3));
-    }
+    check_code(elf, funcs)?;
     if elf.sections.len() > HEADER_LIMIT {
-        return Ok(Some(5));
+        return Err(Refusal::Fault(Fault::at(FaultKind::TooLarge, 5)));
     }
     if elf.segments.len() > HEADER_LIMIT {
-        return Ok(Some(5));
+        return Err(Refusal::Fault(Fault::at(FaultKind::TooLarge, 5)));
     }
     let weight = name_weight(alloc, elf, funcs, cold)?;
     if weight > NAME_LIMIT {
-        return Ok(Some(6));
+        return Err(Refusal::Fault(Fault::at(FaultKind::TooLarge, 6)));
     }
-    Ok(None)
+    Ok(())
 }

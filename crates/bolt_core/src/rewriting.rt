@@ -1,23 +1,30 @@
 // A file rewritten by a profile.
-ghost use Rattle.std.specs.Prelude.{◌≡◌, ◌<◌, All, IfOk, IfErr, MatchOption};
-ghost use Rattle.elf_write.specs.Need.{HasNoFrames};
-ghost use Rattle.bolt_core.specs.Program.{Fit, IsProgramOf};
-ghost use Rattle.bolt_core.specs.Refusals.{IsRefusal, IsRefused};
-ghost use Rattle.bolt_core.specs.RewrittenFile.{IsRewritten};
+ghost use Rattle.std.specs.Prelude.{◌≡◌, ◌+◌, ◌%◌, ◌<◌, ◌≤◌, All, IfErr, IfOk, map, sum_by};
+ghost use Rattle.rv_code.specs.layout.BlockOrders.{HasAllBlocks, HaveAllBlocks};
+ghost use Rattle.rv_code.specs.layout.Flow.{insts_of};
+ghost use Rattle.rv_code.specs.layout.FunctionLists.{AreLaidOut, address_end};
+ghost use Rattle.rv_code.specs.layout.WorstSizes.{worst_size_of_block};
+ghost use Rattle.edge_profile.specs.PairCounts.{ArePairs};
+ghost use Rattle.edge_profile.specs.Profile.{profile_counts, pairs_of};
+ghost use Rattle.edge_profile.specs.Weights.{block_weight};
+ghost use Rattle.branch_fixup.specs.Inputs.{AreBlocksOf, AreDirect, AreNear};
+ghost use Rattle.code_emit.specs.Inputs.{CanMove, IsLowCell};
+ghost use Rattle.bolt_core.specs.ProfileOrder.{ArePartsOf};
+ghost use Rattle.bolt_core.specs.Refusals.{IsRefusal};
 ghost use Rattle.bolt_core.specs.RewriteCounts.{counts_seen};
-ghost use Rattle.bolt_core.specs.internal.ReadCode.{program_seen};
+ghost use Rattle.bolt_core.specs.RewrittenFile.{IsRewritten};
+ghost use Rattle.bolt_core.specs.internal.MovedCode.{IsMovedCode};
 
-use crate::counting::count_insts;
-use crate::file_code::read_code;
-use crate::layout::lay_out;
-use crate::limits::FILE_LIMIT;
-use crate::program::Program;
-use crate::tables::has_tables;
-use crate::writing::{Output, write_program};
+use crate::cold_parts::cold_starts;
+use crate::counting::{count_hot, count_insts};
+use crate::limits::{check_lengths, check_sizes};
 use addr_map::AddrMap;
-use cfg_build::blocks;
-use elf_image::read;
-use rb_bytes::fault::{Fault, FaultKind, Refusal};
+use edge_profile::Profile;
+use edge_profile::weights::block_weights;
+use program::Unbuilt;
+use rb_bytes::fault::{NoMemory, Refusal};
+use rv_code::{Block, Chains, Emitted, Func, Plan};
+use rv_reloc::Refs;
 use std::alloc::Global;
 
 /// A rewritten file, and what was counted of it.
@@ -38,75 +45,90 @@ pub struct Rewritten {
     pub ignored: u64,
 }
 
-// The fault of a file or a profile that is too long.
-fn long_input(file: &[u8], profile: &[u8]) -> Option<Fault>
-    ensures { MatchOption result (Fit file.now profile.now) (IsRefused file.now profile.now) }
-{
-    if file.len() > FILE_LIMIT {
-        return Some(Fault::at(FaultKind::TooLarge, 0));
-    }
-    if profile.len() > FILE_LIMIT {
-        return Some(Fault::at(FaultKind::TooLarge, 1));
-    }
-    None
-}
-
-// What a slice of bytes holds are bytes.
-fn are_bytes(bytes: &[u8])
-    ensures { All (λ b. b < 256) bytes.now }
-{}
-
 /// Rewrites a file so that its code lies in the order that a profile asks for, or says why it is refused.
 pub fn rewrite(alloc: Global, file: &[u8], profile: &[u8]) -> Result<Rewritten, Refusal>
     ensures rewritten { IfOk result (λ r. IsRewritten file.now profile.now r.file.items r.map (counts_seen r)) }
     ensures refused { IfErr result (IsRefusal file.now profile.now) }
 {
-    match long_input(file, profile) {
-        Some(fault) => return Err(Refusal::Fault(fault)),
-        None => {}
-    }
-    are_bytes(file);
-    let elf = read(alloc, file)?;
-    if has_tables(&elf) {
-        return Err(Refusal::Fault(Fault::at(FaultKind::NotBuilt, 0)));
-    }
-    let code = read_code(alloc, &elf)?;
-    let blocks = blocks(alloc, &code.funcs, &code.refs, elf.entry)?;
-    let program = Program {
-        elf: &elf,
-        funcs: &code.funcs,
-        refs: &code.refs,
-        blocks: &blocks,
-    };
-    rewrite_program(alloc, &program, profile)
-}
-
-// Lays out a program by a profile, and writes it so.
-fn rewrite_program(
-    alloc: Global,
-    program: &Program<'_, '_>,
-    profile: &[u8],
-) -> Result<Rewritten, Refusal>
-    requires bytes { All (λ b. b < 256) program.now.elf.now.file.now }
-    requires program { IsProgramOf program.now.elf.now.file.now profile.now (program_seen program.now) }
-    requires empty { HasNoFrames program.now.elf.now }
-    ensures rewritten { IfOk result
-        (λ r. IsRewritten program.now.elf.now.file.now profile.now r.file.items r.map (counts_seen r)) }
-    ensures refused { IfErr result (IsRefusal program.now.elf.now.file.now profile.now) }
-{
-    let layout = lay_out(alloc, program, profile)?;
-    let start = layout.site.start;
-    let output = write_program(alloc, program, &layout.plan, &layout.cold, start)?;
-    let Output { file, map, bytes } = output;
-    are_bytes(&file);
-    let instructions = count_insts(program.funcs)?;
+    check_lengths(file, profile)?;
+    let program = program::read_program(alloc, file, Unbuilt::Tables)?;
+    let funcs = program.funcs.as_slice();
+    let blocks = program.blocks.as_slice();
+    let counts = edge_profile::read(alloc, profile, &program.elf, funcs)?;
+    // That these are all pairs, in order, is a part of what is promised.
+    let _pairs = counts.pairs();
+    let weights = block_weights(alloc, funcs, blocks, &counts)?;
+    let parts = parts(alloc, funcs, &program.refs, blocks, &counts, &weights)?;
+    let plan = func_place::place(alloc, funcs, blocks, &parts, &counts)?;
+    let start = program::new_start(alloc, &program)?;
+    let cold = cold_starts(alloc, funcs, blocks, &parts)?;
+    check_sizes(alloc, &program.elf, funcs, &cold)?;
+    let (map, emitted) = moved_code(alloc, funcs, &program.refs, blocks, &plan, start)?;
+    let written = elf_write::write(alloc, &program.elf, funcs, &cold, &emitted, &map, &[])?;
+    let instructions = count_insts(funcs)?;
+    let bytes = emitted.code.len() as u64;
+    let hot = count_hot(&weights);
+    let ignored = counts.ignored();
     Ok(Rewritten {
-        file,
+        file: written,
         map,
-        functions: program.funcs.len() as u64,
+        functions: funcs.len() as u64,
         instructions,
         bytes,
-        hot: layout.hot,
-        ignored: layout.ignored,
+        hot,
+        ignored,
     })
+}
+
+// The hot and the cold part of each function: chains of blocks between which control often went along an edge, also along
+// those of jumps through tables. `weights` are those that the counts give to blocks.
+fn parts(
+    alloc: Global,
+    funcs: &[Func],
+    refs: &Refs,
+    blocks: &[Block],
+    counts: &Profile,
+    weights: &[u128],
+) -> Result<Chains, NoMemory>
+    requires blocks { AreBlocksOf funcs.now blocks.now }
+    requires laid { AreLaidOut funcs.now }
+    requires pairs { ArePairs (profile_counts counts.now) (pairs_of counts.now) }
+    requires weights { weights.now ≡ map (block_weight (pairs_of counts.now) funcs.now) blocks.now }
+    ensures parts { IfOk result
+        (ArePartsOf (profile_counts counts.now) (pairs_of counts.now) funcs.now refs.now.cells.items blocks.now) }
+    ensures all { IfOk result (HaveAllBlocks funcs.now blocks.now) }
+{
+    let targets = jump_tables::tables(alloc, funcs, &refs.cells)?;
+    let edges = cfg_build::edges(alloc, funcs, blocks, &targets)?;
+    let parts = block_layout::chains_by(alloc, funcs, blocks, &edges, counts, weights)?;
+    Ok(parts)
+}
+
+// The new code of blocks in the order of a plan, from an address on, with the map to it: forms that reach, the map that they
+// give, and the bytes and code cells by that map.
+fn moved_code(
+    alloc: Global,
+    funcs: &[Func],
+    refs: &Refs,
+    blocks: &[Block],
+    plan: &Plan,
+    start: u64,
+) -> Result<(AddrMap, Emitted), NoMemory>
+    requires laid { AreLaidOut funcs.now }
+    requires direct { AreDirect funcs.now }
+    requires insts { All CanMove (insts_of funcs.now) }
+    requires cells { All IsLowCell refs.now.cells.items }
+    requires blocks { AreBlocksOf funcs.now blocks.now }
+    requires order { HasAllBlocks blocks.now plan.now.order.items }
+    requires near { AreNear funcs.now blocks.now plan.now.order.items }
+    requires even { start % 2 ≡ 0 }
+    requires some { 0 < start }
+    requires room { start + sum_by (worst_size_of_block funcs.now) blocks.now ≤ address_end }
+    ensures { IfOk result
+        (λ r. IsMovedCode funcs.now refs.now.cells.items blocks.now plan.now.order.items start r.0 r.1) }
+{
+    let (forms, spans) = branch_fixup::forms(alloc, funcs, blocks, plan, start)?;
+    let map = AddrMap::new(alloc, spans)?;
+    let emitted = code_emit::emit(alloc, funcs, blocks, plan, &forms, &map, &refs.cells)?;
+    Ok((map, emitted))
 }

@@ -11,7 +11,7 @@ use Rattle.rb_bytes.specs.declared.fault.FaultKind.TheVariants.{TooLarge}
 use Rattle.rb_bytes.specs.declared.fault.Refusal.{Refusal}
 use Rattle.rb_bytes.specs.declared.fault.Refusal.TheVariants as refusal
 use Rattle.addr_map.specs.MapText.{map_text}
-use Rattle.bolt_core.specs.Program.{file_limit}
+use Rattle.program.specs.Limits.{file_limit}
 use Rattle.bolt_core.specs.Refusals.{IsRefusal, IsRefused, long_file, long_profile}
 use Rattle.bolt_tool.specs.declared.rewrite.Texts.{Texts}
 use Rattle.cli_base.specs.declared.status.Status.{Status}
@@ -51,7 +51,7 @@ refuses answer fault names old new (prefix_printed is rose taken) same present =
 refuses answer fault names old new (none_printed is kept) same present =
     no_memory is (record { unprinted = kept; unwritten = same })
 
--- The same of a refusal, or for want of memory; the files are passed on as these slices.
+-- How a refusal ends, or want of memory; the files are passed on as these slices.
 pub is_stopped : (answer : Status) (r : Refusal) (names : InputNames) (old new : World) (file profile : List ℕ)
     → Refuses r answer old.output new.output → Unchanged old.files.content new.files.content
     → (IsTrue old.files.told → AreRead old.files.content names file profile) → IsRefusal file profile r

@@ -119,7 +119,7 @@ is_run_token (Named name (Some value)) = bytes_eq name steps_name
 abbrev pub holds_zero : List ℕ → Bool
 holds_zero arg = list_any (λ character. character == 0) arg
 
--- as many arguments and bytes as a program may be given, and no byte of them zero
+-- a program may be given so many arguments and bytes, and no byte of them is zero
 abbrev pub are_program_args : List (List ℕ) → Bool
 are_program_args args =
     nat_le (length args) most_args && nat_le (sum_by (λ arg. length arg) args) most_arg_bytes
@@ -144,7 +144,7 @@ record_args_of (file ∷ out ∷ args) limit =
     else option_map (λ run. record { run = run; out = out }) (run_args_of (file ∷ args) limit)
 record_args_of _ limit = None
 
--- the same, and `--steps` anywhere among them
+-- the arguments of a command, with `--steps` anywhere among them
 abbrev pub record_of : List Token → Option RecordArgs
 record_of tokens =
     if list_all is_record_token tokens

@@ -3,16 +3,16 @@ ghost use Rattle.std.specs.Prelude.{◌≡◌, ◌⊎◌, ◌<◌, ◌≤◌, le
 ghost use Rattle.rb_io.specs.FaultCounts.{Rose};
 ghost use Rattle.rb_io.specs.Names.{Unchanged};
 ghost use Rattle.rb_io.specs.Views.{FilesGoOn, SourceSeen};
-ghost use Rattle.bolt_core.specs.Program.{file_limit};
+ghost use Rattle.program.specs.Limits.{file_limit};
 ghost use Rattle.bolt_tool.specs.CommandLineViews.{inputs_read};
 ghost use Rattle.cli_base.specs.World.{world};
 ghost use Rattle.bolt_tool.specs.rewrite.InputAnswers.{IsMadeOf, IsStopped};
 ghost use Rattle.bolt_tool.specs.rewrite.Inputs.{InputsRead, made_by};
 
 use crate::command_line::InputArgs;
-use bolt_core::limits::FILE_LIMIT;
 use bolt_core::{Rewritten, rewrite};
 use cli_base::{Status, refuse};
+use program::FILE_LIMIT;
 use rb_bytes::fault::{Fault, FaultKind, Refusal};
 use rb_io::{Files, ReadAll, Sink};
 use std::alloc::Global;

@@ -3,15 +3,15 @@ use Rattle.std.proofs.Common.{◌≡◌, ◌∙◌, ◌≤◌, refl, subst, sym,
 use Rattle.rb_io.specs.Names.{Unchanged}
 use Rattle.rb_io.specs.Views.{FilesGoOn, FilesSeen, SinkSeen}
 use Rattle.rb_bytes.specs.declared.fault.Fault.{Fault}
-use Rattle.bolt_core.specs.Program.{Program}
+use Rattle.program.specs.Program.{Program}
 use Rattle.cli_base.specs.Served.{IsInputKept}
 use Rattle.cli_run.specs.recording.RecordAnswers.{HoldsProfile, IsRecording, RecordAnswers, RecordServes, RecordsRun}
 use Rattle.cli_run.specs.recording.RecordAnswers.{NoneRoseRecording}
 use Rattle.cli_run.specs.recording.RecordAnswers.{recorded, at_profile, at_closing, stopped}
-use Rattle.cli_run.specs.recording.RecordRuns.{IsRecordProgram, record_machine, record_mode}
+use Rattle.cli_run.specs.recording.RecordRuns.{record_machine, record_mode}
 use Rattle.cli_run.specs.run.RunOutcomes.{Ends, HaltsAt, RunsOn}
 use Rattle.cli_run.specs.run.RunAnswers.{at_input, at_output, out_of_memory, under_way, IsRunAnswer, IsExact}
-use Rattle.cli_run.specs.run.SymbolRuns.{too_long}
+use Rattle.cli_run.specs.run.SymbolRuns.{IsRunnableProgram, too_long}
 use Rattle.cli_run.specs.RunArgs.{RecordArgs}
 use Rattle.cli_base.specs.World.{World}
 use Rattle.cli_base.specs.declared.status.Status.{Status}
@@ -58,7 +58,7 @@ lawful = record {
 module _ (args : RecordArgs) (old new : World) where
   -- a run that got under way
   goes_under_way : (answer : Status) (file : List ℕ) (program : Program)
-      → (IsTrue old.files.told → old.files.content args.run.file ≡ Some file) → IsRecordProgram file program
+      → (IsTrue old.files.told → old.files.content args.run.file ≡ Some file) → IsRunnableProgram file program
       → RecordsRun program args old new answer → RecordAnswers args old new answer
   goes_under_way answer file program is program_is run =
       under_way (record { file = file; file_is = is; program = program; program_is = program_is; run = run })
@@ -122,7 +122,7 @@ module _ (args : RecordArgs) (old new : World) where
       IsFileServed record_mode args.run (IsRecording args old new answer) (NoneRoseRecording args old new) old new answer
 
   pub run_recorded : (answer : Status) (file : List ℕ) (program : Program)
-      → (IsTrue old.files.told → old.files.content args.run.file ≡ Some file) → IsRecordProgram file program
+      → (IsTrue old.files.told → old.files.content args.run.file ≡ Some file) → IsRunnableProgram file program
       → RecordsRun program args old new answer
       → IsExact (record_machine program args.run.args) args.run.limit old.input.left answer → IsRecordServed answer
   run_recorded answer file program is program_is run exact =
@@ -146,8 +146,3 @@ module _ (args : RecordArgs) (old new : World) where
     input_faults = input;
     output_faults = output;
   }
-
--- what is read of a file keeps the file
-pub own_file : (file : List ℕ) (program : Program) → IsRecordProgram file program →
-    IsRecordProgram program.elf.file.now program
-own_file file program is = subst (λ f. IsRecordProgram f program) (sym is.faultless.read.file_is) is

@@ -17,10 +17,10 @@ use Rattle.edge_record.specs.EdgeText.{IsEdgeText}
 use Rattle.edge_record.specs.Moves.{Move}
 use Rattle.edge_record.specs.RecordedRuns.{ByteMoves, Records, RunsFromStart}
 use Rattle.edge_record.specs.MoveCounts.{taken}
-use Rattle.bolt_core.specs.Program.{Program}
+use Rattle.program.specs.Program.{Program}
 use Rattle.cli_run.specs.recording.Phases.{ProfileWritten, Finished, written, at_line, unwritten}
 use Rattle.cli_run.specs.recording.Phases as phase
-use Rattle.cli_run.specs.recording.RecordAnswers.{RecordsRun, TakesNone, recorded, at_profile, at_closing, stopped}
+use Rattle.cli_run.specs.recording.RecordAnswers.{IsAnsweredRecording, RecordsRun, TakesNone, recorded, at_profile, at_closing, stopped}
 use Rattle.cli_run.specs.recording.RecordRuns.{record_machine, moving_steps}
 use Rattle.cli_run.specs.run.RunOutcomes.{Ending, Ends, HaltsAt, RunsOn, Loaded, answer_of, closing_line}
 use Rattle.cli_run.specs.run.RunAnswers.{Taking, ComesOut, out_of_memory, IsCutShort, IsExact, read_fault, write_fault}
@@ -104,7 +104,7 @@ module _ (program : Program) (args : RecordArgs) (steps : ℕ) (text : List ℕ)
       r.starts (λ input. refl)
       (λ pc cause result steps b c printed. printed) refl refl writes_rise writes_last kept ending came)) same
 
-  pub answers : (a : Answer Cause) (result : Status) → Recorded a → FinishedSo result a → RecordsRun program args old new result
+  answers : (a : Answer Cause) (result : Status) → Recorded a → FinishedSo result a → RecordsRun program args old new result
   answers end.Going result r finished =
       came_out end.Going r.run RunsOn
       (came_on state_of machine args.run.limit r.run.machine r.run.ends_as steps (outside old) (outside between) (outside new)
@@ -169,7 +169,7 @@ module _ (program : Program) (args : RecordArgs) (steps : ℕ) (text : List ℕ)
       a result r.runs (λ fault. absurd (came fault))
       (λ ending same. finished_says result ending (subst (λ b. FinishedSo result b) same finished))
 
-  pub exact : (a : Answer Cause) (result : Status) → Recorded a → FinishedSo result a →
+  exact : (a : Answer Cause) (result : Status) → Recorded a → FinishedSo result a →
       IsExact machine args.run.limit old.input.left result
   exact end.Going result r finished = only_so end.Going r.run result (λ fault. fault) finished
   exact (end.Ended value) result r finished = only_so (end.Ended value) r.run result (λ fault. fault) finished
@@ -177,3 +177,7 @@ module _ (program : Program) (args : RecordArgs) (steps : ℕ) (text : List ℕ)
   exact end.ReadFault result r finished = λ input is ending n trace rest run. inr (read_fault finished.result_is)
   exact end.WriteFault result r finished = λ input is ending n trace rest run. inr (write_fault finished.result_is)
   exact end.Memory result r finished = λ input is ending n trace rest run. inr (no_memory finished.result_is)
+
+  pub answered : (a : Answer Cause) (result : Status) → Recorded a → FinishedSo result a →
+      IsAnsweredRecording program args old new result
+  answered a result r finished = record { records = answers a result r finished; exact = exact a result r finished }

@@ -11,11 +11,11 @@ use Rattle.rb_bytes.specs.declared.fault.FaultKind.TheVariants.{TooLarge}
 use Rattle.rb_bytes.specs.declared.fault.Refusal.{Refusal}
 use Rattle.rb_bytes.specs.declared.fault.Refusal.TheVariants as refusal
 use Rattle.cli_base.specs.Lines.{refused_line}
-use Rattle.bolt_core.specs.Program.{file_limit}
+use Rattle.program.specs.Limits.{file_limit}
 use Rattle.cli_base.specs.Printing.{LinePrinted, all_printed, prefix_printed, none_printed, Refuses}
 use Rattle.cli_run.specs.run.RunOutcomes.{Ending, Ends, HaltsAt, RunsOn, answer_of}
 use Rattle.cli_run.specs.run.Modes.{Mode}
-use Rattle.cli_run.specs.run.Phases.{IsRefusalFor}
+use Rattle.program.specs.Refusals.{IsRefusalFor}
 use Rattle.cli_base.specs.Reading.{IsUnread}
 use Rattle.cli_base.specs.Reading as reading
 use Rattle.cli_run.specs.run.RunAnswers.{AnswersRun, StopsRun, came_out, at_input, at_output, at_closing, out_of_memory, stopped}

@@ -1,5 +1,5 @@
 -- From what a machine's run and the closing line come to, to the answers of a run.
-use Rattle.std.proofs.Common.{◌≡◌, ◌∙◌, sym, ap, subst, ℕ, ◌≤◌, ◌⊎◌, inl, inr, ⊎_elim, List, [], Some, arith}
+use Rattle.std.proofs.Common.{◌≡◌, ◌∙◌, refl, sym, ap, subst, ℕ, ◌≤◌, ◌⊎◌, inl, inr, ⊎_elim, List, [], Some, arith}
 use Rattle.std.specs.Prelude.{unwrap_or}
 use Rattle.std.specs.Io.KnownBytes.{append_known}
 use Rattle.rb_io.specs.FaultCounts.{Rose}
@@ -16,14 +16,15 @@ use Rattle.run_core.proofs.Told.{told, told_is, none_told, append_known-nil}
 use Rattle.cli_base.specs.Printing.{all_printed, prefix_printed, none_printed}
 use Rattle.cli_run.specs.run.RunAnswers.{Taking, ComesOut, StopsAnywhere, AnswersRun, StopsRun, came_out, at_input, at_output}
 use Rattle.cli_run.specs.run.RunAnswers.{at_closing, out_of_memory, stopped, IsCutShort, read_fault, write_fault, no_memory}
-use Rattle.cli_run.specs.run.RunAnswers.{IsExact}
+use Rattle.cli_run.specs.run.RunAnswers.{IsAnsweredRun, IsExact}
 use Rattle.cli_run.specs.run.Phases.{SaysEnding, Closed, status_of}
 use Rattle.cli_run.specs.run.RunOutcomes.{Ending, Ends, HaltsAt, RunsOn, Loaded, answer_of, closing_line, RunsTo}
 use Rattle.cli_base.specs.declared.status.Status.{Status}
+use Rattle.cli_base.specs.declared.status.Status.TheVariants as status
 use Rattle.cli_base.proofs.FaultCounts.{rose_after, rose_before}
 
 -- nothing was done
-pub no_step : {V X C : Type 0} (machine : Loaded V X C) (limit : ℕ) (now : Outside) →
+no_step : {V X C : Type 0} (machine : Loaded V X C) (limit : ℕ) (now : Outside) →
     ((input : List ℕ) → (machine.start input).input ≡ input) → StopsAnywhere machine limit now now
 unfolding output
 no_step machine limit now keeps =
@@ -42,6 +43,14 @@ no_step machine limit now keeps =
         told_is now.input.left ∙ ap (as_told now.input.left) (sym (keeps input)),
       );
     }
+
+-- a run that didn't start, for want of memory
+pub unstarted : {V X C : Type 0} (machine : Loaded V X C) (limit : ℕ) (now : Outside) →
+    ((input : List ℕ) → (machine.start input).input ≡ input) → IsAnsweredRun machine limit now now status.NoMemory
+unstarted machine limit now keeps = record {
+  answers = stopped (out_of_memory refl (no_step machine limit now keeps));
+  exact = λ input is ending n trace rest run. inr (no_memory refl);
+}
 
 -- The machine says that it halts by an answer that has a line.
 abbrev pub SaysHalts : {C : Type 0} → (ℕ → C → Status) → Type 0
@@ -247,7 +256,7 @@ module _ {M V X C : Type 0} (state_of : M → List ℕ → State V X) (machine :
       })
   stops _ answer fault ran is same = absurd fault
 
-  pub answers : (a : Answer C) (answer : Status) → RunsSomeInput state_of machine.step a limit steps old new before mid →
+  answers : (a : Answer C) (answer : Status) → RunsSomeInput state_of machine.step a limit steps old new before mid →
       Closed answer steps mid.output after.output (status_of machine.halted a) → AnswersRun machine limit before after answer
   answers end.Going answer ran printed = closed answer RunsOn (came_on ran) printed
   answers (end.Ended value) answer ran printed = closed answer (Ends value) (came_ended value ran) printed
@@ -310,9 +319,13 @@ module _ {M V X C : Type 0} (state_of : M → List ℕ → State V X) (machine :
       (only_answer state_of machine.step old new ran.input limit steps before mid a ran.answers ran.determined
       (step_answer ending) n trace steps_to)
 
-  pub exact : (a : Answer C) (answer : Status) → RunsSomeInput state_of machine.step a limit steps old new before mid →
+  exact : (a : Answer C) (answer : Status) → RunsSomeInput state_of machine.step a limit steps old new before mid →
       Closed answer steps mid.output after.output (status_of machine.halted a) → IsExact machine limit before.input.left answer
   exact a answer ran printed =
       only a answer ran (λ fault. cut_short a answer fault printed)
       (λ ending same. closed_says answer ending
       (subst (λ e. Closed answer steps mid.output after.output (status_of machine.halted e)) same printed))
+
+  pub answered : (a : Answer C) (answer : Status) → RunsSomeInput state_of machine.step a limit steps old new before mid →
+      Closed answer steps mid.output after.output (status_of machine.halted a) → IsAnsweredRun machine limit before after answer
+  answered a answer ran printed = record { answers = answers a answer ran printed; exact = exact a answer ran printed }

@@ -3,7 +3,7 @@ use Rattle.std.proofs.Common.{◌≡◌, ◌≤◌, refl, subst, sym, arith}
 use Rattle.rb_io.specs.Names.{Unchanged}
 use Rattle.rb_io.specs.Views.{FilesGoOn, SourceSeen}
 use Rattle.rb_bytes.specs.declared.fault.Fault.{Fault}
-use Rattle.bolt_core.specs.Program.{file_limit}
+use Rattle.program.specs.Limits.{file_limit}
 use Rattle.cli_base.specs.Reading.{IsUnread, no_memory}
 use Rattle.cli_base.specs.Served.{IsInputKept}
 use Rattle.cli_base.specs.World.{World}

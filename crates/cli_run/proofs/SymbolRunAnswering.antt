@@ -1,27 +1,37 @@
 -- The symbol machine as a mode of `run`.
 use Rattle.std.proofs.Common.{◌≡◌, refl, subst, sym, ℕ, List, length, arith}
 use Rattle.rb_bytes.specs.declared.fault.Fault.{Fault}
-use Rattle.sym_machine.specs.SymStart.{SymProgram}
+use Rattle.rv_code.specs.declared.placed.Func.{Func}
 use Rattle.elf_readings.proofs.Readings.{reading_law}
-use Rattle.bolt_core.specs.Program.{tabled}
-use Rattle.cli_run.specs.run.SymbolRuns.{symbol_mode, IsSymbolProgram, CanRunSymbols, CannotRunSymbols, too_long, unsound}
-use Rattle.cli_run.specs.run.SymbolRuns.{not_built, bad_code, much_code, many_functions}
+use Rattle.program.specs.Limits.{IsCodeTooLarge, many_functions, much_code}
+use Rattle.program.specs.Program.{Program, tabled}
+use Rattle.program.specs.Refusals.{IsUnreadable, bad_code, not_built, unsound}
+use Rattle.program.specs.declared.unbuilt.Unbuilt.TheVariants.{Frames}
+use Rattle.cli_run.specs.run.SymbolRuns.{symbol_mode, IsRunnableProgram, CanRunSymbols, CannotRunSymbols, large_code, too_long}
+use Rattle.cli_run.specs.run.SymbolRuns.{unreadable}
 use Rattle.cli_run.proofs.RunAnswering.{IsLawful}
+
+-- as many functions pass the same limits
+by_count : (file : List ℕ) (funcs funcs' : List Func) → length funcs ≡ length funcs' → (place : ℕ) →
+    IsCodeTooLarge file funcs place → IsCodeTooLarge file funcs' place
+by_count file funcs funcs' same place (much_code e much) = much_code e much
+by_count file funcs funcs' same place (many_functions e many) = many_functions e (omega (arith, same, many))
+
+readable : (file : List ℕ) (fault : Fault) → IsUnreadable Frames file fault → CanRunSymbols file → ⊥
+readable file fault (unsound present) can = can.faultless.plain.sound fault.kind fault.place present.present
+readable file fault (not_built sound frames e) can = can.faultless.plain.no_tables frames
+readable file fault (bad_code plain elf is has) can =
+    let one = reading_law file elf can.elf is can.faultless.read tabled in
+    one.0.free.1 can.faultless.no_fault fault.kind fault.place has.present
 
 -- a file that can't be run isn't one that can
 pub not_both : (file : List ℕ) (fault : Fault) → CannotRunSymbols file fault → CanRunSymbols file → ⊥
 not_both file fault (too_long long e) can = let fits = can.faultless.plain.fits in absurd (omega arith)
-not_both file fault (unsound fits present) can = can.faultless.plain.sound fault.kind fault.place present.present
-not_both file fault (not_built fits sound frames e) can = can.faultless.plain.frameless frames
-not_both file fault (bad_code plain elf is has) can =
-    let one = reading_law file elf can.elf is can.faultless.read tabled in
-    one.0.free.1 can.faultless.code_sound fault.kind fault.place has.present
-not_both file fault (much_code plain elf is free much e) can = can.faultless.code_fits much
-not_both file fault (many_functions plain elf is free fits funcs are many e) can =
-    let one = reading_law file elf can.elf is can.faultless.read tabled in
-    let same : length funcs ≡ length can.funcs = one.1.function_count funcs can.funcs are can.faultless.funcs_are in
-    let few = can.faultless.few in
-    absurd (omega arith)
+not_both file fault (unreadable fits is) can = readable file fault is can
+not_both file fault (large_code elf faultless funcs are limit) can =
+    let one = reading_law file elf can.elf faultless.read can.faultless.read tabled in
+    can.within limit.place
+    (by_count file funcs can.funcs (one.1.function_count funcs can.funcs are can.funcs_are) limit.place limit.first.present)
 
 pub lawful : IsLawful symbol_mode
 lawful = record {
@@ -31,6 +41,6 @@ lawful = record {
 }
 
 -- what is read of a file keeps the file
-pub own_file : (file : List ℕ) (program : SymProgram) → IsSymbolProgram file program →
-    IsSymbolProgram program.elf.file.now program
-own_file file program is = subst (λ f. IsSymbolProgram f program) (sym is.faultless.read.file_is) is
+pub own_file : (file : List ℕ) (program : Program) → IsRunnableProgram file program →
+    IsRunnableProgram program.elf.file.now program
+own_file file program is = subst (λ f. IsRunnableProgram f program) (sym is.program.faultless.read.file_is) is

@@ -1,4 +1,3 @@
 pub mod Phases
 pub mod RecordAnswers
 pub mod RecordRuns
-pub mod RecordedCode

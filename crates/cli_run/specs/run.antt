@@ -1,7 +1,6 @@
 pub mod ByteRuns
 pub mod RunOutcomes
 pub mod Modes
-pub mod ParsedCode
 pub mod Phases
 pub mod RunAnswers
 pub mod Serving

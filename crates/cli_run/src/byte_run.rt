@@ -3,18 +3,18 @@ ghost use Rattle.std.specs.Prelude.{◌≤◌, length, IfErr, IfOk, OnOk};
 ghost use Rattle.elf_image.specs.faults.FileFaults.{IsSound};
 ghost use Rattle.elf_image.specs.file.ParsedFile.{IsElfOf};
 ghost use Rattle.rv_memory.specs.Limits.{IsWithinLimits};
-ghost use Rattle.bolt_core.specs.Program.{file_limit};
+ghost use Rattle.program.specs.Limits.{file_limit};
+ghost use Rattle.program.specs.Refusals.{IsRefusalFor};
 ghost use Rattle.cli_run.specs.RunArgs.{run_given};
 ghost use Rattle.cli_run.specs.run.ByteRuns.{byte_machine, CannotRun, IsRunnable};
-ghost use Rattle.cli_run.specs.run.Phases.{IsRefusalFor};
-ghost use Rattle.cli_run.specs.run.RunAnswers.{AnswersRun, IsExact};
+ghost use Rattle.cli_run.specs.run.RunAnswers.{IsAnsweredRun};
 ghost use Rattle.run_core.specs.Inputs.{outside_of};
 
 use crate::closing::{close, status_of};
 use crate::run_args::RunArgs;
-use bolt_core::code_limit::has_too_much_code;
 use cli_base::Status;
 use elf_image::{Elf, read};
+use program::has_too_much_code;
 use rb_bytes::fault::{Fault, FaultKind, Refusal};
 use rb_io::{Sink, Source};
 use rv_machine::Machine;
@@ -45,11 +45,9 @@ pub fn run_elf<I: Source, O: Sink>(
     requires limits { IsWithinLimits (run_given args.now).args }
     requires fields { IsElfOf elf.now.file.now elf.now }
     requires sound { IsSound elf.now.file.now }
-    ensures answer { AnswersRun (byte_machine elf.now.file.now (run_given args.now).args) args.now.limit
+    ensures ran { IsAnsweredRun (byte_machine elf.now.file.now (run_given args.now).args) args.now.limit
         (outside_of (I.seen input.old) (O.seen out.old))
         (outside_of (I.seen input.new) (O.seen out.new)) result }
-    ensures exact { IsExact (byte_machine elf.now.file.now (run_given args.now).args) args.now.limit
-        (I.seen input.old).left result }
     ensures reads { (I.seen input.old).faults ≤ (I.seen input.new).faults }
     ensures writes { (O.seen out.old).faults ≤ (O.seen out.new).faults }
 {

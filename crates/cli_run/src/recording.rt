@@ -4,23 +4,21 @@ ghost use Rattle.std.specs.Prelude.{◌≤◌};
 ghost use Rattle.rb_io.specs.Views.{FilesGoOn, SourceSeen};
 ghost use Rattle.rv_memory.specs.Limits.{IsWithinLimits};
 ghost use Rattle.rv_machine.specs.StepResults.{answered};
+ghost use Rattle.program.specs.Program.{program_seen};
 ghost use Rattle.cli_base.specs.Served.{IsInputKept};
 ghost use Rattle.cli_run.specs.RunArgs.{record_given, run_given};
 ghost use Rattle.cli_run.specs.recording.Phases.{Finished, ProfileWritten};
-ghost use Rattle.cli_run.specs.recording.RecordAnswers.{RecordServes, RecordsRun};
-ghost use Rattle.cli_run.specs.recording.RecordRuns.{IsRecordProgram};
-ghost use Rattle.cli_run.specs.recording.RecordedCode.{recorded_program};
-ghost use Rattle.cli_run.specs.run.ByteRuns.{byte_machine};
+ghost use Rattle.cli_run.specs.recording.RecordAnswers.{IsAnsweredRecording, RecordServes};
 ghost use Rattle.cli_run.specs.run.RunOutcomes.{closing_line};
-ghost use Rattle.cli_run.specs.run.RunAnswers.{IsExact};
+ghost use Rattle.cli_run.specs.run.SymbolRuns.{IsRunnableProgram};
 ghost use Rattle.cli_base.specs.World.{world};
 
 use crate::closing::{closing_line, status_of};
-use crate::record_code::{RecordProgram, record_program};
+use crate::programs::runnable_program;
 use crate::run_args::RecordArgs;
-use bolt_core::limits::FILE_LIMIT;
 use cli_base::{Status, read_file, refuse};
 use edge_record::{Recorded, trace_edges};
+use program::{FILE_LIMIT, Program};
 use rb_io::{Files, Put, Sink, Source, Wrote, print_all};
 use std::alloc::Global;
 
@@ -77,23 +75,21 @@ fn finish<F: Files, O: Sink>(
 fn record_elf<F: Files, I: Source, O: Sink>(
     alloc: Global,
     args: &RecordArgs<'_>,
-    program: &RecordProgram<'_>,
+    program: &Program<'_>,
     files: &mut F,
     input: &mut I,
     out: &mut O,
 ) -> Status
     requires limits { IsWithinLimits (run_given args.now.run).args }
-    requires program { IsRecordProgram program.now.elf.file.now (recorded_program program.now) }
-    ensures answer { RecordsRun (recorded_program program.now) (record_given args.now)
+    requires program { IsRunnableProgram program.now.elf.file.now (program_seen program.now) }
+    ensures recorded { IsAnsweredRecording (program_seen program.now) (record_given args.now)
         (world (F.seen files.old) (I.seen input.old) (O.seen out.old))
         (world (F.seen files.new) (I.seen input.new) (O.seen out.new)) result }
-    ensures exact { IsExact (byte_machine program.now.elf.file.now (run_given args.now.run).args) args.now.run.limit
-        (I.seen input.old).left result }
     ensures files_go_on { FilesGoOn (F.seen files.old) (F.seen files.new) }
     ensures reads { (I.seen input.old).faults ≤ (I.seen input.new).faults }
     ensures writes { (O.seen out.old).faults ≤ (O.seen out.new).faults }
 {
-    let funcs = program.code.funcs.as_slice();
+    let funcs = program.funcs.as_slice();
     let recorded = trace_edges(
         alloc,
         &program.elf,
@@ -126,7 +122,7 @@ pub fn record<F: Files, I: Source, O: Sink>(
         Ok(file) => file,
         Err(answer) => return answer,
     };
-    match record_program(alloc, &file) {
+    match runnable_program(alloc, &file) {
         Ok(program) => record_elf(alloc, args, &program, files, input, out),
         Err(refusal) => refuse(alloc, refusal, out),
     }

@@ -2,17 +2,17 @@
 ghost use Rattle.std.specs.Prelude.{◌≡◌, ◌≤◌};
 ghost use Rattle.rv_memory.specs.Limits.{IsWithinLimits};
 ghost use Rattle.sym_machine.specs.MachineState.{answered};
+ghost use Rattle.program.specs.Program.{program_seen};
 ghost use Rattle.cli_run.specs.RunArgs.{run_given};
-ghost use Rattle.cli_run.specs.run.ParsedCode.{program_of};
 ghost use Rattle.cli_run.specs.run.Phases.{status_of};
-ghost use Rattle.cli_run.specs.run.RunAnswers.{AnswersRun, IsExact};
-ghost use Rattle.cli_run.specs.run.SymbolRuns.{IsSymbolProgram, symbol_machine};
+ghost use Rattle.cli_run.specs.run.RunAnswers.{IsAnsweredRun};
+ghost use Rattle.cli_run.specs.run.SymbolRuns.{IsRunnableProgram, symbol_machine};
 ghost use Rattle.run_core.specs.Inputs.{outside_of};
 
 use crate::closing::close;
 use crate::run_args::RunArgs;
-use crate::symbol_code::SymbolProgram;
 use cli_base::Status;
+use program::{Program, is_tight};
 use rb_io::{Sink, Source};
 use std::alloc::Global;
 use sym_machine::{SymMachine, SymStepped};
@@ -34,31 +34,26 @@ fn status_of(end: SymStepped) -> Status
 /// Runs what was read of a file.
 pub fn run_program<I: Source, O: Sink>(
     alloc: Global,
-    program: &SymbolProgram<'_>,
+    program: &Program<'_>,
     args: &RunArgs<'_>,
     input: &mut I,
     out: &mut O,
 ) -> Status
-    requires program { IsSymbolProgram program.now.elf.file.now (program_of program.now) }
+    requires program { IsRunnableProgram program.now.elf.file.now (program_seen program.now) }
     requires limits { IsWithinLimits (run_given args.now).args }
-    ensures answer { AnswersRun (symbol_machine (program_of program.now) (run_given args.now).args) args.now.limit
+    ensures ran { IsAnsweredRun (symbol_machine (program_seen program.now) (run_given args.now).args) args.now.limit
         (outside_of (I.seen input.old) (O.seen out.old))
         (outside_of (I.seen input.new) (O.seen out.new)) result }
-    ensures exact { IsExact (symbol_machine (program_of program.now) (run_given args.now).args) args.now.limit
-        (I.seen input.old).left result }
     ensures reads { (I.seen input.old).faults ≤ (I.seen input.new).faults }
     ensures writes { (O.seen out.old).faults ≤ (O.seen out.new).faults }
 {
-    let funcs = program.code.funcs.as_slice();
-    let cells = program.code.refs.cells.as_slice();
-    let Ok(mut machine) = SymMachine::load(
-        alloc,
-        &program.elf,
-        funcs,
-        cells,
-        args.args,
-        program.tight,
-    ) else {
+    let funcs = program.funcs.as_slice();
+    let cells = program.refs.cells.as_slice();
+    let Ok(tight) = is_tight(alloc, program) else {
+        return Status::NoMemory;
+    };
+    let Ok(mut machine) = SymMachine::load(alloc, &program.elf, funcs, cells, args.args, tight)
+    else {
         return Status::NoMemory;
     };
     let ran = machine.run(args.limit, input, out);

@@ -8,7 +8,7 @@ use Rattle.elf_image.specs.file.ParsedFile.{IsElfOf}
 use Rattle.elf_image.specs.memory.CodeSegment.{executable_segment}
 use Rattle.addr_map.specs.Spans.{owner}
 use Rattle.elf_write.specs.FileParts.{IsMade}
-use Rattle.elf_write.specs.Room.{area_above, area_start}
+use Rattle.area_room.specs.Room.{area_above, area_start}
 use Rattle.elf_write.specs.Source.{Source, HasPlace}
 use Rattle.elf_write.specs.WrittenFile.{AreApart, CanHold, IsWritten}
 use Rattle.elf_write.proofs.ImageWritten.{image-is}

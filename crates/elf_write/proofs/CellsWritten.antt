@@ -23,7 +23,7 @@ use Rattle.elf_write.specs.Area.{moved_by, loads_end}
 use Rattle.elf_write.specs.CellNumbers.{IsCellNumber}
 use Rattle.elf_write.specs.FileLayout.{is_kept_table}
 use Rattle.elf_write.specs.FileParts.{IsMade}
-use Rattle.elf_write.specs.Room.{greatest_align}
+use Rattle.area_room.specs.Room.{greatest_align}
 use Rattle.elf_write.specs.Source.{Source}
 use Rattle.elf_write.specs.WrittenFile.{CanHold, AreApart}
 use Rattle.elf_write.proofs.CellPatches.{moved-more}

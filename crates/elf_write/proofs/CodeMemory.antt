@@ -10,7 +10,7 @@ use Rattle.elf_image.specs.file.Header.{header_size}
 use Rattle.elf_image.specs.memory.CodeSegment.{executable_segment, executable_end}
 use Rattle.elf_image.specs.memory.Image.{is_load, end_of}
 use Rattle.elf_write.specs.Area.{table_end}
-use Rattle.elf_write.specs.Room.{area_limit, area_start, code_end, room}
+use Rattle.area_room.specs.Room.{area_limit, area_start, code_end, room}
 use Rattle.elf_write.specs.Source.{Source, HasPlace, source_area}
 use Rattle.elf_write.proofs.FreeRange.{limit-below}
 use Rattle.elf_write.proofs.SameBreak.{rounded_up-above}

@@ -12,7 +12,7 @@ use Rattle.elf_image.proofs.LoadLemmas.{loads-parts, loads-from_parts}
 use Rattle.elf_image.proofs.ReadLists.{length-segments_of, get_or-segments}
 use Rattle.elf_write.specs.RangesWithNew.{Loads, ShareNone}
 use Rattle.elf_write.specs.NewSegments.{IsFreeRange}
-use Rattle.elf_write.specs.Room.{pages_from, limit_above}
+use Rattle.area_room.specs.Room.{pages_from, limit_above}
 
 -- the least of numbers is at or below where it begins, and below more numbers no higher
 pub fold-min-le : (xs : List ℕ) (a : ℕ) → fold min a xs ≤ a

@@ -27,7 +27,7 @@ use Rattle.elf_write.specs.CellNumbers.{IsCellNumber}
 use Rattle.elf_write.specs.FileLayout.{is_kept_table, table_of}
 use Rattle.elf_write.specs.FrontBytes.{IsLeft, KeepsFront, front_end, written_ranges}
 use Rattle.elf_write.specs.FileParts.{IsMade, header_numbers, number}
-use Rattle.elf_write.specs.Room.{greatest_align}
+use Rattle.area_room.specs.Room.{greatest_align}
 use Rattle.elf_write.specs.Source.{Source}
 use Rattle.elf_write.specs.WrittenFile.{CanHold}
 use Rattle.elf_write.proofs.CellPatches.{moved-less, moved-more}

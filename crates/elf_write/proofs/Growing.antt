@@ -12,10 +12,11 @@ use Rattle.elf_image.specs.memory.CodeSegment.{executable_segment}
 use Rattle.elf_image.specs.memory.Image.{end_of}
 use Rattle.elf_write.specs.declared.area.Area.{Area}
 use Rattle.elf_write.specs.declared.layout.Layout.{Layout}
-use Rattle.elf_write.specs.Area.{code_segment, no_segment, segment_address, area_start_of, table_end}
+use Rattle.elf_write.specs.Area.{code_segment, no_segment, segment_address, table_end}
+use Rattle.area_room.specs.Room.{area_start_of}
 use Rattle.elf_write.specs.FileParts.{IsLaidOut}
 use Rattle.elf_write.specs.NewSegments.{CanGrow, CanGrowAt}
-use Rattle.elf_write.specs.Room.{code_end, new_segment_start}
+use Rattle.area_room.specs.Room.{code_end, new_segment_start}
 use Rattle.elf_write.proofs.CodeMemory.{table_end-above}
 use Rattle.elf_write.proofs.SameBreak.{rounded_up-above}
 use Rattle.elf_write.proofs.SoundFiles.{code-at, code-whole}

@@ -32,7 +32,7 @@ use Rattle.elf_write.specs.CellNumbers.{IsCellNumber}
 use Rattle.elf_write.specs.FileLayout.{is_kept_table}
 use Rattle.elf_write.specs.FileParts.{IsMade, number, header_numbers}
 use Rattle.elf_write.specs.NewSegments.{IsNewLoad, AreRenewed, grows_at}
-use Rattle.elf_write.specs.Room.{greatest_align}
+use Rattle.area_room.specs.Room.{greatest_align}
 use Rattle.elf_write.specs.Source.{Source, is_changed}
 use Rattle.elf_write.proofs.CellPatches.{cell-leaves}
 use Rattle.elf_write.proofs.CellPlaces.{CellPlace, cell-place}

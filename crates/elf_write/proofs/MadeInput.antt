@@ -15,7 +15,7 @@ use Rattle.elf_write.specs.declared.area.Area.{Area}
 use Rattle.elf_write.specs.Area.{code_segment, loads_end, no_segment, moved_by, step_of}
 use Rattle.elf_write.specs.FileParts.{IsMade}
 use Rattle.elf_write.specs.NewSegments.{CrossesNot}
-use Rattle.elf_write.specs.Room.{greatest_align, new_segment_start}
+use Rattle.area_room.specs.Room.{greatest_align, new_segment_start}
 use Rattle.elf_write.specs.Source.{Source, source_area}
 use Rattle.elf_write.proofs.CellPlaces.{FileOnce}
 use Rattle.elf_write.proofs.LaidOut.{fit-behind}

@@ -14,7 +14,7 @@ use Rattle.elf_write.specs.declared.area.Area.{Area}
 use Rattle.elf_write.specs.Area.{table_end}
 use Rattle.elf_write.specs.FileParts.{IsMade}
 use Rattle.elf_write.specs.NewSegments.{IsNewLoad, IsRenewed, area_segment, grows_at}
-use Rattle.elf_write.specs.Room.{area_align, area_above, area_start, code_end, greatest_align, new_segment_start}
+use Rattle.area_room.specs.Room.{area_align, area_above, area_start, code_end, greatest_align, new_segment_start}
 use Rattle.elf_write.specs.Source.{Source, source_area}
 use Rattle.elf_write.proofs.CodeMemory.{table_end-above, code_end-is}
 use Rattle.elf_write.proofs.MadeInput.{found-file, code-is, code-inside, code_segment-is, address-tight}

@@ -23,7 +23,7 @@ use Rattle.elf_write.specs.FileLayout.{is_kept_table, table_of}
 use Rattle.elf_write.specs.FileParts.{IsMade}
 use Rattle.elf_write.specs.NewSegments.{IsRenewed, CrossesNot, grows_at}
 use Rattle.elf_write.specs.PartPlaces.{MovesFrom}
-use Rattle.elf_write.specs.Room.{greatest_align}
+use Rattle.area_room.specs.Room.{greatest_align}
 use Rattle.elf_write.specs.Source.{Source, HasPlace}
 use Rattle.elf_write.specs.WrittenFile.{KeepsPlaces}
 use Rattle.elf_write.proofs.CodeMemory.{code-memory}

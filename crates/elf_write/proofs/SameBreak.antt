@@ -12,7 +12,7 @@ use Rattle.elf_image.specs.memory.Break.{writable_end, break_start, break_bound,
 use Rattle.elf_image.specs.memory.Break.{rounded_up}
 use Rattle.elf_write.specs.declared.area.Area.{Area}
 use Rattle.elf_write.specs.NewSegments.{IsRenewed, AreRenewed, AreNewHeaders, grows_at, inserted, area_segment}
-use Rattle.elf_write.specs.Room.{greatest_align, highest_end, break_end, new_segment_start}
+use Rattle.area_room.specs.Room.{greatest_align, highest_end, break_end, new_segment_start}
 use Rattle.elf_write.proofs.FileEnds.{max-from}
 use Rattle.rb_bytes.proofs.Tests.{bool_same}
 

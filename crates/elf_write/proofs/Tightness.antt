@@ -9,7 +9,7 @@ use Rattle.elf_image.specs.declared.segment.TheConstants.{PHDR_SIZE}
 use Rattle.elf_image.specs.memory.CodeSegment.{executable_segment}
 use Rattle.elf_image.specs.memory.Image.{end_of, is_load}
 use Rattle.addr_map.specs.Spans.{owner}
-use Rattle.elf_write.specs.Room.{area_above, area_start, break_end, code_end, greatest_align, highest_end, new_segment_start}
+use Rattle.area_room.specs.Room.{area_above, area_start, break_end, code_end, greatest_align, highest_end, new_segment_start}
 use Rattle.elf_write.specs.Source.{Source, HasPlace}
 use Rattle.elf_write.proofs.FileEnds.{max-above}
 use Rattle.elf_write.proofs.SameBreak.{rounded_up-above, align-above}

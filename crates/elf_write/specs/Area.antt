@@ -8,7 +8,7 @@ use Rattle.elf_image.specs.memory.Image.{is_load}
 use Rattle.elf_image.specs.memory.Break.{rounded_up}
 use Rattle.elf_write.specs.declared.area.Area.{Area}
 use Rattle.elf_write.specs.declared.area.Shift.{Shift}
-use Rattle.elf_write.specs.Room.{area_start, area_above, greatest_align, new_segment_start}
+use Rattle.area_room.specs.Room.{area_start_of, greatest_align, new_segment_start}
 
 -- The bytes that the file loads.
 
@@ -52,9 +52,6 @@ segment_offset segments tight =
     if tight
     then rounded_up (greatest_align segments) (loads_end segments)
     else (code_segment segments).offset
-
-abbrev pub area_start_of : List Segment → Bool → ℕ
-area_start_of segments tight = if tight then area_above segments else area_start segments
 
 -- The area.
 

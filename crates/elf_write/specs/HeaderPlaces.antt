@@ -22,7 +22,7 @@ use Rattle.elf_write.specs.Area.{moved_by, area_offset}
 use Rattle.elf_write.specs.Contents.{contents_of}
 use Rattle.elf_write.specs.FileLayout.{is_written}
 use Rattle.elf_write.specs.NewSegments.{AreNewHeaders, grown, grows_at}
-use Rattle.elf_write.specs.Room.{greatest_align}
+use Rattle.area_room.specs.Room.{greatest_align}
 use Rattle.elf_write.specs.TableSizes.{table_size}
 
 -- Bytes of the input that a header names, and no segment loads.

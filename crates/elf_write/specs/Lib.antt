@@ -17,7 +17,6 @@ pub mod KnownSections
 pub mod LoadedRanges
 pub mod NameTables
 pub mod NameWeight
-pub mod Need
 pub mod NewNames
 pub mod NewSections
 pub mod NewSegments
@@ -30,8 +29,6 @@ pub mod PlacedHeaders
 pub mod RangeTree
 pub mod RangeTreeDepth
 pub mod RangesWithNew
-pub mod Room
-pub mod RoomFault
 pub mod Source
 pub mod TableSizes
 pub mod WrittenFile

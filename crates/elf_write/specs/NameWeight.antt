@@ -7,7 +7,7 @@ use Rattle.elf_image.specs.declared.section.Section.{Section}
 use Rattle.elf_image.specs.declared.symbol.Symbol.{Symbol}
 use Rattle.elf_write.specs.ColdSymbols.{named_around}
 use Rattle.elf_write.specs.NameTables.{names_of_sections, names_of_symbols, size_of}
-use Rattle.elf_write.specs.Need.{capped}
+use Rattle.area_room.specs.Need.{capped}
 use Rattle.elf_write.specs.OldNames.{is_renamed}
 
 -- a name that is written anew, with a mark before or behind it

@@ -8,7 +8,7 @@ use Rattle.elf_image.specs.memory.Image.{is_load, end_of}
 use Rattle.elf_write.specs.declared.area.Area.{Area}
 use Rattle.elf_write.specs.declared.segments.TheConstants.{PT_PHDR}
 use Rattle.elf_write.specs.Area.{moved_by}
-use Rattle.elf_write.specs.Room.{greatest_align}
+use Rattle.area_room.specs.Room.{greatest_align}
 use Rattle.elf_write.specs.RangesWithNew.{Loads}
 
 -- no bytes of a header begin before an offset and end behind it

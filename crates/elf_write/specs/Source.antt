@@ -8,8 +8,9 @@ use Rattle.addr_map.specs.declared.span.Span.{Span}
 use Rattle.addr_map.specs.Spans.{IsStretch}
 use Rattle.elf_image.specs.memory.HiddenFields.{is_hidden_field, is_in_entry_field}
 use Rattle.elf_write.specs.declared.area.Area.{Area}
-use Rattle.elf_write.specs.Area.{area_of, area_start_of}
-use Rattle.elf_write.specs.Room.{room, room_above}
+use Rattle.elf_write.specs.Area.{area_of}
+use Rattle.area_room.specs.Room.{area_start_of}
+use Rattle.area_room.specs.Room.{room, room_above}
 use Rattle.elf_write.specs.TableSizes.{table_size}
 
 pub record Source : Type 0 where

@@ -1,11 +1,11 @@
 // The new area, and where the loaded bytes of the input are beside it.
-ghost use Rattle.std.specs.Prelude.{◌≡◌, ◌+◌, ◌^◌, ◌<◌, IfOk, IfSome, Some};
+ghost use Rattle.std.specs.Prelude.{◌≡◌, ◌+◌, ◌^◌, ◌<◌, IfOk};
 ghost use Rattle.elf_image.specs.memory.CodeSegment.{executable_segment, executable_end};
 ghost use Rattle.elf_write.specs.Area as spec;
 
-use crate::capacity::{area_above, area_start, greatest_align, new_segment_start};
 use crate::round::{checked_rounded_up, in_64_bits, sum};
 use crate::unwritable::Unwritable;
+use area_room::{area_start_of, greatest_align, new_segment_start};
 use elf_image::Segment;
 use elf_image::segment::PT_LOAD;
 
@@ -103,22 +103,6 @@ fn segment_offset(segments: &[Segment], code: &Segment, tight: bool) -> Result<u
     } else {
         Ok(code.offset)
     }
-}
-
-/// Where the new code starts. None starts at 0, or at an address that doesn't fit 64 bits.
-pub fn area_start_of(segments: &[Segment], tight: bool) -> Option<u64>
-    ensures start { IfSome result (λ start. start ≡ spec.area_start_of segments.now tight) }
-    ensures some { IfSome result (λ start. 0 < start) }
-{
-    let start = if tight {
-        area_above(segments)
-    } else {
-        area_start(segments)
-    };
-    if start == 0 {
-        return None;
-    }
-    in_64_bits(start).ok()
 }
 
 // Where a table starts behind an end, if there is one.

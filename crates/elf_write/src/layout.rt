@@ -2,11 +2,11 @@
 ghost use Rattle.std.specs.Prelude.{◌≡◌, ◌≤◌, IfOk, codes, is_none};
 ghost use Rattle.addr_map.specs.Spans.{owner};
 ghost use Rattle.elf_parts.specs.Parts.{size_of};
-ghost use Rattle.elf_write.specs.Room.{area_start};
+ghost use Rattle.area_room.specs.Room.{area_start};
 ghost use Rattle.elf_write.specs.TableSizes as spec;
 ghost use Rattle.elf_write.specs.FileParts.{IsLaidOut};
 
-use crate::area::{Area, Shift, area_of, area_start_of};
+use crate::area::{Area, Shift, area_of};
 use crate::area_bytes::{area_bytes, table_size};
 use crate::placing::parts_of;
 use crate::round::sum;
@@ -14,6 +14,7 @@ use crate::sections::Table;
 use crate::tail::limited;
 use crate::unwritable::Unwritable;
 use addr_map::AddrMap;
+use area_room::area_start_of;
 use elf_image::Elf;
 use elf_image::code_segment::executable_segment;
 use elf_image::named::{EH_FRAME, EH_FRAME_HDR};

@@ -3,7 +3,6 @@
 
 mod area;
 mod area_bytes;
-mod capacity;
 mod cell_numbers;
 mod first_names;
 mod fragments;
@@ -35,11 +34,8 @@ mod symbols;
 mod tail;
 mod unwritable;
 mod weights;
-mod worst_need;
 mod writer;
 
-pub use area::area_start_of;
-pub use capacity::{is_tight, no_room, room, room_above};
+pub use area_room::{area_start_of, is_tight, need, no_room, room, room_above};
 pub use weights::name_weight;
-pub use worst_need::need;
 pub use writer::write;

@@ -1,23 +1,11 @@
-// Numbers rounded up, and numbers of 64 bits.
-ghost use Rattle.std.specs.Prelude.{◌≡◌, ◌+◌, ◌^◌, ◌<◌, ◌≤◌, IfOk};
+// Numbers of 64 bits, or that a file with them has no layout.
+ghost use Rattle.std.specs.Prelude.{◌≡◌, ◌+◌, ◌<◌, ◌≤◌, IfOk};
 ghost use Rattle.elf_image.specs.memory.Break.{rounded_up};
-ghost use Rattle.elf_write.specs.Need.{capped};
 
 use crate::unwritable::Unwritable;
+use area_room::rounded_up;
 
-/// Rounds up to a multiple of a unit.
-pub fn rounded_up(unit: u64, n: u128) -> u128
-    requires some { 0 < unit }
-    requires low { n < 2 ^ 66 }
-    ensures up { result ≡ rounded_up unit n }
-    ensures above { n ≤ result }
-    ensures low { result < n + unit }
-{
-    let unit = unit as u128;
-    (n + (unit - 1)) / unit * unit
-}
-
-/// The same in 64 bits.
+/// Rounds a number of 64 bits up to a multiple of a unit.
 pub fn checked_rounded_up(unit: u64, n: u64) -> Result<u64, Unwritable>
     requires { 0 < unit }
     ensures up { IfOk result (λ up. up ≡ rounded_up unit n) }
@@ -42,11 +30,4 @@ pub fn in_64_bits(place: u128) -> Result<u64, Unwritable>
     } else {
         Err(Unwritable::Layout)
     }
-}
-
-/// A number as far as 64 bits can say it.
-pub fn capped(n: u128) -> u64
-    ensures { result ≡ capped n }
-{
-    n.min(u64::MAX as u128) as u64
 }

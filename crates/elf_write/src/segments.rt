@@ -7,11 +7,11 @@ ghost use Rattle.elf_write.specs.HeaderPlaces.{index_for, leaves_area, named};
 ghost use Rattle.elf_write.specs.NewSegments as spec;
 
 use crate::area::{Area, Shift};
-use crate::capacity::greatest_align;
 use crate::homes::homes_of;
-use crate::round::{rounded_up, sum};
+use crate::round::sum;
 use crate::sections::Contents;
 use crate::unwritable::Unwritable;
+use area_room::{greatest_align, rounded_up};
 use elf_image::segment::{PF_R, PF_X, PHDR_SIZE, PT_GNU_EH_FRAME, PT_LOAD};
 use elf_image::{Elf, Segment};
 use std::alloc::Global;
@@ -103,7 +103,7 @@ impl<'a> Places<'a> {
     ghost use Rattle.elf_write.specs.PlacedHeaders.{AreMade, AreNewEach, outline};
     ghost use Rattle.elf_write.specs.NewSegments.{AreNewHeaders, AreRenewed, CanGrow, CanGrowAt, IsRenewed, area_segment};
     ghost use Rattle.elf_write.specs.NewSegments.{grown, grows_at};
-    ghost use Rattle.elf_write.specs.Room.{greatest_align};
+    ghost use Rattle.area_room.specs.Room.{greatest_align};
     ghost use Rattle.std.specs.Prelude.{◌≡◌, ◌≤◌, ◌<◌, ◌&&◌, not, IfOk, true, false};
     ghost use Rattle.elf_image.specs.declared.segment.TheConstants.{PT_LOAD};
     ghost use Rattle.elf_write.specs.Area.{moved_by};

@@ -6,7 +6,7 @@ ghost use Rattle.rv_code.specs.layout.FunctionLists.{AreLaidOut};
 ghost use Rattle.elf_write.specs.FirstNames.{AreFirstNames};
 ghost use Rattle.elf_write.specs.NameTables as tables;
 ghost use Rattle.elf_write.specs.NameWeight as spec;
-ghost use Rattle.elf_write.specs.Need.{capped};
+ghost use Rattle.area_room.specs.Need.{capped};
 
 use crate::first_names::first_names;
 use crate::name_tables::{place_of_section_names, symbols_section};

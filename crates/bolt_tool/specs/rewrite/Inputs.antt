@@ -1,6 +1,6 @@
 -- What reading the two files came to, where contents are told.
 use Rattle.std.specs.Prelude.{◌<◌, ◌≤◌, ℕ, List, Option, IsSomeAnd, length}
-use Rattle.bolt_core.specs.Program.{file_limit}
+use Rattle.program.specs.Limits.{file_limit}
 use Rattle.bolt_core.specs.RewriteCounts.{counts_seen}
 use Rattle.bolt_core.specs.declared.rewriting.Rewritten.{Rewritten}
 use Rattle.bolt_tool.specs.CommandLine.{InputNames}

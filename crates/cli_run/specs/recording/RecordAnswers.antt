@@ -9,10 +9,11 @@ use Rattle.edge_record.specs.EdgeText.{IsEdgeText}
 use Rattle.edge_record.specs.Moves.{Move}
 use Rattle.edge_record.specs.RecordedRuns.{ByteMoves}
 use Rattle.edge_record.specs.MoveCounts.{taken}
-use Rattle.bolt_core.specs.Program.{Program}
-use Rattle.cli_run.specs.recording.RecordRuns.{IsRecordProgram, record_machine, record_mode, moving_steps}
+use Rattle.program.specs.Program.{Program}
+use Rattle.cli_run.specs.recording.RecordRuns.{record_machine, record_mode, moving_steps}
 use Rattle.cli_run.specs.run.RunOutcomes.{Ending, answer_of}
-use Rattle.cli_run.specs.run.RunAnswers.{Taking, ComesOut, StopsRun, FileAnswers, IsComplete, NoRunErrors, outside}
+use Rattle.cli_run.specs.run.RunAnswers.{Taking, ComesOut, StopsRun, FileAnswers, IsComplete, IsExact, NoRunErrors, outside}
+use Rattle.cli_run.specs.run.SymbolRuns.{IsRunnableProgram}
 use Rattle.cli_run.specs.RunArgs.{RecordArgs}
 use Rattle.cli_base.specs.Served.{IsServed}
 use Rattle.cli_base.specs.World.{World, WriteRose}
@@ -53,12 +54,17 @@ module _ (program : Program) (args : RecordArgs) (old new : World) where
     stopped : StopsRun (record_machine program args.run.args) args.run.limit (outside old) (outside new) answer
         → Unchanged old.files.content new.files.content → RecordsRun answer
 
+-- how a recorded run is answered that got under way, and that this is exact
+pub record IsAnsweredRecording (program : Program) (args : RecordArgs) (old new : World) (answer : Status) : Type 0 where
+  pub records : RecordsRun program args old new answer
+  pub exact : IsExact (record_machine program args.run.args) args.run.limit old.input.left answer
+
 -- the file was read and has no fault, and the machine with its program answered so
 pub record IsRecording (args : RecordArgs) (old new : World) (answer : Status) : Type 0 where
   pub file : List ℕ
   pub file_is : IsTrue old.files.told → old.files.content args.run.file ≡ Some file
   pub program : Program
-  pub program_is : IsRecordProgram file program
+  pub program_is : IsRunnableProgram file program
   pub run : RecordsRun program args old new answer
 
 abbrev pub RecordAnswers : RecordArgs → World → World → Status → Type 0

@@ -7,8 +7,7 @@ use Rattle.rv_code.specs.declared.cause.Cause.{Cause}
 use Rattle.rv_code.specs.machine.Step.{Steps}
 use Rattle.elf_image.specs.faults.FileFaults.{IsFirstFault, IsSound}
 use Rattle.rv_memory.specs.Start.{start}
-use Rattle.bolt_core.specs.CodeLimit.{HasTooMuchCode}
-use Rattle.bolt_core.specs.Program.{file_limit}
+use Rattle.program.specs.Limits.{HasTooMuchCode, file_limit}
 use Rattle.cli_run.specs.run.RunOutcomes.{Loaded}
 use Rattle.cli_run.specs.run.Modes.{Mode}
 use Rattle.cli_base.specs.declared.status.Status.TheVariants as status

@@ -1,8 +1,5 @@
--- What reading the code of a file comes to, and then the steps of a run.
+-- What the last steps of a run come to.
 use Rattle.std.specs.Prelude.{◌≡◌, ℕ}
-use Rattle.rb_bytes.specs.declared.fault.Fault.{Fault}
-use Rattle.rb_bytes.specs.declared.fault.Refusal.{Refusal}
-use Rattle.rb_bytes.specs.declared.fault.Refusal.TheVariants as refusal
 use Rattle.rb_io.specs.Views.{SinkSeen}
 use Rattle.run_core.specs.Answers.{Answer}
 use Rattle.run_core.specs.Answers as answer
@@ -10,11 +7,6 @@ use Rattle.cli_base.specs.Printing.{LinePrinted}
 use Rattle.cli_run.specs.run.RunOutcomes.{closing_line}
 use Rattle.cli_base.specs.declared.status.Status.{Status}
 use Rattle.cli_base.specs.declared.status.Status.TheVariants as status
-
--- a refusal names a fault of which P holds; memory may run out at any time
-abbrev pub IsRefusalFor : (Fault → Type 0) → Refusal → Type 0
-IsRefusalFor P (refusal.Fault fault) = P fault
-IsRefusalFor P refusal.Memory = Unit {0}
 
 -- the answer to what a run on a machine came to, and `halted` says that the machine halts
 abbrev pub status_of : {C : Type 0} → (ℕ → C → Status) → Answer C → Status

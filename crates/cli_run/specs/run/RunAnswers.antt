@@ -133,6 +133,12 @@ IsExact {C = C} machine limit left answer = (input : List ℕ) → left ≡ Some
     (ending : Ending C) (steps : ℕ) (trace : List Event) (rest : List ℕ) → RunsTo machine input limit ending steps trace rest →
     (answer ≡ answer_of machine ending) ⊎ IsCutShort answer
 
+-- how a run is answered that got under way, and that this is exact
+pub record IsAnsweredRun {V X C : Type 0} (machine : Loaded V X C) (limit : ℕ) (before after : Outside) (answer : Status) :
+    Type 0 where
+  pub answers : AnswersRun machine limit before after answer
+  pub exact : IsExact machine limit before.input.left answer
+
 -- No count of faults rose: of the file, of standard input and of standard output.
 pub record NoRunErrors (args : RunArgs) (old new : World) : Type 0 where
   pub file : ReadRose old new args.file → ⊥

@@ -5,7 +5,7 @@ use Rattle.cli_base.specs.Lines.{ended_line, trapped_line, stuck_line, out_of_st
 use Rattle.cli_base.specs.declared.status.Status.{Status}
 use Rattle.cli_base.specs.declared.status.Status.TheVariants as status
 
--- It ends with a status, the machine halts at a pc for a cause, or its steps are up.
+-- How a run comes out: it ends with a status, the machine halts at a pc for a cause, or its steps are up.
 pub data Ending (C : Type 0) : Type 0 where
   Ends : ℕ → Ending C
   HaltsAt : ℕ → C → Ending C

@@ -1,49 +1,278 @@
-use Rattle.std.proofs.Common.{sym, subst, ℕ, ◌<◌, List}
-use Rattle.std.specs.Prelude.{All, IfErr, IfOk}
+use Rattle.std.proofs.Common.{◌≡◌, ◌∙◌, sym, subst, ℕ, List, rules}
 use Rattle.std.proofs.lemmas.Result.{err_from_is_err_and}
-use Rattle.bolt_core.specs.Refusals.{IsRefusal, not_built}
-use Rattle.bolt_core.specs.RewrittenFile.{IsRewritten}
-use Rattle.bolt_core.specs.RewriteCounts.{counts_seen}
-use Rattle.bolt_core.specs.Tables.{HasTables}
-use Rattle.bolt_core.proofs.Rewrites.{bad_code_refusal, is_plain, program_read}
+use Rattle.edge_profile.specs.PairCounts.{ArePairs}
+use Rattle.edge_profile.specs.Profile.{profile_counts, pairs_of}
+use Rattle.program.specs.Program.{program_of}
+use Rattle.program.specs.declared.unbuilt.Unbuilt.TheVariants.{Tables}
+use Rattle.program.proofs.Programs.{no_frames}
+use Rattle.bolt_core.specs.Limits.{IsTooLarge}
+use Rattle.bolt_core.specs.ProfileOrder.{IsProfileOrder}
+use Rattle.bolt_core.proofs.Accepted.{apart_blocks, blocks_of, input_of, laid_program, misplaced_refusal, no_place_refusal}
+use Rattle.bolt_core.proofs.Accepted.{no_room_by, parts_by, read_again, readable_again, stands_by, start_by, stretches, too_large_refusal}
+use Rattle.bolt_core.proofs.Accepted.{unreadable_refusal}
+use Rattle.bolt_core.proofs.Rewrites.{all_bytes, cells_apart, cells_held, even, hot_counted, near, rewritten, room, sound_code}
+use Rattle.bolt_core.proofs.SoundCode.{cells, direct, insts}
 use Rattle.bolt_core.proofs.rewriting.rewrite.Goals as goal
 
-pub returns-then-has_tables-clause-refused : goal.returns-then-has_tables-clause-refused
-returns-then-has_tables-clause-refused c =
-    not_built c.in-None.ensures c.in_ok-elf.ensures.sound
-    (subst HasTables c.in_ok-elf.ensures.fields.file_is (c.has_tables.ensures.tables.0 c.if-has_tables.true)) c.at.ensures
+pub read_program-requires : goal.read_program-requires
+read_program-requires c =
+    c.in_ok-check_lengths.ensures.fit.file_fits
 
-pub returns-in_err-code-clause-refused : goal.returns-in_err-code-clause-refused
-returns-in_err-code-clause-refused c =
-    let p = err_from_is_err_and c.from_residual-in_err-code.result c.from_residual-in_err-code.ensures.1 in
-    rw (p.1, p.2) (bad_code_refusal c.args.file.now c.args.profile.now c.in_ok-elf.elf c.in_ok-elf.ensures.fields
-    c.in-None.ensures
-    c.in_ok-elf.ensures.sound
-    (is_plain c.args.file.now c.args.profile.now c.in_ok-elf.elf c.in_ok-elf.ensures.fields c.in-None.ensures
-    c.in_ok-elf.ensures.sound c.has_tables.result c.has_tables.ensures.tables.1 c.if-has_tables.false)
-    c.in_err-code.field-0.0 c.in_err-code.ensures.fault)
+pub returns-in_err-program-clause-refused : goal.returns-in_err-program-clause-refused
+returns-in_err-program-clause-refused c =
+    let p = err_from_is_err_and c.from_residual-in_err-program.result c.from_residual-in_err-program.ensures.1 in
+    rw (p.1, p.2) (unreadable_refusal c.args.file.now c.args.profile.now c.in_ok-check_lengths.ensures.fit
+    c.in_err-program.field-0.0 c.in_err-program.ensures.fault)
 
-pub rewrite_program-requires-clause-bytes : goal.rewrite_program-requires-clause-bytes
-rewrite_program-requires-clause-bytes c =
-    subst (λ (xs : List ℕ). All (λ b. b < 256) xs) (sym c.in_ok-elf.ensures.fields.file_is) c.are_bytes.ensures
+pub read-requires-clause-funcs : goal.read-requires-clause-funcs
+read-requires-clause-funcs c =
+    let input = input_of c.in_ok-program.program c.as_slice-funcs.ensures.value c.as_slice-blocks.ensures.value
+    c.in_ok-program.ensures.program c.in_ok-check_lengths.ensures.fit in
+    laid_program input
 
-pub rewrite_program-requires-clause-program : goal.rewrite_program-requires-clause-program
-rewrite_program-requires-clause-program c =
-    program_read c.args.file.now c.args.profile.now c.in_ok-elf.elf c.in_ok-elf.ensures.fields c.in-None.ensures
-    c.in_ok-elf.ensures.sound
-    (is_plain c.args.file.now c.args.profile.now c.in_ok-elf.elf c.in_ok-elf.ensures.fields c.in-None.ensures
-    c.in_ok-elf.ensures.sound
-    c.has_tables.result c.has_tables.ensures.tables.1 c.if-has_tables.false)
-    c.in_ok-code.code c.in_ok-code.ensures.code c.deref.result.now c.deref-2.result.now c.in_ok-blocks.blocks.items
-    c.deref.ensures.value c.deref-2.ensures.value c.in_ok-blocks.ensures c.deref-3.result.now c.deref-3.ensures.value
+pub read-requires-clause-elf : goal.read-requires-clause-elf
+read-requires-clause-elf c = read_again c.in_ok-program.ensures.program
+
+pub read-requires-clause-readable : goal.read-requires-clause-readable
+read-requires-clause-readable c = readable_again c.in_ok-program.ensures.program
+
+pub block_weights-requires-clause-funcs : goal.block_weights-requires-clause-funcs
+block_weights-requires-clause-funcs c =
+    let input = input_of c.in_ok-program.program c.as_slice-funcs.ensures.value c.as_slice-blocks.ensures.value
+    c.in_ok-program.ensures.program c.in_ok-check_lengths.ensures.fit in
+    laid_program input
+
+pub block_weights-requires-clause-blocks : goal.block_weights-requires-clause-blocks
+block_weights-requires-clause-blocks c =
+    let input = input_of c.in_ok-program.program c.as_slice-funcs.ensures.value c.as_slice-blocks.ensures.value
+    c.in_ok-program.ensures.program c.in_ok-check_lengths.ensures.fit in
+    apart_blocks input
+
+pub parts-requires-clause-blocks : goal.parts-requires-clause-blocks
+parts-requires-clause-blocks c =
+    let input = input_of c.in_ok-program.program c.as_slice-funcs.ensures.value c.as_slice-blocks.ensures.value
+    c.in_ok-program.ensures.program c.in_ok-check_lengths.ensures.fit in
+    blocks_of input
+
+pub parts-requires-clause-laid : goal.parts-requires-clause-laid
+parts-requires-clause-laid c =
+    let input = input_of c.in_ok-program.program c.as_slice-funcs.ensures.value c.as_slice-blocks.ensures.value
+    c.in_ok-program.ensures.program c.in_ok-check_lengths.ensures.fit in
+    laid_program input
+
+pub parts-requires-clause-pairs : goal.parts-requires-clause-pairs
+parts-requires-clause-pairs c =
+    subst (ArePairs (profile_counts c.in_ok-counts.counts)) c.pairs-pairs.ensures.value c.pairs-pairs.ensures.exact
+
+pub parts-requires-clause-weights : goal.parts-requires-clause-weights
+parts-requires-clause-weights c =
+    c.deref.ensures.value ∙ c.in_ok-weights.ensures.weights
+
+pub place-requires-clause-funcs : goal.place-requires-clause-funcs
+place-requires-clause-funcs c =
+    let input = input_of c.in_ok-program.program c.as_slice-funcs.ensures.value c.as_slice-blocks.ensures.value
+    c.in_ok-program.ensures.program c.in_ok-check_lengths.ensures.fit in
+    laid_program input
+
+pub place-requires-clause-blocks : goal.place-requires-clause-blocks
+place-requires-clause-blocks c =
+    let input = input_of c.in_ok-program.program c.as_slice-funcs.ensures.value c.as_slice-blocks.ensures.value
+    c.in_ok-program.ensures.program c.in_ok-check_lengths.ensures.fit in
+    stretches input
+
+pub place-requires-clause-apart : goal.place-requires-clause-apart
+place-requires-clause-apart c =
+    let input = input_of c.in_ok-program.program c.as_slice-funcs.ensures.value c.as_slice-blocks.ensures.value
+    c.in_ok-program.ensures.program c.in_ok-check_lengths.ensures.fit in
+    apart_blocks input
+
+pub place-requires-clause-hot : goal.place-requires-clause-hot
+place-requires-clause-hot c =
+    c.in_ok-parts.ensures.parts.chains.parts_are.hot_count
+
+pub place-requires-clause-cold : goal.place-requires-clause-cold
+place-requires-clause-cold c =
+    c.in_ok-parts.ensures.parts.chains.parts_are.cold_count
+
+pub returns-in_err-plan-clause-refused : goal.returns-in_err-plan-clause-refused
+returns-in_err-plan-clause-refused c =
+    let input = input_of c.in_ok-program.program c.as_slice-funcs.ensures.value c.as_slice-blocks.ensures.value
+    c.in_ok-program.ensures.program c.in_ok-check_lengths.ensures.fit in
+    let p = err_from_is_err_and c.from_residual-in_err-plan.result c.from_residual-in_err-plan.ensures.1 in
+    rw (p.1, p.2) (misplaced_refusal input c.in_err-plan.field-0.0 c.in_err-plan.ensures.fault)
+
+pub new_start-requires : goal.new_start-requires
+new_start-requires c =
+    no_frames Tables c.args.file.now c.in_ok-program.program.elf c.in_ok-program.ensures.program.faultless
+
+pub returns-in_err-start-clause-refused : goal.returns-in_err-start-clause-refused
+returns-in_err-start-clause-refused c =
+    let input = input_of c.in_ok-program.program c.as_slice-funcs.ensures.value c.as_slice-blocks.ensures.value
+    c.in_ok-program.ensures.program c.in_ok-check_lengths.ensures.fit in
+    let p = err_from_is_err_and c.from_residual-in_err-start.result c.from_residual-in_err-start.ensures.1 in
+    rw (p.1, p.2) (no_place_refusal input c.in_ok-plan.ensures.free c.in_err-start.field-0.0
+    (no_room_by c.in_ok-program.program c.as_slice-funcs.ensures.value c.as_slice-blocks.ensures.value c.in_err-start.field-0.0 c.in_err-start.ensures.refused))
+
+pub check_sizes-requires-clause-fields : goal.check_sizes-requires-clause-fields
+check_sizes-requires-clause-fields c =
+    read_again c.in_ok-program.ensures.program
+
+pub check_sizes-requires-clause-laid : goal.check_sizes-requires-clause-laid
+check_sizes-requires-clause-laid c =
+    let input = input_of c.in_ok-program.program c.as_slice-funcs.ensures.value c.as_slice-blocks.ensures.value
+    c.in_ok-program.ensures.program c.in_ok-check_lengths.ensures.fit in
+    laid_program input
+
+pub returns-in_err-check_sizes-clause-refused : goal.returns-in_err-check_sizes-clause-refused
+returns-in_err-check_sizes-clause-refused c =
+    let input = input_of c.in_ok-program.program c.as_slice-funcs.ensures.value c.as_slice-blocks.ensures.value
+    c.in_ok-program.ensures.program c.in_ok-check_lengths.ensures.fit in
+    let stands = stands_by c.in_ok-program.program c.as_slice-funcs.ensures.value c.as_slice-blocks.ensures.value c.in_ok-plan.ensures.free c.in_ok-start.ensures.room in
+    let parts_are = parts_by input (profile_counts c.in_ok-counts.counts) (pairs_of c.in_ok-counts.counts) c.in_ok-parts.parts
+    c.in_ok-parts.ensures.parts c.in_ok-counts.ensures.counts in
+    let p = err_from_is_err_and c.from_residual-in_err-check_sizes.result c.from_residual-in_err-check_sizes.ensures.1 in
+    rw (p.1, p.2) (too_large_refusal input stands (pairs_of c.in_ok-counts.counts) c.in_ok-parts.parts parts_are c.deref-2.result.now
+    (c.deref-2.ensures.value ∙ c.in_ok-cold.ensures) c.in_err-check_sizes.field-0.0 c.in_err-check_sizes.ensures.refused)
+
+pub moved_code-requires-clause-laid : goal.moved_code-requires-clause-laid
+moved_code-requires-clause-laid c =
+    let input = input_of c.in_ok-program.program c.as_slice-funcs.ensures.value c.as_slice-blocks.ensures.value
+    c.in_ok-program.ensures.program c.in_ok-check_lengths.ensures.fit in
+    laid_program input
+
+pub moved_code-requires-clause-direct : goal.moved_code-requires-clause-direct
+moved_code-requires-clause-direct c =
+    let input = input_of c.in_ok-program.program c.as_slice-funcs.ensures.value c.as_slice-blocks.ensures.value
+    c.in_ok-program.ensures.program c.in_ok-check_lengths.ensures.fit in
+    let bytes = all_bytes c.args.file.now c.type_inv.file in
+    direct c.in_ok-program.program.elf _ (sound_code c.in_ok-program.program.elf c.as_slice-funcs.result.now c.in_ok-program.program.refs
+    c.as_slice-blocks.result.now input bytes)
+
+pub moved_code-requires-clause-insts : goal.moved_code-requires-clause-insts
+moved_code-requires-clause-insts c =
+    let input = input_of c.in_ok-program.program c.as_slice-funcs.ensures.value c.as_slice-blocks.ensures.value
+    c.in_ok-program.ensures.program c.in_ok-check_lengths.ensures.fit in
+    let bytes = all_bytes c.args.file.now c.type_inv.file in
+    insts c.in_ok-program.program.elf _ (sound_code c.in_ok-program.program.elf c.as_slice-funcs.result.now c.in_ok-program.program.refs
+    c.as_slice-blocks.result.now input bytes)
+
+pub moved_code-requires-clause-cells : goal.moved_code-requires-clause-cells
+moved_code-requires-clause-cells c =
+    let input = input_of c.in_ok-program.program c.as_slice-funcs.ensures.value c.as_slice-blocks.ensures.value
+    c.in_ok-program.ensures.program c.in_ok-check_lengths.ensures.fit in
+    let bytes = all_bytes c.args.file.now c.type_inv.file in
+    cells c.in_ok-program.program.elf _ (sound_code c.in_ok-program.program.elf c.as_slice-funcs.result.now c.in_ok-program.program.refs
+    c.as_slice-blocks.result.now input bytes)
+
+pub moved_code-requires-clause-blocks : goal.moved_code-requires-clause-blocks
+moved_code-requires-clause-blocks c =
+    let input = input_of c.in_ok-program.program c.as_slice-funcs.ensures.value c.as_slice-blocks.ensures.value
+    c.in_ok-program.ensures.program c.in_ok-check_lengths.ensures.fit in
+    blocks_of input
+
+pub moved_code-requires-clause-order : goal.moved_code-requires-clause-order
+moved_code-requires-clause-order c =
+    c.in_ok-plan.ensures.all c.in_ok-parts.ensures.all
+
+pub moved_code-requires-clause-near : goal.moved_code-requires-clause-near
+moved_code-requires-clause-near c =
+    let input = input_of c.in_ok-program.program c.as_slice-funcs.ensures.value c.as_slice-blocks.ensures.value
+    c.in_ok-program.ensures.program c.in_ok-check_lengths.ensures.fit in
+    let bytes = all_bytes c.args.file.now c.type_inv.file in
+    near c.in_ok-program.program.elf c.as_slice-funcs.result.now c.in_ok-program.program.refs
+    c.as_slice-blocks.result.now input bytes c.in_ok-plan.plan.order.items (c.in_ok-plan.ensures.near c.in_ok-parts.ensures.all)
+
+pub moved_code-requires-clause-even : goal.moved_code-requires-clause-even
+moved_code-requires-clause-even c =
+    let input = input_of c.in_ok-program.program c.as_slice-funcs.ensures.value c.as_slice-blocks.ensures.value
+    c.in_ok-program.ensures.program c.in_ok-check_lengths.ensures.fit in
+    let bytes = all_bytes c.args.file.now c.type_inv.file in
+    let start_is = start_by c.in_ok-program.program c.as_slice-funcs.ensures.value c.as_slice-blocks.ensures.value c.in_ok-start.start c.in_ok-start.ensures.start in
+    even c.in_ok-program.program.elf c.as_slice-funcs.result.now c.in_ok-program.program.refs
+    c.as_slice-blocks.result.now input bytes c.in_ok-start.start start_is
+
+pub moved_code-requires-clause-room : goal.moved_code-requires-clause-room
+moved_code-requires-clause-room c =
+    let input = input_of c.in_ok-program.program c.as_slice-funcs.ensures.value c.as_slice-blocks.ensures.value
+    c.in_ok-program.ensures.program c.in_ok-check_lengths.ensures.fit in
+    let bytes = all_bytes c.args.file.now c.type_inv.file in
+    let stands = stands_by c.in_ok-program.program c.as_slice-funcs.ensures.value c.as_slice-blocks.ensures.value c.in_ok-plan.ensures.free c.in_ok-start.ensures.room in
+    let start_is = start_by c.in_ok-program.program c.as_slice-funcs.ensures.value c.as_slice-blocks.ensures.value c.in_ok-start.start c.in_ok-start.ensures.start in
+    room c.in_ok-program.program.elf c.as_slice-funcs.result.now c.in_ok-program.program.refs
+    c.as_slice-blocks.result.now input bytes stands c.in_ok-start.start start_is
+
+pub write-requires-clause-read : goal.write-requires-clause-read
+write-requires-clause-read c =
+    read_again c.in_ok-program.ensures.program
+
+pub write-requires-clause-sound : goal.write-requires-clause-sound
+write-requires-clause-sound c =
+    let input = input_of c.in_ok-program.program c.as_slice-funcs.ensures.value c.as_slice-blocks.ensures.value
+    c.in_ok-program.ensures.program c.in_ok-check_lengths.ensures.fit in
+    let bytes = all_bytes c.args.file.now c.type_inv.file in
+    (sound_code c.in_ok-program.program.elf c.as_slice-funcs.result.now c.in_ok-program.program.refs
+    c.as_slice-blocks.result.now input bytes).sound
+
+pub write-requires-clause-bytes : goal.write-requires-clause-bytes
+write-requires-clause-bytes c =
+    let input = input_of c.in_ok-program.program c.as_slice-funcs.ensures.value c.as_slice-blocks.ensures.value
+    c.in_ok-program.ensures.program c.in_ok-check_lengths.ensures.fit in
+    let bytes = all_bytes c.args.file.now c.type_inv.file in
+    (sound_code c.in_ok-program.program.elf c.as_slice-funcs.result.now c.in_ok-program.program.refs
+    c.as_slice-blocks.result.now input bytes).bytes
+
+pub write-requires-clause-cells : goal.write-requires-clause-cells
+write-requires-clause-cells c =
+    let input = input_of c.in_ok-program.program c.as_slice-funcs.ensures.value c.as_slice-blocks.ensures.value
+    c.in_ok-program.ensures.program c.in_ok-check_lengths.ensures.fit in
+    let bytes = all_bytes c.args.file.now c.type_inv.file in
+    let stands = stands_by c.in_ok-program.program c.as_slice-funcs.ensures.value c.as_slice-blocks.ensures.value c.in_ok-plan.ensures.free c.in_ok-start.ensures.room in
+    let start_is = start_by c.in_ok-program.program c.as_slice-funcs.ensures.value c.as_slice-blocks.ensures.value c.in_ok-start.start c.in_ok-start.ensures.start in
+    cells_held c.in_ok-program.program.elf c.as_slice-funcs.result.now c.in_ok-program.program.refs
+    c.as_slice-blocks.result.now input bytes stands c.in_ok-start.start start_is c.in_ok-plan.plan.order.items
+    c.in_ok-map.map c.in_ok-map.emitted c.in_ok-map.ensures
+
+pub write-requires-clause-apart : goal.write-requires-clause-apart
+write-requires-clause-apart c =
+    let input = input_of c.in_ok-program.program c.as_slice-funcs.ensures.value c.as_slice-blocks.ensures.value
+    c.in_ok-program.ensures.program c.in_ok-check_lengths.ensures.fit in
+    let bytes = all_bytes c.args.file.now c.type_inv.file in
+    let stands = stands_by c.in_ok-program.program c.as_slice-funcs.ensures.value c.as_slice-blocks.ensures.value c.in_ok-plan.ensures.free c.in_ok-start.ensures.room in
+    let start_is = start_by c.in_ok-program.program c.as_slice-funcs.ensures.value c.as_slice-blocks.ensures.value c.in_ok-start.start c.in_ok-start.ensures.start in
+    cells_apart c.in_ok-program.program.elf c.as_slice-funcs.result.now c.in_ok-program.program.refs
+    c.as_slice-blocks.result.now input bytes stands c.in_ok-start.start start_is c.in_ok-plan.plan.order.items
+    c.in_ok-map.map c.in_ok-map.emitted c.in_ok-map.ensures
+
+pub write-requires-clause-laid_out : goal.write-requires-clause-laid_out
+write-requires-clause-laid_out c =
+    let input = input_of c.in_ok-program.program c.as_slice-funcs.ensures.value c.as_slice-blocks.ensures.value
+    c.in_ok-program.ensures.program c.in_ok-check_lengths.ensures.fit in
+    laid_program input
 
 pub returns-clause-rewritten : goal.returns-clause-rewritten
 returns-clause-rewritten c =
-    subst (λ (f : List ℕ). IfOk c.rewrite_program.result (λ r. IsRewritten f c.args.profile.now r.file.items r.map
-    (counts_seen r)))
-    c.in_ok-elf.ensures.fields.file_is c.rewrite_program.ensures.rewritten
-
-pub returns-clause-refused : goal.returns-clause-refused
-returns-clause-refused c =
-    subst (λ (f : List ℕ). IfErr c.rewrite_program.result (IsRefusal f c.args.profile.now)) c.in_ok-elf.ensures.fields.file_is
-    c.rewrite_program.ensures.refused
+    let input = input_of c.in_ok-program.program c.as_slice-funcs.ensures.value c.as_slice-blocks.ensures.value
+    c.in_ok-program.ensures.program c.in_ok-check_lengths.ensures.fit in
+    let bytes = all_bytes c.args.file.now c.type_inv.file in
+    let stands = stands_by c.in_ok-program.program c.as_slice-funcs.ensures.value c.as_slice-blocks.ensures.value c.in_ok-plan.ensures.free c.in_ok-start.ensures.room in
+    let start_is = start_by c.in_ok-program.program c.as_slice-funcs.ensures.value c.as_slice-blocks.ensures.value c.in_ok-start.start c.in_ok-start.ensures.start in
+    let parts_are = parts_by input (profile_counts c.in_ok-counts.counts) (pairs_of c.in_ok-counts.counts) c.in_ok-parts.parts
+    c.in_ok-parts.ensures.parts c.in_ok-counts.ensures.counts in
+    let ordered : IsProfileOrder (program_of c.in_ok-program.program.elf c.as_slice-funcs.result.now c.in_ok-program.program.refs c.as_slice-blocks.result.now) c.args.profile.now (pairs_of c.in_ok-counts.counts) c.in_ok-parts.parts
+    c.in_ok-plan.plan.order.items = record {
+      parts_are = parts_are;
+      placed = c.in_ok-plan.ensures.order;
+    } in
+    rewritten c.in_ok-program.program.elf c.as_slice-funcs.result.now c.in_ok-program.program.refs
+    c.as_slice-blocks.result.now input bytes stands c.in_ok-start.start start_is c.in_ok-plan.plan.order.items
+    c.in_ok-map.map c.in_ok-map.emitted c.in_ok-map.ensures c.deref-3.result.now c.in_ok-written.written.items
+    (all_bytes c.in_ok-written.written.items c.type_inv.written)
+    c.in_ok-written.ensures.written c.in_ok-written.ensures.tables (pairs_of c.in_ok-counts.counts) c.in_ok-parts.parts ordered
+    (c.deref-3.ensures.value ∙ c.in_ok-cold.ensures)
+    (subst (λ (cs : List ℕ). (place : ℕ) → IsTooLarge c.in_ok-program.program.elf c.as_slice-funcs.result.now cs place → ⊥)
+    (c.deref-2.ensures.value ∙ sym c.deref-3.ensures.value)
+    c.in_ok-check_sizes.ensures.within)
+    c.in_ok-instructions.instructions c.len-bytes.result c.count_hot-hot.result c.ignored-ignored.result
+    c.in_ok-instructions.ensures (search rules)
+    (hot_counted (pairs_of c.in_ok-counts.counts) c.as_slice-funcs.result.now c.as_slice-blocks.result.now c.deref-4.result.now c.in_ok-weights.weights.items c.count_hot-hot.result c.deref-4.ensures.value
+    c.in_ok-weights.ensures.weights c.count_hot-hot.ensures) (c.ignored-ignored.ensures ∙ c.in_ok-counts.ensures.ignored)

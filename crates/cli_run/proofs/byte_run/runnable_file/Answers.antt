@@ -1,5 +1,5 @@
 use Rattle.std.proofs.Common.{subst, sym}
-use Rattle.bolt_core.specs.CodeLimit.{HasTooMuchCode}
+use Rattle.program.specs.Limits.{HasTooMuchCode}
 use Rattle.cli_run.specs.run.ByteRuns.{much_code}
 use Rattle.cli_run.proofs.RunAnswering.{denied}
 use Rattle.cli_run.proofs.byte_run.runnable_file.Goals as goal

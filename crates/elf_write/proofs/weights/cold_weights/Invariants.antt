@@ -1,7 +1,7 @@
 use Rattle.std.proofs.Common.{◌≡◌, take}
 use Rattle.std.specs.Prelude.{sum_by}
 use Rattle.elf_write.specs.NameWeight.{cold_weight}
-use Rattle.elf_write.specs.Need.{capped}
+use Rattle.area_room.specs.Need.{capped}
 use Rattle.elf_write.proofs.weights.cold_weights.Given as goal
 
 abbrev pub invariant-loop-address : goal.invariant-loop-address

@@ -1,7 +1,7 @@
 use Rattle.std.proofs.Common.{◌≡◌, take}
 use Rattle.std.specs.Prelude.{sum_by}
 use Rattle.elf_write.specs.NameWeight.{section_weight}
-use Rattle.elf_write.specs.Need.{capped}
+use Rattle.area_room.specs.Need.{capped}
 use Rattle.elf_write.proofs.weights.sections_weight.Given as goal
 
 abbrev pub invariant-loop-section : goal.invariant-loop-section

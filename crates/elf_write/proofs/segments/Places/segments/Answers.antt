@@ -3,7 +3,7 @@ use Rattle.std.proofs.lemmas.Bool.{both_ways}
 use Rattle.elf_image.specs.declared.segment.Segment.{Segment}
 use Rattle.elf_image.specs.memory.Image.{is_load}
 use Rattle.elf_write.specs.NewSegments.{area_segment, inserted}
-use Rattle.elf_write.specs.Room.{greatest_align}
+use Rattle.area_room.specs.Room.{greatest_align}
 use Rattle.elf_write.proofs.segments.Places.segments.Goals as goal
 
 pub returns-then-not-self : goal.returns-then-not-self

@@ -1,0 +1,3 @@
+pub mod Need
+pub mod Room
+pub mod RoomFault

@@ -1,6 +1,0 @@
-use Rattle.std.proofs.Common.{◌≡◌, ◌<◌, ◌^◌, take}
-use Rattle.elf_write.specs.Room.{highest_end}
-use Rattle.elf_write.proofs.capacity.highest_end.Given as goal
-
-abbrev pub invariant-loop-p : goal.invariant-loop-p
-invariant-loop-p l = (l.end ≡ highest_end (take l.p-index l.segments)) × (l.end < 2 ^ 65)

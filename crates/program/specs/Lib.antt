@@ -1,0 +1,6 @@
+pub mod Limits
+pub mod Program
+pub mod Refusals
+pub mod Room
+pub mod Tables
+pub mod internal

@@ -1,0 +1,54 @@
+-- A file that was read, with its code and its blocks.
+use Rattle.std.specs.Prelude.{◌≤◌, ℕ, List, [], length}
+use Rattle.rv_code.specs.declared.placed.Block.{Block}
+use Rattle.rv_code.specs.declared.placed.Func.{Func}
+use Rattle.rv_code.specs.layout.Blocks.{AreBlocks}
+use Rattle.rv_code.specs.layout.ProgramCode.{ProgramCode}
+use Rattle.elf_image.specs.declared.elf.Elf.{Elf}
+use Rattle.elf_image.specs.faults.FileFaults.{IsSound}
+use Rattle.elf_image.specs.file.ParsedFile.{IsElfOf}
+use Rattle.elf_code.specs.CodeFaults.{HasCodeFault}
+use Rattle.elf_code.specs.FileCode.{IsCodeOf}
+use Rattle.rb_bytes.specs.FirstFault.{IsFree}
+use Rattle.rv_reloc.specs.declared.refs.Refs.{Refs}
+use Rattle.cfg_build.specs.NamedAddresses.{code_of}
+use Rattle.program.specs.Limits.{file_limit}
+use Rattle.program.specs.Tables.{HasUnbuilt}
+use Rattle.program.specs.declared.program.Program.{Program as ReadProgram}
+use Rattle.program.specs.declared.unbuilt.Unbuilt.{Unbuilt}
+
+-- The ranges of code that have exception tables.
+-- None is known yet, since files with unwind tables are refused.
+abbrev pub tabled : List (ℕ × ℕ)
+tabled = []
+
+pub record Program : Type 0 where
+  -- the file as its reader keeps it
+  pub elf : Elf
+  pub code : ProgramCode
+  pub blocks : List Block
+
+-- a program by what the code keeps of it
+abbrev pub program_of : Elf → List Func → Refs → List Block → Program
+program_of elf funcs refs blocks = record { elf = elf; code = code_of funcs refs elf.entry; blocks = blocks }
+
+abbrev pub program_seen : ReadProgram → Program
+program_seen read = program_of read.elf read.funcs.items read.refs read.blocks.items
+
+-- a file within the limit in which the reader finds nothing wrong, without tables with which a command can't deal
+pub record IsPlain (unbuilt : Unbuilt) (file : List ℕ) : Type 0 where
+  pub fits : length file ≤ file_limit
+  pub sound : IsSound file
+  pub no_tables : HasUnbuilt unbuilt file → ⊥
+
+-- such a file as its reader keeps it, in whose code no fault is present
+pub record IsFaultless (unbuilt : Unbuilt) (file : List ℕ) (elf : Elf) : Type 0 where
+  pub plain : IsPlain unbuilt file
+  pub read : IsElfOf file elf
+  pub no_fault : IsFree (HasCodeFault elf tabled)
+
+-- the program of such a file
+pub record IsProgramOf (unbuilt : Unbuilt) (file : List ℕ) (x : Program) : Type 0 where
+  pub faultless : IsFaultless unbuilt file x.elf
+  pub code_is : IsCodeOf x.elf tabled x.code
+  pub blocks_are : AreBlocks x.code x.blocks

@@ -1,0 +1,24 @@
+-- Where the new code of a program goes.
+use Rattle.std.specs.Prelude.{◌≡◌, ℕ, Bool, Option, Some}
+use Rattle.rb_bytes.specs.declared.fault.Fault.{Fault}
+use Rattle.area_room.specs.Room.{area_start_of}
+use Rattle.area_room.specs.Need.{need}
+use Rattle.area_room.specs.Room.{is_tight}
+use Rattle.area_room.specs.RoomFault.{no_room}
+use Rattle.program.specs.Program.{Program}
+
+-- how many bytes it takes at most
+abbrev pub needed_bytes : Program → ℕ
+needed_bytes x = need x.elf x.code.funcs x.blocks
+
+-- the fault of a program whose new code has no room anywhere
+abbrev pub no_program_room : Program → Option Fault
+no_program_room x = no_room x.elf.segments.items (needed_bytes x)
+
+-- the new code has no room behind the executable segment
+abbrev pub is_tight_program : Program → Bool
+is_tight_program x = is_tight x.elf.segments.items (needed_bytes x)
+
+-- where the new code starts
+abbrev pub new_start : Program → ℕ
+new_start x = area_start_of x.elf.segments.items (is_tight_program x)

@@ -1,0 +1,61 @@
+// Limits on files and on their code.
+ghost use Rattle.std.specs.Prelude.{ℕ, ◌≡◌, ◌↔◌, IfErr, IsTrue, OnOk};
+ghost use Rattle.elf_image.specs.file.ParsedFile.{IsElfOf};
+ghost use Rattle.program.specs.Limits.{HasTooMuchCode, IsCodeTooLarge, IsLimitFault};
+ghost use Rattle.program.specs.Refusals.{IsRefusalFor};
+ghost use Rattle.program.specs.internal.ReadSections.{section_code_bytes};
+
+use elf_image::{Elf, Section};
+use rb_bytes::fault::{Fault, FaultKind, Refusal};
+use rv_code::Func;
+
+/// The most bytes of a file, and of a profile: 64 MiB.
+pub const FILE_LIMIT: usize = 64 * 1024 * 1024;
+
+/// The most bytes that the sections of code may have together.
+const CODE_LIMIT: u64 = 16 * 1024 * 1024;
+
+/// The most functions that a file may have.
+const FUNCTION_LIMIT: usize = 200_000;
+
+// How many bytes of code a section has.
+fn code_bytes(section: &Section<'_>) -> u64
+    ensures { result ≡ section_code_bytes section.now }
+{
+    if section.holds_code() {
+        section.size
+    } else {
+        0
+    }
+}
+
+/// Whether the sections of code have more bytes together than the limit.
+pub fn has_too_much_code(elf: &Elf<'_>) -> bool
+    requires { IsElfOf elf.now.file.now elf.now }
+    ensures { IsTrue result ↔ HasTooMuchCode elf.now.file.now }
+{
+    let mut room = CODE_LIMIT;
+    for section in &elf.sections {
+        let size = code_bytes(section);
+        if size > room {
+            return true;
+        }
+        room -= size;
+    }
+    false
+}
+
+/// Refuses a file whose code passes a limit: `TooLarge` at 2 for its size, or at 3 for its functions.
+pub fn check_code(elf: &Elf<'_>, funcs: &[Func]) -> Result<(), Refusal>
+    requires { IsElfOf elf.now.file.now elf.now }
+    ensures within { OnOk result ((place : ℕ) → IsCodeTooLarge elf.now.file.now funcs.now place → ⊥) }
+    ensures refused { IfErr result (IsRefusalFor (IsLimitFault (IsCodeTooLarge elf.now.file.now funcs.now))) }
+{
+    if has_too_much_code(elf) {
+        return Err(Refusal::Fault(Fault::at(FaultKind::TooLarge, 2)));
+    }
+    if funcs.len() > FUNCTION_LIMIT {
+        return Err(Refusal::Fault(Fault::at(FaultKind::TooLarge, 3)));
+    }
+    Ok(())
+}

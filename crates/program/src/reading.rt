@@ -1,0 +1,38 @@
+// Programs are read.
+ghost use Rattle.std.specs.Prelude.{◌≤◌, IfErr, IfOk, length};
+ghost use Rattle.program.specs.Limits.{file_limit};
+ghost use Rattle.program.specs.Program.{IsProgramOf, program_seen};
+ghost use Rattle.program.specs.Refusals.{IsRefusalFor, IsUnreadable};
+
+use crate::program::Program;
+use crate::tables::has_unbuilt;
+use crate::unbuilt::Unbuilt;
+use rb_bytes::fault::{Fault, FaultKind, Refusal};
+use std::alloc::Global;
+
+/// Reads a file with its code, or says which of the faults 1 to 17 is present, the one with the lowest number at its lowest
+/// place; or `NotBuilt`. No range of the code is taken to have an exception table.
+pub fn read_program<'file>(
+    alloc: Global,
+    file: &'file [u8],
+    unbuilt: Unbuilt,
+) -> Result<Program<'file>, Refusal>
+    requires { length file.now ≤ file_limit }
+    ensures program { IfOk result (λ program. IsProgramOf unbuilt file.now (program_seen program)) }
+    ensures fault { IfErr result (IsRefusalFor (IsUnreadable unbuilt file.now)) }
+{
+    let elf = elf_image::read(alloc, file)?;
+    if has_unbuilt(&elf, unbuilt) {
+        return Err(Refusal::Fault(Fault::at(FaultKind::NotBuilt, 0)));
+    }
+    let starts = rv_reloc::starts(alloc, &elf)?;
+    let refs = rv_reloc::references(alloc, &elf, &starts, &[])?;
+    let funcs = func_find::functions(alloc, &elf, &starts, &refs, &[])?;
+    let blocks = cfg_build::blocks(alloc, &funcs, &refs, elf.entry)?;
+    Ok(Program {
+        elf,
+        funcs,
+        refs,
+        blocks,
+    })
+}

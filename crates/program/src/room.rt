@@ -1,0 +1,39 @@
+// Where the new code of a program goes.
+ghost use Rattle.std.specs.Prelude.{◌≡◌, ◌<◌, IfErr, IfOk, None, OnOk, Some};
+ghost use Rattle.area_room.specs.Need.{HasNoFrames};
+ghost use Rattle.program.specs.Program.{program_seen};
+ghost use Rattle.program.specs.Refusals.{IsRefusalFor};
+ghost use Rattle.program.specs.Room as spec;
+
+use crate::program::Program;
+use area_room::{area_start_of, need, no_room};
+use rb_bytes::fault::{NoMemory, Refusal};
+use std::alloc::Global;
+
+/// Whether the new code has no room behind the executable segment, so that it gets a segment of its own. The file has no
+/// unwind table with contents.
+pub fn is_tight(alloc: Global, program: &Program<'_>) -> Result<bool, NoMemory>
+    requires { HasNoFrames program.now.elf }
+    ensures { IfOk result (λ tight. tight ≡ spec.is_tight_program (program_seen program.now)) }
+{
+    let need = need(alloc, &program.elf, &program.funcs, &program.blocks)?;
+    Ok(area_room::is_tight(&program.elf, need))
+}
+
+/// Where the new code starts, or the fault `NoRoom`. The file has no unwind table with contents.
+pub fn new_start(alloc: Global, program: &Program<'_>) -> Result<u64, Refusal>
+    requires { HasNoFrames program.now.elf }
+    ensures start { IfOk result (λ start. start ≡ spec.new_start (program_seen program.now)) }
+    ensures some { IfOk result (λ start. 0 < start) }
+    ensures room { OnOk result (spec.no_program_room (program_seen program.now) ≡ None) }
+    ensures refused { IfErr result (IsRefusalFor (λ fault. spec.no_program_room (program_seen program.now) ≡ Some fault)) }
+{
+    let elf = &program.elf;
+    let need = need(alloc, elf, &program.funcs, &program.blocks)?;
+    match no_room(elf, need) {
+        Some(fault) => return Err(Refusal::Fault(fault)),
+        None => {}
+    }
+    let start = area_start_of(&elf.segments, area_room::is_tight(elf, need)).ok_or(NoMemory)?;
+    Ok(start)
+}
