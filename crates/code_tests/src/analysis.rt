@@ -1,20 +1,15 @@
-// What all calls together find in a file, and what several tests put into files and expect of them.
+// What all calls together find in a file, and rows of tables with what is to be found.
 use elf_image::read;
 use func_find::functions;
-use rb_bytes::fault::{FaultKind, Refusal};
+use rb_bytes::fault::Refusal;
+use rb_bytes::text::put_hex;
 use rv_code::cell::{CellKind, CodeCell};
 use rv_code::{Func, Role};
 use rv_reloc::{Refs, references, starts};
 use std::alloc::Global;
+use std::process::Abort;
 use std::test::Fail;
-use test_files::shapes::CODE;
-use test_files::{Section, exit7_code, of_section, program};
-
-/// The address of the first instruction, as a relocation's addend.
-pub const CODE_ADDEND: i64 = CODE as i64;
-
-/// Where a field behind the four instructions of the smallest example stands.
-pub const FIELD: u64 = CODE + 16;
+use test_files::words::{Row, file_in_words, ranges, rows};
 
 /// The code of a file.
 #[derive(Drop)]
@@ -25,7 +20,7 @@ pub struct Analysis {
 }
 
 /// Reads a file and finds its code.
-pub fn analyse(alloc: Global, file: &[u8], whole: &[(u64, u64)]) -> Result<Analysis, Refusal> {
+fn analyse(alloc: Global, file: &[u8], whole: &[(u64, u64)]) -> Result<Analysis, Refusal> {
     let elf = read(alloc, file)?;
     let starts = starts(alloc, &elf)?;
     let refs = references(alloc, &elf, &starts, whole)?;
@@ -37,66 +32,137 @@ pub fn analyse(alloc: Global, file: &[u8], whole: &[(u64, u64)]) -> Result<Analy
     })
 }
 
-/// What is found in a file that is not refused.
-pub fn accepted(alloc: Global, file: &[u8], whole: &[(u64, u64)]) -> Result<Analysis, Fail> {
-    match analyse(alloc, file, whole) {
-        Ok(analysis) => Ok(analysis),
-        Err(_) => Err(Fail::new("refused")),
+fn put_word(text: &mut Vec<u8>, word: &str) -> Result<(), Fail> {
+    text.extend_from_slice(word.as_bytes())?;
+    Ok(())
+}
+
+/// Numbers in hexadecimal, each behind a space.
+pub fn put_numbers(text: &mut Vec<u8>, numbers: &[u64]) -> Result<(), Fail> {
+    for number in numbers {
+        text.push(b' ')?;
+        put_hex(text, *number)?;
+    }
+    Ok(())
+}
+
+// An instruction's address and role: the target, and the AUIPC of a lower part.
+fn put_role(text: &mut Vec<u8>, place: u64, role: Role) -> Result<(), Fail> {
+    let (name, target, hi) = match role {
+        Role::Plain => (" Plain", 0, None),
+        Role::CallHi { target } => (" CallHi", target, None),
+        Role::CallLo { hi, target } => (" CallLo", target, Some(hi)),
+        Role::Hi { target } => (" Hi", target, None),
+        Role::Lo { hi, target } => (" Lo", target, Some(hi)),
+        Role::AbsHi { target } => (" AbsHi", target, None),
+        Role::AbsLo { target } => (" AbsLo", target, None),
+    };
+    put_numbers(text, &[place])?;
+    put_word(text, name)?;
+    put_numbers(text, &[target])?;
+    match hi {
+        Some(hi) => put_numbers(text, &[hi]),
+        None => Ok(()),
     }
 }
 
-/// The kind and place of what refuses a file, of which these ranges have exception tables.
-pub fn refused_with(alloc: Global, file: &[u8], whole: &[(u64, u64)]) -> Option<(FaultKind, u64)> {
-    match analyse(alloc, file, whole) {
-        Ok(_) => None,
-        Err(Refusal::Fault(fault)) => Some((fault.kind, fault.place)),
-        Err(Refusal::Memory) => None,
+// A cell's address, its width, and its address or the distance of two.
+fn put_cell(text: &mut Vec<u8>, cell: &CodeCell) -> Result<(), Fail> {
+    put_numbers(text, &[cell.addr, cell.width as u64])?;
+    match cell.kind {
+        CellKind::Abs { to } => put_numbers(text, &[to]),
+        CellKind::Diff { to, from } => put_numbers(text, &[to, from]),
     }
 }
 
-/// The kind and place of what refuses a file without exception tables.
-pub fn refused(alloc: Global, file: &[u8]) -> Option<(FaultKind, u64)> {
-    refused_with(alloc, file, &[])
-}
-
-/// The smallest example with a field behind its code, to which these relocations apply, by their types and addends.
-pub fn data_file(alloc: Global, field: &[u8], relocations: &[(u32, i64)]) -> Result<Vec<u8>, Fail> {
-    let code = exit7_code(alloc)?;
-    let mut file = program(alloc, &code, &[Section::loaded(b".rodata", FIELD, field)])?;
-    for (kind, addend) in relocations {
-        file.relocations
-            .push(of_section(b".rodata", FIELD, *kind, b"", *addend))?;
+// Where a function begins and ends, and whether it moves as one piece.
+fn put_extent(text: &mut Vec<u8>, func: &Func) -> Result<(), Fail> {
+    put_numbers(text, &[func.start, func.end])?;
+    if func.whole {
+        put_word(text, " whole")?;
     }
-    Ok(file.build(alloc)?)
+    Ok(())
 }
 
-/// The roles of an AUIPC and of the instruction with the lower part of its target.
-pub fn pair_roles(hi: u64, lo: u64, target: u64) -> [(u64, Role); 2] {
-    [(hi, Role::Hi { target }), (lo, Role::Lo { hi, target })]
+fn put_instructions(alloc: Global, text: &mut Vec<u8>, func: &Func) -> Result<(), Fail> {
+    for placed in &func.insts {
+        put_numbers(text, &[placed.addr])?;
+        let shown = format!(in alloc; " {:?}", placed.inst)?;
+        put_word(text, &shown)?;
+    }
+    Ok(())
 }
 
-/// The roles of the two instructions of a call.
-pub fn call_roles(hi: u64, lo: u64, target: u64) -> [(u64, Role); 2] {
-    [
-        (hi, Role::CallHi { target }),
-        (lo, Role::CallLo { hi, target }),
-    ]
+// Appends the items of a list of what was found.
+fn put_list(alloc: Global, text: &mut Vec<u8>, found: &Analysis, name: &str) -> Result<(), Fail> {
+    if name == "starts" {
+        put_numbers(text, &found.starts)?;
+    } else if name == "roles" {
+        for (place, role) in &found.refs.roles {
+            put_role(text, *place, *role)?;
+        }
+    } else if name == "cells" {
+        for cell in &found.refs.cells {
+            put_cell(text, cell)?;
+        }
+    }
+    for func in &found.funcs {
+        if name == "functions" {
+            put_extent(text, func)?;
+        } else if name == "instructions" {
+            put_instructions(alloc, text, func)?;
+        }
+    }
+    Ok(())
 }
 
-/// A field of so many bytes with a code address.
-pub fn address_cell(addr: u64, width: u8, to: u64) -> CodeCell {
-    CodeCell {
-        addr,
-        width,
-        kind: CellKind::Abs { to },
+// What comes of a file in the words of what is wanted: the fault and its place, or the list of that name.
+fn put_answer(
+    alloc: Global,
+    text: &mut Vec<u8>,
+    answer: &Result<Analysis, Refusal>,
+    name: &str,
+) -> Result<(), Fail> {
+    match answer {
+        Ok(found) => {
+            put_word(text, name)?;
+            put_list(alloc, text, found, name)
+        }
+        Err(Refusal::Fault(fault)) => {
+            put_word(text, "refused ")?;
+            put_word(text, fault.kind.name())?;
+            put_numbers(text, &[fault.place])
+        }
+        Err(Refusal::Memory) => put_word(text, "no memory"),
     }
 }
 
-/// A field of so many bytes with the difference of two labels.
-pub fn difference_cell(addr: u64, width: u8, to: u64, from: u64) -> CodeCell {
-    CodeCell {
-        addr,
-        width,
-        kind: CellKind::Diff { to, from },
+fn check_row(rt: &impl Abort, alloc: Global, row: &Row<'_>) -> Result<(), Fail> {
+    let file = file_in_words(alloc, &row.words);
+    assert!(rt; file.is_ok(), "{}", row.words);
+    let file = file?;
+    let whole = ranges(alloc, &row.words)?;
+    let answer = analyse(alloc, &file, &whole);
+    for wanted in row.wanted.split(" | ") {
+        let wanted = wanted.trim_ascii();
+        let name = wanted.split(' ').next().unwrap_or("");
+        let mut text = Vec::new(alloc);
+        put_answer(alloc, &mut text, &answer, name)?;
+        assert_eq!(rt; str::from_utf8(&text)?, wanted, "{}", row.words);
     }
+    Ok(())
+}
+
+/// In the files of a table is found what its rows say: the fault that refuses a file, or lists of
+///
+/// - `starts`: addresses of instructions
+/// - `roles`: address, role, target, and the address of the AUIPC of a lower part
+/// - `cells`: address, width, and the address or the labels whose distance it is
+/// - `functions`: start, end, and whether it is `whole`
+/// - `instructions`: address and instruction
+pub fn check_rows(rt: &impl Abort, alloc: Global, table: &str) -> Result<(), Fail> {
+    for row in &rows(alloc, table)? {
+        check_row(rt, alloc, row)?;
+    }
+    Ok(())
 }

@@ -1,4 +1,4 @@
-//! Tests of references and functions on small executables, against values that were worked out by hand.
+//! Tests of references, functions, blocks and edges on small executables, against values that were worked out by hand.
 #![tactic(auto)]
 
 #[cfg(test)]
@@ -11,6 +11,8 @@ mod cells;
 mod found;
 #[cfg(test)]
 mod functions;
+#[cfg(test)]
+mod layout;
 #[cfg(test)]
 mod refused;
 #[cfg(test)]

@@ -1,16 +1,31 @@
 // Where instructions start, also in parts that are no function.
 use elf_image::read;
-use rv_code::Width;
 use rv_reloc::starts;
 use std::alloc::Global;
+use std::process::Abort;
 use std::test::Fail;
-use test_files::inst::{A0, addi};
-use test_files::shapes::CODE;
-use test_files::{Symbol, exit7_code, program, push_code};
+use test_files::words::{Row, file_in_words, hexadecimal, rows};
+
+const STARTS: &str = "\
+# The smallest example, 37 05 00 00, 13 05 75 00, 93 08 d0 05, 73 00 00 00, with a function's symbol in its first
+# instruction.
+code .text 10078 lui a0,0; addi a0,a0,7; exit
+- function f 10079 0 => 10078 10079 1007b 1007d 1007f 10081 10083 10085 10087
+- function f 1007a 0 => 10078 1007a 1007c 10080 10084";
+
+// How many starts there are, and the last two of them.
+const LAST_STARTS: &str = "\
+# Instructions of two bytes, one of four around the 64th halfword, before it, in it and behind it, and one of two: the first
+# byte of each is 05 or 13.
+- code .text 10078 .rept 62 .half 0505; addi a0,a0,1; .half 0505 => 40 100f4 100f8
+- code .text 10078 .rept 63 .half 0505; addi a0,a0,1; .half 0505 => 41 100f6 100fa
+- code .text 10078 .rept 64 .half 0505; addi a0,a0,1; .half 0505 => 42 100f8 100fc
+- code .text 10078 .rept 127 .half 0505; addi a0,a0,1; .half 0505 => 81 10176 1017a";
 
 // The starts of the instructions of a file that is read.
-fn starts_in(alloc: Global, file: &[u8]) -> Result<Vec<u64>, Fail> {
-    let Ok(elf) = read(alloc, file) else {
+fn starts_in(alloc: Global, row: &Row<'_>) -> Result<Vec<u64>, Fail> {
+    let file = file_in_words(alloc, &row.words)?;
+    let Ok(elf) = read(alloc, &file) else {
         return Err(Fail::new("not read"));
     };
     match starts(alloc, &elf) {
@@ -19,58 +34,35 @@ fn starts_in(alloc: Global, file: &[u8]) -> Result<Vec<u64>, Fail> {
     }
 }
 
-// So many instructions of two bytes, one of four, and one of two: the first byte of each is 05 or 13.
-fn long_file(alloc: Global, count: usize) -> Result<Vec<u8>, Fail> {
-    let inst = addi(A0, A0, 1);
-    let mut code = Vec::new(alloc);
-    for _ in 0..count {
-        push_code(&mut code, &[inst], Width::Half)?;
+// The numbers that a row wants.
+fn wanted(alloc: Global, row: &Row<'_>) -> Result<Vec<u64>, Fail> {
+    let mut numbers = Vec::new(alloc);
+    for number in row.wanted.split(' ') {
+        numbers.push(hexadecimal(number)?)?;
     }
-    push_code(&mut code, &[inst], Width::Full)?;
-    push_code(&mut code, &[inst], Width::Half)?;
-    Ok(program(alloc, &code, &[])?.build(alloc)?)
+    Ok(numbers)
 }
 
-// An instruction of four bytes around the 64th halfword, before it, in it and behind it.
 #[test]
-fn a_long_part(rt: HostRuntime) -> Result<(), Fail> {
-    for (count, four, last) in [
-        (62, 0x100f4, 0x100f8),
-        (63, 0x100f6, 0x100fa),
-        (64, 0x100f8, 0x100fc),
-        (127, 0x10176, 0x1017a),
-    ] {
-        let file = long_file(rt.alloc(), count)?;
-        let found = starts_in(rt.alloc(), &file)?;
-        assert_eq!(rt; found.len(), count + 2, "{count}");
-        assert_eq!(rt; found.get(count), Some(&four), "{count}");
-        assert_eq!(rt; found.last(), Some(&last), "{count}");
+fn parts_within_instructions(rt: HostRuntime) -> Result<(), Fail> {
+    for row in &rows(rt.alloc(), STARTS)? {
+        let found = starts_in(rt.alloc(), row)?;
+        let wanted = wanted(rt.alloc(), row)?;
+        assert_eq!(rt; found.as_slice(), wanted.as_slice(), "{}", row.words);
     }
     Ok(())
 }
 
-// The smallest example, 37 05 00 00, 13 05 75 00, 93 08 d0 05, 73 00 00 00, with a function's symbol in its first instruction.
 #[test]
-fn parts_within_instructions(rt: HostRuntime) -> Result<(), Fail> {
-    let odd = [
-        CODE,
-        CODE + 1,
-        CODE + 3,
-        CODE + 5,
-        CODE + 7,
-        CODE + 9,
-        CODE + 11,
-        CODE + 13,
-        CODE + 15,
-    ];
-    let even = [CODE, CODE + 2, CODE + 4, CODE + 8, CODE + 12];
-    for (cut, wanted) in [(CODE + 1, odd.as_slice()), (CODE + 2, even.as_slice())] {
-        let code = exit7_code(rt.alloc())?;
-        let mut file = program(rt.alloc(), &code, &[])?;
-        file.symbols.push(Symbol::function(b"f", cut, 0))?;
-        let bytes = file.build(rt.alloc())?;
-        let found = starts_in(rt.alloc(), &bytes)?;
-        assert_eq!(rt; found.as_slice(), wanted, "{cut}");
+fn a_long_part(rt: HostRuntime) -> Result<(), Fail> {
+    for row in &rows(rt.alloc(), LAST_STARTS)? {
+        let found = starts_in(rt.alloc(), row)?;
+        let mut last = Vec::from_slice(rt.alloc(), &[found.len() as u64])?;
+        for start in found.iter().skip(found.len().saturating_sub(2)) {
+            last.push(*start)?;
+        }
+        let wanted = wanted(rt.alloc(), row)?;
+        assert_eq!(rt; last.as_slice(), wanted.as_slice(), "{}", row.words);
     }
     Ok(())
 }

@@ -5,7 +5,30 @@ use rb_bytes::fault::{Fault, FaultKind, NoMemory, Refusal};
 use rb_bytes::gap::Gap;
 use rb_bytes::leb::{put_sleb, put_uleb};
 use rb_bytes::text::{put_decimal, put_hex};
+use std::alloc::Global;
 use std::test::Fail;
+use test_files::words::push_bytes;
+
+// An unsigned number, and its bytes.
+const UNSIGNED: &str = "\
+2 02
+127 7f
+128 8001
+129 8101
+12857 b964
+18446744073709551615 ffffffffffffffffff01";
+
+// A signed number, and its bytes.
+const SIGNED: &str = "\
+2 02
+-2 7e
+127 ff00
+-127 817f
+128 8001
+-128 807f
+129 8101
+-129 ff7e
+-9223372036854775808 8080808080808080807f";
 
 /// The unsigned number at the front, and how many bytes it has.
 fn read_unsigned(bytes: &[u8]) -> Result<(u64, usize), Gap> {
@@ -21,94 +44,117 @@ fn read_signed(bytes: &[u8]) -> Result<(i64, usize), Gap> {
     Ok((number, cursor.place()))
 }
 
+fn bytes_of(alloc: Global, digits: &str) -> Result<Vec<u8>, Fail> {
+    let mut bytes = Vec::new(alloc);
+    push_bytes(&mut bytes, digits)?;
+    Ok(bytes)
+}
+
 #[test]
 fn unsigned_examples_of_the_standard(rt: HostRuntime) -> Result<(), Fail> {
-    let examples: [(u64, &[u8]); 6] = [
-        (2, &[0x02]),
-        (127, &[0x7f]),
-        (128, &[0x80, 0x01]),
-        (129, &[0x81, 0x01]),
-        (12857, &[0xb9, 0x64]),
-        (
-            u64::MAX,
-            &[0xff, 0xff, 0xff, 0xff, 0xff, 0xff, 0xff, 0xff, 0xff, 0x01],
-        ),
-    ];
-    for (number, spelling) in examples {
-        let mut out = vec![in rt.alloc(); 7u8]?;
+    for line in UNSIGNED.lines() {
+        let (number, digits) = line.split_once(' ').ok_or("no bytes")?;
+        let number = number.parse::<u64>()?;
+        let spelling = bytes_of(rt.alloc(), digits)?;
+        let mut out = bytes_of(rt.alloc(), "07")?;
         put_uleb(&mut out, number)?;
-        assert_eq!(rt; out.as_slice().get(1..), Some(spelling));
-        assert_eq!(rt; read_unsigned(spelling), Ok((number, spelling.len())));
+        assert!(rt;
+            out.as_slice().get(1..) == Some(spelling.as_slice()),
+            "{line}"
+        );
+        assert!(rt;
+            read_unsigned(&spelling) == Ok((number, spelling.len())),
+            "{line}"
+        );
     }
     Ok(())
 }
 
 #[test]
 fn signed_examples_of_the_standard(rt: HostRuntime) -> Result<(), Fail> {
-    let examples: [(i64, &[u8]); 9] = [
-        (2, &[0x02]),
-        (-2, &[0x7e]),
-        (127, &[0xff, 0x00]),
-        (-127, &[0x81, 0x7f]),
-        (128, &[0x80, 0x01]),
-        (-128, &[0x80, 0x7f]),
-        (129, &[0x81, 0x01]),
-        (-129, &[0xff, 0x7e]),
-        (
-            i64::MIN,
-            &[0x80, 0x80, 0x80, 0x80, 0x80, 0x80, 0x80, 0x80, 0x80, 0x7f],
-        ),
-    ];
-    for (number, spelling) in examples {
-        let mut out = vec![in rt.alloc(); 7u8]?;
+    for line in SIGNED.lines() {
+        let (number, digits) = line.split_once(' ').ok_or("no bytes")?;
+        let number = number.parse::<i64>()?;
+        let spelling = bytes_of(rt.alloc(), digits)?;
+        let mut out = bytes_of(rt.alloc(), "07")?;
         put_sleb(&mut out, number)?;
-        assert_eq!(rt; out.as_slice().get(1..), Some(spelling));
-        assert_eq!(rt; read_signed(spelling), Ok((number, spelling.len())));
+        assert!(rt;
+            out.as_slice().get(1..) == Some(spelling.as_slice()),
+            "{line}"
+        );
+        assert!(rt;
+            read_signed(&spelling) == Ok((number, spelling.len())),
+            "{line}"
+        );
     }
     Ok(())
 }
 
+// Unsigned and signed numbers that are longer than need be, with something after them; whose bytes end first; and with one
+// more bit than 64 hold.
+const SPELLINGS: &str = "\
+unsigned 85808080808080808080800099 Ok((5, 12))
+signed ffff7f99 Ok((-1, 3))
+unsigned  Err(Short)
+unsigned 80ff Err(Short)
+signed 80 Err(Short)
+unsigned 80808080808080808002 Err(Wide)
+signed 80808080808080808001 Err(Wide)
+unsigned 80808080808080808001 Ok((9223372036854775808, 10))";
+
 #[test]
-fn long_short_and_wide_spellings(rt: HostRuntime) {
-    // Longer than need be, with something after it.
-    let long = [
-        0x85, 0x80, 0x80, 0x80, 0x80, 0x80, 0x80, 0x80, 0x80, 0x80, 0x80, 0x00, 0x99,
-    ];
-    assert_eq!(rt; read_unsigned(&long), Ok((5, 12)));
-    assert_eq!(rt; read_signed(&[0xff, 0xff, 0x7f, 0x99]), Ok((-1, 3)));
+fn long_short_and_wide_spellings(rt: HostRuntime) -> Result<(), Fail> {
+    for line in SPELLINGS.lines() {
+        let (kind, rest) = line.split_once(' ').ok_or("no bytes")?;
+        let (digits, wanted) = rest.split_once(' ').ok_or("no number")?;
+        let bytes = bytes_of(rt.alloc(), digits)?;
+        let shown = if kind == "signed" {
+            format!(in rt.alloc(); "{:?}", read_signed(&bytes))?
+        } else {
+            format!(in rt.alloc(); "{:?}", read_unsigned(&bytes))?
+        };
+        assert_eq!(rt; shown.as_str(), wanted, "{line}");
+    }
+    Ok(())
+}
 
-    // The bytes end first.
-    assert_eq!(rt; read_unsigned(&[]), Err(Gap::Short));
-    assert_eq!(rt; read_unsigned(&[0x80, 0xff]), Err(Gap::Short));
-    assert_eq!(rt; read_signed(&[0x80]), Err(Gap::Short));
+// What a cursor reads in turn, and its place and what is left. What is refused moves nothing.
+const STEPS: &str = "\
+u8 Ok(1)
+u16 Ok(770)
+u32 Ok(117835012)
+u64 Ok(1084818905618843912)
+text Ok([97, 98])
+place (18, 1)
+u16 Err(Short)
+text Err(Short)
+take2 Err(Short)
+take1 Ok([99])
+place (19, 0)";
 
-    // One more than 64 bits hold.
-    let unsigned = [0x80, 0x80, 0x80, 0x80, 0x80, 0x80, 0x80, 0x80, 0x80, 0x02];
-    assert_eq!(rt; read_unsigned(&unsigned), Err(Gap::Wide));
-    let signed = [0x80, 0x80, 0x80, 0x80, 0x80, 0x80, 0x80, 0x80, 0x80, 0x01];
-    assert_eq!(rt; read_signed(&signed), Err(Gap::Wide));
-    assert_eq!(rt; read_unsigned(&signed), Ok((1 << 63, 10)));
+fn step(alloc: Global, cursor: &mut Cursor<'_>, kind: &str) -> Result<String, Fail> {
+    let shown = match kind {
+        "u8" => format!(in alloc; "{:?}", cursor.u8())?,
+        "u16" => format!(in alloc; "{:?}", cursor.u16())?,
+        "u32" => format!(in alloc; "{:?}", cursor.u32())?,
+        "u64" => format!(in alloc; "{:?}", cursor.u64())?,
+        "text" => format!(in alloc; "{:?}", cursor.text())?,
+        "take1" => format!(in alloc; "{:?}", cursor.take(1))?,
+        "take2" => format!(in alloc; "{:?}", cursor.take(2))?,
+        _ => format!(in alloc; "{:?}", (cursor.place(), cursor.left()))?,
+    };
+    Ok(shown)
 }
 
 #[test]
 fn a_cursor_goes_on_where_it_stopped(rt: HostRuntime) -> Result<(), Fail> {
-    let bytes = [
-        1, 2, 3, 4, 5, 6, 7, 8, 9, 10, 11, 12, 13, 14, 15, b'a', b'b', 0, b'c',
-    ];
+    let bytes = bytes_of(rt.alloc(), "0102030405060708090a0b0c0d0e0f61620063")?;
     let mut cursor = Cursor::new(&bytes);
-    assert_eq!(rt; cursor.u8()?, 1);
-    assert_eq!(rt; cursor.u16()?, 0x0302);
-    assert_eq!(rt; cursor.u32()?, 0x0706_0504);
-    assert_eq!(rt; cursor.u64()?, 0x0f0e_0d0c_0b0a_0908);
-    assert_eq!(rt; cursor.text()?, b"ab".as_slice());
-    assert_eq!(rt; (cursor.place(), cursor.left()), (18, 1));
-
-    // What is refused moves nothing.
-    assert_eq!(rt; cursor.u16(), Err(Gap::Short));
-    assert_eq!(rt; cursor.text(), Err(Gap::Short));
-    assert_eq!(rt; cursor.take(2), Err(Gap::Short));
-    assert_eq!(rt; cursor.take(1)?, b"c".as_slice());
-    assert_eq!(rt; (cursor.place(), cursor.left()), (19, 0));
+    for line in STEPS.lines() {
+        let (kind, wanted) = line.split_once(' ').ok_or("no answer")?;
+        let shown = step(rt.alloc(), &mut cursor, kind)?;
+        assert_eq!(rt; shown.as_str(), wanted, "{line}");
+    }
     Ok(())
 }
 
@@ -122,7 +168,7 @@ fn numbers_as_text(rt: HostRuntime) -> Result<(), Fail> {
         out.push(b'\n')?;
     }
     let want = b"0 0\n7fff0000 2147418112\nffffffffffffffff 18446744073709551615\n";
-    assert_eq!(rt; out.as_slice(), want.as_slice());
+    assert!(rt; out.as_slice() == want.as_slice());
     Ok(())
 }
 
@@ -136,17 +182,10 @@ fn refused_or_spelled(out: &mut Vec<u8>, kind: FaultKind) -> Result<(), Refusal>
 #[test]
 fn faults_are_named(rt: HostRuntime) -> Result<(), Fail> {
     let mut out = Vec::new(rt.alloc());
-    let fault = Fault {
-        kind: FaultKind::BareAuipc,
-        place: 0x1c,
-        need: 0,
-        room: 0,
-    };
-    assert_eq!(rt;
-        refused_or_spelled(&mut out, FaultKind::BareAuipc),
-        Err(Refusal::Fault(fault))
-    );
-    assert_eq!(rt; out.as_slice(), b"16BareAuipc".as_slice());
-    assert_eq!(rt; Refusal::from(NoMemory), Refusal::Memory);
+    let refused = refused_or_spelled(&mut out, FaultKind::BareAuipc);
+    let shown = format!(in rt.alloc(); "{refused:?} {:?}", Refusal::from(NoMemory))?;
+    let wanted = "Err(Fault(Fault { kind: BareAuipc, place: 28, need: 0, room: 0 })) Memory";
+    assert!(rt; shown.as_str() == wanted);
+    assert!(rt; out.as_slice() == b"16BareAuipc".as_slice());
     Ok(())
 }

@@ -1,58 +1,27 @@
 // ELF files: symbols and their names, of a file with many.
-ghost use Rattle.std.specs.Prelude.{◌<◌};
-
 use crate::elf::refused;
-use elf_image::symbol::SYM_SIZE;
 use elf_image::{cuts, read};
 use rb_bytes::fault::FaultKind;
 use std::alloc::Global;
 use std::test::Fail;
 use test_files::bytes::patch;
-use test_files::inst::ECALL;
-use test_files::shapes::CODE;
-use test_files::{Symbol, assemble, program};
-
-const COUNT: u64 = 10_000;
-
-// How many bytes each name has.
-const NAME: usize = 6;
+use test_files::words::file_in_words;
 
 // Where the symbols stand, the first multiple of 8 behind the code, and how many bytes they have.
 const SYMBOLS_AT: u64 = 0x80;
 
-const SYMBOLS: u64 = SYM_SIZE as u64 * (COUNT + 1);
+const SYMBOLS: u64 = 24 * 10_001;
 
 // How many bytes their names have, which stand behind them, with a zero byte before and after each.
-const TEXTS: u64 = 1 + 7 * COUNT;
+const TEXTS: u64 = 1 + 7 * 10_000;
 
-// A digit of a number, by its power of ten.
-fn digit(number: u64, power: u64) -> u8
-    requires { 0 < power }
-{
-    b'0' + (number / power % 10) as u8
-}
-
-// f00000 to f09999, one after the other.
-fn names(alloc: Global) -> Result<Vec<u8>, Fail> {
-    let mut names = Vec::new(alloc);
-    for k in 0..COUNT {
-        names.push(b'f')?;
-        for power in [10_000, 1000, 100, 10, 1] {
-            names.push(digit(k, power))?;
-        }
-    }
-    Ok(names)
-}
-
-// An executable of one ECALL, with a symbol of each name, which is a function over that instruction.
+// An executable of one ECALL, with 10,000 functions over that instruction, f00000 to f09999.
 fn file_of_symbols(alloc: Global) -> Result<Vec<u8>, Fail> {
-    let code = assemble(alloc, &[ECALL])?;
-    let names = names(alloc)?;
-    let mut file = program(alloc, &code, &[])?;
-    for name in names.chunks(NAME) {
-        file.symbols.push(Symbol::function(name, CODE, 4))?;
+    let mut words = String::from_str(alloc, "code .text 10078 ecall")?;
+    for number in 0u32..10_000 {
+        words.push_str(&format!(in alloc; "\nfunction f{number:05} 10078 4")?)?;
     }
-    Ok(file.build(alloc)?)
+    Ok(file_in_words(alloc, &words)?)
 }
 
 #[test]
@@ -69,9 +38,9 @@ fn a_file_of_many_symbols(rt: HostRuntime) -> Result<(), Fail> {
     assert_eq!(rt; first.name, b"f00000".as_slice());
     let last = elf.symbols.get(10_000).ok_or("no last symbol")?;
     assert_eq!(rt; last.name, b"f09999".as_slice());
-    assert_eq!(rt; (last.value, last.size, last.section), (CODE, 4, 1));
+    assert_eq!(rt; (last.value, last.size, last.section), (0x10078, 4, 1));
     let found = cuts(alloc, &elf)?;
-    assert_eq!(rt; found.as_slice(), [CODE, CODE + 4].as_slice());
+    assert_eq!(rt; found.as_slice(), [0x10078, 0x1007c].as_slice());
     Ok(())
 }
 
@@ -80,7 +49,7 @@ fn a_symbol_whose_name_has_no_end(rt: HostRuntime) -> Result<(), Fail> {
     let alloc = rt.alloc();
     let mut file = file_of_symbols(alloc)?;
     patch(&mut file, (SYMBOLS_AT + SYMBOLS + TEXTS - 1) as usize, b"x");
-    let wanted = Some((FaultKind::Truncated, SYMBOLS_AT + SYM_SIZE as u64 * COUNT));
+    let wanted = Some((FaultKind::Truncated, SYMBOLS_AT + 24 * 10_000));
     assert_eq!(rt; refused(alloc, &file), wanted);
     Ok(())
 }

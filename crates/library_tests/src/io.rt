@@ -1,7 +1,6 @@
 // Files, sources and sinks, in memory and of the system, each through its bound.
-
 use rb_io::{
-    Files, Got, HostFiles, HostSink, HostSource, MemFiles, MemSink, MemSource, Put, ReadAll, Sink,
+    Files, Got, HostFiles, HostSink, HostSource, MemFiles, MemSink, MemSource, ReadAll, Sink,
     Source, Wrote, print_all,
 };
 use std::alloc::Global;
@@ -9,37 +8,57 @@ use std::fs;
 use std::process::Abort;
 use std::test::Fail;
 
-// Reads a file, and compares the answer and the bytes.
-fn check_read<F: Files>(
+// What is asked of files, and what they answer.
+const IN_MEMORY: &str = "\
+read in 5 => Done 12345
+read in 5 => Failed
+read in 4 => TooLong
+read out 9 => Failed
+write out abcde => Failed
+write out abc => Failed
+read out 9 => Failed
+write out abcd => Done
+write out  => Done
+write none  => Failed
+write in 67890 => Done
+read in 9 => Done 67890
+read out 9 => Done
+read-faults in => 6
+write-faults out => 6";
+
+// Asks files what a line says, and shows the answer and what was read.
+fn ask<F: Files>(alloc: Global, files: &mut F, line: &str) -> Result<String, Fail> {
+    let (kind, rest) = line.split_once(' ').ok_or("no name")?;
+    let (name, operand) = rest.split_once(' ').unwrap_or((rest, ""));
+    let mut read = Vec::new(alloc);
+    let mut shown = match kind {
+        "read" => {
+            let limit = operand.parse::<usize>()?;
+            format!(in alloc; "{:?}", files.read_all(name, limit, &mut read))?
+        }
+        "write" => format!(in alloc; "{:?}", files.write_all(name, operand.as_bytes()))?,
+        "read-faults" => format!(in alloc; "{:?}", files.read_faults(name))?,
+        _ => format!(in alloc; "{:?}", files.write_faults(name))?,
+    };
+    if !read.is_empty() {
+        shown.push(' ')?;
+        shown.push_str(str::from_utf8(&read)?)?;
+    }
+    Ok(shown)
+}
+
+fn ask_lines<F: Files>(
     rt: &impl Abort,
     alloc: Global,
     files: &mut F,
-    name: &str,
-    limit: usize,
-    want: ReadAll,
-    bytes: &[u8],
-) {
-    let mut into = Vec::new(alloc);
-    assert_eq!(rt;
-        files.read_all(name, limit, &mut into),
-        want,
-        "reading {name}"
-    );
-    assert_eq!(rt; into.as_slice(), bytes, "the bytes of {name}");
-}
-
-// Reads a source to its end by buffers of three bytes.
-fn read_to_end<I: Source>(alloc: Global, source: &mut I) -> Result<Vec<u8>, Fail> {
-    let mut all = Vec::new(alloc);
-    let mut buf = [0u8; 3];
-    for _ in 0..100 {
-        match source.read(&mut buf) {
-            Got::Bytes(0) => return Ok(all),
-            Got::Bytes(count) => all.extend_from_slice(&buf[..count])?,
-            Got::Failed => {}
-        }
+    lines: &str,
+) -> Result<(), Fail> {
+    for line in lines.lines() {
+        let (question, wanted) = line.split_once(" => ").ok_or("no answer")?;
+        let shown = ask(alloc, files, question)?;
+        assert_eq!(rt; shown.as_str(), wanted, "{line}");
     }
-    Ok(all)
+    Ok(())
 }
 
 fn text(alloc: Global, text: &str) -> Result<String, Fail> {
@@ -56,51 +75,21 @@ fn files_in_memory(rt: HostRuntime) -> Result<(), Fail> {
     let mut files = MemFiles::new(alloc, numbers(alloc, &[2, 6])?);
     files.put(text(alloc, "in")?, Vec::from_slice(alloc, b"12345")?)?;
     files.prepare(text(alloc, "out")?, 4)?;
-    check_read(&rt, alloc, &mut files, "in", 5, ReadAll::Done, b"12345");
-    check_read(&rt, alloc, &mut files, "in", 5, ReadAll::Failed, b"");
-    check_read(&rt, alloc, &mut files, "in", 4, ReadAll::TooLong, b"");
-    check_read(&rt, alloc, &mut files, "out", 9, ReadAll::Failed, b"");
-    assert_eq!(rt; files.content("out").is_some(), false);
-    assert_eq!(rt; files.write_all("out", b"abcde"), Wrote::Failed);
-    assert_eq!(rt; files.write_all("out", b"abc"), Wrote::Failed);
-    assert_eq!(rt; files.content("out").is_some(), false);
-    assert_eq!(rt; files.write_all("out", b"abcd"), Wrote::Done);
-    assert_eq!(rt; files.write_all("out", b""), Wrote::Done);
-    assert_eq!(rt; files.write_all("none", b""), Wrote::Failed);
-    assert_eq!(rt; files.write_all("in", b"67890"), Wrote::Done);
-    check_read(&rt, alloc, &mut files, "in", 9, ReadAll::Done, b"67890");
-    check_read(&rt, alloc, &mut files, "out", 9, ReadAll::Done, b"");
-    assert_eq!(rt; files.read_faults("in"), 5);
-    assert_eq!(rt; files.write_faults("out"), 5);
-    Ok(())
+    ask_lines(&rt, alloc, &mut files, IN_MEMORY)
 }
 
-#[test]
-fn a_source_in_memory(rt: HostRuntime) -> Result<(), Fail> {
-    let alloc = rt.alloc();
-    let bytes = Vec::from_slice(alloc, b"abcdefg")?;
-    let mut source = MemSource::new(bytes, numbers(alloc, &[1, 3])?);
-    assert_eq!(rt; source.read(&mut []), Got::Failed);
-    assert_eq!(rt; source.read(&mut []), Got::Bytes(0));
-    let all = read_to_end(alloc, &mut source)?;
-    assert_eq!(rt; all.as_slice(), b"abcdefg".as_slice());
-    assert_eq!(rt; source.faults(), 2);
-    Ok(())
-}
+const OF_THE_SYSTEM: &str = "\
+write library_tests_io.tmp short => Done
+read library_tests_io.tmp 5 => Done short
+read library_tests_io.tmp 4 => TooLong
+read-faults library_tests_io.tmp => 0";
 
-#[test]
-fn a_sink_in_memory(rt: HostRuntime) -> Result<(), Fail> {
-    let alloc = rt.alloc();
-    let mut sink = MemSink::new(alloc, 5, numbers(alloc, &[2])?)?;
-    assert_eq!(rt; print_all(&mut sink, b"abc"), Put::Took(3));
-    assert_eq!(rt; print_all(&mut sink, b"d"), Put::Failed);
-    assert_eq!(rt; sink.write(b""), Put::Took(0));
-    assert_eq!(rt; print_all(&mut sink, b"xyz"), Put::Failed);
-    assert_eq!(rt; sink.taken(), b"abcxy".as_slice());
-    assert_eq!(rt; sink.write(b""), Put::Took(0));
-    assert_eq!(rt; sink.faults(), 2);
-    Ok(())
-}
+// After the file was removed.
+const REMOVED: &str = "\
+read library_tests_io.tmp 5 => Failed
+read-faults library_tests_io.tmp => 1
+write no/such/folder x => Failed
+write-faults library_tests_io.tmp => 2";
 
 #[test]
 fn files_of_the_system(rt: HostRuntime) -> Result<(), Fail> {
@@ -111,17 +100,87 @@ fn files_of_the_system(rt: HostRuntime) -> Result<(), Fail> {
         long.extend_from_slice(b"0123456789")?;
     }
     let mut files = HostFiles::new(&rt);
-    assert_eq!(rt; files.write_all(name, &long), Wrote::Done);
-    check_read(&rt, alloc, &mut files, name, 140_000, ReadAll::Done, &long);
-    check_read(&rt, alloc, &mut files, name, 139_999, ReadAll::TooLong, b"");
-    assert_eq!(rt; files.write_all(name, b"short"), Wrote::Done);
-    check_read(&rt, alloc, &mut files, name, 5, ReadAll::Done, b"short");
-    assert_eq!(rt; files.read_faults(name), 0);
+    let mut read = Vec::new(alloc);
+    assert!(rt; files.write_all(name, &long) == Wrote::Done);
+    assert!(rt; files.read_all(name, 140_000, &mut read) == ReadAll::Done);
+    assert!(rt; read == long);
+    let mut nothing = Vec::new(alloc);
+    assert!(rt; files.read_all(name, 139_999, &mut nothing) == ReadAll::TooLong);
+    assert!(rt; nothing.is_empty());
+    ask_lines(&rt, alloc, &mut files, OF_THE_SYSTEM)?;
     fs::remove_file(&rt, name)?;
-    check_read(&rt, alloc, &mut files, name, 5, ReadAll::Failed, b"");
-    assert_eq!(rt; files.read_faults(name), 1);
-    assert_eq!(rt; files.write_all("no/such/folder", b"x"), Wrote::Failed);
-    assert_eq!(rt; files.write_faults(name), 2);
+    ask_lines(&rt, alloc, &mut files, REMOVED)
+}
+
+// Reads a source to its end by buffers of three bytes.
+fn read_to_end<I: Source>(alloc: Global, source: &mut I) -> Result<Vec<u8>, Fail> {
+    let mut all = Vec::new(alloc);
+    let mut buf = [0u8; 3];
+    for _ in 0..100 {
+        match source.read(&mut buf) {
+            Got::Bytes(0) => return Ok(all),
+            Got::Bytes(count) => all.extend_from_slice(&buf[..count])?,
+            Got::Failed => {}
+        }
+    }
+    Ok(all)
+}
+
+#[test]
+fn a_source_in_memory(rt: HostRuntime) -> Result<(), Fail> {
+    let alloc = rt.alloc();
+    let bytes = Vec::from_slice(alloc, b"abcdefg")?;
+    let mut source = MemSource::new(bytes, numbers(alloc, &[1, 3])?);
+    assert!(rt; source.read(&mut []) == Got::Failed);
+    assert!(rt; source.read(&mut []) == Got::Bytes(0));
+    let all = read_to_end(alloc, &mut source)?;
+    assert!(rt; all.as_slice() == b"abcdefg".as_slice());
+    assert!(rt; source.faults() == 2);
+    Ok(())
+}
+
+// What is written, as it is or whole by several calls, and what the sink answers.
+const WRITTEN: &str = "\
+print abc => Took(3)
+print d => Failed
+write  => Took(0)
+print xyz => Failed
+write  => Took(0)";
+
+// A slice to write to takes what fits, and then no byte more.
+const WRITTEN_TO_SLICE: &str = "\
+write  => Took(0)
+print abc => Took(3)
+print de => Failed
+write  => Took(0)";
+
+fn write_lines<O: Sink>(
+    rt: &impl Abort,
+    alloc: Global,
+    sink: &mut O,
+    lines: &str,
+) -> Result<(), Fail> {
+    for line in lines.lines() {
+        let (question, wanted) = line.split_once(" => ").ok_or("no answer")?;
+        let (kind, bytes) = question.split_once(' ').ok_or("no bytes")?;
+        let put = if kind == "print" {
+            print_all(sink, bytes.as_bytes())
+        } else {
+            sink.write(bytes.as_bytes())
+        };
+        let shown = format!(in alloc; "{put:?}")?;
+        assert_eq!(rt; shown.as_str(), wanted, "{line}");
+    }
+    Ok(())
+}
+
+#[test]
+fn a_sink_in_memory(rt: HostRuntime) -> Result<(), Fail> {
+    let alloc = rt.alloc();
+    let mut sink = MemSink::new(alloc, 5, numbers(alloc, &[2])?)?;
+    write_lines(&rt, alloc, &mut sink, WRITTEN)?;
+    assert!(rt; sink.taken() == b"abcxy".as_slice());
+    assert!(rt; sink.faults() == 2);
     Ok(())
 }
 
@@ -130,20 +189,16 @@ fn a_source_of_the_system(rt: HostRuntime) -> Result<(), Fail> {
     let alloc = rt.alloc();
     let mut source = HostSource::new(b"abcdefg".as_slice());
     let all = read_to_end(alloc, &mut source)?;
-    assert_eq!(rt; all.as_slice(), b"abcdefg".as_slice());
-    assert_eq!(rt; source.faults(), 0);
+    assert!(rt; all.as_slice() == b"abcdefg".as_slice());
+    assert!(rt; source.faults() == 0);
     Ok(())
 }
 
-// A slice to write to takes what fits, and then no byte more.
 #[test]
 fn a_sink_of_the_system(rt: HostRuntime) -> Result<(), Fail> {
     let mut bytes = [0u8; 4];
     let mut sink = HostSink::new(bytes.as_mut_slice());
-    assert_eq!(rt; sink.write(b""), Put::Took(0));
-    assert_eq!(rt; print_all(&mut sink, b"abc"), Put::Took(3));
-    assert_eq!(rt; print_all(&mut sink, b"de"), Put::Failed);
-    assert_eq!(rt; sink.write(b""), Put::Took(0));
-    assert_eq!(rt; sink.faults(), 1);
+    write_lines(&rt, rt.alloc(), &mut sink, WRITTEN_TO_SLICE)?;
+    assert!(rt; sink.faults() == 1);
     Ok(())
 }

@@ -8,8 +8,6 @@ mod decode;
 #[cfg(test)]
 mod elf;
 #[cfg(test)]
-mod elf_layout;
-#[cfg(test)]
 mod elf_symbols;
 #[cfg(test)]
 mod encode;

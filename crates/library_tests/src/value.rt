@@ -1,109 +1,117 @@
 // The arithmetic of rv_code.
-use rv_code::{Extension, Inst, Op, op_value, taken};
+use rv_code::{Extension, Inst, op_value, taken};
+use rv_decode::decode;
+use std::alloc::Global;
+use std::process::Abort;
+use std::test::Fail;
+use test_files::assembly::push_assembly;
+use test_files::words::hexadecimal;
 
-const MINUS_ONE: u64 = 0xffff_ffff_ffff_ffff;
+// An instruction, the values of its two operands, and its result.
+const VALUES: &str = "\
+# ISA manual, section 13.2, the table of divisions by zero and of overflow.
+divu a0,a1,a2 = 14 0 ffffffffffffffff
+remu a0,a1,a2 = 14 0 14
+div a0,a1,a2 = 14 0 ffffffffffffffff
+rem a0,a1,a2 = 14 0 14
+div a0,a1,a2 = 8000000000000000 ffffffffffffffff 8000000000000000
+rem a0,a1,a2 = 8000000000000000 ffffffffffffffff 0
+divuw a0,a1,a2 = ffffffff00000014 100000000 ffffffffffffffff
+remuw a0,a1,a2 = ffffffff80000014 100000000 ffffffff80000014
+divw a0,a1,a2 = 14 0 ffffffffffffffff
+remw a0,a1,a2 = 80000014 0 ffffffff80000014
+divw a0,a1,a2 = 80000000 ffffffffffffffff ffffffff80000000
+remw a0,a1,a2 = 80000000 ffffffffffffffff 0
+# Quotients round toward zero, and remainders have the dividend's sign: of -20, 20, 6 and -6.
+div a0,a1,a2 = ffffffffffffffec 6 fffffffffffffffd
+div a0,a1,a2 = 14 fffffffffffffffa fffffffffffffffd
+div a0,a1,a2 = ffffffffffffffec fffffffffffffffa 3
+rem a0,a1,a2 = ffffffffffffffec 6 fffffffffffffffe
+rem a0,a1,a2 = 14 fffffffffffffffa 2
+divw a0,a1,a2 = ffffffffffffffec 6 fffffffffffffffd
+remw a0,a1,a2 = ffffffffffffffec fffffffffffffffa fffffffffffffffe
+divu a0,a1,a2 = ffffffffffffffec 6 2aaaaaaaaaaaaaa7
+divuw a0,a1,a2 = ffffffffffffffec 6 2aaaaaa7
+# The high 64 bits of products, which were worked out apart, as whole numbers.
+mulh a0,a1,a2 = aaaaaaaaaaaaaaab 2fe7d ffffffffffff0081
+mulhsu a0,a1,a2 = aaaaaaaaaaaaaaab 2fe7d ffffffffffff0081
+mulhu a0,a1,a2 = aaaaaaaaaaaaaaab 2fe7d 1fefe
+mulh a0,a1,a2 = ffffffff80000000 ffffffffffff8000 0
+mulhsu a0,a1,a2 = ffffffff80000000 ffffffffffff8000 ffffffff80000000
+mulhu a0,a1,a2 = ffffffff80000000 ffffffffffff8000 ffffffff7fff8000
+mulh a0,a1,a2 = 8000000000000000 8000000000000000 4000000000000000
+mul a0,a1,a2 = ffffffffffffffff ffffffffffffffff 1
+mulw a0,a1,a2 = 80000000 3 ffffffff80000000
+# Shifts, comparisons and cuts to words.
+sll a0,a1,a2 = 1 3f 8000000000000000
+sll a0,a1,a2 = 1 40 1
+srl a0,a1,a2 = 8000000000000000 3f 1
+sra a0,a1,a2 = 8000000000000000 3f ffffffffffffffff
+sllw a0,a1,a2 = 1 1f ffffffff80000000
+sllw a0,a1,a2 = 1 20 1
+srlw a0,a1,a2 = ffffffffffffffff 4 fffffff
+sraw a0,a1,a2 = 80000000 1f ffffffffffffffff
+sraw a0,a1,a2 = 17fffffff 20 7fffffff
+addw a0,a1,a2 = 7fffffff 1 ffffffff80000000
+subw a0,a1,a2 = 0 1 ffffffffffffffff
+add a0,a1,a2 = ffffffffffffffff 1 0
+sub a0,a1,a2 = 0 1 ffffffffffffffff
+slt a0,a1,a2 = ffffffffffffffff 0 1
+sltu a0,a1,a2 = ffffffffffffffff 0 0
+xor a0,a1,a2 = ff0 ff f0f
+or a0,a1,a2 = ff0 ff fff
+and a0,a1,a2 = ff0 ff f0
+# With an immediate, which is the second operand; and an instruction that computes nothing.
+sltiu a0,a1,-1 = 5 ffffffffffffffff 1
+sraiw a0,a1,4 = 80000000 4 fffffffff8000000
+ecall = 5 6 0";
 
-const MIN: u64 = 0x8000_0000_0000_0000;
+// Whether a branch is taken: 1, or 0.
+const TAKEN: &str = "\
+bge a0,a1,-8 = ffffffffffffffff 0 0
+bgeu a0,a1,-8 = ffffffffffffffff 0 1
+bge a0,a1,-8 = 7 7 1
+ebreak = 7 7 0";
 
-const MIN_WORD: u64 = 0xffff_ffff_8000_0000;
-
-// ISA manual, section 13.2, the table of divisions by zero and of overflow.
-#[test]
-fn divides_by_zero_and_overflows(rt: HostRuntime) {
-    for (op, left, right, want) in [
-        (Op::Divu, 20, 0, MINUS_ONE),
-        (Op::Remu, 20, 0, 20),
-        (Op::Div, 20, 0, MINUS_ONE),
-        (Op::Rem, 20, 0, 20),
-        (Op::Div, MIN, MINUS_ONE, MIN),
-        (Op::Rem, MIN, MINUS_ONE, 0),
-        (Op::Divuw, 0xffff_ffff_0000_0014, 0x1_0000_0000, MINUS_ONE),
-        (
-            Op::Remuw,
-            0xffff_ffff_8000_0014,
-            0x1_0000_0000,
-            0xffff_ffff_8000_0014,
-        ),
-        (Op::Divw, 20, 0, MINUS_ONE),
-        (Op::Remw, 0x8000_0014, 0, 0xffff_ffff_8000_0014),
-        (Op::Divw, 0x8000_0000, MINUS_ONE, MIN_WORD),
-        (Op::Remw, 0x8000_0000, MINUS_ONE, 0),
-    ] {
-        assert_eq!(rt; op.apply(left, right), want, "{op:?} {left} {right}");
-    }
+// The instruction of a line.
+fn instruction(alloc: Global, text: &str) -> Result<Inst, Fail> {
+    let mut code = Vec::new(alloc);
+    push_assembly(&mut code, text)?;
+    let word: [u8; 4] = code.as_slice().try_into()?;
+    let word = u32::from_le_bytes(word);
+    let halves = ((word % 65536) as u16, (word / 65536) as u16);
+    let (inst, _) = decode(halves.0, Some(halves.1)).ok_or("no instruction")?;
+    Ok(inst)
 }
 
-// Quotients round toward zero, and remainders have the dividend's sign.
-#[test]
-fn divides_signed_numbers(rt: HostRuntime) {
-    let minus_20 = 0xffff_ffff_ffff_ffec;
-    let minus_6 = 0xffff_ffff_ffff_fffa;
-    let minus_3 = 0xffff_ffff_ffff_fffd;
-    let minus_2 = 0xffff_ffff_ffff_fffe;
-    for (op, left, right, want) in [
-        (Op::Div, minus_20, 6, minus_3),
-        (Op::Div, 20, minus_6, minus_3),
-        (Op::Div, minus_20, minus_6, 3),
-        (Op::Rem, minus_20, 6, minus_2),
-        (Op::Rem, 20, minus_6, 2),
-        (Op::Divw, minus_20, 6, minus_3),
-        (Op::Remw, minus_20, minus_6, minus_2),
-        (Op::Divu, minus_20, 6, 0x2aaa_aaaa_aaaa_aaa7),
-        (Op::Divuw, minus_20, 6, 0x2aaa_aaa7),
-    ] {
-        assert_eq!(rt; op.apply(left, right), want, "{op:?} {left} {right}");
+fn check_lines(
+    rt: &impl Abort,
+    alloc: Global,
+    table: &str,
+    are_branches: bool,
+) -> Result<(), Fail> {
+    for line in table.lines() {
+        if let Some((text, numbers)) = line.split_once(" = ") {
+            let inst = instruction(alloc, text)?;
+            let mut numbers = numbers.split(' ');
+            let left = hexadecimal(numbers.next().unwrap_or(""))?;
+            let right = hexadecimal(numbers.next().unwrap_or(""))?;
+            let wanted = hexadecimal(numbers.next().unwrap_or(""))?;
+            let result = if are_branches {
+                taken(&inst, left, right) as u64
+            } else {
+                op_value(&inst, left, right)
+            };
+            assert_eq!(rt; result, wanted, "{line}");
+        }
     }
-}
-
-// The high 64 bits were worked out apart, from the products as whole numbers.
-#[test]
-fn multiplies(rt: HostRuntime) {
-    let left = 0xaaaa_aaaa_aaaa_aaab;
-    let right = 0x2_fe7d;
-    for (op, left, right, want) in [
-        (Op::Mulh, left, right, 0xffff_ffff_ffff_0081),
-        (Op::Mulhsu, left, right, 0xffff_ffff_ffff_0081),
-        (Op::Mulhu, left, right, 0x1_fefe),
-        (Op::Mulh, MIN_WORD, 0xffff_ffff_ffff_8000, 0),
-        (Op::Mulhsu, MIN_WORD, 0xffff_ffff_ffff_8000, MIN_WORD),
-        (
-            Op::Mulhu,
-            MIN_WORD,
-            0xffff_ffff_ffff_8000,
-            0xffff_ffff_7fff_8000,
-        ),
-        (Op::Mulh, MIN, MIN, 0x4000_0000_0000_0000),
-        (Op::Mul, MINUS_ONE, MINUS_ONE, 1),
-        (Op::Mulw, 0x8000_0000, 3, MIN_WORD),
-    ] {
-        assert_eq!(rt; op.apply(left, right), want, "{op:?} {left} {right}");
-    }
+    Ok(())
 }
 
 #[test]
-fn shifts_compares_and_cuts_to_words(rt: HostRuntime) {
-    for (op, left, right, want) in [
-        (Op::Sll, 1, 63, MIN),
-        (Op::Sll, 1, 64, 1),
-        (Op::Srl, MIN, 63, 1),
-        (Op::Sra, MIN, 63, MINUS_ONE),
-        (Op::Sllw, 1, 31, MIN_WORD),
-        (Op::Sllw, 1, 32, 1),
-        (Op::Srlw, MINUS_ONE, 4, 0x0fff_ffff),
-        (Op::Sraw, 0x8000_0000, 31, MINUS_ONE),
-        (Op::Sraw, 0x1_7fff_ffff, 32, 0x7fff_ffff),
-        (Op::Addw, 0x7fff_ffff, 1, MIN_WORD),
-        (Op::Subw, 0, 1, MINUS_ONE),
-        (Op::Add, MINUS_ONE, 1, 0),
-        (Op::Sub, 0, 1, MINUS_ONE),
-        (Op::Slt, MINUS_ONE, 0, 1),
-        (Op::Sltu, MINUS_ONE, 0, 0),
-        (Op::Xor, 0xff0, 0x0ff, 0xf0f),
-        (Op::Or, 0xff0, 0x0ff, 0xfff),
-        (Op::And, 0xff0, 0x0ff, 0x0f0),
-    ] {
-        assert_eq!(rt; op.apply(left, right), want, "{op:?} {left} {right}");
-    }
+fn computes_and_branches_as_the_instruction_says(rt: HostRuntime) -> Result<(), Fail> {
+    check_lines(&rt, rt.alloc(), VALUES, false)?;
+    check_lines(&rt, rt.alloc(), TAKEN, true)
 }
 
 #[test]
@@ -112,40 +120,11 @@ fn extends_loaded_numbers(rt: HostRuntime) {
     assert_eq!(rt; Extension::Zero8.extend(0x80), 0x80);
     assert_eq!(rt; Extension::Signed16.extend(0x7fff), 0x7fff);
     assert_eq!(rt; Extension::Zero16.extend(0x8000), 0x8000);
-    assert_eq!(rt; Extension::Signed32.extend(0x8000_0000), MIN_WORD);
+    assert_eq!(rt;
+        Extension::Signed32.extend(0x8000_0000),
+        0xffff_ffff_8000_0000
+    );
     assert_eq!(rt; Extension::Zero32.extend(0x8000_0000), 0x8000_0000);
-    assert_eq!(rt; Extension::Whole64.extend(MIN), MIN);
+    assert_eq!(rt; Extension::Whole64.extend(1 << 63), 1 << 63);
     assert_eq!(rt; Extension::Signed16.bytes(), 2);
-}
-
-#[test]
-fn computes_and_branches_as_the_instruction_says(rt: HostRuntime) {
-    let sltiu = Inst::Sltiu {
-        rd: 10,
-        rs1: 11,
-        imm: -1,
-    };
-    assert_eq!(rt; op_value(&sltiu, 5, MINUS_ONE), 1);
-    let sraiw = Inst::Sraiw {
-        rd: 10,
-        rs1: 11,
-        imm: 4,
-    };
-    assert_eq!(rt; op_value(&sraiw, 0x8000_0000, 4), 0xffff_ffff_f800_0000);
-    assert_eq!(rt; op_value(&Inst::Ecall, 5, 6), 0);
-
-    let bge = Inst::Bge {
-        rs1: 10,
-        rs2: 11,
-        imm: -8,
-    };
-    let bgeu = Inst::Bgeu {
-        rs1: 10,
-        rs2: 11,
-        imm: -8,
-    };
-    assert!(rt; !taken(&bge, MINUS_ONE, 0));
-    assert!(rt; taken(&bgeu, MINUS_ONE, 0));
-    assert!(rt; taken(&bge, 7, 7));
-    assert!(rt; !taken(&Inst::Ebreak, 7, 7));
 }

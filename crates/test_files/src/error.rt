@@ -3,13 +3,13 @@ use std::alloc::AllocError;
 use thiserror::Error;
 
 /// A test file could not be put together.
-#[derive(Clone, Copy, PartialEq, Eq, Debug, Error)]
+#[derive(Clone, Copy, Debug, Error)]
 pub enum BuildError {
     #[error(transparent)]
     Memory(#[from(alloc)] AllocError),
-    /// An instruction has no encoding of the width that is wanted.
-    #[error("an instruction has no encoding")]
-    NoEncoding,
+    /// A word of a text says nothing.
+    #[error("a word says nothing")]
+    NoWord,
     /// A relocation names a symbol that the file doesn't have.
     #[error("a relocation names no symbol")]
     NoSymbol,

@@ -6,11 +6,12 @@ use crate::parts::{Piece, Relocation, Section, Symbol};
 use crate::writer::Writer;
 use elf_image::Segment;
 use elf_image::header::EHDR_SIZE;
+use elf_image::section::SHT_NOBITS;
 use elf_image::segment::{PHDR_SIZE, PT_LOAD};
 use std::alloc::Global;
 
 /// Where the table of program headers stands.
-#[derive(Clone, Copy, PartialEq, Eq, Debug)]
+#[derive(Clone, Copy)]
 pub enum HeaderTable {
     /// At an offset.
     At(u64),
@@ -19,6 +20,11 @@ pub enum HeaderTable {
     /// At the end of the file.
     Last,
 }
+
+/// Where the segment of code is loaded, with the file's header, and the address behind one program header.
+pub const BASE: u64 = 0x10000;
+
+pub const CODE: u64 = 0x10078;
 
 /// The size of a page, to which segments are aligned.
 pub const PAGE: u64 = 0x1000;
@@ -71,28 +77,48 @@ impl<'a> ElfFile<'a> {
         vaddr: u64,
         sections: &[Section<'a>],
     ) -> Result<(), BuildError> {
-        let mut size = 0;
-        for section in sections {
-            let before = section.addr.checked_sub(vaddr).ok_or(BuildError::TooLarge)?;
-            let end = before
-                .checked_add(section.size)
-                .ok_or(BuildError::TooLarge)?;
-            let place = before.checked_add(offset).ok_or(BuildError::TooLarge)?;
-            self.sections.push(Section {
-                offset: Some(place),
-                ..*section
-            })?;
-            size = end.max(size);
-        }
         self.segments.push(Segment {
             kind: PT_LOAD,
             flags,
             offset,
             vaddr,
             paddr: vaddr,
-            filesz: size,
-            memsz: size,
+            filesz: 0,
+            memsz: 0,
             align: PAGE,
+        })?;
+        for section in sections {
+            self.load(section)?;
+        }
+        Ok(())
+    }
+
+    /// Adds a section that the last segment loads, up to its end.
+    pub fn load(&mut self, section: &Section<'a>) -> Result<(), BuildError> {
+        let last = self.segments.len().saturating_sub(1);
+        self.load_by(last, section)
+    }
+
+    /// Adds a section that the segment at an index loads, up to its end.
+    pub fn load_by(&mut self, index: usize, section: &Section<'a>) -> Result<(), BuildError> {
+        let segment = self.segments.get_mut(index).ok_or(BuildError::TooLarge)?;
+        let before = section
+            .addr
+            .checked_sub(segment.vaddr)
+            .ok_or(BuildError::TooLarge)?;
+        let end = before
+            .checked_add(section.size)
+            .ok_or(BuildError::TooLarge)?;
+        let place = before
+            .checked_add(segment.offset)
+            .ok_or(BuildError::TooLarge)?;
+        if section.kind != SHT_NOBITS {
+            segment.filesz = end.max(segment.filesz);
+        }
+        segment.memsz = end.max(segment.memsz);
+        self.sections.push(Section {
+            offset: Some(place),
+            ..*section
         })?;
         Ok(())
     }
@@ -127,7 +153,9 @@ impl<'a> ElfFile<'a> {
                 phoff,
                 shoff,
                 flags: self.flags,
-                phnum: u16::try_from(self.segments.len()).map_err(|_| BuildError::TooLarge)?,
+                phnum: u16::try_from(self.segments.len())
+                    .ok()
+                    .ok_or(BuildError::TooLarge)?,
                 shnum,
                 shstrndx: shnum.saturating_sub(1),
             },

@@ -9,17 +9,11 @@ use std::alloc::AllocError;
 /// The type of an executable. gABI, "ELF Header".
 pub const ET_EXEC: u16 = 2;
 
-/// The type of a file that can be loaded anywhere. gABI, "ELF Header".
-pub const ET_DYN: u16 = 3;
-
-/// The flag of a program with compressed instructions. psABI, "File Header".
-pub const EF_RISCV_RVC: u32 = 1;
-
 // The only version. gABI, "ELF Header".
 const EV_CURRENT: u32 = 1;
 
 /// The fields of the file's header in which files differ, in their order. gABI, "ELF Header".
-#[derive(Clone, Copy, PartialEq, Eq, Debug)]
+#[derive(Clone, Copy)]
 pub struct FileHeader {
     /// `e_type`.
     pub kind: u16,
@@ -58,13 +52,6 @@ pub fn push_file_header(file: &mut Vec<u8>, header: &FileHeader) -> Result<(), A
     push_u16(file, header.shstrndx)
 }
 
-/// The offsets of some fields in a program header. gABI, "Program Header".
-pub const P_FLAGS: usize = 4;
-
-pub const P_VADDR: usize = 16;
-
-pub const P_MEMSZ: usize = 40;
-
 /// Appends a program header, of 56 bytes.
 pub fn push_segment(file: &mut Vec<u8>, segment: &Segment) -> Result<(), AllocError> {
     push_u32s(file, &[segment.kind, segment.flags])?;
@@ -78,13 +65,6 @@ pub fn push_segment(file: &mut Vec<u8>, segment: &Segment) -> Result<(), AllocEr
     ];
     push_u64s(file, &numbers)
 }
-
-/// The offsets of some fields in a section header. gABI, "Section Header".
-pub const SH_FLAGS: usize = 8;
-
-pub const SH_ADDR: usize = 16;
-
-pub const SH_ADDRALIGN: usize = 48;
 
 /// Appends a section header, of 64 bytes.
 pub fn push_section_header(file: &mut Vec<u8>, section: &SectionHeader) -> Result<(), AllocError> {

@@ -20,14 +20,14 @@ pub const STB_GLOBAL: u8 = 1;
 pub const SHN_ABS: u16 = 0xfff1;
 
 /// Bytes that stand at an offset of the file.
-#[derive(Clone, Copy, PartialEq, Eq, Debug)]
+#[derive(Clone, Copy)]
 pub struct Piece<'a> {
     pub offset: u64,
     pub bytes: &'a [u8],
 }
 
 /// A section: the fields of its header, its name, and its bytes.
-#[derive(Clone, Copy, PartialEq, Eq, Debug)]
+#[derive(Clone, Copy)]
 pub struct Section<'a> {
     pub name: &'a [u8],
     /// `sh_type`.
@@ -98,7 +98,7 @@ impl<'a> Section<'a> {
 }
 
 /// A symbol.
-#[derive(Clone, Copy, PartialEq, Eq, Debug)]
+#[derive(Clone, Copy)]
 pub struct Symbol<'a> {
     pub name: &'a [u8],
     pub value: u64,
@@ -138,7 +138,7 @@ impl<'a> Symbol<'a> {
 }
 
 /// A relocation that the linker kept, with an addend.
-#[derive(Clone, Copy, PartialEq, Eq, Debug)]
+#[derive(Clone, Copy)]
 pub struct Relocation<'a> {
     /// The name of the section that it applies to.
     pub section: &'a [u8],

@@ -1,112 +1,159 @@
-// Programs that tests of several crates lay out and run. The code of each begins at 10078, with the entry point.
-use crate::code::assemble;
+// Programs that tests of several crates read, lay out and run, in words. The code of each begins at 10078, with the
+// entry point, but where its name says another place.
 use crate::error::BuildError;
-use crate::inst::{
-    A0, A1, A2, A4, A5, A7, ECALL, EXIT, X0, add, addi, auipc, beq, jal, jalr, lui, lw,
-};
-use crate::parts::{Section, Symbol, of_code, of_section};
-use crate::shapes::program;
-use elf_image::relocation::{
-    R_RISCV_32, R_RISCV_ADD32, R_RISCV_HI20, R_RISCV_LO12_I, R_RISCV_PCREL_HI20,
-    R_RISCV_PCREL_LO12_I, R_RISCV_SUB32,
-};
-use rv_code::Inst;
-use std::alloc::Global;
 
-/// Counts from three down, in a loop of two blocks: 1007c goes to 10088, and 10084 back to 1007c.
-pub fn countdown_code() -> [Inst; 6] {
-    let [set_exit, call] = EXIT;
-    [
-        addi(A0, X0, 3),
-        beq(A0, X0, 12),
-        addi(A0, A0, -1),
-        jal(X0, -8),
-        set_exit,
-        call,
-    ]
-}
+/// A paragraph is a name and the lines of a file.
+const PROGRAMS: &str = "\
+exit7
+# The smallest example, which ends with status 7. Its file has 352 bytes: its header, its program header at 40, code at 78,
+# names at 88, and at a0 the section headers: the null one, `.text` and `.shstrtab`.
+code .text 10078 lui a0,0; addi a0,a0,7; exit
 
-pub fn countdown(alloc: Global) -> Result<Vec<u8>, BuildError> {
-    let code = assemble(alloc, &countdown_code())?;
-    program(alloc, &code, &[])?.build(alloc)
-}
+countdown
+# Counts from three down, in a loop of two blocks: 1007c goes to 10088, and 10084 back to 1007c.
+code .text 10078 addi a0,zero,3; beq a0,zero,12; addi a0,a0,-1; jal zero,-8; exit
 
-/// Writes the two bytes behind it, at 1009c.
-pub fn greeting_code() -> [Inst; 9] {
-    let [set_exit, call] = EXIT;
-    [
-        addi(A0, X0, 1),
-        lui(A1, 0x10),
-        addi(A1, A1, 0x9c),
-        addi(A2, X0, 2),
-        addi(A7, X0, 64),
-        ECALL,
-        addi(A0, X0, 0),
-        set_exit,
-        call,
-    ]
-}
+greeting
+# Writes the two bytes behind it.
+code .text 10078 addi a0,zero,1; lui a1,16; addi a1,a1,156; addi a2,zero,2; addi a7,zero,64; ecall; addi a0,zero,0; exit
+loaded .rodata 1009c 6869
 
-/// Writes `hi`.
-pub fn greeting(alloc: Global) -> Result<Vec<u8>, BuildError> {
-    let code = assemble(alloc, &greeting_code())?;
-    let text = [Section::loaded(b".rodata", 0x1009c, b"hi")];
-    program(alloc, &code, &text)?.build(alloc)
-}
+switch-by-distances
+# A table of distances from the table: the jump at 10088 goes to 1008c or 10090.
+code .text 10078 auipc a5,0; addi a5,a5,32; lw a4,4(a5); add a4,a4,a5; jalr zero,0(a4); addi a0,zero,5; exit
+loaded .rodata 10098 f4fffffff8ffffff
+label p 10078
+reloc 10078 PCREL_HI20 10098
+reloc 1007c PCREL_LO12_I @p
+reloc 10098 ADD32 1008c
+reloc 10098 SUB32 10098
+reloc 1009c ADD32 10090
+reloc 1009c SUB32 10098
 
-/// A switch by a table of distances from the table, at 10098: the jump at 10088 goes to 1008c or 10090.
-pub fn switch_by_distances(alloc: Global) -> Result<Vec<u8>, BuildError> {
-    let [set_exit, call] = EXIT;
-    let code = assemble(
-        alloc,
-        &[
-            auipc(A5, 0),
-            addi(A5, A5, 32),
-            lw(A4, 4, A5),
-            add(A4, A4, A5),
-            jalr(X0, 0, A4),
-            addi(A0, X0, 5),
-            set_exit,
-            call,
-        ],
-    )?;
-    let table = [0xf4, 0xff, 0xff, 0xff, 0xf8, 0xff, 0xff, 0xff];
-    let data = [Section::loaded(b".rodata", 0x10098, &table)];
-    let mut file = program(alloc, &code, &data)?;
-    file.symbols.push(Symbol::label(b"p", 0x10078))?;
-    file.relocations.extend_from_slice(&[
-        of_code(0x10078, R_RISCV_PCREL_HI20, b"", 0x10098),
-        of_code(0x1007c, R_RISCV_PCREL_LO12_I, b"p", 0),
-        of_section(b".rodata", 0x10098, R_RISCV_ADD32, b"", 0x1008c),
-        of_section(b".rodata", 0x10098, R_RISCV_SUB32, b"", 0x10098),
-        of_section(b".rodata", 0x1009c, R_RISCV_ADD32, b"", 0x10090),
-        of_section(b".rodata", 0x1009c, R_RISCV_SUB32, b"", 0x10098),
-    ])?;
-    file.build(alloc)
-}
+switch-by-addresses
+# A table of addresses: the jump at 10080 goes to 10084 or 10088.
+code .text 10078 lui a5,16; lw a4,148(a5); jalr zero,0(a4); addi a0,zero,5; exit
+like table-of-addresses
 
-/// A switch by a table of addresses, at 10090: the jump at 10080, which reads this register, goes to 10084 or 10088.
-pub fn switch_by_addresses(alloc: Global, register: u8) -> Result<Vec<u8>, BuildError> {
-    let [set_exit, call] = EXIT;
-    let code = assemble(
-        alloc,
-        &[
-            lui(A5, 0x10),
-            lw(register, 0x94, A5),
-            jalr(X0, 0, register),
-            addi(A0, X0, 5),
-            set_exit,
-            call,
-        ],
-    )?;
-    let table = [0x84, 0, 1, 0, 0x88, 0, 1, 0];
-    let data = [Section::loaded(b".rodata", 0x10090, &table)];
-    let mut file = program(alloc, &code, &data)?;
-    file.relocations.extend_from_slice(&[
-        of_code(0x10078, R_RISCV_HI20, b"", 0x10094),
-        of_code(0x1007c, R_RISCV_LO12_I, b"", 0x10094),
-        of_section(b".rodata", 0x10090, R_RISCV_32, b"", 0x10084),
-        of_section(b".rodata", 0x10094, R_RISCV_32, b"", 0x10088),
-    ])?;
-    file.build(alloc)
+return-by-addresses
+# The same jump through ra.
+code .text 10078 lui a5,16; lw ra,148(a5); jalr zero,0(ra); addi a0,zero,5; exit
+like table-of-addresses
+
+table-of-addresses
+loaded .rodata 10090 8400010088000100
+reloc 10078 HI20 10094
+reloc 1007c LO12_I 10094
+reloc 10090 32 10084
+reloc 10094 32 10088
+
+call
+# Two functions of two instructions each, of which the first calls the second.
+code .text 10078 auipc ra,0; jalr ra,8(ra); exit
+function f 10078 8
+function g 10080 8
+reloc 10078 CALL_PLT @g
+
+call-of-nothing
+# The same with a call of an undefined weak symbol, which has the address 0.
+code .text 10078 auipc ra,0; jalr ra,0(zero); exit
+function f 10078 8
+function g 10080 8
+reloc 10078 CALL_PLT
+
+falling
+# A function that goes on in the next one.
+code .text 10078 addi a0,zero,4; exit
+function f 10078 4
+function g 1007c 8
+
+addresses-in-data
+# A function's address from the global offset table and from an array of functions.
+code .text 10078 auipc a5,16; ld a5,-112(a5); lui a4,32; ld a4,0(a4); jalr zero,0(a4); exit
+segment rw 1000 20000
+writable .init_array 20000 8c00010000000000
+writable .got 20008 8c00010000000000
+headers behind
+function f 10078 14
+function g 1008c 8
+label p 10078
+reloc 10078 GOT_HI20 @g
+reloc 1007c PCREL_LO12_I @p
+reloc 20000 64 @g
+
+address-added-to
+# Adds to a function's address.
+code .text 10078 lui a5,16; addi a5,a5,136; addi a5,a5,4; jalr zero,0(a5); addi a0,zero,1; exit
+reloc 10078 HI20 10088
+reloc 1007c LO12_I 10088
+
+address-in-pieces
+# Copies a function's address in two pieces.
+code .text 10078 lui a4,32; lw a5,0(a4); sw a5,8(a4); lw a5,4(a4); sw a5,12(a4); ld a5,8(a4); jalr zero,0(a5); exit
+segment rw 1000 20000
+writable .data 20000 94000100000000000000000000000000
+headers behind
+reloc 20000 64 10094
+
+addresses-that-differ
+# Compares two addresses by subtraction, and takes the low bit of one.
+code .text 10078 lui a4,32; ld a5,0(a4); ld a6,8(a4); sub a3,a5,a6; sltiu a0,a3,1; andi a3,a5,1; exit
+segment rw 1000 20000
+writable .first 20000 9000010000000000
+writable .second 20008 9400010000000000
+headers behind
+reloc 20000 64 10090
+reloc 20008 64 10094
+
+addresses-that-are-equal
+# The same with one address twice.
+code .text 10078 lui a4,32; ld a5,0(a4); ld a6,8(a4); sub a3,a5,a6; sltiu a0,a3,1; andi a3,a5,1; exit
+segment rw 1000 20000
+writable .first 20000 9000010000000000
+writable .second 20008 9000010000000000
+headers behind
+reloc 20000 64 10090
+reloc 20008 64 10090
+
+headers-from-stack-at-10fd0
+# Loads the address of the program headers from the stack. Behind its code another segment is loaded, with 32 bytes of room
+# between them, which is enough for new code.
+code .text 10fd0 ld a0,40(sp); addi a0,a0,7; exit
+segment r 1000 11000
+loaded .rodata 11000 6e657874
+
+headers-from-stack-at-10fe0
+# The same with 16 bytes of room, which is too little: new code needs 20.
+code .text 10fe0 ld a0,40(sp); addi a0,a0,7; exit
+segment r 1000 11000
+loaded .rodata 11000 6e657874
+
+exit7-at-10fd0
+# The smallest example's code with 32 bytes of room behind it, which is enough for new code.
+code .text 10fd0 lui a0,0; addi a0,a0,7; exit
+segment r 1000 11000
+loaded .rodata 11000 0000000000000000
+
+exit7-at-10fe0
+# The same with 16 bytes of room, which is too little: new code needs 20.
+code .text 10fe0 lui a0,0; addi a0,a0,7; exit
+segment r 1000 11000
+loaded .rodata 11000 0000000000000000
+
+exit7-below-data
+# The same with a segment behind it that may be written.
+code .text 10fe0 lui a0,0; addi a0,a0,7; exit
+segment rw 1000 11000
+loaded .rodata 11000 0000000000000000";
+
+/// The lines of the program of a name.
+pub fn program_called(name: &str) -> Result<&'static str, BuildError> {
+    for paragraph in PROGRAMS.split("\n\n") {
+        if let Some((found, lines)) = paragraph.split_once('\n') {
+            if found == name {
+                return Ok(lines);
+            }
+        }
+    }
+    Err(BuildError::NoWord)
 }

@@ -3,7 +3,7 @@ use crate::bytes::{push_u16, push_u32, push_u64};
 use std::alloc::AllocError;
 
 /// An entry of the symbol table, with its fields in the order of the file. gABI, "Symbol Table".
-#[derive(Clone, Copy, PartialEq, Eq, Debug)]
+#[derive(Clone, Copy)]
 pub struct SymbolEntry {
     /// `st_name`: where its name begins in the table of names.
     pub name: u32,
@@ -40,7 +40,7 @@ pub fn push_symbol(table: &mut Vec<u8>, symbol: &SymbolEntry) -> Result<(), Allo
 }
 
 /// A relocation with an addend, with its fields in the order of the file. gABI, "Relocation".
-#[derive(Clone, Copy, PartialEq, Eq, Debug)]
+#[derive(Clone, Copy)]
 pub struct RelaEntry {
     /// `r_offset`.
     pub offset: u64,

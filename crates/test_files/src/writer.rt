@@ -13,11 +13,11 @@ use elf_image::symbol::SYM_SIZE;
 use std::alloc::Global;
 
 fn to_u32(count: usize) -> Result<u32, BuildError> {
-    u32::try_from(count).map_err(|_| BuildError::TooLarge)
+    u32::try_from(count).ok().ok_or(BuildError::TooLarge)
 }
 
 fn to_u16(count: usize) -> Result<u16, BuildError> {
-    u16::try_from(count).map_err(|_| BuildError::TooLarge)
+    u16::try_from(count).ok().ok_or(BuildError::TooLarge)
 }
 
 /// The bytes so far, from the file's header on, and the headers and names of the sections so far.
@@ -169,9 +169,12 @@ impl Writer {
 }
 
 fn has_relocations(relocations: &[Relocation<'_>], section: &[u8]) -> bool {
-    relocations
-        .iter()
-        .any(|relocation| relocation.section == section)
+    for relocation in relocations {
+        if relocation.section == section {
+            return true;
+        }
+    }
+    false
 }
 
 // The index of the symbol table's section, which stands behind those of relocations; 0 where there is none.
@@ -193,10 +196,12 @@ fn symbol_index(symbols: &[Symbol<'_>], name: &[u8]) -> Result<u32, BuildError> 
     if name.is_empty() {
         return Ok(0);
     }
-    match symbols.iter().position(|symbol| symbol.name == name) {
-        Some(index) => Ok(to_u32(index)?.saturating_add(1)),
-        None => Err(BuildError::NoSymbol),
+    for (index, symbol) in symbols.iter().enumerate() {
+        if symbol.name == name {
+            return Ok(to_u32(index)?.saturating_add(1));
+        }
     }
+    Err(BuildError::NoSymbol)
 }
 
 // The relocations of a section.
@@ -224,13 +229,12 @@ fn relocation_table(
 
 // The index of the first loaded section that holds an address.
 fn section_of(sections: &[Section<'_>], addr: u64) -> Result<u16, BuildError> {
-    match sections
-        .iter()
-        .position(|section| section.has_address(addr))
-    {
-        Some(index) => Ok(to_u16(index)?.saturating_add(1)),
-        None => Ok(SHN_ABS),
+    for (index, section) in sections.iter().enumerate() {
+        if section.has_address(addr) {
+            return Ok(to_u16(index)?.saturating_add(1));
+        }
     }
+    Ok(SHN_ABS)
 }
 
 // The entries of the symbols, whose names are appended to others.
@@ -265,11 +269,10 @@ fn symbol_table(
 
 // `sh_info` of the symbol table: the index of the first symbol that isn't local. gABI, "Symbol Table".
 fn first_global(symbols: &[Symbol<'_>]) -> Result<u32, BuildError> {
-    match symbols
-        .iter()
-        .position(|symbol| symbol.binding != STB_LOCAL)
-    {
-        Some(index) => Ok(to_u32(index)?.saturating_add(1)),
-        None => Ok(to_u32(symbols.len())?.saturating_add(1)),
+    for (index, symbol) in symbols.iter().enumerate() {
+        if symbol.binding != STB_LOCAL {
+            return Ok(to_u32(index)?.saturating_add(1));
+        }
     }
+    Ok(to_u32(symbols.len())?.saturating_add(1))
 }

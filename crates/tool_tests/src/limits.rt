@@ -1,112 +1,103 @@
 // Files that pass a limit.
-
-use crate::calls::{REWRITE, answer, files, text};
-use crate::refused::{check, check_command};
-use cli_base::Status;
-use elf_image::header::E_SHNUM;
+use crate::sessions::{files_with, play, play_rows};
 use elf_image::section::SHDR_SIZE;
 use elf_image::segment::{PF_R, PF_X};
-use rb_bytes::fault::{Fault, FaultKind};
+use rb_io::MemFiles;
 use std::alloc::Global;
-use std::process::Abort;
 use std::test::Fail;
-use test_files::bytes::{grow, patch};
-use test_files::inst::{NOP, RA, X0, jalr};
-use test_files::shapes::{BASE, CODE};
-use test_files::{BuildError, ElfFile, Section, Symbol, assemble, exit7, program};
+use test_files::bytes::patch;
+use test_files::file::{BASE, CODE};
+use test_files::words::file_in_words;
+use test_files::{ElfFile, Section};
 
 // One more byte than the longest file that is read has.
 const TOO_LONG: usize = 64 * 1024 * 1024 + 1;
 
-// How many section headers are added to three, to pass what is rewritten.
-const MORE_SECTIONS: usize = 64_998;
-
-fn zeros(alloc: Global, count: usize) -> Result<Vec<u8>, Fail> {
-    Ok(vec![in alloc; 0; count]?)
-}
-
 #[test]
 fn long_files(rt: HostRuntime) -> Result<(), Fail> {
     let alloc = rt.alloc();
-    let input = Fault::at(FaultKind::TooLarge, 0);
-    let long = zeros(alloc, TOO_LONG)?;
-    check(&rt, alloc, long, input, b"refused 28 TooLarge at 0\n")?;
-    let mut files = files(alloc, exit7(alloc)?, &[])?;
-    files.put(text(alloc, "profile")?, zeros(alloc, TOO_LONG)?)?;
-    let profile = Fault::at(FaultKind::TooLarge, 1);
-    let line = b"refused 28 TooLarge at 1\n";
-    check_command(&rt, alloc, &REWRITE, &mut files, profile, line)
+    let mut files = files_with(alloc, "", vec![in alloc; 0; TOO_LONG]?)?;
+    let session = "\
+$ rewrite in profile out map | 221 TooLarge 0 0 0 refused 28 TooLarge at 0/ | none out | none map \
+| $ run in | 221 TooLarge 0 0 0 refused 28 TooLarge at 0/";
+    play(&rt, alloc, &mut files, "a long input", session)?;
+    let exit7 = file_in_words(alloc, "code .text 10078 lui a0,0; addi a0,a0,7; exit")?;
+    files.put(
+        String::from_str(alloc, "profile")?,
+        vec![in alloc; 0; TOO_LONG]?,
+    )?;
+    files.put(String::from_str(alloc, "in")?, exit7)?;
+    let session = "\
+$ rewrite in profile out map | 221 TooLarge 1 0 0 refused 28 TooLarge at 1/ | none out | none map";
+    play(&rt, alloc, &mut files, "a long profile", session)
 }
 
-// So many functions of so many instructions each, the last of which returns.
-fn returning(alloc: Global, count: u32, size: u32) -> Result<Vec<u8>, BuildError> {
-    let nop = assemble(alloc, &[NOP])?;
-    let back = assemble(alloc, &[jalr(X0, 0, RA)])?;
-    let mut code = Vec::new(alloc);
-    for _ in 0..count {
-        for _ in 1..size {
-            code.extend_from_slice(&nop)?;
-        }
-        code.extend_from_slice(&back)?;
+// Functions of 100,000 instructions and of one, which return.
+const LONG: &str = "; .rept 99999 nop; jalr zero,0(ra)";
+
+const SHORT: &str = "; .rept 200001 jalr zero,0(ra)";
+
+// Files with code that is repeated so many times, and so many functions of so many bytes each.
+fn returning(
+    alloc: Global,
+    times: u32,
+    code: &str,
+    count: u32,
+    size: u64,
+) -> Result<MemFiles, Fail> {
+    let mut words = String::from_str(alloc, "code .text 10078 .rept 0 nop")?;
+    for _ in 0..times {
+        words.push_str(code)?;
     }
-    let mut file = program(alloc, &code, &[])?;
-    let bytes = 4 * size as u64;
     let mut start = CODE;
     for _ in 0..count {
-        file.symbols.push(Symbol::function(b"f", start, bytes))?;
-        start = start.saturating_add(bytes);
+        let line = format!(in alloc; "\nfunction f {start:x} {size:x}")?;
+        words.push_str(&line)?;
+        start = start.saturating_add(size);
     }
-    file.build(alloc)
+    files_with(alloc, "", file_in_words(alloc, &words)?)
 }
 
-// These commands find it after all other faults.
-fn is_too_large(
-    rt: &impl Abort,
-    alloc: Global,
-    input: Vec<u8>,
-    place: u64,
-    line: &[u8],
-) -> Result<(), Fail> {
-    let mut files = files(alloc, input, &[])?;
-    let fault = Fault::at(FaultKind::TooLarge, place);
-    let on_symbols = ["run", "--symbols", "in"];
-    check_command(rt, alloc, &on_symbols, &mut files, fault, line)?;
-    check_command(rt, alloc, &REWRITE, &mut files, fault, line)
-}
-
-// 16,800,000 bytes, and 16,777,216 are allowed.
+// 16,800,000 bytes of code, and 16,777,216 are allowed.
 #[test]
 fn too_much_code(rt: HostRuntime) -> Result<(), Fail> {
     let alloc = rt.alloc();
-    let line = b"refused 28 TooLarge at 2\n";
-    let mut files = files(alloc, returning(alloc, 42, 100_000)?, &[])?;
-    let fault = Fault::at(FaultKind::TooLarge, 2);
-    check_command(&rt, alloc, &["run", "in"], &mut files, fault, line)?;
-    check_command(&rt, alloc, &REWRITE, &mut files, fault, line)
+    let session = "\
+$ run in | 221 TooLarge 2 0 0 refused 28 TooLarge at 2/ \
+| $ rewrite in profile out map | 221 TooLarge 2 0 0 refused 28 TooLarge at 2/ | none out | none map";
+    play(
+        &rt,
+        alloc,
+        &mut returning(alloc, 42, LONG, 42, 400_000)?,
+        "much code",
+        session,
+    )
 }
 
 #[test]
 fn too_many_functions(rt: HostRuntime) -> Result<(), Fail> {
     let alloc = rt.alloc();
-    let line = b"refused 28 TooLarge at 3\n";
-    is_too_large(&rt, alloc, returning(alloc, 200_001, 1)?, 3, line)
+    let session = "\
+$ run --symbols in | 221 TooLarge 3 0 0 refused 28 TooLarge at 3/ \
+| $ rewrite in profile out map | 221 TooLarge 3 0 0 refused 28 TooLarge at 3/ | none out | none map";
+    play(
+        &rt,
+        alloc,
+        &mut returning(alloc, 1, SHORT, 200_001, 4)?,
+        "many functions",
+        session,
+    )
 }
 
-// A file with many section headers is run, and isn't rewritten.
+const SECTIONS: &str = "\
+# A file with 65,001 section headers is run, and isn't rewritten.
+like exit7
+- patch 3c e9fd | size 3f7ae0 => $ rewrite in profile out map | 221 TooLarge 5 0 0 refused 28 TooLarge at 5/
+     | none out | none map | $ run in | 7 Ended(7) [ended 7 after 4 steps]/";
+
 #[test]
 fn too_many_sections(rt: HostRuntime) -> Result<(), Fail> {
-    let alloc = rt.alloc();
-    let mut input = exit7(alloc)?;
-    let size = input.len().saturating_add(MORE_SECTIONS * SHDR_SIZE);
-    grow(&mut input, size)?;
-    patch(&mut input, E_SHNUM, &65_001u16.to_le_bytes());
-    let mut files = files(alloc, input, &[])?;
-    let fault = Fault::at(FaultKind::TooLarge, 5);
-    let line = b"refused 28 TooLarge at 5\n";
-    check_command(&rt, alloc, &REWRITE, &mut files, fault, line)?;
-    let (status, _out) = answer(alloc, &["run", "in"], &mut files, 200)?;
-    assert_eq!(rt; status, Status::Ended(7));
-    Ok(())
+    play_rows(&rt, rt.alloc(), SECTIONS)
 }
 
 // How many sections share one name, and its length.
@@ -117,7 +108,7 @@ const NAME_LENGTH: usize = 1_000_000;
 // So many sections of one instruction, which returns. The first has the name, and the headers of the others, which stand at
 // the end of the file before that of `.shstrtab`, are given its place.
 fn named_alike(alloc: Global) -> Result<Vec<u8>, Fail> {
-    let back = assemble(alloc, &[jalr(X0, 0, RA)])?;
+    let back = [0x67, 0x80, 0, 0];
     let name = vec![in alloc; b'n'; NAME_LENGTH]?;
     let mut sections = Vec::new(alloc);
     sections.push(Section::code(&name, CODE, &back))?;
@@ -141,8 +132,8 @@ fn named_alike(alloc: Global) -> Result<Vec<u8>, Fail> {
 #[test]
 fn names_that_are_too_long(rt: HostRuntime) -> Result<(), Fail> {
     let alloc = rt.alloc();
-    let mut files = files(alloc, named_alike(alloc)?, &[])?;
-    let fault = Fault::at(FaultKind::TooLarge, 6);
-    let line = b"refused 28 TooLarge at 6\n";
-    check_command(&rt, alloc, &REWRITE, &mut files, fault, line)
+    let mut files = files_with(alloc, "", named_alike(alloc)?)?;
+    let session = "\
+$ rewrite in profile out map | 221 TooLarge 6 0 0 refused 28 TooLarge at 6/ | none out | none map";
+    play(&rt, alloc, &mut files, "long names", session)
 }

@@ -1,171 +1,95 @@
 // Files that are refused: the line that is printed, and that nothing is written. Places are worked out by hand.
-
-use crate::calls::{REWRITE, answer, files};
-use cli_base::Status;
-use elf_image::header::{E_FLAGS, E_TYPE};
-use rb_bytes::fault::{Fault, FaultKind};
-use rb_io::MemFiles;
-use std::alloc::Global;
-use std::process::Abort;
+use crate::sessions::commands_refuse;
 use std::test::Fail;
-use test_files::bytes::patch;
-use test_files::exit7;
-use test_files::headers::{P_FLAGS, P_MEMSZ, P_VADDR, SH_ADDR, SH_FLAGS};
-use test_files::shapes::{EXIT7_NAMES, EXIT7_SEGMENT, EXIT7_TEXT};
 
-/// The first address that is too high for a byte of a file.
-pub const TOO_HIGH: u64 = 0x7fff_0000;
+// The number of the answer, the fault with its place, what it needs and the room for it, and the line.
+const HEADERS: &str = "\
+# Other kinds of files: flags, and a type.
+like exit7
+- patch 30 05 => 221 Flags 30 0 0 refused 3 Flags at 30/
+- patch 10 03 => 221 NotStatic 10 0 0 refused 4 NotStatic at 10/
 
-// Bytes that stand in place of the example's, from an offset on.
-#[derive(Clone, Copy)]
-struct Change<'a> {
-    offset: usize,
-    bytes: &'a [u8],
-}
+# A segment of code of two sizes, and one that may be written.
+like exit7
+- patch 68 89 => 221 ExecSegments 40 0 0 refused 5 ExecSegments at 40/
+- patch 44 07 => 221 WritableCode 40 0 0 refused 6 WritableCode at 40/
 
-// A changed example, and how it is refused.
-#[derive(Clone, Copy)]
-struct Row<'a> {
-    changes: &'a [Change<'a>],
-    fault: Fault,
-    line: &'a [u8],
-}
+# The first address that is too high for a byte of a file.
+like exit7
+- patch 50 0000ff7f | patch f0 7800ff7f => 221 HighAddress 7fff0000 0 0 refused 7 HighAddress at 7fff0000/
 
-fn changed(alloc: Global, changes: &[Change<'_>]) -> Result<Vec<u8>, Fail> {
-    let mut file = exit7(alloc)?;
-    for change in changes {
-        patch(&mut file, change.offset, change.bytes);
-    }
-    Ok(file)
-}
+# A flag of compressed sections.
+like exit7
+- patch 129 08 => 221 CompressedSection 2 0 0 refused 8 CompressedSection at 2/
 
-/// Does what the arguments say, and checks that a file is refused so.
-pub fn check_command(
-    rt: &impl Abort,
-    alloc: Global,
-    args: &[&str],
-    files: &mut MemFiles,
-    fault: Fault,
-    line: &[u8],
-) -> Result<(), Fail> {
-    let (status, out) = answer(alloc, args, files, 200)?;
-    assert_eq!(rt; status, Status::Refused(fault));
-    assert_eq!(rt; status.number(), 221);
-    assert_eq!(rt; out.taken(), line);
-    assert!(rt; files.content("out").is_none());
-    assert!(rt; files.content("map").is_none());
-    Ok(())
-}
+# Prefixes of the example; from 120 bytes on the segment's bytes are looked for, from 0 on.
+like exit7
+- size 0 => 221 NotElf 0 0 0 refused 1 NotElf at 0/
+- size 6 => 221 NotElf 0 0 0 refused 1 NotElf at 0/
+- size 7 => 221 Truncated 0 0 0 refused 2 Truncated at 0/
+- size 3f => 221 Truncated 0 0 0 refused 2 Truncated at 0/
+- size 40 => 221 Truncated 40 0 0 refused 2 Truncated at 40/
+- size 77 => 221 Truncated 40 0 0 refused 2 Truncated at 40/
+- size 78 => 221 Truncated 0 0 0 refused 2 Truncated at 0/
+- size 87 => 221 Truncated 0 0 0 refused 2 Truncated at 0/
+- size 88 => 221 Truncated a0 0 0 refused 2 Truncated at a0/
+- size 15f => 221 Truncated a0 0 0 refused 2 Truncated at a0/
 
-/// Rewrites and runs an input, and checks that it is refused so.
-pub fn check(
-    rt: &impl Abort,
-    alloc: Global,
-    input: Vec<u8>,
-    fault: Fault,
-    line: &[u8],
-) -> Result<(), Fail> {
-    let mut files = files(alloc, input, &[])?;
-    check_command(rt, alloc, &REWRITE, &mut files, fault, line)?;
-    check_command(rt, alloc, &["run", "in"], &mut files, fault, line)
-}
-
-fn check_row(rt: &impl Abort, alloc: Global, row: &Row<'_>) -> Result<(), Fail> {
-    let input = changed(alloc, row.changes)?;
-    check(rt, alloc, input, row.fault, row.line)
-}
-
-// One change, of these bytes.
-fn check_change(
-    rt: &impl Abort,
-    alloc: Global,
-    offset: usize,
-    bytes: &[u8],
-    fault: Fault,
-    line: &[u8],
-) -> Result<(), Fail> {
-    let row = Row {
-        changes: &[Change { offset, bytes }],
-        fault,
-        line,
-    };
-    check_row(rt, alloc, &row)
-}
+# Files of other machines, also cut.
+like exit7
+- patch 12 00 => 221 NotElf 0 0 0 refused 1 NotElf at 0/
+- patch 12 00 | size 13 => 221 Truncated 0 0 0 refused 2 Truncated at 0/";
 
 #[test]
-fn other_kinds_of_files(rt: HostRuntime) -> Result<(), Fail> {
-    let alloc = rt.alloc();
-    let flags = Fault::at(FaultKind::Flags, 0x30);
-    let line = b"refused 3 Flags at 30\n";
-    check_change(&rt, alloc, E_FLAGS, b"\x05", flags, line)?;
-    let kind = Fault::at(FaultKind::NotStatic, 0x10);
-    let line = b"refused 4 NotStatic at 10\n";
-    check_change(&rt, alloc, E_TYPE, b"\x03", kind, line)
-}
-
-// A segment of code of two sizes, and one that may be written.
-#[test]
-fn other_segments_of_code(rt: HostRuntime) -> Result<(), Fail> {
-    let alloc = rt.alloc();
-    let sizes = Fault::at(FaultKind::ExecSegments, 0x40);
-    let line = b"refused 5 ExecSegments at 40\n";
-    check_change(&rt, alloc, EXIT7_SEGMENT + P_MEMSZ, b"\x89", sizes, line)?;
-    let rights = Fault::at(FaultKind::WritableCode, 0x40);
-    let line = b"refused 6 WritableCode at 40\n";
-    check_change(&rt, alloc, EXIT7_SEGMENT + P_FLAGS, b"\x07", rights, line)
-}
-
-#[test]
-fn high_addresses(rt: HostRuntime) -> Result<(), Fail> {
-    let row = Row {
-        changes: &[
-            Change {
-                offset: EXIT7_SEGMENT + P_VADDR,
-                bytes: b"\0\0\xff\x7f",
-            },
-            Change {
-                offset: EXIT7_TEXT + SH_ADDR,
-                bytes: b"\x78\0\xff\x7f",
-            },
-        ],
-        fault: Fault::at(FaultKind::HighAddress, TOO_HIGH),
-        line: b"refused 7 HighAddress at 7fff0000\n",
-    };
-    check_row(&rt, rt.alloc(), &row)
-}
-
-#[test]
-fn compressed_sections(rt: HostRuntime) -> Result<(), Fail> {
-    let flags = EXIT7_NAMES + SH_FLAGS + 1;
-    let fault = Fault::at(FaultKind::CompressedSection, 2);
-    let line = b"refused 8 CompressedSection at 2\n";
-    check_change(&rt, rt.alloc(), flags, b"\x08", fault, line)
-}
-
-#[test]
-fn prefixes_of_the_example(rt: HostRuntime) -> Result<(), Fail> {
-    let alloc = rt.alloc();
-    let not_elf = Fault::at(FaultKind::NotElf, 0);
-    let header = Fault::at(FaultKind::Truncated, 0);
-    let segments = Fault::at(FaultKind::Truncated, 0x40);
-    let sections = Fault::at(FaultKind::Truncated, 0xa0);
-    let rows: [(usize, Fault, &[u8]); 10] = [
-        (0, not_elf, b"refused 1 NotElf at 0\n"),
-        (6, not_elf, b"refused 1 NotElf at 0\n"),
-        (7, header, b"refused 2 Truncated at 0\n"),
-        (63, header, b"refused 2 Truncated at 0\n"),
-        (64, segments, b"refused 2 Truncated at 40\n"),
-        (119, segments, b"refused 2 Truncated at 40\n"),
-        // the segment's bytes are looked for from 0 on
-        (120, header, b"refused 2 Truncated at 0\n"),
-        (135, header, b"refused 2 Truncated at 0\n"),
-        (136, sections, b"refused 2 Truncated at a0\n"),
-        (351, sections, b"refused 2 Truncated at a0\n"),
+fn files_that_are_not_read(rt: HostRuntime) -> Result<(), Fail> {
+    let commands = [
+        "$ rewrite in profile out map",
+        "$ map in profile",
+        "$ run in",
+        "$ record in out",
     ];
-    for (size, fault, line) in rows {
-        let mut input = exit7(alloc)?;
-        input.truncate(size);
-        check(&rt, alloc, input, fault, line)?;
-    }
-    Ok(())
+    commands_refuse(&rt, rt.alloc(), &commands, HEADERS)
+}
+
+const CODE: &str = "\
+# A type that isn't one, and one that doesn't apply to the first instruction.
+like exit7
+- reloc 10078 type=62 10078 => 221 RelocType 10078 0 0 refused 9 RelocType at 10078/
+- reloc 10078 PCREL_HI20 10078 => 221 RelocMismatch 10078 0 0 refused 10 RelocMismatch at 10078/
+
+# Two lower parts of one address that differ.
+code .text 10078 auipc a0,0; addi a0,a0,16; addi a0,a0,20; exit
+label p 10078
+reloc 10078 PCREL_HI20 10088
+- reloc 1007c PCREL_LO12_I @p | reloc 10080 PCREL_LO12_I @p
+  => 221 LoMismatch 10078 0 0 refused 11 LoMismatch at 10078/
+
+# A difference in 16 bits in data behind the code, and stubs of a linker.
+code .text 10078 addi a0,zero,1; lui a1,16; addi a1,a1,156; addi a2,zero,2; addi a7,zero,64; ecall; addi a0,zero,0; exit
+- loaded .rodata 1009c 0400 | reloc 1009c ADD16 1007c | reloc 1009c SUB16 10078
+  => 221 NarrowDiff 1009c 0 0 refused 12 NarrowDiff at 1009c/
+- loaded .iplt 1009c 6869 => 221 IfuncOrPlt 1009c 0 0 refused 13 IfuncOrPlt at 1009c/
+
+# An entry point in the middle of an instruction.
+like exit7
+- entry 1007a => 221 BadEntry 1007a 0 0 refused 15 BadEntry at 1007a/
+
+# A word that is no instruction, an AUIPC to which no relocation applies, and a jump into its own middle.
+- code .text 10078 .word 00000000; addi a0,a0,7; exit
+  => 221 BadInstruction 10078 0 0 refused 16 BadInstruction at 10078/
+- code .text 10078 auipc a0,0; addi a0,a0,7; exit => 221 BareAuipc 10078 0 0 refused 16 BareAuipc at 10078/
+- code .text 10078 jal zero,2; addi a0,a0,7; exit => 221 BadTarget 10078 0 0 refused 17 BadTarget at 10078/
+
+# Unwind tables come behind faults of the file and before those of its code.
+- code .text 10078 lui a0,0; addi a0,a0,7; exit | loaded .eh_frame 10088 00000000
+  => 221 NotBuilt 0 0 0 refused 29 NotBuilt at 0/
+- code .text 10078 auipc a0,0; addi a0,a0,7; exit | loaded .eh_frame 10088 00000000
+  => 221 NotBuilt 0 0 0 refused 29 NotBuilt at 0/
+- code .text 10078 lui a0,0; addi a0,a0,7; exit | loaded .eh_frame 10088 00000000 | flags 5
+  => 221 Flags 30 0 0 refused 3 Flags at 30/";
+
+#[test]
+fn files_that_are_not_rewritten(rt: HostRuntime) -> Result<(), Fail> {
+    let commands = ["$ run --symbols in", "$ rewrite in profile out map"];
+    commands_refuse(&rt, rt.alloc(), &commands, CODE)
 }

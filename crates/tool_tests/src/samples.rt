@@ -1,49 +1,36 @@
-// Functions that call one another in a row, which are split by their profiles.
-
-use crate::rewriting::{MapText, Rewriting, check, ends_as_before};
+// Functions that call one another in a row: they are split by the profiles of their runs, and run on both machines.
+use crate::sessions::{files_with, play};
+use rb_io::MemFiles;
 use std::alloc::Global;
+use std::process::Abort;
 use std::test::Fail;
 use test_files::samples::{
-    Function, HUNDRED_FUNCTIONS, Sample, THREE_FUNCTIONS, functions, sample_file,
+    HUNDRED_FUNCTIONS, ONE_FUNCTION, Sample, THREE_FUNCTIONS, sample_in_words,
 };
+use test_files::words::file_in_words;
 
-// A line of a profile: once from a place in one function to a place in another.
-fn add_line(
-    text: &mut Vec<u8>,
-    from: &Function,
-    at: &[u8],
-    to: &Function,
-    place: &[u8],
-) -> Result<(), Fail> {
-    let fields: [&[u8]; 9] = [
-        b"1 ", &from.name, b" ", at, b" 1 ", &to.name, b" ", place, b" 0 1\n",
-    ];
-    for field in fields {
-        text.extend_from_slice(field)?;
-    }
-    Ok(())
+// Plays a session with a sample, and answers the files after it.
+fn play_sample(
+    rt: &impl Abort,
+    alloc: Global,
+    sample: &Sample,
+    session: &str,
+) -> Result<MemFiles, Fail> {
+    let words = sample_in_words(alloc, sample)?;
+    let mut files = files_with(alloc, &words, file_in_words(alloc, &words)?)?;
+    play(rt, alloc, &mut files, session, session)?;
+    Ok(files)
 }
 
-// Of each function the way that its run takes, which adds 5 and 3 in turn; and the calls.
-fn profile(alloc: Global, sample: &Sample) -> Result<Vec<u8>, Fail> {
-    let functions = functions(alloc, sample)?;
-    let mut text = Vec::new(alloc);
-    let mut even = true;
-    for function in &functions {
-        if even {
-            add_line(&mut text, function, b"c", function, b"18")?;
-            add_line(&mut text, function, b"18", function, b"1c")?;
-        } else {
-            add_line(&mut text, function, b"c", function, b"10")?;
-            add_line(&mut text, function, b"14", function, b"1c")?;
-        }
-        even = !even;
-    }
-    for (function, next) in functions.iter().zip(functions.iter().skip(1)) {
-        add_line(&mut text, function, b"20", next, b"0")?;
-    }
-    text.extend_from_slice(b"1 _start 8 1 f00 0 0 1\n")?;
-    Ok(text)
+#[test]
+fn one_function_is_run_and_recorded(rt: HostRuntime) -> Result<(), Fail> {
+    let session = "\
+$ run in | 5 Ended(5) [ended 5 after 15 steps]/ \
+| $ run --symbols in | 5 Ended(5) [ended 5 after 15 steps]/ \
+| $ record in out | 5 Ended(5) [ended 5 after 15 steps]/ \
+| text out 1 @11000 c 1 @11000 18 0 1/1 @11000 18 1 @11000 1c 0 1/1 @11000 2c 1 @11030 c 0 1/1 @11030 8 1 @11000 0 0 1/";
+    play_sample(&rt, rt.alloc(), &ONE_FUNCTION, session)?;
+    Ok(())
 }
 
 // The entry point, then of each function the part that runs, and then the parts that don't.
@@ -94,31 +81,26 @@ const THREE_FUNCTIONS_MAP: &[u8] = b"\
 // Callers stand before what they call, and cold parts of functions behind all that is hot.
 #[test]
 fn three_functions_are_split(rt: HostRuntime) -> Result<(), Fail> {
-    let alloc = rt.alloc();
-    let profile = profile(alloc, &THREE_FUNCTIONS)?;
-    let moved = Rewriting {
-        profile: &profile,
-        map: MapText::Whole(THREE_FUNCTIONS_MAP),
-        summary: b"moved 4 functions, 41 instructions, 164 bytes; 10 hot blocks; 0 profile lines ignored\n",
-        after: b"[ended 13 after 35 steps]\n",
-        ..ends_as_before(13, b"[ended 13 after 36 steps]\n")
-    };
-    check(&rt, alloc, sample_file(alloc, &THREE_FUNCTIONS)?, &moved)
+    let session = "\
+$ rewrite in profile out map \
+| 0 Ok moved 4 functions, 41 instructions, 164 bytes; 10 hot blocks; 0 profile lines ignored/ \
+| $ run in | 13 Ended(13) [ended 13 after 36 steps]/ \
+| $ run --symbols in | 13 Ended(13) [ended 13 after 36 steps]/ \
+| $ run out | 13 Ended(13) [ended 13 after 35 steps]/";
+    let files = play_sample(&rt, rt.alloc(), &THREE_FUNCTIONS, session)?;
+    assert_eq!(rt; files.content("map").ok_or("no map")?, THREE_FUNCTIONS_MAP);
+    Ok(())
 }
 
 #[test]
 fn a_hundred_functions_are_split(rt: HostRuntime) -> Result<(), Fail> {
-    let alloc = rt.alloc();
-    let profile = profile(alloc, &HUNDRED_FUNCTIONS)?;
-    let moved = Rewriting {
-        profile: &profile,
-        map: MapText::Ends(
-            b"132a0 4 122c0\n132a4 4 122c4\n132a8 4 122c8\n132ac 4 122cc\n132b0 4 122d0\n132b4 4 11000\n",
-            b"\n1455c 8 12248\n14564 4 12270\n14568 4 12274\n1456c 8 122a8\n",
-        ),
-        summary: b"moved 101 functions, 1205 instructions, 4820 bytes; 301 hot blocks; 0 profile lines ignored\n",
-        after: b"[ended 144 after 1005 steps]\n",
-        ..ends_as_before(144, b"[ended 144 after 1055 steps]\n")
-    };
-    check(&rt, alloc, sample_file(alloc, &HUNDRED_FUNCTIONS)?, &moved)
+    let session = "\
+$ rewrite in profile out map \
+| 0 Ok moved 101 functions, 1205 instructions, 4820 bytes; 301 hot blocks; 0 profile lines ignored/ \
+| starts map 132a0 4 122c0/132a4 4 122c4/132a8 4 122c8/132ac 4 122cc/132b0 4 122d0/132b4 4 11000/ \
+| ends map /1455c 8 12248/14564 4 12270/14568 4 12274/1456c 8 122a8/ \
+| $ run in | 144 Ended(144) [ended 144 after 1055 steps]/ \
+| $ run out | 144 Ended(144) [ended 144 after 1005 steps]/";
+    play_sample(&rt, rt.alloc(), &HUNDRED_FUNCTIONS, session)?;
+    Ok(())
 }

@@ -1,175 +1,134 @@
-// The smallest example: rewritten, refused, and under files and a sink that fail.
-
-use crate::calls::{REWRITE, answer, files};
-use crate::example::exit7_moved;
-use cli_base::Status;
-use elf_image::header::E_MACHINE;
-use rb_bytes::fault::{Fault, FaultKind};
+// The smallest example: rewritten, and under files and a sink that fail.
+use crate::sessions::{files_with, play, play_rows};
 use std::alloc::Global;
-use std::process::Abort;
 use std::test::Fail;
-use test_files::bytes::patch;
-use test_files::headers::SH_ADDRALIGN;
-use test_files::shapes::EXIT7_NAMES;
-use test_files::{Section, exit7, exit7_code, program};
+use test_files::words::{file_in_words, hexadecimal, push_bytes};
 
-/// The text of its map.
-pub const MAP: &[u8] = b"10090 4 10078\n10094 4 1007c\n10098 4 10080\n1009c 4 10084\n";
+/// The example with its code moved, worked out by hand: the segment grows to a0, the names stand there with `.old.text` and
+/// `.text` behind them, and four section headers at c8, of which the first stays. A line is the width of its numbers, or
+/// bytes.
+const MOVED: &str = "\
+bytes 7f454c46020101000000000000000000
+2 2 f3
+4 1
+8 10090 40 c8
+4 0
+2 40 38 1 40 4 2
+# the segment
+4 1 5
+8 0 10000 10000 a0 a0 1000
+# LUI a0,0; ADDI a0,a0,7; ADDI a7,x0,93; ECALL, and at 90 again
+bytes 37050000130575009308d00573000000
+bytes 0000000000000000
+bytes 37050000130575009308d00573000000
+# `.text`, `.shstrtab`, `.old.text`, `.text`, with a zero byte before and after each
+bytes 002e74657874002e736873747274616200
+bytes 2e6f6c642e74657874002e7465787400
+bytes 00000000000000
+# the null section
+8 0 0 0 0 0 0 0 0
+# `.old.text`
+4 11 1
+8 6 10078 78 10
+4 0 0
+8 4 0
+# `.shstrtab`
+4 7 3
+8 0 0 a0 21
+4 0 0
+8 1 0
+# `.text`
+4 1b 1
+8 6 10090 90 10
+4 0 0
+8 10 0";
 
-const SUMMARY: &[u8] =
-    b"moved 1 functions, 4 instructions, 16 bytes; 0 hot blocks; 0 profile lines ignored\n";
+// The bytes of numbers of a width, one after the other.
+fn push_numbers(bytes: &mut Vec<u8>, width: &str, numbers: &str) -> Result<(), Fail> {
+    let width = width.parse::<usize>()?;
+    for number in numbers.split(' ') {
+        let number = hexadecimal(number)?;
+        for byte in number.to_le_bytes().iter().take(width) {
+            bytes.push(*byte)?;
+        }
+    }
+    Ok(())
+}
 
-const ENDED: &[u8] = b"[ended 7 after 4 steps]\n";
+fn moved(alloc: Global) -> Result<Vec<u8>, Fail> {
+    let mut bytes = Vec::new(alloc);
+    for line in MOVED.lines() {
+        match line.split_once(' ') {
+            Some(("#", _)) => {}
+            Some(("bytes", digits)) => push_bytes(&mut bytes, digits)?,
+            Some((width, numbers)) => push_numbers(&mut bytes, width, numbers)?,
+            None => return Err(Fail::new("no numbers")),
+        }
+    }
+    Ok(bytes)
+}
+
+const SESSION: &str = "\
+$ rewrite in profile out map \
+| 0 Ok moved 1 functions, 4 instructions, 16 bytes; 0 hot blocks; 0 profile lines ignored/ \
+| text map 10090 4 10078/10094 4 1007c/10098 4 10080/1009c 4 10084/ \
+| $ run in | 7 Ended(7) [ended 7 after 4 steps]/ | $ run out | 7 Ended(7) [ended 7 after 4 steps]/ \
+| $ run --symbols out | 221 AlreadyMoved 1 0 0 refused 14 AlreadyMoved at 1/ \
+| $ rewrite out profile again map | 221 AlreadyMoved 1 0 0 refused 14 AlreadyMoved at 1/ | none again";
 
 #[test]
 fn the_example_is_rewritten(rt: HostRuntime) -> Result<(), Fail> {
     let alloc = rt.alloc();
-    let mut files = files(alloc, exit7(alloc)?, &[])?;
-    let (status, out) = answer(alloc, &REWRITE, &mut files, 200)?;
-    assert_eq!(rt; status, Status::Ok);
-    assert_eq!(rt; out.taken(), SUMMARY);
-    assert_eq!(rt; files.content("map").ok_or("no map")?, MAP);
-    let moved = exit7_moved(alloc)?;
+    let input = file_in_words(alloc, "code .text 10078 lui a0,0; addi a0,a0,7; exit")?;
+    let mut files = files_with(alloc, "", input)?;
+    play(&rt, alloc, &mut files, "the smallest example", SESSION)?;
     let written = files.content("out").ok_or("no output")?;
-    assert_eq!(rt; written, moved.as_slice());
-    for name in ["in", "out"] {
-        let (status, out) = answer(alloc, &["run", name], &mut files, 200)?;
-        assert_eq!(rt; status, Status::Ended(7));
-        assert_eq!(rt; out.taken(), ENDED);
-    }
+    assert_eq!(rt; written, moved(alloc)?.as_slice());
     Ok(())
 }
 
-fn check_refused(
-    rt: &impl Abort,
-    alloc: Global,
-    input: Vec<u8>,
-    kind: FaultKind,
-    line: &[u8],
-) -> Result<(), Fail> {
-    let mut files = files(alloc, input, &[])?;
-    let (status, out) = answer(alloc, &REWRITE, &mut files, 200)?;
-    assert_eq!(rt; status, Status::Refused(Fault::at(kind, 0)));
-    assert_eq!(rt; status.number(), 221);
-    assert_eq!(rt; out.taken(), line);
-    assert!(rt; files.content("out").is_none());
-    assert!(rt; files.content("map").is_none());
-    Ok(())
-}
+const FAILING: &str = "\
+# The first call of the files reads the input, and the second the profile.
+like exit7
+- fail files 1 => $ rewrite in profile out map | 222 ReadFault | none out | none map
+- fail files 2 => $ rewrite in profile out map | 222 ReadFault | none out | none map
+- fail files 1 => $ map in profile | 222 ReadFault
+- fail files 2 => $ map in profile | 222 ReadFault
+
+# The third call writes the output, and the fourth the map.
+like exit7
+- fail files 3 => $ rewrite in profile out map | 223 WriteFault | none out | none map
+- fail files 4 => $ rewrite in profile out map | 223 WriteFault | bytes out 0 7f454c46 | none map
+
+# The files are written whole, and the summary isn't.
+like exit7
+- room printed 0 => $ rewrite in profile out map | 223 WriteFault | bytes out 0 7f454c46 | starts map 10090 4 10078/
+- room printed a => $ rewrite in profile out map | 223 WriteFault moved 1 fu | bytes out 0 7f454c46
+     | starts map 10090 4 10078/
+
+# A map that is printed, and not whole.
+like exit7
+- => $ map in profile | 0 Ok 10090 4 10078/10094 4 1007c/10098 4 10080/1009c 4 10084/ | none out
+- room printed 0 => $ map in profile | 223 WriteFault
+- room printed 15 => $ map in profile | 223 WriteFault 10090 4 10078/10094 4
+
+# A map of a loop.
+like countdown
+profile 1 @10078 c 1 @10078 4 0 3
+profile 1 @10078 4 1 @10078 10 0 1
+- => $ map in profile | none out
+     | 0 Ok 10090 8 10078/10098 4 10080/1009c 0 10084/1009c 4 1007c/100a0 4 10088/100a4 4 1008c/
+
+# Tables that aren't built, where the file is rewritten.
+like exit7
+- unloaded .debug_info 0 00000000 => $ run in | 7 Ended(7) [ended 7 after 4 steps]/
+     | $ rewrite in profile out map | 221 NotBuilt 0 0 0 refused 29 NotBuilt at 0/ | none out | none map
+
+# The names of sections would stand at a multiple of 2^40.
+like exit7
+- patch 150 0000000000010000 => $ rewrite in profile out map | 224 NoMemory | none out";
 
 #[test]
-fn other_files_are_refused(rt: HostRuntime) -> Result<(), Fail> {
-    let alloc = rt.alloc();
-    let not_elf = b"refused 1 NotElf at 0\n";
-    let truncated = b"refused 2 Truncated at 0\n";
-    let not_built = b"refused 29 NotBuilt at 0\n";
-    check_refused(&rt, alloc, Vec::new(alloc), FaultKind::NotElf, not_elf)?;
-    let mut cut = exit7(alloc)?;
-    cut.truncate(63);
-    check_refused(&rt, alloc, cut, FaultKind::Truncated, truncated)?;
-    let mut machine = exit7(alloc)?;
-    patch(&mut machine, E_MACHINE, &[0]);
-    check_refused(&rt, alloc, machine, FaultKind::NotElf, not_elf)?;
-    let mut short = exit7(alloc)?;
-    patch(&mut short, E_MACHINE, &[0]);
-    short.truncate(19);
-    check_refused(&rt, alloc, short, FaultKind::Truncated, truncated)?;
-    let code = exit7_code(alloc)?;
-    let mut tables = program(alloc, &code, &[])?;
-    let units = Section::unloaded(b".debug_info", b"\0\0\0\0");
-    tables.sections.push(units)?;
-    let tables = tables.build(alloc)?;
-    check_refused(&rt, alloc, tables, FaultKind::NotBuilt, not_built)?;
-    Ok(())
-}
-
-// The names of sections would stand at a multiple of 2^40.
-#[test]
-fn a_huge_output_is_not_made(rt: HostRuntime) -> Result<(), Fail> {
-    let alloc = rt.alloc();
-    let mut input = exit7(alloc)?;
-    patch(
-        &mut input,
-        EXIT7_NAMES + SH_ADDRALIGN,
-        &(1u64 << 40).to_le_bytes(),
-    );
-    let mut files = files(alloc, input, &[])?;
-    let (status, out) = answer(alloc, &REWRITE, &mut files, 200)?;
-    assert_eq!(rt; status, Status::NoMemory);
-    assert!(rt; out.taken().is_empty());
-    assert!(rt; files.content("out").is_none());
-    Ok(())
-}
-
-// Which call of the files fails, how much room standard output has, and then the status, what standard
-// output took, and whether the output and the map are written.
-#[derive(Clone, Copy)]
-struct Case {
-    fail: u64,
-    room: usize,
-    status: Status,
-    printed: usize,
-    out: bool,
-    map: bool,
-}
-
-fn check_failing(rt: &impl Abort, alloc: Global, case: &Case) -> Result<(), Fail> {
-    let mut files = files(alloc, exit7(alloc)?, &[case.fail])?;
-    let (status, out) = answer(alloc, &REWRITE, &mut files, case.room)?;
-    assert_eq!(rt; status, case.status);
-    assert_eq!(rt; out.taken().len(), case.printed);
-    assert_eq!(rt; files.content("out").is_some(), case.out);
-    assert_eq!(rt; files.content("map").is_some(), case.map);
-    Ok(())
-}
-
-// The first call reads the input, the second the profile.
-#[test]
-fn files_that_cannot_be_read(rt: HostRuntime) -> Result<(), Fail> {
-    for fail in [1, 2] {
-        let case = Case {
-            fail,
-            room: 200,
-            status: Status::ReadFault,
-            printed: 0,
-            out: false,
-            map: false,
-        };
-        check_failing(&rt, rt.alloc(), &case)?;
-    }
-    Ok(())
-}
-
-// The third call writes the output, the fourth the map.
-#[test]
-fn files_that_cannot_be_written(rt: HostRuntime) -> Result<(), Fail> {
-    for (fail, out) in [(3, false), (4, true)] {
-        let case = Case {
-            fail,
-            room: 200,
-            status: Status::WriteFault,
-            printed: 0,
-            out,
-            map: false,
-        };
-        check_failing(&rt, rt.alloc(), &case)?;
-    }
-    Ok(())
-}
-
-// The files are written whole, and the summary isn't.
-#[test]
-fn output_that_is_full(rt: HostRuntime) -> Result<(), Fail> {
-    for room in [0, 10] {
-        let case = Case {
-            fail: 5,
-            room,
-            status: Status::WriteFault,
-            printed: room,
-            out: true,
-            map: true,
-        };
-        check_failing(&rt, rt.alloc(), &case)?;
-    }
-    Ok(())
+fn files_and_sinks_that_fail(rt: HostRuntime) -> Result<(), Fail> {
+    play_rows(&rt, rt.alloc(), FAILING)
 }

@@ -1,15 +1,16 @@
 // Results of instructions, as checks/machine_results.py takes them from qemu.
 use crate::machine::results::RESULTS;
-use crate::machine::running::{run_words, sink, source};
-use rv_machine::{Ran, Stepped};
+use crate::machine::running::run_in_words;
+use rv_machine::Stepped;
 use std::alloc::Global;
 use std::test::Fail;
 use test_files::bytes::push_u64s;
+use test_files::words::hexadecimal;
 
 /// An instruction, the values of x11 and of x12 before it, and its result.
-#[derive(Drop)]
+#[derive(Clone, Copy)]
 struct Row {
-    word: u32,
+    word: u64,
     left: u64,
     right: u64,
     result: u64,
@@ -18,74 +19,56 @@ struct Row {
 fn parse(line: &str) -> Option<Row> {
     let mut numbers = line.split(' ');
     Some(Row {
-        word: u32::from_str_radix(numbers.next()?, 16).ok()?,
-        left: u64::from_str_radix(numbers.next()?, 16).ok()?,
-        right: u64::from_str_radix(numbers.next()?, 16).ok()?,
-        result: u64::from_str_radix(numbers.next()?, 16).ok()?,
+        word: hexadecimal(numbers.next()?).ok()?,
+        left: hexadecimal(numbers.next()?).ok()?,
+        right: hexadecimal(numbers.next()?).ok()?,
+        result: hexadecimal(numbers.next()?).ok()?,
     })
 }
 
-fn table(alloc: Global) -> Result<Vec<Row>, Fail> {
-    let mut rows = Vec::new(alloc);
-    for line in RESULTS.lines() {
-        match parse(line) {
-            Some(row) => rows.push(row)?,
-            None => return Err(Fail::new("no row")),
-        }
-    }
-    Ok(rows)
-}
-
-// What stands behind an instruction, so that x10 tells what it did: LI x10, 1 behind a branch, which is passed
-// over where it is taken, LD x10, 16(x8) behind a store, else a NOP.
-fn follow(word: u32) -> u32 {
+// What stands behind an instruction, so that a0 tells what it did: LI a0,1 behind a branch, which is passed over where it is
+// taken, LD a0,16(s0) behind a store, else a NOP.
+fn follow(word: u64) -> &'static str {
     match word % 128 {
-        0x63 => 0x0010_0513,
-        0x23 => 0x0104_3503,
-        _ => 0x0000_0013,
+        0x63 => "addi a0,zero,1",
+        0x23 => "ld a0,16(s0)",
+        _ => "nop",
     }
 }
 
-// LUI x8, data. Then for each row LD x11, 0(x8); LD x12, 8(x8); LI x10, 0; the instruction and what follows it;
-// SD x10, 16(x8); ADDI x8, x8, 24. Then write(1, data, x8 - data) and exit(0).
-fn code(alloc: Global, rows: &[Row]) -> Result<Vec<u32>, Fail> {
-    let mut words = Vec::from_slice(alloc, &[0x0005_0437])?;
-    for row in rows {
-        words.extend_from_slice(&[0x0004_3583, 0x0084_3603, 0x0000_0513])?;
-        words.extend_from_slice(&[row.word, follow(row.word), 0x00a4_3823, 0x0184_0413])?;
+// The file: for each row its operands are loaded from the data, and its result is stored there. Then write(1, data, s0 -
+// data) and exit(0).
+fn file(alloc: Global) -> Result<String, Fail> {
+    let mut code = String::from_str(alloc, "flags 1\ncode .text 100b0 lui s0,80")?;
+    let mut data = String::from_str(alloc, "\nsegment rw 3000 50000\nwritable .data 50000 ")?;
+    for line in RESULTS.lines() {
+        let row = parse(line).ok_or("no row")?;
+        let (word, then) = (row.word, follow(row.word));
+        let part = format!(in alloc;
+            "; ld a1,0(s0); ld a2,8(s0); addi a0,zero,0; .word {word:x}; {then}; sd a0,16(s0); addi s0,s0,24"
+        )?;
+        code.push_str(&part)?;
+        let (left, right) = (row.left.swap_bytes(), row.right.swap_bytes());
+        data.push_str(&format!(in alloc; "{left:016x}{right:016x}0000000000000000")?)?;
     }
-    words.extend_from_slice(&[
-        0x0400_0893,
-        0x0010_0513,
-        0x0005_05b7,
-        0x40b4_0633,
-        0x0000_0073,
-        0x05d0_0893,
-        0x0000_0513,
-        0x0000_0073,
-    ])?;
-    Ok(words)
+    code.push_str(
+        "; addi a7,zero,64; addi a0,zero,1; lui a1,80; sub a2,s0,a1; ecall; addi a7,zero,93; addi a0,zero,0; ecall",
+    )?;
+    code.push_str(&data)?;
+    Ok(code)
 }
 
 #[test]
 fn results_are_those_of_qemu(rt: HostRuntime) -> Result<(), Fail> {
     let alloc = rt.alloc();
-    let rows = table(alloc)?;
-    let code = code(alloc, &rows)?;
-    let mut data = Vec::new(alloc);
-    let mut want = Vec::new(alloc);
-    for row in &rows {
-        push_u64s(&mut data, &[row.left, row.right, 0])?;
+    let run = run_in_words(alloc, &file(alloc)?)?;
+    assert_eq!(rt; run.ran.end, Stepped::Ended(0));
+    assert_eq!(rt; run.taken.len(), 303 * 24);
+    for (got, line) in run.taken.chunks(24).zip(RESULTS.lines()) {
+        let row = parse(line).ok_or("no row")?;
+        let mut want = Vec::new(alloc);
         push_u64s(&mut want, &[row.left, row.right, row.result])?;
+        assert_eq!(rt; got, want.as_slice(), "{line}");
     }
-    let mut input = source(alloc, b"", &[])?;
-    let mut out = sink(alloc, want.len())?;
-    let ran = run_words(alloc, &code, &data, 10_000, &mut input, &mut out)?;
-    assert_eq!(rt; ran.end, Stepped::Ended(0));
-    assert_eq!(rt; rows.len(), 303);
-    for ((got, want), row) in out.taken().chunks(24).zip(want.chunks(24)).zip(&rows) {
-        assert_eq!(rt; got, want, "{:08x}", row.word);
-    }
-    assert_eq!(rt; out.taken().len(), want.len());
     Ok(())
 }

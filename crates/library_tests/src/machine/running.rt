@@ -2,41 +2,18 @@
 ghost use Rattle.elf_image.specs.faults.FileFaults.{IsSound};
 ghost use Rattle.elf_image.specs.file.ParsedFile.{IsElfOf};
 
-use crate::machine::executable::executable;
 use elf_image::{Elf, read};
 use rb_io::{MemSink, MemSource};
-use rv_code::Inst;
-use rv_machine::{Machine, Ran};
+use rv_machine::{Machine, Ran, Stepped};
 use std::alloc::Global;
 use std::test::Fail;
-use test_files::assemble;
-use test_files::bytes::push_u32s;
+use test_files::words::{file_in_words, hexadecimal, said};
 
-/// Enough steps for all programs of these tests that end.
-const LIMIT: u64 = 10_000;
-
-/// A source with these bytes, whose reads of these numbers fail.
-pub fn source(alloc: Global, bytes: &[u8], fail: &[u64]) -> Result<MemSource, Fail> {
-    Ok(MemSource::new(
-        Vec::from_slice(alloc, bytes)?,
-        Vec::from_slice(alloc, fail)?,
-    ))
-}
-
-/// A sink with so much room.
-pub fn sink(alloc: Global, room: usize) -> Result<MemSink, Fail> {
-    match MemSink::new(alloc, room, Vec::new(alloc)) {
-        Ok(sink) => Ok(sink),
-        Err(_) => Err(Fail::new("no memory")),
-    }
-}
-
-/// A sink with so much room, whose write of this number fails.
-pub fn failing_sink(alloc: Global, room: usize, failing: u64) -> Result<MemSink, Fail> {
-    match MemSink::new(alloc, room, Vec::from_slice(alloc, &[failing])?) {
-        Ok(sink) => Ok(sink),
-        Err(_) => Err(Fail::new("no memory")),
-    }
+/// How a run ended, and what it wrote.
+#[derive(Drop)]
+pub struct Run {
+    pub ran: Ran,
+    pub taken: Vec<u8>,
 }
 
 fn run_elf(
@@ -55,44 +32,45 @@ fn run_elf(
     }
 }
 
-/// At most so many steps of an executable of this code and data.
-fn run_code(
-    alloc: Global,
-    code: &[u8],
-    data: &[u8],
-    limit: u64,
-    input: &mut MemSource,
-    out: &mut MemSink,
-) -> Result<Ran, Fail> {
-    let file = executable(alloc, code, data)?;
-    match read(alloc, &file) {
-        Ok(elf) => run_elf(alloc, &elf, limit, input, out),
-        Err(_) => Err(Fail::new("refused")),
+// The number that a line says.
+fn number(words: &str, name: &str, default: u64) -> Result<u64, Fail> {
+    match said(words, name) {
+        Some(digits) => Ok(hexadecimal(digits)?),
+        None => Ok(default),
     }
 }
 
-/// At most so many steps of an executable of these words of code and this data.
-pub fn run_words(
-    alloc: Global,
-    words: &[u32],
-    data: &[u8],
-    limit: u64,
-    input: &mut MemSource,
-    out: &mut MemSink,
-) -> Result<Ran, Fail> {
-    let mut code = Vec::new(alloc);
-    push_u32s(&mut code, words)?;
-    run_code(alloc, &code, data, limit, input, out)
+/// A run of a file in words, with lines for its input (`input TEXT`), the limit of its steps, the read or write that fails
+/// (`fail input NUMBER`, `fail out NUMBER`), and the room for what it writes (`room out SIZE`).
+pub fn run_in_words(alloc: Global, words: &str) -> Result<Run, Fail> {
+    let file = file_in_words(alloc, words)?;
+    let bytes = Vec::from_slice(alloc, said(words, "input ").unwrap_or("").as_bytes())?;
+    let fail = number(words, "fail input ", 0)?;
+    let mut input = MemSource::new(bytes, Vec::from_slice(alloc, &[fail])?);
+    let fail = number(words, "fail out ", 0)?;
+    let room = number(words, "room out ", 0x1_0000)? as usize;
+    let mut out = MemSink::new(alloc, room, Vec::from_slice(alloc, &[fail])?)?;
+    let limit = number(words, "limit ", 10_000)?;
+    let ran = match read(alloc, &file) {
+        Ok(elf) => run_elf(alloc, &elf, limit, &mut input, &mut out)?,
+        Err(_) => return Err(Fail::new("refused")),
+    };
+    let taken = Vec::from_slice(alloc, out.taken())?;
+    Ok(Run { ran, taken })
 }
 
-/// A run of an executable of these instructions and data.
-pub fn run_insts(
-    alloc: Global,
-    insts: &[Inst],
-    data: &[u8],
-    input: &mut MemSource,
-    out: &mut MemSink,
-) -> Result<Ran, Fail> {
-    let code = assemble(alloc, insts)?;
-    run_code(alloc, &code, data, LIMIT, input, out)
+/// How a run ended, with the pc of a trap, its steps, and what it wrote, in hexadecimal.
+pub fn show(alloc: Global, run: &Run) -> Result<String, Fail> {
+    let steps = run.ran.steps;
+    let mut shown = match run.ran.end {
+        Stepped::Trap(pc, cause) => format!(in alloc; "Trap {pc:x} {cause:?} {steps}")?,
+        end => format!(in alloc; "{end:?} {steps}")?,
+    };
+    if !run.taken.is_empty() {
+        shown.push(' ')?;
+    }
+    for byte in &run.taken {
+        shown.push_str(&format!(in alloc; "{byte:02x}")?)?;
+    }
+    Ok(shown)
 }

@@ -7,7 +7,7 @@ use Rattle.cfg_build.specs.EdgeLists.{AreStretches}
 use Rattle.cfg_build.specs.NamedAddresses.{code_of}
 use Rattle.cfg_build.proofs.layout.AcceptedCode.{AreLaidOut-functions}
 use Rattle.cfg_build.proofs.layout.BlockPartition.{AreStretches-blocks}
-use Rattle.layout_tests.proofs.layout.lay_out.Goals as goal
+use Rattle.code_tests.proofs.layout.lay_out.Goals as goal
 
 pub references-requires-clause-read : goal.references-requires-clause-read
 references-requires-clause-read c =
