@@ -6,15 +6,17 @@
 PROGRAM is a command, as `./sudrepka` or `python3 other.py`. COUNT files are made, the same ones for the same
 SEED; 2000 from 1 on have each oddity in some forty files. --only gives each file just the one of that name.
 Each is a small program for RV64, laid out by the ELF standard alone, with some oddities that no linker
-makes but the standard allows: tables in any order, headers and sections that name the same bytes or none,
-huge alignments, symbols without a home and so on. A rewriter has to take each file or to refuse it by name.
+makes: tables in any order, headers and sections that name the same bytes or none, huge alignments, symbols
+without a home and so on. A rewriter has to take each file or to refuse it by name; but where an alignment is
+huge, so that a file would have more than a GiB, or the standard doesn't allow an oddity, as a symbol table
+that is no table of names and yet its own, it may be out of memory (`unwritable_oddity` of `odd/shape.py`).
 
 Reported are: a status other than 0 and 221, a signal, a run that takes more than a minute, a written file
 that ends otherwise than its input, where that ends with `--symbols`, and complaints of `readelf -aW` (GNU
 binutils) and of `eu-elflint --gnu-ld` (elfutils) about the written file that they don't have of its input.
-The last two are left out where the tool isn't installed. Where an alignment is huge, so that a file would
-have more than a GiB, out of memory isn't reported. With --keep the reported files stay in FOLDER. The closing
-lines count the answers. The status is 0 where nothing was reported.
+The last two are left out where the tool isn't installed. With --keep the reported files stay in FOLDER. The
+closing lines count the answers, and for each such oddity the files that were out of memory. The status is 0
+where nothing was reported.
 """
 import argparse
 import collections
@@ -31,11 +33,11 @@ import tempfile
 import odd.code
 import odd.sections  # noqa: F401, its functions become oddities
 import odd.segments  # noqa: F401
-from odd.shape import ODDITIES, Shape
+from odd.shape import ODDITIES, UNWRITABLE, Shape
 
 OK, REFUSED, OUT_OF_MEMORY = 0, 221, 224
 SECONDS, TIMED_OUT = 60, -1000
-SHT_SYMTAB, SHT_RELA = 2, 4
+SHT_SYMTAB, SHT_RELA, SYMBOL_SIZE = 2, 4, 24
 
 
 def make(rng, only):
@@ -66,6 +68,10 @@ class Headers:
         at = self.sections[self.names][4] + self.sections[section][0]
         return self.data[at:self.data.find(b"\0", at)]
 
+    def home(self, table, symbol):
+        """The section of a symbol of a table."""
+        return struct.unpack_from("<H", self.data, self.sections[table][4] + SYMBOL_SIZE * symbol + 6)[0]
+
     def is_dropped(self, section):
         return self.sections[section][1] == SHT_RELA or self.name(section) in (b".debug_macro", b".gdb_index")
 
@@ -83,8 +89,8 @@ class Headers:
         return self.programs[program][5] == 0
 
 
-def is_no_matter(line, headers):
-    """Complaints that are due to what a written file is, by the headers of its input."""
+def is_no_matter(line, headers, written):
+    """Complaints that are due to what a written file is, by the headers of its input and its own."""
     section = re.search(r"section \[ *(\d+)\]", line)
     number = int(section[1]) if section else len(headers.sections)
     if number < len(headers.sections):
@@ -92,13 +98,19 @@ def is_no_matter(line, headers):
             return True
         if "alloc flag set but section not in any loaded segment" in line and headers.is_table_of_names(number):
             return True
+    symbol = re.search(r"section \[ *(\d+)\] '[^']*': symbol (\d+) \([^)]*\): st_value out of bounds", line)
+    if symbol:
+        home = written.home(int(symbol[1]), int(symbol[2]))
+        return home < len(headers.sections) and headers.is_dropped(home)
     program = re.search(r"program header entry (\d+): file offset and virtual address not module of alignment", line)
     return bool(program) and int(program[1]) < len(headers.programs) and headers.has_no_bytes(int(program[1]))
 
 
 def normalised(line):
-    """A complaint without what differs between a file and its rewrite: numbers, and how code was named."""
+    """A complaint without what differs between a file and its rewrite: numbers, how code was named, and what stands behind
+    a note, of whose section eu-elflint passes the end."""
     line = re.sub(r"symbol \d+ \([^)]*\)", "symbol", line.replace("'.old.", "'."))
+    line = re.sub(r"with owner name '[^']*'", "with owner name", line)
     line = re.sub(r"0x[0-9a-f]+|\b[0-9a-f]*[0-9][0-9a-f]*\b", "#", line)
     return re.sub(r"\s+", " ", line).strip()
 
@@ -134,10 +146,10 @@ def elflint_complaints(path):
 def new_complaints(complaints, before, after):
     """What a tool says of the written file alone."""
     known = {normalised(line) for line in complaints(before)}
-    headers = Headers(before)
+    headers, written = Headers(before), Headers(after)
     news = {}
     for line in complaints(after):
-        if normalised(line) not in known and not is_no_matter(line, headers):
+        if normalised(line) not in known and not is_no_matter(line, headers, written):
             news.setdefault(normalised(line), line)
     return list(news.values())
 
@@ -159,7 +171,7 @@ class Judge:
             else:
                 print(f"{tool} isn't installed: what it would say is left out")
 
-    def judge(self, folder, is_huge):
+    def judge(self, folder, is_writable):
         """The answer to the file `in` with the profile `profile` in a folder, and what is wrong with it."""
         before, profile, after, map_file = (os.path.join(folder, n) for n in ("in", "profile", "out", "map"))
         status, text = run_tool(self.program + ["rewrite", before, profile, after, map_file])
@@ -168,7 +180,7 @@ class Judge:
         if status == REFUSED:
             return " ".join(text.split()[:3]), []
         if status == OUT_OF_MEMORY:
-            return "out of memory", ["out of memory"] * (not is_huge)
+            return "out of memory", ["out of memory"] * is_writable
         if status != OK:
             return f"status {status}", [f"status {status}"]
         wrong = []
@@ -198,15 +210,17 @@ def main():
     if words.keep:
         os.makedirs(words.keep, exist_ok=True)
     judge = Judge(shlex.split(words.program))
-    answers, reported = collections.Counter(), collections.Counter()
+    answers, unwritten, reported = collections.Counter(), collections.Counter(), collections.Counter()
     for seed in range(words.seed, words.seed + words.count):
         file, profile, oddities = make(random.Random(seed), words.only)
         with tempfile.TemporaryDirectory() as folder:
             for name, content in (("in", file), ("profile", profile)):
                 with open(os.path.join(folder, name), "wb") as out:
                     out.write(content)
-            answer, wrong = judge.judge(folder, any(o.startswith("huge") for o in oddities))
+            excuses = UNWRITABLE.intersection(oddities)
+            answer, wrong = judge.judge(folder, not excuses)
             answers[answer] += 1
+            unwritten.update(sorted(excuses) if answer == "out of memory" else [])
             if wrong:
                 print(f"seed {seed} ({', '.join(oddities)}):")
                 for line in wrong:
@@ -214,7 +228,7 @@ def main():
                     reported[normalised(line)] += 1
                 if words.keep:
                     keep(folder, words.keep, f"{seed}")
-    for title, counter in (("answers", answers), ("reported", reported)):
+    for title, counter in (("answers", answers), ("out of memory", unwritten), ("reported", reported)):
         print(f"{title}:")
         for line, count in counter.most_common():
             print(f"{count:7} {line}")

@@ -8,7 +8,7 @@ from odd.builder import (
     SHT_NULL, SHT_PROGBITS, SHT_REL, SHT_STRTAB, SHT_SYMTAB, SHT_SYMTAB_SHNDX, STB_GLOBAL, STB_LOCAL,
     STB_WEAK, STT_COMMON, STT_FILE, STT_FUNC, STT_NOTYPE, STT_OBJECT, STT_SECTION, STT_TLS, Symbol,
     SymbolTable, up)
-from odd.shape import oddity
+from odd.shape import oddity, unwritable_oddity
 
 
 # Sections.
@@ -140,7 +140,7 @@ def large_alignment_of_a_section(shape, rng):
     section.part.align = section.align if rng.random() < 0.7 else 1
 
 
-@oddity
+@unwritable_oddity
 def huge_alignment_of_a_section(shape, rng):
     shape.elf.section(".aligned", SHT_PROGBITS, b"\1", align=1 << rng.choice([40, 63]))
     shape.elf.sections[-1].part.align = 1
@@ -196,16 +196,17 @@ def one_table_of_names(shape, rng):
     elf.names_section, elf.section_names = shape.table.names_section, shape.table.names
 
 
-@oddity
+@unwritable_oddity
 def symbols_are_their_own_names(shape, rng):
-    """The symbol table is its own table of names, and all names are empty."""
+    """The symbol table is its own table of names, and all names are empty. sh_link has to name a string table."""
     for symbol in shape.table.symbols:
         symbol.name = ""
     shape.table.section.link = shape.table.section
 
 
-@oddity
+@unwritable_oddity
 def symbols_are_the_names_of_sections(shape, rng):
+    """e_shstrndx names the symbol table, and has to name a string table."""
     shape.elf.has_names = False
     shape.elf.sections = [s for s in shape.elf.sections if s is not shape.elf.names_section]
     shape.elf.names_section = None
@@ -395,9 +396,10 @@ def add_pointer(shape, section, address):
     shape.add_relocation_table(section, [(address, odd_code.R_RISCV_64, of.get("_start"), 0)])
 
 
-@oddity
+@unwritable_oddity
 def pointer_over_two_segments(shape, rng):
-    """Two segments, one right behind the other, each of which loads half of a pointer to code."""
+    """Two segments, one right behind the other, each of which loads half of a pointer to code. A section lies in one
+    segment, and so does each field of it."""
     pointer = struct.pack("<Q", shape.code.start)
     part, address = shape.load(bytes(4) + pointer[:4], PF_R | PF_W)
     other = shape.elf.part(pointer[4:] + bytes(4), rng.choice([20, 25]))

@@ -6,7 +6,7 @@ from odd.builder import (
     PT_INTERP, PT_LOAD, PT_NOTE, PT_NULL, PT_PHDR, PT_RISCV_ATTRIBUTES, PT_TLS, SHF_ALLOC,
     SHF_COMPRESSED, SHF_WRITE, SHT_NOBITS, SHT_NOTE, SHT_PROGBITS, SHT_RISCV_ATTRIBUTES, STB_GLOBAL,
     Symbol, up)
-from odd.shape import EMPTY, SLOTS, oddity
+from odd.shape import EMPTY, SLOTS, oddity, unwritable_oddity
 
 
 # The order of the file.
@@ -67,9 +67,10 @@ def program_headers_unaligned(shape, rng):
     shape.elf.program_headers.gap = rng.choice([1, 2, 4])
 
 
-@oddity
+@unwritable_oddity
 def program_headers_overlap_the_header(shape, rng):
-    """The first program header begins in the last eight bytes of the file's header, which it has as its type."""
+    """The first program header begins in the last eight bytes of the file's header, which it has as its type. One of the
+    fields there counts the sections, of which a rewritten file has more."""
     shape.elf.segments.insert(0, shape.elf.segment(PT_NULL, size=rng.choice([0, 8])))
     shape.elf.segments.pop()
     if not shape.elf.header_apart and shape.code_section.start >= EMPTY:
@@ -258,7 +259,7 @@ def large_alignment_of_segments(shape, rng):
             segment.align = 1 << rng.choice([12, 16, 21])
 
 
-@oddity
+@unwritable_oddity
 def huge_alignment_of_a_segment(shape, rng):
     rng.choice(shape.elf.segments).align = 1 << rng.choice([40, 63])
 

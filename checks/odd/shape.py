@@ -114,9 +114,18 @@ class Shape:
 
 
 # Each changes a shape before its parts get their places. The names of the functions say what they do.
-ODDITIES: list[Callable[[Shape, random.Random], None]] = []
+Oddity = Callable[[Shape, random.Random], None]
+ODDITIES: list[Oddity] = []
+
+# By these a file is none that the standard allows, or one that would have more than a GiB: no file need be written.
+UNWRITABLE: set[str] = set()
 
 
-def oddity(change: Callable[[Shape, random.Random], None]) -> Callable[[Shape, random.Random], None]:
+def oddity(change: Oddity) -> Oddity:
     ODDITIES.append(change)
     return change
+
+
+def unwritable_oddity(change: Oddity) -> Oddity:
+    UNWRITABLE.add(change.__name__)
+    return oddity(change)
