@@ -45,6 +45,11 @@ pub struct Rewritten {
     pub ignored: u64,
 }
 
+// What a slice of bytes holds are bytes.
+fn are_bytes(bytes: &[u8])
+    ensures { All (λ b. b < 256) bytes.now }
+{}
+
 /// Rewrites a file so that its code lies in the order that a profile asks for, or says why it is refused.
 pub fn rewrite(alloc: Global, file: &[u8], profile: &[u8]) -> Result<Rewritten, Refusal>
     ensures rewritten { IfOk result (λ r. IsRewritten file.now profile.now r.file.items r.map (counts_seen r)) }
@@ -65,6 +70,7 @@ pub fn rewrite(alloc: Global, file: &[u8], profile: &[u8]) -> Result<Rewritten, 
     check_sizes(alloc, &program.elf, funcs, &cold)?;
     let (map, emitted) = moved_code(alloc, funcs, &program.refs, blocks, &plan, start)?;
     let written = elf_write::write(alloc, &program.elf, funcs, &cold, &emitted, &map, &[])?;
+    are_bytes(&written);
     let instructions = count_insts(funcs)?;
     let bytes = emitted.code.len() as u64;
     let hot = count_hot(&weights);

@@ -1,4 +1,4 @@
-use Rattle.std.proofs.Common.{◌≡◌, ◌∙◌, sym, subst, ℕ, List, rules}
+use Rattle.std.proofs.Common.{All, ◌≡◌, ◌∙◌, ◌<◌, sym, subst, ℕ, List, rules}
 use Rattle.std.proofs.lemmas.Result.{err_from_is_err_and}
 use Rattle.edge_profile.specs.PairCounts.{ArePairs}
 use Rattle.edge_profile.specs.Profile.{profile_counts, pairs_of}
@@ -266,7 +266,7 @@ returns-clause-rewritten c =
     rewritten c.in_ok-program.program.elf c.as_slice-funcs.result.now c.in_ok-program.program.refs
     c.as_slice-blocks.result.now input bytes stands c.in_ok-start.start start_is c.in_ok-plan.plan.order.items
     c.in_ok-map.map c.in_ok-map.emitted c.in_ok-map.ensures c.deref-3.result.now c.in_ok-written.written.items
-    (all_bytes c.in_ok-written.written.items c.type_inv.written)
+    (subst (λ (bs : List ℕ). All (λ b. b < 256) bs) c.deref-4.ensures.value c.are_bytes.ensures)
     c.in_ok-written.ensures.written c.in_ok-written.ensures.tables (pairs_of c.in_ok-counts.counts) c.in_ok-parts.parts ordered
     (c.deref-3.ensures.value ∙ c.in_ok-cold.ensures)
     (subst (λ (cs : List ℕ). (place : ℕ) → IsTooLarge c.in_ok-program.program.elf c.as_slice-funcs.result.now cs place → ⊥)
@@ -274,5 +274,5 @@ returns-clause-rewritten c =
     c.in_ok-check_sizes.ensures.within)
     c.in_ok-instructions.instructions c.len-bytes.result c.count_hot-hot.result c.ignored-ignored.result
     c.in_ok-instructions.ensures (search rules)
-    (hot_counted (pairs_of c.in_ok-counts.counts) c.as_slice-funcs.result.now c.as_slice-blocks.result.now c.deref-4.result.now c.in_ok-weights.weights.items c.count_hot-hot.result c.deref-4.ensures.value
+    (hot_counted (pairs_of c.in_ok-counts.counts) c.as_slice-funcs.result.now c.as_slice-blocks.result.now c.deref-5.result.now c.in_ok-weights.weights.items c.count_hot-hot.result c.deref-5.ensures.value
     c.in_ok-weights.ensures.weights c.count_hot-hot.ensures) (c.ignored-ignored.ensures ∙ c.in_ok-counts.ensures.ignored)
