@@ -1,5 +1,5 @@
 -- Remembered states that are kept by the changes since.
-use Rattle.std.proofs.Common.{◌≡◌, ◌∙◌, ◌++◌, ℕ, List, [], ◌∷◌, option_map, Option, Some, None, refl, sym, ap, reverse}
+use Rattle.std.proofs.Common.{◌≡◌, ◌∙◌, ◌++◌, ℕ, List, [], ◌∷◌, option_map, Option, Some, refl, sym, ap, reverse}
 use Rattle.std.proofs.lemmas.List.{reverse-append}
 use Rattle.std.specs.Rc.{rc_value}
 use Rattle.cfi_rows.specs.declared.row.Cfa.{Cfa}
@@ -16,7 +16,8 @@ abbrev state : ℕ → Option Cfa → Rules → List Known → State
 state location cfa rules saved = record { location = location; known = record { cfa = cfa; rules = rules }; saved = saved }
 
 -- after one more change, which can be taken back
-one-more : (old new : Rules) (c : Change) (cs : List Change) (ss : List Saved) → restored c.register (option_map rc_value c.rule) new ≡ old →
+one-more : (old new : Rules) (c : Change) (cs : List Change) (ss : List Saved) →
+    restored c.register (option_map rc_value c.rule) new ≡ old →
     remembered new (c ∷ cs) ss ≡ remembered old cs ss
 one-more old new c cs [] e = refl
 one-more old new c cs (s ∷ ss) e =
@@ -31,9 +32,11 @@ changed location cfa old new next before after c ss e f g = λ i. record {
   saved = sym saved i;
 } where
   saved : remembered new (reverse after) ss ≡ remembered old (reverse before) ss
-  saved = ap (λ xs. remembered new (reverse xs) ss) g ∙ ap (λ cs. remembered new cs ss) (last-first before c) ∙ one-more old new c (reverse before) ss f
+  saved = ap (λ xs. remembered new (reverse xs) ss) g ∙ ap (λ cs. remembered new cs ss) (last-first before c)
+      ∙ one-more old new c (reverse before) ss f
 
-pub one-kept : (rules : Rules) (cfa : Option Cfa) (changes none : List Change) (old new : List Saved) (s : Saved) → none ≡ [] → new ≡ old ++ s ∷ [] →
+pub one-kept : (rules : Rules) (cfa : Option Cfa) (changes none : List Change) (old new : List Saved) (s : Saved) →
+    none ≡ [] → new ≡ old ++ s ∷ [] →
     option_map rc_value s.cfa ≡ cfa → s.changes.items ≡ changes →
     record { cfa = cfa; rules = rules } ∷ remembered rules (reverse changes) (reverse old) ≡ remembered rules (reverse none) (reverse new)
 one-kept rules cfa changes none old new s z e f g = sym (
@@ -47,5 +50,6 @@ pub one-back : (location : ℕ) (cfa : Option Cfa) (rules after : Rules) (change
     take_back (state location cfa rules (remembered rules (reverse changes) (reverse old))) (remembered rules (reverse changes) (reverse old)) ≡
     Some (state location (option_map rc_value s.cfa) after (remembered after (reverse s.changes.items) (reverse new)))
 one-back location cfa rules after changes old new s e f =
-    ap (λ ss. take_back (state location cfa rules ss) ss) (ap (λ xs. remembered rules (reverse changes) (reverse xs)) e ∙ ap (remembered rules (reverse changes)) (last-first new s))
+    ap (λ ss. take_back (state location cfa rules ss) ss) (ap (λ xs. remembered rules (reverse changes) (reverse xs)) e
+    ∙ ap (remembered rules (reverse changes)) (last-first new s))
     ∙ ap (λ (r : Rules). Some (state location (option_map rc_value s.cfa) r (remembered r (reverse s.changes.items) (reverse new)))) (sym f)

@@ -7,7 +7,7 @@ use Rattle.std.specs.Prelude.{nat_le, nat_lt, ◌^◌, Result, Ok, Err, IfOk, If
 use Rattle.cfi_rows.specs.declared.row.Cfa.{Cfa}
 use Rattle.cfi_rows.specs.declared.instruction.Instruction.{Instruction}
 use Rattle.cfi_rows.specs.declared.instruction.Instruction.TheVariants.{Advance, SetLoc, DefCfa, DefCfaRegister, DefCfaOffset, SetRule, Restore, RememberState, RestoreState, Nop}
-use Rattle.cfi_rows.specs.FrameRows.{Rules, Known, State, moved_to, with_cfa, with_register, with_offset, take_back, step, row_from, row_of, RowValue, PlacedRow, ends_row, prepended, and_rows, then_rows, rows, row_at, known_after}
+use Rattle.cfi_rows.specs.FrameRows.{Rules, Known, State, moved_to, with_cfa, with_register, with_offset, take_back, step, row_of, RowValue, PlacedRow, ends_row, prepended, and_rows, then_rows, rows, row_at, known_after}
 use Rattle.cfi_rows.proofs.OutlineLoops.{next-is}
 
 -- rows, and more
@@ -18,25 +18,31 @@ pub before-none : (o : Option (List PlacedRow)) → o ≡ before [] o
 before-none None = refl
 before-none (Some rs) = refl
 
-rows-are : (initial : Rules) (xs : List Instruction) (k : ℕ) (d i : Instruction) (s : State) (r : Option State) → k < length xs → get_or xs k d ≡ i →
+rows-are : (initial : Rules) (xs : List Instruction) (k : ℕ) (d i : Instruction) (s : State) (r : Option State) →
+    k < length xs → get_or xs k d ≡ i →
     step initial i s ≡ r → rows initial (drop k xs) s ≡ and_rows (ends_row i) s (then_rows r (rows initial (drop (k + 1) xs)))
 rows-are initial xs k d i s r h g e = ap (λ is. rows initial is s) (next-is xs k d h)
     ∙ ap (λ x. and_rows (ends_row x) s (then_rows (step initial x s) (rows initial (drop (k + 1) xs)))) g
     ∙ ap (λ r. and_rows (ends_row i) s (then_rows r (rows initial (drop (k + 1) xs)))) e
 
 -- an instruction that ends no row
-pub same-row : (initial : Rules) (xs : List Instruction) (k : ℕ) (d i : Instruction) (s t : State) → k < length xs → get_or xs k d ≡ i →
+pub same-row : (initial : Rules) (xs : List Instruction) (k : ℕ) (d i : Instruction) (s t : State) → k < length xs →
+    get_or xs k d ≡ i →
     step initial i s ≡ Some t → ends_row i ≡ false → rows initial (drop k xs) s ≡ rows initial (drop (k + 1) xs) t
-same-row initial xs k d i s t h g e f = rows-are initial xs k d i s (Some t) h g e ∙ ap (λ b. and_rows b s (rows initial (drop (k + 1) xs) t)) f
+same-row initial xs k d i s t h g e f = rows-are initial xs k d i s (Some t) h g e
+    ∙ ap (λ b. and_rows b s (rows initial (drop (k + 1) xs) t)) f
 
 -- and one that does
-pub next-row : (initial : Rules) (xs : List Instruction) (k : ℕ) (d i : Instruction) (s t : State) → k < length xs → get_or xs k d ≡ i →
+pub next-row : (initial : Rules) (xs : List Instruction) (k : ℕ) (d i : Instruction) (s t : State) → k < length xs →
+    get_or xs k d ≡ i →
     step initial i s ≡ Some t → ends_row i ≡ true →
     rows initial (drop k xs) s ≡ prepended s.location (row_of s.known) (rows initial (drop (k + 1) xs) t)
-next-row initial xs k d i s t h g e f = rows-are initial xs k d i s (Some t) h g e ∙ ap (λ b. and_rows b s (rows initial (drop (k + 1) xs) t)) f
+next-row initial xs k d i s t h g e f = rows-are initial xs k d i s (Some t) h g e
+    ∙ ap (λ b. and_rows b s (rows initial (drop (k + 1) xs) t)) f
 
 -- a row is added to those that are told
-pub told : (list : List PlacedRow) (a : ℕ) (o : Option RowValue) (r : PlacedRow) (more : Option (List PlacedRow)) → r.start ≡ a → o ≡ Some r.row →
+pub told : (list : List PlacedRow) (a : ℕ) (o : Option RowValue) (r : PlacedRow) (more : Option (List PlacedRow)) →
+    r.start ≡ a → o ≡ Some r.row →
     before list (prepended a o more) ≡ before (list ++ r ∷ []) more
 told list a o r more e f =
     ap (λ o. before list (prepended a o more)) f ∙ at more where
@@ -45,7 +51,8 @@ told list a o r more e f =
 
       at : (more : Option (List PlacedRow)) → before list (prepended a (Some r.row) more) ≡ before (list ++ r ∷ []) more
       at None = refl
-      at (Some rest) = ap (λ (x : PlacedRow). Some (list ++ x ∷ rest)) placed ∙ ap (λ (rs : List PlacedRow). Some rs) (sym (append_assoc list (r ∷ []) rest))
+      at (Some rest) = ap (λ (x : PlacedRow). Some (list ++ x ∷ rest)) placed
+          ∙ ap (λ (rs : List PlacedRow). Some rs) (sym (append_assoc list (r ∷ []) rest))
 
 pub last-row : (initial : Rules) (xs : List Instruction) (k : ℕ) (s : State) → length xs ≤ k →
     rows initial (drop k xs) s ≡ prepended s.location (row_of s.known) (Some [])
@@ -57,7 +64,8 @@ all-told list a o r e f = told list a o r (Some []) e f ∙ ap (λ (rs : List Pl
 
 -- What is known after a CIE.
 
-pub known-step : (initial : Rules) (xs : List Instruction) (k : ℕ) (d i : Instruction) (s t : State) → initial ≡ [] → k < length xs →
+pub known-step : (initial : Rules) (xs : List Instruction) (k : ℕ) (d i : Instruction) (s t : State) → initial ≡ [] →
+    k < length xs →
     get_or xs k d ≡ i → step initial i s ≡ Some t → known_after (drop k xs) (Some s) ≡ known_after (drop (k + 1) xs) (Some t)
 known-step initial xs k d i s t z h g e = ap (λ is. known_after is (Some s)) (next-is xs k d h)
     ∙ ap (λ x. known_after (drop (k + 1) xs) (step [] x s)) g
@@ -81,7 +89,8 @@ back-stays s t [] e = absurd (cc)
 back-stays s t (k ∷ ks) e = sym (ap place_of e)
 
 -- an instruction that ends no row doesn't move the location
-pub stays : (initial : Rules) (i : Instruction) (s t : State) → step initial i s ≡ Some t → ends_row i ≡ false → t.location ≡ s.location
+pub stays : (initial : Rules) (i : Instruction) (s t : State) → step initial i s ≡ Some t → ends_row i ≡ false →
+    t.location ≡ s.location
 stays initial (Advance n) s t e f = absurd (cc)
 stays initial (SetLoc a) s t e f = absurd (cc)
 stays initial (DefCfa c) s t e f = sym (ap place_of e)
@@ -101,8 +110,10 @@ record Moved (s t : State) : Type 0 where
   known : t.known ≡ s.known
   onward : s.location ≤ t.location
 
-moved : (a : ℕ) (b : Bool) (s t : State) → s.location ≤ a → cond b (Some (record { location = a; known = s.known; saved = s.saved })) None ≡ Some t → Moved s t
-moved a true s t l e = let p : a ≡ t.location = ap place_of e in record { known = sym (ap (λ o. known_of o s.known) e); onward = omega arith }
+moved : (a : ℕ) (b : Bool) (s t : State) → s.location ≤ a →
+    cond b (Some (record { location = a; known = s.known; saved = s.saved })) None ≡ Some t → Moved s t
+moved a true s t l e = let p : a ≡ t.location = ap place_of e in
+    record { known = sym (ap (λ o. known_of o s.known) e); onward = omega arith }
 moved a false s t l e = absurd (cc)
 
 moved-to : (a : ℕ) (b : Bool) (s t : State) → nat_le s.location a ≡ b → cond b (moved_to a s) None ≡ Some t → Moved s t
@@ -143,7 +154,8 @@ led-from : (lo n : ℕ) (rs : List PlacedRow) → lo ≤ n → Led n rs → From
 led-from lo n [] l h = absurd h
 led-from lo n (r ∷ rs) l h = let m = h.0 in (omega arith, weaker lo n rs l h.1)
 
-prepended-led : (a b : ℕ) (o : Option RowValue) (more : Option (List PlacedRow)) → a ≤ b → IfLed b more → IfLed a (prepended a o more)
+prepended-led : (a b : ℕ) (o : Option RowValue) (more : Option (List PlacedRow)) → a ≤ b → IfLed b more →
+    IfLed a (prepended a o more)
 prepended-led a b None more l h = tt
 prepended-led a b (Some r) None l h = tt
 prepended-led a b (Some r) (Some rs) l h = (refl, led-from a b rs l h)
@@ -159,7 +171,8 @@ none-led true s = at (row_of s.known) where
   at (Some r) = tt
 none-led false s = tt
 
-led-by : (initial : Rules) (is : List Instruction) (i : Instruction) (s : State) (b : Bool) (r : Option State) → ends_row i ≡ b → step initial i s ≡ r →
+led-by : (initial : Rules) (is : List Instruction) (i : Instruction) (s : State) (b : Bool) (r : Option State) →
+    ends_row i ≡ b → step initial i s ≡ r →
     ((t : State) → IfLed t.location (rows initial is t)) → IfLed s.location (and_rows b s (then_rows r (rows initial is)))
 led-by initial is i s b None e f h = none-led b s
 led-by initial is i s true (Some t) e f h =
@@ -170,7 +183,8 @@ led : (initial : Rules) (is : List Instruction) (s : State) → IfLed s.location
 led initial [] s = last-led s.location (row_of s.known)
 led initial (i ∷ is) s = led-by initial is i s (ends_row i) (step initial i s) refl refl (led initial is)
 
-later-at : (a : ℕ) (r : PlacedRow) (rs : List PlacedRow) (found : Option RowValue) (b : Bool) → nat_le r.start a ≡ b → a < r.start →
+later-at : (a : ℕ) (r : PlacedRow) (rs : List PlacedRow) (found : Option RowValue) (b : Bool) → nat_le r.start a ≡ b →
+    a < r.start →
     row_at a rs found ≡ found → row_at a (r ∷ rs) found ≡ found
 later-at a r rs found true e l h = absurd (grind (arith, nat_tests))
 later-at a r rs found false e l h = rw e h
@@ -180,12 +194,14 @@ later a lo [] found l h = refl
 later a lo (r ∷ rs) found l h = let m = h.0 in
     later-at a r rs found (nat_le r.start a) refl (omega arith) (later a lo rs found l h.1)
 
-begun-at : (a : ℕ) (r : PlacedRow) (rs : List PlacedRow) (found : Option RowValue) (b : Bool) → nat_le r.start a ≡ b → r.start ≤ a →
+begun-at : (a : ℕ) (r : PlacedRow) (rs : List PlacedRow) (found : Option RowValue) (b : Bool) → nat_le r.start a ≡ b →
+    r.start ≤ a →
     row_at a (r ∷ rs) found ≡ row_at a rs (Some r.row)
 begun-at a r rs found true e l = rw e refl
 begun-at a r rs found false e l = absurd (grind (arith, nat_tests))
 
-begun : (a : ℕ) (r : PlacedRow) (rs : List PlacedRow) (found : Option RowValue) → r.start ≤ a → row_at a (r ∷ rs) found ≡ row_at a rs (Some r.row)
+begun : (a : ℕ) (r : PlacedRow) (rs : List PlacedRow) (found : Option RowValue) → r.start ≤ a →
+    row_at a (r ∷ rs) found ≡ row_at a rs (Some r.row)
 begun a r rs found l = begun-at a r rs found (nat_le r.start a) refl l
 
 -- where a first row has begun, it doesn't matter what was found before
@@ -198,20 +214,24 @@ abbrev pub Answers : ℕ → Option (List PlacedRow) → Option RowValue → Typ
 Answers a more answer = option_map (λ rs. row_at a rs None) more ≡ Some answer
 
 -- the row at a, where the next one has begun too
-goes-on : (a b c : ℕ) (o : Option RowValue) (more : Option (List PlacedRow)) (answer : Option RowValue) → b ≤ a → c ≤ a → IfLed c more →
+goes-on : (a b c : ℕ) (o : Option RowValue) (more : Option (List PlacedRow)) (answer : Option RowValue) → b ≤ a → c ≤ a →
+    IfLed c more →
     Answers a (prepended b o more) answer → Answers a more answer
 goes-on a b c None more answer l m h e = absurd (cc)
 goes-on a b c (Some r) None answer l m h e = absurd (cc)
 goes-on a b c (Some r) (Some rs) answer l m h e =
-    ap (λ (x : Option RowValue). Some x) (any-found a c rs None (Some r) m h ∙ sym (begun a (record { start = b; row = r }) rs None l)) ∙ e
+    ap (λ (x : Option RowValue). Some x) (any-found a c rs None (Some r) m h
+    ∙ sym (begun a (record { start = b; row = r }) rs None l)) ∙ e
 
 -- and where it begins only later
-found-at : (a b c : ℕ) (o : Option RowValue) (more : Option (List PlacedRow)) (answer : Option RowValue) → b ≤ a → a < c → IfLed c more →
+found-at : (a b c : ℕ) (o : Option RowValue) (more : Option (List PlacedRow)) (answer : Option RowValue) → b ≤ a →
+    a < c → IfLed c more →
     Answers a (prepended b o more) answer → o ≡ answer
 found-at a b c None more answer l m h e = absurd (cc)
 found-at a b c (Some r) None answer l m h e = absurd (cc)
 found-at a b c (Some r) (Some rs) answer l m h e =
-    sym (later a c rs (Some r) m (led-from c c rs (omega arith) h)) ∙ sym (begun a (record { start = b; row = r }) rs None l) ∙ same_Some _ _ e
+    sym (later a c rs (Some r) m (led-from c c rs (omega arith) h))
+    ∙ sym (begun a (record { start = b; row = r }) rs None l) ∙ same_Some _ _ e
 
 -- a step before the address
 pub step-on : (initial : Rules) (xs : List Instruction) (k a : ℕ) (d i : Instruction) (s t : State) (answer : Option RowValue) (b : Bool) →
@@ -230,20 +250,23 @@ step-past initial xs k a d i s t answer true h g e f l m p =
     ap row_of (moves initial i s t e f).known
     ∙ found-at a s.location t.location (row_of s.known) (rows initial (drop (k + 1) xs) t) answer l m (led initial (drop (k + 1) xs) t)
     (subst (λ o. Answers a o answer) (next-row initial xs k d i s t h g e f) p)
-step-past initial xs k a d i s t answer false h g e f l m p = let q : t.location ≡ s.location = stays initial i s t e f in absurd (omega arith)
+step-past initial xs k a d i s t answer false h g e f l m p = let q : t.location ≡ s.location = stays initial i s t e f in
+    absurd (omega arith)
 
 -- at the end
 last-found : (a b : ℕ) (o answer : Option RowValue) → b ≤ a → Answers a (prepended b o (Some [])) answer → o ≡ answer
 last-found a b None answer l e = absurd (cc)
 last-found a b (Some r) answer l e = sym (begun a (record { start = b; row = r }) [] None l) ∙ same_Some _ _ e
 
-pub at-last : (initial : Rules) (xs : List Instruction) (k a : ℕ) (s : State) (answer : Option RowValue) → length xs ≤ k → s.location ≤ a →
+pub at-last : (initial : Rules) (xs : List Instruction) (k a : ℕ) (s : State) (answer : Option RowValue) →
+    length xs ≤ k → s.location ≤ a →
     Answers a (rows initial (drop k xs) s) answer → row_of s.known ≡ answer
 at-last initial xs k a s answer h l p =
     last-found a s.location (row_of s.known) answer l (subst (λ o. Answers a o answer) (last-row initial xs k s h) p)
 
 -- the row that is answered
-pub ended : {E : Type 0} (r : Result RowValue E) (a start : ℕ) (o : Option (List PlacedRow)) (row : Option RowValue) → IfOk r (λ x. row ≡ Some x) →
+pub ended : {E : Type 0} (r : Result RowValue E) (a start : ℕ) (o : Option (List PlacedRow)) (row : Option RowValue) →
+    IfOk r (λ x. row ≡ Some x) →
     ((list : List PlacedRow) → start ≤ a → o ≡ Some list → row ≡ row_at a list None) →
     IfOk r (λ x. start ≤ a → IfSome o (λ list. row_at a list None ≡ Some x))
 ended (Err e) a start o row h g = tt

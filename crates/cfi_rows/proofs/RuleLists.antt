@@ -1,9 +1,9 @@
 -- Rules of registers as the entries of a map, and how a change of them is taken back.
-use Rattle.std.proofs.Common.{◌≡◌, ◌∙◌, ◌+◌, ◌<◌, ◌≤◌, ◌==◌, ℕ, Bool, true, false, cond, List, [], ◌∷◌, map, Option, Some, None, option_map, refl, sym, ap, subst, arith, length}
+use Rattle.std.proofs.Common.{◌≡◌, ◌∙◌, ◌+◌, ◌<◌, ◌≤◌, ◌==◌, ℕ, Bool, true, false, List, [], ◌∷◌, map, Option, Some, None, option_map, refl, sym, ap, subst, arith}
 use Rattle.std.proofs.lemmas.Bool.Decides.{nat_tests}
 use Rattle.std.proofs.lemmas.Map.Keys.{below_from_sorted, sorted_tail}
 use Rattle.std.specs.Prelude.{nat_lt}
-use Rattle.std.specs.Ordering.{nat_cmp, is_eq}
+use Rattle.std.specs.Ordering.{nat_cmp}
 use Rattle.std.specs.BTreeMap.{insert_entry, is_at}
 use Rattle.std.specs.List.{AllZip}
 use Rattle.std.specs.List.Sorted.{IsStrictlySortedBy}
@@ -37,7 +37,8 @@ inserted f k v (e ∷ es) = insert-at f k v e es (nat_lt k e.0) (k == e.0) (nat_
 test-is : (k q : ℕ) → is_at (nat_cmp k) q ≡ (q == k)
 test-is k q = at-number (nat_lt k q) (k == q) k q refl refl ∙ same-test k q
 
-remove-at : {X : Type 0} (f : X → Rule) (k : ℕ) (e : ℕ × X) (es : List (ℕ × X)) (b : Bool) → is_at (nat_cmp k) e.0 ≡ b → (e.0 == k) ≡ b →
+remove-at : {X : Type 0} (f : X → Rule) (k : ℕ) (e : ℕ × X) (es : List (ℕ × X)) (b : Bool) → is_at (nat_cmp k) e.0 ≡ b →
+    (e.0 == k) ≡ b →
     map (valued f) (remove_entry (is_at (nat_cmp k)) es) ≡ without_rule k (map (valued f) es) →
     map (valued f) (remove_entry (is_at (nat_cmp k)) (e ∷ es)) ≡ without_rule k (map (valued f) (e ∷ es))
 remove-at f k e es true p q h = rw (p, q) refl
@@ -48,7 +49,8 @@ pub removed : {X : Type 0} (f : X → Rule) (k : ℕ) (es : List (ℕ × X)) →
 removed f k [] = refl
 removed f k (e ∷ es) = remove-at f k e es (e.0 == k) (test-is k e.0) refl (removed f k es)
 
-look-at : {X : Type 0} (f : X → Rule) (k : ℕ) (e : ℕ × X) (es : List (ℕ × X)) (b : Bool) → is_at (nat_cmp k) e.0 ≡ b → (e.0 == k) ≡ b →
+look-at : {X : Type 0} (f : X → Rule) (k : ℕ) (e : ℕ × X) (es : List (ℕ × X)) (b : Bool) → is_at (nat_cmp k) e.0 ≡ b →
+    (e.0 == k) ≡ b →
     option_map f (lookup (is_at (nat_cmp k)) es) ≡ rule_of k (map (valued f) es) →
     option_map f (lookup (is_at (nat_cmp k)) (e ∷ es)) ≡ rule_of k (map (valued f) (e ∷ es))
 look-at f k e es true p q h = rw (p, q) refl
@@ -75,12 +77,14 @@ abbrev Starts : {X : Type 0} → ℕ → List (ℕ × X) → Type 0
 Starts lo [] = Unit {0}
 Starts lo (e ∷ es) = lo ≤ e.0
 
-starts-next : {X : Type 0} (e : ℕ × X) (es : List (ℕ × X)) → IsStrictlySortedBy nat_cmp (keys_of (e ∷ es)) → Starts (e.0 + 1) es
+starts-next : {X : Type 0} (e : ℕ × X) (es : List (ℕ × X)) → IsStrictlySortedBy nat_cmp (keys_of (e ∷ es)) →
+    Starts (e.0 + 1) es
 starts-next e [] h = tt
 starts-next e (d ∷ es) h =
     let l : e.0 < d.0 = below_from_sorted (keys_of (e ∷ d ∷ es)) 0 1 0 h (omega arith) (omega arith) in omega arith
 
-ascend-from : {X : Type 0} (f : X → Rule) (es : List (ℕ × X)) (lo : ℕ) → Starts lo es → IsStrictlySortedBy nat_cmp (keys_of es) →
+ascend-from : {X : Type 0} (f : X → Rule) (es : List (ℕ × X)) (lo : ℕ) → Starts lo es →
+    IsStrictlySortedBy nat_cmp (keys_of es) →
     Ascend lo (map (valued f) es)
 ascend-from f [] lo s h = tt
 ascend-from f (e ∷ es) lo s h = (s, ascend-from f es (e.0 + 1) (starts-next e es h) (sorted_tail nat_cmp e.0 (keys_of es) h))
@@ -89,7 +93,8 @@ starts-anywhere : {X : Type 0} (es : List (ℕ × X)) → Starts 0 es
 starts-anywhere [] = tt
 starts-anywhere (e ∷ es) = omega arith
 
-pub ascending : {X : Type 0} (f : X → Rule) (es : List (ℕ × X)) → IsStrictlySortedBy nat_cmp (keys_of es) → Ascend 0 (map (valued f) es)
+pub ascending : {X : Type 0} (f : X → Rule) (es : List (ℕ × X)) → IsStrictlySortedBy nat_cmp (keys_of es) →
+    Ascend 0 (map (valued f) es)
 ascending f es h = ascend-from f es 0 (starts-anywhere es) h
 
 -- A change is taken back by the rule that the register had.
@@ -106,7 +111,8 @@ not-below k = at (nat_lt k k) refl where
   at false e = refl
   at true e = absurd (grind (arith, nat_tests))
 
-absent-at : (k : ℕ) (x : ℕ × Rule) (xs : Rules) (b : Bool) → (x.0 == k) ≡ b → k < x.0 → rule_of k xs ≡ None → rule_of k (x ∷ xs) ≡ None
+absent-at : (k : ℕ) (x : ℕ × Rule) (xs : Rules) (b : Bool) → (x.0 == k) ≡ b → k < x.0 → rule_of k xs ≡ None →
+    rule_of k (x ∷ xs) ≡ None
 absent-at k x xs true e l h = absurd (grind (arith, nat_tests))
 absent-at k x xs false e l h = rw e h
 
@@ -126,14 +132,16 @@ to-front k v [] a = refl
 to-front k v (x ∷ xs) a = let l = a.0 in front-at k v x xs (nat_lt x.0 k) (x.0 == k) refl refl (omega arith)
 
 -- of a register that comes behind the first one
-behind : (k : ℕ) (o : Option Rule) (x : ℕ × Rule) (xs : Rules) → nat_lt x.0 k ≡ true → (x.0 == k) ≡ false → restored k o (x ∷ xs) ≡ x ∷ restored k o xs
+behind : (k : ℕ) (o : Option Rule) (x : ℕ × Rule) (xs : Rules) → nat_lt x.0 k ≡ true → (x.0 == k) ≡ false →
+    restored k o (x ∷ xs) ≡ x ∷ restored k o xs
 behind k None x xs e f = rw f refl
 behind k (Some v) x xs e f = rw e refl
 
 none-behind : (k : ℕ) (x : ℕ × Rule) (xs : Rules) → (x.0 == k) ≡ false → restored k None (x ∷ xs) ≡ x ∷ restored k None xs
 none-behind k x xs f = rw f refl
 
-set-at : (k : ℕ) (v : Rule) (x : ℕ × Rule) (xs : Rules) (b c : Bool) → nat_lt x.0 k ≡ b → (x.0 == k) ≡ c → Ascend (x.0 + 1) xs →
+set-at : (k : ℕ) (v : Rule) (x : ℕ × Rule) (xs : Rules) (b c : Bool) → nat_lt x.0 k ≡ b → (x.0 == k) ≡ c →
+    Ascend (x.0 + 1) xs →
     restored k (rule_of k xs) (with_rule k v xs) ≡ xs → restored k (rule_of k (x ∷ xs)) (with_rule k v (x ∷ xs)) ≡ x ∷ xs
 set-at k v x xs true true e f a h = absurd (grind (arith, nat_tests))
 set-at k v x xs true false e f a h = rw (e, f) (behind k (rule_of k xs) x (with_rule k v xs) e f ∙ ap (λ rs. x ∷ rs) h)
@@ -146,7 +154,8 @@ set-back : (k : ℕ) (v : Rule) (lo : ℕ) (xs : Rules) → Ascend lo xs → res
 set-back k v lo [] a = rw (same-number k) refl
 set-back k v lo (x ∷ xs) a = set-at k v x xs (nat_lt x.0 k) (x.0 == k) refl refl a.1 (set-back k v (x.0 + 1) xs a.1)
 
-drop-other : (k : ℕ) (x : ℕ × Rule) (xs : Rules) (o : Option Rule) (b : Bool) → nat_lt x.0 k ≡ b → (x.0 == k) ≡ false → rule_of k xs ≡ o →
+drop-other : (k : ℕ) (x : ℕ × Rule) (xs : Rules) (o : Option Rule) (b : Bool) → nat_lt x.0 k ≡ b → (x.0 == k) ≡ false →
+    rule_of k xs ≡ o →
     Ascend (x.0 + 1) xs → restored k o (x ∷ without_rule k xs) ≡ x ∷ restored k o (without_rule k xs)
 drop-other k x xs o true e f g a = behind k o x (without_rule k xs) e f
 drop-other k x xs None false e f g a = none-behind k x (without_rule k xs) f
@@ -167,6 +176,7 @@ put-back : (k : ℕ) (o : Option Rule) (xs : Rules) → Ascend 0 xs → restored
 put-back k None xs a = drop-back k 0 xs a
 put-back k (Some v) xs a = set-back k v 0 xs a
 
-pub taken-back : (k : ℕ) (o : Option Rule) (old new : Rules) (had : Option Rule) → Ascend 0 old → new ≡ restored k o old → had ≡ rule_of k old →
+pub taken-back : (k : ℕ) (o : Option Rule) (old new : Rules) (had : Option Rule) → Ascend 0 old →
+    new ≡ restored k o old → had ≡ rule_of k old →
     restored k had new ≡ old
 taken-back k o old new had a e f = ap (λ h. restored k h new) f ∙ ap (restored k (rule_of k old)) e ∙ put-back k o old a

@@ -1,10 +1,10 @@
 -- An entry that a walk of a table found stands at its place, and is found there again.
-use Rattle.std.proofs.Common.{◌≡◌, ◌∙◌, ◌+◌, ◌-◌, ◌<◌, ◌≤◌, ◌==◌, ◌&&◌, ◌||◌, ◌^◌, ℕ, zero, suc, Bool, true, false, cond, not, List, [], ◌∷◌, Result, Ok, Err, Option, Some, None, refl, sym, ap, subst, arith, take, drop, length, map, get_or, option_map}
+use Rattle.std.proofs.Common.{◌≡◌, ◌∙◌, ◌+◌, ◌-◌, ◌==◌, ◌&&◌, ◌^◌, ℕ, zero, suc, Bool, true, false, cond, not, List, [], ◌∷◌, Result, Ok, Err, Option, Some, None, refl, sym, ap, subst, arith, take, drop, length, map, get_or, option_map}
 use Rattle.std.proofs.lemmas.Bool.Decides.{nat_tests}
 use Rattle.std.proofs.lemmas.Grind.{common_steps}
 use Rattle.std.proofs.lemmas.List.{drop-drop}
 use Rattle.std.proofs.lemmas.Option.{same_Some, slice_get-map, get_or_from_slice_get}
-use Rattle.std.specs.Prelude.{IfOk, nat_lt, slice_get}
+use Rattle.std.specs.Prelude.{nat_lt, slice_get}
 use Rattle.std.specs.List.{find}
 use Rattle.byteorder.specs.Endian.{little_number}
 use Rattle.rb_bytes.specs.Readers.{and_then}
@@ -13,8 +13,8 @@ use Rattle.table_core.specs.Sections.{Held}
 use Rattle.cfi_rows.specs.declared.instruction.Malformed.{Malformed}
 use Rattle.cfi_rows.specs.declared.instruction.Malformed.TheVariants.{Entry}
 use Rattle.cfi_rows.specs.FrameInstructions.{Read, instructions_at, pointer_at, stored_at}
-use Rattle.cfi_rows.specs.FrameRows.{rows, begins, PlacedRow}
-use Rattle.cfi_rows.specs.Entries.{Cie, Fde, Frames, RawEntry, Front, Ends, Breaks, Stands, front_of, entry_of, WalkedEntries, walk, onward, walked_entries}
+use Rattle.cfi_rows.specs.FrameRows.{rows, begins}
+use Rattle.cfi_rows.specs.Entries.{Cie, Fde, Frames, RawEntry, Front, Ends, Breaks, Stands, front_of, entry_of, walk, onward, walked_entries}
 use Rattle.cfi_rows.specs.Entries.{cie_at, cie_in, cie_place, end_of, entry_named, is_named, is_cie, sound_if, fde_at, fde_sized, fde_from, fde_by, fde_after, fde_made, fde_context, size_encoding, table_at, one_cie, one_fde, frames_from, frames}
 use Rattle.cfi_rows.specs.declared.frame_table.Fde.{Fde as ReadFde}
 use Rattle.cfi_rows.specs.ReadEntries.{fde_of}
@@ -38,7 +38,8 @@ after-entry n left e f = drop-drop n 4 left ∙ ap (λ m. drop m left) size wher
   size : 4 + n ≡ 8 + length (take (n - 4) (drop 4 (drop 4 left)))
   size = grind (arith, nat_tests, common_steps)
 
-entry-lies : (place n : ℕ) (left : List ℕ) (a b c : Bool) → (n == 0xffffffff) ≡ a → nat_lt n 4 ≡ b → nat_lt (length (drop 4 left)) n ≡ c →
+entry-lies : (place n : ℕ) (left : List ℕ) (a b c : Bool) → (n == 0xffffffff) ≡ a → nat_lt n 4 ≡ b →
+    nat_lt (length (drop 4 left)) n ≡ c →
     LiesAt place left (entry_of place n (drop 4 left))
 entry-lies place n left true b c e f g = rw e tt
 entry-lies place n left false true c e f g = rw (e, f) tt
@@ -60,7 +61,8 @@ front-lies debug place left =
     (ended place (little_number 4 left) left (not debug && (little_number 4 left == 0))
     (entry-lies place (little_number 4 left) left _ _ _ refl refl refl))
 
-standing-is : (debug : Bool) (table : List ℕ) (place : ℕ) (left : List ℕ) (e : RawEntry) (rest : List ℕ) → left ≡ drop place table →
+standing-is : (debug : Bool) (table : List ℕ) (place : ℕ) (left : List ℕ) (e : RawEntry) (rest : List ℕ) →
+    left ≡ drop place table →
     front_of debug place left ≡ Stands e rest → entry_standing debug table place ≡ Some e
 standing-is debug table place left e rest p f = ap (λ xs. entry_in (front_of debug place xs)) (sym p) ∙ ap entry_in f
 
@@ -68,7 +70,8 @@ lies-as : (debug : Bool) (place : ℕ) (left : List ℕ) (f : Front) → front_o
 lies-as debug place left f e = subst (LiesAt place left) e (front-lies debug place left)
 
 onward-stands : (debug : Bool) (table : List ℕ) (n place : ℕ) (left : List ℕ) (f : Front) →
-    ((q : ℕ) (rest : List ℕ) → rest ≡ drop q table → AllStand debug table (walk debug n q rest).entries) → left ≡ drop place table →
+    ((q : ℕ) (rest : List ℕ) → rest ≡ drop q table → AllStand debug table (walk debug n q rest).entries) →
+    left ≡ drop place table →
     front_of debug place left ≡ f → AllStand debug table (onward place f (walk debug n)).entries
 onward-stands debug table n place left Ends h p e = tt
 onward-stands debug table n place left Breaks h p e = tt
@@ -76,7 +79,8 @@ onward-stands debug table n place left (Stands x rest) h p e =
     let lies = lies-as debug place left (Stands x rest) e in
     let stands : entry_standing debug table place ≡ Some x = standing-is debug table place left x rest p e in
     let after : rest ≡ drop (place + 8 + length x.body) table =
-    lies.1 ∙ ap (drop (8 + length x.body)) p ∙ drop-drop (8 + length x.body) place table ∙ ap (λ m. drop m table) (sum place (length x.body)) in
+    lies.1 ∙ ap (drop (8 + length x.body)) p ∙ drop-drop (8 + length x.body) place table
+    ∙ ap (λ m. drop m table) (sum place (length x.body)) in
     (subst (λ q. entry_standing debug table q ≡ Some x) (sym lies.0) stands, h (place + 8 + length x.body) rest after) where
       sum : (a b : ℕ) → a + (8 + b) ≡ a + 8 + b
       sum a b = omega arith
@@ -104,12 +108,14 @@ find-stands : (debug : Bool) (table : List ℕ) (place : ℕ) (e : RawEntry) (es
     find (is_named debug place) es ≡ Some e → entry_standing debug table place ≡ Some e
 find-stands debug table place e [] h f = absurd (cc)
 find-stands debug table place e (x ∷ es) h f = at (is_named debug place x) refl (find-stands debug table place e es h.1) f where
-  at : (b : Bool) → is_named debug place x ≡ b → (find (is_named debug place) es ≡ Some e → entry_standing debug table place ≡ Some e) →
+  at : (b : Bool) → is_named debug place x ≡ b →
+      (find (is_named debug place) es ≡ Some e → entry_standing debug table place ≡ Some e) →
       cond b (Some x) (find (is_named debug place) es) ≡ Some e → entry_standing debug table place ≡ Some e
   at true t r g = subst (λ q. entry_standing debug table q ≡ Some x) (named-place debug place x t) h.0 ∙ g
   at false t r g = r g
 
-cie-by : (debug : Bool) (t : Held) (all : List RawEntry) (place : ℕ) (c : Cie) (o : Option RawEntry) → AllStand debug t.bytes all →
+cie-by : (debug : Bool) (t : Held) (all : List RawEntry) (place : ℕ) (c : Cie) (o : Option RawEntry) →
+    AllStand debug t.bytes all →
     entry_named debug all (Some place) ≡ o → and_so (sound_if o) (λ e. cie_at (end_of t.address e) e.body) ≡ Ok c →
     cie_standing debug t (Some place) ≡ Ok c
 cie-by debug t all place c None h f g = absurd (cc)
@@ -127,11 +133,13 @@ abbrev IsAt : ℕ → Result Fde Malformed → Type 0
 IsAt place (Ok f) = f.place ≡ place
 IsAt place (Err e) = Unit {0}
 
-at-then : {X : Type 0} (place : ℕ) (r : Read X) (g : X → List ℕ → Result Fde Malformed) → ((x : X) (l : List ℕ) → IsAt place (g x l)) → IsAt place (and_then r g)
+at-then : {X : Type 0} (place : ℕ) (r : Read X) (g : X → List ℕ → Result Fde Malformed) →
+    ((x : X) (l : List ℕ) → IsAt place (g x l)) → IsAt place (and_then r g)
 at-then place (Ok read) g h = h read.0 read.1
 at-then place (Err e) g h = tt
 
-at-so : {X : Type 0} (place : ℕ) (r : Result X Malformed) (g : X → Result Fde Malformed) → ((x : X) → IsAt place (g x)) → IsAt place (and_so r g)
+at-so : {X : Type 0} (place : ℕ) (r : Result X Malformed) (g : X → Result Fde Malformed) → ((x : X) → IsAt place (g x)) →
+    IsAt place (and_so r g)
 at-so place (Ok x) g h = h x
 at-so place (Err e) g h = tt
 
@@ -153,7 +161,8 @@ place-of place f r e h = subst (IsAt place) e h
 abbrev Gives : (debug : Bool) → Held → RawEntry → Result Fde Malformed → Type 0
 Gives debug t e r = (f : Fde) → r ≡ Ok f → fde_standing debug t f.place ≡ Ok f
 
-fde-by : (debug : Bool) (t : Held) (all : List RawEntry) (e : RawEntry) (r : Result Cie Malformed) → AllStand debug t.bytes all →
+fde-by : (debug : Bool) (t : Held) (all : List RawEntry) (e : RawEntry) (r : Result Cie Malformed) →
+    AllStand debug t.bytes all →
     entry_standing debug t.bytes e.place ≡ Some e → cie_in debug t.address all (cie_place debug e) ≡ r →
     Gives debug t e (and_so r (λ cie. fde_at cie (end_of t.address e) e))
 fde-by debug t all e (Ok c) h s g = λ f k.
@@ -170,11 +179,13 @@ Found debug t list = (i : ℕ) (f : Fde) → slice_get list i ≡ Some f → fde
 none-found : (debug : Bool) (t : Held) → Found debug t []
 none-found debug t = λ i f e. absurd (cc)
 
-cie-found : (debug : Bool) (t : Held) (e : RawEntry) (r : Result Cie Malformed) (more : Frames) → Found debug t more.list → Found debug t (one_cie e r more).list
+cie-found : (debug : Bool) (t : Held) (e : RawEntry) (r : Result Cie Malformed) (more : Frames) →
+    Found debug t more.list → Found debug t (one_cie e r more).list
 cie-found debug t e (Ok c) more h = h
 cie-found debug t e (Err x) more h = none-found debug t
 
-fde-found : (debug : Bool) (t : Held) (e : RawEntry) (r : Result Fde Malformed) (more : Frames) → Gives debug t e r → Found debug t more.list →
+fde-found : (debug : Bool) (t : Held) (e : RawEntry) (r : Result Fde Malformed) (more : Frames) → Gives debug t e r →
+    Found debug t more.list →
     Found debug t (one_fde e r more).list
 fde-found debug t e (Ok x) more g h = at where
   at : Found debug t (x ∷ more.list)
@@ -182,11 +193,13 @@ fde-found debug t e (Ok x) more g h = at where
   at (suc i) f k = h i f k
 fde-found debug t e (Err x) more g h = none-found debug t
 
-either-found : (debug : Bool) (t : Held) (b : Bool) (x y : Frames) → Found debug t x.list → Found debug t y.list → Found debug t (cond b x y).list
+either-found : (debug : Bool) (t : Held) (b : Bool) (x y : Frames) → Found debug t x.list → Found debug t y.list →
+    Found debug t (cond b x y).list
 either-found debug t true x y h g = h
 either-found debug t false x y h g = g
 
-list-found : (debug : Bool) (t : Held) (all : List RawEntry) (broken : Option ℕ) (es : List RawEntry) → AllStand debug t.bytes all → AllStand debug t.bytes es →
+list-found : (debug : Bool) (t : Held) (all : List RawEntry) (broken : Option ℕ) (es : List RawEntry) →
+    AllStand debug t.bytes all → AllStand debug t.bytes es →
     Found debug t (frames_from debug t.address all broken es).list
 list-found debug t all broken [] h g = none-found debug t
 list-found debug t all broken (e ∷ es) h g =
@@ -203,7 +216,8 @@ entry-found debug t = list-found debug t (walked_entries debug t.bytes).entries 
     (all-stand debug t.bytes) (all-stand debug t.bytes)
 
 -- the place of an entry, as it is kept
-pub place-at : (list : List Fde) (kept : List ReadFde) (i : ℕ) (f : Fde) (d : ReadFde) → map fde_of list ≡ kept → slice_get list i ≡ Some f →
+pub place-at : (list : List Fde) (kept : List ReadFde) (i : ℕ) (f : Fde) (d : ReadFde) → map fde_of list ≡ kept →
+    slice_get list i ≡ Some f →
     (get_or kept i d).place ≡ f.place
 place-at list kept i f d e h =
     ap (λ (x : ReadFde). x.place) (get_or_from_slice_get kept i (fde_of f) d

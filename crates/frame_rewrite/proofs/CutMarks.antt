@@ -1,16 +1,14 @@
 -- Entries that are marked by cuts, which ascend.
-use Rattle.std.proofs.Common.{◌≡◌, ◌∙◌, ◌+◌, ◌-◌, ◌<◌, ◌≤◌, ◌==◌, ◌&&◌, ℕ, Bool, true, false, cond, not, List, [], ◌∷◌, refl, sym, ap, subst, arith, length, get_or}
+use Rattle.std.proofs.Common.{◌≡◌, ◌∙◌, ◌+◌, ◌-◌, ◌<◌, ◌≤◌, ◌==◌, ◌&&◌, ℕ, Bool, true, false, not, List, refl, sym, ap, subst, arith, length}
 use Rattle.std.proofs.lemmas.Bool.Decides.{nat_tests}
 use Rattle.std.proofs.lemmas.Grind.{common_steps}
 use Rattle.std.proofs.lemmas.List.Folds.{list_any_none, list_any_at, Any-from_list_any}
 use Rattle.std.proofs.lemmas.Map.Keys.{below_from_sorted, sorted_from_strictly_increasing}
-use Rattle.std.specs.Prelude.{nat_lt, nat_le, IsTrue, slice_index_or, Contains, All, ◌↔◌}
+use Rattle.std.specs.Prelude.{nat_lt, nat_le, slice_index_or, Contains, ◌↔◌}
 use Rattle.std.specs.List.{list_any}
 use Rattle.std.specs.List.Sorted.{IsStrictlyIncreasing}
 use Rattle.cfi_rows.specs.declared.frame_table.Fde.{Fde as ReadFde}
-use Rattle.cfi_rows.specs.Entries.{Fde}
-use Rattle.cfi_rows.specs.ReadEntries.{fde_of}
-use Rattle.frame_rewrite.specs.FrameAnswers.{is_marked_by, is_whole_range}
+use Rattle.frame_rewrite.specs.FrameAnswers.{is_marked_by}
 use Rattle.frame_rewrite.specs.FrameLookups.{is_marked_as, is_strictly_inside}
 
 -- so many cuts are at most an address
@@ -45,17 +43,21 @@ inside x y z p q = at (nat_lt x y) (nat_lt y z) refl refl where
   at true false e f = absurd (grind (arith, nat_tests))
   at false b e f = absurd (grind (arith, nat_tests))
 
-rising : (cuts : List ℕ) (i j d : ℕ) → IsStrictlyIncreasing cuts → i < j → j < length cuts → slice_index_or cuts i d < slice_index_or cuts j d
+rising : (cuts : List ℕ) (i j d : ℕ) → IsStrictlyIncreasing cuts → i < j → j < length cuts →
+    slice_index_or cuts i d < slice_index_or cuts j d
 rising cuts i j d h l m = below_from_sorted cuts i j d (sorted_from_strictly_increasing cuts h) l m
 
 -- none of the cuts is the start
-absent : (cuts : List ℕ) (start n : ℕ) → IsStrictlyIncreasing cuts → IsCount cuts start n → (0 < n → slice_index_or cuts (n - 1) 0 ≡ start → ⊥) →
+absent : (cuts : List ℕ) (start n : ℕ) → IsStrictlyIncreasing cuts → IsCount cuts start n →
+    (0 < n → slice_index_or cuts (n - 1) 0 ≡ start → ⊥) →
     list_any (λ c. c == start) cuts ≡ false
 absent cuts start n h c m = list_any_none (λ c. c == start) cuts (λ k d l. unequal (slice_index_or cuts k d) start (λ e. at k d l e (nat_lt k n) (nat_lt (k + 1) n) refl refl)) where
-  at : (k d : ℕ) → k < length cuts → slice_index_or cuts k d ≡ start → (a b : Bool) → nat_lt k n ≡ a → nat_lt (k + 1) n ≡ b → ⊥
+  at : (k d : ℕ) → k < length cuts → slice_index_or cuts k d ≡ start → (a b : Bool) → nat_lt k n ≡ a →
+      nat_lt (k + 1) n ≡ b → ⊥
   at k d l e true true f g =
       let low : k < n - 1 = grind (arith, nat_tests) in let b = c.bound in let p : n - 1 < length cuts = omega arith in
-      let r = rising cuts k (n - 1) d h low p in let q : n - 1 < n = omega arith in let s = c.below (n - 1) d q in omega arith
+      let r = rising cuts k (n - 1) d h low p in let q : n - 1 < n = omega arith in let s = c.below (n - 1) d q in
+      omega arith
   at k d l e true false f g =
       let is : k ≡ n - 1 = grind (arith, nat_tests) in let p : 0 < n = grind (arith, nat_tests) in
       let same : slice_index_or cuts k d ≡ slice_index_or cuts k 0 = grind (arith, common_steps) in
@@ -63,10 +65,12 @@ absent cuts start n h c m = list_any_none (λ c. c == start) cuts (λ k d l. une
   at k d l e false b f g = let p : n ≤ k = grind (arith, nat_tests) in let s = c.above k d p l in omega arith
 
 -- none lies strictly inside
-clear : (cuts : List ℕ) (f : ReadFde) (n : ℕ) → IsCount cuts f.start n → ((k d : ℕ) → n ≤ k → k < length cuts → f.end ≤ slice_index_or cuts k d) →
+clear : (cuts : List ℕ) (f : ReadFde) (n : ℕ) → IsCount cuts f.start n →
+    ((k d : ℕ) → n ≤ k → k < length cuts → f.end ≤ slice_index_or cuts k d) →
     list_any (is_strictly_inside f) cuts ≡ false
 clear cuts f n c h = list_any_none (is_strictly_inside f) cuts (λ k d l. not-inside f.start (slice_index_or cuts k d) f.end (λ p q. at k d l p q (nat_lt k n) refl)) where
-  at : (k d : ℕ) → k < length cuts → f.start < slice_index_or cuts k d → slice_index_or cuts k d < f.end → (b : Bool) → nat_lt k n ≡ b → ⊥
+  at : (k d : ℕ) → k < length cuts → f.start < slice_index_or cuts k d → slice_index_or cuts k d < f.end → (b : Bool) →
+      nat_lt k n ≡ b → ⊥
   at k d l p q true e = let m : k < n = grind (arith, nat_tests) in let s = c.below k d m in omega arith
   at k d l p q false e = let m : n ≤ k = grind (arith, nat_tests) in let s = h k d m l in omega arith
 
@@ -90,14 +94,16 @@ some-table n h = at (nat_lt 0 n) refl where
   at true e = refl
   at false e = absurd (h (grind (arith, nat_tests)))
 
-pub last-cut : (cuts : List ℕ) (f : ReadFde) (n d : ℕ) → (f.table ≡ 0 → ⊥) → IsCount cuts f.start n → 0 < n → slice_index_or cuts (n - 1) d ≡ f.start →
+pub last-cut : (cuts : List ℕ) (f : ReadFde) (n d : ℕ) → (f.table ≡ 0 → ⊥) → IsCount cuts f.start n → 0 < n →
+    slice_index_or cuts (n - 1) d ≡ f.start →
     n ≡ length cuts → true ≡ is_marked_as cuts f
 last-cut cuts f n d t c p e l =
     by-parts (nat_lt 0 f.table) _ _ true (some-table f.table t)
     (list_any_at (λ c. c == f.start) cuts (n - 1) d (omega arith) (equal (slice_index_or cuts (n - 1) d) f.start e))
     (ap not (clear cuts f n c (λ k d m q. absurd (omega arith))))
 
-pub next-cut : (cuts : List ℕ) (f : ReadFde) (n d : ℕ) → IsStrictlyIncreasing cuts → (f.table ≡ 0 → ⊥) → IsCount cuts f.start n → 0 < n →
+pub next-cut : (cuts : List ℕ) (f : ReadFde) (n d : ℕ) → IsStrictlyIncreasing cuts → (f.table ≡ 0 → ⊥) →
+    IsCount cuts f.start n → 0 < n →
     slice_index_or cuts (n - 1) d ≡ f.start → n < length cuts → nat_le f.end (slice_index_or cuts n d) ≡ is_marked_as cuts f
 next-cut cuts f n d h t c p e l = at (nat_le f.end (slice_index_or cuts n d)) refl where
   starts : list_any (λ c. c == f.start) cuts ≡ true
@@ -121,13 +127,15 @@ next-cut cuts f n d h t c p e l = at (nat_le f.end (slice_index_or cuts n d)) re
 
 -- The marks depend on which numbers are cuts, and not on their order.
 
-any-kept : (test : ℕ → Bool) (xs ys : List ℕ) → ((a : ℕ) → Contains xs a → Contains ys a) → list_any test xs ≡ true → list_any test ys ≡ true
+any-kept : (test : ℕ → Bool) (xs ys : List ℕ) → ((a : ℕ) → Contains xs a → Contains ys a) → list_any test xs ≡ true →
+    list_any test ys ≡ true
 any-kept test xs ys h e =
     let some = Any-from_list_any test xs e in
     let there = h some.1 (some.0, some.2, some.3) in
     list_any_at test ys there.0 some.1 there.1 (subst (λ x. test x ≡ true) (sym there.2) some.4)
 
-any-same : (test : ℕ → Bool) (xs ys : List ℕ) → ((a : ℕ) → Contains xs a ↔ Contains ys a) → list_any test xs ≡ list_any test ys
+any-same : (test : ℕ → Bool) (xs ys : List ℕ) → ((a : ℕ) → Contains xs a ↔ Contains ys a) →
+    list_any test xs ≡ list_any test ys
 any-same test xs ys h = at (list_any test xs) (list_any test ys) refl refl where
   at : (a b : Bool) → list_any test xs ≡ a → list_any test ys ≡ b → a ≡ b
   at true true e f = refl

@@ -1,11 +1,10 @@
 -- Frame tables that are read of a file.
-use Rattle.std.proofs.Common.{◌≡◌, ◌∙◌, ◌<◌, ◌≤◌, ℕ, Bool, List, [], ◌∷◌, Option, Some, None, refl, sym, ap, arith, Bor}
+use Rattle.std.proofs.Common.{◌≡◌, ◌∙◌, ℕ, Bool, List, [], ◌∷◌, Option, Some, None, refl, sym, ap, arith, Bor}
 use Rattle.std.proofs.lemmas.Option.{same_Some}
 use Rattle.std.specs.Prelude.{Contains, ◌↔◌, is_some}
 use Rattle.std.specs.Option.{option_copied}
 use Rattle.rb_bytes.specs.Fault.{number_of, fault_at}
 use Rattle.rb_bytes.specs.FirstFault.{IsFree, IsAnswered}
-use Rattle.rb_bytes.specs.declared.fault.FaultKind.{FaultKind}
 use Rattle.rb_bytes.specs.declared.fault.FaultKind.TheVariants.{FrameFault}
 use Rattle.elf_image.specs.declared.elf.Elf.{Elf}
 use Rattle.elf_image.specs.file.Cuts.{IsCutAddress}
@@ -32,14 +31,17 @@ one-fault t place e = record {
   alone = refl;
 }
 
-pub read-of : (t : Kept) (debug : Bool) (section : Held) → t.debug ≡ debug → section_held t ≡ section → read_as t ≡ frames_of debug section
+pub read-of : (t : Kept) (debug : Bool) (section : Held) → t.debug ≡ debug → section_held t ≡ section →
+    read_as t ≡ frames_of debug section
 read-of t debug section e f = ap (λ d. frames_of d (section_held t)) e ∙ ap (frames_of debug) f
 
 pub means-so : (m n : Fde → Bool) (f g : Frames) → g ≡ f → g.bad ≡ None → n ≡ m → answers m f ≡ Some (answer_at n g.list)
 means-so m n f g e b h =
-    ap (answers m) (sym e) ∙ ap (λ o. unless_any (o ∷ []) (answer_at m g.list)) b ∙ ap (λ k. Some (answer_at k g.list)) (sym h)
+    ap (answers m) (sym e) ∙ ap (λ o. unless_any (o ∷ []) (answer_at m g.list)) b
+    ∙ ap (λ k. Some (answer_at k g.list)) (sym h)
 
-pub cut-marks : (elf : Elf) (cuts : List ℕ) → ((a : ℕ) → Contains cuts a ↔ IsCutAddress elf.symbols.items elf.sections.items a) →
+pub cut-marks : (elf : Elf) (cuts : List ℕ) →
+    ((a : ℕ) → Contains cuts a ↔ IsCutAddress elf.symbols.items elf.sections.items a) →
     is_marked_by cuts ≡ is_marked_by (cuts_of elf)
 cut-marks elf cuts h = same-marks cuts (cuts_of elf) (λ a. (
   λ c. lists-from_IsCutAddress elf.symbols.items elf.sections.items a ((h a).0 c),

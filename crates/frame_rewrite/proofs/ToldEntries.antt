@@ -20,23 +20,28 @@ use Rattle.frame_rewrite.specs.FrameLookups.{told_at, told_by, answer_by}
 passes : {X : Type 0} (test : X → Bool) (xs : List X) (x : X) → find test xs ≡ Some x → test x ≡ true
 passes test [] x e = absurd (cc)
 passes {X} test (y ∷ ys) x e = at (test y) refl (passes test ys x) e where
-  at : (b : Bool) → test y ≡ b → (find test ys ≡ Some x → test x ≡ true) → cond b (Some y) (find test ys) ≡ Some x → test x ≡ true
+  at : (b : Bool) → test y ≡ b → (find test ys ≡ Some x → test x ≡ true) → cond b (Some y) (find test ys) ≡ Some x →
+      test x ≡ true
   at true t r f = subst (λ (z : X). test z ≡ true) (same_Some _ _ f) t
   at false t r f = r f
 
-pub told-none : (index : FirstRange) (list : List Fde) (a : ℕ) → first_range index a ≡ position (holds_address a) (map range_of list) →
+pub told-none : (index : FirstRange) (list : List Fde) (a : ℕ) →
+    first_range index a ≡ position (holds_address a) (map range_of list) →
     first_range index a ≡ None → told_at list a ≡ None
 told-none index list a is e =
     ap (option_and_then (told_by a)) (found_first index range_of list a is ∙ ap (option_and_then (slice_get list)) e)
 
-told-some : (list : List Fde) (a : ℕ) (f : Fde) (fde : ReadFde) (row : RowValue) → find (λ f. is_in_range f a) list ≡ Some f → fde_of f ≡ fde →
+told-some : (list : List Fde) (a : ℕ) (f : Fde) (fde : ReadFde) (row : RowValue) →
+    find (λ f. is_in_range f a) list ≡ Some f → fde_of f ≡ fde →
     row_at a f.rows None ≡ Some row → Some (fde, row) ≡ told_at list a
 told-some list a f fde row e g r = sym (
     ap (option_and_then (told_by a)) e ∙ ap (option_map (λ row. (fde_of f, row))) r ∙ ap (λ (x : ReadFde). Some (x, row)) g)
 
 pub told-row : (index : FirstRange) (list : List Fde) (a i : ℕ) (fde : ReadFde) (row : RowValue) →
-    first_range index a ≡ position (holds_address a) (map range_of list) → first_range index a ≡ Some i → slice_get (map fde_of list) i ≡ Some fde →
-    ((f : Fde) → slice_get list i ≡ Some f → IsTrue (is_in_range f a) → row_at a f.rows None ≡ Some row) → Some (fde, row) ≡ told_at list a
+    first_range index a ≡ position (holds_address a) (map range_of list) → first_range index a ≡ Some i →
+    slice_get (map fde_of list) i ≡ Some fde →
+    ((f : Fde) → slice_get list i ≡ Some f → IsTrue (is_in_range f a) → row_at a f.rows None ≡ Some row) →
+    Some (fde, row) ≡ told_at list a
 told-row index list a i fde row is e g r = at (slice_get list i) refl where
   at : (o : Option Fde) → slice_get list i ≡ o → Some (fde, row) ≡ told_at list a
   at None f = let n : option_map fde_of (slice_get list i) ≡ None = ap (option_map fde_of) f in
@@ -51,7 +56,8 @@ told-row index list a i fde row is e g r = at (slice_get list i) refl where
 abbrev answer_of_told : (ReadFde → Bool) → ReadFde × RowValue → FrameAnswer
 answer_of_told mark t = answer_by t.0 t.1 (mark t.0)
 
-pub answered : (is_marked : Fde → Bool) (mark : ReadFde → Bool) (list : List Fde) (a : ℕ) → ((f : Fde) → mark (fde_of f) ≡ is_marked f) →
+pub answered : (is_marked : Fde → Bool) (mark : ReadFde → Bool) (list : List Fde) (a : ℕ) →
+    ((f : Fde) → mark (fde_of f) ≡ is_marked f) →
     option_map (answer_of_told mark) (told_at list a) ≡ answer_at is_marked list a
 answered is_marked mark list a same = by-entry (find (λ f. is_in_range f a) list) where
   by-row : (f : Fde) (o : Option RowValue) → option_map (answer_of_told mark) (option_map (λ row. (fde_of f, row)) o)
@@ -59,12 +65,14 @@ answered is_marked mark list a same = by-entry (find (λ f. is_in_range f a) lis
   by-row f None = refl
   by-row f (Some row) = ap (λ b. Some (answer_by (fde_of f) row b)) (same f)
 
-  by-entry : (o : Option Fde) → option_map (answer_of_told mark) (option_and_then (told_by a) o) ≡ option_and_then (λ f. answer_of is_marked f a) o
+  by-entry : (o : Option Fde) →
+      option_map (answer_of_told mark) (option_and_then (told_by a) o) ≡ option_and_then (λ f. answer_of is_marked f a) o
   by-entry None = refl
   by-entry (Some f) = by-row f (row_at a f.rows None)
 
 -- as it is answered where an entry is told
-pub told-answer : (is_marked : Fde → Bool) (mark : ReadFde → Bool) (list : List Fde) (a : ℕ) (fde : ReadFde) (row : RowValue) (answer : FrameAnswer) →
+pub told-answer : (is_marked : Fde → Bool) (mark : ReadFde →
+    Bool) (list : List Fde) (a : ℕ) (fde : ReadFde) (row : RowValue) (answer : FrameAnswer) →
     ((f : Fde) → mark (fde_of f) ≡ is_marked f) → Some (fde, row) ≡ told_at list a → answer ≡ answer_by fde row (mark fde) →
     Some answer ≡ answer_at is_marked list a
 told-answer is_marked mark list a fde row answer same e f =
@@ -80,13 +88,15 @@ kept_range f = record { low = f.start; high = f.end }
 
 pub index-of : {E : Type 0} (r : Result FirstRange E) (kept : List ReadFde) (ranges : List Range) →
     IfOk r (λ index. (a : ℕ) → first_range index a ≡ position (holds_address a) ranges) → ranges ≡ map kept_range kept →
-    IfOk r (λ index. (list : List Fde) → kept ≡ map fde_of list → (a : ℕ) → first_range index a ≡ position (holds_address a) (map range_of list))
+    IfOk r (λ index. (list : List Fde) → kept ≡ map fde_of list → (a : ℕ) →
+    first_range index a ≡ position (holds_address a) (map range_of list))
 index-of (Err e) kept ranges h g = tt
 index-of (Ok index) kept ranges h g = λ list e a.
     h a ∙ ap (position (holds_address a)) (g ∙ ap (map kept_range) e ∙ same-ranges kept_range list)
 
 -- what is found at an index
-pub item-at : (xs kept : List ReadFde) (i : ℕ) (fde : ReadFde) → true ≡ nat_lt i (length xs) → fde ≡ get_or xs i fde → xs ≡ kept →
+pub item-at : (xs kept : List ReadFde) (i : ℕ) (fde : ReadFde) → true ≡ nat_lt i (length xs) → fde ≡ get_or xs i fde →
+    xs ≡ kept →
     slice_get kept i ≡ Some fde
 item-at xs kept i fde t e f =
     let within : i < length xs = grind (arith, nat_tests) in

@@ -1,6 +1,5 @@
 use Rattle.std.proofs.Common.{rules, ◌≡◌, ◌∙◌, None, Some, ap, sym}
 use Rattle.std.specs.Prelude.{slice_get, map}
-use Rattle.cfi_rows.specs.declared.frame_table.Fde.{Fde as ReadFde}
 use Rattle.cfi_rows.specs.ReadEntries.{fde_of}
 use Rattle.cfi_rows.specs.ReadFrames.{read_as}
 use Rattle.cfi_rows.specs.KeptTables.{SaidFrames}

@@ -1,4 +1,4 @@
-use Rattle.std.proofs.Common.{rules, ◌≡◌, ◌∙◌, ◌<◌, ◌-◌, ℕ, length, arith, true, sym, nat_eq}
+use Rattle.std.proofs.Common.{rules, ◌≡◌, ◌∙◌, ◌<◌, ◌-◌, length, arith, true, nat_eq}
 use Rattle.std.specs.Prelude.{slice_index_or}
 use Rattle.frame_rewrite.proofs.CutMarks.{IsCount, not-at-cut, last-cut, next-cut}
 use Rattle.frame_rewrite.proofs.marks.is_marked.Goals as goal

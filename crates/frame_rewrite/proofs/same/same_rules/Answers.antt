@@ -1,4 +1,4 @@
-use Rattle.std.proofs.Common.{arith, sym, ◌∙◌, refl, rules, ◌≡◌, ◌≤◌, ◌<◌, length}
+use Rattle.std.proofs.Common.{arith, sym, ◌∙◌, refl, ◌≤◌, ◌<◌, length}
 use Rattle.frame_rewrite.proofs.SameLists.{same-more, same-end}
 use Rattle.frame_rewrite.proofs.same.same_rules.Goals as goal
 

@@ -11,4 +11,5 @@ returns-in-Some c =
     let told = c.in-Some.told in
     told-answer (is_marked_by t.cuts.items) (is_marked_as t.cuts.items) (read_as t.frames).list c.args.a told.fde told.row c.answer.result
     (λ f. refl) (search rules)
-    (c.answer.ensures ∙ ap (answer_by told.fde told.row) (c.is_marked-marked.ensures ∙ ap (λ xs. is_marked_as xs told.fde) c.deref.ensures.value))
+    (c.answer.ensures ∙ ap (answer_by told.fde told.row) (c.is_marked-marked.ensures
+    ∙ ap (λ xs. is_marked_as xs told.fde) c.deref.ensures.value))
