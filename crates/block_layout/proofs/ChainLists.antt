@@ -10,6 +10,7 @@ use Rattle.std.proofs.lemmas.List.Concat.{flat_map-append}
 use Rattle.std.proofs.lemmas.List.Elements.{Contains-append_left, Contains-push, Contains-push_cases, Contains-get_or}
 use Rattle.std.proofs.lemmas.List.Quantifiers.{all_pairs_push}
 use Rattle.std.proofs.lemmas.List.Sorted.{Contains-permutation, IsPermutation-sym, IsPermutation-map}
+use Rattle.edge_profile.proofs.Neighbours.{all_pairs}
 use Rattle.block_layout.specs.Links.{Links, IsChain}
 use Rattle.block_layout.specs.Parts.{greatest}
 use Rattle.block_layout.specs.Walks.{AreBetween, IsHotBetween, AreHotBetween, IsUpTo, chain_heads}
@@ -158,22 +159,13 @@ up_trans x y z (inl a) (inr (e, b)) = inl (omega arith)
 up_trans x y z (inr (e, a)) (inl b) = inl (omega arith)
 up_trans x y z (inr (e, a)) (inr (f, b)) = inr (e ∙ f, omega arith)
 
-chain_up : (xs : List HotChain) → ((k : ℕ) (d : HotChain) → k + 1 < length xs → IsUpTo (get_or xs k d) (get_or xs (k + 1) d))
-    → (n i j : ℕ) (d : HotChain) → j ≡ i + suc n → j < length xs → IsUpTo (get_or xs i d) (get_or xs j d)
-chain_up xs next zero i j d gap within =
-    let e : i + 1 ≡ j = omega arith in
-    subst (λ (k : ℕ). IsUpTo (get_or xs i d) (get_or xs k d)) e (next i d (omega arith))
-chain_up xs next (suc n) i j d gap within =
-    up_trans (get_or xs i d) (get_or xs (i + 1) d) (get_or xs j d) (next i d (omega arith))
-    (chain_up xs next n (i + 1) j d (omega arith) within)
-
 pub chains-sorted : (xs : List HotChain)
     → ((k : ℕ) (d : HotChain) → 0 ≤ k → k + 1 < length xs
     → is_lt (ordering_then (nat_cmp (get_or xs k d).weight (get_or xs (k + 1) d).weight)
     (nat_cmp (get_or xs (k + 1) d).head (get_or xs k d).head)) ≡ false) → AllPairs IsUpTo xs
-chains-sorted xs sorted i j d less within =
-    chain_up xs (λ k e inside. from_cmp (get_or xs k e) (get_or xs (k + 1) e) (sorted k e (omega arith) inside))
-    (j - i - 1) i j d (omega arith) within
+chains-sorted xs sorted =
+    all_pairs IsUpTo up_trans xs
+    (λ k e inside. from_cmp (get_or xs k e) (get_or xs (k + 1) e) (sorted k e (omega arith) inside))
 
 -- one list more among joined ones
 pub flat_more : (f : HotChain → List ℕ) (xs : List HotChain) (i : ℕ) (d : HotChain) → i < length xs

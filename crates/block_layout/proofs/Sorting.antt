@@ -1,8 +1,9 @@
 -- What a sort by counts and ends gives.
-use Rattle.std.proofs.Common.{◌≡◌, ◌<◌, ◌≤◌, ◌+◌, ◌-◌, ◌∙◌, ℕ, zero, suc, true, false, List, length, get_or, arith, sym, subst}
+use Rattle.std.proofs.Common.{◌≡◌, ◌<◌, ◌≤◌, ◌+◌, ◌∙◌, ℕ, true, false, List, length, get_or, arith, sym}
 use Rattle.std.proofs.Common.{inl, inr, ⊎_elim, AllPairs}
 use Rattle.std.specs.Ordering.{nat_cmp, is_lt, ordering_then}
 use Rattle.std.proofs.lemmas.Bool.{cases_lt, eq-eqb, lt-ltb, le-ltb}
+use Rattle.edge_profile.proofs.Neighbours.{all_pairs}
 use Rattle.block_layout.specs.EdgeLists.{IsKeyBefore}
 use Rattle.block_layout.specs.declared.edge_counts.Edge.{Edge}
 
@@ -48,20 +49,11 @@ key_trans x y z (inr (e, inl a)) (inr (f, inr (g, b))) = inr (e ∙ f, inl (omeg
 key_trans x y z (inr (e, inr (g, a))) (inr (f, inl b)) = inr (e ∙ f, inl (omega arith))
 key_trans x y z (inr (e, inr (g, a))) (inr (f, inr (h, b))) = inr (e ∙ f, inr (g ∙ h, omega arith))
 
-chain : (xs : List Edge) → ((k : ℕ) (d : Edge) → k + 1 < length xs → IsKeyBefore (get_or xs k d) (get_or xs (k + 1) d))
-    → (n i j : ℕ) (d : Edge) → j ≡ i + suc n → j < length xs → IsKeyBefore (get_or xs i d) (get_or xs j d)
-chain xs next zero i j d gap within =
-    let e : i + 1 ≡ j = omega arith in
-    subst (λ (k : ℕ). IsKeyBefore (get_or xs i d) (get_or xs k d)) e (next i d (omega arith))
-chain xs next (suc n) i j d gap within =
-    key_trans (get_or xs i d) (get_or xs (i + 1) d) (get_or xs j d) (next i d (omega arith))
-    (chain xs next n (i + 1) j d (omega arith) within)
-
 pub edges-sorted : (xs : List Edge)
     → ((k : ℕ) (d : Edge) → 0 ≤ k → k + 1 < length xs
     → is_lt (ordering_then (ordering_then (nat_cmp (get_or xs k d).count (get_or xs (k + 1) d).count)
     (nat_cmp (get_or xs (k + 1) d).from (get_or xs k d).from)) (nat_cmp (get_or xs (k + 1) d).to (get_or xs k d).to)) ≡ false)
     → AllPairs IsKeyBefore xs
-edges-sorted xs sorted i j d less within =
-    chain xs (λ k e inside. from_cmp (get_or xs k e) (get_or xs (k + 1) e) (sorted k e (omega arith) inside))
-    (j - i - 1) i j d (omega arith) within
+edges-sorted xs sorted =
+    all_pairs IsKeyBefore key_trans xs
+    (λ k e inside. from_cmp (get_or xs k e) (get_or xs (k + 1) e) (sorted k e (omega arith) inside))

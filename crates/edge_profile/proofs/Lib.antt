@@ -8,6 +8,7 @@ mod NameEnding
 mod NameIndices
 mod NameOrder
 mod NameTables
+pub mod Neighbours
 mod Partitions
 mod Saying
 mod SymbolTables

@@ -1,5 +1,5 @@
 -- Counts merged one after another.
-use Rattle.std.proofs.Common.{◌≡◌, ◌≢◌, ◌<◌, ◌≤◌, ◌+◌, ◌-◌, ◌*◌, ◌^◌, ◌∙◌, ◌⊎◌, ℕ, suc, zero, Bool, true, false, List, [], ◌∷◌}
+use Rattle.std.proofs.Common.{◌≡◌, ◌≢◌, ◌<◌, ◌≤◌, ◌+◌, ◌-◌, ◌*◌, ◌^◌, ◌∙◌, ◌⊎◌, ℕ, zero, Bool, true, false, List, [], ◌∷◌}
 use Rattle.std.proofs.Common.{◌++◌, length, get_or, set, take, arith, refl, ap, sym, subst, inl, inr, ⊎_elim, All, AllPairs}
 use Rattle.std.proofs.Common.{length-set, get_or-set_same, get_or-set_other}
 use Rattle.std.specs.Prelude.{◌==◌, ◌&&◌, if◌then◌else◌, not}
@@ -13,6 +13,7 @@ use Rattle.std.proofs.lemmas.List.Sorted.{sum_by-IsPermutation, length_permutati
 use Rattle.std.proofs.lemmas.List.Sums.{sum_by_push, sum_by_more, sum_by-set}
 use Rattle.edge_profile.specs.PairCounts.{Counted, count_among, is_pair, total_count, IsCountedBefore}
 use Rattle.edge_profile.specs.Pairs.{IsNotAfter, AreMerged, AddsCount, is_last_pair}
+use Rattle.edge_profile.proofs.Neighbours.{all_pairs}
 
 -- Two counts of one pair are counted as their sum.
 added-sum : (from to : ℕ) (x : Counted) (n : ℕ)
@@ -250,20 +251,11 @@ not_after_trans x y z (inl a) (inr (e, b)) = inl (omega arith)
 not_after_trans x y z (inr (e, a)) (inl b) = inl (omega arith)
 not_after_trans x y z (inr (e, a)) (inr (f, b)) = inr (e ∙ f, omega arith)
 
-chain : (xs : List Counted) → ((k : ℕ) (d : Counted) → k + 1 < length xs → IsNotAfter (get_or xs k d) (get_or xs (k + 1) d))
-    → (n i j : ℕ) (d : Counted) → j ≡ i + suc n → j < length xs → IsNotAfter (get_or xs i d) (get_or xs j d)
-chain xs next zero i j d gap within =
-    let e : i + 1 ≡ j = omega arith in
-    subst (λ (k : ℕ). IsNotAfter (get_or xs i d) (get_or xs k d)) e (next i d (omega arith))
-chain xs next (suc n) i j d gap within =
-    not_after_trans (get_or xs i d) (get_or xs (i + 1) d) (get_or xs j d) (next i d (omega arith))
-    (chain xs next n (i + 1) j d (omega arith) within)
-
 pub pairs-sorted : (xs : List Counted)
     → ((k : ℕ) (d : Counted) → 0 ≤ k → k + 1 < length xs
     → is_lt (ordering_then (nat_cmp (get_or xs (k + 1) d).0 (get_or xs k d).0)
     (nat_cmp (get_or xs (k + 1) d).1 (get_or xs k d).1)) ≡ false) → AllPairs IsNotAfter xs
-pairs-sorted xs sorted i j d less within =
-    chain xs (λ k e inside. from_cmp (get_or xs k e).0 (get_or xs k e).1 (get_or xs (k + 1) e).0 (get_or xs (k + 1) e).1
+pairs-sorted xs sorted =
+    all_pairs IsNotAfter not_after_trans xs
+    (λ k e inside. from_cmp (get_or xs k e).0 (get_or xs k e).1 (get_or xs (k + 1) e).0 (get_or xs (k + 1) e).1
     (sorted k e (omega arith) inside))
-    (j - i - 1) i j d (omega arith) within

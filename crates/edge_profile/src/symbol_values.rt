@@ -1,19 +1,20 @@
 // The values of functions' symbols by their names, where the names are looked up by their places in the table of names.
 // gABI, "String Table" and "Symbol Table".
 ghost use Rattle.std.specs.Prelude.{◌≡◌, ◌+◌, ◌*◌, ◌<◌, ◌≤◌, ℕ, List, [], IfOk, IfSome, Some, length};
-ghost use Rattle.elf_image.specs.faults.Truncation.{IsReadable, HasContents};
+ghost use Rattle.elf_image.specs.faults.Truncation.{IsReadable};
 ghost use Rattle.elf_image.specs.file.Header.{number_at};
 ghost use Rattle.elf_image.specs.file.ParsedFile.{IsElfOf, AreSymbols};
-ghost use Rattle.elf_image.specs.file.Sections.{contents, text_of};
-ghost use Rattle.elf_image.specs.file.Symbols.{symbol_table, symbol_count, symbol_names, symbol_place};
+ghost use Rattle.elf_image.specs.file.Sections.{text_of};
+ghost use Rattle.elf_image.specs.file.Symbols.{symbol_table, symbol_count, symbol_place};
 ghost use Rattle.edge_profile.specs.NameEnds.{index_of, indices_in};
 ghost use Rattle.edge_profile.specs.SymbolValues.{AreKnown, noted_value};
 
 use crate::function_names::next_known;
 use crate::name_ends::NameEnds;
-use elf_image::entries::{SectionTable, section_count, symbol_table};
+use elf_image::entries::{SectionTable, symbol_table};
+use elf_image::names::symbol_texts;
 use elf_image::number::u32_at;
-use elf_image::section::{SHT_NOBITS, SectionHeader};
+use elf_image::section::SectionHeader;
 use elf_image::symbol::SYM_SIZE;
 use elf_image::{Elf, Symbol};
 use rb_bytes::fault::NoMemory;
@@ -114,28 +115,4 @@ fn index_at(names: &NameEnds, indices: &[Option<usize>], place: u32) -> Option<u
     } else {
         names.named(names.all())
     }
-}
-
-// The names of the symbols of a table.
-fn symbol_texts<'file>(file: &'file [u8], table: &SectionHeader) -> &'file [u8]
-    requires { IsReadable file.now }
-    ensures { result.now ≡ symbol_names file.now table.now }
-{
-    let headers = SectionTable { file };
-    if table.link as usize >= section_count(headers) {
-        return &file[..0];
-    }
-    section_bytes(file, &headers.section_of(table.link as usize))
-}
-
-// The bytes of a section that lies whole in the file.
-fn section_bytes<'file>(file: &'file [u8], section: &SectionHeader) -> &'file [u8]
-    requires { HasContents file.now section.now }
-    ensures { result.now ≡ contents file.now section.now }
-{
-    if section.kind == SHT_NOBITS || section.size == 0 {
-        return &file[..0];
-    }
-    let start = section.offset as usize;
-    &file[start..start + section.size as usize]
 }

@@ -11,7 +11,7 @@ pub mod header;
 mod image;
 pub mod lowest;
 pub mod named;
-mod names;
+pub mod names;
 pub mod number;
 mod range;
 mod reader;

@@ -1,6 +1,6 @@
 // Tables of names. gABI, "String Table".
 ghost use Rattle.std.specs.Prelude.{◌≡◌, ◌≤◌, ◌<◌, ◌+◌, IfSome, IfNone, length};
-ghost use Rattle.elf_image.specs.faults.Truncation.{HasContents, HasSectionNames, HasSymbolNames};
+ghost use Rattle.elf_image.specs.faults.Truncation.{IsReadable, HasContents, HasSectionNames, HasSymbolNames};
 ghost use Rattle.elf_image.specs.internal.TextEnds.{IsLastEnd};
 ghost use Rattle.elf_image.specs.file.Sections.{contents, section_names};
 ghost use Rattle.elf_image.specs.file.Symbols.{symbol_names};
@@ -68,4 +68,16 @@ pub fn symbol_names<'a>(headers: SectionTable<'a>, table: &SectionHeader) -> Opt
         return None;
     }
     Some(section_bytes(headers.file, &section))
+}
+
+/// The names of the symbols of a table in a file that is truncated nowhere.
+pub fn symbol_texts<'a>(file: &'a [u8], table: &SectionHeader) -> &'a [u8]
+    requires { IsReadable file.now }
+    ensures { result.now ≡ symbol_names file.now table.now }
+{
+    let headers = SectionTable { file };
+    if table.link as usize >= section_count(headers) {
+        return &file[..0];
+    }
+    section_bytes(file, &headers.section_of(table.link as usize))
 }

@@ -5,13 +5,13 @@ ghost use Rattle.elf_image.specs.faults.Truncation.{IsReadable, HasContents};
 ghost use Rattle.elf_image.specs.file.Header.{e_shnum, segments_of};
 ghost use Rattle.elf_image.specs.file.ParsedFile.{IsSectionAt, AreSections, AreSymbols, AreSymbolsOf};
 ghost use Rattle.elf_image.specs.file.Sections.{section_names};
-ghost use Rattle.elf_image.specs.file.Symbols.{symbol_table, symbol_count, symbol_names};
+ghost use Rattle.elf_image.specs.file.Symbols.{symbol_table, symbol_count};
 ghost use Rattle.elf_image.specs.file.StringTables.{name_bytes};
 
 use crate::entries::{
     SectionTable, SegmentTable, section_count, segment_count, symbol_count, symbol_table,
 };
-use crate::names::{section_names, symbol_names};
+use crate::names::{section_names, symbol_texts};
 use crate::section::{SHT_SYMTAB, Section, SectionHeader};
 use crate::segment::Segment;
 use crate::symbol::{SYM_SIZE, Symbol, symbol_at};
@@ -75,18 +75,6 @@ pub fn read_sections<'a>(alloc: Global, file: &'a [u8]) -> Result<Vec<Section<'a
         sections.push(read_section(file, &names, index))?;
     }
     Ok(sections)
-}
-
-// The names of the symbols of the table of a file that is truncated nowhere.
-fn symbol_texts<'a>(file: &'a [u8], table: &SectionHeader) -> &'a [u8]
-    requires whole { IsReadable file.now }
-    requires is_table { symbol_table file.now ≡ Some table.now }
-    ensures { result.now ≡ symbol_names file.now table.now }
-{
-    match symbol_names(SectionTable { file }, table) {
-        Some(names) => names,
-        None => &file[..0],
-    }
 }
 
 fn read_symbols_of<'a>(

@@ -175,7 +175,7 @@ same_top : (Other : ℕ → Type 0) (f g : ℕ → ℕ) (most : ℕ) (best : Opt
     IsTopOf Other g best most
 same_top Other f g most best same t = subst (λ (h : ℕ → ℕ). IsTopOf Other h best most) (λ i w. sym (same w) i) t
 
--- The same for all units, by the first calls.
+-- The units of all calls, by the first ones.
 
 abbrev pub MayCall : List ℕ → ℕ → ℕ → Type 0
 MayCall heats u w = (w ≢ u) × (0 < slice_index heats w)

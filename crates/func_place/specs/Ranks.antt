@@ -9,7 +9,7 @@ pub record IsInOrder {A : Type 0} (before : A → A → Bool) (members list : Li
   pub each : IsPermutation members list
   pub ordered : IsSortedBy before list
 
--- by heat, the greater first, then the lower unit first
+-- units rank by heat, the greater first, then the lower unit first
 abbrev pub hotter : List ℕ → ℕ → ℕ → Bool
 hotter heats u v =
     nat_lt (slice_index heats v) (slice_index heats u) || ((slice_index heats v == slice_index heats u) && nat_lt u v)
@@ -21,13 +21,13 @@ begins units u = option_map_or (λ v. v == u) (slice_get units 0) false
 abbrev pub cluster_heads : (ℕ → List ℕ) → List ℕ → List ℕ
 cluster_heads cluster taken = filter (λ u. begins (cluster u) u) taken
 
--- by density, which is heat divided by size, the greater first, then the lower unit first;
+-- clusters rank by density, which is heat divided by size, the greater first, then the lower unit first;
 -- compared by cross products
 abbrev pub denser_by : ℕ → ℕ → ℕ → ℕ → ℕ → ℕ → Bool
 denser_by heat size u heat' size' v =
     nat_lt (heat' * size) (heat * size') || ((heat' * size == heat * size') && nat_lt u v)
 
--- the same of clusters, by their first units
+-- the rank of clusters by their first units
 abbrev pub denser : List ℕ → List ℕ → (ℕ → List ℕ) → ℕ → ℕ → Bool
 denser sizes heats cluster u v =
     denser_by (total heats (cluster u)) (total sizes (cluster u)) u (total heats (cluster v)) (total sizes (cluster v)) v

@@ -16,4 +16,4 @@ mod unit_calls;
 mod unit_order;
 mod units;
 
-pub use placing::place;
+pub use placing::{place, place_by};

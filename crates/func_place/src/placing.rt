@@ -6,6 +6,7 @@ ghost use Rattle.rv_code.specs.declared.placed.Block.{Block};
 ghost use Rattle.rv_code.specs.layout.FunctionLists.{AreLaidOut};
 ghost use Rattle.rb_bytes.specs.FirstFault.{IsFree, IsRefusalBy};
 ghost use Rattle.edge_profile.specs.BlockPlaces.{AreBlocksApart};
+ghost use Rattle.edge_profile.specs.PairCounts.{total_count};
 ghost use Rattle.edge_profile.specs.Profile.{pairs_of};
 ghost use Rattle.edge_profile.specs.Weights.{block_weight};
 ghost use Rattle.func_place.specs.Faults.{HasPlacementFault};
@@ -50,15 +51,41 @@ pub fn place(
     ensures free { OnOk result (IsFree (HasPlacementFault funcs.now blocks.now)) }
     ensures fault { IfErr result (IsRefusalBy (HasPlacementFault funcs.now blocks.now)) }
 {
+    let weights = block_weights(alloc, funcs, blocks, profile)?;
+    place_by(alloc, funcs, blocks, chains, profile.pairs(), &weights)
+}
+
+/// All blocks in their new order, by a profile's pairs with their counts and the weights that these give to blocks; or the
+/// first of the faults `UnitTooLong` and `KeptBranch`. `chains` has the blocks of the hot and the cold part of each function.
+pub fn place_by(
+    alloc: Global,
+    funcs: &[Func],
+    blocks: &[Block],
+    chains: &Chains,
+    pairs: &[(u64, u64, u128)],
+    weights: &[u128],
+) -> Result<Plan, Refusal>
+    requires funcs { AreLaidOut funcs.now }
+    requires blocks { All (IsOfFunction funcs.now) blocks.now }
+    requires hot { length chains.now.hot.items ≡ length funcs.now }
+    requires cold { length chains.now.cold.items ≡ length funcs.now }
+    requires counts { total_count pairs.now < 2 ^ 100 }
+    requires weights { weights.now ≡ map (block_weight pairs.now funcs.now) blocks.now }
+    requires room { sum weights.now < 2 ^ 101 }
+    ensures order { IfOk result (λ plan. IsPlacement funcs.now blocks.now chains.now pairs.now
+        (block_weight pairs.now funcs.now) plan.order.items) }
+    ensures all { IfOk result (λ plan. HaveAllBlocks funcs.now blocks.now chains.now →
+        HasAllBlocks blocks.now plan.order.items) }
+    ensures near { IfOk result (λ plan. HaveAllBlocks funcs.now blocks.now chains.now →
+        AreTiedNear funcs.now blocks.now plan.order.items) }
+    ensures free { OnOk result (IsFree (HasPlacementFault funcs.now blocks.now)) }
+    ensures fault { IfErr result (IsRefusalBy (HasPlacementFault funcs.now blocks.now)) }
+{
     let (units, sizes) = match sized_units(alloc, funcs, blocks) {
         Ok(sized) => sized,
         Err(refusal) => return Err(refusal),
     };
-    let weights = block_weights(alloc, funcs, blocks, profile)?;
-    let pairs = profile.pairs();
-    let order = order_blocks(
-        alloc, funcs, blocks, chains, pairs, &weights, &units, &sizes,
-    )?;
+    let order = order_blocks(alloc, funcs, blocks, chains, pairs, weights, &units, &sizes)?;
     Ok(Plan { order })
 }
 
