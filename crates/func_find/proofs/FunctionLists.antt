@@ -25,11 +25,11 @@ use Rattle.rb_bytes.specs.FirstFault.{Lacks, LacksBelow, IsFree, IsAnswered, IsR
 use Rattle.elf_code.specs.FunctionFaults.{IsBareAuipc, IsInsideInstruction, IsBadTarget, direct, pair, HasFunctionFault}
 use Rattle.elf_image.specs.faults.LowestPlace.{IsLowest}
 use Rattle.elf_image.proofs.LowestPlaces.{IsLowest-same}
-use Rattle.rv_reloc.specs.declared.parts.Part.{Part}
-use Rattle.rv_reloc.specs.Parts.{ArePartsApart}
-use Rattle.rv_reloc.specs.WholeParts.{AreWholeParts}
-use Rattle.rv_reloc.proofs.StartLists.{starts_inside}
-use Rattle.rv_reloc.proofs.WholeLookup.{StartsIn-inside}
+use Rattle.code_starts.specs.declared.parts.Part.{Part}
+use Rattle.code_starts.specs.Parts.{ArePartsApart}
+use Rattle.code_starts.specs.WholeParts.{AreWholeParts}
+use Rattle.code_starts.proofs.StartLists.{starts_inside}
+use Rattle.code_starts.proofs.WholeLookup.{StartsIn-inside}
 use Rattle.func_find.specs.FunctionParts.{AreFunctionParts}
 use Rattle.func_find.specs.InstLists.{IsBareBefore, IsGoodBefore, IsFaultBefore, invalid, bare, IsFirstIn, IsFirstRefusal}
 use Rattle.func_find.specs.InstLists.{IsPlacedAt, IsFunctionOf, AreFunctionsOf}

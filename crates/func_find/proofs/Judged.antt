@@ -11,11 +11,11 @@ use Rattle.elf_image.specs.declared.elf.Elf.{Elf}
 use Rattle.elf_image.specs.memory.LoadedBytes.{byte_at}
 use Rattle.elf_code.specs.Parts.{IsCovered, IsCodePart, IsZeroPart, StartsIn, at_start, HasValidInst, halfword_at, length_at}
 use Rattle.elf_code.specs.Functions.{IsNopPart, IsFunctionPart, code, referred, fallen_into}
-use Rattle.rv_reloc.specs.declared.parts.Part.{Part}
-use Rattle.rv_reloc.specs.Parts.{AreCodeParts, Precedes}
-use Rattle.rv_reloc.proofs.Chosen.{ChosenOf}
-use Rattle.rv_reloc.proofs.StartLists.{starts_inside}
-use Rattle.rv_reloc.proofs.WholeLookup.{StartsIn-inside}
+use Rattle.code_starts.specs.declared.parts.Part.{Part}
+use Rattle.code_starts.specs.Parts.{AreCodeParts, Precedes}
+use Rattle.code_starts.proofs.Chosen.{ChosenOf}
+use Rattle.code_starts.proofs.StartLists.{starts_inside}
+use Rattle.code_starts.proofs.WholeLookup.{StartsIn-inside}
 use Rattle.elf_code.specs.FileCode.{AreStarts}
 use Rattle.func_find.specs.ValidInsts.{IsValidBefore, IsNopBefore}
 use Rattle.func_find.specs.FunctionParts.{AreFunctionParts, AreFunctionsBefore, FallsAt, FallsOut, IsEntered, HasReferred}

@@ -15,9 +15,9 @@ use Rattle.elf_code.specs.Parts.{StartsIn, at_start, after, IsInstAt, length_at}
 use Rattle.elf_code.specs.Roles.{RoleIs}
 use Rattle.elf_code.specs.Functions.{AreInsts}
 use Rattle.rb_bytes.proofs.Members.{Contains-cons_cases}
-use Rattle.rv_reloc.specs.declared.parts.Part.{Part}
-use Rattle.rv_reloc.specs.Parts.{Precedes}
-use Rattle.rv_reloc.proofs.StartLists.{starts_inside}
+use Rattle.code_starts.specs.declared.parts.Part.{Part}
+use Rattle.code_starts.specs.Parts.{Precedes}
+use Rattle.code_starts.proofs.StartLists.{starts_inside}
 use Rattle.func_find.specs.InstLists.{IsPlacedAt, IsGoodBefore, IsFaultBefore, IsFirstIn, IsFirstRefusal}
 use Rattle.func_find.specs.InstLists.{AreFunctionsOf, AreInstsOf, IsFunctionOf}
 use Rattle.func_find.proofs.StartsApart.{starts_apart, length_is}

@@ -4,9 +4,9 @@ use Rattle.rv_code.specs.layout.ProgramCode.{RoleNames, CellNames}
 use Rattle.elf_image.specs.declared.elf.Elf.{Elf}
 use Rattle.elf_code.specs.Parts.{StartsIn}
 use Rattle.elf_code.specs.Functions.{IsReferred, jump, role, cell, entry}
-use Rattle.rv_reloc.specs.declared.parts.Part.{Part}
+use Rattle.code_starts.specs.declared.parts.Part.{Part}
 use Rattle.rv_reloc.specs.declared.refs.Refs.{Refs}
-use Rattle.rv_reloc.specs.Parts.{AreCodeParts}
+use Rattle.code_starts.specs.Parts.{AreCodeParts}
 use Rattle.rv_reloc.specs.Refs.{AreRefs}
 use Rattle.rb_bytes.specs.Lists.{Gains}
 use Rattle.func_find.specs.Referents.{GoesTo, PartGoesTo, AreReferred}

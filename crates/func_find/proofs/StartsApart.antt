@@ -6,7 +6,7 @@ use Rattle.rv_code.specs.declared.inst.Inst.{Inst}
 use Rattle.rv_code.specs.isa.InstBytes.{DecodesHalf, DecodesFull}
 use Rattle.elf_image.specs.declared.elf.Elf.{Elf}
 use Rattle.elf_code.specs.Parts.{StartsIn, IsInstAt, length_at, halfword_at}
-use Rattle.rv_reloc.proofs.StartLists.{length_positive, starts_cases, starts_inside}
+use Rattle.code_starts.proofs.StartLists.{length_positive, starts_cases, starts_inside}
 
 -- no start lies in the instruction of another
 starts_apart_by : (elf : Elf) (n start end a b : ℕ) → end ≤ start + n → StartsIn elf start end a →

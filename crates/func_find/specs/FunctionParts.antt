@@ -7,8 +7,8 @@ use Rattle.rv_code.specs.layout.Lists.{ListsAll}
 use Rattle.elf_image.specs.declared.elf.Elf.{Elf}
 use Rattle.elf_code.specs.Parts.{StartsIn}
 use Rattle.elf_code.specs.Functions.{IsFunctionPart, IsReferred}
-use Rattle.rv_reloc.specs.declared.parts.Part.{Part}
-use Rattle.rv_reloc.specs.Parts.{Precedes}
+use Rattle.code_starts.specs.declared.parts.Part.{Part}
+use Rattle.code_starts.specs.Parts.{Precedes}
 use Rattle.func_find.specs.ValidInsts.{IsValidBefore}
 
 -- all parts that are functions, by address

@@ -13,7 +13,7 @@ use Rattle.elf_image.specs.declared.elf.Elf.{Elf}
 use Rattle.elf_code.specs.Parts.{StartsIn, IsInstAt}
 use Rattle.elf_code.specs.Roles.{HasNoRole, RoleIs}
 use Rattle.elf_code.specs.Functions.{AreInsts}
-use Rattle.rv_reloc.specs.declared.parts.Part.{Part}
+use Rattle.code_starts.specs.declared.parts.Part.{Part}
 use Rattle.func_find.specs.ValidInsts.{IsValidBefore}
 
 -- an AUIPC without a role

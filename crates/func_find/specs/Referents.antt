@@ -6,7 +6,7 @@ use Rattle.rv_code.specs.layout.Flow.{target}
 use Rattle.elf_image.specs.declared.elf.Elf.{Elf}
 use Rattle.elf_code.specs.Parts.{StartsIn}
 use Rattle.elf_code.specs.Functions.{IsReferred}
-use Rattle.rv_reloc.specs.declared.parts.Part.{Part}
+use Rattle.code_starts.specs.declared.parts.Part.{Part}
 use Rattle.func_find.specs.ValidInsts.{IsValidBefore}
 
 -- the instruction at an address goes to another

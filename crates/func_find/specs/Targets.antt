@@ -4,8 +4,8 @@ use Rattle.rv_code.specs.declared.placed.Placed.{Placed}
 use Rattle.rv_code.specs.declared.placed.Func.{Func}
 use Rattle.rv_code.specs.declared.placed.Role.TheVariants.{CallHi}
 use Rattle.rv_code.specs.layout.Flow.{target_of}
-use Rattle.rv_reloc.specs.declared.parts.Part.{Part}
-use Rattle.rv_reloc.specs.Parts.{HoldsAddress}
+use Rattle.code_starts.specs.declared.parts.Part.{Part}
+use Rattle.code_starts.specs.Parts.{HoldsAddress}
 use Rattle.rv_reloc.specs.Places.{IsPlaceOf}
 
 -- one of the parts holds an address

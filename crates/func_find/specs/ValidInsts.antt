@@ -4,7 +4,7 @@ use Rattle.rv_code.specs.declared.inst.Inst.{Inst}
 use Rattle.elf_image.specs.declared.elf.Elf.{Elf}
 use Rattle.elf_code.specs.Parts.{length_at}
 use Rattle.elf_code.specs.Functions.{IsNopAt}
-use Rattle.rv_reloc.specs.Parts.{IsInstBefore}
+use Rattle.code_starts.specs.Parts.{IsInstBefore}
 
 -- the bytes at an address are an instruction that the file can have there, which ends by another address
 pub record IsValidBefore (elf : Elf) (end a : ℕ) (inst : Inst) (bytes : ℕ) : Type 0 where

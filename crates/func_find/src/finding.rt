@@ -5,21 +5,21 @@ ghost use Rattle.elf_code.specs.Functions.{AreFunctions};
 ghost use Rattle.rb_bytes.specs.FirstFault.{IsFree, IsRefusalBy};
 ghost use Rattle.elf_code.specs.FunctionFaults.{HasFunctionFault};
 ghost use Rattle.elf_image.specs.faults.LowestPlace.{IsLowest};
-ghost use Rattle.rv_reloc.specs.Parts.{ArePartsApart};
+ghost use Rattle.code_starts.specs.Parts.{ArePartsApart};
 ghost use Rattle.rv_reloc.specs.Refs.{AreRefs};
 ghost use Rattle.func_find.specs.Targets.{IsBadStart};
 
 use crate::function_parts::kept_parts;
 use crate::inst_lists::functions_of;
 use crate::targets::{is_inst_start, lowest_misled};
+use code_starts::parts::{Part, code_parts};
+use code_starts::start_index::Starts;
+use code_starts::whole::whole_parts;
 use elf_image::Elf;
 use elf_image::lowest::place_if;
 use rb_bytes::fault::{Fault, FaultKind, Refusal};
 use rv_code::Func;
 use rv_reloc::Refs;
-use rv_reloc::parts::{Part, code_parts};
-use rv_reloc::start_index::Starts;
-use rv_reloc::whole::whole_parts;
 use std::alloc::Global;
 
 /// The functions of a file, by address, with their instructions and roles; or the first of the faults `BadEntry`,

@@ -4,7 +4,7 @@ ghost use Rattle.elf_code.specs.FileCode.{AreStarts};
 ghost use Rattle.elf_code.specs.Functions.{IsFunctionPart, IsNopPart};
 ghost use Rattle.elf_code.specs.Parts.{IsCodePart, IsCovered, StartsIn};
 ghost use Rattle.elf_image.specs.internal.Extents.{IsInOneExtent};
-ghost use Rattle.rv_reloc.specs.Parts.{AreCodeParts};
+ghost use Rattle.code_starts.specs.Parts.{AreCodeParts};
 ghost use Rattle.rv_reloc.specs.Refs.{AreRefs};
 ghost use Rattle.func_find.specs.FunctionParts.{AreFunctionParts, AreFunctionsBefore, FallsAt, FallsOut, IsEntered};
 ghost use Rattle.func_find.specs.Referents.{AreReferred};
@@ -12,13 +12,13 @@ ghost use Rattle.func_find.specs.ValidInsts.{IsNopBefore};
 
 use crate::referred::Referred;
 use crate::valid::{is_nop_before, valid_before};
+use code_starts::instruction_starts::starts_in;
+use code_starts::parts::Part;
+use code_starts::ranges::{Ranges, function_ranges};
 use elf_image::Elf;
 use rb_bytes::fault::NoMemory;
 use rv_code::flow::falls;
 use rv_reloc::Refs;
-use rv_reloc::instruction_starts::starts_in;
-use rv_reloc::parts::Part;
-use rv_reloc::ranges::{Ranges, function_ranges};
 use std::alloc::Global;
 
 /// The parts that are functions, by address. `starts`, `parts` and `refs` are those of the file. What they refer to is

@@ -4,15 +4,15 @@ ghost use Rattle.std.specs.Prelude.{IsTrue, length, slice_index_or};
 ghost use Rattle.rv_code.specs.declared.placed.Role.{Role};
 ghost use Rattle.elf_code.specs.FileCode.{AreRoles};
 ghost use Rattle.elf_code.specs.Parts.{IsCodePart};
-ghost use Rattle.rv_reloc.specs.Parts.{ArePartsApart, Precedes};
+ghost use Rattle.code_starts.specs.Parts.{ArePartsApart, Precedes};
 ghost use Rattle.rv_code.specs.isa.AddressParts.{IsAuipc};
 ghost use Rattle.func_find.specs.InstLists.{AreFunctionsOf, AreInstsOf, IsFaultBefore, IsFirstRefusal, IsPlacedAt};
 
 use crate::valid::valid_before;
+use code_starts::parts::{Part, part_at};
 use elf_image::Elf;
 use rb_bytes::fault::{Fault, FaultKind, NoMemory, Refusal};
 use rv_code::{Func, Inst, Placed, Role};
-use rv_reloc::parts::{Part, part_at};
 use std::alloc::Global;
 
 /// The functions that these parts are, or the fault of the first of their instructions that can't be there. `wholes` are

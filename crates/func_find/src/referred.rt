@@ -3,12 +3,14 @@ ghost use Rattle.std.specs.Prelude.{◌≡◌, ◌↔◌, ℕ, List, Any, IfOk, 
 ghost use Rattle.std.specs.List.Sorted.{IsNonDecreasingBy};
 ghost use Rattle.rv_code.specs.layout.ProgramCode.{RoleNames, CellNames};
 ghost use Rattle.elf_code.specs.FileCode.{AreStarts};
-ghost use Rattle.rv_reloc.specs.Parts.{AreCodeParts};
+ghost use Rattle.code_starts.specs.Parts.{AreCodeParts};
 ghost use Rattle.rv_reloc.specs.Refs.{AreRefs};
 ghost use Rattle.rb_bytes.specs.Lists.{Gains};
 ghost use Rattle.func_find.specs.Referents.{AreReferred, GoesTo, PartGoesTo};
 
 use crate::valid::valid_before;
+use code_starts::instruction_starts::starts_in;
+use code_starts::parts::Part;
 use elf_image::Elf;
 use elf_image::function_bounds::make_ascending;
 use rb_bytes::fault::NoMemory;
@@ -16,8 +18,6 @@ use rb_bytes::lists::push_some;
 use rv_code::flow::target;
 use rv_code::{CellKind, CodeCell, Role};
 use rv_reloc::Refs;
-use rv_reloc::instruction_starts::starts_in;
-use rv_reloc::parts::Part;
 use std::alloc::Global;
 
 /// Addresses that are referred to.

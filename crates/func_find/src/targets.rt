@@ -1,15 +1,15 @@
 // Branches, jumps and calls that go to no instruction.
 ghost use Rattle.std.specs.Prelude.{◌≡◌, ◌↔◌, ◌<◌, ℕ, AllPairs, IsTrue};
 ghost use Rattle.elf_image.specs.faults.LowestPlace.{IsLowest};
-ghost use Rattle.rv_reloc.specs.Parts.{ArePartsApart};
+ghost use Rattle.code_starts.specs.Parts.{ArePartsApart};
 ghost use Rattle.rv_reloc.specs.Places.{IsPlaceOf};
 ghost use Rattle.func_find.specs.Targets.{CallsInside, HasMisled, IsCodeIn, InSomePart, IsInsideIn, IsMisled, JumpsNowhere};
 
+use code_starts::parts::{Part, part_at};
+use code_starts::start_index::Starts;
 use elf_image::lowest::{lower, place_if};
 use rv_code::flow::target;
 use rv_code::{Func, Placed, Role};
-use rv_reloc::parts::{Part, part_at};
-use rv_reloc::start_index::Starts;
 
 /// Whether an address is the start of an instruction of one of these parts.
 pub fn is_inst_start(starts: &Starts, parts: &[Part], address: u64) -> bool

@@ -3,9 +3,9 @@ ghost use Rattle.std.specs.Prelude.{◌≡◌, ◌↔◌, ◌<◌, ℕ, IsTrue, 
 ghost use Rattle.rv_code.specs.declared.inst.Inst.{Inst};
 ghost use Rattle.func_find.specs.ValidInsts.{IsValidBefore, IsNopBefore};
 
+use code_starts::code::{halfword_at, inst_before};
 use elf_image::Elf;
 use rv_code::Inst;
-use rv_reloc::code::{halfword_at, inst_before};
 
 /// The instruction at an address, and how many bytes it takes, if the file can have it there: it ends by `end`, the
 /// address is even, and it has two bytes only where the file's flags say that it has such.

@@ -3,11 +3,11 @@ ghost use Rattle.std.specs.Prelude.{◌≡◌, ◌<◌, ◌↔◌, ℕ, AllPairs
 ghost use Rattle.rv_code.specs.layout.ProgramCode.{CellNames};
 ghost use Rattle.jump_tables.specs.TablePairs.{IsLabel};
 
+use code_starts::code::is_start;
 use elf_image::function_bounds::make_ascending;
 use func_find::referred::push_cells;
 use rb_bytes::fault::NoMemory;
 use rv_code::{CodeCell, Placed};
-use rv_reloc::code::is_start;
 use std::alloc::Global;
 
 /// The addresses that cells name, ascending.

@@ -13,11 +13,11 @@ use Rattle.elf_code.specs.ReferenceFaults.{IsAddress, IsBadCall}
 use Rattle.rv_reloc.specs.declared.calls.CallInsts.{CallInsts}
 use Rattle.rv_reloc.specs.declared.instructions.Jump.{Jump}
 use Rattle.rv_reloc.specs.declared.instructions.Upper.{Upper}
-use Rattle.rv_reloc.specs.declared.parts.Part.{Part}
+use Rattle.code_starts.specs.declared.parts.Part.{Part}
 use Rattle.rv_reloc.specs.Calls.{IsCallAt, IsJumpAfter, FitsCall}
-use Rattle.rv_reloc.specs.Parts.{ArePartsApart, AreCodeParts, HoldsAddress}
-use Rattle.rv_reloc.proofs.FullLookup.{start_held}
-use Rattle.rv_reloc.proofs.PartLookup.{AreApart-parts}
+use Rattle.code_starts.specs.Parts.{ArePartsApart, AreCodeParts, HoldsAddress}
+use Rattle.code_starts.proofs.FullLookup.{start_held}
+use Rattle.code_starts.proofs.PartLookup.{AreApart-parts}
 
 abbrev pub call_of : {elf : Elf} {r : Relocation} → CallPair elf r → CallInsts
 call_of pair = record { auipc = record { rd = pair.rd; imm = pair.upper }; jalr = record { base = pair.base; imm = pair.lower } }

@@ -25,6 +25,7 @@ use Rattle.rv_reloc.specs.Lows.{AreLows}
 use Rattle.rv_reloc.specs.Records.{seen, AreRecords}
 use Rattle.rv_reloc.specs.GotFields.{IsSlotOf}
 use Rattle.rv_reloc.specs.CountedFields.{IsFieldUpTo, IsKeyUpTo, IsContentUpTo, AreCandidates}
+use Rattle.rv_reloc.proofs.Alike.{field-for}
 use Rattle.rv_reloc.proofs.Kept.{counts, kept}
 use Rattle.rv_reloc.proofs.PairTargets.{target_upper, upper_target}
 
@@ -176,7 +177,7 @@ candidates-all elf tabled records lows ofs slots both fields are are_lows of_rec
 
     in_either : (f : Field) → CanBeCell elf tabled f → IsField elf tabled f → Contains (ofs ++ slots) f
     in_either f is (pointer r listed address place width to loaded start content) =
-        let (q, has_q, same) = kept elf records r are listed in
+        let (t, q, has_q, same, there) = kept elf records r are listed in
         let code : IsCodeField elf r.place (address_width r.kind) f = record {
           place_is = place;
           width_is = width;
@@ -188,7 +189,8 @@ candidates-all elf tabled records lows ofs slots both fields are are_lows of_rec
           free = free_of elf tabled f r.place (address_width r.kind) is place width;
         } in
         Contains-append_left ofs slots f
-        (of_records.each q f has_q (subst (λ (s : Relocation). IsFieldOf elf tabled s f) (sym same) (found.pointer address code)))
+        (of_records.each q f has_q (subst (λ (s : Relocation). IsFieldOf elf tabled s f) (sym same)
+        (field-for elf t r there tabled f (found.pointer address code))))
     in_either f is (slot r kind pair width to loaded label start content) =
         let l : Low = record { hi = r.place; imm = pair.lower } in
         let has_l = (are_lows.all l).1 (record { source = pair.low; part = pair.part }) in
@@ -212,7 +214,7 @@ candidates-all elf tabled records lows ofs slots both fields are are_lows of_rec
         } in
         Contains-append_right ofs slots f (of_lows.each l f has_l slot_is)
     in_either f is (difference r bits to from made can_be code across place width content) =
-        let (q, has_q, same) = kept elf records r are (difference_counts elf r (Bits bits) to from made) in
+        let (t, q, has_q, same, there) = kept elf records r are (difference_counts elf r (Bits bits) to from made) in
         let field_is : IsDifferenceField elf tabled r f = record {
           bits = bits;
           to = to;
@@ -227,4 +229,5 @@ candidates-all elf tabled records lows ofs slots both fields are are_lows of_rec
           free = free_of elf tabled f r.place (bits / 8) is place width;
         } in
         Contains-append_left ofs slots f
-        (of_records.each q f has_q (subst (λ (s : Relocation). IsFieldOf elf tabled s f) (sym same) (found.difference field_is)))
+        (of_records.each q f has_q (subst (λ (s : Relocation). IsFieldOf elf tabled s f) (sym same)
+        (field-for elf t r there tabled f (found.difference field_is))))

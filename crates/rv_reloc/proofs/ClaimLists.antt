@@ -17,6 +17,7 @@ use Rattle.rv_reloc.specs.declared.roles.Claim.{Claim}
 use Rattle.rv_reloc.specs.Claims.{IsClaimUpTo, IsClaimOf, IsClaim, AreClaimsOf, AreClaims}
 use Rattle.rv_reloc.specs.Records.{seen, AreRecords}
 use Rattle.rv_reloc.proofs.Absolutes.{kind_absolute}
+use Rattle.rv_reloc.proofs.Alike.{claims-for}
 use Rattle.rv_reloc.proofs.Kept.{kept}
 
 -- where a relocation's claims are
@@ -133,9 +134,10 @@ AreClaims-sorted elf records were claims are of moved ordered = record {
   ordered = ordered;
   sound = λ c listed. of.sound c (Contains-permutation claims were c (IsPermutation-sym were claims moved) listed);
   cover = λ r a key role claimed.
-      let (q, listed, same) = kept elf records r are (counted r a key role claimed) in
+      let (t, q, listed, same, there) = kept elf records r are (counted r a key role claimed) in
       let (c, is_in, c_at, c_kind, c_key) =
-      of.cover q listed a key role (subst (λ (s : Relocation). Claims elf s a key role) (sym same) claimed) in (
+      of.cover q listed a key role
+      (subst (λ (s : Relocation). Claims elf s a key role) (sym same) (claims-for elf t r there a key role claimed)) in (
         c,
         Contains-permutation were claims c moved is_in,
         c_at,

@@ -1,37 +1,13 @@
 -- The relocations of a table, one after another.
-use Rattle.std.proofs.Common.{◌≡◌, ◌∙◌, ap, refl, ℕ, zero, suc, ◌+◌, ◌-◌, ◌*◌, ◌<◌, List, [], ◌∷◌, ◌++◌, map, append_assoc, arith}
+use Rattle.std.proofs.Common.{◌≡◌, ◌∙◌, ap, refl, ℕ, List, [], ◌∷◌, ◌++◌, map, append_assoc}
 use Rattle.std.proofs.Common.{None, slice_get, eq-eqb, Bool, true, false, if◌then◌else◌, ◌/◌}
 use Rattle.std.proofs.lemmas.List.{map-append}
 use Rattle.elf_image.specs.declared.section.Section.{Section}
 use Rattle.elf_image.specs.declared.relocation.TheConstants.{RELA_SIZE, SHT_RELA}
-use Rattle.elf_code.specs.Relocations.{Relocation, relocation_at, entries_from, entries_for, entries_of}
+use Rattle.elf_code.specs.Relocations.{Relocation, entries_from, entries_for, entries_of}
 use Rattle.elf_image.specs.declared.elf.Elf.{Elf}
 use Rattle.rv_reloc.specs.declared.records.Record.{Record}
 use Rattle.rv_reloc.specs.Records.{seen, counts}
-
-entries_from-suc : (file : List ℕ) (section : Section) (offset n : ℕ) →
-    entries_from file section offset (suc n)
-    ≡ relocation_at file section offset ∷ entries_from file section (offset + RELA_SIZE) n
-unfolding entries_from
-entries_from-suc file section offset n = refl
-
--- none is left
-pub entries_from-none : (file : List ℕ) (section : Section) (offset n : ℕ) → n ≡ 0 → entries_from file section offset n ≡ []
-unfolding entries_from
-entries_from-none file section offset zero e = refl
-entries_from-none file section offset (suc n) e = absurd (omega arith)
-
--- one more is read
-pub entries_from-next : (file : List ℕ) (section : Section) (start index count : ℕ) → index < count →
-    entries_from file section (start + RELA_SIZE * index) (count - index)
-    ≡ relocation_at file section (start + RELA_SIZE * index) ∷ entries_from file section (start + RELA_SIZE * (index + 1))
-    (count - (index + 1))
-entries_from-next file section start index count within =
-    let n : count - index ≡ suc (count - (index + 1)) = omega arith in
-    let o : start + RELA_SIZE * index + RELA_SIZE ≡ start + RELA_SIZE * (index + 1) = omega arith in
-    ap (λ (n : ℕ). entries_from file section (start + RELA_SIZE * index) n) n
-    ∙ entries_from-suc file section (start + RELA_SIZE * index) (count - (index + 1))
-    ∙ ap (λ (o : ℕ). relocation_at file section (start + RELA_SIZE * index) ∷ entries_from file section o (count - (index + 1))) o
 
 pub read_one : (was now : List Record) (r : Record) (left : List Relocation) (one : Relocation) →
     now ≡ was ++ r ∷ [] → seen r ≡ one → map seen now ++ left ≡ map seen was ++ one ∷ left

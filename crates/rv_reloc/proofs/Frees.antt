@@ -7,7 +7,7 @@ use Rattle.elf_image.specs.memory.Image.{byte_of, segment_of}
 use Rattle.elf_image.specs.memory.LoadedBytes.{file_offset, offset_in, IsInHeaders}
 use Rattle.rv_code.specs.layout.FunctionLists.{address_end}
 use Rattle.rv_reloc.specs.Candidates.{AreFree, IsFreeByte}
-use Rattle.rv_reloc.specs.LoadedMemory.{IsLow}
+use Rattle.code_starts.specs.LoadedMemory.{IsLow}
 
 both : {A : Type 0} (o : Option A) (P : A → Type 0) → IsSomeAnd o P → IsSome o × IfSome o P
 both None P is = absurd is

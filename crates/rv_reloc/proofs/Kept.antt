@@ -1,41 +1,42 @@
 -- Relocations, and the records that are kept for them.
 use Rattle.std.proofs.Common.{◌≡◌, ◌∙◌, sym, subst, ap, ℕ, ◌↔◌, Bool, ◌==◌, ◌&&◌, IsTrue, List, map}
 use Rattle.std.proofs.Common.{Option, Some, IfSome}
-use Rattle.std.specs.List.{Contains, Any, flat_map}
+use Rattle.std.specs.List.{Contains, Any}
 use Rattle.std.specs.List.Sorted.{IsPermutation}
 use Rattle.std.proofs.lemmas.List.Sorted.{IsPermutation-map}
 use Rattle.elf_image.specs.declared.elf.Elf.{Elf}
+use Rattle.elf_image.specs.declared.section.Section.{Section}
 use Rattle.elf_code.specs.Cells.{IsOnly}
 use Rattle.elf_code.specs.Relocations.{Relocation, relocations, HasRelocation}
 use Rattle.rv_reloc.specs.declared.records.Record.{Record}
-use Rattle.rv_reloc.specs.declared.entry_runs.EntryRun.{EntryRun}
-use Rattle.rv_reloc.specs.EntryRuns.{run_entries}
 use Rattle.rv_reloc.specs.Index.{class}
 use Rattle.rv_reloc.specs.Records.{seen, AreRecords, AreInOrder, has_key, FindsOnly}
 use Rattle.rb_bytes.proofs.ListLemmas.{from_map, in_map}
-use Rattle.rv_reloc.specs.Thinned.{IsThinned}
+use Rattle.rv_reloc.specs.Thinned.{for_section, IsThinned}
 use Rattle.rv_reloc.proofs.Only.{only-thinned, thinned-only, only-map, only-from_map, some-only, only-some}
-use Rattle.rv_reloc.proofs.Thinning.{thinned-permutation, thinned-reordered}
+use Rattle.rv_reloc.proofs.Thinning.{thinned-moved, thinned-trans}
 use Rattle.rv_reloc.proofs.Ordered.{has_key-true, has_key-same}
 
 pub counts : (elf : Elf) (records : List Record) (r : Record) → AreRecords elf records → Contains records r →
     Contains (relocations elf) (seen r)
 counts elf records r are listed = are.all.back (seen r) (in_map seen records r listed)
 
+-- a relocation is kept for one of the sections to which it applies
 pub kept : (elf : Elf) (records : List Record) (r : Relocation) → AreRecords elf records →
-    Contains (relocations elf) r → (q : Record)
-    × Contains records q × (seen q ≡ r)
-kept elf records r are listed = from_map seen records r (are.all.each r listed)
+    Contains (relocations elf) r → (s : Section) × (q : Record)
+    × Contains records q × (seen q ≡ for_section s r) × Contains (relocations elf) (for_section s r)
+kept elf records r are listed =
+    let (s, is_kept, up) = are.all.starts r listed in
+    let (q, is_in, same) = from_map seen records (for_section s r) is_kept in
+    (s, q, is_in, same, are.all.back (for_section s r) is_kept)
 
-pub AreRecords-sorted : (elf : Elf) (runs sorted : List EntryRun) (were records : List Record) →
-    flat_map (run_entries elf) runs ≡ relocations elf → IsPermutation runs sorted →
-    IsThinned (flat_map (run_entries elf) sorted) (map seen were) → IsPermutation were records →
-    AreInOrder records → AreRecords elf records
-AreRecords-sorted elf runs sorted were records all runs_moved thinned moved ordered = record {
-  all = subst (λ (rs : List Relocation). IsThinned rs (map seen records)) all
-      (thinned-permutation (flat_map (run_entries elf) runs) (map seen were) (map seen records)
-      (IsPermutation-map seen were records moved)
-      (thinned-reordered (run_entries elf) runs sorted (map seen were) runs_moved thinned));
+pub AreRecords-sorted : (elf : Elf) (all entries : List Relocation) (were records : List Record) → all ≡ relocations elf →
+    IsThinned all entries → map seen were ≡ entries → IsPermutation were records → AreInOrder records → AreRecords elf records
+AreRecords-sorted elf all entries were records all_are thinned same moved ordered = record {
+  all = subst (λ (rs : List Relocation). IsThinned rs (map seen records)) all_are
+      (thinned-trans all (map seen were) (map seen records)
+      (subst (λ (rs : List Relocation). IsThinned all rs) (sym same) thinned)
+      (thinned-moved (map seen were) (map seen records) (IsPermutation-map seen were records moved)));
   ordered = ordered;
 }
 
@@ -48,7 +49,7 @@ any-relocation elf records place at is tells are = (
       let (p, c) = has_key-true place at x passes in
       record { relocation = seen x; counts = counts elf records x are (k, within, there); is = (tells x.kind).0 c; place_is = p },
   λ has.
-      let (q, listed, same) = kept elf records has.relocation are has.counts in
+      let (s, q, listed, same, counts) = kept elf records has.relocation are has.counts in
       let (k, within, there) = listed in
       let kind : q.kind ≡ has.relocation.kind = ap (λ (r : Relocation). r.kind) same in (
         k,
@@ -65,7 +66,7 @@ pub only-relocation : (elf : Elf) (records : List Record) (place at : ℕ) (is :
     ((r : Relocation) → is r ≡ (r.place == place && class r.kind == at)) → AreRecords elf records → (q : Record) →
     IsOnly (has_key place at) records q → IsOnly is (relocations elf) (seen q)
 only-relocation elf records place at is same are q only =
-    only-thinned is (relocations elf) (map seen records) (seen q) are.all
+    only-thinned is (relocations elf) (map seen records) (seen q) (λ s r. same (for_section s r) ∙ sym (same r)) are.all
     (only-map seen is records q (subst (λ (test : Record → Bool). IsOnly test records q) (λ i r. sym (same (seen r)) i) only))
 
 pub only-kept : (elf : Elf) (records : List Record) (place at : ℕ) (is : Relocation → Bool) →
@@ -74,7 +75,7 @@ pub only-kept : (elf : Elf) (records : List Record) (place at : ℕ) (is : Reloc
 only-kept elf records place at is same are r only =
     let (q, one, there) =
     only-from_map seen is records r
-    (thinned-only is (relocations elf) (map seen records) r are.all only) in
+    (thinned-only is (relocations elf) (map seen records) r (λ s q. same (for_section s q) ∙ sym (same q)) are.all only) in
     (q, subst (λ (test : Record → Bool). IsOnly test records q) (λ i z. same (seen z) i) one, there)
 
 -- what is found of a class at a place

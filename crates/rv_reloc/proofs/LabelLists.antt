@@ -10,6 +10,7 @@ use Rattle.rv_reloc.specs.declared.slots.SlotLabel.{SlotLabel}
 use Rattle.rv_reloc.specs.Finds.{AreFound}
 use Rattle.rv_reloc.specs.Records.{seen, AreRecords}
 use Rattle.rv_reloc.specs.Slots.{IsSlotLabelOf, IsLabelFrom, AreSlotLabels}
+use Rattle.rv_reloc.proofs.Alike.{label-for}
 use Rattle.rv_reloc.proofs.Kept.{counts, kept}
 
 pub AreSlotLabels-sorted : (elf : Elf) (records : List Record) (were labels : List SlotLabel) → AreRecords elf records →
@@ -21,9 +22,10 @@ AreSlotLabels-sorted elf records were labels are found moved ordered = record {
         let (r, has_r, is) = found.only s (Contains-permutation labels were s (IsPermutation-sym were labels moved) listed) in
         record { source = seen r; counts = counts elf records r are has_r; is = is },
     λ is.
-        let (r, listed, same) = kept elf records is.source are is.counts in
+        let (t, r, listed, same, there) = kept elf records is.source are is.counts in
         Contains-permutation were labels s moved
-        (found.each r s listed (subst (λ (q : Relocation). IsSlotLabelOf elf q s) (sym same) is.is)),
+        (found.each r s listed
+        (subst (λ (q : Relocation). IsSlotLabelOf elf q s) (sym same) (label-for elf t is.source there s is.is))),
   );
   ordered = ordered;
 }

@@ -1,9 +1,9 @@
 -- Labels of one place, by where a search for one ends.
 use Rattle.std.proofs.Common.{◌≡◌, ◌≢◌, ◌∙◌, sym, subst, ap, ℕ, ◌-◌, ◌<◌, ◌≤◌, ℤ, pos, ◌+ℤ◌, ◌⊎◌, inl, inr, ⊎_elim, List, length}
-use Rattle.std.proofs.Common.{slice_index_or, arith}
+use Rattle.std.proofs.Common.{slice_index_or, arith, IsTrue, ◌==◌, ◌↔◌, true, false, eq-eqb}
 use Rattle.std.specs.Prelude.{◌<ℤ◌, ◌≤ℤ◌}
 use Rattle.std.specs.List.{AllPairs}
-use Rattle.std.proofs.lemmas.Bool.{cases_lt}
+use Rattle.std.proofs.lemmas.Bool.{cases_lt, eqb-true}
 use Rattle.std.proofs.lemmas.Int.{ints, by_lt_z}
 use Rattle.std.proofs.lemmas.List.{get_or_default}
 use Rattle.rv_reloc.specs.declared.slots.SlotLabel.{SlotLabel}
@@ -45,7 +45,7 @@ places_up items j k d ordered upto within =
 module _ (items : List SlotLabel) (place : ℕ) (label z : ℤ) (n : ℕ) (same : z ≡ label) (bound : n ≤ length items)
     (below : (k : ℕ) (d : SlotLabel) → k < n → IsLabelBelow place z (slice_index_or items k d))
     (above : (k : ℕ) (d : SlotLabel) → n ≤ k → k < length items → IsLabelFrom place z (slice_index_or items k d)) where
-  pub below-is : 0 < n → (at items (n - 1)).place ≡ place → HasLabelBelow items place label
+  below-is : 0 < n → (at items (n - 1)).place ≡ place → HasLabelBelow items place label
   below-is some here = record {
     found = at items (n - 1);
     listed = (n - 1, omega arith, get_or_default items (n - 1) (at items (n - 1)) no_label (omega arith));
@@ -54,7 +54,7 @@ module _ (items : List SlotLabel) (place : ℕ) (label z : ℤ) (n : ℕ) (same 
         (below_at place z (at items (n - 1)) here (below (n - 1) no_label (omega arith)));
   }
 
-  pub from-is : n < length items → (at items n).place ≡ place → HasLabelFrom items place label
+  from-is : n < length items → (at items n).place ≡ place → HasLabelFrom items place label
   from-is within here = record {
     found = at items n;
     listed = (n, within, get_or_default items n (at items n) no_label within);
@@ -63,7 +63,7 @@ module _ (items : List SlotLabel) (place : ℕ) (label z : ℤ) (n : ℕ) (same 
         (from_at place z (at items n) here (above n no_label (omega arith) within));
   }
 
-  pub below-only : AllPairs (λ s t. IsLabelFrom s.place s.label t) items → HasLabelBelow items place label → (0 < n)
+  below-only : AllPairs (λ s t. IsLabelFrom s.place s.label t) items → HasLabelBelow items place label → (0 < n)
       × ((at items (n - 1)).place ≡ place)
   below-only ordered has =
       let (k, within, there) = has.listed in
@@ -81,7 +81,7 @@ module _ (items : List SlotLabel) (place : ℕ) (label z : ℤ) (n : ℕ) (same 
       absurd (not_both z (at items k).label high low))
       (cases_lt k n)
 
-  pub from-only : AllPairs (λ s t. IsLabelFrom s.place s.label t) items → HasLabelFrom items place label → (n < length items)
+  from-only : AllPairs (λ s t. IsLabelFrom s.place s.label t) items → HasLabelFrom items place label → (n < length items)
       × ((at items n).place ≡ place)
   from-only ordered has =
       let (k, within, there) = has.listed in
@@ -99,6 +99,27 @@ module _ (items : List SlotLabel) (place : ℕ) (label z : ℤ) (n : ℕ) (same 
       let down = places_up items n k no_label ordered more within in
       (inside, omega arith))
       (cases_lt k n)
+
+  -- The same as tests: of the label before the end of the search, and of the one behind it.
+
+  tested : {P : Type 0} (m : ℕ) → (m ≡ place → P) → (P → m ≡ place) → IsTrue (m == place) ↔ P
+  tested m to from = (λ is. to (eqb-true m place is), λ has. eq-eqb m place (from has))
+
+  never : {P : Type 0} → (P → ⊥) → IsTrue false ↔ P
+  never none = (λ is. let e : false ≡ true = is in absurd (cc), λ has. absurd (none has))
+
+  module _ (ordered : AllPairs (λ s t. IsLabelFrom s.place s.label t) items) where
+    pub below-test : 0 < n → IsTrue ((at items (n - 1)).place == place) ↔ HasLabelBelow items place label
+    below-test some = tested (at items (n - 1)).place (below-is some) (λ has. (below-only ordered has).1)
+
+    pub below-none : n ≡ 0 → IsTrue false ↔ HasLabelBelow items place label
+    below-none none = never (λ has. let some = (below-only ordered has).0 in omega arith)
+
+    pub from-test : n < length items → IsTrue ((at items n).place == place) ↔ HasLabelFrom items place label
+    from-test within = tested (at items n).place (from-is within) (λ has. (from-only ordered has).1)
+
+    pub from-none : n ≡ length items → IsTrue false ↔ HasLabelFrom items place label
+    from-none all = never (λ has. let within = (from-only ordered has).0 in omega arith)
 
 -- Another label, and any label.
 

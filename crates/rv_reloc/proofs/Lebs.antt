@@ -11,7 +11,7 @@ use Rattle.elf_code.specs.Fields.{leb_from, leb_at, HoldBits}
 use Rattle.elf_image.specs.memory.LoadedBytes.{byte_at}
 use Rattle.rv_reloc.specs.declared.tails.LebRest.{LebRest}
 use Rattle.rv_code.specs.layout.FunctionLists.{address_end}
-use Rattle.rv_reloc.specs.LoadedMemory.{IsLow}
+use Rattle.code_starts.specs.LoadedMemory.{IsLow}
 use Rattle.rv_reloc.specs.Tails.{AreLebBytes, IsTail, TailAt, no_tail, is_tail, magnitude}
 
 -- What the first byte says.

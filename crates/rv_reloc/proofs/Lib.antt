@@ -1,17 +1,16 @@
 mod AbsoluteClaims
 mod Absolutes
+mod Alike
 mod BadEntryPlaces
 mod CallClaims
 mod CallFaults
 mod CellFields
 mod CellLists
-pub mod Chosen
 mod ClaimLists
 mod ClaimOrder
 mod Classes
 mod CodeLabels
-mod Cuts
-mod Decoded
+mod CommonRuns
 mod DifferenceCases
 mod Differing
 mod Either
@@ -21,12 +20,9 @@ mod FarLists
 mod Faulty
 mod FieldsFound
 mod Finds
-mod FileBytes
 mod FirstLow
 mod FirstRoles
 mod Frees
-mod FullLookup
-mod Inside
 mod InstructionFields
 mod Kept
 mod Keys
@@ -35,7 +31,6 @@ mod LabelOrder
 mod LabelsAt
 mod Lebs
 mod Lexicographic
-mod LoadedNumbers
 mod LowFiles
 mod LowLists
 mod MisfitCases
@@ -44,16 +39,14 @@ mod Only
 mod Options
 mod Ordered
 mod PairTargets
-mod PartLookup
 pub mod Places
-mod RangeLists
 mod ReferenceFaultOrder
+mod SectionBounds
 mod Selecting
 mod SlotFields
-pub mod StartLists
 mod Sweeps
 mod Thinning
 mod TypeGroups
+mod UnfitPlaces
 mod UpperClaims
 mod UpperFaults
-pub mod WholeLookup

@@ -12,7 +12,7 @@ use Rattle.elf_image.specs.faults.FileFaults.{IsSound}
 use Rattle.rv_code.specs.layout.FunctionLists.{address_end}
 use Rattle.rb_bytes.proofs.Searches.{find-found}
 use Rattle.elf_image.proofs.ReadLists.{get_or-segments}
-use Rattle.rv_reloc.specs.LoadedMemory.{IsLow}
+use Rattle.code_starts.specs.LoadedMemory.{IsLow}
 use Rattle.rv_reloc.specs.Refs.{IsRead}
 
 -- no segment of a sound file loads a high address

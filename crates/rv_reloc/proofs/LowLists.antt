@@ -29,7 +29,7 @@ low_part elf records l r are listed is = record {
 low_of : (elf : Elf) (records : List Record) (l : Low) → AreRecords elf records → (is : IsLowPart elf l) → (r : Record)
     × Contains records r × IsLowOf elf (seen r) l
 low_of elf records l are is =
-    let (r, listed, same) = kept elf records is.source are is.part.counts in (
+    let (s, r, listed, same, counts) = kept elf records is.source are is.part.counts in (
       r,
       listed,
       subst (λ (q : Relocation). IsLowOf elf q l) (sym same) (record {

@@ -14,7 +14,7 @@ use Rattle.rv_reloc.specs.Misfits.{HasBadSymbol, IsUnfit}
 use Rattle.rv_reloc.specs.Pairs.{MakesNoAddress}
 use Rattle.rv_reloc.specs.Places.{IsPlaceOf}
 use Rattle.rv_reloc.specs.Records.{seen, AreRecords}
-use Rattle.rv_reloc.proofs.Faulty.{lowest-relocation}
+use Rattle.rv_reloc.proofs.UnfitPlaces.{lowest-unfit}
 
 pub bad_symbol : (elf : Elf) (r : Relocation) → HasBadSymbol elf r → IsBadField elf r
 bad_symbol elf r (named, past) = IsBadField.symbol named past
@@ -83,4 +83,4 @@ pub IsLowest-misfit : (elf : Elf) (records : List Record) (a b all : Option ℕ)
     IsLowest (HasRelocation elf (IsMisfit elf)) all
 IsLowest-misfit elf records a b all are joined unfit entry =
     IsLowest-same all (to_misfit elf) (from_misfit elf)
-    (IsLowest-lower a b all joined (lowest-relocation elf records (IsUnfit elf) a are unfit) entry)
+    (IsLowest-lower a b all joined (lowest-unfit elf records are a unfit) entry)

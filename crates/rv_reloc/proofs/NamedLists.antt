@@ -21,9 +21,9 @@ AreNamed-ascending elf records were named are found same rising = record {
         let (k, within, there) = counts elf records r are has_r in
         (k, seen r, within, there, (is.is_low, is.names)),
     λ (k, r, within, there, (is_low, names)).
-        let (q, listed, is) = kept elf records r are (k, within, there) in
+        let (s, q, listed, is, counts) = kept elf records r are (k, within, there) in
         (same a).1 (found.each q a listed
-        (subst (λ (s : Relocation). NamesUpper elf s a) (sym is) (record { is_low = is_low; names = names }))),
+        (subst (λ (t : Relocation). NamesUpper elf t a) (sym is) (record { is_low = is_low; names = names }))),
   );
   ascending = AllPairs-from_increasing named rising;
 }

@@ -1,33 +1,76 @@
--- That a list has exactly one item that passes a test, where some of many are left out, and of what items stand for.
-use Rattle.std.proofs.Common.{◌≡◌, ◌∙◌, sym, subst, refl, ◌+◌, Bool, true, Option, Some, None, IfSome, IsSomeAnd, List, []}
-use Rattle.std.proofs.Common.{◌∷◌, map, arith, ◌≤◌, ⊎_elim}
-use Rattle.std.specs.List.{count_by}
+-- That a list has exactly one item that passes a test, where relocations are left out, and of what items stand for.
+use Rattle.std.proofs.Common.{◌≡◌, ◌∙◌, ap, sym, subst, refl, ◌+◌, Bool, true, Option, Some, None, IfSome, IsSomeAnd, List, []}
+use Rattle.std.proofs.Common.{◌∷◌, map, arith, zero, suc, ◌≤◌, ⊎_elim, IsTrue}
+use Rattle.std.specs.List.{count_by, Contains}
+use Rattle.elf_image.specs.declared.section.Section.{Section}
 use Rattle.elf_code.specs.Cells.{IsOnly}
-use Rattle.rv_reloc.specs.Thinned.{IsThinned}
+use Rattle.elf_code.specs.Relocations.{Relocation}
+use Rattle.rv_reloc.specs.Thinned.{for_section, IsThinned}
 use Rattle.rb_bytes.proofs.ListLemmas.{from_map, in_map}
 use Rattle.rv_reloc.proofs.Ordered.{count-cons, one_if}
 
-pub only-thinned : {A : Type 0} (test : A → Bool) (full kept : List A) (x : A) → IsThinned full kept → IsOnly test kept x →
+-- an item that passes is counted
+counted : {A : Type 0} (test : A → Bool) (xs : List A) (x : A) → Contains xs x → IsTrue (test x) → 1 ≤ count_by test xs
+counted test [] x (k, within, is) passes = absurd (omega arith)
+counted test (y ∷ ys) x (zero, within, is) passes =
+    let sum = count-cons test y ys in
+    let one : one_if (test y) ≡ 1 = ap one_if (ap test is ∙ passes) in
+    omega arith
+counted test (y ∷ ys) x (suc k, within, is) passes =
+    let rest = counted test ys x (k, omega arith, is) passes in
+    let sum = count-cons test y ys in
+    omega arith
+
+alone_in : {A : Type 0} (test : A → Bool) (xs : List A) (x y : A) → count_by test xs ≡ 1 → Contains xs x → IsTrue (test x) →
+    Contains xs y → IsTrue (test y) → x ≡ y
+alone_in test [] x y one (k, within, is) passes listed' passes' = absurd (omega arith)
+alone_in test (z ∷ zs) x y one (zero, within, is) passes (zero, within', is') passes' = sym is ∙ is'
+alone_in test (z ∷ zs) x y one (zero, within, is) passes (suc k, within', is') passes' =
+    let sum = count-cons test z zs in
+    let here : one_if (test z) ≡ 1 = ap one_if (ap test is ∙ passes) in
+    let rest = counted test zs y (k, omega arith, is') passes' in
+    absurd (omega arith)
+alone_in test (z ∷ zs) x y one (suc k, within, is) passes (zero, within', is') passes' =
+    let sum = count-cons test z zs in
+    let here : one_if (test z) ≡ 1 = ap one_if (ap test is' ∙ passes') in
+    let rest = counted test zs x (k, omega arith, is) passes in
+    absurd (omega arith)
+alone_in test (z ∷ zs) x y one (suc k, within, is) passes (suc k', within', is') passes' =
+    let sum = count-cons test z zs in
+    let rest = counted test zs x (k, omega arith, is) passes in
+    alone_in test zs x y (omega arith) (k, omega arith, is) passes (k', omega arith, is') passes'
+
+-- another item that passes is the same
+pub only-alone : {A : Type 0} {test : A → Bool} {xs : List A} {x y : A} → IsOnly test xs x → Contains xs y → IsTrue (test y) →
+    x ≡ y
+only-alone {test = test} {xs = xs} {x = x} {y = y} is listed passes =
+    alone_in test xs x y is.alone is.listed is.passes listed passes
+
+pub only-thinned : (test : Relocation → Bool) (full kept : List Relocation) (x : Relocation) →
+    ((s : Section) (r : Relocation) → test (for_section s r) ≡ test r) → IsThinned full kept → IsOnly test kept x →
     IsOnly test full x
-only-thinned test full kept x thinned is = record {
+only-thinned test full kept x same thinned is = record {
   listed = thinned.back x is.listed;
   passes = is.passes;
-  alone = let one = is.alone in ⊎_elim (λ (same : count_by test kept ≡ count_by test full). omega arith)
+  alone = let one = is.alone in ⊎_elim (λ (equal : count_by test kept ≡ count_by test full). omega arith)
       (λ (two : (2 ≤ count_by test kept) × (2 ≤ count_by test full)). absurd (let more = two.0 in omega arith))
-      (thinned.counts test);
+      (thinned.counts test same);
 }
 
-pub thinned-only : {A : Type 0} (test : A → Bool) (full kept : List A) (x : A) → IsThinned full kept → IsOnly test full x →
+pub thinned-only : (test : Relocation → Bool) (full kept : List Relocation) (x : Relocation) →
+    ((s : Section) (r : Relocation) → test (for_section s r) ≡ test r) → IsThinned full kept → IsOnly test full x →
     IsOnly test kept x
-thinned-only test full kept x thinned is = record {
-  listed = thinned.each x is.listed;
+thinned-only test full kept x same thinned is = record {
+  listed = let (s, is_kept, up) = thinned.starts x is.listed in
+      let one = only-alone is (thinned.back (for_section s x) is_kept) (same s x ∙ is.passes) in
+      subst (λ (r : Relocation). Contains kept r) (sym one) is_kept;
   passes = is.passes;
-  alone = let one = is.alone in ⊎_elim (λ (same : count_by test kept ≡ count_by test full). omega arith)
+  alone = let one = is.alone in ⊎_elim (λ (equal : count_by test kept ≡ count_by test full). omega arith)
       (λ (two : (2 ≤ count_by test kept) × (2 ≤ count_by test full)). absurd (let more = two.1 in omega arith))
-      (thinned.counts test);
+      (thinned.counts test same);
 }
 
-count-map : {A B : Type 0} (f : A → B) (test : B → Bool) (xs : List A) → count_by test (map f xs) ≡ count_by (λ x. test (f x)) xs
+pub count-map : {A B : Type 0} (f : A → B) (test : B → Bool) (xs : List A) → count_by test (map f xs) ≡ count_by (λ x. test (f x)) xs
 count-map f test [] = refl
 count-map f test (x ∷ xs) =
     let rest = count-map f test xs in

@@ -10,10 +10,10 @@ use Rattle.elf_code.specs.ReferenceFaults.{HasReferenceFault, IsMisfit, IsLoMism
 use Rattle.elf_image.proofs.LowestPlaces.{IsLowest-none}
 use Rattle.rv_reloc.specs.declared.sweep.Candidate.{Candidate}
 use Rattle.rv_reloc.specs.Cells.{HasAddresses}
-use Rattle.rv_reloc.specs.declared.parts.Part.{Part}
+use Rattle.code_starts.specs.declared.parts.Part.{Part}
 use Rattle.rv_reloc.specs.Refs.{AreAsked}
 use Rattle.rv_reloc.specs.CountedFields.{as_field, AreCounted}
-use Rattle.rv_reloc.specs.WholeParts.{AreWholeParts}
+use Rattle.code_starts.specs.WholeParts.{AreWholeParts}
 use Rattle.rv_reloc.proofs.CellLists.{none-bad, of_bad_field}
 
 -- faults of lower numbers are those of others

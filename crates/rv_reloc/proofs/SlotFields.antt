@@ -5,11 +5,11 @@ use Rattle.elf_image.specs.declared.elf.Elf.{Elf}
 use Rattle.elf_code.specs.Cells.{Field}
 use Rattle.rv_reloc.specs.Pairs.{IsTargetOf}
 use Rattle.rv_reloc.specs.declared.lows.Low.{Low}
-use Rattle.rv_reloc.specs.LoadedMemory.{IsLow}
+use Rattle.code_starts.specs.LoadedMemory.{IsLow}
 use Rattle.rv_reloc.specs.GotFields.{NamesEntry, IsNamedField, IsSlotOf}
 use Rattle.rv_reloc.specs.declared.slots.SlotLabel.{SlotLabel}
 use Rattle.rv_reloc.specs.Slots.{AreSlotLabels, HasLabelAt}
-use Rattle.rv_reloc.proofs.LoadedNumbers.{number-low}
+use Rattle.code_starts.proofs.LoadedNumbers.{number-low}
 
 pub slot-made : (elf : Elf) (l : Low) (z : ℤ) (slot : ℕ) (f : Field) → IsTargetOf elf l z → pos slot ≡ z →
     IsNamedField elf l.hi slot f → IsSlotOf elf l f

@@ -1,218 +1,187 @@
--- Lists of which items that occur more than twice are left out, one run of numbered items after another.
-use Rattle.std.proofs.Common.{◌≡◌, ◌∙◌, ap, sym, subst, refl, ℕ, zero, suc, ◌+◌, ◌-◌, ◌≤◌, ◌<◌, ◌⊎◌, inl, inr, Bool, true, false}
-use Rattle.std.proofs.Common.{List, [], ◌∷◌, ◌++◌, map, cond, arith, IsTrue, min, max, ⊎_elim}
-use Rattle.std.specs.List.{count_by, sum_by, Contains, range_with_len, flat_map}
+-- Relocations of which some are left out: in another order, one list behind another, and one after another.
+use Rattle.std.proofs.Common.{◌≡◌, ◌∙◌, ap, sym, subst, ℕ, ◌+◌, ◌≤◌, ◌⊎◌, inl, inr, Bool, List, [], ◌∷◌, ◌++◌}
+use Rattle.std.proofs.Common.{cond, arith, ⊎_elim, append_assoc}
+use Rattle.std.specs.List.{count_by, Contains, flat_map}
 use Rattle.std.specs.List.Sorted.{IsPermutation}
-use Rattle.std.proofs.lemmas.Bool.{cases_lt}
 use Rattle.std.proofs.lemmas.List.Concat.{flat_map-cons}
 use Rattle.std.proofs.lemmas.List.Elements.{Contains-append_left, Contains-append_right, Contains-append_cases}
-use Rattle.std.proofs.lemmas.List.FromFn.{length-map-range_with_len, get_or-map-range_with_len}
-use Rattle.std.proofs.lemmas.List.Sums.{sum_by-append, sum_by-cons}
-use Rattle.std.proofs.lemmas.List.Sorted.{Contains-permutation, IsPermutation-sym, sum_by-IsPermutation}
-use Rattle.rv_reloc.specs.Thinned.{IsThinned, IsTwice, AreTaken}
+use Rattle.std.proofs.lemmas.List.Sums.{sum_by-append}
+use Rattle.std.proofs.lemmas.List.Sorted.{Contains-permutation, IsPermutation-sym, IsPermutation-refl, IsPermutation-trans}
+use Rattle.std.proofs.lemmas.List.Sorted.{IsPermutation-append, IsPermutation-append_comm, IsPermutation-append_left}
+use Rattle.std.proofs.lemmas.List.Sorted.{IsPermutation-append_right, sum_by-IsPermutation}
+use Rattle.elf_code.specs.Relocations.{Relocation}
+use Rattle.rv_reloc.specs.Thinned.{for_section, IsThinned}
 
-count-append : {A : Type 0} (test : A → Bool) (xs ys : List A) → count_by test (xs ++ ys) ≡ count_by test xs + count_by test ys
+-- Lists in another order.
+
+pub moved-same : {A : Type 0} (xs ys : List A) → xs ≡ ys → IsPermutation xs ys
+moved-same xs ys same = subst (IsPermutation xs) same (IsPermutation-refl xs)
+
+-- of four lists those in the middle change places
+pub moved-middle : {A : Type 0} (a b c d : List A) → IsPermutation ((a ++ b) ++ (c ++ d)) ((a ++ c) ++ (b ++ d))
+moved-middle {A} a b c d =
+    subst (λ (xs : List A). IsPermutation xs ((a ++ c) ++ (b ++ d))) (sym (append_assoc a b (c ++ d)))
+    (subst (λ (xs : List A). IsPermutation (a ++ (b ++ (c ++ d))) xs) (sym (append_assoc a c (b ++ d)))
+    (IsPermutation-append_right a (b ++ (c ++ d)) (c ++ (b ++ d)) swapped))
+  where
+    swapped : IsPermutation (b ++ (c ++ d)) (c ++ (b ++ d))
+    swapped =
+        subst (λ (xs : List A). IsPermutation xs (c ++ (b ++ d))) (append_assoc b c d)
+        (subst (λ (xs : List A). IsPermutation ((b ++ c) ++ d) xs) (append_assoc c b d)
+        (IsPermutation-append_left d (b ++ c) (c ++ b) (IsPermutation-append_comm b c)))
+
+-- what each item gives in two parts
+pub moved-parts : {X A : Type 0} (f g : X → List A) (xs : List X) →
+    IsPermutation (flat_map (λ x. f x ++ g x) xs) (flat_map f xs ++ flat_map g xs)
+moved-parts f g [] = IsPermutation-refl []
+moved-parts {X} {A} f g (x ∷ xs) =
+    let one = flat_map-cons (λ y. f y ++ g y) x xs in
+    let two : flat_map f (x ∷ xs) ++ flat_map g (x ∷ xs) ≡ (f x ++ flat_map f xs) ++ (g x ++ flat_map g xs) =
+    (λ i. flat_map-cons f x xs i ++ flat_map-cons g x xs i) in
+    subst (λ (zs : List A). IsPermutation zs (flat_map f (x ∷ xs) ++ flat_map g (x ∷ xs))) (sym one)
+    (subst (λ (zs : List A). IsPermutation ((f x ++ g x) ++ flat_map (λ y. f y ++ g y) xs) zs) (sym two)
+    (IsPermutation-trans ((f x ++ g x) ++ flat_map (λ y. f y ++ g y) xs) ((f x ++ g x) ++ (flat_map f xs ++ flat_map g xs))
+    ((f x ++ flat_map f xs) ++ (g x ++ flat_map g xs))
+    (IsPermutation-append_right (f x ++ g x) (flat_map (λ y. f y ++ g y) xs) (flat_map f xs ++ flat_map g xs) (moved-parts f g xs))
+    (moved-middle (f x) (g x) (flat_map f xs) (flat_map g xs))))
+
+-- Relocations that are left out.
+
+pub count-append : {A : Type 0} (test : A → Bool) (xs ys : List A) →
+    count_by test (xs ++ ys) ≡ count_by test xs + count_by test ys
 count-append test xs ys = sum_by-append (λ x. cond (test x) 1 0) xs ys
 
--- an item that passes is counted
-counted : {A : Type 0} (test : A → Bool) (xs : List A) (x : A) → Contains xs x → IsTrue (test x) → 1 ≤ count_by test xs
-counted test [] x (k, within, is) passes = absurd (omega arith)
-counted test (y ∷ ys) x (zero, within, is) passes =
-    let head : test y ≡ true = ap test is ∙ passes in
-    let sum : count_by test (y ∷ ys) ≡ cond (test y) 1 0 + count_by test ys = sum_by-cons (λ z. cond (test z) 1 0) y ys in
-    let one : cond {A = ℕ} (test y) 1 0 ≡ 1 = ap (λ (b : Bool). cond {A = ℕ} b 1 0) head in
-    omega arith
-counted test (y ∷ ys) x (suc k, within, is) passes =
-    let rest = counted test ys x (k, omega arith, is) passes in
-    let sum : count_by test (y ∷ ys) ≡ cond (test y) 1 0 + count_by test ys = sum_by-cons (λ z. cond (test z) 1 0) y ys in
-    omega arith
+pub thinned-moved : (full kept : List Relocation) → IsPermutation full kept → IsThinned full kept
+thinned-moved full kept moved = record {
+  back = λ r listed. Contains-permutation kept full r (IsPermutation-sym full kept moved) listed;
+  starts = λ r listed. (r.section, Contains-permutation full kept r moved listed, omega arith);
+  ends = λ r listed. (r.section, Contains-permutation full kept r moved listed, omega arith);
+  counts = λ test same. inl (sum_by-IsPermutation (λ r. cond (test r) 1 0) full kept moved);
+}
 
--- and where none is counted none passes; else one does
-some-counted : {A : Type 0} (test : A → Bool) (xs : List A) →
-    (count_by test xs ≡ 0) ⊎ ((x : A) × Contains xs x × IsTrue (test x))
-some-counted test [] = inl refl
-some-counted {A} test (y ∷ ys) = by (test y) refl (some-counted test ys)
+pub thinned-all : (full : List Relocation) → IsThinned full full
+thinned-all full = thinned-moved full full (IsPermutation-refl full)
+
+-- the counts of three lists
+counts-trans : (a b c : ℕ) → (b ≡ a) ⊎ ((2 ≤ b) × (2 ≤ a)) → (c ≡ b) ⊎ ((2 ≤ c) × (2 ≤ b)) → (c ≡ a) ⊎ ((2 ≤ c) × (2 ≤ a))
+counts-trans a b c (inl same) (inl same') = inl (same' ∙ same)
+counts-trans a b c (inl same) (inr (two, two')) = inr (two, omega arith)
+counts-trans a b c (inr (two, two')) (inl same) = inr (omega arith, two')
+counts-trans a b c (inr (two, two')) (inr (more, more')) = inr (more, two')
+
+pub thinned-trans : (a b c : List Relocation) → IsThinned a b → IsThinned b c → IsThinned a c
+thinned-trans a b c first second = record {
+  back = λ r listed. first.back r (second.back r listed);
+  starts = λ r listed.
+      let (s, in_b, up) = first.starts r listed in
+      let (t, in_c, up') = second.starts (for_section s r) in_b in
+      (t, in_c, omega (arith, up, up'));
+  ends = λ r listed.
+      let (s, in_b, down) = first.ends r listed in
+      let (t, in_c, down') = second.ends (for_section s r) in_b in
+      (t, in_c, omega (arith, down, down'));
+  counts = λ test same.
+      counts-trans (count_by test a) (count_by test b) (count_by test c) (first.counts test same) (second.counts test same);
+}
+
+-- the counts of two pairs of lists
+counts-sum : (a b c d : ℕ) → (b ≡ a) ⊎ ((2 ≤ b) × (2 ≤ a)) → (d ≡ c) ⊎ ((2 ≤ d) × (2 ≤ c)) →
+    (b + d ≡ a + c) ⊎ ((2 ≤ b + d) × (2 ≤ a + c))
+counts-sum a b c d (inl same) (inl same') = inl (omega arith)
+counts-sum a b c d (inl same) (inr (two, two')) = inr (omega arith, omega arith)
+counts-sum a b c d (inr (two, two')) other = inr (omega arith, omega arith)
+
+pub thinned-append : (a b c d : List Relocation) → IsThinned a b → IsThinned c d → IsThinned (a ++ c) (b ++ d)
+thinned-append a b c d left right = record {
+  back = λ r listed. ⊎_elim
+      (λ (one : Contains b r). Contains-append_left a c r (left.back r one))
+      (λ (other : Contains d r). Contains-append_right a c r (right.back r other))
+      (Contains-append_cases b d r listed);
+  starts = λ r listed. ⊎_elim
+      (λ (one : Contains a r). let (s, kept, up) = left.starts r one in (s, Contains-append_left b d (for_section s r) kept, up))
+      (λ (other : Contains c r).
+      let (s, kept, up) = right.starts r other in (s, Contains-append_right b d (for_section s r) kept, up))
+      (Contains-append_cases a c r listed);
+  ends = λ r listed. ⊎_elim
+      (λ (one : Contains a r). let (s, kept, down) = left.ends r one in (s, Contains-append_left b d (for_section s r) kept, down))
+      (λ (other : Contains c r).
+      let (s, kept, down) = right.ends r other in (s, Contains-append_right b d (for_section s r) kept, down))
+      (Contains-append_cases a c r listed);
+  counts = λ test same.
+      let of_full = count-append test a c in
+      let of_kept = count-append test b d in
+      let sum = counts-sum (count_by test a) (count_by test b) (count_by test c) (count_by test d)
+      (left.counts test same) (right.counts test same) in
+      subst (λ (n : ℕ). (n ≡ count_by test (a ++ c)) ⊎ ((2 ≤ n) × (2 ≤ count_by test (a ++ c)))) (sym of_kept)
+      (subst (λ (n : ℕ). (count_by test b + count_by test d ≡ n) ⊎ ((2 ≤ count_by test b + count_by test d) × (2 ≤ n)))
+      (sym of_full) sum);
+}
+
+-- Two lists of what is done and of what two sources have left, in place of both.
+
+pub thinned-swapped : (done l r done' l' r' : List Relocation) → IsThinned (done ++ (r ++ l)) (done' ++ (r' ++ l')) →
+    IsThinned (done ++ (l ++ r)) (done' ++ (l' ++ r'))
+thinned-swapped done l r done' l' r' is =
+    thinned-trans (done ++ (l ++ r)) (done ++ (r ++ l)) (done' ++ (l' ++ r'))
+    (thinned-moved (done ++ (l ++ r)) (done ++ (r ++ l))
+    (IsPermutation-append_right done (l ++ r) (r ++ l) (IsPermutation-append_comm l r)))
+    (thinned-trans (done ++ (r ++ l)) (done' ++ (r' ++ l')) (done' ++ (l' ++ r')) is
+    (thinned-moved (done' ++ (r' ++ l')) (done' ++ (l' ++ r'))
+    (IsPermutation-append_right done' (r' ++ l') (l' ++ r') (IsPermutation-append_comm r' l'))))
+
+-- the first of the left one is done
+pub thinned-done : (done one l r : List Relocation) → IsThinned (done ++ ((one ++ l) ++ r)) ((done ++ one) ++ (l ++ r))
+thinned-done done one l r =
+    thinned-moved (done ++ ((one ++ l) ++ r)) ((done ++ one) ++ (l ++ r))
+    (moved-same (done ++ ((one ++ l) ++ r)) ((done ++ one) ++ (l ++ r))
+    (ap (λ (xs : List Relocation). done ++ xs) (append_assoc one l r) ∙ sym (append_assoc done one (l ++ r))))
+
+-- The first of both have parts in common: what comes before them is done, what comes behind them is left, and of what is
+-- common something is left out.
+pub thinned-common : (done one l two r before common behind common' behind' kept : List Relocation) →
+    IsPermutation one (before ++ (common ++ behind)) → IsPermutation two (common' ++ behind') →
+    IsThinned (common ++ common') kept →
+    IsThinned (done ++ ((one ++ l) ++ (two ++ r))) (((done ++ before) ++ kept) ++ ((behind ++ l) ++ (behind' ++ r)))
+thinned-common done one l two r before common behind common' behind' kept parts parts' is =
+    thinned-trans (done ++ ((one ++ l) ++ (two ++ r))) (((done ++ before) ++ (common ++ common')) ++ left)
+    (((done ++ before) ++ kept) ++ left)
+    (thinned-moved (done ++ ((one ++ l) ++ (two ++ r))) (((done ++ before) ++ (common ++ common')) ++ left) moved)
+    (thinned-append ((done ++ before) ++ (common ++ common')) ((done ++ before) ++ kept) left left
+    (thinned-append (done ++ before) (done ++ before) (common ++ common') kept (thinned-all (done ++ before)) is)
+    (thinned-all left))
   where
-    sum : count_by test (y ∷ ys) ≡ cond (test y) 1 0 + count_by test ys
-    sum = sum_by-cons (λ z. cond (test z) 1 0) y ys
+    u : List Relocation
+    u = behind ++ l
 
-    by : (t : Bool) → test y ≡ t → (count_by test ys ≡ 0) ⊎ ((x : A) × Contains ys x × IsTrue (test x)) →
-        (count_by test (y ∷ ys) ≡ 0) ⊎ ((x : A) × Contains (y ∷ ys) x × IsTrue (test x))
-    by true passes rest = inr (y, (0, omega arith, refl), passes)
-    by false fails (inl none) =
-        let no : cond {A = ℕ} (test y) 1 0 ≡ 0 = ap (λ (b : Bool). cond {A = ℕ} b 1 0) fails in inl (omega (arith, sum))
-    by false fails (inr (x, (k, within, is), passes)) = inr (x, (suc k, omega arith, is), passes)
+    v : List Relocation
+    v = behind' ++ r
 
-twice-more : {A : Type 0} (xs ys : List A) (x : A) → IsTwice xs x → IsTwice (xs ++ ys) x
-twice-more xs ys x is = record {
-  listed = Contains-append_left xs ys x is.listed;
-  twice = λ test passes. let two = is.twice test passes in let sum = count-append test xs ys in omega arith;
-}
+    left : List Relocation
+    left = u ++ v
 
-twice-both : {A : Type 0} (xs ys : List A) (x : A) → Contains xs x → Contains ys x → IsTwice (xs ++ ys) x
-twice-both xs ys x one other = record {
-  listed = Contains-append_left xs ys x one;
-  twice = λ test passes.
-      let left = counted test xs x one passes in
-      let right = counted test ys x other passes in
-      let sum = count-append test xs ys in
-      omega arith;
-}
+    moved_parts : IsPermutation ((one ++ l) ++ (two ++ r)) (((before ++ (common ++ behind)) ++ l) ++ ((common' ++ behind') ++ r))
+    moved_parts =
+        IsPermutation-append (one ++ l) ((before ++ (common ++ behind)) ++ l) (two ++ r) ((common' ++ behind') ++ r)
+        (IsPermutation-append_left l one (before ++ (common ++ behind)) parts)
+        (IsPermutation-append_left r two (common' ++ behind') parts')
 
--- Those that are left out occur twice before.
-pub thinned-more : {A : Type 0} (full kept left_out rest : List A) → IsThinned full kept →
-    ((x : A) → Contains left_out x → IsTwice kept x) → IsThinned (full ++ (left_out ++ rest)) (kept ++ rest)
-thinned-more {A} full kept left_out rest is twice = record {
-  back = λ x listed. ⊎_elim
-      (λ (old : Contains kept x). Contains-append_left full (left_out ++ rest) x (is.back x old))
-      (λ (new : Contains rest x). Contains-append_right full (left_out ++ rest) x (Contains-append_right left_out rest x new))
-      (Contains-append_cases kept rest x listed);
-  each = λ x listed. ⊎_elim
-      (λ (old : Contains full x). Contains-append_left kept rest x (is.each x old))
-      (λ (new : Contains (left_out ++ rest) x). ⊎_elim
-      (λ (out : Contains left_out x). Contains-append_left kept rest x (twice x out).listed)
-      (λ (there : Contains rest x). Contains-append_right kept rest x there)
-      (Contains-append_cases left_out rest x new))
-      (Contains-append_cases full (left_out ++ rest) x listed);
-  counts = λ test.
-      let of_kept = count-append test kept rest in
-      let of_full = count-append test full (left_out ++ rest) in
-      let of_new = count-append test left_out rest in
-      by test of_kept of_full of_new (is.counts test) (some-counted test left_out);
-}
-  where
-    by : (test : A → Bool) → count_by test (kept ++ rest) ≡ count_by test kept + count_by test rest →
-        count_by test (full ++ (left_out ++ rest)) ≡ count_by test full + count_by test (left_out ++ rest) →
-        count_by test (left_out ++ rest) ≡ count_by test left_out + count_by test rest →
-        (count_by test kept ≡ count_by test full) ⊎ ((2 ≤ count_by test kept) × (2 ≤ count_by test full)) →
-        (count_by test left_out ≡ 0) ⊎ ((x : A) × Contains left_out x × IsTrue (test x)) →
-        (count_by test (kept ++ rest) ≡ count_by test (full ++ (left_out ++ rest)))
-        ⊎ ((2 ≤ count_by test (kept ++ rest)) × (2 ≤ count_by test (full ++ (left_out ++ rest))))
-    by test of_kept of_full of_new (inl same) (inl none) = inl (omega arith)
-    by test of_kept of_full of_new (inl same) (inr (x, out, passes)) =
-        let two = (twice x out).twice test passes in inr (omega arith, omega arith)
-    by test of_kept of_full of_new (inr (a, b)) none = inr (omega arith, omega arith)
+    joined : done ++ (((before ++ (common ++ behind)) ++ l) ++ ((common' ++ behind') ++ r))
+        ≡ (done ++ before) ++ ((common ++ u) ++ (common' ++ v))
+    joined =
+        ap (λ (xs : List Relocation). done ++ (xs ++ ((common' ++ behind') ++ r)))
+        (append_assoc before (common ++ behind) l ∙ ap (λ (xs : List Relocation). before ++ xs) (append_assoc common behind l))
+        ∙ ap (λ (xs : List Relocation). done ++ ((before ++ (common ++ u)) ++ xs)) (append_assoc common' behind' r)
+        ∙ ap (λ (xs : List Relocation). done ++ xs) (append_assoc before (common ++ u) (common' ++ v))
+        ∙ sym (append_assoc done before ((common ++ u) ++ (common' ++ v)))
 
-pub thinned-none : {A : Type 0} (none : List A) → none ≡ [] → IsThinned none none
-thinned-none none is = record { back = λ x listed. listed; each = λ x listed. listed; counts = λ test. inl refl }
-
--- in another order
-pub thinned-permutation : {A : Type 0} (full kept kept' : List A) → IsPermutation kept kept' →
-    IsThinned full kept → IsThinned full kept'
-thinned-permutation full kept kept' moved is = record {
-  back = λ x listed. is.back x (Contains-permutation kept' kept x (IsPermutation-sym kept kept' moved) listed);
-  each = λ x listed. Contains-permutation kept kept' x moved (is.each x listed);
-  counts = λ test.
-      let b : count_by test kept' ≡ count_by test kept = sum_by-IsPermutation (λ x. cond (test x) 1 0) kept kept' moved in
-      ⊎_elim
-      (λ (same : count_by test kept ≡ count_by test full). inl (b ∙ same))
-      (λ (two : (2 ≤ count_by test kept) × (2 ≤ count_by test full)). inr (let x = two.0 in omega arith, two.1))
-      (is.counts test);
-}
-
--- Runs of numbered items.
-module _ {A : Type 0} (at : ℕ → A) where
-  abbrev pub span : ℕ → ℕ → List A
-  span a n = map at (range_with_len a n)
-
-  pub span-split : (a n m : ℕ) → span a (n + m) ≡ span a n ++ span (a + n) m
-  span-split a zero m =
-      let none : 0 + m ≡ m = omega arith in
-      let same : a ≡ a + 0 = omega arith in
-      ap (λ (n : ℕ). span a n) none ∙ ap (λ (b : ℕ). span b m) same
-  span-split a (suc n) m =
-      let more : suc n + m ≡ suc (n + m) = omega arith in
-      let after : a + 1 + n ≡ a + suc n = omega arith in
-      ap (λ (n : ℕ). span a n) more
-      ∙ ap (λ (rest : List A). at a ∷ rest) (span-split (a + 1) n m ∙ ap (λ (b : ℕ). span (a + 1) n ++ span b m) after)
-
-  pub span-in : (a n : ℕ) (x : A) → Contains (span a n) x → (k : ℕ) × (a ≤ k) × (k < a + n) × (at k ≡ x)
-  span-in a n x (i, within, is) =
-      let len = length-map-range_with_len at a n in
-      (a + i, omega arith, omega arith, sym (get_or-map-range_with_len at a n i (a + i) x (omega arith) refl) ∙ is)
-
-  pub span-has : (a n k : ℕ) → a ≤ k → k < a + n → Contains (span a n) (at k)
-  span-has a n k from to =
-      let len = length-map-range_with_len at a n in
-      (k - a, omega arith, get_or-map-range_with_len at a n (k - a) k (at k) (omega arith) (omega arith))
-
-  module _ (full kept : List A) (first once twice count from : ℕ) (taken : AreTaken at kept first once twice)
-      (from_is : from ≡ max first (min twice (first + count))) where
-    -- the items of a run that are new or occurred once before are added
-    pub run-thinned : IsThinned full kept → IsThinned (full ++ span first count) (kept ++ span from (first + count - from))
-    run-thinned is =
-        let left = first + count - from in
-        let parts : span first count ≡ span first (from - first) ++ span from left =
-        ap (λ (n : ℕ). span first n) (let e : count ≡ (from - first) + left = omega arith in e)
-        ∙ span-split first (from - first) left
-        ∙ ap (λ (a : ℕ). span first (from - first) ++ span a left)
-        (let e : first + (from - first) ≡ from = omega arith in e) in
-        subst (λ (new : List A). IsThinned (full ++ new) (kept ++ span from left)) (sym parts)
-        (thinned-more full kept (span first (from - first)) (span from left) is
-        (λ x out. let (k, low, high, same) = span-in first (from - first) x out in
-        subst (λ (y : A). IsTwice kept y) same (taken.are_twice k low (omega arith))))
-
-    pub run-taken : AreTaken at (kept ++ span from (first + count - from)) first (max once (first + count))
-        (max (min once (first + count)) twice)
-    run-taken = record {
-      are_once = λ k low high. ⊎_elim
-          (λ (old : k < once). Contains-append_left kept (span from (first + count - from)) (at k) (taken.are_once k low old))
-          (λ (new : once ≤ k). ⊎_elim
-          (λ (out : k < from). Contains-append_left kept (span from (first + count - from)) (at k)
-          (taken.are_twice k low (omega arith)).listed)
-          (λ (there : from ≤ k). Contains-append_right kept (span from (first + count - from)) (at k)
-          (span-has from (first + count - from) k there (omega arith)))
-          (cases_lt k from))
-          (cases_lt k once);
-      are_twice = λ k low high. ⊎_elim
-          (λ (old : k < twice). twice-more kept (span from (first + count - from)) (at k) (taken.are_twice k low old))
-          (λ (new : twice ≤ k). twice-both kept (span from (first + count - from)) (at k) (taken.are_once k low (omega arith))
-          (span-has from (first + count - from) k (omega arith) (omega arith)))
-          (cases_lt k twice);
-    }
-
--- Joined lists, in another order.
-
-flat-in : {X A : Type 0} (f : X → List A) (xs : List X) (y : A) → Contains (flat_map f xs) y → (x : X) × Contains xs x × Contains (f x) y
-flat-in f [] y (k, within, is) = absurd (omega arith)
-flat-in {X} {A} f (x ∷ xs) y listed = ⊎_elim
-    (λ (here : Contains (f x) y). (x, (0, omega arith, refl), here))
-    (λ (later : Contains (flat_map f xs) y).
-    let (z, (k, within, is), there) = flat-in f xs y later in (z, (suc k, omega arith, is), there))
-    (Contains-append_cases (f x) (flat_map f xs) y
-    (subst (λ (all : List A). Contains all y) (flat_map-cons f x xs) listed))
-
-flat-has : {X A : Type 0} (f : X → List A) (xs : List X) (x : X) (y : A) → Contains xs x → Contains (f x) y → Contains (flat_map f xs) y
-flat-has f [] x y (k, within, is) there = absurd (omega arith)
-flat-has {X} {A} f (z ∷ zs) x y (zero, within, is) there =
-    subst (λ (all : List A). Contains all y) (sym (flat_map-cons f z zs))
-    (Contains-append_left (f z) (flat_map f zs) y (subst (λ (w : X). Contains (f w) y) (sym is) there))
-flat-has {X} {A} f (z ∷ zs) x y (suc k, within, is) there =
-    subst (λ (all : List A). Contains all y) (sym (flat_map-cons f z zs))
-    (Contains-append_right (f z) (flat_map f zs) y (flat-has f zs x y (k, omega arith, is) there))
-
-flat-count : {X A : Type 0} (f : X → List A) (test : A → Bool) (xs : List X) →
-    count_by test (flat_map f xs) ≡ sum_by (λ x. count_by test (f x)) xs
-flat-count f test [] = refl
-flat-count f test (x ∷ xs) =
-    ap (count_by test) (flat_map-cons f x xs) ∙ count-append test (f x) (flat_map f xs)
-    ∙ ap (λ (n : ℕ). count_by test (f x) + n) (flat-count f test xs)
-    ∙ sym (sum_by-cons (λ y. count_by test (f y)) x xs)
-
-pub thinned-reordered : {X A : Type 0} (f : X → List A) (xs ys : List X) (kept : List A) → IsPermutation xs ys →
-    IsThinned (flat_map f ys) kept → IsThinned (flat_map f xs) kept
-thinned-reordered {X} {A} f xs ys kept moved is = record {
-  back = λ y listed.
-      let (x, one, there) = flat-in f ys y (is.back y listed) in
-      flat-has f xs x y (Contains-permutation ys xs x (IsPermutation-sym xs ys moved) one) there;
-  each = λ y listed.
-      let (x, one, there) = flat-in f xs y listed in
-      is.each y (flat-has f ys x y (Contains-permutation xs ys x moved one) there);
-  counts = λ test.
-      let same : count_by test (flat_map f ys) ≡ count_by test (flat_map f xs) =
-      flat-count f test ys ∙ sum_by-IsPermutation (λ x. count_by test (f x)) xs ys moved ∙ sym (flat-count f test xs) in
-      ⊎_elim (λ (alike : count_by test kept ≡ count_by test (flat_map f ys)). inl (alike ∙ same))
-      (λ (two : (2 ≤ count_by test kept) × (2 ≤ count_by test (flat_map f ys))).
-      inr (let x = two.0 in omega arith, let y = two.1 in omega arith))
-      (is.counts test);
-}
+    moved : IsPermutation (done ++ ((one ++ l) ++ (two ++ r))) (((done ++ before) ++ (common ++ common')) ++ left)
+    moved =
+        IsPermutation-trans (done ++ ((one ++ l) ++ (two ++ r))) ((done ++ before) ++ ((common ++ u) ++ (common' ++ v)))
+        (((done ++ before) ++ (common ++ common')) ++ left)
+        (subst (λ (xs : List Relocation). IsPermutation (done ++ ((one ++ l) ++ (two ++ r))) xs) joined
+        (IsPermutation-append_right done ((one ++ l) ++ (two ++ r))
+        (((before ++ (common ++ behind)) ++ l) ++ ((common' ++ behind') ++ r)) moved_parts))
+        (subst (λ (xs : List Relocation). IsPermutation ((done ++ before) ++ ((common ++ u) ++ (common' ++ v))) xs)
+        (sym (append_assoc (done ++ before) (common ++ common') left))
+        (IsPermutation-append_right (done ++ before) ((common ++ u) ++ (common' ++ v)) ((common ++ common') ++ left)
+        (moved-middle common u common' v)))

@@ -1,31 +1,49 @@
 -- Relocations that stand one behind another, by their numbers: that of number k stands so many bytes behind k times its size.
-use Rattle.std.specs.Prelude.{◌≡◌, ◌≤◌, ℕ, ◌+◌, ◌*◌, List, [], Some, map, slice_get, length}
-use Rattle.std.specs.List.{range_with_len}
-use Rattle.std.specs.Option.{option_map_or}
-use Rattle.elf_image.specs.declared.elf.Elf.{Elf}
+use Rattle.std.specs.Prelude.{◌≡◌, ◌≤◌, ℕ, ◌+◌, ◌-◌, ◌*◌, List, ◌++◌, All, map}
+use Rattle.std.specs.List.{range_with_len, flat_map}
 use Rattle.elf_image.specs.declared.section.Section.{Section}
 use Rattle.elf_image.specs.declared.relocation.TheConstants.{RELA_SIZE}
 use Rattle.elf_code.specs.Relocations.{Relocation, relocation_at}
-use Rattle.rv_reloc.specs.declared.entry_runs.EntryRun.{EntryRun}
-use Rattle.rv_reloc.specs.declared.entry_runs.Taken.{Taken}
-use Rattle.rv_reloc.specs.Thinned.{AreTaken}
+use Rattle.rv_reloc.specs.declared.entry_run.EntryRun.{EntryRun}
+use Rattle.rv_reloc.specs.AppliesTo.{sections_of, joined}
 
-abbrev pub entry : List ℕ → Section → ℕ → ℕ → Relocation
-entry file section phase k = relocation_at file section (phase + RELA_SIZE * k)
+abbrev pub entry : List ℕ → ℕ → Section → ℕ → Relocation
+entry file phase section k = relocation_at file section (phase + RELA_SIZE * k)
 
--- so many from one number on
-abbrev pub entries_numbered : List ℕ → Section → ℕ → ℕ → ℕ → List Relocation
-entries_numbered file section phase first count = map (entry file section phase) (range_with_len first count)
+-- those of a run, for one section
+abbrev pub numbered : List ℕ → EntryRun → Section → List Relocation
+numbered file run section = map (entry file run.phase section) (range_with_len run.first (run.end - run.first))
 
--- those of a run, which apply to the section of its index
-abbrev pub run_entries : Elf → EntryRun → List Relocation
-run_entries elf run =
-    option_map_or (λ s. entries_numbered elf.file.now s run.phase run.first run.count) (slice_get elf.sections.items run.section) []
+abbrev pub run_entries : List ℕ → EntryRun → List Relocation
+run_entries file run = flat_map (numbered file run) (sections_of run.applies_to)
 
-abbrev pub IsWholeRun : Elf → EntryRun → Type 0
-IsWholeRun elf run = run.phase + RELA_SIZE * (run.first + run.count) ≤ length elf.file.now
+abbrev pub entries : List ℕ → List EntryRun → List Relocation
+entries file runs = flat_map (run_entries file) runs
 
--- the relocations of a run's section that were taken, of those from the run's first on
-abbrev pub HasTaken : Elf → List Relocation → Taken → Type 0
-HasTaken elf kept taken = (section : Section) → slice_get elf.sections.items taken.run.section ≡ Some section →
-    AreTaken (entry elf.file.now section taken.run.phase) kept taken.run.first taken.once taken.twice
+-- a run lies in a file of so many bytes
+abbrev pub IsWholeRun : ℕ → EntryRun → Type 0
+IsWholeRun size run = run.phase + RELA_SIZE * run.end ≤ size
+
+-- a run is another from one number to another
+pub record IsPart (run : EntryRun) (first end : ℕ) (part : EntryRun) : Type 0 where
+  pub sections_are : sections_of part.applies_to ≡ sections_of run.applies_to
+  pub phase_is : part.phase ≡ run.phase
+  pub first_is : part.first ≡ first
+  pub end_is : part.end ≡ end
+
+-- a run is what two have in common, from one number to another
+pub record IsCommon (run other : EntryRun) (first end : ℕ) (common : EntryRun) : Type 0 where
+  pub sections_are : sections_of common.applies_to ≡ joined run.applies_to other.applies_to
+  pub phase_is : common.phase ≡ run.phase
+  pub first_is : common.first ≡ first
+  pub end_is : common.end ≡ end
+
+-- Runs that are made one list: those that are done, and those that are left of two lists.
+
+abbrev pub all_entries : List ℕ → List EntryRun → List EntryRun → List EntryRun → List Relocation
+all_entries file done left right = entries file done ++ (entries file left ++ entries file right)
+
+pub record AreWholeRuns (size : ℕ) (done left right : List EntryRun) : Type 0 where
+  pub done_are : All (IsWholeRun size) done
+  pub left_are : All (IsWholeRun size) left
+  pub right_are : All (IsWholeRun size) right

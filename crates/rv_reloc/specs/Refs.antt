@@ -4,11 +4,11 @@ use Rattle.elf_image.specs.declared.elf.Elf.{Elf}
 use Rattle.elf_code.specs.FileCode.{AreRoles, AreCells}
 use Rattle.elf_image.specs.faults.FileFaults.{IsSound}
 use Rattle.elf_image.specs.file.ParsedFile.{IsElfOf}
-use Rattle.rv_reloc.specs.declared.parts.Part.{Part}
+use Rattle.code_starts.specs.declared.parts.Part.{Part}
 use Rattle.rv_reloc.specs.declared.refs.Refs.{Refs}
 use Rattle.rv_reloc.specs.declared.sweep.Candidate.{Candidate}
 use Rattle.rv_reloc.specs.CountedFields.{as_field, AreCounted}
-use Rattle.rv_reloc.specs.WholeParts.{AreWholeParts}
+use Rattle.code_starts.specs.WholeParts.{AreWholeParts}
 
 -- it was read from a file, in which its reader found no fault
 pub record IsRead (elf : Elf) : Type 0 where

@@ -1,20 +1,19 @@
--- Lists of which some items that occur more than twice are left out.
-use Rattle.std.specs.Prelude.{◌≡◌, ◌≤◌, ◌<◌, ◌⊎◌, ℕ, Bool, IsTrue, List, Contains}
+-- Relocations of which some are left out that differ from others in their sections alone.
+use Rattle.std.specs.Prelude.{◌≡◌, ◌≤◌, ◌⊎◌, Bool, List, Contains}
 use Rattle.std.specs.List.{count_by}
+use Rattle.elf_image.specs.declared.section.Section.{Section}
+use Rattle.elf_code.specs.Relocations.{Relocation}
+use Rattle.rv_reloc.specs.AppliesTo.{end_of}
 
--- a list keeps all items of another, and one alone passes a test where one alone of the other does
-pub record IsThinned {A : Type 0} (full kept : List A) : Type 0 where
-  pub back : (x : A) → Contains kept x → Contains full x
-  pub each : (x : A) → Contains full x → Contains kept x
-  pub counts : (test : A → Bool) →
+-- a relocation as one for another section
+abbrev pub for_section : Section → Relocation → Relocation
+for_section s r = record r { section = s }
+
+-- Of each relocation a list keeps one for a section that starts no sooner, and one for a section that ends no later. One
+-- alone passes a test that doesn't ask for sections where one alone of all does.
+pub record IsThinned (full kept : List Relocation) : Type 0 where
+  pub back : (r : Relocation) → Contains kept r → Contains full r
+  pub starts : (r : Relocation) → Contains full r → (s : Section) × Contains kept (for_section s r) × (r.section.addr ≤ s.addr)
+  pub ends : (r : Relocation) → Contains full r → (s : Section) × Contains kept (for_section s r) × (end_of s ≤ end_of r.section)
+  pub counts : (test : Relocation → Bool) → ((s : Section) (r : Relocation) → test (for_section s r) ≡ test r) →
       (count_by test kept ≡ count_by test full) ⊎ ((2 ≤ count_by test kept) × (2 ≤ count_by test full))
-
--- an item occurs at least twice
-pub record IsTwice {A : Type 0} (items : List A) (x : A) : Type 0 where
-  pub listed : Contains items x
-  pub twice : (test : A → Bool) → IsTrue (test x) → 2 ≤ count_by test items
-
--- Of numbered items those from a first one on are there: up to one number, and twice up to another.
-pub record AreTaken {A : Type 0} (at : ℕ → A) (items : List A) (first once twice : ℕ) : Type 0 where
-  pub are_once : (k : ℕ) → first ≤ k → k < once → Contains items (at k)
-  pub are_twice : (k : ℕ) → first ≤ k → k < twice → IsTwice items (at k)

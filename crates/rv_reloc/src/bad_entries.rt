@@ -4,18 +4,18 @@ ghost use Rattle.elf_code.specs.FileCode.{AreStarts};
 ghost use Rattle.elf_code.specs.Relocations.{HasRelocation};
 ghost use Rattle.elf_image.specs.faults.LowestPlace.{IsLowest};
 ghost use Rattle.rv_reloc.specs.BadEntries.{MissesLabel, NamesBadEntry, HasBadEntry};
-ghost use Rattle.rv_reloc.specs.LoadedMemory.{IsLow};
+ghost use Rattle.code_starts.specs.LoadedMemory.{IsLow};
 ghost use Rattle.rv_reloc.specs.Lows.{AreLows};
-ghost use Rattle.rv_reloc.specs.Parts.{AreCodeParts};
+ghost use Rattle.code_starts.specs.Parts.{AreCodeParts};
 ghost use Rattle.rv_reloc.specs.Slots.{AreSlotLabels};
 
-use crate::loaded::loaded_number;
 use crate::lows::Low;
 use crate::pairs::low_target;
-use crate::parts::Part;
 use crate::slots::{SlotLabel, has_label_at, has_other_label};
-use crate::start_index::Starts;
 use crate::targets::address_of;
+use code_starts::loaded::loaded_number;
+use code_starts::parts::Part;
+use code_starts::start_index::Starts;
 use elf_image::Elf;
 use elf_image::lowest::{lower, place_if};
 

@@ -9,16 +9,16 @@ ghost use Rattle.elf_code.specs.ReferenceFaults.{IsAddress, IsBadCall};
 ghost use Rattle.rv_reloc.specs.declared.instructions.Jump.{Jump};
 ghost use Rattle.rv_reloc.specs.declared.calls.CallInsts.{CallInsts};
 ghost use Rattle.rv_reloc.specs.Calls.{IsCallAt, IsJumpAfter, IsThrough, IsWeak, FitsCall, GoesTo, Names};
-ghost use Rattle.rv_reloc.specs.Parts.{AreCodeParts};
+ghost use Rattle.code_starts.specs.Parts.{AreCodeParts};
 ghost use Rattle.rv_reloc.specs.Records.{seen};
 
-use crate::code::full_at;
 use crate::instructions::{Jump, Upper, auipc_at, jalr_of};
-use crate::parts::{Part, part_at};
 use crate::records::Record;
-use crate::start_index::Starts;
 use crate::targets::{address_of, pair_target};
 use crate::types::is_call_pair;
+use code_starts::code::full_at;
+use code_starts::parts::{Part, part_at};
+use code_starts::start_index::Starts;
 use elf_image::Elf;
 
 /// The two instructions of a call.

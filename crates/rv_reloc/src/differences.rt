@@ -9,9 +9,9 @@ ghost use Rattle.elf_code.specs.Relocations as spec;
 ghost use Rattle.elf_code.specs.Relocations.{Relocation, relocations, plus_width, minus_width};
 ghost use Rattle.rv_reloc.specs.Differences.{IsDifferenceOf, IsTheDifference, HoldsOther, IsUnpaired};
 ghost use Rattle.rv_reloc.specs.Labels.{width_of};
-ghost use Rattle.rv_reloc.specs.Parts.{ArePartsApart};
-ghost use Rattle.rv_reloc.specs.WholeParts.{AreWholeParts};
-ghost use Rattle.rv_reloc.specs.LoadedMemory.{IsLow};
+ghost use Rattle.code_starts.specs.Parts.{ArePartsApart};
+ghost use Rattle.code_starts.specs.WholeParts.{AreWholeParts};
+ghost use Rattle.code_starts.specs.LoadedMemory.{IsLow};
 ghost use Rattle.rv_reloc.specs.Records.{AreRecords, seen};
 ghost use Rattle.rv_reloc.specs.Tails.{IsKnown};
 
@@ -20,12 +20,12 @@ use crate::index::{only_minus, only_plus};
 use crate::labels::{
     FieldWidth, can_be_cell, has_code_label, is_code_label, label, minus_width, plus_width,
 };
-use crate::parts::Part;
 use crate::records::Record;
-use crate::start_index::Starts;
 use crate::tails::Known;
 use crate::types::is_pc_difference;
-use crate::whole::in_one_whole;
+use code_starts::parts::Part;
+use code_starts::start_index::Starts;
+use code_starts::whole::in_one_whole;
 use elf_image::Elf;
 use elf_image::lowest::{lower, place_if};
 

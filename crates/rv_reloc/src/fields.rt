@@ -7,15 +7,15 @@ ghost use Rattle.elf_code.specs.Fields.{HoldsDifference};
 ghost use Rattle.elf_code.specs.LoadedNumbers.{loaded_number};
 ghost use Rattle.elf_code.specs.Relocations.{Uleb128};
 ghost use Rattle.rv_reloc.specs.Labels.{width_of, IsLabelSize};
-ghost use Rattle.rv_reloc.specs.LoadedMemory.{IsLow};
+ghost use Rattle.code_starts.specs.LoadedMemory.{IsLow};
 ghost use Rattle.rv_reloc.specs.Records.{seen};
 ghost use Rattle.rv_reloc.specs.Tails.{IsKnown, HoldsModulo, AreLebBytes, magnitude};
 
 use crate::labels::{FieldWidth, minus_width, plus_width};
-use crate::loaded::loaded_number;
 use crate::records::Record;
 use crate::tails::{DIFFERENCE_BYTES, Known, holds_bits, tail_at, tails_at};
 use crate::types::{is_call_pair, is_ignored};
+use code_starts::loaded::loaded_number;
 use elf_image::relocation::{
     R_RISCV_64, R_RISCV_IRELATIVE, R_RISCV_SET_ULEB128, R_RISCV_SUB_ULEB128,
 };

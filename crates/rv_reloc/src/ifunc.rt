@@ -9,7 +9,8 @@ ghost use Rattle.elf_code.specs.ReferenceFaults.{IsStubs, IsIfuncOrPlt, IsAlread
 ghost use Rattle.rv_reloc.specs.Places.{IsPlaceOf};
 ghost use Rattle.rv_reloc.specs.Records.{AreRecords};
 
-use crate::records::{Record, is_named};
+use crate::entry_runs::is_named;
+use crate::records::Record;
 use elf_image::lowest::{lower, place_if};
 use elf_image::relocation::R_RISCV_IRELATIVE;
 use elf_image::symbol::STT_GNU_IFUNC;

@@ -5,11 +5,11 @@ ghost use Rattle.elf_code.specs.FileCode.{AreStarts};
 ghost use Rattle.elf_code.specs.Roles.{IsFullAt};
 ghost use Rattle.elf_code.specs.ReferenceFaults.{HasAuipc};
 ghost use Rattle.rv_reloc.specs.Instructions.{auipc_of, lui_of, jalr_of};
-ghost use Rattle.rv_reloc.specs.Parts.{AreCodeParts};
+ghost use Rattle.code_starts.specs.Parts.{AreCodeParts};
 
-use crate::code::full_at;
-use crate::parts::Part;
-use crate::start_index::Starts;
+use code_starts::code::full_at;
+use code_starts::parts::Part;
+use code_starts::start_index::Starts;
 use elf_image::Elf;
 use rv_code::Inst;
 

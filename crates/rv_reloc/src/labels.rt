@@ -7,8 +7,8 @@ ghost use Rattle.rv_reloc.specs.Labels.{width_of, IsLabelSize};
 ghost use Rattle.rv_reloc.specs.Records.{seen};
 
 use crate::records::Record;
-use crate::start_index::Starts;
 use crate::types::is_pc_difference;
+use code_starts::start_index::Starts;
 use elf_image::Elf;
 use elf_image::relocation::*;
 

@@ -5,10 +5,10 @@ ghost use Rattle.rv_reloc.specs.Finds.{AreFound};
 ghost use Rattle.rv_reloc.specs.NamedAddresses.{NamesUpper, AreNamed};
 ghost use Rattle.rv_reloc.specs.Records.{seen, AreRecords};
 
-use crate::code::is_start;
 use crate::labels::symbol_value;
 use crate::records::Record;
 use crate::types::is_pcrel_lo;
+use code_starts::code::is_start;
 use elf_image::Elf;
 use elf_image::function_bounds::make_ascending;
 use rb_bytes::fault::NoMemory;

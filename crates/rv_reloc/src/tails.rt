@@ -5,10 +5,10 @@ ghost use Rattle.std.specs.List.Sorted.{IsPermutation};
 ghost use Rattle.rb_bytes.specs.Leb.{is_last, low_bits, high_bits};
 ghost use Rattle.elf_code.specs.Fields.{HoldBits};
 ghost use Rattle.elf_image.specs.memory.LoadedBytes.{byte_at};
-ghost use Rattle.rv_reloc.specs.LoadedMemory.{IsLow};
+ghost use Rattle.code_starts.specs.LoadedMemory.{IsLow};
 ghost use Rattle.rv_reloc.specs.Tails.{TailAt, IsKnown, ends_with, magnitude, AreLebBytes};
 
-use crate::loaded::byte_at;
+use code_starts::loaded::byte_at;
 use elf_image::Elf;
 use rb_bytes::fault::NoMemory;
 use std::alloc::Global;

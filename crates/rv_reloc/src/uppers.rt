@@ -3,7 +3,7 @@ ghost use Rattle.std.specs.Prelude.{◌≡◌, ◌↔◌, IsTrue};
 ghost use Rattle.elf_code.specs.FileCode.{AreStarts};
 ghost use Rattle.elf_code.specs.ReferenceFaults.{IsBadUpper, IsBadLower, IsUpper};
 ghost use Rattle.rv_reloc.specs.NamedAddresses.{AreNamed};
-ghost use Rattle.rv_reloc.specs.Parts.{AreCodeParts};
+ghost use Rattle.code_starts.specs.Parts.{AreCodeParts};
 ghost use Rattle.rv_reloc.specs.Records.{seen, AreRecords};
 
 use crate::index::{has_call, has_upper};
@@ -11,10 +11,10 @@ use crate::instructions::auipc_at;
 use crate::labels::symbol_value;
 use crate::lows::low_of;
 use crate::named::is_named;
-use crate::parts::Part;
 use crate::records::Record;
-use crate::start_index::Starts;
 use crate::types::{is_pcrel_hi, is_pcrel_lo};
+use code_starts::parts::Part;
+use code_starts::start_index::Starts;
 use elf_image::Elf;
 
 /// Whether a relocation for an upper part is on no AUIPC, or on one that no lower part names.

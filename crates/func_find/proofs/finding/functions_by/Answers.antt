@@ -5,9 +5,9 @@ use Rattle.rb_bytes.specs.FirstFault.{IsAnswered}
 use Rattle.elf_code.specs.FunctionFaults.{HasFunctionFault}
 use Rattle.elf_image.specs.faults.LowestPlace.{IsLowest}
 use Rattle.elf_image.proofs.FaultOrder.{IsAnswered-first}
-use Rattle.rv_reloc.specs.Parts.{ArePartsApart}
-use Rattle.rv_reloc.specs.WholeParts.{AreWholeParts}
-use Rattle.rv_reloc.proofs.WholeLookup.{AreApart-wholes}
+use Rattle.code_starts.specs.Parts.{ArePartsApart}
+use Rattle.code_starts.specs.WholeParts.{AreWholeParts}
+use Rattle.code_starts.proofs.WholeLookup.{AreApart-wholes}
 use Rattle.func_find.specs.FunctionParts.{AreFunctionParts}
 use Rattle.func_find.specs.Targets.{HasMisled}
 use Rattle.func_find.proofs.FunctionLists.{AreApart-functions, code_parts_of, IsLowest-entry, IsLowest-target, IsAnswered-target}

@@ -3,9 +3,9 @@ use Rattle.std.specs.List.{All}
 use Rattle.std.proofs.lemmas.List.Elements.{Contains-get_or, All-push}
 use Rattle.elf_code.specs.Functions.{IsFunctionPart}
 use Rattle.elf_code.specs.Parts.{IsCodePart}
-use Rattle.rv_reloc.specs.declared.parts.Part.{Part}
-use Rattle.rv_reloc.specs.Parts.{Precedes}
-use Rattle.rv_reloc.proofs.Chosen.{chosen_keep, chosen_skip, chosen_all}
+use Rattle.code_starts.specs.declared.parts.Part.{Part}
+use Rattle.code_starts.specs.Parts.{Precedes}
+use Rattle.code_starts.proofs.Chosen.{chosen_keep, chosen_skip, chosen_all}
 use Rattle.func_find.specs.FunctionParts.{AreFunctionsBefore}
 use Rattle.func_find.proofs.Judged.{AreFunctionsBefore-chosen, IsCodePart-function}
 use Rattle.func_find.proofs.function_parts.function_parts.Goals as goal

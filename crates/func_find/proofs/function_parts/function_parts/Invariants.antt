@@ -2,8 +2,8 @@ use Rattle.std.proofs.Common.{ℕ, List}
 use Rattle.std.specs.List.{All}
 use Rattle.elf_code.specs.Functions.{IsFunctionPart}
 use Rattle.elf_code.specs.Parts.{IsCodePart}
-use Rattle.rv_reloc.specs.Parts.{Precedes}
-use Rattle.rv_reloc.proofs.Chosen.{ChosenOf}
+use Rattle.code_starts.specs.Parts.{Precedes}
+use Rattle.code_starts.proofs.Chosen.{ChosenOf}
 use Rattle.func_find.specs.Referents.{AreReferred}
 use Rattle.func_find.proofs.function_parts.function_parts.Given as goal
 

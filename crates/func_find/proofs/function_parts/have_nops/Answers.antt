@@ -3,7 +3,7 @@ use Rattle.std.proofs.lemmas.Bool.{cases_lt}
 use Rattle.std.proofs.lemmas.List.{get_or_default}
 use Rattle.std.proofs.lemmas.List.Elements.{Contains-get_or}
 use Rattle.elf_code.specs.Functions.{IsNopPart}
-use Rattle.rv_reloc.specs.declared.parts.Part.{Part}
+use Rattle.code_starts.specs.declared.parts.Part.{Part}
 use Rattle.func_find.proofs.Judged.{inside_starts}
 use Rattle.func_find.proofs.function_parts.have_nops.Goals as goal
 use Rattle.rb_bytes.proofs.Tests.{clash}

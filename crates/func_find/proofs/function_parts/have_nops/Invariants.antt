@@ -1,6 +1,6 @@
 use Rattle.std.proofs.Common.{ℕ, ◌<◌, slice_index_or}
 use Rattle.elf_code.specs.Functions.{IsNopPart}
-use Rattle.rv_reloc.specs.declared.parts.Part.{Part}
+use Rattle.code_starts.specs.declared.parts.Part.{Part}
 use Rattle.func_find.proofs.function_parts.have_nops.Given as goal
 
 abbrev pub invariant-loop-part : goal.invariant-loop-part

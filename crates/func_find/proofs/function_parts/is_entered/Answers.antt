@@ -1,6 +1,6 @@
 use Rattle.std.proofs.Common.{◌≡◌, true, false, refl, length, arith}
 use Rattle.std.proofs.lemmas.Bool.{eqb-true}
-use Rattle.rv_reloc.specs.declared.parts.Part.{Part}
+use Rattle.code_starts.specs.declared.parts.Part.{Part}
 use Rattle.func_find.proofs.Judged.{IsEntered-from, IsEntered-last}
 use Rattle.func_find.proofs.function_parts.is_entered.Goals as goal
 

@@ -1,7 +1,7 @@
 use Rattle.std.proofs.Common.{◌≡◌, ap, subst, ◌<◌, Contains, Some, arith}
 use Rattle.std.proofs.lemmas.List.Elements.{All-contains}
-use Rattle.rv_reloc.specs.declared.parts.Part.{Part}
-use Rattle.rv_reloc.specs.Parts.{HoldsAddress}
+use Rattle.code_starts.specs.declared.parts.Part.{Part}
+use Rattle.code_starts.specs.Parts.{HoldsAddress}
 use Rattle.func_find.proofs.inst_lists.is_whole.Goals as goal
 
 part_is : (p q : Part) → Some p ≡ Some q → p ≡ q

@@ -1,6 +1,6 @@
 use Rattle.std.proofs.Common.{refl, slice_index_or, arith}
 use Rattle.std.proofs.lemmas.List.Elements.{Contains-get_or}
-use Rattle.rv_reloc.specs.declared.parts.Part.{Part}
+use Rattle.code_starts.specs.declared.parts.Part.{Part}
 use Rattle.func_find.specs.Referents.{PartGoesTo}
 use Rattle.rb_bytes.proofs.Gains.{gains_next, gains_all, gains_same}
 use Rattle.func_find.proofs.Judged.{inside_starts}

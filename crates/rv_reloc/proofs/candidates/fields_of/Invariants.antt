@@ -3,7 +3,7 @@ use Rattle.rv_reloc.specs.Candidates.{IsFieldOf}
 use Rattle.rv_reloc.specs.Finds.{AreFound}
 use Rattle.rv_reloc.specs.Records.{seen}
 use Rattle.rv_reloc.specs.CountedFields.{as_field}
-use Rattle.rv_reloc.specs.WholeParts.{AreWholeParts}
+use Rattle.code_starts.specs.WholeParts.{AreWholeParts}
 use Rattle.rv_reloc.proofs.candidates.fields_of.Given as goal
 
 abbrev pub invariant-loop-index : goal.invariant-loop-index

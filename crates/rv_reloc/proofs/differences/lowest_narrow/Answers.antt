@@ -1,6 +1,7 @@
 use Rattle.std.proofs.Common.{◌≡◌, sym, refl, length, arith}
 use Rattle.std.proofs.lemmas.List.{get_or_default}
 use Rattle.elf_code.specs.ReferenceFaults.{IsNarrow}
+use Rattle.rv_reloc.proofs.Alike.{narrow-for}
 use Rattle.rv_reloc.proofs.Faulty.{lowest-relocation}
 use Rattle.rv_reloc.proofs.Kept.{counts}
 use Rattle.rv_reloc.proofs.Places.{IsPlaceOf-begin, IsPlaceOf-next, IsPlaceOf-all}
@@ -24,4 +25,5 @@ pub returns : goal.returns
 returns c = λ tabled are.
     let all : c.loop-index.index ≡ length c.args.records.now = omega arith in
     lowest-relocation c.args.elf.now c.args.records.now (IsNarrow c.args.elf.now tabled) _ c.requires.records
+    (λ s r _ counts is. narrow-for c.args.elf.now s r counts tabled is)
     (IsPlaceOf-all _ _ _ _ _ all (c.loop-index.invariant tabled are))

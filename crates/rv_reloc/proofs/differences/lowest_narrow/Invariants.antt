@@ -3,7 +3,7 @@ use Rattle.elf_image.specs.faults.LowestPlace.{IsLowest}
 use Rattle.elf_code.specs.ReferenceFaults.{IsNarrow}
 use Rattle.rv_reloc.specs.Places.{IsPlaceOf}
 use Rattle.rv_reloc.specs.Records.{seen}
-use Rattle.rv_reloc.specs.WholeParts.{AreWholeParts}
+use Rattle.code_starts.specs.WholeParts.{AreWholeParts}
 use Rattle.rv_reloc.proofs.differences.lowest_narrow.Given as goal
 
 abbrev pub invariant-loop-index : goal.invariant-loop-index

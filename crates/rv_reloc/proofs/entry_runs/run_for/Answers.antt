@@ -1,4 +1,4 @@
-use Rattle.std.proofs.Common.{◌≡◌, refl, true, rules}
+use Rattle.std.proofs.Common.{◌≡◌, true, rules}
 use Rattle.rv_reloc.specs.Records.{counts}
 use Rattle.rv_reloc.proofs.Entries.{entries_for-empty}
 use Rattle.rv_reloc.proofs.EntrySpans.{run-entries}
@@ -10,4 +10,4 @@ returns-then-table-eq0-clause-none c = entries_for-empty c.args.elf.now c.args.t
 pub returns-clause-is : goal.returns-clause-is
 returns-clause-is c =
     let counted : counts c.args.section.now ≡ true = search rules in
-    run-entries c.args.elf.now c.args.table.now c.args.section.now _ counted c.requires.target refl refl refl
+    run-entries c.args.elf.now c.args.table.now c.args.section.now counted

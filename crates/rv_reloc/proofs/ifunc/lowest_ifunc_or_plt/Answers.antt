@@ -23,4 +23,4 @@ returns c =
     (λ s. IsStubs s × (s.size ≢ 0)) xs) c.lowest_stubs-section.result) c.deref-2.ensures.value c.lowest_stubs-section.ensures in
     IsLowest-selecting c.args.elf.now _ _ _ _ _ c.lower-lowest.ensures c.lower.ensures symbols sections
     (lowest-relocation c.args.elf.now c.args.records.now
-    (λ (r : Relocation). r.kind ≡ R_RISCV_IRELATIVE) _ c.requires c.lowest_irelative-relocation.ensures)
+    (λ (r : Relocation). r.kind ≡ R_RISCV_IRELATIVE) _ c.requires (λ s r _ _ is. is) c.lowest_irelative-relocation.ensures)

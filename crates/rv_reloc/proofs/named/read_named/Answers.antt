@@ -1,22 +1,15 @@
 use Rattle.std.proofs.Common.{arith}
 use Rattle.std.proofs.lemmas.List.{get_or_default}
-use Rattle.rv_reloc.specs.NamedAddresses.{NamesUpper}
-use Rattle.rv_reloc.specs.Records.{seen}
 use Rattle.rv_reloc.proofs.Finds.{AreFound-begin, AreFound-next, AreFound-all}
 use Rattle.rv_reloc.proofs.named.read_named.Goals as goal
 
 pub loop-relocation-init : goal.loop-relocation-init
-loop-relocation-init c =
-    AreFound-begin (λ r a. NamesUpper c.args.elf.now (seen r) a) c.args.records.now _ c.new-named.ensures.items
+loop-relocation-init c = AreFound-begin _ c.args.records.now _ c.new-named.ensures.items
 
 pub loop-relocation-preserved : goal.loop-relocation-preserved
-loop-relocation-preserved c =
-    AreFound-next
-    (λ r a. NamesUpper c.args.elf.now
-    (seen r) a) c.args.records.now c.loop-relocation.relocation-index _ c.loop-relocation.named.items _ c.named_by.result
-    c.loop-relocation-test.true (get_or_default _ _ _ _ c.loop-relocation-test.true) c.in_ok-push_some.ensures.is
-    c.named_by.ensures.is c.named_by.ensures.only c.loop-relocation.invariant
+loop-relocation-preserved c = AreFound-next _ c.args.records.now c.loop-relocation.relocation-index _
+    c.loop-relocation.named.items _ c.named_by.result c.loop-relocation-test.true (get_or_default _ _ _ _ c.loop-relocation-test.true)
+    c.in_ok-push_some.ensures.is c.named_by.ensures.is c.named_by.ensures.only c.loop-relocation.invariant
 
 pub returns : goal.returns
-returns c = AreFound-all (λ r a. NamesUpper c.args.elf.now (seen r) a) c.args.records.now c.loop-relocation.relocation-index _
-    (omega arith) c.loop-relocation.invariant
+returns c = AreFound-all _ c.args.records.now c.loop-relocation.relocation-index _ (omega arith) c.loop-relocation.invariant

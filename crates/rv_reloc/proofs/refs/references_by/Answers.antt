@@ -2,10 +2,10 @@ use Rattle.std.proofs.Common.{sym, subst}
 use Rattle.std.proofs.lemmas.Result.{err_from_is_err_and}
 use Rattle.rb_bytes.specs.FirstFault.{IsAnswered}
 use Rattle.elf_code.specs.ReferenceFaults.{HasReferenceFault}
-use Rattle.rv_reloc.specs.Parts.{ArePartsApart}
+use Rattle.code_starts.specs.Parts.{ArePartsApart}
 use Rattle.rv_reloc.specs.Cells.{HasAddresses}
 use Rattle.rv_reloc.proofs.ReferenceFaultOrder.{asked, lacks_all, no_misfit, no_mismatch, all_addresses, passed_on, passed_from}
-use Rattle.rv_reloc.proofs.WholeLookup.{AreApart-wholes}
+use Rattle.code_starts.proofs.WholeLookup.{AreApart-wholes}
 use Rattle.rv_reloc.proofs.refs.references_by.Goals as goal
 
 pub counted_fields-requires-clause-wholes : goal.counted_fields-requires-clause-wholes

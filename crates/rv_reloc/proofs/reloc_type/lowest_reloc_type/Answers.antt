@@ -21,5 +21,5 @@ loop-record-preserved c =
 pub returns : goal.returns
 returns c = λ elf are.
     let all : c.loop-record.record-index ≡ length c.args.records.now = omega arith in
-    lowest-relocation elf c.args.records.now (λ (r : Relocation). IsFalse (is_supported r.kind)) _ are
+    lowest-relocation elf c.args.records.now (λ (r : Relocation). IsFalse (is_supported r.kind)) _ are (λ s r _ _ is. is)
     (IsPlaceOf-all _ _ _ _ _ all c.loop-record.invariant)

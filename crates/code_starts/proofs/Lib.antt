@@ -1,0 +1,11 @@
+pub mod Chosen
+pub mod Cuts
+pub mod Decoded
+pub mod FileBytes
+pub mod FullLookup
+pub mod Inside
+pub mod LoadedNumbers
+pub mod PartLookup
+pub mod RangeLists
+pub mod StartLists
+pub mod WholeLookup

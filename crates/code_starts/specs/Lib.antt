@@ -1,0 +1,6 @@
+pub mod Halves
+pub mod LoadedMemory
+pub mod Parts
+pub mod Ranges
+pub mod Starts
+pub mod WholeParts

@@ -1,0 +1,99 @@
+// Instructions at their addresses.
+ghost use Rattle.std.specs.Prelude.{◌≡◌, ◌↔◌, ◌<◌, ◌≤◌, ◌+◌, ◌*◌, ℕ, IsTrue, IfSome, Some, Contains, AllPairs};
+ghost use Rattle.rv_code.specs.declared.inst.Inst.{Inst};
+ghost use Rattle.elf_code.specs.FileCode.{AreStarts};
+ghost use Rattle.elf_code.specs.Parts.{halfword_at};
+ghost use Rattle.elf_code.specs.Roles.{IsFullAt};
+ghost use Rattle.code_starts.specs.Parts.{AreCodeParts, IsInstBefore};
+
+use crate::loaded::bytes_from;
+use crate::parts::{Part, part_at};
+use crate::start_index::Starts;
+use elf_image::Elf;
+use rv_code::Inst;
+use rv_decode::decode;
+
+/// Whether an address is among others, which ascend.
+pub fn is_start(addresses: &[u64], address: u64) -> bool
+    requires { AllPairs (λ a b. a < b) addresses.now }
+    ensures { IsTrue result ↔ Contains addresses.now address }
+{
+    addresses.binary_search(&address).is_ok()
+}
+
+/// The halfword at an address. What isn't loaded counts as zero.
+pub fn halfword_at(elf: &Elf, address: u64) -> u16
+    requires { address + 1 < 18446744073709551616 }
+    ensures { result ≡ halfword_at elf.now address }
+{
+    let bytes = bytes_from(elf, address);
+    if bytes.len() < 2 {
+        let low = elf.image_byte(address).unwrap_or(0);
+        let high = elf.image_byte(address + 1).unwrap_or(0);
+        return halfword(low, high);
+    }
+    halfword(bytes[0], bytes[1])
+}
+
+fn halfword(low: u8, high: u8) -> u16
+    ensures { result ≡ low + 256 * high }
+{
+    low as u16 + 256 * high as u16
+}
+
+// The halfwords at an address and after it. It takes one look-up where one segment loads both.
+fn halfwords_at(elf: &Elf, address: u64) -> (u16, u16)
+    requires { address + 3 < 18446744073709551616 }
+    ensures first { result.0 ≡ halfword_at elf.now address }
+    ensures second { result.1 ≡ halfword_at elf.now (address + 2) }
+{
+    let bytes = bytes_from(elf, address);
+    if bytes.len() < 4 {
+        return (halfword_at(elf, address), halfword_at(elf, address + 2));
+    }
+    (halfword(bytes[0], bytes[1]), halfword(bytes[2], bytes[3]))
+}
+
+/// The instruction at an address, and how many bytes it takes, if it ends by `end`.
+pub fn inst_before(elf: &Elf, end: u64, address: u64) -> Option<(Inst, u8)>
+    requires { address < end }
+    ensures there { IfSome result (λ r. IsInstBefore elf.now end address r.0 r.1) }
+    ensures only { (inst : Inst) (bytes : ℕ) → IsInstBefore elf.now end address inst bytes → result ≡ Some (inst, bytes) }
+{
+    if end - address < 2 {
+        return None;
+    }
+    if end - address < 4 {
+        return decode(halfword_at(elf, address), None);
+    }
+    let (half, next) = halfwords_at(elf, address);
+    decode(half, Some(next))
+}
+
+// The four-byte instruction at an address, if it ends by `end`.
+fn full_before(elf: &Elf, end: u64, address: u64) -> Option<Inst>
+    requires { address < end }
+    ensures there { IfSome result (λ inst. IsInstBefore elf.now end address inst 4) }
+    ensures only { (inst : Inst) → IsInstBefore elf.now end address inst 4 → result ≡ Some inst }
+{
+    match inst_before(elf, end, address) {
+        Some(found) => { if found.1 == 4 { Some(found.0) } else { None } }
+        None => None,
+    }
+}
+
+/// The four-byte instruction that starts at an address. `starts` and `parts` are those of the file.
+pub fn full_at(elf: &Elf, starts: &Starts, parts: &[Part], address: u64) -> Option<Inst>
+    requires starts { AreStarts elf.now starts.now }
+    requires parts { AreCodeParts elf.now parts.now }
+    ensures there { IfSome result (IsFullAt elf.now address) }
+    ensures only { (inst : Inst) → IsFullAt elf.now address inst → result ≡ Some inst }
+{
+    if !starts.has(address) {
+        return None;
+    }
+    match part_at(parts, address) {
+        Some(part) => full_before(elf, part.end, address),
+        None => None,
+    }
+}

@@ -1,0 +1,13 @@
+//! Parts of a file's code, and where their instructions start.
+#![tactic(auto)]
+
+pub mod code;
+pub mod halves;
+pub mod instruction_starts;
+pub mod loaded;
+pub mod parts;
+pub mod ranges;
+pub mod start_index;
+pub mod whole;
+
+pub use instruction_starts::starts;

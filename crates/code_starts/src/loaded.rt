@@ -1,0 +1,81 @@
+// Bytes and numbers in the memory that a file describes.
+ghost use Rattle.std.specs.Prelude.{◌≡◌, ◌<◌, ◌≤◌, ◌^◌, OnSome, IfSome, length};
+ghost use Rattle.byteorder.specs.Endian.{little_number};
+ghost use Rattle.elf_image.specs.memory.LoadedBytes.{byte_at};
+ghost use Rattle.elf_code.specs.LoadedNumbers.{loaded_number};
+ghost use Rattle.rv_code.specs.layout.FunctionLists.{address_end};
+ghost use Rattle.code_starts.specs.LoadedMemory.{IsLow, AreBytesFrom};
+
+use byteorder::{ByteOrder, LittleEndian};
+use elf_image::Elf;
+
+/// The bytes of the file that one segment loads from an address on, as many as it loads.
+pub fn bytes_from<'a>(elf: &Elf<'a>, address: u64) -> &'a [u8]
+    ensures { AreBytesFrom elf.now address result.now }
+{
+    let Some(segment) = elf.segment_at(address) else {
+        return &elf.file[..0];
+    };
+    let place = address - segment.vaddr;
+    let loaded = segment.filesz.min(segment.memsz);
+    let length = elf.file.len() as u64;
+    if place > loaded || segment.offset > length || loaded > length - segment.offset {
+        return &elf.file[..0];
+    }
+    let start = segment.offset + place;
+    let end = segment.offset + loaded;
+    &elf.file[start as usize..end as usize]
+}
+
+/// The byte at an address, if it is loaded. Then the next address is one too.
+pub fn byte_at(elf: &Elf, address: u64) -> Option<u8>
+    requires { IsLow elf.now }
+    ensures value { result ≡ byte_at elf.now address }
+    ensures low { OnSome result (address < address_end) }
+{
+    elf.image_byte(address)
+}
+
+/// The number of so many bytes at an address, at most eight, if all are loaded.
+pub fn loaded_number(elf: &Elf, address: u64, size: u8) -> Option<u64>
+    requires low { IsLow elf.now }
+    requires size { size ≤ 8 }
+    ensures value { result ≡ loaded_number elf.now address size }
+    ensures below { IfSome result (λ x. x < 256 ^ size) }
+{
+    let bytes = bytes_from(elf, address);
+    if size == 0 || bytes.len() < size as usize {
+        return number_by_bytes(elf, address, size);
+    }
+    Some(first_number(bytes, size as usize))
+}
+
+// The number that the first bytes of these are.
+fn first_number(bytes: &[u8], size: usize) -> u64
+    requires some { 1 ≤ size }
+    requires high { size ≤ 8 }
+    requires room { size ≤ length bytes.now }
+    ensures value { result ≡ little_number size bytes.now }
+    ensures below { result < 256 ^ size }
+{
+    LittleEndian::read_uint(bytes, size)
+}
+
+// The number at an address, of which each byte is looked up for itself.
+fn number_by_bytes(elf: &Elf, address: u64, size: u8) -> Option<u64>
+    requires low { IsLow elf.now }
+    requires size { size ≤ 8 }
+    ensures value { result ≡ loaded_number elf.now address size }
+    ensures below { IfSome result (λ x. x < 256 ^ size) }
+{
+    if size == 0 {
+        return Some(0);
+    }
+    match byte_at(elf, address) {
+        Some(first) => match number_by_bytes(elf, address + 1, size - 1) {
+            Some(rest) => Some(first as u64 + 256 * rest),
+            None => None,
+        },
+        None => None,
+    }
+}

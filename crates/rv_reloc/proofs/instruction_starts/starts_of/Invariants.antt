@@ -1,6 +1,0 @@
-use Rattle.std.proofs.Common.{◌≡◌, take}
-use Rattle.rv_reloc.specs.Starts.{starts_of}
-use Rattle.rv_reloc.proofs.instruction_starts.starts_of.Given as goal
-
-abbrev pub invariant-loop-part : goal.invariant-loop-part
-invariant-loop-part l = l.starts.items ≡ starts_of l.elf (take l.part-index l.parts)

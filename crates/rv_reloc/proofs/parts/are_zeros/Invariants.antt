@@ -1,5 +1,0 @@
-use Rattle.rv_reloc.specs.Parts.{AreZeros}
-use Rattle.rv_reloc.proofs.parts.are_zeros.Given as goal
-
-abbrev pub invariant-loop-address : goal.invariant-loop-address
-invariant-loop-address l = AreZeros l.elf l.start l.address
