@@ -1,3 +1,4 @@
+pub mod EntryNeeds
 pub mod Need
 pub mod Room
 pub mod RoomFault

@@ -1,7 +1,10 @@
 //! The room that a file has for new code and its tables: how many bytes these need at most, and where there are so many.
 #![tactic(auto)]
 
+mod block_counts;
+mod bounds;
 mod capacity;
+mod frame_need;
 mod round;
 mod worst_need;
 

@@ -23,3 +23,5 @@ pub mod Falls
 pub mod Orders
 pub mod Planned
 pub mod Laid
+pub mod BlockSpans
+pub mod LaidBlocks

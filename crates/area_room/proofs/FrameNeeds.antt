@@ -1,0 +1,94 @@
+-- What an unwind table needs, by its entries as the code keeps them.
+use Rattle.std.proofs.Common.{◌≡◌, ℕ, ◌+◌, ◌*◌, ◌∙◌, Bool, true, false, Option, Some, None, List, [], ◌∷◌, length, map, ap, arith, refl, sym}
+use Rattle.std.proofs.Common.{Bor, codes}
+use Rattle.std.specs.Prelude.{flat_map, sum_by, is_some, if◌then◌else◌}
+use Rattle.std.specs.Option.{option_copied}
+use Rattle.std.proofs.lemmas.List.Sums.{sum_by-cons}
+use Rattle.std.proofs.lemmas.List.Folds.{flat_map-map}
+use Rattle.rv_code.specs.declared.placed.Block.{Block}
+use Rattle.rv_code.specs.declared.placed.Func.{Func}
+use Rattle.elf_image.specs.declared.elf.Elf.{Elf}
+use Rattle.elf_image.specs.declared.section.Section.{Section}
+use Rattle.elf_image.specs.file.SectionNames.{section_called}
+use Rattle.table_core.specs.Sections.{Held}
+use Rattle.cfi_rows.specs.declared.frame_table.Fde.{Fde as ReadFde}
+use Rattle.cfi_rows.specs.declared.frame_table.Frames.{Frames as ReadFrames}
+use Rattle.cfi_rows.specs.Entries.{Fde, Frames}
+use Rattle.cfi_rows.specs.FrameNeed.{bound_count, frame_need, is_block_in, need_of, piece_count, piece_size}
+use Rattle.cfi_rows.specs.Frames.{eh_frames, frames_in, frames_of}
+use Rattle.cfi_rows.specs.ReadEntries.{fde_of}
+use Rattle.cfi_rows.specs.ReadFrames.{read_as, section_held}
+use Rattle.area_room.specs.EntryNeeds.{bounds_of, entries_need, is_strictly_between, pieces_of, size_of}
+use Rattle.area_room.specs.Need.{capped}
+use Rattle.area_room.proofs.RangeCounts.{count}
+use Rattle.area_room.proofs.EntrySums.{count_bounds}
+
+sum_by-map : {X Y : Type 0} (f : Y → ℕ) (g : X → Y) (xs : List X) → sum_by f (map g xs) ≡ sum_by (λ x. f (g x)) xs
+sum_by-map f g [] = refl
+sum_by-map f g (x ∷ xs) =
+    let a = sum_by-cons f (g x) (map g xs) in
+    let b = sum_by-cons (λ x. f (g x)) x xs in
+    let c = sum_by-map f g xs in
+    omega (arith, a, b, c)
+
+module _ (funcs : List Func) (blocks : List Block) (list : List Fde) where
+  bounds_are : bounds_of (map fde_of list) ≡ flat_map (λ (f : Fde). f.start ∷ f.end ∷ []) list
+  bounds_are = flat_map-map (λ (f : ReadFde). f.start ∷ f.end ∷ []) fde_of list
+
+  bounds_counted : (f : Fde) → count (is_strictly_between f.start f.end) (bounds_of (map fde_of list)) ≡ bound_count list f
+  bounds_counted f =
+      ap (λ (ns : List ℕ). count (is_strictly_between f.start f.end) ns) bounds_are
+      ∙ count_bounds (λ (g : Fde). g.start) (λ (g : Fde). g.end) (is_strictly_between f.start f.end) list
+
+  one : (f : Fde) →
+      pieces_of funcs blocks (bounds_of (map fde_of list)) (fde_of f) * size_of (fde_of f)
+      ≡ piece_count funcs blocks list f * piece_size f
+  one f = ap (λ (n : ℕ). (count (is_block_in funcs f) blocks + length f.rows + n) * piece_size f) (bounds_counted f)
+
+  pub entries_are : entries_need funcs blocks (bounds_of (map fde_of list)) (map fde_of list)
+      ≡ sum_by (λ f. piece_count funcs blocks list f * piece_size f) list
+  entries_are =
+      sum_by-map
+      (λ (f : ReadFde). pieces_of funcs blocks (bounds_of (map fde_of list)) f * size_of f) fde_of list
+      ∙ ap (λ (g : Fde → ℕ). sum_by g list) (λ i f. one f i)
+
+-- sums of parts that are capped
+capped_sum : (cies entries : ℕ) → capped (capped (capped (cies * 64) + 64) + capped entries) ≡ capped (64 + 64 * cies + entries)
+capped_sum cies entries = omega arith
+
+pub table_need : (funcs : List Func) (blocks : List Block) (t : Frames) (items : List ReadFde) (cies entries : ℕ) →
+    items ≡ map fde_of t.list → cies ≡ t.cies → entries ≡ capped (entries_need funcs blocks (bounds_of items) items) →
+    capped (capped (capped (cies * 64) + 64) + entries) ≡ capped (need_of funcs blocks t)
+table_need funcs blocks t items cies entries items_are cies_are entries_is =
+    let e : entries ≡ capped (sum_by (λ f. piece_count funcs blocks t.list f * piece_size f) t.list) =
+    entries_is ∙ ap (λ (fs : List ReadFde). capped (entries_need funcs blocks (bounds_of fs) fs)) items_are
+    ∙ ap capped (entries_are funcs blocks t.list) in
+    ap (λ (n : ℕ). capped (capped (capped (n * 64) + 64) + entries)) cies_are
+    ∙ ap (λ (n : ℕ). capped (capped (capped (t.cies * 64) + 64) + n)) e
+    ∙ capped_sum t.cies (sum_by (λ f. piece_count funcs blocks t.list f * piece_size f) t.list)
+
+some_copied : (o : Option (Bor Section)) (s : Option Section) → option_copied o ≡ s → is_some o ≡ true → is_some s ≡ true
+some_copied None s e f = absurd (cc)
+some_copied (Some x) s e f = ap (λ (p : Option Section). is_some p) (sym e)
+
+read_is : (elf : Elf) (t : ReadFrames) → t.debug ≡ false → section_held t ≡ frames_in false elf → read_as t ≡ eh_frames elf
+read_is elf t kind section =
+    ap (λ (b : Bool). frames_of b (section_held t)) kind ∙ ap (λ (h : Held). frames_of false h) section
+
+-- the need of a file that has the section
+module _ (elf : Elf) (funcs : List Func) (blocks : List Block) (found : Option (Bor Section)) (t : ReadFrames) (entries : ℕ)
+    (called : option_copied found ≡ section_called elf.sections.items (codes ".eh_frame")) (there : is_some found ≡ true)
+    (kind : t.debug ≡ false) (section : section_held t ≡ frames_in false elf)
+    (list : t.list.items ≡ map fde_of (read_as t).list) (cies : t.cies ≡ (read_as t).cies)
+    (entries_is : entries ≡ capped (entries_need funcs blocks (bounds_of t.list.items) t.list.items)) where
+  all : frame_need elf funcs blocks ≡ need_of funcs blocks (eh_frames elf)
+  all =
+      ap (λ (b : Bool). if b then need_of funcs blocks (eh_frames elf) else 0)
+      (some_copied found (section_called elf.sections.items (codes ".eh_frame")) called there)
+
+  pub frame_need_is : (of_cies with_ends sum : ℕ) → of_cies ≡ capped (t.cies * 64) → with_ends ≡ capped (of_cies + 64) →
+      sum ≡ capped (with_ends + entries) → sum ≡ capped (frame_need elf funcs blocks)
+  frame_need_is of_cies with_ends sum a b c =
+      c ∙ ap (λ (n : ℕ). capped (n + entries)) b ∙ ap (λ (n : ℕ). capped (capped (n + 64) + entries)) a
+      ∙ table_need funcs blocks (read_as t) t.list.items t.cies entries list cies entries_is
+      ∙ ap (λ (f : Frames). capped (need_of funcs blocks f)) (read_is elf t kind section) ∙ ap capped (sym all)

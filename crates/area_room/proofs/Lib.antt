@@ -1,0 +1,4 @@
+pub mod BlockStretches
+pub mod EntrySums
+pub mod FrameNeeds
+pub mod RangeCounts

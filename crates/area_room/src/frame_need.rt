@@ -1,0 +1,112 @@
+// How many bytes unwind tables need that are loaded.
+ghost use Rattle.std.specs.Prelude.{◌≡◌, ◌*◌, IfOk, map};
+ghost use Rattle.std.specs.List.Sorted.{IsNonDecreasing};
+ghost use Rattle.rv_code.specs.layout.Blocks.{block_start};
+ghost use Rattle.rv_code.specs.layout.FunctionLists.{AreLaidOut};
+ghost use Rattle.cfi_rows.specs.FrameNeed as spec;
+ghost use Rattle.area_room.specs.EntryNeeds.{bounds_of, entries_need, pieces_of, size_of};
+ghost use Rattle.area_room.specs.Need.{AreBlocksOf, capped};
+
+use crate::block_counts::count_blocks_in;
+use crate::bounds::{ascending_bounds, count_between};
+use cfi_rows::frame_table::Fde;
+use elf_image::Elf;
+use elf_image::named::EH_FRAME;
+use rb_bytes::fault::NoMemory;
+use rv_code::functions::block_starts;
+use rv_code::{Block, Func};
+use std::alloc::Global;
+
+/// For the end of a table, the head of its index, and the alignment of both.
+const TABLE_NEED: u64 = 64;
+
+const CIE_NEED: u64 = 64;
+
+/// For the fields of an entry, its pair in the index and its first row, beside the rules and the expressions.
+const ENTRY_NEED: u64 = 64;
+
+/// For the rule of a register, or of the frame address.
+const RULE_NEED: u64 = 24;
+
+/// How many bytes `.eh_frame` and its index take at most in the new area, if the file loads one.
+pub(crate) fn frame_need(
+    alloc: Global,
+    elf: &Elf<'_>,
+    funcs: &[Func],
+    blocks: &[Block],
+) -> Result<u64, NoMemory>
+    requires laid { AreLaidOut funcs.now }
+    requires blocks { AreBlocksOf funcs.now blocks.now }
+    ensures { IfOk result (λ need. need ≡ capped (spec.frame_need elf.now funcs.now blocks.now)) }
+{
+    if elf.section_called(EH_FRAME).is_none() {
+        return Ok(0);
+    }
+    let table = cfi_rows::frames(alloc, elf, false)?;
+    let entries = entries_need(alloc, funcs, blocks, &table.list)?;
+    let cies = table.cies.saturating_mul(CIE_NEED);
+    Ok(cies.saturating_add(TABLE_NEED).saturating_add(entries))
+}
+
+// What the entries that are made of those of a table need.
+fn entries_need(
+    alloc: Global,
+    funcs: &[Func],
+    blocks: &[Block],
+    entries: &[Fde],
+) -> Result<u64, NoMemory>
+    requires laid { AreLaidOut funcs.now }
+    requires blocks { AreBlocksOf funcs.now blocks.now }
+    ensures { IfOk result
+        (λ need. need ≡ capped (entries_need funcs.now blocks.now (bounds_of entries.now) entries.now)) }
+{
+    let starts = block_starts(alloc, funcs, blocks)?;
+    let bounds = ascending_bounds(alloc, entries)?;
+    let need = sum_of_needs(funcs, blocks, &starts, &bounds, entries);
+    Ok(need)
+}
+
+// The same with the starts of blocks and the bounds of entries, ascending.
+fn sum_of_needs(
+    funcs: &[Func],
+    blocks: &[Block],
+    starts: &[u64],
+    bounds: &[u64],
+    entries: &[Fde],
+) -> u64
+    requires laid { AreLaidOut funcs.now }
+    requires blocks { AreBlocksOf funcs.now blocks.now }
+    requires starts { starts.now ≡ map (block_start funcs.now) blocks.now }
+    requires bounds { IsNonDecreasing bounds.now }
+    ensures { result ≡ capped (entries_need funcs.now blocks.now bounds.now entries.now) }
+{
+    let mut sum: u64 = 0;
+    for entry in entries {
+        sum = sum.saturating_add(entry_need(funcs, blocks, starts, bounds, entry));
+    }
+    sum
+}
+
+// What the entries that are made of one need: one for each block in its range, row of it, and bound of another in its range.
+fn entry_need(funcs: &[Func], blocks: &[Block], starts: &[u64], bounds: &[u64], entry: &Fde) -> u64
+    requires laid { AreLaidOut funcs.now }
+    requires blocks { AreBlocksOf funcs.now blocks.now }
+    requires starts { starts.now ≡ map (block_start funcs.now) blocks.now }
+    requires bounds { IsNonDecreasing bounds.now }
+    ensures { result ≡ capped (pieces_of funcs.now blocks.now bounds.now entry.now * size_of entry.now) }
+{
+    let in_blocks = count_blocks_in(funcs, blocks, starts, entry.start, entry.end) as u64;
+    let in_others = count_between(bounds, entry.start, entry.end) as u64;
+    let pieces = in_blocks
+        .saturating_add(entry.rows)
+        .saturating_add(in_others);
+    pieces.saturating_mul(piece_size(entry))
+}
+
+// The most bytes of an entry that is made of another.
+fn piece_size(entry: &Fde) -> u64
+    ensures { result ≡ capped (size_of entry.now) }
+{
+    let rules = entry.registers.saturating_add(1).saturating_mul(RULE_NEED);
+    rules.saturating_add(ENTRY_NEED).saturating_add(entry.bytes)
+}
