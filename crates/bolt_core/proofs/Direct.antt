@@ -1,25 +1,31 @@
--- In accepted code without exception tables branches and jumps lead to code.
-use Rattle.std.proofs.Common.{◌≡◌, ◌∙◌, refl, sym, subst, ℕ, ◌+◌, ◌<◌, ◌≤◌, ◌⊎◌, inl, inr, Some, Bool, true, false, List, [], ◌∷◌}
-use Rattle.std.proofs.Common.{length, arith}
+-- In accepted code branches and jumps lead to code; and where no branch leaves a whole function, they reach in it.
+use Rattle.std.proofs.Common.{◌≡◌, ◌∙◌, refl, sym, subst, ℕ, ◌+◌, ◌<◌, ◌≤◌, ◌⊎◌, inl, inr, Some, Bool, true, false, List, [], ◌∷◌, arith}
 use Rattle.std.specs.Prelude.{Contains, IsTrue}
+use Rattle.std.proofs.lemmas.List.Elements.{All-contains}
+use Rattle.rb_bytes.specs.FirstFault.{IsFree}
 use Rattle.rb_bytes.specs.declared.fault.FaultKind.TheVariants.{BadTarget}
 use Rattle.rv_code.specs.declared.inst.Inst.{Inst}
+use Rattle.rv_code.specs.declared.placed.Block.{Block}
 use Rattle.rv_code.specs.declared.placed.Func.{Func}
 use Rattle.rv_code.specs.declared.placed.Placed.{Placed}
 use Rattle.rv_code.specs.isa.Action.{action_of}
 use Rattle.rv_code.specs.isa.HalfRows as rows
 use Rattle.rv_code.specs.layout.Flow.{action_at, insts_of, is_call, target, target_of, is_short}
+use Rattle.rv_code.specs.layout.FunctionLists.{AreLaidOut, IsLaidOut}
 use Rattle.rv_code.specs.layout.ProgramCode.{ProgramCode, is_code_address}
+use Rattle.rv_code.proofs.lists.Follows.{inst_bounds}
 use Rattle.elf_code.specs.Functions.{AreInsts, IsCodeAddress}
-use Rattle.elf_code.specs.Parts.{IsInstAt, IsWholePart, StartsIn, after, at_start, halfword_at, length_at}
+use Rattle.elf_code.specs.Parts.{IsInstAt, StartsIn, after, at_start, halfword_at, length_at}
 use Rattle.elf_image.specs.declared.elf.Elf.{Elf}
 use Rattle.elf_code.specs.FunctionFaults.{direct}
 use Rattle.rb_bytes.proofs.Members.{Contains-cons_cases}
 use Rattle.move_law.specs.Laws.{IsAcceptedCode}
 use Rattle.rb_bytes.proofs.ListLemmas.{all_of}
-use Rattle.move_law.proofs.code.InstLists.{function_code, inst_at, length_of}
+use Rattle.move_law.proofs.code.InstLists.{function_code, inst_at, inst_in, length_of}
 use Rattle.move_law.proofs.code.InstPlaces.{lies, some_length}
 use Rattle.branch_fixup.specs.Inputs.{AreDirect, KeepsShort, LeadsToCode, StaysIn}
+use Rattle.func_place.specs.Faults.{HasPlacementFault}
+use Rattle.bolt_core.proofs.ShortReach.{stays}
 
 -- A JAL of two bytes saves nothing.
 
@@ -75,7 +81,7 @@ module _ (elf : Elf) where
   insts_end a end [] are = omega (arith, are)
   insts_end a end (p ∷ ps) are = let rest = insts_end (a + p.len) end ps are.3 in omega (arith, rest)
 
-  starts_in : (start a end : ℕ) (ps : List Placed) (p : Placed) → AreInsts elf a ps end → (a < end → StartsIn elf start end a) →
+  pub starts_in : (start a end : ℕ) (ps : List Placed) (p : Placed) → AreInsts elf a ps end → (a < end → StartsIn elf start end a) →
       Contains ps p → StartsIn elf start end p.addr
   starts_in start a end [] p are starts is_in = let l = is_in.1 in absurd (omega (arith, l))
   starts_in start a end (q ∷ ps) p are starts is_in =
@@ -96,6 +102,11 @@ module _ (elf : Elf) where
       by (inl same) rest =
           subst (λ (x : Placed). StartsIn elf start end x.addr) same (subst (StartsIn elf start end) (sym are.0) here)
       by (inr k) rest = rest k
+
+-- an instruction of a function lies in it
+pub lies_in : (func : Func) → IsLaidOut func → (p : Placed) → Contains func.insts.items p → (func.start ≤ p.addr) × (p.addr < func.end)
+lies_in func laid p (k, within, is) =
+    subst (λ (q : Placed). (func.start ≤ q.addr) × (q.addr < func.end)) is (inst_bounds func laid k p within)
 
 module _ (elf : Elf) (code : ProgramCode) (accepted : IsAcceptedCode elf code) where
   code_address : (p : Placed) → Contains (insts_of code.funcs) p → IsCodeAddress elf accepted.tabled p.addr
@@ -123,21 +134,15 @@ module _ (elf : Elf) (code : ProgramCode) (accepted : IsAcceptedCode elf code) w
       by false e = absurd (accepted.no_fault BadTarget p.addr (inr (direct (code_address p is_in) p.inst p.len
           (inst_at elf accepted.tabled code accepted.code_is p is_in).inst t goes (none e))))
 
-  -- no function moves as one piece
-  module _ (untabled : accepted.tabled ≡ []) where
-    no_whole : (func : Func) → Contains code.funcs func → func.whole ≡ true → ⊥
-    no_whole func func_in whole = by ((accepted.code_is.funcs.only func func_in).whole.0 whole)
-      where
-        by : IsWholePart elf accepted.tabled func.start func.end → ⊥
-        by is =
-            let (k, range, within, at, rest) = is.tabled_there in
-            let none : k < 0 = subst (λ (ranges : List (ℕ × ℕ)). k < length ranges) untabled within in
-            absurd (omega (arith, none))
-
+  module _ (laid : AreLaidOut code.funcs) (blocks : List Block) (free : IsFree (HasPlacementFault code.funcs blocks)) where
     keeps_short : (func : Func) → Contains code.funcs func → KeepsShort func
     keeps_short func func_in =
+        let insts = (accepted.code_is.funcs.only func func_in).insts in
+        let between : (p : Placed) → Contains func.insts.items p → (func.start ≤ p.addr) × (p.addr < func.end) =
+        λ p p_in. lies_in func (All-contains IsLaidOut code.funcs func laid.each func_in) p p_in in
         all_of (λ p. IsTrue func.whole → IsTrue (is_short p) → StaysIn func p) func.insts.items
-        (λ p p_in whole short. absurd (no_whole func func_in whole))
+        (λ p p_in whole short. stays elf code.funcs blocks laid free func p func_in p_in
+        (inst_in elf func.start func.insts.items func.end p insts p_in).inst (between p p_in).0 (between p p_in).1 whole short)
 
     pub are_direct : AreDirect code.funcs
     are_direct = record {

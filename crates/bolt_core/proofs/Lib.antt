@@ -9,6 +9,12 @@ mod NewArea
 mod PassedLimits
 mod Ranges
 mod Rewrites
+mod ShortReach
 mod SomeCode
 mod SoundCode
 mod WrittenOutput
+mod FrameCount
+mod FrameNeeds
+mod FrameRoom
+mod RunCounts
+mod RunStarts

@@ -12,6 +12,7 @@ use Rattle.rv_code.specs.layout.FunctionLists.{address_end}
 use Rattle.elf_image.specs.file.Header.{header_size}
 use Rattle.elf_image.specs.memory.CodeSegment.{executable_end}
 use Rattle.area_room.specs.Room.{area_start_of}
+use Rattle.cfi_rows.specs.FrameNeed.{frame_need}
 use Rattle.area_room.specs.Need.{capped, code_need, need}
 use Rattle.area_room.specs.RoomFault.{has_no_room, no_room, no_room_fault}
 use Rattle.area_room.specs.Room.{area_limit, area_start, code_end, is_tight, pages_from, room, room_above}
@@ -56,7 +57,7 @@ pub fits_somewhere : (segments : List Segment) (n : ℕ) → no_room segments n 
 fits_somewhere segments n none some =
     fits_in segments n (is_tight segments n) refl (no_fault (has_no_room segments n) (no_room_fault segments n) none) some
 
--- The code is no longer than what is needed.
+-- The code and its unwind table are no longer than what is needed.
 
 uncapped : (n limit : ℕ) → capped n ≤ limit → limit ≤ address_end → n ≤ capped n
 uncapped n limit low high = omega (arith, low, high)
@@ -66,13 +67,23 @@ pub record HasRoom (elf : Elf) (funcs : List Func) (blocks : List Block) : Type 
       address_end
   pub within : code_need funcs blocks ≤ cond (is_tight elf.segments.items (need elf funcs blocks))
       (room_above elf.segments.items) (room elf.segments.items)
+  -- with the unwind table
+  pub all : Fits (code_need funcs blocks + frame_need elf funcs blocks)
+      (area_start_of elf.segments.items (is_tight elf.segments.items (need elf funcs blocks)))
+      (cond (is_tight elf.segments.items (need elf funcs blocks)) (room_above elf.segments.items) (room elf.segments.items))
 
-by_sum : (code more start have : ℕ) → Fits (capped (code + more)) start have → (start + code ≤ address_end) × (code ≤ have)
+uncapped_fits : (n start have : ℕ) → Fits (capped n) start have → Fits n start have
+uncapped_fits n start have fits =
+    let within = fits.within in
+    let low = fits.low in
+    let all : n ≤ capped n = uncapped n (start + capped n) (omega arith) low in
+    record { within = omega (arith, all, within); low = omega (arith, all, low) }
+
+by_sum : (code more start have : ℕ) → Fits (code + more) start have → (start + code ≤ address_end) × (code ≤ have)
 by_sum code more start have fits =
     let within = fits.within in
     let low = fits.low in
-    let all : code + more ≤ capped (code + more) = uncapped (code + more) (start + capped (code + more)) (omega arith) low in
-    (omega (arith, all, low), omega (arith, all, within))
+    (omega (arith, low), omega (arith, within))
 
 some_capped : (code more : ℕ) → 0 < code → 0 < capped (code + more)
 some_capped code more some = omega (arith, some)
@@ -81,11 +92,12 @@ pub has_room : (elf : Elf) (funcs : List Func) (blocks : List Block) → 0 < cod
     no_room elf.segments.items (need elf funcs blocks) ≡ None → HasRoom elf funcs blocks
 has_room elf funcs blocks some none =
     let n : ℕ = need elf funcs blocks in
-    let fits = fits_somewhere elf.segments.items n none
-    (some_capped (code_need funcs blocks) _ some) in
-    let both = by_sum (code_need funcs blocks) _ (area_start_of elf.segments.items (is_tight elf.segments.items n))
-    (cond (is_tight elf.segments.items n) (room_above elf.segments.items) (room elf.segments.items)) fits in
-    record { low = both.0; within = both.1 }
+    let start = area_start_of elf.segments.items (is_tight elf.segments.items n) in
+    let have = cond (is_tight elf.segments.items n) (room_above elf.segments.items) (room elf.segments.items) in
+    let all = uncapped_fits (code_need funcs blocks + frame_need elf funcs blocks) start have
+    (fits_somewhere elf.segments.items n none (some_capped (code_need funcs blocks) (frame_need elf funcs blocks) some)) in
+    let both = by_sum (code_need funcs blocks) (frame_need elf funcs blocks) start have all in
+    record { low = both.0; within = both.1; all = all }
 
 -- The area starts at an even address.
 

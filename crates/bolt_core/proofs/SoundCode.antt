@@ -1,6 +1,7 @@
 -- What holds of the code of a file in which no fault was found.
-use Rattle.std.proofs.Common.{◌<◌, refl, sym, subst, inr, ℕ, List}
+use Rattle.std.proofs.Common.{◌<◌, sym, subst, inr, ℕ, List}
 use Rattle.std.specs.Prelude.{All}
+use Rattle.rv_code.specs.declared.placed.Block.{Block}
 use Rattle.rv_code.specs.layout.Flow.{insts_of}
 use Rattle.rv_code.specs.layout.FunctionLists.{AreLaidOut}
 use Rattle.rv_code.specs.layout.ProgramCode.{ProgramCode}
@@ -15,7 +16,9 @@ use Rattle.elf_code.specs.FileCode.{IsCodeOf}
 use Rattle.elf_image.specs.faults.FileFaults.{IsSound}
 use Rattle.elf_image.specs.file.ParsedFile.{IsElfOf}
 use Rattle.rb_bytes.specs.FirstFault.{IsFree}
-use Rattle.program.specs.Program.{Program, tabled}
+use Rattle.cfi_rows.specs.Frames.{tabled}
+use Rattle.func_place.specs.Faults.{HasPlacementFault}
+use Rattle.program.specs.Program.{Program}
 use Rattle.bolt_core.specs.Refusals.{IsInput}
 use Rattle.bolt_core.proofs.Direct.{are_direct}
 
@@ -24,8 +27,8 @@ pub record IsSoundCode (elf : Elf) (code : ProgramCode) : Type 0 where
   pub bytes : All (λ b. b < 256) elf.file.now
   pub read : IsElfOf elf.file.now elf
   pub sound : IsSound elf.file.now
-  pub code_is : IsCodeOf elf tabled code
-  pub no_fault : IsFree (HasCodeFault elf tabled)
+  pub code_is : IsCodeOf elf (tabled elf) code
+  pub no_fault : IsFree (HasCodeFault elf (tabled elf))
 
 pub of_input : {file profile : List ℕ} {x : Program} → IsInput file profile x → All (λ b. b < 256) file →
     IsSoundCode x.elf x.code
@@ -45,18 +48,18 @@ module _ (elf : Elf) (code : ProgramCode) (is : IsSoundCode elf code) where
     bytes = is.bytes;
     read = is.read;
     sound = is.sound;
-    tabled = tabled;
+    tabled = tabled elf;
     code_is = is.code_is;
     no_fault = is.no_fault;
   }
 
   pub laid : AreLaidOut code.funcs
   laid =
-      AreLaidOut-functions elf elf.file.now is.read is.sound tabled code.funcs (is.code_is).funcs
+      AreLaidOut-functions elf elf.file.now is.read is.sound (tabled elf) code.funcs (is.code_is).funcs
       (λ kind place has. is.no_fault kind place (inr has))
 
-  pub direct : AreDirect code.funcs
-  direct = are_direct elf code accepted refl
+  pub direct : (blocks : List Block) → IsFree (HasPlacementFault code.funcs blocks) → AreDirect code.funcs
+  direct blocks free = are_direct elf code accepted laid blocks free
 
   pub insts : All CanMove (insts_of code.funcs)
   insts = can_move elf code accepted laid

@@ -60,11 +60,10 @@ pub fn rewrite(alloc: Global, file: &[u8], profile: &[u8]) -> Result<Rewritten, 
     let funcs = program.funcs.as_slice();
     let blocks = program.blocks.as_slice();
     let counts = edge_profile::read(alloc, profile, &program.elf, funcs)?;
-    // That these are all pairs, in order, is a part of what is promised.
-    let _pairs = counts.pairs();
+    let pairs = counts.pairs();
     let weights = block_weights(alloc, funcs, blocks, &counts)?;
     let parts = parts(alloc, funcs, &program.refs, blocks, &counts, &weights)?;
-    let plan = func_place::place(alloc, funcs, blocks, &parts, &counts)?;
+    let plan = func_place::place_by(alloc, funcs, blocks, &parts, pairs, &weights)?;
     let start = program::new_start(alloc, &program)?;
     let cold = cold_starts(alloc, funcs, blocks, &parts)?;
     check_sizes(alloc, &program.elf, funcs, &cold)?;
@@ -72,17 +71,14 @@ pub fn rewrite(alloc: Global, file: &[u8], profile: &[u8]) -> Result<Rewritten, 
     let written = elf_write::write(alloc, &program.elf, funcs, &cold, &emitted, &map, &[])?;
     are_bytes(&written);
     let instructions = count_insts(funcs)?;
-    let bytes = emitted.code.len() as u64;
-    let hot = count_hot(&weights);
-    let ignored = counts.ignored();
     Ok(Rewritten {
         file: written,
         map,
         functions: funcs.len() as u64,
         instructions,
-        bytes,
-        hot,
-        ignored,
+        bytes: emitted.code.len() as u64,
+        hot: count_hot(&weights),
+        ignored: counts.ignored(),
     })
 }
 

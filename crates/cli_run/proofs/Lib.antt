@@ -8,3 +8,4 @@ mod RunEnds
 pub mod RunModes
 mod SymbolPrograms
 mod SymbolRunAnswering
+mod TabledRanges

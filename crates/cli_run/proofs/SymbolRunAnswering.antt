@@ -2,14 +2,19 @@
 use Rattle.std.proofs.Common.{◌≡◌, refl, subst, sym, ℕ, List, length, arith}
 use Rattle.rb_bytes.specs.declared.fault.Fault.{Fault}
 use Rattle.rv_code.specs.declared.placed.Func.{Func}
+use Rattle.rb_bytes.specs.FirstFault.{IsFree}
+use Rattle.elf_code.specs.CodeFaults.{HasCodeFault}
+use Rattle.elf_code.specs.Functions.{AreFunctions}
 use Rattle.elf_readings.proofs.Readings.{reading_law}
+use Rattle.cfi_rows.specs.Frames.{tabled}
 use Rattle.program.specs.Limits.{IsCodeTooLarge, many_functions, much_code}
-use Rattle.program.specs.Program.{Program, tabled}
+use Rattle.program.specs.Program.{Program}
 use Rattle.program.specs.Refusals.{IsUnreadable, bad_code, not_built, unsound}
 use Rattle.program.specs.declared.unbuilt.Unbuilt.TheVariants.{Frames}
 use Rattle.cli_run.specs.run.SymbolRuns.{symbol_mode, IsRunnableProgram, CanRunSymbols, CannotRunSymbols, large_code, too_long}
 use Rattle.cli_run.specs.run.SymbolRuns.{unreadable}
 use Rattle.cli_run.proofs.RunAnswering.{IsLawful}
+use Rattle.cli_run.proofs.TabledRanges.{same_tabled}
 
 -- as many functions pass the same limits
 by_count : (file : List ℕ) (funcs funcs' : List Func) → length funcs ≡ length funcs' → (place : ℕ) →
@@ -21,17 +26,21 @@ readable : (file : List ℕ) (fault : Fault) → IsUnreadable Frames file fault 
 readable file fault (unsound present) can = can.faultless.plain.sound fault.kind fault.place present.present
 readable file fault (not_built sound frames e) can = can.faultless.plain.no_tables frames
 readable file fault (bad_code plain elf is has) can =
-    let one = reading_law file elf can.elf is can.faultless.read tabled in
-    one.0.free.1 can.faultless.no_fault fault.kind fault.place has.present
+    let one = reading_law file elf can.elf is can.faultless.read (tabled elf) in
+    let free = subst (λ (ranges : List (ℕ × ℕ)). IsFree (HasCodeFault can.elf ranges))
+    (sym (same_tabled file elf can.elf is can.faultless.read)) can.faultless.no_fault in
+    one.0.free.1 free fault.kind fault.place has.present
 
 -- a file that can't be run isn't one that can
 pub not_both : (file : List ℕ) (fault : Fault) → CannotRunSymbols file fault → CanRunSymbols file → ⊥
 not_both file fault (too_long long e) can = let fits = can.faultless.plain.fits in absurd (omega arith)
 not_both file fault (unreadable fits is) can = readable file fault is can
 not_both file fault (large_code elf faultless funcs are limit) can =
-    let one = reading_law file elf can.elf faultless.read can.faultless.read tabled in
+    let one = reading_law file elf can.elf faultless.read can.faultless.read (tabled elf) in
+    let can_are = subst (λ (ranges : List (ℕ × ℕ)). AreFunctions can.elf ranges can.funcs)
+    (sym (same_tabled file elf can.elf faultless.read can.faultless.read)) can.funcs_are in
     can.within limit.place
-    (by_count file funcs can.funcs (one.1.function_count funcs can.funcs are can.funcs_are) limit.place limit.first.present)
+    (by_count file funcs can.funcs (one.1.function_count funcs can.funcs are can_are) limit.place limit.first.present)
 
 pub lawful : IsLawful symbol_mode
 lawful = record {

@@ -1,4 +1,4 @@
-mod Alike
+pub mod Alike
 mod Relocations
 mod Parts
 mod Roles

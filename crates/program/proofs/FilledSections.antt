@@ -1,18 +1,14 @@
 -- A file that was read has a section with such a name, and with contents, where one of those that were read is such.
-use Rattle.std.proofs.Common.{◌≡◌, ◌<◌, ◌≤◌, zero, suc, ℕ, Bool, List, Option, Some, None, true, false, refl, sym, subst, arith, length, inl}
+use Rattle.std.proofs.Common.{◌≡◌, ◌<◌, ℕ, Bool, List, Some, true, false, refl, sym, subst, arith, length, inl}
 use Rattle.std.proofs.Common.{inr}
-use Rattle.std.specs.Prelude.{nat_lt, codes, find, IfSome, Contains}
+use Rattle.std.specs.Prelude.{nat_lt}
 use Rattle.std.specs.List.{list_any, slice_get}
-use Rattle.std.specs.Str.{bytes_eq}
 use Rattle.std.proofs.lemmas.Bool.{and_parts, ltb-true, lt-ltb}
 use Rattle.std.proofs.lemmas.List.Folds.{Any-from_list_any, list_any_at}
 use Rattle.std.proofs.lemmas.Option.{slice_get_read, slice_get_cases}
 use Rattle.elf_image.specs.declared.elf.Elf.{Elf}
 use Rattle.elf_image.specs.declared.section.Section.{Section}
 use Rattle.elf_image.specs.file.ParsedFile.{IsElfOf, IsSectionAt}
-use Rattle.elf_image.specs.file.SectionNames.{is_called, is_meant_by}
-use Rattle.area_room.specs.Need.{HasNoFrames}
-use Rattle.rb_bytes.proofs.Searches.{find-found}
 use Rattle.program.specs.Tables.{IsFilledSection}
 use Rattle.program.specs.internal.ReadSections.{is_filled_section}
 
@@ -49,28 +45,3 @@ module _ (is_name : List ℕ → Bool) (file : List ℕ) (elf : Elf) (is : IsElf
             absurd (cc)
         | inr h ↦ absurd (omega (arith, there, h.0))
       ]
-
-  -- Without one, an unwind table that is loaded has no contents, if its name is such a name.
-  pub no_frames : ((name : List ℕ) → bytes_eq name (codes ".eh_frame") ≡ true → is_name name ≡ true) →
-      ((i : ℕ) → IsFilledSection is_name file i → ⊥) → HasNoFrames elf
-  no_frames frames no_one = by (find (is_called (codes ".eh_frame")) elf.sections.items) refl
-    where
-      of_size : (s : Section) → is_name s.name.now ≡ true → Contains elf.sections.items s → (n : ℕ) → n ≡ s.size → s.size ≡ 0
-      of_size s named there zero same = sym same
-      of_size s named there (suc n) same =
-          let at : slice_get elf.sections.items there.0 ≡ Some s =
-          slice_get_read elf.sections.items (length elf.sections.items) there.0 s refl there.1 (sym there.2) in
-          let header : IsSectionAt file there.0 s = is.sections.each there.0 s at in
-          absurd (no_one there.0 (record {
-            there = omega (arith, there.1, is.sections.count_is);
-            named = subst (λ (name : List ℕ). is_name name ≡ true) header.name named;
-            filled = subst (λ (size : ℕ). 0 < size) header.size (omega (arith, same));
-          }))
-
-      by : (o : Option Section) → find (is_called (codes ".eh_frame")) elf.sections.items ≡ o → IfSome o (λ s. s.size ≡ 0)
-      by None e = tt
-      by (Some s) e =
-          let found = find-found (is_called (codes ".eh_frame")) elf.sections.items s e in
-          let parts =
-          and_parts (bytes_eq s.name.now (codes ".eh_frame")) (is_meant_by (codes ".eh_frame") s) found.0 in
-          of_size s (frames s.name.now parts.0) found.1 s.size refl

@@ -1,5 +1,5 @@
 -- A file that was read, with its code and its blocks.
-use Rattle.std.specs.Prelude.{◌≤◌, ℕ, List, [], length}
+use Rattle.std.specs.Prelude.{◌≤◌, ℕ, List, length}
 use Rattle.rv_code.specs.declared.placed.Block.{Block}
 use Rattle.rv_code.specs.declared.placed.Func.{Func}
 use Rattle.rv_code.specs.layout.Blocks.{AreBlocks}
@@ -10,17 +10,13 @@ use Rattle.elf_image.specs.file.ParsedFile.{IsElfOf}
 use Rattle.elf_code.specs.CodeFaults.{HasCodeFault}
 use Rattle.elf_code.specs.FileCode.{IsCodeOf}
 use Rattle.rb_bytes.specs.FirstFault.{IsFree}
+use Rattle.cfi_rows.specs.Frames.{tabled}
 use Rattle.rv_reloc.specs.declared.refs.Refs.{Refs}
 use Rattle.cfg_build.specs.NamedAddresses.{code_of}
 use Rattle.program.specs.Limits.{file_limit}
 use Rattle.program.specs.Tables.{HasUnbuilt}
 use Rattle.program.specs.declared.program.Program.{Program as ReadProgram}
 use Rattle.program.specs.declared.unbuilt.Unbuilt.{Unbuilt}
-
--- The ranges of code that have exception tables.
--- None is known yet, since files with unwind tables are refused.
-abbrev pub tabled : List (ℕ × ℕ)
-tabled = []
 
 pub record Program : Type 0 where
   -- the file as its reader keeps it
@@ -45,10 +41,10 @@ pub record IsPlain (unbuilt : Unbuilt) (file : List ℕ) : Type 0 where
 pub record IsFaultless (unbuilt : Unbuilt) (file : List ℕ) (elf : Elf) : Type 0 where
   pub plain : IsPlain unbuilt file
   pub read : IsElfOf file elf
-  pub no_fault : IsFree (HasCodeFault elf tabled)
+  pub no_fault : IsFree (HasCodeFault elf (tabled elf))
 
 -- the program of such a file
 pub record IsProgramOf (unbuilt : Unbuilt) (file : List ℕ) (x : Program) : Type 0 where
   pub faultless : IsFaultless unbuilt file x.elf
-  pub code_is : IsCodeOf x.elf tabled x.code
+  pub code_is : IsCodeOf x.elf (tabled x.elf) x.code
   pub blocks_are : AreBlocks x.code x.blocks

@@ -11,7 +11,8 @@ use Rattle.elf_image.specs.declared.elf.Elf.{Elf}
 use Rattle.elf_image.specs.faults.FileFaults.{IsFirstFault, IsSound}
 use Rattle.elf_image.specs.file.ParsedFile.{IsElfOf}
 use Rattle.elf_code.specs.CodeFaults.{HasCodeFault}
-use Rattle.program.specs.Program.{IsPlain, tabled}
+use Rattle.cfi_rows.specs.Frames.{tabled}
+use Rattle.program.specs.Program.{IsPlain}
 use Rattle.program.specs.Tables.{HasUnbuilt}
 use Rattle.program.specs.declared.unbuilt.Unbuilt.{Unbuilt}
 
@@ -20,7 +21,7 @@ use Rattle.program.specs.declared.unbuilt.Unbuilt.{Unbuilt}
 pub data IsUnreadable (unbuilt : Unbuilt) (file : List ℕ) (fault : Fault) : Type 0 where
   unsound : IsFirstFault file fault → IsUnreadable unbuilt file fault
   not_built : IsSound file → HasUnbuilt unbuilt file → fault ≡ fault_at NotBuilt 0 → IsUnreadable unbuilt file fault
-  bad_code : IsPlain unbuilt file → (elf : Elf) → IsElfOf file elf → IsAnswered (HasCodeFault elf tabled) fault →
+  bad_code : IsPlain unbuilt file → (elf : Elf) → IsElfOf file elf → IsAnswered (HasCodeFault elf (tabled elf)) fault →
       IsUnreadable unbuilt file fault
 
 -- a refusal names a fault of which P holds; memory may run out at any time

@@ -1,5 +1,5 @@
 -- Where the new code of a program goes.
-use Rattle.std.specs.Prelude.{◌≡◌, ℕ, Bool, Option, Some}
+use Rattle.std.specs.Prelude.{ℕ, Bool, Option}
 use Rattle.rb_bytes.specs.declared.fault.Fault.{Fault}
 use Rattle.area_room.specs.Room.{area_start_of}
 use Rattle.area_room.specs.Need.{need}

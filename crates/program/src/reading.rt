@@ -7,11 +7,12 @@ ghost use Rattle.program.specs.Refusals.{IsRefusalFor, IsUnreadable};
 use crate::program::Program;
 use crate::tables::has_unbuilt;
 use crate::unbuilt::Unbuilt;
+use cfi_rows::tabled;
 use rb_bytes::fault::{Fault, FaultKind, Refusal};
 use std::alloc::Global;
 
 /// Reads a file with its code, or says which of the faults 1 to 17 is present, the one with the lowest number at its lowest
-/// place; or `NotBuilt`. No range of the code is taken to have an exception table.
+/// place; or `NotBuilt`.
 pub fn read_program<'file>(
     alloc: Global,
     file: &'file [u8],
@@ -25,9 +26,11 @@ pub fn read_program<'file>(
     if has_unbuilt(&elf, unbuilt) {
         return Err(Refusal::Fault(Fault::at(FaultKind::NotBuilt, 0)));
     }
+    let ranges = tabled(alloc, &elf)?;
+    let whole = ranges.as_slice();
     let starts = rv_reloc::starts(alloc, &elf)?;
-    let refs = rv_reloc::references(alloc, &elf, &starts, &[])?;
-    let funcs = func_find::functions(alloc, &elf, &starts, &refs, &[])?;
+    let refs = rv_reloc::references(alloc, &elf, &starts, whole)?;
+    let funcs = func_find::functions(alloc, &elf, &starts, &refs, whole)?;
     let blocks = cfg_build::blocks(alloc, &funcs, &refs, elf.entry)?;
     Ok(Program {
         elf,

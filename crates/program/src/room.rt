@@ -1,6 +1,7 @@
 // Where the new code of a program goes.
 ghost use Rattle.std.specs.Prelude.{◌≡◌, ◌<◌, IfErr, IfOk, None, OnOk, Some};
-ghost use Rattle.area_room.specs.Need.{HasNoFrames};
+ghost use Rattle.rv_code.specs.layout.FunctionLists.{AreLaidOut};
+ghost use Rattle.area_room.specs.Need.{AreBlocksOf};
 ghost use Rattle.program.specs.Program.{program_seen};
 ghost use Rattle.program.specs.Refusals.{IsRefusalFor};
 ghost use Rattle.program.specs.Room as spec;
@@ -10,19 +11,20 @@ use area_room::{area_start_of, need, no_room};
 use rb_bytes::fault::{NoMemory, Refusal};
 use std::alloc::Global;
 
-/// Whether the new code has no room behind the executable segment, so that it gets a segment of its own. The file has no
-/// unwind table with contents.
+/// Whether the new area has no room behind the executable segment, so that it gets a segment of its own.
 pub fn is_tight(alloc: Global, program: &Program<'_>) -> Result<bool, NoMemory>
-    requires { HasNoFrames program.now.elf }
+    requires laid { AreLaidOut program.now.funcs.items }
+    requires blocks { AreBlocksOf program.now.funcs.items program.now.blocks.items }
     ensures { IfOk result (λ tight. tight ≡ spec.is_tight_program (program_seen program.now)) }
 {
     let need = need(alloc, &program.elf, &program.funcs, &program.blocks)?;
     Ok(area_room::is_tight(&program.elf, need))
 }
 
-/// Where the new code starts, or the fault `NoRoom`. The file has no unwind table with contents.
+/// Where the new code starts, or the fault `NoRoom`.
 pub fn new_start(alloc: Global, program: &Program<'_>) -> Result<u64, Refusal>
-    requires { HasNoFrames program.now.elf }
+    requires laid { AreLaidOut program.now.funcs.items }
+    requires blocks { AreBlocksOf program.now.funcs.items program.now.blocks.items }
     ensures start { IfOk result (λ start. start ≡ spec.new_start (program_seen program.now)) }
     ensures some { IfOk result (λ start. 0 < start) }
     ensures room { OnOk result (spec.no_program_room (program_seen program.now) ≡ None) }

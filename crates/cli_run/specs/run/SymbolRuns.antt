@@ -11,8 +11,9 @@ use Rattle.sym_machine.specs.SymStep.{SymSteps}
 use Rattle.sym_machine.specs.declared.outcome.Reason.{Reason}
 use Rattle.sym_machine.specs.declared.value.MemoryByte.{MemoryByte}
 use Rattle.sym_machine.specs.declared.value.Value.{Value}
+use Rattle.cfi_rows.specs.Frames.{tabled}
 use Rattle.program.specs.Limits.{IsCodeTooLarge, IsLimitFault, file_limit}
-use Rattle.program.specs.Program.{IsFaultless, IsProgramOf, Program, tabled}
+use Rattle.program.specs.Program.{IsFaultless, IsProgramOf, Program}
 use Rattle.program.specs.Refusals.{IsUnreadable}
 use Rattle.program.specs.Room.{is_tight_program}
 use Rattle.program.specs.declared.unbuilt.Unbuilt.TheVariants.{Frames}
@@ -35,14 +36,14 @@ pub record CanRunSymbols (file : List ℕ) : Type 0 where
   pub elf : Elf
   pub faultless : IsFaultless Frames file elf
   pub funcs : List Func
-  pub funcs_are : AreFunctions elf tabled funcs
+  pub funcs_are : AreFunctions elf (tabled elf) funcs
   pub within : (place : ℕ) → IsCodeTooLarge file funcs place → ⊥
 
 -- Why a file isn't run: its length comes first, then why it isn't read, and then the size of its code.
 pub data CannotRunSymbols (file : List ℕ) (fault : Fault) : Type 0 where
   too_long : file_limit < length file → fault ≡ fault_at TooLarge 0 → CannotRunSymbols file fault
   unreadable : length file ≤ file_limit → IsUnreadable Frames file fault → CannotRunSymbols file fault
-  large_code : (elf : Elf) → IsFaultless Frames file elf → (funcs : List Func) → AreFunctions elf tabled funcs
+  large_code : (elf : Elf) → IsFaultless Frames file elf → (funcs : List Func) → AreFunctions elf (tabled elf) funcs
       → IsLimitFault (IsCodeTooLarge file funcs) fault → CannotRunSymbols file fault
 
 -- the program of a file that is run

@@ -1,10 +1,13 @@
-use Rattle.std.proofs.Common.{All, ◌≡◌, ◌∙◌, ◌<◌, sym, subst, ℕ, List, rules}
+use Rattle.std.proofs.Common.{All, ◌∙◌, ap, refl, sym, subst, ◌<◌, ◌^◌, ℕ, List, map, rules}
+use Rattle.std.specs.Prelude.{sum}
 use Rattle.std.proofs.lemmas.Result.{err_from_is_err_and}
-use Rattle.edge_profile.specs.PairCounts.{ArePairs}
+use Rattle.edge_profile.specs.PairCounts.{ArePairs, Counted}
 use Rattle.edge_profile.specs.Profile.{profile_counts, pairs_of}
-use Rattle.program.specs.Program.{program_of}
+use Rattle.edge_profile.specs.Weights.{block_weight}
+use Rattle.func_place.specs.Placement.{IsPlacement}
+use Rattle.program.specs.Program.{program_of, program_seen}
 use Rattle.program.specs.declared.unbuilt.Unbuilt.TheVariants.{Tables}
-use Rattle.program.proofs.Programs.{no_frames}
+use Rattle.program.proofs.Programs.{laid_out}
 use Rattle.bolt_core.specs.Limits.{IsTooLarge}
 use Rattle.bolt_core.specs.ProfileOrder.{IsProfileOrder}
 use Rattle.bolt_core.proofs.Accepted.{apart_blocks, blocks_of, input_of, laid_program, misplaced_refusal, no_place_refusal}
@@ -68,31 +71,34 @@ pub parts-requires-clause-weights : goal.parts-requires-clause-weights
 parts-requires-clause-weights c =
     c.deref.ensures.value ∙ c.in_ok-weights.ensures.weights
 
-pub place-requires-clause-funcs : goal.place-requires-clause-funcs
-place-requires-clause-funcs c =
+pub place_by-requires-clause-funcs : goal.place_by-requires-clause-funcs
+place_by-requires-clause-funcs c =
     let input = input_of c.in_ok-program.program c.as_slice-funcs.ensures.value c.as_slice-blocks.ensures.value
     c.in_ok-program.ensures.program c.in_ok-check_lengths.ensures.fit in
     laid_program input
 
-pub place-requires-clause-blocks : goal.place-requires-clause-blocks
-place-requires-clause-blocks c =
+pub place_by-requires-clause-blocks : goal.place_by-requires-clause-blocks
+place_by-requires-clause-blocks c =
     let input = input_of c.in_ok-program.program c.as_slice-funcs.ensures.value c.as_slice-blocks.ensures.value
     c.in_ok-program.ensures.program c.in_ok-check_lengths.ensures.fit in
     stretches input
 
-pub place-requires-clause-apart : goal.place-requires-clause-apart
-place-requires-clause-apart c =
-    let input = input_of c.in_ok-program.program c.as_slice-funcs.ensures.value c.as_slice-blocks.ensures.value
-    c.in_ok-program.ensures.program c.in_ok-check_lengths.ensures.fit in
-    apart_blocks input
-
-pub place-requires-clause-hot : goal.place-requires-clause-hot
-place-requires-clause-hot c =
+pub place_by-requires-clause-hot : goal.place_by-requires-clause-hot
+place_by-requires-clause-hot c =
     c.in_ok-parts.ensures.parts.chains.parts_are.hot_count
 
-pub place-requires-clause-cold : goal.place-requires-clause-cold
-place-requires-clause-cold c =
+pub place_by-requires-clause-cold : goal.place_by-requires-clause-cold
+place_by-requires-clause-cold c =
     c.in_ok-parts.ensures.parts.chains.parts_are.cold_count
+
+pub place_by-requires-clause-weights : goal.place_by-requires-clause-weights
+place_by-requires-clause-weights c =
+    c.deref-2.ensures.value ∙ c.in_ok-weights.ensures.weights
+    ∙ ap (λ (ps : List Counted). map (block_weight ps c.as_slice-funcs.result.now) c.as_slice-blocks.result.now) (sym c.pairs-pairs.ensures.value)
+
+pub place_by-requires-clause-room : goal.place_by-requires-clause-room
+place_by-requires-clause-room c =
+    subst (λ (ws : List ℕ). sum ws < 2 ^ 101) (sym c.deref-2.ensures.value) c.in_ok-weights.ensures.few
 
 pub returns-in_err-plan-clause-refused : goal.returns-in_err-plan-clause-refused
 returns-in_err-plan-clause-refused c =
@@ -101,9 +107,14 @@ returns-in_err-plan-clause-refused c =
     let p = err_from_is_err_and c.from_residual-in_err-plan.result c.from_residual-in_err-plan.ensures.1 in
     rw (p.1, p.2) (misplaced_refusal input c.in_err-plan.field-0.0 c.in_err-plan.ensures.fault)
 
-pub new_start-requires : goal.new_start-requires
-new_start-requires c =
-    no_frames Tables c.args.file.now c.in_ok-program.program.elf c.in_ok-program.ensures.program.faultless
+pub new_start-requires-clause-laid : goal.new_start-requires-clause-laid
+new_start-requires-clause-laid c =
+    let is = c.in_ok-program.ensures.program in
+    laid_out Tables c.args.file.now c.in_ok-program.program.elf is.faultless c.in_ok-program.program.funcs.items is.code_is.funcs
+
+pub new_start-requires-clause-blocks : goal.new_start-requires-clause-blocks
+new_start-requires-clause-blocks c =
+    ((program_seen c.in_ok-program.program).code, refl, c.in_ok-program.ensures.program.blocks_are)
 
 pub returns-in_err-start-clause-refused : goal.returns-in_err-start-clause-refused
 returns-in_err-start-clause-refused c =
@@ -131,8 +142,8 @@ returns-in_err-check_sizes-clause-refused c =
     let parts_are = parts_by input (profile_counts c.in_ok-counts.counts) (pairs_of c.in_ok-counts.counts) c.in_ok-parts.parts
     c.in_ok-parts.ensures.parts c.in_ok-counts.ensures.counts in
     let p = err_from_is_err_and c.from_residual-in_err-check_sizes.result c.from_residual-in_err-check_sizes.ensures.1 in
-    rw (p.1, p.2) (too_large_refusal input stands (pairs_of c.in_ok-counts.counts) c.in_ok-parts.parts parts_are c.deref-2.result.now
-    (c.deref-2.ensures.value ∙ c.in_ok-cold.ensures) c.in_err-check_sizes.field-0.0 c.in_err-check_sizes.ensures.refused)
+    rw (p.1, p.2) (too_large_refusal input stands (pairs_of c.in_ok-counts.counts) c.in_ok-parts.parts parts_are c.deref-3.result.now
+    (c.deref-3.ensures.value ∙ c.in_ok-cold.ensures) c.in_err-check_sizes.field-0.0 c.in_err-check_sizes.ensures.refused)
 
 pub moved_code-requires-clause-laid : goal.moved_code-requires-clause-laid
 moved_code-requires-clause-laid c =
@@ -146,7 +157,7 @@ moved_code-requires-clause-direct c =
     c.in_ok-program.ensures.program c.in_ok-check_lengths.ensures.fit in
     let bytes = all_bytes c.args.file.now c.type_inv.file in
     direct c.in_ok-program.program.elf _ (sound_code c.in_ok-program.program.elf c.as_slice-funcs.result.now c.in_ok-program.program.refs
-    c.as_slice-blocks.result.now input bytes)
+    c.as_slice-blocks.result.now input bytes) c.as_slice-blocks.result.now c.in_ok-plan.ensures.free
 
 pub moved_code-requires-clause-insts : goal.moved_code-requires-clause-insts
 moved_code-requires-clause-insts c =
@@ -261,18 +272,19 @@ returns-clause-rewritten c =
     let ordered : IsProfileOrder (program_of c.in_ok-program.program.elf c.as_slice-funcs.result.now c.in_ok-program.program.refs c.as_slice-blocks.result.now) c.args.profile.now (pairs_of c.in_ok-counts.counts) c.in_ok-parts.parts
     c.in_ok-plan.plan.order.items = record {
       parts_are = parts_are;
-      placed = c.in_ok-plan.ensures.order;
+      placed = subst (λ (ps : List Counted). IsPlacement c.as_slice-funcs.result.now c.as_slice-blocks.result.now c.in_ok-parts.parts ps (block_weight ps c.as_slice-funcs.result.now)
+          c.in_ok-plan.plan.order.items) c.pairs-pairs.ensures.value c.in_ok-plan.ensures.order;
     } in
     rewritten c.in_ok-program.program.elf c.as_slice-funcs.result.now c.in_ok-program.program.refs
     c.as_slice-blocks.result.now input bytes stands c.in_ok-start.start start_is c.in_ok-plan.plan.order.items
-    c.in_ok-map.map c.in_ok-map.emitted c.in_ok-map.ensures c.deref-3.result.now c.in_ok-written.written.items
-    (subst (λ (bs : List ℕ). All (λ b. b < 256) bs) c.deref-4.ensures.value c.are_bytes.ensures)
+    c.in_ok-map.map c.in_ok-map.emitted c.in_ok-map.ensures c.deref-4.result.now c.in_ok-written.written.items
+    (subst (λ (bs : List ℕ). All (λ b. b < 256) bs) c.deref-5.ensures.value c.are_bytes.ensures)
     c.in_ok-written.ensures.written c.in_ok-written.ensures.tables (pairs_of c.in_ok-counts.counts) c.in_ok-parts.parts ordered
-    (c.deref-3.ensures.value ∙ c.in_ok-cold.ensures)
+    (c.deref-4.ensures.value ∙ c.in_ok-cold.ensures)
     (subst (λ (cs : List ℕ). (place : ℕ) → IsTooLarge c.in_ok-program.program.elf c.as_slice-funcs.result.now cs place → ⊥)
-    (c.deref-2.ensures.value ∙ sym c.deref-3.ensures.value)
+    (c.deref-3.ensures.value ∙ sym c.deref-4.ensures.value)
     c.in_ok-check_sizes.ensures.within)
-    c.in_ok-instructions.instructions c.len-bytes.result c.count_hot-hot.result c.ignored-ignored.result
+    c.in_ok-instructions.instructions c.len.result c.count_hot.result c.ignored.result
     c.in_ok-instructions.ensures (search rules)
-    (hot_counted (pairs_of c.in_ok-counts.counts) c.as_slice-funcs.result.now c.as_slice-blocks.result.now c.deref-5.result.now c.in_ok-weights.weights.items c.count_hot-hot.result c.deref-5.ensures.value
-    c.in_ok-weights.ensures.weights c.count_hot-hot.ensures) (c.ignored-ignored.ensures ∙ c.in_ok-counts.ensures.ignored)
+    (hot_counted (pairs_of c.in_ok-counts.counts) c.as_slice-funcs.result.now c.as_slice-blocks.result.now c.deref-6.result.now c.in_ok-weights.weights.items c.count_hot.result c.deref-6.ensures.value
+    c.in_ok-weights.ensures.weights c.count_hot.ensures) (c.ignored.ensures ∙ c.in_ok-counts.ensures.ignored)

@@ -11,9 +11,10 @@ use Rattle.sym_machine.specs.SymStep.{SymSteps}
 use Rattle.sym_machine.specs.MachineState.{state_of, answered, funcs_of}
 use Rattle.sym_machine.specs.declared.machine.SymMachine.{SymMachine}
 use Rattle.cli_run.specs.RunArgs.{run_given}
-use Rattle.program.specs.Program.{Program, program_seen, tabled}
+use Rattle.cfi_rows.specs.Frames.{tabled}
+use Rattle.program.specs.Program.{Program, program_seen}
 use Rattle.program.specs.declared.unbuilt.Unbuilt.TheVariants.{Frames}
-use Rattle.program.proofs.Programs.{laid_out, no_frames}
+use Rattle.program.proofs.Programs.{laid_out}
 use Rattle.cli_run.specs.run.Phases.{Closed}
 use Rattle.cli_run.specs.run.SymbolRuns.{symbol_machine}
 use Rattle.cli_base.specs.declared.status.Status.{Status}
@@ -37,8 +38,13 @@ started m elf given tight given_cells cells args same_tight same_cells loaded in
     loaded input ∙ ap (λ cs. sym_start elf cs given args input) same_cells
     ∙ ap (λ (t : Bool). sym_start elf cells t args input) same_tight
 
-pub is_tight-requires : goal.is_tight-requires
-is_tight-requires g c = no_frames Frames _ c.args.program.now.elf c.requires.program.program.faultless
+pub is_tight-requires-clause-laid : goal.is_tight-requires-clause-laid
+is_tight-requires-clause-laid g c =
+    let is = c.requires.program.program in
+    laid_out Frames _ c.args.program.now.elf is.faultless c.args.program.now.funcs.items is.code_is.funcs
+
+pub is_tight-requires-clause-blocks : goal.is_tight-requires-clause-blocks
+is_tight-requires-clause-blocks g c = ((program_seen c.args.program.now).code, refl, c.requires.program.program.blocks_are)
 
 pub load-requires-clause-laid_out : goal.load-requires-clause-laid_out
 load-requires-clause-laid_out g c =
@@ -50,7 +56,8 @@ pub load-requires-clause-cells : goal.load-requires-clause-cells
 load-requires-clause-cells g c =
     let is = c.requires.program.program in
     subst (λ (cells : List CodeCell). All (λ cell. cell.addr + cell.width ≤ 2 ^ 64) cells) (sym c.as_slice-cells.ensures.value)
-    (cells_end c.args.program.now.elf.file.now c.args.program.now.elf is.faultless.read is.faultless.plain.sound tabled
+    (cells_end c.args.program.now.elf.file.now c.args.program.now.elf is.faultless.read is.faultless.plain.sound
+    (tabled c.args.program.now.elf)
     c.args.program.now.refs.cells.items is.code_is.cells)
 
 pub returns-clause-ran : goal.returns-clause-ran
