@@ -120,9 +120,9 @@ def named_names(size):
     return file.bytes(), b"".join(lines)
 
 
-def cold_names(size):
+def cold_names(size, most=1 << 32):
     """Each function has a part that didn't run, which gets a symbol of its own with the name of the function."""
-    count = size // 2 // 80
+    count = min(size // 2 // 80, most)
     text = long_name(size // 2)
     code = (CHOICE + 4 * bytes.fromhex("13000000") + RETURN) * count
     file = File(code)
@@ -131,6 +131,11 @@ def cold_names(size):
     file.add_symbols([(starts[k], BASE + TEXT + each * k, each) for k in range(count)], b"\0" + text + b"\0")
     lines = [b"1 @%x 0 1 @%x 4 0 9\n" % (2 * (BASE + TEXT + each * k,)) for k in range(count)]
     return file.bytes(), b"".join(lines)
+
+
+def few_cold_names(size):
+    """As many as are written: their names have 13 times the bytes of the file."""
+    return cold_names(size, 26)
 
 
 def section_names(size):
@@ -144,13 +149,13 @@ def section_names(size):
     return file.bytes(), b""
 
 
-def headers_over(size, kind, table, entsize, step=0, infos=(1,)):
+def headers_over(size, kind, table, entsize, step=0, infos=(1,), most=MOST_SECTIONS):
     """Many section headers over one table, half of the file each; each begins so many bytes after the one before."""
     file = File(RETURN)
     file.add_symbols([(0, BASE + TEXT, 4)], b"\0")
     names = len(file.headers) - 1
     offset = file.put(table)
-    for k in range(min(size // 2 // 64, MOST_SECTIONS)):
+    for k in range(min(size // 2 // 64, most)):
         info = infos[k % len(infos)]
         file.add_header(kind, offset + step * k, len(table) - step * k, link=names, info=info, entsize=entsize)
     return file.bytes(), b""
@@ -186,17 +191,24 @@ def text_headers(size):
     return headers_over(size, SHT_PROGBITS, bytes(size // 2), 0)
 
 
+def few_text_headers(size):
+    """As many as are written: their contents have 15 times the bytes of the file."""
+    return headers_over(size, SHT_PROGBITS, bytes(size // 2), 0, most=15)
+
+
 KINDS = {
     "symbol-names": symbol_names,
     "like-names": like_names,
     "named-names": named_names,
     "cold-names": cold_names,
+    "few-cold-names": few_cold_names,
     "section-names": section_names,
     "relocation-headers": relocation_headers,
     "relocation-ends": relocation_ends,
     "relocation-targets": relocation_targets,
     "symbol-headers": symbol_headers,
     "text-headers": text_headers,
+    "few-text-headers": few_text_headers,
 }
 
 

@@ -1,5 +1,5 @@
 pub mod JoinedParts
-mod MoreNames
+pub mod MoreNames
 pub mod Patches
 pub mod ReadBack
 pub mod SameBytes

@@ -1,16 +1,18 @@
 -- Where the contents of a section are, by what is known of a file's sections.
-use Rattle.std.proofs.Common.{◌≡◌, refl, ap, ◌∙◌, cond, ℕ, ◌+◌, suc, Bool, not, Option, Some, None, List, [], ◌∷◌, length, String}
+use Rattle.std.proofs.Common.{◌≡◌, refl, ap, subst, ◌∙◌, cond, ℕ, ◌+◌, suc, Bool, not, Option, Some, None, List, [], ◌∷◌, length, String}
 use Rattle.std.proofs.Common.{Vec}
 use Rattle.std.specs.Prelude.{nat_lt, map, position, string_bytes}
 use Rattle.std.specs.List.{position_or_len}
 use Rattle.elf_image.specs.declared.elf.Elf.{Elf}
 use Rattle.elf_image.specs.declared.section.Section.{Section}
+use Rattle.elf_image.specs.declared.segment.Segment.{Segment}
 use Rattle.elf_image.specs.file.Header.{e_shstrndx}
 use Rattle.elf_write.specs.declared.area.Area.{Area}
 use Rattle.elf_write.specs.declared.area.Shift.{Shift}
 use Rattle.elf_write.specs.declared.sections.Sections.{Sections}
 use Rattle.elf_write.specs.Contents.{contents_by, contents_of, is_at, own_contents, place_replaced, table_for}
-use Rattle.elf_write.specs.KnownSections.{Knows}
+use Rattle.elf_write.specs.KeptBytes.{Keeps}
+use Rattle.elf_write.specs.KnownSections.{IsOwnOf, Knows}
 use Rattle.elf_write.specs.NameTables.{place_of_symbols, place_of_names}
 
 position_or_len-map : {A B : Type 0} (p : B → Bool) (f : A → B) (xs : List A) →
@@ -47,3 +49,16 @@ contents-known elf tables area shift known index s knows =
     ∙ ap (λ (o : Option ℕ). contents_by (e_shstrndx elf.file.now)
     (place_of_symbols elf) o given own index s) knows.own.symbol_names
     ∙ ap (λ (o : Option ℕ). contents_by (e_shstrndx elf.file.now) (place_of_symbols elf) (place_of_names elf) o own index s) same
+
+-- what is known of lists that are those of the file
+pub knows : {Y Z : Type 0} (elf : Elf) (tables : List (String Y × Vec ℕ Z)) (area : Area) (shift : Shift) (known : Sections)
+    (sections : List Section) (segments : List Segment) → known.elf.now ≡ elf → IsOwnOf elf known.own →
+    sections ≡ elf.sections.items → segments ≡ elf.segments.items →
+    known.replaced.now ≡ map (λ t. place_replaced sections (string_bytes t.0)) tables →
+    Keeps segments area shift known.kept.now → Knows elf tables area shift known
+knows elf tables area shift known sections segments elf_is own same_sections same_segments replaced kept = record {
+  elf_is = elf_is;
+  own = own;
+  replaced = replaced ∙ ap (λ (xs : List Section). map (λ t. place_replaced xs (string_bytes t.0)) tables) same_sections;
+  kept = subst (λ (ps : List Segment). Keeps ps area shift known.kept.now) same_segments kept;
+}

@@ -1,4 +1,6 @@
+mod AddedSections
 mod AllWritten
+mod AreaTables
 mod CellLists
 mod CellPatches
 mod CellPlaces
@@ -14,6 +16,7 @@ mod FragmentLists
 pub mod FreeRange
 mod FromMade
 mod FrontWritten
+mod GivenTables
 mod Growing
 mod HeaderExamples
 mod HeldNumbers
@@ -31,17 +34,21 @@ mod Loads
 mod MadeHeaders
 mod MadeInput
 mod MadeSegments
+mod NamedParts
 mod NewSegments
 mod Pairs
 mod PlacesWritten
 mod Positions
 mod RangesWithNew
+mod ReadFiles
 mod ReadHeaders
 mod SameBreak
 mod SectionOrder
 mod SoundFiles
 mod StandingContents
+mod SymbolsRead
 mod TableBytes
 mod TableKept
+pub mod TablesStand
 mod Tightness
 mod WrittenImages

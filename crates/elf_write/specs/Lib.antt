@@ -4,6 +4,7 @@ pub mod CarriedBytes
 pub mod CellNumbers
 pub mod ColdSymbols
 pub mod Contents
+pub mod EntryNames
 pub mod FileLayout
 pub mod FileParts
 pub mod FirstNames
@@ -30,6 +31,7 @@ pub mod RangeTree
 pub mod RangeTreeDepth
 pub mod RangesWithNew
 pub mod Source
+pub mod TablePlaces
 pub mod TableSizes
 pub mod WrittenFile
 pub mod WrittenSections

@@ -1,5 +1,6 @@
 // The new area, and where the loaded bytes of the input are beside it.
-ghost use Rattle.std.specs.Prelude.{◌≡◌, ◌+◌, ◌^◌, ◌<◌, IfOk};
+ghost use Rattle.std.specs.Prelude.{◌≡◌, ◌+◌, ◌^◌, ◌<◌, ℕ, IfOk, Some};
+ghost use Rattle.elf_image.specs.memory.Break.{rounded_up};
 ghost use Rattle.elf_image.specs.memory.CodeSegment.{executable_segment, executable_end};
 ghost use Rattle.elf_write.specs.Area as spec;
 
@@ -8,6 +9,7 @@ use crate::unwritable::Unwritable;
 use area_room::{area_start_of, greatest_align, new_segment_start};
 use elf_image::Segment;
 use elf_image::segment::PT_LOAD;
+use rb_bytes::fault::NoMemory;
 
 /// The new area: the new code, and behind it the tables that are loaded.
 #[derive(Clone, Copy, PartialEq, Eq, Debug)]
@@ -152,6 +154,28 @@ pub fn area_of(
         index: table_start(4, frames_end, index)?,
         end: table_end(4, frames_end, index)?,
     })
+}
+
+/// The addresses of an unwind table of so many bytes, and of its index, in an area that starts at an address with so many bytes
+/// of code.
+pub fn table_places(start: u64, code: usize, frames: usize) -> Result<(u64, u64), NoMemory>
+    ensures frames { IfOk result (λ places. spec.table_start 8 (start + code) (Some frames) ≡ Some places.0) }
+    ensures index { IfOk result (λ places. (index : ℕ) →
+        spec.table_start 4 (spec.table_end 8 (start + code) (Some frames)) (Some index) ≡ Some places.1) }
+{
+    match places_behind(start, code, frames) {
+        Ok(places) => Ok(places),
+        Err(_) => Err(NoMemory),
+    }
+}
+
+fn places_behind(start: u64, code: usize, frames: usize) -> Result<(u64, u64), Unwritable>
+    ensures frames { IfOk result (λ places. rounded_up 8 (start + code) ≡ places.0) }
+    ensures index { IfOk result (λ places. rounded_up 4 (rounded_up 8 (start + code) + frames) ≡ places.1) }
+{
+    let at = checked_rounded_up(8, sum(start, code as u64)?)?;
+    let index_at = checked_rounded_up(4, sum(at, frames as u64)?)?;
+    Ok((at, index_at))
 }
 
 /// Where bytes of the input are in the written file: those from an offset on move.

@@ -4,8 +4,10 @@
 mod area;
 mod area_bytes;
 mod cell_numbers;
+mod entry_names;
 mod first_names;
 mod fragments;
+mod given_places;
 mod header_check;
 mod header_fields;
 mod headers;
@@ -36,6 +38,8 @@ mod unwritable;
 mod weights;
 mod writer;
 
+pub use area::table_places;
 pub use area_room::{area_start_of, is_tight, need, no_room, room, room_above};
+pub use sections::Table;
 pub use weights::name_weight;
 pub use writer::write;

@@ -8,6 +8,7 @@ ghost use Rattle.elf_write.specs.NewNames.{HaveNewNames};
 use crate::area::Area;
 use crate::first_names::first_names;
 use crate::headers::bytes_of;
+use crate::name_parts::behind;
 use crate::name_tables::{place_of_names, place_of_section_names};
 use crate::old_name::{is_renamed, old_prefix};
 use crate::section_tables::{DEBUG_RNGLISTS, SectionTables};
@@ -19,18 +20,7 @@ use rv_code::Func;
 use std::alloc::Global;
 use std::collections::BTreeMap;
 
-// What follows others in bytes that begin with them.
-fn behind<'a>(bytes: &'a [u8], front: &[u8]) -> Option<&'a [u8]>
-    ensures { IfSome result (λ rest. bytes.now ≡ front.now ++ rest.now) }
-{
-    if bytes.len() < front.len() {
-        return None;
-    }
-    let (first, rest) = bytes.split_at(front.len());
-    if first == front { Some(rest) } else { None }
-}
-
-// The same of a name of two parts, which ends with a zero byte.
+// What follows a name of two parts, which ends with a zero byte, in bytes that begin with it.
 fn behind_name<'a>(bytes: &'a [u8], front: &[u8], back: &[u8]) -> Option<&'a [u8]>
     ensures { IfSome result (λ rest. bytes.now ≡ spec.ended (front.now ++ back.now) ++ rest.now) }
 {

@@ -1,13 +1,23 @@
-// Names that are made of two parts.
-ghost use Rattle.std.specs.Prelude.{◌≡◌, ◌++◌, IsTrue};
+// Names that are made of two parts, and what follows others.
+ghost use Rattle.std.specs.Prelude.{◌≡◌, ◌++◌, IfSome, IsTrue};
+
+/// What follows others in bytes that begin with them.
+pub fn behind<'a>(bytes: &'a [u8], front: &[u8]) -> Option<&'a [u8]>
+    ensures { IfSome result (λ rest. bytes.now ≡ front.now ++ rest.now) }
+{
+    if bytes.len() < front.len() {
+        return None;
+    }
+    let (first, rest) = bytes.split_at(front.len());
+    if first == front { Some(rest) } else { None }
+}
 
 /// Whether a name is that of two parts.
 pub fn is_joined(name: &[u8], front: &[u8], back: &[u8]) -> bool
     ensures { IsTrue result → name.now ≡ front.now ++ back.now }
 {
-    if name.len() < front.len() {
-        return false;
+    match behind(name, front) {
+        Some(rest) => rest == back,
+        None => false,
     }
-    let (first, rest) = name.split_at(front.len());
-    first == front && rest == back
 }

@@ -27,6 +27,10 @@ use elf_parts::spell::{SymbolEntry, put_sections};
 use rv_code::Func;
 use std::alloc::Global;
 
+// How many times the bytes of the input the tables of names and the copied contents may take together. Where no bytes are
+// shared they take about once as many.
+const MOST_COPIES: u64 = 16;
+
 /// What the sections of a written file are made of.
 #[derive(Clone, Copy)]
 pub struct SectionSource<'a> {
@@ -189,7 +193,8 @@ impl<'a> SectionSource<'a> {
         Ok((sections.contents(alloc)?, sections.order(alloc)?))
     }
 
-    // Before names are made and contents copied: whether they fit a file.
+    // Before names are made and contents copied: whether they fit a file. Names may be ends of one text and many headers
+    // name the same bytes, so what a small file asks for may grow with its square; such a file isn't written.
     fn check_sizes(&self, alloc: Global, contents: &[Contents]) -> Result<(), Unwritable>
         requires { AreLaidOut self.now.funcs.now }
     {
@@ -198,6 +203,9 @@ impl<'a> SectionSource<'a> {
             if matches!(contents, Contents::Copied) {
                 size = size.saturating_add(section.size);
             }
+        }
+        if size > (self.elf.file.len() as u64).saturating_mul(MOST_COPIES) {
+            return Err(Unwritable::TooLarge);
         }
         limited(size)?;
         Ok(())

@@ -1,23 +1,25 @@
 // Whether a file that was written has the sections, program headers, names, symbols and layout that it must have, as
 // they are read back.
-ghost use Rattle.std.specs.Prelude.{◌≡◌, IfOk, IsTrue};
+ghost use Rattle.std.specs.Prelude.{◌≡◌, IfOk, IsTrue, length};
 ghost use Rattle.rv_code.specs.layout.FunctionLists.{AreLaidOut};
 ghost use Rattle.elf_image.specs.faults.FileFaults.{IsSound};
 ghost use Rattle.elf_image.specs.file.Header.{e_shstrndx};
-ghost use Rattle.elf_image.specs.file.ParsedFile.{IsElfOf};
 ghost use Rattle.elf_write.specs.FragmentLists.{AreFragments};
 ghost use Rattle.elf_write.specs.Area.{shift_of};
 ghost use Rattle.elf_write.specs.AreaTables.{AreaStands};
+ghost use Rattle.elf_write.specs.EntryNames.{WasRead};
 ghost use Rattle.elf_write.specs.FileLayout.{HasFileLayout};
 ghost use Rattle.elf_write.specs.HeaderPlaces.{HasNewHeaders};
 ghost use Rattle.elf_write.specs.KnownSections.{Knows};
+ghost use Rattle.elf_write.specs.NameTables as spec;
 ghost use Rattle.elf_write.specs.NewNames.{HaveNewNames};
 ghost use Rattle.elf_write.specs.NewSections.{AreNewSections};
-ghost use Rattle.elf_write.specs.NewSymbols.{HaveNewSymbols, bytes_behind};
+ghost use Rattle.elf_write.specs.NewSymbols.{AreNewSymbols, HaveNewSymbols, bytes_behind};
 ghost use Rattle.elf_write.specs.NewTables.{HasNewTables, area_for};
 
 use crate::area::{Area, Shift, area_of};
 use crate::area_bytes::table_size;
+use crate::entry_names::KeptNames;
 use crate::header_check::has_headers;
 use crate::headers::bytes_of;
 use crate::kept_bytes::KeptBytes;
@@ -70,9 +72,26 @@ fn has_places(alloc: Global, tables: &SectionTables, known: &Sections) -> Result
     has_headers(alloc, tables, known)
 }
 
+// Whether the sections are those that the file must have.
+fn has_new_sections(tables: &SectionTables, known: &Sections) -> bool
+    requires old { WasRead tables.now.elf.now }
+    requires new { WasRead tables.now.new.now }
+    requires known { Knows tables.now.elf.now tables.now.tables.now tables.now.area tables.now.shift known.now }
+    requires names { e_shstrndx tables.now.new.now.file.now ≡ e_shstrndx tables.now.elf.now.file.now }
+    ensures { IsTrue result →
+        AreaStands tables.now.area tables.now.tables.now tables.now.code.now tables.now.new.now.file.now →
+        AreNewSections tables.now.elf.now tables.now.new.now tables.now.tables.now tables.now.area tables.now.shift
+        tables.now.code.now }
+{
+    let names = KeptNames::of_sections(tables.elf, tables.new);
+    tables.are_new(known, &names)
+}
+
 // Whether the sections, their layout and the program headers are those that the file must have.
 fn has_sections(alloc: Global, tables: &SectionTables) -> Result<bool, Unwritable>
-    requires { e_shstrndx tables.now.new.now.file.now ≡ e_shstrndx tables.now.elf.now.file.now }
+    requires old { WasRead tables.now.elf.now }
+    requires new { WasRead tables.now.new.now }
+    requires names { e_shstrndx tables.now.new.now.file.now ≡ e_shstrndx tables.now.elf.now.file.now }
     ensures sections { IfOk result (λ holds. IsTrue holds →
         AreaStands tables.now.area tables.now.tables.now tables.now.code.now tables.now.new.now.file.now →
         AreNewSections tables.now.elf.now tables.now.new.now tables.now.tables.now tables.now.area tables.now.shift
@@ -92,7 +111,7 @@ fn has_sections(alloc: Global, tables: &SectionTables) -> Result<bool, Unwritabl
         replaced: &replaced,
         kept: &kept,
     };
-    if !tables.are_new(&known) {
+    if !has_new_sections(tables, &known) {
         return Ok(false);
     }
     has_places(alloc, tables, &known)
@@ -108,36 +127,83 @@ fn bytes_behind<'a>(elf: &Elf<'a>, table: &Section) -> &'a [u8]
     &bytes[end.min(bytes.len())..]
 }
 
+// Whether two files have the same bytes behind the last whole symbols of their tables.
+fn has_same_rest(elf: &Elf, table: &Section, new: &Elf, new_table: &Section) -> bool
+    ensures { IsTrue result → bytes_behind new.now new_table.now ≡ bytes_behind elf.now table.now }
+{
+    bytes_behind(new, new_table) == bytes_behind(elf, table)
+}
+
+// Whether two files have their symbol tables at the same index.
+fn has_same_place(elf: &Elf, new: &Elf) -> bool
+    ensures { IsTrue result → spec.place_of_symbols new.now ≡ spec.place_of_symbols elf.now }
+{
+    place_of_symbols(new) == place_of_symbols(elf)
+}
+
+// How many sections the input has: the index of that of the new code.
+fn section_count(elf: &Elf) -> Result<u16, Unwritable>
+    ensures { IfOk result (λ count. count ≡ length elf.now.sections.items) }
+{
+    match u16::try_from(elf.sections.len()) {
+        Ok(count) => Ok(count),
+        Err(_) => Err(Unwritable::Layout),
+    }
+}
+
+// Whether the symbols of two tables are what they must be.
+fn has_symbols_of(
+    alloc: Global,
+    source: &SectionSource,
+    new: &Elf,
+    table: &Section,
+    new_table: &Section,
+) -> Result<bool, Unwritable>
+    requires old { WasRead source.now.elf.now }
+    requires new { WasRead new.now }
+    requires laid_out { AreLaidOut source.now.funcs.now }
+    requires fragments { AreFragments source.now.funcs.now source.now.map.now source.now.fragments.now }
+    ensures { IfOk result (λ holds. IsTrue holds →
+        AreNewSymbols source.now.elf.now.symbols.items new.now.symbols.items source.now.funcs.now source.now.map.now
+        source.now.cold.now (length source.now.elf.now.sections.items) table.now new_table.now) }
+{
+    let elf = source.elf;
+    let code = CodeSymbols {
+        funcs: source.funcs,
+        map: source.map,
+        fragments: source.fragments,
+        text: section_count(elf)?,
+    };
+    let symbols = SymbolTables {
+        old: &elf.symbols,
+        new: &new.symbols,
+        code,
+        cold: source.cold,
+    };
+    let names = KeptNames::of_symbols(elf, new);
+    symbols.are_new(alloc, &names, table, new_table)
+}
+
 // Whether the symbols are those that the file must have.
 fn has_symbols(alloc: Global, source: &SectionSource, new: &Elf) -> Result<bool, Unwritable>
+    requires old { WasRead source.now.elf.now }
+    requires new { WasRead new.now }
     requires laid_out { AreLaidOut source.now.funcs.now }
     requires fragments { AreFragments source.now.funcs.now source.now.map.now source.now.fragments.now }
     ensures { IfOk result (λ holds. IsTrue holds →
         HaveNewSymbols source.now.elf.now new.now source.now.funcs.now source.now.map.now source.now.cold.now) }
 {
     let elf = source.elf;
-    if place_of_symbols(new) != place_of_symbols(elf) {
+    if !has_same_place(elf, new) {
         return Ok(false);
     }
-    let (Some(table), Some(new_table)) = (symbols_section(elf), symbols_section(new)) else {
+    let (Some(table), Some(new_table)) = (symbols_section(elf), symbols_section(&*new)) else {
         return Ok(true);
     };
-    if bytes_behind(new, new_table) != bytes_behind(elf, table) {
+    if !has_same_rest(elf, table, new, new_table) {
         return Ok(false);
     }
-    let code = CodeSymbols {
-        funcs: source.funcs,
-        map: source.map,
-        fragments: source.fragments,
-        text: u16::try_from(elf.sections.len()).map_err(|_| Unwritable::Layout)?,
-    };
-    let tables = SymbolTables {
-        old: &elf.symbols,
-        new: &new.symbols,
-        code,
-        cold: source.cold,
-    };
-    tables.are_new(alloc, table, new_table)
+    has_symbols_of(alloc, source, new, table, new_table)
 }
 
 // Whether the names and the symbols are those that the file must have.
@@ -146,6 +212,8 @@ fn has_names_and_symbols(
     source: &SectionSource,
     tables: &SectionTables,
 ) -> Result<bool, Unwritable>
+    requires old { WasRead source.now.elf.now }
+    requires new { WasRead tables.now.new.now }
     requires laid_out { AreLaidOut source.now.funcs.now }
     requires fragments { AreFragments source.now.funcs.now source.now.map.now source.now.fragments.now }
     requires input { tables.now.elf.now ≡ source.now.elf.now }
@@ -169,6 +237,8 @@ fn has_new_tables(
     tight: bool,
     new: &Elf,
 ) -> Result<bool, Unwritable>
+    requires old { WasRead source.now.elf.now }
+    requires new { WasRead new.now }
     requires names { e_shstrndx new.now.file.now ≡ e_shstrndx source.now.elf.now.file.now }
     requires laid_out { AreLaidOut source.now.funcs.now }
     requires fragments { AreFragments source.now.funcs.now source.now.map.now source.now.fragments.now }
@@ -217,6 +287,7 @@ pub fn is_accepted(
     tight: bool,
     file: &[u8],
 ) -> Result<bool, Unwritable>
+    requires old { WasRead source.now.elf.now }
     requires names { e_shstrndx file.now ≡ e_shstrndx source.now.elf.now.file.now }
     requires laid_out { AreLaidOut source.now.funcs.now }
     requires fragments { AreFragments source.now.funcs.now source.now.map.now source.now.fragments.now }

@@ -1,9 +1,11 @@
 // Whether a file that was written has the sections that it must have, as they are read back. gABI, "Section Header".
 ghost use Rattle.std.specs.Prelude.{◌≡◌, IsTrue, length, take};
 ghost use Rattle.elf_write.specs.NewSections as spec;
-ghost use Rattle.elf_write.specs.OldNames.{new_name};
+ghost use Rattle.elf_write.specs.EntryNames.{name_of};
+ghost use Rattle.elf_write.specs.OldNames.{new_name, old_name};
 
 use crate::area::{Area, Shift};
+use crate::entry_names::KeptNames;
 use crate::headers::{SHT_NULL, bytes_of, without_code};
 use crate::name_parts::is_joined;
 use crate::old_name::{is_renamed, old_prefix};
@@ -12,14 +14,23 @@ use elf_image::Section;
 use elf_image::relocation::SHT_RELA;
 use elf_image::section::{SHT_NOBITS, SHT_PROGBITS, SHT_STRTAB};
 
-/// Whether a name is the one that a section of the input gets.
-pub fn is_new_name(s: &Section, name: &[u8]) -> bool
-    ensures { IsTrue result → name.now ≡ new_name s.now }
+// Whether a name is that of a section of the input which is renamed.
+fn is_old_name(s: &Section, name: &[u8]) -> bool
+    ensures { IsTrue result → name.now ≡ old_name s.now.name.now }
+{
+    is_joined(name, old_prefix(s.name), s.name)
+}
+
+/// Whether the section of an index has the name that the input's of this index gets.
+pub fn has_new_name(names: &KeptNames, index: usize, s: &Section, n: &Section) -> bool
+    requires old { s.now.name.now ≡ name_of names.now.old index }
+    requires new { n.now.name.now ≡ name_of names.now.new index }
+    ensures { IsTrue result → n.now.name.now ≡ new_name s.now }
 {
     if is_renamed(s) {
-        is_joined(name, old_prefix(s.name), s.name)
+        is_old_name(s, n.name)
     } else {
-        name == s.name
+        names.is_same(index, s.name, index)
     }
 }
 

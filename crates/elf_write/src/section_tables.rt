@@ -4,7 +4,8 @@ ghost use Rattle.rv_code.specs.isa.Op.{flag};
 
 use crate::area::{Area, Shift};
 use crate::area_bytes::{bytes_called, table_called};
-use crate::section_check::{Added, Files, is_new_name};
+use crate::entry_names::KeptNames;
+use crate::section_check::{Added, Files, has_new_name};
 use crate::sections::{Contents, Sections, Table};
 use elf_image::named::{EH_FRAME, EH_FRAME_HDR};
 use elf_image::section::{SHF_ALLOC, SHF_EXECINSTR};
@@ -39,6 +40,7 @@ impl<'a> SectionTables<'a> {
     ghost use Rattle.elf_write.specs.Area.{area_offset};
     ghost use Rattle.elf_write.specs.AreaTables.{AreaStands};
     ghost use Rattle.elf_write.specs.Contents.{contents_of};
+    ghost use Rattle.elf_write.specs.EntryNames.{AreNamed, name_of};
     ghost use Rattle.elf_write.specs.KnownSections.{Knows};
     ghost use Rattle.elf_write.specs.NewSections.{AreNewSections, At, Follows, IsAdded, IsInArea, adds_ranges};
     ghost use Rattle.elf_write.specs.NewSections.{bytes_called};
@@ -54,8 +56,17 @@ impl<'a> SectionTables<'a> {
     }
 
     // Whether a section is what one of the input becomes, which has an index.
-    fn becomes(&self, known: &Sections, index: usize, s: &Section, n: &Section) -> bool
-        requires { Knows self.now.elf.now self.now.tables.now self.now.area self.now.shift known.now }
+    fn becomes(
+        &self,
+        known: &Sections,
+        names: &KeptNames,
+        index: usize,
+        s: &Section,
+        n: &Section,
+    ) -> bool
+        requires known { Knows self.now.elf.now self.now.tables.now self.now.area self.now.shift known.now }
+        requires old { s.now.name.now ≡ name_of names.now.old index }
+        requires new { n.now.name.now ≡ name_of names.now.new index }
         ensures called { IsTrue result → n.now.name.now ≡ new_name s.now }
         ensures follows { IsTrue result →
             Follows self.now.tables.now self.now.shift self.now.elf.now.file.now self.now.new.now.file.now
@@ -67,12 +78,14 @@ impl<'a> SectionTables<'a> {
             tables: self.tables,
             shift: self.shift,
         };
-        is_new_name(s, n.name) && files.follows(self.contents_of(known, index, s), s, n)
+        has_new_name(names, index, s, n) && files.follows(self.contents_of(known, index, s), s, n)
     }
 
     // Whether the section of an index is what that of the input becomes.
-    fn follows(&self, known: &Sections, index: usize) -> bool
-        requires { Knows self.now.elf.now self.now.tables.now self.now.area self.now.shift known.now }
+    fn follows(&self, known: &Sections, names: &KeptNames, index: usize) -> bool
+        requires known { Knows self.now.elf.now self.now.tables.now self.now.area self.now.shift known.now }
+        requires old { AreNamed (λ s. s.name.now) names.now.old 0 self.now.elf.now.sections.items }
+        requires new { AreNamed (λ s. s.name.now) names.now.new 0 self.now.new.now.sections.items }
         ensures called { IsTrue result → (s n : Section) → slice_get self.now.elf.now.sections.items index ≡ Some s →
             slice_get self.now.new.now.sections.items index ≡ Some n → n.name.now ≡ new_name s }
         ensures follows { IsTrue result → (s n : Section) → slice_get self.now.elf.now.sections.items index ≡ Some s →
@@ -81,13 +94,15 @@ impl<'a> SectionTables<'a> {
             (contents_of self.now.elf.now self.now.tables.now self.now.area self.now.shift index s) s n }
     {
         match (self.elf.sections.get(index), self.new.sections.get(index)) {
-            (Some(s), Some(n)) => self.becomes(known, index, s, n),
+            (Some(s), Some(n)) => self.becomes(known, names, index, s, n),
             _ => false,
         }
     }
 
-    fn all_follow(&self, known: &Sections) -> bool
-        requires { Knows self.now.elf.now self.now.tables.now self.now.area self.now.shift known.now }
+    fn all_follow(&self, known: &Sections, names: &KeptNames) -> bool
+        requires known { Knows self.now.elf.now self.now.tables.now self.now.area self.now.shift known.now }
+        requires old { AreNamed (λ s. s.name.now) names.now.old 0 self.now.elf.now.sections.items }
+        requires new { AreNamed (λ s. s.name.now) names.now.new 0 self.now.new.now.sections.items }
         ensures called { IsTrue result → (i : ℕ) (s n : Section) → slice_get self.now.elf.now.sections.items i ≡ Some s →
             slice_get self.now.new.now.sections.items i ≡ Some n → n.name.now ≡ new_name s }
         ensures follows { IsTrue result → (i : ℕ) (s n : Section) → slice_get self.now.elf.now.sections.items i ≡ Some s →
@@ -96,7 +111,7 @@ impl<'a> SectionTables<'a> {
             (contents_of self.now.elf.now self.now.tables.now self.now.area self.now.shift i s) s n }
     {
         for i in 0..self.elf.sections.len() {
-            if !self.follows(known, i) {
+            if !self.follows(known, names, i) {
                 return false;
             }
         }
@@ -213,8 +228,10 @@ impl<'a> SectionTables<'a> {
     }
 
     /// Whether the sections are those that the file must have.
-    pub fn are_new(&self, known: &Sections) -> bool
+    pub fn are_new(&self, known: &Sections, names: &KeptNames) -> bool
         requires known { Knows self.now.elf.now self.now.tables.now self.now.area self.now.shift known.now }
+        requires old { AreNamed (λ s. s.name.now) names.now.old 0 self.now.elf.now.sections.items }
+        requires new { AreNamed (λ s. s.name.now) names.now.new 0 self.now.new.now.sections.items }
         requires names { e_shstrndx self.now.new.now.file.now ≡ e_shstrndx self.now.elf.now.file.now }
         ensures { IsTrue result →
             AreaStands self.now.area self.now.tables.now self.now.code.now self.now.new.now.file.now →
@@ -225,7 +242,7 @@ impl<'a> SectionTables<'a> {
         if !self.has_count() {
             return false;
         }
-        if !self.all_follow(known) {
+        if !self.all_follow(known, names) {
             return false;
         }
         if !self.has_text(count) {

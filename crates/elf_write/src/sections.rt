@@ -70,8 +70,8 @@ pub fn index_called(sections: &[Section], name: &[u8]) -> Option<usize>
     sections.iter().position(|s| s.is_called(name))
 }
 
-// The index of the section whose place a table with a name takes. Those that stand in the new area take none.
-fn place_replaced(sections: &[Section], name: &[u8]) -> Option<usize>
+/// The index of the section whose place a table with a name takes. Those that stand in the new area take none.
+pub fn place_replaced(sections: &[Section], name: &[u8]) -> Option<usize>
     ensures { result ≡ spec.place_replaced sections.now name.now }
 {
     if names_frames(name) {
@@ -101,8 +101,8 @@ const DEBUG_MACRO: &[u8] = b".debug_macro";
 
 const GDB_INDEX: &[u8] = b".gdb_index";
 
-// Relocations are left out, and tables with addresses of code that can't be carried over.
-fn is_left_out(section: &Section) -> bool
+/// Relocations are left out, and tables with addresses of code that can't be carried over.
+pub fn is_left_out(section: &Section) -> bool
     ensures { result ≡ spec.is_left_out section.now }
 {
     section.kind == SHT_RELA

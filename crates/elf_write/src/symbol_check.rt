@@ -3,6 +3,7 @@ ghost use Rattle.std.specs.Prelude.{◌≡◌, IfSome, IsTrue};
 ghost use Rattle.elf_write.specs.ColdSymbols.{cold_name};
 ghost use Rattle.elf_write.specs.NewSymbols as spec;
 
+use crate::entry_names::KeptNames;
 use crate::fragments::{Fragment, bytes_left};
 use crate::name_parts::is_joined;
 use crate::symbols::named_around;
@@ -33,11 +34,12 @@ pub struct CodeSymbols<'a> {
 }
 
 impl<'a> CodeSymbols<'a> {
-    ghost use Rattle.std.specs.Prelude.{◌≡◌, IfOk, IsFalse, IsTrue, List, MatchOption};
+    ghost use Rattle.std.specs.Prelude.{◌≡◌, ◌+◌, ◌^◌, ◌<◌, IfOk, IsFalse, IsTrue, List, MatchOption, length};
     ghost use Rattle.addr_map.specs.Spans.{moved};
     ghost use Rattle.rv_code.specs.layout.FunctionLists.{AreLaidOut};
     ghost use Rattle.elf_image.specs.declared.symbol.Symbol.{Symbol};
     ghost use Rattle.elf_image.specs.file.Cuts.{names_function};
+    ghost use Rattle.elf_write.specs.EntryNames.{AreNamed, name_of};
     ghost use Rattle.elf_write.specs.FragmentLists.{AreFragments};
     ghost use Rattle.elf_write.specs.FirstNames.{AreFirstNames};
     ghost use Rattle.elf_write.specs.Fragments.{IsFragmentAt};
@@ -93,16 +95,33 @@ impl<'a> CodeSymbols<'a> {
         }
     }
 
-    fn is_new(&self, s: &Symbol, n: &Symbol) -> bool
+    // Whether a symbol, which has an index, is what one of the input becomes, which has its own.
+    fn is_new(&self, names: &KeptNames, old: usize, s: &Symbol, new: usize, n: &Symbol) -> bool
+        requires old { s.now.name.now ≡ name_of names.now.old old }
+        requires new { n.now.name.now ≡ name_of names.now.new new }
         requires laid_out { AreLaidOut self.now.funcs.now }
         requires fragments { AreFragments self.now.funcs.now self.now.map.now self.now.fragments.now }
         ensures { IsTrue result → IsNewSymbol self.now.funcs.now self.now.map.now self.now.text s.now n.now }
     {
-        n.name == s.name && n.info == s.info && n.other == s.other && self.is_at_place(s, n)
+        names.is_same(old, s.name, new)
+            && n.info == s.info
+            && n.other == s.other
+            && self.is_at_place(s, n)
     }
 
-    /// Whether symbols are what those of the input become.
-    pub fn are_new(&self, old: &[Symbol], new: &[Symbol]) -> bool
+    /// Whether symbols are what those of the input become. Both begin with those of some indices.
+    pub fn are_new(
+        &self,
+        names: &KeptNames,
+        from: usize,
+        old: &[Symbol],
+        to: usize,
+        new: &[Symbol],
+    ) -> bool
+        requires old { AreNamed (λ s. s.name.now) names.now.old from old.now }
+        requires new { AreNamed (λ s. s.name.now) names.now.new to new.now }
+        requires old_fits { from + length old.now < 2 ^ 64 }
+        requires new_fits { to + length new.now < 2 ^ 64 }
         requires laid_out { AreLaidOut self.now.funcs.now }
         requires fragments { AreFragments self.now.funcs.now self.now.map.now self.now.fragments.now }
         ensures { IsTrue result →
@@ -112,7 +131,7 @@ impl<'a> CodeSymbols<'a> {
             return false;
         }
         for i in 0..old.len() {
-            if !self.is_new(&old[i], &new[i]) {
+            if !self.is_new(names, from + i, &old[i], to + i, &new[i]) {
                 return false;
             }
         }

@@ -2,6 +2,7 @@
 ghost use Rattle.std.specs.Prelude.{◌≡◌, IsTrue, take, drop};
 ghost use Rattle.elf_write.specs.NewSymbols as spec;
 
+use crate::entry_names::KeptNames;
 use crate::first_names::first_names;
 use crate::symbol_check::CodeSymbols;
 use crate::unwritable::Unwritable;
@@ -53,6 +54,7 @@ pub struct SymbolTables<'a> {
 impl<'a> SymbolTables<'a> {
     ghost use Rattle.std.specs.Prelude.{IfOk, IsTrue};
     ghost use Rattle.rv_code.specs.layout.FunctionLists.{AreLaidOut};
+    ghost use Rattle.elf_write.specs.EntryNames.{AreNamed};
     ghost use Rattle.elf_write.specs.FragmentLists.{AreFragments};
     ghost use Rattle.elf_write.specs.NewSymbols.{AreNewSymbols};
 
@@ -60,34 +62,47 @@ impl<'a> SymbolTables<'a> {
     pub fn are_new(
         &self,
         alloc: Global,
+        names: &KeptNames,
         table: &Section,
         new_table: &Section,
     ) -> Result<bool, Unwritable>
+        requires old { AreNamed (λ s. s.name.now) names.now.old 0 self.now.old.now }
+        requires new { AreNamed (λ s. s.name.now) names.now.new 0 self.now.new.now }
         requires laid_out { AreLaidOut self.now.code.funcs.now }
         requires fragments { AreFragments self.now.code.funcs.now self.now.code.map.now self.now.code.fragments.now }
         ensures { IfOk result (λ holds. IsTrue holds →
             AreNewSymbols self.now.old.now self.now.new.now self.now.code.funcs.now self.now.code.map.now self.now.cold.now
             self.now.code.text table.now new_table.now) }
     {
-        let names = first_names(alloc, self.old)?;
-        let parts = self.code.named_parts(alloc, &names, self.cold)?;
+        let firsts = first_names(alloc, self.old)?;
+        let parts = self.code.named_parts(alloc, &firsts, self.cold)?;
         let local = local_count(self.old, table);
         if !has_info(self.old, parts.len(), table, new_table) {
             return Ok(false);
         }
+        let front = first(self.old, local);
         if !self
             .code
-            .are_new(first(self.old, local), first(self.new, local))
+            .are_new(names, 0, front, 0, first(self.new, local))
         {
             return Ok(false);
         }
         let rest = behind(self.new, local);
-        if !self.code.are_cold(&names, &parts, first(rest, parts.len())) {
+        if !self
+            .code
+            .are_cold(&firsts, &parts, first(rest, parts.len()))
+        {
             return Ok(false);
         }
+        let last = behind(rest, parts.len());
         Ok(
-            self.code
-                .are_new(behind(self.old, local), behind(rest, parts.len())),
+            self.code.are_new(
+                names,
+                local,
+                behind(self.old, local),
+                local + parts.len(),
+                last,
+            ),
         )
     }
 }

@@ -9,7 +9,7 @@ use std::alloc::{AllocError, AllocFailed};
 pub enum Unwritable {
     /// Memory could not be had.
     Memory,
-    /// There is no such layout: a number doesn't fit its field, or parts would share bytes.
+    /// There is no such layout: a number doesn't fit its field, parts would share bytes, or a table has no place.
     Layout,
     /// It would have more bytes than are ever written.
     TooLarge,

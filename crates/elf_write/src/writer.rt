@@ -7,7 +7,8 @@ ghost use Rattle.elf_image.specs.file.ParsedFile.{IsElfOf};
 ghost use Rattle.addr_map.specs.Spans.{moved};
 ghost use Rattle.elf_parts.specs.Parts.{PartsFit, size_of};
 ghost use Rattle.rv_code.specs.layout.FunctionLists.{AreLaidOut};
-ghost use Rattle.elf_write.specs.NewTables.{HasNewTables};
+ghost use Rattle.elf_write.specs.NewTables.{HasNewTables, area_for};
+ghost use Rattle.elf_write.specs.TablePlaces.{ArePlaced, TablesStand};
 ghost use Rattle.elf_write.specs.AreaTables.{IsMadeWith};
 ghost use Rattle.elf_write.specs.FileParts.{IsPut, header_numbers};
 ghost use Rattle.elf_write.specs.Source.{HasPlace, source_of};
@@ -16,6 +17,7 @@ ghost use Rattle.elf_write.specs.WrittenFile.{AreApart, CanHold, IsWritten};
 use crate::area_bytes::table_size;
 use crate::cell_numbers::cell_numbers;
 use crate::fragments::fragments;
+use crate::given_places::are_placed;
 use crate::header_fields::HeaderFields;
 use crate::layout::{Layout, is_above};
 use crate::new_sections::{NewSections, SectionSource};
@@ -166,7 +168,11 @@ fn written(
         IsWritten (source_of elf.now emitted.now map.now tables.now) tight w.items) }
     ensures tables { IfOk result (λ w. (tight : Bool) → HasPlace (source_of elf.now emitted.now map.now tables.now) tight →
         HasNewTables elf.now tables.now emitted.now.code.items funcs.now cold.now map.now tight w.items) }
+    ensures placed { OnOk result (ArePlaced elf.now tables.now) }
 {
+    if !are_placed(elf, tables) {
+        return Err(Unwritable::Layout);
+    }
     let fragments = fragments(alloc, funcs, map)?;
     let source = SectionSource {
         elf,
@@ -208,6 +214,10 @@ pub fn write(
         IsWritten (source_of elf.now emitted.now map.now tables.now) tight w.items) }
     ensures tables { IfOk result (λ w. (tight : Bool) → HasPlace (source_of elf.now emitted.now map.now tables.now) tight →
         HasNewTables elf.now tables.now emitted.now.code.items funcs.now cold.now map.now tight w.items) }
+    // The tables stand in what is read of the file.
+    ensures stand { IfOk result (λ w. (tight : Bool) →
+        (t : HasNewTables elf.now tables.now emitted.now.code.items funcs.now cold.now map.now tight w.items) →
+        TablesStand elf.now t.new tables.now (area_for elf.now tables.now emitted.now.code.items tight)) }
 {
     match written(alloc, elf, funcs, cold, emitted, map, tables) {
         Ok(file) => Ok(file),

@@ -1,9 +1,18 @@
 use Rattle.std.proofs.Common.{◌∙◌, ap, subst, sym, ℕ, List, Bool, Result, Ok, Err}
 use Rattle.std.specs.Prelude.{IfOk}
+use Rattle.elf_image.specs.faults.Truncation.{IsReadable}
 use Rattle.elf_image.specs.file.Header.{e_shstrndx}
+use Rattle.elf_image.specs.file.ParsedFile.{IsElfOf}
 use Rattle.elf_write.specs.AreaTables.{AreaStands}
+use Rattle.elf_write.specs.EntryNames.WasRead.{was_read}
 use Rattle.elf_write.specs.NewTables.{area_for}
 use Rattle.elf_write.proofs.read_back.is_accepted.Goals as goal
+
+pub has_new_tables-requires-clause-new : goal.has_new_tables-requires-clause-new
+has_new_tables-requires-clause-new c =
+    let same = sym c.in-Ok.ensures.fields.file_is in
+    was_read (subst IsReadable same c.in-Ok.ensures.readable)
+    (subst (λ (f : List ℕ). IsElfOf f c.in-Ok.found) same c.in-Ok.ensures.fields)
 
 pub has_new_tables-requires-clause-names : goal.has_new_tables-requires-clause-names
 has_new_tables-requires-clause-names c = ap e_shstrndx c.in-Ok.ensures.fields.file_is ∙ c.requires.names

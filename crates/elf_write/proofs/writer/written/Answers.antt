@@ -4,6 +4,7 @@ use Rattle.elf_image.specs.file.Header.{e_shstrndx}
 use Rattle.elf_write.specs.declared.fragments.Fragment.{Fragment}
 use Rattle.elf_write.specs.FragmentLists.{AreFragments}
 use Rattle.elf_write.specs.AreaTables.{AreaStands}
+use Rattle.elf_write.specs.EntryNames.WasRead.{was_read}
 use Rattle.elf_write.specs.NewTables.{HasNewTables, area_for}
 use Rattle.elf_write.specs.Source.{HasPlace, Source, source_of}
 use Rattle.elf_write.proofs.AllWritten.{all-written, placed-there}
@@ -15,6 +16,9 @@ use Rattle.elf_write.proofs.writer.written.Goals as goal
 
 pub made-requires-clause-readable : goal.made-requires-clause-readable
 made-requires-clause-readable c = readable c.args.elf.now.file.now c.requires.sound
+
+pub is_accepted-requires-clause-old : goal.is_accepted-requires-clause-old
+is_accepted-requires-clause-old c = was_read (readable c.args.elf.now.file.now c.requires.sound) c.requires.read
 
 pub is_accepted-requires-clause-fragments : goal.is_accepted-requires-clause-fragments
 is_accepted-requires-clause-fragments c =

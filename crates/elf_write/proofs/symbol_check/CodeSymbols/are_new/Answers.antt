@@ -1,7 +1,18 @@
 use Rattle.std.proofs.Common.{arith, rules}
 use Rattle.elf_write.specs.NewSymbols.{IsNewSymbol}
+use Rattle.elf_write.proofs.NamedParts.{named-at}
 use Rattle.elf_write.proofs.Pairs.{all-together, below-more}
 use Rattle.elf_write.proofs.symbol_check.CodeSymbols.are_new.Goals as goal
+
+pub is_new-requires-clause-old : goal.is_new-requires-clause-old
+is_new-requires-clause-old c =
+    named-at (λ s. s.name.now) c.args.names.now.old c.args.from c.loop-i.i c.args.old.now _ c.loop-i-test.true c.requires.old
+
+pub is_new-requires-clause-new : goal.is_new-requires-clause-new
+is_new-requires-clause-new c =
+    let count = c.if-new-old.false in
+    let below = c.loop-i-test.true in
+    named-at (λ s. s.name.now) c.args.names.now.new c.args.to c.loop-i.i c.args.new.now _ (omega arith) c.requires.new
 
 pub loop-i-preserved : goal.loop-i-preserved
 loop-i-preserved c =

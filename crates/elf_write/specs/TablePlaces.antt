@@ -1,0 +1,75 @@
+-- Where given tables stand in a written file: which sections of the input take one, and what the sections that names mean hold.
+use Rattle.std.specs.Prelude.{◌≡◌, ◌≢◌, ℕ, ◌==◌, ◌&&◌, ◌||◌, not, false, true, Bool, List, None, IfSome, IsSomeAnd, IsTrue, All}
+use Rattle.std.specs.Prelude.{String, Vec, codes, find, is_some, slice_get, string_bytes}
+use Rattle.std.specs.List.{list_any}
+use Rattle.std.specs.Option.{option_map_or}
+use Rattle.std.specs.Str.{bytes_eq}
+use Rattle.elf_image.specs.declared.elf.Elf.{Elf}
+use Rattle.elf_image.specs.declared.relocation.TheConstants.{SHT_RELA}
+use Rattle.elf_image.specs.declared.section.Section.{Section}
+use Rattle.elf_image.specs.file.Header.{e_shstrndx}
+use Rattle.elf_image.specs.file.SectionNames.{is_loaded, names_debug, section_called}
+use Rattle.elf_write.specs.declared.area.Area.{Area}
+use Rattle.elf_write.specs.Contents.{is_at, is_left_out, place_replaced, section_bytes}
+use Rattle.elf_write.specs.NameTables.{place_of_names, place_of_symbols}
+use Rattle.elf_write.specs.NewSections.{adds_ranges, bytes_called}
+
+-- Which tables have a place.
+
+-- the section of an index has names or symbols, which are written anew
+abbrev pub is_own_section : Elf → ℕ → Bool
+is_own_section elf index =
+    (e_shstrndx elf.file.now == index) || (is_at index (place_of_symbols elf) || is_at index (place_of_names elf))
+
+-- a table can take the place of any other that isn't left out
+abbrev pub takes_table : Elf → ℕ → Section → Bool
+takes_table elf index s = not (is_own_section elf index) && not (is_left_out s)
+
+abbrev pub takes_table_at : Elf → ℕ → Bool
+takes_table_at elf index = option_map_or (takes_table elf index) (slice_get elf.sections.items index) false
+
+-- The section that a table's name means takes it, if there is one. The unwind table and its index stand in the new area.
+abbrev pub has_place : Elf → List ℕ → Bool
+has_place elf name = option_map_or (takes_table_at elf) (place_replaced elf.sections.items name) true
+
+-- Loaded relocations that are called as a debug table is: what is left of their header isn't loaded, so the name would mean
+-- that.
+abbrev pub hides_table : Section → Bool
+hides_table s = (s.kind == SHT_RELA) && (is_loaded s && names_debug s.name.now)
+
+pub record ArePlaced {Y Z : Type 0} (elf : Elf) (tables : List (String Y × Vec ℕ Z)) : Type 0 where
+  pub each : All (λ t. IsTrue (has_place elf (string_bytes t.0))) tables
+  pub none_hidden : list_any hides_table elf.sections.items ≡ false
+
+-- What the sections of a file hold.
+
+-- the section that a name means has these contents
+abbrev pub Holds : Elf → List ℕ → List ℕ → Type 0
+Holds f name bytes = IsSomeAnd (section_called f.sections.items name) (λ s. section_bytes f.file.now s ≡ bytes)
+
+-- and is loaded at this address
+pub record IsLoadedAt (address : ℕ) (bytes file : List ℕ) (s : Section) : Type 0 where
+  pub addr : s.addr ≡ address
+  pub contents : section_bytes file s ≡ bytes
+
+abbrev pub HoldsAt : Elf → List ℕ → ℕ → List ℕ → Type 0
+HoldsAt f name address bytes = IsSomeAnd (section_called f.sections.items name) (IsLoadedAt address bytes f.file.now)
+
+-- a table is given for a name
+abbrev pub is_given : {Y Z : Type 0} → List (String Y × Vec ℕ Z) → List ℕ → Bool
+is_given tables name = is_some (find (λ t. bytes_eq (string_bytes t.0) name) tables)
+
+-- The tables of a written file: those in the new area, and those of debug data. One that the input hasn't isn't written, but for
+-- that of ranges.
+pub record TablesStand {Y Z : Type 0} (elf new : Elf) (tables : List (String Y × Vec ℕ Z)) (area : Area) : Type 0 where
+  pub frames : IfSome area.frames (λ a. HoldsAt new (codes ".eh_frame") a (bytes_called tables (codes ".eh_frame")))
+  pub no_frames : area.frames ≡ None → section_called new.sections.items (codes ".eh_frame") ≡ None
+  pub index : IfSome area.frames (λ a. IfSome area.index
+      (λ b. HoldsAt new (codes ".eh_frame_hdr") b (bytes_called tables (codes ".eh_frame_hdr"))))
+  pub debug : (name : List ℕ) → IsTrue (names_debug name) → IsTrue (is_given tables name) →
+      IsTrue (is_some (section_called elf.sections.items name)) → Holds new name (bytes_called tables name)
+  pub ranges : IsTrue (adds_ranges elf.sections.items tables) →
+      Holds new (codes ".debug_rnglists") (bytes_called tables (codes ".debug_rnglists"))
+  pub absent : (name : List ℕ) → IsTrue (names_debug name) → section_called elf.sections.items name ≡ None →
+      (IsTrue (adds_ranges elf.sections.items tables) → name ≢ codes ".debug_rnglists") →
+      section_called new.sections.items name ≡ None
