@@ -15,7 +15,6 @@ use Rattle.cfi_rows.specs.declared.row.Rule.{Rule}
 use Rattle.cfi_rows.specs.declared.row.Rule.TheVariants as rule
 use Rattle.cfi_rows.specs.EntryCounts.{cfa_bytes, rule_bytes}
 use Rattle.cfi_rows.specs.FrameRows.{RowValue, Rules}
-use Rattle.cfi_rows.specs.Entries.{RawEntry}
 use Rattle.frame_rewrite.specs.declared.cie_key.CieKey.{CieKey}
 use Rattle.frame_rewrite.specs.FrameAnswers.{FrameAnswer}
 use Rattle.frame_rewrite.specs.SpelledFrames.{spelled_block, spelled_cfa, spelled_rule, spelled_rules, spelled_row, spelled_next, spelled_entries, zeros, padding}

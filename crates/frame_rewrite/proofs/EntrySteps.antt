@@ -3,16 +3,17 @@ use Rattle.std.proofs.Common.{ℕ, suc, ◌+◌, ◌-◌, ◌*◌, ◌≤◌, �
 use Rattle.std.proofs.Common.{get_or, drop, take}
 use Rattle.std.specs.Prelude.{All}
 use Rattle.std.proofs.lemmas.Grind.{flat_map-append}
-use Rattle.std.proofs.lemmas.List.Elements.{All-head, All-tail, All-drop}
+use Rattle.std.proofs.lemmas.List.Elements.{All-cons, All-head, All-tail, All-take, All-drop}
 use Rattle.addr_map.specs.declared.span.Span.{Span}
 use Rattle.table_core.specs.declared.run.Run.{Run}
 use Rattle.table_core.specs.AnswerRuns.{IsWithin}
 use Rattle.cfi_rows.specs.declared.row.Rule.{Rule}
 use Rattle.cfi_rows.specs.Entries.{RawEntry}
 use Rattle.cfi_rows.specs.FrameRows.{Rules}
+use Rattle.cfi_rows.specs.RuleEntries.{Ascend}
 use Rattle.frame_rewrite.specs.declared.cie_key.CieKey.{CieKey}
 use Rattle.frame_rewrite.specs.FrameAnswers.{FrameAnswer}
-use Rattle.frame_rewrite.specs.SpelledFits.{RuleFits, RulesFit, Writes, WritesAll, EndFits, IsSpelled}
+use Rattle.frame_rewrite.specs.SpelledFits.{RuleFits, RulesFit, RunAscends, Writes, WritesAll, EndFits, IsSpelled}
 use Rattle.frame_rewrite.specs.SpelledFrames.{spelled_entry, spelled_entries, cie_entry, cie_entries, fde_entry, fde_entries, fde_body, more_count, start_of, last_end, cie_size, cie_body, end_mark}
 use Rattle.frame_rewrite.proofs.Appends.{next-is, past-end, append-nil, new-length}
 use Rattle.frame_rewrite.proofs.EntriesBack.{spelled-length}
@@ -22,16 +23,14 @@ use Rattle.frame_rewrite.proofs.TableBack.{Before, cie-length}
 abbrev Runs : Type 0
 Runs = List (Run FrameAnswer)
 
-pub rules-more : (least m i : ℕ) (xs : Rules) (x : ℕ × Rule) (W : Type 0) → i < length xs → x ≡ get_or xs i x
-    → least ≤ x.0 → x.0 < 2 ^ 64 → RuleFits x.1 → m ≡ x.0 + 1
-    → (RulesFit least (drop i xs) → W) → RulesFit m (drop (i + 1) xs) → W
-rules-more least m i xs x W h is l s f e w more =
-    w (subst (RulesFit least) (sym (next-is xs i x h))
-    (subst (λ (y : ℕ × Rule). RulesFit least (y ∷ drop (i + 1) xs)) is
-    (l, s, f, subst (λ (n : ℕ). RulesFit n (drop (i + 1) xs)) e more)))
+-- rules that fit and ascend
+abbrev pub EntryFits : ℕ × Rule → Type 0
+EntryFits x = (x.0 < 2 ^ 64) × RuleFits x.1
 
-pub rules-end : (least i : ℕ) (xs : Rules) (W : Type 0) → length xs ≤ i → (RulesFit least (drop i xs) → W) → W
-rules-end least i xs W h w = w (subst (RulesFit least) (sym (past-end xs i h)) tt)
+pub rules-fit : (lo : ℕ) (xs : Rules) → Ascend lo xs → All EntryFits xs → RulesFit lo xs
+rules-fit lo [] a f = tt
+rules-fit lo (x ∷ xs) a f =
+    let h = All-head EntryFits x xs f in (a.0, h.0, h.1, rules-fit (x.0 + 1) xs a.1 (All-tail EntryFits x xs f))
 
 -- one CIE more
 pub cie-more : (debug : Bool) (ks : List CieKey) (i : ℕ) (d : CieKey) (o new want : List ℕ) → i < length ks
@@ -168,7 +167,16 @@ pub before-behind : (spans : List Span) (k : ℕ) (r : Run FrameAnswer) (rs rest
 before-behind spans k r rs rest e f = All-drop (Before spans) k rs
     (All-tail (Before spans) r rs (subst (All (Before spans)) e f))
 
+pub ascend-behind : (k : ℕ) (r : Run FrameAnswer) (rs rest : Runs) → rest ≡ r ∷ rs → All RunAscends rest → All RunAscends (drop k rs)
+ascend-behind k r rs rest e f = All-drop RunAscends k rs (All-tail RunAscends r rs (subst (All RunAscends) e f))
+
 -- what is asked of a group
+
+pub group-ascends : (k : ℕ) (r : Run FrameAnswer) (rs rest : Runs) → rest ≡ r ∷ rs → All RunAscends rest
+    → All RunAscends (r ∷ take k rs)
+group-ascends k r rs rest e f =
+    let g = subst (All RunAscends) e f in
+    All-cons RunAscends r (take k rs) (All-head RunAscends r rs g) (All-take RunAscends k rs (All-tail RunAscends r rs g))
 
 pub group-ends : (k : ℕ) (r : Run FrameAnswer) (rs rest : Runs) (hi : ℕ) → rest ≡ r ∷ rs → hi < 2 ^ 64
     → IsWithin 0 rest hi → All EndFits (r ∷ take k rs)

@@ -1,19 +1,15 @@
 -- The rows of each entry of a table begin with its range.
-use Rattle.std.proofs.Common.{ℕ, ◌+◌, ◌^◌, ◌≤◌, ◌≡◌, List, [], ◌∷◌, Option, Some, None, option_map, Result, Ok, Err, cond, leb, Bool, true, false, refl, subst, arith}
-use Rattle.std.specs.Prelude.{All, IsSome, nat_lt}
+use Rattle.std.proofs.Common.{ℕ, ◌≤◌, ◌≡◌, List, [], ◌∷◌, Option, Some, None, option_map, Result, cond, leb, Bool, true, false, refl, subst, arith}
+use Rattle.std.specs.Prelude.{All, IsSome}
 use Rattle.std.proofs.lemmas.Bool.Decides.{nat_tests}
-use Rattle.std.proofs.lemmas.List.Elements.{All-nil, All-cons}
-use Rattle.rb_bytes.specs.Readers.{and_then}
 use Rattle.table_core.specs.ReadSteps.{and_so}
 use Rattle.cfi_rows.specs.declared.row.Cfa.{Cfa}
 use Rattle.cfi_rows.specs.declared.instruction.Instruction.{Instruction}
 use Rattle.cfi_rows.specs.declared.instruction.Instruction.TheVariants.{Advance, SetLoc, DefCfa, DefCfaRegister, DefCfaOffset, SetRule, Restore, RememberState, RestoreState, Nop}
 use Rattle.cfi_rows.specs.declared.instruction.Malformed.{Malformed}
-use Rattle.cfi_rows.specs.declared.instruction.Malformed.TheVariants.{Entry}
 use Rattle.cfi_rows.specs.FrameRows.{RowValue, Rules, Known, State, with_cfa, with_register, with_offset, take_back, row_from, prepended, then_rows, rows, begins, PlacedRow, row_at}
-use Rattle.cfi_rows.specs.FrameInstructions.{instructions_at, pointer_at, stored_at}
-use Rattle.cfi_rows.specs.Entries.{RawEntry, Cie, Fde, fde_at, fde_sized, fde_from, fde_by, fde_after, fde_made, fde_context, size_encoding, table_at, sound_if, end_of, is_cie, cie_in, cie_place, cie_at}
-use Rattle.cfi_rows.specs.Entries.{one_cie, one_fde, Frames, frames_from, frames, walked_entries}
+use Rattle.cfi_rows.specs.Entries.{RawEntry, Cie, Fde, fde_at, fde_made, sound_if, end_of, cie_in, cie_place}
+use Rattle.cfi_rows.specs.Entries.{frames, walked_entries}
 use Rattle.frame_rewrite.proofs.ReadEntries.{IfFde, fde-so, fde-read, all-read}
 
 -- the first row begins at an address

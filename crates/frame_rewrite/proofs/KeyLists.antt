@@ -5,7 +5,6 @@ use Rattle.std.specs.List.{position_or_len}
 use Rattle.std.proofs.lemmas.Bool.Decides.{nat_tests}
 use Rattle.std.proofs.lemmas.List.Elements.{All-push}
 use Rattle.frame_rewrite.specs.declared.cie_key.CieKey.{CieKey}
-use Rattle.frame_rewrite.specs.SpelledFits.{KeyFits}
 use Rattle.frame_rewrite.specs.SpelledFrames.{is_one, is_key}
 use Rattle.frame_rewrite.proofs.Appends.{pos-true, pos-false}
 
@@ -71,7 +70,6 @@ found-at k ks i e = one (ltb (position_or_len (is_key k) ks) (length ks)) refl w
   one false t = absurd (none-some (sym (ap (λ (b : Bool). cond b (Some (position_or_len (is_key k) ks)) None) t) ∙ e))
 
 -- a key more, unless it is there
-pub fits-insert : (b : Bool) (ks : List CieKey) (k : CieKey) → All KeyFits ks → KeyFits k
-    → All KeyFits (cond b ks (ks ++ k ∷ []))
-fits-insert true ks k f g = f
-fits-insert false ks k f g = All-push KeyFits ks k f g
+pub all-inserted : (P : CieKey → Type 0) (b : Bool) (ks : List CieKey) (k : CieKey) → All P ks → P k → All P (cond b ks (ks ++ k ∷ []))
+all-inserted P true ks k f g = f
+all-inserted P false ks k f g = All-push P ks k f g

@@ -12,7 +12,7 @@ use Rattle.addr_map.specs.declared.span.Span.{Span}
 use Rattle.addr_map.specs.Spans.{new, owner, has_byte}
 use Rattle.table_core.specs.declared.run.Run.{Run}
 use Rattle.table_core.specs.AnswerRuns.{IsWithin, run_at, carried}
-use Rattle.cfi_rows.specs.FrameRows.{RowValue, row_at}
+use Rattle.cfi_rows.specs.FrameRows.{row_at}
 use Rattle.cfi_rows.specs.Entries.{Fde, is_in_range}
 use Rattle.frame_rewrite.specs.FrameAnswers.{FrameAnswer, answer_of, answer_at}
 use Rattle.frame_rewrite.specs.SpelledFits.{IsReached}
@@ -85,6 +85,7 @@ pub record Answered (marks : Fde → Bool) (list : List Fde) (spans : List Span)
   pub handler : a.handler ≡ fde.cie.augmentation.handler
   pub indirect : a.indirect ≡ fde.cie.augmentation.indirect
   pub signal : a.signal ≡ fde.cie.augmentation.signal
+  pub row : row_at span.input fde.rows None ≡ Some a.row
 
 pub owned-answer : (marks : Fde → Bool) (list : List Fde) (spans : List Span) (p : ℕ) (a : FrameAnswer)
     → carried (answer_at marks list) spans p ≡ Some a → Answered marks list spans p a
@@ -109,7 +110,32 @@ owned-answer marks list spans p a h =
       handler = sym (ap (λ (x : FrameAnswer). x.handler) said);
       indirect = sym (ap (λ (x : FrameAnswer). x.indirect) said);
       signal = sym (ap (λ (x : FrameAnswer). x.signal) said);
+      row = subst (λ (n : ℕ). row_at n f.rows None ≡ Some a.row) (sym input) (there ∙ ap (λ (x : FrameAnswer). Some x.row) said);
     }
+
+-- a run isn't empty
+pub run-some : (lo : ℕ) (rs : Runs) (hi : ℕ) (r : Run FrameAnswer) → IsWithin lo rs hi → Contains rs r → 0 < r.len
+run-some lo [] hi r w c = absurd (Contains-nil r c)
+run-some lo (q ∷ qs) hi r w c = either (Contains-cons_cases q qs r c) (run-some (q.start + q.len) qs hi r w.2) where
+  either : (q ≡ r) ⊎ Contains qs r → (Contains qs r → 0 < r.len) → 0 < r.len
+  either (inl same) later = subst (λ (x : Run FrameAnswer). 0 < x.len) same w.1
+  either (inr there) later = later there
+
+-- what is known of a run's answer, at each of its bytes and at its first one
+module _ (marks : Fde → Bool) (list : List Fde) (spans : List Span) (runs : Runs) (hi : ℕ) (within : IsWithin 0 runs hi)
+    (answers : (p : ℕ) → run_at runs p ≡ carried (answer_at marks list) spans p) where
+  pub answered : (r : Run FrameAnswer) → Contains runs r → (p : ℕ) → r.start ≤ p → p < r.start + r.len
+      → Answered marks list spans p r.answer
+  answered r c p a b = owned-answer marks list spans p r.answer
+      (sym (answers p) ∙ (run-has 0 runs hi r p within c a b).1)
+
+  pub answered-first : (r : Run FrameAnswer) → Contains runs r → Answered marks list spans r.start r.answer
+  answered-first r c = answered r c r.start (same r.start) (more r.start r.len (run-some 0 runs hi r within c)) where
+    same : (n : ℕ) → n ≤ n
+    same n = omega arith
+
+    more : (n k : ℕ) → 0 < k → n < n + k
+    more n k h = omega arith
 
 -- an address that an entry holds has an answer
 holds-answer : (marks : Fde → Bool) (list : List Fde) (o : ℕ) (f : Fde) → All Begins list → Contains list f
@@ -128,19 +154,14 @@ AreWhole marks list spans = All (λ f. IsTrue (marks f) → MovesWhole spans f) 
 module _ (marks : Fde → Bool) (list : List Fde) (spans : List Span) (runs : Runs) (hi : ℕ) (within : IsWithin 0 runs hi)
     (answers : (p : ℕ) → run_at runs p ≡ carried (answer_at marks list) spans p) (whole : AreWhole marks list spans)
     (begins : All Begins list) where
-  answered : (r : Run FrameAnswer) → Contains runs r → (p : ℕ) → r.start ≤ p → p < r.start + r.len
-      → Answered marks list spans p r.answer
-  answered r c p a b = owned-answer marks list spans p r.answer
-      (sym (answers p) ∙ (run-has 0 runs hi r p within c a b).1)
-
   moves : (p : ℕ) (a : FrameAnswer) → (x : Answered marks list spans p a) → a.marked ≡ true → MovesWhole spans x.fde
   moves p a x m = All-contains (λ f. IsTrue (marks f) → MovesWhole spans f) list x.fde whole x.in_list (sym x.marked ∙ m)
 
   one-marked : (r : Run FrameAnswer) → Contains runs r → 0 < r.len → r.answer.marked ≡ true → IsReached spans runs r
   one-marked r c l m =
       let is : start_of spans r ≡ new spans r.answer.start = rw m refl in
-      let x = answered r c r.start (same r.start) (more r.start r.len l) in
-      let y = answered r c (r.start + r.len - 1) (last_from r.start r.len l) (last_in r.start r.len l) in
+      let x = answered-first marks list spans runs hi within answers r c in
+      let y = answered marks list spans runs hi within answers r c (r.start + r.len - 1) (last_from r.start r.len l) (last_in r.start r.len l) in
       let low : new spans x.fde.start ≤ x.span.out = (moves r.start r.answer x m).from_start x.span x.in_map x.in_range in
       record {
         before = subst (λ (n : ℕ). n ≤ r.start) (sym (is ∙ ap (new spans) x.start))
@@ -152,12 +173,6 @@ module _ (marks : Fde → Bool) (list : List Fde) (spans : List Span) (runs : Ru
             subst IsSome (sym (answers p ∙ ap (option_and_then (answer_at marks list)) z.1))
             (holds-answer marks list z.0 y.fde begins y.in_list z.2);
       } where
-        same : (n : ℕ) → n ≤ n
-        same n = omega arith
-
-        more : (n k : ℕ) → 0 < k → n < n + k
-        more n k h = omega arith
-
         last_from : (n k : ℕ) → 0 < k → n ≤ n + k - 1
         last_from n k h = omega arith
 
@@ -184,13 +199,6 @@ module _ (marks : Fde → Bool) (list : List Fde) (spans : List Span) (runs : Ru
 
   pub reached : All (IsReached spans runs) runs
   reached = all_of (IsReached spans runs) runs (λ r c. one r c r.answer.marked refl) where
-    lens : (lo : ℕ) (rs : Runs) → IsWithin lo rs hi → (r : Run FrameAnswer) → Contains rs r → 0 < r.len
-    lens lo [] w r c = absurd (Contains-nil r c)
-    lens lo (q ∷ qs) w r c = either (Contains-cons_cases q qs r c) (lens (q.start + q.len) qs w.2 r) where
-      either : (q ≡ r) ⊎ Contains qs r → (Contains qs r → 0 < r.len) → 0 < r.len
-      either (inl same) later = subst (λ (x : Run FrameAnswer). 0 < x.len) same w.1
-      either (inr there) later = later there
-
     one : (r : Run FrameAnswer) → Contains runs r → (b : Bool) → r.answer.marked ≡ b → IsReached spans runs r
-    one r c true m = one-marked r c (lens 0 runs within r c) m
+    one r c true m = one-marked r c (run-some 0 runs hi r within c) m
     one r c false m = one-plain r c m

@@ -1,8 +1,10 @@
 -- What holds of each entry that is read, through the readers of entries.
-use Rattle.std.proofs.Common.{ℕ, ◌+◌, ◌^◌, List, [], ◌∷◌, Option, Result, Ok, Err, cond, Bool, true, false}
-use Rattle.std.specs.Prelude.{All, nat_lt}
+use Rattle.std.proofs.Common.{ℕ, ◌+◌, ◌^◌, ◌≡◌, ◌==◌, List, [], ◌∷◌, Option, Some, None, Result, Ok, Err, cond, Bool, true, false, refl}
+use Rattle.std.specs.Prelude.{All, Contains, nat_lt}
 use Rattle.std.proofs.lemmas.List.Elements.{All-nil, All-cons}
 use Rattle.rb_bytes.specs.Readers.{and_then}
+use Rattle.rb_bytes.proofs.Searches.{find-found}
+use Rattle.rb_bytes.proofs.Tests.{second_of}
 use Rattle.table_core.specs.ReadSteps.{and_so}
 use Rattle.cfi_rows.specs.declared.instruction.Instruction.{Instruction}
 use Rattle.cfi_rows.specs.declared.instruction.Malformed.{Malformed}
@@ -10,7 +12,7 @@ use Rattle.cfi_rows.specs.declared.instruction.Malformed.TheVariants.{Entry}
 use Rattle.cfi_rows.specs.FrameInstructions.{instructions_at, pointer_at, stored_at}
 use Rattle.cfi_rows.specs.Entries.{RawEntry, Cie, Fde, fde_at, fde_sized, fde_from, fde_by, fde_after, fde_context, size_encoding}
 use Rattle.cfi_rows.specs.Entries.{table_at, end_of, is_cie, cie_in, cie_place, cie_at, one_cie, one_fde, Frames, frames_from, frames}
-use Rattle.cfi_rows.specs.Entries.{walked_entries}
+use Rattle.cfi_rows.specs.Entries.{walked_entries, sound_if, entry_named, is_named}
 
 module _ (P : Fde → Type 0) where
   abbrev pub IfFde : Result Fde Malformed → Type 0
@@ -74,3 +76,41 @@ module _ (P : Fde → Type 0) where
   all-read debug address table h =
       all-from debug address (walked_entries debug table).entries (walked_entries debug table).broken
       (walked_entries debug table).entries h
+
+module _ (Q : Cie → Type 0) where
+  abbrev pub IfCie : Result Cie Malformed → Type 0
+  IfCie (Ok c) = Q c
+  IfCie (Err e) = Unit {0}
+
+  pub cie-so : {X : Type 0} (r : Result X Malformed) (f : X → Result Cie Malformed) → ((x : X) → IfCie (f x)) → IfCie (and_so r f)
+  cie-so (Ok x) f h = h x
+  cie-so (Err e) f h = tt
+
+-- the CIE entry that is named is one of the entries
+named-found : (debug : Bool) (all : List RawEntry) (place : Option ℕ) (y : RawEntry) → entry_named debug all place ≡ Some y
+    → Contains all y × (is_cie debug y ≡ true)
+named-found debug all None y e = absurd (cc)
+named-found debug all (Some place) y e =
+    let found = find-found (is_named debug place) all y e in
+    (found.1, second_of (y.place == place) (is_cie debug y) found.0)
+
+module _ (P : Fde → Type 0) (Q : Cie → Type 0) where
+  by-cie : (end : ℕ) (e : RawEntry) (r : Result Cie Malformed) → IfCie Q r → ((c : Cie) → Q c → IfFde P (fde_at c end e))
+      → IfFde P (and_so r (λ cie. fde_at cie end e))
+  by-cie end e (Ok c) q h = h c q
+  by-cie end e (Err x) q h = tt
+
+  by-entry : (address end : ℕ) (e : RawEntry) (o : Option RawEntry)
+      → ((y : RawEntry) → o ≡ Some y → IfCie Q (cie_at (end_of address y) y.body)) → ((c : Cie) → Q c → IfFde P (fde_at c end e))
+      → IfFde P (and_so (and_so (sound_if o) (λ y. cie_at (end_of address y) y.body)) (λ cie. fde_at cie end e))
+  by-entry address end e None q h = tt
+  by-entry address end e (Some y) q h = by-cie end e (cie_at (end_of address y) y.body) (q y refl) h
+
+  -- every entry of a table, by what holds of its CIE
+  pub all-by-cie : (debug : Bool) (address : ℕ) (table : List ℕ)
+      → ((y : RawEntry) → Contains (walked_entries debug table).entries y → is_cie debug y ≡ true → IfCie Q (cie_at (end_of address y) y.body))
+      → ((c : Cie) (end : ℕ) (e : RawEntry) → Q c → IfFde P (fde_at c end e)) → All P (frames debug address table).list
+  all-by-cie debug address table q h = all-read P debug address table (λ e.
+      by-entry address (end_of address e) e (entry_named debug (walked_entries debug table).entries (cie_place debug e))
+      (λ y is. let n = named-found debug (walked_entries debug table).entries (cie_place debug e) y is in q y n.0 n.1)
+      (λ c. h c (end_of address e) e))

@@ -10,6 +10,7 @@ use Rattle.cfi_rows.specs.declared.row.Cfa.TheVariants.{Reg, Expr}
 use Rattle.cfi_rows.specs.declared.row.Rule.{Rule}
 use Rattle.cfi_rows.specs.declared.row.Rule.TheVariants as rule
 use Rattle.cfi_rows.specs.FrameRows.{RowValue, Rules}
+use Rattle.cfi_rows.specs.RuleEntries.{Ascend}
 use Rattle.frame_rewrite.specs.declared.cie_key.CieKey.{CieKey}
 use Rattle.frame_rewrite.specs.FrameAnswers.{FrameAnswer}
 use Rattle.frame_rewrite.specs.SpelledFrames.{key_of, key_index, fde_body, more_count, start_of, cie_size, spelled_entries, table_entries}
@@ -40,6 +41,14 @@ pub record RowFits (row : RowValue) : Type 0 where
 pub record KeyFits (k : CieKey) : Type 0 where
   pub ra : k.ra < 256
   pub handler : k.handler < 2 ^ 64
+
+-- the rules of the row that a run answers ascend by register
+abbrev pub RunAscends : Run FrameAnswer → Type 0
+RunAscends r = Ascend 0 r.answer.row.rules
+
+-- its return register has one byte
+abbrev pub RunReturns : Run FrameAnswer → Type 0
+RunReturns r = r.answer.ra < 256
 
 -- an entry at an offset: its fields fit, and its CIE is the one that its answers need
 pub record Writes (spans : List Span) (keys : List CieKey) (place : ℕ) (r : Run FrameAnswer)

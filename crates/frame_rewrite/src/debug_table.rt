@@ -16,9 +16,9 @@ use cfi_rows::frames;
 use elf_image::Elf;
 use rb_bytes::fault::{Fault, FaultKind, NoMemory, Refusal};
 use std::alloc::Global;
-use table_core::{AddrTable, Run, Written};
+use table_core::{AddrTable, ByAddress, Run, Written};
 
-impl AddrTable for DebugFrames {
+impl ByAddress for DebugFrames {
     type Answer = FrameAt;
 
     ghost Meaning = { FrameAnswer };
@@ -53,15 +53,6 @@ impl AddrTable for DebugFrames {
         same_answer(x, y)
     }
 
-    fn read(alloc: Global, elf: &Elf) -> Result<DebugFrames, Refusal> {
-        let frames = frames(alloc, elf, true)?;
-        if let Some(place) = frames.bad {
-            return Err(Refusal::Fault(Fault::at(FaultKind::FrameFault, place)));
-        }
-        let index = index_of(alloc, &frames.list)?;
-        Ok(DebugFrames { frames, index })
-    }
-
     fn at(&self, alloc: Global, a: u64) -> Result<Option<FrameAt>, NoMemory> {
         match tell(alloc, &self.frames, &self.index, a)? {
             Some(told) => Ok(Some(told.answer(false))),
@@ -71,6 +62,17 @@ impl AddrTable for DebugFrames {
 
     fn alike(&self, _a: u64, _b: u64) -> bool {
         false
+    }
+}
+
+impl AddrTable for DebugFrames {
+    fn read(alloc: Global, elf: &Elf) -> Result<DebugFrames, Refusal> {
+        let frames = frames(alloc, elf, true)?;
+        if let Some(place) = frames.bad {
+            return Err(Refusal::Fault(Fault::at(FaultKind::FrameFault, place)));
+        }
+        let index = index_of(alloc, &frames.list)?;
+        Ok(DebugFrames { frames, index })
     }
 
     fn weight(&self, _alloc: Global, map: &AddrMap) -> Result<u64, NoMemory> {

@@ -17,9 +17,9 @@ use cfi_rows::frames;
 use elf_image::{Elf, cuts};
 use rb_bytes::fault::{Fault, FaultKind, NoMemory, Refusal};
 use std::alloc::Global;
-use table_core::{AddrTable, Run, Written};
+use table_core::{AddrTable, ByAddress, Run, Written};
 
-impl AddrTable for EhFrames {
+impl ByAddress for EhFrames {
     type Answer = FrameAt;
 
     ghost Meaning = { FrameAnswer };
@@ -54,6 +54,22 @@ impl AddrTable for EhFrames {
         same_answer(x, y)
     }
 
+    fn at(&self, alloc: Global, a: u64) -> Result<Option<FrameAt>, NoMemory> {
+        match tell(alloc, &self.frames, &self.index, a)? {
+            Some(told) => {
+                let marked = is_marked(&self.cuts, &told.fde);
+                Ok(Some(told.answer(marked)))
+            }
+            None => Ok(None),
+        }
+    }
+
+    fn alike(&self, _a: u64, _b: u64) -> bool {
+        false
+    }
+}
+
+impl AddrTable for EhFrames {
     fn read(alloc: Global, elf: &Elf) -> Result<EhFrames, Refusal> {
         let frames = frames(alloc, elf, false)?;
         if let Some(place) = frames.bad {
@@ -67,20 +83,6 @@ impl AddrTable for EhFrames {
             cuts,
             index,
         })
-    }
-
-    fn at(&self, alloc: Global, a: u64) -> Result<Option<FrameAt>, NoMemory> {
-        match tell(alloc, &self.frames, &self.index, a)? {
-            Some(told) => {
-                let marked = is_marked(&self.cuts, &told.fde);
-                Ok(Some(told.answer(marked)))
-            }
-            None => Ok(None),
-        }
-    }
-
-    fn alike(&self, _a: u64, _b: u64) -> bool {
-        false
     }
 
     fn weight(&self, _alloc: Global, map: &AddrMap) -> Result<u64, NoMemory> {

@@ -4,7 +4,7 @@ ghost use Rattle.std.specs.Prelude.{length, flat_map, slice_get};
 ghost use Rattle.std.specs.List.{position_or_len};
 ghost use Rattle.table_core.specs.AnswerRuns.{IsWithin};
 ghost use Rattle.frame_rewrite.specs.SpelledFrames as spec;
-ghost use Rattle.frame_rewrite.specs.SpelledFits.{RowFits, Writes, WritesAll, EndFits};
+ghost use Rattle.frame_rewrite.specs.SpelledFits.{RowFits, RunAscends, Writes, WritesAll, EndFits};
 
 use crate::answer::FrameAt;
 use crate::cie_key::{CieKey, key_of, new_address};
@@ -73,6 +73,7 @@ fn group_end(first: &Run<FrameAt>, more: &[Run<FrameAt>]) -> u64
 }
 
 fn put_next_rows(out: &mut Vec<u8>, more: &[Run<FrameAt>]) -> Result<(), NoMemory>
+    requires { All RunAscends more.now }
     ensures written { OnOk result (out.new.items ≡ out.old.items ++ flat_map spec.spelled_next more.now) }
     ensures fits { OnOk result (All (λ r. RowFits r.answer.row) more.now) }
 {
@@ -90,6 +91,7 @@ fn put_fields(
     more: &[Run<FrameAt>],
 ) -> Result<(), NoMemory>
     requires ends { All EndFits (first.now ∷ more.now) }
+    requires ascend { All RunAscends (first.now ∷ more.now) }
     requires start { spec.start_of map.now first.now ≤ spec.last_end (first.now.start + first.now.len) more.now }
     ensures written { OnOk result (out.new.items ≡ out.old.items ++ spec.fde_fields map.now first.now more.now) }
     ensures table { OnOk result (first.now.answer.table < 2 ^ 64) }
@@ -151,6 +153,7 @@ fn put_fde(
 ) -> Result<(), NoMemory>
     requires behind { CIE_SIZE * length keys.now.keys ≤ length out.old.items }
     requires ends { All EndFits (first.now ∷ more.now) }
+    requires ascend { All RunAscends (first.now ∷ more.now) }
     requires start { spec.start_of map.now first.now ≤ spec.last_end (first.now.start + first.now.len) more.now }
     ensures written { OnOk result (out.new.items ≡ out.old.items
         ++ spec.spelled_entry (spec.fde_entry debug map.now keys.now.keys (length out.old.items) first.now more.now)) }
@@ -181,6 +184,7 @@ pub(crate) fn put_fdes(
     requires behind { CIE_SIZE * length keys.now.keys ≤ length out.old.items }
     requires within { IsWithin 0 runs.now (2 ^ 64 - 1) }
     requires before { All (λ r. spec.start_of map.now r ≤ r.start) runs.now }
+    requires ascend { All RunAscends runs.now }
     ensures written { OnOk result (out.new.items ≡ out.old.items
         ++ spec.spelled_entries
         (spec.fde_entries debug map.now keys.now.keys (length runs.now) (length out.old.items) runs.now)) }

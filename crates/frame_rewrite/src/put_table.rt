@@ -1,8 +1,8 @@
 // Whole frame tables. LSB, "The .eh_frame section"; DWARF 5, section 6.4.1.
-ghost use Rattle.std.specs.Prelude.{◌≡◌, ◌<◌, ◌≤◌, ◌-◌, ◌^◌, ◌++◌, IfOk, OnOk, All};
+ghost use Rattle.std.specs.Prelude.{◌≡◌, ◌<◌, ◌≤◌, ◌-◌, ◌^◌, ◌++◌, List, IfOk, OnOk, All, Contains, length};
 ghost use Rattle.table_core.specs.AnswerRuns.{IsWithin};
 ghost use Rattle.frame_rewrite.specs.SpelledFrames as spec;
-ghost use Rattle.frame_rewrite.specs.SpelledFits.{KeyFits, IsSpelled};
+ghost use Rattle.frame_rewrite.specs.SpelledFits.{KeyFits, RunAscends, RunReturns, IsSpelled};
 
 use crate::answer::FrameAt;
 use crate::cie_key::{CieKey, key_of};
@@ -15,25 +15,20 @@ use rb_bytes::fault::NoMemory;
 use std::alloc::Global;
 use table_core::Run;
 
-/// The greatest return register.
-const MAX_REGISTER: u64 = 255;
-
 /// The kinds of frames that runs need, each once.
 pub(crate) fn keys_of(
     alloc: Global,
     map: &AddrMap,
     runs: &[Run<FrameAt>],
 ) -> Result<IndexSet<CieKey>, NoMemory>
-    ensures { IfOk result (λ keys. All KeyFits keys.keys) }
+    requires { All RunReturns runs.now }
+    ensures fits { IfOk result (λ keys. All KeyFits keys.keys) }
+    ensures few { IfOk result (λ keys. (kinds : List CieKey) → All (λ r. Contains kinds (spec.key_of map.now r.answer)) runs.now →
+        length keys.keys ≤ length kinds) }
 {
     let mut keys = IndexSet::new(alloc);
     for run in runs {
-        let key = key_of(map, &run.answer);
-        // A return register that was read is no greater.
-        if key.ra > MAX_REGISTER {
-            return Err(NoMemory);
-        }
-        keys.insert(key)?;
+        keys.insert(key_of(map, &run.answer))?;
     }
     Ok(keys)
 }
@@ -56,6 +51,7 @@ pub(crate) fn written(
     requires keys { All KeyFits keys.now.keys }
     requires within { IsWithin 0 runs.now (2 ^ 64 - 1) }
     requires before { All (λ r. spec.start_of map.now r ≤ r.start) runs.now }
+    requires ascend { All RunAscends runs.now }
     ensures { IfOk result (λ bytes. IsSpelled debug map.now keys.now.keys runs.now bytes.items) }
 {
     let mut out = Vec::new(alloc);

@@ -1,7 +1,8 @@
 // How rows are spelled as call frame instructions. DWARF 5, section 6.4.2.
-ghost use Rattle.std.specs.Prelude.{◌≡◌, ◌++◌, ◌∷◌, [], OnOk};
+ghost use Rattle.std.specs.Prelude.{◌≡◌, ◌<◌, ◌^◌, ◌++◌, ◌∷◌, [], OnOk};
 ghost use Rattle.byteorder.specs.Endian.{little_bytes};
 ghost use Rattle.rb_bytes.specs.Leb.{uleb, sleb};
+ghost use Rattle.cfi_rows.specs.RuleEntries.{Ascend};
 ghost use Rattle.frame_rewrite.specs.SpelledFrames as spec;
 ghost use Rattle.frame_rewrite.specs.SpelledFits.{CfaFits, RuleFits, RulesFit, RowFits};
 
@@ -94,6 +95,7 @@ fn put_cfa(out: &mut Vec<u8>, cfa: &Cfa) -> Result<(), NoMemory>
 fn put_rule(out: &mut Vec<u8>, register: u64, rule: &Rule) -> Result<(), NoMemory>
     ensures spelled { OnOk result (out.new.items ≡ out.old.items ++ spec.spelled_rule register rule.now) }
     ensures fits { OnOk result (RuleFits rule.now) }
+    ensures register { register < 2 ^ 64 }
 {
     match rule {
         Rule::Undefined => put_register(out, DW_CFA_undefined as u8, register),
@@ -123,23 +125,19 @@ fn put_rule(out: &mut Vec<u8>, register: u64, rule: &Rule) -> Result<(), NoMemor
 
 // The rules of a row, whose registers ascend.
 fn put_rules(out: &mut Vec<u8>, rules: &[(u64, Rule)]) -> Result<(), NoMemory>
+    requires { Ascend 0 rules.now }
     ensures spelled { OnOk result (out.new.items ≡ out.old.items ++ spec.spelled_rules rules.now) }
     ensures fits { OnOk result (RulesFit 0 rules.now) }
 {
-    let mut least: u128 = 0;
     for (register, rule) in rules {
-        // The rules of a row that was read ascend.
-        if (*register as u128) < least {
-            return Err(NoMemory);
-        }
         put_rule(out, *register, rule)?;
-        least = *register as u128 + 1;
     }
     Ok(())
 }
 
 /// A whole row, from a state in which nothing is known, which is remembered.
 pub(crate) fn put_row(out: &mut Vec<u8>, row: &Row) -> Result<(), NoMemory>
+    requires { Ascend 0 row.now.rules }
     ensures spelled { OnOk result (out.new.items ≡ out.old.items ++ spec.spelled_row row.now) }
     ensures fits { OnOk result (RowFits row.now) }
 {
@@ -150,6 +148,7 @@ pub(crate) fn put_row(out: &mut Vec<u8>, row: &Row) -> Result<(), NoMemory>
 
 /// A location, and a whole row from there on, in an entry that begins with another row.
 pub(crate) fn put_next_row(out: &mut Vec<u8>, location: u64, row: &Row) -> Result<(), NoMemory>
+    requires { Ascend 0 row.now.rules }
     ensures spelled { OnOk result (out.new.items ≡ out.old.items ++ spec.spelled_next_row location row.now) }
     ensures fits { OnOk result (RowFits row.now) }
 {

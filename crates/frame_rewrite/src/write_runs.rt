@@ -1,5 +1,5 @@
 // The two tables written anew, of runs.
-ghost use Rattle.std.specs.Prelude.{◌≡◌, ◌-◌, ◌^◌, ℕ, IfOk};
+ghost use Rattle.std.specs.Prelude.{◌≡◌, ◌<◌, ◌-◌, ◌^◌, ℕ, All, IfOk};
 ghost use Rattle.elf_image.specs.declared.elf.Elf.{Elf};
 ghost use Rattle.rb_bytes.specs.FirstFault.{IsFree};
 ghost use Rattle.table_core.specs.AnswerRuns.{IsWithin, run_at, carried};
@@ -17,6 +17,11 @@ use addr_map::AddrMap;
 use rb_bytes::fault::NoMemory;
 use std::alloc::Global;
 use table_core::{Run, Written};
+
+// What a slice of bytes holds are bytes.
+fn are_bytes(bytes: &[u8])
+    ensures { All (λ b. b < 256) bytes.now }
+{}
 
 /// `.eh_frame`; where there was no such section, no bytes.
 pub(crate) fn write_eh(
@@ -40,11 +45,8 @@ pub(crate) fn write_eh(
             lists,
         });
     }
+    are_bytes(&table.frames.section);
     let keys = keys_of(alloc, map, runs)?;
-    // Each kind of frame is that of a CIE that was read.
-    if keys.len() as u64 > table.frames.cies {
-        return Err(NoMemory);
-    }
     let bytes = written(alloc, false, &keys, map, runs)?;
     Ok(Written { bytes, lists })
 }
@@ -70,6 +72,7 @@ pub(crate) fn write_debug(
             lists,
         });
     }
+    are_bytes(&table.frames.section);
     let keys = keys_of(alloc, map, runs)?;
     let bytes = written(alloc, true, &keys, map, runs)?;
     Ok(Written { bytes, lists })

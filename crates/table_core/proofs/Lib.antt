@@ -7,3 +7,4 @@ pub mod MergedPieces
 pub mod FoundFirst
 pub mod OnlyWeights
 pub mod Numbers
+pub mod SameLists

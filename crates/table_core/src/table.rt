@@ -19,11 +19,10 @@ use elf_image::elf::Elf;
 use rb_bytes::fault::{NoMemory, Refusal};
 use std::alloc::Global;
 
-/// A table of a file that answers by address, and that can be written anew for moved code.
-///
-/// The law is the clause `law` of `write_runs`. Whoever writes the file owes that the written table stands in it.
-pub trait AddrTable: Drop {
-    /// An answer of the table, never an empty one.
+/// What a table answers by address, and the terms in which its law speaks: they stand below the functions that write it, so
+/// that its weight can be found from runs of its own answers.
+pub trait ByAddress: Drop {
+    /// An answer, never an empty one.
     type Answer: Drop;
 
     /// What an answer says, whatever memory it owns.
@@ -31,7 +30,7 @@ pub trait AddrTable: Drop {
 
     ghost said: { Self.Answer → Meaning };
 
-    /// What the table says at an address.
+    /// What is said at an address.
     ghost says: { Self → ℕ → Option Meaning };
 
     /// What the table in a file says at an address; none where the file has a fault of the table.
@@ -70,22 +69,30 @@ pub trait AddrTable: Drop {
     fn same(x: &Self::Answer, y: &Self::Answer) -> bool
         ensures { IsTrue result ↔ (said x.now ≡ said y.now) };
 
-    /// Reads the table, or refuses the file for the table's first fault.
-    fn read(alloc: Global, elf: &Elf) -> Result<Self, Refusal>
-    where
-        Self: Sized,
-        ensures reads { MatchResult result (λ t. (means elf.now ≡ Some (says t)) × IsFree (has elf.now))
-            (λ e. IsRefusalBy (has elf.now) e) }
-        ensures comes { IfOk result (λ t. comes_from t elf.now) };
-
     /// The answer at an address.
     fn at(&self, alloc: Global, a: u64) -> Result<Option<Self::Answer>, NoMemory>
         ensures { IfOk result (λ o. option_map said o ≡ says self.now a) };
 
-    /// Whether two addresses certainly have the same answer. `false` says nothing; it is the answer of a table that
-    /// can't tell without looking both up.
+    /// Whether two addresses certainly have the same answer. `false` says nothing; it is the answer of what can't tell
+    /// without looking both up.
     fn alike(&self, a: u64, b: u64) -> bool
         ensures { IsTrue result → says self.now a ≡ says self.now b };
+
+    /// A map that is allowed has no byte at the last address, so each run ends below 2 ^ 64.
+    ghost is_low: { (t : Self) (spans : List Span) → allows t spans → AreLow spans };
+}
+
+/// A table of a file that answers by address, and that can be written anew for moved code.
+///
+/// The law is the clause `law` of `write_runs`. Whoever writes the file owes that the written table stands in it.
+pub trait AddrTable: ByAddress {
+    /// Reads the table, or refuses the file for the table's first fault.
+    fn read(alloc: Global, elf: &Elf) -> Result<Self, Refusal>
+    where
+        Self: Sized,
+        ensures reads { MatchResult result (λ t. (Self.means elf.now ≡ Some (Self.says t)) × IsFree (Self.has elf.now))
+            (λ e. IsRefusalBy (Self.has elf.now) e) }
+        ensures comes { IfOk result (λ t. Self.comes_from t elf.now) };
 
     /// The weight of the table that would be written for a map, by which its size is limited; or the greatest number, where
     /// the weight is none of 64 bits.
@@ -93,7 +100,7 @@ pub trait AddrTable: Drop {
         requires ordered { AllPairs IsLineBefore map.now }
         requires disjoint { AllPairs ShareNoByte map.now }
         requires low { AreLow map.now }
-        ensures { IfOk result (λ n. (weight : ℕ) × weighs self.now map.now weight × (n ≡ min weight (2 ^ 64 - 1))) };
+        ensures { IfOk result (λ n. (weight : ℕ) × Self.weighs self.now map.now weight × (n ≡ min weight (2 ^ 64 - 1))) };
 
     /// Writes the table anew, of runs that have the old answers at the owners of their bytes.
     fn write_runs(
@@ -102,17 +109,14 @@ pub trait AddrTable: Drop {
         runs: &[Run<Self::Answer>],
         map: &AddrMap,
     ) -> Result<Written, NoMemory>
-        requires allowed { allows self.now map.now }
+        requires allowed { Self.allows self.now map.now }
         requires ordered { AllPairs IsLineBefore map.now }
         requires disjoint { AllPairs ShareNoByte map.now }
-        requires fitting { fits self.now map.now (said_runs said runs.now) }
+        requires fitting { Self.fits self.now map.now (said_runs Self.said runs.now) }
         requires within { IsWithin 0 runs.now (2 ^ 64 - 1) }
-        requires answers { (p : ℕ) → option_map said (run_at runs.now p) ≡ carried (says self.now) map.now p }
-        ensures law { IfOk result (λ w. (i f : Elf) → comes_from self.now i → stands i map.now w f →
-            IsCarried (carries map.now) map.now (λ p. option_map said (run_at runs.now p)) (means f) × IsFree (has f)
-            × keeps i f) }
-        ensures made { IfOk result (λ w. makes self.now map.now (said_runs said runs.now) w) };
-
-    /// A map that is allowed has no byte at the last address, so each run ends below 2 ^ 64.
-    ghost is_low: { (t : Self) (spans : List Span) → allows t spans → AreLow spans };
+        requires answers { (p : ℕ) → option_map Self.said (run_at runs.now p) ≡ carried (Self.says self.now) map.now p }
+        ensures law { IfOk result (λ w. (i f : Elf) → Self.comes_from self.now i → Self.stands i map.now w f →
+            IsCarried (Self.carries map.now) map.now (λ p. option_map Self.said (run_at runs.now p)) (Self.means f) × IsFree (Self.has f)
+            × Self.keeps i f) }
+        ensures made { IfOk result (λ w. Self.makes self.now map.now (said_runs Self.said runs.now) w) };
 }

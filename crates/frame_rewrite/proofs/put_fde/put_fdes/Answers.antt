@@ -3,10 +3,10 @@ use Rattle.std.specs.Prelude.{All}
 use Rattle.table_core.specs.declared.run.Run.{Run}
 use Rattle.table_core.specs.AnswerRuns.{IsWithin}
 use Rattle.frame_rewrite.specs.FrameAnswers.{FrameAnswer}
-use Rattle.frame_rewrite.specs.SpelledFits.{EndFits, Writes, WritesAll}
+use Rattle.frame_rewrite.specs.SpelledFits.{EndFits, RunAscends, Writes, WritesAll}
 use Rattle.frame_rewrite.specs.SpelledFrames.{more_count, start_of, last_end, spelled_entry, spelled_entries, fde_entry, fde_entries}
 use Rattle.frame_rewrite.proofs.Appends.{empty}
-use Rattle.frame_rewrite.proofs.EntrySteps.{no-entries, no-writes, out-of-fuel, out-of-writes, group-ends, group-start, group-more, writes-more, within-behind, before-behind, longer}
+use Rattle.frame_rewrite.proofs.EntrySteps.{no-entries, no-writes, out-of-fuel, out-of-writes, group-ends, group-start, group-more, writes-more, within-behind, before-behind, ascend-behind, group-ascends, longer}
 use Rattle.frame_rewrite.proofs.TableBack.{Before}
 use Rattle.frame_rewrite.proofs.put_fde.put_fdes.Goals as goal
 
@@ -43,6 +43,12 @@ put_fde-requires-clause-start c =
     (2 ^ 64 - 1) c.in-Some.ensures.cases.0
     c.loop-count.invariant.within c.loop-count.invariant.before)
 
+pub put_fde-requires-clause-ascend : goal.put_fde-requires-clause-ascend
+put_fde-requires-clause-ascend c =
+    subst (λ (m : Runs). All RunAscends (c.in-Some.first.now ∷ m)) (sym c.split_at.ensures.front)
+    (group-ascends c.more_count.result c.in-Some.first.now c.in-Some.others.now c.loop-count.rest.now
+    c.in-Some.ensures.cases.0 c.loop-count.invariant.ascend)
+
 pub loop-count-preserved : goal.loop-count-preserved
 loop-count-preserved c =
     let is = c.in-Some.ensures.cases.0 in
@@ -76,6 +82,9 @@ loop-count-preserved c =
       before = subst (All (Before c.args.map.now)) (sym back)
           (before-behind c.args.map.now (more_count c.in-Some.first.now c.in-Some.others.now) c.in-Some.first.now
           c.in-Some.others.now c.loop-count.rest.now is c.loop-count.invariant.before);
+      ascend = subst (All RunAscends) (sym back)
+          (ascend-behind (more_count c.in-Some.first.now c.in-Some.others.now) c.in-Some.first.now c.in-Some.others.now
+          c.loop-count.rest.now is c.loop-count.invariant.ascend);
       behind = longer c.loop-count.out.items c.put_fde.new.out.items _
           (fde_entry c.args.debug c.args.map.now c.args.keys.now.keys (length c.loop-count.out.items) c.in-Some.first.now
           (take (more_count c.in-Some.first.now c.in-Some.others.now) c.in-Some.others.now)) written

@@ -2,7 +2,7 @@ use Rattle.std.proofs.Common.{◌≡◌, ◌≤◌, ◌*◌, ◌-◌, ◌++◌, 
 use Rattle.std.specs.Prelude.{All}
 use Rattle.table_core.specs.AnswerRuns.{IsWithin}
 use Rattle.frame_rewrite.specs.SpelledFrames.{spelled_entries, fde_entries}
-use Rattle.frame_rewrite.specs.SpelledFits.{WritesAll}
+use Rattle.frame_rewrite.specs.SpelledFits.{RunAscends, WritesAll}
 use Rattle.frame_rewrite.proofs.TableBack.{Before}
 use Rattle.frame_rewrite.proofs.put_fde.put_fdes.Given as goal
 
@@ -16,5 +16,6 @@ invariant-loop-count l = record {
       → WritesAll l.map l.keys.keys (length l.runs) (length l.fn.out.items) l.runs;
   within : IsWithin 0 l.rest (2 ^ 64 - 1);
   before : All (Before l.map) l.rest;
+  ascend : All RunAscends l.rest;
   behind : 32 * length l.keys.keys ≤ length l.out.items;
 }

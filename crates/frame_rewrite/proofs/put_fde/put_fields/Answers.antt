@@ -1,13 +1,22 @@
-use Rattle.std.proofs.Common.{[], ◌∷◌, ap, ◌∙◌, ◌++◌, ◌≡◌, ℕ, ◌-◌, ◌+◌, flat_map}
+use Rattle.std.proofs.Common.{[], ◌∷◌, ap, sym, subst, ◌∙◌, ◌++◌, ◌≡◌, ℕ, ◌-◌, ◌+◌, flat_map}
+use Rattle.std.proofs.lemmas.List.Elements.{All-head, All-tail}
 use Rattle.byteorder.specs.Endian.{little_bytes}
 use Rattle.table_core.specs.declared.run.Run.{Run}
 use Rattle.frame_rewrite.specs.FrameAnswers.{FrameAnswer}
+use Rattle.frame_rewrite.specs.SpelledFits.{RunAscends}
 use Rattle.frame_rewrite.specs.SpelledFrames.{start_of, last_end, spelled_row, spelled_next}
 use Rattle.frame_rewrite.proofs.Appends.{six-puts}
 use Rattle.frame_rewrite.proofs.put_fde.put_fields.Goals as goal
 
 same-less : (a b c d : ℕ) → a ≡ c → b ≡ d → a - b ≡ c - d
 same-less a b c d e f = cc
+
+pub put_row-requires : goal.put_row-requires
+put_row-requires c =
+    subst RunAscends (sym c.first.view_is) (All-head RunAscends c.args.first.now c.args.more.now c.requires.ascend)
+
+pub put_next_rows-requires : goal.put_next_rows-requires
+put_next_rows-requires c = All-tail RunAscends c.args.first.now c.args.more.now c.requires.ascend
 
 pub returns-clause-written : goal.returns-clause-written
 returns-clause-written c =

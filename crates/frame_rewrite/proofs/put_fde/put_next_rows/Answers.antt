@@ -1,11 +1,16 @@
-use Rattle.std.proofs.Common.{◌∙◌, subst}
-use Rattle.std.proofs.lemmas.List.Elements.{All-more}
+use Rattle.std.proofs.Common.{◌∙◌, sym, subst}
+use Rattle.std.proofs.lemmas.List.Elements.{All-get_or, All-more}
 use Rattle.table_core.specs.declared.run.Run.{Run}
 use Rattle.frame_rewrite.specs.FrameAnswers.{FrameAnswer}
 use Rattle.frame_rewrite.specs.SpelledFrames.{spelled_next}
-use Rattle.frame_rewrite.specs.SpelledFits.{RowFits}
+use Rattle.frame_rewrite.specs.SpelledFits.{RowFits, RunAscends}
 use Rattle.frame_rewrite.proofs.Appends.{spelled-more, all-taken}
 use Rattle.frame_rewrite.proofs.put_fde.put_next_rows.Goals as goal
+
+pub put_next_row-requires : goal.put_next_row-requires
+put_next_row-requires c =
+    subst RunAscends (sym (c.run.view_is ∙ c.run-item.is))
+    (All-get_or RunAscends c.args.more.now c.loop-run.run-index c.run-item.result c.loop-run-test.true c.requires)
 
 pub loop-run-preserved : goal.loop-run-preserved
 loop-run-preserved c =

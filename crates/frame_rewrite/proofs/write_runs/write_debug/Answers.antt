@@ -1,10 +1,12 @@
-use Rattle.std.proofs.Common.{◌∙◌, ◌≡◌, true, rules, length}
+use Rattle.std.proofs.Common.{◌∙◌, ◌≡◌, true, rules, subst, length}
 use Rattle.table_core.specs.Sections.{held}
 use Rattle.cfi_rows.specs.ReadFrames.{read_as, section_held}
 use Rattle.frame_rewrite.specs.FrameAnswers.{is_never_marked}
 use Rattle.frame_rewrite.specs.Tables.{debug_name}
 use Rattle.frame_rewrite.proofs.AnswersBack.{reached-before}
 use Rattle.frame_rewrite.proofs.Appends.{empty}
+use Rattle.frame_rewrite.proofs.ReturnRegisters.{Bytes}
+use Rattle.frame_rewrite.proofs.ToldRuns.{all-ascend, all-return}
 use Rattle.frame_rewrite.proofs.WrittenTables.{stands, none-listed, nothing-stands, debug-reached}
 use Rattle.frame_rewrite.proofs.write_runs.write_debug.Goals as goal
 
@@ -16,6 +18,16 @@ returns-then-is_empty-clause-law c =
     (none-listed c.args.table.now.frames.debug (section_held c.args.table.now.frames)
     (empty c.args.table.now.frames.section.items none)) (there ∙ c.new.ensures.items) c.requires.answers
 
+pub keys_of-requires : goal.keys_of-requires
+keys_of-requires c =
+    all-return c.args.table.now.frames.debug is_never_marked (section_held c.args.table.now.frames)
+    c.args.map.now c.args.runs.now c.requires.within c.requires.answers (subst Bytes c.deref.ensures.value c.are_bytes.ensures)
+
+pub written-requires-clause-ascend : goal.written-requires-clause-ascend
+written-requires-clause-ascend c =
+    all-ascend c.args.table.now.frames.debug is_never_marked (section_held c.args.table.now.frames)
+    c.args.map.now c.args.runs.now c.requires.within c.requires.answers
+
 pub written-requires-clause-before : goal.written-requires-clause-before
 written-requires-clause-before c =
     reached-before c.args.map.now c.args.runs.now c.args.runs.now
@@ -24,6 +36,6 @@ written-requires-clause-before c =
 pub returns-clause-law : goal.returns-clause-law
 returns-clause-law c = λ f there.
     stands true is_never_marked c.args.map.now _ c.args.runs.now c.in_ok-bytes.bytes.items (held f debug_name)
-    c.in_ok-keys.ensures c.requires.within
+    c.in_ok-keys.ensures.fits c.requires.within
     (debug-reached c.args.table.now c.args.map.now c.args.runs.now c.requires.within c.requires.answers)
     c.in_ok-bytes.ensures there

@@ -1,4 +1,4 @@
-use Rattle.std.proofs.Common.{◌∙◌, ◌≡◌, ◌≤◌, false, sym, ap, length, arith}
+use Rattle.std.proofs.Common.{◌∙◌, false, sym, ap, subst}
 use Rattle.elf_image.specs.file.SectionNames.{section_called}
 use Rattle.table_core.specs.Sections.{Held, held}
 use Rattle.cfi_rows.specs.KeptTables.{SaidFrames}
@@ -6,6 +6,8 @@ use Rattle.cfi_rows.specs.ReadFrames.{read_as, section_held}
 use Rattle.frame_rewrite.specs.FrameAnswers.{is_marked_by, cuts_of}
 use Rattle.frame_rewrite.specs.Tables.{eh_name}
 use Rattle.frame_rewrite.proofs.AnswersBack.{reached-before}
+use Rattle.frame_rewrite.proofs.ReturnRegisters.{Bytes}
+use Rattle.frame_rewrite.proofs.ToldRuns.{all-ascend, all-return, few-kinds}
 use Rattle.frame_rewrite.proofs.WrittenTables.{stands, none-listed, nothing-stands, nothing-held, eh-reached, makes, makes-nothing}
 use Rattle.frame_rewrite.proofs.write_runs.write_eh.Goals as goal
 
@@ -22,6 +24,16 @@ pub returns-then-not-table-clause-made : goal.returns-then-not-table-clause-made
 returns-then-not-table-clause-made c = makes-nothing c.args.table.now c.args.map.now c.args.runs.now _ c.if-not-table.true
     c.new.ensures.items c.new-lists.ensures.items
 
+pub keys_of-requires : goal.keys_of-requires
+keys_of-requires c =
+    all-return c.args.table.now.frames.debug (is_marked_by c.args.table.now.cuts.items) (section_held c.args.table.now.frames)
+    c.args.map.now c.args.runs.now c.requires.within c.requires.answers (subst Bytes c.deref.ensures.value c.are_bytes.ensures)
+
+pub written-requires-clause-ascend : goal.written-requires-clause-ascend
+written-requires-clause-ascend c =
+    all-ascend c.args.table.now.frames.debug (is_marked_by c.args.table.now.cuts.items) (section_held c.args.table.now.frames)
+    c.args.map.now c.args.runs.now c.requires.within c.requires.answers
+
 pub written-requires-clause-before : goal.written-requires-clause-before
 written-requires-clause-before c =
     reached-before c.args.map.now c.args.runs.now c.args.runs.now
@@ -30,17 +42,15 @@ written-requires-clause-before c =
 pub returns-clause-law : goal.returns-clause-law
 returns-clause-law c = λ i f from there.
     stands false (is_marked_by (cuts_of f)) c.args.map.now _ c.args.runs.now c.in_ok-bytes.bytes.items (held f eh_name)
-    c.in_ok-keys.ensures c.requires.within
+    c.in_ok-keys.ensures.fits c.requires.within
     (eh-reached c.args.table.now c.args.map.now c.args.runs.now c.requires.allowed c.requires.within c.requires.answers)
     c.in_ok-bytes.ensures there
 
 pub returns-clause-made : goal.returns-clause-made
 returns-clause-made c =
-    let read : (read_as c.args.table.now.frames).cies
-    ≡ c.args.table.now.frames.cies = ap (λ (s : SaidFrames). s.cies) c.args.table.now.frames.read in
-    let len = c.len.ensures.len in
-    let few : length c.in_ok-keys.keys.keys ≤ (read_as c.args.table.now.frames).cies = omega
-    (arith, len, read, c.if-len-table.false) in
-    makes c.args.table.now c.args.map.now _ c.args.runs.now _ c.in_ok-keys.ensures c.requires.within c.requires.answers
+    let few = few-kinds c.args.table.now.frames.debug (is_marked_by c.args.table.now.cuts.items) (section_held c.args.table.now.frames)
+    c.args.map.now c.args.runs.now c.requires.within c.requires.answers
+    (ap (λ (s : SaidFrames). s.bad) c.args.table.now.frames.read ∙ c.args.table.now.sound) c.in_ok-keys.keys.keys c.in_ok-keys.ensures.few in
+    makes c.args.table.now c.args.map.now _ c.args.runs.now _ c.in_ok-keys.ensures.fits c.requires.within c.requires.answers
     (eh-reached c.args.table.now c.args.map.now c.args.runs.now c.requires.allowed c.requires.within c.requires.answers)
     few c.if-not-table.false c.in_ok-bytes.ensures c.new-lists.ensures.items

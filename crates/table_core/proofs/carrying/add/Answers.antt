@@ -9,14 +9,14 @@ use Rattle.table_core.proofs.carrying.add.Goals as goal
 use Rattle.table_core.proofs.carrying.add.Goals.{else-ends_at-via-then-ends_at+else-ends_with, else-ends_at-via-else-ends_at}
 
 pub ends_at-requires : goal.ends_at-requires
-ends_at-requires g c = rw c.deref.ensures.value (unsaid-within g.T.AddrTable.said 0 _ _ c.requires.before)
+ends_at-requires g c = rw c.deref.ensures.value (unsaid-within g.T.ByAddress.said 0 _ _ c.requires.before)
 
 pub lengthen-requires : goal.lengthen-requires
-lengthen-requires g c = last-room 0 _ c.args.start c.args.len (2 ^ 64) (unsaid-within g.T.AddrTable.said 0 _ _ c.requires.before) c.requires.fits
+lengthen-requires g c = last-room 0 _ c.args.start c.args.len (2 ^ 64) (unsaid-within g.T.ByAddress.said 0 _ _ c.requires.before) c.requires.fits
 
 pub returns-then-ends_with-clause-answers : goal.returns-then-ends_with-clause-answers
 returns-then-ends_with-clause-answers g c = λ p.
-    let said = g.T.AddrTable.said in
+    let said = g.T.ByAddress.said in
     let runs = c.args.runs.now.items in
     let ends = said-ends said runs c.args.start ∙ ap (ends_at c.args.start) (sym c.deref.ensures.value) ∙ sym c.ends_at.ensures ∙ c.if-ends_at.true in
     let is = subst (λ l. IsAnswer (Some (said c.args.answer)) (said_runs said l)) c.deref-then-ends_at.ensures.value (c.if-ends_with.ensures.has refl) in
@@ -26,32 +26,32 @@ returns-then-ends_with-clause-answers g c = λ p.
 
 pub returns-then-ends_with-clause-within : goal.returns-then-ends_with-clause-within
 returns-then-ends_with-clause-within g c =
-    rw (c.lengthen.ensures, said-longer g.T.AddrTable.said _ c.args.len) (within-longer 0 _ c.args.start c.args.len c.requires.before)
+    rw (c.lengthen.ensures, said-longer g.T.ByAddress.said _ c.args.len) (within-longer 0 _ c.args.start c.args.len c.requires.before)
 
 pub returns-then-ends_with-clause-longer : goal.returns-then-ends_with-clause-longer
 returns-then-ends_with-clause-longer g c =
-    rw (c.lengthen.ensures, said-longer g.T.AddrTable.said _ c.args.len) (longest-longer _ c.args.len c.requires.longest)
+    rw (c.lengthen.ensures, said-longer g.T.ByAddress.said _ c.args.len) (longest-longer _ c.args.len c.requires.longest)
 
 pub returns-then-ends_with-clause-last : goal.returns-then-ends_with-clause-last
 returns-then-ends_with-clause-last g c =
-    let said = g.T.AddrTable.said in
+    let said = g.T.ByAddress.said in
     let is = subst (λ l. IsAnswer (Some (said c.args.answer)) (said_runs said l)) c.deref-then-ends_at.ensures.value (c.if-ends_with.ensures.has refl) in
     rw (c.lengthen.ensures, said-longer said c.args.runs.now.items c.args.len)
     (answer-longer (Some (said c.args.answer)) (said_runs said c.args.runs.now.items) c.args.len is)
 
 pub returns-in_ok-push-clause-answers : goal.returns-in_ok-push-clause-answers
-returns-in_ok-push-clause-answers g c = λ p. rw (c.in_ok-push.ensures.items, said-more g.T.AddrTable.said _ _) (run_at-more _ _ p)
+returns-in_ok-push-clause-answers g c = λ p. rw (c.in_ok-push.ensures.items, said-more g.T.ByAddress.said _ _) (run_at-more _ _ p)
 
 pub returns-in_ok-push-clause-within : goal.returns-in_ok-push-clause-within
 returns-in_ok-push-clause-within g c =
-    rw (c.in_ok-push.ensures.items, said-more g.T.AddrTable.said _ _)
+    rw (c.in_ok-push.ensures.items, said-more g.T.ByAddress.said _ _)
     (within-more 0 _ _ _ c.requires.before c.requires.some (omega arith))
 
 pub returns-in_ok-push-clause-longer : goal.returns-in_ok-push-clause-longer
 returns-in_ok-push-clause-longer g c =
-    let said = g.T.AddrTable.said in
+    let said = g.T.ByAddress.said in
     let runs = c.args.runs.now.items in
-    let r : Run g.T.AddrTable.Meaning = record { start = c.args.start; len = c.args.len; answer = said c.args.answer } in
+    let r : Run g.T.ByAddress.Meaning = record { start = c.args.start; len = c.args.len; answer = said c.args.answer } in
     let apart : IfLast (IsApart r) (said_runs said runs) = elim c.else-ends_at.branch [
       | else-ends_at-via-then-ends_at+else-ends_with w ↦
           last-weaker {P = λ l. l.answer ≢ r.answer} {Q = IsApart r} (said_runs said runs) (λ l differ meets. differ)
@@ -64,6 +64,6 @@ returns-in_ok-push-clause-longer g c =
 
 pub returns-in_ok-push-clause-last : goal.returns-in_ok-push-clause-last
 returns-in_ok-push-clause-last g c =
-    rw (c.in_ok-push.ensures.items, said-more g.T.AddrTable.said _ _)
-    (answer-more {A = g.T.AddrTable.Meaning} (said_runs g.T.AddrTable.said c.args.runs.now.items)
-    (record { start = c.args.start; len = c.args.len; answer = g.T.AddrTable.said c.args.answer }))
+    rw (c.in_ok-push.ensures.items, said-more g.T.ByAddress.said _ _)
+    (answer-more {A = g.T.ByAddress.Meaning} (said_runs g.T.ByAddress.said c.args.runs.now.items)
+    (record { start = c.args.start; len = c.args.len; answer = g.T.ByAddress.said c.args.answer }))

@@ -5,33 +5,33 @@ use Rattle.table_core.proofs.Grown.{run_at-longer, within-longer, longest-longer
 use Rattle.table_core.proofs.carrying.add_span.Goals as goal
 
 pub ends_at-requires : goal.ends_at-requires
-ends_at-requires g c = rw c.deref.ensures.value (unsaid-within g.T.AddrTable.said 0 _ _ c.requires.before)
+ends_at-requires g c = rw c.deref.ensures.value (unsaid-within g.T.ByAddress.said 0 _ _ c.requires.before)
 
 pub lengthen-requires : goal.lengthen-requires
 lengthen-requires g c =
-    last-room 0 _ c.args.span.out c.args.span.len (2 ^ 64) (unsaid-within g.T.AddrTable.said 0 _ _ c.requires.before) c.requires.fits
+    last-room 0 _ c.args.span.out c.args.span.len (2 ^ 64) (unsaid-within g.T.ByAddress.said 0 _ _ c.requires.before) c.requires.fits
 
 pub returns-then-alike-clause-answers : goal.returns-then-alike-clause-answers
 returns-then-alike-clause-answers g c = λ p.
-    let said = g.T.AddrTable.said in
+    let said = g.T.ByAddress.said in
     let runs = c.args.runs.now.items in
     let ends = said-ends said runs c.args.span.out ∙ ap (ends_at c.args.span.out) (sym c.deref.ensures.value) ∙ sym c.ends_at.ensures ∙ c.if-ends_at.true in
     let is = subst (λ o. IsAnswer o (said_runs said runs)) (c.if-alike.ensures refl) c.requires.asked in
     rw (c.lengthen.ensures, said-longer said runs c.args.span.len)
-    (run_at-longer (said_runs said runs) c.args.span.out c.args.span.len p (g.T.AddrTable.says c.args.table.now) c.args.span.input ends is)
+    (run_at-longer (said_runs said runs) c.args.span.out c.args.span.len p (g.T.ByAddress.says c.args.table.now) c.args.span.input ends is)
 
 pub returns-then-alike-clause-within : goal.returns-then-alike-clause-within
 returns-then-alike-clause-within g c =
-    rw (c.lengthen.ensures, said-longer g.T.AddrTable.said _ c.args.span.len) (within-longer 0 _ c.args.span.out c.args.span.len c.requires.before)
+    rw (c.lengthen.ensures, said-longer g.T.ByAddress.said _ c.args.span.len) (within-longer 0 _ c.args.span.out c.args.span.len c.requires.before)
 
 pub returns-then-alike-clause-longer : goal.returns-then-alike-clause-longer
 returns-then-alike-clause-longer g c =
-    rw (c.lengthen.ensures, said-longer g.T.AddrTable.said _ c.args.span.len) (longest-longer _ c.args.span.len c.requires.longest)
+    rw (c.lengthen.ensures, said-longer g.T.ByAddress.said _ c.args.span.len) (longest-longer _ c.args.span.len c.requires.longest)
 
 pub returns-then-alike-clause-asked : goal.returns-then-alike-clause-asked
 returns-then-alike-clause-asked g c =
-    rw (c.lengthen.ensures, said-longer g.T.AddrTable.said c.args.runs.now.items c.args.span.len)
-    (answer-longer (g.T.AddrTable.says c.args.table.now c.args.asked.now) (said_runs g.T.AddrTable.said c.args.runs.now.items) c.args.span.len c.requires.asked)
+    rw (c.lengthen.ensures, said-longer g.T.ByAddress.said c.args.runs.now.items c.args.span.len)
+    (answer-longer (g.T.ByAddress.says c.args.table.now c.args.asked.now) (said_runs g.T.ByAddress.said c.args.runs.now.items) c.args.span.len c.requires.asked)
 
 pub returns-in-None-clause-within : goal.returns-in-None-clause-within
 returns-in-None-clause-within g c = within-up 0 _ _ _ c.requires.before (omega arith)

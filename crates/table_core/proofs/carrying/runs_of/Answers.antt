@@ -6,14 +6,14 @@ use Rattle.table_core.proofs.carrying.runs_of.Goals.{in-Some+then-span-gt0+in_ok
 pub loop-i-preserved : goal.loop-i-preserved
 loop-i-preserved g c = elim c.match-span.branch [
   | in-Some+then-span-gt0+in_ok-add_span-in-Some w ↦ record {
-    made = rw w.runs-is (made_more (g.T.AddrTable.says c.args.table.now) c.args.map.now c.requires.ordered c.requires.disjoint
+    made = rw w.runs-is (made_more (g.T.ByAddress.says c.args.table.now) c.args.map.now c.requires.ordered c.requires.disjoint
         c.loop-i.i w.in-Some.span (sym w.in-Some.ensures)
-        (g.met.T.AddrTable.is_low c.args.table.now c.args.map.now c.requires.allowed) _ _ c.loop-i.invariant.made w.if-span-gt0.true
+        c.requires.low _ _ c.loop-i.invariant.made w.if-span-gt0.true
         w.in_ok-add_span-in-Some.ensures.answers w.in_ok-add_span-in-Some.ensures.within w.in_ok-add_span-in-Some.ensures.longer);
     asked = rw (w.runs-is, w.asked-is) w.in_ok-add_span-in-Some.ensures.asked;
   }
   | in-Some+else-span-gt0 w ↦ record {
-    made = rw w.runs-is (made_same (g.T.AddrTable.says c.args.table.now) c.args.map.now c.requires.ordered c.requires.disjoint
+    made = rw w.runs-is (made_same (g.T.ByAddress.says c.args.table.now) c.args.map.now c.requires.ordered c.requires.disjoint
         c.loop-i.i w.in-Some.span (sym w.in-Some.ensures) _ c.loop-i.invariant.made (omega (arith, w.if-span-gt0.false)));
     asked = rw (w.runs-is, w.asked-is) c.loop-i.invariant.asked;
   }

@@ -5,6 +5,6 @@ use Rattle.table_core.proofs.carrying.runs_of.Given as goal
 
 abbrev pub invariant-loop-i : goal.invariant-loop-i
 invariant-loop-i g l = record {
-  made : AreMade (g.T.AddrTable.says l.table) l.map l.i (said_runs g.T.AddrTable.said l.runs.items);
-  asked : IsAnswer (g.T.AddrTable.says l.table l.asked) (said_runs g.T.AddrTable.said l.runs.items);
+  made : AreMade (g.T.ByAddress.says l.table) l.map l.i (said_runs g.T.ByAddress.said l.runs.items);
+  asked : IsAnswer (g.T.ByAddress.says l.table l.asked) (said_runs g.T.ByAddress.said l.runs.items);
 }

@@ -1,6 +1,6 @@
 use Rattle.std.proofs.Common.{rules, ◌≡◌, ◌∙◌, ◌<◌, ◌≤◌, ◌+◌, ◌-◌, ◌++◌, [], ◌∷◌, ℕ, List, arith, length, ap, sym}
 use Rattle.table_core.specs.DebugUnits.{Walked, units_from, unit_length}
-use Rattle.table_core.proofs.UnitsWalk.{front_unit, next_unit, last_unit, no_unit, units_end}
+use Rattle.table_core.proofs.UnitsWalk.{next_unit, last_unit, no_unit, units_end}
 use Rattle.table_core.proofs.debug_unit.debug_units.Goals as goal
 
 pub returns-then-is_empty : goal.returns-then-is_empty

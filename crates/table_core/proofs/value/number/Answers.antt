@@ -1,4 +1,4 @@
-use Rattle.std.proofs.Common.{◌≡◌, ◌∙◌, ap, Ok, ℕ, sym}
+use Rattle.std.proofs.Common.{◌∙◌, ap, Ok, ℕ, sym}
 use Rattle.table_core.proofs.Numbers.{number_of_taken}
 use Rattle.table_core.proofs.value.number.Goals as goal
 

@@ -3,7 +3,7 @@ use Rattle.cfi_rows.specs.ReadFrames.{read_as}
 use Rattle.frame_rewrite.specs.FrameAnswers.{is_marked_by}
 use Rattle.frame_rewrite.specs.FrameLookups.{answer_by, is_marked_as}
 use Rattle.frame_rewrite.proofs.ToldEntries.{told-answer}
-use Rattle.frame_rewrite.proofs.eh_table.EhFramesAddrTable.at.Goals as goal
+use Rattle.frame_rewrite.proofs.eh_table.EhFramesByAddress.at.Goals as goal
 
 pub returns-in-Some : goal.returns-in-Some
 returns-in-Some c =

@@ -1,0 +1,68 @@
+-- The answers of runs are those of entries that were read.
+use Rattle.std.proofs.Common.{ℕ, ◌-◌, ◌^◌, ◌≤◌, ◌<◌, ◌≡◌, List, map, length, Bool, None, sym, subst, arith}
+use Rattle.std.specs.Prelude.{All, Contains}
+use Rattle.std.proofs.lemmas.List.{length-map}
+use Rattle.std.proofs.lemmas.List.Elements.{All-contains}
+use Rattle.rb_bytes.proofs.ListLemmas.{all_of, in_map}
+use Rattle.addr_map.specs.declared.span.Span.{Span}
+use Rattle.addr_map.specs.Spans.{new}
+use Rattle.table_core.specs.declared.run.Run.{Run}
+use Rattle.table_core.specs.AnswerRuns.{IsWithin, run_at, carried}
+use Rattle.table_core.specs.Sections.{Held}
+use Rattle.cfi_rows.specs.Entries.{Cie, Fde, walked_entries}
+use Rattle.cfi_rows.specs.Frames.{frames_of}
+use Rattle.frame_rewrite.specs.declared.cie_key.CieKey.{CieKey}
+use Rattle.frame_rewrite.specs.FrameAnswers.{FrameAnswer, answer_at}
+use Rattle.frame_rewrite.specs.SpelledFits.{RunAscends, RunReturns}
+use Rattle.frame_rewrite.specs.SpelledFrames.{key_of}
+use Rattle.frame_rewrite.proofs.AscendingRows.{FdeAscends, frames-ascend, row-ascends}
+use Rattle.frame_rewrite.proofs.KindCounts.{cies_of, HasCie, read-cies, count-cies}
+use Rattle.frame_rewrite.proofs.Reached.{Answered, answered-first}
+use Rattle.frame_rewrite.proofs.ReturnRegisters.{Bytes, FdeReturns, frames-return}
+
+abbrev Runs : Type 0
+Runs = List (Run FrameAnswer)
+
+-- the kind of frame of a CIE's entries
+abbrev kind_of : List Span → Cie → CieKey
+kind_of spans c =
+    record { ra = c.ra; handler = new spans c.augmentation.handler; indirect = c.augmentation.indirect; signal = c.augmentation.signal }
+
+module _ (debug : Bool) (is_marked : Fde → Bool) (section : Held) (spans : List Span) (runs : Runs) (within : IsWithin 0 runs (2 ^ 64 - 1))
+    (answers : (p : ℕ) → run_at runs p ≡ carried (answer_at is_marked (frames_of debug section).list) spans p) where
+  told : (r : Run FrameAnswer) → Contains runs r → Answered is_marked (frames_of debug section).list spans r.start r.answer
+  told r c = answered-first is_marked (frames_of debug section).list spans runs (2 ^ 64 - 1) within answers r c
+
+  pub all-ascend : All RunAscends runs
+  all-ascend = all_of RunAscends runs (λ r c. let t = told r c in
+      row-ascends t.span.input t.fde.rows None r.answer.row
+      (All-contains FdeAscends (frames_of debug section).list t.fde (frames-ascend debug section.address section.bytes) t.in_list) tt t.row)
+
+  pub all-return : Bytes section.bytes → All RunReturns runs
+  all-return h = all_of RunReturns runs (λ r c. let t = told r c in
+      subst (λ (n : ℕ). n < 256) (sym t.ra)
+      (All-contains FdeReturns (frames_of debug section).list t.fde (frames-return debug section.address section.bytes h) t.in_list))
+
+  abbrev kinds : List CieKey
+  kinds = map (kind_of spans) (cies_of debug section.address (walked_entries debug section.bytes).entries)
+
+  same-kind : (p : ℕ) (a : FrameAnswer) → (t : Answered is_marked (frames_of debug section).list spans p a) → key_of spans a ≡ kind_of spans t.fde.cie
+  same-kind p a t =
+      λ i. record { ra = t.ra i; handler = new spans (t.handler i); indirect = t.indirect i; signal = t.signal i }
+
+  all-kinds : All (λ (r : Run FrameAnswer). Contains kinds (key_of spans r.answer)) runs
+  all-kinds = all_of (λ (r : Run FrameAnswer). Contains kinds (key_of spans r.answer)) runs (λ r c. let t = told r c in
+      subst (Contains kinds) (sym (same-kind r.start r.answer t))
+      (in_map (kind_of spans) (cies_of debug section.address (walked_entries debug section.bytes).entries) t.fde.cie
+      (All-contains (HasCie debug section.address (walked_entries debug section.bytes).entries) (frames_of debug section).list t.fde
+      (read-cies debug section.address section.bytes) t.in_list)))
+
+  -- as many kinds as there are CIEs serve
+  pub few-kinds : (frames_of debug section).bad ≡ None → (keys : List CieKey)
+      → ((ks : List CieKey) → All (λ (r : Run FrameAnswer). Contains ks (key_of spans r.answer)) runs → length keys ≤ length ks)
+      → length keys ≤ (frames_of debug section).cies
+  few-kinds sound keys few =
+      let n = few kinds all-kinds in
+      let l = length-map (cies_of debug section.address (walked_entries debug section.bytes).entries) (kind_of spans) in
+      let m = count-cies debug section.address section.bytes sound in
+      omega (arith, n, l, m)
