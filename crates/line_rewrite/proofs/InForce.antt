@@ -63,7 +63,7 @@ front_drop m a front rows b h =
     ∙ filter_append (λ r. r.address == greatest_address (reached a rows)) (reached a front) (reached a rows)
     ∙ ap (λ (l : List Registers). l ++ at_address (greatest_address (reached a rows)) (reached a rows)) (none_at m (greatest_address (reached a rows)) (reached a front) below h)
 
-none_reached : (from a : ℕ) (rows : List Registers) → Ascends from rows → a < from → reached a rows ≡ []
+pub none_reached : (from a : ℕ) (rows : List Registers) → Ascends from rows → a < from → reached a rows ≡ []
 none_reached from a [] w h = refl
 none_reached from a (r ∷ rows) w h =
     let i : from ≤ r.address = w.0 in

@@ -14,13 +14,13 @@ use Rattle.line_rewrite.specs.Keeping.{IsBefore, AreKept, Suffice, rows_at_place
 use Rattle.line_rewrite.proofs.InForce.{AllBelow, front_drop, latest_is}
 
 -- the row that a state stands before, and those after it
-record Before (coding : Coding) (lengths bytes : List ℕ) (rows : List Registers) (i : ℕ) (k : Kept) : Type 0 where
-  within : k.place ≤ length bytes
-  first : Registers
-  others : List Registers
-  follow : rows_at_place coding lengths bytes k.registers k.place ≡ first ∷ others
-  are : drop i rows ≡ first ∷ others
-  address : first.address ≡ k.address
+pub record Before (coding : Coding) (lengths bytes : List ℕ) (rows : List Registers) (i : ℕ) (k : Kept) : Type 0 where
+  pub within : k.place ≤ length bytes
+  pub first : Registers
+  pub others : List Registers
+  pub follow : rows_at_place coding lengths bytes k.registers k.place ≡ first ∷ others
+  pub are : drop i rows ≡ first ∷ others
+  pub address : first.address ≡ k.address
 
 before : (coding : Coding) (lengths bytes : List ℕ) (rows : List Registers) (i : ℕ) (k : Kept) → IsBefore coding lengths bytes rows i k → Before coding lengths bytes rows i k
 before coding lengths bytes rows i k b = split (drop i rows) refl
@@ -36,11 +36,11 @@ before coding lengths bytes rows i k b = split (drop i rows) refl
       address = sym (ap (λ (l : List Registers). first_address l 0) e) ∙ b.address;
     }
 
-kept_get : (coding : Coding) (lengths bytes : List ℕ) (rows : List Registers) (kept : List Kept) (j : ℕ) (d : Kept) → AreKept coding lengths bytes rows kept → j < length kept
+pub kept_get : (coding : Coding) (lengths bytes : List ℕ) (rows : List Registers) (kept : List Kept) (j : ℕ) (d : Kept) → AreKept coding lengths bytes rows kept → j < length kept
     → Before coding lengths bytes rows (64 * j) (get_or kept j d)
 kept_get coding lengths bytes rows kept j d a h = before coding lengths bytes rows (64 * j) (get_or kept j d) (a j d h)
 
-drop_none : (n : ℕ) → drop {A = Registers} n [] ≡ []
+pub drop_none : (n : ℕ) → drop {A = Registers} n [] ≡ []
 drop_none zero = refl
 drop_none (suc n) = refl
 
@@ -49,7 +49,7 @@ below_nothing m [] = tt
 below_nothing m (x ∷ rows) = tt
 
 -- a row is at or past where rows begin to ascend
-from_below : (n from : ℕ) (rows : List Registers) (r : Registers) (others : List Registers) → Ascends from rows → drop n rows ≡ r ∷ others → from ≤ r.address
+pub from_below : (n from : ℕ) (rows : List Registers) (r : Registers) (others : List Registers) → Ascends from rows → drop n rows ≡ r ∷ others → from ≤ r.address
 from_below n from [] r others up e = absurd (cc (drop_none n))
 from_below zero from (x ∷ rows) r others up e = let f : x ≡ r = cc in subst (λ (q : Registers). from ≤ q.address) f up.0
 from_below (suc n) from (x ∷ rows) r others up e = let h : x.address ≤ r.address = from_below n x.address rows r others up.1 e in let i : from ≤ x.address = up.0 in omega arith

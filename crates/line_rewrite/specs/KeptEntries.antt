@@ -1,5 +1,5 @@
 -- What is kept of directories and files.
-use Rattle.std.specs.Prelude.{ℕ, List, [], map, Option, Some, None, option_map}
+use Rattle.std.specs.Prelude.{ℕ, List, [], map, Option, Some, None}
 use Rattle.line_rewrite.specs.declared.text.Texts.{Texts}
 use Rattle.line_rewrite.specs.declared.entry.Text.{Text}
 use Rattle.line_rewrite.specs.declared.entry.Text.TheVariants as text

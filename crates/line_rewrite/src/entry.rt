@@ -1,15 +1,17 @@
 // The directories and files of a line unit. DWARF 5, sections 6.2.4 and 6.2.4.1.
 ghost use Rattle.std.specs.Prelude.{◌≡◌, Some, None, IfOk};
 ghost use Rattle.table_core.specs.Texts.{text_in};
-ghost use Rattle.line_rewrite.specs.Entries.{text_of};
+ghost use Rattle.line_rewrite.specs.Entries.{text_of, entries_at, table_at};
 ghost use Rattle.line_rewrite.specs.KeptEntries.{or_empty, strings_held, texts_strings, told_value, told_name};
-ghost use Rattle.line_rewrite.specs.EntrySteps.{told_found, found_more};
+ghost use Rattle.line_rewrite.specs.KeptEntries.{told_entry, told_entries, told_format};
+ghost use Rattle.line_rewrite.specs.EntrySteps.{entry_at, told_found, found_more, found_at, nothing_found};
 ghost use Rattle.line_rewrite.specs.Troubles.{IfMalformed};
 
 use crate::content::{DW_LNCT_directory_index, DW_LNCT_path};
+use crate::field::{Field, read_format};
 use crate::text::Texts;
 use crate::trouble::Trouble;
-use crate::value::Value;
+use crate::value::{Value, form_here, read_value};
 use rb_bytes::cursor::Cursor;
 use std::alloc::{AllocError, Global};
 
@@ -96,18 +98,20 @@ fn text_of<'a>(alloc: Global, texts: &Texts, value: Value<'a>) -> Result<Text, T
     }
 }
 
-/// What contents say with one more.
-pub fn take_content<'a>(
+// Takes one content more.
+fn take_content<'a>(
     alloc: Global,
     texts: &Texts,
     content: u64,
     value: Value<'a>,
     found: Found,
 ) -> Result<Found, Trouble>
-    ensures read { IfOk result (λ new. found_more (texts_strings texts.now) content (told_value value.entry) (told_found (texts_strings texts.now) found)
+    ensures read { IfOk result (λ new. found_more (texts_strings texts.now) content (told_value value.entry)
+        (told_found (texts_strings texts.now) found)
         ≡ Some (told_found (texts_strings texts.now) new)) }
     ensures malformed { IfMalformed result
-        (found_more (texts_strings texts.now) content (told_value value.entry) (told_found (texts_strings texts.now) found) ≡ None) }
+        (found_more (texts_strings texts.now) content (told_value value.entry)
+        (told_found (texts_strings texts.now) found) ≡ None) }
 {
     if content == DW_LNCT_path {
         let text = text_of(alloc, texts, value)?;
@@ -128,4 +132,86 @@ pub fn take_content<'a>(
         };
     }
     Ok(found)
+}
+
+// What the contents of an entry say.
+fn read_contents<'a>(
+    alloc: Global,
+    texts: &Texts,
+    format: &[Field],
+    cursor: &mut Cursor<'a>,
+) -> Result<Found, Trouble>
+    ensures read { IfOk result (λ f. found_at (texts_strings texts.now)
+        (told_format format.now) nothing_found cursor.old.left
+        ≡ Some (told_found (texts_strings texts.now) f, cursor.new.left)) }
+    ensures malformed { IfMalformed result
+        (found_at (texts_strings texts.now) (told_format format.now) nothing_found cursor.old.left ≡ None) }
+{
+    let mut found = Found {
+        path: None,
+        directory: 0,
+    };
+    for field in format {
+        let form = form_here(cursor, field.form)?;
+        let value = read_value(cursor, form)?;
+        found = take_content(alloc, texts, field.content, value, found)?;
+    }
+    Ok(found)
+}
+
+fn read_entry<'a>(
+    alloc: Global,
+    texts: &Texts,
+    format: &[Field],
+    cursor: &mut Cursor<'a>,
+) -> Result<Entry, Trouble>
+    ensures read { IfOk result (λ e. entry_at (texts_strings texts.now) (told_format format.now) cursor.old.left
+        ≡ Some (told_entry (texts_strings texts.now) e, cursor.new.left)) }
+    ensures malformed { IfMalformed result (entry_at (texts_strings texts.now)
+        (told_format format.now) cursor.old.left ≡ None) }
+{
+    let Found { path, directory } = read_contents(alloc, texts, format, cursor)?;
+    match path {
+        Some(text) => Ok(Entry { text, directory }),
+        None => Err(Trouble::Malformed),
+    }
+}
+
+// So many entries.
+fn read_entries<'a>(
+    alloc: Global,
+    texts: &Texts,
+    format: &[Field],
+    count: u64,
+    cursor: &mut Cursor<'a>,
+) -> Result<Vec<Entry>, Trouble>
+    ensures read { IfOk result (λ es. entries_at (texts_strings texts.now)
+        (told_format format.now) count cursor.old.left
+        ≡ Some (told_entries (texts_strings texts.now) es.items, cursor.new.left)) }
+    ensures malformed { IfMalformed result
+        (entries_at (texts_strings texts.now) (told_format format.now) count cursor.old.left ≡ None) }
+{
+    let mut entries = Vec::new(alloc);
+    // Each takes a byte or more.
+    for _ in 0..count {
+        let entry = read_entry(alloc, texts, format, cursor)?;
+        entries.push(entry)?;
+    }
+    Ok(entries)
+}
+
+/// A table of directories, or of files.
+pub fn read_table<'a>(
+    alloc: Global,
+    texts: &Texts,
+    cursor: &mut Cursor<'a>,
+) -> Result<Vec<Entry>, Trouble>
+    ensures read { IfOk result (λ es. table_at (texts_strings texts.now) cursor.old.left
+        ≡ Some (told_entries (texts_strings texts.now) es.items, cursor.new.left)) }
+    ensures malformed { IfMalformed result (table_at (texts_strings texts.now) cursor.old.left ≡ None) }
+{
+    let fields = cursor.u8()?;
+    let format = read_format(alloc, cursor, fields)?;
+    let count = cursor.uleb()?;
+    read_entries(alloc, texts, &format, count, cursor)
 }

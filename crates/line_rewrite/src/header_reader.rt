@@ -1,15 +1,20 @@
 // The headers of line units. DWARF 5, section 6.2.4.
 ghost use Rattle.std.specs.Prelude.{◌≡◌, Some, None, IfOk};
-ghost use Rattle.line_rewrite.specs.KeptUnits.{coding_at, are_filed};
+ghost use Rattle.line_rewrite.specs.KeptEntries.{texts_strings};
+ghost use Rattle.line_rewrite.specs.LineUnits.{header_in};
+ghost use Rattle.line_rewrite.specs.KeptUnits.{coding_at, told_header, are_filed, HasTables};
 ghost use Rattle.line_rewrite.specs.Troubles.{IfMalformed};
 
 use crate::coding::Coding;
-use crate::entry::Entry;
+use crate::entry::{Entry, copied, read_table};
+use crate::header::Header;
+use crate::text::Texts;
 use crate::trouble::Trouble;
 use rb_bytes::cursor::Cursor;
+use std::alloc::Global;
 
-/// The numbers that operations depend on, and how many operations the machine does at a time.
-pub fn read_coding<'a>(cursor: &mut Cursor<'a>) -> Result<(Coding, u8), Trouble>
+// The numbers that operations depend on, and how many operations the machine does at a time.
+fn read_coding<'a>(cursor: &mut Cursor<'a>) -> Result<(Coding, u8), Trouble>
     ensures read { IfOk result (λ c. coding_at cursor.old.left ≡ Some ((c.0, c.1), cursor.new.left)) }
     ensures malformed { IfMalformed result (coding_at cursor.old.left ≡ None) }
 {
@@ -29,8 +34,8 @@ pub fn read_coding<'a>(cursor: &mut Cursor<'a>) -> Result<(Coding, u8), Trouble>
     Ok((coding, maximum))
 }
 
-/// Whether each file's directory is one of so many.
-pub fn are_filed(files: &[Entry], directories: usize) -> bool
+// Whether each file's directory is one of so many.
+fn are_filed(files: &[Entry], directories: usize) -> bool
     ensures { result ≡ are_filed directories files.now }
 {
     for file in files {
@@ -39,4 +44,36 @@ pub fn are_filed(files: &[Entry], directories: usize) -> bool
         }
     }
     true
+}
+
+/// The header in the bytes behind its length.
+pub fn read_header(alloc: Global, texts: &Texts, bytes: &[u8]) -> Result<Header, Trouble>
+    ensures read { IfOk result (λ h. header_in (texts_strings texts.now) bytes.now
+        ≡ Some (told_header (texts_strings texts.now) h)) }
+    ensures tables { IfOk result (λ h. HasTables (texts_strings texts.now) h) }
+    ensures malformed { IfMalformed result (header_in (texts_strings texts.now) bytes.now ≡ None) }
+{
+    let mut cursor = Cursor::new(bytes);
+    let (coding, maximum) = read_coding(&mut cursor)?;
+    if maximum != 1 || coding.line_range == 0 || coding.opcode_base == 0 {
+        return Err(Trouble::Malformed);
+    }
+    let lengths = cursor.take(coding.opcode_base as usize - 1)?;
+    let size = cursor.left();
+    let rest = cursor.take(size)?;
+    let mut tables = Cursor::new(rest);
+    let directories = read_table(alloc, texts, &mut tables)?;
+    let files = read_table(alloc, texts, &mut tables)?;
+    if !are_filed(&files, directories.len()) {
+        return Err(Trouble::Malformed);
+    }
+    let table_size = size.saturating_sub(tables.left());
+    Ok(Header {
+        coding,
+        lengths: copied(alloc, lengths)?,
+        rest: copied(alloc, rest)?,
+        table_size,
+        directories,
+        files,
+    })
 }

@@ -1,6 +1,7 @@
 // The state machine. DWARF 5, sections 6.2.2 and 6.2.5.
 ghost use Rattle.std.specs.Prelude.{◌≡◌, ◌<◌, ◌≤◌, ◌*◌};
-ghost use Rattle.line_rewrite.specs.LineMachine.{start, advanced, lined, address_advance, line_advance, after_op, after_row, effect_of};
+ghost use Rattle.line_rewrite.specs.LineMachine.{start, advanced, lined, address_advance, line_advance, after_op};
+ghost use Rattle.line_rewrite.specs.LineMachine.{after_row, effect_of};
 
 use crate::coding::Coding;
 use crate::effect::Effect;

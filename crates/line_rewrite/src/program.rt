@@ -49,8 +49,10 @@ pub fn sequence_at(
         (λ found. sequences coding.now (operations coding.now.opcode_base lengths.now (drop place bytes.now))
         ≡ told_sequence coding.now lengths.now bytes.now found.0
         ∷ sequences coding.now (operations coding.now.opcode_base lengths.now (drop found.1 bytes.now)))) }
-    ensures kept { IfOk result (λ o. MatchOption o (Unit {0}) (λ found. IsKept coding.now lengths.now bytes.now found.0)) }
-    ensures next { IfOk result (λ o. MatchOption o (Unit {0}) (λ found. (place < found.1) × (found.1 ≤ length bytes.now))) }
+    ensures kept { IfOk result (λ o. MatchOption o (Unit {0})
+        (λ found. IsKept coding.now lengths.now bytes.now found.0)) }
+    ensures next { IfOk result (λ o. MatchOption o (Unit {0}) (λ found. (place < found.1)
+        × (found.1 ≤ length bytes.now))) }
 {
     let (_, from) = bytes.split_at(place);
     let mut cursor = Cursor::new(from);

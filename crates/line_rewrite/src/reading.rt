@@ -1,5 +1,6 @@
 // Operations read. DWARF 5, sections 6.2.5 and 7.22.
-ghost use Rattle.std.specs.Prelude.{◌≡◌, ◌<◌, ◌≤◌, ◌+◌, ◌-◌, ℕ, List, length, IfOk, IfErr, OnOk, OnErr, Ok, Err, slice_index};
+ghost use Rattle.std.specs.Prelude.{◌≡◌, ◌<◌, ◌≤◌, ◌+◌, ◌-◌, ℕ, List, length, IfOk, IfErr, OnOk, OnErr, Ok, Err};
+ghost use Rattle.std.specs.Prelude.{slice_index};
 ghost use Rattle.rb_bytes.specs.Readers.{Reading};
 ghost use Rattle.line_rewrite.specs.Operations.{unknown_at, extended_in, extended_at, standard_at, op_at};
 

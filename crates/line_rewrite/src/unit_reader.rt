@@ -1,23 +1,31 @@
 // Line units. DWARF 5, sections 6.2.4 and 7.22.
 ghost use Rattle.std.specs.Prelude.{◌≡◌, Some, None, IfOk};
-ghost use Rattle.line_rewrite.specs.KeptUnits.{outer_at};
+ghost use Rattle.line_rewrite.specs.KeptEntries.{texts_strings};
+ghost use Rattle.line_rewrite.specs.LineUnits.{unit_of};
+ghost use Rattle.line_rewrite.specs.KeptUnits.{HasTables, outer_at, told_unit};
 ghost use Rattle.line_rewrite.specs.Troubles.{IfMalformed};
 
+use crate::entry::copied;
+use crate::header_reader::read_header;
+use crate::program::sequences_of;
+use crate::sound::is_sound;
+use crate::text::Texts;
 use crate::trouble::Trouble;
+use crate::unit::Unit;
 use rb_bytes::cursor::Cursor;
+use std::alloc::Global;
 
 /// The bytes of a unit behind its length.
 #[derive(Clone, Copy)]
-pub struct Outer<'a> {
-    pub address_size: u8,
-    pub segment_size: u8,
+struct Outer<'a> {
+    address_size: u8,
+    segment_size: u8,
     /// Those of the header behind its length.
-    pub fields: &'a [u8],
-    pub program: &'a [u8],
+    fields: &'a [u8],
+    program: &'a [u8],
 }
 
-/// The numbers before a unit's header, that header's bytes and the program.
-pub fn read_outer<'a>(bytes: &'a [u8]) -> Result<Outer<'a>, Trouble>
+fn read_outer<'a>(bytes: &'a [u8]) -> Result<Outer<'a>, Trouble>
     ensures read { IfOk result (λ o. outer_at bytes.now ≡ Some (record {
       address_size = o.address_size;
       segment_size = o.segment_size;
@@ -39,5 +47,30 @@ pub fn read_outer<'a>(bytes: &'a [u8]) -> Result<Outer<'a>, Trouble>
         segment_size,
         fields,
         program,
+    })
+}
+
+/// The unit in the bytes behind its length, which begin with the version.
+pub fn read_unit(alloc: Global, texts: &Texts, bytes: &[u8]) -> Result<Unit, Trouble>
+    ensures read { IfOk result (λ u. unit_of (texts_strings texts.now) bytes.now
+        ≡ Some (told_unit (texts_strings texts.now) u)) }
+    ensures tables { IfOk result (λ u. HasTables (texts_strings texts.now) u.header) }
+    ensures malformed { IfMalformed result (unit_of (texts_strings texts.now) bytes.now ≡ None) }
+{
+    let outer = read_outer(bytes)?;
+    let header = read_header(alloc, texts, outer.fields)?;
+    if outer.address_size != 8 || outer.segment_size != 0 {
+        return Err(Trouble::Malformed);
+    }
+    let files = header.files.len() as u64;
+    if !is_sound(&header.coding, &header.lengths, outer.program, files) {
+        return Err(Trouble::Malformed);
+    }
+    let program = copied(alloc, outer.program)?;
+    let sequences = sequences_of(alloc, &header.coding, &header.lengths, &program)?;
+    Ok(Unit {
+        header,
+        program,
+        sequences,
     })
 }

@@ -2,7 +2,7 @@
 ghost use Rattle.std.specs.Prelude.{◌≡◌, ◌<◌, ◌≤◌, ◌+◌, ◌∷◌, [], List, length, drop, IfOk};
 ghost use Rattle.line_rewrite.specs.Operations.{operations};
 ghost use Rattle.line_rewrite.specs.LineMachine.{rows_from, in_force};
-ghost use Rattle.line_rewrite.specs.Walks.{joined, latest};
+ghost use Rattle.line_rewrite.specs.Walks.{joined, latest, none_between};
 
 use crate::coding::Coding;
 use crate::effect::Effect;
@@ -28,9 +28,8 @@ fn join(found: &mut Vec<Registers>, row: Registers) -> Result<(), AllocError>
     Ok(())
 }
 
-#[tactic(auto, using(crate::proofs::Steps::rows_step, crate::proofs::Steps::rows_gap, crate::proofs::Steps::rows_end), unfolding(crate::specs::Walks::latest))]
 /// The rows in force at an address, of those from a state on.
-
+#[tactic(auto, using(crate::proofs::Steps::rows_step, crate::proofs::Steps::rows_gap, crate::proofs::Steps::rows_end), unfolding(crate::specs::Walks::latest))]
 pub fn rows_at(
     alloc: Global,
     coding: &Coding,
@@ -41,7 +40,8 @@ pub fn rows_at(
 ) -> Result<Vec<Registers>, AllocError>
     requires range { 0 < coding.now.line_range }
     requires lengths { coding.now.opcode_base ≤ length lengths.now + 1 }
-    ensures { IfOk result (λ found. found.items ≡ latest [] a (rows_from coding.now registers (operations coding.now.opcode_base lengths.now bytes.now))) }
+    ensures { IfOk result (λ found. found.items ≡ latest [] a (rows_from coding.now registers
+        (operations coding.now.opcode_base lengths.now bytes.now))) }
 {
     let mut found = Vec::new(alloc);
     let mut cursor = Cursor::new(bytes);
@@ -66,4 +66,45 @@ pub fn rows_at(
         }
     }
     Ok(found)
+}
+
+/// Whether no row from a state on lies above an address `a` and up to another one, `b`.
+#[tactic(auto, using(crate::proofs::Steps::rows_step, crate::proofs::Steps::rows_gap, crate::proofs::Steps::rows_end), unfolding(crate::specs::Walks::none_between))]
+pub fn none_between(
+    coding: &Coding,
+    lengths: &[u8],
+    bytes: &[u8],
+    registers: Registers,
+    a: u64,
+    b: u64,
+) -> bool
+    requires range { 0 < coding.now.line_range }
+    requires lengths { coding.now.opcode_base ≤ length lengths.now + 1 }
+    ensures { result ≡ none_between a b (rows_from coding.now registers
+        (operations coding.now.opcode_base lengths.now bytes.now)) }
+{
+    let mut cursor = Cursor::new(bytes);
+    let mut present = registers;
+    'ops: while cursor.left() > 0 {
+        let Ok(op) = read_op(&mut cursor, coding.opcode_base, lengths) else {
+            return true;
+        };
+        let Some(next) = after_op(coding, op, present) else {
+            return true;
+        };
+        match effect_of(op) {
+            Effect::Ends => return true,
+            Effect::Sets => present = next,
+            Effect::Appends => {
+                if next.address > b {
+                    return true;
+                }
+                if next.address > a {
+                    return false;
+                }
+                present = after_row(next);
+            }
+        }
+    }
+    true
 }

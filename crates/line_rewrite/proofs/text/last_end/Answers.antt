@@ -1,4 +1,4 @@
-use Rattle.std.proofs.Common.{◌≤◌, ◌<◌, ◌+◌, arith}
+use Rattle.std.proofs.Common.{arith}
 use Rattle.std.proofs.lemmas.Bool.{eqb-true, eq-eqb}
 use Rattle.line_rewrite.proofs.TextEnds.{ends_some, ends_none}
 use Rattle.line_rewrite.proofs.text.last_end.Goals as goal

@@ -1,0 +1,9 @@
+use Rattle.std.proofs.Common.{◌≡◌, ◌+◌, ◌*◌, ◌-◌, ◌^◌, length, take}
+use Rattle.std.specs.Prelude.{min, sum_by}
+use Rattle.table_core.specs.Weights.{run_weight}
+use Rattle.line_rewrite.specs.Tables.{row_weight}
+use Rattle.line_rewrite.proofs.weight.weight_of.Given as goal
+
+abbrev pub invariant-loop-run : goal.invariant-loop-run
+invariant-loop-run l =
+    l.weight ≡ min (sum_by (λ r. run_weight + row_weight * length r.answer.rows) (take l.run-index l.runs)) (2 ^ 64 - 1)

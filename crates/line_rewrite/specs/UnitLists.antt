@@ -1,0 +1,43 @@
+-- The units of a line table, as they are kept.
+use Rattle.std.specs.Prelude.{⊤, ◌≡◌, ◌+◌, ℕ, All, List, map, is_some, not, Option, Some, None, position}
+use Rattle.rb_bytes.specs.declared.fault.FaultKind.TheVariants.{LineFault}
+use Rattle.rb_bytes.specs.declared.fault.Refusal.{Refusal}
+use Rattle.rb_bytes.specs.declared.fault.Refusal.TheVariants as refusal
+use Rattle.rb_bytes.specs.Fault.{fault_at}
+use Rattle.table_core.specs.declared.range.Range.{Range}
+use Rattle.table_core.specs.declared.first_range.FirstRange.{FirstRange}
+use Rattle.table_core.specs.AddressRanges.{holds_address}
+use Rattle.table_core.specs.DebugUnits.{Walked, walked, first_place}
+use Rattle.table_core.specs.FirstRanges.{first_range}
+use Rattle.line_rewrite.specs.declared.sequence_index.SequenceIndex.{SequenceIndex}
+use Rattle.line_rewrite.specs.declared.unit.Unit as kept
+use Rattle.line_rewrite.specs.Entries.{◌>>=◌, Strings}
+use Rattle.line_rewrite.specs.LineUnits.{LineUnit, unit_of}
+use Rattle.line_rewrite.specs.KeptUnits.{HasTables, told_unit}
+use Rattle.line_rewrite.specs.SequenceIndex.{IsIndexOf}
+use Rattle.line_rewrite.specs.Tables.{LineSections, line_version}
+
+abbrev pub unit_in : Strings → Walked → Option LineUnit
+unit_in strings w = w.bytes >>= unit_of strings
+
+-- each unit that was walked to was read
+pub record AreUnits (strings : Strings) (ws : List Walked) (us : List kept.Unit) : Type 0 where
+  pub are : map (unit_in strings) ws ≡ map (λ u. Some (told_unit strings u)) us
+  pub tables : All (λ u. HasTables strings u.header) us
+
+-- a refusal names the first that can't be read; memory may be wanting at any time
+abbrev pub IsLineFault : Strings → List Walked → Refusal → Type 0
+IsLineFault strings ws (refusal.Fault fault) =
+    (fault ≡ fault_at LineFault fault.place) × (first_place (λ w. not (is_some (unit_in strings w))) ws ≡ Some fault.place)
+IsLineFault strings ws refusal.Memory = ⊤
+
+-- the offset of a unit, as a range
+abbrev pub place_range : Walked → Range
+place_range w = record { low = w.place; high = w.place + 1 }
+
+-- what is kept of a section without a fault
+pub record AreLines (s : LineSections) (us : List kept.Unit) (sequences : SequenceIndex) (offsets : FirstRange) : Type 0 where
+  pub version : line_version s ≡ None
+  pub units : AreUnits s.strings (walked 5 s.line) us
+  pub indexed : IsIndexOf us sequences
+  pub placed : (a : ℕ) → first_range offsets a ≡ position (holds_address a) (map place_range (walked 5 s.line))

@@ -1,0 +1,80 @@
+// The rows in force at an address.
+ghost use Rattle.std.specs.Prelude.{◌≤◌, IfOk, IsTrue};
+ghost use Rattle.line_rewrite.specs.SequenceIndex.{IsIndexOf, AreFound, IsSame};
+
+use crate::lookup::{in_force_at, is_same_at};
+use crate::registers::Registers;
+use crate::sequence_index::SequenceIndex;
+use crate::unit::Unit;
+use std::alloc::{AllocError, Global};
+
+/// The rows in force at an address, in the first sequence that holds it.
+#[derive(Drop)]
+pub struct FoundRows {
+    /// The number of its unit.
+    pub unit: usize,
+    pub rows: Vec<Registers>,
+}
+
+/// The rows in force at an address; none where no sequence holds it.
+pub fn found_rows(
+    alloc: Global,
+    units: &[Unit],
+    index: &SequenceIndex,
+    a: u64,
+) -> Result<Option<FoundRows>, AllocError>
+    requires { IsIndexOf units.now index.now }
+    ensures { IfOk result (λ o. AreFound units.now a o) }
+{
+    let Some(place) = index.find(a) else {
+        return Ok(None);
+    };
+    let Some(unit) = units.get(place.unit) else {
+        return Ok(None);
+    };
+    let Some(sequence) = unit.sequences.get(place.sequence) else {
+        return Ok(None);
+    };
+    let header = &unit.header;
+    let rows = in_force_at(
+        alloc,
+        &header.coding,
+        &header.lengths,
+        &unit.program,
+        &sequence.kept,
+        a,
+    )?;
+    Ok(Some(FoundRows {
+        unit: place.unit,
+        rows,
+    }))
+}
+
+/// Whether the same rows of one sequence are certainly in force at two addresses, the lower one first.
+pub fn is_same(units: &[Unit], index: &SequenceIndex, a: u64, b: u64) -> bool
+    requires index { IsIndexOf units.now index.now }
+    requires ordered { a ≤ b }
+    ensures { IsTrue result → IsSame units.now a b }
+{
+    let (Some(place), Some(other)) = (index.find(a), index.find(b)) else {
+        return false;
+    };
+    if place.unit != other.unit || place.sequence != other.sequence {
+        return false;
+    }
+    let Some(unit) = units.get(place.unit) else {
+        return false;
+    };
+    let Some(sequence) = unit.sequences.get(place.sequence) else {
+        return false;
+    };
+    let header = &unit.header;
+    is_same_at(
+        &header.coding,
+        &header.lengths,
+        &unit.program,
+        &sequence.kept,
+        a,
+        b,
+    )
+}

@@ -1,0 +1,70 @@
+// The first of the sequences of many units that holds an address.
+ghost use Rattle.std.specs.Prelude.{◌≡◌, ◌++◌, IfOk, OnOk, map, slice_get, option_and_then};
+ghost use Rattle.table_core.specs.FirstRanges.{first_range};
+ghost use Rattle.line_rewrite.specs.SequenceIndex.{unit_numbered, kept_range, place_of, IsIndexOf};
+
+use crate::unit::Unit;
+use rb_bytes::fault::NoMemory;
+use std::alloc::Global;
+use table_core::{FirstRange, Range};
+
+/// A sequence, by the number of its unit and its own number there.
+#[derive(Clone, Copy)]
+pub struct Place {
+    pub unit: usize,
+    pub sequence: usize,
+}
+
+/// The sequences of some units, and which is the first that holds an address.
+#[derive(Drop)]
+pub struct SequenceIndex {
+    places: Vec<Place>,
+    first: FirstRange,
+}
+
+// Adds the sequences of a unit.
+fn add_unit(
+    number: usize,
+    unit: &Unit,
+    places: &mut Vec<Place>,
+    ranges: &mut Vec<Range>,
+) -> Result<(), NoMemory>
+    ensures placed { OnOk result (places.new.items ≡ places.old.items ++ map place_of (unit_numbered number unit.now)) }
+    ensures ranged { OnOk result (ranges.new.items ≡ ranges.old.items ++ map kept_range
+        (unit_numbered number unit.now)) }
+{
+    for (index, sequence) in unit.sequences.iter().enumerate() {
+        places.push(Place {
+            unit: number,
+            sequence: index,
+        })?;
+        ranges.push(Range {
+            low: sequence.low,
+            high: sequence.end as u128,
+        })?;
+    }
+    Ok(())
+}
+
+impl SequenceIndex {
+    /// That of the sequences of some units.
+    pub fn new(alloc: Global, units: &[Unit]) -> Result<SequenceIndex, NoMemory>
+        ensures { IfOk result (λ index. IsIndexOf units.now index) }
+    {
+        let mut places = Vec::new(alloc);
+        let mut ranges = Vec::new(alloc);
+        for (number, unit) in units.iter().enumerate() {
+            add_unit(number, unit, &mut places, &mut ranges)?;
+        }
+        let first = FirstRange::new(alloc, &ranges)?;
+        Ok(SequenceIndex { places, first })
+    }
+
+    /// The first sequence that holds an address.
+    pub fn find(&self, a: u64) -> Option<Place>
+        ensures { result ≡ option_and_then (slice_get self.now.places.items) (first_range self.now.first a) }
+    {
+        let number = self.first.find(a)?;
+        self.places.get(number).copied()
+    }
+}

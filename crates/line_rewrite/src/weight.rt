@@ -1,0 +1,25 @@
+// Weights of line tables.
+ghost use Rattle.std.specs.Prelude.{◌≡◌, ◌+◌, ◌*◌, ◌-◌, ◌^◌, length, min, sum_by};
+ghost use Rattle.table_core.specs.Weights.{run_weight};
+ghost use Rattle.line_rewrite.specs.Tables.{row_weight};
+
+use crate::answer::LineAt;
+use table_core::Run;
+
+/// What a run weighs, whatever it says.
+const RUN_WEIGHT: u64 = 32;
+
+/// What a row weighs.
+const ROW_WEIGHT: u64 = 96;
+
+/// The weight of some runs; where it is none of 64 bits, the greatest number.
+pub fn weight_of(runs: &[Run<LineAt>]) -> u64
+    ensures { result ≡ min (sum_by (λ r. run_weight + row_weight * length r.answer.rows) runs.now) (2 ^ 64 - 1) }
+{
+    let mut weight: u64 = 0;
+    for run in runs {
+        let rows = (run.answer.rows.len() as u64).saturating_mul(ROW_WEIGHT);
+        weight = weight.saturating_add(rows.saturating_add(RUN_WEIGHT));
+    }
+    weight
+}
