@@ -26,7 +26,7 @@ use Rattle.dw_unit.specs.NamedOffsets.{offset_read, offset_of, is_of, is_named_b
 
 -- Ascending numbers are those of a range that are among them.
 
-abbrev Ascends : ℕ → List ℕ → Type 0
+abbrev pub Ascends : ℕ → List ℕ → Type 0
 Ascends a [] = ⊤
 Ascends a (x ∷ xs) = (a ≤ x) × Ascends (x + 1) xs
 
@@ -69,7 +69,7 @@ range_filter p (suc n) a (x ∷ xs) up below same = ⊎_elim
       below_more [] h = tt
       below_more (y ∷ ys) h = (let g = h.0 in omega arith, below_more ys h.1)
 
-ascends_from : (a : ℕ) (xs : List ℕ) → IsStrictlyIncreasing xs → (0 < length xs → a ≤ get_or xs 0 0) → Ascends a xs
+pub ascends_from : (a : ℕ) (xs : List ℕ) → IsStrictlyIncreasing xs → (0 < length xs → a ≤ get_or xs 0 0) → Ascends a xs
 ascends_from a [] up h = tt
 ascends_from a (x ∷ xs) up h = (
   h (omega arith),
@@ -93,7 +93,7 @@ drop-past (suc n) [] h = refl
 drop-past (suc n) (x ∷ xs) h = drop-past n xs (omega arith)
 
 -- a table that ends begins within the section
-ends_inside : (section : List ℕ) (offset end : ℕ) → (table_at section offset).end ≡ Some end → offset < length section
+pub ends_inside : (section : List ℕ) (offset end : ℕ) → (table_at section offset).end ≡ Some end → offset < length section
 ends_inside section offset end e = ⊎_elim (λ (h : offset < length section). h)
     (λ (h : length section ≤ offset).
     let none : None ≡ Some end = sym (ap (λ (t : Table). t.end) (ap (table_within (length section) (length section)) (drop-past offset section h)

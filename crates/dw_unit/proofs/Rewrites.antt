@@ -24,6 +24,7 @@ use Rattle.byteorder.specs.Numbers.{length-bytes_low_first}
 use Rattle.rb_bytes.specs.declared.gap.Gap.TheVariants.{Short}
 use Rattle.table_core.proofs.Numbers.{same_value, same_left}
 use Rattle.std.proofs.Common.{subst, inl, inr}
+use Rattle.dw_unit.proofs.SameBytes.{IsSameAt, same_behind}
 use Rattle.std.specs.Prelude.{◌⊎◌}
 use Rattle.table_core.specs.AttributeForms.{is_form}
 use Rattle.dw_unit.specs.CompUnits.{form_within}
@@ -31,14 +32,34 @@ use Rattle.dw_unit.specs.declared.trouble.Trouble.TheVariants.{NoForm}
 use Rattle.dw_unit.specs.declared.attribute.TheConstants.{DW_AT_high_pc, DW_AT_ranges, DW_AT_unused_high}
 use Rattle.dw_unit.proofs.Patched.{From, from_less, patched-behind, patched-over}
 
--- The bytes left, with patches over those in front of the rest: what they are then, and what is read of them.
-pub record IsRewritten (end : ℕ) (specs : List Spec) (attrs : List Attr) (ps : List Patch) (left rest : List ℕ) : Type 0 where
+-- The bytes left, with patches over those in front of the rest: what they are then, and what is read of them. The values of
+-- some attributes stay as they are.
+pub record IsRewritten (Stays : Attr → Type 0) (end : ℕ) (specs : List Spec) (attrs : List Attr) (ps : List Patch) (left rest : List ℕ) : Type 0 where
   pub front : List ℕ
+  pub old : List ℕ
+  pub is : left ≡ old ++ rest
   pub size : length front + length rest ≡ length left
+  pub stay : (a : Attr) → Stays a → (more : List ℕ) → IsSameAt (end - length left) a left (front ++ more)
   pub reads : (c : ℕ) (more : List ℕ) → length more ≡ length rest → attrs_at end c specs (front ++ more) ≡ Ok (attrs, more)
   pub starts : (qs : List Patch) → From (end - length rest) qs → From (end - length left) (ps ++ qs)
   pub patches : (after : List ℕ) (qs : List Patch) → From (end - length rest) qs →
       patched (end - length left) (ps ++ qs) (left ++ after) ≡ front ++ patched (end - length rest) qs (rest ++ after)
+
+abbrev pub NoneStays : Attr → Type 0
+NoneStays a = ⊥
+
+pub stays_less : (P Q : Attr → Type 0) (end : ℕ) (specs : List Spec) (attrs : List Attr) (ps : List Patch) (left rest : List ℕ) →
+    ((a : Attr) → Q a → P a) → IsRewritten P end specs attrs ps left rest → IsRewritten Q end specs attrs ps left rest
+stays_less P Q end specs attrs ps left rest f r = record {
+  front = r.front;
+  old = r.old;
+  is = r.is;
+  size = r.size;
+  stay = λ a q more. r.stay a (f a q) more;
+  reads = r.reads;
+  starts = r.starts;
+  patches = r.patches;
+}
 
 -- attributes one after another
 
@@ -72,12 +93,15 @@ attrs_append end c (s ∷ specs) more attrs next left left1 rest e f =
     attrs_behind end c s specs more attrs next left left1 rest (attr_at end c s left) refl e
     (λ l1 got g. attrs_append end c specs more got next l1 left1 rest g f)
 
-pub rewritten_then : (end : ℕ) (specs more : List Spec) (attrs next : List Attr) (ps qs : List Patch) (left left1 rest : List ℕ) → length left ≤ end →
-    IsRewritten end specs attrs ps left left1 → IsRewritten end more next qs left1 rest →
-    IsRewritten end (specs ++ more) (attrs ++ next) (ps ++ qs) left rest
-rewritten_then end specs more attrs next ps qs left left1 rest h a b = record {
+pub rewritten_then : (P Q : Attr → Type 0) (end : ℕ) (specs more : List Spec) (attrs next : List Attr) (ps qs : List Patch) (left left1 rest : List ℕ) → length left ≤ end →
+    IsRewritten P end specs attrs ps left left1 → IsRewritten Q end more next qs left1 rest →
+    IsRewritten (λ x. P x ⊎ Q x) end (specs ++ more) (attrs ++ next) (ps ++ qs) left rest
+rewritten_then P Q end specs more attrs next ps qs left left1 rest h a b = record {
   front = a.front ++ b.front;
+  old = a.old ++ b.old;
+  is = a.is ∙ ap (λ (l : List ℕ). a.old ++ l) b.is ∙ sym (append_assoc a.old b.old rest);
   size = let g = length-append a.front b.front in omega (arith, a.size, b.size);
+  stay = λ x k more. stays_in x k more;
   reads = λ c tail k.
       let long : length (b.front ++ tail) ≡ length left1 = let g = length-append b.front tail in omega (arith, b.size) in
       ap (attrs_at end c (specs ++ more)) (append_assoc a.front b.front tail)
@@ -92,6 +116,16 @@ rewritten_then end specs more attrs next ps qs left left1 rest h a b = record {
   ap_from : {xs ys : List Patch} → xs ≡ ys → From (end - length left) ys → From (end - length left) xs
   ap_from e f = rw e f
 
+  stays_in : (x : Attr) → P x ⊎ Q x → (more : List ℕ) → IsSameAt (end - length left) x left ((a.front ++ b.front) ++ more)
+  stays_in x (inl k) more =
+      subst (λ (l : List ℕ). IsSameAt (end - length left) x left l) (sym (append_assoc a.front b.front more)) (a.stay x k (b.front ++ more))
+  stays_in x (inr k) more =
+      let long : length left ≡ length a.old + length left1 = ap length a.is ∙ length-append a.old left1 in
+      let same : length a.front ≡ length a.old = omega (arith, a.size) in
+      subst (λ (l : List ℕ). IsSameAt (end - length left) x l ((a.front ++ b.front) ++ more)) (sym a.is)
+      (subst (λ (l : List ℕ). IsSameAt (end - length left) x (a.old ++ left1) l) (sym (append_assoc a.front b.front more))
+      (same_behind (end - length left) (end - length left1) x a.old a.front left1 (b.front ++ more) (omega arith) same (b.stay x k more)))
+
 attrs_one : (end c : ℕ) (s : Spec) (a : Attr) (left rest : List ℕ) → attr_at end c s left ≡ Ok (a, rest) →
     attrs_at end c (s ∷ []) left ≡ Ok (a ∷ [], rest)
 attrs_one end c s a left rest e = ap (attrs_of_attr end c []) e
@@ -105,7 +139,7 @@ attr_is name form value p q l m more e f =
 
 -- An attribute that stays, but for its name.
 pub kept_rewritten : (end name : ℕ) (s : Spec) (a : Attr) (left rest : List ℕ) → length left ≤ end → IsAttr end s a left rest →
-    IsRewritten end (record { name = name; form = s.form; implicit = s.implicit } ∷ [])
+    IsRewritten (λ x. x ≡ a) end (record { name = name; form = s.form; implicit = s.implicit } ∷ [])
     (record { name = name; form = a.form; place = a.place; len = a.len; value = a.value } ∷ []) [] left rest
 kept_rewritten end name s a left rest h i =
     let size_is : length left ≡ length i.lead + (length i.body + length rest) =
@@ -113,7 +147,10 @@ kept_rewritten end name s a left rest h i =
     let front_is : length (i.lead ++ i.body) ≡ length i.lead + length i.body = length-append i.lead i.body in
     record {
       front = i.lead ++ i.body;
+      old = i.lead ++ i.body;
+      is = i.is ∙ sym (append_assoc i.lead i.body rest);
       size = omega arith;
+      stay = λ x e more. subst (λ (x : Attr). IsSameAt (end - length left) x left ((i.lead ++ i.body) ++ more)) (sym e) (value_stays more);
       reads = λ c more k.
           let long : length (i.body ++ more) ≡ length (i.body ++ rest) =
           length-append i.body more ∙ ap (λ (n : ℕ). length i.body + n) k ∙ sym (length-append i.body rest) in
@@ -130,7 +167,25 @@ kept_rewritten end name s a left rest h i =
           ap (patched (end - length left) qs)
           (ap (λ (l : List ℕ). l ++ after) (i.is ∙ sym (append_assoc i.lead i.body rest)) ∙ append_assoc (i.lead ++ i.body) rest after)
           ∙ patched-behind (end - length left) (end - length rest) (i.lead ++ i.body) (rest ++ after) qs (omega arith) f;
-    }
+    } where
+      value_stays : (more : List ℕ) → IsSameAt (end - length left) a left ((i.lead ++ i.body) ++ more)
+      value_stays more =
+          let size_is : length left ≡ length i.lead + (length i.body + length rest) =
+          ap length i.is ∙ length-append i.lead (i.body ++ rest) ∙ ap (λ (n : ℕ). length i.lead + n) (length-append i.body rest) in
+          let behind_is : length (i.body ++ rest) ≡ length i.body + length rest = length-append i.body rest in
+          let p = i.place in
+          record {
+            old_front = i.lead;
+            new_front = i.lead;
+            body = i.body;
+            old_rest = rest;
+            new_rest = more;
+            old_is = i.is;
+            new_is = append_assoc i.lead i.body more;
+            same = refl;
+            place = omega arith;
+            len = i.len;
+          }
 
 -- bytes that are a number
 pub record IsNumber (n v : ℕ) (bytes : List ℕ) : Type 0 where
@@ -169,10 +224,17 @@ number_shape n shape form e f = shape_by (sym e ∙ f) where
   shape_by : Some shape ≡ Some (Number n) → shape ≡ Number n
   shape_by e = ap or_leb e
 
+pub number_len : (end n : ℕ) (s : Spec) (a : Attr) (left rest : List ℕ) → IsAttr end s a left rest → shape_of a.form ≡ Some (Number n) → a.len ≡ n
+number_len end n s a left rest i is =
+    let shape_is : i.shape ≡ Number n = number_shape n i.shape a.form i.shaped is in
+    let old : number_read n (i.body ++ rest) ≡ Ok (a.value, rest) =
+    sym (ap (λ (k : Shape). gap_value_at s.implicit k (i.body ++ rest)) shape_is) ∙ i.value rest refl in
+    i.len ∙ number_size n a.value i.body rest old
+
 -- An attribute whose number is written anew.
 pub number_rewritten : (end name n v : ℕ) (s : Spec) (a : Attr) (left rest bytes : List ℕ) → length left ≤ end → IsAttr end s a left rest →
     shape_of a.form ≡ Some (Number n) → IsNumber n v bytes →
-    IsRewritten end (record { name = name; form = s.form; implicit = s.implicit } ∷ [])
+    IsRewritten NoneStays end (record { name = name; form = s.form; implicit = s.implicit } ∷ [])
     (record { name = name; form = a.form; place = a.place; len = a.len; value = v } ∷ [])
     (record { place = a.place; bytes = bytes } ∷ []) left rest
 number_rewritten end name n v s a left rest bytes h i is w =
@@ -187,7 +249,10 @@ number_rewritten end name n v s a left rest bytes h i is w =
     let behind_is : length (i.body ++ rest) ≡ length i.body + length rest = length-append i.body rest in
     record {
       front = i.lead ++ bytes;
+      old = i.lead ++ i.body;
+      is = i.is ∙ sym (append_assoc i.lead i.body rest);
       size = omega arith;
+      stay = λ x none more. absurd none;
       reads = λ c more k.
           let wide : length (bytes ++ more) ≡ length bytes + length more = length-append bytes more in
           let long : length (bytes ++ more) ≡ length (i.body ++ rest) = omega arith in
@@ -211,14 +276,17 @@ number_rewritten end name n v s a left rest bytes h i is w =
 front_rewritten : (end name form n v place : ℕ) (body rest bytes : List ℕ) → length (body ++ rest) ≤ end →
     ((c : ℕ) (left : List ℕ) → form_at c form left ≡ Ok (form, left)) → shape_of form ≡ Some (Number n) → IsNumber n v bytes →
     length body ≡ n → place ≡ end - length (body ++ rest) →
-    IsRewritten end (spec_of name form ∷ []) (record { name = name; form = form; place = place; len = n; value = v } ∷ [])
+    IsRewritten NoneStays end (spec_of name form ∷ []) (record { name = name; form = form; place = place; len = n; value = v } ∷ [])
     (record { place = place; bytes = bytes } ∷ []) (body ++ rest) rest
 front_rewritten end name form n v place body rest bytes h formed shaped w body_is place_is =
     let bytes_are : length bytes ≡ n = w.size in
     let behind_is : length (body ++ rest) ≡ length body + length rest = length-append body rest in
     record {
       front = bytes;
+      old = body;
+      is = refl;
       size = omega arith;
+      stay = λ x none more. absurd none;
       reads = λ c more k.
           let wide : length (bytes ++ more) ≡ length bytes + length more = length-append bytes more in
           let long : length (bytes ++ more) ≡ length (body ++ rest) = omega arith in
@@ -282,15 +350,15 @@ high_at n end s a left rest i direct shaped =
     }
 
 pub high4_rewritten : (end v : ℕ) (a : Attr) (left rest bytes : List ℕ) → length left ≤ end → IsHigh 4 end a left rest → IsNumber 4 v bytes →
-    IsRewritten end (spec_of DW_AT_ranges 23 ∷ []) (record { name = DW_AT_ranges; form = 23; place = a.place; len = 4; value = v } ∷ [])
+    IsRewritten NoneStays end (spec_of DW_AT_ranges 23 ∷ []) (record { name = DW_AT_ranges; form = 23; place = a.place; len = 4; value = v } ∷ [])
     (record { place = a.place; bytes = bytes } ∷ []) left rest
 high4_rewritten end v a left rest bytes h i w =
-    subst (λ (l : List ℕ). IsRewritten end (spec_of DW_AT_ranges 23 ∷ []) (record { name = DW_AT_ranges; form = 23; place = a.place; len = 4; value = v } ∷ [])
+    subst (λ (l : List ℕ). IsRewritten NoneStays end (spec_of DW_AT_ranges 23 ∷ []) (record { name = DW_AT_ranges; form = 23; place = a.place; len = 4; value = v } ∷ [])
     (record { place = a.place; bytes = bytes } ∷ []) l rest) (sym i.is)
     (front_rewritten end DW_AT_ranges 23 4 v a.place i.body rest bytes (let g = ap length i.is in omega arith) (λ c left. refl) refl w i.size i.place)
 
 pub high8_rewritten : (end v : ℕ) (a : Attr) (left rest bytes zeros : List ℕ) → length left ≤ end → IsHigh 8 end a left rest → IsNumber 4 v bytes → IsNumber 4 0 zeros →
-    IsRewritten end (spec_of DW_AT_ranges 23 ∷ spec_of DW_AT_unused_high 6 ∷ [])
+    IsRewritten NoneStays end (spec_of DW_AT_ranges 23 ∷ spec_of DW_AT_unused_high 6 ∷ [])
     (record { name = DW_AT_ranges; form = 23; place = a.place; len = 4; value = v } ∷
     record { name = DW_AT_unused_high; form = 6; place = a.place + 4; len = 4; value = 0 } ∷ [])
     (record { place = a.place; bytes = bytes } ∷ record { place = a.place + 4; bytes = zeros } ∷ []) left rest
@@ -307,17 +375,18 @@ high8_rewritten end v a left rest bytes zeros h i w z =
     let size2 : length (second ++ rest) ≡ length second + length rest = length-append second rest in
     let long : length left ≡ length (first ++ (second ++ rest)) = ap length left_is in
     let place_is : a.place ≡ end - length (first ++ (second ++ rest)) = i.place ∙ ap (λ (l : List ℕ). end - length l) body_is in
-    subst (λ (l : List ℕ). IsRewritten end (spec_of DW_AT_ranges 23 ∷ spec_of DW_AT_unused_high 6 ∷ [])
+    subst (λ (l : List ℕ). IsRewritten NoneStays end (spec_of DW_AT_ranges 23 ∷ spec_of DW_AT_unused_high 6 ∷ [])
     (record { name = DW_AT_ranges; form = 23; place = a.place; len = 4; value = v } ∷
     record { name = DW_AT_unused_high; form = 6; place = a.place + 4; len = 4; value = 0 } ∷ [])
     (record { place = a.place; bytes = bytes } ∷ record { place = a.place + 4; bytes = zeros } ∷ []) l rest) (sym left_is)
-    (rewritten_then end (spec_of DW_AT_ranges 23 ∷ []) (spec_of DW_AT_unused_high 6 ∷ [])
+    (stays_less (λ x. NoneStays x ⊎ NoneStays x) NoneStays end _ _ _ _ _ (λ x none. inl none)
+    (rewritten_then NoneStays NoneStays end (spec_of DW_AT_ranges 23 ∷ []) (spec_of DW_AT_unused_high 6 ∷ [])
     (record { name = DW_AT_ranges; form = 23; place = a.place; len = 4; value = v } ∷ [])
     (record { name = DW_AT_unused_high; form = 6; place = a.place + 4; len = 4; value = 0 } ∷ [])
     (record { place = a.place; bytes = bytes } ∷ []) (record { place = a.place + 4; bytes = zeros } ∷ [])
     (first ++ (second ++ rest)) (second ++ rest) rest (omega arith)
     (front_rewritten end DW_AT_ranges 23 4 v a.place first (second ++ rest) bytes (omega arith) (λ c left. refl) refl w first_is place_is)
-    (front_rewritten end DW_AT_unused_high 6 4 0 (a.place + 4) second rest zeros (omega arith) (λ c left. refl) refl z second_is (omega arith)))
+    (front_rewritten end DW_AT_unused_high 6 4 0 (a.place + 4) second rest zeros (omega arith) (λ c left. refl) refl z second_is (omega arith))))
 
 -- What is asked of an attribute for its change to be read back. A high address is a number of the entry's, and
 -- new numbers fit.
@@ -345,12 +414,7 @@ module _ (m : Moves) (own first : Bool) (e : Entry) (s : Spec) (a : Attr) where
 
   -- a number that gets another is one of eight bytes or of four
   of_size : (end n : ℕ) (left rest : List ℕ) → IsAttr end s a left rest → shape_of a.form ≡ Some (Number n) → shape_of a.form ≡ Some (Number a.len)
-  of_size end n left rest i is =
-      let shape_is : i.shape ≡ Number n = number_shape n i.shape a.form i.shaped is in
-      let old : number_read n (i.body ++ rest) ≡ Ok (a.value, rest) =
-      sym (ap (λ (k : Shape). gap_value_at s.implicit k (i.body ++ rest)) shape_is) ∙ i.value rest refl in
-      let len_is : n ≡ a.len = sym (i.len ∙ number_size n a.value i.body rest old) in
-      is ∙ ap (λ (k : ℕ). Some (Number k)) len_is
+  of_size end n left rest i is = is ∙ ap (λ (k : ℕ). Some (Number k)) (sym (number_len end n s a left rest i is))
 
   eq_of : (x y : ℕ) → (x == y) ≡ true → x ≡ y
   eq_of x y e = grind (arith, nat_tests)
@@ -366,60 +430,73 @@ module _ (m : Moves) (own first : Bool) (e : Entry) (s : Spec) (a : Attr) where
 
   high_by : (end : ℕ) (left rest : List ℕ) → length left ≤ end → IsAttr end s a left rest → IsChangeable m own first e s a →
       (s.form ≡ 6) ⊎ ((s.form ≡ 7) ⊎ (s.form ≡ 1)) → (nv : Option ℕ) →
-      IsRewritten end (ranges_specs s.form) (ranges_attrs m e a) (map number_patch (ranges_attrs m e a)) left rest
+      IsRewritten NoneStays end (ranges_specs s.form) (ranges_attrs m e a) (map number_patch (ranges_attrs m e a)) left rest
   high_by end left rest h i c (inl f) nv =
       let high : IsHigh 4 end a left rest = high_at 4 end s a left rest i (ap (λ (x : ℕ). x == 22) f) (ap shape_of f) in
       let v : ℕ = unwrap_or (new_list_offset m.lists e.place DW_AT_ranges) 0 in
       let bytes : List ℕ = little_bytes 4 v in
       let done = high4_rewritten end v a left rest bytes h high (written_number 4 v c.ranges) in
-      subst (λ (x : ℕ). IsRewritten end (ranges_specs x) (ranges_attrs m e a) (map number_patch (ranges_attrs m e a)) left rest) (sym f)
-      (subst (λ (n : ℕ). IsRewritten end (ranges_specs 6) (record { name = DW_AT_ranges; form = 23; place = a.place; len = 4; value = v } ∷ (if n == 8 then record { name = DW_AT_unused_high; form = 6; place = a.place + 4; len = 4; value = 0 } ∷ [] else []))
+      subst (λ (x : ℕ). IsRewritten NoneStays end (ranges_specs x) (ranges_attrs m e a) (map number_patch (ranges_attrs m e a)) left rest) (sym f)
+      (subst (λ (n : ℕ). IsRewritten NoneStays end (ranges_specs 6) (record { name = DW_AT_ranges; form = 23; place = a.place; len = 4; value = v } ∷ (if n == 8 then record { name = DW_AT_unused_high; form = 6; place = a.place + 4; len = 4; value = 0 } ∷ [] else []))
       (map number_patch (record { name = DW_AT_ranges; form = 23; place = a.place; len = 4; value = v } ∷ (if n == 8 then record { name = DW_AT_unused_high; form = 6; place = a.place + 4; len = 4; value = 0 } ∷ [] else []))) left rest)
       (sym high.len) done)
   high_by end left rest h i c (inr (inl f)) nv =
       let high : IsHigh 8 end a left rest = high_at 8 end s a left rest i (ap (λ (x : ℕ). x == 22) f) (ap shape_of f) in
       let v : ℕ = unwrap_or (new_list_offset m.lists e.place DW_AT_ranges) 0 in
       let done = high8_rewritten end v a left rest (little_bytes 4 v) (little_bytes 4 0) h high (written_number 4 v c.ranges) (written_number 4 0 (omega arith)) in
-      subst (λ (x : ℕ). IsRewritten end (ranges_specs x) (ranges_attrs m e a) (map number_patch (ranges_attrs m e a)) left rest) (sym f)
-      (subst (λ (n : ℕ). IsRewritten end (ranges_specs 7) (record { name = DW_AT_ranges; form = 23; place = a.place; len = 4; value = v } ∷ (if n == 8 then record { name = DW_AT_unused_high; form = 6; place = a.place + 4; len = 4; value = 0 } ∷ [] else []))
+      subst (λ (x : ℕ). IsRewritten NoneStays end (ranges_specs x) (ranges_attrs m e a) (map number_patch (ranges_attrs m e a)) left rest) (sym f)
+      (subst (λ (n : ℕ). IsRewritten NoneStays end (ranges_specs 7) (record { name = DW_AT_ranges; form = 23; place = a.place; len = 4; value = v } ∷ (if n == 8 then record { name = DW_AT_unused_high; form = 6; place = a.place + 4; len = 4; value = 0 } ∷ [] else []))
       (map number_patch (record { name = DW_AT_ranges; form = 23; place = a.place; len = 4; value = v } ∷ (if n == 8 then record { name = DW_AT_unused_high; form = 6; place = a.place + 4; len = 4; value = 0 } ∷ [] else []))) left rest)
       (sym high.len) done)
   high_by end left rest h i c (inr (inr f)) nv =
       let high : IsHigh 8 end a left rest = high_at 8 end s a left rest i (ap (λ (x : ℕ). x == 22) f) (ap shape_of f) in
       let v : ℕ = unwrap_or (new_list_offset m.lists e.place DW_AT_ranges) 0 in
       let done = high8_rewritten end v a left rest (little_bytes 4 v) (little_bytes 4 0) h high (written_number 4 v c.ranges) (written_number 4 0 (omega arith)) in
-      subst (λ (x : ℕ). IsRewritten end (ranges_specs x) (ranges_attrs m e a) (map number_patch (ranges_attrs m e a)) left rest) (sym f)
-      (subst (λ (n : ℕ). IsRewritten end (ranges_specs 1) (record { name = DW_AT_ranges; form = 23; place = a.place; len = 4; value = v } ∷ (if n == 8 then record { name = DW_AT_unused_high; form = 6; place = a.place + 4; len = 4; value = 0 } ∷ [] else []))
+      subst (λ (x : ℕ). IsRewritten NoneStays end (ranges_specs x) (ranges_attrs m e a) (map number_patch (ranges_attrs m e a)) left rest) (sym f)
+      (subst (λ (n : ℕ). IsRewritten NoneStays end (ranges_specs 1) (record { name = DW_AT_ranges; form = 23; place = a.place; len = 4; value = v } ∷ (if n == 8 then record { name = DW_AT_unused_high; form = 6; place = a.place + 4; len = 4; value = 0 } ∷ [] else []))
       (map number_patch (record { name = DW_AT_ranges; form = 23; place = a.place; len = 4; value = v } ∷ (if n == 8 then record { name = DW_AT_unused_high; form = 6; place = a.place + 4; len = 4; value = 0 } ∷ [] else []))) left rest)
       (sym high.len) done)
 
-  renamed : (end : ℕ) (attrs : List Attr → List Patch) (value : ℕ) (left rest : List ℕ) → a.name ≡ s.name →
-      IsRewritten end (spec_by false) (record { name = new_name own e.declaration s.name; form = a.form; place = a.place; len = a.len; value = value } ∷ [])
+  renamed : (P : Attr → Type 0) (end : ℕ) (attrs : List Attr → List Patch) (value : ℕ) (left rest : List ℕ) → a.name ≡ s.name →
+      IsRewritten P end (spec_by false) (record { name = new_name own e.declaration s.name; form = a.form; place = a.place; len = a.len; value = value } ∷ [])
       (attrs (record { name = new_name own e.declaration s.name; form = a.form; place = a.place; len = a.len; value = value } ∷ [])) left rest →
-      IsRewritten end (spec_by false) (record { name = new_name own e.declaration a.name; form = a.form; place = a.place; len = a.len; value = value } ∷ [])
+      IsRewritten P end (spec_by false) (record { name = new_name own e.declaration a.name; form = a.form; place = a.place; len = a.len; value = value } ∷ [])
       (attrs (record { name = new_name own e.declaration a.name; form = a.form; place = a.place; len = a.len; value = value } ∷ [])) left rest
-  renamed end attrs value left rest c r =
-      subst (λ (x : ℕ). IsRewritten end (spec_by false) (record { name = x; form = a.form; place = a.place; len = a.len; value = value } ∷ [])
+  renamed P end attrs value left rest c r =
+      subst (λ (x : ℕ). IsRewritten P end (spec_by false) (record { name = x; form = a.form; place = a.place; len = a.len; value = value } ∷ [])
       (attrs (record { name = x; form = a.form; place = a.place; len = a.len; value = value } ∷ [])) left rest) (sym (ap (λ (n : ℕ). new_name own e.declaration n) c)) r
+
+  -- what isn't written anew stays
+  abbrev pub StaysOf : Bool → Option ℕ → Attr → Type 0
+  StaysOf b nv x = (x ≡ a) × (b ≡ false) × (nv ≡ None)
+
+  differ : true ≡ false → ⊥
+  differ k = cc
+
+  given : (v : ℕ) → Some v ≡ None → ⊥
+  given v k = cc
 
   by_cases : (end : ℕ) (left rest : List ℕ) → length left ≤ end → IsAttr end s a left rest → IsChangeable m own first e s a →
       (b : Bool) (nv : Option ℕ) → (s.name == DW_AT_high_pc) ≡ b → new_value m own first e a ≡ nv →
-      IsRewritten end (spec_by b) (attr_by b nv) (patch_by b nv) left rest
-  by_cases end left rest h i c true nv is f = high_by end left rest h i c (c.high is) nv
+      IsRewritten (StaysOf b nv) end (spec_by b) (attr_by b nv) (patch_by b nv) left rest
+  by_cases end left rest h i c true nv is f =
+      stays_less NoneStays (StaysOf true nv) end _ _ _ left rest (λ x k. differ k.1) (high_by end left rest h i c (c.high is) nv)
   by_cases end left rest h i c false None is f =
-      renamed end (λ attrs. []) a.value left rest i.name
-      (kept_rewritten end (new_name own e.declaration s.name) s a left rest h i)
+      stays_less (λ x. x ≡ a) (StaysOf false None) end _ _ _ left rest (λ x k. k.0)
+      (renamed (λ x. x ≡ a) end (λ attrs. []) a.value left rest i.name
+      (kept_rewritten end (new_name own e.declaration s.name) s a left rest h i))
   by_cases end left rest h i c false (Some v) is f =
-      renamed end (map number_patch) v left rest i.name
+      stays_less NoneStays (StaysOf false (Some v)) end _ _ _ left rest (λ x k. given v k.2)
+      (renamed NoneStays end (map number_patch) v left rest i.name
       (number_rewritten end (new_name own e.declaration s.name) a.len v s a left rest (little_bytes a.len v) h i (sized end v left rest i f)
-      (written_number a.len v (c.fits v f)))
+      (written_number a.len v (c.fits v f))))
 
 -- An attribute is read back with its changes.
 pub attr_rewritten : (m : Moves) (own first : Bool) (e : Entry) (s : Spec) (a : Attr) (end d : ℕ) (left rest : List ℕ) → length left ≤ end →
     attr_at end d s left ≡ Ok (a, rest) → IsChangeable m own first e s a →
-    IsRewritten end (changed_spec own e.declaration s) (changed_attr m own first e a) (attr_patches m own first e a) left rest
+    IsRewritten (StaysOf m own first e s a (a.name == DW_AT_high_pc) (new_value m own first e a)) end (changed_spec own e.declaration s) (changed_attr m own first e a) (attr_patches m own first e a) left rest
 attr_rewritten m own first e s a end d left rest h read c =
     let i : IsAttr end s a left rest = attr_front end d s a left rest read in
-    subst (λ (n : ℕ). IsRewritten end (spec_by m own first e s a (n == DW_AT_high_pc)) (changed_attr m own first e a) (attr_patches m own first e a) left rest) i.name
+    subst (λ (n : ℕ). IsRewritten (StaysOf m own first e s a (a.name == DW_AT_high_pc) (new_value m own first e a)) end (spec_by m own first e s a (n == DW_AT_high_pc)) (changed_attr m own first e a) (attr_patches m own first e a) left rest) i.name
     (by_cases m own first e s a end left rest h i c (a.name == DW_AT_high_pc) (new_value m own first e a)
     (ap (λ (n : ℕ). n == DW_AT_high_pc) (sym i.name)) refl)

@@ -18,7 +18,13 @@ use Rattle.dw_unit.proofs.Forms.{uleb_forward}
 use Rattle.dw_unit.proofs.Local.{Takes, uleb_local}
 use Rattle.dw_unit.proofs.Patched.{From, from_less, patched-behind}
 use Rattle.dw_unit.proofs.Readers.{after_attr, attrs_of_attr}
-use Rattle.dw_unit.proofs.Rewrites.{IsRewritten, IsChangeable, attr_rewritten, rewritten_then}
+use Rattle.std.proofs.Common.{⊎_elim, inl, inr}
+use Rattle.std.specs.Prelude.{◌⊎◌, Contains, None}
+use Rattle.rb_bytes.proofs.Members.{Contains-nil, Contains-cons_cases}
+use Rattle.dw_unit.specs.declared.attribute.TheConstants.{DW_AT_high_pc}
+use Rattle.dw_unit.specs.Changes.{new_value}
+use Rattle.dw_unit.proofs.SameBytes.{IsSameAt, same_behind}
+use Rattle.dw_unit.proofs.Rewrites.{IsRewritten, IsChangeable, StaysOf, attr_rewritten, rewritten_then, stays_less}
 
 module _ (m : Moves) where
   abbrev pub AreChangeable : (own first : Bool) (e : Entry) → List Spec → List Attr → Type 0
@@ -27,20 +33,27 @@ module _ (m : Moves) where
   AreChangeable own first e (s ∷ specs) [] = ⊥
   AreChangeable own first e (s ∷ specs) (a ∷ attrs) = IsChangeable m own first e s a × AreChangeable own first e specs attrs
 
-none_rewritten : (end : ℕ) (left : List ℕ) → IsRewritten end [] [] [] left left
-none_rewritten end left = record {
+none_rewritten : (P : Attr → Type 0) (end : ℕ) (left : List ℕ) → ((a : Attr) → P a → ⊥) → IsRewritten P end [] [] [] left left
+none_rewritten P end left none = record {
   front = [];
+  old = [];
+  is = refl;
+  stay = λ a p more. absurd (none a p);
   size = omega arith;
   reads = λ c more k. refl;
   starts = λ qs f. f;
   patches = λ after qs f. refl;
 }
 
+-- an attribute among some whose value isn't written anew
+abbrev pub StaysIn : (m : Moves) (own first : Bool) (e : Entry) → List Attr → Attr → Type 0
+StaysIn m own first e attrs a = Contains attrs a × (((a.name == DW_AT_high_pc) ≡ false) × (new_value m own first e a ≡ None))
+
 -- All attributes of an entry
 
 module _ (m : Moves) (own first : Bool) (e : Entry) (end d : ℕ) where
   abbrev pub Rewritten : List Spec → List Attr → List ℕ → List ℕ → Type 0
-  Rewritten specs attrs left rest = IsRewritten end (flat_map (changed_spec own e.declaration) specs)
+  Rewritten specs attrs left rest = IsRewritten (StaysIn m own first e attrs) end (flat_map (changed_spec own e.declaration) specs)
       (flat_map (changed_attr m own first e) attrs) (flat_map (attr_patches m own first e) attrs) left rest
 
   last_step : (s : Spec) (specs : List Spec) (a : Attr) (attrs : List Attr) (left l1 rest : List ℕ) (found : Read (List Attr)) → length left ≤ end → length l1 ≤ end →
@@ -54,11 +67,19 @@ module _ (m : Moves) (own first : Bool) (e : Entry) (end d : ℕ) where
       let left_is : got.1 ≡ rest = same_left _ _ _ _ r in
       let all : AreChangeable m own first e (s ∷ specs) (a ∷ got.0) = subst (λ (l : List Attr). AreChangeable m own first e (s ∷ specs) l) (sym list_is) c in
       subst (λ (l : List Attr). Rewritten (s ∷ specs) l left rest) list_is
-      (rewritten_then end (changed_spec own e.declaration s) (flat_map (changed_spec own e.declaration) specs)
+      (stays_less (λ x. StaysOf m own first e s a (a.name == DW_AT_high_pc) (new_value m own first e a) x ⊎ StaysIn m own first e got.0 x)
+      (StaysIn m own first e (a ∷ got.0)) end _ _ _ left rest (stays_cases a got.0)
+      (rewritten_then (StaysOf m own first e s a (a.name == DW_AT_high_pc) (new_value m own first e a)) (StaysIn m own first e got.0) end (changed_spec own e.declaration s) (flat_map (changed_spec own e.declaration) specs)
       (changed_attr m own first e a) (flat_map (changed_attr m own first e) got.0)
       (attr_patches m own first e a) (flat_map (attr_patches m own first e) got.0) left l1 rest h
       (attr_rewritten m own first e s a end d left l1 h read all.0)
-      (ih got.0 (is ∙ ap (λ (l : List ℕ). Ok (got.0, l)) left_is) all.1))
+      (ih got.0 (is ∙ ap (λ (l : List ℕ). Ok (got.0, l)) left_is) all.1))) where
+        stays_cases : (a : Attr) (attrs : List Attr) (x : Attr) → StaysIn m own first e (a ∷ attrs) x →
+            StaysOf m own first e s a (a.name == DW_AT_high_pc) (new_value m own first e a) x ⊎ StaysIn m own first e attrs x
+        stays_cases a attrs x k = by_place (Contains-cons_cases a attrs x k.0) where
+          by_place : (a ≡ x) ⊎ Contains attrs x → StaysOf m own first e s a (a.name == DW_AT_high_pc) (new_value m own first e a) x ⊎ StaysIn m own first e attrs x
+          by_place (inl same) = inl (sym same, ap (λ (y : Attr). y.name == DW_AT_high_pc) same ∙ k.1.0, ap (λ (y : Attr). new_value m own first e y) same ∙ k.1.1)
+          by_place (inr there) = inr (there, k.1)
 
   attr_step : (s : Spec) (specs : List Spec) (attrs : List Attr) (left rest : List ℕ) (found : Read Attr) → length left ≤ end →
       attr_at end d s left ≡ found → attrs_of_attr end d specs found ≡ Ok (attrs, rest) → AreChangeable m own first e (s ∷ specs) attrs →
@@ -75,7 +96,8 @@ module _ (m : Moves) (own first : Bool) (e : Entry) (end d : ℕ) where
       ((s : Spec) (l1 l2 : List ℕ) (a : Attr) → attr_at end d s l1 ≡ Ok (a, l2) → length l2 ≤ length l1) →
       attrs_at end d specs left ≡ Ok (attrs, rest) → AreChangeable m own first e specs attrs → Rewritten specs attrs left rest
   attrs_rewritten [] [] left rest h less read c =
-      subst (λ (l : List ℕ). IsRewritten end [] [] [] left l) (same_left _ _ _ _ read) (none_rewritten end left)
+      subst (λ (l : List ℕ). IsRewritten (StaysIn m own first e []) end [] [] [] left l) (same_left _ _ _ _ read)
+      (none_rewritten (StaysIn m own first e []) end left (λ a k. Contains-nil a k.0))
   attrs_rewritten [] (a ∷ attrs) left rest h less read c = absurd c
   attrs_rewritten (s ∷ specs) attrs left rest h less read c =
       attr_step s specs attrs left rest (attr_at end d s left) h refl read c
@@ -136,6 +158,7 @@ module _ (m : Moves) (own : Declaration → Bool) (first : Entry → Bool) (plac
     pub starts : (qs : List Patch) → From end qs → From (end - length left) (flat_map (patches_of m own first) old ++ qs)
     pub reads : entries_within new_unit n depth bytes ≡ Ok new
     pub changed : AreChanged m own first old new
+    pub stay : (e : Entry) (a : Attr) → Contains old e → StaysIn m (own e.declaration) (first e) e e.attrs a → IsSameAt (end - length left) a left bytes
 
   -- what stands behind a code
   read_code : (n depth code : ℕ) (front more : List ℕ) (r : Result (List Entry) Trouble) → 0 < length front →
@@ -207,6 +230,18 @@ module _ (m : Moves) (own : Declaration → Bool) (first : Entry → Bool) (plac
             ∙ ap (with_head (entry_of (end - length (f.front ++ more)) depth t.new new_attrs)) r.reads
             ∙ ap (λ (k : ℕ). Ok (entry_of (end - k) depth t.new new_attrs ∷ r.new)) long);
         changed = (record { place = refl; unit = refl; depth = refl; tag = t.tag; attrs = refl }, r.changed);
+        stay = λ e a there k.
+            let l1_is : length l1 ≡ length w.old + length l2 = ap length w.is ∙ length-append w.old l2 in
+            let same : length w.front ≡ length w.old = let g = w.size in omega arith in
+            let to : end - length l1 ≡ end - length left + length f.front = omega arith in
+            let to2 : end - length l2 ≡ end - length l1 + length w.old = omega arith in
+            subst (λ (l : List ℕ). IsSameAt (end - length left) a l (f.front ++ more)) (sym f.is)
+            (same_behind (end - length left) (end - length l1) a f.front f.front l1 more to refl
+            (⊎_elim
+            (λ (here : old ≡ e). w.stay a (subst (λ (x : Entry). StaysIn m (own x.declaration) (first x) x x.attrs a) (sym here) k) r.bytes)
+            (λ (behind : Contains es e). subst (λ (l : List ℕ). IsSameAt (end - length l1) a l more) (sym w.is)
+            (same_behind (end - length l1) (end - length l2) a w.old w.front l2 r.bytes to2 same (r.stay e a behind k)))
+            (Contains-cons_cases old es e there)));
       }
 
   entries_step : (n depth code : ℕ) (left l1 l2 : List ℕ) (d : Declaration) (attrs : List Attr) (old : List Entry) (found : Result (List Entry) Trouble) → length left ≤ end →
@@ -264,6 +299,8 @@ module _ (m : Moves) (own : Declaration → Bool) (first : Entry → Bool) (plac
             else entries_of_declaration n (end - length (f.front ++ r.bytes)) depth new_unit r.bytes (declaration_of new_table code)) coded
             ∙ r.reads);
         changed = r.changed;
+        stay = λ e a there k. subst (λ (l : List ℕ). IsSameAt (end - length left) a l (f.front ++ r.bytes)) (sym f.is)
+            (same_behind (end - length left) (end - length l1) a f.front f.front l1 r.bytes (omega arith) refl (r.stay e a there k));
       }
 
   behind_code : (n depth code : ℕ) (left l1 : List ℕ) (old : List Entry) (b : Bool) → length left ≤ end → Takes uleb_at code left l1 → length l1 < length left → Readable n →
@@ -296,6 +333,7 @@ module _ (m : Moves) (own : Declaration → Bool) (first : Entry → Bool) (plac
         starts = λ qs g. from_less end (end - 0) qs (omega arith) g;
         reads = reads;
         changed = tt;
+        stay = λ e a there k. absurd (Contains-nil e there);
       }
   none_left n depth (o ∷ old) reads e = absurd (cc)
 

@@ -49,7 +49,7 @@ pub fn has_bad_form(declaration: &Declaration) -> bool
     declaration.specs.iter().any(|spec| !is_form(spec.form))
 }
 
-fn names(name: u64, specs: &[Spec]) -> bool
+pub(crate) fn names(name: u64, specs: &[Spec]) -> bool
     ensures { result ≡ list_any (is_named name) specs.now }
 {
     specs.iter().any(|spec| spec.name == name)

@@ -69,7 +69,7 @@ fn is_block(form: u64) -> bool
         || form == DW_FORM_exprloc
 }
 
-fn is_located(name: u64) -> bool
+pub(crate) fn is_located(name: u64) -> bool
     ensures { result ≡ is_located name }
 {
     name == DW_AT_location || name == DW_AT_frame_base

@@ -2,6 +2,7 @@
 ghost use Rattle.std.specs.Prelude.{◌≡◌, ◌≤◌, ◌<◌, ◌-◌, ◌+◌, ◌^◌, [], IfOk, IfSome, OnOk, Ok, Err, length, MatchOption};
 ghost use Rattle.table_core.specs.ReadSteps.{with_head};
 ghost use Rattle.dw_unit.specs.CompUnits.{attrs_at};
+ghost use Rattle.dw_unit.specs.EntryChanges.{ArePlaced};
 ghost use Rattle.dw_unit.specs.Walking.{entries_at, walked_entry, unit_bounds};
 ghost use Rattle.dw_unit.specs.Stops.{IfTrouble};
 ghost use Rattle.dw_unit.specs.Told.{told_declaration};
@@ -26,6 +27,7 @@ pub fn read_attrs<'a>(
     ensures read { OnOk result (attrs_at end declaration specs.now cursor.old.left ≡ Ok (attrs.new.items, cursor.new.left)) }
     ensures trouble { IfTrouble result (λ e. attrs_at end declaration specs.now cursor.old.left ≡ Err e) }
     ensures on { OnOk result (length cursor.new.left ≤ length cursor.old.left) }
+    ensures placed { OnOk result (ArePlaced (end - length cursor.old.left) (end - length cursor.new.left) attrs.new.items) }
 {
     attrs.clear();
     for spec in specs {
@@ -62,6 +64,8 @@ pub fn next_entry<'a, 't>(
     ensures trouble { IfTrouble result (λ e. entries_at (unit_bounds unit end (told_at table.entry)) depth.old cursor.old.left ≡ Err e) }
     ensures on { OnOk result (length cursor.new.left ≤ length cursor.old.left) }
     ensures forward { IfOk result (λ o. IfSome o (λ _. length cursor.new.left < length cursor.old.left)) }
+    ensures placed { IfOk result (λ o. IfSome o (λ _.
+        ArePlaced (end - length cursor.old.left) (end - length cursor.new.left) attrs.new.items)) }
     ensures still_bounded { OnOk result (depth.new + length cursor.new.left < 2 ^ 64) }
 {
     'codes: while cursor.left() > 0 {

@@ -7,6 +7,7 @@ use Rattle.dw_unit.specs.Declarations.{Declaration}
 use Rattle.dw_unit.specs.Walking.{entries_at, unit_bounds, walked_entry}
 use Rattle.dw_unit.specs.Told.{told_declaration}
 use Rattle.dw_unit.specs.TablesAt.{told_at}
+use Rattle.dw_unit.proofs.PlacedAttrs.{placed_less}
 use Rattle.dw_unit.proofs.Entries.{no_entries, bad_code, end_code, bad_declaration, bad_attrs, one_entry, trouble_map}
 use Rattle.dw_unit.specs.declared.declaration.Spec.{Spec}
 use Rattle.dw_unit.specs.declared.entry.Attr.{Attr}
@@ -57,6 +58,14 @@ returns-then-code-ne0-clause-read c =
     (ap (λ (l : List Spec). attrs_at c.args.end d.place l c.unsigned.new.cursor.left) (sym c.deref.ensures.value) ∙ c.in_ok-read_attrs.ensures.read)
     ∙ ap (λ (n : ℕ). with_head (walked_entry u (c.args.end - n) depth d items) (entries_at u (depth_behind depth d) behind)) (sym c.left-in-codes.ensures)
     ∙ ap (λ (n : ℕ). with_head (walked_entry u (c.args.end - c.left-in-codes.result) depth d items) (entries_at u n behind)) (sym depth_is)
+
+pub returns-then-code-ne0-clause-placed : goal.returns-then-code-ne0-clause-placed
+returns-then-code-ne0-clause-placed c =
+    let end : ℕ = c.args.end in
+    let less : length c.unsigned.new.cursor.left < length c.codes.cursor.left = c.in_ok-code.ensures.on in
+    let on = c.codes.invariant.on in
+    placed_less (end - length c.unsigned.new.cursor.left) (end - length c.args.cursor.now.left) (end - length c.read_attrs.new.cursor.left) c.read_attrs.new.attrs.items
+    (omega arith) c.in_ok-read_attrs.ensures.placed
 
 pub codes-preserved : goal.codes-preserved
 codes-preserved c =

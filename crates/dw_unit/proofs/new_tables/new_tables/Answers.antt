@@ -1,0 +1,28 @@
+use Rattle.std.proofs.Common.{rules, ◌≡◌, ◌∙◌, ◌++◌, ◌∷◌, [], ℕ, List, ap, sym, length, get_or, nat_lt}
+use Rattle.std.specs.Prelude.{filter, flat_map}
+use Rattle.dw_unit.specs.Changes.{declaration_bytes, is_own, table_bytes}
+use Rattle.dw_unit.specs.Declarations.{Table, table_at}
+use Rattle.dw_unit.proofs.SpelledSteps.{below_offset, flat_more, keys_more}
+use Rattle.dw_unit.proofs.new_tables.new_tables.Goals as goal
+
+pub loop-offset-preserved : goal.loop-offset-preserved
+loop-offset-preserved c =
+    let offsets : List ℕ = c.args.offsets.now in
+    let i : ℕ = c.loop-offset.offset-index in
+    let offset : ℕ = get_or offsets i 0 in
+    record {
+      bytes = λ s abbrevs own.
+          let table : table_at s.abbrevs offset ≡ _ = ap (λ (l : List ℕ). table_at l offset) abbrevs ∙ c.in-Some.ensures.table in
+          c.in_ok-put_table.ensures s own
+          ∙ ap (λ (t : Table). c.loop-offset.bytes.items ++ (flat_map (λ d. declaration_bytes (is_own s d) d) t.list ++ 0 ∷ [])) (sym table)
+          ∙ ap (λ (l : List ℕ). l ++ table_bytes s offset) (c.loop-offset.invariant.bytes s abbrevs own)
+          ∙ sym (flat_more (table_bytes s) offsets i 0 c.loop-offset-test.true);
+      starts = λ s abbrevs own q n e.
+          let f : ℕ → List ℕ = table_bytes s in
+          let len_is : c.len.result ≡ length c.loop-offset.bytes.items = search rules in
+          let here : c.len.result ≡ length (flat_map f (filter (λ o. nat_lt o offset) offsets)) =
+          len_is ∙ ap length (c.loop-offset.invariant.bytes s abbrevs own)
+          ∙ sym (ap (λ (l : List ℕ). length (flat_map f l)) (below_offset offsets i 0 c.requires.rising c.loop-offset-test.true)) in
+          keys_more (λ (q n : ℕ). n ≡ length (flat_map f (filter (λ o. nat_lt o q) offsets))) c.loop-offset.starts c.insert.new.self offset c.len.result
+          (λ q n e. c.loop-offset.invariant.starts s abbrevs own q n e) here (λ q. c.in_ok-insert.ensures.updates.0 q) q n e;
+    }

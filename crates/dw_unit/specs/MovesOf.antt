@@ -1,0 +1,11 @@
+-- What the change of entries goes by, as moves.
+use Rattle.std.specs.Prelude.{◌≡◌, ℕ}
+use Rattle.std.specs.BTreeMap.{get}
+use Rattle.std.specs.Ordering.{nat_cmp}
+use Rattle.dw_unit.specs.declared.entry_moves.EntryMoves.{EntryMoves}
+use Rattle.dw_unit.specs.EntryMoves as moves
+
+pub record AreMovesIn (m : moves.Moves) (x : EntryMoves) : Type 0 where
+  pub spans : m.spans ≡ x.map.now
+  pub lists : m.lists ≡ x.lists
+  pub call_end : (a : ℕ) → m.call_end a ≡ get nat_cmp x.call_ends a

@@ -1,0 +1,14 @@
+// Entries that are changed in place.
+
+/// What the change of an entry's attributes goes by.
+#[derive(Clone, Copy, PartialEq, Eq, Debug)]
+pub struct ChangedEntry {
+    /// Its offset in `.debug_info`.
+    pub place: u64,
+    /// Whether some unit's own entry has its declaration.
+    pub is_own: bool,
+    /// Whether it is its unit's own entry.
+    pub is_first: bool,
+    /// Whether its declaration names a high address.
+    pub has_high: bool,
+}

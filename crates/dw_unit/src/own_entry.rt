@@ -1,0 +1,10 @@
+// The own entries of units.
+
+/// A unit's own entry, which is its first.
+#[derive(Clone, Copy, PartialEq, Eq, Debug)]
+pub struct OwnEntry {
+    /// Its offset in `.debug_info`.
+    pub place: u64,
+    /// The offset of its declaration in `.debug_abbrev`.
+    pub declaration: u64,
+}
