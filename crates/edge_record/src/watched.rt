@@ -27,7 +27,7 @@ impl Watched {
     ghost use Rattle.edge_record.specs.Moves.{Move};
     ghost use Rattle.edge_record.specs.MoveCounts.{is_counted};
 
-    /// Those of functions with these blocks.
+    /// The addresses whose moves are counted, of functions with these blocks.
     pub fn new(alloc: Global, funcs: &[Func], blocks: &[Block]) -> Result<Watched, NoMemory>
         requires { AreLaidOut funcs.now }
         ensures { IfOk result (λ watched. (m : Move) → watches watched m ≡ is_counted funcs.now blocks.now m) }

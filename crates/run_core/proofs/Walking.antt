@@ -11,7 +11,7 @@ use Rattle.rv_code.proofs.machine.OnlyRuns.{fewer, more_determined, stop_determi
 use Rattle.run_core.specs.Answers.{Answer}
 use Rattle.run_core.specs.Answers as answer
 use Rattle.run_core.specs.Inputs.{AreSomeBytes, Outside, as_told, MayCome, IsRightly}
-use Rattle.run_core.specs.Runs.{RunsSomeInput, steps_done}
+use Rattle.run_core.specs.Runs.{MachineRunAnswers, RunsSomeInput, determined_steps, steps_done}
 use Rattle.run_core.specs.StepAnswers.{StepAnswers, StepGoes, StepStops, FailsToRead, FailsToWrite, RanOut}
 use Rattle.run_core.proofs.Told.{told, told_is, told_may_come, told_before, as_told-prepend, prepend_known-nil}
 use Rattle.run_core.proofs.Told.{prepend_known-append, append_known-nil, told_bytes}
@@ -129,6 +129,18 @@ module _ {M S C : Type 0} (state_of : M → List ℕ → S) (step : S → Outcom
     determined_now = determined_further rest_now (told_may_come ended between.input.left walk.end_is)
 
     module _ (new : M) (after : Outside) (limit : ℕ) (below : n < limit) where
+      -- with the input up to here the run answers so
+      abbrev runs_now : (a : Answer C) (k : ℕ) → MachineRunAnswers state_of step a limit k old new input_now before after →
+          IsDetermined step (state_of old input_now) (determined_steps a limit k) →
+          RunsSomeInput state_of step a limit k old new before after
+      runs_now a k answers determined = record {
+        input = input_now;
+        input_is = input_now_is;
+        input_bytes = input_bytes_now;
+        answers = answers;
+        determined = determined;
+      }
+
       -- where it stops, all steps are determined, since there are no others
       pub determined_by_stop : (o : Outcome S C) → IsStop o → StepStops state_of step o mid new between after →
           IsDetermined step (state_of old input_now) limit
@@ -138,122 +150,92 @@ module _ {M S C : Type 0} (state_of : M → List ℕ → S) (step : S → Outcom
 
       abbrev pub ends_run : (status : ℕ) → StepStops state_of step (Ended status) mid new between after →
           RunsSomeInput state_of step (answer.Ended status) limit (n + 1) old new before after
-      ends_run status stops = record {
-        input = input_now;
-        input_is = input_now_is;
-        input_bytes = input_bytes_now;
-        answers = (
-          omega (arith, below),
-          record {
-            rest = rest_now;
-            trace = came_now.trace;
-            run = record {
-              before = n;
-              last = omega arith;
-              state = state_of mid rest_now;
-              so_far = came_now.so_far;
-              ends = stops.comes_to rest_now;
-            };
-            state_is = sym (stops.state_is rest_now);
-            left_is = stops.left_is ∙ rest_now_is;
-            taken_is = stops.taken_is ∙ came_now.taken_is;
-          },
-        );
-        determined = determined_by_stop (Ended status) tt stops;
-      }
+      ends_run status stops = runs_now (answer.Ended status) (n + 1) (
+        omega (arith, below),
+        record {
+          rest = rest_now;
+          trace = came_now.trace;
+          run = record {
+            before = n;
+            last = omega arith;
+            state = state_of mid rest_now;
+            so_far = came_now.so_far;
+            ends = stops.comes_to rest_now;
+          };
+          state_is = sym (stops.state_is rest_now);
+          left_is = stops.left_is ∙ rest_now_is;
+          taken_is = stops.taken_is ∙ came_now.taken_is;
+        },
+      ) (determined_by_stop (Ended status) tt stops)
 
       abbrev pub halts_run : (pc : ℕ) (cause : C) → StepStops state_of step (Halts pc cause) mid new between after →
           RunsSomeInput state_of step (answer.Halted pc cause) limit n old new before after
-      halts_run pc cause stops = record {
-        input = input_now;
-        input_is = input_now_is;
-        input_bytes = input_bytes_now;
-        answers = (
-          below,
-          record {
-            rest = rest_now;
-            trace = came_now.trace;
-            halts = record { state = state_of mid rest_now; so_far = came_now.so_far; halts = stops.comes_to rest_now };
-            state_is = sym (stops.state_is rest_now);
-            left_is = stops.left_is ∙ rest_now_is;
-            taken_is = stops.taken_is ∙ came_now.taken_is;
-          },
-        );
-        determined = determined_by_stop (Halts pc cause) tt stops;
-      }
+      halts_run pc cause stops = runs_now (answer.Halted pc cause) n (
+        below,
+        record {
+          rest = rest_now;
+          trace = came_now.trace;
+          halts = record { state = state_of mid rest_now; so_far = came_now.so_far; halts = stops.comes_to rest_now };
+          state_is = sym (stops.state_is rest_now);
+          left_is = stops.left_is ∙ rest_now_is;
+          taken_is = stops.taken_is ∙ came_now.taken_is;
+        },
+      ) (determined_by_stop (Halts pc cause) tt stops)
 
       pub fails_at_read : before.input.faults ≤ between.input.faults → FailsToRead state_of step mid between after →
           RunsSomeInput state_of step answer.ReadFault limit n old new before after
-      fails_at_read rise fails = record {
-        input = input_now;
-        input_is = input_now_is;
-        input_bytes = input_bytes_now;
-        answers = (
-          below,
-          record {
-            cause = λ under. let rose : between.input.faults < after.input.faults = fails.cause under in
-                omega (arith, rise, rose);
-            trace = came_now.trace;
-            state = state_of mid rest_now;
-            so_far = came_now.so_far;
-            asks = fails.asks rest_now;
-            taken_is = fails.taken_is ∙ came_now.taken_is;
-          },
-        );
-        determined = determined_now;
-      }
+      fails_at_read rise fails = runs_now answer.ReadFault n (
+        below,
+        record {
+          cause = λ under. let rose : between.input.faults < after.input.faults = fails.cause under in
+              omega (arith, rise, rose);
+          trace = came_now.trace;
+          state = state_of mid rest_now;
+          so_far = came_now.so_far;
+          asks = fails.asks rest_now;
+          taken_is = fails.taken_is ∙ came_now.taken_is;
+        },
+      ) determined_now
 
       pub fails_at_write : before.output.faults ≤ between.output.faults → FailsToWrite state_of step mid between after →
           RunsSomeInput state_of step answer.WriteFault limit n old new before after
-      fails_at_write rise fails = record {
-        input = input_now;
-        input_is = input_now_is;
-        input_bytes = input_bytes_now;
-        answers = (
-          below,
-          record {
-            cause = λ under. let rose : between.output.faults < after.output.faults = fails.cause under in
-                omega (arith, rise, rose);
-            trace = came_now.trace;
-            state = state_of mid rest_now;
-            so_far = came_now.so_far;
-            gives =
-                let gives = fails.gives rest_now in
-                record {
-                  next = gives.next;
-                  event = gives.event;
-                  comes_to = gives.comes_to;
-                  number_is = gives.number_is;
-                  front = (
-                    gives.front.0,
-                    gives.front.1,
-                    gives.front.2 ∙ ap (λ known. append_known known (take gives.front.0 gives.event.moved)) came_now.taken_is,
-                  );
-                };
-          },
-        );
-        determined = determined_now;
-      }
+      fails_at_write rise fails =
+          let gives = fails.gives rest_now in
+          runs_now answer.WriteFault n (
+            below,
+            record {
+              cause = λ under. let rose : between.output.faults < after.output.faults = fails.cause under in
+                  omega (arith, rise, rose);
+              trace = came_now.trace;
+              state = state_of mid rest_now;
+              so_far = came_now.so_far;
+              gives = record {
+                next = gives.next;
+                event = gives.event;
+                comes_to = gives.comes_to;
+                number_is = gives.number_is;
+                front = (
+                  gives.front.0,
+                  gives.front.1,
+                  gives.front.2 ∙ ap (λ known. append_known known (take gives.front.0 gives.event.moved)) came_now.taken_is,
+                );
+              };
+            },
+          ) determined_now
 
       pub runs_out : RanOut state_of mid new between after →
           RunsSomeInput state_of step answer.Memory limit n old new before after
-      runs_out out = record {
-        input = input_now;
-        input_is = input_now_is;
-        input_bytes = input_bytes_now;
-        answers = (
-          below,
-          record {
-            rest = rest_now;
-            trace = came_now.trace;
-            so_far =
-                subst (λ s. SoFar step (state_of old input_now) n came_now.trace s) (sym (out.state_is rest_now)) came_now.so_far;
-            left_is = out.left_is ∙ rest_now_is;
-            taken_is = out.taken_is ∙ came_now.taken_is;
-          },
-        );
-        determined = determined_now;
-      }
+      runs_out out = runs_now answer.Memory n (
+        below,
+        record {
+          rest = rest_now;
+          trace = came_now.trace;
+          so_far =
+              subst (λ s. SoFar step (state_of old input_now) n came_now.trace s) (sym (out.state_is rest_now)) came_now.so_far;
+          left_is = out.left_is ∙ rest_now_is;
+          taken_is = out.taken_is ∙ came_now.taken_is;
+        },
+      ) determined_now
 
       -- the next step is the last
       pub last_step : (ends : Bool) (a : Answer C) → (a ≡ answer.Going → ⊥) → before.input.faults ≤ between.input.faults
@@ -289,3 +271,9 @@ module _ {M S C : Type 0} (state_of : M → List ℕ → S) (step : S → Outcom
         );
         determined = subst (IsDetermined step (state_of old (walk.read ++ rest))) up c.determined;
       }
+
+-- What holds of the end of a run and of its steps holds of the pair that is answered.
+pub ran_is : {E C : Type 0} (answered : E → Answer C) (end' end : E) (steps n : ℕ) (P : E → ℕ → Type 0) → end' ≡ end →
+    steps ≡ steps_done (answered end) n → P end (steps_done (answered end) n) → P end' steps
+ran_is answered end' end steps n P end_is steps_are holds =
+    subst (λ k. P end' k) (sym steps_are) (subst (λ e. P e (steps_done (answered end) n)) (sym end_is) holds)

@@ -24,7 +24,7 @@ impl<'a> Machine<'a> {
         self.fetch_anywhere()
     }
 
-    // The same, byte by byte.
+    // Fetches byte by byte.
     fn fetch_anywhere(&self) -> Option<(u16, Option<u16>)>
         ensures { (input : List ℕ) → result ≡ fetched (state_of self.now input) }
     {

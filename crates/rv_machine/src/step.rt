@@ -32,7 +32,7 @@ impl<'a> Machine<'a> {
         self.step_known(&mut known, &mut input_end, input, out)
     }
 
-    /// The same, with what was decoded before, and whether the input was found at its end.
+    /// One step, with what was decoded before, and whether the input was found at its end.
     pub fn step_known<I: Source, O: Sink>(
         &mut self,
         known: &mut KnownActions,

@@ -66,7 +66,7 @@ fn put_u64(bytes: &mut [u8], at: usize, number: u64)
     LittleEndian::write_u64(&mut bytes[at..], number);
 }
 
-// The same for other counts, of which no store has one.
+// Writes another count of bytes, of which no store has one.
 fn put_front(bytes: &mut [u8], at: usize, count: u8, number: u64)
     requires few { count ≤ 8 }
     requires within { at + count ≤ length bytes.old }

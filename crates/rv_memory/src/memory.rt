@@ -174,7 +174,7 @@ impl<'a> Memory<'a> {
         self.write(address, low)
     }
 
-    // The same where all the bytes are in one page, and it is there. False elsewhere.
+    // Writes a number whose bytes are in one page that is there, or answers false.
     fn put_in_page(&mut self, address: u64, count: u8, number: u64) -> bool
         requires few { count ≤ 8 }
         requires writable { all_may (writes self.old) address count ≡ true }
@@ -378,7 +378,7 @@ impl<'a> Memory<'a> {
         }
     }
 
-    // The same for any addresses.
+    // Whether all addresses allow the access, looked up one by one.
     fn may_each(&self, access: Access, address: u64, count: usize) -> bool
         ensures { result ≡ all_may (may self.now access) address count }
     {

@@ -234,6 +234,27 @@ none_in insts a below rising bound low high last j e inside at =
     (cases_lt j below))
     (cases_lt j (below - 1))
 
+-- In the last function that starts at an address or below it, the last instruction up to this address starts elsewhere.
+pub placed_at-missed : (funcs : List Func) → IsSearchable funcs → (a above below : ℕ) (func : Func) (insts : List Placed) →
+    above ≤ length funcs → 0 < above →
+    ((k : ℕ) (d : Func) → k < above → (slice_index_or funcs k d).start ≤ a) →
+    ((k : ℕ) (d : Func) → above ≤ k → k < length funcs → a < (slice_index_or funcs k d).start) →
+    func ≡ slice_index_or funcs (above - 1) func → insts ≡ func.insts.items → below ≤ length insts →
+    ((k : ℕ) (e : Placed) → k < below → (slice_index_or insts k e).addr ≤ a) →
+    ((k : ℕ) (e : Placed) → below ≤ k → k < length insts → a < (slice_index_or insts k e).addr) →
+    ((e : Placed) → 0 < below → (slice_index_or insts (below - 1) e).addr ≡ a → ⊥) → placed_at funcs a ≡ None
+placed_at-missed funcs s a above below func insts bound some starts past func_is insts_are inside low high last =
+    placed_at-searched funcs s a above bound starts past (λ j d e _ within at.
+    let k_within : above - 1 < length funcs = omega (arith, bound, some) in
+    let same : insts_at funcs (above - 1) d ≡ insts =
+    sym (ap (λ (f : Func). f.insts.items) (func_is ∙ get_or_default funcs (above - 1) func d k_within)) ∙ sym insts_are in
+    none_in insts a below
+    (subst (λ (is : List Placed). (i j : ℕ) (e : Placed) → i < j → j < length is →
+    (slice_index_or is i e).addr < (slice_index_or is j e).addr) same
+    (λ i j e less to. s.rising (above - 1) i j d e k_within less to))
+    inside low high last j e (subst (λ (is : List Placed). j < length is) same within)
+    (subst (λ (is : List Placed). (slice_index_or is j e).addr ≡ a) same at))
+
 pub code_address_is : (funcs : List Func) → IsSearchable funcs → (a : ℕ) (o : Option InstPlace) →
     IfSome o (λ at. IsInstPlace funcs a at.func at.inst) →
     IfNone o (placed_at funcs a ≡ None) → is_some o ≡ is_some (placed_at funcs a)

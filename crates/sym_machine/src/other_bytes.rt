@@ -158,7 +158,7 @@ impl OtherBytes {
         }
     }
 
-    // The same for addresses of one group.
+    // Clears addresses of one group.
     fn clear_in_group(&mut self, from: u64, to: u64)
         requires forth { from ≤ to }
         requires within { (q : ℕ) → from ≤ q → q < to → q / 8 ≡ from / 8 }

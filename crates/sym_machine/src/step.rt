@@ -33,7 +33,7 @@ impl<'a> SymMachine<'a> {
         self.step_on(&mut known, &mut input_end, input, out)
     }
 
-    // The same, with what was looked up before, where the input may have been found at its end.
+    // One step, with what was looked up before, where the input may have been found at its end.
     pub(crate) fn step_on<I: Source, O: Sink>(
         &mut self,
         known: &mut KnownInsts,

@@ -1,7 +1,8 @@
 use Rattle.std.proofs.Common.{◌≡◌, ◌∙◌, ◌<◌, ◌^◌, [], false, Result, Ok, Err, arith, rules, refl, sym}
 use Rattle.std.specs.Prelude.{OnOk, is_err}
+use Rattle.run_core.proofs.Walking.{ran_is}
 use Rattle.rv_machine.specs.StepResults.{answered}
-use Rattle.rv_machine.proofs.LastSteps.{isnt_going, ran_is}
+use Rattle.rv_machine.proofs.LastSteps.{isnt_going}
 use Rattle.edge_record.specs.AddressSets.{watches}
 use Rattle.edge_record.specs.EdgeCounts.{said_of}
 use Rattle.edge_record.specs.WatchedRuns.{WatchesRun}
@@ -58,7 +59,7 @@ loop-steps-preserved g c =
 
 pub returns-in_default : goal.returns-in_default
 returns-in_default g c = record {
-  answer = ran_is c.ended.result c.step_known.result c.loop-steps.steps
+  answer = ran_is answered c.ended.result.end c.step_known.result c.ended.result.steps c.loop-steps.steps
       (λ end steps. WatchesRun (watches c.args.watched.now) c.args.machine.now c.step_known.new.self c.args.limit steps
       (record { input = g.I.Source.seen c.args.input.now; output = g.O.Sink.seen c.args.out.now })
       (record { input = g.I.Source.seen c.step_known.new.input; output = g.O.Sink.seen c.step_known.new.out })

@@ -2,7 +2,7 @@ use Rattle.std.proofs.Common.{◌≡◌, ◌∙◌, sym, subst, ap, ◌-◌, ◌
 use Rattle.std.proofs.lemmas.List.{get_or_default}
 use Rattle.rv_code.specs.declared.placed.Func.{Func}
 use Rattle.rv_code.specs.declared.placed.Placed.{Placed}
-use Rattle.sym_machine.proofs.Functions.{placed_at-searched, none_in, starts_rise, addrs_rise, insts_at}
+use Rattle.sym_machine.proofs.Functions.{placed_at-searched, placed_at-missed, starts_rise, addrs_rise, insts_at}
 use Rattle.sym_machine.proofs.inst_index.place_in.Goals as goal
 
 pub starts_up_to-above-requires : goal.starts_up_to-above-requires
@@ -42,31 +42,14 @@ pub returns-then-below-eq0-clause-none : goal.returns-then-below-eq0-clause-none
 returns-then-below-eq0-clause-none c =
     let f = c.starts_up_to-above.ensures in
     let g = c.insts_up_to-below.ensures in
-    let k = c.starts_up_to-above.result - 1 in
-    let within : k < length c.args.funcs.now = omega (arith, f.bound) in
-    placed_at-searched c.args.funcs.now c.requires c.args.address c.starts_up_to-above.result f.bound f.below f.above
-    (λ j d e some inside at.
-    let insts : c.deref-insts.result.now ≡ insts_at c.args.funcs.now k d =
-    c.deref-insts.ensures.value ∙ ap (λ (x : Func). x.insts.items)
-    (c.index-funcs-above.is ∙ get_or_default c.args.funcs.now k c.index-funcs-above.result d within) in
-    none_in (insts_at c.args.funcs.now k d) c.args.address c.insts_up_to-below.result
-    (λ i j e less inside. c.requires.rising k i j d e within less inside)
-    (rw insts at g.bound) (rw insts at g.below) (rw insts at g.above)
-    (λ e some at. absurd (let none = c.if-below-eq0.true in omega arith)) j e inside at)
+    placed_at-missed c.args.funcs.now c.requires c.args.address c.starts_up_to-above.result c.insts_up_to-below.result
+    c.index-funcs-above.result c.deref-insts.result.now f.bound (omega arith) f.below f.above c.index-funcs-above.is
+    c.deref-insts.ensures.value g.bound g.below g.above (λ e some at. absurd (let none = c.if-below-eq0.true in omega arith))
 
 pub returns-then-address_at-address-clause-none : goal.returns-then-address_at-address-clause-none
 returns-then-address_at-address-clause-none c =
     let f = c.starts_up_to-above.ensures in
     let g = c.insts_up_to-below.ensures in
-    let k = c.starts_up_to-above.result - 1 in
-    let within : k < length c.args.funcs.now = omega (arith, f.bound) in
-    placed_at-searched c.args.funcs.now c.requires c.args.address c.starts_up_to-above.result f.bound f.below f.above
-    (λ j d e some inside at.
-    let insts : c.deref-insts.result.now ≡ insts_at c.args.funcs.now k d =
-    c.deref-insts.ensures.value ∙ ap (λ (x : Func). x.insts.items)
-    (c.index-funcs-above.is ∙ get_or_default c.args.funcs.now k c.index-funcs-above.result d within) in
-    none_in (insts_at c.args.funcs.now k d) c.args.address c.insts_up_to-below.result
-    (λ i j e less inside. c.requires.rising k i j d e within less inside)
-    (rw insts at g.bound) (rw insts at g.below) (rw insts at g.above)
-    (λ e some at. c.if-address_at-address.true (c.address_at.ensures e
-    ∙ ap (λ (xs : List Placed). (slice_index_or xs (c.insts_up_to-below.result - 1) e).addr) insts ∙ at)) j e inside at)
+    placed_at-missed c.args.funcs.now c.requires c.args.address c.starts_up_to-above.result c.insts_up_to-below.result
+    c.index-funcs-above.result c.deref-insts.result.now f.bound (omega arith) f.below f.above c.index-funcs-above.is
+    c.deref-insts.ensures.value g.bound g.below g.above (λ e some at. c.if-address_at-address.true (c.address_at.ensures e ∙ at))

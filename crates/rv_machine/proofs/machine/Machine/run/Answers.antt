@@ -1,10 +1,10 @@
 use Rattle.std.proofs.Common.{arith}
 use Rattle.rv_code.specs.machine.Step.{Steps}
 use Rattle.run_core.specs.Runs.{RunsSomeInput}
-use Rattle.run_core.proofs.Walking.{no_step, step_more, last_step, steps_up}
+use Rattle.run_core.proofs.Walking.{no_step, ran_is, step_more, last_step, steps_up}
 use Rattle.rv_machine.specs.State.{state_of}
 use Rattle.rv_machine.specs.StepResults.{answered}
-use Rattle.rv_machine.proofs.LastSteps.{isnt_going, ran_is}
+use Rattle.rv_machine.proofs.LastSteps.{isnt_going}
 use Rattle.rv_machine.proofs.machine.Machine.run.Goals as goal
 
 pub loop-steps-init : goal.loop-steps-init
@@ -29,7 +29,7 @@ loop-steps-preserved g c = record {
 
 pub returns-in_default : goal.returns-in_default
 returns-in_default g c = record {
-  answer = ran_is c.ended.result c.step_known.result c.loop-steps.steps
+  answer = ran_is answered c.ended.result.end c.step_known.result c.ended.result.steps c.loop-steps.steps
       (λ end steps. RunsSomeInput state_of Steps (answered end) c.args.limit steps c.args.self.now c.step_known.new.self
       (record { input = g.I.Source.seen c.args.input.now; output = g.O.Sink.seen c.args.out.now })
       (record { input = g.I.Source.seen c.step_known.new.input; output = g.O.Sink.seen c.step_known.new.out }))

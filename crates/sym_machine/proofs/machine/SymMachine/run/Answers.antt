@@ -4,13 +4,13 @@ use Rattle.rv_code.specs.declared.placed.Func.{Func}
 use Rattle.rv_code.specs.machine.DeterminedRuns.{HasOneOutcome}
 use Rattle.run_core.specs.Inputs.{Outside}
 use Rattle.run_core.specs.Runs.{RunsSomeInput}
-use Rattle.run_core.proofs.Walking.{no_step, step_more, last_step, steps_up}
+use Rattle.run_core.proofs.Walking.{no_step, ran_is, step_more, last_step, steps_up}
 use Rattle.sym_machine.specs.declared.machine.SymMachine.{SymMachine}
 use Rattle.sym_machine.specs.declared.outcome.SymStepped.{SymStepped}
 use Rattle.sym_machine.specs.declared.outcome.SymStepped.TheVariants as stepped
 use Rattle.sym_machine.specs.SymStep.{SymSteps}
 use Rattle.sym_machine.specs.MachineState.{answered, state_of, funcs_of, StepAnswers}
-use Rattle.sym_machine.proofs.LastSteps.{isnt_going, ran_is}
+use Rattle.sym_machine.proofs.LastSteps.{isnt_going}
 use Rattle.sym_machine.proofs.machine.SymMachine.run.Goals as goal
 
 -- the step by the functions that the run began with
@@ -56,7 +56,7 @@ loop-steps-preserved g c = record {
 
 pub returns-in_default : goal.returns-in_default
 returns-in_default g c = record {
-  answer = ran_is c.ended.result c.step_on.result c.loop-steps.steps
+  answer = ran_is answered c.ended.result.end c.step_on.result c.ended.result.steps c.loop-steps.steps
       (λ end steps. RunsSomeInput state_of (SymSteps (funcs_of c.args.self.now))
       (answered end) c.args.limit steps c.args.self.now c.step_on.new.self
       (record { input = g.I.Source.seen c.args.input.now; output = g.O.Sink.seen c.args.out.now })

@@ -1,30 +1,16 @@
-use Rattle.std.proofs.Common.{◌-◌, ◌+◌, ◌∙◌, sym, ap, arith}
-use Rattle.std.specs.Prelude.{◌&&◌}
-use Rattle.rv_code.specs.machine.Machine.{plus, all_may}
-use Rattle.rv_memory.proofs.MemoryBytes.{all_may_none, all_may_next}
+use Rattle.std.proofs.Common.{◌∙◌, sym, arith}
 use Rattle.sym_machine.specs.internal.Memory.{is_number_at}
+use Rattle.sym_machine.proofs.EachByte.{each-next, each-all}
 use Rattle.sym_machine.proofs.memory.SymMemory.is_each_number.Goals as goal
 
 pub returns-then-not-is_number : goal.returns-then-not-is_number
-returns-then-not-is_number c =
-    let may = is_number_at c.args.self.now in
-    sym (
-    c.loop-i.invariant
-    ∙ all_may_next may c.args.address c.loop-i.i c.args.count c.loop-i-test.true
-    ∙ ap (λ first. first && all_may may (plus c.args.address (c.loop-i.i + 1)) (c.args.count - (c.loop-i.i + 1)))
-    (sym c.is_number.ensures ∙ c.if-not-is_number.true)
-    )
+returns-then-not-is_number c = sym (each-next (is_number_at c.args.self.now) c.args.address c.loop-i.i c.args.count _
+    c.loop-i-test.true c.loop-i.invariant (sym c.is_number.ensures ∙ c.if-not-is_number.true))
 
 pub loop-i-preserved : goal.loop-i-preserved
-loop-i-preserved c =
-    let may = is_number_at c.args.self.now in
-    c.loop-i.invariant
-    ∙ all_may_next may c.args.address c.loop-i.i c.args.count c.loop-i-test.true
-    ∙ ap (λ first. first && all_may may (plus c.args.address (c.loop-i.i + 1)) (c.args.count - (c.loop-i.i + 1)))
-    (sym c.is_number.ensures ∙ c.if-not-is_number.false)
+loop-i-preserved c = each-next (is_number_at c.args.self.now) c.args.address c.loop-i.i c.args.count _
+    c.loop-i-test.true c.loop-i.invariant (sym c.is_number.ensures ∙ c.if-not-is_number.false)
 
 pub returns : goal.returns
-returns c = sym
-    (c.loop-i.invariant
-    ∙ all_may_none (is_number_at c.args.self.now) (plus c.args.address c.loop-i.i) (c.args.count - c.loop-i.i)
-    (omega (arith, c.loop-i-test.false)))
+returns c = sym (each-all (is_number_at c.args.self.now) c.args.address c.loop-i.i c.args.count (omega (arith, c.loop-i-test.false))
+    c.loop-i.invariant)
