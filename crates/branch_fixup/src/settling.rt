@@ -174,7 +174,7 @@ fn short_blocks(
     Ok(short)
 }
 
-// The same again and again, of the blocks that were added, until there are none.
+// Goes on with the blocks that were added, until there are none.
 fn grow_from(
     alloc: Global,
     block_ends: &[BlockEnd],

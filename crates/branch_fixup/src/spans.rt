@@ -30,7 +30,7 @@ fn put_inner(spans: &mut Vec<Span>, mut at: u64, insts: &[Placed]) -> Result<u64
     Ok(at)
 }
 
-// The same of a whole block, whose last instruction is in a form.
+// Appends the spans of a whole block, whose last instruction is in a form.
 fn put_block(
     spans: &mut Vec<Span>,
     at: u64,

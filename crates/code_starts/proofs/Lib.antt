@@ -1,11 +1,11 @@
 pub mod Chosen
-pub mod Cuts
-pub mod Decoded
-pub mod FileBytes
+mod Cuts
+mod Decoded
+mod FileBytes
 pub mod FullLookup
-pub mod Inside
+mod Inside
 pub mod LoadedNumbers
 pub mod PartLookup
-pub mod RangeLists
+mod RangeLists
 pub mod StartLists
 pub mod WholeLookup

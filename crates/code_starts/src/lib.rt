@@ -2,7 +2,7 @@
 #![tactic(auto)]
 
 pub mod code;
-pub mod halves;
+mod halves;
 pub mod instruction_starts;
 pub mod loaded;
 pub mod parts;

@@ -24,7 +24,7 @@ impl<'a> Model for Starts<'a> {
 }
 
 impl<'a> Starts<'a> {
-    /// Those of a list.
+    /// The starts of a list, with hints for look-ups.
     pub fn new(alloc: Global, starts: &'a [u64]) -> Result<Starts<'a>, NoMemory>
         ensures { IfOk result (λ s. s ≡ starts.now) }
     {

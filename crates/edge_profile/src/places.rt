@@ -21,7 +21,7 @@ pub fn place_of(funcs: &[Func], address: u64) -> Option<InstPlace>
     place_near(funcs, address, 0)
 }
 
-/// The same, where the function of an index is looked at first.
+/// The function and the instruction at an address; the function of an index is looked at first.
 pub fn place_near(funcs: &[Func], address: u64, near: usize) -> Option<InstPlace>
     requires { AreLaidOut funcs.now }
     ensures some { IfSome result (λ p. IsInstPlace funcs.now address p.func p.inst) }

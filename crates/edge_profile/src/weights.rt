@@ -148,7 +148,7 @@ fn count_up_to(blocks: &[Block], place: &InstPlace, near: usize) -> usize
     }
 }
 
-// The same, where it is at most a few blocks away.
+// Counts the blocks up to a place, where that is at most a few blocks from a guess.
 fn count_beside(blocks: &[Block], place: &InstPlace, near: usize) -> Option<usize>
     requires { AreBlocksApart blocks.now }
     ensures bound { IfSome result (λ n. n ≤ length blocks.now) }

@@ -42,7 +42,7 @@ pub fn functions(
     functions_by(alloc, elf, &index, refs, whole)
 }
 
-// The same, by the starts with hints for look-ups.
+// Finds the functions by the starts with hints for look-ups.
 fn functions_by(
     alloc: Global,
     elf: &Elf,

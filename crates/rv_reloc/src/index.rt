@@ -76,7 +76,7 @@ fn count_below(records: &[Record], place: u64, at: u64) -> usize
     records.partition_point(|r| r.place < place || (r.place == place && class(r.kind) < at))
 }
 
-// The same, looked for at an index and beside it first.
+// Counts the records before a place, at an index and beside it first.
 fn count_near(records: &[Record], near: usize, place: u64, at: u64) -> usize
     requires { AreInOrder records.now }
     ensures { IsSplit place at records.now result }

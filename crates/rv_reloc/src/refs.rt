@@ -55,7 +55,7 @@ pub fn references(
     references_by(alloc, elf, &index, whole, &parts, &records, &lows)
 }
 
-// The same, by the file's code parts, its relocations and their lower parts.
+// The references, by the file's code parts, its relocations and their lower parts.
 fn references_by(
     alloc: Global,
     elf: &Elf,

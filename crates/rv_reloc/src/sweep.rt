@@ -32,7 +32,7 @@ pub fn sort_fields(fields: &mut Vec<Candidate>) -> Result<(), NoMemory>
     Ok(())
 }
 
-/// Those that count, of all that can be cells, in their order.
+/// The cells among all fields that can be some, in their order.
 pub fn sweep(alloc: Global, candidates: &[Candidate]) -> Result<Vec<Candidate>, NoMemory>
     ensures { (elf : Elf) (tabled : List (ℕ × ℕ)) → AreCandidates elf tabled (map as_field candidates.now) →
         IfOk result (λ counted. AreCounted elf tabled (map as_field counted.items)) }
