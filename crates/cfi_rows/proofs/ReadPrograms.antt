@@ -1,31 +1,21 @@
 -- CIEs and FDEs that are read for their rows.
 use Rattle.std.proofs.Common.{◌≡◌, ◌∙◌, ℕ, List, Result, Ok, Option, Some, None, refl, sym, ap, subst}
-use Rattle.std.specs.Prelude.{IsOkAnd, IfOk}
+use Rattle.std.specs.Prelude.{IfOk}
 use Rattle.table_core.specs.ReadSteps.{and_so}
+use Rattle.std.specs.Rc.{rc_value}
 use Rattle.cfi_rows.specs.declared.fde.FdeHead.{FdeHead}
 use Rattle.cfi_rows.specs.declared.instruction.Instruction.{Instruction}
 use Rattle.cfi_rows.specs.declared.instruction.Malformed.{Malformed}
-use Rattle.cfi_rows.specs.declared.program.CieProgram.{CieProgram}
+use Rattle.cfi_rows.specs.declared.cie_program.CieProgram.{CieProgram}
 use Rattle.cfi_rows.specs.declared.program.Program.{Program}
 use Rattle.cfi_rows.specs.FrameInstructions.{instructions_at}
-use Rattle.cfi_rows.specs.FrameRows.{Known, PlacedRow, known_after, begins, nothing_known, rows}
+use Rattle.cfi_rows.specs.FrameRows.{Known, PlacedRow, begins, rows}
 use Rattle.cfi_rows.specs.Heads.{head_of}
-use Rattle.cfi_rows.specs.Entries.{Head, Cie, Fde, RawEntry, cie_at, cie_made, head_at, head_context, fde_at, fde_made, fde_context, sound_if}
+use Rattle.cfi_rows.specs.Entries.{Head, Cie, Fde, RawEntry, head_context, fde_at, fde_made, fde_context, sound_if}
 use Rattle.cfi_rows.specs.FdeHeads.{fde_head_at}
 use Rattle.cfi_rows.specs.RowMachines.{known_of}
 use Rattle.cfi_rows.specs.FramePrograms.{IsCieProgram, IsProgram, rows_of}
-use Rattle.cfi_rows.proofs.CieParts as cie
 use Rattle.cfi_rows.proofs.FdeParts as fde
-
-pub cie-made : (end : ℕ) (body rest : List ℕ) (k : CieProgram) (is : List Instruction) →
-    head_at end body ≡ Ok (head_of k.head, rest) →
-    instructions_at (head_context end (head_of k.head)) rest ≡ Ok is →
-    known_after is (Some (begins 0 nothing_known)) ≡ Some (known_of k.known) → IsOkAnd (cie_at end body) (IsCieProgram k)
-cie-made end body rest k is e f g =
-    subst (λ (r : Result Cie Malformed). IsOkAnd r (IsCieProgram k))
-    (sym (cie.with-list end body rest (head_of k.head) is e f
-    ∙ ap (λ o. and_so (sound_if o) (cie_made (head_of k.head) is)) g))
-    (record { head = refl; known = refl })
 
 -- a CIE's own context is that of what is kept
 context-same : (k : CieProgram) (c : Cie) (end : ℕ) → IsCieProgram k c →
@@ -39,7 +29,7 @@ made c p place start size table is None e f = tt
 made c p place start size table is (Some rs) e f = record { start = e; rows = f }
 
 rows-same : (k : CieProgram) (c : Cie) (h : FdeHead) (is : List Instruction) (p : Program) → IsCieProgram k c →
-    known_of p.initial ≡ known_of k.known →
+    known_of (rc_value p.initial).known ≡ known_of k.known →
     h.start ≡ p.start → is ≡ p.instructions.items → rows_of p ≡ rows c.known.rules is (begins h.start c.known)
 rows-same k c h is p kept same e f =
     ap (λ (x : Known). rows x.rules p.instructions.items (begins p.start x)) (same ∙ sym kept.known)
@@ -48,7 +38,7 @@ rows-same k c h is p kept same e f =
 
 pub fde-made : (k : CieProgram) (c : Cie) (end : ℕ) (e : RawEntry) (h : FdeHead) (rest : List ℕ) (is : List Instruction) (p : Program) →
     IsCieProgram k c → fde_head_at (head_of k.head).augmentation end e.body ≡ Ok (h, rest) →
-    instructions_at (head_context end (head_of k.head)) rest ≡ Ok is → known_of p.initial ≡ known_of k.known →
+    instructions_at (head_context end (head_of k.head)) rest ≡ Ok is → known_of (rc_value p.initial).known ≡ known_of k.known →
     h.start ≡ p.start → is ≡ p.instructions.items → IfOk (fde_at c end e) (IsProgram p)
 fde-made k c end e h rest is p kept f g same s l =
     let f2 : fde_head_at c.augmentation end e.body ≡ Ok (h, rest) = ap (λ (x : Head). fde_head_at x.augmentation end e.body) kept.head ∙ f in

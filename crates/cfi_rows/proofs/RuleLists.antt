@@ -116,7 +116,7 @@ absent-at : (k : ℕ) (x : ℕ × Rule) (xs : Rules) (b : Bool) → (x.0 == k) �
 absent-at k x xs true e l h = absurd (grind (arith, nat_tests))
 absent-at k x xs false e l h = rw e h
 
-absent : (k lo : ℕ) (xs : Rules) → k < lo → Ascend lo xs → rule_of k xs ≡ None
+pub absent : (k lo : ℕ) (xs : Rules) → k < lo → Ascend lo xs → rule_of k xs ≡ None
 absent k lo [] l a = refl
 absent k lo (x ∷ xs) l a = let m = a.0 in
     absent-at k x xs (x.0 == k) refl (omega arith) (absent k (x.0 + 1) xs (omega arith) a.1)

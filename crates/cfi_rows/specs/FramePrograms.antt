@@ -1,10 +1,13 @@
 -- Entries of a frame table that are read once more, for their rows.
-use Rattle.std.specs.Prelude.{◌≡◌, ℕ, Bool, List, drop, Option, Some, None, Result, Err}
+use Rattle.std.specs.Prelude.{◌≡◌, ℕ, Bool, List, drop, Option, Some, None, Result, Err, IsOkAnd}
 use Rattle.table_core.specs.ReadSteps.{and_so}
 use Rattle.table_core.specs.Sections.{Held}
 use Rattle.cfi_rows.specs.declared.instruction.Malformed.{Malformed}
 use Rattle.cfi_rows.specs.declared.instruction.Malformed.TheVariants.{Entry}
-use Rattle.cfi_rows.specs.declared.program.CieProgram.{CieProgram}
+use Rattle.std.specs.Rc.{rc_value}
+use Rattle.std.specs.Ordering.{nat_cmp}
+use Rattle.std.specs.BTreeMap.{BTreeMap, get}
+use Rattle.cfi_rows.specs.declared.cie_program.CieProgram.{CieProgram}
 use Rattle.cfi_rows.specs.declared.program.Program.{Program}
 use Rattle.cfi_rows.specs.FrameRows.{PlacedRow, rows, begins}
 use Rattle.cfi_rows.specs.Entries.{Cie, Fde, RawEntry, Front, Ends, Breaks, Stands, front_of, sound_if, cie_at, cie_place}
@@ -14,7 +17,8 @@ use Rattle.cfi_rows.specs.RowMachines.{known_of}
 
 -- the rows of an FDE that is to be run
 abbrev pub rows_of : Program → Option (List PlacedRow)
-rows_of p = rows (known_of p.initial).rules p.instructions.items (begins p.start (known_of p.initial))
+rows_of p =
+    rows (known_of (rc_value p.initial).known).rules p.instructions.items (begins p.start (known_of (rc_value p.initial).known))
 
 -- a CIE as it is kept for the rows of its FDEs
 pub record IsCieProgram (k : CieProgram) (c : Cie) : Type 0 where
@@ -44,3 +48,8 @@ abbrev pub fde_standing : (debug : Bool) → Held → ℕ → Result Fde Malform
 fde_standing debug t place =
     and_so (sound_if (entry_standing debug t.bytes place))
     (λ e. and_so (cie_standing debug t (cie_place debug e)) (λ cie. fde_at cie (end_of t.address e) e))
+
+-- values that stand for CIEs, by the places of these
+abbrev pub AreRead : {X : Type 0} → (X → CieProgram) → (debug : Bool) → Held → BTreeMap ℕ X → Type 0
+AreRead {X} value debug t cies = (p : ℕ) (x : X) → get nat_cmp cies p ≡ Some x →
+    IsOkAnd (cie_standing debug t (Some p)) (IsCieProgram (value x))

@@ -5,19 +5,15 @@ use Rattle.cfi_rows.specs.declared.rules.Change.{Change}
 use Rattle.cfi_rows.specs.declared.machine.Known.{Known as Kept}
 use Rattle.cfi_rows.specs.declared.machine.Machine.{Machine}
 use Rattle.cfi_rows.specs.declared.machine.Saved.{Saved}
-use Rattle.cfi_rows.specs.FrameRows.{Rules, restored, Known, State}
+use Rattle.cfi_rows.specs.FrameRows.{Rules, Known, State}
+use Rattle.cfi_rows.specs.RuleChanges.{after_changes}
 
--- rules with changes taken back, of which the last one stands first
-abbrev pub undone : Rules → List Change → Rules
-undone rules [] = rules
-undone rules (c ∷ cs) = undone (restored c.register (option_map rc_value c.rule) rules) cs
-
--- the states that were remembered, of which the last one stands first
+-- the states that were remembered, of which the last one stands first, by changes that take back, the last one first
 abbrev pub remembered : Rules → List Change → List Saved → List Known
 remembered rules cs [] = []
 remembered rules cs (s ∷ ss) =
-    record { cfa = option_map rc_value s.cfa; rules = undone rules cs }
-    ∷ remembered (undone rules cs) (reverse s.changes.items) ss
+    record { cfa = option_map rc_value s.cfa; rules = after_changes rules cs }
+    ∷ remembered (after_changes rules cs) (reverse s.changes.items) ss
 
 abbrev pub known_of : Kept → Known
 known_of k = record { cfa = option_map rc_value k.cfa; rules = k.rules }

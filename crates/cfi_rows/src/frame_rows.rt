@@ -1,87 +1,129 @@
-// The rows of an entry of a frame table. DWARF 5, section 6.4.1.
-ghost use Rattle.std.specs.Prelude.{◌≡◌, IfOk, IsOkAnd, IsTrue, Some, None, slice_get};
-ghost use Rattle.cfi_rows.specs.Entries.{Fde as Entry, is_in_range, cie_place};
-ghost use Rattle.cfi_rows.specs.ReadFrames.{read_as, section_held};
-ghost use Rattle.cfi_rows.specs.FrameRows.{row_at};
-ghost use Rattle.cfi_rows.specs.FramePrograms.{entry_standing, cie_standing, fde_standing, IsCieProgram, IsProgram};
+// The rows of all entries of a frame table. DWARF 5, section 6.4.1.
+ghost use Rattle.std.specs.Prelude.{◌≡◌, ◌<◌, ◌^◌, ℕ, List, IfOk, OnOk, IsOkAnd, Some, Ok, map, slice_get};
+ghost use Rattle.std.specs.Rc.{rc_value};
+ghost use Rattle.cfi_rows.specs.Entries.{Fde as Entry, cie_place};
+ghost use Rattle.cfi_rows.specs.ReadEntries.{fde_of};
+ghost use Rattle.cfi_rows.specs.FramePrograms as spec;
 
+use crate::cie_program::{CieProgram, read_cie_program};
+use crate::entry_rows::EntryRows;
 use crate::failed::Failed;
-use crate::frame_table::Frames;
-use crate::program::{CieProgram, Program, read_cie_program, read_program};
-use crate::raw_entry::{NoEntry, RawEntry, entry_at};
-use crate::row::{PlacedRow, Row};
+use crate::frame_table::Fde;
+use crate::program::{Program, read_program};
+use crate::raw_entry::{RawEntry, entry_at};
 use rb_bytes::fault::NoMemory;
 use std::alloc::Global;
+use std::collections::BTreeMap;
+use std::rc::Rc;
+use table_core::section::Held;
 
-impl Frames {
-    /// The row of an entry at an address of its range.
-    pub fn row(&self, alloc: Global, i: usize, a: u64) -> Result<Row, NoMemory>
-        ensures { IfOk result (λ row. (f : Entry) → slice_get (read_as self.now).list i ≡ Some f → IsTrue (is_in_range f a) →
-            row_at a f.rows None ≡ Some row) }
-    {
-        match self.program(alloc, i)?.row(alloc, a) {
-            Ok(row) => Ok(row),
-            // An entry of the list isn't malformed.
-            Err(_) => Err(NoMemory),
-        }
-    }
-
-    /// All rows of an entry, in order.
-    pub fn rows(&self, alloc: Global, i: usize) -> Result<Vec<PlacedRow>, NoMemory>
-        ensures { IfOk result (λ rows. (f : Entry) → slice_get (read_as self.now).list i ≡ Some f → rows.items ≡ f.rows) }
-    {
-        match self.program(alloc, i)?.rows(alloc) {
-            Ok(rows) => Ok(rows),
-            Err(_) => Err(NoMemory),
-        }
-    }
-
-    // An entry of the list, to be run.
-    fn program(&self, alloc: Global, i: usize) -> Result<Program, NoMemory>
-        ensures { IfOk result (λ p. (f : Entry) → slice_get (read_as self.now).list i ≡ Some f → IsProgram p f) }
-    {
-        if i >= self.list.len() {
-            return Err(NoMemory);
-        }
-        match self.read_again(alloc, self.list[i].place) {
-            Ok(program) => Ok(program),
+/// The rows of entries of the list of a table, in its order.
+pub(crate) fn rows_of(
+    alloc: Global,
+    debug: bool,
+    held: &Held<'_>,
+    list: &[Fde],
+) -> Result<Vec<EntryRows>, NoMemory>
+    ensures { IfOk result (λ all. (fs : List Entry) → list.now ≡ map fde_of fs →
+        ((i : ℕ) (f : Entry) → slice_get fs i ≡ Some f → spec.fde_standing debug (record { bytes = held.now.bytes.now; address = held.now.address }) f.place ≡ Ok f) →
+        all.items ≡ map (λ f. f.rows) fs) }
+{
+    let mut cies = BTreeMap::new(alloc);
+    let mut all = Vec::new(alloc);
+    for fde in list {
+        match rows_standing(alloc, debug, held, fde.place, &mut cies) {
+            Ok(rows) => all.push(rows)?,
             // It was read once, and wasn't malformed.
-            Err(_) => Err(NoMemory),
+            Err(_) => return Err(NoMemory),
         }
     }
+    Ok(all)
+}
 
-    // The FDE at a place, to be run.
-    fn read_again(&self, alloc: Global, place: u64) -> Result<Program, Failed>
-        ensures { IfOk result (λ p. IfOk (fde_standing self.now.debug (section_held self.now) place) (IsProgram p)) }
-    {
-        let entry = self.entry(place as u128)?;
-        let cie = self.cie(alloc, &entry)?;
-        read_program(alloc, cie, entry.end(self.address), entry.body)
+// The rows of the FDE at a place. Each CIE is read once.
+fn rows_standing(
+    alloc: Global,
+    debug: bool,
+    held: &Held<'_>,
+    place: u64,
+    cies: &mut BTreeMap<u128, Rc<CieProgram>>,
+) -> Result<EntryRows, Failed>
+    ensures rows { IfOk result (λ rows. spec.AreRead rc_value debug (record { bytes = held.now.bytes.now; address = held.now.address }) cies.old →
+        IfOk (spec.fde_standing debug (record { bytes = held.now.bytes.now; address = held.now.address }) place) (λ f. f.rows ≡ rows)) }
+    ensures read { OnOk result (spec.AreRead rc_value debug (record { bytes = held.now.bytes.now; address = held.now.address }) cies.old → spec.AreRead rc_value debug (record { bytes = held.now.bytes.now; address = held.now.address }) cies.new) }
+{
+    let program = program_standing(alloc, debug, held, place, cies)?;
+    program.run(alloc)
+}
+
+// The FDE at a place, to be run.
+fn program_standing(
+    alloc: Global,
+    debug: bool,
+    held: &Held<'_>,
+    place: u64,
+    cies: &mut BTreeMap<u128, Rc<CieProgram>>,
+) -> Result<Program, Failed>
+    ensures program { IfOk result (λ p. spec.AreRead rc_value debug (record { bytes = held.now.bytes.now; address = held.now.address }) cies.old →
+        IfOk (spec.fde_standing debug (record { bytes = held.now.bytes.now; address = held.now.address }) place) (spec.IsProgram p)) }
+    ensures read { OnOk result (spec.AreRead rc_value debug (record { bytes = held.now.bytes.now; address = held.now.address }) cies.old → spec.AreRead rc_value debug (record { bytes = held.now.bytes.now; address = held.now.address }) cies.new) }
+{
+    let entry = entry_standing(debug, held.bytes, place as u128)?;
+    let cie = cie_of(alloc, debug, held, &entry, cies)?;
+    read_program(alloc, cie, entry.end(held.address), entry.body)
+}
+
+// The CIE that an FDE names.
+fn cie_of(
+    alloc: Global,
+    debug: bool,
+    held: &Held<'_>,
+    fde: &RawEntry<'_>,
+    cies: &mut BTreeMap<u128, Rc<CieProgram>>,
+) -> Result<Rc<CieProgram>, Failed>
+    ensures cie { IfOk result (λ k. spec.AreRead rc_value debug (record { bytes = held.now.bytes.now; address = held.now.address }) cies.old →
+        IsOkAnd (spec.cie_standing debug (record { bytes = held.now.bytes.now; address = held.now.address }) (cie_place debug fde.now)) (spec.IsCieProgram (rc_value k))) }
+    ensures read { OnOk result (spec.AreRead rc_value debug (record { bytes = held.now.bytes.now; address = held.now.address }) cies.old → spec.AreRead rc_value debug (record { bytes = held.now.bytes.now; address = held.now.address }) cies.new) }
+{
+    match fde.cie_place(debug) {
+        Some(place) => cie_standing(alloc, debug, held, place, cies),
+        None => Err(Failed::Malformed),
     }
+}
 
-    // The CIE that an FDE names.
-    fn cie(&self, alloc: Global, fde: &RawEntry<'_>) -> Result<CieProgram, Failed>
-        ensures { IfOk result (λ k. IsOkAnd (cie_standing self.now.debug (section_held self.now) (cie_place self.now.debug fde.now))
-            (IsCieProgram k)) }
-    {
-        let Some(place) = fde.cie_place(self.debug) else {
-            return Err(Failed::Malformed);
-        };
-        let entry = self.entry(place)?;
-        read_cie_program(alloc, entry.end(self.address), entry.body)
+// The CIE at a place.
+fn cie_standing(
+    alloc: Global,
+    debug: bool,
+    held: &Held<'_>,
+    place: u128,
+    cies: &mut BTreeMap<u128, Rc<CieProgram>>,
+) -> Result<Rc<CieProgram>, Failed>
+    ensures cie { IfOk result (λ k. spec.AreRead rc_value debug (record { bytes = held.now.bytes.now; address = held.now.address }) cies.old →
+        IsOkAnd (spec.cie_standing debug (record { bytes = held.now.bytes.now; address = held.now.address }) (Some place)) (spec.IsCieProgram (rc_value k))) }
+    ensures read { OnOk result (spec.AreRead rc_value debug (record { bytes = held.now.bytes.now; address = held.now.address }) cies.old →
+        spec.AreRead rc_value debug (record { bytes = held.now.bytes.now; address = held.now.address }) cies.new) }
+{
+    if let Some(cie) = cies.get(&place) {
+        return Ok(cie.clone()?);
     }
+    let entry = entry_standing(debug, held.bytes, place)?;
+    let program = read_cie_program(alloc, entry.end(held.address), entry.body)?;
+    let cie = Rc::new(alloc, program)?;
+    cies.insert(place, cie.clone()?)?;
+    Ok(cie)
+}
 
-    // The entry at a place of the section.
-    fn entry(&self, place: u128) -> Result<RawEntry<'_>, Failed>
-        ensures { IfOk result (λ e. entry_standing self.now.debug self.now.section.items place ≡ Some e) }
-    {
-        if place > self.section.len() as u128 {
-            return Err(Failed::Malformed);
-        }
-        let (_, left) = self.section.split_at(place as usize);
-        match entry_at(self.debug, place as u64, left) {
-            Ok((entry, _)) => Ok(entry),
-            Err(_) => Err(Failed::Malformed),
-        }
+// The entry at a place of a section.
+fn entry_standing<'a>(debug: bool, section: &'a [u8], place: u128) -> Result<RawEntry<'a>, Failed>
+    ensures { IfOk result (λ e. spec.entry_standing debug section.now place ≡ Some e) }
+{
+    if place > section.len() as u128 {
+        return Err(Failed::Malformed);
+    }
+    let (_, left) = section.split_at(place as usize);
+    match entry_at(debug, place as u64, left) {
+        Ok((entry, _)) => Ok(entry),
+        Err(_) => Err(Failed::Malformed),
     }
 }

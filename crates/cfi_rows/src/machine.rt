@@ -1,12 +1,12 @@
 // The machine that the instructions of frame entries run on. DWARF 5, section 6.4.2.
-ghost use Rattle.std.specs.Prelude.{◌≡◌, ◌+◌, ◌∷◌, cond, nat_le, None, Some, option_map, IfOk, OnOk};
+ghost use Rattle.std.specs.Prelude.{◌≡◌, ◌+◌, [], ◌∷◌, cond, nat_le, None, Some, option_map, IfOk, OnOk};
 ghost use Rattle.std.specs.Rc.{rc_value};
 ghost use Rattle.cfi_rows.specs.FrameRows as spec;
-ghost use Rattle.cfi_rows.specs.RowMachines.{known_of, state_of};
+ghost use Rattle.cfi_rows.specs.RowMachines.{state_of};
 
 use crate::failed::Failed;
 use crate::instruction::Instruction;
-use crate::row::{Cfa, PlacedRow, Row, Rule};
+use crate::row::{Cfa, Rule};
 use crate::rules::{Change, RuleMap};
 use rb_bytes::fault::NoMemory;
 use std::alloc::Global;
@@ -80,27 +80,27 @@ fn with_offset(cfa: &Option<Rc<Cfa>>, offset: i64) -> Option<Cfa>
 }
 
 impl Machine {
-    /// At the start of a program, with what is known there.
-    pub(crate) fn begin(alloc: Global, location: u64, known: &Known) -> Result<Machine, NoMemory>
-        ensures { IfOk result (λ m. state_of m ≡ spec.begins location (known_of known.now)) }
+    /// At the start of a program, with no rules of registers.
+    pub(crate) fn begin(
+        alloc: Global,
+        location: u64,
+        cfa: &Option<Rc<Cfa>>,
+    ) -> Result<Machine, NoMemory>
+        ensures { IfOk result (λ m. state_of m ≡ spec.begins location
+            (record { cfa = option_map rc_value cfa.now; rules = [] })) }
     {
         Ok(Machine {
             location,
-            cfa: shared(&known.cfa)?,
-            rules: known.rules.shared()?,
+            cfa: shared(cfa)?,
+            rules: RuleMap::new(alloc),
             changes: Vec::new(alloc),
             saved: Vec::new(alloc),
         })
     }
 
-    /// Does one instruction, under the initial rules.
-    pub(crate) fn step(
-        &mut self,
-        alloc: Global,
-        initial: &RuleMap,
-        instruction: &Instruction,
-    ) -> Result<(), Failed>
-        ensures { OnOk result (spec.step initial.now instruction.now (state_of self.old) ≡ Some (state_of self.new)) }
+    /// Does one instruction, where there are no initial rules.
+    pub(crate) fn step(&mut self, alloc: Global, instruction: &Instruction) -> Result<(), Failed>
+        ensures { OnOk result (spec.step [] instruction.now (state_of self.old) ≡ Some (state_of self.new)) }
     {
         match instruction {
             Instruction::Advance(bytes) => self.advance(*bytes),
@@ -117,9 +117,7 @@ impl Machine {
             Instruction::SetRule(register, rule) => {
                 self.replace_rule(*register, Some(Rc::new(alloc, rule.copy(alloc)?)?))
             }
-            Instruction::Restore(register) => {
-                self.replace_rule(*register, initial.rule(*register)?)
-            }
+            Instruction::Restore(register) => self.replace_rule(*register, None),
             Instruction::RememberState => self.remember(alloc),
             Instruction::RestoreState => self.restore(),
             Instruction::Nop => Ok(()),
@@ -188,29 +186,5 @@ impl Machine {
         let changes = mem::replace(&mut self.changes, saved.changes);
         self.rules.undo(changes)?;
         Ok(())
-    }
-
-    /// The row that is known, which has to have a frame address rule.
-    pub(crate) fn row(&self, alloc: Global) -> Result<Row, Failed>
-        ensures { IfOk result (λ row. spec.row_of (state_of self.now).known ≡ Some row) }
-    {
-        let Some(cfa) = &self.cfa else {
-            return Err(Failed::Malformed);
-        };
-        Ok(Row {
-            cfa: cfa.copy(alloc)?,
-            rules: self.rules.copied(alloc)?,
-        })
-    }
-
-    /// The row that is known, with the location at which it begins.
-    pub(crate) fn placed_row(&self, alloc: Global) -> Result<PlacedRow, Failed>
-        ensures start { IfOk result (λ r. r.start ≡ self.now.location) }
-        ensures row { IfOk result (λ r. spec.row_of (state_of self.now).known ≡ Some r.row) }
-    {
-        Ok(PlacedRow {
-            start: self.location,
-            row: self.row(alloc)?,
-        })
     }
 }

@@ -1,9 +1,9 @@
 // The rules of registers, and how they are changed and put back.
-ghost use Rattle.std.specs.Prelude.{◌≡◌, [], reverse, option_map, IfOk, OnOk};
+ghost use Rattle.std.specs.Prelude.{◌≡◌, ◌<◌, ◌^◌, [], reverse, option_map, IfOk, OnOk};
 ghost use Rattle.std.specs.Rc.{rc_value};
 ghost use Rattle.cfi_rows.specs.FrameRows.{rule_of, with_rule, without_rule, restored};
 ghost use Rattle.cfi_rows.specs.RuleEntries.{Ascend};
-ghost use Rattle.cfi_rows.specs.RowMachines.{undone};
+ghost use Rattle.cfi_rows.specs.RuleChanges.{after_changes, over};
 
 use crate::row::Rule;
 use rb_bytes::fault::NoMemory;
@@ -29,11 +29,23 @@ impl Model for RuleMap {
     ghost view = { λ r. map (valued rc_value) r.by_register.entries };
 }
 
-/// A change of the rule of a register: the rule that it had before.
+/// A change of the rule of a register: the rule that it gets.
 #[derive(Drop)]
 pub struct Change {
     pub register: u64,
     pub rule: Option<Rc<Rule>>,
+}
+
+impl Change {
+    /// The rule that it gives back.
+    pub(crate) fn shared_rule(&self) -> Result<Option<Rc<Rule>>, NoMemory>
+        ensures { IfOk result (λ rule. option_map rc_value rule ≡ option_map rc_value self.now.rule) }
+    {
+        match &self.rule {
+            Some(rule) => Ok(Some(rule.clone()?)),
+            None => Ok(None),
+        }
+    }
 }
 
 impl RuleMap {
@@ -53,14 +65,23 @@ impl RuleMap {
         Ok(RuleMap { by_register })
     }
 
-    /// The rule of a register, if it has one.
-    pub(crate) fn rule(&self, register: u64) -> Result<Option<Rc<Rule>>, NoMemory>
-        ensures { IfOk result (λ rule. option_map rc_value rule ≡ rule_of register self.now) }
+    /// How many there are. Their registers ascend.
+    pub(crate) fn len(&self) -> usize
+        ensures small { result < 2 ^ 63 }
+        ensures ascends { Ascend 0 self.now }
     {
-        match self.by_register.get(&register) {
-            Some(rule) => Ok(Some(rule.clone()?)),
-            None => Ok(None),
+        self.by_register.len()
+    }
+
+    /// Other rules, overridden by these.
+    pub(crate) fn over(&self, others: &RuleMap) -> Result<RuleMap, NoMemory>
+        ensures { IfOk result (λ rules. rules ≡ over others.now self.now) }
+    {
+        let mut rules = others.shared()?;
+        for (register, rule) in self.by_register.iter() {
+            rules.replace(*register, Some(rule.clone()?))?;
         }
+        Ok(rules)
     }
 
     /// Gives a register a rule, or none. The change tells what it had before.
@@ -105,7 +126,7 @@ impl RuleMap {
 
     /// Takes changes back, the last one first.
     pub(crate) fn undo(&mut self, changes: Vec<Change>) -> Result<(), NoMemory>
-        ensures { OnOk result (self.new ≡ undone self.old (reverse changes.items)) }
+        ensures { OnOk result (self.new ≡ after_changes self.old (reverse changes.items)) }
     {
         let mut left = changes;
         while let Some(change) = left.pop() {

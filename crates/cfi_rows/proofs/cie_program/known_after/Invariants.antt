@@ -1,7 +1,7 @@
 use Rattle.std.proofs.Common.{◌≡◌, drop, Some}
 use Rattle.cfi_rows.specs.FrameRows.{known_after, begins, nothing_known}
 use Rattle.cfi_rows.specs.RowMachines.{state_of}
-use Rattle.cfi_rows.proofs.program.known_after.Given as goal
+use Rattle.cfi_rows.proofs.cie_program.known_after.Given as goal
 
 abbrev pub invariant-loop-instruction : goal.invariant-loop-instruction
 invariant-loop-instruction l =

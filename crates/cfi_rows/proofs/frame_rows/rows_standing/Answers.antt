@@ -1,0 +1,5 @@
+use Rattle.cfi_rows.proofs.FrameLookups.{rows-run}
+use Rattle.cfi_rows.proofs.frame_rows.rows_standing.Goals as goal
+
+pub returns-clause-rows : goal.returns-clause-rows
+returns-clause-rows c = rows-run _ c.run.result _ c.in_ok-program.program c.run.ensures c.in_ok-program.ensures.program

@@ -1,0 +1,41 @@
+// The rows of entries at addresses. DWARF 5, section 6.4.3.
+ghost use Rattle.std.specs.Prelude.{◌≡◌, IfOk, IsTrue, Some, None, slice_get, option_map, option_and_then};
+ghost use Rattle.cfi_rows.specs.Entries.{Fde as Entry, is_in_range};
+ghost use Rattle.cfi_rows.specs.FrameRows as spec;
+ghost use Rattle.cfi_rows.specs.ReadFrames.{read_as};
+
+use crate::frame_table::Frames;
+use crate::row::Row;
+use rb_bytes::fault::NoMemory;
+use std::alloc::Global;
+
+impl Frames {
+    /// The row of an entry at an address of its range.
+    pub fn row(&self, alloc: Global, i: usize, a: u64) -> Result<Row, NoMemory>
+        ensures { IfOk result (λ row. (f : Entry) → slice_get (read_as self.now).list i ≡ Some f → IsTrue (is_in_range f a) →
+            spec.row_at a f.rows None ≡ Some row) }
+    {
+        self.row_at(alloc, i, a)?.ok_or(NoMemory)
+    }
+
+    /// The row of an entry that begins last at or before an address, if one does.
+    pub fn row_at(&self, alloc: Global, i: usize, a: u64) -> Result<Option<Row>, NoMemory>
+        ensures { IfOk result (λ row. option_and_then (λ f. spec.row_at a f.rows None) (slice_get (read_as self.now).list i) ≡ row) }
+    {
+        match self.rows.get(i) {
+            Some(rows) => rows.row_at(alloc, a),
+            None => Ok(None),
+        }
+    }
+
+    /// Whether one row of an entry holds at two addresses.
+    pub fn alike(&self, i: usize, a: u64, b: u64) -> bool
+        ensures { IsTrue result → (f : Entry) → slice_get (read_as self.now).list i ≡ Some f →
+            spec.row_at a f.rows None ≡ spec.row_at b f.rows None }
+    {
+        match self.rows.get(i) {
+            Some(rows) => rows.alike(a, b),
+            None => false,
+        }
+    }
+}

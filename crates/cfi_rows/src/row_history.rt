@@ -1,0 +1,171 @@
+// The rows of an FDE as its instructions run: by the changes of rules that lead from one row to the next.
+ghost use Rattle.std.specs.Prelude.{◌≡◌, [], ◌∷◌, List, Option, Some, reverse, option_map, OnOk};
+ghost use Rattle.std.specs.Rc.{rc_value};
+ghost use Rattle.cfi_rows.specs.FrameRows as spec;
+ghost use Rattle.cfi_rows.specs.RuleChanges.{after_changes};
+ghost use Rattle.cfi_rows.specs.RowMachines.{state_of};
+ghost use Rattle.cfi_rows.specs.RowHistories.{Keeps, Goes, told, before};
+
+use crate::failed::Failed;
+use crate::instruction::Instruction;
+use crate::machine::Machine;
+use crate::row::{Cfa, Rule};
+use crate::rules::{Change, RuleMap};
+use std::alloc::Global;
+use std::rc::Rc;
+
+/// A row: how the canonical frame address is found, and how many changes of rules led to it.
+#[derive(Drop)]
+pub struct KeptRow {
+    pub start: u64,
+    pub cfa: Rc<Cfa>,
+    pub changes: usize,
+}
+
+/// The rules after so many changes.
+#[derive(Drop)]
+pub struct KeptRules {
+    pub changes: usize,
+    pub rules: RuleMap,
+}
+
+/// The rows so far, all changes of rules, and the rules after some of them.
+#[derive(Drop)]
+pub struct RowHistory {
+    pub rows: Vec<KeptRow>,
+    pub changes: Vec<Change>,
+    /// Rules are kept after as many changes as they are themselves, and some more: so all of them take no more room than
+    /// the changes, and to find a row's rules takes no longer than to copy them, and some more.
+    pub kept: Vec<KeptRules>,
+}
+
+/// The least number of changes between rules that are kept.
+const KEPT_EVERY: usize = 64;
+
+impl RowHistory {
+    pub(crate) fn new(alloc: Global) -> RowHistory
+        ensures keeps { Keeps result [] }
+        ensures none { told result ≡ [] }
+    {
+        RowHistory {
+            rows: Vec::new(alloc),
+            changes: Vec::new(alloc),
+            kept: Vec::new(alloc),
+        }
+    }
+
+    /// Does one instruction of a machine.
+    pub(crate) fn run(
+        &mut self,
+        alloc: Global,
+        machine: &mut Machine,
+        instruction: &Instruction,
+    ) -> Result<(), Failed>
+        ensures keeps { OnOk result (Keeps self.old machine.old.rules → Keeps self.new machine.new.rules) }
+        ensures rows { OnOk result (Keeps self.old machine.old.rules → (is : List Instruction) →
+            before (told self.old) (spec.rows [] (instruction.now ∷ is) (state_of machine.old))
+            ≡ before (told self.new) (spec.rows [] is (state_of machine.new))) }
+    {
+        self.end_row(machine, instruction)?;
+        self.add_changes(alloc, machine, instruction)?;
+        machine.step(alloc, instruction)?;
+        self.keep_rules(machine)
+    }
+
+    // Adds the row that a machine knows, if an instruction ends it.
+    fn end_row(&mut self, machine: &Machine, instruction: &Instruction) -> Result<(), Failed>
+        ensures keeps { OnOk result (Keeps self.old machine.now.rules → Keeps self.new machine.now.rules) }
+        ensures rows { OnOk result (Keeps self.old machine.now.rules → (more : Option (List spec.PlacedRow)) →
+            before (told self.old) (spec.and_rows (spec.ends_row instruction.now) (state_of machine.now) more)
+            ≡ before (told self.new) more) }
+    {
+        if instruction.ends_row() {
+            return self.add_row(machine);
+        }
+        Ok(())
+    }
+
+    /// Adds the row that a machine knows.
+    pub(crate) fn add_row(&mut self, machine: &Machine) -> Result<(), Failed>
+        ensures keeps { OnOk result (Keeps self.old machine.now.rules → Keeps self.new machine.now.rules) }
+        ensures rows { OnOk result (Keeps self.old machine.now.rules → (more : Option (List spec.PlacedRow)) →
+            before (told self.old) (spec.prepended machine.now.location (spec.row_of (state_of machine.now).known) more)
+            ≡ before (told self.new) more) }
+    {
+        let Some(cfa) = &machine.cfa else {
+            return Err(Failed::Malformed);
+        };
+        let cfa = cfa.clone()?;
+        let changes = self.changes.len();
+        self.rows.push(KeptRow {
+            start: machine.location,
+            cfa,
+            changes,
+        })?;
+        Ok(())
+    }
+
+    // Adds the changes that an instruction is about to make.
+    fn add_changes(
+        &mut self,
+        alloc: Global,
+        machine: &Machine,
+        instruction: &Instruction,
+    ) -> Result<(), Failed>
+        ensures { OnOk result ((t : spec.State) → Keeps self.old machine.now.rules →
+            spec.step [] instruction.now (state_of machine.now) ≡ Some t → Goes self.old self.new t.known.rules) }
+    {
+        match instruction {
+            Instruction::SetRule(register, rule) => {
+                self.add_change(*register, Some(Rc::new(alloc, rule.copy(alloc)?)?))
+            }
+            Instruction::Restore(register) => self.add_change(*register, None),
+            Instruction::RestoreState => self.add_undone(&machine.changes),
+            Instruction::Advance(_) => Ok(()),
+            Instruction::SetLoc(_) => Ok(()),
+            Instruction::DefCfa(_) => Ok(()),
+            Instruction::DefCfaRegister(_) => Ok(()),
+            Instruction::DefCfaOffset(_) => Ok(()),
+            Instruction::RememberState => Ok(()),
+            Instruction::Nop => Ok(()),
+        }
+    }
+
+    fn add_change(&mut self, register: u64, rule: Option<Rc<Rule>>) -> Result<(), Failed>
+        ensures { OnOk result ((rules : spec.Rules) → Keeps self.old rules →
+            Goes self.old self.new (spec.restored register (option_map rc_value rule) rules)) }
+    {
+        self.changes.push(Change { register, rule })?;
+        Ok(())
+    }
+
+    // Adds the changes that take others back, the last one first.
+    fn add_undone(&mut self, changes: &[Change]) -> Result<(), Failed>
+        ensures { OnOk result ((rules : spec.Rules) → Keeps self.old rules →
+            Goes self.old self.new (after_changes rules (reverse changes.now))) }
+    {
+        for count in 0..changes.len() {
+            let change = &changes[changes.len() - 1 - count];
+            let rule = change.shared_rule()?;
+            self.add_change(change.register, rule)?;
+        }
+        Ok(())
+    }
+
+    // Keeps the rules of a machine, if they were kept last so many changes ago.
+    fn keep_rules(&mut self, machine: &Machine) -> Result<(), Failed>
+        ensures { OnOk result (Keeps self.old machine.now.rules → Goes self.old self.new machine.now.rules) }
+    {
+        let changes = self.changes.len();
+        let last = match self.kept.last() {
+            Some(kept) => kept.changes,
+            None => 0,
+        };
+        if changes.saturating_sub(last) < KEPT_EVERY + machine.rules.len() {
+            return Ok(());
+        }
+        let rules = machine.rules.shared()?;
+        self.kept.push(KeptRules { changes, rules })?;
+        Ok(())
+    }
+}
