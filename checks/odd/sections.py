@@ -396,10 +396,9 @@ def add_pointer(shape, section, address):
     shape.add_relocation_table(section, [(address, odd_code.R_RISCV_64, of.get("_start"), 0)])
 
 
-@unwritable_oddity
+@oddity
 def pointer_over_two_segments(shape, rng):
-    """Two segments, one right behind the other, each of which loads half of a pointer to code. A section lies in one
-    segment, and so does each field of it."""
+    """Two segments, one right behind the other, each of which loads half of a pointer to code."""
     pointer = struct.pack("<Q", shape.code.start)
     part, address = shape.load(bytes(4) + pointer[:4], PF_R | PF_W)
     other = shape.elf.part(pointer[4:] + bytes(4), rng.choice([20, 25]))

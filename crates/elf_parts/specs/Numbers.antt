@@ -9,6 +9,6 @@ patch_of n = record { offset = n.offset; bytes = little_bytes n.width n.value }
 
 -- it has a width that can be, fits it, and lies within so many bytes
 pub record CanPut (size : ℕ) (n : NumberAt) : Type 0 where
-  pub width : (n.width ≡ 2) ⊎ ((n.width ≡ 4) ⊎ (n.width ≡ 8))
+  pub width : (n.width ≡ 1) ⊎ ((n.width ≡ 2) ⊎ ((n.width ≡ 4) ⊎ (n.width ≡ 8)))
   pub fits : n.value < 256 ^ n.width
   pub within : n.offset + n.width ≤ size

@@ -10,7 +10,7 @@ use crate::patch::put_bytes;
 #[derive(Clone, Copy, PartialEq, Eq, Debug)]
 pub struct NumberAt {
     pub offset: u64,
-    /// How many bytes it has: 2, 4 or 8.
+    /// How many bytes it has: 1, 2, 4 or 8.
     pub width: u8,
     pub value: u64,
 }
@@ -21,7 +21,9 @@ pub fn put_number(file: &mut [u8], number: &NumberAt)
     ensures { file.new ≡ put number.now.offset (little_bytes number.now.width number.now.value) file.old }
 {
     let offset = number.offset as usize;
-    if number.width == 2 {
+    if number.width == 1 {
+        put_bytes(file, offset, &(number.value as u8).to_le_bytes());
+    } else if number.width == 2 {
         put_bytes(file, offset, &(number.value as u16).to_le_bytes());
     } else if number.width == 4 {
         put_bytes(file, offset, &(number.value as u32).to_le_bytes());

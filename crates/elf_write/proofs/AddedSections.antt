@@ -2,7 +2,6 @@
 use Rattle.std.proofs.Common.{◌≡◌, ◌≢◌, ℕ, ◌+◌, ◌-◌, ◌<◌, ◌≤◌, List, length, Option, Some, None, Bool, true, false, refl, sym, ap, ◌∙◌}
 use Rattle.std.proofs.Common.{subst, arith, inl, inr, ◌⊎◌}
 use Rattle.std.specs.Prelude.{slice_get, is_some, IsSomeAnd, String, Vec, codes, Contains, IfSome}
-use Rattle.std.specs.List.{list_any}
 use Rattle.std.specs.Str.{bytes_eq}
 use Rattle.std.proofs.lemmas.Bool.{and_parts, cases_lt, cases_order}
 use Rattle.std.proofs.lemmas.Option.{slice_get_within, slice_get-get_or}
@@ -18,7 +17,7 @@ use Rattle.elf_write.specs.declared.area.Area.{Area}
 use Rattle.elf_write.specs.declared.area.Shift.{Shift}
 use Rattle.elf_write.specs.Contents.{section_bytes}
 use Rattle.elf_write.specs.NewSections.{AreNewSections, IsAdded, IsInArea, adds_ranges, bytes_called}
-use Rattle.elf_write.specs.TablePlaces.{Holds, hides_table}
+use Rattle.elf_write.specs.TablePlaces.{Holds}
 use Rattle.elf_write.proofs.GivenTables.{found_first, not_true, same_at, same_bytes}
 
 -- the name of one of them: the unwind table where the area has it, and ranges where they are added, which come last
@@ -141,62 +140,61 @@ module _ {Y Z : Type 0} (elf new : Elf) (tables : List (String Y × Vec ℕ Z)) 
         ]
       ]
 
-  module _ (unhidden : list_any hides_table elf.sections.items ≡ false) where
-    module _ (name : List ℕ) (debug : names_debug name ≡ true) (absent : section_called elf.sections.items name ≡ None) where
-      old_none : (k : ℕ) (z : Section) → k < n → slice_get new.sections.items k ≡ Some z → is_called name z ≡ false
-      old_none k z less at =
-          let (s, at_s) = slice_get_found elf.sections.items k less in
-          same_at elf new tables area shift code are unhidden name debug k s z at_s at
-          ∙ not_true (is_called name s) (λ called.
-          find_none (is_called name) elf.sections.items s absent (at_contains elf.sections.items k s at_s) called)
+  module _ (name : List ℕ) (debug : names_debug name ≡ true) (absent : section_called elf.sections.items name ≡ None) where
+    old_none : (k : ℕ) (z : Section) → k < n → slice_get new.sections.items k ≡ Some z → is_called name z ≡ false
+    old_none k z less at =
+        let (s, at_s) = slice_get_found elf.sections.items k less in
+        same_at elf new tables area shift code are name debug k s z at_s at
+        ∙ not_true (is_called name s) (λ called.
+        find_none (is_called name) elf.sections.items s absent (at_contains elf.sections.items k s at_s) called)
 
-      named : (z : Section) → is_called name z ≡ true → z.name.now ≡ name
-      named z h = same_bytes z.name.now name (and_parts (bytes_eq z.name.now name) (is_meant_by name z) h).0
+    named : (z : Section) → is_called name z ≡ true → z.name.now ≡ name
+    named z h = same_bytes z.name.now name (and_parts (bytes_eq z.name.now name) (is_meant_by name z) h).0
 
-      -- a table that isn't added isn't there
-      pub absent_stays : (adds ≡ true → name ≢ codes ".debug_rnglists") → section_called new.sections.items name ≡ None
-      absent_stays differs =
-          find-none (is_called name) new.sections.items (λ z is_in. let p = item_place new.sections.items z is_in in all p.0 z p.1)
-        where
-          wrong : (L : Type 0) (x : List ℕ) → AddedName adds area.frames L x → x ≡ name → ⊥
-          wrong L x (is_text e) is = let c : names_debug (codes ".text") ≡ true = ap names_debug (sym e ∙ is) ∙ debug in absurd (cc)
-          wrong L x (is_frames a some e) is =
-              let c : names_debug (codes ".eh_frame") ≡ true = ap names_debug (sym e ∙ is) ∙ debug in absurd (cc)
-          wrong L x (is_index e) is =
-              let c : names_debug (codes ".eh_frame_hdr") ≡ true = ap names_debug (sym e ∙ is) ∙ debug in absurd (cc)
-          wrong L x (is_ranges some e last) is = differs some (sym is ∙ e)
-
-          all : (k : ℕ) (z : Section) → slice_get new.sections.items k ≡ Some z → is_called name z ≡ false
-          all k z at = elim (cases_lt k n) [
-            | inl less ↦ old_none k z less at
-            | inr past ↦ not_true (is_called name z) (λ h.
-                wrong (k ≡ length new.sections.items - 1) z.name.now (added k z past at) (named z h))
-          ]
-
-    -- the table of ranges that is added
-    pub ranges_stand : adds ≡ true → section_called elf.sections.items (codes ".debug_rnglists") ≡ None →
-        Holds new (codes ".debug_rnglists") (bytes_called tables (codes ".debug_rnglists"))
-    ranges_stand some absent =
-        let count = are.count in
-        let (z, at) = slice_get_found new.sections.items (length new.sections.items - 1) (omega (arith, count)) in
-        let is = ranges_at some z at in
-        let called : is_called (codes ".debug_rnglists") z ≡ true = rw (is.header.name_is, is.header.flags_are) refl in
-        let found : section_called new.sections.items (codes ".debug_rnglists") ≡ Some z =
-        found_first (is_called (codes ".debug_rnglists")) new.sections.items (length new.sections.items - 1) z at called
-        (λ k x less at_x. elim (cases_lt k n) [
-          | inl low ↦ old_none (codes ".debug_rnglists") refl absent k x low at_x
-          | inr past ↦ not_true (is_called (codes ".debug_rnglists") x) (λ h.
-              not_last k x.name.now less (added k x past at_x) (named (codes ".debug_rnglists") refl absent x h))
-        ]) in
-        subst (λ (o : Option Section). IsSomeAnd o (λ s. section_bytes new.file.now s
-        ≡ bytes_called tables (codes ".debug_rnglists"))) (sym found) is.contents
+    -- a table that isn't added isn't there
+    pub absent_stays : (adds ≡ true → name ≢ codes ".debug_rnglists") → section_called new.sections.items name ≡ None
+    absent_stays differs =
+        find-none (is_called name) new.sections.items (λ z is_in. let p = item_place new.sections.items z is_in in all p.0 z p.1)
       where
-        not_last : (k : ℕ) (x : List ℕ) → k < length new.sections.items - 1 →
-            AddedName adds area.frames (k ≡ length new.sections.items - 1) x → x ≡ codes ".debug_rnglists" → ⊥
-        not_last k x less (is_text e) is =
-            let c : names_debug (codes ".text") ≡ true = ap names_debug (sym e ∙ is) in absurd (cc)
-        not_last k x less (is_frames a some_a e) is =
-            let c : names_debug (codes ".eh_frame") ≡ true = ap names_debug (sym e ∙ is) in absurd (cc)
-        not_last k x less (is_index e) is =
-            let c : names_debug (codes ".eh_frame_hdr") ≡ true = ap names_debug (sym e ∙ is) in absurd (cc)
-        not_last k x less (is_ranges some_adds e last) is = absurd (omega (arith, last, less))
+        wrong : (L : Type 0) (x : List ℕ) → AddedName adds area.frames L x → x ≡ name → ⊥
+        wrong L x (is_text e) is = let c : names_debug (codes ".text") ≡ true = ap names_debug (sym e ∙ is) ∙ debug in absurd (cc)
+        wrong L x (is_frames a some e) is =
+            let c : names_debug (codes ".eh_frame") ≡ true = ap names_debug (sym e ∙ is) ∙ debug in absurd (cc)
+        wrong L x (is_index e) is =
+            let c : names_debug (codes ".eh_frame_hdr") ≡ true = ap names_debug (sym e ∙ is) ∙ debug in absurd (cc)
+        wrong L x (is_ranges some e last) is = differs some (sym is ∙ e)
+
+        all : (k : ℕ) (z : Section) → slice_get new.sections.items k ≡ Some z → is_called name z ≡ false
+        all k z at = elim (cases_lt k n) [
+          | inl less ↦ old_none k z less at
+          | inr past ↦ not_true (is_called name z) (λ h.
+              wrong (k ≡ length new.sections.items - 1) z.name.now (added k z past at) (named z h))
+        ]
+
+  -- the table of ranges that is added
+  pub ranges_stand : adds ≡ true → section_called elf.sections.items (codes ".debug_rnglists") ≡ None →
+      Holds new (codes ".debug_rnglists") (bytes_called tables (codes ".debug_rnglists"))
+  ranges_stand some absent =
+      let count = are.count in
+      let (z, at) = slice_get_found new.sections.items (length new.sections.items - 1) (omega (arith, count)) in
+      let is = ranges_at some z at in
+      let called : is_called (codes ".debug_rnglists") z ≡ true = rw (is.header.name_is, is.header.flags_are) refl in
+      let found : section_called new.sections.items (codes ".debug_rnglists") ≡ Some z =
+      found_first (is_called (codes ".debug_rnglists")) new.sections.items (length new.sections.items - 1) z at called
+      (λ k x less at_x. elim (cases_lt k n) [
+        | inl low ↦ old_none (codes ".debug_rnglists") refl absent k x low at_x
+        | inr past ↦ not_true (is_called (codes ".debug_rnglists") x) (λ h.
+            not_last k x.name.now less (added k x past at_x) (named (codes ".debug_rnglists") refl absent x h))
+      ]) in
+      subst (λ (o : Option Section). IsSomeAnd o (λ s. section_bytes new.file.now s
+      ≡ bytes_called tables (codes ".debug_rnglists"))) (sym found) is.contents
+    where
+      not_last : (k : ℕ) (x : List ℕ) → k < length new.sections.items - 1 →
+          AddedName adds area.frames (k ≡ length new.sections.items - 1) x → x ≡ codes ".debug_rnglists" → ⊥
+      not_last k x less (is_text e) is =
+          let c : names_debug (codes ".text") ≡ true = ap names_debug (sym e ∙ is) in absurd (cc)
+      not_last k x less (is_frames a some_a e) is =
+          let c : names_debug (codes ".eh_frame") ≡ true = ap names_debug (sym e ∙ is) in absurd (cc)
+      not_last k x less (is_index e) is =
+          let c : names_debug (codes ".eh_frame_hdr") ≡ true = ap names_debug (sym e ∙ is) in absurd (cc)
+      not_last k x less (is_ranges some_adds e last) is = absurd (omega (arith, last, less))

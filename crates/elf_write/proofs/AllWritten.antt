@@ -10,7 +10,8 @@ use Rattle.addr_map.specs.Spans.{owner}
 use Rattle.elf_write.specs.FileParts.{IsMade}
 use Rattle.area_room.specs.Room.{area_above, area_start}
 use Rattle.elf_write.specs.Source.{Source, HasPlace}
-use Rattle.elf_write.specs.WrittenFile.{AreApart, CanHold, IsWritten}
+use Rattle.elf_write.specs.WrittenFile.{AreApart, IsWritten}
+use Rattle.elf_write.proofs.CellPieces.{CanHoldPiece}
 use Rattle.elf_write.proofs.ImageWritten.{image-is}
 use Rattle.elf_write.proofs.FromMade.{written}
 use Rattle.elf_write.proofs.FrontWritten.{front-written}
@@ -18,7 +19,7 @@ use Rattle.elf_write.proofs.SoundFiles.{load_once, code-there, code-load}
 use Rattle.elf_write.proofs.Tightness.{is-tight, starts-above}
 
 module _ (s : Source) (above : Bool) (w : List ℕ) (read : IsElfOf s.elf.file.now s.elf) (sound : IsSound s.elf.file.now)
-    (bytes : All (λ b. b < 256) s.elf.file.now) (can : All (CanHold s.elf) s.cells) (apart : AllPairs AreApart s.cells)
+    (bytes : All (λ b. b < 256) s.elf.file.now) (can : All (CanHoldPiece s.elf) s.cells) (apart : AllPairs AreApart s.cells)
     (made : IsMade s above w) (sound_w : IsSound w) where
   ps : List Segment
   ps = s.elf.segments.items

@@ -15,7 +15,7 @@ use Rattle.elf_image.specs.memory.Executables.{executable_of, memory_of}
 use Rattle.elf_parts.specs.declared.number_at.NumberAt.{NumberAt}
 use Rattle.elf_parts.specs.Numbers.{patch_of}
 use Rattle.elf_parts.specs.Parts.{size_of}
-use Rattle.elf_parts.specs.Patches.{Patch, put_all, IsWithin, Stands}
+use Rattle.elf_parts.specs.Patches.{Patch, IsWithin, Stands}
 use Rattle.elf_parts.specs.Patches as patches
 use Rattle.elf_parts.specs.Spellings.{segment_table}
 use Rattle.elf_parts.proofs.Spellings.{length-segment_table}
@@ -25,8 +25,9 @@ use Rattle.elf_write.specs.FileLayout.{is_kept_table}
 use Rattle.elf_write.specs.FileParts.{IsMade}
 use Rattle.area_room.specs.Room.{greatest_align}
 use Rattle.elf_write.specs.Source.{Source}
-use Rattle.elf_write.specs.WrittenFile.{CanHold, AreApart}
+use Rattle.elf_write.specs.WrittenFile.{AreApart}
 use Rattle.elf_write.proofs.CellPatches.{moved-more}
+use Rattle.elf_write.proofs.CellPieces.{CanHoldPiece}
 use Rattle.elf_write.proofs.CellPlaces.{CellPlace, IsBesideHeaders, stands_at, cell-place, numbers-apart, beside-headers}
 use Rattle.elf_write.proofs.FileEnds.{ends-below}
 use Rattle.elf_write.proofs.HeldNumbers.{number-stands, cell-held}
@@ -38,12 +39,8 @@ use Rattle.elf_write.proofs.MadeInput.{parts-behind, keep-behind}
 use Rattle.elf_write.proofs.SameBreak.{rounded_up-above, align-above}
 use Rattle.elf_write.proofs.WrittenImages.{AreNewLoads}
 
-pub wide : (n : ℕ) → (n ≡ 4) ⊎ (n ≡ 8) → 0 < n
-wide n (inl e) = omega arith
-wide n (inr e) = omega arith
-
 module _ (s : Source) (tight : Bool) (w : List ℕ) (read : IsElfOf s.elf.file.now s.elf) (sound : IsSound s.elf.file.now)
-    (made : IsMade s tight w) (can : All (CanHold s.elf) s.cells) where
+    (made : IsMade s tight w) (can : All (CanHoldPiece s.elf) s.cells) where
   none_cell : ℕ × ℕ × ℕ
   none_cell = (0, 0, 0)
 
@@ -63,7 +60,7 @@ module _ (s : Source) (tight : Bool) (w : List ℕ) (read : IsElfOf s.elf.file.n
   is_number i below = made.are_cells.each i none_cell none_number below
 
   some : (i : ℕ) → i < length s.cells → 0 < (cell i).1
-  some i below = wide (cell i).1 (can i none_cell below).width
+  some i below = (can i none_cell below).some
 
   place : (i : ℕ) → i < length s.cells → CellPlace s.elf.segments.items made.layout.shift (cell i) (put_number i)
   place i below = cell-place s.elf made.layout.shift (cell i) (put_number i) (is_number i below)

@@ -9,8 +9,9 @@ use Rattle.elf_write.specs.CarriedBytes.{CarriesImage}
 use Rattle.elf_write.specs.FrontBytes.{KeepsFront}
 use Rattle.elf_write.specs.FileParts.{IsMade}
 use Rattle.elf_write.specs.Source.{Source, HasPlace, is_changed}
-use Rattle.elf_write.specs.WrittenFile.{CanHold, AreApart, IsWritten}
-use Rattle.elf_write.proofs.CellsWritten.{cells-written, wide}
+use Rattle.elf_write.specs.WrittenFile.{AreApart, IsWritten}
+use Rattle.elf_write.proofs.CellPieces.{CanHoldPiece}
+use Rattle.elf_write.proofs.CellsWritten.{cells-written}
 use Rattle.elf_write.proofs.CodeWritten.{code-written, executable-written}
 use Rattle.elf_write.proofs.EntryWritten.{entry-written, entry_field-written}
 use Rattle.elf_write.proofs.MadeSegments.{new-loads}
@@ -19,7 +20,7 @@ use Rattle.elf_write.proofs.PlacesWritten.{places-written}
 use Rattle.elf_write.proofs.SoundFiles.{load_once}
 
 pub written : (s : Source) (tight : Bool) (w : List ℕ) → IsElfOf s.elf.file.now s.elf → IsSound s.elf.file.now →
-    All (CanHold s.elf) s.cells → AllPairs AreApart s.cells → IsMade s tight w → HasPlace s tight → IsSound w →
+    All (CanHoldPiece s.elf) s.cells → AllPairs AreApart s.cells → IsMade s tight w → HasPlace s tight → IsSound w →
     CarriesImage s.elf.file.now w (is_changed s tight) s.elf.segments.items (segments_of w) → KeepsFront s.elf tight w →
     IsWritten s tight w
 written s tight w read sound can apart made placed sound_w image front = record {
@@ -39,4 +40,4 @@ written s tight w read sound can apart made placed sound_w image front = record 
     once = load_once w sound_w
 
     some : (i : ℕ) (c : ℕ × ℕ × ℕ) → i < length s.cells → 0 < (get_or s.cells i c).1
-    some i c below = wide (get_or s.cells i c).1 (can i c below).width
+    some i c below = (can i c below).some

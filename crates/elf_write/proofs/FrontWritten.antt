@@ -29,8 +29,8 @@ use Rattle.elf_write.specs.FrontBytes.{IsLeft, KeepsFront, front_end, written_ra
 use Rattle.elf_write.specs.FileParts.{IsMade, header_numbers, number}
 use Rattle.area_room.specs.Room.{greatest_align}
 use Rattle.elf_write.specs.Source.{Source}
-use Rattle.elf_write.specs.WrittenFile.{CanHold}
 use Rattle.elf_write.proofs.CellPatches.{moved-less, moved-more}
+use Rattle.elf_write.proofs.CellPieces.{CanHoldPiece}
 use Rattle.elf_write.proofs.CellPlaces.{CellPlace, cell-offset, cell-place}
 use Rattle.elf_write.proofs.ImageWritten.{all-more, patches, within-all, written-all}
 use Rattle.elf_write.proofs.Loads.{moved-before}
@@ -62,7 +62,7 @@ in_none k ranges i d below beside = cases (is_in_range k (get_or ranges i d)) re
     cases false e = e
 
 module _ (s : Source) (tight : Bool) (w : List ℕ) (read : IsElfOf s.elf.file.now s.elf) (sound : IsSound s.elf.file.now)
-    (bytes : All (λ b. b < 256) s.elf.file.now) (can : All (CanHold s.elf) s.cells) (made : IsMade s tight w) where
+    (bytes : All (λ b. b < 256) s.elf.file.now) (can : All (CanHoldPiece s.elf) s.cells) (made : IsMade s tight w) where
   module _ (k : ℕ) (front : k < front_end s.elf.segments.items tight) (left : IsLeft s.elf tight k)
       (beside : IsFalse (list_any (is_in_range k) (written_ranges s.elf tight))) where
     -- it is kept, and doesn't move

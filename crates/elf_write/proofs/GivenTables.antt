@@ -5,17 +5,16 @@ use Rattle.std.proofs.Common.{refl, sym, ap, ◌∙◌, subst, arith, inl, inr, 
 use Rattle.std.specs.Prelude.{◌==◌, ◌&&◌, ◌||◌, not, slice_get, find, position, nat_eq, if◌then◌else◌, String, Vec, string_bytes}
 use Rattle.std.specs.Prelude.{codes, take}
 use Rattle.std.specs.Option.{option_map_or}
-use Rattle.std.specs.List.{starts_with, list_any, position_or_len}
+use Rattle.std.specs.List.{starts_with, position_or_len}
 use Rattle.std.specs.Str.{bytes_eq}
 use Rattle.std.specs.Cmp.Lexicographic.{same_text}
 use Rattle.std.proofs.lemmas.Bool.{and_parts, eqb-true, eq-eqb, lt-ltb}
-use Rattle.std.proofs.lemmas.List.Folds.{find_at, list_any_at}
+use Rattle.std.proofs.lemmas.List.Folds.{find_at}
 use Rattle.std.proofs.lemmas.List.Quantifiers.{position-Some}
 use Rattle.std.proofs.lemmas.Option.{slice_get_within, slice_get-get_or, get_or_from_slice_get, same_Some}
 use Rattle.elf_image.specs.declared.elf.Elf.{Elf}
-use Rattle.elf_image.specs.declared.relocation.TheConstants.{SHT_RELA}
 use Rattle.elf_image.specs.declared.section.Section.{Section}
-use Rattle.elf_image.specs.declared.section.TheConstants.{SHF_ALLOC, SHT_NOBITS}
+use Rattle.elf_image.specs.declared.section.TheConstants.{SHF_ALLOC}
 use Rattle.elf_image.specs.file.Header.{e_shstrndx, is_set}
 use Rattle.elf_image.specs.file.SectionNames.{is_called, is_loaded, is_meant_by, names_debug, names_frames, section_called}
 use Rattle.elf_image.specs.file.Sections.{holds_code}
@@ -24,12 +23,11 @@ use Rattle.elf_write.specs.declared.area.Shift.{Shift}
 use Rattle.elf_write.specs.declared.sections.Contents.{Contents}
 use Rattle.elf_write.specs.declared.sections.Contents.TheVariants.{Dropped, Inactive, Kept, Copied, SectionNames, Symbols, SymbolNames}
 use Rattle.elf_write.specs.declared.sections.Contents.TheVariants.{Given}
-use Rattle.elf_write.specs.Contents.{contents_of, is_at, is_inactive, is_left_out, own_contents, place_replaced, section_bytes, stays}
-use Rattle.elf_write.specs.Contents.{table_for}
+use Rattle.elf_write.specs.Contents.{contents_of, is_at, is_left_out, own_contents, place_replaced, section_bytes}
 use Rattle.elf_write.specs.NameTables.{place_of_names, place_of_symbols}
-use Rattle.elf_write.specs.NewSections.{AreNewSections, Follows, bytes_called, without_code}
+use Rattle.elf_write.specs.NewSections.{AreNewSections, Follows, bytes_called, flags_left, without_code}
 use Rattle.elf_write.specs.OldNames.{is_renamed, new_name, old_name}
-use Rattle.elf_write.specs.TablePlaces.{hides_table, takes_table}
+use Rattle.elf_write.specs.TablePlaces.{takes_table}
 
 pub no_both : (b : Bool) → b ≡ true → b ≡ false → ⊥
 no_both b is fails = let c : true ≡ false = sym is ∙ fails in absurd (cc)
@@ -127,23 +125,7 @@ given_is_called p q xs x found same =
 pub data FlagsOf (s n : Section) : Type 0 where
   kept_flags : n.flags ≡ s.flags → FlagsOf s n
   no_code : n.flags ≡ without_code s.flags → FlagsOf s n
-  no_flags : is_left_out s ≡ true → n.flags ≡ 0 → FlagsOf s n
-
-own_stands : (a b c : Bool) → (if a then Inactive else if b then Kept else if c then Kept else Copied) ≡ Dropped → ⊥
-own_stands true b c e = absurd (cc)
-own_stands false true c e = absurd (cc)
-own_stands false false true e = absurd (cc)
-own_stands false false false e = absurd (cc)
-
-dropped_by : (a b c d : Bool) (table : Option ℕ) (own : Contents) → (own ≡ Dropped → ⊥) →
-    (if a then SectionNames else if b then Symbols else if c then SymbolNames else if d then Dropped
-    else option_map_or Given table own) ≡ Dropped → d ≡ true
-dropped_by true b c d table own stands e = absurd (cc)
-dropped_by false true c d table own stands e = absurd (cc)
-dropped_by false false true d table own stands e = absurd (cc)
-dropped_by false false false true table own stands e = refl
-dropped_by false false false false None own stands e = absurd (stands e)
-dropped_by false false false false (Some t) own stands e = absurd (cc)
+  few_flags : n.flags ≡ flags_left s → FlagsOf s n
 
 -- a section that is none of names or symbols, and isn't left out, gets its table
 given_by : (a b c d : Bool) (own : Contents) (t : ℕ) → (not (a || (b || c)) && not d) ≡ true →
@@ -159,174 +141,153 @@ given_by false false false false own t h = refl
 
 module _ {Y Z : Type 0} (elf new : Elf) (tables : List (String Y × Vec ℕ Z)) (area : Area) (shift : Shift) (code : List ℕ)
     (are : AreNewSections elf new tables area shift code) where
-  left_out : (k : ℕ) (s : Section) → contents_of elf tables area shift k s ≡ Dropped → is_left_out s ≡ true
-  left_out k s e =
-      dropped_by (e_shstrndx elf.file.now == k) (is_at k (place_of_symbols elf)) (is_at k (place_of_names elf)) (is_left_out s)
-      (table_for tables elf.sections.items k) (own_contents elf.segments.items area shift s)
-      (own_stands (is_inactive s) (s.kind == SHT_NOBITS)
-      (is_loaded s && ((s.size == 0) || stays elf.segments.items area shift s.offset (s.offset + s.size)))) e
-
-  flags_by : (c : Contents) (s n : Section) → (c ≡ Dropped → is_left_out s ≡ true) →
-      Follows tables shift elf.file.now new.file.now c s n → FlagsOf s n
-  flags_by Dropped s n left f = no_flags (left refl) f.flags
-  flags_by Inactive s n left f = kept_flags f.same.flags
-  flags_by Kept s n left f = kept_flags f.same.flags
-  flags_by Copied s n left f = kept_flags f.same.flags
-  flags_by SectionNames s n left f = no_code f.own.flags
-  flags_by Symbols s n left f = no_code f.flags
-  flags_by SymbolNames s n left f = no_code f.own.flags
-  flags_by (Given t) s n left f = kept_flags f.same.flags
+  flags_by : (c : Contents) (s n : Section) → Follows tables shift elf.file.now new.file.now c s n → FlagsOf s n
+  flags_by Dropped s n f = few_flags f.flags
+  flags_by Inactive s n f = kept_flags f.same.flags
+  flags_by Kept s n f = kept_flags f.same.flags
+  flags_by Copied s n f = kept_flags f.same.flags
+  flags_by SectionNames s n f = no_code f.own.flags
+  flags_by Symbols s n f = no_code f.flags
+  flags_by SymbolNames s n f = no_code f.own.flags
+  flags_by (Given t) s n f = kept_flags f.same.flags
 
   pub flags_of : (k : ℕ) (s n : Section) → slice_get elf.sections.items k ≡ Some s → slice_get new.sections.items k ≡ Some n →
       FlagsOf s n
-  flags_of k s n at at_new =
-      flags_by (contents_of elf tables area shift k s) s n (left_out k s) (are.follows k s n at at_new)
+  flags_of k s n at at_new = flags_by (contents_of elf tables area shift k s) s n (are.follows k s n at at_new)
 
-  -- without code flags stay, or there are none
-  flags_stay : (s n : Section) → holds_code s.flags ≡ false → FlagsOf s n →
-      (n.flags ≡ s.flags) ⊎ ((is_left_out s ≡ true) × (n.flags ≡ 0))
+  -- without code flags stay, or few are left
+  flags_stay : (s n : Section) → holds_code s.flags ≡ false → FlagsOf s n → (n.flags ≡ s.flags) ⊎ (n.flags ≡ flags_left s)
   flags_stay s n plain (kept_flags e) = inl e
   flags_stay s n plain (no_code e) = inl (e ∙ rw plain refl)
-  flags_stay s n plain (no_flags left e) = inr (left, e)
+  flags_stay s n plain (few_flags e) = inr e
 
-  module _ (unhidden : list_any hides_table elf.sections.items ≡ false) where
-    not_hidden : (k : ℕ) (s : Section) → slice_get elf.sections.items k ≡ Some s → hides_table s ≡ false
-    not_hidden k s at =
-        not_true (hides_table s) (λ h. no_both (list_any hides_table elf.sections.items)
-        (list_any_at hides_table elf.sections.items k s (slice_get_within elf.sections.items k s at)
-        (ap hides_table (get_is elf.sections.items k s s at) ∙ h)) unhidden)
+  module _ (name : List ℕ) (debug : names_debug name ≡ true) where
+    other : names_frames name ≡ false
+    other = no_frames name debug
 
-    module _ (name : List ℕ) (debug : names_debug name ≡ true) where
-      other : names_frames name ≡ false
-      other = no_frames name debug
+    meant : (s : Section) → is_meant_by name s ≡ (not (is_loaded s) && not (holds_code s.flags))
+    meant s = rw (other, debug) refl
 
-      meant : (s : Section) → is_meant_by name s ≡ (not (is_loaded s) && not (holds_code s.flags))
-      meant s = rw (other, debug) refl
+    -- the name means it by its flags
+    meant_so : (s n : Section) → (not (is_loaded n) && not (holds_code n.flags)) ≡ (not (is_loaded s) && not (holds_code s.flags)) →
+        n.name.now ≡ s.name.now → is_called name n ≡ is_called name s
+    meant_so s n same kept =
+        ap (λ (x : List ℕ). bytes_eq x name && is_meant_by name n) kept
+        ∙ ap (λ (b : Bool). bytes_eq s.name.now name && b) (meant n ∙ same ∙ sym (meant s))
 
-      -- what is left of relocations means the table where they did
-      left_meant : (rela loaded known : Bool) (s n : Section) → (s.kind == SHT_RELA) ≡ rela → is_loaded s ≡ loaded →
-          names_debug s.name.now ≡ known → hides_table s ≡ false → is_left_out s ≡ true → n.flags ≡ 0 →
-          holds_code s.flags ≡ false → n.name.now ≡ s.name.now → is_called name n ≡ is_called name s
-      left_meant rela false known s n is_r is_l is_k shown left none plain kept =
-          let there : is_meant_by name n ≡ is_meant_by name s =
-          meant n ∙ ap (λ (x : ℕ). not (is_set SHF_ALLOC x) && not (holds_code x)) none
-          ∙ sym (meant s ∙ rw (is_l, plain) refl) in
-          ap (λ (x : List ℕ). bytes_eq x name && is_meant_by name n) kept
-          ∙ ap (λ (b : Bool). bytes_eq s.name.now name && b) there
-      left_meant false true known s n is_r is_l is_k shown left none plain kept =
-          absurd (let c : true ≡ false = sym left ∙ rw (is_r, is_l) refl in cc)
-      left_meant true true true s n is_r is_l is_k shown left none plain kept =
-          absurd (let c : true ≡ false = sym (rw (is_r, is_l, is_k) refl) ∙ shown in cc)
-      left_meant true true false s n is_r is_l is_k shown left none plain kept =
-          let differs : bytes_eq s.name.now name ≡ false =
-          not_true (bytes_eq s.name.now name) (λ h. no_both (names_debug s.name.now)
-          (ap names_debug (same_bytes s.name.now name h) ∙ debug) is_k) in
-          ap (λ (b : Bool). b && is_meant_by name n) (ap (λ (x : List ℕ). bytes_eq x name) kept ∙ differs)
-          ∙ sym (ap (λ (b : Bool). b && is_meant_by name s) differs)
+    -- what is left of a header is meant where the section was
+    left_meant : (loaded known : Bool) (s n : Section) → is_loaded s ≡ loaded → names_debug s.name.now ≡ known →
+        n.flags ≡ flags_left s → holds_code s.flags ≡ false → n.name.now ≡ s.name.now → is_called name n ≡ is_called name s
+    left_meant false known s n is_l is_k left plain kept =
+        let none : n.flags ≡ 0 = left ∙ rw is_l refl in meant_so s n (rw (none, is_l, plain) refl) kept
+    left_meant true true s n is_l is_k left plain kept =
+        let one : n.flags ≡ SHF_ALLOC = left ∙ rw (is_l, is_k) refl in meant_so s n (rw (one, is_l) refl) kept
+    left_meant true false s n is_l is_k left plain kept =
+        let differs : bytes_eq s.name.now name ≡ false =
+        not_true (bytes_eq s.name.now name) (λ h. no_both (names_debug s.name.now)
+        (ap names_debug (same_bytes s.name.now name h) ∙ debug) is_k) in
+        ap (λ (b : Bool). b && is_meant_by name n) (ap (λ (x : List ℕ). bytes_eq x name) kept ∙ differs)
+        ∙ sym (ap (λ (b : Bool). b && is_meant_by name s) differs)
 
-      plain_called : (s n : Section) → hides_table s ≡ false → holds_code s.flags ≡ false → n.name.now ≡ s.name.now →
-          (n.flags ≡ s.flags) ⊎ ((is_left_out s ≡ true) × (n.flags ≡ 0)) → is_called name n ≡ is_called name s
-      plain_called s n shown plain kept (inl same) =
-          let there : is_meant_by name n ≡ is_meant_by name s =
-          meant n ∙ ap (λ (x : ℕ). not (is_set SHF_ALLOC x) && not (holds_code x)) same ∙ sym (meant s) in
-          ap (λ (x : List ℕ). bytes_eq x name && is_meant_by name n) kept
-          ∙ ap (λ (b : Bool). bytes_eq s.name.now name && b) there
-      plain_called s n shown plain kept (inr (left, none)) =
-          left_meant (s.kind == SHT_RELA) (is_loaded s) (names_debug s.name.now) s n refl refl refl shown left none plain kept
+    plain_called : (s n : Section) → holds_code s.flags ≡ false → n.name.now ≡ s.name.now →
+        (n.flags ≡ s.flags) ⊎ (n.flags ≡ flags_left s) → is_called name n ≡ is_called name s
+    plain_called s n plain kept (inl same) =
+        meant_so s n (ap (λ (x : ℕ). not (is_set SHF_ALLOC x) && not (holds_code x)) same) kept
+    plain_called s n plain kept (inr left) = left_meant (is_loaded s) (names_debug s.name.now) s n refl refl left plain kept
 
-      -- one of them is called so where it was
-      called_same : (s n : Section) → hides_table s ≡ false → n.name.now ≡ new_name s → FlagsOf s n →
-          is_called name n ≡ is_called name s
-      called_same s n shown named flags = by_code (holds_code s.flags) refl
+    -- one of them is called so where it was
+    called_same : (s n : Section) → n.name.now ≡ new_name s → FlagsOf s n →
+        is_called name n ≡ is_called name s
+    called_same s n named flags = by_code (holds_code s.flags) refl
+      where
+        renamed : is_renamed s ≡ true → is_called name n ≡ false
+        renamed is =
+            let differs : bytes_eq n.name.now name ≡ false =
+            ap (λ (x : List ℕ). bytes_eq x name) (named ∙ rw is refl) ∙ old_other s.name.now name debug in
+            ap (λ (b : Bool). b && is_meant_by name n) differs
+
+        by_frames : (b : Bool) → names_frames s.name.now ≡ b → holds_code s.flags ≡ false → is_called name n ≡ is_called name s
+        by_frames true e plain =
+            renamed (rw (plain, e) refl) ∙ sym (ap (λ (b : Bool). b && is_meant_by name s)
+            (not_true (bytes_eq s.name.now name) (λ same.
+            no_both (names_frames name) (ap names_frames (sym (same_bytes s.name.now name same)) ∙ e) other)))
+        by_frames false e plain =
+            plain_called s n plain (named ∙ rw (plain, e) refl) (flags_stay s n plain flags)
+
+        by_code : (b : Bool) → holds_code s.flags ≡ b → is_called name n ≡ is_called name s
+        by_code true e =
+            let none : is_meant_by name s ≡ false =
+            meant s ∙ and_false (not (is_loaded s)) (not (holds_code s.flags)) (ap not e) in
+            renamed (rw e refl) ∙ sym (and_false (bytes_eq s.name.now name) (is_meant_by name s) none)
+        by_code false e = by_frames (names_frames s.name.now) refl e
+
+    pub same_at : (k : ℕ) (x y : Section) → slice_get elf.sections.items k ≡ Some x → slice_get new.sections.items k ≡ Some y →
+        is_called name y ≡ is_called name x
+    same_at k x y old there =
+        called_same x y (are.called k x y old there) (flags_of k x y old there)
+
+    module _ (i : ℕ) (first : position (is_called name) elf.sections.items ≡ Some i) (s n : Section)
+        (at : slice_get elf.sections.items i ≡ Some s) (at_new : slice_get new.sections.items i ≡ Some n) where
+      called_i : is_called name s ≡ true
+      called_i =
+          let h = position-Some (is_called name) elf.sections.items i s first in
+          ap (is_called name) (sym (get_is elf.sections.items i s s at)) ∙ h.1
+
+      -- the section of the name is the same
+      pub new_called : section_called new.sections.items name ≡ Some n
+      new_called =
+          found_first (is_called name) new.sections.items i n at_new (same_at i s n at at_new ∙ called_i)
+          (λ k z less there.
+          let h = position-Some (is_called name) elf.sections.items i s first in
+          let x = get_or elf.sections.items k s in
+          let inside = slice_get_within elf.sections.items i s at in
+          same_at k x z (slice_get-get_or elf.sections.items k s (omega (arith, less, inside))) there ∙ h.2 k less)
+
+      -- a table has this place where it has the name
+      same_table : (x : List ℕ) → is_at i (place_replaced elf.sections.items x) ≡ bytes_eq x name
+      same_table x = same_bool (is_at i (place_replaced elf.sections.items x)) (bytes_eq x name) (to (names_frames x) refl) from
         where
-          renamed : is_renamed s ≡ true → is_called name n ≡ false
-          renamed is =
-              let differs : bytes_eq n.name.now name ≡ false =
-              ap (λ (x : List ℕ). bytes_eq x name) (named ∙ rw is refl) ∙ old_other s.name.now name debug in
-              ap (λ (b : Bool). b && is_meant_by name n) differs
+          from : bytes_eq x name ≡ true → is_at i (place_replaced elf.sections.items x) ≡ true
+          from h =
+              ap (λ (y : List ℕ). is_at i (place_replaced elf.sections.items y)) (same_bytes x name h)
+              ∙ subst (λ (c : Bool). is_at i (if c then None else position (is_called name) elf.sections.items) ≡ true)
+              (sym other)
+              (subst (λ (o : Option ℕ). is_at i o ≡ true) (sym first) (eq-eqb i i refl))
 
-          by_frames : (b : Bool) → names_frames s.name.now ≡ b → holds_code s.flags ≡ false → is_called name n ≡ is_called name s
-          by_frames true e plain =
-              renamed (rw (plain, e) refl) ∙ sym (ap (λ (b : Bool). b && is_meant_by name s)
-              (not_true (bytes_eq s.name.now name) (λ same.
-              no_both (names_frames name) (ap names_frames (sym (same_bytes s.name.now name same)) ∙ e) other)))
-          by_frames false e plain =
-              plain_called s n shown plain (named ∙ rw (plain, e) refl) (flags_stay s n plain flags)
+          at_place : (o : Option ℕ) → position (is_called x) elf.sections.items ≡ o → is_at i o ≡ true → bytes_eq x name ≡ true
+          at_place None e h = absurd (cc)
+          at_place (Some j) e h =
+              let same : j ≡ i = eqb-true j i h in
+              let p = position-Some (is_called x) elf.sections.items j s e in
+              let called : is_called x s ≡ true =
+              ap (is_called x) (sym (get_is elf.sections.items i s s at))
+              ∙ ap (λ (k : ℕ). is_called x (get_or elf.sections.items k s)) (sym same) ∙ p.1 in
+              let of_x = same_bytes s.name.now x (and_parts (bytes_eq s.name.now x) (is_meant_by x s) called).0 in
+              let of_name = (and_parts (bytes_eq s.name.now name) (is_meant_by name s) called_i).0 in
+              ap (λ (y : List ℕ). bytes_eq y name) (sym of_x) ∙ of_name
 
-          by_code : (b : Bool) → holds_code s.flags ≡ b → is_called name n ≡ is_called name s
-          by_code true e =
-              let none : is_meant_by name s ≡ false =
-              meant s ∙ and_false (not (is_loaded s)) (not (holds_code s.flags)) (ap not e) in
-              renamed (rw e refl) ∙ sym (and_false (bytes_eq s.name.now name) (is_meant_by name s) none)
-          by_code false e = by_frames (names_frames s.name.now) refl e
+          to : (b : Bool) → names_frames x ≡ b →
+              is_at i (if names_frames x then None else position (is_called x) elf.sections.items) ≡ true →
+              bytes_eq x name ≡ true
+          to true e h = absurd (let k : is_at i (if true then None else position (is_called x) elf.sections.items) ≡ true =
+              subst (λ (c : Bool). is_at i (if c then None else position (is_called x) elf.sections.items) ≡ true) e h in cc)
+          to false e h = at_place (position (is_called x) elf.sections.items) refl
+              (subst (λ (c : Bool). is_at i (if c then None else position (is_called x) elf.sections.items) ≡ true) e h)
 
-      pub same_at : (k : ℕ) (x y : Section) → slice_get elf.sections.items k ≡ Some x → slice_get new.sections.items k ≡ Some y →
-          is_called name y ≡ is_called name x
-      same_at k x y old there =
-          called_same x y (not_hidden k x old) (are.called k x y old there) (flags_of k x y old there)
-
-      module _ (i : ℕ) (first : position (is_called name) elf.sections.items ≡ Some i) (s n : Section)
-          (at : slice_get elf.sections.items i ≡ Some s) (at_new : slice_get new.sections.items i ≡ Some n) where
-        called_i : is_called name s ≡ true
-        called_i =
-            let h = position-Some (is_called name) elf.sections.items i s first in
-            ap (is_called name) (sym (get_is elf.sections.items i s s at)) ∙ h.1
-
-        -- the section of the name is the same
-        pub new_called : section_called new.sections.items name ≡ Some n
-        new_called =
-            found_first (is_called name) new.sections.items i n at_new (same_at i s n at at_new ∙ called_i)
-            (λ k z less there.
-            let h = position-Some (is_called name) elf.sections.items i s first in
-            let x = get_or elf.sections.items k s in
-            let inside = slice_get_within elf.sections.items i s at in
-            same_at k x z (slice_get-get_or elf.sections.items k s (omega (arith, less, inside))) there ∙ h.2 k less)
-
-        -- a table has this place where it has the name
-        same_table : (x : List ℕ) → is_at i (place_replaced elf.sections.items x) ≡ bytes_eq x name
-        same_table x = same_bool (is_at i (place_replaced elf.sections.items x)) (bytes_eq x name) (to (names_frames x) refl) from
-          where
-            from : bytes_eq x name ≡ true → is_at i (place_replaced elf.sections.items x) ≡ true
-            from h =
-                ap (λ (y : List ℕ). is_at i (place_replaced elf.sections.items y)) (same_bytes x name h)
-                ∙ subst (λ (c : Bool). is_at i (if c then None else position (is_called name) elf.sections.items) ≡ true)
-                (sym other)
-                (subst (λ (o : Option ℕ). is_at i o ≡ true) (sym first) (eq-eqb i i refl))
-
-            at_place : (o : Option ℕ) → position (is_called x) elf.sections.items ≡ o → is_at i o ≡ true → bytes_eq x name ≡ true
-            at_place None e h = absurd (cc)
-            at_place (Some j) e h =
-                let same : j ≡ i = eqb-true j i h in
-                let p = position-Some (is_called x) elf.sections.items j s e in
-                let called : is_called x s ≡ true =
-                ap (is_called x) (sym (get_is elf.sections.items i s s at))
-                ∙ ap (λ (k : ℕ). is_called x (get_or elf.sections.items k s)) (sym same) ∙ p.1 in
-                let of_x = same_bytes s.name.now x (and_parts (bytes_eq s.name.now x) (is_meant_by x s) called).0 in
-                let of_name = (and_parts (bytes_eq s.name.now name) (is_meant_by name s) called_i).0 in
-                ap (λ (y : List ℕ). bytes_eq y name) (sym of_x) ∙ of_name
-
-            to : (b : Bool) → names_frames x ≡ b →
-                is_at i (if names_frames x then None else position (is_called x) elf.sections.items) ≡ true →
-                bytes_eq x name ≡ true
-            to true e h = absurd (let k : is_at i (if true then None else position (is_called x) elf.sections.items) ≡ true =
-                subst (λ (c : Bool). is_at i (if c then None else position (is_called x) elf.sections.items) ≡ true) e h in cc)
-            to false e h = at_place (position (is_called x) elf.sections.items) refl
-                (subst (λ (c : Bool). is_at i (if c then None else position (is_called x) elf.sections.items) ≡ true) e h)
-
-        -- where it can take the table with this name, it has its contents
-        pub given_stands : (table : String Y × Vec ℕ Z) → find (λ t. bytes_eq (string_bytes t.0) name) tables ≡ Some table →
-            takes_table elf i s ≡ true → section_bytes new.file.now n ≡ bytes_called tables name
-        given_stands table found takes =
-            let (t, place, there) = given_is_called (λ (u : String Y × Vec ℕ Z). is_at i (place_replaced elf.sections.items (string_bytes u.0)))
-            (λ u. bytes_eq (string_bytes u.0) name) tables table found (λ u. same_table (string_bytes u.0)) in
-            let given : contents_of elf tables area shift i s ≡ Given t =
-            ap (λ (o : Option ℕ). if e_shstrndx elf.file.now == i then SectionNames
-            else if is_at i (place_of_symbols elf) then Symbols
-            else if is_at i (place_of_names elf) then SymbolNames
-            else if is_left_out s then Dropped
-            else option_map_or Given o (own_contents elf.segments.items area shift s)) place
-            ∙ given_by (e_shstrndx elf.file.now == i) (is_at i (place_of_symbols elf)) (is_at i (place_of_names elf)) (is_left_out s)
-            (own_contents elf.segments.items area shift s) t takes in
-            let f : Follows tables shift elf.file.now new.file.now (Given t) s n =
-            subst (λ (c : Contents). Follows tables shift elf.file.now new.file.now c s n) given (are.follows i s n at at_new) in
-            f.contents.contents ∙ rw (there, found) refl
+      -- where it can take the table with this name, it has its contents
+      pub given_stands : (table : String Y × Vec ℕ Z) → find (λ t. bytes_eq (string_bytes t.0) name) tables ≡ Some table →
+          takes_table elf i s ≡ true → section_bytes new.file.now n ≡ bytes_called tables name
+      given_stands table found takes =
+          let (t, place, there) = given_is_called (λ (u : String Y × Vec ℕ Z). is_at i (place_replaced elf.sections.items (string_bytes u.0)))
+          (λ u. bytes_eq (string_bytes u.0) name) tables table found (λ u. same_table (string_bytes u.0)) in
+          let given : contents_of elf tables area shift i s ≡ Given t =
+          ap (λ (o : Option ℕ). if e_shstrndx elf.file.now == i then SectionNames
+          else if is_at i (place_of_symbols elf) then Symbols
+          else if is_at i (place_of_names elf) then SymbolNames
+          else if is_left_out s then Dropped
+          else option_map_or Given o (own_contents elf.segments.items area shift s)) place
+          ∙ given_by (e_shstrndx elf.file.now == i) (is_at i (place_of_symbols elf)) (is_at i (place_of_names elf)) (is_left_out s)
+          (own_contents elf.segments.items area shift s) t takes in
+          let f : Follows tables shift elf.file.now new.file.now (Given t) s n =
+          subst (λ (c : Contents). Follows tables shift elf.file.now new.file.now c s n) given (are.follows i s n at at_new) in
+          f.contents.contents ∙ rw (there, found) refl

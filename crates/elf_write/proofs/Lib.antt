@@ -3,6 +3,7 @@ mod AllWritten
 mod AreaTables
 mod CellLists
 mod CellPatches
+mod CellPieces
 mod CellPlaces
 mod CellsWritten
 mod CodeMemory
@@ -37,6 +38,7 @@ mod MadeSegments
 mod NamedParts
 mod NewSegments
 mod Pairs
+mod PiecesWritten
 mod PlacesWritten
 mod Positions
 mod RangesWithNew

@@ -49,7 +49,7 @@ module _ {Y Z : Type 0} (elf new : Elf) (tables : List (String Y × Vec ℕ Z)) 
     takes : takes_table elf first.i s ≡ true
     takes =
         let given = find-found (λ (t : String Y × Vec ℕ Z). bytes_eq (string_bytes t.0) name) tables table found in
-        let all = All-contains (λ (t : String Y × Vec ℕ Z). IsTrue (has_place elf (string_bytes t.0))) tables table placed.each given.1 in
+        let all = All-contains (λ (t : String Y × Vec ℕ Z). IsTrue (has_place elf (string_bytes t.0))) tables table placed given.1 in
         let here : has_place elf name ≡ true =
         ap (has_place elf) (sym (same_bytes (string_bytes table.0) name given.0)) ∙ all in
         sym (ap (λ (o : Option Section). option_map_or (takes_table elf first.i) o false) first.at)
@@ -58,8 +58,8 @@ module _ {Y Z : Type 0} (elf new : Elf) (tables : List (String Y × Vec ℕ Z)) 
     holds : (n : Section) → slice_get new.sections.items first.i ≡ Some n → Holds new name (bytes_called tables name)
     holds n at_new =
         subst (λ (o : Option Section). IsSomeAnd o (λ m. section_bytes new.file.now m ≡ bytes_called tables name))
-        (sym (new_called elf new tables area shift code are placed.none_hidden name debug first.i first.place s n first.at at_new))
-        (given_stands elf new tables area shift code are placed.none_hidden name debug first.i first.place s n first.at at_new
+        (sym (new_called elf new tables area shift code are name debug first.i first.place s n first.at at_new))
+        (given_stands elf new tables area shift code are name debug first.i first.place s n first.at at_new
         table found takes)
 
   debug_stands : (name : List ℕ) → names_debug name ≡ true → is_given tables name ≡ true →
@@ -84,10 +84,10 @@ module _ {Y Z : Type 0} (elf new : Elf) (tables : List (String Y × Vec ℕ Z)) 
         (λ b. HoldsAt new (codes ".eh_frame_hdr") b (bytes_called tables (codes ".eh_frame_hdr")))
         (index_stands elf new tables area shift code are a at_a));
     debug = debug_stands;
-    ranges = λ adds. ranges_stand elf new tables area shift code are placed.none_hidden adds
+    ranges = λ adds. ranges_stand elf new tables area shift code are adds
         (none_value (section_called elf.sections.items (codes ".debug_rnglists"))
         (and_parts (is_given tables (codes ".debug_rnglists"))
         (is_none (section_called elf.sections.items (codes ".debug_rnglists"))) adds).1);
     absent = λ name debug absent differs.
-        absent_stays elf new tables area shift code are placed.none_hidden name debug absent differs;
+        absent_stays elf new tables area shift code are name debug absent differs;
   }

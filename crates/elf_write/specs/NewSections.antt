@@ -9,7 +9,7 @@ use Rattle.elf_image.specs.declared.section.Section.{Section}
 use Rattle.elf_image.specs.declared.relocation.TheConstants.{SHT_RELA}
 use Rattle.elf_image.specs.declared.section.TheConstants.{SHT_NOBITS, SHT_PROGBITS, SHT_STRTAB, SHF_ALLOC, SHF_EXECINSTR}
 use Rattle.elf_image.specs.file.Header.{e_shstrndx}
-use Rattle.elf_image.specs.file.SectionNames.{section_called}
+use Rattle.elf_image.specs.file.SectionNames.{is_loaded, names_debug, section_called}
 use Rattle.elf_image.specs.file.Sections.{holds_code}
 use Rattle.elf_write.specs.declared.area.Area.{Area}
 use Rattle.elf_write.specs.declared.area.Shift.{Shift}
@@ -46,10 +46,14 @@ pub record HoldsContents (w bytes : List ℕ) (n : Section) : Type 0 where
   pub size : n.size ≡ length bytes
   pub aligned : IsAligned n
 
--- A header of no section says nothing but its name.
-pub record IsDropped (n : Section) : Type 0 where
+-- A header of no section says nothing but its name. One that was loaded and has the name of a debug table still says that it is
+-- loaded, since the name would mean it otherwise.
+abbrev pub flags_left : Section → ℕ
+flags_left s = if is_loaded s && names_debug s.name.now then SHF_ALLOC else 0
+
+pub record IsDropped (s n : Section) : Type 0 where
   pub kind : n.kind ≡ SHT_NULL
-  pub flags : n.flags ≡ 0
+  pub flags : n.flags ≡ flags_left s
   pub addr : n.addr ≡ 0
   pub offset : n.offset ≡ 0
   pub size : n.size ≡ 0
@@ -104,7 +108,7 @@ given_bytes tables t = option_map_or (λ table. table.1.items) (slice_get tables
 
 -- by where the contents are
 abbrev pub Follows : {Y Z : Type 0} → List (String Y × Vec ℕ Z) → Shift → List ℕ → List ℕ → Contents → Section → Section → Type 0
-Follows tables shift file w Dropped s n = IsDropped n
+Follows tables shift file w Dropped s n = IsDropped s n
 Follows tables shift file w Inactive s n = IsInactive w s n
 Follows tables shift file w Kept s n = IsKept shift w s n
 Follows tables shift file w Copied s n = HasNewContents w (section_bytes file s) s.kind s n

@@ -1,14 +1,12 @@
 -- Where given tables stand in a written file: which sections of the input take one, and what the sections that names mean hold.
 use Rattle.std.specs.Prelude.{◌≡◌, ◌≢◌, ℕ, ◌==◌, ◌&&◌, ◌||◌, not, false, true, Bool, List, None, IfSome, IsSomeAnd, IsTrue, All}
 use Rattle.std.specs.Prelude.{String, Vec, codes, find, is_some, slice_get, string_bytes}
-use Rattle.std.specs.List.{list_any}
 use Rattle.std.specs.Option.{option_map_or}
 use Rattle.std.specs.Str.{bytes_eq}
 use Rattle.elf_image.specs.declared.elf.Elf.{Elf}
-use Rattle.elf_image.specs.declared.relocation.TheConstants.{SHT_RELA}
 use Rattle.elf_image.specs.declared.section.Section.{Section}
 use Rattle.elf_image.specs.file.Header.{e_shstrndx}
-use Rattle.elf_image.specs.file.SectionNames.{is_loaded, names_debug, section_called}
+use Rattle.elf_image.specs.file.SectionNames.{names_debug, section_called}
 use Rattle.elf_write.specs.declared.area.Area.{Area}
 use Rattle.elf_write.specs.Contents.{is_at, is_left_out, place_replaced, section_bytes}
 use Rattle.elf_write.specs.NameTables.{place_of_names, place_of_symbols}
@@ -32,14 +30,8 @@ takes_table_at elf index = option_map_or (takes_table elf index) (slice_get elf.
 abbrev pub has_place : Elf → List ℕ → Bool
 has_place elf name = option_map_or (takes_table_at elf) (place_replaced elf.sections.items name) true
 
--- Loaded relocations that are called as a debug table is: what is left of their header isn't loaded, so the name would mean
--- that.
-abbrev pub hides_table : Section → Bool
-hides_table s = (s.kind == SHT_RELA) && (is_loaded s && names_debug s.name.now)
-
-pub record ArePlaced {Y Z : Type 0} (elf : Elf) (tables : List (String Y × Vec ℕ Z)) : Type 0 where
-  pub each : All (λ t. IsTrue (has_place elf (string_bytes t.0))) tables
-  pub none_hidden : list_any hides_table elf.sections.items ≡ false
+abbrev pub ArePlaced : {Y Z : Type 0} → Elf → List (String Y × Vec ℕ Z) → Type 0
+ArePlaced elf tables = All (λ t. IsTrue (has_place elf (string_bytes t.0))) tables
 
 -- What the sections of a file hold.
 

@@ -20,7 +20,7 @@ pub fn table_called<'a>(tables: &'a [Table], name: &[u8]) -> Option<&'a Table>
     tables.iter().find(|t| t.0.as_bytes() == name)
 }
 
-/// Its size.
+/// The size of the first table with a name.
 pub fn table_size(tables: &[Table], name: &[u8]) -> Option<usize>
     ensures { result ≡ spec.table_size tables.now name.now }
 {
@@ -30,7 +30,7 @@ pub fn table_size(tables: &[Table], name: &[u8]) -> Option<usize>
     }
 }
 
-/// Its bytes; none without one.
+/// The bytes of the first table with a name; none without one.
 pub fn bytes_called<'a>(tables: &'a [Table], name: &[u8]) -> &'a [u8]
     ensures { result.now ≡ bytes_called tables.now name.now }
 {

@@ -7,7 +7,7 @@ use elf_parts::NumberAt;
 use rb_bytes::fault::NoMemory;
 use std::alloc::Global;
 
-/// What they say.
+/// What fields of the file's header say.
 #[derive(Clone, Copy, PartialEq, Eq, Debug)]
 pub struct HeaderFields {
     /// The entry point.
@@ -15,7 +15,7 @@ pub struct HeaderFields {
     /// Where the table of program headers stands, and how many there are.
     pub segments_at: u64,
     pub segments: u64,
-    /// The same of the section headers, and which one names the sections.
+    /// Where the table of section headers stands, how many there are, and which one names the sections.
     pub sections_at: u64,
     pub sections: u64,
     pub names: u64,
@@ -25,7 +25,7 @@ impl HeaderFields {
     ghost use Rattle.std.specs.Prelude.{◌≡◌, IfOk};
     ghost use Rattle.elf_write.specs.FileParts.{header_numbers};
 
-    /// As numbers at their places.
+    /// The fields as numbers at their places.
     pub fn numbers(&self, alloc: Global) -> Result<Vec<NumberAt>, NoMemory>
         ensures { IfOk result (λ numbers. numbers.items ≡ header_numbers self.now) }
     {

@@ -2,7 +2,7 @@
 ghost use Rattle.std.specs.Prelude.{◌≡◌, OnOk};
 ghost use Rattle.elf_image.specs.faults.Truncation.{IsReadable};
 ghost use Rattle.elf_write.specs.Contents.{section_bytes};
-ghost use Rattle.elf_write.specs.NewSections.{without_code};
+ghost use Rattle.elf_write.specs.NewSections.{flags_left, without_code};
 
 use crate::area::{Area, Shift};
 use crate::area_bytes::table_size;
@@ -12,7 +12,7 @@ use crate::sections::{Contents, Table};
 use crate::tail::{Tail, end_behind};
 use crate::unwritable::Unwritable;
 use elf_image::entries::{SectionTable, section_count};
-use elf_image::named::{EH_FRAME, EH_FRAME_HDR};
+use elf_image::named::{EH_FRAME, EH_FRAME_HDR, names_debug};
 use elf_image::relocation::SHT_RELA;
 use elf_image::section::{SHF_ALLOC, SHF_EXECINSTR, SHT_NOBITS, SHT_PROGBITS, SHT_STRTAB};
 use elf_image::{Elf, Section, SectionHeader};
@@ -135,12 +135,23 @@ impl<'a> NewContents<'a> {
     }
 }
 
+/// The flags that are left of a section's header: that it is loaded, where it could be taken for a debug table otherwise.
+pub fn flags_left(section: &Section) -> u64
+    ensures { result ≡ flags_left section.now }
+{
+    if section.is_loaded() && names_debug(section.name) {
+        SHF_ALLOC
+    } else {
+        0
+    }
+}
+
 // A header of no section, which has a name.
-fn no_section(name: u32) -> SectionHeader {
+fn no_section(name: u32, flags: u64) -> SectionHeader {
     SectionHeader {
         name,
         kind: SHT_NULL,
-        flags: 0,
+        flags,
         addr: 0,
         offset: 0,
         size: 0,
@@ -151,10 +162,15 @@ fn no_section(name: u32) -> SectionHeader {
     }
 }
 
-/// Sets what a header says of its contents, but for the places of those that are written.
-pub fn set_contents(header: &mut SectionHeader, contents: Contents, shift: &Shift) {
+/// Sets what a section's header says of its contents, but for the places of those that are written.
+pub fn set_contents(
+    header: &mut SectionHeader,
+    section: &Section,
+    contents: Contents,
+    shift: &Shift,
+) {
     match contents {
-        Contents::Dropped => *header = no_section(header.name),
+        Contents::Dropped => *header = no_section(header.name, flags_left(section)),
         Contents::Inactive => {}
         Contents::Kept => header.offset = shift.reach(header.offset).min(u64::MAX as u128) as u64,
         Contents::Copied => {}

@@ -51,7 +51,7 @@ fn found_at(contents: &[Contents], index: usize) -> Contents
     }
 }
 
-// Those of all sections.
+// The extents of all sections.
 fn extents_of(
     alloc: Global,
     sections: &[Section],
@@ -85,7 +85,7 @@ fn first_for(loaded: &LoadedRanges, extents: &RangeTree, p: &Segment) -> Option<
     }
 }
 
-// That of each header.
+// The home of each header.
 fn all_first(
     alloc: Global,
     loaded: &LoadedRanges,

@@ -40,7 +40,7 @@ impl Layout {
     ghost use Rattle.elf_write.specs.TableSizes as spec;
     ghost use Rattle.elf_write.specs.FileParts.{IsLaidOut};
 
-    /// That of a file with this new code and these tables.
+    /// The loaded part of a file with this new code and these tables.
     pub fn new(
         alloc: Global,
         elf: &Elf,

@@ -97,7 +97,7 @@ fn end_of(sections: &[Section], start: u64, order: &[(u64, usize)]) -> Result<u6
     Ok(end)
 }
 
-// The same with a table of ranges behind them, if it is added.
+// Where the contents of the sections of some indices end, and behind them a table of ranges, if it is added.
 fn end_of_all(
     sections: &[Section],
     start: u64,

@@ -26,7 +26,7 @@ impl LoadedRanges {
     ghost use Rattle.std.specs.List.{list_any};
     ghost use Rattle.elf_write.specs.LoadedRanges.{AreInOrder, HaveLoaded, meets};
 
-    /// Those of some segments.
+    /// The ranges that some segments load.
     pub fn new(alloc: Global, segments: &[Segment]) -> Result<LoadedRanges, NoMemory>
         ensures order { IfOk result (λ loaded. AreInOrder loaded.sorted.items loaded.reaches.items) }
         ensures bytes { IfOk result (λ loaded. HaveLoaded segments.now loaded.sorted.items) }

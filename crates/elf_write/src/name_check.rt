@@ -28,7 +28,7 @@ fn behind_name<'a>(bytes: &'a [u8], front: &[u8], back: &[u8]) -> Option<&'a [u8
     behind(rest, &[0])
 }
 
-// The same of a name that may be there.
+// What follows a name that may be there.
 fn behind_if<'a>(bytes: &'a [u8], there: bool, name: &[u8]) -> Option<&'a [u8]>
     ensures { IfSome result (λ rest. bytes.now ≡ spec.ended_if there name.now ++ rest.now) }
 {
@@ -39,7 +39,7 @@ fn behind_if<'a>(bytes: &'a [u8], there: bool, name: &[u8]) -> Option<&'a [u8]>
     }
 }
 
-// The same of the new name of a section that gets one.
+// What follows the new name of a section that gets one.
 fn behind_old_name<'a>(bytes: &'a [u8], section: &Section) -> Option<&'a [u8]>
     ensures { IfSome result (λ rest. bytes.now ≡ spec.old_ended section.now ++ rest.now) }
 {
@@ -50,7 +50,7 @@ fn behind_old_name<'a>(bytes: &'a [u8], section: &Section) -> Option<&'a [u8]>
     }
 }
 
-// The same of all of them.
+// What follows the new names of all sections that get one.
 fn behind_old_names<'a>(bytes: &'a [u8], sections: &[Section]) -> Option<&'a [u8]>
     ensures { IfSome result (λ rest. bytes.now ≡ flat_map spec.old_ended sections.now ++ rest.now) }
 {
@@ -61,7 +61,7 @@ fn behind_old_names<'a>(bytes: &'a [u8], sections: &[Section]) -> Option<&'a [u8
     Some(rest)
 }
 
-// The same of the names of sections that are added.
+// What follows the names of sections that are added.
 fn behind_added<'a>(bytes: &'a [u8], area: &Area, ranges: bool) -> Option<&'a [u8]>
     ensures { IfSome result (λ rest. bytes.now ≡ spec.added_names area.now ranges ++ rest.now) }
 {
@@ -132,7 +132,7 @@ impl<'a> NewNames<'a> {
         }
     }
 
-    // The same of all of them.
+    // What follows the names of all cold parts.
     fn behind_cold_names<'b>(
         &self,
         names: &BTreeMap<u64, Symbol>,

@@ -70,7 +70,7 @@ impl OwnSections {
     ghost use Rattle.std.specs.Prelude.{IfOk};
     ghost use Rattle.elf_write.specs.KnownSections.{IsOwnOf};
 
-    /// Those of a file. A table that is one of names and of symbols can't be written.
+    /// The own sections of a file. A table that is one of names and of symbols can't be written.
     pub fn new(elf: &Elf) -> Result<OwnSections, Unwritable>
         ensures { IfOk result (IsOwnOf elf.now) }
     {

@@ -22,7 +22,7 @@ use crate::unwritable::Unwritable;
 use crate::weights::name_weight;
 use addr_map::AddrMap;
 use elf_image::section::{SHDR_SIZE, SHT_PROGBITS};
-use elf_image::{Elf, SectionHeader};
+use elf_image::{Elf, Section, SectionHeader};
 use elf_parts::spell::{SymbolEntry, put_sections};
 use rv_code::Func;
 use std::alloc::Global;
@@ -47,7 +47,7 @@ pub struct SectionSource<'a> {
 /// The sections of a written file.
 #[derive(Drop)]
 pub struct NewSections {
-    /// Their headers.
+    /// The headers of all sections.
     pub headers: Vec<SectionHeader>,
     /// Where the contents of each of the input's sections are.
     pub contents: Vec<Contents>,
@@ -232,7 +232,7 @@ impl<'a> SectionSource<'a> {
         area_headers(&mut headers, &layout.area, self.tables, &mut names.sections)?;
         let ranges = added_ranges(self.elf, self.tables, &mut names.sections)?;
         let symbols = self.symbols(alloc, &own, &mut names, &mut headers, text)?;
-        set_all_contents(&mut headers, &contents, &layout.shift);
+        set_all_contents(&mut headers, &self.elf.sections, &contents, &layout.shift);
         let new = NewContents {
             section_names: names.sections.bytes(),
             symbols: &symbols,
@@ -259,9 +259,14 @@ impl<'a> SectionSource<'a> {
 }
 
 // Sets what headers say of their contents, but for the places of those that are written.
-fn set_all_contents(headers: &mut [SectionHeader], contents: &[Contents], shift: &Shift) {
-    for i in 0..contents.len().min(headers.len()) {
-        set_contents(&mut headers[i], contents[i], shift);
+fn set_all_contents(
+    headers: &mut [SectionHeader],
+    sections: &[Section],
+    contents: &[Contents],
+    shift: &Shift,
+) {
+    for i in 0..contents.len().min(headers.len()).min(sections.len()) {
+        set_contents(&mut headers[i], &sections[i], contents[i], shift);
     }
 }
 

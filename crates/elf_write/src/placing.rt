@@ -31,7 +31,7 @@ fn tight_parts(segments: &[Segment], area: &Area) -> Result<Parts, Unwritable>
     })
 }
 
-// The same, where it lies behind the executable segment and others move.
+// The parts of a file whose new area lies behind the executable segment, where others move.
 fn parts_behind(segments: &[Segment], area: &Area, shift: &Shift) -> Result<Parts, Unwritable>
     ensures { IfOk result (λ parts. spec.IsBehind segments.now area.now shift.now parts) }
 {
@@ -138,7 +138,9 @@ pub fn table_place(
 fn can_put(size: usize, n: &NumberAt) -> bool
     ensures { IsTrue result ↔ CanPut size n.now }
 {
-    let fits = if n.width == 2 {
+    let fits = if n.width == 1 {
+        n.value < 0x100
+    } else if n.width == 2 {
         n.value < 0x1_0000
     } else if n.width == 4 {
         n.value < 0x1_0000_0000
@@ -148,7 +150,7 @@ fn can_put(size: usize, n: &NumberAt) -> bool
     fits && n.offset as u128 + n.width as u128 <= size as u128
 }
 
-/// Whether all numbers do.
+/// Whether all numbers can be put over bytes of a file of this size.
 pub fn can_put_all(size: usize, numbers: &[NumberAt]) -> bool
     ensures { IsTrue result ↔ All (CanPut size) numbers.now }
 {

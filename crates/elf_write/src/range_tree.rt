@@ -62,7 +62,7 @@ pub fn sorted_reaches(alloc: Global, ranges: &[Extent]) -> Result<Vec<Extent>, N
 }
 
 impl RangeTree {
-    /// That of some ranges.
+    /// The tree of some ranges.
     pub fn new(alloc: Global, ranges: &[Extent]) -> Result<RangeTree, NoMemory>
         ensures { IfOk result (λ tree. tree ≡ ranges.now) }
     {

@@ -229,7 +229,7 @@ fn has_names_and_symbols(
     has_symbols(alloc, source, tables.new)
 }
 
-// Whether all of them are.
+// Whether sections, program headers, names, symbols and layout are what they must be.
 fn has_new_tables(
     alloc: Global,
     source: &SectionSource,

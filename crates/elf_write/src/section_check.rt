@@ -6,7 +6,7 @@ ghost use Rattle.elf_write.specs.OldNames.{new_name, old_name};
 
 use crate::area::{Area, Shift};
 use crate::entry_names::KeptNames;
-use crate::headers::{SHT_NULL, bytes_of, without_code};
+use crate::headers::{SHT_NULL, bytes_of, flags_left, without_code};
 use crate::name_parts::is_joined;
 use crate::old_name::{is_renamed, old_prefix};
 use crate::sections::{Contents, Table};
@@ -59,11 +59,11 @@ fn holds_contents(w: &[u8], bytes: &[u8], n: &Section) -> bool
     bytes_of(w, n) == bytes && n.size == bytes.len() as u64 && is_aligned(n)
 }
 
-fn is_dropped(n: &Section) -> bool
-    ensures { IsTrue result → spec.IsDropped n.now }
+fn is_dropped(s: &Section, n: &Section) -> bool
+    ensures { IsTrue result → spec.IsDropped s.now n.now }
 {
     n.kind == SHT_NULL
-        && n.flags == 0
+        && n.flags == flags_left(s)
         && n.addr == 0
         && n.offset == 0
         && n.size == 0
@@ -163,7 +163,7 @@ impl<'a> Files<'a> {
             Follows self.now.tables.now self.now.shift self.now.old.now self.now.new.now contents s.now n.now }
     {
         match contents {
-            Contents::Dropped => is_dropped(n),
+            Contents::Dropped => is_dropped(s, n),
             Contents::Inactive => is_inactive(self.new, s, n),
             Contents::Kept => is_kept(&self.shift, self.new, s, n),
             Contents::Copied => is_rewritten(self.new, bytes_of(self.old, s), s.kind, s, n),
@@ -226,7 +226,7 @@ impl<'a> Added<'a> {
         }
     }
 
-    /// Whether it is this one in a file that has its bytes in an area.
+    /// Whether a section of the written file is this one, which a file with its bytes in an area has there.
     pub fn is_in(&self, area: &Area, n: &Section) -> bool
         ensures { IsTrue result → (w : List ℕ) → Stands w (area_offset area.now self.now.addr) self.now.bytes.now →
             IsInArea w area.now self.now.name.now self.now.bytes.now self.now.flags self.now.addr self.now.align n.now }

@@ -10,6 +10,7 @@ ghost use Rattle.rv_code.specs.layout.FunctionLists.{AreLaidOut};
 ghost use Rattle.elf_write.specs.NewTables.{HasNewTables, area_for};
 ghost use Rattle.elf_write.specs.TablePlaces.{ArePlaced, TablesStand};
 ghost use Rattle.elf_write.specs.AreaTables.{IsMadeWith};
+ghost use Rattle.elf_write.specs.CellNumbers.{in_pieces};
 ghost use Rattle.elf_write.specs.FileParts.{IsPut, header_numbers};
 ghost use Rattle.elf_write.specs.Source.{HasPlace, source_of};
 ghost use Rattle.elf_write.specs.WrittenFile.{AreApart, CanHold, IsWritten};
@@ -120,9 +121,10 @@ fn made(
     requires read { IsElfOf source.now.elf.now.file.now source.now.elf.now }
     requires sound { IsSound source.now.elf.now.file.now }
     requires laid_out { AreLaidOut source.now.funcs.now }
+    requires cells { All (CanHold source.now.elf.now) emitted.now.cells.items }
     ensures { IfOk result (λ w. IsMadeWith
-        (source_of source.now.elf.now emitted.now source.now.map.now source.now.tables.now) source.now.tables.now tight
-        w.items) }
+        (in_pieces (source_of source.now.elf.now emitted.now source.now.map.now source.now.tables.now))
+        source.now.tables.now tight w.items) }
 {
     let elf = source.elf;
     let layout = Layout::new(alloc, elf, tight, &emitted.code, source.tables)?;

@@ -1,13 +1,15 @@
-use Rattle.std.proofs.Common.{◌∙◌, subst, ap, ℕ, List, length}
+use Rattle.std.proofs.Common.{◌∙◌, sym, subst, ap, ℕ, ◌+◌, ◌^◌, ◌<◌, List, length}
+use Rattle.std.specs.Prelude.{All}
 use Rattle.std.proofs.lemmas.Result.{IfOk-weaker}
 use Rattle.elf_image.specs.declared.elf.Elf.{Elf}
 use Rattle.elf_image.specs.declared.segment.Segment.{Segment}
 use Rattle.elf_parts.specs.declared.number_at.NumberAt.{NumberAt}
 use Rattle.elf_write.specs.declared.layout.Layout.{Layout}
-use Rattle.elf_write.specs.CellNumbers.{AreCellNumbers}
+use Rattle.elf_write.specs.CellNumbers.{AreCellNumbers, pieces}
 use Rattle.elf_write.specs.FileParts.{IsLaidOut, IsPut, IsTablePlace}
 use Rattle.elf_write.specs.Source.{Source, source_of}
 use Rattle.elf_write.proofs.Growing.{can-grow, in-order}
+use Rattle.elf_write.proofs.PiecesWritten.{low_cells}
 use Rattle.elf_write.proofs.writer.made.Goals as goal
 
 pub segments-requires-clause-grows : goal.segments-requires-clause-grows
@@ -15,6 +17,11 @@ segments-requires-clause-grows c = can-grow _ _ _ _ _ _ c.requires.read c.requir
 
 pub segments-requires-clause-ordered : goal.segments-requires-clause-ordered
 segments-requires-clause-ordered c = in-order _ _ _ _ _ _ c.requires.read c.requires.sound c.in_ok-layout.ensures.laid_out
+
+pub cell_numbers-requires : goal.cell_numbers-requires
+cell_numbers-requires c =
+    subst (λ (cells : List (ℕ × ℕ × ℕ)). All (λ cell. cell.0 + cell.1 < 2 ^ 64) cells) (sym c.deref-5.ensures.value)
+    (low_cells c.args.source.now.elf.now c.requires.read c.requires.sound c.args.emitted.now.cells.items c.requires.cells)
 
 pub returns : goal.returns
 returns c =
@@ -33,7 +40,8 @@ returns c =
             c.in_ok-layout.ensures.laid_out;
         cells = cells;
         are_cells = subst
-            (λ (xs : List (ℕ × ℕ × ℕ)). AreCellNumbers elf layout.shift xs cells) c.deref-5.ensures.value c.in_ok-cells.ensures;
+            (λ (xs : List (ℕ × ℕ × ℕ)). AreCellNumbers elf layout.shift (pieces elf.segments.items xs) cells)
+            c.deref-5.ensures.value c.in_ok-cells.ensures;
         segments = segments;
         are_headers = c.in_ok-segments.ensures.headers;
         table_at = c.in_ok-table_at.table_at;

@@ -1,16 +1,18 @@
-use Rattle.std.proofs.Common.{◌≡◌, ◌∙◌, ap, subst, sym, Bool, List, ℕ, get_or}
+use Rattle.std.proofs.Common.{◌≡◌, ◌∙◌, ap, subst, sym, Bool, List, ℕ}
 use Rattle.elf_image.specs.faults.FileFaults.{IsSound}
 use Rattle.elf_image.specs.file.Header.{e_shstrndx}
 use Rattle.elf_write.specs.declared.fragments.Fragment.{Fragment}
 use Rattle.elf_write.specs.FragmentLists.{AreFragments}
 use Rattle.elf_write.specs.AreaTables.{AreaStands}
+use Rattle.elf_write.specs.CellNumbers.{in_pieces}
 use Rattle.elf_write.specs.EntryNames.WasRead.{was_read}
 use Rattle.elf_write.specs.NewTables.{HasNewTables, area_for}
 use Rattle.elf_write.specs.Source.{HasPlace, Source, source_of}
 use Rattle.elf_write.proofs.AllWritten.{all-written, placed-there}
-use Rattle.elf_write.proofs.CellsWritten.{wide}
+use Rattle.elf_write.proofs.CellPieces.{pieces_apart, pieces_can}
 use Rattle.elf_write.proofs.CodeWritten.{area-written}
 use Rattle.elf_write.proofs.MadeHeaders.{e_shstrndx-written}
+use Rattle.elf_write.proofs.PiecesWritten.{placed_in_pieces, written_in_pieces}
 use Rattle.elf_write.proofs.SoundFiles.{readable}
 use Rattle.elf_write.proofs.writer.written.Goals as goal
 
@@ -29,15 +31,19 @@ pub is_accepted-requires-clause-names : goal.is_accepted-requires-clause-names
 is_accepted-requires-clause-names c =
     ap e_shstrndx c.deref-3.ensures.value
     ∙ e_shstrndx-written
-    (source_of c.args.elf.now c.args.emitted.now c.args.map.now c.args.tables.now) c.in_ok-tight.tight c.in_ok-file.file.items
-    c.in_ok-file.ensures.made
+    (in_pieces (source_of c.args.elf.now c.args.emitted.now c.args.map.now c.args.tables.now)) c.in_ok-tight.tight
+    c.in_ok-file.file.items c.in_ok-file.ensures.made
 
 pub returns-clause-written : goal.returns-clause-written
-returns-clause-written c =
-    all-written
-    (source_of c.args.elf.now c.args.emitted.now c.args.map.now c.args.tables.now) c.in_ok-tight.tight c.in_ok-file.file.items
-    c.requires.read c.requires.sound c.requires.bytes c.requires.cells c.requires.apart c.in_ok-file.ensures.made
+returns-clause-written c = λ tight placed.
+    let elf = c.args.elf.now in
+    let s : Source = source_of elf c.args.emitted.now c.args.map.now c.args.tables.now in
+    let w = c.in_ok-file.file.items in
+    written_in_pieces s tight w c.requires.cells
+    (all-written (in_pieces s) c.in_ok-tight.tight w c.requires.read c.requires.sound c.requires.bytes
+    (pieces_can elf s.cells c.requires.cells) (pieces_apart elf.segments.items s.cells c.requires.apart) c.in_ok-file.ensures.made
     (subst IsSound c.deref-3.ensures.value (c.in_ok-is_accepted.ensures.sound c.if-not-branch.false)) c.in_ok-tight.ensures
+    tight (placed_in_pieces s tight placed))
 
 pub returns-clause-tables : goal.returns-clause-tables
 returns-clause-tables c = λ tight placed.
@@ -49,14 +55,17 @@ returns-clause-tables c = λ tight placed.
     let spans = c.args.map.now in
     let w = c.in_ok-file.file.items in
     let above = c.in_ok-tight.tight in
-    let s : Source = source_of elf c.args.emitted.now spans tables in
+    let s : Source = in_pieces (source_of elf c.args.emitted.now spans tables) in
+    let can = pieces_can elf c.args.emitted.now.cells.items c.requires.cells in
+    let apart = pieces_apart elf.segments.items c.args.emitted.now.cells.items c.requires.apart in
+    let in_place = placed_in_pieces (source_of elf c.args.emitted.now spans tables) tight placed in
     let made = c.in_ok-file.ensures in
     let sound_w : IsSound w = subst IsSound c.deref-3.ensures.value (c.in_ok-is_accepted.ensures.sound c.if-not-branch.false) in
-    let there : above ≡ tight = placed-there s above w c.requires.read c.requires.sound c.requires.bytes c.requires.cells
-    c.requires.apart made.made sound_w c.in_ok-tight.ensures tight placed in
+    let there : above ≡ tight = placed-there s above w c.requires.read c.requires.sound c.requires.bytes can apart made.made
+    sound_w c.in_ok-tight.ensures tight in_place in
     let stands =
-    area-written s above w c.requires.read c.requires.sound made.made (subst (λ (t : Bool). HasPlace s t) (sym there) placed)
-    (λ i cell below. wide (get_or s.cells i cell).1 (c.requires.cells i cell below).width) tables made.has_tables in
+    area-written s above w c.requires.read c.requires.sound made.made (subst (λ (t : Bool). HasPlace s t) (sym there) in_place)
+    (λ i cell below. (can i cell below).some) tables made.has_tables in
     let found = c.in_ok-is_accepted.ensures.tables c.if-not-branch.false in
     subst (λ (t : Bool). HasNewTables elf tables code funcs cold spans t w) there
     (subst (λ (f : List ℕ). AreaStands (area_for elf tables code above) tables code f →

@@ -3,7 +3,7 @@ use Rattle.std.proofs.lemmas.List.{get_or_default}
 use Rattle.elf_parts.specs.declared.number_at.NumberAt.{NumberAt}
 use Rattle.elf_write.specs.CellNumbers.{AreCellNumbers, IsCellNumber}
 use Rattle.elf_write.proofs.CellLists.{AreCellNumbers-more}
-use Rattle.elf_write.proofs.cell_numbers.cell_numbers.Goals as goal
+use Rattle.elf_write.proofs.cell_numbers.numbers_of.Goals as goal
 
 pub loop-cell-preserved : goal.loop-cell-preserved
 loop-cell-preserved c =
