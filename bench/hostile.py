@@ -4,11 +4,12 @@
     python3 bench/hostile.py [--tool COMMAND] [--kib KIB] [KIND..]
 
 Each kind is a small file in which few bytes name much: names that are ends of one text, headers of sections over one
-table. A file of about KIB, one of twice and one of four times the size are made in a temporary folder; COMMAND
-(`sudrepka` where it isn't given) rewrites each, or runs it where the kind says so. Each line has the kind, the size, the
-seconds of the processor and the peak memory in MiB of the best of three runs, and by how much both grew since the file of
-half the size. Where a file takes less than 0.05 seconds or 32 MiB, its growth says nothing and is left out. All growth
-has to be below 2.5: the script ends with status 1 where some isn't.
+table, an entry of an unwind table with a row for each instruction. A file of about KIB, one of twice and one of four
+times the size are made in a temporary folder; COMMAND (`sudrepka` where it isn't given) rewrites each, or runs it where
+the kind says so. Each line has the kind, the size, the seconds of the processor and the peak memory in MiB of the best
+of three runs, and by how much both grew since the file of half the size. Where a file takes less than 0.05 seconds or
+32 MiB, its growth says nothing and is left out. All growth has to be below 2.5: the script ends with status 1 where
+some isn't.
 """
 import argparse
 import os
@@ -24,6 +25,7 @@ SHT_PROGBITS, SHT_SYMTAB, SHT_STRTAB, SHT_RELA, STT_FUNC = 1, 2, 3, 4, 0x12
 R_RISCV_64, R_RISCV_BRANCH, R_RISCV_RELAX = 2, 16, 51
 MOST_SECTIONS = 65_000
 RETURN = bytes.fromhex("67800000")  # ret
+NOP = bytes.fromhex("13000000")
 CHOICE = bytes.fromhex("630c0500") + RETURN  # beqz a0, past the ret; ret
 
 
@@ -124,7 +126,7 @@ def cold_names(size, most=1 << 32):
     """Each function has a part that didn't run, which gets a symbol of its own with the name of the function."""
     count = min(size // 2 // 80, most)
     text = long_name(size // 2)
-    code = (CHOICE + 4 * bytes.fromhex("13000000") + RETURN) * count
+    code = (CHOICE + 4 * NOP + RETURN) * count
     file = File(code)
     each = len(code) // count
     starts = [1 + k * (len(text) // count) for k in range(count)]
@@ -196,6 +198,42 @@ def few_text_headers(size):
     return headers_over(size, SHT_PROGBITS, bytes(size // 2), 0, most=15)
 
 
+def frame_entry(fields):
+    """An entry of `.debug_frame`: its length, and its fields filled to 4 bytes by DW_CFA_nop."""
+    fields += bytes(-len(fields) % 4)
+    return struct.pack("<I", len(fields)) + fields
+
+
+def frame_rows(count):
+    """A row for each instruction, which differs from the one before it in the offset of the frame's address:
+    DW_CFA_advance_loc by one unit of code, and DW_CFA_def_cfa_offset."""
+    return b"".join(bytes([0x41, 0x0E, k % 100]) for k in range(1, count))
+
+
+def framed_functions(size, length, in_one):
+    """Functions of so many instructions, with a row for each in `.debug_frame`: one entry for all, or one for each."""
+    count = size // (24 + 4 * length + (3 * length if in_one else 24 + 3 * length))
+    file = File(((length - 1) * NOP + RETURN) * count, b"\0.debug_frame\0")
+    starts = [BASE + TEXT + 4 * length * k for k in range(count)]
+    file.add_symbols([(0, start, 4 * length) for start in starts], b"\0")
+    # version 4, no augmentation, addresses of 8 bytes; code in units of 4 bytes, data of -8; register 1
+    head = struct.pack("<I", 0xFFFFFFFF) + bytes.fromhex("04000800047801")
+    table = [frame_entry(head + bytes.fromhex("0c0200"))]  # DW_CFA_def_cfa 2, 0
+    rows = length * count if in_one else length
+    for start in starts[:1] if in_one else starts:
+        table.append(frame_entry(struct.pack("<IQQ", 0, start, 4 * rows) + frame_rows(rows)))
+    file.add(SHT_PROGBITS, b"".join(table), name=1)
+    return file.bytes(), b""
+
+
+def long_frame_entry(size):
+    return framed_functions(size, 16, True)
+
+
+def frame_entries(size):
+    return framed_functions(size, 4, False)
+
+
 KINDS = {
     "symbol-names": symbol_names,
     "like-names": like_names,
@@ -209,6 +247,8 @@ KINDS = {
     "symbol-headers": symbol_headers,
     "text-headers": text_headers,
     "few-text-headers": few_text_headers,
+    "long-frame-entry": long_frame_entry,
+    "frame-entries": frame_entries,
 }
 
 

@@ -66,7 +66,7 @@ fn entries_need(
     Ok(need)
 }
 
-// The same with the starts of blocks and the bounds of entries, ascending.
+// The bytes that the frames may need, by the starts of blocks and the bounds of entries, ascending.
 fn sum_of_needs(
     funcs: &[Func],
     blocks: &[Block],

@@ -3,7 +3,6 @@ use Rattle.std.proofs.Common.{◌≡◌, ◌∙◌, ap, sym, subst, ℕ, All, Li
 use Rattle.rb_bytes.specs.FirstFault.{IsFree, IsRefusalBy}
 use Rattle.rb_bytes.specs.declared.fault.Refusal.{Refusal}
 use Rattle.rb_bytes.specs.declared.fault.Refusal.TheVariants as refusal
-use Rattle.rv_code.specs.declared.cell.CodeCell.{CodeCell}
 use Rattle.rv_code.specs.declared.layout.Chains.{Chains}
 use Rattle.rv_code.specs.declared.placed.Block.{Block}
 use Rattle.rv_code.specs.declared.placed.Func.{Func}
@@ -25,11 +24,12 @@ use Rattle.program.specs.Program.{IsProgramOf, Program, program_of, program_seen
 use Rattle.program.specs.Refusals.{IsRefusalFor, IsUnreadable}
 use Rattle.program.specs.Room.{new_start, no_program_room}
 use Rattle.program.specs.declared.program.Program.{Program as ReadProgram}
-use Rattle.program.specs.declared.unbuilt.Unbuilt.TheVariants.{Tables}
+use Rattle.program.specs.declared.unbuilt.Unbuilt.TheVariants.{Debug}
 use Rattle.program.proofs.Programs.{laid_out}
 use Rattle.bolt_core.specs.Limits.{IsTooLarge}
 use Rattle.bolt_core.specs.ProfileOrder.{ArePartsBy, ArePartsOf, cold_starts, counts_of}
-use Rattle.bolt_core.specs.Refusals.{CanStand, Fit, IsInput, IsRefusal, misplaced, no_place, too_large, unreadable}
+use Rattle.bolt_core.specs.TableFaults.{HasTableFault}
+use Rattle.bolt_core.specs.Refusals.{CanStand, Fit, IsInput, IsRefusal, misplaced, no_place, not_carried, too_large, unreadable}
 
 -- a program with its functions and blocks as slices
 pub same_program : (p : ReadProgram) {funcs : List Func} {blocks : List Block} → funcs ≡ p.funcs.items →
@@ -37,10 +37,10 @@ pub same_program : (p : ReadProgram) {funcs : List Func} {blocks : List Block} �
 same_program p same_funcs same_blocks = λ i. program_of p.elf (sym same_funcs i) p.refs (sym same_blocks i)
 
 pub input_of : {file profile : List ℕ} {funcs : List Func} {blocks : List Block} (p : ReadProgram) → funcs ≡ p.funcs.items →
-    blocks ≡ p.blocks.items → IsProgramOf Tables file (program_seen p) → Fit file profile →
+    blocks ≡ p.blocks.items → IsProgramOf Debug file (program_seen p) → Fit file profile →
     IsInput file profile (program_of p.elf funcs p.refs blocks)
 input_of {file = file} p same_funcs same_blocks is fit = record {
-  program = subst (IsProgramOf Tables file) (same_program p same_funcs same_blocks) is;
+  program = subst (IsProgramOf Debug file) (same_program p same_funcs same_blocks) is;
   profile_fits = fit.profile_fits;
 }
 
@@ -50,10 +50,10 @@ pub start_by : {funcs : List Func} {blocks : List Block} (p : ReadProgram) → f
 start_by p same_funcs same_blocks start is = is ∙ ap (λ (x : Program). new_start x) (same_program p same_funcs same_blocks)
 
 pub stands_by : {funcs : List Func} {blocks : List Block} (p : ReadProgram) → funcs ≡ p.funcs.items →
-    blocks ≡ p.blocks.items → IsFree (HasPlacementFault funcs blocks) → no_program_room (program_seen p) ≡ None →
-    CanStand (program_of p.elf funcs p.refs blocks)
-stands_by p same_funcs same_blocks free room = record {
-  no_fault = free;
+    blocks ≡ p.blocks.items → IsFree (HasPlacementFault funcs blocks) → IsFree (HasTableFault p.elf) →
+    no_program_room (program_seen p) ≡ None → CanStand (program_of p.elf funcs p.refs blocks)
+stands_by p same_funcs same_blocks placed carried room = record {
+  moves = record { placed = placed; carried = carried };
   room = subst (λ (x : Program). no_program_room x ≡ None) (same_program p same_funcs same_blocks) room;
 }
 
@@ -64,26 +64,26 @@ no_room_by p same_funcs same_blocks r is =
     subst (λ (x : Program). IsRefusalFor (λ fault. no_program_room x ≡ Some fault) r) (same_program p same_funcs same_blocks) is
 
 -- what is read of a file keeps the file
-pub read_again : {file : List ℕ} {x : Program} → IsProgramOf Tables file x → IsElfOf x.elf.file.now x.elf
+pub read_again : {file : List ℕ} {x : Program} → IsProgramOf Debug file x → IsElfOf x.elf.file.now x.elf
 read_again {x = x} is =
     let read = (is.faultless).read in
     subst (λ (f : List ℕ). IsElfOf f x.elf) (sym read.file_is) read
 
-pub readable_again : {file : List ℕ} {x : Program} → IsProgramOf Tables file x → IsReadable x.elf.file.now
+pub readable_again : {file : List ℕ} {x : Program} → IsProgramOf Debug file x → IsReadable x.elf.file.now
 readable_again {file} {x} is =
     let plain = (is.faultless).plain in
     let readable : IsReadable file =
     lowest-readable file None (IsLowest-none (λ place truncated. plain.sound Truncated place truncated)) in
     subst IsReadable (sym (is.faultless).read.file_is) readable
 
-pub unreadable_refusal : (file profile : List ℕ) → Fit file profile → (r : Refusal) → IsRefusalFor (IsUnreadable Tables file) r →
+pub unreadable_refusal : (file profile : List ℕ) → Fit file profile → (r : Refusal) → IsRefusalFor (IsUnreadable Debug file) r →
     IsRefusal file profile r
 unreadable_refusal file profile fit (refusal.Fault fault) is = unreadable fit is
 unreadable_refusal file profile fit refusal.Memory is = tt
 
 module _ {file profile : List ℕ} {x : Program} (is : IsInput file profile x) where
   pub laid_program : AreLaidOut x.code.funcs
-  laid_program = laid_out Tables file x.elf (is.program).faultless x.code.funcs ((is.program).code_is).funcs
+  laid_program = laid_out Debug file x.elf (is.program).faultless x.code.funcs ((is.program).code_is).funcs
 
   pub apart_blocks : AreBlocksApart x.blocks
   apart_blocks = AreApart-blocks x.code x.blocks (is.program).blocks_are
@@ -98,10 +98,15 @@ module _ {file profile : List ℕ} {x : Program} (is : IsInput file profile x) w
   misplaced_refusal (refusal.Fault fault) has = misplaced x is has
   misplaced_refusal refusal.Memory has = tt
 
-  pub no_place_refusal : IsFree (HasPlacementFault x.code.funcs x.blocks) → (r : Refusal) →
+  pub not_carried_refusal : IsFree (HasPlacementFault x.code.funcs x.blocks) → (r : Refusal) →
+      IsRefusalBy (HasTableFault x.elf) r → IsRefusal file profile r
+  not_carried_refusal placed (refusal.Fault fault) has = not_carried x is placed has
+  not_carried_refusal placed refusal.Memory has = tt
+
+  pub no_place_refusal : IsFree (HasPlacementFault x.code.funcs x.blocks) → IsFree (HasTableFault x.elf) → (r : Refusal) →
       IsRefusalFor (λ fault. no_program_room x ≡ Some fault) r → IsRefusal file profile r
-  no_place_refusal free (refusal.Fault fault) none = no_place x is free none
-  no_place_refusal free refusal.Memory none = tt
+  no_place_refusal placed carried (refusal.Fault fault) none = no_place x is (record { placed = placed; carried = carried }) none
+  no_place_refusal placed carried refusal.Memory none = tt
 
   pub too_large_refusal : CanStand x → (pairs : List Counted) (parts : Chains) → ArePartsBy x profile pairs parts →
       (cold : List ℕ) → cold ≡ cold_starts x.code.funcs x.blocks parts → (r : Refusal) →

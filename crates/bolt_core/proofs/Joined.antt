@@ -1,5 +1,5 @@
 -- A written file with the new code is a faithful rewrite of its input.
-use Rattle.std.proofs.Common.{◌≡◌, ◌∙◌, refl, sym, ap, subst, ℕ, ◌%◌, ◌^◌, Bool, List, [], ◌∷◌, Option, Some, None, map}
+use Rattle.std.proofs.Common.{◌≡◌, ◌∙◌, refl, sym, ap, subst, ℕ, ◌%◌, ◌^◌, Bool, List, [], ◌∷◌, Option, Some, map}
 use Rattle.std.specs.Prelude.{◌||◌, All, Contains, IsFalse, unwrap_or}
 use Rattle.std.specs.List.{list_any}
 use Rattle.std.proofs.lemmas.List.Elements.{All-contains}
@@ -30,15 +30,15 @@ same_ranges : (new : ℕ → ℕ) (a : ℕ) (cells : List CodeCell) →
 same_ranges new a [] = refl
 same_ranges new a (c ∷ cs) = ap (λ (b : Bool). is_in_range a (code_cell_range c) || b) (same_ranges new a cs)
 
-module _ (elf : Elf) (code : ProgramCode) (tight : Bool) (spans : List Span) (bytes w : List ℕ) where
+module _ (elf : Elf) (code : ProgramCode) (tight : Bool) (spans : List Span) (frames index : Option ℕ) (bytes w : List ℕ) where
   abbrev pub source : Source
   source = record {
     elf = elf;
     code = bytes;
     cells = map (new_cell (new spans)) code.cells;
     spans = spans;
-    frames = None;
-    index = None;
+    frames = frames;
+    index = index;
   }
 
   abbrev pub rewrite : Rewrite

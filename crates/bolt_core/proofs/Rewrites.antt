@@ -1,10 +1,9 @@
 -- A written file is a rewrite of its input, and keeps its runs.
-use Rattle.std.proofs.Common.{◌≡◌, ◌∙◌, refl, sym, subst, ap, ℕ, ◌+◌, ◌%◌, ◌<◌, ◌≤◌, ◌⊎◌, Bool, List, [], ◌∷◌, arith, cond, get_or, length, map, Fits, w8}
-use Rattle.std.specs.Prelude.{All, AllPairs, count_by, nat_lt, sum_by}
+use Rattle.std.proofs.Common.{◌≡◌, ◌∙◌, refl, sym, subst, ap, ℕ, ◌+◌, ◌*◌, ◌%◌, ◌<◌, ◌≤◌, Bool, List, [], ◌∷◌, cond, get_or, length, map, Fits, w8}
+use Rattle.std.specs.Prelude.{All, AllPairs, IsTrue, codes, count_by, nat_lt, sum_by}
 use Rattle.std.specs.List.{fold}
 use Rattle.std.proofs.Math.Facts.{Fits-lt-pow}
 use Rattle.std.proofs.lemmas.List.{get_or_default}
-use Rattle.std.specs.declared.alloc.Global.{Global}
 use Rattle.rv_code.specs.declared.layout.Chains.{Chains}
 use Rattle.rv_code.specs.declared.layout.Emitted.{Emitted}
 use Rattle.rv_code.specs.declared.placed.Block.{Block}
@@ -24,23 +23,40 @@ use Rattle.move_law.specs.Laws.{KeepsCode}
 use Rattle.move_law.proofs.Law.{simulation_law}
 use Rattle.branch_fixup.specs.Inputs.{AreNear}
 use Rattle.func_place.specs.Nearness.{AreTiedNear}
-use Rattle.elf_write.specs.NewTables.{HasNewTables}
-use Rattle.elf_write.specs.Source.{HasPlace}
+use Rattle.elf_write.specs.NewTables.{HasNewTables, area_for}
+use Rattle.elf_write.specs.Source.{HasPlace, source_of}
+use Rattle.elf_write.specs.TablePlaces.{TablesStand}
+use Rattle.elf_write.specs.TableSizes.{table_size}
+use Rattle.area_room.specs.Need.{code_need}
+use Rattle.table_core.specs.AnswerRuns.{AreRunsOf, carried}
+use Rattle.table_core.specs.declared.run.Run.{Run}
+use Rattle.cfi_rows.specs.FrameNeed.{frame_need}
+use Rattle.cfi_rows.specs.ReadFrames.{read_as}
+use Rattle.frame_rewrite.specs.FrameAnswers.{FrameAnswer}
+use Rattle.frame_rewrite.specs.Tables.{EhAllows, eh_says, run_size}
+use Rattle.rv_code.specs.layout.BlockOrders.{HasAllBlocks}
 use Rattle.elf_write.specs.WrittenFile.{AreApart, CanHold, IsWritten}
 use Rattle.program.specs.Program.{Program, program_of}
 use Rattle.program.specs.Room.{is_tight_program, new_start}
+use Rattle.bolt_core.specs.CarriedFrames.{CarriesFrames}
+use Rattle.bolt_core.specs.GivenTables.{ReadTable}
+use Rattle.bolt_core.specs.declared.tables.Tables.{Tables}
+use Rattle.bolt_core.specs.internal.CarriedTables.{AreNewTables, ComeFrom, EhRunsFit, HasRoomBehind}
 use Rattle.bolt_core.specs.Limits.{IsTooLarge}
 use Rattle.bolt_core.specs.ProfileOrder.{IsProfileOrder, cold_starts, hot_count}
 use Rattle.bolt_core.specs.Refusals.{CanStand, IsInput}
 use Rattle.bolt_core.specs.RewriteCounts.{RewriteCounts}
-use Rattle.bolt_core.specs.RewrittenFile.{IsRewritten, KeepsRuns, KeepsRunsSoFar, counts_of_rewrite, rewrite_of}
+use Rattle.bolt_core.specs.RewrittenFile.{IsRewritten, KeepsRuns, KeepsRunsSoFar, rewrite_of}
 use Rattle.bolt_core.specs.internal.MovedCode.{IsMovedCode}
 use Rattle.bolt_core.proofs.CellFields.{all_apart, all_hold}
 use Rattle.bolt_core.proofs.Near.{near_blocks}
 use Rattle.bolt_core.proofs.NewArea.{start_even}
 use Rattle.bolt_core.proofs.SoundCode.{IsSoundCode, accepted, laid, of_input}
 use Rattle.bolt_core.proofs.WrittenOutput.{bytes_are, code_there, follows_segments, is_faithful, is_laid_out, is_sound}
-use Rattle.bolt_core.proofs.WrittenOutput.{keeps_front, place, placed, source_of}
+use Rattle.bolt_core.proofs.WrittenOutput.{keeps_front, place, placed}
+use Rattle.bolt_core.proofs.TableNeeds.{allows, code_low, fits, frame_room, low_spans, room_behind}
+use Rattle.bolt_core.proofs.TableRoom.{SizesFit}
+use Rattle.bolt_core.proofs.TablesCarried.{are_given, carries_frames, sizes_fit}
 
 module _ {file profile : List ℕ} {x : Program} (input : IsInput file profile x) (bytes : All (λ b. b < 256) file)
     (w : List ℕ) (written : All (λ b. b < 256) w) (sound : IsSound w) (spans : List Span)
@@ -131,19 +147,83 @@ module _ {file profile : List ℕ} (elf : Elf) (funcs : List Func) (refs : Refs)
           subst (λ (cs : List (ℕ × ℕ × ℕ)). AllPairs AreApart cs) (sym made.cells_are)
           (all_apart elf x.code (accepted elf x.code sound_code) (new spans))
 
-      module _ (cold w : List ℕ) (w_bytes : All (λ b. b < 256) w)
-          (written : (t : Bool) → HasPlace (source_of elf emitted spans) t → IsWritten (source_of elf emitted spans) t w)
-          (tables : (t : Bool) → HasPlace (source_of elf emitted spans) t →
-          HasNewTables {Y = Global} {Z = Global} elf [] emitted.code.items funcs cold spans t w)
+      -- The tables that are carried.
+
+      module _ (order_all : HasAllBlocks blocks order) (t : Tables) (comes : ComeFrom t elf) where
+        all_low : start + (code_need funcs blocks + frame_need elf funcs blocks) ≤ address_end
+        all_low =
+            subst (λ (s : ℕ). s + (code_need funcs blocks + frame_need elf funcs blocks) ≤ address_end) (sym start_is)
+            (place elf funcs refs blocks sound_code (input.program).blocks_are stands).all.low
+
+        pub allowed : EhAllows t.eh spans
+        allowed =
+            allows elf x.code blocks (laid elf x.code sound_code) (input.program).blocks_are order order_all start spans emitted made
+            t.eh comes.eh (sound_code.code_is).funcs
+            (low_spans elf x.code blocks (laid elf x.code sound_code) (input.program).blocks_are order order_all start spans emitted
+            made t.eh comes.eh all_low)
+
+        pub eh_fits : EhRunsFit t.eh spans
+        eh_fits =
+            fits elf x.code blocks (laid elf x.code sound_code) (input.program).blocks_are order order_all start spans emitted made
+            t.eh comes.eh all_low
+
+        pub behind : HasRoomBehind t.eh spans (start + length emitted.code.items)
+        behind =
+            room_behind elf x.code blocks (laid elf x.code sound_code) (input.program).blocks_are order order_all start spans emitted
+            made t.eh comes.eh all_low
+
+        pub low : start + length emitted.code.items ≤ address_end
+        low =
+            code_low elf x.code blocks (laid elf x.code sound_code) (input.program).blocks_are order order_all start spans emitted
+            made t.eh comes.eh all_low
+
+        pub room_for : IsTrue t.eh.has_section → (runs : List (Run FrameAnswer)) → AreRunsOf (carried (eh_says t.eh) spans) runs →
+            64 + 64 * (read_as t.eh.frames).cies + sum_by (λ r. run_size r.answer) runs ≤ frame_need elf funcs blocks
+        room_for =
+            frame_room elf x.code blocks (laid elf x.code sound_code) (input.program).blocks_are order order_all start spans emitted
+            made t.eh comes.eh
+
+      module _ (given : List ReadTable) (t : Tables) (comes : ComeFrom t elf) (order_all : HasAllBlocks blocks order)
+          (new : AreNewTables elf t spans start (length emitted.code.items) given)
+          (cold w : List ℕ) (w_bytes : All (λ b. b < 256) w)
+          (written : (t : Bool) → HasPlace (source_of elf emitted spans given) t → IsWritten (source_of elf emitted spans given) t w)
+          (tables : (t : Bool) → HasPlace (source_of elf emitted spans given) t →
+          HasNewTables elf given emitted.code.items funcs cold spans t w)
+          (stand : (t : Bool) → (T : HasNewTables elf given emitted.code.items funcs cold spans t w) →
+          TablesStand elf T.new given (area_for elf given emitted.code.items t))
           (pairs : List Counted) (parts : Chains) (ordered : IsProfileOrder x profile pairs parts order)
           (cold_is : cold ≡ cold_starts funcs blocks parts)
           (fits : (place : ℕ) → IsTooLarge elf funcs cold place → ⊥) where
+        sizes : SizesFit (table_size given (codes ".eh_frame")) (table_size given (codes ".eh_frame_hdr"))
+            (frame_need elf funcs blocks)
+        sizes =
+            sizes_fit elf t comes spans start emitted.code.items given new (frame_need elf funcs blocks) (room_for order_all t comes)
+
         sound : IsSound w
-        sound = is_sound elf funcs refs blocks sound_code (input.program).blocks_are stands order spans emitted moved w written
+        sound =
+            is_sound elf funcs refs blocks sound_code (input.program).blocks_are stands order spans emitted moved given sizes w written
 
         faithful : IsFaithful (rewrite_of x w spans)
         faithful =
-            is_faithful elf funcs refs blocks sound_code (input.program).blocks_are stands order spans emitted moved w written
+            is_faithful elf funcs refs blocks sound_code (input.program).blocks_are stands order spans emitted moved given sizes w
+            written
+
+        -- what is read of the file has the tables, which answer as the input's did
+        abbrev Answers : List ℕ → Type 0
+        Answers names = (T : HasNewTables elf given emitted.code.items funcs names spans (is_tight_program x) w)
+            × CarriesFrames spans elf T.new
+
+        answers : Answers cold
+        answers =
+            let T = tables (is_tight_program x)
+            (placed elf funcs refs blocks sound_code (input.program).blocks_are stands order spans emitted moved given sizes) in (
+              T,
+              carries_frames elf t comes spans start emitted.code.items given new T.new (is_tight_program x) start_is
+                  (stand (is_tight_program x) T),
+            )
+
+        named_answers : Answers (cold_starts funcs blocks parts)
+        named_answers = subst Answers cold_is answers
 
         pub rewritten : (instructions size hot ignored : ℕ) → instructions ≡ length (insts_of funcs) →
             size ≡ length emitted.code.items → hot ≡ hot_count x pairs → ignored ≡ ignored_in profile elf funcs →
@@ -169,21 +249,24 @@ module _ {file profile : List ℕ} (elf : Elf) (funcs : List Func) (refs : Refs)
           ordered = ordered;
           code = emitted.code.items;
           laid_out =
-              is_laid_out elf funcs refs blocks sound_code (input.program).blocks_are stands order spans emitted moved;
+              is_laid_out elf funcs refs blocks sound_code (input.program).blocks_are stands order spans emitted moved
+              given sizes;
           stretch = moved.stretch;
           code_stands =
-              code_there elf funcs refs blocks sound_code (input.program).blocks_are stands order spans emitted moved w written;
-          tables =
-              subst (λ (c : List ℕ). HasNewTables {Y = Global} {Z = Global} elf [] emitted.code.items funcs c spans
-              (is_tight_program x) w) cold_is
-              (tables (is_tight_program x)
-              (placed elf funcs refs blocks sound_code (input.program).blocks_are stands order spans emitted moved));
-          headers =
-              follows_segments elf funcs refs blocks sound_code (input.program).blocks_are stands order spans emitted moved w
+              code_there elf funcs refs blocks sound_code (input.program).blocks_are stands order spans emitted moved given sizes w
               written;
+          given = given;
+          are_given = are_given elf t comes spans start emitted.code.items given new;
+          tables = named_answers.0;
+          headers =
+              follows_segments elf funcs refs blocks sound_code (input.program).blocks_are stands order spans emitted moved given
+              sizes w written;
+          frames = named_answers.1;
           front =
-              keeps_front elf funcs refs blocks sound_code (input.program).blocks_are stands order spans emitted moved w written;
+              keeps_front elf funcs refs blocks sound_code (input.program).blocks_are stands order spans emitted moved given sizes w
+              written;
           counted = counted (length funcs) instructions size hot ignored _ _ _ _ instructions_are
-              (size_is ∙ bytes_are elf funcs refs blocks sound_code (input.program).blocks_are stands order spans emitted moved)
+              (size_is ∙ bytes_are elf funcs refs blocks sound_code (input.program).blocks_are stands order spans emitted moved
+              given sizes)
               hot_is ignored_is;
         }

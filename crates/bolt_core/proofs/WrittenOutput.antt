@@ -1,6 +1,6 @@
 -- What was written of a program is a faithful rewrite of it.
-use Rattle.std.proofs.Common.{◌≡◌, subst, ℕ, ◌+◌, ◌-◌, ◌≤◌, Bool, List, None, length, arith}
-use Rattle.std.specs.Prelude.{sum_by}
+use Rattle.std.proofs.Common.{◌≡◌, subst, ℕ, ◌≤◌, Bool, List, length, arith}
+use Rattle.std.specs.Prelude.{codes, sum_by}
 use Rattle.rv_code.specs.declared.layout.Emitted.{Emitted}
 use Rattle.rv_code.specs.declared.placed.Block.{Block}
 use Rattle.rv_code.specs.declared.placed.Func.{Func}
@@ -17,8 +17,12 @@ use Rattle.branch_fixup.specs.Strips.{pieces_of, strips_of}
 use Rattle.code_emit.proofs.SpanBytes.{span_bytes}
 use Rattle.elf_write.specs.CarriedBytes.{HoldsBytes}
 use Rattle.elf_write.specs.FrontBytes.{KeepsFront}
-use Rattle.elf_write.specs.Source.{HasPlace, Source}
+use Rattle.elf_write.specs.Source.{HasPlace, Source, source_of}
+use Rattle.elf_write.specs.TableSizes.{table_size}
 use Rattle.elf_write.specs.WrittenFile.{IsWritten}
+use Rattle.cfi_rows.specs.FrameNeed.{frame_need}
+use Rattle.area_room.specs.Need.{code_need}
+use Rattle.bolt_core.specs.GivenTables.{ReadTable}
 use Rattle.bolt_core.specs.Refusals.{CanStand}
 use Rattle.program.specs.Program.{program_of}
 use Rattle.program.specs.Room.{is_tight_program, new_start}
@@ -29,17 +33,7 @@ use Rattle.bolt_core.proofs.Maps.{bytes_in_order, some_code}
 use Rattle.bolt_core.proofs.NewArea.{HasRoom, has_room}
 use Rattle.bolt_core.proofs.SomeCode.{entry_named, some_need}
 use Rattle.bolt_core.proofs.SoundCode.{IsSoundCode, accepted, laid}
-
--- new code and cells, and no tables
-abbrev pub source_of : Elf → Emitted → List Span → Source
-source_of elf emitted spans = record {
-  elf = elf;
-  code = emitted.code.items;
-  cells = emitted.cells.items;
-  spans = spans;
-  frames = None;
-  index = None;
-}
+use Rattle.bolt_core.proofs.TableRoom.{SizesFit, area_fits}
 
 module _ (elf : Elf) (funcs : List Func) (refs : Refs) (blocks : List Block) (is : IsSoundCode elf (code_of funcs refs elf.entry))
     (are : AreBlocks (code_of funcs refs elf.entry) blocks) (stands : CanStand (program_of elf funcs refs blocks)) where
@@ -55,38 +49,48 @@ module _ (elf : Elf) (funcs : List Func) (refs : Refs) (blocks : List Block) (is
   pub place : HasRoom elf funcs blocks
   place = has_room elf funcs blocks (some_need elf code (accepted elf code is) (laid elf code is) blocks are) stands.room
 
-  fits : (n at most have : ℕ) → n ≤ most → most ≤ have → at + n - at ≤ have
-  fits n at most have short within = omega (arith, short, within)
-
   module _ (order : List ℕ) (spans : List Span) (emitted : Emitted)
-      (moved : IsMovedCode funcs refs.cells.items blocks order start spans emitted) where
-    pub placed : HasPlace (source_of elf emitted spans) tight
+      (moved : IsMovedCode funcs refs.cells.items blocks order start spans emitted) (given : List ReadTable)
+      (sizes : SizesFit (table_size given (codes ".eh_frame")) (table_size given (codes ".eh_frame_hdr"))
+      (frame_need elf funcs blocks)) where
+    upto : (n most have : ℕ) → n ≤ most → most ≤ have → n ≤ have
+    upto n most have short within = omega (arith, short, within)
+
+    pub placed : HasPlace (source_of elf emitted spans given) tight
     placed = record {
       some =
           some_code spans start (length emitted.code.items) elf.entry moved.stretch
           ((moved.is_map refs.roles.items refs.cells.items elf.entry are).named elf.entry
           (entry_named elf code (accepted elf code is)));
       stretch = moved.stretch;
-      fits = fits (length emitted.code.items) start _ _ moved.fits place.within;
+      fits =
+          upto _ _ _
+          (area_fits elf.segments.items tight (length emitted.code.items) (code_need funcs blocks) (frame_need elf funcs blocks)
+          (table_size given (codes ".eh_frame")) (table_size given (codes ".eh_frame_hdr")) moved.fits sizes)
+          place.all.within;
     }
 
-    module _ (w : List ℕ) (given : (t : Bool) → HasPlace (source_of elf emitted spans) t → IsWritten
-        (source_of elf emitted spans) t w) where
-      written : IsWritten (source elf code tight spans emitted.code.items w) tight w
+    module _ (w : List ℕ) (does : (t : Bool) → HasPlace (source_of elf emitted spans given) t →
+        IsWritten (source_of elf emitted spans given) t w) where
+      abbrev sources : List ℕ → Source
+      sources bytes =
+          source elf code tight spans (table_size given (codes ".eh_frame")) (table_size given (codes ".eh_frame_hdr")) bytes w
+
+      written : IsWritten (sources emitted.code.items) tight w
       written =
           subst (λ (cs : List (ℕ × ℕ × ℕ)). IsWritten (record {
             elf = elf;
             code = emitted.code.items;
             cells = cs;
             spans = spans;
-            frames = None;
-            index = None;
-          }) tight w) moved.cells_are (given tight placed)
+            frames = table_size given (codes ".eh_frame");
+            index = table_size given (codes ".eh_frame_hdr");
+          }) tight w) moved.cells_are (does tight placed)
 
       pub code_there : HoldsBytes w (segments_of w) start emitted.code.items
       code_there = written.code
 
-      pub follows_segments : FollowsSegments (program_of elf funcs refs blocks) emitted.code.items w
+      pub follows_segments : FollowsSegments (program_of elf funcs refs blocks) given emitted.code.items w
       follows_segments = written.headers
 
       pub keeps_front : KeepsFront elf tight w
@@ -97,8 +101,10 @@ module _ (elf : Elf) (funcs : List Func) (refs : Refs) (blocks : List Block) (is
 
       pub is_faithful : IsFaithful (rewrite_of (program_of elf funcs refs blocks) w spans)
       is_faithful =
-          let there = puts elf code tight spans emitted.code.items w written in
-          faithful elf code tight spans emitted.code.items w written
+          let there = puts elf code tight spans (table_size given (codes ".eh_frame")) (table_size given (codes ".eh_frame_hdr"))
+          emitted.code.items w written in
+          faithful elf code tight spans (table_size given (codes ".eh_frame")) (table_size given (codes ".eh_frame_hdr"))
+          emitted.code.items w written
           (moved.is_map refs.roles.items refs.cells.items elf.entry are)
           (span_bytes (strips_of funcs blocks order) moved.forms start spans moved.mapped funcs emitted.code.items
           moved.length_is

@@ -1,6 +1,9 @@
+pub mod CarriedFrames
+pub mod GivenTables
 pub mod Limits
 pub mod ProfileOrder
 pub mod Refusals
 pub mod RewriteCounts
 pub mod RewrittenFile
+pub mod TableFaults
 pub mod internal

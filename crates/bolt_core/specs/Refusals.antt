@@ -13,9 +13,10 @@ use Rattle.program.specs.Limits.{IsLimitFault, file_limit}
 use Rattle.program.specs.Program.{IsProgramOf, Program}
 use Rattle.program.specs.Refusals.{IsRefusalFor, IsUnreadable}
 use Rattle.program.specs.Room.{no_program_room}
-use Rattle.program.specs.declared.unbuilt.Unbuilt.TheVariants.{Tables}
+use Rattle.program.specs.declared.unbuilt.Unbuilt.TheVariants.{Debug}
 use Rattle.bolt_core.specs.Limits.{IsTooLarge}
 use Rattle.bolt_core.specs.ProfileOrder.{ArePartsBy, cold_starts}
+use Rattle.bolt_core.specs.TableFaults.{HasTableFault}
 
 -- neither the file nor the profile is too long
 pub record Fit (file profile : List ℕ) : Type 0 where
@@ -24,25 +25,32 @@ pub record Fit (file profile : List ℕ) : Type 0 where
 
 -- a file that is read as a program, and a profile that isn't too long
 pub record IsInput (file profile : List ℕ) (x : Program) : Type 0 where
-  pub program : IsProgramOf Tables file x
+  pub program : IsProgramOf Debug file x
   pub profile_fits : length profile ≤ file_limit
 
--- nothing keeps a program's code from being placed, and it has room
+-- nothing keeps a program's code from being placed, and its tables from being carried
+pub record CanMove (x : Program) : Type 0 where
+  pub placed : IsFree (HasPlacementFault x.code.funcs x.blocks)
+  pub carried : IsFree (HasTableFault x.elf)
+
+-- and it has room
 pub record CanStand (x : Program) : Type 0 where
-  pub no_fault : IsFree (HasPlacementFault x.code.funcs x.blocks)
+  pub moves : CanMove x
   pub room : no_program_room x ≡ None
 
 -- Length comes first, of the file and then of the profile; then why the file isn't read as a program; what keeps its code
--- from being placed; want of room; and then the other limits.
+-- from being placed; what keeps its tables from being carried; want of room; and then the other limits.
 pub data IsRefused (file profile : List ℕ) (fault : Fault) : Type 0 where
   long_file : file_limit < length file → fault ≡ fault_at TooLarge 0 → IsRefused file profile fault
   long_profile : length file ≤ file_limit → file_limit < length profile → fault ≡ fault_at TooLarge 1 →
       IsRefused file profile fault
-  unreadable : Fit file profile → IsUnreadable Tables file fault → IsRefused file profile fault
+  unreadable : Fit file profile → IsUnreadable Debug file fault → IsRefused file profile fault
   misplaced : (x : Program) → IsInput file profile x → IsAnswered (HasPlacementFault x.code.funcs x.blocks) fault →
       IsRefused file profile fault
-  no_place : (x : Program) → IsInput file profile x → IsFree (HasPlacementFault x.code.funcs x.blocks) →
-      no_program_room x ≡ Some fault → IsRefused file profile fault
+  not_carried : (x : Program) → IsInput file profile x → IsFree (HasPlacementFault x.code.funcs x.blocks) →
+      IsAnswered (HasTableFault x.elf) fault → IsRefused file profile fault
+  no_place : (x : Program) → IsInput file profile x → CanMove x → no_program_room x ≡ Some fault →
+      IsRefused file profile fault
   too_large : (x : Program) → IsInput file profile x → CanStand x → (pairs : List Counted) (parts : Chains) →
       ArePartsBy x profile pairs parts →
       IsLimitFault (IsTooLarge x.elf x.code.funcs (cold_starts x.code.funcs x.blocks parts)) fault →

@@ -1,6 +1,5 @@
 -- What a rewritten file is to its input and its profile.
-use Rattle.std.specs.Prelude.{◌≡◌, ◌+◌, ◌*◌, ◌≤◌, ℕ, List, [], None, IfSome, length, sum_by}
-use Rattle.std.specs.declared.alloc.Global.{Global}
+use Rattle.std.specs.Prelude.{◌≡◌, ◌+◌, ◌*◌, ◌≤◌, ℕ, List, [], IfSome, length, sum_by}
 use Rattle.rv_code.specs.declared.layout.Chains.{Chains}
 use Rattle.rv_code.specs.declared.layout.Form.{Form}
 use Rattle.rv_code.specs.layout.Flow.{insts_of}
@@ -22,13 +21,15 @@ use Rattle.branch_fixup.specs.Forms.{AreForms}
 use Rattle.branch_fixup.specs.Strips.{pieces_of, spans_of, strips_of}
 use Rattle.code_emit.specs.Bytes.{Adds}
 use Rattle.code_emit.specs.NewInsts.{made_from}
-use Rattle.elf_write.specs.Area.{area_of, shift_of}
+use Rattle.elf_write.specs.Area.{shift_of}
 use Rattle.elf_write.specs.CarriedBytes.{HoldsBytes}
 use Rattle.elf_write.specs.FrontBytes.{KeepsFront}
 use Rattle.elf_write.specs.NewSegments.{AreNewHeaders}
-use Rattle.elf_write.specs.NewTables.{HasNewTables}
+use Rattle.elf_write.specs.NewTables.{HasNewTables, area_for}
 use Rattle.program.specs.Program.{Program}
 use Rattle.program.specs.Room.{is_tight_program, new_start}
+use Rattle.bolt_core.specs.CarriedFrames.{CarriesFrames}
+use Rattle.bolt_core.specs.GivenTables.{AreGivenFor, ReadTable}
 use Rattle.bolt_core.specs.Limits.{IsTooLarge}
 use Rattle.bolt_core.specs.ProfileOrder.{IsProfileOrder, cold_starts, hot_count}
 use Rattle.bolt_core.specs.Refusals.{CanStand, IsInput}
@@ -65,18 +66,17 @@ pub record IsLaidOutBy (x : Program) (order : List ℕ) (spans : List Span) (cod
   pub made : Adds [] code (made_from (new spans) (new_start x) (pieces_of (strips_of x.code.funcs x.blocks order) forms))
 
 -- The sections and symbols of the written file:
--- those that follow from the input and the map, with no table but these.
-abbrev pub FollowsTables : Program → Chains → List ℕ → List Span → List ℕ → Type 0
-FollowsTables x parts code spans written =
-    HasNewTables {Y = Global} {Z = Global} x.elf [] code x.code.funcs (cold_starts x.code.funcs x.blocks parts) spans
-    (is_tight_program x) written
+-- those that follow from the input and the map, with these tables.
+abbrev pub FollowsTables : Program → Chains → List ReadTable → List ℕ → List Span → List ℕ → Type 0
+FollowsTables x parts given code spans written =
+    HasNewTables x.elf given code x.code.funcs (cold_starts x.code.funcs x.blocks parts) spans (is_tight_program x) written
 
 -- The program headers of the written file are those of the input, of which the executable segment's may grow;
 -- and one more where the new code has a segment of its own.
-abbrev pub FollowsSegments : Program → List ℕ → List ℕ → Type 0
-FollowsSegments x code written =
+abbrev pub FollowsSegments : Program → List ReadTable → List ℕ → List ℕ → Type 0
+FollowsSegments x given code written =
     let segments = x.elf.segments.items in
-    let area = area_of segments (is_tight_program x) (length code) None None in
+    let area = area_for x.elf given code (is_tight_program x) in
     let shift = shift_of segments area in
     IfSome (executable_segment segments) (λ e. AreNewHeaders shift.from shift.by area e.0 segments (segments_of written))
 
@@ -113,8 +113,12 @@ pub record IsRewritten (file profile written : List ℕ) (spans : List Span) (co
   -- these are its bytes, and headers, sections and symbols follow the input's and name it
   pub stretch : IsStretch spans (new_start program) (new_start program + length code)
   pub code_stands : HoldsBytes written (segments_of written) (new_start program) code
-  pub tables : FollowsTables program parts code spans written
-  pub headers : FollowsSegments program code written
+  pub given : List ReadTable
+  pub are_given : AreGivenFor program.elf given
+  pub tables : FollowsTables program parts given code spans written
+  pub headers : FollowsSegments program given code written
+  -- at each byte of the new code, unwinding is as it was at the byte's owner
+  pub frames : CarriesFrames spans program.elf tables.new
   -- up to where no byte moves, bytes that no segment loads are as they were, and those of a table that is replaced
   pub front : KeepsFront program.elf (is_tight_program program) written
   pub counted : counts ≡ counts_of_rewrite program profile pairs spans

@@ -1,1 +1,4 @@
+pub mod CarriedTables
+pub mod GivenIndex
 pub mod MovedCode
+pub mod WholeMoves

@@ -1,9 +1,13 @@
 //! The whole rewrite of a file, by a profile.
 #![tactic(auto)]
 
+mod carrying;
 mod cold_parts;
 mod counting;
 mod limits;
+mod reading;
 pub mod rewriting;
+mod table_list;
+pub mod tables;
 
 pub use rewriting::{Rewritten, rewrite};

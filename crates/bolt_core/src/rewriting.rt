@@ -15,9 +15,11 @@ ghost use Rattle.bolt_core.specs.RewriteCounts.{counts_seen};
 ghost use Rattle.bolt_core.specs.RewrittenFile.{IsRewritten};
 ghost use Rattle.bolt_core.specs.internal.MovedCode.{IsMovedCode};
 
+use crate::carrying::new_tables;
 use crate::cold_parts::cold_starts;
 use crate::counting::{count_hot, count_insts};
 use crate::limits::{check_lengths, check_sizes};
+use crate::reading::read_tables;
 use addr_map::AddrMap;
 use edge_profile::Profile;
 use edge_profile::weights::block_weights;
@@ -56,7 +58,7 @@ pub fn rewrite(alloc: Global, file: &[u8], profile: &[u8]) -> Result<Rewritten, 
     ensures refused { IfErr result (IsRefusal file.now profile.now) }
 {
     check_lengths(file, profile)?;
-    let program = program::read_program(alloc, file, Unbuilt::Tables)?;
+    let program = program::read_program(alloc, file, Unbuilt::Debug)?;
     let funcs = program.funcs.as_slice();
     let blocks = program.blocks.as_slice();
     let counts = edge_profile::read(alloc, profile, &program.elf, funcs)?;
@@ -64,11 +66,14 @@ pub fn rewrite(alloc: Global, file: &[u8], profile: &[u8]) -> Result<Rewritten, 
     let weights = block_weights(alloc, funcs, blocks, &counts)?;
     let parts = parts(alloc, funcs, &program.refs, blocks, &counts, &weights)?;
     let plan = func_place::place_by(alloc, funcs, blocks, &parts, pairs, &weights)?;
+    let tables = read_tables(alloc, &program.elf)?;
     let start = program::new_start(alloc, &program)?;
     let cold = cold_starts(alloc, funcs, blocks, &parts)?;
     check_sizes(alloc, &program.elf, funcs, &cold)?;
     let (map, emitted) = moved_code(alloc, funcs, &program.refs, blocks, &plan, start)?;
-    let written = elf_write::write(alloc, &program.elf, funcs, &cold, &emitted, &map, &[])?;
+    let code = emitted.code.len();
+    let given = new_tables(alloc, &program.elf, &tables, &map, start, code)?;
+    let written = elf_write::write(alloc, &program.elf, funcs, &cold, &emitted, &map, &given)?;
     are_bytes(&written);
     let instructions = count_insts(funcs)?;
     Ok(Rewritten {
@@ -76,7 +81,7 @@ pub fn rewrite(alloc: Global, file: &[u8], profile: &[u8]) -> Result<Rewritten, 
         map,
         functions: funcs.len() as u64,
         instructions,
-        bytes: emitted.code.len() as u64,
+        bytes: code as u64,
         hot: count_hot(&weights),
         ignored: counts.ignored(),
     })

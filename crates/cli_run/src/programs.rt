@@ -15,7 +15,7 @@ pub fn runnable_program<'file>(alloc: Global, file: &'file [u8]) -> Result<Progr
     ensures program { IfOk result (λ program. IsRunnableProgram file.now (program_seen program)) }
     ensures fault { IfErr result (IsRefusalFor (CannotRunSymbols file.now)) }
 {
-    let program = read_program(alloc, file, Unbuilt::Frames)?;
+    let program = read_program(alloc, file, Unbuilt::Nothing)?;
     check_code(&program.elf, &program.funcs)?;
     Ok(program)
 }

@@ -1,8 +1,8 @@
 -- What is told of the first entry that holds an address.
-use Rattle.std.proofs.Common.{◌≡◌, ◌∙◌, ℕ, Bool, true, false, cond, List, [], ◌∷◌, map, Option, Some, None, option_map, refl, sym, ap, subst, arith, length, get_or, ◌<◌}
+use Rattle.std.proofs.Common.{◌≡◌, ◌∙◌, ℕ, Bool, true, List, [], ◌∷◌, map, Option, Some, None, option_map, refl, sym, ap, arith, length, get_or, ◌<◌}
 use Rattle.std.proofs.lemmas.Bool.Decides.{nat_tests}
-use Rattle.std.proofs.lemmas.Option.{same_Some, slice_get-map, slice_get-get_or}
-use Rattle.std.specs.Prelude.{nat_lt, IsTrue, IfOk, Result, Ok, Err, slice_get, option_and_then, position}
+use Rattle.std.proofs.lemmas.Option.{none-some, same_Some, slice_get-map, slice_get-get_or}
+use Rattle.std.specs.Prelude.{nat_lt, IfOk, Result, Ok, Err, slice_get, option_and_then, position}
 use Rattle.std.specs.List.{find}
 use Rattle.table_core.specs.declared.range.Range.{Range}
 use Rattle.table_core.specs.AddressRanges.{holds_address}
@@ -16,41 +16,45 @@ use Rattle.cfi_rows.specs.ReadEntries.{fde_of}
 use Rattle.frame_rewrite.specs.FrameAnswers.{FrameAnswer, answer_at, answer_of}
 use Rattle.frame_rewrite.specs.FrameLookups.{told_at, told_by, answer_by}
 
--- what is found passes the test
-passes : {X : Type 0} (test : X → Bool) (xs : List X) (x : X) → find test xs ≡ Some x → test x ≡ true
-passes test [] x e = absurd (cc)
-passes {X} test (y ∷ ys) x e = at (test y) refl (passes test ys x) e where
-  at : (b : Bool) → test y ≡ b → (find test ys ≡ Some x → test x ≡ true) → cond b (Some y) (find test ys) ≡ Some x →
-      test x ≡ true
-  at true t r f = subst (λ (z : X). test z ≡ true) (same_Some _ _ f) t
-  at false t r f = r f
-
 pub told-none : (index : FirstRange) (list : List Fde) (a : ℕ) →
     first_range index a ≡ position (holds_address a) (map range_of list) →
     first_range index a ≡ None → told_at list a ≡ None
 told-none index list a is e =
     ap (option_and_then (told_by a)) (found_first index range_of list a is ∙ ap (option_and_then (slice_get list)) e)
 
-told-some : (list : List Fde) (a : ℕ) (f : Fde) (fde : ReadFde) (row : RowValue) →
-    find (λ f. is_in_range f a) list ≡ Some f → fde_of f ≡ fde →
-    row_at a f.rows None ≡ Some row → Some (fde, row) ≡ told_at list a
-told-some list a f fde row e g r = sym (
-    ap (option_and_then (told_by a)) e ∙ ap (option_map (λ row. (fde_of f, row))) r ∙ ap (λ (x : ReadFde). Some (x, row)) g)
+-- by the row that is found of the entry of an index
+pub told-found : (index : FirstRange) (list : List Fde) (a i : ℕ) → first_range index a ≡ position (holds_address a) (map range_of list)
+    → first_range index a ≡ Some i → told_at list a ≡ option_and_then (told_by a) (slice_get list i)
+told-found index list a i is e =
+    ap (option_and_then (told_by a)) (found_first index range_of list a is ∙ ap (option_and_then (slice_get list)) e)
 
-pub told-row : (index : FirstRange) (list : List Fde) (a i : ℕ) (fde : ReadFde) (row : RowValue) →
+abbrev row_there : ℕ → Option Fde → Option RowValue
+row_there a o = option_and_then (λ f. row_at a f.rows None) o
+
+pub no-row : (index : FirstRange) (list : List Fde) (a i : ℕ) → first_range index a ≡ position (holds_address a) (map range_of list)
+    → first_range index a ≡ Some i → row_there a (slice_get list i) ≡ None → told_at list a ≡ None
+no-row index list a i is e g = told-found index list a i is e ∙ at (slice_get list i) g where
+  at : (o : Option Fde) → row_there a o ≡ None → option_and_then (told_by a) o ≡ None
+  at None h = refl
+  at (Some f) h = ap (option_map (λ row. (fde_of f, row))) h
+
+pub some-row : (index : FirstRange) (list : List Fde) (a i : ℕ) (fde : ReadFde) (row : RowValue) →
     first_range index a ≡ position (holds_address a) (map range_of list) → first_range index a ≡ Some i →
-    slice_get (map fde_of list) i ≡ Some fde →
-    ((f : Fde) → slice_get list i ≡ Some f → IsTrue (is_in_range f a) → row_at a f.rows None ≡ Some row) →
-    Some (fde, row) ≡ told_at list a
-told-row index list a i fde row is e g r = at (slice_get list i) refl where
-  at : (o : Option Fde) → slice_get list i ≡ o → Some (fde, row) ≡ told_at list a
-  at None f = let n : option_map fde_of (slice_get list i) ≡ None = ap (option_map fde_of) f in
-      let m : option_map fde_of (slice_get list i) ≡ Some fde = sym (slice_get-map fde_of list i) ∙ g in absurd (cc)
-  at (Some x) f =
-      let found : find (λ f. is_in_range f a) list ≡ Some x =
-      found_first index range_of list a is ∙ ap (option_and_then (slice_get list)) e ∙ f in
-      let same : fde_of x ≡ fde = same_Some _ _ (sym (ap (option_map fde_of) f) ∙ sym (slice_get-map fde_of list i) ∙ g) in
-      told-some list a x fde row found same (r x f (passes (λ f. is_in_range f a) list x found))
+    slice_get (map fde_of list) i ≡ Some fde → row_there a (slice_get list i) ≡ Some row → Some (fde, row) ≡ told_at list a
+some-row index list a i fde row is e g r =
+    at (slice_get list i) (sym (slice_get-map fde_of list i) ∙ g) r ∙ sym (told-found index list a i is e) where
+      at : (o : Option Fde) → option_map fde_of o ≡ Some fde → row_there a o ≡ Some row → Some (fde, row) ≡ option_and_then (told_by a) o
+      at None h k = absurd (none-some fde h)
+      at (Some f) h k = sym (ap (option_map (λ row. (fde_of f, row))) k ∙ ap (λ (x : ReadFde). Some (x, row)) (same_Some _ _ h))
+
+pub told-alike : (index : FirstRange) (list : List Fde) (a b i : ℕ) → ((a : ℕ) → first_range index a ≡ position (holds_address a) (map range_of list))
+    → first_range index a ≡ Some i → first_range index b ≡ Some i
+    → ((f : Fde) → slice_get list i ≡ Some f → row_at a f.rows None ≡ row_at b f.rows None) → told_at list a ≡ told_at list b
+told-alike index list a b i is e g h =
+    told-found index list a i (is a) e ∙ at (slice_get list i) refl ∙ sym (told-found index list b i (is b) g) where
+      at : (o : Option Fde) → slice_get list i ≡ o → option_and_then (told_by a) o ≡ option_and_then (told_by b) o
+      at None k = refl
+      at (Some f) k = ap (option_map (λ row. (fde_of f, row))) (h f k)
 
 -- the answer made of it
 abbrev answer_of_told : (ReadFde → Bool) → ReadFde × RowValue → FrameAnswer
@@ -69,6 +73,12 @@ answered is_marked mark list a same = by-entry (find (λ f. is_in_range f a) lis
       option_map (answer_of_told mark) (option_and_then (told_by a) o) ≡ option_and_then (λ f. answer_of is_marked f a) o
   by-entry None = refl
   by-entry (Some f) = by-row f (row_at a f.rows None)
+
+-- where the same is told, the same is answered
+pub answered-alike : (is_marked : Fde → Bool) (mark : ReadFde → Bool) (list : List Fde) (a b : ℕ)
+    → ((f : Fde) → mark (fde_of f) ≡ is_marked f) → told_at list a ≡ told_at list b → answer_at is_marked list a ≡ answer_at is_marked list b
+answered-alike is_marked mark list a b same e =
+    sym (answered is_marked mark list a same) ∙ ap (option_map (answer_of_told mark)) e ∙ answered is_marked mark list b same
 
 -- as it is answered where an entry is told
 pub told-answer : (is_marked : Fde → Bool) (mark : ReadFde →

@@ -8,7 +8,7 @@ ghost use Rattle.cfi_rows.specs.Frames.{debug_frames};
 
 use crate::answer::FrameAt;
 use crate::debug::DebugFrames;
-use crate::lookup::{index_of, tell};
+use crate::lookup::{alike, index_of, tell};
 use crate::same::same_answer;
 use crate::write_runs::write_debug;
 use addr_map::AddrMap;
@@ -60,8 +60,8 @@ impl ByAddress for DebugFrames {
         }
     }
 
-    fn alike(&self, _a: u64, _b: u64) -> bool {
-        false
+    fn alike(&self, a: u64, b: u64) -> bool {
+        alike(&self.frames, &self.index, a, b)
     }
 }
 

@@ -8,7 +8,7 @@ ghost use Rattle.cfi_rows.specs.Frames.{eh_frames};
 
 use crate::answer::FrameAt;
 use crate::eh::EhFrames;
-use crate::lookup::{index_of, tell};
+use crate::lookup::{alike, index_of, tell};
 use crate::marks::is_marked;
 use crate::same::same_answer;
 use crate::write_runs::write_eh;
@@ -64,8 +64,8 @@ impl ByAddress for EhFrames {
         }
     }
 
-    fn alike(&self, _a: u64, _b: u64) -> bool {
-        false
+    fn alike(&self, a: u64, b: u64) -> bool {
+        alike(&self.frames, &self.index, a, b)
     }
 }
 

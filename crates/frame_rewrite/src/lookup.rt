@@ -1,5 +1,5 @@
 // The entry of a frame table that holds an address, and what it says there.
-ghost use Rattle.std.specs.Prelude.{◌≡◌, ℕ, List, IfOk, map, option_map, position};
+ghost use Rattle.std.specs.Prelude.{◌≡◌, ℕ, List, IfOk, IsTrue, map, option_map, position};
 ghost use Rattle.table_core.specs.AddressRanges.{holds_address};
 ghost use Rattle.table_core.specs.FirstRanges.{first_range};
 ghost use Rattle.cfi_rows.specs.Entries.{Fde as Entry, range_of};
@@ -75,8 +75,21 @@ pub(crate) fn tell(
         return Ok(None);
     };
     let Some(fde) = frames.list.get(i) else {
-        return Err(NoMemory);
+        return Ok(None);
     };
-    let row = frames.row(alloc, i, a)?;
-    Ok(Some(Told { fde: *fde, row }))
+    match frames.row_at(alloc, i, a)? {
+        Some(row) => Ok(Some(Told { fde: *fde, row })),
+        None => Ok(None),
+    }
+}
+
+/// Whether two addresses certainly have one entry and one row, by an index of the table's entries.
+pub(crate) fn alike(frames: &Frames, index: &FirstRange, a: u64, b: u64) -> bool
+    requires { (a : ℕ) → first_range index.now a ≡ position (holds_address a) (map range_of (read_as frames.now).list) }
+    ensures { IsTrue result → told_at (read_as frames.now).list a ≡ told_at (read_as frames.now).list b }
+{
+    let (Some(i), Some(j)) = (index.find(a), index.find(b)) else {
+        return false;
+    };
+    i == j && frames.alike(i, a, b)
 }

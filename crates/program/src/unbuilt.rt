@@ -3,8 +3,8 @@
 /// Tables with addresses of code with which a command can't deal yet. It refuses files that have them.
 #[derive(Clone, Copy, PartialEq, Eq, Debug)]
 pub enum Unbuilt {
-    /// Unwind tables that are loaded.
-    Frames,
-    /// These, their index, and debug tables.
-    Tables,
+    /// None: it deals with all of them, or looks at none.
+    Nothing,
+    /// DWARF's tables, but for that of frames.
+    Debug,
 }

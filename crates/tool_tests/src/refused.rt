@@ -78,15 +78,38 @@ like exit7
 - code .text 10078 .word 00000000; addi a0,a0,7; exit
   => 221 BadInstruction 10078 0 0 refused 16 BadInstruction at 10078/
 - code .text 10078 auipc a0,0; addi a0,a0,7; exit => 221 BareAuipc 10078 0 0 refused 16 BareAuipc at 10078/
-- code .text 10078 jal zero,2; addi a0,a0,7; exit => 221 BadTarget 10078 0 0 refused 17 BadTarget at 10078/
+- code .text 10078 jal zero,2; addi a0,a0,7; exit => 221 BadTarget 10078 0 0 refused 17 BadTarget at 10078/";
 
-# Unwind tables come behind faults of the file and before those of its code.
-- code .text 10078 lui a0,0; addi a0,a0,7; exit | loaded .eh_frame 10088 00000000
-  => 221 NotBuilt 0 0 0 refused 29 NotBuilt at 0/
-- code .text 10078 auipc a0,0; addi a0,a0,7; exit | loaded .eh_frame 10088 00000000
-  => 221 NotBuilt 0 0 0 refused 29 NotBuilt at 0/
-- code .text 10078 lui a0,0; addi a0,a0,7; exit | loaded .eh_frame 10088 00000000 | flags 5
-  => 221 Flags 30 0 0 refused 3 Flags at 30/";
+// The unwind table of a loop: a CIE, an FDE for its 24 bytes with DW_CFA_advance_loc 8 and DW_CFA_def_cfa_offset 16, and the end.
+// The second one names an exception table at 10000.
+const FRAMES: &str = "\
+# Another version of a CIE.
+like countdown
+loaded .eh_frame 10090 1400000000000000027a5200017801011b0c020000000000100000001c000000c8ffffff1800000000480e1000000000
+- => 221 FrameFault 0 0 0 refused 21 FrameFault at 0/
+
+# A program that registers its table itself.
+like countdown
+loaded .eh_frame 10090 1400000000000000017a5200017801011b0c020000000000100000001c000000c8ffffff1800000000480e1000000000
+function __register_frame 10078 18
+- => 221 RegisteredFrames 10090 0 0 refused 20 RegisteredFrames at 10090/
+
+# A branch out of a function that has an exception table.
+code .text 10078 addi a0,zero,3; beq a0,zero,20; addi a0,a0,-1; jal zero,-8; exit; exit
+function f 10078 18
+function g 10090 8
+loaded .eh_frame 10098 1400000000000000017a4c520001780102031b0c02000000140000001c000000c0ffffff18000000040000010000000000000000
+- => 221 KeptBranch 1007c 0 0 refused 19 KeptBranch at 1007c/
+
+# Debug tables, of a program with a fault in its code.
+code .text 10078 auipc a0,0; addi a0,a0,7; exit
+- unloaded .debug_info 0 00000000 => 221 NotBuilt 0 0 0 refused 29 NotBuilt at 0/
+- unloaded .debug_info 0 00000000 | flags 5 => 221 Flags 30 0 0 refused 3 Flags at 30/";
+
+#[test]
+fn unwind_tables_that_are_not_carried(rt: HostRuntime) -> Result<(), Fail> {
+    commands_refuse(&rt, rt.alloc(), &["$ rewrite in profile out map"], FRAMES)
+}
 
 #[test]
 fn files_that_are_not_rewritten(rt: HostRuntime) -> Result<(), Fail> {

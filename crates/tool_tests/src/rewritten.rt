@@ -21,6 +21,27 @@ like countdown
      | bytes out 90 130530006f0080001305f5ffe31e05fe9308d00573000000
      | $ run in | 0 Ended(0) [ended 0 after 13 steps]/ | $ run out | 0 Ended(0) [ended 0 after 11 steps]/
 
+# The loop with an unwind table, in which the frame grows by 16 bytes from the third instruction on: the new code starts
+# behind it.
+like countdown
+loaded .eh_frame 10090 1400000000000000017a5200017801011b0c020000000000100000001c000000c8ffffff1800000000480e1000000000
+- profile 1 @10078 c 1 @10078 4 0 3
+  profile 1 @10078 4 1 @10078 10 0 1
+  => $ rewrite in profile out map
+     | 0 Ok moved 1 functions, 6 instructions, 24 bytes; 3 hot blocks; 0 profile lines ignored/
+     | text map 100c0 8 10078/100c8 4 10080/100cc 0 10084/100cc 4 1007c/100d0 4 10088/100d4 4 1008c/
+     | $ run --symbols in | 0 Ended(0) [ended 0 after 13 steps]/ | $ run out | 0 Ended(0) [ended 0 after 11 steps]/
+
+# The loop with an exception table: its function stays in one piece.
+like countdown
+loaded .eh_frame 10090 1400000000000000017a4c520001780102031b0c02000000140000001c000000c8ffffff18000000040000010000000000000000
+- profile 1 @10078 c 1 @10078 4 0 3
+  profile 1 @10078 4 1 @10078 10 0 1
+  => $ rewrite in profile out map
+     | 0 Ok moved 1 functions, 6 instructions, 24 bytes; 1 hot blocks; 0 profile lines ignored/
+     | text map 100d0 4 10078/100d4 4 1007c/100d8 4 10080/100dc 4 10084/100e0 4 10088/100e4 4 1008c/
+     | $ run --symbols in | 0 Ended(0) [ended 0 after 13 steps]/ | $ run out | 0 Ended(0) [ended 0 after 13 steps]/
+
 # The same with two lines that say nothing, which are counted, and one twice: counts are added up above 2^64.
 like countdown
 - profile hello

@@ -1,8 +1,6 @@
--- What was read of sections and program headers.
-use Rattle.std.specs.Prelude.{◌&&◌, ◌==◌, ℕ, nat_lt, Bool, List, if◌then◌else◌}
+-- What was read of sections.
+use Rattle.std.specs.Prelude.{◌&&◌, ℕ, nat_lt, Bool, List, if◌then◌else◌}
 use Rattle.elf_image.specs.declared.section.Section.{Section}
-use Rattle.elf_image.specs.declared.segment.Segment.{Segment}
-use Rattle.elf_image.specs.declared.segment.TheConstants.{PT_GNU_EH_FRAME}
 use Rattle.elf_image.specs.file.Sections.{holds_code}
 
 -- how many bytes of code a section has that was read, as `header_code_bytes` says of its header
@@ -12,6 +10,3 @@ section_code_bytes section = if holds_code section.flags then section.size else 
 -- a section that was read has such a name, and contents
 abbrev pub is_filled_section : (List ℕ → Bool) → Section → Bool
 is_filled_section is_name section = is_name section.name.now && nat_lt 0 section.size
-
-abbrev pub is_index_header : Segment → Bool
-is_index_header p = p.kind == PT_GNU_EH_FRAME

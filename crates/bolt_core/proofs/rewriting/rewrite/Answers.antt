@@ -1,4 +1,4 @@
-use Rattle.std.proofs.Common.{All, ◌∙◌, ap, refl, sym, subst, ◌<◌, ◌^◌, ℕ, List, map, rules}
+use Rattle.std.proofs.Common.{All, ◌∙◌, ◌+◌, ap, refl, sym, subst, ◌<◌, ◌≤◌, ◌^◌, ℕ, List, length, map}
 use Rattle.std.specs.Prelude.{sum}
 use Rattle.std.proofs.lemmas.Result.{err_from_is_err_and}
 use Rattle.edge_profile.specs.PairCounts.{ArePairs, Counted}
@@ -6,13 +6,19 @@ use Rattle.edge_profile.specs.Profile.{profile_counts, pairs_of}
 use Rattle.edge_profile.specs.Weights.{block_weight}
 use Rattle.func_place.specs.Placement.{IsPlacement}
 use Rattle.program.specs.Program.{program_of, program_seen}
-use Rattle.program.specs.declared.unbuilt.Unbuilt.TheVariants.{Tables}
+use Rattle.program.specs.declared.unbuilt.Unbuilt.TheVariants.{Debug}
 use Rattle.program.proofs.Programs.{laid_out}
+use Rattle.rv_code.specs.layout.FunctionLists.{address_end}
+use Rattle.addr_map.specs.Spans.{IsStretch}
 use Rattle.bolt_core.specs.Limits.{IsTooLarge}
 use Rattle.bolt_core.specs.ProfileOrder.{IsProfileOrder}
+use Rattle.bolt_core.specs.internal.CarriedTables.{AreNewTables, HasRoomBehind}
 use Rattle.bolt_core.proofs.Accepted.{apart_blocks, blocks_of, input_of, laid_program, misplaced_refusal, no_place_refusal}
+use Rattle.bolt_core.proofs.Accepted.{not_carried_refusal}
 use Rattle.bolt_core.proofs.Accepted.{no_room_by, parts_by, read_again, readable_again, stands_by, start_by, stretches, too_large_refusal}
 use Rattle.bolt_core.proofs.Accepted.{unreadable_refusal}
+use Rattle.bolt_core.proofs.Rewrites.{allowed, behind, eh_fits, low}
+use Rattle.bolt_core.proofs.TableSections.{df_fits, file_fits}
 use Rattle.bolt_core.proofs.Rewrites.{all_bytes, cells_apart, cells_held, even, hot_counted, near, rewritten, room, sound_code}
 use Rattle.bolt_core.proofs.SoundCode.{cells, direct, insts}
 use Rattle.bolt_core.proofs.rewriting.rewrite.Goals as goal
@@ -107,10 +113,17 @@ returns-in_err-plan-clause-refused c =
     let p = err_from_is_err_and c.from_residual-in_err-plan.result c.from_residual-in_err-plan.ensures.1 in
     rw (p.1, p.2) (misplaced_refusal input c.in_err-plan.field-0.0 c.in_err-plan.ensures.fault)
 
+pub returns-in_err-tables-clause-refused : goal.returns-in_err-tables-clause-refused
+returns-in_err-tables-clause-refused c =
+    let input = input_of c.in_ok-program.program c.as_slice-funcs.ensures.value c.as_slice-blocks.ensures.value
+    c.in_ok-program.ensures.program c.in_ok-check_lengths.ensures.fit in
+    let p = err_from_is_err_and c.from_residual-in_err-tables.result c.from_residual-in_err-tables.ensures.1 in
+    rw (p.1, p.2) (not_carried_refusal input c.in_ok-plan.ensures.free c.in_err-tables.field-0.0 c.in_err-tables.ensures.fault)
+
 pub new_start-requires-clause-laid : goal.new_start-requires-clause-laid
 new_start-requires-clause-laid c =
     let is = c.in_ok-program.ensures.program in
-    laid_out Tables c.args.file.now c.in_ok-program.program.elf is.faultless c.in_ok-program.program.funcs.items is.code_is.funcs
+    laid_out Debug c.args.file.now c.in_ok-program.program.elf is.faultless c.in_ok-program.program.funcs.items is.code_is.funcs
 
 pub new_start-requires-clause-blocks : goal.new_start-requires-clause-blocks
 new_start-requires-clause-blocks c =
@@ -121,7 +134,7 @@ returns-in_err-start-clause-refused c =
     let input = input_of c.in_ok-program.program c.as_slice-funcs.ensures.value c.as_slice-blocks.ensures.value
     c.in_ok-program.ensures.program c.in_ok-check_lengths.ensures.fit in
     let p = err_from_is_err_and c.from_residual-in_err-start.result c.from_residual-in_err-start.ensures.1 in
-    rw (p.1, p.2) (no_place_refusal input c.in_ok-plan.ensures.free c.in_err-start.field-0.0
+    rw (p.1, p.2) (no_place_refusal input c.in_ok-plan.ensures.free c.in_ok-tables.ensures.free c.in_err-start.field-0.0
     (no_room_by c.in_ok-program.program c.as_slice-funcs.ensures.value c.as_slice-blocks.ensures.value c.in_err-start.field-0.0 c.in_err-start.ensures.refused))
 
 pub check_sizes-requires-clause-fields : goal.check_sizes-requires-clause-fields
@@ -138,7 +151,7 @@ pub returns-in_err-check_sizes-clause-refused : goal.returns-in_err-check_sizes-
 returns-in_err-check_sizes-clause-refused c =
     let input = input_of c.in_ok-program.program c.as_slice-funcs.ensures.value c.as_slice-blocks.ensures.value
     c.in_ok-program.ensures.program c.in_ok-check_lengths.ensures.fit in
-    let stands = stands_by c.in_ok-program.program c.as_slice-funcs.ensures.value c.as_slice-blocks.ensures.value c.in_ok-plan.ensures.free c.in_ok-start.ensures.room in
+    let stands = stands_by c.in_ok-program.program c.as_slice-funcs.ensures.value c.as_slice-blocks.ensures.value c.in_ok-plan.ensures.free c.in_ok-tables.ensures.free c.in_ok-start.ensures.room in
     let parts_are = parts_by input (profile_counts c.in_ok-counts.counts) (pairs_of c.in_ok-counts.counts) c.in_ok-parts.parts
     c.in_ok-parts.ensures.parts c.in_ok-counts.ensures.counts in
     let p = err_from_is_err_and c.from_residual-in_err-check_sizes.result c.from_residual-in_err-check_sizes.ensures.1 in
@@ -207,10 +220,82 @@ moved_code-requires-clause-room c =
     let input = input_of c.in_ok-program.program c.as_slice-funcs.ensures.value c.as_slice-blocks.ensures.value
     c.in_ok-program.ensures.program c.in_ok-check_lengths.ensures.fit in
     let bytes = all_bytes c.args.file.now c.type_inv.file in
-    let stands = stands_by c.in_ok-program.program c.as_slice-funcs.ensures.value c.as_slice-blocks.ensures.value c.in_ok-plan.ensures.free c.in_ok-start.ensures.room in
+    let stands = stands_by c.in_ok-program.program c.as_slice-funcs.ensures.value c.as_slice-blocks.ensures.value c.in_ok-plan.ensures.free c.in_ok-tables.ensures.free c.in_ok-start.ensures.room in
     let start_is = start_by c.in_ok-program.program c.as_slice-funcs.ensures.value c.as_slice-blocks.ensures.value c.in_ok-start.start c.in_ok-start.ensures.start in
     room c.in_ok-program.program.elf c.as_slice-funcs.result.now c.in_ok-program.program.refs
     c.as_slice-blocks.result.now input bytes stands c.in_ok-start.start start_is
+
+pub new_tables-requires-clause-come : goal.new_tables-requires-clause-come
+new_tables-requires-clause-come c = c.in_ok-tables.ensures.come
+
+pub new_tables-requires-clause-ordered : goal.new_tables-requires-clause-ordered
+new_tables-requires-clause-ordered c = c.in_ok-map.ensures.mapped.map_is.ordered
+
+pub new_tables-requires-clause-disjoint : goal.new_tables-requires-clause-disjoint
+new_tables-requires-clause-disjoint c =
+    let input = input_of c.in_ok-program.program c.as_slice-funcs.ensures.value c.as_slice-blocks.ensures.value
+    c.in_ok-program.ensures.program c.in_ok-check_lengths.ensures.fit in
+    (c.in_ok-map.ensures.is_map _ _ _ input.program.blocks_are).disjoint
+
+pub new_tables-requires-clause-allowed : goal.new_tables-requires-clause-allowed
+new_tables-requires-clause-allowed c =
+    let input = input_of c.in_ok-program.program c.as_slice-funcs.ensures.value c.as_slice-blocks.ensures.value
+    c.in_ok-program.ensures.program c.in_ok-check_lengths.ensures.fit in
+    let bytes = all_bytes c.args.file.now c.type_inv.file in
+    let stands = stands_by c.in_ok-program.program c.as_slice-funcs.ensures.value c.as_slice-blocks.ensures.value c.in_ok-plan.ensures.free c.in_ok-tables.ensures.free c.in_ok-start.ensures.room in
+    let start_is = start_by c.in_ok-program.program c.as_slice-funcs.ensures.value c.as_slice-blocks.ensures.value c.in_ok-start.start c.in_ok-start.ensures.start in
+    allowed c.in_ok-program.program.elf c.as_slice-funcs.result.now c.in_ok-program.program.refs
+    c.as_slice-blocks.result.now input bytes stands c.in_ok-start.start start_is c.in_ok-plan.plan.order.items
+    c.in_ok-map.map c.in_ok-map.emitted c.in_ok-map.ensures (c.in_ok-plan.ensures.all c.in_ok-parts.ensures.all)
+    c.in_ok-tables.tables c.in_ok-tables.ensures.come
+
+pub new_tables-requires-clause-eh_fits : goal.new_tables-requires-clause-eh_fits
+new_tables-requires-clause-eh_fits c =
+    let input = input_of c.in_ok-program.program c.as_slice-funcs.ensures.value c.as_slice-blocks.ensures.value
+    c.in_ok-program.ensures.program c.in_ok-check_lengths.ensures.fit in
+    let bytes = all_bytes c.args.file.now c.type_inv.file in
+    let stands = stands_by c.in_ok-program.program c.as_slice-funcs.ensures.value c.as_slice-blocks.ensures.value c.in_ok-plan.ensures.free c.in_ok-tables.ensures.free c.in_ok-start.ensures.room in
+    let start_is = start_by c.in_ok-program.program c.as_slice-funcs.ensures.value c.as_slice-blocks.ensures.value c.in_ok-start.start c.in_ok-start.ensures.start in
+    eh_fits c.in_ok-program.program.elf c.as_slice-funcs.result.now c.in_ok-program.program.refs
+    c.as_slice-blocks.result.now input bytes stands c.in_ok-start.start start_is c.in_ok-plan.plan.order.items
+    c.in_ok-map.map c.in_ok-map.emitted c.in_ok-map.ensures (c.in_ok-plan.ensures.all c.in_ok-parts.ensures.all)
+    c.in_ok-tables.tables c.in_ok-tables.ensures.come
+
+pub new_tables-requires-clause-df_fits : goal.new_tables-requires-clause-df_fits
+new_tables-requires-clause-df_fits c = λ runs are.
+    df_fits c.in_ok-program.program.elf c.in_ok-tables.tables c.in_ok-tables.ensures.come
+    (file_fits c.in_ok-program.ensures.program)
+
+pub new_tables-requires-clause-stretch : goal.new_tables-requires-clause-stretch
+new_tables-requires-clause-stretch c =
+    subst (λ (n : ℕ). IsStretch c.in_ok-map.map c.in_ok-start.start (c.in_ok-start.start + n)) (sym (c.len-code.ensures ∙ c.in_ok-map.emitted.code.ok.0))
+    c.in_ok-map.ensures.stretch
+
+pub new_tables-requires-clause-low : goal.new_tables-requires-clause-low
+new_tables-requires-clause-low c =
+    let input = input_of c.in_ok-program.program c.as_slice-funcs.ensures.value c.as_slice-blocks.ensures.value
+    c.in_ok-program.ensures.program c.in_ok-check_lengths.ensures.fit in
+    let bytes = all_bytes c.args.file.now c.type_inv.file in
+    let stands = stands_by c.in_ok-program.program c.as_slice-funcs.ensures.value c.as_slice-blocks.ensures.value c.in_ok-plan.ensures.free c.in_ok-tables.ensures.free c.in_ok-start.ensures.room in
+    let start_is = start_by c.in_ok-program.program c.as_slice-funcs.ensures.value c.as_slice-blocks.ensures.value c.in_ok-start.start c.in_ok-start.ensures.start in
+    subst (λ (n : ℕ). c.in_ok-start.start + n ≤ address_end) (sym (c.len-code.ensures ∙ c.in_ok-map.emitted.code.ok.0))
+    (low c.in_ok-program.program.elf c.as_slice-funcs.result.now c.in_ok-program.program.refs
+    c.as_slice-blocks.result.now input bytes stands c.in_ok-start.start start_is c.in_ok-plan.plan.order.items
+    c.in_ok-map.map c.in_ok-map.emitted c.in_ok-map.ensures (c.in_ok-plan.ensures.all c.in_ok-parts.ensures.all)
+    c.in_ok-tables.tables c.in_ok-tables.ensures.come)
+
+pub new_tables-requires-clause-room : goal.new_tables-requires-clause-room
+new_tables-requires-clause-room c =
+    let input = input_of c.in_ok-program.program c.as_slice-funcs.ensures.value c.as_slice-blocks.ensures.value
+    c.in_ok-program.ensures.program c.in_ok-check_lengths.ensures.fit in
+    let bytes = all_bytes c.args.file.now c.type_inv.file in
+    let stands = stands_by c.in_ok-program.program c.as_slice-funcs.ensures.value c.as_slice-blocks.ensures.value c.in_ok-plan.ensures.free c.in_ok-tables.ensures.free c.in_ok-start.ensures.room in
+    let start_is = start_by c.in_ok-program.program c.as_slice-funcs.ensures.value c.as_slice-blocks.ensures.value c.in_ok-start.start c.in_ok-start.ensures.start in
+    subst (λ (n : ℕ). HasRoomBehind c.in_ok-tables.tables.eh c.in_ok-map.map (c.in_ok-start.start + n)) (sym (c.len-code.ensures ∙ c.in_ok-map.emitted.code.ok.0))
+    (behind c.in_ok-program.program.elf c.as_slice-funcs.result.now c.in_ok-program.program.refs
+    c.as_slice-blocks.result.now input bytes stands c.in_ok-start.start start_is c.in_ok-plan.plan.order.items
+    c.in_ok-map.map c.in_ok-map.emitted c.in_ok-map.ensures (c.in_ok-plan.ensures.all c.in_ok-parts.ensures.all)
+    c.in_ok-tables.tables c.in_ok-tables.ensures.come)
 
 pub write-requires-clause-read : goal.write-requires-clause-read
 write-requires-clause-read c =
@@ -237,7 +322,7 @@ write-requires-clause-cells c =
     let input = input_of c.in_ok-program.program c.as_slice-funcs.ensures.value c.as_slice-blocks.ensures.value
     c.in_ok-program.ensures.program c.in_ok-check_lengths.ensures.fit in
     let bytes = all_bytes c.args.file.now c.type_inv.file in
-    let stands = stands_by c.in_ok-program.program c.as_slice-funcs.ensures.value c.as_slice-blocks.ensures.value c.in_ok-plan.ensures.free c.in_ok-start.ensures.room in
+    let stands = stands_by c.in_ok-program.program c.as_slice-funcs.ensures.value c.as_slice-blocks.ensures.value c.in_ok-plan.ensures.free c.in_ok-tables.ensures.free c.in_ok-start.ensures.room in
     let start_is = start_by c.in_ok-program.program c.as_slice-funcs.ensures.value c.as_slice-blocks.ensures.value c.in_ok-start.start c.in_ok-start.ensures.start in
     cells_held c.in_ok-program.program.elf c.as_slice-funcs.result.now c.in_ok-program.program.refs
     c.as_slice-blocks.result.now input bytes stands c.in_ok-start.start start_is c.in_ok-plan.plan.order.items
@@ -248,7 +333,7 @@ write-requires-clause-apart c =
     let input = input_of c.in_ok-program.program c.as_slice-funcs.ensures.value c.as_slice-blocks.ensures.value
     c.in_ok-program.ensures.program c.in_ok-check_lengths.ensures.fit in
     let bytes = all_bytes c.args.file.now c.type_inv.file in
-    let stands = stands_by c.in_ok-program.program c.as_slice-funcs.ensures.value c.as_slice-blocks.ensures.value c.in_ok-plan.ensures.free c.in_ok-start.ensures.room in
+    let stands = stands_by c.in_ok-program.program c.as_slice-funcs.ensures.value c.as_slice-blocks.ensures.value c.in_ok-plan.ensures.free c.in_ok-tables.ensures.free c.in_ok-start.ensures.room in
     let start_is = start_by c.in_ok-program.program c.as_slice-funcs.ensures.value c.as_slice-blocks.ensures.value c.in_ok-start.start c.in_ok-start.ensures.start in
     cells_apart c.in_ok-program.program.elf c.as_slice-funcs.result.now c.in_ok-program.program.refs
     c.as_slice-blocks.result.now input bytes stands c.in_ok-start.start start_is c.in_ok-plan.plan.order.items
@@ -265,7 +350,7 @@ returns-clause-rewritten c =
     let input = input_of c.in_ok-program.program c.as_slice-funcs.ensures.value c.as_slice-blocks.ensures.value
     c.in_ok-program.ensures.program c.in_ok-check_lengths.ensures.fit in
     let bytes = all_bytes c.args.file.now c.type_inv.file in
-    let stands = stands_by c.in_ok-program.program c.as_slice-funcs.ensures.value c.as_slice-blocks.ensures.value c.in_ok-plan.ensures.free c.in_ok-start.ensures.room in
+    let stands = stands_by c.in_ok-program.program c.as_slice-funcs.ensures.value c.as_slice-blocks.ensures.value c.in_ok-plan.ensures.free c.in_ok-tables.ensures.free c.in_ok-start.ensures.room in
     let start_is = start_by c.in_ok-program.program c.as_slice-funcs.ensures.value c.as_slice-blocks.ensures.value c.in_ok-start.start c.in_ok-start.ensures.start in
     let parts_are = parts_by input (profile_counts c.in_ok-counts.counts) (pairs_of c.in_ok-counts.counts) c.in_ok-parts.parts
     c.in_ok-parts.ensures.parts c.in_ok-counts.ensures.counts in
@@ -277,14 +362,20 @@ returns-clause-rewritten c =
     } in
     rewritten c.in_ok-program.program.elf c.as_slice-funcs.result.now c.in_ok-program.program.refs
     c.as_slice-blocks.result.now input bytes stands c.in_ok-start.start start_is c.in_ok-plan.plan.order.items
-    c.in_ok-map.map c.in_ok-map.emitted c.in_ok-map.ensures c.deref-4.result.now c.in_ok-written.written.items
-    (subst (λ (bs : List ℕ). All (λ b. b < 256) bs) c.deref-5.ensures.value c.are_bytes.ensures)
-    c.in_ok-written.ensures.written c.in_ok-written.ensures.tables (pairs_of c.in_ok-counts.counts) c.in_ok-parts.parts ordered
+    c.in_ok-map.map c.in_ok-map.emitted c.in_ok-map.ensures c.deref-5.result.now c.in_ok-tables.tables c.in_ok-tables.ensures.come
+    (c.in_ok-plan.ensures.all c.in_ok-parts.ensures.all)
+    (subst (AreNewTables c.in_ok-program.program.elf c.in_ok-tables.tables c.in_ok-map.map c.in_ok-start.start
+    (length c.in_ok-map.emitted.code.items)) (sym c.deref-5.ensures.value)
+    (subst (λ (n : ℕ). AreNewTables c.in_ok-program.program.elf c.in_ok-tables.tables c.in_ok-map.map c.in_ok-start.start n
+    c.in_ok-given.given.items) (c.len-code.ensures ∙ c.in_ok-map.emitted.code.ok.0) c.in_ok-given.ensures))
+    c.deref-4.result.now c.in_ok-written.written.items
+    (subst (λ (bs : List ℕ). All (λ b. b < 256) bs) c.deref-6.ensures.value c.are_bytes.ensures)
+    c.in_ok-written.ensures.written c.in_ok-written.ensures.tables c.in_ok-written.ensures.stand (pairs_of c.in_ok-counts.counts) c.in_ok-parts.parts ordered
     (c.deref-4.ensures.value ∙ c.in_ok-cold.ensures)
     (subst (λ (cs : List ℕ). (place : ℕ) → IsTooLarge c.in_ok-program.program.elf c.as_slice-funcs.result.now cs place → ⊥)
     (c.deref-3.ensures.value ∙ sym c.deref-4.ensures.value)
     c.in_ok-check_sizes.ensures.within)
-    c.in_ok-instructions.instructions c.len.result c.count_hot.result c.ignored.result
-    c.in_ok-instructions.ensures (search rules)
-    (hot_counted (pairs_of c.in_ok-counts.counts) c.as_slice-funcs.result.now c.as_slice-blocks.result.now c.deref-6.result.now c.in_ok-weights.weights.items c.count_hot.result c.deref-6.ensures.value
+    c.in_ok-instructions.instructions c.len-code.result c.count_hot.result c.ignored.result
+    c.in_ok-instructions.ensures (c.len-code.ensures ∙ c.in_ok-map.emitted.code.ok.0)
+    (hot_counted (pairs_of c.in_ok-counts.counts) c.as_slice-funcs.result.now c.as_slice-blocks.result.now c.deref-7.result.now c.in_ok-weights.weights.items c.count_hot.result c.deref-7.ensures.value
     c.in_ok-weights.ensures.weights c.count_hot.ensures) (c.ignored.ensures ∙ c.in_ok-counts.ensures.ignored)

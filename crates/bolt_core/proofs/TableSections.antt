@@ -1,0 +1,35 @@
+-- A section of a file that isn't too long isn't either.
+use Rattle.std.proofs.Common.{◌≡◌, ap, sym, subst, ℕ, ◌≤◌, List, [], Option, Some, None, Bool, true, false, length, take, drop, cond, arith, length-take, length-drop}
+use Rattle.std.specs.Prelude.{◌==◌, codes}
+use Rattle.elf_image.specs.declared.elf.Elf.{Elf}
+use Rattle.elf_image.specs.declared.section.Section.{Section}
+use Rattle.elf_image.specs.declared.section.TheConstants.{SHT_NOBITS}
+use Rattle.elf_image.specs.file.SectionNames.{section_called}
+use Rattle.table_core.specs.Sections.{Held, held, held_by, section_limit}
+use Rattle.program.specs.Limits.{file_limit}
+use Rattle.program.specs.Program.{IsProgramOf, Program}
+use Rattle.program.specs.declared.unbuilt.Unbuilt.TheVariants.{Debug}
+use Rattle.bolt_core.specs.declared.tables.Tables.{Tables}
+use Rattle.bolt_core.specs.internal.CarriedTables.{ComeFrom}
+
+held_length : (file : List ℕ) (o : Option Section) → length (held_by file o).bytes ≤ length file
+held_length file None = omega arith
+held_length file (Some s) = by (s.kind == SHT_NOBITS)
+  where
+    by : (b : Bool) → length (cond b [] (take s.size (drop s.offset file))) ≤ length file
+    by true = omega arith
+    by false =
+        let taken = length-take s.size (drop s.offset file) in
+        let left = length-drop s.offset file in
+        omega (arith, taken, left)
+
+pub file_fits : {file : List ℕ} {x : Program} → IsProgramOf Debug file x → length x.elf.file.now ≤ file_limit
+file_fits is = subst (λ (f : List ℕ). length f ≤ file_limit) (sym is.faultless.read.file_is) is.faultless.plain.fits
+
+pub df_fits : (elf : Elf) (t : Tables) → ComeFrom t elf → length elf.file.now ≤ file_limit →
+    length t.df.frames.section.items ≤ section_limit
+df_fits elf t comes fits =
+    let same : length t.df.frames.section.items ≡ length (held elf (codes ".debug_frame")).bytes =
+    ap (λ (h : Held). length h.bytes) comes.df.section in
+    let within = held_length elf.file.now (section_called elf.sections.items (codes ".debug_frame")) in
+    omega (arith, same, within, fits)

@@ -1,0 +1,14 @@
+use Rattle.bolt_core.proofs.GivenRoom.{can_index}
+use Rattle.bolt_core.proofs.carrying.new_tables.Goals as goal
+
+pub listed-requires : goal.listed-requires
+listed-requires c = λ indexed.
+    can_index c.args.elf.now c.args.tables.now c.requires.come c.args.map.now c.args.start c.args.code c.requires.stretch
+    c.requires.low c.requires.room c.in_ok-carried.carried c.in_ok-carried.ensures indexed
+
+pub returns : goal.returns
+returns c = record {
+  carried = c.in_ok-carried.carried;
+  are_carried = c.in_ok-carried.ensures;
+  are_listed = c.in_ok-given.ensures;
+}

@@ -1,0 +1,95 @@
+// The tables that are given to be written.
+ghost use Rattle.std.specs.Prelude.{◌≡◌, ◌++◌, IfOk, IfSome, IsTrue, OnOk, Option, Some, None, if◌then◌else◌, is_some, map, option_map};
+ghost use Rattle.frame_rewrite.specs.Index.{has_frames, has_index};
+ghost use Rattle.bolt_core.specs.GivenTables.{table_if, table_seen};
+ghost use Rattle.bolt_core.specs.internal.GivenIndex.{AreListed, CanIndex, IsIndexFor};
+
+use crate::tables::Carried;
+use elf_image::Elf;
+use elf_image::named::EH_FRAME;
+use elf_write::{Table, table_places};
+use frame_rewrite::{has_index_header, header};
+use rb_bytes::fault::NoMemory;
+use std::alloc::Global;
+
+// Whether a file has an unwind table that it loads.
+fn has_frames(elf: &Elf) -> bool
+    ensures { result ≡ has_frames elf.now }
+{
+    elf.section_called(EH_FRAME).is_some()
+}
+
+// Whether programs find it by an index.
+fn has_index(elf: &Elf) -> bool
+    ensures { result ≡ has_index elf.now }
+{
+    has_frames(elf) && has_index_header(&elf.segments)
+}
+
+// The index of a written unwind table, which stands behind so many bytes of code from a start on; none where the file has none.
+fn new_index(
+    alloc: Global,
+    elf: &Elf,
+    start: u64,
+    code: usize,
+    frames: &[u8],
+) -> Result<Option<Vec<u8>>, NoMemory>
+    requires { IsTrue (has_index elf.now) → CanIndex start code frames.now }
+    ensures there { IfOk result (λ index. is_some index ≡ has_index elf.now) }
+    ensures index { IfOk result (λ index. IfSome index (λ w. IsIndexFor start code frames.now w.items)) }
+{
+    if !has_index(elf) {
+        return Ok(None);
+    }
+    let (at, index_at) = table_places(start, code, frames.len())?;
+    let index = header(alloc, frames, at, index_at)?;
+    Ok(Some(index))
+}
+
+// Adds a table, if there is one, by the name of its section.
+fn add_table(
+    alloc: Global,
+    tables: &mut Vec<Table>,
+    name: &str,
+    contents: Option<Vec<u8>>,
+) -> Result<(), NoMemory>
+    ensures { OnOk result (map table_seen tables.new.items
+        ≡ map table_seen tables.old.items ++ table_if name.now (option_map (λ bytes. bytes.items) contents)) }
+{
+    match contents {
+        Some(bytes) => {
+            tables.push((String::from_str(alloc, name)?, bytes))?;
+        }
+        None => {}
+    }
+    Ok(())
+}
+
+// An unwind table, where the file loads one.
+fn loaded(elf: &Elf, frames: Vec<u8>) -> Option<Vec<u8>>
+    ensures { option_map (λ bytes. bytes.items) result ≡ (if has_frames elf.now then Some frames.items else None) }
+{
+    if has_frames(elf) { Some(frames) } else { None }
+}
+
+/// The tables of a file in their new contents, and the index of its unwind table, by the names of their sections. The new code
+/// has so many bytes from a start on.
+pub fn listed(
+    alloc: Global,
+    elf: &Elf,
+    start: u64,
+    code: usize,
+    carried: Carried,
+) -> Result<Vec<Table>, NoMemory>
+    requires { IsTrue (has_index elf.now) → CanIndex start code carried.eh.bytes.items }
+    ensures { IfOk result (λ tables.
+        AreListed elf.now start code carried.eh.bytes.items carried.df.bytes.items tables.items) }
+{
+    let Carried { eh, df } = carried;
+    let index = new_index(alloc, elf, start, code, &eh.bytes)?;
+    let mut tables = Vec::new(alloc);
+    add_table(alloc, &mut tables, ".eh_frame", loaded(elf, eh.bytes))?;
+    add_table(alloc, &mut tables, ".eh_frame_hdr", index)?;
+    add_table(alloc, &mut tables, ".debug_frame", Some(df.bytes))?;
+    Ok(tables)
+}

@@ -1,0 +1,72 @@
+-- From the law of frame tables that stand in a file: its answers at new code are the input's at the owners.
+use Rattle.std.proofs.Common.{◌≡◌, ◌∙◌, ap, refl, sym, subst, ℕ, List, Option, Some, None, Bool, true, false}
+use Rattle.std.specs.Prelude.{IsSome, option_and_then}
+use Rattle.elf_image.specs.declared.elf.Elf.{Elf}
+use Rattle.rb_bytes.specs.FirstFault.{IsFree}
+use Rattle.rb_bytes.specs.declared.fault.FaultKind.TheVariants.{FrameFault}
+use Rattle.addr_map.specs.declared.span.Span.{Span}
+use Rattle.addr_map.specs.Spans.{owner}
+use Rattle.table_core.specs.AnswerRuns.{carried}
+use Rattle.table_core.specs.CarriedAnswers.{Agree, IsCarried, IsCarriedFrom}
+use Rattle.cfi_rows.specs.Entries.{Fde, Frames}
+use Rattle.cfi_rows.specs.Frames.{debug_frames, eh_frames, frames_of}
+use Rattle.cfi_rows.specs.ReadFrames.{read_as, section_held}
+use Rattle.frame_rewrite.specs.declared.debug.DebugFrames.{DebugFrames}
+use Rattle.frame_rewrite.specs.declared.eh.EhFrames.{EhFrames}
+use Rattle.frame_rewrite.specs.CarriedFrames.{IsCarriedFrame}
+use Rattle.frame_rewrite.specs.Faults.{IsFrameFault}
+use Rattle.frame_rewrite.specs.FrameAnswers.{FrameAnswer, answer_at, cuts_of, df, eh, is_marked_by, is_never_marked}
+use Rattle.frame_rewrite.specs.Tables.{DebugComesFrom, EhComesFrom, answers, debug_answers, debug_says, eh_answers, eh_says}
+
+-- what is wanted at a byte with an owner
+pub owned : {A : Type 0} (R : A → A → Type 0) (says : ℕ → Option A) (spans : List Span) (p o : ℕ) (at : ℕ → Option A) →
+    owner spans p ≡ Some o → Agree R (carried says spans p) (at p) → Agree R (says o) (at p)
+owned R says spans p o at e h = subst (λ (x : Option ℕ). Agree R (option_and_then says x) (at p)) e h
+
+pub is_owned : (spans : List Span) (p o : ℕ) → owner spans p ≡ Some o → IsSome (owner spans p)
+is_owned spans p o e = subst (λ (x : Option ℕ). IsSome x) (sym e) refl
+
+frames_say : (R : FrameAnswer → FrameAnswer → Type 0) (spans : List Span) (wanted : ℕ → Option FrameAnswer)
+    (m : Fde → Bool) (cies : ℕ) (list : List Fde) (bad : Option ℕ) →
+    IsCarried R spans wanted (answers m (record { cies = cies; list = list; bad = bad })) → (p : ℕ) →
+    IsSome (owner spans p) → Agree R (wanted p) (answer_at m list p)
+frames_say R spans wanted m cies list None c p is = c p is
+frames_say R spans wanted m cies list (Some place) c p is = absurd c
+
+pub read_is : (t : EhFrames) (i : Elf) → EhComesFrom t i → read_as t.frames ≡ eh_frames i
+read_is t i comes =
+    ap (λ (b : Bool). frames_of b (section_held t.frames)) comes.kind ∙ ap (frames_of false) comes.section
+
+pub says_is : (t : EhFrames) (i : Elf) → EhComesFrom t i → eh_says t ≡ eh i
+says_is t i comes =
+    ap (λ (m : Fde → Bool). answer_at m (read_as t.frames).list) comes.marks
+    ∙ ap (λ (x : Frames). answer_at (is_marked_by (cuts_of i)) x.list) (read_is t i comes)
+
+pub eh_carried : (spans : List Span) (t : EhFrames) (i f : Elf) → EhComesFrom t i →
+    IsCarriedFrom (IsCarriedFrame spans) spans (eh_says t) (eh_answers f) → (p o : ℕ) → owner spans p ≡ Some o →
+    Agree (IsCarriedFrame spans) (eh i o) (eh f p)
+eh_carried spans t i f comes law p o e =
+    let said = owned (IsCarriedFrame spans) (eh_says t) spans p o (eh f) e
+    (frames_say (IsCarriedFrame spans) spans (carried (eh_says t) spans) (is_marked_by (cuts_of f)) (eh_frames f).cies
+    (eh_frames f).list (eh_frames f).bad law p (is_owned spans p o e)) in
+    subst (λ (says : ℕ → Option FrameAnswer). Agree (IsCarriedFrame spans) (says o) (eh f p)) (says_is t i comes) said
+
+pub df_carried : (spans : List Span) (t : DebugFrames) (i f : Elf) → DebugComesFrom t i →
+    IsCarriedFrom (IsCarriedFrame spans) spans (debug_says t) (debug_answers f) → (p o : ℕ) → owner spans p ≡ Some o →
+    Agree (IsCarriedFrame spans) (df i o) (df f p)
+df_carried spans t i f comes law p o e =
+    let said = owned (IsCarriedFrame spans) (debug_says t) spans p o (df f) e
+    (frames_say (IsCarriedFrame spans) spans (carried (debug_says t) spans) is_never_marked (debug_frames f).cies
+    (debug_frames f).list (debug_frames f).bad law p (is_owned spans p o e)) in
+    let same : read_as t.frames ≡ debug_frames i =
+    ap (λ (b : Bool). frames_of b (section_held t.frames)) comes.kind ∙ ap (frames_of true) comes.section in
+    let says : debug_says t o ≡ df i o = ap (λ (x : Frames). answer_at is_never_marked x.list o) same in
+    subst (λ (x : Option FrameAnswer). Agree (IsCarriedFrame spans) x (df f p)) says said
+
+-- a table without a fault has no malformed entry
+pub no_bad : (t : Frames) → IsFree (IsFrameFault t) → t.bad ≡ None
+no_bad t free = by t.bad refl
+  where
+    by : (o : Option ℕ) → t.bad ≡ o → o ≡ None
+    by None e = refl
+    by (Some place) e = absurd (free FrameFault place (refl, e))
