@@ -180,23 +180,24 @@ def crates_below(names):
     return found
 
 
-def build(folder):
-    """Makes the program in a folder, and gives its path."""
+def build(folder, program, libraries, files):
+    """Makes a program over some libraries in a folder, and gives its path."""
     crates = os.path.join(folder, "crates")
-    below = crates_below(LIBRARIES)
+    below = crates_below(libraries)
     for name in below:
-        shutil.copytree(os.path.join(ROOT, "crates", name), os.path.join(crates, name), ignore=shutil.ignore_patterns("out"))
-    below[PROGRAM] = [*below, "anyhow"]
+        source, copy = os.path.join(ROOT, "crates", name), os.path.join(crates, name)
+        shutil.copytree(source, copy, ignore=shutil.ignore_patterns("out"), dirs_exist_ok=True)
+    below[program] = [*below, "anyhow"]
     with open(os.path.join(folder, "crates.txt"), "w", encoding="utf-8") as file:
         file.writelines(f"{name}: {' '.join(uses)}\n" for name, uses in below.items())
-    home = os.path.join(crates, PROGRAM)
-    for name, text in FILES.items():
+    home = os.path.join(crates, program)
+    for name, text in files.items():
         path = os.path.join(home, name)
         os.makedirs(os.path.dirname(path), exist_ok=True)
         with open(path, "w", encoding="utf-8") as file:
             file.write(text)
     subprocess.run(["rt", "run", "--jobs", "1"], cwd=home, check=False, capture_output=True)
-    return os.path.join(home, "out", PROGRAM)
+    return os.path.join(home, "out", program)
 
 
 def measure(program, path, runs, functions):
@@ -220,7 +221,7 @@ def measure(program, path, runs, functions):
 def main():
     runs = int(sys.argv[1]) if len(sys.argv) > 1 else 3
     with tempfile.TemporaryDirectory() as folder:
-        program = build(folder)
+        program = build(folder, PROGRAM, LIBRARIES, FILES)
         if not os.path.exists(program):
             sys.exit("the program was not proved")
         path = os.path.join(folder, "file")

@@ -33,6 +33,19 @@ pub record AreSmall (m : Moves) : Type 0 where
 some_is : (x v : ℕ) → Some x ≡ Some v → x ≡ v
 some_is x v e = cc
 
+equal_of : (x y : ℕ) → (x == y) ≡ true → x ≡ y
+equal_of x y f = grind (arith, nat_tests)
+
+pub high_forms : (form : ℕ) (b c d : Bool) → (form == 6) ≡ b → (form == 7) ≡ c → (form == 1) ≡ d → not (b || c || d) ≡ false → (form ≡ 6) ⊎ ((form ≡ 7) ⊎ (form ≡ 1))
+high_forms form true c d is6 is7 is1 f = inl (equal_of form 6 is6)
+high_forms form false true d is6 is7 is1 f = inr (inl (equal_of form 7 is7))
+high_forms form false false true is6 is7 is1 f = inr (inr (equal_of form 1 is1))
+high_forms form false false false is6 is7 is1 f = absurd (cc)
+
+pub and_right : (b c : Bool) → (b && c) ≡ false → b ≡ true → c ≡ false
+and_right true c f is = f
+and_right false c f is = absurd (cc)
+
 module _ (m : Moves) (small : AreSmall m) (own first : Bool) (e : Entry) (a : Attr) where
   call_small : (c r : Option ℕ) (v : ℕ) → m.call_end a.value ≡ c → moved_address m a.value ≡ r → option_or c r ≡ Some v → v < 2 ^ 64
   call_small (Some x) r v is moved_is f = subst (λ (n : ℕ). n < 2 ^ 64) (some_is x v f) (small.call_end a.value x is)
@@ -59,9 +72,6 @@ module _ (m : Moves) (small : AreSmall m) (own first : Bool) (e : Entry) (a : At
   list_small false false true v f = small.lists e.place a.name v f
   list_small false false false v f = absurd (cc)
 
-  equal_of : (x y : ℕ) → (x == y) ≡ true → x ≡ y
-  equal_of x y f = grind (arith, nat_tests)
-
   value_small : (end v : ℕ) (s : Spec) (left rest : List ℕ) → IsAttr end s a left rest → (b c : Bool) → (a.form == 1) ≡ b → (a.form == 23) ≡ c →
       (if b then new_address m own e a else (if c then new_list m first e a else None)) ≡ Some v → v < 256 ^ a.len
   value_small end v s left rest i true c is1 is23 f =
@@ -83,16 +93,6 @@ module _ (m : Moves) (small : AreSmall m) (own first : Bool) (e : Entry) (a : At
   abbrev pub is_fine : Spec → Bool
   is_fine s = s.name == DW_AT_high_pc && not (is_high_form s.form)
 
-  high_forms : (form : ℕ) (b c d : Bool) → (form == 6) ≡ b → (form == 7) ≡ c → (form == 1) ≡ d → not (b || c || d) ≡ false → (form ≡ 6) ⊎ ((form ≡ 7) ⊎ (form ≡ 1))
-  high_forms form true c d is6 is7 is1 f = inl (equal_of form 6 is6)
-  high_forms form false true d is6 is7 is1 f = inr (inl (equal_of form 7 is7))
-  high_forms form false false true is6 is7 is1 f = inr (inr (equal_of form 1 is1))
-  high_forms form false false false is6 is7 is1 f = absurd (cc)
-
-  and_right : (b c : Bool) → (b && c) ≡ false → b ≡ true → c ≡ false
-  and_right true c f is = f
-  and_right false c f is = absurd (cc)
-
   pub can_change_attr : (end : ℕ) (s : Spec) (left rest : List ℕ) → IsAttr end s a left rest → is_fine s ≡ false → IsChangeable m own first e s a
   can_change_attr end s left rest i fine = record {
     high = λ is. high_forms s.form (s.form == 6) (s.form == 7) (s.form == 1) refl refl refl (and_right (s.name == DW_AT_high_pc) (not (is_high_form s.form)) fine is);
@@ -100,7 +100,7 @@ module _ (m : Moves) (small : AreSmall m) (own first : Bool) (e : Entry) (a : At
     ranges = ranges_small (new_list_offset m.lists e.place DW_AT_ranges) refl;
   }
 
-or_false : (a b : Bool) → (a || b) ≡ false → (a ≡ false) × (b ≡ false)
+pub or_false : (a b : Bool) → (a || b) ≡ false → (a ≡ false) × (b ≡ false)
 or_false true b e = absurd (cc)
 or_false false b e = (refl, e)
 

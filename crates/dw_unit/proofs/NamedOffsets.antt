@@ -216,7 +216,7 @@ among_in q (x ∷ xs) c = ⊎_elim
       right_true true b e = refl
       right_true false b e = e
 
-in_among : (q : ℕ) (xs : List ℕ) → among q xs ≡ true → Contains xs q
+pub in_among : (q : ℕ) (xs : List ℕ) → among q xs ≡ true → Contains xs q
 in_among q [] e = absurd (cc)
 in_among q (x ∷ xs) e = by_test (x == q) refl e (in_among q xs) where
   by_test : (b : Bool) → (x == q) ≡ b → (b || among q xs) ≡ true → (among q xs ≡ true → Contains xs q) → Contains (x ∷ xs) q

@@ -82,8 +82,11 @@ module _ (s : Sections) (free : IsFree (HasDwarfFault (unit_fault_places s))) wh
   pub sections_whole : AreWhole 0 (walked 5 s.info) s.info
   sections_whole = units_whole (length s.info) 0 s.info (omega arith) sections_good
 
+  pub no_bad_high : list_any has_bad_high (declarations s) ≡ false
+  no_bad_high = none_with has_bad_high (declarations s) (none_least (places_with has_bad_high (declarations s)) none.high)
+
   none_bad_high : NoneOf has_bad_high (declarations_of s.abbrevs) (walked 5 s.info)
-  none_bad_high = none_of has_bad_high (declarations_of s.abbrevs) (walked 5 s.info) (none_with has_bad_high (declarations s) (none_least (places_with has_bad_high (declarations s)) none.high))
+  none_bad_high = none_of has_bad_high (declarations_of s.abbrevs) (walked 5 s.info) no_bad_high
 
   none_bad_form : NoneOf has_bad_form (declarations_of s.abbrevs) (walked 5 s.info)
   none_bad_form = none_of has_bad_form (declarations_of s.abbrevs) (walked 5 s.info) (none_with has_bad_form (declarations s)

@@ -1,5 +1,5 @@
 -- What it says that some sections have no fault.
-use Rattle.std.proofs.Common.{◌≡◌, ◌∙◌, ◌++◌, ℕ, List, [], ◌∷◌, Bool, true, false, Option, Some, None, refl, ap, sym, map}
+use Rattle.std.proofs.Common.{◌≡◌, ◌∙◌, ◌<◌, ◌++◌, ℕ, zero, suc, List, [], ◌∷◌, Bool, true, false, Option, Some, None, refl, ap, sym, arith, length, get_or, map}
 use Rattle.std.specs.Prelude.{⊤, ◌||◌, if◌then◌else◌, filter, flat_map, option_map, nat_le}
 use Rattle.std.specs.List.{find, list_any}
 use Rattle.std.specs.Option.{option_or}
@@ -101,6 +101,11 @@ module _ (test : Declaration → Bool) (of : Walked → List Declaration) where
   pub none_of : (ws : List Walked) → list_any test (flat_map of ws) ≡ false → NoneOf ws
   none_of [] e = tt
   none_of (w ∷ ws) e = let p = any_parts test (of w) (flat_map of ws) e in (p.0, none_of ws p.1)
+
+  pub none_at : (ws : List Walked) (i : ℕ) (d : Walked) → i < length ws → NoneOf ws → list_any test (of (get_or ws i d)) ≡ false
+  none_at [] i d h n = absurd (omega arith)
+  none_at (w ∷ ws) zero d h n = n.0
+  none_at (w ∷ ws) (suc i) d h n = none_at ws i d (omega arith) n.1
 
   pub of_none : (ws : List Walked) → NoneOf ws → list_any test (flat_map of ws) ≡ false
   of_none [] n = refl

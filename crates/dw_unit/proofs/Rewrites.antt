@@ -331,7 +331,7 @@ pub record IsHigh (n end : ℕ) (a : Attr) (left rest : List ℕ) : Type 0 where
   pub len : a.len ≡ n
   pub place : a.place ≡ end - length (body ++ rest)
 
-high_at : (n end : ℕ) (s : Spec) (a : Attr) (left rest : List ℕ) → IsAttr end s a left rest → (s.form == 22) ≡ false →
+pub high_at : (n end : ℕ) (s : Spec) (a : Attr) (left rest : List ℕ) → IsAttr end s a left rest → (s.form == 22) ≡ false →
     shape_of s.form ≡ Some (Number n) → IsHigh n end a left rest
 high_at n end s a left rest i direct shaped =
     let formed : form_at 0 s.form (i.lead ++ (i.body ++ rest)) ≡ Ok (a.form, i.body ++ rest) = i.form 0 (i.body ++ rest) refl in

@@ -58,7 +58,7 @@ signed_small x bytes rest e = step (sleb_at bytes) refl e where
 
 -- Pairs
 
-made_spec : (name form implicit : ℕ) (rest left : List ℕ) (s : Spec) → ◌≡◌ {A = Read (Option Spec)} (Ok (Some (record { name = name; form = form; implicit = implicit }), rest)) (Ok (Some s, left)) →
+pub made_spec : (name form implicit : ℕ) (rest left : List ℕ) (s : Spec) → ◌≡◌ {A = Read (Option Spec)} (Ok (Some (record { name = name; form = form; implicit = implicit }), rest)) (Ok (Some s, left)) →
     record { name = name; form = form; implicit = implicit } ≡ s
 made_spec name form implicit rest left s e = some_of (same_value _ _ _ _ e) where
   or_spec : Option Spec → Spec

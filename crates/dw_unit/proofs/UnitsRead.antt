@@ -1,5 +1,5 @@
 -- Units that were read: their headers, tables and entries.
-use Rattle.std.proofs.Common.{◌≡◌, ◌∙◌, ℕ, List, [], ◌∷◌, Bool, true, false, Option, Some, None, Ok, Err, Result, refl, ap, sym, subst, length, map}
+use Rattle.std.proofs.Common.{◌≡◌, ◌∙◌, ℕ, List, [], ◌∷◌, Bool, true, false, Option, Some, None, Ok, Err, IsOk, Result, refl, ap, sym, subst, length, map}
 use Rattle.std.specs.Prelude.{if◌then◌else◌, not}
 use Rattle.std.specs.List.{find, AllZip}
 use Rattle.rb_bytes.specs.Readers.{and_then}
@@ -8,7 +8,7 @@ use Rattle.table_core.specs.DebugUnits.{Walked}
 use Rattle.dw_unit.specs.declared.trouble.Trouble.{Trouble}
 use Rattle.dw_unit.specs.Trouble.{Read, sound_if}
 use Rattle.dw_unit.specs.Declarations.{table_at}
-use Rattle.dw_unit.specs.CompUnits.{Unit, Entry, header_at, end_of, unit_of, unit_by, entries_within}
+use Rattle.dw_unit.specs.CompUnits.{Unit, Entry, header_at, header_of, end_of, unit_of, unit_by, entries_within}
 use Rattle.dw_unit.specs.Faults.{fails}
 use Rattle.dw_unit.specs.Walking.{unit_bounds}
 use Rattle.dw_unit.specs.OwnPlaces.{AllRead}
@@ -56,6 +56,11 @@ unit_read abbrevs w u e = by_bytes w.bytes refl e where
       IsRead abbrevs w u
   by_bytes None is e = absurd (cc)
   by_bytes (Some bytes) is e = by_header abbrevs w bytes (header_at bytes) u is refl e
+
+pub header_read : (abbrevs : List ℕ) (w : Walked) (u : Unit) → unit_of abbrevs w ≡ Ok u → IsOk (header_of w)
+header_read abbrevs w u e =
+    let r : IsRead abbrevs w u = unit_read abbrevs w u e in
+    subst (λ (o : Option (List ℕ)). IsOk (and_so (sound_if o) header_at)) (sym r.is) (subst (λ (h : Read ℕ). IsOk h) (sym r.header) refl)
 
 -- and the other way
 pub unit_again : (abbrevs : List ℕ) (w : Walked) (bytes left : List ℕ) (offset end : ℕ) (es : List Entry) → w.bytes ≡ Some bytes → header_at bytes ≡ Ok (offset, left) →

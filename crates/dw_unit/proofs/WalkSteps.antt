@@ -51,9 +51,9 @@ pub ok_map : {X E : Type 0} (r : Result X E) (P Q : X → Type 0) → ((x : X) �
 ok_map (Ok x) P Q f p = f x p
 ok_map (Err e) P Q f p = p
 
-pub ok_map3 : {X E : Type 0} (r : Result X E) (P Q R S : X → Type 0) → ((x : X) → P x → Q x → R x → S x) → IfOk r P → IfOk r Q → IfOk r R → IfOk r S
-ok_map3 (Ok x) P Q R S f p q s = f x p q s
-ok_map3 (Err e) P Q R S f p q s = p
+pub ok_map2 : {X E : Type 0} (r : Result X E) (P Q R : X → Type 0) → ((x : X) → P x → Q x → R x) → IfOk r P → IfOk r Q → IfOk r R
+ok_map2 (Ok x) P Q R f p q = f x p q
+ok_map2 (Err e) P Q R f p q = p
 
 -- the entries of a unit whose header was read
 pub record IsBehindHeader (w : Walked) (u : Unit) (offset : ℕ) (table : Table) (left : List ℕ) : Type 0 where
@@ -77,6 +77,14 @@ entries_of abbrevs w u offset table left e h t =
           ∙ ap (λ (l : List ℕ). entries_at (unit_bounds w.place (end_of w) (table_at abbrevs u.abbrev_offset)) 0 l) (sym left_is)
           ∙ r.entries;
     }
+
+-- those by a place and an end that are the unit's
+pub entries_there : (abbrevs : List ℕ) (w : Walked) (u : Unit) (offset place end : ℕ) (table : Table) (left : List ℕ) → unit_of abbrevs w ≡ Ok u →
+    header_of w ≡ Ok (offset, left) → table_at abbrevs offset ≡ table → place ≡ w.place → end ≡ end_of w →
+    entries_at (unit_bounds place end table) 0 left ≡ Ok u.entries
+entries_there abbrevs w u offset place end table left e h t p q =
+    ap (λ (k : ℕ). entries_at (unit_bounds k end table) 0 left) p
+    ∙ ap (λ (k : ℕ). entries_at (unit_bounds w.place k table) 0 left) q ∙ (entries_of abbrevs w u offset table left e h t).entries
 
 -- a header has more bytes than the offset of abbreviations
 pub header_room : (w : Walked) (offset : ℕ) (left : List ℕ) → header_of w ≡ Ok (offset, left) → w.place + 12 + length left ≤ end_of w

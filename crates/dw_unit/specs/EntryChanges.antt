@@ -1,5 +1,5 @@
 -- What the change of an entry goes by.
-use Rattle.std.specs.Prelude.{◌≡◌, ◌≤◌, ◌+◌, ℕ, List, [], ◌∷◌}
+use Rattle.std.specs.Prelude.{◌≡◌, ◌≤◌, ◌+◌, ℕ, List, [], ◌∷◌, All}
 use Rattle.table_core.specs.declared.form.TheConstants.{DW_FORM_addr, DW_FORM_sec_offset}
 use Rattle.table_core.specs.DebugUnits.{Walked}
 use Rattle.dw_unit.specs.declared.attribute.TheConstants.{DW_AT_high_pc}
@@ -28,6 +28,13 @@ pub record IsPlaced (from : ℕ) (a : Attr) : Type 0 where
 abbrev pub ArePlaced : (from to : ℕ) → List Attr → Type 0
 ArePlaced from to [] = from ≤ to
 ArePlaced from to (a ∷ attrs) = IsPlaced from a × ArePlaced (a.place + a.len) to attrs
+
+-- a high address has room for the offset of a list
+abbrev pub HasRoom : Attr → Type 0
+HasRoom a = a.name ≡ DW_AT_high_pc → 4 ≤ a.len
+
+abbrev pub HaveRoom : List Attr → Type 0
+HaveRoom attrs = All HasRoom attrs
 
 -- units lie one behind another, between two places
 abbrev pub AreBehind : (from to : ℕ) → List Walked → Type 0

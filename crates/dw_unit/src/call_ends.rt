@@ -50,7 +50,7 @@ pub fn call_ends(alloc: Global, elf: &Elf, map: &AddrMap) -> Result<BTreeMap<u64
     let mut ends = BTreeMap::new(alloc);
     'spans: for index in 0..map.len() {
         let Some(span) = map.span(index) else {
-            return Err(NoMemory);
+            unreachable!();
         };
         if span.input > u64::MAX - 8 {
             return Err(NoMemory);

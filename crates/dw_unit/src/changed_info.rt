@@ -3,7 +3,7 @@ ghost use Rattle.std.specs.Prelude.{◌≡◌, ◌≤◌, ◌+◌, ◌++◌, Lis
 ghost use Rattle.dw_unit.specs.Changes as spec;
 ghost use Rattle.dw_unit.specs.Changes.{Patch, patched};
 ghost use Rattle.dw_unit.specs.CompUnits.{Entry};
-ghost use Rattle.dw_unit.specs.EntryChanges.{ArePlaced, IsOf, IsPlaced};
+ghost use Rattle.dw_unit.specs.EntryChanges.{ArePlaced, HasRoom, HaveRoom, IsOf, IsPlaced};
 ghost use Rattle.dw_unit.specs.EntryMoves.{Moves};
 ghost use Rattle.dw_unit.specs.MovesOf.{AreMovesIn};
 
@@ -43,7 +43,8 @@ fn put_ranges(
     }
 }
 
-// The same up to an attribute, which is changed if it gets a new value.
+// Appends the bytes from a place on up to an attribute's end with its change, or nothing where it gets no new value;
+// answers the place behind them.
 fn put_attr(
     out: &mut Vec<u8>,
     info: &[u8],
@@ -53,6 +54,7 @@ fn put_attr(
     attr: &Attr,
 ) -> Result<usize, NoMemory>
     requires placed { IsPlaced from attr.now }
+    requires room { HasRoom attr.now }
     requires within { attr.now.place + attr.now.len ≤ length info.now }
     ensures put { IfOk result (λ to. (m : Moves) (e : Entry) (ps : List Patch) → AreMovesIn m moves.now → IsOf e entry →
         out.new.items ++ patched to ps (drop to info.now)
@@ -60,9 +62,6 @@ fn put_attr(
     ensures to { IfOk result (λ to. to ≤ attr.now.place + attr.now.len) }
 {
     if attr.name == DW_AT_high_pc {
-        if attr.len < 4 {
-            return Err(NoMemory);
-        }
         return put_ranges(out, info, from, moves, entry, attr);
     }
     match new_value(moves, entry, attr) {
@@ -80,7 +79,8 @@ fn put_attr(
     }
 }
 
-/// The same for all attributes of an entry, which stand before a place.
+/// Appends the bytes from a place on up to the end of an entry's attributes, or less, with their changes; answers the place
+/// behind them. The attributes stand before `end`.
 pub fn put_attrs(
     out: &mut Vec<u8>,
     info: &[u8],
@@ -91,6 +91,7 @@ pub fn put_attrs(
     attrs: &[Attr],
 ) -> Result<usize, NoMemory>
     requires placed { ArePlaced from end attrs.now }
+    requires room { HaveRoom attrs.now }
     requires within { end ≤ length info.now }
     ensures put { IfOk result (λ to. (m : Moves) (e : Entry) (ps : List Patch) → AreMovesIn m moves.now → IsOf e entry →
         out.new.items ++ patched to ps (drop to info.now)

@@ -1,10 +1,14 @@
 // Units with their entries changed in place.
-ghost use Rattle.std.specs.Prelude.{◌≡◌, ◌≤◌, ◌+◌, ◌++◌, List, IfOk, Ok, length, drop, flat_map, map, option_map};
+ghost use Rattle.std.specs.Prelude.{◌≡◌, ◌≤◌, ◌+◌, ◌++◌, List, false, IfOk, Ok, length, drop, flat_map, map, option_map};
+ghost use Rattle.std.specs.List.{list_any};
 ghost use Rattle.table_core.specs.ReadSteps.{oks};
 ghost use Rattle.dw_unit.specs.Changes.{Patch, patched, entry_patches, is_first_of, is_own, unit_patches};
 ghost use Rattle.dw_unit.specs.CompUnits.{Entry, Sections, Unit, end_of, own_entry, unit_of};
-ghost use Rattle.dw_unit.specs.EntryChanges.{AreBehind, ArePlaced, IsOf, own_places};
+ghost use Rattle.dw_unit.specs.Declarations.{has_bad_high};
+ghost use Rattle.dw_unit.specs.EntryChanges.{AreBehind, ArePlaced, HaveRoom, IsOf, own_places};
 ghost use Rattle.dw_unit.specs.EntryMoves.{Moves};
+ghost use Rattle.dw_unit.specs.Faults.{declarations_of};
+ghost use Rattle.dw_unit.specs.MapKeys.{HasOffset, HasOffsets};
 ghost use Rattle.dw_unit.specs.OwnPlaces.{AllRead};
 ghost use Rattle.dw_unit.specs.UnitChanges.{IsChangeOf};
 ghost use Rattle.dw_unit.specs.Walking.{entries_at, unit_bounds};
@@ -18,6 +22,7 @@ use crate::declaration_tests::names;
 use crate::entry::Attr;
 use crate::own_entry::OwnEntry;
 use crate::patch::put_number;
+use crate::trouble::Stop;
 use crate::unit_change::UnitChange;
 use crate::unit_entries::{UnitEntries, own_entry, unit_entries};
 use crate::walk::{Head, next_entry};
@@ -55,6 +60,7 @@ fn put_entry(
     attrs: &[Attr],
 ) -> Result<usize, NoMemory>
     requires placed { ArePlaced from end attrs.now }
+    requires room { HaveRoom attrs.now }
     requires within { end ≤ length change.now.info.now }
     ensures put { IfOk result (λ to. (s : Sections) (m : Moves) (u : Unit) (e : Entry) (ps : List Patch) → IsChangeOf s m change.now →
         own ≡ option_map own_places (own_entry u) → e.place ≡ head.now.place → e.declaration ≡ told_declaration head.now.declaration.now →
@@ -67,7 +73,8 @@ fn put_entry(
     put_attrs(out, change.info, from, end, change.moves, entry, attrs)
 }
 
-// The same of all entries of a unit.
+// Appends the bytes from a place on up to the end of a unit's last entry, or less, with the changes of its entries; answers
+// the place behind them.
 fn put_entries(
     alloc: Global,
     out: &mut Vec<u8>,
@@ -78,6 +85,9 @@ fn put_entries(
 ) -> Result<usize, NoMemory>
     requires behind { from + length unit.cursor.left ≤ unit.end }
     requires within { unit.end ≤ length change.now.info.now }
+    requires fine { list_any has_bad_high (told_at unit.table).list ≡ false }
+    requires read { (es : List Entry)
+        × (entries_at (unit_bounds unit.place unit.end (told_at unit.table)) 0 unit.cursor.left ≡ Ok es) }
     ensures put { IfOk result (λ to. (s : Sections) (m : Moves) (u : Unit) (ps : List Patch) → IsChangeOf s m change.now →
         own ≡ option_map own_places (own_entry u) →
         entries_at (unit_bounds unit.entry.place unit.entry.end (told_at unit.entry.table)) 0 unit.entry.cursor.left ≡ Ok u.entries →
@@ -102,12 +112,14 @@ fn put_entries(
                 to = put_entry(out, to, behind, change, own, &head, &attrs)?;
             }
             Ok(None) => return Ok(to),
-            Err(_) => return Err(NoMemory),
+            Err(Stop::Memory) => return Err(NoMemory),
+            Err(Stop::Trouble(_)) => unreachable!(),
         }
     }
 }
 
-// The same of a unit that can be read.
+// Appends the bytes from a place on up to a unit's end, or less, with the changes of the unit, which can be read; answers
+// the place behind them.
 fn put_unit(
     alloc: Global,
     out: &mut Vec<u8>,
@@ -117,6 +129,10 @@ fn put_unit(
 ) -> Result<usize, NoMemory>
     requires behind { from ≤ unit.now.place }
     requires within { end_of unit.now ≤ length change.now.info.now }
+    requires read { (u : Unit) × (unit_of change.now.tables.now.section.now unit.now ≡ Ok u) }
+    requires fine { list_any has_bad_high (declarations_of change.now.tables.now.section.now unit.now) ≡ false }
+    requires named { HasOffset change.now.tables.now.starts unit.now }
+    requires written { HasOffset change.now.new_tables.now.offsets unit.now }
     ensures put { IfOk result (λ to. (s : Sections) (m : Moves) (u : Unit) (ps : List Patch) → IsChangeOf s m change.now →
         unit_of s.abbrevs unit.now ≡ Ok u →
         out.new.items ++ patched to ps (drop to change.now.info.now)
@@ -124,10 +140,8 @@ fn put_unit(
     ensures to { IfOk result (λ to. to ≤ end_of unit.now) }
 {
     let own = own_entry(alloc, change.tables, unit)?;
-    let entries = unit_entries(change.tables, unit)?;
-    let Some(offset) = change.new_tables.offset(entries.abbrev_offset) else {
-        return Err(NoMemory);
-    };
+    let entries = unit_entries(change.tables, unit);
+    let offset = change.new_tables.offset(entries.abbrev_offset);
     let to = put_number(
         out,
         change.info,
@@ -147,6 +161,9 @@ pub fn changed_units(
 ) -> Result<Vec<u8>, NoMemory>
     requires behind { AreBehind 0 (length change.now.info.now) units.now }
     requires read { AllRead change.now.tables.now.section.now units.now }
+    requires fine { list_any has_bad_high (flat_map (declarations_of change.now.tables.now.section.now) units.now) ≡ false }
+    requires named { HasOffsets change.now.tables.now.starts units.now }
+    requires written { HasOffsets change.now.new_tables.now.offsets units.now }
     ensures { IfOk result (λ w. (s : Sections) (m : Moves) → IsChangeOf s m change.now →
         w.items ≡ patched 0 (flat_map (unit_patches s m) (oks (map (unit_of s.abbrevs) units.now))) change.now.info.now) }
 {

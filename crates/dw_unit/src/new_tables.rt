@@ -5,6 +5,7 @@ ghost use Rattle.std.specs.List.Sorted.{IsStrictlyIncreasing};
 ghost use Rattle.std.specs.Ordering.{nat_cmp};
 ghost use Rattle.dw_unit.specs.Changes.{declaration_bytes, is_own, table_bytes};
 ghost use Rattle.dw_unit.specs.CompUnits.{Sections};
+ghost use Rattle.dw_unit.specs.MapKeys.{HasKeys};
 ghost use Rattle.dw_unit.specs.OwnPlaces.{AreOwn};
 ghost use Rattle.dw_unit.specs.TablesAt.{told_at};
 
@@ -45,17 +46,17 @@ pub fn new_tables(
     own: &OwnDeclarations,
 ) -> Result<NewTables, NoMemory>
     requires rising { IsStrictlyIncreasing offsets.now }
+    requires read { HasKeys tables.now.starts offsets.now }
     ensures bytes { IfOk result (λ w. (s : Sections) → s.abbrevs ≡ tables.now.section.now → AreOwn s own.now →
         w.bytes.items ≡ flat_map (table_bytes s) offsets.now) }
     ensures offsets { IfOk result (λ w. (s : Sections) → s.abbrevs ≡ tables.now.section.now → AreOwn s own.now → (q n : ℕ) →
         get nat_cmp w.offsets q ≡ Some n → n ≡ length (flat_map (table_bytes s) (filter (λ o. nat_lt o q) offsets.now))) }
+    ensures found { IfOk result (λ w. HasKeys w.offsets offsets.now) }
 {
     let mut bytes = Vec::new(alloc);
     let mut starts = BTreeMap::new(alloc);
     for offset in offsets {
-        let Some(table) = tables.find(*offset) else {
-            return Err(NoMemory);
-        };
+        let table = tables.find(*offset);
         starts.insert(*offset, bytes.len() as u64)?;
         put_table(&mut bytes, own, table.at)?;
     }
@@ -68,11 +69,16 @@ pub fn new_tables(
 impl NewTables {
     ghost use Rattle.std.specs.BTreeMap.{get};
     ghost use Rattle.std.specs.Ordering.{nat_cmp};
+    ghost use Rattle.dw_unit.specs.MapKeys.{HasKey};
 
     /// Where the table of an old offset stands.
-    pub fn offset(&self, old: u64) -> Option<u64>
-        ensures { result ≡ get nat_cmp self.now.offsets old }
+    pub fn offset(&self, old: u64) -> u64
+        requires { HasKey self.now.offsets old }
+        ensures { get nat_cmp self.now.offsets old ≡ Some result }
     {
-        self.offsets.get(&old).copied()
+        match self.offsets.get(&old) {
+            Some(offset) => *offset,
+            None => unreachable!(),
+        }
     }
 }

@@ -1,7 +1,9 @@
 // The declarations that own entries of units have.
-ghost use Rattle.std.specs.Prelude.{◌≡◌, ℕ, IfOk, is_some};
+ghost use Rattle.std.specs.Prelude.{◌≡◌, ◌<◌, ◌^◌, ℕ, All, IfOk, is_some};
 ghost use Rattle.std.specs.BTreeMap.{get};
 ghost use Rattle.std.specs.Ordering.{nat_cmp};
+ghost use Rattle.dw_unit.specs.CompUnits.{end_of};
+ghost use Rattle.dw_unit.specs.MapKeys.{HasOffsets};
 ghost use Rattle.dw_unit.specs.OwnPlaces.{AllRead, names_own};
 
 use crate::tables::Tables;
@@ -23,7 +25,9 @@ pub fn own_declarations(
     tables: &Tables<'_>,
     units: &[DebugUnit<'_>],
 ) -> Result<OwnDeclarations, NoMemory>
-    requires { AllRead tables.now.section.now units.now }
+    requires read { AllRead tables.now.section.now units.now }
+    requires named { HasOffsets tables.now.starts units.now }
+    requires within { All (λ w. end_of w < 2 ^ 64) units.now }
     ensures { IfOk result (λ o. (q : ℕ) → is_some (get nat_cmp o.places q) ≡ names_own tables.now.section.now units.now q) }
 {
     let mut places = BTreeMap::new(alloc);

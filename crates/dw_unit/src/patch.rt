@@ -8,7 +8,6 @@ use rb_bytes::fault::NoMemory;
 
 /// Appends the bytes between a place and another, and behind them a number of so many bytes that stands over the next;
 /// answers the place behind it.
-
 pub fn put_number(
     out: &mut Vec<u8>,
     bytes: &[u8],

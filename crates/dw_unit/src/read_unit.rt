@@ -1,10 +1,11 @@
 // Units and their faults.
-ghost use Rattle.std.specs.Prelude.{◌≡◌, ◌≤◌, ◌++◌, ◌∷◌, [], ℕ, List, None, IfOk, Err, length};
+ghost use Rattle.std.specs.Prelude.{◌≡◌, ◌≤◌, ◌<◌, ◌^◌, ◌++◌, ◌∷◌, [], ℕ, List, None, All, IfOk, Err, length};
 ghost use Rattle.table_core.specs.DebugUnits.{Walked};
 ghost use Rattle.table_core.specs.ReadSteps.{least};
 ghost use Rattle.dw_unit.specs.Faults.{unformed};
 ghost use Rattle.dw_unit.specs.UnitReadings.{AreReadings, IsBehind, IsReading};
-ghost use Rattle.dw_unit.specs.CompUnits.{unit_by};
+ghost use Rattle.dw_unit.specs.CompUnits.{end_of, size_of, unit_by};
+ghost use Rattle.dw_unit.specs.MapKeys.{HasOffset, HasOffsets};
 ghost use Rattle.dw_unit.specs.TablesAt.{told_at};
 
 use crate::entry::Entry;
@@ -51,7 +52,8 @@ fn read_behind<'a>(
     end: u64,
     table: FoundTable<'_>,
 ) -> Result<UnitReading, NoMemory>
-    requires { length cursor.old.left ≤ end }
+    requires within { length cursor.old.left ≤ end }
+    requires short { length cursor.old.left < 2 ^ 32 }
     ensures form { IfOk result (λ r. r.bad_form ≡ table.entry.bad_form) }
     ensures high { IfOk result (λ r. r.bad_high ≡ table.entry.bad_high) }
     ensures behind { IfOk result (λ r. (offset : ℕ) →
@@ -86,23 +88,19 @@ fn read_unit(
     addr: &[u8],
     unit: &DebugUnit<'_>,
 ) -> Result<UnitReading, NoMemory>
+    requires named { HasOffset tables.now.starts unit.now }
+    requires within { end_of unit.now < 2 ^ 64 }
+    requires short { size_of unit.now < 2 ^ 32 }
     ensures { IfOk result (IsReading tables.now.section.now addr.now unit.now) }
 {
     let Some(bytes) = unit.bytes else {
         return Ok(unread(Trouble::Unsound));
     };
-    let Some(start) = unit.place.checked_add(4) else {
-        return Err(NoMemory);
-    };
-    let Some(end) = start.checked_add(bytes.len() as u64) else {
-        return Err(NoMemory);
-    };
+    let end = unit.place + 4 + bytes.len() as u64;
     let mut cursor = Cursor::new(bytes);
     match header(&mut cursor) {
         Ok(offset) => {
-            let Some(table) = tables.find(offset) else {
-                return Err(NoMemory);
-            };
+            let table = tables.find(offset);
             read_behind(alloc, addr, &mut cursor, unit.place, end, table)
         }
         Err(trouble) => Ok(unread(trouble)),
@@ -164,6 +162,9 @@ pub fn read_units(
     addr: &[u8],
     units: &[DebugUnit<'_>],
 ) -> Result<Readings, NoMemory>
+    requires named { HasOffsets tables.now.starts units.now }
+    requires within { All (λ w. end_of w < 2 ^ 64) units.now }
+    requires short { All (λ w. size_of w < 2 ^ 32) units.now }
     ensures { IfOk result (AreReadings tables.now.section.now addr.now units.now) }
 {
     let mut readings = Readings {

@@ -1,8 +1,9 @@
 // The tables of abbreviations that units name, each declaration read once.
-ghost use Rattle.std.specs.Prelude.{◌≡◌, IfOk, OnOk, IfSome};
+ghost use Rattle.std.specs.Prelude.{◌≡◌, ◌<◌, IfOk, OnOk, length};
 ghost use Rattle.table_core.specs.ReadSteps.{least};
 ghost use Rattle.dw_unit.specs.Declarations.{table_at, has_bad_form, has_bad_high};
 ghost use Rattle.dw_unit.specs.Faults.{places_with};
+ghost use Rattle.dw_unit.specs.MapKeys.{HasKey, HasKeys, KeepsKeys};
 ghost use Rattle.dw_unit.specs.TablesAt.{told_at};
 ghost use Rattle.dw_unit.specs.TableStarts.{AreStarts, AreMarked};
 ghost use Rattle.dw_unit.specs.Told.{told_table};
@@ -17,8 +18,10 @@ use rb_bytes::fault::NoMemory;
 use std::alloc::Global;
 use std::collections::BTreeMap;
 
-/// How many bytes are read again at most, where tables overlap out of step.
-const READ_AGAIN: u64 = 1 << 28;
+/// How many times the bytes of the section are read at most, where tables overlap out of step, and how many bytes more.
+const READINGS: u64 = 16;
+
+const READ_AGAIN: u64 = 1 << 20;
 
 /// The tables of a section that begin at some offsets.
 #[derive(Drop)]
@@ -45,6 +48,7 @@ fn mark(
     offsets: &[u64],
 ) -> Result<(Option<u64>, Option<u64>), NoMemory>
     ensures marks { OnOk result (AreMarked (told_table table.now) number starts.old starts.new) }
+    ensures keeps { OnOk result (KeepsKeys starts.old starts.new) }
     ensures form { IfOk result (λ f. f.0 ≡ least (places_with has_bad_form (told_table table.now).list)) }
     ensures high { IfOk result (λ f. f.1 ≡ least (places_with has_bad_high (told_table table.now).list)) }
 {
@@ -67,7 +71,7 @@ fn mark(
     Ok((form, high))
 }
 
-// Reads the table of an offset, and marks where others begin in it; answers how many bytes it has.
+// Reads the table of an offset that has no start, and marks where others begin in it; answers how many bytes were read.
 fn read_at(
     alloc: Global,
     section: &[u8],
@@ -77,8 +81,13 @@ fn read_at(
     starts: &mut BTreeMap<u64, Start>,
 ) -> Result<u64, NoMemory>
     requires { AreStarts section.now read.old.items starts.old }
-    ensures { OnOk result (AreStarts section.now read.new.items starts.new) }
+    ensures right { OnOk result (AreStarts section.now read.new.items starts.new) }
+    ensures keeps { OnOk result (KeepsKeys starts.old starts.new) }
+    ensures there { OnOk result (HasKey starts.new offset) }
 {
+    if starts.contains_key(&offset) {
+        return Ok(0);
+    }
     let from = offset.min(section.len() as u64) as usize;
     let table = read_table(alloc, section, from)?;
     let end = match table.end {
@@ -99,25 +108,27 @@ fn read_at(
     Ok(end.saturating_sub(offset))
 }
 
-/// Reads the tables that begin at some offsets, which ascend.
+/// Reads the tables that begin at some offsets, which ascend. Memory is wanting too where they overlap out of step so
+/// often that more than 16 times the section, and 2^20 bytes, would be read.
 pub fn read_tables<'s>(
     alloc: Global,
     section: &'s [u8],
     offsets: &[u64],
 ) -> Result<Tables<'s>, NoMemory>
-    ensures { IfOk result (λ t. t.section.now ≡ section.now) }
+    ensures section { IfOk result (λ t. t.section.now ≡ section.now) }
+    ensures found { IfOk result (λ t. HasKeys t.starts offsets.now) }
 {
     let mut read = Vec::new(alloc);
     let mut starts = BTreeMap::new(alloc);
-    let mut left = section.len() as u64 + READ_AGAIN;
+    let mut left = (section.len() as u64)
+        .saturating_mul(READINGS)
+        .saturating_add(READ_AGAIN);
     for offset in offsets {
-        if !starts.contains_key(offset) {
-            let size = read_at(alloc, section, *offset, offsets, &mut read, &mut starts)?;
-            if left < size {
-                return Err(NoMemory);
-            }
-            left -= size;
+        let size = read_at(alloc, section, *offset, offsets, &mut read, &mut starts)?;
+        if left < size {
+            return Err(NoMemory);
         }
+        left -= size;
     }
     Ok(Tables {
         section,
@@ -128,29 +139,42 @@ pub fn read_tables<'s>(
 
 impl<'s> Tables<'s> {
     ghost use Rattle.std.specs.Prelude.{slice_get};
-    ghost use Rattle.std.specs.Option.{option_copied};
+    ghost use Rattle.std.specs.BTreeMap.{get};
+    ghost use Rattle.std.specs.Ordering.{nat_cmp};
 
-    fn indexed(&self, number: usize) -> Option<&IndexedTable>
-        ensures { option_copied result ≡ slice_get self.now.read.items number }
+    fn indexed(&self, number: usize) -> &IndexedTable
+        requires { number < length self.now.read.items }
+        ensures { slice_get self.now.read.items number ≡ Some result.now }
     {
-        self.read.get(number)
+        &self.read[number]
     }
 
-    /// The table at an offset, if it was read.
-    pub fn find(&self, offset: u64) -> Option<FoundTable<'_>>
-        ensures table { IfSome result (λ t. table_at self.now.section.now offset ≡ told_at t.at) }
-        ensures form { IfSome result (λ t. t.bad_form ≡ least (places_with has_bad_form (table_at self.now.section.now offset).list)) }
-        ensures high { IfSome result (λ t. t.bad_high ≡ least (places_with has_bad_high (table_at self.now.section.now offset).list)) }
+    fn start(&self, offset: u64) -> Start
+        requires { HasKey self.now.starts offset }
+        ensures { get nat_cmp self.now.starts offset ≡ Some result }
     {
-        let start = self.starts.get(&offset)?;
-        let table = self.indexed(start.number)?;
-        Some(FoundTable {
+        match self.starts.get(&offset) {
+            Some(start) => *start,
+            None => unreachable!(),
+        }
+    }
+
+    /// The table at an offset that was read.
+    pub fn find(&self, offset: u64) -> FoundTable<'_>
+        requires { HasKey self.now.starts offset }
+        ensures table { table_at self.now.section.now offset ≡ told_at result.at }
+        ensures form { result.bad_form ≡ least (places_with has_bad_form (table_at self.now.section.now offset).list) }
+        ensures high { result.bad_high ≡ least (places_with has_bad_high (table_at self.now.section.now offset).list) }
+    {
+        let start = self.start(offset);
+        let table = self.indexed(start.number);
+        FoundTable {
             at: TableAt {
                 table,
                 index: start.index,
             },
             bad_form: start.form,
             bad_high: start.high,
-        })
+        }
     }
 }

@@ -1,5 +1,5 @@
 // The entries of a unit. DWARF 5, sections 7.5.1 to 7.5.3.
-ghost use Rattle.std.specs.Prelude.{◌≡◌, ◌≤◌, ℕ, IfOk, Ok, Err, length};
+ghost use Rattle.std.specs.Prelude.{◌≡◌, ◌≤◌, ◌<◌, ◌^◌, ℕ, IfOk, Ok, Err, length};
 ghost use Rattle.dw_unit.specs.Walking.{entries_at, unit_bounds};
 ghost use Rattle.dw_unit.specs.TablesAt.{told_at};
 ghost use Rattle.dw_unit.specs.ListedUnits.{listed_result, listed_unit};
@@ -22,6 +22,7 @@ pub fn read_entries<'a>(
     table: TableAt<'_>,
 ) -> Result<Vec<Entry>, Stop>
     requires within { length cursor.old.left ≤ end }
+    requires short { length cursor.old.left < 2 ^ 32 }
     ensures read { IfOk result (λ es. listed_result (entries_at (unit_bounds unit end (told_at table.entry)) 0 cursor.old.left) ≡ Ok es.items) }
     ensures trouble { IfTrouble result (λ e. entries_at (unit_bounds unit end (told_at table.entry)) 0 cursor.old.left ≡ Err e) }
 {
@@ -31,13 +32,10 @@ pub fn read_entries<'a>(
         let mut attrs = Vec::new(alloc);
         match next_entry(cursor, unit, end, &mut depth, table, &mut attrs)? {
             Some(head) => {
-                let Ok(depth) = u32::try_from(head.depth) else {
-                    return Err(Stop::Memory);
-                };
                 entries.push(Entry {
                     place: head.place,
                     unit,
-                    depth,
+                    depth: head.depth as u32,
                     tag: head.declaration.tag,
                     attrs,
                 })?;
@@ -56,6 +54,7 @@ pub fn unit_entries<'a>(
     table: TableAt<'_>,
 ) -> Result<Vec<Entry>, Stop>
     requires within { length cursor.old.left ≤ end }
+    requires short { length cursor.old.left < 2 ^ 32 }
     ensures read { IfOk result (λ es. (offset : ℕ) →
         listed_unit (unit_by unit end offset (told_at table.entry) cursor.old.left) ≡ Ok es.items) }
     ensures trouble { IfTrouble result (λ e. (offset : ℕ) → unit_by unit end offset (told_at table.entry) cursor.old.left ≡ Err e) }

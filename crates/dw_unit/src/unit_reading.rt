@@ -7,7 +7,7 @@ use crate::entry::Entry;
 pub struct UnitReading {
     /// The least place of a declaration of its table with a bad form.
     pub bad_form: Option<u64>,
-    /// The least place of one with a high address that can't be changed in place.
+    /// The least place of such a declaration with a high address that can't be changed in place.
     pub bad_high: Option<u64>,
     /// The place of the declaration of a value that names no form.
     pub unformed: Option<u64>,
@@ -15,7 +15,7 @@ pub struct UnitReading {
     pub entries: Option<Vec<Entry>>,
 }
 
-/// The same of several units.
+/// The entries of several units, and the places of faults of their declarations and of forms.
 #[derive(Drop)]
 pub struct Readings {
     pub bad_form: Option<u64>,

@@ -66,7 +66,8 @@ pub fn next_entry<'a, 't>(
     ensures forward { IfOk result (λ o. IfSome o (λ _. length cursor.new.left < length cursor.old.left)) }
     ensures placed { IfOk result (λ o. IfSome o (λ _.
         ArePlaced (end - length cursor.old.left) (end - length cursor.new.left) attrs.new.items)) }
-    ensures still_bounded { OnOk result (depth.new + length cursor.new.left < 2 ^ 64) }
+    ensures deepens { OnOk result (depth.new + length cursor.new.left ≤ depth.old + length cursor.old.left) }
+    ensures shallow { IfOk result (λ o. IfSome o (λ h. h.depth + length cursor.new.left < depth.old + length cursor.old.left)) }
 {
     'codes: while cursor.left() > 0 {
         let place = end - cursor.left() as u64;

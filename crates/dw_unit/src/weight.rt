@@ -5,6 +5,7 @@ ghost use Rattle.dw_unit.specs.AbbrevWeight as spec;
 ghost use Rattle.dw_unit.specs.CompUnits.{Sections};
 ghost use Rattle.dw_unit.specs.Faults.{HasDwarfFault, unit_fault_places};
 ghost use Rattle.dw_unit.specs.ListedUnits.{sections};
+ghost use Rattle.dw_unit.specs.MapKeys.{HasKeys};
 
 use crate::offsets::abbrev_offsets;
 use crate::tables::{Tables, read_tables};
@@ -24,18 +25,17 @@ fn table_weight(offset: u64, end: Option<u64>) -> u64
 }
 
 // The weight of the tables at some offsets.
-fn sum_weights(tables: &Tables<'_>, offsets: &[u64]) -> Result<u64, NoMemory>
-    ensures { IfOk result (λ n. (s : Sections) → s.abbrevs ≡ tables.now.section.now →
-        n ≡ min (sum_by (spec.table_weight s) offsets.now) (2 ^ 64 - 1)) }
+fn sum_weights(tables: &Tables<'_>, offsets: &[u64]) -> u64
+    requires { HasKeys tables.now.starts offsets.now }
+    ensures { (s : Sections) → s.abbrevs ≡ tables.now.section.now →
+        result ≡ min (sum_by (spec.table_weight s) offsets.now) (2 ^ 64 - 1) }
 {
     let mut weight: u64 = 0;
     for offset in offsets {
-        let Some(table) = tables.find(*offset) else {
-            return Err(NoMemory);
-        };
+        let table = tables.find(*offset);
         weight = weight.saturating_add(table_weight(*offset, table.at.table.table.end));
     }
-    Ok(weight)
+    weight
 }
 
 /// The weight of the tables of abbreviations that units name.
@@ -51,6 +51,5 @@ pub fn weigh_tables(
     let units = debug_units(alloc, VERSION, info)?;
     let offsets = abbrev_offsets(alloc, &units)?;
     let tables = read_tables(alloc, abbrevs, &offsets)?;
-    let weight = sum_weights(&tables, &offsets)?;
-    Ok(weight)
+    Ok(sum_weights(&tables, &offsets))
 }

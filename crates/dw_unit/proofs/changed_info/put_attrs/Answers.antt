@@ -37,3 +37,6 @@ loop-attr-preserved c =
           ∙ ap (λ (l : List Patch). c.loop-attr.out.items ++ patched c.loop-attr.to l (drop c.loop-attr.to c.args.info.now)) (sym (patches_step f attrs i none ps c.loop-attr-test.true))
           ∙ c.loop-attr.invariant.put m e ps moves of;
     }
+
+pub put_attr-requires-clause-room : goal.put_attr-requires-clause-room
+put_attr-requires-clause-room c = c.requires.room c.loop-attr.attr-index none c.loop-attr-test.true

@@ -1,11 +1,16 @@
 use Rattle.std.proofs.Common.{◌≡◌, ◌≤◌, ◌+◌, ◌∙◌, ◌++◌, ◌∷◌, [], ℕ, List, Ok, ap, arith, sym, subst, drop, length, map, append_assoc}
 use Rattle.std.specs.Prelude.{flat_map}
+use Rattle.std.specs.List.{list_any}
 use Rattle.std.proofs.lemmas.List.{append-nil}
 use Rattle.table_core.specs.DebugUnits.{Walked}
 use Rattle.table_core.specs.ReadSteps.{oks}
 use Rattle.dw_unit.specs.Changes.{Patch, patched, unit_patches}
 use Rattle.dw_unit.specs.CompUnits.{Unit, end_of, unit_of}
+use Rattle.dw_unit.specs.Declarations.{has_bad_high}
 use Rattle.dw_unit.specs.EntryChanges.{AreBehind}
+use Rattle.dw_unit.specs.Faults.{declarations_of}
+use Rattle.dw_unit.proofs.MapKeys.{offset_key}
+use Rattle.dw_unit.proofs.NoFaults.{none_at, none_of}
 use Rattle.dw_unit.proofs.WalkSteps.{behind_less, drop_all, drop_step, oks_step, read_at}
 use Rattle.dw_unit.proofs.changed_units.changed_units.Goals as goal
 
@@ -47,3 +52,23 @@ returns c = λ s m x.
     ∙ sym (ap (λ (ws : List Walked). c.loop-unit.out.items ++ patched c.loop-unit.to (flat_map f (of ws) ++ []) (drop c.loop-unit.to info)) (drop_all i units all))
     ∙ c.loop-unit.invariant.put s m [] x
     ∙ ap (λ (ps : List Patch). patched 0 ps info) (append-nil (flat_map f (of units)))
+
+pub put_unit-requires-clause-read : goal.put_unit-requires-clause-read
+put_unit-requires-clause-read c =
+    let section : List ℕ = c.args.change.now.tables.now.section.now in
+    let r = read_at section c.args.units.now c.loop-unit.unit-index c.unit-item.result c.requires.read c.loop-unit-test.true in
+    (r.0, ap (unit_of section) c.unit-item.is ∙ r.1)
+
+pub put_unit-requires-clause-fine : goal.put_unit-requires-clause-fine
+put_unit-requires-clause-fine c =
+    let of = declarations_of c.args.change.now.tables.now.section.now in
+    ap (λ (w : Walked). list_any has_bad_high (of w)) c.unit-item.is
+    ∙ none_at has_bad_high of c.args.units.now c.loop-unit.unit-index c.unit-item.result c.loop-unit-test.true (none_of has_bad_high of c.args.units.now c.requires.fine)
+
+pub put_unit-requires-clause-named : goal.put_unit-requires-clause-named
+put_unit-requires-clause-named c =
+    offset_key c.args.change.now.tables.now.starts c.args.units.now c.loop-unit.unit-index c.unit-item.result c.unit-item.result c.requires.named c.loop-unit-test.true c.unit-item.is
+
+pub put_unit-requires-clause-written : goal.put_unit-requires-clause-written
+put_unit-requires-clause-written c =
+    offset_key c.args.change.now.new_tables.now.offsets c.args.units.now c.loop-unit.unit-index c.unit-item.result c.unit-item.result c.requires.written c.loop-unit-test.true c.unit-item.is

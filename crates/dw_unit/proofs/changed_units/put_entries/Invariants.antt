@@ -13,6 +13,7 @@ abbrev pub invariant-entries : goal.invariant-entries
 invariant-entries l = record {
   behind : l.to + length l.cursor.left ≤ l.end;
   bounded : l.depth + length l.cursor.left < 2 ^ 64;
+  read : (es : List Entry) × (entries_at (unit_bounds l.place l.end (told_at l.table)) l.depth l.cursor.left ≡ Ok es);
   put : (s : Sections) (m : Moves) (u : Unit) (ps : List Patch) → IsChangeOf s m l.change → l.own ≡ option_map own_places (own_entry u) →
       entries_at (unit_bounds l.place l.end (told_at l.table)) 0 l.fn.unit.cursor.left ≡ Ok u.entries →
       (es : List Entry) × (entries_at (unit_bounds l.place l.end (told_at l.table)) l.depth l.cursor.left ≡ Ok es)

@@ -1,4 +1,6 @@
-use Rattle.std.proofs.Common.{◌≡◌, ◌<◌, ◌^◌, ℕ, List, All, refl, sym, subst, length, nat_cmp}
+use Rattle.std.proofs.Common.{◌≡◌, ◌<◌, ◌^◌, ℕ, List, All, false, arith, refl, sym, subst, length, nat_cmp}
+use Rattle.std.specs.Prelude.{flat_map}
+use Rattle.std.specs.List.{list_any}
 use Rattle.std.specs.BTreeMap.{get}
 use Rattle.rb_bytes.specs.FirstFault.{IsFree}
 use Rattle.elf_image.specs.declared.elf.Elf.{Elf}
@@ -9,13 +11,15 @@ use Rattle.dw_unit.specs.ChangedEntries.{AreChangedUnits}
 use Rattle.dw_unit.specs.CompUnits.{Sections}
 use Rattle.dw_unit.specs.EntryChanges.{AreBehind}
 use Rattle.dw_unit.specs.EntryMoves.{Moves}
-use Rattle.dw_unit.specs.Faults.{HasDwarfFault, unit_fault_places}
+use Rattle.dw_unit.specs.Declarations.{has_bad_high}
+use Rattle.dw_unit.specs.Faults.{HasDwarfFault, declarations_of, unit_fault_places}
 use Rattle.dw_unit.specs.OwnPlaces.{AllRead}
 use Rattle.dw_unit.specs.Tables.{AreChanged, sections_of}
+use Rattle.dw_unit.proofs.AbbrevSizes.{abbrevs_size}
 use Rattle.dw_unit.proofs.Changeable.{AreSmall}
-use Rattle.dw_unit.proofs.NewSections.{all_can_read, units_behind, units_changed, written, written_sound}
+use Rattle.dw_unit.proofs.NewSections.{all_can_read, no_bad_high, units_behind, units_changed, written, written_sound}
 use Rattle.dw_unit.proofs.SmallMoves.{lists_small, moved_small}
-use Rattle.dw_unit.proofs.WalkSteps.{ok_map3}
+use Rattle.dw_unit.proofs.WalkSteps.{ok_map2}
 use Rattle.dw_unit.proofs.changes.change.Goals as goal
 
 pub changed_sections-requires-clause-behind : goal.changed_sections-requires-clause-behind
@@ -27,6 +31,12 @@ changed_sections-requires-clause-read c =
     subst (λ (l : List ℕ). AllRead c.contents_of-2.result.now (walked 5 l)) (sym c.contents_of.ensures)
     (subst (λ (l : List ℕ). AllRead l (walked 5 (sections_of c.args.elf.now).info)) (sym c.contents_of-2.ensures)
     (all_can_read (sections_of c.args.elf.now) c.requires.sound))
+
+pub changed_sections-requires-clause-fine : goal.changed_sections-requires-clause-fine
+changed_sections-requires-clause-fine c =
+    subst (λ (l : List ℕ). list_any has_bad_high (flat_map (declarations_of c.contents_of-2.result.now) (walked 5 l)) ≡ false) (sym c.contents_of.ensures)
+    (subst (λ (l : List ℕ). list_any has_bad_high (flat_map (declarations_of l) (walked 5 (sections_of c.args.elf.now).info)) ≡ false) (sym c.contents_of-2.ensures)
+    (no_bad_high (sections_of c.args.elf.now) c.requires.sound))
 
 pub returns : goal.returns
 returns c =
@@ -40,9 +50,9 @@ returns c =
       lists = λ entry attr o e. lists_small c.in_ok-lists.lists entry attr o low e;
     } in
     let free : IsFree (HasDwarfFault (unit_fault_places s)) = c.requires.sound in
-    ok_map3 c.changed_sections.result _ _ _ _ (λ w info abbrevs short.
+    let low_size : length (changed_abbrevs s) < 2 ^ 32 = let size = abbrevs_size s in let light = c.requires.light in omega arith in
+    ok_map2 c.changed_sections.result _ _ _ (λ w info abbrevs.
     let abbrevs_are : w.1.items ≡ changed_abbrevs s = abbrevs s (sym c.contents_of.ensures) (sym c.contents_of-2.ensures) free in
-    let low_size : length (changed_abbrevs s) < 2 ^ 32 = subst (λ (l : List ℕ). length l < 2 ^ 32) abbrevs_are short in
     let of : (f : Elf) → AreChanged m c.args.elf.now f → written s m small free low_size ≡ sections_of f =
     λ f e i. record { info = sym e.info i; abbrevs = sym e.abbrevs i; addr = sym e.addr i } in
     record {
@@ -54,4 +64,4 @@ returns c =
       units_are = λ f e. subst (λ (t : Sections). AreChangedUnits s m t) (of f e) (units_changed s m small free low_size);
       sound = λ f e. subst (λ (t : Sections). IsFree (HasDwarfFault (unit_fault_places t))) (of f e) (written_sound s m small free low_size);
     })
-    c.changed_sections.ensures.info c.changed_sections.ensures.abbrevs c.changed_sections.ensures.small
+    c.changed_sections.ensures.info c.changed_sections.ensures.abbrevs

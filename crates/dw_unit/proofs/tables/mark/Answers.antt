@@ -8,6 +8,7 @@ use Rattle.dw_unit.specs.Lowest.{lower_if}
 use Rattle.dw_unit.specs.TableStarts.{IsMark}
 use Rattle.dw_unit.specs.Told.{told_declaration, told_table}
 use Rattle.dw_unit.proofs.Leasts.{least_with}
+use Rattle.dw_unit.proofs.MapKeys.{keys_kept}
 use Rattle.dw_unit.proofs.Starts.{mark_more}
 use Rattle.dw_unit.proofs.tables.mark.Goals as goal
 
@@ -30,6 +31,7 @@ marks-preserved c =
       high = c.lower_of-high.ensures ∙ ap (λ b. lower_if b x.place c.marks.high) c.has_bad_high.ensures
           ∙ least_with has_bad_high (map told_declaration items) i c.marks.index (told_declaration x) c.marks.high next there c.marks.invariant.high;
       marks = c.marks.invariant.marks;
+      keeps = c.marks.invariant.keeps;
     }
 
 pub marks-preserved-in_ok-insert : goal.marks-preserved-in_ok-insert
@@ -58,4 +60,5 @@ marks-preserved-in_ok-insert c =
       high = high_is;
       marks = mark_more t c.args.number c.args.starts.now c.marks.starts c.insert.new.self x.place s0 c.marks.invariant.marks
           (λ q. c.in_ok-insert.ensures.updates.0 q) is;
+      keeps = λ q h. keys_kept c.marks.starts c.insert.new.self x.place s0 (λ q. c.in_ok-insert.ensures.updates.0 q) q (c.marks.invariant.keeps q h);
     }

@@ -7,6 +7,7 @@ use Rattle.dw_unit.specs.Declarations.{Table, table_at, has_bad_form, has_bad_hi
 use Rattle.dw_unit.specs.Faults.{places_with}
 use Rattle.dw_unit.specs.TableStarts.{AreMarked, IsStart}
 use Rattle.dw_unit.specs.Told.{told_table}
+use Rattle.dw_unit.proofs.MapKeys.{key_there, keys_kept}
 use Rattle.dw_unit.proofs.Starts.{starts_more, first}
 use Rattle.dw_unit.proofs.TableSuffixes.{table_past}
 use Rattle.dw_unit.proofs.tables.read_at.Goals as goal
@@ -17,8 +18,8 @@ same_table section offset from e = ⊎_elim
     (λ (h : offset ≤ length section). let is : offset ≡ from = omega arith in ap (table_at section) is)
     (cases_lt (length section) offset)
 
-pub returns : goal.returns
-returns c = λ q s e.
+pub returns-clause-right : goal.returns-clause-right
+returns-clause-right c = λ q s e.
     let section : List ℕ = c.args.section.now in
     let old : List IndexedTable = c.args.read.now.items in
     let t : IndexedTable = c.in_ok-table-2.table in
@@ -40,3 +41,13 @@ returns c = λ q s e.
     subst (λ (items : List IndexedTable). IsStart section items q s) (sym c.in_ok-push.ensures.items)
     (starts_more section old t from inside read c.args.starts.now c.mark.new.starts c.insert.new.self c.args.offset s0 c.requires marks
     (λ q. c.in_ok-insert.ensures.updates.0 q) start q s e)
+
+pub returns-clause-keeps : goal.returns-clause-keeps
+returns-clause-keeps c = λ q h.
+    let s0 : Start = record { number = c.len-number.result; index = 0; form = c.in_ok-form.form; high = c.in_ok-form.high } in
+    keys_kept c.mark.new.starts c.insert.new.self c.args.offset s0 (λ q. c.in_ok-insert.ensures.updates.0 q) q (c.in_ok-form.ensures.keeps q h)
+
+pub returns-clause-there : goal.returns-clause-there
+returns-clause-there c =
+    let s0 : Start = record { number = c.len-number.result; index = 0; form = c.in_ok-form.form; high = c.in_ok-form.high } in
+    key_there c.mark.new.starts c.insert.new.self c.args.offset s0 (λ q. c.in_ok-insert.ensures.updates.0 q)

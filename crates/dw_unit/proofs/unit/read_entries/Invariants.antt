@@ -9,7 +9,7 @@ invariant-entries l = record {
   same : with_listed l.entries.items (entries_at (unit_bounds l.unit l.end (told_at l.table)) l.depth l.cursor.left)
       ≡ listed_result (entries_at (unit_bounds l.unit l.end (told_at l.table)) 0 l.fn.cursor.left);
   within : length l.cursor.left ≤ l.end;
-  bounded : l.depth + length l.cursor.left < 2 ^ 64;
+  bounded : l.depth + length l.cursor.left < 2 ^ 32;
 }
 
 abbrev pub decreases-entries : goal.decreases-entries

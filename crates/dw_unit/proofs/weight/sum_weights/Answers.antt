@@ -15,9 +15,12 @@ loop-offset-preserved c = λ s e.
     let sum : ℕ = sum_by (table_weight s) (take c.loop-offset.offset-index c.args.offsets.now) in
     let more : c.table_weight.result ≡ min (table_weight s offset) limit =
     c.table_weight.ensures ∙ ap (λ (o : Option ℕ). min (3 * (unwrap_or o offset - offset)) limit)
-    (sym (ap (λ (t : Table). t.end) (ap (λ (b : List ℕ). table_at b offset) e ∙ c.in-Some.ensures.table))) in
+    (sym (ap (λ (t : Table). t.end) (ap (λ (b : List ℕ). table_at b offset) e ∙ c.find-table.ensures.table))) in
     c.saturating_add-weight.ensures
     ∙ ap (λ (n : ℕ). min (n + c.table_weight.result) limit) (c.loop-offset.invariant s e)
     ∙ ap (λ (n : ℕ). min (min sum limit + n) limit) more
     ∙ saturated sum (table_weight s offset) limit
     ∙ ap (λ (n : ℕ). min n limit) (sym (sum_by_more (table_weight s) c.args.offsets.now c.loop-offset.offset-index 0 c.loop-offset-test.true))
+
+pub find-table-requires : goal.find-table-requires
+find-table-requires c = c.requires c.loop-offset.offset-index c.loop-offset-test.true
