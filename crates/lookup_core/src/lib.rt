@@ -1,6 +1,11 @@
-//! What the tables of a file say at an address, as text: so far its definition, and the contract of what makes it.
+//! What the tables of a file say at an address, as text. So far the tables aren't read for it.
 #![tactic(auto)]
 
+mod covers;
+mod lines;
+mod places;
 mod report;
+mod texts;
+mod unwind;
 
-pub use report::{Report, look};
+pub use report::{Report, look, report_text};

@@ -1,11 +1,18 @@
 // The report on an address.
-ghost use Rattle.std.specs.Prelude.{◌≡◌, IfOk, IfErr, OnOk};
+ghost use Rattle.std.specs.Prelude.{◌≡◌, map, IfOk, IfErr, OnOk};
 ghost use Rattle.rb_bytes.specs.FirstFault.{IsFree, IsRefusalBy};
-ghost use Rattle.lookup_core.specs.Report.{report};
+ghost use Rattle.lookup_core.specs.Report.{report, report_of};
+ghost use Rattle.range_loc_rewrite.specs.Locations.{place_said};
 ghost use Rattle.table_set.specs.TableFaults.{HasTableFault};
 
+use crate::covers::put_covers;
+use crate::lines::put_line;
+use crate::places::put_places;
+use crate::unwind::put_frame;
 use elf_image::Elf;
-use rb_bytes::fault::Refusal;
+use frame_rewrite::FrameAt;
+use line_rewrite::LineAt;
+use rb_bytes::fault::{NoMemory, Refusal};
 use std::alloc::Global;
 
 /// What the tables of a file say at an address.
@@ -21,6 +28,27 @@ impl Report {
     {
         &self.text
     }
+}
+
+/// The text of the report, of what the tables say.
+pub fn report_text(
+    alloc: Global,
+    line: &Option<LineAt>,
+    covers: &[u64],
+    places: &[(u64, u64, Vec<Vec<u8>>)],
+    unwind: &Option<FrameAt>,
+) -> Result<Vec<u8>, NoMemory>
+    ensures { IfOk result (λ text. text.items ≡ report_of line.now covers.now (map place_said places.now) unwind.now) }
+{
+    let mut text = Vec::new(alloc);
+    put_line(&mut text, line)?;
+    put_covers(&mut text, covers)?;
+    put_places(&mut text, places)?;
+    put_frame(&mut text, unwind)?;
+    if text.is_empty() {
+        text.extend_from_slice(b"none\n")?;
+    }
+    Ok(text)
 }
 
 /// The report on an address, or the fault of the file's tables with the lowest number.
