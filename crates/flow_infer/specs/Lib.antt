@@ -1,0 +1,4 @@
+pub mod Flows
+pub mod Heights
+pub mod Laws
+pub mod LineCounts

@@ -1,0 +1,71 @@
+// Links as they are seen from their ends.
+ghost use Rattle.std.specs.Prelude.{◌≡◌, ◌<◌, ◌^◌, ℕ, All, IfOk, OnOk, length};
+ghost use Rattle.flow_infer.specs.Heights.{AreAmong, AreArcs, IsArcOf};
+
+use crate::flow::Link;
+use crate::nodes::node;
+use rb_bytes::fault::NoMemory;
+use std::alloc::Global;
+
+/// A link from one of its ends: `head` is the node at the other.
+#[derive(Clone, Copy)]
+pub struct Arc {
+    /// The place of the link.
+    pub link: usize,
+    /// Whether the link leads to the head.
+    pub along: bool,
+    pub head: usize,
+}
+
+/// The arcs of each node.
+pub fn arcs(
+    alloc: Global,
+    links: &[Link],
+    first: usize,
+    nodes: usize,
+) -> Result<Vec<Vec<Arc>>, NoMemory>
+    requires few { nodes < 2 ^ 63 }
+    requires some { 0 < nodes }
+    requires among { AreAmong first nodes links.now }
+    ensures length { IfOk result (λ around. length around.items ≡ nodes) }
+    ensures arcs { IfOk result (λ around. AreArcs (length links.now) nodes around.items) }
+{
+    let mut around = Vec::new(alloc);
+    for _ in 0..nodes {
+        around.push(Vec::new(alloc))?;
+    }
+    for (place, link) in links.iter().enumerate() {
+        let from = node(link.from, first);
+        let to = node(link.to, first);
+        push_arc(
+            &mut around,
+            from,
+            Arc {
+                link: place,
+                along: true,
+                head: to,
+            },
+        )?;
+        push_arc(
+            &mut around,
+            to,
+            Arc {
+                link: place,
+                along: false,
+                head: from,
+            },
+        )?;
+    }
+    Ok(around)
+}
+
+// Adds an arc of a node.
+fn push_arc(around: &mut Vec<Vec<Arc>>, node: usize, arc: Arc) -> Result<(), NoMemory>
+    requires { node < length around.old.items }
+    ensures length { length around.new.items ≡ length around.old.items }
+    ensures arcs { OnOk result ((links nodes : ℕ) → IsArcOf links nodes arc → AreArcs links nodes around.old.items →
+        AreArcs links nodes around.new.items) }
+{
+    around[node].push(arc)?;
+    Ok(())
+}

@@ -1,0 +1,129 @@
+// How far nodes are from nodes that need flow, by what links on the way lack for room.
+ghost use Rattle.std.specs.Prelude.{◌≡◌, ◌<◌, ◌^◌, ℕ, All, IfOk, IfSome, OnOk, length};
+ghost use Rattle.std.specs.BinaryHeap.{heap_items};
+ghost use Rattle.flow_infer.specs.Heights.{AreArcs, AreNodes, IsArcOf, IsSteady};
+
+use crate::arcs::Arc;
+use crate::flow::Link;
+use crate::rooms::slack_at;
+use rb_bytes::fault::NoMemory;
+use std::alloc::Global;
+use std::cmp::Reverse;
+use std::collections::BinaryHeap;
+
+/// How far each node is from one that needs flow.
+#[derive(Drop)]
+pub struct Distances {
+    /// The distance of each node; of a node that is farther than the nearest one that has flow to spare, no less than
+    /// that one's.
+    pub of_nodes: Vec<u64>,
+    /// The distance of the nearest node that has flow to spare.
+    pub nearest: u64,
+}
+
+/// Dijkstra's search, from the nodes that need flow back to the nearest one that has some to spare.
+pub fn find_distances(
+    alloc: Global,
+    links: &[Link],
+    heights: &[u64],
+    first: usize,
+    around: &[Vec<Arc>],
+    spare: &[u128],
+    need: &[u128],
+) -> Result<Distances, NoMemory>
+    requires few { length heights.now < 2 ^ 63 }
+    requires steady { IsSteady heights.now first (length heights.now) links.now }
+    requires around { length around.now ≡ length heights.now }
+    requires arcs { AreArcs (length links.now) (length heights.now) around.now }
+    requires spare { length spare.now ≡ length heights.now }
+    requires need { length need.now ≡ length heights.now }
+    ensures { IfOk result (λ d. length d.of_nodes.items ≡ length heights.now) }
+{
+    let nodes = heights.len();
+    let mut of_nodes = vec![in alloc; u64::MAX; nodes]?;
+    let mut queue = BinaryHeap::new(alloc);
+    for n in 0..nodes {
+        if need[n] > 0 {
+            of_nodes[n] = 0;
+            push_node(&mut queue, 0, n)?;
+        }
+    }
+    for _ in 0..u64::MAX {
+        let Some((distance, n)) = pop_node(&mut queue) else {
+            break;
+        };
+        if spare[n] > 0 {
+            return Ok(Distances {
+                of_nodes,
+                nearest: distance,
+            });
+        }
+        if distance > of_nodes[n] {
+            continue;
+        }
+        queue_sources(
+            &mut queue,
+            &mut of_nodes,
+            links,
+            heights,
+            first,
+            &around[n],
+            distance,
+        )?;
+    }
+    Ok(Distances {
+        of_nodes,
+        nearest: u64::MAX,
+    })
+}
+
+// Queues the nodes that are nearer than was known by way of a node with these arcs, which is at a distance.
+fn queue_sources(
+    queue: &mut BinaryHeap<(Reverse<u64>, usize)>,
+    of_nodes: &mut [u64],
+    links: &[Link],
+    heights: &[u64],
+    first: usize,
+    arcs: &[Arc],
+    distance: u64,
+) -> Result<(), NoMemory>
+    requires few { length heights.now < 2 ^ 63 }
+    requires steady { IsSteady heights.now first (length heights.now) links.now }
+    requires arcs { All (IsArcOf (length links.now) (length heights.now)) arcs.now }
+    requires distances { length of_nodes.old ≡ length heights.now }
+    requires queue { AreNodes (length heights.now) (heap_items queue.old) }
+    ensures { OnOk result (AreNodes (length heights.now) (heap_items queue.new)) }
+{
+    for arc in arcs {
+        let farther = distance.saturating_add(slack_at(
+            links, arc.link, heights, first, !arc.along,
+        ));
+        if farther < of_nodes[arc.head] {
+            of_nodes[arc.head] = farther;
+            push_node(queue, farther, arc.head)?;
+        }
+    }
+    Ok(())
+}
+
+// Queues a node at a distance.
+fn push_node(
+    queue: &mut BinaryHeap<(Reverse<u64>, usize)>,
+    distance: u64,
+    node: usize,
+) -> Result<(), NoMemory>
+    ensures { OnOk result ((nodes : ℕ) → node < nodes → AreNodes nodes (heap_items queue.old) →
+        AreNodes nodes (heap_items queue.new)) }
+{
+    queue.push((Reverse(distance), node))?;
+    Ok(())
+}
+
+// Takes out the nearest node, with its distance.
+fn pop_node(queue: &mut BinaryHeap<(Reverse<u64>, usize)>) -> Option<(u64, usize)>
+    ensures { IfSome result (λ e. (nodes : ℕ) → AreNodes nodes (heap_items queue.old) →
+        (e.1 < nodes) × AreNodes nodes (heap_items queue.new)) }
+{
+    let (Reverse(distance), node) = queue.pop()?;
+    Some((distance, node))
+}

@@ -1,0 +1,61 @@
+// Heights raised as far as prices go on to hold.
+ghost use Rattle.std.specs.Prelude.{◌≡◌, ◌<◌, ◌≤◌, ◌^◌, ℕ, All, OnOk, length, slice_index};
+ghost use Rattle.flow_infer.specs.Heights.{HoldsRaised, IsSteady, raised};
+
+use crate::flow::Link;
+use crate::nodes::at_node;
+use crate::rooms;
+use rb_bytes::fault::NoMemory;
+
+/// Raises nodes in the longest step, up to `most`, in which prices go on to hold. Each rises by what the step is longer
+/// than its distance.
+pub fn lift(
+    heights: &mut [u64],
+    first: usize,
+    links: &[Link],
+    distances: &[u64],
+    most: u64,
+) -> Result<(), NoMemory>
+    requires few { length heights.old < 2 ^ 63 }
+    requires steady { IsSteady heights.old first (length heights.old) links.now }
+    requires distances { length distances.now ≡ length heights.old }
+    ensures { OnOk result (IsSteady heights.new first (length heights.new) links.now) }
+{
+    let step = longest_step(heights, first, links, distances, most);
+    raise(heights, distances, step)
+}
+
+// The longest step up to `most` in which prices go on to hold.
+fn longest_step(heights: &[u64], first: usize, links: &[Link], distances: &[u64], most: u64) -> u64
+    requires few { length heights.now < 2 ^ 63 }
+    requires steady { IsSteady heights.now first (length heights.now) links.now }
+    requires distances { length distances.now ≡ length heights.now }
+    ensures { (step : ℕ) → step ≤ result → All (HoldsRaised heights.now first distances.now step) links.now }
+{
+    let mut longest = most;
+    for link in links {
+        let a = at_node(heights, first, link.from);
+        let b = at_node(heights, first, link.to);
+        let p = at_node(distances, first, link.from);
+        let q = at_node(distances, first, link.to);
+        let step = rooms::longest_step(link, a, b, p, q);
+        longest = longest.min(step);
+    }
+    longest
+}
+
+// Raises the nodes in a step.
+fn raise(heights: &mut [u64], distances: &[u64], step: u64) -> Result<(), NoMemory>
+    requires { length distances.now ≡ length heights.old }
+    ensures { OnOk result ((n : ℕ) → n < length heights.old →
+        slice_index heights.new n ≡ raised step (slice_index distances.now n) (slice_index heights.old n)) }
+{
+    for n in 0..heights.len() {
+        let rise = step.saturating_sub(distances[n]);
+        heights[n] = match heights[n].checked_add(rise) {
+            Some(height) => height,
+            None => return Err(NoMemory),
+        };
+    }
+    Ok(())
+}

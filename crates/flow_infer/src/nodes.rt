@@ -1,0 +1,123 @@
+// The nodes of one function, and what flows into them and out of them.
+ghost use Rattle.std.specs.Prelude.{◌≡◌, ◌==◌, ◌+◌, ◌-◌, ◌<◌, ◌≤◌, ◌^◌, ℕ, All, IfOk, IfSome, IsTrue, OnOk, length};
+ghost use Rattle.std.specs.Prelude.{slice_index, if◌then◌else◌};
+ghost use Rattle.flow_infer.specs.Flows.{inflow, outflow};
+ghost use Rattle.flow_infer.specs.Heights as heights;
+ghost use Rattle.flow_infer.specs.Heights.{AreAmong, IsNodeBelow, node_of};
+
+use crate::flow::Link;
+use rb_bytes::fault::NoMemory;
+use std::alloc::Global;
+
+/// The number of a node: 0 for what lies outside, and the blocks of a function from 1 on.
+pub fn node(end: Option<usize>, first: usize) -> usize
+    requires { IfSome end (λ k. (first ≤ k) × (k - first < 2 ^ 63)) }
+    ensures { result ≡ node_of first end }
+{
+    match end {
+        Some(block) => block - first + 1,
+        None => 0,
+    }
+}
+
+/// The number of a node among numbers of all nodes, as its height.
+pub fn at_node(numbers: &[u64], first: usize, end: Option<usize>) -> u64
+    requires some { 0 < length numbers.now }
+    requires few { length numbers.now < 2 ^ 63 }
+    requires end { IsNodeBelow first (length numbers.now) end }
+    ensures { result ≡ heights.at_node numbers.now first end }
+{
+    numbers[node(end, first)]
+}
+
+/// What flows into each node.
+pub fn inflows(
+    alloc: Global,
+    links: &[Link],
+    first: usize,
+    nodes: usize,
+) -> Result<Vec<u128>, NoMemory>
+    requires few { nodes < 2 ^ 63 }
+    requires some { 0 < nodes }
+    requires among { AreAmong first nodes links.now }
+    ensures length { IfOk result (λ sums. length sums.items ≡ nodes) }
+    ensures sums { IfOk result
+        (λ sums. (k : ℕ) → k + 1 < nodes → slice_index sums.items (k + 1) ≡ inflow links.now (first + k)) }
+{
+    let mut sums = vec![in alloc; 0u128; nodes]?;
+    for link in links {
+        add(&mut sums, node(link.to, first), link.flow)?;
+    }
+    Ok(sums)
+}
+
+/// What flows out of each node.
+pub fn outflows(
+    alloc: Global,
+    links: &[Link],
+    first: usize,
+    nodes: usize,
+) -> Result<Vec<u128>, NoMemory>
+    requires few { nodes < 2 ^ 63 }
+    requires some { 0 < nodes }
+    requires among { AreAmong first nodes links.now }
+    ensures length { IfOk result (λ sums. length sums.items ≡ nodes) }
+    ensures sums { IfOk result
+        (λ sums. (k : ℕ) → k + 1 < nodes → slice_index sums.items (k + 1) ≡ outflow links.now (first + k)) }
+{
+    let mut sums = vec![in alloc; 0u128; nodes]?;
+    for link in links {
+        add(&mut sums, node(link.from, first), link.flow)?;
+    }
+    Ok(sums)
+}
+
+// Adds to the sum of a node. Sums that don't fit would take more than all counts.
+fn add(sums: &mut [u128], node: usize, flow: u128) -> Result<(), NoMemory>
+    requires { node < length sums.old }
+    ensures { OnOk result ((n : ℕ) →
+        slice_index sums.new n ≡ (if n == node then slice_index sums.old n + flow else slice_index sums.old n)) }
+{
+    match sums[node].checked_add(flow) {
+        Some(sum) => {
+            sums[node] = sum;
+            Ok(())
+        }
+        None => Err(NoMemory),
+    }
+}
+
+/// Whether as much flows into each block as out of it.
+pub fn is_balanced(inflows: &[u128], outflows: &[u128]) -> bool
+    requires { length inflows.now ≡ length outflows.now }
+    ensures { IsTrue result → (k : ℕ) → k + 1 < length inflows.now →
+        slice_index inflows.now (k + 1) ≡ slice_index outflows.now (k + 1) }
+{
+    for n in 1..inflows.len() {
+        if inflows[n] != outflows[n] {
+            return false;
+        }
+    }
+    true
+}
+
+/// What each node has more of one number than of another.
+pub fn surplus(alloc: Global, more: &[u128], less: &[u128]) -> Result<Vec<u128>, NoMemory>
+    requires { length more.now ≡ length less.now }
+    ensures { IfOk result (λ numbers. length numbers.items ≡ length more.now) }
+{
+    let mut numbers = Vec::new(alloc);
+    for n in 0..more.len() {
+        numbers.push(more[n].saturating_sub(less[n]))?;
+    }
+    Ok(numbers)
+}
+
+/// The sum of numbers, or the greatest number where it is greater.
+pub fn total(numbers: &[u128]) -> u128 {
+    let mut sum = 0u128;
+    for number in numbers {
+        sum = sum.saturating_add(*number);
+    }
+    sum
+}

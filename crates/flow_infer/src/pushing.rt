@@ -1,0 +1,101 @@
+// Flow moved from nodes that have too much of it to nodes that have too little.
+ghost use Rattle.std.specs.Prelude.{◌≡◌, ◌<◌, ◌^◌, ℕ, All, length};
+ghost use Rattle.flow_infer.specs.Heights.{AreArcs, HasMoved, IsArcOf, IsSteady};
+
+use crate::arcs::Arc;
+use crate::flow::Link;
+use crate::nodes::at_node;
+use crate::rooms::{moved, room_at};
+use crate::searching::Found;
+
+// Moves so much more along a link, or against it, as far as there is room.
+fn move_at(
+    links: &mut [Link],
+    place: usize,
+    heights: &[u64],
+    first: usize,
+    along: bool,
+    amount: u128,
+)
+    requires few { length heights.now < 2 ^ 63 }
+    requires steady { IsSteady heights.now first (length heights.now) links.old }
+    requires place { place < length links.old }
+    ensures { HasMoved heights.now first (length heights.now) links.old links.new }
+{
+    let link = links[place];
+    let a = at_node(heights, first, link.from);
+    let b = at_node(heights, first, link.to);
+    links[place] = moved(&link, a, b, along, amount);
+}
+
+/// Moves what nodes have to spare on to nodes that were found before them: the last that was found comes first.
+pub fn wave(
+    links: &mut [Link],
+    heights: &[u64],
+    first: usize,
+    around: &[Vec<Arc>],
+    found: &Found,
+    spare: &mut [u128],
+    need: &mut [u128],
+)
+    requires few { length heights.now < 2 ^ 63 }
+    requires steady { IsSteady heights.now first (length heights.now) links.old }
+    requires around { length around.now ≡ length heights.now }
+    requires arcs { AreArcs (length links.old) (length heights.now) around.now }
+    requires places { length found.now.places.items ≡ length heights.now }
+    requires order { All (λ n. n < length heights.now) found.now.order.items }
+    requires spare { length spare.old ≡ length heights.now }
+    requires need { length need.old ≡ length heights.now }
+    ensures { HasMoved heights.now first (length heights.now) links.old links.new }
+{
+    let count = found.order.len();
+    for back in 0..count {
+        let n = found.order[count - 1 - back];
+        push_from(
+            links,
+            heights,
+            first,
+            &around[n],
+            n,
+            &found.places,
+            spare,
+            need,
+        );
+    }
+}
+
+// Moves what a node has to spare on to nodes that were found before it.
+fn push_from(
+    links: &mut [Link],
+    heights: &[u64],
+    first: usize,
+    arcs: &[Arc],
+    n: usize,
+    places: &[usize],
+    spare: &mut [u128],
+    need: &mut [u128],
+)
+    requires few { length heights.now < 2 ^ 63 }
+    requires steady { IsSteady heights.now first (length heights.now) links.old }
+    requires arcs { All (IsArcOf (length links.old) (length heights.now)) arcs.now }
+    requires node { n < length heights.now }
+    requires places { length places.now ≡ length heights.now }
+    requires spare { length spare.old ≡ length heights.now }
+    requires need { length need.old ≡ length heights.now }
+    ensures { HasMoved heights.now first (length heights.now) links.old links.new }
+{
+    for arc in arcs {
+        if places[arc.head] >= places[n] {
+            continue;
+        }
+        let amount = spare[n].min(room_at(links, arc.link, heights, first, arc.along));
+        if amount == 0 {
+            continue;
+        }
+        move_at(links, arc.link, heights, first, arc.along, amount);
+        spare[n] = spare[n].saturating_sub(amount);
+        let needed = need[arc.head];
+        need[arc.head] = needed.saturating_sub(amount);
+        spare[arc.head] = spare[arc.head].saturating_add(amount.saturating_sub(needed));
+    }
+}

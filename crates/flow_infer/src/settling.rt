@@ -1,0 +1,109 @@
+// Flows of one function that balance, with heights that show that they change the counts least.
+ghost use Rattle.std.specs.Prelude.{◌≡◌, ◌<◌, ◌^◌, ℕ, All, IfOk, OnOk, length};
+ghost use Rattle.flow_infer.specs.declared.settling.Progress.TheVariants as progress;
+ghost use Rattle.flow_infer.specs.Flows.{AreSameLinks};
+ghost use Rattle.flow_infer.specs.Heights.{AllHoldBy, AreAmong, AreArcs, BalancesWithin, IsSteady};
+
+use crate::arcs::{Arc, arcs};
+use crate::distances::find_distances;
+use crate::flow::Link;
+use crate::lifting::lift;
+use crate::nodes::{inflows, is_balanced, outflows, surplus, total};
+use crate::pushing::wave;
+use crate::searching::search;
+use rb_bytes::fault::NoMemory;
+use std::alloc::Global;
+
+/// What a round came to.
+#[derive(Clone, Copy, PartialEq, Eq)]
+pub enum Progress {
+    /// The flow balances.
+    Balanced,
+    /// Flow was moved. So much was to be moved before.
+    Moved(u128),
+    /// Heights were raised.
+    Raised,
+}
+
+/// Moves flow on the links of a function, whose blocks are those from `first` on, until it balances. The heights of its
+/// nodes are prices that hold.
+pub fn settle(
+    alloc: Global,
+    links: &mut [Link],
+    first: usize,
+    nodes: usize,
+) -> Result<Vec<u64>, NoMemory>
+    requires few { nodes < 2 ^ 63 }
+    requires some { 0 < nodes }
+    requires among { AreAmong first nodes links.old }
+    requires counted { All (λ l. l.flow ≡ l.count) links.old }
+    ensures same { OnOk result (AreSameLinks links.old links.new) }
+    ensures among { OnOk result (AreAmong first nodes links.new) }
+    ensures balanced { OnOk result (BalancesWithin first nodes links.new) }
+    ensures tall { IfOk result (λ heights. length heights.items ≡ nodes) }
+    ensures holds { IfOk result (λ heights. AllHoldBy heights.items first links.new) }
+{
+    let mut heights = vec![in alloc; 0u64; nodes]?;
+    let around = arcs(alloc, links, first, nodes)?;
+    let mut rises = u64::MAX;
+    let mut left = u128::MAX;
+    loop {
+        match round(alloc, links, &mut heights, first, &around)? {
+            Progress::Balanced => return Ok(heights),
+            Progress::Moved(spare) => {
+                if spare >= left {
+                    return Err(NoMemory);
+                }
+                left = spare;
+            }
+            Progress::Raised => {
+                if rises == 0 {
+                    return Err(NoMemory);
+                }
+                rises -= 1;
+            }
+        }
+    }
+}
+
+// Moves flow at the present heights, or raises them where none can be moved.
+fn round(
+    alloc: Global,
+    links: &mut [Link],
+    heights: &mut [u64],
+    first: usize,
+    around: &[Vec<Arc>],
+) -> Result<Progress, NoMemory>
+    requires few { length heights.old < 2 ^ 63 }
+    requires some { 0 < length heights.old }
+    requires steady { IsSteady heights.old first (length heights.old) links.old }
+    requires around { length around.now ≡ length heights.old }
+    requires arcs { AreArcs (length links.old) (length heights.old) around.now }
+    ensures steady { OnOk result (IsSteady heights.new first (length heights.new) links.new) }
+    ensures same { OnOk result (AreSameLinks links.old links.new) }
+    ensures balanced { IfOk result (λ r. r ≡ progress.Balanced → BalancesWithin first (length heights.old) links.new) }
+{
+    let nodes = heights.len();
+    let inflows = inflows(alloc, links, first, nodes)?;
+    let outflows = outflows(alloc, links, first, nodes)?;
+    if is_balanced(&inflows, &outflows) {
+        return Ok(Progress::Balanced);
+    }
+    let mut spare = surplus(alloc, &inflows, &outflows)?;
+    let mut need = surplus(alloc, &outflows, &inflows)?;
+    let found = search(alloc, links, heights, first, around, &spare, &need)?;
+    if found.meets {
+        let moved = total(&spare);
+        wave(links, heights, first, around, &found, &mut spare, &mut need);
+        return Ok(Progress::Moved(moved));
+    }
+    let distances = find_distances(alloc, links, heights, first, around, &spare, &need)?;
+    lift(
+        heights,
+        first,
+        links,
+        &distances.of_nodes,
+        distances.nearest,
+    )?;
+    Ok(Progress::Raised)
+}
