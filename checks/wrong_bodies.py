@@ -1,16 +1,22 @@
 #!/usr/bin/env python3
 """Tries wrong bodies of functions, each of which the check has to refuse.
 
-    python3 checks/wrong_bodies.py [CRATE..]
+    python3 checks/wrong_bodies.py [--jobs N] [CRATE..]
 
 checks/wrong_bodies/CRATE/NAME.edit says what is changed in the crate of that name, in the form of the edits that
 the gate tries (crates/CRATE/must-fail). They stand here and not there where the crate takes long to check, or
 where others tell more of it. So they are tried by hand before a release, in a copy of the repository: of all
-crates, or of those that are named. It takes one check of each crate, which begins with what earlier checks on
-this machine kept, and one for each edit.
+crates, or of those that are named.
+
+An edit of a function is tried by a check of that function alone, which takes seconds once the libraries below the
+crate are built. Only where it still proves, or where the edit is of something else than a function, the whole
+crate is checked. A function that isn't proved without the edit either tells nothing, so the functions of all edits
+of a crate are checked as they stand first.
 
 The last line counts the edits that were refused. The status is 0 where all were.
 """
+import argparse
+import concurrent.futures
 import pathlib
 import re
 import shutil
@@ -22,36 +28,151 @@ ROOT = pathlib.Path(__file__).resolve().parent.parent
 EDITS = ROOT / "checks" / "wrong_bodies"
 
 
-def copy_with_edits(target, crates):
-    """Copies what a check reads, with the edits of these crates in place of those that the gate tries."""
-    shutil.copytree(ROOT / "crates", target / "crates", ignore=shutil.ignore_patterns("out", "must-fail"))
-    for name in ("crates.txt", "HANDLES"):
-        shutil.copy(ROOT / name, target)
-    for crate in crates:
-        shutil.copytree(EDITS / crate, target / "crates" / crate / "must-fail")
+class BadEdit(Exception):
+    """An edit that can't be applied to the crate as it is."""
+
+
+class Edit:
+    """A wrong body: the texts that it changes, and the function around its first change, if there is one."""
+
+    def __init__(self, crate, path):
+        self.crate, self.path = crate, path
+        self.texts = {}
+        self.function = None
+        file = old = None
+        for line in path.read_text().splitlines():
+            word, _, rest = line.partition(":")
+            rest = rest.removeprefix(" ")
+            if word == "file":
+                file = rest.strip()
+            elif word == "old":
+                old = rest
+            elif word == "new":
+                self.replace(file, old, rest)
+
+    def replace(self, file, old, new):
+        text = self.texts.get(file) or (ROOT / "crates" / self.crate / file).read_text()
+        if text.count(old) != 1:
+            raise BadEdit(f"its text stands in {file} {text.count(old)} times")
+        if not self.texts:
+            self.function = function_around(text, text.index(old)) if file.startswith("src/") else None
+            if self.function:
+                self.function = "::".join([self.crate, *modules(file), self.function])
+        self.texts[file] = text.replace(old, new)
+
+    def label(self):
+        return f"{self.crate}/{self.path.name}"
+
+
+def modules(file):
+    """The modules that a file of src/ stands for."""
+    parts = list(pathlib.PurePath(file).with_suffix("").parts[1:])
+    return [] if parts == ["lib"] else parts
+
+
+def function_around(text, place):
+    """The function that holds this place of a file, as a check names it but for its module: the last one that begins
+    before it, unless it has ended there."""
+    before = text[:place]
+    found = list(re.finditer(r"^( *)(?:pub(?:\([^)]*\))? )?(?:const )?fn (\w+)", before, re.M))
+    if not found:
+        return None
+    last = found[-1]
+    # (the brace that ends it stands at its own indentation)
+    if re.search(rf"^{last[1]}\}}", before[last.end():], re.M):
+        return None
+    return implementor(before) + last[2] if last[1] else last[2]
+
+
+def implementor(before):
+    """What a check puts before the name of a method: the type, and the trait's name right behind it."""
+    blocks = re.findall(r"^impl(?:<[^{]*?>)? (?:([\w:]+)(?:<.*>)? for )?(\w+)", before, re.M)
+    if not blocks:
+        return ""
+    trait, name = blocks[-1]
+    return f"{name}{trait.split('::')[-1]}::"
+
+
+def check(folder, crate, function=None):
+    """Checks a crate of a copy of the repository, or one function of it: whether it is proved, and what was said."""
+    only = ["--only", function] if function else []
+    run = subprocess.run(["rt", "check", *only], cwd=folder / "crates" / crate, stdin=subprocess.DEVNULL,
+                         stdout=subprocess.PIPE, stderr=subprocess.STDOUT, text=True, errors="replace")
+    return run.returncode == 0, run.stdout
+
+
+def reason(said):
+    """The first line that says why a check refused."""
+    for line in said.splitlines():
+        if re.match(r"(note: )?\S+:\d+:\d+: .*error", line) or line.startswith("note: "):
+            return line[:160]
+    return said.strip().splitlines()[-1][:160] if said.strip() else "nothing was said"
+
+
+# A check that gave no verdict: its words were wrong, or the edited text can't be read.
+NO_VERDICT = re.compile(r"has no function|error\[[\w-]+\]|is not in scope|could not be used")
+
+
+def try_edit(folder, edit):
+    """Tries one edit in its copy of the crate: whether it was refused, and what to print."""
+    home = folder / "crates" / edit.crate
+    kept = {file: (home / file).read_text() for file in edit.texts}
+    try:
+        for file, text in edit.texts.items():
+            (home / file).write_text(text)
+        for function in dict.fromkeys([edit.function, None]):
+            proved, said = check(folder, edit.crate, function)
+            if not proved and not NO_VERDICT.search(said):
+                return True, f"refused ({function or 'whole crate'}): {reason(said)}"
+            if not proved and not function:
+                return False, f"NO VERDICT: {reason(said)}"
+        return False, "NOT REFUSED: the crate is still proved"
+    finally:
+        for file, text in kept.items():
+            (home / file).write_text(text)
+
+
+def try_crate(folder, crate):
+    """Tries all edits of a crate: how many were refused."""
+    edits, refused = [], 0
+    for path in sorted((EDITS / crate).glob("*.edit")):
+        try:
+            edits.append(Edit(crate, path))
+        except BadEdit as bad:
+            print(f"{crate}/{path.name}: BAD EDIT: {bad}", flush=True)
+    for function in sorted({edit.function for edit in edits if edit.function}):
+        proved, said = check(folder, crate, function)
+        if not proved:
+            print(f"{crate}: {function} isn't proved as it stands: {reason(said)}", flush=True)
+            edits = [edit for edit in edits if edit.function != function]
+    for edit in edits:
+        was_refused, told = try_edit(folder, edit)
+        refused += was_refused
+        print(f"{edit.label()}: {told}", flush=True)
+    return refused
 
 
 def main():
     known = sorted(path.name for path in EDITS.iterdir() if any(path.glob("*.edit")))
-    crates = sys.argv[1:] or known
+    words = argparse.ArgumentParser(description="Tries wrong bodies of functions.")
+    words.add_argument("--jobs", type=int, default=1, help="how many crates at a time")
+    words.add_argument("crates", nargs="*")
+    told = words.parse_args()
+    crates = told.crates or known
     unknown = [crate for crate in crates if crate not in known]
     if unknown:
         sys.exit(f"no wrong bodies of {unknown[0]}; there are those of {', '.join(known)}")
     wanted = sum(len(list((EDITS / crate).glob("*.edit"))) for crate in crates)
-    with tempfile.TemporaryDirectory(prefix="wrong-bodies-") as folder:
-        copy_with_edits(pathlib.Path(folder), crates)
-        run = subprocess.Popen(["rt", "must-fail", *crates], cwd=folder, stdout=subprocess.PIPE,
-                               stderr=subprocess.STDOUT, text=True)
-        refused = set()
-        for line in run.stdout:
-            told = re.search(r"must-fail (\w+/[\w.-]+\.edit): (.*)", line)
-            if told:
-                print(f"{told[1]}: {told[2]}", flush=True)
-                if told[2].startswith("refused"):
-                    refused.add(told[1])
-        status = run.wait()
-    print(f"{len(refused)} of {wanted} refused")
-    sys.exit(0 if len(refused) == wanted and status == 0 else 1)
+    with tempfile.TemporaryDirectory(prefix="wrong-bodies-") as name:
+        folder = pathlib.Path(name)
+        # (with the libraries that are built already, which a check would else build again)
+        shutil.copytree(ROOT / "crates", folder / "crates", ignore=shutil.ignore_patterns("must-fail"))
+        for file in ("crates.txt", "HANDLES"):
+            shutil.copy(ROOT / file, folder)
+        with concurrent.futures.ThreadPoolExecutor(told.jobs) as pool:
+            refused = sum(pool.map(lambda crate: try_crate(folder, crate), crates))
+    print(f"{refused} of {wanted} refused")
+    sys.exit(0 if refused == wanted else 1)
 
 
 if __name__ == "__main__":
