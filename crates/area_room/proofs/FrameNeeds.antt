@@ -19,7 +19,7 @@ use Rattle.cfi_rows.specs.Frames.{eh_frames, frames_in, frames_of}
 use Rattle.cfi_rows.specs.ReadEntries.{fde_of}
 use Rattle.cfi_rows.specs.ReadFrames.{read_as, section_held}
 use Rattle.area_room.specs.EntryNeeds.{bounds_of, entries_need, is_strictly_between, pieces_of, size_of}
-use Rattle.area_room.specs.Need.{capped}
+use Rattle.file_room.specs.Numbers.{capped}
 use Rattle.area_room.proofs.RangeCounts.{count}
 use Rattle.area_room.proofs.EntrySums.{count_bounds}
 

@@ -1,4 +1,4 @@
 pub mod EntryNeeds
 pub mod Need
-pub mod Room
-pub mod RoomFault
+pub use Rattle.file_room.specs.Room
+pub use Rattle.file_room.specs.RoomFault

@@ -1,20 +1,17 @@
 -- How many bytes the new area takes at most.
-use Rattle.std.specs.Prelude.{◌≡◌, ℕ, ◌+◌, ◌-◌, ◌^◌, List, min, sum_by}
+use Rattle.std.specs.Prelude.{◌≡◌, ℕ, ◌+◌, List, sum_by}
 use Rattle.rv_code.specs.declared.placed.Func.{Func}
 use Rattle.rv_code.specs.declared.placed.Block.{Block}
 use Rattle.rv_code.specs.layout.Blocks.{AreBlocks}
 use Rattle.rv_code.specs.layout.ProgramCode.{ProgramCode}
 use Rattle.rv_code.specs.layout.WorstSizes.{worst_size_of_block}
 use Rattle.elf_image.specs.declared.elf.Elf.{Elf}
+use Rattle.file_room.specs.Numbers.{capped}
 use Rattle.cfi_rows.specs.FrameNeed.{frame_need}
 
 -- The sum of all worst sizes: each block is of one function.
 abbrev pub code_need : List Func → List Block → ℕ
 code_need funcs blocks = sum_by (worst_size_of_block funcs) blocks
-
--- as far as 64 bits can say it
-abbrev pub capped : ℕ → ℕ
-capped n = min n (2 ^ 64 - 1)
 
 -- Behind the code stand the unwind table that the file loads, if there is one, and its index.
 abbrev pub need : Elf → List Func → List Block → ℕ

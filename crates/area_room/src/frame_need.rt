@@ -5,7 +5,8 @@ ghost use Rattle.rv_code.specs.layout.Blocks.{block_start};
 ghost use Rattle.rv_code.specs.layout.FunctionLists.{AreLaidOut};
 ghost use Rattle.cfi_rows.specs.FrameNeed as spec;
 ghost use Rattle.area_room.specs.EntryNeeds.{bounds_of, entries_need, pieces_of, size_of};
-ghost use Rattle.area_room.specs.Need.{AreBlocksOf, capped};
+ghost use Rattle.area_room.specs.Need.{AreBlocksOf};
+ghost use Rattle.file_room.specs.Numbers.{capped};
 
 use crate::block_counts::count_blocks_in;
 use crate::bounds::{ascending_bounds, count_between};

@@ -3,14 +3,8 @@
 
 mod block_counts;
 mod bounds;
-mod capacity;
 mod frame_need;
-mod round;
 mod worst_need;
 
-pub use capacity::{
-    area_above, area_start, area_start_of, greatest_align, is_tight, new_segment_start, no_room,
-    room, room_above,
-};
-pub use round::rounded_up;
+pub use file_room::{area_start_of, is_tight, no_room, room, room_above};
 pub use worst_need::need;

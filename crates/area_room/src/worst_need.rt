@@ -2,17 +2,18 @@
 ghost use Rattle.std.specs.Prelude.{◌≡◌, IfOk};
 ghost use Rattle.rv_code.specs.layout.FunctionLists.{AreLaidOut};
 ghost use Rattle.area_room.specs.Need as spec;
+ghost use Rattle.file_room.specs.Numbers.{capped};
 
 use crate::frame_need::frame_need;
-use crate::round::capped;
 use elf_image::Elf;
+use file_room::capped;
 use rb_bytes::fault::NoMemory;
 use rv_code::{Block, Func, worst_size_of_block};
 use std::alloc::Global;
 
 // The worst sizes of all blocks.
 fn code_need(funcs: &[Func], blocks: &[Block]) -> u64
-    ensures { result ≡ spec.capped (spec.code_need funcs.now blocks.now) }
+    ensures { result ≡ capped (spec.code_need funcs.now blocks.now) }
 {
     let mut sum: u64 = 0;
     for block in blocks {

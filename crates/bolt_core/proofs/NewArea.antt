@@ -13,10 +13,11 @@ use Rattle.elf_image.specs.file.Header.{header_size}
 use Rattle.elf_image.specs.memory.CodeSegment.{executable_end}
 use Rattle.area_room.specs.Room.{area_start_of}
 use Rattle.cfi_rows.specs.FrameNeed.{frame_need}
-use Rattle.area_room.specs.Need.{capped, code_need, need}
+use Rattle.area_room.specs.Need.{code_need, need}
+use Rattle.file_room.specs.Numbers.{capped}
 use Rattle.area_room.specs.RoomFault.{has_no_room, no_room, no_room_fault}
 use Rattle.area_room.specs.Room.{area_limit, area_start, code_end, is_tight, pages_from, room, room_above}
-use Rattle.elf_write.proofs.FreeRange.{fold-min-le}
+use Rattle.file_room.proofs.Limits.{fold-min-le}
 
 low_limit : (segments : List Segment) → area_limit segments ≤ address_end
 low_limit segments = fold-min-le (pages_from (code_end segments) segments) address_end

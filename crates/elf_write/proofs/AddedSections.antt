@@ -13,10 +13,10 @@ use Rattle.elf_image.specs.declared.elf.Elf.{Elf}
 use Rattle.elf_image.specs.declared.section.Section.{Section}
 use Rattle.elf_image.specs.declared.section.TheConstants.{SHF_ALLOC, SHF_EXECINSTR}
 use Rattle.elf_image.specs.file.SectionNames.{is_called, is_meant_by, names_debug, section_called}
-use Rattle.elf_write.specs.declared.area.Area.{Area}
-use Rattle.elf_write.specs.declared.area.Shift.{Shift}
-use Rattle.elf_write.specs.Contents.{section_bytes}
-use Rattle.elf_write.specs.NewSections.{AreNewSections, IsAdded, IsInArea, adds_ranges, bytes_called}
+use Rattle.elf_plan.specs.declared.area.Area.{Area}
+use Rattle.elf_plan.specs.declared.area.Shift.{Shift}
+use Rattle.elf_plan.specs.Contents.{section_bytes}
+use Rattle.elf_plan.specs.NewSections.{AreNewSections, IsAdded, IsInArea, adds_ranges, bytes_called}
 use Rattle.elf_write.specs.TablePlaces.{Holds}
 use Rattle.elf_write.proofs.GivenTables.{found_first, not_true, same_at, same_bytes}
 

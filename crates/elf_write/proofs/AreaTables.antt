@@ -13,10 +13,10 @@ use Rattle.elf_image.specs.declared.section.Section.{Section}
 use Rattle.elf_image.specs.declared.section.TheConstants.{SHF_ALLOC, SHF_EXECINSTR}
 use Rattle.elf_image.specs.file.SectionNames.{is_called, is_meant_by, names_frames, section_called}
 use Rattle.elf_image.specs.file.Sections.{holds_code}
-use Rattle.elf_write.specs.declared.area.Area.{Area}
-use Rattle.elf_write.specs.declared.area.Shift.{Shift}
-use Rattle.elf_write.specs.NewSections.{AreNewSections, IsInArea, adds_ranges, bytes_called}
-use Rattle.elf_write.specs.OldNames.{is_renamed, new_name, old_name}
+use Rattle.elf_plan.specs.declared.area.Area.{Area}
+use Rattle.elf_plan.specs.declared.area.Shift.{Shift}
+use Rattle.elf_plan.specs.NewSections.{AreNewSections, IsInArea, adds_ranges, bytes_called}
+use Rattle.elf_plan.specs.OldNames.{is_renamed, new_name, old_name}
 use Rattle.elf_write.specs.TablePlaces.{HoldsAt, IsLoadedAt}
 use Rattle.elf_write.proofs.AddedSections.{AddedName, added, is_text, is_frames, is_index, is_ranges, item_place}
 use Rattle.elf_write.proofs.GivenTables.{found_first, no_both, not_true, same_bytes}

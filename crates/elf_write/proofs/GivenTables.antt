@@ -18,15 +18,15 @@ use Rattle.elf_image.specs.declared.section.TheConstants.{SHF_ALLOC}
 use Rattle.elf_image.specs.file.Header.{e_shstrndx, is_set}
 use Rattle.elf_image.specs.file.SectionNames.{is_called, is_loaded, is_meant_by, names_debug, names_frames, section_called}
 use Rattle.elf_image.specs.file.Sections.{holds_code}
-use Rattle.elf_write.specs.declared.area.Area.{Area}
-use Rattle.elf_write.specs.declared.area.Shift.{Shift}
-use Rattle.elf_write.specs.declared.sections.Contents.{Contents}
-use Rattle.elf_write.specs.declared.sections.Contents.TheVariants.{Dropped, Inactive, Kept, Copied, SectionNames, Symbols, SymbolNames}
-use Rattle.elf_write.specs.declared.sections.Contents.TheVariants.{Given}
-use Rattle.elf_write.specs.Contents.{contents_of, is_at, is_left_out, own_contents, place_replaced, section_bytes}
-use Rattle.elf_write.specs.NameTables.{place_of_names, place_of_symbols}
-use Rattle.elf_write.specs.NewSections.{AreNewSections, Follows, bytes_called, flags_left, without_code}
-use Rattle.elf_write.specs.OldNames.{is_renamed, new_name, old_name}
+use Rattle.elf_plan.specs.declared.area.Area.{Area}
+use Rattle.elf_plan.specs.declared.area.Shift.{Shift}
+use Rattle.elf_plan.specs.declared.sections.Contents.{Contents}
+use Rattle.elf_plan.specs.declared.sections.Contents.TheVariants.{Dropped, Inactive, Kept, Copied, SectionNames, Symbols, SymbolNames}
+use Rattle.elf_plan.specs.declared.sections.Contents.TheVariants.{Given}
+use Rattle.elf_plan.specs.Contents.{contents_of, is_at, is_left_out, own_contents, place_replaced, section_bytes}
+use Rattle.elf_plan.specs.NameTables.{place_of_names, place_of_symbols}
+use Rattle.elf_plan.specs.NewSections.{AreNewSections, Follows, bytes_called, flags_left, without_code}
+use Rattle.elf_plan.specs.OldNames.{is_renamed, new_name, old_name}
 use Rattle.elf_write.specs.TablePlaces.{takes_table}
 
 pub no_both : (b : Bool) → b ≡ true → b ≡ false → ⊥

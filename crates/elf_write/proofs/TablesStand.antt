@@ -12,10 +12,10 @@ use Rattle.rb_bytes.proofs.Searches.{find-found}
 use Rattle.elf_image.specs.declared.elf.Elf.{Elf}
 use Rattle.elf_image.specs.declared.section.Section.{Section}
 use Rattle.elf_image.specs.file.SectionNames.{is_called, names_debug, section_called}
-use Rattle.elf_write.specs.declared.area.Area.{Area}
-use Rattle.elf_write.specs.declared.area.Shift.{Shift}
-use Rattle.elf_write.specs.Contents.{place_replaced, section_bytes}
-use Rattle.elf_write.specs.NewSections.{AreNewSections, bytes_called}
+use Rattle.elf_plan.specs.declared.area.Area.{Area}
+use Rattle.elf_plan.specs.declared.area.Shift.{Shift}
+use Rattle.elf_plan.specs.Contents.{place_replaced, section_bytes}
+use Rattle.elf_plan.specs.NewSections.{AreNewSections, bytes_called}
 use Rattle.elf_write.specs.TablePlaces.{ArePlaced, Holds, HoldsAt, TablesStand, has_place, is_given, takes_table, takes_table_at}
 use Rattle.elf_write.proofs.AddedSections.{absent_stays, ranges_stand}
 use Rattle.elf_write.proofs.AreaTables.{frames_stand, index_stands, no_frames_stand}

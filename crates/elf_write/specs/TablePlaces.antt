@@ -7,10 +7,10 @@ use Rattle.elf_image.specs.declared.elf.Elf.{Elf}
 use Rattle.elf_image.specs.declared.section.Section.{Section}
 use Rattle.elf_image.specs.file.Header.{e_shstrndx}
 use Rattle.elf_image.specs.file.SectionNames.{names_debug, section_called}
-use Rattle.elf_write.specs.declared.area.Area.{Area}
-use Rattle.elf_write.specs.Contents.{is_at, is_left_out, place_replaced, section_bytes}
-use Rattle.elf_write.specs.NameTables.{place_of_names, place_of_symbols}
-use Rattle.elf_write.specs.NewSections.{adds_ranges, bytes_called}
+use Rattle.elf_plan.specs.declared.area.Area.{Area}
+use Rattle.elf_plan.specs.Contents.{is_at, is_left_out, place_replaced, section_bytes}
+use Rattle.elf_plan.specs.NameTables.{place_of_names, place_of_symbols}
+use Rattle.elf_plan.specs.NewSections.{adds_ranges, bytes_called}
 
 -- Which tables have a place.
 

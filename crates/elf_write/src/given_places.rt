@@ -2,9 +2,10 @@
 ghost use Rattle.std.specs.Prelude.{◌≡◌, IsTrue};
 ghost use Rattle.elf_write.specs.TablePlaces as spec;
 
-use crate::name_tables::{place_of_names, place_of_section_names, place_of_symbols};
-use crate::sections::{Table, is_left_out, place_replaced};
 use elf_image::Elf;
+use elf_plan::given_tables::Table;
+use elf_plan::name_tables::{place_of_names, place_of_section_names, place_of_symbols};
+use elf_plan::sections::{is_left_out, place_replaced};
 
 // Whether the section of an index has names or symbols, which are written anew.
 fn is_own_section(elf: &Elf, index: usize) -> bool

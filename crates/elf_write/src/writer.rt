@@ -1,154 +1,25 @@
 // The written file.
-ghost use Rattle.std.specs.Prelude.{◌≡◌, ◌<◌, ◌⊎◌, ◌+◌, ◌≤◌, All, AllPairs, Bool, IfOk, IsTrue, OnOk, Some, length};
+ghost use Rattle.std.specs.Prelude.{◌<◌, All, AllPairs, Bool, IfOk, OnOk};
 ghost use Rattle.elf_image.specs.faults.FileFaults.{IsSound};
-ghost use Rattle.elf_image.specs.faults.Truncation.{IsReadable};
-ghost use Rattle.elf_image.specs.file.Header.{e_shstrndx};
 ghost use Rattle.elf_image.specs.file.ParsedFile.{IsElfOf};
-ghost use Rattle.addr_map.specs.Spans.{moved};
-ghost use Rattle.elf_parts.specs.Parts.{PartsFit, size_of};
 ghost use Rattle.rv_code.specs.layout.FunctionLists.{AreLaidOut};
-ghost use Rattle.elf_write.specs.NewTables.{HasNewTables, area_for};
+ghost use Rattle.elf_check.specs.NewTables.{HasNewTables, area_for};
 ghost use Rattle.elf_write.specs.TablePlaces.{ArePlaced, TablesStand};
-ghost use Rattle.elf_write.specs.AreaTables.{IsMadeWith};
-ghost use Rattle.elf_write.specs.CellNumbers.{in_pieces};
-ghost use Rattle.elf_write.specs.FileParts.{IsPut, header_numbers};
-ghost use Rattle.elf_write.specs.Source.{HasPlace, source_of};
-ghost use Rattle.elf_write.specs.WrittenFile.{AreApart, CanHold, IsWritten};
+ghost use Rattle.elf_make.specs.Source.{HasPlace, source_of};
+ghost use Rattle.elf_make.specs.WrittenFile.{AreApart, CanHold, IsWritten};
 
-use crate::area_bytes::table_size;
-use crate::cell_numbers::cell_numbers;
-use crate::fragments::fragments;
 use crate::given_places::are_placed;
-use crate::header_fields::HeaderFields;
-use crate::layout::{Layout, is_above};
-use crate::new_sections::{NewSections, SectionSource};
-use crate::placing::{can_put_all, table_place};
-use crate::read_back::is_accepted;
-use crate::sections::Table;
-use crate::segments::Places;
-use crate::tail::Tail;
-use crate::unwritable::Unwritable;
 use addr_map::AddrMap;
-use elf_image::named::EH_FRAME_HDR;
-use elf_image::{Elf, SectionHeader, Segment};
-use elf_parts::spell::put_segments;
-use elf_parts::{NumberAt, assemble};
+use elf_check::is_accepted;
+use elf_image::Elf;
+use elf_make::{is_above, made};
+use elf_plan::fragments::fragments;
+use elf_plan::given_tables::Table;
+use elf_plan::source::SectionSource;
+use elf_plan::unwritable::Unwritable;
 use rb_bytes::fault::NoMemory;
 use rv_code::{Emitted, Func};
 use std::alloc::Global;
-
-// The parts of a file, with numbers and its table of program headers put over them.
-fn put_together(
-    alloc: Global,
-    elf: &Elf,
-    layout: &Layout,
-    tail: &Tail,
-    cells: &[NumberAt],
-    segments: &[Segment],
-    fields: &[NumberAt],
-    table_at: u64,
-) -> Result<Vec<u8>, Unwritable>
-    requires can { PartsFit layout.now.parts (length elf.now.file.now) (length layout.now.bytes.items) }
-    requires base { tail.now.base ≡ size_of layout.now.parts }
-    ensures { IfOk result
-        (λ w. IsPut layout.now elf.now.file.now tail.now.bytes.items cells.now segments.now fields.now table_at w.items) }
-{
-    let mut table = Vec::new(alloc);
-    put_segments(&mut table, segments)?;
-    let size = tail.end()? as usize;
-    if !can_put_all(size, cells)
-        || !can_put_all(size, fields)
-        || table_at as u128 + table.len() as u128 > size as u128
-    {
-        return Err(Unwritable::Layout);
-    }
-    let file = assemble(
-        alloc,
-        &layout.parts,
-        elf.file,
-        &layout.bytes,
-        tail.bytes(),
-        cells,
-        table_at as usize,
-        &table,
-        fields,
-    )?;
-    Ok(file)
-}
-
-// The offsets of sections.
-fn places_of(alloc: Global, headers: &[SectionHeader]) -> Result<Vec<u64>, NoMemory> {
-    let mut places = Vec::new(alloc);
-    for header in headers {
-        places.push(header.offset)?;
-    }
-    Ok(places)
-}
-
-// The fields of the file's header.
-fn fields_of(
-    elf: &Elf,
-    map: &AddrMap,
-    sections: &NewSections,
-    segments: &[Segment],
-    table_at: u64,
-) -> Result<HeaderFields, Unwritable>
-    ensures entry { IfOk result (λ fields. moved map.now elf.now.entry ≡ Some fields.entry) }
-    ensures segments_at { IfOk result (λ fields. fields.segments_at ≡ table_at) }
-    ensures segments { IfOk result (λ fields. fields.segments ≡ length segments.now) }
-    ensures sections_at { IfOk result (λ fields. fields.sections_at ≡ sections.now.table_at) }
-    ensures sections { IfOk result (λ fields. fields.sections ≡ length sections.now.headers.items) }
-    ensures names { IfOk result (λ fields. fields.names ≡ sections.now.names) }
-{
-    Ok(HeaderFields {
-        entry: map.moved(elf.entry).ok_or(Unwritable::Layout)?,
-        segments_at: table_at,
-        segments: segments.len() as u64,
-        sections_at: sections.table_at,
-        sections: sections.headers.len() as u64,
-        names: sections.names as u64,
-    })
-}
-
-// The file with its new area in one of the two places.
-fn made(
-    alloc: Global,
-    source: &SectionSource,
-    emitted: &Emitted,
-    tight: bool,
-) -> Result<Vec<u8>, Unwritable>
-    requires readable { IsReadable source.now.elf.now.file.now }
-    requires read { IsElfOf source.now.elf.now.file.now source.now.elf.now }
-    requires sound { IsSound source.now.elf.now.file.now }
-    requires laid_out { AreLaidOut source.now.funcs.now }
-    requires cells { All (CanHold source.now.elf.now) emitted.now.cells.items }
-    ensures { IfOk result (λ w. IsMadeWith
-        (in_pieces (source_of source.now.elf.now emitted.now source.now.map.now source.now.tables.now))
-        source.now.tables.now tight w.items) }
-{
-    let elf = source.elf;
-    let layout = Layout::new(alloc, elf, tight, &emitted.code, source.tables)?;
-    let mut tail = Tail::new(alloc, layout.end()?);
-    let table_at = table_place(elf, &layout.area, &layout.shift, &mut tail)?;
-    let sections = source.put(alloc, &layout, &mut tail)?;
-    let sections_at = places_of(alloc, &sections.headers)?;
-    let places = Places {
-        elf,
-        area: layout.area,
-        shift: layout.shift,
-        table_at,
-        contents: &sections.contents,
-        sections_at: &sections_at,
-        index_size: table_size(source.tables, EH_FRAME_HDR).unwrap_or(0) as u64,
-        file_size: tail.end()?,
-    };
-    let segments = places.segments(alloc, layout.code)?;
-    let cells = cell_numbers(alloc, elf, &layout.shift, &emitted.cells)?;
-    let fields = fields_of(elf, source.map, &sections, &segments, table_at)?.numbers(alloc)?;
-    put_together(
-        alloc, elf, &layout, &tail, &cells, &segments, &fields, table_at,
-    )
-}
 
 // The written file, or why there is none.
 fn written(

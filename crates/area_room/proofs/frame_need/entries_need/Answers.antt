@@ -1,6 +1,6 @@
 use Rattle.std.proofs.Common.{◌∙◌, ap, ℕ, List}
 use Rattle.area_room.specs.EntryNeeds.{bounds_of, entries_need}
-use Rattle.area_room.specs.Need.{capped}
+use Rattle.file_room.specs.Numbers.{capped}
 use Rattle.area_room.proofs.EntrySums.{entries_need-permutation}
 use Rattle.area_room.proofs.frame_need.entries_need.Goals as goal
 

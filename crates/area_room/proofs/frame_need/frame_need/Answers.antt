@@ -2,7 +2,7 @@ use Rattle.std.proofs.Common.{◌∙◌, ap, List}
 use Rattle.std.specs.Prelude.{not}
 use Rattle.cfi_rows.specs.declared.frame_table.Fde.{Fde}
 use Rattle.area_room.specs.EntryNeeds.{bounds_of, entries_need}
-use Rattle.area_room.specs.Need.{capped}
+use Rattle.file_room.specs.Numbers.{capped}
 use Rattle.area_room.proofs.FrameNeeds.{frame_need_is}
 use Rattle.area_room.proofs.frame_need.frame_need.Goals as goal
 

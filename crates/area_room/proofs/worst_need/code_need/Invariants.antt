@@ -1,7 +1,7 @@
 use Rattle.std.proofs.Common.{◌≡◌, take}
 use Rattle.std.specs.Prelude.{sum_by}
 use Rattle.rv_code.specs.layout.WorstSizes.{worst_size_of_block}
-use Rattle.area_room.specs.Need.{capped}
+use Rattle.file_room.specs.Numbers.{capped}
 use Rattle.area_room.proofs.worst_need.code_need.Given as goal
 
 abbrev pub invariant-loop-block : goal.invariant-loop-block

@@ -1,19 +1,19 @@
 use Rattle.std.proofs.Common.{◌≡◌, ◌∙◌, ap, subst, sym, Bool, List, ℕ}
 use Rattle.elf_image.specs.faults.FileFaults.{IsSound}
 use Rattle.elf_image.specs.file.Header.{e_shstrndx}
-use Rattle.elf_write.specs.declared.fragments.Fragment.{Fragment}
-use Rattle.elf_write.specs.FragmentLists.{AreFragments}
-use Rattle.elf_write.specs.AreaTables.{AreaStands}
-use Rattle.elf_write.specs.CellNumbers.{in_pieces}
-use Rattle.elf_write.specs.EntryNames.WasRead.{was_read}
-use Rattle.elf_write.specs.NewTables.{HasNewTables, area_for}
-use Rattle.elf_write.specs.Source.{HasPlace, Source, source_of}
-use Rattle.elf_write.proofs.AllWritten.{all-written, placed-there}
-use Rattle.elf_write.proofs.CellPieces.{pieces_apart, pieces_can}
-use Rattle.elf_write.proofs.CodeWritten.{area-written}
-use Rattle.elf_write.proofs.MadeHeaders.{e_shstrndx-written}
-use Rattle.elf_write.proofs.PiecesWritten.{placed_in_pieces, written_in_pieces}
-use Rattle.elf_write.proofs.SoundFiles.{readable}
+use Rattle.elf_plan.specs.declared.fragments.Fragment.{Fragment}
+use Rattle.elf_plan.specs.FragmentLists.{AreFragments}
+use Rattle.elf_plan.specs.AreaStands.{AreaStands}
+use Rattle.elf_make.specs.CellNumbers.{in_pieces}
+use Rattle.elf_check.specs.EntryNames.WasRead.{was_read}
+use Rattle.elf_check.specs.NewTables.{HasNewTables, area_for}
+use Rattle.elf_make.specs.Source.{HasPlace, Source, source_of}
+use Rattle.elf_make.proofs.AllWritten.{all-written, placed-there}
+use Rattle.elf_make.proofs.CellPieces.{pieces_apart, pieces_can}
+use Rattle.elf_make.proofs.CodeWritten.{area-written}
+use Rattle.elf_make.proofs.MadeHeaders.{e_shstrndx-written}
+use Rattle.elf_make.proofs.PiecesWritten.{placed_in_pieces, written_in_pieces}
+use Rattle.elf_make.proofs.SoundFiles.{readable}
 use Rattle.elf_write.proofs.writer.written.Goals as goal
 
 pub made-requires-clause-readable : goal.made-requires-clause-readable

@@ -1,6 +1,0 @@
-use Rattle.std.proofs.Common.{◌≡◌, ◌<◌, take}
-use Rattle.area_room.specs.Room.{greatest_align}
-use Rattle.area_room.proofs.capacity.greatest_align.Given as goal
-
-abbrev pub invariant-loop-p : goal.invariant-loop-p
-invariant-loop-p l = (l.align ≡ greatest_align (take l.p-index l.segments)) × (0 < l.align)

@@ -1,0 +1,4 @@
+pub mod EntryNames
+pub mod NewNames
+pub mod NewSymbols
+pub mod NewTables

@@ -1,0 +1,63 @@
+-- The tables of names of a written file: those that were there, and behind them the names that are added.
+-- gABI, "String Table".
+use Rattle.std.specs.Prelude.{◌≡◌, ◌≢◌, ℕ, ◌==◌, ◌&&◌, nat_lt, if◌then◌else◌, is_some, Bool, List, Option, [], ◌∷◌, ◌++◌, IfSome, String, Vec}
+use Rattle.std.specs.Prelude.{codes, flat_map, length, slice_get}
+use Rattle.std.specs.Option.{option_map_or}
+use Rattle.rv_code.specs.declared.placed.Func.{Func}
+use Rattle.elf_image.specs.declared.elf.Elf.{Elf}
+use Rattle.elf_image.specs.declared.section.Section.{Section}
+use Rattle.elf_image.specs.declared.symbol.Symbol.{Symbol}
+use Rattle.elf_image.specs.file.Header.{e_shstrndx}
+use Rattle.elf_plan.specs.declared.area.Area.{Area}
+use Rattle.elf_plan.specs.ColdSymbols.{cold_name, named_around}
+use Rattle.elf_plan.specs.Contents.{is_at, section_bytes}
+use Rattle.elf_plan.specs.NameTables.{place_of_names}
+use Rattle.elf_plan.specs.NewSections.{adds_ranges}
+use Rattle.elf_plan.specs.OldNames.{is_renamed, old_name}
+
+-- A name ends with a zero byte.
+abbrev pub ended : List ℕ → List ℕ
+ended name = name ++ 0 ∷ []
+
+abbrev pub ended_if : Bool → List ℕ → List ℕ
+ended_if test name = if test then ended name else []
+
+-- the new name of a section that gets one
+abbrev pub old_ended : Section → List ℕ
+old_ended s = ended_if (is_renamed s) (old_name s.name.now)
+
+-- the names of sections that are added, in the order of these
+abbrev pub added_names : Area → Bool → List ℕ
+added_names area ranges =
+    ended (codes ".text")
+    ++ (ended_if (is_some area.frames) (codes ".eh_frame")
+    ++ (ended_if (is_some area.index) (codes ".eh_frame_hdr") ++ ended_if ranges (codes ".debug_rnglists")))
+
+-- the names of the symbols that are added, each by the one that it follows
+abbrev pub name_behind : Option Symbol → List ℕ
+name_behind symbol = option_map_or (λ s. ended (cold_name s.name.now)) symbol []
+
+abbrev pub cold_names : Elf → List Func → List ℕ → List ℕ
+cold_names elf funcs cold = flat_map (λ a. name_behind (named_around elf.symbols.items funcs a)) cold
+
+-- the bytes of the section of an index, if there is one
+abbrev pub table_bytes : Elf → ℕ → List ℕ
+table_bytes elf index = option_map_or (section_bytes elf.file.now) (slice_get elf.sections.items index) []
+
+-- A table with more names. One that was empty begins with a zero byte then.
+abbrev pub extended : List ℕ → List ℕ → List ℕ
+extended old names = if (length old == 0) && nat_lt 0 (length names) then 0 ∷ names else old ++ names
+
+-- the names that are added to the table of names of sections; it may be that of symbols too
+abbrev pub names_added : Elf → Area → Bool → List Func → List ℕ → List ℕ
+names_added elf area ranges funcs cold =
+    flat_map old_ended elf.sections.items
+    ++ (added_names area ranges
+    ++ (if is_at (e_shstrndx elf.file.now) (place_of_names elf) then cold_names elf funcs cold else []))
+
+pub record HaveNewNames {Y Z : Type 0} (elf new : Elf) (tables : List (String Y × Vec ℕ Z)) (area : Area)
+    (funcs : List Func) (cold : List ℕ) : Type 0 where
+  pub sections : table_bytes new (e_shstrndx elf.file.now) ≡ extended (table_bytes elf (e_shstrndx elf.file.now))
+      (names_added elf area (adds_ranges elf.sections.items tables) funcs cold)
+  pub symbols : IfSome (place_of_names elf) (λ i. i ≢ e_shstrndx elf.file.now →
+      table_bytes new i ≡ extended (table_bytes elf i) (cold_names elf funcs cold))

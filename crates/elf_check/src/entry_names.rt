@@ -1,0 +1,165 @@
+// The names of sections and symbols by the places at which they begin, so that those which are ends of one text need not be
+// compared byte by byte. gABI, "String Table".
+ghost use Rattle.std.specs.Prelude.{◌≡◌, ◌+◌, ◌++◌, IfSome, IsTrue, List, length};
+ghost use Rattle.std.proofs.Props.{props};
+ghost use Rattle.elf_image.specs.declared.section.Section.{Section};
+ghost use Rattle.elf_image.specs.declared.symbol.Symbol.{Symbol};
+ghost use Rattle.elf_image.specs.faults.Truncation.{IsReadable};
+ghost use Rattle.elf_image.specs.file.Header.{e_shnum};
+ghost use Rattle.elf_image.specs.file.ParsedFile.{AreSections, AreSymbolsOf};
+ghost use Rattle.elf_image.specs.file.Symbols.{symbol_table};
+ghost use Rattle.elf_check.specs.EntryNames.{AreNamed, IsEnd};
+
+use crate::name_parts::behind;
+use elf_image::Elf;
+use elf_image::entries::{SectionTable, symbol_table};
+use elf_image::header::Header;
+use elf_image::names::{section_bytes, symbol_texts};
+use elf_image::number::u32_at;
+use elf_image::section::SHDR_SIZE;
+use elf_image::symbol::SYM_SIZE;
+
+/// The names of the entries of a table, each of which begins with the place of its name in a table of names.
+#[derive(Clone, Copy)]
+pub struct EntryNames<'a> {
+    pub file: &'a [u8],
+    /// Where the entries stand in the file, and how many bytes each has.
+    pub start: usize,
+    pub size: usize,
+    /// The table of names.
+    pub texts: &'a [u8],
+}
+
+impl<'a> EntryNames<'a> {
+    ghost use Rattle.std.specs.Prelude.{◌≡◌, IfSome};
+    ghost use Rattle.elf_check.specs.EntryNames.{place_of};
+
+    // Where the name of the entry of an index begins.
+    fn place(&self, index: usize) -> Option<u32>
+        ensures { IfSome result (λ place. place ≡ place_of self.now index) }
+    {
+        let entry = self.start.checked_add(self.size.checked_mul(index)?)?;
+        let end = entry.checked_add(4)?;
+        if end > self.file.len() {
+            return None;
+        }
+        Some(u32_at(self.file, entry))
+    }
+}
+
+// The names of the sections of a file.
+fn names_of_sections<'a>(file: &'a [u8]) -> EntryNames<'a>
+    requires { IsReadable file.now }
+    ensures { (sections : List Section) → AreSections file.now (e_shnum file.now) sections →
+        AreNamed (λ s. s.name.now) result 0 sections }
+{
+    let header = Header { file }.fields();
+    let table = SectionTable { file }.section_of(header.shstrndx as usize);
+    EntryNames {
+        file,
+        start: header.shoff as usize,
+        size: SHDR_SIZE,
+        texts: section_bytes(file, &table),
+    }
+}
+
+// The names of the symbols of a file. Without a symbol table there are none.
+fn names_of_symbols<'a>(file: &'a [u8]) -> EntryNames<'a>
+    requires { IsReadable file.now }
+    ensures { (symbols : List Symbol) → AreSymbolsOf file.now (symbol_table file.now) symbols →
+        AreNamed (λ s. s.name.now) result 0 symbols }
+{
+    match symbol_table(SectionTable { file }) {
+        Some(table) => EntryNames {
+            file,
+            start: table.offset as usize,
+            size: SYM_SIZE,
+            texts: symbol_texts(file, &table),
+        },
+        None => EntryNames {
+            file,
+            start: 0,
+            size: SYM_SIZE,
+            texts: &file[..0],
+        },
+    }
+}
+
+// Whether a zero byte ends a name that begins at a place.
+fn is_ended(texts: &[u8], place: u32, name: &[u8]) -> bool
+    ensures { IsTrue result → IsEnd texts.now place (place + length name.now) }
+{
+    match texts.get(place as usize + name.len()) {
+        Some(byte) => *byte == 0,
+        None => false,
+    }
+}
+
+/// The names of the entries of a table and of those that they become, whose table of names begins with the old one.
+#[derive(Clone, Copy)]
+pub struct KeptNames<'a> {
+    pub old: EntryNames<'a>,
+    pub new: EntryNames<'a>,
+    /// What the new table of names has behind the old one, if it begins with it.
+    added: Option<&'a [u8]>,
+    ghost begins: { IfSome added (λ rest. new.texts.now ≡ old.texts.now ++ rest.now) } by { Prim.hlevel props },
+}
+
+impl<'a> KeptNames<'a> {
+    ghost use Rattle.std.specs.Prelude.{◌≡◌, IsTrue};
+    ghost use Rattle.elf_image.specs.file.Sections.{text_of};
+    ghost use Rattle.elf_check.specs.EntryNames.{AreNamed, WasRead, name_of};
+
+    fn new(old: EntryNames<'a>, new: EntryNames<'a>) -> KeptNames<'a>
+        ensures old { result.old ≡ old.entry }
+        ensures new { result.new ≡ new.entry }
+    {
+        KeptNames {
+            old,
+            new,
+            added: behind(new.texts, old.texts),
+        }
+    }
+
+    /// The names of the sections of the input and of the written file.
+    pub fn of_sections(elf: &Elf<'a>, written: &Elf<'a>) -> KeptNames<'a>
+        requires old { WasRead elf.now }
+        requires new { WasRead written.now }
+        ensures old { AreNamed (λ s. s.name.now) result.old 0 elf.now.sections.items }
+        ensures new { AreNamed (λ s. s.name.now) result.new 0 written.now.sections.items }
+    {
+        KeptNames::new(names_of_sections(elf.file), names_of_sections(written.file))
+    }
+
+    /// The names of the symbols of the input and of the written file.
+    pub fn of_symbols(elf: &Elf<'a>, written: &Elf<'a>) -> KeptNames<'a>
+        requires old { WasRead elf.now }
+        requires new { WasRead written.now }
+        ensures old { AreNamed (λ s. s.name.now) result.old 0 elf.now.symbols.items }
+        ensures new { AreNamed (λ s. s.name.now) result.new 0 written.now.symbols.items }
+    {
+        KeptNames::new(names_of_symbols(elf.file), names_of_symbols(written.file))
+    }
+
+    // Whether the name that begins at a place stays, whose old text is given: it ends within the old table of names, as each
+    // name does in a file without a fault.
+    fn stays(&self, place: u32, name: &[u8]) -> bool
+        ensures { IsTrue result → text_of self.now.new.texts.now place ≡ text_of self.now.old.texts.now place }
+    {
+        match self.added {
+            Some(_) => is_ended(self.old.texts, place, name),
+            None => false,
+        }
+    }
+
+    /// Whether an entry has the name of an old one, which is given. Both have an index.
+    pub fn is_same(&self, old: usize, name: &[u8], new: usize) -> bool
+        requires { name.now ≡ name_of self.now.old old }
+        ensures { IsTrue result → name_of self.now.new new ≡ name.now }
+    {
+        match (self.old.place(old), self.new.place(new)) {
+            (Some(at), Some(to)) => to == at && self.stays(at, name),
+            _ => false,
+        }
+    }
+}

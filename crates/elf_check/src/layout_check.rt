@@ -1,0 +1,150 @@
+// Whether a file that was written is laid out as it must be: its header, its table of program headers, and what stands behind
+// the bytes that it loads. gABI, "ELF Header", "Program Header" and "Section Header".
+ghost use Rattle.std.specs.Prelude.{◌≡◌, ◌+◌, ◌*◌, ◌++◌, ◌≤◌, IfOk, IsTrue, length, map, max};
+ghost use Rattle.elf_image.specs.file.Header.{e_shoff};
+ghost use Rattle.elf_image.specs.memory.Break.{rounded_up};
+ghost use Rattle.elf_plan.specs.FileLayout as spec;
+ghost use Rattle.elf_plan.specs.KnownSections.{Knows};
+
+use crate::section_tables::SectionTables;
+use elf_image::header::{E_ENTRY, E_FLAGS, E_PHNUM, E_SHENTSIZE, E_SHNUM, Header};
+use elf_image::section::SHDR_SIZE;
+use elf_image::segment::PHDR_SIZE;
+use elf_image::{Elf, Section, Segment};
+use elf_plan::area::{Area, Shift, loads_end, lowest_behind};
+use elf_plan::header_table::is_kept_table;
+use elf_plan::round::{checked_rounded_up, sum};
+use elf_plan::sections::Sections;
+use elf_plan::unwritable::Unwritable;
+use std::alloc::Global;
+
+// Whether the fields of the header that aren't written are those of the input.
+fn keeps_header_fields(old: Header, new: Header) -> bool
+    ensures { IsTrue result → spec.KeepsHeaderFields old.entry.file.now new.entry.file.now }
+{
+    let (file, w) = (old.file, new.file);
+    w[0..E_ENTRY] == file[0..E_ENTRY]
+        && w[E_FLAGS..E_PHNUM] == file[E_FLAGS..E_PHNUM]
+        && w[E_SHENTSIZE..E_SHNUM] == file[E_SHENTSIZE..E_SHNUM]
+}
+
+// Where the loaded bytes end in the written file.
+fn loaded_end(segments: &[Segment], area: &Area, shift: &Shift) -> Result<u64, Unwritable>
+    ensures { IfOk result (λ end. end ≡ spec.loaded_end segments.now area.now shift.now) }
+{
+    if area.tight {
+        return area.offset_of(area.end);
+    }
+    match lowest_behind(segments, shift.from) {
+        Some(_) => sum(loads_end(segments)?, shift.by),
+        None => area.offset_of(area.end),
+    }
+}
+
+// Where the table of program headers stands.
+fn table_place(elf: &Elf, area: &Area, shift: &Shift) -> Result<u64, Unwritable>
+    ensures { IfOk result (λ at. at ≡ spec.table_place elf.now area.now shift.now) }
+{
+    if area.tight {
+        return Ok(area.offset);
+    }
+    if is_kept_table(elf, shift) {
+        return shift.moved(elf.phoff);
+    }
+    checked_rounded_up(8, loaded_end(&elf.segments, area, shift)?)
+}
+
+// Where the contents of sections begin.
+fn contents_start(elf: &Elf, area: &Area, shift: &Shift) -> Result<u64, Unwritable>
+    ensures { IfOk result (λ start. start ≡ spec.contents_start elf.now area.now shift.now) }
+{
+    if area.tight || is_kept_table(elf, shift) {
+        return loaded_end(&elf.segments, area, shift);
+    }
+    let segments: &[Segment] = &elf.segments;
+    let size = (PHDR_SIZE * segments.len()) as u64;
+    sum(table_place(elf, area, shift)?, size)
+}
+
+// Where the contents of the section of an index end, which stand at their alignment at or behind an offset.
+fn end_behind(sections: &[Section], start: u64, index: usize) -> Result<u64, Unwritable>
+    ensures { IfOk result (λ end. spec.StandsBehind sections.now start index end) }
+{
+    match sections.get(index) {
+        Some(section) => end_at(section, start),
+        None => Err(Unwritable::ReadBack),
+    }
+}
+
+fn end_at(section: &Section, start: u64) -> Result<u64, Unwritable>
+    ensures place { IfOk result (λ end. section.now.offset ≡ rounded_up (max 1 section.now.align) start) }
+    ensures end { IfOk result (λ end. end ≡ section.now.offset + section.now.size) }
+{
+    if section.offset != checked_rounded_up(section.align.max(1), start)? {
+        return Err(Unwritable::ReadBack);
+    }
+    sum(section.offset, section.size)
+}
+
+// Where the contents of the sections of some indices end, which stand one behind another.
+fn end_of(sections: &[Section], start: u64, order: &[(u64, usize)]) -> Result<u64, Unwritable>
+    ensures { IfOk result (λ end. spec.StandFrom sections.now start (map (λ place. place.1) order.now) end) }
+{
+    let mut end = start;
+    for place in order {
+        end = end_behind(sections, end, place.1)?;
+    }
+    Ok(end)
+}
+
+// Where the contents of the sections of some indices end, and behind them a table of ranges, if it is added.
+fn end_of_all(
+    sections: &[Section],
+    start: u64,
+    order: &[(u64, usize)],
+    adds_ranges: bool,
+) -> Result<u64, Unwritable>
+    ensures { IfOk result (λ end. spec.StandFrom sections.now start
+        (map (λ place. place.1) order.now ++ spec.added_ranges adds_ranges (length sections.now)) end) }
+{
+    let end = end_of(sections, start, order)?;
+    if !adds_ranges {
+        return Ok(end);
+    }
+    end_behind(sections, end, sections.len().saturating_sub(1))
+}
+
+// Whether the headers of sections stand at the least multiple of 8 at or behind an offset, and a file ends with them.
+fn ends_with_headers(new: Header, sections: &[Section], end: u64) -> Result<bool, Unwritable>
+    ensures { IfOk result (λ holds. IsTrue holds → (e_shoff new.entry.file.now ≡ rounded_up 8 end)
+        × (length new.entry.file.now ≡ e_shoff new.entry.file.now + SHDR_SIZE * length sections.now)) }
+{
+    let place = checked_rounded_up(8, end)?;
+    let file_end = sum(place, (SHDR_SIZE * sections.len()) as u64)?;
+    Ok(new.fields().shoff == place && new.file.len() as u64 == file_end)
+}
+
+/// Whether the written file is laid out so.
+pub fn is_laid_out(
+    alloc: Global,
+    tables: &SectionTables,
+    known: &Sections,
+) -> Result<bool, Unwritable>
+    requires { Knows tables.now.elf.now tables.now.tables.now tables.now.area tables.now.shift known.now }
+    ensures { IfOk result (λ holds. IsTrue holds →
+        spec.HasFileLayout tables.now.elf.now tables.now.new.now tables.now.tables.now tables.now.area tables.now.shift) }
+{
+    let elf = tables.elf;
+    let new = tables.new;
+    let header = Header { file: new.file };
+    if !keeps_header_fields(Header { file: elf.file }, header) {
+        return Ok(false);
+    }
+    if header.fields().phoff != table_place(elf, &tables.area, &tables.shift)? {
+        return Ok(false);
+    }
+    let order = known.order(alloc)?;
+    let start = contents_start(elf, &tables.area, &tables.shift)?;
+    let end = end_of_all(&new.sections, start, &order, tables.adds_ranges())?;
+    ends_with_headers(header, &new.sections, end)
+}

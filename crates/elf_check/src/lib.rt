@@ -1,0 +1,15 @@
+//! Whether a file that was written has all that it must have, as it is read back.
+#![tactic(auto)]
+
+mod entry_names;
+mod header_check;
+mod layout_check;
+mod name_check;
+mod name_parts;
+mod read_back;
+mod section_check;
+mod section_tables;
+mod symbol_check;
+mod symbol_tables;
+
+pub use read_back::is_accepted;

@@ -1,0 +1,305 @@
+// Whether a file that was written has the sections, program headers, names, symbols and layout that it must have, as
+// they are read back.
+ghost use Rattle.std.specs.Prelude.{◌≡◌, IfOk, IsTrue, length};
+ghost use Rattle.rv_code.specs.layout.FunctionLists.{AreLaidOut};
+ghost use Rattle.elf_image.specs.faults.FileFaults.{IsSound};
+ghost use Rattle.elf_image.specs.file.Header.{e_shstrndx};
+ghost use Rattle.elf_plan.specs.FragmentLists.{AreFragments};
+ghost use Rattle.elf_plan.specs.Area.{shift_of};
+ghost use Rattle.elf_plan.specs.AreaStands.{AreaStands};
+ghost use Rattle.elf_check.specs.EntryNames.{WasRead};
+ghost use Rattle.elf_plan.specs.FileLayout.{HasFileLayout};
+ghost use Rattle.elf_plan.specs.HeaderPlaces.{HasNewHeaders};
+ghost use Rattle.elf_plan.specs.KnownSections.{Knows};
+ghost use Rattle.elf_plan.specs.NameTables as spec;
+ghost use Rattle.elf_check.specs.NewNames.{HaveNewNames};
+ghost use Rattle.elf_plan.specs.NewSections.{AreNewSections};
+ghost use Rattle.elf_check.specs.NewSymbols.{AreNewSymbols, HaveNewSymbols, bytes_behind};
+ghost use Rattle.elf_check.specs.NewTables.{HasNewTables, area_for};
+
+use crate::entry_names::KeptNames;
+use crate::header_check::has_headers;
+use crate::layout_check::is_laid_out;
+use crate::name_check::has_names;
+use crate::section_tables::SectionTables;
+use crate::symbol_check::CodeSymbols;
+use crate::symbol_tables::SymbolTables;
+use elf_image::code_segment::executable_segment;
+use elf_image::named::{EH_FRAME, EH_FRAME_HDR};
+use elf_image::symbol::SYM_SIZE;
+use elf_image::{Elf, Section, Symbol, read};
+use elf_plan::area::{Area, Shift, area_of};
+use elf_plan::given_tables::{Table, table_size};
+use elf_plan::kept_bytes::KeptBytes;
+use elf_plan::name_tables::{OwnSections, place_of_symbols, symbols_section};
+use elf_plan::section_bytes::bytes_of;
+use elf_plan::sections::{Sections, replaced_by};
+use elf_plan::source::SectionSource;
+use elf_plan::unwritable::Unwritable;
+use rb_bytes::fault::Refusal;
+use std::alloc::Global;
+
+// The new area for some code and tables, and how bytes move to make room for it.
+fn area_for(
+    elf: &Elf,
+    tables: &[Table],
+    code: &[u8],
+    tight: bool,
+) -> Result<(Area, Shift), Unwritable>
+    ensures area { IfOk result (λ r. r.0 ≡ area_for elf.now tables.now code.now tight) }
+    ensures shift { IfOk result (λ r. r.1 ≡ shift_of elf.now.segments.items r.0) }
+{
+    let segments = elf.segments.as_slice();
+    let (_, executable) = executable_segment(segments).ok_or(Unwritable::Layout)?;
+    let frames = table_size(tables, EH_FRAME);
+    let header = table_size(tables, EH_FRAME_HDR);
+    let area = area_of(segments, &executable, tight, code.len(), frames, header)?;
+    let shift = Shift::new(segments, &executable, &area)?;
+    Ok((area, shift))
+}
+
+// Whether the layout and the program headers are those that the file must have.
+fn has_places(alloc: Global, tables: &SectionTables, known: &Sections) -> Result<bool, Unwritable>
+    requires { Knows tables.now.elf.now tables.now.tables.now tables.now.area tables.now.shift known.now }
+    ensures layout { IfOk result (λ holds. IsTrue holds →
+        HasFileLayout tables.now.elf.now tables.now.new.now tables.now.tables.now tables.now.area tables.now.shift) }
+    ensures headers { IfOk result (λ holds. IsTrue holds →
+        HasNewHeaders tables.now.elf.now tables.now.new.now tables.now.tables.now tables.now.area tables.now.shift) }
+{
+    if !is_laid_out(alloc, tables, known)? {
+        return Ok(false);
+    }
+    has_headers(alloc, tables, known)
+}
+
+// Whether the sections are those that the file must have.
+fn has_new_sections(tables: &SectionTables, known: &Sections) -> bool
+    requires old { WasRead tables.now.elf.now }
+    requires new { WasRead tables.now.new.now }
+    requires known { Knows tables.now.elf.now tables.now.tables.now tables.now.area tables.now.shift known.now }
+    requires names { e_shstrndx tables.now.new.now.file.now ≡ e_shstrndx tables.now.elf.now.file.now }
+    ensures { IsTrue result →
+        AreaStands tables.now.area tables.now.tables.now tables.now.code.now tables.now.new.now.file.now →
+        AreNewSections tables.now.elf.now tables.now.new.now tables.now.tables.now tables.now.area tables.now.shift
+        tables.now.code.now }
+{
+    let names = KeptNames::of_sections(tables.elf, tables.new);
+    tables.are_new(known, &names)
+}
+
+// Whether the sections, their layout and the program headers are those that the file must have.
+fn has_sections(alloc: Global, tables: &SectionTables) -> Result<bool, Unwritable>
+    requires old { WasRead tables.now.elf.now }
+    requires new { WasRead tables.now.new.now }
+    requires names { e_shstrndx tables.now.new.now.file.now ≡ e_shstrndx tables.now.elf.now.file.now }
+    ensures sections { IfOk result (λ holds. IsTrue holds →
+        AreaStands tables.now.area tables.now.tables.now tables.now.code.now tables.now.new.now.file.now →
+        AreNewSections tables.now.elf.now tables.now.new.now tables.now.tables.now tables.now.area tables.now.shift
+        tables.now.code.now) }
+    ensures layout { IfOk result (λ holds. IsTrue holds →
+        HasFileLayout tables.now.elf.now tables.now.new.now tables.now.tables.now tables.now.area tables.now.shift) }
+    ensures headers { IfOk result (λ holds. IsTrue holds →
+        HasNewHeaders tables.now.elf.now tables.now.new.now tables.now.tables.now tables.now.area tables.now.shift) }
+{
+    let elf = tables.elf;
+    let own = OwnSections::new(elf)?;
+    let replaced = replaced_by(alloc, &elf.sections, tables.tables)?;
+    let kept = KeptBytes::new(alloc, &elf.segments, &tables.area, &tables.shift)?;
+    let known = Sections {
+        elf,
+        own,
+        replaced: &replaced,
+        kept: &kept,
+    };
+    if !has_new_sections(tables, &known) {
+        return Ok(false);
+    }
+    has_places(alloc, tables, &known)
+}
+
+// What stands in a table behind its last whole symbol.
+fn bytes_behind<'a>(elf: &Elf<'a>, table: &Section) -> &'a [u8]
+    ensures { result.now ≡ bytes_behind elf.now table.now }
+{
+    let bytes = bytes_of(elf.file, table);
+    let symbols: &[Symbol] = &elf.symbols;
+    let end = SYM_SIZE * symbols.len();
+    &bytes[end.min(bytes.len())..]
+}
+
+// Whether two files have the same bytes behind the last whole symbols of their tables.
+fn has_same_rest(elf: &Elf, table: &Section, new: &Elf, new_table: &Section) -> bool
+    ensures { IsTrue result → bytes_behind new.now new_table.now ≡ bytes_behind elf.now table.now }
+{
+    bytes_behind(new, new_table) == bytes_behind(elf, table)
+}
+
+// Whether two files have their symbol tables at the same index.
+fn has_same_place(elf: &Elf, new: &Elf) -> bool
+    ensures { IsTrue result → spec.place_of_symbols new.now ≡ spec.place_of_symbols elf.now }
+{
+    place_of_symbols(new) == place_of_symbols(elf)
+}
+
+// How many sections the input has: the index of that of the new code.
+fn section_count(elf: &Elf) -> Result<u16, Unwritable>
+    ensures { IfOk result (λ count. count ≡ length elf.now.sections.items) }
+{
+    match u16::try_from(elf.sections.len()) {
+        Ok(count) => Ok(count),
+        Err(_) => Err(Unwritable::Layout),
+    }
+}
+
+// Whether the symbols of two tables are what they must be.
+fn has_symbols_of(
+    alloc: Global,
+    source: &SectionSource,
+    new: &Elf,
+    table: &Section,
+    new_table: &Section,
+) -> Result<bool, Unwritable>
+    requires old { WasRead source.now.elf.now }
+    requires new { WasRead new.now }
+    requires laid_out { AreLaidOut source.now.funcs.now }
+    requires fragments { AreFragments source.now.funcs.now source.now.map.now source.now.fragments.now }
+    ensures { IfOk result (λ holds. IsTrue holds →
+        AreNewSymbols source.now.elf.now.symbols.items new.now.symbols.items source.now.funcs.now source.now.map.now
+        source.now.cold.now (length source.now.elf.now.sections.items) table.now new_table.now) }
+{
+    let elf = source.elf;
+    let code = CodeSymbols {
+        funcs: source.funcs,
+        map: source.map,
+        fragments: source.fragments,
+        text: section_count(elf)?,
+    };
+    let symbols = SymbolTables {
+        old: &elf.symbols,
+        new: &new.symbols,
+        code,
+        cold: source.cold,
+    };
+    let names = KeptNames::of_symbols(elf, new);
+    symbols.are_new(alloc, &names, table, new_table)
+}
+
+// Whether the symbols are those that the file must have.
+fn has_symbols(alloc: Global, source: &SectionSource, new: &Elf) -> Result<bool, Unwritable>
+    requires old { WasRead source.now.elf.now }
+    requires new { WasRead new.now }
+    requires laid_out { AreLaidOut source.now.funcs.now }
+    requires fragments { AreFragments source.now.funcs.now source.now.map.now source.now.fragments.now }
+    ensures { IfOk result (λ holds. IsTrue holds →
+        HaveNewSymbols source.now.elf.now new.now source.now.funcs.now source.now.map.now source.now.cold.now) }
+{
+    let elf = source.elf;
+    if !has_same_place(elf, new) {
+        return Ok(false);
+    }
+    let (Some(table), Some(new_table)) = (symbols_section(elf), symbols_section(&*new)) else {
+        return Ok(true);
+    };
+    if !has_same_rest(elf, table, new, new_table) {
+        return Ok(false);
+    }
+    has_symbols_of(alloc, source, new, table, new_table)
+}
+
+// Whether the names and the symbols are those that the file must have.
+fn has_names_and_symbols(
+    alloc: Global,
+    source: &SectionSource,
+    tables: &SectionTables,
+) -> Result<bool, Unwritable>
+    requires old { WasRead source.now.elf.now }
+    requires new { WasRead tables.now.new.now }
+    requires laid_out { AreLaidOut source.now.funcs.now }
+    requires fragments { AreFragments source.now.funcs.now source.now.map.now source.now.fragments.now }
+    requires input { tables.now.elf.now ≡ source.now.elf.now }
+    ensures names { IfOk result (λ holds. IsTrue holds →
+        HaveNewNames source.now.elf.now tables.now.new.now tables.now.tables.now tables.now.area source.now.funcs.now
+        source.now.cold.now) }
+    ensures symbols { IfOk result (λ holds. IsTrue holds →
+        HaveNewSymbols source.now.elf.now tables.now.new.now source.now.funcs.now source.now.map.now source.now.cold.now) }
+{
+    if !has_names(alloc, tables, source.funcs, source.cold)? {
+        return Ok(false);
+    }
+    has_symbols(alloc, source, tables.new)
+}
+
+// Whether sections, program headers, names, symbols and layout are what they must be.
+fn has_new_tables(
+    alloc: Global,
+    source: &SectionSource,
+    code: &[u8],
+    tight: bool,
+    new: &Elf,
+) -> Result<bool, Unwritable>
+    requires old { WasRead source.now.elf.now }
+    requires new { WasRead new.now }
+    requires names { e_shstrndx new.now.file.now ≡ e_shstrndx source.now.elf.now.file.now }
+    requires laid_out { AreLaidOut source.now.funcs.now }
+    requires fragments { AreFragments source.now.funcs.now source.now.map.now source.now.fragments.now }
+    ensures sections { IfOk result (λ holds. IsTrue holds →
+        AreaStands (area_for source.now.elf.now source.now.tables.now code.now tight) source.now.tables.now code.now
+        new.now.file.now →
+        AreNewSections source.now.elf.now new.now source.now.tables.now
+        (area_for source.now.elf.now source.now.tables.now code.now tight)
+        (shift_of source.now.elf.now.segments.items
+        (area_for source.now.elf.now source.now.tables.now code.now tight)) code.now) }
+    ensures headers { IfOk result (λ holds. IsTrue holds → HasNewHeaders source.now.elf.now new.now source.now.tables.now
+        (area_for source.now.elf.now source.now.tables.now code.now tight)
+        (shift_of source.now.elf.now.segments.items
+        (area_for source.now.elf.now source.now.tables.now code.now tight))) }
+    ensures names { IfOk result (λ holds. IsTrue holds → HaveNewNames source.now.elf.now new.now source.now.tables.now
+        (area_for source.now.elf.now source.now.tables.now code.now tight) source.now.funcs.now source.now.cold.now) }
+    ensures symbols { IfOk result (λ holds. IsTrue holds →
+        HaveNewSymbols source.now.elf.now new.now source.now.funcs.now source.now.map.now source.now.cold.now) }
+    ensures layout { IfOk result (λ holds. IsTrue holds →
+        HasFileLayout source.now.elf.now new.now source.now.tables.now
+        (area_for source.now.elf.now source.now.tables.now code.now tight)
+        (shift_of source.now.elf.now.segments.items
+        (area_for source.now.elf.now source.now.tables.now code.now tight))) }
+{
+    let (area, shift) = area_for(source.elf, source.tables, code, tight)?;
+    let tables = SectionTables {
+        elf: source.elf,
+        new,
+        tables: source.tables,
+        area,
+        shift,
+        code,
+    };
+    if !has_sections(alloc, &tables)? {
+        return Ok(false);
+    }
+    has_names_and_symbols(alloc, source, &tables)
+}
+
+/// Whether the reader takes a file, and finds the sections, program headers, names, symbols and layout in it that the file
+/// must have. The bytes of its new area aren't looked at.
+pub fn is_accepted(
+    alloc: Global,
+    source: &SectionSource,
+    code: &[u8],
+    tight: bool,
+    file: &[u8],
+) -> Result<bool, Unwritable>
+    requires old { WasRead source.now.elf.now }
+    requires names { e_shstrndx file.now ≡ e_shstrndx source.now.elf.now.file.now }
+    requires laid_out { AreLaidOut source.now.funcs.now }
+    requires fragments { AreFragments source.now.funcs.now source.now.map.now source.now.fragments.now }
+    ensures sound { IfOk result (λ holds. IsTrue holds → IsSound file.now) }
+    ensures tables { IfOk result (λ holds. IsTrue holds →
+        AreaStands (area_for source.now.elf.now source.now.tables.now code.now tight) source.now.tables.now code.now file.now →
+        HasNewTables source.now.elf.now source.now.tables.now code.now source.now.funcs.now source.now.cold.now
+        source.now.map.now tight file.now) }
+{
+    match read(alloc, file) {
+        Ok(found) => has_new_tables(alloc, source, code, tight, &found),
+        Err(Refusal::Fault(_)) => Ok(false),
+        Err(Refusal::Memory) => Err(Unwritable::Memory),
+    }
+}

@@ -1,0 +1,21 @@
+-- The bytes of the new area in a written file: the new code, and the tables that are loaded behind it.
+use Rattle.std.specs.Prelude.{ℕ, ◌-◌, List, Bool, IfSome, String, Vec, codes}
+use Rattle.elf_parts.specs.Patches.{Stands}
+use Rattle.elf_plan.specs.declared.area.Area.{Area}
+use Rattle.elf_make.specs.declared.layout.Layout.{Layout}
+use Rattle.elf_plan.specs.Area.{area_offset}
+use Rattle.elf_make.specs.FileParts.{IsMade}
+use Rattle.elf_plan.specs.NewSections.{bytes_called}
+use Rattle.elf_make.specs.Source.{Source}
+
+-- The tables stand among the bytes of an area.
+pub record HoldsTables {Y Z : Type 0} (tables : List (String Y × Vec ℕ Z)) (layout : Layout) : Type 0 where
+  pub frames : IfSome layout.area.frames
+      (λ a. Stands layout.bytes.items (a - layout.area.start) (bytes_called tables (codes ".eh_frame")))
+  pub index : IfSome layout.area.index
+      (λ a. Stands layout.bytes.items (a - layout.area.start) (bytes_called tables (codes ".eh_frame_hdr")))
+
+-- A file that was made, with these tables in its area.
+pub record IsMadeWith {Y Z : Type 0} (s : Source) (tables : List (String Y × Vec ℕ Z)) (tight : Bool) (w : List ℕ) : Type 0 where
+  pub made : IsMade s tight w
+  pub has_tables : HoldsTables tables made.layout

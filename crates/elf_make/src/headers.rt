@@ -1,0 +1,216 @@
+// The section headers of a written file, and the contents behind its loaded bytes. gABI, "Section Header".
+ghost use Rattle.std.specs.Prelude.{◌≡◌, OnOk};
+ghost use Rattle.elf_image.specs.faults.Truncation.{IsReadable};
+ghost use Rattle.elf_plan.specs.Contents.{section_bytes};
+ghost use Rattle.elf_plan.specs.NewSections.{without_code};
+
+use crate::names::NameTable;
+use crate::tail::{Tail, end_behind};
+use elf_image::entries::{SectionTable, section_count};
+use elf_image::named::{EH_FRAME, EH_FRAME_HDR};
+use elf_image::relocation::SHT_RELA;
+use elf_image::section::{SHF_ALLOC, SHF_EXECINSTR, SHT_NOBITS, SHT_PROGBITS, SHT_STRTAB};
+use elf_image::{Elf, Section, SectionHeader};
+use elf_plan::area::{Area, Shift};
+use elf_plan::given_tables::{Table, table_size};
+use elf_plan::old_name::{is_renamed, old_prefix};
+use elf_plan::section_bytes::{SHT_NULL, bytes_of, flags_left, without_code};
+use elf_plan::sections::Contents;
+use elf_plan::unwritable::Unwritable;
+use std::alloc::Global;
+
+/// The contents that are written anew.
+#[derive(Clone, Copy)]
+pub struct NewContents<'a> {
+    pub section_names: &'a [u8],
+    pub symbols: &'a [u8],
+    pub symbol_names: &'a [u8],
+    pub tables: &'a [Table],
+}
+
+/// The headers of the input's sections, with new names where they are renamed.
+pub fn old_headers(
+    alloc: Global,
+    elf: &Elf,
+    names: &mut NameTable,
+) -> Result<Vec<SectionHeader>, Unwritable>
+    requires { IsReadable elf.now.file.now }
+{
+    let table = SectionTable { file: elf.file };
+    let mut headers = Vec::new(alloc);
+    for i in 0..section_count(table) {
+        let mut header = table.section_of(i);
+        if let Some(section) = elf.sections.get(i) {
+            if is_renamed(section) {
+                header.name = names.add(old_prefix(section.name), section.name)?;
+            }
+        }
+        headers.push(header)?;
+    }
+    Ok(headers)
+}
+
+// A section in the new area.
+fn area_section(
+    name: u32,
+    flags: u64,
+    area: &Area,
+    addr: u64,
+    size: u64,
+    align: u64,
+) -> Result<SectionHeader, Unwritable> {
+    Ok(SectionHeader {
+        name,
+        kind: SHT_PROGBITS,
+        flags,
+        addr,
+        offset: area.offset_of(addr)?,
+        size,
+        link: 0,
+        info: 0,
+        align,
+        entsize: 0,
+    })
+}
+
+/// The headers of the sections in the new area: the code, the unwind table and its index.
+pub fn area_headers(
+    headers: &mut Vec<SectionHeader>,
+    area: &Area,
+    tables: &[Table],
+    names: &mut NameTable,
+) -> Result<(), Unwritable> {
+    let code = area.code_end.saturating_sub(area.start);
+    let name = names.add(b".text", b"")?;
+    headers.push(area_section(name, SHF_ALLOC + SHF_EXECINSTR, area, area.start, code, 16)?)?;
+    if let Some(frames) = area.frames {
+        let name = names.add(EH_FRAME, b"")?;
+        let size = table_size(tables, EH_FRAME).unwrap_or(0) as u64;
+        headers.push(area_section(name, SHF_ALLOC, area, frames, size, 8)?)?;
+    }
+    if let Some(index) = area.index {
+        let name = names.add(EH_FRAME_HDR, b"")?;
+        let size = table_size(tables, EH_FRAME_HDR).unwrap_or(0) as u64;
+        headers.push(area_section(name, SHF_ALLOC, area, index, size, 4)?)?;
+    }
+    Ok(())
+}
+
+impl<'a> NewContents<'a> {
+    // The bytes that are written for a section, if they stand behind the loaded ones.
+    fn written(&self, elf: &Elf<'a>, contents: Contents, section: &Section) -> Option<&'a [u8]> {
+        match contents {
+            Contents::Dropped | Contents::Inactive | Contents::Kept => None,
+            Contents::Copied => Some(bytes_of(elf.file, section)),
+            Contents::SectionNames => Some(self.section_names),
+            Contents::Symbols => Some(self.symbols),
+            Contents::SymbolNames => Some(self.symbol_names),
+            Contents::Given(table) => self.tables.get(table).map(|t| t.1.as_slice()),
+        }
+    }
+}
+
+// A header of no section, which has a name.
+fn no_section(name: u32, flags: u64) -> SectionHeader {
+    SectionHeader {
+        name,
+        kind: SHT_NULL,
+        flags,
+        addr: 0,
+        offset: 0,
+        size: 0,
+        link: 0,
+        info: 0,
+        align: 0,
+        entsize: 0,
+    }
+}
+
+/// Sets what a section's header says of its contents, but for the places of those that are written.
+pub fn set_contents(
+    header: &mut SectionHeader,
+    section: &Section,
+    contents: Contents,
+    shift: &Shift,
+) {
+    match contents {
+        Contents::Dropped => *header = no_section(header.name, flags_left(section)),
+        Contents::Inactive => {}
+        Contents::Kept => header.offset = shift.reach(header.offset).min(u64::MAX as u128) as u64,
+        Contents::Copied => {}
+        Contents::SectionNames | Contents::Symbols | Contents::SymbolNames => {
+            header.flags = without_code(header.flags);
+            header.kind = match header.kind {
+                SHT_RELA => SHT_NULL,
+                SHT_NOBITS => SHT_STRTAB,
+                kind => kind,
+            };
+        }
+        Contents::Given(_) => {
+            if header.kind == SHT_NOBITS {
+                header.kind = SHT_PROGBITS;
+            }
+        }
+    }
+}
+
+// Writes the contents of the section of an index.
+fn place_bytes(
+    headers: &mut [SectionHeader],
+    index: usize,
+    bytes: &[u8],
+    tail: &mut Tail,
+) -> Result<(), Unwritable>
+    ensures { tail.new.base ≡ tail.old.base }
+{
+    if index < headers.len() {
+        let place = tail.add(headers[index].align, bytes)?;
+        headers[index].offset = place;
+        headers[index].size = bytes.len() as u64;
+    }
+    Ok(())
+}
+
+/// Where contents that are written from an offset on will end, in an order of their indices. No file is so large that they
+/// would be written for nothing.
+pub fn contents_end<'a>(
+    elf: &Elf<'a>,
+    contents: &[Contents],
+    order: &[(u64, usize)],
+    new: &NewContents<'a>,
+    start: u64,
+) -> Result<u64, Unwritable> {
+    let mut end = start;
+    for entry in order {
+        let i = entry.1;
+        if let (Some(section), Some(contents)) = (elf.sections.get(i), contents.get(i)) {
+            if let Some(bytes) = new.written(elf, *contents, section) {
+                end = end_behind(end, section.align, bytes.len())?;
+            }
+        }
+    }
+    Ok(end)
+}
+
+/// Writes the contents of sections behind the loaded bytes, in an order of their indices, and sets what their headers say
+/// of them.
+pub fn place_contents<'a>(
+    elf: &Elf<'a>,
+    contents: &[Contents],
+    order: &[(u64, usize)],
+    new: &NewContents<'a>,
+    headers: &mut [SectionHeader],
+    tail: &mut Tail,
+) -> Result<(), Unwritable>
+    ensures { OnOk result (tail.new.base ≡ tail.old.base) }
+{
+    for entry in order {
+        let i = entry.1;
+        if let (Some(section), Some(contents)) = (elf.sections.get(i), contents.get(i)) {
+            if let Some(bytes) = new.written(elf, *contents, section) {
+                place_bytes(headers, i, bytes, tail)?;
+            }
+        }
+    }
+    Ok(())
+}

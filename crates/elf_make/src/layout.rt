@@ -1,0 +1,89 @@
+// How a written file lies before its tail: the input's bytes that are loaded, and the new area.
+ghost use Rattle.std.specs.Prelude.{◌≡◌, ◌≤◌, IfOk, codes, is_none};
+ghost use Rattle.addr_map.specs.Spans.{owner};
+ghost use Rattle.elf_parts.specs.Parts.{size_of};
+ghost use Rattle.file_room.specs.Room.{area_start};
+ghost use Rattle.elf_plan.specs.TableSizes as spec;
+ghost use Rattle.elf_make.specs.FileParts.{IsLaidOut};
+
+use crate::area_bytes::area_bytes;
+use crate::placing::parts_of;
+use crate::tail::limited;
+use addr_map::AddrMap;
+use elf_image::Elf;
+use elf_image::code_segment::executable_segment;
+use elf_image::named::{EH_FRAME, EH_FRAME_HDR};
+use elf_parts::Parts;
+use elf_plan::area::{Area, Shift, area_of};
+use elf_plan::given_tables::{Table, table_size};
+use elf_plan::round::sum;
+use elf_plan::unwritable::Unwritable;
+use file_room::area_start_of;
+use std::alloc::Global;
+
+/// The loaded part of a written file.
+#[derive(Drop)]
+pub struct Layout {
+    /// The index of the executable segment's header in the input.
+    pub code: usize,
+    pub area: Area,
+    pub shift: Shift,
+    pub parts: Parts,
+    /// The bytes of the area.
+    pub bytes: Vec<u8>,
+}
+
+impl Layout {
+    ghost use Rattle.std.specs.Prelude.{◌≡◌, ◌≤◌, IfOk, codes};
+    ghost use Rattle.elf_parts.specs.Parts.{size_of};
+    ghost use Rattle.elf_make.specs.AreaTables.{HoldsTables};
+    ghost use Rattle.elf_plan.specs.TableSizes as spec;
+    ghost use Rattle.elf_make.specs.FileParts.{IsLaidOut};
+
+    /// The loaded part of a file with this new code and these tables.
+    pub fn new(
+        alloc: Global,
+        elf: &Elf,
+        tight: bool,
+        code: &[u8],
+        tables: &[Table],
+    ) -> Result<Layout, Unwritable>
+        ensures laid_out { IfOk result (IsLaidOut elf.now tight code.now (spec.table_size tables.now (codes ".eh_frame"))
+            (spec.table_size tables.now (codes ".eh_frame_hdr"))) }
+        ensures tables { IfOk result (HoldsTables tables.now) }
+    {
+        let segments = elf.segments.as_slice();
+        let (index, executable) = executable_segment(segments).ok_or(Unwritable::Layout)?;
+        let frames = table_size(tables, EH_FRAME);
+        let header = table_size(tables, EH_FRAME_HDR);
+        let area = area_of(segments, &executable, tight, code.len(), frames, header)?;
+        let shift = Shift::new(segments, &executable, &area)?;
+        let bytes = area_bytes(alloc, &area, code, tables)?;
+        let parts = parts_of(segments, &area, &shift, elf.file.len(), bytes.len())?;
+        Ok(Layout {
+            code: index,
+            area,
+            shift,
+            parts,
+            bytes,
+        })
+    }
+
+    /// Where the tail begins.
+    pub fn end(&self) -> Result<u64, Unwritable>
+        requires { self.now.parts.low ≤ self.now.parts.high }
+        ensures { IfOk result (λ end. end ≡ size_of self.now.parts) }
+    {
+        let moved = self.parts.high - self.parts.low;
+        limited(sum(self.parts.behind_at as u64, moved as u64)?)
+    }
+}
+
+/// Whether a map puts the new code into a segment of its own: no byte of it stands where it would start behind the executable
+/// segment.
+pub fn is_above(elf: &Elf, map: &AddrMap) -> Result<bool, Unwritable>
+    ensures { IfOk result (λ above. above ≡ is_none (owner map.now (area_start elf.now.segments.items))) }
+{
+    let start = area_start_of(&elf.segments, false).ok_or(Unwritable::Layout)?;
+    Ok(map.owner(start).is_none())
+}

@@ -1,0 +1,145 @@
+// The file with its new area, put together.
+ghost use Rattle.std.specs.Prelude.{◌≡◌, ◌<◌, ◌+◌, All, IfOk, Some, length};
+ghost use Rattle.elf_image.specs.faults.FileFaults.{IsSound};
+ghost use Rattle.elf_image.specs.faults.Truncation.{IsReadable};
+ghost use Rattle.elf_image.specs.file.ParsedFile.{IsElfOf};
+ghost use Rattle.addr_map.specs.Spans.{moved};
+ghost use Rattle.elf_parts.specs.Parts.{PartsFit, size_of};
+ghost use Rattle.rv_code.specs.layout.FunctionLists.{AreLaidOut};
+ghost use Rattle.elf_make.specs.AreaTables.{IsMadeWith};
+ghost use Rattle.elf_make.specs.CellNumbers.{in_pieces};
+ghost use Rattle.elf_make.specs.FileParts.{IsPut};
+ghost use Rattle.elf_make.specs.Source.{source_of};
+ghost use Rattle.elf_make.specs.WrittenFile.{CanHold};
+
+use crate::cell_numbers::cell_numbers;
+use crate::header_fields::HeaderFields;
+use crate::layout::Layout;
+use crate::new_sections::{NewSections, put};
+use crate::placing::{can_put_all, table_place};
+use crate::tail::Tail;
+use addr_map::AddrMap;
+use elf_image::named::EH_FRAME_HDR;
+use elf_image::{Elf, SectionHeader, Segment};
+use elf_parts::spell::put_segments;
+use elf_parts::{NumberAt, assemble};
+use elf_plan::given_tables::table_size;
+use elf_plan::segments::Places;
+use elf_plan::source::SectionSource;
+use elf_plan::unwritable::Unwritable;
+use rb_bytes::fault::NoMemory;
+use rv_code::Emitted;
+use std::alloc::Global;
+
+// The parts of a file, with numbers and its table of program headers put over them.
+fn put_together(
+    alloc: Global,
+    elf: &Elf,
+    layout: &Layout,
+    tail: &Tail,
+    cells: &[NumberAt],
+    segments: &[Segment],
+    fields: &[NumberAt],
+    table_at: u64,
+) -> Result<Vec<u8>, Unwritable>
+    requires can { PartsFit layout.now.parts (length elf.now.file.now) (length layout.now.bytes.items) }
+    requires base { tail.now.base ≡ size_of layout.now.parts }
+    ensures { IfOk result
+        (λ w. IsPut layout.now elf.now.file.now tail.now.bytes.items cells.now segments.now fields.now table_at w.items) }
+{
+    let mut table = Vec::new(alloc);
+    put_segments(&mut table, segments)?;
+    let size = tail.end()? as usize;
+    if !can_put_all(size, cells)
+        || !can_put_all(size, fields)
+        || table_at as u128 + table.len() as u128 > size as u128
+    {
+        return Err(Unwritable::Layout);
+    }
+    let file = assemble(
+        alloc,
+        &layout.parts,
+        elf.file,
+        &layout.bytes,
+        tail.bytes(),
+        cells,
+        table_at as usize,
+        &table,
+        fields,
+    )?;
+    Ok(file)
+}
+
+// The offsets of sections.
+fn places_of(alloc: Global, headers: &[SectionHeader]) -> Result<Vec<u64>, NoMemory> {
+    let mut places = Vec::new(alloc);
+    for header in headers {
+        places.push(header.offset)?;
+    }
+    Ok(places)
+}
+
+// The fields of the file's header.
+fn fields_of(
+    elf: &Elf,
+    map: &AddrMap,
+    sections: &NewSections,
+    segments: &[Segment],
+    table_at: u64,
+) -> Result<HeaderFields, Unwritable>
+    ensures entry { IfOk result (λ fields. moved map.now elf.now.entry ≡ Some fields.entry) }
+    ensures segments_at { IfOk result (λ fields. fields.segments_at ≡ table_at) }
+    ensures segments { IfOk result (λ fields. fields.segments ≡ length segments.now) }
+    ensures sections_at { IfOk result (λ fields. fields.sections_at ≡ sections.now.table_at) }
+    ensures sections { IfOk result (λ fields. fields.sections ≡ length sections.now.headers.items) }
+    ensures names { IfOk result (λ fields. fields.names ≡ sections.now.names) }
+{
+    Ok(HeaderFields {
+        entry: map.moved(elf.entry).ok_or(Unwritable::Layout)?,
+        segments_at: table_at,
+        segments: segments.len() as u64,
+        sections_at: sections.table_at,
+        sections: sections.headers.len() as u64,
+        names: sections.names as u64,
+    })
+}
+
+/// The file with its new area in one of the two places.
+pub fn made(
+    alloc: Global,
+    source: &SectionSource,
+    emitted: &Emitted,
+    tight: bool,
+) -> Result<Vec<u8>, Unwritable>
+    requires readable { IsReadable source.now.elf.now.file.now }
+    requires read { IsElfOf source.now.elf.now.file.now source.now.elf.now }
+    requires sound { IsSound source.now.elf.now.file.now }
+    requires laid_out { AreLaidOut source.now.funcs.now }
+    requires cells { All (CanHold source.now.elf.now) emitted.now.cells.items }
+    ensures { IfOk result (λ w. IsMadeWith
+        (in_pieces (source_of source.now.elf.now emitted.now source.now.map.now source.now.tables.now))
+        source.now.tables.now tight w.items) }
+{
+    let elf = source.elf;
+    let layout = Layout::new(alloc, elf, tight, &emitted.code, source.tables)?;
+    let mut tail = Tail::new(alloc, layout.end()?);
+    let table_at = table_place(elf, &layout.area, &layout.shift, &mut tail)?;
+    let sections = put(alloc, source, &layout, &mut tail)?;
+    let sections_at = places_of(alloc, &sections.headers)?;
+    let places = Places {
+        elf,
+        area: layout.area,
+        shift: layout.shift,
+        table_at,
+        contents: &sections.contents,
+        sections_at: &sections_at,
+        index_size: table_size(source.tables, EH_FRAME_HDR).unwrap_or(0) as u64,
+        file_size: tail.end()?,
+    };
+    let segments = places.segments(alloc, layout.code)?;
+    let cells = cell_numbers(alloc, elf, &layout.shift, &emitted.cells)?;
+    let fields = fields_of(elf, source.map, &sections, &segments, table_at)?.numbers(alloc)?;
+    put_together(
+        alloc, elf, &layout, &tail, &cells, &segments, &fields, table_at,
+    )
+}

@@ -1,0 +1,281 @@
+// The sections of a written file: their contents behind its loaded bytes, and their headers behind those.
+ghost use Rattle.std.specs.Prelude.{◌≡◌, IfOk};
+ghost use Rattle.rv_code.specs.layout.FunctionLists.{AreLaidOut};
+ghost use Rattle.elf_image.specs.faults.Truncation.{IsReadable};
+ghost use Rattle.elf_image.specs.file.Header.{e_shstrndx};
+
+use crate::headers::{
+    NewContents, area_headers, contents_end, old_headers, place_contents, set_contents,
+};
+use crate::layout::Layout;
+use crate::names::NameTable;
+use crate::symbols::{NewCode, cold_symbols, local_count, symbol_table};
+use crate::tail::{Tail, limited};
+use elf_image::section::{SHDR_SIZE, SHT_PROGBITS};
+use elf_image::{Elf, Section, SectionHeader};
+use elf_parts::spell::{SymbolEntry, put_sections};
+use elf_plan::area::Shift;
+use elf_plan::given_tables::{DEBUG_RNGLISTS, Table, table_called};
+use elf_plan::kept_bytes::KeptBytes;
+use elf_plan::name_tables::OwnSections;
+use elf_plan::round::sum;
+use elf_plan::section_bytes::bytes_of;
+use elf_plan::sections::{Contents, Sections, index_called, replaced_by};
+use elf_plan::source::SectionSource;
+use elf_plan::unwritable::Unwritable;
+use elf_plan::weights::name_weight;
+use std::alloc::Global;
+
+// How many times the bytes of the input the tables of names and the copied contents may take together. Where no bytes are
+// shared they take about once as many.
+const MOST_COPIES: u64 = 16;
+
+/// The sections of a written file.
+#[derive(Drop)]
+pub struct NewSections {
+    /// The headers of all sections.
+    pub headers: Vec<SectionHeader>,
+    /// Where the contents of each of the input's sections are.
+    pub contents: Vec<Contents>,
+    /// The index of the section with the names of sections.
+    pub names: usize,
+    /// Where the table of headers stands.
+    pub table_at: u64,
+}
+
+// The tables of names: that of sections, and that of symbols, where it is another one.
+#[derive(Drop)]
+struct NewNames {
+    sections: NameTable,
+    symbols: Option<NameTable>,
+}
+
+impl NewNames {
+    fn new(alloc: Global, elf: &Elf, own: &OwnSections) -> Result<NewNames, Unwritable> {
+        let sections = names_at(alloc, elf, own.section_names)?;
+        let symbols = match own.symbol_names {
+            Some(index) => {
+                if index == own.section_names {
+                    None
+                } else {
+                    Some(names_at(alloc, elf, index)?)
+                }
+            }
+            None => None,
+        };
+        Ok(NewNames { sections, symbols })
+    }
+
+    // The bytes of the table for symbols.
+    fn of_symbols(&self) -> &[u8] {
+        match &self.symbols {
+            Some(table) => table.bytes(),
+            None => self.sections.bytes(),
+        }
+    }
+}
+
+// A table with the bytes of the section of an index.
+fn names_at(alloc: Global, elf: &Elf, index: usize) -> Result<NameTable, Unwritable> {
+    let section = elf.sections.get(index).ok_or(Unwritable::Layout)?;
+    let table = NameTable::new(alloc, bytes_of(elf.file, section))?;
+    Ok(table)
+}
+
+// The header of the table of ranges, where one is given and the input has none.
+fn added_ranges(
+    elf: &Elf,
+    tables: &[Table],
+    names: &mut NameTable,
+) -> Result<Option<SectionHeader>, Unwritable> {
+    if table_called(tables, DEBUG_RNGLISTS).is_none()
+        || index_called(&elf.sections, DEBUG_RNGLISTS).is_some()
+    {
+        return Ok(None);
+    }
+    Ok(Some(SectionHeader {
+        name: names.add(DEBUG_RNGLISTS, b"")?,
+        kind: SHT_PROGBITS,
+        flags: 0,
+        addr: 0,
+        offset: 0,
+        size: 0,
+        link: 0,
+        info: 0,
+        align: 1,
+        entsize: 0,
+    }))
+}
+
+// The symbols that are added, with their names.
+fn added_symbols(
+    alloc: Global,
+    source: &SectionSource,
+    own: &OwnSections,
+    code: &NewCode,
+    names: &mut NewNames,
+) -> Result<Vec<SymbolEntry>, Unwritable>
+    requires { AreLaidOut code.now.funcs.now }
+{
+    if own.symbol_names.is_none() {
+        return Ok(Vec::new(alloc));
+    }
+    match &mut names.symbols {
+        Some(table) => cold_symbols(alloc, source.elf, code, source.cold, table),
+        None => cold_symbols(alloc, source.elf, code, source.cold, &mut names.sections),
+    }
+}
+
+// The bytes of the symbol table. Its header says how many symbols there are up to the last that is added.
+fn new_symbols(
+    alloc: Global,
+    source: &SectionSource,
+    own: &OwnSections,
+    names: &mut NewNames,
+    headers: &mut [SectionHeader],
+    text: u16,
+) -> Result<Vec<u8>, Unwritable>
+    requires { AreLaidOut source.now.funcs.now }
+{
+    let Some(index) = own.symbols else {
+        return Ok(Vec::new(alloc));
+    };
+    let section = source.elf.sections.get(index).ok_or(Unwritable::Layout)?;
+    let code = NewCode {
+        funcs: source.funcs,
+        map: source.map,
+        fragments: source.fragments,
+        section: text,
+    };
+    let added = added_symbols(alloc, source, own, &code, names)?;
+    if !added.is_empty() && index < headers.len() {
+        let count = sum(local_count(source.elf, section) as u64, added.len() as u64)?;
+        headers[index].info = u32::try_from(count).map_err(|_| Unwritable::Layout)?;
+    }
+    symbol_table(alloc, source.elf, section, &code, &added)
+}
+
+// Where the contents of the input's sections are, and the order of those that are written.
+fn old_contents(
+    alloc: Global,
+    source: &SectionSource,
+    own: OwnSections,
+    layout: &Layout,
+) -> Result<(Vec<Contents>, Vec<(u64, usize)>), Unwritable> {
+    let replaced = replaced_by(alloc, &source.elf.sections, source.tables)?;
+    let kept = KeptBytes::new(alloc, &source.elf.segments, &layout.area, &layout.shift)?;
+    let sections = Sections {
+        elf: source.elf,
+        own,
+        replaced: &replaced,
+        kept: &kept,
+    };
+    Ok((sections.contents(alloc)?, sections.order(alloc)?))
+}
+
+// Before names are made and contents copied: whether they fit a file. Names may be ends of one text and many headers
+// name the same bytes, so what a small file asks for may grow with its square; such a file isn't written.
+fn check_sizes(
+    alloc: Global,
+    source: &SectionSource,
+    contents: &[Contents],
+) -> Result<(), Unwritable>
+    requires { AreLaidOut source.now.funcs.now }
+{
+    let mut size = name_weight(alloc, source.elf, source.funcs, source.cold)?;
+    for (section, contents) in source.elf.sections.iter().zip(contents) {
+        if matches!(contents, Contents::Copied) {
+            size = size.saturating_add(section.size);
+        }
+    }
+    if size > (source.elf.file.len() as u64).saturating_mul(MOST_COPIES) {
+        return Err(Unwritable::TooLarge);
+    }
+    limited(size)?;
+    Ok(())
+}
+
+/// Writes the contents of all sections into a tail, and their headers behind them.
+pub fn put(
+    alloc: Global,
+    source: &SectionSource,
+    layout: &Layout,
+    tail: &mut Tail,
+) -> Result<NewSections, Unwritable>
+    requires readable { IsReadable source.now.elf.now.file.now }
+    requires laid_out { AreLaidOut source.now.funcs.now }
+    ensures names { IfOk result (λ new. new.names ≡ e_shstrndx source.now.elf.now.file.now) }
+    ensures base { IfOk result (λ new. tail.new.base ≡ tail.old.base) }
+{
+    let own = OwnSections::new(source.elf)?;
+    let (contents, order) = old_contents(alloc, source, own, layout)?;
+    check_sizes(alloc, source, &contents)?;
+    let mut names = NewNames::new(alloc, source.elf, &own)?;
+    let mut headers = old_headers(alloc, source.elf, &mut names.sections)?;
+    let text = u16::try_from(headers.len()).map_err(|_| Unwritable::Layout)?;
+    area_headers(
+        &mut headers,
+        &layout.area,
+        source.tables,
+        &mut names.sections,
+    )?;
+    let ranges = added_ranges(source.elf, source.tables, &mut names.sections)?;
+    let symbols = new_symbols(alloc, source, &own, &mut names, &mut headers, text)?;
+    set_all_contents(&mut headers, &source.elf.sections, &contents, &layout.shift);
+    let new = NewContents {
+        section_names: names.sections.bytes(),
+        symbols: &symbols,
+        symbol_names: names.of_symbols(),
+        tables: source.tables,
+    };
+    contents_end(source.elf, &contents, &order, &new, tail.end()?)?;
+    place_contents(source.elf, &contents, &order, &new, &mut headers, tail)?;
+    if let (Some(header), Some(table)) = (ranges, table_called(source.tables, DEBUG_RNGLISTS)) {
+        headers.push(SectionHeader {
+            offset: tail.add(1, &table.1)?,
+            size: table.1.len() as u64,
+            ..header
+        })?;
+    }
+    let table_at = put_table(alloc, &mut headers, tail)?;
+    Ok(NewSections {
+        headers,
+        contents,
+        names: own.section_names,
+        table_at,
+    })
+}
+
+// Sets what headers say of their contents, but for the places of those that are written.
+fn set_all_contents(
+    headers: &mut [SectionHeader],
+    sections: &[Section],
+    contents: &[Contents],
+    shift: &Shift,
+) {
+    for i in 0..contents.len().min(headers.len()).min(sections.len()) {
+        set_contents(&mut headers[i], &sections[i], contents[i], shift);
+    }
+}
+
+// Writes the table of headers, and says where it stands. No section stands behind the file's end.
+fn put_table(
+    alloc: Global,
+    headers: &mut Vec<SectionHeader>,
+    tail: &mut Tail,
+) -> Result<u64, Unwritable>
+    ensures { IfOk result (λ at. tail.new.base ≡ tail.old.base) }
+{
+    let table_at = tail.align_to(8)?;
+    let size = (headers.len() as u64)
+        .checked_mul(SHDR_SIZE as u64)
+        .ok_or(Unwritable::Layout)?;
+    let end = table_at.checked_add(size).ok_or(Unwritable::Layout)?;
+    for header in headers.iter_mut() {
+        header.offset = header.offset.min(end);
+    }
+    let mut bytes = Vec::new(alloc);
+    put_sections(&mut bytes, headers)?;
+    tail.add(1, &bytes)?;
+    Ok(table_at)
+}

@@ -1,0 +1,13 @@
+pub mod FirstHomes
+pub mod FirstNames
+pub mod FirstRange
+pub mod FragmentLists
+pub mod HeaderExamples
+pub mod KeptRanges
+pub mod KnownContents
+pub mod LoadedRanges
+pub mod NewSegments
+pub mod Pairs
+pub mod Positions
+pub mod RangesWithNew
+pub mod SectionOrder

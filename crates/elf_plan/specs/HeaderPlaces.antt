@@ -1,0 +1,153 @@
+-- The program headers of a written file, and where their bytes are. gABI, "Program Header".
+use Rattle.std.specs.Prelude.{◌≡◌, ℕ, ◌+◌, ◌-◌, ◌*◌, ◌<◌, ◌==◌, ◌&&◌, not, nat_le, nat_lt, max, min, if◌then◌else◌, Bool}
+use Rattle.std.specs.Prelude.{true, false}
+use Rattle.std.specs.Prelude.{List, Option, Some, None, String, Vec, IfSome, IsSomeAnd, codes, length, map, option_map, slice_get}
+use Rattle.std.specs.Prelude.{unwrap_or}
+use Rattle.std.specs.List.{list_any}
+use Rattle.std.specs.Option.{option_map_or}
+use Rattle.elf_image.specs.declared.elf.Elf.{Elf}
+use Rattle.elf_image.specs.declared.section.Section.{Section}
+use Rattle.elf_image.specs.declared.section.TheConstants.{SHT_NOBITS}
+use Rattle.elf_image.specs.declared.segment.Segment.{Segment}
+use Rattle.elf_image.specs.declared.segment.TheConstants.{PHDR_SIZE, PT_GNU_EH_FRAME}
+use Rattle.elf_image.specs.file.SectionNames.{is_loaded}
+use Rattle.elf_image.specs.memory.CodeSegment.{executable_segment}
+use Rattle.elf_image.specs.memory.Image.{is_load}
+use Rattle.elf_image.specs.memory.Break.{rounded_up}
+use Rattle.elf_plan.specs.declared.area.Area.{Area}
+use Rattle.elf_plan.specs.declared.area.Shift.{Shift}
+use Rattle.elf_plan.specs.declared.sections.Contents.{Contents}
+use Rattle.elf_plan.specs.declared.segments.TheConstants.{PT_PHDR}
+use Rattle.elf_plan.specs.Area.{moved_by, area_offset}
+use Rattle.elf_plan.specs.Contents.{contents_of}
+use Rattle.elf_plan.specs.FileLayout.{is_written}
+use Rattle.elf_plan.specs.NewSegments.{AreNewHeaders, grown, grows_at}
+use Rattle.file_room.specs.Room.{greatest_align}
+use Rattle.elf_plan.specs.TableSizes.{table_size}
+
+-- Bytes of the input that a header names, and no segment loads.
+
+-- whether a segment loads one of the bytes from one to before another
+abbrev pub loads_one : ℕ → ℕ → Segment → Bool
+loads_one start end p = is_load p && nat_lt (max start p.offset) (min end (p.offset + min p.filesz p.memsz))
+
+abbrev pub is_unloaded : List Segment → Segment → Bool
+is_unloaded segments p =
+    not (is_load p) && (nat_lt 0 p.filesz && not (list_any (loads_one p.offset (p.offset + p.filesz)) segments))
+
+-- They follow the first section that holds them all, of those whose contents stand in the file,
+-- aren't loaded, and are written behind the loaded bytes.
+abbrev pub can_hold : Contents → Section → Bool
+can_hold contents s = is_written contents && (not (is_loaded s) && not (s.kind == SHT_NOBITS))
+
+abbrev pub section_holds : Contents → Section → Segment → Bool
+section_holds contents s p =
+    can_hold contents s && (nat_le s.offset p.offset && nat_le (p.offset + p.filesz) (s.offset + s.size))
+
+-- by where the contents of sections are: no section below an index holds them
+abbrev pub HasNone : (ℕ → Section → Contents) → List Section → Segment → ℕ → Type 0
+HasNone contents sections p n =
+    (i : ℕ) (s : Section) → i < n → slice_get sections i ≡ Some s → section_holds (contents i s) s p ≡ false
+
+-- the index of the first that does, if there is one
+abbrev pub IsFirst : (ℕ → Section → Contents) → List Section → Segment → Option ℕ → Type 0
+IsFirst contents sections p None = HasNone contents sections p (length sections)
+IsFirst contents sections p (Some i) =
+    IsSomeAnd (slice_get sections i) (λ s. section_holds (contents i s) s p ≡ true) × HasNone contents sections p i
+
+-- the section that a header follows, if it follows one
+pub record IsHome (contents : ℕ → Section → Contents) (segments : List Segment) (sections : List Section) (p : Segment)
+    (home : Option ℕ) : Type 0 where
+  pub unloaded : is_unloaded segments p ≡ true → IsFirst contents sections p home
+  pub loaded : is_unloaded segments p ≡ false → home ≡ None
+
+-- where its bytes are then, by the offsets of the input's sections in the written file
+abbrev pub place_in : List Section → List ℕ → Segment → ℕ → ℕ
+place_in sections offsets p i =
+    unwrap_or (slice_get offsets i) 0 + (p.offset - option_map_or (λ s. s.offset) (slice_get sections i) 0)
+
+-- What headers name in a written file.
+pub record Outline : Type 0 where
+  pub area : Area
+  pub shift : Shift
+  -- where the table of program headers stands
+  pub table_at : ℕ
+  -- the sizes of the unwind table's index, and of the file
+  pub index_size : ℕ
+  pub file_size : ℕ
+
+-- Bytes that stay beside the loaded ones move as these do, but none begin in the new area and end behind it,
+-- or stand behind the file's end.
+abbrev pub leaves_area : Area → ℕ → ℕ → Bool
+leaves_area area start size =
+    let end = area_offset area area.end in
+    not area.tight && (nat_lt start end && nat_lt end (start + size))
+
+abbrev pub beside : Outline → ℕ → Segment → ℕ
+beside outline align p =
+    let at = moved_by outline.shift.from outline.shift.by p.offset in
+    let end = area_offset outline.area outline.area.end in
+    min (if leaves_area outline.area at p.filesz then at + rounded_up align (end - at) else at) outline.file_size
+
+-- A header of the table of program headers names it, unless it would begin in the new area and end behind it.
+abbrev pub names_table : Outline → Segment → Bool
+names_table outline p = (p.kind == PT_PHDR) && not (leaves_area outline.area outline.table_at p.filesz)
+
+-- where the bytes of a header are that stand at or behind the executable segment's end
+abbrev pub place_behind : Outline → ℕ → Option ℕ → Segment → ℕ
+place_behind outline align in_section p =
+    if is_load p && nat_lt 0 p.filesz then moved_by outline.shift.from outline.shift.by p.offset
+    else if names_table outline p then outline.table_at
+    else unwrap_or in_section (beside outline align p)
+
+abbrev pub moved_header : Outline → ℕ → Option ℕ → Segment → Segment
+moved_header outline align in_section p =
+    if nat_le outline.shift.from p.offset then record p { offset = place_behind outline align in_section p } else p
+
+-- a header that names so many bytes of the area at an address
+abbrev pub named : Area → ℕ → ℕ → Segment → Segment
+named area address size p =
+    record p { offset = area_offset area address; vaddr = address; paddr = address; filesz = size; memsz = size }
+
+-- the index of the unwind table, where a header names it
+abbrev pub index_for : Area → Segment → Option ℕ
+index_for area p = if p.kind == PT_GNU_EH_FRAME then area.index else None
+
+-- a header of the input in the written file, by the place of its bytes in a section that it follows
+abbrev pub new_header : List Segment → Outline → Option ℕ → Segment → Segment
+new_header segments outline in_section p =
+    if outline.area.tight && (p.kind == PT_PHDR)
+    then named outline.area outline.area.address (PHDR_SIZE * (length segments + 1)) p
+    else option_map_or (λ a. named outline.area a outline.index_size p) (index_for outline.area p)
+    (moved_header outline (greatest_align segments) in_section p)
+
+-- the same, where the executable segment grows
+pub record IsNewHeader (contents : ℕ → Section → Contents) (segments : List Segment) (sections : List Section)
+    (offsets : List ℕ) (outline : Outline) (grows : Bool) (p q : Segment) : Type 0 where
+  pub home : Option ℕ
+  pub is_home : IsHome contents segments sections p home
+  pub is : q ≡ (if grows
+      then grown outline.area.end p
+      else new_header segments outline (option_map (place_in sections offsets p) home) p)
+
+-- All headers, where the executable segment has an index.
+pub record ArePlaced (contents : ℕ → Section → Contents) (segments : List Segment) (sections : List Section)
+    (offsets : List ℕ) (outline : Outline) (code : ℕ) (qs : List Segment) : Type 0 where
+  pub headers : AreNewHeaders outline.shift.from outline.shift.by outline.area code segments qs
+  pub each : (i : ℕ) (p q : Segment) → slice_get segments i ≡ Some p → slice_get headers.renewed i ≡ Some q →
+      IsNewHeader contents segments sections offsets outline (grows_at outline.area.tight code i) p q
+
+-- those of a written file, as it is read
+abbrev pub outline_of : {Y Z : Type 0} → Elf → List (String Y × Vec ℕ Z) → Area → Shift → Outline
+outline_of new tables area shift = record {
+  area = area;
+  shift = shift;
+  table_at = new.phoff;
+  index_size = unwrap_or (table_size tables (codes ".eh_frame_hdr")) 0;
+  file_size = length new.file.now;
+}
+
+abbrev pub HasNewHeaders : {Y Z : Type 0} → Elf → Elf → List (String Y × Vec ℕ Z) → Area → Shift → Type 0
+HasNewHeaders elf new tables area shift = IfSome (executable_segment elf.segments.items) (λ e.
+    ArePlaced (contents_of elf tables area shift) elf.segments.items elf.sections.items (map (λ n. n.offset) new.sections.items)
+    (outline_of new tables area shift) e.0 new.segments.items)

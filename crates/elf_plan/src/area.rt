@@ -1,0 +1,243 @@
+// The new area, and where the loaded bytes of the input are beside it.
+ghost use Rattle.std.specs.Prelude.{◌≡◌, ◌+◌, ◌^◌, ◌<◌, ℕ, IfOk, Some};
+ghost use Rattle.elf_image.specs.memory.Break.{rounded_up};
+ghost use Rattle.elf_image.specs.memory.CodeSegment.{executable_segment, executable_end};
+ghost use Rattle.elf_plan.specs.Area as spec;
+
+use crate::round::{checked_rounded_up, in_64_bits, sum};
+use crate::unwritable::Unwritable;
+use elf_image::Segment;
+use elf_image::segment::PT_LOAD;
+use file_room::{area_start_of, greatest_align, new_segment_start};
+use rb_bytes::fault::NoMemory;
+
+/// The new area: the new code, and behind it the tables that are loaded.
+#[derive(Clone, Copy, PartialEq, Eq, Debug)]
+pub struct Area {
+    /// Whether it stands in a segment of its own.
+    pub tight: bool,
+    /// The address of its segment.
+    pub address: u64,
+    /// That segment's offset in the written file.
+    pub offset: u64,
+    /// Where the new code starts and ends.
+    pub start: u64,
+    pub code_end: u64,
+    /// Where the unwind table and its index start, if they are there.
+    pub frames: Option<u64>,
+    pub index: Option<u64>,
+    pub end: u64,
+}
+
+impl Area {
+    ghost use Rattle.elf_plan.specs.Area.{area_offset};
+
+    /// Where an address of the area is in the written file.
+    pub fn offset_of(&self, address: u64) -> Result<u64, Unwritable>
+        ensures { IfOk result (λ offset. offset ≡ area_offset self.now address) }
+    {
+        sum(self.offset, address.saturating_sub(self.address))
+    }
+}
+
+fn has_file_bytes(p: &Segment) -> bool
+    ensures { result ≡ spec.has_file_bytes p.now }
+{
+    p.kind == PT_LOAD && p.filesz > 0
+}
+
+// Where the bytes of a program header end in the file.
+fn file_end_of(p: &Segment) -> u128
+    ensures end { result ≡ spec.file_end_of p.now }
+    ensures low { result < 2 ^ 65 }
+{
+    p.offset as u128 + p.filesz as u128
+}
+
+/// Where the last loaded byte ends in the file.
+pub fn loads_end(segments: &[Segment]) -> Result<u64, Unwritable>
+    ensures { IfOk result (λ end. end ≡ spec.loads_end segments.now) }
+{
+    let mut end: u128 = 0;
+    for p in segments {
+        if has_file_bytes(p) {
+            end = end.max(file_end_of(p));
+        }
+    }
+    in_64_bits(end)
+}
+
+/// Where the first loaded byte at or behind an offset stands in the file.
+pub fn lowest_behind(segments: &[Segment], offset: u64) -> Option<u64>
+    ensures { result ≡ spec.lowest_behind offset segments.now }
+{
+    let mut low: Option<u64> = None;
+    for p in segments {
+        if has_file_bytes(p) && offset <= p.offset {
+            low = match low {
+                Some(low) => Some(p.offset.min(low)),
+                None => Some(p.offset),
+            };
+        }
+    }
+    low
+}
+
+// The address of the area's segment.
+fn segment_address(segments: &[Segment], code: &Segment, tight: bool) -> Result<u64, Unwritable>
+    requires { code.now ≡ spec.code_segment segments.now }
+    ensures { IfOk result (λ address. address ≡ spec.segment_address segments.now tight) }
+{
+    if tight {
+        in_64_bits(new_segment_start(segments))
+    } else {
+        Ok(code.vaddr)
+    }
+}
+
+// The offset of the area's segment in the written file.
+fn segment_offset(segments: &[Segment], code: &Segment, tight: bool) -> Result<u64, Unwritable>
+    requires { code.now ≡ spec.code_segment segments.now }
+    ensures { IfOk result (λ offset. offset ≡ spec.segment_offset segments.now tight) }
+{
+    if tight {
+        checked_rounded_up(greatest_align(segments), loads_end(segments)?)
+    } else {
+        Ok(code.offset)
+    }
+}
+
+// Where a table starts behind an end, if there is one.
+fn table_start(align: u64, end: u64, size: Option<usize>) -> Result<Option<u64>, Unwritable>
+    requires { 0 < align }
+    ensures { IfOk result (λ start. start ≡ spec.table_start align end size) }
+{
+    match size {
+        Some(_) => Ok(Some(checked_rounded_up(align, end)?)),
+        None => Ok(None),
+    }
+}
+
+// Where it ends; without one nothing is added.
+fn table_end(align: u64, end: u64, size: Option<usize>) -> Result<u64, Unwritable>
+    requires { 0 < align }
+    ensures { IfOk result (λ after. after ≡ spec.table_end align end size) }
+{
+    match size {
+        Some(size) => sum(checked_rounded_up(align, end)?, size as u64),
+        None => Ok(end),
+    }
+}
+
+/// The area for so many bytes of code, and for tables of these sizes, in a file with this executable segment.
+pub fn area_of(
+    segments: &[Segment],
+    executable: &Segment,
+    tight: bool,
+    code: usize,
+    frames: Option<usize>,
+    index: Option<usize>,
+) -> Result<Area, Unwritable>
+    requires { executable.now ≡ spec.code_segment segments.now }
+    ensures { IfOk result (λ area. area ≡ spec.area_of segments.now tight code frames index) }
+{
+    let start = area_start_of(segments, tight).ok_or(Unwritable::Layout)?;
+    let code_end = sum(start, code as u64)?;
+    let frames_end = table_end(8, code_end, frames)?;
+    Ok(Area {
+        tight,
+        address: segment_address(segments, executable, tight)?,
+        offset: segment_offset(segments, executable, tight)?,
+        start,
+        code_end,
+        frames: table_start(8, code_end, frames)?,
+        index: table_start(4, frames_end, index)?,
+        end: table_end(4, frames_end, index)?,
+    })
+}
+
+/// The addresses of an unwind table of so many bytes, and of its index, in an area that starts at an address with so many bytes
+/// of code.
+pub fn table_places(start: u64, code: usize, frames: usize) -> Result<(u64, u64), NoMemory>
+    ensures frames { IfOk result (λ places. spec.table_start 8 (start + code) (Some frames) ≡ Some places.0) }
+    ensures index { IfOk result (λ places. (index : ℕ) →
+        spec.table_start 4 (spec.table_end 8 (start + code) (Some frames)) (Some index) ≡ Some places.1) }
+{
+    match places_behind(start, code, frames) {
+        Ok(places) => Ok(places),
+        Err(_) => Err(NoMemory),
+    }
+}
+
+fn places_behind(start: u64, code: usize, frames: usize) -> Result<(u64, u64), Unwritable>
+    ensures frames { IfOk result (λ places. rounded_up 8 (start + code) ≡ places.0) }
+    ensures index { IfOk result (λ places. rounded_up 4 (rounded_up 8 (start + code) + frames) ≡ places.1) }
+{
+    let at = checked_rounded_up(8, sum(start, code as u64)?)?;
+    let index_at = checked_rounded_up(4, sum(at, frames as u64)?)?;
+    Ok((at, index_at))
+}
+
+/// Where bytes of the input are in the written file: those from an offset on move.
+#[derive(Clone, Copy, PartialEq, Eq, Debug)]
+pub struct Shift {
+    /// The end of the executable segment in the input.
+    pub from: u64,
+    pub by: u64,
+}
+
+impl Shift {
+    ghost use Rattle.elf_plan.specs.Area.{code_segment, moved_by, shift_of};
+
+    /// How the bytes behind the executable segment make room for an area.
+    pub fn new(segments: &[Segment], executable: &Segment, area: &Area) -> Result<Shift, Unwritable>
+        requires { executable.now ≡ code_segment segments.now }
+        ensures { IfOk result (λ shift. shift ≡ shift_of segments.now area.now) }
+    {
+        let from = sum(executable.offset, executable.filesz)?;
+        Ok(Shift {
+            from,
+            by: step_of(segments, from, area)?,
+        })
+    }
+
+    /// Where the byte at an offset is, if it has a place in the file.
+    pub fn reach(&self, offset: u64) -> u128
+        ensures is { result ≡ moved_by self.now.from self.now.by offset }
+        ensures low { result < 2 ^ 65 }
+    {
+        if self.from <= offset {
+            offset as u128 + self.by as u128
+        } else {
+            offset as u128
+        }
+    }
+
+    /// Where the byte at an offset went.
+    pub fn moved(&self, offset: u64) -> Result<u64, Unwritable>
+        ensures { IfOk result (λ o. o ≡ moved_by self.now.from self.now.by offset) }
+    {
+        if self.from <= offset {
+            sum(offset, self.by)
+        } else {
+            Ok(offset)
+        }
+    }
+}
+
+// How far the bytes from an offset on move to make room for an area.
+fn step_of(segments: &[Segment], from: u64, area: &Area) -> Result<u64, Unwritable>
+    requires { from ≡ spec.code_file_end segments.now }
+    ensures { IfOk result (λ step. step ≡ spec.step_of segments.now area.now) }
+{
+    if area.tight {
+        return Ok(0);
+    }
+    match lowest_behind(segments, from) {
+        Some(low) => {
+            let end = area.offset_of(area.end)?;
+            checked_rounded_up(greatest_align(segments), end.saturating_sub(low))
+        }
+        None => Ok(0),
+    }
+}

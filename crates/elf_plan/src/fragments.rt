@@ -1,0 +1,125 @@
+// Fragments: stretches of new code whose bytes belong to one function.
+ghost use Rattle.std.specs.Prelude.{◌≡◌, ◌≤◌, ◌<◌, ◌++◌, ◌∷◌, [], ℕ, IfOk, List, OnOk, length, option_map, slice_get};
+ghost use Rattle.std.specs.Prelude.{slice_index_or};
+ghost use Rattle.addr_map.specs.declared.span.Span.{Span};
+ghost use Rattle.rv_code.specs.declared.placed.Func.{Func};
+ghost use Rattle.rv_code.specs.layout.FunctionLists.{AreLaidOut};
+ghost use Rattle.elf_plan.specs.ColdSymbols.{start_around};
+ghost use Rattle.elf_plan.specs.FragmentLists.{AreFragments, AreSorted, Grows};
+ghost use Rattle.rv_code.specs.layout.FunctionMembers.{function_at};
+ghost use Rattle.elf_plan.specs.Fragments.{IsFragment};
+
+use crate::round::sum;
+use crate::unwritable::Unwritable;
+use addr_map::{AddrMap, Span};
+use rv_code::Func;
+use rv_code::functions::function_at;
+use std::alloc::Global;
+
+/// A stretch of new code that belongs to one function, whose place in the list of functions is given.
+#[derive(Clone, Copy, PartialEq, Eq, Debug)]
+pub struct Fragment {
+    pub start: u64,
+    pub end: u64,
+    pub func: usize,
+}
+
+/// Where the function starts that has an address.
+pub fn start_around(funcs: &[Func], address: u64) -> Option<u64>
+    requires { AreLaidOut funcs.now }
+    ensures { result ≡ start_around funcs.now address }
+{
+    match function_at(funcs, address) {
+        Some(func) => function_start(funcs, func),
+        None => None,
+    }
+}
+
+// Where the function starts that has a place in the list.
+fn function_start(funcs: &[Func], place: usize) -> Option<u64>
+    ensures { result ≡ option_map (λ f. f.start) (slice_get funcs.now place) }
+{
+    funcs.get(place).map(|f| f.start)
+}
+
+/// All fragments, by address. The spans of a map lie in the order of their bytes, share none, and are of functions; where they
+/// weren't, no file would be written.
+pub fn fragments(alloc: Global, funcs: &[Func], map: &AddrMap) -> Result<Vec<Fragment>, Unwritable>
+    requires { AreLaidOut funcs.now }
+    ensures { IfOk result (λ fragments. AreFragments funcs.now map.now fragments.items) }
+{
+    let mut fragments: Vec<Fragment> = Vec::new(alloc);
+    for i in 0..map.len() {
+        let span = map.span(i).ok_or(Unwritable::Layout)?;
+        add_span(&mut fragments, funcs, &span)?;
+    }
+    Ok(fragments)
+}
+
+// Adds the bytes of a span behind those of others.
+fn add_span(fragments: &mut Vec<Fragment>, funcs: &[Func], span: &Span) -> Result<(), Unwritable>
+    requires { AreLaidOut funcs.now }
+    ensures { OnOk result ((spans : List Span) → AreFragments funcs.now spans fragments.old.items →
+        AreFragments funcs.now (spans ++ span.now ∷ []) fragments.new.items) }
+{
+    if span.len == 0 {
+        return Ok(());
+    }
+    let func = function_at(funcs, span.input).ok_or(Unwritable::Layout)?;
+    let end = sum(span.out, span.len as u64)?;
+    let start = span.out;
+    add_fragment(fragments, Fragment { start, end, func })?;
+    Ok(())
+}
+
+// Adds a fragment behind others, or its bytes to the last of them.
+fn add_fragment(fragments: &mut Vec<Fragment>, fragment: Fragment) -> Result<(), Unwritable>
+    requires { fragment.start < fragment.end }
+    ensures { OnOk result (Grows fragments.old.items fragment fragments.new.items) }
+{
+    let Some(last) = fragments.pop() else {
+        fragments.push(fragment)?;
+        return Ok(());
+    };
+    if last.func == fragment.func && last.end == fragment.start {
+        fragments.push(Fragment {
+            end: fragment.end,
+            ..last
+        })?;
+        return Ok(());
+    }
+    if fragment.start < last.end {
+        return Err(Unwritable::Layout);
+    }
+    fragments.push(last)?;
+    fragments.push(fragment)?;
+    Ok(())
+}
+
+// How many fragments start at an address or below it.
+fn count_fragments_up_to(fragments: &[Fragment], address: u64) -> usize
+    ensures bound { result ≤ length fragments.now }
+    ensures below { AreSorted fragments.now → (k : ℕ) (d : Fragment) → k < result →
+        (slice_index_or fragments.now k d).start ≤ address }
+    ensures above { AreSorted fragments.now → (k : ℕ) (d : Fragment) → result ≤ k → k < length fragments.now →
+        address < (slice_index_or fragments.now k d).start }
+{
+    fragments.partition_point(|r| r.start <= address)
+}
+
+/// How many bytes of a function's fragment are left from an address on.
+pub fn bytes_left(fragments: &[Fragment], func: usize, address: u64) -> u64
+    ensures { (funcs : List Func) (spans : List Span) → AreFragments funcs spans fragments.now →
+        IsFragment funcs spans func address result }
+{
+    let above = count_fragments_up_to(fragments, address);
+    if above == 0 {
+        return 0;
+    }
+    let fragment = fragments[above - 1];
+    if fragment.func == func && address < fragment.end {
+        fragment.end - address
+    } else {
+        0
+    }
+}

@@ -1,0 +1,80 @@
+// Which bytes of the input keep their places in a written file, or move with the segments behind the executable one.
+ghost use Rattle.std.specs.Prelude.{ℕ, ◌↔◌, ◌<◌, ◌+◌, IfOk, IsTrue};
+ghost use Rattle.std.specs.List.{list_any};
+ghost use Rattle.std.specs.List.Sorted.{IsNonDecreasingBy};
+ghost use Rattle.elf_image.specs.internal.Extents.{IsInOneExtent};
+ghost use Rattle.elf_plan.specs.Contents.{moves_with};
+
+use crate::area::{Area, Shift, loads_end};
+use crate::unwritable::Unwritable;
+use elf_image::extent::{Extent, is_covered, reaches_of, sort_by_start};
+use elf_image::segment::PT_LOAD;
+use elf_image::{Section, Segment};
+use rb_bytes::fault::NoMemory;
+use std::alloc::Global;
+
+/// The bytes of the input that a written file has where they were, or where the segments behind the executable one are.
+#[derive(Drop)]
+pub struct KeptBytes {
+    /// All before this keep their places.
+    pub front: u64,
+    /// Ranges that move, by their starts, each grown to the greatest end of those up to it.
+    pub moved: Vec<Extent>,
+    ghost rising: { IsNonDecreasingBy (λ s. s.start) moved.items },
+    ghost growing: { IsNonDecreasingBy (λ s. s.end) moved.items },
+}
+
+impl KeptBytes {
+    ghost use Rattle.std.specs.Prelude.{◌+◌, ◌<◌, ◌↔◌, IfOk, IsTrue};
+    ghost use Rattle.elf_plan.specs.KeptBytes.{IsKeptBy, Keeps};
+
+    /// Those beside an area.
+    pub fn new(
+        alloc: Global,
+        segments: &[Segment],
+        area: &Area,
+        shift: &Shift,
+    ) -> Result<KeptBytes, Unwritable>
+        ensures { IfOk result (Keeps segments.now area.now shift.now) }
+    {
+        if area.tight {
+            return Ok(KeptBytes {
+                front: loads_end(segments)?,
+                moved: Vec::new(alloc),
+            });
+        }
+        let mut moved = moved_ranges(alloc, segments, shift.from)?;
+        sort_by_start(&mut moved)?;
+        Ok(KeptBytes {
+            front: shift.from,
+            moved: reaches_of(alloc, &moved)?,
+        })
+    }
+
+    /// Whether the bytes of a section are among them.
+    pub fn has(&self, section: &Section) -> bool
+        ensures { IsTrue result ↔ IsKeptBy self.now.front self.now.moved.items section.now.offset
+            (section.now.offset + section.now.size) }
+    {
+        let end = section.offset as u128 + section.size as u128;
+        end <= self.front as u128 || is_covered(&self.moved, section.offset, end)
+    }
+}
+
+// The bytes that segments from an offset on load.
+fn moved_ranges(alloc: Global, segments: &[Segment], from: u64) -> Result<Vec<Extent>, NoMemory>
+    ensures { IfOk result (λ ranges. (start end : ℕ) →
+        IsTrue (list_any (moves_with from start end) segments.now) ↔ IsInOneExtent ranges.items start end) }
+{
+    let mut ranges = Vec::new(alloc);
+    for p in segments {
+        if p.kind == PT_LOAD && from <= p.offset {
+            ranges.push(Extent {
+                start: p.offset,
+                end: p.offset as u128 + p.filesz as u128,
+                place: 0,
+            })?;
+        }
+    }
+    Ok(ranges)
+}

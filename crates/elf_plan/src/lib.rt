@@ -1,0 +1,21 @@
+//! What a written file has to be: where its parts go, and which contents its sections have.
+#![tactic(auto)]
+
+pub mod area;
+pub mod first_names;
+pub mod fragments;
+pub mod given_tables;
+pub mod header_table;
+mod homes;
+pub mod kept_bytes;
+mod loaded_ranges;
+pub mod name_tables;
+pub mod old_name;
+mod range_tree;
+pub mod round;
+pub mod section_bytes;
+pub mod sections;
+pub mod segments;
+pub mod source;
+pub mod unwritable;
+pub mod weights;

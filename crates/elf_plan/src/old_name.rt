@@ -1,0 +1,24 @@
+// Sections whose place new ones take.
+ghost use Rattle.std.specs.Prelude.{◌≡◌, ◌++◌, IfOk};
+ghost use Rattle.elf_plan.specs.OldNames as spec;
+
+use elf_image::Section;
+use elf_image::named::names_frames;
+
+/// Whether a section keeps its place and contents under another name.
+pub fn is_renamed(section: &Section) -> bool
+    ensures { result ≡ spec.is_renamed section.now }
+{
+    section.holds_code() || names_frames(section.name)
+}
+
+/// What stands before the name of a section that is renamed.
+pub fn old_prefix(name: &[u8]) -> &'static [u8]
+    ensures { result.now ++ name.now ≡ spec.old_name name.now }
+{
+    if name.starts_with(b".") {
+        b".old"
+    } else {
+        b".old."
+    }
+}

@@ -1,0 +1,99 @@
+// Ranges of numbers in an order, and the first of them that holds others.
+ghost use Rattle.std.specs.Prelude.{◌≡◌, ◌<◌, ◌↔◌, ℕ, IfOk, find};
+ghost use Rattle.std.specs.List.Sorted.{IsNonDecreasingBy};
+ghost use Rattle.elf_image.specs.internal.Extents.{IsInOneExtent};
+ghost use Rattle.elf_plan.specs.RangeTree as spec;
+
+use elf_image::extent::{Extent, is_covered, reaches_of, sort_by_start};
+use rb_bytes::fault::NoMemory;
+use std::alloc::Global;
+use std::marker::Model;
+
+/// Ranges in an order, as a search tree. It is seen as their list.
+#[cycle(range_tree)]
+#[derive(Drop)]
+pub struct RangeTree {
+    node: Node,
+}
+
+#[cycle(range_tree)]
+#[derive(Drop)]
+enum Node {
+    Leaf,
+    // The ranges before one, it, those behind it, and what the first ones hold: by their starts, each grown to
+    // the greatest end of those up to it.
+    Fork(Box<RangeTree>, Extent, Box<RangeTree>, Vec<Extent>),
+}
+
+impl Model for RangeTree {
+    ghost use Rattle.std.specs.Prelude.{List, length};
+    ghost use Rattle.elf_image.specs.declared.extent.Extent.{Extent};
+
+    ghost Value = { List Extent };
+
+    ghost use Rattle.elf_plan.specs.RangeTree.{HasReaches, ranges_of};
+
+    ghost view = { λ a. ranges_of a.node };
+
+    ghost invariant = { λ a. HasReaches a.node };
+
+    ghost size = { length };
+
+    ghost use Rattle.elf_plan.specs.RangeTreeDepth.{depth_le-length};
+
+    ghost size_decreases = { λ a h. depth_le-length a.node };
+}
+
+// Whether a range holds all the numbers from `start` to before `end`.
+fn covers(range: &Extent, start: u64, end: u128) -> bool
+    ensures { result ≡ spec.covers start end range.now }
+{
+    range.start <= start && end <= range.end
+}
+
+/// What ranges hold: they by their starts, each grown to the greatest end of those up to it.
+pub fn sorted_reaches(alloc: Global, ranges: &[Extent]) -> Result<Vec<Extent>, NoMemory>
+    ensures { IfOk result (λ reaches. spec.IsReachOf reaches.items ranges.now) }
+{
+    let mut sorted = ranges.to_vec(alloc)?;
+    sort_by_start(&mut sorted)?;
+    let reaches = reaches_of(alloc, &sorted)?;
+    Ok(reaches)
+}
+
+impl RangeTree {
+    /// The tree of some ranges.
+    pub fn new(alloc: Global, ranges: &[Extent]) -> Result<RangeTree, NoMemory>
+        ensures { IfOk result (λ tree. tree ≡ ranges.now) }
+    {
+        if ranges.is_empty() {
+            return Ok(RangeTree { node: Node::Leaf });
+        }
+        let middle = ranges.len() / 2;
+        let reaches = sorted_reaches(alloc, &ranges[..middle])?;
+        let before = Box::new(alloc, RangeTree::new(alloc, &ranges[..middle])?)?;
+        let behind = Box::new(alloc, RangeTree::new(alloc, &ranges[middle + 1..])?)?;
+        Ok(RangeTree {
+            node: Node::Fork(before, ranges[middle], behind, reaches),
+        })
+    }
+
+    /// The first range that holds all the numbers from `start` to before `end`.
+    pub fn first(&self, start: u64, end: u128) -> Option<Extent>
+        requires { start < end }
+        ensures { result ≡ find (spec.covers start end) self.now }
+    {
+        match &self.node {
+            Node::Leaf => None,
+            Node::Fork(before, range, behind, reaches) => {
+                if is_covered(reaches, start, end) {
+                    before.first(start, end)
+                } else if covers(range, start, end) {
+                    Some(*range)
+                } else {
+                    behind.first(start, end)
+                }
+            }
+        }
+    }
+}

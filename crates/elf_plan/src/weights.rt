@@ -1,0 +1,121 @@
+// A bound on the bytes of the tables of names that are written.
+ghost use Rattle.std.specs.Prelude.{◌≡◌, IfOk, List, sum_by};
+ghost use Rattle.std.specs.Option.{option_copied};
+ghost use Rattle.elf_image.specs.declared.symbol.Symbol.{Symbol};
+ghost use Rattle.rv_code.specs.layout.FunctionLists.{AreLaidOut};
+ghost use Rattle.elf_plan.specs.FirstNames.{AreFirstNames};
+ghost use Rattle.elf_plan.specs.NameTables as tables;
+ghost use Rattle.elf_plan.specs.NameWeight as spec;
+ghost use Rattle.file_room.specs.Numbers.{capped};
+
+use crate::first_names::{first_names, named_around};
+use crate::name_tables::{place_of_section_names, symbols_section};
+use crate::old_name::is_renamed;
+use elf_image::{Elf, Section, Symbol};
+use rb_bytes::fault::NoMemory;
+use rv_code::Func;
+use std::alloc::Global;
+use std::collections::BTreeMap;
+
+// A name that is written anew, with a mark before or behind it.
+fn weight_of(name: &[u8]) -> u64
+    ensures { result ≡ spec.weight_of name.now }
+{
+    8 + name.len() as u64
+}
+
+fn section_weight(section: &Section) -> u64
+    ensures { result ≡ spec.section_weight section.now }
+{
+    if is_renamed(section) {
+        weight_of(section.name)
+    } else {
+        0
+    }
+}
+
+// The new names of sections.
+fn sections_weight(sections: &[Section]) -> u64
+    ensures { result ≡ capped (sum_by spec.section_weight sections.now) }
+{
+    let mut sum: u64 = 0;
+    for section in sections {
+        sum = sum.saturating_add(section_weight(section));
+    }
+    sum
+}
+
+// The name of a cold part that begins at an address of the input.
+fn cold_weight(names: &BTreeMap<u64, Symbol>, funcs: &[Func], address: u64) -> u64
+    requires { AreLaidOut funcs.now }
+    ensures { (symbols : List Symbol) → AreFirstNames symbols names.now → result ≡ spec.cold_weight symbols funcs.now address }
+{
+    match named_around(names, funcs, address) {
+        Some(symbol) => weight_of(symbol.name),
+        None => 0,
+    }
+}
+
+// The names of cold parts.
+fn cold_weights(
+    alloc: Global,
+    symbols: &[Symbol],
+    funcs: &[Func],
+    cold: &[u64],
+) -> Result<u64, NoMemory>
+    requires { AreLaidOut funcs.now }
+    ensures { IfOk result (λ n. n ≡ capped (sum_by (spec.cold_weight symbols.now funcs.now) cold.now)) }
+{
+    let names = first_names(alloc, symbols)?;
+    let mut sum: u64 = 0;
+    for address in cold {
+        sum = sum.saturating_add(cold_weight(&names, funcs, *address));
+    }
+    Ok(sum)
+}
+
+// The section with the names of sections.
+fn names_of_sections<'a>(elf: &'a Elf<'a>) -> Option<&'a Section<'a>>
+    ensures { option_copied result ≡ tables.names_of_sections elf.now }
+{
+    elf.sections.get(place_of_section_names(elf))
+}
+
+// The section with the names of symbols, where there are symbols.
+fn names_of_symbols<'a>(elf: &'a Elf<'a>) -> Option<&'a Section<'a>>
+    ensures { option_copied result ≡ tables.names_of_symbols elf.now }
+{
+    if elf.symbols.is_empty() {
+        return None;
+    }
+    match symbols_section(elf) {
+        Some(table) => elf.sections.get(table.link as usize),
+        None => None,
+    }
+}
+
+fn size_of(section: Option<&Section>) -> u64
+    ensures { result ≡ tables.size_of (option_copied section.entry) }
+{
+    match section {
+        Some(section) => section.size,
+        None => 0,
+    }
+}
+
+/// A bound on the bytes of the tables of names that are written: the old tables, the new names, and 64 for those of new
+/// sections. `cold` has the addresses of the first instructions of cold parts. A sum that doesn't fit is given as the
+/// greatest number of 64 bits.
+pub fn name_weight(alloc: Global, elf: &Elf, funcs: &[Func], cold: &[u64]) -> Result<u64, NoMemory>
+    requires { AreLaidOut funcs.now }
+    ensures { IfOk result (λ n. n ≡ spec.name_weight elf.now funcs.now cold.now) }
+{
+    let cold = cold_weights(alloc, &elf.symbols, funcs, cold)?;
+    let tables = size_of(names_of_sections(elf)).saturating_add(size_of(names_of_symbols(elf)));
+    Ok(
+        tables
+            .saturating_add(64)
+            .saturating_add(sections_weight(&elf.sections))
+            .saturating_add(cold),
+    )
+}

@@ -1,6 +1,0 @@
-use Rattle.std.proofs.Common.{◌≡◌, take}
-use Rattle.elf_write.specs.Area.{lowest_behind}
-use Rattle.elf_write.proofs.area.lowest_behind.Given as goal
-
-abbrev pub invariant-loop-p : goal.invariant-loop-p
-invariant-loop-p l = l.low ≡ lowest_behind l.offset (take l.p-index l.segments)

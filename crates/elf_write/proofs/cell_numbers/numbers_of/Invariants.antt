@@ -1,6 +1,0 @@
-use Rattle.std.proofs.Common.{take}
-use Rattle.elf_write.specs.CellNumbers.{AreCellNumbers}
-use Rattle.elf_write.proofs.cell_numbers.numbers_of.Given as goal
-
-abbrev pub invariant-loop-cell : goal.invariant-loop-cell
-invariant-loop-cell l = AreCellNumbers l.elf l.shift (take l.cell-index l.cells) l.numbers.items

@@ -1,6 +1,0 @@
-use Rattle.std.proofs.Common.{take}
-use Rattle.elf_write.specs.FirstNames.{AreFirstNames}
-use Rattle.elf_write.proofs.first_names.first_names.Given as goal
-
-abbrev pub invariant-loop-symbol : goal.invariant-loop-symbol
-invariant-loop-symbol l = AreFirstNames (take l.symbol-index l.symbols) l.names

@@ -1,8 +1,0 @@
-use Rattle.std.proofs.Common.{◌≡◌, take}
-use Rattle.std.specs.Prelude.{sum_by}
-use Rattle.elf_write.specs.NameWeight.{cold_weight}
-use Rattle.area_room.specs.Need.{capped}
-use Rattle.elf_write.proofs.weights.cold_weights.Given as goal
-
-abbrev pub invariant-loop-address : goal.invariant-loop-address
-invariant-loop-address l = l.sum ≡ capped (sum_by (cold_weight l.symbols l.funcs) (take l.address-index l.cold))

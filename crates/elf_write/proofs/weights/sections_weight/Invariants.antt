@@ -1,8 +1,0 @@
-use Rattle.std.proofs.Common.{◌≡◌, take}
-use Rattle.std.specs.Prelude.{sum_by}
-use Rattle.elf_write.specs.NameWeight.{section_weight}
-use Rattle.area_room.specs.Need.{capped}
-use Rattle.elf_write.proofs.weights.sections_weight.Given as goal
-
-abbrev pub invariant-loop-section : goal.invariant-loop-section
-invariant-loop-section l = l.sum ≡ capped (sum_by section_weight (take l.section-index l.sections))
