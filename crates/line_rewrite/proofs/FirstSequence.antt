@@ -21,7 +21,7 @@ IsUnitKept u k = IsKept u.header.coding u.header.lengths.items u.program.items k
 abbrev pub numbered_said : Strings → ℕ → Numbered → LineSaid
 numbered_said strings a x = record { unit = x.number; rows = rows_said (told_unit strings x.unit) a (unit_sequence x.unit x.sequence) }
 
-map_cond : {X Y : Type 0} (f : X → Y) (b : Bool) (x : X) (o : Option X) → option_map f (cond b (Some x) o) ≡ cond b (Some (f x)) (option_map f o)
+pub map_cond : {X Y : Type 0} (f : X → Y) (b : Bool) (x : X) (o : Option X) → option_map f (cond b (Some x) o) ≡ cond b (Some (f x)) (option_map f o)
 map_cond f true x o = refl
 map_cond f false x o = refl
 

@@ -58,7 +58,7 @@ told_filed strings n m [] e = refl
 told_filed strings n m (f ∷ files) e = ap (λ (k : ℕ). nat_lt f.directory k && list_all (λ g. nat_lt g.directory n) (told_entries strings files)) e
     ∙ ap (λ (b : Bool). nat_lt f.directory m && b) (told_filed strings n m files e)
 
-told_count : (strings : Strings) (es : List Entry) → length (told_entries strings es) ≡ length es
+pub told_count : (strings : Strings) (es : List Entry) → length (told_entries strings es) ≡ length es
 told_count strings es = length-map es (told_entry strings)
 
 pub filed_is : (strings : Strings) (directories files : List Entry)

@@ -23,7 +23,7 @@ kept_append : (b : Bool) (x : Registers) (xs ys zs : List Registers) → zs ≡ 
 kept_append true x xs ys zs e = ap (λ (l : List Registers). x ∷ l) e
 kept_append false x xs ys zs e = e
 
-filter_append : (p : Registers → Bool) (xs ys : List Registers) → filter p (xs ++ ys) ≡ filter p xs ++ filter p ys
+pub filter_append : (p : Registers → Bool) (xs ys : List Registers) → filter p (xs ++ ys) ≡ filter p xs ++ filter p ys
 filter_append p [] ys = refl
 filter_append p (x ∷ xs) ys = kept_append (p x) x (filter p xs) (filter p ys) (filter p (xs ++ ys)) (filter_append p xs ys)
 
@@ -89,7 +89,7 @@ all_at m (r ∷ rows) w =
     rw t (ap (λ (l : List Registers). r ∷ l) (all_at m rows w.1))
 
 -- rows at one address are in force together, also before others that aren't reached
-found_stay : (m a : ℕ) (f : Registers) (found rows : List Registers) → AllAt m (f ∷ found) → m ≤ a → reached a rows ≡ [] → in_force a ((f ∷ found) ++ rows) ≡ f ∷ found
+pub found_stay : (m a : ℕ) (f : Registers) (found rows : List Registers) → AllAt m (f ∷ found) → m ≤ a → reached a rows ≡ [] → in_force a ((f ∷ found) ++ rows) ≡ f ∷ found
 unfolding in_force
 found_stay m a f found rows w h none =
     let split : reached a ((f ∷ found) ++ rows) ≡ f ∷ found =
@@ -98,7 +98,7 @@ found_stay m a f found rows w h none =
     ∙ ap (λ (g : ℕ). at_address g (f ∷ found)) (greatest_at m f found w)
     ∙ all_at m (f ∷ found) w
 
-at-below : (m n : ℕ) (rows : List Registers) → AllAt m rows → m < n → AllBelow n rows
+pub at-below : (m n : ℕ) (rows : List Registers) → AllAt m rows → m < n → AllBelow n rows
 at-below m n [] w h = tt
 at-below m n (r ∷ rows) w h = let i : r.address ≡ m = w.0 in (omega arith, at-below m n rows w.1 h)
 

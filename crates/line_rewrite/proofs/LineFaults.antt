@@ -1,8 +1,9 @@
 -- Line units that are read, and the first that can't be.
 use Rattle.std.proofs.Common.{◌≡◌, ◌∙◌, ◌≤◌, ◌<◌, ◌+◌, ◌++◌, ℕ, zero, suc, List, [], ◌∷◌, Option, Some, None, refl, sym, ap, arith, map, length, take, get_or, subst, inl, inr, option_map, Result, Ok, Err}
-use Rattle.std.specs.Prelude.{MatchResult, not, is_some, find, filter_map, slice_get, option_and_then}
+use Rattle.std.specs.Prelude.{MatchResult, sum_by, not, is_some, find, filter_map, slice_get, option_and_then}
 use Rattle.std.proofs.lemmas.List.{take_more, map-append}
 use Rattle.std.proofs.lemmas.List.Elements.{All-nil, All-push}
+use Rattle.std.proofs.lemmas.List.Sums.{sum_by_push, sum_by_more}
 use Rattle.std.proofs.lemmas.Grind.{common_steps}
 use Rattle.table_core.specs.ReadSteps.{unless_any}
 use Rattle.rb_bytes.specs.declared.fault.Fault.{Fault}
@@ -22,7 +23,7 @@ use Rattle.line_rewrite.specs.LineAnswers.{line_units}
 use Rattle.line_rewrite.specs.KeptUnits.{HasTables, told_unit}
 use Rattle.line_rewrite.specs.Tables.{LineSections, HasLineFault, line_version, line_fault, line_at}
 use Rattle.line_rewrite.specs.Troubles.{Tells}
-use Rattle.line_rewrite.specs.UnitLists.{unit_in, AreUnits, IsLineFault}
+use Rattle.line_rewrite.specs.UnitLists.{unit_in, kept_size, walked_size, AreUnits, IsLineFault}
 
 -- lists whose values are all there
 
@@ -124,15 +125,15 @@ refusal_is s refusal.Memory v e = tt
 -- one unit more
 
 pub units_none : (strings : Strings) (ws : List Walked) → AreUnits strings (take 0 ws) []
-units_none strings ws = record { are = ap (map (unit_in strings)) (front ws); tables = All-nil (λ (u : kept.Unit). HasTables strings u.header) }
+units_none strings ws = record { are = ap (map (unit_in strings)) (front ws); tables = All-nil (λ (u : kept.Unit). HasTables strings u.header); sizes = omega arith }
   where
     front : (ws : List Walked) → take 0 ws ≡ []
     front [] = refl
     front (w ∷ ws) = refl
 
 pub units_more : (strings : Strings) (ws : List Walked) (us new : List kept.Unit) (u : kept.Unit) (i : ℕ) (d : Walked) → i < length ws → AreUnits strings (take i ws) us
-    → unit_in strings (get_or ws i d) ≡ Some (told_unit strings u) → HasTables strings u.header → new ≡ us ++ u ∷ [] → AreUnits strings (take (i + 1) ws) new
-units_more strings ws us new u i d h a e t n =
+    → unit_in strings (get_or ws i d) ≡ Some (told_unit strings u) → HasTables strings u.header → kept_size u ≤ walked_size (get_or ws i d) → new ≡ us ++ u ∷ [] → AreUnits strings (take (i + 1) ws) new
+units_more strings ws us new u i d h a e t s n =
     subst (AreUnits strings (take (i + 1) ws)) (sym n) (record {
       are =
           ap (map (unit_in strings)) (take_more ws i d h)
@@ -141,6 +142,9 @@ units_more strings ws us new u i d h a e t n =
           ∙ ap (λ (o : Option LineUnit). map (λ u. Some (told_unit strings u)) us ++ o ∷ []) e
           ∙ sym (map-append (λ (u : kept.Unit). Some (told_unit strings u)) us (u ∷ []));
       tables = All-push (λ (u : kept.Unit). HasTables strings u.header) us u a.tables t;
+      sizes =
+          let sum : sum_by kept_size us ≤ sum_by walked_size (take i ws) = a.sizes in
+          omega (arith, s, sum, sum_by_push kept_size us u, sum_by_more walked_size ws i d h);
     })
 
 pub units_all : (strings : Strings) (ws : List Walked) (us : List kept.Unit) (i : ℕ) → length ws ≤ i → AreUnits strings (take i ws) us → AreUnits strings ws us
@@ -162,7 +166,7 @@ says_all s us v a =
     (rw (v, f) refl, line_free s v f)
 
 pub units_nothing : (strings : Strings) (us : List kept.Unit) → us ≡ [] → AreUnits strings [] us
-units_nothing strings us e = subst (AreUnits strings []) (sym e) (record { are = refl; tables = All-nil (λ (u : kept.Unit). HasTables strings u.header) })
+units_nothing strings us e = subst (AreUnits strings []) (sym e) (record { are = refl; tables = All-nil (λ (u : kept.Unit). HasTables strings u.header); sizes = omega arith })
 
 -- the fault of a unit that was looked at
 pub units_fault : (strings : Strings) (ws : List Walked) (us : List kept.Unit) (i : ℕ) (w : Walked) (trouble : Trouble) (fault : Fault) → i < length ws

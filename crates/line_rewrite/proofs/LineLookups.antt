@@ -27,11 +27,11 @@ use Rattle.line_rewrite.specs.SequenceIndex.{Numbered, all_numbered, kept_range,
 use Rattle.line_rewrite.specs.Tables.{LineSections, line_at}
 use Rattle.line_rewrite.specs.UnitLists.{unit_in, place_range, AreLines}
 use Rattle.line_rewrite.specs.Walks.{Ascends}
-use Rattle.line_rewrite.proofs.Ascending.{both, sequences_ascend}
+use Rattle.line_rewrite.proofs.Ascending.{both, Follow, AllFollow, sequences_follow, follow_ascends}
 use Rattle.line_rewrite.proofs.FirstSequence.{IsUnitKept, numbered_said, said_found, Stands, found_stands}
 use Rattle.line_rewrite.proofs.LineFaults.{units_are, there_at}
 
-all_at : {X : Type 0} (P : X → Type 0) (xs : List X) (i : ℕ) (x : X) → All P xs → slice_get xs i ≡ Some x → P x
+pub all_at : {X : Type 0} (P : X → Type 0) (xs : List X) (i : ℕ) (x : X) → All P xs → slice_get xs i ≡ Some x → P x
 all_at P [] i x are e = absurd (cc)
 all_at P (y ∷ xs) zero x are e = let same : y ≡ x = cc in subst P same (All-head P y xs are)
 all_at P (y ∷ xs) (suc i) x are e = all_at P xs i x (All-tail P y xs are) e
@@ -42,16 +42,20 @@ module _ (u : kept.Unit) (k : KeptSequence) (i : ℕ) (at : slice_get u.sequence
   pub sequence_kept : IsUnitKept u k
   sequence_kept = all_at (IsUnitKept u) u.sequences.items i k u.listed.kept at
 
-  pub sequence_ascends : Ascends 0 (unit_sequence u k).rows
-  sequence_ascends =
+  pub sequence_follows : Follow (length u.header.files.items) None (unit_sequence u k).rows
+  sequence_follows =
       let base = u.header.coding.opcode_base in
+      let files = length u.header.files.items in
       let ops = operations base u.header.lengths.items u.program.items in
-      let sound : sound_from u.header.coding (length u.header.files.items) None (start u.header.coding) ops ≡ true =
-      (both (is_whole base u.header.lengths.items u.program.items) (sound_from u.header.coding (length u.header.files.items) None (start u.header.coding) ops) u.sound).1 in
-      let up = sequences_ascend u.header.coding (length u.header.files.items) ops sound in
-      let ups : All (λ (s : Sequence). Ascends 0 s.rows) (map (unit_sequence u) u.sequences.items) = subst (All (λ (s : Sequence). Ascends 0 s.rows)) u.listed.are up in
-      all_at (λ (s : Sequence). Ascends 0 s.rows) (map (unit_sequence u) u.sequences.items) i (unit_sequence u k) ups
+      let sound : sound_from u.header.coding files None (start u.header.coding) ops ≡ true =
+      (both (is_whole base u.header.lengths.items u.program.items) (sound_from u.header.coding files None (start u.header.coding) ops) u.sound).1 in
+      let all = sequences_follow u.header.coding files ops sound in
+      let kept : AllFollow files (map (unit_sequence u) u.sequences.items) = subst (AllFollow files) u.listed.are all in
+      all_at (λ (s : Sequence). Follow files None s.rows) (map (unit_sequence u) u.sequences.items) i (unit_sequence u k) kept
       (slice_get-map (unit_sequence u) u.sequences.items i ∙ ap (option_map (unit_sequence u)) at)
+
+  sequence_ascends : Ascends 0 (unit_sequence u k).rows
+  sequence_ascends = follow_ascends (length u.header.files.items) None (unit_sequence u k).rows sequence_follows
 
 -- the answer at an address
 
@@ -203,7 +207,7 @@ module _ (u : kept.Unit) (k : KeptSequence) (i : ℕ) (at : slice_get u.sequence
 -- the answer at an address
 
 module _ (s : LineSections) (us : List kept.Unit) (index : SequenceIndex) (offsets : FirstRange) (are : AreLines s us index offsets) where
-  says : (a : ℕ) → line_at s a ≡ option_map (numbered_said s.strings a) (numbered_at us a)
+  pub says : (a : ℕ) → line_at s a ≡ option_map (numbered_said s.strings a) (numbered_at us a)
   says a =
       ap (λ (l : List LineUnit). said_at 0 l a) (units_are s.strings s.line us are.units)
       ∙ said_found s.strings a 0 us

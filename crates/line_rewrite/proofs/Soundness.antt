@@ -33,7 +33,7 @@ enough_whole base zero m lengths (b ∷ bytes) h k = absurd (omega arith)
 enough_whole base (suc n) zero lengths (b ∷ bytes) h k = absurd (omega arith)
 enough_whole base (suc n) (suc m) lengths (b ∷ bytes) h k = whole_same base n m lengths (b ∷ bytes) (op_at base lengths (b ∷ bytes)) refl (λ rest s. enough_whole base n m lengths rest (omega arith) (omega arith))
 
-whole_step : (base : ℕ) (lengths bytes rest : List ℕ) (op : LineOp) → op_at base lengths bytes ≡ Ok (op, rest) → is_whole base lengths bytes ≡ is_whole base lengths rest
+pub whole_step : (base : ℕ) (lengths bytes rest : List ℕ) (op : LineOp) → op_at base lengths bytes ≡ Ok (op, rest) → is_whole base lengths bytes ≡ is_whole base lengths rest
 unfolding is_whole whole_within
 whole_step base lengths [] rest op e = let h : length rest + 1 ≤ 0 = (op_shortens base lengths []).shorter op rest e in absurd (omega arith)
 whole_step base lengths (b ∷ bytes) rest op e =

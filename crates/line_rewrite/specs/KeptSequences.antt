@@ -5,7 +5,6 @@ use Rattle.line_rewrite.specs.declared.kept.KeptSequence.{KeptSequence}
 use Rattle.line_rewrite.specs.Operations.{operations}
 use Rattle.line_rewrite.specs.LineMachine.{Sequence, sequences, start}
 use Rattle.line_rewrite.specs.LineAnswers.{first_address}
-use Rattle.line_rewrite.specs.Walks.{Ascends}
 use Rattle.line_rewrite.specs.Keeping.{rows_at_place, AreKept, Suffice}
 
 -- the sequence that begins at a place of a program
@@ -22,10 +21,7 @@ pub record IsKept (coding : Coding) (lengths program : List ℕ) (k : KeptSequen
   pub many : Suffice (length (told_sequence coding lengths program k).rows) (length k.kept.items)
   pub low : k.low ≡ first_address (told_sequence coding lengths program k).rows k.end
 
--- the sequences of a program are kept, and their addresses don't fall
+-- the sequences of a program are kept
 pub record AreSequences (coding : Coding) (lengths program : List ℕ) (ks : List KeptSequence) : Type 0 where
   pub are : sequences coding (operations coding.opcode_base lengths program) ≡ map (told_sequence coding lengths program) ks
   pub kept : All (IsKept coding lengths program) ks
-
-abbrev pub Ascend : List Sequence → Type 0
-Ascend ss = All (λ s. Ascends 0 s.rows) ss

@@ -1,5 +1,6 @@
 -- The units of a line table, as they are kept.
-use Rattle.std.specs.Prelude.{⊤, ◌≡◌, ◌+◌, ℕ, All, List, map, is_some, not, Option, Some, None, position}
+use Rattle.std.specs.Prelude.{⊤, ◌≡◌, ◌≤◌, ◌+◌, ℕ, All, List, length, map, sum_by, is_some, not, Option, Some, None}
+use Rattle.std.specs.Prelude.{position}
 use Rattle.rb_bytes.specs.declared.fault.FaultKind.TheVariants.{LineFault}
 use Rattle.rb_bytes.specs.declared.fault.Refusal.{Refusal}
 use Rattle.rb_bytes.specs.declared.fault.Refusal.TheVariants as refusal
@@ -20,10 +21,23 @@ use Rattle.line_rewrite.specs.Tables.{LineSections, line_version}
 abbrev pub unit_in : Strings → Walked → Option LineUnit
 unit_in strings w = w.bytes >>= unit_of strings
 
+-- how many bytes a unit takes, with its length
+abbrev pub bytes_size : Option (List ℕ) → ℕ
+bytes_size None = 0
+bytes_size (Some bytes) = 4 + length bytes
+
+abbrev pub walked_size : Walked → ℕ
+walked_size w = bytes_size w.bytes
+
+-- no more than what is kept of its header, and the numbers before that
+abbrev pub kept_size : kept.Unit → ℕ
+kept_size u = length u.header.rest.items + 18
+
 -- each unit that was walked to was read
 pub record AreUnits (strings : Strings) (ws : List Walked) (us : List kept.Unit) : Type 0 where
   pub are : map (unit_in strings) ws ≡ map (λ u. Some (told_unit strings u)) us
   pub tables : All (λ u. HasTables strings u.header) us
+  pub sizes : sum_by kept_size us ≤ sum_by walked_size ws
 
 -- a refusal names the first that can't be read; memory may be wanting at any time
 abbrev pub IsLineFault : Strings → List Walked → Refusal → Type 0

@@ -1,5 +1,5 @@
 // The headers of line units. DWARF 5, section 6.2.4.
-ghost use Rattle.std.specs.Prelude.{◌≡◌, Some, None, IfOk};
+ghost use Rattle.std.specs.Prelude.{◌≡◌, ◌≤◌, ◌+◌, Some, None, IfOk, OnOk, length};
 ghost use Rattle.line_rewrite.specs.KeptEntries.{texts_strings};
 ghost use Rattle.line_rewrite.specs.LineUnits.{header_in};
 ghost use Rattle.line_rewrite.specs.KeptUnits.{coding_at, told_header, are_filed, HasTables};
@@ -16,6 +16,7 @@ use std::alloc::Global;
 // The numbers that operations depend on, and how many operations the machine does at a time.
 fn read_coding<'a>(cursor: &mut Cursor<'a>) -> Result<(Coding, u8), Trouble>
     ensures read { IfOk result (λ c. coding_at cursor.old.left ≡ Some ((c.0, c.1), cursor.new.left)) }
+    ensures size { OnOk result (length cursor.new.left + 6 ≡ length cursor.old.left) }
     ensures malformed { IfMalformed result (coding_at cursor.old.left ≡ None) }
 {
     let minimum_instruction_length = cursor.u8()?;
@@ -51,6 +52,7 @@ pub fn read_header(alloc: Global, texts: &Texts, bytes: &[u8]) -> Result<Header,
     ensures read { IfOk result (λ h. header_in (texts_strings texts.now) bytes.now
         ≡ Some (told_header (texts_strings texts.now) h)) }
     ensures tables { IfOk result (λ h. HasTables (texts_strings texts.now) h) }
+    ensures size { IfOk result (λ h. length h.rest.items + 6 ≤ length bytes.now) }
     ensures malformed { IfMalformed result (header_in (texts_strings texts.now) bytes.now ≡ None) }
 {
     let mut cursor = Cursor::new(bytes);

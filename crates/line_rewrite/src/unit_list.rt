@@ -1,5 +1,5 @@
 // The line units of a section.
-ghost use Rattle.std.specs.Prelude.{◌≡◌, ℕ, IfOk, MatchResult, Some, None, map, position};
+ghost use Rattle.std.specs.Prelude.{◌≡◌, ◌≤◌, ℕ, IfOk, MatchResult, Some, None, map, position};
 ghost use Rattle.table_core.specs.AddressRanges.{holds_address};
 ghost use Rattle.table_core.specs.DebugUnits.{Walked, first_place, walked};
 ghost use Rattle.table_core.specs.FirstRanges.{first_range};
@@ -7,7 +7,7 @@ ghost use Rattle.line_rewrite.specs.KeptEntries.{strings_held, texts_strings};
 ghost use Rattle.line_rewrite.specs.KeptUnits.{HasTables, told_unit};
 ghost use Rattle.line_rewrite.specs.Tables.{HasLineFault, line_sections_held, line_version};
 ghost use Rattle.line_rewrite.specs.Troubles.{IfMalformed};
-ghost use Rattle.line_rewrite.specs.UnitLists.{unit_in, place_range, AreUnits, IsLineFault};
+ghost use Rattle.line_rewrite.specs.UnitLists.{unit_in, kept_size, walked_size, place_range, AreUnits, IsLineFault};
 ghost use Rattle.rb_bytes.specs.FirstFault.{IsRefusalBy};
 
 use crate::text::Texts;
@@ -19,7 +19,7 @@ use std::alloc::Global;
 use table_core::{DebugUnit, FirstRange, Range, debug_units};
 
 /// The version of line units that are read.
-const VERSION: u16 = 5;
+pub const VERSION: u16 = 5;
 
 // The first unit of another version.
 fn first_other(units: &[DebugUnit]) -> Option<u64>
@@ -38,6 +38,7 @@ fn unit_in(alloc: Global, texts: &Texts, walked: &DebugUnit) -> Result<Unit, Tro
     ensures read { IfOk result (λ u. unit_in (texts_strings texts.now) walked.now
         ≡ Some (told_unit (texts_strings texts.now) u)) }
     ensures tables { IfOk result (λ u. HasTables (texts_strings texts.now) u.header) }
+    ensures size { IfOk result (λ u. kept_size u ≤ walked_size walked.now) }
     ensures malformed { IfMalformed result (unit_in (texts_strings texts.now) walked.now ≡ None) }
 {
     match walked.bytes {

@@ -1,5 +1,5 @@
 // Line units. DWARF 5, sections 6.2.4 and 7.22.
-ghost use Rattle.std.specs.Prelude.{◌≡◌, Some, None, IfOk};
+ghost use Rattle.std.specs.Prelude.{◌≡◌, ◌≤◌, ◌+◌, Some, None, IfOk, length};
 ghost use Rattle.line_rewrite.specs.KeptEntries.{texts_strings};
 ghost use Rattle.line_rewrite.specs.LineUnits.{unit_of};
 ghost use Rattle.line_rewrite.specs.KeptUnits.{HasTables, outer_at, told_unit};
@@ -33,6 +33,7 @@ fn read_outer<'a>(bytes: &'a [u8]) -> Result<Outer<'a>, Trouble>
       program = o.program.now;
     })) }
     ensures malformed { IfMalformed result (outer_at bytes.now ≡ None) }
+    ensures size { IfOk result (λ o. length o.fields.now + 8 ≤ length bytes.now) }
 {
     let mut cursor = Cursor::new(bytes);
     cursor.u16()?;
@@ -55,6 +56,7 @@ pub fn read_unit(alloc: Global, texts: &Texts, bytes: &[u8]) -> Result<Unit, Tro
     ensures read { IfOk result (λ u. unit_of (texts_strings texts.now) bytes.now
         ≡ Some (told_unit (texts_strings texts.now) u)) }
     ensures tables { IfOk result (λ u. HasTables (texts_strings texts.now) u.header) }
+    ensures size { IfOk result (λ u. length u.header.rest.items + 14 ≤ length bytes.now) }
     ensures malformed { IfMalformed result (unit_of (texts_strings texts.now) bytes.now ≡ None) }
 {
     let outer = read_outer(bytes)?;

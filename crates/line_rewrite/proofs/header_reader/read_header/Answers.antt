@@ -105,6 +105,11 @@ returns-clause-read c =
     numbers (numbers_true c.in_ok-coding.coding c.in_ok-coding.maximum (omega arith) (omega arith) (omega arith)) c.in_ok-lengths.ensures.read
     c.in_ok-copied.ensures (c.in_ok-copied-2.ensures ∙ behind) (sym at ∙ c.in_ok-directories.ensures.read) c.in_ok-files.ensures.read filed size
 
+pub returns-clause-size : goal.returns-clause-size
+returns-clause-size c =
+    let behind : c.in_ok-rest.rest.now ≡ c.take.new.self.left = all_taken c.left-size.result c.take.new.self.left _ _ c.left-size.ensures c.in_ok-rest.ensures.read in
+    omega (arith, ap length (c.in_ok-copied-2.ensures ∙ behind), c.in_ok-lengths.ensures.passes.count, c.in_ok-coding.ensures.size, ap (λ (r : Reading). length r.left) c.new-cursor.ensures)
+
 pub returns-clause-tables : goal.returns-clause-tables
 returns-clause-tables c =
     let strings : Strings = texts_strings c.args.texts.now in

@@ -1,10 +1,10 @@
-use Rattle.std.proofs.Common.{◌∙◌, sym, ap}
+use Rattle.std.proofs.Common.{◌∙◌, ◌≤◌, sym, ap, subst}
 use Rattle.rb_bytes.specs.declared.fault.FaultKind.TheVariants.{LineFault}
 use Rattle.rb_bytes.specs.Fault.{fault_at}
 use Rattle.table_core.specs.DebugUnits.{Walked}
 use Rattle.line_rewrite.specs.Entries.{Strings}
 use Rattle.line_rewrite.specs.KeptEntries.{texts_strings}
-use Rattle.line_rewrite.specs.UnitLists.{unit_in}
+use Rattle.line_rewrite.specs.UnitLists.{unit_in, kept_size, walked_size}
 use Rattle.line_rewrite.proofs.LineFaults.{units_nothing, units_more, units_all, units_fault}
 use Rattle.line_rewrite.proofs.unit_list.units_in.Goals as goal
 
@@ -22,7 +22,8 @@ pub loop-unit-preserved : goal.loop-unit-preserved
 loop-unit-preserved c =
     let strings : Strings = texts_strings c.args.texts.now in
     units_more strings c.args.walked.now c.loop-unit.units.items c.push.new.self.items c.in-Ok.unit c.loop-unit.unit-index c.unit-item.result c.loop-unit-test.true
-    c.loop-unit.invariant (ap (unit_in strings) (sym c.unit-item.is) ∙ c.in-Ok.ensures.read) c.in-Ok.ensures.tables c.in_ok-push-in-Ok.ensures.items
+    c.loop-unit.invariant (ap (unit_in strings) (sym c.unit-item.is) ∙ c.in-Ok.ensures.read) c.in-Ok.ensures.tables
+    (subst (λ (w : Walked). kept_size c.in-Ok.unit ≤ walked_size w) c.unit-item.is c.in-Ok.ensures.size) c.in_ok-push-in-Ok.ensures.items
 
 pub returns : goal.returns
 returns c =

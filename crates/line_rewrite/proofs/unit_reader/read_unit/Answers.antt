@@ -53,6 +53,9 @@ returns-clause-read c =
     unit_made (texts_strings c.args.texts.now) c.args.bytes.now _ c.in_ok-outer.ensures.read h c.in_ok-header.ensures.read c.in_ok-program.program.items
     (omega arith) (omega arith) sound c.in_ok-program.ensures
 
+pub returns-clause-size : goal.returns-clause-size
+returns-clause-size c = omega (arith, c.in_ok-header.ensures.size, c.in_ok-outer.ensures.size)
+
 pub returns-clause-tables : goal.returns-clause-tables
 returns-clause-tables c =
     c.in_ok-header.ensures.tables

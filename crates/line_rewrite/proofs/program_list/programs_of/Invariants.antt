@@ -1,0 +1,10 @@
+use Rattle.std.proofs.Common.{◌≡◌, drop, length}
+use Rattle.line_rewrite.specs.WrittenRuns.{with_runs, begun, AllRowsFit}
+use Rattle.line_rewrite.proofs.program_list.programs_of.Given as goal
+
+abbrev pub invariant-loop-run : goal.invariant-loop-run
+invariant-loop-run l = record {
+  written : with_runs l.units l.map l.programs.items (drop l.run-index l.runs) ≡ with_runs l.units l.map (begun l.units) l.runs;
+  rows : AllRowsFit l.units l.map (drop l.run-index l.runs) → AllRowsFit l.units l.map l.runs;
+  each : length l.programs.items ≡ length l.units;
+}

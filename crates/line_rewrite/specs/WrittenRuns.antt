@@ -1,0 +1,56 @@
+-- Which rows are written for a run, and the programs of all units.
+use Rattle.std.specs.Prelude.{ℕ, All, Bool, List, [], ◌∷◌, slice_set, slice_index_or, Option, Some, None, option_map}
+use Rattle.addr_map.specs.declared.span.Span.{Span}
+use Rattle.addr_map.specs.Spans.{owner}
+use Rattle.table_core.specs.declared.run.Run.{Run}
+use Rattle.line_rewrite.specs.declared.unit.Unit as kept
+use Rattle.line_rewrite.specs.LineAnswers.{LineSaid}
+use Rattle.line_rewrite.specs.SequenceIndex.{Numbered, numbered_at, numbered_rows}
+use Rattle.line_rewrite.specs.Written.{IsRow, moved, written_coding}
+use Rattle.line_rewrite.specs.WrittenPrograms.{Piece, Begun, nothing_begun, with_piece}
+
+-- Where a run is written: in the program of a unit, with the rows in force at the owner of its first byte.
+pub record Placed : Type 0 where
+  pub unit : ℕ
+  -- the unit's flag with which sequences begin
+  pub stmt : Bool
+  pub piece : Piece
+
+abbrev pub placed_by : Run LineSaid → ℕ → Numbered → Placed
+placed_by r a x = record {
+  unit = x.number;
+  stmt = x.unit.header.coding.default_is_stmt;
+  piece = record { start = r.start; len = r.len; rows = moved r.start (numbered_rows x a) };
+}
+
+abbrev pub placed_at : List kept.Unit → Run LineSaid → Option ℕ → Option Placed
+placed_at units r None = None
+placed_at units r (Some a) = option_map (placed_by r a) (numbered_at units a)
+
+abbrev pub placed : List kept.Unit → List Span → Run LineSaid → Option Placed
+placed units spans r = placed_at units r (owner spans r.start)
+
+-- one run more in the programs of all units
+abbrev pub with_placed : List Begun → Option Placed → List Begun
+with_placed programs None = programs
+with_placed programs (Some q) =
+    slice_set programs q.unit
+    (with_piece (written_coding q.stmt) (slice_index_or programs q.unit nothing_begun) q.piece)
+
+unfoldable pub with_runs : List kept.Unit → List Span → List Begun → List (Run LineSaid) → List Begun
+with_runs units spans programs [] = programs
+with_runs units spans programs (r ∷ rs) = with_runs units spans (with_placed programs (placed units spans r)) rs
+
+-- registers of 64 bits
+abbrev pub RowsFit : Option Placed → Type 0
+RowsFit None = Unit {0}
+RowsFit (Some q) = All IsRow q.piece.rows
+
+abbrev pub AllRowsFit : List kept.Unit → List Span → List (Run LineSaid) → Type 0
+AllRowsFit units spans [] = Unit {0}
+AllRowsFit units spans (r ∷ rs) = RowsFit (placed units spans r) × AllRowsFit units spans rs
+
+-- a program for each unit
+abbrev pub begun : List kept.Unit → List Begun
+begun [] = []
+begun (u ∷ units) = nothing_begun ∷ begun units

@@ -1,0 +1,77 @@
+// The programs of all line units, written run by run.
+ghost use Rattle.std.specs.Prelude.{◌≡◌, ◌<◌, ◌+◌, ◌^◌, ◌-◌, All, IfOk, OnOk, length};
+ghost use Rattle.table_core.specs.AnswerRuns.{IsWithin};
+ghost use Rattle.line_rewrite.specs.SequenceIndex.{IsIndexOf};
+ghost use Rattle.line_rewrite.specs.WrittenRuns as spec;
+
+use crate::answer::LineAt;
+use crate::found::found_rows;
+use crate::run_writer::Program;
+use crate::sequence_index::SequenceIndex;
+use crate::unit::Unit;
+use addr_map::AddrMap;
+use rb_bytes::fault::NoMemory;
+use std::alloc::Global;
+use table_core::Run;
+
+// A program with no sequence for each unit.
+fn begun(alloc: Global, units: &[Unit]) -> Result<Vec<Program>, NoMemory>
+    ensures { IfOk result (λ programs. programs.items ≡ spec.begun units.now) }
+{
+    let mut programs = Vec::new(alloc);
+    for _ in units {
+        programs.push(Program::new(alloc))?;
+    }
+    Ok(programs)
+}
+
+// Appends to its unit's program the rows in force at the owner of a run's first byte: these made the run's answer.
+fn add_run(
+    alloc: Global,
+    programs: &mut [Program],
+    units: &[Unit],
+    sequences: &SequenceIndex,
+    map: &AddrMap,
+    run: &Run<LineAt>,
+) -> Result<(), NoMemory>
+    requires index { IsIndexOf units.now sequences.now }
+    requires each { length programs.old ≡ length units.now }
+    requires fits { run.now.start + run.now.len < 2 ^ 64 }
+    ensures written { OnOk result (programs.new
+        ≡ spec.with_placed programs.old (spec.placed units.now map.now run.now)) }
+    ensures rows { OnOk result (spec.RowsFit (spec.placed units.now map.now run.now)) }
+{
+    let Some(owner) = map.owner(run.start) else {
+        return Ok(());
+    };
+    let Some(found) = found_rows(alloc, units, sequences, owner)? else {
+        return Ok(());
+    };
+    let Some(unit) = units.get(found.unit) else {
+        return Ok(());
+    };
+    let stmt = unit.header.coding.default_is_stmt;
+    programs[found.unit].add_run(stmt, run.start, run.len, &found.rows)?;
+    Ok(())
+}
+
+/// The programs of all units, each with the rows of its runs.
+pub fn programs_of(
+    alloc: Global,
+    units: &[Unit],
+    sequences: &SequenceIndex,
+    map: &AddrMap,
+    runs: &[Run<LineAt>],
+) -> Result<Vec<Program>, NoMemory>
+    requires index { IsIndexOf units.now sequences.now }
+    requires within { IsWithin 0 runs.now (2 ^ 64 - 1) }
+    ensures written { IfOk result (λ programs. programs.items
+        ≡ spec.with_runs units.now map.now (spec.begun units.now) runs.now) }
+    ensures rows { IfOk result (λ programs. spec.AllRowsFit units.now map.now runs.now) }
+{
+    let mut programs = begun(alloc, units)?;
+    for run in runs {
+        add_run(alloc, &mut programs, units, sequences, map, run)?;
+    }
+    Ok(programs)
+}

@@ -1,0 +1,82 @@
+// Rows as operations. DWARF 5, section 6.2.5.
+ghost use Rattle.std.specs.Prelude.{◌≡◌, ◌++◌, OnOk};
+ghost use Rattle.line_rewrite.specs.declared.operation.LineOp.TheVariants as operation;
+ghost use Rattle.line_rewrite.specs.Written.{IsRow, IsSpelled, unless, same_flag, step_ops, row_ops, all_spelled};
+
+use crate::op_writer::put_op;
+use crate::operation::LineOp;
+use crate::registers::Registers;
+use rb_bytes::fault::NoMemory;
+
+/// By how many different numbers of lines special opcodes advance, from -5 on.
+pub const LINE_RANGE: u8 = 14;
+
+/// By how much special opcodes advance the address, at most.
+const MAX_ADVANCE: u64 = 16;
+
+// Writes an operation, unless it is not needed.
+fn put_unless(out: &mut Vec<u8>, needless: bool, op: LineOp) -> Result<(), NoMemory>
+    requires { IsSpelled op }
+    ensures { OnOk result (out.new.items ≡ out.old.items ++ all_spelled (unless needless op)) }
+{
+    if needless {
+        return Ok(());
+    }
+    put_op(out, op)
+}
+
+// Writes a change of the flag.
+fn put_stmt_change(out: &mut Vec<u8>, from: bool, to: bool) -> Result<(), NoMemory>
+    ensures { OnOk result (out.new.items
+        ≡ out.old.items ++ all_spelled (unless (same_flag from to) operation.NegateStmt)) }
+{
+    match (from, to) {
+        (true, true) | (false, false) => Ok(()),
+        (true, false) | (false, true) => put_op(out, LineOp::NegateStmt),
+    }
+}
+
+// Advances the line and the address, and appends the row.
+fn put_step(out: &mut Vec<u8>, from: Registers, row: Registers) -> Result<(), NoMemory>
+    ensures { OnOk result (out.new.items ≡ out.old.items ++ all_spelled (step_ops from row)) }
+{
+    // Addresses don't fall, so nothing is cut.
+    let by = row.address.saturating_sub(from.address);
+    let step = row.line.wrapping_sub(from.line);
+    let above = step.wrapping_add(5);
+    if above < LINE_RANGE as u64 && by <= MAX_ADVANCE {
+        return put_op(out, LineOp::Special(above as u8 + LINE_RANGE * by as u8));
+    }
+    put_unless(
+        out,
+        from.line == row.line,
+        LineOp::AdvanceLine(step.cast_signed()),
+    )?;
+    put_unless(out, from.address == row.address, LineOp::AdvancePc(by))?;
+    put_op(out, LineOp::Copy)
+}
+
+/// Writes what makes the registers a row, and appends it.
+pub fn put_row(out: &mut Vec<u8>, from: Registers, row: Registers) -> Result<(), NoMemory>
+    ensures written { OnOk result (out.new.items ≡ out.old.items ++ all_spelled (row_ops from row)) }
+    ensures fits { IsRow row }
+{
+    put_unless(out, from.file == row.file, LineOp::SetFile(row.file))?;
+    put_unless(
+        out,
+        from.column == row.column,
+        LineOp::SetColumn(row.column),
+    )?;
+    put_stmt_change(out, from.is_stmt, row.is_stmt)?;
+    put_unless(out, !row.basic_block, LineOp::SetBasicBlock)?;
+    put_unless(out, !row.prologue_end, LineOp::SetPrologueEnd)?;
+    put_unless(out, !row.epilogue_begin, LineOp::SetEpilogueBegin)?;
+    put_unless(out, from.isa == row.isa, LineOp::SetIsa(row.isa))?;
+    put_unless(
+        out,
+        row.discriminator == 0,
+        LineOp::SetDiscriminator(row.discriminator),
+    )?;
+    put_step(out, from, row)?;
+    Ok(())
+}

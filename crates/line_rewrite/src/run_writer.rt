@@ -1,0 +1,187 @@
+// The programs of line units, written run by run. DWARF 5, section 6.2.5.
+ghost use Rattle.std.specs.Prelude.{◌≡◌, ◌<◌, ◌+◌, ◌++◌, ◌^◌, All, IfOk, OnOk};
+ghost use Rattle.line_rewrite.specs.Written.{IsRow, moved, rows_ops, all_spelled, written_coding};
+ghost use Rattle.line_rewrite.specs.WrittenPrograms as spec;
+
+use crate::machine::after_row;
+use crate::op_writer::put_op;
+use crate::operation::LineOp;
+use crate::registers::Registers;
+use crate::row_writer::put_row;
+use rb_bytes::fault::NoMemory;
+use std::alloc::Global;
+use std::marker::Model;
+
+/// A sequence that was begun.
+#[derive(Clone, Copy)]
+pub struct Going {
+    pub registers: Registers,
+    /// Where its last run ends.
+    pub end: u64,
+}
+
+// A row at another address.
+fn at_address(row: Registers, address: u64) -> Registers
+    ensures { result ≡ record row { address = address } }
+{
+    Registers { address, ..row }
+}
+
+// Writes rows at an address, one after another, and answers the registers behind them.
+fn put_rows(
+    out: &mut Vec<u8>,
+    from: Registers,
+    address: u64,
+    rows: &[Registers],
+) -> Result<Registers, NoMemory>
+    ensures written { OnOk result (out.new.items
+        ≡ out.old.items ++ all_spelled (rows_ops from (moved address rows.now))) }
+    ensures after { IfOk result (λ r. r ≡ spec.after_rows from (moved address rows.now)) }
+    ensures fits { OnOk result (All IsRow (moved address rows.now)) }
+{
+    let mut present = from;
+    for row in rows {
+        let row = at_address(*row, address);
+        put_row(out, present, row)?;
+        present = after_row(row);
+    }
+    Ok(present)
+}
+
+// Ends a sequence.
+fn close(out: &mut Vec<u8>, going: Going) -> Result<(), NoMemory>
+    ensures { OnOk result (out.new.items ≡ out.old.items ++ all_spelled (spec.close_ops going)) }
+{
+    // It doesn't end before its last row, so nothing is cut.
+    let by = going.end.saturating_sub(going.registers.address);
+    put_op(out, LineOp::AdvancePc(by))?;
+    put_op(out, LineOp::EndSequence)
+}
+
+// The registers where a sequence begins at an address.
+fn opened(address: u64, default_is_stmt: bool) -> Registers
+    ensures { result ≡ spec.opened (written_coding default_is_stmt) address }
+{
+    Registers {
+        address,
+        file: 1,
+        line: 1,
+        column: 0,
+        is_stmt: default_is_stmt,
+        basic_block: false,
+        prologue_end: false,
+        epilogue_begin: false,
+        isa: 0,
+        discriminator: 0,
+    }
+}
+
+// Begins a sequence with rows at an address.
+fn open(
+    out: &mut Vec<u8>,
+    default_is_stmt: bool,
+    address: u64,
+    rows: &[Registers],
+) -> Result<Registers, NoMemory>
+    ensures written { OnOk result (out.new.items ≡ out.old.items
+        ++ all_spelled (spec.open_ops (written_coding default_is_stmt) address (moved address rows.now))) }
+    ensures after { IfOk result (λ r. r
+        ≡ spec.after_rows (spec.opened (written_coding default_is_stmt) address) (moved address rows.now)) }
+    ensures fits { OnOk result (All IsRow (moved address rows.now)) }
+{
+    put_op(out, LineOp::SetAddress(address))?;
+    put_rows(out, opened(address, default_is_stmt), address, rows)
+}
+
+// Writes rows at an address, in the sequence that was begun where that ends there, and answers the registers behind
+// them.
+fn put_run(
+    out: &mut Vec<u8>,
+    going: Option<Going>,
+    default_is_stmt: bool,
+    address: u64,
+    rows: &[Registers],
+) -> Result<Registers, NoMemory>
+    ensures written { OnOk result (out.new.items ≡ out.old.items
+        ++ all_spelled (spec.run_ops (written_coding default_is_stmt) going address (moved address rows.now))) }
+    ensures after { IfOk result (λ r. r
+        ≡ spec.registers_after (written_coding default_is_stmt) going address (moved address rows.now)) }
+    ensures fits { OnOk result (All IsRow (moved address rows.now)) }
+{
+    match going {
+        Some(going) => {
+            if going.end == address {
+                return put_rows(out, going.registers, address, rows);
+            }
+            close(out, going)?;
+            let registers = open(out, default_is_stmt, address, rows)?;
+            Ok(registers)
+        }
+        None => open(out, default_is_stmt, address, rows),
+    }
+}
+
+/// The program of a unit, as far as it is written.
+#[derive(Drop)]
+pub struct Program {
+    bytes: Vec<u8>,
+    going: Option<Going>,
+}
+
+impl Model for Program {
+    ghost use Rattle.line_rewrite.specs.WrittenPrograms.{Begun};
+
+    ghost Value = { Begun };
+
+    ghost view = { λ p. record { bytes = p.bytes.items; going = p.going } };
+}
+
+impl Program {
+    /// A program with no sequence.
+    pub fn new(alloc: Global) -> Program
+        ensures { result ≡ spec.nothing_begun }
+    {
+        Program {
+            bytes: Vec::new(alloc),
+            going: None,
+        }
+    }
+
+    /// Appends the rows of a run, at its start.
+    pub fn add_run(
+        &mut self,
+        default_is_stmt: bool,
+        start: u64,
+        len: u64,
+        rows: &[Registers],
+    ) -> Result<(), NoMemory>
+        requires { start + len < 2 ^ 64 }
+        ensures written { OnOk result (self.new ≡ spec.with_piece (written_coding default_is_stmt) self.old
+            (record { start = start; len = len; rows = moved start rows.now })) }
+        ensures fits { OnOk result (All IsRow (moved start rows.now)) }
+    {
+        let registers = put_run(&mut self.bytes, self.going, default_is_stmt, start, rows)?;
+        self.going = Some(Going {
+            registers,
+            end: start + len,
+        });
+        Ok(())
+    }
+
+    /// Ends the last sequence. No run may follow.
+    pub fn close(&mut self) -> Result<(), NoMemory>
+        ensures { OnOk result (self.new.bytes ≡ spec.closed self.old) }
+    {
+        match self.going {
+            Some(going) => close(&mut self.bytes, going),
+            None => Ok(()),
+        }
+    }
+
+    /// What is written so far.
+    pub fn bytes(&self) -> &[u8]
+        ensures { result.now ≡ self.now.bytes }
+    {
+        &self.bytes
+    }
+}

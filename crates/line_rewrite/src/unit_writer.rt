@@ -1,0 +1,87 @@
+// Line units as bytes. DWARF 5, sections 6.2.4 and 7.22.
+ghost use Rattle.std.specs.Prelude.{◌≡◌, ◌<◌, ◌≤◌, ◌-◌, ◌++◌, ◌^◌, All, IfOk, OnOk, length};
+ghost use Rattle.byteorder.specs.Endian.{little_bytes};
+ghost use Rattle.line_rewrite.specs.WrittenPrograms.{closed};
+ghost use Rattle.line_rewrite.specs.WrittenUnits as spec;
+
+use crate::header::Header;
+use crate::op_writer::{OPCODE_BASE, put_bytes};
+use crate::row_writer::LINE_RANGE;
+use crate::run_writer::Program;
+use crate::unit::Unit;
+use byteorder::{ByteOrder, LittleEndian};
+use rb_bytes::fault::NoMemory;
+use std::alloc::Global;
+
+/// The line base of units that are written, -5, in two's complement.
+const LINE_BASE: u8 = 251;
+
+/// How many operands the standard opcodes have.
+const OPERAND_COUNTS: [u8; 12] = [0, 1, 1, 1, 1, 0, 0, 0, 1, 0, 0, 1];
+
+/// How many bytes a unit has beside its program and what stands behind the counts of operands.
+const FIXED_SIZE: usize = 26;
+
+fn put_u32(out: &mut Vec<u8>, n: u32) -> Result<(), NoMemory>
+    ensures { OnOk result (out.new.items ≡ out.old.items ++ little_bytes 4 n) }
+{
+    let mut field = [0; 4];
+    LittleEndian::write_u32(&mut field, n);
+    put_bytes(out, &field)
+}
+
+fn flag_byte(flag: bool) -> u8
+    ensures { result ≡ spec.flag_byte flag }
+{
+    if flag { 1 } else { 0 }
+}
+
+// The fields behind a header's length.
+fn put_fields(out: &mut Vec<u8>, header: &Header) -> Result<(), NoMemory>
+    ensures { OnOk result (out.new.items ≡ out.old.items ++ spec.header_fields header.now) }
+{
+    let stmt = flag_byte(header.coding.default_is_stmt);
+    put_bytes(out, &[1, 1, stmt, LINE_BASE, LINE_RANGE, OPCODE_BASE])?;
+    put_bytes(out, &OPERAND_COUNTS)?;
+    put_bytes(out, &header.rest)?;
+    Ok(())
+}
+
+// Appends a unit, behind its length.
+fn put_unit(out: &mut Vec<u8>, header: &Header, program: &[u8]) -> Result<(), NoMemory>
+    requires { length (spec.unit_bytes header.now program.now) < 2 ^ 32 - 1 }
+    ensures { OnOk result (out.new.items
+        ≡ out.old.items ++ spec.spelled_unit (spec.unit_bytes header.now program.now)) }
+{
+    let fields = 18 + header.rest.len();
+    put_u32(out, (FIXED_SIZE + header.rest.len() + program.len()) as u32)?;
+    put_bytes(out, &[5, 0, 8, 0])?;
+    put_u32(out, fields as u32)?;
+    put_fields(out, header)?;
+    put_bytes(out, program)?;
+    Ok(())
+}
+
+/// Appends all units, each with its program, whose last sequence is ended.
+pub fn put_units(
+    out: &mut Vec<u8>,
+    units: &[Unit],
+    programs: &mut [Program],
+) -> Result<(), NoMemory>
+    requires { All (λ b. length b < 2 ^ 32 - 1) (spec.written_units units.now programs.old) }
+    ensures { OnOk result (out.new.items
+        ≡ out.old.items ++ spec.spelled_units (spec.written_units units.now programs.old)) }
+{
+    let mut rest = programs;
+    for unit in units {
+        match rest.split_first_mut() {
+            None => return Ok(()),
+            Some((program, behind)) => {
+                program.close()?;
+                put_unit(out, &unit.header, program.bytes())?;
+                rest = behind;
+            }
+        }
+    }
+    Ok(())
+}
