@@ -23,12 +23,13 @@ and_right : (a b : Bool) → (a && b) ≡ true → b ≡ true
 and_right true b e = e
 and_right false b e = absurd (cc)
 
-whole_size : (left : List ℕ) → is_whole_unit left ≡ true → unit_length left + 4 ≤ length left
+-- a unit that lies whole in the bytes left, and those behind it
+pub whole_size : (left : List ℕ) → is_whole_unit left ≡ true → unit_length left + 4 ≤ length left
 whole_size left e =
     le_of (unit_length left + 4) (length left)
     (and_right (nat_le 4 (length left) && not (unit_length left == DWARF64)) (nat_le (unit_length left + 4) (length left)) e)
 
-rest_size : (n place size : ℕ) (left : List ℕ) → n ≤ length left → place + length left ≤ size → place + n + length (drop n left) ≤ size
+pub rest_size : (n place size : ℕ) (left : List ℕ) → n ≤ length left → place + length left ≤ size → place + n + length (drop n left) ≤ size
 rest_size n place size left h k = grind (arith, common_steps)
 
 end_by : (left : List ℕ) (place size : ℕ) (b : Bool) → place + length left ≤ size →
@@ -62,7 +63,7 @@ walked_ends version section h k d l =
 abbrev IsShort : Walked → Type 0
 IsShort w = size_of w < 2 ^ 32
 
-taken_less : (n : ℕ) (xs : List ℕ) → length (take n xs) ≤ n
+pub taken_less : (n : ℕ) (xs : List ℕ) → length (take n xs) ≤ n
 taken_less n xs = grind (arith, common_steps)
 
 short_by : (left : List ℕ) (b : Bool) → ((k : ℕ) → get_or left k 0 < 256) →

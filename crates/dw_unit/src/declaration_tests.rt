@@ -55,7 +55,8 @@ pub(crate) fn names(name: u64, specs: &[Spec]) -> bool
     specs.iter().any(|spec| spec.name == name)
 }
 
-pub(crate) fn is_address_index(form: u64) -> bool
+/// Whether a form is of an index of the table of addresses.
+pub fn is_address_index(form: u64) -> bool
     ensures { result ≡ is_address_index form }
 {
     form == DW_FORM_addrx || DW_FORM_addrx1 <= form && form <= DW_FORM_addrx4

@@ -82,7 +82,8 @@ fn read_behind<'a>(
     }
 }
 
-fn read_unit(
+/// Reads a unit whose abbreviations are among the tables.
+pub fn read_unit(
     alloc: Global,
     tables: &Tables<'_>,
     addr: &[u8],

@@ -18,10 +18,8 @@ use rb_bytes::fault::NoMemory;
 use std::alloc::Global;
 use std::collections::BTreeMap;
 
-/// How many times the bytes of the section are read at most, where tables overlap out of step, and how many bytes more.
-const READINGS: u64 = 16;
-
-const READ_AGAIN: u64 = 1 << 20;
+/// How many bytes are read again at most, where tables overlap out of step.
+const READ_AGAIN: u64 = 1 << 28;
 
 /// The tables of a section that begin at some offsets.
 #[derive(Drop)]
@@ -109,7 +107,7 @@ fn read_at(
 }
 
 /// Reads the tables that begin at some offsets, which ascend. Memory is wanting too where they overlap out of step so
-/// often that more than 16 times the section, and 2^20 bytes, would be read.
+/// often that 2^28 bytes more than the section has would be read.
 pub fn read_tables<'s>(
     alloc: Global,
     section: &'s [u8],
@@ -120,9 +118,7 @@ pub fn read_tables<'s>(
 {
     let mut read = Vec::new(alloc);
     let mut starts = BTreeMap::new(alloc);
-    let mut left = (section.len() as u64)
-        .saturating_mul(READINGS)
-        .saturating_add(READ_AGAIN);
+    let mut left = section.len() as u64 + READ_AGAIN;
     for offset in offsets {
         let size = read_at(alloc, section, *offset, offsets, &mut read, &mut starts)?;
         if left < size {
