@@ -28,6 +28,7 @@ pub none_outside : (xs : List Cover) (low high a : ℕ) → AreReached low high 
 none_outside [] low high a reached out = refl
 none_outside (x ∷ xs) low high a reached out =
     let r = All-head (IsReachedBy low high) x xs reached in
-    let no : (leb x.low a && ltb a x.high) ≡ false = elim out [ inl below ↦ grind (arith, nat_tests, r.0) | inr above ↦ grind (arith, nat_tests, r.1) ] in
+    let no : (leb x.low a && ltb a x.high)
+    ≡ false = elim out [ inl below ↦ grind (arith, nat_tests, r.0) | inr above ↦ grind (arith, nat_tests, r.1) ] in
     ap (λ b. cond b (x ∷ filter (holds a) xs) (filter (holds a) xs)) no
     ∙ none_outside xs low high a (All-tail (IsReachedBy low high) x xs reached) out

@@ -1,5 +1,6 @@
 -- Lists, entry by entry.
-use Rattle.std.proofs.Common.{ℕ, zero, suc, ◌+◌, ◌-◌, ◌≤◌, ◌<◌, ◌≡◌, ◌==◌, List, [], ◌∷◌, ◌++◌, Option, Some, None, option_map, Result, Ok, Err}
+use Rattle.std.proofs.Common.{ℕ, zero, suc, ◌+◌, ◌-◌, ◌≤◌, ◌<◌, ◌≡◌, ◌==◌, List, [], ◌∷◌, ◌++◌, Option, Some, None, option_map, Result, Ok}
+use Rattle.std.proofs.Common.{Err}
 use Rattle.std.proofs.Common.{Bool, true, false, cond, refl, sym, ◌∙◌, ap, subst, arith, length, map, append_assoc, append-nil}
 use Rattle.std.specs.Prelude.{option_and_then}
 use Rattle.std.proofs.lemmas.Bool.Decides.{nat_tests}
@@ -55,12 +56,14 @@ module _ (list : ListKind) (look : ℕ → Option ℕ) (base : ℕ) (left : List
 
   pub short : (gap : Gap) → number_read 1 left ≡ Err gap → (n : ℕ) → said n ≡ None
   unfolding items_within
-  short gap e n = ap (λ (r : Result (ℕ × List ℕ) Gap). said_from look base (and_then (whole r) (item_behind (item_of list) (items_within (item_of list) n)))) e
+  short gap e n = ap (λ (r : Result (ℕ
+      × List ℕ) Gap). said_from look base (and_then (whole r) (item_behind (item_of list) (items_within (item_of list) n)))) e
 
   begun : (kind : ℕ) (left1 : List ℕ) (n : ℕ) → number_read 1 left ≡ Ok (kind, left1)
       → said n ≡ said_from look base (item_behind (item_of list) (items_within (item_of list) n) kind left1)
   unfolding items_within
-  begun kind left1 n e = ap (λ (r : Result (ℕ × List ℕ) Gap). said_from look base (and_then (whole r) (item_behind (item_of list) (items_within (item_of list) n)))) e
+  begun kind left1 n e = ap (λ (r : Result (ℕ
+      × List ℕ) Gap). said_from look base (and_then (whole r) (item_behind (item_of list) (items_within (item_of list) n)))) e
 
   pub ended : (kind : ℕ) (left1 : List ℕ) → number_read 1 left ≡ Ok (kind, left1) → kind ≡ 0 → (n : ℕ) → said n ≡ Some []
   ended kind left1 e z n = begun kind left1 n e
@@ -71,7 +74,8 @@ module _ (list : ListKind) (look : ℕ → Option ℕ) (base : ℕ) (left : List
   behind kind left1 n e some =
       let test : (kind == 0) ≡ false = grind (arith, nat_tests) in
       begun kind left1 n e
-      ∙ ap (λ (b : Bool). said_from look base (cond b (Ok []) (and_then (item_of list kind left1) (λ i rest. with_head i (items_within (item_of list) n rest))))) test
+      ∙ ap (λ (b : Bool). said_from look base (cond b (Ok []) (and_then (item_of list kind left1) (λ i rest. with_head i (items_within
+      (item_of list) n rest))))) test
 
   pub bad : (kind : ℕ) (left1 : List ℕ) (t : Trouble) → number_read 1 left ≡ Ok (kind, left1) → 0 < kind → item_of list kind left1 ≡ Err t
       → (n : ℕ) → said n ≡ None
@@ -89,7 +93,8 @@ module _ (list : ListKind) (look : ℕ → Option ℕ) (base : ℕ) (left : List
 
 -- what was read so far, and a step more
 
-module _ (list : ListKind) (look : ℕ → Option ℕ) (base base' : ℕ) (left rest : List ℕ) (out out' : List Located) (m k : ℕ) (want : Option (List Located))
+module _ (list : ListKind) (look : ℕ →
+    Option ℕ) (base base' : ℕ) (left rest : List ℕ) (out out' : List Located) (m k : ℕ) (want : Option (List Located))
     (so_far : prefixed out (said_from look base (items_within (item_of list) m left)) ≡ want) (less : m ≡ suc k) where
   pub goes : (f : Flow) → FlowSays list look base base' left rest out out' f
       → flow_says (λ b. said_from look b (items_within (item_of list) k rest)) base' out' f ≡ want
@@ -101,7 +106,8 @@ module _ (list : ListKind) (look : ℕ → Option ℕ) (base base' : ℕ) (left 
   goes_as f g says is = ap (flow_says (λ b. said_from look b (items_within (item_of list) k rest)) base' out') (sym is) ∙ goes f says
 
 -- at no fuel nothing is said
-pub never_ends : (list : ListKind) (look : ℕ → Option ℕ) (base : ℕ) (left : List ℕ) (out : List Located) (m : ℕ) (want : Option (List Located))
+pub never_ends : (list : ListKind) (look : ℕ →
+    Option ℕ) (base : ℕ) (left : List ℕ) (out : List Located) (m : ℕ) (want : Option (List Located))
     → prefixed out (said_from look base (items_within (item_of list) m left)) ≡ want → m ≡ 0 → None ≡ want
 unfolding items_within
 never_ends list look base left out m want so_far z =

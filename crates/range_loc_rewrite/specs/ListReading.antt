@@ -1,5 +1,6 @@
 -- How lists are read: entry by entry, with the base address that is in force.
-use Rattle.std.specs.Prelude.{◌≡◌, ◌+◌, ◌*◌, ℕ, suc, List, [], ◌∷◌, ◌++◌, Option, Some, None, option_map, option_and_then}
+use Rattle.std.specs.Prelude.{◌≡◌, ◌+◌, ◌*◌, ℕ, suc, List, [], ◌∷◌, ◌++◌, Option, Some, None, option_map}
+use Rattle.std.specs.Prelude.{option_and_then}
 use Rattle.std.specs.Prelude.{Result, Ok, Err}
 use Rattle.dw_unit.specs.declared.trouble.Trouble.{Trouble}
 use Rattle.dw_unit.specs.CompUnits.{number_in}
@@ -56,7 +57,8 @@ flow_says more base out More = prefixed out (more base)
 flow_says more base out End = Some out
 flow_says more base out Bad = None
 
-abbrev pub FlowSays : ListKind → (ℕ → Option ℕ) → (old_base base : ℕ) → (left rest : List ℕ) → (old_out out : List Located) →
+abbrev pub FlowSays : ListKind → (ℕ → Option ℕ) → (old_base base : ℕ) → (left rest : List ℕ) →
+    (old_out out : List Located) →
     Flow → Type 0
 FlowSays list look old_base base left rest old_out out flow =
     (n : ℕ) → prefixed old_out (said_from look old_base (items_within (item_of list) (suc n) left))

@@ -14,7 +14,8 @@ pub struct Cover {
     pub group: usize,
 }
 
-/// Ranges as a search tree, which is seen as their list. Where they are sorted by their starts, a search takes the time of a
+/// Ranges as a search tree, which is seen as their list. Where they are sorted by their starts, a search takes the time
+/// of a
 /// descent for each range that it finds.
 #[cycle(cover_tree)]
 #[derive(Drop)]

@@ -2,7 +2,8 @@
 ghost use Rattle.std.specs.Prelude.{◌≡◌, ◌∷◌, ℕ, List, Option, Some, IfOk, length, map, option_map};
 ghost use Rattle.range_loc_rewrite.specs.ListEntries.{items_within};
 ghost use Rattle.range_loc_rewrite.specs.Lists.{Located, bound_says};
-ghost use Rattle.range_loc_rewrite.specs.ListReading.{looked_up, step_says, StepSays, FlowSays, item_of, located_of, said_from};
+ghost use Rattle.range_loc_rewrite.specs.ListReading.{looked_up, step_says, StepSays, FlowSays, item_of, located_of};
+ghost use Rattle.range_loc_rewrite.specs.ListReading.{said_from};
 
 use crate::addresses::Addresses;
 use crate::list_bound::Bound;
@@ -37,7 +38,8 @@ enum Step<'a> {
 
 fn placed(low: u128, high: u128, expression: &[u8]) -> Step<'_>
     ensures { (more : ℕ → Option (List Located)) (base : ℕ) → step_says more base (Some result)
-        ≡ option_map (λ ls. record { range = Some (record { low = low; high = high }); expression = expression.now } ∷ ls) (more base) }
+        ≡ option_map (λ ls. record { range = Some (record { low = low; high = high }); expression = expression.now } ∷
+        ls) (more base) }
 {
     Step::Placed(Place {
         bounds: Some(Bounds { low, high }),
@@ -47,7 +49,8 @@ fn placed(low: u128, high: u128, expression: &[u8]) -> Step<'_>
 
 fn step_of<'a>(item: ListItem<'a>, base: u64, addresses: &Addresses) -> Option<Step<'a>>
     ensures { (more : ℕ → Option (List Located)) →
-        bound_says (looked_up addresses.now.section.now addresses.now.base) more base item.entry.expression.now item.entry.bound
+        bound_says (looked_up addresses.now.section.now addresses.now.base) more base item.entry.expression.now
+        item.entry.bound
         ≡ step_says more base result }
 {
     match item.bound {
@@ -84,7 +87,8 @@ fn read_step<'a>(
     addresses: &Addresses,
     cursor: &mut Cursor<'a>,
 ) -> Option<Step<'a>>
-    ensures { StepSays list (looked_up addresses.now.section.now addresses.now.base) base cursor.old.left cursor.new.left result }
+    ensures { StepSays list (looked_up addresses.now.section.now addresses.now.base) base cursor.old.left
+        cursor.new.left result }
 {
     let kind = match cursor.u8() {
         Ok(kind) => kind,
@@ -115,7 +119,8 @@ fn take_step<'a>(
     places: &mut Vec<Place<'a>>,
     cursor: &mut Cursor<'a>,
 ) -> Result<Flow, NoMemory>
-    ensures { IfOk result (λ flow. FlowSays list (looked_up addresses.now.section.now addresses.now.base) base.old base.new
+    ensures { IfOk result (λ flow. FlowSays list (looked_up addresses.now.section.now addresses.now.base) base.old
+        base.new
         cursor.old.left cursor.new.left (map located_of places.old.items) (map located_of places.new.items) flow) }
 {
     match read_step(list, *base, addresses, cursor) {
@@ -144,7 +149,8 @@ pub fn read_list<'a>(
     addresses: &Addresses,
 ) -> Result<Option<Vec<Place<'a>>>, NoMemory>
     ensures { IfOk result (λ r. option_map (λ v. map located_of v.items) r
-        ≡ said_from (looked_up addresses.now.section.now addresses.now.base) base (items_within (item_of list) (length bytes.now) bytes.now)) }
+        ≡ said_from (looked_up addresses.now.section.now addresses.now.base) base (items_within (item_of list) (length
+        bytes.now) bytes.now)) }
 {
     let mut cursor = Cursor::new(bytes);
     let mut base = base;

@@ -6,23 +6,27 @@ use Rattle.range_loc_rewrite.proofs.list_reading.read_list.Goals as goal
 
 pub returns-in-End : goal.returns-in-End
 returns-in-End c =
-    let less : length c.args.bytes.now - c.loop-i.i ≡ suc (length c.args.bytes.now - (c.loop-i.i + 1)) = omega (arith, c.loop-i-test.true) in
+    let less : length c.args.bytes.now - c.loop-i.i
+    ≡ suc (length c.args.bytes.now - (c.loop-i.i + 1)) = omega (arith, c.loop-i-test.true) in
     goes_as c.args.list _ c.loop-i.base _ c.loop-i.cursor.left _ (map located_of c.loop-i.places.items) _ _ _ _ c.loop-i.invariant less
     _ flow.End c.in_ok-take_step.ensures c.in-End.is
 
 pub returns-in-Bad : goal.returns-in-Bad
 returns-in-Bad c =
-    let less : length c.args.bytes.now - c.loop-i.i ≡ suc (length c.args.bytes.now - (c.loop-i.i + 1)) = omega (arith, c.loop-i-test.true) in
+    let less : length c.args.bytes.now - c.loop-i.i
+    ≡ suc (length c.args.bytes.now - (c.loop-i.i + 1)) = omega (arith, c.loop-i-test.true) in
     goes_as c.args.list _ c.loop-i.base _ c.loop-i.cursor.left _ (map located_of c.loop-i.places.items) _ _ _ _ c.loop-i.invariant less
     _ flow.Bad c.in_ok-take_step.ensures c.in-Bad.is
 
 pub loop-i-preserved : goal.loop-i-preserved
 loop-i-preserved c =
-    let less : length c.args.bytes.now - c.loop-i.i ≡ suc (length c.args.bytes.now - (c.loop-i.i + 1)) = omega (arith, c.loop-i-test.true) in
+    let less : length c.args.bytes.now - c.loop-i.i
+    ≡ suc (length c.args.bytes.now - (c.loop-i.i + 1)) = omega (arith, c.loop-i-test.true) in
     goes_as c.args.list _ c.loop-i.base _ c.loop-i.cursor.left _ (map located_of c.loop-i.places.items) _ _ _ _ c.loop-i.invariant less
     _ flow.More c.in_ok-take_step.ensures c.in-More.is
 
 pub returns : goal.returns
 returns c =
-    never_ends c.args.list _ c.loop-i.base c.loop-i.cursor.left (map located_of c.loop-i.places.items) (length c.args.bytes.now - c.loop-i.i) _
+    never_ends c.args.list _ c.loop-i.base c.loop-i.cursor.left (map located_of c.loop-i.places.items) (length c.args.bytes.now -
+    c.loop-i.i) _
     c.loop-i.invariant (omega (arith, c.loop-i-test.false))

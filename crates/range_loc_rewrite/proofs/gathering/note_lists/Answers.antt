@@ -1,0 +1,34 @@
+use Rattle.std.proofs.Common.{◌≡◌, ◌∙◌, ◌+◌, ◌<◌, ◌++◌, ◌∷◌, [], ℕ, List, ap, sym, subst, length, get_or, take, append-nil, append_assoc}
+use Rattle.std.proofs.lemmas.List.{take_more, take_all}
+use Rattle.dw_unit.specs.declared.entry.Attr.{Attr}
+use Rattle.range_loc_rewrite.specs.KnownLists.{IsNoted}
+use Rattle.range_loc_rewrite.proofs.GroupFacts.{grow_none, grow_more}
+use Rattle.range_loc_rewrite.proofs.gathering.note_lists.Goals as goal
+
+one_more : (before ats : List Attr) (i : ℕ) (d : Attr) → i < length ats →
+    (before ++ take i ats) ++ get_or ats i d ∷ [] ≡ before ++ take (i + 1) ats
+one_more before ats i d h =
+    append_assoc before (take i ats) (get_or ats i d ∷ []) ∙ ap (λ (l : List Attr). before ++ l) (sym (take_more ats i d h))
+
+pub loop-attr-init : goal.loop-attr-init
+loop-attr-init c = λ s u before b r n k noted.
+    (grow_none c.args.groups.now n, k, subst (λ (l : List Attr). IsNoted s u l c.args.others) (sym (append-nil before)) noted)
+
+pub loop-attr-preserved : goal.loop-attr-preserved
+loop-attr-preserved c = λ s u before b r n k noted.
+    let p = c.loop-attr.invariant s u before b r n k noted in
+    let q = c.in_ok-faults.ensures s u (before ++ take c.loop-attr.attr-index c.args.attrs.now) b r p.0.numbered p.1 p.2 in (
+      grow_more c.args.groups.now c.loop-attr.groups c.note_list.new.groups p.0 q.0,
+      q.1,
+      subst (λ (l : List Attr). IsNoted s u l c.in_ok-faults.faults)
+          (one_more before c.args.attrs.now c.loop-attr.attr-index _ c.loop-attr-test.true) q.2,
+    )
+
+pub returns : goal.returns
+returns c = λ s u before b r n k noted.
+    let p = c.loop-attr.invariant s u before b r n k noted in (
+      p.0,
+      p.1,
+      subst (λ (l : List Attr). IsNoted s u (before ++ l) c.loop-attr.faults)
+          (take_all c.loop-attr.attr-index c.args.attrs.now c.loop-attr-test.false) p.2,
+    )

@@ -1,0 +1,49 @@
+-- Lists of a unit that were read.
+use Rattle.std.specs.Prelude.{◌≡◌, ◌&&◌, ℕ, Bool, not, List, [], ◌∷◌, if◌then◌else◌, flat_map, Option, Some, None}
+use Rattle.std.specs.Prelude.{is_some, option_map}
+use Rattle.std.specs.List.{list_any}
+use Rattle.std.specs.Ordering.{nat_cmp}
+use Rattle.std.specs.BTreeMap.{BTreeMap, get}
+use Rattle.table_core.specs.ReadSteps.{least}
+use Rattle.dw_unit.specs.declared.entry.Attr.{Attr}
+use Rattle.dw_unit.specs.CompUnits.{Unit}
+use Rattle.range_loc_rewrite.specs.declared.groups.Groups.{Groups}
+use Rattle.range_loc_rewrite.specs.declared.unit_ranges.ListFaults.{ListFaults}
+use Rattle.range_loc_rewrite.specs.Faults.{ListSections, table_place}
+use Rattle.range_loc_rewrite.specs.Groups.{HasRanges, Grow, ranges_in}
+use Rattle.range_loc_rewrite.specs.Lists.{Located, ranges_kind, has_list, list_at, list_offset}
+
+-- what the list of ranges at an offset says
+abbrev pub range_list : ListSections → Unit → ℕ → Option (List Located)
+range_list s u at = list_at ranges_kind s.ranges s.units.addr u at
+
+-- the group of the ranges of a list, or none of one that can't be read
+pub record IsGroupOf (g : Groups) (group : Option ℕ) (said : Option (List Located)) : Type 0 where
+  pub some : is_some group ≡ is_some said
+  pub ranges : HasRanges g group (option_map ranges_in said)
+
+abbrev pub AreKnown : (ℕ → Option (List Located)) → Groups → BTreeMap ℕ (Option ℕ) → Type 0
+AreKnown says g known = (at : ℕ) (o : Option ℕ) → get nat_cmp known at ≡ Some o → IsGroupOf g o (says at)
+
+-- a list was looked up, or read
+pub record IsLookedUp (says : ℕ → Option (List Located)) (old new : Groups) (known : BTreeMap ℕ (Option ℕ)) (at : ℕ)
+    (group : Option ℕ) : Type 0 where
+  pub grow : Grow old new
+  pub known_are : AreKnown says new known
+  pub is : IsGroupOf new group (says at)
+
+-- what is wrong with the lists that attributes name, one by one
+
+abbrev pub lacks_list : ListSections → Unit → Attr → Bool
+lacks_list s u a = has_list ranges_kind a && not (is_some (list_offset ranges_kind s.ranges u a))
+
+abbrev pub bad_at : ListSections → Unit → Option ℕ → List ℕ
+bad_at s u None = []
+bad_at s u (Some at) = if is_some (range_list s u at) then [] else table_place s.ranges at ∷ []
+
+abbrev pub bad_list : ListSections → Unit → Attr → List ℕ
+bad_list s u a = if has_list ranges_kind a then bad_at s u (list_offset ranges_kind s.ranges u a) else []
+
+pub record IsNoted (s : ListSections) (u : Unit) (attrs : List Attr) (f : ListFaults) : Type 0 where
+  pub lacks : f.lacks_offset ≡ list_any (lacks_list s u) attrs
+  pub bad : f.bad ≡ least (flat_map (bad_list s u) attrs)

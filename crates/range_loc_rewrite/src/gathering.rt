@@ -1,0 +1,123 @@
+// Ranges of the entries of all units.
+ghost use Rattle.std.specs.Prelude.{◌≡◌, ◌++◌, ◌∷◌, [], ℕ, List, IfOk, OnOk, map, flat_map};
+ghost use Rattle.std.specs.List.Sorted.{IsNonDecreasingBy};
+ghost use Rattle.table_core.specs.DebugUnits.{walked};
+ghost use Rattle.dw_unit.specs.declared.entry.Attr.{Attr};
+ghost use Rattle.dw_unit.specs.CompUnits as units;
+ghost use Rattle.dw_unit.specs.CompUnits.{Unit};
+ghost use Rattle.dw_unit.specs.ListedUnits.{plain, plain_unit};
+ghost use Rattle.range_loc_rewrite.specs.Faults.{ListSections};
+ghost use Rattle.range_loc_rewrite.specs.Gathering.{IsGathering, IsUnitGathered};
+ghost use Rattle.range_loc_rewrite.specs.Groups.{AreNumbered, AreWithin, Grow, entry_of};
+ghost use Rattle.range_loc_rewrite.specs.KnownLists.{AreKnown, range_list, IsNoted};
+ghost use Rattle.range_loc_rewrite.specs.Lists.{ranges_kind};
+ghost use Rattle.range_loc_rewrite.specs.UnitLists.{ReadsLists};
+
+use crate::groups::{Groups, RangedEntry};
+use crate::list_kind::ListKind;
+use crate::list_section::ListSection;
+use crate::unit_lists::{UnitLists, unit_lists};
+use crate::unit_ranges::{KnownLists, ListFaults, note_list, own_group};
+use dw_unit::{Attr, Entry};
+use rb_bytes::fault::NoMemory;
+use std::alloc::Global;
+use std::collections::BTreeMap;
+
+// What is wrong with the lists that some attributes name, and with others.
+fn note_lists(
+    alloc: Global,
+    section: ListSection<'_, '_>,
+    unit: &UnitLists<'_>,
+    known: &mut KnownLists,
+    groups: &mut Groups,
+    attrs: &[Attr],
+    others: ListFaults,
+) -> Result<ListFaults, NoMemory>
+    requires rising { IsNonDecreasingBy (λ w. w.place) section.tables.now }
+    requires walked { section.tables.now ≡ walked 5 section.bytes.now }
+    ensures { (s : ListSections) (u : Unit) (before : List Attr) → section.entry.bytes.now ≡ s.ranges →
+        ReadsLists ranges_kind s.units.addr u unit.now → AreNumbered groups.old →
+        AreKnown (range_list s u) groups.old known.old →
+        IsNoted s u before others →
+        IfOk result (λ f. Grow groups.old groups.new × AreKnown (range_list s u) groups.new known.new
+        × IsNoted s u (before ++ attrs.now) f) }
+{
+    let mut faults = others;
+    for attr in attrs {
+        faults = note_list(alloc, section, unit, known, groups, *attr, faults)?;
+    }
+    Ok(faults)
+}
+
+fn put_ranged(
+    ranged: &mut Vec<RangedEntry>,
+    place: u64,
+    group: Option<usize>,
+) -> Result<(), NoMemory>
+    ensures { OnOk result (ranged.new.items ≡ ranged.old.items ++ entry_of place group) }
+{
+    match group {
+        Some(group) => {
+            ranged.push(RangedEntry { place, group })?;
+            Ok(())
+        }
+        None => Ok(()),
+    }
+}
+
+// Adds the ranges of an entry; answers what is wrong with the lists that it names, and with others.
+fn add_entry(
+    alloc: Global,
+    section: ListSection<'_, '_>,
+    unit: &UnitLists<'_>,
+    known: &mut KnownLists,
+    groups: &mut Groups,
+    ranged: &mut Vec<RangedEntry>,
+    entry: &Entry,
+    others: ListFaults,
+) -> Result<ListFaults, NoMemory>
+    requires rising { IsNonDecreasingBy (λ w. w.place) section.tables.now }
+    requires walked { section.tables.now ≡ walked 5 section.bytes.now }
+    ensures { (s : ListSections) (u : Unit) (before : List Attr) → section.entry.bytes.now ≡ s.ranges →
+        ReadsLists ranges_kind s.units.addr u unit.now → AreNumbered groups.old →
+        AreKnown (range_list s u) groups.old known.old →
+        AreWithin groups.old.count ranged.old.items → IsNoted s u before others →
+        IfOk result (λ f. IsGathering s u groups.old ranged.old.items groups.new ranged.new.items known.new (plain
+        entry.now ∷ []) (before ++ entry.now.attrs) f) }
+{
+    let faults = note_lists(alloc, section, unit, known, groups, &entry.attrs, others)?;
+    let group = own_group(alloc, section, unit, known, groups, &entry.attrs)?;
+    put_ranged(ranged, entry.place, group)?;
+    Ok(faults)
+}
+
+/// Adds the ranges of the entries of a unit; answers what is wrong with the lists that it names.
+pub fn add_unit(
+    alloc: Global,
+    section: ListSection<'_, '_>,
+    addr: &[u8],
+    groups: &mut Groups,
+    ranged: &mut Vec<RangedEntry>,
+    entries: &[Entry],
+) -> Result<ListFaults, NoMemory>
+    requires rising { IsNonDecreasingBy (λ w. w.place) section.tables.now }
+    requires walked { section.tables.now ≡ walked 5 section.bytes.now }
+    ensures { (s : ListSections) → section.entry.bytes.now ≡ s.ranges → addr.now ≡ s.units.addr →
+        AreNumbered groups.old →
+        AreWithin groups.old.count ranged.old.items →
+        IfOk result (λ f. IsUnitGathered s (plain_unit entries.now) groups.old ranged.old.items groups.new
+        ranged.new.items f) }
+{
+    let unit = unit_lists(addr, ListKind::Ranges, entries);
+    let mut known = BTreeMap::new(alloc);
+    let mut faults = ListFaults {
+        lacks_offset: false,
+        bad: None,
+    };
+    for entry in entries {
+        faults = add_entry(
+            alloc, section, &unit, &mut known, groups, ranged, entry, faults,
+        )?;
+    }
+    Ok(faults)
+}
