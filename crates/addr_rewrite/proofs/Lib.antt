@@ -1,1 +1,2 @@
-pub mod AddressPatches
+mod AddressPatches
+mod TableOrder

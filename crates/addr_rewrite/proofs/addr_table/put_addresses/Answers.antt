@@ -31,7 +31,8 @@ addresses-preserved c =
           ∙ ap (λ (x : ℕ). old ++ patched to (record { place = at; bytes = little_bytes 8 x } ∷ (more ++ ps)) (drop to section)) value
           ∙ ap (λ (l : List Patch). old ++ patched to (l ++ ps) (drop to section)) (sym all)
           ∙ c.addresses.invariant.put m ps e;
-      inside = omega (arith, c.in_ok-to.ensures.place, c.if-section-at.false, c.if-section-lt8.false);
+      behind = omega (arith, c.in_ok-to.ensures.place);
+      place = omega (arith, c.split_at.ensures.back_len, c.addresses.invariant.place, c.addresses.invariant.enough, c.addresses-test.true);
       enough = omega (arith, c.split_at.ensures.back_len, c.addresses.invariant.enough, c.addresses-test.true);
     }
 

@@ -1,0 +1,12 @@
+-- Tables lie one behind another in their section.
+use Rattle.std.specs.Prelude.{◌≤◌, ◌+◌, ℕ, List, [], ◌∷◌, length}
+use Rattle.std.specs.Option.{option_map_or}
+use Rattle.table_core.specs.DebugUnits.{Walked}
+
+-- where the bytes of a table end, or where it begins if it has none
+abbrev pub bytes_end : Walked → ℕ
+bytes_end w = option_map_or (λ (bytes : List ℕ). w.place + 4 + length bytes) w.bytes w.place
+
+abbrev pub AreInOrder : (from to : ℕ) → List Walked → Type 0
+AreInOrder from to [] = from ≤ to
+AreInOrder from to (w ∷ ws) = (from ≤ w.place) × (bytes_end w ≤ to) × AreInOrder (bytes_end w) to ws
