@@ -29,7 +29,7 @@ sum_chosen true ns = refl
 sum_chosen false [] = refl
 sum_chosen false (n ∷ ns) = sum_by-cons (λ (m : ℕ). 0) n ns ∙ zero-add (sum_by (λ (m : ℕ). 0) ns) ∙ sum_chosen false ns
 
-sum_mapped : {X Y : Type 0} (f : Y → ℕ) (g : X → Y) (xs : List X) → sum_by f (map g xs) ≡ sum_by (λ x. f (g x)) xs
+pub sum_mapped : {X Y : Type 0} (f : Y → ℕ) (g : X → Y) (xs : List X) → sum_by f (map g xs) ≡ sum_by (λ x. f (g x)) xs
 sum_mapped f g [] = refl
 sum_mapped f g (x ∷ xs) =
     sum_by-cons f (g x) (map g xs) ∙ ap (λ (j : ℕ). f (g x) + j) (sum_mapped f g xs) ∙ sym (sum_by-cons (λ y. f (g y)) x xs)

@@ -1,6 +1,7 @@
 -- Sums over links, weighted by their ends.
 use Rattle.std.proofs.Common.{◌≡◌, ◌+◌, ◌*◌, ◌<◌, ◌≤◌, ◌==◌, ℕ, true, false, List, [], ◌∷◌, Option, Some, None, zero, suc, add-one, ltb}
-use Rattle.std.proofs.Common.{add-mul, mul_comm, zero-mul, zero-add, ⊎_elim, ◌⊎◌, refl, sym, ap, ◌∙◌, subst, arith, sum_by, if◌then◌else◌, get_or}
+use Rattle.std.proofs.Common.{add-mul, mul_comm, zero-mul, zero-add, ⊎_elim, ◌⊎◌, refl, sym, ap, ◌∙◌, subst, arith, sum_by, if◌then◌else◌}
+use Rattle.std.proofs.Common.{get_or}
 use Rattle.std.proofs.lemmas.List.Sums.{sum_by-cons}
 use Rattle.std.proofs.lemmas.Bool.{lt-ltb, le-ltb, eq-eqb, ne_eqb, cases_order, cases_lt}
 use Rattle.edge_profile.proofs.AscendingPairs.{sum_none}

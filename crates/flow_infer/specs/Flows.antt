@@ -1,4 +1,4 @@
--- Flows over links: that they balance, how much they change the counts, and prices that show that a change is the least.
+-- Flows over links: that they balance, how much they change the counts, and prices that show that no change is less.
 use Rattle.std.specs.Prelude.{◌≡◌, ◌+◌, ◌-◌, ◌<◌, ◌==◌, ℕ, ℤ, pos, negsuc, ◌-ℤ◌, ◌≤ℤ◌, Bool, false, List, Option}
 use Rattle.std.specs.Prelude.{Some, None, All}
 use Rattle.std.specs.Prelude.{map, sum_by, slice_index_or, if◌then◌else◌}

@@ -2,3 +2,7 @@ pub mod Flows
 pub mod Heights
 pub mod Laws
 pub mod LineCounts
+pub mod Links
+pub mod Repairing
+pub mod Repairs
+pub mod Sources

@@ -8,8 +8,8 @@ use crate::settling::settle;
 use rb_bytes::fault::NoMemory;
 use std::alloc::Global;
 
-/// Adds the links of the next function, which has one block less than nodes, with a flow that balances, and the prices of
-/// its blocks.
+/// Adds the links of the next function, which has one block less than nodes, with a flow that balances, and the prices
+/// of its blocks.
 pub fn add_function(
     alloc: Global,
     flow: &mut Flow,

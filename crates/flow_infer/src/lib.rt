@@ -2,21 +2,29 @@
 #![tactic(auto)]
 
 mod arcs;
+mod counts;
 mod distances;
+mod entries;
 mod flow;
-pub mod joining;
+mod joining;
+mod leaving;
 mod lifting;
+mod links;
 mod nodes;
 mod pushing;
+mod repairing;
 mod rooms;
 mod searching;
 mod settling;
+mod source;
 pub mod splitting;
+mod ways;
 
 ghost use Rattle.flow_infer.specs.Laws.{LeastChangeLaw};
 ghost use Rattle.flow_infer.specs.LineCounts.{SplitLaw};
 
 pub use flow::{Flow, Link};
+pub use repairing::repair;
 
 /// Prices show that a flow changes least: where prices hold for links whose flow balances, no other balancing flow of
 /// these links changes less.

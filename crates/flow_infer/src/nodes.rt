@@ -30,46 +30,36 @@ pub fn at_node(numbers: &[u64], first: usize, end: Option<usize>) -> u64
     numbers[node(end, first)]
 }
 
-/// What flows into each node.
-pub fn inflows(
-    alloc: Global,
-    links: &[Link],
-    first: usize,
-    nodes: usize,
-) -> Result<Vec<u128>, NoMemory>
-    requires few { nodes < 2 ^ 63 }
-    requires some { 0 < nodes }
-    requires among { AreAmong first nodes links.now }
-    ensures length { IfOk result (λ sums. length sums.items ≡ nodes) }
-    ensures sums { IfOk result
-        (λ sums. (k : ℕ) → k + 1 < nodes → slice_index sums.items (k + 1) ≡ inflow links.now (first + k)) }
-{
-    let mut sums = vec![in alloc; 0u128; nodes]?;
-    for link in links {
-        add(&mut sums, node(link.to, first), link.flow)?;
-    }
-    Ok(sums)
+/// What flows into each node, and what flows out of it.
+#[derive(Drop)]
+pub struct FlowSums {
+    pub into: Vec<u128>,
+    pub out_of: Vec<u128>,
 }
 
-/// What flows out of each node.
-pub fn outflows(
+/// Sums the flow into each node, and out of it.
+pub fn sum_flows(
     alloc: Global,
     links: &[Link],
     first: usize,
     nodes: usize,
-) -> Result<Vec<u128>, NoMemory>
+) -> Result<FlowSums, NoMemory>
     requires few { nodes < 2 ^ 63 }
     requires some { 0 < nodes }
     requires among { AreAmong first nodes links.now }
-    ensures length { IfOk result (λ sums. length sums.items ≡ nodes) }
-    ensures sums { IfOk result
-        (λ sums. (k : ℕ) → k + 1 < nodes → slice_index sums.items (k + 1) ≡ outflow links.now (first + k)) }
+    ensures lengths { IfOk result (λ s. (length s.into.items ≡ nodes) × (length s.out_of.items ≡ nodes)) }
+    ensures into { IfOk result
+        (λ s. (k : ℕ) → k + 1 < nodes → slice_index s.into.items (k + 1) ≡ inflow links.now (first + k)) }
+    ensures out_of { IfOk result
+        (λ s. (k : ℕ) → k + 1 < nodes → slice_index s.out_of.items (k + 1) ≡ outflow links.now (first + k)) }
 {
-    let mut sums = vec![in alloc; 0u128; nodes]?;
+    let mut into = vec![in alloc; 0u128; nodes]?;
+    let mut out_of = vec![in alloc; 0u128; nodes]?;
     for link in links {
-        add(&mut sums, node(link.from, first), link.flow)?;
+        add(&mut into, node(link.to, first), link.flow)?;
+        add(&mut out_of, node(link.from, first), link.flow)?;
     }
-    Ok(sums)
+    Ok(FlowSums { into, out_of })
 }
 
 // Adds to the sum of a node. Sums that don't fit would take more than all counts.

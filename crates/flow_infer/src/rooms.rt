@@ -99,8 +99,8 @@ pub fn moved(link: &Link, a: u64, b: u64, along: bool, amount: u128) -> Link
     }
 }
 
-/// How much more the end of a link may rise than its start, from the heights `b` and `a`: what a way along the link lacks
-/// for room. Or how much more its start may rise than its end: what a way against the link lacks for room.
+/// How much more the end of a link may rise than its start, from the heights `b` and `a`: what a way along the link
+/// lacks for room. Or how much more its start may rise than its end: what a way against the link lacks for room.
 pub fn slack(link: &Link, a: u64, b: u64, along: bool) -> u64
     requires { HoldsBetween a b link.now }
 {

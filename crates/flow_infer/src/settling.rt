@@ -8,7 +8,7 @@ use crate::arcs::{Arc, arcs};
 use crate::distances::find_distances;
 use crate::flow::Link;
 use crate::lifting::lift;
-use crate::nodes::{inflows, is_balanced, outflows, surplus, total};
+use crate::nodes::{is_balanced, sum_flows, surplus, total};
 use crate::pushing::wave;
 use crate::searching::search;
 use rb_bytes::fault::NoMemory;
@@ -84,13 +84,12 @@ fn round(
     ensures balanced { IfOk result (λ r. r ≡ progress.Balanced → BalancesWithin first (length heights.old) links.new) }
 {
     let nodes = heights.len();
-    let inflows = inflows(alloc, links, first, nodes)?;
-    let outflows = outflows(alloc, links, first, nodes)?;
-    if is_balanced(&inflows, &outflows) {
+    let sums = sum_flows(alloc, links, first, nodes)?;
+    if is_balanced(&sums.into, &sums.out_of) {
         return Ok(Progress::Balanced);
     }
-    let mut spare = surplus(alloc, &inflows, &outflows)?;
-    let mut need = surplus(alloc, &outflows, &inflows)?;
+    let mut spare = surplus(alloc, &sums.into, &sums.out_of)?;
+    let mut need = surplus(alloc, &sums.out_of, &sums.into)?;
     let found = search(alloc, links, heights, first, around, &spare, &need)?;
     if found.meets {
         let moved = total(&spare);

@@ -1,0 +1,66 @@
+// Whether control can leave a function by an instruction.
+ghost use Rattle.std.specs.Prelude.{◌≡◌, ◌⊎◌, ◌↔◌, ◌+◌, ◌<◌, ℕ, IsTrue, IsSomeAnd, false, length, slice_get};
+ghost use Rattle.rv_code.specs.layout.FunctionMembers.{func_holds};
+ghost use Rattle.rv_code.specs.isa.Action.{action_of};
+ghost use Rattle.rv_code.specs.layout.Blocks.{EndsBlock};
+ghost use Rattle.rv_code.specs.layout.Flow as flow;
+ghost use Rattle.flow_infer.specs.Links as links;
+
+use crate::entries::far_target;
+use rv_code::flow::{falls, is_branch, is_call, is_plain_jump};
+use rv_code::{Func, Inst, Placed, ZERO};
+
+/// Whether control can leave a function by the last instruction of a block, which has this place in the function.
+pub fn leaves(func: &Func, place: usize) -> bool
+    requires { place < length func.now.insts.items }
+    ensures { IsTrue result ↔ IsSomeAnd (slice_get func.now.insts.items place) (links.LeavesBy func.now place) }
+{
+    let inst = &func.insts[place];
+    leaves_by(func, place, inst)
+}
+
+fn leaves_by(func: &Func, place: usize, inst: &Placed) -> bool
+    requires { place < length func.now.insts.items }
+    ensures { IsTrue result ↔ links.LeavesBy func.now place inst.now }
+{
+    is_indirect(&inst.inst) || jumps_out(func, inst) || ends_out(func, place, inst)
+}
+
+fn is_indirect(inst: &Inst) -> bool
+    ensures { result ≡ links.is_indirect (action_of inst.now) }
+{
+    match *inst {
+        Inst::Jalr { rd, .. } => rd == ZERO,
+        _ => false,
+    }
+}
+
+// Whether it is a branch to another function, or a jump there that saves no return address.
+fn jumps_out(func: &Func, inst: &Placed) -> bool
+    ensures { IsTrue result ↔
+        (EndsBlock inst.now × IsSomeAnd (flow.target_of inst.now) (λ a. func_holds a func.now ≡ false)) }
+{
+    if !ends_block(inst) {
+        return false;
+    }
+    far_target(func, inst).is_some()
+}
+
+// Whether a block ends with it: a conditional branch, or a jump that saves no return address.
+fn ends_block(inst: &Placed) -> bool
+    ensures { IsTrue result ↔ EndsBlock inst.now }
+{
+    is_branch(&inst.inst) || is_plain_jump(&inst.inst)
+}
+
+// Whether it is a function's last instruction, and control falls out of the function or goes on in another one.
+fn ends_out(func: &Func, place: usize, inst: &Placed) -> bool
+    requires { place < length func.now.insts.items }
+    ensures { IsTrue result ↔ ((place + 1 ≡ length func.now.insts.items) ×
+        (IsTrue (flow.falls_at func.now place inst.now) ⊎ IsTrue (flow.is_call (flow.action_at inst.now)))) }
+{
+    if place + 1 != func.insts.len() {
+        return false;
+    }
+    falls(&inst.inst, true) || is_call(&inst.inst)
+}

@@ -1,0 +1,20 @@
+// What the links of functions are found from.
+
+use edge_profile::Profile;
+use rv_code::{Block, Func};
+
+/// A program's code and the counts of its profile.
+#[derive(Clone, Copy)]
+pub struct Source<'a> {
+    pub funcs: &'a [Func],
+    pub blocks: &'a [Block],
+    /// The edges between blocks, as places in the list of blocks, by source and by target.
+    pub edges: &'a [(usize, usize)],
+    /// The addresses at which control comes into functions from outside, ascending.
+    pub entries: &'a [u64],
+    pub profile: &'a Profile,
+    /// The profile's pairs.
+    pub pairs: &'a [(u64, u64, u128)],
+    /// The pairs seen from their ends.
+    pub ends: &'a [(u64, u64, u128)],
+}
