@@ -2,6 +2,7 @@
 use crate::places::{BASE, Place, Places};
 use elf_image::Segment;
 use elf_image::header::EHDR_SIZE;
+use elf_image::relocation::SHT_RELA;
 use elf_image::section::{SHF_ALLOC, SHT_NOBITS};
 use elf_image::segment::{PF_R, PF_W, PHDR_SIZE, PT_LOAD};
 use test_files::parts::SHF_WRITE;
@@ -27,9 +28,13 @@ pub enum Extra {
     ThreadStorage,
     /// Sections that are empty, of no type, of a large alignment, without bytes, or over those of others.
     Loose,
+    /// A pointer to `f` over the end of one segment and the beginning of the next, which lie apart in the file.
+    HalvedPointer,
+    /// Loaded relocations, of which there are none, under the name of a debug table.
+    DebugRelocations,
 }
 
-pub const EXTRAS: [Extra; 9] = [
+pub const EXTRAS: [Extra; 11] = [
     Extra::Nothing,
     Extra::Notes,
     Extra::Segments,
@@ -39,6 +44,8 @@ pub const EXTRAS: [Extra; 9] = [
     Extra::Zeroed,
     Extra::ThreadStorage,
     Extra::Loose,
+    Extra::HalvedPointer,
+    Extra::DebugRelocations,
 ];
 
 // Types of program headers. gABI, "Program Header"; psABI, "Program Header Table"; LSB, "Program Headers".
@@ -110,7 +117,12 @@ pub fn add_front(file: &mut ElfFile<'_>, extra: Extra, places: &Places) -> Resul
 }
 
 /// Adds what a file has besides its code and data.
-pub fn add_extra(file: &mut ElfFile<'_>, extra: Extra, places: &Places) -> Result<(), BuildError> {
+pub fn add_extra<'a>(
+    file: &mut ElfFile<'a>,
+    extra: Extra,
+    places: &Places,
+    pointer: &'a [u8; 8],
+) -> Result<(), BuildError> {
     match extra {
         Extra::Notes => add_notes(file, places),
         Extra::Segments => add_segments(file),
@@ -118,6 +130,8 @@ pub fn add_extra(file: &mut ElfFile<'_>, extra: Extra, places: &Places) -> Resul
         Extra::Zeroed => add_zeroed(file, places),
         Extra::ThreadStorage => add_thread_storage(file),
         Extra::Loose => add_loose(file, places),
+        Extra::HalvedPointer => add_halves(file, pointer),
+        Extra::DebugRelocations => add_debug_relocations(file),
         Extra::Nothing | Extra::OwnTable | Extra::ForeignTable => Ok(()),
     }
 }
@@ -159,6 +173,25 @@ fn add_notes(file: &mut ElfFile<'_>, places: &Places) -> Result<(), BuildError> 
     Ok(())
 }
 
+// A segment of these bytes, which no section names.
+fn add_bare_segment<'a>(
+    file: &mut ElfFile<'a>,
+    flags: u32,
+    place: Place,
+    bytes: &'a [u8],
+) -> Result<(), BuildError> {
+    file.pieces.push(Piece {
+        offset: place.offset,
+        bytes,
+    })?;
+    file.add_segment(flags, place.offset, place.addr, &[])?;
+    if let Some(segment) = file.segments.last_mut() {
+        segment.filesz = bytes.len() as u64;
+        segment.memsz = bytes.len() as u64;
+    }
+    Ok(())
+}
+
 // Segments of 8 bytes, on one page of the file and each on a page of its own in memory.
 fn add_segments(file: &mut ElfFile<'_>) -> Result<(), BuildError> {
     for index in 0u8..8 {
@@ -169,15 +202,7 @@ fn add_segments(file: &mut ElfFile<'_>) -> Result<(), BuildError> {
             let section = [Section::loaded(b".more", addr, b"12345678")];
             file.add_segment(flags, offset, addr, &section)?;
         } else {
-            file.pieces.push(Piece {
-                offset,
-                bytes: b"87654321",
-            })?;
-            file.add_segment(flags, offset, addr, &[])?;
-            if let Some(segment) = file.segments.last_mut() {
-                segment.filesz = 8;
-                segment.memsz = 8;
-            }
+            add_bare_segment(file, flags, Place { addr, offset }, b"87654321")?;
         }
     }
     Ok(())
@@ -287,4 +312,34 @@ fn add_loose(file: &mut ElfFile<'_>, places: &Places) -> Result<(), BuildError> 
     file.sections
         .push(Section::unloaded(b".comment", b"a compiler\0"))?;
     Ok(())
+}
+
+/// Where the pointer in two segments stands. A section that has no bytes in the file holds both halves.
+pub const HALVES: Place = Place {
+    addr: 0x50_0ffc,
+    offset: 0x3ffc,
+};
+
+fn add_halves<'a>(file: &mut ElfFile<'a>, pointer: &'a [u8; 8]) -> Result<(), BuildError> {
+    add_bare_segment(file, PF_R | PF_W, HALVES, &pointer[..4])?;
+    let other = Place {
+        addr: HALVES.addr + 4,
+        offset: 0x5000,
+    };
+    add_bare_segment(file, PF_R | PF_W, other, &pointer[4..])?;
+    file.sections.push(Section {
+        kind: SHT_NOBITS,
+        offset: Some(HALVES.offset),
+        size: 8,
+        ..Section::writable(b".halves", HALVES.addr, b"")
+    })?;
+    Ok(())
+}
+
+fn add_debug_relocations(file: &mut ElfFile<'_>) -> Result<(), BuildError> {
+    let section = [Section {
+        kind: SHT_RELA,
+        ..Section::loaded(b".debug_info", ELSEWHERE.addr, b"")
+    }];
+    file.add_segment(PF_R, ELSEWHERE.offset, ELSEWHERE.addr, &section)
 }

@@ -4,16 +4,17 @@ use crate::extras::EXTRAS;
 use crate::places::LAYOUTS;
 use crate::shape::{Shape, Tables, build};
 use bolt_core::rewrite;
+use elf_image::named::names_debug;
 use elf_image::relocation::SHT_RELA;
+use elf_image::section::SHF_ALLOC;
 use elf_image::{Elf, Section, read};
 use std::alloc::Global;
 use std::process::Abort;
 use std::test::Fail;
 
-// The header of no section.
-fn is_dropped(section: &Section<'_>) -> bool {
+// The header of no section, which says nothing but these flags.
+fn is_dropped(section: &Section<'_>, flags: u64) -> bool {
     let numbers = [
-        section.flags,
         section.addr,
         section.offset,
         section.size,
@@ -21,7 +22,7 @@ fn is_dropped(section: &Section<'_>) -> bool {
         section.entsize,
     ];
     let words = [section.kind, section.link, section.info];
-    numbers == [0; 6] && words == [0; 3]
+    numbers == [0; 5] && words == [0; 3] && section.flags == flags
 }
 
 // What is read.
@@ -32,14 +33,23 @@ fn accepted<'a>(alloc: Global, file: &'a [u8]) -> Result<Elf<'a>, Fail> {
     }
 }
 
-// The null section says nothing, and neither do relocations.
+// What is left of relocations says that they were loaded, where they bear the name of a debug table.
+fn flags_left(section: &Section<'_>) -> u64 {
+    if names_debug(section.name) {
+        section.flags & SHF_ALLOC
+    } else {
+        0
+    }
+}
+
+// The null section says nothing, and relocations no more than that.
 fn has_dropped(input: &Elf<'_>, output: &Elf<'_>) -> bool {
     let has_null = output
         .sections
         .first()
-        .is_some_and(|section| is_dropped(section));
+        .is_some_and(|section| is_dropped(section, 0));
     let mut pairs = input.sections.iter().zip(&output.sections);
-    has_null && pairs.all(|(old, new)| old.kind != SHT_RELA || is_dropped(new))
+    has_null && pairs.all(|(old, new)| old.kind != SHT_RELA || is_dropped(new, flags_left(old)))
 }
 
 // The part of `f` that isn't run has a symbol.

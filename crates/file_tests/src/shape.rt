@@ -1,7 +1,7 @@
 // A file's shape, and the file.
 use crate::code::{F_SIZE, START_SIZE, code};
 use crate::copied::{add_copied, relocations, symbols};
-use crate::extras::{Extra, add_extra, add_front};
+use crate::extras::{Extra, HALVES, add_extra, add_front};
 use crate::places::{BASE, Places};
 use elf_image::header::{E_SHNUM, E_SHOFF, EHDR_SIZE};
 use elf_image::number::{u16_at, u64_at};
@@ -68,14 +68,15 @@ fn add_symbols(file: &mut ElfFile<'_>, start: u64) -> Result<(), BuildError> {
     Ok(())
 }
 
-// Those of the call and of the pointer in the data, by a symbol or by an address.
-fn add_relocations(
-    file: &mut ElfFile<'_>,
-    places: &Places,
-    has_symbols: bool,
-) -> Result<(), BuildError> {
+// The relocations of the call and of the pointers in data, by a symbol or by an address.
+fn add_relocations(file: &mut ElfFile<'_>, shape: &Shape) -> Result<(), BuildError> {
+    let Shape {
+        places,
+        tables,
+        extra,
+    } = *shape;
     let f = places.code.saturating_add(START_SIZE);
-    let (symbol, addend) = if has_symbols {
+    let (symbol, addend) = if tables.has_symbols() {
         (b"f".as_slice(), 0)
     } else {
         let addend = i64::try_from(f).map_err(|_| BuildError::TooLarge)?;
@@ -85,6 +86,9 @@ fn add_relocations(
         .push(of_code(places.code, R_RISCV_CALL_PLT, symbol, addend))?;
     if let Some(data) = places.data {
         file.relocations.push(of_section(b".data", data.addr, R_RISCV_64, symbol, addend))?;
+    }
+    if extra == Extra::HalvedPointer {
+        file.relocations.push(of_section(b".halves", HALVES.addr, R_RISCV_64, symbol, addend))?;
     }
     Ok(())
 }
@@ -144,12 +148,12 @@ pub fn build(alloc: Global, shape: &Shape) -> Result<Vec<u8>, BuildError> {
         add_copied(&mut file, &places, &symbols, &relocations)?;
     }
     add_segments(&mut file, &places, &code, &pointer)?;
-    add_extra(&mut file, extra, &places)?;
+    add_extra(&mut file, extra, &places, &pointer)?;
     if tables.has_symbols() && tables != Tables::Copied {
         add_symbols(&mut file, places.code)?;
     }
     if tables.has_relocations() && tables != Tables::Copied {
-        add_relocations(&mut file, &places, tables.has_symbols())?;
+        add_relocations(&mut file, shape)?;
     }
     let mut bytes = file.build(alloc)?;
     if tables == Tables::NoNames {

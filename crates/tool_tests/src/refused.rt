@@ -80,8 +80,8 @@ like exit7
 - code .text 10078 auipc a0,0; addi a0,a0,7; exit => 221 BareAuipc 10078 0 0 refused 16 BareAuipc at 10078/
 - code .text 10078 jal zero,2; addi a0,a0,7; exit => 221 BadTarget 10078 0 0 refused 17 BadTarget at 10078/";
 
-// The unwind table of a loop: a CIE, an FDE for its 24 bytes with DW_CFA_advance_loc 8 and DW_CFA_def_cfa_offset 16, and the end.
-// The second one names an exception table at 10000.
+// The unwind table of a loop: a CIE, an FDE for its 24 bytes with DW_CFA_advance_loc 8 and DW_CFA_def_cfa_offset 16,
+// and the end. The last one names an exception table at 10000.
 const FRAMES: &str = "\
 # Another version of a CIE.
 like countdown
