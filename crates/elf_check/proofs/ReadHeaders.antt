@@ -1,21 +1,15 @@
 -- The program headers that follow from what was read of a written file are those that it must have.
 use Rattle.std.proofs.Common.{◌≡◌, ◌∙◌, sym, subst, ℕ, List, Option, Some, String, Vec, length}
-use Rattle.std.specs.Prelude.{IfSome, codes, map, position, unwrap_or}
+use Rattle.std.specs.Prelude.{IfSome, codes, map, unwrap_or}
 use Rattle.elf_image.specs.declared.elf.Elf.{Elf}
 use Rattle.elf_image.specs.declared.segment.Segment.{Segment}
 use Rattle.elf_image.specs.memory.CodeSegment.{executable_segment}
-use Rattle.elf_plan.specs.declared.area.Area.{Area}
-use Rattle.elf_plan.specs.declared.area.Shift.{Shift}
-use Rattle.elf_plan.specs.declared.sections.Contents.{Contents}
-use Rattle.elf_plan.specs.declared.sections.Sections.{Sections}
 use Rattle.elf_plan.specs.declared.segments.Places.{Places}
-use Rattle.elf_plan.specs.Contents.{contents_by, contents_of, is_at, own_contents}
+use Rattle.elf_plan.specs.Contents.{contents_of}
 use Rattle.elf_plan.specs.HeaderPlaces.{ArePlaced, HasNewHeaders, Outline, outline_of}
 use Rattle.elf_plan.specs.Homes.{AreContents}
-use Rattle.elf_plan.specs.KnownSections.{Knows}
 use Rattle.elf_plan.specs.PlacedHeaders.{AreMade, outline}
 use Rattle.elf_plan.specs.TableSizes.{table_size}
-use Rattle.elf_plan.proofs.KnownContents.{contents-known}
 
 pub headers-read : {Y Z : Type 0} (tables : List (String Y × Vec ℕ Z)) (new : Elf) (places : Places) (code : ℕ) (p : Segment) →
     executable_segment places.elf.now.segments.items ≡ Some (code, p) →
@@ -42,17 +36,3 @@ headers-read tables new places code p found contents offsets table_at index_size
     (sym found)
     (subst (λ (o : Outline). Placed (map (λ n. n.offset) new.sections.items) o code) same
     (subst (λ (xs : List ℕ). Placed xs (outline places) code) offsets here))
-
--- where the contents of sections are, by what is known of these
-pub contents-known-each : {Y Z : Type 0} (elf : Elf) (tables : List (String Y
-    × Vec ℕ Z)) (area : Area) (shift : Shift) (known : Sections) (found : List Contents) →
-    Knows elf tables area shift known → known.elf.now ≡ elf →
-    AreContents (λ i s. contents_by known.own.section_names known.own.symbols known.own.symbol_names
-    (position (is_at i) known.replaced.now) (own_contents elf.segments.items area shift s) i s)
-    known.elf.now.sections.items found →
-    AreContents (contents_of elf tables area shift) elf.sections.items found
-contents-known-each elf tables area shift known found knows same are =
-    subst (λ (e : Elf). AreContents (contents_of elf tables area shift) e.sections.items found) same (record {
-      count = are.count;
-      each = λ i s c is_s is_c. are.each i s c is_s is_c ∙ contents-known elf tables area shift known i s knows;
-    })

@@ -1,3 +1,4 @@
+pub mod ArrangedTables
 pub mod EntryNames
 pub mod NewNames
 pub mod NewSymbols

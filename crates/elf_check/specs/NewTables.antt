@@ -1,23 +1,16 @@
 -- The sections, the program headers, the names, the symbols and the layout of a written file, as they are read of it.
-use Rattle.std.specs.Prelude.{ℕ, List, Bool, String, Vec, codes, length}
+use Rattle.std.specs.Prelude.{ℕ, List, Bool, String, Vec}
 use Rattle.addr_map.specs.declared.span.Span.{Span}
 use Rattle.elf_image.specs.declared.elf.Elf.{Elf}
 use Rattle.elf_image.specs.file.ParsedFile.{IsElfOf}
 use Rattle.rv_code.specs.declared.placed.Func.{Func}
-use Rattle.elf_plan.specs.declared.area.Area.{Area}
-use Rattle.elf_plan.specs.Area.{area_of, shift_of}
+use Rattle.elf_plan.specs.Area.{shift_of}
 use Rattle.elf_plan.specs.FileLayout.{HasFileLayout}
 use Rattle.elf_plan.specs.HeaderPlaces.{HasNewHeaders}
 use Rattle.elf_check.specs.NewNames.{HaveNewNames}
+pub use Rattle.elf_plan.specs.NewAreas.{area_for}
 use Rattle.elf_plan.specs.NewSections.{AreNewSections}
 use Rattle.elf_check.specs.NewSymbols.{HaveNewSymbols}
-use Rattle.elf_plan.specs.TableSizes.{table_size}
-
--- the new area for some code and tables
-abbrev pub area_for : {Y Z : Type 0} → Elf → List (String Y × Vec ℕ Z) → List ℕ → Bool → Area
-area_for elf tables code tight =
-    area_of elf.segments.items tight (length code) (table_size tables (codes ".eh_frame"))
-    (table_size tables (codes ".eh_frame_hdr"))
 
 -- What is read of the file w has the sections, program headers, names, symbols and layout that follow from the input,
 -- the tables that are given, the new code, the functions, their cold parts and the map.

@@ -1,7 +1,7 @@
 // Whether the program headers of a file that was written are what they must be. gABI, "Program Header".
 ghost use Rattle.std.specs.Prelude.{◌≡◌, IfOk, IsTrue, map};
 ghost use Rattle.elf_plan.specs.HeaderPlaces.{HasNewHeaders};
-ghost use Rattle.elf_plan.specs.KnownSections.{Knows};
+ghost use Rattle.elf_check.specs.ArrangedTables.{IsArranged};
 ghost use Rattle.elf_plan.specs.PlacedHeaders.{AreMade};
 
 use crate::section_tables::SectionTables;
@@ -9,7 +9,6 @@ use elf_image::code_segment::executable_segment;
 use elf_image::named::EH_FRAME_HDR;
 use elf_image::{Section, Segment};
 use elf_plan::given_tables::table_size;
-use elf_plan::sections::Sections;
 use elf_plan::segments::Places;
 use elf_plan::unwritable::Unwritable;
 use rb_bytes::fault::NoMemory;
@@ -50,25 +49,20 @@ fn has_made(
 }
 
 /// Whether the program headers are those that the file must have.
-pub fn has_headers(
-    alloc: Global,
-    tables: &SectionTables,
-    known: &Sections,
-) -> Result<bool, Unwritable>
-    requires { Knows tables.now.elf.now tables.now.tables.now tables.now.area tables.now.shift known.now }
+pub fn has_headers(alloc: Global, tables: &SectionTables) -> Result<bool, Unwritable>
+    requires { IsArranged tables.now }
     ensures { IfOk result (λ holds. IsTrue holds →
         HasNewHeaders tables.now.elf.now tables.now.new.now tables.now.tables.now tables.now.area tables.now.shift) }
 {
     let segments = tables.elf.segments.as_slice();
     let (code, _) = executable_segment(segments).ok_or(Unwritable::Layout)?;
-    let contents = known.contents(alloc)?;
     let sections_at = offsets_of(alloc, &tables.new.sections)?;
     let places = Places {
         elf: tables.elf,
         area: tables.area,
         shift: tables.shift,
         table_at: tables.new.phoff,
-        contents: &contents,
+        contents: tables.contents,
         sections_at: &sections_at,
         index_size: table_size(tables.tables, EH_FRAME_HDR).unwrap_or(0) as u64,
         file_size: tables.new.file.len() as u64,

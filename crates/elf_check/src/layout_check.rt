@@ -4,7 +4,7 @@ ghost use Rattle.std.specs.Prelude.{◌≡◌, ◌+◌, ◌*◌, ◌++◌, ◌�
 ghost use Rattle.elf_image.specs.file.Header.{e_shoff};
 ghost use Rattle.elf_image.specs.memory.Break.{rounded_up};
 ghost use Rattle.elf_plan.specs.FileLayout as spec;
-ghost use Rattle.elf_plan.specs.KnownSections.{Knows};
+ghost use Rattle.elf_check.specs.ArrangedTables.{IsArranged};
 
 use crate::section_tables::SectionTables;
 use elf_image::header::{E_ENTRY, E_FLAGS, E_PHNUM, E_SHENTSIZE, E_SHNUM, Header};
@@ -14,9 +14,7 @@ use elf_image::{Elf, Section, Segment};
 use elf_plan::area::{Area, Shift, loads_end, lowest_behind};
 use elf_plan::header_table::is_kept_table;
 use elf_plan::round::{checked_rounded_up, sum};
-use elf_plan::sections::Sections;
 use elf_plan::unwritable::Unwritable;
-use std::alloc::Global;
 
 // Whether the fields of the header that aren't written are those of the input.
 fn keeps_header_fields(old: Header, new: Header) -> bool
@@ -125,12 +123,8 @@ fn ends_with_headers(new: Header, sections: &[Section], end: u64) -> Result<bool
 }
 
 /// Whether the written file is laid out so.
-pub fn is_laid_out(
-    alloc: Global,
-    tables: &SectionTables,
-    known: &Sections,
-) -> Result<bool, Unwritable>
-    requires { Knows tables.now.elf.now tables.now.tables.now tables.now.area tables.now.shift known.now }
+pub fn is_laid_out(tables: &SectionTables) -> Result<bool, Unwritable>
+    requires { IsArranged tables.now }
     ensures { IfOk result (λ holds. IsTrue holds →
         spec.HasFileLayout tables.now.elf.now tables.now.new.now tables.now.tables.now tables.now.area tables.now.shift) }
 {
@@ -143,8 +137,7 @@ pub fn is_laid_out(
     if header.fields().phoff != table_place(elf, &tables.area, &tables.shift)? {
         return Ok(false);
     }
-    let order = known.order(alloc)?;
     let start = contents_start(elf, &tables.area, &tables.shift)?;
-    let end = end_of_all(&new.sections, start, &order, tables.adds_ranges())?;
+    let end = end_of_all(&new.sections, start, tables.order, tables.adds_ranges())?;
     ends_with_headers(header, &new.sections, end)
 }

@@ -5,17 +5,17 @@ ghost use Rattle.rv_code.specs.layout.FunctionLists.{AreLaidOut};
 ghost use Rattle.elf_image.specs.faults.FileFaults.{IsSound};
 ghost use Rattle.elf_image.specs.file.Header.{e_shstrndx};
 ghost use Rattle.elf_plan.specs.FragmentLists.{AreFragments};
-ghost use Rattle.elf_plan.specs.Area.{shift_of};
 ghost use Rattle.elf_plan.specs.AreaStands.{AreaStands};
 ghost use Rattle.elf_check.specs.EntryNames.{WasRead};
 ghost use Rattle.elf_plan.specs.FileLayout.{HasFileLayout};
 ghost use Rattle.elf_plan.specs.HeaderPlaces.{HasNewHeaders};
-ghost use Rattle.elf_plan.specs.KnownSections.{Knows};
 ghost use Rattle.elf_plan.specs.NameTables as spec;
 ghost use Rattle.elf_check.specs.NewNames.{HaveNewNames};
 ghost use Rattle.elf_plan.specs.NewSections.{AreNewSections};
+ghost use Rattle.elf_plan.specs.Plans.{IsPlanOf};
 ghost use Rattle.elf_check.specs.NewSymbols.{AreNewSymbols, HaveNewSymbols, bytes_behind};
-ghost use Rattle.elf_check.specs.NewTables.{HasNewTables, area_for};
+ghost use Rattle.elf_check.specs.ArrangedTables.{IsArranged};
+ghost use Rattle.elf_check.specs.NewTables.{HasNewTables};
 
 use crate::entry_names::KeptNames;
 use crate::header_check::has_headers;
@@ -24,59 +24,35 @@ use crate::name_check::has_names;
 use crate::section_tables::SectionTables;
 use crate::symbol_check::CodeSymbols;
 use crate::symbol_tables::SymbolTables;
-use elf_image::code_segment::executable_segment;
-use elf_image::named::{EH_FRAME, EH_FRAME_HDR};
 use elf_image::symbol::SYM_SIZE;
 use elf_image::{Elf, Section, Symbol, read};
-use elf_plan::area::{Area, Shift, area_of};
-use elf_plan::given_tables::{Table, table_size};
-use elf_plan::kept_bytes::KeptBytes;
-use elf_plan::name_tables::{OwnSections, place_of_symbols, symbols_section};
+use elf_plan::name_tables::{place_of_symbols, symbols_section};
+use elf_plan::plan::Plan;
 use elf_plan::section_bytes::bytes_of;
-use elf_plan::sections::{Sections, replaced_by};
 use elf_plan::source::SectionSource;
 use elf_plan::unwritable::Unwritable;
 use rb_bytes::fault::Refusal;
 use std::alloc::Global;
 
-// The new area for some code and tables, and how bytes move to make room for it.
-fn area_for(
-    elf: &Elf,
-    tables: &[Table],
-    code: &[u8],
-    tight: bool,
-) -> Result<(Area, Shift), Unwritable>
-    ensures area { IfOk result (λ r. r.0 ≡ area_for elf.now tables.now code.now tight) }
-    ensures shift { IfOk result (λ r. r.1 ≡ shift_of elf.now.segments.items r.0) }
-{
-    let segments = elf.segments.as_slice();
-    let (_, executable) = executable_segment(segments).ok_or(Unwritable::Layout)?;
-    let frames = table_size(tables, EH_FRAME);
-    let header = table_size(tables, EH_FRAME_HDR);
-    let area = area_of(segments, &executable, tight, code.len(), frames, header)?;
-    let shift = Shift::new(segments, &executable, &area)?;
-    Ok((area, shift))
-}
-
 // Whether the layout and the program headers are those that the file must have.
-fn has_places(alloc: Global, tables: &SectionTables, known: &Sections) -> Result<bool, Unwritable>
-    requires { Knows tables.now.elf.now tables.now.tables.now tables.now.area tables.now.shift known.now }
+fn has_places(alloc: Global, tables: &SectionTables) -> Result<bool, Unwritable>
+    requires { IsArranged tables.now }
     ensures layout { IfOk result (λ holds. IsTrue holds →
         HasFileLayout tables.now.elf.now tables.now.new.now tables.now.tables.now tables.now.area tables.now.shift) }
     ensures headers { IfOk result (λ holds. IsTrue holds →
         HasNewHeaders tables.now.elf.now tables.now.new.now tables.now.tables.now tables.now.area tables.now.shift) }
 {
-    if !is_laid_out(alloc, tables, known)? {
+    if !is_laid_out(tables)? {
         return Ok(false);
     }
-    has_headers(alloc, tables, known)
+    has_headers(alloc, tables)
 }
 
 // Whether the sections are those that the file must have.
-fn has_new_sections(tables: &SectionTables, known: &Sections) -> bool
+fn has_new_sections(tables: &SectionTables) -> bool
     requires old { WasRead tables.now.elf.now }
     requires new { WasRead tables.now.new.now }
-    requires known { Knows tables.now.elf.now tables.now.tables.now tables.now.area tables.now.shift known.now }
+    requires arranged { IsArranged tables.now }
     requires names { e_shstrndx tables.now.new.now.file.now ≡ e_shstrndx tables.now.elf.now.file.now }
     ensures { IsTrue result →
         AreaStands tables.now.area tables.now.tables.now tables.now.code.now tables.now.new.now.file.now →
@@ -84,13 +60,14 @@ fn has_new_sections(tables: &SectionTables, known: &Sections) -> bool
         tables.now.code.now }
 {
     let names = KeptNames::of_sections(tables.elf, tables.new);
-    tables.are_new(known, &names)
+    tables.are_new(&names)
 }
 
 // Whether the sections, their layout and the program headers are those that the file must have.
 fn has_sections(alloc: Global, tables: &SectionTables) -> Result<bool, Unwritable>
     requires old { WasRead tables.now.elf.now }
     requires new { WasRead tables.now.new.now }
+    requires arranged { IsArranged tables.now }
     requires names { e_shstrndx tables.now.new.now.file.now ≡ e_shstrndx tables.now.elf.now.file.now }
     ensures sections { IfOk result (λ holds. IsTrue holds →
         AreaStands tables.now.area tables.now.tables.now tables.now.code.now tables.now.new.now.file.now →
@@ -101,20 +78,10 @@ fn has_sections(alloc: Global, tables: &SectionTables) -> Result<bool, Unwritabl
     ensures headers { IfOk result (λ holds. IsTrue holds →
         HasNewHeaders tables.now.elf.now tables.now.new.now tables.now.tables.now tables.now.area tables.now.shift) }
 {
-    let elf = tables.elf;
-    let own = OwnSections::new(elf)?;
-    let replaced = replaced_by(alloc, &elf.sections, tables.tables)?;
-    let kept = KeptBytes::new(alloc, &elf.segments, &tables.area, &tables.shift)?;
-    let known = Sections {
-        elf,
-        own,
-        replaced: &replaced,
-        kept: &kept,
-    };
-    if !has_new_sections(tables, &known) {
+    if !has_new_sections(tables) {
         return Ok(false);
     }
-    has_places(alloc, tables, &known)
+    has_places(alloc, tables)
 }
 
 // What stands in a table behind its last whole symbol.
@@ -234,42 +201,37 @@ fn has_new_tables(
     alloc: Global,
     source: &SectionSource,
     code: &[u8],
-    tight: bool,
+    plan: &Plan,
     new: &Elf,
 ) -> Result<bool, Unwritable>
     requires old { WasRead source.now.elf.now }
     requires new { WasRead new.now }
+    requires plan { IsPlanOf source.now.elf.now source.now.tables.now code.now plan.now.area.tight plan.now }
     requires names { e_shstrndx new.now.file.now ≡ e_shstrndx source.now.elf.now.file.now }
     requires laid_out { AreLaidOut source.now.funcs.now }
     requires fragments { AreFragments source.now.funcs.now source.now.map.now source.now.fragments.now }
     ensures sections { IfOk result (λ holds. IsTrue holds →
-        AreaStands (area_for source.now.elf.now source.now.tables.now code.now tight) source.now.tables.now code.now
-        new.now.file.now →
+        AreaStands plan.now.area source.now.tables.now code.now new.now.file.now →
         AreNewSections source.now.elf.now new.now source.now.tables.now
-        (area_for source.now.elf.now source.now.tables.now code.now tight)
-        (shift_of source.now.elf.now.segments.items
-        (area_for source.now.elf.now source.now.tables.now code.now tight)) code.now) }
+        plan.now.area plan.now.shift code.now) }
     ensures headers { IfOk result (λ holds. IsTrue holds → HasNewHeaders source.now.elf.now new.now source.now.tables.now
-        (area_for source.now.elf.now source.now.tables.now code.now tight)
-        (shift_of source.now.elf.now.segments.items
-        (area_for source.now.elf.now source.now.tables.now code.now tight))) }
+        plan.now.area plan.now.shift) }
     ensures names { IfOk result (λ holds. IsTrue holds → HaveNewNames source.now.elf.now new.now source.now.tables.now
-        (area_for source.now.elf.now source.now.tables.now code.now tight) source.now.funcs.now source.now.cold.now) }
+        plan.now.area source.now.funcs.now source.now.cold.now) }
     ensures symbols { IfOk result (λ holds. IsTrue holds →
         HaveNewSymbols source.now.elf.now new.now source.now.funcs.now source.now.map.now source.now.cold.now) }
     ensures layout { IfOk result (λ holds. IsTrue holds →
         HasFileLayout source.now.elf.now new.now source.now.tables.now
-        (area_for source.now.elf.now source.now.tables.now code.now tight)
-        (shift_of source.now.elf.now.segments.items
-        (area_for source.now.elf.now source.now.tables.now code.now tight))) }
+        plan.now.area plan.now.shift) }
 {
-    let (area, shift) = area_for(source.elf, source.tables, code, tight)?;
     let tables = SectionTables {
         elf: source.elf,
         new,
         tables: source.tables,
-        area,
-        shift,
+        area: plan.area,
+        shift: plan.shift,
+        contents: &plan.contents,
+        order: &plan.order,
         code,
     };
     if !has_sections(alloc, &tables)? {
@@ -284,21 +246,22 @@ pub fn is_accepted(
     alloc: Global,
     source: &SectionSource,
     code: &[u8],
-    tight: bool,
+    plan: &Plan,
     file: &[u8],
 ) -> Result<bool, Unwritable>
     requires old { WasRead source.now.elf.now }
+    requires plan { IsPlanOf source.now.elf.now source.now.tables.now code.now plan.now.area.tight plan.now }
     requires names { e_shstrndx file.now ≡ e_shstrndx source.now.elf.now.file.now }
     requires laid_out { AreLaidOut source.now.funcs.now }
     requires fragments { AreFragments source.now.funcs.now source.now.map.now source.now.fragments.now }
     ensures sound { IfOk result (λ holds. IsTrue holds → IsSound file.now) }
     ensures tables { IfOk result (λ holds. IsTrue holds →
-        AreaStands (area_for source.now.elf.now source.now.tables.now code.now tight) source.now.tables.now code.now file.now →
+        AreaStands plan.now.area source.now.tables.now code.now file.now →
         HasNewTables source.now.elf.now source.now.tables.now code.now source.now.funcs.now source.now.cold.now
-        source.now.map.now tight file.now) }
+        source.now.map.now plan.now.area.tight file.now) }
 {
     match read(alloc, file) {
-        Ok(found) => has_new_tables(alloc, source, code, tight, &found),
+        Ok(found) => has_new_tables(alloc, source, code, plan, &found),
         Err(Refusal::Fault(_)) => Ok(false),
         Err(Refusal::Memory) => Err(Unwritable::Memory),
     }

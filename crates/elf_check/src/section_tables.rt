@@ -9,7 +9,7 @@ use elf_image::section::{SHF_ALLOC, SHF_EXECINSTR};
 use elf_image::{Elf, Section};
 use elf_plan::area::{Area, Shift};
 use elf_plan::given_tables::{DEBUG_RNGLISTS, Table, bytes_called, table_called};
-use elf_plan::sections::{Contents, Sections};
+use elf_plan::sections::Contents;
 
 fn one_if(test: bool) -> usize
     ensures { result ≡ flag test }
@@ -25,6 +25,9 @@ pub struct SectionTables<'a> {
     pub tables: &'a [Table],
     pub area: Area,
     pub shift: Shift,
+    /// Where the contents of each of the input's sections are, and the order of those that are written.
+    pub contents: &'a [Contents],
+    pub order: &'a [(u64, usize)],
     /// The bytes of the new code.
     pub code: &'a [u8],
 }
@@ -38,30 +41,23 @@ impl<'a> SectionTables<'a> {
     ghost use Rattle.elf_plan.specs.AreaStands.{AreaStands};
     ghost use Rattle.elf_plan.specs.Contents.{contents_of};
     ghost use Rattle.elf_check.specs.EntryNames.{AreNamed, name_of};
-    ghost use Rattle.elf_plan.specs.KnownSections.{Knows};
+    ghost use Rattle.elf_check.specs.ArrangedTables.{IsArranged};
     ghost use Rattle.elf_plan.specs.NewSections.{AreNewSections, At, Follows, IsAdded, IsInArea, adds_ranges};
     ghost use Rattle.elf_plan.specs.NewSections.{bytes_called};
     ghost use Rattle.elf_plan.specs.OldNames.{new_name};
     ghost use Rattle.rv_code.specs.isa.Op.{flag};
 
-    // Where the contents of a section of the input are, which has an index.
-    fn contents_of(&self, known: &Sections, index: usize, s: &Section) -> Contents
-        requires { Knows self.now.elf.now self.now.tables.now self.now.area self.now.shift known.now }
-        ensures { result ≡ contents_of self.now.elf.now self.now.tables.now self.now.area self.now.shift index s.now }
-    {
-        known.contents_of(index, s)
-    }
-
-    // Whether a section is what one of the input becomes, which has an index.
+    // Whether a section is what one of the input becomes, which has an index, by where its contents are.
     fn becomes(
         &self,
-        known: &Sections,
+        contents: Contents,
         names: &KeptNames,
         index: usize,
         s: &Section,
         n: &Section,
     ) -> bool
-        requires known { Knows self.now.elf.now self.now.tables.now self.now.area self.now.shift known.now }
+        requires contents { contents ≡
+            contents_of self.now.elf.now self.now.tables.now self.now.area self.now.shift index s.now }
         requires old { s.now.name.now ≡ name_of names.now.old index }
         requires new { n.now.name.now ≡ name_of names.now.new index }
         ensures called { IsTrue result → n.now.name.now ≡ new_name s.now }
@@ -75,12 +71,12 @@ impl<'a> SectionTables<'a> {
             tables: self.tables,
             shift: self.shift,
         };
-        has_new_name(names, index, s, n) && files.follows(self.contents_of(known, index, s), s, n)
+        has_new_name(names, index, s, n) && files.follows(contents, s, n)
     }
 
     // Whether the section of an index is what that of the input becomes.
-    fn follows(&self, known: &Sections, names: &KeptNames, index: usize) -> bool
-        requires known { Knows self.now.elf.now self.now.tables.now self.now.area self.now.shift known.now }
+    fn follows(&self, names: &KeptNames, index: usize) -> bool
+        requires arranged { IsArranged self.now }
         requires old { AreNamed (λ s. s.name.now) names.now.old 0 self.now.elf.now.sections.items }
         requires new { AreNamed (λ s. s.name.now) names.now.new 0 self.now.new.now.sections.items }
         ensures called { IsTrue result → (s n : Section) → slice_get self.now.elf.now.sections.items index ≡ Some s →
@@ -90,14 +86,17 @@ impl<'a> SectionTables<'a> {
             Follows self.now.tables.now self.now.shift self.now.elf.now.file.now self.now.new.now.file.now
             (contents_of self.now.elf.now self.now.tables.now self.now.area self.now.shift index s) s n }
     {
+        let Some(contents) = self.contents.get(index) else {
+            return false;
+        };
         match (self.elf.sections.get(index), self.new.sections.get(index)) {
-            (Some(s), Some(n)) => self.becomes(known, names, index, s, n),
+            (Some(s), Some(n)) => self.becomes(*contents, names, index, s, n),
             _ => false,
         }
     }
 
-    fn all_follow(&self, known: &Sections, names: &KeptNames) -> bool
-        requires known { Knows self.now.elf.now self.now.tables.now self.now.area self.now.shift known.now }
+    fn all_follow(&self, names: &KeptNames) -> bool
+        requires arranged { IsArranged self.now }
         requires old { AreNamed (λ s. s.name.now) names.now.old 0 self.now.elf.now.sections.items }
         requires new { AreNamed (λ s. s.name.now) names.now.new 0 self.now.new.now.sections.items }
         ensures called { IsTrue result → (i : ℕ) (s n : Section) → slice_get self.now.elf.now.sections.items i ≡ Some s →
@@ -108,7 +107,7 @@ impl<'a> SectionTables<'a> {
             (contents_of self.now.elf.now self.now.tables.now self.now.area self.now.shift i s) s n }
     {
         for i in 0..self.elf.sections.len() {
-            if !self.follows(known, names, i) {
+            if !self.follows(names, i) {
                 return false;
             }
         }
@@ -225,8 +224,8 @@ impl<'a> SectionTables<'a> {
     }
 
     /// Whether the sections are those that the file must have.
-    pub fn are_new(&self, known: &Sections, names: &KeptNames) -> bool
-        requires known { Knows self.now.elf.now self.now.tables.now self.now.area self.now.shift known.now }
+    pub fn are_new(&self, names: &KeptNames) -> bool
+        requires arranged { IsArranged self.now }
         requires old { AreNamed (λ s. s.name.now) names.now.old 0 self.now.elf.now.sections.items }
         requires new { AreNamed (λ s. s.name.now) names.now.new 0 self.now.new.now.sections.items }
         requires names { e_shstrndx self.now.new.now.file.now ≡ e_shstrndx self.now.elf.now.file.now }
@@ -239,7 +238,7 @@ impl<'a> SectionTables<'a> {
         if !self.has_count() {
             return false;
         }
-        if !self.all_follow(known, names) {
+        if !self.all_follow(names) {
             return false;
         }
         if !self.has_text(count) {

@@ -11,11 +11,10 @@ use crate::placing::parts_of;
 use crate::tail::limited;
 use addr_map::AddrMap;
 use elf_image::Elf;
-use elf_image::code_segment::executable_segment;
-use elf_image::named::{EH_FRAME, EH_FRAME_HDR};
 use elf_parts::Parts;
-use elf_plan::area::{Area, Shift, area_of};
-use elf_plan::given_tables::{Table, table_size};
+use elf_plan::area::{Area, Shift};
+use elf_plan::given_tables::Table;
+use elf_plan::plan::Plan;
 use elf_plan::round::sum;
 use elf_plan::unwritable::Unwritable;
 use file_room::area_start_of;
@@ -37,31 +36,29 @@ impl Layout {
     ghost use Rattle.std.specs.Prelude.{◌≡◌, ◌≤◌, IfOk, codes};
     ghost use Rattle.elf_parts.specs.Parts.{size_of};
     ghost use Rattle.elf_make.specs.AreaTables.{HoldsTables};
+    ghost use Rattle.elf_plan.specs.Plans.{IsPlanOf};
     ghost use Rattle.elf_plan.specs.TableSizes as spec;
     ghost use Rattle.elf_make.specs.FileParts.{IsLaidOut};
 
-    /// The loaded part of a file with this new code and these tables.
+    /// The loaded part of a file that is planned with this new code and these tables.
     pub fn new(
         alloc: Global,
         elf: &Elf,
-        tight: bool,
+        plan: &Plan,
         code: &[u8],
         tables: &[Table],
     ) -> Result<Layout, Unwritable>
-        ensures laid_out { IfOk result (IsLaidOut elf.now tight code.now (spec.table_size tables.now (codes ".eh_frame"))
+        requires { IsPlanOf elf.now tables.now code.now plan.now.area.tight plan.now }
+        ensures laid_out { IfOk result (IsLaidOut elf.now plan.now.area.tight code.now (spec.table_size tables.now (codes ".eh_frame"))
             (spec.table_size tables.now (codes ".eh_frame_hdr"))) }
         ensures tables { IfOk result (HoldsTables tables.now) }
     {
         let segments = elf.segments.as_slice();
-        let (index, executable) = executable_segment(segments).ok_or(Unwritable::Layout)?;
-        let frames = table_size(tables, EH_FRAME);
-        let header = table_size(tables, EH_FRAME_HDR);
-        let area = area_of(segments, &executable, tight, code.len(), frames, header)?;
-        let shift = Shift::new(segments, &executable, &area)?;
+        let (area, shift) = (plan.area, plan.shift);
         let bytes = area_bytes(alloc, &area, code, tables)?;
         let parts = parts_of(segments, &area, &shift, elf.file.len(), bytes.len())?;
         Ok(Layout {
-            code: index,
+            code: plan.code,
             area,
             shift,
             parts,

@@ -6,6 +6,7 @@ ghost use Rattle.elf_image.specs.file.ParsedFile.{IsElfOf};
 ghost use Rattle.addr_map.specs.Spans.{moved};
 ghost use Rattle.elf_parts.specs.Parts.{PartsFit, size_of};
 ghost use Rattle.rv_code.specs.layout.FunctionLists.{AreLaidOut};
+ghost use Rattle.elf_plan.specs.Plans.{IsPlanOf};
 ghost use Rattle.elf_make.specs.AreaTables.{IsMadeWith};
 ghost use Rattle.elf_make.specs.CellNumbers.{in_pieces};
 ghost use Rattle.elf_make.specs.FileParts.{IsPut};
@@ -24,6 +25,7 @@ use elf_image::{Elf, SectionHeader, Segment};
 use elf_parts::spell::put_segments;
 use elf_parts::{NumberAt, assemble};
 use elf_plan::given_tables::table_size;
+use elf_plan::plan::Plan;
 use elf_plan::segments::Places;
 use elf_plan::source::SectionSource;
 use elf_plan::unwritable::Unwritable;
@@ -104,13 +106,15 @@ fn fields_of(
     })
 }
 
-/// The file with its new area in one of the two places.
+/// The file that is planned, with this new code and these contents of code cells.
 pub fn made(
     alloc: Global,
     source: &SectionSource,
     emitted: &Emitted,
-    tight: bool,
+    plan: &Plan,
 ) -> Result<Vec<u8>, Unwritable>
+    requires plan { IsPlanOf source.now.elf.now source.now.tables.now emitted.now.code.items
+        plan.now.area.tight plan.now }
     requires readable { IsReadable source.now.elf.now.file.now }
     requires read { IsElfOf source.now.elf.now.file.now source.now.elf.now }
     requires sound { IsSound source.now.elf.now.file.now }
@@ -118,20 +122,20 @@ pub fn made(
     requires cells { All (CanHold source.now.elf.now) emitted.now.cells.items }
     ensures { IfOk result (λ w. IsMadeWith
         (in_pieces (source_of source.now.elf.now emitted.now source.now.map.now source.now.tables.now))
-        source.now.tables.now tight w.items) }
+        source.now.tables.now plan.now.area.tight w.items) }
 {
     let elf = source.elf;
-    let layout = Layout::new(alloc, elf, tight, &emitted.code, source.tables)?;
+    let layout = Layout::new(alloc, elf, plan, &emitted.code, source.tables)?;
     let mut tail = Tail::new(alloc, layout.end()?);
     let table_at = table_place(elf, &layout.area, &layout.shift, &mut tail)?;
-    let sections = put(alloc, source, &layout, &mut tail)?;
+    let sections = put(alloc, source, plan, &mut tail)?;
     let sections_at = places_of(alloc, &sections.headers)?;
     let places = Places {
         elf,
         area: layout.area,
         shift: layout.shift,
         table_at,
-        contents: &sections.contents,
+        contents: &plan.contents,
         sections_at: &sections_at,
         index_size: table_size(source.tables, EH_FRAME_HDR).unwrap_or(0) as u64,
         file_size: tail.end()?,

@@ -3,11 +3,11 @@ ghost use Rattle.std.specs.Prelude.{◌≡◌, IfOk};
 ghost use Rattle.rv_code.specs.layout.FunctionLists.{AreLaidOut};
 ghost use Rattle.elf_image.specs.faults.Truncation.{IsReadable};
 ghost use Rattle.elf_image.specs.file.Header.{e_shstrndx};
+ghost use Rattle.elf_plan.specs.KnownSections.{IsOwnOf};
 
 use crate::headers::{
     NewContents, area_headers, contents_end, old_headers, place_contents, set_contents,
 };
-use crate::layout::Layout;
 use crate::names::NameTable;
 use crate::symbols::{NewCode, cold_symbols, local_count, symbol_table};
 use crate::tail::{Tail, limited};
@@ -16,11 +16,11 @@ use elf_image::{Elf, Section, SectionHeader};
 use elf_parts::spell::{SymbolEntry, put_sections};
 use elf_plan::area::Shift;
 use elf_plan::given_tables::{DEBUG_RNGLISTS, Table, table_called};
-use elf_plan::kept_bytes::KeptBytes;
 use elf_plan::name_tables::OwnSections;
+use elf_plan::plan::Plan;
 use elf_plan::round::sum;
 use elf_plan::section_bytes::bytes_of;
-use elf_plan::sections::{Contents, Sections, index_called, replaced_by};
+use elf_plan::sections::{Contents, index_called};
 use elf_plan::source::SectionSource;
 use elf_plan::unwritable::Unwritable;
 use elf_plan::weights::name_weight;
@@ -35,8 +35,6 @@ const MOST_COPIES: u64 = 16;
 pub struct NewSections {
     /// The headers of all sections.
     pub headers: Vec<SectionHeader>,
-    /// Where the contents of each of the input's sections are.
-    pub contents: Vec<Contents>,
     /// The index of the section with the names of sections.
     pub names: usize,
     /// Where the table of headers stands.
@@ -155,24 +153,6 @@ fn new_symbols(
     symbol_table(alloc, source.elf, section, &code, &added)
 }
 
-// Where the contents of the input's sections are, and the order of those that are written.
-fn old_contents(
-    alloc: Global,
-    source: &SectionSource,
-    own: OwnSections,
-    layout: &Layout,
-) -> Result<(Vec<Contents>, Vec<(u64, usize)>), Unwritable> {
-    let replaced = replaced_by(alloc, &source.elf.sections, source.tables)?;
-    let kept = KeptBytes::new(alloc, &source.elf.segments, &layout.area, &layout.shift)?;
-    let sections = Sections {
-        elf: source.elf,
-        own,
-        replaced: &replaced,
-        kept: &kept,
-    };
-    Ok((sections.contents(alloc)?, sections.order(alloc)?))
-}
-
 // Before names are made and contents copied: whether they fit a file. Names may be ends of one text and many headers
 // name the same bytes, so what a small file asks for may grow with its square; such a file isn't written.
 fn check_sizes(
@@ -199,37 +179,43 @@ fn check_sizes(
 pub fn put(
     alloc: Global,
     source: &SectionSource,
-    layout: &Layout,
+    plan: &Plan,
     tail: &mut Tail,
 ) -> Result<NewSections, Unwritable>
+    requires own { IsOwnOf source.now.elf.now plan.now.own }
     requires readable { IsReadable source.now.elf.now.file.now }
     requires laid_out { AreLaidOut source.now.funcs.now }
     ensures names { IfOk result (λ new. new.names ≡ e_shstrndx source.now.elf.now.file.now) }
     ensures base { IfOk result (λ new. tail.new.base ≡ tail.old.base) }
 {
-    let own = OwnSections::new(source.elf)?;
-    let (contents, order) = old_contents(alloc, source, own, layout)?;
-    check_sizes(alloc, source, &contents)?;
-    let mut names = NewNames::new(alloc, source.elf, &own)?;
+    check_sizes(alloc, source, &plan.contents)?;
+    let mut names = NewNames::new(alloc, source.elf, &plan.own)?;
     let mut headers = old_headers(alloc, source.elf, &mut names.sections)?;
     let text = u16::try_from(headers.len()).map_err(|_| Unwritable::Layout)?;
-    area_headers(
-        &mut headers,
-        &layout.area,
-        source.tables,
-        &mut names.sections,
-    )?;
+    area_headers(&mut headers, &plan.area, source.tables, &mut names.sections)?;
     let ranges = added_ranges(source.elf, source.tables, &mut names.sections)?;
-    let symbols = new_symbols(alloc, source, &own, &mut names, &mut headers, text)?;
-    set_all_contents(&mut headers, &source.elf.sections, &contents, &layout.shift);
+    let symbols = new_symbols(alloc, source, &plan.own, &mut names, &mut headers, text)?;
+    set_all_contents(
+        &mut headers,
+        &source.elf.sections,
+        &plan.contents,
+        &plan.shift,
+    );
     let new = NewContents {
         section_names: names.sections.bytes(),
         symbols: &symbols,
         symbol_names: names.of_symbols(),
         tables: source.tables,
     };
-    contents_end(source.elf, &contents, &order, &new, tail.end()?)?;
-    place_contents(source.elf, &contents, &order, &new, &mut headers, tail)?;
+    contents_end(source.elf, &plan.contents, &plan.order, &new, tail.end()?)?;
+    place_contents(
+        source.elf,
+        &plan.contents,
+        &plan.order,
+        &new,
+        &mut headers,
+        tail,
+    )?;
     if let (Some(header), Some(table)) = (ranges, table_called(source.tables, DEBUG_RNGLISTS)) {
         headers.push(SectionHeader {
             offset: tail.add(1, &table.1)?,
@@ -240,8 +226,7 @@ pub fn put(
     let table_at = put_table(alloc, &mut headers, tail)?;
     Ok(NewSections {
         headers,
-        contents,
-        names: own.section_names,
+        names: plan.own.section_names,
         table_at,
     })
 }

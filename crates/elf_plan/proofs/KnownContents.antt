@@ -9,10 +9,17 @@ use Rattle.elf_image.specs.declared.segment.Segment.{Segment}
 use Rattle.elf_image.specs.file.Header.{e_shstrndx}
 use Rattle.elf_plan.specs.declared.area.Area.{Area}
 use Rattle.elf_plan.specs.declared.area.Shift.{Shift}
-use Rattle.elf_plan.specs.declared.sections.Sections.{Sections}
+use Rattle.elf_plan.specs.declared.kept_bytes.KeptBytes.{KeptBytes}
+use Rattle.elf_plan.specs.declared.name_tables.OwnSections.{OwnSections}
+use Rattle.elf_plan.specs.declared.sections.Contents.{Contents}
 use Rattle.elf_plan.specs.Contents.{contents_by, contents_of, is_at, own_contents, place_replaced, table_for}
 use Rattle.elf_plan.specs.KeptBytes.{Keeps}
-use Rattle.elf_plan.specs.KnownSections.{IsOwnOf, Knows}
+use Rattle.elf_plan.specs.FileLayout.{PassesAt, is_written}
+use Rattle.elf_plan.specs.Homes.{AreContents}
+use Rattle.elf_plan.specs.KnownSections.{IsOwnOf}
+use Rattle.elf_plan.specs.Plans.{Arranges}
+use Rattle.elf_plan.proofs.SectionOrder.{lists-same}
+use Rattle.rv_code.specs.layout.Lists.{ListsPairs}
 use Rattle.elf_plan.specs.NameTables.{place_of_symbols, place_of_names}
 
 position_or_len-map : {A B : Type 0} (p : B → Bool) (f : A → B) (xs : List A) →
@@ -33,32 +40,55 @@ position-map p f xs =
     ∙ ap (λ (l : ℕ). cond (nat_lt (position_or_len (λ x. p (f x)) xs) l) (Some (position_or_len (λ x. p (f x)) xs)) None)
     (length-map_same f xs)
 
-pub contents-known : {Y Z : Type 0} (elf : Elf) (tables : List (String Y
-    × Vec ℕ Z)) (area : Area) (shift : Shift) (known : Sections) (index : ℕ) (s : Section) →
-    Knows elf tables area shift known →
-    contents_by known.own.section_names known.own.symbols known.own.symbol_names (position (is_at index) known.replaced.now)
+pub contents-known : {Y Z : Type 0} (elf : Elf) (tables : List (String Y × Vec ℕ Z)) (area : Area) (shift : Shift)
+    (own : OwnSections) (replaced : List (Option ℕ)) (index : ℕ) (s : Section) → IsOwnOf elf own →
+    replaced ≡ map (λ t. place_replaced elf.sections.items (string_bytes t.0)) tables →
+    contents_by own.section_names own.symbols own.symbol_names (position (is_at index) replaced)
     (own_contents elf.segments.items area shift s) index s ≡ contents_of elf tables area shift index s
-contents-known elf tables area shift known index s knows =
-    let own = own_contents elf.segments.items area shift s in
-    let given = position (is_at index) known.replaced.now in
+contents-known elf tables area shift own replaced index s own_is replaced_is =
+    let here = own_contents elf.segments.items area shift s in
+    let given = position (is_at index) replaced in
     let same : given ≡ table_for tables elf.sections.items index =
-    ap (position (is_at index)) knows.replaced
+    ap (position (is_at index)) replaced_is
     ∙ position-map (is_at index) (λ t. place_replaced elf.sections.items (string_bytes t.0)) tables in
-    ap (λ (n : ℕ). contents_by n known.own.symbols known.own.symbol_names given own index s) knows.own.names
-    ∙ ap (λ (o : Option ℕ). contents_by (e_shstrndx elf.file.now) o known.own.symbol_names given own index s) knows.own.symbols
+    ap (λ (n : ℕ). contents_by n own.symbols own.symbol_names given here index s) own_is.names
+    ∙ ap (λ (o : Option ℕ). contents_by (e_shstrndx elf.file.now) o own.symbol_names given here index s) own_is.symbols
     ∙ ap (λ (o : Option ℕ). contents_by (e_shstrndx elf.file.now)
-    (place_of_symbols elf) o given own index s) knows.own.symbol_names
-    ∙ ap (λ (o : Option ℕ). contents_by (e_shstrndx elf.file.now) (place_of_symbols elf) (place_of_names elf) o own index s) same
+    (place_of_symbols elf) o given here index s) own_is.symbol_names
+    ∙ ap (λ (o : Option ℕ). contents_by (e_shstrndx elf.file.now) (place_of_symbols elf) (place_of_names elf) o here index s) same
 
--- what is known of lists that are those of the file
-pub knows : {Y Z : Type 0} (elf : Elf) (tables : List (String Y × Vec ℕ Z)) (area : Area) (shift : Shift) (known : Sections)
-    (sections : List Section) (segments : List Segment) → known.elf.now ≡ elf → IsOwnOf elf known.own →
-    sections ≡ elf.sections.items → segments ≡ elf.segments.items →
-    known.replaced.now ≡ map (λ t. place_replaced sections (string_bytes t.0)) tables →
-    Keeps segments area shift known.kept.now → Knows elf tables area shift known
-knows elf tables area shift known sections segments elf_is own same_sections same_segments replaced kept = record {
-  elf_is = elf_is;
-  own = own;
-  replaced = replaced ∙ ap (λ (xs : List Section). map (λ t. place_replaced xs (string_bytes t.0)) tables) same_sections;
-  kept = subst (λ (ps : List Segment). Keeps ps area shift known.kept.now) same_segments kept;
-}
+-- by what is known of a file's sections: where the contents of one are
+abbrev contents_with : OwnSections → List (Option ℕ) → List Segment → Area → Shift → ℕ → Section → Contents
+contents_with own replaced segments area shift i s =
+    contents_by own.section_names own.symbols own.symbol_names (position (is_at i) replaced)
+    (own_contents segments area shift s) i s
+
+-- what is arranged by lists that are those of the file
+pub arranges : {Y Z : Type 0} (elf : Elf) (tables : List (String Y × Vec ℕ Z)) (area : Area) (shift : Shift)
+    (own : OwnSections) (sections : List Section) (segments : List Segment) (replaced : List (Option ℕ)) (kept : KeptBytes)
+    (contents : List Contents) (order : List (ℕ × ℕ)) → IsOwnOf elf own → sections ≡ elf.sections.items →
+    segments ≡ elf.segments.items → replaced ≡ map (λ t. place_replaced sections (string_bytes t.0)) tables →
+    Keeps segments area shift kept →
+    ((ps : List Segment) (a : Area) (s : Shift) → Keeps ps a s kept →
+    AreContents (contents_with own replaced ps a s) elf.sections.items contents) →
+    ((ps : List Segment) (a : Area) (s : Shift) → Keeps ps a s kept →
+    ListsPairs (PassesAt elf.sections.items (λ i x. is_written (contents_with own replaced ps a s i x))) order) →
+    Arranges elf tables area shift contents order
+arranges elf tables area shift own sections segments replaced kept contents order own_is same_sections same_segments replaced_is
+    keeps are lists =
+    let keep : Keeps elf.segments.items area shift kept =
+    subst (λ (ps : List Segment). Keeps ps area shift kept) same_segments keeps in
+    let given : replaced ≡ map (λ t. place_replaced elf.sections.items (string_bytes t.0)) tables =
+    replaced_is ∙ ap (λ (xs : List Section). map (λ t. place_replaced xs (string_bytes t.0)) tables) same_sections in
+    let found = are elf.segments.items area shift keep in
+    let known = λ (i : ℕ) (s : Section). contents-known elf tables area shift own replaced i s own_is given in
+    record {
+      contents_are = record {
+        count = found.count;
+        each = λ i s c is_s is_c. found.each i s c is_s is_c ∙ known i s;
+      };
+      order_is = lists-same elf.sections.items
+          (λ i s. is_written (contents_with own replaced elf.segments.items area shift i s))
+          (λ i s. is_written (contents_of elf tables area shift i s)) order (λ i s. ap is_written (known i s))
+          (lists elf.segments.items area shift keep);
+    }

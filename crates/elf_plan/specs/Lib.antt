@@ -13,11 +13,13 @@ pub mod KnownSections
 pub mod LoadedRanges
 pub mod NameTables
 pub mod NameWeight
+pub mod NewAreas
 pub mod NewSections
 pub mod NewSegments
 pub mod OldNames
 pub mod PairedLists
 pub mod PlacedHeaders
+pub mod Plans
 pub mod RangeTree
 pub mod RangeTreeDepth
 pub mod RangesWithNew

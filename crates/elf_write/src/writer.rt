@@ -15,6 +15,7 @@ use elf_image::Elf;
 use elf_make::{is_above, made};
 use elf_plan::fragments::fragments;
 use elf_plan::given_tables::Table;
+use elf_plan::plan::Plan;
 use elf_plan::source::SectionSource;
 use elf_plan::unwritable::Unwritable;
 use rb_bytes::fault::NoMemory;
@@ -56,8 +57,9 @@ fn written(
         tables,
     };
     let tight = is_above(elf, map)?;
-    let file = made(alloc, &source, emitted, tight)?;
-    if !is_accepted(alloc, &source, &emitted.code, tight, &file)? {
+    let plan = Plan::new(alloc, elf, tables, &emitted.code, tight)?;
+    let file = made(alloc, &source, emitted, &plan)?;
+    if !is_accepted(alloc, &source, &emitted.code, &plan, &file)? {
         return Err(Unwritable::ReadBack);
     }
     Ok(file)

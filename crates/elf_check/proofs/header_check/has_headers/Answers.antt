@@ -4,13 +4,10 @@ use Rattle.std.proofs.lemmas.Result.{IfOk-weaker}
 use Rattle.elf_image.specs.declared.section.Section.{Section}
 use Rattle.elf_image.specs.declared.segment.Segment.{Segment}
 use Rattle.elf_image.specs.memory.CodeSegment.{executable_segment}
-use Rattle.elf_plan.specs.declared.sections.Contents.{Contents}
 use Rattle.elf_plan.specs.declared.segments.Places.{Places}
-use Rattle.elf_plan.specs.Contents.{contents_of}
-use Rattle.elf_plan.specs.Homes.{AreContents}
 use Rattle.elf_plan.specs.PlacedHeaders.{AreMade}
 use Rattle.elf_plan.specs.TableSizes.{table_size}
-use Rattle.elf_check.proofs.ReadHeaders.{contents-known-each, headers-read}
+use Rattle.elf_check.proofs.ReadHeaders.{headers-read}
 use Rattle.elf_check.proofs.header_check.has_headers.Goals as goal
 
 pub returns : goal.returns
@@ -19,29 +16,22 @@ returns c =
     let elf = tables.elf.now in
     let new = tables.new.now in
     let found : executable_segment elf.segments.items ≡ Some (c.in_ok-code.code, c.in_ok-code.field-0-1) = search rules in
-    let known = contents_of elf tables.tables.now tables.area tables.shift in
-    let contents : AreContents known elf.sections.items c.deref-2.result.now =
-    subst (λ (cs : List Contents). AreContents known elf.sections.items cs)
-    (sym c.deref-2.ensures.value)
-    (contents-known-each elf tables.tables.now tables.area tables.shift c.args.known.now c.in_ok-contents.contents.items
-    c.requires c.requires.elf_is
-    (c.in_ok-contents.ensures elf.segments.items tables.area tables.shift c.requires.kept)) in
-    let offsets : c.deref-3.result.now ≡ map (λ n. n.offset) new.sections.items =
-    c.deref-3.ensures.value ∙ c.in_ok-sections_at.ensures ∙ ap (map (λ (n : Section). n.offset)) c.deref.ensures.value in
+    let offsets : c.deref-2.result.now ≡ map (λ n. n.offset) new.sections.items =
+    c.deref-2.ensures.value ∙ c.in_ok-sections_at.ensures ∙ ap (map (λ (n : Section). n.offset)) c.deref.ensures.value in
     let index : c.unwrap_or.result ≡ unwrap_or (table_size tables.tables.now (codes ".eh_frame_hdr")) 0 = search rules in
     let places : Places = record {
       elf = tables.elf;
       area = tables.area;
       shift = tables.shift;
       table_at = new.phoff;
-      contents = c.deref-2.result;
-      sections_at = c.deref-3.result;
+      contents = tables.contents;
+      sections_at = c.deref-2.result;
       index_size = c.unwrap_or.result;
       file_size = length new.file.now;
     } in
     IfOk-weaker c.has_made.result _ _
     (λ holds gives is.
-    headers-read tables.tables.now new places c.in_ok-code.code c.in_ok-code.field-0-1 found contents offsets refl index
+    headers-read tables.tables.now new places c.in_ok-code.code c.in_ok-code.field-0-1 found c.requires.contents_are offsets refl index
     refl
-    (subst (λ (qs : List Segment). AreMade places c.in_ok-code.code qs) c.deref-4.ensures.value (gives is)))
+    (subst (λ (qs : List Segment). AreMade places c.in_ok-code.code qs) c.deref-3.ensures.value (gives is)))
     c.has_made.ensures

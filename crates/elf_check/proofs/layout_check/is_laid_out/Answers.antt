@@ -4,13 +4,8 @@ use Rattle.elf_image.specs.declared.section.Section.{Section}
 use Rattle.elf_image.specs.declared.header.HeaderFields.{HeaderFields}
 use Rattle.elf_image.specs.declared.section.TheConstants.{SHDR_SIZE}
 use Rattle.elf_image.specs.file.Header.{e_shoff}
-use Rattle.rv_code.specs.layout.Lists.{ListsPairs}
-use Rattle.elf_plan.specs.Contents.{contents_of}
-use Rattle.elf_plan.specs.FileLayout.{PassesAt, StandFrom, added_ranges, contents_start, is_written}
+use Rattle.elf_plan.specs.FileLayout.{StandFrom, added_ranges, contents_start}
 use Rattle.elf_plan.specs.NewSections.{adds_ranges}
-use Rattle.elf_plan.specs.WrittenSections.{is_written_by}
-use Rattle.elf_plan.proofs.KnownContents.{contents-known}
-use Rattle.elf_plan.proofs.SectionOrder.{lists-same}
 use Rattle.elf_check.proofs.layout_check.is_laid_out.Goals as goal
 
 pub returns : goal.returns
@@ -18,37 +13,28 @@ returns c =
     let tables = c.args.tables.now in
     let elf = tables.elf.now in
     let new = tables.new.now in
-    let known = c.args.known.now in
     let news = new.sections.items in
-    let order = c.in_ok-order.order.items in
+    let order = tables.order.now in
     let start = c.in_ok-start.start in
     let end = c.in_ok-end.end in
     let adds = c.adds_ranges.result in
     let Stand : List Section → ℕ → List (ℕ × ℕ) → Bool → Type 0 = λ ns from places b.
     StandFrom ns from (map (λ (place : ℕ × ℕ). place.1) places ++ added_ranges b (length ns)) end in
-    let Lists : List Section → Type 0 = λ olds.
-    ListsPairs (PassesAt olds (is_written_by known elf.segments.items tables.area tables.shift)) order in
     let begins = contents_start elf tables.area tables.shift in
     let stand : Stand news begins order (adds_ranges elf.sections.items tables.tables.now) =
     subst (Stand news begins order) c.adds_ranges.ensures
     (subst (λ (from : ℕ). Stand news from order adds) c.in_ok-start.ensures
-    (subst (λ (places : List (ℕ × ℕ)). Stand news start places adds) c.deref-2.ensures.value
-    (subst (λ (ns : List Section). Stand ns start c.deref-2.result.now adds) c.deref.ensures.value c.in_ok-end.ensures))) in
+    (subst (λ (ns : List Section). Stand ns start order adds) c.deref.ensures.value c.in_ok-end.ensures)) in
     IfOk-weaker c.ends_with_headers.result _ _
     (λ holds both true. record {
       header = c.keeps_header_fields.ensures c.if-not-keeps_header_fields.false;
       table = (let same : c.fields.result.phoff ≡ c.in_ok-table_place.field-0 = search rules in
           ap (λ (fields : HeaderFields). fields.phoff) (sym c.fields.ensures) ∙ same ∙ c.in_ok-table_place.ensures);
       order = order;
-      lists = lists-same elf.sections.items (is_written_by known elf.segments.items tables.area tables.shift)
-          (λ i s. is_written (contents_of elf tables.tables.now tables.area tables.shift i s)) order
-          (λ i s. ap is_written
-          (contents-known elf tables.tables.now tables.area tables.shift known i s c.requires))
-          (subst Lists (ap (λ e. e.sections.items) c.requires.elf_is)
-          (c.in_ok-order.ensures elf.segments.items tables.area tables.shift c.requires.kept));
+      lists = c.requires.order_is;
       end = end;
       stand = stand;
       headers = (both true).0;
-      size = (both true).1 ∙ ap (λ (ns : List Section). e_shoff new.file.now + SHDR_SIZE * length ns) c.deref-3.ensures.value;
+      size = (both true).1 ∙ ap (λ (ns : List Section). e_shoff new.file.now + SHDR_SIZE * length ns) c.deref-2.ensures.value;
     })
     c.ends_with_headers.ensures

@@ -1,11 +1,19 @@
-use Rattle.std.proofs.Common.{◌∙◌, ap, subst, sym, ℕ, List, Bool, Result, Ok, Err}
+use Rattle.std.proofs.Common.{◌≡◌, ◌∙◌, ap, subst, sym, ℕ, List, Bool, Result, Ok, Err}
 use Rattle.std.specs.Prelude.{IfOk}
+use Rattle.std.proofs.lemmas.Result.{IfOk-weaker}
 use Rattle.elf_image.specs.faults.Truncation.{IsReadable}
 use Rattle.elf_image.specs.file.Header.{e_shstrndx}
 use Rattle.elf_image.specs.file.ParsedFile.{IsElfOf}
+use Rattle.elf_image.specs.declared.segment.Segment.{Segment}
+use Rattle.elf_plan.specs.declared.area.Area.{Area}
+use Rattle.elf_plan.specs.declared.area.Shift.{Shift}
+use Rattle.elf_plan.specs.Area.{shift_of}
 use Rattle.elf_plan.specs.AreaStands.{AreaStands}
+use Rattle.elf_plan.specs.FileLayout.{HasFileLayout}
+use Rattle.elf_plan.specs.HeaderPlaces.{HasNewHeaders}
+use Rattle.elf_plan.specs.NewSections.{AreNewSections}
+use Rattle.elf_check.specs.NewNames.{HaveNewNames}
 use Rattle.elf_check.specs.EntryNames.WasRead.{was_read}
-use Rattle.elf_check.specs.NewTables.{area_for}
 use Rattle.elf_check.proofs.read_back.is_accepted.Goals as goal
 
 pub has_new_tables-requires-clause-new : goal.has_new_tables-requires-clause-new
@@ -24,21 +32,39 @@ together : {E : Type 0} (r : Result Bool E) (P Q R S T U : Bool → Type 0) →
 together (Ok b) P Q R S T U gives p q r s t = gives b p q r s t
 together (Err e) P Q R S T U gives p q r s t = record {}
 
+-- what holds of the area and the shift of a plan holds of those that must be
+settled : (segments : List Segment) (made area : Area) (shift : Shift) (P : Area → Shift → Type 0) → made ≡ area →
+    shift ≡ shift_of segments made → P made shift → P area (shift_of segments area)
+settled segments made area shift P same_area same_shift holds =
+    subst (λ (a : Area). P a (shift_of segments a)) same_area (subst (P made) same_shift holds)
+
 pub returns-in-Ok-clause-tables : goal.returns-in-Ok-clause-tables
 returns-in-Ok-clause-tables c =
     let source = c.args.source.now in
-    let area = area_for source.elf.now source.tables.now c.args.code.now c.args.tight in
+    let elf = source.elf.now in
+    let tables = source.tables.now in
+    let code = c.args.code.now in
+    let plan = c.args.plan.now in
+    let new = c.in-Ok.found in
+    let is = c.requires.plan in
     together c.has_new_tables.result _ _ _ _ _ _
     (λ b sections headers names symbols layout holds stands. record {
-      new = c.in-Ok.found;
+      new = new;
       read = c.in-Ok.ensures.fields;
-      sections = sections holds
-          (subst (λ (f : List ℕ). AreaStands area source.tables.now c.args.code.now f)
-          (sym c.in-Ok.ensures.fields.file_is) stands);
-      headers = headers holds;
-      names = names holds;
+      sections = settled elf.segments.items plan.area _ plan.shift (λ a s. AreNewSections elf new tables a s code) is.area
+          is.shift
+          (sections holds
+          (subst (λ (f : List ℕ). AreaStands plan.area tables code f) (sym c.in-Ok.ensures.fields.file_is) stands));
+      headers = settled elf.segments.items plan.area _ plan.shift (HasNewHeaders elf new tables) is.area is.shift
+          (headers holds);
+      names = subst (λ (a : Area). HaveNewNames elf new tables a source.funcs.now source.cold.now) is.area (names holds);
       symbols = symbols holds;
-      layout = layout holds;
+      layout = settled elf.segments.items plan.area _ plan.shift (HasFileLayout elf new tables) is.area is.shift
+          (layout holds);
     })
     c.has_new_tables.ensures.sections c.has_new_tables.ensures.headers c.has_new_tables.ensures.names
     c.has_new_tables.ensures.symbols c.has_new_tables.ensures.layout
+
+pub returns-in-Ok-clause-sound : goal.returns-in-Ok-clause-sound
+returns-in-Ok-clause-sound c =
+    IfOk-weaker c.has_new_tables.result _ _ (λ holds symbols is. c.in-Ok.ensures.sound) c.has_new_tables.ensures.symbols

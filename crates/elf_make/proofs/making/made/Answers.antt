@@ -36,7 +36,7 @@ returns c =
     record {
       made = record {
         layout = layout;
-        laid_out = subst (λ (xs : List ℕ). IsLaidOut elf c.args.tight xs s.frames s.index layout) c.deref.ensures.value
+        laid_out = subst (λ (xs : List ℕ). IsLaidOut elf c.args.plan.now.area.tight xs s.frames s.index layout) c.deref.ensures.value
             c.in_ok-layout.ensures.laid_out;
         cells = cells;
         are_cells = subst

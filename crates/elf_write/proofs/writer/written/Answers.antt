@@ -1,12 +1,16 @@
-use Rattle.std.proofs.Common.{◌≡◌, ◌∙◌, ap, subst, sym, Bool, List, ℕ}
+use Rattle.std.proofs.Common.{◌≡◌, ◌∙◌, ap, subst, sym, Bool, List, ℕ, String, Vec}
 use Rattle.elf_image.specs.faults.FileFaults.{IsSound}
 use Rattle.elf_image.specs.file.Header.{e_shstrndx}
+use Rattle.elf_image.specs.declared.elf.Elf.{Elf}
+use Rattle.elf_plan.specs.declared.area.Area.{Area}
 use Rattle.elf_plan.specs.declared.fragments.Fragment.{Fragment}
+use Rattle.elf_plan.specs.declared.plan.Plan.{Plan}
 use Rattle.elf_plan.specs.FragmentLists.{AreFragments}
 use Rattle.elf_plan.specs.AreaStands.{AreaStands}
 use Rattle.elf_make.specs.CellNumbers.{in_pieces}
 use Rattle.elf_check.specs.EntryNames.WasRead.{was_read}
-use Rattle.elf_check.specs.NewTables.{HasNewTables, area_for}
+use Rattle.elf_plan.specs.Plans.{IsPlanOf}
+use Rattle.elf_check.specs.NewTables.{HasNewTables}
 use Rattle.elf_make.specs.Source.{HasPlace, Source, source_of}
 use Rattle.elf_make.proofs.AllWritten.{all-written, placed-there}
 use Rattle.elf_make.proofs.CellPieces.{pieces_apart, pieces_can}
@@ -19,6 +23,24 @@ use Rattle.elf_write.proofs.writer.written.Goals as goal
 pub made-requires-clause-readable : goal.made-requires-clause-readable
 made-requires-clause-readable c = readable c.args.elf.now.file.now c.requires.sound
 
+-- a plan is one for the place in which its own area stands
+above_tight : {Y Z : Type 0} (elf : Elf) (tables : List (String Y × Vec ℕ Z)) (code : List ℕ) (tight : Bool) (plan : Plan) →
+    IsPlanOf elf tables code tight plan → IsPlanOf elf tables code plan.area.tight plan
+above_tight elf tables code tight plan is =
+    subst (λ (t : Bool). IsPlanOf elf tables code t plan) (sym (ap (λ (a : Area). a.tight) is.area)) is
+
+pub made-requires-clause-plan : goal.made-requires-clause-plan
+made-requires-clause-plan c =
+    above_tight c.args.elf.now c.args.tables.now c.args.emitted.now.code.items c.in_ok-tight.tight c.in_ok-plan.plan
+    (subst (λ (bs : List ℕ). IsPlanOf c.args.elf.now c.args.tables.now bs c.in_ok-tight.tight c.in_ok-plan.plan)
+    c.deref-2.ensures.value c.in_ok-plan.ensures)
+
+pub is_accepted-requires-clause-plan : goal.is_accepted-requires-clause-plan
+is_accepted-requires-clause-plan c =
+    above_tight c.args.elf.now c.args.tables.now c.deref-3.result.now c.in_ok-tight.tight c.in_ok-plan.plan
+    (subst (λ (bs : List ℕ). IsPlanOf c.args.elf.now c.args.tables.now bs c.in_ok-tight.tight c.in_ok-plan.plan)
+    (c.deref-2.ensures.value ∙ sym c.deref-3.ensures.value) c.in_ok-plan.ensures)
+
 pub is_accepted-requires-clause-old : goal.is_accepted-requires-clause-old
 is_accepted-requires-clause-old c = was_read (readable c.args.elf.now.file.now c.requires.sound) c.requires.read
 
@@ -29,9 +51,9 @@ is_accepted-requires-clause-fragments c =
 
 pub is_accepted-requires-clause-names : goal.is_accepted-requires-clause-names
 is_accepted-requires-clause-names c =
-    ap e_shstrndx c.deref-3.ensures.value
+    ap e_shstrndx c.deref-4.ensures.value
     ∙ e_shstrndx-written
-    (in_pieces (source_of c.args.elf.now c.args.emitted.now c.args.map.now c.args.tables.now)) c.in_ok-tight.tight
+    (in_pieces (source_of c.args.elf.now c.args.emitted.now c.args.map.now c.args.tables.now)) c.in_ok-plan.plan.area.tight
     c.in_ok-file.file.items c.in_ok-file.ensures.made
 
 pub returns-clause-written : goal.returns-clause-written
@@ -40,9 +62,10 @@ returns-clause-written c = λ tight placed.
     let s : Source = source_of elf c.args.emitted.now c.args.map.now c.args.tables.now in
     let w = c.in_ok-file.file.items in
     written_in_pieces s tight w c.requires.cells
-    (all-written (in_pieces s) c.in_ok-tight.tight w c.requires.read c.requires.sound c.requires.bytes
+    (all-written (in_pieces s) c.in_ok-plan.plan.area.tight w c.requires.read c.requires.sound c.requires.bytes
     (pieces_can elf s.cells c.requires.cells) (pieces_apart elf.segments.items s.cells c.requires.apart) c.in_ok-file.ensures.made
-    (subst IsSound c.deref-3.ensures.value (c.in_ok-is_accepted.ensures.sound c.if-not-branch.false)) c.in_ok-tight.ensures
+    (subst IsSound c.deref-4.ensures.value (c.in_ok-is_accepted.ensures.sound c.if-not-branch.false))
+    (ap (λ (a : Area). a.tight) c.in_ok-plan.ensures.area ∙ c.in_ok-tight.ensures)
     tight (placed_in_pieces s tight placed))
 
 pub returns-clause-tables : goal.returns-clause-tables
@@ -54,24 +77,27 @@ returns-clause-tables c = λ tight placed.
     let cold = c.args.cold.now in
     let spans = c.args.map.now in
     let w = c.in_ok-file.file.items in
-    let above = c.in_ok-tight.tight in
+    let above = c.in_ok-plan.plan.area.tight in
     let s : Source = in_pieces (source_of elf c.args.emitted.now spans tables) in
     let can = pieces_can elf c.args.emitted.now.cells.items c.requires.cells in
     let apart = pieces_apart elf.segments.items c.args.emitted.now.cells.items c.requires.apart in
     let in_place = placed_in_pieces (source_of elf c.args.emitted.now spans tables) tight placed in
     let made = c.in_ok-file.ensures in
-    let sound_w : IsSound w = subst IsSound c.deref-3.ensures.value (c.in_ok-is_accepted.ensures.sound c.if-not-branch.false) in
+    let sound_w : IsSound w = subst IsSound c.deref-4.ensures.value (c.in_ok-is_accepted.ensures.sound c.if-not-branch.false) in
     let there : above ≡ tight = placed-there s above w c.requires.read c.requires.sound c.requires.bytes can apart made.made
-    sound_w c.in_ok-tight.ensures tight in_place in
+    sound_w (ap (λ (a : Area). a.tight) c.in_ok-plan.ensures.area ∙ c.in_ok-tight.ensures) tight in_place in
     let stands =
     area-written s above w c.requires.read c.requires.sound made.made (subst (λ (t : Bool). HasPlace s t) (sym there) in_place)
     (λ i cell below. (can i cell below).some) tables made.has_tables in
+    let plan = c.in_ok-plan.plan in
+    let planned : IsPlanOf elf tables code plan.area.tight plan =
+    above_tight elf tables code c.in_ok-tight.tight plan
+    (subst (λ (bs : List ℕ). IsPlanOf elf tables bs c.in_ok-tight.tight plan) c.deref-2.ensures.value c.in_ok-plan.ensures) in
     let found = c.in_ok-is_accepted.ensures.tables c.if-not-branch.false in
     subst (λ (t : Bool). HasNewTables elf tables code funcs cold spans t w) there
-    (subst (λ (f : List ℕ). AreaStands (area_for elf tables code above) tables code f →
-    HasNewTables elf tables code funcs cold spans above f)
-    c.deref-3.ensures.value
-    (subst (λ (bs : List ℕ). AreaStands (area_for elf tables bs above) tables bs c.deref-3.result.now →
-    HasNewTables elf tables bs funcs cold spans above c.deref-3.result.now)
-    c.deref-2.ensures.value found)
-    stands)
+    (subst (λ (f : List ℕ). AreaStands plan.area tables code f → HasNewTables elf tables code funcs cold spans above f)
+    c.deref-4.ensures.value
+    (subst (λ (bs : List ℕ). AreaStands plan.area tables bs c.deref-4.result.now →
+    HasNewTables elf tables bs funcs cold spans above c.deref-4.result.now)
+    c.deref-3.ensures.value found)
+    (subst (λ (a : Area). AreaStands a tables code w) (sym planned.area) stands))
