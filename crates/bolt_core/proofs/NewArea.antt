@@ -63,6 +63,10 @@ fits_somewhere segments n none some =
 uncapped : (n limit : ℕ) → capped n ≤ limit → limit ≤ address_end → n ≤ capped n
 uncapped n limit low high = omega (arith, low, high)
 
+-- what ends within addresses isn't capped
+pub needed : (n start : ℕ) → start + n ≤ address_end → n ≤ capped n
+needed n start low = uncapped n address_end (omega (arith, low)) (omega arith)
+
 pub record HasRoom (elf : Elf) (funcs : List Func) (blocks : List Block) : Type 0 where
   pub low : area_start_of elf.segments.items (is_tight elf.segments.items (need elf funcs blocks)) + code_need funcs blocks ≤
       address_end

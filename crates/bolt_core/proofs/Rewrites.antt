@@ -52,7 +52,7 @@ use Rattle.bolt_core.proofs.CellFields.{all_apart, all_hold}
 use Rattle.bolt_core.proofs.Near.{near_blocks}
 use Rattle.bolt_core.proofs.NewArea.{start_even}
 use Rattle.bolt_core.proofs.SoundCode.{IsSoundCode, accepted, laid, of_input}
-use Rattle.bolt_core.proofs.WrittenOutput.{bytes_are, code_there, follows_segments, is_faithful, is_laid_out, is_sound}
+use Rattle.bolt_core.proofs.WrittenOutput.{area_needed, bytes_are, code_there, follows_segments, is_faithful, is_laid_out, is_sound}
 use Rattle.bolt_core.proofs.WrittenOutput.{keeps_front, place, placed}
 use Rattle.bolt_core.proofs.TableNeeds.{allows, code_low, fits, frame_room, low_spans, room_behind}
 use Rattle.bolt_core.proofs.TableRoom.{SizesFit}
@@ -261,6 +261,8 @@ module _ {file profile : List ℕ} (elf : Elf) (funcs : List Func) (refs : Refs)
           headers =
               follows_segments elf funcs refs blocks sound_code (input.program).blocks_are stands order spans emitted moved given
               sizes w written;
+          needed =
+              area_needed elf funcs refs blocks sound_code (input.program).blocks_are stands order spans emitted moved given sizes;
           frames = named_answers.1;
           front =
               keeps_front elf funcs refs blocks sound_code (input.program).blocks_are stands order spans emitted moved given sizes w

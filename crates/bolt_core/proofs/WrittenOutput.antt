@@ -1,5 +1,5 @@
 -- What was written of a program is a faithful rewrite of it.
-use Rattle.std.proofs.Common.{◌≡◌, subst, ℕ, ◌≤◌, Bool, List, length, arith}
+use Rattle.std.proofs.Common.{◌≡◌, subst, ℕ, ◌+◌, ◌-◌, ◌≤◌, Bool, List, length, arith}
 use Rattle.std.specs.Prelude.{codes, sum_by}
 use Rattle.rv_code.specs.declared.layout.Emitted.{Emitted}
 use Rattle.rv_code.specs.declared.placed.Block.{Block}
@@ -15,13 +15,14 @@ use Rattle.move_law.specs.FaithfulRewrite.{IsFaithful}
 use Rattle.cfg_build.specs.NamedAddresses.{code_of}
 use Rattle.branch_fixup.specs.Strips.{pieces_of, strips_of}
 use Rattle.code_emit.proofs.SpanBytes.{span_bytes}
+use Rattle.elf_write.specs.Area.{area_of}
 use Rattle.elf_write.specs.CarriedBytes.{HoldsBytes}
 use Rattle.elf_write.specs.FrontBytes.{KeepsFront}
 use Rattle.elf_write.specs.Source.{HasPlace, Source, source_of}
 use Rattle.elf_write.specs.TableSizes.{table_size}
 use Rattle.elf_write.specs.WrittenFile.{IsWritten}
 use Rattle.cfi_rows.specs.FrameNeed.{frame_need}
-use Rattle.area_room.specs.Need.{code_need}
+use Rattle.area_room.specs.Need.{code_need, need}
 use Rattle.bolt_core.specs.GivenTables.{ReadTable}
 use Rattle.bolt_core.specs.Refusals.{CanStand}
 use Rattle.program.specs.Program.{program_of}
@@ -30,7 +31,7 @@ use Rattle.bolt_core.specs.RewrittenFile.{FollowsSegments, IsLaidOutBy, rewrite_
 use Rattle.bolt_core.specs.internal.MovedCode.{IsMovedCode}
 use Rattle.bolt_core.proofs.Joined.{faithful, puts, source}
 use Rattle.bolt_core.proofs.Maps.{bytes_in_order, some_code}
-use Rattle.bolt_core.proofs.NewArea.{HasRoom, has_room}
+use Rattle.bolt_core.proofs.NewArea.{HasRoom, has_room, needed}
 use Rattle.bolt_core.proofs.SomeCode.{entry_named, some_need}
 use Rattle.bolt_core.proofs.SoundCode.{IsSoundCode, accepted, laid}
 use Rattle.bolt_core.proofs.TableRoom.{SizesFit, area_fits}
@@ -69,6 +70,16 @@ module _ (elf : Elf) (funcs : List Func) (refs : Refs) (blocks : List Block) (is
           (table_size given (codes ".eh_frame")) (table_size given (codes ".eh_frame_hdr")) moved.fits sizes)
           place.all.within;
     }
+
+    pub area_needed : (area_of elf.segments.items tight (length emitted.code.items) (table_size given (codes ".eh_frame"))
+        (table_size given (codes ".eh_frame_hdr"))).end
+        - (area_of elf.segments.items tight (length emitted.code.items) (table_size given (codes ".eh_frame"))
+        (table_size given (codes ".eh_frame_hdr"))).start ≤ need elf funcs blocks
+    area_needed =
+        upto _ _ _
+        (area_fits elf.segments.items tight (length emitted.code.items) (code_need funcs blocks) (frame_need elf funcs blocks)
+        (table_size given (codes ".eh_frame")) (table_size given (codes ".eh_frame_hdr")) moved.fits sizes)
+        (needed (code_need funcs blocks + frame_need elf funcs blocks) _ place.all.low)
 
     module _ (w : List ℕ) (does : (t : Bool) → HasPlace (source_of elf emitted spans given) t →
         IsWritten (source_of elf emitted spans given) t w) where

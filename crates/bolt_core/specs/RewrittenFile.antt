@@ -1,5 +1,5 @@
 -- What a rewritten file is to its input and its profile.
-use Rattle.std.specs.Prelude.{◌≡◌, ◌+◌, ◌*◌, ◌≤◌, ℕ, List, [], IfSome, length, sum_by}
+use Rattle.std.specs.Prelude.{◌≡◌, ◌+◌, ◌-◌, ◌*◌, ◌≤◌, ℕ, List, [], IfSome, length, sum_by}
 use Rattle.rv_code.specs.declared.layout.Chains.{Chains}
 use Rattle.rv_code.specs.declared.layout.Form.{Form}
 use Rattle.rv_code.specs.layout.Flow.{insts_of}
@@ -27,7 +27,7 @@ use Rattle.elf_write.specs.FrontBytes.{KeepsFront}
 use Rattle.elf_write.specs.NewSegments.{AreNewHeaders}
 use Rattle.elf_write.specs.NewTables.{HasNewTables, area_for}
 use Rattle.program.specs.Program.{Program}
-use Rattle.program.specs.Room.{is_tight_program, new_start}
+use Rattle.program.specs.Room.{is_tight_program, needed_bytes, new_start}
 use Rattle.bolt_core.specs.CarriedFrames.{CarriesFrames}
 use Rattle.bolt_core.specs.GivenTables.{AreGivenFor, ReadTable}
 use Rattle.bolt_core.specs.Limits.{IsTooLarge}
@@ -117,6 +117,9 @@ pub record IsRewritten (file profile written : List ℕ) (spans : List Span) (co
   pub are_given : AreGivenFor program.elf given
   pub tables : FollowsTables program parts given code spans written
   pub headers : FollowsSegments program given code written
+  -- the new area takes no more than was asked for
+  pub needed : (area_for program.elf given code (is_tight_program program)).end
+      - (area_for program.elf given code (is_tight_program program)).start ≤ needed_bytes program
   -- at each byte of the new code, unwinding is as it was at the byte's owner
   pub frames : CarriesFrames spans program.elf tables.new
   -- up to where no byte moves, bytes that no segment loads are as they were, and those of a table that is replaced
