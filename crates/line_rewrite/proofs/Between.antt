@@ -1,7 +1,9 @@
 -- Two addresses between which no row lies: the same rows are in force at both.
-use Rattle.std.proofs.Common.{◌≡◌, ◌<◌, ◌≤◌, ◌*◌, ℕ, List, [], ◌∷◌, zero, suc, refl, arith, sym, ◌∙◌, ap, subst, Ok, length, drop, get_or, nat_le, Bool, true, false, cond, Option, Some, None, ◌⊎◌, inl, inr}
+use Rattle.std.proofs.Common.{◌≡◌, ◌<◌, ◌≤◌, ◌+◌, ◌-◌, ◌++◌, take, Err, ℕ, List, [], ◌∷◌, zero, suc, refl, arith, sym, ◌∙◌, ap, subst, Ok}
+use Rattle.std.proofs.Common.{length, drop, get_or, nat_le, Bool, true, false, cond, Option, Some, None, ◌⊎◌, inl, inr}
 use Rattle.std.specs.Prelude.{nat_lt}
 use Rattle.std.proofs.lemmas.Bool.Decides.{nat_tests}
+use Rattle.std.proofs.lemmas.List.{drop-drop, take-append-drop}
 use Rattle.line_rewrite.specs.declared.coding.Coding.{Coding}
 use Rattle.line_rewrite.specs.declared.registers.Registers.{Registers}
 use Rattle.line_rewrite.specs.declared.kept.Kept.{Kept}
@@ -10,17 +12,20 @@ use Rattle.line_rewrite.specs.declared.effect.Effect.{Effect}
 use Rattle.line_rewrite.specs.declared.effect.Effect.TheVariants.{Appends, Ends, Sets}
 use Rattle.line_rewrite.specs.Operations.{op_at, operations}
 use Rattle.line_rewrite.specs.LineMachine.{in_force, reached, greatest_address, rows_from, rows_behind, after_op, after_row, effect_of}
-use Rattle.line_rewrite.specs.Keeping.{AreKept}
+use Rattle.line_rewrite.specs.Keeping.{AreKept, row_at}
+use Rattle.line_rewrite.specs.LineAnswers.{first_address}
+use Rattle.rb_bytes.specs.declared.gap.Gap.{Gap}
 use Rattle.line_rewrite.specs.Walks.{Ascends, none_between}
 use Rattle.line_rewrite.proofs.InForce.{at_address, none_reached}
-use Rattle.line_rewrite.proofs.Lookups.{Before, kept_get, from_below, drop_none}
-use Rattle.line_rewrite.proofs.Steps.{rows_step}
+use Rattle.line_rewrite.proofs.Lookups.{Before, kept_get, from_below, drop_none, row_rises, next_past}
+use Rattle.line_rewrite.proofs.Steps.{rows_step, rows_gap, rows_end, take_none}
 
 -- Of rows that ascend, those up to either address.
 
 abbrev Row : ℕ → ℕ → ℕ → Type 0
 Row a b x = ((b < x) × (nat_lt b x ≡ true) × (nat_le x a ≡ false) × (nat_le x b ≡ false))
-    ⊎ (((nat_lt b x ≡ false) × (nat_lt a x ≡ true)) ⊎ ((nat_lt b x ≡ false) × (nat_lt a x ≡ false) × (nat_le x a ≡ true) × (nat_le x b ≡ true)))
+    ⊎ (((nat_lt b x ≡ false) × (nat_lt a x ≡ true)) ⊎
+    ((nat_lt b x ≡ false) × (nat_lt a x ≡ false) × (nat_le x a ≡ true) × (nat_le x b ≡ true)))
 
 row_cases : (a b x : ℕ) → a ≤ b → Row a b x
 row_cases a b x h = grind (arith, nat_tests)
@@ -28,12 +33,14 @@ row_cases a b x h = grind (arith, nat_tests)
 never : (P : Type 0) → false ≡ true → P
 never P e = absurd (cc)
 
-reached_alike : (from a b : ℕ) (rows : List Registers) → a ≤ b → Ascends from rows → none_between a b rows ≡ true → reached a rows ≡ reached b rows
+reached_alike : (from a b : ℕ) (rows : List Registers) → a ≤ b → Ascends from rows → none_between a b rows ≡ true
+    → reached a rows ≡ reached b rows
 unfolding none_between
 reached_alike from a b [] h up none = refl
 reached_alike from a b (r ∷ rows) h up none =
     elim (row_cases a b r.address h) [
-      | inl past ↦ rw (past.2, past.3) (none_reached r.address a rows up.1 (omega (arith, past.0)) ∙ sym (none_reached r.address b rows up.1 past.0))
+      | inl past ↦ rw (past.2, past.3)
+          (none_reached r.address a rows up.1 (omega (arith, past.0)) ∙ sym (none_reached r.address b rows up.1 past.0))
       | inr on ↦ elim on [
         | inl between ↦
             never _ (sym (ap (λ (t : Bool). cond t true (cond (nat_lt a r.address) false (none_between a b rows))) between.0
@@ -50,7 +57,8 @@ at_or_below : (x a b : ℕ) → x ≤ a → a ≤ b → (nat_le x a ≡ true) ×
 at_or_below x a b h k = grind (arith, nat_tests)
 
 -- also where rows before these are none of them looked at
-front_alike : (n from a b : ℕ) (rows : List Registers) (first : Registers) (others : List Registers) → a ≤ b → Ascends from rows → drop n rows ≡ first ∷ others
+front_alike : (n from a b : ℕ) (rows : List Registers) (first : Registers) (others : List Registers) → a ≤ b → Ascends from rows
+    → drop n rows ≡ first ∷ others
     → first.address ≤ a → none_between a b (first ∷ others) ≡ true → reached a rows ≡ reached b rows
 front_alike n from a b [] first others h up e low none = absurd (cc (drop_none n))
 front_alike zero from a b (x ∷ rows) first others h up e low none =
@@ -64,75 +72,121 @@ force_alike : (a b : ℕ) (rows : List Registers) → reached a rows ≡ reached
 unfolding in_force
 force_alike a b rows e = ap (λ (l : List Registers). at_address (greatest_address l) l) e
 
-pub found_alike : (coding : Coding) (lengths bytes from : List ℕ) (rows : List Registers) (kept : List Kept) (i a b : ℕ) (d : Kept) (result : Bool) → AreKept coding lengths bytes rows kept
-    → Ascends 0 rows → i < length kept → (get_or kept i d).address ≤ a → a ≤ b → from ≡ drop (get_or kept i d).place bytes
-    → result ≡ none_between a b (rows_from coding (get_or kept i d).registers (operations coding.opcode_base lengths from)) → result ≡ true
-    → in_force a rows ≡ in_force b rows
-found_alike coding lengths bytes from rows kept i a b d result are up h low ordered e is told =
-    let s : Before coding lengths bytes rows (64 * i) (get_or kept i d) = kept_get coding lengths bytes rows kept i d are h in
-    let none : none_between a b (s.first ∷ s.others) ≡ true =
-    sym (ap (λ (l : List ℕ). none_between a b (rows_from coding (get_or kept i d).registers (operations coding.opcode_base lengths l))) e ∙ ap (none_between a b) s.follow)
-    ∙ sym is ∙ told in
-    force_alike a b rows (front_alike (64 * i) 0 a b rows s.first s.others ordered up s.are (subst (λ (n : ℕ). n ≤ a) (sym s.address) low) none)
+pub found_alike : (coding : Coding) (lengths bytes : List ℕ) (rows : List Registers) (kept : List Kept) (i a b : ℕ) (d : Kept)
+    → AreKept coding lengths bytes rows kept → Ascends 0 rows → i < length kept → (get_or kept i d).address ≤ a → a ≤ b
+    → none_between a b (drop (get_or kept i d).index rows) ≡ true → in_force a rows ≡ in_force b rows
+found_alike coding lengths bytes rows kept i a b d are up h low ordered none =
+    let n : ℕ = (get_or kept i d).index in
+    let s : Before coding lengths bytes rows n (get_or kept i d) = kept_get coding lengths bytes rows kept i d are h in
+    force_alike a b rows (front_alike n 0 a b rows s.first s.others ordered up s.are (subst (λ (n : ℕ). n ≤ a) (sym s.address) low)
+    (sym (ap (none_between a b) s.are) ∙ none))
+
+-- None between, also behind: of rows of which the first is past both, none is.
+
+past_both : (a b : ℕ) (rows : List Registers) → b < first_address rows (b + 1) → none_between a b rows ≡ true
+unfolding none_between
+past_both a b [] h = refl
+past_both a b (r ∷ rows) h = let t : nat_lt b r.address ≡ true = grind (arith, nat_tests) in rw t refl
+
+none_append : (a b : ℕ) (xs ys : List Registers) → none_between a b ys ≡ true → none_between a b (xs ++ ys) ≡ none_between a b xs
+unfolding none_between
+none_append a b [] ys e = e
+none_append a b (x ∷ xs) ys e =
+    ap (λ (t : Bool). cond (nat_lt b x.address) true (cond (nat_lt a x.address) false t)) (none_append a b xs ys e)
+
+-- rows up to that of the next state tell of all, where that one is past both
+pub none_behind : (coding : Coding) (lengths bytes from : List ℕ) (rows : List Registers) (kept : List Kept) (i after count n a b : ℕ)
+    (d : Kept) (result : Bool)
+    → AreKept coding lengths bytes rows kept → count ≡ length rows → i < length kept
+    → after ≡ i + 1 → ((k : Kept) → after < length kept → b < (get_or kept after k).address)
+    → from ≡ drop (get_or kept i d).place bytes → n ≡ row_at kept count after - (get_or kept i d).index
+    → result ≡ none_between a b (take n (rows_from coding (get_or kept i d).registers (operations coding.opcode_base lengths from)))
+    → result ≡ true
+    → none_between a b (drop (get_or kept i d).index rows) ≡ true
+none_behind coding lengths bytes from rows kept i after count n a b d result are counted h one past e size is told =
+    let first : ℕ = (get_or kept i d).index in
+    let s : Before coding lengths bytes rows first (get_or kept i d) = kept_get coding lengths bytes rows kept i d are h in
+    let next : ℕ = row_at kept count after in
+    let low : first ≤ next = row_rises coding lengths bytes rows kept count i after d are counted (omega (arith, one)) h in
+    let walked : none_between a b (take n (drop first rows)) ≡ true =
+    sym (ap (λ (l : List ℕ). none_between a b
+    (take n (rows_from coding (get_or kept i d).registers (operations coding.opcode_base lengths l)))) e
+    ∙ ap (λ (l : List Registers). none_between a b (take n l)) (s.follow ∙ sym s.are)) ∙ sym is ∙ told in
+    let behind : none_between a b (drop next rows) ≡ true =
+    past_both a b (drop next rows) (next_past coding lengths bytes rows kept count after b d are counted past) in
+    let there : drop n (drop first rows) ≡ drop next rows =
+    drop-drop n first rows ∙ ap (λ (k : ℕ). drop k rows) (omega (arith, size, low)) in
+    ap (none_between a b) (sym (take-append-drop n (drop first rows)))
+    ∙ none_append a b (take n (drop first rows)) (drop n (drop first rows)) (ap (none_between a b) there ∙ behind) ∙ walked
 
 -- One operation more, where `whole` is what is sought.
 
-between_step : (coding : Coding) (r : Registers) (lengths bytes rest : List ℕ) (op : LineOp) (e : Effect) (o : Option Registers) (a b : ℕ) (whole : Bool)
-    → op_at coding.opcode_base lengths bytes ≡ Ok (op, rest) → e ≡ effect_of op → o ≡ after_op coding op r
-    → none_between a b (rows_from coding r (operations coding.opcode_base lengths bytes)) ≡ whole
-    → none_between a b (rows_behind (λ r. rows_from coding r (operations coding.opcode_base lengths rest)) e o) ≡ whole
-between_step coding r lengths bytes rest op e o a b whole read is after inv =
-    ap (λ (e : Effect). none_between a b (rows_behind (λ r. rows_from coding r (operations coding.opcode_base lengths rest)) e o)) is
-    ∙ ap (λ (o : Option Registers). none_between a b (rows_behind (λ r. rows_from coding r (operations coding.opcode_base lengths rest)) (effect_of op) o)) after
-    ∙ sym (ap (none_between a b) (rows_step coding r lengths bytes rest op read)) ∙ inv
-
-pub between_stops : (coding : Coding) (r : Registers) (lengths bytes rest : List ℕ) (op : LineOp) (a b : ℕ) (whole : Bool)
-    → op_at coding.opcode_base lengths bytes ≡ Ok (op, rest) → None ≡ after_op coding op r
-    → none_between a b (rows_from coding r (operations coding.opcode_base lengths bytes)) ≡ whole → true ≡ whole
+none_taken : (a b n : ℕ) → none_between a b (take n []) ≡ true
 unfolding none_between
-between_stops coding r lengths bytes rest op a b whole read after inv = between_step coding r lengths bytes rest op (effect_of op) None a b whole read refl after inv
+none_taken a b n = ap (none_between a b) (take_none n)
 
-pub between_ends : (coding : Coding) (r next : Registers) (lengths bytes rest : List ℕ) (op : LineOp) (a b : ℕ) (whole : Bool)
-    → op_at coding.opcode_base lengths bytes ≡ Ok (op, rest) → Ends ≡ effect_of op → Some next ≡ after_op coding op r
-    → none_between a b (rows_from coding r (operations coding.opcode_base lengths bytes)) ≡ whole → true ≡ whole
+pub between_done : (a b n : ℕ) (rows : List Registers) (whole : Bool) → n ≡ 0 → none_between a b (take n rows) ≡ whole → true ≡ whole
 unfolding none_between
-between_ends coding r next lengths bytes rest op a b whole read is after inv = between_step coding r lengths bytes rest op Ends (Some next) a b whole read is after inv
+between_done a b n rows whole z inv = ap (λ (k : ℕ). none_between a b (take k rows)) (sym z) ∙ inv
 
-pub between_sets : (coding : Coding) (r next : Registers) (lengths bytes rest : List ℕ) (op : LineOp) (a b : ℕ) (whole : Bool)
-    → op_at coding.opcode_base lengths bytes ≡ Ok (op, rest) → Sets ≡ effect_of op → Some next ≡ after_op coding op r
-    → none_between a b (rows_from coding r (operations coding.opcode_base lengths bytes)) ≡ whole
-    → none_between a b (rows_from coding next (operations coding.opcode_base lengths rest)) ≡ whole
-between_sets coding r next lengths bytes rest op a b whole read is after inv = between_step coding r lengths bytes rest op Sets (Some next) a b whole read is after inv
+module _ (coding : Coding) (r : Registers) (lengths bytes : List ℕ) (a b n : ℕ) (whole : Bool)
+    (inv : none_between a b (take n (rows_from coding r (operations coding.opcode_base lengths bytes))) ≡ whole) where
+  pub between_out : length bytes ≡ 0 → true ≡ whole
+  between_out e =
+      sym (none_taken a b n) ∙ sym (ap (λ (l : List Registers). none_between a b (take n l)) (rows_end coding r lengths bytes e)) ∙ inv
 
--- a row more, by what the two tests say of it
-row_more : (coding : Coding) (r next : Registers) (lengths bytes rest : List ℕ) (op : LineOp) (a b : ℕ) (whole : Bool)
-    → op_at coding.opcode_base lengths bytes ≡ Ok (op, rest) → Appends ≡ effect_of op → Some next ≡ after_op coding op r
-    → none_between a b (rows_from coding r (operations coding.opcode_base lengths bytes)) ≡ whole
-    → (p q : Bool) → nat_lt b next.address ≡ p → nat_lt a next.address ≡ q
-    → cond p true (cond q false (none_between a b (rows_from coding (after_row next) (operations coding.opcode_base lengths rest)))) ≡ whole
-unfolding none_between
-row_more coding r next lengths bytes rest op a b whole read is after inv p q ep eq =
-    let more : Bool = none_between a b (rows_from coding (after_row next) (operations coding.opcode_base lengths rest)) in
-    ap (λ (p : Bool). cond p true (cond q false more)) (sym ep)
-    ∙ ap (λ (q : Bool). cond (nat_lt b next.address) true (cond q false more)) (sym eq)
-    ∙ between_step coding r lengths bytes rest op Appends (Some next) a b whole read is after inv
+  pub between_gap : (gap : Gap) → op_at coding.opcode_base lengths bytes ≡ Err gap → true ≡ whole
+  between_gap gap e =
+      sym (none_taken a b n) ∙ sym (ap (λ (l : List Registers). none_between a b (take n l)) (rows_gap coding r lengths bytes gap e)) ∙ inv
 
-pub between_past : (coding : Coding) (r next : Registers) (lengths bytes rest : List ℕ) (op : LineOp) (a b : ℕ) (whole : Bool)
-    → op_at coding.opcode_base lengths bytes ≡ Ok (op, rest) → Appends ≡ effect_of op → Some next ≡ after_op coding op r
-    → none_between a b (rows_from coding r (operations coding.opcode_base lengths bytes)) ≡ whole → b < next.address → true ≡ whole
-between_past coding r next lengths bytes rest op a b whole read is after inv h =
-    row_more coding r next lengths bytes rest op a b whole read is after inv true (nat_lt a next.address) (grind (arith, nat_tests)) refl
+  module _ (rest : List ℕ) (op : LineOp) (read : op_at coding.opcode_base lengths bytes ≡ Ok (op, rest)) where
+    between_step : (e : Effect) (o : Option Registers) → e ≡ effect_of op → o ≡ after_op coding op r
+        → none_between a b (take n (rows_behind (λ r. rows_from coding r (operations coding.opcode_base lengths rest)) e o)) ≡ whole
+    between_step e o is after =
+        ap (λ (e : Effect). none_between a b
+        (take n (rows_behind (λ r. rows_from coding r (operations coding.opcode_base lengths rest)) e o))) is
+        ∙ ap (λ (o : Option Registers). none_between a b
+        (take n (rows_behind (λ r. rows_from coding r (operations coding.opcode_base lengths rest))
+        (effect_of op) o))) after
+        ∙ sym (ap (λ (l : List Registers). none_between a b (take n l)) (rows_step coding r lengths bytes rest op read)) ∙ inv
 
-pub between_there : (coding : Coding) (r next : Registers) (lengths bytes rest : List ℕ) (op : LineOp) (a b : ℕ) (whole : Bool)
-    → op_at coding.opcode_base lengths bytes ≡ Ok (op, rest) → Appends ≡ effect_of op → Some next ≡ after_op coding op r
-    → none_between a b (rows_from coding r (operations coding.opcode_base lengths bytes)) ≡ whole → next.address ≤ b → a < next.address → false ≡ whole
-between_there coding r next lengths bytes rest op a b whole read is after inv h k =
-    row_more coding r next lengths bytes rest op a b whole read is after inv false true (grind (arith, nat_tests)) (grind (arith, nat_tests))
+    pub between_stops : None ≡ after_op coding op r → true ≡ whole
+    between_stops after = sym (none_taken a b n) ∙ between_step (effect_of op) None refl after
 
-pub between_more : (coding : Coding) (r next present : Registers) (lengths bytes rest : List ℕ) (op : LineOp) (a b : ℕ) (whole : Bool)
-    → op_at coding.opcode_base lengths bytes ≡ Ok (op, rest) → Appends ≡ effect_of op → Some next ≡ after_op coding op r
-    → none_between a b (rows_from coding r (operations coding.opcode_base lengths bytes)) ≡ whole → next.address ≤ b → next.address ≤ a → present ≡ after_row next
-    → none_between a b (rows_from coding present (operations coding.opcode_base lengths rest)) ≡ whole
-between_more coding r next present lengths bytes rest op a b whole read is after inv h k p =
-    ap (λ (q : Registers). none_between a b (rows_from coding q (operations coding.opcode_base lengths rest))) p
-    ∙ row_more coding r next lengths bytes rest op a b whole read is after inv false false (grind (arith, nat_tests)) (grind (arith, nat_tests))
+    pub between_ends : (next : Registers) → Ends ≡ effect_of op → Some next ≡ after_op coding op r → true ≡ whole
+    between_ends next is after = sym (none_taken a b n) ∙ between_step Ends (Some next) is after
+
+    pub between_sets : (next : Registers) → Sets ≡ effect_of op → Some next ≡ after_op coding op r
+        → none_between a b (take n (rows_from coding next (operations coding.opcode_base lengths rest))) ≡ whole
+    between_sets next is after = between_step Sets (Some next) is after
+
+    -- a row more, by what the two tests say of it
+    row_more : (next : Registers) → (n ≡ 0 → ⊥) → Appends ≡ effect_of op → Some next ≡ after_op coding op r
+        → (p q : Bool) → nat_lt b next.address ≡ p → nat_lt a next.address ≡ q
+        → cond p true (cond q false
+        (none_between a b (take (n - 1) (rows_from coding (after_row next) (operations coding.opcode_base lengths rest))))) ≡ whole
+    unfolding none_between
+    row_more next some is after p q ep eq =
+        let one : n ≡ suc (n - 1) = omega arith in
+        let behind : List Registers = rows_from coding (after_row next) (operations coding.opcode_base lengths rest) in
+        let more : Bool = none_between a b (take (n - 1) behind) in
+        ap (λ (p : Bool). cond p true (cond q false more)) (sym ep)
+        ∙ ap (λ (q : Bool). cond (nat_lt b next.address) true (cond q false more)) (sym eq)
+        ∙ sym (ap (λ (k : ℕ). none_between a b (take k (next ∷ behind))) one)
+        ∙ between_step Appends (Some next) is after
+
+    pub between_past : (next : Registers) → (n ≡ 0 → ⊥) → Appends ≡ effect_of op → Some next ≡ after_op coding op r → b < next.address
+        → true ≡ whole
+    between_past next some is after h = row_more next some is after true (nat_lt a next.address) (grind (arith, nat_tests)) refl
+
+    pub between_there : (next : Registers) → (n ≡ 0 → ⊥) → Appends ≡ effect_of op → Some next ≡ after_op coding op r
+        → next.address ≤ b → a < next.address → false ≡ whole
+    between_there next some is after h k = row_more next some is after false true (grind (arith, nat_tests)) (grind (arith, nat_tests))
+
+    pub between_more : (next present : Registers) (left : ℕ) → (n ≡ 0 → ⊥) → Appends ≡ effect_of op → Some next ≡ after_op coding op r
+        → next.address ≤ b → next.address ≤ a → present ≡ after_row next → left ≡ n - 1
+        → none_between a b (take left (rows_from coding present (operations coding.opcode_base lengths rest))) ≡ whole
+    between_more next present left some is after h k p l =
+        ap (λ (m : ℕ). none_between a b (take m (rows_from coding present (operations coding.opcode_base lengths rest)))) l
+        ∙ ap (λ (q : Registers). none_between a b (take (n - 1) (rows_from coding q (operations coding.opcode_base lengths rest)))) p
+        ∙ row_more next some is after false false (grind (arith, nat_tests)) (grind (arith, nat_tests))

@@ -1,5 +1,7 @@
 -- The walk over a sequence whose states are kept.
-use Rattle.std.proofs.Common.{◌≡◌, ◌<◌, ◌≤◌, ◌-◌, ◌+◌, ◌*◌, ◌%◌, ◌==◌, ◌++◌, ℕ, List, [], ◌∷◌, refl, arith, sym, ◌∙◌, ap, subst, Ok, Err, map, append_assoc, length, drop, length-drop, length-append, Option, Some, None, Bool, true, false, cond, ⊎_elim}
+use Rattle.std.proofs.Common.{◌≡◌, ◌<◌, ◌≤◌, ◌-◌, ◌+◌, ◌||◌, ◌++◌, nat_le, get_or, ℕ, List, [], ◌∷◌, refl, arith, sym, ◌∙◌, ap, subst, Ok}
+use Rattle.std.proofs.Common.{Err, map, append_assoc, length, drop, length-drop, length-append, Option, Some, None, Bool, true, false}
+use Rattle.std.proofs.Common.{cond, ⊎_elim}
 use Rattle.std.proofs.lemmas.Bool.Decides.{nat_tests}
 use Rattle.std.proofs.lemmas.List.{drop-drop, get_or_push, append-nil, map-append}
 use Rattle.std.proofs.Math.ListN.{get_or-append}
@@ -13,110 +15,199 @@ use Rattle.line_rewrite.specs.declared.operation.LineOp.{LineOp}
 use Rattle.line_rewrite.specs.declared.effect.Effect.{Effect}
 use Rattle.line_rewrite.specs.declared.effect.Effect.TheVariants.{Appends, Ends, Sets}
 use Rattle.line_rewrite.specs.Operations.{op_at, operations}
-use Rattle.line_rewrite.specs.LineMachine.{rows_from, rows_behind, after_op, after_row, effect_of, start, sequences, sequences_from, sequences_behind, Sequence}
-use Rattle.line_rewrite.specs.Keeping.{rows_at_place, IsBefore, AreKept, Suffice, kept_more, low_of}
+use Rattle.line_rewrite.specs.LineMachine.{rows_from, rows_behind, after_op, after_row, effect_of, start, sequences, sequences_from}
+use Rattle.line_rewrite.specs.LineMachine.{sequences_behind, Sequence}
+use Rattle.line_rewrite.specs.declared.kept.Due.{Due}
+use Rattle.line_rewrite.specs.Keeping.{rows_at_place, IsBefore, AreKept, Begins, is_due, kept_more, low_of}
 use Rattle.line_rewrite.specs.declared.kept.KeptSequence.{KeptSequence}
 use Rattle.line_rewrite.specs.KeptSequences.{IsKept, told_sequence}
 use Rattle.line_rewrite.specs.LineAnswers.{first_address}
 use Rattle.line_rewrite.proofs.Shortens.{op_shortens, twice}
 use Rattle.line_rewrite.proofs.Steps.{rows_step, operations_step, operations_gap, operations_end}
 
-pub sequences_step : (coding : Coding) (rows : List Registers) (r : Registers) (lengths bytes rest : List ℕ) (op : LineOp) → op_at coding.opcode_base lengths bytes ≡ Ok (op, rest)
+pub sequences_step : (coding : Coding) (rows : List Registers) (r : Registers) (lengths bytes rest : List ℕ) (op : LineOp)
+    → op_at coding.opcode_base lengths bytes ≡ Ok (op, rest)
     → sequences_from coding rows r (operations coding.opcode_base lengths bytes)
-    ≡ sequences_behind (λ r. sequences_from coding rows r (operations coding.opcode_base lengths rest)) (sequences coding (operations coding.opcode_base lengths rest)) rows (effect_of op) (after_op coding op r)
+    ≡ sequences_behind (λ r. sequences_from coding rows r (operations coding.opcode_base lengths rest))
+    (sequences coding (operations coding.opcode_base lengths rest)) rows (effect_of op) (after_op coding op r)
 unfolding sequences_from
-sequences_step coding rows r lengths bytes rest op e = ap (sequences_from coding rows r) (operations_step coding.opcode_base lengths bytes rest op e)
+sequences_step coding rows r lengths bytes rest op e =
+    ap (sequences_from coding rows r) (operations_step coding.opcode_base lengths bytes rest op e)
 
-pub sequences_none : (coding : Coding) (rows : List Registers) (r : Registers) (ops : List LineOp) → ops ≡ [] → sequences_from coding rows r ops ≡ []
+pub sequences_none : (coding : Coding) (rows : List Registers) (r : Registers) (ops : List LineOp) → ops ≡ []
+    → sequences_from coding rows r ops ≡ []
 unfolding sequences_from
 sequences_none coding rows r ops e = ap (sequences_from coding rows r) e
 
+-- while no state is kept, one is due
+abbrev pub FirstDue : Due → List Kept → Type 0
+FirstDue due [] = due.row ≡ 0
+FirstDue due (k ∷ kept) = Unit {0}
+
 -- what is so on the way over the sequence that begins at a place
-pub record OnWay (coding : Coding) (lengths bytes : List ℕ) (place : ℕ) (whole : List Registers) (left : List ℕ) (r : Registers) (count : ℕ) (kept : List Kept) : Type 0 where
+pub record OnWay (coding : Coding) (lengths bytes : List ℕ) (place : ℕ) (whole : List Registers) (left : List ℕ) (r : Registers) (count : ℕ)
+    (due : Due) (kept : List Kept) : Type 0 where
   pub on : length left + place ≤ length bytes
   pub behind : left ≡ drop (length bytes - length left) bytes
-  pub others : sequences_from coding whole r (operations coding.opcode_base lengths left) ≡ sequences coding (operations coding.opcode_base lengths (drop place bytes))
+  pub others : sequences_from coding whole r (operations coding.opcode_base lengths left) ≡ sequences coding
+      (operations coding.opcode_base lengths (drop place bytes))
   pub rows : rows_from coding r (operations coding.opcode_base lengths left) ≡ drop count whole
   pub counted : count + length left ≤ length bytes
   pub reached : count ≤ length whole
   pub states : AreKept coding lengths bytes whole kept
-  pub many : Suffice count (length kept)
+  pub begins : Begins count kept
+  pub low : (j : ℕ) (d : Kept) → j < length kept → (get_or kept j d).index < count
+  pub first : FirstDue due kept
 
 pub way_start : (coding : Coding) (lengths bytes left : List ℕ) (place : ℕ) → place ≤ length bytes → left ≡ drop place bytes
-    → OnWay coding lengths bytes place (rows_at_place coding lengths bytes (start coding) place) left (start coding) 0 []
+    → OnWay coding lengths bytes place (rows_at_place coding lengths bytes (start coding) place) left (start coding) 0
+    (record { row = 0; place = 0 }) []
 way_start coding lengths bytes left place h e =
     let n : length left ≡ length bytes - place = ap length e ∙ length-drop place bytes in
     let k : place ≡ length bytes - length left = omega arith in
     record {
       on = omega arith;
       behind = e ∙ ap (λ (k : ℕ). drop k bytes) k;
-      others = ap (λ (l : List ℕ). sequences_from coding (rows_at_place coding lengths bytes (start coding) place) (start coding) (operations coding.opcode_base lengths l)) e;
+      others = ap (λ (l : List ℕ). sequences_from coding (rows_at_place coding lengths bytes (start coding) place) (start coding)
+          (operations coding.opcode_base lengths l)) e;
       rows = ap (λ (l : List ℕ). rows_from coding (start coding) (operations coding.opcode_base lengths l)) e;
       counted = omega arith;
       reached = omega arith;
-      states = λ j d h. absurd (omega arith);
-      many = record { all = omega arith; no_more = omega arith };
+      states = record { each = λ j d h. absurd (omega arith); rise = λ i j d h k. absurd (omega arith) };
+      begins = record { none = λ h. refl; first = λ d h. absurd (omega arith) };
+      low = λ j d h. absurd (omega arith);
+      first = refl;
     }
 
-pub way_sets : (coding : Coding) (lengths bytes : List ℕ) (place : ℕ) (whole : List Registers) (left : List ℕ) (r : Registers) (count : ℕ) (kept : List Kept) (rest : List ℕ) (op : LineOp) (next : Registers)
-    → OnWay coding lengths bytes place whole left r count kept → op_at coding.opcode_base lengths left ≡ Ok (op, rest) → Sets ≡ effect_of op → Some next ≡ after_op coding op r
-    → OnWay coding lengths bytes place whole rest next count kept
-way_sets coding lengths bytes place whole left r count kept rest op next w read is after =
+pub way_sets : (coding : Coding) (lengths bytes : List ℕ) (place : ℕ) (whole : List Registers) (left : List ℕ) (r : Registers) (count : ℕ)
+    (due : Due) (kept : List Kept) (rest : List ℕ) (op : LineOp) (next : Registers)
+    → OnWay coding lengths bytes place whole left r count due kept → op_at coding.opcode_base lengths left ≡ Ok (op, rest)
+    → Sets ≡ effect_of op → Some next ≡ after_op coding op r
+    → OnWay coding lengths bytes place whole rest next count due kept
+way_sets coding lengths bytes place whole left r count due kept rest op next w read is after =
     let h : length rest + 1 ≤ length left = (op_shortens coding.opcode_base lengths left).shorter op rest read in
     let b : rest ≡ drop (length left - length rest) left = (op_shortens coding.opcode_base lengths left).behind op rest read in
     let others : List Sequence = sequences coding (operations coding.opcode_base lengths rest) in
     record {
       on = omega arith;
       behind = twice bytes left rest (omega arith) (omega arith) w.behind b;
-      others = ap (λ (e : Effect). sequences_behind (λ r. sequences_from coding whole r (operations coding.opcode_base lengths rest)) others whole e (Some next)) is
-          ∙ ap (λ (o : Option Registers). sequences_behind (λ r. sequences_from coding whole r (operations coding.opcode_base lengths rest)) others whole (effect_of op) o) after
+      others = ap (λ (e : Effect). sequences_behind
+          (λ r. sequences_from coding whole r (operations coding.opcode_base lengths rest)) others whole e (Some next)) is
+          ∙ ap (λ (o : Option Registers). sequences_behind
+          (λ r. sequences_from coding whole r (operations coding.opcode_base lengths rest)) others whole (effect_of op) o) after
           ∙ sym (sequences_step coding whole r lengths left rest op read) ∙ w.others;
       rows = ap (λ (e : Effect). rows_behind (λ r. rows_from coding r (operations coding.opcode_base lengths rest)) e (Some next)) is
-          ∙ ap (λ (o : Option Registers). rows_behind (λ r. rows_from coding r (operations coding.opcode_base lengths rest)) (effect_of op) o) after
+          ∙ ap (λ (o : Option Registers). rows_behind (λ r. rows_from coding r (operations coding.opcode_base lengths rest))
+          (effect_of op) o) after
           ∙ sym (rows_step coding r lengths left rest op read) ∙ w.rows;
       counted = omega arith;
       reached = w.reached;
       states = w.states;
-      many = w.many;
+      begins = w.begins;
+      low = w.low;
+      first = w.first;
     }
 
-kept_snoc : (coding : Coding) (lengths bytes : List ℕ) (rows : List Registers) (kept : List Kept) (k : Kept) → AreKept coding lengths bytes rows kept
-    → IsBefore coding lengths bytes rows (64 * length kept) k → AreKept coding lengths bytes rows (kept ++ k ∷ [])
-kept_snoc coding lengths bytes rows kept k a b j d h = ⊎_elim
-    (λ (lt : j < length kept). subst (IsBefore coding lengths bytes rows (64 * j)) (sym (get_or-append kept (k ∷ []) d j lt)) (a j d lt))
-    (λ (ge : length kept ≤ j).
-    let e : length kept ≡ j = omega (arith, length-append kept (k ∷ []), h, ge) in
-    subst (IsBefore coding lengths bytes rows (64 * j)) (sym (get_or_push kept k d j e)) (subst (λ (n : ℕ). IsBefore coding lengths bytes rows (64 * n) k) e b))
-    (cases_lt j (length kept))
+-- one state more, whose row isn't before that of another
+kept_snoc : (coding : Coding) (lengths bytes : List ℕ) (rows : List Registers) (kept : List Kept) (k : Kept)
+    → AreKept coding lengths bytes rows kept
+    → IsBefore coding lengths bytes rows k.index k → ((j : ℕ) (d : Kept) → j < length kept → (get_or kept j d).index < k.index)
+    → AreKept coding lengths bytes rows (kept ++ k ∷ [])
+kept_snoc coding lengths bytes rows kept k a b low = record {
+  each = λ j d h. ⊎_elim
+      (λ (lt : j < length kept). subst (λ (x : Kept). IsBefore coding lengths bytes rows x.index x)
+      (sym (get_or-append kept (k ∷ []) d j lt)) (a.each j d lt))
+      (λ (ge : length kept ≤ j). subst (λ (x : Kept). IsBefore coding lengths bytes rows x.index x) (sym (last j d ge h)) b)
+      (cases_lt j (length kept));
+  rise = λ i j d le h. ⊎_elim
+      (λ (lt : j < length kept).
+      let same_i : get_or (kept ++ k ∷ []) i d ≡ get_or kept i d = get_or-append kept (k ∷ []) d i (omega arith) in
+      let same_j : get_or (kept ++ k ∷ []) j d ≡ get_or kept j d = get_or-append kept (k ∷ []) d j lt in
+      subst (λ (x : Kept). x.index ≤ (get_or (kept ++ k ∷ []) j d).index) (sym same_i)
+      (subst (λ (x : Kept). (get_or kept i d).index ≤ x.index) (sym same_j) (a.rise i j d le lt)))
+      (λ (ge : length kept ≤ j).
+      subst (λ (x : Kept). (get_or (kept ++ k ∷ []) i d).index ≤ x.index) (sym (last j d ge h)) (up_to i d (omega arith)))
+      (cases_lt j (length kept));
+}
+  where
+    last : (j : ℕ) (d : Kept) → length kept ≤ j → j < length (kept ++ k ∷ []) → get_or (kept ++ k ∷ []) j d ≡ k
+    last j d ge h = get_or_push kept k d j (omega (arith, length-append kept (k ∷ []), h, ge))
+
+    up_to : (i : ℕ) (d : Kept) → i < length (kept ++ k ∷ []) → (get_or (kept ++ k ∷ []) i d).index ≤ k.index
+    up_to i d h = ⊎_elim
+        (λ (lt : i < length kept).
+        let l : (get_or kept i d).index < k.index = low i d lt in
+        subst (λ (x : Kept). x.index ≤ k.index) (sym (get_or-append kept (k ∷ []) d i lt)) (omega arith))
+        (λ (ge : length kept ≤ i). subst (λ (x : Kept). x.index ≤ k.index) (sym (last i d ge h)) (omega arith))
+        (cases_lt i (length kept))
 
 next_of : (n : ℕ) (l : List Registers) (x : Registers) (xs : List Registers) → drop n l ≡ x ∷ xs → (n < length l) × (xs ≡ drop (n + 1) l)
 next_of n l x xs e = grind (arith, common_steps, length-drop n l, drop-drop 1 n l)
 
-more_kept : (coding : Coding) (lengths bytes : List ℕ) (whole : List Registers) (count : ℕ) (kept new : List Kept) (k : Kept)
-    → (test : Bool) → (count % 64 == 0) ≡ test → new ≡ cond test (kept ++ k ∷ []) kept → IsBefore coding lengths bytes whole count k
-    → AreKept coding lengths bytes whole kept → Suffice count (length kept) → AreKept coding lengths bytes whole new × Suffice (count + 1) (length new)
-more_kept coding lengths bytes whole count kept new k true t e b a s =
-    let all : count ≤ 64 * length kept = s.all in
-    let no_more : 64 * length kept < count + 64 = s.no_more in
-    let z : count % 64 ≡ 0 = grind (arith, nat_tests) in
-    let n : count ≡ 64 * length kept = omega arith in
-    let l : length new ≡ length kept + 1 = ap length e ∙ length-append kept (k ∷ []) in (
-      subst (AreKept coding lengths bytes whole) (sym e) (kept_snoc coding lengths bytes whole kept k a (subst (λ (n : ℕ). IsBefore coding lengths bytes whole n k) n b)),
-      record { all = omega arith; no_more = omega arith },
-    )
-more_kept coding lengths bytes whole count kept new k false t e b a s =
-    let all : count ≤ 64 * length kept = s.all in
-    let no_more : 64 * length kept < count + 64 = s.no_more in
-    let z : count % 64 ≡ 0 → ⊥ = grind (arith, nat_tests) in
-    let l : length new ≡ length kept = ap length e in
-    (subst (AreKept coding lengths bytes whole) (sym e) a, record { all = omega arith; no_more = omega arith })
+-- a state more, where one is due
+pub record KeptMore (coding : Coding) (lengths bytes : List ℕ) (whole : List Registers) (count : ℕ) (due : Due)
+    (new : List Kept) : Type 0 where
+  pub states : AreKept coding lengths bytes whole new
+  pub begins : Begins (count + 1) new
+  pub low : (j : ℕ) (d : Kept) → j < length new → (get_or new j d).index < count + 1
+  pub first : FirstDue due new
 
-pub way_appends : (coding : Coding) (lengths bytes : List ℕ) (place : ℕ) (whole : List Registers) (left : List ℕ) (r : Registers) (count : ℕ) (kept : List Kept) (rest : List ℕ) (op : LineOp) (next present : Registers)
-    (new : List Kept) (k : Kept)
-    → OnWay coding lengths bytes place whole left r count kept → op_at coding.opcode_base lengths left ≡ Ok (op, rest) → Appends ≡ effect_of op → Some next ≡ after_op coding op r
-    → present ≡ after_row next → k ≡ record { place = length bytes - length left; registers = r; address = next.address } → new ≡ kept_more count k kept
-    → OnWay coding lengths bytes place whole rest present (count + 1) new
-way_appends coding lengths bytes place whole left r count kept rest op next present new k w read is after p kis e =
+begins_more : (count : ℕ) (due : Due) (kept : List Kept) (k : Kept) → k.index ≡ count → Begins count kept
+    → Begins (count + 1) (kept ++ k ∷ [])
+begins_more count due [] k e b = record { none = λ h. absurd (omega arith); first = λ d h. e ∙ b.none refl }
+begins_more count due (x ∷ kept) k e b = record { none = λ h. absurd (omega arith); first = λ d h. b.first d (omega arith) }
+
+some_due : (due : Due) (kept : List Kept) (k : Kept) → FirstDue due (kept ++ k ∷ [])
+some_due due [] k = tt
+some_due due (x ∷ kept) k = tt
+
+begins_on : (count : ℕ) (due next : Due) (kept : List Kept) (k : Kept) → is_due due k ≡ false → FirstDue due kept → Begins count kept
+    → Begins (count + 1) kept × FirstDue next kept
+begins_on count due next [] k t first b =
+    let now : nat_le due.row k.index ≡ true = grind (arith, nat_tests, first) in
+    absurd (cc (sym (ap (λ (x : Bool). x || nat_le due.place k.place) now) ∙ t))
+begins_on count due next (x ∷ kept) k t first b =
+    (record { none = λ h. absurd (omega arith); first = λ d h. b.first d (omega arith) }, tt)
+
+more_kept : (coding : Coding) (lengths bytes : List ℕ) (whole : List Registers) (count : ℕ) (kept new : List Kept) (due next : Due)
+    (k : Kept)
+    → (test : Bool) → is_due due k ≡ test → new ≡ cond test (kept ++ k ∷ []) kept → k.index ≡ count
+    → IsBefore coding lengths bytes whole count k
+    → AreKept coding lengths bytes whole kept → Begins count kept → ((j : ℕ) (d : Kept) → j < length kept → (get_or kept j d).index < count)
+    → FirstDue due kept → KeptMore coding lengths bytes whole count next new
+more_kept coding lengths bytes whole count kept new due next k true t e n b a begins low first =
+    subst (KeptMore coding lengths bytes whole count next) (sym e) (record {
+      states = kept_snoc coding lengths bytes whole kept k a (subst (λ (m : ℕ). IsBefore coding lengths bytes whole m k) (sym n) b)
+          (λ j d h. subst (λ (m : ℕ). (get_or kept j d).index < m) (sym n) (low j d h));
+      begins = begins_more count due kept k n begins;
+      low = λ j d h. ⊎_elim
+          (λ (lt : j < length kept).
+          let l : (get_or kept j d).index < count = low j d lt in
+          subst (λ (x : Kept). x.index < count + 1) (sym (get_or-append kept (k ∷ []) d j lt)) (omega arith))
+          (λ (ge : length kept ≤ j).
+          subst (λ (x : Kept). x.index < count + 1) (sym (get_or_push kept k d j (omega (arith, length-append kept (k ∷ []), h, ge))))
+          (omega (arith, n)))
+          (cases_lt j (length kept));
+      first = some_due next kept k;
+    })
+more_kept coding lengths bytes whole count kept new due next k false t e n b a begins low first =
+    let on = begins_on count due next kept k t first begins in
+    subst (KeptMore coding lengths bytes whole count next) (sym e) (record {
+      states = a;
+      begins = on.0;
+      low = λ j d h. let l : (get_or kept j d).index < count = low j d h in omega arith;
+      first = on.1;
+    })
+
+pub way_appends : (coding : Coding) (lengths bytes : List ℕ) (place : ℕ) (whole : List Registers) (left : List ℕ) (r : Registers)
+    (count : ℕ) (due : Due) (kept : List Kept) (rest : List ℕ) (op : LineOp) (next present : Registers)
+    (new : List Kept) (then : Due) (k : Kept)
+    → OnWay coding lengths bytes place whole left r count due kept → op_at coding.opcode_base lengths left ≡ Ok (op, rest)
+    → Appends ≡ effect_of op → Some next ≡ after_op coding op r
+    → present ≡ after_row next → k ≡ record { place = length bytes - length left; index = count; registers = r; address = next.address }
+    → new ≡ kept_more due k kept
+    → OnWay coding lengths bytes place whole rest present (count + 1) then new
+way_appends coding lengths bytes place whole left r count due kept rest op next present new then k w read is after p kis e =
     let h : length rest + 1 ≤ length left = (op_shortens coding.opcode_base lengths left).shorter op rest read in
     let b : rest ≡ drop (length left - length rest) left = (op_shortens coding.opcode_base lengths left).behind op rest read in
     let on : length left + place ≤ length bytes = w.on in
@@ -124,50 +215,64 @@ way_appends coding lengths bytes place whole left r count kept rest op next pres
     let more : List Registers = rows_from coding (after_row next) (operations coding.opcode_base lengths rest) in
     let step : next ∷ more ≡ rows_from coding r (operations coding.opcode_base lengths left) =
     ap (λ (e : Effect). rows_behind (λ r. rows_from coding r (operations coding.opcode_base lengths rest)) e (Some next)) is
-    ∙ ap (λ (o : Option Registers). rows_behind (λ r. rows_from coding r (operations coding.opcode_base lengths rest)) (effect_of op) o) after
+    ∙ ap (λ (o : Option Registers). rows_behind (λ r. rows_from coding r (operations coding.opcode_base lengths rest)) (effect_of op) o)
+    after
     ∙ sym (rows_step coding r lengths left rest op read) in
     let here : drop count whole ≡ next ∷ more = sym (step ∙ w.rows) in
     let tail : (count < length whole) × (more ≡ drop (count + 1) whole) = next_of count whole next more here in
-    let state : IsBefore coding lengths bytes whole count (record { place = length bytes - length left; registers = r; address = next.address }) = record {
+    let state : IsBefore coding lengths bytes whole count
+    (record { place = length bytes - length left; index = count; registers = r; address = next.address }) = record {
       within = omega arith;
       some = tail.0;
       follow = ap (λ (l : List ℕ). rows_from coding r (operations coding.opcode_base lengths l)) (sym w.behind) ∙ w.rows;
       address = ap (λ (l : List Registers). first_address l 0) here;
     } in
-    let kept' : AreKept coding lengths bytes whole new × Suffice (count + 1) (length new) =
-    more_kept coding lengths bytes whole count kept new k (count % 64 == 0) refl e (subst (IsBefore coding lengths bytes whole count) (sym kis) state) w.states w.many in
+    let kept_now : KeptMore coding lengths bytes whole count then new =
+    more_kept coding lengths bytes whole count kept new due then k (is_due due k) refl e (ap (λ (x : Kept). x.index) kis)
+    (subst (IsBefore coding lengths bytes whole count) (sym kis) state) w.states w.begins w.low w.first in
     record {
       on = omega arith;
       behind = twice bytes left rest (omega arith) (omega arith) w.behind b;
       others = ap (λ (q : Registers). sequences_from coding whole q (operations coding.opcode_base lengths rest)) p
-          ∙ ap (λ (e : Effect). sequences_behind (λ r. sequences_from coding whole r (operations coding.opcode_base lengths rest)) others whole e (Some next)) is
-          ∙ ap (λ (o : Option Registers). sequences_behind (λ r. sequences_from coding whole r (operations coding.opcode_base lengths rest)) others whole (effect_of op) o) after
+          ∙ ap (λ (e : Effect). sequences_behind
+          (λ r. sequences_from coding whole r (operations coding.opcode_base lengths rest)) others whole e (Some next)) is
+          ∙ ap (λ (o : Option Registers). sequences_behind
+          (λ r. sequences_from coding whole r (operations coding.opcode_base lengths rest)) others whole (effect_of op) o) after
           ∙ sym (sequences_step coding whole r lengths left rest op read) ∙ w.others;
       rows = ap (λ (q : Registers). rows_from coding q (operations coding.opcode_base lengths rest)) p ∙ tail.1;
       counted = let c : count + length left ≤ length bytes = w.counted in omega arith;
       reached = let t : count < length whole = tail.0 in omega arith;
-      states = kept'.0;
-      many = kept'.1;
+      states = kept_now.states;
+      begins = kept_now.begins;
+      low = kept_now.low;
+      first = kept_now.first;
     }
 
 -- the sequence ends here
-pub record Ended (coding : Coding) (lengths bytes : List ℕ) (place : ℕ) (whole : List Registers) (end next : ℕ) (kept : List Kept) : Type 0 where
-  pub sequence : sequences coding (operations coding.opcode_base lengths (drop place bytes)) ≡ record { rows = whole; end = end } ∷ sequences coding (operations coding.opcode_base lengths (drop next bytes))
+pub record Ended (coding : Coding) (lengths bytes : List ℕ) (place : ℕ) (whole : List Registers) (end next count : ℕ)
+    (kept : List Kept) : Type 0 where
+  pub sequence : sequences coding
+      (operations coding.opcode_base lengths (drop place bytes)) ≡ record { rows = whole; end = end } ∷ sequences coding
+      (operations coding.opcode_base lengths (drop next bytes))
   pub states : AreKept coding lengths bytes whole kept
-  pub many : Suffice (length whole) (length kept)
+  pub begins : Begins (length whole) kept
+  pub counted : count ≡ length whole
   pub on : (place < next) × (next ≤ length bytes)
 
-pub way_ends : (coding : Coding) (lengths bytes : List ℕ) (place : ℕ) (whole : List Registers) (left : List ℕ) (r : Registers) (count : ℕ) (kept : List Kept) (rest : List ℕ) (op : LineOp) (next : Registers)
-    → OnWay coding lengths bytes place whole left r count kept → op_at coding.opcode_base lengths left ≡ Ok (op, rest) → Ends ≡ effect_of op → Some next ≡ after_op coding op r
-    → Ended coding lengths bytes place whole next.address (length bytes - length rest) kept
-way_ends coding lengths bytes place whole left r count kept rest op next w read is after =
+pub way_ends : (coding : Coding) (lengths bytes : List ℕ) (place : ℕ) (whole : List Registers) (left : List ℕ) (r : Registers) (count : ℕ)
+    (due : Due) (kept : List Kept) (rest : List ℕ) (op : LineOp) (next : Registers)
+    → OnWay coding lengths bytes place whole left r count due kept → op_at coding.opcode_base lengths left ≡ Ok (op, rest)
+    → Ends ≡ effect_of op → Some next ≡ after_op coding op r
+    → Ended coding lengths bytes place whole next.address (length bytes - length rest) count kept
+way_ends coding lengths bytes place whole left r count due kept rest op next w read is after =
     let h : length rest + 1 ≤ length left = (op_shortens coding.opcode_base lengths left).shorter op rest read in
     let b : rest ≡ drop (length left - length rest) left = (op_shortens coding.opcode_base lengths left).behind op rest read in
     let on : length left + place ≤ length bytes = w.on in
     let behind : rest ≡ drop (length bytes - length rest) bytes = twice bytes left rest (omega arith) (omega arith) w.behind b in
     let none : [] ≡ drop count whole =
     ap (λ (e : Effect). rows_behind (λ r. rows_from coding r (operations coding.opcode_base lengths rest)) e (Some next)) is
-    ∙ ap (λ (o : Option Registers). rows_behind (λ r. rows_from coding r (operations coding.opcode_base lengths rest)) (effect_of op) o) after
+    ∙ ap (λ (o : Option Registers). rows_behind (λ r. rows_from coding r (operations coding.opcode_base lengths rest)) (effect_of op) o)
+    after
     ∙ sym (rows_step coding r lengths left rest op read) ∙ w.rows in
     let empty : 0 ≡ length whole - count = ap length none ∙ length-drop count whole in
     let reached : count ≤ length whole = w.reached in
@@ -175,51 +280,66 @@ way_ends coding lengths bytes place whole left r count kept rest op next w read 
     let others : List Sequence = sequences coding (operations coding.opcode_base lengths rest) in
     record {
       sequence = sym w.others ∙ sequences_step coding whole r lengths left rest op read
-          ∙ sym (ap (λ (o : Option Registers). sequences_behind (λ r. sequences_from coding whole r (operations coding.opcode_base lengths rest)) others whole (effect_of op) o) after)
-          ∙ sym (ap (λ (e : Effect). sequences_behind (λ r. sequences_from coding whole r (operations coding.opcode_base lengths rest)) others whole e (Some next)) is)
-          ∙ ap (λ (l : List ℕ). record { rows = whole; end = next.address } ∷ sequences coding (operations coding.opcode_base lengths l)) behind;
+          ∙ sym (ap (λ (o : Option Registers). sequences_behind
+          (λ r. sequences_from coding whole r (operations coding.opcode_base lengths rest)) others whole (effect_of op) o) after)
+          ∙ sym (ap (λ (e : Effect). sequences_behind
+          (λ r. sequences_from coding whole r (operations coding.opcode_base lengths rest)) others whole e (Some next)) is)
+          ∙ ap (λ (l : List ℕ). record { rows = whole; end = next.address } ∷ sequences coding (operations coding.opcode_base lengths l))
+          behind;
       states = w.states;
-      many = subst (λ (n : ℕ). Suffice n (length kept)) all w.many;
+      begins = subst (λ (n : ℕ). Begins n kept) all w.begins;
+      counted = all;
       on = (omega arith, omega arith);
     }
 
-pub way_stops : (coding : Coding) (lengths bytes : List ℕ) (place : ℕ) (whole : List Registers) (left : List ℕ) (r : Registers) (count : ℕ) (kept : List Kept) (rest : List ℕ) (op : LineOp)
-    → OnWay coding lengths bytes place whole left r count kept → op_at coding.opcode_base lengths left ≡ Ok (op, rest) → None ≡ after_op coding op r
+pub way_stops : (coding : Coding) (lengths bytes : List ℕ) (place : ℕ) (whole : List Registers) (left : List ℕ) (r : Registers) (count : ℕ)
+    (due : Due) (kept : List Kept) (rest : List ℕ) (op : LineOp)
+    → OnWay coding lengths bytes place whole left r count due kept → op_at coding.opcode_base lengths left ≡ Ok (op, rest)
+    → None ≡ after_op coding op r
     → sequences coding (operations coding.opcode_base lengths (drop place bytes)) ≡ []
-way_stops coding lengths bytes place whole left r count kept rest op w read after =
+way_stops coding lengths bytes place whole left r count due kept rest op w read after =
     sym w.others ∙ sequences_step coding whole r lengths left rest op read
-    ∙ sym (ap (λ (o : Option Registers). sequences_behind (λ r. sequences_from coding whole r (operations coding.opcode_base lengths rest)) (sequences coding (operations coding.opcode_base lengths rest)) whole (effect_of op) o) after)
+    ∙ sym (ap (λ (o : Option Registers). sequences_behind (λ r. sequences_from coding whole r (operations coding.opcode_base lengths rest))
+    (sequences coding (operations coding.opcode_base lengths rest)) whole (effect_of op) o) after)
 
-pub way_gap : (coding : Coding) (lengths bytes : List ℕ) (place : ℕ) (whole : List Registers) (left : List ℕ) (r : Registers) (count : ℕ) (kept : List Kept) (gap : Gap)
-    → OnWay coding lengths bytes place whole left r count kept → op_at coding.opcode_base lengths left ≡ Err gap → sequences coding (operations coding.opcode_base lengths (drop place bytes)) ≡ []
-way_gap coding lengths bytes place whole left r count kept gap w read =
+pub way_gap : (coding : Coding) (lengths bytes : List ℕ) (place : ℕ) (whole : List Registers) (left : List ℕ) (r : Registers) (count : ℕ)
+    (due : Due) (kept : List Kept) (gap : Gap)
+    → OnWay coding lengths bytes place whole left r count due kept → op_at coding.opcode_base lengths left ≡ Err gap
+    → sequences coding (operations coding.opcode_base lengths (drop place bytes)) ≡ []
+way_gap coding lengths bytes place whole left r count due kept gap w read =
     sym w.others ∙ sequences_none coding whole r _ (operations_gap coding.opcode_base lengths left gap read)
 
-pub way_out : (coding : Coding) (lengths bytes : List ℕ) (place : ℕ) (whole : List Registers) (left : List ℕ) (r : Registers) (count : ℕ) (kept : List Kept)
-    → OnWay coding lengths bytes place whole left r count kept → length left ≡ 0 → sequences coding (operations coding.opcode_base lengths (drop place bytes)) ≡ []
-way_out coding lengths bytes place whole left r count kept w e =
+pub way_out : (coding : Coding) (lengths bytes : List ℕ) (place : ℕ) (whole : List Registers) (left : List ℕ) (r : Registers) (count : ℕ)
+    (due : Due) (kept : List Kept)
+    → OnWay coding lengths bytes place whole left r count due kept → length left ≡ 0
+    → sequences coding (operations coding.opcode_base lengths (drop place bytes)) ≡ []
+way_out coding lengths bytes place whole left r count due kept w e =
     sym w.others ∙ sequences_none coding whole r _ (operations_end coding.opcode_base lengths left e)
 
 -- the address of the first row, from the states
-pub low_is : (coding : Coding) (lengths bytes : List ℕ) (rows : List Registers) (kept : List Kept) (end : ℕ) → AreKept coding lengths bytes rows kept
-    → Suffice (length rows) (length kept) → low_of kept end ≡ first_address rows end
-low_is coding lengths bytes [] [] end a s = refl
-low_is coding lengths bytes [] (k ∷ kept) end a s = let h : 0 < 0 = (a 0 k (omega arith)).some in absurd (omega arith)
-low_is coding lengths bytes (r ∷ rows) [] end a s = let h : length (r ∷ rows) ≤ 64 * 0 = s.all in absurd (omega arith)
-low_is coding lengths bytes (r ∷ rows) (k ∷ kept) end a s = sym (a 0 k (omega arith)).address
+pub low_is : (coding : Coding) (lengths bytes : List ℕ) (rows : List Registers) (kept : List Kept) (end : ℕ)
+    → AreKept coding lengths bytes rows kept
+    → Begins (length rows) kept → low_of kept end ≡ first_address rows end
+low_is coding lengths bytes [] [] end a b = refl
+low_is coding lengths bytes [] (k ∷ kept) end a b = let h : k.index < 0 = (a.each 0 k (omega arith)).some in absurd (omega arith)
+low_is coding lengths bytes (r ∷ rows) [] end a b = let h : length (r ∷ rows) ≡ 0 = b.none refl in absurd (omega arith)
+low_is coding lengths bytes (r ∷ rows) (k ∷ kept) end a b =
+    sym (sym (ap (λ (n : ℕ). first_address (drop n (r ∷ rows)) 0) (b.first k (omega arith))) ∙ (a.each 0 k (omega arith)).address)
 
-pub is_kept : (coding : Coding) (lengths bytes : List ℕ) (place end next low : ℕ) (kept : List Kept) (k : KeptSequence)
-    → Ended coding lengths bytes place (rows_at_place coding lengths bytes (start coding) place) end next kept
-    → k.place ≡ place → k.end ≡ end → k.low ≡ low → low ≡ low_of kept end → k.kept.items ≡ kept → IsKept coding lengths bytes k
-is_kept coding lengths bytes place end next low kept k w p e l m s = record {
-  states = subst (λ (p : ℕ). AreKept coding lengths bytes (rows_at_place coding lengths bytes (start coding) p) k.kept.items) (sym p)
-      (subst (AreKept coding lengths bytes (rows_at_place coding lengths bytes (start coding) place)) (sym s) w.states);
-  many = subst (λ (p : ℕ). Suffice (length (rows_at_place coding lengths bytes (start coding) p)) (length k.kept.items)) (sym p)
-      (subst (λ (l : List Kept). Suffice (length (rows_at_place coding lengths bytes (start coding) place)) (length l)) (sym s) w.many);
-  low = l ∙ m ∙ low_is coding lengths bytes (rows_at_place coding lengths bytes (start coding) place) kept end w.states w.many
-      ∙ sym (ap (λ (p : ℕ). first_address (rows_at_place coding lengths bytes (start coding) p) end) p)
-      ∙ sym (ap (first_address (rows_at_place coding lengths bytes (start coding) k.place)) e);
-}
+pub is_kept : (coding : Coding) (lengths bytes : List ℕ) (place end next low count : ℕ) (kept : List Kept) (k : KeptSequence)
+    → Ended coding lengths bytes place (rows_at_place coding lengths bytes (start coding) place) end next count kept
+    → k.place ≡ place → k.end ≡ end → k.low ≡ low → low ≡ low_of kept end → k.rows ≡ count → k.kept.items ≡ kept
+    → IsKept coding lengths bytes k
+is_kept coding lengths bytes place end next low count kept k w p e l m n s =
+    let rows : ℕ → List Registers = λ p. rows_at_place coding lengths bytes (start coding) p in
+    record {
+      states = subst (λ (p : ℕ). AreKept coding lengths bytes (rows p) k.kept.items) (sym p)
+          (subst (AreKept coding lengths bytes (rows place)) (sym s) w.states);
+      begins = subst (λ (p : ℕ). Begins (length (rows p)) k.kept.items) (sym p) (subst (Begins (length (rows place))) (sym s) w.begins);
+      count = n ∙ w.counted ∙ sym (ap (λ (p : ℕ). length (rows p)) p);
+      low = l ∙ m ∙ low_is coding lengths bytes (rows place) kept end w.states w.begins
+          ∙ sym (ap (λ (p : ℕ). first_address (rows p) end) p) ∙ sym (ap (first_address (rows k.place)) e);
+    }
 
 -- the sequences from a place on, one at a time
 
@@ -250,5 +370,6 @@ module _ (coding : Coding) (lengths bytes : List ℕ) where
   pub sequences_out : (place : ℕ) → length bytes ≤ place → sequences coding (operations coding.opcode_base lengths (drop place bytes)) ≡ []
   sequences_out place h =
       let none : length (drop place bytes) ≡ 0 = omega (arith, length-drop place bytes) in
-      sequences_none coding (rows_from coding (start coding) (operations coding.opcode_base lengths (drop place bytes))) (start coding) (operations coding.opcode_base lengths (drop place bytes))
+      sequences_none coding (rows_from coding (start coding) (operations coding.opcode_base lengths (drop place bytes))) (start coding)
+      (operations coding.opcode_base lengths (drop place bytes))
       (operations_end coding.opcode_base lengths (drop place bytes) none)

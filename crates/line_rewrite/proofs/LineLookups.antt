@@ -1,5 +1,6 @@
 -- What a kept line table finds at an address, and the unit at an offset.
-use Rattle.std.proofs.Common.{◌≡◌, ◌∙◌, ◌≤◌, ◌<◌, ◌-◌, ◌==◌, ℕ, zero, suc, Bool, true, List, [], ◌∷◌, Option, Some, None, refl, sym, ap, arith, map, option_map, subst, length, get_or}
+use Rattle.std.proofs.Common.{◌≡◌, ◌∙◌, ◌≤◌, ◌<◌, ◌-◌, ◌==◌, ℕ, zero, suc, Bool, true, List, [], ◌∷◌, Option, Some, None, refl, sym, ap}
+use Rattle.std.proofs.Common.{arith, map, option_map, subst, length, get_or}
 use Rattle.std.specs.Prelude.{All, find, slice_get, option_and_then, filter_map, nat_lt}
 use Rattle.std.proofs.lemmas.Option.{slice_get-map, slice_get_read, slice_get_past}
 use Rattle.std.proofs.lemmas.Bool.Decides.{nat_tests}
@@ -22,8 +23,9 @@ use Rattle.line_rewrite.specs.LineAnswers.{row_said, said_at}
 use Rattle.line_rewrite.specs.LineUnits.{LineUnit}
 use Rattle.line_rewrite.specs.FilePaths.{file_path, path_at}
 use Rattle.line_rewrite.specs.KeptUnits.{told_unit}
-use Rattle.line_rewrite.specs.Keeping.{AreKept, Suffice}
-use Rattle.line_rewrite.specs.SequenceIndex.{Numbered, all_numbered, kept_range, place_of, IsIndexOf, numbered_at, unit_sequence, IsFound, IsSame}
+use Rattle.line_rewrite.specs.Keeping.{AreKept, Begins}
+use Rattle.line_rewrite.specs.SequenceIndex.{Numbered, all_numbered, kept_range, place_of, IsIndexOf, numbered_at, unit_sequence, IsFound}
+use Rattle.line_rewrite.specs.SequenceIndex.{IsSame}
 use Rattle.line_rewrite.specs.Tables.{LineSections, line_at}
 use Rattle.line_rewrite.specs.UnitLists.{unit_in, place_range, AreLines}
 use Rattle.line_rewrite.specs.Walks.{Ascends}
@@ -48,7 +50,8 @@ module _ (u : kept.Unit) (k : KeptSequence) (i : ℕ) (at : slice_get u.sequence
       let files = length u.header.files.items in
       let ops = operations base u.header.lengths.items u.program.items in
       let sound : sound_from u.header.coding files None (start u.header.coding) ops ≡ true =
-      (both (is_whole base u.header.lengths.items u.program.items) (sound_from u.header.coding files None (start u.header.coding) ops) u.sound).1 in
+      (both (is_whole base u.header.lengths.items u.program.items)
+      (sound_from u.header.coding files None (start u.header.coding) ops) u.sound).1 in
       let all = sequences_follow u.header.coding files ops sound in
       let kept : AllFollow files (map (unit_sequence u) u.sequences.items) = subst (AllFollow files) u.listed.are all in
       all_at (λ (s : Sequence). Follow files None s.rows) (map (unit_sequence u) u.sequences.items) i (unit_sequence u k) kept
@@ -59,7 +62,8 @@ module _ (u : kept.Unit) (k : KeptSequence) (i : ℕ) (at : slice_get u.sequence
 
 -- the answer at an address
 
-then_map : {X Y : Type 0} (f : X → Y) (xs : List X) (o : Option ℕ) → option_and_then (slice_get (map f xs)) o ≡ option_map f (option_and_then (slice_get xs) o)
+then_map : {X Y : Type 0} (f : X → Y) (xs : List X) (o : Option ℕ)
+    → option_and_then (slice_get (map f xs)) o ≡ option_map f (option_and_then (slice_get xs) o)
 then_map f xs None = refl
 then_map f xs (Some i) = slice_get-map f xs i
 
@@ -144,7 +148,8 @@ module _ (us : List kept.Unit) (index : SequenceIndex) (is : IsIndexOf us index)
 number_of : Numbered → ℕ
 number_of x = x.number
 
-pub same_there : (us : List kept.Unit) (index : SequenceIndex) (is : IsIndexOf us index) (a b : ℕ) (o r : Option Place) (p q : Place) (u : kept.Unit) (k : KeptSequence)
+pub same_there : (us : List kept.Unit) (index : SequenceIndex) (is : IsIndexOf us index) (a b : ℕ) (o r : Option Place) (p q : Place)
+    (u : kept.Unit) (k : KeptSequence)
     → o ≡ place_at us index is a → o ≡ Some p → r ≡ place_at us index is b → r ≡ Some q → p.unit ≡ q.unit → p.sequence ≡ q.sequence
     → slice_get us p.unit ≡ Some u → slice_get u.sequences.items p.sequence ≡ Some k
     → in_force a (unit_sequence u k).rows ≡ in_force b (unit_sequence u k).rows → IsSame us a b
@@ -175,7 +180,8 @@ same_there us index is a b o r p q u k oa op rb rq n m at on same =
 below : (i n : ℕ) → true ≡ nat_lt i n → i < n
 below i n t = grind (arith, nat_tests)
 
-pub item_at : {X : Type 0} (xs kept : List X) (i : ℕ) (x : X) → true ≡ nat_lt i (length xs) → x ≡ get_or xs i x → xs ≡ kept → slice_get kept i ≡ Some x
+pub item_at : {X : Type 0} (xs kept : List X) (i : ℕ) (x : X) → true ≡ nat_lt i (length xs) → x ≡ get_or xs i x → xs ≡ kept
+    → slice_get kept i ≡ Some x
 item_at xs kept i x t e f = ap (λ ys. slice_get ys i) (sym f) ∙ slice_get_read xs (length xs) i x refl (below i (length xs) t) e
 
 pub none_at : {X : Type 0} (xs kept : List X) (i : ℕ) → length xs ≤ i → xs ≡ kept → slice_get kept i ≡ None
@@ -183,26 +189,31 @@ none_at xs kept i h f = ap (λ ys. slice_get ys i) (sym f) ∙ slice_get_past xs
 
 -- what is found from the kept states of a sequence of a unit
 
-module _ (u : kept.Unit) (k : KeptSequence) (i : ℕ) (at : slice_get u.sequences.items i ≡ Some k) (lengths program : List ℕ) (states : List Kept)
+module _ (u : kept.Unit) (k : KeptSequence) (i : ℕ) (at : slice_get u.sequences.items i ≡ Some k) (lengths program : List ℕ)
+    (states : List Kept)
     (el : lengths ≡ u.header.lengths.items) (ep : program ≡ u.program.items) (es : states ≡ k.kept.items) where
   are_kept : AreKept u.header.coding lengths program (unit_sequence u k).rows states
   are_kept =
       subst (λ (l : List ℕ). AreKept u.header.coding l program (unit_sequence u k).rows states) (sym el)
       (subst (λ (p : List ℕ). AreKept u.header.coding u.header.lengths.items p (unit_sequence u k).rows states) (sym ep)
-      (subst (AreKept u.header.coding u.header.lengths.items u.program.items (unit_sequence u k).rows) (sym es) (sequence_kept u k i at).states))
+      (subst (AreKept u.header.coding u.header.lengths.items u.program.items (unit_sequence u k).rows) (sym es)
+      (sequence_kept u k i at).states))
 
-  pub rows_there : (a : ℕ) (found : List Registers)
-      → ((rows : List Registers) → AreKept u.header.coding lengths program rows states → Suffice (length rows) (length states) → Ascends 0 rows → found ≡ in_force a rows)
+  pub rows_there : (a count : ℕ) (found : List Registers) → count ≡ k.rows
+      → ((rows : List Registers) → AreKept u.header.coding lengths program rows states → Begins (length rows) states → count ≡ length rows
+      → Ascends 0 rows
+      → found ≡ in_force a rows)
       → found ≡ in_force a (unit_sequence u k).rows
-  rows_there a found f =
+  rows_there a count found n f =
       f (unit_sequence u k).rows are_kept
-      (subst (λ (l : List Kept). Suffice (length (unit_sequence u k).rows) (length l)) (sym es) (sequence_kept u k i at).many)
-      (sequence_ascends u k i at)
+      (subst (Begins (length (unit_sequence u k).rows)) (sym es) (sequence_kept u k i at).begins)
+      (n ∙ (sequence_kept u k i at).count) (sequence_ascends u k i at)
 
-  pub same_rows_there : (a b : ℕ)
-      → ((rows : List Registers) → AreKept u.header.coding lengths program rows states → Ascends 0 rows → in_force a rows ≡ in_force b rows)
+  pub same_rows_there : (a b count : ℕ) → count ≡ k.rows
+      → ((rows : List Registers) → AreKept u.header.coding lengths program rows states → count ≡ length rows → Ascends 0 rows
+      → in_force a rows ≡ in_force b rows)
       → in_force a (unit_sequence u k).rows ≡ in_force b (unit_sequence u k).rows
-  same_rows_there a b f = f (unit_sequence u k).rows are_kept (sequence_ascends u k i at)
+  same_rows_there a b count n f = f (unit_sequence u k).rows are_kept (n ∙ (sequence_kept u k i at).count) (sequence_ascends u k i at)
 
 -- the answer at an address
 
@@ -239,35 +250,44 @@ module _ (s : LineSections) (us : List kept.Unit) (index : SequenceIndex) (offse
   at_place : (w : Walked) (offset : ℕ) → (w.place == offset) ≡ holds_address offset (place_range w)
   at_place w offset = grind (arith, nat_tests)
 
-  walked_at : (offset : ℕ) → find (λ (w : Walked). w.place == offset) (walked 5 s.line) ≡ option_and_then (slice_get (walked 5 s.line)) (first_range offsets offset)
+  walked_at : (offset : ℕ)
+      → find (λ (w : Walked). w.place == offset) (walked 5 s.line) ≡ option_and_then (slice_get (walked 5 s.line))
+      (first_range offsets offset)
   walked_at offset =
       ap (λ (p : Walked → Bool). find p (walked 5 s.line)) (λ i w. at_place w offset i)
       ∙ found_first offsets place_range (walked 5 s.line) offset (are.placed offset)
 
-  unit_at : (o : Option ℕ) → option_and_then (unit_in s.strings) (option_and_then (slice_get (walked 5 s.line)) o) ≡ option_map (told_unit s.strings) (option_and_then (slice_get us) o)
+  unit_at : (o : Option ℕ)
+      → option_and_then (unit_in s.strings) (option_and_then (slice_get (walked 5 s.line)) o) ≡ option_map (told_unit s.strings)
+      (option_and_then (slice_get us) o)
   unit_at None = refl
   unit_at (Some i) = there_at (unit_in s.strings) (told_unit s.strings) (walked 5 s.line) us i are.units.are
 
   path_is : (offset index : ℕ) → path_at s offset index
-      ≡ option_and_then (λ (u : LineUnit). file_path u index) (option_map (told_unit s.strings) (option_and_then (slice_get us) (first_range offsets offset)))
+      ≡ option_and_then (λ (u : LineUnit). file_path u index)
+      (option_map (told_unit s.strings) (option_and_then (slice_get us) (first_range offsets offset)))
   path_is offset index =
-      ap (λ (o : Option Walked). option_and_then (λ (u : LineUnit). file_path u index) (option_and_then (unit_in s.strings) o)) (walked_at offset)
+      ap (λ (o : Option Walked). option_and_then (λ (u : LineUnit). file_path u index) (option_and_then (unit_in s.strings) o))
+      (walked_at offset)
       ∙ ap (option_and_then (λ (u : LineUnit). file_path u index)) (unit_at (first_range offsets offset))
 
   pub path_none : (offset index : ℕ) → None ≡ first_range offsets offset → path_at s offset index ≡ None
   path_none offset index e =
       path_is offset index
-      ∙ sym (ap (λ (o : Option ℕ). option_and_then (λ (u : LineUnit). file_path u index) (option_map (told_unit s.strings) (option_and_then (slice_get us) o))) e)
+      ∙ sym (ap (λ (o : Option ℕ). option_and_then (λ (u : LineUnit). file_path u index)
+      (option_map (told_unit s.strings) (option_and_then (slice_get us) o))) e)
 
   pub path_of_none : (offset index i : ℕ) → Some i ≡ first_range offsets offset → slice_get us i ≡ None → path_at s offset index ≡ None
   path_of_none offset index i e n =
       path_is offset index
-      ∙ sym (ap (λ (o : Option ℕ). option_and_then (λ (u : LineUnit). file_path u index) (option_map (told_unit s.strings) (option_and_then (slice_get us) o))) e)
+      ∙ sym (ap (λ (o : Option ℕ). option_and_then (λ (u : LineUnit). file_path u index)
+      (option_map (told_unit s.strings) (option_and_then (slice_get us) o))) e)
       ∙ ap (λ (o : Option kept.Unit). option_and_then (λ (u : LineUnit). file_path u index) (option_map (told_unit s.strings) o)) n
 
   pub path_of_some : (offset index i : ℕ) (u : kept.Unit) → Some i ≡ first_range offsets offset → slice_get us i ≡ Some u
       → path_at s offset index ≡ file_path (told_unit s.strings u) index
   path_of_some offset index i u e n =
       path_is offset index
-      ∙ sym (ap (λ (o : Option ℕ). option_and_then (λ (u : LineUnit). file_path u index) (option_map (told_unit s.strings) (option_and_then (slice_get us) o))) e)
+      ∙ sym (ap (λ (o : Option ℕ). option_and_then (λ (u : LineUnit). file_path u index)
+      (option_map (told_unit s.strings) (option_and_then (slice_get us) o))) e)
       ∙ ap (λ (o : Option kept.Unit). option_and_then (λ (u : LineUnit). file_path u index) (option_map (told_unit s.strings) o)) n

@@ -1,16 +1,18 @@
 -- From which kept state the rows in force are found.
-use Rattle.std.proofs.Common.{◌≡◌, ◌<◌, ◌≤◌, ◌-◌, ◌+◌, ◌*◌, ℕ, List, [], ◌∷◌, zero, suc, refl, arith, sym, ◌∙◌, ap, subst, length, drop, take, get_or, length-take, length-drop, nat_le, Bool, true, false, cond}
+use Rattle.std.proofs.Common.{◌≡◌, ◌<◌, ◌≤◌, ◌-◌, ◌+◌, ◌++◌, ⊎_elim, ℕ, List, [], ◌∷◌, zero, suc, refl, arith, sym, ◌∙◌, ap, subst}
+use Rattle.std.proofs.Common.{length, drop, take, get_or, length-take, length-drop, nat_le, nat_lt, Bool, true, false, cond}
 use Rattle.std.proofs.lemmas.Bool.Decides.{nat_tests}
 use Rattle.std.proofs.lemmas.List.{drop-drop, take-append-drop}
+use Rattle.std.proofs.lemmas.Bool.{cases_lt}
 use Rattle.std.proofs.lemmas.Grind.{common_steps}
 use Rattle.line_rewrite.specs.declared.coding.Coding.{Coding}
 use Rattle.line_rewrite.specs.declared.registers.Registers.{Registers}
 use Rattle.line_rewrite.specs.declared.kept.Kept.{Kept}
 use Rattle.line_rewrite.specs.LineMachine.{in_force, reached, greatest_address, rows_from}
-use Rattle.line_rewrite.specs.Walks.{Ascends, latest}
+use Rattle.line_rewrite.specs.Walks.{Ascends, joined, latest}
 use Rattle.line_rewrite.specs.Operations.{operations}
 use Rattle.line_rewrite.specs.LineAnswers.{first_address}
-use Rattle.line_rewrite.specs.Keeping.{IsBefore, AreKept, Suffice, rows_at_place}
+use Rattle.line_rewrite.specs.Keeping.{IsBefore, AreKept, Begins, row_at, rows_at_place}
 use Rattle.line_rewrite.proofs.InForce.{AllBelow, front_drop, latest_is}
 
 -- the row that a state stands before, and those after it
@@ -22,11 +24,13 @@ pub record Before (coding : Coding) (lengths bytes : List ℕ) (rows : List Regi
   pub are : drop i rows ≡ first ∷ others
   pub address : first.address ≡ k.address
 
-before : (coding : Coding) (lengths bytes : List ℕ) (rows : List Registers) (i : ℕ) (k : Kept) → IsBefore coding lengths bytes rows i k → Before coding lengths bytes rows i k
+before : (coding : Coding) (lengths bytes : List ℕ) (rows : List Registers) (i : ℕ) (k : Kept) → IsBefore coding lengths bytes rows i k
+    → Before coding lengths bytes rows i k
 before coding lengths bytes rows i k b = split (drop i rows) refl
   where
     split : (left : List Registers) → drop i rows ≡ left → Before coding lengths bytes rows i k
-    split [] e = let n : length (drop i rows) ≡ length rows - i = length-drop i rows in let z : length (drop i rows) ≡ 0 = ap length e in let s : i < length rows = b.some in absurd (omega arith)
+    split [] e = let n : length (drop i rows) ≡ length rows - i = length-drop i rows in let z : length (drop i rows) ≡ 0 =
+        ap length e in let s : i < length rows = b.some in absurd (omega arith)
     split (r ∷ others) e = record {
       within = b.within;
       first = r;
@@ -36,9 +40,10 @@ before coding lengths bytes rows i k b = split (drop i rows) refl
       address = sym (ap (λ (l : List Registers). first_address l 0) e) ∙ b.address;
     }
 
-pub kept_get : (coding : Coding) (lengths bytes : List ℕ) (rows : List Registers) (kept : List Kept) (j : ℕ) (d : Kept) → AreKept coding lengths bytes rows kept → j < length kept
-    → Before coding lengths bytes rows (64 * j) (get_or kept j d)
-kept_get coding lengths bytes rows kept j d a h = before coding lengths bytes rows (64 * j) (get_or kept j d) (a j d h)
+pub kept_get : (coding : Coding) (lengths bytes : List ℕ) (rows : List Registers) (kept : List Kept) (j : ℕ) (d : Kept)
+    → AreKept coding lengths bytes rows kept → j < length kept
+    → Before coding lengths bytes rows (get_or kept j d).index (get_or kept j d)
+kept_get coding lengths bytes rows kept j d a h = before coding lengths bytes rows (get_or kept j d).index (get_or kept j d) (a.each j d h)
 
 pub drop_none : (n : ℕ) → drop {A = Registers} n [] ≡ []
 drop_none zero = refl
@@ -49,25 +54,30 @@ below_nothing m [] = tt
 below_nothing m (x ∷ rows) = tt
 
 -- a row is at or past where rows begin to ascend
-pub from_below : (n from : ℕ) (rows : List Registers) (r : Registers) (others : List Registers) → Ascends from rows → drop n rows ≡ r ∷ others → from ≤ r.address
+pub from_below : (n from : ℕ) (rows : List Registers) (r : Registers) (others : List Registers) → Ascends from rows
+    → drop n rows ≡ r ∷ others → from ≤ r.address
 from_below n from [] r others up e = absurd (cc (drop_none n))
 from_below zero from (x ∷ rows) r others up e = let f : x ≡ r = cc in subst (λ (q : Registers). from ≤ q.address) f up.0
-from_below (suc n) from (x ∷ rows) r others up e = let h : x.address ≤ r.address = from_below n x.address rows r others up.1 e in let i : from ≤ x.address = up.0 in omega arith
+from_below (suc n) from (x ∷ rows) r others up e = let h : x.address ≤ r.address =
+    from_below n x.address rows r others up.1 e in let i : from ≤ x.address = up.0 in omega arith
 
 -- the rows before one are no further on
-before_below : (n from m : ℕ) (rows : List Registers) (r : Registers) (others : List Registers) → Ascends from rows → drop n rows ≡ r ∷ others → r.address < m → AllBelow m (take n rows)
+before_below : (n from m : ℕ) (rows : List Registers) (r : Registers) (others : List Registers) → Ascends from rows
+    → drop n rows ≡ r ∷ others → r.address < m → AllBelow m (take n rows)
 before_below zero from m rows r others up e h = below_nothing m rows
 before_below (suc n) from m [] r others up e h = tt
 before_below (suc n) from m (x ∷ rows) r others up e h =
     let i : x.address ≤ r.address = from_below n x.address rows r others up.1 e in
     (omega arith, before_below n x.address m rows r others up.1 e h)
 
-kept_reach : (t : Bool) (x r : Registers) (rows : List Registers) → r.address ≤ greatest_address rows → r.address ≤ greatest_address (cond t (x ∷ rows) rows)
+kept_reach : (t : Bool) (x r : Registers) (rows : List Registers) → r.address ≤ greatest_address rows
+    → r.address ≤ greatest_address (cond t (x ∷ rows) rows)
 kept_reach true x r rows h = grind (arith, nat_tests)
 kept_reach false x r rows h = h
 
 -- a row that is reached
-row_reached : (n a : ℕ) (rows : List Registers) (r : Registers) (others : List Registers) → drop n rows ≡ r ∷ others → r.address ≤ a → r.address ≤ greatest_address (reached a rows)
+row_reached : (n a : ℕ) (rows : List Registers) (r : Registers) (others : List Registers) → drop n rows ≡ r ∷ others → r.address ≤ a
+    → r.address ≤ greatest_address (reached a rows)
 row_reached n a [] r others e h = absurd (cc (drop_none n))
 row_reached zero a (x ∷ rows) r others e h =
     let f : x ≡ r = cc in
@@ -77,44 +87,133 @@ row_reached zero a (x ∷ rows) r others e h =
 row_reached (suc n) a (x ∷ rows) r others e h = kept_reach (nat_le x.address a) x r (reached a rows) (row_reached n a rows r others e h)
 
 -- from a state on whose row is before one that is reached, all rows in force are found
-pub found_from : (coding : Coding) (lengths bytes : List ℕ) (rows : List Registers) (kept : List Kept) (f j a : ℕ) (d : Kept) → AreKept coding lengths bytes rows kept → Ascends 0 rows
-    → f ≤ j → j < length kept → (get_or kept f d).address < (get_or kept j d).address → (get_or kept j d).address ≤ a → in_force a (drop (64 * f) rows) ≡ in_force a rows
+pub found_from : (coding : Coding) (lengths bytes : List ℕ) (rows : List Registers) (kept : List Kept) (f j a : ℕ) (d : Kept)
+    → AreKept coding lengths bytes rows kept → Ascends 0 rows → f ≤ j → j < length kept
+    → (get_or kept f d).address < (get_or kept j d).address
+    → (get_or kept j d).address ≤ a → in_force a (drop (get_or kept f d).index rows) ≡ in_force a rows
 found_from coding lengths bytes rows kept f j a d are up h k less low =
-    let s : Before coding lengths bytes rows (64 * f) (get_or kept f d) = kept_get coding lengths bytes rows kept f d are (omega arith) in
-    let t : Before coding lengths bytes rows (64 * j) (get_or kept j d) = kept_get coding lengths bytes rows kept j d are k in
-    let sf : drop (64 * f) rows ≡ s.first ∷ s.others = s.are in
-    let n : 64 * f + (64 * j - 64 * f) ≡ 64 * j = omega arith in
-    let tj : drop (64 * j - 64 * f) (drop (64 * f) rows) ≡ t.first ∷ t.others = drop-drop (64 * j - 64 * f) (64 * f) rows ∙ ap (λ (n : ℕ). drop n rows) n ∙ t.are in
+    let n : ℕ = (get_or kept f d).index in
+    let m : ℕ = (get_or kept j d).index in
+    let rise : n ≤ m = are.rise f j d h k in
+    let s : Before coding lengths bytes rows n (get_or kept f d) = kept_get coding lengths bytes rows kept f d are (omega arith) in
+    let t : Before coding lengths bytes rows m (get_or kept j d) = kept_get coding lengths bytes rows kept j d are k in
+    let sf : drop n rows ≡ s.first ∷ s.others = s.are in
+    let sum : n + (m - n) ≡ m = omega arith in
+    let tj : drop (m - n) (drop n rows) ≡ t.first ∷ t.others = drop-drop (m - n) n rows ∙ ap (λ (n : ℕ). drop n rows) sum ∙ t.are in
     let sa : s.first.address ≡ (get_or kept f d).address = s.address in
     let ta : t.first.address ≡ (get_or kept j d).address = t.address in
-    let below : AllBelow t.first.address (take (64 * f) rows) = before_below (64 * f) 0 t.first.address rows s.first s.others up sf (omega arith) in
-    let high : t.first.address ≤ greatest_address (reached a (drop (64 * f) rows)) = row_reached (64 * j - 64 * f) a (drop (64 * f) rows) t.first t.others tj (omega arith) in
-    sym (ap (in_force a) (sym (take-append-drop (64 * f) rows)) ∙ front_drop t.first.address a (take (64 * f) rows) (drop (64 * f) rows) below high)
+    let below : AllBelow t.first.address (take n rows) = before_below n 0 t.first.address rows s.first s.others up sf (omega arith) in
+    let high : t.first.address ≤ greatest_address (reached a (drop n rows)) =
+    row_reached (m - n) a (drop n rows) t.first t.others tj (omega arith) in
+    sym (ap (in_force a) (sym (take-append-drop n rows)) ∙ front_drop t.first.address a (take n rows) (drop n rows) below high)
+
+-- the rows of states, and behind them how many rows there are
+
+row_get : (kept : List Kept) (count j : ℕ) (d : Kept) → j < length kept → row_at kept count j ≡ (get_or kept j d).index
+row_get [] count j d h = absurd (omega arith)
+row_get (k ∷ kept) count zero d h = refl
+row_get (k ∷ kept) count (suc j) d h = row_get kept count j d (omega arith)
+
+row_out : (kept : List Kept) (count j : ℕ) → length kept ≤ j → row_at kept count j ≡ count
+row_out [] count j h = refl
+row_out (k ∷ kept) count zero h = absurd (omega arith)
+row_out (k ∷ kept) count (suc j) h = row_out kept count j (omega arith)
+
+pub row_some : (kept : List Kept) (count j : ℕ) (k : Kept) → true ≡ nat_lt j (length kept) → k ≡ get_or kept j k
+    → k.index ≡ row_at kept count j
+row_some kept count j k t e =
+    let h : j < length kept = grind (arith, nat_tests) in
+    ap (λ (x : Kept). x.index) e ∙ sym (row_get kept count j k h)
+
+pub row_none : (kept : List Kept) (count j : ℕ) → length kept ≤ j → count ≡ row_at kept count j
+row_none kept count j h = sym (row_out kept count j h)
+
+module _ (coding : Coding) (lengths bytes : List ℕ) (rows : List Registers) (kept : List Kept) (count : ℕ) where
+  pub row_rises : (i j : ℕ) (d : Kept) → AreKept coding lengths bytes rows kept → count ≡ length rows → i ≤ j → i < length kept
+      → (get_or kept i d).index ≤ row_at kept count j
+  row_rises i j d are counted h k = ⊎_elim
+      (λ (in_kept : j < length kept). subst (λ (n : ℕ). (get_or kept i d).index ≤ n) (sym (row_get kept count j d in_kept))
+      (are.rise i j d h in_kept))
+      (λ (out : length kept ≤ j).
+      let some : (get_or kept i d).index < length rows = (are.each i d k).some in
+      subst (λ (n : ℕ). (get_or kept i d).index ≤ n) (sym (row_out kept count j out)) (omega arith))
+      (cases_lt j (length kept))
+
+  pub next_past : (j b : ℕ) (d : Kept) → AreKept coding lengths bytes rows kept → count ≡ length rows
+      → ((k : Kept) → j < length kept → b < (get_or kept j k).address) → b < first_address (drop (row_at kept count j) rows) (b + 1)
+  next_past j b d are counted past = ⊎_elim
+      (λ (in_kept : j < length kept).
+      let s : Before coding lengths bytes rows (get_or kept j d).index (get_or kept j d) =
+      kept_get coding lengths bytes rows kept j d are in_kept in
+      subst (λ (n : ℕ). b < first_address (drop n rows) (b + 1)) (sym (row_get kept count j d in_kept))
+      (subst (λ (l : List Registers). b < first_address l (b + 1)) (sym s.are) (subst (λ (n : ℕ). b < n) (sym s.address) (past d in_kept))))
+      (λ (out : length kept ≤ j).
+      let none : drop (row_at kept count j) rows ≡ [] = drop_all (row_at kept count j) rows (omega (arith, row_out kept count j out)) in
+      subst (λ (l : List Registers). b < first_address l (b + 1)) (sym none) (omega arith))
+      (cases_lt j (length kept))
+    where
+      drop_all : (n : ℕ) (l : List Registers) → length l ≤ n → drop n l ≡ []
+      drop_all n l h = grind (arith, common_steps)
 
 get_front : (n i : ℕ) (l : List Kept) (d : Kept) → i < n → get_or (take n l) i d ≡ get_or l i d
 get_front n i l d h = grind (arith, common_steps)
 
-pub state_found : (coding : Coding) (lengths bytes : List ℕ) (rows : List Registers) (kept before : List Kept) (up_to below a : ℕ) (d : Kept) → AreKept coding lengths bytes rows kept → Ascends 0 rows
+pub state_found : (coding : Coding) (lengths bytes : List ℕ) (rows : List Registers) (kept before : List Kept) (up_to below a : ℕ)
+    (d : Kept) → AreKept coding lengths bytes rows kept → Ascends 0 rows
     → (up_to ≡ 0 → ⊥) → up_to ≤ length kept → before ≡ take (up_to - 1) kept → (below ≡ 0 → ⊥) → below ≤ length before
-    → (get_or kept (up_to - 1) d).address ≤ a → ((get_or kept (up_to - 1) d).address ≡ 0 → ⊥) → (get_or before (below - 1) d).address ≤ (get_or kept (up_to - 1) d).address - 1
-    → in_force a (drop (64 * (below - 1)) rows) ≡ in_force a rows
+    → (get_or kept (up_to - 1) d).address ≤ a → ((get_or kept (up_to - 1) d).address ≡ 0 → ⊥)
+    → (get_or before (below - 1) d).address ≤ (get_or kept (up_to - 1) d).address - 1
+    → in_force a (drop (row_at kept (length rows) (below - 1)) rows) ≡ in_force a rows
 state_found coding lengths bytes rows kept before up_to below a d are up u in_kept e b in_before low some less =
     let n : length before ≤ up_to - 1 = omega (arith, ap length e, length-take (up_to - 1) kept) in
-    let g : get_or before (below - 1) d ≡ get_or kept (below - 1) d = ap (λ (l : List Kept). get_or l (below - 1) d) e ∙ get_front (up_to - 1) (below - 1) kept d (omega arith) in
-    let less' : (get_or kept (below - 1) d).address ≤ (get_or kept (up_to - 1) d).address - 1 = subst (λ (k : Kept). k.address ≤ (get_or kept (up_to - 1) d).address - 1) g less in
-    found_from coding lengths bytes rows kept (below - 1) (up_to - 1) a d are up (omega arith) (omega arith) (omega arith) low
+    let g : get_or before (below - 1) d ≡ get_or kept (below - 1) d = ap (λ (l : List Kept). get_or l (below - 1) d) e
+    ∙ get_front (up_to - 1) (below - 1) kept d (omega arith) in
+    let less' : (get_or kept (below - 1) d).address ≤ (get_or kept (up_to - 1) d).address - 1 =
+    subst (λ (k : Kept). k.address ≤ (get_or kept (up_to - 1) d).address - 1) g less in
+    ap (λ (n : ℕ). in_force a (drop n rows)) (row_get kept (length rows) (below - 1) d (omega arith))
+    ∙ found_from coding lengths bytes rows kept (below - 1) (up_to - 1) a d are up (omega arith) (omega arith) (omega arith) low
 
--- with no states there are no rows
-pub no_rows : (rows : List Registers) (n : ℕ) → Suffice (length rows) n → n ≡ 0 → rows ≡ []
-no_rows [] n s e = refl
-no_rows (r ∷ rows) n s e = let h : length (r ∷ rows) ≤ 64 * n = s.all in absurd (omega arith)
+-- the first state stands before all rows
+pub first_found : (rows : List Registers) (kept : List Kept) (a : ℕ) → Begins (length rows) kept
+    → in_force a (drop (row_at kept (length rows) 0) rows) ≡ in_force a rows
+first_found [] [] a b = refl
+first_found (r ∷ rows) [] a b = let none : length (r ∷ rows) ≡ 0 = b.none refl in absurd (omega arith)
+first_found rows (k ∷ kept) a b = ap (λ (n : ℕ). in_force a (drop n rows)) (b.first k (omega arith))
 
-none_in_force : (a : ℕ) → in_force a [] ≡ []
-unfolding in_force
-none_in_force a = refl
+-- rows that ascend, found part by part
 
-pub none_found : (a : ℕ) (rows found : List Registers) (n : ℕ) → Suffice (length rows) n → n ≡ 0 → found ≡ [] → found ≡ in_force a rows
-none_found a rows found n s e f = f ∙ sym (ap (in_force a) (no_rows rows n s e) ∙ none_in_force a)
+none_latest : (found : List Registers) (from a : ℕ) (rows : List Registers) → Ascends from rows → a < from → latest found a rows ≡ found
+unfolding latest
+none_latest found from a [] up h = refl
+none_latest found from a (r ∷ rows) up h =
+    let low : from ≤ r.address = up.0 in
+    let t : nat_le r.address a ≡ false = grind (arith, nat_tests) in
+    rw t refl
+
+ascends_behind : (from : ℕ) (xs ys : List Registers) → Ascends from (xs ++ ys) → Ascends from ys
+ascends_behind from [] ys up = up
+ascends_behind from (x ∷ xs) ys up = ascends_lower from x.address ys up.0 (ascends_behind x.address xs ys up.1)
+  where
+    ascends_lower : (lo from : ℕ) (rows : List Registers) → lo ≤ from → Ascends from rows → Ascends lo rows
+    ascends_lower lo from [] h up = tt
+    ascends_lower lo from (r ∷ rows) h up = let low : from ≤ r.address = up.0 in (omega arith, up.1)
+
+latest_append : (found : List Registers) (from a : ℕ) (xs ys : List Registers) → Ascends from (xs ++ ys)
+    → latest found a (xs ++ ys) ≡ latest (latest found a xs) a ys
+unfolding latest
+latest_append found from a [] ys up = refl
+latest_append found from a (x ∷ xs) ys up = by (nat_le x.address a) refl (latest_append (joined found x) x.address a xs ys up.1)
+  where
+    by : (b : Bool) → nat_le x.address a ≡ b → latest (joined found x) a (xs ++ ys) ≡ latest (latest (joined found x) a xs) a ys
+        → cond b (latest (joined found x) a (xs ++ ys)) found ≡ latest (cond b (latest (joined found x) a xs) found) a ys
+    by true t more = more
+    by false t more =
+        let past : a < x.address = grind (arith, nat_tests) in
+        sym (none_latest found x.address a ys (ascends_behind x.address xs ys up.1) past)
+
+-- what is found from a state on, with what was found of the rows before
+abbrev pub FoundFrom : List Registers → List Kept → ℕ → List Registers → ℕ → List Registers → Type 0
+FoundFrom found kept a rows state whole = latest found a (drop (row_at kept (length rows) state) rows) ≡ whole
 
 ascends_past : (n from : ℕ) (rows : List Registers) → Ascends from rows → (to : ℕ) × Ascends to (drop n rows)
 ascends_past zero from [] up = (from, tt)
@@ -122,28 +221,82 @@ ascends_past (suc n) from [] up = (from, tt)
 ascends_past zero from (r ∷ rows) up = (from, up)
 ascends_past (suc n) from (r ∷ rows) up = ascends_past n r.address rows up.1
 
--- what the walk from a state gives is in force
-pub walk_found : (coding : Coding) (lengths bytes from : List ℕ) (rows found : List Registers) (kept : List Kept) (i a : ℕ) (d : Kept) → AreKept coding lengths bytes rows kept → Ascends 0 rows → i < length kept
-    → in_force a (drop (64 * i) rows) ≡ in_force a rows → from ≡ drop (get_or kept i d).place bytes
-    → found ≡ latest [] a (rows_from coding (get_or kept i d).registers (operations coding.opcode_base lengths from)) → found ≡ in_force a rows
-walk_found coding lengths bytes from rows found kept i a d are up h same e f =
-    let s : Before coding lengths bytes rows (64 * i) (get_or kept i d) = kept_get coding lengths bytes rows kept i d are h in
-    let are' : drop (64 * i) rows ≡ s.first ∷ s.others = s.are in
-    let past : (to : ℕ) × Ascends to (drop (64 * i) rows) = ascends_past (64 * i) 0 rows up in
-    f ∙ ap (λ (l : List ℕ). latest [] a (rows_from coding (get_or kept i d).registers (operations coding.opcode_base lengths l))) e
-    ∙ ap (latest [] a) (s.follow ∙ sym are') ∙ latest_is past.0 a (drop (64 * i) rows) past.1 ∙ same
+pub start_found : (rows : List Registers) (kept : List Kept) (state a : ℕ) → Ascends 0 rows
+    → in_force a (drop (row_at kept (length rows) state) rows) ≡ in_force a rows
+    → latest [] a (drop (row_at kept (length rows) state) rows) ≡ in_force a rows
+start_found rows kept state a up same =
+    let past : (to : ℕ) × Ascends to (drop (row_at kept (length rows) state) rows) =
+    ascends_past (row_at kept (length rows) state) 0 rows up in
+    latest_is past.0 a (drop (row_at kept (length rows) state) rows) past.1 ∙ same
 
-pub place_within : (coding : Coding) (lengths bytes : List ℕ) (rows : List Registers) (kept : List Kept) (i : ℕ) (d : Kept) → AreKept coding lengths bytes rows kept → i < length kept → (get_or kept i d).place ≤ length bytes
-place_within coding lengths bytes rows kept i d are h = (kept_get coding lengths bytes rows kept i d are h).within
+module _ (coding : Coding) (lengths bytes : List ℕ) (rows : List Registers) (kept : List Kept) (i a : ℕ) (d : Kept)
+    (are : AreKept coding lengths bytes rows kept) where
+  -- a state past the address
+  pub state_past : (found whole : List Registers) → i < length kept → a < (get_or kept i d).address
+      → latest found a (drop (row_at kept (length rows) i) rows) ≡ whole → found ≡ whole
+  unfolding latest
+  state_past found whole h past inv =
+      let s : Before coding lengths bytes rows (get_or kept i d).index (get_or kept i d) =
+      kept_get coding lengths bytes rows kept i d are h in
+      let t : nat_le s.first.address a ≡ false = grind (arith, nat_tests, s.address) in
+      ap (λ (b : Bool). cond b (latest (joined found s.first) a s.others) found) (sym t)
+      ∙ sym (ap (latest found a) (ap (λ (n : ℕ). drop n rows) (row_get kept (length rows) i d h) ∙ s.are)) ∙ inv
 
-pub past_none : (i n : ℕ) → n ≤ i → (0 < i → i < n) → n ≡ 0
-past_none zero n h b = omega arith
-past_none (suc i) n h b = let k : suc i < n = b (omega arith) in absurd (omega arith)
+  -- the rows up to that of the next state
+  pub state_more : (count n : ℕ) (from : List ℕ) (found new whole : List Registers) → Ascends 0 rows → count ≡ length rows → i < length kept
+      → from ≡ drop (get_or kept i d).place bytes → n ≡ row_at kept count (i + 1) - (get_or kept i d).index
+      → new ≡ latest found a (take n (rows_from coding (get_or kept i d).registers (operations coding.opcode_base lengths from)))
+      → latest found a (drop (row_at kept (length rows) i) rows) ≡ whole
+      → latest new a (drop (row_at kept (length rows) (i + 1)) rows) ≡ whole
+  state_more count n from found new whole up counted h e size is inv =
+      let first : ℕ = (get_or kept i d).index in
+      let next : ℕ = row_at kept (length rows) (i + 1) in
+      let s : Before coding lengths bytes rows first (get_or kept i d) = kept_get coding lengths bytes rows kept i d are h in
+      let low : first ≤ next = row_rises coding lengths bytes rows kept (length rows) i (i + 1) d are refl (omega arith) h in
+      let same : n ≡ next - first = size ∙ ap (λ (c : ℕ). row_at kept c (i + 1) - first) counted in
+      let walked : new ≡ latest found a (take n (drop first rows)) =
+      is ∙ ap (λ (l : List ℕ). latest found a
+      (take n (rows_from coding (get_or kept i d).registers (operations coding.opcode_base lengths l)))) e
+      ∙ ap (λ (l : List Registers). latest found a (take n l)) (s.follow ∙ sym s.are) in
+      let there : drop n (drop first rows) ≡ drop next rows = drop-drop n first rows
+      ∙ ap (λ (k : ℕ). drop k rows) (omega (arith, same, low)) in
+      let past : (to : ℕ) × Ascends to (drop first rows) = ascends_past first 0 rows up in
+      let split : take n (drop first rows) ++ drop n (drop first rows) ≡ drop first rows = take-append-drop n (drop first rows) in
+      ap (λ (l : List Registers). latest l a (drop next rows)) walked
+      ∙ sym (ap (latest (latest found a (take n (drop first rows))) a) there)
+      ∙ sym (latest_append found past.0 a (take n (drop first rows)) (drop n (drop first rows)) (subst (Ascends past.0) (sym split) past.1))
+      ∙ ap (latest found a) split
+      ∙ sym (ap (λ (n : ℕ). latest found a (drop n rows)) (row_get kept (length rows) i d h)) ∙ inv
+
+  pub place_within : i < length kept → (get_or kept i d).place ≤ length bytes
+  place_within h = (kept_get coding lengths bytes rows kept i d are h).within
+
+-- behind the last state
+pub states_end : (rows found whole : List Registers) (kept : List Kept) (i a : ℕ) → length kept ≤ i
+    → latest found a (drop (row_at kept (length rows) i) rows) ≡ whole → found ≡ whole
+unfolding latest
+states_end rows found whole kept i a h inv =
+    sym (ap (latest found a) (ap (λ (n : ℕ). drop n rows) (row_out kept (length rows) i h) ∙ drop_whole rows)) ∙ inv
+  where
+    drop_whole : (l : List Registers) → drop (length l) l ≡ []
+    drop_whole l = grind (arith, common_steps)
 
 -- what stands in a list's place past its end
 abbrev pub no_state : Kept
 no_state = record {
   place = 0;
+  index = 0;
   address = 0;
-  registers = record { address = 0; file = 0; line = 0; column = 0; is_stmt = false; basic_block = false; prologue_end = false; epilogue_begin = false; isa = 0; discriminator = 0 };
+  registers = record {
+    address = 0;
+    file = 0;
+    line = 0;
+    column = 0;
+    is_stmt = false;
+    basic_block = false;
+    prologue_end = false;
+    epilogue_begin = false;
+    isa = 0;
+    discriminator = 0;
+  };
 }

@@ -1,8 +1,10 @@
 -- Kept states of a walk.
-use Rattle.std.specs.Prelude.{◌≡◌, ◌≤◌, ◌<◌, ◌+◌, ◌*◌, ◌%◌, ◌==◌, ℕ, List, [], ◌∷◌, ◌++◌, if◌then◌else◌, length, drop, slice_index_or}
+use Rattle.std.specs.Prelude.{◌≡◌, ◌≤◌, ◌<◌, ◌||◌, ℕ, zero, suc, Bool, List, [], ◌∷◌, ◌++◌, nat_le, if◌then◌else◌}
+use Rattle.std.specs.Prelude.{length, drop, slice_index_or}
 use Rattle.line_rewrite.specs.declared.coding.Coding.{Coding}
 use Rattle.line_rewrite.specs.declared.registers.Registers.{Registers}
 use Rattle.line_rewrite.specs.declared.kept.Kept.{Kept}
+use Rattle.line_rewrite.specs.declared.kept.Due.{Due}
 use Rattle.line_rewrite.specs.Operations.{operations}
 use Rattle.line_rewrite.specs.LineMachine.{rows_from}
 use Rattle.line_rewrite.specs.LineAnswers.{first_address}
@@ -18,18 +20,29 @@ pub record IsBefore (coding : Coding) (lengths bytes : List ℕ) (rows : List Re
   pub follow : rows_at_place coding lengths bytes k.registers k.place ≡ drop i rows
   pub address : first_address (drop i rows) 0 ≡ k.address
 
--- a state stands before each 64th row, from the first one on
-abbrev pub AreKept : Coding → List ℕ → List ℕ → List Registers → List Kept → Type 0
-AreKept coding lengths bytes rows kept =
-    (j : ℕ) (d : Kept) → j < length kept → IsBefore coding lengths bytes rows (64 * j) (slice_index_or kept j d)
+-- states stand before rows, whose numbers don't fall
+pub record AreKept (coding : Coding) (lengths bytes : List ℕ) (rows : List Registers) (kept : List Kept) : Type 0 where
+  pub each : (j : ℕ) (d : Kept) → j < length kept →
+      IsBefore coding lengths bytes rows (slice_index_or kept j d).index (slice_index_or kept j d)
+  pub rise : (i j : ℕ) (d : Kept) → i ≤ j → j < length kept →
+      (slice_index_or kept i d).index ≤ (slice_index_or kept j d).index
 
--- as many states as so many rows need
-pub record Suffice (count states : ℕ) : Type 0 where
-  pub all : count ≤ 64 * states
-  pub no_more : 64 * states < count + 64
+-- the first of them stands before the first row, if there are rows
+pub record Begins (count : ℕ) (kept : List Kept) : Type 0 where
+  pub none : length kept ≡ 0 → count ≡ 0
+  pub first : (d : Kept) → 0 < length kept → (slice_index_or kept 0 d).index ≡ 0
 
-abbrev pub kept_more : ℕ → Kept → List Kept → List Kept
-kept_more count k kept = if count % 64 == 0 then kept ++ k ∷ [] else kept
+-- the number of the row of a state; behind the last state, how many rows there are
+abbrev pub row_at : List Kept → ℕ → ℕ → ℕ
+row_at [] count j = count
+row_at (k ∷ kept) count zero = k.index
+row_at (k ∷ kept) count (suc j) = row_at kept count j
+
+abbrev pub is_due : Due → Kept → Bool
+is_due due k = nat_le due.row k.index || nat_le due.place k.place
+
+abbrev pub kept_more : Due → Kept → List Kept → List Kept
+kept_more due k kept = if is_due due k then kept ++ k ∷ [] else kept
 
 -- the address of the first row of a sequence with some states
 abbrev pub low_of : List Kept → ℕ → ℕ

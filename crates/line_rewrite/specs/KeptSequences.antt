@@ -5,7 +5,7 @@ use Rattle.line_rewrite.specs.declared.kept.KeptSequence.{KeptSequence}
 use Rattle.line_rewrite.specs.Operations.{operations}
 use Rattle.line_rewrite.specs.LineMachine.{Sequence, sequences, start}
 use Rattle.line_rewrite.specs.LineAnswers.{first_address}
-use Rattle.line_rewrite.specs.Keeping.{rows_at_place, AreKept, Suffice}
+use Rattle.line_rewrite.specs.Keeping.{rows_at_place, AreKept, Begins}
 
 -- the sequence that begins at a place of a program
 abbrev pub sequence_at : Coding → List ℕ → List ℕ → ℕ → ℕ → Sequence
@@ -18,7 +18,8 @@ told_sequence coding lengths program k = sequence_at coding lengths program k.pl
 -- It is kept by states of the walk over its rows, which are enough to find each row.
 pub record IsKept (coding : Coding) (lengths program : List ℕ) (k : KeptSequence) : Type 0 where
   pub states : AreKept coding lengths program (told_sequence coding lengths program k).rows k.kept.items
-  pub many : Suffice (length (told_sequence coding lengths program k).rows) (length k.kept.items)
+  pub begins : Begins (length (told_sequence coding lengths program k).rows) k.kept.items
+  pub count : k.rows ≡ length (told_sequence coding lengths program k).rows
   pub low : k.low ≡ first_address (told_sequence coding lengths program k).rows k.end
 
 -- the sequences of a program are kept

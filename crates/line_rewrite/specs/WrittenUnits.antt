@@ -1,5 +1,5 @@
--- Line units that are written: their headers, with the tables as they stood, and their programs. DWARF 5, sections 6.2.4
--- and 7.22.
+-- Line units that are written: their headers, with the tables as they stood, and their programs. DWARF 5, sections
+-- 6.2.4 and 7.22.
 use Rattle.std.specs.Prelude.{◌++◌, ℕ, Bool, true, false, List, [], ◌∷◌, length, flat_map}
 use Rattle.byteorder.specs.Endian.{little_bytes}
 use Rattle.line_rewrite.specs.declared.header.Header.{Header}

@@ -42,6 +42,7 @@ pub fn found_rows(
         &header.lengths,
         &unit.program,
         &sequence.kept,
+        sequence.rows,
         a,
     )?;
     Ok(Some(FoundRows {
@@ -74,6 +75,7 @@ pub fn is_same(units: &[Unit], index: &SequenceIndex, a: u64, b: u64) -> bool
         &header.lengths,
         &unit.program,
         &sequence.kept,
+        sequence.rows,
         a,
         b,
     )

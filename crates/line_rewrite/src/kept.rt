@@ -1,18 +1,30 @@
-// What is kept of sequences: states of the walk over their rows, one for every so many.
+// What is kept of sequences: states of the walk over their rows.
 
 use crate::registers::Registers;
 
-/// For how many rows one state is kept.
-pub const STRIDE: usize = 64;
+/// For how many rows one state is kept, at most.
+pub const MAX_ROWS: usize = 64;
+
+/// For how many bytes of a program one state is kept, where there are rows.
+pub const MAX_BYTES: usize = 512;
 
 /// The state of a walk before a row.
 #[derive(Clone, Copy)]
 pub struct Kept {
     /// Where the program goes on.
     pub place: usize,
+    /// The number of the row, from 0.
+    pub index: usize,
     pub registers: Registers,
     /// The address of the row.
     pub address: u64,
+}
+
+/// From which row, or from which place of a program, the next state is kept.
+#[derive(Clone, Copy)]
+pub struct Due {
+    pub row: usize,
+    pub place: usize,
 }
 
 /// A sequence of a program.
@@ -24,6 +36,8 @@ pub struct KeptSequence {
     pub low: u64,
     /// The address at which it ends.
     pub end: u64,
-    /// The states before its first row and each 64th one after it.
+    /// How many rows it has.
+    pub rows: usize,
+    /// The states before its first row, and before each one that is so many rows or bytes behind the last state.
     pub kept: Vec<Kept>,
 }

@@ -1,16 +1,16 @@
 // The rows in force at an address, from kept states.
-ghost use Rattle.std.specs.Prelude.{◌≡◌, ◌<◌, ◌≤◌, ◌+◌, ◌-◌, ◌*◌, ℕ, List, length, drop, IfOk, IsTrue, slice_index_or};
+ghost use Rattle.std.specs.Prelude.{◌≡◌, ◌<◌, ◌≤◌, ◌+◌, ◌-◌, ℕ, List, length, drop, IfOk, IsTrue, slice_index_or};
 ghost use Rattle.line_rewrite.specs.declared.coding.Coding.{Coding};
 ghost use Rattle.line_rewrite.specs.declared.kept.Kept.{Kept};
 ghost use Rattle.line_rewrite.specs.declared.registers.Registers.{Registers};
 ghost use Rattle.line_rewrite.specs.LineMachine.{in_force};
 ghost use Rattle.line_rewrite.specs.Walks.{Ascends};
-ghost use Rattle.line_rewrite.specs.Keeping.{AreKept, Suffice};
+ghost use Rattle.line_rewrite.specs.Keeping.{AreKept, Begins, row_at};
 
 use crate::coding::Coding;
 use crate::kept::Kept;
 use crate::registers::Registers;
-use crate::walk::{none_between, rows_at};
+use crate::walk::{add_rows, none_between};
 use std::alloc::{AllocError, Global};
 
 // Of states that ascend, how many have an address of at most `a`.
@@ -35,8 +35,8 @@ fn count_up_to(kept: &[Kept], a: u64) -> usize
 fn state_for(kept: &[Kept], a: u64) -> usize
     ensures bound { 0 < result → result < length kept.now }
     ensures found { (coding : Coding) (lengths bytes : List ℕ) (rows : List Registers) →
-        AreKept coding lengths bytes rows kept.now → Ascends 0 rows →
-        in_force a (drop (64 * result) rows) ≡ in_force a rows }
+        AreKept coding lengths bytes rows kept.now → Begins (length rows) kept.now → Ascends 0 rows →
+        in_force a (drop (row_at kept.now (length rows) result) rows) ≡ in_force a rows }
 {
     let reached = count_up_to(kept, a);
     if reached == 0 {
@@ -54,56 +54,96 @@ fn state_for(kept: &[Kept], a: u64) -> usize
     below - 1
 }
 
-/// The rows in force at an address, of a sequence with these states.
+// The number of the row of a state; behind the last state, how many rows there are.
+fn row_at(kept: &[Kept], rows: usize, state: usize) -> usize
+    ensures { result ≡ row_at kept.now rows state }
+{
+    match kept.get(state) {
+        Some(kept) => kept.index,
+        None => rows,
+    }
+}
+
+/// The rows in force at an address, of a sequence with these states and so many rows.
 pub fn in_force_at(
     alloc: Global,
     coding: &Coding,
     lengths: &[u8],
     bytes: &[u8],
     kept: &[Kept],
+    rows: usize,
     a: u64,
 ) -> Result<Vec<Registers>, AllocError>
     requires range { 0 < coding.now.line_range }
     requires lengths { coding.now.opcode_base ≤ length lengths.now + 1 }
-    ensures { IfOk result (λ found. (rows : List Registers) →
-        AreKept coding.now lengths.now bytes.now rows kept.now → Suffice (length rows) (length kept.now) →
-        Ascends 0 rows → found.items ≡ in_force a rows) }
+    ensures { IfOk result (λ found. (list : List Registers) →
+        AreKept coding.now lengths.now bytes.now list kept.now → Begins (length list) kept.now →
+        rows ≡ length list → Ascends 0 list → found.items ≡ in_force a list) }
 {
-    let state = state_for(kept, a);
-    if state >= kept.len() {
-        return Ok(Vec::new(alloc));
+    let mut found = Vec::new(alloc);
+    for state in state_for(kept, a)..kept.len() {
+        let from = kept[state];
+        if from.address > a {
+            return Ok(found);
+        }
+        if from.place > bytes.len() {
+            return Ok(found);
+        }
+        // No further than to the row of the next state: what stands before that row may be long.
+        let count = row_at(kept, rows, state + 1).saturating_sub(from.index);
+        let (_, behind) = bytes.split_at(from.place);
+        add_rows(
+            &mut found,
+            coding,
+            lengths,
+            behind,
+            from.registers,
+            count,
+            a,
+        )?;
     }
-    if kept[state].place > bytes.len() {
-        return Ok(Vec::new(alloc));
-    }
-    let (_, from) = bytes.split_at(kept[state].place);
-    let found = rows_at(alloc, coding, lengths, from, kept[state].registers, a)?;
     Ok(found)
 }
 
-/// Whether the same rows of a sequence with these states are certainly in force at two addresses, the lower one first.
+// Whether a state, if there is one, stands before a row past an address.
+fn is_past(kept: &[Kept], state: usize, b: u64) -> bool
+    ensures { IsTrue result → (k : Kept) → state < length kept.now → b < (slice_index_or kept.now state k).address }
+{
+    match kept.get(state) {
+        Some(kept) => kept.address > b,
+        None => true,
+    }
+}
+
+/// Whether the same rows of a sequence with these states and so many rows are certainly in force at two addresses, the
+/// lower one first.
 pub fn is_same_at(
     coding: &Coding,
     lengths: &[u8],
     bytes: &[u8],
     kept: &[Kept],
+    rows: usize,
     a: u64,
     b: u64,
 ) -> bool
     requires range { 0 < coding.now.line_range }
     requires lengths { coding.now.opcode_base ≤ length lengths.now + 1 }
     requires ordered { a ≤ b }
-    ensures { IsTrue result → (rows : List Registers) → AreKept coding.now lengths.now bytes.now rows kept.now →
-        Ascends 0 rows → in_force a rows ≡ in_force b rows }
+    ensures { IsTrue result → (list : List Registers) → AreKept coding.now lengths.now bytes.now list kept.now →
+        rows ≡ length list → Ascends 0 list → in_force a list ≡ in_force b list }
 {
     let reached = count_up_to(kept, a);
     if reached == 0 {
+        return false;
+    }
+    if !is_past(kept, reached, b) {
         return false;
     }
     let state = kept[reached - 1];
     if state.place > bytes.len() {
         return false;
     }
+    let count = row_at(kept, rows, reached).saturating_sub(state.index);
     let (_, from) = bytes.split_at(state.place);
-    none_between(coding, lengths, from, state.registers, a, b)
+    none_between(coding, lengths, from, state.registers, count, a, b)
 }

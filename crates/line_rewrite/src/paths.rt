@@ -51,7 +51,8 @@ fn path_of(
     file: &Entry,
 ) -> Result<Option<Vec<u8>>, AllocError>
     ensures { IfOk result (λ o. option_map (λ path. path.items) o
-        ≡ path_of (told_entries (strings_held str.now line_str.now) directories.now) (told_entry (strings_held str.now line_str.now) file.now)) }
+        ≡ path_of (told_entries (strings_held str.now line_str.now) directories.now)
+        (told_entry (strings_held str.now line_str.now) file.now)) }
 {
     let name = file.text.bytes(str, line_str);
     if is_absolute(name) {

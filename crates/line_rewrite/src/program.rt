@@ -7,20 +7,24 @@ ghost use Rattle.line_rewrite.specs.KeptSequences.{told_sequence, IsKept, AreSeq
 
 use crate::coding::Coding;
 use crate::effect::Effect;
-use crate::kept::{Kept, KeptSequence, STRIDE};
+use crate::kept::{Due, Kept, KeptSequence, MAX_BYTES, MAX_ROWS};
 use crate::machine::{after_op, after_row, effect_of, start};
 use crate::reading::read_op;
 use rb_bytes::cursor::Cursor;
 use std::alloc::{AllocError, Global};
 
-// Keeps a state where the count of the rows before it asks for one.
-fn keep(kept: &mut Vec<Kept>, count: usize, state: Kept) -> Result<(), AllocError>
-    ensures { IfOk result (λ _. kept.new.items ≡ kept_more count state kept.old.items) }
+// Keeps a state where one is due, and answers where the next one is.
+fn keep(kept: &mut Vec<Kept>, due: Due, state: Kept) -> Result<Due, AllocError>
+    ensures { IfOk result (λ _. kept.new.items ≡ kept_more due state kept.old.items) }
 {
-    if count % STRIDE == 0 {
+    if state.index >= due.row || state.place >= due.place {
         kept.push(state)?;
+        return Ok(Due {
+            row: state.index.saturating_add(MAX_ROWS),
+            place: state.place.saturating_add(MAX_BYTES),
+        });
     }
-    Ok(())
+    Ok(due)
 }
 
 // The address of the first row of a sequence with some states.
@@ -58,6 +62,7 @@ pub fn sequence_at(
     let mut cursor = Cursor::new(from);
     let mut present = start(coding);
     let mut count: usize = 0;
+    let mut due = Due { row: 0, place: 0 };
     let mut kept = Vec::new(alloc);
     'ops: while cursor.left() > 0 {
         let here = bytes.len() - cursor.left();
@@ -72,10 +77,11 @@ pub fn sequence_at(
             Effect::Appends => {
                 let state = Kept {
                     place: here,
+                    index: count,
                     registers: present,
                     address: next.address,
                 };
-                keep(&mut kept, count, state)?;
+                due = keep(&mut kept, due, state)?;
                 count += 1;
                 present = after_row(next);
             }
@@ -84,6 +90,7 @@ pub fn sequence_at(
                     place,
                     low: low_of(&kept, next.address),
                     end: next.address,
+                    rows: count,
                     kept,
                 };
                 return Ok(Some((sequence, bytes.len() - cursor.left())));

@@ -1,7 +1,7 @@
 // Programs walked from a kept state.
-ghost use Rattle.std.specs.Prelude.{◌≡◌, ◌<◌, ◌≤◌, ◌+◌, ◌∷◌, [], List, length, drop, IfOk};
+ghost use Rattle.std.specs.Prelude.{◌≡◌, ◌<◌, ◌≤◌, ◌+◌, length, take, IfOk, OnOk};
 ghost use Rattle.line_rewrite.specs.Operations.{operations};
-ghost use Rattle.line_rewrite.specs.LineMachine.{rows_from, in_force};
+ghost use Rattle.line_rewrite.specs.LineMachine.{rows_from};
 ghost use Rattle.line_rewrite.specs.Walks.{joined, latest, none_between};
 
 use crate::coding::Coding;
@@ -10,7 +10,7 @@ use crate::machine::{after_op, after_row, effect_of};
 use crate::reading::read_op;
 use crate::registers::Registers;
 use rb_bytes::cursor::Cursor;
-use std::alloc::{AllocError, Global};
+use std::alloc::AllocError;
 
 // The rows in force after one more row was reached.
 fn join(found: &mut Vec<Registers>, row: Registers) -> Result<(), AllocError>
@@ -28,64 +28,72 @@ fn join(found: &mut Vec<Registers>, row: Registers) -> Result<(), AllocError>
     Ok(())
 }
 
-/// The rows in force at an address, of those from a state on.
-#[tactic(auto, using(crate::proofs::Steps::rows_step, crate::proofs::Steps::rows_gap, crate::proofs::Steps::rows_end), unfolding(crate::specs::Walks::latest))]
-pub fn rows_at(
-    alloc: Global,
+/// Finds the rows in force at an address, of those that were found before and so many rows from a state on.
+pub fn add_rows(
+    found: &mut Vec<Registers>,
     coding: &Coding,
     lengths: &[u8],
     bytes: &[u8],
     registers: Registers,
+    count: usize,
     a: u64,
-) -> Result<Vec<Registers>, AllocError>
+) -> Result<(), AllocError>
     requires range { 0 < coding.now.line_range }
     requires lengths { coding.now.opcode_base ≤ length lengths.now + 1 }
-    ensures { IfOk result (λ found. found.items ≡ latest [] a (rows_from coding.now registers
-        (operations coding.now.opcode_base lengths.now bytes.now))) }
+    ensures { OnOk result (found.new.items ≡ latest found.old.items a (take count (rows_from coding.now registers
+        (operations coding.now.opcode_base lengths.now bytes.now)))) }
 {
-    let mut found = Vec::new(alloc);
     let mut cursor = Cursor::new(bytes);
     let mut present = registers;
+    let mut left = count;
     'ops: while cursor.left() > 0 {
+        if left == 0 {
+            return Ok(());
+        }
         let Ok(op) = read_op(&mut cursor, coding.opcode_base, lengths) else {
-            return Ok(found);
+            return Ok(());
         };
         let Some(next) = after_op(coding, op, present) else {
-            return Ok(found);
+            return Ok(());
         };
         match effect_of(op) {
-            Effect::Ends => return Ok(found),
+            Effect::Ends => return Ok(()),
             Effect::Sets => present = next,
             Effect::Appends => {
                 if next.address > a {
-                    return Ok(found);
+                    return Ok(());
                 }
-                join(&mut found, next)?;
+                join(found, next)?;
                 present = after_row(next);
+                left -= 1;
             }
         }
     }
-    Ok(found)
+    Ok(())
 }
 
-/// Whether no row from a state on lies above an address `a` and up to another one, `b`.
-#[tactic(auto, using(crate::proofs::Steps::rows_step, crate::proofs::Steps::rows_gap, crate::proofs::Steps::rows_end), unfolding(crate::specs::Walks::none_between))]
+/// Whether none of so many rows from a state on lies above an address `a` and up to another one, `b`.
 pub fn none_between(
     coding: &Coding,
     lengths: &[u8],
     bytes: &[u8],
     registers: Registers,
+    count: usize,
     a: u64,
     b: u64,
 ) -> bool
     requires range { 0 < coding.now.line_range }
     requires lengths { coding.now.opcode_base ≤ length lengths.now + 1 }
-    ensures { result ≡ none_between a b (rows_from coding.now registers
-        (operations coding.now.opcode_base lengths.now bytes.now)) }
+    ensures { result ≡ none_between a b (take count (rows_from coding.now registers
+        (operations coding.now.opcode_base lengths.now bytes.now))) }
 {
     let mut cursor = Cursor::new(bytes);
     let mut present = registers;
+    let mut left = count;
     'ops: while cursor.left() > 0 {
+        if left == 0 {
+            return true;
+        }
         let Ok(op) = read_op(&mut cursor, coding.opcode_base, lengths) else {
             return true;
         };
@@ -103,6 +111,7 @@ pub fn none_between(
                     return false;
                 }
                 present = after_row(next);
+                left -= 1;
             }
         }
     }

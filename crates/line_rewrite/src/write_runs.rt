@@ -45,8 +45,8 @@ fn moved(alloc: Global, old: &[u8], new: &[u8]) -> Result<Vec<ListAt>, NoMemory>
     paired(alloc, &olds, &news)
 }
 
-/// Writes `.debug_line` with the same units, each with sequences for the runs that say it, and lists for the place of each
-/// unit in the old section its new one.
+/// Writes `.debug_line` with the same units, each with sequences for the runs that say it. The lists have the old place
+/// of each unit with its new one.
 pub fn write_lines(
     alloc: Global,
     line: &[u8],

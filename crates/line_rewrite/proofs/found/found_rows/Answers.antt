@@ -29,7 +29,9 @@ returns c =
     let at : slice_get us p.unit ≡ Some u = item_at us us p.unit u c.in-Some-get.ensures.lookup.0 c.in-Some-get.ensures.lookup.1 refl in
     let k = c.in-Some-get-2.sequence.now in
     let on : slice_get u.sequences.items p.sequence ≡ Some k =
-    item_at c.deref.result.now u.sequences.items p.sequence k c.in-Some-get-2.ensures.lookup.0 c.in-Some-get-2.ensures.lookup.1 c.deref.ensures.value in
+    item_at c.deref.result.now u.sequences.items p.sequence k c.in-Some-get-2.ensures.lookup.0 c.in-Some-get-2.ensures.lookup.1
+    c.deref.ensures.value in
     found_there us c.args.index.now c.requires c.args.a c.find.result p c.find.ensures c.in-Some.is u at k on
     (record { unit = p.unit; rows = c.in_ok-rows.rows }) refl
-    (rows_there u k p.sequence on _ _ _ c.deref-2.ensures.value c.deref-3.ensures.value c.deref-4.ensures.value c.args.a c.in_ok-rows.rows.items c.in_ok-rows.ensures)
+    (rows_there u k p.sequence on _ _ _ c.deref-2.ensures.value c.deref-3.ensures.value c.deref-4.ensures.value c.args.a k.rows
+    c.in_ok-rows.rows.items refl c.in_ok-rows.ensures)

@@ -11,7 +11,10 @@ returns c = λ told.
     let k = c.in-Some-get.sequence.now in
     let at : slice_get us p.unit ≡ Some u = item_at us us p.unit u c.in-Some.ensures.lookup.0 c.in-Some.ensures.lookup.1 refl in
     let on : slice_get u.sequences.items p.sequence ≡ Some k =
-    item_at c.deref.result.now u.sequences.items p.sequence k c.in-Some-get.ensures.lookup.0 c.in-Some-get.ensures.lookup.1 c.deref.ensures.value in
+    item_at c.deref.result.now u.sequences.items p.sequence k c.in-Some-get.ensures.lookup.0 c.in-Some-get.ensures.lookup.1
+    c.deref.ensures.value in
     same_there us c.args.index.now c.requires.index c.args.a c.args.b c.find.result c.find-2.result p c.in-Some-Some.other u k
     c.find.ensures c.in-Some-Some.is-0 c.find-2.ensures c.in-Some-Some.is-1 (omega arith) (omega arith) at on
-    (same_rows_there u k p.sequence on _ _ _ c.deref-2.ensures.value c.deref-3.ensures.value c.deref-4.ensures.value c.args.a c.args.b (c.is_same_at.ensures told))
+    (same_rows_there u k p.sequence on _ _ _ c.deref-2.ensures.value c.deref-3.ensures.value c.deref-4.ensures.value c.args.a c.args.b
+    k.rows refl
+    (c.is_same_at.ensures told))

@@ -8,31 +8,43 @@ use Rattle.line_rewrite.proofs.Keeps.{way_gap, way_stops, way_sets, way_appends,
 use Rattle.line_rewrite.proofs.program.sequence_at.Goals as goal
 
 pub returns-in_default-clause-sequences : goal.returns-in_default-clause-sequences
-returns-in_default-clause-sequences c = way_gap _ _ _ _ _ _ _ _ _ _ c.ops.invariant c.in_default.ensures.gap
+returns-in_default-clause-sequences c = way_gap _ _ _ _ _ _ _ _ _ _ _ c.ops.invariant c.in_default.ensures.gap
 
 pub returns-in_default-after_op-clause-sequences : goal.returns-in_default-after_op-clause-sequences
-returns-in_default-after_op-clause-sequences c = way_stops _ _ _ _ _ _ _ _ _ _ _ c.ops.invariant c.in-Ok.ensures.read c.in_default-after_op.ensures
+returns-in_default-after_op-clause-sequences c =
+    way_stops _ _ _ _ _ _ _ _ _ _ _ _ c.ops.invariant c.in-Ok.ensures.read c.in_default-after_op.ensures
 
 pub ops-preserved-in-Sets : goal.ops-preserved-in-Sets
-ops-preserved-in-Sets c = way_sets _ _ _ _ _ _ _ _ _ _ _ _ c.ops.invariant c.in-Ok.ensures.read c.in-Sets.ensures c.in-Some.ensures
+ops-preserved-in-Sets c = way_sets _ _ _ _ _ _ _ _ _ _ _ _ _ c.ops.invariant c.in-Ok.ensures.read c.in-Sets.ensures c.in-Some.ensures
 
 pub ops-preserved : goal.ops-preserved
-ops-preserved c = way_appends _ _ _ _ _ _ _ _ _ _ _ _ _ _ (record { place = length c.args.bytes.now - c.left-in-ops.result; registers = c.ops.present; address = c.in-Some.next.address })
+ops-preserved c = way_appends _ _ _ _ _ _ _ _ _ _ _ _ _ _ _ _
+    (record {
+      place = length c.args.bytes.now - c.left-in-ops.result;
+      index = c.ops.count;
+      registers = c.ops.present;
+      address =
+          c.in-Some.next.address;
+    })
     c.ops.invariant c.in-Ok.ensures.read c.in-Appends.ensures c.in-Some.ensures c.after_row-present.ensures
-    (let k : ℕ → Kept = λ n. record { place = length c.args.bytes.now - n; registers = c.ops.present; address = c.in-Some.next.address } in ap k c.left-in-ops.ensures) c.in_ok-keep-in-Appends.ensures
+    (let k : ℕ → Kept = λ n. record
+    { place = length c.args.bytes.now - n; index = c.ops.count; registers = c.ops.present; address = c.in-Some.next.address } in ap k
+    c.left-in-ops.ensures) c.in_ok-due-in-Appends.ensures
 
 pub returns-in-Ends-clause-sequences : goal.returns-in-Ends-clause-sequences
 returns-in-Ends-clause-sequences c =
-    let e = way_ends _ _ _ _ _ _ _ _ _ _ _ _ c.ops.invariant c.in-Ok.ensures.read c.in-Ends.ensures c.in-Some.ensures in
-    let more : ℕ → List Sequence = λ n. sequence_at c.args.coding.now c.args.lengths.now c.args.bytes.now c.args.place c.in-Some.next.address
-    ∷ sequences c.args.coding.now (operations c.args.coding.now.opcode_base c.args.lengths.now (drop (length c.args.bytes.now - n) c.args.bytes.now)) in
+    let e = way_ends _ _ _ _ _ _ _ _ _ _ _ _ _ c.ops.invariant c.in-Ok.ensures.read c.in-Ends.ensures c.in-Some.ensures in
+    let more : ℕ → List Sequence =
+    λ n. sequence_at c.args.coding.now c.args.lengths.now c.args.bytes.now c.args.place c.in-Some.next.address
+    ∷ sequences c.args.coding.now
+    (operations c.args.coding.now.opcode_base c.args.lengths.now (drop (length c.args.bytes.now - n) c.args.bytes.now)) in
     e.sequence ∙ sym (ap more c.left-in-Ends.ensures)
 
 pub returns-in-Ends-clause-kept : goal.returns-in-Ends-clause-kept
 returns-in-Ends-clause-kept c =
-    let e = way_ends _ _ _ _ _ _ _ _ _ _ _ _ c.ops.invariant c.in-Ok.ensures.read c.in-Ends.ensures c.in-Some.ensures in
-    is_kept _ _ _ c.args.place c.in-Some.next.address _ _ c.ops.kept.items _ e refl refl refl
-    (c.low_of.ensures ∙ ap (λ (l : List Kept). low_of l c.in-Some.next.address) c.deref.ensures.value) refl
+    let e = way_ends _ _ _ _ _ _ _ _ _ _ _ _ _ c.ops.invariant c.in-Ok.ensures.read c.in-Ends.ensures c.in-Some.ensures in
+    is_kept _ _ _ c.args.place c.in-Some.next.address _ _ c.ops.count c.ops.kept.items _ e refl refl refl
+    (c.low_of.ensures ∙ ap (λ (l : List Kept). low_of l c.in-Some.next.address) c.deref.ensures.value) refl refl
 
 pub returns-clause-sequences : goal.returns-clause-sequences
-returns-clause-sequences c = way_out _ _ _ _ _ _ _ _ _ c.ops.invariant (omega arith)
+returns-clause-sequences c = way_out _ _ _ _ _ _ _ _ _ _ c.ops.invariant (omega arith)

@@ -1,4 +1,4 @@
-use Rattle.std.proofs.Common.{◌≡◌, length}
+use Rattle.std.proofs.Common.{◌≡◌, length, take}
 use Rattle.line_rewrite.specs.Operations.{operations}
 use Rattle.line_rewrite.specs.LineMachine.{rows_from}
 use Rattle.line_rewrite.specs.Walks.{none_between}
@@ -6,8 +6,8 @@ use Rattle.line_rewrite.proofs.walk.none_between.Given as goal
 
 abbrev pub invariant-ops : goal.invariant-ops
 invariant-ops l =
-    none_between l.a l.b (rows_from l.coding l.present (operations l.coding.opcode_base l.lengths l.cursor.left))
-    ≡ none_between l.a l.b (rows_from l.coding l.fn.registers (operations l.coding.opcode_base l.lengths l.bytes))
+    none_between l.a l.b (take l.left (rows_from l.coding l.present (operations l.coding.opcode_base l.lengths l.cursor.left)))
+    ≡ none_between l.a l.b (take l.count (rows_from l.coding l.fn.registers (operations l.coding.opcode_base l.lengths l.bytes)))
 
 abbrev pub decreases-ops : goal.decreases-ops
 decreases-ops l = length l.cursor.left
