@@ -30,7 +30,7 @@ abbrev pub Ascends : ℕ → List ℕ → Type 0
 Ascends a [] = ⊤
 Ascends a (x ∷ xs) = (a ≤ x) × Ascends (x + 1) xs
 
-abbrev AreBelow : ℕ → List ℕ → Type 0
+abbrev pub AreBelow : ℕ → List ℕ → Type 0
 AreBelow n [] = ⊤
 AreBelow n (x ∷ xs) = (x < n) × AreBelow n xs
 
@@ -47,7 +47,7 @@ later_up : (a b : ℕ) (xs : List ℕ) → b ≤ a → Ascends a xs → Ascends 
 later_up a b [] h up = tt
 later_up a b (x ∷ xs) h up = (let g = up.0 in omega arith, up.1)
 
-range_filter : (p : ℕ → Bool) (n a : ℕ) (xs : List ℕ) → Ascends a xs → AreBelow (a + n) xs → ((q : ℕ) → a ≤ q → q < a + n → among q xs ≡ p q) →
+pub range_filter : (p : ℕ → Bool) (n a : ℕ) (xs : List ℕ) → Ascends a xs → AreBelow (a + n) xs → ((q : ℕ) → a ≤ q → q < a + n → among q xs ≡ p q) →
     filter p (range_with_len a n) ≡ xs
 range_filter p zero a [] up below same = refl
 range_filter p zero a (x ∷ xs) up below same = let g = up.0 in let h = below.0 in absurd (omega arith)

@@ -101,7 +101,7 @@ sound_unit addr u x es e t unformed_is some = let f = found_sound addr es.items 
 places_append : (test : Declaration → Bool) (xs ys : List Declaration) → places_with test (xs ++ ys) ≡ places_with test xs ++ places_with test ys
 places_append test xs ys = ap (map (λ (d : Declaration). d.place)) (filter-append test xs ys) ∙ map-append (λ (d : Declaration). d.place) (filter test xs) (filter test ys)
 
-flat-more : {X Y : Type 0} (f : X → List Y) (xs : List X) (x : X) → flat_map f (xs ++ x ∷ []) ≡ flat_map f xs ++ f x
+pub flat-more : {X Y : Type 0} (f : X → List Y) (xs : List X) (x : X) → flat_map f (xs ++ x ∷ []) ≡ flat_map f xs ++ f x
 flat-more f xs x = flat_map-append f xs (x ∷ []) ∙ ap (λ l. flat_map f xs ++ l) (append-nil (f x))
 
 pub places_more : (test : Declaration → Bool) (abbrevs : List ℕ) (ws : List Walked) (w : Walked) →
@@ -142,7 +142,7 @@ pub still_good : (test : Walked → Bool) (ws : List Walked) (w : Walked) → fi
 still_good test ws w e t = first_more test ws w ∙ ap (λ (o : Option ℕ). option_or o (first_place test (w ∷ []))) e
     ∙ ap (λ (b : Bool). option_map (λ (u : Walked). u.place) (if b then Some w else None)) t
 
-oks-append : {X : Type 0} (xs ys : List (Result X Trouble)) → oks (xs ++ ys) ≡ oks xs ++ oks ys
+pub oks-append : {X : Type 0} (xs ys : List (Result X Trouble)) → oks (xs ++ ys) ≡ oks xs ++ oks ys
 oks-append [] ys = refl
 oks-append (Ok x ∷ xs) ys = ap (λ l. x ∷ l) (oks-append xs ys)
 oks-append (Err e ∷ xs) ys = oks-append xs ys

@@ -1,10 +1,8 @@
 -- Ranges of entries, gathered one entry after another.
-use Rattle.std.proofs.Common.{◌≡◌, ◌∙◌, ◌+◌, ◌<◌, ◌≤◌, ◌||◌, ◌&&◌, ◌++◌, ◌∷◌, [], ℕ, Bool, true, false, List, Option, Some, None, BTreeMap}
-use Rattle.std.proofs.Common.{refl, sym, ap, subst, arith, length, get_or, take, map, filter, append-nil, append_assoc}
-use Rattle.std.specs.Prelude.{All, if◌then◌else◌, not, is_some, flat_map, filter_map}
+use Rattle.std.proofs.Common.{◌≡◌, ◌∙◌, ◌<◌, ◌||◌, ◌&&◌, ◌++◌, ◌∷◌, [], ℕ, Bool, true, false, List, Option, Some, None, BTreeMap}
+use Rattle.std.proofs.Common.{refl, sym, ap, subst, arith, map, filter, append-nil, append_assoc}
+use Rattle.std.specs.Prelude.{if◌then◌else◌, not, is_some, flat_map, filter_map}
 use Rattle.std.specs.List.{list_any, cons_option}
-use Rattle.std.specs.Option.{option_map_or}
-use Rattle.std.proofs.lemmas.List.{take_more, take_all}
 use Rattle.std.proofs.lemmas.List.Elements.{All-head, All-tail, All-append, All-weaker, All-nil, All-cons, filter-append}
 use Rattle.std.proofs.lemmas.List.{map-append}
 use Rattle.std.proofs.lemmas.List.Concat.{flat_map-append}
@@ -17,10 +15,10 @@ use Rattle.range_loc_rewrite.specs.declared.cover_tree.Cover.{Cover}
 use Rattle.range_loc_rewrite.specs.declared.groups.Groups.{Groups}
 use Rattle.range_loc_rewrite.specs.declared.groups.RangedEntry.{RangedEntry}
 use Rattle.range_loc_rewrite.specs.declared.unit_ranges.ListFaults.{ListFaults}
-use Rattle.range_loc_rewrite.specs.Faults.{ListSections, table_place, lacks_offset, bad_list_tables, list_attrs}
+use Rattle.range_loc_rewrite.specs.Faults.{ListSections, table_place}
 use Rattle.range_loc_rewrite.specs.Gathering.{held_in, AreAdded, IsGathering, IsUnitGathered}
 use Rattle.range_loc_rewrite.specs.Groups.{AreNumbered, AreWithin, Grow, HasRanges, group_holds, held_places, entry_of}
-use Rattle.range_loc_rewrite.specs.KnownLists.{AreKnown, range_list, IsNoted, lacks_list, bad_list, bad_at}
+use Rattle.range_loc_rewrite.specs.KnownLists.{AreKnown, range_list, lacks_list, bad_list, bad_at}
 use Rattle.range_loc_rewrite.specs.Lists.{ranges_kind, has_list, list_offset}
 use Rattle.range_loc_rewrite.specs.Ranges.{ranges_of, hold}
 use Rattle.range_loc_rewrite.proofs.GroupFacts.{grow_none, grow_more}

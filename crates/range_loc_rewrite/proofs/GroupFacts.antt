@@ -1,10 +1,9 @@
 -- Groups of ranges: what a new group holds, and that others stay.
-use Rattle.std.proofs.Common.{◌≡◌, ◌≢◌, ◌∙◌, ◌+◌, ◌<◌, ◌≤◌, ◌==◌, ◌&&◌, ◌||◌, ◌++◌, ◌∷◌, [], ℕ, Bool, true, false, List, Option, Some, None}
-use Rattle.std.proofs.Common.{refl, sym, ap, subst, arith, map}
-use Rattle.std.specs.Prelude.{All, flat_map, is_some, option_map}
+use Rattle.std.proofs.Common.{◌≡◌, ◌∙◌, ◌+◌, ◌<◌, ◌==◌, ◌&&◌, ◌||◌, ◌++◌, ◌∷◌, [], ℕ, Bool, true, false, List, Option, Some, None}
+use Rattle.std.proofs.Common.{refl, sym, ap, subst, arith}
+use Rattle.std.specs.Prelude.{All}
 use Rattle.std.specs.List.{cons_option, list_any}
-use Rattle.std.specs.Option.{option_map_or}
-use Rattle.std.proofs.lemmas.Bool.Decides.{nat_tests, eqb_tells}
+use Rattle.std.proofs.lemmas.Bool.Decides.{nat_tests}
 use Rattle.std.proofs.lemmas.List.Folds.{list_any-append}
 use Rattle.std.proofs.lemmas.List.Elements.{All-nil, All-cons, All-head, All-tail, All-append, All-weaker}
 use Rattle.table_core.specs.declared.range.Range.{Range}
@@ -13,8 +12,7 @@ use Rattle.range_loc_rewrite.specs.declared.cover_tree.Cover.{Cover}
 use Rattle.range_loc_rewrite.specs.declared.groups.Groups.{Groups}
 use Rattle.range_loc_rewrite.specs.CoverTree.{holds}
 use Rattle.range_loc_rewrite.specs.Lists.{Located}
-use Rattle.range_loc_rewrite.specs.Ranges.{hold}
-use Rattle.range_loc_rewrite.specs.Groups.{ranges_in, covers_for, covers_in, is_in_group, group_holds, AreNumbered, Grow, HasRanges}
+use Rattle.range_loc_rewrite.specs.Groups.{ranges_in, covers_for, covers_in, is_in_group, AreNumbered, Grow, HasRanges}
 use Rattle.range_loc_rewrite.proofs.SmallSteps.{or_false}
 
 test_is : (b c : Bool) → b ≡ true → (b && c) ≡ c

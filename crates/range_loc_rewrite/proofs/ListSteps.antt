@@ -1,27 +1,22 @@
 -- Lists, entry by entry.
-use Rattle.std.proofs.Common.{ℕ, zero, suc, ◌+◌, ◌-◌, ◌≤◌, ◌<◌, ◌≡◌, ◌==◌, List, [], ◌∷◌, ◌++◌, Option, Some, None, option_map, Result, Ok}
+use Rattle.std.proofs.Common.{ℕ, suc, ◌+◌, ◌<◌, ◌≡◌, ◌==◌, List, [], Option, Some, None, Result, Ok}
 use Rattle.std.proofs.Common.{Err}
-use Rattle.std.proofs.Common.{Bool, true, false, cond, refl, sym, ◌∙◌, ap, subst, arith, length, map, append_assoc, append-nil}
+use Rattle.std.proofs.Common.{Bool, false, cond, refl, sym, ◌∙◌, ap, arith}
 use Rattle.std.specs.Prelude.{option_and_then}
 use Rattle.std.proofs.lemmas.Bool.Decides.{nat_tests}
-use Rattle.std.proofs.lemmas.Grind.{common_steps}
 use Rattle.rb_bytes.specs.declared.gap.Gap.{Gap}
 use Rattle.rb_bytes.specs.Readers.{number_read, and_then}
 use Rattle.table_core.specs.ReadSteps.{with_head}
 use Rattle.dw_unit.specs.Trouble.{Read, whole}
 use Rattle.dw_unit.specs.declared.trouble.Trouble.{Trouble}
 use Rattle.range_loc_rewrite.specs.declared.list_kind.ListKind.{ListKind}
-use Rattle.range_loc_rewrite.specs.declared.list_bound.Address.{Address}
 use Rattle.range_loc_rewrite.specs.declared.list_bound.Bound.{Bound}
 use Rattle.range_loc_rewrite.specs.declared.list_bound.Bound.TheVariants.{Base, Between, Onward, Offsets, Default}
-use Rattle.range_loc_rewrite.specs.declared.list_reading.Place.{Place}
 use Rattle.range_loc_rewrite.specs.declared.list_reading.Step.{Step}
-use Rattle.range_loc_rewrite.specs.declared.list_reading.Step.TheVariants as step
 use Rattle.range_loc_rewrite.specs.declared.list_reading.Flow.{Flow}
-use Rattle.range_loc_rewrite.specs.declared.list_reading.Flow.TheVariants as flow
 use Rattle.range_loc_rewrite.specs.ListEntries.{Item, item_behind, items_within}
 use Rattle.range_loc_rewrite.specs.Lists.{Located, resolved, bound_says, with_located, between}
-use Rattle.range_loc_rewrite.specs.ListReading.{item_of, located_of, said_from, step_says, StepSays, prefixed, flow_says, FlowSays}
+use Rattle.range_loc_rewrite.specs.ListReading.{item_of, said_from, step_says, StepSays, prefixed, flow_says, FlowSays}
 
 -- where the entries behind one aren't sound, neither is the list
 none_says : (look : ℕ → Option ℕ) (base : ℕ) (x : List ℕ) (b : Bound) → bound_says look (λ _. None) base x b ≡ None

@@ -1,5 +1,5 @@
 -- The ranges of an entry, by its high address or its list.
-use Rattle.std.proofs.Common.{◌≡◌, ◌∙◌, ◌==◌, ◌∷◌, [], ℕ, List, Option, Some, None, refl, sym, ap, subst, find}
+use Rattle.std.proofs.Common.{◌≡◌, ◌∷◌, [], ℕ, List, Option, Some, None, refl, ap}
 use Rattle.std.specs.Prelude.{option_map, option_and_then}
 use Rattle.std.specs.Option.{option_or}
 use Rattle.table_core.specs.declared.range.Range.{Range}
@@ -9,7 +9,7 @@ use Rattle.dw_unit.specs.CompUnits.{Entry, Unit, attr, low_pc}
 use Rattle.range_loc_rewrite.specs.Faults.{ListSections}
 use Rattle.range_loc_rewrite.specs.Groups.{ranges_in}
 use Rattle.range_loc_rewrite.specs.KnownLists.{range_list}
-use Rattle.range_loc_rewrite.specs.Lists.{Located, ranges_kind, list_of, list_offset}
+use Rattle.range_loc_rewrite.specs.Lists.{ranges_kind, list_of, list_offset}
 use Rattle.range_loc_rewrite.specs.Ranges.{ranges_of, up_to}
 
 abbrev pub bounds_of : List ℕ → Unit → Entry → Option Range

@@ -1,19 +1,18 @@
 -- Lists of a unit as they are read and kept.
-use Rattle.std.proofs.Common.{rules, ◌≡◌, ◌≢◌, ◌∙◌, ◌+◌, ◌-◌, ◌++◌, ◌∷◌, [], ℕ, Bool, true, false, List, Option, Some, None, Result, Ok}
+use Rattle.std.proofs.Common.{◌≡◌, ◌≢◌, ◌∙◌, ◌+◌, ◌-◌, ◌++◌, ℕ, Bool, true, false, List, Option, Some, None, Result, Ok}
 use Rattle.std.proofs.Common.{Err, BTreeMap, nat_cmp, refl, sym, ap, subst, arith, length, take, drop, cond, ⊎_elim}
-use Rattle.std.specs.Prelude.{is_some, option_map}
+use Rattle.std.specs.Prelude.{option_map}
 use Rattle.std.specs.BTreeMap.{IsEmpty, get, is_at}
 use Rattle.std.specs.Map.{lookup}
 use Rattle.std.proofs.lemmas.Grind.{common_steps}
 use Rattle.std.proofs.lemmas.Bool.{cases_eq}
 use Rattle.dw_unit.specs.declared.attribute.TheConstants.{DW_AT_addr_base}
 use Rattle.dw_unit.specs.declared.trouble.Trouble.{Trouble}
-use Rattle.dw_unit.specs.CompUnits.{Unit, base, address_at}
+use Rattle.dw_unit.specs.CompUnits.{Unit, base}
 use Rattle.range_loc_rewrite.specs.declared.groups.Groups.{Groups}
 use Rattle.range_loc_rewrite.specs.declared.list_kind.ListKind.{ListKind}
 use Rattle.range_loc_rewrite.specs.declared.list_kind.ListKind.TheVariants as kind
 use Rattle.range_loc_rewrite.specs.declared.unit_lists.UnitLists.{UnitLists}
-use Rattle.dw_unit.specs.Trouble.{Read}
 use Rattle.range_loc_rewrite.specs.Faults.{ListSections}
 use Rattle.range_loc_rewrite.specs.Groups.{AreNumbered, Grow, HasRanges, ranges_in, covers_in}
 use Rattle.range_loc_rewrite.specs.KnownLists.{IsGroupOf, AreKnown, range_list}

@@ -4,10 +4,7 @@ use Rattle.std.specs.Prelude.{flat_map}
 use Rattle.std.specs.Prelude.{Option, Some, None}
 use Rattle.std.specs.List.{list_any}
 use Rattle.std.specs.Option.{option_map_or}
-use Rattle.std.specs.Ordering.{nat_cmp}
-use Rattle.std.specs.BTreeMap.{BTreeMap, get}
 use Rattle.table_core.specs.declared.range.Range.{Range}
-use Rattle.table_core.specs.AddressRanges.{holds_address}
 use Rattle.range_loc_rewrite.specs.declared.cover_tree.Cover.{Cover}
 use Rattle.range_loc_rewrite.specs.declared.groups.Groups as code
 use Rattle.range_loc_rewrite.specs.declared.groups.RangedEntry as kept

@@ -1,8 +1,7 @@
-use Rattle.std.proofs.Common.{◌≡◌, ◌∙◌, ◌++◌, ℕ, List, ap, sym, subst}
+use Rattle.std.proofs.Common.{◌≡◌, ◌∙◌, ◌++◌, List, ap, sym, subst}
 use Rattle.dw_unit.specs.declared.entry.Attr.{Attr}
 use Rattle.dw_unit.specs.ListedEntries.{ListedEntry}
 use Rattle.dw_unit.specs.ListedUnits.{plain}
-use Rattle.range_loc_rewrite.specs.declared.groups.RangedEntry.{RangedEntry}
 use Rattle.range_loc_rewrite.specs.Groups.{entry_of}
 use Rattle.range_loc_rewrite.specs.KnownLists.{IsNoted}
 use Rattle.range_loc_rewrite.proofs.GroupFacts.{grow_more}

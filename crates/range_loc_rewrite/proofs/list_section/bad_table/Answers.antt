@@ -1,4 +1,4 @@
-use Rattle.std.proofs.Common.{◌≡◌, ◌∙◌, Some, ap, sym}
+use Rattle.std.proofs.Common.{◌∙◌, Some, ap, sym}
 use Rattle.table_core.specs.ReadSteps.{lower}
 use Rattle.table_core.specs.DebugUnits.{Walked}
 use Rattle.range_loc_rewrite.proofs.BadTables.{bad_more, bad_same}

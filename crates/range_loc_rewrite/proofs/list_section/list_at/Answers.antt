@@ -1,4 +1,4 @@
-use Rattle.std.proofs.Common.{rules, ◌∙◌, ◌≡◌, ℕ, List, ap, take, drop, ◌-◌}
+use Rattle.std.proofs.Common.{◌∙◌, ℕ, ap, take, drop, ◌-◌}
 use Rattle.range_loc_rewrite.proofs.RangeLists.{list_is}
 use Rattle.range_loc_rewrite.proofs.list_section.list_at.Goals as goal
 

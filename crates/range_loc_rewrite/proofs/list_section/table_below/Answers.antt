@@ -1,8 +1,6 @@
-use Rattle.std.proofs.Common.{rules, ◌≡◌, ◌∙◌, ◌-◌, ◌<◌, ◌≤◌, ℕ, zero, suc, nat_le, Option, Some, None, sym, ap, subst, arith, length}
-use Rattle.std.proofs.Common.{get_or}
+use Rattle.std.proofs.Common.{rules, ◌≡◌, ◌∙◌, ◌-◌, ℕ, suc, nat_le, sym, ap, arith}
 use Rattle.std.proofs.lemmas.List.Sorted.{IsPartitionPoint-from_clause, IsPartitionedBy-leb}
 use Rattle.table_core.specs.DebugUnits.{Walked}
-use Rattle.range_loc_rewrite.specs.Lists.{table_below}
 use Rattle.range_loc_rewrite.proofs.TablesBelow.{below_is, last_of}
 use Rattle.range_loc_rewrite.proofs.list_section.table_below.Goals as goal
 

@@ -1,4 +1,4 @@
-use Rattle.std.proofs.Common.{◌≡◌, ◌∙◌, ℕ, List, [], ◌∷◌, Option, Some, None, ap, sym, map, refl}
+use Rattle.std.proofs.Common.{◌≡◌, ◌∙◌, ℕ, List, [], ◌∷◌, Option, Some, None, ap, sym, map}
 use Rattle.std.specs.Prelude.{option_and_then, unwrap_or, slice_get}
 use Rattle.std.specs.Option.{option_copied}
 use Rattle.table_core.specs.ReadSteps.{first_of}

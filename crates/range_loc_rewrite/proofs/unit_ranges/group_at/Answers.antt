@@ -1,4 +1,4 @@
-use Rattle.std.proofs.Common.{◌≡◌, ◌∙◌, sym}
+use Rattle.std.proofs.Common.{◌∙◌, sym}
 use Rattle.range_loc_rewrite.specs.KnownLists.{range_list}
 use Rattle.range_loc_rewrite.proofs.GroupFacts.{grow_none}
 use Rattle.range_loc_rewrite.proofs.RangeLists.{known_more}

@@ -1,13 +1,12 @@
-use Rattle.std.proofs.Common.{◌≡◌, ◌∙◌, ◌==◌, ◌∷◌, [], ℕ, List, Option, Some, None, ap, sym, subst, refl, map}
-use Rattle.std.specs.Prelude.{option_map, option_and_then}
+use Rattle.std.proofs.Common.{◌≡◌, ◌∙◌, ◌==◌, ◌∷◌, [], ℕ, List, Option, Some, None, ap, sym, subst}
+use Rattle.std.specs.Prelude.{option_map}
 use Rattle.std.specs.List.{find}
 use Rattle.std.specs.Option.{option_copied}
 use Rattle.table_core.specs.declared.range.Range.{Range}
 use Rattle.dw_unit.specs.declared.attribute.TheConstants.{DW_AT_ranges}
 use Rattle.dw_unit.specs.declared.entry.Attr.{Attr}
-use Rattle.dw_unit.specs.CompUnits.{Entry, Unit, attr}
+use Rattle.dw_unit.specs.CompUnits.{attr}
 use Rattle.range_loc_rewrite.specs.declared.list_reading.Bounds.{Bounds}
-use Rattle.range_loc_rewrite.specs.Faults.{ListSections}
 use Rattle.range_loc_rewrite.specs.Groups.{HasRanges, ranges_in}
 use Rattle.range_loc_rewrite.specs.KnownLists.{range_list}
 use Rattle.range_loc_rewrite.specs.Lists.{Located, ranges_kind, list_offset}

@@ -1,4 +1,4 @@
-use Rattle.std.proofs.Common.{◌≡◌, ◌∙◌, List, Some, ap, sym, map}
+use Rattle.std.proofs.Common.{◌∙◌, List, Some, ap, sym, map}
 use Rattle.std.specs.Global.{Vec}
 use Rattle.std.specs.Prelude.{option_map}
 use Rattle.range_loc_rewrite.specs.declared.list_reading.Place.{Place}

@@ -1,0 +1,89 @@
+-- The places of the entries that hold an address, by their numbers.
+use Rattle.std.proofs.Common.{◌≡◌, ◌∙◌, ◌+◌, ◌∷◌, [], ℕ, zero, suc, Bool, true, false, List, Option, Some, refl, ap, arith, drop, length, map, filter}
+use Rattle.std.specs.Prelude.{if◌then◌else◌, filter_map, option_map, slice_get}
+use Rattle.std.specs.List.{cons_option, range_with_len}
+use Rattle.std.specs.Option.{option_map_or}
+use Rattle.range_loc_rewrite.specs.declared.cover_tree.Cover.{Cover}
+use Rattle.range_loc_rewrite.specs.declared.groups.RangedEntry.{RangedEntry}
+use Rattle.range_loc_rewrite.specs.declared.cover_index.CoverIndex.{CoverIndex}
+use Rattle.range_loc_rewrite.specs.declared.groups.Groups.{Groups}
+use Rattle.range_loc_rewrite.specs.CoverIndex.{IsCoverIndex, is_held, held_numbers, place_at}
+use Rattle.range_loc_rewrite.specs.Faults.{ListSections}
+use Rattle.range_loc_rewrite.specs.Groups.{group_holds, held_places}
+use Rattle.range_loc_rewrite.specs.KeptRanges.{AreKept}
+use Rattle.range_loc_rewrite.specs.RangeReading.{AreRangesOf}
+use Rattle.range_loc_rewrite.specs.Ranges.{covering}
+
+-- the first behind some
+first_behind : (xs : List RangedEntry) (j : ℕ) (r : RangedEntry) (rs : List RangedEntry) → drop j xs ≡ r ∷ rs →
+    (slice_get xs j ≡ Some r) × (drop (j + 1) xs ≡ rs)
+first_behind [] zero r rs e = absurd (cc)
+first_behind [] (suc j) r rs e = absurd (cc)
+first_behind (x ∷ xs) zero r rs e = (ap first e, ap rest e)
+  where
+    first : List RangedEntry → Option RangedEntry
+    first l = slice_get l 0
+
+    rest : List RangedEntry → List RangedEntry
+    rest l = drop 1 l
+first_behind (x ∷ xs) (suc j) r rs e =
+    let p = first_behind xs j r rs e in
+    let next : suc j + 1 ≡ suc (j + 1) = omega arith in
+    (p.0, ap (λ (n : ℕ). drop n (x ∷ xs)) next ∙ p.1)
+
+module _ (covers : List Cover) (xs : List RangedEntry) (a : ℕ) where
+  places_from : (rs : List RangedEntry) (j : ℕ) → drop j xs ≡ rs →
+      filter_map (place_at xs) (filter (is_held covers xs a) (range_with_len j (length rs))) ≡ held_places covers rs a
+  places_from [] j e = refl
+  places_from (r ∷ rs) j e =
+      let p = first_behind xs j r rs e in
+      let held : is_held covers xs a j ≡ group_holds covers r.group a =
+      ap (λ (o : Option RangedEntry). option_map_or (λ (r : RangedEntry). group_holds covers r.group a) o false) p.0 in
+      let place : place_at xs j ≡ Some r.place = ap (option_map (λ (r : RangedEntry). r.place)) p.0 in
+      ap (λ (b : Bool). filter_map (place_at xs) (if b then j ∷ more j else more j)) held
+      ∙ step (group_holds covers r.group a) place (places_from rs (j + 1) p.1)
+    where
+      more : ℕ → List ℕ
+      more j = filter (is_held covers xs a) (range_with_len (j + 1) (length rs))
+
+      step : (b : Bool) → place_at xs j ≡ Some r.place → filter_map (place_at xs) (more j) ≡ held_places covers rs a →
+          filter_map (place_at xs) (if b then j ∷ more j else more j)
+          ≡ map (λ (r : RangedEntry). r.place) (if b then r ∷ filter (λ (r : RangedEntry). group_holds covers r.group a) rs
+          else filter (λ (r : RangedEntry). group_holds covers r.group a) rs)
+      step true place same = (λ i. cons_option (place i) (same i))
+      step false place same = same
+
+pub places_are : (covers : List Cover) (ranged : List RangedEntry) (a : ℕ) →
+    filter_map (place_at ranged) (held_numbers covers ranged a) ≡ held_places covers ranged a
+places_are covers ranged a = places_from covers ranged a ranged 0 refl
+
+-- the same, where groups hold the same addresses
+held_alike : (cs ds : List Cover) (rs : List RangedEntry) (a : ℕ) → ((g : ℕ) → group_holds cs g a ≡ group_holds ds g a) →
+    held_places cs rs a ≡ held_places ds rs a
+held_alike cs ds [] a same = refl
+held_alike cs ds (r ∷ rs) a same =
+    ap (λ (b : Bool). map (λ (r : RangedEntry). r.place) (if b then r ∷ kept cs else kept cs)) (same r.group)
+    ∙ step (group_holds ds r.group a) (held_alike cs ds rs a same)
+  where
+    kept : List Cover → List RangedEntry
+    kept covers = filter (λ (r : RangedEntry). group_holds covers r.group a) rs
+
+    step : (b : Bool) → map (λ (r : RangedEntry). r.place) (kept cs) ≡ map (λ (r : RangedEntry). r.place) (kept ds) →
+        map (λ (r : RangedEntry). r.place) (if b then r ∷ kept cs else kept cs)
+        ≡ map (λ (r : RangedEntry). r.place) (if b then r ∷ kept ds else kept ds)
+    step true e = ap (λ (l : List ℕ). r.place ∷ l) e
+    step false e = e
+
+pub kept_are : (s : ListSections) (groups : Groups) (ranged : List RangedEntry) (index : CoverIndex) → AreRangesOf s groups ranged →
+    IsCoverIndex groups.covers.items ranged index → AreKept s ranged index
+kept_are s groups ranged index are is = record {
+  free = are.free;
+  index_is = record { held = λ g a. refl; members = is.members };
+  held = λ a. held_alike index.tree groups.covers.items ranged a (λ g. is.held g a) ∙ are.held a;
+}
+
+-- what is found by numbers is what covers an address
+pub found_are : (s : ListSections) (ranged : List RangedEntry) (index : CoverIndex) (a : ℕ) (numbers : List ℕ) → AreKept s ranged index →
+    numbers ≡ held_numbers index.tree ranged a → filter_map (place_at ranged) numbers ≡ covering s a
+found_are s ranged index a numbers are e =
+    ap (filter_map (place_at ranged)) e ∙ places_are index.tree ranged a ∙ are.held a

@@ -1,0 +1,57 @@
+-- Which fault of the sections of ranges is answered, and what is read where there is none.
+use Rattle.std.proofs.Common.{◌≡◌, ◌∙◌, ℕ, List, Option, Some, None, refl, sym, ap, map, filter}
+use Rattle.std.specs.Prelude.{flat_map, not, false}
+use Rattle.std.specs.Option.{option_or, option_map_or}
+use Rattle.rb_bytes.specs.FirstFault.{IsFree}
+use Rattle.rb_bytes.specs.declared.fault.FaultKind.TheVariants as fault
+use Rattle.table_core.specs.DebugUnits.{Walked, walked, first_place}
+use Rattle.table_core.specs.ReadSteps.{lower, least}
+use Rattle.dw_unit.specs.Faults.{HasDwarfFault, bad_address_table}
+use Rattle.dw_unit.specs.CompUnits.{units}
+use Rattle.dw_unit.proofs.Leasts.{least-append}
+use Rattle.range_loc_rewrite.specs.declared.range_reading.Progress.{Progress}
+use Rattle.range_loc_rewrite.specs.Faults.{ListSections, range_places, is_list_table, bad_list_tables, bad_table}
+use Rattle.range_loc_rewrite.specs.Lists.{ranges_kind}
+use Rattle.range_loc_rewrite.specs.RangeReading.{IsProgress, is_bad_unit, AreRangesOf}
+use Rattle.range_loc_rewrite.proofs.CoveringEntries.{covering_is}
+
+abbrev pub of_tables : ListSections → List ℕ
+of_tables s = map (λ (w : Walked). w.place) (filter (λ (w : Walked). not (option_map_or is_list_table w.bytes false)) (walked 5 s.ranges))
+
+abbrev of_units : ListSections → Option ℕ
+of_units s = first_place (is_bad_unit s) (walked 5 s.units.info)
+
+-- units first, then tables of addresses, then tables of lists
+pub bad_is : (s : ListSections) (p : Progress) (o : Option ℕ) → IsProgress s (walked 5 s.units.info) p → o ≡ least (of_tables s) →
+    option_or p.bad (option_or (bad_address_table s.units.addr) (lower o p.bad_table)) ≡ (range_places s).bad
+bad_is s p o are tables = by_bad p.bad refl
+  where
+    by_bad : (x : Option ℕ) → p.bad ≡ x →
+        option_or x (option_or (bad_address_table s.units.addr) (lower o p.bad_table)) ≡ (range_places s).bad
+    by_bad (Some n) e = ap (λ (x : Option ℕ). option_or x (option_or (bad_address_table s.units.addr) (bad_table ranges_kind s.ranges s.units))) (sym e ∙ are.bad)
+    by_bad None e =
+        ap (option_or (bad_address_table s.units.addr))
+        ((λ i. lower (tables i) ((are.gathered e).bad i))
+        ∙ sym (least-append (of_tables s) (flat_map (bad_list_tables ranges_kind s.ranges s.units.addr) (units s.units))))
+        ∙ ap (λ (x : Option ℕ). option_or x (option_or (bad_address_table s.units.addr) (bad_table ranges_kind s.ranges s.units))) (sym e ∙ are.bad)
+
+left_none : (a b : Option ℕ) → option_or a b ≡ None → a ≡ None
+left_none None b e = refl
+left_none (Some n) b e = absurd (cc)
+
+-- without a fault all entries were read
+pub ranges_read : (s : ListSections) (p : Progress) → IsProgress s (walked 5 s.units.info) p → IsFree (HasDwarfFault (range_places s)) →
+    AreRangesOf s p.groups p.ranged.items
+ranges_read s p are free =
+    let none : p.bad ≡ None = are.bad ∙ left_none (of_units s) (option_or (bad_address_table s.units.addr) (bad_table ranges_kind s.ranges s.units))
+    (no_bad (range_places s).bad refl) in
+    record {
+      free = free;
+      numbered = are.numbered;
+      within = are.within;
+      held = λ a. (are.gathered none).held a ∙ sym (covering_is s a);
+    }
+  where
+    no_bad : (o : Option ℕ) → (range_places s).bad ≡ o → o ≡ None
+    no_bad None e = refl
+    no_bad (Some place) e = absurd (free fault.DwarfFault place e)

@@ -1,0 +1,19 @@
+use Rattle.std.proofs.Common.{◌≡◌, ◌∙◌, ap}
+use Rattle.std.specs.Prelude.{filter_map}
+use Rattle.table_core.specs.ReadSteps.{unless_empty}
+use Rattle.range_loc_rewrite.specs.CoverIndex.{place_at}
+use Rattle.range_loc_rewrite.specs.Faults.{ListSections, list_sections_held}
+use Rattle.range_loc_rewrite.specs.ListTables.{range_says}
+use Rattle.range_loc_rewrite.specs.Ranges.{covering}
+use Rattle.range_loc_rewrite.proofs.HeldPlaces.{found_are}
+use Rattle.range_loc_rewrite.proofs.range_lists.RangesByAddress.at.Goals as goal
+
+pub returns : goal.returns
+returns c =
+    let t = c.self.inside in
+    let s : ListSections = list_sections_held t.info.items t.abbrevs.items t.addr.items t.ranges.items t.locations.items in
+    let found : c.in_ok-places.places.items ≡ covering s c.args.a =
+    c.in_ok-places.ensures ∙ (λ i. filter_map (place_at (c.deref.ensures.value i)) (c.deref-2.ensures.value i))
+    ∙ found_are s t.ranged.items t.index c.args.a c.in_ok-numbers.numbers.items c.self.invariant
+    (c.in_ok-numbers.ensures t.index.tree t.ranged.items c.self.invariant.index_is) in
+    c.unless_empty.ensures ∙ ap unless_empty found ∙ ap (λ (x : ListSections). range_says x c.args.a) c.self.view_is

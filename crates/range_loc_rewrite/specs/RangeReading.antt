@@ -1,0 +1,58 @@
+-- What was read of the ranges of some units.
+use Rattle.std.specs.Prelude.{◌≡◌, ◌||◌, ℕ, Bool, List, if◌then◌else◌, flat_map, map, Some, None}
+use Rattle.table_core.specs.DebugUnits.{Walked, first_place}
+use Rattle.table_core.specs.ReadSteps.{lower, least, oks}
+use Rattle.dw_unit.specs.CompUnits.{Unit, unit_of}
+use Rattle.dw_unit.specs.Declarations.{has_bad_form, has_bad_high}
+use Rattle.dw_unit.specs.Faults.{declarations_of, places_with, unformed, is_bad}
+use Rattle.dw_unit.specs.ListedEntries.{ListedEntry}
+use Rattle.dw_unit.specs.ListedUnits.{plain_unit}
+use Rattle.range_loc_rewrite.specs.declared.range_reading.Progress.{Progress}
+use Rattle.range_loc_rewrite.specs.declared.unit_ranges.ListFaults.{ListFaults}
+use Rattle.rb_bytes.specs.FirstFault.{IsFree}
+use Rattle.dw_unit.specs.Faults.{HasDwarfFault}
+use Rattle.range_loc_rewrite.specs.declared.groups.Groups.{Groups}
+use Rattle.range_loc_rewrite.specs.declared.groups.RangedEntry.{RangedEntry}
+use Rattle.range_loc_rewrite.specs.Faults.{ListSections, range_places, has_bad_offset, bad_list_tables}
+use Rattle.range_loc_rewrite.specs.Ranges.{covering}
+use Rattle.range_loc_rewrite.specs.Gathering.{held_in, IsUnitGathered}
+use Rattle.range_loc_rewrite.specs.Groups.{AreNumbered, AreWithin, held_places}
+use Rattle.range_loc_rewrite.specs.Lists.{ranges_kind}
+
+-- a unit that can't be read, or names a list that isn't there
+abbrev pub is_bad_unit : ListSections → Walked → Bool
+is_bad_unit s w = is_bad s.units w || has_bad_offset ranges_kind s.ranges (unit_of s.units.abbrevs w)
+
+abbrev pub units_of : ListSections → List Walked → List Unit
+units_of s ws = oks (map (unit_of s.units.abbrevs) ws)
+
+-- all units were read: what their entries hold, and the lowest table whose list can't be read
+pub record AreGathered (s : ListSections) (ws : List Walked) (p : Progress) : Type 0 where
+  pub held : (a : ℕ) → held_places p.groups.covers.items p.ranged.items a ≡ flat_map (λ (u : Unit). held_in s u u.entries a) (units_of s ws)
+  pub bad : p.bad_table ≡ least (flat_map (bad_list_tables ranges_kind s.ranges s.units.addr) (units_of s ws))
+
+pub record IsProgress (s : ListSections) (ws : List Walked) (p : Progress) : Type 0 where
+  pub numbered : AreNumbered p.groups
+  pub within : AreWithin p.groups.count p.ranged.items
+  pub form : p.bad_form ≡ least (places_with has_bad_form (flat_map (declarations_of s.units.abbrevs) ws))
+  pub high : p.bad_high ≡ least (places_with has_bad_high (flat_map (declarations_of s.units.abbrevs) ws))
+  pub unformed_are : p.unformed ≡ least (flat_map (λ w. unformed (unit_of s.units.abbrevs w)) ws)
+  pub bad : p.bad ≡ first_place (is_bad_unit s) ws
+  pub gathered : p.bad ≡ None → AreGathered s ws p
+
+-- the entries of a unit at a place were added, and what is wrong with its lists noted
+pub record IsUnitAdded (s : ListSections) (es : List ListedEntry) (place : ℕ) (old new : Progress) : Type 0 where
+  pub faults : ListFaults
+  pub gathered : IsUnitGathered s (plain_unit es) old.groups old.ranged.items new.groups new.ranged.items faults
+  pub table : new.bad_table ≡ lower old.bad_table faults.bad
+  pub bad : new.bad ≡ (if faults.lacks_offset then Some place else old.bad)
+  pub form : new.bad_form ≡ old.bad_form
+  pub high : new.bad_high ≡ old.bad_high
+  pub unformed_is : new.unformed ≡ old.unformed
+
+-- The entries that have ranges, of sections without a fault.
+pub record AreRangesOf (s : ListSections) (groups : Groups) (ranged : List RangedEntry) : Type 0 where
+  pub free : IsFree (HasDwarfFault (range_places s))
+  pub numbered : AreNumbered groups
+  pub within : AreWithin groups.count ranged
+  pub held : (a : ℕ) → held_places groups.covers.items ranged a ≡ covering s a

@@ -1,0 +1,55 @@
+// The places of entries by their numbers.
+ghost use Rattle.std.specs.Prelude.{◌≡◌, ◌++◌, [], IfOk, OnOk, filter_map, option_map};
+ghost use Rattle.std.specs.List.{cons_option};
+ghost use Rattle.table_core.specs.ReadSteps.{unless_empty};
+ghost use Rattle.range_loc_rewrite.specs.CoverIndex.{place_at};
+
+use crate::groups::RangedEntry;
+use rb_bytes::fault::NoMemory;
+use std::alloc::Global;
+
+fn place_at(ranged: &[RangedEntry], number: usize) -> Option<u64>
+    ensures { result ≡ place_at ranged.now number }
+{
+    match ranged.get(number) {
+        Some(entry) => Some(entry.place),
+        None => None,
+    }
+}
+
+fn put_place(places: &mut Vec<u64>, place: Option<u64>) -> Result<(), NoMemory>
+    ensures { OnOk result (places.new.items ≡ places.old.items ++ cons_option place []) }
+{
+    match place {
+        Some(place) => {
+            places.push(place)?;
+            Ok(())
+        }
+        None => Ok(()),
+    }
+}
+
+/// The places of the entries of some numbers.
+pub fn places_of(
+    alloc: Global,
+    ranged: &[RangedEntry],
+    numbers: &[usize],
+) -> Result<Vec<u64>, NoMemory>
+    ensures { IfOk result (λ ps. ps.items ≡ filter_map (place_at ranged.now) numbers.now) }
+{
+    let mut places = Vec::new(alloc);
+    for number in numbers {
+        put_place(&mut places, place_at(ranged, *number))?;
+    }
+    Ok(places)
+}
+
+/// Some places, unless there are none.
+pub fn unless_empty(places: Vec<u64>) -> Option<Vec<u64>>
+    ensures { option_map (λ ps. ps.items) result ≡ unless_empty places.items }
+{
+    match places.first() {
+        Some(_) => Some(places),
+        None => None,
+    }
+}
