@@ -1,21 +1,26 @@
 #!/usr/bin/env python3
-"""Rewrites C programs and looks at what comes out with other tools.
+"""Rewrites C and C++ programs and looks at what comes out with other tools.
 
     python3 bench/real_programs.py [--tool COMMAND] [--keep FOLDER] [PROGRAM..]
 
 Each program of `bench/programs` is compiled by GCC with GNU ld and by Clang with lld, with picolibc for RV64IMC, and
-linked with a script that leaves room behind the code and with the linker's own script with and without room. COMMAND
-(`./sudrepka` where it isn't given) records a short run of each executable and rewrites it by that profile. Then
+linked with a script that leaves room behind the code, with the linker's own script with and without room, and with that
+script and unwind tables, which GCC makes itself and by its assembler. Programs that throw or clean up while frames are
+unwound need the index of their table, which only lld makes, so lld links them all. COMMAND (`./sudrepka` where it isn't
+given) records a short run of each executable and rewrites it by that profile. Then
 
-- `run` and `qemu-riscv64` have to say the same of both files, for a short and for a longer run, and `run --symbols` has to
-  follow the input to its end;
+- `run` and `qemu-riscv64` have to say the same of both files, for a short and for a longer run, and `run --symbols`
+  has to follow the input to its end, but where it unwinds itself: it then reads the program header of its table, which
+  a rewrite changes, so that run is stuck;
 - `readelf -aW` and `eu-elflint` may not complain of the output where they don't of the input;
 - `objdump` has to find an instruction at each line of the map, with the same operation but for branches and jumps;
-- `gdb` has to find the functions at their new addresses, and to read the same instructions there.
+- `gdb` has to find the functions at their new addresses, and to read the same instructions there;
+- `readelf` has to find the same rows of unwind tables at the bytes of the new code as at their owners, `llvm-dwarfdump`
+  the same handlers and exception tables, and `gdb` the same frames where both programs stop at one function.
 
 A line for each file has the counts of steps before and after; a line for each problem follows it. The status is 0 where
 there is none. It wants Debian's `gcc-riscv64-unknown-elf` and `picolibc-riscv64-unknown-elf`, and leaves out what of
-`clang`, `lld`, `qemu-user`, `elfutils` and `gdb-multiarch` isn't there. FOLDER keeps all files.
+`clang`, `lld`, `qemu-user`, `elfutils`, `llvm` and `gdb-multiarch` isn't there. FOLDER keeps all files.
 """
 import argparse
 import glob
@@ -27,15 +32,23 @@ import sys
 import tempfile
 
 sys.path.insert(0, os.path.dirname(os.path.abspath(__file__)))
+from frames import backtrace_problems, mend_tables, table_problems  # noqa: E402
 from profiles import CROSS, output, record  # noqa: E402
 
 ROOT = os.path.dirname(os.path.dirname(os.path.abspath(__file__)))
 PROGRAMS = os.path.join(ROOT, "bench", "programs")
 PICOLIBC = "/usr/lib/picolibc/riscv64-unknown-elf"
-LONGER = {"sorting": "150", "interpreter": "400", "shapes": "500", "packing": "5000"}
+LONGER = {"sorting": "150", "interpreter": "400", "shapes": "500", "packing": "5000",
+          "exceptions": "50", "cleanups": "50"}
+# Programs that unwind themselves: their files, and a function at which they stop deep in calls.
+UNWINDING = {"exceptions": (["exceptions.cc", "cxx_runtime.cc", "frame_index.c"], "__cxa_throw"),
+             "cleanups": (["cleanups.c", "frame_index.c"], "stop")}
 
 MACHINE = ["-march=rv64imc", "-mabi=lp64", "-mcmodel=medany"]
-COMPILE = ["-g0", "-fno-asynchronous-unwind-tables", "-ftls-model=local-exec", "-ffunction-sections", "-nostdlib"]
+COMPILE = ["-g0", "-ftls-model=local-exec", "-ffunction-sections", "-nostdlib"]
+NO_TABLES = ["-fno-asynchronous-unwind-tables"]
+TABLES = ["-fasynchronous-unwind-tables", "-fexceptions"]
+OWN_TABLES = [*TABLES, "-fno-dwarf2-cfi-asm"]
 # The assembler has to leave relaxation to the linker, or a call inside one section has no relocation; and GNU ld's
 # relaxations leave relocations of types of its own.
 LINK = ["-Wl,--emit-relocs", "-Wl,--no-relax", "-Wl,--gc-sections", "-Wl,--strip-debug"]
@@ -44,9 +57,12 @@ LAYOUTS = {
     "roomy": ["-T", os.path.join(PROGRAMS, "roomy.ld")],
     "default": ["-T", os.path.join(PROGRAMS, "no_tables.ld"), *NO_DATA],
     "pages": ["-T", os.path.join(PROGRAMS, "no_tables.ld"), *NO_DATA, "-Wl,-z,max-page-size=0x100000"],
+    "tables": [*NO_DATA, "-Wl,-z,max-page-size=0x100000"],
+    "own-tables": [*NO_DATA, "-Wl,-z,max-page-size=0x100000"],
 }
+KINDS = {"tables": TABLES, "own-tables": OWN_TABLES}
 # With such pages GNU ld would put the code at address 0.
-OF_LINKER = {("gcc", "pages"): ["-Wl,-Ttext-segment=0x100000"]}
+OF_LINKER = {("gcc", layout): ["-Wl,-Ttext-segment=0x100000"] for layout in ("pages", "tables", "own-tables")}
 
 
 def newest(name):
@@ -71,15 +87,45 @@ def compilers():
     return found
 
 
-def build(path, program, compiler, parts, layout, level):
-    front, libraries = parts
-    layouts = LAYOUTS[layout] + OF_LINKER.get((compiler, layout), [])
-    sources = [os.path.join(PROGRAMS, "start.c"), program + ".c"]
-    include = ["-isystem", os.path.join(PICOLIBC, "include")]
-    command = [*front, *MACHINE, *COMPILE, level, *include, *LINK, *layouts, *sources, *libraries, "-o", path]
+def layouts_of(program, compiler):
+    """The layouts of a program: those with tables alone where it unwinds itself; only GCC makes tables of its own."""
+    every = [layout for layout in LAYOUTS if layout in KINDS or program not in UNWINDING]
+    return [layout for layout in every if layout != "own-tables" or compiler == "gcc"]
+
+
+def call(command):
     done = subprocess.run(command, capture_output=True, text=True, check=False)
     if done.returncode != 0:
         sys.exit(f"{' '.join(command)}\n{done.stderr}")
+
+
+def linker_of(folder, program, compiler):
+    """The options by which lld links a program that unwinds itself, with the index of its table."""
+    if program not in UNWINDING:
+        return []
+    if compiler != "gcc":
+        return ["-Wl,--eh-frame-hdr"]
+    lld = os.path.join(folder, "ld.lld")  # where GCC finds it
+    if not os.path.lexists(lld):
+        os.symlink(newest("ld.lld"), lld)
+    return [f"-B{folder}", "-fuse-ld=lld", "-Wl,--eh-frame-hdr"]
+
+
+def build(path, program, compiler, parts, layout, level):
+    front, libraries = parts
+    layouts = LAYOUTS[layout] + (OF_LINKER.get((compiler, layout), []) if program not in UNWINDING else [])
+    include = ["-isystem", os.path.join(PICOLIBC, "include")]
+    objects = []
+    for source in ["start.c", *UNWINDING.get(program, ([program + ".c"],))[0]]:
+        objects.append(f"{path}.{source}.o")
+        kind = ["-fno-rtti"] if source.endswith(".cc") else []
+        call([*front, *MACHINE, *COMPILE, *KINDS.get(layout, NO_TABLES), *kind, level, *include, "-c",
+              os.path.join(PROGRAMS, source), "-o", objects[-1]])
+    linker = linker_of(os.path.dirname(path), program, compiler)
+    call([*front, *MACHINE, "-nostdlib", *LINK, *layouts, *linker, *objects, *libraries, "-o", path])
+    mend_tables(path)  # also those of libraries
+    for name in objects:
+        os.remove(name)
 
 
 class Checks:
@@ -105,11 +151,11 @@ class Checks:
             self.say(f"run {' '.join(options)} of {os.path.basename(path)} says {done.stdout[-80:]!r}")
         return status, printed, steps
 
-    def runs(self, words):
+    def runs(self, words, unwinds):
         """Runs both files on all machines."""
         before = self.run_with(self.old, [], words)
         after = self.run_with(self.new, [], words)
-        if self.run_with(self.old, ["--symbols"], words) != before:
+        if not unwinds and self.run_with(self.old, ["--symbols"], words) != before:
             self.say("the symbol machine runs otherwise")
         if before[:2] != after[:2]:
             self.say("the output runs otherwise")
@@ -202,9 +248,16 @@ class Checks:
                 self.say(f"gdb reads other instructions in {name}: {lines[1:]}")
 
 
+    def unwinding(self, place, words):
+        """Compares the unwind tables, and the frames where both programs come to a function."""
+        self.problems += table_problems(self.old, self.new, self.spans)
+        self.problems += backtrace_problems(self.old, self.new, self.moved, place, words)
+
+
 def check(tool, name, old, folder):
     """Rewrites an executable and prints what was found. Gives the number of problems."""
     path = lambda end: os.path.join(folder, f"{name}.{end}")
+    program, _, layout = name.split("-O")[0].split(".")
     recorded = record(tool, old, [], path("profile"))
     command = [*tool, "rewrite", old, path("profile"), path("moved"), path("map")]
     done = subprocess.run(command, capture_output=True, text=True, check=False)
@@ -213,10 +266,13 @@ def check(tool, name, old, folder):
         return 1
     os.chmod(path("moved"), 0o755)
     checks = Checks(tool, old, path("moved"), path("map"))
-    short = checks.runs([])
-    longer = checks.runs([LONGER[name.split(".")[0]]]) if name.split(".")[0] in LONGER else short
+    unwinds = program in UNWINDING
+    short = checks.runs([], unwinds)
+    longer = checks.runs([LONGER[program]], unwinds) if program in LONGER else short
     checks.readers()
     checks.debugger(checks.disassembly())
+    if layout in KINDS:
+        checks.unwinding(UNWINDING[program][1] if unwinds else "write", [])
     steps = ", ".join(f"{before} to {after} steps" for before, after in (short, longer))
     print(f"{name:30} {done.stdout.strip()}; {steps}", flush=True)
     for problem in checks.problems[:10]:
@@ -226,7 +282,7 @@ def check(tool, name, old, folder):
 
 def main():
     every = sorted(set(LONGER))
-    words = argparse.ArgumentParser(description="rewrites C programs and looks at the output with other tools")
+    words = argparse.ArgumentParser(description="rewrites C and C++ programs and looks at the output with other tools")
     words.add_argument("--tool", default=os.path.join(ROOT, "sudrepka"), help="the command that takes `rewrite ..`")
     words.add_argument("--keep", help="a folder for all files")
     words.add_argument("programs", nargs="*", default=every)
@@ -240,11 +296,11 @@ def main():
         os.makedirs(folder, exist_ok=True)
         for program in given.programs:
             for compiler, parts in compilers().items():
-                for layout in LAYOUTS:
+                for layout in layouts_of(program, compiler):
                     for level in ("-O2", "-Os"):
                         name = f"{program}.{compiler}.{layout}{level}"
                         path = os.path.join(folder, name)
-                        build(path, os.path.join(PROGRAMS, program), compiler, parts, layout, level)
+                        build(path, program, compiler, parts, layout, level)
                         problems += check(tool, name, path, folder)
     print(f"{problems} problems")
     sys.exit(1 if problems else 0)
