@@ -56,7 +56,7 @@ class Edit:
             raise BadEdit(f"its text stands in {file} {text.count(old)} times")
         if not self.texts:
             self.function = function_around(text, text.index(old)) if file.startswith("src/") else None
-            if self.function:
+            if self.function and "::" not in self.function:
                 self.function = "::".join([self.crate, *modules(file), self.function])
         self.texts[file] = text.replace(old, new)
 
@@ -71,8 +71,8 @@ def modules(file):
 
 
 def function_around(text, place):
-    """The function that holds this place of a file, as a check names it but for its module: the last one that begins
-    before it, unless it has ended there."""
+    """The function that holds this place of a file, or the end of its name: the last one that begins before it, unless it
+    has ended there. A method is named by its type, wherever that is."""
     before = text[:place]
     found = list(re.finditer(r"^( *)(?:pub(?:\([^)]*\))? )?(?:const )?fn (\w+)", before, re.M))
     if not found:
@@ -110,7 +110,7 @@ def reason(said):
 
 
 # A check that gave no verdict: its words were wrong, or the edited text can't be read.
-NO_VERDICT = re.compile(r"has no function|error\[[\w-]+\]|is not in scope|could not be used")
+NO_VERDICT = re.compile(r"has no function|several functions are named|error\[[\w-]+\]|is not in scope|could not be used")
 
 
 def try_edit(folder, edit):
@@ -142,7 +142,10 @@ def try_crate(folder, crate):
             print(f"{crate}/{path.name}: BAD EDIT: {bad}", flush=True)
     for function in sorted({edit.function for edit in edits if edit.function}):
         proved, said = check(folder, crate, function)
-        if not proved:
+        if NO_VERDICT.search(said):
+            for edit in edits:
+                edit.function = None if edit.function == function else edit.function
+        elif not proved:
             print(f"{crate}: {function} isn't proved as it stands: {reason(said)}", flush=True)
             edits = [edit for edit in edits if edit.function != function]
     for edit in edits:
