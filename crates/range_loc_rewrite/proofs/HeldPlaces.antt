@@ -1,5 +1,5 @@
 -- The places of the entries that hold an address, by their numbers.
-use Rattle.std.proofs.Common.{◌≡◌, ◌∙◌, ◌+◌, ◌∷◌, [], ℕ, zero, suc, Bool, true, false, List, Option, Some, refl, ap, arith, drop, length, map, filter}
+use Rattle.std.proofs.Common.{sym, All, nat_le, ◌≡◌, ◌∙◌, ◌+◌, ◌∷◌, [], ℕ, zero, suc, Bool, true, false, List, Option, Some, refl, ap, arith, drop, length, map, filter}
 use Rattle.std.specs.Prelude.{if◌then◌else◌, filter_map, option_map, slice_get}
 use Rattle.std.specs.List.{cons_option, range_with_len}
 use Rattle.std.specs.Option.{option_map_or}
@@ -13,6 +13,10 @@ use Rattle.range_loc_rewrite.specs.Groups.{group_holds, held_places}
 use Rattle.range_loc_rewrite.specs.KeptRanges.{AreKept}
 use Rattle.range_loc_rewrite.specs.RangeReading.{AreRangesOf}
 use Rattle.range_loc_rewrite.specs.Ranges.{covering}
+use Rattle.std.specs.List.Sorted.{IsNonDecreasing, IsPermutation}
+use Rattle.std.proofs.lemmas.List.Sorted.{All-permutation, IsPermutation-sym}
+use Rattle.range_loc_rewrite.specs.Bounds.{bounds_in}
+use Rattle.range_loc_rewrite.proofs.AlikeAddresses.{alike_groups, held_alike_at}
 
 -- the first behind some
 first_behind : (xs : List RangedEntry) (j : ℕ) (r : RangedEntry) (rs : List RangedEntry) → drop j xs ≡ r ∷ rs →
@@ -74,16 +78,29 @@ held_alike cs ds (r ∷ rs) a same =
     step true e = ap (λ (l : List ℕ). r.place ∷ l) e
     step false e = e
 
-pub kept_are : (s : ListSections) (groups : Groups) (ranged : List RangedEntry) (index : CoverIndex) → AreRangesOf s groups ranged →
-    IsCoverIndex groups.covers.items ranged index → AreKept s ranged index
-kept_are s groups ranged index are is = record {
+pub kept_are : (s : ListSections) (groups : Groups) (ranged : List RangedEntry) (index : CoverIndex) (bounds : List ℕ) →
+    AreRangesOf s groups ranged → IsCoverIndex groups.covers.items ranged index → IsNonDecreasing bounds →
+    IsPermutation (bounds_in groups.covers.items) bounds → AreKept s ranged index bounds
+kept_are s groups ranged index bounds are is rising all = record {
   free = are.free;
   index_is = record { held = λ g a. refl; members = is.members };
   held = λ a. held_alike index.tree groups.covers.items ranged a (λ g. is.held g a) ∙ are.held a;
+  rising = rising;
+  apart = λ a b same g. is.held g a
+      ∙ alike_groups groups.covers.items a b g
+      (All-permutation (λ x. nat_le x a ≡ nat_le x b) bounds (bounds_in groups.covers.items)
+      (IsPermutation-sym (bounds_in groups.covers.items) bounds all) same)
+      ∙ sym (is.held g b);
 }
 
 -- what is found by numbers is what covers an address
-pub found_are : (s : ListSections) (ranged : List RangedEntry) (index : CoverIndex) (a : ℕ) (numbers : List ℕ) → AreKept s ranged index →
+pub found_are : (s : ListSections) (ranged : List RangedEntry) (index : CoverIndex) (bounds : List ℕ) (a : ℕ) (numbers : List ℕ) → AreKept s ranged index bounds →
     numbers ≡ held_numbers index.tree ranged a → filter_map (place_at ranged) numbers ≡ covering s a
-found_are s ranged index a numbers are e =
+found_are s ranged index bounds a numbers are e =
     ap (filter_map (place_at ranged)) e ∙ places_are index.tree ranged a ∙ are.held a
+
+-- no range starts or ends between two addresses
+pub covered_alike : (s : ListSections) (ranged : List RangedEntry) (index : CoverIndex) (bounds : List ℕ) (a b : ℕ) →
+    AreKept s ranged index bounds → All (λ x. nat_le x a ≡ nat_le x b) bounds → covering s a ≡ covering s b
+covered_alike s ranged index bounds a b are same =
+    sym (are.held a) ∙ held_alike_at index.tree ranged a b (are.apart a b same) ∙ are.held b

@@ -3,6 +3,9 @@ use Rattle.std.proofs.lemmas.Result.{err_from_is_err_and}
 use Rattle.rb_bytes.specs.FirstFault.{IsRefusalBy}
 use Rattle.dw_unit.specs.Faults.{HasDwarfFault}
 use Rattle.range_loc_rewrite.specs.declared.groups.RangedEntry.{RangedEntry}
+use Rattle.std.specs.List.Sorted.{IsPermutation}
+use Rattle.range_loc_rewrite.specs.declared.cover_tree.Cover.{Cover}
+use Rattle.range_loc_rewrite.specs.Bounds.{bounds_in}
 use Rattle.range_loc_rewrite.specs.CoverIndex.{IsCoverIndex}
 use Rattle.range_loc_rewrite.specs.Faults.{ListSections, list_sections_held, range_places}
 use Rattle.range_loc_rewrite.specs.Groups.{AreWithin}
@@ -40,11 +43,13 @@ invariant_of-result c =
     let locations : List ℕ = c.in_ok-locations.locations.items in
     let held : list_sections_held c.deref.result.now c.deref-2.result.now c.deref-3.result.now c.deref-4.result.now locations ≡ s =
     λ i. list_sections_held (c.deref.ensures.value i) (c.deref-2.ensures.value i) (c.deref-3.ensures.value i) (c.deref-4.ensures.value i) locations in
-    kept_are s c.in_ok-entries.entries.groups c.in_ok-entries.entries.ranged.items c.in_ok-index.index
+    kept_are s c.in_ok-entries.entries.groups c.in_ok-entries.entries.ranged.items c.in_ok-index.index c.in_ok-bounds.bounds.items
     (subst (λ (x : ListSections). AreRangesOf x c.in_ok-entries.entries.groups c.in_ok-entries.entries.ranged.items) held
     (c.in_ok-entries.ensures.read locations))
     (subst (λ (rs : List RangedEntry). IsCoverIndex c.in_ok-entries.entries.groups.covers.items rs c.in_ok-index.index)
     c.deref-5.ensures.value c.in_ok-index.ensures)
+    c.in_ok-bounds.ensures.rising
+    (subst (λ (cs : List Cover). IsPermutation (bounds_in cs) c.in_ok-bounds.bounds.items) c.deref-6.ensures.value c.in_ok-bounds.ensures.all)
 
 pub returns-clause-reads : goal.returns-clause-reads
 returns-clause-reads c =
