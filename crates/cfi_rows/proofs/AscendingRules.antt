@@ -33,7 +33,7 @@ pub without-ascend : (k : ℕ) (xs : Rules) (lo : ℕ) → Ascend lo xs → Asce
 without-ascend k [] lo a = tt
 without-ascend k (x ∷ xs) lo a = without-at (x.0 == k) k x xs lo refl a (without-ascend k xs (x.0 + 1) a.1)
 
-restored-ascend : (k : ℕ) (o : Option Rule) (xs : Rules) → Ascend 0 xs → Ascend 0 (restored k o xs)
+pub restored-ascend : (k : ℕ) (o : Option Rule) (xs : Rules) → Ascend 0 xs → Ascend 0 (restored k o xs)
 restored-ascend k None xs a = without-ascend k xs 0 a
 restored-ascend k (Some v) xs a = with-ascend k v xs 0 (omega arith) a
 

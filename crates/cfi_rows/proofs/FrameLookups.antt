@@ -66,7 +66,8 @@ rows-run A (Ok rows) q p h g = λ a. by q (g a) where
   by (Ok f) k = same_Some _ _ (sym k.rows ∙ h)
 
 -- the FDE at a place, by its CIE
-pub program-at : {E : Type 0} (r : Result Program E) (debug : Bool) (t : Held) (place : ℕ) (A : Type 0) (e : RawEntry) (k : CieProgram) (end : ℕ)
+pub program-at : {E : Type 0} (r : Result Program E) (debug : Bool) (t : Held) (place : ℕ) (A : Type 0) (e : RawEntry) (k : CieProgram)
+    (end : ℕ)
     (body : List ℕ) → entry_standing debug t.bytes place ≡ Some e
     → (A → IsOkAnd (cie_standing debug t (cie_place debug e)) (IsCieProgram k)) → end ≡ end_of t.address e → e.body ≡ body
     → IfOk r (λ p. (c : Cie) (x : RawEntry) → IsCieProgram k c → x.body ≡ body → IfOk (fde_at c end x) (IsProgram p))
@@ -77,6 +78,7 @@ program-at (Ok p) debug t place A e k end body s g n b h = λ a.
       standing : Option RawEntry → Result Fde Malformed
       standing o = and_so (sound_if o) (λ e. and_so (cie_standing debug t (cie_place debug e)) (λ cie. fde_at cie (end_of t.address e) e))
 
-      by : (q : Result Cie Malformed) → IsOkAnd q (IsCieProgram k) → IfOk (and_so q (λ cie. fde_at cie (end_of t.address e) e)) (IsProgram p)
+      by : (q : Result Cie Malformed) → IsOkAnd q (IsCieProgram k)
+          → IfOk (and_so q (λ cie. fde_at cie (end_of t.address e) e)) (IsProgram p)
       by (Err x) i = tt
       by (Ok c) i = subst (λ (m : ℕ). IfOk (fde_at c m e) (IsProgram p)) n (h c e i b)

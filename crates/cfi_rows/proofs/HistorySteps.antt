@@ -58,11 +58,13 @@ goes-on old new rules after steps r k c e h = record {
     now = ap (after_changes []) c ∙ after-append [] old.changes.items steps ∙ ap (λ (x : Rules). after_changes x steps) h.now ∙ e;
     within = subst (λ (cs : List Change). All (λ (x : KeptRow). x.changes ≤ length cs) new.rows.items) (sym c)
         (subst (All (λ (x : KeptRow). x.changes ≤ length (old.changes.items ++ steps))) (sym r)
-        (All-weaker (λ (x : KeptRow). x.changes ≤ length old.changes.items) (λ (x : KeptRow). x.changes ≤ length (old.changes.items ++ steps))
+        (All-weaker (λ (x : KeptRow). x.changes ≤ length old.changes.items)
+        (λ (x : KeptRow). x.changes ≤ length (old.changes.items ++ steps))
         (λ x. longer old.changes.items steps x.changes) old.rows.items h.within));
     right = subst (λ (cs : List Change). All (IsRight cs) new.kept.items) (sym c)
         (subst (All (IsRight (old.changes.items ++ steps))) (sym k)
-        (All-weaker (IsRight old.changes.items) (IsRight (old.changes.items ++ steps)) (right-stays old.changes.items steps) old.kept.items h.right));
+        (All-weaker (IsRight old.changes.items) (IsRight (old.changes.items ++ steps))
+        (right-stays old.changes.items steps) old.kept.items h.right));
   };
   same = ap (λ (cs : List Change). map (told_row cs) new.rows.items) c
       ∙ ap (map (told_row (old.changes.items ++ steps))) r ∙ rows-stay old.changes.items steps old.rows.items h.within;
@@ -101,7 +103,8 @@ restored-rules location known rules cs (s ∷ ss) t e = ap (λ (o : Option State
   rules_in None = []
   rules_in (Some t) = t.known.rules
 
-pub taken-back : {X E : Type 0} (r : Result X E) (old new : RowHistory) (m : Machine) (i : Instruction) (cs : List Change) → i ≡ RestoreState
+pub taken-back : {X E : Type 0} (r : Result X E) (old new : RowHistory) (m : Machine) (i : Instruction) (cs : List Change)
+    → i ≡ RestoreState
     → cs ≡ m.changes.items → OnOk r ((rules : Rules) → Keeps old rules → Goes old new (after_changes rules (reverse cs)))
     → OnOk r ((t : State) → Keeps old m.rules → step [] i (state_of m) ≡ Some t → Goes old new t.known.rules)
 taken-back (Err e) old new m i cs k c h = tt
@@ -125,7 +128,8 @@ one-undone start old new rules cs k c rule l g e far goes =
     let m : k < length (reverse cs) = omega (arith, n, l) in
     let first = next-is (reverse cs) k c m ∙ ap (λ (x : Change). x ∷ drop (k + 1) (reverse cs)) (get_or-reverse cs k c l ∙ g) in (
       goes-to start new _ _ (sym now) (goes-both start old new (after_changes [] old.changes.items) _ far.0 (λ kept. step)),
-      ap (λ (r : Rules). after_changes r (drop (k + 1) (reverse cs))) (now ∙ ap (λ (o : Option Rule). restored c.register o (after_changes [] old.changes.items)) e)
+      ap (λ (r : Rules). after_changes r (drop (k + 1) (reverse cs)))
+          (now ∙ ap (λ (o : Option Rule). restored c.register o (after_changes [] old.changes.items)) e)
           ∙ ap (after_changes (after_changes [] old.changes.items)) (sym first) ∙ far.1,
     )
 
@@ -133,7 +137,8 @@ one-undone start old new rules cs k c rule l g e far goes =
 
 pub all-told : (is : List Instruction) (k : ℕ) (start : State) (m : Machine) (old new : RowHistory) → length is ≤ k
     → rows [] is start ≡ before (told old) (rows [] (drop k is) (state_of m))
-    → ((more : Option (List PlacedRow)) → before (told old) (prepended m.location (row_of (state_of m).known) more) ≡ before (told new) more)
+    → ((more : Option (List PlacedRow)) → before (told old) (prepended m.location (row_of (state_of m).known) more)
+    ≡ before (told new) more)
     → rows [] is start ≡ Some (told new)
 all-told is k start m old new l e f =
     e ∙ ap (before (told old)) (lists.rows-end is k (state_of m) l) ∙ f (Some [])
@@ -181,7 +186,8 @@ pub row-of : (initial : Rules) (changes : List Change) (kept : List KeptRow) (no
 row-of initial changes kept now i k row e l g h =
     ap (λ (rs : List PlacedRow). option_map (λ r. r.row) (slice_get rs i)) (sym e ∙ map-map (row_over initial) (told_row changes) kept)
     ∙ ap (option_map (λ r. r.row)) (slice_get-map (λ r. row_over initial (told_row changes r)) kept i
-    ∙ ap (option_map (λ r. row_over initial (told_row changes r))) (slice_get-get_or kept i k within ∙ ap (λ (x : KeptRow). Some x) (sym g)))
+    ∙ ap (option_map (λ r. row_over initial (told_row changes r))) (slice_get-get_or kept i k within
+    ∙ ap (λ (x : KeptRow). Some x) (sym g)))
     ∙ ap (λ (x : RowValue). Some x) (sym h) where
       within : i < length kept
       within =

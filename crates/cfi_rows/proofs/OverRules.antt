@@ -12,8 +12,8 @@ use Rattle.cfi_rows.specs.RuleEntries.{Ascend}
 use Rattle.cfi_rows.specs.RuleChanges.{over}
 use Rattle.cfi_rows.specs.RowHistories.{row_over}
 use Rattle.cfi_rows.specs.FrameRows.{Rules, with_rule, without_rule, rule_of, restored, Known, State, moved_to, with_cfa, with_register, with_offset, take_back, step, row_from, PlacedRow, ends_row, prepended, and_rows, then_rows, rows}
-use Rattle.cfi_rows.proofs.AscendingRules.{with-ascend, without-ascend, IsAscending, AfterStep, step-ascend}
-use Rattle.cfi_rows.proofs.RuleLists.{absent}
+use Rattle.cfi_rows.proofs.AscendingRules.{restored-ascend, with-ascend, without-ascend, IsAscending, AfterStep, step-ascend}
+use Rattle.cfi_rows.proofs.RuleLists.{absent, same-number}
 
 -- Look-ups
 
@@ -34,9 +34,6 @@ rule-with : (k : ℕ) (v : Rule) (q : ℕ) (xs : Rules) → rule_of q (with_rule
 rule-with k v q [] = refl
 rule-with k v q (x ∷ xs) =
     with-found k v q x xs (nat_lt x.0 k) (x.0 == k) (k == q) (x.0 == q) refl refl refl refl (rule-with k v q xs)
-
-same-register : (k q : ℕ) → (k == q) ≡ true → k ≡ q
-same-register k q e = grind (arith, nat_tests)
 
 without-found : (k q : ℕ) (x : ℕ × Rule) (xs : Rules) (b c d : Bool) → (x.0 == k) ≡ b → (k == q) ≡ c → (x.0 == q) ≡ d
     → Ascend (x.0 + 1) xs → rule_of q (without_rule k xs) ≡ cond (k == q) None (rule_of q xs)
@@ -78,11 +75,8 @@ over-ascend initial (x ∷ xs) a = over-ascend (with_rule x.0 x.1 initial) xs (w
 
 -- Rules that ascend are the same where all look-ups are.
 
-itself : (k : ℕ) → (k == k) ≡ true
-itself k = grind (arith, nat_tests)
-
 first-found : (k : ℕ) (x : ℕ × Rule) (xs : Rules) → x.0 ≡ k → rule_of k (x ∷ xs) ≡ Some x.1
-first-found k x xs e = ap (λ (b : Bool). cond b (Some x.1) (rule_of k xs)) (ap (λ n. n == k) e ∙ itself k)
+first-found k x xs e = ap (λ (b : Bool). cond b (Some x.1) (rule_of k xs)) (ap (λ n. n == k) e ∙ same-number k)
 
 tail-same : (q : ℕ) (x y : ℕ × Rule) (xs ys : Rules) (b : Bool) → x.0 ≡ y.0 → (x.0 == q) ≡ b → Ascend (x.0 + 1) xs → Ascend (y.0 + 1) ys
     → rule_of q (x ∷ xs) ≡ rule_of q (y ∷ ys) → rule_of q xs ≡ rule_of q ys
@@ -121,42 +115,44 @@ pub over-with : (initial xs : Rules) (k : ℕ) (v : Rule) → Ascend 0 initial �
     → with_rule k v (over initial xs) ≡ over initial (with_rule k v xs)
 over-with initial xs k v a c =
     let d = with-ascend k v xs 0 (omega arith) c in
-    same-rules _ _ 0 0 (with-ascend k v (over initial xs) 0 (omega arith) (over-ascend initial xs a)) (over-ascend initial (with_rule k v xs) a)
+    same-rules _ _ 0 0 (with-ascend k v (over initial xs) 0 (omega arith) (over-ascend initial xs a))
+    (over-ascend initial (with_rule k v xs) a)
     (λ q. rule-with k v q (over initial xs) ∙ by q (k == q) refl ∙ sym (rule-over q 0 initial (with_rule k v xs) d)) where
       by : (q : ℕ) (b : Bool) → (k == q) ≡ b
           → cond (k == q) (Some v) (rule_of q (over initial xs)) ≡ option_or (rule_of q (with_rule k v xs)) (rule_of q initial)
       by q true e =
           ap (λ (t : Bool). cond t (Some v) (rule_of q (over initial xs))) e
-          ∙ sym (ap (λ (o : Option Rule). option_or o (rule_of q initial)) (rule-with k v q xs ∙ ap (λ (t : Bool). cond t (Some v) (rule_of q xs)) e))
+          ∙ sym (ap (λ (o : Option Rule). option_or o (rule_of q initial)) (rule-with k v q xs
+          ∙ ap (λ (t : Bool). cond t (Some v) (rule_of q xs)) e))
       by q false e =
           ap (λ (t : Bool). cond t (Some v) (rule_of q (over initial xs))) e ∙ rule-over q 0 initial xs c
-          ∙ sym (ap (λ (o : Option Rule). option_or o (rule_of q initial)) (rule-with k v q xs ∙ ap (λ (t : Bool). cond t (Some v) (rule_of q xs)) e))
+          ∙ sym (ap (λ (o : Option Rule). option_or o (rule_of q initial)) (rule-with k v q xs
+          ∙ ap (λ (t : Bool). cond t (Some v) (rule_of q xs)) e))
 
 -- a look-up in rules of which one register's is given back
 rule-back : (k q : ℕ) (o : Option Rule) (xs : Rules) → Ascend 0 xs → rule_of q (restored k o xs) ≡ cond (k == q) o (rule_of q xs)
 rule-back k q None xs a = rule-without k q 0 xs a
 rule-back k q (Some v) xs a = rule-with k v q xs
 
-back-ascends : (k : ℕ) (o : Option Rule) (xs : Rules) → Ascend 0 xs → Ascend 0 (restored k o xs)
-back-ascends k None xs a = without-ascend k xs 0 a
-back-ascends k (Some v) xs a = with-ascend k v xs 0 (omega arith) a
-
 pub over-without : (initial xs : Rules) (k : ℕ) → Ascend 0 initial → Ascend 0 xs
     → restored k (rule_of k initial) (over initial xs) ≡ over initial (without_rule k xs)
 over-without initial xs k a c =
     let d = without-ascend k xs 0 c in
-    same-rules _ _ 0 0 (back-ascends k (rule_of k initial) (over initial xs) (over-ascend initial xs a)) (over-ascend initial (without_rule k xs) a)
+    same-rules _ _ 0 0 (restored-ascend k (rule_of k initial) (over initial xs) (over-ascend initial xs a))
+    (over-ascend initial (without_rule k xs) a)
     (λ q. rule-back k q (rule_of k initial) (over initial xs) (over-ascend initial xs a) ∙ by q (k == q) refl
     ∙ sym (rule-over q 0 initial (without_rule k xs) d)) where
       by : (q : ℕ) (b : Bool) → (k == q) ≡ b
           → cond (k == q) (rule_of k initial) (rule_of q (over initial xs)) ≡ option_or (rule_of q (without_rule k xs)) (rule_of q initial)
       by q true e =
-          ap (λ (t : Bool). cond t (rule_of k initial) (rule_of q (over initial xs))) e
-          ∙ ap (λ n. rule_of n initial) (same-register k q e)
-          ∙ sym (ap (λ (o : Option Rule). option_or o (rule_of q initial)) (rule-without k q 0 xs c ∙ ap (λ (t : Bool). cond t None (rule_of q xs)) e))
+          let same : k ≡ q = grind (arith, nat_tests) in
+          ap (λ (t : Bool). cond t (rule_of k initial) (rule_of q (over initial xs))) e ∙ ap (λ n. rule_of n initial) same
+          ∙ sym (ap (λ (o : Option Rule). option_or o (rule_of q initial)) (rule-without k q 0 xs c
+          ∙ ap (λ (t : Bool). cond t None (rule_of q xs)) e))
       by q false e =
           ap (λ (t : Bool). cond t (rule_of k initial) (rule_of q (over initial xs))) e ∙ rule-over q 0 initial xs c
-          ∙ sym (ap (λ (o : Option Rule). option_or o (rule_of q initial)) (rule-without k q 0 xs c ∙ ap (λ (t : Bool). cond t None (rule_of q xs)) e))
+          ∙ sym (ap (λ (o : Option Rule). option_or o (rule_of q initial)) (rule-without k q 0 xs c
+          ∙ ap (λ (t : Bool). cond t None (rule_of q xs)) e))
 
 -- States whose rules override others
 

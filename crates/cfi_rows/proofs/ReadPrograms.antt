@@ -41,7 +41,8 @@ pub fde-made : (k : CieProgram) (c : Cie) (end : ℕ) (e : RawEntry) (h : FdeHea
     instructions_at (head_context end (head_of k.head)) rest ≡ Ok is → known_of (rc_value p.initial).known ≡ known_of k.known →
     h.start ≡ p.start → is ≡ p.instructions.items → IfOk (fde_at c end e) (IsProgram p)
 fde-made k c end e h rest is p kept f g same s l =
-    let f2 : fde_head_at c.augmentation end e.body ≡ Ok (h, rest) = ap (λ (x : Head). fde_head_at x.augmentation end e.body) kept.head ∙ f in
+    let f2 : fde_head_at c.augmentation end e.body ≡ Ok (h, rest) =
+    ap (λ (x : Head). fde_head_at x.augmentation end e.body) kept.head ∙ f in
     let g2 : instructions_at (fde_context c end) rest ≡ Ok is = ap (λ x. instructions_at x rest) (sym (context-same k c end kept)) ∙ g in
     subst (λ (r : Result Fde Malformed). IfOk r (IsProgram p))
     (sym (fde.with-list c end e h rest is f2 g2

@@ -22,9 +22,11 @@ one-more : (old new : Rules) (c : Change) (cs : List Change) (ss : List Saved) �
     remembered new (c ∷ cs) ss ≡ remembered old cs ss
 one-more old new c cs [] e = refl
 one-more old new c cs (s ∷ ss) e =
-    ap (λ (rules : Rules). record { cfa = option_map rc_value s.cfa; rules = after_changes rules cs } ∷ remembered (after_changes rules cs) (reverse s.changes.items) ss) e
+    ap (λ (rules : Rules). record { cfa = option_map rc_value s.cfa; rules = after_changes rules cs }
+    ∷ remembered (after_changes rules cs) (reverse s.changes.items) ss) e
 
-pub changed : (location : ℕ) (cfa : Option Cfa) (old new next : Rules) (before after : List Change) (c : Change) (ss : List Saved) → new ≡ next →
+pub changed : (location : ℕ) (cfa : Option Cfa) (old new next : Rules) (before after : List Change) (c : Change) (ss : List Saved)
+    → new ≡ next →
     restored c.register (option_map rc_value c.rule) new ≡ old → after ≡ before ++ c ∷ [] →
     state location cfa next (remembered old (reverse before) ss) ≡ state location cfa new (remembered new (reverse after) ss)
 changed location cfa old new next before after c ss e f g = λ i. record {

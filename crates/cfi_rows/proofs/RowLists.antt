@@ -112,7 +112,8 @@ from-rising : {X : Type 0} (f : X → PlacedRow) (xs : List X) (lo : ℕ) → Ri
 from-rising f [] lo h j d l = absurd (omega arith)
 from-rising f (x ∷ xs) lo h zero d l = h.0
 from-rising f (x ∷ xs) lo h (suc j) d l =
-    let m = h.0 in let n : (f x).start ≤ (f (slice_index_or xs j d)).start = from-rising f xs (f x).start h.1 j d (omega arith) in omega arith
+    let m = h.0 in
+    let n : (f x).start ≤ (f (slice_index_or xs j d)).start = from-rising f xs (f x).start h.1 j d (omega arith) in omega arith
 
 pair-by : {X : Type 0} (f : X → PlacedRow) (x : X) (xs : List X) → Rising (f x).start (map f xs)
     → IsNonDecreasingBy (λ y. (f y).start) xs → (i j : ℕ) (d : X) → i ≤ j → j < length (x ∷ xs)

@@ -99,11 +99,8 @@ ascending f es h = ascend-from f es 0 (starts-anywhere es) h
 
 -- A change is taken back by the rule that the register had.
 
-same-number : (k : ℕ) → (k == k) ≡ true
-same-number k = at (k == k) refl where
-  at : (b : Bool) → (k == k) ≡ b → b ≡ true
-  at true e = refl
-  at false e = absurd (grind (arith, nat_tests))
+pub same-number : (k : ℕ) → (k == k) ≡ true
+same-number k = grind (arith, nat_tests)
 
 not-below : (k : ℕ) → nat_lt k k ≡ false
 not-below k = at (nat_lt k k) refl where

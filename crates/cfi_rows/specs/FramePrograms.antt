@@ -2,6 +2,7 @@
 use Rattle.std.specs.Prelude.{◌≡◌, ℕ, Bool, List, drop, Option, Some, None, Result, Err, IsOkAnd}
 use Rattle.table_core.specs.ReadSteps.{and_so}
 use Rattle.table_core.specs.Sections.{Held}
+use Rattle.table_core.specs.declared.section.Held.{Held as ReadHeld}
 use Rattle.cfi_rows.specs.declared.instruction.Malformed.{Malformed}
 use Rattle.cfi_rows.specs.declared.instruction.Malformed.TheVariants.{Entry}
 use Rattle.std.specs.Rc.{rc_value}
@@ -10,15 +11,20 @@ use Rattle.std.specs.BTreeMap.{BTreeMap, get}
 use Rattle.cfi_rows.specs.declared.cie_program.CieProgram.{CieProgram}
 use Rattle.cfi_rows.specs.declared.program.Program.{Program}
 use Rattle.cfi_rows.specs.FrameRows.{PlacedRow, rows, begins}
-use Rattle.cfi_rows.specs.Entries.{Cie, Fde, RawEntry, Front, Ends, Breaks, Stands, front_of, sound_if, cie_at, cie_place}
-use Rattle.cfi_rows.specs.Entries.{end_of, fde_at}
+use Rattle.cfi_rows.specs.Entries.{Cie, Fde, RawEntry, Front, Ends, Breaks, Stands, front_of, sound_if}
+use Rattle.cfi_rows.specs.Entries.{cie_at, cie_place, end_of, fde_at}
 use Rattle.cfi_rows.specs.Heads.{head_of}
 use Rattle.cfi_rows.specs.RowMachines.{known_of}
+
+-- a section as the code holds it
+abbrev pub section_in : ReadHeld → Held
+section_in h = record { bytes = h.bytes.now; address = h.address }
 
 -- the rows of an FDE that is to be run
 abbrev pub rows_of : Program → Option (List PlacedRow)
 rows_of p =
-    rows (known_of (rc_value p.initial).known).rules p.instructions.items (begins p.start (known_of (rc_value p.initial).known))
+    rows (known_of (rc_value p.initial).known).rules p.instructions.items
+    (begins p.start (known_of (rc_value p.initial).known))
 
 -- a CIE as it is kept for the rows of its FDEs
 pub record IsCieProgram (k : CieProgram) (c : Cie) : Type 0 where

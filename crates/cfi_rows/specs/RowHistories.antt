@@ -13,7 +13,10 @@ abbrev pub rules_after : List Change → ℕ → Rules
 rules_after changes n = after_changes [] (take n changes)
 
 abbrev pub told_row : List Change → KeptRow → PlacedRow
-told_row changes r = record { start = r.start; row = record { cfa = rc_value r.cfa; rules = rules_after changes r.changes } }
+told_row changes r = record {
+  start = r.start;
+  row = record { cfa = rc_value r.cfa; rules = rules_after changes r.changes };
+}
 
 abbrev pub told : RowHistory → List PlacedRow
 told h = map (told_row h.changes.items) h.rows.items

@@ -12,15 +12,16 @@ use std::alloc::Global;
 impl Frames {
     /// The row of an entry at an address of its range.
     pub fn row(&self, alloc: Global, i: usize, a: u64) -> Result<Row, NoMemory>
-        ensures { IfOk result (λ row. (f : Entry) → slice_get (read_as self.now).list i ≡ Some f → IsTrue (is_in_range f a) →
-            spec.row_at a f.rows None ≡ Some row) }
+        ensures { IfOk result (λ row. (f : Entry) → slice_get (read_as self.now).list i ≡ Some f →
+            IsTrue (is_in_range f a) → spec.row_at a f.rows None ≡ Some row) }
     {
         self.row_at(alloc, i, a)?.ok_or(NoMemory)
     }
 
     /// The row of an entry that begins last at or before an address, if one does.
     pub fn row_at(&self, alloc: Global, i: usize, a: u64) -> Result<Option<Row>, NoMemory>
-        ensures { IfOk result (λ row. option_and_then (λ f. spec.row_at a f.rows None) (slice_get (read_as self.now).list i) ≡ row) }
+        ensures { IfOk result (λ row.
+            option_and_then (λ f. spec.row_at a f.rows None) (slice_get (read_as self.now).list i) ≡ row) }
     {
         match self.rows.get(i) {
             Some(rows) => rows.row_at(alloc, a),

@@ -25,7 +25,8 @@ pub(crate) fn rows_of(
     list: &[Fde],
 ) -> Result<Vec<EntryRows>, NoMemory>
     ensures { IfOk result (λ all. (fs : List Entry) → list.now ≡ map fde_of fs →
-        ((i : ℕ) (f : Entry) → slice_get fs i ≡ Some f → spec.fde_standing debug (record { bytes = held.now.bytes.now; address = held.now.address }) f.place ≡ Ok f) →
+        ((i : ℕ) (f : Entry) → slice_get fs i ≡ Some f →
+        spec.fde_standing debug (spec.section_in held.now) f.place ≡ Ok f) →
         all.items ≡ map (λ f. f.rows) fs) }
 {
     let mut cies = BTreeMap::new(alloc);
@@ -48,9 +49,10 @@ fn rows_standing(
     place: u64,
     cies: &mut BTreeMap<u128, Rc<CieProgram>>,
 ) -> Result<EntryRows, Failed>
-    ensures rows { IfOk result (λ rows. spec.AreRead rc_value debug (record { bytes = held.now.bytes.now; address = held.now.address }) cies.old →
-        IfOk (spec.fde_standing debug (record { bytes = held.now.bytes.now; address = held.now.address }) place) (λ f. f.rows ≡ rows)) }
-    ensures read { OnOk result (spec.AreRead rc_value debug (record { bytes = held.now.bytes.now; address = held.now.address }) cies.old → spec.AreRead rc_value debug (record { bytes = held.now.bytes.now; address = held.now.address }) cies.new) }
+    ensures rows { IfOk result (λ rows. spec.AreRead rc_value debug (spec.section_in held.now) cies.old →
+        IfOk (spec.fde_standing debug (spec.section_in held.now) place) (λ f. f.rows ≡ rows)) }
+    ensures read { OnOk result (spec.AreRead rc_value debug (spec.section_in held.now) cies.old →
+        spec.AreRead rc_value debug (spec.section_in held.now) cies.new) }
 {
     let program = program_standing(alloc, debug, held, place, cies)?;
     program.run(alloc)
@@ -64,9 +66,10 @@ fn program_standing(
     place: u64,
     cies: &mut BTreeMap<u128, Rc<CieProgram>>,
 ) -> Result<Program, Failed>
-    ensures program { IfOk result (λ p. spec.AreRead rc_value debug (record { bytes = held.now.bytes.now; address = held.now.address }) cies.old →
-        IfOk (spec.fde_standing debug (record { bytes = held.now.bytes.now; address = held.now.address }) place) (spec.IsProgram p)) }
-    ensures read { OnOk result (spec.AreRead rc_value debug (record { bytes = held.now.bytes.now; address = held.now.address }) cies.old → spec.AreRead rc_value debug (record { bytes = held.now.bytes.now; address = held.now.address }) cies.new) }
+    ensures program { IfOk result (λ p. spec.AreRead rc_value debug (spec.section_in held.now) cies.old →
+        IfOk (spec.fde_standing debug (spec.section_in held.now) place) (spec.IsProgram p)) }
+    ensures read { OnOk result (spec.AreRead rc_value debug (spec.section_in held.now) cies.old →
+        spec.AreRead rc_value debug (spec.section_in held.now) cies.new) }
 {
     let entry = entry_standing(debug, held.bytes, place as u128)?;
     let cie = cie_of(alloc, debug, held, &entry, cies)?;
@@ -81,9 +84,11 @@ fn cie_of(
     fde: &RawEntry<'_>,
     cies: &mut BTreeMap<u128, Rc<CieProgram>>,
 ) -> Result<Rc<CieProgram>, Failed>
-    ensures cie { IfOk result (λ k. spec.AreRead rc_value debug (record { bytes = held.now.bytes.now; address = held.now.address }) cies.old →
-        IsOkAnd (spec.cie_standing debug (record { bytes = held.now.bytes.now; address = held.now.address }) (cie_place debug fde.now)) (spec.IsCieProgram (rc_value k))) }
-    ensures read { OnOk result (spec.AreRead rc_value debug (record { bytes = held.now.bytes.now; address = held.now.address }) cies.old → spec.AreRead rc_value debug (record { bytes = held.now.bytes.now; address = held.now.address }) cies.new) }
+    ensures cie { IfOk result (λ k. spec.AreRead rc_value debug (spec.section_in held.now) cies.old →
+        IsOkAnd (spec.cie_standing debug (spec.section_in held.now) (cie_place debug fde.now))
+        (spec.IsCieProgram (rc_value k))) }
+    ensures read { OnOk result (spec.AreRead rc_value debug (spec.section_in held.now) cies.old →
+        spec.AreRead rc_value debug (spec.section_in held.now) cies.new) }
 {
     match fde.cie_place(debug) {
         Some(place) => cie_standing(alloc, debug, held, place, cies),
@@ -99,10 +104,10 @@ fn cie_standing(
     place: u128,
     cies: &mut BTreeMap<u128, Rc<CieProgram>>,
 ) -> Result<Rc<CieProgram>, Failed>
-    ensures cie { IfOk result (λ k. spec.AreRead rc_value debug (record { bytes = held.now.bytes.now; address = held.now.address }) cies.old →
-        IsOkAnd (spec.cie_standing debug (record { bytes = held.now.bytes.now; address = held.now.address }) (Some place)) (spec.IsCieProgram (rc_value k))) }
-    ensures read { OnOk result (spec.AreRead rc_value debug (record { bytes = held.now.bytes.now; address = held.now.address }) cies.old →
-        spec.AreRead rc_value debug (record { bytes = held.now.bytes.now; address = held.now.address }) cies.new) }
+    ensures cie { IfOk result (λ k. spec.AreRead rc_value debug (spec.section_in held.now) cies.old →
+        IsOkAnd (spec.cie_standing debug (spec.section_in held.now) (Some place)) (spec.IsCieProgram (rc_value k))) }
+    ensures read { OnOk result (spec.AreRead rc_value debug (spec.section_in held.now) cies.old →
+        spec.AreRead rc_value debug (spec.section_in held.now) cies.new) }
 {
     if let Some(cie) = cies.get(&place) {
         return Ok(cie.clone()?);

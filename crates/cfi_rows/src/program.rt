@@ -58,6 +58,7 @@ impl Program {
             history.run(alloc, &mut machine, instruction)?;
         }
         history.add_row(&machine)?;
+        // Their length tells that the rules of the CIE ascend by register, as those of rows do.
         let _ = known.rules.len();
         Ok(EntryRows {
             initial: self.initial.clone()?,

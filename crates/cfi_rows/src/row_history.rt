@@ -34,8 +34,8 @@ pub struct KeptRules {
 pub struct RowHistory {
     pub rows: Vec<KeptRow>,
     pub changes: Vec<Change>,
-    /// Rules are kept after as many changes as they are themselves, and some more: so all of them take no more room than
-    /// the changes, and to find a row's rules takes no longer than to copy them, and some more.
+    /// Rules are kept after as many changes as they are themselves, and some more: so all of them take no more room
+    /// than the changes, and to find a row's rules takes no longer than to copy them, and some more.
     pub kept: Vec<KeptRules>,
 }
 

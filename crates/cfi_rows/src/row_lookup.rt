@@ -1,5 +1,6 @@
 // The row of an entry at an address. DWARF 5, section 6.4.3.
-ghost use Rattle.std.specs.Prelude.{◌≡◌, ◌<◌, ◌≤◌, ℕ, All, None, Some, IfOk, IfSome, IsTrue, length, slice_get, slice_index_or, option_map, option_and_then};
+ghost use Rattle.std.specs.Prelude.{◌≡◌, ◌<◌, ◌≤◌, ℕ, All, None, Some, IfOk, IfSome, IsTrue};
+ghost use Rattle.std.specs.Prelude.{length, slice_get, slice_index_or, option_map, option_and_then};
 ghost use Rattle.std.specs.List.Sorted.{IsNonDecreasingBy};
 ghost use Rattle.cfi_rows.specs.declared.row_history.KeptRow.{KeptRow as Kept};
 ghost use Rattle.cfi_rows.specs.FrameRows as spec;
@@ -17,7 +18,8 @@ fn count_up_to(rows: &[KeptRow], address: u64) -> usize
     requires { IsNonDecreasingBy (λ r. r.start) rows.now }
     ensures bound { result ≤ length rows.now }
     ensures below { (k : ℕ) (d : Kept) → k < result → (slice_index_or rows.now k d).start ≤ address }
-    ensures above { (k : ℕ) (d : Kept) → result ≤ k → k < length rows.now → address < (slice_index_or rows.now k d).start }
+    ensures above { (k : ℕ) (d : Kept) → result ≤ k → k < length rows.now →
+        address < (slice_index_or rows.now k d).start }
 {
     rows.partition_point(|row| row.start <= address)
 }

@@ -91,7 +91,8 @@ impl RuleMap {
         rule: Option<Rc<Rule>>,
     ) -> Result<Change, NoMemory>
         ensures replaced { OnOk result (self.new ≡ restored register (option_map rc_value rule) self.old) }
-        ensures undone { IfOk result (λ change. restored change.register (option_map rc_value change.rule) self.new ≡ self.old) }
+        ensures undone { IfOk result (λ change.
+            restored change.register (option_map rc_value change.rule) self.new ≡ self.old) }
     {
         let before = match rule {
             Some(rule) => self.set(register, rule)?,

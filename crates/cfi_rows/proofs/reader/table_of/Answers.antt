@@ -1,13 +1,14 @@
 use Rattle.std.proofs.Common.{◌≡◌, ◌∙◌, ◌++◌, ℕ, List, sym, ap, map}
 use Rattle.table_core.specs.Sections.{Held}
 use Rattle.cfi_rows.specs.Entries.{Fde, frames}
+use Rattle.cfi_rows.specs.FramePrograms.{section_in}
 use Rattle.cfi_rows.specs.KeptTables.{SaidFrames, said}
 use Rattle.cfi_rows.proofs.StandingEntries.{entry-found}
 use Rattle.cfi_rows.proofs.reader.table_of.Goals as goal
 
 pub invariant_of-result : goal.invariant_of-result
 invariant_of-result c =
-    let t : Held = record { bytes = c.args.held.now.bytes.now; address = c.args.held.now.address } in
+    let t : Held = section_in c.args.held.now in
     let bytes : c.extend_from_slice.new.self.items ≡ t.bytes =
     c.in_ok-extend_from_slice.ensures.items ∙ ap (λ (bs : List ℕ). bs ++ t.bytes) c.new-section.ensures.items in
     record {
