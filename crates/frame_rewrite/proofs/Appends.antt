@@ -2,6 +2,7 @@
 use Rattle.std.proofs.Common.{ℕ, suc, ◌+◌, ◌-◌, ◌≤◌, ◌<◌, ◌≡◌, List, [], ◌∷◌, ◌++◌, Bool, true, false, refl, sym, ◌∙◌, ap, subst, arith, length, append_assoc}
 use Rattle.std.proofs.Common.{get_or, drop, take, add-one, drop-cons, length-append, flat_map}
 use Rattle.std.proofs.lemmas.Grind.{common_steps}
+use Rattle.std.proofs.lemmas.List.{append-nil}
 use Rattle.std.specs.Prelude.{All}
 use Rattle.std.specs.List.{position_or_len}
 use Rattle.cfi_rows.specs.Entries.{RawEntry}
@@ -13,9 +14,6 @@ next-is xs i d h = rw (add-one, drop-cons xs i d) refl
 
 pub past-end : {A : Type 0} (xs : List A) (i : ℕ) → length xs ≤ i → drop i xs ≡ []
 past-end xs i h = grind (arith, common_steps)
-
-pub append-nil : (xs : List ℕ) → xs ++ [] ≡ xs
-append-nil xs = grind (arith, common_steps)
 
 pub zeros-more : (o new : List ℕ) (n i : ℕ) (want : List ℕ) → i < n → new ≡ o ++ 0 ∷ [] → o ++ zeros (n - i) ≡ want
     → new ++ zeros (n - (i + 1)) ≡ want

@@ -1,6 +1,7 @@
 -- Entries that are written one after another are walked again.
 use Rattle.std.proofs.Common.{ℕ, zero, suc, ◌+◌, ◌-◌, ◌^◌, ◌≤◌, ◌<◌, ◌≡◌, ◌==◌, List, [], ◌∷◌, ◌++◌, None, ltb, Bool, true, false, refl}
-use Rattle.std.proofs.Common.{sym, ◌∙◌, ap, arith, length, take, drop, drop-drop, append_assoc, length-append}
+use Rattle.std.proofs.Common.{sym, ◌∙◌, ap, subst, arith, length, take, drop, drop-drop, append_assoc, length-append}
+use Rattle.std.proofs.lemmas.List.{append-nil}
 use Rattle.std.proofs.lemmas.Bool.Decides.{nat_tests}
 use Rattle.std.proofs.lemmas.Grind.{common_steps}
 use Rattle.byteorder.specs.Endian.{little_number, little_bytes}
@@ -108,31 +109,47 @@ walk-end true (suc n) place h = refl
 walk-end false zero place h = absurd (omega arith)
 walk-end false (suc n) place h = refl
 
-entries-from : (debug : Bool) (n place : ℕ) (es : List RawEntry) → AreFrom place es
-    → length (spelled_entries es ++ end_mark debug) ≤ n
-    → walk debug n place (spelled_entries es ++ end_mark debug) ≡ record { entries = es; broken = None }
-entries-from debug n place [] a h = walk-end debug n place h
-entries-from debug n place (e ∷ es) a h =
-    let s : (spelled_entry e ++ spelled_entries es) ++ end_mark debug
-    ≡ spelled_entry e ++ (spelled_entries es ++ end_mark debug) = append_assoc (spelled_entry e) (spelled_entries es)
-    (end_mark debug) in
-    let l : length ((spelled_entry e ++ spelled_entries es) ++ end_mark debug)
-    ≡ 8 + length e.body + length (spelled_entries es ++ end_mark debug) =
-    ap length s ∙ spelled-length e (spelled_entries es ++ end_mark debug) in
-    let f : front_of debug place ((spelled_entry e ++ spelled_entries es) ++ end_mark debug)
-    ≡ Stands e (spelled_entries es ++ end_mark debug) =
-    ap (front_of debug place) s ∙ ap (λ (p : ℕ). front_of debug p
-    (spelled_entry e ++ (spelled_entries es ++ end_mark debug))) (sym a.0)
-    ∙ front-back debug e (spelled_entries es ++ end_mark debug) a.1 in
-    walk-step debug n place ((spelled_entry e ++ spelled_entries es) ++ end_mark debug)
-    (spelled_entries es ++ end_mark debug) e (record { entries = es; broken = None })
-    (positive _ _ _ l) h f (entries-from debug (n - 1) (place + 8 + length e.body) es a.2 (fewer _ _ _ n l h)) where
-      positive : (x y z : ℕ) → x ≡ 8 + y + z → 0 < x
-      positive x y z e = omega arith
+-- entries in front of bytes at which a walk ends
+entries-from : (debug : Bool) (last : List ℕ)
+    → ((n place : ℕ) → length last ≤ n → walk debug n place last ≡ record { entries = []; broken = None })
+    → (n place : ℕ) (es : List RawEntry) → AreFrom place es → length (spelled_entries es ++ last) ≤ n
+    → walk debug n place (spelled_entries es ++ last) ≡ record { entries = es; broken = None }
+entries-from debug last at_end n place [] a h = at_end n place h
+entries-from debug last at_end n place (e ∷ es) a h =
+    let s : (spelled_entry e ++ spelled_entries es) ++ last ≡ spelled_entry e ++ (spelled_entries es ++ last) =
+    append_assoc (spelled_entry e) (spelled_entries es) last in
+    let l : length ((spelled_entry e ++ spelled_entries es) ++ last)
+    ≡ 8 + length e.body + length (spelled_entries es ++ last) =
+    ap length s ∙ spelled-length e (spelled_entries es ++ last) in
+    let f : front_of debug place ((spelled_entry e ++ spelled_entries es) ++ last)
+    ≡ Stands e (spelled_entries es ++ last) =
+    ap (front_of debug place) s
+    ∙ ap (λ (p : ℕ). front_of debug p (spelled_entry e ++ (spelled_entries es ++ last))) (sym a.0)
+    ∙ front-back debug e (spelled_entries es ++ last) a.1 in
+    walk-step debug n place ((spelled_entry e ++ spelled_entries es) ++ last)
+    (spelled_entries es ++ last) e (record { entries = es; broken = None })
+    (positive _ _ _ l) h f (entries-from debug last at_end (n - 1) (place + 8 + length e.body) es a.2 (fewer _ _ _ n l h))
+  where
+    positive : (x y z : ℕ) → x ≡ 8 + y + z → 0 < x
+    positive x y z e = omega arith
 
-      fewer : (x y z n : ℕ) → x ≡ 8 + y + z → x ≤ n → z ≤ n - 1
-      fewer x y z n e h = omega arith
+    fewer : (x y z n : ℕ) → x ≡ 8 + y + z → x ≤ n → z ≤ n - 1
+    fewer x y z n e h = omega arith
 
 pub walked-back : (debug : Bool) (es : List RawEntry) → AreFrom 0 es
     → walked_entries debug (spelled_entries es ++ end_mark debug) ≡ record { entries = es; broken = None }
-walked-back debug es a = entries-from debug (length (spelled_entries es ++ end_mark debug)) 0 es a (omega arith)
+walked-back debug es a =
+    entries-from debug (end_mark debug) (walk-end debug) (length (spelled_entries es ++ end_mark debug)) 0 es a (omega arith)
+
+walk-none : (debug : Bool) (n place : ℕ) → 0 ≤ n → walk debug n place [] ≡ record { entries = []; broken = None }
+unfolding walk
+walk-none debug zero place h = refl
+walk-none debug (suc n) place h = refl
+
+-- with nothing behind them
+pub walked-alone : (debug : Bool) (es : List RawEntry) → AreFrom 0 es
+    → walked_entries debug (spelled_entries es) ≡ record { entries = es; broken = None }
+walked-alone debug es a =
+    subst (λ (bytes : List ℕ). walked_entries debug bytes ≡ record { entries = es; broken = None })
+    (append-nil (spelled_entries es))
+    (entries-from debug [] (walk-none debug) (length (spelled_entries es ++ [])) 0 es a (omega arith))

@@ -3,6 +3,7 @@ use Rattle.std.proofs.Common.{ℕ, suc, ◌+◌, ◌-◌, ◌*◌, ◌≤◌, �
 use Rattle.std.proofs.Common.{get_or, drop, take}
 use Rattle.std.specs.Prelude.{All}
 use Rattle.std.proofs.lemmas.Grind.{flat_map-append}
+use Rattle.std.proofs.lemmas.List.{append-nil}
 use Rattle.std.proofs.lemmas.List.Elements.{All-cons, All-head, All-tail, All-take, All-drop}
 use Rattle.addr_map.specs.declared.span.Span.{Span}
 use Rattle.table_core.specs.declared.run.Run.{Run}
@@ -15,7 +16,7 @@ use Rattle.frame_rewrite.specs.declared.cie_key.CieKey.{CieKey}
 use Rattle.frame_rewrite.specs.FrameAnswers.{FrameAnswer}
 use Rattle.frame_rewrite.specs.SpelledFits.{RuleFits, RulesFit, RunAscends, Writes, WritesAll, EndFits, IsSpelled}
 use Rattle.frame_rewrite.specs.SpelledFrames.{spelled_entry, spelled_entries, cie_entry, cie_entries, fde_entry, fde_entries, fde_body, more_count, start_of, last_end, cie_size, cie_body, end_mark}
-use Rattle.frame_rewrite.proofs.Appends.{next-is, past-end, append-nil, new-length}
+use Rattle.frame_rewrite.proofs.Appends.{next-is, past-end, new-length}
 use Rattle.frame_rewrite.proofs.EntriesBack.{spelled-length}
 use Rattle.frame_rewrite.proofs.RunGroups.{within-take, within-drop, within-low, le-last, ends-fit}
 use Rattle.frame_rewrite.proofs.TableBack.{Before, cie-length}

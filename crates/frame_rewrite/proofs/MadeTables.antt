@@ -8,16 +8,17 @@ use Rattle.addr_map.specs.declared.span.Span.{Span}
 use Rattle.addr_map.specs.Spans.{owner, is_new_code}
 use Rattle.table_core.specs.declared.run.Run.{Run}
 use Rattle.table_core.specs.AnswerRuns.{IsWithin, run_at, carried}
-use Rattle.cfi_rows.specs.Entries.{Fde, Frames, frames}
+use Rattle.cfi_rows.specs.Entries.{Fde, Frames, WalkedEntries, frames}
 use Rattle.frame_rewrite.specs.declared.cie_key.CieKey.{CieKey}
 use Rattle.frame_rewrite.specs.FrameAnswers.{FrameAnswer}
 use Rattle.frame_rewrite.specs.SpelledFits.{KeyFits, IsReached, IsSpelled}
 use Rattle.frame_rewrite.specs.SpelledFrames.{start_of, fde_body, fde_entries, more_count, cie_size, cie_entries, table_entries, spelled_entry, spelled_entries}
-use Rattle.frame_rewrite.specs.Tables.{run_size}
+use Rattle.frame_rewrite.specs.Tables.{EndsWithMark, run_size}
+use Rattle.frame_rewrite.proofs.EntriesBack.{walked-alone}
 use Rattle.frame_rewrite.proofs.EntrySizes.{fdes-size}
 use Rattle.frame_rewrite.proofs.EntrySteps.{cies-long}
 use Rattle.frame_rewrite.proofs.Law.{reads-as}
-use Rattle.frame_rewrite.proofs.TableBack.{made}
+use Rattle.frame_rewrite.proofs.TableBack.{made, table-from}
 
 abbrev Runs : Type 0
 Runs = List (Run FrameAnswer)
@@ -109,5 +110,10 @@ size-of spans keys runs bytes cies few s =
       sums t u c f four k cies n total a b d e h g = omega arith
 
 pub ends-with : (spans : List Span) (keys : List CieKey) (runs : Runs) (bytes : List ℕ)
-    → IsSpelled false spans keys runs bytes → (front : List ℕ) × (bytes ≡ front ++ (0 ∷ 0 ∷ 0 ∷ 0 ∷ []))
-ends-with spans keys runs bytes s = (spelled_entries (table_entries false spans keys runs), s.bytes_are)
+    → IsSpelled false spans keys runs bytes → EndsWithMark bytes
+ends-with spans keys runs bytes s = record {
+  front = spelled_entries (table_entries false spans keys runs);
+  whole = ap (λ (w : WalkedEntries). w.broken) (walked-alone false (table_entries false spans keys runs)
+      (table-from false spans keys runs s.writes));
+  are = s.bytes_are;
+}

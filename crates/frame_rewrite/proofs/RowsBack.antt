@@ -3,6 +3,7 @@
 use Rattle.std.proofs.Common.{ℕ, zero, suc, ◌+◌, ◌^◌, ◌≤◌, ◌<◌, ◌≡◌, List, [], ◌∷◌, ◌++◌, Option, Some, None, ltb, leb, true, refl, sym, ◌∙◌, ap, arith}
 use Rattle.std.proofs.Common.{append_assoc, map, flat_map}
 use Rattle.std.proofs.lemmas.Bool.Decides.{nat_tests}
+use Rattle.std.proofs.lemmas.List.{append-nil}
 use Rattle.table_core.specs.declared.run.Run.{Run}
 use Rattle.cfi_rows.specs.declared.row.Cfa.{Cfa}
 use Rattle.cfi_rows.specs.declared.row.Rule.{Rule}
@@ -30,10 +31,6 @@ ruled-past k v [] ys b = refl
 ruled-past k v (x ∷ xs) ys b =
     let t : ltb x.0 k ≡ true = grind (arith, nat_tests, b.0) in
     rw t (ap (λ (l : Rules). x ∷ l) (ruled-past k v xs ys b.1))
-
-append-nil : (xs : Rules) → xs ++ [] ≡ xs
-append-nil [] = refl
-append-nil (x ∷ xs) = ap (λ (l : Rules). x ∷ l) (append-nil xs)
 
 abbrev at_point : ℕ → Option Cfa → Rules → List Known → State
 at_point start cfa rules saved = record { location = start; known = record { cfa = cfa; rules = rules }; saved = saved }

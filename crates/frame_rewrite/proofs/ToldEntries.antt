@@ -47,7 +47,8 @@ some-row index list a i fde row is e g r =
       at None h k = absurd (none-some fde h)
       at (Some f) h k = sym (ap (option_map (λ row. (fde_of f, row))) k ∙ ap (λ (x : ReadFde). Some (x, row)) (same_Some _ _ h))
 
-pub told-alike : (index : FirstRange) (list : List Fde) (a b i : ℕ) → ((a : ℕ) → first_range index a ≡ position (holds_address a) (map range_of list))
+pub told-alike : (index : FirstRange) (list : List Fde) (a b i : ℕ)
+    → ((a : ℕ) → first_range index a ≡ position (holds_address a) (map range_of list))
     → first_range index a ≡ Some i → first_range index b ≡ Some i
     → ((f : Fde) → slice_get list i ≡ Some f → row_at a f.rows None ≡ row_at b f.rows None) → told_at list a ≡ told_at list b
 told-alike index list a b i is e g h =
@@ -76,7 +77,8 @@ answered is_marked mark list a same = by-entry (find (λ f. is_in_range f a) lis
 
 -- where the same is told, the same is answered
 pub answered-alike : (is_marked : Fde → Bool) (mark : ReadFde → Bool) (list : List Fde) (a b : ℕ)
-    → ((f : Fde) → mark (fde_of f) ≡ is_marked f) → told_at list a ≡ told_at list b → answer_at is_marked list a ≡ answer_at is_marked list b
+    → ((f : Fde) → mark (fde_of f) ≡ is_marked f) → told_at list a ≡ told_at list b
+    → answer_at is_marked list a ≡ answer_at is_marked list b
 answered-alike is_marked mark list a b same e =
     sym (answered is_marked mark list a same) ∙ ap (option_map (answer_of_told mark)) e ∙ answered is_marked mark list b same
 
