@@ -26,10 +26,14 @@ use Rattle.program.specs.Room.{new_start, no_program_room}
 use Rattle.program.specs.declared.program.Program.{Program as ReadProgram}
 use Rattle.program.specs.declared.unbuilt.Unbuilt.TheVariants.{Debug}
 use Rattle.program.proofs.Programs.{laid_out}
-use Rattle.bolt_core.specs.Limits.{IsTooLarge}
-use Rattle.bolt_core.specs.ProfileOrder.{ArePartsBy, ArePartsOf, cold_starts, counts_of}
+use Rattle.addr_map.specs.declared.span.Span.{Span}
+use Rattle.line_rewrite.specs.Tables.{IsLineWeight, LineSections, line_sections}
+use Rattle.bolt_core.specs.Limits.{IsTooLarge, lines}
+use Rattle.bolt_core.specs.NewCode.{IsLaidOutBy}
+use Rattle.bolt_core.specs.ProfileOrder.{ArePartsBy, ArePartsOf, IsProfileOrder, cold_starts, counts_of}
+use Rattle.bolt_core.specs.internal.TableLimits.{IsHeavy}
 use Rattle.bolt_core.specs.TableFaults.{HasTableFault}
-use Rattle.bolt_core.specs.Refusals.{CanStand, Fit, IsInput, IsRefusal, misplaced, no_place, not_carried, too_large, unreadable}
+use Rattle.bolt_core.specs.Refusals.{CanStand, Fit, IsInput, IsRefusal, misplaced, no_place, not_carried, too_heavy, too_large, unreadable}
 
 -- a program with its functions and blocks as slices
 pub same_program : (p : ReadProgram) {funcs : List Func} {blocks : List Block} → funcs ≡ p.funcs.items →
@@ -115,6 +119,20 @@ module _ {file profile : List ℕ} {x : Program} (is : IsInput file profile x) w
       too_large x is stands pairs parts are
       (subst (λ (c : List ℕ). IsLimitFault (IsTooLarge x.elf x.code.funcs c) fault) same limit)
   too_large_refusal stands pairs parts are cold same refusal.Memory limit = tt
+
+  -- the line table of the file weighs too much
+  pub too_heavy_refusal : CanStand x → (pairs : List Counted) (parts : Chains) (cold : List ℕ) →
+      cold ≡ cold_starts x.code.funcs x.blocks parts →
+      ((place : ℕ) → IsTooLarge x.elf x.code.funcs cold place → ⊥) →
+      (order : List ℕ) → IsProfileOrder x profile pairs parts order → (spans : List Span) (code : List ℕ) →
+      IsLaidOutBy x order spans code → (t : LineSections) → t ≡ line_sections x.elf → (r : Refusal) →
+      IsRefusalFor (IsHeavy t spans) r → IsRefusal file profile r
+  too_heavy_refusal stands pairs parts cold same fits order ordered spans code laid t comes (refusal.Fault fault) heavy =
+      too_heavy x is stands pairs parts
+      (subst (λ (c : List ℕ). (place : ℕ) → IsTooLarge x.elf x.code.funcs c place → ⊥) same fits) order ordered spans code laid
+      (lines heavy.weight (subst (λ (s : LineSections). IsLineWeight s spans heavy.weight) comes heavy.is_weight) heavy.over)
+      heavy.fault_is
+  too_heavy_refusal stands pairs parts cold same fits order ordered spans code laid t comes refusal.Memory heavy = tt
 
   pub parts_by : (counts : ℕ → ℕ → ℕ) (pairs : List Counted) (parts : Chains) →
       ArePartsOf counts pairs x.code.funcs x.code.cells x.blocks parts →

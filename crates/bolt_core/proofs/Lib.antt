@@ -6,6 +6,7 @@ mod FrameCount
 mod FrameNeeds
 mod GivenRoom
 mod Joined
+mod LinesCarried
 mod ListedTables
 mod Maps
 mod MarkedFrames
@@ -20,6 +21,7 @@ mod ShortReach
 mod SomeCode
 mod SoundCode
 mod TableNeeds
+mod TableRefusals
 mod TableRoom
 mod TableSections
 mod TablesCarried

@@ -6,7 +6,7 @@ use Rattle.std.specs.Str.{bytes_eq}
 use Rattle.elf_write.specs.NewSections.{bytes_called}
 use Rattle.elf_write.specs.TablePlaces.{is_given}
 use Rattle.elf_write.specs.TableSizes.{table_size}
-use Rattle.bolt_core.specs.GivenTables.{ReadTable, listed, table_seen}
+use Rattle.bolt_core.specs.GivenTables.{DebugContents, ReadTable, listed, table_seen}
 
 -- the first with a name, as it is seen
 abbrev seen : List ℕ → List (List ℕ × List ℕ) → Option (List ℕ × List ℕ)
@@ -39,58 +39,100 @@ given_by : (o : Option ReadTable) → is_some o ≡ is_some (option_map table_se
 given_by None = refl
 given_by (Some t) = refl
 
--- The names of the three differ.
+-- The names of all differ.
 
-size_frames : (frames index : Option (List ℕ)) (debug : List ℕ) →
+size_frames : (frames index : Option (List ℕ)) (debug : DebugContents) →
     option_map (λ (x : List ℕ × List ℕ). length x.1) (seen (codes ".eh_frame") (listed frames index debug)) ≡ option_map length frames
 size_frames None None debug = refl
 size_frames None (Some i) debug = refl
 size_frames (Some f) None debug = refl
 size_frames (Some f) (Some i) debug = refl
 
-size_index : (frames index : Option (List ℕ)) (debug : List ℕ) →
+size_index : (frames index : Option (List ℕ)) (debug : DebugContents) →
     option_map (λ (x : List ℕ × List ℕ). length x.1) (seen (codes ".eh_frame_hdr") (listed frames index debug)) ≡ option_map length index
 size_index None None debug = refl
 size_index None (Some i) debug = refl
 size_index (Some f) None debug = refl
 size_index (Some f) (Some i) debug = refl
 
-bytes_frames : (frames index : Option (List ℕ)) (debug : List ℕ) →
+bytes_frames : (frames index : Option (List ℕ)) (debug : DebugContents) →
     option_map_or (λ (x : List ℕ × List ℕ). x.1) (seen (codes ".eh_frame") (listed frames index debug)) [] ≡ unwrap_or frames []
 bytes_frames None None debug = refl
 bytes_frames None (Some i) debug = refl
 bytes_frames (Some f) None debug = refl
 bytes_frames (Some f) (Some i) debug = refl
 
-bytes_index : (frames index : Option (List ℕ)) (debug : List ℕ) →
+bytes_index : (frames index : Option (List ℕ)) (debug : DebugContents) →
     option_map_or (λ (x : List ℕ × List ℕ). x.1) (seen (codes ".eh_frame_hdr") (listed frames index debug)) [] ≡ unwrap_or index []
 bytes_index None None debug = refl
 bytes_index None (Some i) debug = refl
 bytes_index (Some f) None debug = refl
 bytes_index (Some f) (Some i) debug = refl
 
-bytes_debug : (frames index : Option (List ℕ)) (debug : List ℕ) →
-    option_map_or (λ (x : List ℕ × List ℕ). x.1) (seen (codes ".debug_frame") (listed frames index debug)) [] ≡ debug
+bytes_debug : (frames index : Option (List ℕ)) (debug : DebugContents) →
+    option_map_or (λ (x : List ℕ × List ℕ). x.1) (seen (codes ".debug_frame") (listed frames index debug)) [] ≡ debug.frames
 bytes_debug None None debug = refl
 bytes_debug None (Some i) debug = refl
 bytes_debug (Some f) None debug = refl
 bytes_debug (Some f) (Some i) debug = refl
 
-given_debug : (frames index : Option (List ℕ)) (debug : List ℕ) →
+bytes_lines : (frames index : Option (List ℕ)) (debug : DebugContents) →
+    option_map_or (λ (x : List ℕ × List ℕ). x.1) (seen (codes ".debug_line") (listed frames index debug)) [] ≡ debug.lines
+bytes_lines None None debug = refl
+bytes_lines None (Some i) debug = refl
+bytes_lines (Some f) None debug = refl
+bytes_lines (Some f) (Some i) debug = refl
+
+bytes_str : (frames index : Option (List ℕ)) (debug : DebugContents) →
+    option_map_or (λ (x : List ℕ × List ℕ). x.1) (seen (codes ".debug_str") (listed frames index debug)) [] ≡ debug.str
+bytes_str None None debug = refl
+bytes_str None (Some i) debug = refl
+bytes_str (Some f) None debug = refl
+bytes_str (Some f) (Some i) debug = refl
+
+bytes_line_str : (frames index : Option (List ℕ)) (debug : DebugContents) →
+    option_map_or (λ (x : List ℕ × List ℕ). x.1) (seen (codes ".debug_line_str") (listed frames index debug)) [] ≡ debug.line_str
+bytes_line_str None None debug = refl
+bytes_line_str None (Some i) debug = refl
+bytes_line_str (Some f) None debug = refl
+bytes_line_str (Some f) (Some i) debug = refl
+
+given_debug : (frames index : Option (List ℕ)) (debug : DebugContents) →
     is_some (seen (codes ".debug_frame") (listed frames index debug)) ≡ true
 given_debug None None debug = refl
 given_debug None (Some i) debug = refl
 given_debug (Some f) None debug = refl
 given_debug (Some f) (Some i) debug = refl
 
-no_ranges : (frames index : Option (List ℕ)) (debug : List ℕ) →
+given_lines : (frames index : Option (List ℕ)) (debug : DebugContents) →
+    is_some (seen (codes ".debug_line") (listed frames index debug)) ≡ true
+given_lines None None debug = refl
+given_lines None (Some i) debug = refl
+given_lines (Some f) None debug = refl
+given_lines (Some f) (Some i) debug = refl
+
+given_str : (frames index : Option (List ℕ)) (debug : DebugContents) →
+    is_some (seen (codes ".debug_str") (listed frames index debug)) ≡ true
+given_str None None debug = refl
+given_str None (Some i) debug = refl
+given_str (Some f) None debug = refl
+given_str (Some f) (Some i) debug = refl
+
+given_line_str : (frames index : Option (List ℕ)) (debug : DebugContents) →
+    is_some (seen (codes ".debug_line_str") (listed frames index debug)) ≡ true
+given_line_str None None debug = refl
+given_line_str None (Some i) debug = refl
+given_line_str (Some f) None debug = refl
+given_line_str (Some f) (Some i) debug = refl
+
+no_ranges : (frames index : Option (List ℕ)) (debug : DebugContents) →
     is_some (seen (codes ".debug_rnglists") (listed frames index debug)) ≡ false
 no_ranges None None debug = refl
 no_ranges None (Some i) debug = refl
 no_ranges (Some f) None debug = refl
 no_ranges (Some f) (Some i) debug = refl
 
-module _ (tables : List ReadTable) (frames index : Option (List ℕ)) (debug : List ℕ)
+module _ (tables : List ReadTable) (frames index : Option (List ℕ)) (debug : DebugContents)
     (are : map table_seen tables ≡ listed frames index debug) where
   same : (name : List ℕ) → option_map table_seen (found name tables) ≡ seen name (listed frames index debug)
   same name = find_seen name tables ∙ ap (seen name) are
@@ -119,14 +161,45 @@ module _ (tables : List ReadTable) (frames index : Option (List ℕ)) (debug : L
       ∙ ap (λ (o : Option (List ℕ × List ℕ)). option_map_or (λ (x : List ℕ × List ℕ). x.1) o []) (same (codes ".eh_frame_hdr"))
       ∙ bytes_index frames index debug
 
-  pub debug_bytes : bytes_called tables (codes ".debug_frame") ≡ debug
+  pub debug_bytes : bytes_called tables (codes ".debug_frame") ≡ debug.frames
   debug_bytes =
       bytes_by (found (codes ".debug_frame") tables)
       ∙ ap (λ (o : Option (List ℕ × List ℕ)). option_map_or (λ (x : List ℕ × List ℕ). x.1) o []) (same (codes ".debug_frame"))
       ∙ bytes_debug frames index debug
 
   pub debug_given : is_given tables (codes ".debug_frame") ≡ true
-  debug_given = given_by (found (codes ".debug_frame") tables) ∙ ap is_some (same (codes ".debug_frame")) ∙ given_debug frames index debug
+  debug_given =
+      given_by (found (codes ".debug_frame") tables) ∙ ap is_some (same (codes ".debug_frame")) ∙ given_debug frames index debug
+
+  pub lines_bytes : bytes_called tables (codes ".debug_line") ≡ debug.lines
+  lines_bytes =
+      bytes_by (found (codes ".debug_line") tables)
+      ∙ ap (λ (o : Option (List ℕ × List ℕ)). option_map_or (λ (x : List ℕ × List ℕ). x.1) o []) (same (codes ".debug_line"))
+      ∙ bytes_lines frames index debug
+
+  pub lines_given : is_given tables (codes ".debug_line") ≡ true
+  lines_given =
+      given_by (found (codes ".debug_line") tables) ∙ ap is_some (same (codes ".debug_line")) ∙ given_lines frames index debug
+
+  pub str_bytes : bytes_called tables (codes ".debug_str") ≡ debug.str
+  str_bytes =
+      bytes_by (found (codes ".debug_str") tables)
+      ∙ ap (λ (o : Option (List ℕ × List ℕ)). option_map_or (λ (x : List ℕ × List ℕ). x.1) o []) (same (codes ".debug_str"))
+      ∙ bytes_str frames index debug
+
+  pub str_given : is_given tables (codes ".debug_str") ≡ true
+  str_given =
+      given_by (found (codes ".debug_str") tables) ∙ ap is_some (same (codes ".debug_str")) ∙ given_str frames index debug
+
+  pub line_str_bytes : bytes_called tables (codes ".debug_line_str") ≡ debug.line_str
+  line_str_bytes =
+      bytes_by (found (codes ".debug_line_str") tables)
+      ∙ ap (λ (o : Option (List ℕ × List ℕ)). option_map_or (λ (x : List ℕ × List ℕ). x.1) o []) (same (codes ".debug_line_str"))
+      ∙ bytes_line_str frames index debug
+
+  pub line_str_given : is_given tables (codes ".debug_line_str") ≡ true
+  line_str_given =
+      given_by (found (codes ".debug_line_str") tables) ∙ ap is_some (same (codes ".debug_line_str")) ∙ given_line_str frames index debug
 
   pub ranges_not_given : is_given tables (codes ".debug_rnglists") ≡ false
   ranges_not_given =

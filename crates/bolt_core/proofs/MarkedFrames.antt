@@ -164,11 +164,18 @@ module _ (spans : List Span) (once : AllPairs (λ s t. s.input ≢ t.input) span
     laid_of func c = All-contains IsLaidOut funcs func laid.each c
 
     module _ (f : Fde) (listed : Contains (eh_frames elf).list f) (marked : IsTrue (is_marked_by (cuts_of elf) f)) where
-      mark : (nat_lt 0 f.table ≡ true) × ((list_any (λ (c : ℕ). c == f.start) (cuts_of elf) && not (list_any (is_strictly_in f) (cuts_of elf))) ≡ true)
-      mark = and_parts (nat_lt 0 f.table) (list_any (λ (c : ℕ). c == f.start) (cuts_of elf) && not (list_any (is_strictly_in f) (cuts_of elf))) marked
+      -- a cut begins the range, and none is strictly inside
+      abbrev at_cut : Bool
+      at_cut = list_any (λ (c : ℕ). c == f.start) (cuts_of elf)
 
-      bounds : (list_any (λ (c : ℕ). c == f.start) (cuts_of elf) ≡ true) × (not (list_any (is_strictly_in f) (cuts_of elf)) ≡ true)
-      bounds = and_parts (list_any (λ (c : ℕ). c == f.start) (cuts_of elf)) (not (list_any (is_strictly_in f) (cuts_of elf))) mark.1
+      abbrev free_inside : Bool
+      free_inside = not (list_any (is_strictly_in f) (cuts_of elf))
+
+      mark : (nat_lt 0 f.table ≡ true) × (at_cut && free_inside ≡ true)
+      mark = and_parts (nat_lt 0 f.table) (at_cut && free_inside) marked
+
+      bounds : (at_cut ≡ true) × (free_inside ≡ true)
+      bounds = and_parts at_cut free_inside mark.1
 
       starts_at_cut : IsCutAddress elf.symbols.items elf.sections.items f.start
       starts_at_cut =
@@ -179,7 +186,8 @@ module _ (spans : List Span) (once : AllPairs (λ s t. s.input ≢ t.input) span
       no_cut : (c : ℕ) → IsCutAddress elf.symbols.items elf.sections.items c → f.start < c → c < f.end → ⊥
       no_cut c cut low high =
           let (k, within, is) = lists-from_IsCutAddress elf.symbols.items elf.sections.items c cut in
-          let strictly : is_strictly_in f c ≡ true = and_from (nat_lt f.start c) (nat_lt c f.end) (lt-ltb f.start c low) (lt-ltb c f.end high) in
+          let strictly : is_strictly_in f c ≡ true =
+          and_from (nat_lt f.start c) (nat_lt c f.end) (lt-ltb f.start c low) (lt-ltb c f.end high) in
           let some = list_any-from_Any (is_strictly_in f) (cuts_of elf) (k, c, within, is, strictly) in
           absurd (not_both (list_any (is_strictly_in f) (cuts_of elf)) some bounds.1)
         where

@@ -1,5 +1,6 @@
 -- A written file is a rewrite of its input, and keeps its runs.
-use Rattle.std.proofs.Common.{◌≡◌, ◌∙◌, refl, sym, subst, ap, ℕ, ◌+◌, ◌*◌, ◌%◌, ◌<◌, ◌≤◌, Bool, List, [], ◌∷◌, cond, get_or, length, map, Fits, w8}
+use Rattle.std.proofs.Common.{◌≡◌, ◌∙◌, refl, sym, subst, ap, ℕ, ◌+◌, ◌*◌, ◌%◌, ◌<◌, ◌≤◌, Bool, List, [], ◌∷◌, cond, get_or, length}
+use Rattle.std.proofs.Common.{map, Fits, w8}
 use Rattle.std.specs.Prelude.{All, AllPairs, IsTrue, codes, count_by, nat_lt, sum_by}
 use Rattle.std.specs.List.{fold}
 use Rattle.std.proofs.Math.Facts.{Fits-lt-pow}
@@ -28,7 +29,7 @@ use Rattle.elf_write.specs.Source.{HasPlace, source_of}
 use Rattle.elf_write.specs.TablePlaces.{TablesStand}
 use Rattle.elf_write.specs.TableSizes.{table_size}
 use Rattle.area_room.specs.Need.{code_need}
-use Rattle.table_core.specs.AnswerRuns.{AreRunsOf, carried}
+use Rattle.table_core.specs.AnswerRuns.{AreLow, AreRunsOf, carried}
 use Rattle.table_core.specs.declared.run.Run.{Run}
 use Rattle.cfi_rows.specs.FrameNeed.{frame_need}
 use Rattle.cfi_rows.specs.ReadFrames.{read_as}
@@ -38,11 +39,12 @@ use Rattle.rv_code.specs.layout.BlockOrders.{HasAllBlocks}
 use Rattle.elf_write.specs.WrittenFile.{AreApart, CanHold, IsWritten}
 use Rattle.program.specs.Program.{Program, program_of}
 use Rattle.program.specs.Room.{is_tight_program, new_start}
-use Rattle.bolt_core.specs.CarriedFrames.{CarriesFrames}
+use Rattle.bolt_core.specs.CarriedAnswers.{CarriesTables}
 use Rattle.bolt_core.specs.GivenTables.{ReadTable}
 use Rattle.bolt_core.specs.declared.tables.Tables.{Tables}
 use Rattle.bolt_core.specs.internal.CarriedTables.{AreNewTables, ComeFrom, EhRunsFit, HasRoomBehind}
-use Rattle.bolt_core.specs.Limits.{IsTooLarge}
+use Rattle.bolt_core.specs.Limits.{IsTooHeavy, IsTooLarge}
+use Rattle.bolt_core.specs.NewCode.{IsLaidOutBy}
 use Rattle.bolt_core.specs.ProfileOrder.{IsProfileOrder, cold_starts, hot_count}
 use Rattle.bolt_core.specs.Refusals.{CanStand, IsInput}
 use Rattle.bolt_core.specs.RewriteCounts.{RewriteCounts}
@@ -56,7 +58,7 @@ use Rattle.bolt_core.proofs.WrittenOutput.{area_needed, bytes_are, code_there, f
 use Rattle.bolt_core.proofs.WrittenOutput.{keeps_front, place, placed}
 use Rattle.bolt_core.proofs.TableNeeds.{allows, code_low, fits, frame_room, low_spans, room_behind}
 use Rattle.bolt_core.proofs.TableRoom.{SizesFit}
-use Rattle.bolt_core.proofs.TablesCarried.{are_given, carries_frames, sizes_fit}
+use Rattle.bolt_core.proofs.TablesCarried.{are_given, carries_tables, sizes_fit}
 
 module _ {file profile : List ℕ} {x : Program} (input : IsInput file profile x) (bytes : All (λ b. b < 256) file)
     (w : List ℕ) (written : All (λ b. b < 256) w) (sound : IsSound w) (spans : List Span)
@@ -147,6 +149,9 @@ module _ {file profile : List ℕ} (elf : Elf) (funcs : List Func) (refs : Refs)
           subst (λ (cs : List (ℕ × ℕ × ℕ)). AllPairs AreApart cs) (sym made.cells_are)
           (all_apart elf x.code (accepted elf x.code sound_code) (new spans))
 
+      pub laid_out_by : IsLaidOutBy x order spans emitted.code.items
+      laid_out_by = is_laid_out elf funcs refs blocks sound_code (input.program).blocks_are stands order spans emitted moved
+
       -- The tables that are carried.
 
       module _ (order_all : HasAllBlocks blocks order) (t : Tables) (comes : ComeFrom t elf) where
@@ -155,12 +160,15 @@ module _ {file profile : List ℕ} (elf : Elf) (funcs : List Func) (refs : Refs)
             subst (λ (s : ℕ). s + (code_need funcs blocks + frame_need elf funcs blocks) ≤ address_end) (sym start_is)
             (place elf funcs refs blocks sound_code (input.program).blocks_are stands).all.low
 
+        pub spans_low : AreLow spans
+        spans_low =
+            low_spans elf x.code blocks (laid elf x.code sound_code) (input.program).blocks_are order order_all start spans emitted
+            made t.eh comes.eh all_low
+
         pub allowed : EhAllows t.eh spans
         allowed =
             allows elf x.code blocks (laid elf x.code sound_code) (input.program).blocks_are order order_all start spans emitted made
-            t.eh comes.eh (sound_code.code_is).funcs
-            (low_spans elf x.code blocks (laid elf x.code sound_code) (input.program).blocks_are order order_all start spans emitted
-            made t.eh comes.eh all_low)
+            t.eh comes.eh (sound_code.code_is).funcs spans_low
 
         pub eh_fits : EhRunsFit t.eh spans
         eh_fits =
@@ -193,7 +201,7 @@ module _ {file profile : List ℕ} (elf : Elf) (funcs : List Func) (refs : Refs)
           TablesStand elf T.new given (area_for elf given emitted.code.items t))
           (pairs : List Counted) (parts : Chains) (ordered : IsProfileOrder x profile pairs parts order)
           (cold_is : cold ≡ cold_starts funcs blocks parts)
-          (fits : (place : ℕ) → IsTooLarge elf funcs cold place → ⊥) where
+          (fits : (place : ℕ) → IsTooLarge elf funcs cold place → ⊥) (light : IsTooHeavy elf spans → ⊥) where
         sizes : SizesFit (table_size given (codes ".eh_frame")) (table_size given (codes ".eh_frame_hdr"))
             (frame_need elf funcs blocks)
         sizes =
@@ -211,14 +219,14 @@ module _ {file profile : List ℕ} (elf : Elf) (funcs : List Func) (refs : Refs)
         -- what is read of the file has the tables, which answer as the input's did
         abbrev Answers : List ℕ → Type 0
         Answers names = (T : HasNewTables elf given emitted.code.items funcs names spans (is_tight_program x) w)
-            × CarriesFrames spans elf T.new
+            × CarriesTables spans elf T.new
 
         answers : Answers cold
         answers =
             let T = tables (is_tight_program x)
             (placed elf funcs refs blocks sound_code (input.program).blocks_are stands order spans emitted moved given sizes) in (
               T,
-              carries_frames elf t comes spans start emitted.code.items given new T.new (is_tight_program x) start_is
+              carries_tables elf t comes spans start emitted.code.items given new T.new (is_tight_program x) start_is
                   (stand (is_tight_program x) T),
             )
 
@@ -242,6 +250,7 @@ module _ {file profile : List ℕ} (elf : Elf) (funcs : List Func) (refs : Refs)
           parts = parts;
           order = order;
           fits = subst (λ (c : List ℕ). (place : ℕ) → IsTooLarge elf funcs c place → ⊥) cold_is fits;
+          light = light;
           sound = sound;
           faithful = faithful;
           runs = keeps_runs input bytes w w_bytes sound spans faithful;
@@ -249,8 +258,7 @@ module _ {file profile : List ℕ} (elf : Elf) (funcs : List Func) (refs : Refs)
           ordered = ordered;
           code = emitted.code.items;
           laid_out =
-              is_laid_out elf funcs refs blocks sound_code (input.program).blocks_are stands order spans emitted moved
-              given sizes;
+              is_laid_out elf funcs refs blocks sound_code (input.program).blocks_are stands order spans emitted moved;
           stretch = moved.stretch;
           code_stands =
               code_there elf funcs refs blocks sound_code (input.program).blocks_are stands order spans emitted moved given sizes w
@@ -263,7 +271,7 @@ module _ {file profile : List ℕ} (elf : Elf) (funcs : List Func) (refs : Refs)
               sizes w written;
           needed =
               area_needed elf funcs refs blocks sound_code (input.program).blocks_are stands order spans emitted moved given sizes;
-          frames = named_answers.1;
+          answers = named_answers.1;
           front =
               keeps_front elf funcs refs blocks sound_code (input.program).blocks_are stands order spans emitted moved given sizes w
               written;

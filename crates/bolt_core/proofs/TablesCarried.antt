@@ -9,14 +9,14 @@ use Rattle.std.proofs.lemmas.Bool.{and_parts}
 use Rattle.elf_image.specs.declared.elf.Elf.{Elf}
 use Rattle.elf_image.specs.declared.section.Section.{Section}
 use Rattle.elf_image.specs.declared.segment.TheConstants.{PT_GNU_EH_FRAME}
-use Rattle.elf_image.specs.file.SectionNames.{section_called}
+use Rattle.elf_image.specs.file.SectionNames.{names_debug, section_called}
 use Rattle.addr_map.specs.declared.span.Span.{Span}
 use Rattle.area_room.specs.Room.{area_start_of}
 use Rattle.elf_write.specs.Area.{table_end, table_start}
 use Rattle.elf_write.specs.Contents.{section_bytes}
 use Rattle.elf_write.specs.NewSections.{bytes_called}
 use Rattle.elf_write.specs.NewTables.{area_for}
-use Rattle.elf_write.specs.TablePlaces.{Holds, HoldsAt, IsLoadedAt, TablesStand}
+use Rattle.elf_write.specs.TablePlaces.{Holds, HoldsAt, IsLoadedAt, TablesStand, is_given}
 use Rattle.elf_write.specs.TableSizes.{table_size}
 use Rattle.table_core.specs.declared.run.Run.{Run}
 use Rattle.table_core.specs.AnswerRuns.{AreRunsOf, carried}
@@ -26,14 +26,17 @@ use Rattle.cfi_rows.specs.Frames.{debug_frames, eh_frames, frames_of}
 use Rattle.cfi_rows.specs.ReadFrames.{read_as}
 use Rattle.frame_rewrite.specs.FrameAnswers.{FrameAnswer}
 use Rattle.frame_rewrite.specs.Index.{IsIndexOf, StandsIndex, has_frames, has_index}
-use Rattle.frame_rewrite.specs.Tables.{StandsAs, debug_name, eh_name, eh_says, run_size}
-use Rattle.bolt_core.specs.CarriedFrames.{CarriesFrames, EndsWithNone}
-use Rattle.bolt_core.specs.GivenTables.{AreGivenFor, ReadTable}
-use Rattle.bolt_core.specs.internal.CarriedTables.{AreNewTables, ComeFrom}
+use Rattle.frame_rewrite.specs.Tables.{EndsWithMark, StandsAs, debug_name, eh_name, eh_says, run_size}
+use Rattle.line_rewrite.specs.Tables.{LineSections, StandsLines}
+use Rattle.bolt_core.specs.CarriedAnswers.{CarriesTables}
+use Rattle.bolt_core.specs.GivenTables.{AreGivenFor, DebugContents, ReadTable}
+use Rattle.bolt_core.specs.internal.CarriedTables.{AreNewTables, ComeFrom, debug_contents}
 use Rattle.bolt_core.specs.internal.GivenIndex.{IsIndexFor, frames_at, index_at}
 use Rattle.bolt_core.specs.declared.tables.Tables.{Tables}
 use Rattle.frame_rewrite.proofs.FramesCarried.{df_carried, eh_carried, no_bad}
+use Rattle.bolt_core.proofs.LinesCarried.{line_carried, nothing_read}
 use Rattle.bolt_core.proofs.ListedTables.{debug_bytes, debug_given, frames_bytes, frames_size, index_bytes, index_size}
+use Rattle.bolt_core.proofs.ListedTables.{line_str_bytes, line_str_given, lines_bytes, lines_given, str_bytes, str_given}
 use Rattle.bolt_core.proofs.TableRoom.{SizesFit}
 
 -- What a file holds, in the terms of tables.
@@ -74,6 +77,24 @@ other_name e =
     ap (λ (y : List ℕ). bytes_eq y (codes ".debug_rnglists")) e in
     absurd (cc)
 
+other_line : codes ".debug_line" ≢ codes ".debug_rnglists"
+other_line e =
+    let c : bytes_eq (codes ".debug_line") (codes ".debug_rnglists") ≡ true =
+    ap (λ (y : List ℕ). bytes_eq y (codes ".debug_rnglists")) e in
+    absurd (cc)
+
+other_str : codes ".debug_str" ≢ codes ".debug_rnglists"
+other_str e =
+    let c : bytes_eq (codes ".debug_str") (codes ".debug_rnglists") ≡ true =
+    ap (λ (y : List ℕ). bytes_eq y (codes ".debug_rnglists")) e in
+    absurd (cc)
+
+other_line_str : codes ".debug_line_str" ≢ codes ".debug_rnglists"
+other_line_str e =
+    let c : bytes_eq (codes ".debug_line_str") (codes ".debug_rnglists") ≡ true =
+    ap (λ (y : List ℕ). bytes_eq y (codes ".debug_rnglists")) e in
+    absurd (cc)
+
 module _ (elf : Elf) (t : Tables) (comes : ComeFrom t elf) (spans : List Span) (start : ℕ) (code : List ℕ)
     (given : List ReadTable) (made : AreNewTables elf t spans start (length code) given) where
   abbrev eh : List ℕ
@@ -81,6 +102,9 @@ module _ (elf : Elf) (t : Tables) (comes : ComeFrom t elf) (spans : List Span) (
 
   abbrev df : List ℕ
   df = made.carried.df.bytes.items
+
+  abbrev debug : DebugContents
+  debug = debug_contents t.lines made.carried
 
   abbrev listed_frames : Option (List ℕ)
   listed_frames = if has_frames elf then Some eh else None
@@ -98,17 +122,17 @@ module _ (elf : Elf) (t : Tables) (comes : ComeFrom t elf) (spans : List Span) (
   are_given = record {
     frames = listed_frames;
     index = made.are_listed.index;
-    debug = df;
+    debug = debug;
     are = made.are_listed.are;
     frames_there = is_there (has_frames elf) eh;
     index_there = made.are_listed.there;
   }
 
   size_eh : table_size given (codes ".eh_frame") ≡ option_map length listed_frames
-  size_eh = frames_size given listed_frames made.are_listed.index df made.are_listed.are
+  size_eh = frames_size given listed_frames made.are_listed.index debug made.are_listed.are
 
   size_index : table_size given (codes ".eh_frame_hdr") ≡ option_map length made.are_listed.index
-  size_index = index_size given listed_frames made.are_listed.index df made.are_listed.are
+  size_index = index_size given listed_frames made.are_listed.index debug made.are_listed.are
 
   -- How large they are.
 
@@ -158,7 +182,7 @@ module _ (elf : Elf) (t : Tables) (comes : ComeFrom t elf) (spans : List Span) (
     frames_held e =
         let size : table_size given (codes ".eh_frame") ≡ Some (length eh) = size_eh ∙ ap (option_map length) (loaded e) in
         let bytes : bytes_called given (codes ".eh_frame") ≡ eh =
-        frames_bytes given listed_frames made.are_listed.index df made.are_listed.are
+        frames_bytes given listed_frames made.are_listed.index debug made.are_listed.are
         ∙ ap (λ (o : Option (List ℕ)). unwrap_or o []) (loaded e) in
         let holds : HoldsAt new (codes ".eh_frame") (frames_at base (length code)) (bytes_called given (codes ".eh_frame")) =
         subst (λ (o : Option ℕ). IfSome (table_start 8 (base + length code) o)
@@ -173,7 +197,7 @@ module _ (elf : Elf) (t : Tables) (comes : ComeFrom t elf) (spans : List Span) (
         let size : table_size given (codes ".eh_frame") ≡ Some (length eh) = size_eh ∙ ap (option_map length) (loaded e) in
         let long : table_size given (codes ".eh_frame_hdr") ≡ Some (length x) = size_index ∙ ap (option_map length) is in
         let bytes : bytes_called given (codes ".eh_frame_hdr") ≡ x =
-        index_bytes given listed_frames made.are_listed.index df made.are_listed.are
+        index_bytes given listed_frames made.are_listed.index debug made.are_listed.are
         ∙ ap (λ (o : Option (List ℕ)). unwrap_or o []) is in
         let holds : HoldsAt new (codes ".eh_frame_hdr") (index_at base (length code) eh) (bytes_called given (codes ".eh_frame_hdr")) =
         subst (λ (o : Option ℕ). IfSome (table_start 4 (table_end 8 (base + length code) (Some (length eh))) o)
@@ -196,21 +220,54 @@ module _ (elf : Elf) (t : Tables) (comes : ComeFrom t elf) (spans : List Span) (
             ap (table_start 8 (base + length code)) size in
             none_held new (codes ".eh_frame") (stand.no_frames none) ∙ sym (made.are_carried.eh_made.nothing (there ∙ e))
 
-    df_stands : StandsAs debug_name made.carried.df new
-    df_stands = by (section_called elf.sections.items (codes ".debug_frame")) refl
+    -- A section of debug data holds what is given for it; one that the input hasn't holds nothing.
+    debug_stands : (name bytes : List ℕ) → IsTrue (names_debug name) → (name ≢ codes ".debug_rnglists") →
+        is_given given name ≡ true → bytes_called given name ≡ bytes →
+        (section_called elf.sections.items name ≡ None → bytes ≡ []) → bytes_of new name ≡ bytes
+    debug_stands name bytes is_debug other is_in given_is empty = by (section_called elf.sections.items name) refl
       where
-        by : (o : Option Section) → section_called elf.sections.items (codes ".debug_frame") ≡ o →
-            bytes_of new (codes ".debug_frame") ≡ df
+        by : (o : Option Section) → section_called elf.sections.items name ≡ o → bytes_of new name ≡ bytes
         by (Some s) e =
-            bytes_from new (codes ".debug_frame") (bytes_called given (codes ".debug_frame"))
-            (stand.debug (codes ".debug_frame") refl
-            (debug_given given listed_frames made.are_listed.index df made.are_listed.are) (ap is_some e))
-            ∙ debug_bytes given listed_frames made.are_listed.index df made.are_listed.are
-        by None e =
-            let empty : t.df.frames.section.items ≡ [] =
-            ap (λ (h : Held). h.bytes) comes.df.section ∙ none_held elf (codes ".debug_frame") e in
-            none_held new (codes ".debug_frame") (stand.absent (codes ".debug_frame") refl e (λ adds. other_name))
-            ∙ sym (made.are_carried.df_made.nothing empty)
+            bytes_from new name (bytes_called given name) (stand.debug name is_debug is_in (ap is_some e)) ∙ given_is
+        by None e = none_held new name (stand.absent name is_debug e (λ adds. other)) ∙ sym (empty e)
+
+    df_stands : StandsAs debug_name made.carried.df new
+    df_stands =
+        debug_stands (codes ".debug_frame") df refl other_name
+        (debug_given given listed_frames made.are_listed.index debug made.are_listed.are)
+        (debug_bytes given listed_frames made.are_listed.index debug made.are_listed.are)
+        (λ e. made.are_carried.df_made.nothing (ap (λ (h : Held). h.bytes) comes.df.section ∙ none_held elf (codes ".debug_frame") e))
+
+    -- the texts of lines, as they were
+    abbrev old : LineSections
+    old = t.lines
+
+    str_stands : bytes_of new (codes ".debug_str") ≡ old.strings.str
+    str_stands =
+        debug_stands (codes ".debug_str") old.strings.str refl other_str
+        (str_given given listed_frames made.are_listed.index debug made.are_listed.are)
+        (str_bytes given listed_frames made.are_listed.index debug made.are_listed.are)
+        (λ e. ap (λ (s : LineSections). s.strings.str) comes.lines ∙ none_held elf (codes ".debug_str") e)
+
+    line_str_stands : bytes_of new (codes ".debug_line_str") ≡ old.strings.line_str
+    line_str_stands =
+        debug_stands (codes ".debug_line_str") old.strings.line_str refl other_line_str
+        (line_str_given given listed_frames made.are_listed.index debug made.are_listed.are)
+        (line_str_bytes given listed_frames made.are_listed.index debug made.are_listed.are)
+        (λ e. ap (λ (s : LineSections). s.strings.line_str) comes.lines ∙ none_held elf (codes ".debug_line_str") e)
+
+    lines_stand : StandsLines elf made.carried.lines new
+    lines_stand = record {
+      table =
+          debug_stands (codes ".debug_line") made.carried.lines.bytes.items refl other_line
+          (lines_given given listed_frames made.are_listed.index debug made.are_listed.are)
+          (lines_bytes given listed_frames made.are_listed.index debug made.are_listed.are)
+          (λ e. nothing_read t.lines made.carried.lines made.are_carried.lines_made
+          (ap (λ (s : LineSections). s.line) comes.lines ∙ none_held elf (codes ".debug_line") e));
+      strings =
+          (λ i. record { str = str_stands i; line_str = line_str_stands i })
+          ∙ ap (λ (s : LineSections). s.strings) comes.lines;
+    }
 
     index_stands : has_index elf ≡ true → StandsIndex new
     index_stands e =
@@ -224,19 +281,23 @@ module _ (elf : Elf) (t : Tables) (comes : ComeFrom t elf) (spans : List Span) (
         (subst (λ (h : Held). IsIndexOf (frames_at start (length code)) h.address (frames false (frames_at start (length code)) eh).list
         h.bytes) (sym (index_held loads x is)) index.is)
 
-    pub carries_frames : CarriesFrames spans elf new
-    carries_frames =
+    pub carries_tables : CarriesTables spans elf new
+    carries_tables =
         let of_eh = made.are_carried.eh elf new comes.eh eh_stands in
         let of_df = made.are_carried.df elf new comes.df df_stands in
+        let of_lines = made.are_carried.lines elf new comes.lines lines_stand in
         record {
           answers = λ p o owned. record {
+            line_is = line_carried spans t.lines elf new comes.lines of_lines.0 p o owned;
             eh_is = eh_carried spans t.eh elf new comes.eh of_eh.0 p o owned;
             df_is = df_carried spans t.df elf new comes.df of_df.0 p o owned;
           };
           sound = ap (λ (o : Option ℕ). option_or o (debug_frames new).bad) (no_bad (eh_frames new) of_eh.1)
               ∙ no_bad (debug_frames new) of_df.1;
+          lines_sound = of_lines.1;
+          line_units = of_lines.2;
           ends = λ e.
               let ended = made.are_carried.eh_made.ends (there ∙ e) in
-              subst EndsWithNone (sym eh_stands) ended;
+              subst EndsWithMark (sym eh_stands) ended;
           index = index_stands;
         }

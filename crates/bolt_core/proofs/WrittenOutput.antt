@@ -27,7 +27,8 @@ use Rattle.bolt_core.specs.GivenTables.{ReadTable}
 use Rattle.bolt_core.specs.Refusals.{CanStand}
 use Rattle.program.specs.Program.{program_of}
 use Rattle.program.specs.Room.{is_tight_program, new_start}
-use Rattle.bolt_core.specs.RewrittenFile.{FollowsSegments, IsLaidOutBy, rewrite_of}
+use Rattle.bolt_core.specs.NewCode.{IsLaidOutBy}
+use Rattle.bolt_core.specs.RewrittenFile.{FollowsSegments, rewrite_of}
 use Rattle.bolt_core.specs.internal.MovedCode.{IsMovedCode}
 use Rattle.bolt_core.proofs.Joined.{faithful, puts, source}
 use Rattle.bolt_core.proofs.Maps.{bytes_in_order, some_code}
@@ -49,6 +50,16 @@ module _ (elf : Elf) (funcs : List Func) (refs : Refs) (blocks : List Block) (is
 
   pub place : HasRoom elf funcs blocks
   place = has_room elf funcs blocks (some_need elf code (accepted elf code is) (laid elf code is) blocks are) stands.room
+
+  pub is_laid_out : (order : List ℕ) (spans : List Span) (emitted : Emitted) →
+      IsMovedCode funcs refs.cells.items blocks order start spans emitted →
+      IsLaidOutBy (program_of elf funcs refs blocks) order spans emitted.code.items
+  is_laid_out order spans emitted moved = record {
+    forms = moved.forms;
+    are_forms = (moved.mapped).forms;
+    spans_are = (moved.mapped).map_is;
+    made = moved.made;
+  }
 
   module _ (order : List ℕ) (spans : List Span) (emitted : Emitted)
       (moved : IsMovedCode funcs refs.cells.items blocks order start spans emitted) (given : List ReadTable)
@@ -121,14 +132,6 @@ module _ (elf : Elf) (funcs : List Func) (refs : Refs) (blocks : List Block) (is
           moved.length_is
           (rewrite_of (program_of elf funcs refs blocks) w spans) there)
           (moved.keeps (rewrite_of (program_of elf funcs refs blocks) w spans) there)
-
-    pub is_laid_out : IsLaidOutBy (program_of elf funcs refs blocks) order spans emitted.code.items
-    is_laid_out = record {
-      forms = moved.forms;
-      are_forms = (moved.mapped).forms;
-      spans_are = (moved.mapped).map_is;
-      made = moved.made;
-    }
 
     pub bytes_are : length emitted.code.items ≡ sum_by (λ s. s.len) spans
     bytes_are =

@@ -1,6 +1,7 @@
-pub mod CarriedFrames
+pub mod CarriedAnswers
 pub mod GivenTables
 pub mod Limits
+pub mod NewCode
 pub mod ProfileOrder
 pub mod Refusals
 pub mod RewriteCounts

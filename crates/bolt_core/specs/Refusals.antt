@@ -7,6 +7,7 @@ use Rattle.rb_bytes.specs.declared.fault.Fault.{Fault}
 use Rattle.rb_bytes.specs.declared.fault.FaultKind.TheVariants.{TooLarge}
 use Rattle.rb_bytes.specs.declared.fault.Refusal.{Refusal}
 use Rattle.rv_code.specs.declared.layout.Chains.{Chains}
+use Rattle.addr_map.specs.declared.span.Span.{Span}
 use Rattle.edge_profile.specs.PairCounts.{Counted}
 use Rattle.func_place.specs.Faults.{HasPlacementFault}
 use Rattle.program.specs.Limits.{IsLimitFault, file_limit}
@@ -14,8 +15,9 @@ use Rattle.program.specs.Program.{IsProgramOf, Program}
 use Rattle.program.specs.Refusals.{IsRefusalFor, IsUnreadable}
 use Rattle.program.specs.Room.{no_program_room}
 use Rattle.program.specs.declared.unbuilt.Unbuilt.TheVariants.{Debug}
-use Rattle.bolt_core.specs.Limits.{IsTooLarge}
-use Rattle.bolt_core.specs.ProfileOrder.{ArePartsBy, cold_starts}
+use Rattle.bolt_core.specs.Limits.{IsTooHeavy, IsTooLarge}
+use Rattle.bolt_core.specs.NewCode.{IsLaidOutBy}
+use Rattle.bolt_core.specs.ProfileOrder.{ArePartsBy, IsProfileOrder, cold_starts}
 use Rattle.bolt_core.specs.TableFaults.{HasTableFault}
 
 -- neither the file nor the profile is too long
@@ -39,7 +41,7 @@ pub record CanStand (x : Program) : Type 0 where
   pub room : no_program_room x ≡ None
 
 -- Length comes first, of the file and then of the profile; then why the file isn't read as a program; what keeps its code
--- from being placed; what keeps its tables from being carried; want of room; and then the other limits.
+-- from being placed; what keeps its tables from being carried; want of room; and then the other limits, the last of them the weights of tables.
 pub data IsRefused (file profile : List ℕ) (fault : Fault) : Type 0 where
   long_file : file_limit < length file → fault ≡ fault_at TooLarge 0 → IsRefused file profile fault
   long_profile : length file ≤ file_limit → file_limit < length profile → fault ≡ fault_at TooLarge 1 →
@@ -55,6 +57,11 @@ pub data IsRefused (file profile : List ℕ) (fault : Fault) : Type 0 where
       ArePartsBy x profile pairs parts →
       IsLimitFault (IsTooLarge x.elf x.code.funcs (cold_starts x.code.funcs x.blocks parts)) fault →
       IsRefused file profile fault
+  too_heavy : (x : Program) → IsInput file profile x → CanStand x → (pairs : List Counted) (parts : Chains) →
+      ((place : ℕ) → IsTooLarge x.elf x.code.funcs (cold_starts x.code.funcs x.blocks parts) place → ⊥) →
+      (order : List ℕ) → IsProfileOrder x profile pairs parts order →
+      (spans : List Span) (code : List ℕ) → IsLaidOutBy x order spans code → IsTooHeavy x.elf spans →
+      fault ≡ fault_at TooLarge 6 → IsRefused file profile fault
 
 -- a refusal names such a fault; memory may run out at any time
 abbrev pub IsRefusal : List ℕ → List ℕ → Refusal → Type 0

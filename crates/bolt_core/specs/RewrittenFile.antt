@@ -1,7 +1,6 @@
 -- What a rewritten file is to its input and its profile.
-use Rattle.std.specs.Prelude.{◌≡◌, ◌+◌, ◌-◌, ◌*◌, ◌≤◌, ℕ, List, [], IfSome, length, sum_by}
+use Rattle.std.specs.Prelude.{◌≡◌, ◌+◌, ◌-◌, ◌*◌, ◌≤◌, ℕ, List, IfSome, length, sum_by}
 use Rattle.rv_code.specs.declared.layout.Chains.{Chains}
-use Rattle.rv_code.specs.declared.layout.Form.{Form}
 use Rattle.rv_code.specs.layout.Flow.{insts_of}
 use Rattle.rv_code.specs.machine.Machine.{Event}
 use Rattle.elf_image.specs.faults.FileFaults.{IsSound}
@@ -9,18 +8,13 @@ use Rattle.elf_image.specs.file.Header.{segments_of}
 use Rattle.elf_image.specs.memory.CodeSegment.{executable_segment}
 use Rattle.rv_memory.specs.Start.{Runs, RunsSoFar}
 use Rattle.addr_map.specs.declared.span.Span.{Span}
-use Rattle.addr_map.specs.MapText.{AreInLineOrder}
-use Rattle.addr_map.specs.Spans.{IsStretch, new}
+use Rattle.addr_map.specs.Spans.{IsStretch}
 use Rattle.sym_machine.specs.SymStart.{SymRuns, SymRunsSoFar}
 use Rattle.edge_profile.specs.PairCounts.{Counted, ignored_in}
 use Rattle.move_law.specs.FaithfulRewrite.{IsFaithful}
 use Rattle.move_law.specs.Laws.{FitStack}
 use Rattle.move_law.specs.Rewrite.{Rewrite, program}
 use Rattle.elf_image.specs.memory.Executables.{executable_of}
-use Rattle.branch_fixup.specs.Forms.{AreForms}
-use Rattle.branch_fixup.specs.Strips.{pieces_of, spans_of, strips_of}
-use Rattle.code_emit.specs.Bytes.{Adds}
-use Rattle.code_emit.specs.NewInsts.{made_from}
 use Rattle.elf_write.specs.Area.{shift_of}
 use Rattle.elf_write.specs.CarriedBytes.{HoldsBytes}
 use Rattle.elf_write.specs.FrontBytes.{KeepsFront}
@@ -28,9 +22,10 @@ use Rattle.elf_write.specs.NewSegments.{AreNewHeaders}
 use Rattle.elf_write.specs.NewTables.{HasNewTables, area_for}
 use Rattle.program.specs.Program.{Program}
 use Rattle.program.specs.Room.{is_tight_program, needed_bytes, new_start}
-use Rattle.bolt_core.specs.CarriedFrames.{CarriesFrames}
+use Rattle.bolt_core.specs.CarriedAnswers.{CarriesTables}
 use Rattle.bolt_core.specs.GivenTables.{AreGivenFor, ReadTable}
-use Rattle.bolt_core.specs.Limits.{IsTooLarge}
+use Rattle.bolt_core.specs.Limits.{IsTooHeavy, IsTooLarge}
+use Rattle.bolt_core.specs.NewCode.{IsLaidOutBy}
 use Rattle.bolt_core.specs.ProfileOrder.{IsProfileOrder, cold_starts, hot_count}
 use Rattle.bolt_core.specs.Refusals.{CanStand, IsInput}
 use Rattle.bolt_core.specs.RewriteCounts.{RewriteCounts}
@@ -56,14 +51,6 @@ abbrev pub KeepsRunsSoFar : Program → List ℕ → List Span → Type 0
 KeepsRunsSoFar x written spans = (args : List (List ℕ)) (input : List ℕ) → FitStack args →
     (n : ℕ) (trace : List Event) → SymRunsSoFar (program (rewrite_of x written spans)) args input n trace →
     (m : ℕ) × (m ≤ 3 * n) × RunsSoFar written args input m trace
-
--- The new code has the blocks in an order, each in a form, from the start of the new area on:
--- the spans are theirs, and its bytes are those of their instructions in these forms, and no others.
-pub record IsLaidOutBy (x : Program) (order : List ℕ) (spans : List Span) (code : List ℕ) : Type 0 where
-  pub forms : List Form
-  pub are_forms : AreForms (strips_of x.code.funcs x.blocks order) (new_start x) forms
-  pub spans_are : AreInLineOrder (spans_of (strips_of x.code.funcs x.blocks order) (new_start x) forms) spans
-  pub made : Adds [] code (made_from (new spans) (new_start x) (pieces_of (strips_of x.code.funcs x.blocks order) forms))
 
 -- The sections and symbols of the written file:
 -- those that follow from the input and the map, with these tables.
@@ -100,6 +87,7 @@ pub record IsRewritten (file profile written : List ℕ) (spans : List Span) (co
   pub order : List ℕ
   pub fits : (place : ℕ) →
       IsTooLarge program.elf program.code.funcs (cold_starts program.code.funcs program.blocks parts) place → ⊥
+  pub light : IsTooHeavy program.elf spans → ⊥
   -- the written file is one that its reader accepts, and a faithful rewrite,
   -- so it keeps the runs of the input
   pub sound : IsSound written
@@ -120,8 +108,8 @@ pub record IsRewritten (file profile written : List ℕ) (spans : List Span) (co
   -- the new area takes no more than was asked for
   pub needed : (area_for program.elf given code (is_tight_program program)).end
       - (area_for program.elf given code (is_tight_program program)).start ≤ needed_bytes program
-  -- at each byte of the new code, unwinding is as it was at the byte's owner
-  pub frames : CarriesFrames spans program.elf tables.new
+  -- at each byte of the new code, lines and unwinding are as they were at the byte's owner
+  pub answers : CarriesTables spans program.elf tables.new
   -- up to where no byte moves, bytes that no segment loads are as they were, and those of a table that is replaced
   pub front : KeepsFront program.elf (is_tight_program program) written
   pub counted : counts ≡ counts_of_rewrite program profile pairs spans

@@ -1,4 +1,5 @@
 pub mod CarriedTables
 pub mod GivenIndex
 pub mod MovedCode
+pub mod TableLimits
 pub mod WholeMoves

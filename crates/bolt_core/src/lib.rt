@@ -8,6 +8,6 @@ mod limits;
 mod reading;
 pub mod rewriting;
 mod table_list;
-pub mod tables;
+mod tables;
 
 pub use rewriting::{Rewritten, rewrite};

@@ -7,6 +7,7 @@ ghost use Rattle.bolt_core.specs.internal.CarriedTables.{ComeFrom};
 use crate::tables::Tables;
 use elf_image::Elf;
 use frame_rewrite::{DebugFrames, EhFrames, registered_frames};
+use line_rewrite::Lines;
 use rb_bytes::fault::{Fault, FaultKind, Refusal};
 use std::alloc::Global;
 use table_core::AddrTable;
@@ -23,5 +24,6 @@ pub fn read_tables(alloc: Global, elf: &Elf<'_>) -> Result<Tables, Refusal>
     }
     let eh = EhFrames::read(alloc, elf)?;
     let df = DebugFrames::read(alloc, elf)?;
-    Ok(Tables { eh, df })
+    let lines = Lines::read(alloc, elf)?;
+    Ok(Tables { eh, df, lines })
 }

@@ -18,7 +18,7 @@ ghost use Rattle.bolt_core.specs.internal.MovedCode.{IsMovedCode};
 use crate::carrying::new_tables;
 use crate::cold_parts::cold_starts;
 use crate::counting::{count_hot, count_insts};
-use crate::limits::{check_lengths, check_sizes};
+use crate::limits::{check_lengths, check_sizes, check_weight};
 use crate::reading::read_tables;
 use addr_map::AddrMap;
 use edge_profile::Profile;
@@ -71,6 +71,7 @@ pub fn rewrite(alloc: Global, file: &[u8], profile: &[u8]) -> Result<Rewritten, 
     let cold = cold_starts(alloc, funcs, blocks, &parts)?;
     check_sizes(alloc, &program.elf, funcs, &cold)?;
     let (map, emitted) = moved_code(alloc, funcs, &program.refs, blocks, &plan, start)?;
+    check_weight(alloc, &tables.lines, &map)?;
     let code = emitted.code.len();
     let given = new_tables(alloc, &program.elf, &tables, &map, start, code)?;
     let written = elf_write::write(alloc, &program.elf, funcs, &cold, &emitted, &map, &given)?;
@@ -87,8 +88,8 @@ pub fn rewrite(alloc: Global, file: &[u8], profile: &[u8]) -> Result<Rewritten, 
     })
 }
 
-// The hot and the cold part of each function: chains of blocks between which control often went along an edge, also along
-// those of jumps through tables. `weights` are those that the counts give to blocks.
+// The hot and the cold part of each function: chains of blocks between which control often went along an edge, also
+// along those of jumps through tables. `weights` are those that the counts give to blocks.
 fn parts(
     alloc: Global,
     funcs: &[Func],
@@ -111,8 +112,8 @@ fn parts(
     Ok(parts)
 }
 
-// The new code of blocks in the order of a plan, from an address on, with the map to it: forms that reach, the map that they
-// give, and the bytes and code cells by that map.
+// The new code of blocks in the order of a plan, from an address on, with the map to it: forms that reach, the map that
+// they give, and the bytes and code cells by that map.
 fn moved_code(
     alloc: Global,
     funcs: &[Func],

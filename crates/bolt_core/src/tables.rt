@@ -1,5 +1,6 @@
 // The tables of a file that are carried to moved code.
 use frame_rewrite::{DebugFrames, EhFrames};
+use line_rewrite::Lines;
 use table_core::Written;
 
 /// The tables of a file that answer by address. Those that the file hasn't are empty.
@@ -7,6 +8,7 @@ use table_core::Written;
 pub struct Tables {
     pub eh: EhFrames,
     pub df: DebugFrames,
+    pub lines: Lines,
 }
 
 /// Their contents, written anew.
@@ -14,4 +16,5 @@ pub struct Tables {
 pub struct Carried {
     pub eh: Written,
     pub df: Written,
+    pub lines: Written,
 }

@@ -5,6 +5,6 @@
 pub enum Unbuilt {
     /// None: it deals with all of them, or looks at none.
     Nothing,
-    /// DWARF's tables, but for that of frames.
+    /// DWARF's tables, but for those of frames and of lines, and their texts.
     Debug,
 }

@@ -81,7 +81,8 @@ like exit7
 - code .text 10078 jal zero,2; addi a0,a0,7; exit => 221 BadTarget 10078 0 0 refused 17 BadTarget at 10078/";
 
 // The unwind table of a loop: a CIE, an FDE for its 24 bytes with DW_CFA_advance_loc 8 and DW_CFA_def_cfa_offset 16,
-// and the end. The last one names an exception table at 10000.
+// and the end. The last one names an exception table at 10000. The line table is that of one unit, with a directory, a file twice,
+// and a sequence of three rows.
 const FRAMES: &str = "\
 # Another version of a CIE.
 like countdown
@@ -100,6 +101,16 @@ function f 10078 18
 function g 10090 8
 loaded .eh_frame 10098 1400000000000000017a4c520001780102031b0c02000000140000001c000000c0ffffff18000000040000010000000000000000
 - => 221 KeptBranch 1007c 0 0 refused 19 KeptBranch at 1007c/
+
+# A line table of another version, and one whose line range is 0. A malformed unwind table comes before it.
+like countdown
+- unloaded .debug_line 0 4c0000000400080029000000010101fb0e0d000101010100000001000001010108012f7300020108020b02612e630000612e630000000902780001000000000001020803010102080301010208000101
+  => 221 DwarfVersion 0 0 0 refused 22 DwarfVersion at 0/
+- unloaded .debug_line 0 4c0000000500080029000000010101fb000d000101010100000001000001010108012f7300020108020b02612e630000612e630000000902780001000000000001020803010102080301010208000101
+  => 221 LineFault 0 0 0 refused 26 LineFault at 0/
+- unloaded .debug_line 0 4c0000000500080029000000010101fb000d000101010100000001000001010108012f7300020108020b02612e630000612e630000000902780001000000000001020803010102080301010208000101
+  loaded .eh_frame 10090 1400000000000000027a5200017801011b0c020000000000100000001c000000c8ffffff1800000000480e1000000000
+  => 221 FrameFault 0 0 0 refused 21 FrameFault at 0/
 
 # Debug tables, of a program with a fault in its code.
 code .text 10078 auipc a0,0; addi a0,a0,7; exit

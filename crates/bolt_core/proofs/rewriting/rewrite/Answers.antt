@@ -14,11 +14,11 @@ use Rattle.bolt_core.specs.Limits.{IsTooLarge}
 use Rattle.bolt_core.specs.ProfileOrder.{IsProfileOrder}
 use Rattle.bolt_core.specs.internal.CarriedTables.{AreNewTables, HasRoomBehind}
 use Rattle.bolt_core.proofs.Accepted.{apart_blocks, blocks_of, input_of, laid_program, misplaced_refusal, no_place_refusal}
-use Rattle.bolt_core.proofs.Accepted.{not_carried_refusal}
+use Rattle.bolt_core.proofs.Accepted.{not_carried_refusal, too_heavy_refusal}
 use Rattle.bolt_core.proofs.Accepted.{no_room_by, parts_by, read_again, readable_again, stands_by, start_by, stretches, too_large_refusal}
 use Rattle.bolt_core.proofs.Accepted.{unreadable_refusal}
-use Rattle.bolt_core.proofs.Rewrites.{allowed, behind, eh_fits, low}
-use Rattle.bolt_core.proofs.TableSections.{df_fits, file_fits}
+use Rattle.bolt_core.proofs.Rewrites.{allowed, behind, eh_fits, laid_out_by, low, spans_low}
+use Rattle.bolt_core.proofs.TableSections.{df_fits, file_fits, lines_fit, not_heavy}
 use Rattle.bolt_core.proofs.Rewrites.{all_bytes, cells_apart, cells_held, even, hot_counted, near, rewritten, room, sound_code}
 use Rattle.bolt_core.proofs.SoundCode.{cells, direct, insts}
 use Rattle.bolt_core.proofs.rewriting.rewrite.Goals as goal
@@ -100,7 +100,8 @@ place_by-requires-clause-cold c =
 pub place_by-requires-clause-weights : goal.place_by-requires-clause-weights
 place_by-requires-clause-weights c =
     c.deref-2.ensures.value ∙ c.in_ok-weights.ensures.weights
-    ∙ ap (λ (ps : List Counted). map (block_weight ps c.as_slice-funcs.result.now) c.as_slice-blocks.result.now) (sym c.pairs-pairs.ensures.value)
+    ∙ ap (λ (ps : List Counted). map (block_weight ps c.as_slice-funcs.result.now) c.as_slice-blocks.result.now)
+    (sym c.pairs-pairs.ensures.value)
 
 pub place_by-requires-clause-room : goal.place_by-requires-clause-room
 place_by-requires-clause-room c =
@@ -135,7 +136,8 @@ returns-in_err-start-clause-refused c =
     c.in_ok-program.ensures.program c.in_ok-check_lengths.ensures.fit in
     let p = err_from_is_err_and c.from_residual-in_err-start.result c.from_residual-in_err-start.ensures.1 in
     rw (p.1, p.2) (no_place_refusal input c.in_ok-plan.ensures.free c.in_ok-tables.ensures.free c.in_err-start.field-0.0
-    (no_room_by c.in_ok-program.program c.as_slice-funcs.ensures.value c.as_slice-blocks.ensures.value c.in_err-start.field-0.0 c.in_err-start.ensures.refused))
+    (no_room_by c.in_ok-program.program c.as_slice-funcs.ensures.value c.as_slice-blocks.ensures.value c.in_err-start.field-0.0
+    c.in_err-start.ensures.refused))
 
 pub check_sizes-requires-clause-fields : goal.check_sizes-requires-clause-fields
 check_sizes-requires-clause-fields c =
@@ -151,7 +153,8 @@ pub returns-in_err-check_sizes-clause-refused : goal.returns-in_err-check_sizes-
 returns-in_err-check_sizes-clause-refused c =
     let input = input_of c.in_ok-program.program c.as_slice-funcs.ensures.value c.as_slice-blocks.ensures.value
     c.in_ok-program.ensures.program c.in_ok-check_lengths.ensures.fit in
-    let stands = stands_by c.in_ok-program.program c.as_slice-funcs.ensures.value c.as_slice-blocks.ensures.value c.in_ok-plan.ensures.free c.in_ok-tables.ensures.free c.in_ok-start.ensures.room in
+    let stands = stands_by c.in_ok-program.program c.as_slice-funcs.ensures.value c.as_slice-blocks.ensures.value
+    c.in_ok-plan.ensures.free c.in_ok-tables.ensures.free c.in_ok-start.ensures.room in
     let parts_are = parts_by input (profile_counts c.in_ok-counts.counts) (pairs_of c.in_ok-counts.counts) c.in_ok-parts.parts
     c.in_ok-parts.ensures.parts c.in_ok-counts.ensures.counts in
     let p = err_from_is_err_and c.from_residual-in_err-check_sizes.result c.from_residual-in_err-check_sizes.ensures.1 in
@@ -211,7 +214,8 @@ moved_code-requires-clause-even c =
     let input = input_of c.in_ok-program.program c.as_slice-funcs.ensures.value c.as_slice-blocks.ensures.value
     c.in_ok-program.ensures.program c.in_ok-check_lengths.ensures.fit in
     let bytes = all_bytes c.args.file.now c.type_inv.file in
-    let start_is = start_by c.in_ok-program.program c.as_slice-funcs.ensures.value c.as_slice-blocks.ensures.value c.in_ok-start.start c.in_ok-start.ensures.start in
+    let start_is = start_by c.in_ok-program.program c.as_slice-funcs.ensures.value c.as_slice-blocks.ensures.value c.in_ok-start.start
+    c.in_ok-start.ensures.start in
     even c.in_ok-program.program.elf c.as_slice-funcs.result.now c.in_ok-program.program.refs
     c.as_slice-blocks.result.now input bytes c.in_ok-start.start start_is
 
@@ -220,10 +224,58 @@ moved_code-requires-clause-room c =
     let input = input_of c.in_ok-program.program c.as_slice-funcs.ensures.value c.as_slice-blocks.ensures.value
     c.in_ok-program.ensures.program c.in_ok-check_lengths.ensures.fit in
     let bytes = all_bytes c.args.file.now c.type_inv.file in
-    let stands = stands_by c.in_ok-program.program c.as_slice-funcs.ensures.value c.as_slice-blocks.ensures.value c.in_ok-plan.ensures.free c.in_ok-tables.ensures.free c.in_ok-start.ensures.room in
-    let start_is = start_by c.in_ok-program.program c.as_slice-funcs.ensures.value c.as_slice-blocks.ensures.value c.in_ok-start.start c.in_ok-start.ensures.start in
+    let stands = stands_by c.in_ok-program.program c.as_slice-funcs.ensures.value c.as_slice-blocks.ensures.value
+    c.in_ok-plan.ensures.free c.in_ok-tables.ensures.free c.in_ok-start.ensures.room in
+    let start_is = start_by c.in_ok-program.program c.as_slice-funcs.ensures.value c.as_slice-blocks.ensures.value c.in_ok-start.start
+    c.in_ok-start.ensures.start in
     room c.in_ok-program.program.elf c.as_slice-funcs.result.now c.in_ok-program.program.refs
     c.as_slice-blocks.result.now input bytes stands c.in_ok-start.start start_is
+
+pub check_weight-requires-clause-ordered : goal.check_weight-requires-clause-ordered
+check_weight-requires-clause-ordered c = c.in_ok-map.ensures.mapped.map_is.ordered
+
+pub check_weight-requires-clause-disjoint : goal.check_weight-requires-clause-disjoint
+check_weight-requires-clause-disjoint c =
+    let input = input_of c.in_ok-program.program c.as_slice-funcs.ensures.value c.as_slice-blocks.ensures.value
+    c.in_ok-program.ensures.program c.in_ok-check_lengths.ensures.fit in
+    (c.in_ok-map.ensures.is_map _ _ _ input.program.blocks_are).disjoint
+
+pub check_weight-requires-clause-low : goal.check_weight-requires-clause-low
+check_weight-requires-clause-low c =
+    let input = input_of c.in_ok-program.program c.as_slice-funcs.ensures.value c.as_slice-blocks.ensures.value
+    c.in_ok-program.ensures.program c.in_ok-check_lengths.ensures.fit in
+    let bytes = all_bytes c.args.file.now c.type_inv.file in
+    let stands = stands_by c.in_ok-program.program c.as_slice-funcs.ensures.value c.as_slice-blocks.ensures.value c.in_ok-plan.ensures.free c.in_ok-tables.ensures.free c.in_ok-start.ensures.room in
+    let start_is = start_by c.in_ok-program.program c.as_slice-funcs.ensures.value c.as_slice-blocks.ensures.value c.in_ok-start.start c.in_ok-start.ensures.start in
+    spans_low c.in_ok-program.program.elf c.as_slice-funcs.result.now c.in_ok-program.program.refs
+    c.as_slice-blocks.result.now input bytes stands c.in_ok-start.start start_is c.in_ok-plan.plan.order.items
+    c.in_ok-map.map c.in_ok-map.emitted c.in_ok-map.ensures (c.in_ok-plan.ensures.all c.in_ok-parts.ensures.all)
+    c.in_ok-tables.tables c.in_ok-tables.ensures.come
+
+pub returns-in_err-check_weight-clause-refused : goal.returns-in_err-check_weight-clause-refused
+returns-in_err-check_weight-clause-refused c =
+    let input = input_of c.in_ok-program.program c.as_slice-funcs.ensures.value c.as_slice-blocks.ensures.value
+    c.in_ok-program.ensures.program c.in_ok-check_lengths.ensures.fit in
+    let bytes = all_bytes c.args.file.now c.type_inv.file in
+    let stands = stands_by c.in_ok-program.program c.as_slice-funcs.ensures.value c.as_slice-blocks.ensures.value c.in_ok-plan.ensures.free c.in_ok-tables.ensures.free c.in_ok-start.ensures.room in
+    let start_is = start_by c.in_ok-program.program c.as_slice-funcs.ensures.value c.as_slice-blocks.ensures.value c.in_ok-start.start c.in_ok-start.ensures.start in
+    let parts_are = parts_by input (profile_counts c.in_ok-counts.counts) (pairs_of c.in_ok-counts.counts) c.in_ok-parts.parts
+    c.in_ok-parts.ensures.parts c.in_ok-counts.ensures.counts in
+    let ordered : IsProfileOrder (program_of c.in_ok-program.program.elf c.as_slice-funcs.result.now c.in_ok-program.program.refs c.as_slice-blocks.result.now) c.args.profile.now (pairs_of c.in_ok-counts.counts) c.in_ok-parts.parts
+    c.in_ok-plan.plan.order.items = record {
+      parts_are = parts_are;
+      placed = subst (λ (ps : List Counted). IsPlacement c.as_slice-funcs.result.now c.as_slice-blocks.result.now c.in_ok-parts.parts ps (block_weight ps c.as_slice-funcs.result.now)
+          c.in_ok-plan.plan.order.items) c.pairs-pairs.ensures.value c.in_ok-plan.ensures.order;
+    } in
+    let p = err_from_is_err_and c.from_residual-in_err-check_weight.result c.from_residual-in_err-check_weight.ensures.1 in
+    rw (p.1, p.2) (too_heavy_refusal input stands (pairs_of c.in_ok-counts.counts) c.in_ok-parts.parts c.deref-3.result.now
+    (c.deref-3.ensures.value ∙ c.in_ok-cold.ensures) c.in_ok-check_sizes.ensures.within c.in_ok-plan.plan.order.items ordered
+    c.in_ok-map.map c.in_ok-map.emitted.code.items
+    (laid_out_by c.in_ok-program.program.elf c.as_slice-funcs.result.now c.in_ok-program.program.refs
+    c.as_slice-blocks.result.now input bytes stands c.in_ok-start.start start_is c.in_ok-plan.plan.order.items
+    c.in_ok-map.map c.in_ok-map.emitted c.in_ok-map.ensures)
+    c.in_ok-tables.tables.lines c.in_ok-tables.ensures.come.lines c.in_err-check_weight.field-0.0
+    c.in_err-check_weight.ensures.refused)
 
 pub new_tables-requires-clause-come : goal.new_tables-requires-clause-come
 new_tables-requires-clause-come c = c.in_ok-tables.ensures.come
@@ -242,8 +294,10 @@ new_tables-requires-clause-allowed c =
     let input = input_of c.in_ok-program.program c.as_slice-funcs.ensures.value c.as_slice-blocks.ensures.value
     c.in_ok-program.ensures.program c.in_ok-check_lengths.ensures.fit in
     let bytes = all_bytes c.args.file.now c.type_inv.file in
-    let stands = stands_by c.in_ok-program.program c.as_slice-funcs.ensures.value c.as_slice-blocks.ensures.value c.in_ok-plan.ensures.free c.in_ok-tables.ensures.free c.in_ok-start.ensures.room in
-    let start_is = start_by c.in_ok-program.program c.as_slice-funcs.ensures.value c.as_slice-blocks.ensures.value c.in_ok-start.start c.in_ok-start.ensures.start in
+    let stands = stands_by c.in_ok-program.program c.as_slice-funcs.ensures.value c.as_slice-blocks.ensures.value
+    c.in_ok-plan.ensures.free c.in_ok-tables.ensures.free c.in_ok-start.ensures.room in
+    let start_is = start_by c.in_ok-program.program c.as_slice-funcs.ensures.value c.as_slice-blocks.ensures.value c.in_ok-start.start
+    c.in_ok-start.ensures.start in
     allowed c.in_ok-program.program.elf c.as_slice-funcs.result.now c.in_ok-program.program.refs
     c.as_slice-blocks.result.now input bytes stands c.in_ok-start.start start_is c.in_ok-plan.plan.order.items
     c.in_ok-map.map c.in_ok-map.emitted c.in_ok-map.ensures (c.in_ok-plan.ensures.all c.in_ok-parts.ensures.all)
@@ -254,8 +308,10 @@ new_tables-requires-clause-eh_fits c =
     let input = input_of c.in_ok-program.program c.as_slice-funcs.ensures.value c.as_slice-blocks.ensures.value
     c.in_ok-program.ensures.program c.in_ok-check_lengths.ensures.fit in
     let bytes = all_bytes c.args.file.now c.type_inv.file in
-    let stands = stands_by c.in_ok-program.program c.as_slice-funcs.ensures.value c.as_slice-blocks.ensures.value c.in_ok-plan.ensures.free c.in_ok-tables.ensures.free c.in_ok-start.ensures.room in
-    let start_is = start_by c.in_ok-program.program c.as_slice-funcs.ensures.value c.as_slice-blocks.ensures.value c.in_ok-start.start c.in_ok-start.ensures.start in
+    let stands = stands_by c.in_ok-program.program c.as_slice-funcs.ensures.value c.as_slice-blocks.ensures.value
+    c.in_ok-plan.ensures.free c.in_ok-tables.ensures.free c.in_ok-start.ensures.room in
+    let start_is = start_by c.in_ok-program.program c.as_slice-funcs.ensures.value c.as_slice-blocks.ensures.value c.in_ok-start.start
+    c.in_ok-start.ensures.start in
     eh_fits c.in_ok-program.program.elf c.as_slice-funcs.result.now c.in_ok-program.program.refs
     c.as_slice-blocks.result.now input bytes stands c.in_ok-start.start start_is c.in_ok-plan.plan.order.items
     c.in_ok-map.map c.in_ok-map.emitted c.in_ok-map.ensures (c.in_ok-plan.ensures.all c.in_ok-parts.ensures.all)
@@ -266,9 +322,15 @@ new_tables-requires-clause-df_fits c = λ runs are.
     df_fits c.in_ok-program.program.elf c.in_ok-tables.tables c.in_ok-tables.ensures.come
     (file_fits c.in_ok-program.ensures.program)
 
+pub new_tables-requires-clause-lines_fit : goal.new_tables-requires-clause-lines_fit
+new_tables-requires-clause-lines_fit c =
+    lines_fit c.in_ok-program.program.elf c.in_ok-tables.tables.lines c.in_ok-tables.ensures.come.lines
+    (file_fits c.in_ok-program.ensures.program) c.in_ok-map.map c.in_ok-check_weight.ensures.light
+
 pub new_tables-requires-clause-stretch : goal.new_tables-requires-clause-stretch
 new_tables-requires-clause-stretch c =
-    subst (λ (n : ℕ). IsStretch c.in_ok-map.map c.in_ok-start.start (c.in_ok-start.start + n)) (sym (c.len-code.ensures ∙ c.in_ok-map.emitted.code.ok.0))
+    subst (λ (n : ℕ). IsStretch c.in_ok-map.map c.in_ok-start.start (c.in_ok-start.start + n))
+    (sym (c.len-code.ensures ∙ c.in_ok-map.emitted.code.ok.0))
     c.in_ok-map.ensures.stretch
 
 pub new_tables-requires-clause-low : goal.new_tables-requires-clause-low
@@ -276,8 +338,10 @@ new_tables-requires-clause-low c =
     let input = input_of c.in_ok-program.program c.as_slice-funcs.ensures.value c.as_slice-blocks.ensures.value
     c.in_ok-program.ensures.program c.in_ok-check_lengths.ensures.fit in
     let bytes = all_bytes c.args.file.now c.type_inv.file in
-    let stands = stands_by c.in_ok-program.program c.as_slice-funcs.ensures.value c.as_slice-blocks.ensures.value c.in_ok-plan.ensures.free c.in_ok-tables.ensures.free c.in_ok-start.ensures.room in
-    let start_is = start_by c.in_ok-program.program c.as_slice-funcs.ensures.value c.as_slice-blocks.ensures.value c.in_ok-start.start c.in_ok-start.ensures.start in
+    let stands = stands_by c.in_ok-program.program c.as_slice-funcs.ensures.value c.as_slice-blocks.ensures.value
+    c.in_ok-plan.ensures.free c.in_ok-tables.ensures.free c.in_ok-start.ensures.room in
+    let start_is = start_by c.in_ok-program.program c.as_slice-funcs.ensures.value c.as_slice-blocks.ensures.value c.in_ok-start.start
+    c.in_ok-start.ensures.start in
     subst (λ (n : ℕ). c.in_ok-start.start + n ≤ address_end) (sym (c.len-code.ensures ∙ c.in_ok-map.emitted.code.ok.0))
     (low c.in_ok-program.program.elf c.as_slice-funcs.result.now c.in_ok-program.program.refs
     c.as_slice-blocks.result.now input bytes stands c.in_ok-start.start start_is c.in_ok-plan.plan.order.items
@@ -289,9 +353,12 @@ new_tables-requires-clause-room c =
     let input = input_of c.in_ok-program.program c.as_slice-funcs.ensures.value c.as_slice-blocks.ensures.value
     c.in_ok-program.ensures.program c.in_ok-check_lengths.ensures.fit in
     let bytes = all_bytes c.args.file.now c.type_inv.file in
-    let stands = stands_by c.in_ok-program.program c.as_slice-funcs.ensures.value c.as_slice-blocks.ensures.value c.in_ok-plan.ensures.free c.in_ok-tables.ensures.free c.in_ok-start.ensures.room in
-    let start_is = start_by c.in_ok-program.program c.as_slice-funcs.ensures.value c.as_slice-blocks.ensures.value c.in_ok-start.start c.in_ok-start.ensures.start in
-    subst (λ (n : ℕ). HasRoomBehind c.in_ok-tables.tables.eh c.in_ok-map.map (c.in_ok-start.start + n)) (sym (c.len-code.ensures ∙ c.in_ok-map.emitted.code.ok.0))
+    let stands = stands_by c.in_ok-program.program c.as_slice-funcs.ensures.value c.as_slice-blocks.ensures.value
+    c.in_ok-plan.ensures.free c.in_ok-tables.ensures.free c.in_ok-start.ensures.room in
+    let start_is = start_by c.in_ok-program.program c.as_slice-funcs.ensures.value c.as_slice-blocks.ensures.value c.in_ok-start.start
+    c.in_ok-start.ensures.start in
+    subst (λ (n : ℕ). HasRoomBehind c.in_ok-tables.tables.eh c.in_ok-map.map (c.in_ok-start.start + n))
+    (sym (c.len-code.ensures ∙ c.in_ok-map.emitted.code.ok.0))
     (behind c.in_ok-program.program.elf c.as_slice-funcs.result.now c.in_ok-program.program.refs
     c.as_slice-blocks.result.now input bytes stands c.in_ok-start.start start_is c.in_ok-plan.plan.order.items
     c.in_ok-map.map c.in_ok-map.emitted c.in_ok-map.ensures (c.in_ok-plan.ensures.all c.in_ok-parts.ensures.all)
@@ -322,8 +389,10 @@ write-requires-clause-cells c =
     let input = input_of c.in_ok-program.program c.as_slice-funcs.ensures.value c.as_slice-blocks.ensures.value
     c.in_ok-program.ensures.program c.in_ok-check_lengths.ensures.fit in
     let bytes = all_bytes c.args.file.now c.type_inv.file in
-    let stands = stands_by c.in_ok-program.program c.as_slice-funcs.ensures.value c.as_slice-blocks.ensures.value c.in_ok-plan.ensures.free c.in_ok-tables.ensures.free c.in_ok-start.ensures.room in
-    let start_is = start_by c.in_ok-program.program c.as_slice-funcs.ensures.value c.as_slice-blocks.ensures.value c.in_ok-start.start c.in_ok-start.ensures.start in
+    let stands = stands_by c.in_ok-program.program c.as_slice-funcs.ensures.value c.as_slice-blocks.ensures.value
+    c.in_ok-plan.ensures.free c.in_ok-tables.ensures.free c.in_ok-start.ensures.room in
+    let start_is = start_by c.in_ok-program.program c.as_slice-funcs.ensures.value c.as_slice-blocks.ensures.value c.in_ok-start.start
+    c.in_ok-start.ensures.start in
     cells_held c.in_ok-program.program.elf c.as_slice-funcs.result.now c.in_ok-program.program.refs
     c.as_slice-blocks.result.now input bytes stands c.in_ok-start.start start_is c.in_ok-plan.plan.order.items
     c.in_ok-map.map c.in_ok-map.emitted c.in_ok-map.ensures
@@ -333,8 +402,10 @@ write-requires-clause-apart c =
     let input = input_of c.in_ok-program.program c.as_slice-funcs.ensures.value c.as_slice-blocks.ensures.value
     c.in_ok-program.ensures.program c.in_ok-check_lengths.ensures.fit in
     let bytes = all_bytes c.args.file.now c.type_inv.file in
-    let stands = stands_by c.in_ok-program.program c.as_slice-funcs.ensures.value c.as_slice-blocks.ensures.value c.in_ok-plan.ensures.free c.in_ok-tables.ensures.free c.in_ok-start.ensures.room in
-    let start_is = start_by c.in_ok-program.program c.as_slice-funcs.ensures.value c.as_slice-blocks.ensures.value c.in_ok-start.start c.in_ok-start.ensures.start in
+    let stands = stands_by c.in_ok-program.program c.as_slice-funcs.ensures.value c.as_slice-blocks.ensures.value
+    c.in_ok-plan.ensures.free c.in_ok-tables.ensures.free c.in_ok-start.ensures.room in
+    let start_is = start_by c.in_ok-program.program c.as_slice-funcs.ensures.value c.as_slice-blocks.ensures.value c.in_ok-start.start
+    c.in_ok-start.ensures.start in
     cells_apart c.in_ok-program.program.elf c.as_slice-funcs.result.now c.in_ok-program.program.refs
     c.as_slice-blocks.result.now input bytes stands c.in_ok-start.start start_is c.in_ok-plan.plan.order.items
     c.in_ok-map.map c.in_ok-map.emitted c.in_ok-map.ensures
@@ -350,14 +421,19 @@ returns-clause-rewritten c =
     let input = input_of c.in_ok-program.program c.as_slice-funcs.ensures.value c.as_slice-blocks.ensures.value
     c.in_ok-program.ensures.program c.in_ok-check_lengths.ensures.fit in
     let bytes = all_bytes c.args.file.now c.type_inv.file in
-    let stands = stands_by c.in_ok-program.program c.as_slice-funcs.ensures.value c.as_slice-blocks.ensures.value c.in_ok-plan.ensures.free c.in_ok-tables.ensures.free c.in_ok-start.ensures.room in
-    let start_is = start_by c.in_ok-program.program c.as_slice-funcs.ensures.value c.as_slice-blocks.ensures.value c.in_ok-start.start c.in_ok-start.ensures.start in
+    let stands = stands_by c.in_ok-program.program c.as_slice-funcs.ensures.value c.as_slice-blocks.ensures.value
+    c.in_ok-plan.ensures.free c.in_ok-tables.ensures.free c.in_ok-start.ensures.room in
+    let start_is = start_by c.in_ok-program.program c.as_slice-funcs.ensures.value c.as_slice-blocks.ensures.value c.in_ok-start.start
+    c.in_ok-start.ensures.start in
     let parts_are = parts_by input (profile_counts c.in_ok-counts.counts) (pairs_of c.in_ok-counts.counts) c.in_ok-parts.parts
     c.in_ok-parts.ensures.parts c.in_ok-counts.ensures.counts in
-    let ordered : IsProfileOrder (program_of c.in_ok-program.program.elf c.as_slice-funcs.result.now c.in_ok-program.program.refs c.as_slice-blocks.result.now) c.args.profile.now (pairs_of c.in_ok-counts.counts) c.in_ok-parts.parts
+    let ordered : IsProfileOrder
+    (program_of c.in_ok-program.program.elf c.as_slice-funcs.result.now c.in_ok-program.program.refs c.as_slice-blocks.result.now)
+    c.args.profile.now (pairs_of c.in_ok-counts.counts) c.in_ok-parts.parts
     c.in_ok-plan.plan.order.items = record {
       parts_are = parts_are;
-      placed = subst (λ (ps : List Counted). IsPlacement c.as_slice-funcs.result.now c.as_slice-blocks.result.now c.in_ok-parts.parts ps (block_weight ps c.as_slice-funcs.result.now)
+      placed = subst (λ (ps : List Counted). IsPlacement c.as_slice-funcs.result.now c.as_slice-blocks.result.now c.in_ok-parts.parts ps
+          (block_weight ps c.as_slice-funcs.result.now)
           c.in_ok-plan.plan.order.items) c.pairs-pairs.ensures.value c.in_ok-plan.ensures.order;
     } in
     rewritten c.in_ok-program.program.elf c.as_slice-funcs.result.now c.in_ok-program.program.refs
@@ -370,12 +446,16 @@ returns-clause-rewritten c =
     c.in_ok-given.given.items) (c.len-code.ensures ∙ c.in_ok-map.emitted.code.ok.0) c.in_ok-given.ensures))
     c.deref-4.result.now c.in_ok-written.written.items
     (subst (λ (bs : List ℕ). All (λ b. b < 256) bs) c.deref-6.ensures.value c.are_bytes.ensures)
-    c.in_ok-written.ensures.written c.in_ok-written.ensures.tables c.in_ok-written.ensures.stand (pairs_of c.in_ok-counts.counts) c.in_ok-parts.parts ordered
+    c.in_ok-written.ensures.written c.in_ok-written.ensures.tables c.in_ok-written.ensures.stand (pairs_of c.in_ok-counts.counts)
+    c.in_ok-parts.parts ordered
     (c.deref-4.ensures.value ∙ c.in_ok-cold.ensures)
     (subst (λ (cs : List ℕ). (place : ℕ) → IsTooLarge c.in_ok-program.program.elf c.as_slice-funcs.result.now cs place → ⊥)
     (c.deref-3.ensures.value ∙ sym c.deref-4.ensures.value)
     c.in_ok-check_sizes.ensures.within)
+    (not_heavy c.in_ok-program.program.elf c.in_ok-tables.tables.lines c.in_ok-tables.ensures.come.lines c.in_ok-map.map
+    c.in_ok-check_weight.ensures.light)
     c.in_ok-instructions.instructions c.len-code.result c.count_hot.result c.ignored.result
     c.in_ok-instructions.ensures (c.len-code.ensures ∙ c.in_ok-map.emitted.code.ok.0)
-    (hot_counted (pairs_of c.in_ok-counts.counts) c.as_slice-funcs.result.now c.as_slice-blocks.result.now c.deref-7.result.now c.in_ok-weights.weights.items c.count_hot.result c.deref-7.ensures.value
+    (hot_counted (pairs_of c.in_ok-counts.counts) c.as_slice-funcs.result.now c.as_slice-blocks.result.now c.deref-7.result.now
+    c.in_ok-weights.weights.items c.count_hot.result c.deref-7.ensures.value
     c.in_ok-weights.ensures.weights c.count_hot.ensures) (c.ignored.ensures ∙ c.in_ok-counts.ensures.ignored)

@@ -1,6 +1,7 @@
--- What frame tables of a written file answer at new code. DWARF 5, section 6.4; LSB, "The .eh_frame section".
-use Rattle.std.specs.Prelude.{◌≡◌, ◌++◌, ℕ, IsTrue, List, [], ◌∷◌, Some, None, codes}
+-- What tables of a written file answer at new code. DWARF 5, sections 6.2 and 6.4; LSB, "The .eh_frame section".
+use Rattle.std.specs.Prelude.{◌≡◌, ℕ, IsTrue, List, Some, None, codes}
 use Rattle.elf_image.specs.declared.elf.Elf.{Elf}
+use Rattle.rb_bytes.specs.FirstFault.{IsFree}
 use Rattle.addr_map.specs.declared.span.Span.{Span}
 use Rattle.addr_map.specs.Spans.{owner}
 use Rattle.table_core.specs.CarriedAnswers.{Agree}
@@ -9,19 +10,23 @@ use Rattle.frame_rewrite.specs.CarriedFrames.{IsCarriedFrame}
 use Rattle.frame_rewrite.specs.Faults.{malformed_entry}
 use Rattle.frame_rewrite.specs.FrameAnswers.{df, eh}
 use Rattle.frame_rewrite.specs.Index.{StandsIndex, has_frames, has_index}
+use Rattle.frame_rewrite.specs.Tables.{EndsWithMark}
+use Rattle.line_rewrite.specs.KeptLineUnits.{AreKeptUnits}
+use Rattle.line_rewrite.specs.Tables.{HasLineFault, line, line_sections}
 
 -- the answers of the file f at a byte are those of the input i at its owner, carried by the map
 pub record AnswersCarried (spans : List Span) (i f : Elf) (p o : ℕ) : Type 0 where
+  pub line_is : line f p ≡ line i o
   pub eh_is : Agree (IsCarriedFrame spans) (eh i o) (eh f p)
   pub df_is : Agree (IsCarriedFrame spans) (df i o) (df f p)
 
--- a program that reads a table from its start on finds its end
-abbrev pub EndsWithNone : List ℕ → Type 0
-EndsWithNone bytes = (front : List ℕ) × (bytes ≡ front ++ (0 ∷ 0 ∷ 0 ∷ 0 ∷ []))
-
-pub record CarriesFrames (spans : List Span) (i f : Elf) : Type 0 where
+pub record CarriesTables (spans : List Span) (i f : Elf) : Type 0 where
   -- at each byte of the new code
   pub answers : (p o : ℕ) → owner spans p ≡ Some o → AnswersCarried spans i f p o
+  -- no table has a fault
   pub sound : malformed_entry f ≡ None
-  pub ends : IsTrue (has_frames i) → EndsWithNone (bytes_of f (codes ".eh_frame"))
+  pub lines_sound : IsFree (HasLineFault (line_sections f))
+  pub ends : IsTrue (has_frames i) → EndsWithMark (bytes_of f (codes ".eh_frame"))
   pub index : IsTrue (has_index i) → StandsIndex f
+  -- line units are kept, with their directories and files
+  pub line_units : AreKeptUnits i f
