@@ -5,8 +5,10 @@ use Rattle.std.proofs.lemmas.Grind.{common_steps}
 use Rattle.std.proofs.lemmas.List.{append-nil}
 use Rattle.std.specs.Prelude.{All}
 use Rattle.std.specs.List.{position_or_len}
+use Rattle.table_core.specs.declared.run.Run.{Run}
 use Rattle.cfi_rows.specs.Entries.{RawEntry}
-use Rattle.frame_rewrite.specs.SpelledFrames.{zeros, padding, spelled_entry}
+use Rattle.frame_rewrite.specs.FrameAnswers.{FrameAnswer}
+use Rattle.frame_rewrite.specs.SpelledFrames.{zeros, padding, spelled_entry, spelled_row_before, spelled_rows}
 use Rattle.frame_rewrite.proofs.EntriesBack.{spelled-length}
 
 pub next-is : {A : Type 0} (xs : List A) (i : ℕ) (d : A) → i < length xs → drop i xs ≡ get_or xs i d ∷ drop (i + 1) xs
@@ -33,9 +35,28 @@ spelled-more spelled xs i x d o new want h is e w =
     ∙ ap (λ y. o ++ (spelled y ++ flat_map spelled (drop (i + 1) xs))) is
     ∙ ap (λ l. o ++ flat_map spelled l) (sym n) ∙ w
 
+-- an item behind the first
+pub item-behind : {A : Type 0} (x : A) (xs : List A) (i : ℕ) (d : A) → get_or (x ∷ xs) (i + 1) d ≡ get_or xs i d
+item-behind x xs i d = rw add-one refl
+
+-- the row of a run, and those of the runs behind it
+pub rows-more : (o new want : List ℕ) (last r : Run FrameAnswer) (more : List (Run FrameAnswer)) (i : ℕ) → i < length more
+    → r ≡ get_or more i r → new ≡ o ++ spelled_row_before last.answer.row r.start
+    → o ++ spelled_rows last.answer.row (drop i more) ≡ want → new ++ spelled_rows r.answer.row (drop (i + 1) more) ≡ want
+rows-more o new want last r more i h is e w =
+    let rest = drop (i + 1) more in
+    ap (λ (l : List ℕ). l ++ spelled_rows r.answer.row rest) e
+    ∙ append_assoc o (spelled_row_before last.answer.row r.start) (spelled_rows r.answer.row rest)
+    ∙ ap (λ (q : Run FrameAnswer). o ++ spelled_rows last.answer.row (q ∷ rest)) is
+    ∙ ap (λ (l : List (Run FrameAnswer)). o ++ spelled_rows last.answer.row l) (sym (next-is more i r h)) ∙ w
+
 pub spelled-all : {A : Type 0} (spelled : A → List ℕ) (xs : List A) (i : ℕ) (o want : List ℕ) → length xs ≤ i
     → o ++ flat_map spelled (drop i xs) ≡ want → o ≡ want
 spelled-all spelled xs i o want h w = sym (append-nil o) ∙ ap (λ l. o ++ flat_map spelled l) (sym (past-end xs i h)) ∙ w
+
+pub five-puts : (o a b c d e x y z t r : List ℕ) → a ≡ o ++ x → b ≡ a ++ y → c ≡ b ++ z → d ≡ c ++ t → e ≡ d ++ r
+    → e ≡ o ++ (x ++ (y ++ (z ++ (t ++ r))))
+five-puts o a b c d e x y z t r p q u v w = rw (w, v, u, q, p) (simp append_assoc)
 
 pub six-puts : (o a b c d e f x y z t r s : List ℕ) → a ≡ o ++ x → b ≡ a ++ y → c ≡ b ++ z → d ≡ c ++ t → e ≡ d ++ r
     → f ≡ e ++ s → f ≡ o ++ (x ++ (y ++ (z ++ (t ++ (r ++ s)))))

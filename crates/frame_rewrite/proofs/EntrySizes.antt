@@ -1,6 +1,6 @@
 -- How many bytes written entries have.
 use Rattle.std.proofs.Common.{ℕ, zero, suc, ◌+◌, ◌-◌, ◌*◌, ◌≤◌, ◌≡◌, List, [], ◌∷◌, ◌++◌, Bool, refl, sym, ◌∙◌, ap, subst, arith, length}
-use Rattle.std.proofs.Common.{take, drop, flat_map, length-append}
+use Rattle.std.proofs.Common.{take, drop, length-append}
 use Rattle.std.specs.Prelude.{sum_by}
 use Rattle.std.proofs.lemmas.List.Sums.{sum_by-cons, sum_by-take-drop}
 use Rattle.byteorder.specs.Endian.{little_bytes}
@@ -17,7 +17,8 @@ use Rattle.cfi_rows.specs.EntryCounts.{cfa_bytes, rule_bytes}
 use Rattle.cfi_rows.specs.FrameRows.{RowValue, Rules}
 use Rattle.frame_rewrite.specs.declared.cie_key.CieKey.{CieKey}
 use Rattle.frame_rewrite.specs.FrameAnswers.{FrameAnswer}
-use Rattle.frame_rewrite.specs.SpelledFrames.{spelled_block, spelled_cfa, spelled_rule, spelled_rules, spelled_row, spelled_next, spelled_entries, zeros, padding}
+use Rattle.frame_rewrite.specs.SpelledFrames.{spelled_block, spelled_cfa, spelled_rule, spelled_rules, spelled_row, spelled_row_before, spelled_rows}
+use Rattle.frame_rewrite.specs.SpelledFrames.{spelled_entries, zeros, padding}
 use Rattle.frame_rewrite.specs.SpelledFrames.{start_of, last_end, fde_fields, fde_body, fde_entry, fde_entries, more_count}
 use Rattle.frame_rewrite.specs.Tables.{rules_bytes, run_size}
 use Rattle.frame_rewrite.proofs.NumbersBack.{length-little, length-zeros}
@@ -81,24 +82,24 @@ rules-size (x ∷ xs) =
 abbrev row_count : RowValue → ℕ
 row_count row = 21 * length row.rules + (cfa_bytes row.cfa + rules_bytes row.rules)
 
-row-size : (row : RowValue) → length (spelled_row row) ≤ 22 + row_count row
+row-size : (row : RowValue) → length (spelled_row row) ≤ 21 + row_count row
 row-size row =
     let e : length (spelled_cfa row.cfa ++ spelled_rules row.rules)
     ≡ length (spelled_cfa row.cfa) + length (spelled_rules row.rules) = length-append (spelled_cfa row.cfa)
     (spelled_rules row.rules) in
     sums _ (length (spelled_cfa row.cfa)) (length (spelled_rules row.rules)) (cfa_bytes row.cfa) (length row.rules)
     (rules_bytes row.rules) e (cfa-size row.cfa) (rules-size row.rules) where
-      sums : (t a b x n r : ℕ) → t ≡ a + b → a ≤ 21 + x → b ≤ 21 * n + r → suc t ≤ 22 + (21 * n + (x + r))
+      sums : (t a b x n r : ℕ) → t ≡ a + b → a ≤ 21 + x → b ≤ 21 * n + r → t ≤ 21 + (21 * n + (x + r))
       sums t a b x n r e h g = omega arith
 
 behind-eight : (d : ℕ) (xs : List ℕ) → length (little_bytes 8 d ++ xs) ≡ 8 + length xs
 behind-eight d xs = length-append (little_bytes 8 d) xs ∙ ap (λ (n : ℕ). n + length xs) (length-little 8 d)
 
-next-size : (r : Run FrameAnswer) → length (spelled_next r) ≤ 32 + row_count r.answer.row
-next-size r = sums _ _ (length (spelled_row r.answer.row)) (row_count r.answer.row)
-    (behind-eight r.start (0x0b ∷ spelled_row r.answer.row)) refl (row-size r.answer.row) where
-      sums : (t u a n : ℕ) → t ≡ 8 + u → u ≡ suc a → a ≤ 22 + n → suc t ≤ 32 + n
-      sums t u a n e f h = omega arith
+before-size : (row : RowValue) (a : ℕ) → length (spelled_row_before row a) ≤ 32 + row_count row
+before-size row a = sums _ (length (spelled_row row)) _ (row_count row)
+    (length-append (spelled_row row) (1 ∷ (little_bytes 8 a ++ 0x0b ∷ []))) (behind-eight a (0x0b ∷ [])) (row-size row) where
+      sums : (t n b c : ℕ) → t ≡ n + suc b → b ≡ 9 → n ≤ 21 + c → suc t ≤ 32 + c
+      sums t n b c e f h = omega arith
 
 abbrev total : Runs → ℕ
 total rs = sum_by (λ (r : Run FrameAnswer). run_size r.answer) rs
@@ -111,30 +112,29 @@ counted r = sums (length r.answer.row.rules) (cfa_bytes r.answer.row.cfa + rules
   sums : (n x : ℕ) → 88 + (21 * n + x) ≤ 64 + 24 * (n + 1) + x
   sums n x = omega arith
 
-more-size : (rs : Runs) → length (flat_map spelled_next rs) + 8 * length rs ≤ total rs
-more-size [] = omega arith
-more-size (r ∷ rs) =
-    let e : length (spelled_next r ++ flat_map spelled_next rs)
-    ≡ length (spelled_next r) + length (flat_map spelled_next rs) = length-append (spelled_next r)
-    (flat_map spelled_next rs) in
-    sums _ (length (spelled_next r)) (length (flat_map spelled_next rs)) (row_count r.answer.row) (run_size r.answer)
-    (length rs) (total rs) _ e (next-size r) (counted r) (more-size rs) (total-cons r rs) where
-      sums : (t a b x s n m u : ℕ) → t ≡ a + b → a ≤ 32 + x → 88 + x ≤ s → b + 8 * n ≤ m → u ≡ s + m → t + 8 * suc n ≤ u
-      sums t a b x s n m u e h c g k = omega arith
+rows-size : (row : RowValue) (rs : Runs) → length (spelled_rows row rs) + 8 * length rs ≤ 22 + row_count row + total rs
+rows-size row [] = let r = row-size row in omega arith
+rows-size row (r ∷ rs) =
+    sums _ (length (spelled_row_before row r.start)) (length (spelled_rows r.answer.row rs)) (row_count row)
+    (row_count r.answer.row) (run_size r.answer) (length rs) (total rs) _
+    (length-append (spelled_row_before row r.start) (spelled_rows r.answer.row rs)) (before-size row r.start)
+    (rows-size r.answer.row rs) (counted r) (total-cons r rs) where
+      sums : (t a b x y s n m u : ℕ) → t ≡ a + b → a ≤ 32 + x → b + 8 * n ≤ 22 + y + m → 88 + y ≤ s → u ≡ s + m
+          → t + 8 * suc n ≤ 22 + x + u
+      sums t a b x y s n m u e h g c k = omega arith
 
 fields-size : (spans : List Span) (r : Run FrameAnswer) (more : Runs)
-    → length (fde_fields spans r more) ≡ 25 + (length (spelled_row r.answer.row) + length (flat_map spelled_next more))
+    → length (fde_fields spans r more) ≡ 25 + length (spelled_rows r.answer.row more)
 fields-size spans r more =
-    sums _ _ _ _ _ _
+    sums _ _ _ _ _
     (behind-eight (start_of spans r) (little_bytes 8 (last_end (r.start + r.len) more - start_of spans r)
-    ++ (8 ∷ (little_bytes 8 r.answer.table ++ (spelled_row r.answer.row ++ flat_map spelled_next more)))))
+    ++ (8 ∷ (little_bytes 8 r.answer.table ++ spelled_rows r.answer.row more))))
     (behind-eight (last_end (r.start + r.len) more - start_of spans r)
-    (8 ∷ (little_bytes 8 r.answer.table ++ (spelled_row r.answer.row ++ flat_map spelled_next more))))
+    (8 ∷ (little_bytes 8 r.answer.table ++ spelled_rows r.answer.row more)))
     refl
-    (behind-eight r.answer.table (spelled_row r.answer.row ++ flat_map spelled_next more))
-    (length-append (spelled_row r.answer.row) (flat_map spelled_next more)) where
-      sums : (t u v w x y : ℕ) → t ≡ 8 + u → u ≡ 8 + v → v ≡ suc w → w ≡ 8 + x → x ≡ y → t ≡ 25 + y
-      sums t u v w x y a b c d e = omega arith
+    (behind-eight r.answer.table (spelled_rows r.answer.row more)) where
+      sums : (t u v w x : ℕ) → t ≡ 8 + u → u ≡ 8 + v → v ≡ suc w → w ≡ 8 + x → t ≡ 25 + x
+      sums t u v w x a b c d = omega arith
 
 body-size : (spans : List Span) (r : Run FrameAnswer) (more : Runs)
     → 8 + length (fde_body spans r more) + 8 * suc (length more) ≤ run_size r.answer + total more
@@ -142,16 +142,16 @@ body-size spans r more =
     let f = fields-size spans r more in
     let b = length-append (fde_fields spans r more) (zeros (padding (length (fde_fields spans r more)))) in
     let z = length-zeros (padding (length (fde_fields spans r more))) in
-    sums _ (length (fde_fields spans r more)) _ (length (spelled_row r.answer.row)) (length (flat_map spelled_next more))
-    (row_count r.answer.row) (run_size r.answer) (length more) (total more)
-    b (subst (λ (n : ℕ). n ≤ 7) (sym z) (padded (length (fde_fields spans r more)))) f (row-size r.answer.row) (counted r)
-    (more-size more) where
+    sums _ (length (fde_fields spans r more)) _ (length (spelled_rows r.answer.row more)) (row_count r.answer.row)
+    (run_size r.answer) (length more) (total more)
+    b (subst (λ (n : ℕ). n ≤ 7) (sym z) (padded (length (fde_fields spans r more)))) f (counted r)
+    (rows-size r.answer.row more) where
       padded : (n : ℕ) → padding n ≤ 7
       padded n = omega arith
 
-      sums : (t f z a m x s n u : ℕ) → t ≡ f + z → z ≤ 7 → f ≡ 25 + (a + m) → a ≤ 22 + x → 88 + x ≤ s → m + 8 * n ≤ u
+      sums : (t f z a x s n u : ℕ) → t ≡ f + z → z ≤ 7 → f ≡ 25 + a → 88 + x ≤ s → a + 8 * n ≤ 22 + x + u
           → 8 + t + 8 * suc n ≤ s + u
-      sums t f z a m x s n u e p g h c k = omega arith
+      sums t f z a x s n u e p g c k = omega arith
 
 total-split : (k : ℕ) (rs : Runs) → total rs ≡ total (take k rs) + total (drop k rs)
 total-split k rs = sym (sum_by-take-drop (λ (r : Run FrameAnswer). run_size r.answer) rs k)

@@ -1,6 +1,6 @@
 -- An FDE that is written is read back.
 use Rattle.std.proofs.Common.{ℕ, zero, suc, ◌+◌, ◌-◌, ◌^◌, ◌≤◌, ◌<◌, ◌≡◌, ◌==◌, List, [], ◌∷◌, ◌++◌, Some, Ok, cond, ltb, true, false, refl}
-use Rattle.std.proofs.Common.{◌∙◌, ap, arith, length, flat_map}
+use Rattle.std.proofs.Common.{◌∙◌, ap, arith, length}
 use Rattle.std.specs.Prelude.{All}
 use Rattle.std.proofs.lemmas.Bool.Decides.{nat_tests}
 use Rattle.byteorder.specs.Endian.{little_bytes}
@@ -15,7 +15,7 @@ use Rattle.cfi_rows.specs.Entries.{RawEntry, Cie, Fde, fde_at, size_encoding, ta
 use Rattle.frame_rewrite.specs.declared.cie_key.CieKey.{CieKey}
 use Rattle.frame_rewrite.specs.FrameAnswers.{FrameAnswer}
 use Rattle.frame_rewrite.specs.SpelledFits.{RowFits}
-use Rattle.frame_rewrite.specs.SpelledFrames.{spelled_row, spelled_next, zeros, padding, start_of, last_end, fde_fields, fde_body}
+use Rattle.frame_rewrite.specs.SpelledFrames.{spelled_rows, zeros, padding, start_of, last_end, fde_fields, fde_body}
 use Rattle.frame_rewrite.proofs.NumbersBack.{number-back, bytes-back}
 use Rattle.frame_rewrite.proofs.InstructionsBack.{program, program-back, nops}
 use Rattle.frame_rewrite.proofs.RowsBack.{placed, Follow, rows-back}
@@ -85,14 +85,14 @@ fde-back spans k end place id r more least h t f follow starts fit =
     (program r.answer.row more ++ nops (padding (length (fde_fields spans r more)))) _
     (ap (λ (x : Read ℕ). and_then x (λ stored rest. Ok (stored, rest)))
     (number-back 8 (start_of spans r) (little_bytes 8 (last_end (r.start + r.len) more - start_of spans r)
-    ++ (8 ∷ (little_bytes 8 r.answer.table ++ ((spelled_row r.answer.row ++ flat_map spelled_next more) ++ zeros
+    ++ (8 ∷ (little_bytes 8 r.answer.table ++ (spelled_rows r.answer.row more ++ zeros
     (padding (length (fde_fields spans r more))))))) (small _ _ least h)))
     (number-back 8 (last_end (r.start + r.len) more - start_of spans r)
-    (8 ∷ (little_bytes 8 r.answer.table ++ ((spelled_row r.answer.row ++ flat_map spelled_next more) ++ zeros
+    (8 ∷ (little_bytes 8 r.answer.table ++ (spelled_rows r.answer.row more ++ zeros
     (padding (length (fde_fields spans r more)))))) (small_size _ _ h))
     (sized _ _ least)
     h
-    (table-back k end r.answer.table ((spelled_row r.answer.row ++ flat_map spelled_next more) ++ zeros
+    (table-back k end r.answer.table (spelled_rows r.answer.row more ++ zeros
     (padding (length (fde_fields spans r more)))) t)
     (program-back end (padding (length (fde_fields spans r more))) r.answer.row more f starts fit)
     (rows-back (start_of spans r) (padding (length (fde_fields spans r more))) r.answer.row more f.rules follow) where

@@ -1,6 +1,6 @@
 -- Instructions that are written are read back.
 use Rattle.std.proofs.Common.{ℕ, zero, suc, ℤ, pos, ◌*ℤ◌, ◌+◌, ◌-◌, ◌^◌, ◌≤◌, ◌<◌, ◌≡◌, List, [], ◌∷◌, ◌++◌, Ok, refl, sym, ◌∙◌}
-use Rattle.std.proofs.Common.{ap, subst, arith, length, append_assoc, length-append, FitsSigned, map, flat_map}
+use Rattle.std.proofs.Common.{ap, subst, arith, length, append_assoc, length-append, FitsSigned, map}
 use Rattle.std.specs.Prelude.{All}
 use Rattle.std.specs.Int.{w64, int_wrap}
 use Rattle.std.proofs.Math.IntN.{*ℤ-one}
@@ -22,7 +22,8 @@ use Rattle.cfi_rows.specs.FrameRows.{RowValue, Rules}
 use Rattle.cfi_rows.specs.FrameInstructions.{Read, Context, instruction_of, instruction_at, instructions_in, instructions_at}
 use Rattle.frame_rewrite.specs.FrameAnswers.{FrameAnswer}
 use Rattle.frame_rewrite.specs.SpelledFits.{CfaFits, RuleFits, RulesFit, RowFits}
-use Rattle.frame_rewrite.specs.SpelledFrames.{spelled_block, spelled_cfa, spelled_rule, spelled_rules, spelled_row, spelled_next, zeros}
+use Rattle.frame_rewrite.specs.SpelledFrames.{spelled_block, spelled_cfa, spelled_rule, spelled_rules, spelled_row, spelled_row_before, zeros}
+use Rattle.frame_rewrite.specs.SpelledFrames.{spelled_rows}
 use Rattle.frame_rewrite.proofs.NumbersBack.{byte-back, uleb-back, sleb-back, block-back, number-back, length-zeros}
 
 -- what the writer's entries are read under
@@ -159,13 +160,14 @@ abbrev pub rule_list : Rules → List Instruction
 rule_list rules = map (λ (x : ℕ × Rule). SetRule x.0 x.1) rules
 
 abbrev pub row_instructions : RowValue → List Instruction
-row_instructions row = RememberState ∷ DefCfa row.cfa ∷ rule_list row.rules
+row_instructions row = DefCfa row.cfa ∷ rule_list row.rules
 
-abbrev pub next_instructions : Run FrameAnswer → List Instruction
-next_instructions r = SetLoc r.start ∷ RestoreState ∷ row_instructions r.answer.row
+abbrev pub instructions_before : RowValue → ℕ → List Instruction
+instructions_before row location = RememberState ∷ (row_instructions row ++ SetLoc location ∷ RestoreState ∷ [])
 
 abbrev pub program : RowValue → List (Run FrameAnswer) → List Instruction
-program row more = row_instructions row ++ flat_map next_instructions more
+program row [] = row_instructions row
+program row (r ∷ rs) = instructions_before row r.start ++ program r.answer.row rs
 
 abbrev pub nops : ℕ → List Instruction
 nops zero = []
@@ -185,36 +187,36 @@ remembers end = spells-one end (0x0a ∷ []) RememberState (omega arith) (λ res
 restores : (end : ℕ) → Spells end (0x0b ∷ []) (RestoreState ∷ [])
 restores end = spells-one end (0x0b ∷ []) RestoreState (omega arith) (λ rest. opens (plain end) 0x0b [] rest)
 
-pub spells-row : (end : ℕ) (row : RowValue) → RowFits row → Spells end (spelled_row row) (row_instructions row)
+spells-row : (end : ℕ) (row : RowValue) → RowFits row → Spells end (spelled_row row) (row_instructions row)
 spells-row end row f =
-    spells-both end (0x0a ∷ []) (spelled_cfa row.cfa ++ spelled_rules row.rules) (RememberState ∷ [])
-    (DefCfa row.cfa ∷ rule_list row.rules) (remembers end)
-    (spells-both end (spelled_cfa row.cfa) (spelled_rules row.rules) (DefCfa row.cfa ∷ []) (rule_list row.rules)
+    spells-both end (spelled_cfa row.cfa) (spelled_rules row.rules) (DefCfa row.cfa ∷ []) (rule_list row.rules)
     (spells-one end (spelled_cfa row.cfa) (DefCfa row.cfa) (cfa_length row.cfa) (λ rest. cfa-back end row.cfa rest f.cfa))
-    (spells-rules end 0 row.rules f.rules))
+    (spells-rules end 0 row.rules f.rules)
 
 spells-location : (end a : ℕ) → a < 2 ^ 64 → Spells end (1 ∷ little_bytes 8 a) (SetLoc a ∷ [])
 spells-location end a h = spells-one end (1 ∷ little_bytes 8 a) (SetLoc a) (omega arith) (λ rest. location-back end a rest h)
 
-spells-next : (end : ℕ) (r : Run FrameAnswer) → r.start < 2 ^ 64 → RowFits r.answer.row
-    → Spells end (spelled_next r) (next_instructions r)
-spells-next end r h f =
-    spells-both end (1 ∷ little_bytes 8 r.start) (0x0b ∷ spelled_row r.answer.row) (SetLoc r.start ∷ [])
-    (RestoreState ∷ row_instructions r.answer.row)
-    (spells-location end r.start h)
-    (spells-both end (0x0b ∷ []) (spelled_row r.answer.row) (RestoreState ∷ []) (row_instructions r.answer.row)
-    (restores end) (spells-row end r.answer.row f))
+spells-before : (end : ℕ) (row : RowValue) (a : ℕ) → RowFits row → a < 2 ^ 64
+    → Spells end (spelled_row_before row a) (instructions_before row a)
+spells-before end row a f h =
+    spells-both end (0x0a ∷ []) (spelled_row row ++ (1 ∷ (little_bytes 8 a ++ 0x0b ∷ []))) (RememberState ∷ [])
+    (row_instructions row ++ SetLoc a ∷ RestoreState ∷ []) (remembers end)
+    (spells-both end (spelled_row row) (1 ∷ (little_bytes 8 a ++ 0x0b ∷ [])) (row_instructions row) (SetLoc a ∷ RestoreState ∷ [])
+    (spells-row end row f)
+    (spells-both end (1 ∷ little_bytes 8 a) (0x0b ∷ []) (SetLoc a ∷ []) (RestoreState ∷ []) (spells-location end a h) (restores end)))
 
-pub spells-more : (end : ℕ) (more : List (Run FrameAnswer)) → All (λ (r : Run FrameAnswer). r.start < 2 ^ 64) more
+spells-rows : (end : ℕ) (row : RowValue) (more : List (Run FrameAnswer)) → RowFits row
+    → All (λ (r : Run FrameAnswer). r.start < 2 ^ 64) more
     → All (λ (r : Run FrameAnswer). RowFits r.answer.row) more
-    → Spells end (flat_map spelled_next more) (flat_map next_instructions more)
-spells-more end [] h f = spells-nothing end
-spells-more end (r ∷ rs) h f =
-    spells-both end (spelled_next r) (flat_map spelled_next rs) (next_instructions r) (flat_map next_instructions rs)
-    (spells-next end r (All-head (λ (r : Run FrameAnswer). r.start < 2 ^ 64) r rs h)
-    (All-head (λ (r : Run FrameAnswer). RowFits r.answer.row) r rs f))
-    (spells-more end rs (All-tail (λ (r : Run FrameAnswer). r.start < 2 ^ 64) r rs h)
-    (All-tail (λ (r : Run FrameAnswer). RowFits r.answer.row) r rs f))
+    → Spells end (spelled_rows row more) (program row more)
+spells-rows end row [] f h g = spells-row end row f
+spells-rows end row (r ∷ rs) f h g =
+    spells-both end (spelled_row_before row r.start) (spelled_rows r.answer.row rs) (instructions_before row r.start)
+    (program r.answer.row rs)
+    (spells-before end row r.start f (All-head (λ (r : Run FrameAnswer). r.start < 2 ^ 64) r rs h))
+    (spells-rows end r.answer.row rs (All-head (λ (r : Run FrameAnswer). RowFits r.answer.row) r rs g)
+    (All-tail (λ (r : Run FrameAnswer). r.start < 2 ^ 64) r rs h)
+    (All-tail (λ (r : Run FrameAnswer). RowFits r.answer.row) r rs g))
 
 pub nops-in : (end k n : ℕ) → k ≤ n → instructions_in (plain end) n (zeros k) ≡ Ok (nops k)
 nops-in end zero n h = in-end (plain end) n
@@ -226,10 +228,7 @@ nops-in end (suc k) n h =
 pub program-back : (end k : ℕ) (row : RowValue) (more : List (Run FrameAnswer)) → RowFits row
     → All (λ (r : Run FrameAnswer). r.start < 2 ^ 64) more
     → All (λ (r : Run FrameAnswer). RowFits r.answer.row) more
-    → instructions_at (plain end) ((spelled_row row ++ flat_map spelled_next more) ++ zeros k)
-    ≡ Ok (program row more ++ nops k)
+    → instructions_at (plain end) (spelled_rows row more ++ zeros k) ≡ Ok (program row more ++ nops k)
 program-back end k row more f h g =
-    (spells-both end (spelled_row row) (flat_map spelled_next more) (row_instructions row)
-    (flat_map next_instructions more) (spells-row end row f) (spells-more end more h g)).reads
-    (length ((spelled_row row ++ flat_map spelled_next more) ++ zeros k)) (zeros k) (nops k) (omega arith)
+    (spells-rows end row more f h g).reads (length (spelled_rows row more ++ zeros k)) (zeros k) (nops k) (omega arith)
     (λ m l. nops-in end k m (let e : length (zeros k) ≡ k = length-zeros k in omega arith))

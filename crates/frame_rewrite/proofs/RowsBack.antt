@@ -1,17 +1,18 @@
--- The instructions of an entry describe its rows: each row begins from the state that was remembered first, in which nothing
--- is known.
+-- The instructions of an entry describe its rows: each begins from a state in which nothing is known, which is remembered for
+-- the next one.
 use Rattle.std.proofs.Common.{ℕ, zero, suc, ◌+◌, ◌^◌, ◌≤◌, ◌<◌, ◌≡◌, List, [], ◌∷◌, ◌++◌, Option, Some, None, ltb, leb, true, refl, sym, ◌∙◌, ap, arith}
-use Rattle.std.proofs.Common.{append_assoc, map, flat_map}
+use Rattle.std.proofs.Common.{append_assoc, map}
 use Rattle.std.proofs.lemmas.Bool.Decides.{nat_tests}
 use Rattle.std.proofs.lemmas.List.{append-nil}
 use Rattle.table_core.specs.declared.run.Run.{Run}
 use Rattle.cfi_rows.specs.declared.row.Cfa.{Cfa}
 use Rattle.cfi_rows.specs.declared.row.Rule.{Rule}
 use Rattle.cfi_rows.specs.declared.instruction.Instruction.{Instruction}
+use Rattle.cfi_rows.specs.declared.instruction.Instruction.TheVariants.{SetLoc, RestoreState}
 use Rattle.cfi_rows.specs.FrameRows.{RowValue, Rules, with_rule, Known, State, begins, nothing_known, rows, prepended, known_after, PlacedRow}
 use Rattle.frame_rewrite.specs.FrameAnswers.{FrameAnswer}
 use Rattle.frame_rewrite.specs.SpelledFits.{RulesFit}
-use Rattle.frame_rewrite.proofs.InstructionsBack.{rule_list, row_instructions, next_instructions, program, nops}
+use Rattle.frame_rewrite.proofs.InstructionsBack.{rule_list, row_instructions, instructions_before, program, nops}
 
 abbrev AllBelow : ℕ → Rules → Type 0
 AllBelow k [] = Unit {0}
@@ -50,13 +51,13 @@ rules-run start least cfa old (x ∷ xs) saved more b a =
     ∙ rules-run start (x.0 + 1) cfa (old ++ x ∷ []) xs saved more (below-snoc x.0 x.1 old c) a.3
     ∙ ap (λ (l : Rules). rows [] more (at_point start (Some cfa) l saved)) (append_assoc old (x ∷ []) xs)
 
-row-run : (start : ℕ) (row : RowValue) (more : List Instruction) → RulesFit 0 row.rules
-    → rows [] (row_instructions row ++ more) (at_point start None [] [])
-    ≡ rows [] more (at_point start (Some row.cfa) row.rules (nothing_known ∷ []))
-row-run start row more a = rules-run start 0 row.cfa [] row.rules (nothing_known ∷ []) more tt a
+row-run : (start : ℕ) (row : RowValue) (saved : List Known) (more : List Instruction) → RulesFit 0 row.rules
+    → rows [] (row_instructions row ++ more) (at_point start None [] saved)
+    ≡ rows [] more (at_point start (Some row.cfa) row.rules saved)
+row-run start row saved more a = rules-run start 0 row.cfa [] row.rules saved more tt a
 
-nops-run : (start k : ℕ) (row : RowValue) → rows [] (nops k)
-    (at_point start (Some row.cfa) row.rules (nothing_known ∷ [])) ≡ Some (record { start = start; row = row } ∷ [])
+nops-run : (start k : ℕ) (row : RowValue) → rows [] (nops k) (at_point start (Some row.cfa) row.rules [])
+    ≡ Some (record { start = start; row = row } ∷ [])
 nops-run start zero row = refl
 nops-run start (suc k) row = nops-run start k row
 
@@ -69,31 +70,29 @@ abbrev pub Follow : ℕ → List (Run FrameAnswer) → Type 0
 Follow at [] = Unit {0}
 Follow at (r ∷ rs) = (at ≤ r.start) × (r.start < 2 ^ 64) × RulesFit 0 r.answer.row.rules × Follow r.start rs
 
-more-run : (at k : ℕ) (row : RowValue) (more : List (Run FrameAnswer)) → Follow at more
-    → rows [] (flat_map next_instructions more ++ nops k) (at_point at (Some row.cfa) row.rules (nothing_known ∷ []))
-    ≡ Some (record { start = at; row = row } ∷ placed more)
-more-run at k row [] f = nops-run at k row
-more-run at k row (r ∷ rs) f =
-    let a : leb at r.start ≡ true = grind (arith, nat_tests) in
-    let b : ltb r.start (2 ^ 64) ≡ true = grind (arith, nat_tests) in
-    let t : (next_instructions r ++ flat_map next_instructions rs) ++ nops k
-    ≡ next_instructions r ++ (flat_map next_instructions rs ++ nops k)
-    = append_assoc (next_instructions r) (flat_map next_instructions rs) (nops k) in
-    let later = row-run r.start r.answer.row (flat_map next_instructions rs ++ nops k) f.2
-    ∙ more-run r.start k r.answer.row rs f.3 in
-    ap (λ (l : List Instruction). rows [] l (at_point at (Some row.cfa) row.rules (nothing_known ∷ []))) t
-    ∙ rw (a, b) (ap (prepended at (Some row)) later)
+-- a row behind which another begins, from a state in which nothing is known
+before-run : (start at : ℕ) (row : RowValue) (more : List Instruction) → RulesFit 0 row.rules → start ≤ at → at < 2 ^ 64
+    → rows [] (instructions_before row at ++ more) (begins start nothing_known)
+    ≡ prepended start (Some row) (rows [] more (begins at nothing_known))
+before-run start at row more a up small =
+    let l : leb start at ≡ true = grind (arith, nat_tests) in
+    let s : ltb at (2 ^ 64) ≡ true = grind (arith, nat_tests) in
+    let saved : List Known = nothing_known ∷ [] in
+    ap (λ (is : List Instruction). rows [] is (at_point start None [] saved))
+    (append_assoc (row_instructions row) (SetLoc at ∷ RestoreState ∷ []) more)
+    ∙ row-run start row saved (SetLoc at ∷ RestoreState ∷ more) a
+    ∙ rw (l, s) refl
 
 -- the rows of an entry
 pub rows-back : (start k : ℕ) (row : RowValue) (more : List (Run FrameAnswer)) → RulesFit 0 row.rules → Follow start more
     → rows [] (program row more ++ nops k) (begins start nothing_known)
     ≡ Some (record { start = start; row = row } ∷ placed more)
-rows-back start k row more a f =
-    let t : (row_instructions row ++ flat_map next_instructions more) ++ nops k
-    ≡ row_instructions row ++ (flat_map next_instructions more ++ nops k)
-    = append_assoc (row_instructions row) (flat_map next_instructions more) (nops k) in
-    ap (λ (l : List Instruction). rows [] l (begins start nothing_known)) t
-    ∙ row-run start row (flat_map next_instructions more ++ nops k) a ∙ more-run start k row more f
+rows-back start k row [] a f = row-run start row [] (nops k) a ∙ nops-run start k row
+rows-back start k row (r ∷ rs) a f =
+    ap (λ (is : List Instruction). rows [] is (begins start nothing_known))
+    (append_assoc (instructions_before row r.start) (program r.answer.row rs) (nops k))
+    ∙ before-run start r.start row (program r.answer.row rs ++ nops k) a f.0 f.1
+    ∙ ap (prepended start (Some row)) (rows-back r.start k r.answer.row rs f.2 f.3)
 
 pub known-nops : (k start : ℕ) → known_after (nops k) (Some (begins start nothing_known)) ≡ Some nothing_known
 known-nops zero start = refl

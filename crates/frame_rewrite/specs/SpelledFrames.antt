@@ -44,16 +44,19 @@ spelled_rule r (rule.ValExpr b) = DW_CFA_val_expression ∷ (uleb r ++ spelled_b
 abbrev pub spelled_rules : Rules → List ℕ
 spelled_rules rules = flat_map (λ x. spelled_rule x.0 x.1) rules
 
--- a whole row, from a state in which nothing is known, which is remembered
+-- a whole row, from a state in which nothing is known
 abbrev pub spelled_row : RowValue → List ℕ
-spelled_row row = DW_CFA_remember_state ∷ (spelled_cfa row.cfa ++ spelled_rules row.rules)
+spelled_row row = spelled_cfa row.cfa ++ spelled_rules row.rules
 
--- a row that follows another, from a location on
-abbrev pub spelled_next_row : ℕ → RowValue → List ℕ
-spelled_next_row location row = DW_CFA_set_loc ∷ (little_bytes 8 location ++ (DW_CFA_restore_state ∷ spelled_row row))
+-- a row behind which another begins at a location: the state before it, in which nothing is known, is remembered for that
+abbrev pub spelled_row_before : RowValue → ℕ → List ℕ
+spelled_row_before row location =
+    DW_CFA_remember_state ∷ (spelled_row row ++ (DW_CFA_set_loc ∷ (little_bytes 8 location ++ DW_CFA_restore_state ∷ [])))
 
-abbrev pub spelled_next : Run FrameAnswer → List ℕ
-spelled_next r = spelled_next_row r.start r.answer.row
+-- the rows of an entry: the first one, and those of the runs behind its first
+abbrev pub spelled_rows : RowValue → List (Run FrameAnswer) → List ℕ
+spelled_rows row [] = spelled_row row
+spelled_rows row (r ∷ rs) = spelled_row_before row r.start ++ spelled_rows r.answer.row rs
 
 -- Entries, each behind its length and its id
 
@@ -137,7 +140,7 @@ abbrev pub fde_fields : List Span → Run FrameAnswer → List (Run FrameAnswer)
 fde_fields spans r more =
     little_bytes 8 (start_of spans r)
     ++ (little_bytes 8 (last_end (r.start + r.len) more - start_of spans r)
-    ++ (8 ∷ (little_bytes 8 r.answer.table ++ (spelled_row r.answer.row ++ flat_map spelled_next more))))
+    ++ (8 ∷ (little_bytes 8 r.answer.table ++ spelled_rows r.answer.row more)))
 
 abbrev pub fde_body : List Span → Run FrameAnswer → List (Run FrameAnswer) → List ℕ
 fde_body spans r more = let fields = fde_fields spans r more in fields ++ zeros (padding (length fields))

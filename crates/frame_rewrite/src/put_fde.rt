@@ -1,6 +1,6 @@
 // FDEs, each of a group of runs. LSB, "The .eh_frame section".
 ghost use Rattle.std.specs.Prelude.{◌≡◌, ◌<◌, ◌≤◌, ◌+◌, ◌-◌, ◌*◌, ◌^◌, ◌++◌, ◌∷◌, Some, OnOk, IfOk, All};
-ghost use Rattle.std.specs.Prelude.{length, flat_map, slice_get};
+ghost use Rattle.std.specs.Prelude.{length, slice_get};
 ghost use Rattle.std.specs.List.{position_or_len};
 ghost use Rattle.table_core.specs.AnswerRuns.{IsWithin};
 ghost use Rattle.frame_rewrite.specs.SpelledFrames as spec;
@@ -9,7 +9,7 @@ ghost use Rattle.frame_rewrite.specs.SpelledFits.{RowFits, RunAscends, Writes, W
 use crate::answer::FrameAt;
 use crate::cie_key::{CieKey, key_of, new_address};
 use crate::put_cie::put_entry;
-use crate::spelling::{put_byte, put_next_row, put_row, put_u64, put_zeros};
+use crate::spelling::{put_byte, put_row, put_row_before, put_u64, put_zeros};
 use addr_map::AddrMap;
 use indexmap::IndexSet;
 use rb_bytes::fault::NoMemory;
@@ -72,15 +72,18 @@ fn group_end(first: &Run<FrameAt>, more: &[Run<FrameAt>]) -> u64
     end
 }
 
-fn put_next_rows(out: &mut Vec<u8>, more: &[Run<FrameAt>]) -> Result<(), NoMemory>
-    requires { All RunAscends more.now }
-    ensures written { OnOk result (out.new.items ≡ out.old.items ++ flat_map spec.spelled_next more.now) }
-    ensures fits { OnOk result (All (λ r. RowFits r.answer.row) more.now) }
+// The rows of a group of runs.
+fn put_rows(out: &mut Vec<u8>, first: &Run<FrameAt>, more: &[Run<FrameAt>]) -> Result<(), NoMemory>
+    requires { All RunAscends (first.now ∷ more.now) }
+    ensures written { OnOk result (out.new.items ≡ out.old.items ++ spec.spelled_rows first.now.answer.row more.now) }
+    ensures fits { OnOk result (All (λ r. RowFits r.answer.row) (first.now ∷ more.now)) }
 {
+    let mut last = first;
     for run in more {
-        put_next_row(out, run.start, &run.answer.row)?;
+        put_row_before(out, &last.answer.row, run.start)?;
+        last = run;
     }
-    Ok(())
+    put_row(out, &last.answer.row)
 }
 
 // The range of an entry, its exception table and its rows.
@@ -103,9 +106,7 @@ fn put_fields(
     put_u64(out, group_end(first, more) - start)?;
     put_byte(out, 8)?;
     put_u64(out, first.answer.table)?;
-    put_row(out, &first.answer.row)?;
-    put_next_rows(out, more)?;
-    Ok(())
+    put_rows(out, first, more)
 }
 
 // As many zero bytes as make the length a multiple of 8.

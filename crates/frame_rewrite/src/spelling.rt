@@ -135,27 +135,27 @@ fn put_rules(out: &mut Vec<u8>, rules: &[(u64, Rule)]) -> Result<(), NoMemory>
     Ok(())
 }
 
-/// A whole row, from a state in which nothing is known, which is remembered.
+/// A whole row, from a state in which nothing is known.
 pub(crate) fn put_row(out: &mut Vec<u8>, row: &Row) -> Result<(), NoMemory>
     requires { Ascend 0 row.now.rules }
     ensures spelled { OnOk result (out.new.items ≡ out.old.items ++ spec.spelled_row row.now) }
     ensures fits { OnOk result (RowFits row.now) }
 {
-    put_byte(out, DW_CFA_remember_state as u8)?;
     put_cfa(out, &row.cfa)?;
     put_rules(out, &row.rules)
 }
 
-/// A location, and a whole row from there on, in an entry that begins with another row.
-pub(crate) fn put_next_row(out: &mut Vec<u8>, location: u64, row: &Row) -> Result<(), NoMemory>
+/// A whole row, and where the next one begins, from the same state as this one.
+pub(crate) fn put_row_before(out: &mut Vec<u8>, row: &Row, location: u64) -> Result<(), NoMemory>
     requires { Ascend 0 row.now.rules }
-    ensures spelled { OnOk result (out.new.items ≡ out.old.items ++ spec.spelled_next_row location row.now) }
+    ensures spelled { OnOk result (out.new.items ≡ out.old.items ++ spec.spelled_row_before row.now location) }
     ensures fits { OnOk result (RowFits row.now) }
 {
+    put_byte(out, DW_CFA_remember_state as u8)?;
+    put_row(out, row)?;
     put_byte(out, DW_CFA_set_loc as u8)?;
     put_u64(out, location)?;
-    put_byte(out, DW_CFA_restore_state as u8)?;
-    put_row(out, row)
+    put_byte(out, DW_CFA_restore_state as u8)
 }
 
 /// Zero bytes, which are instructions that do nothing.
