@@ -29,7 +29,7 @@ use Rattle.dw_unit.proofs.UnitsRead.{IsRead, unit_read, IsGoodUnit, all_read, ok
 use Rattle.dw_unit.proofs.WholeUnits.{AreGood, AreWhole, units_whole, units_again, whole_good}
 
 -- the declarations that a unit's header names
-declarations_are : (abbrevs : List ℕ) (w : Walked) (u : Unit) → IsRead abbrevs w u → declarations_of abbrevs w ≡ (table_at abbrevs u.abbrev_offset).list
+pub declarations_are : (abbrevs : List ℕ) (w : Walked) (u : Unit) → IsRead abbrevs w u → declarations_of abbrevs w ≡ (table_at abbrevs u.abbrev_offset).list
 declarations_are abbrevs w u r =
     ap (λ (o : Option (List ℕ)). named_declarations abbrevs (and_so (sound_if o) header_at)) r.is
     ∙ ap (named_declarations abbrevs) r.header
