@@ -3,9 +3,10 @@ use Rattle.std.proofs.Common.{◌≡◌, ◌∙◌, ◌<◌, ◌||◌, ◌&&◌,
 use Rattle.std.proofs.Common.{refl, sym, ap, subst, arith, map, filter, append-nil, append_assoc}
 use Rattle.std.specs.Prelude.{if◌then◌else◌, not, is_some, flat_map, filter_map}
 use Rattle.std.specs.List.{list_any, cons_option}
-use Rattle.std.proofs.lemmas.List.Elements.{All-head, All-tail, All-append, All-weaker, All-nil, All-cons, filter-append}
+use Rattle.std.proofs.lemmas.List.Elements.{All-head, All-tail, All-append, All-weaker, All-nil, All-cons}
 use Rattle.std.proofs.lemmas.List.{map-append}
 use Rattle.std.proofs.lemmas.List.Concat.{flat_map-append}
+use Rattle.table_core.specs.declared.range.Range.{Range}
 use Rattle.table_core.specs.ReadSteps.{least}
 use Rattle.dw_unit.specs.declared.entry.Attr.{Attr}
 use Rattle.dw_unit.specs.CompUnits.{Entry, Unit}
@@ -16,79 +17,63 @@ use Rattle.range_loc_rewrite.specs.declared.groups.Groups.{Groups}
 use Rattle.range_loc_rewrite.specs.declared.groups.RangedEntry.{RangedEntry}
 use Rattle.range_loc_rewrite.specs.declared.unit_ranges.ListFaults.{ListFaults}
 use Rattle.range_loc_rewrite.specs.Faults.{ListSections, table_place}
-use Rattle.range_loc_rewrite.specs.Gathering.{held_in, AreAdded, IsGathering, IsUnitGathered}
-use Rattle.range_loc_rewrite.specs.Groups.{AreNumbered, AreWithin, Grow, HasRanges, group_holds, held_places, entry_of}
+use Rattle.range_loc_rewrite.specs.Gathering.{SeenEntry, seen_of, seen_in, seen_kept, ranges_index, AreAdded, IsGathering, IsUnitGathered}
+use Rattle.range_loc_rewrite.specs.Groups.{AreNumbered, AreWithin, Grow, HasRanges, group_holds, entry_of}
 use Rattle.range_loc_rewrite.specs.KnownLists.{AreKnown, range_list, lacks_list, bad_list, bad_at}
 use Rattle.range_loc_rewrite.specs.Lists.{ranges_kind, has_list, list_offset}
-use Rattle.range_loc_rewrite.specs.Ranges.{ranges_of, hold}
+use Rattle.range_loc_rewrite.specs.Ranges.{ranges_of}
+use Rattle.range_loc_rewrite.specs.UnitLists.{own_place}
 use Rattle.range_loc_rewrite.proofs.GroupFacts.{grow_none, grow_more}
 
--- what entries hold stays where groups grow
-held_same : (old new : Groups) (rs : List RangedEntry) (a : ℕ) → Grow old new → AreWithin old.count rs →
-    held_places new.covers.items rs a ≡ held_places old.covers.items rs a
-held_same old new [] a grow within = refl
-held_same old new (r ∷ rs) a grow within =
+-- what is seen of entries stays where groups grow
+seen_same : (old new : Groups) (rs : List RangedEntry) (a : ℕ) → Grow old new → AreWithin old.count rs →
+    seen_kept new.covers.items rs a ≡ seen_kept old.covers.items rs a
+seen_same old new [] a grow within = refl
+seen_same old new (r ∷ rs) a grow within =
     let here : r.group < old.count = All-head (λ (r : RangedEntry). r.group < old.count) r rs within in
-    ap (λ (b : Bool). map (λ (r : RangedEntry). r.place) (if b then r ∷ kept new else kept new)) (grow.same r.group a here)
-    ∙ step (group_holds old.covers.items r.group a)
-    (held_same old new rs a grow (All-tail (λ (r : RangedEntry). r.group < old.count) r rs within))
-  where
-    kept : Groups → List RangedEntry
-    kept g = filter (λ (r : RangedEntry). group_holds g.covers.items r.group a) rs
+    let held = grow.same r.group a here in
+    let more = seen_same old new rs a grow (All-tail (λ (r : RangedEntry). r.group < old.count) r rs within) in
+    λ i. record { place = r.place; own = r.own; index = r.index; held = held i } ∷ more i
 
-    step : (b : Bool) → map (λ (r : RangedEntry). r.place) (kept new) ≡ map (λ (r : RangedEntry). r.place) (kept old) →
-        map (λ (r : RangedEntry). r.place) (if b then r ∷ kept new else kept new)
-        ≡ map (λ (r : RangedEntry). r.place) (if b then r ∷ kept old else kept old)
-    step true e = ap (λ (l : List ℕ). r.place ∷ l) e
-    step false e = e
-
-held-append : (cs : List Cover) (rs qs : List RangedEntry) (a : ℕ) → held_places cs (rs ++ qs) a
-    ≡ held_places cs rs a ++ held_places cs qs a
-held-append cs rs qs a =
-    ap (map (λ (r : RangedEntry). r.place)) (filter-append (λ (r : RangedEntry). group_holds cs r.group a) rs qs)
-    ∙ map-append (λ (r : RangedEntry). r.place) (filter (λ (r : RangedEntry). group_holds cs r.group a) rs)
-    (filter (λ (r : RangedEntry). group_holds cs r.group a) qs)
+abbrev seen_entry : List Cover → ℕ → RangedEntry → SeenEntry
+seen_entry cs a r = record { place = r.place; own = r.own; index = r.index; held = group_holds cs r.group a }
 
 -- an entry more, with the ranges of a group or without ranges
 module _ (s : ListSections) (u : Unit) (e : Entry) (new : Groups) where
-  one_held : (o : Option ℕ) (a : ℕ) → HasRanges new o (ranges_of s u e) → held_places new.covers.items (entry_of e.place o) a
-      ≡ held_in s u (e ∷ []) a
-  one_held None a has = ap (λ (b : Bool). map (λ (e : Entry). e.place) (if b then e ∷ [] else [])) (has.holds a)
-  one_held (Some n) a has = same (group_holds new.covers.items n a)
-      ∙ ap (λ (b : Bool). map (λ (e : Entry). e.place) (if b then e ∷ [] else [])) (has.holds a)
-    where
-      same : (b : Bool) → map (λ (r : RangedEntry). r.place) (if b then entry_of e.place (Some n) else [])
-          ≡ map (λ (e : Entry). e.place) (if b then e ∷ [] else [])
-      same true = refl
-      same false = refl
+  abbrev entry : Option ℕ → List RangedEntry
+  entry o = entry_of e.place (own_place u) (ranges_index e.attrs) o
 
-  one_within : (o : Option ℕ) → HasRanges new o (ranges_of s u e) → AreWithin new.count (entry_of e.place o)
+  one_seen : (o : Option ℕ) (ranges : Option (List Range)) (a : ℕ) → HasRanges new o ranges →
+      seen_kept new.covers.items (entry o) a ≡ seen_of e.place (own_place u) (ranges_index e.attrs) ranges a
+  one_seen None None a has = refl
+  one_seen None (Some ranges) a has = let f : false ≡ true = has.some in absurd (cc)
+  one_seen (Some n) None a has = let f : true ≡ false = has.some in absurd (cc)
+  one_seen (Some n) (Some ranges) a has =
+      λ i. record { place = e.place; own = own_place u; index = ranges_index e.attrs; held = has.holds a i } ∷ []
+
+  one_within : (o : Option ℕ) → HasRanges new o (ranges_of s u e) → AreWithin new.count (entry o)
   one_within None has = All-nil (λ (r : RangedEntry). r.group < new.count)
-  one_within (Some n) has = All-cons (λ (r : RangedEntry). r.group < new.count) (record { place = e.place; group = n }) [] (has.within n
-      refl)
+  one_within (Some n) has =
+      All-cons (λ (r : RangedEntry). r.group < new.count)
+      (record { place = e.place; group = n; own = own_place u; index = ranges_index e.attrs }) [] (has.within n refl)
       (All-nil (λ (r : RangedEntry). r.group < new.count))
 
   pub entry_added : (old : Groups) (olds news : List RangedEntry) (o : Option ℕ) → Grow old new → AreWithin old.count olds →
-      HasRanges new o (ranges_of s u e) → news ≡ olds ++ entry_of e.place o → AreAdded old olds new news (held_in s u (e ∷ []))
+      HasRanges new o (ranges_of s u e) → news ≡ olds ++ entry o → AreAdded old olds new news (seen_in s u (e ∷ []))
   entry_added old olds news o grow within has is = record {
     grow = grow;
     within = subst (AreWithin new.count) (sym is)
-        (All-append (λ (r : RangedEntry). r.group < new.count) olds (entry_of e.place o)
+        (All-append (λ (r : RangedEntry). r.group < new.count) olds (entry o)
         (All-weaker (λ (r : RangedEntry). r.group < old.count) (λ (r : RangedEntry). r.group < new.count)
         (λ r h. omega (arith, h, grow.count)) olds within) (one_within o has));
-    held_are = λ a. ap (λ (rs : List RangedEntry). held_places new.covers.items rs a) is
-        ∙ held-append new.covers.items olds (entry_of e.place o) a
-        ∙ (λ i. held_same old new olds a grow within i ++ one_held o a has i);
+    seen_are = λ a. ap (λ (rs : List RangedEntry). seen_kept new.covers.items rs a) is
+        ∙ map-append (seen_entry new.covers.items a) olds (entry o)
+        ∙ (λ i. seen_same old new olds a grow within i ++ one_seen o (ranges_of s u e) a has i)
+        ∙ ap (λ (l : List SeenEntry). seen_kept old.covers.items olds a ++ l)
+        (sym (append-nil (seen_of e.place (own_place u) (ranges_index e.attrs) (ranges_of s u e) a)));
   }
 
 -- and all those before
-held_in-append : (s : ListSections) (u : Unit) (es ds : List Entry) (a : ℕ) →
-    held_in s u (es ++ ds) a ≡ held_in s u es a ++ held_in s u ds a
-held_in-append s u es ds a =
-    ap (map (λ (e : Entry). e.place)) (filter-append (λ (e : Entry). hold (ranges_of s u e) a) es ds)
-    ∙ map-append (λ (e : Entry). e.place) (filter (λ (e : Entry). hold (ranges_of s u e) a) es) (filter (λ (e : Entry). hold (ranges_of s u
-    e) a) ds)
-
 pub gathered_more : (s : ListSections) (u : Unit) (old mid new : Groups) (olds mids news : List RangedEntry) (was known : BTreeMap ℕ
     (Option ℕ))
     (es ds : List Entry) (before attrs : List Attr) (f g : ListFaults) → IsGathering s u old olds mid mids was es before f →
@@ -97,9 +82,11 @@ gathered_more s u old mid new olds mids news was known es ds before attrs f g x 
   added = record {
     grow = grow_more old mid new x.added.grow y.added.grow;
     within = y.added.within;
-    held_are = λ a. y.added.held_are a ∙ ap (λ (l : List ℕ). l ++ held_in s u ds a) (x.added.held_are a)
-        ∙ append_assoc (held_places old.covers.items olds a) (held_in s u es a) (held_in s u ds a)
-        ∙ ap (λ (l : List ℕ). held_places old.covers.items olds a ++ l) (sym (held_in-append s u es ds a));
+    seen_are = λ a. y.added.seen_are a ∙ ap (λ (l : List SeenEntry). l ++ seen_in s u ds a) (x.added.seen_are a)
+        ∙ append_assoc (seen_kept old.covers.items olds a) (seen_in s u es a) (seen_in s u ds a)
+        ∙ ap (λ (l : List SeenEntry). seen_kept old.covers.items olds a ++ l)
+        (sym (flat_map-append
+        (λ (e : Entry). seen_of e.place (own_place u) (ranges_index e.attrs) (ranges_of s u e) a) es ds));
   };
   known_are = y.known_are;
   noted = y.noted;
@@ -111,7 +98,7 @@ pub gathered_none : (s : ListSections) (u : Unit) (old : Groups) (olds : List Ra
     AreWithin old.count olds → AreKnown (range_list s u) old known →
     IsGathering s u old olds old olds known [] [] (record { lacks_offset = false; bad = None })
 gathered_none s u old olds known numbered within are = record {
-  added = record { grow = grow_none old numbered; within = within; held_are = λ a. sym (append-nil (held_places old.covers.items olds a)) };
+  added = record { grow = grow_none old numbered; within = within; seen_are = λ a. sym (append-nil (seen_kept old.covers.items olds a)) };
   known_are = are;
   noted = record { lacks = refl; bad = refl };
 }

@@ -88,6 +88,7 @@ module _ (old new : Groups) (ls : List Located) (numbered : AreNumbered old) (co
 
   pub group_has : HasRanges new (Some old.count) (Some (ranges_in ls))
   group_has = record {
+    some = refl;
     within = λ n e. omega (arith, count, some_value old.count n e);
     holds = λ a. both old.count a
         ∙ ap (λ (b : Bool). b || here old.count a (covers_in old.count ls)) (no_cover old.count a old.covers.items numbered)
@@ -98,7 +99,7 @@ module _ (old new : Groups) (ls : List Located) (numbered : AreNumbered old) (co
       some_value m n e = cc
 
 pub none_has : (g : Groups) → HasRanges g None None
-none_has g = record { within = λ n e. absurd (cc); holds = λ a. refl }
+none_has g = record { some = refl; within = λ n e. absurd (cc); holds = λ a. refl }
 
 pub grow_none : (g : Groups) → AreNumbered g → Grow g g
 grow_none g numbered = record { numbered = numbered; count = omega arith; same = λ n a h. refl }
@@ -113,8 +114,9 @@ grow_more x y z g h = record {
 -- what a group holds stays
 pub has_still : (old new : Groups) (group : Option ℕ) (ranges : Option (List Range)) → Grow old new → HasRanges old group ranges →
     HasRanges new group ranges
-has_still old new None ranges grow has = record { within = λ n e. absurd (cc); holds = has.holds }
+has_still old new None ranges grow has = record { some = has.some; within = λ n e. absurd (cc); holds = has.holds }
 has_still old new (Some m) ranges grow has = record {
+  some = has.some;
   within = λ n e. omega (arith, grow.count, has.within n e);
   holds = λ a. grow.same m a (has.within m refl) ∙ has.holds a;
 }

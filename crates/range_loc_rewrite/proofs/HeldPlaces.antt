@@ -9,6 +9,7 @@ use Rattle.range_loc_rewrite.specs.declared.cover_index.CoverIndex.{CoverIndex}
 use Rattle.range_loc_rewrite.specs.declared.groups.Groups.{Groups}
 use Rattle.range_loc_rewrite.specs.CoverIndex.{IsCoverIndex, is_held, held_numbers, place_at}
 use Rattle.range_loc_rewrite.specs.Faults.{ListSections}
+use Rattle.range_loc_rewrite.specs.Gathering.{seen_kept}
 use Rattle.range_loc_rewrite.specs.Groups.{group_holds, held_places}
 use Rattle.range_loc_rewrite.specs.KeptRanges.{AreKept}
 use Rattle.range_loc_rewrite.specs.RangeReading.{AreRangesOf}
@@ -78,11 +79,20 @@ held_alike cs ds (r ∷ rs) a same =
     step true e = ap (λ (l : List ℕ). r.place ∷ l) e
     step false e = e
 
-pub kept_are : (s : ListSections) (groups : Groups) (ranged : List RangedEntry) (index : CoverIndex) (bounds : List ℕ) →
-    AreRangesOf s groups ranged → IsCoverIndex groups.covers.items ranged index → IsNonDecreasing bounds →
-    IsPermutation (bounds_in groups.covers.items) bounds → AreKept s ranged index bounds
-kept_are s groups ranged index bounds are is rising all = record {
+seen_alike : (cs ds : List Cover) (rs : List RangedEntry) (a : ℕ) → ((g : ℕ) → group_holds cs g a ≡ group_holds ds g a) →
+    seen_kept cs rs a ≡ seen_kept ds rs a
+seen_alike cs ds [] a same = refl
+seen_alike cs ds (r ∷ rs) a same =
+    λ i. record { place = r.place; own = r.own; index = r.index; held = same r.group i } ∷ seen_alike cs ds rs a same i
+
+pub kept_are : (s : ListSections) (groups : Groups) (ranged : List RangedEntry) (index : CoverIndex) (bounds : List ℕ) (weight : ℕ) →
+    AreRangesOf s groups ranged weight → IsCoverIndex groups.covers.items ranged index → IsNonDecreasing bounds →
+    IsPermutation (bounds_in groups.covers.items) bounds → AreKept s ranged groups.count index bounds weight
+kept_are s groups ranged index bounds weight are is rising all = record {
   free = are.free;
+  within = are.within;
+  seen = λ a. seen_alike index.tree groups.covers.items ranged a (λ g. is.held g a) ∙ are.seen a;
+  indexes = are.indexes;
   index_is = record { held = λ g a. refl; members = is.members };
   held = λ a. held_alike index.tree groups.covers.items ranged a (λ g. is.held g a) ∙ are.held a;
   rising = rising;
@@ -94,13 +104,14 @@ kept_are s groups ranged index bounds are is rising all = record {
 }
 
 -- what is found by numbers is what covers an address
-pub found_are : (s : ListSections) (ranged : List RangedEntry) (index : CoverIndex) (bounds : List ℕ) (a : ℕ) (numbers : List ℕ) → AreKept s ranged index bounds →
+pub found_are : (s : ListSections) (ranged : List RangedEntry) (count : ℕ) (index : CoverIndex) (bounds : List ℕ) (weight a : ℕ) (numbers : List ℕ) →
+    AreKept s ranged count index bounds weight →
     numbers ≡ held_numbers index.tree ranged a → filter_map (place_at ranged) numbers ≡ covering s a
-found_are s ranged index bounds a numbers are e =
+found_are s ranged count index bounds weight a numbers are e =
     ap (filter_map (place_at ranged)) e ∙ places_are index.tree ranged a ∙ are.held a
 
 -- no range starts or ends between two addresses
-pub covered_alike : (s : ListSections) (ranged : List RangedEntry) (index : CoverIndex) (bounds : List ℕ) (a b : ℕ) →
-    AreKept s ranged index bounds → All (λ x. nat_le x a ≡ nat_le x b) bounds → covering s a ≡ covering s b
-covered_alike s ranged index bounds a b are same =
+pub covered_alike : (s : ListSections) (ranged : List RangedEntry) (count : ℕ) (index : CoverIndex) (bounds : List ℕ) (weight a b : ℕ) →
+    AreKept s ranged count index bounds weight → All (λ x. nat_le x a ≡ nat_le x b) bounds → covering s a ≡ covering s b
+covered_alike s ranged count index bounds weight a b are same =
     sym (are.held a) ∙ held_alike_at index.tree ranged a b (are.apart a b same) ∙ are.held b

@@ -13,7 +13,7 @@ use Rattle.range_loc_rewrite.specs.declared.range_reading.Progress.{Progress}
 use Rattle.range_loc_rewrite.specs.Faults.{ListSections, range_places, is_list_table, bad_list_tables, bad_table}
 use Rattle.range_loc_rewrite.specs.Lists.{ranges_kind}
 use Rattle.range_loc_rewrite.specs.RangeReading.{IsProgress, is_bad_unit, AreRangesOf}
-use Rattle.range_loc_rewrite.proofs.CoveringEntries.{covering_is}
+use Rattle.range_loc_rewrite.proofs.CoveringEntries.{held_are}
 
 abbrev pub of_tables : ListSections → List ℕ
 of_tables s = map (λ (w : Walked). w.place) (filter (λ (w : Walked). not (option_map_or is_list_table w.bytes false)) (walked 5 s.ranges))
@@ -41,7 +41,7 @@ left_none (Some n) b e = absurd (cc)
 
 -- without a fault all entries were read
 pub ranges_read : (s : ListSections) (p : Progress) → IsProgress s (walked 5 s.units.info) p → IsFree (HasDwarfFault (range_places s)) →
-    AreRangesOf s p.groups p.ranged.items
+    AreRangesOf s p.groups p.ranged.items p.index_weight
 ranges_read s p are free =
     let none : p.bad ≡ None = are.bad ∙ left_none (of_units s) (option_or (bad_address_table s.units.addr) (bad_table ranges_kind s.ranges s.units))
     (no_bad (range_places s).bad refl) in
@@ -49,7 +49,9 @@ ranges_read s p are free =
       free = free;
       numbered = are.numbered;
       within = are.within;
-      held = λ a. (are.gathered none).held a ∙ sym (covering_is s a);
+      seen = (are.gathered none).seen;
+      held = λ a. held_are s p.groups.covers.items p.ranged.items a ((are.gathered none).seen a);
+      indexes = (are.gathered none).indexes;
     }
   where
     no_bad : (o : Option ℕ) → (range_places s).bad ≡ o → o ≡ None

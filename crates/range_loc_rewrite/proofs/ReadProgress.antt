@@ -1,8 +1,9 @@
 -- What was read of some units, with what is read of the next one.
-use Rattle.std.proofs.Common.{◌≡◌, ◌∙◌, ◌||◌, ◌++◌, ◌∷◌, [], ℕ, Bool, true, false, List, Option, Some, None, Result, Ok, Err, refl, sym, ap, subst, map}
-use Rattle.std.specs.Prelude.{if◌then◌else◌, flat_map, is_some, MatchOption}
+use Rattle.std.proofs.Common.{◌≡◌, ◌∙◌, ◌||◌, ◌++◌, ◌∷◌, [], ℕ, Bool, true, false, List, Option, Some, None, Result, Ok, Err, refl, sym, ap, subst, map, arith, ◌+◌, ◌-◌, ◌^◌, min}
+use Rattle.std.specs.Prelude.{if◌then◌else◌, flat_map, is_some, MatchOption, sum_by}
 use Rattle.std.specs.Global.{Vec}
 use Rattle.std.proofs.lemmas.List.{map-append}
+use Rattle.std.proofs.lemmas.List.Sums.{sum_by_push}
 use Rattle.table_core.specs.DebugUnits.{Walked, first_place}
 use Rattle.table_core.specs.ReadSteps.{lower, least, oks}
 use Rattle.dw_unit.specs.declared.trouble.Trouble.{Trouble}
@@ -21,11 +22,12 @@ use Rattle.range_loc_rewrite.specs.declared.groups.RangedEntry.{RangedEntry}
 use Rattle.range_loc_rewrite.specs.declared.range_reading.Progress.{Progress}
 use Rattle.range_loc_rewrite.specs.declared.unit_ranges.ListFaults.{ListFaults}
 use Rattle.range_loc_rewrite.specs.Faults.{ListSections, has_bad_offset, bad_list_tables}
-use Rattle.range_loc_rewrite.specs.Gathering.{held_in, IsUnitGathered}
+use Rattle.range_loc_rewrite.specs.Gathering.{SeenEntry, seen_in, IsUnitGathered}
 use Rattle.range_loc_rewrite.specs.Groups.{AreNumbered, AreWithin}
 use Rattle.range_loc_rewrite.specs.Lists.{ranges_kind}
 use Rattle.range_loc_rewrite.specs.RangeReading.{is_bad_unit, units_of, AreGathered, IsProgress, IsUnitAdded}
-use Rattle.range_loc_rewrite.proofs.PlainUnits.{unit_of_listed}
+use Rattle.range_loc_rewrite.specs.Weights.{index_weight}
+use Rattle.range_loc_rewrite.proofs.PlainUnits.{unit_of_listed, unit_weight}
 
 pub none_of : (o : Option ℕ) → is_some o ≡ false → o ≡ None
 none_of None e = refl
@@ -44,6 +46,9 @@ read_unit (Ok u) es e = (u, refl, same_ok e)
     same_ok : {X E : Type 0} {x y : X} → ◌≡◌ {A = Result X E} (Ok x) (Ok y) → x ≡ y
     same_ok e = cc
 read_unit (Err t) es e = absurd (cc)
+
+weights_more : (n m limit : ℕ) → min (min n limit + min m limit) limit ≡ min (n + m) limit
+weights_more n m limit = omega arith
 
 module _ (s : ListSections) (ws : List Walked) (w : Walked) (old new : Progress) (r : UnitReading) (are : IsProgress s ws old)
     (is : IsReading s.units.abbrevs s.units.addr w r) (form : new.bad_form ≡ lower old.bad_form r.bad_form)
@@ -95,7 +100,8 @@ module _ (s : ListSections) (ws : List Walked) (w : Walked) (old new : Progress)
   module _ (es : List ListedEntry) (f : ListFaults) (before : old.bad ≡ None)
       (good : fails (is_sound_unit s.units.addr) (unit_of s.units.abbrevs w) ≡ false) (u : Unit) (read : unit_of s.units.abbrevs w ≡ Ok u)
       (g : IsUnitGathered s u old.groups old.ranged.items new.groups new.ranged.items f)
-      (table : new.bad_table ≡ lower old.bad_table f.bad) where
+      (table : new.bad_table ≡ lower old.bad_table f.bad)
+      (indexes : new.index_weight ≡ min (old.index_weight + min (index_weight ranges_kind.index_form u) (2 ^ 64 - 1)) (2 ^ 64 - 1)) where
     tested : is_bad_unit s w ≡ f.lacks_offset
     tested = (λ i. good i || has_bad_offset ranges_kind s.ranges (read i)) ∙ sym g.lacks
 
@@ -106,22 +112,28 @@ module _ (s : ListSections) (ws : List Walked) (w : Walked) (old new : Progress)
         let was = are.gathered before in
         with_bad g.added.grow.numbered g.added.within (now ∙ before ∙ sym (still_good (is_bad_unit s) ws w (sym are.bad ∙ before) (tested ∙ lacks)))
         (λ none. record {
-          held = λ a. g.added.held_are a ∙ ap (λ (l : List ℕ). l ++ held_in s u u.entries a) (was.held a)
-              ∙ sym (ap (flat_map (λ (u : Unit). held_in s u u.entries a)) (units_more s ws w u read)
-              ∙ flat-more (λ (u : Unit). held_in s u u.entries a) (units_of s ws) u);
+          seen = λ a. g.added.seen_are a ∙ ap (λ (l : List SeenEntry). l ++ seen_in s u u.entries a) (was.seen a)
+              ∙ sym (ap (flat_map (λ (u : Unit). seen_in s u u.entries a)) (units_more s ws w u read)
+              ∙ flat-more (λ (u : Unit). seen_in s u u.entries a) (units_of s ws) u);
           bad = table ∙ (λ i. lower (was.bad i) (g.bad i))
               ∙ sym (ap (λ (us : List Unit). least (flat_map (bad_list_tables ranges_kind s.ranges s.units.addr) us)) (units_more s ws w u read)
               ∙ ap least (flat-more (bad_list_tables ranges_kind s.ranges s.units.addr) (units_of s ws) u)
               ∙ least-append (flat_map (bad_list_tables ranges_kind s.ranges s.units.addr) (units_of s ws)) (bad_list_tables ranges_kind s.ranges s.units.addr u));
+          indexes = indexes
+              ∙ ap (λ (n : ℕ). min (n + min (index_weight ranges_kind.index_form u) (2 ^ 64 - 1)) (2 ^ 64 - 1)) was.indexes
+              ∙ weights_more (sum_by (index_weight ranges_kind.index_form) (units_of s ws)) (index_weight ranges_kind.index_form u) (2 ^ 64 - 1)
+              ∙ ap (λ (n : ℕ). min n (2 ^ 64 - 1))
+              (sym (ap (sum_by (index_weight ranges_kind.index_form)) (units_more s ws w u read)
+              ∙ sum_by_push (index_weight ranges_kind.index_form) (units_of s ws) u));
         })
 
 -- a unit whose entries can be read
 pub unit_added : (s : ListSections) (ws : List Walked) (w : Walked) (old mid new : Progress) (r : UnitReading) (es : Vec ListedEntry) →
     IsProgress s ws old → IsReading s.units.abbrevs s.units.addr w r → mid.bad_form ≡ lower old.bad_form r.bad_form →
     mid.bad_high ≡ lower old.bad_high r.bad_high → mid.unformed ≡ lower old.unformed r.unformed → mid.groups ≡ old.groups →
-    mid.ranged.items ≡ old.ranged.items → mid.bad_table ≡ old.bad_table → mid.bad ≡ old.bad → old.bad ≡ None → r.entries ≡ Some es →
+    mid.ranged.items ≡ old.ranged.items → mid.index_weight ≡ old.index_weight → mid.bad_table ≡ old.bad_table → mid.bad ≡ old.bad → old.bad ≡ None → r.entries ≡ Some es →
     IsUnitAdded s es.items w.place mid new → IsProgress s (ws ++ w ∷ []) new
-unit_added s ws w old mid new r es are is form high unform groups ranged table bad before some added =
+unit_added s ws w old mid new r es are is form high unform groups ranged weight table bad before some added =
     let behind = entries_by s ws w old new r are is (added.form ∙ form) (added.high ∙ high) (added.unformed_is ∙ unform) (Some es) some in
     let u = read_unit (unit_of s.units.abbrevs w) es.items behind.1 in
     let g : IsUnitGathered s u.0 old.groups old.ranged.items new.groups new.ranged.items added.faults =
@@ -129,5 +141,7 @@ unit_added s ws w old mid new r es are is form high unform groups ranged table b
     (subst (λ (x : List RangedEntry). IsUnitGathered s u.0 mid.groups x new.groups new.ranged.items added.faults) ranged
     (unit_of_listed s u.0 es.items mid.groups new.groups mid.ranged.items new.ranged.items added.faults u.2 added.gathered)) in
     by_offset s ws w old new r are is (added.form ∙ form) (added.high ∙ high) (added.unformed_is ∙ unform) es.items added.faults before behind.0 u.0 u.1 g
-    (added.table ∙ ap (λ (o : Option ℕ). lower o added.faults.bad) table) added.faults.lacks_offset refl
+    (added.table ∙ ap (λ (o : Option ℕ). lower o added.faults.bad) table)
+    (added.indexes ∙ (λ i. min (weight i + min (unit_weight s u.0 es.items u.2 i) (2 ^ 64 - 1)) (2 ^ 64 - 1)))
+    added.faults.lacks_offset refl
     (added.bad ∙ ap (λ (o : Option ℕ). if added.faults.lacks_offset then Some w.place else o) bad)

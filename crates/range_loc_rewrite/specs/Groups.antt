@@ -1,6 +1,6 @@
 -- Groups of ranges that entries have.
 use Rattle.std.specs.Prelude.{◌≡◌, ◌<◌, ◌≤◌, ◌==◌, ◌&&◌, ℕ, Bool, false, List, [], ◌∷◌, All, map, filter, filter_map}
-use Rattle.std.specs.Prelude.{flat_map}
+use Rattle.std.specs.Prelude.{flat_map, is_some}
 use Rattle.std.specs.Prelude.{Option, Some, None}
 use Rattle.std.specs.List.{list_any}
 use Rattle.std.specs.Option.{option_map_or}
@@ -44,6 +44,7 @@ pub record Grow (old new : code.Groups) : Type 0 where
 
 -- a group, or none, holds just the addresses of some ranges, or of none
 pub record HasRanges (g : code.Groups) (group : Option ℕ) (ranges : Option (List Range)) : Type 0 where
+  pub some : is_some group ≡ is_some ranges
   pub within : (n : ℕ) → group ≡ Some n → n < g.count
   pub holds : (a : ℕ) → option_map_or (λ n. group_holds g.covers.items n a) group false ≡ hold ranges a
 
@@ -57,6 +58,6 @@ held_places covers ranged a = map (λ (r : kept.RangedEntry). r.place) (filter (
     covers r.group a) ranged)
 
 -- an entry, if it has a group
-abbrev pub entry_of : ℕ → Option ℕ → List kept.RangedEntry
-entry_of place None = []
-entry_of place (Some group) = record { place = place; group = group } ∷ []
+abbrev pub entry_of : (place own : ℕ) → (index : Option ℕ) → Option ℕ → List kept.RangedEntry
+entry_of place own index None = []
+entry_of place own index (Some group) = record { place = place; group = group; own = own; index = index } ∷ []

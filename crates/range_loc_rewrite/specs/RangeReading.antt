@@ -1,8 +1,8 @@
 -- What was read of the ranges of some units.
-use Rattle.std.specs.Prelude.{◌≡◌, ◌||◌, ℕ, Bool, List, if◌then◌else◌, flat_map, map, Some, None}
+use Rattle.std.specs.Prelude.{◌≡◌, ◌||◌, ◌+◌, ◌-◌, ◌^◌, ℕ, Bool, List, if◌then◌else◌, flat_map, map, Some, None, min, sum_by}
 use Rattle.table_core.specs.DebugUnits.{Walked, first_place}
 use Rattle.table_core.specs.ReadSteps.{lower, least, oks}
-use Rattle.dw_unit.specs.CompUnits.{Unit, unit_of}
+use Rattle.dw_unit.specs.CompUnits.{Unit, unit_of, units}
 use Rattle.dw_unit.specs.Declarations.{has_bad_form, has_bad_high}
 use Rattle.dw_unit.specs.Faults.{declarations_of, places_with, unformed, is_bad}
 use Rattle.dw_unit.specs.ListedEntries.{ListedEntry}
@@ -15,9 +15,10 @@ use Rattle.range_loc_rewrite.specs.declared.groups.Groups.{Groups}
 use Rattle.range_loc_rewrite.specs.declared.groups.RangedEntry.{RangedEntry}
 use Rattle.range_loc_rewrite.specs.Faults.{ListSections, range_places, has_bad_offset, bad_list_tables}
 use Rattle.range_loc_rewrite.specs.Ranges.{covering}
-use Rattle.range_loc_rewrite.specs.Gathering.{held_in, IsUnitGathered}
+use Rattle.range_loc_rewrite.specs.Gathering.{SeenEntry, seen_in, seen_kept, IsUnitGathered}
 use Rattle.range_loc_rewrite.specs.Groups.{AreNumbered, AreWithin, held_places}
 use Rattle.range_loc_rewrite.specs.Lists.{ranges_kind}
+use Rattle.range_loc_rewrite.specs.Weights.{index_weight, index_weights}
 
 -- a unit that can't be read, or names a list that isn't there
 abbrev pub is_bad_unit : ListSections → Walked → Bool
@@ -28,8 +29,10 @@ units_of s ws = oks (map (unit_of s.units.abbrevs) ws)
 
 -- all units were read: what their entries hold, and the lowest table whose list can't be read
 pub record AreGathered (s : ListSections) (ws : List Walked) (p : Progress) : Type 0 where
-  pub held : (a : ℕ) → held_places p.groups.covers.items p.ranged.items a ≡ flat_map (λ (u : Unit). held_in s u u.entries a) (units_of s ws)
+  pub seen : (a : ℕ) → seen_kept p.groups.covers.items p.ranged.items a
+      ≡ flat_map (λ (u : Unit). seen_in s u u.entries a) (units_of s ws)
   pub bad : p.bad_table ≡ least (flat_map (bad_list_tables ranges_kind s.ranges s.units.addr) (units_of s ws))
+  pub indexes : p.index_weight ≡ min (sum_by (index_weight ranges_kind.index_form) (units_of s ws)) (2 ^ 64 - 1)
 
 pub record IsProgress (s : ListSections) (ws : List Walked) (p : Progress) : Type 0 where
   pub numbered : AreNumbered p.groups
@@ -45,14 +48,21 @@ pub record IsUnitAdded (s : ListSections) (es : List ListedEntry) (place : ℕ) 
   pub faults : ListFaults
   pub gathered : IsUnitGathered s (plain_unit es) old.groups old.ranged.items new.groups new.ranged.items faults
   pub table : new.bad_table ≡ lower old.bad_table faults.bad
+  pub indexes : new.index_weight
+      ≡ min (old.index_weight + min (index_weight ranges_kind.index_form (plain_unit es)) (2 ^ 64 - 1)) (2 ^ 64 - 1)
   pub bad : new.bad ≡ (if faults.lacks_offset then Some place else old.bad)
   pub form : new.bad_form ≡ old.bad_form
   pub high : new.bad_high ≡ old.bad_high
   pub unformed_is : new.unformed ≡ old.unformed
 
+abbrev pub all_seen : ListSections → ℕ → List SeenEntry
+all_seen s a = flat_map (λ (u : Unit). seen_in s u u.entries a) (units s.units)
+
 -- The entries that have ranges, of sections without a fault.
-pub record AreRangesOf (s : ListSections) (groups : Groups) (ranged : List RangedEntry) : Type 0 where
+pub record AreRangesOf (s : ListSections) (groups : Groups) (ranged : List RangedEntry) (weight : ℕ) : Type 0 where
   pub free : IsFree (HasDwarfFault (range_places s))
   pub numbered : AreNumbered groups
   pub within : AreWithin groups.count ranged
+  pub seen : (a : ℕ) → seen_kept groups.covers.items ranged a ≡ all_seen s a
   pub held : (a : ℕ) → held_places groups.covers.items ranged a ≡ covering s a
+  pub indexes : weight ≡ min (index_weights ranges_kind.index_form s) (2 ^ 64 - 1)

@@ -92,6 +92,13 @@ impl CoverIndex {
         Ok(CoverIndex { tree, members })
     }
 
+    /// The ranges of all groups.
+    pub fn tree(&self) -> &CoverTree
+        ensures { result.now ≡ self.now.tree }
+    {
+        &self.tree
+    }
+
     fn members(&self, group: usize) -> &[usize]
         ensures { result.now ≡ members_in self.now.members.items group }
     {

@@ -7,7 +7,7 @@ ghost use Rattle.dw_unit.specs.CompUnits as units;
 ghost use Rattle.dw_unit.specs.CompUnits.{Unit};
 ghost use Rattle.dw_unit.specs.ListedUnits.{plain, plain_unit};
 ghost use Rattle.range_loc_rewrite.specs.Faults.{ListSections};
-ghost use Rattle.range_loc_rewrite.specs.Gathering.{IsGathering, IsUnitGathered};
+ghost use Rattle.range_loc_rewrite.specs.Gathering.{IsGathering, IsUnitGathered, ranges_index};
 ghost use Rattle.range_loc_rewrite.specs.Groups.{AreNumbered, AreWithin, Grow, entry_of};
 ghost use Rattle.range_loc_rewrite.specs.KnownLists.{AreKnown, range_list, IsNoted};
 ghost use Rattle.range_loc_rewrite.specs.Lists.{ranges_kind};
@@ -16,12 +16,14 @@ ghost use Rattle.range_loc_rewrite.specs.UnitLists.{ReadsLists};
 use crate::groups::{Groups, RangedEntry};
 use crate::list_kind::ListKind;
 use crate::list_section::ListSection;
-use crate::unit_lists::{UnitLists, unit_lists};
+use crate::unit_lists::{UnitLists, attr_named, unit_lists};
 use crate::unit_ranges::{KnownLists, ListFaults, note_list, own_group};
+use dw_unit::attribute::DW_AT_ranges;
 use dw_unit::{Attr, Entry};
 use rb_bytes::fault::NoMemory;
 use std::alloc::Global;
 use std::collections::BTreeMap;
+use table_core::form::DW_FORM_rnglistx;
 
 // What is wrong with the lists that some attributes name, and with others.
 fn note_lists(
@@ -49,16 +51,39 @@ fn note_lists(
     Ok(faults)
 }
 
+// The index by which the list of ranges of an entry is named, where it is named by one.
+fn ranges_index(attrs: &[Attr]) -> Option<u64>
+    ensures { result ≡ ranges_index attrs.now }
+{
+    match attr_named(DW_AT_ranges, attrs) {
+        Some(named) => {
+            if named.form == DW_FORM_rnglistx {
+                Some(named.value)
+            } else {
+                None
+            }
+        }
+        None => None,
+    }
+}
+
 fn put_ranged(
     ranged: &mut Vec<RangedEntry>,
     place: u64,
+    own: u64,
+    index: Option<u64>,
     group: Option<usize>,
 ) -> Result<(), NoMemory>
-    ensures { OnOk result (ranged.new.items ≡ ranged.old.items ++ entry_of place group) }
+    ensures { OnOk result (ranged.new.items ≡ ranged.old.items ++ entry_of place own index group) }
 {
     match group {
         Some(group) => {
-            ranged.push(RangedEntry { place, group })?;
+            ranged.push(RangedEntry {
+                place,
+                group,
+                own,
+                index,
+            })?;
             Ok(())
         }
         None => Ok(()),
@@ -87,7 +112,8 @@ fn add_entry(
 {
     let faults = note_lists(alloc, section, unit, known, groups, &entry.attrs, others)?;
     let group = own_group(alloc, section, unit, known, groups, &entry.attrs)?;
-    put_ranged(ranged, entry.place, group)?;
+    let index = ranges_index(&entry.attrs);
+    put_ranged(ranged, entry.place, unit.own, index, group)?;
     Ok(faults)
 }
 

@@ -21,6 +21,10 @@ pub struct RangedEntry {
     /// The entry's offset in `.debug_info`.
     pub place: u64,
     pub group: usize,
+    /// The offset of the own entry of its unit.
+    pub own: u64,
+    /// The index by which its list is named, where it is named by one.
+    pub index: Option<u64>,
 }
 
 // Adds the ranges of a list to a group.

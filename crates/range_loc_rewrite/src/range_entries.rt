@@ -26,6 +26,8 @@ const VERSION: u16 = 5;
 pub struct RangedEntries {
     pub groups: Groups,
     pub ranged: Vec<RangedEntry>,
+    /// What the tables of offsets weigh, or the greatest number where that is none of 64 bits.
+    pub index_weight: u64,
 }
 
 fn nothing(alloc: Global) -> Progress
@@ -42,6 +44,7 @@ fn nothing(alloc: Global) -> Progress
         unformed: None,
         bad: None,
         bad_table: None,
+        index_weight: 0,
     }
 }
 
@@ -114,7 +117,7 @@ pub fn read_ranges(
     ranges: &[u8],
 ) -> Result<RangedEntries, Refusal>
     ensures read { IfOk result (λ r. (locations : List ℕ) →
-        AreRangesOf (list_sections_held info.now abbrevs.now addr.now ranges.now locations) r.groups r.ranged.items) }
+        AreRangesOf (list_sections_held info.now abbrevs.now addr.now ranges.now locations) r.groups r.ranged.items r.index_weight) }
     ensures fault { IfErr result (λ e. (locations : List ℕ) →
         IsRefusalBy
         (HasDwarfFault (range_places (list_sections_held info.now abbrevs.now addr.now ranges.now locations))) e) }
@@ -132,5 +135,6 @@ pub fn read_ranges(
     Ok(RangedEntries {
         groups: progress.groups,
         ranged: progress.ranged,
+        index_weight: progress.index_weight,
     })
 }

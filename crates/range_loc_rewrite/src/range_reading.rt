@@ -9,12 +9,14 @@ ghost use Rattle.range_loc_rewrite.specs.RangeReading.{IsProgress, IsUnitAdded};
 
 use crate::gathering::add_unit;
 use crate::groups::{Groups, RangedEntry};
+use crate::index_weight::index_weight;
 use crate::list_section::ListSection;
 use dw_unit::Entry;
 use dw_unit::lowest::lower;
 use dw_unit::unit_reading::UnitReading;
 use rb_bytes::fault::NoMemory;
 use std::alloc::Global;
+use table_core::form::DW_FORM_rnglistx;
 
 /// What was read of some units.
 #[derive(Drop)]
@@ -30,6 +32,8 @@ pub struct Progress {
     pub bad: Option<u64>,
     /// If there is none, the lowest table whose list can't be read.
     pub bad_table: Option<u64>,
+    /// What the tables of offsets weigh, or the greatest number where that is none of 64 bits.
+    pub index_weight: u64,
 }
 
 // Adds the entries of a unit that can be read, and notes what is wrong with its lists.
@@ -56,6 +60,8 @@ fn add_entries(
         entries,
     )?;
     progress.bad_table = lower(progress.bad_table, faults.bad);
+    let weight = index_weight(DW_FORM_rnglistx, entries);
+    progress.index_weight = progress.index_weight.saturating_add(weight);
     if faults.lacks_offset {
         progress.bad = Some(place);
     }

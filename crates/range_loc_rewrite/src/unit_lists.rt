@@ -8,7 +8,7 @@ ghost use Rattle.dw_unit.specs.ListedUnits.{plain_unit};
 ghost use Rattle.dw_unit.specs.declared.attribute.TheConstants.{DW_AT_addr_base, DW_AT_low_pc};
 ghost use Rattle.range_loc_rewrite.specs.ListReading.{kind_of};
 ghost use Rattle.range_loc_rewrite.specs.Lists.{base_address};
-ghost use Rattle.range_loc_rewrite.specs.UnitLists.{ReadsLists};
+ghost use Rattle.range_loc_rewrite.specs.UnitLists.{ReadsLists, own_place};
 
 use crate::addresses::Addresses;
 use crate::list_kind::ListKind;
@@ -25,6 +25,8 @@ pub struct UnitLists<'a> {
     pub lists: Option<u64>,
     /// The base address of its lists.
     pub base: u64,
+    /// The offset of its own entry.
+    pub own: u64,
 }
 
 /// The attribute of a name.
@@ -68,6 +70,15 @@ fn base_address(addresses: &Addresses, entries: &[Entry]) -> u64
     }
 }
 
+fn own_place(entries: &[Entry]) -> u64
+    ensures { result ≡ own_place (plain_unit entries.now) }
+{
+    match entries.first() {
+        Some(own) => own.place,
+        None => 0,
+    }
+}
+
 /// What the unit of some entries needs to read lists.
 pub fn unit_lists<'a>(addr: &'a [u8], kind: ListKind, entries: &[Entry]) -> UnitLists<'a>
     ensures { ReadsLists (kind_of kind) addr.now (plain_unit entries.now) result }
@@ -85,5 +96,6 @@ pub fn unit_lists<'a>(addr: &'a [u8], kind: ListKind, entries: &[Entry]) -> Unit
         addresses,
         lists,
         base: base_address(&addresses, entries),
+        own: own_place(entries),
     }
 }

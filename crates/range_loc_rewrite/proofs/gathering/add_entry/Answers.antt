@@ -2,6 +2,7 @@ use Rattle.std.proofs.Common.{◌≡◌, ◌∙◌, ◌++◌, List, ap, sym, sub
 use Rattle.dw_unit.specs.declared.entry.Attr.{Attr}
 use Rattle.dw_unit.specs.ListedEntries.{ListedEntry}
 use Rattle.dw_unit.specs.ListedUnits.{plain}
+use Rattle.range_loc_rewrite.specs.Gathering.{ranges_index}
 use Rattle.range_loc_rewrite.specs.Groups.{entry_of}
 use Rattle.range_loc_rewrite.specs.KnownLists.{IsNoted}
 use Rattle.range_loc_rewrite.proofs.GroupFacts.{grow_more}
@@ -13,13 +14,15 @@ returns c = λ s u before b r n k within noted.
     let e : ListedEntry = c.args.entry.now in
     let p = c.in_ok-faults.ensures s u before b r n k noted in
     let attrs : c.deref-2.result.now ≡ e.attrs = c.deref-2.ensures.value ∙ ap (λ (e : ListedEntry). e.attrs) c.entry.view_is in
+    let index : c.ranges_index-index.result ≡ ranges_index e.attrs =
+    c.ranges_index-index.ensures ∙ ap ranges_index (c.deref-3.ensures.value ∙ ap (λ (e : ListedEntry). e.attrs) c.entry.view_is) in
     let q = c.in_ok-group.ensures s u (plain e) (sym attrs) b r p.0.numbered p.1 in
     record {
       added = entry_added s u (plain e) c.own_group.new.groups c.args.groups.now c.args.ranged.now.items c.put_ranged.new.ranged.items
           c.in_ok-group.group
           (grow_more c.args.groups.now c.note_lists.new.groups c.own_group.new.groups p.0 q.0) within q.2
-          (c.in_ok-put_ranged.ensures ∙ ap (λ (e : ListedEntry). c.args.ranged.now.items ++ entry_of e.place c.in_ok-group.group)
-          c.entry.view_is);
+          (c.in_ok-put_ranged.ensures
+          ∙ (λ i. c.args.ranged.now.items ++ entry_of (c.entry.view_is i).place (r.own i) (index i) c.in_ok-group.group));
       known_are = q.1;
       noted = subst (λ (l : List Attr). IsNoted s u (before ++ l) c.in_ok-faults.faults)
           (c.deref.ensures.value ∙ ap (λ (e : ListedEntry). e.attrs) c.entry.view_is) p.2;

@@ -3,7 +3,7 @@ use Rattle.std.specs.Prelude.{All}
 use Rattle.std.proofs.lemmas.List.Elements.{All-nil}
 use Rattle.range_loc_rewrite.specs.declared.cover_tree.Cover.{Cover}
 use Rattle.range_loc_rewrite.specs.declared.groups.RangedEntry.{RangedEntry}
-use Rattle.range_loc_rewrite.specs.Groups.{held_places}
+use Rattle.range_loc_rewrite.specs.Gathering.{seen_kept}
 use Rattle.range_loc_rewrite.proofs.range_entries.nothing.Goals as goal
 
 pub returns : goal.returns
@@ -15,5 +15,5 @@ returns c = λ s. record {
   high = refl;
   unformed_are = refl;
   bad = refl;
-  gathered = λ _. record { held = λ a. ap (λ (rs : List RangedEntry). held_places c.new.result.items rs a) c.new-2.ensures.items; bad = refl };
+  gathered = λ _. record { seen = λ a. ap (λ (rs : List RangedEntry). seen_kept c.new.result.items rs a) c.new-2.ensures.items; bad = refl; indexes = refl };
 }

@@ -22,6 +22,7 @@ returns-in_ok-add_entries-in-Some c = λ s ws w place b a are is.
       unformed = c.lower-progress-3.result;
       bad = old.bad;
       bad_table = old.bad_table;
+      index_weight = old.index_weight;
     } in
     let new : Progress = c.add_entries.new.progress in
     let items : c.deref.result.now ≡ c.in-Some.entries.items = search (rules, c.deref.ensures.value, c.in-Some.entries-is) in
@@ -30,7 +31,7 @@ returns-in_ok-add_entries-in-Some c = λ s ws w place b a are is.
     (subst (λ (l : List ListedEntry). IsUnitAdded s l c.args.place mid new) items
     (c.in_ok-add_entries-in-Some.ensures s b a are.numbered are.within)) in
     unit_added s ws w old mid new c.args.reading c.in-Some.entries are is c.lower-progress.ensures c.lower-progress-2.ensures
-    c.lower-progress-3.ensures refl refl refl refl before c.in-Some.is added
+    c.lower-progress-3.ensures refl refl refl refl refl before c.in-Some.is added
 
 pub returns-in-None : goal.returns-in-None
 returns-in-None c = λ s ws w place b a are is.

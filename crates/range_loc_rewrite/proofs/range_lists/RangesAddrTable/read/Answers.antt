@@ -43,8 +43,8 @@ invariant_of-result c =
     let locations : List ℕ = c.in_ok-locations.locations.items in
     let held : list_sections_held c.deref.result.now c.deref-2.result.now c.deref-3.result.now c.deref-4.result.now locations ≡ s =
     λ i. list_sections_held (c.deref.ensures.value i) (c.deref-2.ensures.value i) (c.deref-3.ensures.value i) (c.deref-4.ensures.value i) locations in
-    kept_are s c.in_ok-entries.entries.groups c.in_ok-entries.entries.ranged.items c.in_ok-index.index c.in_ok-bounds.bounds.items
-    (subst (λ (x : ListSections). AreRangesOf x c.in_ok-entries.entries.groups c.in_ok-entries.entries.ranged.items) held
+    kept_are s c.in_ok-entries.entries.groups c.in_ok-entries.entries.ranged.items c.in_ok-index.index c.in_ok-bounds.bounds.items c.in_ok-entries.entries.index_weight
+    (subst (λ (x : ListSections). AreRangesOf x c.in_ok-entries.entries.groups c.in_ok-entries.entries.ranged.items c.in_ok-entries.entries.index_weight) held
     (c.in_ok-entries.ensures.read locations))
     (subst (λ (rs : List RangedEntry). IsCoverIndex c.in_ok-entries.entries.groups.covers.items rs c.in_ok-index.index)
     c.deref-5.ensures.value c.in_ok-index.ensures)
@@ -63,5 +63,5 @@ returns-clause-reads c =
     ((c.in_ok-addr.ensures.items ∙ c.contents_of-3.ensures) i) ((c.in_ok-ranges.ensures.items ∙ c.contents_of-4.ensures) i)
     ((c.in_ok-locations.ensures.items ∙ c.contents_of-5.ensures) i) in
     ranges_free c.args.elf.now s same
-    (subst (λ (x : ListSections). AreRangesOf x c.in_ok-entries.entries.groups c.in_ok-entries.entries.ranged.items) held
+    (subst (λ (x : ListSections). AreRangesOf x c.in_ok-entries.entries.groups c.in_ok-entries.entries.ranged.items c.in_ok-entries.entries.index_weight) held
     (c.in_ok-entries.ensures.read locations)).free
