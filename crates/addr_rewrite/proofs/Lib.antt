@@ -1,2 +1,17 @@
 mod AddressPatches
 mod TableOrder
+mod PairSteps
+mod FlatTables
+mod FirstPlaces
+mod ListLoops
+mod TableLists
+mod SmallUnits
+mod IndexedUnits
+mod TablesBack
+mod TableSteps
+mod RunUnits
+mod ArangesBack
+mod SingleTables
+mod FreePlaces
+mod ArangesLaw
+mod Examples

@@ -1,0 +1,25 @@
+-- What it says that none of some places of faults is there.
+use Rattle.std.proofs.Common.{◌≡◌, ℕ, List, [], ◌∷◌, Option, Some, None}
+use Rattle.std.specs.Option.{option_or}
+use Rattle.rb_bytes.specs.FirstFault.{IsFree}
+use Rattle.table_core.specs.DebugUnits.{other_version}
+use Rattle.table_core.specs.ReadSteps.{unless_any}
+use Rattle.dw_unit.specs.Faults.{FaultPlaces, HasDwarfFault}
+use Rattle.dw_unit.specs.Tables.{answers_if_free}
+use Rattle.dw_unit.proofs.NoFaults.{absent, free_of}
+use Rattle.addr_rewrite.specs.Aranges.{bad_table}
+use Rattle.addr_rewrite.specs.Tables.{places_by}
+
+pub answers_free : (p : FaultPlaces) (x : ℕ → Option ℕ) → IsFree (HasDwarfFault p) → answers_if_free p x ≡ Some x
+answers_free p x free = let a = absent p free in λ i. unless_any (a.version i ∷ a.form i ∷ a.high i ∷ a.bad i ∷ []) x
+
+pub places_free : (p : FaultPlaces) (section : List ℕ) → IsFree (HasDwarfFault p) → other_version 2 section ≡ None → bad_table section ≡ None →
+    IsFree (HasDwarfFault (places_by p section))
+places_free p section free version bad =
+    let a = absent p free in
+    free_of (places_by p section) (record {
+      version = λ i. option_or (a.version i) (version i);
+      form = a.form;
+      high = a.high;
+      bad = λ i. option_or (a.bad i) (bad i);
+    })

@@ -1,0 +1,113 @@
+// Tables of ranges of addresses as bytes. DWARF 5, sections 6.1.2 and 7.21.
+ghost use Rattle.std.specs.Prelude.{◌≡◌, ◌<◌, ◌≤◌, ◌-◌, ◌+◌, ◌*◌, ◌^◌, ◌++◌, OnOk, length};
+ghost use Rattle.byteorder.specs.Endian.{little_bytes};
+ghost use Rattle.addr_rewrite.specs.WrittenAranges as spec;
+
+use crate::stretch::Stretch;
+use byteorder::{ByteOrder, LittleEndian};
+use rb_bytes::fault::NoMemory;
+
+/// The version of tables of ranges of addresses.
+const VERSION: u16 = 2;
+
+/// An address size of 8, and a segment selector size of 0.
+const SIZES: u16 = 8;
+
+/// How many bytes a table has behind its length, but for its pairs: the header, and the two zeros that end the pairs.
+const FIXED_SIZE: usize = 28;
+
+/// How many bytes a pair has.
+const PAIR_SIZE: usize = 16;
+
+fn put_u16(out: &mut Vec<u8>, n: u16) -> Result<(), NoMemory>
+    ensures { OnOk result (out.new.items ≡ out.old.items ++ little_bytes 2 n) }
+{
+    let mut field = [0; 2];
+    LittleEndian::write_u16(&mut field, n);
+    out.extend_from_slice(&field)?;
+    Ok(())
+}
+
+fn put_u32(out: &mut Vec<u8>, n: u32) -> Result<(), NoMemory>
+    ensures { OnOk result (out.new.items ≡ out.old.items ++ little_bytes 4 n) }
+{
+    let mut field = [0; 4];
+    LittleEndian::write_u32(&mut field, n);
+    out.extend_from_slice(&field)?;
+    Ok(())
+}
+
+fn put_u64(out: &mut Vec<u8>, n: u64) -> Result<(), NoMemory>
+    ensures { OnOk result (out.new.items ≡ out.old.items ++ little_bytes 8 n) }
+{
+    let mut field = [0; 8];
+    LittleEndian::write_u64(&mut field, n);
+    out.extend_from_slice(&field)?;
+    Ok(())
+}
+
+fn put_pair(out: &mut Vec<u8>, address: u64, len: u64) -> Result<(), NoMemory>
+    ensures { OnOk result (out.new.items ≡ out.old.items ++ (little_bytes 8 address ++ little_bytes 8 len)) }
+{
+    put_u64(out, address)?;
+    put_u64(out, len)?;
+    Ok(())
+}
+
+// A pair for each stretch, and the two zeros that end them.
+fn put_pairs(out: &mut Vec<u8>, stretches: &[Stretch]) -> Result<(), NoMemory>
+    ensures { OnOk result (out.new.items ≡ out.old.items ++ spec.pairs_bytes stretches.now) }
+{
+    for stretch in stretches {
+        put_pair(out, stretch.start, stretch.len)?;
+    }
+    put_pair(out, 0, 0)?;
+    Ok(())
+}
+
+// A table of a unit, behind its length.
+fn put_table(out: &mut Vec<u8>, unit: u32, stretches: &[Stretch]) -> Result<(), NoMemory>
+    requires { 28 + 16 * length stretches.now < 2 ^ 32 - 1 }
+    ensures { OnOk result (out.new.items ≡ out.old.items ++ spec.spelled_table (spec.table_bytes unit stretches.now)) }
+{
+    put_u32(out, (FIXED_SIZE + PAIR_SIZE * stretches.len()) as u32)?;
+    put_u16(out, VERSION)?;
+    put_u32(out, unit)?;
+    put_u16(out, SIZES)?;
+    put_u32(out, 0)?;
+    put_pairs(out, stretches)?;
+    Ok(())
+}
+
+// How many stretches at the front belong to a unit.
+fn count_of(unit: u32, stretches: &[Stretch]) -> usize
+    ensures count { result ≡ spec.count_of unit stretches.now }
+    ensures within { result ≤ length stretches.now }
+{
+    for (i, stretch) in stretches.iter().enumerate() {
+        if stretch.unit != unit {
+            return i;
+        }
+    }
+    stretches.len()
+}
+
+/// Appends a table for each unit. The stretches of a unit follow one another.
+pub fn put_tables(out: &mut Vec<u8>, stretches: &[Stretch]) -> Result<(), NoMemory>
+    requires { 28 + 16 * length stretches.now < 2 ^ 32 - 1 }
+    ensures { OnOk result (out.new.items
+        ≡ out.old.items ++ spec.spelled_tables (spec.tables_of (length stretches.now) stretches.now)) }
+{
+    let mut rest = stretches;
+    for count in 0..stretches.len() {
+        match rest.split_first() {
+            None => return Ok(()),
+            Some((first, others)) => {
+                let (table, behind) = rest.split_at(count_of(first.unit, others) + 1);
+                put_table(out, first.unit, table)?;
+                rest = behind;
+            }
+        }
+    }
+    Ok(())
+}

@@ -1,0 +1,73 @@
+// Tables of ranges of addresses. DWARF 5, section 6.1.2.
+ghost use Rattle.std.specs.Prelude.{◌≡◌, IfErr, IfOk, Ok, Err};
+ghost use Rattle.rb_bytes.specs.Readers.{bytes_at, number_read};
+ghost use Rattle.dw_unit.specs.Trouble.{whole};
+ghost use Rattle.dw_unit.specs.Stops.{IfTrouble};
+ghost use Rattle.addr_rewrite.specs.Aranges.{table_in};
+ghost use Rattle.addr_rewrite.specs.ArangesReading.{table_header};
+
+use crate::address_pairs::read_pairs;
+use dw_unit::trouble::{Stop, Trouble};
+use rb_bytes::cursor::Cursor;
+use std::alloc::Global;
+use table_core::Range;
+
+/// A table behind its length.
+#[derive(Drop)]
+pub struct Table {
+    /// The offset of the unit in `.debug_info`.
+    pub unit: u64,
+    pub ranges: Vec<Range>,
+}
+
+fn half<'a>(cursor: &mut Cursor<'a>) -> Result<u16, Trouble>
+    ensures read { IfOk result (λ x. whole (number_read 2 cursor.old.left) ≡ Ok (x, cursor.new.left)) }
+    ensures trouble { IfErr result (λ e. whole (number_read 2 cursor.old.left) ≡ Err e) }
+{
+    let number = cursor.u16()?;
+    Ok(number)
+}
+
+fn word<'a>(cursor: &mut Cursor<'a>) -> Result<u32, Trouble>
+    ensures read { IfOk result (λ x. whole (number_read 4 cursor.old.left) ≡ Ok (x, cursor.new.left)) }
+    ensures trouble { IfErr result (λ e. whole (number_read 4 cursor.old.left) ≡ Err e) }
+{
+    let number = cursor.u32()?;
+    Ok(number)
+}
+
+// Passes the bytes before the first pair.
+fn padding<'a>(cursor: &mut Cursor<'a>) -> Result<&'a [u8], Trouble>
+    ensures read { IfOk result (λ x. whole (bytes_at 4 cursor.old.left) ≡ Ok (x.now, cursor.new.left)) }
+    ensures trouble { IfErr result (λ e. whole (bytes_at 4 cursor.old.left) ≡ Err e) }
+{
+    let bytes = cursor.take(4)?;
+    Ok(bytes)
+}
+
+// The unit's offset, in the header behind the length of a table.
+fn header<'a>(cursor: &mut Cursor<'a>) -> Result<u64, Trouble>
+    ensures read { IfOk result (λ x. table_header cursor.old.left ≡ Ok (x, cursor.new.left)) }
+    ensures trouble { IfErr result (λ e. table_header cursor.old.left ≡ Err e) }
+{
+    half(cursor)?;
+    let unit = word(cursor)?;
+    let sizes = half(cursor)?;
+    padding(cursor)?;
+    if sizes == 8 {
+        Ok(unit as u64)
+    } else {
+        Err(Trouble::Unsound)
+    }
+}
+
+/// Reads the table in the bytes behind its length.
+pub fn read_table(alloc: Global, bytes: &[u8]) -> Result<Table, Stop>
+    ensures read { IfOk result (λ t. table_in bytes.now ≡ Ok (record { unit = t.unit; ranges = t.ranges.items })) }
+    ensures trouble { IfTrouble result (λ e. table_in bytes.now ≡ Err e) }
+{
+    let mut cursor = Cursor::new(bytes);
+    let unit = header(&mut cursor)?;
+    let ranges = read_pairs(alloc, &mut cursor)?;
+    Ok(Table { unit, ranges })
+}

@@ -1,0 +1,52 @@
+// The units of addresses.
+ghost use Rattle.std.specs.Prelude.{◌≡◌, ℕ, IfOk, map, option_map};
+ghost use Rattle.std.specs.List.{find};
+ghost use Rattle.table_core.specs.AddressRanges.{holds_address};
+
+use crate::unit_range::UnitRange;
+use rb_bytes::fault::NoMemory;
+use std::alloc::Global;
+use table_core::{FirstRange, Range};
+
+/// Which unit the first of many ranges belongs to that holds an address.
+#[derive(Drop)]
+pub struct UnitIndex {
+    /// The unit of each range.
+    units: Vec<u64>,
+    first: FirstRange,
+}
+
+fn units_of(alloc: Global, ranges: &[UnitRange]) -> Result<Vec<u64>, NoMemory>
+    ensures { IfOk result (λ units. units.items ≡ map (λ r. r.unit) ranges.now) }
+{
+    Ok(ranges.iter().map(|r| r.unit).collect(alloc)?)
+}
+
+fn bounds_of(alloc: Global, ranges: &[UnitRange]) -> Result<Vec<Range>, NoMemory>
+    ensures { IfOk result (λ bounds. bounds.items ≡ map (λ r. r.range) ranges.now) }
+{
+    Ok(ranges.iter().map(|r| r.range).collect(alloc)?)
+}
+
+impl UnitIndex {
+    ghost use Rattle.addr_rewrite.specs.ArangesReading.{unit_found};
+
+    /// That of some ranges, of which the first that holds an address counts.
+    pub fn new(alloc: Global, ranges: &[UnitRange]) -> Result<UnitIndex, NoMemory>
+        ensures { IfOk result (λ index. (a : ℕ) → unit_found index a
+            ≡ option_map (λ r. r.unit) (find (λ r. holds_address a r.range) ranges.now)) }
+    {
+        let units = units_of(alloc, ranges)?;
+        let bounds = bounds_of(alloc, ranges)?;
+        let first = FirstRange::new(alloc, &bounds)?;
+        Ok(UnitIndex { units, first })
+    }
+
+    /// The unit of an address.
+    pub fn find(&self, a: u64) -> Option<u64>
+        ensures { result ≡ unit_found self.now a }
+    {
+        let number = self.first.find(a)?;
+        self.units.get(number).copied()
+    }
+}

@@ -1,0 +1,10 @@
+// Ranges of addresses that belong to units.
+use table_core::Range;
+
+/// A range of a table of addresses.
+#[derive(Clone, Copy, PartialEq, Eq, Debug)]
+pub struct UnitRange {
+    pub range: Range,
+    /// The offset of the table's unit in `.debug_info`.
+    pub unit: u64,
+}
