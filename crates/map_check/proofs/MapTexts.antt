@@ -1,0 +1,56 @@
+-- The text of a map, one more line at a time.
+use Rattle.std.proofs.Common.{◌≡◌, ◌<◌, ◌+◌, ◌∙◌, ℕ, List, [], ◌∷◌, ◌++◌, All, length, arith, refl, ap, sym, append_assoc, append-nil}
+use Rattle.std.proofs.Common.{length-append, subst}
+use Rattle.std.specs.Prelude.{decimal}
+use Rattle.rb_bytes.specs.Text.{hexadecimal}
+use Rattle.std.proofs.lemmas.Grind.{flat_map-append}
+use Rattle.std.proofs.lemmas.List.Elements.{All-push}
+use Rattle.addr_map.specs.declared.span.Span.{Span}
+use Rattle.addr_map.specs.MapText.{span_line, map_text}
+use Rattle.map_check.specs.MapReading.{FitsLine, IsMapOfLines, IsFirstBadLine}
+use Rattle.map_check.proofs.LineTexts.{line_spelled}
+
+-- the lines read so far, and what is left
+pub record HasRead (text : List ℕ) (spans : List Span) (left : List ℕ) : Type 0 where
+  pub text_is : text ≡ map_text spans ++ left
+  pub fit : All FitsLine spans
+
+pub read_more : (text left rest : List ℕ) (spans new : List Span) (s : Span) → HasRead text spans left → left ≡ span_line s ++ rest →
+    FitsLine s → new ≡ spans ++ s ∷ [] → HasRead text new rest
+read_more text left rest spans new s read line fits is = record {
+  text_is = read.text_is ∙ ap (λ l. map_text spans ++ l) line ∙ sym (append_assoc (map_text spans) (span_line s) rest)
+      ∙ ap (λ l. (map_text spans ++ l) ++ rest) (sym (append-nil (span_line s)))
+      ∙ ap (λ l. l ++ rest) (sym (flat_map-append span_line spans (s ∷ [])))
+      ∙ ap (λ l. map_text l ++ rest) (sym is);
+  fit = subst (All FitsLine) (sym is) (All-push FitsLine spans s read.fit fits);
+}
+
+pub shorter : (left rest : List ℕ) (s : Span) → left ≡ span_line s ++ rest → length rest < length left
+shorter left rest s line =
+    let whole = ap length (line ∙ line_spelled s rest) in
+    let one = length-append (hexadecimal s.out) (32 ∷ (decimal s.len ++ 32 ∷ (hexadecimal s.input ++ 10 ∷ rest))) in
+    let two = length-append (decimal s.len) (32 ∷ (hexadecimal s.input ++ 10 ∷ rest)) in
+    let three = length-append (hexadecimal s.input) (10 ∷ rest) in
+    omega (arith, whole, one, two, three)
+
+nothing_left : (left : List ℕ) → length left ≡ 0 → left ≡ []
+nothing_left [] none = refl
+nothing_left (b ∷ left) none = absurd (omega arith)
+
+pub read_all : (text left : List ℕ) (spans : List Span) → HasRead text spans left → length left ≡ 0 → IsMapOfLines text spans
+read_all text left spans read none = record {
+  text_is = read.text_is ∙ ap (λ l. map_text spans ++ l) (nothing_left left none) ∙ append-nil (map_text spans);
+  fit = read.fit;
+}
+
+pub read_bad : (text left : List ℕ) (spans : List Span) (n : ℕ) → HasRead text spans left → (length left ≡ 0 → ⊥) →
+    ((s : Span) (rest : List ℕ) → FitsLine s → left ≡ span_line s ++ rest → ⊥) → n ≡ length spans + 1 → IsFirstBadLine text n
+read_bad text left spans n read some bad is = record {
+  before = spans;
+  good = read.fit;
+  rest = left;
+  text_is = read.text_is;
+  goes_on = λ none. some (ap length none);
+  bad = λ begins. bad begins.0 begins.1 begins.2 begins.3;
+  number_is = is;
+}

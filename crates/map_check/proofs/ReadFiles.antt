@@ -1,0 +1,106 @@
+-- What is known of files that were read: they are loaded low, and their code cells share no byte.
+use Rattle.std.proofs.Common.{◌≡◌, ◌∙◌, sym, subst, ap, ℕ, ◌+◌, ◌<◌, ◌≤◌, ⊎_elim, false, true, IsTrue, IsSome, List, Option, Some}
+use Rattle.std.proofs.Common.{All, Bool, None, arith, get_or, inl, inr, not}
+use Rattle.std.specs.Option.{option_map}
+use Rattle.std.proofs.lemmas.Bool.{cases_lt}
+use Rattle.rb_bytes.specs.declared.fault.FaultKind.TheVariants.{HighAddress}
+use Rattle.rb_bytes.proofs.ListLemmas.{all_of, pairs_in}
+use Rattle.rb_bytes.proofs.Searches.{find-found}
+use Rattle.rv_code.specs.declared.cell.CodeCell.{CodeCell}
+use Rattle.rv_code.specs.layout.FunctionLists.{address_end}
+use Rattle.rv_code.specs.layout.ProgramCode.{ProgramCode}
+use Rattle.elf_image.specs.declared.elf.Elf.{Elf}
+use Rattle.elf_image.specs.declared.segment.Segment.{Segment}
+use Rattle.elf_image.specs.file.Header.{segment, segments_of}
+use Rattle.elf_image.specs.file.ParsedFile.{IsElfOf}
+use Rattle.elf_image.specs.memory.Image.{loads_address, segment_of, byte_of}
+use Rattle.elf_image.specs.faults.FileFaults.{IsSound}
+use Rattle.elf_image.proofs.ReadLists.{get_or-segments}
+use Rattle.elf_code.specs.Cells.{Content, Counts, Field, IsCell, counts, gives_way}
+use Rattle.elf_code.specs.FileCode.{AreCells}
+use Rattle.code_starts.specs.LoadedMemory.{IsLow}
+use Rattle.rv_reloc.specs.Refs.{IsRead}
+use Rattle.move_law.specs.Laws.{IsAcceptedCode}
+use Rattle.move_law.proofs.code.CellWidths.{can_of, field_width}
+use Rattle.map_check.specs.internal.Cells.{AreApart, HasWidth}
+use Rattle.map_check.specs.internal.Verdicts.{AreReady}
+
+-- no segment of a sound file loads a high address
+segment_low : (file : List ℕ) (a : ℕ) (p : Segment) → IsSound file → segment_of (segments_of file) a ≡ Some p → a < address_end
+segment_low file a p sound e =
+    let found = find-found (loads_address a) (segments_of file) p e in
+    let at = get_or-segments file (found.1).0 p (found.1).1 in
+    let p_is : segment file (found.1).0 ≡ p = sym at.1 ∙ (found.1).2 in
+    ⊎_elim
+    (λ (low : a < address_end). low)
+    (λ (high : address_end ≤ a).
+    let loads = subst (λ q. IsTrue (loads_address a q)) (sym p_is) found.0 in
+    absurd (sound HighAddress a ((found.1).0, at.0, (loads, high))))
+    (cases_lt a address_end)
+
+by_segment : (file read : List ℕ) (a : ℕ) (o : Option Segment) → IsSound file → segment_of (segments_of file) a ≡ o →
+    IsSome (option_map (byte_of read a) o) → a < address_end
+by_segment file read a None sound e some = let wrong : false ≡ true = some in absurd (cc)
+by_segment file read a (Some p) sound e some = segment_low file a p sound e
+
+IsLow-read : (elf : Elf) → IsRead elf → IsLow elf
+IsLow-read elf is = record {
+  below = λ a some. by_segment is.file elf.file.now a (segment_of elf.segments.items a) is.sound
+      (ap (λ (l : List Segment). segment_of l a) (sym is.fields.segments)) some;
+}
+
+-- Code cells.
+
+abbrev field_of : CodeCell → Content → Field
+field_of c content = record { place = c.addr; width = c.width; content = content }
+
+-- a field that counts doesn't give way
+no_both : (elf : Elf) (tabled : List (ℕ × ℕ)) (f : Field) (b : Bool) → Counts elf tabled f b → Counts elf tabled f (not b) → ⊥
+no_both elf tabled f true (counts g can later) (gives_way h other can' before share counted) =
+    no_both elf tabled other false (later other (can_of counted) before share) counted
+no_both elf tabled f false (gives_way h other can before share counted) (counts g can' later) =
+    no_both elf tabled other true counted (later other (can_of counted) before share)
+
+module _ (elf : Elf) (tabled : List (ℕ × ℕ)) where
+  apart : (c d : CodeCell) → IsCell elf tabled c → IsCell elf tabled d → c.addr < d.addr → c.addr + c.width ≤ d.addr
+  apart c d is_c is_d before = by is_d.counted
+    where
+      shares : d.addr < c.addr + c.width → Counts elf tabled (field_of d is_d.content) true → ⊥
+      shares over (counts f can later) =
+          let width = field_width elf tabled (field_of d is_d.content) (can_of is_d.counted).is_field in
+          no_both elf tabled (field_of c is_c.content) true is_c.counted
+          (later (field_of c is_c.content) (can_of is_c.counted) (inl before) (omega (arith, before), over))
+
+      by : Counts elf tabled (field_of d is_d.content) true → c.addr + c.width ≤ d.addr
+      by counted = elim (cases_lt d.addr (c.addr + c.width)) [
+        | inl over ↦ absurd (shares over counted)
+        | inr past ↦ past
+      ]
+
+  width_of : (c : CodeCell) → IsCell elf tabled c → HasWidth c
+  width_of c is = field_width elf tabled (field_of c is.content) (can_of is.counted).is_field
+
+  cells_apart : (cells : List CodeCell) → AreCells elf tabled cells → AreApart cells
+  cells_apart cells are = record {
+    rising = λ i j d upto within. ⊎_elim
+        (λ (less : i < j). let before = are.ordered i j d less within in omega arith)
+        (λ (more : j ≤ i). let same : i ≡ j = omega arith in
+        let is = ap (λ (k : ℕ). (get_or cells k d).addr) same in omega arith)
+        (cases_lt i j);
+    apart = pairs_in (λ c d. c.addr < d.addr) (λ c d. c.addr + c.width ≤ d.addr) cells
+        (λ c d c_in d_in before. apart c d (are.only c c_in) (are.only d d_in) before) are.ordered;
+  }
+
+  cells_wide : (cells : List CodeCell) → AreCells elf tabled cells → All HasWidth cells
+  cells_wide cells are = all_of HasWidth cells (λ c c_in. width_of c (are.only c c_in))
+
+pub ready : (input : Elf) (code : ProgramCode) (output : Elf) → IsAcceptedCode input code → IsRead output →
+    AreReady input code.cells output
+ready input code output accepted read = record {
+  input_low = IsLow-read input (record { file = input.file.now; fields = accepted.read; sound = accepted.sound });
+  input_read = accepted.read;
+  output_low = IsLow-read output read;
+  output_read = subst (λ (f : List ℕ). IsElfOf f output) (sym read.fields.file_is) read.fields;
+  apart = cells_apart input accepted.tabled code.cells accepted.code_is.cells;
+  widths = cells_wide input accepted.tabled code.cells accepted.code_is.cells;
+}

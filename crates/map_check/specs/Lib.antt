@@ -1,0 +1,5 @@
+pub mod BadSpans
+pub mod FirstFalse
+pub mod Lacking
+pub mod MapReading
+pub mod internal

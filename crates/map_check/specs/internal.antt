@@ -1,0 +1,10 @@
+pub mod Cells
+pub mod EmptySpans
+pub mod Headers
+pub mod InstRows
+pub mod KeptBytes
+pub mod LineNumbers
+pub mod OutputCode
+pub mod PartsOfInst
+pub mod SpanLists
+pub mod Verdicts

@@ -1,0 +1,41 @@
+// What is asked of a rewrite, and what a check of it answers.
+ghost use Rattle.std.specs.Prelude.{◌≡◌};
+ghost use Rattle.map_check.specs.declared.clause.Verdict.{Verdict};
+ghost use Rattle.map_check.specs.FirstFalse.{Claim, IsVerdict};
+
+/// The clauses of a faithful rewrite, in their order.
+#[derive(Clone, Copy, PartialEq, Eq, Debug)]
+pub enum Clause {
+    /// A line of the map isn't one.
+    MapText,
+    /// The map isn't one of these instructions.
+    MapSpan,
+    /// A span doesn't lie in code of the output.
+    SpanBytes,
+    /// An instruction isn't kept.
+    Instruction,
+    /// Control doesn't go on to what follows.
+    Next,
+    /// The entry points differ.
+    Entry,
+    /// A byte of the input isn't kept.
+    Byte,
+    /// A cell doesn't hold its value.
+    Cell,
+    /// The layout that a program sees differs.
+    Table,
+}
+
+/// What a check answers.
+#[derive(Clone, Copy, PartialEq, Eq, Debug)]
+pub enum Verdict {
+    /// The rewrite is faithful.
+    Faithful,
+    /// The first clause that is false, at its lowest place.
+    Unfaithful(Clause, u64),
+}
+
+/// At most one verdict is right of a claim, so what `check` answers is right exactly where it answers it.
+pub fn verdict_law()
+    ensures { (c : Claim) (v w : Verdict) → IsVerdict c v → IsVerdict c w → v ≡ w }
+{}

@@ -1,0 +1,191 @@
+// Fields of a file's headers that a rewriting changes.
+ghost use Rattle.std.specs.Prelude.{Bool, ◌≡◌, ◌≤◌, ◌<◌, ◌+◌, ◌*◌, ◌⊎◌, ◌||◌, IfNone, IfSome, find, length, nat_le};
+ghost use Rattle.std.specs.Prelude.{option_copied};
+ghost use Rattle.std.specs.List.{enumerate_from, flat_map, list_any};
+ghost use Rattle.elf_image.specs.declared.elf.Elf.{Elf};
+ghost use Rattle.elf_image.specs.declared.segment.TheConstants.{PHDR_SIZE};
+ghost use Rattle.elf_image.specs.memory.CodeSegment.{executable_end, executable_segment};
+ghost use Rattle.elf_image.specs.memory.HiddenFields.{e_entry_field, hidden_fields, hidden_in_segment};
+ghost use Rattle.elf_image.specs.memory.HiddenFields.{is_executable_segment};
+ghost use Rattle.elf_image.specs.memory.HiddenFields.{is_hidden_field, only, section_fields};
+ghost use Rattle.elf_image.specs.memory.LoadedBytes.{address_of, is_in_range, loads_range};
+ghost use Rattle.code_starts.specs.LoadedMemory.{IsLow};
+ghost use Rattle.map_check.specs.internal.Headers.{AreHeadersOf, file_fields};
+
+use elf_image::code_segment::executable_segment;
+use elf_image::segment::{PHDR_SIZE, PT_GNU_EH_FRAME};
+use elf_image::{Elf, Segment};
+
+/// What tells which fields of a file's headers are hidden.
+#[derive(Clone, Copy, PartialEq, Eq, Debug)]
+pub struct Headers {
+    /// Whether the file has no room behind its executable segment.
+    pub tight: bool,
+    /// The address of the field `e_entry`, if one segment loads it whole.
+    pub entry: Option<u64>,
+    /// The index of the executable segment, and its program header.
+    pub executable: Option<(usize, Segment)>,
+}
+
+// The first segment that loads the field `e_entry` whole.
+fn entry_segment(segments: &[Segment]) -> Option<&Segment>
+    ensures { option_copied result ≡ find (loads_range e_entry_field) segments.now }
+{
+    segments.iter().find(|p| p.loads_range(0x18, 8))
+}
+
+// The address of the field `e_entry`, if one segment loads it whole.
+fn entry_address(elf: &Elf) -> Option<u64>
+    requires { IsLow elf.now }
+    ensures { result ≡ address_of elf.now e_entry_field }
+{
+    match entry_segment(&elf.segments) {
+        Some(p) => Some(p.vaddr + (0x18 - p.offset)),
+        None => None,
+    }
+}
+
+impl Headers {
+    /// Those of a file.
+    pub fn of(elf: &Elf, tight: bool) -> Headers
+        requires { IsLow elf.now }
+        ensures { AreHeadersOf elf.now tight result }
+    {
+        Headers {
+            tight,
+            entry: entry_address(elf),
+            executable: executable_segment(&elf.segments),
+        }
+    }
+}
+
+// Whether a field of so many bytes has an offset.
+fn has(start: u128, size: u64, offset: u128) -> bool
+    ensures { result ≡ is_in_range offset (record { start = start; size = size }) }
+{
+    start <= offset && offset - start < size as u128
+}
+
+// Whether fields before or one more, if it is hidden, have an offset.
+fn or_has(found: bool, is_hidden: bool, start: u128, size: u64, offset: u128) -> bool
+    ensures { result
+        ≡ (found || list_any (is_in_range offset) (only is_hidden (record { start = start; size = size }))) }
+{
+    found || is_hidden && has(start, size, offset)
+}
+
+// The offset past the executable segment's bytes.
+fn executable_end(executable: Option<(usize, Segment)>) -> u128
+    ensures { (elf : Elf) → executable ≡ executable_segment elf.segments.items →
+        result ≡ executable_end elf.segments.items }
+{
+    match executable {
+        Some((_, p)) => p.offset as u128 + p.filesz as u128,
+        None => 0,
+    }
+}
+
+// Whether an index is that of the executable segment.
+fn is_executable_segment(executable: Option<(usize, Segment)>, index: usize) -> bool
+    ensures { (elf : Elf) → executable ≡ executable_segment elf.segments.items →
+        result ≡ is_executable_segment elf index }
+{
+    match executable {
+        Some((at, _)) => at == index,
+        None => false,
+    }
+}
+
+// Whether the table of program headers moves.
+fn table_moves(elf: &Elf, headers: &Headers) -> bool
+    ensures { (tight : Bool) → AreHeadersOf elf.now tight headers.now →
+        result ≡ (tight || nat_le (executable_end elf.now.segments.items) elf.now.phoff) }
+{
+    headers.tight || executable_end(headers.executable) <= elf.phoff as u128
+}
+
+// Whether an offset is one of the fields of the file's header that say where the section headers are.
+fn in_section_fields(offset: u128) -> bool
+    ensures { result ≡ list_any (is_in_range offset) section_fields }
+{
+    has(0x28, 8, offset) || has(0x3c, 2, offset) || has(0x3e, 2, offset)
+}
+
+// Whether an offset is one of a hidden field of the file's header.
+fn in_file_header(elf: &Elf, headers: &Headers, offset: u128) -> bool
+    ensures { (tight : Bool) → AreHeadersOf elf.now tight headers.now →
+        result ≡ list_any (is_in_range offset) (file_fields elf.now tight) }
+{
+    let in_sections = in_section_fields(offset);
+    let in_phoff = or_has(in_sections, table_moves(elf, headers), 0x20, 8, offset);
+    let in_phnum = or_has(in_phoff, headers.tight, 0x38, 2, offset);
+    or_has(in_phnum, headers.entry.is_none(), 0x18, 8, offset)
+}
+
+// Whether the bytes of a segment stand behind those of the executable one.
+fn is_behind(headers: &Headers, p: &Segment) -> bool
+    ensures { (elf : Elf) (tight : Bool) → AreHeadersOf elf tight headers.now →
+        result ≡ nat_le (executable_end elf.segments.items) p.now.offset }
+{
+    executable_end(headers.executable) <= p.offset as u128
+}
+
+// Whether an offset is one of a hidden field of the program header of an index.
+fn in_program_header(elf: &Elf, headers: &Headers, index: usize, p: &Segment, offset: u128) -> bool
+    ensures { (tight : Bool) → AreHeadersOf elf.now tight headers.now →
+        result ≡ list_any (is_in_range offset) (hidden_in_segment elf.now (index, p.now)) }
+{
+    let at = elf.phoff as u128 + PHDR_SIZE as u128 * index as u128;
+    let is_executable = is_executable_segment(headers.executable, index);
+    let in_sizes = or_has(false, is_executable, at + 32, 16, offset);
+    let in_offset = or_has(in_sizes, is_behind(headers, p), at + 8, 8, offset);
+    or_has(in_offset, p.kind == PT_GNU_EH_FRAME, at + 8, 40, offset)
+}
+
+// The index of the program header that has an offset.
+fn index_at(elf: &Elf, offset: u128) -> Option<usize>
+    ensures within { IfSome result (λ i. i < length elf.now.segments.items) }
+    ensures from { IfSome result (λ i. elf.now.phoff + PHDR_SIZE * i ≤ offset) }
+    ensures to { IfSome result (λ i. offset < elf.now.phoff + PHDR_SIZE * i + PHDR_SIZE) }
+    ensures none { IfNone result
+        ((offset < elf.now.phoff) ⊎ (elf.now.phoff + PHDR_SIZE * length elf.now.segments.items ≤ offset)) }
+{
+    let place = offset.checked_sub(elf.phoff as u128)?;
+    let index = place / PHDR_SIZE as u128;
+    if index < elf.segments.len() as u128 {
+        Some(index as usize)
+    } else {
+        None
+    }
+}
+
+// Whether an offset is one of a hidden field of the program headers.
+fn in_program_headers(elf: &Elf, headers: &Headers, offset: u128) -> bool
+    ensures { (tight : Bool) → AreHeadersOf elf.now tight headers.now →
+        result ≡ list_any (is_in_range offset)
+        (flat_map (hidden_in_segment elf.now) (enumerate_from 0 elf.now.segments.items)) }
+{
+    match index_at(elf, offset) {
+        Some(index) => in_program_header(elf, headers, index, &elf.segments[index], offset),
+        None => false,
+    }
+}
+
+// Whether an offset is one of a hidden field.
+fn is_hidden(elf: &Elf, headers: &Headers, offset: u128) -> bool
+    ensures { (tight : Bool) → AreHeadersOf elf.now tight headers.now →
+        result ≡ list_any (is_in_range offset) (hidden_fields elf.now tight) }
+{
+    in_file_header(elf, headers, offset) || in_program_headers(elf, headers, offset)
+}
+
+/// Whether the byte at an address is one of a hidden field.
+pub fn is_hidden_field(elf: &Elf, headers: &Headers, address: u64) -> bool
+    ensures { (tight : Bool) → AreHeadersOf elf.now tight headers.now →
+        result ≡ is_hidden_field elf.now tight address }
+{
+    match elf.file_offset(address) {
+        Some(offset) => is_hidden(elf, headers, offset),
+        None => false,
+    }
+}

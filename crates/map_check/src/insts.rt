@@ -1,0 +1,110 @@
+// All instructions of the input.
+ghost use Rattle.std.specs.Prelude.{◌≡◌, ◌+◌, ◌<◌, ℕ, Contains, length, slice_index_or};
+ghost use Rattle.std.specs.List.Sorted.{IsNonDecreasingBy};
+ghost use Rattle.rv_code.specs.declared.placed.Placed.{Placed};
+ghost use Rattle.rv_code.specs.layout.Flow.{insts_of};
+ghost use Rattle.rv_code.specs.layout.FunctionLists.{AreLaidOut};
+ghost use Rattle.elf_image.specs.declared.elf.Elf.{Elf};
+ghost use Rattle.sym_machine.specs.internal.FunctionOrder.{addr_at};
+ghost use Rattle.move_law.specs.Rewrite.{Rewrite, Goes};
+ghost use Rattle.move_law.specs.FaithfulRewrite.{GoesOn, IsMapOf, KeepsInst};
+ghost use Rattle.move_law.specs.FaithfulRewrite as faithful;
+ghost use Rattle.code_starts.specs.LoadedMemory.{IsLow};
+ghost use Rattle.map_check.specs.internal.InstRows.{IsChecked, IsJudgedOf};
+
+use crate::keeps::{goes_on, keeps_inst};
+use crate::names::span_of;
+use addr_map::Span;
+use elf_image::Elf;
+use elf_image::lowest::{lower, place_if};
+use rv_code::Func;
+use rv_code::flow::is_call;
+
+// The address of the instruction after the i-th of a function.
+fn next_in(func: &Func, i: usize) -> Option<u64>
+    requires { i < length func.now.insts.items }
+    ensures { result ≡ addr_at func.now.insts.items (i + 1) }
+{
+    if i + 1 < func.insts.len() {
+        Some(func.insts[i + 1].addr)
+    } else {
+        None
+    }
+}
+
+// The address of the instruction to which control goes after the i-th of a function. The map has each instruction.
+fn next_at(table: &[Span], func: &Func, i: usize) -> Option<u64>
+    requires inside { i < length func.now.insts.items }
+    requires sorted { IsNonDecreasingBy (λ s. s.input) table.now }
+    ensures { (r : Rewrite) (output : Elf) (d : Placed) → IsChecked r output table.now → IsMapOf r →
+        AreLaidOut r.code.funcs → Contains r.code.funcs func.now →
+        faithful.next r (slice_index_or func.now.insts.items i d) ≡ result }
+{
+    let p = &func.insts[i];
+    if is_call(&p.inst) {
+        return next_in(func, i);
+    }
+    let after = p.addr.wrapping_add(p.len as u64);
+    match span_of(table, after) {
+        Some(_) => Some(after),
+        None => None,
+    }
+}
+
+fn lowest_unkept_in(output: &Elf, table: &[Span], func: &Func) -> Option<u64>
+    requires low { IsLow output.now }
+    requires sorted { IsNonDecreasingBy (λ s. s.input) table.now }
+    ensures { (r : Rewrite) → IsChecked r output.now table.now → IsMapOf r → AreLaidOut r.code.funcs →
+        Contains r.code.funcs func.now → IsJudgedOf (KeepsInst r (Goes r.output)) func.now.insts.items result }
+{
+    let mut lowest = None;
+    for i in 0..func.insts.len() {
+        let p = &func.insts[i];
+        let kept = keeps_inst(output, table, p, next_at(table, func, i));
+        lowest = lower(lowest, place_if(!kept, p.addr));
+    }
+    lowest
+}
+
+/// The lowest address of an instruction that isn't kept.
+pub fn lowest_unkept(output: &Elf, table: &[Span], funcs: &[Func]) -> Option<u64>
+    requires low { IsLow output.now }
+    requires sorted { IsNonDecreasingBy (λ s. s.input) table.now }
+    ensures { (r : Rewrite) → IsChecked r output.now table.now → IsMapOf r → AreLaidOut funcs.now →
+        r.code.funcs ≡ funcs.now → IsJudgedOf (KeepsInst r (Goes r.output)) (insts_of funcs.now) result }
+{
+    let mut lowest = None;
+    for func in funcs {
+        lowest = lower(lowest, lowest_unkept_in(output, table, func));
+    }
+    lowest
+}
+
+fn lowest_unfollowed_in(output: &Elf, table: &[Span], func: &Func) -> Option<u64>
+    requires low { IsLow output.now }
+    requires sorted { IsNonDecreasingBy (λ s. s.input) table.now }
+    ensures { (r : Rewrite) → IsChecked r output.now table.now → IsMapOf r → AreLaidOut r.code.funcs →
+        Contains r.code.funcs func.now → IsJudgedOf (GoesOn r (Goes r.output)) func.now.insts.items result }
+{
+    let mut lowest = None;
+    for i in 0..func.insts.len() {
+        let p = &func.insts[i];
+        let kept = goes_on(output, table, p, next_at(table, func, i));
+        lowest = lower(lowest, place_if(!kept, p.addr));
+    }
+    lowest
+}
+
+/// The lowest address of an instruction from whose end control doesn't go on to what followed it.
+pub fn lowest_unfollowed(output: &Elf, table: &[Span], funcs: &[Func]) -> Option<u64>
+    requires low { IsLow output.now }
+    requires sorted { IsNonDecreasingBy (λ s. s.input) table.now }
+    ensures { (r : Rewrite) → IsChecked r output.now table.now → IsMapOf r → AreLaidOut funcs.now →
+        r.code.funcs ≡ funcs.now → IsJudgedOf (GoesOn r (Goes r.output)) (insts_of funcs.now) result }
+{
+    let mut lowest = None;
+    for func in funcs {
+        lowest = lower(lowest, lowest_unfollowed_in(output, table, func));
+    }
+    lowest
+}

@@ -1,0 +1,94 @@
+// What a program finds of the layout of its file.
+ghost use Rattle.std.specs.Prelude.{◌≡◌, ◌≤◌, ◌↔◌, IfSome, IsTrue, find, option_copied};
+ghost use Rattle.elf_image.specs.file.ParsedFile.{IsElfOf};
+ghost use Rattle.elf_image.specs.memory.Break.{break_bound, break_start, page_size, rounded_down, table_address};
+ghost use Rattle.elf_image.specs.memory.LoadedBytes.{loads_range};
+ghost use Rattle.move_law.specs.FaithfulRewrite.{KeepsLayout, KeepsTable};
+ghost use Rattle.move_law.specs.Rewrite.{Rewrite};
+ghost use Rattle.map_check.specs.internal.KeptBytes.{AreBytesOf};
+
+use elf_image::segment::PHDR_SIZE;
+use elf_image::start::{BREAK_ROOM, PAGE_SIZE, writable_end};
+use elf_image::{Elf, Segment};
+
+// The first segment that loads a range of the file.
+fn range_segment(segments: &[Segment], start: u64, size: u64) -> Option<&Segment>
+    ensures first { option_copied result ≡ find (loads_range (record { start = start; size = size })) segments.now }
+    ensures within { IfSome result (λ p. p.now.offset ≤ start) }
+{
+    segments.iter().find(|p| p.loads_range(start, size))
+}
+
+// Where the table of program headers is loaded, 0 where no segment loads it from the file.
+fn table_address(elf: &Elf) -> u128
+    requires { IsElfOf elf.now.file.now elf.now }
+    ensures { result ≡ table_address elf.now.file.now }
+{
+    let segments: &[Segment] = &elf.segments;
+    let size = (PHDR_SIZE * segments.len()) as u64;
+    match range_segment(segments, elf.phoff, size) {
+        Some(segment) => segment.vaddr as u128 + (elf.phoff - segment.offset) as u128,
+        None => 0,
+    }
+}
+
+fn rounded_down(address: u64) -> u64
+    ensures { result ≡ rounded_down page_size address }
+{
+    address / PAGE_SIZE * PAGE_SIZE
+}
+
+// Where the break starts: at the end of the highest writable segment, on a whole page.
+fn break_start(segments: &[Segment]) -> u128
+    ensures { result ≡ break_start segments.now }
+{
+    let page = PAGE_SIZE as u128;
+    (writable_end(segments) + (page - 1)) / page * page
+}
+
+// How far the break may go.
+fn break_bound(segments: &[Segment]) -> u128
+    ensures { result ≡ break_bound segments.now }
+{
+    let end = writable_end(segments);
+    if end == 0 {
+        return 0;
+    }
+    let start = break_start(segments);
+    let mut bound = start + BREAK_ROOM as u128;
+    for segment in segments {
+        if segment.has_memory() && end <= segment.vaddr as u128 {
+            bound = bound.min(rounded_down(segment.vaddr) as u128);
+        }
+    }
+    start.max(bound)
+}
+
+// Whether the table of program headers is loaded where it was, and is as long as it was.
+fn keeps_table(input: &Elf, output: &Elf) -> bool
+    requires input { IsElfOf input.now.file.now input.now }
+    requires output { IsElfOf output.now.file.now output.now }
+    ensures { (r : Rewrite) → AreBytesOf r input.now output.now → IsTrue result ↔ KeepsTable r }
+{
+    table_address(input) == table_address(output) && input.segments.len() == output.segments.len()
+}
+
+// Whether the break starts where it did, and may go as far.
+fn keeps_break(input: &Elf, output: &Elf) -> bool
+    ensures start { IsTrue result → break_start input.now.segments.items ≡ break_start output.now.segments.items }
+    ensures bound { IsTrue result → break_bound input.now.segments.items ≡ break_bound output.now.segments.items }
+    ensures only { break_start input.now.segments.items ≡ break_start output.now.segments.items →
+        break_bound input.now.segments.items ≡ break_bound output.now.segments.items → IsTrue result }
+{
+    break_start(&input.segments) == break_start(&output.segments)
+        && break_bound(&input.segments) == break_bound(&output.segments)
+}
+
+/// Whether a program finds the break, and the table of program headers, where that counts, as before.
+pub fn keeps_layout(input: &Elf, output: &Elf, tight: bool) -> bool
+    requires input { IsElfOf input.now.file.now input.now }
+    requires output { IsElfOf output.now.file.now output.now }
+    ensures { (r : Rewrite) → AreBytesOf r input.now output.now → r.tight ≡ tight → IsTrue result ↔ KeepsLayout r }
+{
+    (tight || keeps_table(input, output)) && keeps_break(input, output)
+}

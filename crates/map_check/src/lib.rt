@@ -1,0 +1,25 @@
+//! Whether an output and a map are a faithful rewrite of an input, whoever made them.
+#![tactic(auto)]
+
+mod bytes;
+mod cells;
+mod changes;
+mod checking;
+mod clause;
+mod code_bytes;
+mod code_spans;
+mod headers;
+mod insts;
+mod keeps;
+mod layout;
+mod names;
+mod numbers;
+mod others;
+mod output;
+mod rows;
+mod same;
+mod spans;
+mod text;
+
+pub use checking::check;
+pub use clause::{Clause, Verdict, verdict_law};

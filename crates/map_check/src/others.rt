@@ -1,0 +1,140 @@
+// Single instructions of a rewrite that are no jumps and no branches.
+ghost use Rattle.std.specs.Prelude.{◌≡◌, ◌↔◌, ◌≤ℤ◌, ◌-ℤ◌, ◌+ℤ◌, ◌*ℤ◌, ◌^◌, pos, IsTrue};
+ghost use Rattle.std.specs.List.Sorted.{IsNonDecreasingBy};
+ghost use Rattle.rv_code.specs.isa.HiLo.{hi20, lo12};
+ghost use Rattle.addr_map.specs.Spans.{new};
+ghost use Rattle.move_law.specs.Rewrite.{Rewrite};
+ghost use Rattle.move_law.specs.Rewrite as rewrite;
+ghost use Rattle.move_law.specs.RelocatedValues.{distance};
+ghost use Rattle.move_law.specs.FaithfulRewrite.{HasInSpan, made_anew};
+ghost use Rattle.move_law.specs.FaithfulRewrite as faithful;
+ghost use Rattle.code_starts.specs.LoadedMemory.{IsLow};
+ghost use Rattle.map_check.specs.internal.InstRows.{IsChecked};
+
+use crate::rows::{found_in_span, new_of};
+use crate::same::is_same;
+use addr_map::Span;
+use elf_image::Elf;
+use rv_code::{Inst, Placed, Role};
+
+// How far one address is from another.
+fn distance(to: u64, from: u64) -> i128
+    ensures is { result ≡ distance to from }
+    ensures low { (pos 0 -ℤ pos (2 ^ 64)) ≤ℤ result }
+    ensures high { result ≤ℤ pos (2 ^ 64) }
+{
+    to as i128 - from as i128
+}
+
+// The upper part of a number, which is rounded.
+fn upper(v: i128) -> i64
+    requires low { (pos 0 -ℤ pos (2 ^ 64)) ≤ℤ v }
+    requires high { v ≤ℤ pos (2 ^ 64) }
+    ensures { result ≡ hi20 v }
+{
+    ((v + 0x800) >> 12) as i64
+}
+
+// An upper part in its place.
+fn shifted(upper: i64) -> i128
+    ensures { result ≡ pos 4096 *ℤ upper }
+{
+    4096 * upper as i128
+}
+
+// A difference that is small.
+fn small_difference(v: i128, whole: i128) -> i64
+    requires low { (whole -ℤ pos 2048) ≤ℤ v }
+    requires high { v ≤ℤ (whole +ℤ pos 2047) }
+    requires least { (pos 0 -ℤ pos (2 ^ 64)) ≤ℤ v }
+    requires most { v ≤ℤ pos (2 ^ 64) }
+    ensures { result ≡ v -ℤ whole }
+{
+    (v - whole) as i64
+}
+
+// The lower part that belongs to it.
+fn lower_part(v: i128) -> i64
+    requires low { (pos 0 -ℤ pos (2 ^ 64)) ≤ℤ v }
+    requires high { v ≤ℤ pos (2 ^ 64) }
+    ensures { result ≡ lo12 v }
+{
+    let whole = shifted(upper(v));
+    small_difference(v, whole)
+}
+
+// An instruction with another immediate, where it can have one of an address.
+fn with_immediate(inst: &Inst, imm: i64) -> Inst
+    ensures { result ≡ faithful.with_immediate inst.now imm }
+{
+    match *inst {
+        Inst::Lui { rd, .. } => Inst::Lui { rd, imm },
+        Inst::Auipc { rd, .. } => Inst::Auipc { rd, imm },
+        Inst::Addi { rd, rs1, .. } => Inst::Addi { rd, rs1, imm },
+        Inst::Jalr { rd, rs1, .. } => Inst::Jalr { rd, rs1, imm },
+        Inst::Lb { rd, rs1, .. } => Inst::Lb { rd, rs1, imm },
+        Inst::Lh { rd, rs1, .. } => Inst::Lh { rd, rs1, imm },
+        Inst::Lw { rd, rs1, .. } => Inst::Lw { rd, rs1, imm },
+        Inst::Ld { rd, rs1, .. } => Inst::Ld { rd, rs1, imm },
+        Inst::Lbu { rd, rs1, .. } => Inst::Lbu { rd, rs1, imm },
+        Inst::Lhu { rd, rs1, .. } => Inst::Lhu { rd, rs1, imm },
+        Inst::Lwu { rd, rs1, .. } => Inst::Lwu { rd, rs1, imm },
+        Inst::Sb { rs1, rs2, .. } => Inst::Sb { rs1, rs2, imm },
+        Inst::Sh { rs1, rs2, .. } => Inst::Sh { rs1, rs2, imm },
+        Inst::Sw { rs1, rs2, .. } => Inst::Sw { rs1, rs2, imm },
+        Inst::Sd { rs1, rs2, .. } => Inst::Sd { rs1, rs2, imm },
+        _ => *inst,
+    }
+}
+
+// An instruction by its role with the parts of new addresses.
+fn made_anew(table: &[Span], p: &Placed) -> Inst
+    requires { IsNonDecreasingBy (λ s. s.input) table.now }
+    ensures { result ≡ made_anew (new table.now) p.now.addr p.now.role p.now.inst }
+{
+    match p.role {
+        Role::Plain => p.inst,
+        Role::CallHi { target } => {
+            with_immediate(
+                &p.inst,
+                upper(distance(new_of(table, target), new_of(table, p.addr))),
+            )
+        }
+        Role::CallLo { hi, target } => {
+            with_immediate(
+                &p.inst,
+                lower_part(distance(new_of(table, target), new_of(table, hi))),
+            )
+        }
+        Role::Hi { target } => {
+            with_immediate(
+                &p.inst,
+                upper(distance(new_of(table, target), new_of(table, p.addr))),
+            )
+        }
+        Role::Lo { hi, target } => {
+            with_immediate(
+                &p.inst,
+                lower_part(distance(new_of(table, target), new_of(table, hi))),
+            )
+        }
+        Role::AbsHi { target } => with_immediate(&p.inst, upper(new_of(table, target) as i128)),
+        Role::AbsLo { target } => with_immediate(
+            &p.inst,
+            lower_part(new_of(table, target) as i128),
+        ),
+    }
+}
+
+// Whether an instruction that is no JAL and no branch is kept.
+pub fn keeps_other(output: &Elf, table: &[Span], p: &Placed) -> bool
+    requires low { IsLow output.now }
+    requires sorted { IsNonDecreasingBy (λ s. s.input) table.now }
+    ensures { (r : Rewrite) → IsChecked r output.now table.now →
+        IsTrue result ↔ HasInSpan r p.now (made_anew (rewrite.out r) p.now.addr p.now.role p.now.inst) }
+{
+    match found_in_span(output, table, p) {
+        Some(f) => is_same(&f.inst, &made_anew(table, p)),
+        None => false,
+    }
+}

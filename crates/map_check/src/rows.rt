@@ -1,0 +1,139 @@
+// Single instructions of a rewrite: where they are, and branches.
+ghost use Rattle.std.specs.Prelude.{◌≡◌, ◌↔◌, ℕ, IsTrue};
+ghost use Rattle.std.specs.List.Sorted.{IsNonDecreasingBy};
+ghost use Rattle.rv_code.specs.declared.placed.Placed.{Placed};
+ghost use Rattle.addr_map.specs.Spans.{new};
+ghost use Rattle.move_law.specs.Rewrite.{Rewrite, Goes};
+ghost use Rattle.move_law.specs.FaithfulRewrite.{GetsToNext, KeepsBranch};
+ghost use Rattle.move_law.specs.FaithfulRewrite as faithful;
+ghost use Rattle.code_starts.specs.LoadedMemory.{IsLow};
+ghost use Rattle.map_check.specs.internal.InstRows.{FindsBranch, FindsInSpan, IsChecked, Leads};
+
+use crate::names::span_of;
+use crate::output::{goes, inst_at, moved_by};
+use addr_map::Span;
+use elf_image::Elf;
+use rv_code::{Action, Inst, Placed, Test};
+
+/// An instruction of the output, where it stands, and its width.
+#[derive(Clone, Copy, PartialEq, Eq, Debug)]
+pub struct Found {
+    pub out: u64,
+    pub inst: Inst,
+    pub width: u8,
+}
+
+/// The new address of the instruction at `a`. Any other address stays as it is.
+pub fn new_of(table: &[Span], a: u64) -> u64
+    requires { IsNonDecreasingBy (λ s. s.input) table.now }
+    ensures { result ≡ new table.now a }
+{
+    match span_of(table, a) {
+        Some(span) => span.out,
+        None => a,
+    }
+}
+
+/// The instruction in the span of one of the input.
+pub fn found_in_span(output: &Elf, table: &[Span], p: &Placed) -> Option<Found>
+    requires low { IsLow output.now }
+    requires sorted { IsNonDecreasingBy (λ s. s.input) table.now }
+    ensures { (r : Rewrite) → IsChecked r output.now table.now → FindsInSpan r p.now result }
+{
+    match span_of(table, p.addr) {
+        Some(span) => match inst_at(output, span.out) {
+            Some((inst, width)) => {
+                if width > span.len {
+                    return None;
+                }
+                Some(Found {
+                    out: span.out,
+                    inst,
+                    width,
+                })
+            }
+            None => None,
+        },
+        None => None,
+    }
+}
+
+/// Whether control gets from a place to the next instruction, if there is one.
+pub fn gets_to(output: &Elf, table: &[Span], from: u64, next: Option<u64>) -> bool
+    requires low { IsLow output.now }
+    requires sorted { IsNonDecreasingBy (λ s. s.input) table.now }
+    ensures { (r : Rewrite) (p : Placed) → IsChecked r output.now table.now → faithful.next r p ≡ next →
+        IsTrue result ↔ GetsToNext r (Goes r.output) p from }
+{
+    match next {
+        Some(a) => goes(output, from, new_of(table, a)),
+        None => true,
+    }
+}
+
+fn leads(output: &Elf, table: &[Span], yes: u64, no: u64, target: u64, next: Option<u64>) -> bool
+    requires low { IsLow output.now }
+    requires sorted { IsNonDecreasingBy (λ s. s.input) table.now }
+    ensures { (r : Rewrite) (p : Placed) → IsChecked r output.now table.now → faithful.next r p ≡ next →
+        IsTrue result ↔ Leads r p yes no target }
+{
+    let there = goes(output, yes, new_of(table, target));
+    let on = gets_to(output, table, no, next);
+    there && on
+}
+
+// Whether an instruction branches on this test of these registers or on its opposite, and its distance.
+fn branch_of(inst: &Inst, test: Test, rs1: u8, rs2: u8) -> Option<(bool, i64)>
+    ensures { FindsBranch test rs1 rs2 inst.now result }
+{
+    match inst.action() {
+        Action::Branch {
+            test: found,
+            wanted,
+            rs1: left,
+            rs2: right,
+            imm,
+        } => {
+            if found == test && left == rs1 && right == rs2 {
+                Some((wanted, imm))
+            } else {
+                None
+            }
+        }
+        _ => None,
+    }
+}
+
+// Whether a branch is kept.
+pub fn keeps_branch(
+    output: &Elf,
+    table: &[Span],
+    p: &Placed,
+    test: Test,
+    wanted: bool,
+    rs1: u8,
+    rs2: u8,
+    target: u64,
+    next: Option<u64>,
+) -> bool
+    requires low { IsLow output.now }
+    requires sorted { IsNonDecreasingBy (λ s. s.input) table.now }
+    ensures { (r : Rewrite) → IsChecked r output.now table.now → faithful.next r p.now ≡ next →
+        IsTrue result ↔ KeepsBranch r (Goes r.output) p.now test wanted rs1 rs2 target }
+{
+    match found_in_span(output, table, p) {
+        Some(f) => match branch_of(&f.inst, test, rs1, rs2) {
+            Some((same, imm)) => {
+                let there = moved_by(f.out, imm);
+                let end = f.out.wrapping_add(f.width as u64);
+                if same == wanted {
+                    leads(output, table, there, end, target, next)
+                } else {
+                    leads(output, table, end, there, target, next)
+                }
+            }
+            None => false,
+        },
+        None => false,
+    }
+}
