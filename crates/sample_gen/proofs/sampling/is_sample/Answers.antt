@@ -1,0 +1,27 @@
+use Rattle.std.proofs.Common.{sym, subst, ℕ, List}
+use Rattle.rv_code.specs.declared.cell.CodeCell.{CodeCell}
+use Rattle.rv_code.specs.declared.placed.Func.{Func}
+use Rattle.program.specs.Program.{IsProgramOf, program_seen}
+use Rattle.program.specs.declared.unbuilt.Unbuilt.TheVariants.{Nothing}
+use Rattle.sample_gen.specs.Faultless.{IsFaultless}
+use Rattle.sample_gen.specs.FoundCode.{HasSampleCode}
+use Rattle.sample_gen.proofs.sampling.is_sample.Goals as goal
+
+pub is_faultless-requires : goal.is_faultless-requires
+is_faultless-requires c =
+    subst (λ (file : List ℕ). IsProgramOf Nothing file (program_seen c.in_ok-program.program))
+    (sym c.in_ok-program.ensures.program.faultless.read.file_is) c.in_ok-program.ensures.program
+
+pub returns : goal.returns
+returns c = λ yes. record {
+  program = program_seen c.in_ok-program.program;
+  faultless =
+      subst (λ (file : List ℕ). IsFaultless file c.args.profile.now (program_seen c.in_ok-program.program))
+      c.in_ok-program.ensures.program.faultless.read.file_is (c.in_ok-faultless.ensures yes);
+  code =
+      subst (λ (funcs : List Func). HasSampleCode c.args.n c.in_ok-program.program.elf funcs c.in_ok-program.program.refs.cells.items)
+      c.deref.ensures.value
+      (subst (λ (cells : List CodeCell). HasSampleCode c.args.n c.in_ok-program.program.elf c.deref.result.now cells)
+      c.deref-2.ensures.value (c.in_ok-has_sample_code.ensures c.if-not-branch.false));
+  profile_is = c.requires.profile;
+}

@@ -1,0 +1,5 @@
+pub mod SampleCode
+pub mod SampleText
+pub mod FoundCode
+pub mod Faultless
+pub mod Sample

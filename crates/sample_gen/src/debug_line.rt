@@ -1,0 +1,94 @@
+// The line table of a sample. DWARF 5, section 6.2.
+use crate::numbers::{low, put_u16, put_u32, put_u64, put_unit};
+use crate::places::{CODE, FUNCTION_SIZE, START_SIZE};
+use rb_bytes::fault::NoMemory;
+use rb_bytes::leb::{put_sleb, put_uleb};
+use std::alloc::Global;
+
+const VERSION: u16 = 5;
+
+// The size of addresses, and of segment selectors.
+const SIZES: &[u8] = b"\x08\0";
+
+// The header's fields behind its length: one byte an instruction, rows are statements, lines from -5 on in 14 steps, and
+// 12 standard operations.
+const FIELDS: &[u8] = b"\x01\x01\x01\xfb\x0e\x0d\0\x01\x01\x01\x01\0\0\0\x01\0\0\x01";
+
+// The directory `/s`, and two files in it, each by its name and the directory's number.
+const NAMES: &[u8] = b"\x01\x01\x08\x01/s\0\x02\x01\x08\x02\x0b\x02sample.c\0\0sample.c\0\0";
+
+// The operations of a program that append a row, advance the address, and advance the line.
+const DW_LNS_COPY: u8 = 1;
+
+const DW_LNS_ADVANCE_PC: u8 = 2;
+
+const DW_LNS_ADVANCE_LINE: u8 = 3;
+
+// The operations that set the address, and that end the sequence, each behind a zero and its length.
+const SET_ADDRESS: &[u8] = b"\0\x09\x02";
+
+const END_SEQUENCE: &[u8] = b"\0\x01\x01";
+
+// Where the rows of a function stand in it. Each has one line more than the one before it.
+const ROWS: [u64; 4] = [0, 0x10, 0x18, 0x1c];
+
+// How far the first line of a function is behind the last one of the function before it.
+const LINES_BETWEEN: i64 = 7;
+
+fn put_advance(program: &mut Vec<u8>, by: u64) -> Result<(), NoMemory> {
+    program.push(DW_LNS_ADVANCE_PC)?;
+    put_uleb(program, by)?;
+    Ok(())
+}
+
+// Appends that the line goes up, and a row.
+fn put_row(program: &mut Vec<u8>, lines: i64) -> Result<(), NoMemory> {
+    program.push(DW_LNS_ADVANCE_LINE)?;
+    put_sleb(program, lines)?;
+    program.push(DW_LNS_COPY)?;
+    Ok(())
+}
+
+// Appends the rows of a function. The program stands at its first byte, or at the last row of the function before it.
+fn put_rows(program: &mut Vec<u8>, is_first: bool) -> Result<(), NoMemory> {
+    if is_first {
+        program.push(DW_LNS_COPY)?;
+    } else {
+        put_advance(program, FUNCTION_SIZE - ROWS[3])?;
+        put_row(program, LINES_BETWEEN)?;
+    }
+    put_advance(program, ROWS[1] - ROWS[0])?;
+    put_row(program, 1)?;
+    put_advance(program, ROWS[2] - ROWS[1])?;
+    put_row(program, 1)?;
+    put_advance(program, ROWS[3] - ROWS[2])?;
+    put_row(program, 1)?;
+    Ok(())
+}
+
+fn put_program(unit: &mut Vec<u8>, n: u64) -> Result<(), NoMemory> {
+    unit.extend_from_slice(SET_ADDRESS)?;
+    put_u64(unit, CODE)?;
+    for k in 0..n {
+        put_rows(unit, k == 0)?;
+    }
+    put_advance(unit, FUNCTION_SIZE - ROWS[3])?;
+    put_row(unit, LINES_BETWEEN)?;
+    put_advance(unit, START_SIZE)?;
+    unit.extend_from_slice(END_SEQUENCE)?;
+    Ok(())
+}
+
+/// The line unit: one sequence, with four rows for each of at least one function, and one for the entry point.
+pub fn lines(alloc: Global, n: u64) -> Result<Vec<u8>, NoMemory> {
+    let mut unit = Vec::new(alloc);
+    put_u16(&mut unit, VERSION)?;
+    unit.extend_from_slice(SIZES)?;
+    put_u32(&mut unit, low((FIELDS.len() + NAMES.len()) as u64))?;
+    unit.extend_from_slice(FIELDS)?;
+    unit.extend_from_slice(NAMES)?;
+    put_program(&mut unit, n)?;
+    let mut lines = Vec::new(alloc);
+    put_unit(&mut lines, &unit)?;
+    Ok(lines)
+}

@@ -1,0 +1,94 @@
+// Whether a program can be rewritten: that no fault keeps it from that.
+ghost use Rattle.std.specs.Prelude.{◌≡◌, ◌≤◌, ℕ, All, IsTrue, IfOk, OnOk, false, length, sum_by};
+ghost use Rattle.rb_bytes.specs.FirstFault.{IsFree};
+ghost use Rattle.rv_code.specs.layout.WorstSizes as worst;
+ghost use Rattle.frame_rewrite.specs.Faults.{IsRegisteredFrames};
+ghost use Rattle.func_place.specs.Faults.{HasPlacementFault};
+ghost use Rattle.program.specs.Limits.{file_limit};
+ghost use Rattle.program.specs.Program.{IsProgramOf, program_seen};
+ghost use Rattle.program.specs.declared.unbuilt.Unbuilt.TheVariants.{Nothing};
+ghost use Rattle.table_set.specs.TableFaults.{HasTableFault};
+ghost use Rattle.sample_gen.specs.Faultless.{IsFaultless};
+
+use elf_image::Elf;
+use frame_rewrite::registered_frames;
+use program::{FILE_LIMIT, Program, check_code, new_start};
+use rb_bytes::fault::Refusal;
+use rv_code::worst_sizes::NEAR_LIMIT;
+use rv_code::{Block, Func, worst_size_of_block};
+use std::alloc::Global;
+use table_set::read_all;
+
+// How many headers a sample has, of sections and of segments.
+const SECTION_COUNT: usize = 13;
+
+const SEGMENT_COUNT: usize = 3;
+
+// Whether a jump reaches from anywhere to anywhere in the code, wherever its blocks are put.
+fn is_near(funcs: &[Func], blocks: &[Block]) -> bool
+    ensures { IsTrue result → sum_by (worst.worst_size_of_block funcs.now) blocks.now ≤ worst.near_limit }
+{
+    let mut room = NEAR_LIMIT;
+    for block in blocks {
+        let size = worst_size_of_block(funcs, block);
+        if size > room {
+            return false;
+        }
+        room -= size;
+    }
+    true
+}
+
+// Whether no function moves as one piece.
+fn none_whole(funcs: &[Func]) -> bool
+    ensures { IsTrue result → All (λ f. f.whole ≡ false) funcs.now }
+{
+    funcs.iter().all(|f| !f.whole)
+}
+
+// Whether no fault keeps code from being placed.
+fn can_be_placed(funcs: &[Func], blocks: &[Block]) -> bool
+    ensures { IsTrue result → IsFree (HasPlacementFault funcs.now blocks.now) }
+{
+    none_whole(funcs) && is_near(funcs, blocks)
+}
+
+// Whether a program has as few headers as a sample, and a profile is short enough.
+fn is_small(program: &Program<'_>, profile: &[u8]) -> bool
+    ensures sections { IsTrue result → length program.now.elf.sections.items ≡ 13 }
+    ensures segments { IsTrue result → length program.now.elf.segments.items ≡ 3 }
+    ensures profile { IsTrue result → length profile.now ≤ file_limit }
+{
+    program.elf.sections.len() == SECTION_COUNT
+        && program.elf.segments.len() == SEGMENT_COUNT
+        && profile.len() <= FILE_LIMIT
+}
+
+// Whether all tables can be carried; or a fault of one.
+fn have_sound_tables(alloc: Global, elf: &Elf<'_>) -> Result<bool, Refusal>
+    ensures registered { IfOk result (λ b. IsTrue b → (place : ℕ) → IsRegisteredFrames elf.now place → ⊥) }
+    ensures tables { OnOk result (IsFree (HasTableFault elf.now)) }
+{
+    read_all(alloc, elf)?;
+    match registered_frames(elf) {
+        Some(_) => Ok(false),
+        None => Ok(true),
+    }
+}
+
+/// Whether nothing keeps the program of a file from being rewritten by a profile; or a fault that does.
+pub fn is_faultless(alloc: Global, program: &Program<'_>, profile: &[u8]) -> Result<bool, Refusal>
+    requires { IsProgramOf Nothing program.now.elf.file.now (program_seen program.now) }
+    ensures { IfOk result (λ b. IsTrue b → IsFaultless program.now.elf.file.now profile.now (program_seen program.now)) }
+{
+    let elf = &program.elf;
+    if !can_be_placed(&program.funcs, &program.blocks) || !is_small(program, profile) {
+        return Ok(false);
+    }
+    if !have_sound_tables(alloc, elf)? {
+        return Ok(false);
+    }
+    new_start(alloc, program)?;
+    check_code(elf, &program.funcs)?;
+    Ok(true)
+}

@@ -1,0 +1,41 @@
+// Numbers that are appended to a table, the lowest byte first, and texts.
+use rb_bytes::fault::NoMemory;
+
+/// The low 32 bits of a number.
+pub fn low(n: u64) -> u32 {
+    (n % (1 << 32)) as u32
+}
+
+pub fn put_u16(out: &mut Vec<u8>, n: u16) -> Result<(), NoMemory> {
+    out.extend_from_slice(&n.to_le_bytes())?;
+    Ok(())
+}
+
+pub fn put_u32(out: &mut Vec<u8>, n: u32) -> Result<(), NoMemory> {
+    out.extend_from_slice(&n.to_le_bytes())?;
+    Ok(())
+}
+
+pub fn put_u64(out: &mut Vec<u8>, n: u64) -> Result<(), NoMemory> {
+    out.extend_from_slice(&n.to_le_bytes())?;
+    Ok(())
+}
+
+/// Appends how far one address is from another, in 32 bits.
+pub fn put_distance(out: &mut Vec<u8>, to: u64, from: u64) -> Result<(), NoMemory> {
+    put_u32(out, low(to.wrapping_sub(from)))
+}
+
+/// Appends a text and the zero byte that ends it.
+pub fn put_text(out: &mut Vec<u8>, text: &[u8]) -> Result<(), NoMemory> {
+    out.extend_from_slice(text)?;
+    out.push(0)?;
+    Ok(())
+}
+
+/// Appends bytes behind their length, in 32 bits.
+pub fn put_unit(out: &mut Vec<u8>, bytes: &[u8]) -> Result<(), NoMemory> {
+    put_u32(out, low(bytes.len() as u64))?;
+    out.extend_from_slice(bytes)?;
+    Ok(())
+}

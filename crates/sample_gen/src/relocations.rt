@@ -1,0 +1,56 @@
+// The relocations of a sample: those of its calls, and those of its pointers. psABI, "Relocations".
+ghost use Rattle.std.specs.Prelude.{◌≤◌};
+
+use crate::numbers::put_u64;
+use crate::places::{DATA, function_at};
+use elf_image::relocation::{R_RISCV_64, R_RISCV_CALL_PLT};
+use rb_bytes::fault::NoMemory;
+use std::alloc::Global;
+
+// Where a function calls the next one, and the code at the entry point the first.
+const CALL: u64 = 0x1c;
+
+const START_CALL: u64 = 4;
+
+// Appends a relocation of the symbol of function `k`, which is `k` + 1, behind the null symbol.
+fn put_relocation(table: &mut Vec<u8>, place: u64, k: u64, kind: u32) -> Result<(), NoMemory>
+    requires { k ≤ 1000 }
+{
+    put_u64(table, place)?;
+    put_u64(table, ((k + 1) << 32) | kind as u64)?;
+    put_u64(table, 0)
+}
+
+/// Those of the calls.
+pub fn calls(alloc: Global, n: u64) -> Result<Vec<u8>, NoMemory>
+    requires { n ≤ 1000 }
+{
+    let mut table = Vec::new(alloc);
+    for k in 1..n {
+        put_relocation(&mut table, function_at(k - 1) + CALL, k, R_RISCV_CALL_PLT)?;
+    }
+    put_relocation(&mut table, function_at(n) + START_CALL, 0, R_RISCV_CALL_PLT)?;
+    Ok(table)
+}
+
+/// Those of the pointers.
+pub fn pointers(alloc: Global, n: u64) -> Result<Vec<u8>, NoMemory>
+    requires { n ≤ 1000 }
+{
+    let mut table = Vec::new(alloc);
+    for k in 0..n {
+        put_relocation(&mut table, DATA + 8 * k, k, R_RISCV_64)?;
+    }
+    Ok(table)
+}
+
+/// The pointers themselves, one to each function.
+pub fn data(alloc: Global, n: u64) -> Result<Vec<u8>, NoMemory>
+    requires { n ≤ 1000 }
+{
+    let mut data = Vec::new(alloc);
+    for k in 0..n {
+        put_u64(&mut data, function_at(k))?;
+    }
+    Ok(data)
+}

@@ -1,0 +1,47 @@
+// Samples, as they are made and then read back.
+ghost use Rattle.std.specs.Prelude.{◌≡◌, ◌≤◌, IfOk, IsTrue};
+ghost use Rattle.sample_gen.specs.Sample.{IsSample};
+ghost use Rattle.sample_gen.specs.SampleText.{sample_profile};
+
+use crate::code_check::has_sample_code;
+use crate::fault_check::is_faultless;
+use crate::file::file;
+use crate::profile::profile;
+use program::{FILE_LIMIT, Unbuilt, read_program};
+use rb_bytes::fault::{NoMemory, Refusal};
+use std::alloc::Global;
+
+// Whether a file is sample `n` with its profile; or a fault that keeps it from being rewritten.
+fn is_sample(alloc: Global, file: &[u8], profile: &[u8], n: u64) -> Result<bool, Refusal>
+    requires n { n ≤ 1000 }
+    requires profile { profile.now ≡ sample_profile n }
+    ensures { IfOk result (λ b. IsTrue b → IsSample n file.now profile.now) }
+{
+    if file.len() > FILE_LIMIT {
+        return Ok(false);
+    }
+    let program = read_program(alloc, file, Unbuilt::Nothing)?;
+    if !has_sample_code(alloc, &program.elf, &program.funcs, &program.refs.cells, n)? {
+        return Ok(false);
+    }
+    let faultless = is_faultless(alloc, &program, profile)?;
+    Ok(faultless)
+}
+
+/// Sample `n`, from 1 to 1000: a file, and its profile.
+///
+/// The file is made, and then read back as any other: that its code, symbols and pointers are those of the sample, and that
+/// nothing keeps it from being rewritten. Want of memory is answered too where that isn't so, which no sample comes to.
+pub fn sample(alloc: Global, n: u16) -> Result<(Vec<u8>, Vec<u8>), NoMemory>
+    requires some { 1 ≤ n }
+    requires few { n ≤ 1000 }
+    ensures { IfOk result (λ s. IsSample n s.0.items s.1.items) }
+{
+    let n = n as u64;
+    let file = file(alloc, n)?;
+    let profile = profile(alloc, n)?;
+    match is_sample(alloc, &file, &profile, n) {
+        Ok(true) => Ok((file, profile)),
+        _ => Err(NoMemory),
+    }
+}
