@@ -3,7 +3,8 @@ use Rattle.std.proofs.Common.{◌≡◌, ◌<◌, ◌≤◌, ◌-◌, ◌+◌, �
 use Rattle.std.proofs.Common.{length, drop, take, get_or, length-take, length-drop, nat_le, nat_lt, Bool, true, false, cond}
 use Rattle.std.proofs.lemmas.Bool.Decides.{nat_tests}
 use Rattle.std.proofs.lemmas.List.{drop-drop, take-append-drop}
-use Rattle.std.proofs.lemmas.Bool.{cases_lt}
+use Rattle.std.specs.Prelude.{◌==◌, filter}
+use Rattle.std.proofs.lemmas.Bool.{cases_lt, eqb-true, ltb-true}
 use Rattle.std.proofs.lemmas.Grind.{common_steps}
 use Rattle.line_rewrite.specs.declared.coding.Coding.{Coding}
 use Rattle.line_rewrite.specs.declared.registers.Registers.{Registers}
@@ -12,7 +13,7 @@ use Rattle.line_rewrite.specs.LineMachine.{in_force, reached, greatest_address, 
 use Rattle.line_rewrite.specs.Walks.{Ascends, joined, latest}
 use Rattle.line_rewrite.specs.Operations.{operations}
 use Rattle.line_rewrite.specs.LineAnswers.{first_address}
-use Rattle.line_rewrite.specs.Keeping.{IsBefore, AreKept, Begins, row_at, rows_at_place}
+use Rattle.line_rewrite.specs.Keeping.{IsBefore, AreKept, Begins, are_past, row_at, rows_at_place}
 use Rattle.line_rewrite.proofs.InForce.{AllBelow, front_drop, latest_is}
 
 -- the row that a state stands before, and those after it
@@ -173,6 +174,45 @@ state_found coding lengths bytes rows kept before up_to below a d are up u in_ke
     ap (λ (n : ℕ). in_force a (drop n rows)) (row_get kept (length rows) (below - 1) d (omega arith))
     ∙ found_from coding lengths bytes rows kept (below - 1) (up_to - 1) a d are up (omega arith) (omega arith) (omega arith) low
 
+-- the first row in force has the greatest address that is reached
+first_greatest : (a : ℕ) (rows : List Registers) (r : Registers) (found : List Registers) → in_force a rows ≡ r ∷ found
+    → r.address ≡ greatest_address (reached a rows)
+unfolding in_force
+first_greatest a rows r found e = at_greatest (reached a rows) r found e
+  where
+    kept_first : (g : ℕ) (xs : List Registers) (r : Registers) (found : List Registers)
+        → filter (λ (x : Registers). x.address == g) xs ≡ r ∷ found → r.address ≡ g
+    kept_first g [] r found e = absurd (cc)
+    kept_first g (x ∷ xs) r found e = by (x.address == g) refl e (kept_first g xs r found)
+      where
+        by : (b : Bool) → (x.address == g) ≡ b → cond b (x ∷ filter (λ (y : Registers). y.address == g) xs)
+            (filter (λ (y : Registers). y.address == g) xs) ≡ r ∷ found
+            → (filter (λ (y : Registers). y.address == g) xs ≡ r ∷ found → r.address ≡ g) → r.address ≡ g
+        by true is e more = let same : x ≡ r = cc in subst (λ (y : Registers). y.address ≡ g) same (eqb-true x.address g is)
+        by false is e more = more e
+
+    at_greatest : (xs : List Registers) (r : Registers) (found : List Registers)
+        → filter (λ (x : Registers). x.address == greatest_address xs) xs ≡ r ∷ found → r.address ≡ greatest_address xs
+    at_greatest xs r found e = kept_first (greatest_address xs) xs r found e
+
+-- Rows in force that stand past a state's row are all.
+pub near_found : (coding : Coding) (lengths bytes : List ℕ) (rows : List Registers) (kept : List Kept) (f a : ℕ) (d : Kept)
+    → AreKept coding lengths bytes rows kept → Ascends 0 rows → f < length kept → (found : List Registers)
+    → found ≡ in_force a (drop (row_at kept (length rows) f) rows) → are_past found (get_or kept f d) ≡ true
+    → found ≡ in_force a rows
+near_found coding lengths bytes rows kept f a d are up h [] is past = absurd (cc)
+near_found coding lengths bytes rows kept f a d are up h (r ∷ found) is past =
+    let n : ℕ = (get_or kept f d).index in
+    let s : Before coding lengths bytes rows n (get_or kept f d) = kept_get coding lengths bytes rows kept f d are h in
+    let here : in_force a (drop n rows) ≡ r ∷ found =
+    sym (is ∙ ap (λ (n : ℕ). in_force a (drop n rows)) (row_get kept (length rows) f d h)) in
+    let great : r.address ≡ greatest_address (reached a (drop n rows)) = first_greatest a (drop n rows) r found here in
+    let above : (get_or kept f d).address < r.address = ltb-true (get_or kept f d).address r.address past in
+    let low : s.first.address < r.address = subst (λ (m : ℕ). m < r.address) (sym s.address) above in
+    let below : AllBelow r.address (take n rows) = before_below n 0 r.address rows s.first s.others up s.are low in
+    sym here ∙ sym (front_drop r.address a (take n rows) (drop n rows) below (omega (arith, great)))
+    ∙ ap (in_force a) (take-append-drop n rows)
+
 -- the first state stands before all rows
 pub first_found : (rows : List Registers) (kept : List Kept) (a : ℕ) → Begins (length rows) kept
     → in_force a (drop (row_at kept (length rows) 0) rows) ≡ in_force a rows
@@ -222,12 +262,11 @@ ascends_past zero from (r ∷ rows) up = (from, up)
 ascends_past (suc n) from (r ∷ rows) up = ascends_past n r.address rows up.1
 
 pub start_found : (rows : List Registers) (kept : List Kept) (state a : ℕ) → Ascends 0 rows
-    → in_force a (drop (row_at kept (length rows) state) rows) ≡ in_force a rows
-    → latest [] a (drop (row_at kept (length rows) state) rows) ≡ in_force a rows
-start_found rows kept state a up same =
+    → latest [] a (drop (row_at kept (length rows) state) rows) ≡ in_force a (drop (row_at kept (length rows) state) rows)
+start_found rows kept state a up =
     let past : (to : ℕ) × Ascends to (drop (row_at kept (length rows) state) rows) =
     ascends_past (row_at kept (length rows) state) 0 rows up in
-    latest_is past.0 a (drop (row_at kept (length rows) state) rows) past.1 ∙ same
+    latest_is past.0 a (drop (row_at kept (length rows) state) rows) past.1
 
 module _ (coding : Coding) (lengths bytes : List ℕ) (rows : List Registers) (kept : List Kept) (i a : ℕ) (d : Kept)
     (are : AreKept coding lengths bytes rows kept) where

@@ -1,5 +1,5 @@
 -- Kept states of a walk.
-use Rattle.std.specs.Prelude.{◌≡◌, ◌≤◌, ◌<◌, ◌||◌, ℕ, zero, suc, Bool, List, [], ◌∷◌, ◌++◌, nat_le, if◌then◌else◌}
+use Rattle.std.specs.Prelude.{◌≡◌, ◌≤◌, ◌<◌, ◌||◌, ℕ, zero, suc, Bool, false, List, [], ◌∷◌, ◌++◌, nat_le, nat_lt, if◌then◌else◌}
 use Rattle.std.specs.Prelude.{length, drop, slice_index_or}
 use Rattle.line_rewrite.specs.declared.coding.Coding.{Coding}
 use Rattle.line_rewrite.specs.declared.registers.Registers.{Registers}
@@ -48,3 +48,8 @@ kept_more due k kept = if is_due due k then kept ++ k ∷ [] else kept
 abbrev pub low_of : List Kept → ℕ → ℕ
 low_of [] end = end
 low_of (k ∷ kept) end = k.address
+
+-- rows that were found stand past the row of a state
+abbrev pub are_past : List Registers → Kept → Bool
+are_past [] k = false
+are_past (r ∷ found) k = nat_lt k.address r.address

@@ -5,7 +5,7 @@ ghost use Rattle.line_rewrite.specs.declared.kept.Kept.{Kept};
 ghost use Rattle.line_rewrite.specs.declared.registers.Registers.{Registers};
 ghost use Rattle.line_rewrite.specs.LineMachine.{in_force};
 ghost use Rattle.line_rewrite.specs.Walks.{Ascends};
-ghost use Rattle.line_rewrite.specs.Keeping.{AreKept, Begins, row_at};
+ghost use Rattle.line_rewrite.specs.Keeping.{AreKept, Begins, are_past, row_at};
 
 use crate::coding::Coding;
 use crate::kept::Kept;
@@ -64,24 +64,25 @@ fn row_at(kept: &[Kept], rows: usize, state: usize) -> usize
     }
 }
 
-/// The rows in force at an address, of a sequence with these states and so many rows.
-pub fn in_force_at(
+// The rows in force at an address among those from a state on.
+fn in_force_from(
     alloc: Global,
     coding: &Coding,
     lengths: &[u8],
     bytes: &[u8],
     kept: &[Kept],
     rows: usize,
+    first: usize,
     a: u64,
 ) -> Result<Vec<Registers>, AllocError>
     requires range { 0 < coding.now.line_range }
     requires lengths { coding.now.opcode_base ≤ length lengths.now + 1 }
     ensures { IfOk result (λ found. (list : List Registers) →
-        AreKept coding.now lengths.now bytes.now list kept.now → Begins (length list) kept.now →
-        rows ≡ length list → Ascends 0 list → found.items ≡ in_force a list) }
+        AreKept coding.now lengths.now bytes.now list kept.now → rows ≡ length list → Ascends 0 list →
+        found.items ≡ in_force a (drop (row_at kept.now (length list) first) list)) }
 {
     let mut found = Vec::new(alloc);
-    for state in state_for(kept, a)..kept.len() {
+    for state in first..kept.len() {
         let from = kept[state];
         if from.address > a {
             return Ok(found);
@@ -102,6 +103,45 @@ pub fn in_force_at(
             a,
         )?;
     }
+    Ok(found)
+}
+
+// Whether rows that were found stand past the row of a state.
+fn are_past(found: &[Registers], state: &Kept) -> bool
+    ensures { result ≡ are_past found.now state.now }
+{
+    match found.first() {
+        Some(row) => row.address > state.address,
+        None => false,
+    }
+}
+
+/// The rows in force at an address, of a sequence with these states and so many rows.
+pub fn in_force_at(
+    alloc: Global,
+    coding: &Coding,
+    lengths: &[u8],
+    bytes: &[u8],
+    kept: &[Kept],
+    rows: usize,
+    a: u64,
+) -> Result<Vec<Registers>, AllocError>
+    requires range { 0 < coding.now.line_range }
+    requires lengths { coding.now.opcode_base ≤ length lengths.now + 1 }
+    ensures { IfOk result (λ found. (list : List Registers) →
+        AreKept coding.now lengths.now bytes.now list kept.now → Begins (length list) kept.now →
+        rows ≡ length list → Ascends 0 list → found.items ≡ in_force a list) }
+{
+    let reached = count_up_to(kept, a);
+    // Mostly they stand past the row of the last state that is reached.
+    if reached > 0 {
+        let near = in_force_from(alloc, coding, lengths, bytes, kept, rows, reached - 1, a)?;
+        if are_past(&near, &kept[reached - 1]) {
+            return Ok(near);
+        }
+    }
+    let first = state_for(kept, a);
+    let found = in_force_from(alloc, coding, lengths, bytes, kept, rows, first, a)?;
     Ok(found)
 }
 

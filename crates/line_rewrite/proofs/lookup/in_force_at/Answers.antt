@@ -1,39 +1,14 @@
-use Rattle.std.proofs.Common.{◌-◌, ◌∙◌, ap, arith, drop, get_or, length, List, ℕ}
-use Rattle.line_rewrite.specs.declared.registers.Registers.{Registers}
-use Rattle.line_rewrite.specs.Keeping.{row_at}
-use Rattle.line_rewrite.specs.Walks.{latest}
-use Rattle.line_rewrite.proofs.Lookups.{start_found, state_past, state_more, place_within, states_end, no_state}
+use Rattle.std.proofs.Common.{◌-◌, ◌∙◌, arith, sym}
+use Rattle.line_rewrite.proofs.Lookups.{near_found}
 use Rattle.line_rewrite.proofs.lookup.in_force_at.Goals as goal
 
-pub loop-state-init : goal.loop-state-init
-loop-state-init c = λ list are begins counted up.
-    ap (λ (l : List Registers). latest l c.args.a (drop (row_at c.args.kept.now (length list) c.state_for-state.result) list))
-    c.new-found.ensures.items
-    ∙ start_found list c.args.kept.now c.state_for-state.result c.args.a up (c.state_for-state.ensures.found _ _ _ list are begins up)
-
-pub returns-then-from-a : goal.returns-then-from-a
-returns-then-from-a c = λ list are begins counted up.
-    state_past c.args.coding.now c.args.lengths.now c.args.bytes.now list c.args.kept.now c.loop-state.state c.args.a no_state are
-    c.loop-state.found.items _ (omega arith) (omega arith) (c.loop-state.invariant list are begins counted up)
-
-pub returns-then-from-bytes : goal.returns-then-from-bytes
-returns-then-from-bytes c = λ list are begins counted up.
-    let within = place_within c.args.coding.now c.args.lengths.now c.args.bytes.now list c.args.kept.now c.loop-state.state c.args.a
-    no_state are
-    (omega arith) in
-    absurd (omega (arith, within))
-
-pub loop-state-preserved : goal.loop-state-preserved
-loop-state-preserved c = λ list are begins counted up.
-    state_more c.args.coding.now c.args.lengths.now c.args.bytes.now list c.args.kept.now c.loop-state.state c.args.a no_state are
-    c.args.rows
-    c.saturating_sub-count.result c.split_at.result.1.now c.loop-state.found.items c.add_rows.new.found.items _ up counted (omega arith)
-    c.split_at.ensures.back
-    (c.saturating_sub-count.ensures ∙ ap (λ (n : ℕ). n - (get_or c.args.kept.now c.loop-state.state no_state).index) c.row_at.ensures)
-    c.in_ok-add_rows.ensures
-    (c.loop-state.invariant list are begins counted up)
+pub returns-then-are_past : goal.returns-then-are_past
+returns-then-are_past c = λ list are begins counted up.
+    sym c.deref.ensures.value
+    ∙ near_found c.args.coding.now c.args.lengths.now c.args.bytes.now list c.args.kept.now (c.count_up_to-reached.result - 1)
+    c.args.a _ are up (omega arith) c.deref.result.now (c.deref.ensures.value ∙ c.in_ok-near.ensures list are counted up)
+    (sym c.are_past.ensures ∙ c.if-are_past.true)
 
 pub returns : goal.returns
 returns c = λ list are begins counted up.
-    states_end list c.loop-state.found.items _ c.args.kept.now c.loop-state.state c.args.a (omega arith)
-    (c.loop-state.invariant list are begins counted up)
+    c.in_ok-found.ensures list are counted up ∙ c.state_for-first.ensures.found _ _ _ list are begins up
