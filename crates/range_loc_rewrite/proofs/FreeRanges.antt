@@ -14,7 +14,7 @@ none_is : (o : Option ℕ) → ((n : ℕ) → o ≡ Some n → ⊥) → o ≡ No
 none_is None h = refl
 none_is (Some n) h = absurd (h n refl)
 
-answers_free : {A : Type 0} (p : FaultPlaces) (x : ℕ → Option A) → IsFree (HasDwarfFault p) → answers_if_free p x ≡ Some x
+pub answers_free : {A : Type 0} (p : FaultPlaces) (x : ℕ → Option A) → IsFree (HasDwarfFault p) → answers_if_free p x ≡ Some x
 answers_free p x free =
     let version : p.version ≡ None = none_is p.version (free fault.DwarfVersion) in
     let form : p.form ≡ None = none_is p.form (free fault.DwarfForm) in

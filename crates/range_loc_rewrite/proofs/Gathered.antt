@@ -1,13 +1,11 @@
 -- Ranges of entries, gathered one entry after another.
-use Rattle.std.proofs.Common.{◌≡◌, ◌∙◌, ◌<◌, ◌||◌, ◌&&◌, ◌++◌, ◌∷◌, [], ℕ, Bool, true, false, List, Option, Some, None, BTreeMap}
-use Rattle.std.proofs.Common.{refl, sym, ap, subst, arith, map, filter, append-nil, append_assoc}
-use Rattle.std.specs.Prelude.{if◌then◌else◌, not, is_some, flat_map, filter_map}
-use Rattle.std.specs.List.{list_any, cons_option}
+use Rattle.std.proofs.Common.{◌≡◌, ◌∙◌, ◌<◌, ◌++◌, ◌∷◌, [], ℕ, true, false, List, Option, Some, None, BTreeMap}
+use Rattle.std.proofs.Common.{refl, sym, ap, subst, arith, map, append-nil, append_assoc}
+use Rattle.std.specs.Prelude.{flat_map}
 use Rattle.std.proofs.lemmas.List.Elements.{All-head, All-tail, All-append, All-weaker, All-nil, All-cons}
 use Rattle.std.proofs.lemmas.List.{map-append}
 use Rattle.std.proofs.lemmas.List.Concat.{flat_map-append}
 use Rattle.table_core.specs.declared.range.Range.{Range}
-use Rattle.table_core.specs.ReadSteps.{least}
 use Rattle.dw_unit.specs.declared.entry.Attr.{Attr}
 use Rattle.dw_unit.specs.CompUnits.{Entry, Unit}
 use Rattle.dw_unit.specs.ListedEntries.{ListedEntry}
@@ -16,14 +14,15 @@ use Rattle.range_loc_rewrite.specs.declared.cover_tree.Cover.{Cover}
 use Rattle.range_loc_rewrite.specs.declared.groups.Groups.{Groups}
 use Rattle.range_loc_rewrite.specs.declared.groups.RangedEntry.{RangedEntry}
 use Rattle.range_loc_rewrite.specs.declared.unit_ranges.ListFaults.{ListFaults}
-use Rattle.range_loc_rewrite.specs.Faults.{ListSections, table_place}
+use Rattle.range_loc_rewrite.specs.Faults.{ListSections}
 use Rattle.range_loc_rewrite.specs.Gathering.{SeenEntry, seen_of, seen_in, seen_kept, ranges_index, AreAdded, IsGathering, IsUnitGathered}
 use Rattle.range_loc_rewrite.specs.Groups.{AreNumbered, AreWithin, Grow, HasRanges, group_holds, entry_of}
-use Rattle.range_loc_rewrite.specs.KnownLists.{AreKnown, range_list, lacks_list, bad_list, bad_at}
-use Rattle.range_loc_rewrite.specs.Lists.{ranges_kind, has_list, list_offset}
+use Rattle.range_loc_rewrite.specs.KnownLists.{AreKnown, range_list}
+use Rattle.range_loc_rewrite.specs.Lists.{ranges_kind}
 use Rattle.range_loc_rewrite.specs.Ranges.{ranges_of}
 use Rattle.range_loc_rewrite.specs.UnitLists.{own_place}
 use Rattle.range_loc_rewrite.proofs.GroupFacts.{grow_none, grow_more}
+use Rattle.range_loc_rewrite.proofs.NotedLists.{lacks_all, bad_all}
 
 -- what is seen of entries stays where groups grow
 seen_same : (old new : Groups) (rs : List RangedEntry) (a : ℕ) → Grow old new → AreWithin old.count rs →
@@ -103,44 +102,7 @@ gathered_none s u old olds known numbered within are = record {
   noted = record { lacks = refl; bad = refl };
 }
 
--- attributes one by one, and those that name lists
-
-any_filtered : (h t : Attr → Bool) (ats : List Attr) → list_any (λ a. h a && t a) ats ≡ list_any t (filter h ats)
-any_filtered h t [] = refl
-any_filtered h t (a ∷ ats) = step (h a) (any_filtered h t ats) where
-  step : (b : Bool) → list_any (λ a. h a && t a) ats ≡ list_any t (filter h ats) →
-      ((b && t a) || list_any (λ a. h a && t a) ats) ≡ list_any t (if b then a ∷ filter h ats else filter h ats)
-  step true e = ap (λ (b : Bool). t a || b) e
-  step false e = e
-
-module _ (s : ListSections) (u : Unit) where
-  abbrev bad_of : List ℕ → List ℕ
-  bad_of offsets = map (table_place s.ranges) (filter (λ at. not (is_some (range_list s u at))) offsets)
-
-  abbrev offsets_of : List Attr → List ℕ
-  offsets_of ats = filter_map (list_offset ranges_kind s.ranges u) ats
-
-  one_bad : (at : ℕ) (offsets rest : List ℕ) (b : Bool) → rest ≡ bad_of offsets → ((if b then [] else table_place s.ranges at ∷ []) ++ rest)
-      ≡ map (table_place s.ranges) (if not b then at ∷ filter (λ at. not (is_some (range_list s u at))) offsets
-      else filter (λ at. not (is_some (range_list s u at))) offsets)
-  one_bad at offsets rest true e = e
-  one_bad at offsets rest false e = ap (λ (l : List ℕ). table_place s.ranges at ∷ l) e
-
-  bad_front : (o : Option ℕ) (offsets rest : List ℕ) → rest ≡ bad_of offsets → bad_at s u o ++ rest ≡ bad_of (cons_option o offsets)
-  bad_front None offsets rest e = e
-  bad_front (Some at) offsets rest e = one_bad at offsets rest (is_some (range_list s u at)) e
-
-  bads : (ats : List Attr) → flat_map (bad_list s u) ats ≡ bad_of (offsets_of (filter (has_list ranges_kind) ats))
-  bads [] = refl
-  bads (a ∷ ats) = step (has_list ranges_kind a) (bads ats) where
-    step : (b : Bool) → flat_map (bad_list s u) ats ≡ bad_of (offsets_of (filter (has_list ranges_kind) ats)) →
-        ((if b then bad_at s u (list_offset ranges_kind s.ranges u a) else []) ++ flat_map (bad_list s u) ats)
-        ≡ bad_of (offsets_of (if b then a ∷ filter (has_list ranges_kind) ats else filter (has_list ranges_kind) ats))
-    step true e = bad_front (list_offset ranges_kind s.ranges u a) (offsets_of (filter (has_list ranges_kind) ats)) (flat_map (bad_list s
-        u) ats) e
-    step false e = e
-
-plain_attrs : (es : List ListedEntry) → flat_map (λ (e : Entry). e.attrs) (map plain es) ≡ flat_map (λ (e : ListedEntry). e.attrs) es
+pub plain_attrs : (es : List ListedEntry) → flat_map (λ (e : Entry). e.attrs) (map plain es) ≡ flat_map (λ (e : ListedEntry). e.attrs) es
 plain_attrs [] = refl
 plain_attrs (e ∷ es) = ap (λ (l : List Attr). e.attrs ++ l) (plain_attrs es)
 
@@ -150,13 +112,10 @@ pub unit_gathered : (s : ListSections) (es : List ListedEntry) (old new : Groups
     (f : ListFaults) → IsGathering s (plain_unit es) old olds new news known (map plain es) (flat_map (λ (e : ListedEntry). e.attrs) es) f →
     IsUnitGathered s (plain_unit es) old olds new news f
 unit_gathered s es old new olds news known f g =
-    let attrs : List Attr = flat_map (λ (e : Entry). e.attrs) (map plain es) in
     record {
       added = g.added;
-      lacks = g.noted.lacks ∙ ap (λ (ats : List Attr). list_any (lacks_list s (plain_unit es)) ats) (sym (plain_attrs es))
-          ∙ any_filtered (has_list ranges_kind) (λ a. not (is_some (list_offset ranges_kind s.ranges (plain_unit es) a))) attrs;
-      bad = g.noted.bad ∙ ap (λ (ats : List Attr). least (flat_map (bad_list s (plain_unit es)) ats)) (sym (plain_attrs es))
-          ∙ ap least (bads s (plain_unit es) attrs);
+      lacks = lacks_all ranges_kind s.ranges s.units.addr (plain_unit es) (flat_map (λ (e : ListedEntry). e.attrs) es) f (plain_attrs es) g.noted;
+      bad = bad_all ranges_kind s.ranges s.units.addr (plain_unit es) (flat_map (λ (e : ListedEntry). e.attrs) es) f (plain_attrs es) g.noted;
     }
 
 -- one entry more

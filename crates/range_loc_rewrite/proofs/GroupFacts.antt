@@ -15,16 +15,16 @@ use Rattle.range_loc_rewrite.specs.Lists.{Located}
 use Rattle.range_loc_rewrite.specs.Groups.{ranges_in, covers_for, covers_in, is_in_group, AreNumbered, Grow, HasRanges}
 use Rattle.range_loc_rewrite.proofs.SmallSteps.{or_false}
 
-test_is : (b c : Bool) → b ≡ true → (b && c) ≡ c
+pub test_is : (b c : Bool) → b ≡ true → (b && c) ≡ c
 test_is b c e = ap (λ x. x && c) e
 
-test_not : (b c : Bool) → b ≡ false → (b && c) ≡ false
+pub test_not : (b c : Bool) → b ≡ false → (b && c) ≡ false
 test_not b c e = ap (λ x. x && c) e
 
-equal_self : (n : ℕ) → (n == n) ≡ true
+pub equal_self : (n : ℕ) → (n == n) ≡ true
 equal_self n = grind (arith, nat_tests)
 
-differ : (n m : ℕ) → m < n → (n == m) ≡ false
+pub differ : (n m : ℕ) → m < n → (n == m) ≡ false
 differ n m h = grind (arith, nat_tests)
 
 -- the covers of a list are of its group alone

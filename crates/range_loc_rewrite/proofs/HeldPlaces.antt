@@ -1,13 +1,11 @@
 -- The places of the entries that hold an address, by their numbers.
-use Rattle.std.proofs.Common.{sym, All, nat_le, ◌≡◌, ◌∙◌, ◌+◌, ◌∷◌, [], ℕ, zero, suc, Bool, true, false, List, Option, Some, refl, ap, arith, drop, length, map, filter}
-use Rattle.std.specs.Prelude.{if◌then◌else◌, filter_map, option_map, slice_get}
-use Rattle.std.specs.List.{cons_option, range_with_len}
-use Rattle.std.specs.Option.{option_map_or}
+use Rattle.std.proofs.Common.{sym, All, nat_le, ◌≡◌, ◌∙◌, ◌∷◌, [], ℕ, Bool, true, false, List, refl, ap, map, filter}
+use Rattle.std.specs.Prelude.{if◌then◌else◌, filter_map}
 use Rattle.range_loc_rewrite.specs.declared.cover_tree.Cover.{Cover}
 use Rattle.range_loc_rewrite.specs.declared.groups.RangedEntry.{RangedEntry}
 use Rattle.range_loc_rewrite.specs.declared.cover_index.CoverIndex.{CoverIndex}
 use Rattle.range_loc_rewrite.specs.declared.groups.Groups.{Groups}
-use Rattle.range_loc_rewrite.specs.CoverIndex.{IsCoverIndex, is_held, held_numbers, place_at}
+use Rattle.range_loc_rewrite.specs.CoverIndex.{IsCoverIndex, held_numbers, place_at}
 use Rattle.range_loc_rewrite.specs.Faults.{ListSections}
 use Rattle.range_loc_rewrite.specs.Gathering.{seen_kept}
 use Rattle.range_loc_rewrite.specs.Groups.{group_holds, held_places}
@@ -18,49 +16,11 @@ use Rattle.std.specs.List.Sorted.{IsNonDecreasing, IsPermutation}
 use Rattle.std.proofs.lemmas.List.Sorted.{All-permutation, IsPermutation-sym}
 use Rattle.range_loc_rewrite.specs.Bounds.{bounds_in}
 use Rattle.range_loc_rewrite.proofs.AlikeAddresses.{alike_groups, held_alike_at}
-
--- the first behind some
-first_behind : (xs : List RangedEntry) (j : ℕ) (r : RangedEntry) (rs : List RangedEntry) → drop j xs ≡ r ∷ rs →
-    (slice_get xs j ≡ Some r) × (drop (j + 1) xs ≡ rs)
-first_behind [] zero r rs e = absurd (cc)
-first_behind [] (suc j) r rs e = absurd (cc)
-first_behind (x ∷ xs) zero r rs e = (ap first e, ap rest e)
-  where
-    first : List RangedEntry → Option RangedEntry
-    first l = slice_get l 0
-
-    rest : List RangedEntry → List RangedEntry
-    rest l = drop 1 l
-first_behind (x ∷ xs) (suc j) r rs e =
-    let p = first_behind xs j r rs e in
-    let next : suc j + 1 ≡ suc (j + 1) = omega arith in
-    (p.0, ap (λ (n : ℕ). drop n (x ∷ xs)) next ∙ p.1)
-
-module _ (covers : List Cover) (xs : List RangedEntry) (a : ℕ) where
-  places_from : (rs : List RangedEntry) (j : ℕ) → drop j xs ≡ rs →
-      filter_map (place_at xs) (filter (is_held covers xs a) (range_with_len j (length rs))) ≡ held_places covers rs a
-  places_from [] j e = refl
-  places_from (r ∷ rs) j e =
-      let p = first_behind xs j r rs e in
-      let held : is_held covers xs a j ≡ group_holds covers r.group a =
-      ap (λ (o : Option RangedEntry). option_map_or (λ (r : RangedEntry). group_holds covers r.group a) o false) p.0 in
-      let place : place_at xs j ≡ Some r.place = ap (option_map (λ (r : RangedEntry). r.place)) p.0 in
-      ap (λ (b : Bool). filter_map (place_at xs) (if b then j ∷ more j else more j)) held
-      ∙ step (group_holds covers r.group a) place (places_from rs (j + 1) p.1)
-    where
-      more : ℕ → List ℕ
-      more j = filter (is_held covers xs a) (range_with_len (j + 1) (length rs))
-
-      step : (b : Bool) → place_at xs j ≡ Some r.place → filter_map (place_at xs) (more j) ≡ held_places covers rs a →
-          filter_map (place_at xs) (if b then j ∷ more j else more j)
-          ≡ map (λ (r : RangedEntry). r.place) (if b then r ∷ filter (λ (r : RangedEntry). group_holds covers r.group a) rs
-          else filter (λ (r : RangedEntry). group_holds covers r.group a) rs)
-      step true place same = (λ i. cons_option (place i) (same i))
-      step false place same = same
+use Rattle.range_loc_rewrite.proofs.ByNumbers.{mapped_by_number}
 
 pub places_are : (covers : List Cover) (ranged : List RangedEntry) (a : ℕ) →
     filter_map (place_at ranged) (held_numbers covers ranged a) ≡ held_places covers ranged a
-places_are covers ranged a = places_from covers ranged a ranged 0 refl
+places_are covers ranged a = mapped_by_number (λ (r : RangedEntry). r.place) (λ (r : RangedEntry). group_holds covers r.group a) ranged
 
 -- the same, where groups hold the same addresses
 held_alike : (cs ds : List Cover) (rs : List RangedEntry) (a : ℕ) → ((g : ℕ) → group_holds cs g a ≡ group_holds ds g a) →

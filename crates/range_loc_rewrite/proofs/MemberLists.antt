@@ -72,11 +72,11 @@ any_same : {X : Type 0} (p q : X → Bool) (xs : List X) → ((x : X) → p x �
 any_same p q [] e = refl
 any_same p q (x ∷ xs) e = (λ i. e x i || any_same p q xs e i)
 
-any_map : {X : Type 0} (p : ℕ → Bool) (f : X → ℕ) (xs : List X) → list_any p (map f xs) ≡ list_any (λ x. p (f x)) xs
+pub any_map : {X : Type 0} (p : ℕ → Bool) (f : X → ℕ) (xs : List X) → list_any p (map f xs) ≡ list_any (λ x. p (f x)) xs
 any_map p f [] = refl
 any_map p f (x ∷ xs) = ap (λ (b : Bool). p (f x) || b) (any_map p f xs)
 
-any_filter : {X : Type 0} (t h : X → Bool) (xs : List X) → list_any t (filter h xs) ≡ list_any (λ x. t x && h x) xs
+pub any_filter : {X : Type 0} (t h : X → Bool) (xs : List X) → list_any t (filter h xs) ≡ list_any (λ x. t x && h x) xs
 any_filter t h [] = refl
 any_filter t h (x ∷ xs) = step (h x) (any_filter t h xs)
   where

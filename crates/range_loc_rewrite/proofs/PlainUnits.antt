@@ -12,7 +12,7 @@ use Rattle.range_loc_rewrite.specs.declared.groups.RangedEntry.{RangedEntry}
 use Rattle.range_loc_rewrite.specs.declared.unit_ranges.ListFaults.{ListFaults}
 use Rattle.range_loc_rewrite.specs.Faults.{ListSections, lacks_offset, bad_list_tables, table_place}
 use Rattle.range_loc_rewrite.specs.Gathering.{SeenEntry, seen_of, seen_in, seen_kept, ranges_index, IsUnitGathered}
-use Rattle.range_loc_rewrite.specs.Lists.{ranges_kind, has_list, list_offset, list_at}
+use Rattle.range_loc_rewrite.specs.Lists.{Kind, ranges_kind, has_list, list_offset, list_at}
 use Rattle.range_loc_rewrite.specs.Ranges.{ranges_of}
 use Rattle.range_loc_rewrite.specs.Weights.{index_weight, indexes_in, offsets_weight}
 
@@ -21,7 +21,7 @@ attrs_listed [] = refl
 attrs_listed (e ∷ es) = ap (λ (l : List Attr). e.attrs ++ l) (attrs_listed es)
 
 module _ (s : ListSections) (place offset : ℕ) where
-  abbrev whole : List Entry → Unit
+  abbrev pub whole : List Entry → Unit
   whole es = record { place = place; abbrev_offset = offset; entries = es }
 
   seen_rest : (e : Entry) (ds xs : List Entry) (a : ℕ) →
@@ -34,18 +34,20 @@ module _ (s : ListSections) (place offset : ℕ) where
   seen_listed [] a = refl
   seen_listed (e ∷ ds) a = seen_rest e ds (e ∷ ds) a
 
-  lacks_listed : (es : List Entry) → lacks_offset ranges_kind s.ranges (plain_unit (map listed es)) ≡ lacks_offset ranges_kind s.ranges (whole es)
-  lacks_listed [] = refl
-  lacks_listed (e ∷ ds) =
-      ap (λ (l : List Attr). list_any (λ a. not (is_some (list_offset ranges_kind s.ranges (whole (e ∷ ds)) a))) (filter (has_list ranges_kind) l))
+  -- and what is wrong with its lists of a kind
+  pub lacks_listed : (k : Kind) (section : List ℕ) (es : List Entry) →
+      lacks_offset k section (plain_unit (map listed es)) ≡ lacks_offset k section (whole es)
+  lacks_listed k section [] = refl
+  lacks_listed k section (e ∷ ds) =
+      ap (λ (l : List Attr). list_any (λ a. not (is_some (list_offset k section (whole (e ∷ ds)) a))) (filter (has_list k) l))
       (attrs_listed (e ∷ ds))
 
-  bad_listed : (es : List Entry) → bad_list_tables ranges_kind s.ranges s.units.addr (plain_unit (map listed es))
-      ≡ bad_list_tables ranges_kind s.ranges s.units.addr (whole es)
-  bad_listed [] = refl
-  bad_listed (e ∷ ds) =
-      ap (λ (l : List Attr). map (table_place s.ranges) (filter (λ at. not (is_some (list_at ranges_kind s.ranges s.units.addr (whole (e ∷ ds)) at)))
-      (filter_map (list_offset ranges_kind s.ranges (whole (e ∷ ds))) (filter (has_list ranges_kind) l)))) (attrs_listed (e ∷ ds))
+  pub bad_listed : (k : Kind) (section : List ℕ) (es : List Entry) →
+      bad_list_tables k section s.units.addr (plain_unit (map listed es)) ≡ bad_list_tables k section s.units.addr (whole es)
+  bad_listed k section [] = refl
+  bad_listed k section (e ∷ ds) =
+      ap (λ (l : List Attr). map (table_place section) (filter (λ at. not (is_some (list_at k section s.units.addr (whole (e ∷ ds)) at)))
+      (filter_map (list_offset k section (whole (e ∷ ds))) (filter (has_list k) l)))) (attrs_listed (e ∷ ds))
 
 -- and so it is weighed
 pub unit_weight : (s : ListSections) (u : Unit) (es : List ListedEntry) → map listed u.entries ≡ es →
@@ -67,6 +69,6 @@ unit_of_listed s u es old new olds news f is g =
         seen_are = λ a. h.added.seen_are a
             ∙ ap (λ (l : List SeenEntry). seen_kept old.covers.items olds a ++ l) (seen_listed s u.place u.abbrev_offset u.entries a);
       };
-      lacks = h.lacks ∙ lacks_listed s u.place u.abbrev_offset u.entries;
-      bad = h.bad ∙ ap least (bad_listed s u.place u.abbrev_offset u.entries);
+      lacks = h.lacks ∙ lacks_listed s u.place u.abbrev_offset ranges_kind s.ranges u.entries;
+      bad = h.bad ∙ ap least (bad_listed s u.place u.abbrev_offset ranges_kind s.ranges u.entries);
     }

@@ -35,7 +35,7 @@ bad_is s p o are tables = by_bad p.bad refl
         ∙ sym (least-append (of_tables s) (flat_map (bad_list_tables ranges_kind s.ranges s.units.addr) (units s.units))))
         ∙ ap (λ (x : Option ℕ). option_or x (option_or (bad_address_table s.units.addr) (bad_table ranges_kind s.ranges s.units))) (sym e ∙ are.bad)
 
-left_none : (a b : Option ℕ) → option_or a b ≡ None → a ≡ None
+pub left_none : (a b : Option ℕ) → option_or a b ≡ None → a ≡ None
 left_none None b e = refl
 left_none (Some n) b e = absurd (cc)
 

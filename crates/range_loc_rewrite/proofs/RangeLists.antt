@@ -60,18 +60,25 @@ pub still_known : (says : ℕ → Option (List Located)) (old new : Groups) (kno
     AreKnown says new known
 still_known says old new known grow are = λ at o e. still_group old new o (says at) grow (are at o e)
 
-pub known_more : (says : ℕ → Option (List Located)) (old new : Groups) (known more : BTreeMap ℕ (Option ℕ)) (at : ℕ) (o : Option ℕ) →
-    Grow old new → AreKnown says old known → IsGroupOf new o (says at) →
-    ((q : ℕ) → get nat_cmp more q ≡ cond (is_at (nat_cmp at) q) (Some o) (get nat_cmp known q)) → AreKnown says new more
-known_more says old new known more at o grow are is made = λ q p e. ⊎_elim
+-- of lists that are known, whatever is said of them
+pub known_with : (Is : ℕ → Option ℕ → Type 0) (known more : BTreeMap ℕ (Option ℕ)) (at : ℕ) (o : Option ℕ) →
+    ((q : ℕ) (p : Option ℕ) → get nat_cmp known q ≡ Some p → Is q p) → Is at o →
+    ((q : ℕ) → get nat_cmp more q ≡ cond (is_at (nat_cmp at) q) (Some o) (get nat_cmp known q)) →
+    (q : ℕ) (p : Option ℕ) → get nat_cmp more q ≡ Some p → Is q p
+known_with Is known more at o are is made = λ q p e. ⊎_elim
     (λ (same : at ≡ q).
     let here : get nat_cmp more q ≡ Some o =
     made q ∙ ap (λ (b : Bool). cond b (Some o) (get nat_cmp known q)) (ap (is_at (nat_cmp at)) (sym same) ∙ at_same at) in
-    subst (λ (p : Option ℕ). IsGroupOf new p (says q)) (some_same o p (sym here ∙ e)) (subst (λ (q : ℕ). IsGroupOf new o (says q)) same is))
+    subst (λ (p : Option ℕ). Is q p) (some_same o p (sym here ∙ e)) (subst (λ (q : ℕ). Is q o) same is))
     (λ (ne : at ≢ q).
-    still_known says old new known grow are q p
-    (sym (made q ∙ ap (λ (b : Bool). cond b (Some o) (get nat_cmp known q)) (at_key at q ne)) ∙ e))
+    are q p (sym (made q ∙ ap (λ (b : Bool). cond b (Some o) (get nat_cmp known q)) (at_key at q ne)) ∙ e))
     (cases_eq at q)
+
+pub known_more : (says : ℕ → Option (List Located)) (old new : Groups) (known more : BTreeMap ℕ (Option ℕ)) (at : ℕ) (o : Option ℕ) →
+    Grow old new → AreKnown says old known → IsGroupOf new o (says at) →
+    ((q : ℕ) → get nat_cmp more q ≡ cond (is_at (nat_cmp at) q) (Some o) (get nat_cmp known q)) → AreKnown says new more
+known_more says old new known more at o grow are is made =
+    known_with (λ (q : ℕ) (p : Option ℕ). IsGroupOf new p (says q)) known more at o (still_known says old new known grow are) is made
 
 -- a group that is added for a list that can be read
 pub new_group : (s : ListSections) (u : Unit) (section : List ℕ) (at : ℕ) (old new : Groups) (n : ℕ) (ls : List Located) →
@@ -88,11 +95,15 @@ new_group s u section at old new n ls b said numbered number count covers =
     )
 
 -- nothing is known yet
-pub none_known : (says : ℕ → Option (List Located)) (g : Groups) (m : BTreeMap ℕ (Option ℕ)) → IsEmpty m → AreKnown says g m
-none_known says g m empty = λ at o e. absurd (none_there (get nat_cmp m at) (get_none m at empty) o e)
+
+pub none_with : (Is : ℕ → Option ℕ → Type 0) (m : BTreeMap ℕ (Option ℕ)) → IsEmpty m → (at : ℕ) (o : Option ℕ) → get nat_cmp m at ≡ Some o → Is at o
+none_with Is m empty = λ at o e. absurd (none_there (get nat_cmp m at) (get_none m at empty) o e)
   where
     none_there : (x : Option (Option ℕ)) → x ≡ None → (o : Option ℕ) → x ≡ Some o → ⊥
     none_there x e o f = let g : None ≡ Some o = sym e ∙ f in absurd (cc)
 
     get_none : (m : BTreeMap ℕ (Option ℕ)) (at : ℕ) → IsEmpty m → get nat_cmp m at ≡ None
     get_none m at empty = ap (λ (es : List (ℕ × Option ℕ)). lookup (is_at (nat_cmp at)) es) empty
+
+pub none_known : (says : ℕ → Option (List Located)) (g : Groups) (m : BTreeMap ℕ (Option ℕ)) → IsEmpty m → AreKnown says g m
+none_known says g m empty = none_with (λ (at : ℕ) (o : Option ℕ). IsGroupOf g o (says at)) m empty

@@ -33,19 +33,27 @@ pub none_of : (o : Option ℕ) → is_some o ≡ false → o ≡ None
 none_of None e = refl
 none_of (Some n) e = absurd (cc)
 
-units_more : (s : ListSections) (ws : List Walked) (w : Walked) (u : Unit) → unit_of s.units.abbrevs w ≡ Ok u →
+pub units_more : (s : ListSections) (ws : List Walked) (w : Walked) (u : Unit) → unit_of s.units.abbrevs w ≡ Ok u →
     units_of s (ws ++ w ∷ []) ≡ units_of s ws ++ u ∷ []
 units_more s ws w u e =
     ap oks (map-append (unit_of s.units.abbrevs) ws (w ∷ []))
     ∙ oks-append (map (unit_of s.units.abbrevs) ws) (unit_of s.units.abbrevs w ∷ [])
     ∙ ap (λ (r : Result Unit Trouble). units_of s ws ++ oks (r ∷ [])) e
 
-read_unit : (r : Result Unit Trouble) (es : List ListedEntry) → listed_unit r ≡ Ok es → (u : Unit) × (r ≡ Ok u) × (map listed u.entries ≡ es)
+pub read_unit : (r : Result Unit Trouble) (es : List ListedEntry) → listed_unit r ≡ Ok es → (u : Unit) × (r ≡ Ok u) × (map listed u.entries ≡ es)
 read_unit (Ok u) es e = (u, refl, same_ok e)
   where
     same_ok : {X E : Type 0} {x y : X} → ◌≡◌ {A = Result X E} (Ok x) (Ok y) → x ≡ y
     same_ok e = cc
 read_unit (Err t) es e = absurd (cc)
+
+-- what is known of a unit by whether its entries were read
+pub entries_by : (s : ListSections) (w : Walked) (r : UnitReading) (o : Option (Vec ListedEntry)) → IsReading s.units.abbrevs s.units.addr w r →
+    r.entries ≡ o → MatchOption o (fails (is_sound_unit s.units.addr) (unit_of s.units.abbrevs w) ≡ true)
+    (λ es. (fails (is_sound_unit s.units.addr) (unit_of s.units.abbrevs w) ≡ false) × (listed_unit (unit_of s.units.abbrevs w) ≡ Ok es.items))
+entries_by s w r o is e = subst (λ o. MatchOption o (fails (is_sound_unit s.units.addr) (unit_of s.units.abbrevs w) ≡ true)
+    (λ es. (fails (is_sound_unit s.units.addr) (unit_of s.units.abbrevs w) ≡ false) × (listed_unit (unit_of s.units.abbrevs w) ≡ Ok es.items)))
+    e is.behind.entries
 
 weights_more : (n m limit : ℕ) → min (min n limit + min m limit) limit ≡ min (n + m) limit
 weights_more n m limit = omega arith
@@ -82,18 +90,12 @@ module _ (s : ListSections) (ws : List Walked) (w : Walked) (old new : Progress)
       by_bad None e some = absurd (cc)
       by_bad (Some place) e some = bad_stays place numbered within e (same ∙ e)
 
-  entries_by : (o : Option (Vec ListedEntry)) → r.entries ≡ o → MatchOption o (fails (is_sound_unit s.units.addr) (unit_of s.units.abbrevs w) ≡ true)
-      (λ es. (fails (is_sound_unit s.units.addr) (unit_of s.units.abbrevs w) ≡ false) × (listed_unit (unit_of s.units.abbrevs w) ≡ Ok es.items))
-  entries_by o e = subst (λ o. MatchOption o (fails (is_sound_unit s.units.addr) (unit_of s.units.abbrevs w) ≡ true)
-      (λ es. (fails (is_sound_unit s.units.addr) (unit_of s.units.abbrevs w) ≡ false) × (listed_unit (unit_of s.units.abbrevs w) ≡ Ok es.items)))
-      e is.behind.entries
-
   -- this one can't be read
   pub bad_first : AreNumbered new.groups → AreWithin new.groups.count new.ranged.items → old.bad ≡ None → r.entries ≡ None →
       new.bad ≡ Some w.place → IsProgress s (ws ++ w ∷ []) new
   bad_first numbered within before none now =
       let bad : is_bad_unit s w ≡ true =
-      ap (λ (b : Bool). b || has_bad_offset ranges_kind s.ranges (unit_of s.units.abbrevs w)) (entries_by None none) in
+      ap (λ (b : Bool). b || has_bad_offset ranges_kind s.ranges (unit_of s.units.abbrevs w)) (entries_by s w r None is none) in
       with_bad numbered within (now ∙ sym (bad_now (is_bad_unit s) ws w (sym are.bad ∙ before) bad)) (none_bad w.place now)
 
   -- this one was read
@@ -134,7 +136,7 @@ pub unit_added : (s : ListSections) (ws : List Walked) (w : Walked) (old mid new
     mid.ranged.items ≡ old.ranged.items → mid.index_weight ≡ old.index_weight → mid.bad_table ≡ old.bad_table → mid.bad ≡ old.bad → old.bad ≡ None → r.entries ≡ Some es →
     IsUnitAdded s es.items w.place mid new → IsProgress s (ws ++ w ∷ []) new
 unit_added s ws w old mid new r es are is form high unform groups ranged weight table bad before some added =
-    let behind = entries_by s ws w old new r are is (added.form ∙ form) (added.high ∙ high) (added.unformed_is ∙ unform) (Some es) some in
+    let behind = entries_by s w r (Some es) is some in
     let u = read_unit (unit_of s.units.abbrevs w) es.items behind.1 in
     let g : IsUnitGathered s u.0 old.groups old.ranged.items new.groups new.ranged.items added.faults =
     subst (λ (x : Groups). IsUnitGathered s u.0 x old.ranged.items new.groups new.ranged.items added.faults) groups

@@ -11,7 +11,7 @@ use Rattle.range_loc_rewrite.specs.declared.groups.Groups.{Groups}
 use Rattle.range_loc_rewrite.specs.declared.unit_ranges.ListFaults.{ListFaults}
 use Rattle.range_loc_rewrite.specs.Faults.{ListSections, table_place}
 use Rattle.range_loc_rewrite.specs.Groups.{HasRanges, Grow, ranges_in}
-use Rattle.range_loc_rewrite.specs.Lists.{Located, ranges_kind, has_list, list_at, list_offset}
+use Rattle.range_loc_rewrite.specs.Lists.{Located, Kind, ranges_kind, has_list, list_at, list_offset}
 
 -- what the list of ranges at an offset says
 abbrev pub range_list : ListSections → Unit → ℕ → Option (List Located)
@@ -32,18 +32,22 @@ pub record IsLookedUp (says : ℕ → Option (List Located)) (old new : Groups) 
   pub known_are : AreKnown says new known
   pub is : IsGroupOf new group (says at)
 
--- what is wrong with the lists that attributes name, one by one
+-- what is wrong with the lists of a kind that attributes name, one by one
 
-abbrev pub lacks_list : ListSections → Unit → Attr → Bool
-lacks_list s u a = has_list ranges_kind a && not (is_some (list_offset ranges_kind s.ranges u a))
+abbrev pub lacks_list : Kind → List ℕ → Unit → Attr → Bool
+lacks_list k section u a = has_list k a && not (is_some (list_offset k section u a))
 
-abbrev pub bad_at : ListSections → Unit → Option ℕ → List ℕ
-bad_at s u None = []
-bad_at s u (Some at) = if is_some (range_list s u at) then [] else table_place s.ranges at ∷ []
+abbrev pub bad_at : Kind → (section addr : List ℕ) → Unit → Option ℕ → List ℕ
+bad_at k section addr u None = []
+bad_at k section addr u (Some at) = if is_some (list_at k section addr u at) then [] else table_place section at ∷ []
 
-abbrev pub bad_list : ListSections → Unit → Attr → List ℕ
-bad_list s u a = if has_list ranges_kind a then bad_at s u (list_offset ranges_kind s.ranges u a) else []
+abbrev pub bad_list : Kind → (section addr : List ℕ) → Unit → Attr → List ℕ
+bad_list k section addr u a = if has_list k a then bad_at k section addr u (list_offset k section u a) else []
 
-pub record IsNoted (s : ListSections) (u : Unit) (attrs : List Attr) (f : ListFaults) : Type 0 where
-  pub lacks : f.lacks_offset ≡ list_any (lacks_list s u) attrs
-  pub bad : f.bad ≡ least (flat_map (bad_list s u) attrs)
+pub record AreNoted (k : Kind) (section addr : List ℕ) (u : Unit) (attrs : List Attr) (f : ListFaults) : Type 0 where
+  pub lacks : f.lacks_offset ≡ list_any (lacks_list k section u) attrs
+  pub bad : f.bad ≡ least (flat_map (bad_list k section addr u) attrs)
+
+-- with the lists of ranges
+abbrev pub IsNoted : ListSections → Unit → List Attr → ListFaults → Type 0
+IsNoted s u attrs f = AreNoted ranges_kind s.ranges s.units.addr u attrs f

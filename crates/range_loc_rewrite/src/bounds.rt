@@ -3,8 +3,10 @@ ghost use Rattle.std.specs.Prelude.{◌≡◌, ◌<◌, ◌≤◌, ◌++◌, ◌
 ghost use Rattle.std.specs.Prelude.{length, nat_le, slice_index_or};
 ghost use Rattle.std.specs.List.Sorted.{IsNonDecreasing, IsPermutation};
 ghost use Rattle.range_loc_rewrite.specs.Bounds.{bounds_in};
+ghost use Rattle.range_loc_rewrite.specs.KeptPlaces.{list_bounds};
 
 use crate::cover_tree::Cover;
+use crate::kept_list::KeptList;
 use rb_bytes::fault::NoMemory;
 use std::alloc::Global;
 
@@ -32,6 +34,31 @@ pub fn bounds_of(alloc: Global, covers: &[Cover]) -> Result<Vec<u128>, NoMemory>
     ensures all { IfOk result (λ bs. IsPermutation (bounds_in covers.now) bs.items) }
 {
     let mut bounds = all_bounds(alloc, covers)?;
+    bounds.sort_unstable();
+    Ok(bounds)
+}
+
+// The bounds of location lists, behind others.
+fn put_list_bounds(bounds: &mut Vec<u128>, lists: &[KeptList]) -> Result<(), NoMemory>
+    ensures { OnOk result (bounds.new.items ≡ bounds.old.items ++ list_bounds lists.now) }
+{
+    for list in lists {
+        list.tree.put_bounds(bounds)?;
+    }
+    Ok(())
+}
+
+/// The starts and ends of some ranges and of those of location lists, ascending.
+pub fn place_bounds(
+    alloc: Global,
+    covers: &[Cover],
+    lists: &[KeptList],
+) -> Result<Vec<u128>, NoMemory>
+    ensures rising { IfOk result (λ bs. IsNonDecreasing bs.items) }
+    ensures all { IfOk result (λ bs. IsPermutation (bounds_in covers.now ++ list_bounds lists.now) bs.items) }
+{
+    let mut bounds = all_bounds(alloc, covers)?;
+    put_list_bounds(&mut bounds, lists)?;
     bounds.sort_unstable();
     Ok(bounds)
 }

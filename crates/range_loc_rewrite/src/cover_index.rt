@@ -21,8 +21,8 @@ pub struct CoverIndex {
     members: Vec<Vec<usize>>,
 }
 
-// Ranges by their starts, as a search needs them to be fast.
-fn sorted(alloc: Global, covers: &[Cover]) -> Result<Vec<Cover>, NoMemory>
+/// Ranges by their starts, as a search needs them to be fast.
+pub fn sorted(alloc: Global, covers: &[Cover]) -> Result<Vec<Cover>, NoMemory>
     ensures { IfOk result (λ cs. IsPermutation covers.now cs.items) }
 {
     let mut sorted = Vec::from_slice(alloc, covers)?;

@@ -1,5 +1,6 @@
 // Ranges of addresses as a search tree.
 ghost use Rattle.std.specs.Prelude.{◌≡◌, ◌++◌, IfOk, OnOk, map, filter, min, max};
+ghost use Rattle.range_loc_rewrite.specs.Bounds.{bounds_in};
 ghost use Rattle.range_loc_rewrite.specs.CoverTree.{holds, AreReached};
 
 use rb_bytes::fault::NoMemory;
@@ -113,6 +114,21 @@ impl CoverTree {
                     groups.push(cover.group)?;
                 }
                 behind.find(a, groups)
+            }
+        }
+    }
+
+    /// Appends the starts and the ends of all ranges.
+    pub fn put_bounds(&self, bounds: &mut Vec<u128>) -> Result<(), NoMemory>
+        ensures { OnOk result (bounds.new.items ≡ bounds.old.items ++ bounds_in self.now) }
+    {
+        match &self.node {
+            Node::Leaf => Ok(()),
+            Node::Fork(before, cover, behind, _, _) => {
+                before.put_bounds(bounds)?;
+                bounds.push(cover.low)?;
+                bounds.push(cover.high)?;
+                behind.put_bounds(bounds)
             }
         }
     }

@@ -25,8 +25,8 @@ use std::alloc::Global;
 use std::collections::BTreeMap;
 use table_core::form::DW_FORM_rnglistx;
 
-// What is wrong with the lists that some attributes name, and with others.
-fn note_lists(
+/// What is wrong with the lists that some attributes name, and with others.
+pub fn note_lists(
     alloc: Global,
     section: ListSection<'_, '_>,
     unit: &UnitLists<'_>,

@@ -93,8 +93,8 @@ fn location_bound<'a>(cursor: &mut Cursor<'a>, kind: u64) -> Result<Bound, Troub
     }
 }
 
-// Bytes behind their count.
-fn block<'a>(cursor: &mut Cursor<'a>) -> Result<&'a [u8], Trouble>
+/// Bytes behind their count in LEB128.
+pub fn block<'a>(cursor: &mut Cursor<'a>) -> Result<&'a [u8], Trouble>
     ensures read { IfOk result (λ x. leb_bytes_at Unsound cursor.old.left ≡ Ok (x.now, cursor.new.left)) }
     ensures trouble { IfErr result (λ e. leb_bytes_at Unsound cursor.old.left ≡ Err e) }
 {

@@ -84,8 +84,8 @@ fn list_end<'a>(section: &'a [u8], tables: &[DebugUnit<'a>], at: u64) -> u128
     end.unwrap_or(section.len() as u128)
 }
 
-// The bytes from an offset on up to another, as far as there are some.
-fn bytes_between(section: &[u8], at: u64, end: u128) -> &[u8]
+/// The bytes from an offset on up to another, as far as there are some.
+pub fn bytes_between(section: &[u8], at: u64, end: u128) -> &[u8]
     ensures { result.now ≡ take (end - at) (drop at section.now) }
 {
     let (_, behind) = section.split_at((section.len() as u64).min(at) as usize);

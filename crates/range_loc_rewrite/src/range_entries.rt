@@ -19,7 +19,7 @@ use std::alloc::Global;
 use table_core::{DebugUnit, debug_units};
 
 /// The version of DWARF that is read.
-const VERSION: u16 = 5;
+pub const VERSION: u16 = 5;
 
 /// The entries that have ranges, in order.
 #[derive(Drop)]
@@ -48,7 +48,8 @@ fn nothing(alloc: Global) -> Progress
     }
 }
 
-fn place_of(units: &[DebugUnit<'_>], number: usize) -> u64
+/// The place of the unit of a number.
+pub fn place_of(units: &[DebugUnit<'_>], number: usize) -> u64
     requires { number < length units.now }
     ensures { (w : Walked) → slice_get units.now number ≡ Some w → result ≡ w.place }
 {

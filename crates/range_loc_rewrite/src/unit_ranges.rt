@@ -31,10 +31,12 @@ use std::alloc::Global;
 use std::collections::BTreeMap;
 use table_core::form::{DW_FORM_addr, DW_FORM_rnglistx, DW_FORM_sec_offset};
 
-/// Of the lists of a unit that were read, the groups of their ranges by their offsets; none of one that can't be read.
+/// Of the lists of a unit that were read, their numbers by their offsets, as of the groups of their ranges; none of one
+/// that can't be read.
 pub type KnownLists = BTreeMap<u64, Option<usize>>;
 
-fn known_group(known: &KnownLists, at: u64) -> Option<Option<usize>>
+/// The number of the list at an offset, if it was read.
+pub fn known_number(known: &KnownLists, at: u64) -> Option<Option<usize>>
     ensures { result ≡ get nat_cmp known.now at }
 {
     known.get(&at).copied()
@@ -80,7 +82,7 @@ fn group_at(
         AreNumbered groups.old → AreKnown (range_list s u) groups.old known.old →
         IfOk result (λ o. IsLookedUp (range_list s u) groups.old groups.new known.new at o) }
 {
-    if let Some(group) = known_group(known, at) {
+    if let Some(group) = known_number(known, at) {
         return Ok(group);
     }
     let group = read_group(alloc, section, unit, groups, at)?;

@@ -1,14 +1,10 @@
-use Rattle.std.proofs.Common.{◌≡◌, ◌∙◌, ◌+◌, ◌<◌, ◌++◌, ◌∷◌, [], ℕ, List, ap, sym, subst, length, get_or, take, append-nil, append_assoc}
-use Rattle.std.proofs.lemmas.List.{take_more, take_all}
+use Rattle.std.proofs.Common.{◌++◌, List, sym, subst, take, append-nil}
+use Rattle.std.proofs.lemmas.List.{take_all}
 use Rattle.dw_unit.specs.declared.entry.Attr.{Attr}
 use Rattle.range_loc_rewrite.specs.KnownLists.{IsNoted}
 use Rattle.range_loc_rewrite.proofs.GroupFacts.{grow_none, grow_more}
+use Rattle.range_loc_rewrite.proofs.NotedLists.{one_more}
 use Rattle.range_loc_rewrite.proofs.gathering.note_lists.Goals as goal
-
-one_more : (before ats : List Attr) (i : ℕ) (d : Attr) → i < length ats →
-    (before ++ take i ats) ++ get_or ats i d ∷ [] ≡ before ++ take (i + 1) ats
-one_more before ats i d h =
-    append_assoc before (take i ats) (get_or ats i d ∷ []) ∙ ap (λ (l : List Attr). before ++ l) (sym (take_more ats i d h))
 
 pub loop-attr-init : goal.loop-attr-init
 loop-attr-init c = λ s u before b r n k noted.

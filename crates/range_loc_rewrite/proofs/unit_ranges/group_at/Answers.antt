@@ -8,7 +8,7 @@ pub returns-in-Some : goal.returns-in-Some
 returns-in-Some c = λ s u b r n k. record {
   grow = grow_none c.args.groups.now n;
   known_are = k;
-  is = k c.args.at c.in-Some.group (sym c.known_group.ensures ∙ c.in-Some.is);
+  is = k c.args.at c.in-Some.group (sym c.known_number.ensures ∙ c.in-Some.is);
 }
 
 pub returns : goal.returns

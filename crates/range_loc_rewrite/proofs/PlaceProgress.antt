@@ -1,0 +1,114 @@
+-- What was read of the locations of some units, with what is read of the next one.
+use Rattle.std.proofs.Common.{◌≡◌, ◌∙◌, ◌||◌, ◌++◌, ◌∷◌, [], ℕ, Bool, true, false, List, Option, Some, None, Ok, refl, sym, ap, subst}
+use Rattle.std.specs.Prelude.{if◌then◌else◌, flat_map, is_some}
+use Rattle.std.specs.Global.{Vec}
+use Rattle.table_core.specs.DebugUnits.{Walked, first_place}
+use Rattle.table_core.specs.ReadSteps.{lower, least}
+use Rattle.dw_unit.specs.declared.unit_reading.UnitReading.{UnitReading}
+use Rattle.dw_unit.specs.CompUnits.{Unit, unit_of}
+use Rattle.dw_unit.specs.Declarations.{has_bad_form, has_bad_high}
+use Rattle.dw_unit.specs.Faults.{fails, is_sound_unit}
+use Rattle.dw_unit.specs.ListedEntries.{ListedEntry}
+use Rattle.dw_unit.specs.UnitReadings.{IsReading}
+use Rattle.dw_unit.proofs.Leasts.{least-append}
+use Rattle.dw_unit.proofs.UnitReadings.{places_more, unformed_more, bad_before, bad_now, still_good, flat-more}
+use Rattle.range_loc_rewrite.specs.declared.groups.Groups.{Groups}
+use Rattle.range_loc_rewrite.specs.declared.located_attr.Locations.{Locations}
+use Rattle.range_loc_rewrite.specs.declared.place_reading.PlaceProgress.{PlaceProgress}
+use Rattle.range_loc_rewrite.specs.declared.placing.UnitFaults.{UnitFaults}
+use Rattle.range_loc_rewrite.specs.Faults.{ListSections, has_bad_offset, has_bad_offsets, bad_list_tables}
+use Rattle.range_loc_rewrite.specs.Groups.{AreNumbered}
+use Rattle.range_loc_rewrite.specs.Lists.{Kind, ranges_kind, locations_kind}
+use Rattle.range_loc_rewrite.specs.Locations.{PlaceSaid}
+use Rattle.range_loc_rewrite.specs.PlaceReading.{is_bad_unit, unit_says, AreGathered, IsProgress, IsUnitAdded}
+use Rattle.range_loc_rewrite.specs.Placing.{IsUnitPlaced}
+use Rattle.range_loc_rewrite.specs.RangeReading.{units_of}
+use Rattle.range_loc_rewrite.proofs.PlainPlaces.{unit_of_listed}
+use Rattle.range_loc_rewrite.proofs.ReadProgress.{units_more, read_unit, entries_by}
+
+-- the lowest tables of one unit more
+bad_more : (s : ListSections) (k : Kind) (section : List ℕ) (ws : List Walked) (w : Walked) (u : Unit) (old new now : Option ℕ) →
+    unit_of s.units.abbrevs w ≡ Ok u → new ≡ lower old now → old ≡ least (flat_map (bad_list_tables k section s.units.addr) (units_of s ws)) →
+    now ≡ least (bad_list_tables k section s.units.addr u) →
+    new ≡ least (flat_map (bad_list_tables k section s.units.addr) (units_of s (ws ++ w ∷ [])))
+bad_more s k section ws w u old new now read made before here =
+    made ∙ (λ i. lower (before i) (here i))
+    ∙ sym (ap (λ (us : List Unit). least (flat_map (bad_list_tables k section s.units.addr) us)) (units_more s ws w u read)
+    ∙ ap least (flat-more (bad_list_tables k section s.units.addr) (units_of s ws) u)
+    ∙ least-append (flat_map (bad_list_tables k section s.units.addr) (units_of s ws)) (bad_list_tables k section s.units.addr u))
+
+module _ (s : ListSections) (ws : List Walked) (w : Walked) (old new : PlaceProgress) (r : UnitReading) (are : IsProgress s ws old)
+    (is : IsReading s.units.abbrevs s.units.addr w r) (form : new.bad_form ≡ lower old.bad_form r.bad_form)
+    (high : new.bad_high ≡ lower old.bad_high r.bad_high) (unform : new.unformed ≡ lower old.unformed r.unformed) where
+  with_bad : AreNumbered new.groups → new.bad ≡ first_place (is_bad_unit s) (ws ++ w ∷ []) →
+      (new.bad ≡ None → AreGathered s (ws ++ w ∷ []) new) → IsProgress s (ws ++ w ∷ []) new
+  with_bad numbered bad gathered = record {
+    numbered = numbered;
+    form = form ∙ (λ i. lower (are.form i) (is.form i)) ∙ sym (places_more has_bad_form s.units.abbrevs ws w);
+    high = high ∙ (λ i. lower (are.high i) (is.high i)) ∙ sym (places_more has_bad_high s.units.abbrevs ws w);
+    unformed_are = unform ∙ (λ i. lower (are.unformed_are i) (is.behind.unformed i)) ∙ sym (unformed_more s.units.abbrevs ws w);
+    bad = bad;
+    gathered = gathered;
+  }
+
+  none_bad : (place : ℕ) → new.bad ≡ Some place → new.bad ≡ None → AreGathered s (ws ++ w ∷ []) new
+  none_bad place now none = let e : None ≡ Some place = sym none ∙ now in absurd (cc)
+
+  -- one was bad before
+  pub bad_kept : AreNumbered new.groups → is_some old.bad ≡ true → new.bad ≡ old.bad → IsProgress s (ws ++ w ∷ []) new
+  bad_kept numbered some same = by_bad old.bad refl some
+    where
+      by_bad : (o : Option ℕ) → old.bad ≡ o → is_some o ≡ true → IsProgress s (ws ++ w ∷ []) new
+      by_bad None e some = absurd (cc)
+      by_bad (Some place) e some =
+          with_bad numbered (same ∙ e ∙ sym (bad_before (is_bad_unit s) ws w place (sym are.bad ∙ e))) (none_bad place (same ∙ e))
+
+  -- this one can't be read
+  pub bad_first : AreNumbered new.groups → old.bad ≡ None → r.entries ≡ None → new.bad ≡ Some w.place → IsProgress s (ws ++ w ∷ []) new
+  bad_first numbered before none now =
+      let bad : is_bad_unit s w ≡ true = ap (λ (b : Bool). b || has_bad_offsets s w) (entries_by s w r None is none) in
+      with_bad numbered (now ∙ sym (bad_now (is_bad_unit s) ws w (sym are.bad ∙ before) bad)) (none_bad w.place now)
+
+  -- this one was read
+  module _ (f : UnitFaults) (before : old.bad ≡ None) (good : fails (is_sound_unit s.units.addr) (unit_of s.units.abbrevs w) ≡ false) (u : Unit)
+      (read : unit_of s.units.abbrevs w ≡ Ok u) (x : IsUnitPlaced s u old.groups old.kept new.groups new.kept f)
+      (ranges : new.bad_ranges ≡ lower old.bad_ranges f.ranges.bad) (locations : new.bad_locations ≡ lower old.bad_locations f.locations.bad) where
+    tested : is_bad_unit s w ≡ (f.ranges.lacks_offset || f.locations.lacks_offset)
+    tested =
+        (λ i. good i || (has_bad_offset ranges_kind s.ranges (read i) || has_bad_offset locations_kind s.locations (read i)))
+        ∙ (λ i. sym x.lacks_ranges i || sym x.lacks_locations i)
+
+    pub by_offset : (b : Bool) → (f.ranges.lacks_offset || f.locations.lacks_offset) ≡ b → new.bad ≡ (if b then Some w.place else old.bad) →
+        IsProgress s (ws ++ w ∷ []) new
+    by_offset true lacks now =
+        with_bad x.grow.numbered (now ∙ sym (bad_now (is_bad_unit s) ws w (sym are.bad ∙ before) (tested ∙ lacks))) (none_bad w.place now)
+    by_offset false lacks now =
+        let was = are.gathered before in
+        with_bad x.grow.numbered (now ∙ before ∙ sym (still_good (is_bad_unit s) ws w (sym are.bad ∙ before) (tested ∙ lacks)))
+        (λ none. record {
+          held = x.held;
+          says = λ a. x.says a ∙ ap (λ (l : List PlaceSaid). l ++ unit_says s a u) (was.says a)
+              ∙ sym (ap (flat_map (unit_says s a)) (units_more s ws w u read) ∙ flat-more (unit_says s a) (units_of s ws) u);
+          ranges = bad_more s ranges_kind s.ranges ws w u old.bad_ranges new.bad_ranges f.ranges.bad read ranges was.ranges x.bad_ranges;
+          locations = bad_more s locations_kind s.locations ws w u old.bad_locations new.bad_locations f.locations.bad read locations was.locations
+              x.bad_locations;
+        })
+
+-- a unit whose entries can be read
+pub unit_added : (s : ListSections) (ws : List Walked) (w : Walked) (old mid new : PlaceProgress) (r : UnitReading) (es : Vec ListedEntry) →
+    IsProgress s ws old → IsReading s.units.abbrevs s.units.addr w r → mid.bad_form ≡ lower old.bad_form r.bad_form →
+    mid.bad_high ≡ lower old.bad_high r.bad_high → mid.unformed ≡ lower old.unformed r.unformed → mid.groups ≡ old.groups →
+    mid.kept ≡ old.kept → mid.bad_ranges ≡ old.bad_ranges → mid.bad_locations ≡ old.bad_locations → mid.bad ≡ old.bad → old.bad ≡ None →
+    r.entries ≡ Some es → IsUnitAdded s es.items w.place mid new → IsProgress s (ws ++ w ∷ []) new
+unit_added s ws w old mid new r es are is form high unform groups kept ranges locations bad before some added =
+    let behind = entries_by s w r (Some es) is some in
+    let u = read_unit (unit_of s.units.abbrevs w) es.items behind.1 in
+    let x : IsUnitPlaced s u.0 old.groups old.kept new.groups new.kept added.faults =
+    subst (λ (g : Groups). IsUnitPlaced s u.0 g old.kept new.groups new.kept added.faults) groups
+    (subst (λ (l : Locations). IsUnitPlaced s u.0 mid.groups l new.groups new.kept added.faults) kept
+    (unit_of_listed s u.0 es.items mid.groups new.groups mid.kept new.kept added.faults u.2 added.placed)) in
+    by_offset s ws w old new r are is (added.form ∙ form) (added.high ∙ high) (added.unformed_is ∙ unform) added.faults before behind.0 u.0 u.1 x
+    (added.ranges ∙ ap (λ (o : Option ℕ). lower o added.faults.ranges.bad) ranges)
+    (added.locations ∙ ap (λ (o : Option ℕ). lower o added.faults.locations.bad) locations)
+    (added.faults.ranges.lacks_offset || added.faults.locations.lacks_offset) refl
+    (added.bad ∙ ap (λ (o : Option ℕ). if added.faults.ranges.lacks_offset || added.faults.locations.lacks_offset then Some w.place else o) bad)

@@ -1,0 +1,23 @@
+use Rattle.std.proofs.Common.{◌<◌, List, ap, sym, subst, refl, length}
+use Rattle.std.specs.Prelude.{All}
+use Rattle.std.proofs.lemmas.List.Elements.{All-nil}
+use Rattle.range_loc_rewrite.specs.declared.cover_tree.Cover.{Cover}
+use Rattle.range_loc_rewrite.specs.declared.located_attr.LocatedAttr.{LocatedAttr}
+use Rattle.range_loc_rewrite.specs.UnitLocations.{IsHeld, all_located}
+use Rattle.range_loc_rewrite.proofs.place_entries.nothing.Goals as goal
+
+pub returns : goal.returns
+returns c = λ s. record {
+  numbered = subst (λ (cs : List Cover). All (λ (x : Cover). x.group < 0) cs) (sym c.new.ensures.items) (All-nil (λ (x : Cover). x.group < 0));
+  form = refl;
+  high = refl;
+  unformed_are = refl;
+  bad = refl;
+  gathered = λ _. record {
+    held = subst (λ (ls : List LocatedAttr). All (IsHeld 0 (length c.new-2.result.items)) ls) (sym c.new-3.ensures.items)
+        (All-nil (IsHeld 0 (length c.new-2.result.items)));
+    says = λ a. ap (λ (ls : List LocatedAttr). all_located c.new.result.items c.new-2.result.items ls a) c.new-3.ensures.items;
+    ranges = refl;
+    locations = refl;
+  };
+}

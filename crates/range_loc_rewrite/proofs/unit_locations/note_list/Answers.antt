@@ -1,0 +1,30 @@
+use Rattle.std.proofs.Common.{◌≡◌, ◌∙◌, Some, List, ℕ, ap, sym, refl}
+use Rattle.std.specs.Prelude.{is_some}
+use Rattle.table_core.specs.ReadSteps.{lower}
+use Rattle.range_loc_rewrite.specs.Faults.{table_place}
+use Rattle.range_loc_rewrite.specs.Lists.{locations_kind, list_offset}
+use Rattle.range_loc_rewrite.proofs.NotedLists.{noted_sound, noted_bad}
+use Rattle.range_loc_rewrite.proofs.unit_locations.note_list.Goals as goal
+
+pub returns-in-Some-2 : goal.returns-in-Some-2
+returns-in-Some-2 c = λ s u attrs r k noted.
+    let p = c.in_ok-number_at.ensures s u r k in
+    let offset : list_offset locations_kind s.locations u c.args.attr ≡ Some c.in-Some.at =
+    ap (λ (l : List ℕ). list_offset locations_kind l u c.args.attr) (sym r.section) ∙ sym (c.list_offset.ensures u r.lists.lists) ∙ c.in-Some.is in (
+      p.0,
+      noted_sound locations_kind s.locations s.units.addr u attrs c.args.attr c.args.others c.args.others noted c.in-Some.at
+          (sym c.has_list.ensures ∙ c.if-not-has_list.false) offset (sym p.1.some ∙ ap is_some c.in-Some-2.is) refl,
+    )
+
+pub returns-in-None : goal.returns-in-None
+returns-in-None c = λ s u attrs r k noted.
+    let p = c.in_ok-number_at.ensures s u r k in
+    let offset : list_offset locations_kind s.locations u c.args.attr ≡ Some c.in-Some.at =
+    ap (λ (l : List ℕ). list_offset locations_kind l u c.args.attr) (sym r.section) ∙ sym (c.list_offset.ensures u r.lists.lists) ∙ c.in-Some.is in (
+      p.0,
+      noted_bad locations_kind s.locations s.units.addr u attrs c.args.attr c.args.others
+          (record { lacks_offset = c.args.others.lacks_offset; bad = c.lower.result }) noted c.in-Some.at
+          (sym c.has_list.ensures ∙ c.if-not-has_list.false) offset (sym p.1.some ∙ ap is_some c.in-None.is) refl
+          (c.lower.ensures ∙ ap (λ (n : ℕ). lower c.args.others.bad (Some n)) (c.table_place.ensures
+          ∙ ap (λ (l : List ℕ). table_place l c.in-Some.at) r.section)),
+    )

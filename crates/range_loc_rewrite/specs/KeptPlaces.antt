@@ -1,0 +1,36 @@
+-- What is kept of sections of locations without a fault.
+use Rattle.std.specs.Prelude.{◌≡◌, ℕ, List, [], All, map, nat_le, flat_map, slice_get, None}
+use Rattle.std.specs.List.Sorted.{IsNonDecreasing}
+use Rattle.std.specs.Option.{option_map_or}
+use Rattle.rb_bytes.specs.FirstFault.{IsFree}
+use Rattle.dw_unit.specs.Faults.{HasDwarfFault}
+use Rattle.range_loc_rewrite.specs.declared.cover_index.CoverIndex.{CoverIndex}
+use Rattle.range_loc_rewrite.specs.declared.groups.RangedEntry.{RangedEntry}
+use Rattle.range_loc_rewrite.specs.declared.kept_list.KeptList.{KeptList}
+use Rattle.range_loc_rewrite.specs.declared.located_attr.LocatedAttr.{LocatedAttr}
+use Rattle.range_loc_rewrite.specs.declared.located_attr.Locations.{Locations}
+use Rattle.range_loc_rewrite.specs.Bounds.{bounds_in}
+use Rattle.range_loc_rewrite.specs.CoverIndex.{IsCoverIndex}
+use Rattle.range_loc_rewrite.specs.Faults.{ListSections, location_places}
+use Rattle.range_loc_rewrite.specs.Locations.{PlaceSaid, places_said}
+use Rattle.range_loc_rewrite.specs.UnitLocations.{all_located, located_says}
+
+abbrev pub ranged_of : LocatedAttr → RangedEntry
+ranged_of l = record { place = l.place; group = l.group; own = 0; index = None }
+
+-- what is said of the attribute of a number
+abbrev pub said_by_number : Locations → ℕ → ℕ → List PlaceSaid
+said_by_number kept a k = option_map_or (located_says kept.lists.items a) (slice_get kept.located.items k) []
+
+-- the bounds of all lists
+abbrev pub list_bounds : List KeptList → List ℕ
+list_bounds lists = flat_map (λ (l : KeptList). bounds_in l.tree) lists
+
+-- The attributes that say where something is, the index by which those are found whose ranges hold an address, and
+-- numbers between which the same is said at all addresses.
+pub record ArePlacesKept (s : ListSections) (kept : Locations) (index : CoverIndex) (bounds : List ℕ) : Type 0 where
+  pub free : IsFree (HasDwarfFault (location_places s))
+  pub index_is : IsCoverIndex index.tree (map ranged_of kept.located.items) index
+  pub says : (a : ℕ) → all_located index.tree kept.lists.items kept.located.items a ≡ places_said s a
+  pub rising : IsNonDecreasing bounds
+  pub apart : (a b : ℕ) → All (λ x. nat_le x a ≡ nat_le x b) bounds → places_said s a ≡ places_said s b

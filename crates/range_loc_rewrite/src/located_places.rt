@@ -1,0 +1,129 @@
+// What is said of locations at an address, by the attributes and lists that are kept.
+ghost use Rattle.std.specs.Prelude.{◌≡◌, ◌++◌, ◌∷◌, [], IfOk, OnOk, flat_map, map, option_map, slice_get};
+ghost use Rattle.std.specs.Option.{option_copied};
+ghost use Rattle.table_core.specs.ReadSteps as steps;
+ghost use Rattle.range_loc_rewrite.specs.KeptLists.{items_in};
+ghost use Rattle.range_loc_rewrite.specs.KeptPlaces.{said_by_number, ranged_of};
+ghost use Rattle.range_loc_rewrite.specs.Locations.{all_said, attr_says};
+ghost use Rattle.range_loc_rewrite.specs.UnitLocations.{source_says};
+
+use crate::groups::RangedEntry;
+use crate::kept_list::KeptList;
+use crate::kept_lists::in_force;
+use crate::located_attr::{LocatedAttr, Locations, Source};
+use crate::place_answer::PlaceAt;
+use rb_bytes::fault::NoMemory;
+use std::alloc::Global;
+
+fn only(alloc: Global, expression: &[u8]) -> Result<Vec<Vec<u8>>, NoMemory>
+    ensures { IfOk result (λ xs. items_in xs.items ≡ expression.now ∷ []) }
+{
+    let copy = Vec::from_slice(alloc, expression)?;
+    let mut only = Vec::new(alloc);
+    only.push(copy)?;
+    Ok(only)
+}
+
+// The expressions of an attribute that are in force at an address.
+fn expressions_at(
+    alloc: Global,
+    lists: &[KeptList],
+    source: &Source,
+    a: u64,
+) -> Result<Vec<Vec<u8>>, NoMemory>
+    ensures { IfOk result (λ xs. items_in xs.items ≡ source_says lists.now a source.now) }
+{
+    match source {
+        Source::Direct(expression) => only(alloc, expression.as_slice()),
+        Source::Listed(number) => match lists.get(*number) {
+            Some(list) => in_force(alloc, list, a),
+            None => Ok(Vec::new(alloc)),
+        },
+    }
+}
+
+// Adds what is said of an attribute, unless nothing is.
+fn put_place(
+    places: &mut Vec<PlaceAt>,
+    place: u64,
+    attr: u64,
+    expressions: Vec<Vec<u8>>,
+) -> Result<(), NoMemory>
+    ensures { OnOk result (all_said places.new ≡ all_said places.old ++ attr_says place attr (items_in expressions.items)) }
+{
+    match expressions.first() {
+        Some(_) => {
+            places.push((place, attr, expressions))?;
+            Ok(())
+        }
+        None => Ok(()),
+    }
+}
+
+fn attr_of(kept: &Locations, number: usize) -> Option<&LocatedAttr>
+    ensures { option_copied result ≡ slice_get kept.now.located.items number }
+{
+    kept.located.get(number)
+}
+
+// Adds what is said of the attribute of a number.
+fn put_number(
+    alloc: Global,
+    kept: &Locations,
+    number: usize,
+    a: u64,
+    places: &mut Vec<PlaceAt>,
+) -> Result<(), NoMemory>
+    ensures { OnOk result (all_said places.new ≡ all_said places.old ++ said_by_number kept.now a number) }
+{
+    match attr_of(kept, number) {
+        Some(located) => {
+            let expressions = expressions_at(alloc, &kept.lists, &located.source, a)?;
+            put_place(places, located.place, located.attr, expressions)?;
+            Ok(())
+        }
+        None => Ok(()),
+    }
+}
+
+/// What is said of the attributes of some numbers at an address.
+pub fn places_at(
+    alloc: Global,
+    kept: &Locations,
+    numbers: &[usize],
+    a: u64,
+) -> Result<Vec<PlaceAt>, NoMemory>
+    ensures { IfOk result (λ ps. all_said ps ≡ flat_map (said_by_number kept.now a) numbers.now) }
+{
+    let mut places = Vec::new(alloc);
+    for number in numbers {
+        put_number(alloc, kept, *number, a, &mut places)?;
+    }
+    Ok(places)
+}
+
+/// What is said of locations, unless nothing is.
+pub fn unless_empty(places: Vec<PlaceAt>) -> Option<Vec<PlaceAt>>
+    ensures { option_map all_said result ≡ steps.unless_empty (all_said places) }
+{
+    match places.first() {
+        Some(_) => Some(places),
+        None => None,
+    }
+}
+
+/// The entries of attributes, with the groups of their nearest ranges.
+pub fn ranged_of(alloc: Global, located: &[LocatedAttr]) -> Result<Vec<RangedEntry>, NoMemory>
+    ensures { IfOk result (λ rs. rs.items ≡ map ranged_of located.now) }
+{
+    let mut ranged = Vec::new(alloc);
+    for attr in located {
+        ranged.push(RangedEntry {
+            place: attr.place,
+            group: attr.group,
+            own: 0,
+            index: None,
+        })?;
+    }
+    Ok(ranged)
+}

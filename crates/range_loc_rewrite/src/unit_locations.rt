@@ -1,0 +1,281 @@
+// The locations of the attributes of a unit's entries. DWARF 5, sections 2.6 and 7.29.
+ghost use Rattle.std.specs.Prelude.{◌≡◌, ◌++◌, ◌∷◌, [], ℕ, List, IfOk, OnOk};
+ghost use Rattle.std.specs.List.Sorted.{IsNonDecreasingBy};
+ghost use Rattle.table_core.specs.DebugUnits.{walked};
+ghost use Rattle.dw_unit.specs.declared.entry.Attr.{Attr};
+ghost use Rattle.dw_unit.specs.CompUnits as units;
+ghost use Rattle.dw_unit.specs.CompUnits.{Unit, attr};
+ghost use Rattle.dw_unit.specs.ListedUnits.{plain};
+ghost use Rattle.range_loc_rewrite.specs.Faults.{ListSections};
+ghost use Rattle.range_loc_rewrite.specs.KeptLists.{AreMore, AreNumbersOf, IsNumberOf, location_list};
+ghost use Rattle.range_loc_rewrite.specs.KnownLists.{AreNoted};
+ghost use Rattle.range_loc_rewrite.specs.Lists as lists;
+ghost use Rattle.range_loc_rewrite.specs.Lists.{locations_kind};
+ghost use Rattle.range_loc_rewrite.specs.UnitLocations as spec;
+ghost use Rattle.range_loc_rewrite.specs.UnitLocations.{ReadsLocations, AreRead, IsSourceOf, IsNamedSource, AreLocated};
+ghost use Rattle.range_loc_rewrite.specs.UnitLocations.{attr_said, entry_said};
+
+use crate::expression_block::{expression_in, is_block};
+use crate::kept_list::KeptList;
+use crate::kept_lists::keep_list;
+use crate::list_kind::ListKind;
+use crate::list_section::{ListSection, list_at, list_offset, table_place};
+use crate::located_attr::{LocatedAttr, Locations, Source};
+use crate::unit_lists::{UnitLists, attr_named};
+use crate::unit_ranges::{KnownLists, ListFaults, known_number};
+use dw_unit::attribute::{DW_AT_frame_base, DW_AT_location};
+use dw_unit::lowest::lower;
+use dw_unit::{Attr, Entry};
+use rb_bytes::fault::NoMemory;
+use std::alloc::Global;
+use table_core::form::{DW_FORM_loclistx, DW_FORM_sec_offset};
+
+/// What a unit needs to read its locations.
+#[derive(Clone, Copy)]
+pub struct UnitLocations<'a, 't> {
+    /// The section of the units.
+    pub info: &'a [u8],
+    pub section: ListSection<'a, 't>,
+    pub lists: UnitLists<'a>,
+}
+
+// Reads the list at an offset, and answers its number; none if it can't be read.
+fn read_number(
+    alloc: Global,
+    unit: &UnitLocations<'_, '_>,
+    lists: &mut Vec<KeptList>,
+    at: u64,
+) -> Result<Option<usize>, NoMemory>
+    requires rising { IsNonDecreasingBy (λ w. w.place) unit.now.section.tables.now }
+    requires walked { unit.now.section.tables.now ≡ walked 5 unit.now.section.bytes.now }
+    ensures { (s : ListSections) (u : Unit) → ReadsLocations s u unit.now →
+        IfOk result (λ o. AreMore lists.old.items lists.new.items × IsNumberOf lists.new.items o (location_list s u at)) }
+{
+    match list_at(alloc, ListKind::Locations, unit.section, &unit.lists, at)? {
+        Some(places) => {
+            let list = keep_list(alloc, &places)?;
+            let number = lists.len();
+            lists.push(list)?;
+            Ok(Some(number))
+        }
+        None => Ok(None),
+    }
+}
+
+// The number of the list at an offset, which is read if it isn't known; none if it can't be read.
+fn number_at(
+    alloc: Global,
+    unit: &UnitLocations<'_, '_>,
+    known: &mut KnownLists,
+    lists: &mut Vec<KeptList>,
+    at: u64,
+) -> Result<Option<usize>, NoMemory>
+    requires rising { IsNonDecreasingBy (λ w. w.place) unit.now.section.tables.now }
+    requires walked { unit.now.section.tables.now ≡ walked 5 unit.now.section.bytes.now }
+    ensures { (s : ListSections) (u : Unit) → ReadsLocations s u unit.now →
+        AreNumbersOf (location_list s u) lists.old.items known.old →
+        IfOk result (λ o. AreRead s u lists.old.items lists.new.items known.new
+        × IsNumberOf lists.new.items o (location_list s u at)) }
+{
+    if let Some(number) = known_number(known, at) {
+        return Ok(number);
+    }
+    let number = read_number(alloc, unit, lists, at)?;
+    known.insert(at, number)?;
+    Ok(number)
+}
+
+fn has_list(attr: Attr) -> bool
+    ensures { result ≡ lists.has_list locations_kind attr }
+{
+    (attr.name == DW_AT_location || attr.name == DW_AT_frame_base)
+        && (attr.form == DW_FORM_sec_offset || attr.form == DW_FORM_loclistx)
+}
+
+// What is wrong with the list that an attribute names, and with others.
+fn note_list(
+    alloc: Global,
+    unit: &UnitLocations<'_, '_>,
+    known: &mut KnownLists,
+    lists: &mut Vec<KeptList>,
+    attr: Attr,
+    others: ListFaults,
+) -> Result<ListFaults, NoMemory>
+    requires rising { IsNonDecreasingBy (λ w. w.place) unit.now.section.tables.now }
+    requires walked { unit.now.section.tables.now ≡ walked 5 unit.now.section.bytes.now }
+    ensures { (s : ListSections) (u : Unit) (attrs : List Attr) → ReadsLocations s u unit.now →
+        AreNumbersOf (location_list s u) lists.old.items known.old →
+        AreNoted locations_kind s.locations s.units.addr u attrs others →
+        IfOk result (λ f. AreRead s u lists.old.items lists.new.items known.new
+        × AreNoted locations_kind s.locations s.units.addr u (attrs ++ attr ∷ []) f) }
+{
+    if !has_list(attr) {
+        return Ok(others);
+    }
+    let section = unit.section;
+    let Some(at) = list_offset(ListKind::Locations, section.bytes, unit.lists.lists, attr) else {
+        return Ok(ListFaults {
+            lacks_offset: true,
+            bad: others.bad,
+        });
+    };
+    match number_at(alloc, unit, known, lists, at)? {
+        Some(_) => Ok(others),
+        None => Ok(ListFaults {
+            lacks_offset: others.lacks_offset,
+            bad: lower(
+                others.bad,
+                Some(table_place(section.bytes, section.tables, at)),
+            ),
+        }),
+    }
+}
+
+// What is wrong with the lists that some attributes name, and with others.
+fn note_lists(
+    alloc: Global,
+    unit: &UnitLocations<'_, '_>,
+    known: &mut KnownLists,
+    lists: &mut Vec<KeptList>,
+    attrs: &[Attr],
+    others: ListFaults,
+) -> Result<ListFaults, NoMemory>
+    requires rising { IsNonDecreasingBy (λ w. w.place) unit.now.section.tables.now }
+    requires walked { unit.now.section.tables.now ≡ walked 5 unit.now.section.bytes.now }
+    ensures { (s : ListSections) (u : Unit) (before : List Attr) → ReadsLocations s u unit.now →
+        AreNumbersOf (location_list s u) lists.old.items known.old →
+        AreNoted locations_kind s.locations s.units.addr u before others →
+        IfOk result (λ f. AreRead s u lists.old.items lists.new.items known.new
+        × AreNoted locations_kind s.locations s.units.addr u (before ++ attrs.now) f) }
+{
+    let mut faults = others;
+    for attr in attrs {
+        faults = note_list(alloc, unit, known, lists, *attr, faults)?;
+    }
+    Ok(faults)
+}
+
+// Where the expressions of an attribute are; none of a list that can't be read.
+fn source_of(
+    alloc: Global,
+    unit: &UnitLocations<'_, '_>,
+    known: &mut KnownLists,
+    lists: &mut Vec<KeptList>,
+    attr: Attr,
+) -> Result<Option<Source>, NoMemory>
+    requires rising { IsNonDecreasingBy (λ w. w.place) unit.now.section.tables.now }
+    requires walked { unit.now.section.tables.now ≡ walked 5 unit.now.section.bytes.now }
+    ensures { (s : ListSections) (u : Unit) → ReadsLocations s u unit.now →
+        AreNumbersOf (location_list s u) lists.old.items known.old →
+        IfOk result (λ o. AreRead s u lists.old.items lists.new.items known.new × IsSourceOf s u lists.new.items attr o) }
+{
+    if is_block(attr.form) {
+        let expression = Vec::from_slice(alloc, expression_in(unit.info, attr))?;
+        return Ok(Some(Source::Direct(expression)));
+    }
+    let section = unit.section;
+    let Some(at) = list_offset(ListKind::Locations, section.bytes, unit.lists.lists, attr) else {
+        return Ok(None);
+    };
+    match number_at(alloc, unit, known, lists, at)? {
+        Some(number) => Ok(Some(Source::Listed(number))),
+        None => Ok(None),
+    }
+}
+
+// Where the expressions of the attribute of a name are.
+fn named_source(
+    alloc: Global,
+    unit: &UnitLocations<'_, '_>,
+    known: &mut KnownLists,
+    lists: &mut Vec<KeptList>,
+    attrs: &[Attr],
+    name: u64,
+) -> Result<Option<Source>, NoMemory>
+    requires rising { IsNonDecreasingBy (λ w. w.place) unit.now.section.tables.now }
+    requires walked { unit.now.section.tables.now ≡ walked 5 unit.now.section.bytes.now }
+    ensures { (s : ListSections) (u : Unit) (e : units.Entry) → e.attrs ≡ attrs.now → ReadsLocations s u unit.now →
+        AreNumbersOf (location_list s u) lists.old.items known.old →
+        IfOk result (λ o. AreRead s u lists.old.items lists.new.items known.new
+        × IsNamedSource s u lists.new.items (attr name e) o) }
+{
+    match attr_named(name, attrs) {
+        Some(attr) => {
+            let source = source_of(alloc, unit, known, lists, *attr)?;
+            Ok(source)
+        }
+        None => Ok(None),
+    }
+}
+
+fn put_located(
+    located: &mut Vec<LocatedAttr>,
+    place: u64,
+    attr: u64,
+    nearest: Option<usize>,
+    source: Option<Source>,
+) -> Result<(), NoMemory>
+    ensures { OnOk result (located.new.items ≡ located.old.items ++ spec.located_of place attr nearest source) }
+{
+    let Some(group) = nearest else {
+        return Ok(());
+    };
+    let Some(source) = source else {
+        return Ok(());
+    };
+    located.push(LocatedAttr {
+        place,
+        attr,
+        group,
+        source,
+    })?;
+    Ok(())
+}
+
+// Adds the attribute of a name of an entry, by the group of its nearest ranges.
+fn locate(
+    alloc: Global,
+    unit: &UnitLocations<'_, '_>,
+    known: &mut KnownLists,
+    kept: &mut Locations,
+    entry: &Entry,
+    name: u64,
+    nearest: Option<usize>,
+) -> Result<(), NoMemory>
+    requires rising { IsNonDecreasingBy (λ w. w.place) unit.now.section.tables.now }
+    requires walked { unit.now.section.tables.now ≡ walked 5 unit.now.section.bytes.now }
+    ensures { (s : ListSections) (u : Unit) → ReadsLocations s u unit.now →
+        AreNumbersOf (location_list s u) kept.old.lists.items known.old →
+        OnOk result (AreLocated s u nearest kept.old kept.new known.new (λ covers p. attr_said s u covers nearest (plain
+        entry.now) name p)) }
+{
+    let source = named_source(alloc, unit, known, &mut kept.lists, &entry.attrs, name)?;
+    put_located(&mut kept.located, entry.place, name, nearest, source)?;
+    Ok(())
+}
+
+/// Adds the attributes of an entry that say where something is, by the group of its nearest ranges; answers what is wrong
+/// with the lists that it names, and with others.
+pub fn locate_entry(
+    alloc: Global,
+    unit: &UnitLocations<'_, '_>,
+    known: &mut KnownLists,
+    kept: &mut Locations,
+    entry: &Entry,
+    nearest: Option<usize>,
+    others: ListFaults,
+) -> Result<ListFaults, NoMemory>
+    requires rising { IsNonDecreasingBy (λ w. w.place) unit.now.section.tables.now }
+    requires walked { unit.now.section.tables.now ≡ walked 5 unit.now.section.bytes.now }
+    ensures { (s : ListSections) (u : Unit) (before : List Attr) → ReadsLocations s u unit.now →
+        AreNumbersOf (location_list s u) kept.old.lists.items known.old →
+        AreNoted locations_kind s.locations s.units.addr u before others →
+        IfOk result (λ f. AreLocated s u nearest kept.old kept.new known.new (λ covers p. entry_said s u covers nearest
+        (plain entry.now) p)
+        × AreNoted locations_kind s.locations s.units.addr u (before ++ entry.now.attrs) f) }
+{
+    let faults = note_lists(alloc, unit, known, &mut kept.lists, &entry.attrs, others)?;
+    locate(alloc, unit, known, kept, entry, DW_AT_location, nearest)?;
+    locate(alloc, unit, known, kept, entry, DW_AT_frame_base, nearest)?;
+    Ok(faults)
+}
