@@ -1,6 +1,6 @@
 -- The sections of the input in a written file: a name of a debug table means the same section, and one with a given table holds
 -- that.
-use Rattle.std.proofs.Common.{◌≡◌, ℕ, zero, suc, ◌+◌, ◌<◌, List, [], ◌∷◌, ◌++◌, length, Option, Some, None, Bool, true, false}
+use Rattle.std.proofs.Common.{◌≡◌, ℕ, zero, suc, ◌<◌, List, [], ◌∷◌, ◌++◌, length, Option, Some, None, Bool, true, false}
 use Rattle.std.proofs.Common.{refl, sym, ap, ◌∙◌, subst, arith, inl, inr, ◌⊎◌, get_or}
 use Rattle.std.specs.Prelude.{◌==◌, ◌&&◌, ◌||◌, not, slice_get, find, position, nat_eq, if◌then◌else◌, String, Vec, string_bytes}
 use Rattle.std.specs.Prelude.{codes, take}
@@ -8,10 +8,12 @@ use Rattle.std.specs.Option.{option_map_or}
 use Rattle.std.specs.List.{starts_with, position_or_len}
 use Rattle.std.specs.Str.{bytes_eq}
 use Rattle.std.specs.Cmp.Lexicographic.{same_text}
-use Rattle.std.proofs.lemmas.Bool.{and_parts, eqb-true, eq-eqb, lt-ltb}
+use Rattle.std.proofs.lemmas.Bool.{and_parts, eqb-true, eq-eqb, lt-ltb, ltb-true}
 use Rattle.std.proofs.lemmas.List.Folds.{find_at}
 use Rattle.std.proofs.lemmas.List.Quantifiers.{position-Some}
 use Rattle.std.proofs.lemmas.Option.{slice_get_within, slice_get-get_or, get_or_from_slice_get, same_Some}
+use Rattle.std.proofs.Math.Dec.{ltb}
+use Rattle.rb_bytes.proofs.ListLemmas.{slice_get_found}
 use Rattle.elf_image.specs.declared.elf.Elf.{Elf}
 use Rattle.elf_image.specs.declared.section.Section.{Section}
 use Rattle.elf_image.specs.declared.section.TheConstants.{SHF_ALLOC}
@@ -119,6 +121,20 @@ given_is_called p q xs x found same =
   where
     same_find : (ys : List _) → find p ys ≡ find q ys
     same_find ys = ap {B = Option _} (λ (test : _ → Bool). find test ys) (let all : p ≡ q = λ i y. same y i in all)
+
+-- nor does such a search find anything where the other doesn't
+pub not_found : {X : Type 0} (p q : X → Bool) (xs : List X) → find q xs ≡ None → ((y : X) → p y ≡ q y) → position p xs ≡ None
+not_found {X} p q xs none same =
+    by (ltb (position_or_len p xs) (length xs)) refl
+    (sym (find_at p xs) ∙ ap (λ (test : X → Bool). find test xs) (let all : p ≡ q = λ i y. same y i in all) ∙ none)
+  where
+    by : (b : Bool) → ltb (position_or_len p xs) (length xs) ≡ b → slice_get xs (position_or_len p xs) ≡ None →
+        (if b then Some (position_or_len p xs) else None) ≡ None
+    by true less none =
+        let (x, is) = slice_get_found xs (position_or_len p xs) (ltb-true (position_or_len p xs) (length xs) less) in
+        let c : Some x ≡ None = sym is ∙ none in
+        absurd (cc)
+    by false less none = refl
 
 -- What the flags of a section of the input become.
 
@@ -244,7 +260,7 @@ module _ {Y Z : Type 0} (elf new : Elf) (tables : List (String Y × Vec ℕ Z)) 
           same_at k x z (slice_get-get_or elf.sections.items k s (omega (arith, less, inside))) there ∙ h.2 k less)
 
       -- a table has this place where it has the name
-      same_table : (x : List ℕ) → is_at i (place_replaced elf.sections.items x) ≡ bytes_eq x name
+      pub same_table : (x : List ℕ) → is_at i (place_replaced elf.sections.items x) ≡ bytes_eq x name
       same_table x = same_bool (is_at i (place_replaced elf.sections.items x)) (bytes_eq x name) (to (names_frames x) refl) from
         where
           from : bytes_eq x name ≡ true → is_at i (place_replaced elf.sections.items x) ≡ true

@@ -1,4 +1,5 @@
 pub mod AddedSections
 pub mod AreaTables
 pub mod GivenTables
+pub mod OtherTables
 pub mod TablesStand

@@ -16,10 +16,11 @@ use Rattle.elf_plan.specs.declared.area.Area.{Area}
 use Rattle.elf_plan.specs.declared.area.Shift.{Shift}
 use Rattle.elf_plan.specs.Contents.{place_replaced, section_bytes}
 use Rattle.elf_plan.specs.NewSections.{AreNewSections, bytes_called}
-use Rattle.elf_write.specs.TablePlaces.{ArePlaced, Holds, HoldsAt, TablesStand, has_place, is_given, takes_table, takes_table_at}
+use Rattle.elf_write.specs.TablePlaces.{ArePlaced, Holds, HoldsAt, KeepsTables, TablesStand, has_place, is_given, takes_table, takes_table_at}
 use Rattle.elf_write.proofs.AddedSections.{absent_stays, ranges_stand}
 use Rattle.elf_write.proofs.AreaTables.{frames_stand, index_stands, no_frames_stand}
 use Rattle.elf_write.proofs.GivenTables.{FirstAt, first_at, given_stands, new_called, no_frames, same_bytes}
+use Rattle.elf_write.proofs.OtherTables.{other_stands}
 
 -- an option that holds something
 some_value : {X : Type 0} (o : Option X) → is_some o ≡ true → (x : X) × (o ≡ Some x)
@@ -35,7 +36,7 @@ if_each (Some x) P h = h x refl
 if_each None P h = tt
 
 module _ {Y Z : Type 0} (elf new : Elf) (tables : List (String Y × Vec ℕ Z)) (area : Area) (shift : Shift) (code : List ℕ)
-    (are : AreNewSections elf new tables area shift code) (placed : ArePlaced elf tables) where
+    (are : AreNewSections elf new tables area shift code) (placed : ArePlaced elf tables) (keeps : KeepsTables elf) where
   module _ (name : List ℕ) (debug : names_debug name ≡ true) (table : String Y × Vec ℕ Z)
       (found : find (λ t. bytes_eq (string_bytes t.0) name) tables ≡ Some table) (s : Section)
       (called : section_called elf.sections.items name ≡ Some s) where
@@ -73,6 +74,16 @@ module _ {Y Z : Type 0} (elf new : Elf) (tables : List (String Y × Vec ℕ Z)) 
       let n = slice_get_found new.sections.items f.i (omega (arith, within, count)) in
       holds name debug table found s is n.0 n.1
 
+  others_stand : (name : List ℕ) → names_debug name ≡ true → is_given tables name ≡ false →
+      bytes_eq name (codes ".debug_macro") ≡ false → (s : Section) → section_called elf.sections.items name ≡ Some s →
+      Holds new name (section_bytes elf.file.now s)
+  others_stand name debug not_given other s is =
+      let f = first_at (is_called name) elf.sections.items s is in
+      let within = slice_get_within elf.sections.items f.i s f.at in
+      let count = are.count in
+      let n = slice_get_found new.sections.items f.i (omega (arith, within, count)) in
+      other_stands elf new tables area shift code are keeps name debug not_given other s f n.0 n.1
+
   pub stand : TablesStand elf new tables area
   stand = record {
     frames = if_each area.frames (λ a. HoldsAt new (codes ".eh_frame") a (bytes_called tables (codes ".eh_frame")))
@@ -84,6 +95,9 @@ module _ {Y Z : Type 0} (elf new : Elf) (tables : List (String Y × Vec ℕ Z)) 
         (λ b. HoldsAt new (codes ".eh_frame_hdr") b (bytes_called tables (codes ".eh_frame_hdr")))
         (index_stands elf new tables area shift code are a at_a));
     debug = debug_stands;
+    others = λ name debug not_given other.
+        if_each (section_called elf.sections.items name) (λ s. Holds new name (section_bytes elf.file.now s))
+        (others_stand name debug not_given other);
     ranges = λ adds. ranges_stand elf new tables area shift code are adds
         (none_value (section_called elf.sections.items (codes ".debug_rnglists"))
         (and_parts (is_given tables (codes ".debug_rnglists"))

@@ -1,47 +1,106 @@
-// Whether given tables have a place in a written file.
-ghost use Rattle.std.specs.Prelude.{◌≡◌, IsTrue};
+// Whether tables have a place in a written file.
+ghost use Rattle.std.specs.Prelude.{◌≡◌, ◌==◌, ◌||◌, IsTrue, OnOk};
+ghost use Rattle.elf_plan.specs.Contents.{is_at};
+ghost use Rattle.elf_plan.specs.KnownSections.{IsOwnOf};
 ghost use Rattle.elf_write.specs.TablePlaces as spec;
 
-use elf_image::Elf;
+use elf_image::named::names_debug;
+use elf_image::{Elf, Section};
 use elf_plan::given_tables::Table;
-use elf_plan::name_tables::{place_of_names, place_of_section_names, place_of_symbols};
+use elf_plan::name_tables::OwnSections;
 use elf_plan::sections::{is_left_out, place_replaced};
+use elf_plan::unwritable::Unwritable;
+
+// A table with addresses of code that can't be carried over.
+const DEBUG_MACRO: &[u8] = b".debug_macro";
 
 // Whether the section of an index has names or symbols, which are written anew.
-fn is_own_section(elf: &Elf, index: usize) -> bool
-    ensures { result ≡ spec.is_own_section elf.now index }
+fn is_own_section(own: OwnSections, index: usize) -> bool
+    ensures { result ≡ ((own.section_names == index) || (is_at index own.symbols || is_at index own.symbol_names)) }
 {
-    place_of_section_names(elf) == index
-        || place_of_symbols(elf) == Some(index)
-        || place_of_names(elf) == Some(index)
+    own.section_names == index || own.symbols == Some(index) || own.symbol_names == Some(index)
 }
 
-// Whether a table can take the place of the section of an index.
-fn takes_table_at(elf: &Elf, index: usize) -> bool
+// Whether a table can take the place of a section, by its index.
+fn takes_table(elf: &Elf, own: OwnSections, index: usize, section: &Section) -> bool
+    requires { IsOwnOf elf.now own }
+    ensures { result ≡ spec.takes_table elf.now index section.now }
+{
+    !is_own_section(own, index) && !is_left_out(section)
+}
+
+fn takes_table_at(elf: &Elf, own: OwnSections, index: usize) -> bool
+    requires { IsOwnOf elf.now own }
     ensures { result ≡ spec.takes_table_at elf.now index }
 {
     match elf.sections.get(index) {
-        Some(section) => !is_own_section(elf, index) && !is_left_out(section),
+        Some(section) => takes_table(elf, own, index, section),
         None => false,
     }
 }
 
 // Whether the section that a table's name means takes it, if there is one.
-fn has_place(elf: &Elf, name: &[u8]) -> bool
+fn has_place(elf: &Elf, own: OwnSections, name: &[u8]) -> bool
+    requires { IsOwnOf elf.now own }
     ensures { result ≡ spec.has_place elf.now name.now }
 {
     match place_replaced(&elf.sections, name) {
-        Some(index) => takes_table_at(elf, index),
+        Some(index) => takes_table_at(elf, own, index),
         None => true,
     }
 }
 
-/// Whether each table that is given has a place: it is the unwind table or its index, or the section that its name means can
-/// hold it, or the input has no such section.
-pub fn are_placed(elf: &Elf, tables: &[Table]) -> bool
+// Whether each table that is given has a place: it is the unwind table or its index, or the section that its name means can
+// hold it, or the input has no such section.
+fn are_placed(elf: &Elf, own: OwnSections, tables: &[Table]) -> bool
+    requires { IsOwnOf elf.now own }
     ensures { IsTrue result → spec.ArePlaced elf.now tables.now }
 {
     tables
         .iter()
-        .all(|table| has_place(elf, table.0.as_bytes()))
+        .all(|table| has_place(elf, own, table.0.as_bytes()))
+}
+
+// Whether a section is a debug table by its name, but for the one that is always left out.
+fn is_debug_table(section: &Section) -> bool
+    ensures { result ≡ spec.is_debug_table section.now }
+{
+    names_debug(section.name) && section.is_meant_by(section.name) && section.name != DEBUG_MACRO
+}
+
+// Whether the section of an index stays, or takes a table, if it is a debug table.
+fn keeps_table_at(elf: &Elf, own: OwnSections, index: usize) -> bool
+    requires { IsOwnOf elf.now own }
+    ensures { result ≡ spec.keeps_table_at elf.now index }
+{
+    match elf.sections.get(index) {
+        Some(section) => !is_debug_table(section) || takes_table(elf, own, index, section),
+        None => true,
+    }
+}
+
+// Whether each debug table of the input stays, or takes a table.
+fn keeps_tables(elf: &Elf, own: OwnSections) -> bool
+    requires { IsOwnOf elf.now own }
+    ensures { IsTrue result → spec.KeepsTables elf.now }
+{
+    for i in 0..elf.sections.len() {
+        if !keeps_table_at(elf, own, i) {
+            return false;
+        }
+    }
+    true
+}
+
+/// Finds whether all tables have a place: those that are given, and the debug tables of the input for which none is.
+pub fn check_places(elf: &Elf, tables: &[Table]) -> Result<(), Unwritable>
+    ensures placed { OnOk result (spec.ArePlaced elf.now tables.now) }
+    ensures kept { OnOk result (spec.KeepsTables elf.now) }
+{
+    let own = OwnSections::new(elf)?;
+    if are_placed(elf, own, tables) && keeps_tables(elf, own) {
+        Ok(())
+    } else {
+        Err(Unwritable::Layout)
+    }
 }

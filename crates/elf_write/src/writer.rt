@@ -4,11 +4,11 @@ ghost use Rattle.elf_image.specs.faults.FileFaults.{IsSound};
 ghost use Rattle.elf_image.specs.file.ParsedFile.{IsElfOf};
 ghost use Rattle.rv_code.specs.layout.FunctionLists.{AreLaidOut};
 ghost use Rattle.elf_check.specs.NewTables.{HasNewTables, area_for};
-ghost use Rattle.elf_write.specs.TablePlaces.{ArePlaced, TablesStand};
+ghost use Rattle.elf_write.specs.TablePlaces.{ArePlaced, KeepsTables, TablesStand};
 ghost use Rattle.elf_make.specs.Source.{HasPlace, source_of};
 ghost use Rattle.elf_make.specs.WrittenFile.{AreApart, CanHold, IsWritten};
 
-use crate::given_places::are_placed;
+use crate::given_places::check_places;
 use addr_map::AddrMap;
 use elf_check::is_accepted;
 use elf_image::Elf;
@@ -43,10 +43,9 @@ fn written(
     ensures tables { IfOk result (λ w. (tight : Bool) → HasPlace (source_of elf.now emitted.now map.now tables.now) tight →
         HasNewTables elf.now tables.now emitted.now.code.items funcs.now cold.now map.now tight w.items) }
     ensures placed { OnOk result (ArePlaced elf.now tables.now) }
+    ensures kept { OnOk result (KeepsTables elf.now) }
 {
-    if !are_placed(elf, tables) {
-        return Err(Unwritable::Layout);
-    }
+    check_places(elf, tables)?;
     let fragments = fragments(alloc, funcs, map)?;
     let source = SectionSource {
         elf,
