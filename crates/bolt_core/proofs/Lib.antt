@@ -6,7 +6,6 @@ mod FrameCount
 mod FrameNeeds
 mod GivenRoom
 mod Joined
-mod LinesCarried
 mod ListedTables
 mod Maps
 mod MarkedFrames

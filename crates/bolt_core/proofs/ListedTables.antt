@@ -1,15 +1,17 @@
 -- What is said of the tables that are given to be written, by their names.
-use Rattle.std.proofs.Common.{◌≡◌, ◌∙◌, ap, refl, ℕ, List, [], ◌∷◌, Option, Some, None, Bool, true, false, length, map, cond}
+use Rattle.std.proofs.Common.{◌≡◌, ◌∙◌, ap, refl, sym, ℕ, List, [], ◌∷◌, Option, Some, None, Bool, true, false, length, map, cond}
 use Rattle.std.specs.Prelude.{find, is_some, option_map, string_bytes, unwrap_or, codes}
 use Rattle.std.specs.Option.{option_map_or}
 use Rattle.std.specs.Str.{bytes_eq}
+use Rattle.elf_image.specs.file.SectionNames.{names_debug}
 use Rattle.elf_write.specs.NewSections.{bytes_called}
 use Rattle.elf_write.specs.TablePlaces.{is_given}
 use Rattle.elf_write.specs.TableSizes.{table_size}
-use Rattle.bolt_core.specs.GivenTables.{DebugContents, ReadTable, listed, table_seen}
+use Rattle.bolt_core.specs.GivenTables.{DebugContents, ReadTable, debug_listed, listed, table_seen}
+use Rattle.elf_write.proofs.GivenTables.{no_both, not_true, same_bytes}
 
 -- the first with a name, as it is seen
-abbrev seen : List ℕ → List (List ℕ × List ℕ) → Option (List ℕ × List ℕ)
+abbrev pub seen : List ℕ → List (List ℕ × List ℕ) → Option (List ℕ × List ℕ)
 seen name xs = find (λ (x : List ℕ × List ℕ). bytes_eq x.0 name) xs
 
 abbrev found : List ℕ → List ReadTable → Option ReadTable
@@ -69,68 +71,23 @@ bytes_index None (Some i) debug = refl
 bytes_index (Some f) None debug = refl
 bytes_index (Some f) (Some i) debug = refl
 
-bytes_debug : (frames index : Option (List ℕ)) (debug : DebugContents) →
-    option_map_or (λ (x : List ℕ × List ℕ). x.1) (seen (codes ".debug_frame") (listed frames index debug)) [] ≡ debug.frames
-bytes_debug None None debug = refl
-bytes_debug None (Some i) debug = refl
-bytes_debug (Some f) None debug = refl
-bytes_debug (Some f) (Some i) debug = refl
+-- Another name is looked up behind these two.
+behind : (name : List ℕ) → bytes_eq (codes ".eh_frame") name ≡ false → bytes_eq (codes ".eh_frame_hdr") name ≡ false →
+    (frames index : Option (List ℕ)) (debug : DebugContents) → seen name (listed frames index debug) ≡ seen name (debug_listed debug)
+behind name a b None None debug = refl
+behind name a b None (Some i) debug = rw b refl
+behind name a b (Some f) None debug = rw a refl
+behind name a b (Some f) (Some i) debug = rw (a, b) refl
 
-bytes_lines : (frames index : Option (List ℕ)) (debug : DebugContents) →
-    option_map_or (λ (x : List ℕ × List ℕ). x.1) (seen (codes ".debug_line") (listed frames index debug)) [] ≡ debug.lines
-bytes_lines None None debug = refl
-bytes_lines None (Some i) debug = refl
-bytes_lines (Some f) None debug = refl
-bytes_lines (Some f) (Some i) debug = refl
+-- a name that differs from one differs from it either way
+other_way : (x name : List ℕ) → bytes_eq name x ≡ false → bytes_eq x name ≡ false
+other_way x name e =
+    not_true (bytes_eq x name) (λ h. let same = same_bytes x name h in
+    no_both (bytes_eq name x) (ap (λ (y : List ℕ). bytes_eq y x) (sym same) ∙ ap (bytes_eq x) same ∙ h) e)
 
-bytes_str : (frames index : Option (List ℕ)) (debug : DebugContents) →
-    option_map_or (λ (x : List ℕ × List ℕ). x.1) (seen (codes ".debug_str") (listed frames index debug)) [] ≡ debug.str
-bytes_str None None debug = refl
-bytes_str None (Some i) debug = refl
-bytes_str (Some f) None debug = refl
-bytes_str (Some f) (Some i) debug = refl
-
-bytes_line_str : (frames index : Option (List ℕ)) (debug : DebugContents) →
-    option_map_or (λ (x : List ℕ × List ℕ). x.1) (seen (codes ".debug_line_str") (listed frames index debug)) [] ≡ debug.line_str
-bytes_line_str None None debug = refl
-bytes_line_str None (Some i) debug = refl
-bytes_line_str (Some f) None debug = refl
-bytes_line_str (Some f) (Some i) debug = refl
-
-given_debug : (frames index : Option (List ℕ)) (debug : DebugContents) →
-    is_some (seen (codes ".debug_frame") (listed frames index debug)) ≡ true
-given_debug None None debug = refl
-given_debug None (Some i) debug = refl
-given_debug (Some f) None debug = refl
-given_debug (Some f) (Some i) debug = refl
-
-given_lines : (frames index : Option (List ℕ)) (debug : DebugContents) →
-    is_some (seen (codes ".debug_line") (listed frames index debug)) ≡ true
-given_lines None None debug = refl
-given_lines None (Some i) debug = refl
-given_lines (Some f) None debug = refl
-given_lines (Some f) (Some i) debug = refl
-
-given_str : (frames index : Option (List ℕ)) (debug : DebugContents) →
-    is_some (seen (codes ".debug_str") (listed frames index debug)) ≡ true
-given_str None None debug = refl
-given_str None (Some i) debug = refl
-given_str (Some f) None debug = refl
-given_str (Some f) (Some i) debug = refl
-
-given_line_str : (frames index : Option (List ℕ)) (debug : DebugContents) →
-    is_some (seen (codes ".debug_line_str") (listed frames index debug)) ≡ true
-given_line_str None None debug = refl
-given_line_str None (Some i) debug = refl
-given_line_str (Some f) None debug = refl
-given_line_str (Some f) (Some i) debug = refl
-
-no_ranges : (frames index : Option (List ℕ)) (debug : DebugContents) →
-    is_some (seen (codes ".debug_rnglists") (listed frames index debug)) ≡ false
-no_ranges None None debug = refl
-no_ranges None (Some i) debug = refl
-no_ranges (Some f) None debug = refl
-no_ranges (Some f) (Some i) debug = refl
+no_debug : (x name : List ℕ) → names_debug x ≡ false → names_debug name ≡ true → bytes_eq x name ≡ false
+no_debug x name e debug =
+    not_true (bytes_eq x name) (λ h. no_both (names_debug x) (ap names_debug (same_bytes x name h) ∙ debug) e)
 
 module _ (tables : List ReadTable) (frames index : Option (List ℕ)) (debug : DebugContents)
     (are : map table_seen tables ≡ listed frames index debug) where
@@ -161,46 +118,23 @@ module _ (tables : List ReadTable) (frames index : Option (List ℕ)) (debug : D
       ∙ ap (λ (o : Option (List ℕ × List ℕ)). option_map_or (λ (x : List ℕ × List ℕ). x.1) o []) (same (codes ".eh_frame_hdr"))
       ∙ bytes_index frames index debug
 
-  pub debug_bytes : bytes_called tables (codes ".debug_frame") ≡ debug.frames
-  debug_bytes =
-      bytes_by (found (codes ".debug_frame") tables)
-      ∙ ap (λ (o : Option (List ℕ × List ℕ)). option_map_or (λ (x : List ℕ × List ℕ). x.1) o []) (same (codes ".debug_frame"))
-      ∙ bytes_debug frames index debug
+  module _ (name : List ℕ) (is_debug : names_debug name ≡ true) where
+    of_debug : option_map table_seen (found name tables) ≡ seen name (debug_listed debug)
+    of_debug =
+        same name ∙ behind name (no_debug (codes ".eh_frame") name refl is_debug)
+        (no_debug (codes ".eh_frame_hdr") name refl is_debug) frames index debug
 
-  pub debug_given : is_given tables (codes ".debug_frame") ≡ true
-  debug_given =
-      given_by (found (codes ".debug_frame") tables) ∙ ap is_some (same (codes ".debug_frame")) ∙ given_debug frames index debug
+    pub debug_bytes : bytes_called tables name ≡ option_map_or (λ (x : List ℕ × List ℕ). x.1) (seen name (debug_listed debug)) []
+    debug_bytes =
+        bytes_by (found name tables)
+        ∙ ap (λ (o : Option (List ℕ × List ℕ)). option_map_or (λ (x : List ℕ × List ℕ). x.1) o []) of_debug
 
-  pub lines_bytes : bytes_called tables (codes ".debug_line") ≡ debug.lines
-  lines_bytes =
-      bytes_by (found (codes ".debug_line") tables)
-      ∙ ap (λ (o : Option (List ℕ × List ℕ)). option_map_or (λ (x : List ℕ × List ℕ). x.1) o []) (same (codes ".debug_line"))
-      ∙ bytes_lines frames index debug
+    pub debug_given : is_given tables name ≡ is_some (seen name (debug_listed debug))
+    debug_given = given_by (found name tables) ∙ ap is_some of_debug
 
-  pub lines_given : is_given tables (codes ".debug_line") ≡ true
-  lines_given =
-      given_by (found (codes ".debug_line") tables) ∙ ap is_some (same (codes ".debug_line")) ∙ given_lines frames index debug
-
-  pub str_bytes : bytes_called tables (codes ".debug_str") ≡ debug.str
-  str_bytes =
-      bytes_by (found (codes ".debug_str") tables)
-      ∙ ap (λ (o : Option (List ℕ × List ℕ)). option_map_or (λ (x : List ℕ × List ℕ). x.1) o []) (same (codes ".debug_str"))
-      ∙ bytes_str frames index debug
-
-  pub str_given : is_given tables (codes ".debug_str") ≡ true
-  str_given =
-      given_by (found (codes ".debug_str") tables) ∙ ap is_some (same (codes ".debug_str")) ∙ given_str frames index debug
-
-  pub line_str_bytes : bytes_called tables (codes ".debug_line_str") ≡ debug.line_str
-  line_str_bytes =
-      bytes_by (found (codes ".debug_line_str") tables)
-      ∙ ap (λ (o : Option (List ℕ × List ℕ)). option_map_or (λ (x : List ℕ × List ℕ). x.1) o []) (same (codes ".debug_line_str"))
-      ∙ bytes_line_str frames index debug
-
-  pub line_str_given : is_given tables (codes ".debug_line_str") ≡ true
-  line_str_given =
-      given_by (found (codes ".debug_line_str") tables) ∙ ap is_some (same (codes ".debug_line_str")) ∙ given_line_str frames index debug
-
-  pub ranges_not_given : is_given tables (codes ".debug_rnglists") ≡ false
-  ranges_not_given =
-      given_by (found (codes ".debug_rnglists") tables) ∙ ap is_some (same (codes ".debug_rnglists")) ∙ no_ranges frames index debug
+    -- those that are written anew are all
+    pub not_given : bytes_eq name (codes ".debug_frame") ≡ false → bytes_eq name (codes ".debug_line") ≡ false →
+        is_given tables name ≡ false
+    not_given a b =
+        debug_given
+        ∙ rw (other_way (codes ".debug_frame") name a, other_way (codes ".debug_line") name b) refl

@@ -1,7 +1,8 @@
 -- A written file in which the new tables of frames stand answers as its input did.
-use Rattle.std.proofs.Common.{◌≡◌, ◌≢◌, ◌∙◌, ap, refl, sym, subst, ℕ, ◌+◌, ◌*◌, ◌≤◌, List, [], Option, Some, None, Bool}
+use Rattle.std.proofs.Common.{◌≡◌, ◌∙◌, ap, refl, sym, subst, ℕ, ◌+◌, ◌*◌, ◌≤◌, List, [], Option, Some, None, Bool}
 use Rattle.std.proofs.Common.{true, false, length, arith}
-use Rattle.std.specs.Prelude.{◌==◌, ◌&&◌, IfSome, IsSomeAnd, IsTrue, codes, if◌then◌else◌, is_some, option_map, sum_by, unwrap_or}
+use Rattle.std.specs.Prelude.{◌==◌, ◌&&◌, ◌||◌, IfSome, IsSomeAnd, IsTrue, codes, if◌then◌else◌, is_none, is_some, option_map, sum_by}
+use Rattle.std.specs.Prelude.{unwrap_or}
 use Rattle.std.specs.List.{list_any}
 use Rattle.std.specs.Option.{option_or}
 use Rattle.std.specs.Str.{bytes_eq}
@@ -14,10 +15,11 @@ use Rattle.addr_map.specs.declared.span.Span.{Span}
 use Rattle.area_room.specs.Room.{area_start_of}
 use Rattle.elf_write.specs.Area.{table_end, table_start}
 use Rattle.elf_write.specs.Contents.{section_bytes}
-use Rattle.elf_write.specs.NewSections.{bytes_called}
+use Rattle.elf_write.specs.NewSections.{adds_ranges, bytes_called}
 use Rattle.elf_write.specs.NewTables.{area_for}
 use Rattle.elf_write.specs.TablePlaces.{Holds, HoldsAt, IsLoadedAt, TablesStand, is_given}
 use Rattle.elf_write.specs.TableSizes.{table_size}
+use Rattle.elf_write.proofs.GivenTables.{no_both}
 use Rattle.table_core.specs.declared.run.Run.{Run}
 use Rattle.table_core.specs.AnswerRuns.{AreRunsOf, carried}
 use Rattle.table_core.specs.Sections.{Held, bytes_of, held, held_by}
@@ -28,15 +30,14 @@ use Rattle.frame_rewrite.specs.FrameAnswers.{FrameAnswer}
 use Rattle.frame_rewrite.specs.Index.{IsIndexOf, StandsIndex, has_frames, has_index}
 use Rattle.frame_rewrite.specs.Tables.{EndsWithMark, StandsAs, debug_name, eh_name, eh_says, run_size}
 use Rattle.line_rewrite.specs.Tables.{LineSections, StandsLines}
-use Rattle.bolt_core.specs.CarriedAnswers.{CarriesTables}
+use Rattle.bolt_core.specs.CarriedAnswers.{CarriesTables, changes_table}
 use Rattle.bolt_core.specs.GivenTables.{AreGivenFor, DebugContents, ReadTable}
 use Rattle.bolt_core.specs.internal.CarriedTables.{AreNewTables, ComeFrom, debug_contents}
 use Rattle.bolt_core.specs.internal.GivenIndex.{IsIndexFor, frames_at, index_at}
 use Rattle.bolt_core.specs.declared.tables.Tables.{Tables}
 use Rattle.frame_rewrite.proofs.FramesCarried.{df_carried, eh_carried, no_bad}
-use Rattle.bolt_core.proofs.LinesCarried.{line_carried, nothing_read}
-use Rattle.bolt_core.proofs.ListedTables.{debug_bytes, debug_given, frames_bytes, frames_size, index_bytes, index_size}
-use Rattle.bolt_core.proofs.ListedTables.{line_str_bytes, line_str_given, lines_bytes, lines_given, str_bytes, str_given}
+use Rattle.line_rewrite.proofs.LinesCarried.{line_carried, nothing_read}
+use Rattle.bolt_core.proofs.ListedTables.{debug_bytes, debug_given, frames_bytes, frames_size, index_bytes, index_size, not_given}
 use Rattle.bolt_core.proofs.TableRoom.{SizesFit}
 
 -- What a file holds, in the terms of tables.
@@ -71,29 +72,11 @@ none_of : (o : Option (List ℕ)) → is_some o ≡ false → o ≡ None
 none_of None h = refl
 none_of (Some xs) h = absurd (cc)
 
-other_name : codes ".debug_frame" ≢ codes ".debug_rnglists"
-other_name e =
-    let c : bytes_eq (codes ".debug_frame") (codes ".debug_rnglists") ≡ true =
-    ap (λ (y : List ℕ). bytes_eq y (codes ".debug_rnglists")) e in
-    absurd (cc)
-
-other_line : codes ".debug_line" ≢ codes ".debug_rnglists"
-other_line e =
-    let c : bytes_eq (codes ".debug_line") (codes ".debug_rnglists") ≡ true =
-    ap (λ (y : List ℕ). bytes_eq y (codes ".debug_rnglists")) e in
-    absurd (cc)
-
-other_str : codes ".debug_str" ≢ codes ".debug_rnglists"
-other_str e =
-    let c : bytes_eq (codes ".debug_str") (codes ".debug_rnglists") ≡ true =
-    ap (λ (y : List ℕ). bytes_eq y (codes ".debug_rnglists")) e in
-    absurd (cc)
-
-other_line_str : codes ".debug_line_str" ≢ codes ".debug_rnglists"
-other_line_str e =
-    let c : bytes_eq (codes ".debug_line_str") (codes ".debug_rnglists") ≡ true =
-    ap (λ (y : List ℕ). bytes_eq y (codes ".debug_rnglists")) e in
-    absurd (cc)
+no_other : (a b c : Bool) → (a || (b || c)) ≡ false → (a ≡ false) × (b ≡ false) × (c ≡ false)
+no_other false false false h = (refl, refl, refl)
+no_other true b c h = absurd (cc)
+no_other false true c h = absurd (cc)
+no_other false false true h = absurd (cc)
 
 module _ (elf : Elf) (t : Tables) (comes : ComeFrom t elf) (spans : List Span) (start : ℕ) (code : List ℕ)
     (given : List ReadTable) (made : AreNewTables elf t spans start (length code) given) where
@@ -104,7 +87,7 @@ module _ (elf : Elf) (t : Tables) (comes : ComeFrom t elf) (spans : List Span) (
   df = made.carried.df.bytes.items
 
   abbrev debug : DebugContents
-  debug = debug_contents t.lines made.carried
+  debug = debug_contents made.carried
 
   abbrev listed_frames : Option (List ℕ)
   listed_frames = if has_frames elf then Some eh else None
@@ -220,53 +203,67 @@ module _ (elf : Elf) (t : Tables) (comes : ComeFrom t elf) (spans : List Span) (
             ap (table_start 8 (base + length code)) size in
             none_held new (codes ".eh_frame") (stand.no_frames none) ∙ sym (made.are_carried.eh_made.nothing (there ∙ e))
 
+    -- No table of ranges is given.
+    none_added : IsTrue (adds_ranges elf.sections.items given) → ⊥
+    none_added adds =
+        no_both (is_given given (codes ".debug_rnglists"))
+        ((and_parts (is_given given (codes ".debug_rnglists")) (is_none (section_called elf.sections.items (codes ".debug_rnglists"))) adds).0)
+        (not_given given listed_frames made.are_listed.index debug made.are_listed.are (codes ".debug_rnglists") refl refl refl)
+
     -- A section of debug data holds what is given for it; one that the input hasn't holds nothing.
-    debug_stands : (name bytes : List ℕ) → IsTrue (names_debug name) → (name ≢ codes ".debug_rnglists") →
+    debug_stands : (name bytes : List ℕ) → IsTrue (names_debug name) →
         is_given given name ≡ true → bytes_called given name ≡ bytes →
         (section_called elf.sections.items name ≡ None → bytes ≡ []) → bytes_of new name ≡ bytes
-    debug_stands name bytes is_debug other is_in given_is empty = by (section_called elf.sections.items name) refl
+    debug_stands name bytes is_debug is_in given_is empty = by (section_called elf.sections.items name) refl
       where
         by : (o : Option Section) → section_called elf.sections.items name ≡ o → bytes_of new name ≡ bytes
         by (Some s) e =
             bytes_from new name (bytes_called given name) (stand.debug name is_debug is_in (ap is_some e)) ∙ given_is
-        by None e = none_held new name (stand.absent name is_debug e (λ adds. other)) ∙ sym (empty e)
+        by None e = none_held new name (stand.absent name is_debug e (λ adds. absurd (none_added adds))) ∙ sym (empty e)
+
+    -- Any other holds what it held.
+    others_stand : (name : List ℕ) → IsTrue (names_debug name) → changes_table name ≡ false → bytes_of new name ≡ bytes_of elf name
+    others_stand name is_debug other = by (section_called elf.sections.items name) refl
+      where
+        differs : (bytes_eq name (codes ".debug_frame") ≡ false) × (bytes_eq name (codes ".debug_line") ≡ false)
+            × (bytes_eq name (codes ".debug_macro") ≡ false)
+        differs =
+            no_other (bytes_eq name (codes ".debug_frame")) (bytes_eq name (codes ".debug_line"))
+            (bytes_eq name (codes ".debug_macro")) other
+
+        kept : IfSome (section_called elf.sections.items name) (λ s. Holds new name (section_bytes elf.file.now s))
+        kept =
+            stand.others name is_debug
+            (not_given given listed_frames made.are_listed.index debug made.are_listed.are name is_debug differs.0 differs.1)
+            differs.2
+
+        by : (o : Option Section) → section_called elf.sections.items name ≡ o → bytes_of new name ≡ bytes_of elf name
+        by (Some s) e =
+            bytes_from new name (section_bytes elf.file.now s)
+            (subst (λ (o : Option Section). IfSome o (λ s. Holds new name (section_bytes elf.file.now s))) e kept)
+            ∙ sym (ap (λ (o : Option Section). (held_by elf.file.now o).bytes) e)
+        by None e =
+            none_held new name (stand.absent name is_debug e (λ adds. absurd (none_added adds))) ∙ sym (none_held elf name e)
 
     df_stands : StandsAs debug_name made.carried.df new
     df_stands =
-        debug_stands (codes ".debug_frame") df refl other_name
-        (debug_given given listed_frames made.are_listed.index debug made.are_listed.are)
-        (debug_bytes given listed_frames made.are_listed.index debug made.are_listed.are)
+        debug_stands (codes ".debug_frame") df refl
+        (debug_given given listed_frames made.are_listed.index debug made.are_listed.are (codes ".debug_frame") refl)
+        (debug_bytes given listed_frames made.are_listed.index debug made.are_listed.are (codes ".debug_frame") refl)
         (λ e. made.are_carried.df_made.nothing (ap (λ (h : Held). h.bytes) comes.df.section ∙ none_held elf (codes ".debug_frame") e))
-
-    -- the texts of lines, as they were
-    abbrev old : LineSections
-    old = t.lines
-
-    str_stands : bytes_of new (codes ".debug_str") ≡ old.strings.str
-    str_stands =
-        debug_stands (codes ".debug_str") old.strings.str refl other_str
-        (str_given given listed_frames made.are_listed.index debug made.are_listed.are)
-        (str_bytes given listed_frames made.are_listed.index debug made.are_listed.are)
-        (λ e. ap (λ (s : LineSections). s.strings.str) comes.lines ∙ none_held elf (codes ".debug_str") e)
-
-    line_str_stands : bytes_of new (codes ".debug_line_str") ≡ old.strings.line_str
-    line_str_stands =
-        debug_stands (codes ".debug_line_str") old.strings.line_str refl other_line_str
-        (line_str_given given listed_frames made.are_listed.index debug made.are_listed.are)
-        (line_str_bytes given listed_frames made.are_listed.index debug made.are_listed.are)
-        (λ e. ap (λ (s : LineSections). s.strings.line_str) comes.lines ∙ none_held elf (codes ".debug_line_str") e)
 
     lines_stand : StandsLines elf made.carried.lines new
     lines_stand = record {
       table =
-          debug_stands (codes ".debug_line") made.carried.lines.bytes.items refl other_line
-          (lines_given given listed_frames made.are_listed.index debug made.are_listed.are)
-          (lines_bytes given listed_frames made.are_listed.index debug made.are_listed.are)
+          debug_stands (codes ".debug_line") made.carried.lines.bytes.items refl
+          (debug_given given listed_frames made.are_listed.index debug made.are_listed.are (codes ".debug_line") refl)
+          (debug_bytes given listed_frames made.are_listed.index debug made.are_listed.are (codes ".debug_line") refl)
           (λ e. nothing_read t.lines made.carried.lines made.are_carried.lines_made
           (ap (λ (s : LineSections). s.line) comes.lines ∙ none_held elf (codes ".debug_line") e));
-      strings =
-          (λ i. record { str = str_stands i; line_str = line_str_stands i })
-          ∙ ap (λ (s : LineSections). s.strings) comes.lines;
+      strings = λ i. record {
+        str = others_stand (codes ".debug_str") refl refl i;
+        line_str = others_stand (codes ".debug_line_str") refl refl i;
+      };
     }
 
     index_stands : has_index elf ≡ true → StandsIndex new
@@ -296,6 +293,7 @@ module _ (elf : Elf) (t : Tables) (comes : ComeFrom t elf) (spans : List Span) (
               ∙ no_bad (debug_frames new) of_df.1;
           lines_sound = of_lines.1;
           line_units = of_lines.2;
+          others = others_stand;
           ends = λ e.
               let ended = made.are_carried.eh_made.ends (there ∙ e) in
               subst EndsWithMark (sym eh_stands) ended;

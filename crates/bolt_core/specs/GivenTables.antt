@@ -17,17 +17,13 @@ abbrev pub table_if : List ℕ → Option (List ℕ) → List (List ℕ × List 
 table_if name None = []
 table_if name (Some bytes) = (name, bytes) ∷ []
 
--- The contents of debug tables: those of frames and of lines, and the texts of lines, which stay as they are.
+-- the contents of debug tables: those of frames and of lines
 pub record DebugContents : Type 0 where
   pub frames : List ℕ
   pub lines : List ℕ
-  pub str : List ℕ
-  pub line_str : List ℕ
 
 abbrev pub debug_listed : DebugContents → List (List ℕ × List ℕ)
-debug_listed d =
-    (codes ".debug_frame", d.frames) ∷ (codes ".debug_line", d.lines) ∷ (codes ".debug_str", d.str)
-    ∷ (codes ".debug_line_str", d.line_str) ∷ []
+debug_listed d = (codes ".debug_frame", d.frames) ∷ (codes ".debug_line", d.lines) ∷ []
 
 -- Debug tables are always among them: without a section of its name one is empty, and isn't written.
 abbrev pub listed : Option (List ℕ) → Option (List ℕ) → DebugContents → List (List ℕ × List ℕ)

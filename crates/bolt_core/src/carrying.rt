@@ -57,6 +57,6 @@ pub fn new_tables(
     ensures { IfOk result (λ given. AreNewTables elf.now tables.now map.now start code given.items) }
 {
     let carried = carry_tables(alloc, tables, map)?;
-    let given = listed(alloc, elf, start, code, &tables.lines, carried)?;
+    let given = listed(alloc, elf, start, code, carried)?;
     Ok(given)
 }

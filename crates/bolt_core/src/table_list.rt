@@ -10,7 +10,6 @@ use elf_image::Elf;
 use elf_image::named::EH_FRAME;
 use elf_write::{Table, table_places};
 use frame_rewrite::{has_index_header, header};
-use line_rewrite::Lines;
 use rb_bytes::fault::NoMemory;
 use std::alloc::Global;
 
@@ -74,39 +73,25 @@ fn loaded(elf: &Elf, frames: Vec<u8>) -> Option<Vec<u8>>
     if has_frames(elf) { Some(frames) } else { None }
 }
 
-// A text of lines, as it was.
-fn copied(alloc: Global, text: &[u8]) -> Result<Vec<u8>, NoMemory>
-    ensures { IfOk result (λ copy. copy.items ≡ text.now) }
-{
-    let mut copy = Vec::new(alloc);
-    copy.extend_from_slice(text)?;
-    Ok(copy)
-}
-
 /// The tables of a file in their new contents, and the index of its unwind table, by the names of their sections. The new code
-/// has so many bytes from a start on. `old` has the texts of lines.
+/// has so many bytes from a start on.
 pub fn listed(
     alloc: Global,
     elf: &Elf,
     start: u64,
     code: usize,
-    old: &Lines,
     carried: Carried,
 ) -> Result<Vec<Table>, NoMemory>
     requires { IsTrue (has_index elf.now) → CanIndex start code carried.eh.bytes.items }
     ensures { IfOk result (λ tables.
-        AreListed elf.now start code carried.eh.bytes.items (debug_contents old.now carried) tables.items) }
+        AreListed elf.now start code carried.eh.bytes.items (debug_contents carried) tables.items) }
 {
     let Carried { eh, df, lines } = carried;
-    let str = copied(alloc, &old.str)?;
-    let line_str = copied(alloc, &old.line_str)?;
     let index = new_index(alloc, elf, start, code, &eh.bytes)?;
     let mut tables = Vec::new(alloc);
     add_table(alloc, &mut tables, ".eh_frame", loaded(elf, eh.bytes))?;
     add_table(alloc, &mut tables, ".eh_frame_hdr", index)?;
     add_table(alloc, &mut tables, ".debug_frame", Some(df.bytes))?;
     add_table(alloc, &mut tables, ".debug_line", Some(lines.bytes))?;
-    add_table(alloc, &mut tables, ".debug_str", Some(str))?;
-    add_table(alloc, &mut tables, ".debug_line_str", Some(line_str))?;
     Ok(tables)
 }

@@ -58,14 +58,9 @@ pub record AreCarried (t : Tables) (spans : List Span) (w : Carried) : Type 0 wh
   pub df_made : DebugMakes t.df w.df
   pub lines_made : LinesMade t.lines w.lines
 
--- the contents of debug tables that were written anew, with the texts of lines as they were
-abbrev pub debug_contents : LineSections → Carried → DebugContents
-debug_contents old w = record {
-  frames = w.df.bytes.items;
-  lines = w.lines.bytes.items;
-  str = old.strings.str;
-  line_str = old.strings.line_str;
-}
+-- the contents of debug tables that were written anew
+abbrev pub debug_contents : Carried → DebugContents
+debug_contents w = record { frames = w.df.bytes.items; lines = w.lines.bytes.items }
 
 -- Behind code that ends at an address there is room for the table of any runs, and for its index.
 abbrev pub HasRoomBehind : EhFrames → List Span → ℕ → Type 0
@@ -77,4 +72,4 @@ HasRoomBehind t spans end = IsTrue t.has_section → (runs : List (Run FrameAnsw
 pub record AreNewTables (elf : Elf) (t : Tables) (spans : List Span) (start code : ℕ) (given : List ReadTable) : Type 0 where
   pub carried : Carried
   pub are_carried : AreCarried t spans carried
-  pub are_listed : AreListed elf start code carried.eh.bytes.items (debug_contents t.lines carried) given
+  pub are_listed : AreListed elf start code carried.eh.bytes.items (debug_contents carried) given
