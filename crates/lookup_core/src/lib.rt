@@ -1,6 +1,7 @@
-//! What the tables of a file say at an address, as text. So far the tables aren't read for it.
+//! What the tables of a file say at an address, as text.
 #![tactic(auto)]
 
+mod answers;
 mod covers;
 mod lines;
 mod places;

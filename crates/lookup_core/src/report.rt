@@ -3,8 +3,11 @@ ghost use Rattle.std.specs.Prelude.{◌≡◌, map, IfOk, IfErr, OnOk};
 ghost use Rattle.rb_bytes.specs.FirstFault.{IsFree, IsRefusalBy};
 ghost use Rattle.lookup_core.specs.Report.{report, report_of};
 ghost use Rattle.range_loc_rewrite.specs.Locations.{place_said};
+ghost use Rattle.elf_image.specs.declared.elf.Elf.{Elf};
+ghost use Rattle.table_set.specs.AllTables.{AllComeFrom};
 ghost use Rattle.table_set.specs.TableFaults.{HasTableFault};
 
+use crate::answers::{covers_at, places_at, unwind_at};
 use crate::covers::put_covers;
 use crate::lines::put_line;
 use crate::places::put_places;
@@ -14,6 +17,8 @@ use frame_rewrite::FrameAt;
 use line_rewrite::LineAt;
 use rb_bytes::fault::{NoMemory, Refusal};
 use std::alloc::Global;
+use table_core::ByAddress;
+use table_set::{AllTables, read_all};
 
 /// What the tables of a file say at an address.
 #[derive(Drop)]
@@ -51,11 +56,24 @@ pub fn report_text(
     Ok(text)
 }
 
+// The text of the report on an address, of tables that were read.
+fn text_of(alloc: Global, tables: &AllTables, a: u64) -> Result<Vec<u8>, NoMemory>
+    ensures { IfOk result (λ text. (elf : Elf) → AllComeFrom tables.now elf → text.items ≡ report elf a) }
+{
+    let line = tables.lines.at(alloc, a)?;
+    let covers = covers_at(alloc, &tables.ranges, a)?;
+    let places = places_at(alloc, &tables.places, a)?;
+    let unwind = unwind_at(alloc, &tables.eh, &tables.df, a)?;
+    report_text(alloc, &line, &covers, &places, &unwind)
+}
+
 /// The report on an address, or the fault of the file's tables with the lowest number.
-pub fn look(_alloc: Global, elf: &Elf<'_>, a: u64) -> Result<Report, Refusal>
+pub fn look(alloc: Global, elf: &Elf<'_>, a: u64) -> Result<Report, Refusal>
     ensures report { IfOk result (λ r. r.text.items ≡ report elf.now a) }
     ensures sound { OnOk result (IsFree (HasTableFault elf.now)) }
     ensures fault { IfErr result (IsRefusalBy (HasTableFault elf.now)) }
 {
-    Err(Refusal::Memory)
+    let tables = read_all(alloc, elf)?;
+    let text = text_of(alloc, &tables, a)?;
+    Ok(Report { text })
 }
