@@ -20,7 +20,7 @@ use Rattle.elf_code.specs.Cells.{Content, Counts, Field, IsCell, counts, gives_w
 use Rattle.elf_code.specs.FileCode.{AreCells}
 use Rattle.code_starts.specs.LoadedMemory.{IsLow}
 use Rattle.rv_reloc.specs.Refs.{IsRead}
-use Rattle.move_law.specs.Laws.{IsAcceptedCode}
+use Rattle.map_check.specs.FirstFalse.{HasCode}
 use Rattle.move_law.proofs.code.CellWidths.{can_of, field_width}
 use Rattle.map_check.specs.internal.Cells.{AreApart, HasWidth}
 use Rattle.map_check.specs.internal.Verdicts.{AreReady}
@@ -94,13 +94,16 @@ module _ (elf : Elf) (tabled : List (ℕ × ℕ)) where
   cells_wide : (cells : List CodeCell) → AreCells elf tabled cells → All HasWidth cells
   cells_wide cells are = all_of HasWidth cells (λ c c_in. width_of c (are.only c c_in))
 
-pub ready : (input : Elf) (code : ProgramCode) (output : Elf) → IsAcceptedCode input code → IsRead output →
+read_itself : (elf : Elf) → IsRead elf → IsElfOf elf.file.now elf
+read_itself elf read = subst (λ (f : List ℕ). IsElfOf f elf) (sym read.fields.file_is) read.fields
+
+pub ready : (input : Elf) (code : ProgramCode) (output : Elf) → IsRead input → HasCode input code → IsRead output →
     AreReady input code.cells output
-ready input code output accepted read = record {
-  input_low = IsLow-read input (record { file = input.file.now; fields = accepted.read; sound = accepted.sound });
-  input_read = accepted.read;
+ready input code output given (tabled, code_is) read = record {
+  input_low = IsLow-read input given;
+  input_read = read_itself input given;
   output_low = IsLow-read output read;
-  output_read = subst (λ (f : List ℕ). IsElfOf f output) (sym read.fields.file_is) read.fields;
-  apart = cells_apart input accepted.tabled code.cells accepted.code_is.cells;
-  widths = cells_wide input accepted.tabled code.cells accepted.code_is.cells;
+  output_read = read_itself output read;
+  apart = cells_apart input tabled code.cells code_is.cells;
+  widths = cells_wide input tabled code.cells code_is.cells;
 }

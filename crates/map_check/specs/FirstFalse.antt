@@ -3,6 +3,7 @@ use Rattle.std.specs.Prelude.{◌≡◌, ◌≢◌, ℕ, ◌<◌, ◌≤◌, Boo
 use Rattle.rv_code.specs.layout.ProgramCode.{ProgramCode}
 use Rattle.rv_code.specs.layout.Flow.{insts_of}
 use Rattle.elf_image.specs.declared.elf.Elf.{Elf}
+use Rattle.elf_code.specs.FileCode.{IsCodeOf}
 use Rattle.rv_code.specs.machine.MemoryNumbers.{number_in}
 use Rattle.elf_image.specs.memory.LoadedBytes.{address_of, byte_at}
 use Rattle.addr_map.specs.declared.span.Span.{Span}
@@ -17,6 +18,10 @@ use Rattle.map_check.specs.declared.clause.Verdict.TheVariants as verdict
 use Rattle.map_check.specs.BadSpans.{IsBadSpan}
 use Rattle.map_check.specs.Lacking.{LacksAt}
 use Rattle.map_check.specs.MapReading.{IsMapOfLines, IsFirstBadLine}
+
+-- the code of a file, parts of which have exception tables
+abbrev pub HasCode : Elf → ProgramCode → Type 0
+HasCode elf code = (tabled : List (ℕ × ℕ)) × IsCodeOf elf tabled code
 
 -- What is checked: an input with its code, an output, and the text of a map.
 pub record Claim : Type 0 where

@@ -6,9 +6,8 @@ ghost use Rattle.rv_code.specs.layout.ProgramCode.{program_code};
 ghost use Rattle.elf_image.specs.memory.Executables.{executable_read};
 ghost use Rattle.rv_reloc.specs.Refs.{IsRead};
 ghost use Rattle.move_law.specs.FaithfulRewrite.{IsMapOf};
-ghost use Rattle.move_law.specs.Laws.{IsAcceptedCode};
 ghost use Rattle.move_law.specs.Rewrite.{Rewrite};
-ghost use Rattle.map_check.specs.FirstFalse.{IsVerdict};
+ghost use Rattle.map_check.specs.FirstFalse.{HasCode, IsVerdict};
 ghost use Rattle.map_check.specs.internal.InstRows.{IsChecked};
 ghost use Rattle.map_check.specs.internal.Verdicts.{AreInputsOf, AreReady, HoldUpTo, IsVerdictIn, KeepsAllCode};
 
@@ -42,7 +41,8 @@ pub fn check(
     output: &Elf,
     map: &[u8],
 ) -> Result<Verdict, NoMemory>
-    requires input { IsAcceptedCode input.now
+    requires input { IsRead input.now }
+    requires code { HasCode input.now
         (program_code funcs.now refs.now.roles.items refs.now.cells.items input.now.entry) }
     requires laid { AreLaidOut funcs.now }
     requires output { IsRead output.now }

@@ -9,7 +9,7 @@ use Rattle.map_check.proofs.ReadFiles.{ready}
 use Rattle.map_check.proofs.checking.check.Goals as goal
 
 pub check_spans-requires-clause-ready : goal.check_spans-requires-clause-ready
-check_spans-requires-clause-ready c = ready c.args.input.now _ c.args.output.now c.requires.input c.requires.output
+check_spans-requires-clause-ready c = ready c.args.input.now _ c.args.output.now c.requires.input c.requires.code c.requires.output
 
 pub returns-in-BadLine : goal.returns-in-BadLine
 returns-in-BadLine c =
