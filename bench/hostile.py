@@ -234,6 +234,64 @@ def frame_entries(size):
     return framed_functions(size, 4, False)
 
 
+def line_unit(program):
+    """A unit of `.debug_line` of version 5, with one file."""
+    numbers = bytes.fromhex("010101fb0e0d000101010100000001000001")
+    numbers += b"\1\1\x08\1/s\0" + b"\2\1\x08\2\x0b\2" + b"a.c\0\0" + b"a.c\0\0"
+    unit = struct.pack("<HBBI", 5, 8, 0, len(numbers)) + numbers + program
+    return struct.pack("<I", len(unit)) + unit
+
+
+def line_sequence(start, operations):
+    """DW_LNE_set_address, operations and DW_LNE_end_sequence."""
+    return bytes.fromhex("000902") + struct.pack("<Q", start) + operations + bytes.fromhex("000101")
+
+
+def lined_functions(count, length, program):
+    """Functions of so many instructions, with a line table of one unit, whose program follows from their starts."""
+    file = File(((length - 1) * NOP + RETURN) * count, b"\0.debug_line\0")
+    starts = [BASE + TEXT + 4 * length * k for k in range(count)]
+    file.add_symbols([(0, start, 4 * length) for start in starts], b"\0")
+    file.add(SHT_PROGBITS, line_unit(program(starts)), name=1)
+    return file.bytes(), b""
+
+
+def line_rows(size):
+    """Each instruction has a row, of a special opcode."""
+    rows = b"".join(bytes([13 + 5 + 14 * 4 * (k > 0) + k % 3]) for k in range(16)) + b"\2\4"
+    return lined_functions(size // 130, 16, lambda starts: b"".join(line_sequence(start, rows) for start in starts))
+
+
+def line_sequences(size):
+    """All sequences cover the same functions, the first of which answers."""
+    count = min(size // 40, 20_000)
+    sequence = line_sequence(BASE + TEXT, b"\x12\2" + uleb(4 * count))
+    return lined_functions(count, 1, lambda _: sequence * ((size - 28 * count) // len(sequence)))
+
+
+def line_operations(size):
+    """Operations without rows between two rows, under which all functions lie."""
+    count = size // 200
+    operations = b"\x12" + b"\3\0" * ((size - 40 * count) // 2) + b"\2\4\x12\2" + uleb(4 * count - 4)
+    return lined_functions(count, 1, lambda starts: line_sequence(starts[0], operations))
+
+
+def line_address(size):
+    """Many rows at one address, under which all functions lie."""
+    count = size // 200
+    operations = b"\x12\x13" * ((size - 40 * count) // 2) + b"\2" + uleb(4 * count)
+    return lined_functions(count, 1, lambda starts: line_sequence(starts[0], operations))
+
+
+def uleb(number):
+    """A number as ULEB128."""
+    out = bytearray()
+    while number >= 128:
+        out.append(number % 128 + 128)
+        number //= 128
+    return bytes(out) + bytes([number])
+
+
 KINDS = {
     "symbol-names": symbol_names,
     "like-names": like_names,
@@ -249,6 +307,10 @@ KINDS = {
     "few-text-headers": few_text_headers,
     "long-frame-entry": long_frame_entry,
     "frame-entries": frame_entries,
+    "line-rows": line_rows,
+    "line-sequences": line_sequences,
+    "line-operations": line_operations,
+    "line-address": line_address,
 }
 
 

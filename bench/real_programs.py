@@ -5,9 +5,9 @@
 
 Each program of `bench/programs` is compiled by GCC with GNU ld and by Clang with lld, with picolibc for RV64IMC, and
 linked with a script that leaves room behind the code, with the linker's own script with and without room, and with that
-script and unwind tables, which GCC makes itself and by its assembler. Programs that throw or clean up while frames are
-unwound need the index of their table, which only lld makes, so lld links them all. COMMAND (`./sudrepka` where it isn't
-given) records a short run of each executable and rewrites it by that profile. Then
+script and unwind tables, which GCC makes itself and by its assembler; and with a line table and no other table of `-g`.
+Programs that throw or clean up while frames are unwound need the index of their table, which only lld makes, so lld links
+them all. COMMAND (`./sudrepka` where it isn't given) records a short run of each executable and rewrites it by that profile. Then
 
 - `run` and `qemu-riscv64` have to say the same of both files, for a short and for a longer run, and `run --symbols`
   has to follow the input to its end, but where it unwinds itself: it then reads the program header of its table, which
@@ -16,11 +16,14 @@ given) records a short run of each executable and rewrites it by that profile. T
 - `objdump` has to find an instruction at each line of the map, with the same operation but for branches and jumps;
 - `gdb` has to find the functions at their new addresses, and to read the same instructions there;
 - `readelf` has to find the same rows of unwind tables at the bytes of the new code as at their owners, `llvm-dwarfdump`
-  the same handlers and exception tables, and `gdb` the same frames where both programs stop at one function.
+  the same handlers and exception tables, and `gdb` the same frames where both programs stop at one function;
+- `llvm-dwarfdump` and `readelf` have to find the same rows of lines in force at the bytes of the new code as at their
+  owners, and `addr2line`, `llvm-symbolizer` and `gdb` the same lines.
 
-A line for each file has the counts of steps before and after; a line for each problem follows it. The status is 0 where
-there is none. It wants Debian's `gcc-riscv64-unknown-elf` and `picolibc-riscv64-unknown-elf`, and leaves out what of
-`clang`, `lld`, `qemu-user`, `elfutils`, `llvm` and `gdb-multiarch` isn't there. FOLDER keeps all files.
+A line for each file has the counts of steps before and after, and the sizes of line tables; a line for each problem
+follows it. The status is 0 where there is none. It wants Debian's `gcc-riscv64-unknown-elf` and
+`picolibc-riscv64-unknown-elf`, and leaves out what of `clang`, `lld`, `qemu-user`, `elfutils`, `llvm` and `gdb-multiarch` isn't
+there. FOLDER keeps all files.
 """
 import argparse
 import glob
@@ -33,6 +36,7 @@ import tempfile
 
 sys.path.insert(0, os.path.dirname(os.path.abspath(__file__)))
 from frames import backtrace_problems, mend_tables, table_problems  # noqa: E402
+from line_rows import leave_lines, line_problems, table_size  # noqa: E402
 from profiles import CROSS, output, record  # noqa: E402
 
 ROOT = os.path.dirname(os.path.dirname(os.path.abspath(__file__)))
@@ -49,9 +53,11 @@ COMPILE = ["-g0", "-ftls-model=local-exec", "-ffunction-sections", "-nostdlib"]
 NO_TABLES = ["-fno-asynchronous-unwind-tables"]
 TABLES = ["-fasynchronous-unwind-tables", "-fexceptions"]
 OWN_TABLES = [*TABLES, "-fno-dwarf2-cfi-asm"]
+LINES = [*NO_TABLES, "-g"]
 # The assembler has to leave relaxation to the linker, or a call inside one section has no relocation; and GNU ld's
 # relaxations leave relocations of types of its own.
-LINK = ["-Wl,--emit-relocs", "-Wl,--no-relax", "-Wl,--gc-sections", "-Wl,--strip-debug"]
+LINK = ["-Wl,--emit-relocs", "-Wl,--no-relax", "-Wl,--gc-sections"]
+STRIP = ["-Wl,--strip-debug"]
 NO_DATA = ["-Wl,--defsym=__tdata_start=0,--defsym=__tdata_end=0"]  # no thread-local data with a first value
 LAYOUTS = {
     "roomy": ["-T", os.path.join(PROGRAMS, "roomy.ld")],
@@ -59,8 +65,10 @@ LAYOUTS = {
     "pages": ["-T", os.path.join(PROGRAMS, "no_tables.ld"), *NO_DATA, "-Wl,-z,max-page-size=0x100000"],
     "tables": [*NO_DATA, "-Wl,-z,max-page-size=0x100000"],
     "own-tables": [*NO_DATA, "-Wl,-z,max-page-size=0x100000"],
+    "lines": ["-T", os.path.join(PROGRAMS, "roomy.ld")],
 }
-KINDS = {"tables": TABLES, "own-tables": OWN_TABLES}
+UNWOUND = {"tables": TABLES, "own-tables": OWN_TABLES}
+KINDS = {**UNWOUND, "lines": LINES}
 # With such pages GNU ld would put the code at address 0.
 OF_LINKER = {("gcc", layout): ["-Wl,-Ttext-segment=0x100000"] for layout in ("pages", "tables", "own-tables")}
 
@@ -89,7 +97,7 @@ def compilers():
 
 def layouts_of(program, compiler):
     """The layouts of a program: those with tables alone where it unwinds itself; only GCC makes tables of its own."""
-    every = [layout for layout in LAYOUTS if layout in KINDS or program not in UNWINDING]
+    every = [layout for layout in LAYOUTS if layout in UNWOUND or program not in UNWINDING]
     return [layout for layout in every if layout != "own-tables" or compiler == "gcc"]
 
 
@@ -122,8 +130,11 @@ def build(path, program, compiler, parts, layout, level):
         call([*front, *MACHINE, *COMPILE, *KINDS.get(layout, NO_TABLES), *kind, level, *include, "-c",
               os.path.join(PROGRAMS, source), "-o", objects[-1]])
     linker = linker_of(os.path.dirname(path), program, compiler)
-    call([*front, *MACHINE, "-nostdlib", *LINK, *layouts, *linker, *objects, *libraries, "-o", path])
+    kept = [] if layout == "lines" else STRIP
+    call([*front, *MACHINE, "-nostdlib", *LINK, *kept, *layouts, *linker, *objects, *libraries, "-o", path])
     mend_tables(path)  # also those of libraries
+    if layout == "lines":
+        leave_lines(path)
     for name in objects:
         os.remove(name)
 
@@ -271,10 +282,13 @@ def check(tool, name, old, folder):
     longer = checks.runs([LONGER[program]], unwinds) if program in LONGER else short
     checks.readers()
     checks.debugger(checks.disassembly())
-    if layout in KINDS:
+    if layout in UNWOUND:
         checks.unwinding(UNWINDING[program][1] if unwinds else "write", [])
+    if layout == "lines":
+        checks.problems += line_problems(checks.old, checks.new, checks.spans)
+    sizes = f"; lines {table_size(old)} to {table_size(checks.new)} bytes" if layout == "lines" else ""
     steps = ", ".join(f"{before} to {after} steps" for before, after in (short, longer))
-    print(f"{name:30} {done.stdout.strip()}; {steps}", flush=True)
+    print(f"{name:30} {done.stdout.strip()}; {steps}{sizes}", flush=True)
     for problem in checks.problems[:10]:
         print(f"    {problem}", flush=True)
     return len(checks.problems)
