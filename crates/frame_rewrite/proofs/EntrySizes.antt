@@ -1,11 +1,12 @@
 -- How many bytes written entries have.
 use Rattle.std.proofs.Common.{ℕ, zero, suc, ◌+◌, ◌-◌, ◌*◌, ◌≤◌, ◌≡◌, List, [], ◌∷◌, ◌++◌, Bool, refl, sym, ◌∙◌, ap, subst, arith, length}
 use Rattle.std.proofs.Common.{take, drop, length-append}
-use Rattle.std.specs.Prelude.{sum_by}
+use Rattle.std.specs.Prelude.{sum_by, true, false, nat_lt, ◌<◌, if◌then◌else◌}
+use Rattle.std.proofs.lemmas.Bool.{and_parts, ltb-true}
 use Rattle.std.proofs.lemmas.List.Sums.{sum_by-cons, sum_by-take-drop}
 use Rattle.byteorder.specs.Endian.{little_bytes}
 use Rattle.rb_bytes.specs.Leb.{uleb, sleb}
-use Rattle.rb_bytes.proofs.UnsignedLeb.{length-uleb-le}
+use Rattle.rb_bytes.proofs.UnsignedLeb.{length-uleb-le, uleb-last}
 use Rattle.rb_bytes.proofs.SignedLeb.{length-sleb-le}
 use Rattle.addr_map.specs.declared.span.Span.{Span}
 use Rattle.table_core.specs.declared.run.Run.{Run}
@@ -18,7 +19,7 @@ use Rattle.cfi_rows.specs.FrameRows.{RowValue, Rules}
 use Rattle.frame_rewrite.specs.declared.cie_key.CieKey.{CieKey}
 use Rattle.frame_rewrite.specs.FrameAnswers.{FrameAnswer}
 use Rattle.frame_rewrite.specs.SpelledFrames.{spelled_block, spelled_cfa, spelled_rule, spelled_rules, spelled_row, spelled_row_before, spelled_rows}
-use Rattle.frame_rewrite.specs.SpelledFrames.{spelled_entries, zeros, padding}
+use Rattle.frame_rewrite.specs.SpelledFrames.{spelled_entries, zeros, padding, spelled_restores, spelled_location, are_low}
 use Rattle.frame_rewrite.specs.SpelledFrames.{start_of, last_end, fde_fields, fde_body, fde_entry, fde_entries, more_count}
 use Rattle.frame_rewrite.specs.Tables.{rules_bytes, run_size}
 use Rattle.frame_rewrite.proofs.NumbersBack.{length-little, length-zeros}
@@ -95,11 +96,66 @@ row-size row =
 behind-eight : (d : ℕ) (xs : List ℕ) → length (little_bytes 8 d ++ xs) ≡ 8 + length xs
 behind-eight d xs = length-append (little_bytes 8 d) xs ∙ ap (λ (n : ℕ). n + length xs) (length-little 8 d)
 
+-- rules of low registers, with what takes them back
+
+low-rule-size : (r : ℕ) (v : Rule) → r < 64 → length (spelled_rule r v) ≤ 20 + rule_bytes v
+low-rule-size r v low = by v where
+  one : length (uleb r) ≡ 1
+  one = ap length (uleb-last r (omega arith))
+
+  with-number : (bs : List ℕ) → length bs ≤ 10 → suc (length (uleb r ++ bs)) ≤ 20
+  with-number bs h = let e = length-append (uleb r) bs in let o = one in omega arith
+
+  with-block : (b : List ℕ) → suc (length (uleb r ++ spelled_block b)) ≤ 20 + length b
+  with-block b = let e = length-append (uleb r) (spelled_block b) in let s = block-size b in let o = one in omega arith
+
+  by : (v : Rule) → length (spelled_rule r v) ≤ 20 + rule_bytes v
+  by rule.Undefined = let o = one in omega arith
+  by rule.Same = let o = one in omega arith
+  by (rule.Offset n) = with-number (sleb n) (length-sleb-le n)
+  by (rule.ValOffset n) = with-number (sleb n) (length-sleb-le n)
+  by (rule.Reg q) = with-number (uleb q) (length-uleb-le q)
+  by (rule.Expr b) = with-block b
+  by (rule.ValExpr b) = with-block b
+
+low-rules-size : (rules : Rules) → are_low rules ≡ true
+    → length (spelled_rules rules) + length (spelled_restores rules) ≤ 21 * length rules + rules_bytes rules
+low-rules-size [] low = omega arith
+low-rules-size (x ∷ xs) low =
+    let both = and_parts (nat_lt x.0 64) (are_low xs) low in
+    sums _ (length (spelled_rule x.0 x.1)) (length (spelled_rules xs)) (length (spelled_restores xs)) (rule_bytes x.1)
+    (length xs) (rules_bytes xs) _ (length-append (spelled_rule x.0 x.1) (spelled_rules xs))
+    (low-rule-size x.0 x.1 (ltb-true x.0 64 both.0)) (low-rules-size xs both.1)
+    (sum_by-cons (λ (y : ℕ × Rule). rule_bytes y.1) x xs) where
+      sums : (t a b d x n r s : ℕ) → t ≡ a + b → a ≤ 20 + x → b + d ≤ 21 * n + r → s ≡ x + r → t + suc d ≤ 21 * suc n + s
+      sums t a b d x n r s e h g k = omega arith
+
 before-size : (row : RowValue) (a : ℕ) → length (spelled_row_before row a) ≤ 32 + row_count row
-before-size row a = sums _ (length (spelled_row row)) _ (row_count row)
-    (length-append (spelled_row row) (1 ∷ (little_bytes 8 a ++ 0x0b ∷ []))) (behind-eight a (0x0b ∷ [])) (row-size row) where
-      sums : (t n b c : ℕ) → t ≡ n + suc b → b ≡ 9 → n ≤ 21 + c → suc t ≤ 32 + c
-      sums t n b c e f h = omega arith
+before-size row a = by (are_low row.rules) refl where
+  location : length (spelled_location a) ≡ 9
+  location = ap suc (length-little 8 a)
+
+  low_sums : (t n c s l u d x y z : ℕ) → t ≡ n + s → n ≡ c + u → s ≡ l + d → l ≡ 9 → c ≤ 21 + x → u + d ≤ y + z
+      → t ≤ 32 + (y + (x + z))
+  low_sums t n c s l u d x y z e f g h i k = omega arith
+
+  sums : (t n s l c : ℕ) → t ≡ n + s → s ≡ l + 1 → l ≡ 9 → n ≤ 21 + c → suc t ≤ 32 + c
+  sums t n s l c e f g h = omega arith
+
+  by : (b : Bool) → are_low row.rules ≡ b → length (if b then spelled_row row ++ (spelled_location a ++ spelled_restores row.rules)
+      else 0x0a ∷ (spelled_row row ++ (spelled_location a ++ 0x0b ∷ []))) ≤ 32 + row_count row
+  by true low =
+      low_sums _ (length (spelled_row row)) (length (spelled_cfa row.cfa)) _ (length (spelled_location a))
+      (length (spelled_rules row.rules)) (length (spelled_restores row.rules)) (cfa_bytes row.cfa) (21 * length row.rules)
+      (rules_bytes row.rules)
+      (length-append (spelled_row row) (spelled_location a ++ spelled_restores row.rules))
+      (length-append (spelled_cfa row.cfa) (spelled_rules row.rules))
+      (length-append (spelled_location a) (spelled_restores row.rules)) location (cfa-size row.cfa)
+      (low-rules-size row.rules low)
+  by false high =
+      sums _ (length (spelled_row row)) _ (length (spelled_location a)) (row_count row)
+      (length-append (spelled_row row) (spelled_location a ++ 0x0b ∷ []))
+      (length-append (spelled_location a) (0x0b ∷ [])) location (row-size row)
 
 abbrev total : Runs → ℕ
 total rs = sum_by (λ (r : Run FrameAnswer). run_size r.answer) rs

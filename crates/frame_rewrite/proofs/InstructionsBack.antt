@@ -1,10 +1,11 @@
 -- Instructions that are written are read back.
 use Rattle.std.proofs.Common.{ℕ, zero, suc, ℤ, pos, ◌*ℤ◌, ◌+◌, ◌-◌, ◌^◌, ◌≤◌, ◌<◌, ◌≡◌, List, [], ◌∷◌, ◌++◌, Ok, refl, sym, ◌∙◌}
 use Rattle.std.proofs.Common.{ap, subst, arith, length, append_assoc, length-append, FitsSigned, map}
-use Rattle.std.specs.Prelude.{All}
+use Rattle.std.specs.Prelude.{All, Bool, true, false, nat_lt, ◌/◌, ◌%◌, if◌then◌else◌}
 use Rattle.std.specs.Int.{w64, int_wrap}
 use Rattle.std.proofs.Math.IntN.{*ℤ-one}
 use Rattle.std.proofs.lemmas.Int.{int_wrap_fits}
+use Rattle.std.proofs.lemmas.Bool.{and_parts, ltb-true}
 use Rattle.std.proofs.lemmas.List.Elements.{All-head, All-tail}
 use Rattle.byteorder.specs.Endian.{little_bytes}
 use Rattle.rb_bytes.specs.Readers.{and_then}
@@ -16,14 +17,14 @@ use Rattle.cfi_rows.specs.declared.row.Cfa.TheVariants.{Reg, Expr}
 use Rattle.cfi_rows.specs.declared.row.Rule.{Rule}
 use Rattle.cfi_rows.specs.declared.row.Rule.TheVariants as rule
 use Rattle.cfi_rows.specs.declared.instruction.Instruction.{Instruction}
-use Rattle.cfi_rows.specs.declared.instruction.Instruction.TheVariants.{SetLoc, DefCfa, SetRule, RememberState, RestoreState, Nop}
+use Rattle.cfi_rows.specs.declared.instruction.Instruction.TheVariants.{SetLoc, DefCfa, SetRule, Restore, RememberState, RestoreState, Nop}
 use Rattle.cfi_rows.specs.declared.encoding.Encoding.TheVariants.{Absptr}
 use Rattle.cfi_rows.specs.FrameRows.{RowValue, Rules}
 use Rattle.cfi_rows.specs.FrameInstructions.{Read, Context, instruction_of, instruction_at, instructions_in, instructions_at}
 use Rattle.frame_rewrite.specs.FrameAnswers.{FrameAnswer}
 use Rattle.frame_rewrite.specs.SpelledFits.{CfaFits, RuleFits, RulesFit, RowFits}
 use Rattle.frame_rewrite.specs.SpelledFrames.{spelled_block, spelled_cfa, spelled_rule, spelled_rules, spelled_row, spelled_row_before, zeros}
-use Rattle.frame_rewrite.specs.SpelledFrames.{spelled_rows}
+use Rattle.frame_rewrite.specs.SpelledFrames.{spelled_rows, spelled_restores, spelled_location, are_low}
 use Rattle.frame_rewrite.proofs.NumbersBack.{byte-back, uleb-back, sleb-back, block-back, number-back, length-zeros}
 
 -- what the writer's entries are read under
@@ -162,8 +163,14 @@ rule_list rules = map (λ (x : ℕ × Rule). SetRule x.0 x.1) rules
 abbrev pub row_instructions : RowValue → List Instruction
 row_instructions row = DefCfa row.cfa ∷ rule_list row.rules
 
+abbrev pub restore_list : Rules → List Instruction
+restore_list rules = map (λ (x : ℕ × Rule). Restore x.0) rules
+
 abbrev pub instructions_before : RowValue → ℕ → List Instruction
-instructions_before row location = RememberState ∷ (row_instructions row ++ SetLoc location ∷ RestoreState ∷ [])
+instructions_before row location =
+    if are_low row.rules
+    then row_instructions row ++ (SetLoc location ∷ restore_list row.rules)
+    else RememberState ∷ (row_instructions row ++ (SetLoc location ∷ RestoreState ∷ []))
 
 abbrev pub program : RowValue → List (Run FrameAnswer) → List Instruction
 program row [] = row_instructions row
@@ -193,17 +200,46 @@ spells-row end row f =
     (spells-one end (spelled_cfa row.cfa) (DefCfa row.cfa) (cfa_length row.cfa) (λ rest. cfa-back end row.cfa rest f.cfa))
     (spells-rules end 0 row.rules f.rules)
 
+-- the short form of DW_CFA_restore has the register in its opcode
+restore-back : (end r : ℕ) (rest : List ℕ) → r < 64 → instruction_of (plain end) (192 + r) rest ≡ Ok (Restore r, rest)
+restore-back end r rest h =
+    let kind : (192 + r) / 64 ≡ 3 = omega arith in
+    let low : (192 + r) % 64 ≡ r = omega arith in
+    rw (kind, low) refl
+
+spells-restores : (end : ℕ) (rules : Rules) → are_low rules ≡ true → Spells end (spelled_restores rules) (restore_list rules)
+spells-restores end [] low = spells-nothing end
+spells-restores end (x ∷ xs) low =
+    let both = and_parts (nat_lt x.0 64) (are_low xs) low in
+    spells-both end ((192 + x.0) ∷ []) (spelled_restores xs) (Restore x.0 ∷ []) (restore_list xs)
+    (spells-one end ((192 + x.0) ∷ []) (Restore x.0) (omega arith)
+    (λ rest. opens (plain end) (192 + x.0) [] rest ∙ restore-back end x.0 rest (ltb-true x.0 64 both.0)))
+    (spells-restores end xs both.1)
+
 spells-location : (end a : ℕ) → a < 2 ^ 64 → Spells end (1 ∷ little_bytes 8 a) (SetLoc a ∷ [])
 spells-location end a h = spells-one end (1 ∷ little_bytes 8 a) (SetLoc a) (omega arith) (λ rest. location-back end a rest h)
 
 spells-before : (end : ℕ) (row : RowValue) (a : ℕ) → RowFits row → a < 2 ^ 64
     → Spells end (spelled_row_before row a) (instructions_before row a)
 spells-before end row a f h =
-    spells-both end (0x0a ∷ []) (spelled_row row ++ (1 ∷ (little_bytes 8 a ++ 0x0b ∷ []))) (RememberState ∷ [])
-    (row_instructions row ++ SetLoc a ∷ RestoreState ∷ []) (remembers end)
-    (spells-both end (spelled_row row) (1 ∷ (little_bytes 8 a ++ 0x0b ∷ [])) (row_instructions row) (SetLoc a ∷ RestoreState ∷ [])
-    (spells-row end row f)
-    (spells-both end (1 ∷ little_bytes 8 a) (0x0b ∷ []) (SetLoc a ∷ []) (RestoreState ∷ []) (spells-location end a h) (restores end)))
+    by (are_low row.rules) refl where
+      by : (b : Bool) → are_low row.rules ≡ b → Spells end
+          (if b then spelled_row row ++ (spelled_location a ++ spelled_restores row.rules)
+          else 0x0a ∷ (spelled_row row ++ (spelled_location a ++ 0x0b ∷ [])))
+          (if b then row_instructions row ++ (SetLoc a ∷ restore_list row.rules)
+          else RememberState ∷ (row_instructions row ++ (SetLoc a ∷ RestoreState ∷ [])))
+      by true low =
+          spells-both end (spelled_row row) (spelled_location a ++ spelled_restores row.rules) (row_instructions row)
+          (SetLoc a ∷ restore_list row.rules) (spells-row end row f)
+          (spells-both end (spelled_location a) (spelled_restores row.rules) (SetLoc a ∷ []) (restore_list row.rules)
+          (spells-location end a h) (spells-restores end row.rules low))
+      by false high =
+          spells-both end (0x0a ∷ []) (spelled_row row ++ (spelled_location a ++ 0x0b ∷ [])) (RememberState ∷ [])
+          (row_instructions row ++ (SetLoc a ∷ RestoreState ∷ [])) (remembers end)
+          (spells-both end (spelled_row row) (spelled_location a ++ 0x0b ∷ []) (row_instructions row)
+          (SetLoc a ∷ RestoreState ∷ []) (spells-row end row f)
+          (spells-both end (spelled_location a) (0x0b ∷ []) (SetLoc a ∷ []) (RestoreState ∷ []) (spells-location end a h)
+          (restores end)))
 
 spells-rows : (end : ℕ) (row : RowValue) (more : List (Run FrameAnswer)) → RowFits row
     → All (λ (r : Run FrameAnswer). r.start < 2 ^ 64) more

@@ -1,8 +1,8 @@
 -- How a frame table is written: one CIE for each kind of frame, and then the FDEs. All pointers are absolute, so the bytes
 -- don't depend on the address of the section. LSB, "The .eh_frame section"; DWARF 5, sections 6.4.1, 6.4.2 and 7.24.
 use Rattle.std.specs.Prelude.{ℕ, zero, suc, ◌+◌, ◌-◌, ◌*◌, ◌%◌, ◌==◌, ◌&&◌, ◌++◌, Bool, true, false, not, cond, List, [], ◌∷◌}
-use Rattle.std.specs.Prelude.{length, take, drop, flat_map}
-use Rattle.std.specs.List.{position_or_len}
+use Rattle.std.specs.Prelude.{length, take, drop, flat_map, map, nat_lt, if◌then◌else◌}
+use Rattle.std.specs.List.{position_or_len, list_all}
 use Rattle.byteorder.specs.Endian.{little_bytes}
 use Rattle.rb_bytes.specs.Leb.{uleb, sleb}
 use Rattle.addr_map.specs.declared.span.Span.{Span}
@@ -14,7 +14,7 @@ use Rattle.cfi_rows.specs.declared.row.Cfa.TheVariants.{Reg, Expr}
 use Rattle.cfi_rows.specs.declared.row.Rule.{Rule}
 use Rattle.cfi_rows.specs.declared.row.Rule.TheVariants as rule
 use Rattle.cfi_rows.specs.declared.instruction.TheConstants.{DW_CFA_set_loc, DW_CFA_undefined, DW_CFA_same_value}
-use Rattle.cfi_rows.specs.declared.instruction.TheConstants.{DW_CFA_register, DW_CFA_remember_state, DW_CFA_restore_state}
+use Rattle.cfi_rows.specs.declared.instruction.TheConstants.{DW_CFA_register, DW_CFA_remember_state, DW_CFA_restore, DW_CFA_restore_state}
 use Rattle.cfi_rows.specs.declared.instruction.TheConstants.{DW_CFA_def_cfa_expression, DW_CFA_expression}
 use Rattle.cfi_rows.specs.declared.instruction.TheConstants.{DW_CFA_offset_extended_sf, DW_CFA_def_cfa_sf}
 use Rattle.cfi_rows.specs.declared.instruction.TheConstants.{DW_CFA_val_offset_sf, DW_CFA_val_expression}
@@ -44,14 +44,28 @@ spelled_rule r (rule.ValExpr b) = DW_CFA_val_expression ∷ (uleb r ++ spelled_b
 abbrev pub spelled_rules : Rules → List ℕ
 spelled_rules rules = flat_map (λ x. spelled_rule x.0 x.1) rules
 
--- a whole row, from a state in which nothing is known
+-- a whole row, from a state in which no register has a rule
 abbrev pub spelled_row : RowValue → List ℕ
 spelled_row row = spelled_cfa row.cfa ++ spelled_rules row.rules
 
--- a row behind which another begins at a location: the state before it, in which nothing is known, is remembered for that
+-- all rules are of the first 64 registers, which an opcode has room for
+abbrev pub are_low : Rules → Bool
+are_low rules = list_all (λ x. nat_lt x.0 64) rules
+
+-- each register gets back the rule that it had first, which is none
+abbrev pub spelled_restores : Rules → List ℕ
+spelled_restores rules = map (λ x. DW_CFA_restore * 64 + x.0) rules
+
+abbrev pub spelled_location : ℕ → List ℕ
+spelled_location location = DW_CFA_set_loc ∷ little_bytes 8 location
+
+-- A row behind which another begins at a location, from a state in which no register has a rule. Where registers are low
+-- their rules are taken back, and where one isn't the state before the row is remembered: that takes an unwinder longer.
 abbrev pub spelled_row_before : RowValue → ℕ → List ℕ
 spelled_row_before row location =
-    DW_CFA_remember_state ∷ (spelled_row row ++ (DW_CFA_set_loc ∷ (little_bytes 8 location ++ DW_CFA_restore_state ∷ [])))
+    if are_low row.rules
+    then spelled_row row ++ (spelled_location location ++ spelled_restores row.rules)
+    else DW_CFA_remember_state ∷ (spelled_row row ++ (spelled_location location ++ DW_CFA_restore_state ∷ []))
 
 -- the rows of an entry: the first one, and those of the runs behind its first
 abbrev pub spelled_rows : RowValue → List (Run FrameAnswer) → List ℕ

@@ -1,5 +1,5 @@
 // How rows are spelled as call frame instructions. DWARF 5, section 6.4.2.
-ghost use Rattle.std.specs.Prelude.{◌≡◌, ◌<◌, ◌^◌, ◌++◌, ◌∷◌, [], OnOk};
+ghost use Rattle.std.specs.Prelude.{◌≡◌, ◌<◌, ◌^◌, ◌++◌, ◌∷◌, [], IsTrue, OnOk};
 ghost use Rattle.byteorder.specs.Endian.{little_bytes};
 ghost use Rattle.rb_bytes.specs.Leb.{uleb, sleb};
 ghost use Rattle.cfi_rows.specs.RuleEntries.{Ascend};
@@ -9,8 +9,9 @@ ghost use Rattle.frame_rewrite.specs.SpelledFits.{CfaFits, RuleFits, RulesFit, R
 use byteorder::{ByteOrder, LittleEndian};
 use cfi_rows::instruction::{
     DW_CFA_def_cfa_expression, DW_CFA_def_cfa_sf, DW_CFA_expression, DW_CFA_offset_extended_sf,
-    DW_CFA_register, DW_CFA_remember_state, DW_CFA_restore_state, DW_CFA_same_value,
-    DW_CFA_set_loc, DW_CFA_undefined, DW_CFA_val_expression, DW_CFA_val_offset_sf,
+    DW_CFA_register, DW_CFA_remember_state, DW_CFA_restore, DW_CFA_restore_state,
+    DW_CFA_same_value, DW_CFA_set_loc, DW_CFA_undefined, DW_CFA_val_expression,
+    DW_CFA_val_offset_sf,
 };
 use cfi_rows::row::{Cfa, Expression, Row, Rule};
 use rb_bytes::fault::NoMemory;
@@ -135,7 +136,32 @@ fn put_rules(out: &mut Vec<u8>, rules: &[(u64, Rule)]) -> Result<(), NoMemory>
     Ok(())
 }
 
-/// A whole row, from a state in which nothing is known.
+// Whether all rules are of registers that an opcode has room for.
+fn are_low(rules: &[(u64, Rule)]) -> bool
+    ensures { result ≡ spec.are_low rules.now }
+{
+    rules.iter().all(|rule| rule.0 < 64)
+}
+
+// The rules of a row are taken back.
+fn put_restores(out: &mut Vec<u8>, rules: &[(u64, Rule)]) -> Result<(), NoMemory>
+    requires { IsTrue (spec.are_low rules.now) }
+    ensures { OnOk result (out.new.items ≡ out.old.items ++ spec.spelled_restores rules.now) }
+{
+    for (register, _) in rules {
+        put_byte(out, (DW_CFA_restore * 64 + *register) as u8)?;
+    }
+    Ok(())
+}
+
+fn put_location(out: &mut Vec<u8>, location: u64) -> Result<(), NoMemory>
+    ensures { OnOk result (out.new.items ≡ out.old.items ++ spec.spelled_location location) }
+{
+    put_byte(out, DW_CFA_set_loc as u8)?;
+    put_u64(out, location)
+}
+
+/// A whole row, from a state in which no register has a rule.
 pub(crate) fn put_row(out: &mut Vec<u8>, row: &Row) -> Result<(), NoMemory>
     requires { Ascend 0 row.now.rules }
     ensures spelled { OnOk result (out.new.items ≡ out.old.items ++ spec.spelled_row row.now) }
@@ -145,16 +171,20 @@ pub(crate) fn put_row(out: &mut Vec<u8>, row: &Row) -> Result<(), NoMemory>
     put_rules(out, &row.rules)
 }
 
-/// A whole row, and where the next one begins, from the same state as this one.
+/// A whole row, and where the next one begins, again from a state in which no register has a rule.
 pub(crate) fn put_row_before(out: &mut Vec<u8>, row: &Row, location: u64) -> Result<(), NoMemory>
     requires { Ascend 0 row.now.rules }
     ensures spelled { OnOk result (out.new.items ≡ out.old.items ++ spec.spelled_row_before row.now location) }
     ensures fits { OnOk result (RowFits row.now) }
 {
+    if are_low(&row.rules) {
+        put_row(out, row)?;
+        put_location(out, location)?;
+        return put_restores(out, &row.rules);
+    }
     put_byte(out, DW_CFA_remember_state as u8)?;
     put_row(out, row)?;
-    put_byte(out, DW_CFA_set_loc as u8)?;
-    put_u64(out, location)?;
+    put_location(out, location)?;
     put_byte(out, DW_CFA_restore_state as u8)
 }
 
