@@ -1,6 +1,6 @@
 -- What a recorded run answers, from what was watched of it and from its text.
-use Rattle.std.proofs.Common.{◌≡◌, ◌∙◌, ◌<◌, ◌≤◌, ◌^◌, ℕ, suc, Bool, true, false, List, [], ◌∷◌, Option, Some, None, length, refl}
-use Rattle.std.proofs.Common.{ap, sym, subst, arith, Contains}
+use Rattle.std.proofs.Common.{◌≡◌, ◌∙◌, ◌<◌, ℕ, Bool, true, false, List, [], ◌∷◌, Option, Some, None, refl}
+use Rattle.std.proofs.Common.{ap, sym, subst, arith}
 use Rattle.std.specs.Prelude.{◌==◌, ◌&&◌, ◌||◌, if◌then◌else◌, option_and_then, slice_get}
 use Rattle.std.specs.Io.KnownBytes.{append_known}
 use Rattle.std.specs.List.{list_any}
@@ -26,18 +26,18 @@ use Rattle.rv_code.specs.machine.Step.{ByteState}
 use Rattle.rv_machine.specs.State.{state_of}
 use Rattle.rv_machine.specs.declared.machine.Machine.{Machine}
 use Rattle.elf_image.specs.declared.elf.Elf.{Elf}
-use Rattle.edge_profile.specs.PairCounts.{Counted, ArePairs, count_among, counted_in, ignored_in}
+use Rattle.edge_profile.specs.PairCounts.{Counted, count_among}
 use Rattle.edge_profile.specs.Weights.{starts_at}
 use Rattle.edge_profile.proofs.AscendingPairs.{are_pairs, ascending_pairs, positive_term}
 use Rattle.edge_profile.proofs.LaidOut.{code_address-list_any}
-use Rattle.edge_record.specs.EdgeText.{IsEdgeText}
+use Rattle.edge_text.specs.EdgeText.{HasCodeEnds, IsEdgeText}
+use Rattle.edge_text.proofs.SaidPairs.{says_pairs}
 use Rattle.edge_record.specs.Moves.{Move}
 use Rattle.edge_record.specs.RecordedRuns.{ByteMoves, IsRecorded, Records, RecordStops, steps_gone}
 use Rattle.edge_record.specs.MoveCounts.{ends_at, is_counted, is_source, saves_at, taken, taken_by}
 use Rattle.edge_record.specs.Texts.{HasText, IsFinished, IsTextOf, ran_out, told as text_told, untold}
 use Rattle.edge_record.specs.WatchedRuns.{IsWatched, WatchesRun}
-use Rattle.edge_record.proofs.ReadBack.{ArePairsOfCode, IsPairOfCode, none_ignored, read_back}
-use Rattle.edge_record.proofs.Watching.{once, taken-le}
+use Rattle.edge_record.proofs.Watching.{once}
 
 -- Memory.
 
@@ -131,11 +131,10 @@ all_hold true true false some = absurd (omega arith)
 all_hold true false d some = absurd (omega arith)
 all_hold false c d some = absurd (omega arith)
 
-module _ (funcs : List Func) (blocks : List Block) (moves : List Move) (limit : ℕ) (few : length moves ≤ limit)
-    (fits : limit < 2 ^ 64) where
-  pair_of_code : (p : Counted) → 0 < p.2 → taken funcs blocks moves p.0 p.1 ≡ p.2 → IsPairOfCode funcs p
-  pair_of_code p some is =
-      let term = positive_term (once (is_counted funcs blocks) p.0 p.1) moves (omega (arith, some, is)) in
+module _ (funcs : List Func) (blocks : List Block) (moves : List Move) where
+  ends_of : (p : Counted) → 0 < taken funcs blocks moves p.0 p.1 → HasCodeEnds funcs p
+  ends_of p some =
+      let term = positive_term (once (is_counted funcs blocks) p.0 p.1) moves some in
       let m = term.item in
       let holds = all_hold (is_counted funcs blocks m) (m.0 == p.0) (m.1 == p.1) term.positive in
       let counted = and_parts (is_source funcs blocks m.0) (is_code_address funcs m.1) holds.0 in
@@ -144,15 +143,7 @@ module _ (funcs : List Func) (blocks : List Block) (moves : List Move) (limit : 
       record {
         from = ap (is_code_address funcs) (sym from) ∙ source_is_code funcs m.0 blocks counted.0;
         to = ap (is_code_address funcs) (sym to) ∙ counted.1;
-        fits = let most = taken-le (is_counted funcs blocks) moves p.0 p.1 in omega (arith, is, most, few, fits);
       }
-
-  each_of_code : (pairs : List Counted) → ((p : Counted) → Contains pairs p → IsPairOfCode funcs p) → ArePairsOfCode funcs pairs
-  each_of_code [] each = tt
-  each_of_code (p ∷ pairs) each = (
-    each p (0, omega arith, refl),
-    each_of_code pairs (λ q contained. each q (suc contained.0, (let within = contained.1 in omega arith), contained.2)),
-  )
 
   edge_text_is : (elf : Elf) → AreLaidOut funcs → (said : List Counted) (text : List ℕ)
       → ((from to : ℕ) → count_among from to said ≡ taken funcs blocks moves from to) → IsTextOf funcs said text
@@ -162,23 +153,15 @@ module _ (funcs : List Func) (blocks : List Block) (moves : List Move) (limit : 
       let merged = is.1 in
       let same : (from to : ℕ) → count_among from to pairs ≡ taken funcs blocks moves from to =
       λ from to. merged.counts from to ∙ counts from to in
-      let all : ArePairs (taken funcs blocks moves) pairs
-      = subst (λ (f : ℕ → ℕ → ℕ). ArePairs f pairs) (λ i from to. same from to i)
-      (are_pairs pairs (ascending_pairs pairs merged.ordered) merged.positive) in
-      let code = each_of_code pairs (λ p contained. let count = all.only p contained in pair_of_code p count.0 count.1) in
-      let counted : counted_in text elf funcs ≡ pairs
-      = ap (λ t. counted_in t elf funcs) is.2 ∙ read_back elf.symbols.items funcs laid pairs code in
-      record {
-        pairs = pairs;
-        are_pairs = all;
-        text_is = is.2;
-        counts_are = λ from to. ap (count_among from to) counted ∙ same from to;
-        none_ignored = ap (λ t. ignored_in t elf funcs) is.2 ∙ none_ignored elf.symbols.items funcs laid pairs code;
-      }
+      let all = are_pairs pairs (ascending_pairs pairs merged.ordered) merged.positive in
+      says_pairs funcs elf laid (taken funcs blocks moves) pairs text same merged.positive merged.ordered
+      (λ p contained. let count = all.only p contained in
+      ends_of p (let is = same p.0 p.1 in omega (arith, count.0, count.1, is)))
+      is.2
 
 -- The whole.
 
-module _ (start : List ℕ → ByteState) (limit : ℕ) (fits : limit < 2 ^ 64) (before after : Outside) (elf : Elf) (funcs : List Func)
+module _ (start : List ℕ → ByteState) (limit : ℕ) (before after : Outside) (elf : Elf) (funcs : List Func)
     (laid : AreLaidOut funcs)
     (blocks : List Block) (m now : Machine) (from : (input : List ℕ) → state_of m input ≡ start input) (counts : Move → Bool)
     (same : (x : Move) → counts x ≡ is_counted funcs blocks x) (said : List Counted) where
@@ -192,7 +175,7 @@ module _ (start : List ℕ → ByteState) (limit : ℕ) (fits : limit < 2 ^ 64) 
     moves = w.moves;
     state = w.state;
     gone = subst (λ (s : ByteState). ByteMoves s (steps_gone came n) w.moves w.state) (from w.runs.input) w.gone;
-    text_is = edge_text_is funcs blocks w.moves limit w.few fits elf laid said text
+    text_is = edge_text_is funcs blocks w.moves elf laid said text
         (λ x y. w.counts_are x y ∙ ap (λ (c : Move → Bool). taken_by c w.moves x y) (λ i move. same move i)) is;
   }
 

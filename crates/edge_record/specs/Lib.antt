@@ -1,6 +1,5 @@
 pub mod AddressSets
 pub mod EdgeCounts
-pub mod EdgeText
 pub mod Moves
 pub mod RecordedRuns
 pub mod MoveCounts

@@ -13,7 +13,7 @@ use Rattle.run_core.specs.Inputs.{AreSomeBytes, Outside, as_told}
 use Rattle.run_core.specs.Runs.{RunsSomeInput}
 use Rattle.rv_machine.specs.State.{state_of}
 use Rattle.rv_machine.specs.declared.machine.Machine.{Machine}
-use Rattle.edge_record.specs.EdgeText.{IsEdgeText}
+use Rattle.edge_text.specs.EdgeText.{IsEdgeText}
 use Rattle.edge_record.specs.Moves.{Move, Moves}
 use Rattle.edge_record.specs.MoveCounts.{taken}
 

@@ -1,16 +1,16 @@
 -- The text that goes with what a run came to.
-use Rattle.std.specs.Prelude.{◌≡◌, ℕ, List, [], flat_map}
+use Rattle.std.specs.Prelude.{◌≡◌, ℕ, List, []}
 use Rattle.rv_code.specs.declared.cause.Cause.{Cause}
 use Rattle.rv_code.specs.declared.placed.Func.{Func}
 use Rattle.run_core.specs.Answers.{Answer}
 use Rattle.run_core.specs.Answers as answer
 use Rattle.edge_profile.specs.PairCounts.{Counted}
 use Rattle.edge_profile.specs.Pairs.{AreMerged}
-use Rattle.edge_record.specs.EdgeText.{edge_line}
+use Rattle.edge_text.specs.EdgeText.{text_of_pairs}
 
 -- the lines of what is said, pair by pair
 abbrev pub IsTextOf : List Func → List Counted → List ℕ → Type 0
-IsTextOf funcs said text = (pairs : List Counted) × AreMerged said pairs × (text ≡ flat_map (edge_line funcs) pairs)
+IsTextOf funcs said text = (pairs : List Counted) × AreMerged said pairs × (text ≡ text_of_pairs funcs pairs)
 
 -- the run came out, so that what is said of it has a text
 abbrev pub HasText : Answer Cause → Type 0

@@ -12,7 +12,7 @@ ghost use Rattle.edge_record.specs.Texts.{IsFinished};
 ghost use Rattle.run_core.specs.Inputs.{outside_of};
 
 use crate::edge_counts::EdgeCounts;
-use crate::text::edge_text;
+use crate::text::text_of;
 use crate::watch::watch_run;
 use crate::watched::Watched;
 use elf_image::Elf;
@@ -97,7 +97,7 @@ fn finish(alloc: Global, funcs: &[Func], counts: &EdgeCounts, ran: Ran) -> Recor
 {
     match ran.end {
         Stepped::Going | Stepped::Ended(_) | Stepped::Trap(..) => {
-            match edge_text(alloc, funcs, counts) {
+            match text_of(alloc, funcs, counts) {
                 Ok(text) => Recorded { ran, text },
                 Err(_) => Recorded::out_of_memory(alloc),
             }

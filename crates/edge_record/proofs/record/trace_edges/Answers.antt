@@ -1,4 +1,4 @@
-use Rattle.std.proofs.Common.{◌<◌, ◌^◌, ap, map, rules, refl}
+use Rattle.std.proofs.Common.{ap, map, refl}
 use Rattle.std.specs.Prelude.{string_bytes}
 use Rattle.rv_memory.specs.Start.{start}
 use Rattle.rv_machine.specs.StepResults.{answered}
@@ -21,8 +21,7 @@ returns-in_default-load-clause-answer g c =
 
 pub returns-clause-answer : goal.returns-clause-answer
 returns-clause-answer g c =
-    let fits : c.args.limit < 2 ^ 64 = search rules in
-    finished (start c.args.elf.now.file.now (map string_bytes c.args.args.now)) c.args.limit fits _ _ c.args.elf.now
+    finished (start c.args.elf.now.file.now (map string_bytes c.args.args.now)) c.args.limit _ _ c.args.elf.now
     c.args.funcs.now c.requires.funcs c.args.blocks.now
     c.in-Ok-load.machine c.watch_run-ran.new.machine c.in-Ok-load.ensures (watches c.in-Ok.watched) c.in-Ok.ensures
     (said_of c.watch_run-ran.new.counts)

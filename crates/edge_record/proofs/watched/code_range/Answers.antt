@@ -1,5 +1,5 @@
 use Rattle.std.proofs.Common.{◌<◌, length, rules}
-use Rattle.edge_record.proofs.Starts.{range_order, in_range}
+use Rattle.edge_text.proofs.Starts.{range_order, in_range}
 use Rattle.edge_record.proofs.watched.code_range.Goals as goal
 
 pub overflow_sub-result : goal.overflow_sub-result

@@ -1,11 +1,18 @@
 -- The text of a profile with given counts, which names functions by their addresses.
-use Rattle.std.specs.Prelude.{◌≡◌, ℕ, ◌-◌, List, ◌++◌, codes, decimal, find, flat_map}
+use Rattle.std.specs.Prelude.{◌≡◌, ℕ, ◌-◌, true, List, ◌++◌, codes, decimal, find, flat_map}
 use Rattle.std.specs.Option.{option_map_or}
 use Rattle.rv_code.specs.declared.placed.Func.{Func}
+use Rattle.rv_code.specs.layout.ProgramCode.{is_code_address}
 use Rattle.rb_bytes.specs.Text.{hexadecimal}
 use Rattle.elf_image.specs.declared.elf.Elf.{Elf}
 use Rattle.edge_profile.specs.PairCounts.{Counted, ArePairs, count_in, ignored_in}
 use Rattle.edge_profile.specs.Weights.{starts_at}
+use Rattle.edge_text.specs.LineCounts.{split_counts}
+
+-- both ends of a pair are instructions
+pub record HasCodeEnds (funcs : List Func) (p : Counted) : Type 0 where
+  pub from : is_code_address funcs p.0 ≡ true
+  pub to : is_code_address funcs p.1 ≡ true
 
 -- where the function starts that has an instruction at an address
 abbrev pub start_at : List Func → ℕ → ℕ
@@ -19,10 +26,15 @@ abbrev pub edge_line : List Func → Counted → List ℕ
 edge_line funcs p =
     codes "1 @" ++ place_text funcs p.0 ++ codes " 1 @" ++ place_text funcs p.1 ++ codes " 0 " ++ decimal p.2 ++ codes "\n"
 
--- Each pair of positive count has a line, in order. Read as a profile, the text says these counts, and each line says one.
+-- the lines of pairs, in their order
+abbrev pub text_of_pairs : List Func → List Counted → List ℕ
+text_of_pairs funcs pairs = flat_map (edge_line funcs) (split_counts pairs)
+
+-- Each pair of positive count has its lines, in order. Read as a profile, the text says these counts, and each line says
+-- one.
 pub record IsEdgeText (elf : Elf) (funcs : List Func) (counts : ℕ → ℕ → ℕ) (text : List ℕ) : Type 0 where
   pub pairs : List Counted
   pub are_pairs : ArePairs counts pairs
-  pub text_is : text ≡ flat_map (edge_line funcs) pairs
+  pub text_is : text ≡ text_of_pairs funcs pairs
   pub counts_are : (from to : ℕ) → count_in text elf funcs from to ≡ counts from to
   pub none_ignored : ignored_in text elf funcs ≡ 0

@@ -1,6 +1,6 @@
 use Rattle.std.proofs.Common.{sym}
-use Rattle.edge_record.proofs.Starts.{start_at_place, start_nowhere}
-use Rattle.edge_record.proofs.text.start_at.Goals as goal
+use Rattle.edge_text.proofs.Starts.{start_at_place, start_nowhere}
+use Rattle.edge_text.proofs.text.start_at.Goals as goal
 
 pub returns-in-Some : goal.returns-in-Some
 returns-in-Some c =

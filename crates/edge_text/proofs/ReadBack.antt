@@ -12,10 +12,10 @@ use Rattle.elf_image.specs.declared.symbol.Symbol.{Symbol}
 use Rattle.edge_profile.specs.PairCounts.{Counted, both_ends, counted_by}
 use Rattle.edge_profile.specs.Grammar.{all_three, branch_line, lines, named_place}
 use Rattle.edge_profile.specs.Names.{address_at, function_start}
-use Rattle.edge_record.specs.EdgeText.{edge_line, start_at}
-use Rattle.edge_record.proofs.LineTexts.{first_line, line_fields, line_with, line_written}
-use Rattle.edge_record.proofs.NumberTexts.{decimal_lower, decimal_read, hex_lower, hex_read, short_hex_read}
-use Rattle.edge_record.proofs.Starts.{in_code}
+use Rattle.edge_text.specs.EdgeText.{edge_line, start_at}
+use Rattle.edge_text.proofs.LineTexts.{first_line, line_fields, line_with, line_written}
+use Rattle.edge_text.proofs.NumberTexts.{decimal_lower, decimal_read, hex_lower, hex_read, short_hex_read}
+use Rattle.edge_text.proofs.Starts.{in_code}
 
 -- a pair of instructions, with a count that fits
 pub record IsPairOfCode (funcs : List Func) (p : Counted) : Type 0 where

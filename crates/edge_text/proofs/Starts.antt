@@ -16,7 +16,7 @@ use Rattle.edge_profile.specs.Weights.{starts_at}
 use Rattle.rv_code.proofs.lists.Follows.{inst_bounds}
 use Rattle.edge_profile.proofs.LaidOut.{code_address-list_any, funcs_rise, no_code_from, starts_above, starts_below}
 use Rattle.rb_bytes.proofs.ListLemmas.{any_element}
-use Rattle.edge_record.specs.EdgeText.{start_at}
+use Rattle.edge_text.specs.EdgeText.{start_at}
 
 -- the first element that passes a test, and its place
 record Found {X : Type 0} (test : X → Bool) (xs : List X) : Type 0 where

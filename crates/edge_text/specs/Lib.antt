@@ -1,0 +1,2 @@
+pub mod EdgeText
+pub mod LineCounts

@@ -1,0 +1,14 @@
+//! Profiles as text: the lines of pairs of instructions with their counts.
+#![tactic(auto)]
+
+mod splitting;
+mod text;
+
+ghost use Rattle.edge_text.specs.LineCounts.{SplitLaw};
+
+pub use text::edge_text;
+
+/// The lines of pairs say the counts of the pairs.
+pub fn split_law()
+    ensures { SplitLaw }
+{}
