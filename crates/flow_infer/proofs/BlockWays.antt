@@ -17,7 +17,7 @@ use Rattle.flow_infer.specs.declared.source.Source.{Source}
 use Rattle.flow_infer.specs.Links.{IsEntered, IsFarTarget, IsLeft, LeavesBy, at_start, block_end, by_jump, by_name, count_into}
 use Rattle.flow_infer.specs.Links.{count_out_of}
 use Rattle.flow_infer.specs.Sources.{AreEntries, AreSources, IsCodeOf, IsLinkIn, turned}
-use Rattle.flow_infer.proofs.LineSums.{sum_mapped}
+use Rattle.flow_infer.proofs.Sums.{sum_mapped}
 
 -- What holds of the item at a place, and a number of it.
 

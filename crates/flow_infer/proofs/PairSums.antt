@@ -7,7 +7,7 @@ use Rattle.std.proofs.lemmas.List.Sorted.{sum_by-IsPermutation}
 use Rattle.std.proofs.lemmas.List.Sums.{sum_by-cons}
 use Rattle.edge_profile.specs.PairCounts.{Counted, total_count}
 use Rattle.flow_infer.specs.Sources.{turned}
-use Rattle.flow_infer.proofs.LineSums.{sum_mapped}
+use Rattle.flow_infer.proofs.Sums.{sum_mapped}
 
 module _ {A : Type 0} (f : A → ℕ) where
   pub sum_filtered : (r q : A → Bool) (xs : List A) →

@@ -33,7 +33,7 @@ no_block : Block
 no_block = record { func = 0; first = 0; last = 0 }
 
 module _ (blocks : List Block) (up : AllPairs IsBefore blocks) where
-  funcs_rise : (j k : ℕ) → j ≤ k → k < length blocks → func_of_block blocks j ≤ func_of_block blocks k
+  pub funcs_rise : (j k : ℕ) → j ≤ k → k < length blocks → func_of_block blocks j ≤ func_of_block blocks k
   funcs_rise j k upto within = ⊎_elim
       (λ (less : j < k).
       let a = func_at_place blocks j no_block (omega arith) in
@@ -90,7 +90,7 @@ module _ (blocks : List Block) (up : AllPairs IsBefore blocks) where
 
 -- Lists one after another.
 
-pairs_append : {A : Type 0} (R : A → A → Type 0) (xs ys : List A) → AllPairs R xs → AllPairs R ys →
+pub pairs_append : {A : Type 0} (R : A → A → Type 0) (xs ys : List A) → AllPairs R xs → AllPairs R ys →
     ((x y : A) → Contains xs x → Contains ys y → R x y) → AllPairs R (xs ++ ys)
 pairs_append {A} R xs ys in_xs in_ys across i j d less within = ⊎_elim
     (λ (early : j < length xs).

@@ -25,6 +25,21 @@ pub append_none : {A : Type 0} (xs : List A) → xs ++ [] ≡ xs
 append_none [] = refl
 append_none (x ∷ xs) = ap (λ ys. x ∷ ys) (append_none xs)
 
+-- what passes a test stands in front, or behind
+module _ {A : Type 0} (p : A → Bool) (xs : List A) (k : ℕ) where
+  pub front_filtered : All (λ x. p x ≡ true) (take k xs) → All (λ x. p x ≡ false) (drop k xs) → take k xs ≡ filter p xs
+  front_filtered passing failing =
+      sym (append_none (take k xs))
+      ∙ sym (λ i. filter_passing p (take k xs) passing i ++ filter_failing p (drop k xs) failing i)
+      ∙ sym (filter-append p (take k xs) (drop k xs))
+      ∙ ap (filter p) (take-append-drop k xs)
+
+  pub back_filtered : All (λ x. p x ≡ false) (take k xs) → All (λ x. p x ≡ true) (drop k xs) → drop k xs ≡ filter p xs
+  back_filtered failing passing =
+      sym (λ i. filter_failing p (take k xs) failing i ++ filter_passing p (drop k xs) passing i)
+      ∙ sym (filter-append p (take k xs) (drop k xs))
+      ∙ ap (filter p) (take-append-drop k xs)
+
 module _ {A : Type 0} (key : A → ℕ) (k : ℕ) where
   abbrev at_key : A → Bool
   at_key x = key x == k
@@ -79,7 +94,7 @@ module _ {A : Type 0} (key : A → ℕ) (k : ℕ) where
 
 -- a key that doesn't fall along the order of a list
 module _ {A : Type 0} (R : A → A → Type 0) (key : A → ℕ) (rises : (x y : A) → R x y → key x ≤ key y) where
-  ordered_rise : (xs : List A) → AllPairs R xs → IsNonDecreasingBy key xs
+  pub ordered_rise : (xs : List A) → AllPairs R xs → IsNonDecreasingBy key xs
   ordered_rise xs up i j d upto within = ⊎_elim
       (λ (less : i < j). rises (get_or xs i d) (get_or xs j d) (up i j d less within))
       (λ (more : j ≤ i). let e : i ≡ j = omega arith in let s = ap (λ (k : ℕ). key (get_or xs k d)) e in omega arith)

@@ -1,7 +1,7 @@
 -- Sums over links, weighted by their ends.
 use Rattle.std.proofs.Common.{◌≡◌, ◌+◌, ◌*◌, ◌<◌, ◌≤◌, ◌==◌, ℕ, true, false, List, [], ◌∷◌, Option, Some, None, zero, suc, add-one, ltb}
 use Rattle.std.proofs.Common.{add-mul, mul_comm, zero-mul, zero-add, ⊎_elim, ◌⊎◌, refl, sym, ap, ◌∙◌, subst, arith, sum_by, if◌then◌else◌}
-use Rattle.std.proofs.Common.{get_or}
+use Rattle.std.proofs.Common.{get_or, map}
 use Rattle.std.proofs.lemmas.List.Sums.{sum_by-cons}
 use Rattle.std.proofs.lemmas.Bool.{lt-ltb, le-ltb, eq-eqb, ne_eqb, cases_order, cases_lt}
 use Rattle.edge_profile.proofs.AscendingPairs.{sum_none}
@@ -18,6 +18,11 @@ sum_of_sums f g h e (x ∷ xs) =
     let b : sum_by f (x ∷ xs) ≡ f x + sum_by f xs = sum_by-cons f x xs in
     let c : sum_by g (x ∷ xs) ≡ g x + sum_by g xs = sum_by-cons g x xs in
     omega arith
+
+pub sum_mapped : {X Y : Type 0} (f : Y → ℕ) (g : X → Y) (xs : List X) → sum_by f (map g xs) ≡ sum_by (λ x. f (g x)) xs
+sum_mapped f g [] = refl
+sum_mapped f g (x ∷ xs) =
+    sum_by-cons f (g x) (map g xs) ∙ ap (λ (j : ℕ). f (g x) + j) (sum_mapped f g xs) ∙ sym (sum_by-cons (λ y. f (g y)) x xs)
 
 pub sum_alike : {X : Type 0} (f g : X → ℕ) → ((x : X) → f x ≡ g x) → (xs : List X) → sum_by f xs ≡ sum_by g xs
 sum_alike f g e [] = refl

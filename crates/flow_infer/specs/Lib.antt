@@ -1,7 +1,6 @@
 pub mod Flows
 pub mod Heights
 pub mod Laws
-pub mod LineCounts
 pub mod Links
 pub mod Repairing
 pub mod Repairs

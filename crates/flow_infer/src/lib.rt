@@ -17,22 +17,16 @@ mod rooms;
 mod searching;
 mod settling;
 mod source;
-pub mod splitting;
 mod ways;
 
 ghost use Rattle.flow_infer.specs.Laws.{LeastChangeLaw};
-ghost use Rattle.flow_infer.specs.LineCounts.{SplitLaw};
 
 pub use flow::{Flow, Link};
 pub use repairing::repair;
+pub use ways::block_end;
 
 /// Prices show that a flow changes least: where prices hold for links whose flow balances, no other balancing flow of
 /// these links changes less.
 pub fn least_change_law()
     ensures { LeastChangeLaw }
-{}
-
-/// The lines of pairs say the counts of the pairs.
-pub fn split_law()
-    ensures { SplitLaw }
 {}

@@ -94,8 +94,8 @@ fn is_member(numbers: &[u64], number: u64) -> bool
     numbers.binary_search(&number).is_ok()
 }
 
-// The address of a block's last instruction.
-fn block_end(funcs: &[Func], block: &Block) -> u64
+/// The address of a block's last instruction.
+pub fn block_end(funcs: &[Func], block: &Block) -> u64
     requires { IsOfFunction funcs.now block.now }
     ensures { result ≡ links.block_end funcs.now block.now }
 {

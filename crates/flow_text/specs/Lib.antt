@@ -1,0 +1,4 @@
+pub mod LinkLists
+pub mod MergedFlows
+pub mod RepairedCounts
+pub mod Report
